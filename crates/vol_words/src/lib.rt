@@ -4,7 +4,10 @@
 ghost use Rattle.std.specs.Prelude.{◌≡◌, ◌+◌, ◌≤◌, ◌<◌, ◌*◌, length};
 ghost use Rattle.vol_words.specs.Fields.{field, put, put_field, checksum, summed};
 
+mod laws;
+
 use byteorder::{ByteOrder, LittleEndian};
+pub use laws::{fields_read_back, fields_stay_apart, sums_are_right};
 
 /// A block of a volume: 512 bytes.
 pub type Block = [u8; 512];
@@ -69,4 +72,34 @@ pub fn set_sum(b: &mut Block)
 {
     let sum = sum_of(b, 255);
     put_word(b, 510, sum);
+}
+
+#[cfg(test)]
+mod tests {
+    use super::*;
+    use std::test::Fail;
+
+    // The words and the sum of a home block's front, as they stand on a volume of 64 files and clusters of 4 blocks.
+    #[test]
+    fn sums_words(rt: HostRuntime) -> Result<(), Fail> {
+        let words = [
+            1u16, 0, 8, 0, 12, 0, 513, 4, 2, 9, 13, 17, 16, 0, 64, 0, 1, 9,
+        ];
+        let mut b: Block = [0; 512];
+        for (k, word) in words.iter().enumerate() {
+            if k < 18 {
+                put_word(&mut b, 2 * k, *word);
+            }
+        }
+        assert_eq!(rt; sum_of(&b, 29), 669);
+        put_long(&mut b, 60, 0x0403_0201);
+        assert_eq!(rt; b[60], 1);
+        assert_eq!(rt; long_at(&b, 60), 67_305_985);
+        set_sum(&mut b);
+        assert_eq!(rt;
+            word_at(&b, 510),
+            669u16.wrapping_add(0x0201).wrapping_add(0x0403)
+        );
+        Ok(())
+    }
 }
