@@ -1,4 +1,5 @@
 pub mod Fields
 pub mod FieldLaws
 pub mod Packing
+pub mod Tables
 pub mod Faults

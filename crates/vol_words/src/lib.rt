@@ -3,6 +3,7 @@
 
 ghost use Rattle.std.specs.Prelude.{◌≡◌, ◌+◌, ◌≤◌, ◌<◌, ◌*◌, length};
 ghost use Rattle.vol_words.specs.Fields.{field, put, put_field, checksum, summed};
+ghost use Rattle.vol_words.specs.Tables.{zeros};
 
 mod laws;
 
@@ -11,6 +12,14 @@ pub use laws::{fields_read_back, fields_stay_apart, sums_are_right};
 
 /// A block of a volume: 512 bytes.
 pub type Block = [u8; 512];
+
+/// A block of zeros.
+#[tactic(auto, unfolding(crate::specs::Tables::zeros))]
+pub fn zeros() -> Block
+    ensures { result ≡ zeros }
+{
+    [0; 512]
+}
 
 /// The word of two bytes at the offset `o`, the lowest byte first.
 pub fn word_at(b: &Block, o: usize) -> u16
