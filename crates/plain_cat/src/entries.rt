@@ -1,0 +1,86 @@
+ghost use Rattle.std.specs.Prelude.{◌≡◌, ◌++◌, [], ◌∷◌, OnOk, OnErr, IfOk};
+
+use std::alloc::Global;
+use std::marker::Model;
+use crate::NoMemory;
+use crate::ids::Fid;
+use crate::name::Name;
+
+/// An entry of a directory.
+#[derive(Drop)]
+pub struct DirEnt {
+    /// `NAME.TYP`.
+    pub name: Name,
+
+    /// The version, 1 to 32,767.
+    pub ver: u16,
+
+    /// The file that it names.
+    pub fid: Fid,
+}
+
+impl DirEnt {
+    /// The same entry again.
+    pub fn copy(&self, alloc: Global) -> Result<Self, NoMemory>
+        ensures { IfOk result (λ e. e ≡ self.now) }
+    {
+        Ok(DirEnt {
+            name: self.name.copy(alloc)?,
+            ver: self.ver,
+            fid: self.fid,
+        })
+    }
+}
+
+/// The entries of a directory, by name and falling version.
+#[derive(Drop)]
+pub struct DirEnts {
+    list: Vec<DirEnt>,
+}
+
+impl Model for DirEnts {
+    ghost use Rattle.std.specs.Prelude.{List};
+    ghost use Rattle.plain_cat.specs.declared.entries.DirEnt.{DirEnt};
+
+    ghost Value = { List DirEnt };
+
+    ghost view = { λ l. l.list.items };
+}
+
+impl DirEnts {
+    /// No entry.
+    pub fn new(alloc: Global) -> Self
+        ensures { result ≡ [] }
+    {
+        DirEnts {
+            list: Vec::new(alloc),
+        }
+    }
+
+    /// Adds an entry at the end. A refusal of memory leaves the list as it was.
+    pub fn push(&mut self, item: DirEnt) -> Result<(), NoMemory>
+        ensures ok { OnOk result (self.new ≡ self.old ++ item ∷ []) }
+        ensures err { OnErr result (self.new ≡ self.old) }
+    {
+        self.list.push(item)?;
+        Ok(())
+    }
+
+    /// The entries, in order.
+    pub fn items(&self) -> &[DirEnt]
+        ensures { result.now ≡ self.now }
+    {
+        self.list.as_slice()
+    }
+
+    /// The same entries again.
+    pub fn copy(&self, alloc: Global) -> Result<Self, NoMemory>
+        ensures { IfOk result (λ l. l ≡ self.now) }
+    {
+        let mut all = Vec::new(alloc);
+        for e in self.list.as_slice() {
+            all.push(e.copy(alloc)?)?;
+        }
+        Ok(DirEnts { list: all })
+    }
+}
