@@ -1,7 +1,6 @@
 -- The limits of the numbers, names and texts of a command, a line and a script.
-use Rattle.std.specs.Prelude.{◌≡◌, ◌≤◌, ◌<◌, ◌^◌, ◌==◌, ◌&&◌, ◌||◌, ℕ, Bool, true, false, List, [], ◌∷◌, All, IsTrue, length, map, leb, drop}
+use Rattle.std.specs.Prelude.{◌≡◌, ◌≤◌, ◌<◌, ◌^◌, ◌==◌, ◌&&◌, ◌||◌, ℕ, Bool, true, false, List, [], ◌∷◌, All, IsTrue, length, map, leb, drop, nat_eq}
 use Rattle.std.specs.List.{list_all, prefix_len, IsDistinct}
-use Rattle.std.proofs.Common.{nat_eq}
 use Rattle.plain_cat.specs.declared.ids.Fid.{Fid}
 use Rattle.plain_cat.specs.declared.ids.Uic.{Uic}
 use Rattle.plain_cat.specs.declared.mode.Mode.{Mode}

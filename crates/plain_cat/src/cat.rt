@@ -1,11 +1,11 @@
 ghost use Rattle.std.specs.Prelude.{◌≡◌, IfOk};
 
-use std::alloc::Global;
 use crate::NoMemory;
 use crate::entries::DirEnts;
 use crate::ids::Uic;
 use crate::mode::Mode;
 use crate::tables::{Blocks, Channels, Files, Flags, QuotaRows};
+use std::alloc::Global;
 
 /// A file.
 #[derive(Drop)]

@@ -1,10 +1,10 @@
 ghost use Rattle.std.specs.Prelude.{◌≡◌, ◌++◌, [], ◌∷◌, OnOk, OnErr, IfOk};
 
-use std::alloc::Global;
-use std::marker::Model;
 use crate::NoMemory;
 use crate::ids::Fid;
 use crate::name::Name;
+use std::alloc::Global;
+use std::marker::Model;
 
 /// An entry of a directory.
 #[derive(Drop)]

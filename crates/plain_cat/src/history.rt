@@ -1,11 +1,11 @@
 ghost use Rattle.std.specs.Prelude.{◌≡◌, ◌+◌, ◌<◌, ◌≤◌, ◌++◌, [], ◌∷◌, OnOk, OnErr};
 
-use std::alloc::Global;
-use std::marker::Model;
 use crate::NoMemory;
 use crate::command::Cmd;
 use crate::lists::NumberList;
 use crate::reply::Reply;
+use std::alloc::Global;
+use std::marker::Model;
 
 /// How far a command had come in its writes when its node died.
 #[derive(Clone, Copy, Debug, PartialEq)]
@@ -59,10 +59,19 @@ pub struct Mended {
 #[derive(Drop)]
 pub enum Entry {
     /// A node's command and its reply.
-    Done { node: u8, cmd: Cmd, reply: Reply },
+    Done {
+        node: u8,
+        cmd: Cmd,
+        reply: Reply,
+    },
 
     /// A node's death: the stage of its command, and the clusters and file numbers that it leaked.
-    Died { node: u8, stage: Stage, clusters: u32, numbers: NumberList },
+    Died {
+        node: u8,
+        stage: Stage,
+        clusters: u32,
+        numbers: NumberList,
+    },
 
     /// A mending, once every node was dead or over.
     Mended(Mended),

@@ -1,9 +1,9 @@
 ghost use Rattle.std.specs.Prelude.{◌≡◌, ◌+◌, ◌<◌, ◌≤◌, ◌++◌, [], ◌∷◌, All, OnOk, OnErr};
 ghost use Rattle.std.specs.List.Sorted.{IsStrictlyIncreasing};
 
+use crate::NoMemory;
 use std::alloc::Global;
 use std::marker::Model;
-use crate::NoMemory;
 
 /// Clusters, in rising order.
 #[derive(Drop)]

@@ -1,8 +1,9 @@
 ghost use Rattle.std.specs.Prelude.{◌≡◌, ◌↔◌, ◌++◌, [], ◌∷◌, OnOk, OnErr, IfOk, IsTrue};
+ghost use Rattle.std.specs.Str.{bytes_eq};
 
+use crate::NoMemory;
 use std::alloc::Global;
 use std::marker::Model;
-use crate::NoMemory;
 
 /// A text in bytes. As the name of a directory entry it is `NAME.TYP`, with 0 to 39 characters on each side out of A
 /// to Z, 0 to 9, `$`, `_` and `-`.
@@ -56,7 +57,8 @@ impl Name {
 
     /// Whether the two texts have the same bytes.
     pub fn is_same(&self, other: &Name) -> bool
-        ensures { IsTrue result ↔ (self.now ≡ other.now) }
+        ensures same { IsTrue result ↔ (self.now ≡ other.now) }
+        ensures value { result ≡ bytes_eq self.now other.now }
     {
         self.bytes.as_slice() == other.bytes.as_slice()
     }

@@ -1,10 +1,10 @@
 ghost use Rattle.std.specs.Prelude.{◌≡◌, IfOk};
 
-use std::alloc::Global;
 use crate::NoMemory;
 use crate::entries::DirEnts;
 use crate::ids::{Fid, Uic};
 use crate::name::Name;
+use std::alloc::Global;
 
 /// Why a command was refused. A refused command changes nothing.
 #[derive(Clone, Copy, Debug, PartialEq)]
@@ -65,13 +65,24 @@ pub enum Refusal {
 #[derive(Drop)]
 pub enum Reply {
     /// The entry that was looked up or made.
-    Found { fid: Fid, name: Name, ver: u16 },
+    Found {
+        fid: Fid,
+        name: Name,
+        ver: u16,
+    },
 
     /// The entries of a directory, in order.
     Listed(DirEnts),
 
     /// The attributes of a file: allocated blocks, high-water mark, and end of file as block and byte.
-    Facts { dir: bool, owner: Uic, blocks: u32, mark: u32, end: u32, byte: u16 },
+    Facts {
+        dir: bool,
+        owner: Uic,
+        blocks: u32,
+        mark: u32,
+        end: u32,
+        byte: u16,
+    },
 
     /// The allocated blocks after a change of size.
     Size(u32),
@@ -86,13 +97,18 @@ pub enum Reply {
     EntryRemoved,
 
     /// The new name and version of an entry.
-    Renamed { name: Name, ver: u16 },
+    Renamed {
+        name: Name,
+        ver: u16,
+    },
 
     /// The channel is open.
     Opened,
 
     /// The channel is closed, and a file marked for delete is gone with its last open.
-    Closed { gone: bool },
+    Closed {
+        gone: bool,
+    },
 
     /// The bytes of a virtual block.
     Bytes([u8; 512]),
@@ -104,7 +120,11 @@ pub enum Reply {
     QuotaKept,
 
     /// An owner's usage, quota and overdraft, in blocks.
-    Usage { usage: u32, quota: u32, over: u32 },
+    Usage {
+        usage: u32,
+        quota: u32,
+        over: u32,
+    },
 
     /// The command was refused, and changed nothing.
     Refused(Refusal),
@@ -122,7 +142,14 @@ impl Reply {
                 ver: *ver,
             },
             Reply::Listed(entries) => Reply::Listed(entries.copy(alloc)?),
-            Reply::Facts { dir, owner, blocks, mark, end, byte } => Reply::Facts {
+            Reply::Facts {
+                dir,
+                owner,
+                blocks,
+                mark,
+                end,
+                byte,
+            } => Reply::Facts {
                 dir: *dir,
                 owner: *owner,
                 blocks: *blocks,

@@ -1,11 +1,11 @@
 ghost use Rattle.std.specs.Prelude.{◌≡◌, ◌++◌, [], ◌∷◌, OnOk, OnErr, IfOk};
 
-use std::alloc::Global;
-use std::marker::Model;
 use crate::NoMemory;
 use crate::ids::{Fid, Uic};
 use crate::mode::Mode;
 use crate::name::Name;
+use std::alloc::Global;
+use std::marker::Model;
 
 /// A file as a script names it: by its identifier, or by what a register of the node holds.
 #[derive(Clone, Copy, Debug, PartialEq)]
@@ -20,21 +20,77 @@ pub enum FileRef {
 /// A command as a script has it: as `Cmd`, with a reference in place of each identifier.
 #[derive(Drop)]
 pub enum LineCmd {
-    Lookup { reg: u8, dir: FileRef, name: Name, ver: u16 },
-    List { dir: FileRef },
-    Stat { file: FileRef },
-    Create { reg: u8, dir: FileRef, name: Name, ver: u16, blocks: u32, owner: Uic },
-    MkDir { reg: u8, dir: FileRef, name: Name, owner: Uic },
-    Extend { file: FileRef, blocks: u32 },
-    Trunc { file: FileRef, blocks: u32 },
-    Delete { dir: FileRef, name: Name, ver: u16 },
-    Rename { dir: FileRef, name: Name, ver: u16, to: Name, to_ver: u16 },
-    OpenFile { chan: u8, file: FileRef, mode: Mode },
-    CloseFile { chan: u8 },
-    ReadBlock { chan: u8, vbn: u32 },
-    WriteBlock { chan: u8, vbn: u32, text: Name },
-    QuotaSet { owner: Uic, quota: u32, over: u32 },
-    QuotaShow { owner: Uic },
+    Lookup {
+        reg: u8,
+        dir: FileRef,
+        name: Name,
+        ver: u16,
+    },
+    List {
+        dir: FileRef,
+    },
+    Stat {
+        file: FileRef,
+    },
+    Create {
+        reg: u8,
+        dir: FileRef,
+        name: Name,
+        ver: u16,
+        blocks: u32,
+        owner: Uic,
+    },
+    MkDir {
+        reg: u8,
+        dir: FileRef,
+        name: Name,
+        owner: Uic,
+    },
+    Extend {
+        file: FileRef,
+        blocks: u32,
+    },
+    Trunc {
+        file: FileRef,
+        blocks: u32,
+    },
+    Delete {
+        dir: FileRef,
+        name: Name,
+        ver: u16,
+    },
+    Rename {
+        dir: FileRef,
+        name: Name,
+        ver: u16,
+        to: Name,
+        to_ver: u16,
+    },
+    OpenFile {
+        chan: u8,
+        file: FileRef,
+        mode: Mode,
+    },
+    CloseFile {
+        chan: u8,
+    },
+    ReadBlock {
+        chan: u8,
+        vbn: u32,
+    },
+    WriteBlock {
+        chan: u8,
+        vbn: u32,
+        text: Name,
+    },
+    QuotaSet {
+        owner: Uic,
+        quota: u32,
+        over: u32,
+    },
+    QuotaShow {
+        owner: Uic,
+    },
 }
 
 impl LineCmd {
@@ -43,7 +99,12 @@ impl LineCmd {
         ensures { IfOk result (λ c. c ≡ self.now) }
     {
         Ok(match self {
-            LineCmd::Lookup { reg, dir, name, ver } => LineCmd::Lookup {
+            LineCmd::Lookup {
+                reg,
+                dir,
+                name,
+                ver,
+            } => LineCmd::Lookup {
                 reg: *reg,
                 dir: *dir,
                 name: name.copy(alloc)?,
@@ -51,7 +112,14 @@ impl LineCmd {
             },
             LineCmd::List { dir } => LineCmd::List { dir: *dir },
             LineCmd::Stat { file } => LineCmd::Stat { file: *file },
-            LineCmd::Create { reg, dir, name, ver, blocks, owner } => LineCmd::Create {
+            LineCmd::Create {
+                reg,
+                dir,
+                name,
+                ver,
+                blocks,
+                owner,
+            } => LineCmd::Create {
                 reg: *reg,
                 dir: *dir,
                 name: name.copy(alloc)?,
@@ -59,7 +127,12 @@ impl LineCmd {
                 blocks: *blocks,
                 owner: *owner,
             },
-            LineCmd::MkDir { reg, dir, name, owner } => LineCmd::MkDir {
+            LineCmd::MkDir {
+                reg,
+                dir,
+                name,
+                owner,
+            } => LineCmd::MkDir {
                 reg: *reg,
                 dir: *dir,
                 name: name.copy(alloc)?,
@@ -78,7 +151,13 @@ impl LineCmd {
                 name: name.copy(alloc)?,
                 ver: *ver,
             },
-            LineCmd::Rename { dir, name, ver, to, to_ver } => LineCmd::Rename {
+            LineCmd::Rename {
+                dir,
+                name,
+                ver,
+                to,
+                to_ver,
+            } => LineCmd::Rename {
                 dir: *dir,
                 name: name.copy(alloc)?,
                 ver: *ver,

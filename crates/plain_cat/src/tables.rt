@@ -1,9 +1,9 @@
 ghost use Rattle.std.specs.Prelude.{◌≡◌, ◌<◌, ◌≤◌, ◌++◌, [], ◌∷◌, OnOk, OnErr, IfOk, length, slice_set};
 
-use std::alloc::Global;
-use std::marker::Model;
 use crate::NoMemory;
 use crate::cat::{Open, QuotaRow, Slot};
+use std::alloc::Global;
+use std::marker::Model;
 
 /// The slots of all file numbers: number n stands at n - 1.
 #[derive(Drop)]
