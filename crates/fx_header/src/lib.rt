@@ -1,0 +1,16 @@
+//! File headers of Files-11 ODS-2 and their retrieval pointers, read and written exactly.
+#![tactic(auto)]
+
+mod flags;
+mod pointers;
+mod read;
+mod run;
+mod slot;
+#[cfg(test)]
+mod tests;
+
+pub use pointers::{RunIter, runs};
+pub use read::read_header;
+pub use run::Run;
+pub use slot::{Hdr, HeaderFault, Slot};
+pub use vol_words::Block;

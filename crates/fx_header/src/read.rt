@@ -1,0 +1,166 @@
+ghost use Rattle.std.specs.Prelude.{◌≡◌, ◌+◌, ◌≤◌, ◌<◌, ◌^◌, IsTrue, IfOk, sum_by};
+ghost use Rattle.vol_words.specs.Fields.{field};
+ghost use Rattle.fx_header.specs.Headers.{high_first, number_of, has_flag, runs_in, is_free, has_sum, has_level, has_offsets, has_volume, is_alone, has_map, has_end, fields_of, header_read, HasRuns};
+
+use crate::flags::FileFlags;
+use crate::pointers::{ends_whole, map_words, runs};
+use crate::slot::{Hdr, HeaderFault, Slot};
+use bitflags::Flags;
+use byteorder::{ByteOrder, LittleEndian};
+use vol_words::{Block, long_at, sum_of, word_at};
+
+/// The number of four bytes at the offset `o` whose high word stands first.
+fn high_first_at(b: &Block, o: usize) -> u32
+    requires { o + 4 ≤ 512 }
+    ensures { result ≡ high_first b.now o }
+{
+    u32::from(word_at(b, o)) * 65536 + u32::from(word_at(b, o + 2))
+}
+
+/// The file number, 0 in a free slot.
+fn number_at(b: &Block) -> u32
+    ensures { result ≡ number_of b.now }
+{
+    u32::from(b[13]) * 65536 + u32::from(word_at(b, 8))
+}
+
+/// The file characteristics.
+fn flags_at(b: &Block) -> FileFlags
+    ensures { result.0 ≡ field b.now 52 4 }
+{
+    FileFlags(long_at(b, 52))
+}
+
+#[tactic(auto, unfolding(crate::specs::Headers::is_free))]
+fn is_free(b: &Block) -> bool
+    ensures { result ≡ is_free b.now }
+{
+    number_at(b) == 0
+}
+
+#[tactic(auto, unfolding(crate::specs::Headers::has_sum))]
+fn has_sum(b: &Block) -> bool
+    ensures { result ≡ has_sum b.now }
+{
+    word_at(b, 510) == sum_of(b, 255)
+}
+
+#[tactic(auto, unfolding(crate::specs::Headers::has_level))]
+fn has_level(b: &Block) -> bool
+    ensures { result ≡ has_level b.now }
+{
+    b[7] == 2
+}
+
+#[tactic(auto, unfolding(crate::specs::Headers::has_offsets))]
+fn has_offsets(b: &Block) -> bool
+    ensures { result ≡ has_offsets b.now }
+{
+    let [ident, map, access, reserved] = [b[0], b[1], b[2], b[3]];
+    40 <= ident
+        && ident <= map
+        && map <= access
+        && access <= reserved
+        && reserved <= 255
+        && 154 <= access - map
+}
+
+#[tactic(auto, unfolding(crate::specs::Headers::has_volume))]
+fn has_volume(b: &Block) -> bool
+    ensures { result ≡ has_volume b.now }
+{
+    b[12] == 0
+}
+
+#[tactic(auto, unfolding(crate::specs::Headers::is_alone))]
+fn is_alone(b: &Block) -> bool
+    ensures { result ≡ is_alone b.now }
+{
+    word_at(b, 4) == 0 && LittleEndian::read_u48(&b[14..]) == 0
+}
+
+#[tactic(auto, unfolding(crate::specs::Headers::has_offsets, crate::specs::Headers::has_map))]
+fn has_map(b: &Block) -> bool
+    requires { IsTrue (has_offsets b.now) }
+    ensures { result ≡ has_map b.now }
+{
+    b[58] <= b[2] - b[1] && ends_whole(map_words(b))
+}
+
+/// The blocks of all runs.
+fn blocks_in_runs(b: &Block) -> u64
+    requires offsets { IsTrue (has_offsets b.now) }
+    requires map { IsTrue (has_map b.now) }
+    ensures { result ≡ sum_by (λ r. r.count) (runs_in b.now) }
+{
+    let mut blocks = 0;
+    for run in runs(b) {
+        blocks += u64::from(run.count);
+    }
+    blocks
+}
+
+#[tactic(auto, unfolding(crate::specs::Headers::has_end))]
+fn has_end(b: &Block) -> bool
+    requires offsets { IsTrue (has_offsets b.now) }
+    requires map { IsTrue (has_map b.now) }
+    ensures { result ≡ has_end b.now }
+{
+    let blocks = u64::from(high_first_at(b, 24));
+    blocks_in_runs(b) == blocks
+        && u64::from(high_first_at(b, 28)) <= blocks + 1
+        && word_at(b, 32) <= 511
+        && u64::from(long_at(b, 76)) <= blocks + 1
+}
+
+#[tactic(auto, unfolding(crate::specs::Headers::fields_of))]
+fn fields_of(b: &Block) -> Hdr
+    ensures { result ≡ fields_of b.now }
+{
+    let flags = flags_at(b);
+    Hdr {
+        num: number_at(b),
+        seq: word_at(b, 10),
+        owner: long_at(b, 60),
+        dir: flags.contains(FileFlags::DIRECTORY),
+        marked: flags.contains(FileFlags::MARKDEL),
+        blocks: high_first_at(b, 24),
+        mark: long_at(b, 76),
+        end: high_first_at(b, 28),
+        byte: word_at(b, 32),
+    }
+}
+
+/// Reads a header slot of the index file. A slot whose file number is zero is free, whatever else it holds. Of several
+/// faults the answer is the first, in the order in which `HeaderFault` lists them.
+#[tactic(auto, unfolding(crate::specs::Headers::header_read))]
+pub fn read_header(b: &Block) -> Result<Slot, HeaderFault>
+    ensures value { result ≡ header_read b.now }
+    ensures runs { IfOk result (HasRuns b.now) }
+{
+    if is_free(b) {
+        return Ok(Slot::Free(word_at(b, 10)));
+    }
+    if !has_sum(b) {
+        return Err(HeaderFault::BadSum);
+    }
+    if !has_level(b) {
+        return Err(HeaderFault::BadLevel);
+    }
+    if !has_offsets(b) {
+        return Err(HeaderFault::BadOffsets);
+    }
+    if !has_volume(b) {
+        return Err(HeaderFault::BadRvn);
+    }
+    if !is_alone(b) {
+        return Err(HeaderFault::BadExtension);
+    }
+    if !has_map(b) {
+        return Err(HeaderFault::BadMap);
+    }
+    if !has_end(b) {
+        return Err(HeaderFault::BadEnd);
+    }
+    Ok(Slot::Used(fields_of(b)))
+}

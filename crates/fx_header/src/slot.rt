@@ -1,0 +1,59 @@
+use thiserror::Error;
+
+/// What a header slot says.
+#[derive(Debug, Clone, Copy, PartialEq)]
+pub enum Slot {
+    /// No file has this number. The sequence number is that of its last use, 0 where it had none.
+    Free(u16),
+    /// A file has this number.
+    Used(Hdr),
+}
+
+/// The fields of a file header that a file system works with.
+#[derive(Debug, Clone, Copy, PartialEq)]
+pub struct Hdr {
+    /// The file number, 1 to 16,777,215.
+    pub num: u32,
+    /// The sequence number: which use of the file number this is.
+    pub seq: u16,
+    /// The owner's UIC: the group times 65,536, plus the member.
+    pub owner: u32,
+    /// The file is a directory.
+    pub dir: bool,
+    /// The file is marked for delete.
+    pub marked: bool,
+    /// The blocks that are allocated to the file (HIBLK).
+    pub blocks: u32,
+    /// One more than the highest virtual block written (HIGHWATER), or 0 where no mark is kept.
+    pub mark: u32,
+    /// The virtual block that the end of file lies in (EFBLK), at most one more than `blocks`.
+    pub end: u32,
+    /// The first free byte of that block, at most 511.
+    pub byte: u16,
+}
+
+/// Why a slot in use is no sound header: the first of these tests that fails.
+#[derive(Debug, Clone, Copy, PartialEq, Error)]
+pub enum HeaderFault {
+    /// The last word is not the sum of the other 255.
+    #[error("the checksum is wrong")]
+    BadSum,
+    /// The structure level is not 2.
+    #[error("the structure level is not 2")]
+    BadLevel,
+    /// The areas do not follow one another in the block, or the map area has fewer than 154 words.
+    #[error("the area offsets are wrong")]
+    BadOffsets,
+    /// The relative volume number is not 0.
+    #[error("the relative volume number is not 0")]
+    BadRvn,
+    /// The header belongs to a chain of extension headers.
+    #[error("the header is one of a chain")]
+    BadExtension,
+    /// More words are in use than the map area has, or the last pointer does not end at the last of them.
+    #[error("the retrieval pointers do not fit their words")]
+    BadMap,
+    /// The blocks are not those of the runs, or the end or the mark lies beyond them.
+    #[error("the end of file does not fit the runs")]
+    BadEnd,
+}
