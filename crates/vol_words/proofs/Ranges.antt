@@ -2,8 +2,7 @@
 use Rattle.std.proofs.Common.{◌≡◌, ◌∙◌, ◌+◌, ◌-◌, ◌≤◌, ◌++◌, ℕ, List, length, take, drop, slice_range, ap, sym, arith}
 use Rattle.std.proofs.lemmas.List.{take-take, take-append-le, take_at, drop_at, length-take-le}
 use Rattle.std.proofs.lemmas.Slice.{between_is}
-use Rattle.vol_words.specs.Fields.{put, summed, checksum}
-use Rattle.byteorder.specs.Endian.{little_bytes}
+use Rattle.vol_words.specs.Fields.{put}
 
 -- the bytes that were put
 pub slice_range-put_same : (b : List ℕ) (o : ℕ) (bytes : List ℕ) (e : ℕ) → o ≤ length b → e ≡ o + length bytes → slice_range (put b o bytes) o e ≡ bytes
@@ -19,7 +18,3 @@ slice_range-put_below b o bytes p e h l =
     between_is (put b o bytes) p e
     ∙ ap (drop p) (take-append-le e (take o b) (bytes ++ drop (o + length bytes) b) (omega arith) ∙ take-take e o b l)
     ∙ sym (between_is b p e)
-
-pub slice_range-summed_below : (b : List ℕ) (p e : ℕ) → length b ≡ 512 → e ≤ 510 → slice_range (summed b) p e ≡ slice_range b p e
-unfolding summed
-slice_range-summed_below b p e l h = slice_range-put_below b 510 (little_bytes 2 (checksum b 255)) p e (omega arith) h
