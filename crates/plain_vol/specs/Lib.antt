@@ -1,1 +1,9 @@
 pub mod Lookups
+pub mod Directories
+pub mod Changes
+pub mod Sound
+pub mod Answers
+pub mod Stages
+pub mod Mending
+pub mod Own
+pub mod Replaying
