@@ -3,3 +3,4 @@ pub mod FieldLaws
 pub mod Packing
 pub mod Tables
 pub mod Faults
+pub mod Names

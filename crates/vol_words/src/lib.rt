@@ -6,6 +6,7 @@ ghost use Rattle.vol_words.specs.Fields.{field, put, put_field, checksum, summed
 ghost use Rattle.vol_words.specs.Tables.{zeros};
 
 mod laws;
+pub mod names;
 
 use byteorder::{ByteOrder, LittleEndian};
 pub use laws::{fields_read_back, fields_stay_apart, sums_are_right};
