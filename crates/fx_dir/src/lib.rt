@@ -1,0 +1,104 @@
+//! Directories of Files-11 ODS-2 in this project's profile, read and written block by block.
+#![tactic(auto)]
+
+ghost use Rattle.std.specs.Prelude.{◌≡◌, IfOk};
+
+use std::alloc::{AllocError, AllocFailed, Global};
+use std::marker::Model;
+use thiserror::Error;
+
+mod entries;
+pub mod laws;
+mod reading;
+mod records;
+#[cfg(test)]
+mod tests;
+
+pub use reading::read_dir;
+
+/// No memory was to be had; nothing has changed.
+pub type NoMemory = AllocError;
+
+/// The text of a name as a record has it, seen as its bytes.
+#[derive(Drop)]
+pub struct RawName {
+    bytes: Vec<u8>,
+}
+
+impl Model for RawName {
+    ghost use Rattle.std.specs.Prelude.{List, ℕ};
+
+    ghost Value = { List ℕ };
+
+    ghost view = { λ n. n.bytes.items };
+}
+
+impl RawName {
+    /// A name of these bytes.
+    pub fn new(alloc: Global, bytes: &[u8]) -> Result<RawName, NoMemory>
+        ensures { IfOk result (λ n. n ≡ bytes.now) }
+    {
+        Ok(RawName {
+            bytes: bytes.to_vec(alloc)?,
+        })
+    }
+
+    pub fn bytes(&self) -> &[u8]
+        ensures { result.now ≡ self.now }
+    {
+        self.bytes.as_slice()
+    }
+}
+
+/// An entry of a directory, with the version limit and the flags of the record that holds it.
+#[derive(Drop)]
+pub struct RawEnt {
+    pub name: RawName,
+    /// 1 to 32,767.
+    pub ver: u16,
+    /// The file's number, at most 16,777,215.
+    pub num: u32,
+    /// The file's sequence.
+    pub seq: u16,
+    pub limit: u16,
+    pub flags: u8,
+}
+
+/// Why blocks are not read as a directory.
+#[derive(Clone, Copy, Debug, PartialEq, Error)]
+pub enum DirFault {
+    /// The block of this VBN, counted from 1, is not a list of records in order that an end word ends.
+    #[error("BadRecord {0}")]
+    BadRecord(u32),
+    /// What a block has besides the entries of the blocks before it does not come behind them in order.
+    #[error("BadOrder")]
+    BadOrder,
+    /// One name and version has two file identifiers.
+    #[error("Clash")]
+    Clash,
+    /// No memory was to be had.
+    #[error("no memory")]
+    NoMemory,
+}
+
+impl From<AllocError> for DirFault {
+    ghost use Rattle.std.specs.Prelude.{◌≡◌};
+    ghost use Rattle.fx_dir.specs.declared.DirFault.TheVariants.{NoMemory};
+
+    ghost from_gives = { λ _ e. e ≡ NoMemory };
+
+    fn from(_e: AllocError) -> DirFault {
+        DirFault::NoMemory
+    }
+}
+
+impl<T: Drop> From<AllocFailed<T>> for DirFault {
+    ghost use Rattle.std.specs.Prelude.{◌≡◌};
+    ghost use Rattle.fx_dir.specs.declared.DirFault.TheVariants.{NoMemory};
+
+    ghost from_gives = { λ _ e. e ≡ NoMemory };
+
+    fn from(_e: AllocFailed<T>) -> DirFault {
+        DirFault::NoMemory
+    }
+}

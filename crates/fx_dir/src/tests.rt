@@ -1,0 +1,156 @@
+use crate::{DirFault, RawEnt, read_dir};
+use std::alloc::Global;
+use std::test::Fail;
+use vol_words::Block;
+
+/// A block that begins with these bytes and is zero behind them.
+fn block(bytes: &[u8]) -> Block {
+    let mut b = [0u8; 512];
+    for (place, byte) in b.iter_mut().zip(bytes) {
+        *place = *byte;
+    }
+    b
+}
+
+fn read(alloc: Global, texts: &[&[u8]]) -> Result<Vec<RawEnt>, DirFault> {
+    let mut blocks = Vec::new(alloc);
+    for text in texts {
+        blocks.push(block(text))?;
+    }
+    read_dir(alloc, blocks.as_slice())
+}
+
+/// The main directory of a volume, whose records were written by another program.
+const MAIN: &[u8] = b"\x16\x00\xff\x7f\x00\x0a000000.DIR\x01\x00\x04\x00\x04\x00\x00\x00\
+    \x12\x00\xff\x7f\x00\x05A.TXT\x00\x01\x00\x0c\x00\x01\x00\x00\x00\
+    \x16\x00\xff\x7f\x00\x0aINDEXF.SYS\x01\x00\x01\x00\x01\x00\x00\x00\xff\xff";
+
+#[test]
+fn the_main_directory_is_read(rt: HostRuntime) -> Result<(), Fail> {
+    let ents = read(rt.alloc(), &[MAIN, b"\xff\xff"])?;
+    let expected = [
+        (b"000000.DIR".as_slice(), 1, 4, 4),
+        (b"A.TXT".as_slice(), 1, 12, 1),
+        (b"INDEXF.SYS".as_slice(), 1, 1, 1),
+    ];
+    assert_eq!(rt; ents.len(), expected.len());
+    for (e, (name, ver, num, seq)) in ents.iter().zip(expected.iter()) {
+        assert_eq!(rt; e.name.bytes(), *name);
+        assert_eq!(rt; (e.ver, e.num, e.seq), (*ver, *num, *seq));
+        assert_eq!(rt; (e.limit, e.flags), (32767, 0));
+    }
+    Ok(())
+}
+
+/// Versions 9, 7 and 3 of one name over two blocks, where version 7 stands in both; a number above 65,535, a limit and
+/// flags of its own.
+#[test]
+fn a_name_is_read_across_blocks(rt: HostRuntime) -> Result<(), Fail> {
+    let first =
+        b"\x16\x00\x05\x00\x02\x02A.\x09\x00\x01\x00\x01\x00\x00\x02\x07\x00\x02\x00\x01\x00\x00\x00\xff\xff";
+    let second =
+        b"\x16\x00\x06\x00\x03\x02A.\x07\x00\x02\x00\x01\x00\x00\x00\x03\x00\x03\x00\x01\x00\x00\x00\xff\xff";
+    let ents = read(rt.alloc(), &[first, second])?;
+    let expected = [(9, 131073, 1, 5, 2), (7, 2, 1, 5, 2), (3, 3, 1, 6, 3)];
+    assert_eq!(rt; ents.len(), expected.len());
+    for (e, expected) in ents.iter().zip(expected.iter()) {
+        assert_eq!(rt; (e.ver, e.num, e.seq, e.limit, e.flags), *expected);
+    }
+    Ok(())
+}
+
+/// A.;1 with the file identifier (1,1,0), the same with (2,1,0), B.;1 and C.;1, each by itself in a block.
+const A: &[u8] = b"\x0e\x00\xff\x7f\x00\x02A.\x01\x00\x01\x00\x01\x00\x00\x00\xff\xff";
+
+const OTHER: &[u8] = b"\x0e\x00\xff\x7f\x00\x02A.\x01\x00\x02\x00\x01\x00\x00\x00\xff\xff";
+
+const B: &[u8] = b"\x0e\x00\xff\x7f\x00\x02B.\x01\x00\x01\x00\x01\x00\x00\x00\xff\xff";
+
+const C: &[u8] = b"\x0e\x00\xff\x7f\x00\x02C.\x01\x00\x01\x00\x01\x00\x00\x00\xff\xff";
+
+/// Two records of one name with falling versions, and with rising ones; the other A.;1 followed by B.;1; B.;1 followed
+/// by A.;1.
+const FALLING: &[u8] =
+    b"\x0e\x00\xff\x7f\x00\x02A.\x02\x00\x01\x00\x01\x00\x00\x00\x0e\x00\xff\x7f\x00\x02A.\x01\x00\x01\x00\x01\x00\x00\x00\xff\xff";
+
+const RISING: &[u8] =
+    b"\x0e\x00\xff\x7f\x00\x02A.\x01\x00\x01\x00\x01\x00\x00\x00\x0e\x00\xff\x7f\x00\x02A.\x02\x00\x01\x00\x01\x00\x00\x00\xff\xff";
+
+const OTHER_B: &[u8] =
+    b"\x0e\x00\xff\x7f\x00\x02A.\x01\x00\x02\x00\x01\x00\x00\x00\x0e\x00\xff\x7f\x00\x02B.\x01\x00\x01\x00\x01\x00\x00\x00\xff\xff";
+
+const B_A: &[u8] =
+    b"\x0e\x00\xff\x7f\x00\x02B.\x01\x00\x01\x00\x01\x00\x00\x00\x0e\x00\xff\x7f\x00\x02A.\x01\x00\x01\x00\x01\x00\x00\x00\xff\xff";
+
+#[test]
+fn the_first_fault_is_named(rt: HostRuntime) -> Result<(), Fail> {
+    let bad = Err(DirFault::BadRecord(1));
+    let cases: [(&[&[u8]], Result<usize, DirFault>); 24] = [
+        (&[], Ok(0)),
+        (&[A, A, B, A, B], Ok(2)),
+        (&[FALLING], Ok(2)),
+        // no end word; a name without a dot, with small letters, with two dots; a padding byte that is not zero
+        (&[b""], bad),
+        (
+            &[b"\x0e\x00\xff\x7f\x00\x02A1\x01\x00\x01\x00\x01\x00\x00\x00\xff\xff"],
+            bad,
+        ),
+        (
+            &[b"\x0e\x00\xff\x7f\x00\x02a.\x01\x00\x01\x00\x01\x00\x00\x00\xff\xff"],
+            bad,
+        ),
+        (
+            &[b"\x10\x00\xff\x7f\x00\x03A..\x00\x01\x00\x01\x00\x01\x00\x00\x00\xff\xff"],
+            bad,
+        ),
+        (
+            &[b"\x10\x00\xff\x7f\x00\x03A.T\x01\x01\x00\x01\x00\x01\x00\x00\x00\xff\xff"],
+            bad,
+        ),
+        // a name longer than its record; no version, and a part of one
+        (
+            &[b"\x0e\x00\xff\x7f\x00\xc8A.\x01\x00\x01\x00\x01\x00\x00\x00\xff\xff"],
+            bad,
+        ),
+        (&[b"\x06\x00\xff\x7f\x00\x02A.\xff\xff"], bad),
+        (
+            &[b"\x0f\x00\xff\x7f\x00\x02A.\x01\x00\x01\x00\x01\x00\x00\x00\x00\xff\xff"],
+            bad,
+        ),
+        // version 0, version 32768, another volume
+        (
+            &[b"\x0e\x00\xff\x7f\x00\x02A.\x00\x00\x01\x00\x01\x00\x00\x00\xff\xff"],
+            bad,
+        ),
+        (
+            &[b"\x0e\x00\xff\x7f\x00\x02A.\x00\x80\x01\x00\x01\x00\x00\x00\xff\xff"],
+            bad,
+        ),
+        (
+            &[b"\x0e\x00\xff\x7f\x00\x02A.\x01\x00\x01\x00\x01\x00\x01\x00\xff\xff"],
+            bad,
+        ),
+        // equal versions in one record, rising ones in two, names that fall
+        (
+            &[
+                b"\x16\x00\xff\x7f\x00\x02A.\x01\x00\x01\x00\x01\x00\x00\x00\x01\x00\x01\x00\x01\x00\x00\x00\xff\xff",
+            ],
+            bad,
+        ),
+        (&[RISING], bad),
+        (&[B_A], bad),
+        // one fault, and of two the first: block by block, and in one block order before clash
+        (&[A, B_A], Err(DirFault::BadRecord(2))),
+        (&[B, A], Err(DirFault::BadOrder)),
+        (&[A, OTHER], Err(DirFault::Clash)),
+        (&[B, A, B_A], Err(DirFault::BadOrder)),
+        (&[A, OTHER, B_A], Err(DirFault::Clash)),
+        (&[A, C, OTHER_B], Err(DirFault::BadOrder)),
+        (&[A, C, OTHER, B], Err(DirFault::Clash)),
+    ];
+    for (blocks, expected) in &cases {
+        let found = read(rt.alloc(), blocks).map(|ents| ents.len());
+        assert_eq!(rt; found, *expected);
+    }
+    Ok(())
+}
