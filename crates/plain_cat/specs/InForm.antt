@@ -1,6 +1,7 @@
 -- The limits of the numbers, names and texts of a command, a line and a script.
-use Rattle.std.specs.Prelude.{◌≡◌, ◌≤◌, ◌<◌, ◌^◌, ◌==◌, ◌&&◌, ◌||◌, ℕ, Bool, true, false, List, [], ◌∷◌, All, IsTrue, length, map, leb, drop, nat_eq}
-use Rattle.std.specs.List.{list_all, prefix_len, IsDistinct}
+use Rattle.std.specs.Prelude.{◌≤◌, ◌&&◌, ◌||◌, ℕ, Bool, true, false, List, All, IsTrue, length, map, leb, nat_eq}
+use Rattle.std.specs.List.{list_all, IsDistinct}
+use Rattle.vol_words.specs.Names.{is_part, is_name}
 use Rattle.plain_cat.specs.declared.ids.Fid.{Fid}
 use Rattle.plain_cat.specs.declared.ids.Uic.{Uic}
 use Rattle.plain_cat.specs.declared.mode.Mode.{Mode}
@@ -25,26 +26,9 @@ is_within low high n = leb low n && leb n high
 abbrev pub is_text_char : ℕ → Bool
 is_text_char c = is_within 65 90 c || is_within 48 57 c
 
--- those and `$`, `_` and `-`
-abbrev pub is_name_char : ℕ → Bool
-is_name_char c = is_text_char c || (c == 36 || (c == 95 || c == 45))
-
--- one side of a name
-abbrev pub is_name_part : List ℕ → Bool
-is_name_part bytes = leb (length bytes) 39 && list_all is_name_char bytes
-
--- the full stop and what follows it
-abbrev pub is_name_tail : List ℕ → Bool
-is_name_tail [] = false
-is_name_tail (c ∷ bytes) = c == 46 && is_name_part bytes
-
--- `NAME.TYP`: what stands before the full stop, and the rest
-abbrev pub is_name : List ℕ → Bool
-is_name bytes = leb (prefix_len is_name_char bytes) 39 && is_name_tail (drop (prefix_len is_name_char bytes) bytes)
-
 -- the `NAME` of a new directory, which has 1 to 39 characters
 abbrev pub is_dir_name : List ℕ → Bool
-is_dir_name bytes = leb 1 (length bytes) && is_name_part bytes
+is_dir_name bytes = leb 1 (length bytes) && is_part bytes
 
 -- what a block is written with: 1 to 16 characters
 abbrev pub is_text : List ℕ → Bool
