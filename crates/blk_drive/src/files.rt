@@ -1,0 +1,173 @@
+//! An image in a file, of which large pieces are read ahead.
+ghost use Rattle.std.specs.Prelude.{◌≡◌, ◌<◌, ◌≤◌, ◌*◌, ◌^◌, IfOk, IfSome, None};
+
+use crate::{DevFault, ImageDev, NoMemory};
+use std::alloc::Global;
+use std::fs::OpenFile;
+use std::io::{Read, Seek, SeekFrom, Write};
+use std::marker::Model;
+use vol_words::Block;
+
+// The blocks of a piece that is read ahead: 1 MiB.
+const AHEAD: u32 = 2048;
+
+// An open file, and the piece of it that was read last: so many blocks from a first one on.
+#[derive(Drop)]
+struct Opened<F: Drop> {
+    file: F,
+    piece: Vec<u8>,
+    first: u32,
+    count: u32,
+}
+
+impl<F: Read + Write + Seek + Drop> Opened<F> {
+    // Where the block lies in the piece, if it does.
+    fn place_of(&self, lbn: u32) -> Option<usize>
+        ensures { IfSome result (λ at. at ≤ 512 * 2 ^ 32) }
+    {
+        let index = lbn.checked_sub(self.first)?;
+        (index < self.count).then_some(index as usize * 512)
+    }
+
+    // Copies the block from the piece, if it lies there.
+    fn copy(&self, lbn: u32, b: &mut Block) -> bool {
+        let Some(at) = self.place_of(lbn) else {
+            return false;
+        };
+        let Some(block) = self.piece.as_slice().get(at..at + 512) else {
+            return false;
+        };
+        b.copy_from_slice(block);
+        true
+    }
+
+    // Reads a piece of so many blocks, from this one on.
+    fn fetch(&mut self, lbn: u32, count: u32) -> bool {
+        self.count = 0;
+        let Some(piece) = self.piece.as_mut_slice().get_mut(..count as usize * 512) else {
+            return false;
+        };
+        let is_read = self
+            .file
+            .seek(SeekFrom::Start(u64::from(lbn) * 512))
+            .is_ok()
+            && self.file.read_exact(piece).is_ok();
+        if is_read {
+            self.first = lbn;
+            self.count = count;
+        }
+        is_read
+    }
+
+    // Reads the block, from the piece or from the file. Where a block ahead is not to be had, it reads this one alone.
+    fn read(&mut self, lbn: u32, size: u32, b: &mut Block) -> bool
+        requires { lbn < size }
+    {
+        self.copy(lbn, b)
+            || (self.fetch(lbn, AHEAD.min(size - lbn)) && self.copy(lbn, b))
+            || (self.fetch(lbn, 1) && self.copy(lbn, b))
+    }
+
+    // Writes the block to the file. A piece that had the old block is given up.
+    fn write(&mut self, lbn: u32, b: &Block) -> bool {
+        if self.place_of(lbn).is_some() {
+            self.count = 0;
+        }
+        self.file
+            .seek(SeekFrom::Start(u64::from(lbn) * 512))
+            .is_ok()
+            && self.file.write_all(b).is_ok()
+    }
+}
+
+/// An image in a file that is open for reading and writing. It tells none of its blocks.
+///
+/// It has as many blocks as the file has whole pieces of 512 bytes, and 4,294,967,295 at most.
+#[derive(Drop)]
+pub struct FileImage<F: Drop> {
+    opened: Option<Opened<F>>,
+    size: u32,
+    faults: u64,
+}
+
+impl<F: Drop> Model for FileImage<F> {
+    ghost use Rattle.blk_drive.specs.Memory.{FileView};
+
+    ghost Value = { FileView };
+
+    ghost view = { λ s. record { size = s.size; faults = s.faults } };
+}
+
+impl<F: Drop> FileImage<F> {
+    /// The image without a file, as where it could not be opened: each call of it fails.
+    pub fn absent() -> FileImage<F>
+        ensures { result ≡ record { size = 0; faults = 0 } }
+    {
+        FileImage {
+            opened: None,
+            size: 0,
+            faults: 0,
+        }
+    }
+}
+
+impl<F: Read + Write + Seek + OpenFile + Drop> FileImage<F> {
+    /// The image in this file. A file whose length cannot be told is none.
+    pub fn new(alloc: Global, file: F) -> Result<FileImage<F>, NoMemory>
+        ensures { IfOk result (λ image. image.faults ≡ 0) }
+    {
+        let Ok(metadata) = file.metadata() else {
+            return Ok(FileImage::absent());
+        };
+        let opened = Opened {
+            file,
+            piece: vec![in alloc; 0; AHEAD as usize * 512]?,
+            first: 0,
+            count: 0,
+        };
+        Ok(FileImage {
+            opened: Some(opened),
+            size: u32::try_from(metadata.len() / 512).unwrap_or(u32::MAX),
+            faults: 0,
+        })
+    }
+}
+
+impl<F: Read + Write + Seek + OpenFile + Drop> ImageDev for FileImage<F> {
+    ghost told = { λ _. None };
+
+    ghost size = { λ s. s.size };
+
+    ghost faults = { λ s. s.faults };
+
+    ghost counted = { λ _. tt };
+
+    fn blocks(&mut self) -> Result<u32, DevFault> {
+        if self.opened.is_none() {
+            self.faults = self.faults.saturating_add(1);
+            return Err(DevFault);
+        }
+        Ok(self.size)
+    }
+
+    fn read_block(&mut self, lbn: u32, b: &mut [u8; 512]) -> Result<(), DevFault> {
+        let size = self.size;
+        if let Some(opened) = &mut self.opened {
+            if opened.read(lbn, size, b) {
+                return Ok(());
+            }
+        }
+        self.faults = self.faults.saturating_add(1);
+        Err(DevFault)
+    }
+
+    fn write_block(&mut self, lbn: u32, b: &[u8; 512]) -> Result<(), DevFault> {
+        if let Some(opened) = &mut self.opened {
+            if opened.write(lbn, b) {
+                return Ok(());
+            }
+        }
+        self.faults = self.faults.saturating_add(1);
+        Err(DevFault)
+    }
+}

@@ -1,0 +1,58 @@
+//! The shared drive: images of a volume, block by block, and a mirror of an image in memory.
+#![tactic(auto)]
+
+ghost use Rattle.std.specs.Prelude.{◌≡◌, ◌<◌, ◌⊎◌, ℕ, List, Option, Some, slice_get, IfOk, IfSome, OnOk, OnErr};
+ghost use Rattle.vol_words.specs.Fields.{Block};
+ghost use Rattle.vol_words.specs.Faults.{HasCause};
+ghost use Rattle.blk_drive.specs.Images.{HasSize, told_set};
+
+mod files;
+mod memory;
+mod mirror;
+
+pub use files::FileImage;
+pub use memory::{Fail, MemImage};
+pub use mirror::{ImageFault, LoadFault, LoadRefused, Mirror, NoMemory};
+
+/// A call of an image that failed: the image has counted it.
+#[derive(Clone, Copy, Debug)]
+pub struct DevFault;
+
+/// An image of a volume: a number of blocks of 512 bytes, by logical block number (LBN) from 0 on.
+///
+/// Some images tell their blocks; each has a size, and counts its failed calls, in 64 bits and up to the last value.
+pub trait ImageDev: Drop {
+    ghost told: { Self → Option (List Block) };
+
+    ghost size: { Self → ℕ };
+
+    ghost faults: { Self → ℕ };
+
+    /// How many blocks there are.
+    fn blocks(&mut self) -> Result<u32, DevFault>
+        ensures answer { IfOk result (λ n. n ≡ size self.old) }
+        ensures told { told self.new ≡ told self.old }
+        ensures size { size self.new ≡ size self.old }
+        ensures cause { HasCause (faults self.old) (faults self.new) result };
+
+    /// Reads a block.
+    fn read_block(&mut self, lbn: u32, b: &mut [u8; 512]) -> Result<(), DevFault>
+        requires { lbn < size self.old }
+        ensures block { OnOk result (IfSome (told self.old) (λ blocks. slice_get blocks lbn ≡ Some b.new)) }
+        ensures told { told self.new ≡ told self.old }
+        ensures size { size self.new ≡ size self.old }
+        ensures cause { HasCause (faults self.old) (faults self.new) result };
+
+    /// Writes a block, and changes no other. After a failed write the block is whole, old or new.
+    fn write_block(&mut self, lbn: u32, b: &[u8; 512]) -> Result<(), DevFault>
+        requires { lbn < size self.old }
+        ensures ok { OnOk result (told self.new ≡ told_set (told self.old) lbn b.now) }
+        ensures failed { OnErr result ((told self.new ≡ told self.old) ⊎ (told self.new ≡ told_set (told self.old) lbn b.now)) }
+        ensures size { size self.new ≡ size self.old }
+        ensures cause { HasCause (faults self.old) (faults self.new) result };
+
+    ghost counted: { (image : Self) → HasSize (told image) (size image) };
+}
+
+#[cfg(test)]
+mod tests;
