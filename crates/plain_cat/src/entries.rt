@@ -1,4 +1,5 @@
-ghost use Rattle.std.specs.Prelude.{◌≡◌, ◌++◌, [], ◌∷◌, OnOk, OnErr, IfOk};
+ghost use Rattle.std.specs.Prelude.{◌≡◌, ◌++◌, [], ◌∷◌, OnOk, OnErr, IfOk, ◌≤◌, length};
+ghost use Rattle.std.specs.List.{insert};
 
 use crate::NoMemory;
 use crate::ids::Fid;
@@ -82,5 +83,16 @@ impl DirEnts {
             all.push(e.copy(alloc)?)?;
         }
         Ok(DirEnts { list: all })
+    }
+
+    /// Puts an entry at `at`, which counts from 0, before those from there on. A refusal of memory leaves the list as it
+    /// was.
+    pub fn insert(&mut self, at: usize, item: DirEnt) -> Result<(), NoMemory>
+        requires { at ≤ length self.old }
+        ensures ok { OnOk result (self.new ≡ insert self.old at item) }
+        ensures err { OnErr result (self.new ≡ self.old) }
+    {
+        self.list.insert(at, item)?;
+        Ok(())
     }
 }

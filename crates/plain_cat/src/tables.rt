@@ -1,4 +1,5 @@
-ghost use Rattle.std.specs.Prelude.{◌≡◌, ◌<◌, ◌≤◌, ◌++◌, [], ◌∷◌, OnOk, OnErr, IfOk, length, slice_set};
+ghost use Rattle.std.specs.Prelude.{◌≡◌, ◌<◌, ◌≤◌, ◌++◌, [], ◌∷◌, OnOk, OnErr, IfOk, length, slice_set, take};
+ghost use Rattle.std.specs.List.{insert};
 
 use crate::NoMemory;
 use crate::cat::{Open, QuotaRow, Slot};
@@ -122,6 +123,17 @@ impl QuotaRows {
         ensures { self.new ≡ slice_set self.old at item }
     {
         self.list[at] = item;
+    }
+
+    /// Puts a row at `at`, which counts from 0, before those from there on. A refusal of memory leaves the list as it
+    /// was.
+    pub fn insert(&mut self, at: usize, item: QuotaRow) -> Result<(), NoMemory>
+        requires { at ≤ length self.old }
+        ensures ok { OnOk result (self.new ≡ insert self.old at item) }
+        ensures err { OnErr result (self.new ≡ self.old) }
+    {
+        self.list.insert(at, item)?;
+        Ok(())
     }
 }
 
@@ -297,5 +309,15 @@ impl Blocks {
         ensures { self.new ≡ slice_set self.old at item }
     {
         self.list[at] = item;
+    }
+
+    /// The first n blocks again, or all where there are no more.
+    pub fn front(&self, alloc: Global, n: usize) -> Result<Self, NoMemory>
+        ensures { IfOk result (λ l. l ≡ take n self.now) }
+    {
+        let all = self.list.as_slice();
+        Ok(Blocks {
+            list: Vec::from_slice(alloc, &all[..n.min(all.len())])?,
+        })
     }
 }

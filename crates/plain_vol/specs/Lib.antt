@@ -1,7 +1,7 @@
 pub mod Lookups
 pub mod Directories
 pub mod Changes
-pub mod Sound
+pub mod Accounts
 pub mod Answers
 pub mod Stages
 pub mod Mending

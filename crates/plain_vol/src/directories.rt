@@ -1,11 +1,12 @@
-ghost use Rattle.std.specs.Prelude.{◌≡◌, IfOk, option_copied};
+ghost use Rattle.std.specs.Prelude.{◌≡◌, IfOk, option_copied, not};
+ghost use Rattle.plain_vol.specs.Directories.{is_nil};
 ghost use Rattle.plain_vol.specs.Lookups.{versions, highest, first_with, entry_of, found};
 
 use plain_cat::{DirEnt, DirEnts, Name, NoMemory, Refusal, Reply};
 use std::alloc::Global;
 
 // The highest version of a name, which comes first, or 0.
-fn highest(entries: &[DirEnt], name: &Name) -> u16
+pub(crate) fn highest(entries: &[DirEnt], name: &Name) -> u16
     ensures { result ≡ highest (versions name.now entries.now) }
 {
     for e in entries {
@@ -16,8 +17,20 @@ fn highest(entries: &[DirEnt], name: &Name) -> u16
     0
 }
 
+// Whether some version of a name is there.
+pub(crate) fn has_name(entries: &[DirEnt], name: &Name) -> bool
+    ensures { result ≡ not (is_nil (versions name.now entries.now)) }
+{
+    for e in entries {
+        if e.name.is_same(name) {
+            return true;
+        }
+    }
+    false
+}
+
 // The entry of a name and a version.
-fn with_version<'a>(entries: &'a [DirEnt], name: &Name, ver: u16) -> Option<&'a DirEnt>
+pub(crate) fn with_version<'a>(entries: &'a [DirEnt], name: &Name, ver: u16) -> Option<&'a DirEnt>
     ensures { option_copied result ≡ first_with ver (versions name.now entries.now) }
 {
     for e in entries {
@@ -29,7 +42,7 @@ fn with_version<'a>(entries: &'a [DirEnt], name: &Name, ver: u16) -> Option<&'a 
 }
 
 // The entry that is looked for.
-fn entry_of<'a>(entries: &'a [DirEnt], name: &Name, ver: u16) -> Option<&'a DirEnt>
+pub(crate) fn entry_of<'a>(entries: &'a [DirEnt], name: &Name, ver: u16) -> Option<&'a DirEnt>
     ensures { option_copied result ≡ entry_of (versions name.now entries.now) ver }
 {
     let ver = if ver == 0 {

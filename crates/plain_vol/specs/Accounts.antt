@@ -1,7 +1,6 @@
--- What a catalogue keeps under all commands.
+-- The quotas of a catalogue, and the limits that it keeps under all commands.
 use Rattle.std.specs.Prelude.{◌≡◌, ◌==◌, ◌≤◌, ◌+◌, ◌*◌, ℕ, Bool, true, List, Option, Some, None, All, length, map, is_some, if◌then◌else◌}
 use Rattle.std.specs.List.{sum_by}
-use Rattle.std.specs.List.Sorted.{IsStrictlyIncreasing}
 use Rattle.plain_cat.specs.declared.ids.Uic.{Uic}
 use Rattle.plain_cat.specs.declared.cat.Cat.{Cat}
 use Rattle.plain_cat.specs.declared.cat.File.{File}
@@ -29,13 +28,12 @@ HasRow rows (Used f) = is_some (row_of f.owner rows) ≡ true
 abbrev pub IsCharged : Cat → QuotaRow → Type 0
 IsCharged c r = (charge c r.owner ≤ r.usage) × (r.usage ≤ charge c r.owner + 1000000)
 
--- The limits of a volume, and its quotas: each owner of a file has a row, no owner has two, and the usage of a row is what
--- its owner's files cost, or at most a million more.
-pub record Sound (c : Cat) : Type 0 where
+-- The limits of a volume: a cluster factor of 1 to 16, at most 4,096 file numbers, and files of at most 65,536 blocks. Each
+-- owner of a file has a quota row, and the usage of a row is what its owner's files cost, or at most a million more.
+pub record Accounted (c : Cat) : Type 0 where
   pub factor_from : 1 ≤ c.factor
   pub factor_to : c.factor ≤ 16
   pub numbers : length c.files ≤ 4096
   pub sizes : All (λ s. c.factor * clusters_in s ≤ 65536) c.files
   pub owners : All (HasRow c.quota) c.files
-  pub rows : IsStrictlyIncreasing (map (λ (r : QuotaRow). r.owner.0) c.quota)
   pub usage : All (IsCharged c) c.quota
