@@ -1,9 +1,10 @@
 -- What fields read after bytes are put into a block.
-use Rattle.std.proofs.Common.{◌≡◌, ◌∙◌, ◌+◌, ◌-◌, ◌*◌, ◌^◌, ◌<◌, ◌≤◌, ◌++◌, ℕ, zero, suc, List, [], length, take, drop, get_or, refl, sym, ap, arith, length-append, length-take, length-drop}
+use Rattle.std.proofs.Common.{◌≡◌, ◌∙◌, ◌+◌, ◌-◌, ◌*◌, ◌^◌, ◌<◌, ◌≤◌, ◌++◌, ℕ, zero, suc, List, [], length, take, drop, get_or, refl, sym, ap, arith, lit<, length-append, length-take, length-drop}
+use Rattle.std.proofs.Math.Nat.{pow-succ'}
 use Rattle.std.proofs.lemmas.List.{get_or_append_left, get_or-append_right, get_or-take, get_or-drop, length-take-le}
 use Rattle.byteorder.specs.Endian.{little_from, little_bytes}
 use Rattle.byteorder.specs.Numbers.{little_number-reads_back, length-bytes_low_first}
-use Rattle.vol_words.specs.Fields.{field, put, put_field, word_sum, checksum, summed}
+use Rattle.vol_words.specs.Fields.{IsBytes, field, put, put_field, word_sum, checksum, summed}
 
 -- a write within a block keeps its length
 pub length-put : (b : List ℕ) (o : ℕ) (bytes : List ℕ) → o + length bytes ≤ length b → length (put b o bytes) ≡ length b
@@ -41,6 +42,17 @@ little_from-same i (suc w) xs ys same =
     let here = same i (omega arith) (omega arith) in
     let rest = little_from-same (suc i) w xs ys (λ k h l. same k (omega arith) (omega arith)) in
     rw (here, rest) refl
+
+-- a number of bytes fits them
+little_from-lt : (i w : ℕ) (xs : List ℕ) → IsBytes xs → little_from i w xs < 256 ^ w
+little_from-lt i zero xs bytes = lit< tt
+little_from-lt i (suc w) xs bytes =
+    let here = bytes i in
+    let rest = little_from-lt (suc i) w xs bytes in
+    rw pow-succ' (omega arith)
+
+pub field-lt : (b : List ℕ) (o w : ℕ) → IsBytes b → field b o w < 256 ^ w
+field-lt b o w bytes = little_from-lt 0 w (drop o b) (λ k. rw get_or-drop (bytes (o + k)))
 
 -- a field is told by its bytes
 pub field-same : (a b : List ℕ) (p w : ℕ) → ((k : ℕ) → p ≤ k → k < p + w → get_or a k 0 ≡ get_or b k 0) → field a p w ≡ field b p w
