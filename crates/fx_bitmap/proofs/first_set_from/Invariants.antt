@@ -1,0 +1,6 @@
+use Rattle.std.proofs.Common.{◌≡◌, ◌<◌, ◌≤◌, ℕ, false}
+use Rattle.fx_bitmap.specs.Bits.{bit_at}
+use Rattle.fx_bitmap.proofs.first_set_from.Given as goal
+
+abbrev pub invariant-loop-i : goal.invariant-loop-i
+invariant-loop-i l = (j : ℕ) → l.fn.from ≤ j → j < l.i → bit_at l.b j ≡ false

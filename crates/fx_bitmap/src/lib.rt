@@ -1,0 +1,97 @@
+//! Bitmaps of a Files-11 ODS-2 volume: the 4,096 bits of a block, the lowest of each byte first.
+#![tactic(auto)]
+
+ghost use Rattle.std.specs.Prelude.{◌≡◌, ◌+◌, ◌≤◌, ◌<◌, ◌==◌, ◌≢◌, ℕ, true, false, if◌then◌else◌};
+ghost use Rattle.vol_words.specs.Fields.{IsBytes};
+ghost use Rattle.fx_bitmap.specs.Bits.{byte_bit, bit_at, bits_put, ArePut, IsFirstSet, BitsTellTheBlock, count_set};
+
+use vol_words::Block;
+
+/// Whether bit `i` is set, 0 to 4,095.
+#[tactic(auto, using(std::proofs::lemmas::Nat::Bits::shr_and_one), unfolding(crate::specs::Bits::bit_at))]
+pub fn bit(b: &Block, i: u32) -> bool
+    requires { i < 4096 }
+    ensures { result ≡ bit_at b.now i }
+{
+    (b[(i / 8) as usize] >> (i % 8)) & 1 == 1
+}
+
+/// Sets the `n` bits from bit `from` on, all of them below 4,096, and changes no other bit.
+pub fn set_bits(b: &mut Block, from: u32, n: u32)
+    requires { from + n ≤ 4096 }
+    ensures block { b.new ≡ bits_put b.old from n true }
+    ensures bits { ArePut b.old b.new from n true }
+{
+    put_bits(b, from, n, true);
+}
+
+/// Clears the `n` bits from bit `from` on, all of them below 4,096, and changes no other bit.
+pub fn clear_bits(b: &mut Block, from: u32, n: u32)
+    requires { from + n ≤ 4096 }
+    ensures block { b.new ≡ bits_put b.old from n false }
+    ensures bits { ArePut b.old b.new from n false }
+{
+    put_bits(b, from, n, false);
+}
+
+/// The first set bit at `from` or behind it, if there is one.
+pub fn first_set_from(b: &Block, from: u32) -> Option<u32>
+    ensures { IsFirstSet b.now from result }
+{
+    for i in from..4096 {
+        if bit(b, i) {
+            return Some(i);
+        }
+    }
+    None
+}
+
+/// How many of the 4,096 bits are set.
+pub fn count_set(b: &Block) -> u32
+    ensures { result ≡ count_set b.now }
+{
+    let mut count = 0;
+    for byte in b {
+        count += byte.count_ones();
+    }
+    count
+}
+
+/// A block is told by its bits: two blocks with the same bits are equal.
+pub fn bits_tell_the_block()
+    ensures { BitsTellTheBlock }
+{}
+
+fn put_bits(b: &mut Block, from: u32, n: u32, value: bool)
+    requires { from + n ≤ 4096 }
+    ensures block { b.new ≡ bits_put b.old from n value }
+    ensures bits { ArePut b.old b.new from n value }
+{
+    for i in from..from + n {
+        put_bit(b, i, value);
+    }
+}
+
+fn put_bit(b: &mut Block, i: u32, value: bool)
+    requires { i < 4096 }
+    ensures bits { (j : ℕ) → bit_at b.new j ≡ (if j == i then value else bit_at b.old j) }
+    ensures bytes { IsBytes b.new }
+{
+    let place = (i / 8) as usize;
+    b[place] = with_bit(b[place], i % 8, value);
+}
+
+fn with_bit(byte: u8, k: u32, value: bool) -> u8
+    requires { k < 8 }
+    ensures put { byte_bit result k ≡ value }
+    ensures others { (i : ℕ) → i < 8 → i ≢ k → byte_bit result i ≡ byte_bit byte i }
+{
+    if value {
+        byte | (1 << k)
+    } else {
+        byte & !(1 << k)
+    }
+}
+
+#[cfg(test)]
+mod tests;
