@@ -1,0 +1,45 @@
+-- The quota file: each of its blocks has 16 rows of 32 bytes.
+use Rattle.std.specs.Prelude.{◌≡◌, ◌+◌, ◌*◌, ◌%◌, ◌<◌, ◌==◌, ℕ, [], ◌∷◌, bit_and, bit_or, if◌then◌else◌, Option, Some, None}
+use Rattle.vol_words.specs.Fields.{Block, field, put_field}
+use Rattle.vol_words.specs.Tables.{Table, laid}
+use Rattle.fx_quota.specs.declared.types.Row.{Row}
+use Rattle.fx_quota.specs.declared.TheConstants.{UIC, USAGE, PERMQUOTA, OVERDRAFT}
+
+-- where row i begins
+abbrev pub row_start : ℕ → ℕ
+row_start i = 32 * i
+
+-- the flags of a row, of which the lowest bit says that the row is active
+abbrev pub flags_at : Block → ℕ → ℕ
+flags_at b i = field b (row_start i) 4
+
+-- what the fields of row i say
+abbrev pub row_in : Block → ℕ → Row
+row_in b i = record {
+  uic = field b (row_start i + UIC) 4;
+  usage = field b (row_start i + USAGE) 4;
+  quota = field b (row_start i + PERMQUOTA) 4;
+  over = field b (row_start i + OVERDRAFT) 4;
+}
+
+-- row i, or none where it is not active
+unfoldable pub row_at : Block → ℕ → Option Row
+row_at b i = if flags_at b i % 2 == 1 then Some (row_in b i) else None
+
+-- the fields of an active row that begins at `start`
+abbrev pub row_table : ℕ → ℕ → Row → Table
+row_table start flags r =
+    (start, 4, bit_or flags 1) ∷ (start + UIC, 4, r.uic) ∷ (start + USAGE, 4, r.usage)
+    ∷ (start + PERMQUOTA, 4, r.quota) ∷ (start + OVERDRAFT, 4, r.over) ∷ []
+
+-- the block in which row i is active and says r
+unfoldable pub row_put : Block → ℕ → Row → Block
+row_put b i r = laid (row_table (row_start i) (flags_at b i) r) b
+
+-- the block in which row i is not active
+unfoldable pub row_cleared : Block → ℕ → Block
+row_cleared b i = put_field b (row_start i) 4 (bit_and (flags_at b i) 0xffff_fffe)
+
+-- row i reads like this, and each other row as before
+abbrev pub IsRowPut : Block → Block → ℕ → Option Row → Type 0
+IsRowPut old new i row = (j : ℕ) → j < 16 → row_at new j ≡ (if j == i then row else row_at old j)
