@@ -150,7 +150,7 @@ met-sound d [] all n m = n
 met-sound d (b ∷ bs) all n m =
     met-sound (d ++ fresh d b) bs all (each-append (λ e. In all e) d (fresh d b) n (each-from (λ e. In all e) (fresh d b) (λ e i. each-at (λ e. In all e) b e m.0 (in-fresh d b e i)))) m.1
 
-each-joined : {X : Type 0} (P : X → Type 0) (bs : List (List X)) → Each (λ b. Each P b) bs → Each P (joined bs)
+pub each-joined : {X : Type 0} (P : X → Type 0) (bs : List (List X)) → Each (λ b. Each P b) bs → Each P (joined bs)
 each-joined P [] n = tt
 each-joined P (b ∷ bs) n = each-append P b (joined bs) n.0 (each-joined P bs n.1)
 

@@ -4,3 +4,11 @@ pub mod Streams
 pub mod Meeting
 pub mod Cover
 pub mod Finding
+pub mod Greedy
+pub mod Mixing
+pub mod Views
+pub mod Showing
+pub mod Written
+pub mod Building
+pub mod Steps
+pub mod Forming

@@ -4,6 +4,7 @@ use Rattle.vol_words.specs.Packing.{size}
 use Rattle.fx_dir.specs.declared.RawEnt.{RawEnt}
 use Rattle.fx_dir.specs.Lists.{Each, In}
 use Rattle.fx_dir.specs.Entries.{rises, fresh}
+use Rattle.fx_dir.specs.Writing.{name_of}
 
 -- the entries met, where es were met before these blocks
 abbrev pub met : List RawEnt → List (List RawEnt) → List RawEnt
@@ -16,4 +17,4 @@ pub record Reads (es : List RawEnt) (bs : List (List RawEnt)) : Type 0 where
   pub order : rises es ≡ true
   pub blocks : Each (λ b. rises b ≡ true) bs
   pub no_clash : Each (λ b. Each (λ e. In es e) b) bs
-  pub room : Each (λ b. size (λ e. e.name) None b ≤ 510) bs
+  pub room : Each (λ b. size name_of None b ≤ 510) bs

@@ -32,6 +32,14 @@ read_on vbn es (b ∷ bs) = and_then (one_more vbn es (block_entries b)) (λ fs.
 abbrev pub directory : List Block → Result (List RawEnt) DirFault
 directory bs = read_on 1 [] bs
 
+abbrev pub plainly : Result (List RawEnt) DirFault → Result (List RawEnt) DirFault
+plainly (Ok es) = Ok (map plain es)
+plainly (Err fault) = Err fault
+
+-- the same without the version limits and the flags of records
+abbrev pub dir_entries : List Block → Result (List RawEnt) DirFault
+dir_entries bs = plainly (directory bs)
+
 -- a call answers this, unless memory ran out
 abbrev pub Gives : {V A : Type 0} → (V → A) → Result A DirFault → Result V DirFault → Type 0
 Gives view given (Ok v) = given ≡ Ok (view v)

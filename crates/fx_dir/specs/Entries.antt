@@ -32,6 +32,10 @@ rises (e ∷ es) = list_all (before e) es && rises es
 abbrev pub has : List RawEnt → RawEnt → Bool
 has es e = list_any (same e) es
 
+-- those of another name or version
+abbrev pub without : RawEnt → List RawEnt → List RawEnt
+without e es = filter (λ x. not (same e x)) es
+
 -- those of fs whose name and version are not in es
 abbrev pub fresh : List RawEnt → List RawEnt → List RawEnt
 fresh es fs = filter (λ e. not (has es e)) fs

@@ -2,6 +2,7 @@ ghost use Rattle.std.specs.Prelude.{◌≡◌, ◌<◌, ◌≤◌, ◌++◌, IfO
 ghost use Rattle.std.specs.Str.{bytes_eq};
 ghost use Rattle.std.specs.List.{list_any, list_all, zip};
 ghost use Rattle.fx_dir.specs.declared.RawEnt.{RawEnt};
+ghost use Rattle.fx_dir.specs.Writing.{IsRanged};
 ghost use Rattle.fx_dir.specs.Entries.{same, clash, lower, before, rises, has, fresh, any_clash};
 
 use crate::{NoMemory, RawEnt, RawName};
@@ -9,15 +10,17 @@ use std::alloc::Global;
 
 impl RawEnt {
     pub fn copy(&self, alloc: Global) -> Result<RawEnt, NoMemory>
-        ensures { IfOk result (λ e. e ≡ self.now) }
+        ensures value { IfOk result (λ e. e ≡ self.now) }
+        ensures ranged { IfOk result IsRanged }
     {
+        let (seq, limit, flags) = (self.seq, self.limit, self.flags);
         Ok(RawEnt {
             name: RawName::new(alloc, self.name.bytes())?,
             ver: self.ver,
             num: self.num,
-            seq: self.seq,
-            limit: self.limit,
-            flags: self.flags,
+            seq,
+            limit,
+            flags,
         })
     }
 

@@ -9,11 +9,14 @@ use thiserror::Error;
 
 mod entries;
 pub mod laws;
+mod packing;
 mod reading;
 mod records;
 #[cfg(test)]
 mod tests;
+mod writing;
 
+pub use packing::packed;
 pub use reading::read_dir;
 
 /// No memory was to be had; nothing has changed.

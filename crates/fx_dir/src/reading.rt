@@ -1,4 +1,7 @@
-ghost use Rattle.std.specs.Prelude.{◌≡◌, List, Result, Ok, Err};
+ghost use Rattle.std.specs.Prelude.{◌≡◌, List, Result, Ok, Err, IfOk, true};
+ghost use Rattle.fx_dir.specs.Entries.{rises};
+ghost use Rattle.fx_dir.specs.Lists.{Each};
+ghost use Rattle.fx_dir.specs.Writing.{IsInForm};
 ghost use Rattle.fx_dir.specs.Directory.{Gives, directory, one_more};
 ghost use Rattle.fx_dir.specs.Records.{block_entries};
 
@@ -15,7 +18,9 @@ fn one_more(
     mut met: Vec<RawEnt>,
     b: &Block,
 ) -> Result<Vec<RawEnt>, DirFault>
-    ensures { Gives (λ v. v.items) (one_more vbn met.items (block_entries b.now)) result }
+    requires { Each IsInForm met.items }
+    ensures value { Gives (λ v. v.items) (one_more vbn met.items (block_entries b.now)) result }
+    ensures form { IfOk result (λ v. Each IsInForm v.items) }
 {
     let Some(found) = block_entries(alloc, b)? else {
         return Err(DirFault::BadRecord(vbn));
@@ -36,7 +41,9 @@ fn one_more(
 ///
 /// The fault is the first, block by block, and in one block in the order of [`DirFault`].
 pub fn read_dir(alloc: Global, blocks: &[Block]) -> Result<Vec<RawEnt>, DirFault>
-    ensures { Gives (λ v. v.items) (directory blocks.now) result }
+    ensures entries { Gives (λ v. v.items) (directory blocks.now) result }
+    ensures order { IfOk result (λ v. rises v.items ≡ true) }
+    ensures form { IfOk result (λ v. Each IsInForm v.items) }
 {
     let mut met = Vec::new(alloc);
     let mut vbn = 1u32;

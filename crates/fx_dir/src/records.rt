@@ -2,6 +2,8 @@ ghost use Rattle.std.specs.Prelude.{◌≡◌, ◌+◌, ◌-◌, ◌*◌, ◌/�
 ghost use Rattle.std.specs.Bool.{OnTrue};
 ghost use Rattle.vol_words.specs.Fields.{field};
 ghost use Rattle.fx_dir.specs.declared.RawEnt.{RawEnt};
+ghost use Rattle.fx_dir.specs.Lists.{Each};
+ghost use Rattle.fx_dir.specs.Writing.{IsInForm};
 ghost use Rattle.fx_dir.specs.Records.{record_length, head_length, name_in, is_end, is_whole, is_named, is_version, entry_in, versions_in, record_entries, records_in, block_entries};
 
 use crate::entries::rises;
@@ -152,7 +154,8 @@ fn records_in(alloc: Global, b: &Block) -> Result<Option<Vec<RawEnt>>, NoMemory>
 /// The entries of a block, or none where it is not a list of records in order.
 #[tactic(auto, unfolding(crate::specs::Records::block_entries))]
 pub(crate) fn block_entries(alloc: Global, b: &Block) -> Result<Option<Vec<RawEnt>>, NoMemory>
-    ensures { IfOk result (λ o. option_map (λ v. v.items) o ≡ block_entries b.now) }
+    ensures value { IfOk result (λ o. option_map (λ v. v.items) o ≡ block_entries b.now) }
+    ensures form { IfOk result (λ o. IfSome o (λ v. Each IsInForm v.items)) }
 {
     let Some(list) = records_in(alloc, b)? else {
         return Ok(None);

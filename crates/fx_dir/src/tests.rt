@@ -1,4 +1,9 @@
-use crate::{DirFault, RawEnt, read_dir};
+ghost use Rattle.std.specs.Prelude.{◌≡◌, IfOk, true};
+ghost use Rattle.fx_dir.specs.Entries.{rises};
+ghost use Rattle.fx_dir.specs.Lists.{Each};
+ghost use Rattle.fx_dir.specs.Writing.{IsInForm};
+
+use crate::{DirFault, RawEnt, packed, read_dir};
 use std::alloc::Global;
 use std::test::Fail;
 use vol_words::Block;
@@ -12,7 +17,10 @@ fn block(bytes: &[u8]) -> Block {
     b
 }
 
-fn read(alloc: Global, texts: &[&[u8]]) -> Result<Vec<RawEnt>, DirFault> {
+fn read(alloc: Global, texts: &[&[u8]]) -> Result<Vec<RawEnt>, DirFault>
+    ensures order { IfOk result (λ v. rises v.items ≡ true) }
+    ensures form { IfOk result (λ v. Each IsInForm v.items) }
+{
     let mut blocks = Vec::new(alloc);
     for text in texts {
         blocks.push(block(text))?;
@@ -152,5 +160,67 @@ fn the_first_fault_is_named(rt: HostRuntime) -> Result<(), Fail> {
         let found = read(rt.alloc(), blocks).map(|ents| ents.len());
         assert_eq!(rt; found, *expected);
     }
+    Ok(())
+}
+
+/// A name that fills its record to 94 bytes, of which a block has room for five.
+const LONG: &[u8] =
+    b"01XXXXXXXXXXXXXXXXXXXXXXXXXXXXXXXXXXXXX.YYYYYYYYYYYYYYYYYYYYYYYYYYYYYYYYYYYYYYY\x00";
+
+/// The block of the entries LONG with the numbers `from` to `to` in their first two digits, which are files 13 and on,
+/// and of Z.T, which is file 19, behind them.
+fn long_block(alloc: Global, from: u8, to: u8, last: bool) -> Result<Block, Fail> {
+    let mut text = Vec::new(alloc);
+    for k in from..to.saturating_add(1) {
+        text.extend_from_slice(b"\x5c\x00\xff\x7f\x00\x4f")?;
+        text.push((k / 10).wrapping_add(b'0'))?;
+        text.push(k % 10 + b'0')?;
+        text.extend_from_slice(LONG.split_at(2).1)?;
+        text.extend_from_slice(b"\x01\x00")?;
+        text.push(k.wrapping_add(12))?;
+        text.extend_from_slice(b"\x00\x01\x00\x00\x00")?;
+    }
+    if last {
+        text.extend_from_slice(b"\x10\x00\xff\x7f\x00\x03Z.T\x00\x01\x00\x13\x00\x01\x00\x00\x00")?;
+    }
+    text.extend_from_slice(b"\xff\xff")?;
+    Ok(block(text.as_slice()))
+}
+
+/// Twenty entries fill four blocks, and one more has no room in them.
+#[test]
+fn four_blocks_have_room_for_twenty(rt: HostRuntime) -> Result<(), Fail> {
+    let alloc = rt.alloc();
+    let mut blocks = Vec::new(alloc);
+    for from in [1u8, 6, 11, 16] {
+        blocks.push(long_block(alloc, from, from.wrapping_add(4), false)?)?;
+    }
+    let ents = read_dir(alloc, blocks.as_slice())?;
+    assert_eq!(rt; ents.len(), 20);
+    let full = packed(alloc, ents.as_slice(), 4)?;
+    let full = full.ok_or("they have room")?;
+    assert_eq!(rt; full.as_slice(), blocks.as_slice());
+    assert!(rt; packed(alloc, ents.as_slice(), 3)?.is_none());
+    blocks.push(long_block(alloc, 21, 21, false)?)?;
+    let ents = read_dir(alloc, blocks.as_slice())?;
+    assert!(rt; packed(alloc, ents.as_slice(), 4)?.is_none());
+    assert!(rt; packed(alloc, ents.as_slice(), 5)?.is_some());
+    Ok(())
+}
+
+/// Two records of A.;2 and A.;1 become one, with the limit and the flags of the first; what follows is empty.
+#[test]
+fn records_of_one_name_are_joined(rt: HostRuntime) -> Result<(), Fail> {
+    let alloc = rt.alloc();
+    let two =
+        b"\x0e\x00\x05\x00\x01\x02A.\x02\x00\x01\x00\x01\x00\x00\x02\x0e\x00\xff\x7f\x00\x02A.\x01\x00\x02\x00\x01\x00\x00\x00\xff\xff";
+    let one =
+        b"\x16\x00\x05\x00\x01\x02A.\x02\x00\x01\x00\x01\x00\x00\x02\x01\x00\x02\x00\x01\x00\x00\x00\xff\xff";
+    let ents = read(alloc, &[two])?;
+    let blocks = packed(alloc, ents.as_slice(), 2)?.ok_or("they have room")?;
+    assert_eq!(rt;
+        blocks.as_slice(),
+        [block(one), block(b"\xff\xff")].as_slice()
+    );
     Ok(())
 }
