@@ -1,1 +1,7 @@
+pub mod MergeLemmas
+pub mod NewLemmas
 pub mod PointerLemmas
+pub mod RunsLemmas
+pub mod SetterLemmas
+pub mod SoundLemmas
+pub mod SpellLemmas

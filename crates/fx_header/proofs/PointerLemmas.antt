@@ -29,7 +29,7 @@ spelt-enough (suc m) (suc n) p h k =
           ∙ sym (spelt-whole n p g)
     ]
 
-runs_of-whole : (p : List ℕ) → pointer_size p ≤ length p → runs_of p ≡ before (pointer_run p) (runs_of (drop (pointer_size p) p))
+pub runs_of-whole : (p : List ℕ) → pointer_size p ≤ length p → runs_of p ≡ before (pointer_run p) (runs_of (drop (pointer_size p) p))
 unfolding runs_of
 runs_of-whole p h =
     spelt-enough (length p) (suc (length p)) p (omega arith) (omega arith) ∙ spelt-whole (length p) p h
@@ -61,7 +61,7 @@ unspelt-enough (suc m) (suc n) p h k =
           ∙ sym (unspelt-whole n p g)
     ]
 
-rest_of-whole : (p : List ℕ) → pointer_size p ≤ length p → rest_of p ≡ rest_of (drop (pointer_size p) p)
+pub rest_of-whole : (p : List ℕ) → pointer_size p ≤ length p → rest_of p ≡ rest_of (drop (pointer_size p) p)
 unfolding rest_of
 rest_of-whole p h =
     unspelt-enough (length p) (suc (length p)) p (omega arith) (omega arith) ∙ unspelt-whole (length p) p h
@@ -104,3 +104,12 @@ splits-whole p n run e r h =
 -- and a cut one does not
 pub splits-cut : (p : List ℕ) → length p < pointer_size p → (runs_of p ≡ []) × (rest_of p ≡ p)
 splits-cut p h = (runs_of-cut p h, rest_of-cut p h)
+
+-- no bytes have no runs
+pub runs_of-nil : runs_of [] ≡ []
+unfolding runs_of
+runs_of-nil = spelt-cut 0 [] (omega arith)
+
+pub rest_of-nil : rest_of [] ≡ []
+unfolding rest_of
+rest_of-nil = unspelt-cut 0 [] (omega arith)

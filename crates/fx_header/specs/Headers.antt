@@ -1,13 +1,15 @@
 -- File headers: what each field of a header's block says, and the faults that a header can have.
-use Rattle.std.specs.Prelude.{◌+◌, ◌-◌, ◌*◌, ◌^◌, ◌==◌, ◌&&◌, not, nat_le, ℕ, List, length, slice_index, slice_range, sum_by, Bool, Result, Ok, Err, if◌then◌else◌, bit_and, IsTrue, ⊤}
-use Rattle.vol_words.specs.Fields.{Block, field, checksum}
+use Rattle.std.specs.Prelude.{◌≡◌, ◌≤◌, ◌+◌, ◌-◌, ◌*◌, ◌/◌, ◌%◌, ◌^◌, ◌==◌, ◌&&◌, not, nat_le, ℕ, List, [], ◌∷◌, ◌++◌, take, drop, replicate, length, slice_index, slice_range, Bool, Result, Ok, Err, if◌then◌else◌, bit_and, bit_or, IsTrue, ⊤}
+use Rattle.bitflags.specs.Sets.{without}
+use Rattle.vol_words.specs.Fields.{Block, field, put, put_field, checksum, summed}
+use Rattle.vol_words.specs.Tables.{Table, zeros, laid}
 use Rattle.fx_header.specs.declared.run.Run.{Run}
 use Rattle.fx_header.specs.declared.slot.Slot.{Slot}
 use Rattle.fx_header.specs.declared.slot.Slot.TheVariants.{Free, Used}
 use Rattle.fx_header.specs.declared.slot.Hdr.{Hdr}
 use Rattle.fx_header.specs.declared.slot.HeaderFault.{HeaderFault}
 use Rattle.fx_header.specs.declared.slot.HeaderFault.TheVariants.{BadSum, BadLevel, BadOffsets, BadRvn, BadExtension, BadMap, BadEnd}
-use Rattle.fx_header.specs.Pointers.{runs_of, rest_of}
+use Rattle.fx_header.specs.Pointers.{runs_of, rest_of, AreRuns, merged, map_words, blocks_in}
 
 -- the number of four bytes whose high word stands first
 abbrev pub high_first : Block → ℕ → ℕ
@@ -62,33 +64,42 @@ mark_of b = field b 76 4
 abbrev pub has_flag : Block → ℕ → Bool
 has_flag b mask = bit_and (field b 52 4) mask == mask
 
--- what a reader tests, in its order
+-- ---- what a reader tests, in its order
+
+-- a slot is free where its file number is zero
 unfoldable pub is_free : Block → Bool
 is_free b = number_of b == 0
 
+-- the last word is the sum of those in front of it
 unfoldable pub has_sum : Block → Bool
 has_sum b = field b 510 2 == checksum b 255
 
+-- the structure level, in the high byte of its word, is 2
 unfoldable pub has_level : Block → Bool
 has_level b = slice_index b 7 == 2
 
+-- the areas follow one another behind the fields and end within the block, and the map area has 154 words at least
 unfoldable pub has_offsets : Block → Bool
 has_offsets b =
     nat_le 40 (ident_offset b) && nat_le (ident_offset b) (map_offset b) && nat_le (map_offset b) (access_offset b)
     && nat_le (access_offset b) (reserved_offset b) && nat_le (reserved_offset b) 255 && nat_le 154 (map_area b)
 
-unfoldable pub has_volume : Block → Bool
-has_volume b = slice_index b 12 == 0
+-- the relative volume number is 0
+unfoldable pub is_on_this_volume : Block → Bool
+is_on_this_volume b = slice_index b 12 == 0
 
+-- the header is no extension header (SEG_NUM) and has none (EXT_FID)
 unfoldable pub is_alone : Block → Bool
 is_alone b = (field b 4 2 == 0) && (field b 14 6 == 0)
 
+-- the words in use are within the map area, and the last pointer ends at the last of them
 unfoldable pub has_map : Block → Bool
 has_map b = nat_le (map_in_use b) (map_area b) && (length (rest_of (map_bytes b)) == 0)
 
+-- the blocks are those of the runs, and the end of file and the mark are at most one block behind them
 unfoldable pub has_end : Block → Bool
 has_end b =
-    (sum_by (λ r. r.count) (runs_in b) == blocks_of b) && nat_le (end_of b) (blocks_of b + 1) && nat_le (byte_of b) 511
+    (blocks_in (runs_in b) == blocks_of b) && nat_le (end_of b) (blocks_of b + 1) && nat_le (byte_of b) 511
     && nat_le (mark_of b) (blocks_of b + 1)
 
 -- the fields that a header in use tells
@@ -114,7 +125,7 @@ header_read b =
     else if not (has_sum b) then Err BadSum
     else if not (has_level b) then Err BadLevel
     else if not (has_offsets b) then Err BadOffsets
-    else if not (has_volume b) then Err BadRvn
+    else if not (is_on_this_volume b) then Err BadRvn
     else if not (is_alone b) then Err BadExtension
     else if not (has_map b) then Err BadMap
     else if not (has_end b) then Err BadEnd
@@ -124,3 +135,84 @@ header_read b =
 abbrev pub HasRuns : Block → Slot → Type 0
 HasRuns b (Free seq) = ⊤
 HasRuns b (Used h) = IsTrue (has_offsets b) × IsTrue (has_map b)
+
+-- ---- what the writers leave
+
+-- the rows of a number whose high word stands first
+abbrev pub high_first_rows : ℕ → ℕ → Table
+high_first_rows o n = (o, 2, n / 2 ^ 16) ∷ (o + 2, 2, n % 2 ^ 16) ∷ []
+
+-- the rows of a file identifier: the number, the sequence number, and the number's high byte behind that of the volume
+abbrev pub id_rows : ℕ → ℕ → ℕ → Table
+id_rows o num seq = (o, 2, num % 2 ^ 16) ∷ (o + 2, 2, seq) ∷ (o + 5, 1, num / 2 ^ 16) ∷ []
+
+-- the file characteristics
+abbrev pub flags_of : Hdr → ℕ
+flags_of h = (if h.dir then 2 ^ 13 else 0) + (if h.marked then 2 ^ 15 else 0)
+
+-- the rows of a new header: where its areas begin, and version 1 of structure level 2
+unfoldable pub area_rows : Table
+area_rows = (0, 1, 40) ∷ (1, 1, 100) ∷ (2, 1, 255) ∷ (3, 1, 255) ∷ (6, 1, 1) ∷ (7, 1, 2) ∷ []
+
+-- its blocks and its end of file
+unfoldable pub size_rows : ℕ → ℕ → ℕ → Table
+size_rows blocks end byte = high_first_rows 24 blocks ++ high_first_rows 28 end ++ (32, 2, byte) ∷ []
+
+-- its characteristics, its owner, its directory and its mark
+unfoldable pub owner_rows : ℕ → ℕ → ℕ × ℕ → ℕ → Table
+owner_rows flags owner parent mark = (52, 4, flags) ∷ (60, 4, owner) ∷ id_rows 66 parent.0 parent.1 ++ (76, 4, mark) ∷ []
+
+-- all of its fields; those that are not named are zero
+abbrev pub new_rows : Hdr → ℕ × ℕ → Table
+new_rows h parent =
+    area_rows ++ (id_rows 8 h.num h.seq ++ (size_rows h.blocks h.end h.byte ++ owner_rows (flags_of h) h.owner parent h.mark))
+
+-- the first n characters of a text, filled with spaces
+abbrev pub filled : ℕ → List ℕ → List ℕ
+filled n text = take n text ++ replicate (n - length text) 32
+
+-- the ident area with the name of a file: its first 20 characters, and 66 further ones behind 34 bytes
+abbrev pub with_name : Block → List ℕ → Block
+with_name b text = put (put b 80 (filled 20 text)) 134 (filled 66 (drop 20 text))
+
+-- a new header
+unfoldable pub header_bytes : Hdr → List ℕ → ℕ × ℕ → Block
+header_bytes h text parent = summed (with_name (laid (new_rows h parent) zeros) text)
+
+-- a free slot with this sequence number
+unfoldable pub freed : ℕ → Block
+freed seq = summed (put_field zeros 10 2 seq)
+
+-- a header with other file characteristics
+abbrev pub with_flags : Block → ℕ → Block
+with_flags b flags = summed (put_field b 52 4 flags)
+
+-- a header that is marked for delete
+unfoldable pub marked : Block → Block
+marked b = with_flags b (bit_or (field b 52 4) (2 ^ 15))
+
+-- a header of a file that is not said to be contiguous
+unfoldable pub scattered : Block → Block
+scattered b = with_flags b (without 32 (field b 52 4) (2 ^ 7))
+
+-- a header with another mark
+unfoldable pub with_mark : Block → ℕ → Block
+with_mark b mark = summed (put_field b 76 4 mark)
+
+-- a header with another end of file
+unfoldable pub with_end : Block → ℕ → ℕ → Block
+with_end b end byte = summed (put_field (laid (high_first_rows 28 end) b) 32 2 byte)
+
+-- a header with other words in use in its map area; those behind them stay
+abbrev pub with_map : Block → List ℕ → Block
+with_map b words = put_field (put b (2 * map_offset b) words) 58 1 (length words / 2)
+
+-- a header with other runs, and their blocks
+unfoldable pub with_runs : Block → List Run → Block
+with_runs b runs = summed (laid (high_first_rows 24 (blocks_in runs)) (with_map b (map_words runs)))
+
+-- a new header reads back, with any runs of as many blocks that have room in its map area, and so do they
+abbrev pub ReadsBack : Block → Hdr → Type 0
+ReadsBack b h =
+    (runs : List Run) → AreRuns runs → length (map_words runs) ≤ 2 * map_area b → blocks_in runs ≡ h.blocks
+    → (header_read (with_runs b runs) ≡ Ok (Used h)) × (runs_in (with_runs b runs) ≡ merged runs)

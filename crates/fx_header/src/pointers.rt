@@ -64,7 +64,7 @@ fn split_pointer(p: &[u8]) -> Option<(Option<Run>, &[u8])>
 }
 
 /// The retrieval pointers end at the last byte.
-pub fn ends_whole(p: &[u8]) -> bool
+pub(crate) fn ends_whole(p: &[u8]) -> bool
     ensures { result ≡ (length (rest_of p.now) == 0) }
 {
     let mut left = p;
@@ -75,7 +75,7 @@ pub fn ends_whole(p: &[u8]) -> bool
 }
 
 /// The runs that a header's retrieval pointers spell, in order.
-#[derive(Debug, Clone, Copy)]
+#[derive(Debug, Clone, Drop)]
 pub struct RunIter<'a> {
     bytes: &'a [u8],
 }
@@ -103,7 +103,7 @@ impl Iterator for RunIter<'_> {
 
 /// The bytes of the map area's words in use.
 #[tactic(auto, unfolding(crate::specs::Headers::has_offsets))]
-pub fn map_words(b: &Block) -> &[u8]
+pub(crate) fn map_words(b: &Block) -> &[u8]
     requires offsets { IsTrue (has_offsets b.now) }
     requires area { map_in_use b.now ≤ map_area b.now }
     ensures { result.now ≡ map_bytes b.now }

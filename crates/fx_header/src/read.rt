@@ -1,6 +1,7 @@
-ghost use Rattle.std.specs.Prelude.{◌≡◌, ◌+◌, ◌≤◌, ◌<◌, ◌^◌, IsTrue, IfOk, sum_by};
+ghost use Rattle.std.specs.Prelude.{◌≡◌, ◌+◌, ◌≤◌, ◌<◌, ◌^◌, IsTrue, IfOk};
 ghost use Rattle.vol_words.specs.Fields.{field};
-ghost use Rattle.fx_header.specs.Headers.{high_first, number_of, has_flag, runs_in, is_free, has_sum, has_level, has_offsets, has_volume, is_alone, has_map, has_end, fields_of, header_read, HasRuns};
+ghost use Rattle.fx_header.specs.Pointers.{blocks_in};
+ghost use Rattle.fx_header.specs.Headers.{high_first, number_of, has_flag, runs_in, is_free, has_sum, has_level, has_offsets, is_on_this_volume, is_alone, has_map, has_end, fields_of, header_read, HasRuns};
 
 use crate::flags::FileFlags;
 use crate::pointers::{ends_whole, map_words, runs};
@@ -65,9 +66,9 @@ fn has_offsets(b: &Block) -> bool
         && 154 <= access - map
 }
 
-#[tactic(auto, unfolding(crate::specs::Headers::has_volume))]
-fn has_volume(b: &Block) -> bool
-    ensures { result ≡ has_volume b.now }
+#[tactic(auto, unfolding(crate::specs::Headers::is_on_this_volume))]
+fn is_on_this_volume(b: &Block) -> bool
+    ensures { result ≡ is_on_this_volume b.now }
 {
     b[12] == 0
 }
@@ -91,7 +92,7 @@ fn has_map(b: &Block) -> bool
 fn blocks_in_runs(b: &Block) -> u64
     requires offsets { IsTrue (has_offsets b.now) }
     requires map { IsTrue (has_map b.now) }
-    ensures { result ≡ sum_by (λ r. r.count) (runs_in b.now) }
+    ensures { result ≡ blocks_in (runs_in b.now) }
 {
     let mut blocks = 0;
     for run in runs(b) {
@@ -150,7 +151,7 @@ pub fn read_header(b: &Block) -> Result<Slot, HeaderFault>
     if !has_offsets(b) {
         return Err(HeaderFault::BadOffsets);
     }
-    if !has_volume(b) {
+    if !is_on_this_volume(b) {
         return Err(HeaderFault::BadRvn);
     }
     if !is_alone(b) {

@@ -1,6 +1,10 @@
-ghost use Rattle.std.specs.Prelude.{◌≤◌, ◌+◌, length};
+ghost use Rattle.std.specs.Prelude.{◌≤◌, ◌+◌, length, IsTrue, ◌≡◌, false};
+ghost use Rattle.fx_header.specs.Pointers.{AreRuns, blocks_in};
 
-use crate::{Hdr, HeaderFault, Run, Slot, read_header, runs};
+use crate::{
+    Hdr, HeaderFault, Run, Slot, clear_contig, free_slot, new_header, read_header, runs, set_end,
+    set_mark, set_marked, set_runs,
+};
 use std::test::Fail;
 use vol_words::{Block, put_bytes, put_long, put_word, set_sum};
 
@@ -164,4 +168,136 @@ fn the_limits_are_exact(rt: HostRuntime) {
         set_sum(&mut b);
         assert_eq!(rt; read_header(&b).err(), *fault, "byte {place}");
     }
+}
+
+/// Whether these runs can be written into a header.
+fn are_runs(runs: &[Run]) -> bool
+    ensures runs { IsTrue result → AreRuns runs.now }
+    ensures blocks { IsTrue result → blocks_in runs.now ≤ 65536 }
+{
+    let mut left = 65536;
+    for run in runs {
+        if run.count == 0 || left < run.count || 65536 - run.count < run.lbn {
+            return false;
+        }
+        left -= run.count;
+    }
+    true
+}
+
+/// The file (131,587,7) of 5 blocks in the directory (66,1,0), and its name.
+fn file(blocks: u32) -> Hdr
+    ensures { result ≡ record { num = 131587; seq = 7; owner = 65540; dir = false; marked = false; blocks = blocks; mark = 1; end = 1; byte = 0 } }
+{
+    Hdr {
+        num: 0x02_0203,
+        seq: 7,
+        owner: 65540,
+        dir: false,
+        marked: false,
+        blocks,
+        mark: 1,
+        end: 1,
+        byte: 0,
+    }
+}
+
+const LONG_NAME: &[u8] = b"ABCDEFGHIJKLMNOPQRSTUVWXYZ0123456789.DAT;32767";
+
+#[test]
+fn a_new_header_has_its_fields_and_its_name(rt: HostRuntime) {
+    let b = new_header(&file(5), LONG_NAME, (0x01_0042, 1));
+    let front = [40, 100, 255, 255, 0, 0, 1, 2, 3, 2, 7, 0, 0, 2];
+    assert_eq!(rt; &b[..14], front.as_slice());
+    assert_eq!(rt; &b[24..34], [0, 0, 5, 0, 0, 0, 1, 0, 0, 0].as_slice());
+    let owner = [
+        4, 0, 1, 0, 0, 0, 0x42, 0, 1, 0, 0, 1, 0, 0, 0, 0, 1, 0, 0, 0,
+    ];
+    assert_eq!(rt; &b[60..80], owner.as_slice());
+    assert_eq!(rt; &b[80..100], b"ABCDEFGHIJKLMNOPQRST".as_slice());
+    assert_eq!(rt; &b[100..134], [0; 34].as_slice());
+    assert_eq!(rt; &b[134..161], b"UVWXYZ0123456789.DAT;32767 ".as_slice());
+}
+
+#[test]
+fn a_header_reads_back_with_its_runs(rt: HostRuntime) -> Result<(), Fail> {
+    let mut b = new_header(&file(33287), b"A.TXT;1", (4, 4));
+    let given = [
+        (0, 256),
+        (300, 257),
+        (1000, 16384),
+        (20000, 16385),
+        (84, 4),
+        (88, 1),
+    ]
+    .map(|(lbn, count)| Run { lbn, count });
+    if !are_runs(&given) {
+        return Err("no runs".into());
+    }
+    assert!(rt; set_runs(&mut b, &given));
+    let words = [
+        0xff, 0x40, 0x00, 0x00, 0x00, 0x81, 0x2c, 0x01, 0x00, 0x00, 0xff, 0xbf, 0xe8, 0x03, 0x00,
+        0x00, 0x00, 0xc0, 0x00, 0x40, 0x20, 0x4e, 0x00, 0x00, 0x04, 0x40, 0x54, 0x00, 0x00, 0x00,
+    ];
+    assert_eq!(rt; &b[200..230], words.as_slice());
+    assert_eq!(rt; b[58], 14);
+    assert_eq!(rt; read_header(&b), Ok(Slot::Used(file(33287))));
+    Ok(())
+}
+
+#[test]
+fn seventy_seven_clusters_have_room(rt: HostRuntime) -> Result<(), Fail> {
+    let mut b = new_header(&file(1232), b"A.TXT;1", (4, 4));
+    let mut clusters = [Run { lbn: 0, count: 16 }; 78];
+    for (i, run) in clusters.iter_mut().enumerate() {
+        run.lbn = 32 * i as u32;
+    }
+    let Some((_, fitting)) = clusters.split_last() else {
+        return Err("no clusters".into());
+    };
+    if !are_runs(&clusters) || !are_runs(fitting) {
+        return Err("no runs".into());
+    }
+    let empty = b;
+    assert!(rt; !set_runs(&mut b, &clusters));
+    assert!(rt; b == empty);
+    assert!(rt; set_runs(&mut b, fitting));
+    assert_eq!(rt; b[58], 154);
+    assert_eq!(rt; read_header(&b), Ok(Slot::Used(file(1232))));
+    Ok(())
+}
+
+#[test]
+fn setters_change_their_field(rt: HostRuntime) {
+    let mut b = header(&[0x03, 0x40, 0x58, 0x00], 4);
+    let Ok(Slot::Used(h)) = read_header(&b) else {
+        return;
+    };
+    put_long(&mut b, 52, 0x2080);
+    clear_contig(&mut b);
+    assert_eq!(rt; &b[52..56], [0x00, 0x20, 0x00, 0x00].as_slice());
+    assert_eq!(rt; read_header(&b), Ok(Slot::Used(h)));
+    set_marked(&mut b);
+    assert_eq!(rt; read_header(&b), Ok(Slot::Used(Hdr { marked: true, ..h })));
+    set_mark(&mut b, 3);
+    assert_eq!(rt;
+        read_header(&b),
+        Ok(Slot::Used(Hdr {
+            marked: true,
+            mark: 3,
+            ..h
+        }))
+    );
+    set_end(&mut b, 2, 17);
+    assert_eq!(rt;
+        read_header(&b),
+        Ok(Slot::Used(Hdr {
+            marked: true,
+            mark: 3,
+            end: 2,
+            byte: 17,
+            ..h
+        }))
+    );
+    assert_eq!(rt; read_header(&free_slot(65535)), Ok(Slot::Free(65535)));
 }
