@@ -1,5 +1,5 @@
 -- Images in memory, which fail at chosen calls, and what a contract sees of an image file.
-use Rattle.std.specs.Prelude.{◌+◌, ◌-◌, ◌^◌, ◌==◌, min, ℕ, List, Option, true, is_some, slice_set, if◌then◌else◌}
+use Rattle.std.specs.Prelude.{◌+◌, ◌-◌, ◌^◌, ◌==◌, min, ℕ, List, Option, Bool, true, is_some, slice_set, if◌then◌else◌}
 use Rattle.std.specs.List.{find}
 use Rattle.std.specs.Option.{option_map_or}
 use Rattle.vol_words.specs.Fields.{Block}
@@ -33,7 +33,8 @@ abbrev pub written : Memory → ℕ → Block → Memory
 written m lbn b =
     record (called m) { blocks = if option_map_or (λ f. f.lands) (failure m) true then slice_set m.blocks lbn b else m.blocks }
 
--- how many blocks a file has, and how many calls failed
+-- of an image in a file: whether there is a file, how many blocks it has, and how many calls failed
 pub record FileView : Type 0 where
+  pub is_open : Bool
   pub size : ℕ
   pub faults : ℕ

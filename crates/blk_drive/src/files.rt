@@ -1,5 +1,6 @@
 //! An image in a file, of which large pieces are read ahead.
-ghost use Rattle.std.specs.Prelude.{◌≡◌, ◌<◌, ◌≤◌, ◌*◌, ◌^◌, IfOk, IfSome, None};
+ghost use Rattle.std.specs.Prelude.{◌≡◌, ◌<◌, ◌≤◌, ◌*◌, ◌^◌, ◌↔◌, false, IfOk, IfSome, IsOk, IsTrue, None};
+ghost use Rattle.vol_words.specs.Faults.{HasCause};
 
 use crate::{DevFault, ImageDev, NoMemory};
 use std::alloc::Global;
@@ -92,16 +93,17 @@ pub struct FileImage<F: Drop> {
 
 impl<F: Drop> Model for FileImage<F> {
     ghost use Rattle.blk_drive.specs.Memory.{FileView};
+    ghost use Rattle.std.specs.Prelude.{is_some};
 
     ghost Value = { FileView };
 
-    ghost view = { λ s. record { size = s.size; faults = s.faults } };
+    ghost view = { λ s. record { is_open = is_some s.opened; size = s.size; faults = s.faults } };
 }
 
 impl<F: Drop> FileImage<F> {
     /// The image without a file, as where it could not be opened: each call of it fails.
     pub fn absent() -> FileImage<F>
-        ensures { result ≡ record { size = 0; faults = 0 } }
+        ensures { result ≡ record { is_open = false; size = 0; faults = 0 } }
     {
         FileImage {
             opened: None,
@@ -142,7 +144,13 @@ impl<F: Read + Write + Seek + OpenFile + Drop> ImageDev for FileImage<F> {
 
     ghost counted = { λ _. tt };
 
-    fn blocks(&mut self) -> Result<u32, DevFault> {
+    fn blocks(&mut self) -> Result<u32, DevFault>
+        ensures answer { IfOk result (λ n. n ≡ self.old.size) }
+        ensures size { self.new.size ≡ self.old.size }
+        ensures cause { HasCause self.old.faults self.new.faults result }
+        ensures opened { IsOk result ↔ IsTrue self.old.is_open }
+        ensures stays { self.new.is_open ≡ self.old.is_open }
+    {
         if self.opened.is_none() {
             self.faults = self.faults.saturating_add(1);
             return Err(DevFault);

@@ -1,6 +1,7 @@
 //! Sources and sinks over the readers and writers of std: files, standard input, standard output.
-ghost use Rattle.std.specs.Prelude.{◌≡◌, ◌<◌, ◌≤◌, length, Some, None, IfOk};
+ghost use Rattle.std.specs.Prelude.{◌≡◌, ◌<◌, ◌≤◌, length, Some, None, IfOk, IsErr, IsNone};
 ghost use Rattle.std.specs.Io.KnownBytes.{ReadConsumes, WriteAppends};
+ghost use Rattle.vol_words.specs.Faults.{HasCause};
 ghost use Rattle.fx_text.specs.Streams.{told_by};
 
 use crate::{OutFail, TextFail, TextIn, TextOut};
@@ -65,7 +66,14 @@ impl<R: Read + Drop> TextIn for StdIn<R> {
 
     ghost faults = { λ s. s.faults };
 
-    fn read(&mut self, buf: &mut [u8]) -> Result<usize, TextFail> {
+    fn read(&mut self, buf: &mut [u8]) -> Result<usize, TextFail>
+        ensures count { IfOk result (λ n. n ≤ length buf.new) }
+        ensures bytes { ReadConsumes (told_by R.remaining self.old.stream) (told_by R.remaining self.new.stream) result buf.new }
+        ensures cause { HasCause self.old.faults self.new.faults result }
+
+        // Without a reader each read fails.
+        ensures absent { IsNone self.old.stream → IsErr result × IsNone self.new.stream }
+    {
         if let Some(reader) = &mut self.reader {
             if let Ok(n) = read_some(reader, buf) {
                 return Ok(n);
