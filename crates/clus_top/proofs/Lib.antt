@@ -1,0 +1,4 @@
+pub mod Lists
+pub mod EntryTexts
+pub mod Replayed
+pub mod Reported

@@ -1,0 +1,6 @@
+pub mod Lines
+pub mod Scripts
+pub mod Volumes
+pub mod Runs
+pub mod Statuses
+pub mod Jobs

@@ -1,0 +1,107 @@
+ghost use Rattle.std.specs.Prelude.{◌≡◌, ◌≤◌, None, IfOk, IfErr, IfSome, length, ℕ, List};
+ghost use Rattle.vol_words.specs.Faults.{Rose};
+ghost use Rattle.blk_drive.specs.Images.{IsInside};
+ghost use Rattle.plain_cat.specs.declared.entries.DirEnt.{DirEnt};
+ghost use Rattle.clus_top.specs.Lines.{lines_of};
+ghost use Rattle.clus_top.specs.Scripts.{Spell};
+ghost use Rattle.clus_top.specs.Volumes.{main_entries};
+ghost use Rattle.clus_top.specs.Runs.{IsReport};
+ghost use Rattle.clus_top.specs.Statuses.{Passes, IsReportOn};
+ghost use Rattle.clus_top.specs.Jobs.{SpellsWithin, IsScriptEnd, IsVolumeEnd, IsReportIn, IsJobEnd, load_status};
+
+use crate::lookup::LookupLine;
+use crate::report::report;
+use crate::script::{ScriptFault, read_script};
+use crate::status::Status;
+use crate::volume::main_entries;
+use blk_drive::{ImageDev, LoadFault, LoadRefused, Mirror};
+use fx_text::{TextFault, TextIn, read_all};
+use std::alloc::Global;
+use vol_words::Block;
+
+/// The greatest number of bytes of a script.
+const SCRIPT_LIMIT: usize = 1_048_576;
+
+// Reads the script to its end, and what it spells.
+fn command_of<T: TextIn>(alloc: Global, script: &mut T) -> Result<Option<LookupLine>, Status>
+    ensures spelt { IfOk result (λ command. IfSome (T.left script.old) (SpellsWithin command)) }
+    ensures end { IfErr result (IsScriptEnd (T.left script.old) (T.faults script.old) (T.faults script.new)) }
+{
+    let bytes = match read_all(alloc, script, SCRIPT_LIMIT) {
+        Ok(bytes) => bytes,
+        Err(TextFault::ReadFault) => return Err(Status::ScriptFault),
+        Err(TextFault::TooLong) => return Err(Status::ScriptTooLong),
+        Err(TextFault::NoMemory) => return Err(Status::NoMemory),
+    };
+    match read_script(alloc, bytes.as_slice()) {
+        Ok(command) => Ok(command),
+        Err(ScriptFault::BadLine(n)) => Err(Status::BadScript(n)),
+        Err(ScriptFault::NoMemory) => Err(Status::NoMemory),
+    }
+}
+
+// The report of the command on the blocks of a volume.
+fn report_on(alloc: Global, command: Option<LookupLine>, bs: &[Block]) -> Result<Vec<u8>, Status>
+    requires { IsInside (length bs.now) }
+    ensures report { IfOk result (λ text. IsReportIn command bs.now text.items) }
+    ensures end { IfErr result (IsVolumeEnd bs.now) }
+{
+    match main_entries(alloc, bs) {
+        Err(_) => Err(Status::NoMemory),
+        Ok(None) => Err(Status::NotAccepted),
+        Ok(Some(directory)) => match report(alloc, command, &directory) {
+            Ok(text) => Ok(text),
+            Err(_) => Err(Status::NoMemory),
+        },
+    }
+}
+
+/// The end of a job: the text of status 0 or another status, and the image.
+#[derive(Drop)]
+pub struct Job<I: ImageDev> {
+    pub outcome: Result<Vec<u8>, Status>,
+    pub image: I,
+}
+
+// Why an image was not loaded.
+fn load_status(fault: LoadFault) -> Status
+    ensures { result ≡ load_status fault }
+{
+    match fault {
+        LoadFault::ImageFault => Status::ImageFault,
+        LoadFault::BadSize(n) => Status::BadSize(n),
+        LoadFault::NoMemory => Status::NoMemory,
+    }
+}
+
+/// Runs the script on the image.
+pub fn run_job<I: ImageDev, T: TextIn>(alloc: Global, image: I, script: &mut T) -> Job<I>
+    ensures report { IfOk result.outcome (λ text. Passes (T.left script.old) (I.size image) (I.told image)
+        × IsReportOn (T.left script.old) (I.told image) text.items) }
+    ensures end { IfErr result.outcome (IsJobEnd (T.left script.old) (I.size image) (I.told image)
+        (T.faults script.old) (T.faults script.new) (I.faults image) (I.faults result.image)) }
+    ensures told { I.told result.image ≡ I.told image }
+{
+    let command = match command_of(alloc, script) {
+        Ok(command) => command,
+        Err(status) => {
+            return Job {
+                outcome: Err(status),
+                image,
+            };
+        }
+    };
+    match Mirror::load(alloc, image) {
+        Ok(mirror) => {
+            let outcome = report_on(alloc, command, mirror.all());
+            Job {
+                outcome,
+                image: mirror.into_image(),
+            }
+        }
+        Err(LoadRefused { fault, image }) => Job {
+            outcome: Err(load_status(fault)),
+            image,
+        },
+    }
+}

@@ -1,0 +1,105 @@
+ghost use Rattle.std.specs.Prelude.{◌≡◌, ◌++◌, IfOk, OnOk, count_by};
+ghost use Rattle.clus_top.specs.Runs.{is_answer, is_death, closing_text, report_text, history_of};
+
+use crate::lookup::LookupLine;
+use plain_cat::{Cmd, DirEnts, Entry, Fid, NoMemory};
+use plain_vol::look_up;
+use std::alloc::Global;
+use vol_texts::{push_bytes, push_count, push_lines};
+
+/// The main directory.
+const MFD: Fid = Fid { num: 4, seq: 4 };
+
+// Whether an entry is an answer, or a death.
+#[tactic(auto, unfolding(crate::specs::Runs::is_answer))]
+fn is_answer(e: &Entry) -> bool
+    ensures { result ≡ is_answer e.now }
+{
+    matches!(e, Entry::Done { .. })
+}
+
+#[tactic(auto, unfolding(crate::specs::Runs::is_death))]
+fn is_death(e: &Entry) -> bool
+    ensures { result ≡ is_death e.now }
+{
+    matches!(e, Entry::Died { .. })
+}
+
+// How many entries are answers, and how many are deaths.
+fn answers(entries: &[Entry]) -> usize
+    ensures { result ≡ count_by is_answer entries.now }
+{
+    let mut n = 0usize;
+    for e in entries {
+        if is_answer(e) {
+            n += 1;
+        }
+    }
+    n
+}
+
+fn deaths(entries: &[Entry]) -> usize
+    ensures { result ≡ count_by is_death entries.now }
+{
+    let mut n = 0usize;
+    for e in entries {
+        if is_death(e) {
+            n += 1;
+        }
+    }
+    n
+}
+
+// Appends the last line of a report.
+fn push_closing(
+    alloc: Global,
+    out: &mut Vec<u8>,
+    answered: usize,
+    died: usize,
+) -> Result<(), NoMemory>
+    ensures { OnOk result (out.new.items ≡ out.old.items ++ closing_text answered died) }
+{
+    push_bytes(out, b"end: ")?;
+    push_count(alloc, out, answered)?;
+    push_bytes(out, b" answered, ")?;
+    push_count(alloc, out, died)?;
+    push_bytes(out, b" died\n")
+}
+
+// The history of a run: no command, or one look-up in the main directory.
+fn history_of(
+    alloc: Global,
+    command: Option<LookupLine>,
+    directory: &DirEnts,
+) -> Result<Vec<Entry>, NoMemory>
+    ensures { IfOk result (λ h. h.items ≡ history_of command directory.now) }
+{
+    let mut entries = Vec::new(alloc);
+    if let Some(LookupLine { reg, name, ver }) = command {
+        let reply = look_up(alloc, directory, &name, ver)?;
+        let cmd = Cmd::Lookup {
+            reg,
+            dir: MFD,
+            name,
+            ver,
+        };
+        entries.push(Entry::Done { node: 1, cmd, reply })?;
+    }
+    Ok(entries)
+}
+
+/// The report of a run.
+pub fn report(
+    alloc: Global,
+    command: Option<LookupLine>,
+    directory: &DirEnts,
+) -> Result<Vec<u8>, NoMemory>
+    ensures { IfOk result (λ text. text.items ≡ report_text (history_of command directory.now)) }
+{
+    let entries = history_of(alloc, command, directory)?;
+    let mut text = Vec::new(alloc);
+    push_lines(alloc, &mut text, entries.as_slice())?;
+    let answered = answers(entries.as_slice());
+    push_closing(alloc, &mut text, answered, deaths(entries.as_slice()))?;
+    Ok(text)
+}

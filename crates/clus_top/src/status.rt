@@ -1,0 +1,55 @@
+ghost use Rattle.std.specs.Prelude.{◌≡◌};
+
+/// How a call of the program ended.
+#[derive(Clone, Copy, Debug, PartialEq)]
+pub enum Status {
+    /// The job is done and its text written.
+    Ok,
+
+    /// The words have no reading.
+    BadWords,
+
+    /// A read of the script failed.
+    ScriptFault,
+
+    /// The script has more than 1,048,576 bytes.
+    ScriptTooLong,
+
+    /// The first bad line of the script, counted from 1.
+    BadScript(u32),
+
+    /// A call of the image failed.
+    ImageFault,
+
+    /// The image has so many blocks, and a volume has 64 to 65,536.
+    BadSize(u32),
+
+    /// The volume is not readable.
+    NotAccepted,
+
+    /// A write of the text of status 0 failed.
+    OutFault,
+
+    /// Memory ran out.
+    NoMemory,
+}
+
+impl Status {
+    ghost use Rattle.clus_top.specs.Statuses.{status_code};
+
+    /// The number with which the program ends.
+    pub fn code(&self) -> u8
+        ensures { result ≡ status_code self.now }
+    {
+        match self {
+            Status::Ok => 0,
+            Status::BadWords => 1,
+            Status::ScriptFault | Status::ScriptTooLong => 2,
+            Status::BadScript(_) => 3,
+            Status::ImageFault | Status::BadSize(_) => 4,
+            Status::NotAccepted => 5,
+            Status::OutFault => 6,
+            Status::NoMemory => 7,
+        }
+    }
+}
