@@ -8,7 +8,7 @@ pub lines-fed : (bytes : List ℕ) → front 10 bytes < length bytes → lines_o
 lines-fed [] h = absurd (omega arith)
 lines-fed (b ∷ bs) h =
     elim (eqb b 10) as (λ t. cond t 0 (suc (front 10 bs)) < suc (length bs)
-        → cond t ([] ∷ lines_of bs) (onto_first b (lines_of bs)) ≡ take (cond t 0 (suc (front 10 bs))) (b ∷ bs) ∷ lines_of (drop (cond t 0 (suc (front 10 bs)) + 1) (b ∷ bs))) [
+    → cond t ([] ∷ lines_of bs) (onto_first b (lines_of bs)) ≡ take (cond t 0 (suc (front 10 bs))) (b ∷ bs) ∷ lines_of (drop (cond t 0 (suc (front 10 bs)) + 1) (b ∷ bs))) [
       | true ↦ λ g. refl
       | false ↦ λ g.
           let e : suc (front 10 bs) + 1 ≡ suc (front 10 bs + 1) = omega arith in

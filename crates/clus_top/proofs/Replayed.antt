@@ -27,7 +27,7 @@ pub no_command : (l : LookupLine) (r : Reply) (node : ℕ) → or_close (cond (e
 unfolding newborn after_answer
 no_command l r node =
     elim (eqb 1 node) as (λ t. or_close (cond t (after_answer newborn (cmd.Lookup l.reg main_fid l.name l.ver) r) newborn)
-        (slice_get (cond t (line.Lookup l.reg (Fixed main_fid) l.name l.ver ∷ []) []) (cond t (after_answer newborn (cmd.Lookup l.reg main_fid l.name l.ver) r) newborn).answered) ≡ None) [
+    (slice_get (cond t (line.Lookup l.reg (Fixed main_fid) l.name l.ver ∷ []) []) (cond t (after_answer newborn (cmd.Lookup l.reg main_fid l.name l.ver) r) newborn).answered) ≡ None) [
       | true ↦ ap (close_from 1) (switched-none (switched (replicate 8 false) (is_opened r) None true) (is_closed r) false ∙ switched-none (replicate 8 false) (is_opened r) true)
       | false ↦ refl
     ]

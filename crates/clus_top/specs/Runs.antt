@@ -39,16 +39,31 @@ the_script (Some l) = record {
 -- the main directory as a file with these entries
 abbrev pub main_file : List DirEnt → File
 main_file es = record {
-  seq = 4; owner = record { 0 = 0 }; dir = true; clusters = 1; mark = 0; end = 0; byte = 0; marked = false; written = []; entries = es;
+  seq = 4;
+  owner = record { 0 = 0 };
+  dir = true;
+  clusters = 1;
+  mark = 0;
+  end = 0;
+  byte = 0;
+  marked = false;
+  written = [];
+  entries = es;
 }
 
 -- The catalogue as far as the main directory tells it: file 4 has these entries. The other files and all counts are left
 -- out, since no command that runs so far looks at them.
 abbrev pub main_catalogue : List DirEnt → Cat
 main_catalogue es = record {
-  factor = 0; total = 0; reserved = 0; rows = 0;
+  factor = 0;
+  total = 0;
+  reserved = 0;
+  rows = 0;
   files = Free 0 ∷ Free 0 ∷ Free 0 ∷ Used (main_file es) ∷ [];
-  quota = []; opens = []; leaked = 0; leaked_numbers = [];
+  quota = [];
+  opens = [];
+  leaked = 0;
+  leaked_numbers = [];
 }
 
 -- an entry is an answer, or a death

@@ -50,7 +50,10 @@ fn read_register(bytes: &[u8]) -> Option<Register<'_>>
         (λ r. (1 ≤ r.reg) × (r.reg ≤ 8) × (bytes.now ≡ digit r.reg ∷ r.rest.now)) }
 {
     match bytes {
-        [b, rest @ ..] if *b >= b'1' && *b <= b'8' => Some(Register { reg: *b - b'0', rest }),
+        [b, rest @ ..] if *b >= b'1' && *b <= b'8' => Some(Register {
+            reg: *b - b'0',
+            rest,
+        }),
         _ => None,
     }
 }

@@ -1,7 +1,6 @@
 //! The top call: the program `vmsclus` over any image, script source and text sink.
 #![tactic(auto)]
 
-
 mod entry;
 mod job;
 mod lines;
@@ -18,3 +17,6 @@ mod volume;
 pub use lookup::LookupLine;
 pub use status::Status;
 pub use top::{Finished, vmsclus};
+
+#[cfg(test)]
+mod tests;

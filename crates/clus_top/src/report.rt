@@ -83,7 +83,11 @@ fn history_of(
             name,
             ver,
         };
-        entries.push(Entry::Done { node: 1, cmd, reply })?;
+        entries.push(Entry::Done {
+            node: 1,
+            cmd,
+            reply,
+        })?;
     }
     Ok(entries)
 }

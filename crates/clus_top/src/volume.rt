@@ -5,11 +5,11 @@ ghost use Rattle.fx_header.specs.Iter.{runs_left};
 ghost use Rattle.fx_dir.specs.Directory.{directory};
 ghost use Rattle.clus_top.specs.Volumes.{is_main, is_cluster, only_run, run_in_header, main_run, plain_entry, entries_or_none, main_entries};
 
+use crate::names::name_of;
 use fx_dir::{DirFault, RawEnt, read_dir};
 use fx_header::{Hdr, Run, RunIter, Slot, read_header, runs};
 use fx_home::{Home, read_home, slot_lbn};
 use plain_cat::{DirEnt, DirEnts, Fid, NoMemory};
-use crate::names::name_of;
 use std::alloc::{AllocError, Global};
 use vol_words::Block;
 
