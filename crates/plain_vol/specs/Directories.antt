@@ -1,9 +1,5 @@
 -- The entries of a directory in order, and whether they pack.
-<<<<<<< HEAD
 use Rattle.std.specs.Prelude.{◌==◌, ◌&&◌, ◌||◌, ◌+◌, not, nat_lt, nat_le, ℕ, Bool, true, false, List, [], ◌∷◌, Option, Some, None, filter, is_some, if◌then◌else◌}
-=======
-use Rattle.std.specs.Prelude.{◌==◌, ◌&&◌, ◌||◌, ◌+◌, not, nat_lt, ℕ, Bool, true, false, List, [], ◌∷◌, Option, Some, None, filter, is_some, if◌then◌else◌}
->>>>>>> 7a08402 (fx_header: headers and their runs written, and read back)
 use Rattle.std.specs.Str.{bytes_eq}
 use Rattle.vol_words.specs.Packing.{over}
 use Rattle.plain_cat.specs.declared.ids.Fid.{Fid}
@@ -53,11 +49,7 @@ new_version ver es = if ver == 0 then highest es + 1 else ver
 
 -- no version comes after the highest
 abbrev pub is_last_version : ℕ → List DirEnt → Bool
-<<<<<<< HEAD
 is_last_version ver es = (ver == 0) && nat_le 32767 (highest es)
-=======
-is_last_version ver es = (ver == 0) && (highest es == 32767)
->>>>>>> 7a08402 (fx_header: headers and their runs written, and read back)
 
 -- the version is there already
 abbrev pub is_taken : ℕ → List DirEnt → Bool

@@ -14,11 +14,7 @@ use Rattle.plain_cat.specs.declared.cat.QuotaRow.{QuotaRow}
 use Rattle.plain_vol.specs.Lookups.{file_at, live, versions, highest}
 use Rattle.plain_vol.specs.Directories.{inserted, fits, entry, is_nil}
 use Rattle.plain_vol.specs.Changes.{with_entries}
-<<<<<<< HEAD
 use Rattle.plain_vol.specs.Accounts.{charge}
-=======
-use Rattle.plain_vol.specs.Sound.{charge}
->>>>>>> 7a08402 (fx_header: headers and their runs written, and read back)
 
 -- an entry, and the number of its directory
 pub record Place : Type 0 where

@@ -1,20 +1,12 @@
-<<<<<<< HEAD
 ghost use Rattle.std.specs.Prelude.{◌≡◌, IfOk, option_copied, not};
 ghost use Rattle.plain_vol.specs.Directories.{is_nil};
-=======
-ghost use Rattle.std.specs.Prelude.{◌≡◌, IfOk, option_copied};
->>>>>>> 7a08402 (fx_header: headers and their runs written, and read back)
 ghost use Rattle.plain_vol.specs.Lookups.{versions, highest, first_with, entry_of, found};
 
 use plain_cat::{DirEnt, DirEnts, Name, NoMemory, Refusal, Reply};
 use std::alloc::Global;
 
 // The highest version of a name, which comes first, or 0.
-<<<<<<< HEAD
 pub(crate) fn highest(entries: &[DirEnt], name: &Name) -> u16
-=======
-fn highest(entries: &[DirEnt], name: &Name) -> u16
->>>>>>> 7a08402 (fx_header: headers and their runs written, and read back)
     ensures { result ≡ highest (versions name.now entries.now) }
 {
     for e in entries {
@@ -25,7 +17,6 @@ fn highest(entries: &[DirEnt], name: &Name) -> u16
     0
 }
 
-<<<<<<< HEAD
 // Whether some version of a name is there.
 pub(crate) fn has_name(entries: &[DirEnt], name: &Name) -> bool
     ensures { result ≡ not (is_nil (versions name.now entries.now)) }
@@ -40,10 +31,6 @@ pub(crate) fn has_name(entries: &[DirEnt], name: &Name) -> bool
 
 // The entry of a name and a version.
 pub(crate) fn with_version<'a>(entries: &'a [DirEnt], name: &Name, ver: u16) -> Option<&'a DirEnt>
-=======
-// The entry of a name and a version.
-fn with_version<'a>(entries: &'a [DirEnt], name: &Name, ver: u16) -> Option<&'a DirEnt>
->>>>>>> 7a08402 (fx_header: headers and their runs written, and read back)
     ensures { option_copied result ≡ first_with ver (versions name.now entries.now) }
 {
     for e in entries {
@@ -55,11 +42,7 @@ fn with_version<'a>(entries: &'a [DirEnt], name: &Name, ver: u16) -> Option<&'a 
 }
 
 // The entry that is looked for.
-<<<<<<< HEAD
 pub(crate) fn entry_of<'a>(entries: &'a [DirEnt], name: &Name, ver: u16) -> Option<&'a DirEnt>
-=======
-fn entry_of<'a>(entries: &'a [DirEnt], name: &Name, ver: u16) -> Option<&'a DirEnt>
->>>>>>> 7a08402 (fx_header: headers and their runs written, and read back)
     ensures { option_copied result ≡ entry_of (versions name.now entries.now) ver }
 {
     let ver = if ver == 0 {

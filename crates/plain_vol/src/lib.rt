@@ -3,7 +3,6 @@
 //! are checked with, written for clarity.
 #![tactic(auto)]
 
-<<<<<<< HEAD
 mod answers;
 mod changes;
 mod creating;
@@ -20,13 +19,6 @@ mod sizing;
 pub use directories::look_up;
 pub use outcome::Outcome;
 pub use packing::dir_fits;
-=======
-mod directories;
-mod outcome;
-
-pub use directories::look_up;
-pub use outcome::Outcome;
->>>>>>> 7a08402 (fx_header: headers and their runs written, and read back)
 pub use plain_cat::{
     Blocks, Cat, Channels, Clusters, Cmd, DirEnt, DirEnts, Entry, Fid, File, FileRef, Files, Flags,
     History, Kill, KillAt, Kills, Line, LineCmd, Lines, Mended, Mode, Name, NoMemory, NumberList,
