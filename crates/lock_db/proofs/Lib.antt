@@ -1,0 +1,13 @@
+pub mod Blocks
+pub mod Heads
+pub mod Lists
+pub mod Modes
+pub mod Names
+pub mod Order
+pub mod Owners
+pub mod Places
+pub mod Rules
+pub mod Settling
+pub mod Standings
+pub mod Steps
+pub mod Together

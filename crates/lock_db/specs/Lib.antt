@@ -1,0 +1,5 @@
+pub mod Laws
+pub mod Names
+pub mod Queues
+pub mod Resources
+pub mod Tables
