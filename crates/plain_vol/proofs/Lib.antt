@@ -1,2 +1,10 @@
 pub mod Packs
 pub mod Usages
+pub mod Standing
+pub mod Accounting
+pub mod Kept
+pub mod Keeps
+pub mod Choices
+pub mod Placing
+pub mod MendSteps
+pub mod LawSteps

@@ -19,7 +19,7 @@ product_le a b h k = grind arith
 
 share_le : (c : Cat) (owner : Uic) (s : Slot) → c.factor * clusters_in s ≤ 65536 → share c owner s ≤ 65537
 share_le c owner (Free seq) h = omega arith
-share_le c owner (Used f) h = cond_le (f.owner.0 == owner.0) (cost c f.clusters) 65537 (omega arith)
+share_le c owner (Used f) h = cond_le (owner.0 == f.owner.0) (cost c f.clusters) 65537 (omega arith)
 
 -- what an owner's files cost is far below 2 ^ 32
 pub charge_le : (c : Cat) (owner : Uic) → Accounted c → charge c owner ≤ 268439552

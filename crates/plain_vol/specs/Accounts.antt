@@ -13,7 +13,7 @@ use Rattle.plain_vol.specs.Changes.{cost}
 -- what a slot's file costs an owner
 abbrev pub share : Cat → Uic → Slot → ℕ
 share c owner (Free seq) = 0
-share c owner (Used f) = if f.owner.0 == owner.0 then cost c f.clusters else 0
+share c owner (Used f) = if owner.0 == f.owner.0 then cost c f.clusters else 0
 
 -- what all files of an owner cost: their allocated blocks, and one for each file
 abbrev pub charge : Cat → Uic → ℕ

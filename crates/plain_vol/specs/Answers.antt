@@ -98,13 +98,16 @@ abbrev pub made : Cat → ℕ → File → DirEnt → File → Outcome
 made c dir d e f = record { reply = shown e; after = entered c dir d e f }
 
 -- CREATE
-unfoldable pub create_refusal : Cat → File → List ℕ → ℕ → ℕ → Uic → Option ℕ → Option Refusal
-create_refusal c d name ver blocks owner new =
-    let es = versions name d.entries in first_refusal (
+abbrev pub create_checks : Cat → File → List ℕ → ℕ → ℕ → Uic → Option ℕ → List (Bool × Refusal)
+create_checks c d name ver blocks owner new =
+    let es = versions name d.entries in
     (is_last_version ver es, refusal.BadVersion)
     ∷ (is_taken (new_version ver es) es, refusal.DupFile)
     ∷ (nat_lt 77 (in_clusters c blocks), refusal.FileLimit)
-    ∷ room_checks c d name (new_version ver es) owner (in_clusters c blocks) new)
+    ∷ room_checks c d name (new_version ver es) owner (in_clusters c blocks) new
+
+unfoldable pub create_refusal : Cat → File → List ℕ → ℕ → ℕ → Uic → Option ℕ → Option Refusal
+create_refusal c d name ver blocks owner new = first_refusal (create_checks c d name ver blocks owner new)
 
 abbrev pub create_made : Cat → ℕ → File → List ℕ → ℕ → ℕ → Uic → Option ℕ → Outcome
 create_made c dir d name ver blocks owner None = refused c refusal.IndexFull
@@ -120,9 +123,11 @@ create_outcome c dir name ver blocks owner new = in_directory c dir (λ d.
 abbrev pub dir_name : List ℕ → List ℕ
 dir_name name = name ++ (46 ∷ 68 ∷ 73 ∷ 82 ∷ [])
 
+abbrev pub mkdir_checks : Cat → File → List ℕ → Uic → Option ℕ → List (Bool × Refusal)
+mkdir_checks c d name owner new = (not (is_nil (versions name d.entries)), refusal.DupFile) ∷ room_checks c d name 1 owner 1 new
+
 unfoldable pub mkdir_refusal : Cat → File → List ℕ → Uic → Option ℕ → Option Refusal
-mkdir_refusal c d name owner new = first_refusal (
-    (not (is_nil (versions name d.entries)), refusal.DupFile) ∷ room_checks c d name 1 owner 1 new)
+mkdir_refusal c d name owner new = first_refusal (mkdir_checks c d name owner new)
 
 abbrev pub mkdir_made : Cat → ℕ → File → List ℕ → Uic → Option ℕ → Outcome
 mkdir_made c dir d name owner None = refused c refusal.IndexFull
@@ -138,14 +143,16 @@ abbrev pub is_kept : ℕ → File → Bool
 is_kept n f = nat_le n 11 || f.dir
 
 -- EXTEND
-unfoldable pub extend_refusal : Cat → ℕ → File → ℕ → Option Refusal
-extend_refusal c n f blocks =
-    let k = in_clusters c blocks in first_refusal (
+abbrev pub extend_checks : Cat → ℕ → File → ℕ → List (Bool × Refusal)
+extend_checks c n f k =
     (is_kept n f, refusal.NoPriv)
     ∷ (nat_lt 77 (f.clusters + k), refusal.FileLimit)
     ∷ (over_draft (row_of f.owner c.quota) (c.factor * k), refusal.ExQuota)
     ∷ (nat_lt (free_clusters c) k, refusal.DeviceFull)
-    ∷ [])
+    ∷ []
+
+unfoldable pub extend_refusal : Cat → ℕ → File → ℕ → Option Refusal
+extend_refusal c n f blocks = first_refusal (extend_checks c n f (in_clusters c blocks))
 
 abbrev pub extended : Cat → ℕ → File → ℕ → Outcome
 extended c n f k = record {

@@ -7,3 +7,6 @@ pub mod Stages
 pub mod Mending
 pub mod Own
 pub mod Replaying
+pub mod Checks
+pub mod Mends
+pub mod Laws

@@ -11,15 +11,11 @@ use Rattle.plain_cat.specs.declared.cat.File.{File}
 use Rattle.plain_cat.specs.declared.cat.Slot.{Slot}
 use Rattle.plain_cat.specs.declared.cat.Slot.TheVariants.{Used, Free}
 use Rattle.plain_cat.specs.declared.cat.QuotaRow.{QuotaRow}
+use Rattle.plain_vol.specs.declared.places.Place.{Place}
 use Rattle.plain_vol.specs.Lookups.{file_at, live, versions, highest}
 use Rattle.plain_vol.specs.Directories.{inserted, fits, entry, is_nil}
 use Rattle.plain_vol.specs.Changes.{with_entries}
 use Rattle.plain_vol.specs.Accounts.{charge}
-
--- an entry, and the number of its directory
-pub record Place : Type 0 where
-  pub dir : ℕ
-  pub entry : DirEnt
 
 -- the entries of a slot's directory
 abbrev pub entries_in : Slot → List DirEnt
@@ -92,24 +88,19 @@ is_named c fid = list_any (λ p. same_fid p.entry.fid fid) (places c)
 abbrev pub is_lost : Cat → ℕ → File → Bool
 is_lost c n f = not f.marked && not (is_named c (record { num = n; seq = f.seq }))
 
-abbrev pub is_lost_full : Cat → ℕ → Slot → Bool
-is_lost_full c n (Free seq) = false
-is_lost_full c n (Used f) = is_lost c n f && not (is_empty f)
-
-abbrev pub is_lost_empty : Cat → ℕ → Slot → Bool
-is_lost_empty c n (Free seq) = false
-is_lost_empty c n (Used f) = is_lost c n f && is_empty f
+-- and is empty or is not
+abbrev pub is_lost_slot : Cat → Bool → ℕ → Slot → Bool
+is_lost_slot c empty n (Free seq) = false
+is_lost_slot c empty n (Used f) = is_lost c n f && (if empty then is_empty f else not (is_empty f))
 
 -- the numbers of the slots that pass, rising
 abbrev pub numbers_from : (ℕ → Slot → Bool) → ℕ → List Slot → List ℕ
 numbers_from passes n [] = []
 numbers_from passes n (s ∷ ss) = if passes n s then n ∷ numbers_from passes (n + 1) ss else numbers_from passes (n + 1) ss
 
-abbrev pub lost_full : Cat → List ℕ
-lost_full c = numbers_from (is_lost_full c) 1 c.files
-
-abbrev pub lost_empty : Cat → List ℕ
-lost_empty c = numbers_from (is_lost_empty c) 1 c.files
+-- the numbers of the lost files that are empty, or of those that are not
+abbrev pub lost : Cat → Bool → List ℕ
+lost c empty = numbers_from (is_lost_slot c empty) 1 c.files
 
 abbrev pub digit : ℕ → ℕ → ℕ
 digit n unit = 48 + n / unit % 10
@@ -143,12 +134,15 @@ enter_some (n ∷ ns) c = enter_some ns (unwrap_or (enter c n) c)
 -- step 2: first the lost files that are not empty, then the empty ones, both by rising number; none where one that is not
 -- empty has no room
 abbrev pub with_lost : Cat → Option Cat
-with_lost c = option_map (enter_some (lost_empty c)) (enter_all (lost_full c) c)
+with_lost c = option_map (enter_some (lost c true)) (enter_all (lost c false) c)
 
 -- step 3: files that are marked, and those that are still in no directory, are gone
+abbrev pub is_gone : Cat → ℕ → File → Bool
+is_gone c n f = f.marked || not (is_named c (record { num = n; seq = f.seq }))
+
 abbrev pub gone_slot : Cat → ℕ → Slot → Slot
 gone_slot c n (Free seq) = Free seq
-gone_slot c n (Used f) = if f.marked || not (is_named c (record { num = n; seq = f.seq })) then Free f.seq else Used f
+gone_slot c n (Used f) = if is_gone c n f then Free f.seq else Used f
 
 abbrev pub without_gone : Cat → Cat
 without_gone c = record c { files = each_from (gone_slot c) 1 c.files }

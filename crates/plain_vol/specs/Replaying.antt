@@ -1,5 +1,6 @@
 -- The entries of a history, one after the other, lead from one catalogue to another.
 use Rattle.std.specs.Prelude.{◌≡◌, ◌≤◌, ◌-◌, ◌+◌, ℕ, zero, suc, Bool, true, List, [], ◌∷◌, ◌++◌, Option, Some, None, slice_set}
+use Rattle.std.specs.List.{list_all}
 use Rattle.plain_cat.specs.declared.history.Stage.{Stage}
 use Rattle.plain_cat.specs.declared.history.Entry.{Entry}
 use Rattle.plain_cat.specs.declared.history.Entry.TheVariants.{Done, Died, Mended}
@@ -31,13 +32,12 @@ dead c node clusters numbers = record c {
 }
 
 -- each of these numbers is free
-abbrev pub AreFree : Cat → List ℕ → Type 0
-AreFree c [] = Unit {0}
-AreFree c (n ∷ ns) = (is_free_number c n ≡ true) × AreFree c ns
+abbrev pub are_free : Cat → List ℕ → Bool
+are_free c ns = list_all (is_free_number c) ns
 
 -- a node may leak so many clusters and these numbers
 abbrev pub MayLeak : Cat → ℕ → List ℕ → Type 0
-MayLeak c clusters numbers = (clusters ≤ free_clusters c) × AreFree c numbers
+MayLeak c clusters numbers = (clusters ≤ free_clusters c) × (are_free c numbers ≡ true)
 
 -- one entry, after those of h: an answer, a death at a stage of the node's next command, or a mending
 abbrev pub Leads : Script → List Entry → Cat → Entry → Cat → Type 0

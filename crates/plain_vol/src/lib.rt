@@ -3,20 +3,36 @@
 //! are checked with, written for clarity.
 #![tactic(auto)]
 
+mod accounts;
 mod answers;
 mod changes;
+mod checking;
 mod creating;
 mod directories;
+mod dying;
+mod entering;
+mod forms;
+mod judge;
+mod laws;
 mod lookups;
+mod mending;
 mod naming;
 mod opening;
 mod outcome;
+mod outcomes;
 mod packing;
+mod places;
 mod quotas;
 mod reading;
+mod sameness;
 mod sizing;
 
+pub use accounts::is_accounted;
+pub use checking::Checked;
 pub use directories::look_up;
+pub use forms::is_in_form;
+pub use judge::check_reply;
+pub use laws::{answers_are_determined, commands_are_answered};
 pub use outcome::Outcome;
 pub use packing::dir_fits;
 pub use plain_cat::{

@@ -101,7 +101,7 @@ pub(crate) fn row_of(rows: &[QuotaRow], owner: Uic) -> Option<QuotaRow>
     None
 }
 
-fn clusters_in(slot: &Slot) -> u32
+pub(crate) fn clusters_in(slot: &Slot) -> u32
     ensures { result ≡ clusters_in slot.now }
 {
     match slot {

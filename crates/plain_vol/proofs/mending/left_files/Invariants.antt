@@ -1,0 +1,6 @@
+use Rattle.std.proofs.Common.{◌≡◌, ◌++◌, ◌+◌, drop}
+use Rattle.plain_vol.specs.Mending.{each_from, gone_slot}
+use Rattle.plain_vol.proofs.mending.left_files.Given as goal
+
+abbrev pub invariant-loop-i : goal.invariant-loop-i
+invariant-loop-i l = l.files ++ each_from (gone_slot l.cat) (l.i + 1) (drop l.i l.cat.files) ≡ each_from (gone_slot l.cat) 1 l.cat.files

@@ -1,0 +1,54 @@
+-- What the judge says of an entry of a history.
+use Rattle.std.specs.Prelude.{◌≡◌, ◌⊎◌, ℕ, Bool, true, false, List, Option, Some, None}
+use Rattle.plain_cat.specs.InForm.{in_form}
+use Rattle.plain_cat.specs.declared.history.Stage.{Stage}
+use Rattle.plain_cat.specs.declared.history.Stage.TheVariants as stage
+use Rattle.plain_cat.specs.declared.history.Entry.{Entry}
+use Rattle.plain_cat.specs.declared.history.Entry.TheVariants.{Done, Died, Mended}
+use Rattle.plain_cat.specs.declared.reply.Reply.{Reply}
+use Rattle.plain_cat.specs.declared.reply.Reply.TheVariants as reply
+use Rattle.plain_cat.specs.declared.cat.Cat.{Cat}
+use Rattle.plain_vol.specs.declared.outcome.Outcome.{Outcome}
+use Rattle.plain_vol.specs.declared.checking.Checked.{Checked}
+use Rattle.plain_vol.specs.declared.checking.Checked.TheVariants.{Legal, Illegal}
+use Rattle.plain_vol.specs.Accounts.{Accounted}
+use Rattle.plain_vol.specs.Answers.{Answer}
+use Rattle.plain_vol.specs.Replaying.{MayLeak, dead}
+use Rattle.plain_vol.specs.Mending.{mended}
+
+-- the number that a reply shows
+abbrev pub shown_number : Reply → Option ℕ
+shown_number (reply.Found fid name ver) = Some fid.num
+shown_number r = None
+
+-- two outcomes are the same, or the first shows the number m
+abbrev pub ChosenAlike : Outcome → Outcome → ℕ → Type 0
+ChosenAlike o p m = (o ≡ p) ⊎ (shown_number o.reply ≡ Some m)
+
+-- a stage that leaves the catalogue whatever the command
+abbrev pub is_quiet : Stage → Bool
+is_quiet stage.Idle = true
+is_quiet stage.Nothing = true
+is_quiet s = false
+
+-- the command of an answer is in form
+abbrev pub EntryInForm : Entry → Type 0
+EntryInForm (Done node cmd r) = in_form cmd ≡ true
+EntryInForm (Died node st k ns) = Unit {0}
+EntryInForm (Mended m) = Unit {0}
+
+-- An entry leads from c to d. Of a death this says so only where it left nothing of a command, since the command is not
+-- told.
+abbrev pub IsLegal : Cat → Entry → Cat → Type 0
+IsLegal c (Done node cmd r) d = Answer c node cmd r d
+IsLegal c (Died node st k ns) d = (is_quiet st ≡ true) × MayLeak c k ns.items × (d ≡ dead c node k ns.items)
+IsLegal c (Mended m) d = mended c ≡ Some (d, m)
+
+abbrev pub IsChecked : Cat → Entry → Checked → Type 0
+IsChecked c e (Legal d) = IsLegal c e d
+IsChecked c e Illegal = (d : Cat) → IsLegal c e d → ⊥
+
+-- the catalogue after a legal entry is accounted for again
+abbrev pub KeepsAccounts : Checked → Type 0
+KeepsAccounts (Legal d) = Accounted d
+KeepsAccounts Illegal = Unit {0}
