@@ -1,13 +1,13 @@
 -- Blocks that are built of groups of entries.
-use Rattle.std.proofs.Common.{◌≡◌, ◌∙◌, ◌≤◌, Bool, true, false, ℕ, zero, suc, List, [], ◌∷◌, ◌++◌, Option, Some, None, unwrap_or, map, refl, sym, ap, subst, Ok, if◌then◌else◌}
+use Rattle.std.proofs.Common.{◌≡◌, ◌∙◌, ◌≤◌, Bool, true, false, ℕ, zero, suc, List, [], ◌∷◌, ◌++◌, Option, Some, None, unwrap_or, map, slice_index_or, refl, sym, ap, subst, arith, Ok, if◌then◌else◌}
 use Rattle.std.specs.Str.{bytes_eq}
 use Rattle.vol_words.specs.Packing.{size, filled, unfilled, pack, over}
 use Rattle.fx_dir.specs.declared.RawEnt.{RawEnt}
 use Rattle.fx_dir.specs.Lists.{Each, In}
 use Rattle.fx_dir.specs.Entries.{rises, plain}
 use Rattle.fx_dir.specs.Directory.{entries_at, directory, dir_entries}
-use Rattle.fx_dir.specs.Writing.{IsInForm, IsRanged, Sound, IsUniform, name_of, under, marked, block_of}
-use Rattle.fx_dir.proofs.Meeting.{Reads}
+use Rattle.fx_dir.specs.Writing.{IsInForm, IsRanged, IsUniform, AreWritable, name_of, under, marked, block_of}
+use Rattle.fx_dir.proofs.Meeting.{Reads, Sound}
 use Rattle.fx_dir.proofs.Order.{bytes_is}
 use Rattle.fx_dir.proofs.Cover.{each-left, each-right, rises-left}
 use Rattle.fx_dir.proofs.Greedy.{fill-parts, pack-parts, pack-room}
@@ -70,6 +70,19 @@ unfolding Keeps
 blocks-seen v [] w k = refl
 blocks-seen v (g ∷ gs) w k = let h : seen v (block_of g) ≡ map v g = ap (map v) (block-at g w.0) ∙ k.0 in λ i. h i ∷ blocks-seen v gs w.1 k.1 i
 
+pub none-writable : IsWritable []
+none-writable = record { sound = record { form = tt; ranged = tt }; order = refl; room = omega arith }
+
+pub block-seen : (v : RawEnt → RawEnt) (g : List RawEnt) → IsWritable g → Keeps v (g ∷ []) → seen v (block_of g) ≡ map v g
+unfolding Keeps
+block-seen v g w k = ap (map v) (block-at g w) ∙ k.0
+
+pub index-seen : (v : RawEnt → RawEnt) (gs : List (List RawEnt)) (i : ℕ) → Each IsWritable gs → Keeps v gs → seen v (block_of (slice_index_or gs i [])) ≡ map v (slice_index_or gs i [])
+unfolding Keeps
+index-seen v [] i w k = ap (map v) (block-at [] none-writable)
+index-seen v (g ∷ gs) zero w k = ap (map v) (block-at g w.0) ∙ k.0
+index-seen v (g ∷ gs) (suc i) w k = index-seen v gs i w.1 k.1
+
 pub pack-each : (P : RawEnt → Type 0) (k : ℕ) (es : List RawEnt) → Each P es → Each (λ g. Each P g) (pack name_of k es)
 pack-each P zero es n = tt
 pack-each P (suc k) es n =
@@ -108,3 +121,6 @@ packed-keeps k es o r s u =
     pack-seen (λ e. e) own-view k es r s (keeps-uniform es (pack name_of k es) u reads.no_clash) ∙ ap (pack name_of k) (map-own es) in
     let shown = shows (λ e. e) own-view (map block_of (pack name_of k es)) es (blocks-parsed (pack name_of k es) (pack-writable k es r s)) (subst (λ (t : List (List RawEnt)). Reads es t) (sym seen_as) reads) in
     shown.1 ∙ ap Ok (sym (map-own shown.0) ∙ shown.2)
+
+pub pack-writables : (k : ℕ) (es : List RawEnt) → Each IsInForm es → AreWritable (pack name_of k es)
+pack-writables k es f = record { form = pack-each IsInForm k es f; room = pack-room k es }

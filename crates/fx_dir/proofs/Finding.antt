@@ -145,7 +145,7 @@ went vbn d (b ∷ bs) es s h = parse (block_entries b) refl h (λ fs. went (next
         }
 
 -- each entry met comes from a record
-met-sound : (d : List RawEnt) (bs : List (List RawEnt)) (all : List RawEnt) → Each (λ e. In all e) d → Each (λ b. Each (λ e. In all e) b) bs → Each (λ e. In all e) (met d bs)
+pub met-sound : (d : List RawEnt) (bs : List (List RawEnt)) (all : List RawEnt) → Each (λ e. In all e) d → Each (λ b. Each (λ e. In all e) b) bs → Each (λ e. In all e) (met d bs)
 met-sound d [] all n m = n
 met-sound d (b ∷ bs) all n m =
     met-sound (d ++ fresh d b) bs all (each-append (λ e. In all e) d (fresh d b) n (each-from (λ e. In all e) (fresh d b) (λ e i. each-at (λ e. In all e) b e m.0 (in-fresh d b e i)))) m.1

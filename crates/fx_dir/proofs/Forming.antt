@@ -10,7 +10,7 @@ use Rattle.fx_dir.specs.Records.{record_length, head_length, name_in, is_end, is
 use Rattle.fx_dir.specs.Writing.{IsInForm}
 use Rattle.fx_dir.proofs.Order.{and_cases}
 use Rattle.fx_dir.proofs.Cover.{each-append}
-use Rattle.fx_dir.proofs.Steps.{leb_says}
+use Rattle.fx_dir.proofs.Numbers.{leb_says}
 
 drop-bytes : (n : ℕ) (b : List ℕ) → IsBytes b → IsBytes (drop n b)
 drop-bytes n b h i = rw (get_or-drop n b i 0) (h (n + i))

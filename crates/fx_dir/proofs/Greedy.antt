@@ -1,12 +1,12 @@
 -- Greedy packing ends each block at or after any other division of the same entries.
 use Rattle.std.proofs.Common.{◌≡◌, ◌≤◌, ◌+◌, not, Bool, true, false, ℕ, zero, suc, List, [], ◌∷◌, ◌++◌, Option, Some, None, filter, take, length, refl, sym, ap, subst, ◌∙◌, inl, inr, arith, cond, leb, append_assoc, append-nil, if◌then◌else◌}
-use Rattle.std.proofs.lemmas.Bool.Decides.{nat_tests}
 use Rattle.std.specs.Str.{bytes_eq}
 use Rattle.vol_words.specs.Packing.{padded, cost, size, filled, unfilled, pack, over}
 use Rattle.fx_dir.specs.declared.RawEnt.{RawEnt}
 use Rattle.fx_dir.specs.Lists.{Each, joined}
 use Rattle.fx_dir.specs.Entries.{rises, has, fresh}
 use Rattle.fx_dir.specs.Writing.{name_of}
+use Rattle.fx_dir.proofs.Numbers.{leb_yes, leb_says}
 use Rattle.fx_dir.proofs.Meeting.{met}
 use Rattle.fx_dir.proofs.Order.{is_true_or, bytes_is}
 use Rattle.fx_dir.proofs.Cover.{division, rises-left, later, fresh-all, met-more, append-same}
@@ -60,12 +60,6 @@ fill-parts last used (e ∷ es) = elim (leb (used + cost last e.name) 510) as (�
   | false ↦ refl
 ]
 
-pub leb_yes : (a b : ℕ) → a ≤ b → leb a b ≡ true
-leb_yes a b h = grind (arith, nat_tests)
-
-leb_says : (a b : ℕ) → true ≡ leb a b → a ≤ b
-leb_says a b h = grind (arith, nat_tests)
-
 -- what fits goes in
 fill-front : (u y : List RawEnt) (last : Option (List ℕ)) (used : ℕ) → used + size name_of last u ≤ 510 → (g : List RawEnt) × (filled name_of last used (u ++ y) ≡ u ++ g)
 fill-front [] y last used h = (filled name_of last used y, refl)
@@ -78,7 +72,7 @@ fill-room : (last : Option (List ℕ)) (used : ℕ) (es : List RawEnt) → used 
 fill-room last used [] h = omega arith
 fill-room last used (e ∷ es) h = step (fill-room (Some e.name) (used + cost last e.name) es) (leb (used + cost last e.name) 510) refl where
   step : (used + cost last e.name ≤ 510 → used + cost last e.name + size name_of (Some e.name) (filled name_of (Some e.name) (used + cost last e.name) es) ≤ 510) → (b : Bool) → b ≡ leb (used + cost last e.name) 510 → used + size name_of last (if b then e ∷ filled name_of (Some e.name) (used + cost last e.name) es else []) ≤ 510
-  step ih true t = let k : used + cost last e.name ≤ 510 = leb_says _ _ t in let j = ih k in omega arith
+  step ih true t = let k : used + cost last e.name ≤ 510 = leb_says _ _ (sym t) in let j = ih k in omega arith
   step ih false t = omega arith
 
 pub pack-room : (k : ℕ) (es : List RawEnt) → Each (λ b. size name_of None b ≤ 510) (pack name_of k es)
@@ -117,6 +111,9 @@ step-ahead d z w y b e n = elim (division (fresh d b) y z w e) [
   | inr s ↦ (s.0 ++ filled name_of None 0 w, rw (s.1) (simp append_assoc))
 ]
 
+moved-on : (start f p end m v : List RawEnt) → start ++ f ≡ end → end ++ p ≡ m ++ v → start ++ (f ++ p) ≡ m ++ v
+moved-on start f p end m v h k = sym (append_assoc start f p) ∙ ap (λ (t : List RawEnt). t ++ p) h ∙ k
+
 pub ends-after : (j : ℕ) (bs : List (List RawEnt)) (d z w : List RawEnt) → met d bs ≡ d ++ (z ++ w) → Each (λ b. size name_of None b ≤ 510) bs → (v : List RawEnt) × ((d ++ z) ++ joined (pack name_of j w) ≡ met d (take j bs) ++ v)
 ends-after zero bs d z w h n = (z, append-nil (d ++ z))
 ends-after (suc j) [] d z w h n = (z ++ joined (pack name_of (suc j) w), append_assoc d z (joined (pack name_of (suc j) w)))
@@ -132,7 +129,7 @@ ends-after (suc j) (b ∷ bs) d z w h n =
     let g2 : ((d ++ z) ++ f) ++ r ≡ ((d ++ x) ++ s.0) ++ r = ap (λ (v : List RawEnt). v ++ r) s.1 in
     let g : d ++ (z ++ w) ≡ (d ++ x) ++ (s.0 ++ r) = g1 ∙ g2 ∙ append_assoc (d ++ x) s.0 r in
     let ih = ends-after j bs (d ++ x) s.0 r (h ∙ g) n.1 in
-    (ih.0, sym (append_assoc (d ++ z) f (joined (pack name_of j r))) ∙ ap (λ (v : List RawEnt). v ++ joined (pack name_of j r)) s.1 ∙ ih.1)
+    (ih.0, moved-on (d ++ z) f (joined (pack name_of j r)) ((d ++ x) ++ s.0) (met (d ++ x) (take j bs)) ih.0 s.1 ih.1)
 
 -- blocks without doubles
 pub met-joined : (d : List RawEnt) (bs : List (List RawEnt)) → rises (d ++ joined bs) ≡ true → met d bs ≡ d ++ joined bs

@@ -1,3 +1,4 @@
+pub mod Numbers
 pub mod Order
 pub mod Rising
 pub mod Streams
@@ -12,3 +13,12 @@ pub mod Written
 pub mod Building
 pub mod Steps
 pub mod Forming
+pub mod Groups
+pub mod Images
+pub mod Passing
+pub mod Based
+pub mod Changing
+pub mod Seeing
+pub mod Inserting
+pub mod Removing
+pub mod Moving

@@ -1,17 +1,14 @@
 -- Steps of the loops that write and pack.
 use Rattle.std.proofs.Common.{◌≡◌, ◌∙◌, ◌+◌, ◌-◌, ◌≤◌, ◌<◌, ◌++◌, true, false, ℕ, zero, suc, List, [], ◌∷◌, Option, Some, None, option_map, slice_get, take, drop, length, get_or, drop-cons, length-drop, length-append, append_assoc, refl, sym, ap, subst, arith, map, eqb, leb}
 use Rattle.std.specs.List.{prefix_len, list_all}
-use Rattle.std.proofs.lemmas.Bool.Decides.{nat_tests}
 use Rattle.std.proofs.lemmas.List.{take_more}
 use Rattle.vol_words.specs.Names.{is_character, is_part, is_tail, is_name}
 use Rattle.vol_words.specs.Packing.{cost, filled, unfilled, pack, over}
 use Rattle.fx_dir.specs.declared.RawEnt.{RawEnt}
 use Rattle.fx_dir.specs.Lists.{Each}
 use Rattle.fx_dir.specs.Writing.{block_of, packed, if_none_over, name_of, head_bytes, version_bytes, goes_on, last_name, following, record_bytes}
+use Rattle.fx_dir.proofs.Numbers.{leb_yes, leb_no, leb_says}
 use Rattle.fx_dir.proofs.Order.{and_cases, bytes_refl}
-
-pub leb_says : (a b : ℕ) → leb a b ≡ true → a ≤ b
-leb_says a b h = grind (arith, nat_tests)
 
 -- a name has at most 79 characters
 pub name-short : (text : List ℕ) → is_name text ≡ true → length text ≤ 79
@@ -75,12 +72,6 @@ record-begins all out head more es i n e l k g c o m h =
     ap (λ (n : Option (List ℕ)). more ++ record_bytes n (drop (i + 1) es)) (last-more es i e l k)
     ∙ ap (λ (b : List ℕ). b ++ rest) (m ∙ ap (λ (b : List ℕ). b ++ version_bytes e) o)
     ∙ (simp append_assoc) ∙ ap (λ (b : List ℕ). out ++ b) (sym t) ∙ h
-
-leb_yes : (a b : ℕ) → a ≤ b → leb a b ≡ true
-leb_yes a b h = grind (arith, nat_tests)
-
-leb_no : (a b : ℕ) → b < a → leb a b ≡ false
-leb_no a b h = grind (arith, nat_tests)
 
 pub filled-goes : (last : Option (List ℕ)) (used : ℕ) (e : RawEnt) (es : List RawEnt) → used + cost last e.name ≤ 510 → filled name_of last used (e ∷ es) ≡ e ∷ filled name_of (Some e.name) (used + cost last e.name) es
 filled-goes last used e es h = rw (leb_yes (used + cost last e.name) 510 h) refl

@@ -2,7 +2,6 @@
 use Rattle.std.proofs.Common.{◌≡◌, ◌+◌, ◌-◌, ◌*◌, ◌/◌, ◌%◌, ◌≤◌, ◌<◌, ◌++◌, ◌||◌, Bool, true, false, ℕ, zero, suc, List, [], ◌∷◌, Option, Some, None, map, take, drop, length, replicate, get_or, refl, sym, ap, subst, ◌∙◌, arith, append_assoc, length-append, eqb, leb, ltb, get_or-drop, if◌then◌else◌}
 use Rattle.std.specs.Prelude.{slice_index}
 use Rattle.std.specs.Str.{bytes_eq}
-use Rattle.std.proofs.lemmas.Bool.Decides.{nat_tests}
 use Rattle.std.proofs.lemmas.List.Sums.{prefix_len-le-length}
 use Rattle.std.proofs.lemmas.List.{take_at, drop_at, length-replicate, drop-replicate}
 use Rattle.byteorder.specs.Numbers.{little_number-reads_back}
@@ -14,20 +13,13 @@ use Rattle.fx_dir.specs.declared.RawEnt.{RawEnt}
 use Rattle.fx_dir.specs.Lists.{Each}
 use Rattle.fx_dir.specs.Entries.{rises}
 use Rattle.fx_dir.specs.Records.{record_length, head_length, name_in, is_end, is_whole, is_named, is_version, entry_in, versions_in, record_entries, records_in, block_entries}
-use Rattle.fx_dir.specs.Writing.{IsInForm, IsRanged, Sound, name_of, head_bytes, version_bytes, goes_on, following, record_bytes, block_of, under, marked}
+use Rattle.fx_dir.specs.Writing.{IsInForm, IsRanged, name_of, head_bytes, version_bytes, goes_on, following, record_bytes, block_of, under, marked}
+use Rattle.fx_dir.proofs.Numbers.{leb_yes, ltb_yes, eqb_no}
+use Rattle.fx_dir.proofs.Meeting.{Sound}
 use Rattle.fx_dir.proofs.Views.{rises-marked}
 use Rattle.fx_dir.proofs.Order.{both, or_right, bytes_is}
 
 -- ---- a version
-
-leb_yes : (a b : ℕ) → a ≤ b → leb a b ≡ true
-leb_yes a b h = grind (arith, nat_tests)
-
-ltb_yes : (a b : ℕ) → a < b → ltb a b ≡ true
-ltb_yes a b h = grind (arith, nat_tests)
-
-eqb_no : (a b : ℕ) → a < b → eqb a b ≡ false
-eqb_no a b h = grind (arith, nat_tests)
 
 length-version : (e : RawEnt) → length (version_bytes e) ≡ 8
 unfolding version_bytes
@@ -294,7 +286,7 @@ drop-record e g tail =
 
 end-read : (e : RawEnt) (g : List RawEnt) (tail : List ℕ) → 4 + padded e.name + 8 * length g < 65535 → is_end (record-bytes e g tail) ≡ false
 unfolding is_end record-bytes
-end-read e g tail small = rw (field-size e (length g) (versions_bytes g ++ tail) (omega arith)) (eqb_no (4 + padded e.name + 8 * length g) 65535 small)
+end-read e g tail small = rw (field-size e (length g) (versions_bytes g ++ tail) (omega arith)) (eqb_no (4 + padded e.name + 8 * length g) 65535 (λ h. absurd (omega arith)))
 
 one-more : (m : ℕ) (e : RawEnt) (g : List RawEnt) (rest : List RawEnt) (tail : List ℕ) → 4 + padded e.name + 8 * length g < 65535 → 1 ≤ length g → 2 ≤ length tail → IsInForm e → IsRanged e
     → Each (λ x. e.name ≡ x.name) g → Each IsInForm g → Each IsRanged g → records_in m tail ≡ Some rest → records_in (suc m) (record-bytes e g tail) ≡ Some (map (under e) g ++ rest)

@@ -3,3 +3,5 @@ pub mod Entries
 pub mod Records
 pub mod Directory
 pub mod Writing
+pub mod Moves
+pub mod Laws

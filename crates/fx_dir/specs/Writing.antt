@@ -5,7 +5,7 @@ use Rattle.std.specs.Str.{bytes_eq}
 use Rattle.byteorder.specs.Endian.{little_bytes}
 use Rattle.vol_words.specs.Fields.{Block}
 use Rattle.vol_words.specs.Names.{is_name}
-use Rattle.vol_words.specs.Packing.{padded, pack, over}
+use Rattle.vol_words.specs.Packing.{padded, size, pack, over}
 use Rattle.fx_dir.specs.declared.RawEnt.{RawEnt}
 use Rattle.fx_dir.specs.Lists.{Each, In}
 
@@ -21,11 +21,6 @@ pub record IsRanged (e : RawEnt) : Type 0 where
   pub seq : e.seq < 2 ^ 16
   pub limit : e.limit < 2 ^ 16
   pub flags : e.flags < 2 ^ 8
-
--- each entry in form, with numbers of their types
-pub record Sound (es : List RawEnt) : Type 0 where
-  pub form : Each IsInForm es
-  pub ranged : Each IsRanged es
 
 -- the records of one name agree in version limit and flags
 abbrev pub IsUniform : List RawEnt → Type 0
@@ -80,6 +75,11 @@ marked None [] = []
 marked None (e ∷ es) = e ∷ marked (Some e) es
 marked (Some f) [] = []
 marked (Some f) (e ∷ es) = if bytes_eq f.name e.name then under f e ∷ marked (Some f) es else e ∷ marked (Some e) es
+
+-- a block can be written of each of these groups of entries
+pub record AreWritable (gs : List (List RawEnt)) : Type 0 where
+  pub form : Each (λ g. Each IsInForm g) gs
+  pub room : Each (λ g. size name_of None g ≤ 510) gs
 
 abbrev pub if_none_over : List RawEnt → List Block → Option (List Block)
 if_none_over [] bs = Some bs

@@ -1,8 +1,14 @@
-//! Laws of directories that no code runs: each function's contract is a theorem.
+//! Laws of directories that no code runs: the contract of each function is a theorem.
 
 ghost use Rattle.fx_dir.specs.Directory.{ReadsSet};
+ghost use Rattle.fx_dir.specs.Laws.{PackingIsLeast};
 
 /// The list that is read is the set of all entries of all records, in order.
 pub fn reading_gives_the_set()
     ensures { ReadsSet }
+{}
+
+/// The entries of blocks that are read without a fault pack into as many blocks.
+pub fn packing_is_least()
+    ensures { PackingIsLeast }
 {}

@@ -6,9 +6,11 @@ ghost use Rattle.std.specs.Prelude.{◌≡◌, IfOk};
 use std::alloc::{AllocError, AllocFailed, Global};
 use std::marker::Model;
 use thiserror::Error;
+use vol_words::Block;
 
 mod entries;
-pub mod laws;
+mod laws;
+mod moves;
 mod packing;
 mod reading;
 mod records;
@@ -16,6 +18,8 @@ mod records;
 mod tests;
 mod writing;
 
+pub use laws::{packing_is_least, reading_gives_the_set};
+pub use moves::{insert_moves, remove_moves};
 pub use packing::packed;
 pub use reading::read_dir;
 
@@ -65,6 +69,15 @@ pub struct RawEnt {
     pub seq: u16,
     pub limit: u16,
     pub flags: u8,
+}
+
+/// A write to a block of a directory.
+#[derive(Clone, Copy, Debug, PartialEq)]
+pub struct Move {
+    /// The block's VBN, counted from 1.
+    pub vbn: u32,
+    /// What is written to it.
+    pub block: Block,
 }
 
 /// Why blocks are not read as a directory.

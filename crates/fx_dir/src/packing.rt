@@ -4,7 +4,7 @@ ghost use Rattle.fx_dir.specs.declared.RawEnt.{RawEnt};
 ghost use Rattle.fx_dir.specs.Lists.{Each};
 ghost use Rattle.fx_dir.specs.Entries.{rises, plain};
 ghost use Rattle.fx_dir.specs.Directory.{directory, dir_entries};
-ghost use Rattle.fx_dir.specs.Writing.{IsInForm, IsRanged, IsUniform, name_of, last_name, block_of, packed};
+ghost use Rattle.fx_dir.specs.Writing.{IsInForm, IsRanged, IsUniform, AreWritable, name_of, last_name, block_of, packed};
 
 use crate::writing::block_of;
 use crate::{NoMemory, RawEnt};
@@ -109,8 +109,7 @@ pub(crate) fn pack_into(alloc: Global, es: &[RawEnt], count: usize) -> Result<Gr
 
 /// The blocks of these groups of entries.
 pub(crate) fn blocks_of(alloc: Global, groups: &[Group]) -> Result<Vec<Block>, NoMemory>
-    requires form { Each (λ g. Each IsInForm g) groups.now }
-    requires room { Each (λ g. size name_of None g ≤ 510) groups.now }
+    requires { AreWritable groups.now }
     ensures { IfOk result (λ v. v.items ≡ map block_of groups.now) }
 {
     let mut blocks = Vec::new(alloc);

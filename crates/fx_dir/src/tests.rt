@@ -3,7 +3,8 @@ ghost use Rattle.fx_dir.specs.Entries.{rises};
 ghost use Rattle.fx_dir.specs.Lists.{Each};
 ghost use Rattle.fx_dir.specs.Writing.{IsInForm};
 
-use crate::{DirFault, RawEnt, packed, read_dir};
+use crate::entries::has;
+use crate::{DirFault, Move, RawEnt, RawName, insert_moves, packed, read_dir, remove_moves};
 use std::alloc::Global;
 use std::test::Fail;
 use vol_words::Block;
@@ -222,5 +223,142 @@ fn records_of_one_name_are_joined(rt: HostRuntime) -> Result<(), Fail> {
         blocks.as_slice(),
         [block(one), block(b"\xff\xff")].as_slice()
     );
+    Ok(())
+}
+
+/// The last entry of a block.
+fn last_of(alloc: Global, b: Block) -> Result<RawEnt, Fail>
+    ensures { IfOk result IsInForm }
+{
+    let mut ents = read_dir(alloc, &[b])?;
+    match ents.pop() {
+        Some(last) => Ok(last),
+        None => Err(Fail::from("no entry")),
+    }
+}
+
+fn insertion(alloc: Global, old: &[Block; 4], e: &RawEnt) -> Result<Option<Vec<Move>>, Fail>
+    requires { IsInForm e.now }
+{
+    let ents = read_dir(alloc, old)?;
+    if has(ents.as_slice(), e) {
+        return Err(Fail::from("it is there"));
+    }
+    Ok(insert_moves(alloc, old, e)?)
+}
+
+fn removal(alloc: Global, old: &[Block; 4], name: &[u8], ver: u16) -> Result<Vec<Move>, Fail> {
+    let ents = read_dir(alloc, old)?;
+    let e = RawEnt {
+        name: RawName::new(alloc, name)?,
+        ver,
+        num: 0,
+        seq: 0,
+        limit: 0,
+        flags: 0,
+    };
+    if !has(ents.as_slice(), &e) {
+        return Err(Fail::from("it is not there"));
+    }
+    Ok(remove_moves(alloc, old, name, ver)?)
+}
+
+/// An entry that follows the new one goes into the second block before it leaves the first, and the new one comes last.
+#[test]
+fn an_insertion_enters_its_entry_last(rt: HostRuntime) -> Result<(), Fail> {
+    let alloc = rt.alloc();
+    let empty = block(b"\xff\xff");
+    let five = long_block(alloc, 1, 5, false)?;
+    let old = [long_block(alloc, 1, 5, true)?, empty, empty, empty];
+    let six = last_of(alloc, long_block(alloc, 6, 6, false)?)?;
+    let moves = insertion(alloc, &old, &six)?.ok_or("it has room")?;
+    let expected = [
+        (2, long_block(alloc, 1, 0, true)?),
+        (1, five),
+        (2, long_block(alloc, 6, 6, true)?),
+    ];
+    assert_eq!(rt; moves.len(), expected.len());
+    for (m, (vbn, block)) in moves.iter().zip(expected.iter()) {
+        assert_eq!(rt; m.vbn, *vbn);
+        assert_eq!(rt; m.block.as_slice(), block.as_slice());
+    }
+    Ok(())
+}
+
+/// The entry goes first, then the one that has room in the block before it, which stands in both blocks meanwhile.
+#[test]
+fn a_removal_packs_after_it_decides(rt: HostRuntime) -> Result<(), Fail> {
+    let alloc = rt.alloc();
+    let empty = block(b"\xff\xff");
+    let old = [
+        long_block(alloc, 1, 5, false)?,
+        long_block(alloc, 6, 6, true)?,
+        empty,
+        empty,
+    ];
+    let six = last_of(alloc, long_block(alloc, 6, 6, false)?)?;
+    let moves = removal(alloc, &old, six.name.bytes(), 1)?;
+    let expected = [
+        (2, long_block(alloc, 1, 0, true)?),
+        (1, long_block(alloc, 1, 5, true)?),
+        (2, empty),
+    ];
+    assert_eq!(rt; moves.len(), expected.len());
+    for (m, (vbn, block)) in moves.iter().zip(expected.iter()) {
+        assert_eq!(rt; m.vbn, *vbn);
+        assert_eq!(rt; m.block.as_slice(), block.as_slice());
+    }
+    Ok(())
+}
+
+/// A directory that is not packed and has an entry in two blocks is packed first; a full one takes no more.
+#[test]
+fn a_full_directory_takes_no_more(rt: HostRuntime) -> Result<(), Fail> {
+    let alloc = rt.alloc();
+    let old = [
+        long_block(alloc, 1, 5, false)?,
+        long_block(alloc, 6, 10, false)?,
+        long_block(alloc, 11, 15, false)?,
+        long_block(alloc, 16, 20, false)?,
+    ];
+    let more = last_of(alloc, long_block(alloc, 21, 21, false)?)?;
+    assert!(rt; insertion(alloc, &old, &more)?.is_none());
+    let loose = [
+        long_block(alloc, 1, 3, false)?,
+        long_block(alloc, 3, 4, false)?,
+        long_block(alloc, 5, 5, false)?,
+        block(b"\xff\xff"),
+    ];
+    let moves = insertion(alloc, &loose, &more)?.ok_or("it has room")?;
+    let mut vbns = Vec::new(alloc);
+    for m in &moves {
+        vbns.push(m.vbn)?;
+    }
+    assert_eq!(rt; vbns.as_slice(), [1, 2, 3, 2].as_slice());
+    Ok(())
+}
+
+/// A new version has the version limit and the flags of the first record of its name, a new name those of a new record.
+#[test]
+fn a_new_entry_has_the_marks_of_its_name(rt: HostRuntime) -> Result<(), Fail> {
+    let alloc = rt.alloc();
+    let empty = block(b"\xff\xff");
+    let one = b"\x0e\x00\x05\x00\x01\x02A.\x01\x00\x01\x00\x01\x00\x00\x00\xff\xff";
+    let two =
+        b"\x16\x00\x05\x00\x01\x02A.\x02\x00\x02\x00\x01\x00\x00\x00\x01\x00\x01\x00\x01\x00\x00\x00\xff\xff";
+    let both =
+        b"\x0e\x00\x05\x00\x01\x02A.\x01\x00\x01\x00\x01\x00\x00\x00\x0e\x00\xff\x7f\x00\x02B.\x02\x00\x02\x00\x01\x00\x00\x00\xff\xff";
+    let version = b"\x0e\x00\x09\x00\x07\x02A.\x02\x00\x02\x00\x01\x00\x00\x00\xff\xff";
+    let name = b"\x0e\x00\x09\x00\x07\x02B.\x02\x00\x02\x00\x01\x00\x00\x00\xff\xff";
+    for (new, after) in [(version, two.as_slice()), (name, both.as_slice())] {
+        let e = last_of(alloc, block(new))?;
+        let moves = insertion(alloc, &[block(one), empty, empty, empty], &e)?;
+        let moves = moves.ok_or("it has room")?;
+        assert_eq!(rt; moves.len(), 1);
+        for m in &moves {
+            assert_eq!(rt; m.vbn, 1);
+            assert_eq!(rt; m.block.as_slice(), block(after).as_slice());
+        }
+    }
     Ok(())
 }
