@@ -41,10 +41,6 @@ fresh-append es fs (e ∷ b) = rw (has-append es fs e) (step (fresh-append es fs
   step ih false true hp hq = rw (← hq) ih
   step ih false false hp hq = rw (← hq) (λ i. e ∷ ih i)
 
--- each of these is new
-pub AllNew : List RawEnt → List RawEnt → Type 0
-AllNew z b = Each (λ e. has z e ≡ false) b
-
 pub fresh-all : (z b : List RawEnt) → Each (λ e. has z e ≡ false) b → fresh z b ≡ b
 fresh-all z [] n = refl
 fresh-all z (e ∷ b) n = rw (n.0) (λ i. e ∷ fresh-all z b n.1 i)

@@ -1,12 +1,12 @@
 -- What is read is in form.
-use Rattle.std.proofs.Common.{◌≡◌, ◌+◌, ◌-◌, ◌*◌, ◌/◌, ◌<◌, ◌≤◌, ◌&&◌, Bool, true, false, ℕ, zero, suc, List, [], ◌∷◌, ◌++◌, Option, Some, None, option_map, drop, length, get_or-drop, refl, sym, subst, arith, not, cond, if◌then◌else◌}
+use Rattle.std.proofs.Common.{◌≡◌, ◌+◌, ◌-◌, ◌*◌, ◌/◌, ◌<◌, ◌≤◌, ◌&&◌, Bool, true, false, ℕ, zero, suc, List, [], ◌∷◌, ◌++◌, Option, Some, None, option_map, drop, get_or-drop, refl, sym, subst, arith, not, cond, if◌then◌else◌}
 use Rattle.std.specs.Prelude.{option_and_then, slice_index}
-use Rattle.vol_words.specs.Fields.{Block, IsBytes, field}
+use Rattle.vol_words.specs.Fields.{IsBytes, field}
 use Rattle.vol_words.specs.Names.{is_name}
 use Rattle.fx_dir.specs.declared.RawEnt.{RawEnt}
 use Rattle.fx_dir.specs.Lists.{Each}
-use Rattle.fx_dir.specs.Entries.{has, fresh, rises}
-use Rattle.fx_dir.specs.Records.{record_length, head_length, name_in, is_end, is_whole, is_named, is_version, entry_in, versions_in, record_entries, records_in, if_rising, block_entries}
+use Rattle.fx_dir.specs.Entries.{has, fresh}
+use Rattle.fx_dir.specs.Records.{record_length, head_length, name_in, is_end, is_whole, is_named, is_version, entry_in, versions_in, record_entries, records_in}
 use Rattle.fx_dir.specs.Writing.{IsInForm}
 use Rattle.fx_dir.proofs.Order.{and_cases}
 use Rattle.fx_dir.proofs.Cover.{each-append}
@@ -69,16 +69,6 @@ records-form (suc n) bytes es h r = go (is_end bytes) (λ gs. records-form n (dr
     first (Some fs) k (Some gs) l r =
         let e : fs ++ gs ≡ es = cc in
         subst (λ (t : List RawEnt). Each IsInForm t) e (each-append IsInForm fs gs (record-form bytes fs h (sym k)) (ih gs (sym l)))
-
-pub block-form : (b : Block) (es : List RawEnt) → IsBytes b → block_entries b ≡ Some es → Each IsInForm es
-unfolding block_entries
-block-form b es h r = go (records_in (length b) b) refl r where
-  go : (o : Option (List RawEnt)) → o ≡ records_in (length b) b → option_and_then if_rising o ≡ Some es → Each IsInForm es
-  go None k r = absurd (cc)
-  go (Some fs) k r = test (rises fs) r where
-    test : (q : Bool) → (if q then Some fs else None) ≡ Some es → Each IsInForm es
-    test true r = let e : fs ≡ es = cc in subst (λ (t : List RawEnt). Each IsInForm t) e (records-form (length b) b fs h (sym k))
-    test false r = absurd (cc)
 
 pub fresh-each : (P : RawEnt → Type 0) (es fs : List RawEnt) → Each P fs → Each P (fresh es fs)
 fresh-each P es [] n = tt

@@ -8,8 +8,8 @@ use Rattle.fx_dir.specs.declared.Move.{Move}
 use Rattle.fx_dir.specs.Lists.{Each, In, joined}
 use Rattle.fx_dir.specs.Entries.{rises, has, without, plain}
 use Rattle.fx_dir.specs.Directory.{directory, plainly, all_entries}
-use Rattle.fx_dir.specs.Writing.{IsUniform, name_of, block_of}
-use Rattle.fx_dir.specs.Moves.{written, rising, falling, less_last, place, inserted, as_new, insert_writes, insertion, insertion_on, if_fits, AreChanges, Inserts, on_entries}
+use Rattle.fx_dir.specs.Writing.{if_fits, IsUniform, name_of, block_of}
+use Rattle.fx_dir.specs.Moves.{written, rising, falling, less_last, place, inserted, as_new, insert_writes, insertion, insertion_on, AreChanges, Inserts, on_entries}
 use Rattle.fx_dir.proofs.Order.{not_both}
 use Rattle.fx_dir.proofs.Meeting.{Reads, Sound}
 use Rattle.fx_dir.proofs.Cover.{each-append, each-imp}

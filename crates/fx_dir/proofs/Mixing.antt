@@ -27,10 +27,6 @@ each-take P j xs n = each-left P (take j xs) (drop j xs) (subst (λ (v : List _)
 pub each-drop : {X : Type 0} (P : X → Type 0) (j : ℕ) (xs : List X) → Each P xs → Each P (drop j xs)
 each-drop P j xs n = each-right P (take j xs) (drop j xs) (subst (λ (v : List _). Each P v) (sym (halves j xs)) n)
 
--- the first j blocks of xs have met at least what those of ys have
-pub IsAhead : ℕ → List (List RawEnt) → List (List RawEnt) → Type 0
-IsAhead j xs ys = (v : List RawEnt) × (met [] (take j xs) ≡ met [] (take j ys) ++ v)
-
 mixed-entries : (j : ℕ) (es : List RawEnt) (xs ys : List (List RawEnt)) → rises es ≡ true → (v : List RawEnt) → met [] (take j xs) ≡ met [] (take j ys) ++ v → met [] xs ≡ es → met [] ys ≡ es → met [] (take j xs ++ drop j ys) ≡ es
 mixed-entries j es xs ys r v e hx hy =
     let d = met [] (take j ys) in

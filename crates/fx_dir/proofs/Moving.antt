@@ -48,9 +48,6 @@ insert-spot e (x ∷ es) = step (before e x) (insert-spot e es) where
       let n : 1 + position_or_len (λ x. before e x) es ≡ suc (position_or_len (λ x. before e x) es) = omega arith in
       rw n (λ i. x ∷ h i)
 
-pub as_new-other : (x : RawEnt) (es : List RawEnt) (e : RawEnt) → bytes_eq x.name e.name ≡ false → as_new (x ∷ es) e ≡ as_new es e
-as_new-other x es e h = rw h refl
-
 pub as_new-parts : (es : List RawEnt) (e : RawEnt) → as_new es e ≡ record e { limit = (as_new es e).limit; flags = (as_new es e).flags }
 as_new-parts [] e = refl
 as_new-parts (x ∷ es) e = step (bytes_eq x.name e.name) (as_new-parts es e) where

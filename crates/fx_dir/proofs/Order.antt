@@ -80,9 +80,6 @@ before-other a b e = elim (is_true_or (same b a)) [ inl t ↦ absurd (clash t) |
       let w : ltb b.ver a.ver ≡ false = subst (λ (m : ℕ). ltb b.ver m ≡ false) v (ltb_no b.ver) in
       not_both _ e (no_or _ _ l (no_and _ _ w))
 
-bytes-cons : (x y : ℕ) (xs ys : List ℕ) → bytes_eq (x ∷ xs) (y ∷ ys) ≡ (eqb x y && bytes_eq xs ys)
-bytes-cons x y xs ys = refl
-
 pub or_cases : (a b : Bool) → (a || b) ≡ true → (a ≡ true) ⊎ (b ≡ true)
 or_cases true b e = inl refl
 or_cases false b e = inr e

@@ -6,8 +6,8 @@ use Rattle.vol_words.specs.Names.{is_character, is_part, is_tail, is_name}
 use Rattle.vol_words.specs.Packing.{cost, filled, unfilled, pack, over}
 use Rattle.fx_dir.specs.declared.RawEnt.{RawEnt}
 use Rattle.fx_dir.specs.Lists.{Each}
-use Rattle.fx_dir.specs.Writing.{block_of, packed, if_none_over, name_of, head_bytes, version_bytes, goes_on, last_name, following, record_bytes}
-use Rattle.fx_dir.proofs.Numbers.{leb_yes, leb_no, leb_says}
+use Rattle.fx_dir.specs.Writing.{block_of, packed, if_fits, name_of, head_bytes, version_bytes, goes_on, last_name, following, record_bytes}
+use Rattle.fx_dir.proofs.Numbers.{leb_yes, leb_says}
 use Rattle.fx_dir.proofs.Order.{and_cases, bytes_refl}
 
 -- a name has at most 79 characters
@@ -79,12 +79,6 @@ filled-goes last used e es h = rw (leb_yes (used + cost last e.name) 510 h) refl
 pub unfilled-goes : (last : Option (List ℕ)) (used : ℕ) (e : RawEnt) (es : List RawEnt) → used + cost last e.name ≤ 510 → unfilled name_of last used (e ∷ es) ≡ unfilled name_of (Some e.name) (used + cost last e.name) es
 unfilled-goes last used e es h = rw (leb_yes (used + cost last e.name) 510 h) refl
 
-pub filled-ends : (last : Option (List ℕ)) (used : ℕ) (e : RawEnt) (es : List RawEnt) → 510 < used + cost last e.name → filled name_of last used (e ∷ es) ≡ []
-filled-ends last used e es h = rw (leb_no (used + cost last e.name) 510 h) refl
-
-pub unfilled-ends : (last : Option (List ℕ)) (used : ℕ) (e : RawEnt) (es : List RawEnt) → 510 < used + cost last e.name → unfilled name_of last used (e ∷ es) ≡ e ∷ es
-unfilled-ends last used e es h = rw (leb_no (used + cost last e.name) 510 h) refl
-
 regroup : (xs ys : List RawEnt) (e : RawEnt) → xs ++ e ∷ ys ≡ (xs ++ e ∷ []) ++ ys
 regroup xs ys e = sym (append_assoc xs (e ∷ []) ys)
 
@@ -117,6 +111,6 @@ over-step all es rest n h u = rw u h
 
 pub packed-none : (k n : ℕ) (es : List RawEnt) → n < length es → drop n es ≡ over name_of k es → packed k es ≡ None
 packed-none k n es h e = go (drop n es) e (omega (arith, length-drop n es)) where
-  go : (d : List RawEnt) → d ≡ over name_of k es → 0 < length d → if_none_over (over name_of k es) (map block_of (pack name_of k es)) ≡ None
+  go : (d : List RawEnt) → d ≡ over name_of k es → 0 < length d → if_fits (over name_of k es) (map block_of (pack name_of k es)) ≡ None
   go [] e h = absurd (omega arith)
-  go (x ∷ d) e h = subst (λ (t : List RawEnt). if_none_over t (map block_of (pack name_of k es)) ≡ None) e refl
+  go (x ∷ d) e h = subst (λ (t : List RawEnt). if_fits t (map block_of (pack name_of k es)) ≡ None) e refl

@@ -4,7 +4,7 @@ use Rattle.std.specs.List.{list_all}
 use Rattle.std.specs.Str.{bytes_eq}
 use Rattle.vol_words.specs.Packing.{cost, size, filled, unfilled, pack, over}
 use Rattle.fx_dir.specs.declared.RawEnt.{RawEnt}
-use Rattle.fx_dir.specs.Entries.{same, before, clash, rises, has, fresh, plain}
+use Rattle.fx_dir.specs.Entries.{same, before, rises, has, fresh, plain}
 use Rattle.fx_dir.specs.Writing.{name_of, under, marked}
 use Rattle.fx_dir.proofs.Meeting.{met}
 use Rattle.fx_dir.proofs.Finding.{map-join}
@@ -29,10 +29,6 @@ module _ (v : RawEnt → RawEnt) (view : IsView v) where
   pub before-view : (a b : RawEnt) → before (v a) (v b) ≡ before a b
   unfolding before
   before-view a b = rw (view.name a, view.name b, view.ver a, view.ver b) refl
-
-  pub clash-view : (a b : RawEnt) → clash (v a) (v b) ≡ clash a b
-  unfolding clash
-  clash-view a b = rw (same-view a b, view.num a, view.num b, view.seq a, view.seq b) refl
 
   pub has-view : (es : List RawEnt) (e : RawEnt) → has (map v es) (v e) ≡ has es e
   has-view [] e = refl

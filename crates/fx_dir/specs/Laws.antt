@@ -1,11 +1,20 @@
--- What the greedy packing has to do with other ways to fill blocks.
-use Rattle.std.specs.Prelude.{◌≡◌, List, Ok, length}
+-- What is written reads back, and what the greedy packing has to do with other ways to fill blocks.
+use Rattle.std.specs.Prelude.{◌≡◌, ◌≤◌, true, List, Some, None, Ok, length}
 use Rattle.vol_words.specs.Fields.{Block}
-use Rattle.vol_words.specs.Packing.{Fits}
+use Rattle.vol_words.specs.Packing.{Fits, size}
 use Rattle.fx_dir.specs.declared.RawEnt.{RawEnt}
 use Rattle.fx_dir.specs.Lists.{Each}
+use Rattle.fx_dir.specs.Entries.{rises}
+use Rattle.fx_dir.specs.Records.{block_entries}
 use Rattle.fx_dir.specs.Directory.{directory}
-use Rattle.fx_dir.specs.Writing.{name_of}
+use Rattle.fx_dir.specs.Writing.{IsInForm, IsRanged, name_of, marked, block_of}
+
+-- A block of entries in order that have room in it reads as these entries, each with the version limit and the flags of
+-- the first entry of its record.
+abbrev pub BlocksReadBack : Type 0
+BlocksReadBack =
+    (es : List RawEnt) → Each IsInForm es → Each IsRanged es → rises es ≡ true → size name_of None es ≤ 510
+    → block_entries (block_of es) ≡ Some (marked None es)
 
 -- However its entries stand in its blocks, the packing of a directory needs no more blocks.
 abbrev pub PackingIsLeast : Type 0

@@ -8,7 +8,7 @@ use Rattle.fx_dir.specs.declared.DirFault.{DirFault}
 use Rattle.fx_dir.specs.declared.Move.{Move}
 use Rattle.fx_dir.specs.Entries.{before, has, without, plain}
 use Rattle.fx_dir.specs.Directory.{directory, dir_entries, all_entries}
-use Rattle.fx_dir.specs.Writing.{name_of, block_of, IsUniform}
+use Rattle.fx_dir.specs.Writing.{name_of, block_of, if_fits, IsUniform}
 
 -- the blocks after these writes, in order
 abbrev pub written : List Move → List Block → List Block
@@ -50,18 +50,15 @@ abbrev pub as_new : List RawEnt → RawEnt → RawEnt
 as_new [] e = record e { limit = 32767; flags = 0 }
 as_new (x ∷ xs) e = if bytes_eq x.name e.name then record e { limit = x.limit; flags = x.flags } else as_new xs e
 
--- The writes of an insertion: the left pass to the packing `left` of the old entries, first block to last; the right
--- pass to the new packing `new` without the new entry, last block to first; the block of the new entry with it.
--- The last two are one write where they are to one block.
+-- The writes of an insertion. The left pass leads to the packing `left` of the old entries, first block to last. The
+-- right pass leads from there to the new packing `new` without the new entry, last block to first, so that an entry
+-- reaches its new block before it leaves the old one. The block of the new entry with it comes last; where the right
+-- pass ends with this block, the two writes are one.
 abbrev pub insert_writes : List Block → List (List RawEnt) → RawEnt → List (List RawEnt) → List Move
 insert_writes old left e new =
     (rising 1 old (map block_of left)
     ++ less_last (suc (place e new)) (falling 1 (map block_of left) (map block_of (map (without e) new))))
     ++ record { vbn = suc (place e new); block = block_of (slice_index_or new (place e new) []) } ∷ []
-
-abbrev pub if_fits : List RawEnt → List Move → Option (List Move)
-if_fits [] ws = Some ws
-if_fits (e ∷ es) ws = None
 
 -- the insertion of e into a directory of the entries es, or none where the new entries do not pack
 abbrev pub insertion_of : List Block → List RawEnt → RawEnt → Option (List Move)
@@ -77,8 +74,8 @@ insertion_on old e (Err fault) = None
 abbrev pub insertion : List Block → RawEnt → Option (List Move)
 insertion old e = insertion_on old e (directory old)
 
--- The writes of a removal: the left pass; the block of the entry without it; the packing of the rest, first block to
--- last.
+-- The writes of a removal: the left pass to the packing `left`, as above; the block of the entry without it; the packing
+-- `rest` of the other entries, first block to last.
 abbrev pub remove_writes : List Block → List (List RawEnt) → RawEnt → List (List RawEnt) → List Move
 remove_writes old left e rest =
     rising 1 old (map block_of left)

@@ -81,10 +81,11 @@ pub record AreWritable (gs : List (List RawEnt)) : Type 0 where
   pub form : Each (λ g. Each IsInForm g) gs
   pub room : Each (λ g. size name_of None g ≤ 510) gs
 
-abbrev pub if_none_over : List RawEnt → List Block → Option (List Block)
-if_none_over [] bs = Some bs
-if_none_over (e ∷ es) bs = None
+-- it, where no entries are left over
+abbrev pub if_fits : {X : Type 0} → List RawEnt → X → Option X
+if_fits [] x = Some x
+if_fits (e ∷ es) x = None
 
 -- the entries packed into k blocks, or none where they need more
 abbrev pub packed : ℕ → List RawEnt → Option (List Block)
-packed k es = if_none_over (over name_of k es) (map block_of (pack name_of k es))
+packed k es = if_fits (over name_of k es) (map block_of (pack name_of k es))

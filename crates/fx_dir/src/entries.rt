@@ -9,6 +9,7 @@ use crate::{NoMemory, RawEnt, RawName};
 use std::alloc::Global;
 
 impl RawEnt {
+    /// An entry equal to this one.
     pub fn copy(&self, alloc: Global) -> Result<RawEnt, NoMemory>
         ensures value { IfOk result (λ e. e ≡ self.now) }
         ensures ranged { IfOk result IsRanged }

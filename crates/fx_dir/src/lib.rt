@@ -1,4 +1,9 @@
-//! Directories of Files-11 ODS-2 in this project's profile, read and written block by block.
+//! Directories of Files-11 ODS-2, in this project's profile, read and written block by block.
+//!
+//! A block is a list of records and a word that ends them. A record has a name and versions of it, each with the file
+//! identifier that it stands for. [`read_dir`] reads the blocks of a directory, [`packed`] fills blocks with entries, and
+//! [`insert_moves`] and [`remove_moves`] give the writes, block by block, by which an entry comes or goes while the
+//! directory has its other entries at every moment.
 #![tactic(auto)]
 
 ghost use Rattle.std.specs.Prelude.{◌≡◌, IfOk};
@@ -18,12 +23,12 @@ mod records;
 mod tests;
 mod writing;
 
-pub use laws::{packing_is_least, reading_gives_the_set};
+pub use laws::{packing_is_least, reading_gives_the_set, written_blocks_read_back};
 pub use moves::{insert_moves, remove_moves};
 pub use packing::packed;
 pub use reading::read_dir;
 
-/// No memory was to be had; nothing has changed.
+/// No memory was to be had.
 pub type NoMemory = AllocError;
 
 /// The text of a name as a record has it, seen as its bytes.
@@ -41,7 +46,7 @@ impl Model for RawName {
 }
 
 impl RawName {
-    /// A name of these bytes.
+    /// The name of these bytes. They are not tested.
     pub fn new(alloc: Global, bytes: &[u8]) -> Result<RawName, NoMemory>
         ensures { IfOk result (λ n. n ≡ bytes.now) }
     {
@@ -50,6 +55,7 @@ impl RawName {
         })
     }
 
+    /// The bytes, without padding.
     pub fn bytes(&self) -> &[u8]
         ensures { result.now ≡ self.now }
     {
@@ -60,14 +66,17 @@ impl RawName {
 /// An entry of a directory, with the version limit and the flags of the record that holds it.
 #[derive(Drop)]
 pub struct RawEnt {
+    /// `NAME.TYP`, of two parts of at most 39 characters.
     pub name: RawName,
-    /// 1 to 32,767.
+    /// The version, 1 to 32,767.
     pub ver: u16,
     /// The file's number, at most 16,777,215.
     pub num: u32,
     /// The file's sequence.
     pub seq: u16,
+    /// The version limit of the record.
     pub limit: u16,
+    /// The flags of the record.
     pub flags: u8,
 }
 

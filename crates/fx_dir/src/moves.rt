@@ -223,8 +223,10 @@ fn insert_writes(
 
 /// The writes that enter an entry into a directory, in their order, or none where the entries do not pack with it.
 ///
-/// Version limit and flags of the new entry are those of the first record of its name, and else 32,767 and 0; what `e`
-/// has itself does not matter.
+/// The blocks `old` are those of a directory without a fault that has no entry of this name and version. Before the last
+/// write the directory has its old entries, after it the new one as well, and each write changes its block. The version
+/// limit and the flags of the new entry are those of the first record of its name, and else 32,767 and 0; those in `e`
+/// are not looked at.
 pub fn insert_moves(alloc: Global, old: &[Block], e: &RawEnt) -> Result<Option<Vec<Move>>, NoMemory>
     requires numbered { length old.now < 2 ^ 32 }
     requires form { IsInForm e.now }
@@ -282,6 +284,9 @@ fn remove_writes(
 }
 
 /// The writes that take the entry of this name and version out of a directory, in their order.
+///
+/// The blocks `old` are those of a directory without a fault that has this entry. Up to one write the directory has its
+/// old entries, and from that one on the others; each write changes its block.
 pub fn remove_moves(
     alloc: Global,
     old: &[Block],
