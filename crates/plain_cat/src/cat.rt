@@ -35,8 +35,8 @@ pub struct File {
     /// Whether it is marked for delete.
     pub marked: bool,
 
-    /// The blocks that can be seen: those below the mark, or all where there is none. A directory and a system file have
-    /// none here.
+    /// The blocks that can be seen: those below the mark, or all where there is none. A directory has none here, nor have
+    /// files 1, 2 and 10, whose blocks are the volume's own structures.
     pub written: Blocks,
 
     /// The entries, where it is a directory.

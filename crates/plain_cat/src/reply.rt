@@ -36,7 +36,7 @@ pub enum Refusal {
     /// The owner has no quota row.
     NoQuota,
 
-    /// The usage would pass the quota.
+    /// The usage would pass the quota; of an extension, the quota and its overdraft.
     ExQuota,
 
     /// No quota row is free.
