@@ -1,0 +1,5 @@
+pub mod Listing
+pub mod Writing
+pub mod Moving
+pub mod Handing
+pub mod Placing

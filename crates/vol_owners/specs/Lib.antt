@@ -1,0 +1,6 @@
+pub mod Lists
+pub mod ListLaws
+pub mod Owners
+pub mod Hands
+pub mod OwnerLaws
+pub mod Places

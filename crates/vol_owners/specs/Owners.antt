@@ -1,0 +1,39 @@
+-- The owners of a volume's clusters and file numbers, and what nodes hold outside files and bitmaps.
+use Rattle.std.specs.Prelude.{◌≡◌, ◌⊎◌, ◌↔◌, ◌++◌, ℕ, List, [], Option, Some, length, slice_get}
+use Rattle.vol_owners.specs.declared.owner.Owner.{Owner}
+use Rattle.vol_owners.specs.declared.owner.Owner.TheVariants.{Outside}
+use Rattle.vol_owners.specs.Lists.{Has, Once}
+
+-- the owner of each cluster, from cluster 0 on, and of each file number, from number 1 on
+pub record Owners : Type 0 where
+  pub clusters : List Owner
+  pub numbers : List Owner
+
+-- owners change among those that P allows, and no others
+pub record Moves (P : Option Owner → Type 0) (xs ys : List Owner) : Type 0 where
+  pub count : length ys ≡ length xs
+  pub each : (q : ℕ) → (slice_get ys q ≡ slice_get xs q) ⊎ (P (slice_get xs q) × P (slice_get ys q))
+
+-- both the owners of clusters and those of numbers move so
+pub record OwnersMove (P : Option Owner → Type 0) (own new : Owners) : Type 0 where
+  pub clusters : Moves P own.clusters new.clusters
+  pub numbers : Moves P own.numbers new.numbers
+
+-- some clusters and some file numbers, each by its place among the owners, so that a number stands as one less
+pub record Things : Type 0 where
+  pub clusters : List ℕ
+  pub numbers : List ℕ
+
+-- no cluster and no number
+abbrev pub nothing : Things
+nothing = record { clusters = []; numbers = [] }
+
+-- what is outside at node n is what its command took and its stock, and nothing is there twice
+pub record AreOut (n : ℕ) (xs : List Owner) (took stock : List ℕ) : Type 0 where
+  pub all : (q : ℕ) → (slice_get xs q ≡ Some (Outside n)) ↔ (Has took q ⊎ Has stock q)
+  pub once : Once (took ++ stock)
+
+-- the same of clusters and of numbers
+pub record Outs (n : ℕ) (own : Owners) (took stock : Things) : Type 0 where
+  pub clusters : AreOut n own.clusters took.clusters stock.clusters
+  pub numbers : AreOut n own.numbers took.numbers stock.numbers

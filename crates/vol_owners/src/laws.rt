@@ -1,0 +1,134 @@
+//! The laws, each a statement for every value that it speaks of. Where a law speaks of what may move, it does so for each
+//! test of an owner.
+
+ghost use Rattle.std.specs.Prelude.{Bool, Option, IsTrue};
+ghost use Rattle.vol_owners.specs.declared.owner.Owner.{Owner};
+ghost use Rattle.vol_owners.specs.ListLaws.{HasJoined, HasPlace, OnceJoined, Filtered, WrittenJoined, WritesLand, TouchedAlike, TouchesJoined};
+ghost use Rattle.vol_owners.specs.OwnerLaws.{OwnerStays, MovesCompose, MovesGrow, HandsOver, HandingMoves, OutStays, OutSwaps, OutRegroups};
+ghost use Rattle.vol_owners.specs.OwnerLaws.{OutsideToFile, FileToOutside, OutsideToFree, FreeToStock, OutsideToLeaked};
+ghost use Rattle.vol_owners.specs.Places.{BlocksStay, BlocksSet, InSpread, SpreadOnce};
+
+/// An item of two lists in a row is an item of the first or of the second.
+pub fn has_joined<T>()
+    ensures { HasJoined T }
+{}
+
+/// An item is what stands at some place.
+pub fn has_place<T>()
+    ensures { HasPlace T }
+{}
+
+/// Two lists in a row have nothing twice exactly where neither has and they are apart.
+pub fn once_joined<T>()
+    ensures { OnceJoined T }
+{}
+
+/// What passes a test and what fails it are the parts of a list.
+pub fn filtered<T>()
+    ensures { Filtered T }
+{}
+
+/// Writes in a row are the first ones and then the others.
+pub fn written_joined<T>()
+    ensures { WrittenJoined T }
+{}
+
+/// Writes leave the length, and what stands where none of them is.
+pub fn writes_land<T>()
+    ensures { WritesLand T }
+{}
+
+/// Where a write is, the same stands after the writes whatever stood there before.
+pub fn touched_alike<T>()
+    ensures { TouchedAlike T }
+{}
+
+/// A place is touched by writes in a row where the first ones or the others touch it.
+pub fn touches_joined<T>()
+    ensures { TouchesJoined T }
+{}
+
+/// An owner that may not move has what it had.
+pub fn owner_stays()
+    ensures { (p : Option Owner → Bool) → OwnerStays (λ o. IsTrue (p o)) }
+{}
+
+/// Two moves in a row are one, and none is one.
+pub fn moves_compose()
+    ensures { (p : Option Owner → Bool) → MovesCompose (λ o. IsTrue (p o)) }
+{}
+
+/// A move that one test allows is one that any wider test allows.
+pub fn moves_grow()
+    ensures { (p r : Option Owner → Bool) → MovesGrow (λ o. IsTrue (p o)) (λ o. IsTrue (r o)) }
+{}
+
+/// What was handed over from one owner to another is all that changed hands.
+pub fn hands_over()
+    ensures { HandsOver }
+{}
+
+/// Handing over is a move between the two owners.
+pub fn handing_moves()
+    ensures { (p : Option Owner → Bool) → HandingMoves (λ o. IsTrue (p o)) }
+{}
+
+/// A move that leaves a node's things leaves what it holds.
+pub fn out_stays()
+    ensures { (p : Option Owner → Bool) → OutStays (λ o. IsTrue (p o)) }
+{}
+
+/// What a command took and the stock are alike.
+pub fn out_swaps()
+    ensures { OutSwaps }
+{}
+
+/// Things of the stock may be what the command took, and the other way round.
+pub fn out_regroups()
+    ensures { OutRegroups }
+{}
+
+/// What a command took goes into a file, and the stock is left outside.
+pub fn outside_to_file()
+    ensures { OutsideToFile }
+{}
+
+/// Things of a file go outside, and count to what the command took.
+pub fn file_to_outside()
+    ensures { FileToOutside }
+{}
+
+/// A part of what a command took becomes free, and the rest stays outside.
+pub fn outside_to_free()
+    ensures { OutsideToFree }
+{}
+
+/// Free things go outside, and count to the stock.
+pub fn free_to_stock()
+    ensures { FreeToStock }
+{}
+
+/// All that a node held leaks, and nothing of it is left outside.
+pub fn outside_to_leaked()
+    ensures { OutsideToLeaked }
+{}
+
+/// A block that is set elsewhere leaves the blocks at these places.
+pub fn blocks_stay()
+    ensures { BlocksStay }
+{}
+
+/// A block that is set at one of these places is set among the blocks at them.
+pub fn blocks_set()
+    ensures { BlocksSet }
+{}
+
+/// A block is one of these clusters' exactly where the cluster that it lies in is one of these.
+pub fn in_spread()
+    ensures { InSpread }
+{}
+
+/// Clusters that are listed once have no block twice.
+pub fn spread_once()
+    ensures { SpreadOnce }
+{}
