@@ -3,3 +3,8 @@ pub mod Slots
 pub mod FitAnswers
 pub mod FitStages
 pub mod FitReplays
+pub mod Members
+pub mod Standing
+pub mod Places
+pub mod Steps
+pub mod ClearSteps
