@@ -3,3 +3,4 @@ pub mod Writing
 pub mod Moving
 pub mod Handing
 pub mod Placing
+pub mod Counting

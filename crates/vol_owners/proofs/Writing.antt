@@ -1,7 +1,7 @@
 -- Writes to a list by place.
-use Rattle.std.proofs.Common.{◌≡◌, ◌≢◌, ◌<◌, ◌⊎◌, ℕ, List, [], ◌∷◌, Some, None, length, slice_get, slice_set, take, zero, suc, refl, sym, ap, subst, ◌∙◌, inl, inr, arith, length-set}
-use Rattle.vol_owners.specs.Lists.{written, Touches}
-use Rattle.vol_owners.specs.ListLaws.{WrittenJoined, WritesLand, TouchedAlike, TouchesJoined}
+use Rattle.std.proofs.Common.{◌≡◌, ◌≢◌, ◌<◌, ◌⊎◌, ℕ, List, [], ◌∷◌, Some, None, length, slice_get, slice_set, take, zero, suc, refl, sym, ap, subst, ◌∙◌, inl, inr, arith, length-set, ◌++◌}
+use Rattle.vol_owners.specs.Lists.{written, Touches, StandsIn}
+use Rattle.vol_owners.specs.ListLaws.{WrittenJoined, WritesLand, TouchedAlike, TouchesJoined, StandsJoined, StandsStill}
 use Rattle.vol_owners.proofs.Listing.{same_or_not}
 
 -- an item that is set elsewhere leaves this one
@@ -83,3 +83,22 @@ pub touches_at : {A : Type 0} (ws : List (ℕ × A)) (k : ℕ) (w : ℕ × A) �
 touches_at [] k w e = absurd (let f : None ≡ Some w = e in cc)
 touches_at (x ∷ ws) zero w e = let f : x ≡ w = (let h : Some x ≡ Some w = e in cc) in inl (ap (λ y. y.0) f)
 touches_at (x ∷ ws) (suc k) w e = inr (touches_at ws k w e)
+
+pub stands_first : {A : Type 0} (bs : List A) (ss ts : List (ℕ × A)) → StandsIn bs (ss ++ ts) → StandsIn bs ss
+stands_first bs [] ts h = tt
+stands_first bs (s ∷ ss) ts h = (h.0, stands_first bs ss ts h.1)
+
+pub stands_second : {A : Type 0} (bs : List A) (ss ts : List (ℕ × A)) → StandsIn bs (ss ++ ts) → StandsIn bs ts
+stands_second bs [] ts h = h
+stands_second bs (s ∷ ss) ts h = stands_second bs ss ts h.1
+
+pub stands_in_a_row : {A : Type 0} (bs : List A) (ss ts : List (ℕ × A)) → StandsIn bs ss → StandsIn bs ts → StandsIn bs (ss ++ ts)
+stands_in_a_row bs [] ts g h = h
+stands_in_a_row bs (s ∷ ss) ts g h = (g.0, stands_in_a_row bs ss ts g.1 h)
+
+pub stands_joined : {A : Type 0} → StandsJoined A
+stands_joined bs ss ts = ((λ h. (stands_first bs ss ts h, stands_second bs ss ts h)), (λ p. stands_in_a_row bs ss ts p.0 p.1))
+
+pub stands_still : {A : Type 0} → StandsStill A
+stands_still ws bs [] away h = tt
+stands_still ws bs (s ∷ ss) away h = (get-written_else ws bs s.0 (λ t. away s.0 t (inl refl)) ∙ h.0, stands_still ws bs ss (λ l t u. away l t (inr u)) h.1)

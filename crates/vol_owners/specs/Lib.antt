@@ -4,3 +4,4 @@ pub mod Owners
 pub mod Hands
 pub mod OwnerLaws
 pub mod Places
+pub mod Counts

@@ -1,6 +1,6 @@
 -- Laws of lists and of writes.
 use Rattle.std.specs.Prelude.{◌≡◌, ◌⊎◌, ◌↔◌, ◌++◌, ℕ, Bool, not, List, Some, length, filter, slice_get}
-use Rattle.vol_owners.specs.Lists.{Has, Once, AreApart, Parts, written, Touches}
+use Rattle.vol_owners.specs.Lists.{Has, Once, AreApart, Parts, written, Touches, StandsIn}
 
 -- an item of two lists in a row is an item of the first or of the second
 abbrev pub HasJoined : Type 0 → Type 0
@@ -35,3 +35,11 @@ TouchedAlike A = (ws : List (ℕ × A)) (bs cs : List A) (l : ℕ) → length bs
 -- a place is touched by writes in a row where the first ones or the others touch it
 abbrev pub TouchesJoined : Type 0 → Type 0
 TouchesJoined A = (ws vs : List (ℕ × A)) (l : ℕ) → Touches (ws ++ vs) l ↔ (Touches ws l ⊎ Touches vs l)
+
+-- items stand in a row where the first ones and the others stand
+abbrev pub StandsJoined : Type 0 → Type 0
+StandsJoined A = (bs : List A) (ss ts : List (ℕ × A)) → StandsIn bs (ss ++ ts) ↔ (StandsIn bs ss × StandsIn bs ts)
+
+-- what stands at places that no write touches stands there after the writes
+abbrev pub StandsStill : Type 0 → Type 0
+StandsStill A = (ws : List (ℕ × A)) (bs : List A) (ss : List (ℕ × A)) → ((l : ℕ) → Touches ws l → Touches ss l → ⊥) → StandsIn bs ss → StandsIn (written ws bs) ss

@@ -1,5 +1,5 @@
 -- What is in a list, what stands in it once, and writes to a list by place.
-use Rattle.std.specs.Prelude.{◌≡◌, ◌⊎◌, ℕ, List, [], ◌∷◌, slice_set}
+use Rattle.std.specs.Prelude.{◌≡◌, ◌⊎◌, ℕ, List, [], ◌∷◌, Some, slice_get, slice_set}
 
 -- x is an item
 abbrev pub Has : {A : Type 0} → List A → A → Type 0
@@ -31,3 +31,8 @@ written (w ∷ ws) bs = written ws (slice_set bs w.0 w.1)
 abbrev pub Touches : {A : Type 0} → List (ℕ × A) → ℕ → Type 0
 Touches [] l = ⊥
 Touches (w ∷ ws) l = (w.0 ≡ l) ⊎ Touches ws l
+
+-- each of these items stands at its place
+abbrev pub StandsIn : {A : Type 0} → List A → List (ℕ × A) → Type 0
+StandsIn bs [] = Unit {0}
+StandsIn bs (s ∷ ss) = (slice_get bs s.0 ≡ Some s.1) × StandsIn bs ss

@@ -31,7 +31,7 @@ HandingMoves P = (qs : List ℕ) (a o : Owner) (xs : List Owner) → P (Some a) 
 abbrev pub OutStays : (Option Owner → Type 0) → Type 0
 OutStays P = (m : ℕ) (xs ys : List Owner) (took stock : List ℕ) → Moves P xs ys → (P (Some (Outside m)) → ⊥) → AreOut m xs took stock → AreOut m ys took stock
 
--- what a command took and the stock are alike
+-- what a command took and the stock may change places
 abbrev pub OutSwaps : Type 0
 OutSwaps = (n : ℕ) (xs : List Owner) (took stock : List ℕ) → AreOut n xs took stock → AreOut n xs stock took
 

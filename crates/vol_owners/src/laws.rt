@@ -3,10 +3,12 @@
 
 ghost use Rattle.std.specs.Prelude.{Bool, Option, IsTrue};
 ghost use Rattle.vol_owners.specs.declared.owner.Owner.{Owner};
-ghost use Rattle.vol_owners.specs.ListLaws.{HasJoined, HasPlace, OnceJoined, Filtered, WrittenJoined, WritesLand, TouchedAlike, TouchesJoined};
+ghost use Rattle.vol_owners.specs.ListLaws.{HasJoined, HasPlace, OnceJoined, Filtered, WrittenJoined, WritesLand, TouchedAlike, TouchesJoined, StandsJoined, StandsStill};
 ghost use Rattle.vol_owners.specs.OwnerLaws.{OwnerStays, MovesCompose, MovesGrow, HandsOver, HandingMoves, OutStays, OutSwaps, OutRegroups};
 ghost use Rattle.vol_owners.specs.OwnerLaws.{OutsideToFile, FileToOutside, OutsideToFree, FreeToStock, OutsideToLeaked};
-ghost use Rattle.vol_owners.specs.Places.{BlocksStay, BlocksSet, InSpread, SpreadOnce};
+ghost use Rattle.vol_owners.specs.Places.{BlocksStay, BlocksSet, BlocksJoined, BlocksKept, BlocksSeen, BlocksWritten};
+ghost use Rattle.vol_owners.specs.Places.{InSpread, SpreadOnce, SpreadJoined, SpreadPlaces};
+ghost use Rattle.vol_owners.specs.Counts.{HandingCounts, CountsList, OutCounts};
 
 /// An item of two lists in a row is an item of the first or of the second.
 pub fn has_joined<T>()
@@ -48,6 +50,16 @@ pub fn touches_joined<T>()
     ensures { TouchesJoined T }
 {}
 
+/// Items stand in a row where the first ones and the others stand.
+pub fn stands_joined<T>()
+    ensures { StandsJoined T }
+{}
+
+/// What stands where no write is stands there after the writes.
+pub fn stands_still<T>()
+    ensures { StandsStill T }
+{}
+
 /// An owner that may not move has what it had.
 pub fn owner_stays()
     ensures { (p : Option Owner → Bool) → OwnerStays (λ o. IsTrue (p o)) }
@@ -78,7 +90,7 @@ pub fn out_stays()
     ensures { (p : Option Owner → Bool) → OutStays (λ o. IsTrue (p o)) }
 {}
 
-/// What a command took and the stock are alike.
+/// What a command took and the stock may change places.
 pub fn out_swaps()
     ensures { OutSwaps }
 {}
@@ -113,6 +125,21 @@ pub fn outside_to_leaked()
     ensures { OutsideToLeaked }
 {}
 
+/// Each thing that is handed over counts with its new owner, and no longer with its old one.
+pub fn handing_counts()
+    ensures { HandingCounts }
+{}
+
+/// An owner has as many things as a list has that names each of them once.
+pub fn counts_list()
+    ensures { CountsList }
+{}
+
+/// A node has as many things outside as its command took and its stock has.
+pub fn out_counts()
+    ensures { OutCounts }
+{}
+
 /// A block that is set elsewhere leaves the blocks at these places.
 pub fn blocks_stay()
     ensures { BlocksStay }
@@ -123,6 +150,26 @@ pub fn blocks_set()
     ensures { BlocksSet }
 {}
 
+/// The blocks at places in a row are those at the first ones and then those at the others.
+pub fn blocks_joined()
+    ensures { BlocksJoined }
+{}
+
+/// Writes to other places leave the blocks at these.
+pub fn blocks_kept()
+    ensures { BlocksKept }
+{}
+
+/// Blocks that were seen at these places are the blocks at them.
+pub fn blocks_seen()
+    ensures { BlocksSeen }
+{}
+
+/// Blocks that are written to these places, each place once, are the blocks at them.
+pub fn blocks_written()
+    ensures { BlocksWritten }
+{}
+
 /// A block is one of these clusters' exactly where the cluster that it lies in is one of these.
 pub fn in_spread()
     ensures { InSpread }
@@ -131,4 +178,14 @@ pub fn in_spread()
 /// Clusters that are listed once have no block twice.
 pub fn spread_once()
     ensures { SpreadOnce }
+{}
+
+/// The places of clusters in a row are those of the first ones and then those of the others.
+pub fn spread_joined()
+    ensures { SpreadJoined }
+{}
+
+/// Each cluster has its number of places, one after another.
+pub fn spread_places()
+    ensures { SpreadPlaces }
 {}
