@@ -80,6 +80,9 @@ kept_names a b fid h n = record { place = n.place; within = kept_in a b n.place 
 entered_names : (x y : Cat) (m : ℕ) (fid : Fid) → Entered x y m → Names x fid → Names y fid
 entered_names x y m fid e n = record { place = n.place; within = entered_in x y m e n.place n.within; same = n.same }
 
+fid_is : (x : Fid) (k m s t : ℕ) → x ≡ record { num = k; seq = s } → k ≡ m → s ≡ t → x ≡ record { num = m; seq = t }
+fid_is x k m s t h e f = h ∙ (ap (λ (n : ℕ). record { num = n; seq = s }) e ∙ ap (λ (q : ℕ). record { num = m; seq = q }) f)
+
 -- an entered file is named
 new_names : (a x y : Cat) (k m : ℕ) (f : File) → SameFiles a x → ((g : File) → file_at a 11 ≡ Some g → g.dir ≡ true) → file_at a m ≡ Some f → k ≡ m
     → Entered x y k → Names y (record { num = m; seq = f.seq })
@@ -93,7 +96,7 @@ new_names a x y k m f same dir at number e =
     record {
       place = new_place e.entry;
       within = entered_new x y k e d;
-      same = e.fid ∙ (ap (λ n. record { num = n; seq = e.own.seq }) number ∙ ap (λ s. record { num = m; seq = s }) seq);
+      same = fid_is e.entry.fid k m e.own.seq f.seq e.fid number seq;
     }
 
 -- a file to be entered, or named by now

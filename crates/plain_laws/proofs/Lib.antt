@@ -8,3 +8,5 @@ pub mod Standing
 pub mod Places
 pub mod Steps
 pub mod ClearSteps
+pub mod Unfinished
+pub mod AgainSteps

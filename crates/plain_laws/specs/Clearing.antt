@@ -1,7 +1,8 @@
 -- What mending leaves, and what it needs for that. The catalogue of an accepted volume has all that is needed: where some
 -- of it is missing, the volume has a fault that mending does not put right.
-use Rattle.std.specs.Prelude.{◌≡◌, ◌≢◌, ℕ, Bool, true, false, All, Option, Some, None}
+use Rattle.std.specs.Prelude.{◌≡◌, ◌≢◌, ◌≤◌, ℕ, Bool, true, false, All, Option, Some, None}
 use Rattle.std.specs.List.{Contains}
+use Rattle.plain_cat.specs.declared.history.Mended.{Mended}
 use Rattle.plain_cat.specs.declared.cat.Cat.{Cat}
 use Rattle.plain_cat.specs.declared.cat.File.{File}
 use Rattle.plain_cat.specs.declared.cat.Slot.{Slot}
@@ -51,3 +52,11 @@ pub record KeepsNames (c : Cat) : Type 0 where
   pub written : (p : Place) (f : File) → Contains (places c) p → file_at c p.dir ≡ Some f → f.mark ≢ 1
   -- A file of the number 11 is [SYSLOST].
   pub lost : (f : File) → file_at c 11 ≡ Some f → IsLostDirectory c f
+
+-- each system file, of a number up to 11, that is not marked for delete has its own entry
+abbrev pub AreOwned : Cat → Type 0
+AreOwned c = (n : ℕ) (f : File) → n ≤ 11 → file_at c n ≡ Some f → f.marked ≡ false → HasOwnEntry c n f
+
+-- nothing was done
+abbrev pub nothing_done : Mended
+nothing_done = record { entered = 0; removed = 0; gone = 0; clusters = 0; numbers = 0 }

@@ -5,6 +5,6 @@ mod clearing;
 mod fitting;
 mod refusing;
 
-pub use clearing::mending_clears;
+pub use clearing::{mending_clears, mending_is_idempotent};
 pub use fitting::free_clusters_fit;
 pub use refusing::refusals_change_nothing;
