@@ -1,0 +1,6 @@
+pub mod Parts
+pub mod Volumes
+pub mod Catalogues
+pub mod Fatal
+pub mod Warnings
+pub mod Findings

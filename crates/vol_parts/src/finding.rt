@@ -1,0 +1,93 @@
+use fx_header::HeaderFault;
+use fx_home::{HomeFault, ScbFault};
+use plain_cat::{Name, Uic};
+
+/// What is wrong with a volume. The fatal findings come first, in the order in which they are looked for; a volume that has
+/// one has no catalogue. Mending puts the others right.
+#[derive(Drop)]
+pub enum Finding {
+    /// The home block is not one.
+    Home(HomeFault),
+
+    /// The header of this file number is not one. A header beyond the image's end has a wrong sum.
+    Header(u32, HeaderFault),
+
+    /// The header of this file number is that of another number.
+    WrongNumber(u32),
+
+    /// A file of number 1 to 11 is not what the volume's structure asks: in use under its own identifier, a directory or
+    /// not, not marked, and of the files 1, 2, 4, 10 and 11 one run of the stated size inside the whole clusters.
+    SystemFile(u32),
+
+    /// The storage control block is not one, or says another cluster factor or size.
+    Scb(ScbFault),
+
+    /// A run of this file does not begin and end at a cluster's bounds, or is not inside the whole clusters.
+    Runs(u32),
+
+    /// This file, whose number is above 11, has more than 77 clusters.
+    Clusters(u32),
+
+    /// This cluster is in two runs.
+    SharedCluster(u32),
+
+    /// This directory is not one cluster in one run, with its end after its last block and no mark.
+    DirSize(u32),
+
+    /// A block of this directory is no list of records.
+    DirRecord(u32),
+
+    /// The entries of this directory are out of order.
+    DirOrder(u32),
+
+    /// A name and version of this directory has two file identifiers.
+    DirClash(u32),
+
+    /// This owner has two quota rows.
+    QuotaRow(Uic),
+
+    /// The owner of this file has no quota row.
+    NoQuotaRow(u32),
+
+    /// The storage bitmap says that this cluster is free, and a file has it.
+    FreeCluster(u32),
+
+    /// The index-file bitmap says that this number is free, and a file has it.
+    FreeNumber(u32),
+
+    /// The master file directory lacks the entry of this system file.
+    SystemEntry(u32),
+
+    /// This directory is marked for delete and has entries.
+    MarkedDir(u32),
+
+    /// A chain of entries leads from this directory back to it.
+    DirLoop(u32),
+
+    /// This file, which is not empty, is in no directory, and there is no room for it in [SYSLOST].
+    NoRoom(u32),
+
+    /// This file is marked for delete.
+    Marked(u32),
+
+    /// An entry of the directory `dir` names no file in use.
+    NamesNone { name: Name, ver: u16, dir: u32 },
+
+    /// An entry of the directory `dir` names a file that keeps another one.
+    Second { name: Name, ver: u16, dir: u32 },
+
+    /// An entry of this directory stands in two of its blocks.
+    Doubles(u32),
+
+    /// This file is in no directory.
+    Lost(u32),
+
+    /// So many clusters are neither free nor in a file.
+    LeakedClusters(u32),
+
+    /// So many file numbers are neither free nor a file's.
+    LeakedNumbers(u32),
+
+    /// The usage of an owner's quota row is not what the owner's files cost.
+    Usage { owner: Uic, has: u32, should: u32 },
+}
