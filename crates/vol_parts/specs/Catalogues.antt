@@ -1,5 +1,5 @@
 -- The catalogue that the blocks of a volume tell.
-use Rattle.std.specs.Prelude.{◌*◌, ◌-◌, ◌/◌, ◌==◌, ◌&&◌, ◌||◌, not, nat_lt, ℕ, Bool, true, false, List, [], ◌∷◌, None, Result, Ok, Err, length, map, take, replicate, if◌then◌else◌}
+use Rattle.std.specs.Prelude.{◌*◌, ◌-◌, ◌/◌, ◌==◌, ◌&&◌, ◌||◌, not, ℕ, Bool, List, [], ◌∷◌, None, Result, Ok, Err, length, map, is_some, take, replicate, if◌then◌else◌}
 use Rattle.std.specs.List.{range_with_len, count_by, sum_by}
 use Rattle.vol_words.specs.Fields.{Block}
 use Rattle.fx_header.specs.declared.slot.Hdr.{Hdr}
@@ -17,7 +17,8 @@ use Rattle.plain_cat.specs.declared.cat.Slot.{Slot}
 use Rattle.plain_cat.specs.declared.cat.Slot.TheVariants.{Used, Free}
 use Rattle.plain_cat.specs.declared.cat.QuotaRow.{QuotaRow}
 use Rattle.plain_vol.specs.Lookups.{clusters_in}
-use Rattle.vol_parts.specs.Volumes.{Volume, factor, total, numbers, head as head_of, body, in_files, is_free_cluster, is_used_number, rows}
+use Rattle.plain_vol.specs.Changes.{with_row}
+use Rattle.vol_parts.specs.Volumes.{Volume, factor, total, numbers, head as head_of, fields, body, is_in_files, is_free_cluster, is_used_number, active_rows}
 
 -- an entry without the version limit and the flags of its record
 abbrev pub plain_entry : RawEnt → DirEnt
@@ -71,30 +72,20 @@ files_of v = map (slot_of v) (numbers v)
 abbrev pub quota_row : Row → QuotaRow
 quota_row r = record { owner = record { 0 = r.uic }; usage = r.usage; quota = r.quota; over = r.over }
 
--- a row in front of the first whose owner comes after it
-abbrev pub row_inserted : QuotaRow → List QuotaRow → List QuotaRow
-row_inserted r [] = r ∷ []
-row_inserted r (s ∷ rs) = if nat_lt r.owner.0 s.owner.0 then r ∷ s ∷ rs else s ∷ row_inserted r rs
-
--- rows by rising owner
+-- rows in order of owner
 abbrev pub rows_sorted : List Row → List QuotaRow
 rows_sorted [] = []
-rows_sorted (r ∷ rs) = row_inserted (quota_row r) (rows_sorted rs)
+rows_sorted (r ∷ rs) = with_row (quota_row r) (rows_sorted rs)
 
--- a cluster is leaked: not free, and in no file
-unfoldable pub is_leaked_cluster : Volume → ℕ → Bool
-is_leaked_cluster v q = not (is_free_cluster v q) && not (in_files v q)
+-- a cluster is outside: not free, and in no file
+unfoldable pub is_outside_cluster : Volume → ℕ → Bool
+is_outside_cluster v q = not (is_free_cluster v q) && not (is_in_files v q)
 
-abbrev pub is_free_head : Result Head HeaderFault → Bool
-is_free_head (Ok (head.Free seq)) = true
-is_free_head (Ok (head.Used f)) = false
-is_free_head (Err fault) = false
+-- a file number is outside: in use by its bit, and no file's
+unfoldable pub is_outside_number : Volume → ℕ → Bool
+is_outside_number v n = is_used_number v n && not (is_some (fields v n))
 
--- a file number is leaked: in use by its bit, and no file's
-unfoldable pub is_leaked_number : Volume → ℕ → Bool
-is_leaked_number v n = is_used_number v n && is_free_head (head_of v n)
-
--- The catalogue: nothing is open, and what is neither free nor a file's is leaked.
+-- The catalogue: nothing is open, and what is outside is leaked.
 unfoldable pub catalogue : Volume → Cat
 catalogue v = record {
   factor = factor v;
@@ -102,8 +93,8 @@ catalogue v = record {
   reserved = sum_by clusters_in (take 11 (files_of v));
   rows = 16 * length (body v 10);
   files = files_of v;
-  quota = rows_sorted (rows v);
+  quota = rows_sorted (active_rows v);
   opens = replicate 64 None;
-  leaked = count_by (is_leaked_cluster v) (range_with_len 0 (total v));
-  leaked_numbers = map (is_leaked_number v) (numbers v);
+  leaked = count_by (is_outside_cluster v) (range_with_len 0 (total v));
+  leaked_numbers = map (is_outside_number v) (numbers v);
 }

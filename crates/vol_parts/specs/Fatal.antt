@@ -17,12 +17,12 @@ use Rattle.plain_cat.specs.declared.entries.DirEnt.{DirEnt}
 use Rattle.plain_cat.specs.declared.cat.Cat.{Cat}
 use Rattle.plain_cat.specs.declared.cat.File.{File}
 use Rattle.plain_vol.specs.Lookups.{file_at, in_use}
-use Rattle.plain_vol.specs.Directories.{is_nil}
+use Rattle.plain_vol.specs.Answers.{has_entries}
 use Rattle.plain_vol.specs.Mending.{is_own, without_opens, without_entries, lost, enter, enter_all}
 use Rattle.vol_parts.specs.declared.finding.Finding.{Finding}
 use Rattle.vol_parts.specs.declared.finding.Finding.TheVariants as finding
 use Rattle.vol_parts.specs.Parts.{storage_blocks}
-use Rattle.vol_parts.specs.Volumes.{Volume, IsNumber, factor, total, block_at, head as head_of, fields, runs, in_run, in_files, bitmap_lbn, is_free_cluster, is_used_number, body, rows}
+use Rattle.vol_parts.specs.Volumes.{Volume, IsNumber, factor, total, block_at, head as head_of, fields, runs, is_in_run, is_in_files, bitmap_lbn, is_free_cluster, is_used_number, body, active_rows}
 use Rattle.vol_parts.specs.Catalogues.{catalogue}
 
 -- ---- system files
@@ -79,8 +79,8 @@ scb_fault v = scb_test v (scb_read (block_at v (bitmap_lbn v)))
 -- ---- runs and clusters
 
 -- a run does not begin and end at a cluster's bounds, or is not inside the whole clusters
-unfoldable pub is_off : Volume → Run → Bool
-is_off v r = not ((r.lbn % factor v == 0) && ((r.count % factor v == 0) && nat_le (r.lbn + r.count) (factor v * total v)))
+unfoldable pub is_off_bounds : Volume → Run → Bool
+is_off_bounds v r = not ((r.lbn % factor v == 0) && ((r.count % factor v == 0) && nat_le (r.lbn + r.count) (factor v * total v)))
 
 -- more than 77 clusters
 abbrev pub is_too_large : Volume → Option Hdr → Bool
@@ -92,7 +92,7 @@ pub record IsInRun (v : Volume) (q n i : ℕ) : Type 0 where
   pub number : IsNumber v n
   pub run : Run
   pub there : slice_get (runs v n) i ≡ Some run
-  pub inside : in_run (factor v) q run ≡ true
+  pub inside : is_in_run (factor v) q run ≡ true
 
 -- a cluster is in two runs
 pub record IsShared (v : Volume) (q : ℕ) : Type 0 where
@@ -134,14 +134,14 @@ dir_fault v n = dir_test v n (fields v n)
 -- ---- quota rows
 
 -- two active rows have this owner
-pub record IsTwice (v : Volume) (uic : ℕ) : Type 0 where
+pub record HasTwoRows (v : Volume) (uic : ℕ) : Type 0 where
   pub i : ℕ
   pub j : ℕ
   pub one : Row
   pub other : Row
   pub apart : i ≢ j
-  pub first : slice_get (rows v) i ≡ Some one
-  pub second : slice_get (rows v) j ≡ Some other
+  pub first : slice_get (active_rows v) i ≡ Some one
+  pub second : slice_get (active_rows v) j ≡ Some other
   pub first_owner : one.uic ≡ uic
   pub second_owner : other.uic ≡ uic
 
@@ -155,44 +155,44 @@ is_rowless rs (Some f) = not (list_any (λ r. r.uic == f.owner) rs)
 unfoldable pub is_system_entry : ℕ → DirEnt → Bool
 is_system_entry n e = is_own (record { dir = 4; entry = e }) && ((e.fid.num == n) && (e.fid.seq == system_seq n))
 
-abbrev pub entries_at : Option File → List DirEnt
-entries_at None = []
-entries_at (Some f) = if f.dir then f.entries else []
+abbrev pub listed : Option File → List DirEnt
+listed None = []
+listed (Some f) = if f.dir then f.entries else []
 
 -- the entries of the directory of this number
-abbrev pub entries : Cat → ℕ → List DirEnt
-entries c n = entries_at (file_at c n)
+abbrev pub entries_of : Cat → ℕ → List DirEnt
+entries_of c n = listed (file_at c n)
 
 -- a directory that is marked for delete, with entries
 abbrev pub is_marked_dir : Option File → Bool
 is_marked_dir None = false
-is_marked_dir (Some f) = f.marked && (f.dir && not (is_nil f.entries))
+is_marked_dir (Some f) = f.marked && has_entries (Some f)
 
 -- an entry of directory n names a file in use of number m; the master file directory's own entry is left out
-pub record Leads (c : Cat) (n m : ℕ) : Type 0 where
+pub record NamesFile (c : Cat) (n m : ℕ) : Type 0 where
   pub place : ℕ
   pub entry : DirEnt
-  pub there : slice_get (entries c n) place ≡ Some entry
+  pub there : slice_get (entries_of c n) place ≡ Some entry
   pub used : is_some (in_use c entry.fid) ≡ true
   pub names : entry.fid.num ≡ m
   pub other : (n ≡ 4) → is_system_entry 4 entry ≡ false
 
 -- a chain of entries from n to m
-pub data Chain (c : Cat) (n : ℕ) : ℕ → Type 0 where
-  One : {m : ℕ} → Leads c n m → Chain c n m
-  More : {k m : ℕ} → Chain c n k → Leads c k m → Chain c n m
+pub data Path (c : Cat) (n : ℕ) : ℕ → Type 0 where
+  One : {m : ℕ} → NamesFile c n m → Path c n m
+  More : {k m : ℕ} → Path c n k → NamesFile c k m → Path c n m
 
--- what is left to enter in [SYSLOST]: the entries that do not stay are gone
-abbrev pub unentered : Cat → Cat
-unentered c = without_entries (without_opens c)
+-- the catalogue after the entries that do not stay are gone, as mending finds it when it enters lost files
+abbrev pub stripped : Cat → Cat
+stripped c = without_entries (without_opens c)
 
 -- this lost file, which is not empty, is the first for which there is no room in [SYSLOST], behind those before it
 pub record HasNoRoom (c : Cat) (n : ℕ) : Type 0 where
   pub earlier : List ℕ
   pub later : List ℕ
   pub after : Cat
-  pub waiting : lost (unentered c) false ≡ earlier ++ n ∷ later
-  pub entered : enter_all earlier (unentered c) ≡ Some after
+  pub waiting : lost (stripped c) false ≡ earlier ++ n ∷ later
+  pub entered : enter_all earlier (stripped c) ≡ Some after
   pub full : enter after n ≡ None
 
 -- ---- the fatal findings
@@ -204,19 +204,19 @@ IsFatalIn v (finding.Header n fault) = IsNumber v n × (head_of v n ≡ Err faul
 IsFatalIn v (finding.WrongNumber n) = IsNumber v n × ((f : Hdr) × (fields v n ≡ Some f) × (f.num ≢ n))
 IsFatalIn v (finding.SystemFile n) = (1 ≤ n) × (n ≤ 11) × (is_system_file v n ≡ false)
 IsFatalIn v (finding.Scb fault) = scb_fault v ≡ Some fault
-IsFatalIn v (finding.Runs n) = IsNumber v n × (list_any (is_off v) (runs v n) ≡ true)
+IsFatalIn v (finding.Runs n) = IsNumber v n × (list_any (is_off_bounds v) (runs v n) ≡ true)
 IsFatalIn v (finding.Clusters n) = IsNumber v n × (11 < n) × (is_too_large v (fields v n) ≡ true)
 IsFatalIn v (finding.SharedCluster q) = IsShared v q
 IsFatalIn v (finding.DirSize n) = IsNumber v n × (dir_fault v n ≡ Some (finding.DirSize n))
 IsFatalIn v (finding.DirRecord n) = IsNumber v n × (dir_fault v n ≡ Some (finding.DirRecord n))
 IsFatalIn v (finding.DirOrder n) = IsNumber v n × (dir_fault v n ≡ Some (finding.DirOrder n))
 IsFatalIn v (finding.DirClash n) = IsNumber v n × (dir_fault v n ≡ Some (finding.DirClash n))
-IsFatalIn v (finding.QuotaRow owner) = IsTwice v owner.0
-IsFatalIn v (finding.NoQuotaRow n) = IsNumber v n × (is_rowless (rows v) (fields v n) ≡ true)
-IsFatalIn v (finding.FreeCluster q) = (q < total v) × (is_free_cluster v q ≡ true) × (in_files v q ≡ true)
+IsFatalIn v (finding.QuotaRow owner) = HasTwoRows v owner.0
+IsFatalIn v (finding.NoQuotaRow n) = IsNumber v n × (is_rowless (active_rows v) (fields v n) ≡ true)
+IsFatalIn v (finding.FreeCluster q) = (q < total v) × (is_free_cluster v q ≡ true) × (is_in_files v q ≡ true)
 IsFatalIn v (finding.FreeNumber n) = IsNumber v n × (is_used_number v n ≡ false) × (is_some (fields v n) ≡ true)
-IsFatalIn v (finding.SystemEntry n) = (1 ≤ n) × (n ≤ 11) × (list_any (is_system_entry n) (entries (catalogue v) 4) ≡ false)
+IsFatalIn v (finding.SystemEntry n) = (1 ≤ n) × (n ≤ 11) × (list_any (is_system_entry n) (entries_of (catalogue v) 4) ≡ false)
 IsFatalIn v (finding.MarkedDir n) = IsNumber v n × (is_marked_dir (file_at (catalogue v) n) ≡ true)
-IsFatalIn v (finding.DirLoop n) = Chain (catalogue v) n n
+IsFatalIn v (finding.DirLoop n) = Path (catalogue v) n n
 IsFatalIn v (finding.NoRoom n) = HasNoRoom (catalogue v) n
 IsFatalIn v f = ⊥

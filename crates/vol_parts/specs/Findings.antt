@@ -1,11 +1,13 @@
 -- The findings of a volume's blocks, whether they are accepted, and the catalogue that they tell.
-use Rattle.std.specs.Prelude.{◌≡◌, ◌⊎◌, ◌==◌, ◌&&◌, ◌||◌, nat_lt, nat_le, ℕ, Bool, true, List, [], ◌∷◌, Ok, Err, slice_index_or}
+use Rattle.std.specs.Prelude.{◌≡◌, ◌⊎◌, ◌==◌, ◌&&◌, ◌||◌, nat_lt, nat_le, ℕ, Bool, true, List, [], ◌∷◌, Result, Ok, Err, slice_index_or}
 use Rattle.vol_words.specs.Fields.{Block}
+use Rattle.fx_home.specs.declared.home.Home.{Home}
+use Rattle.fx_home.specs.declared.home.HomeFault.{HomeFault}
 use Rattle.fx_home.specs.Homes.{home_read}
 use Rattle.plain_cat.specs.declared.cat.Cat.{Cat}
 use Rattle.vol_parts.specs.declared.finding.Finding.{Finding}
 use Rattle.vol_parts.specs.declared.finding.Finding.TheVariants as finding
-use Rattle.vol_parts.specs.Volumes.{Volume}
+use Rattle.vol_parts.specs.Volumes.{volume}
 use Rattle.vol_parts.specs.Catalogues.{catalogue}
 use Rattle.vol_parts.specs.Fatal.{IsFatalIn}
 use Rattle.vol_parts.specs.Warnings.{warnings}
@@ -14,41 +16,39 @@ use Rattle.vol_parts.specs.Warnings.{warnings}
 abbrev pub home_at : List Block → Block
 home_at bs = slice_index_or bs 1 []
 
--- the volume of these blocks, where the home block is read
-pub record IsVolume (bs : List Block) (v : Volume) : Type 0 where
-  pub home : home_read (home_at bs) ≡ Ok v.home
-  pub all : v.blocks ≡ bs
+abbrev pub IsFatalBy : List Block → Result Home HomeFault → Finding → Type 0
+IsFatalBy bs (Err fault) f = f ≡ finding.Home fault
+IsFatalBy bs (Ok home) f = IsFatalIn (volume home bs) f
 
--- a fatal finding holds
+-- a fatal finding holds: that of the home block, or, where that is read, one of the volume
 abbrev pub IsFatal : List Block → Finding → Type 0
-IsFatal bs (finding.Home fault) = home_read (home_at bs) ≡ Err fault
-IsFatal bs f = (v : Volume) × IsVolume bs v × IsFatalIn v f
+IsFatal bs f = IsFatalBy bs (home_read (home_at bs)) f
 
--- in which order the kinds of fatal findings are looked for
-abbrev pub kind : Finding → ℕ
-kind (finding.Home fault) = 0
-kind (finding.Header n fault) = 1
-kind (finding.WrongNumber n) = 1
-kind (finding.SystemFile n) = 2
-kind (finding.Scb fault) = 3
-kind (finding.Runs n) = 4
-kind (finding.Clusters n) = 5
-kind (finding.SharedCluster q) = 6
-kind (finding.DirSize n) = 7
-kind (finding.DirRecord n) = 7
-kind (finding.DirOrder n) = 7
-kind (finding.DirClash n) = 7
-kind (finding.QuotaRow owner) = 8
-kind (finding.NoQuotaRow n) = 9
-kind (finding.FreeCluster q) = 10
-kind (finding.FreeNumber n) = 11
-kind (finding.SystemEntry n) = 12
-kind (finding.MarkedDir n) = 13
-kind (finding.DirLoop n) = 14
-kind (finding.NoRoom n) = 15
-kind f = 16
+-- in which order the kinds of fatal findings are looked for; the two of a header are one kind, and the four of a directory
+abbrev pub rank : Finding → ℕ
+rank (finding.Home fault) = 0
+rank (finding.Header n fault) = 1
+rank (finding.WrongNumber n) = 1
+rank (finding.SystemFile n) = 2
+rank (finding.Scb fault) = 3
+rank (finding.Runs n) = 4
+rank (finding.Clusters n) = 5
+rank (finding.SharedCluster q) = 6
+rank (finding.DirSize n) = 7
+rank (finding.DirRecord n) = 7
+rank (finding.DirOrder n) = 7
+rank (finding.DirClash n) = 7
+rank (finding.QuotaRow owner) = 8
+rank (finding.NoQuotaRow n) = 9
+rank (finding.FreeCluster q) = 10
+rank (finding.FreeNumber n) = 11
+rank (finding.SystemEntry n) = 12
+rank (finding.MarkedDir n) = 13
+rank (finding.DirLoop n) = 14
+rank (finding.NoRoom n) = 15
+rank f = 16
 
--- of one kind the lowest number, cluster or owner comes first
+-- of one rank the lowest number, cluster or owner comes first
 abbrev pub subject : Finding → ℕ
 subject (finding.Home fault) = 0
 subject (finding.Header n fault) = n
@@ -74,7 +74,7 @@ subject f = 0
 
 -- a finding comes no later than another
 unfoldable pub is_no_later : Finding → Finding → Bool
-is_no_later f g = nat_lt (kind f) (kind g) || ((kind f == kind g) && nat_le (subject f) (subject g))
+is_no_later f g = nat_lt (rank f) (rank g) || ((rank f == rank g) && nat_le (subject f) (subject g))
 
 -- the first fatal finding
 pub record IsFirstFatal (bs : List Block) (f : Finding) : Type 0 where
@@ -85,24 +85,28 @@ pub record IsFirstFatal (bs : List Block) (f : Finding) : Type 0 where
 abbrev pub Weak : List Block → Type 0
 Weak bs = (f : Finding) → IsFatal bs f → ⊥
 
--- the findings of a volume without a fatal one
-pub record AreWarnings (bs : List Block) (fs : List Finding) : Type 0 where
-  pub volume : Volume
-  pub read : IsVolume bs volume
-  pub weak : Weak bs
-  pub all : fs ≡ warnings volume
+-- no fatal finding holds, but that [SYSLOST] may lack room for a lost file
+abbrev pub IsReadable : List Block → Type 0
+IsReadable bs = (f : Finding) → IsFatal bs f → (n : ℕ) × (f ≡ finding.NoRoom n)
 
--- a fatal finding stands alone, the first; otherwise there are all others
+abbrev pub AreWarningsBy : List Block → Result Home HomeFault → List Finding → Type 0
+AreWarningsBy bs (Err fault) fs = ⊥
+AreWarningsBy bs (Ok home) fs = fs ≡ warnings (volume home bs)
+
+-- What is found: where a fatal finding holds, the first one and nothing more; else all the others.
 abbrev pub AreFindings : List Block → List Finding → Type 0
-AreFindings bs fs = ((f : Finding) × IsFirstFatal bs f × (fs ≡ f ∷ [])) ⊎ AreWarnings bs fs
+AreFindings bs fs =
+    ((f : Finding) × IsFirstFatal bs f × (fs ≡ f ∷ [])) ⊎ (Weak bs × AreWarningsBy bs (home_read (home_at bs)) fs)
 
 -- a volume is accepted: nothing is found
 abbrev pub Accepts : List Block → Type 0
 Accepts bs = AreFindings bs []
 
+abbrev pub IsCatalogueBy : List Block → Result Home HomeFault → Cat → Type 0
+IsCatalogueBy bs (Err fault) c = ⊥
+IsCatalogueBy bs (Ok home) c = c ≡ catalogue (volume home bs)
+
 -- the catalogue that the blocks tell, where no fatal finding holds
 pub record CatOf (bs : List Block) (c : Cat) : Type 0 where
-  pub volume : Volume
-  pub read : IsVolume bs volume
   pub weak : Weak bs
-  pub told : c ≡ catalogue volume
+  pub told : IsCatalogueBy bs (home_read (home_at bs)) c

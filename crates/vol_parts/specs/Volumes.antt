@@ -1,6 +1,6 @@
 -- What the blocks of a volume say, part by part, once the home block has told the cluster factor and the file numbers.
-use Rattle.std.specs.Prelude.{◌+◌, ◌*◌, ◌-◌, ◌/◌, ◌%◌, ◌≤◌, ◌&&◌, nat_le, nat_lt, ℕ, Bool, List, [], ◌∷◌, Option, Some, None, Result, Ok, Err, length, map, flat_map, slice_index_or, if◌then◌else◌}
-use Rattle.std.specs.List.{range_with_len, list_any}
+use Rattle.std.specs.Prelude.{◌+◌, ◌*◌, ◌-◌, ◌/◌, ◌%◌, ◌≤◌, ◌&&◌, nat_lt, ℕ, Bool, List, [], ◌∷◌, Option, Some, None, Result, Ok, Err, length, map, flat_map, slice_index_or, if◌then◌else◌}
+use Rattle.std.specs.List.{range_with_len, list_any, filter_map}
 use Rattle.vol_words.specs.Fields.{Block}
 use Rattle.fx_home.specs.declared.home.Home.{Home}
 use Rattle.fx_header.specs.declared.run.Run.{Run}
@@ -9,6 +9,7 @@ use Rattle.fx_header.specs.declared.slot.Slot.{Slot}
 use Rattle.fx_header.specs.declared.slot.Slot.TheVariants.{Free, Used}
 use Rattle.fx_header.specs.declared.slot.HeaderFault.{HeaderFault}
 use Rattle.fx_header.specs.declared.slot.HeaderFault.TheVariants.{BadSum}
+use Rattle.fx_header.specs.Pointers.{lbns_in}
 use Rattle.fx_header.specs.Headers.{header_read, runs_in}
 use Rattle.fx_bitmap.specs.Bits.{bit_at}
 use Rattle.fx_quota.specs.declared.types.Row.{Row}
@@ -27,7 +28,7 @@ volume h bs = record { home = h; blocks = bs }
 abbrev pub factor : Volume → ℕ
 factor v = v.home.cluster
 
--- the whole clusters; blocks behind them are not used
+-- the whole clusters of the image
 abbrev pub total : Volume → ℕ
 total v = length v.blocks / factor v
 
@@ -60,7 +61,7 @@ fields_in (Ok (Used f)) = Some f
 fields_in (Ok (Free seq)) = None
 fields_in (Err fault) = None
 
--- the fields of the header of a number in use
+-- the fields of the header, where the number is in use
 abbrev pub fields : Volume → ℕ → Option Hdr
 fields v n = fields_in (head v n)
 
@@ -74,24 +75,21 @@ runs_with None b = []
 unfoldable pub runs : Volume → ℕ → List Run
 runs v n = runs_with (fields v n) (header_at v n)
 
-abbrev pub run_lbns : Run → List ℕ
-run_lbns r = range_with_len r.lbn r.count
-
 -- the blocks of a file, in order of virtual block
 unfoldable pub body : Volume → ℕ → List Block
-body v n = map (block_at v) (flat_map run_lbns (runs v n))
+body v n = map (block_at v) (lbns_in (runs v n))
 
--- a cluster is in a run
-unfoldable pub in_run : ℕ → ℕ → Run → Bool
-in_run factor q r = nat_le (r.lbn / factor) q && nat_lt q ((r.lbn + r.count) / factor)
+-- a run has a block of a cluster
+unfoldable pub is_in_run : ℕ → ℕ → Run → Bool
+is_in_run factor q r = nat_lt r.lbn (factor * (q + 1)) && nat_lt (factor * q) (r.lbn + r.count)
 
 -- a cluster is in the file of this number
-abbrev pub in_file : Volume → ℕ → ℕ → Bool
-in_file v q n = list_any (in_run (factor v) q) (runs v n)
+abbrev pub is_in_file : Volume → ℕ → ℕ → Bool
+is_in_file v q n = list_any (is_in_run (factor v) q) (runs v n)
 
 -- a cluster is in a file
-unfoldable pub in_files : Volume → ℕ → Bool
-in_files v q = list_any (in_file v q) (numbers v)
+unfoldable pub is_in_files : Volume → ℕ → Bool
+is_in_files v q = list_any (is_in_file v q) (numbers v)
 
 -- ---- bitmaps and quota rows
 
@@ -125,15 +123,10 @@ is_free_cluster v q = bit_at (block_at v (bitmap_lbn v + 1 + q / 4096)) (q % 409
 unfoldable pub is_used_number : Volume → ℕ → Bool
 is_used_number v n = bit_at (block_at v (4 * factor v)) (n - 1)
 
-abbrev pub present : List (Option Row) → List Row
-present [] = []
-present (None ∷ rs) = present rs
-present (Some r ∷ rs) = r ∷ present rs
-
 -- the active rows of a quota block
 unfoldable pub rows_in : Block → List Row
-rows_in b = present (map (row_at b) (range_with_len 0 16))
+rows_in b = filter_map (row_at b) (range_with_len 0 16)
 
 -- the active quota rows, in the order of the file
-unfoldable pub rows : Volume → List Row
-rows v = flat_map rows_in (body v 10)
+unfoldable pub active_rows : Volume → List Row
+active_rows v = flat_map rows_in (body v 10)

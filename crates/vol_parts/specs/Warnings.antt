@@ -33,8 +33,8 @@ names_none c p = is_none (in_use c p.entry.fid)
 unfoldable pub is_second : Cat → Place → Bool
 is_second c p = not (is_none (live c p.entry.fid)) && not (stays c p)
 
-abbrev pub none_found : Place → Finding
-none_found p = finding.NamesNone p.entry.name p.entry.ver p.dir
+abbrev pub names_none_found : Place → Finding
+names_none_found p = finding.NamesNone p.entry.name p.entry.ver p.dir
 
 abbrev pub second_found : Place → Finding
 second_found p = finding.Second p.entry.name p.entry.ver p.dir
@@ -57,8 +57,8 @@ is_lost_file c n (Free seq) = false
 is_lost_file c n (Used f) = is_lost c n f
 
 -- one finding where the number is not 0
-abbrev pub unless_none : (ℕ → Finding) → ℕ → List Finding
-unless_none found n = if n == 0 then [] else found n ∷ []
+abbrev pub if_any : (ℕ → Finding) → ℕ → List Finding
+if_any found n = if n == 0 then [] else found n ∷ []
 
 -- a row whose usage is not what the owner's files cost
 abbrev pub is_miscounted : Cat → QuotaRow → Bool
@@ -67,14 +67,14 @@ is_miscounted c r = not (r.usage == charge c r.owner)
 abbrev pub usage_found : Cat → QuotaRow → Finding
 usage_found c r = finding.Usage r.owner r.usage (charge c r.owner)
 
--- All findings of a volume that has no fatal one: kind by kind, and each kind by rising number and in the order of entries.
+-- All findings of a volume that has no fatal one: rank by rank, and each rank by rising number and in the order of entries.
 unfoldable pub warnings : Volume → List Finding
 warnings v = let c = catalogue v in
     map finding.Marked (numbers_from is_marked 1 c.files)
-    ++ (map none_found (filter (names_none c) (places c))
+    ++ (map names_none_found (filter (names_none c) (places c))
     ++ (map second_found (filter (is_second c) (places c))
     ++ (map finding.Doubles (filter (has_doubles v) (numbers v))
     ++ (map finding.Lost (numbers_from (is_lost_file c) 1 c.files)
-    ++ (unless_none finding.LeakedClusters c.leaked
-    ++ (unless_none finding.LeakedNumbers (count_by is_true c.leaked_numbers)
+    ++ (if_any finding.LeakedClusters c.leaked
+    ++ (if_any finding.LeakedNumbers (count_by is_true c.leaked_numbers)
     ++ map (usage_found c) (filter (is_miscounted c) c.quota)))))))

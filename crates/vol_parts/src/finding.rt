@@ -2,8 +2,9 @@ use fx_header::HeaderFault;
 use fx_home::{HomeFault, ScbFault};
 use plain_cat::{Name, Uic};
 
-/// What is wrong with a volume. The fatal findings come first, in the order in which they are looked for; a volume that has
-/// one has no catalogue. Mending puts the others right.
+/// What is wrong with a volume. The fatal findings come first, in the order in which they are looked for, where the two of a
+/// header are one kind, and so are the four of a directory; of one kind the lowest number comes first. A volume that has one
+/// has no catalogue. Mending puts the others right.
 #[derive(Drop)]
 pub enum Finding {
     /// The home block is not one.
@@ -16,7 +17,8 @@ pub enum Finding {
     WrongNumber(u32),
 
     /// A file of number 1 to 11 is not what the volume's structure asks: in use under its own identifier, a directory or
-    /// not, not marked, and of the files 1, 2, 4, 10 and 11 one run of the stated size inside the whole clusters.
+    /// not, not marked, and of the files 1, 2, 4, 10 and 11 one run of the stated size inside the whole clusters, which for
+    /// file 1 begins at LBN 0.
     SystemFile(u32),
 
     /// The storage control block is not one, or says another cluster factor or size.
@@ -43,7 +45,7 @@ pub enum Finding {
     /// A name and version of this directory has two file identifiers.
     DirClash(u32),
 
-    /// This owner has two quota rows.
+    /// This owner has two active quota rows.
     QuotaRow(Uic),
 
     /// The owner of this file has no quota row.
@@ -55,13 +57,13 @@ pub enum Finding {
     /// The index-file bitmap says that this number is free, and a file has it.
     FreeNumber(u32),
 
-    /// The master file directory lacks the entry of this system file.
+    /// The master file directory lacks the entry of this system file: its name, version 1, and its own identifier.
     SystemEntry(u32),
 
     /// This directory is marked for delete and has entries.
     MarkedDir(u32),
 
-    /// A chain of entries leads from this directory back to it.
+    /// A chain of entries leads from this directory back to it; the master file directory's own entry is left out.
     DirLoop(u32),
 
     /// This file, which is not empty, is in no directory, and there is no room for it in [SYSLOST].
