@@ -4,3 +4,5 @@ pub mod Catalogues
 pub mod Fatal
 pub mod Warnings
 pub mod Findings
+pub mod Lowest
+pub mod Firsts
