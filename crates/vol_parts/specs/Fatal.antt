@@ -1,7 +1,7 @@
 -- What makes a volume unreadable: the fatal findings, each by itself. Each is a sentence about the blocks; in which order
 -- they are looked for is said apart.
 use Rattle.std.specs.Prelude.{◌≡◌, ◌≢◌, ◌≤◌, ◌<◌, ◌⊎◌, ◌+◌, ◌*◌, ◌-◌, ◌/◌, ◌%◌, ◌++◌, ◌==◌, ◌&&◌, ◌||◌, not, nat_le, nat_lt, ℕ, Bool, true, false, List, [], ◌∷◌, Option, Some, None, Result, Ok, Err, is_some, length, slice_get, if◌then◌else◌}
-use Rattle.std.specs.List.{list_any}
+use Rattle.std.specs.List.{list_any, count_by}
 use Rattle.fx_home.specs.declared.scb.Scb.{Scb}
 use Rattle.fx_home.specs.declared.scb.ScbFault.{ScbFault}
 use Rattle.fx_home.specs.declared.scb.ScbFault.TheVariants.{BadCluster, BadSize}
@@ -133,17 +133,9 @@ dir_fault v n = dir_test v n (fields v n)
 
 -- ---- quota rows
 
--- two active rows have this owner
-pub record HasTwoRows (v : Volume) (uic : ℕ) : Type 0 where
-  pub i : ℕ
-  pub j : ℕ
-  pub one : Row
-  pub other : Row
-  pub apart : i ≢ j
-  pub first : slice_get (active_rows v) i ≡ Some one
-  pub second : slice_get (active_rows v) j ≡ Some other
-  pub first_owner : one.uic ≡ uic
-  pub second_owner : other.uic ≡ uic
+-- two active rows or more have this owner
+abbrev pub has_two_rows : List Row → ℕ → Bool
+has_two_rows rs uic = nat_le 2 (count_by (λ r. r.uic == uic) rs)
 
 abbrev pub is_rowless : List Row → Option Hdr → Bool
 is_rowless rs None = false
@@ -211,7 +203,7 @@ IsFatalIn v (finding.DirSize n) = IsNumber v n × (dir_fault v n ≡ Some (findi
 IsFatalIn v (finding.DirRecord n) = IsNumber v n × (dir_fault v n ≡ Some (finding.DirRecord n))
 IsFatalIn v (finding.DirOrder n) = IsNumber v n × (dir_fault v n ≡ Some (finding.DirOrder n))
 IsFatalIn v (finding.DirClash n) = IsNumber v n × (dir_fault v n ≡ Some (finding.DirClash n))
-IsFatalIn v (finding.QuotaRow owner) = HasTwoRows v owner.0
+IsFatalIn v (finding.QuotaRow owner) = has_two_rows (active_rows v) owner.0 ≡ true
 IsFatalIn v (finding.NoQuotaRow n) = IsNumber v n × (is_rowless (active_rows v) (fields v n) ≡ true)
 IsFatalIn v (finding.FreeCluster q) = (q < total v) × (is_free_cluster v q ≡ true) × (is_in_files v q ≡ true)
 IsFatalIn v (finding.FreeNumber n) = IsNumber v n × (is_used_number v n ≡ false) × (is_some (fields v n) ≡ true)

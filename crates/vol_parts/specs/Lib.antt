@@ -6,3 +6,5 @@ pub mod Warnings
 pub mod Findings
 pub mod Lowest
 pub mod Firsts
+pub mod Iter
+pub mod Conditions

@@ -1,0 +1,12 @@
+-- The fault of a directory of the right size.
+use Rattle.std.proofs.Common.{◌≡◌, ℕ, List, Some, true, refl}
+use Rattle.fx_header.specs.declared.slot.Hdr.{Hdr}
+use Rattle.fx_dir.specs.Directory.{directory}
+use Rattle.vol_words.specs.Fields.{Block}
+use Rattle.vol_parts.specs.Volumes.{Volume, factor, fields, runs, body}
+use Rattle.vol_parts.specs.Fatal.{has_dir_size, found_in, dir_fault}
+
+pub dir_fault-sized : (v : Volume) (n : ℕ) (f : Hdr) (bs : List Block) → fields v n ≡ Some f → f.dir ≡ true
+    → has_dir_size (factor v) f (runs v n) ≡ true → body v n ≡ bs → dir_fault v n ≡ found_in n (directory bs)
+unfolding dir_fault
+dir_fault-sized v n f bs e dir size blocks = rw (e, dir, size, blocks) refl

@@ -1,0 +1,7 @@
+use Rattle.std.proofs.Common.{◌≡◌, take}
+use Rattle.std.specs.List.{sum_by}
+use Rattle.plain_vol.specs.Lookups.{clusters_in}
+use Rattle.vol_parts.proofs.catalogue.reserved.Given as goal
+
+abbrev pub invariant-loop-slot : goal.invariant-loop-slot
+invariant-loop-slot l = l.clusters ≡ sum_by clusters_in (take l.slot-index l.slot-items)
