@@ -1,1 +1,14 @@
+pub mod Octals
+pub mod Numerals
+pub mod LineTexts
+pub mod Played
+pub mod Schedules
+pub mod Pieces
+pub mod Words
+pub mod Commanded
+pub mod Said
+pub mod Spelt
+pub mod Formed
+pub mod ReadBack
+pub mod OneThing
 pub mod SoakLemmas

@@ -1,1 +1,8 @@
+pub mod Laws
+pub mod Lines
+pub mod Table
+pub mod Grammar
+pub mod Fixed
+pub mod Spelling
+pub mod Steps
 pub mod Soaks

@@ -1,6 +1,31 @@
-//! Where the commands of a run come from: a soak, which is drawn from a number.
+//! Scripts: what every node does, in which order the first turns come, and which nodes die.
+//!
+//! [`read_script`] reads a script, or names the first line that is none. The grammar is `specs/Grammar.antt`, over
+//! lines of bytes; `specs/Spelling.antt` says what lines spell together, and which line is the first bad one. What a
+//! program does not run yet is a bad line for it: [`BUILT`] says what it runs. [`soak`] makes a script of its own: it is
+//! drawn from a number.
 #![tactic(auto)]
 
+mod built;
+mod commands;
+mod deaths;
+mod fault;
+mod items;
+mod kinds;
+mod lines;
+mod numbers;
+mod operands;
+mod parts;
+mod reading;
+mod runs;
 mod soaks;
+mod states;
+#[cfg(test)]
+mod tests;
+mod theorems;
 
+pub use built::{BUILT, Built, Kind};
+pub use fault::ScriptFault;
+pub use reading::{read_script, read_with};
 pub use soaks::soak;
+pub use theorems::{a_text_says_one_thing, command_texts_read_back};
