@@ -1,0 +1,209 @@
+-- What a write of one block leaves.
+use Rattle.std.proofs.Common.{◌≡◌, ◌≢◌, ◌<◌, ◌≤◌, ◌+◌, ◌*◌, ◌-◌, ◌/◌, ◌%◌, ◌⊎◌, ℕ, zero, suc, Bool, true, false, List, [], ◌∷◌, Option, Some, None, length, take, slice_get, slice_set, refl, sym, ap, subst, ◌∙◌, inl, inr, arith, get_or-set_other, mul-le-mul_left, cond}
+use Rattle.std.proofs.lemmas.Bool.Decides.{nat_tests}
+use Rattle.fx_home.specs.Homes.{home_read, scb_read}
+use Rattle.fx_bitmap.specs.Bits.{bit_at}
+use Rattle.vol_parts.specs.Fatal.{is_system_header}
+use Rattle.std.specs.Prelude.{Ok, ◌↔◌, flat_map, sum_by}
+use Rattle.std.proofs.lemmas.Option.{slice_get_within}
+use Rattle.std.proofs.lemmas.List.Sums.{sum_by-cons}
+use Rattle.vol_words.specs.Fields.{Block}
+use Rattle.fx_header.specs.declared.run.Run.{Run}
+use Rattle.fx_header.specs.Pointers.{lbns_in}
+use Rattle.plain_cat.specs.declared.cat.Cat.{Cat}
+use Rattle.plain_cat.specs.declared.cat.Slot.{Slot}
+use Rattle.plain_vol.specs.Lookups.{clusters_in}
+use Rattle.vol_owners.specs.declared.owner.Owner.{Owner}
+use Rattle.vol_owners.specs.declared.owner.Owner.TheVariants.{InFile}
+use Rattle.vol_owners.specs.Lists.{Has, Once}
+use Rattle.vol_owners.specs.Owners.{Owners}
+use Rattle.vol_owners.proofs.Listing.{same_or_not}
+use Rattle.vol_owners.proofs.Writing.{get-set_else, get-set_here}
+use Rattle.vol_owners.proofs.Placing.{blocks_stay, has_ranged}
+use Rattle.vol_parts.specs.declared.geometry.Geometry.{Geometry}
+use Rattle.vol_parts.specs.declared.geometry.Part.{Part}
+use Rattle.vol_parts.specs.declared.geometry.Part.TheVariants.{Header, IndexBitmap, Storage, Quota}
+use Rattle.vol_parts.specs.Parts.{part_of, storage_blocks}
+use Rattle.vol_parts.specs.Volumes.{rows_in}
+use Rattle.vol_parts.specs.Catalogues.{is_structure}
+use Rattle.vol_spell.specs.Reading.{IsFileNumber, total_of, owner_at, header_place, header_block, body_places, body_blocks, runs_told, cluster_bit, number_bit, quota_places, rows_told, fields_told}
+use Rattle.vol_spell.specs.Places.{file_of_part}
+use Rattle.vol_spell.specs.Spelling.{Tells, IsStructure, HasStructures, Spells, IsHomeOf}
+use Rattle.vol_spell.specs.Bodies.{IsOfBody}
+use Rattle.vol_spell.proofs.Runs.{lbns_once}
+use Rattle.vol_spell.proofs.Parts.{low, told, in_file, home_owned, control_owned, part_owned, part_owner}
+
+structure_file : (p : Part) → is_structure (file_of_part p) ≡ true
+structure_file (Header n) = refl
+structure_file IndexBitmap = refl
+structure_file (Storage k) = refl
+structure_file (Quota k) = refl
+
+-- ---- one file
+
+-- a block that is set elsewhere leaves what the header of a number and its blocks tell
+pub file_stays : (g : Geometry) (own : Owners) (bs : List Block) (l : ℕ) (b : Block) (n : ℕ) (s : Slot) → header_place g n ≢ l → (Has (body_places n (header_block g bs n)) l → ⊥)
+    → Tells g own n (header_block g bs n) (body_blocks bs n (header_block g bs n)) s
+    → Tells g own n (header_block g (slice_set bs l b) n) (body_blocks (slice_set bs l b) n (header_block g (slice_set bs l b) n)) s
+file_stays g own bs l b n s other away t =
+    let h : header_block g (slice_set bs l b) n ≡ header_block g bs n = get_or-set_other bs l (header_place g n) b [] other in
+    let P : Block → Type 0 = λ x. Tells g own n x (body_blocks (slice_set bs l b) n x) s in
+    let R : List Block → Type 0 = λ xs. Tells g own n (header_block g bs n) xs s in
+    subst P (sym h) (subst R (sym (blocks_stay bs l b (body_places n (header_block g bs n)) away)) t)
+
+-- what a file tells stays where what it owns stays
+pub tells_on : (g : Geometry) (own new : Owners) (n : ℕ) (h : Block) (blocks : List Block) (s : Slot)
+    → ((q : ℕ) → (slice_get new.clusters q ≡ Some (InFile n)) ↔ (slice_get own.clusters q ≡ Some (InFile n)))
+    → ((slice_get new.numbers (n - 1) ≡ Some (InFile n)) ↔ (slice_get own.numbers (n - 1) ≡ Some (InFile n)))
+    → Tells g own n h blocks s → Tells g new n h blocks s
+tells_on g own new n h blocks s cs ns t = record {
+  reads = t.reads;
+  whole = t.whole;
+  once = t.once;
+  runs = λ q. ((λ u. (cs q).1 ((t.runs q).0 u)), (λ e. (t.runs q).1 ((cs q).0 e)));
+  used = ((λ u. ns.1 (t.used.0 u)), (λ e. t.used.1 (ns.0 e)));
+  dir = t.dir;
+  slot = t.slot;
+}
+
+structure_stays : (g : Geometry) (bs : List Block) (l : ℕ) (b : Block) (n : ℕ) (r : Run) → header_place g n ≢ l → IsStructure g bs n r → IsStructure g (slice_set bs l b) n r
+structure_stays g bs l b n r other st =
+    let h : header_block g (slice_set bs l b) n ≡ header_block g bs n = get_or-set_other bs l (header_place g n) b [] other in
+    let P : Block → Type 0 = λ x. is_system_header n (fields_told x) ≡ true in
+    let R : Block → Type 0 = λ x. runs_told x ≡ r ∷ [] in
+    record { header = subst P (sym h) st.header; run = subst R (sym h) st.run }
+
+pub structures_stay : (g : Geometry) (bs : List Block) (l : ℕ) (b : Block) → 1 ≢ l → g.bitmap_lbn ≢ l → ((n : ℕ) → is_structure n ≡ true → header_place g n ≢ l) → HasStructures g bs → HasStructures g (slice_set bs l b)
+structures_stay g bs l b home control headers st =
+    let P : Block → Type 0 = λ x. IsHomeOf g (home_read x) in
+    let R : Block → Type 0 = λ x. scb_read x ≡ Ok (record { cluster = g.cluster; blocks = g.blocks }) in
+    record {
+      home = subst P (sym (get_or-set_other bs l 1 b [] home)) st.home;
+      control = subst R (sym (get_or-set_other bs l g.bitmap_lbn b [] control)) st.control;
+      index = structure_stays g bs l b 1 _ (headers 1 refl) st.index;
+      bitmap = structure_stays g bs l b 2 _ (headers 2 refl) st.bitmap;
+      quota = structure_stays g bs l b 10 _ (headers 10 refl) st.quota;
+    }
+
+-- ---- owners and places
+
+-- places of different owners are not one
+pub apart_by : (g : Geometry) (own : Owners) (k l : ℕ) (o p : Owner) → owner_at g own k ≡ Some o → owner_at g own l ≡ Some p → o ≢ p → k ≢ l
+apart_by g own k l o p a b ne e =
+    let h : owner_at g own k ≡ owner_at g own l = ap (λ x. owner_at g own x) e in
+    ne (let f : Some o ≡ Some p = sym a ∙ h ∙ b in cc)
+
+module _ (g : Geometry) (bs : List Block) (own : Owners) (c : Cat) (s : Spells g bs own c) where
+  -- a place with an owner is on the volume
+  pub on_volume : (l : ℕ) (o : Owner) → owner_at g own l ≡ Some o → l < length bs
+  on_volume l o at =
+      let a : l / g.cluster < length own.clusters = slice_get_within own.clusters (l / g.cluster) o at in
+      let b = s.counts.clusters in
+      let e = s.counts.blocks in
+      let d = low g bs own c s in
+      within l g.cluster g.blocks (length own.clusters) (length bs) d a b e where
+        within : (l f k t n : ℕ) → 1 ≤ f → l / f < t → t ≡ k / f → n ≡ k → l < n
+        within l f k t n d a b e =
+            let h : l / f < k / f = omega arith in
+            let m : f * (l / f + 1) ≤ f * (k / f) = mul-le-mul_left f (omega arith) in
+            omega arith
+
+  -- a block of a file's slot lies in its clusters
+  pub body_owned : (n l : ℕ) → IsFileNumber g n → Has (body_places n (header_block g bs n)) l → (is_structure n ≡ false) × (owner_at g own l ≡ Some (InFile n))
+  body_owned n l is t = by_kind (is_structure n) refl where
+    by_kind : (k : Bool) → is_structure n ≡ k → (is_structure n ≡ false) × (owner_at g own l ≡ Some (InFile n))
+    by_kind true e = let R : Bool → Type 0 = λ x. Has (cond x [] (lbns_in (runs_told (header_block g bs n)))) l in absurd (subst R e t)
+    by_kind false e = let R : Bool → Type 0 = λ x. Has (cond x [] (lbns_in (runs_told (header_block g bs n)))) l in (e, in_file g bs own c s n l is (subst R e t))
+
+  -- and is no part of the volume
+  pub body_no_part : (n l : ℕ) (p : Part) → IsFileNumber g n → Has (body_places n (header_block g bs n)) l → part_of g l ≢ Some p
+  body_no_part n l p is t at =
+      let o = body_owned n l is t in
+      let e : file_of_part p ≡ n = (let h : Some (InFile (file_of_part p)) ≡ Some (InFile n) = sym (part_owner g bs own c s l p at) ∙ o.1 in cc) in
+      let f : true ≡ false = sym (structure_file p) ∙ ap is_structure e ∙ o.0 in
+      absurd (cc)
+
+  pub body_once : (n : ℕ) → IsFileNumber g n → Once (body_places n (header_block g bs n))
+  body_once n is = by_kind (is_structure n) where
+    by_kind : (k : Bool) → Once {A = ℕ} (cond k [] (lbns_in (runs_told (header_block g bs n))))
+    by_kind true = tt
+    by_kind false = let t = told g bs own c s n is in lbns_once g (header_block g bs n) (low g bs own c s) t.whole t.once
+
+  pub of_body : (n l : ℕ) → IsFileNumber g n → Has (body_places n (header_block g bs n)) l → IsOfBody g bs own n l
+  of_body n l is t =
+      let o = body_owned n l is t in
+      record {
+        plain = o.0;
+        owned = o.1;
+        no_part = clear (part_of g l) (λ p. body_no_part n l p is t);
+        within = on_volume l (InFile n) o.1;
+      } where
+        clear : (x : Option Part) → ((p : Part) → x ≢ Some p) → x ≡ None
+        clear None h = refl
+        clear (Some p) h = absurd (h p refl)
+
+  -- ---- what a write to a place of another owner leaves
+
+  -- the bits of clusters, where the place is not file 2's
+  pub cluster_bits_stay : (l : ℕ) (b : Block) (o : Owner) → owner_at g own l ≡ Some o → InFile 2 ≢ o → (q : ℕ) → q < total_of g → cluster_bit g (slice_set bs l b) q ≡ cluster_bit g bs q
+  cluster_bits_stay l b o at ne q lt =
+      let k : q / 4096 < storage_blocks (total_of g) = omega arith in
+      let other : g.bitmap_lbn + 1 + q / 4096 ≢ l = apart_by g own (g.bitmap_lbn + 1 + q / 4096) l (InFile 2) o (part_owned g bs own c s (Storage (q / 4096)) k) at ne in
+      ap (λ x. bit_at x (q % 4096)) (get_or-set_other bs l (g.bitmap_lbn + 1 + q / 4096) b [] other)
+
+  -- the rows, where the place is not file 10's
+  pub rows_stay : (l : ℕ) (b : Block) (o : Owner) → owner_at g own l ≡ Some o → InFile 10 ≢ o → rows_told g (slice_set bs l b) ≡ rows_told g bs
+  rows_stay l b o at ne = ap (λ xs. flat_map rows_in xs) (blocks_stay bs l b (quota_places g) away) where
+    away : Has (quota_places g) l → ⊥
+    away t =
+        let h = has_ranged g.quota_lbn g.cluster l t in
+        let lo : g.quota_lbn ≤ l = h.0 in
+        let hi : l < g.quota_lbn + g.cluster = h.1 in
+        let e : g.quota_lbn + (l - g.quota_lbn) ≡ l = omega arith in
+        let lt : l - g.quota_lbn < g.cluster = omega arith in
+        apart_by g own (g.quota_lbn + (l - g.quota_lbn)) l (InFile 10) o (part_owned g bs own c s (Quota (l - g.quota_lbn)) lt) at ne e
+
+  -- headers and the bits of numbers, where the place is not file 1's
+  pub header_apart : (l : ℕ) (o : Owner) → owner_at g own l ≡ Some o → InFile 1 ≢ o → (n : ℕ) → IsFileNumber g n → header_place g n ≢ l
+  header_apart l o at ne n is = apart_by g own (header_place g n) l (InFile 1) o (part_owned g bs own c s (Header n) is) at ne
+
+  pub index_apart : (l : ℕ) (o : Owner) → owner_at g own l ≡ Some o → InFile 1 ≢ o → 4 * g.cluster ≢ l
+  index_apart l o at ne = apart_by g own (4 * g.cluster) l (InFile 1) o (part_owned g bs own c s IndexBitmap tt) at ne
+
+  pub home_apart : (l : ℕ) (o : Owner) → owner_at g own l ≡ Some o → InFile 1 ≢ o → 1 ≢ l
+  home_apart l o at ne = apart_by g own 1 l (InFile 1) o (home_owned g bs own c s) at ne
+
+  pub control_apart : (l : ℕ) (o : Owner) → owner_at g own l ≡ Some o → InFile 2 ≢ o → g.bitmap_lbn ≢ l
+  control_apart l o at ne = apart_by g own g.bitmap_lbn l (InFile 2) o (control_owned g bs own c s) at ne
+
+  -- a file that holds parts has a number
+  pub structure_number : (n : ℕ) → is_structure n ≡ true → IsFileNumber g n
+  structure_number n e =
+      let f = s.counts.geometry.files_from in
+      record { from = grind (arith, nat_tests); to = (let h : n ≤ 10 = grind (arith, nat_tests) in omega arith) }
+
+  pub away_by : (n l : ℕ) (o : Owner) → IsFileNumber g n → owner_at g own l ≡ Some o → (is_structure n ≡ false → InFile n ≢ o) → Has (body_places n (header_block g bs n)) l → ⊥
+  away_by n l o is at ne t =
+      let h = body_owned n l is t in
+      ne h.0 (let f : Some (InFile n) ≡ Some o = sym h.1 ∙ at in cc)
+
+pub number_bits_stay : (g : Geometry) (bs : List Block) (l : ℕ) (b : Block) (n : ℕ) → 4 * g.cluster ≢ l → number_bit g (slice_set bs l b) n ≡ number_bit g bs n
+number_bits_stay g bs l b n other = ap (λ x. bit_at x (n - 1)) (get_or-set_other bs l (4 * g.cluster) b [] other)
+
+-- an item of a list after a set: the one there, or an old one
+pub set_case : {A : Type 0} (xs : List A) (i j : ℕ) (x y : A) → i < length xs → slice_get (slice_set xs i x) j ≡ Some y → ((i ≡ j) × (x ≡ y)) ⊎ ((i ≢ j) × (slice_get xs j ≡ Some y))
+set_case xs i j x y lt at = elim (same_or_not i j) [
+  | inl e ↦ inl (e, let h : Some x ≡ Some y = sym (get-set_here xs i x lt) ∙ ap (λ k. slice_get (slice_set xs i x) k) e ∙ at in cc)
+  | inr ne ↦ inr (ne, sym (get-set_else xs i j x ne) ∙ at)
+]
+
+-- the first k of a list have the same clusters after one is set that has as many, or that is behind them
+pub reserved_stays : (k : ℕ) (xs : List Slot) (i : ℕ) (x : Slot) → ((old : Slot) → i < k → slice_get xs i ≡ Some old → clusters_in x ≡ clusters_in old) → sum_by clusters_in (take k (slice_set xs i x)) ≡ sum_by clusters_in (take k xs)
+reserved_stays zero xs i x same = refl
+reserved_stays (suc k) [] i x same = refl
+reserved_stays (suc k) (y ∷ xs) zero x same =
+    let e : clusters_in x ≡ clusters_in y = same y (omega arith) refl in
+    sum_by-cons clusters_in x (take k xs) ∙ ap (λ z. z + sum_by clusters_in (take k xs)) e ∙ sym (sum_by-cons clusters_in y (take k xs))
+reserved_stays (suc k) (y ∷ xs) (suc i) x same =
+    let e = reserved_stays k xs i x (λ old lt at. same old (omega arith) at) in
+    sum_by-cons clusters_in y (take k (slice_set xs i x)) ∙ ap (λ z. clusters_in y + z) e ∙ sym (sum_by-cons clusters_in y (take k xs))

@@ -1,0 +1,406 @@
+-- The kinds of writes.
+use Rattle.std.proofs.Common.{◌≡◌, ◌≢◌, ◌<◌, ◌+◌, ◌*◌, ◌-◌, ◌/◌, ◌⊎◌, ℕ, Bool, true, false, List, [], Option, Some, length, map, slice_get, slice_set, refl, sym, ap, subst, ◌∙◌, inl, inr, arith, length-set, get_or-set_other, cond}
+use Rattle.std.specs.Prelude.{◌↔◌, ◌==◌, count_by, Result, Ok, Err}
+use Rattle.vol_words.specs.Fields.{Block}
+use Rattle.fx_header.specs.declared.slot.Slot.{Slot as Head}
+use Rattle.fx_header.specs.declared.slot.Slot.TheVariants as head
+use Rattle.fx_header.specs.declared.slot.HeaderFault.{HeaderFault}
+use Rattle.fx_header.specs.Headers.{header_read}
+use Rattle.fx_header.specs.Pointers.{lbns_in}
+use Rattle.fx_quota.specs.declared.types.Row.{Row}
+use Rattle.plain_cat.specs.declared.cat.Cat.{Cat}
+use Rattle.plain_cat.specs.declared.cat.Slot.{Slot}
+use Rattle.plain_vol.specs.Lookups.{clusters_in}
+use Rattle.plain_vol.specs.Changes.{with_slot}
+use Rattle.vol_owners.specs.declared.owner.Owner.{Owner}
+use Rattle.vol_owners.specs.declared.owner.Owner.TheVariants.{Free, InFile, Outside, Leaked}
+use Rattle.vol_owners.specs.Lists.{Has, Once}
+use Rattle.vol_owners.specs.Owners.{Owners, Moves, OwnersMove, IsFileMove, IsSpaceMove, IsDeathMove}
+use Rattle.vol_owners.specs.Counts.{is_same_owner}
+use Rattle.vol_owners.proofs.Moving.{owner_stays}
+use Rattle.vol_owners.proofs.Listing.{has_at, same_or_not}
+use Rattle.vol_owners.proofs.Placing.{blocks_stay, blocks_set, index-set_here}
+use Rattle.vol_parts.specs.declared.geometry.Geometry.{Geometry}
+use Rattle.vol_parts.specs.declared.geometry.Part.TheVariants.{Header, IndexBitmap, Storage, Quota}
+use Rattle.vol_parts.specs.Parts.{part_of}
+use Rattle.vol_parts.specs.Catalogues.{is_structure, slot_with, rows_sorted}
+use Rattle.vol_spell.specs.Reading.{IsFileNumber, total_of, owner_at, header_place, header_block, body_places, body_blocks, runs_told, cluster_bit, number_bit, rows_told}
+use Rattle.vol_spell.specs.Spelling.{Tells, Spells}
+use Rattle.vol_spell.specs.Kinds.{OutsideWrite, QuotaWrite, with_rows, StorageWrite, IndexWrite, IsHeaderFor, HeaderWrite, IsBodyFor, BodyWrite, with_leaks, DeathLeaks}
+use Rattle.vol_spell.proofs.Runs.{has_cluster}
+use Rattle.vol_spell.proofs.Parts.{differ, low, told, part_owned, part_owner, part_only}
+use Rattle.vol_spell.proofs.Frames.{file_stays, tells_on, structures_stay, on_volume, body_owned, body_once, cluster_bits_stay, rows_stay, header_apart, index_apart, home_apart, control_apart, structure_number, away_by, number_bits_stay, set_case, reserved_stays}
+use Rattle.vol_spell.proofs.Leaks.{leaks_stay, leak_flags_stay}
+
+-- what one test says, another says that is the same
+same_bit : (v a b : Bool) (A : Type 0) → b ≡ a → ((a ≡ v) ↔ A) → ((b ≡ v) ↔ A)
+same_bit v a b A e h = ((λ t. h.0 (sym e ∙ t)), (λ x. e ∙ h.1 x))
+
+iff : {A B C : Type 0} → (A ↔ B) → (C ↔ B) → (A ↔ C)
+iff x y = ((λ a. y.1 (x.0 a)), (λ c. x.1 (y.0 c)))
+
+-- a file that holds parts is no other one
+not_structure : (k n : ℕ) → is_structure k ≡ true → is_structure n ≡ false → k ≢ n
+not_structure k n a b e = let f : true ≡ false = sym a ∙ ap is_structure e ∙ b in absurd (cc)
+
+other_file : (k n : ℕ) → is_structure k ≡ true → is_structure n ≡ false → InFile n ≢ InFile k
+other_file k n a b e = not_structure k n a b (let f : n ≡ k = cc in sym f)
+
+two_files : (a b : ℕ) → (a == b) ≡ false → InFile a ≢ InFile b
+two_files a b t e = differ a b t (let f : a ≡ b = cc in f)
+
+-- a file that has a cluster after a move had one before, or may have one
+known_stays : (g : Geometry) (P : Option Owner → Type 0) (xs ys : List Owner) → Moves P xs ys → ((n : ℕ) → P (Some (InFile n)) → IsFileNumber g n) → ((q n : ℕ) → slice_get xs q ≡ Some (InFile n) → IsFileNumber g n)
+    → (q n : ℕ) → slice_get ys q ≡ Some (InFile n) → IsFileNumber g n
+known_stays g P xs ys moves may old q n e = elim (moves.each q) [ inl same ↦ old q n (sym same ∙ e) | inr m ↦ may n (subst P e m.1) ]
+
+module _ (g : Geometry) (bs : List Block) (own : Owners) (c : Cat) (s : Spells g bs own c) where
+  -- ---- a block in a file's body, or outside: all but the one file stays
+
+  pub outside_write_lem : (node l : ℕ) (b : Block) → owner_at g own l ≡ Some (Outside node) → Spells g (slice_set bs l b) own c
+  outside_write_lem node l b at =
+      let rows : rows_told g (slice_set bs l b) ≡ rows_told g bs = rows_stay g bs own c s l b (Outside node) at (λ e. absurd (cc)) in
+      let P : List Row → Type 0 = λ rs. Once (map (λ r. r.uic) rs) in
+      record {
+        counts = record {
+          geometry = s.counts.geometry;
+          blocks = length-set bs l b ∙ s.counts.blocks;
+          clusters = s.counts.clusters;
+          numbers = s.counts.numbers;
+          slots = s.counts.slots;
+        };
+        structures = structures_stay g bs l b (home_apart g bs own c s l (Outside node) at (λ e. absurd (cc))) (control_apart g bs own c s l (Outside node) at (λ e. absurd (cc)))
+            (λ n st. header_apart g bs own c s l (Outside node) at (λ e. absurd (cc)) n (structure_number g bs own c s n st)) s.structures;
+        constants = s.constants;
+        files = λ n x is h. file_stays g own bs l b n x (header_apart g bs own c s l (Outside node) at (λ e. absurd (cc)) n is)
+            (away_by g bs own c s n l (Outside node) is at (λ p e. absurd (cc))) (s.files n x is h);
+        rows = record {
+          quota = s.rows.quota ∙ ap rows_sorted (sym rows);
+          once = subst P (sym rows) s.rows.once;
+        };
+        owners = record {
+          cluster_bits = λ q lt. same_bit true _ _ _ (cluster_bits_stay g bs own c s l b (Outside node) at (λ e. absurd (cc)) q lt) (s.owners.cluster_bits q lt);
+          number_bits = λ n is. same_bit false _ _ _ (number_bits_stay g bs l b n (index_apart g bs own c s l (Outside node) at (λ e. absurd (cc)))) (s.owners.number_bits n is);
+          known = s.owners.known;
+          known_numbers = s.owners.known_numbers;
+          leaked = s.owners.leaked;
+          leaked_numbers = s.owners.leaked_numbers;
+        };
+      }
+
+  pub quota_write_lem : (k l : ℕ) (b : Block) → part_of g l ≡ Some (Quota k) → Once (map (λ r. r.uic) (rows_told g (slice_set bs l b))) → Spells g (slice_set bs l b) own (with_rows g (slice_set bs l b) c)
+  quota_write_lem k l b part once =
+      let at : owner_at g own l ≡ Some (InFile 10) = part_owner g bs own c s l (Quota k) part in
+      let one : InFile 1 ≢ InFile 10 = two_files 1 10 refl in
+      let two : InFile 2 ≢ InFile 10 = two_files 2 10 refl in
+      record {
+        counts = record {
+          geometry = s.counts.geometry;
+          blocks = length-set bs l b ∙ s.counts.blocks;
+          clusters = s.counts.clusters;
+          numbers = s.counts.numbers;
+          slots = s.counts.slots;
+        };
+        structures = structures_stay g bs l b (home_apart g bs own c s l (InFile 10) at one) (control_apart g bs own c s l (InFile 10) at two)
+            (λ n st. header_apart g bs own c s l (InFile 10) at one n (structure_number g bs own c s n st)) s.structures;
+        constants = record { factor = s.constants.factor; total = s.constants.total; reserved = s.constants.reserved; rows = s.constants.rows };
+        files = λ n x is h. file_stays g own bs l b n x (header_apart g bs own c s l (InFile 10) at one n is)
+            (away_by g bs own c s n l (InFile 10) is at (λ p. other_file 10 n refl p)) (s.files n x is h);
+        rows = record {
+          quota = refl;
+          once = once;
+        };
+        owners = record {
+          cluster_bits = λ q lt. same_bit true _ _ _ (cluster_bits_stay g bs own c s l b (InFile 10) at two q lt) (s.owners.cluster_bits q lt);
+          number_bits = λ n is. same_bit false _ _ _ (number_bits_stay g bs l b n (index_apart g bs own c s l (InFile 10) at one)) (s.owners.number_bits n is);
+          known = s.owners.known;
+          known_numbers = s.owners.known_numbers;
+          leaked = s.owners.leaked;
+          leaked_numbers = s.owners.leaked_numbers;
+        };
+      }
+
+  -- ---- the bitmaps: what is free or outside at the node moves
+
+  pub storage_write_lem : (new : Owners) (node k l : ℕ) (b : Block) → part_of g l ≡ Some (Storage k) → Moves (IsSpaceMove node) own.clusters new.clusters → new.numbers ≡ own.numbers
+      → ((q : ℕ) → q < total_of g → (cluster_bit g (slice_set bs l b) q ≡ true) ↔ (slice_get new.clusters q ≡ Some Free)) → Spells g (slice_set bs l b) new c
+  storage_write_lem new node k l b part moves same bits =
+      let at : owner_at g own l ≡ Some (InFile 2) = part_owner g bs own c s l (Storage k) part in
+      let place : g.bitmap_lbn + 1 + k ≡ l = (part_only g bs own c s l (Storage k) part).1 in
+      let one : InFile 1 ≢ InFile 2 = two_files 1 2 refl in
+      let ten : InFile 10 ≢ InFile 2 = two_files 10 2 refl in
+      let rows : rows_told g (slice_set bs l b) ≡ rows_told g bs = rows_stay g bs own c s l b (InFile 2) at ten in
+      let P : List Row → Type 0 = λ rs. Once (map (λ r. r.uic) rs) in
+      record {
+        counts = record {
+          geometry = s.counts.geometry;
+          blocks = length-set bs l b ∙ s.counts.blocks;
+          clusters = moves.count ∙ s.counts.clusters;
+          numbers = ap (λ xs. length xs) same ∙ s.counts.numbers;
+          slots = s.counts.slots;
+        };
+        structures = structures_stay g bs l b (home_apart g bs own c s l (InFile 2) at one) (let ne : g.bitmap_lbn ≢ l = omega arith in ne)
+            (λ n st. header_apart g bs own c s l (InFile 2) at one n (structure_number g bs own c s n st)) s.structures;
+        constants = s.constants;
+        files = λ n x is h. tells_on g own new n _ _ x (owner_stays (IsSpaceMove node) own.clusters new.clusters (Some (InFile n)) moves (λ f. f)) (numbers_same new n same)
+            (file_stays g own bs l b n x (header_apart g bs own c s l (InFile 2) at one n is) (away_by g bs own c s n l (InFile 2) is at (λ p. other_file 2 n refl p)) (s.files n x is h));
+        rows = record {
+          quota = s.rows.quota ∙ ap rows_sorted (sym rows);
+          once = subst P (sym rows) s.rows.once;
+        };
+        owners = record {
+          cluster_bits = bits;
+          number_bits = λ n is. iff (same_bit false _ _ _ (number_bits_stay g bs l b n (index_apart g bs own c s l (InFile 2) at one)) (s.owners.number_bits n is)) (number_same new (n - 1) Free same);
+          known = known_stays g (IsSpaceMove node) own.clusters new.clusters moves (λ n f. absurd f) s.owners.known;
+          known_numbers = λ i n e. s.owners.known_numbers i n ((number_same new i (InFile n) same).0 e);
+          leaked = s.owners.leaked ∙ sym (leaks_stay (IsSpaceMove node) own.clusters new.clusters (λ f. f) moves);
+          leaked_numbers = s.owners.leaked_numbers ∙ ap (λ xs. map (is_same_owner Leaked) xs) (sym same);
+        };
+      } where
+        number_same : (new : Owners) (i : ℕ) (o : Owner) → new.numbers ≡ own.numbers → (slice_get new.numbers i ≡ Some o) ↔ (slice_get own.numbers i ≡ Some o)
+        number_same new i o e = let h : slice_get new.numbers i ≡ slice_get own.numbers i = ap (λ xs. slice_get xs i) e in ((λ t. sym h ∙ t), (λ t. h ∙ t))
+
+        numbers_same : (new : Owners) (n : ℕ) → new.numbers ≡ own.numbers → (slice_get new.numbers (n - 1) ≡ Some (InFile n)) ↔ (slice_get own.numbers (n - 1) ≡ Some (InFile n))
+        numbers_same new n e = number_same new (n - 1) (InFile n) e
+
+  pub index_write_lem : (new : Owners) (node l : ℕ) (b : Block) → part_of g l ≡ Some IndexBitmap → new.clusters ≡ own.clusters → Moves (IsSpaceMove node) own.numbers new.numbers
+      → ((n : ℕ) → IsFileNumber g n → (number_bit g (slice_set bs l b) n ≡ false) ↔ (slice_get new.numbers (n - 1) ≡ Some Free)) → Spells g (slice_set bs l b) new c
+  index_write_lem new node l b part same moves bits =
+      let at : owner_at g own l ≡ Some (InFile 1) = part_owner g bs own c s l IndexBitmap part in
+      let place : 4 * g.cluster ≡ l = (part_only g bs own c s l IndexBitmap part).1 in
+      let one = low g bs own c s in
+      let two : InFile 2 ≢ InFile 1 = two_files 2 1 refl in
+      let ten : InFile 10 ≢ InFile 1 = two_files 10 1 refl in
+      let rows : rows_told g (slice_set bs l b) ≡ rows_told g bs = rows_stay g bs own c s l b (InFile 1) at ten in
+      let P : List Row → Type 0 = λ rs. Once (map (λ r. r.uic) rs) in
+      let other : (n : ℕ) → IsFileNumber g n → header_place g n ≢ l = λ n is. let a = is.from in omega arith in
+      record {
+        counts = record {
+          geometry = s.counts.geometry;
+          blocks = length-set bs l b ∙ s.counts.blocks;
+          clusters = ap (λ xs. length xs) same ∙ s.counts.clusters;
+          numbers = moves.count ∙ s.counts.numbers;
+          slots = s.counts.slots;
+        };
+        structures = structures_stay g bs l b (let ne : 1 ≢ l = omega arith in ne) (control_apart g bs own c s l (InFile 1) at two)
+            (λ n st. other n (structure_number g bs own c s n st)) s.structures;
+        constants = s.constants;
+        files = λ n x is h. tells_on g own new n _ _ x (λ q. cluster_same new q (InFile n) same) (owner_stays (IsSpaceMove node) own.numbers new.numbers (Some (InFile n)) moves (λ f. f) (n - 1))
+            (file_stays g own bs l b n x (other n is) (away_by g bs own c s n l (InFile 1) is at (λ p. other_file 1 n refl p)) (s.files n x is h));
+        rows = record {
+          quota = s.rows.quota ∙ ap rows_sorted (sym rows);
+          once = subst P (sym rows) s.rows.once;
+        };
+        owners = record {
+          cluster_bits = λ q lt. iff (same_bit true _ _ _ (cluster_bits_stay g bs own c s l b (InFile 1) at two q lt) (s.owners.cluster_bits q lt)) (cluster_same new q Free same);
+          number_bits = bits;
+          known = λ q n e. s.owners.known q n ((cluster_same new q (InFile n) same).0 e);
+          known_numbers = λ i n e. s.owners.known_numbers i n ((owner_stays (IsSpaceMove node) own.numbers new.numbers (Some (InFile n)) moves (λ f. f) i).0 e);
+          leaked = s.owners.leaked ∙ ap (λ xs. count_by (is_same_owner Leaked) xs) (sym same);
+          leaked_numbers = s.owners.leaked_numbers ∙ sym (leak_flags_stay (IsSpaceMove node) own.numbers new.numbers (λ f. f) moves);
+        };
+      } where
+        cluster_same : (new : Owners) (i : ℕ) (o : Owner) → new.clusters ≡ own.clusters → (slice_get new.clusters i ≡ Some o) ↔ (slice_get own.clusters i ≡ Some o)
+        cluster_same new i o e = let h : slice_get new.clusters i ≡ slice_get own.clusters i = ap (λ xs. slice_get xs i) e in ((λ t. sym h ∙ t), (λ t. h ∙ t))
+
+  -- ---- a header
+
+  -- the blocks that a new header names are apart from the header's own place
+  pub new_body_away : (new : Owners) (node n l : ℕ) (b : Block) (x : Slot) → IsHeaderFor g bs node n own new c b x → owner_at g own l ≡ Some (InFile 1) → Has (body_places n b) l → ⊥
+  new_body_away new node n l b x h at t =
+      let R : Bool → Type 0 = λ k. Has (cond k [] (lbns_in (runs_told b))) l in
+      let u : Has (lbns_in (runs_told b)) l = subst R h.plain t in
+      let mine : owner_at g new l ≡ Some (InFile n) = (h.tells.runs (l / g.cluster)).0 (has_cluster g b l (low g bs own c s) h.tells.whole u) in
+      let ne : 1 ≢ n = not_structure 1 n refl h.plain in
+      let kept : owner_at g new l ≡ Some (InFile 1) = (owner_stays (IsFileMove node n) own.clusters new.clusters (Some (InFile 1)) h.moves.clusters (λ e. ne e) (l / g.cluster)).1 at in
+      ne (let f : Some (InFile 1) ≡ Some (InFile n) = sym kept ∙ mine in cc)
+
+  pub header_write_lem : (new : Owners) (node n : ℕ) (b : Block) (x : Slot) → IsHeaderFor g bs node n own new c b x → Spells g (slice_set bs (header_place g n) b) new (with_slot c n x)
+  header_write_lem new node n b x h =
+      let l = header_place g n in
+      let at : owner_at g own (header_place g n) ≡ Some (InFile 1) = part_owned g bs own c s (Header n) h.number in
+      let lo = h.number.from in
+      let hi = h.number.to in
+      let len : header_place g n < length bs = on_volume g bs own c s (header_place g n) (InFile 1) at in
+      let here : header_block g (slice_set bs (header_place g n) b) n ≡ b = index-set_here bs (header_place g n) b len in
+      let low = low g bs own c s in
+      let two : InFile 2 ≢ InFile 1 = two_files 2 1 refl in
+      let ten : InFile 10 ≢ InFile 1 = two_files 10 1 refl in
+      let rows : rows_told g (slice_set bs l b) ≡ rows_told g bs = rows_stay g bs own c s l b (InFile 1) at ten in
+      let P : List Row → Type 0 = λ rs. Once (map (λ r. r.uic) rs) in
+      let inside : n - 1 < length c.files = (let e = s.counts.slots in omega arith) in
+      record {
+        counts = record {
+          geometry = s.counts.geometry;
+          blocks = length-set bs l b ∙ s.counts.blocks;
+          clusters = h.moves.clusters.count ∙ s.counts.clusters;
+          numbers = h.moves.numbers.count ∙ s.counts.numbers;
+          slots = length-set c.files (n - 1) x ∙ s.counts.slots;
+        };
+        structures = structures_stay g bs l b (let ne : 1 ≢ header_place g n = omega arith in ne) (control_apart g bs own c s l (InFile 1) at two)
+            (λ m st. let ne = not_structure m n st h.plain in let f : header_place g m ≢ header_place g n = λ e. ne (omega arith) in f) s.structures;
+        constants = record {
+          factor = s.constants.factor;
+          total = s.constants.total;
+          reserved = s.constants.reserved ∙ sym (reserved_stays 11 c.files (n - 1) x (λ old lt e. h.reserved old (omega arith) e));
+          rows = s.constants.rows;
+        };
+        files = λ m y is e. elim (set_case c.files (n - 1) (m - 1) x y inside e) [
+          | inl same ↦ written m y here at (let f = same.0 in let a = is.from in let k : n ≡ m = omega arith in k) same.1
+          | inr other ↦ (let f = other.0 in let ne : n ≢ m = (λ k. f (ap (λ z. z - 1) k)) in
+              tells_on g own new m _ _ y (owner_stays (IsFileMove node n) own.clusters new.clusters (Some (InFile m)) h.moves.clusters (λ k. ne (sym k)))
+              (owner_stays (IsFileMove node n) own.numbers new.numbers (Some (InFile m)) h.moves.numbers (λ k. ne (sym k)) (m - 1))
+              (file_stays g own bs l b m y (let d : header_place g m ≢ header_place g n = λ k. ne (omega arith) in d) (away_by g bs own c s m l (InFile 1) is at (λ p. other_file 1 m refl p)) (s.files m y is other.1)))
+        ];
+        rows = record {
+          quota = s.rows.quota ∙ ap rows_sorted (sym rows);
+          once = subst P (sym rows) s.rows.once;
+        };
+        owners = record {
+          cluster_bits = λ q lt. iff (same_bit true _ _ _ (cluster_bits_stay g bs own c s l b (InFile 1) at two q lt) (s.owners.cluster_bits q lt)) (owner_stays (IsFileMove node n) own.clusters new.clusters (Some Free) h.moves.clusters (λ f. f) q);
+          number_bits = λ m is. iff (same_bit false _ _ _ (number_bits_stay g bs l b m (let ne : 4 * g.cluster ≢ header_place g n = omega arith in ne)) (s.owners.number_bits m is))
+              (owner_stays (IsFileMove node n) own.numbers new.numbers (Some Free) h.moves.numbers (λ f. f) (m - 1));
+          known = known_stays g (IsFileMove node n) own.clusters new.clusters h.moves.clusters (λ m e. subst (λ (k : ℕ). IsFileNumber g k) (sym e) h.number) s.owners.known;
+          known_numbers = λ i m e. by_number i m (same_or_not m n) e;
+          leaked = s.owners.leaked ∙ sym (leaks_stay (IsFileMove node n) own.clusters new.clusters (λ f. f) h.moves.clusters);
+          leaked_numbers = s.owners.leaked_numbers ∙ sym (leak_flags_stay (IsFileMove node n) own.numbers new.numbers (λ f. f) h.moves.numbers);
+        };
+      } where
+        written : (m : ℕ) (y : Slot) → header_block g (slice_set bs (header_place g n) b) n ≡ b → owner_at g own (header_place g n) ≡ Some (InFile 1) → n ≡ m → x ≡ y
+            → Tells g new m (header_block g (slice_set bs (header_place g n) b) m) (body_blocks (slice_set bs (header_place g n) b) m (header_block g (slice_set bs (header_place g n) b) m)) y
+        written m y here at e f =
+            let bs' = slice_set bs (header_place g n) b in
+            let P : ℕ → Type 0 = λ k. Tells g new k (header_block g (slice_set bs (header_place g n) b) k) (body_blocks (slice_set bs (header_place g n) b) k (header_block g (slice_set bs (header_place g n) b) k)) y in
+            let Q : Slot → Type 0 = λ z. Tells g new n (header_block g (slice_set bs (header_place g n) b) n) (body_blocks (slice_set bs (header_place g n) b) n (header_block g (slice_set bs (header_place g n) b) n)) z in
+            let H : Block → Type 0 = λ z. Tells g new n z (body_blocks (slice_set bs (header_place g n) b) n z) x in
+            let B : List Block → Type 0 = λ zs. Tells g new n b zs x in
+            subst P e (subst Q f (subst H (sym here) (subst B (sym (blocks_stay bs (header_place g n) b (body_places n b) (new_body_away new node n (header_place g n) b x h at))) h.tells)))
+
+        by_number : (i m : ℕ) → (m ≡ n) ⊎ (m ≢ n) → slice_get new.numbers i ≡ Some (InFile m) → m ≡ i + 1
+        by_number i m (inl e) at = e ∙ h.named i (at ∙ ap (λ k. Some (InFile k)) e)
+        by_number i m (inr ne) at = s.owners.known_numbers i m ((owner_stays (IsFileMove node n) own.numbers new.numbers (Some (InFile m)) h.moves.numbers (λ k. ne k) i).0 at)
+
+  -- ---- a block of a file
+
+  -- a slot's clusters are told by the header alone
+  same_clusters : (factor n : ℕ) (r : Result Head HeaderFault) (xs ys : List Block) → clusters_in (slot_with factor n r xs) ≡ clusters_in (slot_with factor n r ys)
+  same_clusters factor n (Ok (head.Used f)) xs ys = refl
+  same_clusters factor n (Ok (head.Free seq)) xs ys = refl
+  same_clusters factor n (Err fault) xs ys = refl
+
+  pub body_write_lem : (n v l : ℕ) (b : Block) (x : Slot) → IsBodyFor g bs n v l b x → Spells g (slice_set bs l b) own (with_slot c n x)
+  body_write_lem n v l b x h =
+      let lo = h.number.from in
+      let hi = h.number.to in
+      let has : Has (body_places n (header_block g bs n)) l = has_at (body_places n (header_block g bs n)) v l h.place in
+      let mine = body_owned g bs own c s n l h.number has in
+      let at : owner_at g own l ≡ Some (InFile n) = mine.1 in
+      let len : l < length bs = on_volume g bs own c s l (InFile n) at in
+      let one : InFile 1 ≢ InFile n = (λ e. other_file 1 n refl mine.0 (sym e)) in
+      let two : InFile 2 ≢ InFile n = (λ e. other_file 2 n refl mine.0 (sym e)) in
+      let ten : InFile 10 ≢ InFile n = (λ e. other_file 10 n refl mine.0 (sym e)) in
+      let rows : rows_told g (slice_set bs l b) ≡ rows_told g bs = rows_stay g bs own c s l b (InFile n) at ten in
+      let P : List Row → Type 0 = λ rs. Once (map (λ r. r.uic) rs) in
+      let inside : n - 1 < length c.files = (let e = s.counts.slots in omega arith) in
+      record {
+        counts = record {
+          geometry = s.counts.geometry;
+          blocks = length-set bs l b ∙ s.counts.blocks;
+          clusters = s.counts.clusters;
+          numbers = s.counts.numbers;
+          slots = length-set c.files (n - 1) x ∙ s.counts.slots;
+        };
+        structures = structures_stay g bs l b (home_apart g bs own c s l (InFile n) at one) (control_apart g bs own c s l (InFile n) at two)
+            (λ m st. header_apart g bs own c s l (InFile n) at one m (structure_number g bs own c s m st)) s.structures;
+        constants = record {
+          factor = s.constants.factor;
+          total = s.constants.total;
+          reserved = s.constants.reserved ∙ sym (reserved_stays 11 c.files (n - 1) x (λ old lt e. kept old e));
+          rows = s.constants.rows;
+        };
+        files = λ m y is e. elim (set_case c.files (n - 1) (m - 1) x y inside e) [
+          | inl same ↦ written m y (header_apart g bs own c s l (InFile n) at one n h.number) len (let f = same.0 in let a = is.from in let k : n ≡ m = omega arith in k) same.1
+          | inr other ↦ (let f = other.0 in let ne : n ≢ m = (λ k. f (ap (λ z. z - 1) k)) in
+              file_stays g own bs l b m y (header_apart g bs own c s l (InFile n) at one m is) (away_by g bs own c s m l (InFile n) is at (λ p e. ne (let k : m ≡ n = cc in sym k))) (s.files m y is other.1))
+        ];
+        rows = record {
+          quota = s.rows.quota ∙ ap rows_sorted (sym rows);
+          once = subst P (sym rows) s.rows.once;
+        };
+        owners = record {
+          cluster_bits = λ q lt. same_bit true _ _ _ (cluster_bits_stay g bs own c s l b (InFile n) at two q lt) (s.owners.cluster_bits q lt);
+          number_bits = λ m is. same_bit false _ _ _ (number_bits_stay g bs l b m (index_apart g bs own c s l (InFile n) at one)) (s.owners.number_bits m is);
+          known = s.owners.known;
+          known_numbers = s.owners.known_numbers;
+          leaked = s.owners.leaked;
+          leaked_numbers = s.owners.leaked_numbers;
+        };
+      } where
+        kept : (old : Slot) → slice_get c.files (n - 1) ≡ Some old → clusters_in x ≡ clusters_in old
+        kept old e =
+            let t = s.files n old h.number e in
+            ap clusters_in (sym h.slot) ∙ same_clusters g.cluster n (header_read (header_block g bs n)) _ _ ∙ ap clusters_in t.slot
+
+        written : (m : ℕ) (y : Slot) → header_place g n ≢ l → l < length bs → n ≡ m → x ≡ y
+            → Tells g own m (header_block g (slice_set bs l b) m) (body_blocks (slice_set bs l b) m (header_block g (slice_set bs l b) m)) y
+        written m y other len e f =
+            let t = told g bs own c s n h.number in
+            let here : header_block g (slice_set bs l b) n ≡ header_block g bs n = get_or-set_other bs l (header_place g n) b [] other in
+            let P : ℕ → Type 0 = λ k. Tells g own k (header_block g (slice_set bs l b) k) (body_blocks (slice_set bs l b) k (header_block g (slice_set bs l b) k)) y in
+            let Q : Slot → Type 0 = λ z. Tells g own n (header_block g (slice_set bs l b) n) (body_blocks (slice_set bs l b) n (header_block g (slice_set bs l b) n)) z in
+            let H : Block → Type 0 = λ z. Tells g own n z (body_blocks (slice_set bs l b) n z) x in
+            let B : List Block → Type 0 = λ zs. Tells g own n (header_block g bs n) zs x in
+            let now : Tells g own n (header_block g bs n) (slice_set (body_blocks bs n (header_block g bs n)) v b) x =
+            record { reads = t.reads; whole = t.whole; once = t.once; runs = t.runs; used = t.used; dir = h.dir; slot = h.slot } in
+            subst P e (subst Q f (subst H (sym here) (subst B (sym (blocks_set bs l b (body_places n (header_block g bs n)) v h.place (body_once g bs own c s n h.number) len)) now)))
+
+  -- ---- the death of a node
+
+  pub death_leaks_lem : (new : Owners) (node : ℕ) → OwnersMove (IsDeathMove node) own new → Spells g bs new (with_leaks new c)
+  death_leaks_lem new node moves =
+      let clusters : (q : ℕ) (o : Owner) → (IsDeathMove node (Some o) → ⊥) → (slice_get new.clusters q ≡ Some o) ↔ (slice_get own.clusters q ≡ Some o) =
+      λ q o never. owner_stays (IsDeathMove node) own.clusters new.clusters (Some o) moves.clusters never q in
+      let numbers : (i : ℕ) (o : Owner) → (IsDeathMove node (Some o) → ⊥) → (slice_get new.numbers i ≡ Some o) ↔ (slice_get own.numbers i ≡ Some o) =
+      λ i o never. owner_stays (IsDeathMove node) own.numbers new.numbers (Some o) moves.numbers never i in
+      record {
+        counts = record {
+          geometry = s.counts.geometry;
+          blocks = s.counts.blocks;
+          clusters = moves.clusters.count ∙ s.counts.clusters;
+          numbers = moves.numbers.count ∙ s.counts.numbers;
+          slots = s.counts.slots;
+        };
+        structures = s.structures;
+        constants = record { factor = s.constants.factor; total = s.constants.total; reserved = s.constants.reserved; rows = s.constants.rows };
+        files = λ n x is h. tells_on g own new n _ _ x (λ q. clusters q (InFile n) (λ f. f)) (numbers (n - 1) (InFile n) (λ f. f)) (s.files n x is h);
+        rows = record { quota = s.rows.quota; once = s.rows.once };
+        owners = record {
+          cluster_bits = λ q lt. iff (s.owners.cluster_bits q lt) (clusters q Free (λ f. f));
+          number_bits = λ n is. iff (s.owners.number_bits n is) (numbers (n - 1) Free (λ f. f));
+          known = known_stays g (IsDeathMove node) own.clusters new.clusters moves.clusters (λ n f. absurd f) s.owners.known;
+          known_numbers = λ i n e. s.owners.known_numbers i n ((numbers i (InFile n) (λ f. f)).0 e);
+          leaked = refl;
+          leaked_numbers = refl;
+        };
+      }
+
+pub outside_write : OutsideWrite
+outside_write g bs own c node l b s at = outside_write_lem g bs own c s node l b at
+
+pub quota_write : QuotaWrite
+quota_write g bs own c k l b s part once = quota_write_lem g bs own c s k l b part once
+
+pub storage_write : StorageWrite
+storage_write g bs own new c node k l b s part moves same bits = storage_write_lem g bs own c s new node k l b part moves same bits
+
+pub index_write : IndexWrite
+index_write g bs own new c node l b s part same moves bits = index_write_lem g bs own c s new node l b part same moves bits
+
+pub header_write : HeaderWrite
+header_write g bs own new c node n b x s h = header_write_lem g bs own c s new node n b x h
+
+pub body_write : BodyWrite
+body_write g bs own c n v l b x s h = body_write_lem g bs own c s n v l b x h
+
+pub death_leaks : DeathLeaks
+death_leaks g bs own new c node s moves = death_leaks_lem g bs own c s new node moves

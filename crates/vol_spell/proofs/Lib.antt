@@ -1,0 +1,12 @@
+pub mod Runs
+pub mod Parts
+pub mod Frames
+pub mod Leaks
+pub mod Keeping
+pub mod Owned
+pub mod Adds
+pub mod Told
+pub mod Viewing
+pub mod Picking
+pub mod Clusters
+pub mod Accepted

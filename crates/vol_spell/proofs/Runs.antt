@@ -1,0 +1,63 @@
+-- Runs, their clusters and their blocks.
+use Rattle.std.proofs.Common.{◌≡◌, ◌<◌, ◌≤◌, ◌+◌, ◌*◌, ◌/◌, ◌%◌, ℕ, zero, suc, List, [], ◌∷◌, ◌++◌, refl, sym, ap, subst, ◌∙◌, arith}
+use Rattle.std.specs.List.{range_with_len}
+use Rattle.vol_words.specs.Fields.{Block}
+use Rattle.fx_header.specs.declared.run.Run.{Run}
+use Rattle.fx_header.specs.Pointers.{lbns_in}
+use Rattle.vol_owners.specs.Lists.{Has, Once}
+use Rattle.vol_owners.specs.Places.{spread}
+use Rattle.vol_owners.proofs.Placing.{spread_joined, spread_in, spread_once, ranged_has}
+use Rattle.vol_owners.proofs.Listing.{has_first}
+use Rattle.vol_parts.specs.declared.geometry.Geometry.{Geometry}
+use Rattle.vol_spell.specs.Reading.{runs_told, clusters_of, clusters_told}
+use Rattle.vol_spell.specs.Spelling.{AreWhole}
+
+range_joined : (a j k : ℕ) → range_with_len a (j + k) ≡ range_with_len a j ++ range_with_len (a + j) k
+range_joined a zero k =
+    let e : 0 + k ≡ k = omega arith in
+    let f : a ≡ a + 0 = omega arith in
+    ap (λ x. range_with_len a x) e ∙ ap (λ x. range_with_len x k) f
+range_joined a (suc j) k =
+    let e : suc j + k ≡ suc (j + k) = omega arith in
+    let f : a + 1 + j ≡ a + suc j = omega arith in
+    ap (λ x. range_with_len a x) e ∙ ap (λ xs. a ∷ xs) (range_joined (a + 1) j k ∙ ap (λ x. range_with_len (a + 1) j ++ range_with_len x k) f)
+
+-- the blocks of clusters in a row
+range_spread : (f q k : ℕ) → range_with_len (q * f) (k * f) ≡ spread f (range_with_len q k)
+range_spread f q zero = let e : 0 * f ≡ 0 = omega arith in ap (λ x. range_with_len (q * f) x) e
+range_spread f q (suc k) =
+    let e : suc k * f ≡ f + k * f = omega arith in
+    let h : q * f + f ≡ (q + 1) * f = omega arith in
+    ap (λ x. range_with_len (q * f) x) e ∙ range_joined (q * f) f (k * f)
+    ∙ ap (λ xs. range_with_len (q * f) f ++ xs) (ap (λ x. range_with_len x (k * f)) h ∙ range_spread f (q + 1) k)
+
+whole : (x f : ℕ) → 1 ≤ f → x % f ≡ 0 → x ≡ x / f * f
+whole x f low e = omega arith
+
+-- the blocks of runs are those of their clusters
+pub lbns_spread : (g : Geometry) (rs : List Run) → 1 ≤ g.cluster → AreWhole g rs → lbns_in rs ≡ spread g.cluster (clusters_of g.cluster rs)
+lbns_spread g [] low w = refl
+lbns_spread g (r ∷ rs) low w =
+    let f = g.cluster in
+    let a : r.lbn ≡ r.lbn / f * f = whole r.lbn g.cluster low w.0.begins in
+    let b : r.count ≡ r.count / f * f = whole r.count g.cluster low w.0.ends in
+    let here : range_with_len r.lbn r.count ≡ spread f (range_with_len (r.lbn / f) (r.count / f)) =
+    ap (λ x. range_with_len x r.count) a ∙ ap (λ x. range_with_len (r.lbn / f * f) x) b ∙ range_spread f (r.lbn / f) (r.count / f) in
+    ap (λ xs. xs ++ lbns_in rs) here ∙ ap (λ xs. spread f (range_with_len (r.lbn / f) (r.count / f)) ++ xs) (lbns_spread g rs low w.1)
+    ∙ sym (spread_joined f (range_with_len (r.lbn / f) (r.count / f)) (clusters_of f rs))
+
+-- a block of a file lies in one of its clusters
+pub has_cluster : (g : Geometry) (b : Block) (l : ℕ) → 1 ≤ g.cluster → AreWhole g (runs_told b) → Has (lbns_in (runs_told b)) l → Has (clusters_told g b) (l / g.cluster)
+has_cluster g b l low w t =
+    let P : List ℕ → Type 0 = λ ls. Has ls l in
+    spread_in g.cluster (clusters_told g b) l (subst P (lbns_spread g (runs_told b) low w) t)
+
+-- and is listed once
+pub lbns_once : (g : Geometry) (b : Block) → 1 ≤ g.cluster → AreWhole g (runs_told b) → Once (clusters_told g b) → Once (lbns_in (runs_told b))
+lbns_once g b low w once =
+    let P : List ℕ → Type 0 = λ ls. Once ls in
+    subst P (sym (lbns_spread g (runs_told b) low w)) (spread_once g.cluster (clusters_told g b) once)
+
+-- a block of a single run
+pub in_one_run : (r : Run) (l : ℕ) → r.lbn ≤ l → l < r.lbn + r.count → Has (lbns_in (r ∷ [])) l
+in_one_run r l lo hi = has_first (range_with_len r.lbn r.count) [] l (ranged_has r.lbn r.count l lo hi)

@@ -1,0 +1,40 @@
+-- The owners that the blocks of a volume tell where nobody holds anything outside, and that a volume with no fatal finding
+-- spells its catalogue with them.
+use Rattle.std.specs.Prelude.{◌≡◌, ◌≤◌, not, ℕ, List, Option, Some, None, Ok, is_some, length, map, if◌then◌else◌}
+use Rattle.std.specs.List.{range_with_len, find}
+use Rattle.vol_words.specs.Fields.{Block}
+use Rattle.fx_home.specs.declared.home.Home.{Home}
+use Rattle.fx_home.specs.Homes.{home_read}
+use Rattle.plain_cat.specs.declared.cat.Cat.{Cat}
+use Rattle.vol_owners.specs.declared.owner.Owner.{Owner}
+use Rattle.vol_owners.specs.declared.owner.Owner.TheVariants.{Free, InFile, Leaked}
+use Rattle.vol_owners.specs.Owners.{Owners, Outs, nothing}
+use Rattle.vol_parts.specs.Volumes.{Volume, volume, total, numbers, fields, is_in_file, is_free_cluster, is_used_number, geometry_of}
+use Rattle.vol_parts.specs.Findings.{home_at, CatOf}
+use Rattle.vol_spell.specs.Spelling.{Spells}
+
+abbrev pub owner_found : Option ℕ → Owner
+owner_found None = Leaked
+owner_found (Some n) = InFile n
+
+-- a cluster is free by its bit, else of the first file that has it, else leaked
+unfoldable pub cluster_owner : Volume → ℕ → Owner
+cluster_owner v q = if is_free_cluster v q then Free else owner_found (find (is_in_file v q) (numbers v))
+
+-- a number is free by its bit, else its file's where its header is in use, else leaked
+unfoldable pub number_owner : Volume → ℕ → Owner
+number_owner v n = if not (is_used_number v n) then Free else if is_some (fields v n) then InFile n else Leaked
+
+abbrev pub owners_told : Volume → Owners
+owners_told v = record { clusters = map (cluster_owner v) (range_with_len 0 (total v)); numbers = map (number_owner v) (numbers v) }
+
+-- the blocks have a home block, and spell the catalogue by the geometry that it gives; no node holds anything outside
+pub record IsSpelt (bs : List Block) (c : Cat) : Type 0 where
+  pub home : Home
+  pub read : home_read (home_at bs) ≡ Ok home
+  pub spelt : Spells (geometry_of (volume home bs)) bs (owners_told (volume home bs)) c
+  pub outs : (node : ℕ) → Outs node (owners_told (volume home bs)) nothing nothing
+
+-- the catalogue of a volume with no fatal finding is spelt
+abbrev pub CatalogueIsSpelt : Type 0
+CatalogueIsSpelt = (bs : List Block) (c : Cat) → 64 ≤ length bs → length bs ≤ 65536 → CatOf bs c → IsSpelt bs c

@@ -1,0 +1,82 @@
+-- The kinds of writes, and the death of a node. Each takes blocks that spell a catalogue to blocks that spell one, whatever the block that is written,
+-- if it reads as the kind says.
+use Rattle.std.specs.Prelude.{◌≡◌, ◌≤◌, ◌+◌, ◌<◌, ◌-◌, ◌↔◌, ℕ, true, false, List, Some, None, map, count_by, slice_get, slice_set}
+use Rattle.vol_words.specs.Fields.{Block}
+use Rattle.fx_header.specs.Headers.{header_read}
+use Rattle.plain_cat.specs.declared.cat.Cat.{Cat}
+use Rattle.plain_cat.specs.declared.cat.Slot.{Slot}
+use Rattle.plain_vol.specs.Lookups.{clusters_in}
+use Rattle.plain_vol.specs.Changes.{with_slot}
+use Rattle.vol_owners.specs.declared.owner.Owner.TheVariants.{Free, InFile, Outside, Leaked}
+use Rattle.vol_owners.specs.Lists.{Once}
+use Rattle.vol_owners.specs.Owners.{Owners, Moves, OwnersMove, IsFileMove, IsSpaceMove, IsDeathMove}
+use Rattle.vol_owners.specs.Counts.{is_same_owner}
+use Rattle.vol_parts.specs.declared.geometry.Geometry.{Geometry}
+use Rattle.vol_parts.specs.declared.geometry.Part.TheVariants.{IndexBitmap, Storage, Quota}
+use Rattle.vol_parts.specs.Parts.{part_of}
+use Rattle.vol_parts.specs.Catalogues.{is_structure, slot_with, rows_sorted}
+use Rattle.vol_spell.specs.Reading.{IsFileNumber, total_of, owner_at, header_place, header_block, fields_told, runs_told, body_places, body_blocks, cluster_bit, number_bit, rows_told}
+use Rattle.vol_spell.specs.Spelling.{Tells, dir_found, Spells}
+
+-- a block in no file and no bitmap, which a node holds: nothing changes
+abbrev pub OutsideWrite : Type 0
+OutsideWrite = (g : Geometry) (bs : List Block) (own : Owners) (c : Cat) (node l : ℕ) (b : Block) → Spells g bs own c → owner_at g own l ≡ Some (Outside node) → Spells g (slice_set bs l b) own c
+
+-- the catalogue with the rows that the blocks tell
+abbrev pub with_rows : Geometry → List Block → Cat → Cat
+with_rows g bs c = record c { quota = rows_sorted (rows_told g bs) }
+
+-- a quota block: the rows change alone
+abbrev pub QuotaWrite : Type 0
+QuotaWrite = (g : Geometry) (bs : List Block) (own : Owners) (c : Cat) (k l : ℕ) (b : Block) → Spells g bs own c → part_of g l ≡ Some (Quota k)
+    → Once (map (λ r. r.uic) (rows_told g (slice_set bs l b))) → Spells g (slice_set bs l b) own (with_rows g (slice_set bs l b) c)
+
+-- a block of the storage bitmap: clusters go from the free ones to the node that writes, or back
+abbrev pub StorageWrite : Type 0
+StorageWrite = (g : Geometry) (bs : List Block) (own new : Owners) (c : Cat) (node k l : ℕ) (b : Block) → Spells g bs own c → part_of g l ≡ Some (Storage k)
+    → Moves (IsSpaceMove node) own.clusters new.clusters → new.numbers ≡ own.numbers
+    → ((q : ℕ) → q < total_of g → (cluster_bit g (slice_set bs l b) q ≡ true) ↔ (slice_get new.clusters q ≡ Some Free))
+    → Spells g (slice_set bs l b) new c
+
+-- the index-file bitmap: numbers go from the free ones to the node that writes, or back
+abbrev pub IndexWrite : Type 0
+IndexWrite = (g : Geometry) (bs : List Block) (own new : Owners) (c : Cat) (node l : ℕ) (b : Block) → Spells g bs own c → part_of g l ≡ Some IndexBitmap
+    → new.clusters ≡ own.clusters → Moves (IsSpaceMove node) own.numbers new.numbers
+    → ((n : ℕ) → IsFileNumber g n → (number_bit g (slice_set bs l b) n ≡ false) ↔ (slice_get new.numbers (n - 1) ≡ Some Free))
+    → Spells g (slice_set bs l b) new c
+
+-- The new header of file n by a node: what the file gets was outside at the node, and what it loses goes there, and of the
+-- numbers the file has its own alone. With the blocks that it names the header tells the slot s, where a file that is counted
+-- as reserved keeps its number of clusters.
+pub record IsHeaderFor (g : Geometry) (bs : List Block) (node n : ℕ) (own new : Owners) (c : Cat) (b : Block) (s : Slot) : Type 0 where
+  pub number : IsFileNumber g n
+  pub plain : is_structure n ≡ false
+  pub moves : OwnersMove (IsFileMove node n) own new
+  pub named : (i : ℕ) → slice_get new.numbers i ≡ Some (InFile n) → n ≡ i + 1
+  pub tells : Tells g new n b (body_blocks bs n b) s
+  pub reserved : (old : Slot) → n ≤ 11 → slice_get c.files (n - 1) ≡ Some old → clusters_in s ≡ clusters_in old
+
+-- a header: one slot changes
+abbrev pub HeaderWrite : Type 0
+HeaderWrite = (g : Geometry) (bs : List Block) (own new : Owners) (c : Cat) (node n : ℕ) (b : Block) (s : Slot) → Spells g bs own c → IsHeaderFor g bs node n own new c b s
+    → Spells g (slice_set bs (header_place g n) b) new (with_slot c n s)
+
+-- The block v, from 0, of file n, which stands at l: with it the file's blocks tell the slot s, and a directory can be read.
+pub record IsBodyFor (g : Geometry) (bs : List Block) (n v l : ℕ) (b : Block) (s : Slot) : Type 0 where
+  pub number : IsFileNumber g n
+  pub place : slice_get (body_places n (header_block g bs n)) v ≡ Some l
+  pub dir : dir_found g n (fields_told (header_block g bs n)) (runs_told (header_block g bs n)) (slice_set (body_blocks bs n (header_block g bs n)) v b) ≡ None
+  pub slot : slot_with g.cluster n (header_read (header_block g bs n)) (slice_set (body_blocks bs n (header_block g bs n)) v b) ≡ s
+
+-- a block of a file: its slot changes
+abbrev pub BodyWrite : Type 0
+BodyWrite = (g : Geometry) (bs : List Block) (own : Owners) (c : Cat) (n v l : ℕ) (b : Block) (s : Slot) → Spells g bs own c → IsBodyFor g bs n v l b s
+    → Spells g (slice_set bs l b) own (with_slot c n s)
+
+-- the catalogue with what these owners have leaked
+abbrev pub with_leaks : Owners → Cat → Cat
+with_leaks own c = record c { leaked = count_by (is_same_owner Leaked) own.clusters; leaked_numbers = map (is_same_owner Leaked) own.numbers }
+
+-- no write, but the death of a node: what it held outside is leaked
+abbrev pub DeathLeaks : Type 0
+DeathLeaks = (g : Geometry) (bs : List Block) (own new : Owners) (c : Cat) (node : ℕ) → Spells g bs own c → OwnersMove (IsDeathMove node) own new → Spells g bs new (with_leaks new c)

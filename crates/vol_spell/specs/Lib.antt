@@ -1,0 +1,10 @@
+pub mod Reading
+pub mod Places
+pub mod Spelling
+pub mod Bodies
+pub mod Owning
+pub mod Kinds
+pub mod Views
+pub mod Adding
+pub mod Telling
+pub mod Accepting

@@ -1,0 +1,85 @@
+-- What the blocks of a volume tell, read by its geometry: headers, runs, clusters, bits and quota rows.
+use Rattle.std.specs.Prelude.{◌+◌, ◌*◌, ◌-◌, ◌/◌, ◌%◌, ◌≤◌, ℕ, Bool, List, [], Option, flat_map, slice_get, slice_index_or, if◌then◌else◌}
+use Rattle.std.specs.List.{range_with_len}
+use Rattle.vol_words.specs.Fields.{Block}
+use Rattle.fx_header.specs.declared.run.Run.{Run}
+use Rattle.fx_header.specs.declared.slot.Hdr.{Hdr}
+use Rattle.fx_header.specs.Headers.{header_read}
+use Rattle.fx_header.specs.Pointers.{lbns_in}
+use Rattle.fx_bitmap.specs.Bits.{bit_at}
+use Rattle.fx_quota.specs.declared.types.Row.{Row}
+use Rattle.vol_owners.specs.declared.owner.Owner.{Owner}
+use Rattle.vol_owners.specs.Owners.{Owners}
+use Rattle.vol_owners.specs.Places.{blocks_at}
+use Rattle.vol_parts.specs.declared.geometry.Geometry.{Geometry}
+use Rattle.vol_parts.specs.Volumes.{Volume, volume, fields_in, runs_with, rows_in}
+use Rattle.vol_parts.specs.Catalogues.{is_structure}
+
+-- the blocks as a volume of this geometry; its label plays no part
+abbrev pub volume_of : Geometry → List Block → Volume
+volume_of g bs = volume (record { cluster = g.cluster; files = g.files; label = [] }) bs
+
+-- the whole clusters
+abbrev pub total_of : Geometry → ℕ
+total_of g = g.blocks / g.cluster
+
+-- a file number of the volume
+pub record IsFileNumber (g : Geometry) (n : ℕ) : Type 0 where
+  pub from : 1 ≤ n
+  pub to : n ≤ g.files
+
+-- the owner of the cluster that a block lies in
+abbrev pub owner_at : Geometry → Owners → ℕ → Option Owner
+owner_at g own l = slice_get own.clusters (l / g.cluster)
+
+-- ---- headers and the blocks of files
+
+-- where the header of a number stands
+abbrev pub header_place : Geometry → ℕ → ℕ
+header_place g n = 4 * g.cluster + n
+
+abbrev pub header_block : Geometry → List Block → ℕ → Block
+header_block g bs n = slice_index_or bs (header_place g n) []
+
+-- the fields that a header tells, where it is in use
+abbrev pub fields_told : Block → Option Hdr
+fields_told b = fields_in (header_read b)
+
+-- the runs that a header tells: none where it is not in use
+abbrev pub runs_told : Block → List Run
+runs_told b = runs_with (fields_told b) b
+
+-- the clusters of runs that begin and end at a cluster's bounds, in order
+abbrev pub clusters_of : ℕ → List Run → List ℕ
+clusters_of factor runs = flat_map (λ r. range_with_len (r.lbn / factor) (r.count / factor)) runs
+
+-- the clusters that a header tells
+abbrev pub clusters_told : Geometry → Block → List ℕ
+clusters_told g b = clusters_of g.cluster (runs_told b)
+
+-- The places of a file's blocks that the catalogue tells of, from its header. Those of the files 1, 2 and 10 are parts of the
+-- volume, of which no file's slot tells.
+abbrev pub body_places : ℕ → Block → List ℕ
+body_places n b = if is_structure n then [] else lbns_in (runs_told b)
+
+-- and the blocks there
+abbrev pub body_blocks : List Block → ℕ → Block → List Block
+body_blocks bs n b = blocks_at bs (body_places n b)
+
+-- ---- bits and rows
+
+-- the bit of a cluster, which is set where the cluster is free
+abbrev pub cluster_bit : Geometry → List Block → ℕ → Bool
+cluster_bit g bs q = bit_at (slice_index_or bs (g.bitmap_lbn + 1 + q / 4096) []) (q % 4096)
+
+-- the bit of a file number, which is set where the number is in use
+abbrev pub number_bit : Geometry → List Block → ℕ → Bool
+number_bit g bs n = bit_at (slice_index_or bs (4 * g.cluster) []) (n - 1)
+
+-- the places of the quota blocks
+abbrev pub quota_places : Geometry → List ℕ
+quota_places g = range_with_len g.quota_lbn g.cluster
+
+-- the active rows of the quota blocks, in order
+abbrev pub rows_told : Geometry → List Block → List Row
+rows_told g bs = flat_map rows_in (blocks_at bs (quota_places g))

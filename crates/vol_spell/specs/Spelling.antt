@@ -1,0 +1,142 @@
+-- Blocks that spell a catalogue, with one owner for each cluster and each file number.
+use Rattle.std.specs.Prelude.{◌≡◌, ◌≤◌, ◌<◌, ◌+◌, ◌*◌, ◌-◌, ◌%◌, ◌↔◌, not, ℕ, true, false, List, [], ◌∷◌, Option, Some, None, Result, Ok, Err, is_some, length, map, take, count_by, sum_by, slice_get, slice_index_or, if◌then◌else◌}
+use Rattle.vol_words.specs.Fields.{Block}
+use Rattle.fx_home.specs.declared.home.Home.{Home}
+use Rattle.fx_home.specs.declared.home.HomeFault.{HomeFault}
+use Rattle.fx_home.specs.Homes.{home_read, scb_read}
+use Rattle.fx_header.specs.declared.run.Run.{Run}
+use Rattle.fx_header.specs.declared.slot.Hdr.{Hdr}
+use Rattle.fx_header.specs.declared.slot.Slot.{Slot as Head}
+use Rattle.fx_header.specs.declared.slot.Slot.TheVariants as head
+use Rattle.fx_header.specs.declared.slot.HeaderFault.{HeaderFault}
+use Rattle.fx_header.specs.Headers.{header_read}
+use Rattle.fx_dir.specs.Directory.{directory}
+use Rattle.plain_cat.specs.declared.cat.Cat.{Cat}
+use Rattle.plain_cat.specs.declared.cat.Slot.{Slot}
+use Rattle.plain_vol.specs.Lookups.{clusters_in}
+use Rattle.vol_owners.specs.declared.owner.Owner.TheVariants.{Free, InFile, Leaked}
+use Rattle.vol_owners.specs.Lists.{Has, Once}
+use Rattle.vol_owners.specs.Owners.{Owners}
+use Rattle.vol_owners.specs.Counts.{is_same_owner}
+use Rattle.vol_parts.specs.declared.finding.Finding.{Finding}
+use Rattle.vol_parts.specs.declared.finding.Finding.TheVariants as finding
+use Rattle.vol_parts.specs.declared.geometry.Geometry.{Geometry}
+use Rattle.vol_parts.specs.Parts.{IsGeometry, storage_blocks}
+use Rattle.vol_parts.specs.Catalogues.{slot_with, rows_sorted}
+use Rattle.vol_parts.specs.Fatal.{is_system_header, has_dir_size, found_in, in_whole_clusters}
+use Rattle.vol_spell.specs.Reading.{IsFileNumber, total_of, header_block, fields_told, runs_told, clusters_told, body_blocks, cluster_bit, number_bit, rows_told}
+
+-- ---- a file
+
+-- a header can be read, and one in use is that of its number
+abbrev pub IsHead : ℕ → Result Head HeaderFault → Type 0
+IsHead n (Ok (head.Used f)) = f.num ≡ n
+IsHead n (Ok (head.Free seq)) = Unit {0}
+IsHead n (Err fault) = ⊥
+
+-- a run begins and ends at a cluster's bounds, inside the whole clusters
+pub record IsWhole (g : Geometry) (r : Run) : Type 0 where
+  pub begins : r.lbn % g.cluster ≡ 0
+  pub ends : r.count % g.cluster ≡ 0
+  pub inside : r.lbn + r.count ≤ g.cluster * total_of g
+
+abbrev pub AreWhole : Geometry → List Run → Type 0
+AreWhole g [] = Unit {0}
+AreWhole g (r ∷ rs) = IsWhole g r × AreWhole g rs
+
+-- what is wrong with a directory, by its header and its blocks: nothing where the file is none
+abbrev pub dir_found : Geometry → ℕ → Option Hdr → List Run → List Block → Option Finding
+dir_found g n None runs blocks = None
+dir_found g n (Some f) runs blocks =
+    if not f.dir then None else if has_dir_size g.cluster f runs then found_in n (directory blocks) else Some (finding.DirSize n)
+
+-- What the header b of number n and the blocks of its file tell, with the owners as they are: the slot s. The clusters of its
+-- runs are those that the file owns, each listed once; the number is the file's where the header is in use; and a directory
+-- can be read.
+pub record Tells (g : Geometry) (own : Owners) (n : ℕ) (b : Block) (blocks : List Block) (s : Slot) : Type 0 where
+  pub reads : IsHead n (header_read b)
+  pub whole : AreWhole g (runs_told b)
+  pub once : Once (clusters_told g b)
+  pub runs : (q : ℕ) → Has (clusters_told g b) q ↔ (slice_get own.clusters q ≡ Some (InFile n))
+  pub used : (is_some (fields_told b) ≡ true) ↔ (slice_get own.numbers (n - 1) ≡ Some (InFile n))
+  pub dir : dir_found g n (fields_told b) (runs_told b) blocks ≡ None
+  pub slot : slot_with g.cluster n (header_read b) blocks ≡ s
+
+-- ---- the volume's own structures
+
+-- the home block says the cluster factor and the file numbers
+abbrev pub IsHomeOf : Geometry → Result Home HomeFault → Type 0
+IsHomeOf g (Ok h) = (h.cluster ≡ g.cluster) × (h.files ≡ g.files)
+IsHomeOf g (Err fault) = ⊥
+
+-- a system file that holds parts of the volume, in one run
+pub record IsStructure (g : Geometry) (bs : List Block) (n : ℕ) (r : Run) : Type 0 where
+  pub header : is_system_header n (fields_told (header_block g bs n)) ≡ true
+  pub run : runs_told (header_block g bs n) ≡ r ∷ []
+
+-- so many clusters that they have so many blocks, from a first one on
+abbrev pub run_for : Geometry → ℕ → ℕ → Run
+run_for g lbn blocks = record { lbn = lbn; count = g.cluster * in_whole_clusters g.cluster blocks }
+
+-- The home block, the storage control block, and the files that hold them and all other parts: the index file begins at LBN 0
+-- and has four clusters, its bitmap and the headers; the storage bitmap has the control block before it; the quota file has
+-- one cluster.
+pub record HasStructures (g : Geometry) (bs : List Block) : Type 0 where
+  pub home : IsHomeOf g (home_read (slice_index_or bs 1 []))
+  pub control : scb_read (slice_index_or bs g.bitmap_lbn []) ≡ Ok (record { cluster = g.cluster; blocks = g.blocks })
+  pub index : IsStructure g bs 1 (run_for g 0 (4 * g.cluster + 1 + g.files))
+  pub bitmap : IsStructure g bs 2 (run_for g g.bitmap_lbn (1 + storage_blocks (total_of g)))
+  pub quota : IsStructure g bs 10 (record { lbn = g.quota_lbn; count = g.cluster })
+
+-- what of a catalogue no command changes
+pub record HasConstants (g : Geometry) (c : Cat) : Type 0 where
+  pub factor : c.factor ≡ g.cluster
+  pub total : c.total ≡ total_of g
+  pub reserved : c.reserved ≡ sum_by clusters_in (take 11 c.files)
+  pub rows : c.rows ≡ 16 * g.cluster
+
+-- ---- the whole
+
+-- The geometry is one of a volume; there are as many blocks, and an owner for each cluster and each number, and a slot for each
+-- number.
+pub record HasCounts (g : Geometry) (bs : List Block) (own : Owners) (c : Cat) : Type 0 where
+  pub geometry : IsGeometry g
+  pub blocks : length bs ≡ g.blocks
+  pub clusters : length own.clusters ≡ total_of g
+  pub numbers : length own.numbers ≡ g.files
+  pub slots : length c.files ≡ g.files
+
+-- The active rows of the quota blocks are the catalogue's, in order of owner, and no owner has two.
+pub record HasRows (g : Geometry) (bs : List Block) (c : Cat) : Type 0 where
+  pub quota : c.quota ≡ rows_sorted (rows_told g bs)
+  pub once : Once (map (λ r. r.uic) (rows_told g bs))
+
+-- The owners are those that the bits and the catalogue tell.
+pub record AreOwners (g : Geometry) (bs : List Block) (own : Owners) (c : Cat) : Type 0 where
+  -- the bit of a cluster is set exactly where it is free
+  pub cluster_bits : (q : ℕ) → q < total_of g → (cluster_bit g bs q ≡ true) ↔ (slice_get own.clusters q ≡ Some Free)
+  -- the bit of a number is clear exactly where it is free
+  pub number_bits : (n : ℕ) → IsFileNumber g n → (number_bit g bs n ≡ false) ↔ (slice_get own.numbers (n - 1) ≡ Some Free)
+  -- a file that has a cluster has one of the volume's numbers
+  pub known : (q n : ℕ) → slice_get own.clusters q ≡ Some (InFile n) → IsFileNumber g n
+  -- a file that has a number has its own
+  pub known_numbers : (i n : ℕ) → slice_get own.numbers i ≡ Some (InFile n) → n ≡ i + 1
+  -- the leaked clusters are counted
+  pub leaked : c.leaked ≡ count_by (is_same_owner Leaked) own.clusters
+  -- the leaked numbers are flagged
+  pub leaked_numbers : c.leaked_numbers ≡ map (is_same_owner Leaked) own.numbers
+
+-- The blocks spell the catalogue, with these owners. What the channels have open is no matter of the blocks.
+pub record Spells (g : Geometry) (bs : List Block) (own : Owners) (c : Cat) : Type 0 where
+  -- each list has as many items as the geometry says
+  pub counts : HasCounts g bs own c
+  -- the volume's own structures are there
+  pub structures : HasStructures g bs
+  -- what no command changes is as the geometry says
+  pub constants : HasConstants g c
+  -- the header of each number tells its slot, with the blocks of its file
+  pub files : (n : ℕ) (s : Slot) → IsFileNumber g n → slice_get c.files (n - 1) ≡ Some s → Tells g own n (header_block g bs n) (body_blocks bs n (header_block g bs n)) s
+  -- the quota rows are the catalogue's
+  pub rows : HasRows g bs c
+  -- the owners are those that the bits and the catalogue tell
+  pub owners : AreOwners g bs own c
