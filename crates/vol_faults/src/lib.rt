@@ -1,0 +1,22 @@
+//! The fatal findings of a volume, kind by kind: of each kind the first that holds.
+#![tactic(auto)]
+
+mod bounds;
+mod clusters;
+mod control;
+mod counts;
+mod headers;
+mod numbers;
+mod sizes;
+mod systems;
+
+pub use bounds::{first_large_file, first_run_off};
+pub use clusters::{count_outside, first_free_cluster, first_shared_cluster};
+pub use control::first_bad_control_block;
+pub use counts::count_clusters;
+pub use headers::first_bad_header;
+pub use numbers::first_free_number;
+pub use systems::first_bad_system_file;
+
+#[cfg(test)]
+mod tests;
