@@ -17,7 +17,7 @@ use Rattle.vol_texts.specs.Commands.{then_word, register_text, command_text}
 use Rattle.run_script.specs.Lines.{words_of}
 use Rattle.run_script.specs.Grammar.{IsCommandText, IsLineText, is_skipped}
 use Rattle.run_script.specs.Fixed.{fixed_line, node_text, has_sequence}
-use Rattle.run_script.specs.Table.{is_on, kind_of}
+use Rattle.run_script.specs.Table.{is_built}
 use Rattle.run_script.specs.Laws.{ReadsBack}
 use Rattle.run_script.specs.declared.built.Built.{Built}
 use Rattle.run_script.specs.declared.items.Item.TheVariants.{Command}
@@ -239,7 +239,7 @@ spoken_line node rest h =
     let l = limits 1 8 node h in
     ap (λ d. is_skipped (d ++ rest)) (decimal_digit node (omega (arith, l))) ∙ ne_eqb (48 + node) 35 (λ e. omega (arith, e))
 
-pub reads_back_text : (table : Built) (node : ℕ) (c : Cmd) → is_eighth node ≡ true → in_form c ≡ true → has_sequence c ≡ true → is_on table (kind_of (fixed_line c)) ≡ true → ReadsBack table node c
+pub reads_back_text : (table : Built) (node : ℕ) (c : Cmd) → is_eighth node ≡ true → in_form c ≡ true → has_sequence c ≡ true → is_built table (fixed_line c) ≡ true → ReadsBack table node c
 reads_back_text table node c at form seq on =
     let w = written c form seq in
     let text : IsLineText table (Command (record { node = node; cmd = fixed_line c })) (node_text node c) = inr (

@@ -13,7 +13,7 @@ use Rattle.plain_cat.specs.InForm.{is_within, is_eighth, line_in_form, kill_coun
 use Rattle.vol_texts.specs.Names.{fid_text, uic_text, entry_text, mode_text}
 use Rattle.vol_texts.specs.Commands.{register_text}
 use Rattle.run_script.specs.Lines.{words_of}
-use Rattle.run_script.specs.Table.{is_on, kind_of}
+use Rattle.run_script.specs.Table.{is_built}
 use Rattle.run_script.specs.declared.built.Built.{Built}
 use Rattle.run_script.specs.declared.items.Run.{Run}
 use Rattle.run_script.specs.declared.items.Item.{Item}
@@ -51,14 +51,14 @@ IsCommandText (line.WriteBlock chan vbn text) words = words ≡ codes "WRITE" �
 IsCommandText (line.QuotaSet owner quota over) words = words ≡ codes "QUOTASET" ∷ uic_text owner ∷ decimal quota ∷ decimal over ∷ []
 IsCommandText (line.QuotaShow owner) words = words ≡ codes "QUOTASHOW" ∷ uic_text owner ∷ []
 
--- a node with its command, within the limits, and of a kind that the program runs
+-- a node with its command, within the limits, which the program runs
 pub record IsNodeCommand (table : Built) (l : Line) (words : List (List ℕ)) : Type 0 where
   pub spoken : List (List ℕ)
   pub whole : words ≡ decimal l.node ∷ spoken
   pub node : is_eighth l.node ≡ true
   pub command : IsCommandText l.cmd spoken
   pub limits : line_in_form l.cmd ≡ true
-  pub on : is_on table (kind_of l.cmd) ≡ true
+  pub on : is_built table l.cmd ≡ true
 
 -- a word of a schedule is a node, which has one play, or a node with the number of its plays
 pub record IsRunText (r : Run) (word : List ℕ) : Type 0 where

@@ -6,7 +6,7 @@ use Rattle.plain_cat.specs.InForm.{in_form, is_eighth}
 use Rattle.run_script.specs.declared.built.Built.{Built}
 use Rattle.run_script.specs.declared.items.Item.{Item}
 use Rattle.run_script.specs.declared.items.Item.TheVariants.{Command}
-use Rattle.run_script.specs.Table.{is_on, kind_of}
+use Rattle.run_script.specs.Table.{is_built}
 use Rattle.run_script.specs.Grammar.{IsLineText}
 use Rattle.run_script.specs.Fixed.{fixed_line, node_text, has_sequence}
 use Rattle.run_script.specs.Spelling.{SpellsScript, IsBadLine, IsTooMany}
@@ -25,6 +25,6 @@ pub record ReadsBack (table : Built) (node : ℕ) (c : Cmd) : Type 0 where
   pub spelt : IsLineText table (Command (record { node = node; cmd = fixed_line c })) (node_text node c)
   pub alone : (item : Item) → IsLineText table item (node_text node c) → item ≡ Command (record { node = node; cmd = fixed_line c })
 
--- so it is for every command in form, at every node, where the program runs its kind
+-- so it is for every command in form, at every node, where the program runs it
 abbrev pub CommandTextsReadBack : Type 0
-CommandTextsReadBack = (table : Built) (node : ℕ) (c : Cmd) → is_eighth node ≡ true → in_form c ≡ true → has_sequence c ≡ true → is_on table (kind_of (fixed_line c)) ≡ true → ReadsBack table node c
+CommandTextsReadBack = (table : Built) (node : ℕ) (c : Cmd) → is_eighth node ≡ true → in_form c ≡ true → has_sequence c ≡ true → is_built table (fixed_line c) ≡ true → ReadsBack table node c

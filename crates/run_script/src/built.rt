@@ -1,5 +1,7 @@
 ghost use Rattle.std.specs.Prelude.{◌≡◌};
-ghost use Rattle.run_script.specs.Table.{is_on};
+ghost use Rattle.run_script.specs.Table.{is_on, is_main_ref, names_main_only, may_name};
+
+use plain_cat::{Fid, FileRef, LineCmd};
 
 /// The kinds of commands.
 #[derive(Clone, Copy, Debug, PartialEq)]
@@ -21,8 +23,8 @@ pub enum Kind {
     QuotaShow,
 }
 
-/// What a program runs: an entry for each kind of command, and one for the deaths of nodes. A line that it does not run
-/// is a bad line for it. The number of nodes, schedules, empty lines and comments are always taken.
+/// What a program runs: an entry for each kind of command, one for commands that name another file or directory than the
+/// main directory, (4,4,0), and one for the deaths of nodes. A line that it does not run is a bad line for it. The number of nodes, schedules, empty lines and comments are always taken.
 #[derive(Clone, Copy, Debug, PartialEq)]
 pub struct Built {
     pub lookup: bool,
@@ -40,6 +42,7 @@ pub struct Built {
     pub write_block: bool,
     pub quota_set: bool,
     pub quota_show: bool,
+    pub other_directories: bool,
     pub kill: bool,
 }
 
@@ -60,8 +63,39 @@ pub const BUILT: Built = Built {
     write_block: false,
     quota_set: false,
     quota_show: false,
+    other_directories: false,
     kill: false,
 };
+
+// Whether a reference is to the main directory.
+fn is_main_ref(file: &FileRef) -> bool
+    ensures { result ≡ is_main_ref file.now }
+{
+    matches!(file, FileRef::Fixed(Fid { num: 4, seq: 4 }))
+}
+
+// Whether a command names no other file than the main directory.
+fn names_main_only(cmd: &LineCmd) -> bool
+    ensures { result ≡ names_main_only cmd.now }
+{
+    match cmd {
+        LineCmd::Lookup { dir, .. }
+        | LineCmd::List { dir }
+        | LineCmd::Create { dir, .. }
+        | LineCmd::MkDir { dir, .. }
+        | LineCmd::Delete { dir, .. }
+        | LineCmd::Rename { dir, .. } => is_main_ref(dir),
+        LineCmd::Stat { file }
+        | LineCmd::Extend { file, .. }
+        | LineCmd::Trunc { file, .. }
+        | LineCmd::OpenFile { file, .. } => is_main_ref(file),
+        LineCmd::CloseFile { .. }
+        | LineCmd::ReadBlock { .. }
+        | LineCmd::WriteBlock { .. }
+        | LineCmd::QuotaSet { .. }
+        | LineCmd::QuotaShow { .. } => true,
+    }
+}
 
 impl Built {
     /// Whether commands of this kind are run.
@@ -85,5 +119,12 @@ impl Built {
             Kind::QuotaSet => self.quota_set,
             Kind::QuotaShow => self.quota_show,
         }
+    }
+
+    /// Whether a command may name the files that it names.
+    pub fn may_name(&self, cmd: &LineCmd) -> bool
+        ensures { result ≡ may_name self.now cmd.now }
+    {
+        self.other_directories || names_main_only(cmd)
     }
 }

@@ -20,6 +20,7 @@ const ALL: Built = Built {
     write_block: true,
     quota_set: true,
     quota_show: true,
+    other_directories: true,
     kill: true,
 };
 
@@ -221,5 +222,28 @@ fn stops_where_there_is_no_room(rt: HostRuntime) -> Result<(), Fail> {
         fault(alloc, b"NODES 1\nSCHED 1*65536\nSCHED 1\nbad") == Some(ScriptFault::TooMany)
     );
     assert!(rt; fault(alloc, b"NODES 1\nSCHED 1*65536 1 bad") == Some(ScriptFault::BadLine(2)));
+    Ok(())
+}
+
+#[test]
+fn names_the_main_directory_alone(rt: HostRuntime) -> Result<(), Fail> {
+    let other = Built {
+        other_directories: true,
+        ..BUILT
+    };
+    for (line, main) in [
+        ("NODES 1\n1 LOOKUP R1 MFD A.B;1", true),
+        ("NODES 1\n1 LOOKUP R1 (4,4,0) A.B;1", true),
+        ("NODES 1\n1 LOOKUP R1 LOST A.B;1", false),
+        ("NODES 1\n1 LOOKUP R1 (4,5,0) A.B;1", false),
+        ("NODES 1\n1 LOOKUP R1 R4 A.B;1", false),
+    ] {
+        let alone = read_script(rt.alloc(), line.as_bytes()).is_ok();
+        assert_eq!(rt; alone, main, "{line}");
+        assert!(rt;
+            read_with(rt.alloc(), &other, line.as_bytes()).is_ok(),
+            "{line}"
+        );
+    }
     Ok(())
 }
