@@ -1,4 +1,5 @@
-pub mod Lists
-pub mod EntryTexts
+pub mod Spelt
+pub mod Answered
 pub mod Replayed
 pub mod Reported
+pub mod OneVerdict

@@ -2,52 +2,52 @@
 use Rattle.std.proofs.Common.{◌≡◌, ◌∙◌, ℕ, List, Option, Some, None, Result, Ok, Err, IfOk, IfSome, subst}
 use Rattle.vol_words.specs.Fields.{Block}
 use Rattle.blk_drive.specs.Images.{IsInside}
-use Rattle.clus_top.specs.declared.lookup.LookupLine.{LookupLine}
-use Rattle.clus_top.specs.Runs.{IsReport, main_catalogue, history_of}
+use Rattle.plain_cat.specs.declared.script.Script.{Script}
+use Rattle.clus_top.specs.Runs.{IsReport, AreLookUps, main_catalogue, history_of}
 use Rattle.clus_top.specs.Volumes.{main_entries}
 use Rattle.clus_top.specs.Statuses.{Passes, IsGood, IsReadable, IsReportOn}
 use Rattle.clus_top.specs.Jobs.{SpellsWithin, IsReportIn}
 use Rattle.clus_top.proofs.Replayed.{replays, whole}
 
--- a script that spells a command is good
-good : (left : Option (List ℕ)) (command : Option LookupLine) → IfSome left (SpellsWithin command) → IfSome left IsGood
-good None command h = tt
-good (Some bytes) command h = record { within = h.within; command = command; spelt = h.spelt }
+-- a text that spells a script is good
+good : (left : Option (List ℕ)) (script : Script) → IfSome left (SpellsWithin script) → IfSome left IsGood
+good None script h = tt
+good (Some bytes) script h = record { within = h.within; script = script; spelt = h.spelt }
 
 -- blocks whose report is made are readable
-readable : (told : Option (List Block)) (command : Option LookupLine) (blocks : List Block) (text : List ℕ)
-    → IfSome told (λ bs. blocks ≡ bs) → IsReportIn command blocks text → IfSome told IsReadable
-readable None command blocks text same h = tt
-readable (Some bs) command blocks text same h = (h.directory, (let P : List Block → Type 0 = λ x. main_entries x ≡ Some h.directory in subst P same h.opened))
+readable : (told : Option (List Block)) (script : Script) (blocks : List Block) (text : List ℕ)
+    → IfSome told (λ bs. blocks ≡ bs) → IsReportIn script blocks text → IfSome told IsReadable
+readable None script blocks text same h = tt
+readable (Some bs) script blocks text same h = (h.directory, (let P : List Block → Type 0 = λ x. main_entries x ≡ Some h.directory in subst P same h.opened))
 
-reported : (bytes : List ℕ) (bs : List Block) (command : Option LookupLine) (text : List ℕ)
-    → SpellsWithin command bytes → IsReportIn command bs text → IsReport bytes bs text
-reported bytes bs command text s h = record {
-  command = command;
+reported : (bytes : List ℕ) (bs : List Block) (script : Script) (text : List ℕ)
+    → SpellsWithin script bytes → AreLookUps script.lines → IsReportIn script bs text → IsReport bytes bs text
+reported bytes bs script text spelt run h = record {
+  script = script;
   directory = h.directory;
-  history = history_of command h.directory;
+  history = history_of h.directory script.lines;
   after = main_catalogue h.directory;
-  spelt = s.spelt;
+  spelt = spelt.spelt;
   opened = h.opened;
-  replayed = replays command h.directory;
-  whole = whole command h.directory;
+  replayed = replays script h.directory run;
+  whole = whole script h.directory run;
   written = h.written;
 }
 
-report_on : (left : Option (List ℕ)) (told : Option (List Block)) (command : Option LookupLine) (blocks : List Block) (text : List ℕ)
-    → IfSome left (SpellsWithin command) → IfSome told (λ bs. blocks ≡ bs) → IsReportIn command blocks text → IsReportOn left told text
-report_on None told command blocks text s same h = tt
-report_on (Some bytes) None command blocks text s same h = tt
-report_on (Some bytes) (Some bs) command blocks text s same h =
-    reported bytes bs command text s (let P : List Block → Type 0 = λ x. IsReportIn command x text in subst P same h)
+report_on : (left : Option (List ℕ)) (told : Option (List Block)) (script : Script) (blocks : List Block) (text : List ℕ)
+    → IfSome left (SpellsWithin script) → AreLookUps script.lines → IfSome told (λ bs. blocks ≡ bs) → IsReportIn script blocks text → IsReportOn left told text
+report_on None told script blocks text spelt run same h = tt
+report_on (Some bytes) None script blocks text spelt run same h = tt
+report_on (Some bytes) (Some bs) script blocks text spelt run same h =
+    reported bytes bs script text spelt run (let P : List Block → Type 0 = λ x. IsReportIn script x text in subst P same h)
 
 -- what a job answers
-pub job_reports : (left : Option (List ℕ)) (size : ℕ) (told : Option (List Block)) (command : Option LookupLine) (blocks : List Block) (text : List ℕ)
-    → IfSome left (SpellsWithin command) → IsInside size → IfSome told (λ bs. blocks ≡ bs) → IsReportIn command blocks text
+pub job_reports : (left : Option (List ℕ)) (size : ℕ) (told : Option (List Block)) (script : Script) (blocks : List Block) (text : List ℕ)
+    → IfSome left (SpellsWithin script) → AreLookUps script.lines → IsInside size → IfSome told (λ bs. blocks ≡ bs) → IsReportIn script blocks text
     → Passes left size told × IsReportOn left told text
-job_reports left size told command blocks text s inside same h = (
-  record { script = good left command s; inside = inside; readable = readable told command blocks text same h },
-  report_on left told command blocks text s same h,
+job_reports left size told script blocks text spelt run inside same h = (
+  record { script = good left script spelt; inside = inside; readable = readable told script blocks text same h },
+  report_on left told script blocks text spelt run same h,
 )
 
 pub if_ok : {A E : Type 0} (r : Result A E) (P Q : A → Type 0) → ((x : A) → P x → Q x) → IfOk r P → IfOk r Q

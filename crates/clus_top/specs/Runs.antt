@@ -1,12 +1,12 @@
--- What a run of a script answers on a volume, as far as the program goes so far: one node, and one look-up in the main
--- directory.
-use Rattle.std.specs.Prelude.{◌≡◌, ◌++◌, ℕ, Bool, true, false, count_by, List, [], ◌∷◌, Option, Some, None, codes, decimal}
+-- What a run of a script answers on a volume, as far as the program goes so far: nodes look up in the main directory.
+use Rattle.std.specs.Prelude.{◌≡◌, ◌++◌, ℕ, Bool, true, false, count_by, map, List, [], ◌∷◌, Some, None, codes, decimal}
+use Rattle.std.specs.List.{list_all}
 use Rattle.vol_words.specs.Fields.{Block}
-use Rattle.plain_cat.specs.declared.ids.Fid.{Fid}
 use Rattle.plain_cat.specs.declared.entries.DirEnt.{DirEnt}
-use Rattle.plain_cat.specs.declared.command.Cmd.TheVariants as cmd
-use Rattle.plain_cat.specs.declared.script.FileRef.TheVariants.{Fixed}
+use Rattle.plain_cat.specs.declared.reply.Reply.{Reply}
+use Rattle.plain_cat.specs.declared.script.LineCmd.{LineCmd}
 use Rattle.plain_cat.specs.declared.script.LineCmd.TheVariants as line
+use Rattle.plain_cat.specs.declared.script.Line.{Line}
 use Rattle.plain_cat.specs.declared.script.Script.{Script}
 use Rattle.plain_cat.specs.declared.history.Entry.{Entry}
 use Rattle.plain_cat.specs.declared.history.Entry.TheVariants.{Done, Died, Mended}
@@ -14,27 +14,14 @@ use Rattle.plain_cat.specs.declared.cat.Cat.{Cat}
 use Rattle.plain_cat.specs.declared.cat.File.{File}
 use Rattle.plain_cat.specs.declared.cat.Slot.TheVariants.{Free, Used}
 use Rattle.plain_vol.specs.Lookups.{versions, entry_of, found}
-use Rattle.plain_vol.specs.Own.{Whole}
+use Rattle.plain_vol.specs.Own.{filled, Whole}
 use Rattle.plain_vol.specs.Replaying.{Replays}
 use Rattle.vol_texts.specs.Reports.{lines_text, newline}
-use Rattle.clus_top.specs.declared.lookup.LookupLine.{LookupLine}
-use Rattle.clus_top.specs.Lines.{lines_of}
-use Rattle.clus_top.specs.Scripts.{Spell}
+use Rattle.run_script.specs.declared.built.TheConstants.{BUILT}
+use Rattle.run_script.specs.Lines.{lines_of}
+use Rattle.run_script.specs.Table.{is_main_ref}
+use Rattle.run_script.specs.Spelling.{SpellsScript}
 use Rattle.clus_top.specs.Volumes.{main_entries}
-
--- the main directory
-abbrev pub main_fid : Fid
-main_fid = record { num = 4; seq = 4 }
-
--- the script of a node that gives no command, or one look-up
-abbrev pub the_script : Option LookupLine → Script
-the_script None = record { nodes = 1; lines = []; plays = []; kills = [] }
-the_script (Some l) = record {
-  nodes = 1;
-  lines = record { node = 1; cmd = line.Lookup l.reg (Fixed main_fid) l.name l.ver } ∷ [];
-  plays = [];
-  kills = [];
-}
 
 -- the main directory as a file with these entries
 abbrev pub main_file : List DirEnt → File
@@ -85,20 +72,41 @@ closing_text answered died = codes "end: " ++ (decimal answered ++ (codes " answ
 abbrev pub report_text : List Entry → List ℕ
 report_text h = lines_text h ++ closing_text (count_by is_answer h) (count_by is_death h)
 
--- The text is the report of a history in which the node of the script gives each of its commands once and in order, and
+-- The text is the report of a history in which each node of the script gives each of its commands once and in order, and
 -- which replays on one uncached volume, whose main directory is the one that the blocks spell.
 pub record IsReport (bytes : List ℕ) (bs : List Block) (text : List ℕ) : Type 0 where
-  pub command : Option LookupLine
+  pub script : Script
   pub directory : List DirEnt
   pub history : List Entry
   pub after : Cat
-  pub spelt : Spell (lines_of bytes) command
+  pub spelt : SpellsScript BUILT (lines_of bytes) script
   pub opened : main_entries bs ≡ Some directory
-  pub replayed : Replays (main_catalogue directory) (the_script command) history after
-  pub whole : Whole (the_script command) history
+  pub replayed : Replays (main_catalogue directory) script history after
+  pub whole : Whole script history
   pub written : text ≡ report_text history
 
--- the history that a run makes
-abbrev pub history_of : Option LookupLine → List DirEnt → List Entry
-history_of None es = []
-history_of (Some l) es = Done 1 (cmd.Lookup l.reg main_fid l.name l.ver) (found (entry_of (versions l.name es) l.ver)) ∷ []
+-- a command is a look-up in the main directory
+abbrev pub is_main_lookup : LineCmd → Bool
+is_main_lookup (line.Lookup reg dir name ver) = is_main_ref dir
+is_main_lookup cmd = false
+
+-- a line's command is one
+abbrev pub is_look_up : Line → Bool
+is_look_up l = is_main_lookup l.cmd
+
+-- the commands of all lines are
+abbrev pub AreLookUps : List Line → Type 0
+AreLookUps ls = list_all is_look_up ls ≡ true
+
+-- the reply to a look-up in the main directory with these entries; no other command is run so far
+abbrev pub reply_to : List DirEnt → LineCmd → Reply
+reply_to es (line.Lookup reg dir name ver) = found (entry_of (versions name es) ver)
+reply_to es cmd = found None
+
+-- the answer to a line, whose command names no register
+abbrev pub answer_to : List DirEnt → Line → Entry
+answer_to es l = Done l.node (filled [] l.cmd) (reply_to es l.cmd)
+
+-- the history that a run makes: the lines are answered in their order
+abbrev pub history_of : List DirEnt → List Line → List Entry
+history_of es ls = map (answer_to es) ls

@@ -7,11 +7,12 @@ use Rattle.blk_drive.specs.Images.{IsInside, IsOutside}
 use Rattle.fx_text.specs.Streams.{AppendsStart}
 use Rattle.vol_texts.specs.Reports.{newline}
 use Rattle.plain_cat.specs.declared.entries.DirEnt.{DirEnt}
-use Rattle.clus_top.specs.declared.lookup.LookupLine.{LookupLine}
+use Rattle.plain_cat.specs.declared.script.Script.{Script}
+use Rattle.run_script.specs.declared.built.TheConstants.{BUILT}
+use Rattle.run_script.specs.Lines.{lines_of}
+use Rattle.run_script.specs.Spelling.{SpellsScript, IsBadLine, IsTooMany}
 use Rattle.clus_top.specs.declared.status.Status.{Status}
 use Rattle.clus_top.specs.declared.status.Status.TheVariants as status
-use Rattle.clus_top.specs.Lines.{lines_of}
-use Rattle.clus_top.specs.Scripts.{Spell, IsBadLine}
 use Rattle.clus_top.specs.Volumes.{main_entries}
 use Rattle.clus_top.specs.Runs.{IsReport}
 
@@ -22,6 +23,7 @@ status_code status.BadWords = 1
 status_code status.ScriptFault = 2
 status_code status.ScriptTooLong = 2
 status_code (status.BadScript n) = 3
+status_code status.TooMany = 3
 status_code status.ImageFault = 4
 status_code (status.BadSize n) = 4
 status_code status.NotAccepted = 5
@@ -35,6 +37,7 @@ status_text status.BadWords = codes "bad words" ++ newline
 status_text status.ScriptFault = codes "script fault" ++ newline
 status_text status.ScriptTooLong = codes "script too long" ++ newline
 status_text (status.BadScript n) = codes "bad line " ++ (decimal n ++ newline)
+status_text status.TooMany = codes "too many" ++ newline
 status_text status.ImageFault = codes "image fault" ++ newline
 status_text (status.BadSize n) = codes "bad size " ++ (decimal n ++ newline)
 status_text status.NotAccepted = codes "not accepted: unread" ++ newline
@@ -54,13 +57,18 @@ IsTooLong bytes = 1048576 < length bytes
 -- a script has a first bad line, with this number
 pub record IsBad (n : ℕ) (bytes : List ℕ) : Type 0 where
   pub within : length bytes ≤ 1048576
-  pub bad : IsBadLine (lines_of bytes) n
+  pub bad : IsBadLine BUILT (lines_of bytes) n
+
+-- a script has one command or some plays too many, before any bad line
+pub record IsOverfull (bytes : List ℕ) : Type 0 where
+  pub within : length bytes ≤ 1048576
+  pub over : IsTooMany BUILT (lines_of bytes)
 
 -- a script is read
 pub record IsGood (bytes : List ℕ) : Type 0 where
   pub within : length bytes ≤ 1048576
-  pub command : Option LookupLine
-  pub spelt : Spell (lines_of bytes) command
+  pub script : Script
+  pub spelt : SpellsScript BUILT (lines_of bytes) script
 
 -- blocks are readable: they spell a main directory
 abbrev pub IsReadable : List Block → Type 0
@@ -81,6 +89,7 @@ IsDue words left size told status.BadWords = ¬ IsRun words
 IsDue words left size told status.ScriptFault = IsRun words
 IsDue words left size told status.ScriptTooLong = IsRun words × IfSome left IsTooLong
 IsDue words left size told (status.BadScript n) = IsRun words × IfSome left (IsBad n)
+IsDue words left size told status.TooMany = IsRun words × IfSome left IsOverfull
 IsDue words left size told status.ImageFault = IsRun words × IfSome left IsGood
 IsDue words left size told (status.BadSize n) = IsRun words × IfSome left IsGood × (n ≡ size) × IsOutside size
 IsDue words left size told status.NotAccepted = IsRun words × IfSome left IsGood × IsInside size × IfSome told (λ bs. main_entries bs ≡ None)

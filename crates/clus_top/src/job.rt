@@ -2,20 +2,18 @@ ghost use Rattle.std.specs.Prelude.{◌≡◌, ◌≤◌, None, IfOk, IfErr, IfS
 ghost use Rattle.vol_words.specs.Faults.{Rose};
 ghost use Rattle.blk_drive.specs.Images.{IsInside};
 ghost use Rattle.plain_cat.specs.declared.entries.DirEnt.{DirEnt};
-ghost use Rattle.clus_top.specs.Lines.{lines_of};
-ghost use Rattle.clus_top.specs.Scripts.{Spell};
 ghost use Rattle.clus_top.specs.Volumes.{main_entries};
-ghost use Rattle.clus_top.specs.Runs.{IsReport};
+ghost use Rattle.clus_top.specs.Runs.{AreLookUps};
 ghost use Rattle.clus_top.specs.Statuses.{Passes, IsReportOn};
 ghost use Rattle.clus_top.specs.Jobs.{SpellsWithin, IsScriptEnd, IsVolumeEnd, IsReportIn, IsJobEnd, load_status};
 
-use crate::lookup::LookupLine;
 use crate::report::report;
-use crate::script::{ScriptFault, read_script};
 use crate::status::Status;
 use crate::volume::main_entries;
 use blk_drive::{ImageDev, LoadFault, LoadRefused, Mirror};
 use fx_text::{TextFault, TextIn, read_all};
+use plain_cat::Script;
+use run_script::{ScriptFault, read_script};
 use std::alloc::Global;
 use vol_words::Block;
 
@@ -23,8 +21,9 @@ use vol_words::Block;
 const SCRIPT_LIMIT: usize = 1_048_576;
 
 // Reads the script to its end, and what it spells.
-fn command_of<T: TextIn>(alloc: Global, script: &mut T) -> Result<Option<LookupLine>, Status>
-    ensures spelt { IfOk result (λ command. IfSome (T.left script.old) (SpellsWithin command)) }
+fn script_of<T: TextIn>(alloc: Global, script: &mut T) -> Result<Script, Status>
+    ensures spelt { IfOk result (λ s. IfSome (T.left script.old) (SpellsWithin s)) }
+    ensures run { IfOk result (λ s. AreLookUps s.lines) }
     ensures end { IfErr result (IsScriptEnd (T.left script.old) (T.faults script.old) (T.faults script.new)) }
 {
     let bytes = match read_all(alloc, script, SCRIPT_LIMIT) {
@@ -34,22 +33,24 @@ fn command_of<T: TextIn>(alloc: Global, script: &mut T) -> Result<Option<LookupL
         Err(TextFault::NoMemory) => return Err(Status::NoMemory),
     };
     match read_script(alloc, bytes.as_slice()) {
-        Ok(command) => Ok(command),
+        Ok(script) => Ok(script),
         Err(ScriptFault::BadLine(n)) => Err(Status::BadScript(n)),
+        Err(ScriptFault::TooMany) => Err(Status::TooMany),
         Err(ScriptFault::NoMemory) => Err(Status::NoMemory),
     }
 }
 
-// The report of the command on the blocks of a volume.
-fn report_on(alloc: Global, command: Option<LookupLine>, bs: &[Block]) -> Result<Vec<u8>, Status>
-    requires { IsInside (length bs.now) }
-    ensures report { IfOk result (λ text. IsReportIn command bs.now text.items) }
+// The report of a script on the blocks of a volume.
+fn report_on(alloc: Global, script: &Script, bs: &[Block]) -> Result<Vec<u8>, Status>
+    requires size { IsInside (length bs.now) }
+    requires run { AreLookUps script.now.lines }
+    ensures report { IfOk result (λ text. IsReportIn script.now bs.now text.items) }
     ensures end { IfErr result (IsVolumeEnd bs.now) }
 {
     match main_entries(alloc, bs) {
         Err(_) => Err(Status::NoMemory),
         Ok(None) => Err(Status::NotAccepted),
-        Ok(Some(directory)) => match report(alloc, command, &directory) {
+        Ok(Some(directory)) => match report(alloc, script, &directory) {
             Ok(text) => Ok(text),
             Err(_) => Err(Status::NoMemory),
         },
@@ -82,8 +83,8 @@ pub fn run_job<I: ImageDev, T: TextIn>(alloc: Global, image: I, script: &mut T) 
         (T.faults script.old) (T.faults script.new) (I.faults image) (I.faults result.image)) }
     ensures told { I.told result.image ≡ I.told image }
 {
-    let command = match command_of(alloc, script) {
-        Ok(command) => command,
+    let spelt = match script_of(alloc, script) {
+        Ok(spelt) => spelt,
         Err(status) => {
             return Job {
                 outcome: Err(status),
@@ -93,7 +94,7 @@ pub fn run_job<I: ImageDev, T: TextIn>(alloc: Global, image: I, script: &mut T) 
     };
     match Mirror::load(alloc, image) {
         Ok(mirror) => {
-            let outcome = report_on(alloc, command, mirror.all());
+            let outcome = report_on(alloc, &spelt, mirror.all());
             Job {
                 outcome,
                 image: mirror.into_image(),

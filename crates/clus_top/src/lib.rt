@@ -1,21 +1,18 @@
 //! The top call: the program `vmsclus` over any image, script source and text sink.
 #![tactic(auto)]
 
-mod entry;
+mod history;
 mod job;
-mod lines;
-mod lookup;
 mod names;
-mod numbers;
 mod report;
-mod script;
 mod status;
 mod tell;
+mod theorems;
 mod top;
 mod volume;
 
-pub use lookup::LookupLine;
 pub use status::Status;
+pub use theorems::one_status_is_due;
 pub use top::{Finished, vmsclus};
 
 #[cfg(test)]

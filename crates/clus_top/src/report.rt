@@ -1,14 +1,10 @@
 ghost use Rattle.std.specs.Prelude.{◌≡◌, ◌++◌, IfOk, OnOk, count_by};
-ghost use Rattle.clus_top.specs.Runs.{is_answer, is_death, closing_text, report_text, history_of};
+ghost use Rattle.clus_top.specs.Runs.{is_answer, is_death, closing_text, report_text, AreLookUps, history_of};
 
-use crate::lookup::LookupLine;
-use plain_cat::{Cmd, DirEnts, Entry, Fid, NoMemory};
-use plain_vol::look_up;
+use crate::history::history_of;
+use plain_cat::{DirEnts, Entry, NoMemory, Script};
 use std::alloc::Global;
 use vol_texts::{push_bytes, push_count, push_lines};
-
-/// The main directory.
-const MFD: Fid = Fid { num: 4, seq: 4 };
 
 // Whether an entry is an answer, or a death.
 #[tactic(auto, unfolding(crate::specs::Runs::is_answer))]
@@ -66,41 +62,12 @@ fn push_closing(
     push_bytes(out, b" died\n")
 }
 
-// The history of a run: no command, or one look-up in the main directory.
-fn history_of(
-    alloc: Global,
-    command: Option<LookupLine>,
-    directory: &DirEnts,
-) -> Result<Vec<Entry>, NoMemory>
-    ensures { IfOk result (λ h. h.items ≡ history_of command directory.now) }
-{
-    let mut entries = Vec::new(alloc);
-    if let Some(LookupLine { reg, name, ver }) = command {
-        let reply = look_up(alloc, directory, &name, ver)?;
-        let cmd = Cmd::Lookup {
-            reg,
-            dir: MFD,
-            name,
-            ver,
-        };
-        entries.push(Entry::Done {
-            node: 1,
-            cmd,
-            reply,
-        })?;
-    }
-    Ok(entries)
-}
-
 /// The report of a run.
-pub fn report(
-    alloc: Global,
-    command: Option<LookupLine>,
-    directory: &DirEnts,
-) -> Result<Vec<u8>, NoMemory>
-    ensures { IfOk result (λ text. text.items ≡ report_text (history_of command directory.now)) }
+pub fn report(alloc: Global, script: &Script, directory: &DirEnts) -> Result<Vec<u8>, NoMemory>
+    requires { AreLookUps script.now.lines }
+    ensures { IfOk result (λ text. text.items ≡ report_text (history_of directory.now script.now.lines)) }
 {
-    let entries = history_of(alloc, command, directory)?;
+    let entries = history_of(alloc, script.lines.items(), directory)?;
     let mut text = Vec::new(alloc);
     push_lines(alloc, &mut text, entries.as_slice())?;
     let answered = answers(entries.as_slice());

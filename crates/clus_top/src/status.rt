@@ -18,6 +18,9 @@ pub enum Status {
     /// The first bad line of the script, counted from 1.
     BadScript(u32),
 
+    /// Before any bad line the script has more than 4,096 commands or 65,536 plays.
+    TooMany,
+
     /// A call of the image failed.
     ImageFault,
 
@@ -45,7 +48,7 @@ impl Status {
             Status::Ok => 0,
             Status::BadWords => 1,
             Status::ScriptFault | Status::ScriptTooLong => 2,
-            Status::BadScript(_) => 3,
+            Status::BadScript(_) | Status::TooMany => 3,
             Status::ImageFault | Status::BadSize(_) => 4,
             Status::NotAccepted => 5,
             Status::OutFault => 6,

@@ -34,6 +34,7 @@ fn status_text(alloc: Global, status: Status) -> Result<Vec<u8>, NoMemory>
         Status::BadWords => b"bad words\n",
         Status::ScriptFault => b"script fault\n",
         Status::ScriptTooLong => b"script too long\n",
+        Status::TooMany => b"too many\n",
         Status::ImageFault => b"image fault\n",
         Status::NotAccepted => b"not accepted: unread\n",
         Status::NoMemory => b"no memory\n",

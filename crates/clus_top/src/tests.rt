@@ -134,28 +134,87 @@ fn call(alloc: Global, r: &Row) -> Result<(u8, MemOut), NoMemory> {
     Ok((finished.status.code(), out))
 }
 
+// The script of the first row with another status or text than it should have.
+fn wrong_row(alloc: Global, rows: &[Row]) -> Result<Option<&'static str>, NoMemory> {
+    for r in rows {
+        let (code, out) = call(alloc, r)?;
+        if code != r.code || out.bytes() != r.text.as_bytes() {
+            return Ok(Some(r.script));
+        }
+    }
+    Ok(None)
+}
+
+// The scripts and reports of the folder examples/.
 #[test]
-fn runs_each_row(rt: HostRuntime) -> Result<(), Fail> {
-    let found =
-        "1 N1 LOOKUP R1 (4,4,0) INDEXF.SYS;1 = (1,1,0) INDEXF.SYS;1\nend: 1 answered, 0 died\n";
-    let absent =
-        "1 N1 LOOKUP R1 (4,4,0) ABSENT.X;0 = refused NoSuchFile\nend: 1 answered, 0 died\n";
-    let look_up = "NODES 1\n1 LOOKUP R1 MFD INDEXF.SYS;1\n";
+fn examples(rt: HostRuntime) -> Result<(), Fail> {
     let rows = [
-        plain_row(look_up, 0, found),
-        plain_row("NODES 1\n1 LOOKUP R1 MFD ABSENT.X;0", 0, absent),
+        plain_row(
+            "NODES 1\n1 LOOKUP R1 MFD INDEXF.SYS;1\n",
+            0,
+            "1 N1 LOOKUP R1 (4,4,0) INDEXF.SYS;1 = (1,1,0) INDEXF.SYS;1\nend: 1 answered, 0 died\n",
+        ),
+        plain_row(
+            "NODES 1\n1 LOOKUP R1 MFD INDEXF.SYS;2\n",
+            0,
+            "1 N1 LOOKUP R1 (4,4,0) INDEXF.SYS;2 = refused NoSuchFile\nend: 1 answered, 0 died\n",
+        ),
+        plain_row(
+            "# Two nodes look into the main directory.\nNODES 2\nSCHED 2 1*2 2\n\n2 LOOKUP R1 MFD INDEXF.SYS;1\n1 LOOKUP R1 MFD 000000.DIR;0\n1 LOOKUP R2 (4,4,0) INDEXF.SYS;0\n2 LOOKUP R8 MFD ABSENT.X;3\n",
+            0,
+            "1 N2 LOOKUP R1 (4,4,0) INDEXF.SYS;1 = (1,1,0) INDEXF.SYS;1\n2 N1 LOOKUP R1 (4,4,0) 000000.DIR;0 = (4,4,0) 000000.DIR;1\n3 N1 LOOKUP R2 (4,4,0) INDEXF.SYS;0 = (1,1,0) INDEXF.SYS;1\n4 N2 LOOKUP R8 (4,4,0) ABSENT.X;3 = refused NoSuchFile\nend: 4 answered, 0 died\n",
+        ),
+    ];
+    assert_eq!(rt; wrong_row(rt.alloc(), &rows)?, None);
+    Ok(())
+}
+
+#[test]
+fn runs_scripts_of_look_ups(rt: HostRuntime) -> Result<(), Fail> {
+    let rows = [
+        plain_row(
+            "NODES 1\n1 LOOKUP R1 MFD ABSENT.X;0",
+            0,
+            "1 N1 LOOKUP R1 (4,4,0) ABSENT.X;0 = refused NoSuchFile\nend: 1 answered, 0 died\n",
+        ),
         plain_row("NODES 1\n", 0, "end: 0 answered, 0 died\n"),
+        plain_row("\n#\nNODES 8\n\n", 0, "end: 0 answered, 0 died\n"),
         plain_row("", 3, "bad line 1\n"),
-        plain_row("NODES 2\n", 3, "bad line 1\n"),
-        plain_row("NODES 1\n\n", 3, "bad line 2\n"),
-        plain_row("NODES 1\n1 LOOKUP R9 MFD A.B;1\n", 3, "bad line 2\n"),
+        plain_row("# nothing\n", 3, "bad line 2\n"),
+        plain_row("NODES 9\n", 3, "bad line 1\n"),
+        plain_row("NODES 1\n\n1 LOOKUP R9 MFD A.B;1\n", 3, "bad line 3\n"),
+        plain_row("NODES 1\n2 LOOKUP R1 MFD A.B;1\n", 3, "bad line 2\n"),
         plain_row("NODES 1\n1 LOOKUP R1 MFD A.B;01\n", 3, "bad line 2\n"),
         plain_row("NODES 1\n1 LOOKUP R1 MFD A.B;32768\n", 3, "bad line 2\n"),
-        plain_row(
-            "NODES 1\n1 LOOKUP R1 MFD A.B;1\n1 LOOKUP R1 MFD A.B;1\n",
-            3,
-            "bad line 3\n",
-        ),
+    ];
+    assert_eq!(rt; wrong_row(rt.alloc(), &rows)?, None);
+    Ok(())
+}
+
+#[test]
+fn refuses_what_is_not_built(rt: HostRuntime) -> Result<(), Fail> {
+    let rows = [
+        plain_row("NODES 1\n1 LIST MFD\n", 3, "bad line 2\n"),
+        plain_row("NODES 1\n1 LOOKUP R1 LOST A.B;1\n", 3, "bad line 2\n"),
+        plain_row("NODES 1\n1 LOOKUP R1 R1 A.B;1\n", 3, "bad line 2\n"),
+        plain_row("NODES 1\n1 LOOKUP R1 (4,5,0) A.B;1\n", 3, "bad line 2\n"),
+        plain_row("NODES 1\nKILL 1 TURN 1\n", 3, "bad line 2\n"),
+    ];
+    assert_eq!(rt; wrong_row(rt.alloc(), &rows)?, None);
+    Ok(())
+}
+
+#[test]
+fn tells_each_status(rt: HostRuntime) -> Result<(), Fail> {
+    let look_up = "NODES 1\n1 LOOKUP R1 MFD INDEXF.SYS;1\n";
+    let crowded = "NODES 1\nSCHED 1*65536 1\nbad\n";
+    let rows = [
+        plain_row(crowded, 3, "too many\n"),
+        plain_row("NODES 1\nbad\nSCHED 1*65536 1\n", 3, "bad line 2\n"),
+        Row {
+            count: 63,
+            ..plain_row(crowded, 3, "too many\n")
+        },
         Row {
             count: 63,
             ..plain_row(look_up, 4, "bad size 63\n")
@@ -185,11 +244,7 @@ fn runs_each_row(rt: HostRuntime) -> Result<(), Fail> {
             ..plain_row(look_up, 6, "")
         },
     ];
-    for r in &rows {
-        let (code, out) = call(rt.alloc(), r)?;
-        assert_eq!(rt; code, r.code, "{}", r.script);
-        assert!(rt; out.bytes() == r.text.as_bytes(), "{}", r.script);
-    }
+    assert_eq!(rt; wrong_row(rt.alloc(), &rows)?, None);
     Ok(())
 }
 

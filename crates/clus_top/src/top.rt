@@ -28,8 +28,9 @@ fn is_run(words: &[Word]) -> bool
 
 /// Runs a script on a volume, and prints the report: the job `run`.
 ///
-/// So far a script is the line `NODES 1` and at most one look-up in the main directory, `1 LOOKUP Rr MFD name;v`, and the
-/// volume is looked at as far as its main directory. The call waits for nobody, and always returns.
+/// So far the commands of a script are look-ups in the main directory, by any of its nodes; they are answered in the order
+/// of their lines, and the schedule has no effect yet. The volume is looked at as far as its main directory. The call waits
+/// for nobody, and always returns.
 pub fn vmsclus<I: ImageDev, T: TextIn, O: TextOut>(
     alloc: Global,
     words: &[Word],

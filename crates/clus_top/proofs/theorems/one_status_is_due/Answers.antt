@@ -1,0 +1,7 @@
+use Rattle.run_script.specs.declared.built.TheConstants.{BUILT}
+use Rattle.run_script.specs.Lines.{lines_of}
+use Rattle.clus_top.proofs.OneVerdict.{one_verdict}
+use Rattle.clus_top.proofs.theorems.one_status_is_due.Goals as goal
+
+pub returns : goal.returns
+returns c words bytes size bs = one_verdict words bytes size bs (c.a_text_says_one_thing.ensures BUILT (lines_of bytes))
