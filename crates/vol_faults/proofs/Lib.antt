@@ -1,6 +1,10 @@
 pub mod BitmapLemmas
+pub mod CatLemmas
 pub mod CountLemmas
 pub mod FirstLemmas
 pub mod HeaderLemmas
+pub mod LiftLemmas
 pub mod PlaceLemmas
+pub mod ReachLemmas
+pub mod RoomLemmas
 pub mod SharingLemmas

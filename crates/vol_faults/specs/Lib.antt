@@ -1,2 +1,4 @@
+pub mod CatFindings
 pub mod Conditions
 pub mod Counts
+pub mod Reaching
