@@ -1,0 +1,8 @@
+use Rattle.std.proofs.Common.{◌≡◌, ◌++◌, drop, map}
+use Rattle.vol_analyze.specs.Places.{place_of}
+use Rattle.vol_analyze.specs.Kinds.{nameless_of}
+use Rattle.vol_analyze.proofs.kinds.push_nameless.Given as goal
+
+abbrev pub invariant-loop-spot : goal.invariant-loop-spot
+invariant-loop-spot l =
+    l.out.items ++ nameless_of l.cat (map place_of (drop l.spot-index l.spots)) ≡ l.initial.out.items ++ nameless_of l.cat (map place_of l.spots)
