@@ -17,3 +17,5 @@ pub use top::{Finished, vmsclus};
 
 #[cfg(test)]
 mod tests;
+#[cfg(test)]
+mod worked_lines;
