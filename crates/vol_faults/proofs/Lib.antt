@@ -8,3 +8,4 @@ pub mod PlaceLemmas
 pub mod ReachLemmas
 pub mod RoomLemmas
 pub mod SharingLemmas
+pub mod WholeLemmas

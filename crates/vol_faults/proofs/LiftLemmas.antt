@@ -11,7 +11,7 @@ use Rattle.vol_parts.specs.Volumes.{Volume}
 use Rattle.vol_faults.specs.CatFindings.{IsFatalOf, IsFirstIn}
 use Rattle.vol_faults.proofs.CatLemmas.{marked-number}
 
-catalogue-numbers : (v : Volume) → length (catalogue v).files ≡ v.home.files
+pub catalogue-numbers : (v : Volume) → length (catalogue v).files ≡ v.home.files
 unfolding catalogue files_of
 catalogue-numbers v = length-map-range_with_len (slot_of v) 1 v.home.files
 

@@ -2,3 +2,4 @@ pub mod CatFindings
 pub mod Conditions
 pub mod Counts
 pub mod Reaching
+pub mod Whole

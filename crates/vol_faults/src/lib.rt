@@ -6,6 +6,7 @@ mod clusters;
 mod control;
 mod counts;
 mod entries;
+mod first;
 mod headers;
 mod laws;
 mod loops;
@@ -18,6 +19,7 @@ pub use clusters::{count_outside, first_free_cluster, first_shared_cluster};
 pub use control::first_bad_control_block;
 pub use counts::count_clusters;
 pub use entries::{first_marked_dir, first_missing_entry};
+pub use first::read_whole;
 pub use headers::first_bad_header;
 pub use laws::{catalogues_tell_volumes, room_is_lacking_where_mending_gives_up};
 pub use loops::first_loop;
@@ -26,5 +28,7 @@ pub use systems::first_bad_system_file;
 
 #[cfg(test)]
 mod cat_tests;
+#[cfg(test)]
+mod first_tests;
 #[cfg(test)]
 mod tests;

@@ -18,7 +18,7 @@ use vol_words::{Block, put_bytes, put_long, put_word, set_sum};
 
 /// 64 blocks in clusters of one. The headers of 32 numbers follow the index-file bitmap in LBN 4; then come the storage
 /// control block, the storage bitmap, and a block of each of the files 4, 10 and 11.
-const SMALL: Home = Home {
+pub(crate) const SMALL: Home = Home {
     cluster: 1,
     files: 32,
     label: *b"SMALL       ",
@@ -52,7 +52,7 @@ fn header(num: u16, seq: u16, flags: u32, first: (u16, u16), second: (u16, u16))
 }
 
 /// A sound volume: the files 1 to 11, and nothing else.
-fn small() -> [Block; 64] {
+pub(crate) fn small() -> [Block; 64] {
     let mut b = [[0; 512]; 64];
     set_bits(&mut b[4], 0, 11);
     b[5] = header(1, 1, 0, (0, 37), NO_RUN);
