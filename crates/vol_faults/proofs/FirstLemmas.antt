@@ -70,7 +70,7 @@ pub header-faulty : (v : Volume) (n : ℕ) (fault : HeaderFault) → IsLowest (i
 header-faulty v n fault low e =
     least-found v 1 (is_bad_header v) 1 v.home.files n (finding.Header n fault) (headers-found v) low refl refl (record { from = low.0; to = omega arith }, e)
 
-wrong-number : (n : ℕ) (r : Result Slot HeaderFault) (s : Slot) → r ≡ Ok s → is_bad_slot n r ≡ true → (f : Hdr) × (fields_in r ≡ Some f) × (f.num ≢ n)
+pub wrong-number : (n : ℕ) (r : Result Slot HeaderFault) (s : Slot) → r ≡ Ok s → is_bad_slot n r ≡ true → (f : Hdr) × (fields_in r ≡ Some f) × (f.num ≢ n)
 wrong-number n (Ok (Used f)) s e bad = (f, refl, λ same. both_ways (f.num == n) (not-true (f.num == n) bad) (eq-eqb f.num n same))
 wrong-number n (Ok (Free seq)) s e bad = absurd (cc)
 wrong-number n (Err fault) s e bad = absurd (cc)

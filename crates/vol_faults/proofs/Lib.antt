@@ -9,3 +9,4 @@ pub mod ReachLemmas
 pub mod RoomLemmas
 pub mod SharingLemmas
 pub mod WholeLemmas
+pub mod FreeLemmas

@@ -1,8 +1,8 @@
 ghost use Rattle.std.specs.Prelude.{length};
 ghost use Rattle.vol_faults.specs.Conditions.{IsSize};
 
-use crate::read_whole;
 use crate::tests::{SMALL, small};
+use crate::{free_counts, geometry, read_whole};
 use fx_home::{HomeFault, home_block};
 use fx_quota::{Row, set_row};
 use plain_cat::NoMemory;
@@ -68,6 +68,10 @@ fn a_volume_is_read(rt: HostRuntime) -> Result<(), Fail> {
     assert_eq!(rt; (cat.rows, cat.leaked), (16, 0));
     assert_eq!(rt; cat.files.items().len(), 32);
     assert_eq!(rt; cat.quota.items().len(), 1);
+    assert_eq!(rt; free_counts(&b), (22, 21));
+    let at = geometry(&b);
+    assert_eq!(rt; (at.blocks, at.cluster, at.files), (64, 1, 32));
+    assert_eq!(rt; (at.bitmap_lbn, at.quota_lbn), (37, 40));
     Ok(())
 }
 
