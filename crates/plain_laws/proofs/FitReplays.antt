@@ -15,14 +15,13 @@ use Rattle.plain_cat.specs.declared.cat.Slot.TheVariants.{Used, Free}
 use Rattle.plain_cat.specs.declared.script.Script.{Script}
 use Rattle.plain_vol.specs.declared.outcome.Outcome.{Outcome}
 use Rattle.plain_vol.specs.Lookups.{file_at, clusters_in}
-use Rattle.plain_vol.specs.Directories.{inserted}
 use Rattle.plain_vol.specs.Changes.{with_entries}
 use Rattle.plain_vol.specs.Answers.{Answer}
-use Rattle.plain_vol.specs.Mending.{less_entries, each_from, without_opens, without_entries, lost_entry, lost, enter, enter_all, enter_some, with_lost, gone_slot, put_right, counts, mended, mended_from}
+use Rattle.plain_vol.specs.Mending.{less_entries, each_from, without_opens, without_entries, lost, with_lost_entry, enter, enter_all, enter_some, with_lost, gone_slot, put_right, counts, mended, mended_from}
 use Rattle.plain_vol.specs.Own.{next_command}
 use Rattle.plain_vol.specs.Replaying.{MayLeak, dead, Leads, ReplaysFrom, Replays}
 use Rattle.plain_laws.specs.Fitting.{Fits}
-use Rattle.plain_laws.proofs.Slots.{some_if, stands_at}
+use Rattle.plain_laws.proofs.Slots.{some_map, stands_at}
 use Rattle.plain_laws.proofs.FitAnswers.{entries_fit, outcome_fits}
 use Rattle.plain_laws.proofs.FitStages.{FitsIf, staged_fits}
 
@@ -58,8 +57,8 @@ then_fits (Some x) next b h k = k x refl h
 enter_fits : (c : Cat) (n : ℕ) (b : Cat) → enter c n ≡ Some b → Fits c → Fits b
 unfolding enter
 enter_fits c n b h a = then_fits (file_at c 11) _ b h (λ d at k. then_fits (file_at c n) _ b k (λ f own l.
-    let es = inserted (lost_entry d n f) d.entries in
-    subst Fits (some_if _ (with_entries c 11 d es) b l) (entries_fit c 11 d es a (stands_at c 11 d at))))
+    let w = some_map (with_lost_entry c.factor d.entries n f.seq) (with_entries c 11 d) b l in
+    subst Fits w.2 (entries_fit c 11 d w.0 a (stands_at c 11 d at))))
 
 enter_all_fits : (ns : List ℕ) (c b : Cat) → enter_all ns c ≡ Some b → Fits c → Fits b
 enter_all_fits [] c b h a = let e : c ≡ b = cc h in subst Fits e a

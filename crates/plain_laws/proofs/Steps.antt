@@ -13,8 +13,8 @@ use Rattle.plain_vol.specs.declared.places.Place.{Place}
 use Rattle.plain_vol.specs.Lookups.{slot_at, file_in, file_at, live}
 use Rattle.plain_vol.specs.Directories.{inserted}
 use Rattle.plain_vol.specs.Changes.{with_entries}
-use Rattle.plain_vol.specs.Mending.{places, is_own, is_first, stays, less_entries, without_opens, without_entries, numbers_from, lost, lost_entry, enter, enter_all, enter_some, with_lost, is_gone, gone_slot, without_gone, put_right, counts, mended, mended_from}
-use Rattle.plain_laws.proofs.Slots.{some_if, stands_at}
+use Rattle.plain_vol.specs.Mending.{places, is_own, is_first, stays, less_entries, without_opens, without_entries, numbers_from, lost, lost_entry, with_lost_entry, enter, enter_all, enter_some, with_lost, is_gone, gone_slot, without_gone, put_right, counts, mended, mended_from}
+use Rattle.plain_laws.proofs.Slots.{some_if, some_map, stands_at}
 use Rattle.plain_laws.proofs.Members.{Has, has_filter, has_kept}
 use Rattle.plain_laws.proofs.Standing.{number_rises, stands_from, slot_each, file_same, file_other, Alive, alive_from, alive_to}
 use Rattle.plain_laws.proofs.Places.{In, inserted_has, has_inserted}
@@ -142,9 +142,13 @@ entered_as x m d f e at own fid = record {
 }
 
 pub entered_by : (x : Cat) (m : ℕ) (y : Cat) → enter x m ≡ Some y → Entered x y m
-unfolding enter
+unfolding enter with_lost_entry
 entered_by x m y h = then_entered (file_at x 11) _ x y m h (λ d at k. then_entered (file_at x m) _ x y m k (λ f own l.
-    subst (λ (z : Cat). Entered x z m) (some_if _ (with_entries x 11 d (inserted (lost_entry d m f) d.entries)) y l) (entered_as x m d f (lost_entry d m f) at own refl)))
+    let w = some_map (with_lost_entry x.factor d.entries m f.seq) (with_entries x 11 d) y l in
+    let e = lost_entry d.entries m f.seq in
+    let room : inserted e d.entries ≡ w.0 = some_if _ (inserted e d.entries) w.0 w.1 in
+    subst (λ (z : Cat). Entered x z m) w.2
+    (subst (λ (es : List DirEnt). Entered x (with_entries x 11 d es) m) room (entered_as x m d f e at own refl))))
 
 pub entered_same : (x y : Cat) (m : ℕ) → Entered x y m → SameFiles x y
 entered_same x y m e n = by_case (cases_eq n 11) where

@@ -11,11 +11,10 @@ use Rattle.plain_cat.specs.declared.cat.Slot.{Slot}
 use Rattle.plain_cat.specs.declared.cat.Slot.TheVariants.{Used, Free}
 use Rattle.plain_cat.specs.declared.cat.QuotaRow.{QuotaRow}
 use Rattle.plain_vol.specs.Lookups.{file_at, clusters_in}
-use Rattle.plain_vol.specs.Directories.{inserted}
 use Rattle.plain_vol.specs.Changes.{with_entries}
 use Rattle.plain_vol.specs.Accounts.{share, charge, HasRow, IsCharged, Accounted}
-use Rattle.plain_vol.specs.Mending.{less_entries, each_from, without_opens, without_entries, lost_entry, lost, enter_in, enter, enter_all, enter_some, with_lost, gone_slot, without_gone, without_leaks, summed_row, put_right, counts, mended}
-use Rattle.plain_vol.proofs.Standing.{some_if, stands_at}
+use Rattle.plain_vol.specs.Mending.{less_entries, each_from, without_opens, without_entries, lost, with_lost_entry, enter, enter_all, enter_some, with_lost, gone_slot, without_gone, without_leaks, summed_row, put_right, counts, mended}
+use Rattle.plain_vol.proofs.Standing.{some_map, stands_at}
 use Rattle.plain_vol.proofs.Accounting.{has_row-map}
 use Rattle.plain_vol.proofs.Kept.{entries_keep, opens_keep}
 
@@ -75,8 +74,8 @@ then_keeps (Some x) next b h k = k x refl h
 enter_keeps : (c : Cat) (n : ℕ) (b : Cat) → enter c n ≡ Some b → Accounted c → Accounted b
 unfolding enter
 enter_keeps c n b h a = then_keeps (file_at c 11) _ b h (λ d at k. then_keeps (file_at c n) _ b k (λ f own l.
-    let es = inserted (lost_entry d n f) d.entries in
-    subst Accounted (some_if _ (with_entries c 11 d es) b l) (entries_keep c 11 d es a (stands_at c 11 d at))))
+    let w = some_map (with_lost_entry c.factor d.entries n f.seq) (with_entries c 11 d) b l in
+    subst Accounted w.2 (entries_keep c 11 d w.0 a (stands_at c 11 d at))))
 
 enter_all_keeps : (ns : List ℕ) (c b : Cat) → enter_all ns c ≡ Some b → Accounted c → Accounted b
 enter_all_keeps [] c b h a = let e : c ≡ b = cc h in subst Accounted e a

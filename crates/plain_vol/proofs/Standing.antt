@@ -1,4 +1,5 @@
 use Rattle.std.proofs.Common.{◌≡◌, ◌≢◌, ◌==◌, ◌&&◌, ◌-◌, ◌<◌, ℕ, Bool, true, false, cond, List, Option, Some, None, slice_get, refl, sym, ap, ◌∙◌}
+use Rattle.std.specs.Prelude.{option_map}
 use Rattle.plain_cat.specs.declared.ids.Fid.{Fid}
 use Rattle.plain_cat.specs.declared.cat.Cat.{Cat}
 use Rattle.plain_cat.specs.declared.cat.File.{File}
@@ -10,6 +11,10 @@ use Rattle.plain_vol.specs.Lookups.{slot_at, file_in, file_at, of_seq, in_use, u
 pub some_if : {X : Type 0} (b : Bool) (x y : X) → cond b (Some x) None ≡ Some y → x ≡ y
 some_if true x y h = cc
 some_if false x y h = absurd (cc h)
+
+pub some_map : {X Y : Type 0} (o : Option X) (f : X → Y) (y : Y) → option_map f o ≡ Some y → (x : X) × (o ≡ Some x) × (f x ≡ y)
+some_map None f y h = absurd (cc h)
+some_map (Some x) f y h = (x, refl, cc h)
 
 pub some_unless : {X : Type 0} (b : Bool) (o : Option X) (y : X) → cond b None o ≡ Some y → o ≡ Some y
 some_unless true o y h = absurd (cc h)

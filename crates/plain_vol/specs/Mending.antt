@@ -110,17 +110,22 @@ unfoldable pub lost_name : ℕ → List ℕ
 lost_name n =
     70 ∷ digit n 10000 ∷ digit n 1000 ∷ digit n 100 ∷ digit n 10 ∷ digit n 1 ∷ 46 ∷ 76 ∷ 83 ∷ 84 ∷ []
 
--- the entry of a lost file in [SYSLOST], with one more than the highest version there
-abbrev pub lost_entry : File → ℕ → File → DirEnt
-lost_entry d n f = entry (lost_name n) (highest (versions (lost_name n) d.entries) + 1) (record { num = n; seq = f.seq })
+-- the entry of a lost file among these of [SYSLOST], with one more than the highest version of its name there
+abbrev pub lost_entry : List DirEnt → ℕ → ℕ → DirEnt
+lost_entry es n seq = entry (lost_name n) (highest (versions (lost_name n) es) + 1) (record { num = n; seq = seq })
 
-abbrev pub enter_in : Cat → File → DirEnt → Option Cat
-enter_in c d e =
-    if nat_le e.ver 32767 && fits c.factor (inserted e d.entries) then Some (with_entries c 11 d (inserted e d.entries)) else None
+abbrev pub if_room : ℕ → List DirEnt → DirEnt → Option (List DirEnt)
+if_room factor es e = if nat_le e.ver 32767 && fits factor (inserted e es) then Some (inserted e es) else None
+
+-- the entries of [SYSLOST], which has one cluster, with that of a lost file, or none where there is no room
+unfoldable pub with_lost_entry : ℕ → List DirEnt → ℕ → ℕ → Option (List DirEnt)
+with_lost_entry factor es n seq = if_room factor es (lost_entry es n seq)
 
 -- the file entered in [SYSLOST], which is file 11, or none where there is no room
 unfoldable pub enter : Cat → ℕ → Option Cat
-enter c n = option_and_then (λ (d : File). option_and_then (λ (f : File). enter_in c d (lost_entry d n f)) (file_at c n)) (file_at c 11)
+enter c n =
+    option_and_then (λ (d : File). option_and_then (λ (f : File).
+    option_map (with_entries c 11 d) (with_lost_entry c.factor d.entries n f.seq)) (file_at c n)) (file_at c 11)
 
 abbrev pub enter_all : List ℕ → Cat → Option Cat
 enter_all [] c = Some c

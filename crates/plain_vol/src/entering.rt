@@ -2,16 +2,16 @@ ghost use Rattle.std.specs.Prelude.{◌≡◌, ◌≤◌, ◌+◌, ◌++◌, ◌
 ghost use Rattle.std.specs.List.{list_any};
 ghost use Rattle.plain_cat.specs.declared.entries.DirEnt.{DirEnt};
 ghost use Rattle.plain_vol.specs.declared.places.Place.{Place};
-ghost use Rattle.plain_vol.specs.Mending.{entries_in, places_from, places, same_fid, same_place, is_name_of, system_names, is_own, is_first, is_empty, is_named, is_lost, is_lost_slot, numbers_from, lost, digit, lost_name, enter, enter_all, enter_some};
+ghost use Rattle.plain_vol.specs.Mending.{entries_in, places_from, places, same_fid, same_place, is_name_of, system_names, is_own, is_first, is_empty, is_named, is_lost, is_lost_slot, numbers_from, lost, digit, lost_name, with_lost_entry, enter, enter_all, enter_some};
 
 use crate::packing::dir_fits;
 use crate::places::Place;
 use crate::{changes, directories, lookups};
-use plain_cat::{Cat, DirEnt, Fid, File, Name, NoMemory, Slot};
+use plain_cat::{Cat, DirEnt, DirEnts, Fid, File, Name, NoMemory, Slot};
 use std::alloc::Global;
 
-// The entries of a slot's directory.
-fn entries_in(slot: &Slot) -> &[DirEnt]
+/// The entries of a slot's directory, of which a slot without a directory has none.
+pub fn entries_in(slot: &Slot) -> &[DirEnt]
     ensures { result.now ≡ entries_in slot.now }
 {
     match slot {
@@ -97,9 +97,10 @@ fn is_system_name(name: &Name, n: u32) -> bool
     }
 }
 
-// Whether an entry is the one that a system file keeps.
+/// Whether an entry of the directory `dir` is the one that a system file keeps: its own name, version 1, in the master file
+/// directory, which is file 4.
 #[tactic(auto, unfolding(crate::specs::Mending::is_own))]
-pub(crate) fn is_own(dir: u32, e: &DirEnt) -> bool
+pub fn is_own(dir: u32, e: &DirEnt) -> bool
     ensures { result ≡ is_own (record { dir = dir; entry = e.now }) }
 {
     dir == 4 && e.ver == 1 && is_system_name(&e.name, e.fid.num)
@@ -187,6 +188,36 @@ fn lost_name(alloc: Global, n: u32) -> Result<Name, NoMemory>
     Ok(name)
 }
 
+/// The entries of [SYSLOST] with that of a lost file of this number and sequence, under `Fnnnnn.LST` with one more than the
+/// highest version of the name; or none where that version were above 32,767, or the entries would not pack into `factor`
+/// blocks, which is one cluster.
+#[tactic(auto, unfolding(crate::specs::Mending::with_lost_entry))]
+pub fn with_lost_entry(
+    alloc: Global,
+    entries: &DirEnts,
+    n: u32,
+    seq: u16,
+    factor: u32,
+) -> Result<Option<DirEnts>, NoMemory>
+    ensures { IfOk result (λ o. o ≡ with_lost_entry factor entries.now n seq) }
+{
+    let name = lost_name(alloc, n)?;
+    let highest = directories::highest(entries.items(), &name);
+    if highest >= 32767 {
+        return Ok(None);
+    }
+    let e = DirEnt {
+        name,
+        ver: highest + 1,
+        fid: Fid { num: n, seq },
+    };
+    let more = changes::inserted(alloc, e, entries)?;
+    if !dir_fits(more.items(), factor) {
+        return Ok(None);
+    }
+    Ok(Some(more))
+}
+
 // Enters a lost file in [SYSLOST], if there is room.
 #[tactic(auto, unfolding(crate::specs::Mending::enter))]
 fn enter(alloc: Global, cat: &Cat, n: u32) -> Result<Option<Cat>, NoMemory>
@@ -198,23 +229,9 @@ fn enter(alloc: Global, cat: &Cat, n: u32) -> Result<Option<Cat>, NoMemory>
     let Some(file) = lookups::file_at(cat, n) else {
         return Ok(None);
     };
-    let name = lost_name(alloc, n)?;
-    let highest = directories::highest(d.entries.items(), &name);
-    if highest >= 32767 {
+    let Some(entries) = with_lost_entry(alloc, &d.entries, n, file.seq, cat.factor)? else {
         return Ok(None);
-    }
-    let e = DirEnt {
-        name,
-        ver: highest + 1,
-        fid: Fid {
-            num: n,
-            seq: file.seq,
-        },
     };
-    let entries = changes::inserted(alloc, e, &d.entries)?;
-    if !dir_fits(entries.items(), cat.factor) {
-        return Ok(None);
-    }
     let mut after = cat.copy(alloc)?;
     changes::set_entries(alloc, &mut after, 11, d, entries)?;
     Ok(Some(after))

@@ -15,8 +15,8 @@ pub(crate) fn slot_at(cat: &Cat, n: u32) -> Option<&Slot>
     cat.files.items().get(n as usize - 1)
 }
 
-// The file under a number.
-pub(crate) fn file_at(cat: &Cat, n: u32) -> Option<&File>
+/// The file under a number, or none where the number is free or not one of the catalogue's.
+pub fn file_at(cat: &Cat, n: u32) -> Option<&File>
     ensures { option_copied result ≡ file_at cat.now n }
 {
     match slot_at(cat, n) {
@@ -36,8 +36,8 @@ pub(crate) fn last_seq(cat: &Cat, n: u32) -> u16
     }
 }
 
-// The file in use under an identifier.
-pub(crate) fn in_use(cat: &Cat, fid: Fid) -> Option<&File>
+/// The file in use under an identifier: its number has a file of its sequence.
+pub fn in_use(cat: &Cat, fid: Fid) -> Option<&File>
     ensures { option_copied result ≡ in_use cat.now fid }
 {
     match file_at(cat, fid.num) {
@@ -46,8 +46,8 @@ pub(crate) fn in_use(cat: &Cat, fid: Fid) -> Option<&File>
     }
 }
 
-// The live file under an identifier.
-pub(crate) fn live(cat: &Cat, fid: Fid) -> Option<&File>
+/// The live file under an identifier: the file in use, unless it is marked for delete.
+pub fn live(cat: &Cat, fid: Fid) -> Option<&File>
     ensures { option_copied result ≡ live cat.now fid }
 {
     match in_use(cat, fid) {
@@ -128,8 +128,8 @@ fn above_system(slots: &[Slot]) -> &[Slot]
     if slots.len() < 11 { &[] } else { &slots[11..] }
 }
 
-// The free clusters.
-pub(crate) fn free_clusters(cat: &Cat) -> u32
+/// The free clusters: those that no file has and that are not leaked.
+pub fn free_clusters(cat: &Cat) -> u32
     ensures { result ≡ free_clusters cat.now }
 {
     let all = cat
