@@ -1,5 +1,3 @@
-pub mod Firsting
-pub mod Kept
 pub mod Doubled
 pub mod Reading
 pub mod Told

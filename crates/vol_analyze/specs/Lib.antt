@@ -1,4 +1,3 @@
 pub mod Texts
-pub mod Places
 pub mod Kinds
 pub mod Conditions

@@ -5,15 +5,15 @@ ghost use Rattle.plain_vol.specs.Accounts.{share, charge};
 ghost use Rattle.plain_vol.specs.Lookups.{clusters_in};
 ghost use Rattle.plain_vol.specs.Mending.{places, is_true};
 ghost use Rattle.vol_parts.specs.Warnings.{is_marked, names_none, names_none_found, second_found, is_miscounted, usage_found};
-ghost use Rattle.vol_analyze.specs.Places.{place_of, AreFirsts};
+ghost use Rattle.vol_places.specs.Places.{place_of, AreFirsts};
 ghost use Rattle.vol_analyze.specs.Conditions.{HasFileSizes};
 ghost use Rattle.vol_analyze.specs.Kinds.{marked_of, nameless_of, seconds_of, lost_of, leaks_of, usages_of};
 
-use crate::keeping::{is_lost, is_second};
-use crate::places::{Spot, is_in_use};
 use plain_cat::{Cat, NoMemory, QuotaRow, Slot, Uic};
+use plain_vol::in_use;
 use std::alloc::Global;
 use vol_parts::Finding;
+use vol_places::{Spot, is_lost, is_second};
 
 fn is_marked(slot: &Slot) -> bool
     ensures { (n : ℕ) → result ≡ is_marked n slot.now }
@@ -42,7 +42,7 @@ pub(crate) fn push_marked(out: &mut Vec<Finding>, cat: &Cat) -> Result<(), NoMem
 fn names_none(cat: &Cat, spot: &Spot<'_>) -> bool
     ensures { result ≡ names_none cat.now (place_of spot.now) }
 {
-    !is_in_use(cat, spot.entry.fid)
+    in_use(cat, spot.entry.fid).is_none()
 }
 
 fn nameless(alloc: Global, spot: &Spot<'_>) -> Result<Finding, NoMemory>

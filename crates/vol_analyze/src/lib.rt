@@ -2,9 +2,7 @@
 #![tactic(auto)]
 
 mod doubles;
-mod keeping;
 mod kinds;
-mod places;
 mod texts;
 mod warnings;
 

@@ -6,7 +6,7 @@ use Rattle.plain_cat.specs.declared.cat.File.{File}
 use Rattle.plain_vol.specs.declared.places.Place.{Place}
 use Rattle.plain_vol.specs.Lookups.{file_at, in_use}
 use Rattle.plain_vol.specs.Mending.{same_fid, same_place, is_own}
-use Rattle.vol_analyze.specs.declared.places.Spot.{Spot}
+use Rattle.vol_places.specs.declared.places.Spot.{Spot}
 
 abbrev pub place_of : Spot → Place
 place_of s = record { dir = s.dir; entry = s.entry.now }

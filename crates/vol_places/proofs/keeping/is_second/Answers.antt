@@ -1,6 +1,6 @@
-use Rattle.vol_analyze.specs.Places.{place_of}
-use Rattle.vol_analyze.proofs.Kept.{second_then, second_else}
-use Rattle.vol_analyze.proofs.keeping.is_second.Goals as goal
+use Rattle.vol_places.specs.Places.{place_of}
+use Rattle.vol_places.proofs.Kept.{second_then, second_else}
+use Rattle.vol_places.proofs.keeping.is_second.Goals as goal
 
 pub returns-then-is_live : goal.returns-then-is_live
 returns-then-is_live c =

@@ -1,8 +1,8 @@
 use Rattle.std.proofs.Common.{◌≡◌, ◌++◌, map, take}
 use Rattle.plain_cat.specs.declared.entries.DirEnt.{DirEnt}
 use Rattle.plain_vol.specs.declared.places.Place.{Place}
-use Rattle.vol_analyze.specs.Places.{place_of}
-use Rattle.vol_analyze.proofs.places.push_spots.Given as goal
+use Rattle.vol_places.specs.Places.{place_of}
+use Rattle.vol_places.proofs.places.push_spots.Given as goal
 
 abbrev pub invariant-loop-entry : goal.invariant-loop-entry
 invariant-loop-entry l =

@@ -1,8 +1,8 @@
 use Rattle.std.proofs.Common.{List, sym, subst, map, take}
 use Rattle.plain_vol.specs.declared.places.Place.{Place}
-use Rattle.vol_analyze.specs.Places.{place_of, AreFirsts}
-use Rattle.vol_analyze.proofs.Firsting.{map_more}
-use Rattle.vol_analyze.proofs.keeping.firsts.Goals as goal
+use Rattle.vol_places.specs.Places.{place_of, AreFirsts}
+use Rattle.vol_places.proofs.Firsting.{map_more}
+use Rattle.vol_places.proofs.keeping.firsts.Goals as goal
 
 pub loop-spot-preserved : goal.loop-spot-preserved
 loop-spot-preserved c =

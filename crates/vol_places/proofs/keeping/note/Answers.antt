@@ -1,8 +1,8 @@
 use Rattle.std.proofs.Common.{◌≡◌, ◌∙◌, ◌++◌, ◌∷◌, [], ℕ, true, false, List, Option, Some, sym, ap, subst, set}
-use Rattle.vol_analyze.specs.declared.places.Spot.{Spot}
-use Rattle.vol_analyze.specs.Places.{place_of, is_new, AreFirsts}
-use Rattle.vol_analyze.proofs.Firsting.{firsts_same, firsts_more}
-use Rattle.vol_analyze.proofs.keeping.note.Goals as goal
+use Rattle.vol_places.specs.declared.places.Spot.{Spot}
+use Rattle.vol_places.specs.Places.{place_of, is_new, AreFirsts}
+use Rattle.vol_places.proofs.Firsting.{firsts_same, firsts_more}
+use Rattle.vol_places.proofs.keeping.note.Goals as goal
 
 pub returns-then-is_new : goal.returns-then-is_new
 returns-then-is_new c = λ ps first.

@@ -1,8 +1,8 @@
 use Rattle.std.proofs.Common.{◌∙◌, Option, ap}
 use Rattle.std.specs.Prelude.{is_none}
-use Rattle.vol_analyze.specs.declared.places.Spot.{Spot}
-use Rattle.vol_analyze.proofs.Kept.{lost_then, none_of}
-use Rattle.vol_analyze.proofs.keeping.is_lost.Goals as goal
+use Rattle.vol_places.specs.declared.places.Spot.{Spot}
+use Rattle.vol_places.proofs.Kept.{lost_then, none_of}
+use Rattle.vol_places.proofs.keeping.is_lost.Goals as goal
 
 pub returns-then-not-file : goal.returns-then-not-file
 returns-then-not-file c =

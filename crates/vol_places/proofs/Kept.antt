@@ -13,9 +13,9 @@ use Rattle.plain_vol.specs.declared.places.Place.{Place}
 use Rattle.plain_vol.specs.Lookups.{file_at, in_use, live, of_seq, unmarked}
 use Rattle.plain_vol.specs.Mending.{same_fid, same_place, is_own, is_first, stays, places}
 use Rattle.vol_parts.specs.Warnings.{is_second, is_lost_file}
-use Rattle.vol_analyze.specs.declared.places.Spot.{Spot}
-use Rattle.vol_analyze.specs.Places.{first_of, first_in, place_in, first_at, AreFirsts, is_there, is_kept}
-use Rattle.vol_analyze.proofs.Firsting.{in_use_from, in_use_to, is_some_if}
+use Rattle.vol_places.specs.declared.places.Spot.{Spot}
+use Rattle.vol_places.specs.Places.{first_of, first_in, place_in, first_at, AreFirsts, is_there, is_kept}
+use Rattle.vol_places.proofs.Firsting.{in_use_from, in_use_to, is_some_if}
 
 there_if : (b : Bool) (p q : Place) (rest : Option Place) (r : Bool) → r ≡ is_there p rest
     → (if b then same_place q p else r) ≡ is_there p (if b then Some q else rest)
@@ -92,19 +92,23 @@ none_in : (x : Option Spot) → is_none x ≡ is_none (place_in x)
 none_in None = refl
 none_in (Some s) = refl
 
--- a file is lost where the table has no entry of it
-pub lost_is : (c : Cat) (table : List (Option Spot)) (n : ℕ) (f : File) → AreFirsts c (places c) table → 1 ≤ n
-    → slice_get c.files (n - 1) ≡ Some (Used f) → (not f.marked && is_none (first_at table n)) ≡ is_lost_file c n (Used f)
-lost_is c table n f first from here =
+-- a file is named by none of these entries where the table of their first ones has none of it
+pub unnamed_is : (c : Cat) (ps : List Place) (table : List (Option Spot)) (n : ℕ) (f : File) → AreFirsts c ps table → 1 ≤ n
+    → slice_get c.files (n - 1) ≡ Some (Used f)
+    → is_none (first_at table n) ≡ not (list_any (λ p. same_fid p.entry.fid (record { num = n; seq = f.seq })) ps)
+unnamed_is c ps table n f first from here =
     let there : (n == 0) ≡ false = ne_eqb n 0 (λ z. absurd (omega arith)) in
     let at : file_at c n ≡ Some f = rw (there, here) refl in
     let to : n ≤ length table = omega (arith, slice_get_within c.files (n - 1) (Used f) here, first.long) in
     let fid : Fid = record { num = n; seq = f.seq } in
-    let e : is_none (first_at table n) ≡ not (list_any (λ p. same_fid p.entry.fid fid) (places c)) =
     none_in (first_at table n)
-    ∙ (ap (λ (x : Option Place). is_none x) (first.each n from to ∙ ap (first_in (places c) n) at)
-    ∙ (none_some (first_of fid (places c)) ∙ ap not (sym (named_is fid (places c))))) in
-    ap (λ (b : Bool). not f.marked && b) e
+    ∙ (ap (λ (x : Option Place). is_none x) (first.each n from to ∙ ap (first_in ps n) at)
+    ∙ (none_some (first_of fid ps) ∙ ap not (sym (named_is fid ps))))
+
+-- a file is lost where the table has no entry of it
+pub lost_is : (c : Cat) (table : List (Option Spot)) (n : ℕ) (f : File) → AreFirsts c (places c) table → 1 ≤ n
+    → slice_get c.files (n - 1) ≡ Some (Used f) → (not f.marked && is_none (first_at table n)) ≡ is_lost_file c n (Used f)
+lost_is c table n f first from here = ap (λ (b : Bool). not f.marked && b) (unnamed_is c (places c) table n f first from here)
 
 pub lost_then : (c : Cat) (table : List (Option Spot)) (n : ℕ) (f : File) (s : Slot) → AreFirsts c (places c) table → 1 ≤ n
     → slice_get c.files (n - 1) ≡ Some s → s ≡ Used f → f.marked ≡ false → is_none (first_at table n) ≡ is_lost_file c n s

@@ -12,8 +12,8 @@ use Rattle.plain_cat.specs.declared.cat.File.{File}
 use Rattle.plain_vol.specs.declared.places.Place.{Place}
 use Rattle.plain_vol.specs.Lookups.{file_at, in_use, of_seq}
 use Rattle.plain_vol.specs.Mending.{same_fid}
-use Rattle.vol_analyze.specs.declared.places.Spot.{Spot}
-use Rattle.vol_analyze.specs.Places.{place_of, first_of, first_in, place_in, first_at, AreFirsts, is_new}
+use Rattle.vol_places.specs.declared.places.Spot.{Spot}
+use Rattle.vol_places.specs.Places.{place_of, first_of, first_in, place_in, first_at, AreFirsts, is_new}
 
 -- an entry more, where one may have been found and this one may name the file
 abbrev again : Option Place → Bool → Place → Option Place

@@ -1,5 +1,5 @@
 use Rattle.std.proofs.Common.{◌≡◌, ◌<◌, ℕ, None, length, get_or}
-use Rattle.vol_analyze.proofs.keeping.no_firsts.Given as goal
+use Rattle.vol_places.proofs.keeping.no_firsts.Given as goal
 
 abbrev pub invariant-loop-slot : goal.invariant-loop-slot
 invariant-loop-slot l = record {

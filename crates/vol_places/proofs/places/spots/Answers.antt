@@ -1,7 +1,7 @@
 use Rattle.std.proofs.Common.{map}
 use Rattle.plain_vol.proofs.Placing.{places_push}
-use Rattle.vol_analyze.specs.Places.{place_of}
-use Rattle.vol_analyze.proofs.places.spots.Goals as goal
+use Rattle.vol_places.specs.Places.{place_of}
+use Rattle.vol_places.proofs.places.spots.Goals as goal
 
 pub loop-i-preserved : goal.loop-i-preserved
 loop-i-preserved c =

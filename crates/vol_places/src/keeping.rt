@@ -1,15 +1,31 @@
-ghost use Rattle.std.specs.Prelude.{◌≡◌, ◌≤◌, ◌++◌, ◌∷◌, [], ◌-◌, List, map, slice_get, IfOk};
+ghost use Rattle.std.specs.Prelude.{◌≡◌, ◌≤◌, ◌++◌, ◌∷◌, [], ◌-◌, List, map, is_some, slice_get, IfOk};
 ghost use Rattle.plain_vol.specs.declared.places.Place.{Place};
-ghost use Rattle.plain_vol.specs.Mending.{is_name_of, system_names, is_own, same_place, places};
+ghost use Rattle.plain_vol.specs.Lookups.{in_use, live};
+ghost use Rattle.plain_vol.specs.Mending.{same_place, places};
 ghost use Rattle.vol_parts.specs.Warnings.{is_second, is_lost_file};
-ghost use Rattle.vol_analyze.specs.Places.{place_of, place_in, first_at, AreFirsts, is_new, is_there, is_kept};
+ghost use Rattle.vol_places.specs.Places.{place_of, place_in, first_at, AreFirsts, is_new, is_there, is_kept};
 
-use crate::places::{Spot, is_in_use, is_live};
-use plain_cat::{Cat, Name, NoMemory, Slot};
+use crate::places::Spot;
+use plain_cat::{Cat, Fid, NoMemory, Slot};
+use plain_vol::{in_use, is_own, live};
 use std::alloc::Global;
 
+// Whether an identifier is that of a file in use.
+fn is_in_use(cat: &Cat, fid: Fid) -> bool
+    ensures { result ≡ is_some (in_use cat.now fid) }
+{
+    in_use(cat, fid).is_some()
+}
+
+// Whether an identifier is that of a live file.
+fn is_live(cat: &Cat, fid: Fid) -> bool
+    ensures { result ≡ is_some (live cat.now fid) }
+{
+    live(cat, fid).is_some()
+}
+
 // What a table has for a file number.
-pub(crate) fn first_at<'a>(table: &[Option<Spot<'a>>], n: u32) -> Option<Spot<'a>>
+fn first_at<'a>(table: &[Option<Spot<'a>>], n: u32) -> Option<Spot<'a>>
     ensures { result ≡ first_at table.now n }
 {
     match table.get((n as usize).saturating_sub(1)) {
@@ -64,8 +80,9 @@ fn firsts<'a>(
     Ok(table)
 }
 
-// For each file number, the first of all entries that names its file.
-pub(crate) fn all_firsts<'a>(
+/// For each file number, at the place one below it, the first of all entries that names its file. `spots` are all entries of
+/// the catalogue, as `spots` gives them. An error says that memory ran out.
+pub fn all_firsts<'a>(
     alloc: Global,
     cat: &Cat,
     spots: &[Spot<'a>],
@@ -74,36 +91,6 @@ pub(crate) fn all_firsts<'a>(
     ensures { IfOk result (λ v. AreFirsts cat.now (places cat.now) v.items) }
 {
     firsts(alloc, cat, spots)
-}
-
-// Whether a name is the one of a system file.
-#[tactic(auto, unfolding(plain_vol::specs::Mending::system_names))]
-fn is_system_name(name: &Name, n: u32) -> bool
-    ensures { result ≡ is_name_of name.now (slice_get system_names (n - 1)) }
-{
-    let name = name.items();
-    match n.saturating_sub(1) {
-        0 => name == b"INDEXF.SYS".as_slice(),
-        1 => name == b"BITMAP.SYS".as_slice(),
-        2 => name == b"BADBLK.SYS".as_slice(),
-        3 => name == b"000000.DIR".as_slice(),
-        4 => name == b"CORIMG.SYS".as_slice(),
-        5 => name == b"VOLSET.SYS".as_slice(),
-        6 => name == b"CONTIN.SYS".as_slice(),
-        7 => name == b"BACKUP.SYS".as_slice(),
-        8 => name == b"BADLOG.SYS".as_slice(),
-        9 => name == b"QUOTA.SYS".as_slice(),
-        10 => name == b"SYSLOST.DIR".as_slice(),
-        _ => false,
-    }
-}
-
-// Whether an entry is the one of a system file's own name in the master file directory.
-#[tactic(auto, unfolding(plain_vol::specs::Mending::is_own))]
-fn is_own(spot: &Spot<'_>) -> bool
-    ensures { result ≡ is_own (place_of spot.now) }
-{
-    spot.dir == 4 && spot.entry.ver == 1 && is_system_name(&spot.entry.name, spot.entry.fid.num)
 }
 
 // Whether two entries stand in one directory under one name and version.
@@ -129,22 +116,24 @@ fn is_kept(table: &[Option<Spot<'_>>], spot: &Spot<'_>) -> bool
     ensures { result ≡ is_kept table.now (place_of spot.now) }
 {
     if spot.entry.fid.num <= 11 {
-        is_own(spot)
+        is_own(spot.dir, spot.entry)
     } else {
         is_first(table, spot)
     }
 }
 
-// Whether an entry is one of a live file that keeps another one.
-pub(crate) fn is_second(cat: &Cat, table: &[Option<Spot<'_>>], spot: &Spot<'_>) -> bool
+/// Whether an entry is one of a live file that keeps another one. `table` has the first entries of all files, as `all_firsts`
+/// gives them.
+pub fn is_second(cat: &Cat, table: &[Option<Spot<'_>>], spot: &Spot<'_>) -> bool
     requires { AreFirsts cat.now (places cat.now) table.now }
     ensures { result ≡ is_second cat.now (place_of spot.now) }
 {
     is_live(cat, spot.entry.fid) && !is_kept(table, spot)
 }
 
-// Whether a file that is not marked stands in no directory.
-pub(crate) fn is_lost(cat: &Cat, table: &[Option<Spot<'_>>], n: u32, slot: &Slot) -> bool
+/// Whether a slot has a file that is not marked for delete and stands in no directory. `table` has the first entries of all
+/// files, as `all_firsts` gives them, and `slot` is that of the number `n`, which counts from 1.
+pub fn is_lost(cat: &Cat, table: &[Option<Spot<'_>>], n: u32, slot: &Slot) -> bool
     requires firsts { AreFirsts cat.now (places cat.now) table.now }
     requires number { 1 ≤ n }
     requires here { slice_get cat.now.files (n - 1) ≡ Some slot.now }

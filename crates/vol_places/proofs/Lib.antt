@@ -1,0 +1,2 @@
+pub mod Firsting
+pub mod Kept
