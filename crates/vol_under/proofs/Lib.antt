@@ -1,0 +1,4 @@
+pub mod Guarding
+pub mod Lying
+pub mod Nodes
+pub mod Steps

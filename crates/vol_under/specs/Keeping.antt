@@ -1,0 +1,86 @@
+-- What each event leaves of the drive under way.
+use Rattle.std.specs.Prelude.{◌≡◌, ◌≤◌, ◌+◌, ◌⊎◌, ℕ, Bool, true, List, [], ◌∷◌, Option, Some, length, take, slice_get, slice_set}
+use Rattle.vol_words.specs.Fields.{Block}
+use Rattle.lock_db.specs.declared.name.LockName.{LockName}
+use Rattle.lock_db.specs.declared.name.LockName.TheVariants.{V}
+use Rattle.plain_cat.specs.declared.command.Cmd.{Cmd}
+use Rattle.plain_cat.specs.declared.cat.Cat.{Cat}
+use Rattle.plain_cat.specs.declared.cat.Open.{Open}
+use Rattle.vol_owners.specs.Lists.{Has, Touches, StandsIn}
+use Rattle.vol_owners.specs.Owners.{Owners, OwnersMove, IsSpaceMove, Things, nothing, Outs}
+use Rattle.vol_parts.specs.declared.geometry.Geometry.{Geometry}
+use Rattle.vol_parts.specs.declared.geometry.Part.TheVariants.{IndexBitmap, Storage}
+use Rattle.vol_parts.specs.Parts.{part_of}
+use Rattle.vol_spell.specs.Spelling.{Spells}
+use Rattle.vol_under.specs.Guards.{guard_of, MayWrite, MayLook}
+use Rattle.vol_under.specs.UnderWay.{PlannedWrite, bare, UnderWay, stage_at, resting, idle, changed, AreSole, StandsAt}
+use Rattle.vol_under.specs.Under.{IsLawful, IsUnder}
+
+-- a node that writes nothing is lawful
+abbrev pub IdleLawful : Type 0
+IdleLawful = (g : Geometry) (n : ℕ) (u : UnderWay) → u.plan ≡ [] → IsLawful g n u
+
+-- blocks that spell c, with nothing outside at any node, are the drive of nodes that have nothing under way
+abbrev pub RestStands : Type 0
+RestStands = (g : Geometry) (c : Cat) (own : Owners) (drive : List Block) → Spells g drive own c → ((n : ℕ) → Outs n own nothing nothing) → IsUnder g c (λ n. resting nothing) drive
+
+-- the next write of a node's plan
+abbrev pub WriteKeeps : Type 0
+WriteKeeps = (g : Geometry) (c : Cat) (nodes : ℕ → UnderWay) (drive : List Block) (n : ℕ) (w : PlannedWrite) → AreSole nodes → IsUnder g c nodes drive → slice_get (nodes n).plan (nodes n).done ≡ Some w
+    → IsUnder g c (changed nodes n (record (nodes n) { done = (nodes n).done + 1 })) (slice_set drive w.lbn w.block)
+
+-- a node stops, by its answer or by its death: its writes done are committed, and the catalogue is that of their stage
+abbrev pub StopKeeps : Type 0
+StopKeeps = (g : Geometry) (c : Cat) (nodes : ℕ → UnderWay) (drive : List Block) (n : ℕ) → AreSole nodes → IsUnder g c nodes drive → (nodes n).knows c ≡ true
+    → (d : Cat) × StandsAt c n (nodes n).cmd (stage_at (nodes n).done (nodes n)) d × IsUnder g d (changed nodes n (idle (nodes n))) drive
+
+-- What a write of a bitmap leaves for node n: other owners, which move between what is free and what is outside at it, and
+-- the same catalogue.
+pub record Refills (g : Geometry) (n : ℕ) (took stock : Things) (l : ℕ) (b : Block) (base : List Block) (own : Owners) (c : Cat) : Type 0 where
+  pub new : Owners
+  pub spelt : Spells g (slice_set base l b) new c
+  pub moves : OwnersMove (IsSpaceMove n) own new
+  pub outs : Outs n new took stock
+
+-- a block of a bitmap
+abbrev pub IsBitmap : Geometry → ℕ → Type 0
+IsBitmap g l = (part_of g l ≡ Some IndexBitmap) ⊎ ((k : ℕ) × (part_of g l ≡ Some (Storage k)))
+
+-- a bitmap write of a node that has no plan and that has not seen the block for its command: it is committed at once
+abbrev pub BitsKeep : Type 0
+BitsKeep = (g : Geometry) (c : Cat) (nodes : ℕ → UnderWay) (drive : List Block) (n l : ℕ) (old b : Block) (stock : Things) → AreSole nodes → IsUnder g c nodes drive
+    → (nodes n).plan ≡ [] → IsBitmap g l → Has (nodes n).write V → (Touches (nodes n).seen l → ⊥) → slice_get drive l ≡ Some old
+    → ((base : List Block) (own : Owners) → Spells g base own c → Outs n own (nodes n).took (nodes n).stock → slice_get base l ≡ Some old → Refills g n (nodes n).took stock l b base own c)
+    → IsUnder g c (changed nodes n (record (nodes n) { stock = stock })) (slice_set drive l b)
+
+-- a node without a plan looks at a block whose lock it holds
+abbrev pub LookKeeps : Type 0
+LookKeeps = (g : Geometry) (c : Cat) (nodes : ℕ → UnderWay) (drive : List Block) (n l : ℕ) (b : Block) → AreSole nodes → IsUnder g c nodes drive → (nodes n).plan ≡ [] → slice_get drive l ≡ Some b
+    → ((base : List Block) (own : Owners) → Spells g base own c → StandsIn base (nodes n).seen → MayLook (nodes n).read (guard_of g own l))
+    → IsUnder g c (changed nodes n (record (nodes n) { seen = (l, b) ∷ (nodes n).seen })) drive
+
+-- A node decides on writes, the writes done being the first of them, with what it knows by now, and takes from its stock what
+-- the command needs.
+abbrev pub PlanKeeps : Type 0
+PlanKeeps = (g : Geometry) (c : Cat) (nodes : ℕ → UnderWay) (drive : List Block) (n : ℕ) (knows : Cat → Bool) (plan : List PlannedWrite) (took stock : Things) → IsUnder g c nodes drive
+    → take (nodes n).done plan ≡ take (nodes n).done (nodes n).plan → (nodes n).done ≤ length plan
+    → IsLawful g n (record (nodes n) { knows = knows; plan = plan; took = took; stock = stock })
+    → ((own : Owners) → Outs n own (nodes n).took (nodes n).stock → Outs n own took stock)
+    → ((base : List Block) (own : Owners) → Spells g base own c → StandsIn base (nodes n).seen → Outs n own took stock → (l : ℕ) → Touches (bare plan) l → MayWrite n (nodes n).write (guard_of g own l))
+    → IsUnder g c (changed nodes n (record (nodes n) { knows = knows; plan = plan; took = took; stock = stock })) drive
+
+-- a node is granted more locks
+abbrev pub GrantKeeps : Type 0
+GrantKeeps = (g : Geometry) (c : Cat) (nodes : ℕ → UnderWay) (drive : List Block) (n : ℕ) (read write : List LockName) → IsUnder g c nodes drive
+    → ((name : LockName) → Has (nodes n).read name → Has read name) → ((name : LockName) → Has (nodes n).write name → Has write name)
+    → IsUnder g c (changed nodes n (record (nodes n) { read = read; write = write })) drive
+
+-- a node without a plan begins a command, or gives back locks of which none guards what it has seen
+abbrev pub ReadyKeeps : Type 0
+ReadyKeeps = (g : Geometry) (c : Cat) (nodes : ℕ → UnderWay) (drive : List Block) (n : ℕ) (cmd : Option Cmd) (knows : Cat → Bool) (read write : List LockName) → IsUnder g c nodes drive → (nodes n).plan ≡ []
+    → ((own : Owners) (l : ℕ) → Touches (nodes n).seen l → MayLook (nodes n).read (guard_of g own l) → MayLook read (guard_of g own l))
+    → IsUnder g c (changed nodes n (record (nodes n) { cmd = cmd; knows = knows; read = read; write = write })) drive
+
+-- what the channels have open is no matter of the drive
+abbrev pub OpensKeep : Type 0
+OpensKeep = (g : Geometry) (c : Cat) (nodes : ℕ → UnderWay) (drive : List Block) (opens : List (Option Open)) → IsUnder g c nodes drive → IsUnder g (record c { opens = opens }) nodes drive

@@ -1,0 +1,4 @@
+pub mod Guards
+pub mod UnderWay
+pub mod Under
+pub mod Keeping

@@ -1,0 +1,50 @@
+//! The laws, each a statement for every value that it speaks of.
+
+ghost use Rattle.vol_under.specs.Keeping.{IdleLawful, RestStands, WriteKeeps, StopKeeps, BitsKeep, LookKeeps, PlanKeeps, GrantKeeps, ReadyKeeps};
+
+/// A node that has no plan is lawful.
+pub fn idle_lawful()
+    ensures { IdleLawful }
+{}
+
+/// Blocks that spell a catalogue, with nothing outside, are the drive of nodes that have nothing under way.
+pub fn rest_stands()
+    ensures { RestStands }
+{}
+
+/// The next write of a node's plan leaves the catalogue of the history, and the command has one write done more.
+pub fn write_keeps()
+    ensures { WriteKeeps }
+{}
+
+/// Where a node's command ends, by its answer or by the node's death, the catalogue is the one of the stage after its writes
+/// done, and the other nodes have under way what they had.
+pub fn stop_keeps()
+    ensures { StopKeeps }
+{}
+
+/// A bitmap write of a node without a plan, which moves clusters or file numbers between the free ones and the node's stock,
+/// leaves the catalogue.
+pub fn bits_keep()
+    ensures { BitsKeep }
+{}
+
+/// What a node without a plan looks at, under a lock that it holds, is a committed block.
+pub fn look_keeps()
+    ensures { LookKeeps }
+{}
+
+/// A node may decide on writes that are lawful, to blocks whose locks it holds.
+pub fn plan_keeps()
+    ensures { PlanKeeps }
+{}
+
+/// A node may be granted more locks.
+pub fn grant_keeps()
+    ensures { GrantKeeps }
+{}
+
+/// A node without a plan may begin a command, and give back locks of which none guards what it has seen.
+pub fn ready_keeps()
+    ensures { ReadyKeeps }
+{}
