@@ -3,6 +3,7 @@
 ghost use Rattle.std.specs.Prelude.{◌≡◌, ◌≤◌, length};
 ghost use Rattle.fx_home.specs.Homes.{IsWithinLimits, home_read};
 ghost use Rattle.vol_parts.specs.Findings.{home_at, IsReadable};
+ghost use Rattle.vol_parts.specs.Parts.{IsGeometry};
 ghost use Rattle.vol_parts.specs.Volumes.{volume};
 ghost use Rattle.vol_faults.specs.Conditions.{IsSize, HasHeads, HasSystemFiles};
 ghost use Rattle.vol_faults.specs.Free.{free_clusters, free_numbers, IsGeometryBy, AreFreeBy};
@@ -45,11 +46,12 @@ fn free_numbers(home: &Home, blocks: &[Block]) -> u32
 }
 
 /// Where the fixed parts of a volume lie. It can be read: it has 64 to 65,536 blocks and no fatal finding, but that [SYSLOST]
-/// may lack room for a lost file.
+/// may lack room for a lost file. What is told is within the limits of a volume.
 pub fn geometry(blocks: &[Block]) -> Geometry
     requires size { IsSize (length blocks.now) }
     requires readable { IsReadable blocks.now }
-    ensures { IsGeometryBy blocks.now (home_read (home_at blocks.now)) result }
+    ensures told { IsGeometryBy blocks.now (home_read (home_at blocks.now)) result }
+    ensures limits { IsGeometry result }
 {
     match read_home(&blocks[1]) {
         Ok(home) => Geometry {

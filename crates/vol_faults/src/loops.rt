@@ -6,8 +6,9 @@ ghost use Rattle.vol_parts.specs.Fatal.{Path};
 ghost use Rattle.vol_faults.specs.CatFindings.{IsFirstIn};
 ghost use Rattle.vol_faults.specs.Reaching.{is_step, leads, is_found, AreAdded};
 
-use crate::entries::{entries_of, file_at, is_system_entry};
+use crate::entries::{entries_of, is_system_entry};
 use plain_cat::{Cat, DirEnt, Fid, NoMemory};
+use plain_vol::file_at;
 use std::alloc::Global;
 use vol_parts::Finding;
 
