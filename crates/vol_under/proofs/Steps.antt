@@ -52,7 +52,7 @@ lawful_stock : (g : Geometry) (n : ℕ) (u : UnderWay) (kept : Things) → IsLaw
 lawful_stock g n u kept law = lawful_as g n u u.read u.write u.done kept (λ x t. t) law
 
 -- all is stock
-out_joined : (n : ℕ) (own : Owners) (took stock : Things) → Outs n own took stock → Outs n own nothing (together took stock)
+pub out_joined : (n : ℕ) (own : Owners) (took stock : Things) → Outs n own took stock → Outs n own nothing (together took stock)
 out_joined n own took stock h = record {
   clusters = (out_regroups n own.clusters [] took.clusters stock.clusters).1 h.clusters;
   numbers = (out_regroups n own.numbers [] took.numbers stock.numbers).1 h.numbers;

@@ -5,7 +5,6 @@ use Rattle.lock_db.specs.declared.name.LockName.{LockName}
 use Rattle.lock_db.specs.declared.name.LockName.TheVariants.{V}
 use Rattle.plain_cat.specs.declared.command.Cmd.{Cmd}
 use Rattle.plain_cat.specs.declared.cat.Cat.{Cat}
-use Rattle.plain_cat.specs.declared.cat.Open.{Open}
 use Rattle.vol_owners.specs.Lists.{Has, Touches, StandsIn}
 use Rattle.vol_owners.specs.Owners.{Owners, OwnersMove, IsSpaceMove, Things, nothing, Outs}
 use Rattle.vol_parts.specs.declared.geometry.Geometry.{Geometry}
@@ -80,7 +79,3 @@ abbrev pub ReadyKeeps : Type 0
 ReadyKeeps = (g : Geometry) (c : Cat) (nodes : ℕ → UnderWay) (drive : List Block) (n : ℕ) (cmd : Option Cmd) (knows : Cat → Bool) (read write : List LockName) → IsUnder g c nodes drive → (nodes n).plan ≡ []
     → ((own : Owners) (l : ℕ) → Touches (nodes n).seen l → MayLook (nodes n).read (guard_of g own l) → MayLook read (guard_of g own l))
     → IsUnder g c (changed nodes n (record (nodes n) { cmd = cmd; knows = knows; read = read; write = write })) drive
-
--- what the channels have open is no matter of the drive
-abbrev pub OpensKeep : Type 0
-OpensKeep = (g : Geometry) (c : Cat) (nodes : ℕ → UnderWay) (drive : List Block) (opens : List (Option Open)) → IsUnder g c nodes drive → IsUnder g (record c { opens = opens }) nodes drive

@@ -2,3 +2,6 @@ pub mod Guards
 pub mod UnderWay
 pub mod Under
 pub mod Keeping
+pub mod Ending
+pub mod Stopping
+pub mod Chains

@@ -1,6 +1,9 @@
 //! The laws, each a statement for every value that it speaks of.
 
 ghost use Rattle.vol_under.specs.Keeping.{IdleLawful, RestStands, WriteKeeps, StopKeeps, BitsKeep, LookKeeps, PlanKeeps, GrantKeeps, ReadyKeeps};
+ghost use Rattle.vol_under.specs.Ending.{OpensKeep, OutsideMayLeak, LeakKeeps, DeathKeeps};
+ghost use Rattle.vol_under.specs.Stopping.{DriveSpells};
+ghost use Rattle.vol_under.specs.Chains.{StepsReach, StepsLawful};
 
 /// A node that has no plan is lawful.
 pub fn idle_lawful()
@@ -47,4 +50,41 @@ pub fn grant_keeps()
 /// A node without a plan may begin a command, and give back locks of which none guards what it has seen.
 pub fn ready_keeps()
     ensures { ReadyKeeps }
+{}
+
+/// What the channels have open is no matter of the drive.
+pub fn opens_keep()
+    ensures { OpensKeep }
+{}
+
+/// What a node has outside is free by the catalogue, so that it may leak.
+pub fn outside_may_leak()
+    ensures { OutsideMayLeak }
+{}
+
+/// Where a node that has stopped dies, its stock is leaked.
+pub fn leak_keeps()
+    ensures { LeakKeeps }
+{}
+
+/// A node's death leaves the catalogue of the stage after its writes done, with what the node had outside leaked, and the other
+/// nodes have under way what they had.
+pub fn death_keeps()
+    ensures { DeathKeeps }
+{}
+
+/// The drive as it is spells the catalogue to which that of the history goes where every node stops, in whatever order, each at
+/// the stage of its writes done. So this is left where the world stops.
+pub fn drive_spells()
+    ensures { DriveSpells }
+{}
+
+/// A chain of writes, each of which takes blocks that spell a stage to blocks that spell the next, leaves its stages.
+pub fn steps_reach()
+    ensures { StepsReach }
+{}
+
+/// A plan that is such a chain, on all blocks of its law, is lawful.
+pub fn steps_lawful()
+    ensures { StepsLawful }
 {}

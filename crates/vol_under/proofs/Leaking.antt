@@ -1,0 +1,121 @@
+-- What is outside at a node, and what leaks.
+use Rattle.std.proofs.Common.{◌≡◌, ◌≤◌, ◌+◌, ◌-◌, ◌==◌, ◌&&◌, ℕ, Bool, true, false, List, [], ◌∷◌, ◌++◌, Option, Some, None, length, map, slice_get, slice_set, get_or, refl, sym, ap, subst, ◌∙◌, inl, inr, arith, cond}
+use Rattle.std.specs.Prelude.{count_by, Result, Ok, Err, is_some, option_map, not}
+use Rattle.std.specs.List.{list_all}
+use Rattle.std.proofs.lemmas.Bool.Decides.{nat_tests}
+use Rattle.std.proofs.lemmas.List.{map-set}
+use Rattle.std.proofs.lemmas.List.Sums.{sum_by-cons}
+use Rattle.std.proofs.lemmas.Option.{slice_get_within, slice_get-get_or, slice_get-map}
+use Rattle.vol_words.specs.Fields.{Block}
+use Rattle.fx_header.specs.declared.slot.Slot.{Slot as Head}
+use Rattle.fx_header.specs.declared.slot.Slot.TheVariants as head
+use Rattle.fx_header.specs.declared.slot.HeaderFault.{HeaderFault}
+use Rattle.fx_header.specs.Headers.{header_read}
+use Rattle.plain_cat.specs.declared.cat.Cat.{Cat}
+use Rattle.plain_cat.specs.declared.cat.Slot.{Slot}
+use Rattle.plain_cat.specs.declared.cat.Slot.TheVariants as slot
+use Rattle.plain_vol.specs.Lookups.{is_free_slot, is_set, is_free_number, free_clusters}
+use Rattle.plain_vol.specs.Replaying.{flagged}
+use Rattle.vol_owners.specs.declared.owner.Owner.{Owner}
+use Rattle.vol_owners.specs.declared.owner.Owner.TheVariants.{Free, InFile, Outside, Leaked}
+use Rattle.vol_owners.specs.Lists.{Has, Once}
+use Rattle.vol_owners.specs.Owners.{Owners}
+use Rattle.vol_owners.specs.Hands.{handed, AreOf}
+use Rattle.vol_owners.specs.Counts.{is_same_owner}
+use Rattle.vol_owners.proofs.Listing.{has_parted}
+use Rattle.vol_owners.proofs.Counting.{handing_counts, out_counts}
+use Rattle.vol_parts.specs.declared.geometry.Geometry.{Geometry}
+use Rattle.vol_parts.specs.Volumes.{fields_in}
+use Rattle.vol_parts.specs.Catalogues.{slot_with}
+use Rattle.vol_spell.specs.Reading.{IsFileNumber, header_block, body_blocks}
+use Rattle.vol_spell.specs.Spelling.{IsHead, Spells}
+use Rattle.vol_spell.specs.Adding.{is_outside}
+use Rattle.vol_spell.proofs.Adds.{clusters_add_up}
+use Rattle.vol_under.specs.Ending.{OutsideMayLeak}
+
+-- a header that is not in use tells a free slot
+free_slot : (n factor : ℕ) (r : Result Head HeaderFault) (blocks : List Block) (s : Slot) → IsHead n r → (is_some (fields_in r) ≡ true → ⊥) → slot_with factor n r blocks ≡ s → is_free_slot (Some s) ≡ true
+free_slot n factor (Ok (head.Used f)) blocks s h none e = absurd (none refl)
+free_slot n factor (Ok (head.Free seq)) blocks s h none e = ap (λ (x : Slot). is_free_slot (Some x)) (sym e)
+free_slot n factor (Err fault) blocks s h none e = absurd h
+
+not_leaked : (n : ℕ) (o : Option Owner) → o ≡ Some (Outside n) → is_set (option_map (is_same_owner Leaked) o) ≡ false
+unfolding is_same_owner
+not_leaked n o e = ap (λ (x : Option Owner). is_set (option_map (is_same_owner Leaked) x)) e
+
+both : (a b : Bool) → a ≡ true → b ≡ false → a && not b ≡ true
+both true false e f = refl
+both true true e f = absurd (let h : true ≡ false = f in cc)
+both false b e f = absurd (let h : false ≡ true = e in cc)
+
+-- a number that is outside at a node is a free number of the catalogue
+pub number_free : (g : Geometry) (bs : List Block) (own : Owners) (c : Cat) (n i : ℕ) → Spells g bs own c → slice_get own.numbers i ≡ Some (Outside n) → is_free_number c (i + 1) ≡ true
+number_free g bs own c n i s at =
+    let lt = slice_get_within own.numbers i (Outside n) at in
+    let owners : length own.numbers ≡ g.files = s.counts.numbers in
+    let slots : length c.files ≡ g.files = s.counts.slots in
+    let back : i + 1 - 1 ≡ i = omega arith in
+    let some : (i + 1 == 0) ≡ false = grind (arith, nat_tests) in
+    let number : IsFileNumber g (i + 1) = record { from = omega arith; to = omega arith } in
+    let here : slice_get c.files i ≡ Some (get_or c.files i (slot.Free 0)) = slice_get-get_or c.files i (slot.Free 0) (omega arith) in
+    let t = s.files (i + 1) (get_or c.files i (slot.Free 0)) number (ap (λ k. slice_get c.files k) back ∙ here) in
+    let free : is_free_slot (Some (get_or c.files i (slot.Free 0))) ≡ true = free_slot (i + 1) g.cluster (header_read (header_block g bs (i + 1))) (body_blocks bs (i + 1) (header_block g bs (i + 1))) (get_or c.files i (slot.Free 0)) t.reads
+    (λ used. let e : Some (Outside n) ≡ Some (InFile (i + 1)) = sym at ∙ ap (λ k. slice_get own.numbers k) (sym back) ∙ t.used.0 used in cc) t.slot in
+    let leaked : is_set (slice_get c.leaked_numbers i) ≡ false =
+    ap (λ (xs : List Bool). is_set (slice_get xs i)) s.owners.leaked_numbers ∙ ap is_set (slice_get-map (is_same_owner Leaked) own.numbers i) ∙ not_leaked n (slice_get own.numbers i) at in
+    both _ _ (ap (λ (b : Bool). is_free_slot (cond b None (slice_get c.files (i + 1 - 1)))) some ∙ ap (λ k. is_free_slot (slice_get c.files k)) back ∙ ap is_free_slot here ∙ free)
+    (ap (λ k. is_set (slice_get c.leaked_numbers k)) back ∙ leaked)
+
+all_free : (c : Cat) (xs : List ℕ) → ((i : ℕ) → Has xs i → is_free_number c (i + 1) ≡ true) → list_all (is_free_number c) (map (λ i. i + 1) xs) ≡ true
+all_free c [] h = refl
+all_free c (x ∷ xs) h = ap (λ (b : Bool). b && list_all (is_free_number c) (map (λ i. i + 1) xs)) (h x (inl refl)) ∙ all_free c xs (λ i t. h i (inr t))
+
+adds_less : (a b s t x y : ℕ) → x ≡ a + s → y ≡ b + t → a ≤ b → s ≤ t → x ≤ y
+adds_less a b s t x y e f h k = omega arith
+
+count_less : (p q : Owner → Bool) (xs : List Owner) → ((o : Owner) → p o ≡ true → q o ≡ true) → count_by p xs ≤ count_by q xs
+count_less p q [] h = omega arith
+count_less p q (x ∷ xs) h =
+    let f : Owner → ℕ = λ o. cond (p o) 1 0 in
+    let k : Owner → ℕ = λ o. cond (q o) 1 0 in
+    adds_less (f x) (k x) (count_by p xs) (count_by q xs) _ _ (sum_by-cons f x xs) (sum_by-cons k x xs) (by_test (p x) refl) (count_less p q xs h) where
+      by_test : (b : Bool) → p x ≡ b → cond {A = ℕ} (p x) 1 0 ≤ cond {A = ℕ} (q x) 1 0
+      by_test true e = rw (e, h x e) (omega arith)
+      by_test false e = rw e (omega arith)
+
+outside_is : (n : ℕ) (o : Owner) → is_same_owner (Outside n) o ≡ true → is_outside o ≡ true
+unfolding is_same_owner is_outside
+outside_is n Free e = e
+outside_is n (InFile i) e = e
+outside_is n (Outside m) e = refl
+outside_is n Leaked e = e
+
+some_of : (k f a b : ℕ) → f ≡ a + b → k ≤ b → k ≤ f
+some_of k f a b e h = omega arith
+
+pub outside_may_leak : OutsideMayLeak
+outside_may_leak g bs own c n took stock s outs =
+    let counted : count_by (is_same_owner (Outside n)) own.clusters ≡ length (took.clusters ++ stock.clusters) = out_counts n took.clusters stock.clusters own.clusters outs.clusters in
+    let less : count_by (is_same_owner (Outside n)) own.clusters ≤ count_by is_outside own.clusters = count_less (is_same_owner (Outside n)) is_outside own.clusters (outside_is n) in
+    let all = (clusters_add_up g bs own c s).free in (
+      some_of (length (took.clusters ++ stock.clusters)) (free_clusters c) _ (count_by is_outside own.clusters) all (subst (λ (k : ℕ). k ≤ count_by is_outside own.clusters) counted less),
+      all_free c (took.numbers ++ stock.numbers) (λ i t. number_free g bs own c n i s ((outs.numbers.all i).1 (has_parted took.numbers stock.numbers i t))),
+    )
+
+-- each thing that goes to the leaks counts one more
+pub leaks_count : (n : ℕ) (qs : List ℕ) (xs : List Owner) → Once qs → AreOf qs (Outside n) xs → count_by (is_same_owner Leaked) (handed qs Leaked xs) ≡ count_by (is_same_owner Leaked) xs + length qs
+unfolding is_same_owner
+leaks_count n qs xs once at =
+    let e : count_by (is_same_owner Leaked) (handed qs Leaked xs) + 0 ≡ count_by (is_same_owner Leaked) xs + length qs = handing_counts (is_same_owner Leaked) qs (Outside n) Leaked xs once at in
+    plain _ _ e where
+      plain : (a b : ℕ) → a + 0 ≡ b → a ≡ b
+      plain a b e = omega arith
+
+flag_set : (xs : List Owner) (q : ℕ) → map (is_same_owner Leaked) (slice_set xs q Leaked) ≡ slice_set (map (is_same_owner Leaked) xs) (q + 1 - 1) true
+unfolding is_same_owner
+flag_set xs q = let back : q + 1 - 1 ≡ q = omega arith in rw back (map-set (is_same_owner Leaked) xs q Leaked)
+
+-- and is flagged
+pub leaks_flagged : (qs : List ℕ) (xs : List Owner) → map (is_same_owner Leaked) (handed qs Leaked xs) ≡ flagged (map (is_same_owner Leaked) xs) (map (λ i. i + 1) qs)
+leaks_flagged [] xs = refl
+leaks_flagged (q ∷ qs) xs = leaks_flagged qs (slice_set xs q Leaked) ∙ ap (λ (fs : List Bool). flagged fs (map (λ i. i + 1) qs)) (flag_set xs q)
