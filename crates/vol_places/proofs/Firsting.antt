@@ -1,6 +1,7 @@
 -- The first entry of each file, when one entry more is looked at, and what it says of the entries that stay.
-use Rattle.std.proofs.Common.{◌≡◌, ◌≢◌, ◌≤◌, ◌<◌, ◌+◌, ◌-◌, ◌∙◌, ◌++◌, ◌&&◌, ℕ, Bool, true, false, List, [], ◌∷◌, Option, Some, None, length, get_or, set, map, take, refl, sym, ap, subst, inl, inr, arith}
+use Rattle.std.proofs.Common.{◌≡◌, ◌≢◌, ◌≤◌, ◌<◌, ◌+◌, ◌-◌, ◌∙◌, ◌++◌, ◌&&◌, ℕ, Bool, true, false, cond, filter, append-nil, List, [], ◌∷◌, Option, Some, None, length, get_or, set, map, take, refl, sym, ap, subst, inl, inr, arith}
 use Rattle.std.proofs.lemmas.Grind.{get_or-set_at}
+use Rattle.std.proofs.lemmas.List.Elements.{filter-append}
 use Rattle.std.proofs.lemmas.List.{get_or-set_other, length-set, take_more, map-append}
 use Rattle.std.proofs.lemmas.Option.{slice_get_past}
 use Rattle.std.proofs.lemmas.Bool.{false≢true, eqb-true, ne_eqb, lt-ltb, cases_eq, cases_lt}
@@ -197,3 +198,13 @@ pub map_more : (xs : List Spot) (i : ℕ) (x : Spot) → i < length xs → x ≡
     → map place_of (take (i + 1) xs) ≡ map place_of (take i xs) ++ place_of x ∷ []
 map_more xs i x lt is =
     ap (map place_of) (take_more xs i x lt ∙ ap (λ (y : Spot). take i xs ++ y ∷ []) (sym is)) ∙ map-append place_of (take i xs) (x ∷ [])
+
+-- one entry more that passes a test
+pub passing_more : (p : Place → Bool) (ps : List Place) (x : Place) → p x ≡ true → filter p (ps ++ x ∷ []) ≡ filter p ps ++ x ∷ []
+passing_more p ps x h =
+    filter-append p ps (x ∷ []) ∙ ap (λ (b : Bool). filter p ps ++ cond b (x ∷ []) []) h
+
+-- and one that fails it
+pub passing_same : (p : Place → Bool) (ps : List Place) (x : Place) → p x ≡ false → filter p (ps ++ x ∷ []) ≡ filter p ps
+passing_same p ps x h =
+    filter-append p ps (x ∷ []) ∙ (ap (λ (b : Bool). filter p ps ++ cond b (x ∷ []) []) h ∙ append-nil (filter p ps))

@@ -84,6 +84,27 @@ pub second_else : (c : Cat) (table : List (Option Spot)) (p : Place) (l : Bool) 
 second_else c table p l first e t =
     t ∙ (ap (λ (b : Bool). b && not (is_kept table p)) (sym t ∙ e) ∙ second_is c table p first)
 
+stays_of : (l : Option File) (kept first : Bool) → (is_some l ≡ true → kept ≡ first) → (is_some l && kept) ≡ (not (is_none l) && first)
+stays_of None kept first h = refl
+stays_of (Some f) kept first h = h refl
+
+-- and it stays where its file keeps it
+pub stays_is : (c : Cat) (table : List (Option Spot)) (p : Place) → AreFirsts c (places c) table
+    → (is_some (live c p.entry.fid) && is_kept table p) ≡ stays c p
+unfolding stays
+stays_is c table p first =
+    stays_of (live c p.entry.fid) (is_kept table p) (if nat_le p.entry.fid.num 11 then is_own p else is_first p (places c)) (kept_is c table p first)
+
+pub stays_then : (c : Cat) (table : List (Option Spot)) (p : Place) (l k : Bool) → AreFirsts c (places c) table
+    → l ≡ is_some (live c p.entry.fid) → l ≡ true → k ≡ is_kept table p → k ≡ stays c p
+stays_then c table p l k first e t ek =
+    ek ∙ (ap (λ (b : Bool). b && is_kept table p) (sym t ∙ e) ∙ stays_is c table p first)
+
+pub stays_else : (c : Cat) (table : List (Option Spot)) (p : Place) (l : Bool) → AreFirsts c (places c) table
+    → l ≡ is_some (live c p.entry.fid) → l ≡ false → l ≡ stays c p
+stays_else c table p l first e t =
+    t ∙ (ap (λ (b : Bool). b && is_kept table p) (sym t ∙ e) ∙ stays_is c table p first)
+
 none_some : (x : Option Place) → is_none x ≡ not (is_some x)
 none_some None = refl
 none_some (Some p) = refl

@@ -18,14 +18,14 @@ fn is_in_use(cat: &Cat, fid: Fid) -> bool
 }
 
 // Whether an identifier is that of a live file.
-fn is_live(cat: &Cat, fid: Fid) -> bool
+pub(crate) fn is_live(cat: &Cat, fid: Fid) -> bool
     ensures { result ≡ is_some (live cat.now fid) }
 {
     live(cat, fid).is_some()
 }
 
 // What a table has for a file number.
-fn first_at<'a>(table: &[Option<Spot<'a>>], n: u32) -> Option<Spot<'a>>
+pub(crate) fn first_at<'a>(table: &[Option<Spot<'a>>], n: u32) -> Option<Spot<'a>>
     ensures { result ≡ first_at table.now n }
 {
     match table.get((n as usize).saturating_sub(1)) {
@@ -45,7 +45,7 @@ fn is_new(cat: &Cat, table: &[Option<Spot<'_>>], spot: &Spot<'_>) -> bool
 }
 
 // Looks at one entry more.
-fn note<'a>(cat: &Cat, table: &mut Vec<Option<Spot<'a>>>, spot: &Spot<'a>)
+pub(crate) fn note<'a>(cat: &Cat, table: &mut Vec<Option<Spot<'a>>>, spot: &Spot<'a>)
     ensures { (ps : List Place) → AreFirsts cat.now ps table.old.items → AreFirsts cat.now (ps ++ place_of spot.now ∷ []) table.new.items }
 {
     if is_new(cat, table.as_slice(), spot) {
@@ -55,7 +55,7 @@ fn note<'a>(cat: &Cat, table: &mut Vec<Option<Spot<'a>>>, spot: &Spot<'a>)
 
 // A table that has no entry.
 #[tactic(auto, using(crate::proofs::Firsting::firsts_none))]
-fn no_firsts<'a>(alloc: Global, cat: &Cat) -> Result<Vec<Option<Spot<'a>>>, NoMemory>
+pub(crate) fn no_firsts<'a>(alloc: Global, cat: &Cat) -> Result<Vec<Option<Spot<'a>>>, NoMemory>
     ensures { IfOk result (λ v. AreFirsts cat.now [] v.items) }
 {
     let mut table = Vec::new(alloc);
@@ -112,7 +112,7 @@ fn is_first(table: &[Option<Spot<'_>>], spot: &Spot<'_>) -> bool
 }
 
 // Whether an entry is the one that its file keeps.
-fn is_kept(table: &[Option<Spot<'_>>], spot: &Spot<'_>) -> bool
+pub(crate) fn is_kept(table: &[Option<Spot<'_>>], spot: &Spot<'_>) -> bool
     ensures { result ≡ is_kept table.now (place_of spot.now) }
 {
     if spot.entry.fid.num <= 11 {
