@@ -18,12 +18,12 @@ use Rattle.vol_spell.proofs.Keeping.{death_leaks}
 use Rattle.vol_under.specs.Guards.{guard_of, MayWrite, MayLook}
 use Rattle.vol_under.specs.UnderWay.{bare, UnderWay, writes_to, all_out, resting, idle, changed}
 use Rattle.vol_under.specs.Under.{IsLawful, IsUnder}
-use Rattle.vol_under.specs.Ending.{OpensKeep, file_numbers, dead_with, LeakKeeps, DeathKeeps}
+use Rattle.vol_under.specs.Ending.{OpensKeep, file_numbers, LeakKeeps, DeathKeeps}
 use Rattle.vol_under.proofs.Guarding.{guard_stays, death_write, death_look, outs_stay}
 use Rattle.vol_under.proofs.Lying.{over_same}
 use Rattle.vol_under.proofs.Nodes.{changed_here, each, done_alike}
 use Rattle.vol_under.proofs.Steps.{idle_lawful, stop_keeps}
-use Rattle.vol_under.proofs.Leaking.{outside_may_leak, leaks_count, leaks_flagged}
+use Rattle.vol_under.proofs.Leaking.{outside_may_leak, leaks_count, leaks_flagged, flagged_alike}
 
 pub opens_spelt : (g : Geometry) (bs : List Block) (own : Owners) (c : Cat) (opens : List (Option Open)) → Spells g bs own c → Spells g bs own (record c { opens = opens })
 opens_spelt g bs own c opens s = record {
@@ -58,14 +58,14 @@ dead_spelt g bs own new c n k ns s moves clusters numbers =
     opens_spelt g bs new (record c { leaked = c.leaked + k; leaked_numbers = flagged c.leaked_numbers ns }) (closed_channels n 8 c.opens) (subst (λ (d : Cat). Spells g bs new d) e (death_leaks g bs own new c n s moves))
 
 pub leak_keeps : LeakKeeps
-leak_keeps g c nodes drive n stock u is =
+leak_keeps g c nodes drive n stock ns u is are =
     let rest : UnderWay = resting nothing in
     record {
       base = u.base;
       own = new;
-      spelt = dead_spelt g u.base u.own new c n (length stock.clusters) (file_numbers stock) u.spelt moves
+      spelt = dead_spelt g u.base u.own new c n (length stock.clusters) ns u.spelt moves
           (leaks_count n stock.clusters u.own.clusters out.clusters.once clusters ∙ ap (λ k. k + length stock.clusters) (sym u.spelt.owners.leaked))
-          (leaks_flagged stock.numbers u.own.numbers ∙ ap (λ (fs : List Bool). flagged fs (file_numbers stock)) (sym u.spelt.owners.leaked_numbers));
+          (leaks_flagged stock.numbers u.own.numbers ∙ ap (λ (fs : List Bool). flagged fs (file_numbers stock)) (sym u.spelt.owners.leaked_numbers) ∙ sym (flagged_alike ns (file_numbers stock) c.leaked_numbers are));
       over = over_same (λ m. writes_to (nodes m).done (nodes m)) (λ m. writes_to (changed nodes n rest m).done (changed nodes n rest m)) u.base drive u.over (done_alike nodes n rest (sym (ap (λ v. writes_to v.done v) is)));
       within = each (λ m v. v.done ≤ length v.plan) nodes n rest (omega arith) (λ m ne. u.within m);
       stands = each (λ m v. StandsIn u.base v.seen) nodes n rest tt (λ m ne. u.stands m);
@@ -104,7 +104,7 @@ pub changed_again : (nodes : ℕ → UnderWay) (n : ℕ) (u v : UnderWay) → ch
 changed_again nodes n u v = λ i m. twice (m == n) u v (nodes m) i
 
 pub death_keeps : DeathKeeps
-death_keeps g c nodes drive n sole u knows =
+death_keeps g c nodes drive n ns sole u knows are =
     let s = stop_keeps g c nodes drive n sole u knows in
     let after : ℕ → UnderWay = changed nodes n (idle (nodes n)) in
     let is : after n ≡ resting (all_out (nodes n)) = changed_here nodes n (idle (nodes n)) in
@@ -112,6 +112,6 @@ death_keeps g c nodes drive n sole u knows =
     record {
       cat = s.0;
       stage = s.1;
-      leaks = outside_may_leak g s.2.base s.2.own s.0 n nothing (all_out (nodes n)) s.2.spelt out;
-      under = subst (λ (f : ℕ → UnderWay). IsUnder g (dead_with s.0 n (all_out (nodes n))) f drive) (changed_again nodes n (idle (nodes n)) (resting nothing)) (leak_keeps g s.0 after drive n (all_out (nodes n)) s.2 is);
+      leaks = outside_may_leak g s.2.base s.2.own s.0 n nothing (all_out (nodes n)) ns s.2.spelt out are;
+      under = subst (λ (f : ℕ → UnderWay). IsUnder g (dead s.0 n (length (all_out (nodes n)).clusters) ns) f drive) (changed_again nodes n (idle (nodes n)) (resting nothing)) (leak_keeps g s.0 after drive n (all_out (nodes n)) ns s.2 is are);
     }

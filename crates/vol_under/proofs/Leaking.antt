@@ -1,6 +1,6 @@
 -- What is outside at a node, and what leaks.
-use Rattle.std.proofs.Common.{◌≡◌, ◌≤◌, ◌+◌, ◌-◌, ◌==◌, ◌&&◌, ℕ, Bool, true, false, List, [], ◌∷◌, ◌++◌, Option, Some, None, length, map, slice_get, slice_set, get_or, refl, sym, ap, subst, ◌∙◌, inl, inr, arith, cond}
-use Rattle.std.specs.Prelude.{count_by, Result, Ok, Err, is_some, option_map, not}
+use Rattle.std.proofs.Common.{suc, length-set, ◌≡◌, ◌≤◌, ◌+◌, ◌-◌, ◌==◌, ◌&&◌, ℕ, Bool, true, false, List, [], ◌∷◌, ◌++◌, Option, Some, None, length, map, slice_get, slice_set, get_or, refl, sym, ap, subst, ◌∙◌, inl, inr, arith, cond}
+use Rattle.std.specs.Prelude.{◌↔◌, count_by, Result, Ok, Err, is_some, option_map, not}
 use Rattle.std.specs.List.{list_all}
 use Rattle.std.proofs.lemmas.Bool.Decides.{nat_tests}
 use Rattle.std.proofs.lemmas.List.{map-set}
@@ -18,11 +18,12 @@ use Rattle.plain_vol.specs.Lookups.{is_free_slot, is_set, is_free_number, free_c
 use Rattle.plain_vol.specs.Replaying.{flagged}
 use Rattle.vol_owners.specs.declared.owner.Owner.{Owner}
 use Rattle.vol_owners.specs.declared.owner.Owner.TheVariants.{Free, InFile, Outside, Leaked}
-use Rattle.vol_owners.specs.Lists.{Has, Once}
+use Rattle.vol_owners.specs.Lists.{Has, Once, written, Touches}
 use Rattle.vol_owners.specs.Owners.{Owners}
 use Rattle.vol_owners.specs.Hands.{handed, AreOf}
 use Rattle.vol_owners.specs.Counts.{is_same_owner}
 use Rattle.vol_owners.proofs.Listing.{has_parted}
+use Rattle.vol_owners.proofs.Writing.{touches_or_not, touched_alike, get-written_else, length-written}
 use Rattle.vol_owners.proofs.Counting.{handing_counts, out_counts}
 use Rattle.vol_parts.specs.declared.geometry.Geometry.{Geometry}
 use Rattle.vol_parts.specs.Volumes.{fields_in}
@@ -66,9 +67,9 @@ number_free g bs own c n i s at =
     both _ _ (ap (λ (b : Bool). is_free_slot (cond b None (slice_get c.files (i + 1 - 1)))) some ∙ ap (λ k. is_free_slot (slice_get c.files k)) back ∙ ap is_free_slot here ∙ free)
     (ap (λ k. is_set (slice_get c.leaked_numbers k)) back ∙ leaked)
 
-all_free : (c : Cat) (xs : List ℕ) → ((i : ℕ) → Has xs i → is_free_number c (i + 1) ≡ true) → list_all (is_free_number c) (map (λ i. i + 1) xs) ≡ true
+all_free : (c : Cat) (ns : List ℕ) → ((n : ℕ) → Has ns n → is_free_number c n ≡ true) → list_all (is_free_number c) ns ≡ true
 all_free c [] h = refl
-all_free c (x ∷ xs) h = ap (λ (b : Bool). b && list_all (is_free_number c) (map (λ i. i + 1) xs)) (h x (inl refl)) ∙ all_free c xs (λ i t. h i (inr t))
+all_free c (n ∷ ns) h = ap (λ (b : Bool). b && list_all (is_free_number c) ns) (h n (inl refl)) ∙ all_free c ns (λ m t. h m (inr t))
 
 adds_less : (a b s t x y : ℕ) → x ≡ a + s → y ≡ b + t → a ≤ b → s ≤ t → x ≤ y
 adds_less a b s t x y e f h k = omega arith
@@ -93,13 +94,20 @@ outside_is n Leaked e = e
 some_of : (k f a b : ℕ) → f ≡ a + b → k ≤ b → k ≤ f
 some_of k f a b e h = omega arith
 
+has_mapped : (xs : List ℕ) (n : ℕ) → Has (map (λ i. i + 1) xs) n → (i : ℕ) × Has xs i × (i + 1 ≡ n)
+has_mapped [] n t = absurd t
+has_mapped (x ∷ xs) n (inl e) = (x, inl refl, e)
+has_mapped (x ∷ xs) n (inr t) = let h = has_mapped xs n t in (h.0, inr h.1, h.2)
+
 pub outside_may_leak : OutsideMayLeak
-outside_may_leak g bs own c n took stock s outs =
+outside_may_leak g bs own c n took stock ns s outs are =
     let counted : count_by (is_same_owner (Outside n)) own.clusters ≡ length (took.clusters ++ stock.clusters) = out_counts n took.clusters stock.clusters own.clusters outs.clusters in
     let less : count_by (is_same_owner (Outside n)) own.clusters ≤ count_by is_outside own.clusters = count_less (is_same_owner (Outside n)) is_outside own.clusters (outside_is n) in
     let all = (clusters_add_up g bs own c s).free in (
       some_of (length (took.clusters ++ stock.clusters)) (free_clusters c) _ (count_by is_outside own.clusters) all (subst (λ (k : ℕ). k ≤ count_by is_outside own.clusters) counted less),
-      all_free c (took.numbers ++ stock.numbers) (λ i t. number_free g bs own c n i s ((outs.numbers.all i).1 (has_parted took.numbers stock.numbers i t))),
+      all_free c ns (λ m t.
+          let h = has_mapped (took.numbers ++ stock.numbers) m ((are m).0 t) in
+          subst (λ (k : ℕ). is_free_number c k ≡ true) h.2 (number_free g bs own c n h.0 s ((outs.numbers.all h.0).1 (has_parted took.numbers stock.numbers h.0 h.1)))),
     )
 
 -- each thing that goes to the leaks counts one more
@@ -110,6 +118,62 @@ leaks_count n qs xs once at =
     plain _ _ e where
       plain : (a b : ℕ) → a + 0 ≡ b → a ≡ b
       plain a b e = omega arith
+
+-- a number's flag is set
+flag_writes : List ℕ → List (ℕ × Bool)
+flag_writes ns = map (λ n. (n - 1, true)) ns
+
+flagged_is : (ns : List ℕ) (flags : List Bool) → flagged flags ns ≡ written (flag_writes ns) flags
+unfolding flag_writes
+flagged_is [] flags = refl
+flagged_is (n ∷ ns) flags = flagged_is ns (slice_set flags (n - 1) true)
+
+flag_touched : (ns : List ℕ) (l : ℕ) → Touches (flag_writes ns) l → (n : ℕ) × Has ns n × (n - 1 ≡ l)
+unfolding flag_writes
+flag_touched [] l t = absurd t
+flag_touched (n ∷ ns) l (inl e) = (n, inl refl, e)
+flag_touched (n ∷ ns) l (inr t) = let h = flag_touched ns l t in (h.0, inr h.1, h.2)
+
+flag_touches : (ns : List ℕ) (n : ℕ) → Has ns n → Touches (flag_writes ns) (n - 1)
+unfolding flag_writes
+flag_touches [] n t = absurd t
+flag_touches (m ∷ ns) n (inl e) = inl (ap (λ k. k - 1) e)
+flag_touches (m ∷ ns) n (inr t) = inr (flag_touches ns n t)
+
+flag_here : (ns : List ℕ) (flags : List Bool) (l : ℕ) → Touches (flag_writes ns) l → slice_get (written (flag_writes ns) flags) l ≡ slice_get (slice_set flags l true) l
+unfolding flag_writes
+flag_here [] flags l t = absurd t
+flag_here (n ∷ ns) flags l t = elim (touches_or_not (flag_writes ns) l) [
+  | inl u ↦ flag_here ns (slice_set flags (n - 1) true) l u ∙ touched_alike ((l, true) ∷ []) (slice_set flags (n - 1) true) flags l (length-set flags (n - 1) true) (inl refl)
+  | inr f ↦ get-written_else (flag_writes ns) (slice_set flags (n - 1) true) l f ∙ here (elim t [ inl e ↦ e | inr u ↦ absurd (f u) ])
+] where
+  here : n - 1 ≡ l → slice_get (slice_set flags (n - 1) true) l ≡ slice_get (slice_set flags l true) l
+  here e = ap (λ k. slice_get (slice_set flags k true) l) e
+
+pub lists_same : {A : Type 0} (xs ys : List A) → length xs ≡ length ys → ((l : ℕ) → slice_get xs l ≡ slice_get ys l) → xs ≡ ys
+lists_same [] [] len h = refl
+lists_same [] (y ∷ ys) len h = absurd (omega arith)
+lists_same (x ∷ xs) [] len h = absurd (omega arith)
+lists_same (x ∷ xs) (y ∷ ys) len h =
+    let first : x ≡ y = (let e : Some x ≡ Some y = h 0 in cc) in
+    let rest : xs ≡ ys = lists_same xs ys (omega arith) (λ l. h (suc l)) in
+    λ i. first i ∷ rest i
+
+-- the same numbers in another order have the same flags
+pub flagged_alike : (ns ms : List ℕ) (flags : List Bool) → ((n : ℕ) → Has ns n ↔ Has ms n) → flagged flags ns ≡ flagged flags ms
+flagged_alike ns ms flags same =
+    flagged_is ns flags ∙ lists_same (written (flag_writes ns) flags) (written (flag_writes ms) flags) (length-written (flag_writes ns) flags ∙ sym (length-written (flag_writes ms) flags)) at ∙ sym (flagged_is ms flags) where
+      there : (l : ℕ) → Touches (flag_writes ns) l → Touches (flag_writes ms) l
+      there l t = let h = flag_touched ns l t in subst (λ (k : ℕ). Touches (flag_writes ms) k) h.2 (flag_touches ms h.0 ((same h.0).0 h.1))
+
+      back : (l : ℕ) → Touches (flag_writes ms) l → Touches (flag_writes ns) l
+      back l t = let h = flag_touched ms l t in subst (λ (k : ℕ). Touches (flag_writes ns) k) h.2 (flag_touches ns h.0 ((same h.0).1 h.1))
+
+      at : (l : ℕ) → slice_get (written (flag_writes ns) flags) l ≡ slice_get (written (flag_writes ms) flags) l
+      at l = elim (touches_or_not (flag_writes ns) l) [
+        | inl t ↦ flag_here ns flags l t ∙ sym (flag_here ms flags l (there l t))
+        | inr f ↦ get-written_else (flag_writes ns) flags l f ∙ sym (get-written_else (flag_writes ms) flags l (λ t. f (back l t)))
+      ]
 
 flag_set : (xs : List Owner) (q : ℕ) → map (is_same_owner Leaked) (slice_set xs q Leaked) ≡ slice_set (map (is_same_owner Leaked) xs) (q + 1 - 1) true
 unfolding is_same_owner

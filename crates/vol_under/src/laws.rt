@@ -2,7 +2,7 @@
 
 ghost use Rattle.vol_under.specs.Keeping.{IdleLawful, RestStands, WriteKeeps, StopKeeps, BitsKeep, LookKeeps, PlanKeeps, GrantKeeps, ReadyKeeps};
 ghost use Rattle.vol_under.specs.Ending.{OpensKeep, OutsideMayLeak, LeakKeeps, DeathKeeps};
-ghost use Rattle.vol_under.specs.Stopping.{DriveSpells};
+ghost use Rattle.vol_under.specs.Stopping.{DriveSpells, WorldStops};
 ghost use Rattle.vol_under.specs.Chains.{StepsReach, StepsLawful};
 
 /// A node that has no plan is lawful.
@@ -74,9 +74,15 @@ pub fn death_keeps()
 {}
 
 /// The drive as it is spells the catalogue to which that of the history goes where every node stops, in whatever order, each at
-/// the stage of its writes done. So this is left where the world stops.
+/// the stage of its writes done.
 pub fn drive_spells()
     ensures { DriveSpells }
+{}
+
+/// Where the world stops, the drive is left with the catalogue to which that of the history goes where every node dies, in
+/// whatever order, each at the stage of its writes done.
+pub fn world_stops()
+    ensures { WorldStops }
 {}
 
 /// A chain of writes, each of which takes blocks that spell a stage to blocks that spell the next, leaves its stages.
