@@ -59,7 +59,8 @@ past : (t : Bool) (f : HomeFault) (others : Result Home HomeFault) (h : Home) �
 past true f others h e = (refl, e)
 past false f others h e = absurd (cc)
 
-limits_of : (b : Block) (h : Home) → home_read b ≡ Ok h → IsWithinLimits h
+-- a home block that is read is within the limits
+pub limits_of : (b : Block) (h : Home) → home_read b ≡ Ok h → IsWithinLimits h
 unfolding home_read
 limits_of b h e =
     let format = past (has_format b) BadFormat _ h e in

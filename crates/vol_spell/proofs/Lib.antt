@@ -10,3 +10,5 @@ pub mod Viewing
 pub mod Picking
 pub mod Clusters
 pub mod Accepted
+pub mod Fully
+pub mod Packing

@@ -8,3 +8,5 @@ pub mod Views
 pub mod Adding
 pub mod Telling
 pub mod Accepting
+pub mod Fully
+pub mod Packing

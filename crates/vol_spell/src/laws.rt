@@ -7,6 +7,7 @@ ghost use Rattle.vol_spell.specs.Views.{OthersStay, PartsStay, OutsideStays, Bod
 ghost use Rattle.vol_spell.specs.Adding.{ClustersAddUp};
 ghost use Rattle.vol_spell.specs.Telling.{VolumeTells};
 ghost use Rattle.vol_spell.specs.Accepting.{CatalogueIsSpelt};
+ghost use Rattle.vol_spell.specs.Packing.{PackingFits};
 
 /// Each part of a volume lies in the clusters of its file, apart from all others.
 pub fn parts_lie_apart()
@@ -112,4 +113,9 @@ pub fn death_leaks()
 /// The catalogue of a volume of 64 to 65,536 blocks in which nothing fatal is found is spelt by its blocks, with nothing outside.
 pub fn catalogue_is_spelt()
     ensures { CatalogueIsSpelt }
+{}
+
+/// Blocks of a directory can be written of entries exactly where the entries of the catalogue fit in as many.
+pub fn packing_fits()
+    ensures { PackingFits }
 {}
