@@ -14,7 +14,6 @@ use Rattle.vol_parts.specs.Volumes.{Volume, volume}
 use Rattle.vol_parts.specs.Catalogues.{catalogue}
 use Rattle.vol_parts.specs.Fatal.{IsFatalIn, is_system_file, is_system_entry, entries_of, is_marked_dir, Path, HasNoRoom, dir_fault}
 use Rattle.vol_parts.specs.Findings.{home_at, IsFatalBy, Weak, AreWarningsBy, Accepts, IsCatalogueBy, CatOf}
-use Rattle.vol_parts.specs.Warnings.{has_doubles}
 use Rattle.vol_fresh.specs.Layouts.{fresh}
 use Rattle.vol_fresh.specs.Fresh.{layout_of, IsFresh}
 use Rattle.vol_fresh.proofs.Files.{catalogue_is}
@@ -61,8 +60,8 @@ tells_fresh bs h read is = record {
   told = subst (λ (r : Result Home HomeFault). IsCatalogueBy bs r (fresh (layout_of (volume h bs)))) (sym read) (sym (catalogue_is (volume h bs) is));
 }
 
-pub accepts_fresh : (bs : List Block) (h : Home) → home_read (home_at bs) ≡ Ok h → IsFresh (volume h bs) → has_doubles (volume h bs) 4 ≡ false → Accepts bs
-accepts_fresh bs h read is once = inr (
+pub accepts_fresh : (bs : List Block) (h : Home) → home_read (home_at bs) ≡ Ok h → IsFresh (volume h bs) → Accepts bs
+accepts_fresh bs h read is = inr (
   weak bs h read is,
-  subst (λ (r : Result Home HomeFault). AreWarningsBy bs r []) (sym read) (sym (no_warnings (volume h bs) is once)),
+  subst (λ (r : Result Home HomeFault). AreWarningsBy bs r []) (sym read) (sym (no_warnings (volume h bs) is is.once)),
 )

@@ -1,9 +1,10 @@
 -- What the blocks of a fresh volume say.
-use Rattle.std.specs.Prelude.{◌≡◌, ◌≤◌, ◌<◌, nat_le, ℕ, [], Ok, length}
+use Rattle.std.specs.Prelude.{◌≡◌, ◌≤◌, ◌<◌, nat_le, ℕ, false, [], Ok, length}
 use Rattle.fx_home.specs.Homes.{scb_read}
 use Rattle.fx_header.specs.declared.slot.Slot.TheVariants.{Used, Free}
 use Rattle.fx_dir.specs.Directory.{directory}
 use Rattle.vol_parts.specs.Volumes.{Volume, IsNumber, head, runs, body, block_at, bitmap_lbn, is_used_number, is_free_cluster, active_rows}
+use Rattle.vol_parts.specs.Warnings.{has_doubles}
 use Rattle.vol_fresh.specs.declared.layout.Layout.{Layout}
 use Rattle.vol_fresh.specs.Layouts.{IsLayout, total, reserved_clusters, header_of, runs_of, main_entries, quota_rows}
 
@@ -12,8 +13,8 @@ abbrev pub layout_of : Volume → Layout
 layout_of v = record { cluster = v.home.cluster; files = v.home.files; blocks = length v.blocks }
 
 -- A fresh volume: the system files stand under the numbers 1 to 11, all other numbers were never used, the bitmaps show
--- just the system files' numbers and clusters as taken, the directories have the system files' entries and no other, and two
--- owners have quota.
+-- just the system files' numbers and clusters as taken, the directories have the system files' entries, each once, and no
+-- other, and two owners have quota.
 pub record IsFresh (v : Volume) : Type 0 where
   pub limits : IsLayout (layout_of v)
   pub room : reserved_clusters (layout_of v) ≤ total (layout_of v)
@@ -24,5 +25,6 @@ pub record IsFresh (v : Volume) : Type 0 where
   pub numbers : (n : ℕ) → IsNumber v n → is_used_number v n ≡ nat_le n 11
   pub clusters : (q : ℕ) → q < total (layout_of v) → is_free_cluster v q ≡ nat_le (reserved_clusters (layout_of v)) q
   pub main : directory (body v 4) ≡ Ok main_entries
+  pub once : has_doubles v 4 ≡ false
   pub lost : directory (body v 11) ≡ Ok []
   pub rows : active_rows v ≡ quota_rows (layout_of v)

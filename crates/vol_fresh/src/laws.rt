@@ -13,10 +13,9 @@ ghost use Rattle.vol_parts.specs.Warnings.{has_doubles};
 ghost use Rattle.vol_fresh.specs.Fresh.{layout_of, IsFresh};
 ghost use Rattle.vol_fresh.specs.Layouts.{fresh};
 
-/// The blocks of a fresh volume tell the catalogue of a fresh volume. Where no entry of its main directory stands in two
-/// blocks, the volume is accepted: nothing is found in it.
+/// A fresh volume is accepted: nothing is found in it, and its blocks tell the catalogue of a fresh volume.
 pub fn fresh_volumes_are_accepted()
-    ensures accepted { (bs : List Block) (h : Home) → home_read (home_at bs) ≡ Ok h → IsFresh (volume h bs) → has_doubles (volume h bs) 4 ≡ false → Accepts bs }
+    ensures accepted { (bs : List Block) (h : Home) → home_read (home_at bs) ≡ Ok h → IsFresh (volume h bs) → Accepts bs }
     ensures catalogue { (bs : List Block) (h : Home) → home_read (home_at bs) ≡ Ok h → IsFresh (volume h bs) → CatOf bs (fresh (layout_of (volume h bs))) }
 {}
 
