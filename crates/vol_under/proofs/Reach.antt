@@ -1,9 +1,22 @@
 -- Plans as chains of writes.
-use Rattle.std.proofs.Common.{zero, suc, [], ◌∷◌, arith}
-use Rattle.vol_owners.proofs.Moving.{moves_compose}
+use Rattle.std.proofs.Common.{◌≡◌, ℕ, zero, suc, List, [], ◌∷◌, Option, Some, None, slice_set, sym, subst, arith}
+use Rattle.lock_db.specs.declared.name.LockName.{LockName}
+use Rattle.lock_db.specs.declared.name.LockName.TheVariants.{S}
+use Rattle.plain_cat.specs.declared.command.Cmd.{Cmd}
+use Rattle.plain_cat.specs.declared.cat.Cat.{Cat}
+use Rattle.plain_vol.specs.Changes.{with_slot}
+use Rattle.vol_owners.specs.declared.owner.Owner.{Owner}
+use Rattle.vol_owners.specs.declared.owner.Owner.TheVariants.{Free, InFile, Outside, Leaked}
+use Rattle.vol_owners.specs.Lists.{Has}
+use Rattle.vol_owners.specs.Owners.{Owners, Moves, OwnersMove, IsFileMove, IsSpaceMove, Things}
+use Rattle.vol_owners.proofs.Moving.{still, grown, moves_grow, moves_compose}
+use Rattle.vol_parts.specs.declared.geometry.Geometry.{Geometry}
+use Rattle.vol_spell.specs.Spelling.{Spells}
+use Rattle.vol_spell.proofs.Keeping.{outside_write, quota_write, header_write, body_write, storage_write, index_write}
 use Rattle.vol_under.specs.Guards.{IsCommandMove}
 use Rattle.vol_under.specs.UnderWay.{first_stage}
-use Rattle.vol_under.specs.Chains.{StepsReach, StepsLawful}
+use Rattle.vol_under.specs.Chains.{StepsReach, StepsLawful, StepKinds}
+use Rattle.vol_under.proofs.Guarding.{space_command}
 use Rattle.vol_under.proofs.Steps.{stands_first}
 
 pub steps_reach : StepsReach
@@ -11,11 +24,52 @@ steps_reach g n cmd locks c stock [] start took x bs own zero at s o steps le = 
 steps_reach g n cmd locks c stock [] start took x bs own (suc k) at s o steps le = absurd (omega arith)
 steps_reach g n cmd locks c stock (w ∷ ws) start took x bs own zero at s o steps le = record { new = own; cat = x; stage = at; spelt = s; moves = (moves_compose (IsCommandMove n locks)).still own; outs = o }
 steps_reach g n cmd locks c stock (w ∷ ws) start took x bs own (suc k) at s o steps le =
-    let h = steps.0 in
-    let r = steps_reach g n cmd locks c stock ws w.stage w.outs h.cat _ h.new k h.stage h.spelt h.outs steps.1 (omega arith) in
-    record { new = r.new; cat = r.cat; stage = r.stage; spelt = r.spelt; moves = (moves_compose (IsCommandMove n locks)).chain own h.new r.new h.moves r.moves; outs = r.outs }
+    let h = steps.2 in
+    let r = steps_reach g n cmd locks c stock ws w.stage w.outs steps.1 _ steps.0 k h.stage h.spelt h.outs steps.3 (omega arith) in
+    record { new = r.new; cat = r.cat; stage = r.stage; spelt = r.spelt; moves = (moves_compose (IsCommandMove n locks)).chain own steps.0 r.new h.moves r.moves; outs = r.outs }
 
 pub steps_lawful : StepsLawful
 steps_lawful g n u chain base own c stock k spelt knows stands outs le =
     let r = steps_reach g n u.cmd u.write c stock u.plan (first_stage u.cmd) u.took c base own k (stands_first c n u.cmd) spelt outs (chain base own c stock spelt knows stands outs) le in
     record { new = r.new; cat = r.cat; stage = r.stage; spelt = r.spelt; moves = r.moves; outs = r.outs }
+
+-- what a header's write moves, a command may move that holds the file's lock
+file_command : (n i : ℕ) (locks : List LockName) → Has locks (S i) → (o : Option Owner) → IsFileMove n i o → IsCommandMove n locks o
+file_command n i locks holds None a = a
+file_command n i locks holds (Some Free) a = tt
+file_command n i locks holds (Some (InFile j)) a = subst (λ (k : ℕ). Has locks (S k)) (sym a) holds
+file_command n i locks holds (Some (Outside m)) a = a
+file_command n i locks holds (Some Leaked) a = a
+
+space_moves : (n : ℕ) (locks : List LockName) (xs ys : List Owner) → Moves (IsSpaceMove n) xs ys → Moves (IsCommandMove n locks) xs ys
+space_moves n locks xs ys m = grown (IsSpaceMove n) (IsCommandMove n locks) xs ys (space_command n locks) m
+
+same_moves : (n : ℕ) (locks : List LockName) (xs ys : List Owner) → ys ≡ xs → Moves (IsCommandMove n locks) xs ys
+same_moves n locks xs ys e = let P : List Owner → Type 0 = λ zs. Moves (IsCommandMove n locks) xs zs in subst P (sym e) (still (IsCommandMove n locks) xs)
+
+pub step_kinds : (g : Geometry) (n : ℕ) (cmd : Option Cmd) (locks : List LockName) (c : Cat) (stock : Things) → StepKinds g n cmd locks c stock
+step_kinds g n cmd locks c stock = record {
+  outside = λ w bs own x s owner stage outs. record { stage = stage; spelt = outside_write g bs own x n w.lbn w.block s owner; moves = stays own; outs = outs };
+  quota = λ w bs own x k s part once stage outs. record { stage = stage; spelt = quota_write g bs own x k w.lbn w.block s part once; moves = stays own; outs = outs };
+  header = λ w bs own new x i slot s place is holds stage outs. record {
+    stage = stage;
+    spelt = subst (λ (l : ℕ). Spells g (slice_set bs l w.block) new (with_slot x i slot)) (sym place) (header_write g bs own new x n i w.block slot s is);
+    moves = moves_grow (IsFileMove n i) (IsCommandMove n locks) (file_command n i locks holds) own new is.moves;
+    outs = outs;
+  };
+  body = λ w bs own x i v slot s is stage outs. record { stage = stage; spelt = body_write g bs own x i v w.lbn w.block slot s is; moves = stays own; outs = outs };
+  storage = λ w bs own new x k s part moves same bits stage outs. record {
+    stage = stage;
+    spelt = storage_write g bs own new x n k w.lbn w.block s part moves same bits;
+    moves = record { clusters = space_moves n locks own.clusters new.clusters moves; numbers = same_moves n locks own.numbers new.numbers same };
+    outs = outs;
+  };
+  index = λ w bs own new x s part same moves bits stage outs. record {
+    stage = stage;
+    spelt = index_write g bs own new x n w.lbn w.block s part same moves bits;
+    moves = record { clusters = same_moves n locks own.clusters new.clusters same; numbers = space_moves n locks own.numbers new.numbers moves };
+    outs = outs;
+  };
+} where
+  stays : (own : Owners) → OwnersMove (IsCommandMove n locks) own own
+  stays own = (moves_compose (IsCommandMove n locks)).still own

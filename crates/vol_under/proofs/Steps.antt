@@ -17,7 +17,7 @@ use Rattle.vol_parts.specs.declared.geometry.Geometry.{Geometry}
 use Rattle.vol_under.specs.Guards.{Guard, guard_of, MayWrite, MayLook, IsCommandMove}
 use Rattle.vol_under.specs.UnderWay.{bare, UnderWay, first_stage, writes_to, outs_at, together, resting, idle, changed, AreSole, StandsAt}
 use Rattle.vol_under.specs.Under.{IsLawful, IsUnder}
-use Rattle.vol_under.specs.Keeping.{IdleLawful, RestStands, WriteKeeps, StopKeeps, BitsKeep, LookKeeps, PlanKeeps, GrantKeeps, ReadyKeeps}
+use Rattle.vol_under.specs.Keeping.{IdleLawful, RestStands, WriteKeeps, StopKeeps, BitsKeep, HeldStands, LookKeeps, PlanKeeps, GrantKeeps, ReadyKeeps}
 use Rattle.vol_under.proofs.Guarding.{guard_stays, command_write, command_look, space_look, space_command, wider_command, wider_write, wider_look, alone, unlooked, outs_stay, bitmap_guard}
 use Rattle.vol_under.proofs.Lying.{over_write, over_commit, over_base, over_same, over_none}
 use Rattle.vol_under.proofs.Nodes.{each, done_here, done_else, done_alike, writes_next, done_in, next_in, no_writes}
@@ -160,6 +160,14 @@ bits_keep g c nodes drive n l old b stock sole u no_plan bitmap holds unseen at 
       free m t =
           let e : m ≡ n = alone nodes sole m n (guard_of g u.own l) (u.plan_guarded m l (done_in (nodes m) l t)) mine in
           no_writes (nodes n) l no_plan (subst (λ (k : ℕ). Touches (bare (nodes k).plan) l) e (done_in (nodes m) l t))
+
+pub held_stands : HeldStands
+held_stands g c nodes drive n l sole u untouched holds = u.over.elsewhere l free where
+  mine : (m : ℕ) → MayWrite m (nodes m).write (guard_of g u.own l) → m ≡ n
+  mine m may = elim holds [ inl h ↦ alone nodes sole m n (guard_of g u.own l) may h | inr h ↦ unlooked nodes sole m n (guard_of g u.own l) may h ]
+
+  free : (m : ℕ) → Touches (writes_to (nodes m).done (nodes m)) l → ⊥
+  free m t = untouched (subst (λ (k : ℕ). Touches (writes_to (nodes k).done (nodes k)) l) (mine m (u.plan_guarded m l (done_in (nodes m) l t))) t)
 
 pub look_keeps : LookKeeps
 look_keeps g c nodes drive n l b sole u no_plan at guarded =

@@ -1,23 +1,29 @@
 -- Plans as chains of writes: each takes blocks that spell one stage to blocks that spell the next.
-use Rattle.std.specs.Prelude.{◌≡◌, ◌≤◌, ℕ, true, List, [], ◌∷◌, Option, length, take, slice_set}
+use Rattle.std.specs.Prelude.{◌≡◌, ◌≤◌, ◌<◌, ◌-◌, ◌↔◌, ℕ, true, false, List, [], ◌∷◌, Option, Some, length, map, take, slice_get, slice_set}
 use Rattle.vol_words.specs.Fields.{Block}
 use Rattle.lock_db.specs.declared.name.LockName.{LockName}
+use Rattle.lock_db.specs.declared.name.LockName.TheVariants.{S}
 use Rattle.plain_cat.specs.declared.command.Cmd.{Cmd}
 use Rattle.plain_cat.specs.declared.history.Stage.{Stage}
 use Rattle.plain_cat.specs.declared.cat.Cat.{Cat}
-use Rattle.vol_owners.specs.Lists.{written, StandsIn}
-use Rattle.vol_owners.specs.Owners.{Owners, OwnersMove, Things, Outs}
+use Rattle.plain_cat.specs.declared.cat.Slot.{Slot}
+use Rattle.plain_vol.specs.Changes.{with_slot}
+use Rattle.vol_owners.specs.declared.owner.Owner.TheVariants.{Free, Outside}
+use Rattle.vol_owners.specs.Lists.{Has, Once, written, StandsIn}
+use Rattle.vol_owners.specs.Owners.{Owners, Moves, OwnersMove, IsSpaceMove, Things, Outs}
 use Rattle.vol_parts.specs.declared.geometry.Geometry.{Geometry}
+use Rattle.vol_parts.specs.declared.geometry.Part.TheVariants.{IndexBitmap, Storage, Quota}
+use Rattle.vol_parts.specs.Parts.{part_of}
+use Rattle.vol_spell.specs.Reading.{IsFileNumber, total_of, owner_at, header_place, cluster_bit, number_bit, rows_told}
 use Rattle.vol_spell.specs.Spelling.{Spells}
+use Rattle.vol_spell.specs.Kinds.{with_rows, IsHeaderFor, IsBodyFor}
 use Rattle.vol_under.specs.Guards.{IsCommandMove}
 use Rattle.vol_under.specs.UnderWay.{PlannedWrite, bare, stage_after, outs_after, UnderWay, StandsAt}
 use Rattle.vol_under.specs.Under.{IsLawful}
 
 -- One write of node n's command on the catalogue c: the blocks after it spell the catalogue of its stage, with owners that the
 -- command may move, and outside what the plan says, besides the stock.
-pub record Step (g : Geometry) (n : ℕ) (cmd : Option Cmd) (locks : List LockName) (c : Cat) (stock : Things) (w : PlannedWrite) (bs : List Block) (own : Owners) : Type 0 where
-  pub new : Owners
-  pub cat : Cat
+pub record IsStep (g : Geometry) (n : ℕ) (cmd : Option Cmd) (locks : List LockName) (c : Cat) (stock : Things) (w : PlannedWrite) (bs : List Block) (own new : Owners) (cat : Cat) : Type 0 where
   pub stage : StandsAt c n cmd w.stage cat
   pub spelt : Spells g (slice_set bs w.lbn w.block) new cat
   pub moves : OwnersMove (IsCommandMove n locks) own new
@@ -26,7 +32,8 @@ pub record Step (g : Geometry) (n : ℕ) (cmd : Option Cmd) (locks : List LockNa
 -- each write in turn, on the blocks and owners that the one before leaves
 abbrev pub Steps : (g : Geometry) (n : ℕ) (cmd : Option Cmd) (locks : List LockName) (c : Cat) (stock : Things) → List PlannedWrite → List Block → Owners → Type 0
 Steps g n cmd locks c stock [] bs own = Unit {0}
-Steps g n cmd locks c stock (w ∷ ws) bs own = (s : Step g n cmd locks c stock w bs own) × Steps g n cmd locks c stock ws (slice_set bs w.lbn w.block) s.new
+Steps g n cmd locks c stock (w ∷ ws) bs own =
+    (new : Owners) × (cat : Cat) × IsStep g n cmd locks c stock w bs own new cat × Steps g n cmd locks c stock ws (slice_set bs w.lbn w.block) new
 
 -- what the first k writes of a chain leave
 pub record Reached (g : Geometry) (n : ℕ) (cmd : Option Cmd) (locks : List LockName) (c : Cat) (stock : Things) (ws : List PlannedWrite) (start : Stage) (took : Things) (bs : List Block) (own : Owners) (k : ℕ) : Type 0 where
@@ -47,3 +54,26 @@ abbrev pub StepsLawful : Type 0
 StepsLawful = (g : Geometry) (n : ℕ) (u : UnderWay)
     → ((base : List Block) (own : Owners) (c : Cat) (stock : Things) → Spells g base own c → u.knows c ≡ true → StandsIn base u.seen → Outs n own u.took stock → Steps g n u.cmd u.write c stock u.plan base own)
     → IsLawful g n u
+
+-- The kinds of writes as steps: x is the catalogue that the blocks spell before the write.
+pub record StepKinds (g : Geometry) (n : ℕ) (cmd : Option Cmd) (locks : List LockName) (c : Cat) (stock : Things) : Type 0 where
+  -- a block that the node has outside
+  pub outside : (w : PlannedWrite) (bs : List Block) (own : Owners) (x : Cat) → Spells g bs own x → owner_at g own w.lbn ≡ Some (Outside n)
+      → StandsAt c n cmd w.stage x → Outs n own w.outs stock → IsStep g n cmd locks c stock w bs own own x
+  -- a quota block
+  pub quota : (w : PlannedWrite) (bs : List Block) (own : Owners) (x : Cat) (k : ℕ) → Spells g bs own x → part_of g w.lbn ≡ Some (Quota k) → Once (map (λ r. r.uic) (rows_told g (slice_set bs w.lbn w.block)))
+      → StandsAt c n cmd w.stage (with_rows g (slice_set bs w.lbn w.block) x) → Outs n own w.outs stock → IsStep g n cmd locks c stock w bs own own (with_rows g (slice_set bs w.lbn w.block) x)
+  -- the header of a file whose lock the node holds
+  pub header : (w : PlannedWrite) (bs : List Block) (own new : Owners) (x : Cat) (i : ℕ) (s : Slot) → Spells g bs own x → w.lbn ≡ header_place g i → IsHeaderFor g bs n i own new x w.block s → Has locks (S i)
+      → StandsAt c n cmd w.stage (with_slot x i s) → Outs n new w.outs stock → IsStep g n cmd locks c stock w bs own new (with_slot x i s)
+  -- a block of a file
+  pub body : (w : PlannedWrite) (bs : List Block) (own : Owners) (x : Cat) (i v : ℕ) (s : Slot) → Spells g bs own x → IsBodyFor g bs i v w.lbn w.block s
+      → StandsAt c n cmd w.stage (with_slot x i s) → Outs n own w.outs stock → IsStep g n cmd locks c stock w bs own own (with_slot x i s)
+  -- a block of the storage bitmap
+  pub storage : (w : PlannedWrite) (bs : List Block) (own new : Owners) (x : Cat) (k : ℕ) → Spells g bs own x → part_of g w.lbn ≡ Some (Storage k) → Moves (IsSpaceMove n) own.clusters new.clusters → new.numbers ≡ own.numbers
+      → ((q : ℕ) → q < total_of g → (cluster_bit g (slice_set bs w.lbn w.block) q ≡ true) ↔ (slice_get new.clusters q ≡ Some Free))
+      → StandsAt c n cmd w.stage x → Outs n new w.outs stock → IsStep g n cmd locks c stock w bs own new x
+  -- the index-file bitmap
+  pub index : (w : PlannedWrite) (bs : List Block) (own new : Owners) (x : Cat) → Spells g bs own x → part_of g w.lbn ≡ Some IndexBitmap → new.clusters ≡ own.clusters → Moves (IsSpaceMove n) own.numbers new.numbers
+      → ((i : ℕ) → IsFileNumber g i → (number_bit g (slice_set bs w.lbn w.block) i ≡ false) ↔ (slice_get new.numbers (i - 1) ≡ Some Free))
+      → StandsAt c n cmd w.stage x → Outs n new w.outs stock → IsStep g n cmd locks c stock w bs own new x

@@ -12,7 +12,7 @@ use Rattle.vol_parts.specs.declared.geometry.Part.TheVariants.{IndexBitmap, Stor
 use Rattle.vol_parts.specs.Parts.{part_of}
 use Rattle.vol_spell.specs.Spelling.{Spells}
 use Rattle.vol_under.specs.Guards.{guard_of, MayWrite, MayLook}
-use Rattle.vol_under.specs.UnderWay.{PlannedWrite, bare, UnderWay, stage_at, resting, idle, changed, AreSole, StandsAt}
+use Rattle.vol_under.specs.UnderWay.{PlannedWrite, bare, UnderWay, writes_to, stage_at, resting, idle, changed, AreSole, StandsAt}
 use Rattle.vol_under.specs.Under.{IsLawful, IsUnder}
 
 -- a node that writes nothing is lawful
@@ -51,6 +51,11 @@ BitsKeep = (g : Geometry) (c : Cat) (nodes : ℕ → UnderWay) (drive : List Blo
     → (nodes n).plan ≡ [] → IsBitmap g l → Has (nodes n).write V → (Touches (nodes n).seen l → ⊥) → slice_get drive l ≡ Some old
     → ((base : List Block) (own : Owners) → Spells g base own c → Outs n own (nodes n).took (nodes n).stock → slice_get base l ≡ Some old → Refills g n (nodes n).took stock l b base own c)
     → IsUnder g c (changed nodes n (record (nodes n) { stock = stock })) (slice_set drive l b)
+
+-- a block under a lock that a node holds, and that it has not written, stands on the drive as it is committed
+abbrev pub HeldStands : Type 0
+HeldStands = (g : Geometry) (c : Cat) (nodes : ℕ → UnderWay) (drive : List Block) (n l : ℕ) → AreSole nodes → (u : IsUnder g c nodes drive) → (Touches (writes_to (nodes n).done (nodes n)) l → ⊥)
+    → MayWrite n (nodes n).write (guard_of g u.own l) ⊎ MayLook (nodes n).read (guard_of g u.own l) → slice_get drive l ≡ slice_get u.base l
 
 -- a node without a plan looks at a block whose lock it holds
 abbrev pub LookKeeps : Type 0

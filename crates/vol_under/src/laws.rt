@@ -1,9 +1,15 @@
 //! The laws, each a statement for every value that it speaks of.
 
-ghost use Rattle.vol_under.specs.Keeping.{IdleLawful, RestStands, WriteKeeps, StopKeeps, BitsKeep, LookKeeps, PlanKeeps, GrantKeeps, ReadyKeeps};
+ghost use Rattle.std.specs.Prelude.{ℕ, List, Option};
+ghost use Rattle.lock_db.specs.declared.name.LockName.{LockName};
+ghost use Rattle.plain_cat.specs.declared.command.Cmd.{Cmd};
+ghost use Rattle.plain_cat.specs.declared.cat.Cat.{Cat};
+ghost use Rattle.vol_owners.specs.Owners.{Things};
+ghost use Rattle.vol_parts.specs.declared.geometry.Geometry.{Geometry};
+ghost use Rattle.vol_under.specs.Keeping.{IdleLawful, RestStands, WriteKeeps, StopKeeps, BitsKeep, HeldStands, LookKeeps, PlanKeeps, GrantKeeps, ReadyKeeps};
 ghost use Rattle.vol_under.specs.Ending.{OpensKeep, OutsideMayLeak, LeakKeeps, DeathKeeps};
 ghost use Rattle.vol_under.specs.Stopping.{DriveSpells, WorldStops};
-ghost use Rattle.vol_under.specs.Chains.{StepsReach, StepsLawful};
+ghost use Rattle.vol_under.specs.Chains.{StepsReach, StepsLawful, StepKinds};
 
 /// A node that has no plan is lawful.
 pub fn idle_lawful()
@@ -30,6 +36,11 @@ pub fn stop_keeps()
 /// leaves the catalogue.
 pub fn bits_keep()
     ensures { BitsKeep }
+{}
+
+/// A block under a lock that a node holds, and that the node has not written, stands on the drive as it is committed.
+pub fn held_stands()
+    ensures { HeldStands }
 {}
 
 /// What a node without a plan looks at, under a lock that it holds, is a committed block.
@@ -93,4 +104,9 @@ pub fn steps_reach()
 /// A plan that is such a chain, on all blocks of its law, is lawful.
 pub fn steps_lawful()
     ensures { StepsLawful }
+{}
+
+/// Each kind of write is a step of a plan, under the lock of the file whose header it is.
+pub fn step_kinds()
+    ensures { (g : Geometry) (n : ℕ) (cmd : Option Cmd) (locks : List LockName) (c : Cat) (stock : Things) → StepKinds g n cmd locks c stock }
 {}
