@@ -10,3 +10,6 @@ mod staying;
 pub use keeping::{all_firsts, is_lost, is_second};
 pub use places::{Spot, spots};
 pub use room::first_without_room;
+
+#[cfg(test)]
+mod tests;
