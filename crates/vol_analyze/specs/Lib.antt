@@ -1,3 +1,4 @@
 pub mod Texts
 pub mod Kinds
 pub mod Conditions
+pub mod Judging

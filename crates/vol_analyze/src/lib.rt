@@ -1,11 +1,13 @@
-//! What is wrong with a volume: how findings are written, and those that mending puts right.
+//! What is wrong with a volume: its findings, and how they are written.
 #![tactic(auto)]
 
+mod analysis;
 mod doubles;
 mod kinds;
 mod texts;
 mod warnings;
 
+pub use analysis::{accepted, analyze};
 pub use texts::push_finding;
 pub use vol_parts::Finding;
 pub use vol_texts::NoMemory;

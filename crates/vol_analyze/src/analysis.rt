@@ -1,0 +1,71 @@
+//! All findings of a volume's blocks, and whether they are accepted.
+
+ghost use Rattle.std.specs.Prelude.{◌≡◌, [], ◌∷◌, List, length, IfOk, MatchOption};
+ghost use Rattle.fx_home.specs.Homes.{home_read};
+ghost use Rattle.vol_parts.specs.declared.finding.Finding.{Finding};
+ghost use Rattle.vol_parts.specs.Findings.{home_at, AreWarningsBy, AreFindings, CatOf};
+ghost use Rattle.vol_faults.specs.Conditions.{IsSize};
+ghost use Rattle.vol_analyze.specs.Judging.{IsJudged};
+
+use crate::warnings::all_warnings;
+use fx_home::read_home;
+use plain_cat::{Cat, NoMemory};
+use std::alloc::Global;
+use vol_parts::Finding;
+use vol_spell::read_fully;
+use vol_words::Block;
+
+// The findings that are not fatal, where the blocks tell this catalogue.
+fn warnings_of(alloc: Global, blocks: &[Block], cat: &Cat) -> Result<Vec<Finding>, NoMemory>
+    requires size { IsSize (length blocks.now) }
+    requires told { CatOf blocks.now cat.now }
+    ensures { IfOk result (λ fs. AreWarningsBy blocks.now (home_read (home_at blocks.now)) fs.items) }
+{
+    match read_home(&blocks[1]) {
+        Ok(home) => all_warnings(alloc, &home, blocks, cat),
+        Err(_) => Ok(Vec::new(alloc)),
+    }
+}
+
+/// All findings of the blocks of a volume, of which there are 64 to 65,536: where a fatal finding holds, the first one alone,
+/// else all the others, kind by kind, and in each kind by rising number or in the order of entries. An error says that memory
+/// ran out.
+pub fn analyze(alloc: Global, blocks: &[Block]) -> Result<Vec<Finding>, NoMemory>
+    requires { IsSize (length blocks.now) }
+    ensures { IfOk result (λ fs. AreFindings blocks.now fs.items) }
+{
+    match read_fully(alloc, blocks)? {
+        Ok(cat) => warnings_of(alloc, blocks, &cat),
+        Err(found) => {
+            let mut all = Vec::new(alloc);
+            all.push(found)?;
+            Ok(all)
+        }
+    }
+}
+
+// The first of these.
+fn first_of(mut found: Vec<Finding>) -> Option<Finding>
+    ensures { MatchOption result (found.items ≡ []) (λ f. (fs : List Finding) × (found.items ≡ f ∷ fs)) }
+{
+    if found.is_empty() {
+        return None;
+    }
+    Some(found.remove(0))
+}
+
+/// The catalogue of blocks in which nothing is found, else the first of what [`analyze`] finds. There are 64 to 65,536 blocks.
+/// An error says that memory ran out.
+pub fn accepted(alloc: Global, blocks: &[Block]) -> Result<Result<Cat, Finding>, NoMemory>
+    requires { IsSize (length blocks.now) }
+    ensures { IfOk result (IsJudged blocks.now) }
+{
+    let cat = match read_fully(alloc, blocks)? {
+        Ok(cat) => cat,
+        Err(found) => return Ok(Err(found)),
+    };
+    match first_of(warnings_of(alloc, blocks, &cat)?) {
+        Some(found) => Ok(Err(found)),
+        None => Ok(Ok(cat)),
+    }
+}
