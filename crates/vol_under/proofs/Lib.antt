@@ -6,3 +6,4 @@ pub mod Leaking
 pub mod Endings
 pub mod Stops
 pub mod Reach
+pub mod Refills

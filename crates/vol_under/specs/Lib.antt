@@ -5,3 +5,4 @@ pub mod Keeping
 pub mod Ending
 pub mod Stopping
 pub mod Chains
+pub mod Refilling

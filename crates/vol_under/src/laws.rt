@@ -8,6 +8,7 @@ ghost use Rattle.vol_owners.specs.Owners.{Things};
 ghost use Rattle.vol_parts.specs.declared.geometry.Geometry.{Geometry};
 ghost use Rattle.vol_under.specs.Keeping.{IdleLawful, RestStands, WriteKeeps, StopKeeps, BitsKeep, HeldStands, LookKeeps, PlanKeeps, GrantKeeps, ReadyKeeps};
 ghost use Rattle.vol_under.specs.Ending.{OpensKeep, OutsideMayLeak, LeakKeeps, DeathKeeps};
+ghost use Rattle.vol_under.specs.Refilling.{TakesClusters, GivesClusters, TakesNumbers, GivesNumbers};
 ghost use Rattle.vol_under.specs.Stopping.{DriveSpells, WorldStops};
 ghost use Rattle.vol_under.specs.Chains.{StepsReach, StepsLawful, StepKinds};
 
@@ -36,6 +37,26 @@ pub fn stop_keeps()
 /// leaves the catalogue.
 pub fn bits_keep()
     ensures { BitsKeep }
+{}
+
+/// A write to the storage bitmap that clears bits of free clusters brings them to the stock of the node that writes.
+pub fn takes_clusters()
+    ensures { TakesClusters }
+{}
+
+/// A write to the storage bitmap that sets the bits of clusters of the stock makes them free.
+pub fn gives_clusters()
+    ensures { GivesClusters }
+{}
+
+/// A write to the index-file bitmap that sets bits of free file numbers brings them to the stock of the node that writes.
+pub fn takes_numbers()
+    ensures { TakesNumbers }
+{}
+
+/// A write to the index-file bitmap that clears the bits of file numbers of the stock makes them free.
+pub fn gives_numbers()
+    ensures { GivesNumbers }
 {}
 
 /// A block under a lock that a node holds, and that the node has not written, stands on the drive as it is committed.
