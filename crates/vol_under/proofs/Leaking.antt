@@ -40,19 +40,18 @@ free_slot n factor (Ok (head.Used f)) blocks s h none e = absurd (none refl)
 free_slot n factor (Ok (head.Free seq)) blocks s h none e = ap (λ (x : Slot). is_free_slot (Some x)) (sym e)
 free_slot n factor (Err fault) blocks s h none e = absurd h
 
-not_leaked : (n : ℕ) (o : Option Owner) → o ≡ Some (Outside n) → is_set (option_map (is_same_owner Leaked) o) ≡ false
-unfolding is_same_owner
-not_leaked n o e = ap (λ (x : Option Owner). is_set (option_map (is_same_owner Leaked) x)) e
+not_leaked : (o : Owner) (x : Option Owner) → is_same_owner Leaked o ≡ false → x ≡ Some o → is_set (option_map (is_same_owner Leaked) x) ≡ false
+not_leaked o x never e = ap (λ (y : Option Owner). is_set (option_map (is_same_owner Leaked) y)) e ∙ never
 
 both : (a b : Bool) → a ≡ true → b ≡ false → a && not b ≡ true
 both true false e f = refl
 both true true e f = absurd (let h : true ≡ false = f in cc)
 both false b e f = absurd (let h : false ≡ true = e in cc)
 
--- a number that is outside at a node is a free number of the catalogue
-pub number_free : (g : Geometry) (bs : List Block) (own : Owners) (c : Cat) (n i : ℕ) → Spells g bs own c → slice_get own.numbers i ≡ Some (Outside n) → is_free_number c (i + 1) ≡ true
-number_free g bs own c n i s at =
-    let lt = slice_get_within own.numbers i (Outside n) at in
+-- a number that is no file's and is not leaked is a free number of the catalogue
+pub number_free_of : (g : Geometry) (bs : List Block) (own : Owners) (c : Cat) (o : Owner) (i : ℕ) → ((m : ℕ) → o ≡ InFile m → ⊥) → is_same_owner Leaked o ≡ false → Spells g bs own c → slice_get own.numbers i ≡ Some o → is_free_number c (i + 1) ≡ true
+number_free_of g bs own c o i no_file no_leak s at =
+    let lt = slice_get_within own.numbers i o at in
     let owners : length own.numbers ≡ g.files = s.counts.numbers in
     let slots : length c.files ≡ g.files = s.counts.slots in
     let back : i + 1 - 1 ≡ i = omega arith in
@@ -61,11 +60,16 @@ number_free g bs own c n i s at =
     let here : slice_get c.files i ≡ Some (get_or c.files i (slot.Free 0)) = slice_get-get_or c.files i (slot.Free 0) (omega arith) in
     let t = s.files (i + 1) (get_or c.files i (slot.Free 0)) number (ap (λ k. slice_get c.files k) back ∙ here) in
     let free : is_free_slot (Some (get_or c.files i (slot.Free 0))) ≡ true = free_slot (i + 1) g.cluster (header_read (header_block g bs (i + 1))) (body_blocks bs (i + 1) (header_block g bs (i + 1))) (get_or c.files i (slot.Free 0)) t.reads
-    (λ used. let e : Some (Outside n) ≡ Some (InFile (i + 1)) = sym at ∙ ap (λ k. slice_get own.numbers k) (sym back) ∙ t.used.0 used in cc) t.slot in
+    (λ used. no_file (i + 1) (let e : Some o ≡ Some (InFile (i + 1)) = sym at ∙ ap (λ k. slice_get own.numbers k) (sym back) ∙ t.used.0 used in cc)) t.slot in
     let leaked : is_set (slice_get c.leaked_numbers i) ≡ false =
-    ap (λ (xs : List Bool). is_set (slice_get xs i)) s.owners.leaked_numbers ∙ ap is_set (slice_get-map (is_same_owner Leaked) own.numbers i) ∙ not_leaked n (slice_get own.numbers i) at in
+    ap (λ (xs : List Bool). is_set (slice_get xs i)) s.owners.leaked_numbers ∙ ap is_set (slice_get-map (is_same_owner Leaked) own.numbers i) ∙ not_leaked o (slice_get own.numbers i) no_leak at in
     both _ _ (ap (λ (b : Bool). is_free_slot (cond b None (slice_get c.files (i + 1 - 1)))) some ∙ ap (λ k. is_free_slot (slice_get c.files k)) back ∙ ap is_free_slot here ∙ free)
     (ap (λ k. is_set (slice_get c.leaked_numbers k)) back ∙ leaked)
+
+-- so is one that is outside at a node
+pub number_free : (g : Geometry) (bs : List Block) (own : Owners) (c : Cat) (n i : ℕ) → Spells g bs own c → slice_get own.numbers i ≡ Some (Outside n) → is_free_number c (i + 1) ≡ true
+unfolding is_same_owner
+number_free g bs own c n i s at = number_free_of g bs own c (Outside n) i (λ m e. absurd (cc)) refl s at
 
 all_free : (c : Cat) (ns : List ℕ) → ((n : ℕ) → Has ns n → is_free_number c n ≡ true) → list_all (is_free_number c) ns ≡ true
 all_free c [] h = refl

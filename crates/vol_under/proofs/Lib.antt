@@ -7,3 +7,4 @@ pub mod Endings
 pub mod Stops
 pub mod Reach
 pub mod Refills
+pub mod Short

@@ -6,3 +6,4 @@ pub mod Ending
 pub mod Stopping
 pub mod Chains
 pub mod Refilling
+pub mod Shortage

@@ -9,6 +9,7 @@ ghost use Rattle.vol_parts.specs.declared.geometry.Geometry.{Geometry};
 ghost use Rattle.vol_under.specs.Keeping.{IdleLawful, RestStands, WriteKeeps, StopKeeps, BitsKeep, HeldStands, LookKeeps, PlanKeeps, GrantKeeps, ReadyKeeps};
 ghost use Rattle.vol_under.specs.Ending.{OpensKeep, OutsideMayLeak, LeakKeeps, DeathKeeps};
 ghost use Rattle.vol_under.specs.Refilling.{TakesClusters, GivesClusters, TakesNumbers, GivesNumbers};
+ghost use Rattle.vol_under.specs.Shortage.{OutAlike, FreeByBits};
 ghost use Rattle.vol_under.specs.Stopping.{DriveSpells, WorldStops};
 ghost use Rattle.vol_under.specs.Chains.{StepsReach, StepsLawful, StepKinds};
 
@@ -82,6 +83,17 @@ pub fn grant_keeps()
 /// A node without a plan may begin a command, and give back locks of which none guards what it has seen.
 pub fn ready_keeps()
     ensures { ReadyKeeps }
+{}
+
+/// What is outside at a node may be told by other lists of the same things, so that a command may take of the stock.
+pub fn out_alike()
+    ensures { OutAlike }
+{}
+
+/// Where nothing is outside at any node, as many clusters are free by the catalogue as have their bits set, and the free file
+/// numbers are those whose bits are clear.
+pub fn free_by_bits()
+    ensures { FreeByBits }
 {}
 
 /// What the channels have open is no matter of the drive.
