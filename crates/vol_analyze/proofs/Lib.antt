@@ -2,3 +2,4 @@ pub mod Doubled
 pub mod Reading
 pub mod Told
 pub mod Weakly
+pub mod Once

@@ -4,10 +4,12 @@
 mod analysis;
 mod doubles;
 mod kinds;
+mod laws;
 mod texts;
 mod warnings;
 
 pub use analysis::{accepted, analyze};
+pub use laws::findings_are_one_list;
 pub use texts::push_finding;
 pub use vol_parts::Finding;
 pub use vol_texts::NoMemory;

@@ -1,0 +1,11 @@
+//! A law of findings.
+
+ghost use Rattle.std.specs.Prelude.{◌≡◌, List};
+ghost use Rattle.vol_words.specs.Fields.{Block};
+ghost use Rattle.vol_parts.specs.declared.finding.Finding.{Finding};
+ghost use Rattle.vol_parts.specs.Findings.{AreFindings};
+
+/// Of the blocks of a volume one list is the findings.
+pub fn findings_are_one_list()
+    ensures { (bs : List Block) (fs gs : List Finding) → AreFindings bs fs → AreFindings bs gs → fs ≡ gs }
+{}
