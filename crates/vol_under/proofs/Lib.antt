@@ -8,3 +8,4 @@ pub mod Stops
 pub mod Reach
 pub mod Refills
 pub mod Short
+pub mod Channels

@@ -7,3 +7,4 @@ pub mod Stopping
 pub mod Chains
 pub mod Refilling
 pub mod Shortage
+pub mod Opens

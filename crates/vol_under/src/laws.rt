@@ -10,6 +10,7 @@ ghost use Rattle.vol_under.specs.Keeping.{IdleLawful, RestStands, WriteKeeps, St
 ghost use Rattle.vol_under.specs.Ending.{OpensKeep, OutsideMayLeak, LeakKeeps, DeathKeeps};
 ghost use Rattle.vol_under.specs.Refilling.{TakesClusters, GivesClusters, TakesNumbers, GivesNumbers};
 ghost use Rattle.vol_under.specs.Shortage.{OutAlike, FreeByBits};
+ghost use Rattle.vol_under.specs.Opens.{StagesKeepOpens};
 ghost use Rattle.vol_under.specs.Stopping.{DriveSpells, WorldStops};
 ghost use Rattle.vol_under.specs.Chains.{StepsReach, StepsLawful, StepKinds};
 
@@ -115,6 +116,11 @@ pub fn leak_keeps()
 /// nodes have under way what they had.
 pub fn death_keeps()
     ensures { DeathKeeps }
+{}
+
+/// No stage of a command changes what the channels have open, but that the channel of a CLOSE may have nothing open any more.
+pub fn stages_keep_opens()
+    ensures { StagesKeepOpens }
 {}
 
 /// The drive as it is spells the catalogue to which that of the history goes where every node stops, in whatever order, each at
