@@ -19,10 +19,11 @@ use Rattle.vol_under.specs.Guards.{guard_of, MayWrite, MayLook}
 use Rattle.vol_under.specs.UnderWay.{bare, UnderWay, writes_to, all_out, resting, idle, changed}
 use Rattle.vol_under.specs.Under.{IsLawful, IsUnder}
 use Rattle.vol_under.specs.Ending.{OpensKeep, file_numbers, LeakKeeps, DeathKeeps}
+use Rattle.vol_under.specs.Answering.{AnswerKeeps}
 use Rattle.vol_under.proofs.Guarding.{guard_stays, death_write, death_look, outs_stay}
 use Rattle.vol_under.proofs.Lying.{over_same}
 use Rattle.vol_under.proofs.Nodes.{changed_here, each, done_alike}
-use Rattle.vol_under.proofs.Steps.{idle_lawful, stop_keeps}
+use Rattle.vol_under.proofs.Steps.{idle_lawful, commit_keeps, stop_keeps}
 use Rattle.vol_under.proofs.Leaking.{outside_may_leak, leaks_count, leaks_flagged, flagged_alike}
 
 pub opens_spelt : (g : Geometry) (bs : List Block) (own : Owners) (c : Cat) (opens : List (Option Open)) → Spells g bs own c → Spells g bs own (record c { opens = opens })
@@ -115,3 +116,8 @@ death_keeps g c nodes drive n ns sole u knows are =
       leaks = outside_may_leak g s.2.base s.2.own s.0 n nothing (all_out (nodes n)) ns s.2.spelt out are;
       under = subst (λ (f : ℕ → UnderWay). IsUnder g (dead s.0 n (length (all_out (nodes n)).clusters) ns) f drive) (changed_again nodes n (idle (nodes n)) (resting nothing)) (leak_keeps g s.0 after drive n (all_out (nodes n)) ns s.2 is are);
     }
+
+pub answer_keeps : AnswerKeeps
+answer_keeps g c nodes drive n x r sole u knows all reply =
+    let h = reply u.base u.own c (nodes n).stock (nodes n).done u.spelt knows (u.stands n) (u.outs n) all in
+    (record h.leaves.cat { opens = h.opens }, h.answer, opens_keep g h.leaves.cat (changed nodes n (idle (nodes n))) drive h.opens (commit_keeps g c nodes drive n sole u h.leaves))

@@ -14,10 +14,13 @@ use Rattle.vol_owners.proofs.Moving.{still, moves_grow}
 use Rattle.vol_owners.proofs.Handing.{out_regroups}
 use Rattle.vol_owners.proofs.Writing.{stands_still}
 use Rattle.vol_parts.specs.declared.geometry.Geometry.{Geometry}
+use Rattle.vol_parts.specs.Volumes.{volume, geometry_of}
+use Rattle.vol_spell.specs.Accepting.{owners_told}
+use Rattle.vol_spell.proofs.Accepted.{catalogue_is_spelt}
 use Rattle.vol_under.specs.Guards.{Guard, guard_of, MayWrite, MayLook, IsCommandMove}
 use Rattle.vol_under.specs.UnderWay.{bare, UnderWay, first_stage, writes_to, outs_at, together, resting, idle, changed, AreSole, StandsAt}
 use Rattle.vol_under.specs.Under.{IsLawful, IsUnder}
-use Rattle.vol_under.specs.Keeping.{IdleLawful, RestStands, WriteKeeps, StopKeeps, BitsKeep, HeldStands, LookKeeps, PlanKeeps, GrantKeeps, ReadyKeeps}
+use Rattle.vol_under.specs.Keeping.{IdleLawful, RestStands, MountStands, NodesAlike, WriteKeeps, CommitKeeps, StopKeeps, BitsKeep, HeldStands, LookKeeps, PlanKeeps, GrantKeeps, ReadyKeeps}
 use Rattle.vol_under.proofs.Guarding.{guard_stays, command_write, command_look, space_look, space_command, wider_command, wider_write, wider_look, alone, unlooked, outs_stay, bitmap_guard}
 use Rattle.vol_under.proofs.Lying.{over_write, over_commit, over_base, over_same, over_none}
 use Rattle.vol_under.proofs.Nodes.{each, done_here, done_else, done_alike, writes_next, done_in, next_in, no_writes}
@@ -72,6 +75,16 @@ rest_stands g c own drive spelt outs = record {
   seen_guarded = λ n l t. absurd t;
 }
 
+pub mount_stands : MountStands
+mount_stands bs c from to at =
+    let h = catalogue_is_spelt bs c from to at in
+    (h.home, h.read, rest_stands (geometry_of (volume h.home bs)) c (owners_told (volume h.home bs)) bs h.spelt h.outs)
+
+pub nodes_alike : NodesAlike
+nodes_alike g c nodes others drive same u =
+    let e : nodes ≡ others = λ i n. same n i in
+    subst (λ (f : ℕ → UnderWay). IsUnder g c f drive) e u
+
 -- what a node writes, no other node writes
 plans_apart : (g : Geometry) (c : Cat) (nodes : ℕ → UnderWay) (drive : List Block) → AreSole nodes → IsUnder g c nodes drive → (n m l : ℕ) → Touches (bare (nodes n).plan) l → Touches (bare (nodes m).plan) l → n ≡ m
 plans_apart g c nodes drive sole u n m l s t = alone nodes sole n m (guard_of g u.own l) (u.plan_guarded n l s) (u.plan_guarded m l t)
@@ -103,30 +116,31 @@ others_look : (g : Geometry) (nodes : ℕ → UnderWay) (own new : Owners) (n m 
 others_look g nodes own new n m l sole moves ne h =
     guard_stays (IsCommandMove n (nodes n).write) (λ x. MayLook (nodes m).read x) g own new l (command_look n (nodes n).write (nodes m).read (λ x s t. ne (sym (sole.readers n m x s t)))) moves h
 
+pub commit_keeps : CommitKeeps
+commit_keeps g c nodes drive n sole u law =
+    let rest : UnderWay = idle (nodes n) in
+    let done = writes_to (nodes n).done (nodes n) in
+    record {
+      base = written done u.base;
+      own = law.new;
+      spelt = law.spelt;
+      over = over_commit (λ m. writes_to (nodes m).done (nodes m)) (λ m. writes_to (changed nodes n rest m).done (changed nodes n rest m)) u.base drive n u.over (done_here nodes n rest) (λ m ne. done_else nodes n rest m ne);
+      within = each (λ m v. v.done ≤ length v.plan) nodes n rest (omega arith) (λ m ne. u.within m);
+      stands = each (λ m v. StandsIn (written done u.base) v.seen) nodes n rest tt
+          (λ m ne. stands_still done u.base (nodes m).seen (λ l t s. ne (sym (unlooked nodes sole n m (guard_of g u.own l) (u.plan_guarded n l (done_in (nodes n) l t)) (u.seen_guarded m l s)))) (u.stands m));
+      outs = each (λ m v. Outs m law.new v.took v.stock) nodes n rest (out_joined n law.new (outs_at (nodes n).done (nodes n)) (nodes n).stock law.outs)
+          (λ m ne. outs_stay (IsCommandMove n (nodes n).write) m u.own law.new (nodes m).took (nodes m).stock law.moves ne (u.outs m));
+      lawful = each (λ m v. IsLawful g m v) nodes n rest (idle_lawful g n rest refl) (λ m ne. u.lawful m);
+      plan_guarded = each (λ m v. (l : ℕ) → Touches (bare v.plan) l → MayWrite m v.write (guard_of g law.new l)) nodes n rest (λ l t. absurd t)
+          (λ m ne l t. others_write g nodes u.own law.new n m l sole law.moves ne (u.plan_guarded m l t));
+      seen_guarded = each (λ m v. (l : ℕ) → Touches v.seen l → MayLook v.read (guard_of g law.new l)) nodes n rest (λ l t. absurd t)
+          (λ m ne l t. others_look g nodes u.own law.new n m l sole law.moves ne (u.seen_guarded m l t));
+    }
+
 pub stop_keeps : StopKeeps
 stop_keeps g c nodes drive n sole u knows =
     let law = u.lawful n u.base u.own c (nodes n).stock (nodes n).done u.spelt knows (u.stands n) (u.outs n) (u.within n) in
-    let rest : UnderWay = idle (nodes n) in
-    let done = writes_to (nodes n).done (nodes n) in (
-      law.cat,
-      law.stage,
-      record {
-        base = written done u.base;
-        own = law.new;
-        spelt = law.spelt;
-        over = over_commit (λ m. writes_to (nodes m).done (nodes m)) (λ m. writes_to (changed nodes n rest m).done (changed nodes n rest m)) u.base drive n u.over (done_here nodes n rest) (λ m ne. done_else nodes n rest m ne);
-        within = each (λ m v. v.done ≤ length v.plan) nodes n rest (omega arith) (λ m ne. u.within m);
-        stands = each (λ m v. StandsIn (written done u.base) v.seen) nodes n rest tt
-            (λ m ne. stands_still done u.base (nodes m).seen (λ l t s. ne (sym (unlooked nodes sole n m (guard_of g u.own l) (u.plan_guarded n l (done_in (nodes n) l t)) (u.seen_guarded m l s)))) (u.stands m));
-        outs = each (λ m v. Outs m law.new v.took v.stock) nodes n rest (out_joined n law.new (outs_at (nodes n).done (nodes n)) (nodes n).stock law.outs)
-            (λ m ne. outs_stay (IsCommandMove n (nodes n).write) m u.own law.new (nodes m).took (nodes m).stock law.moves ne (u.outs m));
-        lawful = each (λ m v. IsLawful g m v) nodes n rest (idle_lawful g n rest refl) (λ m ne. u.lawful m);
-        plan_guarded = each (λ m v. (l : ℕ) → Touches (bare v.plan) l → MayWrite m v.write (guard_of g law.new l)) nodes n rest (λ l t. absurd t)
-            (λ m ne l t. others_write g nodes u.own law.new n m l sole law.moves ne (u.plan_guarded m l t));
-        seen_guarded = each (λ m v. (l : ℕ) → Touches v.seen l → MayLook v.read (guard_of g law.new l)) nodes n rest (λ l t. absurd t)
-            (λ m ne l t. others_look g nodes u.own law.new n m l sole law.moves ne (u.seen_guarded m l t));
-      },
-    )
+    (law.cat, law.stage, commit_keeps g c nodes drive n sole u law)
 
 stands_else : (base : List Block) (l : ℕ) (b : Block) (ss : List (ℕ × Block)) → (Touches ss l → ⊥) → StandsIn base ss → StandsIn (slice_set base l b) ss
 stands_else base l b ss away s = stands_still ((l, b) ∷ []) base ss (λ k t u. away (elim t [ inl e ↦ subst (λ (j : ℕ). Touches ss j) (sym e) u | inr f ↦ absurd f ])) s

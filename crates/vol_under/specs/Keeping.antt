@@ -1,6 +1,8 @@
 -- What each event leaves of the drive under way.
-use Rattle.std.specs.Prelude.{◌≡◌, ◌≤◌, ◌+◌, ◌⊎◌, ℕ, Bool, true, List, [], ◌∷◌, Option, Some, length, take, slice_get, slice_set}
+use Rattle.std.specs.Prelude.{◌≡◌, ◌≤◌, ◌+◌, ◌⊎◌, ℕ, Bool, true, List, [], ◌∷◌, Option, Some, Ok, length, take, slice_get, slice_set}
 use Rattle.vol_words.specs.Fields.{Block}
+use Rattle.fx_home.specs.declared.home.Home.{Home}
+use Rattle.fx_home.specs.Homes.{home_read}
 use Rattle.lock_db.specs.declared.name.LockName.{LockName}
 use Rattle.lock_db.specs.declared.name.LockName.TheVariants.{V}
 use Rattle.plain_cat.specs.declared.command.Cmd.{Cmd}
@@ -10,10 +12,12 @@ use Rattle.vol_owners.specs.Owners.{Owners, OwnersMove, IsSpaceMove, Things, not
 use Rattle.vol_parts.specs.declared.geometry.Geometry.{Geometry}
 use Rattle.vol_parts.specs.declared.geometry.Part.TheVariants.{IndexBitmap, Storage}
 use Rattle.vol_parts.specs.Parts.{part_of}
+use Rattle.vol_parts.specs.Volumes.{volume, geometry_of}
+use Rattle.vol_parts.specs.Findings.{home_at, CatOf}
 use Rattle.vol_spell.specs.Spelling.{Spells}
 use Rattle.vol_under.specs.Guards.{guard_of, MayWrite, MayLook}
 use Rattle.vol_under.specs.UnderWay.{PlannedWrite, bare, UnderWay, writes_to, stage_at, resting, idle, changed, AreSole, StandsAt}
-use Rattle.vol_under.specs.Under.{IsLawful, IsUnder}
+use Rattle.vol_under.specs.Under.{Leaves, IsLawful, IsUnder}
 
 -- a node that writes nothing is lawful
 abbrev pub IdleLawful : Type 0
@@ -23,10 +27,24 @@ IdleLawful = (g : Geometry) (n : ℕ) (u : UnderWay) → u.plan ≡ [] → IsLaw
 abbrev pub RestStands : Type 0
 RestStands = (g : Geometry) (c : Cat) (own : Owners) (drive : List Block) → Spells g drive own c → ((n : ℕ) → Outs n own nothing nothing) → IsUnder g c (λ n. resting nothing) drive
 
+-- so is a volume in which nothing fatal is found, by the geometry that its home block gives: as it is mounted
+abbrev pub MountStands : Type 0
+MountStands = (bs : List Block) (c : Cat) → 64 ≤ length bs → length bs ≤ 65536 → CatOf bs c
+    → (h : Home) × (home_read (home_at bs) ≡ Ok h) × IsUnder (geometry_of (volume h bs)) c (λ n. resting nothing) bs
+
+-- nodes that are alike one by one have the same drive
+abbrev pub NodesAlike : Type 0
+NodesAlike = (g : Geometry) (c : Cat) (nodes others : ℕ → UnderWay) (drive : List Block) → ((n : ℕ) → nodes n ≡ others n) → IsUnder g c nodes drive → IsUnder g c others drive
+
 -- the next write of a node's plan
 abbrev pub WriteKeeps : Type 0
 WriteKeeps = (g : Geometry) (c : Cat) (nodes : ℕ → UnderWay) (drive : List Block) (n : ℕ) (w : PlannedWrite) → AreSole nodes → IsUnder g c nodes drive → slice_get (nodes n).plan (nodes n).done ≡ Some w
     → IsUnder g c (changed nodes n (record (nodes n) { done = (nodes n).done + 1 })) (slice_set drive w.lbn w.block)
+
+-- what a node's writes done leave of the committed blocks is committed in their place
+abbrev pub CommitKeeps : Type 0
+CommitKeeps = (g : Geometry) (c : Cat) (nodes : ℕ → UnderWay) (drive : List Block) (n : ℕ) → AreSole nodes → (u : IsUnder g c nodes drive) → (h : Leaves g n (nodes n) u.base u.own c (nodes n).stock (nodes n).done)
+    → IsUnder g h.cat (changed nodes n (idle (nodes n))) drive
 
 -- a node stops, by its answer or by its death: its writes done are committed, and the catalogue is that of their stage
 abbrev pub StopKeeps : Type 0

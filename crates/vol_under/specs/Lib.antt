@@ -3,6 +3,7 @@ pub mod UnderWay
 pub mod Under
 pub mod Keeping
 pub mod Ending
+pub mod Answering
 pub mod Stopping
 pub mod Chains
 pub mod Refilling

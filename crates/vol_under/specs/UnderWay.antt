@@ -36,16 +36,16 @@ outs_after o (w ∷ ws) = outs_after w.outs ws
 
 -- ---- a node
 
--- a node, and its command if one has begun
+-- a node and what it has under way
 pub record UnderWay : Type 0 where
   -- the locks that it holds in PR or more, and those that it holds in PW
   pub read : List LockName
   pub write : List LockName
-  -- its command
+  -- its command, if one has begun
   pub cmd : Option Cmd
   -- the blocks that it has seen for the command, each at its place
   pub seen : List (ℕ × Block)
-  -- what it knows of the catalogue besides: what its channels have open, and whether others have a file open
+  -- what it knows of the catalogue besides: what its channels have open, that no other has a file open, that sums fit
   pub knows : Cat → Bool
   -- what the command has outside before its first write
   pub took : Things

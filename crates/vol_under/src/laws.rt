@@ -6,8 +6,9 @@ ghost use Rattle.plain_cat.specs.declared.command.Cmd.{Cmd};
 ghost use Rattle.plain_cat.specs.declared.cat.Cat.{Cat};
 ghost use Rattle.vol_owners.specs.Owners.{Things};
 ghost use Rattle.vol_parts.specs.declared.geometry.Geometry.{Geometry};
-ghost use Rattle.vol_under.specs.Keeping.{IdleLawful, RestStands, WriteKeeps, StopKeeps, BitsKeep, HeldStands, LookKeeps, PlanKeeps, GrantKeeps, ReadyKeeps};
+ghost use Rattle.vol_under.specs.Keeping.{IdleLawful, RestStands, MountStands, NodesAlike, WriteKeeps, CommitKeeps, StopKeeps, BitsKeep, HeldStands, LookKeeps, PlanKeeps, GrantKeeps, ReadyKeeps};
 ghost use Rattle.vol_under.specs.Ending.{OpensKeep, OutsideMayLeak, LeakKeeps, DeathKeeps};
+ghost use Rattle.vol_under.specs.Answering.{AnswerKeeps};
 ghost use Rattle.vol_under.specs.Refilling.{TakesClusters, GivesClusters, TakesNumbers, GivesNumbers};
 ghost use Rattle.vol_under.specs.Shortage.{OutAlike, FreeByBits};
 ghost use Rattle.vol_under.specs.Opens.{StagesKeepOpens};
@@ -24,9 +25,26 @@ pub fn rest_stands()
     ensures { RestStands }
 {}
 
+/// A volume of 64 to 65,536 blocks in which nothing fatal is found is the drive of nodes that have nothing under way, with the
+/// catalogue that its blocks tell.
+pub fn mount_stands()
+    ensures { MountStands }
+{}
+
+/// Nodes that are alike one by one have the same drive.
+pub fn nodes_alike()
+    ensures { NodesAlike }
+{}
+
 /// The next write of a node's plan leaves the catalogue of the history, and the command has one write done more.
 pub fn write_keeps()
     ensures { WriteKeeps }
+{}
+
+/// What a node's writes done leave of the committed blocks is committed in their place, and the other nodes have under way what
+/// they had.
+pub fn commit_keeps()
+    ensures { CommitKeeps }
 {}
 
 /// Where a node's command ends, by its answer or by the node's death, the catalogue is the one of the stage after its writes
@@ -100,6 +118,12 @@ pub fn free_by_bits()
 /// What the channels have open is no matter of the drive.
 pub fn opens_keep()
     ensures { OpensKeep }
+{}
+
+/// Where all writes of a plan are done, the reply that goes with them is an answer of the command, and the catalogue is the one
+/// after it.
+pub fn answer_keeps()
+    ensures { AnswerKeeps }
 {}
 
 /// What a node has outside is free by the catalogue, so that it may leak.
