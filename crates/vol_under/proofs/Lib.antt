@@ -9,3 +9,4 @@ pub mod Reach
 pub mod Refills
 pub mod Short
 pub mod Channels
+pub mod InTurn

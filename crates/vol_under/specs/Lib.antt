@@ -9,3 +9,4 @@ pub mod Chains
 pub mod Refilling
 pub mod Shortage
 pub mod Opens
+pub mod Series

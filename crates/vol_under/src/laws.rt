@@ -14,6 +14,7 @@ ghost use Rattle.vol_under.specs.Shortage.{OutAlike, FreeByBits};
 ghost use Rattle.vol_under.specs.Opens.{StagesKeepOpens};
 ghost use Rattle.vol_under.specs.Stopping.{DriveSpells, WorldStops};
 ghost use Rattle.vol_under.specs.Chains.{StepsReach, StepsLawful, StepKinds};
+ghost use Rattle.vol_under.specs.Series.{BodySeries};
 
 /// A node that has no plan is lawful.
 pub fn idle_lawful()
@@ -172,4 +173,10 @@ pub fn steps_lawful()
 /// Each kind of write is a step of a plan, under the lock of the file whose header it is.
 pub fn step_kinds()
     ensures { (g : Geometry) (n : ℕ) (cmd : Option Cmd) (locks : List LockName) (c : Cat) (stock : Things) → StepKinds g n cmd locks c stock }
+{}
+
+/// Writes in turn to the blocks of one file are steps of a plan, and so are the writes behind them that are steps on what they
+/// leave.
+pub fn body_series()
+    ensures { BodySeries }
 {}
