@@ -1,6 +1,6 @@
 //! System files without their entry in the master file directory, and directories that are marked for delete.
 
-ghost use Rattle.std.specs.Prelude.{◌≡◌, ◌-◌, ◌≤◌, not, length};
+ghost use Rattle.std.specs.Prelude.{◌≡◌, ◌≤◌, not, length};
 ghost use Rattle.std.specs.List.{list_any};
 ghost use Rattle.plain_vol.specs.Lookups.{file_at};
 ghost use Rattle.vol_parts.specs.Fatal.{is_system_entry, entries_of, is_marked_dir};
