@@ -17,3 +17,5 @@ pub use warnings::all_warnings;
 
 #[cfg(test)]
 mod tests;
+#[cfg(test)]
+mod volume_tests;
