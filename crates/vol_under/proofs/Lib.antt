@@ -10,3 +10,4 @@ pub mod Refills
 pub mod Short
 pub mod Channels
 pub mod InTurn
+pub mod Frees

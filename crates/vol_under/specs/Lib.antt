@@ -10,3 +10,4 @@ pub mod Refilling
 pub mod Shortage
 pub mod Opens
 pub mod Series
+pub mod Freeing

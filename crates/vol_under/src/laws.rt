@@ -15,6 +15,7 @@ ghost use Rattle.vol_under.specs.Opens.{StagesKeepOpens};
 ghost use Rattle.vol_under.specs.Stopping.{DriveSpells, WorldStops};
 ghost use Rattle.vol_under.specs.Chains.{StepsReach, StepsLawful, StepKinds};
 ghost use Rattle.vol_under.specs.Series.{BodySeries};
+ghost use Rattle.vol_under.specs.Freeing.{OutsideSeries, RefillStep, FreeSeries};
 
 /// A node that has no plan is lawful.
 pub fn idle_lawful()
@@ -179,4 +180,21 @@ pub fn step_kinds()
 /// leave.
 pub fn body_series()
     ensures { BodySeries }
+{}
+
+/// Writes in turn to blocks that a node has outside are steps of a plan, and so are the writes behind them that are steps on what
+/// they leave.
+pub fn outside_series()
+    ensures { OutsideSeries }
+{}
+
+/// A bitmap write of the space rule is a step of a plan, with what the command took in place of the stock.
+pub fn refill_step()
+    ensures { RefillStep }
+{}
+
+/// Writes in turn to the storage bitmap that make clusters of a command free are steps of a plan, and so are the writes behind
+/// them that are steps on what they leave.
+pub fn free_series()
+    ensures { FreeSeries }
 {}

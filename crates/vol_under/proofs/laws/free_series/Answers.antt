@@ -1,0 +1,5 @@
+use Rattle.vol_under.proofs.Frees.{free_series}
+use Rattle.vol_under.proofs.laws.free_series.Goals as goal
+
+pub returns : goal.returns
+returns c = free_series

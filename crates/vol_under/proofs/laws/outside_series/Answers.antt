@@ -1,0 +1,5 @@
+use Rattle.vol_under.proofs.Frees.{outside_series}
+use Rattle.vol_under.proofs.laws.outside_series.Goals as goal
+
+pub returns : goal.returns
+returns c = outside_series
