@@ -1,0 +1,9 @@
+pub mod PlaceLemmas
+pub mod ZeroLemmas
+pub mod HeaderLemmas
+pub mod BlockLemmas
+pub mod FreshLemmas
+pub mod MadeLemmas
+pub mod EntryLemmas
+pub mod PutLemmas
+pub mod RefusalLemmas

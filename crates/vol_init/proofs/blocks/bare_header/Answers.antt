@@ -1,0 +1,24 @@
+use Rattle.std.proofs.Common.{arith}
+use Rattle.vol_fresh.specs.Layouts.{header_of}
+use Rattle.vol_init.proofs.HeaderLemmas.{few-blocks}
+use Rattle.vol_init.proofs.blocks.bare_header.Goals as goal
+
+pub new_header-requires-clause-number : goal.new_header-requires-clause-number
+unfolding header_of
+new_header-requires-clause-number c = rw c.header_of.ensures (omega arith, omega arith)
+
+pub new_header-requires-clause-blocks : goal.new_header-requires-clause-blocks
+unfolding header_of
+new_header-requires-clause-blocks c = rw c.header_of.ensures (few-blocks c.args.layout.now c.args.n c.requires.layout c.requires.room)
+
+pub new_header-requires-clause-mark : goal.new_header-requires-clause-mark
+unfolding header_of
+new_header-requires-clause-mark c = rw c.header_of.ensures (omega arith)
+
+pub new_header-requires-clause-end : goal.new_header-requires-clause-end
+unfolding header_of
+new_header-requires-clause-end c = rw c.header_of.ensures (omega arith)
+
+pub new_header-requires-clause-byte : goal.new_header-requires-clause-byte
+unfolding header_of
+new_header-requires-clause-byte c = rw c.header_of.ensures (omega arith)

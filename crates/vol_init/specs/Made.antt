@@ -1,0 +1,21 @@
+-- What making a volume leaves.
+use Rattle.std.specs.Prelude.{◌≡◌, ◌≢◌, ◌⊎◌, ℕ, List, Option, Some, None, Ok, length, IsErr}
+use Rattle.vol_words.specs.Fields.{Block}
+use Rattle.fx_home.specs.declared.home.Home.{Home}
+use Rattle.fx_home.specs.Homes.{home_read}
+use Rattle.vol_parts.specs.Volumes.{volume}
+use Rattle.vol_parts.specs.Findings.{home_at}
+use Rattle.vol_fresh.specs.Fresh.{IsFresh, layout_of}
+use Rattle.vol_init.specs.Parts.{block_in, part_of}
+
+-- the blocks are a fresh volume with this home block, and the blocks that are no part of it stay
+pub record IsMade (h : Home) (old new : List Block) : Type 0 where
+  pub count : length new ≡ length old
+  pub home : home_read (home_at new) ≡ Ok h
+  pub fresh : IsFresh (volume h new)
+  pub others : (lbn : ℕ) → lbn ≢ 1 → part_of (layout_of (volume h new)) lbn ≡ None → block_in new lbn ≡ block_in old lbn
+
+-- what an image has after a failed write: the old blocks, or no home block that is read, or the whole volume
+abbrev pub IsLeft : Home → List Block → Option (List Block) → Type 0
+IsLeft h old None = ⊥
+IsLeft h old (Some bs) = (bs ≡ old) ⊎ (IsErr (home_read (home_at bs)) ⊎ IsMade h old bs)

@@ -1,0 +1,69 @@
+-- Which blocks of a volume are written when it is made, and what each of them says.
+use Rattle.std.specs.Prelude.{◌≡◌, ◌≤◌, ◌<◌, ◌+◌, ◌*◌, ◌-◌, ◌==◌, ◌&&◌, nat_le, nat_lt, ℕ, Bool, List, [], Option, Some, None, Ok, slice_get, slice_index_or, if◌then◌else◌}
+use Rattle.vol_words.specs.Fields.{Block}
+use Rattle.fx_home.specs.Homes.{scb_read}
+use Rattle.fx_header.specs.declared.slot.Slot.TheVariants.{Used, Free}
+use Rattle.fx_header.specs.Headers.{header_read, runs_in}
+use Rattle.fx_bitmap.specs.Bits.{bit_at}
+use Rattle.vol_parts.specs.Parts.{storage_blocks, is_among}
+use Rattle.vol_parts.specs.Volumes.{rows_in}
+use Rattle.vol_fresh.specs.declared.layout.Layout.{Layout}
+use Rattle.vol_fresh.specs.Layouts.{total, reserved_clusters, first_cluster, header_of, runs_of, quota_rows}
+use Rattle.vol_init.specs.declared.part.Part.{Part}
+use Rattle.vol_init.specs.declared.part.Part.TheVariants.{HomeCopy, HeaderCopy, Numbers, Header, Control, Storage, Main, Lost, Quota}
+
+abbrev pub block_in : List Block → ℕ → Block
+block_in bs lbn = slice_index_or bs lbn []
+
+-- the first block of the system file of a number, where it has one
+abbrev pub first_block : Layout → ℕ → ℕ
+first_block l n = l.cluster * first_cluster l n
+
+-- Which part a block is, or none where it is no part or the home block. The copies begin clusters 2 and 3, the index-file
+-- bitmap and the headers follow from cluster 4 on, and the other files lie where they begin.
+unfoldable pub part_of : Layout → ℕ → Option Part
+part_of l lbn =
+    if lbn == 2 * l.cluster then Some HomeCopy
+    else if lbn == 3 * l.cluster then Some HeaderCopy
+    else if lbn == 4 * l.cluster then Some Numbers
+    else if is_among (4 * l.cluster + 1) l.files lbn then Some (Header (lbn - 4 * l.cluster))
+    else if lbn == first_block l 2 then Some Control
+    else if is_among (first_block l 2 + 1) (storage_blocks (total l)) lbn then Some (Storage (lbn - (first_block l 2 + 1)))
+    else if is_among (first_block l 4) l.cluster lbn then Some (Main (lbn - first_block l 4))
+    else if is_among (first_block l 11) l.cluster lbn then Some (Lost (lbn - first_block l 11))
+    else if is_among (first_block l 10) l.cluster lbn then Some (Quota (lbn - first_block l 10))
+    else None
+
+-- the number of a part is one that a volume has
+abbrev pub IsInside : Layout → Part → Type 0
+IsInside l HomeCopy = Unit {0}
+IsInside l HeaderCopy = Unit {0}
+IsInside l Numbers = Unit {0}
+IsInside l (Header n) = (1 ≤ n) × (n ≤ l.files)
+IsInside l Control = Unit {0}
+IsInside l (Storage k) = k < 16
+IsInside l (Main k) = k < l.cluster
+IsInside l (Lost k) = k < l.cluster
+IsInside l (Quota k) = k < l.cluster
+
+-- a cluster is behind those of the system files
+abbrev pub is_free : Layout → ℕ → Bool
+is_free l q = nat_le (reserved_clusters l) q && nat_lt q (total l)
+
+-- a header slot is that of a system file, or of no file so far
+pub record SaysHeader (l : Layout) (n : ℕ) (b : Block) : Type 0 where
+  pub used : n ≤ 11 → header_read b ≡ Ok (Used (header_of l n))
+  pub lies : n ≤ 11 → runs_in b ≡ runs_of l n
+  pub free : 11 < n → header_read b ≡ Ok (Free 0)
+
+-- what the block of a part says, where the two directories have these blocks
+abbrev pub Says : Layout → (main lost : List Block) → Part → Block → Type 0
+Says l main lost HomeCopy b = Unit {0}
+Says l main lost HeaderCopy b = header_read b ≡ Ok (Used (header_of l 1))
+Says l main lost Numbers b = (i : ℕ) → i < 4096 → bit_at b i ≡ nat_lt i 11
+Says l main lost (Header n) b = SaysHeader l n b
+Says l main lost Control b = scb_read b ≡ Ok (record { cluster = l.cluster; blocks = l.blocks })
+Says l main lost (Storage k) b = (i : ℕ) → i < 4096 → bit_at b i ≡ is_free l (4096 * k + i)
+Says l main lost (Main k) b = slice_get main k ≡ Some b
+Says l main lost (Lost k) b = slice_get lost k ≡ Some b
+Says l main lost (Quota k) b = rows_in b ≡ (if k == 0 then quota_rows l else [])

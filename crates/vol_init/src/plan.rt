@@ -1,0 +1,84 @@
+//! What a volume is made of, with all that needs memory.
+ghost use Rattle.std.specs.Prelude.{◌≡◌, ◌≤◌, ◌++◌, ◌-◌, [], List, ℕ, replicate, length, true, Ok, IfOk};
+ghost use Rattle.vol_fresh.specs.Layouts.{IsLayout, reserved_clusters, total, main_entries};
+ghost use Rattle.fx_dir.specs.Directory.{directory, all_entries};
+ghost use Rattle.fx_dir.specs.Entries.{rises};
+ghost use Rattle.fx_dir.specs.Lists.{Each};
+ghost use Rattle.fx_dir.specs.Writing.{IsInForm, IsRanged, IsUniform, name_of};
+ghost use Rattle.vol_words.specs.Packing.{Fits};
+ghost use Rattle.vol_init.specs.Refusals.{full_label};
+ghost use Rattle.vol_init.specs.Plans.{IsPlan, IsOf};
+
+use crate::naming::main_entries;
+use fx_dir::{NoMemory, RawEnt, packed};
+use fx_home::Home;
+use std::alloc::Global;
+use vol_fresh::Layout;
+use vol_words::Block;
+
+/// What a volume is made of.
+#[derive(Drop)]
+pub(crate) struct Plan {
+    /// The cluster factor, the file numbers and the blocks.
+    pub(crate) layout: Layout,
+    /// What the home block says.
+    pub(crate) home: Home,
+    /// The blocks of the master file directory.
+    pub(crate) main: Vec<Block>,
+    /// The blocks of [SYSLOST].
+    pub(crate) lost: Vec<Block>,
+}
+
+/// The label, filled with spaces.
+fn full_label(label: &[u8]) -> [u8; 12]
+    requires { length label.now ≤ 12 }
+    ensures { result ≡ full_label label.now }
+{
+    let mut full = [b' '; 12];
+    full[..label.len()].copy_from_slice(label);
+    full
+}
+
+/// The blocks of a directory of one cluster, which has room for these entries.
+fn directory_blocks(alloc: Global, entries: &[RawEnt], cluster: u32) -> Result<Vec<Block>, NoMemory>
+    requires order { rises entries.now ≡ true }
+    requires form { Each IsInForm entries.now }
+    requires ranged { Each IsRanged entries.now }
+    requires uniform { IsUniform entries.now }
+    requires room { Fits name_of cluster entries.now }
+    ensures count { IfOk result (λ v. length v.items ≡ cluster) }
+    ensures read { IfOk result (λ v. directory v.items ≡ Ok entries.now) }
+    ensures listed { IfOk result (λ v. all_entries v.items ≡ entries.now) }
+{
+    match packed(alloc, entries, cluster)? {
+        Some(blocks) => Ok(blocks),
+        None => unreachable!(),
+    }
+}
+
+impl Plan {
+    /// The plan of a volume.
+    pub(crate) fn new(alloc: Global, layout: Layout, label: &[u8]) -> Result<Plan, NoMemory>
+        requires layout { IsLayout layout }
+        requires room { reserved_clusters layout ≤ total layout }
+        requires label { length label.now ≤ 12 }
+        ensures sound { IfOk result IsPlan }
+        ensures of { IfOk result (IsOf layout label.now) }
+    {
+        let entries = main_entries(alloc)?;
+        let main = directory_blocks(alloc, entries.as_slice(), layout.cluster)?;
+        let none = Vec::new(alloc);
+        let lost = directory_blocks(alloc, none.as_slice(), layout.cluster)?;
+        let home = Home {
+            cluster: layout.cluster as u16,
+            files: layout.files,
+            label: full_label(label),
+        };
+        Ok(Plan {
+            layout,
+            home,
+            main,
+            lost,
+        })
+    }
+}
