@@ -11,3 +11,4 @@ pub mod Short
 pub mod Channels
 pub mod InTurn
 pub mod Frees
+pub mod Files

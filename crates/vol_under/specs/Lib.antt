@@ -11,3 +11,4 @@ pub mod Shortage
 pub mod Opens
 pub mod Series
 pub mod Freeing
+pub mod Filing

@@ -14,6 +14,7 @@ ghost use Rattle.vol_under.specs.Shortage.{OutAlike, FreeByBits};
 ghost use Rattle.vol_under.specs.Opens.{StagesKeepOpens};
 ghost use Rattle.vol_under.specs.Stopping.{DriveSpells, WorldStops};
 ghost use Rattle.vol_under.specs.Chains.{StepsReach, StepsLawful, StepKinds};
+ghost use Rattle.vol_under.specs.Filing.{FileTakes, FileGives};
 ghost use Rattle.vol_under.specs.Series.{BodySeries};
 ghost use Rattle.vol_under.specs.Freeing.{OutsideSeries, RefillStep, FreeSeries};
 
@@ -174,6 +175,17 @@ pub fn steps_lawful()
 /// Each kind of write is a step of a plan, under the lock of the file whose header it is.
 pub fn step_kinds()
     ensures { (g : Geometry) (n : ℕ) (cmd : Option Cmd) (locks : List LockName) (c : Cat) (stock : Things) → StepKinds g n cmd locks c stock }
+{}
+
+/// Where all that a command took goes into a file, the owners move as a header may move them, and the stock alone is left
+/// outside.
+pub fn file_takes()
+    ensures { FileTakes }
+{}
+
+/// Where things of a file go outside, the owners move as a header may move them, and those things are outside besides.
+pub fn file_gives()
+    ensures { FileGives }
 {}
 
 /// Writes in turn to the blocks of one file are steps of a plan, and so are the writes behind them that are steps on what they
