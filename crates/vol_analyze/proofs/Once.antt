@@ -1,5 +1,5 @@
 -- Of the blocks of a volume one list is the findings.
-use Rattle.std.proofs.Common.{◌≡◌, ◌≢◌, ◌≤◌, ◌<◌, ◌∙◌, ◌⊎◌, ◌||◌, ◌&&◌, ℕ, Bool, true, false, List, [], ◌∷◌, Option, Some, None, Result, Ok, Err, refl, sym, ap, subst, inl, inr, arith}
+use Rattle.std.proofs.Common.{◌≡◌, ◌∙◌, ◌||◌, ◌&&◌, ℕ, true, List, [], ◌∷◌, Option, Some, None, Result, Ok, Err, refl, sym, ap, inl, inr, arith}
 use Rattle.std.proofs.lemmas.Bool.Decides.{nat_tests}
 use Rattle.std.specs.Prelude.{◌==◌, nat_lt, nat_le, option_map, if◌then◌else◌}
 use Rattle.vol_words.specs.Fields.{Block}
@@ -11,9 +11,9 @@ use Rattle.fx_header.specs.declared.slot.Slot.{Slot}
 use Rattle.fx_header.specs.declared.slot.HeaderFault.{HeaderFault}
 use Rattle.vol_parts.specs.declared.finding.Finding.{Finding}
 use Rattle.vol_parts.specs.declared.finding.Finding.TheVariants as finding
-use Rattle.vol_parts.specs.Volumes.{Volume, volume, head, fields_in, fields}
+use Rattle.vol_parts.specs.Volumes.{Volume, volume, head, fields_in}
 use Rattle.vol_parts.specs.Fatal.{IsFatalIn, scb_fault, dir_fault}
-use Rattle.vol_parts.specs.Findings.{home_at, IsFatalBy, IsFatal, rank, subject, is_no_later, IsFirstFatal, Weak, AreWarningsBy, AreFindings}
+use Rattle.vol_parts.specs.Findings.{home_at, IsFatalBy, rank, subject, is_no_later, IsFirstFatal, AreWarningsBy, AreFindings}
 
 -- ---- what can be found of a kind about one thing
 
