@@ -2,7 +2,8 @@
 use Rattle.std.proofs.Common.{◌≡◌, ◌∙◌, ◌+◌, ◌-◌, ◌*◌, ◌/◌, ◌%◌, ◌<◌, ◌≤◌, ◌==◌, ◌&&◌, nat_le, nat_lt, ℕ, false, List, [], ◌∷◌, length, map, slice_get, Result, Ok, Some, refl, sym, ap, subst, arith}
 use Rattle.std.specs.Prelude.{if◌then◌else◌}
 use Rattle.std.specs.List.{range_with_len}
-use Rattle.std.proofs.lemmas.Bool.{lt-ltb, ne_eqb}
+use Rattle.std.proofs.lemmas.Bool.{lt-ltb, ne_eqb, le-ltb, lt-leb, and_right}
+use Rattle.vol_init.specs.Made.{IsClear}
 use Rattle.std.proofs.lemmas.Bool.Decides.{nat_tests}
 use Rattle.vol_words.specs.Fields.{Block}
 use Rattle.fx_home.specs.Homes.{scb_read}
@@ -93,17 +94,17 @@ run-of v main lost n s p from to some = lie-of v main lost n s p from to ∙ run
 bitmap-lies : (v : Volume) (main lost : List Block) → Stands (layout_of v) main lost v → Places (layout_of v) → bitmap_lbn v ≡ first_block (layout_of v) 2
 bitmap-lies v main lost s p = ap first_lbn (run-of v main lost 2 s p (omega arith) (omega arith) (bitmap-some (layout_of v) p.some))
 
-numbers-of : (v : Volume) (main lost : List Block) (n : ℕ) → Stands (layout_of v) main lost v → Places (layout_of v) → 1 ≤ n → n ≤ v.home.files
+numbers-of : (v : Volume) (main lost : List Block) (n : ℕ) → Stands (layout_of v) main lost v → Places (layout_of v) → 1 ≤ n → n ≤ 4096
     → is_used_number v n ≡ nat_le n 11
 unfolding is_used_number
 numbers-of v main lost n s p from to =
     let inside : 4 * v.home.cluster < length v.blocks = omega (arith, p.index, p.bitmap, p.main, p.lost, p.quota) in
     let says : (i : ℕ) → i < 4096 → bit_at (block_at v (4 * v.home.cluster)) i ≡ nat_lt i 11 =
     s.says (4 * v.home.cluster) Numbers (part-numbers (layout_of v) p) (omega (arith, p.some)) inside in
-    says (n - 1) (omega (arith, s.limits.files_high)) ∙ before n from
+    says (n - 1) (omega arith) ∙ before n from
 
-clusters-of : (v : Volume) (main lost : List Block) (q : ℕ) → Stands (layout_of v) main lost v → Places (layout_of v) → q < total (layout_of v)
-    → is_free_cluster v q ≡ nat_le (reserved_clusters (layout_of v)) q
+clusters-of : (v : Volume) (main lost : List Block) (q : ℕ) → Stands (layout_of v) main lost v → Places (layout_of v) → q < 4096 * storage_blocks (total (layout_of v))
+    → is_free_cluster v q ≡ is_free (layout_of v) q
 unfolding is_free_cluster
 clusters-of v main lost q s p small =
     let l : Layout = layout_of v in
@@ -114,7 +115,7 @@ clusters-of v main lost q s p small =
     s.says (first_block l 2 + 1 + k) (Storage k) (part-storage l k p below) (omega (arith, p.index, p.some)) inside in
     let whole : 4096 * k + q % 4096 ≡ q = omega arith in
     let there : bit_at (block_at v (first_block l 2 + 1 + k)) (q % 4096) ≡ is_free l q = says (q % 4096) (omega arith) ∙ ap (is_free l) whole in
-    rw (bitmap-lies v main lost s p) (there ∙ front (reserved_clusters l) (total l) q small)
+    rw (bitmap-lies v main lost s p) there
 
 control-of : (v : Volume) (main lost : List Block) → Stands (layout_of v) main lost v → Places (layout_of v)
     → scb_read (block_at v (bitmap_lbn v)) ≡ Ok (record { cluster = v.home.cluster; blocks = length v.blocks })
@@ -178,13 +179,27 @@ stands-fresh v main lost s =
       lie = λ n from to. lie-of v main lost n s p from to;
       free = λ n from to. (let h = header-says v main lost n s p (omega arith) to in head-of v n _ h.0 (h.1.free from));
       control = control-of v main lost s p;
-      numbers = λ n h. numbers-of v main lost n s p h.from h.to;
-      clusters = λ q h. clusters-of v main lost q s p h;
+      numbers = λ n h. numbers-of v main lost n s p h.from (omega (arith, h.to, s.limits.files_high));
+      clusters = λ q h. clusters-of v main lost q s p (omega arith) ∙ front (reserved_clusters (layout_of v)) (total (layout_of v)) q h;
       main = rw (main-body v main lost s p) s.main;
       once = stands-once v main lost s;
       lost = rw (lost-body v main lost s p) s.lost;
       rows = rows-of v main lost s p;
     }
+
+stands-clear : (v : Volume) (main lost : List Block) → Stands (layout_of v) main lost v → IsClear v
+stands-clear v main lost s =
+    let l : Layout = layout_of v in
+    let p : Places l = places l s.limits s.room in
+    record {
+      clusters = λ q past inside. clusters-of v main lost q s p inside ∙ and_right (nat_le (reserved_clusters l) q) (nat_lt q (total l)) (le-ltb q (total l) past);
+      numbers = λ n past inside. numbers-of v main lost n s p (omega arith) inside ∙ lt-leb n 11 (omega (arith, s.limits.files_low));
+    }
+
+pub clear : (v : Volume) (l : Layout) (main lost : List Block) → layout_of v ≡ l → Stands l main lost v → IsClear v
+clear v l main lost e s =
+    let P : Layout → Type 0 = λ k. Stands k main lost v in
+    stands-clear v main lost (subst P (sym e) s)
 
 pub fresh : (v : Volume) (l : Layout) (main lost : List Block) → layout_of v ≡ l → Stands l main lost v → IsFresh v
 fresh v l main lost e s =

@@ -19,7 +19,7 @@ use Rattle.vol_init.specs.Parts.{block_in, part_of, Says}
 use Rattle.vol_init.specs.Plans.{IsPlan, SaysAt, IsAt, ArePut, told_at}
 use Rattle.vol_init.specs.Made.{IsMade, IsLeft}
 use Rattle.vol_init.proofs.ZeroLemmas.{zeros-home}
-use Rattle.vol_init.proofs.FreshLemmas.{Stands, fresh}
+use Rattle.vol_init.proofs.FreshLemmas.{Stands, fresh, clear}
 
 same-layout : (l : Layout) (cluster files blocks : ℕ) → cluster ≡ l.cluster → files ≡ l.files → blocks ≡ l.blocks
     → ◌≡◌ {A = Layout} (record { cluster = cluster; files = files; blocks = blocks }) l
@@ -76,6 +76,7 @@ made p old cleared put b plan size some c w low count reads =
       count = omega arith;
       home = ap home_read home ∙ reads;
       fresh = fresh (volume p.home new) p.layout p.main.items p.lost.items layout stands;
+      clear = clear (volume p.home new) p.layout p.main.items p.lost.items layout stands;
       others = λ lbn ne e.
           (let none : part_of p.layout lbn ≡ None = ap (λ k. part_of k lbn) (sym layout) ∙ e in
           get_or-set_other put 1 lbn b [] ne ∙ stays p old cleared put lbn c w low ne none);

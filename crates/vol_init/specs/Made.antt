@@ -1,18 +1,25 @@
 -- What making a volume leaves.
-use Rattle.std.specs.Prelude.{◌≡◌, ◌≢◌, ◌⊎◌, ℕ, List, Option, Some, None, Ok, length, IsErr}
+use Rattle.std.specs.Prelude.{◌≡◌, ◌≢◌, false, ◌*◌, ◌<◌, ◌≤◌, ◌⊎◌, ℕ, List, Option, Some, None, Ok, length, IsErr}
 use Rattle.vol_words.specs.Fields.{Block}
 use Rattle.fx_home.specs.declared.home.Home.{Home}
 use Rattle.fx_home.specs.Homes.{home_read}
-use Rattle.vol_parts.specs.Volumes.{volume}
+use Rattle.vol_parts.specs.Parts.{storage_blocks}
+use Rattle.vol_parts.specs.Volumes.{Volume, volume, total, is_free_cluster, is_used_number}
 use Rattle.vol_parts.specs.Findings.{home_at}
 use Rattle.vol_fresh.specs.Fresh.{IsFresh, layout_of}
 use Rattle.vol_init.specs.Parts.{block_in, part_of}
 
--- the blocks are a fresh volume with this home block, and the blocks that are no part of it stay
+-- the bits past the last cluster and past the last number are clear
+pub record IsClear (v : Volume) : Type 0 where
+  pub clusters : (q : ℕ) → total v ≤ q → q < 4096 * storage_blocks (total v) → is_free_cluster v q ≡ false
+  pub numbers : (n : ℕ) → v.home.files < n → n ≤ 4096 → is_used_number v n ≡ false
+
+-- the blocks are a fresh volume with this home block, nothing is set past its last cluster and number, and other blocks stay
 pub record IsMade (h : Home) (old new : List Block) : Type 0 where
   pub count : length new ≡ length old
   pub home : home_read (home_at new) ≡ Ok h
   pub fresh : IsFresh (volume h new)
+  pub clear : IsClear (volume h new)
   pub others : (lbn : ℕ) → lbn ≢ 1 → part_of (layout_of (volume h new)) lbn ≡ None → block_in new lbn ≡ block_in old lbn
 
 -- what an image has after a failed write: the old blocks, or no home block that is read, or the whole volume
