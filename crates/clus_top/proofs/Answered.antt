@@ -3,7 +3,7 @@ use Rattle.std.proofs.Common.{◌≡◌, ◌∙◌, ◌+◌, ◌++◌, ◌∷◌
 use Rattle.std.specs.List.{list_all}
 use Rattle.std.proofs.lemmas.Bool.{false≢true, and_parts, eq-eqb}
 use Rattle.plain_cat.specs.declared.ids.Fid.{Fid}
-use Rattle.plain_cat.specs.declared.entries.DirEnt.{DirEnt}
+use Rattle.plain_cat.specs.declared.cat.Cat.{Cat}
 use Rattle.plain_cat.specs.declared.script.FileRef.TheVariants.{Fixed, Reg}
 use Rattle.plain_cat.specs.declared.script.LineCmd.{LineCmd}
 use Rattle.plain_cat.specs.declared.script.LineCmd.TheVariants as line
@@ -16,12 +16,12 @@ switched-none : (channels : List Bool) (b value : Bool) → switched channels b 
 switched-none channels true value = refl
 switched-none channels false value = refl
 
-quiet : (es : List DirEnt) (channels : List Bool) (cmd : LineCmd) → is_main_lookup cmd ≡ true → channels_after channels (filled [] cmd) (reply_to es cmd) ≡ channels
+quiet : (o : Cat) (channels : List Bool) (cmd : LineCmd) → is_main_lookup cmd ≡ true → channels_after channels (filled [] cmd) (reply_to o cmd) ≡ channels
 unfolding filled
-quiet es channels (line.Lookup reg dir name ver) h =
-    let r = reply_to es (line.Lookup reg dir name ver) in
+quiet o channels (line.Lookup reg dir name ver) h =
+    let r = reply_to o (line.Lookup reg dir name ver) in
     switched-none (switched channels (is_opened r) None true) (is_closed r) false ∙ switched-none channels (is_opened r) true
-quiet es channels cmd h = absurd (false≢true h)
+quiet o channels cmd h = absurd (false≢true h)
 
 -- it names no register
 pub unregistered : (g : List Fid) (cmd : LineCmd) → is_main_lookup cmd ≡ true → filled g cmd ≡ filled [] cmd
@@ -39,11 +39,11 @@ pub record IsLater (p : NodePast) (n : ℕ) (q : NodePast) : Type 0 where
 onward : (p q r : NodePast) (n m : ℕ) → IsLater p n q → IsLater q m r → IsLater p (n + m) r
 onward p q r n m a b = record { answered = omega (arith, a.answered, b.answered); dead = b.dead ∙ a.dead; channels = b.channels ∙ a.channels }
 
-one : (es : List DirEnt) (node : ℕ) (p : NodePast) (l : Line) → is_look_up l ≡ true → IsLater p (length (lines_of node (l ∷ []))) (after_entry node p (answer_to es l))
+one : (o : Cat) (node : ℕ) (p : NodePast) (l : Line) → is_look_up l ≡ true → IsLater p (length (lines_of node (l ∷ []))) (after_entry node p (answer_to o l))
 unfolding after_answer
-one es node p l h =
-    elim (eqb l.node node) as (λ t. IsLater p (length (cond t (l.cmd ∷ []) [])) (cond t (after_answer p (filled [] l.cmd) (reply_to es l.cmd)) p)) [
-      | true ↦ record { answered = refl; dead = refl; channels = quiet es p.channels l.cmd h }
+one o node p l h =
+    elim (eqb l.node node) as (λ t. IsLater p (length (cond t (l.cmd ∷ []) [])) (cond t (after_answer p (filled [] l.cmd) (reply_to o l.cmd)) p)) [
+      | true ↦ record { answered = refl; dead = refl; channels = quiet o p.channels l.cmd h }
       | false ↦ record { answered = omega arith; dead = refl; channels = refl }
     ]
 
@@ -63,14 +63,14 @@ lines-first node l ls =
     ]
 
 -- lines that are answered
-pub answered : (es : List DirEnt) (node : ℕ) (p : NodePast) (ls : List Line) → AreLookUps ls
-    → IsLater p (length (lines_of node ls)) (past_from node p (map (answer_to es) ls))
-answered es node p [] h = record { answered = omega arith; dead = refl; channels = refl }
-answered es node p (l ∷ ls) h =
+pub answered : (o : Cat) (node : ℕ) (p : NodePast) (ls : List Line) → AreLookUps ls
+    → IsLater p (length (lines_of node ls)) (past_from node p (map (answer_to o) ls))
+answered o node p [] h = record { answered = omega arith; dead = refl; channels = refl }
+answered o node p (l ∷ ls) h =
     let parts = and_parts (is_look_up l) (list_all is_look_up ls) h in
-    let q = after_entry node p (answer_to es l) in
+    let q = after_entry node p (answer_to o l) in
     rw (lines-first node l ls)
-    (onward p q (past_from node q (map (answer_to es) ls)) _ _ (one es node p l parts.0) (answered es node q ls parts.1))
+    (onward p q (past_from node q (map (answer_to o) ls)) _ _ (one o node p l parts.0) (answered o node q ls parts.1))
 
 -- the line behind others is its node's next one
 pub next_line : (before : List Line) (l : Line) (ls : List Line) → slice_get (lines_of l.node (before ++ (l ∷ ls))) (length (lines_of l.node before)) ≡ Some l.cmd

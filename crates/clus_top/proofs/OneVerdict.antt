@@ -1,30 +1,21 @@
 -- Of all statuses exactly one is due, but for faults and want of memory.
-use Rattle.std.proofs.Common.{◌≡◌, ◌≤◌, ◌⊎◌, ℕ, true, List, [], ◌∷◌, Option, Some, None, length, codes, refl, ap, arith, inl, inr}
-use Rattle.std.specs.Str.{bytes_eq}
-use Rattle.std.proofs.lemmas.Bool.{false≢true, cases_Bool, cases_lt}
-use Rattle.std.proofs.lemmas.Bool.Decides.{not_from_Decides}
-use Rattle.std.proofs.lemmas.Slice.Eq.{bytes_eq-Decides}
+use Rattle.std.proofs.Common.{◌≡◌, ◌≤◌, ◌⊎◌, ℕ, true, List, [], ◌∷◌, Option, Some, None, length, refl, sym, ap, ◌∙◌, arith, inl, inr}
+use Rattle.std.proofs.lemmas.Bool.{false≢true, cases_lt}
 use Rattle.vol_words.specs.Fields.{Block}
 use Rattle.blk_drive.specs.Images.{IsInside, IsOutside}
-use Rattle.plain_cat.specs.declared.entries.DirEnt.{DirEnt}
+use Rattle.vol_parts.specs.declared.finding.Finding.{Finding}
+use Rattle.vol_parts.specs.Findings.{AreFindings, Accepts}
 use Rattle.run_script.specs.declared.built.TheConstants.{BUILT}
 use Rattle.run_script.specs.Lines.{lines_of}
 use Rattle.run_script.specs.Laws.{SayOneThing}
+use Rattle.vol_analyze.specs.Judging.{IsFirstFound}
+use Rattle.vol_init.specs.declared.fault.InitFault.{InitFault}
+use Rattle.vol_init.specs.Refusals.{refusal}
 use Rattle.clus_top.specs.declared.status.Status.{Status}
 use Rattle.clus_top.specs.declared.status.Status.TheVariants as status
-use Rattle.clus_top.specs.Volumes.{main_entries}
-use Rattle.clus_top.specs.Statuses.{IsRun, IsTooLong, IsBad, IsOverfull, IsGood, IsReadable, IsDue}
+use Rattle.clus_top.specs.Words.{Wanted, Run, Analyze, Init}
+use Rattle.clus_top.specs.Statuses.{IsTooLong, IsBad, IsOverfull, IsGood, IsRunDue, IsAnalysisDue, sized, IsPossible, IsInitDue, IsWordsDue, IsDue}
 use Rattle.clus_top.specs.Verdicts.{is_verdict, HasOneVerdict}
-
--- the words are a job, or not
-is_job : (words : List (List ℕ)) → IsRun words ⊎ (¬ IsRun words)
-is_job [] = inr (λ h. h)
-is_job (word ∷ []) =
-    elim (cases_Bool (bytes_eq word (codes "run"))) [
-      | inl same ↦ inl ((bytes_eq-Decides word (codes "run")).0 same)
-      | inr other ↦ inr (not_from_Decides (bytes_eq word (codes "run")) (bytes_eq-Decides word (codes "run")) other)
-    ]
-is_job (word ∷ more ∷ words) = inr (λ h. h)
 
 -- a size is inside or outside, and not both
 is_size : (size : ℕ) → IsInside size ⊎ IsOutside size
@@ -41,147 +32,323 @@ outside : (size : ℕ) → IsInside size → IsOutside size → ⊥
 outside size h (inl low) = omega (arith, h.low)
 outside size h (inr high) = omega (arith, h.high)
 
--- entries are read, or not
-is_read : (o : Option (List DirEnt)) → (o ≡ None) ⊎ ((es : List DirEnt) × (o ≡ Some es))
-is_read None = inl refl
-is_read (Some es) = inr (es, refl)
-
-no_entries : (o : Option (List DirEnt)) (es : List DirEnt) → o ≡ None → o ≡ Some es → ⊥
-no_entries o es h k = cc
-
 too_long : (bytes : List ℕ) → IsTooLong bytes → length bytes ≤ 1048576 → ⊥
 too_long bytes h k = omega arith
 
--- no other status is due
-abbrev Alone : List (List ℕ) → List ℕ → ℕ → List Block → Status → Type 0
-Alone words bytes size bs s = (other : Status) → is_verdict other ≡ true → IsDue words (Some bytes) size (Some bs) other → other ≡ s
+-- these blocks have one list of findings
+abbrev OneList : List Block → Type 0
+OneList bs = (fs gs : List Finding) → AreFindings bs fs → AreFindings bs gs → fs ≡ gs
 
-alone_words : (words : List (List ℕ)) (bytes : List ℕ) (size : ℕ) (bs : List Block) → ¬ IsRun words → Alone words bytes size bs status.BadWords
-alone_words words bytes size bs none status.Ok v h = absurd (none h.0)
-alone_words words bytes size bs none status.BadWords v h = refl
-alone_words words bytes size bs none status.ScriptFault v h = absurd (false≢true v)
-alone_words words bytes size bs none status.ScriptTooLong v h = absurd (none h.0)
-alone_words words bytes size bs none (status.BadScript m) v h = absurd (none h.0)
-alone_words words bytes size bs none status.TooMany v h = absurd (none h.0)
-alone_words words bytes size bs none status.ImageFault v h = absurd (false≢true v)
-alone_words words bytes size bs none (status.BadSize m) v h = absurd (none h.0)
-alone_words words bytes size bs none status.NotAccepted v h = absurd (none h.0)
-alone_words words bytes size bs none status.OutFault v h = absurd (false≢true v)
-alone_words words bytes size bs none status.NoMemory v h = absurd (false≢true v)
+unfound : (bs : List Block) (f : Finding) → OneList bs → Accepts bs → IsFirstFound bs f → ⊥
+unfound bs f one none found = let e : [] ≡ f ∷ found.0 = one [] (f ∷ found.0) none found.1 in cc e
 
-alone_long : (words : List (List ℕ)) (bytes : List ℕ) (size : ℕ) (bs : List Block) → IsRun words → IsTooLong bytes → Alone words bytes size bs status.ScriptTooLong
-alone_long words bytes size bs run long status.Ok v h = absurd (too_long bytes long h.1.script.within)
-alone_long words bytes size bs run long status.BadWords v h = absurd (h run)
-alone_long words bytes size bs run long status.ScriptFault v h = absurd (false≢true v)
-alone_long words bytes size bs run long status.ScriptTooLong v h = refl
-alone_long words bytes size bs run long (status.BadScript m) v h = absurd (too_long bytes long h.1.within)
-alone_long words bytes size bs run long status.TooMany v h = absurd (too_long bytes long h.1.within)
-alone_long words bytes size bs run long status.ImageFault v h = absurd (false≢true v)
-alone_long words bytes size bs run long (status.BadSize m) v h = absurd (too_long bytes long h.1.within)
-alone_long words bytes size bs run long status.NotAccepted v h = absurd (too_long bytes long h.1.within)
-alone_long words bytes size bs run long status.OutFault v h = absurd (false≢true v)
-alone_long words bytes size bs run long status.NoMemory v h = absurd (false≢true v)
+same_first : (bs : List Block) (f g : Finding) → OneList bs → IsFirstFound bs f → IsFirstFound bs g → g ≡ f
+same_first bs f g one found other =
+    let e : g ∷ other.0 ≡ f ∷ found.0 = one (g ∷ other.0) (f ∷ found.0) other.1 found.1 in cc e
 
-alone_bad : (words : List (List ℕ)) (bytes : List ℕ) (size : ℕ) (bs : List Block) → (n : ℕ) → SayOneThing BUILT (lines_of bytes) → IsRun words → IsBad n bytes → Alone words bytes size bs (status.BadScript n)
-alone_bad words bytes size bs n one run bad status.Ok v h = absurd (one.good h.1.script.script n h.1.script.spelt bad.bad)
-alone_bad words bytes size bs n one run bad status.BadWords v h = absurd (h run)
-alone_bad words bytes size bs n one run bad status.ScriptFault v h = absurd (false≢true v)
-alone_bad words bytes size bs n one run bad status.ScriptTooLong v h = absurd (too_long bytes h.1 bad.within)
-alone_bad words bytes size bs n one run bad (status.BadScript m) v h = ap status.BadScript (one.one_line m n h.1.bad bad.bad)
-alone_bad words bytes size bs n one run bad status.TooMany v h = absurd (one.first n bad.bad h.1.over)
-alone_bad words bytes size bs n one run bad status.ImageFault v h = absurd (false≢true v)
-alone_bad words bytes size bs n one run bad (status.BadSize m) v h = absurd (one.good h.1.script n h.1.spelt bad.bad)
-alone_bad words bytes size bs n one run bad status.NotAccepted v h = absurd (one.good h.1.script n h.1.spelt bad.bad)
-alone_bad words bytes size bs n one run bad status.OutFault v h = absurd (false≢true v)
-alone_bad words bytes size bs n one run bad status.NoMemory v h = absurd (false≢true v)
+-- no other status of a run is due
+abbrev AloneInRun : List ℕ → ℕ → List Block → Status → Type 0
+AloneInRun bytes size bs s = (other : Status) → is_verdict other ≡ true → IsRunDue (Some bytes) size (Some bs) other → other ≡ s
 
-alone_over : (words : List (List ℕ)) (bytes : List ℕ) (size : ℕ) (bs : List Block) → SayOneThing BUILT (lines_of bytes) → IsRun words → IsOverfull bytes → Alone words bytes size bs status.TooMany
-alone_over words bytes size bs one run over status.Ok v h = absurd (one.within h.1.script.script h.1.script.spelt over.over)
-alone_over words bytes size bs one run over status.BadWords v h = absurd (h run)
-alone_over words bytes size bs one run over status.ScriptFault v h = absurd (false≢true v)
-alone_over words bytes size bs one run over status.ScriptTooLong v h = absurd (too_long bytes h.1 over.within)
-alone_over words bytes size bs one run over (status.BadScript m) v h = absurd (one.first m h.1.bad over.over)
-alone_over words bytes size bs one run over status.TooMany v h = refl
-alone_over words bytes size bs one run over status.ImageFault v h = absurd (false≢true v)
-alone_over words bytes size bs one run over (status.BadSize m) v h = absurd (one.within h.1.script h.1.spelt over.over)
-alone_over words bytes size bs one run over status.NotAccepted v h = absurd (one.within h.1.script h.1.spelt over.over)
-alone_over words bytes size bs one run over status.OutFault v h = absurd (false≢true v)
-alone_over words bytes size bs one run over status.NoMemory v h = absurd (false≢true v)
+-- nor of an analysis
+abbrev AloneInAnalysis : ℕ → List Block → Status → Type 0
+AloneInAnalysis size bs s = (other : Status) → is_verdict other ≡ true → IsAnalysisDue size (Some bs) other → other ≡ s
 
-alone_size : (words : List (List ℕ)) (bytes : List ℕ) (size : ℕ) (bs : List Block) → SayOneThing BUILT (lines_of bytes) → IsRun words → IsGood bytes → IsOutside size → Alone words bytes size bs (status.BadSize size)
-alone_size words bytes size bs one run good out status.Ok v h = absurd (outside size h.1.inside out)
-alone_size words bytes size bs one run good out status.BadWords v h = absurd (h run)
-alone_size words bytes size bs one run good out status.ScriptFault v h = absurd (false≢true v)
-alone_size words bytes size bs one run good out status.ScriptTooLong v h = absurd (too_long bytes h.1 good.within)
-alone_size words bytes size bs one run good out (status.BadScript m) v h = absurd (one.good good.script m good.spelt h.1.bad)
-alone_size words bytes size bs one run good out status.TooMany v h = absurd (one.within good.script good.spelt h.1.over)
-alone_size words bytes size bs one run good out status.ImageFault v h = absurd (false≢true v)
-alone_size words bytes size bs one run good out (status.BadSize m) v h = ap status.BadSize h.2
-alone_size words bytes size bs one run good out status.NotAccepted v h = absurd (outside size h.2 out)
-alone_size words bytes size bs one run good out status.OutFault v h = absurd (false≢true v)
-alone_size words bytes size bs one run good out status.NoMemory v h = absurd (false≢true v)
+alone_long : (bytes : List ℕ) (size : ℕ) (bs : List Block) → IsTooLong bytes → AloneInRun bytes size bs status.ScriptTooLong
+alone_long bytes size bs long status.Ok v h = absurd (too_long bytes long h.0.within)
+alone_long bytes size bs long status.BadWords v h = absurd h
+alone_long bytes size bs long status.ScriptFault v h = absurd (false≢true v)
+alone_long bytes size bs long status.ScriptTooLong v h = refl
+alone_long bytes size bs long (status.BadScript m) v h = absurd (too_long bytes long h.within)
+alone_long bytes size bs long status.TooMany v h = absurd (too_long bytes long h.within)
+alone_long bytes size bs long status.ImageFault v h = absurd (false≢true v)
+alone_long bytes size bs long (status.BadSize m) v h = absurd (too_long bytes long h.0.within)
+alone_long bytes size bs long (status.NotAccepted g) v h = absurd (too_long bytes long h.0.within)
+alone_long bytes size bs long status.Findings v h = absurd h
+alone_long bytes size bs long status.OutFault v h = absurd (false≢true v)
+alone_long bytes size bs long status.NoMemory v h = absurd (false≢true v)
+alone_long bytes size bs long (status.BadInit x) v h = absurd h
 
-alone_unread : (words : List (List ℕ)) (bytes : List ℕ) (size : ℕ) (bs : List Block) → SayOneThing BUILT (lines_of bytes) → IsRun words → IsGood bytes → IsInside size → main_entries bs ≡ None → Alone words bytes size bs status.NotAccepted
-alone_unread words bytes size bs one run good inside none status.Ok v h = absurd (no_entries (main_entries bs) h.1.readable.0 none h.1.readable.1)
-alone_unread words bytes size bs one run good inside none status.BadWords v h = absurd (h run)
-alone_unread words bytes size bs one run good inside none status.ScriptFault v h = absurd (false≢true v)
-alone_unread words bytes size bs one run good inside none status.ScriptTooLong v h = absurd (too_long bytes h.1 good.within)
-alone_unread words bytes size bs one run good inside none (status.BadScript m) v h = absurd (one.good good.script m good.spelt h.1.bad)
-alone_unread words bytes size bs one run good inside none status.TooMany v h = absurd (one.within good.script good.spelt h.1.over)
-alone_unread words bytes size bs one run good inside none status.ImageFault v h = absurd (false≢true v)
-alone_unread words bytes size bs one run good inside none (status.BadSize m) v h = absurd (outside size inside h.3)
-alone_unread words bytes size bs one run good inside none status.NotAccepted v h = refl
-alone_unread words bytes size bs one run good inside none status.OutFault v h = absurd (false≢true v)
-alone_unread words bytes size bs one run good inside none status.NoMemory v h = absurd (false≢true v)
+alone_bad : (bytes : List ℕ) (size : ℕ) (bs : List Block) (n : ℕ) → SayOneThing BUILT (lines_of bytes) → IsBad n bytes → AloneInRun bytes size bs (status.BadScript n)
+alone_bad bytes size bs n one bad status.Ok v h = absurd (one.good h.0.script n h.0.spelt bad.bad)
+alone_bad bytes size bs n one bad status.BadWords v h = absurd h
+alone_bad bytes size bs n one bad status.ScriptFault v h = absurd (false≢true v)
+alone_bad bytes size bs n one bad status.ScriptTooLong v h = absurd (too_long bytes h bad.within)
+alone_bad bytes size bs n one bad (status.BadScript m) v h = ap status.BadScript (one.one_line m n h.bad bad.bad)
+alone_bad bytes size bs n one bad status.TooMany v h = absurd (one.first n bad.bad h.over)
+alone_bad bytes size bs n one bad status.ImageFault v h = absurd (false≢true v)
+alone_bad bytes size bs n one bad (status.BadSize m) v h = absurd (one.good h.0.script n h.0.spelt bad.bad)
+alone_bad bytes size bs n one bad (status.NotAccepted g) v h = absurd (one.good h.0.script n h.0.spelt bad.bad)
+alone_bad bytes size bs n one bad status.Findings v h = absurd h
+alone_bad bytes size bs n one bad status.OutFault v h = absurd (false≢true v)
+alone_bad bytes size bs n one bad status.NoMemory v h = absurd (false≢true v)
+alone_bad bytes size bs n one bad (status.BadInit x) v h = absurd h
 
-alone_good : (words : List (List ℕ)) (bytes : List ℕ) (size : ℕ) (bs : List Block) → SayOneThing BUILT (lines_of bytes) → IsRun words → IsGood bytes → IsInside size → IsReadable bs → Alone words bytes size bs status.Ok
-alone_good words bytes size bs one run good inside read status.Ok v h = refl
-alone_good words bytes size bs one run good inside read status.BadWords v h = absurd (h run)
-alone_good words bytes size bs one run good inside read status.ScriptFault v h = absurd (false≢true v)
-alone_good words bytes size bs one run good inside read status.ScriptTooLong v h = absurd (too_long bytes h.1 good.within)
-alone_good words bytes size bs one run good inside read (status.BadScript m) v h = absurd (one.good good.script m good.spelt h.1.bad)
-alone_good words bytes size bs one run good inside read status.TooMany v h = absurd (one.within good.script good.spelt h.1.over)
-alone_good words bytes size bs one run good inside read status.ImageFault v h = absurd (false≢true v)
-alone_good words bytes size bs one run good inside read (status.BadSize m) v h = absurd (outside size inside h.3)
-alone_good words bytes size bs one run good inside read status.NotAccepted v h = absurd (no_entries (main_entries bs) read.0 h.3 read.1)
-alone_good words bytes size bs one run good inside read status.OutFault v h = absurd (false≢true v)
-alone_good words bytes size bs one run good inside read status.NoMemory v h = absurd (false≢true v)
+alone_over : (bytes : List ℕ) (size : ℕ) (bs : List Block) → SayOneThing BUILT (lines_of bytes) → IsOverfull bytes → AloneInRun bytes size bs status.TooMany
+alone_over bytes size bs one over status.Ok v h = absurd (one.within h.0.script h.0.spelt over.over)
+alone_over bytes size bs one over status.BadWords v h = absurd h
+alone_over bytes size bs one over status.ScriptFault v h = absurd (false≢true v)
+alone_over bytes size bs one over status.ScriptTooLong v h = absurd (too_long bytes h over.within)
+alone_over bytes size bs one over (status.BadScript m) v h = absurd (one.first m h.bad over.over)
+alone_over bytes size bs one over status.TooMany v h = refl
+alone_over bytes size bs one over status.ImageFault v h = absurd (false≢true v)
+alone_over bytes size bs one over (status.BadSize m) v h = absurd (one.within h.0.script h.0.spelt over.over)
+alone_over bytes size bs one over (status.NotAccepted g) v h = absurd (one.within h.0.script h.0.spelt over.over)
+alone_over bytes size bs one over status.Findings v h = absurd h
+alone_over bytes size bs one over status.OutFault v h = absurd (false≢true v)
+alone_over bytes size bs one over status.NoMemory v h = absurd (false≢true v)
+alone_over bytes size bs one over (status.BadInit x) v h = absurd h
+
+alone_size : (bytes : List ℕ) (size : ℕ) (bs : List Block) → SayOneThing BUILT (lines_of bytes) → IsGood bytes → IsOutside size → AloneInRun bytes size bs (status.BadSize size)
+alone_size bytes size bs one good out status.Ok v h = absurd (outside size h.1.inside out)
+alone_size bytes size bs one good out status.BadWords v h = absurd h
+alone_size bytes size bs one good out status.ScriptFault v h = absurd (false≢true v)
+alone_size bytes size bs one good out status.ScriptTooLong v h = absurd (too_long bytes h good.within)
+alone_size bytes size bs one good out (status.BadScript m) v h = absurd (one.good good.script m good.spelt h.bad)
+alone_size bytes size bs one good out status.TooMany v h = absurd (one.within good.script good.spelt h.over)
+alone_size bytes size bs one good out status.ImageFault v h = absurd (false≢true v)
+alone_size bytes size bs one good out (status.BadSize m) v h = ap status.BadSize h.1
+alone_size bytes size bs one good out (status.NotAccepted g) v h = absurd (outside size h.1 out)
+alone_size bytes size bs one good out status.Findings v h = absurd h
+alone_size bytes size bs one good out status.OutFault v h = absurd (false≢true v)
+alone_size bytes size bs one good out status.NoMemory v h = absurd (false≢true v)
+alone_size bytes size bs one good out (status.BadInit x) v h = absurd h
+
+alone_found : (bytes : List ℕ) (size : ℕ) (bs : List Block) (f : Finding) → SayOneThing BUILT (lines_of bytes) → OneList bs → IsGood bytes → IsInside size → IsFirstFound bs f → AloneInRun bytes size bs (status.NotAccepted f)
+alone_found bytes size bs f one list good inside found status.Ok v h = absurd (unfound bs f list h.1.accepted found)
+alone_found bytes size bs f one list good inside found status.BadWords v h = absurd h
+alone_found bytes size bs f one list good inside found status.ScriptFault v h = absurd (false≢true v)
+alone_found bytes size bs f one list good inside found status.ScriptTooLong v h = absurd (too_long bytes h good.within)
+alone_found bytes size bs f one list good inside found (status.BadScript m) v h = absurd (one.good good.script m good.spelt h.bad)
+alone_found bytes size bs f one list good inside found status.TooMany v h = absurd (one.within good.script good.spelt h.over)
+alone_found bytes size bs f one list good inside found status.ImageFault v h = absurd (false≢true v)
+alone_found bytes size bs f one list good inside found (status.BadSize m) v h = absurd (outside size inside h.2)
+alone_found bytes size bs f one list good inside found (status.NotAccepted g) v h = ap status.NotAccepted (same_first bs f g list found h.2)
+alone_found bytes size bs f one list good inside found status.Findings v h = absurd h
+alone_found bytes size bs f one list good inside found status.OutFault v h = absurd (false≢true v)
+alone_found bytes size bs f one list good inside found status.NoMemory v h = absurd (false≢true v)
+alone_found bytes size bs f one list good inside found (status.BadInit x) v h = absurd h
+
+alone_good : (bytes : List ℕ) (size : ℕ) (bs : List Block) → SayOneThing BUILT (lines_of bytes) → OneList bs → IsGood bytes → IsInside size → Accepts bs → AloneInRun bytes size bs status.Ok
+alone_good bytes size bs one list good inside none status.Ok v h = refl
+alone_good bytes size bs one list good inside none status.BadWords v h = absurd h
+alone_good bytes size bs one list good inside none status.ScriptFault v h = absurd (false≢true v)
+alone_good bytes size bs one list good inside none status.ScriptTooLong v h = absurd (too_long bytes h good.within)
+alone_good bytes size bs one list good inside none (status.BadScript m) v h = absurd (one.good good.script m good.spelt h.bad)
+alone_good bytes size bs one list good inside none status.TooMany v h = absurd (one.within good.script good.spelt h.over)
+alone_good bytes size bs one list good inside none status.ImageFault v h = absurd (false≢true v)
+alone_good bytes size bs one list good inside none (status.BadSize m) v h = absurd (outside size inside h.2)
+alone_good bytes size bs one list good inside none (status.NotAccepted g) v h = absurd (unfound bs g list none h.2)
+alone_good bytes size bs one list good inside none status.Findings v h = absurd h
+alone_good bytes size bs one list good inside none status.OutFault v h = absurd (false≢true v)
+alone_good bytes size bs one list good inside none status.NoMemory v h = absurd (false≢true v)
+alone_good bytes size bs one list good inside none (status.BadInit x) v h = absurd h
+
+size_alone : (size : ℕ) (bs : List Block) → IsOutside size → AloneInAnalysis size bs (status.BadSize size)
+size_alone size bs out status.Ok v h = absurd (outside size h.inside out)
+size_alone size bs out status.BadWords v h = absurd h
+size_alone size bs out status.ScriptFault v h = absurd h
+size_alone size bs out status.ScriptTooLong v h = absurd h
+size_alone size bs out (status.BadScript m) v h = absurd h
+size_alone size bs out status.TooMany v h = absurd h
+size_alone size bs out status.ImageFault v h = absurd (false≢true v)
+size_alone size bs out (status.BadSize m) v h = ap status.BadSize h.0
+size_alone size bs out (status.NotAccepted g) v h = absurd h
+size_alone size bs out status.Findings v h = absurd (outside size h.0 out)
+size_alone size bs out status.OutFault v h = absurd (false≢true v)
+size_alone size bs out status.NoMemory v h = absurd (false≢true v)
+size_alone size bs out (status.BadInit x) v h = absurd h
+
+found_alone : (size : ℕ) (bs : List Block) (f : Finding) → OneList bs → IsInside size → IsFirstFound bs f → AloneInAnalysis size bs status.Findings
+found_alone size bs f list inside found status.Ok v h = absurd (unfound bs f list h.accepted found)
+found_alone size bs f list inside found status.BadWords v h = absurd h
+found_alone size bs f list inside found status.ScriptFault v h = absurd h
+found_alone size bs f list inside found status.ScriptTooLong v h = absurd h
+found_alone size bs f list inside found (status.BadScript m) v h = absurd h
+found_alone size bs f list inside found status.TooMany v h = absurd h
+found_alone size bs f list inside found status.ImageFault v h = absurd (false≢true v)
+found_alone size bs f list inside found (status.BadSize m) v h = absurd (outside size inside h.1)
+found_alone size bs f list inside found (status.NotAccepted g) v h = absurd h
+found_alone size bs f list inside found status.Findings v h = refl
+found_alone size bs f list inside found status.OutFault v h = absurd (false≢true v)
+found_alone size bs f list inside found status.NoMemory v h = absurd (false≢true v)
+found_alone size bs f list inside found (status.BadInit x) v h = absurd h
+
+none_alone : (size : ℕ) (bs : List Block) → OneList bs → IsInside size → Accepts bs → AloneInAnalysis size bs status.Ok
+none_alone size bs list inside none status.Ok v h = refl
+none_alone size bs list inside none status.BadWords v h = absurd h
+none_alone size bs list inside none status.ScriptFault v h = absurd h
+none_alone size bs list inside none status.ScriptTooLong v h = absurd h
+none_alone size bs list inside none (status.BadScript m) v h = absurd h
+none_alone size bs list inside none status.TooMany v h = absurd h
+none_alone size bs list inside none status.ImageFault v h = absurd (false≢true v)
+none_alone size bs list inside none (status.BadSize m) v h = absurd (outside size inside h.1)
+none_alone size bs list inside none (status.NotAccepted g) v h = absurd h
+none_alone size bs list inside none status.Findings v h = absurd (unfound bs h.1.first list none h.1.found)
+none_alone size bs list inside none status.OutFault v h = absurd (false≢true v)
+none_alone size bs list inside none status.NoMemory v h = absurd (false≢true v)
+none_alone size bs list inside none (status.BadInit x) v h = absurd h
+
+words_alone : (other : Status) → is_verdict other ≡ true → IsWordsDue other → other ≡ status.BadWords
+words_alone status.Ok v h = absurd h
+words_alone status.BadWords v h = refl
+words_alone status.ScriptFault v h = absurd h
+words_alone status.ScriptTooLong v h = absurd h
+words_alone (status.BadScript m) v h = absurd h
+words_alone status.TooMany v h = absurd h
+words_alone status.ImageFault v h = absurd h
+words_alone (status.BadSize m) v h = absurd h
+words_alone (status.NotAccepted g) v h = absurd h
+words_alone status.Findings v h = absurd h
+words_alone status.OutFault v h = absurd h
+words_alone status.NoMemory v h = absurd (false≢true v)
+words_alone (status.BadInit x) v h = absurd h
+
+-- a good script, and an image of the right size
+of_inside : (bytes : List ℕ) (size : ℕ) (bs : List Block) (fs : List Finding) → SayOneThing BUILT (lines_of bytes) → OneList bs → IsGood bytes → IsInside size → AreFindings bs fs
+    → HasOneVerdict (Some Run) bytes size bs
+of_inside bytes size bs [] one list good inside none = record {
+  status = status.Ok;
+  verdict = refl;
+  due = (good, record { inside = inside; accepted = none });
+  alone = alone_good bytes size bs one list good inside none;
+}
+of_inside bytes size bs (f ∷ fs) one list good inside found =
+    let first : IsFirstFound bs f = (fs, found) in
+    record {
+      status = status.NotAccepted f;
+      verdict = refl;
+      due = (good, inside, first);
+      alone = alone_found bytes size bs f one list good inside first;
+    }
 
 -- a good script
-of_good : (words : List (List ℕ)) (bytes : List ℕ) (size : ℕ) (bs : List Block) → SayOneThing BUILT (lines_of bytes) → IsRun words → IsGood bytes → HasOneVerdict words bytes size bs
-of_good words bytes size bs one run good =
+of_good : (bytes : List ℕ) (size : ℕ) (bs : List Block) (fs : List Finding) → SayOneThing BUILT (lines_of bytes) → OneList bs → IsGood bytes → AreFindings bs fs
+    → HasOneVerdict (Some Run) bytes size bs
+of_good bytes size bs fs one list good found =
     elim (is_size size) [
-      | inr out ↦ record { status = status.BadSize size; verdict = refl; due = (run, good, refl, out); alone = alone_size words bytes size bs one run good out }
-      | inl inside ↦ elim (is_read (main_entries bs)) [
-        | inl none ↦ record { status = status.NotAccepted; verdict = refl; due = (run, good, inside, none); alone = alone_unread words bytes size bs one run good inside none }
-        | inr read ↦ record {
-          status = status.Ok;
-          verdict = refl;
-          due = (run, record { script = good; inside = inside; readable = read });
-          alone = alone_good words bytes size bs one run good inside read;
-        }
-      ]
+      | inr out ↦ record { status = status.BadSize size; verdict = refl; due = (good, refl, out); alone = alone_size bytes size bs one good out }
+      | inl inside ↦ of_inside bytes size bs fs one list good inside found
     ]
 
 -- a script within its limit
-of_script : (words : List (List ℕ)) (bytes : List ℕ) (size : ℕ) (bs : List Block) → SayOneThing BUILT (lines_of bytes) → IsRun words → length bytes ≤ 1048576 → HasOneVerdict words bytes size bs
-of_script words bytes size bs one run within =
+of_script : (bytes : List ℕ) (size : ℕ) (bs : List Block) (fs : List Finding) → SayOneThing BUILT (lines_of bytes) → OneList bs → length bytes ≤ 1048576 → AreFindings bs fs
+    → HasOneVerdict (Some Run) bytes size bs
+of_script bytes size bs fs one list within found =
     elim one.something [
-      | inl spelt ↦ of_good words bytes size bs one run (record { within = within; script = spelt.0; spelt = spelt.1 })
+      | inl spelt ↦ of_good bytes size bs fs one list (record { within = within; script = spelt.0; spelt = spelt.1 }) found
       | inr (inl bad) ↦
           let is : IsBad bad.0 bytes = record { within = within; bad = bad.1 } in
-          record { status = status.BadScript bad.0; verdict = refl; due = (run, is); alone = alone_bad words bytes size bs bad.0 one run is }
+          record { status = status.BadScript bad.0; verdict = refl; due = is; alone = alone_bad bytes size bs bad.0 one is }
       | inr (inr over) ↦
           let is : IsOverfull bytes = record { within = within; over = over } in
-          record { status = status.TooMany; verdict = refl; due = (run, is); alone = alone_over words bytes size bs one run is }
+          record { status = status.TooMany; verdict = refl; due = is; alone = alone_over bytes size bs one is }
     ]
 
-pub one_verdict : (words : List (List ℕ)) (bytes : List ℕ) (size : ℕ) (bs : List Block) → SayOneThing BUILT (lines_of bytes) → HasOneVerdict words bytes size bs
-one_verdict words bytes size bs one =
-    elim (is_job words) [
-      | inr none ↦ record { status = status.BadWords; verdict = refl; due = none; alone = alone_words words bytes size bs none }
-      | inl run ↦ elim (cases_lt 1048576 (length bytes)) [
-        | inl long ↦ record { status = status.ScriptTooLong; verdict = refl; due = (run, long); alone = alone_long words bytes size bs run long }
-        | inr within ↦ of_script words bytes size bs one run within
-      ]
+of_run : (bytes : List ℕ) (size : ℕ) (bs : List Block) (fs : List Finding) → SayOneThing BUILT (lines_of bytes) → OneList bs → AreFindings bs fs → HasOneVerdict (Some Run) bytes size bs
+of_run bytes size bs fs one list found =
+    elim (cases_lt 1048576 (length bytes)) [
+      | inl long ↦ record { status = status.ScriptTooLong; verdict = refl; due = long; alone = alone_long bytes size bs long }
+      | inr within ↦ of_script bytes size bs fs one list within found
     ]
+
+of_found : (bytes : List ℕ) (size : ℕ) (bs : List Block) (fs : List Finding) → OneList bs → IsInside size → AreFindings bs fs → HasOneVerdict (Some Analyze) bytes size bs
+of_found bytes size bs [] list inside none = record {
+  status = status.Ok;
+  verdict = refl;
+  due = record { inside = inside; accepted = none };
+  alone = none_alone size bs list inside none;
+}
+of_found bytes size bs (f ∷ fs) list inside found =
+    let first : IsFirstFound bs f = (fs, found) in
+    record {
+      status = status.Findings;
+      verdict = refl;
+      due = (inside, record { first = f; found = first });
+      alone = found_alone size bs f list inside first;
+    }
+
+of_analysis : (bytes : List ℕ) (size : ℕ) (bs : List Block) (fs : List Finding) → OneList bs → AreFindings bs fs → HasOneVerdict (Some Analyze) bytes size bs
+of_analysis bytes size bs fs list found =
+    elim (is_size size) [
+      | inr out ↦ record { status = status.BadSize size; verdict = refl; due = (refl, out); alone = size_alone size bs out }
+      | inl inside ↦ of_found bytes size bs fs list inside found
+    ]
+
+-- nor of a format
+abbrev AloneInInit : ℕ → ℕ → List ℕ → ℕ → Status → Type 0
+AloneInInit cluster files label size s = (other : Status) → is_verdict other ≡ true → IsInitDue cluster files label size other → other ≡ s
+
+no_fault : (o : Option InitFault) (f : InitFault) → o ≡ None → o ≡ Some f → ⊥
+no_fault o f h k = let e : None ≡ Some f = sym h ∙ k in cc e
+
+same_fault : (o : Option InitFault) (f g : InitFault) → o ≡ Some f → o ≡ Some g → g ≡ f
+same_fault o f g h k = let e : Some f ≡ Some g = sym h ∙ k in cc e
+
+size_alone_in : (cluster files : ℕ) (label : List ℕ) (size : ℕ) → IsOutside size → AloneInInit cluster files label size (status.BadSize size)
+size_alone_in cluster files label size out status.Ok v h = absurd (outside size h.inside out)
+size_alone_in cluster files label size out status.BadWords v h = absurd h
+size_alone_in cluster files label size out status.ScriptFault v h = absurd h
+size_alone_in cluster files label size out status.ScriptTooLong v h = absurd h
+size_alone_in cluster files label size out (status.BadScript m) v h = absurd h
+size_alone_in cluster files label size out status.TooMany v h = absurd h
+size_alone_in cluster files label size out status.ImageFault v h = absurd (false≢true v)
+size_alone_in cluster files label size out (status.BadSize m) v h = ap status.BadSize h.0
+size_alone_in cluster files label size out (status.NotAccepted g) v h = absurd h
+size_alone_in cluster files label size out status.Findings v h = absurd h
+size_alone_in cluster files label size out status.OutFault v h = absurd (false≢true v)
+size_alone_in cluster files label size out status.NoMemory v h = absurd (false≢true v)
+size_alone_in cluster files label size out (status.BadInit g) v h = absurd (outside size h.0 out)
+
+refused_alone : (cluster files : ℕ) (label : List ℕ) (size : ℕ) (f : InitFault) → IsInside size → refusal (sized cluster files size) label ≡ Some f → AloneInInit cluster files label size (status.BadInit f)
+refused_alone cluster files label size f inside is status.Ok v h = absurd (no_fault (refusal (sized cluster files size) label) f h.possible is)
+refused_alone cluster files label size f inside is status.BadWords v h = absurd h
+refused_alone cluster files label size f inside is status.ScriptFault v h = absurd h
+refused_alone cluster files label size f inside is status.ScriptTooLong v h = absurd h
+refused_alone cluster files label size f inside is (status.BadScript m) v h = absurd h
+refused_alone cluster files label size f inside is status.TooMany v h = absurd h
+refused_alone cluster files label size f inside is status.ImageFault v h = absurd (false≢true v)
+refused_alone cluster files label size f inside is (status.BadSize m) v h = absurd (outside size inside h.1)
+refused_alone cluster files label size f inside is (status.NotAccepted g) v h = absurd h
+refused_alone cluster files label size f inside is status.Findings v h = absurd h
+refused_alone cluster files label size f inside is status.OutFault v h = absurd (false≢true v)
+refused_alone cluster files label size f inside is status.NoMemory v h = absurd (false≢true v)
+refused_alone cluster files label size f inside is (status.BadInit g) v h = ap status.BadInit (same_fault (refusal (sized cluster files size) label) f g is h.1)
+
+possible_alone : (cluster files : ℕ) (label : List ℕ) (size : ℕ) → IsPossible cluster files label size → AloneInInit cluster files label size status.Ok
+possible_alone cluster files label size may status.Ok v h = refl
+possible_alone cluster files label size may status.BadWords v h = absurd h
+possible_alone cluster files label size may status.ScriptFault v h = absurd h
+possible_alone cluster files label size may status.ScriptTooLong v h = absurd h
+possible_alone cluster files label size may (status.BadScript m) v h = absurd h
+possible_alone cluster files label size may status.TooMany v h = absurd h
+possible_alone cluster files label size may status.ImageFault v h = absurd (false≢true v)
+possible_alone cluster files label size may (status.BadSize m) v h = absurd (outside size may.inside h.1)
+possible_alone cluster files label size may (status.NotAccepted g) v h = absurd h
+possible_alone cluster files label size may status.Findings v h = absurd h
+possible_alone cluster files label size may status.OutFault v h = absurd (false≢true v)
+possible_alone cluster files label size may status.NoMemory v h = absurd (false≢true v)
+possible_alone cluster files label size may (status.BadInit g) v h = absurd (no_fault (refusal (sized cluster files size) label) g may.possible h.1)
+
+-- what is refused is told, and else the image is formatted
+of_format : (cluster files : ℕ) (label : List ℕ) (bytes : List ℕ) (size : ℕ) (bs : List Block) (o : Option InitFault) → IsInside size
+    → refusal (sized cluster files size) label ≡ o → HasOneVerdict (Some (Init cluster files label)) bytes size bs
+of_format cluster files label bytes size bs (Some f) inside is =
+    record { status = status.BadInit f; verdict = refl; due = (inside, is); alone = refused_alone cluster files label size f inside is }
+of_format cluster files label bytes size bs None inside is =
+    let may : IsPossible cluster files label size = record { inside = inside; possible = is } in
+    record { status = status.Ok; verdict = refl; due = may; alone = possible_alone cluster files label size may }
+
+of_init : (cluster files : ℕ) (label : List ℕ) (bytes : List ℕ) (size : ℕ) (bs : List Block) → HasOneVerdict (Some (Init cluster files label)) bytes size bs
+of_init cluster files label bytes size bs =
+    elim (is_size size) [
+      | inr out ↦ record { status = status.BadSize size; verdict = refl; due = (refl, out); alone = size_alone_in cluster files label size out }
+      | inl inside ↦ of_format cluster files label bytes size bs (refusal (sized cluster files size) label) inside refl
+    ]
+
+pub one_verdict : (wanted : Option Wanted) (bytes : List ℕ) (size : ℕ) (bs : List Block) (fs : List Finding) → SayOneThing BUILT (lines_of bytes) → OneList bs → AreFindings bs fs
+    → HasOneVerdict wanted bytes size bs
+one_verdict None bytes size bs fs one list found = record { status = status.BadWords; verdict = refl; due = tt; alone = words_alone }
+one_verdict (Some Run) bytes size bs fs one list found = of_run bytes size bs fs one list found
+one_verdict (Some Analyze) bytes size bs fs one list found = of_analysis bytes size bs fs list found
+one_verdict (Some (Init cluster files label)) bytes size bs fs one list found = of_init cluster files label bytes size bs

@@ -1,5 +1,6 @@
-pub mod Volumes
+pub mod Words
 pub mod Runs
 pub mod Statuses
-pub mod Jobs
+pub mod Ends
+pub mod Images
 pub mod Verdicts

@@ -1,19 +1,27 @@
--- What the status of a run says of what came in.
-use Rattle.std.specs.Prelude.{◌≡◌, ◌<◌, ◌≤◌, ◌⊎◌, ◌++◌, ℕ, List, [], ◌∷◌, Option, Some, None, IfSome, codes, decimal, length}
+-- What the status of a call says of what came in, and what was written.
+use Rattle.std.specs.Prelude.{◌≡◌, ◌<◌, ◌≤◌, ◌⊎◌, ◌++◌, ◌-◌, ℕ, List, [], ◌∷◌, Option, Some, None, IfSome, codes, decimal, flat_map, length}
 use Rattle.std.specs.Io.KnownBytes.{Appends}
 use Rattle.vol_words.specs.Fields.{Block}
 use Rattle.vol_words.specs.Faults.{Rose}
 use Rattle.blk_drive.specs.Images.{IsInside, IsOutside}
 use Rattle.fx_text.specs.Streams.{AppendsStart}
 use Rattle.vol_texts.specs.Reports.{newline}
-use Rattle.plain_cat.specs.declared.entries.DirEnt.{DirEnt}
+use Rattle.vol_parts.specs.declared.finding.Finding.{Finding}
+use Rattle.vol_parts.specs.Findings.{AreFindings, Accepts}
+use Rattle.vol_analyze.specs.Texts.{finding_text}
+use Rattle.vol_analyze.specs.Judging.{IsFirstFound}
 use Rattle.plain_cat.specs.declared.script.Script.{Script}
 use Rattle.run_script.specs.declared.built.TheConstants.{BUILT}
 use Rattle.run_script.specs.Lines.{lines_of}
 use Rattle.run_script.specs.Spelling.{SpellsScript, IsBadLine, IsTooMany}
 use Rattle.clus_top.specs.declared.status.Status.{Status}
 use Rattle.clus_top.specs.declared.status.Status.TheVariants as status
-use Rattle.clus_top.specs.Volumes.{main_entries}
+use Rattle.vol_fresh.specs.declared.layout.Layout.{Layout}
+use Rattle.vol_fresh.specs.Layouts.{total, reserved_clusters}
+use Rattle.vol_init.specs.declared.fault.InitFault.{InitFault}
+use Rattle.vol_init.specs.declared.fault.InitFault.TheVariants as fault
+use Rattle.vol_init.specs.Refusals.{refusal}
+use Rattle.clus_top.specs.Words.{Wanted, Run, Analyze, Init}
 use Rattle.clus_top.specs.Runs.{IsReport}
 
 -- the number of a status
@@ -26,11 +34,22 @@ status_code (status.BadScript n) = 3
 status_code status.TooMany = 3
 status_code status.ImageFault = 4
 status_code (status.BadSize n) = 4
-status_code status.NotAccepted = 5
+status_code (status.NotAccepted f) = 5
+status_code status.Findings = 5
 status_code status.OutFault = 6
 status_code status.NoMemory = 7
+status_code (status.BadInit f) = 9
 
--- the text of a status other than 0 and 6
+-- why an image is not formatted
+unfoldable pub init_fault_text : InitFault → List ℕ
+init_fault_text fault.BadCluster = codes "bad cluster"
+init_fault_text fault.BadFiles = codes "bad files"
+init_fault_text fault.BadLabel = codes "bad label"
+init_fault_text fault.TooSmall = codes "too small"
+init_fault_text fault.NoMemory = codes "no memory"
+init_fault_text fault.ImageFault = codes "image fault"
+
+-- the text of a status, but of 0, of 6 and of findings
 unfoldable pub status_text : Status → List ℕ
 status_text status.Ok = []
 status_text status.BadWords = codes "bad words" ++ newline
@@ -40,15 +59,13 @@ status_text (status.BadScript n) = codes "bad line " ++ (decimal n ++ newline)
 status_text status.TooMany = codes "too many" ++ newline
 status_text status.ImageFault = codes "image fault" ++ newline
 status_text (status.BadSize n) = codes "bad size " ++ (decimal n ++ newline)
-status_text status.NotAccepted = codes "not accepted: unread" ++ newline
+status_text (status.NotAccepted f) = codes "not accepted: " ++ (finding_text f ++ newline)
+status_text status.Findings = []
 status_text status.OutFault = []
 status_text status.NoMemory = codes "no memory" ++ newline
+status_text (status.BadInit f) = init_fault_text f ++ newline
 
--- the words have a reading: the job `run`
-abbrev pub IsRun : List (List ℕ) → Type 0
-IsRun [] = ⊥
-IsRun (word ∷ []) = word ≡ codes "run"
-IsRun (word ∷ more ∷ words) = ⊥
+-- ---- scripts
 
 -- a script has more bytes than are read
 abbrev pub IsTooLong : List ℕ → Type 0
@@ -70,42 +87,132 @@ pub record IsGood (bytes : List ℕ) : Type 0 where
   pub script : Script
   pub spelt : SpellsScript BUILT (lines_of bytes) script
 
--- blocks are readable: they spell a main directory
-abbrev pub IsReadable : List Block → Type 0
-IsReadable bs = (es : List DirEnt) × (main_entries bs ≡ Some es)
+-- ---- volumes
 
--- script and image have passed all tests
-pub record Passes (left : Option (List ℕ)) (size : ℕ) (told : Option (List Block)) : Type 0 where
-  pub script : IfSome left IsGood
+-- something is found in the blocks
+pub record HasFindings (bs : List Block) : Type 0 where
+  pub first : Finding
+  pub found : IsFirstFound bs first
+
+-- an image of a volume's size is accepted
+pub record IsAccepted (size : ℕ) (told : Option (List Block)) : Type 0 where
   pub inside : IsInside size
-  pub readable : IfSome told IsReadable
+  pub accepted : IfSome told Accepts
 
--- What a status says of the words, the script, the image's size and its blocks, each where it is told. The conditions
--- exclude one another, in the order of words, script read, grammar, image read, size, acceptance, output; of a fault
--- its own condition is that its count rose.
-abbrev pub IsDue : List (List ℕ) → Option (List ℕ) → ℕ → Option (List Block) → Status → Type 0
-IsDue words left size told status.Ok = IsRun words × Passes left size told
-IsDue words left size told status.BadWords = ¬ IsRun words
-IsDue words left size told status.ScriptFault = IsRun words
-IsDue words left size told status.ScriptTooLong = IsRun words × IfSome left IsTooLong
-IsDue words left size told (status.BadScript n) = IsRun words × IfSome left (IsBad n)
-IsDue words left size told status.TooMany = IsRun words × IfSome left IsOverfull
-IsDue words left size told status.ImageFault = IsRun words × IfSome left IsGood
-IsDue words left size told (status.BadSize n) = IsRun words × IfSome left IsGood × (n ≡ size) × IsOutside size
-IsDue words left size told status.NotAccepted = IsRun words × IfSome left IsGood × IsInside size × IfSome told (λ bs. main_entries bs ≡ None)
-IsDue words left size told status.OutFault = IsRun words × Passes left size told
-IsDue words left size told status.NoMemory = Unit {0}
+-- ---- when a status is due
+
+-- Of a run. The order is script read, grammar, image read, size, acceptance, output; of a fault its own condition is that its
+-- count rose.
+abbrev pub IsRunDue : Option (List ℕ) → ℕ → Option (List Block) → Status → Type 0
+IsRunDue left size told status.Ok = IfSome left IsGood × IsAccepted size told
+IsRunDue left size told status.BadWords = ⊥
+IsRunDue left size told status.ScriptFault = Unit {0}
+IsRunDue left size told status.ScriptTooLong = IfSome left IsTooLong
+IsRunDue left size told (status.BadScript n) = IfSome left (IsBad n)
+IsRunDue left size told status.TooMany = IfSome left IsOverfull
+IsRunDue left size told status.ImageFault = IfSome left IsGood
+IsRunDue left size told (status.BadSize n) = IfSome left IsGood × (n ≡ size) × IsOutside size
+IsRunDue left size told (status.NotAccepted f) = IfSome left IsGood × IsInside size × IfSome told (λ bs. IsFirstFound bs f)
+IsRunDue left size told status.Findings = ⊥
+IsRunDue left size told status.OutFault = IfSome left IsGood × IsAccepted size told
+IsRunDue left size told status.NoMemory = Unit {0}
+IsRunDue left size told (status.BadInit f) = ⊥
+
+-- Of an analysis. The order is image read, size, findings, output.
+abbrev pub IsAnalysisDue : ℕ → Option (List Block) → Status → Type 0
+IsAnalysisDue size told status.Ok = IsAccepted size told
+IsAnalysisDue size told status.ImageFault = Unit {0}
+IsAnalysisDue size told (status.BadSize n) = (n ≡ size) × IsOutside size
+IsAnalysisDue size told status.Findings = IsInside size × IfSome told HasFindings
+IsAnalysisDue size told status.OutFault = IsAccepted size told
+IsAnalysisDue size told status.NoMemory = Unit {0}
+IsAnalysisDue size told s = ⊥
+
+-- the layout of a volume of so many blocks
+abbrev pub sized : ℕ → ℕ → ℕ → Layout
+sized cluster files size = record { cluster = cluster; files = files; blocks = size }
+
+-- an image of this size can be formatted
+pub record IsPossible (cluster files : ℕ) (label : List ℕ) (size : ℕ) : Type 0 where
+  pub inside : IsInside size
+  pub possible : refusal (sized cluster files size) label ≡ None
+
+-- Of a format. The order is image read, size, what is refused, writes, output.
+abbrev pub IsInitDue : ℕ → ℕ → List ℕ → ℕ → Status → Type 0
+IsInitDue cluster files label size status.Ok = IsPossible cluster files label size
+IsInitDue cluster files label size status.ImageFault = Unit {0}
+IsInitDue cluster files label size (status.BadSize n) = (n ≡ size) × IsOutside size
+IsInitDue cluster files label size (status.BadInit f) = IsInside size × (refusal (sized cluster files size) label ≡ Some f)
+IsInitDue cluster files label size status.OutFault = IsPossible cluster files label size
+IsInitDue cluster files label size status.NoMemory = Unit {0}
+IsInitDue cluster files label size s = ⊥
+
+-- where the words have no reading
+abbrev pub IsWordsDue : Status → Type 0
+IsWordsDue status.BadWords = Unit {0}
+IsWordsDue status.NoMemory = Unit {0}
+IsWordsDue s = ⊥
+
+-- What a status says of the job, of the script, of the image's size and of its blocks, each where it is told. The conditions
+-- exclude one another.
+abbrev pub IsDue : Option Wanted → Option (List ℕ) → ℕ → Option (List Block) → Status → Type 0
+IsDue None left size told s = IsWordsDue s
+IsDue (Some Run) left size told s = IsRunDue left size told s
+IsDue (Some Analyze) left size told s = IsAnalysisDue size told s
+IsDue (Some (Init cluster files label)) left size told s = IsInitDue cluster files label size s
+
+-- ---- what is written
 
 -- a text is the report on this script and these blocks, where both are told
 abbrev pub IsReportOn : Option (List ℕ) → Option (List Block) → List ℕ → Type 0
 IsReportOn left told text = IfSome left (λ bytes. IfSome told (λ bs. IsReport bytes bs text))
 
+-- what an analysis says of a volume in which nothing is found
+abbrev pub accepted_text : List ℕ
+accepted_text = codes "accepted" ++ newline
+
+-- a number, and the words for what is counted
+unfoldable pub counted : ℕ → List ℕ → List ℕ
+counted n words = decimal n ++ words
+
+-- what a fresh volume has: all clusters but those of the system files are free, and all numbers but theirs
+unfoldable pub room_text : Layout → List ℕ
+room_text l =
+    counted l.blocks (codes " blocks, ")
+    ++ (counted (total l - reserved_clusters l) (codes " free clusters, ") ++ counted (l.files - 11) (codes " free numbers" ++ newline))
+
+-- what is said of a volume that was made
+unfoldable pub made_text : List ℕ → Layout → List ℕ
+made_text label l = codes "volume " ++ (label ++ (codes ": " ++ room_text l))
+
+-- the text of status 0 of a job
+abbrev pub IsTextOf : Option Wanted → Option (List ℕ) → ℕ → Option (List Block) → List ℕ → Type 0
+IsTextOf None left size told text = ⊥
+IsTextOf (Some Run) left size told text = IsReportOn left told text
+IsTextOf (Some Analyze) left size told text = text ≡ accepted_text
+IsTextOf (Some (Init cluster files label)) left size told text = text ≡ made_text label (sized cluster files size)
+
+-- one line for each finding
+abbrev pub finding_line : Finding → List ℕ
+finding_line f = finding_text f ++ newline
+
+abbrev pub findings_text : List Finding → List ℕ
+findings_text fs = flat_map finding_line fs
+
+-- a text is that of the findings of these blocks
+pub record IsFindingsText (text : List ℕ) (bs : List Block) : Type 0 where
+  pub findings : List Finding
+  pub found : AreFindings bs findings
+  pub written : text ≡ findings_text findings
+
 -- all of a text was written, or first bytes of it where the sink's count rose
 abbrev pub IsWritten : Option (List ℕ) → Option (List ℕ) → ℕ → ℕ → List ℕ → Type 0
 IsWritten old new before now text = Appends old new text ⊎ (Rose before now × AppendsStart old new text)
 
--- What was written at a status: the report, first bytes of it, or the text of the status.
-abbrev pub Writes : (List ℕ → Type 0) → Option (List ℕ) → Option (List ℕ) → ℕ → ℕ → Status → Type 0
-Writes R old new before now status.Ok = (text : List ℕ) × R text × Appends old new text
-Writes R old new before now status.OutFault = (text : List ℕ) × R text × AppendsStart old new text
-Writes R old new before now s = IsWritten old new before now (status_text s)
+-- What was written at a status, where R is said of the text of status 0: all of that text, or first bytes of it where the sink
+-- fails; the findings; or the text of the status.
+abbrev pub Writes : (List ℕ → Type 0) → Option (List Block) → Option (List ℕ) → Option (List ℕ) → ℕ → ℕ → Status → Type 0
+Writes R told old new before now status.Ok = (text : List ℕ) × R text × Appends old new text
+Writes R told old new before now status.OutFault = (text : List ℕ) × R text × AppendsStart old new text
+Writes R told old new before now status.Findings = (text : List ℕ) × IfSome told (IsFindingsText text) × IsWritten old new before now text
+Writes R told old new before now s = IsWritten old new before now (status_text s)

@@ -1,15 +1,16 @@
 //! The top call: the program `vmsclus` over any image, script source and text sink.
 #![tactic(auto)]
 
+mod analysis;
+mod format;
 mod history;
-mod job;
-mod names;
 mod report;
+mod run;
 mod status;
 mod tell;
 mod theorems;
 mod top;
-mod volume;
+mod words;
 
 pub use status::Status;
 pub use theorems::one_status_is_due;

@@ -1,7 +1,10 @@
 ghost use Rattle.std.specs.Prelude.{◌≡◌};
 
+use vol_analyze::Finding;
+use vol_init::InitFault;
+
 /// How a call of the program ended.
-#[derive(Clone, Copy, Debug, PartialEq)]
+#[derive(Drop)]
 pub enum Status {
     /// The job is done and its text written.
     Ok,
@@ -27,14 +30,21 @@ pub enum Status {
     /// The image has so many blocks, and a volume has 64 to 65,536.
     BadSize(u32),
 
-    /// The volume is not readable.
-    NotAccepted,
+    /// The volume is not accepted: this is found first.
+    NotAccepted(Finding),
+
+    /// The findings of the volume were printed.
+    Findings,
 
     /// A write of the text of status 0 failed.
     OutFault,
 
     /// Memory ran out.
     NoMemory,
+
+    /// The image was not formatted: the cluster factor, the file numbers or the label are outside their limits, or the image is
+    /// too small.
+    BadInit(InitFault),
 }
 
 impl Status {
@@ -50,9 +60,10 @@ impl Status {
             Status::ScriptFault | Status::ScriptTooLong => 2,
             Status::BadScript(_) | Status::TooMany => 3,
             Status::ImageFault | Status::BadSize(_) => 4,
-            Status::NotAccepted => 5,
+            Status::NotAccepted(_) | Status::Findings => 5,
             Status::OutFault => 6,
             Status::NoMemory => 7,
+            Status::BadInit(_) => 9,
         }
     }
 }

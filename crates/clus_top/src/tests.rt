@@ -1,145 +1,101 @@
 use super::*;
-use blk_drive::{Fail as Failing, MemImage};
+use blk_drive::{Fail as Failing, ImageDev, MemImage};
 use fx_text::{MemIn, MemOut, Word};
 use plain_cat::NoMemory;
-use std::alloc::Global;
+use std::alloc::{AllocError, Global};
 use std::test::Fail;
-use vol_words::{Block, put_bytes, put_word};
 
-// The home block of a volume with 64 files and clusters of 4 blocks: offsets and words, both checksums among them.
-const HOME: [(usize, u16); 15] = [
-    (0, 1),
-    (4, 8),
-    (8, 12),
-    (12, 513),
-    (14, 4),
-    (16, 2),
-    (18, 9),
-    (20, 13),
-    (22, 17),
-    (24, 16),
-    (28, 64),
-    (32, 1),
-    (34, 9),
-    (58, 669),
-    (510, 37_818),
-];
-
-fn home_block() -> Block {
-    let mut b = [0; 512];
-    for (offset, word) in HOME {
-        if offset <= 510 {
-            put_word(&mut b, offset, word);
-        }
-    }
-    put_bytes(&mut b, 472, b"KVOL        ");
-    put_bytes(&mut b, 496, b"DECFILE11B  ");
-    b
-}
-
-// Header 4: (4,4,0), a directory of [1,1] with one run of 4 blocks from LBN 88.
-fn header_block() -> Block {
-    let mut b = [0; 512];
-    put_bytes(&mut b, 0, &[40, 100, 255, 255, 0, 0, 1, 2, 4, 0, 4, 0]);
-    put_bytes(&mut b, 24, &[0, 0, 4, 0, 0, 0, 5, 0]);
-    put_bytes(&mut b, 52, &[0, 32, 0, 0, 0, 0, 2, 0, 1, 0, 1, 0]);
-    put_bytes(&mut b, 200, &[0x03, 0x40, 0x58, 0x00]);
-    vol_words::set_sum(&mut b);
-    b
-}
-
-// The first block of the main directory: 000000.DIR;1 (4,4,0) and INDEXF.SYS;1 (1,1,0).
-fn directory_block() -> Block {
-    let mut b = [0; 512];
-    put_bytes(
-        &mut b,
-        0,
-        b"\x16\x00\xff\x7f\x00\x0a000000.DIR\x01\x00\x04\x00\x04\x00\x00\x00",
-    );
-    put_bytes(
-        &mut b,
-        24,
-        b"\x16\x00\xff\x7f\x00\x0aINDEXF.SYS\x01\x00\x01\x00\x01\x00\x00\x00",
-    );
-    put_bytes(&mut b, 48, b"\xff\xff");
-    b
-}
-
-fn end_block() -> Block {
-    let mut b = [0; 512];
-    put_bytes(&mut b, 0, b"\xff\xff");
-    b
-}
-
-// The blocks of an image: so many, of which the first 128 are the volume, with a byte changed.
-fn blocks_of(alloc: Global, count: usize, changed: usize) -> Result<Vec<Block>, NoMemory> {
-    let mut blocks = vec![in alloc; [0; 512]; count]?;
-    for (lbn, block) in [
-        (1usize, home_block()),
-        (20, header_block()),
-        (88, directory_block()),
-        (89, end_block()),
-        (90, end_block()),
-        (91, end_block()),
-    ] {
-        if lbn < blocks.len() {
-            blocks[lbn] = block;
-        }
-    }
-    if changed < blocks.len() {
-        blocks[changed] = [1; 512];
-    }
-    Ok(blocks)
-}
-
-/// A call: the script, how many blocks, which block is spoilt, and the first calls that fail.
-#[derive(Clone, Copy)]
-struct Row {
-    script: &'static str,
-    count: usize,
-    spoilt: usize,
-    fails: (u64, u64, u64),
+/// What a call answered.
+#[derive(Drop)]
+struct Called {
     code: u8,
-    text: &'static str,
+    out: MemOut,
+    image: MemImage,
 }
 
-const fn plain_row(script: &'static str, code: u8, text: &'static str) -> Row {
-    Row {
-        script,
-        count: 128,
-        spoilt: 1000,
-        fails: (0, 0, 0),
-        code,
-        text,
+// Which of the first calls fail: of the script, and of the sink.
+#[derive(Clone, Copy)]
+struct Failures {
+    script: u64,
+    out: u64,
+}
+
+const NONE: Failures = Failures { script: 0, out: 0 };
+
+fn call_with(
+    alloc: Global,
+    words: &[&str],
+    image: MemImage,
+    script: &str,
+    fails: Failures,
+) -> Result<Called, NoMemory> {
+    let mut given = Vec::new(alloc);
+    for word in words {
+        given.push(Word::new(alloc, word.as_bytes())?)?;
     }
+    let bytes = Vec::from_slice(alloc, script.as_bytes())?;
+    let mut script = MemIn::new(bytes, vec![in alloc; fails.script]?);
+    let mut out = MemOut::new(alloc, 1000, vec![in alloc; fails.out]?)?;
+    let finished = vmsclus(alloc, given.as_slice(), image, &mut script, &mut out);
+    Ok(Called {
+        code: finished.status.code(),
+        out,
+        image: finished.image,
+    })
 }
 
-fn call(alloc: Global, r: &Row) -> Result<(u8, MemOut), NoMemory> {
-    let failing = vec![in alloc;
-        Failing {
-            call: r.fails.1,
-            lands: false
-        },
-    ]?;
-    let blocks = blocks_of(alloc, r.count, r.spoilt)?;
-    if blocks.len() > 100_000 {
-        return Err(NoMemory {});
+fn call(alloc: Global, words: &[&str], image: MemImage, script: &str) -> Result<Called, NoMemory> {
+    call_with(alloc, words, image, script, NONE)
+}
+
+// An image of so many zero blocks.
+fn zeros(alloc: Global, count: usize) -> Result<MemImage, NoMemory> {
+    if count > 100_000 {
+        return Err(AllocError);
     }
-    let image = MemImage::new(blocks, failing);
-    let bytes = Vec::from_slice(alloc, r.script.as_bytes())?;
-    let mut script = MemIn::new(bytes, vec![in alloc; r.fails.0]?);
-    let mut out = MemOut::new(alloc, 1000, vec![in alloc; r.fails.2]?)?;
-    let words = vec![in alloc; Word::new(alloc, b"run")?]?;
-    let finished = vmsclus(alloc, words.as_slice(), image, &mut script, &mut out);
-    Ok((finished.status.code(), out))
+    Ok(MemImage::new(
+        vec![in alloc; [0; 512]; count]?,
+        Vec::new(alloc),
+    ))
 }
 
-// The script of the first row with another status or text than it should have.
-fn wrong_row(alloc: Global, rows: &[Row]) -> Result<Option<&'static str>, NoMemory> {
-    for r in rows {
-        let (code, out) = call(alloc, r)?;
-        if code != r.code || out.bytes() != r.text.as_bytes() {
-            return Ok(Some(r.script));
+// The volume of 1,024 blocks with clusters of 4 and 64 file numbers.
+fn volume(alloc: Global) -> Result<MemImage, NoMemory> {
+    Ok(call(
+        alloc,
+        &["init", "4", "64", "KVOL"],
+        zeros(alloc, 1024)?,
+        "",
+    )?
+    .image)
+}
+
+// The image with one byte changed.
+fn with_byte(image: MemImage, lbn: u32, at: usize, byte: u8) -> Result<MemImage, NoMemory> {
+    let mut image = image;
+    let mut b = [0; 512];
+    let Ok(count) = image.blocks() else {
+        return Err(AllocError);
+    };
+    if lbn >= count || at >= 512 || image.read_block(lbn, &mut b).is_err() {
+        return Err(AllocError);
+    }
+    b[at] = byte;
+    if image.write_block(lbn, &b).is_err() {
+        return Err(AllocError);
+    }
+    Ok(image)
+}
+
+// The first script that is answered otherwise on a fresh volume.
+fn wrong_row(
+    alloc: Global,
+    rows: &[(&'static str, u8, &'static str)],
+) -> Result<Option<&'static str>, NoMemory> {
+    for (script, code, text) in rows {
+        let called = call(alloc, &["run"], volume(alloc)?, script)?;
+        if called.code != *code || called.out.bytes() != text.as_bytes() {
+            return Ok(Some(*script));
         }
     }
     Ok(None)
@@ -149,20 +105,20 @@ fn wrong_row(alloc: Global, rows: &[Row]) -> Result<Option<&'static str>, NoMemo
 #[test]
 fn examples(rt: HostRuntime) -> Result<(), Fail> {
     let rows = [
-        plain_row(
+        (
             "NODES 1\n1 LOOKUP R1 MFD INDEXF.SYS;1\n",
             0,
-            "1 N1 LOOKUP R1 (4,4,0) INDEXF.SYS;1 = (1,1,0) INDEXF.SYS;1\nend: 1 answered, 0 died\n",
+            "1 N1 LOOKUP R1 (4,4,0) INDEXF.SYS;1 = (1,1,0) INDEXF.SYS;1\nend: 1 answered, 0 died, 231 free\n",
         ),
-        plain_row(
+        (
             "NODES 1\n1 LOOKUP R1 MFD INDEXF.SYS;2\n",
             0,
-            "1 N1 LOOKUP R1 (4,4,0) INDEXF.SYS;2 = refused NoSuchFile\nend: 1 answered, 0 died\n",
+            "1 N1 LOOKUP R1 (4,4,0) INDEXF.SYS;2 = refused NoSuchFile\nend: 1 answered, 0 died, 231 free\n",
         ),
-        plain_row(
+        (
             "# Two nodes look into the main directory.\nNODES 2\nSCHED 2 1*2 2\n\n2 LOOKUP R1 MFD INDEXF.SYS;1\n1 LOOKUP R1 MFD 000000.DIR;0\n1 LOOKUP R2 (4,4,0) INDEXF.SYS;0\n2 LOOKUP R8 MFD ABSENT.X;3\n",
             0,
-            "1 N2 LOOKUP R1 (4,4,0) INDEXF.SYS;1 = (1,1,0) INDEXF.SYS;1\n2 N1 LOOKUP R1 (4,4,0) 000000.DIR;0 = (4,4,0) 000000.DIR;1\n3 N1 LOOKUP R2 (4,4,0) INDEXF.SYS;0 = (1,1,0) INDEXF.SYS;1\n4 N2 LOOKUP R8 (4,4,0) ABSENT.X;3 = refused NoSuchFile\nend: 4 answered, 0 died\n",
+            "1 N2 LOOKUP R1 (4,4,0) INDEXF.SYS;1 = (1,1,0) INDEXF.SYS;1\n2 N1 LOOKUP R1 (4,4,0) 000000.DIR;0 = (4,4,0) 000000.DIR;1\n3 N1 LOOKUP R2 (4,4,0) INDEXF.SYS;0 = (1,1,0) INDEXF.SYS;1\n4 N2 LOOKUP R8 (4,4,0) ABSENT.X;3 = refused NoSuchFile\nend: 4 answered, 0 died, 231 free\n",
         ),
     ];
     assert_eq!(rt; wrong_row(rt.alloc(), &rows)?, None);
@@ -172,91 +128,254 @@ fn examples(rt: HostRuntime) -> Result<(), Fail> {
 #[test]
 fn runs_scripts_of_look_ups(rt: HostRuntime) -> Result<(), Fail> {
     let rows = [
-        plain_row(
-            "NODES 1\n1 LOOKUP R1 MFD ABSENT.X;0",
+        (
+            "NODES 1\n1 LOOKUP R1 MFD QUOTA.SYS;0",
             0,
-            "1 N1 LOOKUP R1 (4,4,0) ABSENT.X;0 = refused NoSuchFile\nend: 1 answered, 0 died\n",
+            "1 N1 LOOKUP R1 (4,4,0) QUOTA.SYS;0 = (10,1,0) QUOTA.SYS;1\nend: 1 answered, 0 died, 231 free\n",
         ),
-        plain_row("NODES 1\n", 0, "end: 0 answered, 0 died\n"),
-        plain_row("\n#\nNODES 8\n\n", 0, "end: 0 answered, 0 died\n"),
-        plain_row("", 3, "bad line 1\n"),
-        plain_row("# nothing\n", 3, "bad line 2\n"),
-        plain_row("NODES 9\n", 3, "bad line 1\n"),
-        plain_row("NODES 1\n\n1 LOOKUP R9 MFD A.B;1\n", 3, "bad line 3\n"),
-        plain_row("NODES 1\n2 LOOKUP R1 MFD A.B;1\n", 3, "bad line 2\n"),
-        plain_row("NODES 1\n1 LOOKUP R1 MFD A.B;01\n", 3, "bad line 2\n"),
-        plain_row("NODES 1\n1 LOOKUP R1 MFD A.B;32768\n", 3, "bad line 2\n"),
+        (
+            "NODES 8\n",
+            0,
+            "end: 0 answered, 0 died, 231 free\n",
+        ),
+        ("", 3, "bad line 1\n"),
+        ("# nothing\n", 3, "bad line 2\n"),
+        ("NODES 9\n", 3, "bad line 1\n"),
+        ("NODES 1\n\n1 LOOKUP R9 MFD A.B;1\n", 3, "bad line 3\n"),
+        ("NODES 1\n2 LOOKUP R1 MFD A.B;1\n", 3, "bad line 2\n"),
+        ("NODES 1\n1 LOOKUP R1 MFD A.B;01\n", 3, "bad line 2\n"),
+        ("NODES 1\n1 LIST MFD\n", 3, "bad line 2\n"),
+        ("NODES 1\n1 LOOKUP R1 LOST A.B;1\n", 3, "bad line 2\n"),
+        ("NODES 1\nKILL 1 TURN 1\n", 3, "bad line 2\n"),
+        ("NODES 1\nSCHED 1*65536 1\nbad\n", 3, "too many\n"),
+        ("NODES 1\nbad\nSCHED 1*65536 1\n", 3, "bad line 2\n"),
     ];
     assert_eq!(rt; wrong_row(rt.alloc(), &rows)?, None);
     Ok(())
 }
 
+/// An edit of the fresh volume and the first finding after it.
+#[derive(Clone, Copy)]
+struct Edit {
+    lbn: u32,
+    at: usize,
+    byte: u8,
+    text: &'static str,
+}
+
+const fn spoilt(lbn: u32, at: usize, byte: u8, text: &'static str) -> Edit {
+    Edit {
+        lbn,
+        at,
+        byte,
+        text,
+    }
+}
+
+// The first edit whose finding is another.
+fn wrong_edit(alloc: Global, edits: &[Edit]) -> Result<Option<&'static str>, NoMemory> {
+    for e in edits {
+        let image = with_byte(volume(alloc)?, e.lbn, e.at, e.byte)?;
+        let found = call(alloc, &["analyze"], image, "")?;
+        if found.code != 5 || found.out.bytes() != e.text.as_bytes() {
+            return Ok(Some(e.text));
+        }
+        let refused = call(alloc, &["run"], found.image, "NODES 1\n")?;
+        let text = refused.out.bytes();
+        if refused.code != 5
+            || !text.starts_with(b"not accepted: ")
+            || !text.ends_with(e.text.as_bytes())
+        {
+            return Ok(Some(e.text));
+        }
+    }
+    Ok(None)
+}
+
 #[test]
-fn refuses_what_is_not_built(rt: HostRuntime) -> Result<(), Fail> {
-    let rows = [
-        plain_row("NODES 1\n1 LIST MFD\n", 3, "bad line 2\n"),
-        plain_row("NODES 1\n1 LOOKUP R1 LOST A.B;1\n", 3, "bad line 2\n"),
-        plain_row("NODES 1\n1 LOOKUP R1 R1 A.B;1\n", 3, "bad line 2\n"),
-        plain_row("NODES 1\n1 LOOKUP R1 (4,5,0) A.B;1\n", 3, "bad line 2\n"),
-        plain_row("NODES 1\nKILL 1 TURN 1\n", 3, "bad line 2\n"),
+fn finds_what_one_byte_spoils(rt: HostRuntime) -> Result<(), Fail> {
+    let edits = [
+        spoilt(1, 496, 0x58, "home: BadFormat\n"),
+        spoilt(1, 13, 5, "home: BadLevel\n"),
+        spoilt(1, 28, 65, "home: BadSum1\n"),
+        spoilt(1, 100, 1, "home: BadSum2\n"),
+        spoilt(28, 8, 12, "header 12: BadSum\n"),
+        spoilt(84, 100, 1, "storage control block: BadSum\n"),
+        spoilt(88, 0, 0, "directory 4: BadRecord\n"),
+        spoilt(96, 0, 0, "no quota row for 1\n"),
+        spoilt(85, 0, 1, "free cluster 0 in use\n"),
+        spoilt(16, 0, 0xfe, "free number 1 in use\n"),
+        spoilt(85, 4, 0xfe, "leaked clusters 1\n"),
+        spoilt(96, 8, 0x70, "usage of [1,1]: has 112, should be 111\n"),
     ];
-    assert_eq!(rt; wrong_row(rt.alloc(), &rows)?, None);
+    assert_eq!(rt; wrong_edit(rt.alloc(), &edits)?, None);
     Ok(())
 }
 
 #[test]
-fn tells_each_status(rt: HostRuntime) -> Result<(), Fail> {
-    let look_up = "NODES 1\n1 LOOKUP R1 MFD INDEXF.SYS;1\n";
-    let crowded = "NODES 1\nSCHED 1*65536 1\nbad\n";
-    let rows = [
-        plain_row(crowded, 3, "too many\n"),
-        plain_row("NODES 1\nbad\nSCHED 1*65536 1\n", 3, "bad line 2\n"),
-        Row {
-            count: 63,
-            ..plain_row(crowded, 3, "too many\n")
-        },
-        Row {
-            count: 63,
-            ..plain_row(look_up, 4, "bad size 63\n")
-        },
-        Row {
-            spoilt: 1,
-            ..plain_row(look_up, 5, "not accepted: unread\n")
-        },
-        Row {
-            spoilt: 20,
-            ..plain_row(look_up, 5, "not accepted: unread\n")
-        },
-        Row {
-            spoilt: 91,
-            ..plain_row(look_up, 5, "not accepted: unread\n")
-        },
-        Row {
-            fails: (1, 0, 0),
-            ..plain_row(look_up, 2, "script fault\n")
-        },
-        Row {
-            fails: (0, 1, 0),
-            ..plain_row(look_up, 4, "image fault\n")
-        },
-        Row {
-            fails: (0, 0, 1),
-            ..plain_row(look_up, 6, "")
-        },
-    ];
-    assert_eq!(rt; wrong_row(rt.alloc(), &rows)?, None);
-    Ok(())
-}
-
-#[test]
-fn refuses_other_words(rt: HostRuntime) -> Result<(), Fail> {
+fn a_system_file_without_its_header_is_found(rt: HostRuntime) -> Result<(), Fail> {
     let alloc = rt.alloc();
-    let words = vec![in alloc; Word::new(alloc, b"run")?, Word::new(alloc, b"now")?]?;
-    let image = MemImage::new(Vec::new(alloc), Vec::new(alloc));
-    let mut script = MemIn::new(Vec::new(alloc), Vec::new(alloc));
-    let mut out = MemOut::new(alloc, 1000, Vec::new(alloc))?;
-    let finished = vmsclus(alloc, words.as_slice(), image, &mut script, &mut out);
-    assert_eq!(rt; finished.status.code(), 1);
-    assert!(rt; out.bytes() == b"bad words\n".as_slice());
+    let mut image = volume(alloc)?;
+    let Ok(1024) = image.blocks() else {
+        return Err(Fail::from("the image has other blocks"));
+    };
+    assert!(rt; image.write_block(27, &[0; 512]).is_ok());
+    let found = call(alloc, &["analyze"], image, "")?;
+    assert!(rt; found.out.bytes() == b"system file 11\n".as_slice());
+    Ok(())
+}
+
+// Two findings that are not fatal, and then a fatal one beside them.
+#[test]
+fn prints_findings_in_their_order(rt: HostRuntime) -> Result<(), Fail> {
+    let alloc = rt.alloc();
+    let both = with_byte(
+        with_byte(volume(alloc)?, 96, 8, 0x70)?,
+        85,
+        4,
+        0xfe,
+    )?;
+    let found = call(alloc, &["analyze"], both, "")?;
+    assert!(rt; found.out.bytes() == b"leaked clusters 1\nusage of [1,1]: has 112, should be 111\n".as_slice());
+    let fatal = with_byte(with_byte(found.image, 16, 0, 0xfe)?, 88, 0, 0)?;
+    let found = call(alloc, &["analyze"], fatal, "")?;
+    assert!(rt; found.out.bytes() == b"directory 4: BadRecord\n".as_slice());
+    Ok(())
+}
+
+/// A format: words, blocks, status and text.
+#[derive(Clone, Copy)]
+struct Format<'a> {
+    words: [&'a str; 4],
+    blocks: usize,
+    code: u8,
+    text: &'static str,
+}
+
+const fn asked<'a>(words: [&'a str; 4], blocks: usize, code: u8, text: &'static str) -> Format<'a> {
+    Format {
+        words,
+        blocks,
+        code,
+        text,
+    }
+}
+
+// The text of the first format that is answered otherwise.
+fn wrong_format(alloc: Global, rows: &[Format<'_>]) -> Result<Option<&'static str>, NoMemory> {
+    for row in rows {
+        let called = call(alloc, &row.words, zeros(alloc, row.blocks)?, "")?;
+        if called.code != row.code || called.out.bytes() != row.text.as_bytes() {
+            return Ok(Some(row.text));
+        }
+    }
+    Ok(None)
+}
+
+#[test]
+fn formats_images(rt: HostRuntime) -> Result<(), Fail> {
+    let rows = [
+        asked(
+            ["init", "4", "64", "KVOL"],
+            1024,
+            0,
+            "volume KVOL: 1024 blocks, 231 free clusters, 53 free numbers\n",
+        ),
+        asked(
+            ["init", "001", "00032", "TINY"],
+            64,
+            0,
+            "volume TINY: 64 blocks, 22 free clusters, 21 free numbers\n",
+        ),
+        asked(["init", "16", "32", "TINY"], 64, 9, "too small\n"),
+        asked(["init", "17", "32", "TINY"], 64, 9, "bad cluster\n"),
+        asked(["init", "0", "31", "TINY"], 64, 9, "bad cluster\n"),
+        asked(["init", "1", "31", "TINY"], 64, 9, "bad files\n"),
+        asked(
+            ["init", "1", "32", "ABCDEFGHIJKLM"],
+            64,
+            9,
+            "bad label\n",
+        ),
+        asked(["init", "1", "32", "tiny"], 64, 9, "bad label\n"),
+        asked(["init", "1", "32", "TINY"], 63, 4, "bad size 63\n"),
+        asked(["init", "000001", "32", "TINY"], 64, 1, "bad words\n"),
+        asked(["init", "1", "x", "TINY"], 64, 1, "bad words\n"),
+        asked(["make", "1", "32", "TINY"], 64, 1, "bad words\n"),
+    ];
+    assert_eq!(rt; wrong_format(rt.alloc(), &rows)?, None);
+    Ok(())
+}
+
+#[test]
+fn a_fresh_volume_is_accepted(rt: HostRuntime) -> Result<(), Fail> {
+    let alloc = rt.alloc();
+    let found = call(alloc, &["analyze"], volume(alloc)?, "")?;
+    assert_eq!(rt; found.code, 0);
+    assert!(rt; found.out.bytes() == b"accepted\n".as_slice());
+    let large = call(
+        alloc,
+        &["init", "16", "4096", "BIG"],
+        zeros(alloc, 65_536)?,
+        "",
+    )?;
+    assert!(rt; large.out.bytes() == b"volume BIG: 65536 blocks, 3831 free clusters, 4085 free numbers\n".as_slice());
+    let found = call(alloc, &["analyze"], large.image, "")?;
+    assert!(rt; found.out.bytes() == b"accepted\n".as_slice());
+    Ok(())
+}
+
+// The answer to an analysis of so many blocks of pseudo-random bytes.
+fn noise(alloc: Global, count: usize) -> Result<Called, NoMemory> {
+    let mut image = zeros(alloc, count)?;
+    let mut blocks = Vec::new(alloc);
+    let mut x = 12_345u32;
+    for block in image.all() {
+        let mut b = *block;
+        for byte in b.iter_mut() {
+            x = x.wrapping_mul(1_103_515_245).wrapping_add(12_345);
+            *byte = (x >> 16 & 0xff) as u8;
+        }
+        blocks.push(b)?;
+    }
+    if blocks.len() > 100_000 {
+        return Err(AllocError);
+    }
+    image = MemImage::new(blocks, Vec::new(alloc));
+    call(alloc, &["analyze"], image, "")
+}
+
+#[test]
+fn sizes_and_noise(rt: HostRuntime) -> Result<(), Fail> {
+    let alloc = rt.alloc();
+    let noise = noise(alloc, 10_000)?;
+    assert_eq!(rt; noise.code, 5);
+    assert!(rt; noise.out.bytes() == b"home: BadFormat\n".as_slice());
+    let small = call(alloc, &["analyze"], zeros(alloc, 63)?, "")?;
+    assert!(rt; small.out.bytes() == b"bad size 63\n".as_slice());
+    let least = call(alloc, &["analyze"], zeros(alloc, 64)?, "")?;
+    assert!(rt; least.out.bytes() == b"home: BadFormat\n".as_slice());
+    let large = call(alloc, &["analyze"], zeros(alloc, 65_537)?, "")?;
+    assert!(rt; large.out.bytes() == b"bad size 65537\n".as_slice());
+    let late = call(alloc, &["run"], zeros(alloc, 63)?, "NODES 1\n")?;
+    assert_eq!(rt; late.code, 4);
+    Ok(())
+}
+
+#[test]
+fn tells_each_fault(rt: HostRuntime) -> Result<(), Fail> {
+    let alloc = rt.alloc();
+    let script = Failures { script: 1, out: 0 };
+    let called = call_with(alloc, &["run"], volume(alloc)?, "NODES 1\n", script)?;
+    assert!(rt; called.code == 2 && called.out.bytes() == b"script fault\n".as_slice());
+    let out = Failures { script: 0, out: 1 };
+    let called = call_with(alloc, &["run"], called.image, "NODES 1\n", out)?;
+    assert!(rt; called.code == 6 && called.out.bytes().is_empty());
+    let called = call(alloc, &["run", "now"], called.image, "")?;
+    assert!(rt; called.code == 1 && called.out.bytes() == b"bad words\n".as_slice());
+    let failing = vec![in alloc; Failing { call: 1, lands: false }]?;
+    let image = MemImage::new(Vec::new(alloc), failing);
+    let called = call(alloc, &["analyze"], image, "")?;
+    assert!(rt; called.code == 4 && called.out.bytes() == b"image fault\n".as_slice());
     Ok(())
 }

@@ -1,13 +1,22 @@
-ghost use Rattle.std.specs.Prelude.{◌≡◌, ◌↔◌, IsTrue};
+ghost use Rattle.std.specs.Prelude.{◌≡◌, List, Option, Some, IfSome};
 ghost use Rattle.vol_words.specs.Faults.{Rose};
-ghost use Rattle.clus_top.specs.Statuses.{IsRun, IsDue, IsReportOn, Writes};
+ghost use Rattle.vol_words.specs.Fields.{Block};
+ghost use Rattle.clus_top.specs.Ends.{AreFoundIn, IsFoundEnd};
+ghost use Rattle.vol_init.specs.Refusals.{home_of};
+ghost use Rattle.clus_top.specs.Words.{Run, wanted_by};
+ghost use Rattle.clus_top.specs.Images.{IsFormatted, IsImageAfter};
+ghost use Rattle.clus_top.specs.Statuses.{IsRunDue, IsAnalysisDue, IsInitDue, IsDue, accepted_text, made_text, sized, IsTextOf, Writes};
 
-use crate::job::{Job, run_job};
+use crate::analysis::{Analysis, analyze_image};
+use crate::format::{Format, init_image};
+use crate::run::{Ran, run_script};
 use crate::status::Status;
-use crate::tell::{tell, tell_report};
+use crate::tell::{tell, tell_findings, tell_text};
+use crate::words::{Job, job_of};
 use blk_drive::ImageDev;
 use fx_text::{TextIn, TextOut, Word};
 use std::alloc::Global;
+use vol_analyze::Finding;
 
 /// How a call ended, and the image that was handed in.
 #[derive(Drop)]
@@ -16,21 +25,88 @@ pub struct Finished<I: ImageDev> {
     pub image: I,
 }
 
-// Whether the words are the job `run`.
-fn is_run(words: &[Word]) -> bool
-    ensures { IsTrue result ↔ IsRun words.now }
+// The job `run`.
+fn run<I: ImageDev, T: TextIn, O: TextOut>(
+    alloc: Global,
+    image: I,
+    script: &mut T,
+    out: &mut O,
+) -> Finished<I>
+    ensures due { IsRunDue (T.left script.old) (I.size image) (I.told image) result.status }
+    ensures script_fault { result.status ≡ Status.ScriptFault → Rose (T.faults script.old) (T.faults script.new) }
+    ensures image_fault { result.status ≡ Status.ImageFault → Rose (I.faults image) (I.faults result.image) }
+    ensures out_fault { result.status ≡ Status.OutFault → Rose (O.faults out.old) (O.faults out.new) }
+    ensures written { Writes (IsTextOf (Some Run) (T.left script.old) (I.size image) (I.told image)) (I.told image)
+        (O.written out.old) (O.written out.new) (O.faults out.old) (O.faults out.new) result.status }
+    ensures told { I.told result.image ≡ I.told image }
 {
-    match words {
-        [word] => word.bytes() == b"run".as_slice(),
-        _ => false,
+    let Ran { outcome, image } = run_script(alloc, image, script);
+    let status = match outcome {
+        Ok(text) => tell_text(out, text.as_slice()),
+        Err(status) => tell(alloc, out, status),
+    };
+    Finished { status, image }
+}
+
+// Prints what is found.
+fn tell_found<O: TextOut>(alloc: Global, out: &mut O, findings: &[Finding]) -> Status
+    ensures end { IsFoundEnd findings.now result }
+    ensures out_fault { result ≡ Status.OutFault → Rose (O.faults out.old) (O.faults out.new) }
+    ensures written { (told : Option (List Block)) → IfSome told (AreFoundIn findings.now)
+        → Writes (λ text. text ≡ accepted_text) told (O.written out.old) (O.written out.new) (O.faults out.old) (O.faults out.new) result }
+{
+    match findings {
+        [] => tell_text(out, b"accepted\n"),
+        found => tell_findings(alloc, out, found),
     }
 }
 
-/// Runs a script on a volume, and prints the report: the job `run`.
+// The job `analyze`.
+fn analyze<I: ImageDev, O: TextOut>(alloc: Global, image: I, out: &mut O) -> Finished<I>
+    ensures due { IsAnalysisDue (I.size image) (I.told image) result.status }
+    ensures image_fault { result.status ≡ Status.ImageFault → Rose (I.faults image) (I.faults result.image) }
+    ensures out_fault { result.status ≡ Status.OutFault → Rose (O.faults out.old) (O.faults out.new) }
+    ensures written { Writes (λ text. text ≡ accepted_text) (I.told image)
+        (O.written out.old) (O.written out.new) (O.faults out.old) (O.faults out.new) result.status }
+    ensures told { I.told result.image ≡ I.told image }
+{
+    let Analysis { outcome, image } = analyze_image(alloc, image);
+    let status = match outcome {
+        Ok(findings) => tell_found(alloc, out, findings.as_slice()),
+        Err(status) => tell(alloc, out, status),
+    };
+    Finished { status, image }
+}
+
+// The job `init`.
+fn init<I: ImageDev, O: TextOut>(
+    alloc: Global,
+    image: I,
+    cluster: u32,
+    files: u32,
+    label: &[u8],
+    out: &mut O,
+) -> Finished<I>
+    ensures due { IsInitDue cluster files label.now (I.size image) result.status }
+    ensures image_fault { result.status ≡ Status.ImageFault → Rose (I.faults image) (I.faults result.image) }
+    ensures out_fault { result.status ≡ Status.OutFault → Rose (O.faults out.old) (O.faults out.new) }
+    ensures written { Writes (λ text. text ≡ made_text label.now (sized cluster files (I.size image))) (I.told image)
+        (O.written out.old) (O.written out.new) (O.faults out.old) (O.faults out.new) result.status }
+    ensures after { IfSome (I.told image) (λ old. IsFormatted (home_of cluster files label.now) old (I.told result.image) result.status) }
+{
+    let Format { outcome, image } = init_image(alloc, image, cluster, files, label);
+    let status = match outcome {
+        Ok(text) => tell_text(out, text.as_slice()),
+        Err(status) => tell(alloc, out, status),
+    };
+    Finished { status, image }
+}
+
+/// Does the job that the words ask for, and prints its text.
 ///
-/// So far the commands of a script are look-ups in the main directory, by any of its nodes; they are answered in the order
-/// of their lines, and the schedule has no effect yet. The volume is looked at as far as its main directory. The call waits
-/// for nobody, and always returns.
+/// `run` runs a script on a volume in which nothing is found. So far the commands of a script are look-ups in the main
+/// directory, by any of its nodes; they are answered in the order of their lines, and the schedule has no effect yet. `analyze`
+/// prints what is found in a volume. `init` makes a volume. The call waits for nobody, and always returns.
 pub fn vmsclus<I: ImageDev, T: TextIn, O: TextOut>(
     alloc: Global,
     words: &[Word],
@@ -39,34 +115,31 @@ pub fn vmsclus<I: ImageDev, T: TextIn, O: TextOut>(
     out: &mut O,
 ) -> Finished<I>
     // What the status says of the words, the script, the image's size and its blocks.
-    ensures due { IsDue words.now (T.left script.old) (I.size image) (I.told image) result.status }
+    ensures due { IsDue (wanted_by words.now) (T.left script.old) (I.size image) (I.told image) result.status }
 
     // A fault comes only where the count of that very object rose in this call.
     ensures script_fault { result.status ≡ Status.ScriptFault → Rose (T.faults script.old) (T.faults script.new) }
     ensures image_fault { result.status ≡ Status.ImageFault → Rose (I.faults image) (I.faults result.image) }
     ensures out_fault { result.status ≡ Status.OutFault → Rose (O.faults out.old) (O.faults out.new) }
 
-    // With status 0 the report was written, with a fault of the sink first bytes of it, and else the text of the status.
-    ensures written { Writes (IsReportOn (T.left script.old) (I.told image)) (O.written out.old) (O.written out.new)
-        (O.faults out.old) (O.faults out.new) result.status }
+    // With status 0 the job's text was written, with a fault of the sink first bytes of it, with findings these, and else the
+    // text of the status.
+    ensures written { Writes (IsTextOf (wanted_by words.now) (T.left script.old) (I.size image) (I.told image)) (I.told image)
+        (O.written out.old) (O.written out.new) (O.faults out.old) (O.faults out.new) result.status }
 
-    // The image's blocks are as they came in.
-    ensures told { I.told result.image ≡ I.told image }
+    // Only a format changes the image's blocks: to a new volume, or, where a write failed, to nothing that is taken for one.
+    ensures after { IsImageAfter (wanted_by words.now) (I.told image) (I.told result.image) result.status }
 {
-    if !is_run(words) {
-        return Finished {
+    match job_of(words) {
+        Some(Job::Run) => run(alloc, image, script, out),
+        Some(Job::Analyze) => analyze(alloc, image, out),
+        Some(Job::Init {
+            cluster,
+            files,
+            label,
+        }) => init(alloc, image, cluster, files, label, out),
+        None => Finished {
             status: tell(alloc, out, Status::BadWords),
-            image,
-        };
-    }
-    let Job { outcome, image } = run_job(alloc, image, script);
-    match outcome {
-        Ok(text) => Finished {
-            status: tell_report(out, text.as_slice()),
-            image,
-        },
-        Err(status) => Finished {
-            status: tell(alloc, out, status),
             image,
         },
     }

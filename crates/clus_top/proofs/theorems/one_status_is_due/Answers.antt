@@ -4,4 +4,5 @@ use Rattle.clus_top.proofs.OneVerdict.{one_verdict}
 use Rattle.clus_top.proofs.theorems.one_status_is_due.Goals as goal
 
 pub returns : goal.returns
-returns c words bytes size bs = one_verdict words bytes size bs (c.a_text_says_one_thing.ensures BUILT (lines_of bytes))
+returns c wanted bytes size bs fs found =
+    one_verdict wanted bytes size bs fs (c.a_text_says_one_thing.ensures BUILT (lines_of bytes)) (c.findings_are_one_list.ensures bs) found

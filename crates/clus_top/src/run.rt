@@ -1,20 +1,18 @@
-ghost use Rattle.std.specs.Prelude.{◌≡◌, ◌≤◌, None, IfOk, IfErr, IfSome, length, ℕ, List};
+ghost use Rattle.std.specs.Prelude.{◌≡◌, ◌≤◌, IfOk, IfErr, IfSome, length};
 ghost use Rattle.vol_words.specs.Faults.{Rose};
 ghost use Rattle.blk_drive.specs.Images.{IsInside};
-ghost use Rattle.plain_cat.specs.declared.entries.DirEnt.{DirEnt};
-ghost use Rattle.clus_top.specs.Volumes.{main_entries};
 ghost use Rattle.clus_top.specs.Runs.{AreLookUps};
-ghost use Rattle.clus_top.specs.Statuses.{Passes, IsReportOn};
-ghost use Rattle.clus_top.specs.Jobs.{SpellsWithin, IsScriptEnd, IsVolumeEnd, IsReportIn, IsJobEnd, load_status};
+ghost use Rattle.clus_top.specs.Statuses.{IsGood, IsAccepted, IsReportOn};
+ghost use Rattle.clus_top.specs.Ends.{SpellsWithin, IsScriptEnd, IsVolumeEnd, IsReportIn, IsRunEnd, load_status};
 
 use crate::report::report;
 use crate::status::Status;
-use crate::volume::main_entries;
 use blk_drive::{ImageDev, LoadFault, LoadRefused, Mirror};
 use fx_text::{TextFault, TextIn, read_all};
 use plain_cat::Script;
 use run_script::{ScriptFault, read_script};
 use std::alloc::Global;
+use vol_analyze::accepted;
 use vol_words::Block;
 
 /// The greatest number of bytes of a script.
@@ -47,25 +45,25 @@ fn report_on(alloc: Global, script: &Script, bs: &[Block]) -> Result<Vec<u8>, St
     ensures report { IfOk result (λ text. IsReportIn script.now bs.now text.items) }
     ensures end { IfErr result (IsVolumeEnd bs.now) }
 {
-    match main_entries(alloc, bs) {
+    match accepted(alloc, bs) {
         Err(_) => Err(Status::NoMemory),
-        Ok(None) => Err(Status::NotAccepted),
-        Ok(Some(directory)) => match report(alloc, script, &directory) {
+        Ok(Err(found)) => Err(Status::NotAccepted(found)),
+        Ok(Ok(opening)) => match report(alloc, script, &opening) {
             Ok(text) => Ok(text),
             Err(_) => Err(Status::NoMemory),
         },
     }
 }
 
-/// The end of a job: the text of status 0 or another status, and the image.
+/// The end of a run: the text of status 0 or another status, and the image.
 #[derive(Drop)]
-pub struct Job<I: ImageDev> {
+pub struct Ran<I: ImageDev> {
     pub outcome: Result<Vec<u8>, Status>,
     pub image: I,
 }
 
-// Why an image was not loaded.
-fn load_status(fault: LoadFault) -> Status
+/// Why an image was not loaded.
+pub fn load_status(fault: LoadFault) -> Status
     ensures { result ≡ load_status fault }
 {
     match fault {
@@ -76,17 +74,17 @@ fn load_status(fault: LoadFault) -> Status
 }
 
 /// Runs the script on the image.
-pub fn run_job<I: ImageDev, T: TextIn>(alloc: Global, image: I, script: &mut T) -> Job<I>
-    ensures report { IfOk result.outcome (λ text. Passes (T.left script.old) (I.size image) (I.told image)
-        × IsReportOn (T.left script.old) (I.told image) text.items) }
-    ensures end { IfErr result.outcome (IsJobEnd (T.left script.old) (I.size image) (I.told image)
+pub fn run_script<I: ImageDev, T: TextIn>(alloc: Global, image: I, script: &mut T) -> Ran<I>
+    ensures passed { IfOk result.outcome (λ text. IfSome (T.left script.old) IsGood × IsAccepted (I.size image) (I.told image)) }
+    ensures report { IfOk result.outcome (λ text. IsReportOn (T.left script.old) (I.told image) text.items) }
+    ensures end { IfErr result.outcome (IsRunEnd (T.left script.old) (I.size image) (I.told image)
         (T.faults script.old) (T.faults script.new) (I.faults image) (I.faults result.image)) }
     ensures told { I.told result.image ≡ I.told image }
 {
     let spelt = match script_of(alloc, script) {
         Ok(spelt) => spelt,
         Err(status) => {
-            return Job {
+            return Ran {
                 outcome: Err(status),
                 image,
             };
@@ -95,12 +93,12 @@ pub fn run_job<I: ImageDev, T: TextIn>(alloc: Global, image: I, script: &mut T) 
     match Mirror::load(alloc, image) {
         Ok(mirror) => {
             let outcome = report_on(alloc, &spelt, mirror.all());
-            Job {
+            Ran {
                 outcome,
                 image: mirror.into_image(),
             }
         }
-        Err(LoadRefused { fault, image }) => Job {
+        Err(LoadRefused { fault, image }) => Ran {
             outcome: Err(load_status(fault)),
             image,
         },

@@ -1,0 +1,104 @@
+-- How the steps of a job end.
+use Rattle.std.specs.Prelude.{◌≡◌, ◌≤◌, ℕ, List, [], ◌∷◌, Option, Some, Result, Ok, Err, IfSome, length}
+use Rattle.vol_words.specs.Fields.{Block}
+use Rattle.vol_words.specs.Faults.{Rose}
+use Rattle.blk_drive.specs.Images.{IsInside, IsOutside}
+use Rattle.blk_drive.specs.declared.mirror.LoadFault.{LoadFault}
+use Rattle.blk_drive.specs.declared.mirror.LoadFault.TheVariants as load
+use Rattle.plain_cat.specs.declared.cat.Cat.{Cat}
+use Rattle.plain_cat.specs.declared.script.Script.{Script}
+use Rattle.vol_parts.specs.declared.finding.Finding.{Finding}
+use Rattle.vol_parts.specs.Findings.{AreFindings, Accepts, CatOf}
+use Rattle.run_script.specs.declared.built.TheConstants.{BUILT}
+use Rattle.run_script.specs.Lines.{lines_of}
+use Rattle.run_script.specs.Spelling.{SpellsScript}
+use Rattle.vol_analyze.specs.Judging.{IsFirstFound}
+use Rattle.clus_top.specs.declared.status.Status.{Status}
+use Rattle.clus_top.specs.declared.status.Status.TheVariants as status
+use Rattle.clus_top.specs.Runs.{report_text, history_of}
+use Rattle.vol_init.specs.declared.fault.InitFault.{InitFault}
+use Rattle.vol_init.specs.declared.fault.InitFault.TheVariants as fault
+use Rattle.vol_init.specs.Refusals.{refusal}
+use Rattle.clus_top.specs.Statuses.{IsTooLong, IsBad, IsOverfull, IsGood, sized}
+
+-- a text within its limit spells this script
+pub record SpellsWithin (script : Script) (bytes : List ℕ) : Type 0 where
+  pub within : length bytes ≤ 1048576
+  pub spelt : SpellsScript BUILT (lines_of bytes) script
+
+-- why a text gave no script
+abbrev pub IsScriptEnd : Option (List ℕ) → ℕ → ℕ → Status → Type 0
+IsScriptEnd left before now status.ScriptFault = Rose before now
+IsScriptEnd left before now status.ScriptTooLong = IfSome left IsTooLong
+IsScriptEnd left before now (status.BadScript n) = IfSome left (IsBad n)
+IsScriptEnd left before now status.TooMany = IfSome left IsOverfull
+IsScriptEnd left before now status.NoMemory = Unit {0}
+IsScriptEnd left before now s = ⊥
+
+-- why the blocks of a volume gave no report
+abbrev pub IsVolumeEnd : List Block → Status → Type 0
+IsVolumeEnd bs (status.NotAccepted f) = IsFirstFound bs f
+IsVolumeEnd bs status.NoMemory = Unit {0}
+IsVolumeEnd bs s = ⊥
+
+-- the report of a script on the catalogue that blocks tell, in which nothing is found
+pub record IsReportIn (script : Script) (bs : List Block) (text : List ℕ) : Type 0 where
+  pub opening : Cat
+  pub accepted : Accepts bs
+  pub told : CatOf bs opening
+  pub written : text ≡ report_text (history_of opening script.lines) opening
+
+-- the status of a load
+abbrev pub load_status : LoadFault → Status
+load_status load.ImageFault = status.ImageFault
+load_status (load.BadSize n) = status.BadSize n
+load_status load.NoMemory = status.NoMemory
+
+-- why a run gave no report: of the script, of the load, or of the blocks
+abbrev pub IsRunEnd : Option (List ℕ) → ℕ → Option (List Block) → ℕ → ℕ → ℕ → ℕ → Status → Type 0
+IsRunEnd left size told read reading had has status.ScriptFault = Rose read reading
+IsRunEnd left size told read reading had has status.ScriptTooLong = IfSome left IsTooLong
+IsRunEnd left size told read reading had has (status.BadScript n) = IfSome left (IsBad n)
+IsRunEnd left size told read reading had has status.TooMany = IfSome left IsOverfull
+IsRunEnd left size told read reading had has status.ImageFault = IfSome left IsGood × Rose had has
+IsRunEnd left size told read reading had has (status.BadSize n) = IfSome left IsGood × (n ≡ size) × IsOutside size
+IsRunEnd left size told read reading had has (status.NotAccepted f) = IfSome left IsGood × IsInside size × IfSome told (λ bs. IsFirstFound bs f)
+IsRunEnd left size told read reading had has status.NoMemory = Unit {0}
+IsRunEnd left size told read reading had has s = ⊥
+
+-- these are the findings of the blocks
+abbrev pub AreFoundIn : List Finding → List Block → Type 0
+AreFoundIn fs bs = AreFindings bs fs
+
+-- the status after findings are told
+abbrev pub IsFoundEnd : List Finding → Status → Type 0
+IsFoundEnd [] status.Ok = Unit {0}
+IsFoundEnd [] status.OutFault = Unit {0}
+IsFoundEnd [] s = ⊥
+IsFoundEnd (f ∷ fs) status.Findings = Unit {0}
+IsFoundEnd (f ∷ fs) status.NoMemory = Unit {0}
+IsFoundEnd (f ∷ fs) s = ⊥
+
+-- why an image gave no findings
+abbrev pub IsLoadEnd : ℕ → ℕ → ℕ → Status → Type 0
+IsLoadEnd size had has status.ImageFault = Rose had has
+IsLoadEnd size had has (status.BadSize n) = (n ≡ size) × IsOutside size
+IsLoadEnd size had has status.NoMemory = Unit {0}
+IsLoadEnd size had has s = ⊥
+
+-- the status of a format that failed
+abbrev pub init_status : InitFault → Status
+init_status fault.ImageFault = status.ImageFault
+init_status fault.NoMemory = status.NoMemory
+init_status fault.BadCluster = status.BadInit fault.BadCluster
+init_status fault.BadFiles = status.BadInit fault.BadFiles
+init_status fault.BadLabel = status.BadInit fault.BadLabel
+init_status fault.TooSmall = status.BadInit fault.TooSmall
+
+-- why an image was not formatted
+abbrev pub IsInitEnd : ℕ → ℕ → List ℕ → ℕ → ℕ → ℕ → Status → Type 0
+IsInitEnd cluster files label size had has status.ImageFault = Rose had has
+IsInitEnd cluster files label size had has (status.BadSize n) = (n ≡ size) × IsOutside size
+IsInitEnd cluster files label size had has (status.BadInit f) = IsInside size × (refusal (sized cluster files size) label ≡ Some f)
+IsInitEnd cluster files label size had has status.NoMemory = Unit {0}
+IsInitEnd cluster files label size had has s = ⊥

@@ -1,0 +1,55 @@
+-- What the words of a call ask for.
+use Rattle.std.specs.Prelude.{◌+◌, ◌*◌, ◌-◌, ◌&&◌, nat_le, ℕ, Bool, List, [], ◌∷◌, Option, Some, None, codes, option_map, if◌then◌else◌}
+use Rattle.std.specs.List.{list_all}
+use Rattle.std.specs.Str.{bytes_eq}
+use Rattle.clus_top.specs.declared.words.Job.{Job}
+use Rattle.clus_top.specs.declared.words.Job.TheVariants as job
+
+-- a job: run the script, print what is found in the volume, or format the image with these blocks in a cluster, these file
+-- numbers and this label
+pub data Wanted : Type 0 where
+  Run : Wanted
+  Analyze : Wanted
+  Init : ℕ → ℕ → List ℕ → Wanted
+
+abbrev pub wanted : Job → Wanted
+wanted job.Run = Run
+wanted job.Analyze = Analyze
+wanted (job.Init cluster files label) = Init cluster files label.now
+
+-- a decimal digit
+abbrev pub is_digit : ℕ → Bool
+is_digit b = nat_le 48 b && nat_le b 57
+
+-- the number that one to five digits write
+unfoldable pub value_of : List ℕ → Option ℕ
+value_of (a ∷ []) = Some (a - 48)
+value_of (a ∷ b ∷ []) = Some (10 * (a - 48) + (b - 48))
+value_of (a ∷ b ∷ c ∷ []) = Some (100 * (a - 48) + 10 * (b - 48) + (c - 48))
+value_of (a ∷ b ∷ c ∷ d ∷ []) = Some (1000 * (a - 48) + 100 * (b - 48) + 10 * (c - 48) + (d - 48))
+value_of (a ∷ b ∷ c ∷ d ∷ e ∷ []) = Some (10000 * (a - 48) + 1000 * (b - 48) + 100 * (c - 48) + 10 * (d - 48) + (e - 48))
+value_of word = None
+
+-- the number that a word is, leading zeros allowed
+unfoldable pub number : List ℕ → Option ℕ
+number word = if list_all is_digit word then value_of word else None
+
+-- a job of one word
+unfoldable pub named : List ℕ → Option Wanted
+named word = if bytes_eq word (codes "run") then Some Run else if bytes_eq word (codes "analyze") then Some Analyze else None
+
+abbrev pub init_with : Option ℕ → Option ℕ → List ℕ → Option Wanted
+init_with (Some cluster) (Some files) label = Some (Init cluster files label)
+init_with None files label = None
+init_with (Some cluster) None label = None
+
+-- the words of a format
+unfoldable pub formatted : List ℕ → List ℕ → List ℕ → List ℕ → Option Wanted
+formatted word cluster files label =
+    if bytes_eq word (codes "init") then init_with (number cluster) (number files) label else None
+
+-- what the words ask for, or none where they have no reading
+unfoldable pub wanted_by : List (List ℕ) → Option Wanted
+wanted_by (word ∷ []) = named word
+wanted_by (word ∷ cluster ∷ files ∷ label ∷ []) = formatted word cluster files label
+wanted_by words = None

@@ -1,0 +1,122 @@
+ghost use Rattle.std.specs.Prelude.{◌≡◌, ◌-◌, ◌≤◌, option_map};
+ghost use Rattle.std.specs.List.{list_all};
+ghost use Rattle.clus_top.specs.Words.{wanted, is_digit, value_of, number, named, formatted, wanted_by};
+
+use fx_text::Word;
+
+/// What the words of a call ask for.
+#[derive(Clone, Copy, Debug)]
+pub enum Job<'a> {
+    /// `run`: run the script.
+    Run,
+
+    /// `analyze`: print the findings.
+    Analyze,
+
+    /// `init CLUSTER FILES LABEL`: format the image.
+    Init {
+        cluster: u32,
+        files: u32,
+        label: &'a [u8],
+    },
+}
+
+fn is_digit(b: u8) -> bool
+    ensures { result ≡ is_digit b }
+{
+    48 <= b && b <= 57
+}
+
+fn are_digits(word: &[u8]) -> bool
+    ensures { result ≡ list_all is_digit word.now }
+{
+    word.iter().all(|b| is_digit(*b))
+}
+
+// What a digit stands for.
+fn digit(b: u8) -> u32
+    ensures value { result ≡ b - 48 }
+    ensures bound { result ≤ 207 }
+{
+    u32::from(b.saturating_sub(48))
+}
+
+// The number that one to five digits write.
+#[tactic(auto, unfolding(crate::specs::Words::value_of))]
+fn value_of(word: &[u8]) -> Option<u32>
+    ensures { result ≡ value_of word.now }
+{
+    match word {
+        [a] => Some(digit(*a)),
+        [a, b] => Some(10 * digit(*a) + digit(*b)),
+        [a, b, c] => Some(100 * digit(*a) + 10 * digit(*b) + digit(*c)),
+        [a, b, c, d] => Some(1000 * digit(*a) + 100 * digit(*b) + 10 * digit(*c) + digit(*d)),
+        [a, b, c, d, e] => Some(
+            10_000 * digit(*a) + 1000 * digit(*b) + 100 * digit(*c) + 10 * digit(*d) + digit(*e),
+        ),
+        _ => None,
+    }
+}
+
+// The number that a word is.
+#[tactic(auto, unfolding(crate::specs::Words::number))]
+fn number(word: &[u8]) -> Option<u32>
+    ensures { result ≡ number word.now }
+{
+    if are_digits(word) {
+        value_of(word)
+    } else {
+        None
+    }
+}
+
+// The job of one word.
+#[tactic(auto, unfolding(crate::specs::Words::named))]
+fn named(word: &[u8]) -> Option<Job<'_>>
+    ensures { option_map wanted result ≡ named word.now }
+{
+    if word == b"run".as_slice() {
+        return Some(Job::Run);
+    }
+    if word == b"analyze".as_slice() {
+        return Some(Job::Analyze);
+    }
+    None
+}
+
+// The format that four words ask for.
+#[tactic(auto, unfolding(crate::specs::Words::formatted))]
+fn formatted<'a>(
+    word: &[u8],
+    cluster: &[u8],
+    files: &[u8],
+    label: &'a [u8],
+) -> Option<Job<'a>>
+    ensures { option_map wanted result ≡ formatted word.now cluster.now files.now label.now }
+{
+    if word != b"init".as_slice() {
+        return None;
+    }
+    Some(Job::Init {
+        cluster: number(cluster)?,
+        files: number(files)?,
+        label,
+    })
+}
+
+/// The job that the words ask for, or none where they have no reading.
+#[tactic(auto, unfolding(crate::specs::Words::wanted_by))]
+pub fn job_of(words: &[Word]) -> Option<Job<'_>>
+    ensures { option_map wanted result ≡ wanted_by words.now }
+{
+    match words {
+        [word] => named(word.bytes()),
+        [word, cluster, files, label] => formatted(
+            word.bytes(),
+            cluster.bytes(),
+            files.bytes(),
+            label.bytes(),
+        ),
+        _ => None,
+    }
+}
