@@ -1,0 +1,4 @@
+pub mod Rows
+pub mod Needs
+pub mod Fits
+pub mod Laws

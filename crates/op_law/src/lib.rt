@@ -1,0 +1,14 @@
+//! What a command needs next, by what it has seen: a lock, a block, clusters and a file number, or nothing more, and then its
+//! plan. And the trait of an operation, which works that out.
+#![tactic(auto)]
+
+mod lists;
+mod need;
+mod operation;
+mod seen;
+
+pub use lists::{SeenBlocks, SeenLocks, Writes};
+pub use need::{Ask, Need, Plan, PlanWrite};
+pub use operation::Operation;
+pub use plain_cat::NoMemory;
+pub use seen::{Chan, Seen};
