@@ -9,10 +9,13 @@ use Rattle.vol_words.specs.Tables.{zeros}
 use Rattle.blk_drive.specs.Images.{told_set}
 use Rattle.fx_home.specs.declared.home.Home.{Home}
 use Rattle.fx_home.specs.Homes.{home_read}
-use Rattle.vol_parts.specs.Findings.{home_at}
+use Rattle.vol_parts.specs.Findings.{home_at, Accepts, CatOf}
 use Rattle.vol_parts.specs.Volumes.{volume}
 use Rattle.vol_fresh.specs.declared.layout.Layout.{Layout}
+use Rattle.vol_fresh.specs.Layouts.{fresh as fresh_of}
 use Rattle.vol_fresh.specs.Fresh.{layout_of}
+use Rattle.vol_fresh.proofs.Accepted.{accepts_fresh, tells_fresh}
+use Rattle.vol_init.specs.Refusals.{layout_for, home_of}
 use Rattle.vol_init.specs.declared.part.Part.{Part}
 use Rattle.vol_init.specs.declared.plan.Plan.{Plan}
 use Rattle.vol_init.specs.Parts.{block_in, part_of, Says}
@@ -81,6 +84,17 @@ made p old cleared put b plan size some c w low count reads =
           (let none : part_of p.layout lbn ≡ None = ap (λ k. part_of k lbn) (sym layout) ∙ e in
           get_or-set_other put 1 lbn b [] ne ∙ stays p old cleared put lbn c w low ne none);
     }
+
+-- ---- what is read of a volume that is made
+
+pub made-accepts : (h : Home) (old new : List Block) → IsMade h old new → Accepts new
+made-accepts h old new m = accepts_fresh new h m.home m.fresh
+
+pub made-tells : (cluster files : ℕ) (label : List ℕ) (old new : List Block) → IsMade (home_of cluster files label) old new
+    → CatOf new (fresh_of (layout_for cluster files old))
+made-tells cluster files label old new m =
+    let P : ℕ → Type 0 = λ n. CatOf new (fresh_of (record { cluster = cluster; files = files; blocks = n })) in
+    subst P m.count (tells_fresh new (home_of cluster files label) m.home m.fresh)
 
 -- ---- the image after a fault
 

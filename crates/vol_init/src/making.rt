@@ -1,6 +1,8 @@
 //! Writing a volume.
 ghost use Rattle.std.specs.Prelude.{◌≡◌, ◌≢◌, ◌<◌, ◌≤◌, ℕ, length, Some, None, Err, IfSome, IfErr, OnOk, OnErr};
 ghost use Rattle.vol_words.specs.Faults.{HasCause};
+ghost use Rattle.vol_parts.specs.Findings.{Accepts, CatOf};
+ghost use Rattle.vol_fresh.specs.Layouts.{fresh};
 ghost use Rattle.vol_init.specs.Refusals.{refusal, layout_for, home_of, HasInitCause};
 ghost use Rattle.vol_init.specs.Parts.{block_in, part_of};
 ghost use Rattle.vol_init.specs.Plans.{IsPlan, IsAt, ArePut, told_at};
@@ -93,6 +95,10 @@ pub fn init<I: ImageDev>(
     // Ok comes with the whole volume, in memory and on the image.
     ensures ok { OnOk result (IsMade (home_of cluster files label.now) m.old.blocks m.new.blocks) }
     ensures image { I.told m.old.image ≡ Some m.old.blocks → OnOk result (I.told m.new.image ≡ Some m.new.blocks) }
+
+    // The volume is accepted, and its catalogue is that of a fresh volume.
+    ensures accepted { OnOk result (Accepts m.new.blocks) }
+    ensures catalogue { OnOk result (CatOf m.new.blocks (fresh (layout_for cluster files m.old.blocks))) }
 
     // After a failed write the image has the old volume, no volume, or the whole new one.
     ensures fault { I.told m.old.image ≡ Some m.old.blocks → result ≡ Err InitFault.ImageFault
