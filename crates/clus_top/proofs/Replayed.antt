@@ -1,7 +1,7 @@
 -- The history of a run replays, and is whole.
 use Rattle.std.proofs.Common.{◌≡◌, ◌∙◌, ◌++◌, ℕ, Bool, true, false, List, [], ◌∷◌, Option, Some, None, map, length, slice_get, refl, sym, ap, subst, arith, append_assoc}
 use Rattle.std.specs.Prelude.{if◌then◌else◌}
-use Rattle.std.specs.List.{list_all}
+use Rattle.std.specs.List.{list_all, list_any}
 use Rattle.std.proofs.lemmas.Bool.{false≢true, and_parts}
 use Rattle.std.proofs.lemmas.List.{map-append}
 use Rattle.std.proofs.lemmas.List.Folds.{list_all-append}
@@ -18,10 +18,10 @@ use Rattle.plain_cat.specs.declared.script.Line.{Line}
 use Rattle.plain_cat.specs.declared.script.Script.{Script}
 use Rattle.plain_vol.specs.Lookups.{versions, entry_of, found, live}
 use Rattle.plain_vol.specs.Answers.{told, refused, in_directory_file, outcome, lookup_outcome, Answer}
-use Rattle.plain_vol.specs.Own.{newborn, filled, past, lines_of, close_from, or_close, next_command, OwnFrom, Whole}
+use Rattle.plain_vol.specs.Own.{newborn, filled, past, lines_of, close_from, or_close, next_command, OwnFrom, Whole, Killed}
 use Rattle.plain_vol.specs.Replaying.{ReplaysFrom, Replays}
 use Rattle.plain_vol.proofs.LawSteps.{pick_exists}
-use Rattle.clus_top.specs.Runs.{is_main_lookup, is_look_up, AreLookUps, reply_to, answer_to, history_of}
+use Rattle.clus_top.specs.Runs.{is_mending, is_main_lookup, is_look_up, AreLookUps, reply_to, answer_to, history_of}
 use Rattle.clus_top.proofs.Answered.{unregistered, IsLater, answered, next_line}
 
 -- a look-up leaves the catalogue
@@ -99,3 +99,20 @@ no_more s o node ok =
 
 pub whole : (s : Script) (o : Cat) → AreLookUps s.lines → Whole s (history_of o s.lines)
 whole s o ok = (own_from s o [] s.lines refl refl ok, λ node lives. no_more s o node ok)
+
+-- nobody dies
+answers_kill : (s : Script) (o : Cat) (ls : List Line) → Killed s (map (answer_to o) ls)
+answers_kill s o [] = tt
+answers_kill s o (l ∷ ls) = (tt, answers_kill s o ls)
+
+pub killed : (s : Script) (o : Cat) → Killed s (history_of o s.lines)
+killed s o = answers_kill s o s.lines
+
+-- and nothing is mended
+answers_mend : (o : Cat) (ls : List Line) → list_any is_mending (map (answer_to o) ls) ≡ false
+unfolding is_mending
+answers_mend o [] = refl
+answers_mend o (l ∷ ls) = answers_mend o ls
+
+pub unmended : (s : Script) (o : Cat) → list_any is_mending (history_of o s.lines) ≡ false
+unmended s o = answers_mend o s.lines

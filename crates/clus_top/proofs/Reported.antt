@@ -10,7 +10,7 @@ use Rattle.clus_top.specs.declared.status.Status.TheVariants as status
 use Rattle.clus_top.specs.Runs.{IsReport, AreLookUps, history_of}
 use Rattle.clus_top.specs.Statuses.{IsGood, IsReportOn}
 use Rattle.clus_top.specs.Ends.{SpellsWithin, IsVolumeEnd, IsReportIn, IsRunEnd}
-use Rattle.clus_top.proofs.Replayed.{replays, whole}
+use Rattle.clus_top.proofs.Replayed.{replays, whole, killed, unmended}
 
 -- a text that spells a script is good
 pub good : (left : Option (List ℕ)) (script : Script) → IfSome left (SpellsWithin script) → IfSome left IsGood
@@ -39,6 +39,8 @@ reported bytes bs script text spelt run h = record {
   told = h.told;
   replayed = replays script h.opening run;
   whole = whole script h.opening run;
+  killed = killed script h.opening;
+  unmended = unmended script h.opening;
   written = h.written;
 }
 

@@ -1,4 +1,4 @@
--- The commands of a script that is read are look-ups in the main directory.
+-- The commands of a script that is read are look-ups in the master file directory.
 use Rattle.std.proofs.Common.{◌≡◌, ℕ, Bool, true, List, [], ◌∷◌, Option, Some, None, refl, ap, subst, inl, inr}
 use Rattle.std.proofs.lemmas.Bool.{false≢true}
 use Rattle.std.proofs.lemmas.List.Folds.{list_all-append}
@@ -14,7 +14,7 @@ use Rattle.run_script.specs.Grammar.{IsItemText, IsLineText}
 use Rattle.run_script.specs.Spelling.{with_item, Leads, SpellsScript}
 use Rattle.clus_top.specs.Runs.{is_main_lookup, is_look_up, AreLookUps}
 
--- what is built are look-ups in the main directory
+-- what is built are look-ups in the master file directory
 built : (cmd : LineCmd) → is_built BUILT cmd ≡ true → is_main_lookup cmd ≡ true
 built (line.Lookup reg dir name ver) h = h
 built cmd h = absurd (false≢true h)

@@ -1,6 +1,6 @@
--- What a run of a script answers on a volume, as far as the program goes so far: nodes look up in the main directory.
+-- What a run of a script answers on a volume, as far as the program goes so far: nodes look up in the master file directory.
 use Rattle.std.specs.Prelude.{◌≡◌, ◌++◌, ℕ, Bool, true, false, count_by, map, List, [], None, codes, decimal}
-use Rattle.std.specs.List.{list_all}
+use Rattle.std.specs.List.{list_all, list_any}
 use Rattle.vol_words.specs.Fields.{Block}
 use Rattle.plain_cat.specs.declared.reply.Reply.{Reply}
 use Rattle.plain_cat.specs.declared.script.LineCmd.{LineCmd}
@@ -12,7 +12,7 @@ use Rattle.plain_cat.specs.declared.history.Entry.TheVariants.{Done, Died, Mende
 use Rattle.plain_cat.specs.declared.cat.Cat.{Cat}
 use Rattle.plain_vol.specs.Lookups.{found, free_clusters}
 use Rattle.plain_vol.specs.Answers.{lookup_outcome}
-use Rattle.plain_vol.specs.Own.{resolved, filled, Whole}
+use Rattle.plain_vol.specs.Own.{resolved, filled, Whole, Killed}
 use Rattle.plain_vol.specs.Replaying.{Replays}
 use Rattle.vol_parts.specs.Findings.{Accepts, CatOf}
 use Rattle.vol_texts.specs.Reports.{lines_text, newline}
@@ -21,18 +21,25 @@ use Rattle.run_script.specs.Lines.{lines_of}
 use Rattle.run_script.specs.Table.{is_main_ref}
 use Rattle.run_script.specs.Spelling.{SpellsScript}
 
--- an entry is an answer, or a death
+-- an entry is an answer
 unfoldable pub is_answer : Entry → Bool
 is_answer (Done n c r) = true
 is_answer (Died n st k ns) = false
 is_answer (Mended m) = false
 
+-- an entry is a death
 unfoldable pub is_death : Entry → Bool
 is_death (Done n c r) = false
 is_death (Died n st k ns) = true
 is_death (Mended m) = false
 
--- how many answers and deaths a history has
+-- an entry is a mending
+unfoldable pub is_mending : Entry → Bool
+is_mending (Done n c r) = false
+is_mending (Died n st k ns) = false
+is_mending (Mended m) = true
+
+-- the first words of the last line: how many answers and deaths a history has
 unfoldable pub counts_text : ℕ → ℕ → List ℕ
 counts_text answered died = codes "end: " ++ (decimal answered ++ (codes " answered, " ++ (decimal died ++ codes " died, ")))
 
@@ -44,8 +51,9 @@ closing_text answered died free = counts_text answered died ++ (decimal free ++ 
 abbrev pub report_text : List Entry → Cat → List ℕ
 report_text h c = lines_text h ++ closing_text (count_by is_answer h) (count_by is_death h) (free_clusters c)
 
--- The text is the report of a history in which each node of the script gives each of its commands once and in order, and
--- which replays on one uncached volume: it begins with the catalogue that the blocks tell, in which nothing is found.
+-- The text is the report of a history in which each node of the script gives each of its commands once and in order, nodes die
+-- only where the script kills them, and nothing is mended; and which replays on one uncached volume: it begins with the
+-- catalogue that the blocks tell, in which nothing is found.
 pub record IsReport (bytes : List ℕ) (bs : List Block) (text : List ℕ) : Type 0 where
   pub script : Script
   pub opening : Cat
@@ -56,9 +64,11 @@ pub record IsReport (bytes : List ℕ) (bs : List Block) (text : List ℕ) : Typ
   pub told : CatOf bs opening
   pub replayed : Replays opening script history after
   pub whole : Whole script history
+  pub killed : Killed script history
+  pub unmended : list_any is_mending history ≡ false
   pub written : text ≡ report_text history after
 
--- a command is a look-up in the main directory
+-- a command is a look-up in the master file directory
 abbrev pub is_main_lookup : LineCmd → Bool
 is_main_lookup (line.Lookup reg dir name ver) = is_main_ref dir
 is_main_lookup cmd = false

@@ -153,8 +153,8 @@ IsWordsDue status.BadWords = Unit {0}
 IsWordsDue status.NoMemory = Unit {0}
 IsWordsDue s = ⊥
 
--- What a status says of the job, of the script, of the image's size and of its blocks, each where it is told. The conditions
--- exclude one another.
+-- What a status says of the job, of the script, of the image's size and of its blocks, each where it is told. The conditions of
+-- the statuses that are no fault and no want of memory exclude one another.
 abbrev pub IsDue : Option Wanted → Option (List ℕ) → ℕ → Option (List Block) → Status → Type 0
 IsDue None left size told s = IsWordsDue s
 IsDue (Some Run) left size told s = IsRunDue left size told s
@@ -192,10 +192,11 @@ IsTextOf (Some Run) left size told text = IsReportOn left told text
 IsTextOf (Some Analyze) left size told text = text ≡ accepted_text
 IsTextOf (Some (Init cluster files label)) left size told text = text ≡ made_text label (sized cluster files size)
 
--- one line for each finding
+-- the line of a finding
 abbrev pub finding_line : Finding → List ℕ
 finding_line f = finding_text f ++ newline
 
+-- one line for each finding
 abbrev pub findings_text : List Finding → List ℕ
 findings_text fs = flat_map finding_line fs
 

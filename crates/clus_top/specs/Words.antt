@@ -12,6 +12,7 @@ pub data Wanted : Type 0 where
   Analyze : Wanted
   Init : ℕ → ℕ → List ℕ → Wanted
 
+-- what a job of the program is
 abbrev pub wanted : Job → Wanted
 wanted job.Run = Run
 wanted job.Analyze = Analyze
@@ -38,6 +39,7 @@ number word = if list_all is_digit word then value_of word else None
 unfoldable pub named : List ℕ → Option Wanted
 named word = if bytes_eq word (codes "run") then Some Run else if bytes_eq word (codes "analyze") then Some Analyze else None
 
+-- a format, where its two numbers are numbers
 abbrev pub init_with : Option ℕ → Option ℕ → List ℕ → Option Wanted
 init_with (Some cluster) (Some files) label = Some (Init cluster files label)
 init_with None files label = None

@@ -18,7 +18,7 @@ fn reply_to(alloc: Global, cat: &Cat, dir: Fid, name: &Name, ver: u16) -> Result
     }
 }
 
-// The answer to a line that looks up in the main directory.
+// The answer to a line that looks up in the master file directory.
 #[tactic(auto, unfolding(plain_vol::specs::Own::filled))]
 fn answer_to(alloc: Global, line: &Line, cat: &Cat) -> Result<Entry, NoMemory>
     requires { is_look_up line.now ≡ true }

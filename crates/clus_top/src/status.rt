@@ -12,7 +12,7 @@ pub enum Status {
     /// The words have no reading.
     BadWords,
 
-    /// A read of the script failed.
+    /// A read of the script failed, and the source has counted it.
     ScriptFault,
 
     /// The script has more than 1,048,576 bytes.
@@ -24,7 +24,7 @@ pub enum Status {
     /// Before any bad line the script has more than 4,096 commands or 65,536 plays.
     TooMany,
 
-    /// A call of the image failed.
+    /// A call of the image failed, and the image has counted it.
     ImageFault,
 
     /// The image has so many blocks, and a volume has 64 to 65,536.
@@ -33,24 +33,24 @@ pub enum Status {
     /// The volume is not accepted: this is found first.
     NotAccepted(Finding),
 
-    /// The findings of the volume were printed.
+    /// Something is found in the volume. The findings are the text, which a failing sink cuts short.
     Findings,
 
-    /// A write of the text of status 0 failed.
+    /// A write of the text of status 0 failed, and the sink has counted it.
     OutFault,
 
     /// Memory ran out.
     NoMemory,
 
-    /// The image was not formatted: the cluster factor, the file numbers or the label are outside their limits, or the image is
-    /// too small.
+    /// The image was not formatted, by one of the first four refusals: the cluster factor, the file numbers or the label are
+    /// outside their limits, or the image is too small.
     BadInit(InitFault),
 }
 
 impl Status {
     ghost use Rattle.clus_top.specs.Statuses.{status_code};
 
-    /// The number with which the program ends.
+    /// The number with which the program ends: 0 to 7, or 9.
     pub fn code(&self) -> u8
         ensures { result ≡ status_code self.now }
     {

@@ -53,21 +53,12 @@ fn zeros(alloc: Global, count: usize) -> Result<MemImage, NoMemory> {
     if count > 100_000 {
         return Err(AllocError);
     }
-    Ok(MemImage::new(
-        vec![in alloc; [0; 512]; count]?,
-        Vec::new(alloc),
-    ))
+    Ok(MemImage::new(vec![in alloc; [0; 512]; count]?, Vec::new(alloc)))
 }
 
 // The volume of 1,024 blocks with clusters of 4 and 64 file numbers.
 fn volume(alloc: Global) -> Result<MemImage, NoMemory> {
-    Ok(call(
-        alloc,
-        &["init", "4", "64", "KVOL"],
-        zeros(alloc, 1024)?,
-        "",
-    )?
-    .image)
+    Ok(call(alloc, &["init", "4", "64", "KVOL"], zeros(alloc, 1024)?, "")?.image)
 }
 
 // The image with one byte changed.
@@ -133,11 +124,7 @@ fn runs_scripts_of_look_ups(rt: HostRuntime) -> Result<(), Fail> {
             0,
             "1 N1 LOOKUP R1 (4,4,0) QUOTA.SYS;0 = (10,1,0) QUOTA.SYS;1\nend: 1 answered, 0 died, 231 free\n",
         ),
-        (
-            "NODES 8\n",
-            0,
-            "end: 0 answered, 0 died, 231 free\n",
-        ),
+        ("NODES 8\n", 0, "end: 0 answered, 0 died, 231 free\n"),
         ("", 3, "bad line 1\n"),
         ("# nothing\n", 3, "bad line 2\n"),
         ("NODES 9\n", 3, "bad line 1\n"),
@@ -145,6 +132,7 @@ fn runs_scripts_of_look_ups(rt: HostRuntime) -> Result<(), Fail> {
         ("NODES 1\n2 LOOKUP R1 MFD A.B;1\n", 3, "bad line 2\n"),
         ("NODES 1\n1 LOOKUP R1 MFD A.B;01\n", 3, "bad line 2\n"),
         ("NODES 1\n1 LIST MFD\n", 3, "bad line 2\n"),
+        ("NODES 1\n1 CREATE R1 MFD\n", 3, "bad line 2\n"),
         ("NODES 1\n1 LOOKUP R1 LOST A.B;1\n", 3, "bad line 2\n"),
         ("NODES 1\nKILL 1 TURN 1\n", 3, "bad line 2\n"),
         ("NODES 1\nSCHED 1*65536 1\nbad\n", 3, "too many\n"),
@@ -172,6 +160,15 @@ const fn spoilt(lbn: u32, at: usize, byte: u8, text: &'static str) -> Edit {
     }
 }
 
+// Whether a run was refused by this finding, byte for byte.
+fn is_refused(called: &Called, text: &str) -> bool {
+    let bytes = called.out.bytes();
+    called.code == 5
+        && bytes.len() == 14 + text.len()
+        && bytes.starts_with(b"not accepted: ")
+        && bytes.ends_with(text.as_bytes())
+}
+
 // The first edit whose finding is another.
 fn wrong_edit(alloc: Global, edits: &[Edit]) -> Result<Option<&'static str>, NoMemory> {
     for e in edits {
@@ -181,11 +178,7 @@ fn wrong_edit(alloc: Global, edits: &[Edit]) -> Result<Option<&'static str>, NoM
             return Ok(Some(e.text));
         }
         let refused = call(alloc, &["run"], found.image, "NODES 1\n")?;
-        let text = refused.out.bytes();
-        if refused.code != 5
-            || !text.starts_with(b"not accepted: ")
-            || !text.ends_with(e.text.as_bytes())
-        {
+        if !is_refused(&refused, e.text) {
             return Ok(Some(e.text));
         }
     }
@@ -222,6 +215,8 @@ fn a_system_file_without_its_header_is_found(rt: HostRuntime) -> Result<(), Fail
     assert!(rt; image.write_block(27, &[0; 512]).is_ok());
     let found = call(alloc, &["analyze"], image, "")?;
     assert!(rt; found.out.bytes() == b"system file 11\n".as_slice());
+    let refused = call(alloc, &["run"], found.image, "NODES 1\n")?;
+    assert!(rt; is_refused(&refused, "system file 11\n"));
     Ok(())
 }
 
@@ -229,14 +224,12 @@ fn a_system_file_without_its_header_is_found(rt: HostRuntime) -> Result<(), Fail
 #[test]
 fn prints_findings_in_their_order(rt: HostRuntime) -> Result<(), Fail> {
     let alloc = rt.alloc();
-    let both = with_byte(
-        with_byte(volume(alloc)?, 96, 8, 0x70)?,
-        85,
-        4,
-        0xfe,
-    )?;
+    let both = with_byte(with_byte(volume(alloc)?, 96, 8, 0x70)?, 85, 4, 0xfe)?;
     let found = call(alloc, &["analyze"], both, "")?;
-    assert!(rt; found.out.bytes() == b"leaked clusters 1\nusage of [1,1]: has 112, should be 111\n".as_slice());
+    assert!(rt;
+        found.out.bytes()
+            == b"leaked clusters 1\nusage of [1,1]: has 112, should be 111\n".as_slice()
+    );
     let fatal = with_byte(with_byte(found.image, 16, 0, 0xfe)?, 88, 0, 0)?;
     let found = call(alloc, &["analyze"], fatal, "")?;
     assert!(rt; found.out.bytes() == b"directory 4: BadRecord\n".as_slice());
@@ -291,12 +284,7 @@ fn formats_images(rt: HostRuntime) -> Result<(), Fail> {
         asked(["init", "17", "32", "TINY"], 64, 9, "bad cluster\n"),
         asked(["init", "0", "31", "TINY"], 64, 9, "bad cluster\n"),
         asked(["init", "1", "31", "TINY"], 64, 9, "bad files\n"),
-        asked(
-            ["init", "1", "32", "ABCDEFGHIJKLM"],
-            64,
-            9,
-            "bad label\n",
-        ),
+        asked(["init", "1", "32", "ABCDEFGHIJKLM"], 64, 9, "bad label\n"),
         asked(["init", "1", "32", "tiny"], 64, 9, "bad label\n"),
         asked(["init", "1", "32", "TINY"], 63, 4, "bad size 63\n"),
         asked(["init", "000001", "32", "TINY"], 64, 1, "bad words\n"),
@@ -319,7 +307,10 @@ fn a_fresh_volume_is_accepted(rt: HostRuntime) -> Result<(), Fail> {
         zeros(alloc, 65_536)?,
         "",
     )?;
-    assert!(rt; large.out.bytes() == b"volume BIG: 65536 blocks, 3831 free clusters, 4085 free numbers\n".as_slice());
+    assert!(rt;
+        large.out.bytes()
+            == b"volume BIG: 65536 blocks, 3831 free clusters, 4085 free numbers\n".as_slice()
+    );
     let found = call(alloc, &["analyze"], large.image, "")?;
     assert!(rt; found.out.bytes() == b"accepted\n".as_slice());
     Ok(())
@@ -358,7 +349,28 @@ fn sizes_and_noise(rt: HostRuntime) -> Result<(), Fail> {
     let large = call(alloc, &["analyze"], zeros(alloc, 65_537)?, "")?;
     assert!(rt; large.out.bytes() == b"bad size 65537\n".as_slice());
     let late = call(alloc, &["run"], zeros(alloc, 63)?, "NODES 1\n")?;
-    assert_eq!(rt; late.code, 4);
+    assert!(rt; late.code == 4 && late.out.bytes() == b"bad size 63\n".as_slice());
+    Ok(())
+}
+
+// A script that has so many times this line.
+fn repeated(alloc: Global, line: &str, times: usize) -> Result<String, NoMemory> {
+    let mut script = String::from_str(alloc, "NODES 1\n")?;
+    for _i in 0..times {
+        script.push_str(line)?;
+    }
+    Ok(script)
+}
+
+#[test]
+fn refuses_scripts_without_end(rt: HostRuntime) -> Result<(), Fail> {
+    let alloc = rt.alloc();
+    let many = repeated(alloc, "1 LOOKUP R1 MFD A.B;0\n", 4097)?;
+    let called = call(alloc, &["run"], volume(alloc)?, many.as_str())?;
+    assert!(rt; called.code == 3 && called.out.bytes() == b"too many\n".as_slice());
+    let long = repeated(alloc, "# an empty line\n", 65_537)?;
+    let called = call(alloc, &["run"], called.image, long.as_str())?;
+    assert!(rt; called.code == 2 && called.out.bytes() == b"script too long\n".as_slice());
     Ok(())
 }
 
@@ -373,7 +385,12 @@ fn tells_each_fault(rt: HostRuntime) -> Result<(), Fail> {
     assert!(rt; called.code == 6 && called.out.bytes().is_empty());
     let called = call(alloc, &["run", "now"], called.image, "")?;
     assert!(rt; called.code == 1 && called.out.bytes() == b"bad words\n".as_slice());
-    let failing = vec![in alloc; Failing { call: 1, lands: false }]?;
+    let failing = vec![in alloc;
+        Failing {
+            call: 1,
+            lands: false
+        },
+    ]?;
     let image = MemImage::new(Vec::new(alloc), failing);
     let called = call(alloc, &["analyze"], image, "")?;
     assert!(rt; called.code == 4 && called.out.bytes() == b"image fault\n".as_slice());

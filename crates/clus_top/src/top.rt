@@ -21,7 +21,10 @@ use vol_analyze::Finding;
 /// How a call ended, and the image that was handed in.
 #[derive(Drop)]
 pub struct Finished<I: ImageDev> {
+    /// How the call ended.
     pub status: Status,
+
+    /// The image, which comes back with every status.
     pub image: I,
 }
 
@@ -102,11 +105,16 @@ fn init<I: ImageDev, O: TextOut>(
     Finished { status, image }
 }
 
-/// Does the job that the words ask for, and prints its text.
+/// Does the job that the words ask for, prints its text, and gives the image back.
 ///
-/// `run` runs a script on a volume in which nothing is found. So far the commands of a script are look-ups in the main
-/// directory, by any of its nodes; they are answered in the order of their lines, and the schedule has no effect yet. `analyze`
-/// prints what is found in a volume. `init` makes a volume. The call waits for nobody, and always returns.
+/// `run` reads a script of at most 1,048,576 bytes and runs it on a volume in which nothing is found. So far the commands of a
+/// script are look-ups in the master file directory, by any of its nodes; they are answered in the order of their lines, and the
+/// schedule has no effect yet. `analyze` prints what is found in a volume. `init CLUSTER FILES LABEL` makes a volume with 1 to 16
+/// blocks in a cluster, 32 to 4,096 file numbers, and a label of 1 to 12 characters of A to Z, 0 to 9, `$`, `_` and `-`. Other
+/// words are `BadWords`.
+///
+/// What is tested first is told: the words; of a run the script's bytes and then its lines; the image's bytes, and their number;
+/// what the job asks of the volume; and the output last. The call waits for nobody, and always returns.
 pub fn vmsclus<I: ImageDev, T: TextIn, O: TextOut>(
     alloc: Global,
     words: &[Word],
@@ -127,17 +135,20 @@ pub fn vmsclus<I: ImageDev, T: TextIn, O: TextOut>(
     ensures written { Writes (IsTextOf (wanted_by words.now) (T.left script.old) (I.size image) (I.told image)) (I.told image)
         (O.written out.old) (O.written out.new) (O.faults out.old) (O.faults out.new) result.status }
 
-    // Only a format changes the image's blocks: to a new volume, or, where a write failed, to nothing that is taken for one.
+    // Only a format changes the image's blocks: to a new volume. After a fault or want of memory there are the old blocks, or no
+    // home block that is read, or the new volume.
     ensures after { IsImageAfter (wanted_by words.now) (I.told image) (I.told result.image) result.status }
 {
     match job_of(words) {
         Some(Job::Run) => run(alloc, image, script, out),
         Some(Job::Analyze) => analyze(alloc, image, out),
-        Some(Job::Init {
-            cluster,
-            files,
-            label,
-        }) => init(alloc, image, cluster, files, label, out),
+        Some(
+            Job::Init {
+                cluster,
+                files,
+                label,
+            },
+        ) => init(alloc, image, cluster, files, label, out),
         None => Finished {
             status: tell(alloc, out, Status::BadWords),
             image,

@@ -15,8 +15,13 @@ pub enum Job<'a> {
 
     /// `init CLUSTER FILES LABEL`: format the image.
     Init {
+        /// Blocks in a cluster, 0 to 99,999 as it is written.
         cluster: u32,
+
+        /// File numbers, 0 to 99,999 as it is written.
         files: u32,
+
+        /// The label, any bytes.
         label: &'a [u8],
     },
 }
@@ -86,12 +91,7 @@ fn named(word: &[u8]) -> Option<Job<'_>>
 
 // The format that four words ask for.
 #[tactic(auto, unfolding(crate::specs::Words::formatted))]
-fn formatted<'a>(
-    word: &[u8],
-    cluster: &[u8],
-    files: &[u8],
-    label: &'a [u8],
-) -> Option<Job<'a>>
+fn formatted<'a>(word: &[u8], cluster: &[u8], files: &[u8], label: &'a [u8]) -> Option<Job<'a>>
     ensures { option_map wanted result ≡ formatted word.now cluster.now files.now label.now }
 {
     if word != b"init".as_slice() {
