@@ -5,7 +5,7 @@ ghost use Rattle.vol_words.specs.Fields.{Block};
 ghost use Rattle.vol_parts.specs.declared.finding.Finding.{Finding};
 ghost use Rattle.vol_parts.specs.Findings.{AreFindings};
 
-/// Of the blocks of a volume one list is the findings.
+/// No two different lists are the findings of the same blocks.
 pub fn findings_are_one_list()
     ensures { (bs : List Block) (fs gs : List Finding) → AreFindings bs fs → AreFindings bs gs → fs ≡ gs }
 {}

@@ -8,6 +8,7 @@ use Rattle.plain_vol.specs.Lookups.{file_at, in_use}
 use Rattle.plain_vol.specs.Mending.{same_fid, same_place, is_own}
 use Rattle.vol_places.specs.declared.places.Spot.{Spot}
 
+-- the place of an entry
 abbrev pub place_of : Spot → Place
 place_of s = record { dir = s.dir; entry = s.entry.now }
 
@@ -21,6 +22,7 @@ abbrev pub first_in : List Place → ℕ → Option File → Option Place
 first_in ps n None = None
 first_in ps n (Some f) = first_of (record { num = n; seq = f.seq }) ps
 
+-- the place of an entry, where there is one
 abbrev pub place_in : Option Spot → Option Place
 place_in None = None
 place_in (Some s) = Some (place_of s)

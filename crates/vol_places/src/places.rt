@@ -8,10 +8,13 @@ use plain_cat::{Cat, DirEnt, NoMemory};
 use plain_vol::entries_in;
 use std::alloc::Global;
 
-/// An entry where it stands: the number of its directory, and the entry.
+/// An entry where it stands.
 #[derive(Clone, Copy)]
 pub struct Spot<'a> {
+    /// The number of its directory, 1 to 4,096.
     pub dir: u32,
+
+    /// The entry.
     pub entry: &'a DirEnt,
 }
 

@@ -75,12 +75,12 @@ pub fn body_set()
     ensures { BodySet }
 {}
 
-/// A write to a block that a node holds outside changes nothing.
+/// A write to a block that a node holds outside leaves what the blocks spell.
 pub fn outside_write()
     ensures { OutsideWrite }
 {}
 
-/// A write to a quota block changes the rows alone.
+/// A write to a quota block, after which no owner has two rows, changes the rows alone.
 pub fn quota_write()
     ensures { QuotaWrite }
 {}
@@ -95,12 +95,13 @@ pub fn index_write()
     ensures { IndexWrite }
 {}
 
-/// A write to a header changes one slot, and may move clusters and the number between the file and the node that writes.
+/// A write to a header changes one slot, and may move clusters and the number between the file and the node that writes. The file
+/// is none of 1, 2 and 10, and up to 11 it keeps its number of clusters.
 pub fn header_write()
     ensures { HeaderWrite }
 {}
 
-/// A write to a block of a file changes its slot.
+/// A write to a block of a file other than 1, 2 and 10 changes its slot.
 pub fn body_write()
     ensures { BodyWrite }
 {}
