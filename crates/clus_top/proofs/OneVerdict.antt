@@ -14,7 +14,7 @@ use Rattle.vol_init.specs.Refusals.{refusal}
 use Rattle.clus_top.specs.declared.status.Status.{Status}
 use Rattle.clus_top.specs.declared.status.Status.TheVariants as status
 use Rattle.clus_top.specs.Words.{Wanted, Run, Analyze, Init}
-use Rattle.clus_top.specs.Statuses.{IsTooLong, IsBad, IsOverfull, IsGood, IsRunDue, IsAnalysisDue, sized, IsPossible, IsInitDue, IsWordsDue, IsDue}
+use Rattle.clus_top.specs.Statuses.{IsTooLong, IsBad, IsOverfull, IsGood, IsRunDue, IsAnalysisDue, sized, IsPossible, IsInitDue, IsWordsDue}
 use Rattle.clus_top.specs.Verdicts.{is_verdict, HasOneVerdict}
 
 -- a size is inside or outside, and not both

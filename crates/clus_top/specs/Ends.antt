@@ -1,5 +1,5 @@
 -- How the steps of a job end.
-use Rattle.std.specs.Prelude.{◌≡◌, ◌≤◌, ℕ, List, [], ◌∷◌, Option, Some, Result, Ok, Err, IfSome, length}
+use Rattle.std.specs.Prelude.{◌≡◌, ◌≤◌, ℕ, List, [], ◌∷◌, Option, Some, IfSome, length}
 use Rattle.vol_words.specs.Fields.{Block}
 use Rattle.vol_words.specs.Faults.{Rose}
 use Rattle.blk_drive.specs.Images.{IsInside, IsOutside}

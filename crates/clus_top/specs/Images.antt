@@ -1,5 +1,5 @@
 -- What the image has after a job.
-use Rattle.std.specs.Prelude.{◌≡◌, ℕ, List, Option, Some, None, IfSome}
+use Rattle.std.specs.Prelude.{◌≡◌, List, Option, Some, None, IfSome}
 use Rattle.vol_words.specs.Fields.{Block}
 use Rattle.fx_home.specs.declared.home.Home.{Home}
 use Rattle.vol_init.specs.Refusals.{home_of}
