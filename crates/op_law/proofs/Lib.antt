@@ -1,0 +1,5 @@
+pub mod Placing
+pub mod Heads
+pub mod Telling
+pub mod Looks
+pub mod Fitting

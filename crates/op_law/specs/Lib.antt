@@ -1,4 +1,6 @@
 pub mod Rows
+pub mod Readable
+pub mod Behind
 pub mod Needs
 pub mod Fits
 pub mod Laws

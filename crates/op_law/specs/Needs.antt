@@ -15,7 +15,7 @@ use Rattle.plain_vol.specs.Lookups.{versions, entry_of, found}
 use Rattle.vol_parts.specs.Catalogues.{plain_entries}
 use Rattle.op_law.specs.declared.need.Need.{Need}
 use Rattle.op_law.specs.declared.seen.Seen.{Seen}
-use Rattle.op_law.specs.Rows.{answered, refused, in_range, after_lock, after_header, live_in, in_directory}
+use Rattle.op_law.specs.Rows.{answered, refused, live_in, through_header, through_directory}
 
 -- the entries of a directory whose blocks were seen
 abbrev pub entries_seen : List (ℕ × Block) → List DirEnt
@@ -23,9 +23,7 @@ entries_seen seen = plain_entries (directory (map (λ s. s.1) seen))
 
 -- a directory's lock in PR, its header, all of its blocks, and then what its entries answer
 abbrev pub directory_need : Fid → (List DirEnt → Reply) → Seen → Need
-directory_need dir reply seen =
-    in_range seen.geometry dir (after_lock dir PR seen.locks (after_header seen.geometry dir
-    (λ b rest. in_directory dir b (λ all. answered (reply (entries_seen all))) rest (live_in dir.seq b)) seen.blocks))
+directory_need dir reply seen = through_directory seen.geometry dir PR (λ all. answered (reply (entries_seen all))) seen.locks seen.blocks
 
 -- LOOKUP
 unfoldable pub lookup_need : Fid → List ℕ → ℕ → Seen → Need
@@ -45,8 +43,7 @@ facts_need (Some h) = answered (facts_of h)
 
 -- STAT: the file's lock in PR, and its header
 unfoldable pub stat_need : Fid → Seen → Need
-stat_need file seen =
-    in_range seen.geometry file (after_lock file PR seen.locks (after_header seen.geometry file (λ b rest. facts_need (live_in file.seq b)) seen.blocks))
+stat_need file seen = through_header seen.geometry file PR (λ b behind. facts_need (live_in file.seq b)) seen.locks seen.blocks
 
 -- What a command that only looks needs next. It is told of these commands alone.
 unfoldable pub look_need : Cmd → Seen → Option Need

@@ -45,6 +45,10 @@ abbrev pub after_header : Geometry → Fid → (Block → List (ℕ × Block) �
 after_header g fid next [] = need.Block (S fid.num) (header_place g fid.num)
 after_header g fid next (h ∷ seen) = next h.1 seen
 
+-- a file's lock, its header, and what comes next by it and by the blocks seen behind it
+abbrev pub through_header : Geometry → Fid → Mode → (Block → List (ℕ × Block) → Need) → List (LockName × Mode) → List (ℕ × Block) → Need
+through_header g fid mode next locks blocks = in_range g fid (after_lock fid mode locks (after_header g fid next blocks))
+
 -- the header in a slot, where it is that of the live file of this sequence
 abbrev pub live_header : ℕ → Result Slot HeaderFault → Option Hdr
 live_header seq (Ok (Used h)) = if (h.seq == seq) && not h.marked then Some h else None
@@ -69,3 +73,7 @@ abbrev pub in_directory : Fid → Block → (List (ℕ × Block) → Need) → L
 in_directory dir b next seen None = refused refusal.NoSuchFile
 in_directory dir b next seen (Some h) =
     if h.dir then after_blocks dir (slice_get (places_in b) (length seen)) (next seen) else refused refusal.NotDir
+
+-- a directory's lock, its header, all of its blocks, and what comes next by them
+abbrev pub through_directory : Geometry → Fid → Mode → (List (ℕ × Block) → Need) → List (LockName × Mode) → List (ℕ × Block) → Need
+through_directory g dir mode next locks blocks = through_header g dir mode (λ b seen. in_directory dir b next seen (live_in dir.seq b)) locks blocks

@@ -5,10 +5,14 @@
 mod lists;
 mod need;
 mod operation;
+mod rows;
+mod seeing;
 mod seen;
 
 pub use lists::{SeenBlocks, SeenLocks, Writes};
 pub use need::{Ask, Need, Plan, PlanWrite};
 pub use operation::Operation;
 pub use plain_cat::NoMemory;
+pub use rows::{answered, entries_seen, is_number, live_in, place_in, refused};
+pub use seeing::{Headed, Listing, directory_seen, header_seen};
 pub use seen::{Chan, Seen};

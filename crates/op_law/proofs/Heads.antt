@@ -1,0 +1,56 @@
+-- The header that was seen first.
+use Rattle.std.proofs.Common.{◌≡◌, ◌≤◌, ◌<◌, ◌+◌, ◌*◌, ◌∙◌, ℕ, zero, suc, List, [], ◌∷◌, Option, Some, None, length, All, get_or, slice_get, sym, ap, subst, arith}
+use Rattle.std.proofs.Math.Nat.{mul-div-le}
+use Rattle.std.proofs.lemmas.Option.{get_or_from_slice_get}
+use Rattle.vol_words.specs.Fields.{Block}
+use Rattle.fx_header.specs.declared.run.Run.{Run}
+use Rattle.plain_cat.specs.declared.ids.Fid.{Fid}
+use Rattle.plain_cat.specs.declared.mode.Mode.{Mode}
+use Rattle.plain_cat.specs.declared.cat.Cat.{Cat}
+use Rattle.lock_db.specs.declared.name.LockName.{LockName}
+use Rattle.vol_owners.specs.Lists.{StandsIn}
+use Rattle.vol_owners.specs.Owners.{Owners}
+use Rattle.vol_parts.specs.declared.geometry.Geometry.{Geometry}
+use Rattle.vol_parts.specs.Parts.{IsGeometry}
+use Rattle.vol_spell.specs.Reading.{IsFileNumber, header_place, header_block, runs_told, total_of}
+use Rattle.vol_spell.specs.Spelling.{AreWhole, Spells}
+use Rattle.vol_spell.proofs.Parts.{told}
+use Rattle.op_law.specs.Readable.{EndsInside, AreInside, HeadIsInside}
+use Rattle.op_law.specs.Behind.{first_seen}
+use Rattle.op_law.specs.Fits.{AreSeen, UnderLock}
+
+pub head_inside : (blocks : List (ℕ × Block)) (b : Block) (behind : List (ℕ × Block)) → first_seen blocks ≡ Some (b, behind) → HeadIsInside blocks → AreInside b
+head_inside [] b behind e h = absurd (let f : None ≡ Some (b, behind) = e in cc)
+head_inside (x ∷ xs) b behind e h =
+    let f : ◌≡◌ {A = Option (Block × List (ℕ × Block))} (Some (x.1, xs)) (Some (b, behind)) = e in
+    let p : ◌≡◌ {A = Block × List (ℕ × Block)} (x.1, xs) (b, behind) = cc in
+    subst AreInside (ap (λ q. q.0) p) h
+
+-- runs inside the whole clusters end at or before LBN 65,536
+pub runs_inside : (g : Geometry) (rs : List Run) → IsGeometry g → AreWhole g rs → All EndsInside rs
+runs_inside g [] geo w = λ k d lt. absurd (omega arith)
+runs_inside g (r ∷ rs) geo w = at (runs_inside g rs geo w.1) where
+  at : All EndsInside rs → (k : ℕ) (d : Run) → k < length (r ∷ rs) → EndsInside (get_or (r ∷ rs) k d)
+  at rest zero d lt =
+      let a : r.lbn + r.count ≤ g.cluster * total_of g = w.0.inside in
+      let b : g.cluster * total_of g ≤ g.blocks = mul-div-le g.blocks g.cluster in
+      let c = geo.blocks_to in
+      omega arith
+  at rest (suc k) d lt = rest k d (omega arith)
+
+-- the block that stands at the place of a header is the header
+pub header_is : (g : Geometry) (bs : List Block) (n l : ℕ) (b : Block) → l ≡ header_place g n → slice_get bs l ≡ Some b → header_block g bs n ≡ b
+header_is g bs n l b e at = ap (λ k. get_or bs k []) (sym e) ∙ get_or_from_slice_get bs l b [] at
+
+module _ (g : Geometry) (bs : List Block) (own : Owners) (c : Cat) (s : Spells g bs own c) where
+  seen_inside : (fid : Fid) (places : Block → List ℕ) (blocks : List (ℕ × Block)) → IsFileNumber g fid.num → StandsIn bs blocks → AreSeen g fid places blocks → HeadIsInside blocks
+  seen_inside fid places [] is stands seen = tt
+  seen_inside fid places (h ∷ behind) is stands seen =
+      let e : header_block g bs fid.num ≡ h.1 = header_is g bs fid.num h.0 h.1 seen.0 stands.0 in
+      subst AreInside e (runs_inside g (runs_told (header_block g bs fid.num)) s.counts.geometry (told g bs own c s fid.num is).whole)
+
+  -- what was seen first under a file's lock is its header, whose runs are inside
+  pub under_lock_inside : (fid : Fid) (mode : Mode) (places : Block → List ℕ) (locks : List (LockName × Mode)) (blocks : List (ℕ × Block))
+      → StandsIn bs blocks → UnderLock g fid mode places locks blocks → HeadIsInside blocks
+  under_lock_inside fid mode places [] blocks stands under = subst HeadIsInside (sym under) tt
+  under_lock_inside fid mode places (l ∷ locks) blocks stands under = seen_inside fid places blocks under.0 stands under.3

@@ -1,0 +1,133 @@
+//! The events that commands have in common, each worked out.
+
+ghost use Rattle.std.specs.Prelude.{◌≡◌, ◌+◌, ◌≤◌, IfOk, IfSome, map, slice_get};
+ghost use Rattle.vol_parts.specs.Catalogues.{plain_entry};
+ghost use Rattle.op_law.specs.Rows.{answered, refused, is_number, live_in, places_in};
+ghost use Rattle.op_law.specs.Needs.{entries_seen};
+ghost use Rattle.op_law.specs.Readable.{HasMap, AreInside};
+
+use crate::lists::Writes;
+use crate::need::{Need, Plan};
+use fx_dir::{DirFault, RawEnt, read_dir};
+use fx_header::{Hdr, Slot, read_header, runs};
+use plain_cat::{Blocks, DirEnt, DirEnts, Fid, Name, NoMemory, Refusal, Reply};
+use std::alloc::{AllocError, Global};
+use vol_parts::Geometry;
+use vol_words::Block;
+
+/// Nothing more is needed, and nothing is written: the reply. It takes no memory.
+pub fn answered(alloc: Global, reply: Reply) -> Need
+    ensures { result ≡ answered reply }
+{
+    Need::Ready(Plan {
+        writes: Writes::new(alloc),
+        ask: None,
+        reply,
+    })
+}
+
+/// Nothing more is needed: the command is refused. It takes no memory.
+pub fn refused(alloc: Global, refusal: Refusal) -> Need
+    ensures { result ≡ refused refusal }
+{
+    answered(alloc, Reply::Refused(refusal))
+}
+
+/// Whether the number of an identifier is one of the volume's.
+pub fn is_number(g: &Geometry, fid: Fid) -> bool
+    ensures { result ≡ is_number g.now fid }
+{
+    1 <= fid.num && fid.num <= g.files
+}
+
+/// The header of the live file of this sequence, by its block, or none where the slot has none. Its runs can be read.
+pub fn live_in(b: &Block, seq: u16) -> Option<Hdr>
+    ensures header { result ≡ live_in seq b.now }
+    ensures map { IfSome result (λ h. HasMap b.now) }
+{
+    match read_header(b) {
+        Ok(Slot::Used(h)) => if h.seq == seq && !h.marked {
+            Some(h)
+        } else {
+            None
+        },
+        Ok(Slot::Free(_)) => None,
+        Err(_) => None,
+    }
+}
+
+/// The LBN of a file's block, which counts from 0, by the block of its header, or none where the file has fewer. The header
+/// is one in use, and its runs end at or before LBN 65,536.
+pub fn place_in(b: &Block, at: usize) -> Option<u32>
+    requires map { HasMap b.now }
+    requires inside { AreInside b.now }
+    ensures { result ≡ slice_get (places_in b.now) at }
+{
+    let mut left = at;
+    for run in runs(b) {
+        let count = run.count as usize;
+        if left < count {
+            return Some(run.lbn + left as u32);
+        }
+        left -= count;
+    }
+    None
+}
+
+// The blocks alone.
+fn blocks_of(alloc: Global, seen: &[(u32, Block)]) -> Result<Blocks, NoMemory>
+    ensures { IfOk result (λ bs. bs ≡ map (λ s. s.1) seen.now) }
+{
+    let mut blocks = Blocks::new(alloc);
+    for (_, block) in seen {
+        blocks.push(*block)?;
+    }
+    Ok(blocks)
+}
+
+// A name of these bytes.
+fn plain_name(alloc: Global, bytes: &[u8]) -> Result<Name, NoMemory>
+    ensures { IfOk result (λ name. name ≡ bytes.now) }
+{
+    let mut name = Name::new(alloc);
+    for byte in bytes {
+        name.push(*byte)?;
+    }
+    Ok(name)
+}
+
+// An entry without the version limit and the flags of its record.
+fn plain_entry(alloc: Global, e: &RawEnt) -> Result<DirEnt, NoMemory>
+    ensures { IfOk result (λ entry. entry ≡ plain_entry e.now) }
+{
+    let seq = e.seq;
+    Ok(DirEnt {
+        name: plain_name(alloc, e.name.bytes())?,
+        ver: e.ver,
+        fid: Fid { num: e.num, seq },
+    })
+}
+
+fn plain_entries(alloc: Global, found: &[RawEnt]) -> Result<DirEnts, NoMemory>
+    ensures { IfOk result (λ entries. entries ≡ map plain_entry found.now) }
+{
+    let mut entries = DirEnts::new(alloc);
+    for e in found {
+        entries.push(plain_entry(alloc, e)?)?;
+    }
+    Ok(entries)
+}
+
+/// The entries of a directory whose blocks were seen, in order; none where the blocks have a fault. An error says that memory
+/// ran out.
+pub fn entries_seen(alloc: Global, seen: &[(u32, Block)]) -> Result<DirEnts, NoMemory>
+    ensures { IfOk result (λ entries. entries ≡ entries_seen seen.now) }
+{
+    match read_dir(alloc, blocks_of(alloc, seen)?.items()) {
+        Ok(found) => plain_entries(alloc, found.as_slice()),
+        Err(DirFault::NoMemory) => Err(AllocError),
+        Err(DirFault::BadRecord(_)) => Ok(DirEnts::new(alloc)),
+        Err(DirFault::BadOrder) => Ok(DirEnts::new(alloc)),
+        Err(DirFault::Clash) => Ok(DirEnts::new(alloc)),
+    }
+}
