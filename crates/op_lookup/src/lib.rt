@@ -1,0 +1,7 @@
+//! LOOKUP, LIST and STAT: the commands that only look.
+#![tactic(auto)]
+
+mod looks;
+mod operation;
+
+pub use operation::OpLookup;

@@ -1,0 +1,79 @@
+//! What each command needs next.
+
+ghost use Rattle.std.specs.Prelude.{◌≡◌, IfOk};
+ghost use Rattle.vol_parts.specs.Parts.{IsGeometry};
+ghost use Rattle.op_law.specs.Readable.{HeadIsInside};
+ghost use Rattle.op_law.specs.Needs.{facts_of, lookup_need, list_need, stat_need};
+
+use fx_header::Hdr;
+use op_law::{
+    Headed, Listing, Need, NoMemory, Seen, answered, directory_seen, entries_seen, header_seen,
+    live_in, refused,
+};
+use plain_cat::{Fid, Mode, Name, Refusal, Reply, Uic};
+use plain_vol::look_up;
+use std::alloc::Global;
+
+// LOOKUP
+#[tactic(auto, unfolding(op_law::specs::Needs::lookup_need))]
+pub(crate) fn lookup_next(
+    alloc: Global,
+    dir: Fid,
+    name: &Name,
+    ver: u16,
+    seen: &Seen,
+) -> Result<Need, NoMemory>
+    requires geometry { IsGeometry seen.now.geometry }
+    requires inside { HeadIsInside seen.now.blocks }
+    ensures { IfOk result (λ need. need ≡ lookup_need dir name.now ver seen.now) }
+{
+    match directory_seen(alloc, dir, Mode::PR, seen) {
+        Listing::Next(need) => Ok(need),
+        Listing::All(blocks) => {
+            let entries = entries_seen(alloc, blocks)?;
+            Ok(answered(alloc, look_up(alloc, &entries, name, ver)?))
+        }
+    }
+}
+
+// LIST
+#[tactic(auto, unfolding(op_law::specs::Needs::list_need))]
+pub(crate) fn list_next(alloc: Global, dir: Fid, seen: &Seen) -> Result<Need, NoMemory>
+    requires geometry { IsGeometry seen.now.geometry }
+    requires inside { HeadIsInside seen.now.blocks }
+    ensures { IfOk result (λ need. need ≡ list_need dir seen.now) }
+{
+    match directory_seen(alloc, dir, Mode::PR, seen) {
+        Listing::Next(need) => Ok(need),
+        Listing::All(blocks) => Ok(answered(alloc, Reply::Listed(entries_seen(alloc, blocks)?))),
+    }
+}
+
+// The facts of a header.
+fn facts_of(h: &Hdr) -> Reply
+    ensures { result ≡ facts_of h.now }
+{
+    Reply::Facts {
+        dir: h.dir,
+        owner: Uic(h.owner),
+        blocks: h.blocks,
+        mark: h.mark,
+        end: h.end,
+        byte: h.byte,
+    }
+}
+
+// STAT
+#[tactic(auto, unfolding(op_law::specs::Needs::stat_need))]
+pub(crate) fn stat_next(alloc: Global, file: Fid, seen: &Seen) -> Need
+    requires { IsGeometry seen.now.geometry }
+    ensures { result ≡ stat_need file seen.now }
+{
+    match header_seen(alloc, file, Mode::PR, seen) {
+        Headed::Next(need) => need,
+        Headed::Header(header, _) => match live_in(header, file.seq) {
+            Some(h) => answered(alloc, facts_of(&h)),
+            None => refused(alloc, Refusal::NoSuchFile),
+        },
+    }
+}
