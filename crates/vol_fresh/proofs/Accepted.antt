@@ -1,5 +1,5 @@
 -- A fresh volume has no fatal finding, and is accepted.
-use Rattle.std.proofs.Common.{◌≡◌, ◌∙◌, false, List, [], Option, Some, None, Result, Ok, sym, ap, subst, inr}
+use Rattle.std.proofs.Common.{◌≡◌, ◌∙◌, List, [], Option, Some, None, Result, Ok, sym, ap, subst, inr}
 use Rattle.std.specs.List.{list_any}
 use Rattle.std.proofs.lemmas.Bool.{both_ways}
 use Rattle.vol_words.specs.Fields.{Block}

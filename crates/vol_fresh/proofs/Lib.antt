@@ -6,3 +6,4 @@ pub mod Entries
 pub mod Quiet
 pub mod Doubles
 pub mod Accepted
+pub mod Room

@@ -1,5 +1,5 @@
 -- Where the system files of a fresh volume lie, and the catalogue that it has.
-use Rattle.std.specs.Prelude.{◌≤◌, ◌+◌, ◌*◌, ◌-◌, ◌/◌, ◌==◌, ◌||◌, ◌++◌, ℕ, false, List, [], ◌∷◌, None, codes, map, replicate, if◌then◌else◌}
+use Rattle.std.specs.Prelude.{◌≤◌, ◌+◌, ◌*◌, ◌-◌, ◌/◌, ◌==◌, ◌||◌, ◌++◌, ℕ, false, List, [], ◌∷◌, None, codes, slice_index_or, map, replicate, if◌then◌else◌}
 use Rattle.std.specs.List.{range_with_len}
 use Rattle.fx_header.specs.declared.run.Run.{Run}
 use Rattle.fx_header.specs.declared.slot.Hdr.{Hdr}
@@ -9,6 +9,7 @@ use Rattle.plain_cat.specs.declared.entries.DirEnt.{DirEnt}
 use Rattle.plain_cat.specs.declared.cat.Slot.{Slot}
 use Rattle.plain_cat.specs.declared.cat.Slot.TheVariants.{Used, Free}
 use Rattle.plain_cat.specs.declared.cat.Cat.{Cat}
+use Rattle.plain_vol.specs.Mending.{system_names}
 use Rattle.vol_parts.specs.Parts.{storage_blocks}
 use Rattle.vol_parts.specs.Fatal.{system_seq, is_system_directory, in_whole_clusters}
 use Rattle.vol_parts.specs.Catalogues.{plain_entry, quota_row}
@@ -43,7 +44,7 @@ clusters_of l n =
     else if is_system_directory n || (n == 10) then 1
     else 0
 
--- The first cluster of the file of a number: the index file begins at cluster 0, and behind it come BITMAP.SYS, the master
+-- The first cluster of the file of a number, 1 to 11, where it has clusters: the index file begins at cluster 0, and behind it come BITMAP.SYS, the master
 -- file directory, [SYSLOST] and QUOTA.SYS, one after the other.
 unfoldable pub first_cluster : Layout → ℕ → ℕ
 first_cluster l n =
@@ -87,6 +88,10 @@ header_of l n = record {
   end = blocks_of l n + 1;
   byte = 0;
 }
+
+-- the text that the header of the file of a number, 1 to 11, has for its name: NAME.TYP and version 1
+unfoldable pub text_of : ℕ → List ℕ
+text_of n = slice_index_or system_names (n - 1) [] ++ codes ";1"
 
 -- an entry of the master file directory
 abbrev pub main_entry : List ℕ → ℕ → RawEnt

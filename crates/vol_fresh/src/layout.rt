@@ -5,6 +5,11 @@ ghost use Rattle.vol_fresh.specs.Layouts.{IsLayout, total, index_clusters, bitma
 
 use fx_header::Hdr;
 
+/// The owner of the system files, [1,1].
+pub const SYSTEM_OWNER: u32 = 65_537;
+/// The owner of users' files, [1,4].
+pub const USER_OWNER: u32 = 65_540;
+
 /// How many clusters so many blocks take.
 fn in_whole_clusters(cluster: u32, blocks: u32) -> u32
     requires { 0 < cluster }
@@ -39,7 +44,7 @@ impl Layout {
     }
 
     /// The blocks of the storage bitmap, which has a bit for each cluster of the volume.
-    fn storage_blocks(&self) -> u32
+    pub fn storage_blocks(&self) -> u32
         requires { IsLayout self.now }
         ensures value { result ≡ storage_blocks (total self.now) }
         ensures bound { result ≤ 16 }
@@ -110,7 +115,7 @@ impl Layout {
         Hdr {
             num: n,
             seq: if n <= 9 { n as u16 } else { 1 },
-            owner: 65_537,
+            owner: SYSTEM_OWNER,
             dir: n == 4 || n == 11,
             marked: false,
             blocks,

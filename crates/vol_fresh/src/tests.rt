@@ -1,6 +1,6 @@
 ghost use Rattle.std.specs.Prelude.{◌≤◌};
 
-use crate::Layout;
+use crate::{Layout, text_of};
 
 /// The numbers of the system files, as they lie one behind the other.
 const IN_ORDER: [u32; 5] = [1, 2, 4, 11, 10];
@@ -17,6 +17,7 @@ fn system_files_lie_one_behind_the_other(rt: HostRuntime) {
     let firsts = IN_ORDER.map(|n| layout.first_cluster(n));
     assert_eq!(rt; firsts, [0, 21, 22, 23, 24]);
     assert_eq!(rt; layout.clusters_of(9), 0);
+    assert_eq!(rt; layout.storage_blocks(), 1);
     assert_eq!(rt; layout.reserved_clusters(), 25);
     let quota = layout.header_of(10);
     assert_eq!(rt;
@@ -25,6 +26,7 @@ fn system_files_lie_one_behind_the_other(rt: HostRuntime) {
     );
     let lost = layout.header_of(11);
     assert_eq!(rt; [lost.dir, lost.marked], [true, false]);
+    assert_eq!(rt; text_of(11), b"SYSLOST.DIR;1".as_slice());
 }
 
 #[test]

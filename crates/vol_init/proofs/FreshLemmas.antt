@@ -6,6 +6,7 @@ use Rattle.std.proofs.lemmas.Bool.{lt-ltb, ne_eqb, le-ltb, lt-leb, and_right}
 use Rattle.vol_init.specs.Made.{IsClear}
 use Rattle.std.proofs.lemmas.Bool.Decides.{nat_tests}
 use Rattle.vol_words.specs.Fields.{Block}
+use Rattle.vol_words.specs.Tables.{zeros}
 use Rattle.fx_home.specs.Homes.{scb_read}
 use Rattle.fx_header.specs.declared.slot.Slot.{Slot}
 use Rattle.fx_header.specs.declared.slot.Slot.TheVariants.{Used}
@@ -24,9 +25,10 @@ use Rattle.vol_fresh.proofs.Doubles.{ordered_once}
 use Rattle.vol_parts.specs.Warnings.{has_doubles}
 use Rattle.vol_init.proofs.EntryLemmas.{main-rises}
 use Rattle.vol_init.specs.declared.part.Part.{Part}
-use Rattle.vol_init.specs.declared.part.Part.TheVariants.{Numbers, Header, Control, Storage, Main, Lost, Quota}
-use Rattle.vol_init.specs.Parts.{first_block, part_of, is_free, SaysHeader, Says}
-use Rattle.vol_init.proofs.PlaceLemmas.{Places, places, bitmap-some, part-numbers, part-header, part-control, part-storage, part-main, part-lost, part-quota}
+use Rattle.vol_init.specs.declared.part.Part.TheVariants.{HomeCopy, HeaderCopy, Numbers, Header, Control, Storage, Main, Lost, Quota}
+use Rattle.vol_init.specs.Parts.{first_block, part_of, home_copy_bytes, header_block, is_free, SaysHeader, Says}
+use Rattle.vol_init.proofs.PlaceLemmas.{Places, places, bitmap-some, part-home-copy, part-header-copy, part-numbers, part-header, part-control, part-storage, part-main, part-lost, part-quota}
+use Rattle.vol_init.proofs.ZeroLemmas.{freed-none}
 use Rattle.vol_init.proofs.HeaderLemmas.{runs-some}
 use Rattle.vol_init.proofs.BlockLemmas.{picked, rows-first, body-run}
 
@@ -39,7 +41,7 @@ pub record Stands (l : Layout) (first second : List Block) (v : Volume) : Type 0
   pub listed : all_entries first ≡ main_entries
   pub lost_count : length second ≡ l.cluster
   pub lost : directory second ≡ Ok []
-  pub says : (lbn : ℕ) (part : Part) → part_of l lbn ≡ Some part → 1 < lbn → lbn < l.blocks → Says l first second part (block_at v lbn)
+  pub says : (lbn : ℕ) (part : Part) → part_of l lbn ≡ Some part → 1 < lbn → lbn < l.blocks → Says l v.home first second part (block_at v lbn)
 
 head-of : (v : Volume) (n : ℕ) (r : Result Slot HeaderFault) → header_lbn v n < length v.blocks → header_read (header_at v n) ≡ r → head v n ≡ r
 unfolding head
@@ -195,6 +197,36 @@ stands-clear v main lost s =
       clusters = λ q past inside. clusters-of v main lost q s p inside ∙ and_right (nat_le (reserved_clusters l) q) (nat_lt q (total l)) (le-ltb q (total l) past);
       numbers = λ n past inside. numbers-of v main lost n s p (omega arith) inside ∙ lt-leb n 11 (omega (arith, s.limits.files_low));
     }
+
+-- the blocks of a volume whose bytes are exact, besides those of the directories
+pub record IsExact (v : Volume) : Type 0 where
+  pub home_copy : block_at v (2 * v.home.cluster) ≡ home_copy_bytes v.home
+  pub header_copy : block_at v (3 * v.home.cluster) ≡ block_at v (4 * v.home.cluster + 1)
+  pub headers : (n : ℕ) → 1 ≤ n → n ≤ 11 → block_at v (4 * v.home.cluster + n) ≡ header_block (layout_of v) n
+  pub slots : (n : ℕ) → 11 < n → n ≤ v.home.files → block_at v (4 * v.home.cluster + n) ≡ zeros
+
+stands-exact : (v : Volume) (main lost : List Block) → Stands (layout_of v) main lost v → IsExact v
+stands-exact v main lost s =
+    let l : Layout = layout_of v in
+    let p : Places l = places l s.limits s.room in
+    let inside : 4 * v.home.cluster + 1 < length v.blocks = omega (arith, p.index, p.bitmap, p.main, p.lost, p.quota) in
+    let home : block_at v (2 * v.home.cluster) ≡ home_copy_bytes v.home =
+    s.says (2 * v.home.cluster) HomeCopy (part-home-copy l) (omega (arith, p.some)) (omega (arith, inside)) in
+    let header : block_at v (3 * v.home.cluster) ≡ header_block l 1 =
+    s.says (3 * v.home.cluster) HeaderCopy (part-header-copy l p) (omega (arith, p.some)) (omega (arith, inside)) in
+    let system : (n : ℕ) → 1 ≤ n → n ≤ 11 → block_at v (4 * v.home.cluster + n) ≡ header_block l n = λ n from to.
+    (header-says v main lost n s p from (omega (arith, s.limits.files_low))).1.written to in
+    record {
+      home_copy = home;
+      header_copy = header ∙ sym (system 1 (omega arith) (omega arith));
+      headers = system;
+      slots = λ n from to. (header-says v main lost n s p (omega arith) to).1.freed from ∙ freed-none;
+    }
+
+pub exact : (v : Volume) (l : Layout) (main lost : List Block) → layout_of v ≡ l → Stands l main lost v → IsExact v
+exact v l main lost e s =
+    let P : Layout → Type 0 = λ k. Stands k main lost v in
+    stands-exact v main lost (subst P (sym e) s)
 
 pub clear : (v : Volume) (l : Layout) (main lost : List Block) → layout_of v ≡ l → Stands l main lost v → IsClear v
 clear v l main lost e s =

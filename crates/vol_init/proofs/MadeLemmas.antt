@@ -8,7 +8,7 @@ use Rattle.vol_words.specs.Fields.{Block}
 use Rattle.vol_words.specs.Tables.{zeros}
 use Rattle.blk_drive.specs.Images.{told_set}
 use Rattle.fx_home.specs.declared.home.Home.{Home}
-use Rattle.fx_home.specs.Homes.{home_read}
+use Rattle.fx_home.specs.Homes.{home_read, home_bytes}
 use Rattle.vol_parts.specs.Findings.{home_at, Accepts, CatOf}
 use Rattle.vol_parts.specs.Volumes.{volume}
 use Rattle.vol_fresh.specs.declared.layout.Layout.{Layout}
@@ -22,13 +22,13 @@ use Rattle.vol_init.specs.Parts.{block_in, part_of, Says}
 use Rattle.vol_init.specs.Plans.{IsPlan, SaysAt, IsAt, ArePut, told_at}
 use Rattle.vol_init.specs.Made.{IsMade, IsLeft}
 use Rattle.vol_init.proofs.ZeroLemmas.{zeros-home}
-use Rattle.vol_init.proofs.FreshLemmas.{Stands, fresh, clear}
+use Rattle.vol_init.proofs.FreshLemmas.{Stands, fresh, clear, exact}
 
 same-layout : (l : Layout) (cluster files blocks : ℕ) → cluster ≡ l.cluster → files ≡ l.files → blocks ≡ l.blocks
     → ◌≡◌ {A = Layout} (record { cluster = cluster; files = files; blocks = blocks }) l
 same-layout l cluster files blocks c f b = rw (c, f, b) refl
 
-says-some : (p : Plan) (lbn : ℕ) (part : Part) (old new : Block) → part_of p.layout lbn ≡ Some part → IsAt p lbn old new → Says p.layout p.main.items p.lost.items part new
+says-some : (p : Plan) (lbn : ℕ) (part : Part) (old new : Block) → part_of p.layout lbn ≡ Some part → IsAt p lbn old new → Says p.layout p.home p.main.items p.lost.items part new
 says-some p lbn part old new e h =
     let P : Option Part → Type 0 = λ o. SaysAt p o old new in
     subst P e h
@@ -53,8 +53,8 @@ stays p old cleared put lbn c w low ne e =
 
 pub made : (p : Plan) (old cleared put : List Block) (b : Block) → IsPlan p → p.layout.blocks ≡ length old → 1 < length old
     → cleared ≡ slice_set old 1 zeros → ArePut p (length cleared) cleared put → ((k : ℕ) → k < 2 → block_in put k ≡ block_in cleared k)
-    → length put ≡ length cleared → home_read b ≡ Ok p.home → IsMade p.home old (slice_set put 1 b)
-made p old cleared put b plan size some c w low count reads =
+    → length put ≡ length cleared → b ≡ home_bytes p.home → home_read b ≡ Ok p.home → IsMade p.home old (slice_set put 1 b)
+made p old cleared put b plan size some c w low count bytes reads =
     let new : List Block = slice_set put 1 b in
     let cleared_size : length cleared ≡ length old = ap length c ∙ length-set old 1 zeros in
     let new_size : length new ≡ length put = length-set put 1 b in
@@ -72,12 +72,18 @@ made p old cleared put b plan size some c w low count reads =
       says = λ lbn part e behind below.
           (let ne : lbn ≢ 1 = omega arith in
           let same : block_in new lbn ≡ block_in put lbn = get_or-set_other put 1 lbn b [] ne in
-          let P : Block → Type 0 = λ x. Says p.layout p.main.items p.lost.items part x in
+          let P : Block → Type 0 = λ x. Says p.layout p.home p.main.items p.lost.items part x in
           subst P (sym same) (says-some p lbn part _ _ e (w.there lbn behind (omega arith))));
     } in
+    let all = exact (volume p.home new) p.layout p.main.items p.lost.items layout stands in
     record {
       count = omega arith;
       home = ap home_read home ∙ reads;
+      bytes = home ∙ bytes;
+      home_copy = all.home_copy;
+      header_copy = all.header_copy;
+      headers = all.headers;
+      slots = all.slots;
       fresh = fresh (volume p.home new) p.layout p.main.items p.lost.items layout stands;
       clear = clear (volume p.home new) p.layout p.main.items p.lost.items layout stands;
       others = λ lbn ne e.

@@ -6,7 +6,7 @@ use Rattle.vol_parts.specs.Parts.{storage_blocks, is_among}
 use Rattle.vol_parts.specs.Fatal.{in_whole_clusters}
 use Rattle.vol_fresh.specs.declared.layout.Layout.{Layout}
 use Rattle.vol_fresh.specs.Layouts.{IsLayout, total, reserved_clusters, index_clusters, bitmap_clusters, clusters_of, first_cluster}
-use Rattle.vol_init.specs.declared.part.Part.TheVariants.{Numbers, Header, Control, Storage, Main, Lost, Quota}
+use Rattle.vol_init.specs.declared.part.Part.TheVariants.{HomeCopy, HeaderCopy, Numbers, Header, Control, Storage, Main, Lost, Quota}
 use Rattle.vol_init.specs.Parts.{first_block, part_of}
 
 -- the files lie one behind the other, each with room for its blocks
@@ -66,6 +66,21 @@ past first n lbn high = and_right _ _ (le-ltb lbn (first + n) high)
 
 other : (a b : ℕ) → (a ≡ b → ⊥) → (a == b) ≡ false
 other a b h = ne_eqb a b h
+
+pub part-home-copy : (l : Layout) → part_of l (2 * l.cluster) ≡ Some HomeCopy
+unfolding part_of
+part-home-copy l =
+    let lbn = 2 * l.cluster in
+    let same = eq-eqb lbn lbn refl in
+    rw same refl
+
+pub part-header-copy : (l : Layout) → Places l → part_of l (3 * l.cluster) ≡ Some HeaderCopy
+unfolding part_of
+part-header-copy l p =
+    let lbn = 3 * l.cluster in
+    let copy = other lbn (2 * l.cluster) (λ e. omega (arith, p.some)) in
+    let same = eq-eqb lbn lbn refl in
+    rw (copy, same) refl
 
 pub part-numbers : (l : Layout) → Places l → part_of l (4 * l.cluster) ≡ Some Numbers
 unfolding part_of

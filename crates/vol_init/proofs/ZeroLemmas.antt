@@ -5,10 +5,11 @@ use Rattle.std.specs.List.{range_with_len, filter_map}
 use Rattle.std.proofs.lemmas.List.{get_or-replicate}
 use Rattle.std.proofs.lemmas.Bool.Decides.{nat_tests}
 use Rattle.std.proofs.Math.Nat.{div-le_self}
-use Rattle.vol_words.specs.Fields.{Block}
+use Rattle.vol_words.specs.Fields.{Block, word_sum, checksum, summed}
 use Rattle.vol_words.specs.Tables.{zeros}
 use Rattle.fx_home.specs.declared.home.HomeFault.TheVariants.{BadFormat}
 use Rattle.fx_home.specs.Homes.{home_read, has_format}
+use Rattle.fx_header.specs.Headers.{freed}
 use Rattle.fx_bitmap.specs.Bits.{byte_bit, bit_at, is_among, ArePut}
 use Rattle.fx_quota.specs.declared.types.Row.{Row}
 use Rattle.fx_quota.specs.Rows.{row_at, IsRowPut}
@@ -17,6 +18,11 @@ use Rattle.vol_parts.specs.Volumes.{rows_in}
 pub zeros-home : home_read zeros ≡ Err BadFormat
 unfolding home_read has_format zeros
 zeros-home = refl
+
+-- a slot whose number was never used
+pub freed-none : freed 0 ≡ zeros
+unfolding freed summed checksum word_sum zeros
+freed-none = refl
 
 zero-byte : (i : ℕ) → byte_bit 0 i ≡ false
 zero-byte i =

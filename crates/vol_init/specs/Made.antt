@@ -1,24 +1,31 @@
 -- What making a volume leaves.
-use Rattle.std.specs.Prelude.{◌≡◌, ◌≢◌, false, ◌*◌, ◌<◌, ◌≤◌, ◌⊎◌, ℕ, List, Option, Some, None, Ok, length, IsErr}
+use Rattle.std.specs.Prelude.{◌≡◌, ◌≢◌, false, ◌*◌, ◌+◌, ◌<◌, ◌≤◌, ◌⊎◌, ℕ, List, Option, Some, None, Ok, length, IsErr}
 use Rattle.vol_words.specs.Fields.{Block}
+use Rattle.vol_words.specs.Tables.{zeros}
 use Rattle.fx_home.specs.declared.home.Home.{Home}
-use Rattle.fx_home.specs.Homes.{home_read}
+use Rattle.fx_home.specs.Homes.{home_read, home_bytes}
 use Rattle.vol_parts.specs.Parts.{storage_blocks}
 use Rattle.vol_parts.specs.Volumes.{Volume, volume, total, is_free_cluster, is_used_number}
 use Rattle.vol_parts.specs.Findings.{home_at}
 use Rattle.vol_fresh.specs.Fresh.{IsFresh, layout_of}
-use Rattle.vol_init.specs.Parts.{block_in, part_of}
+use Rattle.vol_init.specs.Parts.{block_in, part_of, home_copy_bytes, header_block}
 
 -- the bits past the last cluster and past the last number are clear
 pub record IsClear (v : Volume) : Type 0 where
   pub clusters : (q : ℕ) → total v ≤ q → q < 4096 * storage_blocks (total v) → is_free_cluster v q ≡ false
   pub numbers : (n : ℕ) → v.home.files < n → n ≤ 4096 → is_used_number v n ≡ false
 
--- the blocks are a fresh volume with this home block, nothing is set past its last cluster and number, and other blocks stay
+-- The blocks are a fresh volume with this home block, whose bytes are exact like those of both copies and of all headers;
+-- the slots of unused numbers are zeros, nothing is set past the last cluster and number, and other blocks stay.
 pub record IsMade (h : Home) (old new : List Block) : Type 0 where
   pub count : length new ≡ length old
   pub home : home_read (home_at new) ≡ Ok h
+  pub bytes : home_at new ≡ home_bytes h
+  pub home_copy : block_in new (2 * h.cluster) ≡ home_copy_bytes h
+  pub header_copy : block_in new (3 * h.cluster) ≡ block_in new (4 * h.cluster + 1)
   pub fresh : IsFresh (volume h new)
+  pub headers : (n : ℕ) → 1 ≤ n → n ≤ 11 → block_in new (4 * h.cluster + n) ≡ header_block (layout_of (volume h new)) n
+  pub slots : (n : ℕ) → 11 < n → n ≤ h.files → block_in new (4 * h.cluster + n) ≡ zeros
   pub clear : IsClear (volume h new)
   pub others : (lbn : ℕ) → lbn ≢ 1 → part_of (layout_of (volume h new)) lbn ≡ None → block_in new lbn ≡ block_in old lbn
 

@@ -1,17 +1,20 @@
 -- Which blocks of a volume are written when it is made, and what each of them says.
 use Rattle.std.specs.Prelude.{◌≡◌, ◌≤◌, ◌<◌, ◌+◌, ◌*◌, ◌-◌, ◌==◌, ◌&&◌, nat_le, nat_lt, ℕ, Bool, List, [], Option, Some, None, Ok, slice_get, slice_index_or, if◌then◌else◌}
-use Rattle.vol_words.specs.Fields.{Block}
-use Rattle.fx_home.specs.Homes.{scb_read}
+use Rattle.vol_words.specs.Fields.{Block, put_field, summed}
+use Rattle.fx_home.specs.declared.home.Home.{Home}
+use Rattle.vol_init.specs.declared.blocks.TheConstants.{HOMELBN, HOMEVBN}
+use Rattle.fx_home.specs.Homes.{home_bytes, with_sum1, scb_read}
 use Rattle.fx_header.specs.declared.slot.Slot.TheVariants.{Used, Free}
-use Rattle.fx_header.specs.Headers.{header_read, runs_in}
+use Rattle.fx_header.specs.Headers.{header_read, runs_in, header_bytes, with_runs, freed}
 use Rattle.fx_bitmap.specs.Bits.{bit_at}
 use Rattle.vol_parts.specs.Parts.{storage_blocks, is_among}
 use Rattle.vol_parts.specs.Volumes.{rows_in}
 use Rattle.vol_fresh.specs.declared.layout.Layout.{Layout}
-use Rattle.vol_fresh.specs.Layouts.{total, reserved_clusters, first_cluster, header_of, runs_of, quota_rows}
+use Rattle.vol_fresh.specs.Layouts.{total, reserved_clusters, first_cluster, header_of, text_of, runs_of, quota_rows}
 use Rattle.vol_init.specs.declared.part.Part.{Part}
 use Rattle.vol_init.specs.declared.part.Part.TheVariants.{HomeCopy, HeaderCopy, Numbers, Header, Control, Storage, Main, Lost, Quota}
 
+-- the block of an LBN
 abbrev pub block_in : List Block → ℕ → Block
 block_in bs lbn = slice_index_or bs lbn []
 
@@ -50,20 +53,30 @@ IsInside l (Quota k) = k < l.cluster
 abbrev pub is_free : Layout → ℕ → Bool
 is_free l q = nat_le (reserved_clusters l) q && nat_lt q (total l)
 
+-- the copy of a home block: its bytes with the copy's own LBN and VBN, and both checksums written again
+unfoldable pub home_copy_bytes : Home → Block
+home_copy_bytes h = summed (with_sum1 (put_field (put_field (home_bytes h) HOMELBN 4 (2 * h.cluster)) HOMEVBN 2 (2 * h.cluster + 1)))
+
+-- the header of a system file, which stands in the master file directory, file 4
+unfoldable pub header_block : Layout → ℕ → Block
+header_block l n = with_runs (header_bytes (header_of l n) (text_of n) (4, 4)) (runs_of l n)
+
 -- a header slot is that of a system file, or of no file so far
 pub record SaysHeader (l : Layout) (n : ℕ) (b : Block) : Type 0 where
+  pub written : n ≤ 11 → b ≡ header_block l n
   pub used : n ≤ 11 → header_read b ≡ Ok (Used (header_of l n))
   pub lies : n ≤ 11 → runs_in b ≡ runs_of l n
+  pub freed : 11 < n → b ≡ freed 0
   pub free : 11 < n → header_read b ≡ Ok (Free 0)
 
--- what the block of a part says, where the two directories have these blocks
-abbrev pub Says : Layout → (main lost : List Block) → Part → Block → Type 0
-Says l main lost HomeCopy b = Unit {0}
-Says l main lost HeaderCopy b = header_read b ≡ Ok (Used (header_of l 1))
-Says l main lost Numbers b = (i : ℕ) → i < 4096 → bit_at b i ≡ nat_lt i 11
-Says l main lost (Header n) b = SaysHeader l n b
-Says l main lost Control b = scb_read b ≡ Ok (record { cluster = l.cluster; blocks = l.blocks })
-Says l main lost (Storage k) b = (i : ℕ) → i < 4096 → bit_at b i ≡ is_free l (4096 * k + i)
-Says l main lost (Main k) b = slice_get main k ≡ Some b
-Says l main lost (Lost k) b = slice_get lost k ≡ Some b
-Says l main lost (Quota k) b = rows_in b ≡ (if k == 0 then quota_rows l else [])
+-- what the block of a part says, with this home block and these blocks of the two directories
+abbrev pub Says : Layout → Home → (main lost : List Block) → Part → Block → Type 0
+Says l h main lost HomeCopy b = b ≡ home_copy_bytes h
+Says l h main lost HeaderCopy b = b ≡ header_block l 1
+Says l h main lost Numbers b = (i : ℕ) → i < 4096 → bit_at b i ≡ nat_lt i 11
+Says l h main lost (Header n) b = SaysHeader l n b
+Says l h main lost Control b = scb_read b ≡ Ok (record { cluster = l.cluster; blocks = l.blocks })
+Says l h main lost (Storage k) b = (i : ℕ) → i < 4096 → bit_at b i ≡ is_free l (4096 * k + i)
+Says l h main lost (Main k) b = slice_get main k ≡ Some b
+Says l h main lost (Lost k) b = slice_get lost k ≡ Some b
+Says l h main lost (Quota k) b = rows_in b ≡ (if k == 0 then quota_rows l else [])

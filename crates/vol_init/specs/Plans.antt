@@ -9,7 +9,8 @@ use Rattle.vol_init.specs.declared.plan.Plan.{Plan}
 use Rattle.vol_init.specs.Refusals.{home_of}
 use Rattle.vol_init.specs.Parts.{block_in, part_of, Says}
 
--- the system files have room, the home block is that of the layout, and the two directories have one cluster each
+-- The system files have room, the home block is that of the layout, and the two directories have one cluster each and the
+-- entries of a fresh volume: those of the system files, and none.
 pub record IsPlan (p : Plan) : Type 0 where
   pub limits : IsLayout p.layout
   pub room : reserved_clusters p.layout ≤ total p.layout
@@ -29,12 +30,13 @@ pub record IsOf (l : Layout) (label : List ℕ) (p : Plan) : Type 0 where
 -- a block says what its part says, and stays where it is no part
 abbrev pub SaysAt : Plan → Option Part → (old new : Block) → Type 0
 SaysAt p None old new = new ≡ old
-SaysAt p (Some part) old new = Says p.layout p.main.items p.lost.items part new
+SaysAt p (Some part) old new = Says p.layout p.home p.main.items p.lost.items part new
 
+-- a block says what the part at its LBN says
 abbrev pub IsAt : Plan → ℕ → (old new : Block) → Type 0
 IsAt p lbn old new = SaysAt p (part_of p.layout lbn) old new
 
--- the parts below an LBN are written, and all other blocks stay
+-- the parts from LBN 2 to below an end are written, the other blocks there stay, and so do all blocks from there on
 pub record ArePut (p : Plan) (end : ℕ) (old new : List Block) : Type 0 where
   pub there : (lbn : ℕ) → 1 < lbn → lbn < end → IsAt p lbn (block_in old lbn) (block_in new lbn)
   pub rest : (lbn : ℕ) → end ≤ lbn → block_in new lbn ≡ block_in old lbn

@@ -2,38 +2,41 @@
 ghost use Rattle.std.specs.Prelude.{◌≡◌, ◌≤◌, ◌<◌, ◌+◌, ◌*◌, ◌==◌, nat_lt, ℕ, [], Ok, IsTrue, if◌then◌else◌};
 ghost use Rattle.fx_home.specs.Homes.{IsWithinLimits};
 ghost use Rattle.fx_header.specs.declared.slot.Slot.TheVariants.{Used};
-ghost use Rattle.fx_header.specs.Headers.{header_read, runs_in, has_offsets, map_area, with_runs, ReadsBack};
+ghost use Rattle.fx_header.specs.Headers.{header_read, runs_in, has_offsets, map_area, header_bytes, with_runs, ReadsBack};
 ghost use Rattle.fx_bitmap.specs.Bits.{bit_at};
 ghost use Rattle.vol_parts.specs.Volumes.{rows_in};
-ghost use Rattle.vol_fresh.specs.Layouts.{IsLayout, reserved_clusters, total, header_of, runs_of, quota_rows};
-ghost use Rattle.vol_init.specs.Parts.{is_free, IsInside, Says};
+ghost use Rattle.vol_fresh.specs.Layouts.{IsLayout, reserved_clusters, total, header_of, text_of, runs_of, quota_rows};
+ghost use Rattle.vol_init.specs.Parts.{home_copy_bytes, header_block, is_free, IsInside, Says};
 ghost use Rattle.vol_init.specs.Plans.{IsPlan};
 
-use crate::naming::text_of;
 use crate::part::Part;
 use crate::plan::Plan;
 use fx_bitmap::set_bits;
 use fx_header::{Run, free_slot, new_header, set_runs};
 use fx_home::{Home, Scb, home_block, scb_block};
 use fx_quota::{Row, set_row};
-use vol_fresh::Layout;
+use vol_fresh::{Layout, SYSTEM_OWNER, USER_OWNER, text_of};
 use vol_words::{Block, put_long, put_word, set_sum, sum_of, zeros};
 
-/// The owner of the system files, [1,1].
-const SYSTEM: u32 = 65_537;
-/// The owner of users' files, [1,4].
-const USER: u32 = 65_540;
+/// Where the LBN of a home block stands in it, in bytes.
+const HOMELBN: usize = 0;
+/// Where its VBN stands.
+const HOMEVBN: usize = 16;
+/// Where the sum of its first 29 words stands.
+const CHECKSUM1: usize = 58;
 
 /// The copy of the home block, with its own place and sums.
+#[tactic(auto, unfolding(crate::specs::Parts::home_copy_bytes, fx_home::specs::Homes::with_sum1))]
 fn home_copy(home: &Home) -> Block
     requires { IsWithinLimits home.now }
+    ensures { result ≡ home_copy_bytes home.now }
 {
     let mut b = home_block(home);
     let vbn = 2 * home.cluster + 1;
-    put_long(&mut b, 0, u32::from(2 * home.cluster));
-    put_word(&mut b, 16, vbn);
+    put_long(&mut b, HOMELBN, u32::from(2 * home.cluster));
+    put_word(&mut b, HOMEVBN, vbn);
     let sum = sum_of(&b, 29);
-    put_word(&mut b, 58, sum);
+    put_word(&mut b, CHECKSUM1, sum);
     set_sum(&mut b);
     b
 }
@@ -44,6 +47,7 @@ fn bare_header(layout: &Layout, n: u32) -> Block
     requires room { reserved_clusters layout.now ≤ total layout.now }
     requires from { 1 ≤ n }
     requires to { n ≤ 11 }
+    ensures written { result ≡ header_bytes (header_of layout.now n) (text_of n) (4, 4) }
     ensures offsets { IsTrue (has_offsets result) }
     ensures area { map_area result ≡ 155 }
     ensures reads { ReadsBack result (header_of layout.now n) }
@@ -73,11 +77,13 @@ fn put_runs(b: &mut Block, layout: &Layout, n: u32)
 }
 
 /// The header of a system file.
+#[tactic(auto, unfolding(crate::specs::Parts::header_block))]
 fn header_block(layout: &Layout, n: u32) -> Block
     requires layout { IsLayout layout.now }
     requires room { reserved_clusters layout.now ≤ total layout.now }
     requires from { 1 ≤ n }
     requires to { n ≤ 11 }
+    ensures written { result ≡ header_block layout.now n }
     ensures reads { header_read result ≡ Ok (Used (header_of layout.now n)) }
     ensures runs { runs_in result ≡ runs_of layout.now n }
 {
@@ -126,13 +132,13 @@ fn quota_block(layout: &Layout, k: u32) -> Block
     }
     let quota = layout.blocks + layout.files;
     let system = Row {
-        uic: SYSTEM,
+        uic: SYSTEM_OWNER,
         usage: layout.cluster * layout.reserved_clusters() + 11,
         quota,
         over: 0,
     };
     let user = Row {
-        uic: USER,
+        uic: USER_OWNER,
         usage: 0,
         quota,
         over: 0,
@@ -146,7 +152,7 @@ fn quota_block(layout: &Layout, k: u32) -> Block
 pub(crate) fn block_of(plan: &Plan, part: Part) -> Block
     requires plan { IsPlan plan.now }
     requires part { IsInside plan.now.layout part }
-    ensures { Says plan.now.layout plan.now.main.items plan.now.lost.items part result }
+    ensures { Says plan.now.layout plan.now.home plan.now.main.items plan.now.lost.items part result }
 {
     let layout = &plan.layout;
     match part {

@@ -1,27 +1,9 @@
-//! The names of the system files, and the entries that the master file directory has of them.
+//! The entries that the master file directory has of the system files.
 ghost use Rattle.std.specs.Prelude.{◌≡◌, ◌≤◌, ◌++◌, [], ◌∷◌, IfOk};
 ghost use Rattle.vol_fresh.specs.Layouts.{main_entry, main_entries};
 
 use fx_dir::{NoMemory, RawEnt, RawName};
 use std::alloc::Global;
-
-/// The text that the header of a system file has for its name, and none for another number.
-pub(crate) fn text_of<'a>(n: u32) -> &'a [u8] {
-    match n {
-        1 => b"INDEXF.SYS;1",
-        2 => b"BITMAP.SYS;1",
-        3 => b"BADBLK.SYS;1",
-        4 => b"000000.DIR;1",
-        5 => b"CORIMG.SYS;1",
-        6 => b"VOLSET.SYS;1",
-        7 => b"CONTIN.SYS;1",
-        8 => b"BACKUP.SYS;1",
-        9 => b"BADLOG.SYS;1",
-        10 => b"QUOTA.SYS;1",
-        11 => b"SYSLOST.DIR;1",
-        _ => b"",
-    }
-}
 
 /// Appends the entry of a system file, whose number is 1 to 11.
 fn add_entry(alloc: Global, list: &mut Vec<RawEnt>, name: &[u8], n: u32) -> Result<(), NoMemory>

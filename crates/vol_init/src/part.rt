@@ -1,8 +1,8 @@
 //! Which of the blocks that are written a block is.
 ghost use Rattle.std.specs.Prelude.{◌≡◌, ◌≤◌, ◌<◌, ◌+◌, IfSome};
 ghost use Rattle.std.specs.Bool.{OnTrue};
-ghost use Rattle.vol_fresh.specs.Layouts.{IsLayout, total};
-ghost use Rattle.vol_parts.specs.Parts.{storage_blocks, is_among};
+ghost use Rattle.vol_fresh.specs.Layouts.{IsLayout};
+ghost use Rattle.vol_parts.specs.Parts.{is_among};
 ghost use Rattle.vol_init.specs.Parts.{first_block, part_of, IsInside};
 
 use vol_fresh::Layout;
@@ -39,15 +39,6 @@ fn first_block(layout: &Layout, n: u32) -> u32
     layout.cluster * layout.first_cluster(n)
 }
 
-/// The blocks of the storage bitmap.
-fn storage_blocks(layout: &Layout) -> u32
-    requires { IsLayout layout.now }
-    ensures value { result ≡ storage_blocks (total layout.now) }
-    ensures bound { result ≤ 16 }
-{
-    (layout.blocks / layout.cluster).div_ceil(4096)
-}
-
 /// Whether a block is one of the `n` blocks from a first one on.
 fn is_among(first: u32, n: u32, lbn: u32) -> bool
     ensures value { result ≡ is_among first n lbn }
@@ -76,7 +67,7 @@ pub(crate) fn part_of(layout: &Layout, lbn: u32) -> Option<Part>
         Some(Part::Header(lbn - 4 * layout.cluster))
     } else if lbn == control {
         Some(Part::Control)
-    } else if is_among(control + 1, storage_blocks(layout), lbn) {
+    } else if is_among(control + 1, layout.storage_blocks(), lbn) {
         Some(Part::Storage(lbn - (control + 1)))
     } else if is_among(main, layout.cluster, lbn) {
         Some(Part::Main(lbn - main))
