@@ -1,4 +1,4 @@
-//! The program: `vmsclus IMAGE SCRIPT run`. It opens the image and the script, and hands the other words to the top call.
+//! The program: `vmsclus IMAGE SCRIPT JOB`. It opens the image and the script, and hands the words of the job to the top call.
 #![tactic(auto)]
 
 use blk_drive::{FileImage, ImageDev, MemImage};
