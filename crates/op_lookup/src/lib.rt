@@ -3,5 +3,7 @@
 
 mod looks;
 mod operation;
+#[cfg(test)]
+mod tests;
 
 pub use operation::OpLookup;
