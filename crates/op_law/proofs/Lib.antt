@@ -3,3 +3,4 @@ pub mod Heads
 pub mod Telling
 pub mod Looks
 pub mod Fitting
+pub mod Going

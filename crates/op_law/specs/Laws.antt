@@ -1,7 +1,8 @@
 -- The law of a command that only looks.
-use Rattle.std.specs.Prelude.{◌≡◌, ◌<◌, ℕ, List, [], Some, None, length}
+use Rattle.std.specs.Prelude.{◌≡◌, ◌<◌, ℕ, List, [], Some, None, length, ◌++◌, ◌∷◌}
 use Rattle.vol_words.specs.Fields.{Block}
 use Rattle.lock_db.specs.declared.name.LockName.{LockName}
+use Rattle.plain_cat.specs.declared.mode.Mode.{Mode}
 use Rattle.plain_cat.specs.declared.mode.Mode.TheVariants.{PR}
 use Rattle.plain_cat.specs.declared.command.Cmd.{Cmd}
 use Rattle.plain_cat.specs.declared.cat.Cat.{Cat}
@@ -41,3 +42,10 @@ IsLookNeed cmd seen bs own c (need.Ready p) = IsAnswer cmd c p
 abbrev pub Lawful : Cmd → Type 0
 Lawful cmd = (seen : Seen) (bs : List Block) (own : Owners) (c : Cat) (next : Need) → HasSeen cmd seen → IsSeenOn seen bs own c → IsNext cmd seen next
     → IsLookNeed cmd seen bs own c next
+
+-- What a command has seen fits it still where its next need is met: at first nothing is seen, then a lock was granted, or the
+-- block was looked at.
+pub record GoesOn (cmd : Cmd) : Type 0 where
+  pub first : (seen : Seen) → seen.locks ≡ [] → seen.blocks ≡ [] → HasSeen cmd seen
+  pub granted : (seen : Seen) (name : LockName) (mode : Mode) → HasSeen cmd seen → IsNext cmd seen (need.Lock name mode) → HasSeen cmd (record seen { locks = seen.locks ++ (name, mode) ∷ [] })
+  pub looked : (seen : Seen) (name : LockName) (lbn : ℕ) (b : Block) → HasSeen cmd seen → IsNext cmd seen (need.Block name lbn) → HasSeen cmd (record seen { blocks = seen.blocks ++ (lbn, b) ∷ [] })
