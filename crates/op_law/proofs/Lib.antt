@@ -4,3 +4,4 @@ pub mod Telling
 pub mod Looks
 pub mod Fitting
 pub mod Going
+pub mod Replying

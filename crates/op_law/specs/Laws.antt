@@ -5,11 +5,16 @@ use Rattle.lock_db.specs.declared.name.LockName.{LockName}
 use Rattle.plain_cat.specs.declared.mode.Mode.{Mode}
 use Rattle.plain_cat.specs.declared.mode.Mode.TheVariants.{PR}
 use Rattle.plain_cat.specs.declared.command.Cmd.{Cmd}
+use Rattle.plain_cat.specs.declared.reply.Reply.{Reply}
 use Rattle.plain_cat.specs.declared.cat.Cat.{Cat}
 use Rattle.plain_vol.specs.Answers.{Answer}
-use Rattle.vol_owners.specs.Lists.{Has}
+use Rattle.vol_owners.specs.Lists.{Has, StandsIn}
 use Rattle.vol_owners.specs.Owners.{Owners}
+use Rattle.vol_parts.specs.declared.geometry.Geometry.{Geometry}
+use Rattle.vol_spell.specs.Spelling.{Spells}
 use Rattle.vol_under.specs.Guards.{Lock, guard_of}
+use Rattle.vol_under.specs.UnderWay.{UnderWay}
+use Rattle.vol_under.specs.Answering.{IsReply}
 use Rattle.op_law.specs.declared.need.Need.{Need}
 use Rattle.op_law.specs.declared.need.Need.TheVariants as need
 use Rattle.op_law.specs.declared.need.Plan.{Plan}
@@ -49,3 +54,8 @@ pub record GoesOn (cmd : Cmd) : Type 0 where
   pub first : (seen : Seen) → seen.locks ≡ [] → seen.blocks ≡ [] → HasSeen cmd seen
   pub granted : (seen : Seen) (name : LockName) (mode : Mode) → HasSeen cmd seen → IsNext cmd seen (need.Lock name mode) → HasSeen cmd (record seen { locks = seen.locks ++ (name, mode) ∷ [] })
   pub looked : (seen : Seen) (name : LockName) (lbn : ℕ) (b : Block) → HasSeen cmd seen → IsNext cmd seen (need.Block name lbn) → HasSeen cmd (record seen { blocks = seen.blocks ++ (lbn, b) ∷ [] })
+
+-- a command that writes nothing, and whose reply is its answer on all blocks that have what it has seen, answers with that reply
+abbrev pub LooksReply : Type 0
+LooksReply = (g : Geometry) (n : ℕ) (u : UnderWay) (x : Cmd) (r : Reply) → u.plan ≡ []
+    → ((base : List Block) (own : Owners) (c : Cat) → Spells g base own c → StandsIn base u.seen → Answer c n x r c) → IsReply g n u x r

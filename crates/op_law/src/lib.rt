@@ -2,6 +2,7 @@
 //! plan. And the trait of an operation, which works that out.
 #![tactic(auto)]
 
+mod laws;
 mod lists;
 mod need;
 mod operation;
@@ -9,6 +10,7 @@ mod rows;
 mod seeing;
 mod seen;
 
+pub use laws::looks_reply;
 pub use lists::{SeenBlocks, SeenLocks, Writes};
 pub use need::{Ask, Need, Plan, PlanWrite};
 pub use operation::Operation;
