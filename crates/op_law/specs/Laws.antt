@@ -1,61 +1,100 @@
--- The law of a command that only looks.
-use Rattle.std.specs.Prelude.{◌≡◌, ◌<◌, ℕ, List, [], Some, None, length, ◌++◌, ◌∷◌}
+-- The law of an operation.
+use Rattle.std.specs.Prelude.{◌≡◌, ◌≤◌, ◌<◌, ◌-◌, ◌&&◌, not, nat_le, ℕ, Bool, List, [], ◌∷◌, Option, Some, None, length, map, filter, take}
 use Rattle.vol_words.specs.Fields.{Block}
 use Rattle.lock_db.specs.declared.name.LockName.{LockName}
+use Rattle.plain_cat.specs.Modes.{rank}
 use Rattle.plain_cat.specs.declared.mode.Mode.{Mode}
-use Rattle.plain_cat.specs.declared.mode.Mode.TheVariants.{PR}
+use Rattle.plain_cat.specs.declared.mode.Mode.TheVariants.{PR, PW}
 use Rattle.plain_cat.specs.declared.command.Cmd.{Cmd}
 use Rattle.plain_cat.specs.declared.reply.Reply.{Reply}
+use Rattle.plain_cat.specs.declared.reply.Reply.TheVariants as reply
 use Rattle.plain_cat.specs.declared.cat.Cat.{Cat}
-use Rattle.plain_vol.specs.Answers.{Answer}
-use Rattle.vol_owners.specs.Lists.{Has, StandsIn}
-use Rattle.vol_owners.specs.Owners.{Owners}
+use Rattle.vol_owners.specs.Lists.{Has, Touches, StandsIn}
+use Rattle.vol_owners.specs.Owners.{Owners, Things, nothing, Outs}
 use Rattle.vol_parts.specs.declared.geometry.Geometry.{Geometry}
 use Rattle.vol_spell.specs.Spelling.{Spells}
-use Rattle.vol_under.specs.Guards.{Lock, guard_of}
-use Rattle.vol_under.specs.UnderWay.{UnderWay}
+use Rattle.vol_under.specs.Guards.{guard_of, MayWrite, MayLook}
+use Rattle.vol_under.specs.UnderWay.{PlannedWrite, bare, UnderWay}
+use Rattle.vol_under.specs.Under.{IsLawful}
 use Rattle.vol_under.specs.Answering.{IsReply}
 use Rattle.op_law.specs.declared.need.Need.{Need}
 use Rattle.op_law.specs.declared.need.Need.TheVariants as need
 use Rattle.op_law.specs.declared.need.Plan.{Plan}
+use Rattle.op_law.specs.declared.need.PlanWrite.{PlanWrite}
+use Rattle.op_law.specs.declared.need.Ask.{Ask}
 use Rattle.op_law.specs.declared.seen.Seen.{Seen}
+use Rattle.op_law.specs.Knows.{knows, is_granted}
 use Rattle.op_law.specs.Needs.{IsNext}
 use Rattle.op_law.specs.Fits.{HasSeen, IsSeenOn}
 
--- a look at a block of the volume that is guarded by a lock which the command holds in PR
-pub record IsGuardedLook (seen : Seen) (bs : List Block) (own : Owners) (name : LockName) (lbn : ℕ) : Type 0 where
-  pub held : Has seen.locks (name, PR)
-  pub guard : guard_of seen.geometry own lbn ≡ Some (Lock name)
+-- ---- a command under way
+
+-- the names of those locks that are held in this mode or a stronger one
+abbrev pub held_in : Mode → List (LockName × Mode) → List LockName
+held_in mode locks = map (λ l. l.0) (filter (λ l. nat_le (rank mode) (rank l.1)) locks)
+
+-- these clusters and this number, as things that are outside files
+abbrev pub things : List ℕ → Option ℕ → Things
+things clusters None = record { clusters = clusters; numbers = [] }
+things clusters (Some n) = record { clusters = clusters; numbers = (n - 1) ∷ [] }
+
+abbrev pub planned : PlanWrite → PlannedWrite
+planned w = record { lbn = w.lbn; block = w.block; stage = w.stage; outs = things w.clusters w.number }
+
+-- a node with a command under way that has seen this, has decided on these writes, and knows this of the catalogue
+abbrev pub under_way : Cmd → Seen → List PlanWrite → (Cat → Bool) → UnderWay
+under_way cmd seen writes known = record {
+  read = held_in PR seen.locks; write = held_in PW seen.locks; cmd = Some cmd; seen = seen.blocks; knows = known;
+  took = things seen.clusters seen.number; plan = map planned writes; done = 0; stock = nothing;
+}
+
+-- ---- needs
+
+-- a node that holds these locks may look at a block
+pub record IsGuardedLook (seen : Seen) (bs : List Block) (own : Owners) (lbn : ℕ) : Type 0 where
+  pub guard : MayLook (held_in PR seen.locks) (guard_of seen.geometry own lbn)
   pub within : lbn < length bs
 
--- a plan that writes nothing and asks for nothing, whose reply is the command's answer at each node, which leaves the catalogue
-pub record IsAnswer (cmd : Cmd) (c : Cat) (p : Plan) : Type 0 where
-  pub writes : p.writes ≡ []
-  pub ask : p.ask ≡ None
-  pub answer : (node : ℕ) → Answer c node cmd p.reply c
+-- What a command may need on blocks that have what it has seen: a lock in PR or PW that it has not taken yet, a look under a
+-- lock that it holds, and once at most 77 clusters and a number.
+abbrev pub MayNeed : Seen → List Block → Owners → Need → Type 0
+MayNeed seen bs own (need.Lock name mode) = (Has (map (λ l. l.0) seen.locks) name → ⊥) × Has (PR ∷ PW ∷ []) mode
+MayNeed seen bs own (need.Block name lbn) = Has (held_in PR seen.locks) name × IsGuardedLook seen bs own lbn
+MayNeed seen bs own (need.Bare lbn) = IsGuardedLook seen bs own lbn
+MayNeed seen bs own (need.Space clusters number) = (clusters ≤ 77) × (seen.clusters ≡ []) × (seen.number ≡ None) × (seen.short ≡ None)
+MayNeed seen bs own (need.Ready plan) = Unit {0}
 
--- what a command that only looks may need: one lock in PR, guarded looks, and its answer
-abbrev pub IsLookNeed : Cmd → Seen → List Block → Owners → Cat → Need → Type 0
-IsLookNeed cmd seen bs own c (need.Lock name mode) = (seen.locks ≡ []) × (mode ≡ PR)
-IsLookNeed cmd seen bs own c (need.Block name lbn) = IsGuardedLook seen bs own name lbn
-IsLookNeed cmd seen bs own c (need.Bare lbn) = ⊥
-IsLookNeed cmd seen bs own c (need.Space clusters number) = ⊥
-IsLookNeed cmd seen bs own c (need.Ready p) = IsAnswer cmd c p
+-- ---- plans
 
--- The law of a command that only looks: on all blocks that spell a catalogue and have what it has seen, whatever it needs next
--- is so.
-abbrev pub Lawful : Cmd → Type 0
-Lawful cmd = (seen : Seen) (bs : List Block) (own : Owners) (c : Cat) (next : Need) → HasSeen cmd seen → IsSeenOn seen bs own c → IsNext cmd seen next
-    → IsLookNeed cmd seen bs own c next
+-- each write is to a block whose lock is held in PW, or that the node has outside
+abbrev pub AreGuarded : ℕ → UnderWay → Geometry → Type 0
+AreGuarded node u g = (base : List Block) (own : Owners) (c : Cat) (stock : Things) → Spells g base own c → StandsIn base u.seen → Outs node own u.took stock
+    → (l : ℕ) → Touches (bare u.plan) l → MayWrite node u.write (guard_of g own l)
 
--- What a command has seen fits it still where its next need is met: at first nothing is seen, then a lock was granted, or the
--- block was looked at.
-pub record GoesOn (cmd : Cmd) : Type 0 where
-  pub first : (seen : Seen) → seen.locks ≡ [] → seen.blocks ≡ [] → HasSeen cmd seen
-  pub granted : (seen : Seen) (name : LockName) (mode : Mode) → HasSeen cmd seen → IsNext cmd seen (need.Lock name mode) → HasSeen cmd (record seen { locks = seen.locks ++ (name, mode) ∷ [] })
-  pub looked : (seen : Seen) (name : LockName) (lbn : ℕ) (b : Block) → HasSeen cmd seen → IsNext cmd seen (need.Block name lbn) → HasSeen cmd (record seen { blocks = seen.blocks ++ (lbn, b) ∷ [] })
+-- These writes and this reply are right: each write is guarded, each number of the writes leaves a stage of the command, and
+-- the reply goes with all of them.
+pub record IsRight (node : ℕ) (cmd : Cmd) (g : Geometry) (u : UnderWay) (r : Reply) : Type 0 where
+  pub guarded : AreGuarded node u g
+  pub lawful : IsLawful g node u
+  pub reply : IsReply g node u cmd r
 
--- a command that writes nothing, and whose reply is its answer on all blocks that have what it has seen, answers with that reply
-abbrev pub LooksReply : Type 0
-LooksReply = (g : Geometry) (n : ℕ) (u : UnderWay) (x : Cmd) (r : Reply) → u.plan ≡ []
-    → ((base : List Block) (own : Owners) (c : Cat) → Spells g base own c → StandsIn base u.seen → Answer c n x r c) → IsReply g n u x r
+-- a refusal writes nothing
+abbrev pub WritesNothing : Plan → Reply → Type 0
+WritesNothing p (reply.Refused r) = (p.writes ≡ []) × (p.ask ≡ None)
+WritesNothing p other = Unit {0}
+
+-- With an ask the whole plan is right where the ask is granted, and where it is not, the writes before it with its refusal.
+abbrev pub IsPlan : ℕ → Cmd → Seen → Plan → Option Ask → Type 0
+IsPlan node cmd seen p None = IsRight node cmd seen.geometry (under_way cmd seen p.writes (knows node cmd seen)) p.reply
+IsPlan node cmd seen p (Some a) =
+    IsRight node cmd seen.geometry (under_way cmd seen p.writes (λ c. knows node cmd seen c && is_granted node a c)) p.reply
+    × IsRight node cmd seen.geometry (under_way cmd seen (take a.at p.writes) (λ c. knows node cmd seen c && not (is_granted node a c))) a.refused
+    × IsLawful seen.geometry node (under_way cmd seen (take a.at p.writes) (knows node cmd seen))
+    × (a.at ≤ length p.writes)
+
+-- The law of a command: what it needs next, whatever it has seen, it may need on all blocks that have that, and its plan is
+-- right at each node.
+pub record Lawful (cmd : Cmd) : Type 0 where
+  pub needs : (seen : Seen) (bs : List Block) (own : Owners) (c : Cat) (next : Need) → HasSeen cmd seen → IsSeenOn seen bs own c → IsNext cmd seen next → MayNeed seen bs own next
+  pub plans : (node : ℕ) (seen : Seen) (p : Plan) → HasSeen cmd seen → IsNext cmd seen (need.Ready p) → IsPlan node cmd seen p p.ask
+  pub refusals : (seen : Seen) (p : Plan) → HasSeen cmd seen → IsNext cmd seen (need.Ready p) → WritesNothing p p.reply

@@ -1,57 +1,53 @@
--- What comes next for a command that only looks: LOOKUP, LIST and STAT.
-use Rattle.std.specs.Prelude.{◌≡◌, ℕ, List, Option, Some, None, map}
+-- What each command needs next: its events in order.
+use Rattle.std.specs.Prelude.{◌≡◌, ℕ, List, [], Option, Some, None}
 use Rattle.vol_words.specs.Fields.{Block}
-use Rattle.fx_dir.specs.Directory.{directory}
 use Rattle.fx_header.specs.declared.slot.Hdr.{Hdr}
 use Rattle.plain_cat.specs.declared.ids.Fid.{Fid}
 use Rattle.plain_cat.specs.declared.mode.Mode.TheVariants.{PR}
-use Rattle.plain_cat.specs.declared.entries.DirEnt.{DirEnt}
 use Rattle.plain_cat.specs.declared.command.Cmd.{Cmd}
 use Rattle.plain_cat.specs.declared.command.Cmd.TheVariants as cmd
 use Rattle.plain_cat.specs.declared.reply.Reply.{Reply}
 use Rattle.plain_cat.specs.declared.reply.Reply.TheVariants as reply
 use Rattle.plain_cat.specs.declared.reply.Refusal.TheVariants as refusal
 use Rattle.plain_vol.specs.Lookups.{versions, entry_of, found}
-use Rattle.vol_parts.specs.Catalogues.{plain_entries}
+use Rattle.vol_parts.specs.declared.geometry.Geometry.{Geometry}
 use Rattle.op_law.specs.declared.need.Need.{Need}
 use Rattle.op_law.specs.declared.seen.Seen.{Seen}
-use Rattle.op_law.specs.Rows.{answered, refused, live_in, through_header, through_directory}
-
--- the entries of a directory whose blocks were seen
-abbrev pub entries_seen : List (ℕ × Block) → List DirEnt
-entries_seen seen = plain_entries (directory (map (λ s. s.1) seen))
-
--- a directory's lock in PR, its header, all of its blocks, and then what its entries answer
-abbrev pub directory_need : Fid → (List DirEnt → Reply) → Seen → Need
-directory_need dir reply seen = through_directory seen.geometry dir PR (λ all. answered (reply (entries_seen all))) seen.locks seen.blocks
+use Rattle.op_law.specs.declared.seen.Chan.{Chan}
+use Rattle.op_law.specs.Events.{Events, following}
+use Rattle.op_law.specs.Rows.{answers, refuses, live_in, entries_seen, through_header, through_directory}
 
 -- LOOKUP
-unfoldable pub lookup_need : Fid → List ℕ → ℕ → Seen → Need
-lookup_need dir name ver seen = directory_need dir (λ es. found (entry_of (versions name es) ver)) seen
+unfoldable pub lookup_events : Geometry → Fid → List ℕ → ℕ → Events
+lookup_events g dir name ver = through_directory g dir PR (λ h bs. answers (found (entry_of (versions name (entries_seen bs)) ver)))
 
 -- LIST
-unfoldable pub list_need : Fid → Seen → Need
-list_need dir seen = directory_need dir (λ es. reply.Listed es) seen
+unfoldable pub list_events : Geometry → Fid → Events
+list_events g dir = through_directory g dir PR (λ h bs. answers (reply.Listed (entries_seen bs)))
 
 -- the facts of a header
 abbrev pub facts_of : Hdr → Reply
 facts_of h = reply.Facts h.dir (record { 0 = h.owner }) h.blocks h.mark h.end h.byte
 
-abbrev pub facts_need : Option Hdr → Need
-facts_need None = refused refusal.NoSuchFile
-facts_need (Some h) = answered (facts_of h)
+abbrev pub facts_or_none : Option Hdr → Events
+facts_or_none None = refuses refusal.NoSuchFile
+facts_or_none (Some h) = answers (facts_of h)
 
--- STAT: the file's lock in PR, and its header
-unfoldable pub stat_need : Fid → Seen → Need
-stat_need file seen = through_header seen.geometry file PR (λ b behind. facts_need (live_in file.seq b)) seen.locks seen.blocks
+-- STAT
+unfoldable pub stat_events : Geometry → Fid → Events
+stat_events g file = through_header g file PR (λ b. facts_or_none (live_in file.seq b))
 
--- What a command that only looks needs next. It is told of these commands alone.
-unfoldable pub look_need : Cmd → Seen → Option Need
-look_need (cmd.Lookup reg dir name ver) seen = Some (lookup_need dir name ver seen)
-look_need (cmd.List dir) seen = Some (list_need dir seen)
-look_need (cmd.Stat file) seen = Some (stat_need file seen)
-look_need other seen = None
+-- The events of a command, where its channel has this open.
+unfoldable pub events_of : Geometry → Option Chan → Cmd → Events
+events_of g channel (cmd.Lookup reg dir name ver) = lookup_events g dir name ver
+events_of g channel (cmd.List dir) = list_events g dir
+events_of g channel (cmd.Stat file) = stat_events g file
+events_of g channel other = refuses refusal.NoSuchFile
+
+-- what a command needs next, by what it has seen
+abbrev pub need_of : Cmd → Seen → Need
+need_of cmd seen = following (events_of seen.geometry seen.channel cmd) seen.locks seen.blocks seen
 
 -- the command needs this next
 abbrev pub IsNext : Cmd → Seen → Need → Type 0
-IsNext cmd seen need = look_need cmd seen ≡ Some need
+IsNext cmd seen need = need_of cmd seen ≡ need

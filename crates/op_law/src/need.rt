@@ -1,6 +1,6 @@
 use crate::lists::Writes;
 use lock_db::LockName;
-use plain_cat::{Mode, Reply, Stage};
+use plain_cat::{Clusters, Mode, Reply, Stage};
 use vol_words::Block;
 
 /// What a command needs next.
@@ -44,6 +44,10 @@ pub struct PlanWrite {
 
     /// The stage of the command after the write.
     pub stage: Stage,
+
+    /// The clusters that the command has after it outside files and bitmaps, and the file number, from 1.
+    pub clusters: Clusters,
+    pub number: Option<u32>,
 }
 
 /// An ask for the lock of who has a file open. Where it is not granted the command ends there, with another reply.

@@ -1,0 +1,104 @@
+-- What a command takes for granted of the catalogue besides the blocks that it has seen.
+use Rattle.std.specs.Prelude.{◌==◌, ◌&&◌, ◌+◌, not, nat_lt, nat_le, ℕ, Bool, true, false, List, Option, Some, None, is_none, is_some, length, slice_set, if◌then◌else◌}
+use Rattle.std.specs.List.{list_any, list_all, range_with_len}
+use Rattle.plain_cat.specs.Modes.{rank}
+use Rattle.plain_cat.specs.declared.ids.Fid.{Fid}
+use Rattle.plain_cat.specs.declared.mode.Mode.{Mode}
+use Rattle.plain_cat.specs.declared.command.Cmd.{Cmd}
+use Rattle.plain_cat.specs.declared.command.Cmd.TheVariants as cmd
+use Rattle.plain_cat.specs.declared.reply.Refusal.{Refusal}
+use Rattle.plain_cat.specs.declared.reply.Refusal.TheVariants as refusal
+use Rattle.plain_cat.specs.declared.cat.Cat.{Cat}
+use Rattle.plain_cat.specs.declared.cat.File.{File}
+use Rattle.plain_cat.specs.declared.cat.Open.{Open}
+use Rattle.plain_cat.specs.declared.cat.QuotaRow.{QuotaRow}
+use Rattle.plain_vol.specs.Lookups.{in_use, channel_at, place, free_clusters, is_free_number}
+use Rattle.plain_vol.specs.Changes.{in_clusters}
+use Rattle.plain_vol.specs.Accounts.{charge}
+use Rattle.plain_vol.specs.Answers.{conflicts}
+use Rattle.op_law.specs.declared.need.Ask.{Ask}
+use Rattle.op_law.specs.declared.seen.Seen.{Seen}
+use Rattle.op_law.specs.declared.seen.Chan.{Chan}
+
+-- ---- the channel that a command names
+
+abbrev pub channel_of : Cmd → Option ℕ
+channel_of (cmd.OpenFile chan file mode) = Some chan
+channel_of (cmd.CloseFile chan) = Some chan
+channel_of (cmd.ReadBlock chan vbn) = Some chan
+channel_of (cmd.WriteBlock chan vbn text) = Some chan
+channel_of other = None
+
+abbrev pub is_plain_file : Option File → Bool
+is_plain_file None = false
+is_plain_file (Some f) = not f.dir
+
+-- the channel has this file open in this mode, and the file is in use and no directory
+abbrev pub is_open_as : Cat → Chan → Option Open → Bool
+is_open_as c p None = false
+is_open_as c p (Some o) = (o.file == p.file.num) && (rank o.mode == rank p.mode) && is_plain_file (in_use c p.file)
+
+-- the channel has open what was seen, or nothing
+abbrev pub has_channel : Cat → ℕ → Option ℕ → Option Chan → Bool
+has_channel c node None seen = true
+has_channel c node (Some chan) None = is_none (channel_at c node chan)
+has_channel c node (Some chan) (Some p) = is_open_as c p (channel_at c node chan)
+
+-- ---- space that was refused
+
+-- the clusters that a command searches for
+abbrev pub clusters_wanted : Cat → Cmd → ℕ
+clusters_wanted c (cmd.Create reg dir name ver blocks owner) = in_clusters c blocks
+clusters_wanted c (cmd.MkDir reg dir name owner) = 1
+clusters_wanted c (cmd.Extend file blocks) = in_clusters c blocks
+clusters_wanted c other = 0
+
+-- whether it searches for a number
+abbrev pub wants_number : Cmd → Bool
+wants_number (cmd.Create reg dir name ver blocks owner) = true
+wants_number (cmd.MkDir reg dir name owner) = true
+wants_number other = false
+
+-- a number of the volume is free
+abbrev pub has_free_number : Cat → Bool
+has_free_number c = list_any (is_free_number c) (range_with_len 1 (length c.files))
+
+-- Space was refused for its reason: a number was wanted and none is free, or else the clusters that are free are too few.
+abbrev pub is_short : Cat → Cmd → Option Refusal → Bool
+is_short c x None = true
+is_short c x (Some refusal.IndexFull) = wants_number x && not (has_free_number c)
+is_short c x (Some refusal.DeviceFull) = not (wants_number x && not (has_free_number c)) && nat_lt (free_clusters c) (clusters_wanted c x)
+is_short c x (Some other) = false
+
+-- ---- the quota rows
+
+-- a command that changes usages
+abbrev pub changes_usage : Cmd → Bool
+changes_usage (cmd.Create reg dir name ver blocks owner) = true
+changes_usage (cmd.MkDir reg dir name owner) = true
+changes_usage (cmd.Extend file blocks) = true
+changes_usage (cmd.Trunc file blocks) = true
+changes_usage (cmd.Delete dir name ver) = true
+changes_usage (cmd.CloseFile chan) = true
+changes_usage other = false
+
+-- the usage of a row is what its owner's files cost, or at most a million more
+abbrev pub is_charged : Cat → QuotaRow → Bool
+is_charged c r = nat_le (charge c r.owner) r.usage && nat_le r.usage (charge c r.owner + 1000000)
+
+abbrev pub usages_fit : Cat → Cmd → Bool
+usages_fit c x = if changes_usage x then list_all (is_charged c) c.quota else true
+
+-- what a command of a node knows of the catalogue once it has seen this
+abbrev pub knows : ℕ → Cmd → Seen → Cat → Bool
+knows node x seen c = has_channel c node (channel_of x) seen.channel && (is_short c x seen.short && usages_fit c x)
+
+-- ---- the ask
+
+-- what the other channels have open: all but the one that asks, where one does
+abbrev pub others_open : Cat → ℕ → ℕ → List (Option Open)
+others_open c node chan = if chan == 0 then c.opens else slice_set c.opens (place node chan) None
+
+-- the mode of an ask goes with all other opens of the file, so that it is granted
+abbrev pub is_granted : ℕ → Ask → Cat → Bool
+is_granted node a c = not (list_any (conflicts a.file a.mode) (others_open c node a.chan))
