@@ -1,125 +1,178 @@
 -- What was seen stays the first of what a command needs while its needs are met.
-use Rattle.std.proofs.Common.{◌≡◌, ℕ, Bool, true, false, cond, List, [], ◌∷◌, ◌++◌, Option, Some, None, map, take, length, slice_get, refl, sym, ap, subst}
+use Rattle.std.proofs.Common.{◌≡◌, ◌∙◌, ℕ, Bool, true, false, cond, List, [], ◌∷◌, ◌++◌, Option, Some, None, length, refl, sym, ap, subst, ◌⊎◌, inl, inr, arith}
+use Rattle.std.proofs.lemmas.Bool.Decides.{nat_tests}
+use Rattle.std.specs.Prelude.{◌==◌, ◌&&◌, MatchBool}
 use Rattle.vol_words.specs.Fields.{Block}
-use Rattle.fx_header.specs.declared.slot.Hdr.{Hdr}
 use Rattle.lock_db.specs.declared.name.LockName.{LockName}
-use Rattle.lock_db.specs.declared.name.LockName.TheVariants.{S}
-use Rattle.plain_cat.specs.declared.ids.Fid.{Fid}
 use Rattle.plain_cat.specs.declared.mode.Mode.{Mode}
-use Rattle.plain_cat.specs.declared.reply.Reply.{Reply}
-use Rattle.plain_cat.specs.declared.reply.Refusal.TheVariants as refusal
-use Rattle.vol_parts.specs.declared.geometry.Geometry.{Geometry}
-use Rattle.vol_spell.specs.Reading.{IsFileNumber, header_place}
+use Rattle.plain_cat.specs.declared.reply.Refusal.{Refusal}
+use Rattle.plain_cat.specs.declared.reply.Refusal.TheVariants.{IndexFull, DeviceFull}
 use Rattle.op_law.specs.declared.need.Need.{Need}
 use Rattle.op_law.specs.declared.need.Need.TheVariants as need
-use Rattle.op_law.specs.Rows.{answered, refused, is_number, after_lock, after_header, places_in, after_blocks, in_directory, through_header}
-use Rattle.op_law.specs.Needs.{facts_need}
-use Rattle.op_law.specs.Fits.{directory_places, AreFirst, AreSeen, UnderLock}
-use Rattle.op_law.proofs.Telling.{number_is}
+use Rattle.op_law.specs.Events.{Events, Take, Look, Fetch, Find, Make, Space, space_of, has_number, has_space, HasNoSpace, IsGiven, HasNoSearch, SearchesOnce, following, Follows}
+use Rattle.op_law.specs.Needs.{events_of}
+use Rattle.op_law.specs.Going.{SeenGoesOn}
 
--- one more of the places
-first_more : (ls : List ℕ) (seen : List (ℕ × Block)) (l : ℕ) (b : Block) → AreFirst ls seen → slice_get ls (length seen) ≡ Some l → AreFirst ls (seen ++ (l, b) ∷ [])
-first_more [] [] l b first at = absurd (let f : None ≡ Some l = at in cc)
-first_more [] (x ∷ seen) l b first at = absurd (let f : ◌≡◌ {A = List ℕ} (x.0 ∷ map (λ s. s.0) seen) [] = first in cc)
-first_more (y ∷ ls) [] l b first at = let f : Some y ≡ Some l = at in let e : l ≡ y = cc in ap (λ k. k ∷ []) e
-first_more (y ∷ ls) (x ∷ seen) l b first at =
-    let f : x.0 ∷ map (λ s. s.0) seen ≡ y ∷ take (length seen) ls = first in
-    let here : x.0 ≡ y = cc in
-    let behind : map (λ s. s.0) seen ≡ take (length seen) ls = cc in
-    let rest = first_more ls seen l b behind at in
-    λ i. here i ∷ rest i
+-- Where nothing more is seen it may stay so, from each of these events on: what holds before a search says that no space was given.
+abbrev pub Ready : Events → Space → Type 0 → Type 0
+Ready (Take name mode next) space given = Ready next space given
+Ready (Look name lbn next) space given = (b : Block) → Ready (next b) space given
+Ready (Fetch lbn next) space given = (b : Block) → Ready (next b) space given
+Ready (Find clusters number next) space given = (given → HasNoSpace space) × ((cs : List ℕ) (n : Option ℕ) (short : Option Refusal) → HasNoSearch (next cs n short))
+Ready (Make plan) space given = Unit {0}
 
--- a need is a look at the block of this LBN, or an ask for a lock
-abbrev pub Looks : Need → ℕ → Type 0
-Looks n lbn = (name : LockName) × (n ≡ need.Block name lbn)
+pub ready_more : (es : Events) (space : Space) (given : Type 0) → HasNoSearch es → Ready es space given
+ready_more (Take name mode next) space given once = ready_more next space given once
+ready_more (Look name lbn next) space given once = λ b. ready_more (next b) space given (once b)
+ready_more (Fetch lbn next) space given once = λ b. ready_more (next b) space given (once b)
+ready_more (Find clusters number next) space given once = absurd once
+ready_more (Make plan) space given once = tt
 
-abbrev pub Asks : Need → Type 0
-Asks n = (name : LockName) × (mode : Mode) × (n ≡ need.Lock name mode)
+pub ready : (es : Events) (space : Space) → SearchesOnce es → Ready es space (HasNoSpace space)
+ready (Take name mode next) space once = ready next space once
+ready (Look name lbn next) space once = λ b. ready (next b) space (once b)
+ready (Fetch lbn next) space once = λ b. ready (next b) space (once b)
+ready (Find clusters number next) space once = (λ h. h, once)
+ready (Make plan) space once = tt
 
-answer_looks : (r : Reply) (lbn : ℕ) → Looks (answered r) lbn → ⊥
-answer_looks r lbn t = let f : answered r ≡ need.Block t.0 lbn = t.1 in absurd (cc)
+-- what holds behind a search
+abbrev Behind : Space → Type 0
+Behind space = IsGiven space.clusters space.number space.short
 
-answer_asks : (r : Reply) → Asks (answered r) → ⊥
-answer_asks r t = let f : answered r ≡ need.Lock t.0 t.1 = t.2 in absurd (cc)
+start : (es : Events) (space : Space) (given : Type 0) → Ready es space given → given → Follows es [] [] space given
+start (Take name mode next) space given r h = (refl, h)
+start (Look name lbn next) space given r h = (refl, h)
+start (Fetch lbn next) space given r h = (refl, h)
+start (Find clusters number next) space given r h =
+    let none = r.0 h in
+    let first : Behind space = subst (λ s. IsGiven space.clusters space.number s) (sym none.short) tt in
+    by_test (start (next space.clusters space.number space.short) space (Behind space) (ready_more (next space.clusters space.number space.short) space (Behind space) (r.1 space.clusters space.number space.short)) first)
+    (has_space clusters number space) where
+      by_test : Follows (next space.clusters space.number space.short) [] [] space (Behind space) → (t : Bool)
+          → MatchBool t (Follows (next space.clusters space.number space.short) [] [] space (Behind space)) ((◌≡◌ {A = List (LockName × Mode)} [] []) × (◌≡◌ {A = List (ℕ × Block)} [] []) × given)
+      by_test there true = there
+      by_test there false = (refl, refl, h)
+start (Make plan) space given r h = (refl, refl, h)
 
-module _ (g : Geometry) (fid : Fid) (mode : Mode) (next : Block → List (ℕ × Block) → Need) (places : Block → List ℕ) where
-  module _ (never : (b : Block) (behind : List (ℕ × Block)) → Asks (next b behind) → ⊥) (name : LockName) (m : Mode) where
-    asks_header : (blocks : List (ℕ × Block)) → after_header g fid next blocks ≡ need.Lock name m → ⊥
-    asks_header [] e = let f : need.Block (S fid.num) (header_place g fid.num) ≡ need.Lock name m = e in absurd (cc)
-    asks_header (h ∷ behind) e = never h.1 behind (name, m, e)
+module _ (space : Space) (name : LockName) (mode : Mode) where
+  granted : (es : Events) (given : Type 0) (locks : List (LockName × Mode)) (blocks : List (ℕ × Block)) → Ready es space given → Follows es locks blocks space given
+      → following es locks blocks space ≡ need.Lock name mode → Follows es (locks ++ (name, mode) ∷ []) blocks space given
+  granted (Take n m next) given [] blocks r f e =
+      let k : need.Lock n m ≡ need.Lock name mode = e in
+      let a : name ≡ n = cc in
+      let b : mode ≡ m = cc in
+      ((λ i. (a i, b i)), subst (λ bs. Follows next [] bs space given) (sym f.0) (start next space given r f.1))
+  granted (Take n m next) given (l ∷ locks) blocks r f e = (f.0, granted next given locks blocks r f.1 e)
+  granted (Look n lbn next) given locks [] r f e = absurd (let k : need.Block n lbn ≡ need.Lock name mode = e in cc)
+  granted (Look n lbn next) given locks (b ∷ blocks) r f e = (f.0, granted (next b.1) given locks blocks (r b.1) f.1 e)
+  granted (Fetch lbn next) given locks [] r f e = absurd (let k : need.Bare lbn ≡ need.Lock name mode = e in cc)
+  granted (Fetch lbn next) given locks (b ∷ blocks) r f e = (f.0, granted (next b.1) given locks blocks (r b.1) f.1 e)
+  granted (Find clusters number next) given locks blocks r f e =
+      by_test (granted (next space.clusters space.number space.short) (Behind space) locks blocks (ready_more (next space.clusters space.number space.short) space (Behind space) (r.1 space.clusters space.number space.short)))
+      (has_space clusters number space) f e where
+        there : Type 0
+        there = Follows (next space.clusters space.number space.short) locks blocks space (Behind space) → following (next space.clusters space.number space.short) locks blocks space ≡ need.Lock name mode
+            → Follows (next space.clusters space.number space.short) (locks ++ (name, mode) ∷ []) blocks space (Behind space)
 
-    granted_more : (locks : List (LockName × Mode)) (blocks : List (ℕ × Block)) → IsFileNumber g fid.num → UnderLock g fid mode places locks blocks
-        → after_lock fid mode locks (after_header g fid next blocks) ≡ need.Lock name m → UnderLock g fid mode places (locks ++ (name, m) ∷ []) blocks
-    granted_more [] blocks is u e =
-        let f : need.Lock (S fid.num) mode ≡ need.Lock name m = e in
-        let a : name ≡ S fid.num = cc in
-        let b : m ≡ mode = cc in
-        (is, (λ i. (a i, b i)), refl, subst (AreSeen g fid places) (sym u) tt)
-    granted_more (l ∷ locks) blocks is u e = absurd (asks_header blocks e)
+        by_test : there → (t : Bool) → MatchBool t (Follows (next space.clusters space.number space.short) locks blocks space (Behind space)) ((locks ≡ []) × (blocks ≡ []) × given)
+            → cond t (following (next space.clusters space.number space.short) locks blocks space) (need.Space clusters number) ≡ need.Lock name mode
+            → MatchBool t (Follows (next space.clusters space.number space.short) (locks ++ (name, mode) ∷ []) blocks space (Behind space)) ((locks ++ (name, mode) ∷ [] ≡ []) × (blocks ≡ []) × given)
+        by_test more true f e = more f e
+        by_test more false f e = absurd (let k : need.Space clusters number ≡ need.Lock name mode = e in cc)
+  granted (Make plan) given locks blocks r f e = absurd (let k : need.Ready plan ≡ need.Lock name mode = e in cc)
 
-    pub granted : (locks : List (LockName × Mode)) (blocks : List (ℕ × Block)) → UnderLock g fid mode places locks blocks
-        → through_header g fid mode next locks blocks ≡ need.Lock name m → UnderLock g fid mode places (locks ++ (name, m) ∷ []) blocks
-    granted locks blocks u e = by_number (is_number g fid) refl e where
-      by_number : (t : Bool) → is_number g fid ≡ t → cond t (after_lock fid mode locks (after_header g fid next blocks)) (refused refusal.NoSuchFile) ≡ need.Lock name m
-          → UnderLock g fid mode places (locks ++ (name, m) ∷ []) blocks
-      by_number true k e = granted_more locks blocks (number_is g fid k) u e
-      by_number false k e = absurd (let f : refused refusal.NoSuchFile ≡ need.Lock name m = e in cc)
+-- a look at the block of this LBN, under a lock or bare
+abbrev IsLookAt : ℕ → Need → Type 0
+IsLookAt lbn (need.Block name l) = l ≡ lbn
+IsLookAt lbn (need.Bare l) = l ≡ lbn
+IsLookAt lbn other = ⊥
 
-  module _ (further : (b : Block) (behind : List (ℕ × Block)) (lbn : ℕ) → Looks (next b behind) lbn → slice_get (places b) (length behind) ≡ Some lbn) (name : LockName) (lbn : ℕ) (b : Block) where
-    looked_header : (blocks : List (ℕ × Block)) → AreSeen g fid places blocks → after_header g fid next blocks ≡ need.Block name lbn → AreSeen g fid places (blocks ++ (lbn, b) ∷ [])
-    looked_header [] a e = let f : need.Block (S fid.num) (header_place g fid.num) ≡ need.Block name lbn = e in let p : lbn ≡ header_place g fid.num = cc in (p, refl)
-    looked_header (h ∷ behind) a e = (a.0, first_more (places h.1) behind lbn b a.1 (further h.1 behind lbn (name, e)))
+module _ (space : Space) (lbn : ℕ) (x : Block) where
+  looked : (es : Events) (given : Type 0) (locks : List (LockName × Mode)) (blocks : List (ℕ × Block)) → Ready es space given → Follows es locks blocks space given
+      → IsLookAt lbn (following es locks blocks space) → Follows es locks (blocks ++ (lbn, x) ∷ []) space given
+  looked (Take n m next) given [] blocks r f e = absurd e
+  looked (Take n m next) given (l ∷ locks) blocks r f e = (f.0, looked next given locks blocks r f.1 e)
+  looked (Look n l next) given locks [] r f e = (sym e, subst (λ ls. Follows (next x) ls [] space given) (sym f.0) (start (next x) space given (r x) f.1))
+  looked (Look n l next) given locks (b ∷ blocks) r f e = (f.0, looked (next b.1) given locks blocks (r b.1) f.1 e)
+  looked (Fetch l next) given locks [] r f e = (sym e, subst (λ ls. Follows (next x) ls [] space given) (sym f.0) (start (next x) space given (r x) f.1))
+  looked (Fetch l next) given locks (b ∷ blocks) r f e = (f.0, looked (next b.1) given locks blocks (r b.1) f.1 e)
+  looked (Find clusters number next) given locks blocks r f e =
+      by_test (looked (next space.clusters space.number space.short) (Behind space) locks blocks (ready_more (next space.clusters space.number space.short) space (Behind space) (r.1 space.clusters space.number space.short)))
+      (has_space clusters number space) f e where
+        there : Type 0
+        there = Follows (next space.clusters space.number space.short) locks blocks space (Behind space) → IsLookAt lbn (following (next space.clusters space.number space.short) locks blocks space)
+            → Follows (next space.clusters space.number space.short) locks (blocks ++ (lbn, x) ∷ []) space (Behind space)
 
-    looked_more : (locks : List (LockName × Mode)) (blocks : List (ℕ × Block)) → UnderLock g fid mode places locks blocks
-        → after_lock fid mode locks (after_header g fid next blocks) ≡ need.Block name lbn → UnderLock g fid mode places locks (blocks ++ (lbn, b) ∷ [])
-    looked_more [] blocks u e = absurd (let f : need.Lock (S fid.num) mode ≡ need.Block name lbn = e in cc)
-    looked_more (l ∷ locks) blocks u e = (u.0, u.1, u.2, looked_header blocks u.3 e)
+        by_test : there → (t : Bool) → MatchBool t (Follows (next space.clusters space.number space.short) locks blocks space (Behind space)) ((locks ≡ []) × (blocks ≡ []) × given)
+            → IsLookAt lbn (cond t (following (next space.clusters space.number space.short) locks blocks space) (need.Space clusters number))
+            → MatchBool t (Follows (next space.clusters space.number space.short) locks (blocks ++ (lbn, x) ∷ []) space (Behind space)) ((locks ≡ []) × (blocks ++ (lbn, x) ∷ [] ≡ []) × given)
+        by_test more true f e = more f e
+        by_test more false f e = absurd e
+  looked (Make plan) given locks blocks r f e = absurd e
 
-    pub looked : (locks : List (LockName × Mode)) (blocks : List (ℕ × Block)) → UnderLock g fid mode places locks blocks
-        → through_header g fid mode next locks blocks ≡ need.Block name lbn → UnderLock g fid mode places locks (blocks ++ (lbn, b) ∷ [])
-    looked locks blocks u e = by_number (is_number g fid) e where
-      by_number : (t : Bool) → cond t (after_lock fid mode locks (after_header g fid next blocks)) (refused refusal.NoSuchFile) ≡ need.Block name lbn
-          → UnderLock g fid mode places locks (blocks ++ (lbn, b) ∷ [])
-      by_number true e = looked_more locks blocks u e
-      by_number false e = absurd (let f : refused refusal.NoSuchFile ≡ need.Block name lbn = e in cc)
+-- no search, no need of space
+no_space_need : (space : Space) (clusters : ℕ) (number : Bool) (es : Events) (locks : List (LockName × Mode)) (blocks : List (ℕ × Block)) → HasNoSearch es
+    → following es locks blocks space ≡ need.Space clusters number → ⊥
+no_space_need space c n (Take name mode next) [] blocks once e = absurd (let k : need.Lock name mode ≡ need.Space c n = e in cc)
+no_space_need space c n (Take name mode next) (l ∷ locks) blocks once e = no_space_need space c n next locks blocks once e
+no_space_need space c n (Look name lbn next) locks [] once e = absurd (let k : need.Block name lbn ≡ need.Space c n = e in cc)
+no_space_need space c n (Look name lbn next) locks (b ∷ blocks) once e = no_space_need space c n (next b.1) locks blocks (once b.1) e
+no_space_need space c n (Fetch lbn next) locks [] once e = absurd (let k : need.Bare lbn ≡ need.Space c n = e in cc)
+no_space_need space c n (Fetch lbn next) locks (b ∷ blocks) once e = no_space_need space c n (next b.1) locks blocks (once b.1) e
+no_space_need space c n (Find clusters number next) locks blocks once e = once
+no_space_need space c n (Make plan) locks blocks once e = absurd (let k : need.Ready plan ≡ need.Space c n = e in cc)
 
--- ---- behind the header
+module _ (space got : Space) (clusters : ℕ) (number : Bool) (has : has_space clusters number got ≡ true) (allowed : Behind got) where
+  given_space : (es : Events) (given other : Type 0) (locks : List (LockName × Mode)) (blocks : List (ℕ × Block)) → SearchesOnce es → Follows es locks blocks space given
+      → following es locks blocks space ≡ need.Space clusters number → Follows es locks blocks got other
+  given_space (Take n m next) given other [] blocks once f e = absurd (let k : need.Lock n m ≡ need.Space clusters number = e in cc)
+  given_space (Take n m next) given other (l ∷ locks) blocks once f e = (f.0, given_space next given other locks blocks once f.1 e)
+  given_space (Look n lbn next) given other locks [] once f e = absurd (let k : need.Block n lbn ≡ need.Space clusters number = e in cc)
+  given_space (Look n lbn next) given other locks (b ∷ blocks) once f e = (f.0, given_space (next b.1) given other locks blocks (once b.1) f.1 e)
+  given_space (Fetch lbn next) given other locks [] once f e = absurd (let k : need.Bare lbn ≡ need.Space clusters number = e in cc)
+  given_space (Fetch lbn next) given other locks (b ∷ blocks) once f e = (f.0, given_space (next b.1) given other locks blocks (once b.1) f.1 e)
+  given_space (Find c n next) given other locks blocks once f e = by_test (has_space c n space) f e where
+    end : Events
+    end = next got.clusters got.number got.short
 
-pub facts_ask : (o : Option Hdr) → Asks (facts_need o) → ⊥
-facts_ask None t = answer_asks _ t
-facts_ask (Some h) t = answer_asks _ t
+    Goal : Bool → Type 0
+    Goal t = MatchBool t (Follows end locks blocks got (Behind got)) ((locks ≡ []) × (blocks ≡ []) × other)
 
-pub facts_look : (o : Option Hdr) (lbn : ℕ) → Looks (facts_need o) lbn → ⊥
-facts_look None lbn t = answer_looks _ lbn t
-facts_look (Some h) lbn t = answer_looks _ lbn t
+    at_end : Follows end [] [] got (Behind got)
+    at_end = start end got (Behind got) (ready_more end got (Behind got) (once got.clusters got.number got.short)) allowed
 
-module _ (fid : Fid) (b : Block) (next : List (ℕ × Block) → Need) (never : (all : List (ℕ × Block)) → Asks (next all) → ⊥) (nowhere : (all : List (ℕ × Block)) (lbn : ℕ) → Looks (next all) lbn → ⊥)
-    (behind : List (ℕ × Block)) where
-  blocks_ask : (o : Option ℕ) → Asks (after_blocks fid o (next behind)) → ⊥
-  blocks_ask (Some l) t = let f : need.Block (S fid.num) l ≡ need.Lock t.0 t.1 = t.2 in absurd (cc)
-  blocks_ask None t = never behind t
+    by_test : (t : Bool) → MatchBool t (Follows (next space.clusters space.number space.short) locks blocks space (Behind space)) ((locks ≡ []) × (blocks ≡ []) × given)
+        → cond t (following (next space.clusters space.number space.short) locks blocks space) (need.Space c n) ≡ need.Space clusters number → Goal (has_space c n got)
+    by_test true f e = absurd (no_space_need space clusters number (next space.clusters space.number space.short) locks blocks (once space.clusters space.number space.short) e)
+    by_test false f e =
+        let k : need.Space c n ≡ need.Space clusters number = e in
+        let a : c ≡ clusters = cc in
+        let b : n ≡ number = cc in
+        let here : has_space c n got ≡ true = ap (λ x. has_space x n got) a ∙ ap (λ x. has_space clusters x got) b ∙ has in
+        let there : Follows end locks blocks got (Behind got) =
+        subst (λ ls. Follows end ls blocks got (Behind got)) (sym f.0) (subst (λ bs. Follows end [] bs got (Behind got)) (sym f.1) at_end) in
+        subst Goal (sym here) there
+  given_space (Make plan) given other locks blocks once f e = absurd (let k : need.Ready plan ≡ need.Space clusters number = e in cc)
 
-  pub directory_ask : (o : Option Hdr) → Asks (in_directory fid b next behind o) → ⊥
-  directory_ask None t = answer_asks _ t
-  directory_ask (Some h) t = by_dir h.dir t where
-    by_dir : (d : Bool) → Asks (cond d (after_blocks fid (slice_get (places_in b) (length behind)) (next behind)) (refused refusal.NotDir)) → ⊥
-    by_dir true t = blocks_ask (slice_get (places_in b) (length behind)) t
-    by_dir false t = answer_asks _ t
+has_given : (clusters : ℕ) (number : Bool) (cs : List ℕ) (n : Option ℕ) → length cs ≡ clusters → has_number number n ≡ true
+    → has_space clusters number (record { clusters = cs; number = n; short = None }) ≡ true
+has_given clusters number cs n e f = let a : (length cs == clusters) ≡ true = grind (arith, nat_tests) in ap (λ t. t && has_number number n) a ∙ f
 
-  blocks_look : (o : Option ℕ) (lbn : ℕ) → Looks (after_blocks fid o (next behind)) lbn → o ≡ Some lbn
-  blocks_look (Some l) lbn t = let f : need.Block (S fid.num) l ≡ need.Block t.0 lbn = t.1 in let e : l ≡ lbn = cc in ap (λ k. Some k) e
-  blocks_look None lbn t = absurd (nowhere behind lbn t)
+why_given : (why : Refusal) → (why ≡ IndexFull) ⊎ (why ≡ DeviceFull) → IsGiven [] None (Some why)
+why_given why (inl e) = subst (λ r. IsGiven [] None (Some r)) (sym e) (refl, refl)
+why_given why (inr e) = subst (λ r. IsGiven [] None (Some r)) (sym e) (refl, refl)
 
-  pub directory_look : (o : Option Hdr) (lbn : ℕ) → Looks (in_directory fid b next behind o) lbn → slice_get (directory_places b o) (length behind) ≡ Some lbn
-  directory_look None lbn t = absurd (answer_looks _ lbn t)
-  directory_look (Some h) lbn t = by_dir h.dir t where
-    by_dir : (d : Bool) → Looks (cond d (after_blocks fid (slice_get (places_in b) (length behind)) (next behind)) (refused refusal.NotDir)) lbn
-        → slice_get (cond d (places_in b) []) (length behind) ≡ Some lbn
-    by_dir true t = blocks_look (slice_get (places_in b) (length behind)) lbn t
-    by_dir false t = absurd (answer_looks _ lbn t)
-
-pub told_asks : (tell : List (ℕ × Block) → Reply) (all : List (ℕ × Block)) → Asks (answered (tell all)) → ⊥
-told_asks tell all t = answer_asks (tell all) t
-
-pub told_looks : (tell : List (ℕ × Block) → Reply) (all : List (ℕ × Block)) (lbn : ℕ) → Looks (answered (tell all)) lbn → ⊥
-told_looks tell all lbn t = answer_looks (tell all) lbn t
+pub seen_goes_on : SeenGoesOn
+seen_goes_on cmd once =
+    record {
+      first = λ seen e f h. subst (λ ls. Follows (events_of seen.geometry seen.channel cmd) ls seen.blocks (space_of seen) (HasNoSpace (space_of seen))) (sym e)
+          (subst (λ bs. Follows (events_of seen.geometry seen.channel cmd) [] bs (space_of seen) (HasNoSpace (space_of seen))) (sym f)
+          (start _ (space_of seen) _ (ready (events_of seen.geometry seen.channel cmd) (space_of seen) (once seen.geometry seen.channel)) h));
+      granted = λ seen name mode f e. granted (space_of seen) name mode (events_of seen.geometry seen.channel cmd) _ seen.locks seen.blocks (ready (events_of seen.geometry seen.channel cmd) (space_of seen) (once seen.geometry seen.channel)) f e;
+      looked = λ seen name lbn b f e. looked (space_of seen) lbn b (events_of seen.geometry seen.channel cmd) _ seen.locks seen.blocks (ready (events_of seen.geometry seen.channel cmd) (space_of seen) (once seen.geometry seen.channel)) f (subst (IsLookAt lbn) (sym e) refl);
+      fetched = λ seen lbn b f e. looked (space_of seen) lbn b (events_of seen.geometry seen.channel cmd) _ seen.locks seen.blocks (ready (events_of seen.geometry seen.channel cmd) (space_of seen) (once seen.geometry seen.channel)) f (subst (IsLookAt lbn) (sym e) refl);
+      given = λ seen clusters number cs n f e size wanted. given_space (space_of seen) (record { clusters = cs; number = n; short = None }) clusters number (has_given clusters number cs n size wanted) tt
+          (events_of seen.geometry seen.channel cmd) _ _ seen.locks seen.blocks (once seen.geometry seen.channel) f e;
+      refused = λ seen clusters number why f e reason. given_space (space_of seen) (record { clusters = []; number = None; short = Some why }) clusters number refl (why_given why reason)
+          (events_of seen.geometry seen.channel cmd) _ _ seen.locks seen.blocks (once seen.geometry seen.channel) f e;
+    }

@@ -1,5 +1,5 @@
 -- The header that was seen first.
-use Rattle.std.proofs.Common.{◌≡◌, ◌≤◌, ◌<◌, ◌+◌, ◌*◌, ◌∙◌, ℕ, zero, suc, List, [], ◌∷◌, Option, Some, None, length, All, get_or, slice_get, sym, ap, subst, arith}
+use Rattle.std.proofs.Common.{◌≡◌, ◌≤◌, ◌<◌, ◌+◌, ◌*◌, ◌∙◌, ℕ, zero, suc, List, [], ◌∷◌, Option, Some, None, length, All, get_or, slice_get, Bool, true, false, cond, refl, sym, ap, subst, arith}
 use Rattle.std.proofs.Math.Nat.{mul-div-le}
 use Rattle.std.proofs.lemmas.Option.{get_or_from_slice_get}
 use Rattle.vol_words.specs.Fields.{Block}
@@ -8,6 +8,8 @@ use Rattle.plain_cat.specs.declared.ids.Fid.{Fid}
 use Rattle.plain_cat.specs.declared.mode.Mode.{Mode}
 use Rattle.plain_cat.specs.declared.cat.Cat.{Cat}
 use Rattle.lock_db.specs.declared.name.LockName.{LockName}
+use Rattle.lock_db.specs.declared.name.LockName.TheVariants.{S}
+use Rattle.plain_cat.specs.declared.reply.Refusal.TheVariants as refusal
 use Rattle.vol_owners.specs.Lists.{StandsIn}
 use Rattle.vol_owners.specs.Owners.{Owners}
 use Rattle.vol_parts.specs.declared.geometry.Geometry.{Geometry}
@@ -17,7 +19,9 @@ use Rattle.vol_spell.specs.Spelling.{AreWhole, Spells}
 use Rattle.vol_spell.proofs.Parts.{told}
 use Rattle.op_law.specs.Readable.{EndsInside, AreInside, HeadIsInside}
 use Rattle.op_law.specs.Behind.{first_seen}
-use Rattle.op_law.specs.Fits.{AreSeen, UnderLock}
+use Rattle.op_law.specs.Events.{Events, Take, Look, Space, Follows}
+use Rattle.op_law.specs.Rows.{is_number, refuses, through_header}
+use Rattle.op_law.proofs.Telling.{number_is}
 
 pub head_inside : (blocks : List (ℕ × Block)) (b : Block) (behind : List (ℕ × Block)) → first_seen blocks ≡ Some (b, behind) → HeadIsInside blocks → AreInside b
 head_inside [] b behind e h = absurd (let f : None ≡ Some (b, behind) = e in cc)
@@ -43,14 +47,22 @@ pub header_is : (g : Geometry) (bs : List Block) (n l : ℕ) (b : Block) → l �
 header_is g bs n l b e at = ap (λ k. get_or bs k []) (sym e) ∙ get_or_from_slice_get bs l b [] at
 
 module _ (g : Geometry) (bs : List Block) (own : Owners) (c : Cat) (s : Spells g bs own c) where
-  seen_inside : (fid : Fid) (places : Block → List ℕ) (blocks : List (ℕ × Block)) → IsFileNumber g fid.num → StandsIn bs blocks → AreSeen g fid places blocks → HeadIsInside blocks
-  seen_inside fid places [] is stands seen = tt
-  seen_inside fid places (h ∷ behind) is stands seen =
-      let e : header_block g bs fid.num ≡ h.1 = header_is g bs fid.num h.0 h.1 seen.0 stands.0 in
-      subst AreInside e (runs_inside g (runs_told (header_block g bs fid.num)) s.counts.geometry (told g bs own c s fid.num is).whole)
+  -- the block that was looked at in the place of a file's header is one whose runs are inside
+  pub header_inside : (n : ℕ) (b : Block) → IsFileNumber g n → slice_get bs (header_place g n) ≡ Some b → AreInside b
+  header_inside n b is at = subst AreInside (header_is g bs n (header_place g n) b refl at)
+      (runs_inside g (runs_told (header_block g bs n)) s.counts.geometry (told g bs own c s n is).whole)
 
-  -- what was seen first under a file's lock is its header, whose runs are inside
-  pub under_lock_inside : (fid : Fid) (mode : Mode) (places : Block → List ℕ) (locks : List (LockName × Mode)) (blocks : List (ℕ × Block))
-      → StandsIn bs blocks → UnderLock g fid mode places locks blocks → HeadIsInside blocks
-  under_lock_inside fid mode places [] blocks stands under = subst HeadIsInside (sym under) tt
-  under_lock_inside fid mode places (l ∷ locks) blocks stands under = seen_inside fid places blocks under.0 stands under.3
+  -- so is what was seen first under a file's lock
+  pub through_inside : (fid : Fid) (mode : Mode) (next : Block → Events) (locks : List (LockName × Mode)) (blocks : List (ℕ × Block)) (space : Space) (given : Type 0)
+      → StandsIn bs blocks → Follows (through_header g fid mode next) locks blocks space given → HeadIsInside blocks
+  through_inside fid mode next locks blocks space given stands f = by_number (is_number g fid) refl f where
+    by_locks : (ls : List (LockName × Mode)) (xs : List (ℕ × Block)) → IsFileNumber g fid.num → StandsIn bs xs
+        → Follows (Take (S fid.num) mode (Look (S fid.num) (header_place g fid.num) next)) ls xs space given → HeadIsInside xs
+    by_locks [] xs is at f = subst HeadIsInside (sym f.0) tt
+    by_locks (l ∷ ls) [] is at f = tt
+    by_locks (l ∷ ls) (x ∷ xs) is at f = header_inside fid.num x.1 is (subst (λ k. slice_get bs k ≡ Some x.1) f.1.0 at.0)
+
+    by_number : (t : Bool) → is_number g fid ≡ t
+        → Follows (cond t (Take (S fid.num) mode (Look (S fid.num) (header_place g fid.num) next)) (refuses refusal.NoSuchFile)) locks blocks space given → HeadIsInside blocks
+    by_number true e f = by_locks locks blocks (number_is g fid e) stands f
+    by_number false e f = subst HeadIsInside (sym f.1) tt

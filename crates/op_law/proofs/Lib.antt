@@ -1,7 +1,10 @@
 pub mod Placing
-pub mod Heads
 pub mod Telling
+pub mod Heads
 pub mod Looks
-pub mod Fitting
 pub mod Going
+pub mod Following
+pub mod Walking
+pub mod Through
 pub mod Replying
+pub mod OnlyLooking

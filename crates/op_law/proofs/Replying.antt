@@ -5,7 +5,7 @@ use Rattle.vol_owners.specs.Owners.{Moves}
 use Rattle.vol_under.specs.Guards.{IsCommandMove}
 use Rattle.vol_under.specs.Answering.{Replies}
 use Rattle.vol_under.proofs.Steps.{stands_first}
-use Rattle.op_law.specs.Laws.{LooksReply}
+use Rattle.op_law.specs.Looking.{LooksReply}
 
 still : (P : Option Owner → Type 0) (xs : List Owner) → Moves P xs xs
 still P xs = record { count = refl; each = λ q. inl refl }
@@ -16,5 +16,5 @@ looks_reply g n u x r no_plan answers base own c stock k spelt knows stands outs
     subst (λ j. Replies g n u x r base own c stock j) none (record {
       leaves = record { new = own; cat = c; stage = stands_first c n u.cmd; spelt = spelt; moves = record { clusters = still (IsCommandMove n u.write) own.clusters; numbers = still (IsCommandMove n u.write) own.numbers }; outs = outs };
       opens = c.opens;
-      answer = answers base own c spelt stands;
+      answer = answers base own c spelt knows stands;
     })

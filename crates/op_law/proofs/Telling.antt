@@ -11,7 +11,7 @@ use Rattle.fx_header.specs.declared.slot.Slot.{Slot as Head}
 use Rattle.fx_header.specs.declared.slot.Slot.TheVariants as head
 use Rattle.fx_header.specs.declared.slot.HeaderFault.{HeaderFault}
 use Rattle.fx_header.specs.Headers.{header_read, runs_in, fields_of}
-use Rattle.fx_header.specs.Pointers.{lbns_in, blocks_in}
+use Rattle.fx_header.specs.Pointers.{lbns_in}
 use Rattle.fx_header.proofs.SoundLemmas.{reads-sound, ends-of}
 use Rattle.plain_cat.specs.declared.ids.Fid.{Fid}
 use Rattle.plain_cat.specs.declared.cat.Cat.{Cat}
@@ -42,6 +42,13 @@ live_reads seq (Err fault) h e = absurd (let f : None ≡ Some h = e in cc)
 
 pub reads_runs : (b : Block) (h : Hdr) → header_read b ≡ Ok (head.Used h) → runs_told b ≡ runs_in b
 reads_runs b h e = ap (λ r. runs_with (fields_in r) b) e
+
+-- a header that can be read says as many blocks as its runs have
+pub blocks_said : (b : Block) (h : Hdr) → header_read b ≡ Ok (head.Used h) → length (lbns_in (runs_in b)) ≡ h.blocks
+unfolding fields_of
+blocks_said b h e =
+    let sound = reads-sound b h e in
+    length-lbns_in (runs_in b) ∙ (ends-of b sound.ends).blocks ∙ ap (λ (x : Hdr). x.blocks) sound.fields
 
 quotient : (k w : ℕ) → 1 ≤ w → k * w / w ≡ k
 quotient k w low = ap (λ x. x / w) (let z : k * w ≡ k * w + 0 = omega arith in z) ∙ div-mul-add k w 0 (omega arith)
@@ -112,16 +119,13 @@ module _ (g : Geometry) (bs : List Block) (own : Owners) (c : Cat) (s : Spells g
 
   -- a header that can be read says as many blocks as its clusters have
   pub blocks_whole : (n : ℕ) (h : Hdr) → IsFileNumber g n → header_read (header_block g bs n) ≡ Ok (head.Used h) → c.factor * (h.blocks / g.cluster) ≡ h.blocks
-  unfolding fields_of
   blocks_whole n h is e =
       let b = header_block g bs n in
-      let sound = reads-sound b h e in
       let low = s.counts.geometry.cluster_from in
       let whole = (told g bs own c s n is).whole in
       let k = length (clusters_of g.cluster (runs_told b)) in
-      let said : blocks_in (runs_in b) ≡ h.blocks = (ends-of b sound.ends).blocks ∙ ap (λ (x : Hdr). x.blocks) sound.fields in
       let count : length (lbns_in (runs_told b)) ≡ k * g.cluster = ap length (lbns_spread g (runs_told b) low whole) ∙ spread_places.count g.cluster (clusters_of g.cluster (runs_told b)) in
-      let same : length (lbns_in (runs_told b)) ≡ h.blocks = ap (λ rs. length (lbns_in rs)) (reads_runs b h e) ∙ length-lbns_in (runs_in b) ∙ said in
+      let same : length (lbns_in (runs_told b)) ≡ h.blocks = ap (λ rs. length (lbns_in rs)) (reads_runs b h e) ∙ blocks_said b h e in
       divided c.factor g.cluster h.blocks k s.constants.factor low (sym same ∙ count) where
         divided : (f w x k : ℕ) → f ≡ w → 1 ≤ w → x ≡ k * w → f * (x / w) ≡ x
         divided f w x k a low e = rw (a, e) (ap (λ y. w * y) (quotient k w low) ∙ (let z : w * k ≡ k * w = omega arith in z))

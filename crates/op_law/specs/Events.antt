@@ -1,6 +1,6 @@
 -- The events of a command in order: a lock, a look, the search for space, and at last the plan. What comes next may go by what
 -- a look has shown and by what the search has given.
-use Rattle.std.specs.Prelude.{◌≡◌, ◌==◌, ◌&&◌, ◌||◌, ℕ, Bool, List, [], ◌∷◌, Option, Some, None, is_some, length, if◌then◌else◌}
+use Rattle.std.specs.Prelude.{◌≡◌, ◌==◌, ◌&&◌, ◌||◌, ℕ, Bool, true, false, List, [], ◌∷◌, Option, Some, None, is_none, is_some, length, if◌then◌else◌, MatchBool}
 use Rattle.vol_words.specs.Fields.{Block}
 use Rattle.lock_db.specs.declared.name.LockName.{LockName}
 use Rattle.plain_cat.specs.declared.mode.Mode.{Mode}
@@ -23,45 +23,84 @@ pub data Events : Type 0 where
   -- the plan
   Make : Plan → Events
 
--- space was given, or it was refused
-abbrev pub has_space : ℕ → Bool → Seen → Bool
-has_space clusters number seen = is_some seen.short || ((length seen.clusters == clusters) && (is_some seen.number == number))
+-- ---- space
 
--- The next need of a command that has these events, where these locks and blocks are those seen.
-abbrev pub following : Events → List (LockName × Mode) → List (ℕ × Block) → Seen → Need
-following (Take name mode next) [] blocks seen = need.Lock name mode
-following (Take name mode next) (l ∷ locks) blocks seen = following next locks blocks seen
-following (Look name lbn next) locks [] seen = need.Block name lbn
-following (Look name lbn next) locks (b ∷ blocks) seen = following (next b.1) locks blocks seen
-following (Fetch lbn next) locks [] seen = need.Bare lbn
-following (Fetch lbn next) locks (b ∷ blocks) seen = following (next b.1) locks blocks seen
-following (Find clusters number next) locks blocks seen =
-    if has_space clusters number seen then following (next seen.clusters seen.number seen.short) locks blocks seen else need.Space clusters number
-following (Make plan) locks blocks seen = need.Ready plan
+-- what a search for space has given: clusters, a number, or why it gave none
+pub record Space : Type 0 where
+  pub clusters : List ℕ
+  pub number : Option ℕ
+  pub short : Option Refusal
+
+abbrev pub space_of : Seen → Space
+space_of seen = record { clusters = seen.clusters; number = seen.number; short = seen.short }
+
+-- a number was given where one is wanted, and none where none is
+abbrev pub has_number : Bool → Option ℕ → Bool
+has_number true number = is_some number
+has_number false number = is_none number
+
+-- space was given, or it was refused
+abbrev pub has_space : ℕ → Bool → Space → Bool
+has_space clusters number s = is_some s.short || ((length s.clusters == clusters) && has_number number s.number)
 
 -- nothing was given, and nothing refused
-pub record HasNoSpace (seen : Seen) : Type 0 where
-  pub clusters : seen.clusters ≡ []
-  pub number : seen.number ≡ None
-  pub short : seen.short ≡ None
+pub record HasNoSpace (s : Space) : Type 0 where
+  pub clusters : s.clusters ≡ []
+  pub number : s.number ≡ None
+  pub short : s.short ≡ None
 
 -- what a refusal of space leaves is nothing, and none comes but for want of clusters or of a number
-abbrev pub IsGiven : Seen → Option Refusal → Type 0
-IsGiven seen None = Unit {0}
-IsGiven seen (Some refusal.IndexFull) = (seen.clusters ≡ []) × (seen.number ≡ None)
-IsGiven seen (Some refusal.DeviceFull) = (seen.clusters ≡ []) × (seen.number ≡ None)
-IsGiven seen (Some other) = ⊥
+abbrev pub IsGiven : List ℕ → Option ℕ → Option Refusal → Type 0
+IsGiven clusters number None = Unit {0}
+IsGiven clusters number (Some refusal.IndexFull) = (clusters ≡ []) × (number ≡ None)
+IsGiven clusters number (Some refusal.DeviceFull) = (clusters ≡ []) × (number ≡ None)
+IsGiven clusters number (Some other) = ⊥
+
+-- no space is searched for
+abbrev pub HasNoSearch : Events → Type 0
+HasNoSearch (Take name mode next) = HasNoSearch next
+HasNoSearch (Look name lbn next) = (b : Block) → HasNoSearch (next b)
+HasNoSearch (Fetch lbn next) = (b : Block) → HasNoSearch (next b)
+HasNoSearch (Find clusters number next) = ⊥
+HasNoSearch (Make plan) = Unit {0}
+
+-- space is searched for at most once
+abbrev pub SearchesOnce : Events → Type 0
+SearchesOnce (Take name mode next) = SearchesOnce next
+SearchesOnce (Look name lbn next) = (b : Block) → SearchesOnce (next b)
+SearchesOnce (Fetch lbn next) = (b : Block) → SearchesOnce (next b)
+SearchesOnce (Find clusters number next) = (given : List ℕ) (n : Option ℕ) (short : Option Refusal) → HasNoSearch (next given n short)
+SearchesOnce (Make plan) = Unit {0}
+
+-- ---- what was seen
+
+-- The next need of a command that has these events, where these locks and blocks are those seen, and this space was given.
+abbrev pub following : Events → List (LockName × Mode) → List (ℕ × Block) → Space → Need
+following (Take name mode next) [] blocks space = need.Lock name mode
+following (Take name mode next) (l ∷ locks) blocks space = following next locks blocks space
+following (Look name lbn next) locks [] space = need.Block name lbn
+following (Look name lbn next) locks (b ∷ blocks) space = following (next b.1) locks blocks space
+following (Fetch lbn next) locks [] space = need.Bare lbn
+following (Fetch lbn next) locks (b ∷ blocks) space = following (next b.1) locks blocks space
+following (Find clusters number next) locks blocks space =
+    if has_space clusters number space then following (next space.clusters space.number space.short) locks blocks space else need.Space clusters number
+following (Make plan) locks blocks space = need.Ready plan
+
+-- the same by all that was seen
+abbrev pub next_of : Events → Seen → Need
+next_of es seen = following es seen.locks seen.blocks (space_of seen)
 
 -- These locks and blocks are the first of those that these events need, each in its turn; and what was given before the search
 -- for space is as `given` says.
-abbrev pub Follows : Events → List (LockName × Mode) → List (ℕ × Block) → Seen → Type 0 → Type 0
-Follows (Take name mode next) [] blocks seen given = (blocks ≡ []) × given
-Follows (Take name mode next) (l ∷ locks) blocks seen given = (l ≡ (name, mode)) × Follows next locks blocks seen given
-Follows (Look name lbn next) locks [] seen given = (locks ≡ []) × given
-Follows (Look name lbn next) locks (b ∷ blocks) seen given = (b.0 ≡ lbn) × Follows (next b.1) locks blocks seen given
-Follows (Fetch lbn next) locks [] seen given = (locks ≡ []) × given
-Follows (Fetch lbn next) locks (b ∷ blocks) seen given = (b.0 ≡ lbn) × Follows (next b.1) locks blocks seen given
-Follows (Find clusters number next) locks blocks seen given =
-    if has_space clusters number seen then Follows (next seen.clusters seen.number seen.short) locks blocks seen (IsGiven seen seen.short)
-    else ((locks ≡ []) × (blocks ≡ []) × HasNoSpace seen)
-Follows (Make plan) locks blocks seen given = (locks ≡ []) × (blocks ≡ []) × given
+abbrev pub Follows : Events → List (LockName × Mode) → List (ℕ × Block) → Space → Type 0 → Type 0
+Follows (Take name mode next) [] blocks space given = (blocks ≡ []) × given
+Follows (Take name mode next) (l ∷ locks) blocks space given = (l ≡ (name, mode)) × Follows next locks blocks space given
+Follows (Look name lbn next) locks [] space given = (locks ≡ []) × given
+Follows (Look name lbn next) locks (b ∷ blocks) space given = (b.0 ≡ lbn) × Follows (next b.1) locks blocks space given
+Follows (Fetch lbn next) locks [] space given = (locks ≡ []) × given
+Follows (Fetch lbn next) locks (b ∷ blocks) space given = (b.0 ≡ lbn) × Follows (next b.1) locks blocks space given
+Follows (Find clusters number next) locks blocks space given =
+    MatchBool (has_space clusters number space)
+    (Follows (next space.clusters space.number space.short) locks blocks space (IsGiven space.clusters space.number space.short))
+    ((locks ≡ []) × (blocks ≡ []) × given)
+Follows (Make plan) locks blocks space given = (locks ≡ []) × (blocks ≡ []) × given

@@ -7,12 +7,12 @@ use Rattle.vol_owners.specs.Lists.{StandsIn}
 use Rattle.vol_owners.specs.Owners.{Owners}
 use Rattle.vol_spell.specs.Spelling.{Spells}
 use Rattle.op_law.specs.declared.seen.Seen.{Seen}
-use Rattle.op_law.specs.Events.{HasNoSpace, Follows}
+use Rattle.op_law.specs.Events.{space_of, HasNoSpace, Follows}
 use Rattle.op_law.specs.Needs.{events_of}
 
 -- The locks and blocks that a command has seen are the first of those that it needs, in order.
 abbrev pub HasSeen : Cmd → Seen → Type 0
-HasSeen cmd seen = Follows (events_of seen.geometry seen.channel cmd) seen.locks seen.blocks seen (HasNoSpace seen)
+HasSeen cmd seen = Follows (events_of seen.geometry seen.channel cmd) seen.locks seen.blocks (space_of seen) (HasNoSpace (space_of seen))
 
 -- blocks that spell a catalogue have what was seen
 pub record IsSeenOn (seen : Seen) (bs : List Block) (own : Owners) (c : Cat) : Type 0 where

@@ -1,9 +1,7 @@
 -- What a command takes for granted of the catalogue besides the blocks that it has seen.
-use Rattle.std.specs.Prelude.{◌==◌, ◌&&◌, ◌+◌, not, nat_lt, nat_le, ℕ, Bool, true, false, List, Option, Some, None, is_none, is_some, length, slice_set, if◌then◌else◌}
+use Rattle.std.specs.Prelude.{◌==◌, ◌&&◌, ◌+◌, not, nat_lt, nat_le, ℕ, Bool, true, false, List, Option, Some, None, is_none, length, slice_set, if◌then◌else◌}
 use Rattle.std.specs.List.{list_any, list_all, range_with_len}
 use Rattle.plain_cat.specs.Modes.{rank}
-use Rattle.plain_cat.specs.declared.ids.Fid.{Fid}
-use Rattle.plain_cat.specs.declared.mode.Mode.{Mode}
 use Rattle.plain_cat.specs.declared.command.Cmd.{Cmd}
 use Rattle.plain_cat.specs.declared.command.Cmd.TheVariants as cmd
 use Rattle.plain_cat.specs.declared.reply.Refusal.{Refusal}
@@ -53,6 +51,13 @@ clusters_wanted c (cmd.MkDir reg dir name owner) = 1
 clusters_wanted c (cmd.Extend file blocks) = in_clusters c blocks
 clusters_wanted c other = 0
 
+-- whether it searches for space at all
+abbrev pub takes_space : Cmd → Bool
+takes_space (cmd.Create reg dir name ver blocks owner) = true
+takes_space (cmd.MkDir reg dir name owner) = true
+takes_space (cmd.Extend file blocks) = true
+takes_space other = false
+
 -- whether it searches for a number
 abbrev pub wants_number : Cmd → Bool
 wants_number (cmd.Create reg dir name ver blocks owner) = true
@@ -94,6 +99,13 @@ abbrev pub knows : ℕ → Cmd → Seen → Cat → Bool
 knows node x seen c = has_channel c node (channel_of x) seen.channel && (is_short c x seen.short && usages_fit c x)
 
 -- ---- the ask
+
+-- a command that may ask for the lock of who has a file open
+abbrev pub may_ask : Cmd → Bool
+may_ask (cmd.Delete dir name ver) = true
+may_ask (cmd.OpenFile chan file mode) = true
+may_ask (cmd.CloseFile chan) = true
+may_ask other = false
 
 -- what the other channels have open: all but the one that asks, where one does
 abbrev pub others_open : Cat → ℕ → ℕ → List (Option Open)

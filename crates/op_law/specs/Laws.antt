@@ -1,5 +1,5 @@
 -- The law of an operation.
-use Rattle.std.specs.Prelude.{◌≡◌, ◌≤◌, ◌<◌, ◌-◌, ◌&&◌, not, nat_le, ℕ, Bool, List, [], ◌∷◌, Option, Some, None, length, map, filter, take}
+use Rattle.std.specs.Prelude.{◌≡◌, ◌≤◌, ◌<◌, ◌-◌, ◌&&◌, not, nat_le, ℕ, Bool, true, List, [], ◌∷◌, Option, Some, None, length, map, filter, take}
 use Rattle.vol_words.specs.Fields.{Block}
 use Rattle.lock_db.specs.declared.name.LockName.{LockName}
 use Rattle.plain_cat.specs.Modes.{rank}
@@ -14,7 +14,7 @@ use Rattle.vol_owners.specs.Owners.{Owners, Things, nothing, Outs}
 use Rattle.vol_parts.specs.declared.geometry.Geometry.{Geometry}
 use Rattle.vol_spell.specs.Spelling.{Spells}
 use Rattle.vol_under.specs.Guards.{guard_of, MayWrite, MayLook}
-use Rattle.vol_under.specs.UnderWay.{PlannedWrite, bare, UnderWay}
+use Rattle.vol_under.specs.UnderWay.{PlannedWrite, bare, outs_after, UnderWay}
 use Rattle.vol_under.specs.Under.{IsLawful}
 use Rattle.vol_under.specs.Answering.{IsReply}
 use Rattle.op_law.specs.declared.need.Need.{Need}
@@ -23,8 +23,10 @@ use Rattle.op_law.specs.declared.need.Plan.{Plan}
 use Rattle.op_law.specs.declared.need.PlanWrite.{PlanWrite}
 use Rattle.op_law.specs.declared.need.Ask.{Ask}
 use Rattle.op_law.specs.declared.seen.Seen.{Seen}
-use Rattle.op_law.specs.Knows.{knows, is_granted}
-use Rattle.op_law.specs.Needs.{IsNext}
+use Rattle.op_law.specs.declared.seen.Chan.{Chan}
+use Rattle.op_law.specs.Knows.{takes_space, may_ask, knows, is_granted}
+use Rattle.op_law.specs.Events.{SearchesOnce}
+use Rattle.op_law.specs.Needs.{events_of, IsNext}
 use Rattle.op_law.specs.Fits.{HasSeen, IsSeenOn}
 
 -- ---- a command under way
@@ -44,8 +46,15 @@ planned w = record { lbn = w.lbn; block = w.block; stage = w.stage; outs = thing
 -- a node with a command under way that has seen this, has decided on these writes, and knows this of the catalogue
 abbrev pub under_way : Cmd → Seen → List PlanWrite → (Cat → Bool) → UnderWay
 under_way cmd seen writes known = record {
-  read = held_in PR seen.locks; write = held_in PW seen.locks; cmd = Some cmd; seen = seen.blocks; knows = known;
-  took = things seen.clusters seen.number; plan = map planned writes; done = 0; stock = nothing;
+  read = held_in PR seen.locks;
+  write = held_in PW seen.locks;
+  cmd = Some cmd;
+  seen = seen.blocks;
+  knows = known;
+  took = things seen.clusters seen.number;
+  plan = map planned writes;
+  done = 0;
+  stock = nothing;
 }
 
 -- ---- needs
@@ -56,13 +65,13 @@ pub record IsGuardedLook (seen : Seen) (bs : List Block) (own : Owners) (lbn : �
   pub within : lbn < length bs
 
 -- What a command may need on blocks that have what it has seen: a lock in PR or PW that it has not taken yet, a look under a
--- lock that it holds, and once at most 77 clusters and a number.
-abbrev pub MayNeed : Seen → List Block → Owners → Need → Type 0
-MayNeed seen bs own (need.Lock name mode) = (Has (map (λ l. l.0) seen.locks) name → ⊥) × Has (PR ∷ PW ∷ []) mode
-MayNeed seen bs own (need.Block name lbn) = Has (held_in PR seen.locks) name × IsGuardedLook seen bs own lbn
-MayNeed seen bs own (need.Bare lbn) = IsGuardedLook seen bs own lbn
-MayNeed seen bs own (need.Space clusters number) = (clusters ≤ 77) × (seen.clusters ≡ []) × (seen.number ≡ None) × (seen.short ≡ None)
-MayNeed seen bs own (need.Ready plan) = Unit {0}
+-- lock that it holds, and once, if it is one that takes space, at most 77 clusters and a number.
+abbrev pub MayNeed : Cmd → Seen → List Block → Owners → Need → Type 0
+MayNeed cmd seen bs own (need.Lock name mode) = (Has (map (λ l. l.0) seen.locks) name → ⊥) × Has (PR ∷ PW ∷ []) mode
+MayNeed cmd seen bs own (need.Block name lbn) = Has (held_in PR seen.locks) name × IsGuardedLook seen bs own lbn
+MayNeed cmd seen bs own (need.Bare lbn) = IsGuardedLook seen bs own lbn
+MayNeed cmd seen bs own (need.Space clusters number) = (takes_space cmd ≡ true) × (clusters ≤ 77) × (seen.clusters ≡ []) × (seen.number ≡ None) × (seen.short ≡ None)
+MayNeed cmd seen bs own (need.Ready plan) = Unit {0}
 
 -- ---- plans
 
@@ -71,30 +80,34 @@ abbrev pub AreGuarded : ℕ → UnderWay → Geometry → Type 0
 AreGuarded node u g = (base : List Block) (own : Owners) (c : Cat) (stock : Things) → Spells g base own c → StandsIn base u.seen → Outs node own u.took stock
     → (l : ℕ) → Touches (bare u.plan) l → MayWrite node u.write (guard_of g own l)
 
--- These writes and this reply are right: each write is guarded, each number of the writes leaves a stage of the command, and
--- the reply goes with all of them.
+-- These writes and this reply are right: each write is guarded, each number of the writes leaves a stage of the command, the
+-- reply goes with all of them, and after them the command has nothing outside.
 pub record IsRight (node : ℕ) (cmd : Cmd) (g : Geometry) (u : UnderWay) (r : Reply) : Type 0 where
   pub guarded : AreGuarded node u g
   pub lawful : IsLawful g node u
   pub reply : IsReply g node u cmd r
+  pub left : outs_after u.took u.plan ≡ nothing
 
 -- a refusal writes nothing
 abbrev pub WritesNothing : Plan → Reply → Type 0
 WritesNothing p (reply.Refused r) = (p.writes ≡ []) × (p.ask ≡ None)
 WritesNothing p other = Unit {0}
 
--- With an ask the whole plan is right where the ask is granted, and where it is not, the writes before it with its refusal.
+-- With an ask, which not every command may make, the whole plan is right where the ask is granted, and where it is not, the
+-- writes before it with its refusal.
 abbrev pub IsPlan : ℕ → Cmd → Seen → Plan → Option Ask → Type 0
 IsPlan node cmd seen p None = IsRight node cmd seen.geometry (under_way cmd seen p.writes (knows node cmd seen)) p.reply
 IsPlan node cmd seen p (Some a) =
-    IsRight node cmd seen.geometry (under_way cmd seen p.writes (λ c. knows node cmd seen c && is_granted node a c)) p.reply
+    (may_ask cmd ≡ true)
+    × IsRight node cmd seen.geometry (under_way cmd seen p.writes (λ c. knows node cmd seen c && is_granted node a c)) p.reply
     × IsRight node cmd seen.geometry (under_way cmd seen (take a.at p.writes) (λ c. knows node cmd seen c && not (is_granted node a c))) a.refused
     × IsLawful seen.geometry node (under_way cmd seen (take a.at p.writes) (knows node cmd seen))
     × (a.at ≤ length p.writes)
 
--- The law of a command: what it needs next, whatever it has seen, it may need on all blocks that have that, and its plan is
--- right at each node.
+-- The law of a command: it searches for space at most once; what it needs next, whatever it has seen, it may need on all blocks
+-- that have that; and its plan is right at each node.
 pub record Lawful (cmd : Cmd) : Type 0 where
-  pub needs : (seen : Seen) (bs : List Block) (own : Owners) (c : Cat) (next : Need) → HasSeen cmd seen → IsSeenOn seen bs own c → IsNext cmd seen next → MayNeed seen bs own next
+  pub searches : (g : Geometry) (channel : Option Chan) → SearchesOnce (events_of g channel cmd)
+  pub needs : (seen : Seen) (bs : List Block) (own : Owners) (c : Cat) (next : Need) → HasSeen cmd seen → IsSeenOn seen bs own c → IsNext cmd seen next → MayNeed cmd seen bs own next
   pub plans : (node : ℕ) (seen : Seen) (p : Plan) → HasSeen cmd seen → IsNext cmd seen (need.Ready p) → IsPlan node cmd seen p p.ask
   pub refusals : (seen : Seen) (p : Plan) → HasSeen cmd seen → IsNext cmd seen (need.Ready p) → WritesNothing p p.reply

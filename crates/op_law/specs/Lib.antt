@@ -4,5 +4,7 @@ pub mod Readable
 pub mod Behind
 pub mod Needs
 pub mod Fits
+pub mod Going
+pub mod Looking
 pub mod Knows
 pub mod Laws

@@ -1,6 +1,5 @@
 -- What each command needs next: its events in order.
-use Rattle.std.specs.Prelude.{◌≡◌, ℕ, List, [], Option, Some, None}
-use Rattle.vol_words.specs.Fields.{Block}
+use Rattle.std.specs.Prelude.{◌≡◌, ℕ, List, Option, Some, None}
 use Rattle.fx_header.specs.declared.slot.Hdr.{Hdr}
 use Rattle.plain_cat.specs.declared.ids.Fid.{Fid}
 use Rattle.plain_cat.specs.declared.mode.Mode.TheVariants.{PR}
@@ -14,7 +13,7 @@ use Rattle.vol_parts.specs.declared.geometry.Geometry.{Geometry}
 use Rattle.op_law.specs.declared.need.Need.{Need}
 use Rattle.op_law.specs.declared.seen.Seen.{Seen}
 use Rattle.op_law.specs.declared.seen.Chan.{Chan}
-use Rattle.op_law.specs.Events.{Events, following}
+use Rattle.op_law.specs.Events.{Events, space_of, following}
 use Rattle.op_law.specs.Rows.{answers, refuses, live_in, entries_seen, through_header, through_directory}
 
 -- LOOKUP
@@ -46,7 +45,7 @@ events_of g channel other = refuses refusal.NoSuchFile
 
 -- what a command needs next, by what it has seen
 abbrev pub need_of : Cmd → Seen → Need
-need_of cmd seen = following (events_of seen.geometry seen.channel cmd) seen.locks seen.blocks seen
+need_of cmd seen = following (events_of seen.geometry seen.channel cmd) seen.locks seen.blocks (space_of seen)
 
 -- the command needs this next
 abbrev pub IsNext : Cmd → Seen → Need → Type 0

@@ -10,11 +10,14 @@ mod rows;
 mod seeing;
 mod seen;
 
-pub use laws::looks_reply;
+pub use laws::{looks_reply, seen_goes_on};
 pub use lists::{SeenBlocks, SeenLocks, Writes};
 pub use need::{Ask, Need, Plan, PlanWrite};
 pub use operation::Operation;
 pub use plain_cat::NoMemory;
 pub use rows::{answered, entries_seen, is_number, live_in, place_in, refused};
-pub use seeing::{Headed, Listing, directory_seen, header_seen};
+pub use seeing::{
+    Granted, Listed, Listing, Looked, Rest, block_seen, blocks_seen, directory_seen,
+    entries_looked, header_seen, lock_seen,
+};
 pub use seen::{Chan, Seen};

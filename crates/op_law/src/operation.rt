@@ -10,7 +10,7 @@ use std::alloc::Global;
 pub trait Operation: Sized + Drop {
     ghost use Rattle.op_law.specs.Needs.{IsNext};
     ghost use Rattle.op_law.specs.Fits.{FitsSeen};
-    ghost use Rattle.op_law.specs.Laws.{GoesOn, Lawful};
+    ghost use Rattle.op_law.specs.Laws.{Lawful};
 
     /// The commands that it takes.
     ghost takes: { Cmd → Type 0 };
@@ -22,8 +22,7 @@ pub trait Operation: Sized + Drop {
     fn of(cmd: Cmd) -> Self
         requires { takes cmd }
         ensures cmd { cmd_is result ≡ cmd }
-        ensures lawful { Lawful cmd }
-        ensures goes_on { GoesOn cmd };
+        ensures lawful { Lawful cmd };
 
     /// The command. It takes no memory.
     fn cmd(&self) -> &Cmd

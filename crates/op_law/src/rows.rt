@@ -1,9 +1,9 @@
 //! The events that commands have in common, each worked out.
 
-ghost use Rattle.std.specs.Prelude.{◌≡◌, ◌+◌, ◌≤◌, IfOk, IfSome, map, slice_get};
+ghost use Rattle.std.specs.Prelude.{◌≡◌, ◌+◌, ◌≤◌, IfOk, IfSome, map, length, slice_get};
 ghost use Rattle.vol_parts.specs.Catalogues.{plain_entry};
-ghost use Rattle.op_law.specs.Rows.{answered, refused, is_number, live_in, places_in};
-ghost use Rattle.op_law.specs.Needs.{entries_seen};
+ghost use Rattle.op_law.specs.Rows.{answered, refused, is_number, live_in, places_in, entries_seen};
+ghost use Rattle.op_law.specs.Behind.{blocks_alone};
 ghost use Rattle.op_law.specs.Readable.{HasMap, AreInside};
 
 use crate::lists::Writes;
@@ -40,10 +40,12 @@ pub fn is_number(g: &Geometry, fid: Fid) -> bool
     1 <= fid.num && fid.num <= g.files
 }
 
-/// The header of the live file of this sequence, by its block, or none where the slot has none. Its runs can be read.
+/// The header of the live file of this sequence, by its block, or none where the slot has none. Its runs can be read, and have
+/// as many blocks as it says.
 pub fn live_in(b: &Block, seq: u16) -> Option<Hdr>
     ensures header { result ≡ live_in seq b.now }
     ensures map { IfSome result (λ h. HasMap b.now) }
+    ensures count { IfSome result (λ h. length (places_in b.now) ≡ h.blocks) }
 {
     match read_header(b) {
         Ok(Slot::Used(h)) => if h.seq == seq && !h.marked {
@@ -121,7 +123,7 @@ fn plain_entries(alloc: Global, found: &[RawEnt]) -> Result<DirEnts, NoMemory>
 /// The entries of a directory whose blocks were seen, in order; none where the blocks have a fault. An error says that memory
 /// ran out.
 pub fn entries_seen(alloc: Global, seen: &[(u32, Block)]) -> Result<DirEnts, NoMemory>
-    ensures { IfOk result (λ entries. entries ≡ entries_seen seen.now) }
+    ensures { IfOk result (λ entries. entries ≡ entries_seen (blocks_alone seen.now)) }
 {
     match read_dir(alloc, blocks_of(alloc, seen)?.items()) {
         Ok(found) => plain_entries(alloc, found.as_slice()),

@@ -1,41 +1,126 @@
-//! The first events of a command that names a file: its lock, its header, and a directory's blocks.
+//! The events that commands have in common: locks and looks, a file's lock and its header, and a directory's blocks. Each says
+//! what is behind it in what was seen, or what the command needs first.
 
-ghost use Rattle.std.specs.Prelude.{◌≡◌, ◌≤◌, ◌<◌, ◌+◌, ◌*◌, ℕ, List};
+ghost use Rattle.std.specs.Prelude.{◌≡◌, ◌≤◌, ◌<◌, ◌+◌, ◌*◌, ℕ, List, length, slice_get};
 ghost use Rattle.vol_words.specs.Fields.{Block};
 ghost use Rattle.vol_parts.specs.Parts.{IsGeometry};
 ghost use Rattle.vol_spell.specs.Reading.{IsFileNumber, header_place};
-ghost use Rattle.op_law.specs.declared.need.Need.{Need};
-ghost use Rattle.op_law.specs.Rows.{through_header, through_directory, in_directory, live_in};
+ghost use Rattle.op_law.specs.Events.{Events, Take, Look, Space, following};
+ghost use Rattle.op_law.specs.Rows.{look_all, through_header, through_directory, in_directory, live_in};
 ghost use Rattle.op_law.specs.Readable.{AreInside, HeadIsInside};
-ghost use Rattle.op_law.specs.Behind.{behind_header, behind_blocks, IsHeadOf};
+ghost use Rattle.op_law.specs.Behind.{behind_lock, behind_block, behind_all, behind_directory, HasBlocks, IsHeadOf};
 
 use crate::need::Need;
 use crate::rows::{is_number, live_in, place_in, refused};
-use crate::seen::Seen;
 use lock_db::LockName;
 use plain_cat::{Fid, Mode, Refusal};
 use std::alloc::Global;
 use vol_parts::Geometry;
 use vol_words::Block;
 
-/// A file's header, where it is seen.
-#[derive(Drop)]
-pub enum Headed<'a> {
-    /// The block of the header, and the blocks that were seen behind it.
-    Header(&'a Block, &'a [(u32, Block)]),
+/// What was seen from an event of a command on.
+#[derive(Clone, Copy)]
+pub struct Rest<'a> {
+    /// The locks that were granted from there on, in order.
+    pub locks: &'a [(LockName, Mode)],
 
-    /// It is not seen: what the command needs next.
+    /// The blocks that were looked at from there on, in order.
+    pub blocks: &'a [(u32, Block)],
+}
+
+/// A lock, where it is granted.
+#[derive(Drop)]
+pub enum Granted<'a> {
+    /// What was seen behind it.
+    Held(Rest<'a>),
+
+    /// It is not granted yet: what the command needs next.
     Next(Need),
 }
 
-/// A directory's blocks, where all are seen.
+/// A block, where it is seen.
+#[derive(Drop)]
+pub enum Looked<'a> {
+    /// The block, and what was seen behind it.
+    Seen(&'a Block, Rest<'a>),
+
+    /// It is not seen yet: what the command needs next.
+    Next(Need),
+}
+
+/// Blocks, where all of them are seen.
+#[derive(Drop)]
+pub enum Listed<'a> {
+    /// The blocks with their LBNs, in order, and what was seen behind them.
+    All(&'a [(u32, Block)], Rest<'a>),
+
+    /// They are not all seen yet: what the command needs next.
+    Next(Need),
+}
+
+/// A directory, where all of its blocks are seen.
 #[derive(Drop)]
 pub enum Listing<'a> {
-    /// The blocks, with their LBNs, in order.
-    All(&'a [(u32, Block)]),
+    /// The block of its header, its blocks with their LBNs, in order, and what was seen behind them.
+    All(&'a Block, &'a [(u32, Block)], Rest<'a>),
 
-    /// They are not all seen: what the command needs next.
+    /// They are not all seen yet: what the command needs next.
     Next(Need),
+}
+
+/// A lock in a mode. It takes no memory.
+pub fn lock_seen<'a>(name: LockName, mode: Mode, rest: Rest<'a>) -> Granted<'a>
+    ensures blocks { HasBlocks rest.entry.blocks.now result }
+    ensures need { (next : Events) (space : Space) → following (Take name mode next) rest.entry.locks.now rest.entry.blocks.now space ≡ behind_lock next space result }
+{
+    match rest.locks {
+        [_, locks @ ..] => Granted::Held(Rest {
+            locks,
+            blocks: rest.blocks,
+        }),
+        [] => Granted::Next(Need::Lock(name, mode)),
+    }
+}
+
+/// A look at the block of an LBN, which the lock of this name guards. It takes no memory.
+pub fn block_seen<'a>(name: LockName, lbn: u32, rest: Rest<'a>) -> Looked<'a>
+    ensures head { IsHeadOf rest.entry.blocks.now result }
+    ensures need { (next : Block → Events) (space : Space) → following (Look name lbn next) rest.entry.locks.now rest.entry.blocks.now space ≡ behind_block next space result }
+{
+    match rest.blocks {
+        [(_, block), blocks @ ..] => Looked::Seen(
+            block,
+            Rest {
+                locks: rest.locks,
+                blocks,
+            },
+        ),
+        [] => Looked::Next(Need::Block(name, lbn)),
+    }
+}
+
+/// Looks at so many blocks in order, which the lock of this name guards, where the LBN is that of the first that was not seen.
+/// It takes no memory.
+pub fn blocks_seen<'a>(
+    name: LockName,
+    count: usize,
+    unseen: Option<u32>,
+    rest: Rest<'a>,
+) -> Listed<'a>
+    ensures { (places : List ℕ) (next : List Block → Events) (space : Space) → length places ≡ count → slice_get places (length rest.entry.blocks.now) ≡ unseen
+        → following (look_all name places next) rest.entry.locks.now rest.entry.blocks.now space ≡ behind_all next space result }
+{
+    if let Some(lbn) = unseen {
+        return Listed::Next(Need::Block(name, lbn));
+    }
+    let all = count.min(rest.blocks.len());
+    Listed::All(
+        &rest.blocks[..all],
+        Rest {
+            locks: rest.locks,
+            blocks: &rest.blocks[all..],
+        },
+    )
 }
 
 // Where the header of a number stands.
@@ -48,56 +133,58 @@ fn header_lbn(g: &Geometry, n: u32) -> u32
 }
 
 /// The header of a file, behind its lock in this mode. It takes no memory.
-pub fn header_seen<'a>(alloc: Global, file: Fid, mode: Mode, seen: &'a Seen) -> Headed<'a>
-    requires { IsGeometry seen.now.geometry }
-    ensures head { IsHeadOf seen.now.blocks result }
-    ensures need { (next : Block → List (ℕ × Block) → Need) → through_header seen.now.geometry file mode next seen.now.locks seen.now.blocks ≡ behind_header next result }
-{
-    if !is_number(&seen.geometry, file) {
-        return Headed::Next(refused(alloc, Refusal::NoSuchFile));
-    }
-    if seen.locks.items().is_empty() {
-        return Headed::Next(Need::Lock(LockName::S(file.num), mode));
-    }
-    match seen.blocks.items() {
-        [(_, header), behind @ ..] => Headed::Header(header, behind),
-        [] => Headed::Next(Need::Block(
-            LockName::S(file.num),
-            header_lbn(&seen.geometry, file.num),
-        )),
-    }
-}
-
-/// The blocks of a live directory, behind its lock in this mode and its header. It takes no memory.
-pub fn directory_seen<'a>(alloc: Global, dir: Fid, mode: Mode, seen: &'a Seen) -> Listing<'a>
-    requires geometry { IsGeometry seen.now.geometry }
-    requires inside { HeadIsInside seen.now.blocks }
-    ensures { (next : List (ℕ × Block) → Need) → through_directory seen.now.geometry dir mode next seen.now.locks seen.now.blocks ≡ behind_blocks next result }
-{
-    match header_seen(alloc, dir, mode, seen) {
-        Headed::Next(need) => Listing::Next(need),
-        Headed::Header(header, behind) => blocks_seen(alloc, dir, header, behind),
-    }
-}
-
-// The blocks of a live directory, of which those behind its header were seen.
-fn blocks_seen<'a>(
+pub fn header_seen<'a>(
     alloc: Global,
-    dir: Fid,
-    header: &Block,
-    behind: &'a [(u32, Block)],
-) -> Listing<'a>
+    g: &Geometry,
+    file: Fid,
+    mode: Mode,
+    rest: Rest<'a>,
+) -> Looked<'a>
+    requires { IsGeometry g.now }
+    ensures head { IsHeadOf rest.entry.blocks.now result }
+    ensures need { (next : Block → Events) (space : Space) → following (through_header g.now file mode next) rest.entry.locks.now rest.entry.blocks.now space ≡ behind_block next space result }
+{
+    if !is_number(g, file) {
+        return Looked::Next(refused(alloc, Refusal::NoSuchFile));
+    }
+    match lock_seen(LockName::S(file.num), mode, rest) {
+        Granted::Next(need) => Looked::Next(need),
+        Granted::Held(behind) => block_seen(LockName::S(file.num), header_lbn(g, file.num), behind),
+    }
+}
+
+/// The blocks of a live directory with this header. It takes no memory.
+pub fn entries_looked<'a>(alloc: Global, dir: Fid, header: &Block, rest: Rest<'a>) -> Listed<'a>
     requires { AreInside header.now }
-    ensures { (next : List (ℕ × Block) → Need) → in_directory dir header.now next behind.now (live_in dir.seq header.now) ≡ behind_blocks next result }
+    ensures { (next : List Block → Events) (space : Space) → following (in_directory dir header.now next (live_in dir.seq header.now)) rest.entry.locks.now rest.entry.blocks.now space ≡ behind_all next space result }
 {
     let Some(h) = live_in(header, dir.seq) else {
-        return Listing::Next(refused(alloc, Refusal::NoSuchFile));
+        return Listed::Next(refused(alloc, Refusal::NoSuchFile));
     };
     if !h.dir {
-        return Listing::Next(refused(alloc, Refusal::NotDir));
+        return Listed::Next(refused(alloc, Refusal::NotDir));
     }
-    match place_in(header, behind.len()) {
-        Some(lbn) => Listing::Next(Need::Block(LockName::S(dir.num), lbn)),
-        None => Listing::All(behind),
+    let unseen = place_in(header, rest.blocks.len());
+    blocks_seen(LockName::S(dir.num), h.blocks as usize, unseen, rest)
+}
+
+/// A live directory's header and its blocks, behind its lock in this mode. It takes no memory.
+pub fn directory_seen<'a>(
+    alloc: Global,
+    g: &Geometry,
+    dir: Fid,
+    mode: Mode,
+    rest: Rest<'a>,
+) -> Listing<'a>
+    requires geometry { IsGeometry g.now }
+    requires inside { HeadIsInside rest.blocks.now }
+    ensures { (next : Block → List Block → Events) (space : Space) → following (through_directory g.now dir mode next) rest.entry.locks.now rest.entry.blocks.now space ≡ behind_directory next space result }
+{
+    match header_seen(alloc, g, dir, mode, rest) {
+        Looked::Next(need) => Listing::Next(need),
+        Looked::Seen(header, behind) => match entries_looked(alloc, dir, header, behind) {
+            Listed::Next(need) => Listing::Next(need),
+            Listed::All(blocks, others) => Listing::All(header, blocks, others),
+        },
     }
 }

@@ -1,4 +1,7 @@
+ghost use Rattle.std.specs.Prelude.{◌≡◌};
+
 use crate::lists::{SeenBlocks, SeenLocks};
+use crate::seeing::Rest;
 use plain_cat::{Clusters, Fid, Mode, Refusal};
 use vol_parts::Geometry;
 
@@ -25,6 +28,19 @@ pub struct Seen {
 
     /// Why it was given none, IndexFull or DeviceFull, where that was refused.
     pub short: Option<Refusal>,
+}
+
+impl Seen {
+    /// All that was seen: the locks and the blocks.
+    pub fn all(&self) -> Rest<'_>
+        ensures locks { result.locks.now ≡ self.now.locks }
+        ensures blocks { result.blocks.now ≡ self.now.blocks }
+    {
+        Rest {
+            locks: self.locks.items(),
+            blocks: self.blocks.items(),
+        }
+    }
 }
 
 /// What a channel has open.

@@ -1,17 +1,12 @@
 -- The law of LOOKUP, LIST and STAT.
-use Rattle.std.proofs.Common.{◌≡◌, ◌∙◌, inl, ℕ, Bool, true, false, cond, List, [], ◌∷◌, Option, Some, None, map, take, length, slice_get, refl, sym, ap, subst}
+use Rattle.std.proofs.Common.{◌≡◌, ◌∙◌, inl, ℕ, Bool, true, false, cond, List, [], ◌∷◌, Option, Some, None, refl, ap}
 use Rattle.std.specs.Prelude.{option_map, Ok}
-use Rattle.std.proofs.lemmas.Option.{get_or_from_slice_get}
 use Rattle.vol_words.specs.Fields.{Block}
 use Rattle.fx_header.specs.declared.slot.Hdr.{Hdr}
 use Rattle.fx_header.specs.declared.slot.Slot.TheVariants as head
-use Rattle.fx_header.specs.Headers.{header_read, runs_in}
-use Rattle.fx_header.specs.Pointers.{lbns_in}
-use Rattle.fx_dir.specs.Directory.{directory}
-use Rattle.lock_db.specs.declared.name.LockName.{LockName}
+use Rattle.fx_header.specs.Headers.{header_read}
 use Rattle.lock_db.specs.declared.name.LockName.TheVariants.{S}
 use Rattle.plain_cat.specs.declared.ids.Fid.{Fid}
-use Rattle.plain_cat.specs.declared.mode.Mode.{Mode}
 use Rattle.plain_cat.specs.declared.mode.Mode.TheVariants.{PR}
 use Rattle.plain_cat.specs.declared.entries.DirEnt.{DirEnt}
 use Rattle.plain_cat.specs.declared.command.Cmd.{Cmd}
@@ -25,176 +20,104 @@ use Rattle.plain_vol.specs.declared.outcome.Outcome.{Outcome}
 use Rattle.plain_vol.specs.Lookups.{live, versions, entry_of, found}
 use Rattle.plain_vol.specs.Answers.{told, in_directory_file, lookup_outcome, list_outcome, stat_of, stat_outcome, outcome}
 use Rattle.plain_vol.proofs.LawSteps.{pick_exists}
-use Rattle.vol_owners.specs.Lists.{Has, StandsIn}
 use Rattle.vol_owners.specs.Owners.{Owners}
-use Rattle.vol_owners.proofs.Listing.{has_at}
-use Rattle.vol_owners.specs.Places.{blocks_at}
-use Rattle.vol_parts.specs.Catalogues.{plain_entries, file_of}
-use Rattle.vol_spell.specs.Reading.{IsFileNumber, header_block, runs_told}
+use Rattle.vol_parts.specs.declared.geometry.Geometry.{Geometry}
+use Rattle.vol_spell.specs.Reading.{IsFileNumber}
 use Rattle.vol_spell.specs.Spelling.{Spells}
-use Rattle.op_law.specs.declared.need.Need.{Need}
-use Rattle.op_law.specs.declared.seen.Seen.{Seen}
-use Rattle.op_law.specs.Rows.{answered, refused, is_number, after_lock, after_header, live_in, places_in, after_blocks, in_directory, through_header, through_directory}
-use Rattle.op_law.specs.Needs.{entries_seen, facts_of, facts_need, lookup_need, list_need, stat_need, look_need}
-use Rattle.op_law.specs.Fits.{directory_places, AreFirst, AreSeen, UnderLock, HasSeen}
-use Rattle.op_law.specs.Laws.{IsAnswer, IsLookNeed, Lawful}
-use Rattle.op_law.proofs.Heads.{header_is}
-use Rattle.op_law.proofs.Telling.{live_reads, reads_runs, file_blocks, live_is, not_live, blocks_whole}
-use Rattle.op_law.proofs.Looks.{header_under, block_under}
+use Rattle.op_law.specs.declared.need.Plan.{Plan}
+use Rattle.op_law.specs.declared.seen.Chan.{Chan}
+use Rattle.op_law.specs.Events.{HasNoSearch}
+use Rattle.op_law.specs.Rows.{plain_plan, answers, live_in, through_header, through_directory, entries_seen}
+use Rattle.op_law.specs.Needs.{facts_of, facts_or_none, lookup_events, list_events, stat_events, events_of}
+use Rattle.op_law.specs.Laws.{Lawful}
+use Rattle.op_law.proofs.Telling.{live_reads, file_blocks, live_is, not_live, blocks_whole}
+use Rattle.op_law.proofs.Walking.{EveryPlan, Obeys}
+use Rattle.op_law.proofs.Through.{header_so, directory_so, file_header, file_told, header_obeys, directory_obeys}
+use Rattle.op_law.proofs.OnlyLooking.{IsPlain, IsAnswer, only_looks_lawful}
 use Rattle.op_lookup.specs.Kinds.{IsLook}
 
--- an answer that leaves the catalogue, where the outcome tells it
-answers : (x : Cmd) (c : Cat) (r : Reply) → ((node : ℕ) (new : Option ℕ) → outcome c node x new ≡ told c r) → IsAnswer x c (record { writes = []; ask = None; reply = r })
-answers x c r e = record { writes = refl; ask = refl; answer = λ node. let p = pick_exists c in (p.0, p.1, e node p.0) }
+-- ---- no search, and plans that write nothing
 
--- blocks that were seen at all of these places are the blocks at them
-all_seen : (bs : List Block) (ls : List ℕ) (seen : List (ℕ × Block)) → AreFirst ls seen → slice_get ls (length seen) ≡ None → StandsIn bs seen → map (λ s. s.1) seen ≡ blocks_at bs ls
-all_seen bs [] [] first none stands = refl
-all_seen bs [] (x ∷ seen) first none stands = absurd (let f : ◌≡◌ {A = List ℕ} (x.0 ∷ map (λ s. s.0) seen) [] = first in cc)
-all_seen bs (l ∷ ls) [] first none stands = absurd (let f : Some l ≡ None = none in cc)
-all_seen bs (l ∷ ls) (x ∷ seen) first none stands =
-    let f : x.0 ∷ map (λ s. s.0) seen ≡ l ∷ take (length seen) ls = first in
-    let at : x.0 ≡ l = cc in
-    let behind : map (λ s. s.0) seen ≡ take (length seen) ls = cc in
-    let here = sym (get_or_from_slice_get bs l x.1 [] (subst (λ k. slice_get bs k ≡ Some x.1) at stands.0)) in
-    let rest = all_seen bs ls seen behind none stands.1 in
-    λ i. here i ∷ rest i
+so_none : (o : Option Hdr) → HasNoSearch (facts_or_none o)
+so_none None = tt
+so_none (Some h) = tt
 
-module _ (x : Cmd) (seen : Seen) (bs : List Block) (own : Owners) (c : Cat) (s : Spells seen.geometry bs own c) (stands : StandsIn bs seen.blocks) (fid : Fid) where
-  abbrev P : Need → Type 0
-  P next = IsLookNeed x seen bs own c next
+so_plain : (o : Option Hdr) → EveryPlan IsPlain (facts_or_none o)
+so_plain None = record { writes = refl; ask = refl }
+so_plain (Some h) = record { writes = refl; ask = refl }
 
-  -- what is known behind the header
-  record IsBehind (h : ℕ × Block) (behind : List (ℕ × Block)) : Type 0 where
-    number : IsFileNumber seen.geometry fid.num
-    held : Has seen.locks (S fid.num, PR)
-    header : header_block seen.geometry bs fid.num ≡ h.1
-    others : StandsIn bs behind
+searches : (x : Cmd) → IsLook x → (g : Geometry) (channel : Option Chan) → HasNoSearch (events_of g channel x)
+unfolding events_of lookup_events list_events stat_events
+searches (cmd.Lookup reg dir name ver) look g channel = directory_so HasNoSearch (λ n m next h. h) (λ n l next h. h) g dir PR _ tt tt (λ b bs. tt)
+searches (cmd.List dir) look g channel = directory_so HasNoSearch (λ n m next h. h) (λ n l next h. h) g dir PR _ tt tt (λ b bs. tt)
+searches (cmd.Stat file) look g channel = header_so HasNoSearch (λ n m next h. h) (λ n l next h. h) g file PR _ tt (λ b. so_none (live_in file.seq b))
+searches other look g channel = absurd look
 
-  module _ (next : Block → List (ℕ × Block) → Need) (places : Block → List ℕ) (out : is_number seen.geometry fid ≡ false → P (refused refusal.NoSuchFile))
-      (further : (h : ℕ × Block) (behind : List (ℕ × Block)) → IsBehind h behind → AreFirst (places h.1) behind → P (next h.1 behind)) where
-    by_blocks : (blocks : List (ℕ × Block)) → seen.blocks ≡ blocks → IsFileNumber seen.geometry fid.num → Has seen.locks (S fid.num, PR) → AreSeen seen.geometry fid places blocks
-        → P (after_header seen.geometry fid next blocks)
-    by_blocks [] e is held a =
-        let u = header_under seen.geometry bs own c s fid.num is in record { held = held; guard = u.guard; within = u.within }
-    by_blocks (h ∷ behind) e is held a =
-        let there : StandsIn bs (h ∷ behind) = subst (λ xs. StandsIn bs xs) e stands in
-        further h behind (record { number = is; held = held; header = header_is seen.geometry bs fid.num h.0 h.1 a.0 there.0; others = there.1 }) a.1
+plain : (x : Cmd) → IsLook x → (g : Geometry) (channel : Option Chan) → EveryPlan IsPlain (events_of g channel x)
+unfolding events_of lookup_events list_events stat_events
+plain (cmd.Lookup reg dir name ver) look g channel =
+    directory_so (EveryPlan IsPlain) (λ n m next h. h) (λ n l next h. h) g dir PR _ (record { writes = refl; ask = refl }) (record { writes = refl; ask = refl }) (λ b bs. record { writes = refl; ask = refl })
+plain (cmd.List dir) look g channel =
+    directory_so (EveryPlan IsPlain) (λ n m next h. h) (λ n l next h. h) g dir PR _ (record { writes = refl; ask = refl }) (record { writes = refl; ask = refl }) (λ b bs. record { writes = refl; ask = refl })
+plain (cmd.Stat file) look g channel =
+    header_so (EveryPlan IsPlain) (λ n m next h. h) (λ n l next h. h) g file PR _ (record { writes = refl; ask = refl }) (λ b. so_plain (live_in file.seq b))
+plain other look g channel = absurd look
 
-    by_locks : (locks : List (LockName × Mode)) → seen.locks ≡ locks → UnderLock seen.geometry fid PR places locks seen.blocks
-        → P (after_lock fid PR locks (after_header seen.geometry fid next seen.blocks))
-    by_locks [] e u = (e, refl)
-    by_locks (l ∷ locks) e u = by_blocks seen.blocks refl u.0 (subst (λ xs. Has xs (S fid.num, PR)) (sym e) (inl u.1)) u.3
+-- ---- on all blocks the plan is the answer
 
-    through : UnderLock seen.geometry fid PR places seen.locks seen.blocks → P (through_header seen.geometry fid PR next seen.locks seen.blocks)
-    through u = by_number (is_number seen.geometry fid) refl where
-      by_number : (t : Bool) → is_number seen.geometry fid ≡ t → P (cond t (after_lock fid PR seen.locks (after_header seen.geometry fid next seen.blocks)) (refused refusal.NoSuchFile))
-      by_number true e = by_locks seen.locks refl u
-      by_number false e = out e
+module _ (x : Cmd) (channel : Option Chan) (g : Geometry) (bs : List Block) (own : Owners) (c : Cat) (s : Spells g bs own c) (fid : Fid) where
+  abbrev P : Plan → Type 0
+  P p = IsAnswer x channel c p
 
-  -- ---- STAT
+  abbrev told_file : Hdr → File
+  told_file f = file_told x g bs own c s P fid PR (inl refl) f
 
-  module _ (same : (node : ℕ) (new : Option ℕ) → outcome c node x new ≡ stat_of c (live c fid)) where
-    stat_further : (h : ℕ × Block) (behind : List (ℕ × Block)) → IsBehind h behind → AreFirst [] behind → P (facts_need (live_in fid.seq h.1))
-    stat_further h behind at first = by_live (live_in fid.seq h.1) refl where
-      hb : Block
-      hb = header_block seen.geometry bs fid.num
+  abbrev hb : Block
+  hb = file_header x g bs own c s P fid PR (inl refl)
 
-      to_file : Hdr → File
-      to_file f = file_of seen.geometry.cluster fid.num f (file_blocks bs hb)
+  -- an answer that leaves the catalogue, where the outcome tells it
+  tells_so : (r : Reply) → ((node : ℕ) (new : Option ℕ) → outcome c node x new ≡ told c r) → P (plain_plan r)
+  tells_so r e = λ node has. let p = pick_exists c in (p.0, p.1, e node p.0)
 
-      lives : (o : Option Hdr) → live_in fid.seq h.1 ≡ o → live c fid ≡ option_map to_file o
-      lives o e = live_is seen.geometry bs own c s fid at.number ∙ ap (option_map to_file) (ap (live_in fid.seq) at.header ∙ e)
-
-      by_live : (o : Option Hdr) → live_in fid.seq h.1 ≡ o → P (facts_need o)
-      by_live None e = answers x c (reply.Refused refusal.NoSuchFile) (λ node new. same node new ∙ ap (stat_of c) (lives None e))
-      by_live (Some f) e =
-          let reads : header_read hb ≡ Ok (head.Used f) = live_reads fid.seq (header_read hb) f (ap (live_in fid.seq) at.header ∙ e) in
-          let blocks = blocks_whole seen.geometry bs own c s fid.num f at.number reads in
-          answers x c (facts_of f) (λ node new. same node new ∙ ap (stat_of c) (lives (Some f) e)
-          ∙ ap (λ n. told c (reply.Facts f.dir (record { 0 = f.owner }) n f.mark f.end f.byte)) blocks)
-
-    stat_through : UnderLock seen.geometry fid PR (λ b. []) seen.locks seen.blocks → P (through_header seen.geometry fid PR (λ b behind. facts_need (live_in fid.seq b)) seen.locks seen.blocks)
-    stat_through u = through (λ b behind. facts_need (live_in fid.seq b)) (λ b. [])
-        (λ e. answers x c (reply.Refused refusal.NoSuchFile) (λ node new. same node new ∙ ap (stat_of c) (not_live seen.geometry bs own c s fid e))) stat_further u
-
-  -- ---- LOOKUP and LIST
-
+  -- LOOKUP and LIST: the reply tells of the entries
   module _ (tell : List DirEnt → Reply) (same : (node : ℕ) (new : Option ℕ) → outcome c node x new ≡ in_directory_file c (live c fid) (λ d. told c (tell d.entries))) where
-    abbrev tells : List (ℕ × Block) → Need
-    tells all = answered (tell (entries_seen all))
+    goes : Option File → Outcome
+    goes o = in_directory_file c o (λ d. told c (tell d.entries))
 
-    directory_further : (h : ℕ × Block) (behind : List (ℕ × Block)) → IsBehind h behind → AreFirst (directory_places h.1 (live_in fid.seq h.1)) behind
-        → P (in_directory fid h.1 tells behind (live_in fid.seq h.1))
-    directory_further h behind at first = by_live (live_in fid.seq h.1) refl first where
-      hb : Block
-      hb = header_block seen.geometry bs fid.num
+    by_dir : (f : Hdr) → live c fid ≡ Some (told_file f) → (t : Bool) → f.dir ≡ t → (node : ℕ) (new : Option ℕ)
+        → outcome c node x new ≡ cond t (told c (tell (told_file f).entries)) (told c (reply.Refused refusal.NotDir))
+    unfolding goes
+    by_dir f lives t d node new = same node new ∙ ap goes lives ∙ ap (λ t. cond t (told c (tell (told_file f).entries)) (told c (reply.Refused refusal.NotDir))) d
 
-      to_file : Hdr → File
-      to_file f = file_of seen.geometry.cluster fid.num f (file_blocks bs hb)
+    directory_told : Obeys x g bs own P (through_directory g fid PR (λ h bs. answers (tell (entries_seen bs)))) []
+    unfolding goes
+    directory_told = directory_obeys x g bs own c s P fid PR (inl refl) (λ h bs. answers (tell (entries_seen bs)))
+        (λ none. tells_so (reply.Refused refusal.NoSuchFile) (λ node new. same node new ∙ ap goes none))
+        (λ f lives d. tells_so (reply.Refused refusal.NotDir) (by_dir f lives false d))
+        (λ f is. tells_so (tell (entries_seen (file_blocks bs hb))) (λ node new. by_dir f is.live true is.dir node new ∙ ap (λ es. told c (tell es)) is.entries))
 
-      lives : (o : Option Hdr) → live_in fid.seq h.1 ≡ o → live c fid ≡ option_map to_file o
-      lives o e = live_is seen.geometry bs own c s fid at.number ∙ ap (option_map to_file) (ap (live_in fid.seq) at.header ∙ e)
+  -- STAT
+  module _ (same : (node : ℕ) (new : Option ℕ) → outcome c node x new ≡ stat_of c (live c fid)) where
+    stat_behind : IsFileNumber g fid.num → (o : Option Hdr) → live_in fid.seq hb ≡ o → Obeys x g bs own P (facts_or_none o) ((S fid.num, PR) ∷ [])
+    stat_behind is None e = tells_so (reply.Refused refusal.NoSuchFile) (λ node new. same node new ∙ ap (stat_of c) (live_is g bs own c s fid is ∙ ap (option_map told_file) e))
+    stat_behind is (Some f) e =
+        let reads : header_read hb ≡ Ok (head.Used f) = live_reads fid.seq (header_read hb) f e in
+        let blocks = blocks_whole g bs own c s fid.num f is reads in
+        tells_so (facts_of f) (λ node new. same node new ∙ ap (stat_of c) (live_is g bs own c s fid is ∙ ap (option_map told_file) e)
+        ∙ ap (λ n. told c (reply.Facts f.dir (record { 0 = f.owner }) n f.mark f.end f.byte)) blocks)
 
-      goes : Option File → Outcome
-      goes o = in_directory_file c o (λ d. told c (tell d.entries))
+    stat_told : Obeys x g bs own P (through_header g fid PR (λ b. facts_or_none (live_in fid.seq b))) []
+    stat_told = header_obeys x g bs own c s P fid PR (inl refl) (λ b. facts_or_none (live_in fid.seq b))
+        (λ out. tells_so (reply.Refused refusal.NoSuchFile) (λ node new. same node new ∙ ap (stat_of c) (not_live g bs own c s fid out)))
+        (λ is. stat_behind is (live_in fid.seq hb) refl)
 
-      by_place : (f : Hdr) → live_in fid.seq h.1 ≡ Some f → f.dir ≡ true → (o : Option ℕ) → slice_get (places_in h.1) (length behind) ≡ o → AreFirst (places_in h.1) behind → P (after_blocks fid o (tells behind))
-      by_place f e d (Some l) place first =
-          let reads : header_read hb ≡ Ok (head.Used f) = live_reads fid.seq (header_read hb) f (ap (live_in fid.seq) at.header ∙ e) in
-          let places : places_in h.1 ≡ lbns_in (runs_told hb) = ap (λ b. lbns_in (runs_in b)) (sym at.header) ∙ ap lbns_in (sym (reads_runs hb f reads)) in
-          let u = block_under seen.geometry bs own c s fid.num l f at.number reads d (subst (λ ls. Has ls l) places (has_at (places_in h.1) (length behind) l place)) in
-          record { held = at.held; guard = u.guard; within = u.within }
-      by_place f e d None place first =
-          let reads : header_read hb ≡ Ok (head.Used f) = live_reads fid.seq (header_read hb) f (ap (live_in fid.seq) at.header ∙ e) in
-          let places : places_in h.1 ≡ lbns_in (runs_told hb) = ap (λ b. lbns_in (runs_in b)) (sym at.header) ∙ ap lbns_in (sym (reads_runs hb f reads)) in
-          let blocks : file_blocks bs hb ≡ map (λ y. y.1) behind = ap (blocks_at bs) (sym places) ∙ sym (all_seen bs (places_in h.1) behind first place at.others) in
-          let entries : (to_file f).entries ≡ entries_seen behind = ap (λ t. cond t (plain_entries (directory (file_blocks bs hb))) []) d ∙ ap (λ bs. plain_entries (directory bs)) blocks in
-          answers x c (tell (entries_seen behind)) (λ node new. same node new ∙ ap goes (lives (Some f) e)
-          ∙ ap (λ t. cond t (told c (tell (to_file f).entries)) (told c (reply.Refused refusal.NotDir))) d ∙ ap (λ es. told c (tell es)) entries)
-
-      by_dir : (f : Hdr) → live_in fid.seq h.1 ≡ Some f → (t : Bool) → f.dir ≡ t → AreFirst (cond t (places_in h.1) []) behind
-          → P (cond t (after_blocks fid (slice_get (places_in h.1) (length behind)) (tells behind)) (refused refusal.NotDir))
-      by_dir f e true d first = by_place f e d (slice_get (places_in h.1) (length behind)) refl first
-      by_dir f e false d first = answers x c (reply.Refused refusal.NotDir) (λ node new. same node new ∙ ap goes (lives (Some f) e)
-          ∙ ap (λ t. cond t (told c (tell (to_file f).entries)) (told c (reply.Refused refusal.NotDir))) d)
-
-      by_live : (o : Option Hdr) → live_in fid.seq h.1 ≡ o → AreFirst (directory_places h.1 o) behind → P (in_directory fid h.1 tells behind o)
-      by_live None e first = answers x c (reply.Refused refusal.NoSuchFile) (λ node new. same node new ∙ ap goes (lives None e))
-      by_live (Some f) e first = by_dir f e f.dir refl first
-
-    directory_through : UnderLock seen.geometry fid PR (λ b. directory_places b (live_in fid.seq b)) seen.locks seen.blocks → P (through_directory seen.geometry fid PR tells seen.locks seen.blocks)
-    directory_through u = through (λ b behind. in_directory fid b tells behind (live_in fid.seq b)) (λ b. directory_places b (live_in fid.seq b))
-        (λ e. answers x c (reply.Refused refusal.NoSuchFile) (λ node new. same node new
-        ∙ ap (λ o. in_directory_file c o (λ d. told c (tell d.entries))) (not_live seen.geometry bs own c s fid e))) directory_further u
+obeys : (x : Cmd) → IsLook x → (g : Geometry) (channel : Option Chan) (bs : List Block) (own : Owners) (c : Cat) → Spells g bs own c → Obeys x g bs own (IsAnswer x channel c) (events_of g channel x) []
+unfolding events_of lookup_events list_events stat_events outcome lookup_outcome list_outcome stat_outcome
+obeys (cmd.Lookup reg dir name ver) look g channel bs own c s =
+    directory_told (cmd.Lookup reg dir name ver) channel g bs own c s dir (λ es. found (entry_of (versions name es) ver)) (λ node new. refl)
+obeys (cmd.List dir) look g channel bs own c s = directory_told (cmd.List dir) channel g bs own c s dir (λ es. reply.Listed es) (λ node new. refl)
+obeys (cmd.Stat file) look g channel bs own c s = stat_told (cmd.Stat file) channel g bs own c s file (λ node new. refl)
+obeys other look g channel bs own c s = absurd look
 
 pub look_lawful : (x : Cmd) → IsLook x → Lawful x
-unfolding HasSeen look_need lookup_need list_need stat_need outcome lookup_outcome list_outcome stat_outcome
-look_lawful (cmd.Lookup reg dir name ver) look seen bs own c next has on is =
-    let tell : List DirEnt → Reply = λ es. found (entry_of (versions name es) ver) in
-    let e : Some (lookup_need dir name ver seen) ≡ Some next = is in
-    let f : lookup_need dir name ver seen ≡ next = cc in
-    subst (λ n. IsLookNeed (cmd.Lookup reg dir name ver) seen bs own c n) f
-    (directory_through (cmd.Lookup reg dir name ver) seen bs own c on.spelt on.stands dir tell (λ node new. refl) has)
-look_lawful (cmd.List dir) look seen bs own c next has on is =
-    let e : Some (list_need dir seen) ≡ Some next = is in
-    let f : list_need dir seen ≡ next = cc in
-    subst (λ n. IsLookNeed (cmd.List dir) seen bs own c n) f
-    (directory_through (cmd.List dir) seen bs own c on.spelt on.stands dir (λ es. reply.Listed es) (λ node new. refl) has)
-look_lawful (cmd.Stat file) look seen bs own c next has on is =
-    let e : Some (stat_need file seen) ≡ Some next = is in
-    let f : stat_need file seen ≡ next = cc in
-    subst (λ n. IsLookNeed (cmd.Stat file) seen bs own c n) f
-    (stat_through (cmd.Stat file) seen bs own c on.spelt on.stands file (λ node new. refl) has)
-look_lawful (cmd.Create reg dir name ver blocks owner) look seen bs own c next has on is = absurd look
-look_lawful (cmd.MkDir reg dir name owner) look seen bs own c next has on is = absurd look
-look_lawful (cmd.Extend file blocks) look seen bs own c next has on is = absurd look
-look_lawful (cmd.Trunc file blocks) look seen bs own c next has on is = absurd look
-look_lawful (cmd.Delete dir name ver) look seen bs own c next has on is = absurd look
-look_lawful (cmd.Rename dir name ver to to_ver) look seen bs own c next has on is = absurd look
-look_lawful (cmd.OpenFile chan file mode) look seen bs own c next has on is = absurd look
-look_lawful (cmd.CloseFile chan) look seen bs own c next has on is = absurd look
-look_lawful (cmd.ReadBlock chan vbn) look seen bs own c next has on is = absurd look
-look_lawful (cmd.WriteBlock chan vbn text) look seen bs own c next has on is = absurd look
-look_lawful (cmd.QuotaSet owner quota over) look seen bs own c next has on is = absurd look
-look_lawful (cmd.QuotaShow owner) look seen bs own c next has on is = absurd look
+look_lawful x look = only_looks_lawful x (record { searches = searches x look; plain = plain x look; obeys = obeys x look })

@@ -1,2 +1,2 @@
+pub mod Looking
 pub mod Lawful
-pub mod GoingOn

@@ -3,11 +3,12 @@
 ghost use Rattle.std.specs.Prelude.{◌≡◌, IfOk};
 ghost use Rattle.vol_parts.specs.Parts.{IsGeometry};
 ghost use Rattle.op_law.specs.Readable.{HeadIsInside};
-ghost use Rattle.op_law.specs.Needs.{facts_of, lookup_need, list_need, stat_need};
+ghost use Rattle.op_law.specs.Events.{next_of};
+ghost use Rattle.op_law.specs.Needs.{facts_of, lookup_events, list_events, stat_events};
 
 use fx_header::Hdr;
 use op_law::{
-    Headed, Listing, Need, NoMemory, Seen, answered, directory_seen, entries_seen, header_seen,
+    Listing, Looked, Need, NoMemory, Seen, answered, directory_seen, entries_seen, header_seen,
     live_in, refused,
 };
 use plain_cat::{Fid, Mode, Name, Refusal, Reply, Uic};
@@ -15,7 +16,7 @@ use plain_vol::look_up;
 use std::alloc::Global;
 
 // LOOKUP
-#[tactic(auto, unfolding(op_law::specs::Needs::lookup_need))]
+#[tactic(auto, unfolding(op_law::specs::Needs::lookup_events))]
 pub(crate) fn lookup_next(
     alloc: Global,
     dir: Fid,
@@ -25,11 +26,11 @@ pub(crate) fn lookup_next(
 ) -> Result<Need, NoMemory>
     requires geometry { IsGeometry seen.now.geometry }
     requires inside { HeadIsInside seen.now.blocks }
-    ensures { IfOk result (λ need. need ≡ lookup_need dir name.now ver seen.now) }
+    ensures { IfOk result (λ need. need ≡ next_of (lookup_events seen.now.geometry dir name.now ver) seen.now) }
 {
-    match directory_seen(alloc, dir, Mode::PR, seen) {
+    match directory_seen(alloc, &seen.geometry, dir, Mode::PR, seen.all()) {
         Listing::Next(need) => Ok(need),
-        Listing::All(blocks) => {
+        Listing::All(_, blocks, _) => {
             let entries = entries_seen(alloc, blocks)?;
             Ok(answered(alloc, look_up(alloc, &entries, name, ver)?))
         }
@@ -37,15 +38,18 @@ pub(crate) fn lookup_next(
 }
 
 // LIST
-#[tactic(auto, unfolding(op_law::specs::Needs::list_need))]
+#[tactic(auto, unfolding(op_law::specs::Needs::list_events))]
 pub(crate) fn list_next(alloc: Global, dir: Fid, seen: &Seen) -> Result<Need, NoMemory>
     requires geometry { IsGeometry seen.now.geometry }
     requires inside { HeadIsInside seen.now.blocks }
-    ensures { IfOk result (λ need. need ≡ list_need dir seen.now) }
+    ensures { IfOk result (λ need. need ≡ next_of (list_events seen.now.geometry dir) seen.now) }
 {
-    match directory_seen(alloc, dir, Mode::PR, seen) {
+    match directory_seen(alloc, &seen.geometry, dir, Mode::PR, seen.all()) {
         Listing::Next(need) => Ok(need),
-        Listing::All(blocks) => Ok(answered(alloc, Reply::Listed(entries_seen(alloc, blocks)?))),
+        Listing::All(_, blocks, _) => Ok(answered(
+            alloc,
+            Reply::Listed(entries_seen(alloc, blocks)?),
+        )),
     }
 }
 
@@ -64,14 +68,14 @@ fn facts_of(h: &Hdr) -> Reply
 }
 
 // STAT
-#[tactic(auto, unfolding(op_law::specs::Needs::stat_need))]
+#[tactic(auto, unfolding(op_law::specs::Needs::stat_events))]
 pub(crate) fn stat_next(alloc: Global, file: Fid, seen: &Seen) -> Need
     requires { IsGeometry seen.now.geometry }
-    ensures { result ≡ stat_need file seen.now }
+    ensures { result ≡ next_of (stat_events seen.now.geometry file) seen.now }
 {
-    match header_seen(alloc, file, Mode::PR, seen) {
-        Headed::Next(need) => need,
-        Headed::Header(header, _) => match live_in(header, file.seq) {
+    match header_seen(alloc, &seen.geometry, file, Mode::PR, seen.all()) {
+        Looked::Next(need) => need,
+        Looked::Seen(header, _) => match live_in(header, file.seq) {
             Some(h) => answered(alloc, facts_of(&h)),
             None => refused(alloc, Refusal::NoSuchFile),
         },

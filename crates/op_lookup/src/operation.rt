@@ -37,7 +37,7 @@ impl Operation for OpLookup {
         &self.cmd
     }
 
-    #[tactic(auto, unfolding(op_law::specs::Needs::look_need))]
+    #[tactic(auto, unfolding(op_law::specs::Needs::events_of))]
     fn next(&self, alloc: Global, seen: &Seen) -> Result<Need, NoMemory> {
         match &self.cmd {
             Cmd::Lookup { dir, name, ver, .. } => lookup_next(alloc, *dir, name, *ver, seen),

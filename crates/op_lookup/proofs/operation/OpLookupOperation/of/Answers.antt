@@ -1,9 +1,5 @@
 use Rattle.op_lookup.proofs.Lawful.{look_lawful}
-use Rattle.op_lookup.proofs.GoingOn.{goes_on}
 use Rattle.op_lookup.proofs.operation.OpLookupOperation.of.Goals as goal
 
 pub returns-clause-lawful : goal.returns-clause-lawful
 returns-clause-lawful c = look_lawful c.args.cmd c.requires
-
-pub returns-clause-goes_on : goal.returns-clause-goes_on
-returns-clause-goes_on c = goes_on c.args.cmd c.requires

@@ -1,0 +1,150 @@
+-- A walk along the events of a command: what each may need, and its plan.
+use Rattle.std.proofs.Common.{◌≡◌, ◌≤◌, ◌<◌, ◌∙◌, ℕ, Bool, true, false, cond, List, [], ◌∷◌, ◌++◌, Option, Some, map, length, slice_get, append_assoc, refl, sym, ap, subst}
+use Rattle.std.specs.Prelude.{MatchBool}
+use Rattle.std.proofs.lemmas.List.{append-nil}
+use Rattle.vol_words.specs.Fields.{Block}
+use Rattle.lock_db.specs.declared.name.LockName.{LockName}
+use Rattle.plain_cat.specs.declared.mode.Mode.{Mode}
+use Rattle.plain_cat.specs.declared.mode.Mode.TheVariants.{PR, PW}
+use Rattle.plain_cat.specs.declared.command.Cmd.{Cmd}
+use Rattle.plain_cat.specs.declared.reply.Refusal.{Refusal}
+use Rattle.vol_owners.specs.Lists.{Has, StandsIn}
+use Rattle.vol_owners.specs.Owners.{Owners}
+use Rattle.vol_under.specs.Guards.{guard_of, MayLook}
+use Rattle.op_law.specs.declared.need.Need.{Need}
+use Rattle.op_law.specs.declared.need.Need.TheVariants as need
+use Rattle.op_law.specs.declared.need.Plan.{Plan}
+use Rattle.op_law.specs.declared.seen.Seen.{Seen}
+use Rattle.vol_parts.specs.declared.geometry.Geometry.{Geometry}
+use Rattle.op_law.specs.Events.{Events, Take, Look, Fetch, Find, Make, Space, space_of, has_space, HasNoSpace, IsGiven, HasNoSearch, SearchesOnce, following, Follows}
+use Rattle.op_law.specs.Knows.{takes_space}
+use Rattle.op_law.specs.Needs.{events_of, IsNext}
+use Rattle.op_law.specs.Fits.{HasSeen}
+use Rattle.op_law.specs.Laws.{held_in, MayNeed}
+use Rattle.op_law.proofs.Going.{Ready, ready_more, ready}
+
+-- ---- what every plan is that a command may come to
+
+-- each plan at the end of these events is so
+abbrev pub EveryPlan : (Plan → Type 0) → Events → Type 0
+EveryPlan P (Take name mode next) = EveryPlan P next
+EveryPlan P (Look name lbn next) = (b : Block) → EveryPlan P (next b)
+EveryPlan P (Fetch lbn next) = (b : Block) → EveryPlan P (next b)
+EveryPlan P (Find clusters number next) = (cs : List ℕ) (n : Option ℕ) (short : Option Refusal) → EveryPlan P (next cs n short)
+EveryPlan P (Make plan) = P plan
+
+-- a need is a plan that is so, or no plan
+abbrev IsPlanSo : (Plan → Type 0) → Need → Type 0
+IsPlanSo P (need.Ready p) = P p
+IsPlanSo P (need.Lock name mode) = Unit {0}
+IsPlanSo P (need.Block name lbn) = Unit {0}
+IsPlanSo P (need.Bare lbn) = Unit {0}
+IsPlanSo P (need.Space clusters number) = Unit {0}
+
+every_need : (P : Plan → Type 0) (es : Events) (locks : List (LockName × Mode)) (blocks : List (ℕ × Block)) (space : Space) → EveryPlan P es → IsPlanSo P (following es locks blocks space)
+every_need P (Take name mode next) [] blocks space every = tt
+every_need P (Take name mode next) (l ∷ locks) blocks space every = every_need P next locks blocks space every
+every_need P (Look name lbn next) locks [] space every = tt
+every_need P (Look name lbn next) locks (b ∷ blocks) space every = every_need P (next b.1) locks blocks space (every b.1)
+every_need P (Fetch lbn next) locks [] space every = tt
+every_need P (Fetch lbn next) locks (b ∷ blocks) space every = every_need P (next b.1) locks blocks space (every b.1)
+every_need P (Find clusters number next) locks blocks space every =
+    by_test (has_space clusters number space) (every_need P (next space.clusters space.number space.short) locks blocks space (every space.clusters space.number space.short)) where
+      by_test : (t : Bool) → IsPlanSo P (following (next space.clusters space.number space.short) locks blocks space)
+          → IsPlanSo P (cond t (following (next space.clusters space.number space.short) locks blocks space) (need.Space clusters number))
+      by_test true so = so
+      by_test false so = tt
+every_need P (Make plan) locks blocks space every = every
+
+pub every_plan : (P : Plan → Type 0) (es : Events) (locks : List (LockName × Mode)) (blocks : List (ℕ × Block)) (space : Space) (p : Plan) → EveryPlan P es → following es locks blocks space ≡ need.Ready p → P p
+every_plan P es locks blocks space p every e = subst (IsPlanSo P) e (every_need P es locks blocks space every)
+
+-- ---- what a command may need on the blocks of a volume
+
+-- a node that holds these locks may look at a block of the volume
+pub record IsGuarded (g : Geometry) (bs : List Block) (own : Owners) (held : List (LockName × Mode)) (lbn : ℕ) : Type 0 where
+  pub guard : MayLook (held_in PR held) (guard_of g own lbn)
+  pub within : lbn < length bs
+
+module _ (x : Cmd) (g : Geometry) (bs : List Block) (own : Owners) (P : Plan → Type 0) where
+  -- The events of the command, which holds these locks by then, are such as it may need on these blocks, and each plan that it may
+  -- come to on them is so.
+  abbrev pub Obeys : Events → List (LockName × Mode) → Type 0
+  Obeys (Take name mode next) held = (Has (map (λ l. l.0) held) name → ⊥) × Has (PR ∷ PW ∷ []) mode × Obeys next (held ++ (name, mode) ∷ [])
+  Obeys (Look name lbn next) held = Has (held_in PR held) name × IsGuarded g bs own held lbn × ((b : Block) → slice_get bs lbn ≡ Some b → Obeys (next b) held)
+  Obeys (Fetch lbn next) held = IsGuarded g bs own held lbn × ((b : Block) → slice_get bs lbn ≡ Some b → Obeys (next b) held)
+  Obeys (Find clusters number next) held = (takes_space x ≡ true) × (clusters ≤ 77)
+      × ((space : Space) → has_space clusters number space ≡ true → IsGiven space.clusters space.number space.short → Obeys (next space.clusters space.number space.short) held)
+  Obeys (Make plan) held = P plan
+
+-- what holds before a search holds on, where there is none
+pub kept : (es : Events) (space : Space) (given : Type 0) (locks : List (LockName × Mode)) (blocks : List (ℕ × Block)) → HasNoSearch es → Follows es locks blocks space given → given
+kept (Take name mode next) space given [] blocks once f = f.1
+kept (Take name mode next) space given (l ∷ locks) blocks once f = kept next space given locks blocks once f.1
+kept (Look name lbn next) space given locks [] once f = f.1
+kept (Look name lbn next) space given locks (b ∷ blocks) once f = kept (next b.1) space given locks blocks (once b.1) f.1
+kept (Fetch lbn next) space given locks [] once f = f.1
+kept (Fetch lbn next) space given locks (b ∷ blocks) once f = kept (next b.1) space given locks blocks (once b.1) f.1
+kept (Find clusters number next) space given locks blocks once f = absurd once
+kept (Make plan) space given locks blocks once f = f.2
+
+module _ (x : Cmd) (seen : Seen) (bs : List Block) (own : Owners) (P : Plan → Type 0) where
+  -- the need is one that the command may have, or a plan that is so
+  abbrev pub IsFine : Need → Type 0
+  IsFine (need.Ready p) = P p
+  IsFine (need.Lock name mode) = MayNeed x seen bs own (need.Lock name mode)
+  IsFine (need.Block name lbn) = MayNeed x seen bs own (need.Block name lbn)
+  IsFine (need.Bare lbn) = MayNeed x seen bs own (need.Bare lbn)
+  IsFine (need.Space clusters number) = MayNeed x seen bs own (need.Space clusters number)
+
+  -- the locks held by now are all
+  all_held : (held locks : List (LockName × Mode)) → seen.locks ≡ held ++ locks → locks ≡ [] → held ≡ seen.locks
+  all_held held locks e none = sym (append-nil held) ∙ ap (λ ls. held ++ ls) (sym none) ∙ sym e
+
+  abbrev Walks : Events → Type 0 → List (LockName × Mode) → List (LockName × Mode) → List (ℕ × Block) → Type 0
+  Walks es given held locks blocks = seen.locks ≡ held ++ locks → StandsIn bs blocks → Ready es (space_of seen) given
+      → Obeys x seen.geometry bs own P es held → Follows es locks blocks (space_of seen) given → IsFine (following es locks blocks (space_of seen))
+
+  walks : (es : Events) (given : Type 0) (held locks : List (LockName × Mode)) (blocks : List (ℕ × Block)) → Walks es given held locks blocks
+  walks (Take name mode next) given held [] blocks e stands r o f =
+      let all = all_held held [] e refl in
+      (subst (λ ls. Has (map (λ l. l.0) ls) name → ⊥) all o.0, o.1)
+  walks (Take name mode next) given held (l ∷ locks) blocks e stands r o f =
+      walks next given (held ++ (name, mode) ∷ []) locks blocks (e ∙ ap (λ k. held ++ k ∷ locks) f.0 ∙ sym (append_assoc held ((name, mode) ∷ []) locks)) stands r o.2 f.1
+  walks (Look name lbn next) given held locks [] e stands r o f =
+      let all = all_held held locks e f.0 in
+      (subst (λ ls. Has (held_in PR ls) name) all o.0, record { guard = subst (λ ls. MayLook (held_in PR ls) (guard_of seen.geometry own lbn)) all o.1.guard; within = o.1.within })
+  walks (Look name lbn next) given held locks (b ∷ blocks) e stands r o f =
+      walks (next b.1) given held locks blocks e stands.1 (r b.1) (o.2 b.1 (subst (λ l. slice_get bs l ≡ Some b.1) f.0 stands.0)) f.1
+  walks (Fetch lbn next) given held locks [] e stands r o f =
+      let all = all_held held locks e f.0 in
+      record { guard = subst (λ ls. MayLook (held_in PR ls) (guard_of seen.geometry own lbn)) all o.0.guard; within = o.0.within }
+  walks (Fetch lbn next) given held locks (b ∷ blocks) e stands r o f =
+      walks (next b.1) given held locks blocks e stands.1 (r b.1) (o.1 b.1 (subst (λ l. slice_get bs l ≡ Some b.1) f.0 stands.0)) f.1
+  walks (Find clusters number next) given held locks blocks e stands r o f =
+      by_test (walks (next seen.clusters seen.number seen.short) (IsGiven seen.clusters seen.number seen.short) held locks blocks)
+      (has_space clusters number (space_of seen)) refl f where
+        by_test : Walks (next seen.clusters seen.number seen.short) (IsGiven seen.clusters seen.number seen.short) held locks blocks → (t : Bool) → has_space clusters number (space_of seen) ≡ t
+            → MatchBool t (Follows (next seen.clusters seen.number seen.short) locks blocks (space_of seen) (IsGiven seen.clusters seen.number seen.short)) ((locks ≡ []) × (blocks ≡ []) × given)
+            → IsFine (cond t (following (next seen.clusters seen.number seen.short) locks blocks (space_of seen)) (need.Space clusters number))
+        by_test more true has f =
+            more e stands (ready_more (next seen.clusters seen.number seen.short) (space_of seen) (IsGiven seen.clusters seen.number seen.short) (r.1 seen.clusters seen.number seen.short))
+            (o.2 (space_of seen) has (kept (next seen.clusters seen.number seen.short) (space_of seen) (IsGiven seen.clusters seen.number seen.short) locks blocks (r.1 seen.clusters seen.number seen.short) f)) f
+        by_test more false has f =
+            let none = r.0 f.2 in
+            (o.0, o.1, none.clusters, none.number, none.short)
+  walks (Make plan) given held locks blocks e stands r o f = o
+
+  -- on blocks that have what a command has seen, whatever it needs next is fine
+  pub next_fine : (next : Need) → SearchesOnce (events_of seen.geometry seen.channel x) → Obeys x seen.geometry bs own P (events_of seen.geometry seen.channel x) [] → StandsIn bs seen.blocks
+      → HasSeen x seen → IsNext x seen next → IsFine next
+  next_fine next once o stands has is =
+      let es = events_of seen.geometry seen.channel x in
+      subst IsFine is (walks es (HasNoSpace (space_of seen)) [] seen.locks seen.blocks refl stands (ready es (space_of seen) once) o has)
+
+  pub may_need : (next : Need) → IsFine next → MayNeed x seen bs own next
+  may_need (need.Ready p) f = tt
+  may_need (need.Lock name mode) f = f
+  may_need (need.Block name lbn) f = f
+  may_need (need.Bare lbn) f = f
+  may_need (need.Space clusters number) f = f

@@ -1,0 +1,25 @@
+use Rattle.std.proofs.Common.{◌≡◌, ◌∙◌, ap, sym, subst, true, rules}
+use Rattle.lock_db.specs.declared.name.LockName.TheVariants.{S}
+use Rattle.vol_spell.specs.Reading.{header_place}
+use Rattle.op_law.specs.Events.{Look, following}
+use Rattle.op_law.specs.Rows.{is_number}
+use Rattle.op_law.specs.Behind.{IsHeadOf}
+use Rattle.op_law.proofs.Following.{through_number}
+use Rattle.op_law.proofs.seeing.header_seen.Goals as goal
+
+pub returns-in-Next-clause-need : goal.returns-in-Next-clause-need
+returns-in-Next-clause-need c = λ next space.
+    let t : is_number c.args.g.now c.args.file ≡ true = search rules in
+    through_number c.args.g.now c.args.file c.args.mode next c.args.rest.locks.now c.args.rest.blocks.now space t
+    ∙ c.in-Next.ensures.need (Look (S c.args.file.num) (header_place c.args.g.now c.args.file.num) next) space
+
+pub returns-in-Held-clause-head : goal.returns-in-Held-clause-head
+returns-in-Held-clause-head c = subst (λ bs. IsHeadOf bs c.block_seen.result) c.in-Held.ensures.blocks c.block_seen.ensures.head
+
+pub returns-in-Held-clause-need : goal.returns-in-Held-clause-need
+returns-in-Held-clause-need c = λ next space.
+    let t : is_number c.args.g.now c.args.file ≡ true = search rules in
+    through_number c.args.g.now c.args.file c.args.mode next c.args.rest.locks.now c.args.rest.blocks.now space t
+    ∙ c.in-Held.ensures.need (Look (S c.args.file.num) (header_place c.args.g.now c.args.file.num) next) space
+    ∙ ap (λ l. following (Look (S c.args.file.num) l next) c.in-Held.behind.locks.now c.in-Held.behind.blocks.now space) (sym c.header_lbn.ensures)
+    ∙ c.block_seen.ensures.need next space
