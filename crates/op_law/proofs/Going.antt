@@ -11,7 +11,7 @@ use Rattle.op_law.specs.declared.need.Need.{Need}
 use Rattle.op_law.specs.declared.need.Need.TheVariants as need
 use Rattle.op_law.specs.Events.{Events, Take, Look, Fetch, Find, Make, Space, space_of, has_number, has_space, HasNoSpace, IsGiven, HasNoSearch, SearchesOnce, following, Follows}
 use Rattle.op_law.specs.Needs.{events_of}
-use Rattle.op_law.specs.Going.{SeenGoesOn}
+use Rattle.op_law.specs.Going.{IsLookAt, SeenGoesOn}
 
 -- Where nothing more is seen it may stay so, from each of these events on: what holds before a search says that no space was given.
 abbrev pub Ready : Events → Space → Type 0 → Type 0
@@ -80,12 +80,6 @@ module _ (space : Space) (name : LockName) (mode : Mode) where
         by_test more true f e = more f e
         by_test more false f e = absurd (let k : need.Space clusters number ≡ need.Lock name mode = e in cc)
   granted (Make plan) given locks blocks r f e = absurd (let k : need.Ready plan ≡ need.Lock name mode = e in cc)
-
--- a look at the block of this LBN, under a lock or bare
-abbrev IsLookAt : ℕ → Need → Type 0
-IsLookAt lbn (need.Block name l) = l ≡ lbn
-IsLookAt lbn (need.Bare l) = l ≡ lbn
-IsLookAt lbn other = ⊥
 
 module _ (space : Space) (lbn : ℕ) (x : Block) where
   looked : (es : Events) (given : Type 0) (locks : List (LockName × Mode)) (blocks : List (ℕ × Block)) → Ready es space given → Follows es locks blocks space given
@@ -169,8 +163,7 @@ seen_goes_on cmd once =
           (subst (λ bs. Follows (events_of seen.geometry seen.channel cmd) [] bs (space_of seen) (HasNoSpace (space_of seen))) (sym f)
           (start _ (space_of seen) _ (ready (events_of seen.geometry seen.channel cmd) (space_of seen) (once seen.geometry seen.channel)) h));
       granted = λ seen name mode f e. granted (space_of seen) name mode (events_of seen.geometry seen.channel cmd) _ seen.locks seen.blocks (ready (events_of seen.geometry seen.channel cmd) (space_of seen) (once seen.geometry seen.channel)) f e;
-      looked = λ seen name lbn b f e. looked (space_of seen) lbn b (events_of seen.geometry seen.channel cmd) _ seen.locks seen.blocks (ready (events_of seen.geometry seen.channel cmd) (space_of seen) (once seen.geometry seen.channel)) f (subst (IsLookAt lbn) (sym e) refl);
-      fetched = λ seen lbn b f e. looked (space_of seen) lbn b (events_of seen.geometry seen.channel cmd) _ seen.locks seen.blocks (ready (events_of seen.geometry seen.channel cmd) (space_of seen) (once seen.geometry seen.channel)) f (subst (IsLookAt lbn) (sym e) refl);
+      looked = λ seen lbn b f e. looked (space_of seen) lbn b (events_of seen.geometry seen.channel cmd) _ seen.locks seen.blocks (ready (events_of seen.geometry seen.channel cmd) (space_of seen) (once seen.geometry seen.channel)) f e;
       given = λ seen clusters number cs n f e size wanted. given_space (space_of seen) (record { clusters = cs; number = n; short = None }) clusters number (has_given clusters number cs n size wanted) tt
           (events_of seen.geometry seen.channel cmd) _ _ seen.locks seen.blocks (once seen.geometry seen.channel) f e;
       refused = λ seen clusters number why f e reason. given_space (space_of seen) (record { clusters = []; number = None; short = Some why }) clusters number refl (why_given why reason)

@@ -26,3 +26,10 @@ pub record FitsSeen (cmd : Cmd) (seen : Seen) : Type 0 where
   pub own : Owners
   pub cat : Cat
   pub on : IsSeenOn seen blocks own cat
+
+-- What was seen on these blocks fits the command.
+pub record FitsOn (cmd : Cmd) (seen : Seen) (bs : List Block) : Type 0 where
+  pub order : HasSeen cmd seen
+  pub own : Owners
+  pub cat : Cat
+  pub on : IsSeenOn seen bs own cat

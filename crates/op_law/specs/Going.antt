@@ -7,11 +7,12 @@ use Rattle.plain_cat.specs.declared.command.Cmd.{Cmd}
 use Rattle.plain_cat.specs.declared.reply.Refusal.{Refusal}
 use Rattle.plain_cat.specs.declared.reply.Refusal.TheVariants.{IndexFull, DeviceFull}
 use Rattle.vol_parts.specs.declared.geometry.Geometry.{Geometry}
+use Rattle.op_law.specs.declared.need.Need.{Need}
 use Rattle.op_law.specs.declared.need.Need.TheVariants as need
 use Rattle.op_law.specs.declared.seen.Seen.{Seen}
 use Rattle.op_law.specs.declared.seen.Chan.{Chan}
 use Rattle.op_law.specs.Events.{space_of, has_number, HasNoSpace, SearchesOnce}
-use Rattle.op_law.specs.Needs.{events_of, IsNext}
+use Rattle.op_law.specs.Needs.{events_of, need_of, IsNext}
 use Rattle.op_law.specs.Fits.{HasSeen}
 
 -- what was seen and one lock more, one block more, and the space that was given, or why none was
@@ -24,6 +25,12 @@ with_block lbn b seen = record seen { blocks = seen.blocks ++ (lbn, b) ∷ [] }
 abbrev pub with_space : List ℕ → Option ℕ → Option Refusal → Seen → Seen
 with_space clusters number short seen = record seen { clusters = clusters; number = number; short = short }
 
+-- the need is a look at the block of this LBN, under a lock or of a file's own
+abbrev pub IsLookAt : ℕ → Need → Type 0
+IsLookAt lbn (need.Block name l) = l ≡ lbn
+IsLookAt lbn (need.Bare l) = l ≡ lbn
+IsLookAt lbn other = ⊥
+
 -- What a command has seen fits it at first, and still where its next need is met.
 pub record GoesOn (cmd : Cmd) : Type 0 where
   -- nothing is seen
@@ -31,8 +38,7 @@ pub record GoesOn (cmd : Cmd) : Type 0 where
   -- the lock was granted
   pub granted : (seen : Seen) (name : LockName) (mode : Mode) → HasSeen cmd seen → IsNext cmd seen (need.Lock name mode) → HasSeen cmd (with_lock name mode seen)
   -- the block was looked at
-  pub looked : (seen : Seen) (name : LockName) (lbn : ℕ) (b : Block) → HasSeen cmd seen → IsNext cmd seen (need.Block name lbn) → HasSeen cmd (with_block lbn b seen)
-  pub fetched : (seen : Seen) (lbn : ℕ) (b : Block) → HasSeen cmd seen → IsNext cmd seen (need.Bare lbn) → HasSeen cmd (with_block lbn b seen)
+  pub looked : (seen : Seen) (lbn : ℕ) (b : Block) → HasSeen cmd seen → IsLookAt lbn (need_of cmd seen) → HasSeen cmd (with_block lbn b seen)
   -- so many clusters were given, and a number or none
   pub given : (seen : Seen) (clusters : ℕ) (number : Bool) (cs : List ℕ) (n : Option ℕ) → HasSeen cmd seen → IsNext cmd seen (need.Space clusters number)
       → length cs ≡ clusters → has_number number n ≡ true → HasSeen cmd (with_space cs n None seen)

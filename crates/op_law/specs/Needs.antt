@@ -1,5 +1,6 @@
 -- What each command needs next: its events in order.
-use Rattle.std.specs.Prelude.{◌≡◌, ℕ, List, Option, Some, None}
+use Rattle.std.specs.Prelude.{◌≡◌, ℕ, List, [], Option, Some, None}
+use Rattle.vol_words.specs.Fields.{Block}
 use Rattle.fx_header.specs.declared.slot.Hdr.{Hdr}
 use Rattle.plain_cat.specs.declared.ids.Fid.{Fid}
 use Rattle.plain_cat.specs.declared.mode.Mode.TheVariants.{PR}
@@ -13,7 +14,8 @@ use Rattle.vol_parts.specs.declared.geometry.Geometry.{Geometry}
 use Rattle.op_law.specs.declared.need.Need.{Need}
 use Rattle.op_law.specs.declared.seen.Seen.{Seen}
 use Rattle.op_law.specs.declared.seen.Chan.{Chan}
-use Rattle.op_law.specs.Events.{Events, space_of, following}
+use Rattle.op_law.specs.Events.{Events, following}
+use Rattle.op_law.specs.Events.{space_of}
 use Rattle.op_law.specs.Rows.{answers, refuses, live_in, entries_seen, through_header, through_directory}
 
 -- LOOKUP

@@ -1,6 +1,8 @@
 //! LOOKUP, LIST and STAT: the commands that only look.
 #![tactic(auto)]
 
+#[cfg(test)]
+mod alone;
 mod looks;
 mod operation;
 #[cfg(test)]

@@ -1,162 +1,128 @@
-ghost use Rattle.std.specs.Prelude.{◌≤◌, length, IsTrue};
-ghost use Rattle.vol_parts.specs.Parts.{IsGeometry};
-ghost use Rattle.op_law.specs.Readable.{AreInside, HeadIsInside};
+ghost use Rattle.op_lookup.specs.Kinds.{IsLook};
 
 use crate::OpLookup;
-use crate::looks::{list_next, lookup_next, stat_next};
-use fx_header::{Slot, read_header, runs};
+use crate::alone::run;
+use fx_home::{Home, Scb, home_block, scb_block};
 use lock_db::LockName;
-use op_law::{Need, Operation, Seen, SeenBlocks, SeenLocks};
-use plain_cat::{Clusters, Cmd, Fid, Mode, Name, NoMemory, Refusal, Reply};
+use op_law::{Operation, Plan, Seen};
+use plain_cat::{Cmd, Fid, Mode, Name, NoMemory, Refusal, Reply};
 use std::alloc::Global;
 use std::test::Fail;
-use vol_parts::Geometry;
 use vol_words::{Block, put_bytes, put_long, put_word, set_sum};
 
-// Clusters of two blocks and 32 files, so that the header of number n is LBN 8 + n.
-fn small() -> Geometry {
-    Geometry {
-        blocks: 128,
-        cluster: 2,
-        files: 32,
-        bitmap_lbn: 42,
-        quota_lbn: 50,
+/// 64 blocks in clusters of two, with 32 files: the header of number n is LBN 8 + n.
+const SMALL: Home = Home {
+    cluster: 2,
+    files: 32,
+    label: *b"SMALL       ",
+};
+
+const DIRECTORY: u8 = 0x20;
+
+const MARKED: u8 = 0x80;
+
+/// The entries of the system files.
+const MAIN: &[u8] = b"\x16\x00\xff\x7f\x00\x0a000000.DIR\x01\x00\x04\x00\x04\x00\x00\x00\
+    \x16\x00\xff\x7f\x00\x0aBACKUP.SYS\x01\x00\x08\x00\x08\x00\x00\x00\
+    \x16\x00\xff\x7f\x00\x0aBADBLK.SYS\x01\x00\x03\x00\x03\x00\x00\x00\
+    \x16\x00\xff\x7f\x00\x0aBADLOG.SYS\x01\x00\x09\x00\x09\x00\x00\x00\
+    \x16\x00\xff\x7f\x00\x0aBITMAP.SYS\x01\x00\x02\x00\x02\x00\x00\x00\
+    \x16\x00\xff\x7f\x00\x0aCONTIN.SYS\x01\x00\x07\x00\x07\x00\x00\x00\
+    \x16\x00\xff\x7f\x00\x0aCORIMG.SYS\x01\x00\x05\x00\x05\x00\x00\x00\
+    \x16\x00\xff\x7f\x00\x0aINDEXF.SYS\x01\x00\x01\x00\x01\x00\x00\x00\
+    \x16\x00\xff\x7f\x00\x09QUOTA.SYS\x00\x01\x00\x0a\x00\x01\x00\x00\x00\
+    \x18\x00\xff\x7f\x00\x0bSYSLOST.DIR\x00\x01\x00\x0b\x00\x01\x00\x00\x00\
+    \x16\x00\xff\x7f\x00\x0aVOLSET.SYS\x01\x00\x06\x00\x06\x00\x00\x00\xff\xff";
+
+/// Behind them that of the directory of number 12.
+const MORE: &[u8] = b"\x12\x00\xff\x7f\x00\x05Z.DIR\x00\x01\x00\x0c\x00\x01\x00\x00\x00\xff\xff";
+
+/// The directory's entries: A.TXT;2 (13,1) and A.TXT;1 (14,1), and in its second block B.DAT;1 (15,2).
+const FIRST: &[u8] =
+    b"\x1a\x00\xff\x7f\x00\x05A.TXT\x00\x02\x00\x0d\x00\x01\x00\x00\x00\x01\x00\x0e\x00\x01\x00\x00\x00\xff\xff";
+
+const SECOND: &[u8] = b"\x12\x00\xff\x7f\x00\x05B.DAT\x00\x01\x00\x0f\x00\x02\x00\x00\x00\xff\xff";
+
+/// A block that begins with these bytes and is zero behind them.
+fn block(bytes: &[u8]) -> Block {
+    let mut b = [0; 512];
+    for (place, byte) in b.iter_mut().zip(bytes) {
+        *place = *byte;
     }
+    b
 }
 
-/// The header of a file with these characteristics and retrieval pointers and so many blocks, its sequence 1 and its owner
-/// [1,4].
-fn header(num: u16, flags: u16, map: &[u8], blocks: u16) -> Block
-    requires { length map.now ≤ 200 }
-{
+/// The header of a file of owner [0,0] with one run, or none where the count of blocks is 0.
+fn header(num: u16, seq: u16, flags: u8, lbn: u16, count: u16) -> Block {
     let mut b = [0; 512];
     put_bytes(&mut b, 0, &[40, 100, 255, 255]);
     put_word(&mut b, 6, 513);
     put_word(&mut b, 8, num);
-    put_word(&mut b, 10, 1);
-    put_word(&mut b, 26, blocks);
-    put_word(&mut b, 30, blocks.wrapping_add(1));
-    put_word(&mut b, 52, flags);
-    put_bytes(&mut b, 58, &[(map.len() / 2) as u8]);
-    put_long(&mut b, 60, 65540);
-    put_bytes(&mut b, 200, map);
+    put_word(&mut b, 10, seq);
+    put_word(&mut b, 26, count);
+    put_word(&mut b, 30, count.wrapping_add(1));
+    b[53] = flags;
+    if count != 0 {
+        b[58] = 2;
+        put_word(&mut b, 200, count.wrapping_add(0x3fff));
+        put_word(&mut b, 202, lbn);
+    }
     set_sum(&mut b);
     b
 }
 
-// The directory of number 12: two blocks from LBN 60 on.
-fn directory() -> Block {
-    header(12, 8192, &[1, 0x40, 60, 0], 2)
+/// The headers of the system files.
+fn put_system_headers(b: &mut [Block; 64]) {
+    b[9] = header(1, 1, 0, 0, 42);
+    b[10] = header(2, 2, 0, 42, 2);
+    b[11] = header(3, 3, 0, 0, 0);
+    b[12] = header(4, 4, DIRECTORY, 44, 2);
+    b[13] = header(5, 5, 0, 0, 0);
+    b[14] = header(6, 6, 0, 0, 0);
+    b[15] = header(7, 7, 0, 0, 0);
+    b[16] = header(8, 8, 0, 0, 0);
+    b[17] = header(9, 9, 0, 0, 0);
+    b[18] = header(10, 1, 0, 46, 2);
+    b[19] = header(11, 1, DIRECTORY, 48, 2);
 }
 
-// Its first block: A.TXT;2 (13,1), A.TXT;1 (14,1) and B.DAT;1 (15,2).
-fn entries() -> Block {
-    let mut b = [0; 512];
-    put_bytes(
-        &mut b,
-        0,
-        &[0x1a, 0, 0xff, 0x7f, 0, 5, 0x41, 0x2e, 0x54, 0x58, 0x54, 0],
-    );
-    put_bytes(
-        &mut b,
-        12,
-        &[2, 0, 13, 0, 1, 0, 0, 0, 1, 0, 14, 0, 1, 0, 0, 0],
-    );
-    put_bytes(
-        &mut b,
-        28,
-        &[0x12, 0, 0xff, 0x7f, 0, 5, 0x42, 0x2e, 0x44, 0x41, 0x54, 0],
-    );
-    put_bytes(&mut b, 40, &[1, 0, 15, 0, 2, 0, 0, 0, 0xff, 0xff]);
+/// The headers of the directory of number 12 and of the files 13 to 16, of which the last is marked. File 14 is of [1,4], and
+/// has two blocks, of which one was written and the end of file lies in it.
+fn put_headers(b: &mut [Block; 64]) {
+    b[20] = header(12, 1, DIRECTORY, 50, 2);
+    b[21] = header(13, 1, 0, 0, 0);
+    let mut other = header(14, 1, 0, 52, 2);
+    put_long(&mut other, 60, 65540);
+    put_word(&mut other, 30, 1);
+    put_word(&mut other, 32, 7);
+    put_long(&mut other, 76, 2);
+    set_sum(&mut other);
+    b[22] = other;
+    b[23] = header(15, 2, 0, 0, 0);
+    b[24] = header(16, 1, MARKED, 0, 0);
+}
+
+/// A volume with the system files, a directory and four files, and quota for [0,0] and [1,4].
+fn volume() -> [Block; 64] {
+    let mut b = [[0; 512]; 64];
+    b[1] = home_block(&SMALL);
+    put_bytes(&mut b[8], 0, &[0xff, 0xff]);
+    put_system_headers(&mut b);
+    put_headers(&mut b);
+    b[42] = scb_block(&Scb {
+        cluster: 2,
+        blocks: 64,
+    });
+    b[43][3] = 0xf8;
+    b[44] = block(MAIN);
+    b[45] = block(MORE);
+    put_bytes(&mut b[46], 0, &[1, 0, 0, 0, 0, 0, 0, 0, 61, 0, 0, 0, 200]);
+    put_bytes(&mut b[46], 32, &[1, 0, 0, 0, 4, 0, 1, 0, 3, 0, 0, 0, 200]);
+    b[48] = block(b"\xff\xff");
+    b[49] = block(b"\xff\xff");
+    b[50] = block(FIRST);
+    b[51] = block(SECOND);
     b
-}
-
-// A block of a directory without entries.
-fn no_entries() -> Block {
-    let mut b = [0; 512];
-    put_bytes(&mut b, 0, &[0xff, 0xff]);
-    b
-}
-
-// What was seen: these locks and these blocks.
-fn seen(alloc: Global, locked: bool, blocks: &[(u32, Block)]) -> Result<Seen, NoMemory> {
-    let mut locks = SeenLocks::new(alloc);
-    if locked {
-        locks.push((LockName::S(12), Mode::PR))?;
-    }
-    let mut all = SeenBlocks::new(alloc);
-    for (lbn, block) in blocks {
-        all.push((*lbn, *block))?;
-    }
-    Ok(Seen {
-        geometry: small(),
-        channel: None,
-        locks,
-        blocks: all,
-        clusters: Clusters::new(alloc),
-        number: None,
-        short: None,
-    })
-}
-
-fn ends_inside(b: &Block) -> bool
-    ensures { IsTrue result → AreInside b.now }
-{
-    match read_header(b) {
-        Ok(Slot::Used(_)) => runs(b).all(|r| r.lbn as u64 + r.count as u64 <= 65536),
-        Ok(Slot::Free(_)) => true,
-        Err(_) => true,
-    }
-}
-
-fn is_readable(blocks: &[(u32, Block)]) -> bool
-    ensures { IsTrue result → HeadIsInside blocks.now }
-{
-    match blocks {
-        [] => true,
-        [(_, b), ..] => ends_inside(b),
-    }
-}
-
-fn is_small(g: &Geometry) -> bool
-    ensures { IsTrue result → IsGeometry g.now }
-{
-    64 <= g.blocks
-        && g.blocks <= 65536
-        && 1 <= g.cluster
-        && g.cluster <= 16
-        && 32 <= g.files
-        && g.files <= 4096
-        && g.bitmap_lbn < g.blocks
-        && g.quota_lbn < g.blocks
-}
-
-// What a command needs next, where what it has seen can be read.
-fn next(alloc: Global, cmd: &Cmd, seen: &Seen) -> Result<Need, Fail> {
-    if !is_small(&seen.geometry) || !is_readable(seen.blocks.items()) {
-        return Err(Fail::from("the header that was seen is one of the volume"));
-    }
-    match cmd {
-        Cmd::Lookup { dir, name, ver, .. } => Ok(lookup_next(alloc, *dir, name, *ver, seen)?),
-        Cmd::List { dir } => Ok(list_next(alloc, *dir, seen)?),
-        Cmd::Stat { file } => Ok(stat_next(alloc, *file, seen)),
-        _ => Err(Fail::from("the command only looks")),
-    }
-}
-
-fn is_look(need: &Need, at: u32) -> bool {
-    matches!(need, Need::Block(LockName::S(12), lbn) if *lbn == at)
-}
-
-fn is_refused(need: &Need, why: Refusal) -> bool {
-    match need {
-        Need::Ready(plan) => {
-            plan.writes.items().is_empty()
-                && plan.ask.is_none()
-                && matches!(plan.reply, Reply::Refused(r) if r == why)
-        }
-        _ => false,
-    }
 }
 
 fn fid(num: u32, seq: u16) -> Fid {
@@ -171,70 +137,77 @@ fn name(alloc: Global, text: &[u8]) -> Result<Name, NoMemory> {
     Ok(name)
 }
 
-fn lookup(alloc: Global, dir: Fid, text: &[u8], ver: u16) -> Result<Cmd, NoMemory> {
-    Ok(Cmd::Lookup {
-        reg: 1,
-        dir,
-        name: name(alloc, text)?,
-        ver,
-    })
+/// What a command that only looks has seen at last, and its plan.
+fn look(alloc: Global, cmd: Cmd) -> Result<(Seen, Plan), Fail>
+    requires { IsLook cmd }
+{
+    run(alloc, &OpLookup::of(cmd), &volume())
 }
 
-fn is_found(reply: &Reply, num: u32, text: &[u8], ver: u16) -> bool {
+fn lookup(alloc: Global, dir: Fid, text: &[u8], ver: u16) -> Result<(Seen, Plan), Fail> {
+    let name = name(alloc, text)?;
+    look(
+        alloc,
+        Cmd::Lookup {
+            reg: 1,
+            dir,
+            name,
+            ver,
+        },
+    )
+}
+
+/// The lock of this file in PR, and looks at these blocks in order.
+fn has_seen(seen: &Seen, file: u32, lbns: &[u32]) -> bool {
+    matches!(seen.locks.items(), [(LockName::S(n), Mode::PR)] if *n == file)
+        && seen
+            .blocks
+            .items()
+            .iter()
+            .map(|b| b.0)
+            .eq(lbns.iter().copied())
+}
+
+/// A refusal that writes nothing.
+fn is_refused(plan: &Plan, why: Refusal) -> bool {
+    plan.writes.items().is_empty()
+        && plan.ask.is_none()
+        && matches!(plan.reply, Reply::Refused(r) if r == why)
+}
+
+fn is_found(reply: &Reply, file: Fid, text: &[u8], ver: u16) -> bool {
     match reply {
         Reply::Found {
             fid,
             name,
             ver: found,
-        } => fid.num == num && fid.seq == 1 && name.items() == text && *found == ver,
+        } => *fid == file && name.items() == text && *found == ver,
         _ => false,
     }
 }
 
-// What a command needs next, by what it has seen under the lock.
-fn under_lock(alloc: Global, cmd: &Cmd, blocks: &[(u32, Block)]) -> Result<Need, Fail> {
-    next(alloc, cmd, &seen(alloc, true, blocks)?)
-}
-
-// The lock, the header, and the two blocks in order: four turns, and then the plan.
+// The lock, the header, and the two blocks in order: then the plan. Version 0 is the highest.
 #[test]
 fn a_lookup_goes_turn_by_turn(rt: HostRuntime) -> Result<(), Fail> {
     let alloc = rt.alloc();
-    let cmd = lookup(alloc, fid(12, 1), b"A.TXT", 0)?;
-    let first = next(alloc, &cmd, &seen(alloc, false, &[])?)?;
-    assert!(&rt; matches!(first, Need::Lock(LockName::S(12), Mode::PR)));
-    let all = [(20, directory()), (60, entries())];
-    assert!(&rt; is_look(&under_lock(alloc, &cmd, &[])?, 20));
-    assert!(&rt; is_look(&under_lock(alloc, &cmd, &all[..1])?, 60));
-    assert!(&rt; is_look(&under_lock(alloc, &cmd, &all)?, 61));
-    Ok(())
-}
-
-// Version 0 is the highest.
-#[test]
-fn a_lookup_finds_the_highest_version(rt: HostRuntime) -> Result<(), Fail> {
-    let alloc = rt.alloc();
-    let cmd = lookup(alloc, fid(12, 1), b"A.TXT", 0)?;
-    let all = [(20, directory()), (60, entries()), (61, no_entries())];
-    let Need::Ready(plan) = under_lock(alloc, &cmd, &all)? else {
-        return Err(Fail::from("nothing more is needed"));
-    };
+    let (seen, plan) = lookup(alloc, fid(12, 1), b"A.TXT", 0)?;
+    assert!(&rt; has_seen(&seen, 12, &[20, 50, 51]));
     assert!(&rt; plan.writes.items().is_empty());
-    assert!(&rt; is_found(&plan.reply, 13, b"A.TXT", 2));
+    assert!(&rt; is_found(&plan.reply, fid(13, 1), b"A.TXT", 2));
+    let (_, older) = lookup(alloc, fid(12, 1), b"A.TXT", 1)?;
+    assert!(&rt; is_found(&older.reply, fid(14, 1), b"A.TXT", 1));
+    let (_, other) = lookup(alloc, fid(12, 1), b"B.DAT", 1)?;
+    assert!(&rt; is_found(&other.reply, fid(15, 2), b"B.DAT", 1));
+    let (seen, main) = lookup(alloc, fid(4, 4), b"Z.DIR", 0)?;
+    assert!(&rt; has_seen(&seen, 4, &[12, 44, 45]));
+    assert!(&rt; is_found(&main.reply, fid(12, 1), b"Z.DIR", 1));
     Ok(())
 }
 
 #[test]
-fn a_list_and_a_stat_answer(rt: HostRuntime) -> Result<(), Fail> {
-    let alloc = rt.alloc();
-    let all = seen(
-        alloc,
-        true,
-        &[(20, directory()), (60, entries()), (61, no_entries())],
-    )?;
-    let Need::Ready(plan) = next(alloc, &Cmd::List { dir: fid(12, 1) }, &all)? else {
-        return Err(Fail::from("nothing more is needed"));
-    };
+fn a_list_tells_the_entries_in_order(rt: HostRuntime) -> Result<(), Fail> {
+    let (seen, plan) = look(rt.alloc(), Cmd::List { dir: fid(12, 1) })?;
+    assert!(&rt; has_seen(&seen, 12, &[20, 50, 51]));
     let Reply::Listed(listed) = &plan.reply else {
         return Err(Fail::from("the entries are listed"));
     };
@@ -244,10 +217,13 @@ fn a_list_and_a_stat_answer(rt: HostRuntime) -> Result<(), Fail> {
     assert_eq!(&rt; two.ver, 2);
     assert_eq!(&rt; one.fid.num, 14);
     assert!(&rt; other.name.items() == b"B.DAT".as_slice());
-    let head = seen(alloc, true, &[(20, directory())])?;
-    let Need::Ready(plan) = next(alloc, &Cmd::Stat { file: fid(12, 1) }, &head)? else {
-        return Err(Fail::from("nothing more is needed"));
-    };
+    Ok(())
+}
+
+#[test]
+fn a_stat_tells_the_facts(rt: HostRuntime) -> Result<(), Fail> {
+    let (seen, plan) = look(rt.alloc(), Cmd::Stat { file: fid(14, 1) })?;
+    assert!(&rt; has_seen(&seen, 14, &[22]));
     let Reply::Facts {
         dir,
         owner,
@@ -259,45 +235,46 @@ fn a_list_and_a_stat_answer(rt: HostRuntime) -> Result<(), Fail> {
     else {
         return Err(Fail::from("the facts are told"));
     };
-    assert!(&rt; *dir);
+    assert!(&rt; !*dir);
     assert_eq!(&rt; owner.0, 65540);
     assert_eq!(&rt; *blocks, 2);
-    assert_eq!(&rt; *mark, 0);
-    assert_eq!(&rt; *end, 3);
-    assert_eq!(&rt; *byte, 0);
+    assert_eq!(&rt; *mark, 2);
+    assert_eq!(&rt; *end, 1);
+    assert_eq!(&rt; *byte, 7);
+    Ok(())
+}
+
+// A number out of range is refused at once, without a lock.
+#[test]
+fn a_number_out_of_range_needs_nothing(rt: HostRuntime) -> Result<(), Fail> {
+    let alloc = rt.alloc();
+    for n in [0, 33] {
+        let (seen, plan) = look(alloc, Cmd::Stat { file: fid(n, 1) })?;
+        assert!(&rt; seen.locks.items().is_empty() && seen.blocks.items().is_empty());
+        assert!(&rt; is_refused(&plan, Refusal::NoSuchFile));
+    }
+    let (seen, plan) = look(alloc, Cmd::Stat { file: fid(32, 1) })?;
+    assert!(&rt; has_seen(&seen, 32, &[40]));
+    assert!(&rt; is_refused(&plan, Refusal::NoSuchFile));
     Ok(())
 }
 
 #[test]
 fn each_refusal_comes_in_its_place(rt: HostRuntime) -> Result<(), Fail> {
     let alloc = rt.alloc();
-    let nothing = seen(alloc, false, &[])?;
-    let far = next(alloc, &Cmd::Stat { file: fid(33, 1) }, &nothing)?;
-    assert!(&rt; is_refused(&far, Refusal::NoSuchFile));
-    let none = next(alloc, &Cmd::List { dir: fid(0, 1) }, &nothing)?;
-    assert!(&rt; is_refused(&none, Refusal::NoSuchFile));
-    let last = next(alloc, &Cmd::Stat { file: fid(32, 1) }, &nothing)?;
-    assert!(&rt; matches!(last, Need::Lock(LockName::S(32), Mode::PR)));
-    let head = seen(alloc, true, &[(20, directory())])?;
-    let old = next(alloc, &Cmd::Stat { file: fid(12, 2) }, &head)?;
+    let (seen, old) = look(alloc, Cmd::Stat { file: fid(12, 2) })?;
+    assert!(&rt; has_seen(&seen, 12, &[20]));
     assert!(&rt; is_refused(&old, Refusal::NoSuchFile));
-    let marked = seen(
-        alloc,
-        true,
-        &[(20, header(12, 40960, &[1, 0x40, 60, 0], 2))],
-    )?;
-    let gone = next(alloc, &Cmd::List { dir: fid(12, 1) }, &marked)?;
-    assert!(&rt; is_refused(&gone, Refusal::NoSuchFile));
-    let plain = seen(alloc, true, &[(20, header(12, 0, &[1, 0x40, 60, 0], 2))])?;
-    let cmd = lookup(alloc, fid(12, 1), b"A.TXT", 0)?;
-    assert!(&rt; is_refused(&next(alloc, &cmd, &plain)?, Refusal::NotDir));
-    let all = seen(
-        alloc,
-        true,
-        &[(20, directory()), (60, entries()), (61, no_entries())],
-    )?;
-    let cmd = lookup(alloc, fid(12, 1), b"A.TXT", 3)?;
-    assert!(&rt; is_refused(&next(alloc, &cmd, &all)?, Refusal::NoSuchFile));
+    let (_, marked) = look(alloc, Cmd::Stat { file: fid(16, 1) })?;
+    assert!(&rt; is_refused(&marked, Refusal::NoSuchFile));
+    let (seen, plain) = look(alloc, Cmd::List { dir: fid(14, 1) })?;
+    assert!(&rt; has_seen(&seen, 14, &[22]));
+    assert!(&rt; is_refused(&plain, Refusal::NotDir));
+    let (seen, none) = lookup(alloc, fid(12, 1), b"A.TXT", 3)?;
+    assert!(&rt; has_seen(&seen, 12, &[20, 50, 51]));
+    assert!(&rt; is_refused(&none, Refusal::NoSuchFile));
+    let (_, no_dir) = lookup(alloc, fid(13, 1), b"A.TXT", 0)?;
+    assert!(&rt; is_refused(&no_dir, Refusal::NotDir));
     Ok(())
 }
 
