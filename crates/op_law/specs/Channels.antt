@@ -20,7 +20,7 @@ use Rattle.op_law.specs.declared.need.Ask.{Ask}
 use Rattle.op_law.specs.declared.seen.Chan.{Chan}
 use Rattle.op_law.specs.Events.{Events, Fetch, Make}
 use Rattle.op_law.specs.Rows.{answers, refuses}
-use Rattle.op_law.specs.Refusing.{SeenFile, unless, through_live, through_open}
+use Rattle.op_law.specs.Refusing.{SeenFile, unless_refused, through_live, through_open}
 use Rattle.op_law.specs.Writing.{empty_handed, header_write, body_write, block_place, plan_of, asking_plan}
 use Rattle.op_law.specs.Freeing.{through_space, freeing_writes}
 
@@ -32,7 +32,7 @@ first_ask n chan mode = record { at = 0; file = n; chan = chan; mode = mode; ref
 
 abbrev pub open_in : ℕ → Mode → SeenFile → Events
 open_in chan mode f =
-    unless (first_refusal ((is_kept f.num f.file, refusal.NoPriv) ∷ [])) (Make (asking_plan [] (first_ask f.num chan mode) reply.Opened))
+    unless_refused (first_refusal ((is_kept f.num f.file, refusal.NoPriv) ∷ [])) (Make (asking_plan [] (first_ask f.num chan mode) reply.Opened))
 
 abbrev pub open_on : Geometry → Option Chan → ℕ → Fid → Mode → Events
 open_on g (Some p) chan file mode = refuses refusal.ChanBusy
@@ -68,12 +68,12 @@ close_events g channel chan = close_on g channel chan
 -- ---- READ
 
 -- a virtual block is 0 or past the allocated blocks
-abbrev pub is_outside : Geometry → File → ℕ → Bool
-is_outside g f vbn = (vbn == 0) || nat_lt (g.cluster * f.clusters) vbn
+abbrev pub is_outside_file : Geometry → File → ℕ → Bool
+is_outside_file g f vbn = (vbn == 0) || nat_lt (g.cluster * f.clusters) vbn
 
 -- what comes next with a virtual block of a file, which is one of its blocks
 abbrev pub within : Geometry → ℕ → (SeenFile → Events) → SeenFile → Events
-within g vbn next f = if is_outside g f.file vbn then refuses refusal.EndOfFile else next f
+within g vbn next f = if is_outside_file g f.file vbn then refuses refusal.EndOfFile else next f
 
 -- a block at or above the mark is zeros, and is not looked at
 abbrev pub read_in : ℕ → SeenFile → Events
@@ -105,7 +105,7 @@ last_header g f vbn = header_write g f.num (written_header f vbn) stage.Done emp
 
 -- At or above a mark the block shows once the header is written. Below it, or where there is none, it shows at once, and the
 -- header follows where the end changes.
-abbrev pub block_writes : Geometry → SeenFile → ℕ → Block → List PlanWrite
+unfoldable pub block_writes : Geometry → SeenFile → ℕ → Block → List PlanWrite
 block_writes g f vbn b =
     if is_past_mark f.file vbn then zero_writes f vbn ++ body_write f.num f.head vbn b stage.Nothing ∷ last_header g f vbn ∷ []
     else if nat_le f.file.end vbn then body_write f.num f.head vbn b stage.DataOnly ∷ last_header g f vbn ∷ []

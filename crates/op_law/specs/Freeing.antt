@@ -18,7 +18,7 @@ use Rattle.op_law.specs.Events.{Events, Take, Look}
 use Rattle.op_law.specs.Rows.{look_all}
 use Rattle.op_law.specs.Refusing.{SeenFile}
 use Rattle.op_law.specs.Writing.{holding, empty_handed, write_at, header_write, clusters_seen}
-use Rattle.op_law.specs.Quotas.{through_quota, owner_write, discharged}
+use Rattle.op_law.specs.Quotas.{through_quota, owner_write, row_discharged}
 
 -- these clusters of the volume in rising order, each once
 unfoldable pub rising : Geometry → List ℕ → List ℕ
@@ -80,10 +80,10 @@ through_space g f next = through_quota g PW (λ quota. Take V PW (Look V (place_
     look_storage g (blocks_for g (all_clusters g f)) (λ storage. next (record { quota = quota; index = index; storage = storage })))))
 
 -- The file goes: its header becomes a free slot, its clusters and its number become free, and its owner is charged no more.
-abbrev pub freeing_writes : Geometry → SeenFile → SeenSpace → List PlanWrite
+unfoldable pub freeing_writes : Geometry → SeenFile → SeenSpace → List PlanWrite
 freeing_writes g f s =
     let qs = all_clusters g f in
     header_write g f.num (freed f.file.seq) stage.Freed (holding qs (Some f.num))
     ∷ storage_writes g stage.Freed qs (Some f.num) (blocks_for g qs) s.storage
     ++ index_write g f.num s.index
-    ∷ owner_write g s.quota f.file.owner (discharged (g.cluster * f.file.clusters + 1)) stage.Done empty_handed
+    ∷ owner_write g s.quota f.file.owner (row_discharged (g.cluster * f.file.clusters + 1)) stage.Done empty_handed

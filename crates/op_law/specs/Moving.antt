@@ -23,7 +23,7 @@ use Rattle.vol_parts.specs.declared.geometry.Geometry.{Geometry}
 use Rattle.op_law.specs.declared.need.PlanWrite.{PlanWrite}
 use Rattle.op_law.specs.Events.{Events, Make}
 use Rattle.op_law.specs.Rows.{through_directory, entries_seen}
-use Rattle.op_law.specs.Refusing.{unless, with_entry}
+use Rattle.op_law.specs.Refusing.{unless_refused, if_entry}
 use Rattle.op_law.specs.Writing.{body_write, plan_of}
 
 -- a directory as a command sees it: its identifier, the block of its header, and its blocks
@@ -40,7 +40,7 @@ abbrev pub through_names : Geometry → Fid → (SeenDir → Events) → Events
 through_names g dir next = through_directory g dir PW (λ h bs. next (record { fid = dir; head = h; blocks = bs }))
 
 -- a new entry of this name and version has no room
-abbrev pub is_full : Geometry → List DirEnt → List ℕ → ℕ → Bool
+unfoldable pub is_full : Geometry → List DirEnt → List ℕ → ℕ → Bool
 is_full g entries name ver = not (fits g.cluster (inserted (entry name ver nowhere) entries))
 
 -- ---- writes
@@ -60,7 +60,7 @@ abbrev pub insertion_moves : SeenDir → DirEnt → List Move
 insertion_moves d e = unwrap_or (insertion d.blocks (raw_entry e)) []
 
 -- the writes that enter an entry, of which the last decides
-abbrev pub insertion_writes : SeenDir → DirEnt → Stage → Stage → List PlanWrite
+unfoldable pub insertion_writes : SeenDir → DirEnt → Stage → Stage → List PlanWrite
 insertion_writes d e before after = let ms = insertion_moves d e in moves_at d before after (length ms - 1) ms
 
 -- the blocks of a directory with its entries packed
@@ -73,7 +73,7 @@ unfoldable pub packing_writes : List Block → ℕ
 packing_writes bs = length (rising 1 bs (packed_as bs (directory bs)))
 
 -- the writes that remove an entry, of which the first behind the packing decides
-abbrev pub removal_writes : SeenDir → DirEnt → Stage → Stage → List PlanWrite
+unfoldable pub removal_writes : SeenDir → DirEnt → Stage → Stage → List PlanWrite
 removal_writes d e before after = moves_at d before after (packing_writes d.blocks) (removal d.blocks e.name e.ver)
 
 -- the directory after an entry has been entered
@@ -82,8 +82,8 @@ with_new d e = record d { blocks = written (insertion_moves d e) d.blocks }
 
 -- ---- RENAME
 
-abbrev pub rename_checks : Geometry → List DirEnt → List ℕ → ℕ → List (Bool × Refusal)
-rename_checks g entries to to_ver =
+abbrev pub rename_refusals : Geometry → List DirEnt → List ℕ → ℕ → List (Bool × Refusal)
+rename_refusals g entries to to_ver =
     let es = versions to entries in
     (is_last_version to_ver es, refusal.BadVersion)
     ∷ (is_taken (new_version to_ver es) es, refusal.DupFile)
@@ -91,12 +91,12 @@ rename_checks g entries to to_ver =
     ∷ []
 
 -- the entry e gets the name and version of `new`: first both stand there
-abbrev pub rename_writes : SeenDir → DirEnt → DirEnt → List PlanWrite
+unfoldable pub rename_writes : SeenDir → DirEnt → DirEnt → List PlanWrite
 rename_writes d e new = insertion_writes d new stage.Nothing stage.Both ++ removal_writes (with_new d new) e stage.Both stage.Done
 
 abbrev pub renamed_as : SeenDir → DirEnt → List ℕ → ℕ → Events
 renamed_as d e to ver = Make (plan_of (rename_writes d e (entry to ver e.fid)) (reply.Renamed to ver))
 
 unfoldable pub rename_events : Geometry → Fid → List ℕ → ℕ → List ℕ → ℕ → Events
-rename_events g dir name ver to to_ver = through_names g dir (λ d. with_entry (entry_of (versions name (entries_of d)) ver) (λ e.
-    unless (first_refusal (rename_checks g (entries_of d) to to_ver)) (renamed_as d e to (new_version to_ver (versions to (entries_of d))))))
+rename_events g dir name ver to to_ver = through_names g dir (λ d. if_entry (entry_of (versions name (entries_of d)) ver) (λ e.
+    unless_refused (first_refusal (rename_refusals g (entries_of d) to to_ver)) (renamed_as d e to (new_version to_ver (versions to (entries_of d))))))

@@ -61,21 +61,21 @@ changed_write g qs change s out None = []
 changed_write g qs change s out (Some j) = row_write g qs j (change (row_in (block_with qs j) (j % 16))) s out ∷ []
 
 -- the write that changes an owner's row, where the owner has one
-abbrev pub owner_write : Geometry → List Block → Uic → (Row → Row) → Stage → Held → List PlanWrite
+unfoldable pub owner_write : Geometry → List Block → Uic → (Row → Row) → Stage → Held → List PlanWrite
 owner_write g qs owner change s out = changed_write g qs change s out (row_place (is_row_of owner) qs)
 
 -- a row whose usage is k more, or less
-abbrev pub charged : ℕ → Row → Row
-charged k r = record r { usage = r.usage + k }
+abbrev pub row_charged : ℕ → Row → Row
+row_charged k r = record r { usage = r.usage + k }
 
-abbrev pub discharged : ℕ → Row → Row
-discharged k r = record r { usage = r.usage - k }
+abbrev pub row_discharged : ℕ → Row → Row
+row_discharged k r = record r { usage = r.usage - k }
 
 -- ---- QUOTASET
 
 -- a row with another quota and overdraft
-abbrev pub allowed : ℕ → ℕ → Row → Row
-allowed quota over r = record r { quota = quota; over = over }
+abbrev pub row_allowed : ℕ → ℕ → Row → Row
+row_allowed quota over r = record r { quota = quota; over = over }
 
 abbrev pub first_row : Uic → ℕ → ℕ → Row
 first_row owner quota over = record { uic = owner.0; usage = 0; quota = quota; over = over }
@@ -85,7 +85,7 @@ quota_kept ws = Make (plan_of ws reply.QuotaKept)
 
 -- the owner's row is set, or else the first row that is not active
 abbrev pub quota_set_in : Geometry → List Block → Uic → ℕ → ℕ → Option ℕ → Option ℕ → Events
-quota_set_in g qs owner quota over (Some j) free = quota_kept (changed_write g qs (allowed quota over) stage.Done empty_handed (Some j))
+quota_set_in g qs owner quota over (Some j) free = quota_kept (changed_write g qs (row_allowed quota over) stage.Done empty_handed (Some j))
 quota_set_in g qs owner quota over None (Some j) = quota_kept (row_write g qs j (first_row owner quota over) stage.Done empty_handed ∷ [])
 quota_set_in g qs owner quota over None None = refuses refusal.QuotaFull
 

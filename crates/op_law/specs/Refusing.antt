@@ -15,9 +15,9 @@ use Rattle.op_law.specs.Events.{Events}
 use Rattle.op_law.specs.Rows.{refuses, live_in, through_header}
 
 -- refused, or else these events
-abbrev pub unless : Option Refusal → Events → Events
-unless None next = next
-unless (Some r) next = refuses r
+abbrev pub unless_refused : Option Refusal → Events → Events
+unless_refused None next = next
+unless_refused (Some r) next = refuses r
 
 -- ---- a file
 
@@ -30,45 +30,45 @@ pub record SeenFile : Type 0 where
 abbrev pub seen_file : Geometry → ℕ → Block → Hdr → SeenFile
 seen_file g n b h = record { num = n; head = b; file = file_of g.cluster n h [] }
 
-abbrev pub of_seq : ℕ → Option Hdr → Option Hdr
-of_seq seq None = None
-of_seq seq (Some h) = if h.seq == seq then Some h else None
+abbrev pub header_of_seq : ℕ → Option Hdr → Option Hdr
+header_of_seq seq None = None
+header_of_seq seq (Some h) = if h.seq == seq then Some h else None
 
 -- the header of the file in use of this sequence, which may be marked for delete, by its block
 abbrev pub used_in : ℕ → Block → Option Hdr
-used_in seq b = of_seq seq (fields_told b)
+used_in seq b = header_of_seq seq (fields_told b)
 
 -- what comes next with a file, or else without one
-abbrev pub with_file : Events → (SeenFile → Events) → Option SeenFile → Events
-with_file otherwise next None = otherwise
-with_file otherwise next (Some f) = next f
+abbrev pub if_file : Events → (SeenFile → Events) → Option SeenFile → Events
+if_file otherwise next None = otherwise
+if_file otherwise next (Some f) = next f
 
 -- the lock of a live file, its header, and what comes next
 abbrev pub through_live : Geometry → Fid → Mode → (SeenFile → Events) → Events
 through_live g file mode next =
-    through_header g file mode (λ b. with_file (refuses refusal.NoSuchFile) next (option_map (seen_file g file.num b) (live_in file.seq b)))
+    through_header g file mode (λ b. if_file (refuses refusal.NoSuchFile) next (option_map (seen_file g file.num b) (live_in file.seq b)))
 
 -- the same of a file in use, which a channel has open; `otherwise` where there is none
 abbrev pub through_open : Geometry → Fid → Mode → Events → (SeenFile → Events) → Events
 through_open g file mode otherwise next =
-    through_header g file mode (λ b. with_file otherwise next (option_map (seen_file g file.num b) (used_in file.seq b)))
+    through_header g file mode (λ b. if_file otherwise next (option_map (seen_file g file.num b) (used_in file.seq b)))
 
 -- ---- an entry
 
 -- what comes next with the entry that is looked for, which names no system file
-abbrev pub with_entry : Option DirEnt → (DirEnt → Events) → Events
-with_entry None next = refuses refusal.NoSuchFile
-with_entry (Some e) next = if nat_le e.fid.num 11 then refuses refusal.NoPriv else next e
+abbrev pub if_entry : Option DirEnt → (DirEnt → Events) → Events
+if_entry None next = refuses refusal.NoSuchFile
+if_entry (Some e) next = if nat_le e.fid.num 11 then refuses refusal.NoPriv else next e
 
 -- ---- space
 
 -- what comes next with the clusters that were searched for
-abbrev pub with_clusters : (List ℕ → Events) → List ℕ → Option ℕ → Option Refusal → Events
-with_clusters next given number None = next given
-with_clusters next given number (Some r) = refuses r
+abbrev pub if_clusters : (List ℕ → Events) → List ℕ → Option ℕ → Option Refusal → Events
+if_clusters next given number None = next given
+if_clusters next given number (Some r) = refuses r
 
 -- what comes next with the clusters and the number that were searched for
-abbrev pub with_space : (List ℕ → ℕ → Events) → List ℕ → Option ℕ → Option Refusal → Events
-with_space next given number (Some r) = refuses r
-with_space next given None None = refuses refusal.IndexFull
-with_space next given (Some n) None = next given n
+abbrev pub if_space : (List ℕ → ℕ → Events) → List ℕ → Option ℕ → Option Refusal → Events
+if_space next given number (Some r) = refuses r
+if_space next given None None = refuses refusal.IndexFull
+if_space next given (Some n) None = next given n

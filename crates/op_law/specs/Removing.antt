@@ -18,7 +18,7 @@ use Rattle.op_law.specs.declared.need.Plan.{Plan}
 use Rattle.op_law.specs.declared.need.Ask.{Ask}
 use Rattle.op_law.specs.Events.{Events, Take, Look, Make}
 use Rattle.op_law.specs.Rows.{refuses, is_number, look_all, places_in, entries_seen}
-use Rattle.op_law.specs.Refusing.{SeenFile, seen_file, used_in, with_file, with_entry}
+use Rattle.op_law.specs.Refusing.{SeenFile, seen_file, used_in, if_file, if_entry}
 use Rattle.op_law.specs.Writing.{empty_handed, header_write, plan_of, asking_plan}
 use Rattle.op_law.specs.Moving.{SeenDir, entries_of, through_names, removal_writes}
 use Rattle.op_law.specs.Freeing.{SeenSpace, through_space, freeing_writes}
@@ -33,7 +33,7 @@ under_lock g dir n next =
 -- the file that an entry names, or else none is in use; a number out of range has no header
 abbrev pub through_named : Geometry → ℕ → Fid → Events → (SeenFile → Events) → Events
 through_named g dir fid otherwise next =
-    if is_number g fid then under_lock g dir fid.num (λ b. with_file otherwise next (option_map (seen_file g fid.num b) (used_in fid.seq b)))
+    if is_number g fid then under_lock g dir fid.num (λ b. if_file otherwise next (option_map (seen_file g fid.num b) (used_in fid.seq b)))
     else otherwise
 
 -- no directory, or one whose blocks show no entry
@@ -49,7 +49,7 @@ abbrev pub marking_writes : Geometry → SeenFile → List PlanWrite
 marking_writes g f = if f.file.marked then [] else header_write g f.num (marked f.head) stage.Marked empty_handed ∷ []
 
 -- the mark, and the removal of the entry: a file that was marked before stands at no stage until then
-abbrev pub unnaming_writes : Geometry → SeenDir → DirEnt → SeenFile → List PlanWrite
+unfoldable pub unnaming_writes : Geometry → SeenDir → DirEnt → SeenFile → List PlanWrite
 unnaming_writes g d e f =
     marking_writes g f ++ removal_writes d e (if f.file.marked then stage.Nothing else stage.Marked) stage.Unlinked
 
@@ -73,4 +73,4 @@ delete_in g d e = through_named g d.fid.num e.fid (entry_removed d e) (λ f.
     if_empty f (through_space g f (λ s. Make (delete_plan g d e f s))))
 
 unfoldable pub delete_events : Geometry → Fid → List ℕ → ℕ → Events
-delete_events g dir name ver = through_names g dir (λ d. with_entry (entry_of (versions name (entries_of d)) ver) (delete_in g d))
+delete_events g dir name ver = through_names g dir (λ d. if_entry (entry_of (versions name (entries_of d)) ver) (delete_in g d))

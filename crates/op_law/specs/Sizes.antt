@@ -17,9 +17,9 @@ use Rattle.vol_parts.specs.declared.geometry.Geometry.{Geometry}
 use Rattle.op_law.specs.declared.need.PlanWrite.{PlanWrite}
 use Rattle.op_law.specs.Events.{Events, Take, Find, Make}
 use Rattle.op_law.specs.Rows.{answers}
-use Rattle.op_law.specs.Refusing.{SeenFile, unless, through_live, with_clusters}
+use Rattle.op_law.specs.Refusing.{SeenFile, unless_refused, through_live, if_clusters}
 use Rattle.op_law.specs.Writing.{holding, empty_handed, header_write, plan_of, clusters_for, clusters_seen, runs_for}
-use Rattle.op_law.specs.Quotas.{through_quota, rows_seen, owner_write, charged, discharged}
+use Rattle.op_law.specs.Quotas.{through_quota, rows_seen, owner_write, row_charged, row_discharged}
 use Rattle.op_law.specs.Freeing.{rising, blocks_for, look_storage, storage_writes}
 
 -- the reply that shows all blocks of so many clusters
@@ -37,25 +37,25 @@ unfoldable pub grown_header : Geometry → SeenFile → List ℕ → Block
 grown_header g f qs = scattered (with_mark (with_runs f.head (runs_for g (clusters_seen g f.head ++ qs))) (grown_mark g f.file))
 
 -- the owner is charged, and the file gets the clusters
-abbrev pub growing_writes : Geometry → SeenFile → List Block → List ℕ → ℕ → List PlanWrite
+unfoldable pub growing_writes : Geometry → SeenFile → List Block → List ℕ → ℕ → List PlanWrite
 growing_writes g f quota qs k =
-    owner_write g quota f.file.owner (charged (g.cluster * k)) stage.Charged (holding qs None)
+    owner_write g quota f.file.owner (row_charged (g.cluster * k)) stage.Charged (holding qs None)
     ++ header_write g f.num (grown_header g f qs) stage.Done empty_handed ∷ []
 
 abbrev pub grown_by : Geometry → SeenFile → List Block → ℕ → List ℕ → Events
 grown_by g f quota k qs = Make (plan_of (growing_writes g f quota qs k) (size_shown g (f.file.clusters + k)))
 
 -- the refusals that the header shows
-abbrev pub growing_checks : SeenFile → ℕ → List (Bool × Refusal)
-growing_checks f k = (is_kept f.num f.file, refusal.NoPriv) ∷ (nat_lt 77 (f.file.clusters + k), refusal.FileLimit) ∷ []
+abbrev pub growing_refusals : SeenFile → ℕ → List (Bool × Refusal)
+growing_refusals f k = (is_kept f.num f.file, refusal.NoPriv) ∷ (nat_lt 77 (f.file.clusters + k), refusal.FileLimit) ∷ []
 
 -- and the one that the quota blocks show
-abbrev pub draft_checks : Geometry → SeenFile → List Block → ℕ → List (Bool × Refusal)
-draft_checks g f quota k = (over_draft (row_of f.file.owner (rows_seen quota)) (g.cluster * k), refusal.ExQuota) ∷ []
+abbrev pub draft_refusals : Geometry → SeenFile → List Block → ℕ → List (Bool × Refusal)
+draft_refusals g f quota k = (over_draft (row_of f.file.owner (rows_seen quota)) (g.cluster * k), refusal.ExQuota) ∷ []
 
 abbrev pub extend_in : Geometry → ℕ → SeenFile → Events
-extend_in g k f = unless (first_refusal (growing_checks f k)) (through_quota g PW (λ quota.
-    unless (first_refusal (draft_checks g f quota k)) (Find k false (with_clusters (grown_by g f quota k)))))
+extend_in g k f = unless_refused (first_refusal (growing_refusals f k)) (through_quota g PW (λ quota.
+    unless_refused (first_refusal (draft_refusals g f quota k)) (Find k false (if_clusters (grown_by g f quota k)))))
 
 unfoldable pub extend_events : Geometry → Fid → ℕ → Events
 extend_events g file blocks = through_live g file PW (extend_in g (clusters_for g blocks))
@@ -75,12 +75,12 @@ abbrev pub cut_clusters : Geometry → SeenFile → ℕ → List ℕ
 cut_clusters g f k = rising g (drop k (clusters_seen g f.head))
 
 -- the file loses clusters, they become free, and the owner is charged less
-abbrev pub cutting_writes : Geometry → SeenFile → ℕ → List Block → List Block → List PlanWrite
+unfoldable pub cutting_writes : Geometry → SeenFile → ℕ → List Block → List Block → List PlanWrite
 cutting_writes g f k quota storage =
     let qs = cut_clusters g f k in
     header_write g f.num (cut_header g f k) stage.Shortened (holding qs None)
     ∷ storage_writes g stage.Shortened qs None (blocks_for g qs) storage
-    ++ owner_write g quota f.file.owner (discharged (g.cluster * (f.file.clusters - k))) stage.Done empty_handed
+    ++ owner_write g quota f.file.owner (row_discharged (g.cluster * (f.file.clusters - k))) stage.Done empty_handed
 
 -- Q and V, the quota blocks, the storage blocks of the clusters that go, and the plan
 abbrev pub cut_to : Geometry → SeenFile → ℕ → Events
@@ -92,7 +92,7 @@ abbrev pub keep_clusters : Geometry → ℕ → SeenFile → Events
 keep_clusters g k f = if nat_lt k f.file.clusters then cut_to g f k else answers (size_shown g f.file.clusters)
 
 abbrev pub trunc_in : Geometry → ℕ → SeenFile → Events
-trunc_in g k f = unless (first_refusal ((is_kept f.num f.file, refusal.NoPriv) ∷ [])) (keep_clusters g k f)
+trunc_in g k f = unless_refused (first_refusal ((is_kept f.num f.file, refusal.NoPriv) ∷ [])) (keep_clusters g k f)
 
 unfoldable pub trunc_events : Geometry → Fid → ℕ → Events
 trunc_events g file blocks = through_live g file PW (trunc_in g (clusters_for g blocks))
