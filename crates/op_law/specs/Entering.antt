@@ -1,12 +1,11 @@
 -- The commands that make a file and enter it in a directory.
-use Rattle.std.specs.Prelude.{◌+◌, ◌*◌, ◌++◌, not, nat_lt, ℕ, Bool, true, List, [], ◌∷◌, Some, is_none, map, codes, decimal, if◌then◌else◌}
+use Rattle.std.specs.Prelude.{◌+◌, ◌*◌, ◌++◌, not, nat_lt, ℕ, Bool, true, List, [], ◌∷◌, Some, is_none, Result, Ok, Err, map, codes, decimal, if◌then◌else◌}
 use Rattle.vol_words.specs.Fields.{Block}
 use Rattle.fx_dir.specs.Writing.{block_of}
 use Rattle.fx_header.specs.declared.slot.Hdr.{Hdr}
 use Rattle.fx_header.specs.declared.slot.Slot.{Slot}
 use Rattle.fx_header.specs.declared.slot.Slot.TheVariants.{Free, Used}
 use Rattle.fx_header.specs.declared.slot.HeaderFault.{HeaderFault}
-use Rattle.std.specs.Prelude.{Result, Ok, Err}
 use Rattle.fx_header.specs.Headers.{header_read, header_bytes, with_runs}
 use Rattle.lock_db.specs.declared.name.LockName.TheVariants.{S}
 use Rattle.plain_cat.specs.declared.ids.Fid.{Fid}

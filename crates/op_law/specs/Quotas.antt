@@ -35,10 +35,11 @@ rows_seen qs = rows_sorted (flat_map rows_in qs)
 
 -- ---- one row
 
--- Row j of these blocks, which counts from 0 through all of them; none where it is not active.
+-- the block of row j, which counts from 0 through all of these blocks
 abbrev pub block_with : List Block → ℕ → Block
 block_with qs j = slice_index_or qs (j / 16) []
 
+-- row j, or none where it is not active
 abbrev pub row_seen : List Block → ℕ → Option Row
 row_seen qs j = row_at (block_with qs j) (j % 16)
 
