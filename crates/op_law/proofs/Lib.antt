@@ -8,3 +8,4 @@ pub mod Walking
 pub mod Through
 pub mod Replying
 pub mod OnlyLooking
+pub mod Meeting

@@ -6,9 +6,11 @@ use Rattle.plain_cat.specs.declared.cat.Cat.{Cat}
 use Rattle.vol_owners.specs.Lists.{StandsIn}
 use Rattle.vol_owners.specs.Owners.{Owners}
 use Rattle.vol_spell.specs.Spelling.{Spells}
+use Rattle.op_law.specs.declared.need.Need.TheVariants as need
+use Rattle.op_law.specs.declared.need.Plan.{Plan}
 use Rattle.op_law.specs.declared.seen.Seen.{Seen}
 use Rattle.op_law.specs.Events.{space_of, HasNoSpace, Follows}
-use Rattle.op_law.specs.Needs.{events_of}
+use Rattle.op_law.specs.Needs.{events_of, IsNext}
 
 -- The locks and blocks that a command has seen are the first of those that it needs, in order.
 abbrev pub HasSeen : Cmd → Seen → Type 0
@@ -33,3 +35,8 @@ pub record FitsOn (cmd : Cmd) (seen : Seen) (bs : List Block) : Type 0 where
   pub own : Owners
   pub cat : Cat
   pub on : IsSeenOn seen bs own cat
+
+-- A command has seen this on these blocks, and its plan is this.
+pub record IsPlanOn (cmd : Cmd) (bs : List Block) (seen : Seen) (p : Plan) : Type 0 where
+  pub fits : FitsOn cmd seen bs
+  pub ready : IsNext cmd seen (need.Ready p)

@@ -2,6 +2,7 @@
 //! plan. And the trait of an operation, which works that out.
 #![tactic(auto)]
 
+mod alone;
 mod laws;
 mod lists;
 mod need;
@@ -10,6 +11,7 @@ mod rows;
 mod seeing;
 mod seen;
 
+pub use alone::run_alone;
 pub use laws::{looks_reply, seen_goes_on};
 pub use lists::{SeenBlocks, SeenLocks, Writes};
 pub use need::{Ask, Need, Plan, PlanWrite};

@@ -1,3 +1,2 @@
 pub mod Looking
 pub mod Lawful
-pub mod Meeting

@@ -1,8 +1,6 @@
 //! LOOKUP, LIST and STAT: the commands that only look.
 #![tactic(auto)]
 
-#[cfg(test)]
-mod alone;
 mod looks;
 mod operation;
 #[cfg(test)]

@@ -1,10 +1,9 @@
 ghost use Rattle.op_lookup.specs.Kinds.{IsLook};
 
 use crate::OpLookup;
-use crate::alone::run;
 use fx_home::{Home, Scb, home_block, scb_block};
 use lock_db::LockName;
-use op_law::{Operation, Plan, Seen};
+use op_law::{Operation, Plan, Seen, run_alone};
 use plain_cat::{Cmd, Fid, Mode, Name, NoMemory, Refusal, Reply};
 use std::alloc::Global;
 use std::test::Fail;
@@ -141,7 +140,10 @@ fn name(alloc: Global, text: &[u8]) -> Result<Name, NoMemory> {
 fn look(alloc: Global, cmd: Cmd) -> Result<(Seen, Plan), Fail>
     requires { IsLook cmd }
 {
-    run(alloc, &OpLookup::of(cmd), &volume())
+    let Some(ended) = run_alone(alloc, &OpLookup::of(cmd), &volume())? else {
+        return Err(Fail::from("the command makes its plan"));
+    };
+    Ok(ended)
 }
 
 fn lookup(alloc: Global, dir: Fid, text: &[u8], ver: u16) -> Result<(Seen, Plan), Fail> {

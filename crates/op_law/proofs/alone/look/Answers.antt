@@ -1,8 +1,8 @@
 use Rattle.std.proofs.Common.{refl, sym, subst}
 use Rattle.std.proofs.lemmas.Option.{slice_get_read}
 use Rattle.op_law.specs.Fits.{FitsOn}
-use Rattle.op_lookup.proofs.Meeting.{looked}
-use Rattle.op_lookup.proofs.alone.look.Goals as goal
+use Rattle.op_law.proofs.Meeting.{looked}
+use Rattle.op_law.proofs.alone.look.Goals as goal
 
 pub returns : goal.returns
 returns g c =

@@ -1,5 +1,5 @@
-use Rattle.op_lookup.proofs.Meeting.{fits}
-use Rattle.op_lookup.proofs.alone.run.Goals as goal
+use Rattle.op_law.proofs.Meeting.{fits}
+use Rattle.op_law.proofs.alone.run_alone.Goals as goal
 
 pub next-requires : goal.next-requires
 next-requires g c = fits (g.O.Operation.cmd_is c.args.op.now) c.loop.seen c.args.blocks.now c.loop.invariant

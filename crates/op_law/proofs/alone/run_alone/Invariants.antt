@@ -1,5 +1,5 @@
 use Rattle.op_law.specs.Fits.{FitsOn}
-use Rattle.op_lookup.proofs.alone.run.Given as goal
+use Rattle.op_law.proofs.alone.run_alone.Given as goal
 
 abbrev pub invariant-loop : goal.invariant-loop
 invariant-loop g l = FitsOn (g.O.Operation.cmd_is l.op) l.seen l.blocks

@@ -1,7 +1,7 @@
 use Rattle.std.proofs.Common.{refl}
 use Rattle.vol_spell.proofs.Accepted.{catalogue_is_spelt}
-use Rattle.op_lookup.proofs.Meeting.{begins}
-use Rattle.op_lookup.proofs.alone.begin.Goals as goal
+use Rattle.op_law.proofs.Meeting.{begins}
+use Rattle.op_law.proofs.alone.begin.Goals as goal
 
 pub returns : goal.returns
 returns g c =

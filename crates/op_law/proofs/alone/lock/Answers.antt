@@ -1,7 +1,7 @@
 use Rattle.std.proofs.Common.{sym, subst}
 use Rattle.op_law.specs.Fits.{FitsOn}
-use Rattle.op_lookup.proofs.Meeting.{locked}
-use Rattle.op_lookup.proofs.alone.lock.Goals as goal
+use Rattle.op_law.proofs.Meeting.{locked}
+use Rattle.op_law.proofs.alone.lock.Goals as goal
 
 pub returns : goal.returns
 returns g c =
