@@ -4,6 +4,8 @@
 mod looks;
 mod operation;
 #[cfg(test)]
+mod system_truncs;
+#[cfg(test)]
 mod tests;
 
 pub use operation::OpLookup;

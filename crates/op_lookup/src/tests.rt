@@ -1,6 +1,8 @@
+ghost use Rattle.std.specs.Prelude.{◌≤◌};
 ghost use Rattle.op_lookup.specs.Kinds.{IsLook};
 
 use crate::OpLookup;
+use crate::system_truncs::SystemTrunc;
 use fx_home::{Home, Scb, home_block, scb_block};
 use lock_db::LockName;
 use op_law::{Operation, Plan, Seen, run_alone};
@@ -284,5 +286,32 @@ fn each_refusal_comes_in_its_place(rt: HostRuntime) -> Result<(), Fail> {
 fn an_operation_tells_its_command(rt: HostRuntime) -> Result<(), Fail> {
     let op = OpLookup::of(Cmd::List { dir: fid(4, 4) });
     assert!(&rt; matches!(op.cmd(), Cmd::List { dir } if dir.num == 4 && dir.seq == 4));
+    Ok(())
+}
+
+/// What the TRUNC of a system file has seen at last, and its plan.
+fn trunc(alloc: Global, file: Fid) -> Result<(Seen, Plan), Fail>
+    requires { file.num ≤ 11 }
+{
+    let op = SystemTrunc::of(Cmd::Trunc { file, blocks: 1 });
+    let Some(ended) = run_alone(alloc, &op, &volume())? else {
+        return Err(Fail::from("the command makes its plan"));
+    };
+    Ok(ended)
+}
+
+// Another operation: its lock is in PW.
+#[test]
+fn a_system_file_keeps_its_size(rt: HostRuntime) -> Result<(), Fail> {
+    let alloc = rt.alloc();
+    let (seen, plan) = trunc(alloc, fid(4, 4))?;
+    assert!(&rt; matches!(seen.locks.items(), [(LockName::S(4), Mode::PW)]));
+    assert!(&rt; matches!(seen.blocks.items(), [(12, _)]));
+    assert!(&rt; is_refused(&plan, Refusal::NoPriv));
+    let (_, other) = trunc(alloc, fid(4, 5))?;
+    assert!(&rt; is_refused(&other, Refusal::NoSuchFile));
+    let (seen, none) = trunc(alloc, fid(0, 1))?;
+    assert!(&rt; seen.locks.items().is_empty());
+    assert!(&rt; is_refused(&none, Refusal::NoSuchFile));
     Ok(())
 }
