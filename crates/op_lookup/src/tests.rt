@@ -163,7 +163,12 @@ fn lookup(alloc: Global, dir: Fid, text: &[u8], ver: u16) -> Result<(Seen, Plan)
 
 /// The lock of this file in PR, and looks at these blocks in order.
 fn has_seen(seen: &Seen, file: u32, lbns: &[u32]) -> bool {
-    matches!(seen.locks.items(), [(LockName::S(n), Mode::PR)] if *n == file)
+    has_seen_in(seen, Mode::PR, file, lbns)
+}
+
+/// The lock of this file in this mode, and looks at these blocks in order.
+fn has_seen_in(seen: &Seen, mode: Mode, file: u32, lbns: &[u32]) -> bool {
+    matches!(seen.locks.items(), [(LockName::S(n), m)] if *n == file && *m == mode)
         && seen
             .blocks
             .items()
@@ -305,8 +310,7 @@ fn trunc(alloc: Global, file: Fid) -> Result<(Seen, Plan), Fail>
 fn a_system_file_keeps_its_size(rt: HostRuntime) -> Result<(), Fail> {
     let alloc = rt.alloc();
     let (seen, plan) = trunc(alloc, fid(4, 4))?;
-    assert!(&rt; matches!(seen.locks.items(), [(LockName::S(4), Mode::PW)]));
-    assert!(&rt; matches!(seen.blocks.items(), [(12, _)]));
+    assert!(&rt; has_seen_in(&seen, Mode::PW, 4, &[12]));
     assert!(&rt; is_refused(&plan, Refusal::NoPriv));
     let (_, other) = trunc(alloc, fid(4, 5))?;
     assert!(&rt; is_refused(&other, Refusal::NoSuchFile));
