@@ -1,4 +1,3 @@
-ghost use Rattle.std.specs.Prelude.{◌≤◌};
 ghost use Rattle.op_lookup.specs.Kinds.{IsLook};
 
 use crate::OpLookup;
@@ -295,9 +294,10 @@ fn an_operation_tells_its_command(rt: HostRuntime) -> Result<(), Fail> {
 }
 
 /// What the TRUNC of a system file has seen at last, and its plan.
-fn trunc(alloc: Global, file: Fid) -> Result<(Seen, Plan), Fail>
-    requires { file.num ≤ 11 }
-{
+fn trunc(alloc: Global, file: Fid) -> Result<(Seen, Plan), Fail> {
+    if file.num > 11 {
+        return Err(Fail::from("the file is a system file"));
+    }
     let op = SystemTrunc::of(Cmd::Trunc { file, blocks: 1 });
     let Some(ended) = run_alone(alloc, &op, &volume())? else {
         return Err(Fail::from("the command makes its plan"));
