@@ -2,6 +2,15 @@ pub mod Events
 pub mod Rows
 pub mod Readable
 pub mod Behind
+pub mod Refusing
+pub mod Writing
+pub mod Quotas
+pub mod Moving
+pub mod Entering
+pub mod Freeing
+pub mod Sizes
+pub mod Removing
+pub mod Channels
 pub mod Needs
 pub mod Fits
 pub mod Going

@@ -15,6 +15,12 @@ use Rattle.op_law.specs.declared.seen.Seen.{Seen}
 use Rattle.op_law.specs.declared.seen.Chan.{Chan}
 use Rattle.op_law.specs.Events.{Events, space_of, following}
 use Rattle.op_law.specs.Rows.{answers, refuses, live_in, entries_seen, through_header, through_directory}
+use Rattle.op_law.specs.Quotas.{quota_set_events, quota_show_events}
+use Rattle.op_law.specs.Moving.{rename_events}
+use Rattle.op_law.specs.Entering.{create_events, mkdir_events}
+use Rattle.op_law.specs.Sizes.{extend_events, trunc_events}
+use Rattle.op_law.specs.Removing.{delete_events}
+use Rattle.op_law.specs.Channels.{open_events, close_events, read_events, write_events}
 
 -- LOOKUP
 unfoldable pub lookup_events : Geometry → Fid → List ℕ → ℕ → Events
@@ -41,7 +47,18 @@ unfoldable pub events_of : Geometry → Option Chan → Cmd → Events
 events_of g channel (cmd.Lookup reg dir name ver) = lookup_events g dir name ver
 events_of g channel (cmd.List dir) = list_events g dir
 events_of g channel (cmd.Stat file) = stat_events g file
-events_of g channel other = refuses refusal.NoSuchFile
+events_of g channel (cmd.Create reg dir name ver blocks owner) = create_events g dir name ver blocks owner
+events_of g channel (cmd.MkDir reg dir name owner) = mkdir_events g dir name owner
+events_of g channel (cmd.Extend file blocks) = extend_events g file blocks
+events_of g channel (cmd.Trunc file blocks) = trunc_events g file blocks
+events_of g channel (cmd.Delete dir name ver) = delete_events g dir name ver
+events_of g channel (cmd.Rename dir name ver to to_ver) = rename_events g dir name ver to to_ver
+events_of g channel (cmd.OpenFile chan file mode) = open_events g channel chan file mode
+events_of g channel (cmd.CloseFile chan) = close_events g channel chan
+events_of g channel (cmd.ReadBlock chan vbn) = read_events g channel vbn
+events_of g channel (cmd.WriteBlock chan vbn text) = write_events g channel vbn text
+events_of g channel (cmd.QuotaSet owner quota over) = quota_set_events g owner quota over
+events_of g channel (cmd.QuotaShow owner) = quota_show_events g owner
 
 -- what a command needs next, by what it has seen
 abbrev pub need_of : Cmd → Seen → Need
