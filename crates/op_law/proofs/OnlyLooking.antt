@@ -21,7 +21,8 @@ use Rattle.op_law.specs.Events.{Events, Take, Look, Fetch, Find, Make, space_of,
 use Rattle.op_law.specs.Needs.{events_of, IsNext}
 use Rattle.op_law.specs.Fits.{HasSeen}
 use Rattle.op_law.specs.Knows.{channel_of, has_channel, knows}
-use Rattle.op_law.specs.Laws.{things, planned, under_way, IsRight, WritesNothing, IsPlan, Lawful}
+use Rattle.op_law.specs.Fits.{things}
+use Rattle.op_law.specs.Laws.{planned, under_way, IsRight, WritesNothing, IsPlan, Lawful}
 use Rattle.op_law.proofs.Replying.{looks_reply}
 use Rattle.op_law.proofs.Walking.{EveryPlan, every_plan, Obeys, kept, next_fine, may_need}
 
@@ -92,7 +93,7 @@ module _ (x : Cmd) (looks : OnlyLooks x) where
   pub only_looks_lawful : Lawful x
   only_looks_lawful = record {
     searches = once;
-    needs = λ seen bs own c next has on is. may_need x seen bs own (IsAnswer x seen.channel c) next
+    needs = λ node seen bs own c next has on is. may_need x seen bs own (IsAnswer x seen.channel c) next
         (next_fine x seen bs own (IsAnswer x seen.channel c) next (once seen.geometry seen.channel) (looks.obeys seen.geometry seen.channel bs own c on.spelt) on.stands has is);
     plans = plan;
     refusals = λ seen p has is. nothing_written 0 seen p has is;

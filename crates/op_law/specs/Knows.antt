@@ -2,6 +2,7 @@
 use Rattle.std.specs.Prelude.{◌==◌, ◌&&◌, ◌+◌, not, nat_lt, nat_le, ℕ, Bool, true, false, List, Option, Some, None, is_none, length, slice_set, if◌then◌else◌}
 use Rattle.std.specs.List.{list_any, list_all, range_with_len}
 use Rattle.plain_cat.specs.Modes.{rank}
+use Rattle.plain_cat.specs.declared.mode.Mode.{Mode}
 use Rattle.plain_cat.specs.declared.command.Cmd.{Cmd}
 use Rattle.plain_cat.specs.declared.command.Cmd.TheVariants as cmd
 use Rattle.plain_cat.specs.declared.reply.Refusal.{Refusal}
@@ -31,16 +32,42 @@ abbrev pub is_plain_file : Option File → Bool
 is_plain_file None = false
 is_plain_file (Some f) = not f.dir
 
--- the channel has this file open in this mode, and the file is in use and no directory
-abbrev pub is_open_as : Cat → Chan → Option Open → Bool
-is_open_as c p None = false
-is_open_as c p (Some o) = (o.file == p.file.num) && (rank o.mode == rank p.mode) && is_plain_file (in_use c p.file)
+-- what the other channels have open: all but this one of the node, where it is a channel
+abbrev pub others_open : Cat → ℕ → ℕ → List (Option Open)
+others_open c node chan = if chan == 0 then c.opens else slice_set c.opens (place node chan) None
+
+-- a mode goes with all other opens of a file
+abbrev pub goes_with : Cat → ℕ → ℕ → ℕ → Mode → Bool
+goes_with c node chan file mode = not (list_any (conflicts file mode) (others_open c node chan))
+
+-- The channel has this file open in this mode, which goes with all other opens of it; and the file is in use, no directory and
+-- no system file.
+abbrev pub is_open_as : Cat → ℕ → ℕ → Chan → Option Open → Bool
+is_open_as c node chan p None = false
+is_open_as c node chan p (Some o) =
+    (o.file == p.file.num) && ((rank o.mode == rank p.mode) && (goes_with c node chan o.file o.mode && (nat_lt 11 p.file.num && is_plain_file (in_use c p.file))))
 
 -- the channel has open what was seen, or nothing
 abbrev pub has_channel : Cat → ℕ → Option ℕ → Option Chan → Bool
 has_channel c node None seen = true
 has_channel c node (Some chan) None = is_none (channel_at c node chan)
-has_channel c node (Some chan) (Some p) = is_open_as c p (channel_at c node chan)
+has_channel c node (Some chan) (Some p) = is_open_as c node chan p (channel_at c node chan)
+
+-- a channel with a file open has it so in CR or more
+abbrev pub is_held_open : Option Open → Bool
+is_held_open None = true
+is_held_open (Some o) = nat_lt 0 (rank o.mode)
+
+-- a command that may ask for the lock of who has a file open
+abbrev pub may_ask : Cmd → Bool
+may_ask (cmd.Delete dir name ver) = true
+may_ask (cmd.OpenFile chan file mode) = true
+may_ask (cmd.CloseFile chan) = true
+may_ask other = false
+
+-- no open goes with every mode
+abbrev pub opens_hold : Cat → Cmd → Bool
+opens_hold c x = if may_ask x then list_all is_held_open c.opens else true
 
 -- ---- space that was refused
 
@@ -96,21 +123,8 @@ usages_fit c x = if changes_usage x then list_all (is_charged c) c.quota else tr
 
 -- what a command of a node knows of the catalogue once it has seen this
 abbrev pub knows : ℕ → Cmd → Seen → Cat → Bool
-knows node x seen c = has_channel c node (channel_of x) seen.channel && (is_short c x seen.short && usages_fit c x)
-
--- ---- the ask
-
--- a command that may ask for the lock of who has a file open
-abbrev pub may_ask : Cmd → Bool
-may_ask (cmd.Delete dir name ver) = true
-may_ask (cmd.OpenFile chan file mode) = true
-may_ask (cmd.CloseFile chan) = true
-may_ask other = false
-
--- what the other channels have open: all but the one that asks, where one does
-abbrev pub others_open : Cat → ℕ → ℕ → List (Option Open)
-others_open c node chan = if chan == 0 then c.opens else slice_set c.opens (place node chan) None
+knows node x seen c = has_channel c node (channel_of x) seen.channel && (is_short c x seen.short && (usages_fit c x && opens_hold c x))
 
 -- the mode of an ask goes with all other opens of the file, so that it is granted
 abbrev pub is_granted : ℕ → Ask → Cat → Bool
-is_granted node a c = not (list_any (conflicts a.file a.mode) (others_open c node a.chan))
+is_granted node a c = goes_with c node a.chan a.file a.mode

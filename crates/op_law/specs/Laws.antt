@@ -27,18 +27,13 @@ use Rattle.op_law.specs.declared.seen.Chan.{Chan}
 use Rattle.op_law.specs.Knows.{takes_space, may_ask, knows, is_granted}
 use Rattle.op_law.specs.Events.{SearchesOnce}
 use Rattle.op_law.specs.Needs.{events_of, IsNext}
-use Rattle.op_law.specs.Fits.{HasSeen, IsSeenOn}
+use Rattle.op_law.specs.Fits.{HasSeen, things, IsSeenOn}
 
 -- ---- a command under way
 
 -- the names of those locks that are held in this mode or a stronger one
 abbrev pub held_in : Mode → List (LockName × Mode) → List LockName
 held_in mode locks = map (λ l. l.0) (filter (λ l. nat_le (rank mode) (rank l.1)) locks)
-
--- these clusters and this number, as things that are outside files
-abbrev pub things : List ℕ → Option ℕ → Things
-things clusters None = record { clusters = clusters; numbers = [] }
-things clusters (Some n) = record { clusters = clusters; numbers = (n - 1) ∷ [] }
 
 abbrev pub planned : PlanWrite → PlannedWrite
 planned w = record { lbn = w.lbn; block = w.block; stage = w.stage; outs = things w.clusters w.number }
@@ -108,6 +103,6 @@ IsPlan node cmd seen p (Some a) =
 -- that have that; and its plan is right at each node.
 pub record Lawful (cmd : Cmd) : Type 0 where
   pub searches : (g : Geometry) (channel : Option Chan) → SearchesOnce (events_of g channel cmd)
-  pub needs : (seen : Seen) (bs : List Block) (own : Owners) (c : Cat) (next : Need) → HasSeen cmd seen → IsSeenOn seen bs own c → IsNext cmd seen next → MayNeed cmd seen bs own next
+  pub needs : (node : ℕ) (seen : Seen) (bs : List Block) (own : Owners) (c : Cat) (next : Need) → HasSeen cmd seen → IsSeenOn node cmd seen bs own c → IsNext cmd seen next → MayNeed cmd seen bs own next
   pub plans : (node : ℕ) (seen : Seen) (p : Plan) → HasSeen cmd seen → IsNext cmd seen (need.Ready p) → IsPlan node cmd seen p p.ask
   pub refusals : (seen : Seen) (p : Plan) → HasSeen cmd seen → IsNext cmd seen (need.Ready p) → WritesNothing p p.reply

@@ -12,8 +12,8 @@ pub mod Sizes
 pub mod Removing
 pub mod Channels
 pub mod Needs
+pub mod Knows
 pub mod Fits
 pub mod Going
 pub mod Looking
-pub mod Knows
 pub mod Laws
