@@ -1,0 +1,6 @@
+pub mod Standing
+pub mod Nodes
+pub mod Asking
+pub mod Giving
+pub mod Keeping
+pub mod ReadingBack
