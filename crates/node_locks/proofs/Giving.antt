@@ -60,7 +60,7 @@ unused-empty : (xs : List Asker) → not (length xs == 0) ≡ false → xs ≡ [
 unused-empty [] e = refl
 unused-empty (a ∷ xs) e = absurd (grind arith)
 
-vacated-standing : (owner : Owner) (r : Resource) → standing_of owner (vacated r).askers ≡ standing_of owner r.askers
+pub vacated-standing : (owner : Owner) (r : Resource) → standing_of owner (vacated r).askers ≡ standing_of owner r.askers
 vacated-standing owner r =
     (elim (is_used r) as (λ b. is_used r ≡ b → standing_of owner (if b then r else fresh r.name).askers ≡ standing_of owner r.askers)
     [ true ↦ λ e. refl | false ↦ λ e. ap (standing_of owner) (sym (unused-empty r.askers e)) ]) refl
@@ -87,10 +87,10 @@ released-there name n m value t d =
     ∙ ap (standing_of (system_of m)) (written-askers _ value (record r { askers = settled (without (system_of n) r.askers) }))
 
 -- an owner that has asked for something, before and after grants
-abbrev Served : Option Standing → Option Standing → Type 0
+abbrev pub Served : Option Standing → Option Standing → Type 0
 Served before after = (after ≡ before) ⊎ ((s : Standing) × (before ≡ Some s) × (is_queued s ≡ true) × (after ≡ Some (Granted (wanted s))))
 
-settled-served : (owner : Owner) (xs : List Asker) → all_together xs ≡ true → Served (standing_of owner xs) (standing_of owner (settled xs))
+pub settled-served : (owner : Owner) (xs : List Asker) → all_together xs ≡ true → Served (standing_of owner xs) (standing_of owner (settled xs))
 settled-served owner xs e =
     (elim (standing_of owner xs) as (λ o. standing_of owner xs ≡ o → Served o (standing_of owner (settled xs))) [
       | None ↦ λ f. inl (absent-settled owner xs f)
@@ -123,11 +123,12 @@ served-nothing : (before after : Option Standing) → Served before after → be
 served-nothing before after (inl e) n = e ∙ n
 served-nothing before after (inr (s, is, q, now)) n = cc
 
-released-goes : (name : LockName) (n m : ℕ) (value : List ℕ) (t : List Resource) → IsTable t → m ≢ n → GoesOn m t (released name (system_of n) value t)
-released-goes name n m value t is d = record {
-  granted = λ l g. served-granted _ _ l.1 (released-served name l.0 n m value t is d) g;
-  waiting = λ l w. served-waiting _ _ l.1 (released-served name l.0 n m value t is d) w;
-  nothing = λ other e. served-nothing _ _ (released-served name other n m value t is d) e;
+-- how another node goes on
+pub served-goes : (m : ℕ) (t u : List Resource) → ((name : LockName) → Served (stands_at name (system_of m) t) (stands_at name (system_of m) u)) → GoesOn m t u
+served-goes m t u served = record {
+  granted = λ l g. served-granted _ _ l.1 (served l.0) g;
+  waiting = λ l w. served-waiting _ _ l.1 (served l.0) w;
+  nothing = λ name e. served-nothing _ _ (served name) e;
 }
 
 -- the node that releases has nothing on a name that none of its other locks is on
@@ -145,7 +146,7 @@ giving_holds t n l rest value locks is held idle first =
     let granted : AllGranted t n (l ∷ rest) = granted-all t n (l ∷ rest) h.in_order (rw first at idle) in
     let after : AllGranted u n rest = granted-later t u n rest (λ k i g. released-elsewhere l.0 k.0 n n value t (λ e. h.once.0 (rw (← e) i)) ∙ g) granted.1 in
     let own : HoldsItsLocks u n rest = record { once = h.once.1; in_order = in_order-granted u n rest after; no_other = rest-nothing l rest n value t h } in
-    let goes : (m : ℕ) → m ≢ n → GoesOn m t u = λ m d. released-goes l.0 n m value t is d in
+    let goes : (m : ℕ) → m ≢ n → GoesOn m t u = λ m d. served-goes m t u (λ name. released-served l.0 name n m value t is d) in
     record {
       held = each (λ m ls. HoldsItsLocks u m ls) locks n rest own (λ m d. goes-holds m t u (locks m) (goes m d) (held m));
       waits = waits-granted u n rest after;

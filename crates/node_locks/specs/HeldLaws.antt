@@ -8,7 +8,7 @@ use Rattle.lock_db.specs.declared.askers.Asker.{Asker}
 use Rattle.lock_db.specs.declared.resource.Resource.{Resource}
 use Rattle.lock_db.specs.Queues.{standing_of, lock_of, held, wanted, goes_beside, head_of}
 use Rattle.lock_db.specs.Resources.{goes_at_once}
-use Rattle.lock_db.specs.Tables.{IsTable, resource_at, asked, released}
+use Rattle.lock_db.specs.Tables.{IsTable, resource_at, asked, released, dropped}
 use Rattle.vol_owners.specs.Lists.{Has}
 use Rattle.node_locks.specs.Held.{system_of, names_of, IsGranted, HoldsItsLocks, AreHeld, waits_at, held_locks, with_locks}
 
@@ -43,6 +43,17 @@ pub record IsGivenBack (n : ℕ) (rest : List (LockName × Mode)) (locks : ℕ �
 abbrev pub GivingHolds : Type 0
 GivingHolds = (t : List Resource) (n : ℕ) (l : LockName × Mode) (rest : List (LockName × Mode)) (value : List ℕ) (locks : ℕ → List (LockName × Mode)) → IsTable t → AreHeld t locks
     → waits_at t n (locks n) ≡ false → locks n ≡ l ∷ rest → IsGivenBack n rest locks t (released l.0 (system_of n) value t)
+
+-- what is left after the death of node n
+pub record IsLeftByDeath (n : ℕ) (locks : ℕ → List (LockName × Mode)) (t after : List Resource) : Type 0 where
+  pub held : AreHeld after (with_locks locks n [])
+  pub others_wait : (m : ℕ) → m ≢ n → waits_at t m (locks m) ≡ false → waits_at after m (locks m) ≡ false
+  pub others_hold : (m : ℕ) (k : LockName × Mode) → m ≢ n → Has (held_locks t m (locks m)) k → Has (held_locks after m (locks m)) k
+
+-- A node that dies, whether it waits or not, has no locks any more. What another node waited for may be granted; nobody else
+-- loses a lock or comes to wait.
+abbrev pub DyingHolds : Type 0
+DyingHolds = (t : List Resource) (n : ℕ) (locks : ℕ → List (LockName × Mode)) → IsTable t → AreHeld t locks → IsLeftByDeath n locks t (dropped n t)
 
 -- where a node has a lock in PW or more, no other has one on that name in PR or more
 abbrev pub WritersAreSole : Type 0

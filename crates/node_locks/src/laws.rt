@@ -1,7 +1,7 @@
 //! What holds of the nodes' locks, whatever calls come: laws of the definitions that the contracts cite, and no body does
 //! anything.
 
-ghost use Rattle.node_locks.specs.HeldLaws.{NothingIsHeld, AskingHolds, GivingHolds, WritersAreSole, HeldAreGranted, AllAreHeld, MayAsk, MayGive, WhoWaitsIsHeldUp, HoldersHold};
+ghost use Rattle.node_locks.specs.HeldLaws.{NothingIsHeld, AskingHolds, GivingHolds, DyingHolds, WritersAreSole, HeldAreGranted, AllAreHeld, MayAsk, MayGive, WhoWaitsIsHeldUp, HoldersHold};
 ghost use Rattle.node_locks.specs.Sequences.{SequencesReadBack};
 
 /// In an empty table no node has a lock.
@@ -18,6 +18,11 @@ pub fn asking_holds()
 /// that did not.
 pub fn giving_holds()
     ensures { GivingHolds }
+{}
+
+/// The death of a node leaves it no lock. It takes no lock from another node, and lets none wait that did not.
+pub fn dying_holds()
+    ensures { DyingHolds }
 {}
 
 /// Where a node holds a lock in PW or EX, no other holds one on that name in PR or above.
