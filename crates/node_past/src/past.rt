@@ -38,7 +38,7 @@ impl Past {
         }
     }
 
-    /// How many commands of the node were answered.
+    /// How many commands of the node were answered, 0 to 4,294,967,295.
     pub fn answered(&self) -> u32
         ensures { result ≡ self.now.answered }
     {
@@ -54,7 +54,7 @@ impl Past {
 
     /// One answer more. A register is set where the reply tells of an identifier, and a channel is open or closed from now
     /// on where the reply says so; a refusal does neither. A register or channel past 8 changes nothing, and 0 counts as 1.
-    /// It takes no memory.
+    /// Fewer than 4,294,967,295 were answered before. It takes no memory.
     #[tactic(auto, unfolding(plain_vol::specs::Own::after_answer))]
     pub fn answer(&mut self, cmd: &Cmd, reply: &Reply)
         requires { self.old.answered < 4294967295 }
@@ -76,9 +76,9 @@ impl Past {
         self.dead = true;
     }
 
-    /// The node's next command: that of its next line, with what its registers hold now in place of references; after its
-    /// last line the close of the first channel that is open; none where there is none. A dead node has one too: that it
-    /// gives no command is its caller's to see. The error comes where memory for a name is refused.
+    /// The next command of this node, whose number is from 1: that of its next line, with what its registers hold now in
+    /// place of references; after its last line the close of the first channel that is open; none where there is none. A dead
+    /// node has one too: that it gives no command is its caller's to see. The error comes where memory for a name is refused.
     pub fn next(&self, alloc: Global, script: &Script, node: u8) -> Result<Option<Cmd>, NoMemory>
         ensures { IfOk result (λ o. o ≡ command_after script.now node self.now) }
     {
