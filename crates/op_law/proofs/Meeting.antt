@@ -1,12 +1,19 @@
 -- What a command alone on the blocks of a volume has seen, as its needs are met.
-use Rattle.std.proofs.Common.{◌≡◌, ◌∙◌, ℕ, List, [], ◌∷◌, ◌++◌, Some, None, Result, Ok, Err, length, slice_get, refl, sym, subst}
+use Rattle.std.proofs.Common.{◌≡◌, ◌≤◌, ◌∙◌, ℕ, Bool, true, false, List, [], ◌∷◌, ◌++◌, Option, Some, None, Result, Ok, Err, length, slice_get, refl, sym, ap, subst, arith}
+use Rattle.std.specs.Prelude.{◌&&◌, All, nat_le, if◌then◌else◌}
+use Rattle.std.specs.List.{list_all}
+use Rattle.std.proofs.lemmas.Bool.Decides.{nat_tests}
+use Rattle.std.proofs.lemmas.List.Sums.{list_all-from_AllPass}
 use Rattle.vol_words.specs.Fields.{Block}
 use Rattle.fx_home.specs.Homes.{home_read}
 use Rattle.lock_db.specs.declared.name.LockName.{LockName}
 use Rattle.plain_cat.specs.declared.mode.Mode.{Mode}
 use Rattle.plain_cat.specs.declared.command.Cmd.{Cmd}
 use Rattle.plain_cat.specs.declared.cat.Cat.{Cat}
+use Rattle.plain_cat.specs.declared.cat.QuotaRow.{QuotaRow}
+use Rattle.plain_vol.specs.Accounts.{IsCharged, Accounted}
 use Rattle.vol_owners.specs.Lists.{StandsIn}
+use Rattle.vol_owners.specs.Owners.{Owners, nothing, Outs}
 use Rattle.vol_parts.specs.declared.geometry.Geometry.{Geometry}
 use Rattle.vol_parts.specs.Findings.{home_at, CatOf}
 use Rattle.vol_parts.specs.Volumes.{volume, geometry_of}
@@ -14,38 +21,91 @@ use Rattle.vol_faults.specs.Free.{IsGeometryBy}
 use Rattle.vol_faults.specs.Conditions.{IsSize}
 use Rattle.vol_spell.specs.Spelling.{Spells}
 use Rattle.vol_spell.specs.Accepting.{IsSpelt, owners_told}
+use Rattle.vol_under.proofs.Endings.{opens_spelt}
 use Rattle.op_law.specs.declared.need.Need.TheVariants as need
 use Rattle.op_law.specs.declared.seen.Seen.{Seen}
+use Rattle.op_law.specs.declared.seen.Chan.{Chan}
 use Rattle.op_law.specs.Events.{space_of, HasNoSpace}
 use Rattle.op_law.specs.Needs.{need_of, IsNext}
-use Rattle.op_law.specs.Fits.{FitsOn, FitsSeen}
+use Rattle.op_law.specs.Knows.{channel_of, has_channel, is_short, may_ask, changes_usage, is_charged, usages_fit, opens_hold, knows}
+use Rattle.op_law.specs.Fits.{things, FitsOn, FitsSeen}
 use Rattle.op_law.specs.Going.{with_lock, with_block, IsLookAt}
 use Rattle.op_law.specs.Laws.{Lawful}
 use Rattle.op_law.proofs.Going.{seen_goes_on}
 
 pub fits : (x : Cmd) (seen : Seen) (bs : List Block) → FitsOn x seen bs → FitsSeen x seen
-fits x seen bs f = record { order = f.order; blocks = bs; own = f.own; cat = f.cat; on = f.on }
+fits x seen bs f = record { order = f.order; node = f.node; blocks = bs; own = f.own; cat = f.cat; on = f.on }
 
--- nothing is seen on blocks that spell a catalogue
-pub begins : (x : Cmd) (seen : Seen) (bs : List Block) (c : Cat) → Lawful x → IsSpelt bs c → IsGeometryBy bs (home_read (home_at bs)) seen.geometry
-    → seen.locks ≡ [] → seen.blocks ≡ [] → HasNoSpace (space_of seen) → FitsOn x seen bs
-begins x seen bs c law s g no_locks no_blocks none =
+-- ---- what a command takes for granted, where nothing is open and each usage is what its owner's files cost
+
+-- the catalogue with nothing open
+abbrev closed : Cat → Cat
+closed c = record c { opens = [] }
+
+both : (a b : Bool) → a ≡ true → b ≡ true → (a && b) ≡ true
+both a b p q = subst (λ t. (t && b) ≡ true) (sym p) q
+
+where_so : (t b : Bool) → b ≡ true → (if t then b else true) ≡ true
+where_so true b e = e
+where_so false b e = refl
+
+at_most : (a b : ℕ) → a ≤ b → nat_le a b ≡ true
+at_most a b e = grind (arith, nat_tests)
+
+all_charged : (c : Cat) (rows : List QuotaRow) → All (IsCharged c) rows → list_all (is_charged c) rows ≡ true
+all_charged c rows all = list_all-from_AllPass (is_charged c) rows (λ k row at. both _ _ (at_most _ _ (all k row at).0) (at_most _ _ (all k row at).1))
+
+nothing_open : (c : Cat) (chan : Option ℕ) → has_channel (closed c) 0 chan None ≡ true
+nothing_open c None = refl
+nothing_open c (Some chan) = refl
+
+knows_first : (x : Cmd) (seen : Seen) (c : Cat) → Accounted c → seen.channel ≡ None → seen.short ≡ None → knows 0 x seen (closed c) ≡ true
+knows_first x seen c accounted no_channel no_short = both _ _
+    (ap (λ k. has_channel (closed c) 0 (channel_of x) k) no_channel ∙ nothing_open c (channel_of x))
+    (both _ _ (ap (λ r. is_short (closed c) x r) no_short)
+    (both _ _ (where_so (changes_usage x) _ (all_charged (closed c) c.quota accounted.usage)) (where_so (may_ask x) true refl)))
+
+-- ---- what was seen
+
+-- nothing is seen, and nothing given, on blocks that spell a catalogue
+pub begins : (x : Cmd) (seen : Seen) (bs : List Block) (c : Cat) → Lawful x → IsSpelt bs c → Accounted c → IsGeometryBy bs (home_read (home_at bs)) seen.geometry
+    → seen.channel ≡ None → seen.locks ≡ [] → seen.blocks ≡ [] → HasNoSpace (space_of seen) → FitsOn x seen bs
+begins x seen bs c law s accounted g no_channel no_locks no_blocks none =
     let e : seen.geometry ≡ geometry_of (volume s.home bs) = subst (λ r. IsGeometryBy bs r seen.geometry) s.read g in
+    let own : Owners = owners_told (volume s.home bs) in
+    let given : things seen.clusters seen.number ≡ nothing = ap (λ n. things seen.clusters n) none.number ∙ ap (λ cs. things cs None) none.clusters in
     record {
       order = (seen_goes_on x law.searches).first seen no_locks no_blocks none;
-      own = owners_told (volume s.home bs);
-      cat = c;
-      on = record { spelt = subst (λ k. Spells k bs (owners_told (volume s.home bs)) c) (sym e) s.spelt; stands = subst (StandsIn bs) (sym no_blocks) tt };
+      node = 0;
+      own = own;
+      cat = closed c;
+      on = record {
+        spelt = subst (λ k. Spells k bs own (closed c)) (sym e) (opens_spelt (geometry_of (volume s.home bs)) bs own c [] s.spelt);
+        stands = subst (StandsIn bs) (sym no_blocks) tt;
+        stock = nothing;
+        outs = subst (λ o. Outs 0 own o nothing) (sym given) (s.outs 0);
+        known = knows_first x seen c accounted no_channel none.short;
+      };
     }
 
 pub locked : (x : Cmd) (seen : Seen) (bs : List Block) (name : LockName) (mode : Mode) → Lawful x → FitsOn x seen bs → IsNext x seen (need.Lock name mode) → FitsOn x (with_lock name mode seen) bs
-locked x seen bs name mode law f is =
-    record { order = (seen_goes_on x law.searches).granted seen name mode f.order is; own = f.own; cat = f.cat; on = record { spelt = f.on.spelt; stands = f.on.stands } }
+locked x seen bs name mode law f is = record {
+  order = (seen_goes_on x law.searches).granted seen name mode f.order is;
+  node = f.node;
+  own = f.own;
+  cat = f.cat;
+  on = record { spelt = f.on.spelt; stands = f.on.stands; stock = f.on.stock; outs = f.on.outs; known = f.on.known };
+}
 
 stands_more : (bs : List Block) (seen : List (ℕ × Block)) (l : ℕ) (b : Block) → StandsIn bs seen → slice_get bs l ≡ Some b → StandsIn bs (seen ++ (l, b) ∷ [])
 stands_more bs [] l b stands at = (at, tt)
 stands_more bs (s ∷ seen) l b stands at = (stands.0, stands_more bs seen l b stands.1 at)
 
 pub looked : (x : Cmd) (seen : Seen) (bs : List Block) (lbn : ℕ) (b : Block) → Lawful x → FitsOn x seen bs → IsLookAt lbn (need_of x seen) → slice_get bs lbn ≡ Some b → FitsOn x (with_block lbn b seen) bs
-looked x seen bs lbn b law f is at =
-    record { order = (seen_goes_on x law.searches).looked seen lbn b f.order is; own = f.own; cat = f.cat; on = record { spelt = f.on.spelt; stands = stands_more bs seen.blocks lbn b f.on.stands at } }
+looked x seen bs lbn b law f is at = record {
+  order = (seen_goes_on x law.searches).looked seen lbn b f.order is;
+  node = f.node;
+  own = f.own;
+  cat = f.cat;
+  on = record { spelt = f.on.spelt; stands = stands_more bs seen.blocks lbn b f.on.stands at; stock = f.on.stock; outs = f.on.outs; known = f.on.known };
+}

@@ -14,19 +14,24 @@ use crate::operation::Operation;
 use crate::seen::Seen;
 use lock_db::LockName;
 use plain_cat::{Clusters, Mode, NoMemory};
+use plain_vol::is_accounted;
 use std::alloc::Global;
 use vol_spell::{geometry, read_volume};
 use vol_words::Block;
 
-// What a command has seen when it has seen nothing, or none where the blocks have a fatal finding.
+// What a command has seen when it has seen nothing, or none where the blocks have a fatal finding, or their quotas are not in
+// order.
 fn begin<O: Operation>(alloc: Global, op: &O, blocks: &[Block]) -> Result<Option<Seen>, NoMemory>
     requires lawful { Lawful (O.cmd_is op.now) }
     requires size { IsSize (length blocks.now) }
     ensures { IfOk result (λ begun. IfSome begun (λ seen. FitsOn (O.cmd_is op.now) seen blocks.now)) }
 {
-    let Some(_cat) = read_volume(alloc, blocks)? else {
+    let Some(cat) = read_volume(alloc, blocks)? else {
         return Ok(None);
     };
+    if !is_accounted(&cat) {
+        return Ok(None);
+    }
     Ok(Some(Seen {
         geometry: geometry(blocks),
         channel: None,
@@ -90,9 +95,10 @@ fn meet<O: Operation>(
     }
 }
 
-/// What a command sees on these blocks until it makes its plan, and the plan. The blocks are 64 to 65,536. It is none where
-/// they have a fatal finding, or the command searches for space, or has not made its plan after 70,000 needs. An error says
-/// that memory ran out.
+/// What a command sees on these blocks until it makes its plan, and the plan. The blocks are 64 to 65,536, and no channel has
+/// anything open. It is none where they have a fatal finding, where the owner of a file has no quota row, where the usage of a
+/// quota row is not what its owner's files cost, or up to 1,000,000 blocks more, where the command searches for space, and
+/// where it has not made its plan after 70,000 needs. An error says that memory ran out.
 pub fn run_alone<O: Operation>(
     alloc: Global,
     op: &O,

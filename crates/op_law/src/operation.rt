@@ -28,6 +28,10 @@ pub trait Operation: Sized + Drop {
     fn cmd(&self) -> &Cmd
         ensures { result.now ≡ cmd_is self.now };
 
+    /// The command, where the operation is done with. It takes no memory.
+    fn into_cmd(self) -> Cmd
+        ensures { result ≡ cmd_is self };
+
     /// What the command needs next, by what it has seen. An error says that memory ran out.
     fn next(&self, alloc: Global, seen: &Seen) -> Result<Need, NoMemory>
         requires { FitsSeen (cmd_is self.now) seen.now }

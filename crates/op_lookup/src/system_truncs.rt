@@ -57,6 +57,10 @@ impl Operation for SystemTrunc {
         &self.cmd
     }
 
+    fn into_cmd(self) -> Cmd {
+        self.cmd
+    }
+
     #[tactic(auto, unfolding(op_law::specs::Needs::events_of))]
     fn next(&self, alloc: Global, seen: &Seen) -> Result<Need, NoMemory> {
         match &self.cmd {

@@ -29,6 +29,12 @@ impl Operation for XqpOp {
         }
     }
 
+    fn into_cmd(self) -> Cmd {
+        match self {
+            XqpOp::Lookup(op) => op.into_cmd(),
+        }
+    }
+
     fn next(&self, alloc: Global, seen: &Seen) -> Result<Need, NoMemory> {
         match self {
             XqpOp::Lookup(op) => op.next(alloc, seen),
