@@ -116,7 +116,7 @@ fn volume() -> [Block; 64] {
     b[43][3] = 0xf8;
     b[44] = block(MAIN);
     b[45] = block(MORE);
-    put_bytes(&mut b[46], 0, &[1, 0, 0, 0, 0, 0, 0, 0, 61, 0, 0, 0, 200]);
+    put_bytes(&mut b[46], 0, &[1, 0, 0, 0, 0, 0, 0, 0, 67, 0, 0, 0, 200]);
     put_bytes(&mut b[46], 32, &[1, 0, 0, 0, 4, 0, 1, 0, 3, 0, 0, 0, 200]);
     b[48] = block(b"\xff\xff");
     b[49] = block(b"\xff\xff");
