@@ -1,5 +1,5 @@
 -- What a command alone on the blocks of a volume has seen, as its needs are met.
-use Rattle.std.proofs.Common.{◌≡◌, ◌≤◌, ◌∙◌, ℕ, Bool, true, false, List, [], ◌∷◌, ◌++◌, Option, Some, None, Result, Ok, Err, length, slice_get, refl, sym, ap, subst, arith}
+use Rattle.std.proofs.Common.{◌≡◌, ◌≤◌, ◌∙◌, ℕ, Bool, true, false, List, [], ◌∷◌, ◌++◌, Option, Some, None, slice_get, refl, sym, ap, subst, arith}
 use Rattle.std.specs.Prelude.{◌&&◌, All, nat_le, if◌then◌else◌}
 use Rattle.std.specs.List.{list_all}
 use Rattle.std.proofs.lemmas.Bool.Decides.{nat_tests}
@@ -14,20 +14,17 @@ use Rattle.plain_cat.specs.declared.cat.QuotaRow.{QuotaRow}
 use Rattle.plain_vol.specs.Accounts.{IsCharged, Accounted}
 use Rattle.vol_owners.specs.Lists.{StandsIn}
 use Rattle.vol_owners.specs.Owners.{Owners, nothing, Outs}
-use Rattle.vol_parts.specs.declared.geometry.Geometry.{Geometry}
-use Rattle.vol_parts.specs.Findings.{home_at, CatOf}
+use Rattle.vol_parts.specs.Findings.{home_at}
 use Rattle.vol_parts.specs.Volumes.{volume, geometry_of}
 use Rattle.vol_faults.specs.Free.{IsGeometryBy}
-use Rattle.vol_faults.specs.Conditions.{IsSize}
 use Rattle.vol_spell.specs.Spelling.{Spells}
 use Rattle.vol_spell.specs.Accepting.{IsSpelt, owners_told}
 use Rattle.vol_under.proofs.Endings.{opens_spelt}
 use Rattle.op_law.specs.declared.need.Need.TheVariants as need
 use Rattle.op_law.specs.declared.seen.Seen.{Seen}
-use Rattle.op_law.specs.declared.seen.Chan.{Chan}
 use Rattle.op_law.specs.Events.{space_of, HasNoSpace}
 use Rattle.op_law.specs.Needs.{need_of, IsNext}
-use Rattle.op_law.specs.Knows.{channel_of, has_channel, is_short, may_ask, changes_usage, is_charged, usages_fit, opens_hold, knows}
+use Rattle.op_law.specs.Knows.{channel_of, has_channel, is_short, may_ask, changes_usage, is_charged, knows}
 use Rattle.op_law.specs.Fits.{things, FitsOn, FitsSeen}
 use Rattle.op_law.specs.Going.{with_lock, with_block, IsLookAt}
 use Rattle.op_law.specs.Laws.{Lawful}

@@ -1,5 +1,5 @@
 -- The law of an operation.
-use Rattle.std.specs.Prelude.{◌≡◌, ◌≤◌, ◌<◌, ◌-◌, ◌&&◌, not, nat_le, ℕ, Bool, true, List, [], ◌∷◌, Option, Some, None, length, map, filter, take}
+use Rattle.std.specs.Prelude.{◌≡◌, ◌≤◌, ◌<◌, ◌&&◌, not, nat_le, ℕ, Bool, true, List, [], ◌∷◌, Option, Some, None, length, map, filter, take}
 use Rattle.vol_words.specs.Fields.{Block}
 use Rattle.lock_db.specs.declared.name.LockName.{LockName}
 use Rattle.plain_cat.specs.Modes.{rank}

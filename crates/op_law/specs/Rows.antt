@@ -1,5 +1,5 @@
 -- What commands have in common: a file's lock and its header, and the blocks of a directory.
-use Rattle.std.specs.Prelude.{◌==◌, ◌&&◌, not, nat_le, ℕ, Bool, List, [], ◌∷◌, Option, Some, None, Result, Ok, Err, map, if◌then◌else◌}
+use Rattle.std.specs.Prelude.{◌==◌, ◌&&◌, not, nat_le, ℕ, Bool, List, [], ◌∷◌, Option, Some, None, Result, Ok, Err, if◌then◌else◌}
 use Rattle.vol_words.specs.Fields.{Block}
 use Rattle.fx_dir.specs.Directory.{directory}
 use Rattle.fx_header.specs.declared.slot.Hdr.{Hdr}

@@ -64,5 +64,7 @@ fn a_refusal_goes_through_the_set(rt: HostRuntime) -> Result<(), Fail> {
 fn an_operation_tells_its_command(rt: HostRuntime) -> Result<(), Fail> {
     let op = XqpOp::of(Cmd::Stat { file: fid(10, 1) });
     assert!(&rt; matches!(op.cmd(), Cmd::Stat { file } if file.num == 10 && file.seq == 1));
+    let cmd = op.into_cmd();
+    assert!(&rt; matches!(&cmd, Cmd::Stat { file } if file.num == 10 && file.seq == 1));
     Ok(())
 }
