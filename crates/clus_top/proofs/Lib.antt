@@ -1,5 +1,6 @@
-pub mod Spelt
-pub mod Answered
+pub mod Looks
+pub mod Quiet
+pub mod Walked
 pub mod Replayed
 pub mod Reported
 pub mod Analyzed

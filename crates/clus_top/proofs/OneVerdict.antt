@@ -67,6 +67,7 @@ alone_long bytes size bs long (status.NotAccepted g) v h = absurd (too_long byte
 alone_long bytes size bs long status.Findings v h = absurd h
 alone_long bytes size bs long status.OutFault v h = absurd (false≢true v)
 alone_long bytes size bs long status.NoMemory v h = absurd (false≢true v)
+alone_long bytes size bs long status.Unfinished v h = absurd (false≢true v)
 alone_long bytes size bs long (status.BadInit x) v h = absurd h
 
 alone_bad : (bytes : List ℕ) (size : ℕ) (bs : List Block) (n : ℕ) → SayOneThing BUILT (lines_of bytes) → IsBad n bytes → AloneInRun bytes size bs (status.BadScript n)
@@ -82,6 +83,7 @@ alone_bad bytes size bs n one bad (status.NotAccepted g) v h = absurd (one.good 
 alone_bad bytes size bs n one bad status.Findings v h = absurd h
 alone_bad bytes size bs n one bad status.OutFault v h = absurd (false≢true v)
 alone_bad bytes size bs n one bad status.NoMemory v h = absurd (false≢true v)
+alone_bad bytes size bs n one bad status.Unfinished v h = absurd (false≢true v)
 alone_bad bytes size bs n one bad (status.BadInit x) v h = absurd h
 
 alone_over : (bytes : List ℕ) (size : ℕ) (bs : List Block) → SayOneThing BUILT (lines_of bytes) → IsOverfull bytes → AloneInRun bytes size bs status.TooMany
@@ -97,6 +99,7 @@ alone_over bytes size bs one over (status.NotAccepted g) v h = absurd (one.withi
 alone_over bytes size bs one over status.Findings v h = absurd h
 alone_over bytes size bs one over status.OutFault v h = absurd (false≢true v)
 alone_over bytes size bs one over status.NoMemory v h = absurd (false≢true v)
+alone_over bytes size bs one over status.Unfinished v h = absurd (false≢true v)
 alone_over bytes size bs one over (status.BadInit x) v h = absurd h
 
 alone_size : (bytes : List ℕ) (size : ℕ) (bs : List Block) → SayOneThing BUILT (lines_of bytes) → IsGood bytes → IsOutside size → AloneInRun bytes size bs (status.BadSize size)
@@ -112,6 +115,7 @@ alone_size bytes size bs one good out (status.NotAccepted g) v h = absurd (outsi
 alone_size bytes size bs one good out status.Findings v h = absurd h
 alone_size bytes size bs one good out status.OutFault v h = absurd (false≢true v)
 alone_size bytes size bs one good out status.NoMemory v h = absurd (false≢true v)
+alone_size bytes size bs one good out status.Unfinished v h = absurd (false≢true v)
 alone_size bytes size bs one good out (status.BadInit x) v h = absurd h
 
 alone_found : (bytes : List ℕ) (size : ℕ) (bs : List Block) (f : Finding) → SayOneThing BUILT (lines_of bytes) → OneList bs → IsGood bytes → IsInside size → IsFirstFound bs f → AloneInRun bytes size bs (status.NotAccepted f)
@@ -127,6 +131,7 @@ alone_found bytes size bs f one list good inside found (status.NotAccepted g) v 
 alone_found bytes size bs f one list good inside found status.Findings v h = absurd h
 alone_found bytes size bs f one list good inside found status.OutFault v h = absurd (false≢true v)
 alone_found bytes size bs f one list good inside found status.NoMemory v h = absurd (false≢true v)
+alone_found bytes size bs f one list good inside found status.Unfinished v h = absurd (false≢true v)
 alone_found bytes size bs f one list good inside found (status.BadInit x) v h = absurd h
 
 alone_good : (bytes : List ℕ) (size : ℕ) (bs : List Block) → SayOneThing BUILT (lines_of bytes) → OneList bs → IsGood bytes → IsInside size → Accepts bs → AloneInRun bytes size bs status.Ok
@@ -142,6 +147,7 @@ alone_good bytes size bs one list good inside none (status.NotAccepted g) v h = 
 alone_good bytes size bs one list good inside none status.Findings v h = absurd h
 alone_good bytes size bs one list good inside none status.OutFault v h = absurd (false≢true v)
 alone_good bytes size bs one list good inside none status.NoMemory v h = absurd (false≢true v)
+alone_good bytes size bs one list good inside none status.Unfinished v h = absurd (false≢true v)
 alone_good bytes size bs one list good inside none (status.BadInit x) v h = absurd h
 
 size_alone : (size : ℕ) (bs : List Block) → IsOutside size → AloneInAnalysis size bs (status.BadSize size)
@@ -157,6 +163,7 @@ size_alone size bs out (status.NotAccepted g) v h = absurd h
 size_alone size bs out status.Findings v h = absurd (outside size h.0 out)
 size_alone size bs out status.OutFault v h = absurd (false≢true v)
 size_alone size bs out status.NoMemory v h = absurd (false≢true v)
+size_alone size bs out status.Unfinished v h = absurd (false≢true v)
 size_alone size bs out (status.BadInit x) v h = absurd h
 
 found_alone : (size : ℕ) (bs : List Block) (f : Finding) → OneList bs → IsInside size → IsFirstFound bs f → AloneInAnalysis size bs status.Findings
@@ -172,6 +179,7 @@ found_alone size bs f list inside found (status.NotAccepted g) v h = absurd h
 found_alone size bs f list inside found status.Findings v h = refl
 found_alone size bs f list inside found status.OutFault v h = absurd (false≢true v)
 found_alone size bs f list inside found status.NoMemory v h = absurd (false≢true v)
+found_alone size bs f list inside found status.Unfinished v h = absurd (false≢true v)
 found_alone size bs f list inside found (status.BadInit x) v h = absurd h
 
 none_alone : (size : ℕ) (bs : List Block) → OneList bs → IsInside size → Accepts bs → AloneInAnalysis size bs status.Ok
@@ -187,6 +195,7 @@ none_alone size bs list inside none (status.NotAccepted g) v h = absurd h
 none_alone size bs list inside none status.Findings v h = absurd (unfound bs h.1.first list none h.1.found)
 none_alone size bs list inside none status.OutFault v h = absurd (false≢true v)
 none_alone size bs list inside none status.NoMemory v h = absurd (false≢true v)
+none_alone size bs list inside none status.Unfinished v h = absurd (false≢true v)
 none_alone size bs list inside none (status.BadInit x) v h = absurd h
 
 words_alone : (other : Status) → is_verdict other ≡ true → IsWordsDue other → other ≡ status.BadWords
@@ -202,6 +211,7 @@ words_alone (status.NotAccepted g) v h = absurd h
 words_alone status.Findings v h = absurd h
 words_alone status.OutFault v h = absurd h
 words_alone status.NoMemory v h = absurd (false≢true v)
+words_alone status.Unfinished v h = absurd (false≢true v)
 words_alone (status.BadInit x) v h = absurd h
 
 -- a good script, and an image of the right size
@@ -298,6 +308,7 @@ size_alone_in cluster files label size out (status.NotAccepted g) v h = absurd h
 size_alone_in cluster files label size out status.Findings v h = absurd h
 size_alone_in cluster files label size out status.OutFault v h = absurd (false≢true v)
 size_alone_in cluster files label size out status.NoMemory v h = absurd (false≢true v)
+size_alone_in cluster files label size out status.Unfinished v h = absurd (false≢true v)
 size_alone_in cluster files label size out (status.BadInit g) v h = absurd (outside size h.0 out)
 
 refused_alone : (cluster files : ℕ) (label : List ℕ) (size : ℕ) (f : InitFault) → IsInside size → refusal (sized cluster files size) label ≡ Some f → AloneInInit cluster files label size (status.BadInit f)
@@ -313,6 +324,7 @@ refused_alone cluster files label size f inside is (status.NotAccepted g) v h = 
 refused_alone cluster files label size f inside is status.Findings v h = absurd h
 refused_alone cluster files label size f inside is status.OutFault v h = absurd (false≢true v)
 refused_alone cluster files label size f inside is status.NoMemory v h = absurd (false≢true v)
+refused_alone cluster files label size f inside is status.Unfinished v h = absurd (false≢true v)
 refused_alone cluster files label size f inside is (status.BadInit g) v h = ap status.BadInit (same_fault (refusal (sized cluster files size) label) f g is h.1)
 
 possible_alone : (cluster files : ℕ) (label : List ℕ) (size : ℕ) → IsPossible cluster files label size → AloneInInit cluster files label size status.Ok
@@ -328,6 +340,7 @@ possible_alone cluster files label size may (status.NotAccepted g) v h = absurd 
 possible_alone cluster files label size may status.Findings v h = absurd h
 possible_alone cluster files label size may status.OutFault v h = absurd (false≢true v)
 possible_alone cluster files label size may status.NoMemory v h = absurd (false≢true v)
+possible_alone cluster files label size may status.Unfinished v h = absurd (false≢true v)
 possible_alone cluster files label size may (status.BadInit g) v h = absurd (no_fault (refusal (sized cluster files size) label) g may.possible h.1)
 
 -- what is refused is told, and else the image is formatted

@@ -1,118 +1,71 @@
--- The history of a run replays, and is whole.
-use Rattle.std.proofs.Common.{◌≡◌, ◌∙◌, ◌++◌, ℕ, Bool, true, false, List, [], ◌∷◌, Option, Some, None, map, length, slice_get, refl, sym, ap, subst, arith, append_assoc}
+-- A history of commands that only look leads back to its catalogue.
+use Rattle.std.proofs.Common.{◌≡◌, ◌∙◌, ◌++◌, ℕ, Bool, true, false, List, [], ◌∷◌, Option, Some, None, refl, sym, ap}
 use Rattle.std.specs.Prelude.{if◌then◌else◌}
-use Rattle.std.specs.List.{list_all, list_any}
-use Rattle.std.proofs.lemmas.Bool.{false≢true, and_parts}
-use Rattle.std.proofs.lemmas.List.{map-append}
-use Rattle.std.proofs.lemmas.List.Folds.{list_all-append}
-use Rattle.std.proofs.lemmas.Option.{slice_get_past}
+use Rattle.std.specs.List.{list_any}
 use Rattle.plain_cat.specs.declared.ids.Fid.{Fid}
+use Rattle.plain_cat.specs.declared.command.Cmd.{Cmd}
+use Rattle.plain_cat.specs.declared.command.Cmd.TheVariants as cmd
+use Rattle.plain_cat.specs.declared.reply.Reply.{Reply}
+use Rattle.plain_cat.specs.declared.reply.Refusal.TheVariants as refusal
 use Rattle.plain_cat.specs.declared.cat.Cat.{Cat}
 use Rattle.plain_cat.specs.declared.cat.File.{File}
-use Rattle.plain_cat.specs.declared.reply.Refusal.TheVariants as refusal
-use Rattle.plain_cat.specs.declared.history.Entry.{Entry}
-use Rattle.plain_cat.specs.declared.script.FileRef.TheVariants.{Fixed, Reg}
-use Rattle.plain_cat.specs.declared.script.LineCmd.{LineCmd}
-use Rattle.plain_cat.specs.declared.script.LineCmd.TheVariants as line
-use Rattle.plain_cat.specs.declared.script.Line.{Line}
 use Rattle.plain_cat.specs.declared.script.Script.{Script}
-use Rattle.plain_vol.specs.Lookups.{versions, entry_of, found, live}
-use Rattle.plain_vol.specs.Answers.{told, refused, in_directory_file, outcome, lookup_outcome, Answer}
-use Rattle.plain_vol.specs.Own.{newborn, filled, past, lines_of, close_from, or_close, next_command, OwnFrom, Whole, Killed}
+use Rattle.plain_cat.specs.declared.history.Entry.{Entry}
+use Rattle.plain_cat.specs.declared.history.Entry.TheVariants.{Done, Died, Mended}
+use Rattle.plain_vol.specs.declared.outcome.Outcome.{Outcome}
+use Rattle.plain_vol.specs.Lookups.{live}
+use Rattle.plain_vol.specs.Answers.{told, refused, in_directory_file, stat_of, outcome, lookup_outcome, list_outcome, stat_outcome, Answer}
+use Rattle.plain_vol.specs.Own.{Killed}
 use Rattle.plain_vol.specs.Replaying.{ReplaysFrom, Replays}
-use Rattle.plain_vol.proofs.LawSteps.{pick_exists}
-use Rattle.clus_top.specs.Runs.{is_mending, is_main_lookup, is_look_up, AreLookUps, reply_to, answer_to, history_of}
-use Rattle.clus_top.proofs.Answered.{unregistered, IsLater, answered, next_line}
+use Rattle.op_lookup.specs.Kinds.{IsLook}
+use Rattle.clus_top.specs.Runs.{is_mending}
+use Rattle.clus_top.proofs.Quiet.{AreLooked}
 
--- a look-up leaves the catalogue
-stays : (c : Cat) (o : Option File) (name : List ℕ) (ver : ℕ)
-    → (in_directory_file c o (λ d. told c (found (entry_of (versions name d.entries) ver)))).after ≡ c
-stays c None name ver = refl
-stays c (Some d) name ver = by_kind d.dir where
-  by_kind : (b : Bool) → (if b then told c (found (entry_of (versions name d.entries) ver)) else refused c refusal.NotDir).after ≡ c
-  by_kind true = refl
-  by_kind false = refl
+-- a reply about a directory leaves the catalogue
+directory_stays : (c : Cat) (o : Option File) (tell : File → Reply) → (in_directory_file c o (λ d. told c (tell d))).after ≡ c
+directory_stays c None tell = refl
+directory_stays c (Some d) tell = by d.dir where
+  by : (t : Bool) → (if t then told c (tell d) else refused c refusal.NotDir).after ≡ c
+  by true = refl
+  by false = refl
 
-looked_up : (c : Cat) (dir : Fid) (name : List ℕ) (ver : ℕ)
-    → lookup_outcome c dir name ver ≡ record { reply = (lookup_outcome c dir name ver).reply; after = c }
-unfolding lookup_outcome
-looked_up c dir name ver =
-    let o = lookup_outcome c dir name ver in
-    ap (λ (d : Cat). record { reply = o.reply; after = d }) (stays c (live c dir) name ver)
+stat_stays : (c : Cat) (o : Option File) → (stat_of c o).after ≡ c
+stat_stays c None = refl
+stat_stays c (Some f) = refl
 
-answers : (c : Cat) (node : ℕ) (cmd : LineCmd) → is_main_lookup cmd ≡ true → Answer c node (filled [] cmd) (reply_to c cmd) c
-unfolding outcome filled
-answers c node (line.Lookup reg (Fixed fid) name ver) h = let p = pick_exists c in (p.0, p.1, looked_up c fid name ver)
-answers c node (line.Lookup reg (Reg r) name ver) h = absurd (false≢true h)
-answers c node cmd h = absurd (false≢true h)
+-- an answer to a command that only looks leaves it
+look_stays : (x : Cmd) → IsLook x → (c : Cat) (node : ℕ) (new : Option ℕ) → (outcome c node x new).after ≡ c
+unfolding outcome lookup_outcome list_outcome stat_outcome
+look_stays (cmd.Lookup reg dir name ver) look c node new = directory_stays c (live c dir) _
+look_stays (cmd.List dir) look c node new = directory_stays c (live c dir) _
+look_stays (cmd.Stat file) look c node new = stat_stays c (live c file)
+look_stays x look c node new = absurd look
 
-replays_from : (s : Script) (h : List Entry) (o : Cat) (ls : List Line) → AreLookUps ls
-    → ReplaysFrom s h o (map (answer_to o) ls) o
-replays_from s h o [] ok = refl
-replays_from s h o (l ∷ ls) ok =
-    let parts = and_parts (is_look_up l) (list_all is_look_up ls) ok in
-    (o, answers o l.node l.cmd parts.0, replays_from s (h ++ (answer_to o l ∷ [])) o ls parts.1)
+answer_stays : (x : Cmd) → IsLook x → (c : Cat) (node : ℕ) (r : Reply) (d : Cat) → Answer c node x r d → d ≡ c
+answer_stays x look c node r d answer = sym (ap (λ (o : Outcome). o.after) answer.2) ∙ look_stays x look c node answer.0
 
-pub replays : (s : Script) (o : Cat) → AreLookUps s.lines → Replays o s (history_of o s.lines) o
-replays s o ok = replays_from s [] o s.lines ok
+-- and so does a history of such answers
+stays_from : (s : Script) (h : List Entry) (c : Cat) (es : List Entry) (d : Cat) → AreLooked es → ReplaysFrom s h c es d → d ≡ c
+stays_from s h c [] d looked e = e
+stays_from s h c (Done n x r ∷ es) d looked next =
+    stays_from s (h ++ Done n x r ∷ []) next.0 es d looked.1 next.2 ∙ answer_stays x looked.0 c n r next.0 next.1
+stays_from s h c (Died n st k ns ∷ es) d looked next = absurd looked.0
+stays_from s h c (Mended m ∷ es) d looked next = absurd looked.0
 
--- what a node has after the answers to lines
-after : (o : Cat) (node : ℕ) (ls : List Line) → AreLookUps ls → IsLater newborn (length (lines_of node ls)) (past node (map (answer_to o) ls))
-after o node ls ok = answered o node newborn ls ok
+pub looked_stays : (c : Cat) (s : Script) (h : List Entry) (d : Cat) → AreLooked h → Replays c s h d → d ≡ c
+looked_stays c s h d looked replays = stays_from s [] c h d looked replays
 
-alive : (o : Cat) (node : ℕ) (ls : List Line) → AreLookUps ls → (past node (map (answer_to o) ls)).dead ≡ false
-unfolding newborn
-alive o node ls ok = (after o node ls ok).dead
-
-so_many : (o : Cat) (node : ℕ) (ls : List Line) → AreLookUps ls → (past node (map (answer_to o) ls)).answered ≡ length (lines_of node ls)
-unfolding newborn
-so_many o node ls ok = omega (arith, (after o node ls ok).answered)
-
-none_open : (o : Cat) (node : ℕ) (ls : List Line) → AreLookUps ls → close_from 1 (past node (map (answer_to o) ls)).channels ≡ None
-unfolding newborn
-none_open o node ls ok = ap (close_from 1) (after o node ls ok).channels
-
--- each line is its node's next command
-due : (s : Script) (o : Cat) (before : List Line) (l : Line) (ls : List Line) → s.lines ≡ before ++ (l ∷ ls) → AreLookUps before → is_look_up l ≡ true
-    → next_command s l.node (map (answer_to o) before) ≡ Some (filled [] l.cmd)
-due s o before l ls e ok is =
-    let p = past l.node (map (answer_to o) before) in
-    let line : slice_get (lines_of l.node s.lines) p.answered ≡ Some l.cmd = rw (e, so_many o l.node before ok) (next_line before l ls) in
-    ap (or_close p) line ∙ ap Some (unregistered p.registers l.cmd is)
-
-own_from : (s : Script) (o : Cat) (before ls : List Line) → s.lines ≡ before ++ ls → AreLookUps before → AreLookUps ls
-    → OwnFrom s (map (answer_to o) before) (map (answer_to o) ls)
-own_from s o before [] e was ok = tt
-own_from s o before (l ∷ ls) e was ok =
-    let parts = and_parts (is_look_up l) (list_all is_look_up ls) ok in
-    let e2 : s.lines ≡ (before ++ (l ∷ [])) ++ ls = e ∙ sym (append_assoc before (l ∷ []) ls) in
-    let was2 : AreLookUps (before ++ (l ∷ [])) = rw (list_all-append is_look_up before (l ∷ []), was, parts.0) refl in (
-      (alive o l.node before was, due s o before l ls e was parts.0),
-      subst (λ h. OwnFrom s h (map (answer_to o) ls)) (map-append (answer_to o) before (l ∷ [])) (own_from s o (before ++ (l ∷ [])) ls e2 was2 parts.1),
-    )
-
-no_more : (s : Script) (o : Cat) (node : ℕ) → AreLookUps s.lines → next_command s node (history_of o s.lines) ≡ None
-no_more s o node ok =
-    let p = past node (history_of o s.lines) in
-    let over : slice_get (lines_of node s.lines) p.answered ≡ None = slice_get_past (lines_of node s.lines) p.answered (omega (arith, so_many o node s.lines ok)) in
-    ap (or_close p) over ∙ none_open o node s.lines ok
-
-pub whole : (s : Script) (o : Cat) → AreLookUps s.lines → Whole s (history_of o s.lines)
-whole s o ok = (own_from s o [] s.lines refl refl ok, λ node lives. no_more s o node ok)
-
--- nobody dies
-answers_kill : (s : Script) (o : Cat) (ls : List Line) → Killed s (map (answer_to o) ls)
-answers_kill s o [] = tt
-answers_kill s o (l ∷ ls) = (tt, answers_kill s o ls)
-
-pub killed : (s : Script) (o : Cat) → Killed s (history_of o s.lines)
-killed s o = answers_kill s o s.lines
+-- nobody dies in it
+pub looked_killed : (s : Script) (h : List Entry) → AreLooked h → Killed s h
+looked_killed s [] looked = tt
+looked_killed s (Done n x r ∷ es) looked = (tt, looked_killed s es looked.1)
+looked_killed s (Died n st k ns ∷ es) looked = absurd looked.0
+looked_killed s (Mended m ∷ es) looked = absurd looked.0
 
 -- and nothing is mended
-answers_mend : (o : Cat) (ls : List Line) → list_any is_mending (map (answer_to o) ls) ≡ false
+pub looked_unmended : (h : List Entry) → AreLooked h → list_any is_mending h ≡ false
 unfolding is_mending
-answers_mend o [] = refl
-answers_mend o (l ∷ ls) = answers_mend o ls
-
-pub unmended : (s : Script) (o : Cat) → list_any is_mending (history_of o s.lines) ≡ false
-unmended s o = answers_mend o s.lines
+looked_unmended [] looked = refl
+looked_unmended (Done n x r ∷ es) looked = looked_unmended es looked.1
+looked_unmended (Died n st k ns ∷ es) looked = absurd looked.0
+looked_unmended (Mended m ∷ es) looked = absurd looked.0

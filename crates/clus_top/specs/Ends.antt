@@ -1,5 +1,6 @@
 -- How the steps of a job end.
-use Rattle.std.specs.Prelude.{◌≡◌, ◌≤◌, ℕ, List, [], ◌∷◌, Option, Some, IfSome, length}
+use Rattle.std.specs.Prelude.{◌≡◌, ◌≤◌, ℕ, false, List, [], ◌∷◌, Option, Some, IfSome, length}
+use Rattle.std.specs.List.{list_any}
 use Rattle.vol_words.specs.Fields.{Block}
 use Rattle.vol_words.specs.Faults.{Rose}
 use Rattle.blk_drive.specs.Images.{IsInside, IsOutside}
@@ -7,6 +8,14 @@ use Rattle.blk_drive.specs.declared.mirror.LoadFault.{LoadFault}
 use Rattle.blk_drive.specs.declared.mirror.LoadFault.TheVariants as load
 use Rattle.plain_cat.specs.declared.cat.Cat.{Cat}
 use Rattle.plain_cat.specs.declared.script.Script.{Script}
+use Rattle.plain_cat.specs.declared.history.Entry.{Entry}
+use Rattle.plain_vol.specs.Own.{Whole, Killed}
+use Rattle.plain_vol.specs.Replaying.{Replays}
+use Rattle.core_state.specs.declared.mounting.MountFault.{MountFault}
+use Rattle.core_state.specs.declared.mounting.MountFault.TheVariants as mount
+use Rattle.core_state.specs.Worlds.{Plain}
+use Rattle.core_state.specs.Mounting.{IsMounted}
+use Rattle.run_engine.specs.Walks.{played, budget_of, IsSpent}
 use Rattle.vol_parts.specs.declared.finding.Finding.{Finding}
 use Rattle.vol_parts.specs.Findings.{AreFindings, Accepts, CatOf}
 use Rattle.run_script.specs.declared.built.TheConstants.{BUILT}
@@ -15,11 +24,11 @@ use Rattle.run_script.specs.Spelling.{SpellsScript}
 use Rattle.vol_analyze.specs.Judging.{IsFirstFound}
 use Rattle.clus_top.specs.declared.status.Status.{Status}
 use Rattle.clus_top.specs.declared.status.Status.TheVariants as status
-use Rattle.clus_top.specs.Runs.{report_text, history_of}
+use Rattle.clus_top.specs.Runs.{is_mending, report_text, IsUnfinished}
 use Rattle.vol_init.specs.declared.fault.InitFault.{InitFault}
 use Rattle.vol_init.specs.declared.fault.InitFault.TheVariants as fault
 use Rattle.vol_init.specs.Refusals.{refusal}
-use Rattle.clus_top.specs.Statuses.{IsTooLong, IsBad, IsOverfull, IsGood, sized}
+use Rattle.clus_top.specs.Statuses.{IsTooLong, IsBad, IsOverfull, IsGood, IsAccepted, sized}
 
 -- a text within its limit spells this script
 pub record SpellsWithin (script : Script) (bytes : List ℕ) : Type 0 where
@@ -35,18 +44,37 @@ IsScriptEnd left before now status.TooMany = IfSome left IsOverfull
 IsScriptEnd left before now status.NoMemory = Unit {0}
 IsScriptEnd left before now s = ⊥
 
--- why the blocks of a volume gave no report
-abbrev pub IsVolumeEnd : List Block → Status → Type 0
-IsVolumeEnd bs (status.NotAccepted f) = IsFirstFound bs f
-IsVolumeEnd bs status.NoMemory = Unit {0}
-IsVolumeEnd bs s = ⊥
-
 -- the report of a script on the catalogue that blocks tell, in which nothing is found
 pub record IsReportIn (script : Script) (bs : List Block) (text : List ℕ) : Type 0 where
   pub opening : Cat
+  pub history : List Entry
+  pub after : Cat
   pub accepted : Accepts bs
   pub told : CatOf bs opening
-  pub written : text ≡ report_text (history_of opening script.lines) opening
+  pub replayed : Replays opening script history after
+  pub whole : Whole script history
+  pub killed : Killed script history
+  pub unmended : list_any is_mending history ≡ false
+  pub written : text ≡ report_text history after
+
+-- a run of a script on these blocks that cannot end
+pub record IsUnfinishedIn (script : Script) (bs : List Block) : Type 0 where
+  pub start : Plain
+  pub stopped : Plain
+  pub mounted : IsMounted bs script start
+  pub spent : IsSpent (budget_of start) (played script.plays start) stopped
+
+-- Why a script gave no report on the blocks of a volume. So far its commands only look: no block is written, and no write fails.
+abbrev pub IsStopIn : Script → List Block → Status → Type 0
+IsStopIn script bs (status.NotAccepted f) = IsFirstFound bs f
+IsStopIn script bs status.NoMemory = Unit {0}
+IsStopIn script bs status.Unfinished = Accepts bs × IsUnfinishedIn script bs
+IsStopIn script bs s = ⊥
+
+-- the status of a mount
+abbrev pub mount_status : MountFault → Status
+mount_status (mount.NotAccepted f) = status.NotAccepted f
+mount_status mount.NoMemory = status.NoMemory
 
 -- the status of a load
 abbrev pub load_status : LoadFault → Status
@@ -64,6 +92,7 @@ IsRunEnd left size told read reading had has status.ImageFault = IfSome left IsG
 IsRunEnd left size told read reading had has (status.BadSize n) = IfSome left IsGood × (n ≡ size) × IsOutside size
 IsRunEnd left size told read reading had has (status.NotAccepted f) = IfSome left IsGood × IsInside size × IfSome told (λ bs. IsFirstFound bs f)
 IsRunEnd left size told read reading had has status.NoMemory = Unit {0}
+IsRunEnd left size told read reading had has status.Unfinished = IfSome left IsGood × IsAccepted size told × IfSome left (λ bytes. IfSome told (IsUnfinished bytes))
 IsRunEnd left size told read reading had has s = ⊥
 
 -- these are the findings of the blocks

@@ -22,7 +22,7 @@ use Rattle.vol_init.specs.declared.fault.InitFault.{InitFault}
 use Rattle.vol_init.specs.declared.fault.InitFault.TheVariants as fault
 use Rattle.vol_init.specs.Refusals.{refusal}
 use Rattle.clus_top.specs.Words.{Wanted, Run, Analyze, Init}
-use Rattle.clus_top.specs.Runs.{IsReport}
+use Rattle.clus_top.specs.Runs.{IsReport, IsUnfinished}
 
 -- the number of a status
 abbrev pub status_code : Status → ℕ
@@ -38,6 +38,7 @@ status_code (status.NotAccepted f) = 5
 status_code status.Findings = 5
 status_code status.OutFault = 6
 status_code status.NoMemory = 7
+status_code status.Unfinished = 8
 status_code (status.BadInit f) = 9
 
 -- why an image is not formatted
@@ -63,6 +64,7 @@ status_text (status.NotAccepted f) = codes "not accepted: " ++ (finding_text f +
 status_text status.Findings = []
 status_text status.OutFault = []
 status_text status.NoMemory = codes "no memory" ++ newline
+status_text status.Unfinished = codes "unfinished" ++ newline
 status_text (status.BadInit f) = init_fault_text f ++ newline
 
 -- ---- scripts
@@ -116,6 +118,7 @@ IsRunDue left size told (status.NotAccepted f) = IfSome left IsGood × IsInside 
 IsRunDue left size told status.Findings = ⊥
 IsRunDue left size told status.OutFault = IfSome left IsGood × IsAccepted size told
 IsRunDue left size told status.NoMemory = Unit {0}
+IsRunDue left size told status.Unfinished = IfSome left IsGood × IsAccepted size told × IfSome left (λ bytes. IfSome told (IsUnfinished bytes))
 IsRunDue left size told (status.BadInit f) = ⊥
 
 -- Of an analysis. The order is image read, size, findings, output.

@@ -6,12 +6,13 @@ use Rattle.clus_top.specs.declared.status.Status.TheVariants as status
 use Rattle.clus_top.specs.Words.{Wanted}
 use Rattle.clus_top.specs.Statuses.{IsDue}
 
--- a status that speaks of what came in alone: no fault, and no want of memory
+-- a status that speaks of what came in alone: no fault, no want of memory, and no want of turns
 abbrev pub is_verdict : Status → Bool
 is_verdict status.ScriptFault = false
 is_verdict status.ImageFault = false
 is_verdict status.OutFault = false
 is_verdict status.NoMemory = false
+is_verdict status.Unfinished = false
 is_verdict s = true
 
 -- of a job, a script and blocks that are told one such status is due, and no other one

@@ -3,9 +3,8 @@
 
 mod analysis;
 mod format;
-mod history;
-mod report;
 mod run;
+mod script;
 mod status;
 mod tell;
 mod theorems;
@@ -18,5 +17,7 @@ pub use top::{Finished, vmsclus};
 
 #[cfg(test)]
 mod tests;
+#[cfg(test)]
+mod tree;
 #[cfg(test)]
 mod worked_lines;

@@ -1,56 +1,92 @@
 ghost use Rattle.std.specs.Prelude.{◌≡◌, ◌≤◌, IfOk, IfErr, IfSome, length};
 ghost use Rattle.vol_words.specs.Faults.{Rose};
 ghost use Rattle.blk_drive.specs.Images.{IsInside};
-ghost use Rattle.clus_top.specs.Runs.{AreLookUps};
+ghost use Rattle.plain_cat.specs.InForm.{InForm};
+ghost use Rattle.plain_vol.specs.Lookups.{free_clusters};
+ghost use Rattle.run_script.specs.Table.{AreLooks};
+ghost use Rattle.core_state.specs.Images.{IsTold};
+ghost use Rattle.core_state.specs.Mounting.{IsMounted};
+ghost use Rattle.run_engine.specs.Reports.{report_bytes};
 ghost use Rattle.clus_top.specs.Statuses.{IsGood, IsAccepted, IsReportOn};
-ghost use Rattle.clus_top.specs.Ends.{SpellsWithin, IsScriptEnd, IsVolumeEnd, IsReportIn, IsRunEnd, load_status};
+ghost use Rattle.clus_top.specs.Ends.{IsStopIn, IsReportIn, IsRunEnd, load_status, mount_status};
 
-use crate::report::report;
+use crate::script::script_of;
 use crate::status::Status;
 use blk_drive::{ImageDev, LoadFault, LoadRefused, Mirror};
-use fx_text::{TextFault, TextIn, read_all};
-use plain_cat::Script;
-use run_script::{ScriptFault, read_script};
+use core_state::{MountFault, MountRefused, World};
+use fx_text::TextIn;
+use plain_cat::{Plays, Script};
+use plain_vol::free_clusters;
+use run_engine::{RunFault, report, run};
 use std::alloc::Global;
-use vol_analyze::accepted;
-use vol_words::Block;
+use xqp_set::XqpOp;
 
-/// The greatest number of bytes of a script.
-const SCRIPT_LIMIT: usize = 1_048_576;
-
-// Reads the script to its end, and what it spells.
-fn script_of<T: TextIn>(alloc: Global, script: &mut T) -> Result<Script, Status>
-    ensures spelt { IfOk result (λ s. IfSome (T.left script.old) (SpellsWithin s)) }
-    ensures run { IfOk result (λ s. AreLookUps s.lines) }
-    ensures end { IfErr result (IsScriptEnd (T.left script.old) (T.faults script.old) (T.faults script.new)) }
+// The report of a run that has ended. Its commands only look, so that the free clusters are those of the opening catalogue.
+fn report_of<I: ImageDev>(alloc: Global, w: &World<I, XqpOp>) -> Result<Vec<u8>, Status>
+    ensures report { IfOk result (λ text. text.items ≡ report_bytes w.now.world.history (free_clusters w.now.world.opening)) }
+    ensures end { IfErr result (λ s. s ≡ Status.NoMemory) }
 {
-    let bytes = match read_all(alloc, script, SCRIPT_LIMIT) {
-        Ok(bytes) => bytes,
-        Err(TextFault::ReadFault) => return Err(Status::ScriptFault),
-        Err(TextFault::TooLong) => return Err(Status::ScriptTooLong),
-        Err(TextFault::NoMemory) => return Err(Status::NoMemory),
-    };
-    match read_script(alloc, bytes.as_slice()) {
-        Ok(script) => Ok(script),
-        Err(ScriptFault::BadLine(n)) => Err(Status::BadScript(n)),
-        Err(ScriptFault::TooMany) => Err(Status::TooMany),
-        Err(ScriptFault::NoMemory) => Err(Status::NoMemory),
+    match report(alloc, w.history(), free_clusters(w.opening())) {
+        Ok(text) => Ok(text),
+        Err(_) => Err(Status::NoMemory),
     }
 }
 
-// The report of a script on the blocks of a volume.
-fn report_on(alloc: Global, script: &Script, bs: &[Block]) -> Result<Vec<u8>, Status>
-    requires size { IsInside (length bs.now) }
-    requires run { AreLookUps script.now.lines }
-    ensures report { IfOk result (λ text. IsReportIn script.now bs.now text.items) }
-    ensures end { IfErr result (IsVolumeEnd bs.now) }
+// Runs the script of a volume that is just mounted.
+fn run_on<I: ImageDev>(
+    alloc: Global,
+    w: &mut World<I, XqpOp>,
+    plays: &Plays,
+) -> Result<Vec<u8>, Status>
+    requires mounted { IsMounted w.old.world.blocks w.old.world.script w.old.world }
+    requires form { InForm w.old.world.script }
+    requires looks { AreLooks w.old.world.script.lines }
+    requires plays { plays.now ≡ w.old.world.script.plays }
+    requires told { IsTold (I.told w.old.image) w.old.world.blocks }
+    ensures report { IfOk result (λ text. IsReportIn w.old.world.script w.old.world.blocks text.items) }
+    ensures end { IfErr result (IsStopIn w.old.world.script w.old.world.blocks) }
+    ensures told { I.told w.new.image ≡ I.told w.old.image }
 {
-    match accepted(alloc, bs) {
-        Err(_) => Err(Status::NoMemory),
-        Ok(Err(found)) => Err(Status::NotAccepted(found)),
-        Ok(Ok(opening)) => match report(alloc, script, &opening) {
-            Ok(text) => Ok(text),
-            Err(_) => Err(Status::NoMemory),
+    w.keeps_the_rules();
+    match run(alloc, w, plays) {
+        Ok(()) => report_of(alloc, w),
+        Err(RunFault::NoMemory) => Err(Status::NoMemory),
+        Err(RunFault::Unfinished) => Err(Status::Unfinished),
+        Err(RunFault::ImageFault) => unreachable!(),
+    }
+}
+
+// Why a drive was not mounted.
+fn mount_status(fault: MountFault) -> Status
+    ensures { result ≡ mount_status fault }
+{
+    match fault {
+        MountFault::NotAccepted(found) => Status::NotAccepted(found),
+        MountFault::NoMemory => Status::NoMemory,
+    }
+}
+
+// Mounts a drive, and runs the script on it.
+fn run_mounted<I: ImageDev>(alloc: Global, m: Mirror<I>, script: &Script) -> Ran<I>
+    requires form { InForm script.now }
+    requires looks { AreLooks script.now.lines }
+    requires told { IsTold (I.told m.image) m.blocks }
+    ensures report { IfOk result.outcome (λ text. IsReportIn script.now m.blocks text.items) }
+    ensures end { IfErr result.outcome (IsStopIn script.now m.blocks) }
+    ensures told { I.told result.image ≡ I.told m.image }
+{
+    match World::<I, XqpOp>::mount(alloc, m, script) {
+        Ok(mut world) => {
+            let outcome = run_on(alloc, &mut world, &script.plays);
+            let (_history, mirror) = world.into_parts();
+            Ran {
+                outcome,
+                image: mirror.into_image(),
+            }
+        }
+        Err(MountRefused { fault, mirror }) => Ran {
+            outcome: Err(mount_status(fault)),
+            image: mirror.into_image(),
         },
     }
 }
@@ -91,13 +127,7 @@ pub fn run_script<I: ImageDev, T: TextIn>(alloc: Global, image: I, script: &mut 
         }
     };
     match Mirror::load(alloc, image) {
-        Ok(mirror) => {
-            let outcome = report_on(alloc, &spelt, mirror.all());
-            Ran {
-                outcome,
-                image: mirror.into_image(),
-            }
-        }
+        Ok(mirror) => run_mounted(alloc, mirror, &spelt),
         Err(LoadRefused { fault, image }) => Ran {
             outcome: Err(load_status(fault)),
             image,

@@ -7,10 +7,10 @@ use std::test::Fail;
 
 /// What a call answered.
 #[derive(Drop)]
-struct Called {
-    code: u8,
-    out: MemOut,
-    image: MemImage,
+pub struct Called {
+    pub code: u8,
+    pub out: MemOut,
+    pub image: MemImage,
 }
 
 // Which of the first calls fail: of the script, and of the sink.
@@ -35,7 +35,7 @@ fn call_with(
     }
     let bytes = Vec::from_slice(alloc, script.as_bytes())?;
     let mut script = MemIn::new(bytes, vec![in alloc; fails.script]?);
-    let mut out = MemOut::new(alloc, 1000, vec![in alloc; fails.out]?)?;
+    let mut out = MemOut::new(alloc, 1_000_000, vec![in alloc; fails.out]?)?;
     let finished = vmsclus(alloc, given.as_slice(), image, &mut script, &mut out);
     Ok(Called {
         code: finished.status.code(),
@@ -44,7 +44,12 @@ fn call_with(
     })
 }
 
-fn call(alloc: Global, words: &[&str], image: MemImage, script: &str) -> Result<Called, NoMemory> {
+pub fn call(
+    alloc: Global,
+    words: &[&str],
+    image: MemImage,
+    script: &str,
+) -> Result<Called, NoMemory> {
     call_with(alloc, words, image, script, NONE)
 }
 
@@ -57,7 +62,7 @@ fn zeros(alloc: Global, count: usize) -> Result<MemImage, NoMemory> {
 }
 
 // The volume of 1,024 blocks with clusters of 4 and 64 file numbers.
-fn volume(alloc: Global) -> Result<MemImage, NoMemory> {
+pub fn volume(alloc: Global) -> Result<MemImage, NoMemory> {
     Ok(call(alloc, &["init", "4", "64", "KVOL"], zeros(alloc, 1024)?, "")?.image)
 }
 
@@ -109,7 +114,12 @@ fn examples(rt: HostRuntime) -> Result<(), Fail> {
         (
             "# Two nodes look into the main directory.\nNODES 2\nSCHED 2 1*2 2\n\n2 LOOKUP R1 MFD INDEXF.SYS;1\n1 LOOKUP R1 MFD 000000.DIR;0\n1 LOOKUP R2 (4,4,0) INDEXF.SYS;0\n2 LOOKUP R8 MFD ABSENT.X;3\n",
             0,
-            "1 N2 LOOKUP R1 (4,4,0) INDEXF.SYS;1 = (1,1,0) INDEXF.SYS;1\n2 N1 LOOKUP R1 (4,4,0) 000000.DIR;0 = (4,4,0) 000000.DIR;1\n3 N1 LOOKUP R2 (4,4,0) INDEXF.SYS;0 = (1,1,0) INDEXF.SYS;1\n4 N2 LOOKUP R8 (4,4,0) ABSENT.X;3 = refused NoSuchFile\nend: 4 answered, 0 died, 231 free\n",
+            "1 N1 LOOKUP R1 (4,4,0) 000000.DIR;0 = (4,4,0) 000000.DIR;1\n2 N2 LOOKUP R1 (4,4,0) INDEXF.SYS;1 = (1,1,0) INDEXF.SYS;1\n3 N1 LOOKUP R2 (4,4,0) INDEXF.SYS;0 = (1,1,0) INDEXF.SYS;1\n4 N2 LOOKUP R8 (4,4,0) ABSENT.X;3 = refused NoSuchFile\nend: 4 answered, 0 died, 231 free\n",
+        ),
+        (
+            "# Two nodes look at files and directories by registers. Node 2 has the first turns.\nNODES 2\nSCHED 2*12\n1 LOOKUP R1 MFD SYSLOST.DIR;0\n1 LIST R1\n1 STAT R1\n2 STAT MFD\n2 LOOKUP R8 MFD QUOTA.SYS;1\n2 STAT R8\n",
+            0,
+            "1 N2 STAT (4,4,0) = directory [1,1] 4 blocks mark 0 end 5,0\n2 N2 LOOKUP R8 (4,4,0) QUOTA.SYS;1 = (10,1,0) QUOTA.SYS;1\n3 N2 STAT (10,1,0) = file [1,1] 4 blocks mark 0 end 5,0\n4 N1 LOOKUP R1 (4,4,0) SYSLOST.DIR;0 = (11,1,0) SYSLOST.DIR;1\n5 N1 LIST (11,1,0) = 0 entries\n6 N1 STAT (11,1,0) = directory [1,1] 4 blocks mark 0 end 5,0\nend: 6 answered, 0 died, 231 free\n",
         ),
     ];
     assert_eq!(rt; wrong_row(rt.alloc(), &rows)?, None);
@@ -131,9 +141,9 @@ fn runs_scripts_of_look_ups(rt: HostRuntime) -> Result<(), Fail> {
         ("NODES 1\n\n1 LOOKUP R9 MFD A.B;1\n", 3, "bad line 3\n"),
         ("NODES 1\n2 LOOKUP R1 MFD A.B;1\n", 3, "bad line 2\n"),
         ("NODES 1\n1 LOOKUP R1 MFD A.B;01\n", 3, "bad line 2\n"),
-        ("NODES 1\n1 LIST MFD\n", 3, "bad line 2\n"),
         ("NODES 1\n1 CREATE R1 MFD\n", 3, "bad line 2\n"),
-        ("NODES 1\n1 LOOKUP R1 LOST A.B;1\n", 3, "bad line 2\n"),
+        ("NODES 1\n1 EXTEND R1 1\n", 3, "bad line 2\n"),
+        ("NODES 1\n1 LIST R9\n", 3, "bad line 2\n"),
         ("NODES 1\nKILL 1 TURN 1\n", 3, "bad line 2\n"),
         ("NODES 1\nSCHED 1*65536 1\nbad\n", 3, "too many\n"),
         ("NODES 1\nbad\nSCHED 1*65536 1\n", 3, "bad line 2\n"),

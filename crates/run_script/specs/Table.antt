@@ -1,10 +1,12 @@
 -- Which commands a program runs: its table has an entry for each kind of command, one for commands that name another file
 -- than the main directory, and one for lines with KILL.
-use Rattle.std.specs.Prelude.{◌==◌, ◌&&◌, ◌||◌, Bool, true, false}
+use Rattle.std.specs.Prelude.{◌≡◌, ◌==◌, ◌&&◌, ◌||◌, Bool, true, false, List}
+use Rattle.std.specs.List.{list_all}
 use Rattle.plain_cat.specs.declared.script.FileRef.{FileRef}
 use Rattle.plain_cat.specs.declared.script.FileRef.TheVariants.{Fixed, Reg}
 use Rattle.plain_cat.specs.declared.script.LineCmd.{LineCmd}
 use Rattle.plain_cat.specs.declared.script.LineCmd.TheVariants as line
+use Rattle.plain_cat.specs.declared.script.Line.{Line}
 use Rattle.run_script.specs.declared.built.Kind.{Kind}
 use Rattle.run_script.specs.declared.built.Kind.TheVariants as kind
 use Rattle.run_script.specs.declared.built.Built.{Built}
@@ -75,3 +77,18 @@ may_name table cmd = table.other_directories || names_main_only cmd
 -- a command is run: its kind is on, and it may name its files
 abbrev pub is_built : Built → LineCmd → Bool
 is_built table cmd = is_on table (kind_of cmd) && may_name table cmd
+
+-- the command of each of these lines is run
+abbrev pub AreBuilt : Built → List Line → Type 0
+AreBuilt table ls = list_all (λ (l : Line). is_built table l.cmd) ls ≡ true
+
+-- a command that only looks
+abbrev pub is_look : LineCmd → Bool
+is_look (line.Lookup reg dir name ver) = true
+is_look (line.List dir) = true
+is_look (line.Stat file) = true
+is_look cmd = false
+
+-- the command of each of these lines only looks
+abbrev pub AreLooks : List Line → Type 0
+AreLooks ls = list_all (λ (l : Line). is_look l.cmd) ls ≡ true

@@ -46,11 +46,11 @@ pub struct Built {
     pub kill: bool,
 }
 
-/// What the program runs so far.
+/// What the program runs so far: LOOKUP, LIST and STAT, of each file and directory, by its identifier or by a register.
 pub const BUILT: Built = Built {
     lookup: true,
-    list: false,
-    stat: false,
+    list: true,
+    stat: true,
     create: false,
     mkdir: false,
     extend: false,
@@ -63,7 +63,7 @@ pub const BUILT: Built = Built {
     write_block: false,
     quota_set: false,
     quota_show: false,
-    other_directories: false,
+    other_directories: true,
     kill: false,
 };
 

@@ -3,7 +3,9 @@ use Rattle.plain_cat.specs.InForm.{InForm}
 use Rattle.run_script.specs.Lines.{lines_of}
 use Rattle.run_script.specs.Spelling.{SpellsScript}
 use Rattle.run_script.proofs.Spelt.{spelt_from, bad_from, over_from, each_script, each_bad_line, each_excess}
+use Rattle.run_script.specs.Table.{AreBuilt}
 use Rattle.run_script.proofs.Formed.{spelt_in_form}
+use Rattle.run_script.proofs.Looked.{spelt_built}
 use Rattle.run_script.proofs.reading.read_with.Goals as goal
 
 pub returns-clause-spelt : goal.returns-clause-spelt
@@ -13,6 +15,13 @@ pub returns-clause-form : goal.returns-clause-form
 returns-clause-form c =
     IfOk-weaker c.read_lines.result (SpellsScript c.args.table.now (lines_of c.args.bytes.now)) InForm (λ s h. spelt_in_form c.args.table.now (lines_of c.args.bytes.now) s h)
     (spelt_from c.args.table.now (lines_of c.args.bytes.now) c.read_lines.result c.read_lines.ensures)
+
+pub returns-clause-built : goal.returns-clause-built
+returns-clause-built c =
+    let table = c.args.table.now in
+    let lines = lines_of c.args.bytes.now in
+    IfOk-weaker c.read_lines.result (SpellsScript table lines) (λ s. AreBuilt table s.lines) (λ s h. spelt_built table lines s h)
+    (spelt_from table lines c.read_lines.result c.read_lines.ensures)
 
 pub returns-clause-bad : goal.returns-clause-bad
 returns-clause-bad c n e = bad_from c.args.table.now (lines_of c.args.bytes.now) c.read_lines.result n c.read_lines.ensures e

@@ -1,0 +1,210 @@
+//! Look-ups, lists and facts on a volume with a directory and files in it, by nodes in turn.
+
+use crate::tests::{call, volume};
+use blk_drive::MemImage;
+use plain_cat::NoMemory;
+use std::alloc::{AllocError, Global};
+use std::test::Fail;
+use vol_words::{Block, put_bytes, put_long, put_word, set_sum};
+
+const DIRECTORY: u8 = 0x20;
+
+/// The entries of the directory: A.TXT;2 (13,1) and A.TXT;1 (14,1), and in its second block B.DAT;1 (15,2).
+const FIRST: &[u8] =
+    b"\x1a\x00\xff\x7f\x00\x05A.TXT\x00\x02\x00\x0d\x00\x01\x00\x00\x00\x01\x00\x0e\x00\x01\x00\x00\x00\xff\xff";
+
+const SECOND: &[u8] = b"\x12\x00\xff\x7f\x00\x05B.DAT\x00\x01\x00\x0f\x00\x02\x00\x00\x00\xff\xff";
+
+/// Its own entry in the main directory.
+const MORE: &[u8] = b"\x12\x00\xff\x7f\x00\x05Z.DIR\x00\x01\x00\x0c\x00\x01\x00\x00\x00\xff\xff";
+
+/// A block that begins with these bytes and is zero behind them.
+fn block(bytes: &[u8]) -> Block {
+    let mut b = [0; 512];
+    for (place, byte) in b.iter_mut().zip(bytes) {
+        *place = *byte;
+    }
+    b
+}
+
+/// The header of a file of [1,1] with one run of so many blocks, or without one.
+fn header(num: u16, seq: u16, flags: u8, lbn: u16, count: u16) -> Block {
+    let mut b = [0; 512];
+    put_bytes(&mut b, 0, &[40, 100, 255, 255]);
+    put_word(&mut b, 6, 513);
+    put_word(&mut b, 8, num);
+    put_word(&mut b, 10, seq);
+    put_word(&mut b, 26, count);
+    put_word(&mut b, 30, count.wrapping_add(1));
+    b[53] = flags;
+    put_long(&mut b, 60, 65_537);
+    if count != 0 {
+        b[58] = 2;
+        put_word(&mut b, 200, count.wrapping_add(0x3fff));
+        put_word(&mut b, 202, lbn);
+    }
+    set_sum(&mut b);
+    b
+}
+
+// The blocks of an image.
+fn blocks_of(alloc: Global, image: &MemImage) -> Result<Vec<Block>, NoMemory> {
+    let mut blocks = Vec::new(alloc);
+    for block in image.all() {
+        blocks.push(*block)?;
+    }
+    Ok(blocks)
+}
+
+/// The fresh volume with Z.DIR;1 (12,1) in the main directory, and three files in that: 13 and 15 have no block, and 14 has
+/// four. Two clusters more are in use, and twelve blocks more are charged to [1,1].
+fn tree(alloc: Global) -> Result<MemImage, NoMemory> {
+    let mut b = blocks_of(alloc, &volume(alloc)?)?;
+    if b.len() != 1024 {
+        return Err(AllocError);
+    }
+    b[16][1] = 0x7f;
+    b[28] = header(12, 1, DIRECTORY, 100, 4);
+    b[29] = header(13, 1, 0, 0, 0);
+    b[30] = header(14, 1, 0, 104, 4);
+    b[31] = header(15, 2, 0, 0, 0);
+    b[85][3] = 0xf8;
+    b[89] = block(MORE);
+    b[96][8] = 123;
+    b[100] = block(FIRST);
+    b[101] = block(SECOND);
+    b[102] = block(b"\xff\xff");
+    b[103] = block(b"\xff\xff");
+    Ok(MemImage::new(b, Vec::new(alloc)))
+}
+
+// Whether a script has this report on that volume, which it leaves as it was.
+fn has_report(alloc: Global, script: &str, report: &str) -> Result<bool, NoMemory> {
+    let called = call(alloc, &["run"], tree(alloc)?, script)?;
+    let after = blocks_of(alloc, &called.image)?;
+    let before = blocks_of(alloc, &tree(alloc)?)?;
+    Ok(called.code == 0 && called.out.bytes() == report.as_bytes() && after == before)
+}
+
+#[test]
+fn the_volume_is_accepted(rt: HostRuntime) -> Result<(), Fail> {
+    let found = call(rt.alloc(), &["analyze"], tree(rt.alloc())?, "")?;
+    assert!(rt; found.out.bytes() == b"accepted\n".as_slice());
+    Ok(())
+}
+
+// One node goes down by a register, and each answer to a look-up sets its register anew.
+#[test]
+fn registers_lead_down(rt: HostRuntime) -> Result<(), Fail> {
+    let script = "NODES 1\n\
+        1 LOOKUP R1 MFD Z.DIR;1\n\
+        1 LIST R1\n\
+        1 LOOKUP R2 R1 A.TXT;0\n\
+        1 STAT R2\n\
+        1 LOOKUP R2 R1 A.TXT;1\n\
+        1 STAT R2\n\
+        1 STAT R1\n\
+        1 LIST LOST\n\
+        1 LIST R2\n\
+        1 STAT (12,2,0)\n\
+        1 LOOKUP R3 R8 A.TXT;0\n\
+        1 LOOKUP R1 R1 C.TXT;0\n\
+        1 LOOKUP R1 R1 B.DAT;0\n\
+        1 STAT R1\n";
+    let report = "1 N1 LOOKUP R1 (4,4,0) Z.DIR;1 = (12,1,0) Z.DIR;1\n\
+        2 N1 LIST (12,1,0) = 3 entries A.TXT;2 (13,1,0) A.TXT;1 (14,1,0) B.DAT;1 (15,2,0)\n\
+        3 N1 LOOKUP R2 (12,1,0) A.TXT;0 = (13,1,0) A.TXT;2\n\
+        4 N1 STAT (13,1,0) = file [1,1] 0 blocks mark 0 end 1,0\n\
+        5 N1 LOOKUP R2 (12,1,0) A.TXT;1 = (14,1,0) A.TXT;1\n\
+        6 N1 STAT (14,1,0) = file [1,1] 4 blocks mark 0 end 5,0\n\
+        7 N1 STAT (12,1,0) = directory [1,1] 4 blocks mark 0 end 5,0\n\
+        8 N1 LIST (11,1,0) = 0 entries\n\
+        9 N1 LIST (14,1,0) = refused NotDir\n\
+        10 N1 STAT (12,2,0) = refused NoSuchFile\n\
+        11 N1 LOOKUP R3 (0,0,0) A.TXT;0 = refused NoSuchFile\n\
+        12 N1 LOOKUP R1 (12,1,0) C.TXT;0 = refused NoSuchFile\n\
+        13 N1 LOOKUP R1 (12,1,0) B.DAT;0 = (15,2,0) B.DAT;1\n\
+        14 N1 STAT (15,2,0) = file [1,1] 0 blocks mark 0 end 1,0\n\
+        end: 14 answered, 0 died, 229 free\n";
+    assert!(rt; has_report(rt.alloc(), script, report)?);
+    Ok(())
+}
+
+// A look at a file takes four turns: its lock, its header, the plan and the answer. A list takes four more, for the blocks of
+// its directory. Node 5 has no command, and node 2 is the last to be answered.
+const EIGHT: &str = "2 LIST (12,1,0)\n\
+    1 STAT (14,1,0)\n\
+    3 STAT (13,1,0)\n\
+    4 STAT (14,1,0)\n\
+    6 STAT (15,2,0)\n\
+    7 STAT (12,1,0)\n\
+    8 LOOKUP R1 (13,1,0) A.B;1\n";
+
+// A script of eight nodes with this schedule.
+fn by_eight(alloc: Global, schedule: &str) -> Result<String, NoMemory> {
+    let mut script = String::from_str(alloc, "NODES 8\n")?;
+    script.push_str(schedule)?;
+    script.push_str(EIGHT)?;
+    Ok(script)
+}
+
+#[test]
+fn eight_nodes_take_turns(rt: HostRuntime) -> Result<(), Fail> {
+    let script = by_eight(rt.alloc(), "")?;
+    let report = "1 N1 STAT (14,1,0) = file [1,1] 4 blocks mark 0 end 5,0\n\
+        2 N3 STAT (13,1,0) = file [1,1] 0 blocks mark 0 end 1,0\n\
+        3 N4 STAT (14,1,0) = file [1,1] 4 blocks mark 0 end 5,0\n\
+        4 N6 STAT (15,2,0) = file [1,1] 0 blocks mark 0 end 1,0\n\
+        5 N7 STAT (12,1,0) = directory [1,1] 4 blocks mark 0 end 5,0\n\
+        6 N8 LOOKUP R1 (13,1,0) A.B;1 = refused NotDir\n\
+        7 N2 LIST (12,1,0) = 3 entries A.TXT;2 (13,1,0) A.TXT;1 (14,1,0) B.DAT;1 (15,2,0)\n\
+        end: 7 answered, 0 died, 229 free\n";
+    assert!(rt; has_report(rt.alloc(), script.as_str(), report)?);
+    Ok(())
+}
+
+// Node 8 is over after five of its plays, and the others have no effect. The last play is the answer of node 7.
+#[test]
+fn plays_come_first(rt: HostRuntime) -> Result<(), Fail> {
+    let script = by_eight(rt.alloc(), "SCHED 8*20 7*3 2*8\nSCHED 8 8 7\n")?;
+    let report = "1 N8 LOOKUP R1 (13,1,0) A.B;1 = refused NotDir\n\
+        2 N2 LIST (12,1,0) = 3 entries A.TXT;2 (13,1,0) A.TXT;1 (14,1,0) B.DAT;1 (15,2,0)\n\
+        3 N7 STAT (12,1,0) = directory [1,1] 4 blocks mark 0 end 5,0\n\
+        4 N1 STAT (14,1,0) = file [1,1] 4 blocks mark 0 end 5,0\n\
+        5 N3 STAT (13,1,0) = file [1,1] 0 blocks mark 0 end 1,0\n\
+        6 N4 STAT (14,1,0) = file [1,1] 4 blocks mark 0 end 5,0\n\
+        7 N6 STAT (15,2,0) = file [1,1] 0 blocks mark 0 end 1,0\n\
+        end: 7 answered, 0 died, 229 free\n";
+    assert!(rt; has_report(rt.alloc(), script.as_str(), report)?);
+    Ok(())
+}
+
+// A script of 4,096 look-ups by eight nodes in turn.
+fn longest(alloc: Global) -> Result<String, NoMemory> {
+    let mut script = String::from_str(alloc, "NODES 8\n")?;
+    for _round in 0..512 {
+        for node in ["1", "2", "3", "4", "5", "6", "7", "8"] {
+            script.push_str(node)?;
+            script.push_str(" LOOKUP R1 (12,1,0) B.DAT;1\n")?;
+        }
+    }
+    Ok(script)
+}
+
+#[test]
+fn the_longest_script_ends(rt: HostRuntime) -> Result<(), Fail> {
+    let alloc = rt.alloc();
+    let script = longest(alloc)?;
+    let called = call(alloc, &["run"], tree(alloc)?, script.as_str())?;
+    let report = called.out.bytes();
+    assert_eq!(rt; called.code, 0);
+    assert!(rt;
+        report.starts_with(b"1 N1 LOOKUP R1 (12,1,0) B.DAT;1 = (15,2,0) B.DAT;1\n2 N2 LOOKUP")
+    );
+    assert!(rt;
+        report.ends_with(
+            b"\n4096 N8 LOOKUP R1 (12,1,0) B.DAT;1 = (15,2,0) B.DAT;1\nend: 4096 answered, 0 died, 229 free\n"
+        )
+    );
+    Ok(())
+}

@@ -1,0 +1,263 @@
+-- A node answers: the history has one entry more, and the locks go back.
+use Rattle.std.proofs.Common.{◌≡◌, ◌≢◌, ◌≤◌, ◌<◌, ◌+◌, ◌++◌, ℕ, zero, suc, Bool, true, false, cond, List, [], ◌∷◌, Option, Some, None, length, map, take, slice_get, refl, sym, ap, subst, ◌∙◌, inl, inr, arith}
+use Rattle.std.specs.Prelude.{replicate}
+use Rattle.std.proofs.lemmas.Bool.Decides.{nat_tests}
+use Rattle.vol_words.specs.Fields.{Block}
+use Rattle.lock_db.specs.declared.name.LockName.{LockName}
+use Rattle.lock_db.specs.declared.resource.Resource.{Resource}
+use Rattle.lock_db.specs.Tables.{IsTable, resource_at, released}
+use Rattle.lock_db.proofs.Steps.{IsTable-released}
+use Rattle.plain_cat.specs.declared.mode.Mode.{Mode}
+use Rattle.plain_cat.specs.declared.mode.Mode.TheVariants.{PR, PW}
+use Rattle.plain_cat.specs.declared.command.Cmd.{Cmd}
+use Rattle.plain_cat.specs.declared.reply.Reply.{Reply}
+use Rattle.plain_cat.specs.declared.history.Entry.{Entry}
+use Rattle.plain_cat.specs.declared.history.Entry.TheVariants.{Done}
+use Rattle.plain_cat.specs.declared.cat.Cat.{Cat}
+use Rattle.plain_vol.specs.Answers.{Answer}
+use Rattle.plain_vol.specs.Own.{NodePast, past, after_answer, after_entry, channels_after, next_command, Own}
+use Rattle.node_past.specs.Laws.{is_of}
+use Rattle.node_past.proofs.Growing.{past_grows, past_of_others, own_grows, replays_grow}
+use Rattle.node_locks.specs.Held.{system_of, names_of, HoldsItsLocks, AreHeld, waits_at, held_locks, with_locks}
+use Rattle.node_locks.specs.Sequences.{raised_block}
+use Rattle.node_locks.proofs.Giving.{giving_holds}
+use Rattle.node_locks.proofs.Nodes.{each}
+use Rattle.vol_owners.specs.Lists.{Has, StandsIn}
+use Rattle.vol_owners.specs.Owners.{Owners, Things, nothing, Outs}
+use Rattle.vol_owners.proofs.Listing.{same_or_not}
+use Rattle.vol_parts.specs.declared.geometry.Geometry.{Geometry}
+use Rattle.vol_under.specs.UnderWay.{PlannedWrite, UnderWay, outs_after, outs_at, together, resting, idle, changed}
+use Rattle.vol_under.specs.Under.{IsUnder}
+use Rattle.vol_under.specs.Answering.{IsReply}
+use Rattle.vol_under.proofs.Nodes.{changed_here, changed_else}
+use Rattle.vol_under.proofs.Steps.{nodes_alike}
+use Rattle.op_law.specs.declared.need.Need.TheVariants as need
+use Rattle.op_law.specs.declared.need.Plan.{Plan}
+use Rattle.op_law.specs.declared.need.PlanWrite.{PlanWrite}
+use Rattle.op_law.specs.declared.seen.Seen.{Seen}
+use Rattle.op_law.specs.Events.{space_of, HasNoSpace}
+use Rattle.op_law.specs.Knows.{knows}
+use Rattle.op_law.specs.Laws.{held_in, planned, under_way, IsRight}
+use Rattle.core_state.specs.Worlds.{NodeState, Plain, node_at, set_node, locks_in, locks_of}
+use Rattle.core_state.specs.Raises.{raise_of}
+use Rattle.core_state.specs.Goods.{is_run, writes_of, under_with, under_by, nodes_under, IsRunning, IsAtPlan, IsAt, HasCommand, IsNode, Good}
+use Rattle.core_state.specs.Events.{given_back, turned, answering}
+use Rattle.core_state.proofs.RunKinds.{run_knows, stays_closed}
+use Rattle.core_state.proofs.Nodes.{at_here, at_else}
+use Rattle.core_state.proofs.Driving.{wider, grants_keep}
+use Rattle.core_state.proofs.Holding.{held_grows}
+use Rattle.core_state.proofs.Running.{at_locks, are_sole}
+use Rattle.core_state.proofs.Taking.{answers}
+use Rattle.core_state.proofs.Keeping.{altered, rebuilt, held_set}
+use Rattle.core_state.proofs.Turning.{is_right, under_command, here}
+
+-- ---- all locks go back
+
+-- what is left after node n gave back all of its locks
+pub record AreGivenBack (n : ℕ) (locks : ℕ → List (LockName × Mode)) (t after : List Resource) : Type 0 where
+  pub table : IsTable after
+  pub held : AreHeld after (with_locks locks n [])
+  pub others_wait : (m : ℕ) → m ≢ n → waits_at t m (locks m) ≡ false → waits_at after m (locks m) ≡ false
+  pub others_hold : (m : ℕ) (k : LockName × Mode) → m ≢ n → Has (held_locks t m (locks m)) k → Has (held_locks after m (locks m)) k
+
+with_here : (locks : ℕ → List (LockName × Mode)) (n : ℕ) (ls : List (LockName × Mode)) → with_locks locks n ls n ≡ ls
+with_here locks n ls = grind (arith, nat_tests)
+
+with_else : (locks : ℕ → List (LockName × Mode)) (n m : ℕ) (ls : List (LockName × Mode)) → m ≢ n → with_locks locks n ls m ≡ locks m
+with_else locks n m ls ne = grind (arith, nat_tests)
+
+with_twice : (locks : ℕ → List (LockName × Mode)) (n m : ℕ) (xs ys : List (LockName × Mode)) → with_locks (with_locks locks n xs) n ys m ≡ with_locks locks n ys m
+with_twice locks n m xs ys = grind (arith, nat_tests)
+
+give_all : (g : Geometry) (n : ℕ) (ws : List PlanWrite) (ls : List (LockName × Mode)) (locks : ℕ → List (LockName × Mode)) (t : List Resource) → IsTable t → AreHeld t locks → waits_at t n (locks n) ≡ false → locks n ≡ ls
+    → AreGivenBack n locks t (given_back g n ws ls t)
+give_all g n ws [] locks t table held waits is = record {
+  table = table;
+  held = λ m. subst (λ (xs : List (LockName × Mode)). HoldsItsLocks t m xs) (sym (same m)) (held m);
+  others_wait = λ m ne e. e;
+  others_hold = λ m k ne h. h;
+} where
+  same : (m : ℕ) → with_locks locks n [] m ≡ locks m
+  same m = elim (same_or_not m n) [ inl e ↦ ap (λ k. with_locks locks n [] k) e ∙ with_here locks n [] ∙ sym is ∙ sym (ap locks e) | inr ne ↦ with_else locks n m [] ne ]
+give_all g n ws (l ∷ ls) locks t table held waits is =
+    let value : List ℕ = raised_block (raise_of g l.0 ws) (resource_at l.0 t) in
+    let u : List Resource = released l.0 (system_of n) value t in
+    let one = giving_holds t n l ls value locks table held waits is in
+    let rest = give_all g n ws ls (with_locks locks n ls) u (IsTable-released l.0 (system_of n) value t table) one.held
+    (subst (λ (xs : List (LockName × Mode)). waits_at u n xs ≡ false) (sym (with_here locks n ls)) one.waits) (with_here locks n ls) in
+    record {
+      table = rest.table;
+      held = λ m. subst (λ (xs : List (LockName × Mode)). HoldsItsLocks (given_back g n ws ls u) m xs) (with_twice locks n m ls []) (rest.held m);
+      others_wait = λ m ne e. subst (λ (xs : List (LockName × Mode)). waits_at (given_back g n ws ls u) m xs ≡ false) (with_else locks n m ls ne)
+          (rest.others_wait m ne (subst (λ (xs : List (LockName × Mode)). waits_at u m xs ≡ false) (sym (with_else locks n m ls ne)) (one.others_wait m ne e)));
+      others_hold = λ m k ne h. subst (λ (xs : List (LockName × Mode)). Has (held_locks (given_back g n ws ls u) m xs) k) (with_else locks n m ls ne)
+          (rest.others_hold m k ne (subst (λ (xs : List (LockName × Mode)). Has (held_locks u m xs) k) (sym (with_else locks n m ls ne)) (one.others_hold m k ne h)));
+    }
+
+-- ---- small steps
+
+at_end : {A : Type 0} (xs : List A) (k : ℕ) → slice_get xs k ≡ None → length xs ≤ k
+at_end [] k e = omega arith
+at_end (x ∷ xs) zero e = absurd (let f : Some x ≡ None = e in cc)
+at_end (x ∷ xs) (suc k) e = let le = at_end xs k e in omega arith
+
+length_planned : (ws : List PlanWrite) → length (map planned ws) ≡ length ws
+length_planned [] = refl
+length_planned (w ∷ ws) = ap suc (length_planned ws)
+
+taken_whole : (ws : List PlannedWrite) → take (length ws) ws ≡ ws
+taken_whole [] = refl
+taken_whole (w ∷ ws) = ap (λ vs. w ∷ vs) (taken_whole ws)
+
+-- the law of a reply stays one after writes
+rereply : (g : Geometry) (n : ℕ) (u : UnderWay) (done : ℕ) (x : Cmd) (r : Reply) → IsReply g n u x r → IsReply g n (record u { done = done }) x r
+rereply g n u done x r law base own c stock j spelt known stands outs le =
+    let h = law base own c stock j spelt known stands outs le in
+    record {
+      leaves = record { new = h.leaves.new; cat = h.leaves.cat; stage = h.leaves.stage; spelt = h.leaves.spelt; moves = h.leaves.moves; outs = h.leaves.outs };
+      opens = h.opens;
+      answer = h.answer;
+    }
+
+-- an entry of node n is none of another
+not_of : (n m : ℕ) (x : Cmd) (r : Reply) → m ≢ n → is_of m (Done n x r) ≡ false
+not_of n m x r ne = grind (arith, nat_tests)
+
+own_entry : (n : ℕ) (p : NodePast) (x : Cmd) (r : Reply) → after_entry n p (Done n x r) ≡ after_answer p x r
+own_entry n p x r = grind (arith, nat_tests)
+
+-- ---- the drive behind the answer
+
+-- the others' locks are theirs still, and some of them that waited may be granted
+module _ (g : Geometry) (d : Cat) (t after : List Resource) (nodes : List NodeState) (n : ℕ) (s r : NodeState) (drive : List Block) (at : node_at nodes n ≡ Some s) (rests : r.cmd ≡ None)
+    (grown : (m : ℕ) (q : NodeState) (k : LockName × Mode) → m ≢ n → node_at nodes m ≡ Some q → Has (held_locks t m q.seen.locks) k → Has (held_locks after m q.seen.locks) k) where
+  abbrev new : ℕ → UnderWay
+  new m = nodes_under after (set_node nodes n r) m
+
+  abbrev old : ℕ → UnderWay
+  old = changed (nodes_under t nodes) n (resting nothing)
+
+  new_here : new n ≡ resting nothing
+  new_here = ap (under_by after n) (at_here nodes n r s at) ∙ ap (under_with after n r) rests
+
+  new_else : (m : ℕ) → m ≢ n → new m ≡ under_by after m (node_at nodes m)
+  new_else m ne = ap (under_by after m) (at_else nodes n m r ne)
+
+  -- one of the others
+  record IsGrown (u v : UnderWay) : Type 0 where
+    read : (name : LockName) → Has u.read name → Has v.read name
+    write : (name : LockName) → Has u.write name → Has v.write name
+    else_same : record u { read = v.read; write = v.write } ≡ v
+
+  by_cmd : (m : ℕ) (q : NodeState) → m ≢ n → node_at nodes m ≡ Some q → (o : Option Cmd) → IsGrown (under_with t m q o) (under_with after m q o)
+  by_cmd m q ne e None = record { read = λ name h. h; write = λ name h. h; else_same = refl }
+  by_cmd m q ne e (Some x) = record {
+    read = λ name h. held_grows PR (held_locks t m q.seen.locks) (held_locks after m q.seen.locks) name (λ k h. grown m q k ne e h) h;
+    write = λ name h. held_grows PW (held_locks t m q.seen.locks) (held_locks after m q.seen.locks) name (λ k h. grown m q k ne e h) h;
+    else_same = refl;
+  }
+
+  by_node : (m : ℕ) → m ≢ n → (o : Option NodeState) → node_at nodes m ≡ o → IsGrown (under_by t m o) (under_by after m o)
+  by_node m ne None e = record { read = λ name h. h; write = λ name h. h; else_same = refl }
+  by_node m ne (Some q) e = by_cmd m q ne e q.cmd
+
+  is_grown : (m : ℕ) → IsGrown (old m) (new m)
+  is_grown m = elim (same_or_not m n) [ inl f ↦ self f | inr ne ↦ other ne ] where
+    self : m ≡ n → IsGrown (old m) (new m)
+    self f =
+        let a : old m ≡ resting nothing = ap old f ∙ changed_here (nodes_under t nodes) n (resting nothing) in
+        let b : new m ≡ resting nothing = ap new f ∙ new_here in
+        let rest : IsGrown (resting nothing) (resting nothing) = record { read = λ name h. h; write = λ name h. h; else_same = refl } in
+        subst (λ (v : UnderWay). IsGrown (old m) v) (sym b) (subst (λ (v : UnderWay). IsGrown v (resting nothing)) (sym a) rest)
+
+    other : m ≢ n → IsGrown (old m) (new m)
+    other ne = subst (λ (v : UnderWay). IsGrown (old m) v) (sym (new_else m ne))
+        (subst (λ (v : UnderWay). IsGrown v (under_by after m (node_at nodes m))) (sym (changed_else (nodes_under t nodes) n (resting nothing) m ne)) (by_node m ne (node_at nodes m) refl))
+
+  pub under_granted : IsUnder g d old drive → IsUnder g d (nodes_under after (set_node nodes n r)) drive
+  under_granted u = nodes_alike g d (wider old (λ m. (new m).read) (λ m. (new m).write)) (nodes_under after (set_node nodes n r)) drive (λ m. (is_grown m).else_same)
+      (grants_keep g d old drive (λ m. (new m).read) (λ m. (new m).write) u (λ m. (is_grown m).read) (λ m. (is_grown m).write))
+
+-- ---- the answer
+
+module _ (w : Plain) (good : Good w) (n : ℕ) (s : NodeState) (at : node_at w.nodes n ≡ Some s) (x : Cmd) (cmd : s.cmd ≡ Some x) (free : waits_at w.locks n s.seen.locks ≡ false)
+    (p : Plan) (plan : s.plan ≡ Some p) (last : slice_get p.writes s.done ≡ None) where
+  abbrev entry : Entry
+  entry = Done n x p.reply
+
+  abbrev after : List Resource
+  after = given_back w.geometry n (writes_of s.plan) s.seen.locks w.locks
+
+  abbrev rested : NodeState
+  rested = turned (answering s x p.reply)
+
+  mine : IsNode w n s
+  mine = good.nodes n s at
+
+  now : IsAt w n s x
+  now = under_command w good n s at x cmd free
+
+  made : IsAtPlan x (waits_at w.locks n s.seen.locks) s.seen s.done (Some p)
+  made = subst (IsAtPlan x (waits_at w.locks n s.seen.locks) s.seen s.done) plan now.plan
+
+  right : IsRight n x w.geometry (under_way x s.seen p.writes (knows n x s.seen)) p.reply
+  right = subst (λ (g : Geometry). IsRight n x g (under_way x s.seen p.writes (knows n x s.seen)) p.reply) mine.geometry
+      (is_right x now.runs n s.seen p p.ask (now.lawful.plans n s.seen p now.seen made.0))
+
+  whole : s.done ≡ length (map planned p.writes)
+  whole = let le = at_end p.writes s.done last in let ge = made.2 in let e = length_planned p.writes in omega arith
+
+  abbrev me : UnderWay
+  me = record (under_way x s.seen p.writes (knows n x s.seen)) { done = s.done }
+
+  here_now : nodes_under w.locks w.nodes n ≡ me
+  here_now = here w good n s at x cmd free ∙ ap (λ o. record (under_way x s.seen (writes_of o) (knows n x s.seen)) { done = s.done }) plan
+
+  left : outs_at s.done me ≡ nothing
+  left = ap (λ k. outs_after me.took (take k me.plan)) whole ∙ ap (outs_after me.took) (taken_whole (map planned p.writes)) ∙ right.left
+
+  idle_now : idle me ≡ resting nothing
+  idle_now = ap (λ o. resting (together o nothing)) left
+
+  answered : (d : Cat) × Answer good.running.cat n x p.reply d × IsUnder w.geometry d (changed (nodes_under w.locks w.nodes) n (resting nothing)) w.blocks
+  answered =
+      let a = answers w.geometry good.running.cat (nodes_under w.locks w.nodes) w.blocks n me here_now good.running.drive (are_sole w.locks w.nodes good.locked.0 good.locked.1) x p.reply
+      (run_knows x now.runs n s.seen good.running.cat mine.space.short) whole
+      (rereply w.geometry n (under_way x s.seen p.writes (knows n x s.seen)) s.done x p.reply right.reply) in
+      (a.0, a.1, subst (λ (v : UnderWay). IsUnder w.geometry a.0 (changed (nodes_under w.locks w.nodes) n v) w.blocks) idle_now a.2)
+
+  given : AreGivenBack n (locks_of w.nodes) w.locks after
+  given = give_all w.geometry n (writes_of s.plan) s.seen.locks (locks_of w.nodes) w.locks good.locked.0 good.locked.1
+      (subst (λ (ls : List (LockName × Mode)). waits_at w.locks n ls ≡ false) (sym (ap locks_in at)) free) (ap locks_in at)
+
+  alive : (past n w.history).dead ≡ false
+  alive = sym (ap (λ y. y.dead) mine.past) ∙ mine.alive
+
+  grows : past n (w.history ++ entry ∷ []) ≡ after_answer s.past x p.reply
+  grows = past_grows n w.history entry ∙ own_entry n (past n w.history) x p.reply ∙ ap (λ y. after_answer y x p.reply) (sym mine.past)
+
+  pub answers_keep : Good (altered w after w.blocks (set_node w.nodes n rested) (w.history ++ entry ∷ []))
+  unfolding after_answer
+  answers_keep = rebuilt w good n s rested at after w.blocks (w.history ++ entry ∷ [])
+      (record {
+        cat = answered.0;
+        replayed = replays_grow w.opening w.script w.history good.running.cat entry answered.0 good.running.replayed answered.1;
+        drive = under_granted w.geometry answered.0 w.locks after w.nodes n s rested w.blocks at refl
+            (λ m q k ne e h. subst (λ (ls : List (LockName × Mode)). Has (held_locks after m ls) k) (ap locks_in e)
+            (given.others_hold m k ne (subst (λ (ls : List (LockName × Mode)). Has (held_locks w.locks m ls) k) (sym (ap locks_in e)) h))) answered.2;
+      })
+      (given.table, held_set after w.nodes n s rested at given.held)
+      (own_grows w.script w.history entry good.own (alive, now.next))
+      (λ m ne. past_of_others m w.history entry (not_of n m x p.reply ne))
+      (λ m q ne e waits. subst (λ (ls : List (LockName × Mode)). waits_at after m ls ≡ false) (ap locks_in e)
+      (given.others_wait m ne (subst (λ (ls : List (LockName × Mode)). waits_at w.locks m ls ≡ false) (sym (ap locks_in e)) waits)))
+      (record {
+        past = sym grows;
+        alive = mine.alive;
+        closed = stays_closed x now.runs s.past.channels p.reply ∙ mine.closed;
+        geometry = mine.geometry;
+        channel = refl;
+        space = record { clusters = refl; number = refl; short = refl };
+        command = record { locks = refl; blocks = refl; plan = refl; done = refl };
+        over = λ o. absurd (let f : s.cmd ≡ None = (mine.over o).0 in let g : Some x ≡ None = sym cmd ∙ f in cc);
+      })

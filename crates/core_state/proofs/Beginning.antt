@@ -1,0 +1,118 @@
+-- A node begins a command.
+use Rattle.std.proofs.Common.{◌≡◌, ◌≢◌, ◌≤◌, ◌<◌, ◌+◌, ◌++◌, ℕ, zero, suc, Bool, true, false, List, [], ◌∷◌, Option, Some, None, length, map, slice_get, slice_set, refl, sym, ap, subst, ◌∙◌, inl, inr, arith}
+use Rattle.std.specs.Prelude.{slice_index_or, replicate}
+use Rattle.vol_words.specs.Fields.{Block}
+use Rattle.lock_db.specs.declared.name.LockName.{LockName}
+use Rattle.lock_db.specs.declared.resource.Resource.{Resource}
+use Rattle.lock_db.specs.Tables.{IsTable, asked}
+use Rattle.plain_cat.specs.declared.mode.Mode.{Mode}
+use Rattle.plain_cat.specs.declared.mode.Mode.TheVariants.{PR, PW}
+use Rattle.plain_cat.specs.declared.command.Cmd.{Cmd}
+use Rattle.plain_cat.specs.declared.cat.Cat.{Cat}
+use Rattle.plain_vol.specs.Own.{past, next_command}
+use Rattle.node_locks.specs.Held.{system_of, names_of, AreHeld, waits_at, held_locks, with_locks}
+use Rattle.node_locks.proofs.Asking.{asking_holds}
+use Rattle.node_locks.proofs.Keeping.{writers_are_sole, all_are_held}
+use Rattle.op_law.proofs.Going.{seen_goes_on}
+use Rattle.vol_owners.specs.Lists.{Has, Touches, StandsIn}
+use Rattle.vol_owners.specs.Owners.{Owners, nothing, Outs}
+use Rattle.vol_parts.specs.declared.geometry.Geometry.{Geometry}
+use Rattle.vol_spell.specs.Spelling.{Spells}
+use Rattle.vol_under.specs.Guards.{guard_of, MayWrite, MayLook}
+use Rattle.vol_under.specs.UnderWay.{PlannedWrite, UnderWay, resting, changed, AreSole}
+use Rattle.vol_under.specs.Under.{IsUnder}
+use Rattle.op_law.specs.declared.need.Need.{Need}
+use Rattle.op_law.specs.declared.need.Need.TheVariants as need
+use Rattle.op_law.specs.declared.need.Plan.{Plan}
+use Rattle.op_law.specs.declared.need.PlanWrite.{PlanWrite}
+use Rattle.op_law.specs.declared.need.Ask.{Ask as PlanAsk}
+use Rattle.op_law.specs.declared.seen.Seen.{Seen}
+use Rattle.op_law.specs.Events.{space_of, HasNoSpace}
+use Rattle.op_law.specs.Needs.{IsNext, need_of}
+use Rattle.op_law.specs.Fits.{HasSeen, things, IsSeenOn}
+use Rattle.op_law.specs.Going.{GoesOn, SeenGoesOn, with_lock, with_block}
+use Rattle.op_law.specs.Knows.{may_ask, knows}
+use Rattle.op_law.specs.Laws.{held_in, planned, under_way, MayNeed, IsRight, IsPlan, Lawful}
+use Rattle.core_state.specs.Worlds.{NodeState, Plain, node_at, set_node, with_node, locks_in, locks_of}
+use Rattle.core_state.specs.Goods.{is_run, writes_of, under_with, nodes_under, IsRunning, AreLocked, IsAtPlan, IsAt, IsIdle, HasCommand, IsNode, Good}
+use Rattle.core_state.specs.Events.{begun, block_at, turned, asking, looking, deciding, writing, leaving}
+use Rattle.core_state.proofs.Nodes.{at_here, at_else}
+use Rattle.core_state.proofs.Holding.{held_grows}
+use Rattle.core_state.proofs.Running.{at_locks, under_now, under_here, are_sole}
+use Rattle.core_state.proofs.Taking.{takes_up, looks, decides, writes}
+use Rattle.core_state.proofs.Keeping.{altered, rebuilt, held_set, held_same}
+
+-- a node under way by what it is made of
+abbrev shape : ℕ → Cmd → Seen → List Resource → List (LockName × Mode) → List (ℕ × Block) → List ℕ → Option ℕ → Option Plan → ℕ → UnderWay
+shape n x seen t locks blocks clusters number plan done = record {
+  read = held_in PR (held_locks t n locks);
+  write = held_in PW (held_locks t n locks);
+  cmd = Some x;
+  seen = blocks;
+  knows = knows n x seen;
+  took = things clusters number;
+  plan = map planned (writes_of plan);
+  done = done;
+  stock = nothing;
+}
+
+-- ---- a node of a good world
+
+module _ (w : Plain) (good : Good w) (n : ℕ) (s : NodeState) (at : node_at w.nodes n ≡ Some s) where
+  node : IsNode w n s
+  node = good.nodes n s at
+
+  sole : AreSole (nodes_under w.locks w.nodes)
+  sole = are_sole w.locks w.nodes good.locked.0 good.locked.1
+
+  -- the node's locks
+  pub held_at : AreHeld w.locks (locks_of w.nodes)
+  held_at = good.locked.1
+
+  my_locks : locks_of w.nodes n ≡ s.seen.locks
+  my_locks = ap locks_in at
+
+  locks_at : (m : ℕ) (q : NodeState) → node_at w.nodes m ≡ Some q → locks_of w.nodes m ≡ q.seen.locks
+  locks_at m q e = ap locks_in e
+
+  same_history : (m : ℕ) → m ≢ n → past m w.history ≡ past m w.history
+  same_history m ne = refl
+
+  -- a change of the node alone
+  alone : (r : NodeState) → r.seen.locks ≡ s.seen.locks → IsUnder w.geometry good.running.cat (changed (nodes_under w.locks w.nodes) n (under_with w.locks n r r.cmd)) w.blocks
+      → IsNode (with_node w n r) n r → Good (with_node w n r)
+  alone r same drive is = rebuilt w good n s r at w.locks w.blocks w.history
+      (record { cat = good.running.cat; replayed = good.running.replayed; drive = under_now w.geometry good.running.cat w.locks w.locks w.nodes n s r w.blocks at (λ m q ne e. refl) drive })
+      (good.locked.0, held_same w.locks w.nodes n s r at same held_at) good.own same_history (λ m q ne e waits. waits) is
+
+  -- ---- begun
+
+  begins_under : (x : Cmd) → s.cmd ≡ None → IsIdle s
+      → IsUnder w.geometry good.running.cat (changed (nodes_under w.locks w.nodes) n (under_with w.locks n (begun s x) (Some x))) w.blocks
+  begins_under x none idle =
+      let is : nodes_under w.locks w.nodes n ≡ resting nothing = under_here w.locks w.nodes n s at ∙ ap (under_with w.locks n s) none in
+      let u = takes_up w.geometry good.running.cat (nodes_under w.locks w.nodes) w.blocks n (resting nothing) is good.running.drive refl (Some x) (knows n x s.seen) [] [] (λ name t. t) in
+      let here : shape n x s.seen w.locks [] [] [] None None 0 ≡ under_with w.locks n (begun s x) (Some x)
+      = λ i. shape n x s.seen w.locks (sym idle.locks i) (sym idle.blocks i) (sym node.space.clusters i) (sym node.space.number i) (sym idle.plan i) (sym idle.done i) in
+      subst (λ (v : UnderWay). IsUnder w.geometry good.running.cat (changed (nodes_under w.locks w.nodes) n v) w.blocks) here u
+
+  pub begins : (x : Cmd) → s.cmd ≡ None → s.over ≡ false → next_command w.script n w.history ≡ Some x → Lawful x → Good (with_node w n (begun s x))
+  begins x none on next law =
+      let idle : IsIdle s = subst (HasCommand w n s) none node.command in
+      let goes : GoesOn x = seen_goes_on x law.searches in
+      alone (begun s x) refl (begins_under x none idle) (record {
+        past = node.past;
+        alive = node.alive;
+        closed = node.closed;
+        geometry = node.geometry;
+        channel = node.channel;
+        space = node.space;
+        command = record {
+          next = next;
+          runs = good.runs n w.history x (subst (λ p. p.channels ≡ replicate 8 false) node.past node.closed) next;
+          lawful = law;
+          seen = goes.first s.seen idle.locks idle.blocks node.space;
+          plan = subst (IsAtPlan x (waits_at w.locks n s.seen.locks) s.seen s.done) (sym idle.plan) idle.done;
+        };
+        over = λ o. absurd (let f : true ≡ false = sym o ∙ on in cc);
+      })

@@ -1,0 +1,12 @@
+pub mod Nodes
+pub mod Driving
+pub mod Holding
+pub mod Running
+pub mod Taking
+pub mod Keeping
+pub mod RunKinds
+pub mod Beginning
+pub mod Turning
+pub mod Answering
+pub mod Turns
+pub mod MountedWorlds

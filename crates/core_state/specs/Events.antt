@@ -1,0 +1,185 @@
+-- The event of a node's turn, and what it makes of the world.
+use Rattle.std.specs.Prelude.{◌+◌, ◌-◌, ◌^◌, ◌++◌, ◌||◌, min, ℕ, Bool, true, false, List, [], ◌∷◌, Option, Some, None, slice_get, slice_set, slice_index_or, if◌then◌else◌}
+use Rattle.vol_words.specs.Fields.{Block}
+use Rattle.lock_db.specs.declared.name.LockName.{LockName}
+use Rattle.lock_db.specs.declared.resource.Resource.{Resource}
+use Rattle.lock_db.specs.Tables.{resource_at, asked, released}
+use Rattle.plain_cat.specs.declared.mode.Mode.{Mode}
+use Rattle.plain_cat.specs.declared.command.Cmd.{Cmd}
+use Rattle.plain_cat.specs.declared.reply.Reply.{Reply}
+use Rattle.plain_cat.specs.declared.history.Entry.TheVariants.{Done}
+use Rattle.plain_vol.specs.Own.{after_answer}
+use Rattle.vol_parts.specs.declared.geometry.Geometry.{Geometry}
+use Rattle.node_locks.specs.Held.{system_of, waits_at}
+use Rattle.node_locks.specs.Sequences.{raised_block}
+use Rattle.op_law.specs.declared.need.Need.{Need}
+use Rattle.op_law.specs.declared.need.Need.TheVariants as need
+use Rattle.op_law.specs.declared.need.Plan.{Plan}
+use Rattle.op_law.specs.declared.need.PlanWrite.{PlanWrite}
+use Rattle.op_law.specs.declared.seen.Seen.{Seen}
+use Rattle.op_law.specs.Needs.{need_of}
+use Rattle.op_law.specs.Going.{with_lock, with_block}
+use Rattle.core_state.specs.Worlds.{NodeState, Plain, node_at, with_node, current}
+use Rattle.core_state.specs.Goods.{writes_of}
+use Rattle.core_state.specs.Raises.{raise_of}
+
+pub data Event : Type 0 where
+  -- the node is over
+  Rest : Event
+  -- its request stands in a queue still
+  Stand : Event
+  -- its script is done, and it leaves the volume
+  Leave : Event
+  -- its command asks for a lock
+  Ask : Cmd → LockName → Mode → Event
+  -- its command looks at a block
+  See : Cmd → ℕ → Event
+  -- its command needs space, which no command does that a world runs so far
+  Search : Event
+  -- its command decides on a plan
+  Decide : Cmd → Plan → Event
+  -- it makes the next write of its plan
+  Put : PlanWrite → Event
+  -- it answers
+  Answer : Cmd → Reply → Event
+
+-- ---- which event comes
+
+abbrev pub by_need : Cmd → Need → Event
+by_need x (need.Lock name mode) = Ask x name mode
+by_need x (need.Block name lbn) = See x lbn
+by_need x (need.Bare lbn) = See x lbn
+by_need x (need.Space clusters number) = Search
+by_need x (need.Ready p) = Decide x p
+
+-- the next write of a plan, and behind them the answer
+abbrev pub by_write : Cmd → Reply → Option PlanWrite → Event
+by_write x r (Some w) = Put w
+by_write x r None = Answer x r
+
+abbrev pub by_plan : Cmd → NodeState → Option Plan → Event
+by_plan x s None = by_need x (need_of x s.seen)
+by_plan x s (Some p) = by_write x p.reply (slice_get p.writes s.done)
+
+abbrev pub by_command : NodeState → Option Cmd → Event
+by_command s None = Leave
+by_command s (Some x) = by_plan x s s.plan
+
+-- the first rule that applies
+abbrev pub event_of : Plain → ℕ → Option NodeState → Event
+event_of w n None = Rest
+event_of w n (Some s) =
+    if s.over then Rest else if waits_at w.locks n s.seen.locks then Stand else by_command s (current w n s)
+
+abbrev pub next_event : Plain → ℕ → Event
+next_event w n = event_of w n (node_at w.nodes n)
+
+-- whether the next event of a node is a write
+abbrev pub is_write : Event → Bool
+is_write (Put w) = true
+is_write other = false
+
+-- ---- what an event makes of the world
+
+-- one more, up to the last value of 64 bits
+abbrev pub one_more : ℕ → ℕ
+one_more n = min (n + 1) (2 ^ 64 - 1)
+
+-- the locks given back, in order, each with its value block raised by the writes under it
+abbrev pub given_back : Geometry → ℕ → List PlanWrite → List (LockName × Mode) → List Resource → List Resource
+given_back g n ws [] t = t
+given_back g n ws (l ∷ locks) t = given_back g n ws locks (released l.0 (system_of n) (raised_block (raise_of g l.0 ws) (resource_at l.0 t)) t)
+
+-- nothing is seen yet
+abbrev pub unseen : Seen → Seen
+unseen seen = record { geometry = seen.geometry; channel = None; locks = []; blocks = []; clusters = []; number = None; short = None }
+
+-- the block of an LBN
+abbrev pub block_at : List Block → ℕ → Block
+block_at bs lbn = slice_index_or bs lbn []
+
+abbrev pub turned : NodeState → NodeState
+turned s = record s { turns = one_more s.turns }
+
+abbrev pub asking : NodeState → Cmd → LockName → Mode → NodeState
+asking s x name mode = record s { cmd = Some x; seen = with_lock name mode s.seen }
+
+abbrev pub looking : NodeState → Cmd → ℕ → Block → NodeState
+looking s x lbn b = record s { cmd = Some x; seen = with_block lbn b s.seen; reads = one_more s.reads }
+
+abbrev pub deciding : NodeState → Cmd → Plan → NodeState
+deciding s x p = record s { cmd = Some x; plan = Some p; done = 0 }
+
+abbrev pub writing : NodeState → NodeState
+writing s = record s { done = s.done + 1; writes = one_more s.writes }
+
+abbrev pub answering : NodeState → Cmd → Reply → NodeState
+answering s x r = record s { past = after_answer s.past x r; cmd = None; seen = unseen s.seen; plan = None; done = 0 }
+
+abbrev pub leaving : NodeState → NodeState
+leaving s = record s { over = true }
+
+-- an event of node n, which stands as s
+abbrev pub happens : Plain → ℕ → NodeState → Event → Plain
+happens w n s Rest = with_node w n (turned s)
+happens w n s Stand = with_node w n (turned s)
+happens w n s Leave = with_node w n (turned (leaving s))
+happens w n s (Ask x name mode) = with_node (record w { locks = asked name (system_of n) mode w.locks }) n (turned (asking s x name mode))
+happens w n s (See x lbn) = with_node w n (turned (looking s x lbn (block_at w.blocks lbn)))
+happens w n s Search = w
+happens w n s (Decide x p) = with_node w n (turned (deciding s x p))
+happens w n s (Put v) = with_node (record w { blocks = slice_set w.blocks v.lbn v.block }) n (turned (writing s))
+happens w n s (Answer x r) =
+    with_node (record w { history = w.history ++ Done n x r ∷ []; locks = given_back w.geometry n (writes_of s.plan) s.seen.locks w.locks }) n (turned (answering s x r))
+
+abbrev pub happen_at : Plain → ℕ → Option NodeState → Event → Plain
+happen_at w n None e = w
+happen_at w n (Some s) e = happens w n s e
+
+-- the world after an event of node n
+abbrev pub happen : Plain → ℕ → Event → Plain
+happen w n e = happen_at w n (node_at w.nodes n) e
+
+-- the world after a turn of node n
+abbrev pub after_turn : Plain → ℕ → Plain
+after_turn w n = happen w n (next_event w n)
+
+-- a node has left
+abbrev pub is_over_in : Option NodeState → Bool
+is_over_in None = true
+is_over_in (Some s) = s.over || s.past.dead
+
+abbrev pub is_over : Plain → ℕ → Bool
+is_over w n = is_over_in (node_at w.nodes n)
+
+-- the command that a node has begun
+abbrev pub command_in : Option NodeState → Option Cmd
+command_in None = None
+command_in (Some s) = s.cmd
+
+abbrev pub command_at : Plain → ℕ → Option Cmd
+command_at w n = command_in (node_at w.nodes n)
+
+-- the plan that a node has decided on
+abbrev pub plan_in : Option NodeState → Option Plan
+plan_in None = None
+plan_in (Some s) = s.plan
+
+abbrev pub plan_at : Plain → ℕ → Option Plan
+plan_at w n = plan_in (node_at w.nodes n)
+
+-- a node with the command x
+abbrev pub begun : NodeState → Cmd → NodeState
+begun s x = record s { cmd = Some x }
+
+-- the event of a node that has begun a command, and does not wait
+abbrev pub by_begun : NodeState → Option Cmd → Event
+by_begun s None = Rest
+by_begun s (Some x) = by_plan x s s.plan
+
+abbrev pub command_event_of : Option NodeState → Event
+command_event_of None = Rest
+command_event_of (Some s) = by_begun s s.cmd
+
+abbrev pub command_event : Plain → ℕ → Event
+command_event w n = command_event_of (node_at w.nodes n)

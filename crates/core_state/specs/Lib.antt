@@ -1,0 +1,6 @@
+pub mod Worlds
+pub mod Images
+pub mod Raises
+pub mod Goods
+pub mod Mounting
+pub mod Events

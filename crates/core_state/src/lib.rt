@@ -1,0 +1,13 @@
+//! The world of a cluster: a drive, a lock table, the nodes with their commands under way, and the history of their answers.
+#![tactic(auto)]
+
+mod cluster;
+mod mounting;
+mod node;
+mod world;
+
+pub use cluster::Core;
+pub use mounting::{MountFault, MountRefused};
+pub use node::Node;
+pub use op_law::NoMemory;
+pub use world::World;

@@ -1,0 +1,34 @@
+use node_past::Past;
+use op_law::{Operation, Plan, Seen};
+
+/// A node of the cluster.
+#[derive(Drop)]
+pub struct Node<O: Operation> {
+    /// What it has of its answers so far.
+    pub past: Past,
+
+    /// Its command under way.
+    pub op: Option<O>,
+
+    /// What it has seen for the command. Its locks are those that the command has asked for, of which the last may still stand
+    /// in a queue.
+    pub seen: Seen,
+
+    /// What it has decided on.
+    pub plan: Option<Plan>,
+
+    /// How many writes of the plan are done.
+    pub done: usize,
+
+    /// Its script is done, and it has left the volume.
+    pub over: bool,
+
+    /// How many turns it has made since mounting, and how many blocks it has written. Each count stays at the last value of 64
+    /// bits, as the next two do.
+    pub turns: u64,
+    pub writes: u64,
+
+    /// How many blocks it has read from the drive, and how many it has found cached.
+    pub reads: u64,
+    pub hits: u64,
+}

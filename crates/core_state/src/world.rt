@@ -1,0 +1,81 @@
+ghost use Rattle.std.specs.Prelude.{◌≡◌, ◌≤◌, length};
+ghost use Rattle.core_state.specs.Worlds.{IsOfWorld};
+ghost use Rattle.core_state.specs.Goods.{Good};
+ghost use Rattle.core_state.specs.Events.{is_over};
+
+use crate::cluster::Core;
+use blk_drive::{ImageDev, Mirror};
+use op_law::Operation;
+use plain_cat::{Cat, Entry, History, Script};
+use std::marker::Model;
+
+/// A mounted volume and the nodes that run a script on it.
+///
+/// At every moment the history of the answers replays from the opening catalogue, in each node's own order; the drive has the
+/// blocks of the catalogue to which it leads, with the writes done of each command under way; and each lock that a command needs
+/// is held.
+#[derive(Drop)]
+pub struct World<I: ImageDev, O: Operation> {
+    pub core: Core<I, O>,
+}
+
+impl<I: ImageDev, O: Operation> Model for World<I, O> {
+    ghost use Rattle.core_state.specs.Worlds.{Held, plain_of};
+    ghost use Rattle.core_state.specs.Goods.{IsWorld};
+
+    ghost Value = { Held I };
+
+    ghost view = { λ w. record { world = plain_of O.cmd_is w.core; image = w.core.mirror.image; room = w.core.history.room } };
+
+    ghost invariant = { λ w. IsWorld O.takes (plain_of O.cmd_is w.core) w.core.history.room };
+}
+
+impl<I: ImageDev, O: Operation> World<I, O> {
+    /// Every world keeps the rules: what holds of it as it is mounted and after each event holds of it at any time.
+    pub fn keeps_the_rules(&self)
+        ensures good { Good self.now.world }
+        ensures few { length self.now.world.nodes ≤ 8 }
+        ensures lines { length self.now.world.script.lines ≤ 4096 }
+    {
+        let _core = &self.core;
+    }
+
+    /// The answers so far, in order.
+    pub fn history(&self) -> &[Entry]
+        ensures { result.now ≡ self.now.world.history }
+    {
+        self.core.history.items()
+    }
+
+    /// The catalogue that the volume told as it was mounted.
+    pub fn opening(&self) -> &Cat
+        ensures { result.now ≡ self.now.world.opening }
+    {
+        &self.core.opening
+    }
+
+    /// The script that the nodes run.
+    pub fn script(&self) -> &Script
+        ensures { result.now ≡ self.now.world.script }
+    {
+        &self.core.script
+    }
+
+    /// Whether a node is dead, or has left after its script was done. The nodes count from 1.
+    pub fn is_over(&self, node: u8) -> bool
+        requires { IsOfWorld self.now.world node }
+        ensures { result ≡ is_over self.now.world node }
+    {
+        let node = &self.core.nodes[node as usize - 1];
+        node.over || node.past.is_dead()
+    }
+
+    /// The history and the drive.
+    pub fn into_parts(self) -> (History, Mirror<I>)
+        ensures history { result.0.items ≡ self.world.history }
+        ensures blocks { result.1.blocks ≡ self.world.blocks }
+        ensures image { result.1.image ≡ self.image }
+    {
+        (self.core.history, self.core.mirror)
+    }
+}

@@ -1,0 +1,395 @@
+-- What is known of a node that goes on with its command.
+use Rattle.std.proofs.Common.{◌≡◌, ◌≤◌, ◌<◌, ◌+◌, ◌-◌, ◌++◌, ℕ, zero, suc, Bool, true, false, cond, List, [], ◌∷◌, Option, Some, None, length, map, slice_get, slice_set, refl, sym, ap, subst, ◌∙◌, inl, inr, arith}
+use Rattle.std.specs.Prelude.{◌==◌, slice_index_or, not, option_map, IfSome, IsSome, is_some, replicate}
+use Rattle.std.proofs.lemmas.Bool.Decides.{nat_tests}
+use Rattle.std.proofs.lemmas.Option.{slice_get_within}
+use Rattle.vol_words.specs.Fields.{Block}
+use Rattle.lock_db.specs.declared.name.LockName.{LockName}
+use Rattle.lock_db.specs.declared.resource.Resource.{Resource}
+use Rattle.lock_db.specs.Queues.{standing_of}
+use Rattle.lock_db.specs.declared.resource.Asked.{Asked}
+use Rattle.lock_db.specs.declared.resource.Asked.TheVariants as asked_so
+use Rattle.lock_db.specs.Resources.{goes_at_once, asked_answer}
+use Rattle.lock_db.specs.Tables.{IsTable, resource_at, asked, released}
+use Rattle.lock_db.proofs.Steps.{IsTable-released}
+use Rattle.plain_cat.specs.declared.mode.Mode.{Mode}
+use Rattle.plain_cat.specs.declared.command.Cmd.{Cmd}
+use Rattle.plain_cat.specs.declared.reply.Reply.{Reply}
+use Rattle.plain_cat.specs.declared.script.Script.{Script}
+use Rattle.plain_cat.specs.declared.script.Line.{Line}
+use Rattle.plain_cat.specs.declared.script.LineCmd.{LineCmd}
+use Rattle.plain_cat.specs.declared.cat.Cat.{Cat}
+use Rattle.plain_vol.specs.Own.{NodePast, past, lines_of, or_close, close_from, command_after, next_command}
+use Rattle.node_locks.specs.Held.{system_of, names_of, HoldsItsLocks, AreHeld, waits_at, held_locks, with_locks}
+use Rattle.node_locks.specs.Sequences.{raised_block}
+use Rattle.node_locks.proofs.Asking.{asking_holds}
+use Rattle.node_locks.proofs.Giving.{giving_holds}
+use Rattle.node_locks.proofs.Keeping.{may_give}
+use Rattle.vol_owners.specs.Lists.{Has, Touches, StandsIn}
+use Rattle.vol_owners.specs.Owners.{Owners, nothing, Outs}
+use Rattle.vol_owners.specs.declared.owner.Owner.{Owner}
+use Rattle.vol_parts.specs.declared.geometry.Geometry.{Geometry}
+use Rattle.vol_parts.specs.declared.geometry.Part.{Part}
+use Rattle.vol_parts.specs.Parts.{part_of}
+use Rattle.vol_spell.specs.Reading.{owner_at}
+use Rattle.vol_spell.specs.Spelling.{Spells}
+use Rattle.vol_spell.proofs.Parts.{are_parts}
+use Rattle.vol_spell.proofs.Frames.{on_volume}
+use Rattle.vol_under.specs.Guards.{guard_by, guard_by_owner, guard_of, MayWrite}
+use Rattle.vol_under.specs.UnderWay.{UnderWay, bare}
+use Rattle.vol_under.proofs.Nodes.{next_in}
+use Rattle.op_law.specs.declared.need.Need.{Need}
+use Rattle.op_law.specs.declared.need.Need.TheVariants as need
+use Rattle.op_law.specs.declared.need.Plan.{Plan}
+use Rattle.op_law.specs.declared.need.PlanWrite.{PlanWrite}
+use Rattle.op_law.specs.declared.seen.Seen.{Seen}
+use Rattle.op_law.specs.Needs.{need_of, IsNext}
+use Rattle.op_law.specs.Fits.{FitsSeen}
+use Rattle.op_law.specs.Laws.{planned}
+use Rattle.core_state.specs.Worlds.{NodeState, Plain, node_at, set_node, locks_in, locks_of}
+use Rattle.core_state.specs.Raises.{raise_of}
+use Rattle.core_state.specs.Goods.{is_run, writes_of, IsAtPlan, IsAt, IsNode, Good, decided, HasRoom}
+use Rattle.core_state.specs.Events.{Event, Ask, See, Decide, Put, Answer, happens, happen, block_at, turned, asking, looking, deciding, writing, answering, by_need, by_write, by_plan, by_begun, command_event_of, command_event, command_in, command_at, plan_in, plan_at}
+use Rattle.core_state.specs.Worlds.{state_of}
+use Rattle.core_state.specs.declared.node.Node.{Node}
+use Rattle.core_state.proofs.Nodes.{at_here, length_node, told_at}
+use Rattle.core_state.proofs.RunKinds.{run_space}
+use Rattle.core_state.proofs.Turning.{under_command, seen_on, may_need, here, planned_at}
+use Rattle.core_step.specs.Giving.{MayGiveAll, MayEnd}
+use Rattle.core_step.specs.Ready.{IsReady}
+use Rattle.core_step.specs.declared.turns.Turn.TheVariants as turn
+use Rattle.core_step.specs.declared.turns.Kind.TheVariants as kind
+use Rattle.core_step.specs.Turns.{is_queued_in, told}
+use Rattle.core_step.proofs.Steps.{happen_here, is_there}
+
+-- ---- what the operation of a node tells
+
+pub need_told : {O : Type 0} (cmd_is : O → Cmd) (o : Option O) (x : Cmd) (seen : Seen) (next : Need) → option_map cmd_is o ≡ Some x → IfSome o (λ op. need_of (cmd_is op) seen ≡ next) → need_of x seen ≡ next
+need_told cmd_is None x seen next e n = absurd (let f : None ≡ Some x = e in cc)
+need_told cmd_is (Some op) x seen next e n = let f : Some (cmd_is op) ≡ Some x = e in let h : x ≡ cmd_is op = cc in ap (λ y. need_of y seen) h ∙ n
+
+pub fits_told : {O : Type 0} (cmd_is : O → Cmd) (o : Option O) (x : Cmd) (seen : Seen) → option_map cmd_is o ≡ Some x → FitsSeen x seen → IfSome o (λ op. FitsSeen (cmd_is op) seen)
+fits_told cmd_is None x seen e fits = absurd (let f : None ≡ Some x = e in cc)
+fits_told cmd_is (Some op) x seen e fits = let f : Some (cmd_is op) ≡ Some x = e in let h : x ≡ cmd_is op = cc in subst (λ (y : Cmd). FitsSeen y seen) h fits
+
+-- ---- a block that is guarded is one of the volume's
+
+module _ (g : Geometry) (bs : List Block) (own : Owners) (c : Cat) (s : Spells g bs own c) where
+  guard_within : (node l : ℕ) (locks : List LockName) → MayWrite node locks (guard_of g own l) → l < length bs
+  guard_within node l locks may = by_part (part_of g l) refl may where
+    by_owner : (o : Option Owner) → owner_at g own l ≡ o → MayWrite node locks (guard_by_owner o) → l < length bs
+    by_owner None e may = absurd may
+    by_owner (Some o) e may = on_volume g bs own c s l o e
+
+    by_part : (p : Option Part) → part_of g l ≡ p → MayWrite node locks (guard_by p (owner_at g own l)) → l < length bs
+    by_part (Some p) e may = on_volume g bs own c s l _ ((are_parts g bs own c s).owned l p e)
+    by_part None e may = by_owner (owner_at g own l) refl may
+
+-- ---- the locks can all be given back
+
+give_each : (g : Geometry) (n : ℕ) (ws : List PlanWrite) (ls : List (LockName × Mode)) (locks : ℕ → List (LockName × Mode)) (t : List Resource) → IsTable t → AreHeld t locks → waits_at t n (locks n) ≡ false → locks n ≡ ls
+    → MayGiveAll g n ws ls t
+give_each g n ws [] locks t table held waits is = tt
+give_each g n ws (l ∷ ls) locks t table held waits is =
+    let value : List ℕ = raised_block (raise_of g l.0 ws) (resource_at l.0 t) in
+    let u : List Resource = released l.0 (system_of n) value t in
+    let one = giving_holds t n l ls value locks table held waits is in
+    let here : with_locks locks n ls n ≡ ls = grind (arith, nat_tests) in (
+      may_give t n l ls (subst (λ (xs : List (LockName × Mode)). HoldsItsLocks t n xs) is (held n)) (subst (λ (xs : List (LockName × Mode)). waits_at t n xs ≡ false) is waits),
+      give_each g n ws ls (with_locks locks n ls) u (IsTable-released l.0 (system_of n) value t table) one.held (subst (λ (xs : List (LockName × Mode)). waits_at u n xs ≡ false) (sym here) one.waits) here,
+    )
+
+-- ---- a node's answers are fewer than its lines
+
+few_lines : (n : ℕ) (ls : List Line) → length (lines_of n ls) ≤ length ls
+few_lines n [] = omega arith
+few_lines n (l ∷ ls) = by_test (l.node == n) refl (few_lines n ls) where
+  by_test : (t : Bool) → (l.node == n) ≡ t → length (lines_of n ls) ≤ length ls → length (cond t (l.cmd ∷ lines_of n ls) (lines_of n ls)) ≤ suc (length ls)
+  by_test true e r = omega arith
+  by_test false e r = omega arith
+
+no_close : (n : ℕ) (p : NodePast) (o : Option LineCmd) (x : Cmd) → p.channels ≡ replicate 8 false → or_close p o ≡ Some x → IsSome o
+no_close n p None x closed e = absurd (let f : close_from 1 (replicate 8 false) ≡ Some x = ap (close_from 1) (sym closed) ∙ e in let g : None ≡ Some x = f in cc)
+no_close n p (Some l) x closed e = refl
+
+there_within : {A : Type 0} (xs : List A) (k : ℕ) → IsSome (slice_get xs k) → k < length xs
+there_within [] k i = absurd (let f : false ≡ true = i in cc)
+there_within (x ∷ xs) zero i = omega arith
+there_within (x ∷ xs) (suc k) i = let lt = there_within xs k i in omega arith
+
+-- ---- how many nodes have decided
+
+pub decided_few : (ns : List NodeState) → decided ns ≤ length ns
+decided_few [] = omega arith
+decided_few (s ∷ ns) = by_test (is_some s.plan) (decided_few ns) where
+  by_test : (t : Bool) → decided ns ≤ length ns → cond t 1 0 + decided ns ≤ suc (length ns)
+  by_test true le = omega arith
+  by_test false le = omega arith
+
+first_counts : (k : ℕ) → 1 ≤ 1 + k
+first_counts k = omega arith
+
+others_count : (k : ℕ) → 1 ≤ k → 1 ≤ 0 + k
+others_count k le = omega arith
+
+changed_counts : (a b d e : ℕ) → e ≡ b → (a + d) + b ≡ (e + d) + a
+changed_counts a b d e same = omega arith
+
+later_counts : (a b c d e : ℕ) → d + b ≡ e + c → (a + d) + b ≡ (a + e) + c
+later_counts a b c d e same = omega arith
+
+at_decided : (ns : List NodeState) (k : ℕ) (s : NodeState) → slice_get ns k ≡ Some s → is_some s.plan ≡ true → 1 ≤ decided ns
+at_decided [] k s e made = absurd (let f : None ≡ Some s = e in cc)
+at_decided (x ∷ ns) zero s e made =
+    let f : Some x ≡ Some s = e in
+    let h : x ≡ s = cc in
+    let one : is_some x.plan ≡ true = ap (λ y. is_some y.plan) h ∙ made in
+    subst (λ (t : Bool). 1 ≤ cond t 1 0 + decided ns) (sym one) (first_counts (decided ns))
+at_decided (x ∷ ns) (suc k) s e made = by_test (is_some x.plan) (at_decided ns k s e made) where
+  by_test : (t : Bool) → 1 ≤ decided ns → 1 ≤ cond t 1 0 + decided ns
+  by_test true le = first_counts (decided ns)
+  by_test false le = others_count (decided ns) le
+
+pub has_decided : (ns : List NodeState) (n : ℕ) (s : NodeState) → node_at ns n ≡ Some s → is_some s.plan ≡ true → 1 ≤ decided ns
+has_decided ns zero s e made = absurd (let f : None ≡ Some s = e in cc)
+has_decided ns (suc k) s e made = at_decided ns k s e made
+
+-- a node with another plan
+decided_place : (ns : List NodeState) (k : ℕ) (s r : NodeState) → slice_get ns k ≡ Some s → decided (slice_set ns k r) + cond (is_some s.plan) 1 0 ≡ decided ns + cond (is_some r.plan) 1 0
+decided_place [] k s r e = absurd (let f : None ≡ Some s = e in cc)
+decided_place (x ∷ ns) zero s r e =
+    let f : Some x ≡ Some s = e in
+    let h : x ≡ s = cc in
+    changed_counts (cond (is_some r.plan) 1 0) (cond (is_some s.plan) 1 0) (decided ns) (cond (is_some x.plan) 1 0) (ap (λ y. cond (is_some y.plan) 1 0) h)
+decided_place (x ∷ ns) (suc k) s r e =
+    later_counts (cond (is_some x.plan) 1 0) (cond (is_some s.plan) 1 0) (cond (is_some r.plan) 1 0) (decided (slice_set ns k r)) (decided ns) (decided_place ns k s r e)
+
+pub decided_set : (ns : List NodeState) (n : ℕ) (s r : NodeState) → node_at ns n ≡ Some s → decided (set_node ns n r) + cond (is_some s.plan) 1 0 ≡ decided ns + cond (is_some r.plan) 1 0
+decided_set ns zero s r e = absurd (let f : None ≡ Some s = e in cc)
+decided_set ns (suc k) s r e = decided_place ns k s r e
+
+-- ---- the node
+
+module _ (w : Plain) (good : Good w) (n : ℕ) (r : IsReady w n) where
+  abbrev s : NodeState
+  s = r.state
+
+  node : IsNode w n s
+  node = good.nodes n s r.at
+
+  is_at : IsAt w n s r.cmd
+  is_at = under_command w good n s r.at r.cmd r.has r.free
+
+  pub fits : FitsSeen r.cmd s.seen
+  fits = record {
+    order = is_at.seen;
+    node = n;
+    blocks = good.running.drive.base;
+    own = good.running.drive.own;
+    cat = good.running.cat;
+    on = seen_on w good n s r.at r.cmd r.has r.free;
+  }
+
+  pub event_is : command_event w n ≡ by_plan r.cmd s s.plan
+  event_is = ap command_event_of r.at ∙ ap (by_begun s) r.has
+
+  pub has_plan : (o : Option Plan) → plan_at w n ≡ o → s.plan ≡ o
+  has_plan o e = sym (ap plan_in r.at) ∙ e
+
+  pub event_need : plan_at w n ≡ None → (next : Need) → need_of r.cmd s.seen ≡ next → command_event w n ≡ by_need r.cmd next
+  event_need none next e = event_is ∙ ap (by_plan r.cmd s) (has_plan None none) ∙ ap (by_need r.cmd) e
+
+  pub event_write : (p : Plan) → s.plan ≡ Some p → (o : Option PlanWrite) → slice_get p.writes s.done ≡ o → command_event w n ≡ by_write r.cmd p.reply o
+  event_write p plan o e = event_is ∙ ap (by_plan r.cmd s) plan ∙ ap (by_write r.cmd p.reply) e
+
+  -- a lock that is needed can be asked for
+  pub may_lock : (name : LockName) (mode : Mode) → IsNext r.cmd s.seen (need.Lock name mode) → standing_of (system_of n) (resource_at name w.locks).askers ≡ None
+  may_lock name mode is =
+      (subst (λ (ls : List (LockName × Mode)). HoldsItsLocks w.locks n ls) (ap locks_in r.at) (good.locked.1 n)).no_other name ((may_need w good n s r.at r.cmd r.has r.free (need.Lock name mode) is).0)
+
+  -- and it stands in a queue where it was not granted at once
+  pub asked_waits : (name : LockName) (mode : Mode) → IsNext r.cmd s.seen (need.Lock name mode)
+      → waits_at (asked name (system_of n) mode w.locks) n (s.seen.locks ++ (name, mode) ∷ []) ≡ not (goes_at_once (system_of n) mode (resource_at name w.locks).askers)
+  asked_waits name mode is =
+      let mine : locks_of w.nodes n ≡ s.seen.locks = ap locks_in r.at in
+      let new : Has (names_of s.seen.locks) name → ⊥ = (may_need w good n s r.at r.cmd r.has r.free (need.Lock name mode) is).0 in
+      let after = asking_holds w.locks n (name, mode) (locks_of w.nodes) good.locked.1
+      (subst (λ (ls : List (LockName × Mode)). waits_at w.locks n ls ≡ false) (sym mine) r.free)
+      (λ h. new (subst (λ (ls : List (LockName × Mode)). Has (names_of ls) name) mine h)) in
+      subst (λ (ls : List (LockName × Mode)). waits_at (asked name (system_of n) mode w.locks) n (ls ++ (name, mode) ∷ []) ≡ not (goes_at_once (system_of n) mode (resource_at name w.locks).askers)) mine after.waits
+
+  within : (lbn : ℕ) → lbn < length good.running.drive.base → lbn < length w.blocks
+  within lbn lt = subst (λ (k : ℕ). lbn < k) (sym good.running.drive.over.count) lt
+
+  pub look_within : (name : LockName) (lbn : ℕ) → IsNext r.cmd s.seen (need.Block name lbn) → lbn < length w.blocks
+  look_within name lbn is = within lbn (may_need w good n s r.at r.cmd r.has r.free (need.Block name lbn) is).1.within
+
+  pub fetch_within : (lbn : ℕ) → IsNext r.cmd s.seen (need.Bare lbn) → lbn < length w.blocks
+  fetch_within lbn is = within lbn (may_need w good n s r.at r.cmd r.has r.free (need.Bare lbn) is).within
+
+  pub no_space : (clusters : ℕ) (number : Bool) → IsNext r.cmd s.seen (need.Space clusters number) → ⊥
+  no_space clusters number is = run_space r.cmd is_at.runs (may_need w good n s r.at r.cmd r.has r.free (need.Space clusters number) is).0
+
+  -- the next write is to a block of the volume
+  pub write_within : (p : Plan) → s.plan ≡ Some p → (v : PlanWrite) → slice_get p.writes s.done ≡ Some v → v.lbn < length w.blocks
+  write_within p plan v next =
+      let now = here w good n s r.at r.cmd r.has r.free in
+      let touched : Touches (bare (map planned (writes_of s.plan))) v.lbn = subst (λ (o : Option Plan). Touches (bare (map planned (writes_of o))) v.lbn) (sym plan) (next_in (map planned p.writes) s.done (planned v) (planned_at p.writes s.done v next)) in
+      let mine = subst (λ (u : UnderWay). (l : ℕ) → Touches (bare u.plan) l → MayWrite n u.write (guard_of w.geometry good.running.drive.own l)) now (good.running.drive.plan_guarded n) in
+      within v.lbn (guard_within w.geometry good.running.drive.base good.running.drive.own good.running.cat good.running.drive.spelt n v.lbn _ (mine v.lbn touched))
+
+  -- its command can end
+  pub may_end : length w.script.lines ≤ 4096 → (p : Plan) → s.plan ≡ Some p → MayEnd w.geometry n s w.locks
+  may_end few p plan = record {
+    cmd = ap is_some r.has;
+    plan = ap is_some plan;
+    few = (let a = answered in let b = few_lines n w.script.lines in omega arith);
+    gives = give_each w.geometry n (writes_of s.plan) s.seen.locks (locks_of w.nodes) w.locks good.locked.0 good.locked.1
+        (subst (λ (ls : List (LockName × Mode)). waits_at w.locks n ls ≡ false) (sym (ap locks_in r.at)) r.free) (ap locks_in r.at);
+  } where
+    next : or_close s.past (slice_get (lines_of n w.script.lines) s.past.answered) ≡ Some r.cmd
+    next = ap (command_after w.script n) node.past ∙ is_at.next
+
+    answered : s.past.answered < length (lines_of n w.script.lines)
+    answered = there_within (lines_of n w.script.lines) s.past.answered (no_close n s.past (slice_get (lines_of n w.script.lines) s.past.answered) r.cmd node.closed next)
+
+-- ---- what its turn leaves
+
+same_room : (a b k : ℕ) → a ≤ b → a + k ≤ b + k
+same_room a b k le = omega arith
+
+from_counts : (d a b x y : ℕ) → d + a ≡ b + x → b + x ≤ y + a → d ≤ y
+from_counts d a b x y e le = omega arith
+
+module _ (w : Plain) (good : Good w) (n : ℕ) (r : IsReady w n) where
+  abbrev me : NodeState
+  me = r.state
+
+  abbrev weight : NodeState → ℕ
+  weight x = cond (is_some x.plan) 1 0
+
+  pub command_is : command_at w n ≡ Some r.cmd
+  command_is = ap command_in r.at ∙ r.has
+
+  pub room_after : (e : Event) (q : NodeState) (spare spare' : ℕ) → (happens w n me e).script ≡ w.script → (happens w n me e).nodes ≡ set_node w.nodes n q → decided w.nodes + weight q ≤ spare' + weight me
+      → HasRoom w spare → (new : Plain) → new ≡ happen w n e → HasRoom new spare'
+  room_after e q spare spare' script nodes le room new is = subst (λ (v : Plain). HasRoom v spare') (sym (is ∙ sym (happen_here w n me e r.at))) (record {
+    few = subst (λ (ns : List NodeState). length ns ≤ 8) (sym nodes) (subst (λ (k : ℕ). k ≤ 8) (sym (length_node w.nodes n q)) room.few);
+    lines = subst (λ (c : Script). length c.lines ≤ 4096) (sym script) room.lines;
+    places = subst (λ (ns : List NodeState). decided ns ≤ spare') (sym nodes) (from_counts (decided (set_node w.nodes n q)) (weight me) (decided w.nodes) (weight q) spare' (decided_set w.nodes n me q r.at) le);
+  })
+
+  pub ask_room : (x : Cmd) (name : LockName) (mode : Mode) (spare : ℕ) → HasRoom w spare → (new : Plain) → new ≡ happen w n (Ask x name mode) → HasRoom new spare
+  ask_room x name mode spare room new is = room_after (Ask x name mode) (turned (asking me x name mode)) spare spare refl refl (same_room (decided w.nodes) spare (weight me) room.places) room new is
+
+  pub see_room : (x : Cmd) (lbn : ℕ) (spare : ℕ) → HasRoom w spare → (new : Plain) → new ≡ happen w n (See x lbn) → HasRoom new spare
+  see_room x lbn spare room new is = room_after (See x lbn) (turned (looking me x lbn (block_at w.blocks lbn))) spare spare refl refl (same_room (decided w.nodes) spare (weight me) room.places) room new is
+
+  pub put_room : (v : PlanWrite) (spare : ℕ) → HasRoom w spare → (new : Plain) → new ≡ happen w n (Put v) → HasRoom new spare
+  put_room v spare room new is = room_after (Put v) (turned (writing me)) spare spare refl refl (same_room (decided w.nodes) spare (weight me) room.places) room new is
+
+  pub decide_room : (x : Cmd) (p : Plan) (spare spare' : ℕ) → me.plan ≡ None → 8 ≤ spare' → HasRoom w spare → (new : Plain) → new ≡ happen w n (Decide x p) → HasRoom new spare'
+  decide_room x p spare spare' none wide room new is = subst (λ (v : Plain). HasRoom v spare') (sym (is ∙ sym (happen_here w n me (Decide x p) r.at))) (record {
+    few = subst (λ (k : ℕ). k ≤ 8) (sym (length_node w.nodes n (turned (deciding me x p)))) room.few;
+    lines = room.lines;
+    places = (let a = decided_few (set_node w.nodes n (turned (deciding me x p))) in let b = length_node w.nodes n (turned (deciding me x p)) in let few = room.few in omega arith);
+  })
+
+  pub answer_room : (x : Cmd) (a : Reply) (spare spare' : ℕ) → is_some me.plan ≡ true → spare' + 1 ≡ spare → HasRoom w spare → (new : Plain) → new ≡ happen w n (Answer x a) → HasRoom new spare'
+  answer_room x a spare spare' made less room new is = room_after (Answer x a) (turned (answering me x a)) spare spare' refl refl
+      (subst (λ (t : Bool). decided w.nodes + 0 ≤ spare' + cond t 1 0) (sym made) (answered_counts (decided w.nodes) spare spare' less room.places)) room new is where
+        answered_counts : (d s s' : ℕ) → s' + 1 ≡ s → d ≤ s → d + 0 ≤ s' + 1
+        answered_counts d s s' e le = omega arith
+
+  -- what a request answers
+  pub asked_told : (name : LockName) (mode : Mode) → IsNext r.cmd me.seen (need.Lock name mode) → (t : Bool) → goes_at_once (system_of n) mode (resource_at name w.locks).askers ≡ t
+      → (new : Plain) → new ≡ happen w n (Ask r.cmd name mode) → told new n (Ask r.cmd name mode) ≡ cond (not t) turn.Waiting (turn.Moved kind.Locked)
+  asked_told name mode is t goes new e =
+      let q : NodeState = turned (asking me r.cmd name mode) in
+      let v : Plain = happens w n me (Ask r.cmd name mode) in
+      let there : node_at v.nodes n ≡ Some q = at_here w.nodes n q me r.at in
+      let queued : is_queued_in v n (node_at v.nodes n) ≡ not t = ap (is_queued_in v n) there ∙ asked_waits w good n r name mode is ∙ ap not goes in
+      ap (λ y. told y n (Ask r.cmd name mode)) (e ∙ sym (happen_here w n me (Ask r.cmd name mode) r.at)) ∙ ap (λ b. cond b turn.Waiting (turn.Moved kind.Locked)) queued
+
+-- ---- the item that tells the node
+
+none_at : {A : Type 0} (xs : List A) (k : ℕ) → length xs ≤ k → slice_get xs k ≡ None
+none_at [] k over = refl
+none_at (x ∷ xs) zero over = absurd (omega arith)
+none_at (x ∷ xs) (suc k) over = none_at xs k (omega arith)
+
+some_at : {A : Type 0} (xs : List A) (k : ℕ) (v : A) → k < length xs → v ≡ slice_index_or xs k v → slice_get xs k ≡ Some v
+some_at [] k v lt e = absurd (omega arith)
+some_at (x ∷ xs) zero v lt e = ap (λ y. Some y) (sym e)
+some_at (x ∷ xs) (suc k) v lt e = some_at xs k v (omega arith) e
+
+granted_goes : (t : Bool) → asked_answer t ≡ asked_so.Granted → t ≡ true
+granted_goes true e = refl
+granted_goes false e = absurd (let f : asked_so.Queued ≡ asked_so.Granted = e in cc)
+
+queued_goes : (t : Bool) → asked_answer t ≡ asked_so.Queued → t ≡ false
+queued_goes true e = absurd (let f : asked_so.Granted ≡ asked_so.Queued = e in cc)
+queued_goes false e = refl
+
+pub goes_granted : (t : Bool) (a : Asked) → a ≡ asked_answer t → a ≡ asked_so.Granted → t ≡ true
+goes_granted t a e g = granted_goes t (sym e ∙ g)
+
+pub goes_queued : (t : Bool) (a : Asked) → a ≡ asked_answer t → a ≡ asked_so.Queued → t ≡ false
+goes_queued t a e q = queued_goes t (sym e ∙ q)
+
+module _ {O : Type 0} (cmd_is : O → Cmd) (xs : List (Node O)) (w : Plain) (n : ℕ) (r : IsReady w n) (d : Node O) (nodes : w.nodes ≡ map (state_of cmd_is) xs)
+    (from : 1 ≤ n) (to : n ≤ length (map (state_of cmd_is) xs)) (is : d ≡ slice_index_or xs (n - 1) d) where
+  pub told_so : node_at w.nodes n ≡ Some (state_of cmd_is d)
+  told_so = ap (λ ns. node_at ns n) nodes ∙ told_at (state_of cmd_is) xs n d from to is
+
+  pub mine : state_of cmd_is d ≡ r.state
+  mine = let f : Some (state_of cmd_is d) ≡ Some r.state = sym told_so ∙ r.at in cc
+
+  pub op_is : option_map cmd_is d.op ≡ Some r.cmd
+  op_is = ap (λ y. y.cmd) mine ∙ r.has
+
+  pub op_there : IsSome d.op
+  op_there = is_there cmd_is d.op (ap is_some op_is)
+
+  pub op_fits : Good w → IfSome d.op (λ op. FitsSeen (cmd_is op) d.seen)
+  op_fits good = fits_told cmd_is d.op r.cmd d.seen op_is (subst (λ (y : NodeState). FitsSeen r.cmd y.seen) (sym mine) (fits w good n r))
+
+  pub op_need : (next : Need) → IfSome d.op (λ op. need_of (cmd_is op) d.seen ≡ next) → IsNext r.cmd r.state.seen next
+  op_need next e = subst (λ (y : NodeState). need_of r.cmd y.seen ≡ next) mine (need_told cmd_is d.op r.cmd d.seen next op_is e)
+
+  -- any node of the number is this one
+  pub one_node : (q : NodeState) → node_at w.nodes n ≡ Some q → d.done ≡ q.done
+  one_node q at = let f : Some (state_of cmd_is d) ≡ Some q = sym told_so ∙ at in let h : state_of cmd_is d ≡ q = cc in ap (λ y. y.done) h
+
+  pub plan_now : (p : Plan) → d.plan ≡ Some p → r.state.plan ≡ Some p
+  plan_now p e = sym (ap (λ y. y.plan) mine) ∙ e
+
+  pub no_plan_now : d.plan ≡ None → IsSome (plan_at w n) → ⊥
+  no_plan_now e some =
+      let none : plan_at w n ≡ None = ap plan_in told_so ∙ e in
+      let f : false ≡ true = sym (ap is_some none) ∙ some in
+      absurd (cc)
+
+  pub next_now : (p : Plan) (ws us : List PlanWrite) (v : PlanWrite) → ws ≡ p.writes → us ≡ p.writes → d.done < length us → v ≡ slice_index_or ws d.done v → slice_get p.writes r.state.done ≡ Some v
+  next_now p ws us v same also lt e =
+      subst (λ (y : NodeState). slice_get p.writes y.done ≡ Some v) mine (some_at p.writes d.done v (subst (λ (vs : List PlanWrite). d.done < length vs) also lt) (subst (λ (vs : List PlanWrite). v ≡ slice_index_or vs d.done v) same e))
+
+  pub last_now : (p : Plan) (ws : List PlanWrite) → ws ≡ p.writes → length ws ≤ d.done → slice_get p.writes r.state.done ≡ None
+  last_now p ws same over = subst (λ (y : NodeState). slice_get p.writes y.done ≡ None) mine (subst (λ (us : List PlanWrite). slice_get us d.done ≡ None) same (none_at ws d.done over))
+
+module _ (w : Plain) (good : Good w) (n : ℕ) (r : IsReady w n) where
+  pub plan_is : (p : Plan) → r.state.plan ≡ Some p → plan_at w n ≡ Some p
+  plan_is p e = ap plan_in r.at ∙ e
+
+  pub may_end_at : length w.script.lines ≤ 4096 → (p : Plan) → r.state.plan ≡ Some p → (s : NodeState) → node_at w.nodes n ≡ Some s → MayEnd w.geometry n s w.locks
+  may_end_at few p plan s at =
+      let f : Some r.state ≡ Some s = sym r.at ∙ at in
+      let h : r.state ≡ s = cc in
+      subst (λ (y : NodeState). MayEnd w.geometry n y w.locks) h (may_end w good n r few p plan)
+
+  pub place_kept : (p : Plan) → r.state.plan ≡ Some p → (spare : ℕ) → HasRoom w spare → 0 < spare
+  place_kept p plan spare room = let one = has_decided w.nodes n r.state r.at (ap is_some plan) in let le = room.places in omega arith
+
+pub none_of : {A : Type 0} (o : Option A) → is_some o ≡ false → o ≡ None
+none_of None e = refl
+none_of (Some a) e = absurd (let f : true ≡ false = e in cc)

@@ -1,0 +1,124 @@
+-- What a world is after one of its nodes has changed.
+use Rattle.std.proofs.Common.{◌≡◌, ◌≤◌, ◌<◌, ◌-◌, ◌++◌, ◌∷◌, [], ℕ, zero, suc, arith, List, Option, Some, None, Result, Ok, Err, length, map, slice_get, slice_set, refl, sym, ap, subst, ◌∙◌}
+use Rattle.std.specs.Prelude.{slice_index_or, option_map, IsSome, OnOk, OnErr}
+use Rattle.std.proofs.lemmas.Option.{get_or_from_slice_get}
+use Rattle.vol_words.specs.Fields.{Block}
+use Rattle.lock_db.specs.declared.name.LockName.{LockName}
+use Rattle.lock_db.specs.Tables.{asked}
+use Rattle.plain_cat.specs.declared.mode.Mode.{Mode}
+use Rattle.plain_cat.specs.declared.command.Cmd.{Cmd}
+use Rattle.node_locks.specs.Held.{system_of}
+use Rattle.lock_db.specs.declared.resource.Resource.{Resource}
+use Rattle.plain_cat.specs.declared.history.Entry.{Entry}
+use Rattle.plain_cat.specs.declared.history.Entry.TheVariants.{Done}
+use Rattle.op_law.specs.declared.need.Plan.{Plan}
+use Rattle.op_law.specs.declared.need.PlanWrite.{PlanWrite}
+use Rattle.op_law.specs.Going.{with_lock, with_block}
+use Rattle.core_state.specs.Worlds.{NodeState, Plain, node_at, set_node}
+use Rattle.core_state.specs.Goods.{writes_of}
+use Rattle.core_state.specs.Events.{Event, Stand, Leave, Ask, See, Decide, Put, Answer, happens, happen_at, happen, given_back, turned, leaving, writing, answering, one_more, command_in, command_at, plan_in, plan_at}
+use Rattle.vol_parts.specs.declared.geometry.Geometry.{Geometry}
+use Rattle.core_step.specs.Giving.{MayGiveAll}
+use Rattle.core_state.proofs.Nodes.{told_at, told_set, set_node_same}
+
+-- where something holds of an Ok, what follows from it holds
+pub on_ok : {A E : Type 0} (r : Result A E) (P Q : Type 0) → (P → Q) → OnOk r P → OnOk r Q
+on_ok (Ok a) P Q go p = go p
+on_ok (Err e) P Q go p = tt
+
+pub on_err : {A E : Type 0} (r : Result A E) (P Q : Type 0) → (P → Q) → OnErr r P → OnErr r Q
+on_err (Ok a) P Q go p = tt
+on_err (Err e) P Q go p = go p
+
+-- an event of a node that stands so
+pub happen_here : (w : Plain) (n : ℕ) (s : NodeState) (e : Event) → node_at w.nodes n ≡ Some s → happens w n s e ≡ happen w n e
+happen_here w n s e at = sym (ap (λ o. happen_at w n o e) at)
+
+-- ---- item d of the list xs, which is told as node n of the world w, is d' now
+
+module _ {A : Type 0} (f : A → NodeState) (xs : List A) (w : Plain) (n : ℕ) (d d' : A) (from : 1 ≤ n) (to : n ≤ length (map f xs)) (is : d ≡ slice_index_or xs (n - 1) d) (told : w.nodes ≡ map f xs) where
+  abbrev after : List NodeState
+  after = map f (slice_set xs (n - 1) d')
+
+  at : node_at w.nodes n ≡ Some (f d)
+  at = ap (λ ns. node_at ns n) told ∙ told_at f xs n d from to is
+
+  now : (s : NodeState) → f d' ≡ s → after ≡ set_node w.nodes n s
+  now s e = told_set f xs n d' from ∙ ap (set_node (map f xs) n) e ∙ ap (λ ns. set_node ns n s) (sym told)
+
+  command : (x : Cmd) → command_at w n ≡ Some x → (f d).cmd ≡ Some x
+  command x e = sym (ap command_in at) ∙ e
+
+  pub stood : f d' ≡ turned (f d) → record w { nodes = after } ≡ happen w n Stand
+  stood e = ap (λ ns. record w { nodes = ns }) (now (turned (f d)) e) ∙ happen_here w n (f d) Stand at
+
+  pub left : f d' ≡ turned (leaving (f d)) → record w { nodes = after } ≡ happen w n Leave
+  left e = ap (λ ns. record w { nodes = ns }) (now (turned (leaving (f d))) e) ∙ happen_here w n (f d) Leave at
+
+  pub asked_so : (x : Cmd) (name : LockName) (mode : Mode) → command_at w n ≡ Some x → f d' ≡ turned (record (f d) { seen = with_lock name mode (f d).seen })
+      → record w { locks = asked name (system_of n) mode w.locks; nodes = after } ≡ happen w n (Ask x name mode)
+  asked_so x name mode c e =
+      ap (λ ns. record w { locks = asked name (system_of n) mode w.locks; nodes = ns })
+      (now (turned (record (f d) { cmd = Some x; seen = with_lock name mode (f d).seen })) (e ∙ ap (λ o. turned (record (f d) { cmd = o; seen = with_lock name mode (f d).seen })) (command x c)))
+      ∙ happen_here w n (f d) (Ask x name mode) at
+
+  pub looked : (x : Cmd) (lbn : ℕ) (b : Block) → command_at w n ≡ Some x → slice_get w.blocks lbn ≡ Some b
+      → f d' ≡ turned (record (f d) { seen = with_block lbn b (f d).seen; reads = one_more (f d).reads }) → record w { nodes = after } ≡ happen w n (See x lbn)
+  looked x lbn b c there e =
+      ap (λ ns. record w { nodes = ns })
+      (now (turned (record (f d) { cmd = Some x; seen = with_block lbn (slice_index_or w.blocks lbn []) (f d).seen; reads = one_more (f d).reads }))
+      (e ∙ ap (λ o. turned (record (f d) { cmd = o; seen = with_block lbn b (f d).seen; reads = one_more (f d).reads })) (command x c)
+      ∙ ap (λ y. turned (record (f d) { cmd = Some x; seen = with_block lbn y (f d).seen; reads = one_more (f d).reads })) (sym (get_or_from_slice_get w.blocks lbn b [] there))))
+      ∙ happen_here w n (f d) (See x lbn) at
+
+  pub decided : (x : Cmd) (p : Plan) → command_at w n ≡ Some x → f d' ≡ turned (record (f d) { plan = Some p; done = 0 }) → record w { nodes = after } ≡ happen w n (Decide x p)
+  decided x p c e =
+      ap (λ ns. record w { nodes = ns })
+      (now (turned (record (f d) { cmd = Some x; plan = Some p; done = 0 })) (e ∙ ap (λ o. turned (record (f d) { cmd = o; plan = Some p; done = 0 })) (command x c)))
+      ∙ happen_here w n (f d) (Decide x p) at
+
+  pub put_so : (v : PlanWrite) (bs : List Block) → bs ≡ slice_set w.blocks v.lbn v.block → f d' ≡ turned (writing (f d)) → record w { blocks = bs; nodes = after } ≡ happen w n (Put v)
+  put_so v bs b e = (λ i. record w { blocks = b i; nodes = now (turned (writing (f d))) e i }) ∙ happen_here w n (f d) (Put v) at
+
+  pub answered_so : (x : Cmd) (p : Plan) → command_at w n ≡ Some x → plan_at w n ≡ Some p → (cmd : Cmd) (plan : Plan) → (f d).cmd ≡ Some cmd → (f d).plan ≡ Some plan
+      → f d' ≡ turned (answering (f d) cmd plan.reply) → (t : List Resource) (h : List Entry) → t ≡ given_back w.geometry n plan.writes (f d).seen.locks w.locks → h ≡ w.history ++ Done n cmd plan.reply ∷ []
+      → record w { locks = t; nodes = after; history = h } ≡ happen w n (Answer x p.reply)
+  answered_so x p c q cmd plan mine made e t h locks history =
+      let first : Some cmd ≡ Some x = sym mine ∙ command x c in
+      let same_cmd : cmd ≡ x = cc in
+      let second : Some plan ≡ Some p = sym made ∙ sym (ap plan_in at) ∙ q in
+      let same_plan : plan ≡ p = cc in
+      let ws : given_back w.geometry n plan.writes (f d).seen.locks w.locks ≡ given_back w.geometry n (writes_of (f d).plan) (f d).seen.locks w.locks
+      = ap (λ o. given_back w.geometry n (writes_of o) (f d).seen.locks w.locks) (sym made) in
+      (λ i. record w { locks = (locks ∙ ws) i; nodes = now (turned (answering (f d) cmd plan.reply)) e i; history = history i })
+      ∙ happen_here w n (f d) (Answer cmd plan.reply) at ∙ (λ i. happen w n (Answer (same_cmd i) (same_plan i).reply))
+
+-- a node that is set to what tells the same
+pub kept : {A : Type 0} (f : A → NodeState) (xs : List A) (w : Plain) (n : ℕ) (d d' : A) → 1 ≤ n → n ≤ length (map f xs) → d ≡ slice_index_or xs (n - 1) d → w.nodes ≡ map f xs → f d' ≡ f d
+    → record w { nodes = map f (slice_set xs (n - 1) d') } ≡ w
+kept f xs w n d d' from to is told e =
+    ap (λ ns. record w { nodes = ns }) (told_set f xs n d' from ∙ ap (set_node (map f xs) n) e ∙ set_node_same (map f xs) n (f d) (told_at f xs n d from to is) ∙ sym told)
+
+length_mapped : {A B : Type 0} (f : A → B) (xs : List A) → length (map f xs) ≡ length xs
+length_mapped f [] = refl
+length_mapped f (x ∷ xs) = ap suc (length_mapped f xs)
+
+-- an item is what it is, however it was come by
+pub same_item : {A : Type 0} (xs : List A) (f : A → NodeState) (n : ℕ) (c d : A) → 1 ≤ n → n ≤ length (map f xs) → c ≡ slice_index_or xs (n - 1) c → d ≡ slice_index_or xs (n - 1) d → c ≡ d
+same_item {A = A} xs f n c d from to a b = a ∙ inside xs (n - 1) (let e : length (map f xs) ≡ length xs = length_mapped f xs in omega arith) ∙ sym b where
+  inside : (ys : List A) (k : ℕ) → k < length ys → slice_index_or ys k c ≡ slice_index_or ys k d
+  inside [] k lt = absurd (omega arith)
+  inside (y ∷ ys) zero lt = refl
+  inside (y ∷ ys) (suc k) lt = inside ys k (omega arith)
+
+-- what is there after it was told is there
+pub is_there : {A B : Type 0} (f : A → B) (o : Option A) → IsSome (option_map f o) → IsSome o
+is_there f None i = i
+is_there f (Some a) i = refl
+
+-- the locks of a command that has ended can be given back, however they were come by
+pub may_give_now : (g : Geometry) (n : ℕ) (made : Option Plan) (p : Plan) (locks : List (LockName × Mode)) (t : List Resource) (ws : List PlanWrite) (ls : List (LockName × Mode)) → made ≡ Some p
+    → ws ≡ p.writes → ls ≡ locks → MayGiveAll g n (writes_of made) locks t → MayGiveAll g n ws ls t
+may_give_now g n made p locks t ws ls m e f may =
+    let same : writes_of made ≡ ws = ap writes_of m ∙ sym e in
+    subst (λ (ks : List (LockName × Mode)). MayGiveAll g n ws ks t) (sym f) (subst (λ (vs : List PlanWrite). MayGiveAll g n vs locks t) same may)

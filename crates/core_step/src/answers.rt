@@ -1,0 +1,126 @@
+//! The writes of a plan, and the answer behind them.
+
+ghost use Rattle.std.specs.Prelude.{◌≡◌, ◌<◌, ◌+◌, Some, OnOk, OnErr, IsSome, option_map, length, slice_set};
+ghost use Rattle.vol_words.specs.Faults.{HasCause};
+ghost use Rattle.blk_drive.specs.Images.{told_set};
+ghost use Rattle.vol_parts.specs.Parts.{IsGeometry};
+ghost use Rattle.plain_cat.specs.declared.command.Cmd.{Cmd};
+ghost use Rattle.op_law.specs.declared.need.Plan.{Plan};
+ghost use Rattle.op_law.specs.declared.need.PlanWrite.{PlanWrite};
+ghost use Rattle.op_law.specs.declared.seen.Seen.{Seen};
+ghost use Rattle.core_state.specs.Worlds.{NodeState, IsOfWorld, state_of, plain_of, node_at};
+ghost use Rattle.core_state.specs.Events.{Put, Answer, happen, turned, writing, answering, unseen, command_at, plan_at};
+ghost use Rattle.core_step.specs.Giving.{MayEnd};
+
+use crate::giving::give_back;
+use blk_drive::{ImageDev, ImageFault};
+use core_state::{Core, Node};
+use op_law::{Operation, Plan, Seen, SeenBlocks, SeenLocks};
+use plain_cat::{Clusters, Cmd, Entry};
+use std::alloc::Global;
+use std::mem;
+use vol_parts::Geometry;
+use vol_words::Block;
+
+// A node has made so many writes, one more than before.
+fn keep_write<O: Operation>(node: &mut Node<O>, done: usize)
+    requires { done ≡ node.old.done + 1 }
+    ensures { state_of O.cmd_is node.new ≡ turned (writing (state_of O.cmd_is node.old)) }
+{
+    node.done = done;
+    node.writes = node.writes.saturating_add(1);
+    node.turns = node.turns.saturating_add(1);
+}
+
+/// A node makes a write, the next of its plan, and has done so many then. An error says that the image failed: in memory no block has changed, and the node
+/// stands before the write.
+pub(crate) fn put<I: ImageDev, O: Operation>(
+    core: &mut Core<I, O>,
+    node: u8,
+    lbn: u32,
+    block: &Block,
+    done: usize,
+) -> Result<(), ImageFault>
+    requires node { IsOfWorld (plain_of O.cmd_is core.old) node }
+    requires within { lbn < length core.old.mirror.blocks }
+    requires more { (s : NodeState) → node_at (plain_of O.cmd_is core.old).nodes node ≡ Some s → done ≡ s.done + 1 }
+    ensures world { OnOk result ((v : PlanWrite) → v.lbn ≡ lbn → v.block ≡ block.now → plain_of O.cmd_is core.new ≡ happen (plain_of O.cmd_is core.old) node (Put v)) }
+    ensures same { OnErr result (plain_of O.cmd_is core.new ≡ plain_of O.cmd_is core.old) }
+    ensures cause { HasCause (I.faults core.old.mirror.image) (I.faults core.new.mirror.image) result }
+    ensures blocks { OnOk result (core.new.mirror.blocks ≡ slice_set core.old.mirror.blocks lbn block.now) }
+    ensures image { OnOk result (I.told core.new.mirror.image ≡ told_set (I.told core.old.mirror.image) lbn block.now) }
+    ensures room { core.new.history.room ≡ core.old.history.room }
+{
+    core.mirror.write(lbn, block)?;
+    keep_write(&mut core.nodes[node as usize - 1], done);
+    Ok(())
+}
+
+// Nothing is seen yet.
+fn unseen(alloc: Global, geometry: Geometry) -> Seen
+    ensures geometry { result.geometry ≡ geometry }
+    ensures rest { (old : Seen) → old.geometry ≡ geometry → result ≡ unseen old }
+{
+    Seen {
+        geometry,
+        channel: None,
+        locks: SeenLocks::new(alloc),
+        blocks: SeenBlocks::new(alloc),
+        clusters: Clusters::new(alloc),
+        number: None,
+        short: None,
+    }
+}
+
+// What a command leaves behind as it ends.
+#[derive(Drop)]
+struct Ended {
+    cmd: Cmd,
+    plan: Plan,
+    seen: Seen,
+}
+
+// A node's command ends with the reply of its plan. It takes no memory.
+#[tactic(auto, unfolding(plain_vol::specs::Own::after_answer))]
+fn end<O: Operation>(alloc: Global, node: &mut Node<O>) -> Ended
+    requires op { IsSome node.old.op }
+    requires plan { IsSome node.old.plan }
+    requires few { node.old.past.answered < 4294967295 }
+    ensures cmd { option_map O.cmd_is node.old.op ≡ Some result.cmd }
+    ensures plan { node.old.plan ≡ Some result.plan }
+    ensures seen { result.seen ≡ node.old.seen }
+    ensures state { state_of O.cmd_is node.new ≡ turned (answering (state_of O.cmd_is node.old) result.cmd result.plan.reply) }
+{
+    let (Some(op), Some(plan)) = (node.op.take(), node.plan.take()) else {
+        unreachable!()
+    };
+    let cmd = op.into_cmd();
+    node.past.answer(&cmd, &plan.reply);
+    let fresh = unseen(alloc, node.seen.geometry);
+    let seen = mem::replace(&mut node.seen, fresh);
+    node.done = 0;
+    node.turns = node.turns.saturating_add(1);
+    Ended { cmd, plan, seen }
+}
+
+/// A node answers: its answer is the last of the history, and its locks go back. It takes no memory.
+pub(crate) fn answer<I: ImageDev, O: Operation>(alloc: Global, core: &mut Core<I, O>, node: u8)
+    requires node { IsOfWorld (plain_of O.cmd_is core.old) node }
+    requires geometry { IsGeometry core.old.geometry }
+    requires ends { (s : NodeState) → node_at (plain_of O.cmd_is core.old).nodes node ≡ Some s → MayEnd core.old.geometry node s core.old.locks }
+    requires place { 0 < core.old.history.room }
+    ensures world { (x : Cmd) (p : Plan) → command_at (plain_of O.cmd_is core.old) node ≡ Some x → plan_at (plain_of O.cmd_is core.old) node ≡ Some p → plain_of O.cmd_is core.new ≡ happen (plain_of O.cmd_is core.old) node (Answer x p.reply) }
+    ensures mirror { core.new.mirror ≡ core.old.mirror }
+    ensures room { core.new.history.room + 1 ≡ core.old.history.room }
+{
+    let Ended { cmd, plan, seen } = end(alloc, &mut core.nodes[node as usize - 1]);
+    let Plan { writes, reply, .. } = plan;
+    give_back(
+        &core.geometry,
+        node,
+        writes.items(),
+        seen.locks.items(),
+        &mut core.locks,
+    );
+    core.history.append(Entry::Done { node, cmd, reply });
+}

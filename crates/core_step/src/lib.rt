@@ -1,0 +1,12 @@
+//! The turns of the nodes: each makes one event.
+#![tactic(auto)]
+
+mod answers;
+mod events;
+mod giving;
+mod raises;
+mod step;
+mod turns;
+
+pub use step::turn;
+pub use turns::{Kind, Turn, TurnFault};

@@ -1,0 +1,253 @@
+//! A turn: the event of the first rule that applies.
+
+ghost use Rattle.std.specs.Prelude.{◌≡◌, ◌≤◌, ◌⊎◌, true, false, Some, None, Err, IfOk, OnOk, OnErr, IfSome, IsSome};
+ghost use Rattle.vol_words.specs.Faults.{Rose, HasCause};
+ghost use Rattle.plain_cat.specs.declared.command.Cmd.{Cmd};
+ghost use Rattle.plain_vol.specs.Own.{next_command};
+ghost use Rattle.node_locks.specs.Held.{waits_at};
+ghost use Rattle.op_law.specs.Needs.{need_of};
+ghost use Rattle.op_law.specs.Fits.{FitsSeen};
+ghost use Rattle.op_law.specs.Laws.{Lawful};
+ghost use Rattle.core_state.specs.Worlds.{NodeState, IsOfWorld, state_of, plain_of, node_at, current};
+ghost use Rattle.core_state.specs.Goods.{Good, HasOnly, HasRoom};
+ghost use Rattle.core_state.specs.Images.{IsTold, told_as};
+ghost use Rattle.core_state.specs.Events.{is_write, happen, begun, next_event, command_event, plan_at, after_turn};
+ghost use Rattle.core_step.specs.Ready.{IsReady, Begins};
+ghost use Rattle.core_step.specs.Turns.{told};
+
+use crate::answers::{answer, put};
+use crate::events::{ask, decide, leave, look, stand};
+use crate::turns::{Kind, Turn, TurnFault};
+use blk_drive::ImageDev;
+use core_state::{Core, Node, World};
+use lock_db::{Asked, LockName};
+use node_locks::waits;
+use op_law::{Need, NoMemory, Operation, Plan};
+use plain_cat::{Cmd, Mode};
+use std::alloc::Global;
+
+// What a node's command needs next. An error says that memory ran out.
+fn next_need<O: Operation>(alloc: Global, node: &Node<O>) -> Result<Need, NoMemory>
+    requires op { IsSome node.now.op }
+    requires fits { IfSome node.now.op (λ op. FitsSeen (O.cmd_is op) node.now.seen) }
+    ensures { IfOk result (λ need. IfSome node.now.op (λ op. need_of (O.cmd_is op) node.now.seen ≡ need)) }
+{
+    let Some(op) = &node.op else { unreachable!() };
+    op.next(alloc, &node.seen)
+}
+
+// A command that has not decided on a plan goes on by its next need.
+fn unplanned<I: ImageDev, O: Operation>(
+    alloc: Global,
+    core: &mut Core<I, O>,
+    node: u8,
+) -> Result<Turn, TurnFault>
+    requires good { Good (plain_of O.cmd_is core.old) }
+    requires node { IsOfWorld (plain_of O.cmd_is core.old) node }
+    requires ready { IsReady (plain_of O.cmd_is core.old) node }
+    requires plan { plan_at (plain_of O.cmd_is core.old) node ≡ None }
+    requires room { HasRoom (plain_of O.cmd_is core.old) core.old.history.room }
+    ensures world { OnOk result (plain_of O.cmd_is core.new ≡ happen (plain_of O.cmd_is core.old) node (command_event (plain_of O.cmd_is core.old) node)) }
+    ensures answer { IfOk result (λ t. t ≡ told (plain_of O.cmd_is core.new) node (command_event (plain_of O.cmd_is core.old) node)) }
+    ensures same { OnErr result (plain_of O.cmd_is core.new ≡ plain_of O.cmd_is core.old) }
+    ensures mirror { core.new.mirror ≡ core.old.mirror }
+    ensures memory { result ≡ Err TurnFault.ImageFault → ⊥ }
+    ensures room { HasRoom (plain_of O.cmd_is core.new) core.new.history.room }
+{
+    match next_need(alloc, &core.nodes[node as usize - 1])? {
+        Need::Lock(name, mode) => match ask(alloc, core, node, name, mode)? {
+            Asked::Granted => Ok(Turn::Moved(Kind::Locked)),
+            Asked::Queued => Ok(Turn::Waiting),
+        },
+        Need::Block(_, lbn) => {
+            look(core, node, lbn)?;
+            Ok(Turn::Moved(Kind::Looked))
+        }
+        Need::Bare(lbn) => {
+            look(core, node, lbn)?;
+            Ok(Turn::Moved(Kind::Looked))
+        }
+        Need::Space { .. } => unreachable!(),
+        Need::Ready(plan) => {
+            decide(core, node, plan)?;
+            Ok(Turn::Moved(Kind::Planned))
+        }
+    }
+}
+
+// A command that has decided on a plan makes its next write, or answers.
+fn planned<I: ImageDev, O: Operation>(
+    alloc: Global,
+    core: &mut Core<I, O>,
+    node: u8,
+) -> Result<Turn, TurnFault>
+    requires good { Good (plain_of O.cmd_is core.old) }
+    requires node { IsOfWorld (plain_of O.cmd_is core.old) node }
+    requires ready { IsReady (plain_of O.cmd_is core.old) node }
+    requires plan { IsSome (plan_at (plain_of O.cmd_is core.old) node) }
+    requires room { HasRoom (plain_of O.cmd_is core.old) core.old.history.room }
+    ensures world { OnOk result (plain_of O.cmd_is core.new ≡ happen (plain_of O.cmd_is core.old) node (command_event (plain_of O.cmd_is core.old) node)) }
+    ensures answer { IfOk result (λ t. t ≡ told (plain_of O.cmd_is core.new) node (command_event (plain_of O.cmd_is core.old) node)) }
+    ensures same { OnErr result (plain_of O.cmd_is core.new ≡ plain_of O.cmd_is core.old) }
+    ensures cause { HasCause (I.faults core.old.mirror.image) (I.faults core.new.mirror.image) result }
+    ensures memory { result ≡ Err TurnFault.NoMemory → ⊥ }
+    ensures before { result ≡ Err TurnFault.ImageFault → is_write (command_event (plain_of O.cmd_is core.old) node) ≡ true }
+    ensures drive { IsTold (I.told core.old.mirror.image) core.old.mirror.blocks
+        → (I.told core.new.mirror.image ≡ told_as (I.told core.old.mirror.image) core.new.mirror.blocks) ⊎ (result ≡ Err TurnFault.ImageFault) }
+    ensures room { HasRoom (plain_of O.cmd_is core.new) core.new.history.room }
+{
+    let at = &core.nodes[node as usize - 1];
+    let Some(plan) = &at.plan else { unreachable!() };
+    if at.done < plan.writes.items().len() {
+        let w = &plan.writes.items()[at.done];
+        let lbn = w.lbn;
+        let block = w.block;
+        let done = at.done + 1;
+        put(core, node, lbn, &block, done)?;
+        return Ok(Turn::Moved(Kind::Wrote));
+    }
+    answer(alloc, core, node);
+    Ok(Turn::Answered)
+}
+
+// A node goes on with its command.
+fn go_on<I: ImageDev, O: Operation>(
+    alloc: Global,
+    core: &mut Core<I, O>,
+    node: u8,
+) -> Result<Turn, TurnFault>
+    requires good { Good (plain_of O.cmd_is core.old) }
+    requires node { IsOfWorld (plain_of O.cmd_is core.old) node }
+    requires ready { IsReady (plain_of O.cmd_is core.old) node }
+    requires room { HasRoom (plain_of O.cmd_is core.old) core.old.history.room }
+    ensures world { OnOk result (plain_of O.cmd_is core.new ≡ happen (plain_of O.cmd_is core.old) node (command_event (plain_of O.cmd_is core.old) node)) }
+    ensures answer { IfOk result (λ t. t ≡ told (plain_of O.cmd_is core.new) node (command_event (plain_of O.cmd_is core.old) node)) }
+    ensures same { OnErr result (plain_of O.cmd_is core.new ≡ plain_of O.cmd_is core.old) }
+    ensures later { I.faults core.old.mirror.image ≤ I.faults core.new.mirror.image }
+    ensures cause { result ≡ Err TurnFault.ImageFault → Rose (I.faults core.old.mirror.image) (I.faults core.new.mirror.image) }
+    ensures before { result ≡ Err TurnFault.ImageFault → is_write (command_event (plain_of O.cmd_is core.old) node) ≡ true }
+    ensures drive { IsTold (I.told core.old.mirror.image) core.old.mirror.blocks
+        → (I.told core.new.mirror.image ≡ told_as (I.told core.old.mirror.image) core.new.mirror.blocks) ⊎ (result ≡ Err TurnFault.ImageFault) }
+    ensures room { HasRoom (plain_of O.cmd_is core.new) core.new.history.room }
+{
+    if core.nodes[node as usize - 1].plan.is_some() {
+        planned(alloc, core, node)
+    } else {
+        unplanned(alloc, core, node)
+    }
+}
+
+// A node begins a command.
+fn begin<O: Operation>(node: &mut Node<O>, cmd: Cmd)
+    requires { O.takes cmd }
+    ensures lawful { Lawful cmd }
+    ensures state { state_of O.cmd_is node.new ≡ begun (state_of O.cmd_is node.old) cmd }
+{
+    node.op = Some(O::of(cmd));
+}
+
+// A node is without a command again.
+fn forget<O: Operation>(node: &mut Node<O>)
+    ensures { state_of O.cmd_is node.new ≡ record (state_of O.cmd_is node.old) { cmd = None } }
+{
+    node.op = None;
+}
+
+// A node begins a command with its first event. After an error it is without the command.
+fn first<I: ImageDev, O: Operation>(
+    alloc: Global,
+    core: &mut Core<I, O>,
+    node: u8,
+    cmd: Cmd,
+) -> Result<Turn, TurnFault>
+    requires good { Good (plain_of O.cmd_is core.old) }
+    requires node { IsOfWorld (plain_of O.cmd_is core.old) node }
+    requires begins { Begins (plain_of O.cmd_is core.old) node cmd }
+    requires takes { O.takes cmd }
+    requires room { HasRoom (plain_of O.cmd_is core.old) core.old.history.room }
+    ensures world { OnOk result (plain_of O.cmd_is core.new ≡ after_turn (plain_of O.cmd_is core.old) node) }
+    ensures answer { IfOk result (λ t. t ≡ told (plain_of O.cmd_is core.new) node (next_event (plain_of O.cmd_is core.old) node)) }
+    ensures lawful { Lawful cmd }
+    ensures same { OnErr result (plain_of O.cmd_is core.new ≡ plain_of O.cmd_is core.old) }
+    ensures later { I.faults core.old.mirror.image ≤ I.faults core.new.mirror.image }
+    ensures cause { result ≡ Err TurnFault.ImageFault → Rose (I.faults core.old.mirror.image) (I.faults core.new.mirror.image) }
+    ensures before { result ≡ Err TurnFault.ImageFault → is_write (next_event (plain_of O.cmd_is core.old) node) ≡ true }
+    ensures drive { IsTold (I.told core.old.mirror.image) core.old.mirror.blocks
+        → (I.told core.new.mirror.image ≡ told_as (I.told core.old.mirror.image) core.new.mirror.blocks) ⊎ (result ≡ Err TurnFault.ImageFault) }
+    ensures room { HasRoom (plain_of O.cmd_is core.new) core.new.history.room }
+{
+    begin(&mut core.nodes[node as usize - 1], cmd);
+    match go_on(alloc, core, node) {
+        Ok(turn) => Ok(turn),
+        Err(fault) => {
+            forget(&mut core.nodes[node as usize - 1]);
+            Err(fault)
+        }
+    }
+}
+
+/// One turn of a node: the event of the first rule that applies. After an error what the world is made of is as before.
+fn step<I: ImageDev, O: Operation>(
+    alloc: Global,
+    core: &mut Core<I, O>,
+    node: u8,
+) -> Result<Turn, TurnFault>
+    requires good { Good (plain_of O.cmd_is core.old) }
+    requires takes { HasOnly O.takes core.old.script }
+    requires node { IsOfWorld (plain_of O.cmd_is core.old) node }
+    requires room { HasRoom (plain_of O.cmd_is core.old) core.old.history.room }
+    ensures world { OnOk result (plain_of O.cmd_is core.new ≡ after_turn (plain_of O.cmd_is core.old) node) }
+    ensures answer { IfOk result (λ t. t ≡ told (plain_of O.cmd_is core.new) node (next_event (plain_of O.cmd_is core.old) node)) }
+    ensures lawful { OnOk result ((s : NodeState) (x : Cmd) → node_at (plain_of O.cmd_is core.old).nodes node ≡ Some s → s.over ≡ false → waits_at (plain_of O.cmd_is core.old).locks node s.seen.locks ≡ false → current (plain_of O.cmd_is core.old) node s ≡ Some x → Lawful x) }
+    ensures same { OnErr result (plain_of O.cmd_is core.new ≡ plain_of O.cmd_is core.old) }
+    ensures later { I.faults core.old.mirror.image ≤ I.faults core.new.mirror.image }
+    ensures cause { result ≡ Err TurnFault.ImageFault → Rose (I.faults core.old.mirror.image) (I.faults core.new.mirror.image) }
+    ensures before { result ≡ Err TurnFault.ImageFault → is_write (next_event (plain_of O.cmd_is core.old) node) ≡ true }
+    ensures drive { IsTold (I.told core.old.mirror.image) core.old.mirror.blocks
+        → (I.told core.new.mirror.image ≡ told_as (I.told core.old.mirror.image) core.new.mirror.blocks) ⊎ (result ≡ Err TurnFault.ImageFault) }
+    ensures room { HasRoom (plain_of O.cmd_is core.new) core.new.history.room }
+{
+    let at = &core.nodes[node as usize - 1];
+    if at.over {
+        stand(core, node);
+        return Ok(Turn::Over);
+    }
+    if waits(&core.locks, node, at.seen.locks.items()) {
+        stand(core, node);
+        return Ok(Turn::Waiting);
+    }
+    if at.op.is_some() {
+        return go_on(alloc, core, node);
+    }
+    match at.past.next(alloc, &core.script, node)? {
+        Some(cmd) => first(alloc, core, node, cmd),
+        None => {
+            leave(core, node);
+            Ok(Turn::Over)
+        }
+    }
+}
+
+/// One turn of a node, which counts from 1: the event of the first rule that applies to it. A node that is over, and one whose
+/// request stands in a queue still, make no other event. After a fault the world is as before: ImageFault comes only where a
+/// write of the image failed, whose block there is then the old one or the new; NoMemory where memory ran out. A turn that
+/// writes or answers takes no memory.
+pub fn turn<I: ImageDev, O: Operation>(
+    alloc: Global,
+    w: &mut World<I, O>,
+    node: u8,
+) -> Result<Turn, TurnFault>
+    requires { IsOfWorld w.old.world node }
+    ensures moved { OnOk result (w.new.world ≡ after_turn w.old.world node) }
+    ensures answer { IfOk result (λ t. t ≡ told w.new.world node (next_event w.old.world node)) }
+    ensures same { OnErr result (w.new.world ≡ w.old.world) }
+    ensures later { I.faults w.old.image ≤ I.faults w.new.image }
+    ensures cause { result ≡ Err TurnFault.ImageFault → Rose (I.faults w.old.image) (I.faults w.new.image) }
+
+    // It comes only in place of a write, and in all other cases the image has the blocks of the drive, if it had them before.
+    ensures before { result ≡ Err TurnFault.ImageFault → is_write (next_event w.old.world node) ≡ true }
+    ensures drive { IsTold (I.told w.old.image) w.old.world.blocks
+        → (I.told w.new.image ≡ told_as (I.told w.old.image) w.new.world.blocks) ⊎ (result ≡ Err TurnFault.ImageFault) }
+{
+    step(alloc, &mut w.core, node)
+}

@@ -1,0 +1,5 @@
+pub mod Staying
+pub mod Playing
+pub mod Rotating
+pub mod Ending
+pub mod Driving

@@ -1,0 +1,13 @@
+use Rattle.std.proofs.Common.{◌≡◌, ◌≤◌, ◌+◌, length}
+use Rattle.core_state.specs.Images.{IsTold, told_as}
+use Rattle.run_engine.specs.Walks.{Rotation, rotation}
+use Rattle.run_engine.proofs.rotation.rotate.Given as goal
+
+abbrev pub invariant-loop-turns : goal.invariant-loop-turns
+invariant-loop-turns g l = record {
+  at : rotation l._turns (record { world = l.fn.w.world; from = 1 }) ≡ record { world = l.w.world; from = l.from };
+  low : 1 ≤ l.from;
+  high : l.from ≤ length l.w.world.nodes + 1;
+  drive : IsTold (g.I.ImageDev.told l.fn.w.image) l.fn.w.world.blocks → g.I.ImageDev.told l.w.image ≡ told_as (g.I.ImageDev.told l.fn.w.image) l.w.world.blocks;
+  later : g.I.ImageDev.faults l.fn.w.image ≤ g.I.ImageDev.faults l.w.image;
+}

@@ -1,0 +1,4 @@
+pub mod Walks
+pub mod Reports
+pub mod Laws
+pub mod Faults

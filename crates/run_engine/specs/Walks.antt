@@ -1,0 +1,97 @@
+-- The walk of a world: first the plays of a schedule, and then turns in rotation.
+use Rattle.std.specs.Prelude.{◌≡◌, ◌+◌, ◌-◌, ◌*◌, ◌⊎◌, ℕ, zero, suc, true, false, List, [], ◌∷◌, Option, Some, None, length, take, if◌then◌else◌}
+use Rattle.core_state.specs.Worlds.{Plain}
+use Rattle.core_state.specs.Events.{after_turn, is_over, is_write, next_event}
+
+-- ---- plays
+
+-- the world after a play of a node: a node that is over makes no turn
+unfoldable pub after_play : Plain → ℕ → Plain
+after_play w n = if is_over w n then w else after_turn w n
+
+-- the world after these plays
+abbrev pub played : List ℕ → Plain → Plain
+played [] w = w
+played (n ∷ ns) w = played ns (after_play w n)
+
+-- the first plays
+abbrev pub IsPlayed : Plain → List ℕ → Plain → Type 0
+IsPlayed old plays new = (k : ℕ) × (new ≡ played (take k plays) old)
+
+-- ---- rotation
+
+-- of the nodes from this number on, the first that is not over; so many numbers are tried
+unfoldable pub first_from : Plain → ℕ → ℕ → Option ℕ
+first_from w from zero = None
+first_from w from (suc k) = if is_over w from then first_from w (from + 1) k else Some from
+
+abbrev pub or_first : Option ℕ → Option ℕ → Option ℕ
+or_first (Some n) other = Some n
+or_first None other = other
+
+-- the node whose turn comes: the first that is not over, from this number on, and behind the last node from node 1 on
+unfoldable pub next_from : Plain → ℕ → Option ℕ
+next_from w from = or_first (first_from w from (length w.nodes + 1 - from)) (first_from w 1 (length w.nodes))
+
+-- a world in rotation, and the number from which on the next node is sought
+pub record Rotation : Type 0 where
+  pub world : Plain
+  pub from : ℕ
+
+-- the turn of a node; where all are over, nothing comes
+abbrev pub with_turn : Rotation → Option ℕ → Rotation
+with_turn r None = r
+with_turn r (Some n) = record { world = after_turn r.world n; from = n + 1 }
+
+unfoldable pub after_next : Rotation → Rotation
+after_next r = with_turn r (next_from r.world r.from)
+
+-- so many turns
+unfoldable pub rotation : ℕ → Rotation → Rotation
+rotation zero r = r
+rotation (suc k) r = after_next (rotation k r)
+
+-- the world after k turns in rotation, of which the first is sought from this number on
+abbrev pub rotated : ℕ → ℕ → Plain → Plain
+rotated k from w = (rotation k (record { world = w; from = from })).world
+
+-- a world, after turns in rotation from node 1
+abbrev pub IsRotated : Plain → Plain → Type 0
+IsRotated old new = (k : ℕ) × (new ≡ rotated k 1 old)
+
+-- ---- walks
+
+-- one turn for each play, and then turns in rotation
+abbrev pub Walk : Plain → List ℕ → Plain → Type 0
+Walk old plays new = IsRotated (played plays old) new
+
+-- a walk as far as it came: the first plays, or all of them and turns in rotation
+abbrev pub IsPartOfWalk : Plain → List ℕ → Plain → Type 0
+IsPartOfWalk old plays new = IsPlayed old plays new ⊎ Walk old plays new
+
+-- every node is over
+abbrev pub AllOver : Plain → Type 0
+AllOver w = (n : ℕ) → is_over w n ≡ true
+
+-- for how many turns in rotation a run goes on at most
+unfoldable pub budget_of : Plain → ℕ
+budget_of w = 2048 * length w.nodes * (length w.script.lines + length w.nodes)
+
+-- so many turns in rotation are made, and a node is not over
+pub record IsSpent (budget : ℕ) (old new : Plain) : Type 0 where
+  pub spent : new ≡ rotated budget 1 old
+  pub node : ℕ
+  pub left : is_over new node ≡ false
+
+-- the next event of some node is a write
+pub record IsBeforeWrite (w : Plain) : Type 0 where
+  pub node : ℕ
+  pub write : is_write (next_event w node) ≡ true
+
+-- ---- what no turn changes
+
+pub record Stays (old new : Plain) : Type 0 where
+  pub script : new.script ≡ old.script
+  pub opening : new.opening ≡ old.opening
+  pub geometry : new.geometry ≡ old.geometry
+  pub count : length new.nodes ≡ length old.nodes

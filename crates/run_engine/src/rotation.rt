@@ -1,0 +1,86 @@
+ghost use Rattle.std.specs.Prelude.{◌≡◌, ◌⊎◌, ◌+◌, ◌-◌, ◌≤◌, Some, None, Ok, Err, IfSome, OnOk, length, false};
+ghost use Rattle.vol_words.specs.Faults.{Rose};
+ghost use Rattle.core_state.specs.Worlds.{IsOfWorld};
+ghost use Rattle.core_state.specs.Images.{IsTold, told_as};
+ghost use Rattle.core_state.specs.Events.{is_over};
+ghost use Rattle.run_engine.specs.Walks.{first_from, next_from, AllOver, IsRotated, IsSpent, IsBeforeWrite};
+
+use crate::fault::RunFault;
+use blk_drive::ImageDev;
+use core_state::World;
+use core_step::turn;
+use op_law::Operation;
+use std::alloc::Global;
+
+// The number of nodes.
+pub fn nodes_of<I: ImageDev, O: Operation>(w: &World<I, O>) -> u8
+    ensures count { result ≡ length w.now.world.nodes }
+    ensures few { result ≤ 8 }
+{
+    w.keeps_the_rules();
+    w.script().nodes
+}
+
+// The first node, from this one to the last, that is not over.
+fn first_from<I: ImageDev, O: Operation>(w: &World<I, O>, from: u8, last: u8) -> Option<u8>
+    requires last { last ≡ length w.now.world.nodes }
+    requires few { last ≤ 8 }
+    requires from { 1 ≤ from }
+    requires to { from ≤ last + 1 }
+    ensures { result ≡ first_from w.now.world from (last + 1 - from) }
+{
+    for node in from..last + 1 {
+        if !w.is_over(node) {
+            return Some(node);
+        }
+    }
+    None
+}
+
+// The node whose turn comes in rotation, sought from this number on, if one is not over.
+fn next_node<I: ImageDev, O: Operation>(w: &World<I, O>, from: u8) -> Option<u8>
+    requires from { 1 ≤ from }
+    requires to { from ≤ length w.now.world.nodes + 1 }
+    ensures next { result ≡ next_from w.now.world from }
+    ensures alive { IfSome result (λ n. is_over w.now.world n ≡ false) }
+    ensures of_world { IfSome result (λ n. IsOfWorld w.now.world n) }
+    ensures few { IfSome result (λ n. n ≤ 8) }
+    ensures over { result ≡ None → AllOver w.now.world }
+{
+    let last = nodes_of(w);
+    match first_from(w, from, last) {
+        Some(node) => Some(node),
+        None => first_from(w, 1, last),
+    }
+}
+
+// Turns in rotation from node 1 until every node is over, at most as many as the budget.
+pub fn rotate<I: ImageDev, O: Operation>(
+    alloc: Global,
+    w: &mut World<I, O>,
+    budget: u32,
+) -> Result<(), RunFault>
+    ensures turns { IsRotated w.old.world w.new.world }
+    ensures over { OnOk result (AllOver w.new.world) }
+    ensures spent { result ≡ Err RunFault.Unfinished → IsSpent budget w.old.world w.new.world }
+    ensures later { I.faults w.old.image ≤ I.faults w.new.image }
+    ensures cause { result ≡ Err RunFault.ImageFault → Rose (I.faults w.old.image) (I.faults w.new.image) }
+    ensures before { result ≡ Err RunFault.ImageFault → IsBeforeWrite w.new.world }
+    ensures drive { IsTold (I.told w.old.image) w.old.world.blocks
+        → (I.told w.new.image ≡ told_as (I.told w.old.image) w.new.world.blocks) ⊎ (result ≡ Err RunFault.ImageFault) }
+{
+    let mut from = 1u8;
+    for _turns in 0..budget {
+        match next_node(w, from) {
+            Some(node) => {
+                turn(alloc, w, node)?;
+                from = node + 1;
+            }
+            None => return Ok(()),
+        }
+    }
+    match next_node(w, from) {
+        Some(_) => Err(RunFault::Unfinished),
+        None => Ok(()),
+    }
+}

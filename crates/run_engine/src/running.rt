@@ -1,0 +1,99 @@
+ghost use Rattle.std.specs.Prelude.{◌≡◌, ◌≤◌, ◌⊎◌, Err, OnOk, OnErr, All};
+ghost use Rattle.vol_words.specs.Faults.{Rose};
+ghost use Rattle.plain_vol.specs.Own.{Whole};
+ghost use Rattle.core_state.specs.Worlds.{IsOfWorld};
+ghost use Rattle.core_state.specs.Images.{IsTold, told_as};
+ghost use Rattle.run_engine.specs.Walks.{after_play, played, Walk, IsPartOfWalk, IsPlayed, AllOver, IsSpent, IsBeforeWrite, Stays, budget_of};
+
+use crate::fault::RunFault;
+use crate::rotation::{nodes_of, rotate};
+use blk_drive::ImageDev;
+use core_state::World;
+use core_step::{TurnFault, turn};
+use op_law::Operation;
+use plain_cat::Plays;
+use std::alloc::Global;
+
+// For how many turns in rotation a run goes on at most.
+#[tactic(auto, unfolding(crate::specs::Walks::budget_of))]
+fn budget_of<I: ImageDev, O: Operation>(w: &World<I, O>) -> u32
+    ensures { result ≡ budget_of w.now.world }
+{
+    w.keeps_the_rules();
+    let nodes = nodes_of(w) as usize;
+    let commands = w.script().lines.items().len();
+    (2_048 * nodes * (commands + nodes)) as u32
+}
+
+// A play of a node: its turn, if it is not over.
+#[tactic(auto, unfolding(crate::specs::Walks::after_play))]
+fn play<I: ImageDev, O: Operation>(
+    alloc: Global,
+    w: &mut World<I, O>,
+    node: u8,
+) -> Result<(), TurnFault>
+    requires { IsOfWorld w.old.world node }
+    ensures played { OnOk result (w.new.world ≡ after_play w.old.world node) }
+    ensures same { OnErr result (w.new.world ≡ w.old.world) }
+    ensures later { I.faults w.old.image ≤ I.faults w.new.image }
+    ensures cause { result ≡ Err TurnFault.ImageFault → Rose (I.faults w.old.image) (I.faults w.new.image) }
+    ensures before { result ≡ Err TurnFault.ImageFault → IsBeforeWrite w.new.world }
+    ensures drive { IsTold (I.told w.old.image) w.old.world.blocks
+        → (I.told w.new.image ≡ told_as (I.told w.old.image) w.new.world.blocks) ⊎ (result ≡ Err TurnFault.ImageFault) }
+{
+    if !w.is_over(node) {
+        turn(alloc, w, node)?;
+    }
+    Ok(())
+}
+
+// The plays, in order.
+fn play_all<I: ImageDev, O: Operation>(
+    alloc: Global,
+    w: &mut World<I, O>,
+    plays: &[u8],
+) -> Result<(), TurnFault>
+    requires { All (IsOfWorld w.old.world) plays.now }
+    ensures played { OnOk result (w.new.world ≡ played plays.now w.old.world) }
+    ensures part { OnErr result (IsPlayed w.old.world plays.now w.new.world) }
+    ensures later { I.faults w.old.image ≤ I.faults w.new.image }
+    ensures cause { result ≡ Err TurnFault.ImageFault → Rose (I.faults w.old.image) (I.faults w.new.image) }
+    ensures before { result ≡ Err TurnFault.ImageFault → IsBeforeWrite w.new.world }
+    ensures drive { IsTold (I.told w.old.image) w.old.world.blocks
+        → (I.told w.new.image ≡ told_as (I.told w.old.image) w.new.world.blocks) ⊎ (result ≡ Err TurnFault.ImageFault) }
+{
+    for node in plays {
+        play(alloc, w, *node)?;
+    }
+    Ok(())
+}
+
+/// Runs the script of a world to its end: first one turn for each play of the schedule, then turns in rotation from node 1. A
+/// node that is over makes no turn: its play has no effect, and the rotation passes over it. A run ends once every node is over.
+///
+/// The plays are nodes from 1 to the last. The rotation makes at most 2,048 × nodes × (commands + nodes) turns, and the run is
+/// `Unfinished` where a node is not over after so many. After a fault the world is as it was before the turn that failed, and
+/// `ImageFault` comes only where the image has counted a fault.
+pub fn run<I: ImageDev, O: Operation>(
+    alloc: Global,
+    w: &mut World<I, O>,
+    plays: &Plays,
+) -> Result<(), RunFault>
+    requires { All (IsOfWorld w.old.world) plays.now }
+    ensures ok { OnOk result (Walk w.old.world plays.now w.new.world × AllOver w.new.world) }
+    ensures whole { OnOk result (Whole w.new.world.script w.new.world.history) }
+    ensures err { OnErr result (IsPartOfWalk w.old.world plays.now w.new.world) }
+    ensures spent { result ≡ Err RunFault.Unfinished → IsSpent (budget_of w.old.world) (played plays.now w.old.world) w.new.world }
+    ensures stays { Stays w.old.world w.new.world }
+    ensures later { I.faults w.old.image ≤ I.faults w.new.image }
+    ensures cause { result ≡ Err RunFault.ImageFault → Rose (I.faults w.old.image) (I.faults w.new.image) }
+    ensures before { result ≡ Err RunFault.ImageFault → IsBeforeWrite w.new.world }
+    ensures drive { IsTold (I.told w.old.image) w.old.world.blocks
+        → (I.told w.new.image ≡ told_as (I.told w.old.image) w.new.world.blocks) ⊎ (result ≡ Err RunFault.ImageFault) }
+{
+    let budget = budget_of(w);
+    play_all(alloc, w, plays.items())?;
+    rotate(alloc, w, budget)?;
+    w.keeps_the_rules();
+    Ok(())
+}
