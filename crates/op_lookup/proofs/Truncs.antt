@@ -1,5 +1,5 @@
 -- The law of the TRUNC of a system file.
-use Rattle.std.proofs.Common.{◌≡◌, ◌≤◌, ◌∙◌, inl, inr, ℕ, Bool, true, false, cond, List, [], ◌∷◌, Option, Some, None, refl, sym, ap, subst, arith}
+use Rattle.std.proofs.Common.{◌≡◌, ◌≤◌, ◌∙◌, inl, inr, ℕ, true, cond, List, [], ◌∷◌, Option, Some, None, refl, sym, ap, subst, arith}
 use Rattle.std.specs.Prelude.{option_map, nat_le, ◌||◌, min}
 use Rattle.std.proofs.lemmas.Bool.Decides.{nat_tests}
 use Rattle.vol_words.specs.Fields.{Block}
@@ -11,7 +11,6 @@ use Rattle.plain_cat.specs.declared.mode.Mode.{Mode}
 use Rattle.plain_cat.specs.declared.mode.Mode.TheVariants.{PW}
 use Rattle.plain_cat.specs.declared.command.Cmd.{Cmd}
 use Rattle.plain_cat.specs.declared.command.Cmd.TheVariants as cmd
-use Rattle.plain_cat.specs.declared.reply.Reply.{Reply}
 use Rattle.plain_cat.specs.declared.reply.Reply.TheVariants as reply
 use Rattle.plain_cat.specs.declared.reply.Refusal.{Refusal}
 use Rattle.plain_cat.specs.declared.reply.Refusal.TheVariants as refusal
@@ -19,7 +18,7 @@ use Rattle.plain_cat.specs.declared.cat.Cat.{Cat}
 use Rattle.plain_cat.specs.declared.cat.File.{File}
 use Rattle.plain_vol.specs.Lookups.{live}
 use Rattle.plain_vol.specs.Changes.{in_clusters}
-use Rattle.plain_vol.specs.Answers.{told, refused, first_refusal, truncated, trunc_of, trunc_outcome, outcome}
+use Rattle.plain_vol.specs.Answers.{refused, first_refusal, truncated, trunc_of, trunc_outcome, outcome}
 use Rattle.plain_vol.proofs.LawSteps.{pick_exists}
 use Rattle.vol_owners.specs.Owners.{Owners}
 use Rattle.vol_parts.specs.declared.geometry.Geometry.{Geometry}
@@ -38,7 +37,7 @@ use Rattle.op_law.specs.Laws.{Lawful}
 use Rattle.op_law.proofs.Telling.{live_is, not_live}
 use Rattle.op_law.proofs.Walking.{EveryPlan, Obeys}
 use Rattle.op_law.proofs.Through.{header_so, file_header, file_told, header_obeys}
-use Rattle.op_law.proofs.OnlyLooking.{IsPlain, IsAnswer, OnlyLooks, only_looks_lawful}
+use Rattle.op_law.proofs.OnlyLooking.{IsPlain, IsAnswer, only_looks_lawful}
 use Rattle.op_lookup.specs.Kinds.{IsSystemTrunc}
 
 module _ (g : Geometry) (file : Fid) (k : ℕ) (system : file.num ≤ 11) where
