@@ -180,7 +180,7 @@ quiet_turn s c bs only w n quiet =
     let stays : Stays w (after_turn w n) = turn_stays w n in
     let event : IsQuietEvent (next_event w n) = quiet_next w quiet.good here n in
     record {
-      good = turn_keeps w quiet.good n (λ q x at e. look_lawful x (current_looks w quiet.good here n q at x e));
+      good = turn_keeps w quiet.good n (λ q x at on free e. look_lawful x (current_looks w quiet.good here n q at x e));
       script = stays.script ∙ quiet.script;
       opening = stays.opening ∙ quiet.opening;
       blocks = turn_blocks w n (node_at w.nodes n) (next_event w n) event ∙ quiet.blocks;

@@ -52,6 +52,7 @@ fn run_on<I: ImageDev>(
         Ok(()) => report_of(alloc, w),
         Err(RunFault::NoMemory) => Err(Status::NoMemory),
         Err(RunFault::Unfinished) => Err(Status::Unfinished),
+        // Commands that only look write no block, so no write fails.
         Err(RunFault::ImageFault) => unreachable!(),
     }
 }

@@ -53,7 +53,7 @@ searches (cmd.List dir) look g channel = directory_so HasNoSearch (λ n m next h
 searches (cmd.Stat file) look g channel = header_so HasNoSearch (λ n m next h. h) (λ n l next h. h) g file PR _ tt (λ b. so_none (live_in file.seq b))
 searches other look g channel = absurd look
 
-plain : (x : Cmd) → IsLook x → (g : Geometry) (channel : Option Chan) → EveryPlan IsPlain (events_of g channel x)
+pub plain : (x : Cmd) → IsLook x → (g : Geometry) (channel : Option Chan) → EveryPlan IsPlain (events_of g channel x)
 unfolding events_of lookup_events list_events stat_events
 plain (cmd.Lookup reg dir name ver) look g channel =
     directory_so (EveryPlan IsPlain) (λ n m next h. h) (λ n l next h. h) g dir PR _ (record { writes = refl; ask = refl }) (record { writes = refl; ask = refl }) (λ b bs. record { writes = refl; ask = refl })
