@@ -159,13 +159,3 @@ pub(crate) fn decide<I: ImageDev, O: Operation>(
     keep_plan(&mut core.nodes[node as usize - 1], plan);
     Ok(())
 }
-
-// A node has made a write.
-fn keep_write<O: Operation>(node: &mut Node<O>)
-    requires { node.old.done < 18446744073709551615 }
-    ensures { state_of O.cmd_is node.new ≡ turned (writing (state_of O.cmd_is node.old)) }
-{
-    node.done += 1;
-    node.writes = node.writes.saturating_add(1);
-    count(node);
-}
