@@ -9,7 +9,7 @@ use Rattle.fx_dir.specs.Lists.{Each, In, joined}
 use Rattle.fx_dir.specs.Entries.{rises, has, without, plain}
 use Rattle.fx_dir.specs.Directory.{directory, plainly, all_entries}
 use Rattle.fx_dir.specs.Writing.{IsInForm, IsRanged, IsUniform, name_of, block_of}
-use Rattle.fx_dir.specs.Moves.{written, rising, place, remove_writes, AreChanges, Removes, on_entries}
+use Rattle.fx_dir.specs.Moves.{written, rising, place, packed_as, remove_writes, AreChanges, Removes, on_entries}
 use Rattle.fx_dir.proofs.Order.{not_both}
 use Rattle.fx_dir.proofs.Meeting.{Reads, Sound}
 use Rattle.fx_dir.proofs.Cover.{each-append, each-imp}
@@ -181,6 +181,7 @@ pub removes : (old : List Block) (fs : List RawEnt) (e : RawEnt) (ws : List Move
 removes old fs e ws long read there sound key is =
     subst (λ (t : List Move). Removes old e t) (sym is) (record {
       first = length pass-writes;
+      packing = ap (λ r. length (rising 1 old (packed_as old r))) (sym read);
       decides = omega (arith, length-append pass-writes (record { vbn = suc (place e (pack name_of (length old) fs)); block = block_of (without e (slice_index_or (pack name_of (length old) fs) (place e (pack name_of (length old) fs)) [])) } ∷ rising 1 (map block_of (map (without e) (pack name_of (length old) fs))) (map block_of (pack name_of (length old) (without e fs)))));
       before = λ n h. let b = before-decided plain plain-view old fs e read base there sound plainly-kept n h in ap plainly b.1 ∙ ap Ok b.2 ∙ sym (ap plainly read);
       after = λ n h. let a = after-decided plain plain-view old fs e read base there sound plainly-kept n h in ap plainly a.1 ∙ ap Ok (a.2 ∙ ap (λ (x : RawEnt). without x (map plain fs)) key) ∙ sym (ap (λ r. on_entries (without e) (plainly r)) read);

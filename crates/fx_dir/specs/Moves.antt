@@ -97,6 +97,15 @@ removal_on old e (Err fault) = []
 abbrev pub removal : List Block → List ℕ → ℕ → List Move
 removal old name ver = removal_on old (key name ver) (directory old)
 
+-- the blocks of a directory with its entries packed
+abbrev pub packed_as : List Block → Result (List RawEnt) DirFault → List Block
+packed_as old (Ok es) = map block_of (pack name_of (length old) es)
+packed_as old (Err fault) = old
+
+-- how many writes pack the entries, before one is removed
+abbrev pub packing_writes : List Block → ℕ
+packing_writes old = length (rising 1 old (packed_as old (directory old)))
+
 -- what is read, changed in the entries alone
 abbrev pub on_entries : (List RawEnt → List RawEnt) → Result (List RawEnt) DirFault → Result (List RawEnt) DirFault
 on_entries f (Ok es) = Ok (f es)
@@ -118,10 +127,11 @@ pub record Inserts (old : List Block) (e : RawEnt) (ws : List Move) : Type 0 whe
   pub kept_after : IsUniform (all_entries old) → directory (written ws old) ≡ on_entries (λ es. inserted (as_new es e) es) (directory old)
   pub changes : AreChanges ws old
 
--- The law of a removal, with the number of writes in front of the one that decides: the old entries are read up to it,
--- and from it on the rest.
+-- The law of a removal, with the number of writes in front of the one that decides, which are those that pack the entries:
+-- the old entries are read up to it, and from it on the rest.
 pub record Removes (old : List Block) (e : RawEnt) (ws : List Move) : Type 0 where
   pub first : ℕ
+  pub packing : first ≡ packing_writes old
   pub decides : first < length ws
   pub before : (n : ℕ) → n ≤ first → dir_entries (written (take n ws) old) ≡ dir_entries old
   pub after : (n : ℕ) → first < n → dir_entries (written (take n ws) old) ≡ on_entries (without e) (dir_entries old)

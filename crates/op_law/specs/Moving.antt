@@ -1,13 +1,9 @@
 -- A directory as a command sees it, the writes that enter or remove an entry, and the command on names.
-use Rattle.std.specs.Prelude.{◌-◌, ◌++◌, not, ℕ, Bool, List, [], ◌∷◌, Result, Ok, Err, unwrap_or, length, take, drop, map}
+use Rattle.std.specs.Prelude.{◌-◌, ◌++◌, not, ℕ, Bool, List, [], ◌∷◌, unwrap_or, length, take, drop, map}
 use Rattle.vol_words.specs.Fields.{Block}
-use Rattle.vol_words.specs.Packing.{pack}
 use Rattle.fx_dir.specs.declared.RawEnt.{RawEnt}
-use Rattle.fx_dir.specs.declared.DirFault.{DirFault}
 use Rattle.fx_dir.specs.declared.Move.{Move}
-use Rattle.fx_dir.specs.Directory.{directory}
-use Rattle.fx_dir.specs.Writing.{name_of, block_of}
-use Rattle.fx_dir.specs.Moves.{written, rising, insertion, removal}
+use Rattle.fx_dir.specs.Moves.{written, insertion, removal, packing_writes}
 use Rattle.plain_cat.specs.declared.ids.Fid.{Fid}
 use Rattle.plain_cat.specs.declared.mode.Mode.TheVariants.{PW}
 use Rattle.plain_cat.specs.declared.entries.DirEnt.{DirEnt}
@@ -62,15 +58,6 @@ insertion_moves d e = unwrap_or (insertion d.blocks (raw_entry e)) []
 -- the writes that enter an entry, of which the last decides
 unfoldable pub insertion_writes : SeenDir → DirEnt → Stage → Stage → List PlanWrite
 insertion_writes d e before after = let ms = insertion_moves d e in moves_at d before after (length ms - 1) ms
-
--- the blocks of a directory with its entries packed
-abbrev pub packed_as : List Block → Result (List RawEnt) DirFault → List Block
-packed_as bs (Ok es) = map block_of (pack name_of (length bs) es)
-packed_as bs (Err fault) = bs
-
--- how many writes pack the entries, before one is removed
-unfoldable pub packing_writes : List Block → ℕ
-packing_writes bs = length (rising 1 bs (packed_as bs (directory bs)))
 
 -- the writes that remove an entry, of which the first behind the packing decides
 unfoldable pub removal_writes : SeenDir → DirEnt → Stage → Stage → List PlanWrite

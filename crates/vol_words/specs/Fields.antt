@@ -1,5 +1,5 @@
 -- Blocks, and the little-endian fields in them. A block is a list of 512 bytes.
-use Rattle.std.specs.Prelude.{◌+◌, ◌*◌, ◌%◌, ◌^◌, ◌<◌, ℕ, zero, suc, List, ◌++◌, take, drop, length, slice_index}
+use Rattle.std.specs.Prelude.{◌≡◌, ◌+◌, ◌*◌, ◌%◌, ◌^◌, ◌<◌, ℕ, zero, suc, List, ◌++◌, take, drop, length, slice_get, slice_index, Some}
 use Rattle.byteorder.specs.Endian.{little_number, little_bytes}
 
 abbrev pub Block : Type 0
@@ -8,6 +8,15 @@ Block = List ℕ
 -- each is a byte
 abbrev pub IsBytes : List ℕ → Type 0
 IsBytes b = (i : ℕ) → slice_index b i < 256
+
+-- a whole block: 512 bytes
+pub record IsWholeBlock (b : Block) : Type 0 where
+  pub long : length b ≡ 512
+  pub bytes : IsBytes b
+
+-- each of these blocks is whole
+abbrev pub AreWholeBlocks : List Block → Type 0
+AreWholeBlocks bs = (l : ℕ) (b : Block) → slice_get bs l ≡ Some b → IsWholeBlock b
 
 -- the number of the w bytes at offset o, the lowest first
 abbrev pub field : Block → ℕ → ℕ → ℕ
