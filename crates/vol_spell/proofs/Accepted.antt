@@ -5,7 +5,7 @@ use Rattle.std.specs.List.{range_with_len, list_any, find}
 use Rattle.std.proofs.Math.Nat.{mul-div-le}
 use Rattle.std.proofs.lemmas.Bool.{and_parts, ltb-true, leb-true, eqb-true, eq-eqb, le-leb}
 use Rattle.std.proofs.lemmas.List.FromFn.{length-range_with_len, length-map-range_with_len}
-use Rattle.vol_words.specs.Fields.{Block}
+use Rattle.vol_words.specs.Fields.{Block, AreWholeBlocks}
 use Rattle.fx_home.specs.declared.home.Home.{Home}
 use Rattle.fx_home.specs.declared.home.HomeFault.{HomeFault}
 use Rattle.fx_home.specs.declared.home.HomeFault.TheVariants.{BadFormat, BadLevel, BadSum1, BadSum2, BadCluster, BadFiles, BadLayout}
@@ -293,7 +293,7 @@ number_never_outside v n node e = by_tests (is_used_number v n) (is_some (fields
 
 -- ---- a volume in which nothing fatal is found
 
-module _ (home : Home) (bs : List Block) (read : home_read (home_at bs) ≡ Ok home) (within : IsWithinLimits home) (from : 64 ≤ length bs) (to : length bs ≤ 65536) (weak : (f : Finding) → IsFatalIn (volume home bs) f → ⊥) where
+module _ (home : Home) (bs : List Block) (read : home_read (home_at bs) ≡ Ok home) (within : IsWithinLimits home) (from : 64 ≤ length bs) (to : length bs ≤ 65536) (blocks : AreWholeBlocks bs) (weak : (f : Finding) → IsFatalIn (volume home bs) f → ⊥) where
   abbrev v : Volume
   v = volume home bs
 
@@ -630,6 +630,7 @@ module _ (home : Home) (bs : List Block) (read : home_read (home_at bs) ≡ Ok h
       numbers = length-map-range_with_len (number_owner v) 1 home.files;
       slots = length-files_of v;
     };
+    whole = blocks;
     structures = v_structures;
     constants = record { factor = refl; total = refl; reserved = refl; rows = ap (λ k. 16 * k) v_row_count };
     files = v_files;
@@ -651,7 +652,7 @@ module _ (home : Home) (bs : List Block) (read : home_read (home_at bs) ≡ Ok h
   is_spelt = record { home = home; read = read; spelt = v_spelt; outs = v_outs }
 
 pub catalogue_is_spelt : CatalogueIsSpelt
-catalogue_is_spelt bs c from to at = by_home (home_read (home_at bs)) refl at.weak at.told where
+catalogue_is_spelt bs c from to blocks at = by_home (home_read (home_at bs)) refl at.weak at.told where
   by_home : (r : Result Home HomeFault) → home_read (home_at bs) ≡ r → ((f : Finding) → IsFatalBy bs r f → ⊥) → IsCatalogueBy bs r c → IsSpelt bs c
   by_home (Err fault) e weak told = absurd told
-  by_home (Ok home) e weak told = subst (λ (x : Cat). IsSpelt bs x) (sym told) (is_spelt home bs e (limits_of (home_at bs) home e) from to weak)
+  by_home (Ok home) e weak told = subst (λ (x : Cat). IsSpelt bs x) (sym told) (is_spelt home bs e (limits_of (home_at bs) home e) from to blocks weak)

@@ -1,7 +1,7 @@
 -- The kinds of writes.
-use Rattle.std.proofs.Common.{◌≡◌, ◌≢◌, ◌<◌, ◌+◌, ◌*◌, ◌-◌, ◌/◌, ◌⊎◌, ℕ, Bool, true, false, List, [], Option, Some, length, map, slice_get, slice_set, refl, sym, ap, subst, ◌∙◌, inl, inr, arith, length-set, get_or-set_other, cond}
+use Rattle.std.proofs.Common.{◌≡◌, ◌≢◌, ◌<◌, ◌+◌, ◌*◌, ◌-◌, ◌/◌, ◌⊎◌, ℕ, zero, suc, Bool, true, false, List, [], ◌∷◌, Option, Some, length, map, slice_get, slice_set, refl, sym, ap, subst, ◌∙◌, inl, inr, arith, length-set, get_or-set_other, cond}
 use Rattle.std.specs.Prelude.{◌↔◌, ◌==◌, count_by, Result, Ok, Err}
-use Rattle.vol_words.specs.Fields.{Block}
+use Rattle.vol_words.specs.Fields.{Block, IsWholeBlock, AreWholeBlocks}
 use Rattle.fx_header.specs.declared.slot.Slot.{Slot as Head}
 use Rattle.fx_header.specs.declared.slot.Slot.TheVariants as head
 use Rattle.fx_header.specs.declared.slot.HeaderFault.{HeaderFault}
@@ -54,11 +54,19 @@ known_stays : (g : Geometry) (P : Option Owner → Type 0) (xs ys : List Owner) 
     → (q n : ℕ) → slice_get ys q ≡ Some (InFile n) → IsFileNumber g n
 known_stays g P xs ys moves may old q n e = elim (moves.each q) [ inl same ↦ old q n (sym same ∙ e) | inr m ↦ may n (subst P e m.1) ]
 
+-- blocks stay whole where a whole block is written
+pub whole_set : (bs : List Block) (l : ℕ) (b : Block) → AreWholeBlocks bs → IsWholeBlock b → AreWholeBlocks (slice_set bs l b)
+whole_set [] l b all whole k x e = all k x e
+whole_set (a ∷ bs) zero b all whole zero x e = let h : b ≡ x = cc in subst IsWholeBlock h whole
+whole_set (a ∷ bs) zero b all whole (suc k) x e = all (suc k) x e
+whole_set (a ∷ bs) (suc l) b all whole zero x e = all zero x e
+whole_set (a ∷ bs) (suc l) b all whole (suc k) x e = whole_set bs l b (λ j y f. all (suc j) y f) whole k x e
+
 module _ (g : Geometry) (bs : List Block) (own : Owners) (c : Cat) (s : Spells g bs own c) where
   -- ---- a block in a file's body, or outside: all but the one file stays
 
-  pub outside_write_lem : (node l : ℕ) (b : Block) → owner_at g own l ≡ Some (Outside node) → Spells g (slice_set bs l b) own c
-  outside_write_lem node l b at =
+  pub outside_write_lem : (node l : ℕ) (b : Block) → IsWholeBlock b → owner_at g own l ≡ Some (Outside node) → Spells g (slice_set bs l b) own c
+  outside_write_lem node l b whole at =
       let rows : rows_told g (slice_set bs l b) ≡ rows_told g bs = rows_stay g bs own c s l b (Outside node) at (λ e. absurd (cc)) in
       let P : List Row → Type 0 = λ rs. Once (map (λ r. r.uic) rs) in
       record {
@@ -69,6 +77,7 @@ module _ (g : Geometry) (bs : List Block) (own : Owners) (c : Cat) (s : Spells g
           numbers = s.counts.numbers;
           slots = s.counts.slots;
         };
+        whole = whole_set bs l b s.whole whole;
         structures = structures_stay g bs l b (home_apart g bs own c s l (Outside node) at (λ e. absurd (cc))) (control_apart g bs own c s l (Outside node) at (λ e. absurd (cc)))
             (λ n st. header_apart g bs own c s l (Outside node) at (λ e. absurd (cc)) n (structure_number g bs own c s n st)) s.structures;
         constants = s.constants;
@@ -88,8 +97,8 @@ module _ (g : Geometry) (bs : List Block) (own : Owners) (c : Cat) (s : Spells g
         };
       }
 
-  pub quota_write_lem : (k l : ℕ) (b : Block) → part_of g l ≡ Some (Quota k) → Once (map (λ r. r.uic) (rows_told g (slice_set bs l b))) → Spells g (slice_set bs l b) own (with_rows g (slice_set bs l b) c)
-  quota_write_lem k l b part once =
+  pub quota_write_lem : (k l : ℕ) (b : Block) → IsWholeBlock b → part_of g l ≡ Some (Quota k) → Once (map (λ r. r.uic) (rows_told g (slice_set bs l b))) → Spells g (slice_set bs l b) own (with_rows g (slice_set bs l b) c)
+  quota_write_lem k l b whole part once =
       let at : owner_at g own l ≡ Some (InFile 10) = part_owner g bs own c s l (Quota k) part in
       let one : InFile 1 ≢ InFile 10 = two_files 1 10 refl in
       let two : InFile 2 ≢ InFile 10 = two_files 2 10 refl in
@@ -101,6 +110,7 @@ module _ (g : Geometry) (bs : List Block) (own : Owners) (c : Cat) (s : Spells g
           numbers = s.counts.numbers;
           slots = s.counts.slots;
         };
+        whole = whole_set bs l b s.whole whole;
         structures = structures_stay g bs l b (home_apart g bs own c s l (InFile 10) at one) (control_apart g bs own c s l (InFile 10) at two)
             (λ n st. header_apart g bs own c s l (InFile 10) at one n (structure_number g bs own c s n st)) s.structures;
         constants = record { factor = s.constants.factor; total = s.constants.total; reserved = s.constants.reserved; rows = s.constants.rows };
@@ -122,9 +132,9 @@ module _ (g : Geometry) (bs : List Block) (own : Owners) (c : Cat) (s : Spells g
 
   -- ---- the bitmaps: what is free or outside at the node moves
 
-  pub storage_write_lem : (new : Owners) (node k l : ℕ) (b : Block) → part_of g l ≡ Some (Storage k) → Moves (IsSpaceMove node) own.clusters new.clusters → new.numbers ≡ own.numbers
+  pub storage_write_lem : (new : Owners) (node k l : ℕ) (b : Block) → IsWholeBlock b → part_of g l ≡ Some (Storage k) → Moves (IsSpaceMove node) own.clusters new.clusters → new.numbers ≡ own.numbers
       → ((q : ℕ) → q < total_of g → (cluster_bit g (slice_set bs l b) q ≡ true) ↔ (slice_get new.clusters q ≡ Some Free)) → Spells g (slice_set bs l b) new c
-  storage_write_lem new node k l b part moves same bits =
+  storage_write_lem new node k l b whole part moves same bits =
       let at : owner_at g own l ≡ Some (InFile 2) = part_owner g bs own c s l (Storage k) part in
       let place : g.bitmap_lbn + 1 + k ≡ l = (part_only g bs own c s l (Storage k) part).1 in
       let one : InFile 1 ≢ InFile 2 = two_files 1 2 refl in
@@ -139,6 +149,7 @@ module _ (g : Geometry) (bs : List Block) (own : Owners) (c : Cat) (s : Spells g
           numbers = ap (λ xs. length xs) same ∙ s.counts.numbers;
           slots = s.counts.slots;
         };
+        whole = whole_set bs l b s.whole whole;
         structures = structures_stay g bs l b (home_apart g bs own c s l (InFile 2) at one) (let ne : g.bitmap_lbn ≢ l = omega arith in ne)
             (λ n st. header_apart g bs own c s l (InFile 2) at one n (structure_number g bs own c s n st)) s.structures;
         constants = s.constants;
@@ -163,9 +174,9 @@ module _ (g : Geometry) (bs : List Block) (own : Owners) (c : Cat) (s : Spells g
         numbers_same : (new : Owners) (n : ℕ) → new.numbers ≡ own.numbers → (slice_get new.numbers (n - 1) ≡ Some (InFile n)) ↔ (slice_get own.numbers (n - 1) ≡ Some (InFile n))
         numbers_same new n e = number_same new (n - 1) (InFile n) e
 
-  pub index_write_lem : (new : Owners) (node l : ℕ) (b : Block) → part_of g l ≡ Some IndexBitmap → new.clusters ≡ own.clusters → Moves (IsSpaceMove node) own.numbers new.numbers
+  pub index_write_lem : (new : Owners) (node l : ℕ) (b : Block) → IsWholeBlock b → part_of g l ≡ Some IndexBitmap → new.clusters ≡ own.clusters → Moves (IsSpaceMove node) own.numbers new.numbers
       → ((n : ℕ) → IsFileNumber g n → (number_bit g (slice_set bs l b) n ≡ false) ↔ (slice_get new.numbers (n - 1) ≡ Some Free)) → Spells g (slice_set bs l b) new c
-  index_write_lem new node l b part same moves bits =
+  index_write_lem new node l b whole part same moves bits =
       let at : owner_at g own l ≡ Some (InFile 1) = part_owner g bs own c s l IndexBitmap part in
       let place : 4 * g.cluster ≡ l = (part_only g bs own c s l IndexBitmap part).1 in
       let one = low g bs own c s in
@@ -182,6 +193,7 @@ module _ (g : Geometry) (bs : List Block) (own : Owners) (c : Cat) (s : Spells g
           numbers = moves.count ∙ s.counts.numbers;
           slots = s.counts.slots;
         };
+        whole = whole_set bs l b s.whole whole;
         structures = structures_stay g bs l b (let ne : 1 ≢ l = omega arith in ne) (control_apart g bs own c s l (InFile 1) at two)
             (λ n st. other n (structure_number g bs own c s n st)) s.structures;
         constants = s.constants;
@@ -237,6 +249,7 @@ module _ (g : Geometry) (bs : List Block) (own : Owners) (c : Cat) (s : Spells g
           numbers = h.moves.numbers.count ∙ s.counts.numbers;
           slots = length-set c.files (n - 1) x ∙ s.counts.slots;
         };
+        whole = whole_set bs l b s.whole h.whole;
         structures = structures_stay g bs l b (let ne : 1 ≢ header_place g n = omega arith in ne) (control_apart g bs own c s l (InFile 1) at two)
             (λ m st. let ne = not_structure m n st h.plain in let f : header_place g m ≢ header_place g n = λ e. ne (omega arith) in f) s.structures;
         constants = record {
@@ -310,6 +323,7 @@ module _ (g : Geometry) (bs : List Block) (own : Owners) (c : Cat) (s : Spells g
           numbers = s.counts.numbers;
           slots = length-set c.files (n - 1) x ∙ s.counts.slots;
         };
+        whole = whole_set bs l b s.whole h.whole;
         structures = structures_stay g bs l b (home_apart g bs own c s l (InFile n) at one) (control_apart g bs own c s l (InFile n) at two)
             (λ m st. header_apart g bs own c s l (InFile n) at one m (structure_number g bs own c s m st)) s.structures;
         constants = record {
@@ -370,6 +384,7 @@ module _ (g : Geometry) (bs : List Block) (own : Owners) (c : Cat) (s : Spells g
           numbers = moves.numbers.count ∙ s.counts.numbers;
           slots = s.counts.slots;
         };
+        whole = s.whole;
         structures = s.structures;
         constants = record { factor = s.constants.factor; total = s.constants.total; reserved = s.constants.reserved; rows = s.constants.rows };
         files = λ n x is h. tells_on g own new n _ _ x (λ q. clusters q (InFile n) (λ f. f)) (numbers (n - 1) (InFile n) (λ f. f)) (s.files n x is h);
@@ -385,16 +400,16 @@ module _ (g : Geometry) (bs : List Block) (own : Owners) (c : Cat) (s : Spells g
       }
 
 pub outside_write : OutsideWrite
-outside_write g bs own c node l b s at = outside_write_lem g bs own c s node l b at
+outside_write g bs own c node l b s whole at = outside_write_lem g bs own c s node l b whole at
 
 pub quota_write : QuotaWrite
-quota_write g bs own c k l b s part once = quota_write_lem g bs own c s k l b part once
+quota_write g bs own c k l b s whole part once = quota_write_lem g bs own c s k l b whole part once
 
 pub storage_write : StorageWrite
-storage_write g bs own new c node k l b s part moves same bits = storage_write_lem g bs own c s new node k l b part moves same bits
+storage_write g bs own new c node k l b s whole part moves same bits = storage_write_lem g bs own c s new node k l b whole part moves same bits
 
 pub index_write : IndexWrite
-index_write g bs own new c node l b s part same moves bits = index_write_lem g bs own c s new node l b part same moves bits
+index_write g bs own new c node l b s whole part same moves bits = index_write_lem g bs own c s new node l b whole part same moves bits
 
 pub header_write : HeaderWrite
 header_write g bs own new c node n b x s h = header_write_lem g bs own c s new node n b x h

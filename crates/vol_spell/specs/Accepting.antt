@@ -2,7 +2,7 @@
 -- spells its catalogue with them.
 use Rattle.std.specs.Prelude.{◌≡◌, ◌≤◌, not, ℕ, List, Option, Some, None, Ok, is_some, length, map, if◌then◌else◌}
 use Rattle.std.specs.List.{range_with_len, find}
-use Rattle.vol_words.specs.Fields.{Block}
+use Rattle.vol_words.specs.Fields.{Block, AreWholeBlocks}
 use Rattle.fx_home.specs.declared.home.Home.{Home}
 use Rattle.fx_home.specs.Homes.{home_read}
 use Rattle.plain_cat.specs.declared.cat.Cat.{Cat}
@@ -35,6 +35,6 @@ pub record IsSpelt (bs : List Block) (c : Cat) : Type 0 where
   pub spelt : Spells (geometry_of (volume home bs)) bs (owners_told (volume home bs)) c
   pub outs : (node : ℕ) → Outs node (owners_told (volume home bs)) nothing nothing
 
--- the catalogue of a volume with no fatal finding is spelt
+-- the catalogue of a volume of whole blocks with no fatal finding is spelt
 abbrev pub CatalogueIsSpelt : Type 0
-CatalogueIsSpelt = (bs : List Block) (c : Cat) → 64 ≤ length bs → length bs ≤ 65536 → CatOf bs c → IsSpelt bs c
+CatalogueIsSpelt = (bs : List Block) (c : Cat) → 64 ≤ length bs → length bs ≤ 65536 → AreWholeBlocks bs → CatOf bs c → IsSpelt bs c

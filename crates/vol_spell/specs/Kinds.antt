@@ -1,7 +1,7 @@
--- The kinds of writes, and the death of a node. Each takes blocks that spell a catalogue to blocks that spell one, whatever the block that is written,
--- if it reads as the kind says.
+-- The kinds of writes, and the death of a node. Each takes blocks that spell a catalogue to blocks that spell one, whatever the
+-- whole block that is written, if it reads as the kind says.
 use Rattle.std.specs.Prelude.{◌≡◌, ◌≤◌, ◌+◌, ◌<◌, ◌-◌, ◌↔◌, ℕ, true, false, List, Some, None, map, count_by, slice_get, slice_set}
-use Rattle.vol_words.specs.Fields.{Block}
+use Rattle.vol_words.specs.Fields.{Block, IsWholeBlock}
 use Rattle.fx_header.specs.Headers.{header_read}
 use Rattle.plain_cat.specs.declared.cat.Cat.{Cat}
 use Rattle.plain_cat.specs.declared.cat.Slot.{Slot}
@@ -20,7 +20,7 @@ use Rattle.vol_spell.specs.Spelling.{Tells, dir_found, Spells}
 
 -- a block in no file and no bitmap, which a node holds: nothing changes
 abbrev pub OutsideWrite : Type 0
-OutsideWrite = (g : Geometry) (bs : List Block) (own : Owners) (c : Cat) (node l : ℕ) (b : Block) → Spells g bs own c → owner_at g own l ≡ Some (Outside node) → Spells g (slice_set bs l b) own c
+OutsideWrite = (g : Geometry) (bs : List Block) (own : Owners) (c : Cat) (node l : ℕ) (b : Block) → Spells g bs own c → IsWholeBlock b → owner_at g own l ≡ Some (Outside node) → Spells g (slice_set bs l b) own c
 
 -- the catalogue with the rows that the blocks tell
 abbrev pub with_rows : Geometry → List Block → Cat → Cat
@@ -28,19 +28,19 @@ with_rows g bs c = record c { quota = rows_sorted (rows_told g bs) }
 
 -- a quota block: the rows change alone
 abbrev pub QuotaWrite : Type 0
-QuotaWrite = (g : Geometry) (bs : List Block) (own : Owners) (c : Cat) (k l : ℕ) (b : Block) → Spells g bs own c → part_of g l ≡ Some (Quota k)
+QuotaWrite = (g : Geometry) (bs : List Block) (own : Owners) (c : Cat) (k l : ℕ) (b : Block) → Spells g bs own c → IsWholeBlock b → part_of g l ≡ Some (Quota k)
     → Once (map (λ r. r.uic) (rows_told g (slice_set bs l b))) → Spells g (slice_set bs l b) own (with_rows g (slice_set bs l b) c)
 
 -- a block of the storage bitmap: clusters go from the free ones to the node that writes, or back
 abbrev pub StorageWrite : Type 0
-StorageWrite = (g : Geometry) (bs : List Block) (own new : Owners) (c : Cat) (node k l : ℕ) (b : Block) → Spells g bs own c → part_of g l ≡ Some (Storage k)
+StorageWrite = (g : Geometry) (bs : List Block) (own new : Owners) (c : Cat) (node k l : ℕ) (b : Block) → Spells g bs own c → IsWholeBlock b → part_of g l ≡ Some (Storage k)
     → Moves (IsSpaceMove node) own.clusters new.clusters → new.numbers ≡ own.numbers
     → ((q : ℕ) → q < total_of g → (cluster_bit g (slice_set bs l b) q ≡ true) ↔ (slice_get new.clusters q ≡ Some Free))
     → Spells g (slice_set bs l b) new c
 
 -- the index-file bitmap: numbers go from the free ones to the node that writes, or back
 abbrev pub IndexWrite : Type 0
-IndexWrite = (g : Geometry) (bs : List Block) (own new : Owners) (c : Cat) (node l : ℕ) (b : Block) → Spells g bs own c → part_of g l ≡ Some IndexBitmap
+IndexWrite = (g : Geometry) (bs : List Block) (own new : Owners) (c : Cat) (node l : ℕ) (b : Block) → Spells g bs own c → IsWholeBlock b → part_of g l ≡ Some IndexBitmap
     → new.clusters ≡ own.clusters → Moves (IsSpaceMove node) own.numbers new.numbers
     → ((n : ℕ) → IsFileNumber g n → (number_bit g (slice_set bs l b) n ≡ false) ↔ (slice_get new.numbers (n - 1) ≡ Some Free))
     → Spells g (slice_set bs l b) new c
@@ -49,6 +49,7 @@ IndexWrite = (g : Geometry) (bs : List Block) (own new : Owners) (c : Cat) (node
 -- numbers the file has its own alone. With the blocks that it names the header tells the slot s, where a file that is counted
 -- as reserved keeps its number of clusters.
 pub record IsHeaderFor (g : Geometry) (bs : List Block) (node n : ℕ) (own new : Owners) (c : Cat) (b : Block) (s : Slot) : Type 0 where
+  pub whole : IsWholeBlock b
   pub number : IsFileNumber g n
   pub plain : is_structure n ≡ false
   pub moves : OwnersMove (IsFileMove node n) own new
@@ -63,6 +64,7 @@ HeaderWrite = (g : Geometry) (bs : List Block) (own new : Owners) (c : Cat) (nod
 
 -- The block v, from 0, of file n, which stands at l: with it the file's blocks tell the slot s, and a directory can be read.
 pub record IsBodyFor (g : Geometry) (bs : List Block) (n v l : ℕ) (b : Block) (s : Slot) : Type 0 where
+  pub whole : IsWholeBlock b
   pub number : IsFileNumber g n
   pub place : slice_get (body_places n (header_block g bs n)) v ≡ Some l
   pub dir : dir_found g n (fields_told (header_block g bs n)) (runs_told (header_block g bs n)) (slice_set (body_blocks bs n (header_block g bs n)) v b) ≡ None

@@ -1,6 +1,6 @@
 -- Blocks that spell a catalogue, with one owner for each cluster and each file number.
 use Rattle.std.specs.Prelude.{◌≡◌, ◌≤◌, ◌<◌, ◌+◌, ◌*◌, ◌-◌, ◌%◌, ◌↔◌, not, ℕ, true, false, List, [], ◌∷◌, Option, Some, None, Result, Ok, Err, is_some, length, map, take, count_by, sum_by, slice_get, slice_index_or, if◌then◌else◌}
-use Rattle.vol_words.specs.Fields.{Block}
+use Rattle.vol_words.specs.Fields.{Block, AreWholeBlocks}
 use Rattle.fx_home.specs.declared.home.Home.{Home}
 use Rattle.fx_home.specs.declared.home.HomeFault.{HomeFault}
 use Rattle.fx_home.specs.Homes.{home_read, scb_read}
@@ -130,6 +130,8 @@ pub record AreOwners (g : Geometry) (bs : List Block) (own : Owners) (c : Cat) :
 pub record Spells (g : Geometry) (bs : List Block) (own : Owners) (c : Cat) : Type 0 where
   -- each list has as many items as the geometry says
   pub counts : HasCounts g bs own c
+  -- each block is whole
+  pub whole : AreWholeBlocks bs
   -- the volume's own structures are there
   pub structures : HasStructures g bs
   -- what no command changes is as the geometry says

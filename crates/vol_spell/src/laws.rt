@@ -111,7 +111,7 @@ pub fn death_leaks()
     ensures { DeathLeaks }
 {}
 
-/// The catalogue of a volume of 64 to 65,536 blocks in which nothing fatal is found is spelt by its blocks, with nothing outside.
+/// The catalogue of a volume of 64 to 65,536 whole blocks in which nothing fatal is found is spelt by its blocks, with nothing outside.
 pub fn catalogue_is_spelt()
     ensures { CatalogueIsSpelt }
 {}

@@ -17,7 +17,7 @@ outside_series g n cmd locks c x stock o s (v ∷ vs) ws bs own spelt at outs al
     let h = all v (inl refl) in
     let stage : StandsAt c n cmd v.stage x = subst (λ (k : Stage). StandsAt c n cmd k x) (sym h.stage) at in
     let out : Outs n own v.outs stock = subst (λ (z : Things). Outs n own z stock) (sym h.outs) outs in
-    let step = (step_kinds g n cmd locks c stock).outside v bs own x spelt h.owner stage out in
+    let step = (step_kinds g n cmd locks c stock).outside v bs own x spelt h.whole h.owner stage out in
     (own, x, step, outside_series g n cmd locks c x stock o s vs ws (slice_set bs v.lbn v.block) own step.spelt at outs (λ w t. all w (inr t)) rest)
 
 swapped : (n : ℕ) (own : Owners) (a b : Things) → Outs n own a b → Outs n own b a

@@ -1,7 +1,7 @@
 -- Writes in turn to the blocks of one file.
 use Rattle.std.proofs.Common.{◌≡◌, ◌-◌, ◌++◌, ℕ, zero, suc, List, [], ◌∷◌, Option, Some, None, length, slice_get, slice_set, get_or, refl, sym, ap, subst, ◌∙◌, arith}
 use Rattle.std.proofs.lemmas.Option.{slice_get-get_or}
-use Rattle.vol_words.specs.Fields.{Block}
+use Rattle.vol_words.specs.Fields.{Block, IsWholeBlock}
 use Rattle.fx_header.specs.Headers.{header_read}
 use Rattle.lock_db.specs.declared.name.LockName.{LockName}
 use Rattle.plain_cat.specs.declared.command.Cmd.{Cmd}
@@ -46,9 +46,10 @@ same_slot g bs own x i h body is s f =
     ap (λ (fs : List Slot). record x { files = fs }) (set-get x.files (i - 1) (slot_told g i h body) (at ∙ ap (λ (y : Slot). Some y) (sym e)))
 
 -- what is said of a file's header and blocks is said of those that stand there
-is_body : (g : Geometry) (bs : List Block) (i v l : ℕ) (b h : Block) (body : List Block) → IsFileNumber g i → IsFileAt g bs i h body → slice_get (body_places i h) v ≡ Some l
+is_body : (g : Geometry) (bs : List Block) (i v l : ℕ) (b h : Block) (body : List Block) → IsWholeBlock b → IsFileNumber g i → IsFileAt g bs i h body → slice_get (body_places i h) v ≡ Some l
     → dir_found g i (fields_told h) (runs_told h) (slice_set body v b) ≡ None → IsBodyFor g bs i v l b (slot_told g i h (slice_set body v b))
-is_body g bs i v l b h body is f place dir = record {
+is_body g bs i v l b h body whole is f place dir = record {
+  whole = whole;
   number = is;
   place = ap (λ (k : Block). slice_get (body_places i k) v) f.header ∙ place;
   dir = ap (λ (k : Block). dir_found g i (fields_told k) (runs_told k) (slice_set (body_blocks bs i (header_block g bs i)) v b)) f.header ∙ ap (λ (y : List Block). dir_found g i (fields_told h) (runs_told h) (slice_set y v b)) f.body ∙ dir;
@@ -65,7 +66,7 @@ module _ (g : Geometry) (n : ℕ) (cmd : Option Cmd) (locks : List LockName) (c 
   in_turn (m ∷ ms) ws bs body y agree s f moves rest =
       let t = slot_told g i h (slice_set body m.0 m.1.block) in
       let move = moves.0 in
-      let for = is_body g bs i m.0 m.1.lbn m.1.block h body is f move.place move.dir in
+      let for = is_body g bs i m.0 m.1.lbn m.1.block h body move.whole is f move.place move.dir in
       let stage : StandsAt c n cmd m.1.stage (with_slot y i t) = subst (λ (z : Cat). StandsAt c n cmd m.1.stage z) (sym (agree t)) move.stage in
       let out : Outs n own m.1.outs stock = subst (λ (z : Things). Outs n own z stock) (sym move.outs) outs in
       let step = (step_kinds g n cmd locks c stock).body m.1 bs own y i m.0 t s for stage out in

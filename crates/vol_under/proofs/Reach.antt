@@ -49,8 +49,8 @@ same_moves n locks xs ys e = let P : List Owner → Type 0 = λ zs. Moves (IsCom
 
 pub step_kinds : (g : Geometry) (n : ℕ) (cmd : Option Cmd) (locks : List LockName) (c : Cat) (stock : Things) → StepKinds g n cmd locks c stock
 step_kinds g n cmd locks c stock = record {
-  outside = λ w bs own x s owner stage outs. record { stage = stage; spelt = outside_write g bs own x n w.lbn w.block s owner; moves = stays own; outs = outs };
-  quota = λ w bs own x k s part once stage outs. record { stage = stage; spelt = quota_write g bs own x k w.lbn w.block s part once; moves = stays own; outs = outs };
+  outside = λ w bs own x s whole owner stage outs. record { stage = stage; spelt = outside_write g bs own x n w.lbn w.block s whole owner; moves = stays own; outs = outs };
+  quota = λ w bs own x k s whole part once stage outs. record { stage = stage; spelt = quota_write g bs own x k w.lbn w.block s whole part once; moves = stays own; outs = outs };
   header = λ w bs own new x i slot s place is holds stage outs. record {
     stage = stage;
     spelt = subst (λ (l : ℕ). Spells g (slice_set bs l w.block) new (with_slot x i slot)) (sym place) (header_write g bs own new x n i w.block slot s is);
@@ -58,15 +58,15 @@ step_kinds g n cmd locks c stock = record {
     outs = outs;
   };
   body = λ w bs own x i v slot s is stage outs. record { stage = stage; spelt = body_write g bs own x i v w.lbn w.block slot s is; moves = stays own; outs = outs };
-  storage = λ w bs own new x k s part moves same bits stage outs. record {
+  storage = λ w bs own new x k s whole part moves same bits stage outs. record {
     stage = stage;
-    spelt = storage_write g bs own new x n k w.lbn w.block s part moves same bits;
+    spelt = storage_write g bs own new x n k w.lbn w.block s whole part moves same bits;
     moves = record { clusters = space_moves n locks own.clusters new.clusters moves; numbers = same_moves n locks own.numbers new.numbers same };
     outs = outs;
   };
-  index = λ w bs own new x s part same moves bits stage outs. record {
+  index = λ w bs own new x s whole part same moves bits stage outs. record {
     stage = stage;
-    spelt = index_write g bs own new x n w.lbn w.block s part same moves bits;
+    spelt = index_write g bs own new x n w.lbn w.block s whole part same moves bits;
     moves = record { clusters = same_moves n locks own.clusters new.clusters same; numbers = space_moves n locks own.numbers new.numbers moves };
     outs = outs;
   };

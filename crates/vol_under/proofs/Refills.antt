@@ -42,7 +42,7 @@ pub takes_clusters : TakesClusters
 takes_clusters g n took stock k l qs old b base own c s outs part at taken =
     record {
       new = new;
-      spelt = storage_write g base own new c n k l b s part moves refl (λ q lt. bits q lt (same_or_not (q / 4096) k));
+      spelt = storage_write g base own new c n k l b s taken.whole part moves refl (λ q lt. bits q lt (same_or_not (q / 4096) k));
       moves = record { clusters = moves; numbers = still (IsSpaceMove n) own.numbers };
       outs = record { clusters = free_to_stock n qs took.clusters stock.clusters own.clusters taken.once were outs.clusters; numbers = outs.numbers };
     } where
@@ -78,7 +78,7 @@ pub gives_clusters : GivesClusters
 gives_clusters g n took stock k l qs rest old b base own c s outs part at parts once given =
     record {
       new = new;
-      spelt = storage_write g base own new c n k l b s part moves refl (λ q lt. bits q lt (same_or_not (q / 4096) k));
+      spelt = storage_write g base own new c n k l b s given.whole part moves refl (λ q lt. bits q lt (same_or_not (q / 4096) k));
       moves = record { clusters = moves; numbers = still (IsSpaceMove n) own.numbers };
       outs = record { clusters = stock_to_free n qs rest took.clusters stock.clusters own.clusters parts once outs.clusters; numbers = outs.numbers };
     } where
@@ -118,7 +118,7 @@ pub takes_numbers : TakesNumbers
 takes_numbers g n took stock l ps old b base own c s outs part at taken =
     record {
       new = new;
-      spelt = index_write g base own new c n l b s part refl moves bits;
+      spelt = index_write g base own new c n l b s taken.whole part refl moves bits;
       moves = record { clusters = still (IsSpaceMove n) own.clusters; numbers = moves };
       outs = record { clusters = outs.clusters; numbers = free_to_stock n ps took.numbers stock.numbers own.numbers taken.once were outs.numbers };
     } where
@@ -152,7 +152,7 @@ pub gives_numbers : GivesNumbers
 gives_numbers g n took stock l ps rest old b base own c s outs part at parts once given =
     record {
       new = new;
-      spelt = index_write g base own new c n l b s part refl moves bits;
+      spelt = index_write g base own new c n l b s given.whole part refl moves bits;
       moves = record { clusters = still (IsSpaceMove n) own.clusters; numbers = moves };
       outs = record { clusters = outs.clusters; numbers = stock_to_free n ps rest took.numbers stock.numbers own.numbers parts once outs.numbers };
     } where
@@ -174,6 +174,6 @@ gives_numbers g n took stock l ps rest old b base own c s outs part at parts onc
           let v = index_set g base own c l b s part m in
           let lt = place_in g m is in
           let i = s.owners.number_bits m is in (
-            (λ x. (h.to (m - 1)).1 (elim ((given (m - 1) lt).0 (sym v ∙ x)) [ inl y ↦ inr (i.0 (was m ∙ y)) | inr t ↦ inl t ])),
-            (λ x. v ∙ (given (m - 1) lt).1 (elim ((h.to (m - 1)).0 x) [ inl t ↦ inr t | inr y ↦ inl (sym (was m) ∙ i.1 y) ])),
+            (λ x. (h.to (m - 1)).1 (elim ((given.bits (m - 1) lt).0 (sym v ∙ x)) [ inl y ↦ inr (i.0 (was m ∙ y)) | inr t ↦ inl t ])),
+            (λ x. v ∙ (given.bits (m - 1) lt).1 (elim ((h.to (m - 1)).0 x) [ inl t ↦ inr t | inr y ↦ inl (sym (was m) ∙ i.1 y) ])),
           )

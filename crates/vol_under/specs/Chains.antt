@@ -1,6 +1,6 @@
 -- Plans as chains of writes: each takes blocks that spell one stage to blocks that spell the next.
 use Rattle.std.specs.Prelude.{◌≡◌, ◌≤◌, ◌<◌, ◌-◌, ◌↔◌, ℕ, true, false, List, [], ◌∷◌, Option, Some, length, map, take, slice_get, slice_set}
-use Rattle.vol_words.specs.Fields.{Block}
+use Rattle.vol_words.specs.Fields.{Block, IsWholeBlock}
 use Rattle.lock_db.specs.declared.name.LockName.{LockName}
 use Rattle.lock_db.specs.declared.name.LockName.TheVariants.{S}
 use Rattle.plain_cat.specs.declared.command.Cmd.{Cmd}
@@ -58,10 +58,10 @@ StepsLawful = (g : Geometry) (n : ℕ) (u : UnderWay)
 -- The kinds of writes as steps: x is the catalogue that the blocks spell before the write.
 pub record StepKinds (g : Geometry) (n : ℕ) (cmd : Option Cmd) (locks : List LockName) (c : Cat) (stock : Things) : Type 0 where
   -- a block that the node has outside
-  pub outside : (w : PlannedWrite) (bs : List Block) (own : Owners) (x : Cat) → Spells g bs own x → owner_at g own w.lbn ≡ Some (Outside n)
+  pub outside : (w : PlannedWrite) (bs : List Block) (own : Owners) (x : Cat) → Spells g bs own x → IsWholeBlock w.block → owner_at g own w.lbn ≡ Some (Outside n)
       → StandsAt c n cmd w.stage x → Outs n own w.outs stock → IsStep g n cmd locks c stock w bs own own x
   -- a quota block
-  pub quota : (w : PlannedWrite) (bs : List Block) (own : Owners) (x : Cat) (k : ℕ) → Spells g bs own x → part_of g w.lbn ≡ Some (Quota k) → Once (map (λ r. r.uic) (rows_told g (slice_set bs w.lbn w.block)))
+  pub quota : (w : PlannedWrite) (bs : List Block) (own : Owners) (x : Cat) (k : ℕ) → Spells g bs own x → IsWholeBlock w.block → part_of g w.lbn ≡ Some (Quota k) → Once (map (λ r. r.uic) (rows_told g (slice_set bs w.lbn w.block)))
       → StandsAt c n cmd w.stage (with_rows g (slice_set bs w.lbn w.block) x) → Outs n own w.outs stock → IsStep g n cmd locks c stock w bs own own (with_rows g (slice_set bs w.lbn w.block) x)
   -- the header of a file whose lock the node holds
   pub header : (w : PlannedWrite) (bs : List Block) (own new : Owners) (x : Cat) (i : ℕ) (s : Slot) → Spells g bs own x → w.lbn ≡ header_place g i → IsHeaderFor g bs n i own new x w.block s → Has locks (S i)
@@ -70,10 +70,10 @@ pub record StepKinds (g : Geometry) (n : ℕ) (cmd : Option Cmd) (locks : List L
   pub body : (w : PlannedWrite) (bs : List Block) (own : Owners) (x : Cat) (i v : ℕ) (s : Slot) → Spells g bs own x → IsBodyFor g bs i v w.lbn w.block s
       → StandsAt c n cmd w.stage (with_slot x i s) → Outs n own w.outs stock → IsStep g n cmd locks c stock w bs own own (with_slot x i s)
   -- a block of the storage bitmap
-  pub storage : (w : PlannedWrite) (bs : List Block) (own new : Owners) (x : Cat) (k : ℕ) → Spells g bs own x → part_of g w.lbn ≡ Some (Storage k) → Moves (IsSpaceMove n) own.clusters new.clusters → new.numbers ≡ own.numbers
+  pub storage : (w : PlannedWrite) (bs : List Block) (own new : Owners) (x : Cat) (k : ℕ) → Spells g bs own x → IsWholeBlock w.block → part_of g w.lbn ≡ Some (Storage k) → Moves (IsSpaceMove n) own.clusters new.clusters → new.numbers ≡ own.numbers
       → ((q : ℕ) → q < total_of g → (cluster_bit g (slice_set bs w.lbn w.block) q ≡ true) ↔ (slice_get new.clusters q ≡ Some Free))
       → StandsAt c n cmd w.stage x → Outs n new w.outs stock → IsStep g n cmd locks c stock w bs own new x
   -- the index-file bitmap
-  pub index : (w : PlannedWrite) (bs : List Block) (own new : Owners) (x : Cat) → Spells g bs own x → part_of g w.lbn ≡ Some IndexBitmap → new.clusters ≡ own.clusters → Moves (IsSpaceMove n) own.numbers new.numbers
+  pub index : (w : PlannedWrite) (bs : List Block) (own new : Owners) (x : Cat) → Spells g bs own x → IsWholeBlock w.block → part_of g w.lbn ≡ Some IndexBitmap → new.clusters ≡ own.clusters → Moves (IsSpaceMove n) own.numbers new.numbers
       → ((i : ℕ) → IsFileNumber g i → (number_bit g (slice_set bs w.lbn w.block) i ≡ false) ↔ (slice_get new.numbers (i - 1) ≡ Some Free))
       → StandsAt c n cmd w.stage x → Outs n new w.outs stock → IsStep g n cmd locks c stock w bs own new x

@@ -1,6 +1,6 @@
 -- Writes in turn to blocks that a node has outside, and to the storage bitmap where clusters of a command become free.
 use Rattle.std.specs.Prelude.{◌≡◌, ◌++◌, ℕ, List, [], ◌∷◌, Option, Some, slice_get, slice_set}
-use Rattle.vol_words.specs.Fields.{Block}
+use Rattle.vol_words.specs.Fields.{Block, IsWholeBlock}
 use Rattle.lock_db.specs.declared.name.LockName.{LockName}
 use Rattle.plain_cat.specs.declared.command.Cmd.{Cmd}
 use Rattle.plain_cat.specs.declared.history.Stage.{Stage}
@@ -20,6 +20,7 @@ use Rattle.vol_under.specs.Refilling.{AreGiven}
 
 -- a write to a block that node n has outside, at stage s and with these things outside after it
 pub record IsOutsideWrite (g : Geometry) (n : ℕ) (own : Owners) (s : Stage) (o : Things) (w : PlannedWrite) : Type 0 where
+  pub whole : IsWholeBlock w.block
   pub owner : owner_at g own w.lbn ≡ Some (Outside n)
   pub stage : w.stage ≡ s
   pub outs : w.outs ≡ o

@@ -1,6 +1,6 @@
 -- What each event leaves of the drive under way.
 use Rattle.std.specs.Prelude.{◌≡◌, ◌≤◌, ◌+◌, ◌⊎◌, ℕ, Bool, true, List, [], ◌∷◌, Option, Some, Ok, length, take, slice_get, slice_set}
-use Rattle.vol_words.specs.Fields.{Block}
+use Rattle.vol_words.specs.Fields.{Block, AreWholeBlocks}
 use Rattle.fx_home.specs.declared.home.Home.{Home}
 use Rattle.fx_home.specs.Homes.{home_read}
 use Rattle.lock_db.specs.declared.name.LockName.{LockName}

@@ -1,6 +1,6 @@
 -- The bitmap writes of the space rule: what is free goes to a node's stock, or what is of the stock becomes free.
 use Rattle.std.specs.Prelude.{◌≡◌, ◌<◌, ◌/◌, ◌%◌, ◌⊎◌, ◌↔◌, ◌++◌, ℕ, true, false, List, Some, slice_get}
-use Rattle.vol_words.specs.Fields.{Block}
+use Rattle.vol_words.specs.Fields.{Block, IsWholeBlock}
 use Rattle.fx_bitmap.specs.Bits.{bit_at}
 use Rattle.plain_cat.specs.declared.cat.Cat.{Cat}
 use Rattle.vol_owners.specs.Lists.{Has, Once, Parts}
@@ -19,6 +19,7 @@ LieIn g k qs = (q : ℕ) → Has qs q → (q < total_of g) × (q / 4096 ≡ k)
 -- In b, block k of the storage bitmap, the bits of these clusters are clear, which were set in the old block; all others are as
 -- they were.
 pub record AreTaken (g : Geometry) (k : ℕ) (qs : List ℕ) (old b : Block) : Type 0 where
+  pub whole : IsWholeBlock b
   pub once : Once qs
   pub inside : LieIn g k qs
   pub free : (q : ℕ) → Has qs q → bit_at old (q % 4096) ≡ true
@@ -26,18 +27,21 @@ pub record AreTaken (g : Geometry) (k : ℕ) (qs : List ℕ) (old b : Block) : T
 
 -- In b the bits of these clusters are set; all others are as they were.
 pub record AreGiven (g : Geometry) (k : ℕ) (qs : List ℕ) (old b : Block) : Type 0 where
+  pub whole : IsWholeBlock b
   pub inside : LieIn g k qs
   pub bits : (q : ℕ) → q < total_of g → q / 4096 ≡ k → (bit_at b (q % 4096) ≡ true) ↔ ((bit_at old (q % 4096) ≡ true) ⊎ Has qs q)
 
 -- The same of file numbers, by their places: in the index-file bitmap a set bit says that a number is in use.
 pub record AreNumbersTaken (g : Geometry) (ps : List ℕ) (old b : Block) : Type 0 where
+  pub whole : IsWholeBlock b
   pub once : Once ps
   pub inside : (i : ℕ) → Has ps i → i < g.files
   pub free : (i : ℕ) → Has ps i → bit_at old i ≡ false
   pub bits : (i : ℕ) → i < g.files → (bit_at b i ≡ false) ↔ ((bit_at old i ≡ false) × (Has ps i → ⊥))
 
-abbrev pub AreNumbersGiven : Geometry → List ℕ → Block → Block → Type 0
-AreNumbersGiven g ps old b = (i : ℕ) → i < g.files → (bit_at b i ≡ false) ↔ ((bit_at old i ≡ false) ⊎ Has ps i)
+pub record AreNumbersGiven (g : Geometry) (ps : List ℕ) (old b : Block) : Type 0 where
+  pub whole : IsWholeBlock b
+  pub bits : (i : ℕ) → i < g.files → (bit_at b i ≡ false) ↔ ((bit_at old i ≡ false) ⊎ Has ps i)
 
 -- clusters go to the stock
 abbrev pub TakesClusters : Type 0

@@ -1,6 +1,6 @@
 -- Writes in turn to the blocks of one file, as the insertion of an entry into a directory, or its removal.
 use Rattle.std.specs.Prelude.{◌≡◌, ◌++◌, ℕ, List, [], ◌∷◌, Option, Some, None, map, slice_get, slice_set}
-use Rattle.vol_words.specs.Fields.{Block}
+use Rattle.vol_words.specs.Fields.{Block, IsWholeBlock}
 use Rattle.fx_header.specs.Headers.{header_read}
 use Rattle.lock_db.specs.declared.name.LockName.{LockName}
 use Rattle.plain_cat.specs.declared.command.Cmd.{Cmd}
@@ -32,6 +32,7 @@ body_after ms body = written (map (λ m. (m.0, m.1.block)) ms) body
 -- A write to block v of file i, whose header is h, which leaves the blocks as these: a directory can be read still, and the stage
 -- of the command is that of the catalogue x with the slot that the blocks tell.
 pub record IsBodyMove (g : Geometry) (n : ℕ) (cmd : Option Cmd) (c x : Cat) (i : ℕ) (h : Block) (o : Things) (w : PlannedWrite) (v : ℕ) (body : List Block) : Type 0 where
+  pub whole : IsWholeBlock w.block
   pub place : slice_get (body_places i h) v ≡ Some w.lbn
   pub dir : dir_found g i (fields_told h) (runs_told h) body ≡ None
   pub stage : StandsAt c n cmd w.stage (with_slot x i (slot_told g i h body))
