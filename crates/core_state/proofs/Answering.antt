@@ -222,7 +222,7 @@ module _ (w : Plain) (good : Good w) (n : ℕ) (s : NodeState) (at : node_at w.n
   answered : (d : Cat) × Answer good.running.cat n x p.reply d × IsUnder w.geometry d (changed (nodes_under w.locks w.nodes) n (resting nothing)) w.blocks
   answered =
       let a = answers w.geometry good.running.cat (nodes_under w.locks w.nodes) w.blocks n me here_now good.running.drive (are_sole w.locks w.nodes good.locked.0 good.locked.1) x p.reply
-      (run_knows x now.runs n s.seen good.running.cat mine.space.short) whole
+      (run_knows x now.runs n s.seen good.running.cat mine.space) whole
       (rereply w.geometry n (under_way x s.seen p.writes (knows n x s.seen)) s.done x p.reply right.reply) in
       (a.0, a.1, subst (λ (v : UnderWay). IsUnder w.geometry a.0 (changed (nodes_under w.locks w.nodes) n v) w.blocks) idle_now a.2)
 

@@ -3,7 +3,7 @@ use Rattle.std.proofs.Common.{◌≡◌, ◌≤◌, ◌<◌, ◌+◌, ◌&&◌, 
 use Rattle.std.specs.Prelude.{◌==◌, All, IsTrue, replicate}
 use Rattle.std.specs.List.{list_any}
 use Rattle.std.proofs.lemmas.Bool.Decides.{nat_tests}
-use Rattle.vol_words.specs.Fields.{Block}
+use Rattle.vol_words.specs.Fields.{Block, AreWholeBlocks}
 use Rattle.fx_home.specs.declared.home.Home.{Home}
 use Rattle.fx_home.specs.declared.home.HomeFault.{HomeFault}
 use Rattle.fx_home.specs.Homes.{home_read}
@@ -135,9 +135,9 @@ module _ (bs : List Block) (s : Script) (c : Cat) (g : Geometry) (form : InForm 
   }
 
 -- the geometry that the home block gives is that of the drive as it is mounted
-pub mounts : (bs : List Block) (c : Cat) (g : Geometry) → 64 ≤ length bs → length bs ≤ 65536 → CatOf bs c → IsGeometryBy bs (home_read (home_at bs)) g → IsUnder g c (λ n. resting nothing) bs
-mounts bs c g from to told by =
-    let m = mount_stands bs c from to told in
+pub mounts : (bs : List Block) (c : Cat) (g : Geometry) → 64 ≤ length bs → length bs ≤ 65536 → AreWholeBlocks bs → CatOf bs c → IsGeometryBy bs (home_read (home_at bs)) g → IsUnder g c (λ n. resting nothing) bs
+mounts bs c g from to whole told by =
+    let m = mount_stands bs c from to whole told in
     let same : g ≡ geometry_of (volume m.0 bs) = subst (λ (r : Result Home HomeFault). IsGeometryBy bs r g) m.1 by in
     subst (λ (h : Geometry). IsUnder h c (λ n. resting nothing) bs) (sym same) m.2
 

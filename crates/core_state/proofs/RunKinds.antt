@@ -6,7 +6,8 @@ use Rattle.plain_cat.specs.declared.reply.Reply.{Reply}
 use Rattle.plain_vol.specs.Own.{switched, channels_after, is_opened, is_closed}
 use Rattle.plain_cat.specs.declared.cat.Cat.{Cat}
 use Rattle.op_law.specs.declared.seen.Seen.{Seen}
-use Rattle.op_law.specs.Knows.{may_ask, takes_space, is_short, knows}
+use Rattle.op_law.specs.Knows.{may_ask, takes_space, is_new_number, is_short, knows}
+use Rattle.op_law.specs.Events.{space_of, HasNoSpace}
 use Rattle.core_state.specs.Goods.{is_run}
 
 -- such a command asks for no lock of opens
@@ -28,27 +29,30 @@ run_asks (cmd.WriteBlock chan vbn text) runs e = absurd (let f : false ≡ true 
 run_asks (cmd.QuotaSet owner quota over) runs e = absurd (let f : false ≡ true = e in cc)
 run_asks (cmd.QuotaShow owner) runs e = absurd (let f : false ≡ true = e in cc)
 
--- all that it knows of a catalogue besides the blocks is true
-known_by : (x : Cmd) → is_run x ≡ true → (n : ℕ) (seen : Seen) (c : Cat) → is_short c x seen.short ≡ true → knows n x seen c ≡ true
-unfolding is_run
-known_by (cmd.Lookup reg dir name ver) runs n seen c e = ap (λ t. t && true) e
-known_by (cmd.List dir) runs n seen c e = ap (λ t. t && true) e
-known_by (cmd.Stat file) runs n seen c e = ap (λ t. t && true) e
-known_by (cmd.Create reg dir name ver blocks owner) runs n seen c e = absurd (let f : false ≡ true = runs in cc)
-known_by (cmd.MkDir reg dir name owner) runs n seen c e = absurd (let f : false ≡ true = runs in cc)
-known_by (cmd.Extend file blocks) runs n seen c e = absurd (let f : false ≡ true = runs in cc)
-known_by (cmd.Trunc file blocks) runs n seen c e = absurd (let f : false ≡ true = runs in cc)
-known_by (cmd.Delete dir name ver) runs n seen c e = absurd (let f : false ≡ true = runs in cc)
-known_by (cmd.Rename dir name ver to to_ver) runs n seen c e = ap (λ t. t && true) e
-known_by (cmd.OpenFile chan file mode) runs n seen c e = absurd (let f : false ≡ true = runs in cc)
-known_by (cmd.CloseFile chan) runs n seen c e = absurd (let f : false ≡ true = runs in cc)
-known_by (cmd.ReadBlock chan vbn) runs n seen c e = absurd (let f : false ≡ true = runs in cc)
-known_by (cmd.WriteBlock chan vbn text) runs n seen c e = absurd (let f : false ≡ true = runs in cc)
-known_by (cmd.QuotaSet owner quota over) runs n seen c e = ap (λ t. t && true) e
-known_by (cmd.QuotaShow owner) runs n seen c e = ap (λ t. t && true) e
+told : (a b : Bool) → a ≡ true → b ≡ true → (a && (b && true)) ≡ true
+told a b e f = ap (λ t. t && (b && true)) e ∙ ap (λ t. t && true) f
 
-pub run_knows : (x : Cmd) → is_run x ≡ true → (n : ℕ) (seen : Seen) (c : Cat) → seen.short ≡ None → knows n x seen c ≡ true
-run_knows x runs n seen c short = known_by x runs n seen c (ap (is_short c x) short)
+-- all that it knows of a catalogue besides the blocks is true
+known_by : (x : Cmd) → is_run x ≡ true → (n : ℕ) (seen : Seen) (c : Cat) → is_new_number seen.number ≡ true → is_short c x seen.short ≡ true → knows n x seen c ≡ true
+unfolding is_run
+known_by (cmd.Lookup reg dir name ver) runs n seen c new e = told _ _ new e
+known_by (cmd.List dir) runs n seen c new e = told _ _ new e
+known_by (cmd.Stat file) runs n seen c new e = told _ _ new e
+known_by (cmd.Create reg dir name ver blocks owner) runs n seen c new e = absurd (let f : false ≡ true = runs in cc)
+known_by (cmd.MkDir reg dir name owner) runs n seen c new e = absurd (let f : false ≡ true = runs in cc)
+known_by (cmd.Extend file blocks) runs n seen c new e = absurd (let f : false ≡ true = runs in cc)
+known_by (cmd.Trunc file blocks) runs n seen c new e = absurd (let f : false ≡ true = runs in cc)
+known_by (cmd.Delete dir name ver) runs n seen c new e = absurd (let f : false ≡ true = runs in cc)
+known_by (cmd.Rename dir name ver to to_ver) runs n seen c new e = told _ _ new e
+known_by (cmd.OpenFile chan file mode) runs n seen c new e = absurd (let f : false ≡ true = runs in cc)
+known_by (cmd.CloseFile chan) runs n seen c new e = absurd (let f : false ≡ true = runs in cc)
+known_by (cmd.ReadBlock chan vbn) runs n seen c new e = absurd (let f : false ≡ true = runs in cc)
+known_by (cmd.WriteBlock chan vbn text) runs n seen c new e = absurd (let f : false ≡ true = runs in cc)
+known_by (cmd.QuotaSet owner quota over) runs n seen c new e = told _ _ new e
+known_by (cmd.QuotaShow owner) runs n seen c new e = told _ _ new e
+
+pub run_knows : (x : Cmd) → is_run x ≡ true → (n : ℕ) (seen : Seen) (c : Cat) → HasNoSpace (space_of seen) → knows n x seen c ≡ true
+run_knows x runs n seen c none = known_by x runs n seen c (ap is_new_number none.number) (ap (is_short c x) none.short)
 
 -- its answer opens and closes no channel
 switched_none : (channels : List Bool) (does value : Bool) → switched channels does None value ≡ channels

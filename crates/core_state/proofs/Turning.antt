@@ -101,7 +101,7 @@ module _ (w : Plain) (good : Good w) (n : ℕ) (s : NodeState) (at : node_at w.n
     stands = subst (λ (u : UnderWay). StandsIn good.running.drive.base u.seen) here (good.running.drive.stands n);
     stock = nothing;
     outs = subst (λ (u : UnderWay). Outs n good.running.drive.own u.took u.stock) here (good.running.drive.outs n);
-    known = run_knows x under_command.runs n s.seen good.running.cat me.space.short;
+    known = run_knows x under_command.runs n s.seen good.running.cat me.space;
   }
 
   -- the node with another state, and the same command
@@ -136,7 +136,7 @@ module _ (w : Plain) (good : Good w) (n : ℕ) (s : NodeState) (at : node_at w.n
       let r : NodeState = turned (asking s x name mode) in
       let more : List (LockName × Mode) = s.seen.locks ++ (name, mode) ∷ [] in
       let mine : locks_of w.nodes n ≡ s.seen.locks = ap locks_in at in
-      let new : Has (names_of s.seen.locks) name → ⊥ = (may_need (need.Lock name mode) is).0 in
+      let new : Has (names_of s.seen.locks) name → ⊥ = (may_need (need.Lock name mode) is).new in
       let table : IsTable t = IsTable-asked name (system_of n) mode w.locks good.locked.0 ((subst (λ (ls : List (LockName × Mode)). HoldsItsLocks w.locks n ls) mine (good.locked.1 n)).no_other name new) in
       let after = asking_holds w.locks n (name, mode) (locks_of w.nodes) good.locked.1
       (subst (λ (ls : List (LockName × Mode)). waits_at w.locks n ls ≡ false) (sym mine) free)
@@ -190,7 +190,7 @@ module _ (w : Plain) (good : Good w) (n : ℕ) (s : NodeState) (at : node_at w.n
       let law = subst (λ (g : Geometry). IsRight n x g (under_way x s.seen p.writes (knows n x s.seen)) p.reply) me.geometry right in
       let v = decides w.geometry good.running.cat (nodes_under w.locks w.nodes) w.blocks n u here good.running.drive (ap (λ o. map planned (writes_of o)) no_plan) (not_yet no_plan) (map planned p.writes)
       (relaw w.geometry n (under_way x s.seen p.writes (knows n x s.seen)) s.done law.lawful)
-      (λ base own spelt stands outs l t. law.guarded base own good.running.cat nothing spelt stands outs l t) in
+      (λ base own spelt stands outs l t. law.guarded base own good.running.cat nothing spelt seen_on.known stands outs l t) in
       let there : record u { plan = map planned p.writes } ≡ under_with w.locks n r (Some x)
       = λ i. record (at_locks n r x (sym all_here i)) { done = not_yet no_plan i } in
       rebuilt w good n s r at w.locks w.blocks w.history

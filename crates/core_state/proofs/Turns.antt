@@ -6,6 +6,7 @@ use Rattle.lock_db.specs.declared.name.LockName.{LockName}
 use Rattle.lock_db.specs.declared.resource.Resource.{Resource}
 use Rattle.lock_db.specs.Tables.{asked}
 use Rattle.plain_cat.specs.declared.mode.Mode.{Mode}
+use Rattle.plain_cat.specs.declared.mode.Mode.TheVariants.{PR}
 use Rattle.plain_cat.specs.declared.command.Cmd.{Cmd}
 use Rattle.plain_cat.specs.declared.reply.Reply.{Reply}
 use Rattle.plain_vol.specs.Own.{past, next_command}
@@ -53,7 +54,8 @@ module _ (w : Plain) (good : Good w) (n : ℕ) (s : NodeState) (at : node_at w.n
   need_keeps no_plan (need.Lock name mode) is = asks_keep w good n s at x cmd free no_plan name mode is
   need_keeps no_plan (need.Block name lbn) is =
       looks_keep w good n s at x cmd free no_plan lbn (goes.looked s.seen lbn _ (under_command w good n s at x cmd free).seen (subst (IsLookAt lbn) (sym is) refl))
-      (may_need w good n s at x cmd free (need.Block name lbn) is).1.guard (within lbn (may_need w good n s at x cmd free (need.Block name lbn) is).1.within)
+      (subst (MayLook (held_in PR s.seen.locks)) (sym (may_need w good n s at x cmd free (need.Block name lbn) is).guard) (may_need w good n s at x cmd free (need.Block name lbn) is).held)
+      (within lbn (may_need w good n s at x cmd free (need.Block name lbn) is).within)
   need_keeps no_plan (need.Bare lbn) is =
       looks_keep w good n s at x cmd free no_plan lbn (goes.looked s.seen lbn _ (under_command w good n s at x cmd free).seen (subst (IsLookAt lbn) (sym is) refl))
       (may_need w good n s at x cmd free (need.Bare lbn) is).guard (within lbn (may_need w good n s at x cmd free (need.Bare lbn) is).within)

@@ -16,6 +16,7 @@ use std::alloc::Global;
 use vol_analyze::{Finding, accepted};
 use vol_faults::geometry;
 use vol_parts::Geometry;
+use vol_spell::blocks_are_whole;
 
 /// Why a volume was not mounted.
 #[derive(Drop)]
@@ -133,6 +134,7 @@ impl<I: ImageDev, O: Operation> World<I, O> {
                 });
             }
         };
+        blocks_are_whole(m.all());
         let geometry = geometry(m.all());
         let Ok(made) = made_of(alloc, geometry, script) else {
             return Err(MountRefused {

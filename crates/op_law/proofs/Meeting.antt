@@ -24,7 +24,7 @@ use Rattle.op_law.specs.declared.need.Need.TheVariants as need
 use Rattle.op_law.specs.declared.seen.Seen.{Seen}
 use Rattle.op_law.specs.Events.{space_of, HasNoSpace}
 use Rattle.op_law.specs.Needs.{need_of, IsNext}
-use Rattle.op_law.specs.Knows.{channel_of, has_channel, is_short, may_ask, changes_usage, is_charged, knows}
+use Rattle.op_law.specs.Knows.{channel_of, has_channel, is_new_number, is_short, may_ask, changes_usage, is_charged, knows}
 use Rattle.op_law.specs.Fits.{things, FitsOn, FitsSeen}
 use Rattle.op_law.specs.Going.{with_lock, with_block, IsLookAt}
 use Rattle.op_law.specs.Laws.{Lawful}
@@ -56,11 +56,12 @@ nothing_open : (c : Cat) (chan : Option ℕ) → has_channel (closed c) 0 chan N
 nothing_open c None = refl
 nothing_open c (Some chan) = refl
 
-knows_first : (x : Cmd) (seen : Seen) (c : Cat) → Accounted c → seen.channel ≡ None → seen.short ≡ None → knows 0 x seen (closed c) ≡ true
-knows_first x seen c accounted no_channel no_short = both _ _
+knows_first : (x : Cmd) (seen : Seen) (c : Cat) → Accounted c → seen.channel ≡ None → HasNoSpace (space_of seen) → knows 0 x seen (closed c) ≡ true
+knows_first x seen c accounted no_channel none = both _ _
     (ap (λ k. has_channel (closed c) 0 (channel_of x) k) no_channel ∙ nothing_open c (channel_of x))
-    (both _ _ (ap (λ r. is_short (closed c) x r) no_short)
-    (both _ _ (where_so (changes_usage x) _ (all_charged (closed c) c.quota accounted.usage)) (where_so (may_ask x) true refl)))
+    (both _ _ (ap is_new_number none.number)
+    (both _ _ (ap (λ r. is_short (closed c) x r) none.short)
+    (both _ _ (where_so (changes_usage x) _ (all_charged (closed c) c.quota accounted.usage)) (where_so (may_ask x) true refl))))
 
 -- ---- what was seen
 
@@ -81,7 +82,7 @@ begins x seen bs c law s accounted g no_channel no_locks no_blocks none =
         stands = subst (StandsIn bs) (sym no_blocks) tt;
         stock = nothing;
         outs = subst (λ o. Outs 0 own o nothing) (sym given) (s.outs 0);
-        known = knows_first x seen c accounted no_channel none.short;
+        known = knows_first x seen c accounted no_channel none;
       };
     }
 

@@ -73,7 +73,7 @@ module _ (x : Cmd) (looks : OnlyLooks x) where
     right =
         let u = under_way x seen p.writes (knows node x seen) in
         record {
-          guarded = λ base own c stock spelt stands outs l touches. absurd (subst (λ ws. Touches (bare ws) l) no_writes touches);
+          guarded = λ base own c stock spelt known stands outs l touches. absurd (subst (λ ws. Touches (bare ws) l) no_writes touches);
           lawful = idle_lawful seen.geometry node u no_writes;
           reply = looks_reply seen.geometry node u x p.reply no_writes (λ base own c spelt knows stands.
               next_fine x seen base own (IsAnswer x seen.channel c) (need.Ready p) (once seen.geometry seen.channel) (looks.obeys seen.geometry seen.channel base own c spelt) stands has is

@@ -26,15 +26,14 @@ use Rattle.vol_parts.specs.declared.geometry.Geometry.{Geometry}
 use Rattle.vol_parts.specs.Catalogues.{plain_entries, file_of}
 use Rattle.vol_spell.specs.Reading.{IsFileNumber, header_place, header_block, runs_told}
 use Rattle.vol_spell.specs.Spelling.{Spells}
-use Rattle.vol_under.specs.Guards.{MayLook}
 use Rattle.op_law.specs.declared.need.Plan.{Plan}
 use Rattle.op_law.specs.Events.{Events, Take, Look}
 use Rattle.op_law.specs.Rows.{plain_plan, refuses, is_number, live_in, places_in, look_all, through_header, in_directory, through_directory, entries_seen}
-use Rattle.op_law.specs.Laws.{held_in}
+use Rattle.op_law.specs.Laws.{held_in, IsLockedLook}
 use Rattle.op_law.proofs.Heads.{header_is}
 use Rattle.op_law.proofs.Telling.{live_reads, reads_runs, file_blocks, live_is, not_live, number_is}
 use Rattle.op_law.proofs.Looks.{IsUnder, header_under, block_under}
-use Rattle.op_law.proofs.Walking.{IsGuarded, Obeys}
+use Rattle.op_law.proofs.Walking.{Obeys}
 
 -- ---- what holds of events where it holds of those behind each lock and look
 
@@ -67,13 +66,12 @@ module _ (x : Cmd) (g : Geometry) (bs : List Block) (own : Owners) (c : Cat) (s 
   abbrev O : Events → List (LockName × Mode) → Type 0
   O es held = Obeys x g bs own P es held
 
-  pub all_obeys : (name : LockName) (held : List (LockName × Mode)) (ls : List ℕ) (next : List Block → Events) → Has (held_in PR held) name → ((l : ℕ) → Has ls l → IsGuarded g bs own held l)
+  pub all_obeys : (name : LockName) (held : List (LockName × Mode)) (ls : List ℕ) (next : List Block → Events) → ((l : ℕ) → Has ls l → IsLockedLook g bs own held name l)
       → O (next (blocks_at bs ls)) held → O (look_all name ls next) held
-  all_obeys name held [] next holds guarded o = o
-  all_obeys name held (l ∷ ls) next holds guarded o = (
-    holds,
+  all_obeys name held [] next guarded o = o
+  all_obeys name held (l ∷ ls) next guarded o = (
     guarded l (inl refl),
-    λ b at. all_obeys name held ls (λ more. next (b ∷ more)) holds (λ k m. guarded k (inr m))
+    λ b at. all_obeys name held ls (λ more. next (b ∷ more)) (λ k m. guarded k (inr m))
         (subst (λ y. O (next (y ∷ blocks_at bs ls)) held) (get_or_from_slice_get bs l b [] at) o),
   )
 
@@ -89,8 +87,8 @@ module _ (x : Cmd) (g : Geometry) (bs : List Block) (own : Owners) (c : Cat) (s 
       by_mode (inr (inl e)) = subst (λ m. Has (held_in PR ((S fid.num, m) ∷ [])) (S fid.num)) e (inl refl)
       by_mode (inr (inr none)) = absurd none
 
-    under : (l : ℕ) → IsUnder g bs own fid.num l → IsGuarded g bs own file_held l
-    under l u = record { guard = subst (λ k. MayLook (held_in PR file_held) k) (sym u.guard) holds; within = u.within }
+    under : (l : ℕ) → IsUnder g bs own fid.num l → IsLockedLook g bs own file_held (S fid.num) l
+    under l u = record { guard = u.guard; held = holds; within = u.within }
 
     -- behind a file's lock and its header
     pub header_obeys : (next : Block → Events) → (is_number g fid ≡ false → P (plain_plan (reply.Refused refusal.NoSuchFile)))
@@ -99,10 +97,8 @@ module _ (x : Cmd) (g : Geometry) (bs : List Block) (own : Owners) (c : Cat) (s 
       by_number : (t : Bool) → is_number g fid ≡ t → O (cond t (Take (S fid.num) mode (Look (S fid.num) (header_place g fid.num) next)) (refuses refusal.NoSuchFile)) []
       by_number true e =
           let is = number_is g fid e in (
-            λ h. h,
-            allowed,
+            record { new = λ h. h; mode = allowed; own = refl },
             (
-              holds,
               under (header_place g fid.num) (header_under g bs own c s fid.num is),
               λ b at. subst (λ y. O (next y) file_held) (header_is g bs fid.num (header_place g fid.num) b refl at) (behind is),
             ),
@@ -135,7 +131,7 @@ module _ (x : Cmd) (g : Geometry) (bs : List Block) (own : Owners) (c : Cat) (s 
           let reads : header_read file_header ≡ Ok (head.Used f) = live_reads fid.seq (header_read file_header) f e in
           let places : lbns_in (runs_told file_header) ≡ places_in file_header = ap lbns_in (reads_runs file_header f reads) in
           let entries : (file_told f).entries ≡ entries_seen (file_blocks bs file_header) = ap (λ t. cond t (plain_entries (directory (file_blocks bs file_header))) []) d in
-          all_obeys (S fid.num) file_held (places_in file_header) (next file_header) holds
+          all_obeys (S fid.num) file_held (places_in file_header) (next file_header)
           (λ l m. under l (block_under g bs own c s fid.num l f is reads d (subst (λ ls. Has ls l) (sym places) m)))
           (subst (λ ls. O (next file_header (blocks_at bs ls)) file_held) places (listed f (record { number = is; header = e; dir = d; live = lives is (Some f) e; entries = entries })))
 

@@ -1,16 +1,14 @@
 -- A walk along the events of a command: what each may need, and its plan.
-use Rattle.std.proofs.Common.{◌≡◌, ◌≤◌, ◌<◌, ◌∙◌, ℕ, Bool, true, false, cond, List, [], ◌∷◌, ◌++◌, Option, Some, map, length, slice_get, append_assoc, refl, sym, ap, subst}
+use Rattle.std.proofs.Common.{◌≡◌, ◌≤◌, ◌∙◌, ℕ, Bool, true, false, cond, List, [], ◌∷◌, ◌++◌, Option, Some, slice_get, append_assoc, refl, sym, ap, subst}
 use Rattle.std.specs.Prelude.{MatchBool}
 use Rattle.std.proofs.lemmas.List.{append-nil}
 use Rattle.vol_words.specs.Fields.{Block}
 use Rattle.lock_db.specs.declared.name.LockName.{LockName}
 use Rattle.plain_cat.specs.declared.mode.Mode.{Mode}
-use Rattle.plain_cat.specs.declared.mode.Mode.TheVariants.{PR, PW}
 use Rattle.plain_cat.specs.declared.command.Cmd.{Cmd}
 use Rattle.plain_cat.specs.declared.reply.Refusal.{Refusal}
-use Rattle.vol_owners.specs.Lists.{Has, StandsIn}
+use Rattle.vol_owners.specs.Lists.{StandsIn}
 use Rattle.vol_owners.specs.Owners.{Owners}
-use Rattle.vol_under.specs.Guards.{guard_of, MayLook}
 use Rattle.op_law.specs.declared.need.Need.{Need}
 use Rattle.op_law.specs.declared.need.Need.TheVariants as need
 use Rattle.op_law.specs.declared.need.Plan.{Plan}
@@ -20,7 +18,7 @@ use Rattle.op_law.specs.Events.{Events, Take, Look, Fetch, Find, Make, Space, sp
 use Rattle.op_law.specs.Knows.{takes_space}
 use Rattle.op_law.specs.Needs.{events_of, IsNext}
 use Rattle.op_law.specs.Fits.{HasSeen}
-use Rattle.op_law.specs.Laws.{held_in, MayNeed}
+use Rattle.op_law.specs.Laws.{IsNewLock, IsLockedLook, IsGuardedLook, MayNeed}
 use Rattle.op_law.proofs.Going.{Ready, ready_more, ready}
 
 -- ---- what every plan is that a command may come to
@@ -61,18 +59,13 @@ every_plan P es locks blocks space p every e = subst (IsPlanSo P) e (every_need 
 
 -- ---- what a command may need on the blocks of a volume
 
--- a node that holds these locks may look at a block of the volume
-pub record IsGuarded (g : Geometry) (bs : List Block) (own : Owners) (held : List (LockName × Mode)) (lbn : ℕ) : Type 0 where
-  pub guard : MayLook (held_in PR held) (guard_of g own lbn)
-  pub within : lbn < length bs
-
 module _ (x : Cmd) (g : Geometry) (bs : List Block) (own : Owners) (P : Plan → Type 0) where
   -- The events of the command, which holds these locks by then, are such as it may need on these blocks, and each plan that it may
   -- come to on them is so.
   abbrev pub Obeys : Events → List (LockName × Mode) → Type 0
-  Obeys (Take name mode next) held = (Has (map (λ l. l.0) held) name → ⊥) × Has (PR ∷ PW ∷ []) mode × Obeys next (held ++ (name, mode) ∷ [])
-  Obeys (Look name lbn next) held = Has (held_in PR held) name × IsGuarded g bs own held lbn × ((b : Block) → slice_get bs lbn ≡ Some b → Obeys (next b) held)
-  Obeys (Fetch lbn next) held = IsGuarded g bs own held lbn × ((b : Block) → slice_get bs lbn ≡ Some b → Obeys (next b) held)
+  Obeys (Take name mode next) held = IsNewLock x held name mode × Obeys next (held ++ (name, mode) ∷ [])
+  Obeys (Look name lbn next) held = IsLockedLook g bs own held name lbn × ((b : Block) → slice_get bs lbn ≡ Some b → Obeys (next b) held)
+  Obeys (Fetch lbn next) held = IsGuardedLook g bs own held lbn × ((b : Block) → slice_get bs lbn ≡ Some b → Obeys (next b) held)
   Obeys (Find clusters number next) held = (takes_space x ≡ true) × (clusters ≤ 77)
       × ((space : Space) → has_space clusters number space ≡ true → IsGiven space.clusters space.number space.short → Obeys (next space.clusters space.number space.short) held)
   Obeys (Make plan) held = P plan
@@ -108,17 +101,17 @@ module _ (x : Cmd) (seen : Seen) (bs : List Block) (own : Owners) (P : Plan → 
   walks : (es : Events) (given : Type 0) (held locks : List (LockName × Mode)) (blocks : List (ℕ × Block)) → Walks es given held locks blocks
   walks (Take name mode next) given held [] blocks e stands r o f =
       let all = all_held held [] e refl in
-      (subst (λ ls. Has (map (λ l. l.0) ls) name → ⊥) all o.0, o.1)
+      subst (λ ls. IsNewLock x ls name mode) all o.0
   walks (Take name mode next) given held (l ∷ locks) blocks e stands r o f =
-      walks next given (held ++ (name, mode) ∷ []) locks blocks (e ∙ ap (λ k. held ++ k ∷ locks) f.0 ∙ sym (append_assoc held ((name, mode) ∷ []) locks)) stands r o.2 f.1
+      walks next given (held ++ (name, mode) ∷ []) locks blocks (e ∙ ap (λ k. held ++ k ∷ locks) f.0 ∙ sym (append_assoc held ((name, mode) ∷ []) locks)) stands r o.1 f.1
   walks (Look name lbn next) given held locks [] e stands r o f =
       let all = all_held held locks e f.0 in
-      (subst (λ ls. Has (held_in PR ls) name) all o.0, record { guard = subst (λ ls. MayLook (held_in PR ls) (guard_of seen.geometry own lbn)) all o.1.guard; within = o.1.within })
+      subst (λ ls. IsLockedLook seen.geometry bs own ls name lbn) all o.0
   walks (Look name lbn next) given held locks (b ∷ blocks) e stands r o f =
-      walks (next b.1) given held locks blocks e stands.1 (r b.1) (o.2 b.1 (subst (λ l. slice_get bs l ≡ Some b.1) f.0 stands.0)) f.1
+      walks (next b.1) given held locks blocks e stands.1 (r b.1) (o.1 b.1 (subst (λ l. slice_get bs l ≡ Some b.1) f.0 stands.0)) f.1
   walks (Fetch lbn next) given held locks [] e stands r o f =
       let all = all_held held locks e f.0 in
-      record { guard = subst (λ ls. MayLook (held_in PR ls) (guard_of seen.geometry own lbn)) all o.0.guard; within = o.0.within }
+      subst (λ ls. IsGuardedLook seen.geometry bs own ls lbn) all o.0
   walks (Fetch lbn next) given held locks (b ∷ blocks) e stands r o f =
       walks (next b.1) given held locks blocks e stands.1 (r b.1) (o.1 b.1 (subst (λ l. slice_get bs l ≡ Some b.1) f.0 stands.0)) f.1
   walks (Find clusters number next) given held locks blocks e stands r o f =

@@ -102,6 +102,13 @@ is_short c x (Some refusal.IndexFull) = wants_number x && not (has_free_number c
 is_short c x (Some refusal.DeviceFull) = not (wants_number x && not (has_free_number c)) && nat_lt (free_clusters c) (clusters_wanted c x)
 is_short c x (Some other) = false
 
+-- ---- a number that was given
+
+-- a number for a new file is above those of the system files
+abbrev pub is_new_number : Option ℕ → Bool
+is_new_number None = true
+is_new_number (Some n) = nat_lt 11 n
+
 -- ---- the quota rows
 
 -- a command that changes usages
@@ -123,7 +130,8 @@ usages_fit c x = if changes_usage x then list_all (is_charged c) c.quota else tr
 
 -- what a command of a node knows of the catalogue once it has seen this
 abbrev pub knows : ℕ → Cmd → Seen → Cat → Bool
-knows node x seen c = has_channel c node (channel_of x) seen.channel && (is_short c x seen.short && (usages_fit c x && opens_hold c x))
+knows node x seen c =
+    has_channel c node (channel_of x) seen.channel && (is_new_number seen.number && (is_short c x seen.short && (usages_fit c x && opens_hold c x)))
 
 -- the mode of an ask goes with all other opens of the file, so that it is granted
 abbrev pub is_granted : ℕ → Ask → Cat → Bool

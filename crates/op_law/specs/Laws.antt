@@ -1,7 +1,8 @@
 -- The law of an operation.
-use Rattle.std.specs.Prelude.{◌≡◌, ◌≤◌, ◌<◌, ◌&&◌, not, nat_le, ℕ, Bool, true, List, [], ◌∷◌, Option, Some, None, length, map, filter, take}
+use Rattle.std.specs.Prelude.{◌≡◌, ◌≤◌, ◌<◌, ◌&&◌, not, nat_le, ℕ, Bool, true, false, List, [], ◌∷◌, Option, Some, None, length, map, filter, take}
 use Rattle.vol_words.specs.Fields.{Block}
 use Rattle.lock_db.specs.declared.name.LockName.{LockName}
+use Rattle.lock_db.specs.declared.name.LockName.TheVariants.{S, Q, V}
 use Rattle.plain_cat.specs.Modes.{rank}
 use Rattle.plain_cat.specs.declared.mode.Mode.{Mode}
 use Rattle.plain_cat.specs.declared.mode.Mode.TheVariants.{PR, PW}
@@ -13,7 +14,7 @@ use Rattle.vol_owners.specs.Lists.{Has, Touches, StandsIn}
 use Rattle.vol_owners.specs.Owners.{Owners, Things, nothing, Outs}
 use Rattle.vol_parts.specs.declared.geometry.Geometry.{Geometry}
 use Rattle.vol_spell.specs.Spelling.{Spells}
-use Rattle.vol_under.specs.Guards.{guard_of, MayWrite, MayLook}
+use Rattle.vol_under.specs.Guards.{Lock, guard_of, MayWrite, MayLook}
 use Rattle.vol_under.specs.UnderWay.{PlannedWrite, bare, outs_after, UnderWay}
 use Rattle.vol_under.specs.Under.{IsLawful}
 use Rattle.vol_under.specs.Answering.{IsReply}
@@ -54,17 +55,36 @@ under_way cmd seen writes known = record {
 
 -- ---- needs
 
--- a node that holds these locks may look at a block
-pub record IsGuardedLook (seen : Seen) (bs : List Block) (own : Owners) (lbn : ℕ) : Type 0 where
-  pub guard : MayLook (held_in PR seen.locks) (guard_of seen.geometry own lbn)
+-- the locks that a command takes itself: those of files, Q, and V where it takes no space, since else the search for space takes V
+abbrev pub takes_lock : Cmd → LockName → Bool
+takes_lock cmd (S n) = true
+takes_lock cmd Q = true
+takes_lock cmd V = not (takes_space cmd)
+takes_lock cmd other = false
+
+-- one of these, which is not held yet, in PR or PW
+pub record IsNewLock (cmd : Cmd) (locks : List (LockName × Mode)) (name : LockName) (mode : Mode) : Type 0 where
+  pub new : Has (map (λ l. l.0) locks) name → ⊥
+  pub mode : Has (PR ∷ PW ∷ []) mode
+  pub own : takes_lock cmd name ≡ true
+
+-- a block of the volume, whose lock has this name and is held
+pub record IsLockedLook (g : Geometry) (bs : List Block) (own : Owners) (locks : List (LockName × Mode)) (name : LockName) (lbn : ℕ) : Type 0 where
+  pub guard : guard_of g own lbn ≡ Some (Lock name)
+  pub held : Has (held_in PR locks) name
   pub within : lbn < length bs
 
--- What a command may need on blocks that have what it has seen: a lock in PR or PW that it has not taken yet, a look under a
--- lock that it holds, and once, if it is one that takes space, at most 77 clusters and a number.
+-- a block of the volume at which who holds these locks may look
+pub record IsGuardedLook (g : Geometry) (bs : List Block) (own : Owners) (locks : List (LockName × Mode)) (lbn : ℕ) : Type 0 where
+  pub guard : MayLook (held_in PR locks) (guard_of g own lbn)
+  pub within : lbn < length bs
+
+-- What a command may need on blocks that have what it has seen: a new lock, a look under a lock that it holds, and once, if it
+-- is one that takes space, at most 77 clusters and a number.
 abbrev pub MayNeed : Cmd → Seen → List Block → Owners → Need → Type 0
-MayNeed cmd seen bs own (need.Lock name mode) = (Has (map (λ l. l.0) seen.locks) name → ⊥) × Has (PR ∷ PW ∷ []) mode
-MayNeed cmd seen bs own (need.Block name lbn) = Has (held_in PR seen.locks) name × IsGuardedLook seen bs own lbn
-MayNeed cmd seen bs own (need.Bare lbn) = IsGuardedLook seen bs own lbn
+MayNeed cmd seen bs own (need.Lock name mode) = IsNewLock cmd seen.locks name mode
+MayNeed cmd seen bs own (need.Block name lbn) = IsLockedLook seen.geometry bs own seen.locks name lbn
+MayNeed cmd seen bs own (need.Bare lbn) = IsGuardedLook seen.geometry bs own seen.locks lbn
 MayNeed cmd seen bs own (need.Space clusters number) = (takes_space cmd ≡ true) × (clusters ≤ 77) × (seen.clusters ≡ []) × (seen.number ≡ None) × (seen.short ≡ None)
 MayNeed cmd seen bs own (need.Ready plan) = Unit {0}
 
@@ -72,7 +92,7 @@ MayNeed cmd seen bs own (need.Ready plan) = Unit {0}
 
 -- each write is to a block whose lock is held in PW, or that the node has outside
 abbrev pub AreGuarded : ℕ → UnderWay → Geometry → Type 0
-AreGuarded node u g = (base : List Block) (own : Owners) (c : Cat) (stock : Things) → Spells g base own c → StandsIn base u.seen → Outs node own u.took stock
+AreGuarded node u g = (base : List Block) (own : Owners) (c : Cat) (stock : Things) → Spells g base own c → u.knows c ≡ true → StandsIn base u.seen → Outs node own u.took stock
     → (l : ℕ) → Touches (bare u.plan) l → MayWrite node u.write (guard_of g own l)
 
 -- These writes and this reply are right: each write is guarded, each number of the writes leaves a stage of the command, the

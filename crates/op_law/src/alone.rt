@@ -16,7 +16,7 @@ use lock_db::LockName;
 use plain_cat::{Clusters, Mode, NoMemory};
 use plain_vol::is_accounted;
 use std::alloc::Global;
-use vol_spell::{geometry, read_volume};
+use vol_spell::{blocks_are_whole, geometry, read_volume};
 use vol_words::Block;
 
 // What a command has seen when it has seen nothing, or none where the blocks have a fatal finding, or their quotas are not in
@@ -32,6 +32,7 @@ fn begin<O: Operation>(alloc: Global, op: &O, blocks: &[Block]) -> Result<Option
     if !is_accounted(&cat) {
         return Ok(None);
     }
+    blocks_are_whole(blocks);
     Ok(Some(Seen {
         geometry: geometry(blocks),
         channel: None,

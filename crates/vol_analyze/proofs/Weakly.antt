@@ -6,7 +6,7 @@ use Rattle.std.proofs.lemmas.Bool.{cases_Bool}
 use Rattle.std.proofs.lemmas.List.Elements.{All-from_get_or}
 use Rattle.std.proofs.lemmas.List.Sums.{get_or-le-sum_by}
 use Rattle.std.proofs.Math.Nat.{mul-le-mul_left, mul-div-le}
-use Rattle.vol_words.specs.Fields.{Block}
+use Rattle.vol_words.specs.Fields.{Block, AreWholeBlocks}
 use Rattle.fx_home.specs.declared.home.Home.{Home}
 use Rattle.fx_home.specs.declared.home.HomeFault.{HomeFault}
 use Rattle.fx_home.specs.Homes.{home_read}
@@ -98,9 +98,9 @@ few-blocks f cluster blocks all free outside leaked sum some same is adds le sma
     subst (λ (x : ℕ). x * some ≤ 65536) (sym same) k
 
 -- The clusters of the volume are those that are free, those that are leaked and those of its files, so no file has more.
-pub file-sizes : (bs : List Block) (c : Cat) → IsSize (length bs) → CatOf bs c → HasFileSizes c
-file-sizes bs c size at =
-    let s = catalogue_is_spelt bs c size.from size.to at in
+pub file-sizes : (bs : List Block) (c : Cat) → IsSize (length bs) → AreWholeBlocks bs → CatOf bs c → HasFileSizes c
+file-sizes bs c size whole at =
+    let s = catalogue_is_spelt bs c size.from size.to whole at in
     let v = volume s.home bs in
     let add = clusters_add_up (geometry_of v) bs (owners_told v) c s.spelt in
     record {

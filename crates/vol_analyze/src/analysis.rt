@@ -12,7 +12,7 @@ use fx_home::read_home;
 use plain_cat::{Cat, NoMemory};
 use std::alloc::Global;
 use vol_parts::Finding;
-use vol_spell::read_fully;
+use vol_spell::{blocks_are_whole, read_fully};
 use vol_words::Block;
 
 // The findings that are not fatal, where the blocks tell this catalogue.
@@ -21,6 +21,7 @@ fn warnings_of(alloc: Global, blocks: &[Block], cat: &Cat) -> Result<Vec<Finding
     requires told { CatOf blocks.now cat.now }
     ensures { IfOk result (λ fs. AreWarningsBy blocks.now (home_read (home_at blocks.now)) fs.items) }
 {
+    blocks_are_whole(blocks);
     match read_home(&blocks[1]) {
         Ok(home) => all_warnings(alloc, &home, blocks, cat),
         Err(_) => Ok(Vec::new(alloc)),

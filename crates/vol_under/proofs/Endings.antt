@@ -29,6 +29,7 @@ use Rattle.vol_under.proofs.Leaking.{outside_may_leak, leaks_count, leaks_flagge
 pub opens_spelt : (g : Geometry) (bs : List Block) (own : Owners) (c : Cat) (opens : List (Option Open)) → Spells g bs own c → Spells g bs own (record c { opens = opens })
 opens_spelt g bs own c opens s = record {
   counts = record { geometry = s.counts.geometry; blocks = s.counts.blocks; clusters = s.counts.clusters; numbers = s.counts.numbers; slots = s.counts.slots };
+  whole = s.whole;
   structures = s.structures;
   constants = record { factor = s.constants.factor; total = s.constants.total; reserved = s.constants.reserved; rows = s.constants.rows };
   files = s.files;

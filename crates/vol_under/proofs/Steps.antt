@@ -76,8 +76,8 @@ rest_stands g c own drive spelt outs = record {
 }
 
 pub mount_stands : MountStands
-mount_stands bs c from to at =
-    let h = catalogue_is_spelt bs c from to at in
+mount_stands bs c from to whole at =
+    let h = catalogue_is_spelt bs c from to whole at in
     (h.home, h.read, rest_stands (geometry_of (volume h.home bs)) c (owners_told (volume h.home bs)) bs h.spelt h.outs)
 
 pub nodes_alike : NodesAlike

@@ -27,9 +27,9 @@ IdleLawful = (g : Geometry) (n : ℕ) (u : UnderWay) → u.plan ≡ [] → IsLaw
 abbrev pub RestStands : Type 0
 RestStands = (g : Geometry) (c : Cat) (own : Owners) (drive : List Block) → Spells g drive own c → ((n : ℕ) → Outs n own nothing nothing) → IsUnder g c (λ n. resting nothing) drive
 
--- so is a volume in which nothing fatal is found, by the geometry that its home block gives: as it is mounted
+-- so is a volume of whole blocks in which nothing fatal is found, by the geometry that its home block gives: as it is mounted
 abbrev pub MountStands : Type 0
-MountStands = (bs : List Block) (c : Cat) → 64 ≤ length bs → length bs ≤ 65536 → CatOf bs c
+MountStands = (bs : List Block) (c : Cat) → 64 ≤ length bs → length bs ≤ 65536 → AreWholeBlocks bs → CatOf bs c
     → (h : Home) × (home_read (home_at bs) ≡ Ok h) × IsUnder (geometry_of (volume h bs)) c (λ n. resting nothing) bs
 
 -- nodes that are alike one by one have the same drive

@@ -15,7 +15,7 @@ all_warnings-requires-clause-runs c =
     runs-inside (volume c.in-Ok.home c.args.blocks.now) (weak-volume c.args.blocks.now c.args.cat.now c.in-Ok.home c.requires.told (sym c.in-Ok.ensures.value))
 
 pub all_warnings-requires-clause-sizes : goal.all_warnings-requires-clause-sizes
-all_warnings-requires-clause-sizes c = file-sizes c.args.blocks.now c.args.cat.now c.requires.size c.requires.told
+all_warnings-requires-clause-sizes c = file-sizes c.args.blocks.now c.args.cat.now c.requires.size c.blocks_are_whole.ensures c.requires.told
 
 pub all_warnings-requires-clause-sound : goal.all_warnings-requires-clause-sound
 all_warnings-requires-clause-sound c =
