@@ -24,7 +24,7 @@ use Rattle.op_law.specs.Knows.{channel_of, has_channel, knows}
 use Rattle.op_law.specs.Fits.{things}
 use Rattle.op_law.specs.Laws.{planned, under_way, IsRight, WritesNothing, IsPlan, Lawful}
 use Rattle.op_law.proofs.Replying.{looks_reply}
-use Rattle.op_law.proofs.Walking.{EveryPlan, every_plan, Obeys, kept, next_fine, may_need}
+use Rattle.op_law.proofs.Walking.{EveryPlan, every_plan, AnySpace, Obeys, kept, next_fine, may_need}
 
 -- a plan that writes nothing and asks for nothing
 pub record IsPlain (p : Plan) : Type 0 where
@@ -76,7 +76,7 @@ module _ (x : Cmd) (looks : OnlyLooks x) where
           guarded = λ base own c stock spelt known stands outs l touches. absurd (subst (λ ws. Touches (bare ws) l) no_writes touches);
           lawful = idle_lawful seen.geometry node u no_writes;
           reply = looks_reply seen.geometry node u x p.reply no_writes (λ base own c spelt knows stands.
-              next_fine x seen base own (IsAnswer x seen.channel c) (need.Ready p) (once seen.geometry seen.channel) (looks.obeys seen.geometry seen.channel base own c spelt) stands has is
+              next_fine x seen base own AnySpace (λ held. IsAnswer x seen.channel c) (need.Ready p) (once seen.geometry seen.channel) (looks.obeys seen.geometry seen.channel base own c spelt) tt stands has is
               node (both_first (has_channel c node (channel_of x) seen.channel) _ knows));
           left = ap (λ ws. outs_after (things seen.clusters seen.number) ws) no_writes ∙ took_nothing;
         }
@@ -93,8 +93,8 @@ module _ (x : Cmd) (looks : OnlyLooks x) where
   pub only_looks_lawful : Lawful x
   only_looks_lawful = record {
     searches = once;
-    needs = λ node seen bs own c next has on is. may_need x seen bs own (IsAnswer x seen.channel c) next
-        (next_fine x seen bs own (IsAnswer x seen.channel c) next (once seen.geometry seen.channel) (looks.obeys seen.geometry seen.channel bs own c on.spelt) on.stands has is);
+    needs = λ node seen bs own c next has on is. may_need x seen bs own AnySpace (λ held. IsAnswer x seen.channel c) next
+        (next_fine x seen bs own AnySpace (λ held. IsAnswer x seen.channel c) next (once seen.geometry seen.channel) (looks.obeys seen.geometry seen.channel bs own c on.spelt) tt on.stands has is);
     plans = plan;
     refusals = λ seen p has is. nothing_written 0 seen p has is;
   }

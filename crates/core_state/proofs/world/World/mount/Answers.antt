@@ -1,4 +1,5 @@
 use Rattle.std.proofs.Common.{◌≡◌, ◌≤◌, ℕ, Ok, List, refl, sym, subst}
+use Rattle.vol_words.specs.Fields.{AreWholeBlocks}
 use Rattle.fx_home.specs.Homes.{home_read}
 use Rattle.vol_analyze.specs.Judging.{IsJudged}
 use Rattle.vol_faults.specs.Free.{IsGeometryBy}
@@ -21,8 +22,8 @@ returns-clause-world g c =
 pub invariant_of-result : goal.invariant_of-result
 invariant_of-result g c =
     let j = judged c.all.result.now c.args.m.blocks c.in-Ok-Ok.field-0 c.in-Ok-Ok.cat c.all.ensures c.in-Ok-Ok.field-0-is c.in-Ok-Ok.ensures in
-    let by = subst (λ bs. IsGeometryBy bs (home_read (home_at bs)) c.geometry-geometry.result) c.all-2.ensures c.geometry-geometry.ensures.told in
-    let u = mounts c.args.m.blocks c.in-Ok-Ok.cat c.geometry-geometry.result (subst (λ (k : ℕ). 64 ≤ k) c.size-size.ensures.blocks c.size-size.ensures.inside.low) (subst (λ (k : ℕ). k ≤ 65536) c.size-size.ensures.blocks c.size-size.ensures.inside.high) c.blocks_are_whole.ensures j.1 by in
+    let by = subst (λ bs. IsGeometryBy bs (home_read (home_at bs)) c.geometry-geometry.result) c.all-3.ensures c.geometry-geometry.ensures.told in
+    let u = mounts c.args.m.blocks c.in-Ok-Ok.cat c.geometry-geometry.result (subst (λ (k : ℕ). 64 ≤ k) c.size-size.ensures.blocks c.size-size.ensures.inside.low) (subst (λ (k : ℕ). k ≤ 65536) c.size-size.ensures.blocks c.size-size.ensures.inside.high) (subst (λ bs. AreWholeBlocks bs) c.all-2.ensures c.blocks_are_whole.ensures) j.1 by in
     let w = world_mounted c.args.m.blocks c.args.script.now c.in-Ok-Ok.cat c.geometry-geometry.result c.requires.form c.requires.runs u g.O.Operation.takes c.new.result.room c.requires.taken in
     subst (λ v. IsWorld g.O.Operation.takes v c.new.result.room)
     (sym (λ i. record { script = c.in-Ok.ensures.script i; opening = c.in-Ok-Ok.cat; geometry = c.geometry-geometry.result; blocks = c.args.m.blocks; locks = c.in-Ok.ensures.locks i; nodes = c.in-Ok.ensures.nodes i; history = c.new.ensures i })) w
