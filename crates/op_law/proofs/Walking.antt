@@ -1,5 +1,5 @@
 -- A walk along the events of a command: what each may need, and its plan.
-use Rattle.std.proofs.Common.{◌≡◌, ◌≤◌, ◌∙◌, ℕ, Bool, true, false, cond, List, [], ◌∷◌, ◌++◌, Option, Some, slice_get, append_assoc, refl, sym, ap, subst}
+use Rattle.std.proofs.Common.{◌≡◌, ◌∙◌, ℕ, Bool, true, false, cond, List, [], ◌∷◌, ◌++◌, Option, Some, slice_get, append_assoc, refl, sym, ap, subst}
 use Rattle.std.specs.Prelude.{MatchBool}
 use Rattle.std.proofs.lemmas.List.{append-nil}
 use Rattle.vol_words.specs.Fields.{Block}
@@ -15,10 +15,9 @@ use Rattle.op_law.specs.declared.need.Plan.{Plan}
 use Rattle.op_law.specs.declared.seen.Seen.{Seen}
 use Rattle.vol_parts.specs.declared.geometry.Geometry.{Geometry}
 use Rattle.op_law.specs.Events.{Events, Take, Look, Fetch, Find, Make, Space, space_of, has_space, HasNoSpace, IsGiven, HasNoSearch, SearchesOnce, following, Follows}
-use Rattle.op_law.specs.Knows.{takes_space}
 use Rattle.op_law.specs.Needs.{events_of, IsNext}
 use Rattle.op_law.specs.Fits.{HasSeen}
-use Rattle.op_law.specs.Laws.{IsNewLock, IsLockedLook, IsGuardedLook, MayNeed}
+use Rattle.op_law.specs.Laws.{IsNewLock, IsLockedLook, IsGuardedLook, IsSearch, MayNeed}
 use Rattle.op_law.proofs.Going.{Ready, ready_more, ready}
 
 -- ---- what every plan is that a command may come to
@@ -66,7 +65,7 @@ module _ (x : Cmd) (g : Geometry) (bs : List Block) (own : Owners) (S : Space �
   ObeysBy (Take name mode next) held = IsNewLock x held name mode × ObeysBy next (held ++ (name, mode) ∷ [])
   ObeysBy (Look name lbn next) held = IsLockedLook g bs own held name lbn × ((b : Block) → slice_get bs lbn ≡ Some b → ObeysBy (next b) held)
   ObeysBy (Fetch lbn next) held = IsGuardedLook g bs own held lbn × ((b : Block) → slice_get bs lbn ≡ Some b → ObeysBy (next b) held)
-  ObeysBy (Find clusters number next) held = (takes_space x ≡ true) × (clusters ≤ 77)
+  ObeysBy (Find clusters number next) held = IsSearch x g.cluster clusters number
       × ((space : Space) → S space → has_space clusters number space ≡ true → IsGiven space.clusters space.number space.short → ObeysBy (next space.clusters space.number space.short) held)
   ObeysBy (Make plan) held = P held plan
 
@@ -130,10 +129,9 @@ module _ (x : Cmd) (seen : Seen) (bs : List Block) (own : Owners) (S : Space →
             → IsFine (cond t (following (next seen.clusters seen.number seen.short) locks blocks (space_of seen)) (need.Space clusters number))
         by_test more true has f =
             more e stands (ready_more (next seen.clusters seen.number seen.short) (space_of seen) (IsGiven seen.clusters seen.number seen.short) (r.1 seen.clusters seen.number seen.short)) so
-            (o.2 (space_of seen) so has (kept (next seen.clusters seen.number seen.short) (space_of seen) (IsGiven seen.clusters seen.number seen.short) locks blocks (r.1 seen.clusters seen.number seen.short) f)) f
+            (o.1 (space_of seen) so has (kept (next seen.clusters seen.number seen.short) (space_of seen) (IsGiven seen.clusters seen.number seen.short) locks blocks (r.1 seen.clusters seen.number seen.short) f)) f
         by_test more false has f =
-            let none = r.0 f.2 in
-            (o.0, o.1, none.clusters, none.number, none.short)
+            (o.0, r.0 f.2)
   walks (Make plan) given held locks blocks e stands r so o f = subst (λ ls. P ls plan) (all_held held locks e f.0) o
 
   -- on blocks that have what a command has seen, whatever it needs next is fine

@@ -1,5 +1,5 @@
 -- What a command takes for granted of the catalogue besides the blocks that it has seen.
-use Rattle.std.specs.Prelude.{◌==◌, ◌&&◌, ◌+◌, not, nat_lt, nat_le, ℕ, Bool, true, false, List, Option, Some, None, is_none, length, slice_set, if◌then◌else◌}
+use Rattle.std.specs.Prelude.{◌==◌, ◌&&◌, ◌+◌, ◌-◌, ◌/◌, not, nat_lt, nat_le, ℕ, Bool, true, false, List, Option, Some, None, is_none, length, slice_set, if◌then◌else◌}
 use Rattle.std.specs.List.{list_any, list_all, range_with_len}
 use Rattle.plain_cat.specs.Modes.{rank}
 use Rattle.plain_cat.specs.declared.mode.Mode.{Mode}
@@ -12,7 +12,6 @@ use Rattle.plain_cat.specs.declared.cat.File.{File}
 use Rattle.plain_cat.specs.declared.cat.Open.{Open}
 use Rattle.plain_cat.specs.declared.cat.QuotaRow.{QuotaRow}
 use Rattle.plain_vol.specs.Lookups.{in_use, channel_at, place, free_clusters, is_free_number}
-use Rattle.plain_vol.specs.Changes.{in_clusters}
 use Rattle.plain_vol.specs.Accounts.{charge}
 use Rattle.plain_vol.specs.Answers.{conflicts}
 use Rattle.op_law.specs.declared.need.Ask.{Ask}
@@ -71,12 +70,12 @@ opens_hold c x = if may_ask x then list_all is_held_open c.opens else true
 
 -- ---- space that was refused
 
--- the clusters that a command searches for
-abbrev pub clusters_wanted : Cat → Cmd → ℕ
-clusters_wanted c (cmd.Create reg dir name ver blocks owner) = in_clusters c blocks
-clusters_wanted c (cmd.MkDir reg dir name owner) = 1
-clusters_wanted c (cmd.Extend file blocks) = in_clusters c blocks
-clusters_wanted c other = 0
+-- the clusters of so many blocks each that a command searches for
+abbrev pub clusters_wanted : ℕ → Cmd → ℕ
+clusters_wanted factor (cmd.Create reg dir name ver blocks owner) = (blocks + (factor - 1)) / factor
+clusters_wanted factor (cmd.MkDir reg dir name owner) = 1
+clusters_wanted factor (cmd.Extend file blocks) = (blocks + (factor - 1)) / factor
+clusters_wanted factor other = 0
 
 -- whether it searches for space at all
 abbrev pub takes_space : Cmd → Bool
@@ -99,7 +98,7 @@ has_free_number c = list_any (is_free_number c) (range_with_len 1 (length c.file
 abbrev pub is_short : Cat → Cmd → Option Refusal → Bool
 is_short c x None = true
 is_short c x (Some refusal.IndexFull) = wants_number x && not (has_free_number c)
-is_short c x (Some refusal.DeviceFull) = not (wants_number x && not (has_free_number c)) && nat_lt (free_clusters c) (clusters_wanted c x)
+is_short c x (Some refusal.DeviceFull) = not (wants_number x && not (has_free_number c)) && nat_lt (free_clusters c) (clusters_wanted c.factor x)
 is_short c x (Some other) = false
 
 -- ---- a number that was given

@@ -25,8 +25,8 @@ use Rattle.op_law.specs.declared.need.PlanWrite.{PlanWrite}
 use Rattle.op_law.specs.declared.need.Ask.{Ask}
 use Rattle.op_law.specs.declared.seen.Seen.{Seen}
 use Rattle.op_law.specs.declared.seen.Chan.{Chan}
-use Rattle.op_law.specs.Knows.{takes_space, may_ask, knows, is_granted}
-use Rattle.op_law.specs.Events.{SearchesOnce}
+use Rattle.op_law.specs.Knows.{takes_space, clusters_wanted, wants_number, may_ask, knows, is_granted}
+use Rattle.op_law.specs.Events.{space_of, HasNoSpace, SearchesOnce}
 use Rattle.op_law.specs.Needs.{events_of, IsNext}
 use Rattle.op_law.specs.Fits.{HasSeen, things, IsSeenOn}
 
@@ -79,13 +79,20 @@ pub record IsGuardedLook (g : Geometry) (bs : List Block) (own : Owners) (locks 
   pub guard : MayLook (held_in PR locks) (guard_of g own lbn)
   pub within : lbn < length bs
 
--- What a command may need on blocks that have what it has seen: a new lock, a look under a lock that it holds, and once, if it
--- is one that takes space, at most 77 clusters and a number.
+-- a search of a command that takes space, for what it wants and at most 77 clusters
+pub record IsSearch (cmd : Cmd) (factor clusters : ℕ) (number : Bool) : Type 0 where
+  pub takes : takes_space cmd ≡ true
+  pub few : clusters ≤ 77
+  pub clusters_are : clusters ≡ clusters_wanted factor cmd
+  pub number_is : number ≡ wants_number cmd
+
+-- What a command may need on blocks that have what it has seen: a new lock, a look under a lock that it holds, and once a search
+-- for space.
 abbrev pub MayNeed : Cmd → Seen → List Block → Owners → Need → Type 0
 MayNeed cmd seen bs own (need.Lock name mode) = IsNewLock cmd seen.locks name mode
 MayNeed cmd seen bs own (need.Block name lbn) = IsLockedLook seen.geometry bs own seen.locks name lbn
 MayNeed cmd seen bs own (need.Bare lbn) = IsGuardedLook seen.geometry bs own seen.locks lbn
-MayNeed cmd seen bs own (need.Space clusters number) = (takes_space cmd ≡ true) × (clusters ≤ 77) × (seen.clusters ≡ []) × (seen.number ≡ None) × (seen.short ≡ None)
+MayNeed cmd seen bs own (need.Space clusters number) = IsSearch cmd seen.geometry.cluster clusters number × HasNoSpace (space_of seen)
 MayNeed cmd seen bs own (need.Ready plan) = Unit {0}
 
 -- ---- plans
