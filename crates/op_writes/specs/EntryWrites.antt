@@ -1,0 +1,56 @@
+-- The writes that enter an entry into a directory.
+use Rattle.std.specs.Prelude.{◌≡◌, ◌≤◌, ◌<◌, ◌++◌, ◌^◌, ℕ, true, false, List, Some}
+use Rattle.vol_words.specs.Fields.{Block}
+use Rattle.vol_words.specs.Names.{is_name}
+use Rattle.lock_db.specs.declared.name.LockName.TheVariants.{S}
+use Rattle.plain_cat.specs.declared.ids.Fid.{Fid}
+use Rattle.plain_cat.specs.declared.entries.DirEnt.{DirEnt}
+use Rattle.plain_cat.specs.declared.history.Stage.{Stage}
+use Rattle.plain_cat.specs.declared.cat.Cat.{Cat}
+use Rattle.plain_cat.specs.declared.cat.File.{File}
+use Rattle.plain_vol.specs.Lookups.{file_at, versions}
+use Rattle.plain_vol.specs.Directories.{inserted, is_taken, fits}
+use Rattle.plain_vol.specs.Changes.{with_entries}
+use Rattle.vol_owners.specs.Owners.{Owners}
+use Rattle.vol_owners.specs.Places.{blocks_at}
+use Rattle.vol_parts.specs.declared.geometry.Geometry.{Geometry}
+use Rattle.vol_spell.specs.Reading.{IsFileNumber, header_block}
+use Rattle.vol_spell.specs.Spelling.{Spells}
+use Rattle.vol_under.specs.Guards.{Lock, guard_of}
+use Rattle.op_law.specs.declared.need.PlanWrite.{PlanWrite}
+use Rattle.op_law.specs.Rows.{places_in}
+use Rattle.op_law.specs.Writing.{empty_handed}
+use Rattle.op_law.specs.Moving.{SeenDir, insertion_writes}
+use Rattle.op_writes.specs.Chained.{Chain, StepsOf, StageOf, after_writes, TouchedBy, StandsOn, OthersStay}
+
+-- the directory of an identifier as these blocks have it
+abbrev pub dir_in : Geometry → List Block → Fid → SeenDir
+dir_in g bs dir = record { fid = dir; head = header_block g bs dir.num; blocks = blocks_at bs (places_in (header_block g bs dir.num)) }
+
+-- an entry within the limits of the format, which is not in the directory yet and has room there
+pub record CanBeEntered (g : Geometry) (x : Cat) (n : ℕ) (d : File) (e : DirEnt) : Type 0 where
+  pub number : IsFileNumber g n
+  pub file : file_at x n ≡ Some d
+  pub dir : d.dir ≡ true
+  pub name : is_name e.name ≡ true
+  pub ver_from : 1 ≤ e.ver
+  pub ver_to : e.ver ≤ 32767
+  pub num : e.fid.num ≤ 16777215
+  pub seq : e.fid.seq < 2 ^ 16
+  pub new : is_taken e.ver (versions e.name d.entries) ≡ false
+  pub room : fits g.cluster (inserted e d.entries) ≡ true
+
+-- the writes are steps: all but the last leave the stage `before`, and that the stage `after`. So are the writes behind them that
+-- are steps on what they leave.
+abbrev pub EntrySteps : Type 0
+EntrySteps = (k : Chain) (dir : Fid) (d : File) (e : DirEnt) (before after : Stage) (ws : List PlanWrite) (x : Cat) (bs : List Block) (own : Owners)
+    → StandsOn k empty_handed x bs own → CanBeEntered k.geometry x dir.num d e → StageOf k before x → StageOf k after (with_entries x dir.num d (inserted e d.entries))
+    → (StandsOn k empty_handed (with_entries x dir.num d (inserted e d.entries)) (after_writes (insertion_writes (dir_in k.geometry bs dir) e before after) bs) own
+    → OthersStay k.geometry dir.num bs (after_writes (insertion_writes (dir_in k.geometry bs dir) e before after) bs)
+    → StepsOf k ws (after_writes (insertion_writes (dir_in k.geometry bs dir) e before after) bs) own)
+    → StepsOf k (insertion_writes (dir_in k.geometry bs dir) e before after ++ ws) bs own
+
+-- what they touch is guarded by the directory's lock
+abbrev pub EntryGuards : Type 0
+EntryGuards = (g : Geometry) (dir : Fid) (d : File) (e : DirEnt) (before after : Stage) (x : Cat) (bs : List Block) (own : Owners) (l : ℕ) → Spells g bs own x → CanBeEntered g x dir.num d e
+    → TouchedBy (insertion_writes (dir_in g bs dir) e before after) l → guard_of g own l ≡ Some (Lock (S dir.num))

@@ -1,0 +1,4 @@
+pub mod Chained
+pub mod RowWrites
+pub mod FileWrites
+pub mod EntryWrites

@@ -1,0 +1,48 @@
+-- The write of an owner's quota row.
+use Rattle.std.specs.Prelude.{◌≡◌, ◌==◌, ◌++◌, ℕ, List, Option, Some, map, length, if◌then◌else◌}
+use Rattle.vol_words.specs.Fields.{Block}
+use Rattle.fx_quota.specs.declared.types.Row.{Row}
+use Rattle.fx_quota.specs.Rows.{Fits}
+use Rattle.lock_db.specs.declared.name.LockName.TheVariants.{Q}
+use Rattle.plain_cat.specs.declared.ids.Uic.{Uic}
+use Rattle.plain_cat.specs.declared.history.Stage.{Stage}
+use Rattle.plain_cat.specs.declared.cat.Cat.{Cat}
+use Rattle.plain_cat.specs.declared.cat.QuotaRow.{QuotaRow}
+use Rattle.vol_owners.specs.Owners.{Owners}
+use Rattle.vol_owners.specs.Places.{blocks_at}
+use Rattle.vol_parts.specs.declared.geometry.Geometry.{Geometry}
+use Rattle.vol_parts.specs.Catalogues.{quota_row}
+use Rattle.vol_spell.specs.Reading.{quota_places}
+use Rattle.vol_spell.specs.Spelling.{Spells}
+use Rattle.vol_under.specs.Guards.{Lock, guard_of}
+use Rattle.op_law.specs.declared.need.PlanWrite.{PlanWrite}
+use Rattle.op_law.specs.Writing.{Held}
+use Rattle.op_law.specs.Quotas.{owner_write}
+use Rattle.op_writes.specs.Chained.{Chain, StepsOf, StageOf, after_writes, TouchedBy, StandsOn, FilesStay}
+
+-- a change of a row on the volume, and the same change of the catalogue's row
+pub record IsRowChange (change : Row → Row) (rows : QuotaRow → QuotaRow) : Type 0 where
+  pub owner : (r : Row) → (change r).uic ≡ r.uic
+  pub same : (r : Row) → quota_row (change r) ≡ rows (quota_row r)
+
+-- the catalogue in which the rows of an owner are changed
+abbrev pub with_changed : Uic → (QuotaRow → QuotaRow) → Cat → Cat
+with_changed owner rows x = record x { quota = map (λ r. if r.owner.0 == owner.0 then rows r else r) x.quota }
+
+-- the write of an owner's row by the quota blocks as they stand, if the owner has one
+abbrev pub row_writes : Geometry → List Block → Uic → (Row → Row) → Stage → Held → List PlanWrite
+row_writes g bs owner change s out = owner_write g (blocks_at bs (quota_places g)) owner change s out
+
+-- the write is a step, and so are the writes behind it that are steps on what it leaves
+abbrev pub RowSteps : Type 0
+RowSteps = (k : Chain) (owner : Uic) (change : Row → Row) (rows : QuotaRow → QuotaRow) (s : Stage) (out : Held) (ws : List PlanWrite) (x : Cat) (bs : List Block) (own : Owners)
+    → StandsOn k out x bs own → IsRowChange change rows → ((r : Row) → r.uic ≡ owner.0 → Fits r → Fits (change r)) → StageOf k s (with_changed owner rows x)
+    → (StandsOn k out (with_changed owner rows x) (after_writes (row_writes k.geometry bs owner change s out) bs) own
+    → FilesStay k.geometry bs (after_writes (row_writes k.geometry bs owner change s out) bs)
+    → StepsOf k ws (after_writes (row_writes k.geometry bs owner change s out) bs) own)
+    → StepsOf k (row_writes k.geometry bs owner change s out ++ ws) bs own
+
+-- the lock Q guards what it writes
+abbrev pub RowGuards : Type 0
+RowGuards = (g : Geometry) (bs base : List Block) (own : Owners) (x : Cat) (owner : Uic) (change : Row → Row) (s : Stage) (out : Held) (l : ℕ) → Spells g base own x
+    → TouchedBy (row_writes g bs owner change s out) l → guard_of g own l ≡ Some (Lock Q)

@@ -1,0 +1,1 @@
+//! The laws, each a statement for every value that it speaks of.
