@@ -20,7 +20,7 @@ use Rattle.vol_spell.specs.Kinds.{IsBodyFor}
 use Rattle.vol_spell.specs.Views.{IsFileAt}
 use Rattle.vol_spell.proofs.Viewing.{body_set}
 use Rattle.vol_under.specs.UnderWay.{PlannedWrite, bare, StandsAt}
-use Rattle.vol_under.specs.Chains.{Steps}
+use Rattle.vol_under.specs.Chains.{End, Steps}
 use Rattle.vol_under.specs.Series.{slot_told, plan_of, body_after, BodyMoves, BodySeries}
 use Rattle.vol_under.proofs.Reach.{step_kinds}
 
@@ -56,11 +56,11 @@ is_body g bs i v l b h body whole is f place dir = record {
   slot = ap (λ (k : Block). slot_with g.cluster i (header_read k) (slice_set (body_blocks bs i (header_block g bs i)) v b)) f.header ∙ ap (λ (y : List Block). slot_with g.cluster i (header_read h) (slice_set y v b)) f.body;
 }
 
-module _ (g : Geometry) (n : ℕ) (cmd : Option Cmd) (locks : List LockName) (c x : Cat) (stock o : Things) (i : ℕ) (h : Block) (own : Owners) (is : IsFileNumber g i) (outs : Outs n own o stock) where
+module _ (end : End) (g : Geometry) (n : ℕ) (cmd : Option Cmd) (locks : List LockName) (c x : Cat) (stock o : Things) (i : ℕ) (h : Block) (own : Owners) (is : IsFileNumber g i) (outs : Outs n own o stock) where
   pub in_turn : (ms : List (ℕ × PlannedWrite)) (ws : List PlannedWrite) (bs body : List Block) (y : Cat) → ((s : Slot) → with_slot y i s ≡ with_slot x i s) → Spells g bs own y → IsFileAt g bs i h body → BodyMoves g n cmd c x i h o ms body
       → (Spells g (written (bare (plan_of ms)) bs) own (with_slot x i (slot_told g i h (body_after ms body))) → IsFileAt g (written (bare (plan_of ms)) bs) i h (body_after ms body)
-      → Steps g n cmd locks c stock ws (written (bare (plan_of ms)) bs) own)
-      → Steps g n cmd locks c stock (plan_of ms ++ ws) bs own
+      → Steps end g n cmd locks c stock ws (written (bare (plan_of ms)) bs) own)
+      → Steps end g n cmd locks c stock (plan_of ms ++ ws) bs own
   in_turn [] ws bs body y agree s f moves rest =
       rest (subst (λ (z : Cat). Spells g bs own z) (sym (same_slot g bs own y i h body is s f) ∙ agree (slot_told g i h body)) s) f
   in_turn (m ∷ ms) ws bs body y agree s f moves rest =
@@ -74,5 +74,5 @@ module _ (g : Geometry) (n : ℕ) (cmd : Option Cmd) (locks : List LockName) (c 
       let at : IsFileAt g (slice_set bs m.1.lbn m.1.block) i h (slice_set body m.0 m.1.block) = record { header = view.header ∙ f.header; body = view.body ∙ ap (λ (z : List Block). slice_set z m.0 m.1.block) f.body } in
       (own, with_slot y i t, step, in_turn ms ws (slice_set bs m.1.lbn m.1.block) (slice_set body m.0 m.1.block) (with_slot y i t) (λ z. slot_again y i t z ∙ agree z) step.spelt at moves.1 rest)
 
-pub body_series : BodySeries
-body_series g n cmd locks c x stock o i h body ms ws bs own is s f outs moves rest = in_turn g n cmd locks c x stock o i h own is outs ms ws bs body x (λ z. refl) s f moves rest
+pub body_series : (end : End) → BodySeries end
+body_series end g n cmd locks c x stock o i h body ms ws bs own is s f outs moves rest = in_turn end g n cmd locks c x stock o i h own is outs ms ws bs body x (λ z. refl) s f moves rest

@@ -1,5 +1,5 @@
 -- Plans as chains of writes.
-use Rattle.std.proofs.Common.{◌≡◌, ℕ, zero, suc, List, [], ◌∷◌, Option, Some, None, slice_set, sym, subst, arith}
+use Rattle.std.proofs.Common.{◌≡◌, ◌∙◌, ℕ, zero, suc, List, [], ◌∷◌, Option, Some, None, length, take, slice_set, sym, ap, subst, arith}
 use Rattle.lock_db.specs.declared.name.LockName.{LockName}
 use Rattle.lock_db.specs.declared.name.LockName.TheVariants.{S}
 use Rattle.plain_cat.specs.declared.command.Cmd.{Cmd}
@@ -7,31 +7,62 @@ use Rattle.plain_cat.specs.declared.cat.Cat.{Cat}
 use Rattle.plain_vol.specs.Changes.{with_slot}
 use Rattle.vol_owners.specs.declared.owner.Owner.{Owner}
 use Rattle.vol_owners.specs.declared.owner.Owner.TheVariants.{Free, InFile, Outside, Leaked}
-use Rattle.vol_owners.specs.Lists.{Has}
-use Rattle.vol_owners.specs.Owners.{Owners, Moves, OwnersMove, IsFileMove, IsSpaceMove, Things}
+use Rattle.vol_owners.specs.Lists.{Has, written}
+use Rattle.vol_owners.specs.Owners.{Owners, Moves, OwnersMove, IsFileMove, IsSpaceMove, Things, Outs}
 use Rattle.vol_owners.proofs.Moving.{still, grown, moves_grow, moves_compose}
+use Rattle.vol_words.specs.Fields.{Block}
 use Rattle.vol_parts.specs.declared.geometry.Geometry.{Geometry}
 use Rattle.vol_spell.specs.Spelling.{Spells}
 use Rattle.vol_spell.proofs.Keeping.{outside_write, quota_write, header_write, body_write, storage_write, index_write}
 use Rattle.vol_under.specs.Guards.{IsCommandMove}
-use Rattle.vol_under.specs.UnderWay.{first_stage}
-use Rattle.vol_under.specs.Chains.{StepsReach, StepsLawful, StepKinds}
+use Rattle.vol_under.specs.UnderWay.{PlannedWrite, bare, first_stage, stage_after, outs_after, StandsAt}
+use Rattle.vol_under.specs.Chains.{End, Steps, Replied, StepsReach, StepsLawful, StepsReply, StepKinds}
 use Rattle.vol_under.proofs.Guarding.{space_command}
 use Rattle.vol_under.proofs.Steps.{stands_first}
 
-pub steps_reach : StepsReach
-steps_reach g n cmd locks c stock [] start took x bs own zero at s o steps le = record { new = own; cat = x; stage = at; spelt = s; moves = (moves_compose (IsCommandMove n locks)).still own; outs = o }
-steps_reach g n cmd locks c stock [] start took x bs own (suc k) at s o steps le = absurd (omega arith)
-steps_reach g n cmd locks c stock (w ∷ ws) start took x bs own zero at s o steps le = record { new = own; cat = x; stage = at; spelt = s; moves = (moves_compose (IsCommandMove n locks)).still own; outs = o }
-steps_reach g n cmd locks c stock (w ∷ ws) start took x bs own (suc k) at s o steps le =
+pub steps_reach : (end : End) → StepsReach end
+steps_reach end g n cmd locks c stock [] start took x bs own zero at s o steps le = record { new = own; cat = x; stage = at; spelt = s; moves = (moves_compose (IsCommandMove n locks)).still own; outs = o }
+steps_reach end g n cmd locks c stock [] start took x bs own (suc k) at s o steps le = absurd (omega arith)
+steps_reach end g n cmd locks c stock (w ∷ ws) start took x bs own zero at s o steps le = record { new = own; cat = x; stage = at; spelt = s; moves = (moves_compose (IsCommandMove n locks)).still own; outs = o }
+steps_reach end g n cmd locks c stock (w ∷ ws) start took x bs own (suc k) at s o steps le =
     let h = steps.2 in
-    let r = steps_reach g n cmd locks c stock ws w.stage w.outs steps.1 _ steps.0 k h.stage h.spelt h.outs steps.3 (omega arith) in
+    let r = steps_reach end g n cmd locks c stock ws w.stage w.outs steps.1 _ steps.0 k h.stage h.spelt h.outs steps.3 (omega arith) in
     record { new = r.new; cat = r.cat; stage = r.stage; spelt = r.spelt; moves = (moves_compose (IsCommandMove n locks)).chain own steps.0 r.new h.moves r.moves; outs = r.outs }
 
 pub steps_lawful : StepsLawful
-steps_lawful g n u chain base own c stock k spelt knows stands outs le =
-    let r = steps_reach g n u.cmd u.write c stock u.plan (first_stage u.cmd) u.took c base own k (stands_first c n u.cmd) spelt outs (chain base own c stock spelt knows stands outs) le in
+steps_lawful g n u x r chain base own c stock k spelt knows stands outs le =
+    let r = steps_reach (Replied g n u x r c stock) g n u.cmd u.write c stock u.plan (first_stage u.cmd) u.took c base own k (stands_first c n u.cmd) spelt outs (chain base own c stock spelt knows stands outs) le in
     record { new = r.new; cat = r.cat; stage = r.stage; spelt = r.spelt; moves = r.moves; outs = r.outs }
+
+-- what a chain ends with, with owners that the command may move
+steps_end : (end : End) (g : Geometry) (n : ℕ) (cmd : Option Cmd) (locks : List LockName) (c : Cat) (stock : Things) (ws : List PlannedWrite) (bs : List Block) (own : Owners)
+    → Steps end g n cmd locks c stock ws bs own → (new : Owners) × OwnersMove (IsCommandMove n locks) own new × end (written (bare ws) bs) new
+steps_end end g n cmd locks c stock [] bs own e = (own, (moves_compose (IsCommandMove n locks)).still own, e)
+steps_end end g n cmd locks c stock (w ∷ ws) bs own steps =
+    let r = steps_end end g n cmd locks c stock ws (slice_set bs w.lbn w.block) steps.0 steps.3 in
+    (r.0, (moves_compose (IsCommandMove n locks)).chain own steps.0 r.0 steps.2.moves r.1, r.2)
+
+-- all writes of a plan
+all_writes : (ws : List PlannedWrite) (k : ℕ) → k ≡ length ws → take k ws ≡ ws
+all_writes ws k e = ap (λ (j : ℕ). take j ws) e ∙ take-all ws
+
+pub steps_reply : StepsReply
+steps_reply g n u x r chain base own c stock k spelt knows stands outs whole =
+    let e = steps_end (Replied g n u x r c stock) g n u.cmd u.write c stock u.plan base own (chain base own c stock spelt knows stands outs) in
+    let all : take k u.plan ≡ u.plan = all_writes u.plan k whole in
+    let end = e.2 in
+    record {
+      leaves = record {
+        new = e.0;
+        cat = end.0;
+        stage = subst (λ (ws : List PlannedWrite). StandsAt c n u.cmd (stage_after (first_stage u.cmd) ws) end.0) (sym all) end.1;
+        spelt = subst (λ (ws : List PlannedWrite). Spells g (written (bare ws) base) e.0 end.0) (sym all) end.2;
+        moves = e.1;
+        outs = subst (λ (ws : List PlannedWrite). Outs n e.0 (outs_after u.took ws) stock) (sym all) end.3;
+      };
+      opens = end.4;
+      answer = end.5;
+    }
 
 -- what a header's write moves, a command may move that holds the file's lock
 file_command : (n i : ℕ) (locks : List LockName) → Has locks (S i) → (o : Option Owner) → IsFileMove n i o → IsCommandMove n locks o

@@ -5,8 +5,11 @@ use Rattle.lock_db.specs.declared.name.LockName.{LockName}
 use Rattle.lock_db.specs.declared.name.LockName.TheVariants.{S}
 use Rattle.plain_cat.specs.declared.command.Cmd.{Cmd}
 use Rattle.plain_cat.specs.declared.history.Stage.{Stage}
+use Rattle.plain_cat.specs.declared.reply.Reply.{Reply}
 use Rattle.plain_cat.specs.declared.cat.Cat.{Cat}
+use Rattle.plain_cat.specs.declared.cat.Open.{Open}
 use Rattle.plain_cat.specs.declared.cat.Slot.{Slot}
+use Rattle.plain_vol.specs.Answers.{Answer}
 use Rattle.plain_vol.specs.Changes.{with_slot}
 use Rattle.vol_owners.specs.declared.owner.Owner.TheVariants.{Free, Outside}
 use Rattle.vol_owners.specs.Lists.{Has, Once, written, StandsIn}
@@ -18,8 +21,9 @@ use Rattle.vol_spell.specs.Reading.{IsFileNumber, total_of, owner_at, header_pla
 use Rattle.vol_spell.specs.Spelling.{Spells}
 use Rattle.vol_spell.specs.Kinds.{with_rows, IsHeaderFor, IsBodyFor}
 use Rattle.vol_under.specs.Guards.{IsCommandMove}
-use Rattle.vol_under.specs.UnderWay.{PlannedWrite, bare, stage_after, outs_after, UnderWay, StandsAt}
+use Rattle.vol_under.specs.UnderWay.{PlannedWrite, bare, first_stage, stage_after, outs_after, UnderWay, StandsAt}
 use Rattle.vol_under.specs.Under.{IsLawful}
+use Rattle.vol_under.specs.Answering.{IsReply}
 
 -- One write of node n's command on the catalogue c: the blocks after it spell the catalogue of its stage, with owners that the
 -- command may move, and outside what the plan says, besides the stock.
@@ -29,11 +33,19 @@ pub record IsStep (g : Geometry) (n : ℕ) (cmd : Option Cmd) (locks : List Lock
   pub moves : OwnersMove (IsCommandMove n locks) own new
   pub outs : Outs n new w.outs stock
 
--- each write in turn, on the blocks and owners that the one before leaves
-abbrev pub Steps : (g : Geometry) (n : ℕ) (cmd : Option Cmd) (locks : List LockName) (c : Cat) (stock : Things) → List PlannedWrite → List Block → Owners → Type 0
-Steps g n cmd locks c stock [] bs own = Unit {0}
-Steps g n cmd locks c stock (w ∷ ws) bs own =
-    (new : Owners) × (cat : Cat) × IsStep g n cmd locks c stock w bs own new cat × Steps g n cmd locks c stock ws (slice_set bs w.lbn w.block) new
+-- what a chain of writes ends with: blocks and owners
+abbrev pub End : Type 1
+End = List Block → Owners → Type 0
+
+-- wherever it ends
+abbrev pub anywhere : End
+anywhere bs own = Unit {0}
+
+-- each write in turn, on the blocks and owners that the one before leaves, to such an end
+abbrev pub Steps : End → (g : Geometry) (n : ℕ) (cmd : Option Cmd) (locks : List LockName) (c : Cat) (stock : Things) → List PlannedWrite → List Block → Owners → Type 0
+Steps end g n cmd locks c stock [] bs own = end bs own
+Steps end g n cmd locks c stock (w ∷ ws) bs own =
+    (new : Owners) × (cat : Cat) × IsStep g n cmd locks c stock w bs own new cat × Steps end g n cmd locks c stock ws (slice_set bs w.lbn w.block) new
 
 -- what the first k writes of a chain leave
 pub record Reached (g : Geometry) (n : ℕ) (cmd : Option Cmd) (locks : List LockName) (c : Cat) (stock : Things) (ws : List PlannedWrite) (start : Stage) (took : Things) (bs : List Block) (own : Owners) (k : ℕ) : Type 0 where
@@ -45,15 +57,26 @@ pub record Reached (g : Geometry) (n : ℕ) (cmd : Option Cmd) (locks : List Loc
   pub outs : Outs n new (outs_after took (take k ws)) stock
 
 -- a chain of writes leaves its stages
-abbrev pub StepsReach : Type 0
-StepsReach = (g : Geometry) (n : ℕ) (cmd : Option Cmd) (locks : List LockName) (c : Cat) (stock : Things) (ws : List PlannedWrite) (start : Stage) (took : Things) (x : Cat) (bs : List Block) (own : Owners) (k : ℕ)
-    → StandsAt c n cmd start x → Spells g bs own x → Outs n own took stock → Steps g n cmd locks c stock ws bs own → k ≤ length ws → Reached g n cmd locks c stock ws start took bs own k
+abbrev pub StepsReach : End → Type 0
+StepsReach end = (g : Geometry) (n : ℕ) (cmd : Option Cmd) (locks : List LockName) (c : Cat) (stock : Things) (ws : List PlannedWrite) (start : Stage) (took : Things) (x : Cat) (bs : List Block) (own : Owners) (k : ℕ)
+    → StandsAt c n cmd start x → Spells g bs own x → Outs n own took stock → Steps end g n cmd locks c stock ws bs own → k ≤ length ws → Reached g n cmd locks c stock ws start took bs own k
 
--- a plan is lawful that is a chain of writes on all blocks of its law
+-- what the whole of a plan ends with where its reply to the command x is r: the last stage's catalogue, with which the reply goes
+abbrev pub Replied : Geometry → ℕ → UnderWay → Cmd → Reply → Cat → Things → End
+Replied g n u x r c stock bs own =
+    (d : Cat) × StandsAt c n u.cmd (stage_after (first_stage u.cmd) u.plan) d × Spells g bs own d × Outs n own (outs_after u.took u.plan) stock × (opens : List (Option Open)) × Answer c n x r (record d { opens = opens })
+
+-- a plan that is a chain of writes to this end, on all blocks of its law
+abbrev pub IsChain : Geometry → ℕ → UnderWay → Cmd → Reply → Type 0
+IsChain g n u x r = (base : List Block) (own : Owners) (c : Cat) (stock : Things) → Spells g base own c → u.knows c ≡ true → StandsIn base u.seen → Outs n own u.took stock
+    → Steps (Replied g n u x r c stock) g n u.cmd u.write c stock u.plan base own
+
+-- is lawful, and so is its reply
 abbrev pub StepsLawful : Type 0
-StepsLawful = (g : Geometry) (n : ℕ) (u : UnderWay)
-    → ((base : List Block) (own : Owners) (c : Cat) (stock : Things) → Spells g base own c → u.knows c ≡ true → StandsIn base u.seen → Outs n own u.took stock → Steps g n u.cmd u.write c stock u.plan base own)
-    → IsLawful g n u
+StepsLawful = (g : Geometry) (n : ℕ) (u : UnderWay) (x : Cmd) (r : Reply) → IsChain g n u x r → IsLawful g n u
+
+abbrev pub StepsReply : Type 0
+StepsReply = (g : Geometry) (n : ℕ) (u : UnderWay) (x : Cmd) (r : Reply) → IsChain g n u x r → IsReply g n u x r
 
 -- The kinds of writes as steps: x is the catalogue that the blocks spell before the write.
 pub record StepKinds (g : Geometry) (n : ℕ) (cmd : Option Cmd) (locks : List LockName) (c : Cat) (stock : Things) : Type 0 where

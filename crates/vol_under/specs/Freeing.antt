@@ -15,7 +15,7 @@ use Rattle.vol_spell.specs.Reading.{owner_at}
 use Rattle.vol_spell.specs.Spelling.{Spells}
 use Rattle.vol_under.specs.UnderWay.{PlannedWrite, bare, StandsAt}
 use Rattle.vol_under.specs.Keeping.{Refills}
-use Rattle.vol_under.specs.Chains.{IsStep, Steps}
+use Rattle.vol_under.specs.Chains.{IsStep, End, Steps}
 use Rattle.vol_under.specs.Refilling.{AreGiven}
 
 -- a write to a block that node n has outside, at stage s and with these things outside after it
@@ -26,11 +26,11 @@ pub record IsOutsideWrite (g : Geometry) (n : ℕ) (own : Owners) (s : Stage) (o
   pub outs : w.outs ≡ o
 
 -- such writes are steps, and so are the writes behind them that are steps on what they leave
-abbrev pub OutsideSeries : Type 0
-OutsideSeries = (g : Geometry) (n : ℕ) (cmd : Option Cmd) (locks : List LockName) (c x : Cat) (stock o : Things) (s : Stage) (vs ws : List PlannedWrite) (bs : List Block) (own : Owners)
+abbrev pub OutsideSeries : End → Type 0
+OutsideSeries end = (g : Geometry) (n : ℕ) (cmd : Option Cmd) (locks : List LockName) (c x : Cat) (stock o : Things) (s : Stage) (vs ws : List PlannedWrite) (bs : List Block) (own : Owners)
     → Spells g bs own x → StandsAt c n cmd s x → Outs n own o stock → ((w : PlannedWrite) → Has vs w → IsOutsideWrite g n own s o w)
-    → (Spells g (written (bare vs) bs) own x → Steps g n cmd locks c stock ws (written (bare vs) bs) own)
-    → Steps g n cmd locks c stock (vs ++ ws) bs own
+    → (Spells g (written (bare vs) bs) own x → Steps end g n cmd locks c stock ws (written (bare vs) bs) own)
+    → Steps end g n cmd locks c stock (vs ++ ws) bs own
 
 -- what a bitmap write does with a node's stock, it may do with what a command took, the stock being what it leaves: a step
 abbrev pub RefillStep : Type 0
@@ -57,8 +57,8 @@ FreesInTurn g s numbers end [] bs left = left ≡ end
 FreesInTurn g s numbers end (w ∷ ws) bs left = (rest : List ℕ) × IsFreeing g s numbers left rest bs w × FreesInTurn g s numbers end ws (slice_set bs w.lbn w.block) rest
 
 -- such writes are steps, and so are the writes behind them that are steps on what they leave
-abbrev pub FreeSeries : Type 0
-FreeSeries = (g : Geometry) (n : ℕ) (cmd : Option Cmd) (locks : List LockName) (c x : Cat) (stock : Things) (s : Stage) (numbers left end : List ℕ) (vs ws : List PlannedWrite) (bs : List Block) (own : Owners)
-    → Spells g bs own x → StandsAt c n cmd s x → Outs n own (record { clusters = left; numbers = numbers }) stock → FreesInTurn g s numbers end vs bs left
-    → ((new : Owners) → Spells g (written (bare vs) bs) new x → Outs n new (record { clusters = end; numbers = numbers }) stock → Steps g n cmd locks c stock ws (written (bare vs) bs) new)
-    → Steps g n cmd locks c stock (vs ++ ws) bs own
+abbrev pub FreeSeries : End → Type 0
+FreeSeries end = (g : Geometry) (n : ℕ) (cmd : Option Cmd) (locks : List LockName) (c x : Cat) (stock : Things) (s : Stage) (numbers left rest : List ℕ) (vs ws : List PlannedWrite) (bs : List Block) (own : Owners)
+    → Spells g bs own x → StandsAt c n cmd s x → Outs n own (record { clusters = left; numbers = numbers }) stock → FreesInTurn g s numbers rest vs bs left
+    → ((new : Owners) → Spells g (written (bare vs) bs) new x → Outs n new (record { clusters = rest; numbers = numbers }) stock → Steps end g n cmd locks c stock ws (written (bare vs) bs) new)
+    → Steps end g n cmd locks c stock (vs ++ ws) bs own

@@ -15,7 +15,7 @@ use Rattle.vol_spell.specs.Reading.{IsFileNumber, fields_told, runs_told, body_p
 use Rattle.vol_spell.specs.Spelling.{dir_found, Spells}
 use Rattle.vol_spell.specs.Views.{IsFileAt}
 use Rattle.vol_under.specs.UnderWay.{PlannedWrite, bare, StandsAt}
-use Rattle.vol_under.specs.Chains.{Steps}
+use Rattle.vol_under.specs.Chains.{End, Steps}
 
 -- the slot of file i that the header h and these blocks tell
 abbrev pub slot_told : Geometry → ℕ → Block → List Block → Slot
@@ -44,9 +44,9 @@ BodyMoves g n cmd c x i h o [] body = Unit {0}
 BodyMoves g n cmd c x i h o (m ∷ ms) body = IsBodyMove g n cmd c x i h o m.1 m.0 (slice_set body m.0 m.1.block) × BodyMoves g n cmd c x i h o ms (slice_set body m.0 m.1.block)
 
 -- such writes are steps, and so are the writes behind them that are steps on what they leave
-abbrev pub BodySeries : Type 0
-BodySeries = (g : Geometry) (n : ℕ) (cmd : Option Cmd) (locks : List LockName) (c x : Cat) (stock o : Things) (i : ℕ) (h : Block) (body : List Block) (ms : List (ℕ × PlannedWrite)) (ws : List PlannedWrite) (bs : List Block) (own : Owners)
+abbrev pub BodySeries : End → Type 0
+BodySeries end = (g : Geometry) (n : ℕ) (cmd : Option Cmd) (locks : List LockName) (c x : Cat) (stock o : Things) (i : ℕ) (h : Block) (body : List Block) (ms : List (ℕ × PlannedWrite)) (ws : List PlannedWrite) (bs : List Block) (own : Owners)
     → IsFileNumber g i → Spells g bs own x → IsFileAt g bs i h body → Outs n own o stock → BodyMoves g n cmd c x i h o ms body
     → (Spells g (written (bare (plan_of ms)) bs) own (with_slot x i (slot_told g i h (body_after ms body))) → IsFileAt g (written (bare (plan_of ms)) bs) i h (body_after ms body)
-    → Steps g n cmd locks c stock ws (written (bare (plan_of ms)) bs) own)
-    → Steps g n cmd locks c stock (plan_of ms ++ ws) bs own
+    → Steps end g n cmd locks c stock ws (written (bare (plan_of ms)) bs) own)
+    → Steps end g n cmd locks c stock (plan_of ms ++ ws) bs own

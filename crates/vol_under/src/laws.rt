@@ -13,7 +13,7 @@ ghost use Rattle.vol_under.specs.Refilling.{TakesClusters, GivesClusters, TakesN
 ghost use Rattle.vol_under.specs.Shortage.{OutAlike, FreeByBits};
 ghost use Rattle.vol_under.specs.Opens.{StagesKeepOpens};
 ghost use Rattle.vol_under.specs.Stopping.{DriveSpells, WorldStops};
-ghost use Rattle.vol_under.specs.Chains.{StepsReach, StepsLawful, StepKinds};
+ghost use Rattle.vol_under.specs.Chains.{anywhere, StepsReach, StepsLawful, StepsReply, StepKinds};
 ghost use Rattle.vol_under.specs.Filing.{FileTakes, FileGives};
 ghost use Rattle.vol_under.specs.Series.{BodySeries};
 ghost use Rattle.vol_under.specs.Freeing.{OutsideSeries, RefillStep, FreeSeries};
@@ -164,7 +164,7 @@ pub fn world_stops()
 
 /// A chain of writes, each of which takes blocks that spell a stage to blocks that spell the next, leaves its stages.
 pub fn steps_reach()
-    ensures { StepsReach }
+    ensures { StepsReach anywhere }
 {}
 
 /// A plan that is such a chain, on all blocks of its law, is lawful.
@@ -191,13 +191,13 @@ pub fn file_gives()
 /// Writes in turn to the blocks of one file are steps of a plan, and so are the writes behind them that are steps on what they
 /// leave.
 pub fn body_series()
-    ensures { BodySeries }
+    ensures { BodySeries anywhere }
 {}
 
 /// Writes in turn to blocks that a node has outside are steps of a plan, and so are the writes behind them that are steps on what
 /// they leave.
 pub fn outside_series()
-    ensures { OutsideSeries }
+    ensures { OutsideSeries anywhere }
 {}
 
 /// A bitmap write of the space rule is a step of a plan, with what the command took in place of the stock.
@@ -208,5 +208,5 @@ pub fn refill_step()
 /// Writes in turn to the storage bitmap that make clusters of a command free are steps of a plan, and so are the writes behind
 /// them that are steps on what they leave.
 pub fn free_series()
-    ensures { FreeSeries }
+    ensures { FreeSeries anywhere }
 {}
