@@ -1,5 +1,5 @@
 -- Writes within a block keep it whole.
-use Rattle.std.proofs.Common.{◌≡◌, ◌∙◌, ◌+◌, ◌≤◌, ◌++◌, ℕ, true, List, [], ◌∷◌, take, drop, length, nat_le, arith, lit<}
+use Rattle.std.proofs.Common.{◌≡◌, ◌∙◌, ◌+◌, ◌++◌, ℕ, true, [], ◌∷◌, take, drop, length, nat_le, arith, lit<}
 use Rattle.std.proofs.lemmas.Bool.{and_parts}
 use Rattle.byteorder.specs.Endian.{little_bytes}
 use Rattle.byteorder.specs.Numbers.{length-bytes_low_first}
@@ -20,7 +20,7 @@ whole_put b o bytes whole are fits =
     record {
       long = length-put b o bytes (omega arith) ∙ whole.long;
       bytes = bytes-append (take o b) (bytes ++ drop (o + length bytes) b) (bytes-take o b whole.bytes)
-      (bytes-append bytes (drop (o + length bytes) b) are (bytes-drop (o + length bytes) b whole.bytes));
+          (bytes-append bytes (drop (o + length bytes) b) are (bytes-drop (o + length bytes) b whole.bytes));
     }
 
 pub whole_field : WholeField

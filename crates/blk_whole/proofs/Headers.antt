@@ -1,5 +1,5 @@
 -- Headers, and their slots when they are free.
-use Rattle.std.proofs.Common.{◌≡◌, ◌+◌, ◌-◌, ◌*◌, ◌/◌, ◌^◌, ◌≤◌, ◌<◌, ◌%◌, ◌++◌, ◌&&◌, ℕ, Bool, true, false, List, [], ◌∷◌, take, drop, length, length-append, length-take, replicate, nat_lt, if◌then◌else◌, refl, arith, lit<}
+use Rattle.std.proofs.Common.{◌≡◌, ◌+◌, ◌-◌, ◌*◌, ◌/◌, ◌^◌, ◌≤◌, ◌%◌, ◌++◌, ◌&&◌, ℕ, Bool, true, false, List, [], ◌∷◌, take, drop, length, length-append, length-take, replicate, nat_lt, if◌then◌else◌, refl, arith, lit<}
 use Rattle.std.specs.Prelude.{flat_map}
 use Rattle.std.proofs.lemmas.List.{length-replicate}
 use Rattle.vol_words.specs.Fields.{Block, IsBytes, IsWholeBlock, put, put_field}
@@ -8,7 +8,7 @@ use Rattle.vol_words.proofs.Tables.{rises}
 use Rattle.fx_header.specs.declared.run.Run.{Run}
 use Rattle.fx_header.specs.declared.slot.Hdr.{Hdr}
 use Rattle.fx_header.specs.Pointers.{word, long, first_word, pointer_bytes, merged, map_words, blocks_in}
-use Rattle.fx_header.specs.Headers.{has_offsets, map_offset, map_area, high_first_rows, area_rows, size_rows, owner_rows, new_rows, filled, with_name, header_bytes, with_flags, marked, scattered, with_mark, with_end, with_map, with_runs, freed}
+use Rattle.fx_header.specs.Headers.{has_offsets, map_offset, map_area, high_first_rows, area_rows, size_rows, owner_rows, new_rows, filled, with_name, header_bytes, with_flags, marked, scattered, with_mark, with_end, with_runs, freed}
 use Rattle.fx_header.proofs.SoundLemmas.{areas-of}
 use Rattle.blk_whole.specs.Laws.{WholeHeader, WholeRuns, WholeMark, WholeEnd, WholeMarked, WholeScattered, WholeFreed}
 use Rattle.blk_whole.proofs.Bytes.{bytes-none, bytes-append, bytes-take, bytes-drop, bytes-replicate, bytes-little}

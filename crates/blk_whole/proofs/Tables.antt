@@ -1,8 +1,8 @@
 -- Rows of quota blocks and bits of bitmaps.
-use Rattle.std.proofs.Common.{◌≡◌, ◌+◌, ◌*◌, ◌<◌, ◌≤◌, ℕ, zero, suc, Bool, true, List, [], ◌∷◌, map, length, bit_and, if◌then◌else◌, refl, arith}
+use Rattle.std.proofs.Common.{◌≡◌, ◌+◌, ◌*◌, ◌<◌, ℕ, zero, suc, Bool, true, map, length, bit_and, if◌then◌else◌, refl, arith}
 use Rattle.std.specs.List.{range_with_len}
 use Rattle.std.proofs.lemmas.Bool.Decides.{nat_tests}
-use Rattle.vol_words.specs.Fields.{Block, IsBytes, IsWholeBlock}
+use Rattle.vol_words.specs.Fields.{IsBytes, IsWholeBlock}
 use Rattle.vol_words.proofs.Tables.{rises}
 use Rattle.fx_quota.specs.declared.types.Row.{Row}
 use Rattle.fx_quota.specs.Rows.{flags_at, row_start, row_table, row_put, row_cleared}

@@ -1,5 +1,5 @@
 -- What each writer of a format makes is a whole block, and what is made of a whole block is one.
-use Rattle.std.specs.Prelude.{◌≡◌, ◌+◌, ◌*◌, ◌^◌, ◌≤◌, ◌<◌, ℕ, Bool, List, Some, None, length, IsTrue}
+use Rattle.std.specs.Prelude.{◌≡◌, ◌+◌, ◌*◌, ◌≤◌, ◌<◌, ℕ, Bool, List, Some, None, length, IsTrue}
 use Rattle.vol_words.specs.Fields.{Block, IsBytes, IsWholeBlock, AreWholeBlocks, put, put_field, summed}
 use Rattle.vol_words.specs.Tables.{zeros}
 use Rattle.vol_words.specs.Packing.{size}
@@ -86,11 +86,10 @@ WholeEntries = (es : List RawEnt) → Each IsInForm es → Each IsRanged es → 
 abbrev pub WriteWholeBlocks : List Move → Type 0
 WriteWholeBlocks ws = Each (λ w. IsWholeBlock w.block) ws
 
--- an insertion into whole blocks; the version limit and the flags of the entry are not looked at
+-- an insertion into whole blocks
 abbrev pub WholeInsertion : Type 0
 WholeInsertion =
-    (old : List Block) (e : RawEnt) (ws : List Move) → AreWholeBlocks old → IsInForm e → e.seq < 2 ^ 16 → insertion old e ≡ Some ws
-    → WriteWholeBlocks ws
+    (old : List Block) (e : RawEnt) (ws : List Move) → AreWholeBlocks old → IsInForm e → insertion old e ≡ Some ws → WriteWholeBlocks ws
 
 -- a removal from whole blocks
 abbrev pub WholeRemoval : Type 0

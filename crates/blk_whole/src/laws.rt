@@ -1,6 +1,6 @@
 //! The laws, each a statement for every value that it speaks of.
 
-ghost use Rattle.blk_whole.specs.Laws.{WholeZeros, WholePut, WholeField, WholeSummed, WholeRow, WholeCleared, WholeBits, WholeHeader, WholeRuns, WholeMark, WholeEnd, WholeMarked, WholeScattered, WholeFreed};
+ghost use Rattle.blk_whole.specs.Laws.{WholeZeros, WholePut, WholeField, WholeSummed, WholeRow, WholeCleared, WholeBits, WholeHeader, WholeRuns, WholeMark, WholeEnd, WholeMarked, WholeScattered, WholeFreed, WholeEntries, WholeInsertion, WholeRemoval};
 
 /// A block of zeros is whole, and a write within a whole block keeps it whole.
 pub fn fields_are_whole()
@@ -30,4 +30,11 @@ pub fn headers_are_whole()
     ensures marked { WholeMarked }
     ensures scattered { WholeScattered }
     ensures freed { WholeFreed }
+{}
+
+/// A block of entries is whole, and so is each block that an insertion or a removal writes.
+pub fn directories_are_whole()
+    ensures entries { WholeEntries }
+    ensures insertion { WholeInsertion }
+    ensures removal { WholeRemoval }
 {}
