@@ -8,6 +8,7 @@ use crate::cluster::Core;
 use crate::node::Node;
 use crate::world::World;
 use blk_drive::{ImageDev, Mirror};
+use blk_whole::blocks_are_whole;
 use lock_db::LockDb;
 use node_past::Past;
 use op_law::{NoMemory, Operation, Seen, SeenBlocks, SeenLocks};
@@ -16,7 +17,6 @@ use std::alloc::Global;
 use vol_analyze::{Finding, accepted};
 use vol_faults::geometry;
 use vol_parts::Geometry;
-use vol_spell::blocks_are_whole;
 
 /// Why a volume was not mounted.
 #[derive(Drop)]

@@ -12,11 +12,12 @@ use crate::lists::{SeenBlocks, SeenLocks};
 use crate::need::{Need, Plan};
 use crate::operation::Operation;
 use crate::seen::Seen;
+use blk_whole::blocks_are_whole;
 use lock_db::LockName;
 use plain_cat::{Clusters, Mode, NoMemory};
 use plain_vol::is_accounted;
 use std::alloc::Global;
-use vol_spell::{blocks_are_whole, geometry, read_volume};
+use vol_spell::{geometry, read_volume};
 use vol_words::Block;
 
 // What a command has seen when it has seen nothing, or none where the blocks have a fatal finding, or their quotas are not in

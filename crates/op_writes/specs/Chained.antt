@@ -12,7 +12,7 @@ use Rattle.vol_spell.specs.Reading.{IsFileNumber}
 use Rattle.vol_spell.specs.Spelling.{Spells}
 use Rattle.vol_spell.specs.Views.{IsSameFile}
 use Rattle.vol_under.specs.UnderWay.{bare, StandsAt}
-use Rattle.vol_under.specs.Chains.{Steps}
+use Rattle.vol_under.specs.Chains.{End, Steps}
 use Rattle.op_law.specs.declared.need.PlanWrite.{PlanWrite}
 use Rattle.op_law.specs.Fits.{things}
 use Rattle.op_law.specs.Laws.{planned}
@@ -27,9 +27,9 @@ pub record Chain : Type 0 where
   pub cat : Cat
   pub stock : Things
 
--- these writes are steps of the chain
-abbrev pub StepsOf : Chain → List PlanWrite → List Block → Owners → Type 0
-StepsOf k ws bs own = Steps k.geometry k.node k.cmd k.locks k.cat k.stock (map planned ws) bs own
+-- these writes are steps of the chain, to this end
+abbrev pub StepsOf : End → Chain → List PlanWrite → List Block → Owners → Type 0
+StepsOf end k ws bs own = Steps end k.geometry k.node k.cmd k.locks k.cat k.stock (map planned ws) bs own
 
 -- the stage s of the chain has the catalogue x
 abbrev pub StageOf : Chain → Stage → Cat → Type 0

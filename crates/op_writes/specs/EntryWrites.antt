@@ -16,6 +16,7 @@ use Rattle.vol_owners.specs.Places.{blocks_at}
 use Rattle.vol_parts.specs.declared.geometry.Geometry.{Geometry}
 use Rattle.vol_spell.specs.Reading.{IsFileNumber, header_block}
 use Rattle.vol_spell.specs.Spelling.{Spells}
+use Rattle.vol_under.specs.Chains.{End}
 use Rattle.vol_under.specs.Guards.{Lock, guard_of}
 use Rattle.op_law.specs.declared.need.PlanWrite.{PlanWrite}
 use Rattle.op_law.specs.Rows.{places_in}
@@ -42,13 +43,13 @@ pub record CanBeEntered (g : Geometry) (x : Cat) (n : ℕ) (d : File) (e : DirEn
 
 -- the writes are steps: all but the last leave the stage `before`, and that the stage `after`. So are the writes behind them that
 -- are steps on what they leave.
-abbrev pub EntrySteps : Type 0
-EntrySteps = (k : Chain) (dir : Fid) (d : File) (e : DirEnt) (before after : Stage) (ws : List PlanWrite) (x : Cat) (bs : List Block) (own : Owners)
+abbrev pub EntrySteps : End → Type 0
+EntrySteps end = (k : Chain) (dir : Fid) (d : File) (e : DirEnt) (before after : Stage) (ws : List PlanWrite) (x : Cat) (bs : List Block) (own : Owners)
     → StandsOn k empty_handed x bs own → CanBeEntered k.geometry x dir.num d e → StageOf k before x → StageOf k after (with_entries x dir.num d (inserted e d.entries))
     → (StandsOn k empty_handed (with_entries x dir.num d (inserted e d.entries)) (after_writes (insertion_writes (dir_in k.geometry bs dir) e before after) bs) own
     → OthersStay k.geometry dir.num bs (after_writes (insertion_writes (dir_in k.geometry bs dir) e before after) bs)
-    → StepsOf k ws (after_writes (insertion_writes (dir_in k.geometry bs dir) e before after) bs) own)
-    → StepsOf k (insertion_writes (dir_in k.geometry bs dir) e before after ++ ws) bs own
+    → StepsOf end k ws (after_writes (insertion_writes (dir_in k.geometry bs dir) e before after) bs) own)
+    → StepsOf end k (insertion_writes (dir_in k.geometry bs dir) e before after ++ ws) bs own
 
 -- what they touch is guarded by the directory's lock
 abbrev pub EntryGuards : Type 0

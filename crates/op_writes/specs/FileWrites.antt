@@ -12,6 +12,7 @@ use Rattle.vol_owners.specs.Lists.{Has}
 use Rattle.vol_owners.specs.Owners.{Owners}
 use Rattle.vol_parts.specs.declared.geometry.Geometry.{Geometry}
 use Rattle.vol_spell.specs.Reading.{IsFileNumber}
+use Rattle.vol_under.specs.Chains.{End}
 use Rattle.vol_under.specs.Guards.{guard_of, MayWrite}
 use Rattle.op_law.specs.declared.need.PlanWrite.{PlanWrite}
 use Rattle.op_law.specs.Writing.{holding, empty_handed, header_write}
@@ -40,12 +41,12 @@ abbrev pub file_writes : Geometry → Fid → ℕ → NewEntry → List ℕ → 
 file_writes g parent n e qs = body_writes g n e.file qs ++ header_write g n (new_header g parent n e qs) stage.Lost empty_handed ∷ []
 
 -- the writes are steps, and so are the writes behind them that are steps on what they leave
-abbrev pub FileSteps : Type 0
-FileSteps = (k : Chain) (parent : Fid) (n : ℕ) (e : NewEntry) (qs : List ℕ) (ws : List PlanWrite) (x : Cat) (bs : List Block) (own : Owners)
+abbrev pub FileSteps : End → Type 0
+FileSteps end = (k : Chain) (parent : Fid) (n : ℕ) (e : NewEntry) (qs : List ℕ) (ws : List PlanWrite) (x : Cat) (bs : List Block) (own : Owners)
     → StandsOn k (holding qs (Some n)) x bs own → CanBeMade k.geometry parent n e qs → Has k.locks (S n) → StageOf k stage.Charged x → StageOf k stage.Lost (with_file x n e.file)
     → ((new : Owners) → StandsOn k empty_handed (with_file x n e.file) (after_writes (file_writes k.geometry parent n e qs) bs) new → OthersStay k.geometry n bs (after_writes (file_writes k.geometry parent n e qs) bs)
-    → StepsOf k ws (after_writes (file_writes k.geometry parent n e qs) bs) new)
-    → StepsOf k (file_writes k.geometry parent n e qs ++ ws) bs own
+    → StepsOf end k ws (after_writes (file_writes k.geometry parent n e qs) bs) new)
+    → StepsOf end k (file_writes k.geometry parent n e qs ++ ws) bs own
 
 -- what they touch is guarded by the lock of the number, or outside at the node
 abbrev pub FileGuards : Type 0

@@ -14,6 +14,7 @@ use Rattle.vol_parts.specs.declared.geometry.Geometry.{Geometry}
 use Rattle.vol_parts.specs.Catalogues.{quota_row}
 use Rattle.vol_spell.specs.Reading.{quota_places}
 use Rattle.vol_spell.specs.Spelling.{Spells}
+use Rattle.vol_under.specs.Chains.{End}
 use Rattle.vol_under.specs.Guards.{Lock, guard_of}
 use Rattle.op_law.specs.declared.need.PlanWrite.{PlanWrite}
 use Rattle.op_law.specs.Writing.{Held}
@@ -34,13 +35,13 @@ abbrev pub row_writes : Geometry → List Block → Uic → (Row → Row) → St
 row_writes g bs owner change s out = owner_write g (blocks_at bs (quota_places g)) owner change s out
 
 -- the write is a step, and so are the writes behind it that are steps on what it leaves
-abbrev pub RowSteps : Type 0
-RowSteps = (k : Chain) (owner : Uic) (change : Row → Row) (rows : QuotaRow → QuotaRow) (s : Stage) (out : Held) (ws : List PlanWrite) (x : Cat) (bs : List Block) (own : Owners)
+abbrev pub RowSteps : End → Type 0
+RowSteps end = (k : Chain) (owner : Uic) (change : Row → Row) (rows : QuotaRow → QuotaRow) (s : Stage) (out : Held) (ws : List PlanWrite) (x : Cat) (bs : List Block) (own : Owners)
     → StandsOn k out x bs own → IsRowChange change rows → ((r : Row) → r.uic ≡ owner.0 → Fits r → Fits (change r)) → StageOf k s (with_changed owner rows x)
     → (StandsOn k out (with_changed owner rows x) (after_writes (row_writes k.geometry bs owner change s out) bs) own
     → FilesStay k.geometry bs (after_writes (row_writes k.geometry bs owner change s out) bs)
-    → StepsOf k ws (after_writes (row_writes k.geometry bs owner change s out) bs) own)
-    → StepsOf k (row_writes k.geometry bs owner change s out ++ ws) bs own
+    → StepsOf end k ws (after_writes (row_writes k.geometry bs owner change s out) bs) own)
+    → StepsOf end k (row_writes k.geometry bs owner change s out ++ ws) bs own
 
 -- the lock Q guards what it writes
 abbrev pub RowGuards : Type 0

@@ -8,11 +8,12 @@ ghost use Rattle.vol_faults.specs.Conditions.{IsSize};
 ghost use Rattle.vol_analyze.specs.Judging.{IsJudged};
 
 use crate::warnings::all_warnings;
+use blk_whole::blocks_are_whole;
 use fx_home::read_home;
 use plain_cat::{Cat, NoMemory};
 use std::alloc::Global;
 use vol_parts::Finding;
-use vol_spell::{blocks_are_whole, read_fully};
+use vol_spell::read_fully;
 use vol_words::Block;
 
 // The findings that are not fatal, where the blocks tell this catalogue.

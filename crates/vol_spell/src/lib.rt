@@ -4,9 +4,7 @@
 
 pub mod laws;
 mod reading;
-mod wholeness;
 
 pub use reading::{read_fully, read_volume};
 pub use vol_faults::{free_counts, geometry};
 pub use vol_parts::{Finding, Geometry, Part, guard};
-pub use wholeness::blocks_are_whole;

@@ -1,5 +1,5 @@
 -- Plans as chains of writes.
-use Rattle.std.proofs.Common.{◌≡◌, ◌∙◌, ℕ, zero, suc, List, [], ◌∷◌, Option, Some, None, length, take, slice_set, sym, ap, subst, arith}
+use Rattle.std.proofs.Common.{◌≡◌, ℕ, zero, suc, List, [], ◌∷◌, Option, Some, None, length, take, take_all, slice_set, sym, subst, arith}
 use Rattle.lock_db.specs.declared.name.LockName.{LockName}
 use Rattle.lock_db.specs.declared.name.LockName.TheVariants.{S}
 use Rattle.plain_cat.specs.declared.command.Cmd.{Cmd}
@@ -44,7 +44,7 @@ steps_end end g n cmd locks c stock (w ∷ ws) bs own steps =
 
 -- all writes of a plan
 all_writes : (ws : List PlannedWrite) (k : ℕ) → k ≡ length ws → take k ws ≡ ws
-all_writes ws k e = ap (λ (j : ℕ). take j ws) e ∙ take-all ws
+all_writes ws k e = take_all k ws (omega arith)
 
 pub steps_reply : StepsReply
 steps_reply g n u x r chain base own c stock k spelt knows stands outs whole =

@@ -172,6 +172,11 @@ pub fn steps_lawful()
     ensures { StepsLawful }
 {}
 
+/// The reply that goes with the end of such a chain is the plan's.
+pub fn steps_reply()
+    ensures { StepsReply }
+{}
+
 /// Each kind of write is a step of a plan, under the lock of the file whose header it is.
 pub fn step_kinds()
     ensures { (g : Geometry) (n : ℕ) (cmd : Option Cmd) (locks : List LockName) (c : Cat) (stock : Things) → StepKinds g n cmd locks c stock }
