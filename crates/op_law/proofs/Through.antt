@@ -97,7 +97,7 @@ module _ (x : Cmd) (g : Geometry) (bs : List Block) (own : Owners) (c : Cat) (s 
       by_number : (t : Bool) → is_number g fid ≡ t → O (cond t (Take (S fid.num) mode (Look (S fid.num) (header_place g fid.num) next)) (refuses refusal.NoSuchFile)) []
       by_number true e =
           let is = number_is g fid e in (
-            record { new = λ h. h; mode = allowed; own = refl },
+            record { new = λ h. h; in_mode = allowed; own = refl },
             (
               under (header_place g fid.num) (header_under g bs own c s fid.num is),
               λ b at. subst (λ y. O (next y) file_held) (header_is g bs fid.num (header_place g fid.num) b refl at) (behind is),

@@ -65,7 +65,7 @@ takes_lock cmd other = false
 -- one of these, which is not held yet, in PR or PW
 pub record IsNewLock (cmd : Cmd) (locks : List (LockName × Mode)) (name : LockName) (mode : Mode) : Type 0 where
   pub new : Has (map (λ l. l.0) locks) name → ⊥
-  pub mode : Has (PR ∷ PW ∷ []) mode
+  pub in_mode : Has (PR ∷ PW ∷ []) mode
   pub own : takes_lock cmd name ≡ true
 
 -- a block of the volume, whose lock has this name and is held
