@@ -1,5 +1,5 @@
 -- The writes of a new file: a directory's own blocks, and the header.
-use Rattle.std.specs.Prelude.{◌≡◌, ◌≤◌, ◌<◌, ◌⊎◌, ◌×◌, ◌++◌, ◌^◌, ℕ, true, List, [], ◌∷◌, Some, length}
+use Rattle.std.specs.Prelude.{◌≡◌, ◌≤◌, ◌<◌, ◌⊎◌, ◌++◌, ◌^◌, ℕ, true, List, [], ◌∷◌, Some, length}
 use Rattle.vol_words.specs.Fields.{Block}
 use Rattle.vol_words.specs.Names.{is_name}
 use Rattle.lock_db.specs.declared.name.LockName.TheVariants.{S}

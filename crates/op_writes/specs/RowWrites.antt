@@ -1,13 +1,13 @@
 -- The write of an owner's quota row.
-use Rattle.std.specs.Prelude.{◌≡◌, ◌==◌, ◌++◌, ℕ, List, Option, Some, map, length, if◌then◌else◌}
+use Rattle.std.specs.Prelude.{◌≡◌, ◌==◌, ◌<◌, ◌++◌, ◌^◌, ℕ, List, Some, map, if◌then◌else◌}
 use Rattle.vol_words.specs.Fields.{Block}
 use Rattle.fx_quota.specs.declared.types.Row.{Row}
-use Rattle.fx_quota.specs.Rows.{Fits}
 use Rattle.lock_db.specs.declared.name.LockName.TheVariants.{Q}
 use Rattle.plain_cat.specs.declared.ids.Uic.{Uic}
 use Rattle.plain_cat.specs.declared.history.Stage.{Stage}
 use Rattle.plain_cat.specs.declared.cat.Cat.{Cat}
 use Rattle.plain_cat.specs.declared.cat.QuotaRow.{QuotaRow}
+use Rattle.plain_vol.specs.Lookups.{row_of}
 use Rattle.vol_owners.specs.Owners.{Owners}
 use Rattle.vol_owners.specs.Places.{blocks_at}
 use Rattle.vol_parts.specs.declared.geometry.Geometry.{Geometry}
@@ -21,10 +21,21 @@ use Rattle.op_law.specs.Writing.{Held}
 use Rattle.op_law.specs.Quotas.{owner_write}
 use Rattle.op_writes.specs.Chained.{Chain, StepsOf, StageOf, after_writes, TouchedBy, StandsOn, FilesStay}
 
+-- the numbers of a row are of 32 bits
+pub record IsInRange (r : Row) : Type 0 where
+  pub uic : r.uic < 2 ^ 32
+  pub usage : r.usage < 2 ^ 32
+  pub quota : r.quota < 2 ^ 32
+  pub over : r.over < 2 ^ 32
+
 -- a change of a row on the volume, and the same change of the catalogue's row
 pub record IsRowChange (change : Row → Row) (rows : QuotaRow → QuotaRow) : Type 0 where
   pub owner : (r : Row) → (change r).uic ≡ r.uic
   pub same : (r : Row) → quota_row (change r) ≡ rows (quota_row r)
+
+-- the row on the volume of a row of the catalogue
+abbrev pub row_for : QuotaRow → Row
+row_for r = record { uic = r.owner.0; usage = r.usage; quota = r.quota; over = r.over }
 
 -- the catalogue in which the rows of an owner are changed
 abbrev pub with_changed : Uic → (QuotaRow → QuotaRow) → Cat → Cat
@@ -37,7 +48,7 @@ row_writes g bs owner change s out = owner_write g (blocks_at bs (quota_places g
 -- the write is a step, and so are the writes behind it that are steps on what it leaves
 abbrev pub RowSteps : End → Type 0
 RowSteps end = (k : Chain) (owner : Uic) (change : Row → Row) (rows : QuotaRow → QuotaRow) (s : Stage) (out : Held) (ws : List PlanWrite) (x : Cat) (bs : List Block) (own : Owners)
-    → StandsOn k out x bs own → IsRowChange change rows → ((r : Row) → r.uic ≡ owner.0 → Fits r → Fits (change r)) → StageOf k s (with_changed owner rows x)
+    → StandsOn k out x bs own → IsRowChange change rows → ((r : QuotaRow) → row_of owner x.quota ≡ Some r → IsInRange (change (row_for r))) → StageOf k s (with_changed owner rows x)
     → (StandsOn k out (with_changed owner rows x) (after_writes (row_writes k.geometry bs owner change s out) bs) own
     → FilesStay k.geometry bs (after_writes (row_writes k.geometry bs owner change s out) bs)
     → StepsOf end k ws (after_writes (row_writes k.geometry bs owner change s out) bs) own)
