@@ -1,6 +1,5 @@
 -- A node answers: the history has one entry more, and the locks go back.
-use Rattle.std.proofs.Common.{◌≡◌, ◌≢◌, ◌≤◌, ◌<◌, ◌+◌, ◌++◌, ℕ, zero, suc, Bool, true, false, cond, List, [], ◌∷◌, Option, Some, None, length, map, take, slice_get, refl, sym, ap, subst, ◌∙◌, inl, inr, arith}
-use Rattle.std.specs.Prelude.{replicate}
+use Rattle.std.proofs.Common.{◌≡◌, ◌≢◌, ◌≤◌, ◌++◌, ℕ, zero, suc, false, List, [], ◌∷◌, Option, Some, None, length, map, take, slice_get, refl, sym, ap, subst, ◌∙◌, inl, inr, arith}
 use Rattle.std.proofs.lemmas.Bool.Decides.{nat_tests}
 use Rattle.vol_words.specs.Fields.{Block}
 use Rattle.lock_db.specs.declared.name.LockName.{LockName}
@@ -15,15 +14,14 @@ use Rattle.plain_cat.specs.declared.history.Entry.{Entry}
 use Rattle.plain_cat.specs.declared.history.Entry.TheVariants.{Done}
 use Rattle.plain_cat.specs.declared.cat.Cat.{Cat}
 use Rattle.plain_vol.specs.Answers.{Answer}
-use Rattle.plain_vol.specs.Own.{NodePast, past, after_answer, after_entry, channels_after, next_command, Own}
+use Rattle.plain_vol.specs.Own.{NodePast, past, after_answer, after_entry}
 use Rattle.node_past.specs.Laws.{is_of}
 use Rattle.node_past.proofs.Growing.{past_grows, past_of_others, own_grows, replays_grow}
-use Rattle.node_locks.specs.Held.{system_of, names_of, HoldsItsLocks, AreHeld, waits_at, held_locks, with_locks}
+use Rattle.node_locks.specs.Held.{system_of, HoldsItsLocks, AreHeld, waits_at, held_locks, with_locks}
 use Rattle.node_locks.specs.Sequences.{raised_block}
 use Rattle.node_locks.proofs.Giving.{giving_holds}
-use Rattle.node_locks.proofs.Nodes.{each}
-use Rattle.vol_owners.specs.Lists.{Has, StandsIn}
-use Rattle.vol_owners.specs.Owners.{Owners, Things, nothing, Outs}
+use Rattle.vol_owners.specs.Lists.{Has}
+use Rattle.vol_owners.specs.Owners.{nothing}
 use Rattle.vol_owners.proofs.Listing.{same_or_not}
 use Rattle.vol_parts.specs.declared.geometry.Geometry.{Geometry}
 use Rattle.vol_under.specs.UnderWay.{PlannedWrite, UnderWay, outs_after, outs_at, together, resting, idle, changed}
@@ -31,22 +29,19 @@ use Rattle.vol_under.specs.Under.{IsUnder}
 use Rattle.vol_under.specs.Answering.{IsReply}
 use Rattle.vol_under.proofs.Nodes.{changed_here, changed_else}
 use Rattle.vol_under.proofs.Steps.{nodes_alike}
-use Rattle.op_law.specs.declared.need.Need.TheVariants as need
 use Rattle.op_law.specs.declared.need.Plan.{Plan}
 use Rattle.op_law.specs.declared.need.PlanWrite.{PlanWrite}
-use Rattle.op_law.specs.declared.seen.Seen.{Seen}
-use Rattle.op_law.specs.Events.{space_of, HasNoSpace}
 use Rattle.op_law.specs.Knows.{knows}
-use Rattle.op_law.specs.Laws.{held_in, planned, under_way, IsRight}
+use Rattle.op_law.specs.Laws.{planned, under_way, IsRight}
 use Rattle.core_state.specs.Worlds.{NodeState, Plain, node_at, set_node, locks_in, locks_of}
 use Rattle.core_state.specs.Raises.{raise_of}
-use Rattle.core_state.specs.Goods.{is_run, writes_of, under_with, under_by, nodes_under, IsRunning, IsAtPlan, IsAt, HasCommand, IsNode, Good}
+use Rattle.core_state.specs.Goods.{writes_of, under_with, under_by, nodes_under, IsAtPlan, IsAt, IsNode, Good}
 use Rattle.core_state.specs.Events.{given_back, turned, answering}
 use Rattle.core_state.proofs.RunKinds.{run_knows, stays_closed}
 use Rattle.core_state.proofs.Nodes.{at_here, at_else}
 use Rattle.core_state.proofs.Driving.{wider, grants_keep}
 use Rattle.core_state.proofs.Holding.{held_grows}
-use Rattle.core_state.proofs.Running.{at_locks, are_sole}
+use Rattle.core_state.proofs.Running.{are_sole}
 use Rattle.core_state.proofs.Taking.{answers}
 use Rattle.core_state.proofs.Keeping.{altered, rebuilt, held_set}
 use Rattle.core_state.proofs.Turning.{is_right, under_command, here}

@@ -1,46 +1,30 @@
 -- A node begins a command.
-use Rattle.std.proofs.Common.{◌≡◌, ◌≢◌, ◌≤◌, ◌<◌, ◌+◌, ◌++◌, ℕ, zero, suc, Bool, true, false, List, [], ◌∷◌, Option, Some, None, length, map, slice_get, slice_set, refl, sym, ap, subst, ◌∙◌, inl, inr, arith}
-use Rattle.std.specs.Prelude.{slice_index_or, replicate}
+use Rattle.std.proofs.Common.{◌≡◌, ◌≢◌, ℕ, true, false, List, [], Option, Some, None, map, refl, sym, ap, subst, ◌∙◌}
+use Rattle.std.specs.Prelude.{replicate}
 use Rattle.vol_words.specs.Fields.{Block}
 use Rattle.lock_db.specs.declared.name.LockName.{LockName}
 use Rattle.lock_db.specs.declared.resource.Resource.{Resource}
-use Rattle.lock_db.specs.Tables.{IsTable, asked}
 use Rattle.plain_cat.specs.declared.mode.Mode.{Mode}
 use Rattle.plain_cat.specs.declared.mode.Mode.TheVariants.{PR, PW}
 use Rattle.plain_cat.specs.declared.command.Cmd.{Cmd}
-use Rattle.plain_cat.specs.declared.cat.Cat.{Cat}
 use Rattle.plain_vol.specs.Own.{past, next_command}
-use Rattle.node_locks.specs.Held.{system_of, names_of, AreHeld, waits_at, held_locks, with_locks}
-use Rattle.node_locks.proofs.Asking.{asking_holds}
-use Rattle.node_locks.proofs.Keeping.{writers_are_sole, all_are_held}
+use Rattle.node_locks.specs.Held.{AreHeld, waits_at, held_locks}
 use Rattle.op_law.proofs.Going.{seen_goes_on}
-use Rattle.vol_owners.specs.Lists.{Has, Touches, StandsIn}
-use Rattle.vol_owners.specs.Owners.{Owners, nothing, Outs}
-use Rattle.vol_parts.specs.declared.geometry.Geometry.{Geometry}
-use Rattle.vol_spell.specs.Spelling.{Spells}
-use Rattle.vol_under.specs.Guards.{guard_of, MayWrite, MayLook}
-use Rattle.vol_under.specs.UnderWay.{PlannedWrite, UnderWay, resting, changed, AreSole}
+use Rattle.vol_owners.specs.Owners.{nothing}
+use Rattle.vol_under.specs.UnderWay.{UnderWay, resting, changed, AreSole}
 use Rattle.vol_under.specs.Under.{IsUnder}
-use Rattle.op_law.specs.declared.need.Need.{Need}
-use Rattle.op_law.specs.declared.need.Need.TheVariants as need
 use Rattle.op_law.specs.declared.need.Plan.{Plan}
-use Rattle.op_law.specs.declared.need.PlanWrite.{PlanWrite}
-use Rattle.op_law.specs.declared.need.Ask.{Ask as PlanAsk}
 use Rattle.op_law.specs.declared.seen.Seen.{Seen}
-use Rattle.op_law.specs.Events.{space_of, HasNoSpace}
-use Rattle.op_law.specs.Needs.{IsNext, need_of}
-use Rattle.op_law.specs.Fits.{HasSeen, things, IsSeenOn}
-use Rattle.op_law.specs.Going.{GoesOn, SeenGoesOn, with_lock, with_block}
-use Rattle.op_law.specs.Knows.{may_ask, knows}
-use Rattle.op_law.specs.Laws.{held_in, planned, under_way, MayNeed, IsRight, IsPlan, Lawful}
-use Rattle.core_state.specs.Worlds.{NodeState, Plain, node_at, set_node, with_node, locks_in, locks_of}
-use Rattle.core_state.specs.Goods.{is_run, writes_of, under_with, nodes_under, IsRunning, AreLocked, IsAtPlan, IsAt, IsIdle, HasCommand, IsNode, Good}
-use Rattle.core_state.specs.Events.{begun, block_at, turned, asking, looking, deciding, writing, leaving}
-use Rattle.core_state.proofs.Nodes.{at_here, at_else}
-use Rattle.core_state.proofs.Holding.{held_grows}
-use Rattle.core_state.proofs.Running.{at_locks, under_now, under_here, are_sole}
-use Rattle.core_state.proofs.Taking.{takes_up, looks, decides, writes}
-use Rattle.core_state.proofs.Keeping.{altered, rebuilt, held_set, held_same}
+use Rattle.op_law.specs.Fits.{things}
+use Rattle.op_law.specs.Going.{GoesOn}
+use Rattle.op_law.specs.Knows.{knows}
+use Rattle.op_law.specs.Laws.{held_in, planned, Lawful}
+use Rattle.core_state.specs.Worlds.{NodeState, Plain, node_at, with_node, locks_in, locks_of}
+use Rattle.core_state.specs.Goods.{writes_of, under_with, nodes_under, IsAtPlan, IsIdle, HasCommand, IsNode, Good}
+use Rattle.core_state.specs.Events.{begun}
+use Rattle.core_state.proofs.Running.{under_now, under_here, are_sole}
+use Rattle.core_state.proofs.Taking.{takes_up}
+use Rattle.core_state.proofs.Keeping.{rebuilt, held_same}
 
 -- a node under way by what it is made of
 abbrev shape : ℕ → Cmd → Seen → List Resource → List (LockName × Mode) → List (ℕ × Block) → List ℕ → Option ℕ → Option Plan → ℕ → UnderWay

@@ -1,5 +1,5 @@
 -- What an event of one node leaves of the invariant.
-use Rattle.std.proofs.Common.{◌≡◌, ◌≢◌, ◌++◌, ℕ, Bool, true, false, List, [], ◌∷◌, Option, Some, None, length, refl, sym, ap, subst, ◌∙◌, inl, inr, arith}
+use Rattle.std.proofs.Common.{◌≡◌, ◌≢◌, ℕ, false, List, Option, Some, None, sym, ap, subst, ◌∙◌, inl, inr, arith}
 use Rattle.std.proofs.lemmas.Bool.Decides.{nat_tests}
 use Rattle.vol_words.specs.Fields.{Block}
 use Rattle.lock_db.specs.declared.name.LockName.{LockName}
@@ -12,7 +12,7 @@ use Rattle.node_locks.specs.Held.{HoldsItsLocks, AreHeld, waits_at, with_locks}
 use Rattle.vol_owners.proofs.Listing.{same_or_not}
 use Rattle.op_law.specs.declared.need.Plan.{Plan}
 use Rattle.core_state.specs.Worlds.{NodeState, Plain, node_at, set_node, locks_in, locks_of}
-use Rattle.core_state.specs.Goods.{IsRunning, AreLocked, IsAtPlan, IsAt, HasCommand, IsNode, Good}
+use Rattle.core_state.specs.Goods.{IsRunning, AreLocked, IsAtPlan, HasCommand, IsNode, Good}
 use Rattle.core_state.proofs.Nodes.{at_here, at_else, length_node}
 
 -- the world after an event: other locks, blocks, nodes and history

@@ -1,5 +1,5 @@
 -- A mounted world keeps the rules.
-use Rattle.std.proofs.Common.{◌≡◌, ◌≤◌, ◌<◌, ◌+◌, ◌&&◌, ℕ, zero, suc, Bool, true, false, List, [], ◌∷◌, Option, Some, None, Result, Ok, Err, length, map, slice_get, refl, sym, ap, subst, ◌∙◌, arith}
+use Rattle.std.proofs.Common.{◌≡◌, ◌≤◌, ◌+◌, ◌&&◌, ℕ, zero, suc, Bool, true, false, List, [], ◌∷◌, Option, Some, None, Result, Ok, length, slice_get, refl, sym, ap, subst, arith}
 use Rattle.std.specs.Prelude.{◌==◌, All, IsTrue, replicate}
 use Rattle.std.specs.List.{list_any}
 use Rattle.std.proofs.lemmas.Bool.Decides.{nat_tests}
@@ -8,16 +8,14 @@ use Rattle.fx_home.specs.declared.home.Home.{Home}
 use Rattle.fx_home.specs.declared.home.HomeFault.{HomeFault}
 use Rattle.fx_home.specs.Homes.{home_read}
 use Rattle.lock_db.specs.declared.name.LockName.{LockName}
-use Rattle.lock_db.specs.declared.resource.Resource.{Resource}
 use Rattle.plain_cat.specs.InForm.{InForm, is_within, line_in_form}
 use Rattle.plain_cat.specs.declared.mode.Mode.{Mode}
 use Rattle.plain_cat.specs.declared.script.Line.{Line}
 use Rattle.plain_cat.specs.declared.script.Script.{Script}
 use Rattle.plain_cat.specs.declared.cat.Cat.{Cat}
-use Rattle.plain_vol.specs.Own.{newborn, past, next_command}
-use Rattle.node_past.specs.Laws.{has_line}
+use Rattle.plain_vol.specs.Own.{newborn}
 use Rattle.node_past.proofs.Strangers.{strangers_have_nothing}
-use Rattle.node_locks.specs.Held.{HoldsItsLocks, AreHeld}
+use Rattle.node_locks.specs.Held.{HoldsItsLocks}
 use Rattle.vol_faults.specs.Free.{IsGeometryBy}
 use Rattle.vol_parts.specs.declared.geometry.Geometry.{Geometry}
 use Rattle.vol_parts.specs.Volumes.{volume, geometry_of}
@@ -25,11 +23,11 @@ use Rattle.vol_parts.specs.declared.finding.Finding.{Finding}
 use Rattle.vol_parts.specs.Findings.{home_at, Accepts, CatOf}
 use Rattle.vol_analyze.specs.Judging.{IsJudged}
 use Rattle.vol_owners.specs.Owners.{nothing}
-use Rattle.vol_under.specs.UnderWay.{UnderWay, resting}
+use Rattle.vol_under.specs.UnderWay.{resting}
 use Rattle.vol_under.specs.Under.{IsUnder}
 use Rattle.vol_under.proofs.Steps.{mount_stands, nodes_alike}
 use Rattle.core_state.specs.Worlds.{NodeState, Plain, node_at, locks_in, locks_of}
-use Rattle.core_state.specs.Goods.{IsRun, HasOnly, under_by, nodes_under, IsRunning, AreLocked, IsIdle, IsNode, Good, decided, HasRoom, IsWorld}
+use Rattle.core_state.specs.Goods.{IsRun, HasOnly, under_by, nodes_under, IsNode, Good, decided, IsWorld}
 use Rattle.core_state.specs.Mounting.{at_rest, mounted}
 use Rattle.plain_cat.specs.declared.command.Cmd.{Cmd}
 

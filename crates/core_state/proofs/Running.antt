@@ -13,17 +13,16 @@ use Rattle.node_locks.specs.Held.{AreHeld, held_locks}
 use Rattle.node_locks.proofs.Keeping.{writers_are_sole}
 use Rattle.vol_owners.specs.Lists.{Has}
 use Rattle.vol_parts.specs.declared.geometry.Geometry.{Geometry}
-use Rattle.vol_under.specs.UnderWay.{UnderWay, resting, changed, AreSole}
+use Rattle.vol_under.specs.UnderWay.{UnderWay, changed, AreSole}
 use Rattle.vol_under.specs.Under.{IsUnder}
-use Rattle.vol_under.proofs.Nodes.{each, changed_here}
+use Rattle.vol_under.proofs.Nodes.{each}
 use Rattle.vol_under.proofs.Steps.{nodes_alike}
-use Rattle.op_law.specs.declared.seen.Seen.{Seen}
 use Rattle.op_law.specs.Knows.{knows}
 use Rattle.op_law.specs.Laws.{held_in, under_way}
 use Rattle.core_state.specs.Worlds.{NodeState, node_at, set_node, locks_in, locks_of}
 use Rattle.core_state.specs.Goods.{writes_of, under_with, under_by, nodes_under}
 use Rattle.core_state.proofs.Nodes.{at_here, at_else}
-use Rattle.core_state.proofs.Holding.{HasIn, in_held_is, is_in_held, held_weaker}
+use Rattle.core_state.proofs.Holding.{HasIn, in_held_is}
 
 -- a node with a command, by the locks that it holds
 abbrev pub at_locks : ℕ → NodeState → Cmd → List (LockName × Mode) → UnderWay

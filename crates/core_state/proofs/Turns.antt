@@ -1,19 +1,12 @@
 -- Every turn keeps the invariant.
-use Rattle.std.proofs.Common.{◌≡◌, ◌≢◌, ◌<◌, ◌++◌, ℕ, Bool, true, false, cond, List, [], ◌∷◌, Option, Some, None, length, slice_get, refl, sym, ap, subst, ◌∙◌}
-use Rattle.std.specs.Prelude.{replicate}
-use Rattle.vol_words.specs.Fields.{Block}
-use Rattle.lock_db.specs.declared.name.LockName.{LockName}
+use Rattle.std.proofs.Common.{◌≡◌, ◌<◌, ℕ, Bool, true, false, cond, List, Option, Some, None, length, slice_get, refl, sym, ap, subst, ◌∙◌}
 use Rattle.lock_db.specs.declared.resource.Resource.{Resource}
 use Rattle.lock_db.specs.Tables.{asked}
-use Rattle.plain_cat.specs.declared.mode.Mode.{Mode}
 use Rattle.plain_cat.specs.declared.mode.Mode.TheVariants.{PR}
 use Rattle.plain_cat.specs.declared.command.Cmd.{Cmd}
-use Rattle.plain_cat.specs.declared.reply.Reply.{Reply}
-use Rattle.plain_vol.specs.Own.{past, next_command}
+use Rattle.plain_vol.specs.Own.{next_command}
 use Rattle.node_locks.specs.Held.{system_of, waits_at}
-use Rattle.vol_owners.specs.Owners.{Owners}
-use Rattle.plain_cat.specs.declared.cat.Cat.{Cat}
-use Rattle.vol_under.specs.Guards.{guard_of, MayLook}
+use Rattle.vol_under.specs.Guards.{MayLook}
 use Rattle.vol_under.specs.UnderWay.{UnderWay, changed}
 use Rattle.vol_under.specs.Under.{IsUnder}
 use Rattle.vol_under.proofs.Nodes.{each}
@@ -22,15 +15,13 @@ use Rattle.op_law.specs.declared.need.Need.{Need}
 use Rattle.op_law.specs.declared.need.Need.TheVariants as need
 use Rattle.op_law.specs.declared.need.Plan.{Plan}
 use Rattle.op_law.specs.declared.need.PlanWrite.{PlanWrite}
-use Rattle.op_law.specs.declared.seen.Seen.{Seen}
 use Rattle.op_law.specs.Needs.{need_of, IsNext}
-use Rattle.op_law.specs.Fits.{IsSeenOn}
 use Rattle.op_law.specs.Going.{IsLookAt, GoesOn}
 use Rattle.op_law.proofs.Going.{seen_goes_on}
-use Rattle.op_law.specs.Laws.{held_in, MayNeed, Lawful}
-use Rattle.core_state.specs.Worlds.{NodeState, Plain, IsOfWorld, node_at, set_node, with_node, current, or_next, locks_of}
-use Rattle.core_state.specs.Goods.{under_with, nodes_under, IsAtPlan, IsIdle, IsAt, HasCommand, IsNode, Good}
-use Rattle.core_state.specs.Events.{begun, Event, Rest, Stand, block_at, asking, looking, deciding, by_need, by_write, by_plan, by_command, event_of, happens, happen_at, after_turn, next_event, turned, leaving}
+use Rattle.op_law.specs.Laws.{held_in, Lawful}
+use Rattle.core_state.specs.Worlds.{NodeState, Plain, node_at, set_node, with_node, current, or_next}
+use Rattle.core_state.specs.Goods.{under_with, nodes_under, HasCommand, IsNode, Good}
+use Rattle.core_state.specs.Events.{begun, Rest, Stand, block_at, asking, looking, deciding, by_need, by_write, by_plan, by_command, event_of, happens, happen_at, after_turn, turned, leaving}
 use Rattle.core_state.proofs.Nodes.{at_here, set_node_twice}
 use Rattle.core_state.proofs.Running.{under_now, under_here}
 use Rattle.core_state.proofs.Keeping.{altered, rebuilt, held_same}

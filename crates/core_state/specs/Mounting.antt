@@ -1,5 +1,5 @@
 -- A volume as it is mounted.
-use Rattle.std.specs.Prelude.{◌≡◌, ℕ, List, [], None, false, replicate}
+use Rattle.std.specs.Prelude.{◌≡◌, List, [], None, false, replicate}
 use Rattle.vol_words.specs.Fields.{Block}
 use Rattle.plain_cat.specs.declared.cat.Cat.{Cat}
 use Rattle.plain_cat.specs.declared.script.Script.{Script}

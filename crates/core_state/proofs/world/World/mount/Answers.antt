@@ -1,7 +1,6 @@
-use Rattle.std.proofs.Common.{◌≡◌, ◌≤◌, ℕ, Ok, List, refl, sym, subst}
+use Rattle.std.proofs.Common.{◌≤◌, ℕ, sym, subst}
 use Rattle.vol_words.specs.Fields.{AreWholeBlocks}
 use Rattle.fx_home.specs.Homes.{home_read}
-use Rattle.vol_analyze.specs.Judging.{IsJudged}
 use Rattle.vol_faults.specs.Free.{IsGeometryBy}
 use Rattle.vol_parts.specs.Findings.{home_at}
 use Rattle.core_state.specs.Goods.{IsWorld}
