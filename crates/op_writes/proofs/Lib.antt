@@ -1,1 +1,3 @@
 pub mod FileRuns
+pub mod FileHeads
+pub mod FileBodies
