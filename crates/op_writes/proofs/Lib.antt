@@ -1,3 +1,4 @@
 pub mod FileRuns
 pub mod FileHeads
 pub mod FileBodies
+pub mod FileSteps
