@@ -1,5 +1,5 @@
 -- The blocks of a new directory, each without an entry.
-use Rattle.std.proofs.Common.{◌≡◌, ◌≤◌, ◌<◌, ◌+◌, ◌/◌, ◌++◌, ℕ, suc, Bool, true, false, List, [], ◌∷◌, Option, Some, None, length, map, slice_set, refl, sym, ap, subst, ◌∙◌, inl, inr, arith, cond, Ok}
+use Rattle.std.proofs.Common.{◌≡◌, ◌<◌, ◌/◌, ℕ, suc, Bool, true, false, List, [], ◌∷◌, Option, Some, None, length, map, refl, ap, subst, ◌∙◌, inl, inr, arith, cond, Ok}
 use Rattle.std.specs.List.{zip}
 use Rattle.vol_words.specs.Fields.{Block, IsWholeBlock}
 use Rattle.fx_dir.specs.Directory.{directory, read_on, one_more, and_then, next_vbn}

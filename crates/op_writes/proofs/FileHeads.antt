@@ -1,5 +1,5 @@
 -- The header of a new file: what is read of it, and that it is a whole block.
-use Rattle.std.proofs.Common.{◌≡◌, ◌<◌, ◌≤◌, ◌+◌, ◌*◌, ◌-◌, ◌/◌, ◌^◌, ◌++◌, ◌⊎◌, ℕ, Bool, true, false, List, [], ◌∷◌, Some, None, length, refl, sym, ap, ◌∙◌, inl, inr, arith, cond, lit<, subst, Ok}
+use Rattle.std.proofs.Common.{◌≡◌, ◌<◌, ◌≤◌, ◌+◌, ◌*◌, ◌++◌, ℕ, Bool, true, false, List, [], ◌∷◌, Some, None, length, refl, sym, ap, ◌∙◌, inl, inr, arith, cond, lit<, Ok}
 use Rattle.std.specs.Prelude.{◌==◌, ◌&&◌, codes, decimal}
 use Rattle.std.proofs.lemmas.Bool.{eq-eqb}
 use Rattle.std.proofs.Math.Nat.{mul-div_cancel_left, mul-le-mul}
@@ -7,7 +7,6 @@ use Rattle.std.proofs.lemmas.Fmt.{IsAscii-decimal}
 use Rattle.vol_words.specs.Fields.{Block, IsBytes, IsWholeBlock}
 use Rattle.fx_dir.specs.Directory.{directory}
 use Rattle.fx_header.specs.declared.run.Run.{Run}
-use Rattle.fx_header.specs.declared.slot.Hdr.{Hdr}
 use Rattle.fx_header.specs.declared.slot.Slot.TheVariants as head
 use Rattle.fx_header.specs.Pointers.{merged, map_words}
 use Rattle.fx_header.specs.Headers.{header_read, header_bytes, map_area, runs_in, with_runs}

@@ -1,15 +1,14 @@
 -- The runs of a file's clusters, one for each, and what is read of them where those that touch are merged.
-use Rattle.std.proofs.Common.{◌≡◌, ◌<◌, ◌≤◌, ◌+◌, ◌*◌, ◌-◌, ◌/◌, ◌%◌, ◌^◌, ◌++◌, ◌&&◌, ℕ, zero, suc, Bool, true, false, List, [], ◌∷◌, length, map, refl, sym, ap, ◌∙◌, inl, inr, arith, cond, nat_lt, if◌then◌else◌, append_assoc, length-append}
+use Rattle.std.proofs.Common.{◌≡◌, ◌<◌, ◌≤◌, ◌+◌, ◌*◌, ◌-◌, ◌/◌, ◌%◌, ◌^◌, ◌++◌, ◌&&◌, ℕ, zero, suc, Bool, true, false, List, [], ◌∷◌, length, refl, sym, ap, ◌∙◌, inl, inr, arith, cond, nat_lt, append_assoc, length-append}
 use Rattle.std.specs.Prelude.{◌==◌, flat_map}
 use Rattle.std.specs.List.{range_with_len}
 use Rattle.std.proofs.Math.Nat.{mul-mod_left, mul-div_cancel, mul-le-mul_left, div-mul-le_self}
-use Rattle.std.proofs.lemmas.Bool.{and_parts, cases_eq, eq-eqb, ne_eqb}
 use Rattle.std.proofs.lemmas.Bool.Decides.{nat_tests}
 use Rattle.std.proofs.lemmas.List.Elements.{All-nil, All-cons, All-head, All-tail}
 use Rattle.std.proofs.lemmas.List.FromFn.{length-range_with_len}
 use Rattle.std.proofs.lemmas.List.Sums.{sum_by-cons}
 use Rattle.fx_header.specs.declared.run.Run.{Run}
-use Rattle.fx_header.specs.Pointers.{IsRun, AreRuns, joined, merged, word, long, first_word, pointer_to, pointer_bytes, map_words, blocks_in, lbns_in}
+use Rattle.fx_header.specs.Pointers.{IsRun, AreRuns, joined, merged, word, long, first_word, pointer_bytes, map_words, blocks_in, lbns_in}
 use Rattle.fx_header.proofs.SpellLemmas.{AreRuns-merged, lbns_in-merged}
 use Rattle.vol_owners.specs.Lists.{Has}
 use Rattle.vol_owners.specs.Places.{spread}

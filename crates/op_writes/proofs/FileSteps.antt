@@ -1,42 +1,35 @@
 -- The writes of a new file as steps, and what guards the blocks that they touch.
-use Rattle.std.proofs.Common.{◌≡◌, ◌≢◌, ◌≤◌, ◌<◌, ◌+◌, ◌-◌, ◌/◌, ◌++◌, ◌⊎◌, ℕ, zero, suc, Bool, true, false, List, [], ◌∷◌, Option, Some, None, length, map, slice_get, slice_set, is_some, refl, sym, ap, subst, ◌∙◌, inl, inr, arith, cond}
+use Rattle.std.proofs.Common.{◌≡◌, ◌<◌, ◌+◌, ◌-◌, ◌++◌, ◌⊎◌, ℕ, true, false, List, [], ◌∷◌, Option, Some, None, map, slice_get, slice_set, is_some, refl, sym, ap, subst, ◌∙◌, inl, inr, arith, cond}
 use Rattle.std.proofs.lemmas.Bool.Decides.{nat_tests}
 use Rattle.std.proofs.lemmas.Option.{slice_get_within}
-use Rattle.std.specs.Prelude.{◌↔◌}
 use Rattle.vol_words.specs.Fields.{Block}
 use Rattle.fx_dir.specs.Directory.{directory}
 use Rattle.fx_header.specs.declared.run.Run.{Run}
 use Rattle.fx_header.specs.declared.slot.Hdr.{Hdr}
 use Rattle.fx_header.specs.Pointers.{merged, lbns_in}
-use Rattle.fx_header.specs.Headers.{header_read}
-use Rattle.lock_db.specs.declared.name.LockName.TheVariants.{S}
 use Rattle.plain_cat.specs.declared.ids.Fid.{Fid}
 use Rattle.plain_cat.specs.declared.cat.Cat.{Cat}
-use Rattle.plain_cat.specs.declared.cat.File.{File}
 use Rattle.plain_cat.specs.declared.cat.Slot.TheVariants as slot
 use Rattle.plain_cat.specs.declared.history.Stage.{Stage}
 use Rattle.plain_cat.specs.declared.history.Stage.TheVariants as stage
 use Rattle.plain_vol.specs.Changes.{with_file}
-use Rattle.vol_owners.specs.declared.owner.Owner.{Owner}
 use Rattle.vol_owners.specs.declared.owner.Owner.TheVariants.{InFile, Outside}
-use Rattle.vol_owners.specs.Lists.{Has, Once, written, Touches}
-use Rattle.vol_owners.specs.Owners.{Owners, Things, nothing, Outs}
+use Rattle.vol_owners.specs.Lists.{Has, Once, written}
+use Rattle.vol_owners.specs.Owners.{Owners, Things}
 use Rattle.vol_owners.specs.Places.{blocks_at, spread}
 use Rattle.vol_owners.proofs.Listing.{once_first}
 use Rattle.vol_parts.specs.declared.geometry.Geometry.{Geometry}
-use Rattle.vol_parts.specs.declared.geometry.Part.{Part}
 use Rattle.vol_parts.specs.declared.geometry.Part.TheVariants.{Header}
-use Rattle.vol_parts.specs.Parts.{part_of}
 use Rattle.vol_parts.specs.Volumes.{runs_with}
 use Rattle.vol_parts.specs.Catalogues.{is_structure}
-use Rattle.vol_spell.specs.Reading.{IsFileNumber, total_of, owner_at, header_place, header_block, fields_told, runs_told, clusters_of, clusters_told, body_places, body_blocks}
+use Rattle.vol_spell.specs.Reading.{IsFileNumber, total_of, header_place, header_block, fields_told, runs_told, clusters_of, clusters_told, body_places, body_blocks}
 use Rattle.vol_spell.specs.Spelling.{AreWhole, IsHead, Tells, Spells}
 use Rattle.vol_spell.specs.Kinds.{IsHeaderFor}
 use Rattle.vol_spell.specs.Views.{IsSameFile}
 use Rattle.vol_spell.proofs.Keeping.{outside_write}
 use Rattle.vol_spell.proofs.Parts.{told, part_there}
 use Rattle.vol_spell.proofs.Viewing.{parts_stay, outside_stays}
-use Rattle.vol_under.specs.UnderWay.{PlannedWrite, bare, StandsAt}
+use Rattle.vol_under.specs.UnderWay.{PlannedWrite, bare}
 use Rattle.vol_under.specs.Chains.{End, IsStep, Steps}
 use Rattle.vol_under.specs.Filing.{filed, Takes}
 use Rattle.vol_under.specs.Freeing.{IsOutsideWrite}
@@ -44,11 +37,11 @@ use Rattle.vol_under.proofs.Files.{file_takes}
 use Rattle.vol_under.proofs.Frees.{outside_series}
 use Rattle.vol_under.proofs.Reach.{step_kinds}
 use Rattle.op_law.specs.declared.need.PlanWrite.{PlanWrite}
-use Rattle.op_law.specs.Entering.{NewEntry, fields_for, new_header, body_writes}
+use Rattle.op_law.specs.Entering.{NewEntry, new_header, body_writes}
 use Rattle.op_law.specs.Fits.{things}
 use Rattle.op_law.specs.Laws.{planned}
 use Rattle.op_law.specs.Writing.{holding, empty_handed, runs_for, header_write}
-use Rattle.op_writes.specs.Chained.{Chain, StepsOf, StageOf, StandsOn, FilesStay, OthersStay, after_writes}
+use Rattle.op_writes.specs.Chained.{Chain, StepsOf, StandsOn, FilesStay, OthersStay, after_writes}
 use Rattle.op_writes.specs.FileWrites.{CanBeMade, file_writes, FileSteps}
 use Rattle.op_writes.proofs.FileRuns.{whole_for, clusters_for_runs, lbns_merged}
 use Rattle.op_writes.proofs.FileHeads.{IsBare, head_is, fields_are, runs_are, whole_new, new_dir_told, new_slot_told}
