@@ -2,7 +2,7 @@
 use Rattle.std.proofs.Common.{◌≡◌, ◌<◌, ◌≤◌, ◌+◌, ◌*◌, ◌++◌, ℕ, Bool, true, false, List, [], ◌∷◌, Some, None, length, refl, sym, ap, ◌∙◌, inl, inr, arith, cond, lit<, Ok}
 use Rattle.std.specs.Prelude.{◌==◌, ◌&&◌, codes, decimal}
 use Rattle.std.proofs.lemmas.Bool.{eq-eqb}
-use Rattle.std.proofs.Math.Nat.{mul-div_cancel_left, mul-le-mul}
+use Rattle.std.proofs.Math.Nat.{mul-div_cancel_left, mul-le-mul_right}
 use Rattle.std.proofs.lemmas.Fmt.{IsAscii-decimal}
 use Rattle.vol_words.specs.Fields.{Block, IsBytes, IsWholeBlock}
 use Rattle.fx_dir.specs.Directory.{directory}
@@ -77,7 +77,7 @@ module _ (g : Geometry) (parent : Fid) (n : ℕ) (e : NewEntry) (qs : List ℕ) 
       let files = geometry.files_to in
       let from = can.number.from in
       let to = can.number.to in
-      let size : g.cluster * length qs ≤ 16 * 77 = mul-le-mul high few in
+      let size : g.cluster * length qs ≤ 16 * length qs = mul-le-mul_right (length qs) high in
       let blocks : g.cluster * e.file.clusters ≡ g.cluster * length qs = ap (λ k. g.cluster * k) clusters in
       record {
         from = from;

@@ -62,9 +62,6 @@ module _ (g : Geometry) (low : 1 ≤ g.cluster) where
       → clusters_of g.cluster (joined r rs) ≡ range_with_len (r.lbn / g.cluster) (r.count / g.cluster) ++ clusters_of g.cluster rs
   clusters_joined r [] h k = refl
   clusters_joined r (s ∷ rs) h k = by_test (r.lbn + r.count == s.lbn) refl where
-    f : ℕ
-    f = g.cluster
-
     one : Run
     one = record { lbn = r.lbn; count = r.count + s.count }
 
@@ -115,30 +112,28 @@ module _ (g : Geometry) (low : 1 ≤ g.cluster) where
 
   -- ---- the words of their pointers
 
+  -- a run of whole clusters has one at least, and two where it has more blocks than one cluster can have
+  has_cluster : (r : Run) (k : ℕ) → IsRun r → r.count ≡ k * g.cluster → 1 ≤ k
+  has_cluster r zero is e = let count = is.0 in let none : 0 * g.cluster ≡ 0 = omega arith in absurd (omega arith)
+  has_cluster r (suc k) is e = omega arith
+
+  has_two : (r : Run) (k : ℕ) → g.cluster < r.count → r.count ≡ k * g.cluster → 2 ≤ k
+  has_two r zero many e = let none : 0 * g.cluster ≡ 0 = omega arith in absurd (omega arith)
+  has_two r (suc zero) many e = let one : 1 * g.cluster ≡ g.cluster = omega arith in absurd (omega arith)
+  has_two r (suc (suc k)) many e = omega arith
+
   short_pointer : (r : Run) → g.cluster ≤ 16 → IsWhole g r → IsRun r → length (pointer_bytes r) ≤ 4 * (r.count / g.cluster)
   unfolding pointer_bytes
   short_pointer r few h is = by_format (nat_lt r.lbn (2 ^ 22)) (nat_lt (r.count - 1) (2 ^ 8)) (nat_lt (r.count - 1) (2 ^ 14)) refl refl where
-    many : 1 ≤ r.count / g.cluster
-    many = let p : r.count ≡ r.count / g.cluster * g.cluster = whole r.count g.cluster low h.ends in
-        let c = is.0 in
-        by_zero (r.count / g.cluster) p where
-          by_zero : (k : ℕ) → r.count ≡ k * g.cluster → 1 ≤ k
-          by_zero zero e = let z : 0 * g.cluster ≡ 0 = omega arith in let c = is.0 in absurd (omega arith)
-          by_zero (suc k) e = omega arith
-
-    more : 257 ≤ r.count → 2 ≤ r.count / g.cluster
-    more big = let p : r.count ≡ r.count / g.cluster * g.cluster = whole r.count g.cluster low h.ends in by_one (r.count / g.cluster) p where
-          by_one : (k : ℕ) → r.count ≡ k * g.cluster → 2 ≤ k
-          by_one zero e = let z : 0 * g.cluster ≡ 0 = omega arith in absurd (omega arith)
-          by_one (suc zero) e = let z : 1 * g.cluster ≡ g.cluster = omega arith in absurd (omega arith)
-          by_one (suc (suc k)) e = omega arith
+    is_whole : r.count ≡ r.count / g.cluster * g.cluster
+    is_whole = whole r.count g.cluster low h.ends
 
     by_format : (near small middle : Bool) → nat_lt r.lbn (2 ^ 22) ≡ near → nat_lt (r.count - 1) (2 ^ 8) ≡ small
         → length (cond (near && small) (first_word 1 (r.lbn / 2 ^ 16 * 2 ^ 8 + (r.count - 1)) ++ word (r.lbn % 2 ^ 16)) (cond middle (first_word 2 (r.count - 1) ++ long r.lbn) (first_word 3 ((r.count - 1) / 2 ^ 16) ++ word ((r.count - 1) % 2 ^ 16) ++ long r.lbn))) ≤ 4 * (r.count / g.cluster)
-    by_format true true middle a b = omega (arith, many)
+    by_format true true middle a b = omega (arith, has_cluster r (r.count / g.cluster) is is_whole)
     by_format false small middle a b = let up = is.1 in let far : 2 ^ 22 ≤ r.lbn = grind (arith, nat_tests) in absurd (omega arith)
-    by_format true false true a b = let big : 257 ≤ r.count = grind (arith, nat_tests) in omega (arith, more big)
-    by_format true false false a b = let big : 257 ≤ r.count = grind (arith, nat_tests) in omega (arith, more big)
+    by_format true false true a b = let many : 257 ≤ r.count = grind (arith, nat_tests) in omega (arith, has_two r (r.count / g.cluster) (omega arith) is_whole)
+    by_format true false false a b = let many : 257 ≤ r.count = grind (arith, nat_tests) in omega (arith, has_two r (r.count / g.cluster) (omega arith) is_whole)
 
   short_pointers : (rs : List Run) → g.cluster ≤ 16 → AreWhole g rs → AreRuns rs → length (flat_map pointer_bytes rs) ≤ 4 * length (clusters_of g.cluster rs)
   short_pointers [] few h is = omega arith

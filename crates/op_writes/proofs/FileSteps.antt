@@ -47,7 +47,6 @@ use Rattle.op_writes.proofs.FileRuns.{whole_for, clusters_for_runs, lbns_merged}
 use Rattle.op_writes.proofs.FileHeads.{IsBare, head_is, fields_are, runs_are, whole_new, new_dir_told, new_slot_told}
 use Rattle.op_writes.proofs.FileBodies.{AreBody, are_body}
 
-
 -- ---- writes in a row
 
 after_last : (vs : List PlanWrite) (w : PlanWrite) (bs : List Block) → after_writes (vs ++ w ∷ []) bs ≡ slice_set (after_writes vs bs) w.lbn w.block
@@ -174,16 +173,16 @@ file_steps end k parent n e qs ws x bs own on can lock charged lost rest =
     let end_is : after_writes (file_writes g parent n e qs) bs ≡ slice_set mid (header_place g n) (new_header g parent n e qs) = after_last vs last bs in
     let behind : Spells g mid own x → Steps end g k.node k.cmd k.locks k.cat k.stock (planned last ∷ map planned ws) mid own =
     λ spelt.
-        let step : IsStep g k.node k.cmd k.locks k.cat k.stock (planned last) mid own to (with_file x n e.file) =
-        (step_kinds g k.node k.cmd k.locks k.cat k.stock).header (planned last) mid own to x n (slot.Used e.file) spelt refl for lock lost t.outs in
-        let stands : StandsOn k empty_handed (with_file x n e.file) (after_writes (file_writes g parent n e qs) bs) to =
-        record { spelt = subst (λ (bs' : List Block). Spells g bs' to (with_file x n e.file)) (sym end_is) step.spelt; outs = t.outs } in
-        let others : OthersStay g n bs (after_writes (file_writes g parent n e qs) bs) = λ i is ne.
-            let part = part_there g mid own x spelt (Header n) can.number in
-            let stays : IsSameFile g mid (slice_set mid (header_place g n) (new_header g parent n e qs)) i =
-            parts_stay g mid own x i (header_place g n) (Header n) (new_header g parent n e qs) spelt is part (λ f. ne (let h : Header n ≡ Header i = f in cc)) in
-            subst (λ (bs' : List Block). IsSameFile g bs bs' i) (sym end_is) (same_on g bs mid (slice_set mid (header_place g n) (new_header g parent n e qs)) i
-            (files_stay g k.node stage.Charged (things qs (Some n)) (map planned vs) bs own x on.spelt body.each i is) stays) in
-        (to, with_file x n e.file, step, subst (λ (bs' : List Block). StepsOf end k ws bs' to) end_is (rest to stands others)) in
+    let step : IsStep g k.node k.cmd k.locks k.cat k.stock (planned last) mid own to (with_file x n e.file) =
+    (step_kinds g k.node k.cmd k.locks k.cat k.stock).header (planned last) mid own to x n (slot.Used e.file) spelt refl for lock lost t.outs in
+    let stands : StandsOn k empty_handed (with_file x n e.file) (after_writes (file_writes g parent n e qs) bs) to =
+    record { spelt = subst (λ (bs' : List Block). Spells g bs' to (with_file x n e.file)) (sym end_is) step.spelt; outs = t.outs } in
+    let others : OthersStay g n bs (after_writes (file_writes g parent n e qs) bs) = λ i is ne.
+    let part = part_there g mid own x spelt (Header n) can.number in
+    let stays : IsSameFile g mid (slice_set mid (header_place g n) (new_header g parent n e qs)) i =
+    parts_stay g mid own x i (header_place g n) (Header n) (new_header g parent n e qs) spelt is part (λ f. ne (let h : Header n ≡ Header i = f in cc)) in
+    subst (λ (bs' : List Block). IsSameFile g bs bs' i) (sym end_is) (same_on g bs mid (slice_set mid (header_place g n) (new_header g parent n e qs)) i
+    (files_stay g k.node stage.Charged (things qs (Some n)) (map planned vs) bs own x on.spelt body.each i is) stays) in
+    (to, with_file x n e.file, step, subst (λ (bs' : List Block). StepsOf end k ws bs' to) end_is (rest to stands others)) in
     subst (λ (us : List PlannedWrite). Steps end g k.node k.cmd k.locks k.cat k.stock us bs own) (sym (in_a_row vs ws last))
     (outside_series end g k.node k.cmd k.locks k.cat x k.stock (things qs (Some n)) stage.Charged (map planned vs) (planned last ∷ map planned ws) bs own on.spelt charged on.outs body.each behind)
