@@ -1,1 +1,16 @@
 //! The laws, each a statement for every value that it speaks of.
+
+ghost use Rattle.vol_under.specs.Chains.{anywhere};
+ghost use Rattle.op_writes.specs.FileWrites.{FileSteps, FileGuards};
+
+/// The writes of a new file are steps: a directory's own blocks, in clusters that the node has outside, and then the header under
+/// the number that it has outside. After them the file has those clusters and that number, the command has nothing outside, and
+/// each other file is as it was. So are the writes behind them that are steps on what they leave.
+pub fn file_steps()
+    ensures { FileSteps anywhere }
+{}
+
+/// Each block that the writes of a new file touch is guarded by the lock of its number, or outside at the node.
+pub fn file_guards()
+    ensures { FileGuards }
+{}
