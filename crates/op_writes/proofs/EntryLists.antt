@@ -101,7 +101,7 @@ pub none_found_where_read : (n : ℕ) (r : Result (List RawEnt) DirFault) (es : 
 none_found_where_read n (Ok fs) es h = refl
 none_found_where_read n (Err fault) es h = absurd (cc)
 
-map_plain : (es : List RawEnt) → map plain_entry (map plain es) ≡ map plain_entry es
+pub map_plain : (es : List RawEnt) → map plain_entry (map plain es) ≡ map plain_entry es
 map_plain [] = refl
 map_plain (e ∷ es) = λ i. plain_entry e ∷ map_plain es i
 

@@ -1,2 +1,4 @@
 pub mod EntryLists
 pub mod EntryDirs
+pub mod EntryMoves
+pub mod EntrySteps
