@@ -1,12 +1,12 @@
 -- A directory of the catalogue on the blocks that spell it.
-use Rattle.std.proofs.Common.{◌≡◌, ◌∙◌, ◌<◌, ◌+◌, ◌-◌, ℕ, zero, suc, Bool, true, false, cond, List, [], ◌∷◌, Some, None, Result, Ok, Err, Option, length, map, take, slice_get, refl, sym, ap, subst, inl, inr, arith, append-nil, if◌then◌else◌}
+use Rattle.std.proofs.Common.{◌≡◌, ◌∙◌, ◌<◌, ◌+◌, ◌-◌, ℕ, zero, suc, Bool, true, false, List, [], ◌∷◌, Some, None, Result, Ok, Err, Option, length, map, take, slice_get, refl, sym, ap, subst, inl, inr, arith, append-nil, if◌then◌else◌}
 use Rattle.std.specs.Prelude.{◌==◌, ◌&&◌, ◌||◌, not, slice_index_or}
 use Rattle.std.specs.List.{range_with_len}
 use Rattle.std.proofs.lemmas.Bool.{and_parts}
 use Rattle.std.proofs.lemmas.Bool.Decides.{nat_tests}
 use Rattle.std.proofs.lemmas.Option.{slice_get-get_or}
 use Rattle.std.proofs.lemmas.List.FromFn.{length-range_with_len}
-use Rattle.vol_words.specs.Fields.{Block, AreWholeBlocks, IsWholeBlock}
+use Rattle.vol_words.specs.Fields.{Block, AreWholeBlocks}
 use Rattle.fx_header.specs.declared.run.Run.{Run}
 use Rattle.fx_header.specs.declared.slot.Hdr.{Hdr}
 use Rattle.fx_header.specs.declared.slot.Slot.{Slot as Head}
@@ -15,7 +15,7 @@ use Rattle.fx_header.specs.declared.slot.HeaderFault.{HeaderFault}
 use Rattle.fx_header.specs.Headers.{header_read, runs_in}
 use Rattle.fx_header.specs.Pointers.{lbns_in}
 use Rattle.fx_dir.specs.declared.RawEnt.{RawEnt}
-use Rattle.fx_dir.specs.Directory.{directory, plainly, dir_entries}
+use Rattle.fx_dir.specs.Directory.{directory, dir_entries}
 use Rattle.plain_cat.specs.declared.cat.Cat.{Cat}
 use Rattle.plain_cat.specs.declared.cat.File.{File}
 use Rattle.plain_cat.specs.declared.cat.Slot.{Slot}
@@ -25,7 +25,6 @@ use Rattle.vol_owners.specs.Lists.{Has}
 use Rattle.vol_owners.specs.Owners.{Owners}
 use Rattle.vol_owners.specs.Places.{blocks_at}
 use Rattle.vol_owners.proofs.Placing.{length-blocks_at}
-use Rattle.vol_parts.specs.declared.finding.Finding.{Finding}
 use Rattle.vol_parts.specs.declared.finding.Finding.TheVariants as finding
 use Rattle.vol_parts.specs.declared.geometry.Geometry.{Geometry}
 use Rattle.vol_parts.specs.Volumes.{fields_in, runs_with}
@@ -33,7 +32,6 @@ use Rattle.vol_parts.specs.Catalogues.{plain_entry, plain_entries, is_structure,
 use Rattle.vol_parts.specs.Fatal.{is_cluster_run, has_dir_size, found_in}
 use Rattle.vol_spell.specs.Reading.{IsFileNumber, header_block, fields_told, runs_told, body_places, body_blocks}
 use Rattle.vol_spell.specs.Spelling.{Tells, dir_found, Spells}
-use Rattle.vol_spell.specs.Views.{IsFileAt}
 use Rattle.vol_spell.proofs.Frames.{of_body}
 use Rattle.vol_under.specs.Series.{slot_told}
 use Rattle.op_law.specs.Rows.{places_in}

@@ -1,5 +1,5 @@
 -- The moves of an insertion or a removal as steps.
-use Rattle.std.proofs.Common.{◌≡◌, ◌≢◌, ◌∙◌, ◌≤◌, ◌<◌, ◌-◌, ◌++◌, ℕ, zero, suc, List, [], ◌∷◌, Some, None, Ok, Option, length, map, take, drop, take_all, slice_get, slice_set, refl, sym, ap, subst, inl, inr, arith, length-set}
+use Rattle.std.proofs.Common.{◌≡◌, ◌∙◌, ◌≤◌, ◌<◌, ◌-◌, ◌++◌, ℕ, zero, suc, List, [], ◌∷◌, Some, None, Ok, length, map, take, take_all, slice_get, slice_set, refl, sym, ap, subst, inl, inr, arith, length-set}
 use Rattle.std.specs.Prelude.{slice_index_or}
 use Rattle.std.proofs.lemmas.List.{map-append}
 use Rattle.std.proofs.lemmas.Option.{slice_get-get_or}
@@ -30,13 +30,13 @@ use Rattle.vol_parts.specs.Parts.{part_of}
 use Rattle.vol_parts.specs.Catalogues.{plain_entry}
 use Rattle.vol_spell.specs.Reading.{IsFileNumber, header_place, header_block, body_places, body_blocks, owner_at}
 use Rattle.vol_spell.specs.Spelling.{Spells}
-use Rattle.vol_spell.specs.Views.{IsSameFile, IsFileAt}
+use Rattle.vol_spell.specs.Views.{IsSameFile}
 use Rattle.vol_spell.proofs.Parts.{part_there}
 use Rattle.vol_spell.proofs.Frames.{body_owned, body_no_part}
 use Rattle.vol_owners.specs.declared.owner.Owner.TheVariants.{InFile}
 use Rattle.vol_under.specs.UnderWay.{PlannedWrite, bare}
 use Rattle.vol_under.specs.Chains.{End, Steps}
-use Rattle.vol_under.specs.Series.{plan_of, body_after, slot_told, BodyMoves}
+use Rattle.vol_under.specs.Series.{plan_of, body_after, slot_told, IsBodyMove, BodyMoves}
 use Rattle.vol_under.proofs.InTurn.{body_series}
 use Rattle.op_law.specs.declared.need.PlanWrite.{PlanWrite}
 use Rattle.op_law.specs.Fits.{things}
@@ -121,32 +121,32 @@ module _ (k : Chain) (x : Cat) (d : SeenDir) (f : File) (old : List RawEnt) (new
     (shows : (blocks : List Block) → dir_entries blocks ≡ Ok new → ShowsDir k.geometry d.fid.num d.head f new blocks)
     (stage : StageOf k before (with_entries x d.fid.num f (map plain_entry old)))
     (done : StageOf k after (with_entries x d.fid.num f (map plain_entry new))) where
-  -- each move is a write to a block of the directory: the first ones leave its entries, and the others change them
+  -- a move whose blocks tell the directory with these entries
+  one_move : (t : Stage) (es : List RawEnt) (m : Move) (ms : List Move) (body : List Block) → IsWholeBlock m.block → AreChanges (m ∷ ms) body → length body ≡ length (places_in d.head)
+      → StageOf k t (with_entries x d.fid.num f (map plain_entry es)) → ShowsDir k.geometry d.fid.num d.head f es (slice_set body (m.vbn - 1) m.block)
+      → IsBodyMove k.geometry k.node k.cmd k.cat x d.fid.num d.head (things [] None) (planned (move_write d t m)) (m.vbn - 1) (slice_set body (m.vbn - 1) m.block)
+  one_move t es m ms body whole changes count stands show = record {
+    whole = whole;
+    place = ap (λ ls. slice_get ls (m.vbn - 1)) places ∙ placed d.head m ms body changes count;
+    dir = show.none;
+    stage = subst (λ (y : Slot). StageOf k t (with_slot x d.fid.num y)) (sym show.slot) stands;
+    outs = refl;
+  }
+
+  -- each move is a write to a block of the directory: the first j leave its entries, and the others change them
   turns_move : (j : ℕ) (ms : List Move) (body : List Block) → Each (λ m. IsWholeBlock m.block) ms → AreChanges ms body → length body ≡ length (places_in d.head)
       → ((i : ℕ) → 1 ≤ i → i ≤ j → i ≤ length ms → dir_entries (moved (take i ms) body) ≡ Ok old)
       → ((i : ℕ) → j < i → i ≤ length ms → dir_entries (moved (take i ms) body) ≡ Ok new)
       → BodyMoves k.geometry k.node k.cmd k.cat x d.fid.num d.head (things [] None) (in_turn d before after j ms) body
   turns_move j [] body whole changes count same other = tt
   turns_move zero (m ∷ ms) body whole changes count same other =
-      let show = shows (slice_set body (m.vbn - 1) m.block) (other 1 (omega arith) (omega arith)) in
-      (record {
-        whole = whole.0;
-        place = ap (λ ls. slice_get ls (m.vbn - 1)) places ∙ placed d.head m ms body changes count;
-        dir = show.none;
-        stage = subst (λ (t : Slot). StageOf k after (with_slot x d.fid.num t)) (sym show.slot) done;
-        outs = refl;
-      }, turns_move zero ms (slice_set body (m.vbn - 1) m.block) whole.1 changes.1 (length-set body (m.vbn - 1) m.block ∙ count)
-         (λ i from to le. absurd (omega arith)) (λ i lt le. other (suc i) (omega arith) (omega arith)))
+      let next = slice_set body (m.vbn - 1) m.block in
+      let rest = turns_move zero ms next whole.1 changes.1 (length-set body (m.vbn - 1) m.block ∙ count) (λ i from to le. absurd (omega arith)) (λ i lt le. other (suc i) (omega arith) (omega arith)) in
+      (one_move after new m ms body whole.0 changes count done (shows next (other 1 (omega arith) (omega arith))), rest)
   turns_move (suc j) (m ∷ ms) body whole changes count same other =
-      let show = keeps (slice_set body (m.vbn - 1) m.block) (same 1 (omega arith) (omega arith) (omega arith)) in
-      (record {
-        whole = whole.0;
-        place = ap (λ ls. slice_get ls (m.vbn - 1)) places ∙ placed d.head m ms body changes count;
-        dir = show.none;
-        stage = subst (λ (t : Slot). StageOf k before (with_slot x d.fid.num t)) (sym show.slot) stage;
-        outs = refl;
-      }, turns_move j ms (slice_set body (m.vbn - 1) m.block) whole.1 changes.1 (length-set body (m.vbn - 1) m.block ∙ count)
-         (λ i from to le. same (suc i) (omega arith) (omega arith) (omega arith)) (λ i lt le. other (suc i) (omega arith) (omega arith)))
+      let next = slice_set body (m.vbn - 1) m.block in
+      let rest = turns_move j ms next whole.1 changes.1 (length-set body (m.vbn - 1) m.block ∙ count) (λ i from to le. same (suc i) (omega arith) (omega arith) (omega arith)) (λ i lt le. other (suc i) (omega arith) (omega arith)) in
+      (one_move before old m ms body whole.0 changes count stage (keeps next (same 1 (omega arith) (omega arith) (omega arith))), rest)
 
 -- ---- moves as steps
 

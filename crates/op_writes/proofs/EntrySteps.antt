@@ -1,13 +1,12 @@
 -- The writes that enter an entry into a directory are steps, and the directory's lock guards them.
-use Rattle.std.proofs.Common.{◌≡◌, ◌∙◌, ◌≤◌, ◌<◌, ◌-◌, ◌++◌, ℕ, suc, true, false, List, [], ◌∷◌, Some, None, Ok, Option, length, map, take, take_all, unwrap_or, refl, sym, ap, subst, arith, length-append}
+use Rattle.std.proofs.Common.{◌≡◌, ◌∙◌, ◌<◌, ◌-◌, ◌++◌, false, List, [], ◌∷◌, Some, None, Ok, length, map, take_all, unwrap_or, refl, sym, ap, subst, arith, length-append}
 use Rattle.std.proofs.lemmas.Option.{slice_get-get_or}
 use Rattle.vol_words.specs.Fields.{Block}
 use Rattle.vol_words.specs.Packing.{pack, over}
 use Rattle.fx_dir.specs.declared.RawEnt.{RawEnt}
 use Rattle.fx_dir.specs.declared.Move.{Move}
-use Rattle.fx_dir.specs.Lists.{Each}
 use Rattle.fx_dir.specs.Entries.{has, plain}
-use Rattle.fx_dir.specs.Directory.{directory, plainly, dir_entries}
+use Rattle.fx_dir.specs.Directory.{plainly, dir_entries}
 use Rattle.fx_dir.specs.Writing.{IsInForm, IsRanged, name_of, if_fits}
 use Rattle.fx_dir.specs.Moves.{written as moved, inserted, as_new, insert_writes, insertion, insertion_on, on_entries, Inserts}
 use Rattle.fx_dir.proofs.Meeting.{Sound}
@@ -34,7 +33,7 @@ use Rattle.vol_under.specs.Chains.{End}
 use Rattle.vol_under.specs.Guards.{guard_by}
 use Rattle.op_law.specs.declared.need.PlanWrite.{PlanWrite}
 use Rattle.op_law.specs.Writing.{empty_handed}
-use Rattle.op_law.specs.Moving.{SeenDir, moves_at, raw_entry, insertion_moves, insertion_writes}
+use Rattle.op_law.specs.Moving.{moves_at, raw_entry, insertion_moves, insertion_writes}
 use Rattle.op_writes.specs.Chained.{Chain, StepsOf, StageOf, after_writes, TouchedBy, StandsOn, OthersStay}
 use Rattle.op_writes.specs.EntryWrites.{dir_in, CanBeEntered, EntrySteps, EntryGuards}
 use Rattle.op_writes.proofs.EntryLists.{inserted_plain, map_plain, not_there, none_over}
