@@ -209,9 +209,9 @@ module _ (end : End) (k : Chain) (dir : Fid) (f : File) (before after : Stage) (
       ap (λ ps. ps ++ map planned ws) (turns d before after j ms) ∙ sym (map-append planned vs ws) in
       let first = subst (λ (c : Cat). StageOf k before c) (sym unchanged) stage in
       let moves = turns_move k x d f (map plain at.entries) new before after at.places (shows_dir k.geometry bs dir.num f at (map plain at.entries)) (shows_dir k.geometry bs dir.num f at new) first done
-          j ms (blocks_of k.geometry bs dir.num) are.whole are.changes count (λ i from to le. are.same i to) are.other in
+      j ms (blocks_of k.geometry bs dir.num) are.whole are.changes count (λ i from to le. are.same i to) are.other in
       subst (λ (ps : List PlannedWrite). Steps end k.geometry k.node k.cmd k.locks k.cat k.stock ps bs own) all
       (body_series end k.geometry k.node k.cmd k.locks k.cat x k.stock (things [] None) dir.num d.head (blocks_of k.geometry bs dir.num) turns_of (map planned ws) bs own is s.spelt
-       (record { header = refl; body = ap (blocks_at bs) at.places }) s.outs moves
-       (λ spelt there. behind (subst (λ (t : Slot). Spells k.geometry (written (bare (plan_of turns_of)) bs) own (with_slot x dir.num t)) told spelt)
-        (subst (λ (ps : List PlannedWrite). OthersStay k.geometry dir.num bs (written (bare ps) bs)) (sym (turns d before after j ms)) stay)))
+      (record { header = refl; body = ap (blocks_at bs) at.places }) s.outs moves
+      (λ spelt there. behind (subst (λ (t : Slot). Spells k.geometry (written (bare (plan_of turns_of)) bs) own (with_slot x dir.num t)) told spelt)
+      (subst (λ (ps : List PlannedWrite). OthersStay k.geometry dir.num bs (written (bare ps) bs)) (sym (turns d before after j ms)) stay)))
