@@ -18,11 +18,11 @@ use Rattle.plain_cat.specs.declared.cat.Slot.{Slot}
 use Rattle.plain_cat.specs.declared.cat.Slot.TheVariants as slot
 use Rattle.plain_vol.specs.Lookups.{file_at}
 use Rattle.plain_vol.specs.Changes.{with_slot, with_entries}
-use Rattle.vol_owners.specs.Lists.{Has, Touches, written}
+use Rattle.vol_owners.specs.Lists.{Has, Once, Touches, written}
 use Rattle.vol_owners.specs.Owners.{Owners}
 use Rattle.vol_owners.specs.Places.{blocks_at}
 use Rattle.vol_owners.proofs.Listing.{has_at}
-use Rattle.vol_owners.proofs.Placing.{length-blocks_at, blocks_kept}
+use Rattle.vol_owners.proofs.Placing.{length-blocks_at, blocks_set, blocks_kept}
 use Rattle.vol_owners.proofs.Writing.{set-get}
 use Rattle.vol_parts.specs.declared.geometry.Geometry.{Geometry}
 use Rattle.vol_parts.specs.declared.geometry.Part.TheVariants.{Header}
@@ -32,7 +32,7 @@ use Rattle.vol_spell.specs.Reading.{IsFileNumber, header_place, header_block, bo
 use Rattle.vol_spell.specs.Spelling.{Spells}
 use Rattle.vol_spell.specs.Views.{IsSameFile}
 use Rattle.vol_spell.proofs.Parts.{part_there}
-use Rattle.vol_spell.proofs.Frames.{body_owned, body_no_part}
+use Rattle.vol_spell.proofs.Frames.{body_owned, body_no_part, body_once, of_body}
 use Rattle.vol_owners.specs.declared.owner.Owner.TheVariants.{InFile}
 use Rattle.vol_under.specs.UnderWay.{PlannedWrite, bare}
 use Rattle.vol_under.specs.Chains.{End, Steps}
@@ -49,28 +49,24 @@ use Rattle.op_writes.specs.EntryWrites.{dir_in}
 use Rattle.op_writes.proofs.EntryLists.{map_plain}
 use Rattle.op_writes.proofs.EntryDirs.{blocks_of, IsDirAt, ShowsDir, shows_dir, dir_lists, used_at}
 
--- ---- a write to blocks of one file leaves the others
+-- ---- writes to blocks of one file leave each header, and the others' blocks
 
 module _ (g : Geometry) (bs : List Block) (own : Owners) (x : Cat) (s : Spells g bs own x) (n : ℕ) (is : IsFileNumber g n)
     (ws : List (ℕ × Block)) (within : (l : ℕ) → Touches ws l → Has (body_places n (header_block g bs n)) l) where
-  pub others_kept : (i : ℕ) → IsFileNumber g i → (i ≡ n → ⊥) → IsSameFile g bs (written ws bs) i
-  others_kept i file other = record { header = header; body = ap (body_blocks (written ws bs) i) header ∙ body } where
+  header_kept : (i : ℕ) → IsFileNumber g i → header_block g (written ws bs) i ≡ header_block g bs i
+  header_kept i file = ap (λ (ys : List Block). slice_index_or ys 0 []) (blocks_kept ws bs (header_place g i ∷ []) no_header) where
     no_header : (l : ℕ) → Touches ws l → Has (header_place g i ∷ []) l → ⊥
     no_header l t (inl e) = body_no_part g bs own x s n l (Header i) is (within l t) (ap (part_of g) (sym e) ∙ part_there g bs own x s (Header i) file)
     no_header l t (inr none) = none
 
+  others_kept : (i : ℕ) → IsFileNumber g i → (i ≡ n → ⊥) → IsSameFile g bs (written ws bs) i
+  others_kept i file other = record { header = header_kept i file; body = ap (body_blocks (written ws bs) i) (header_kept i file) ∙ blocks_kept ws bs (body_places i (header_block g bs i)) no_block } where
     no_block : (l : ℕ) → Touches ws l → Has (body_places i (header_block g bs i)) l → ⊥
     no_block l t u =
         let here : owner_at g own l ≡ Some (InFile n) = (body_owned g bs own x s n l is (within l t)).1 in
         let there : owner_at g own l ≡ Some (InFile i) = (body_owned g bs own x s i l file u).1 in
         let same : Some (InFile i) ≡ Some (InFile n) = sym there ∙ here in
         other (cc)
-
-    header : header_block g (written ws bs) i ≡ header_block g bs i
-    header = ap (λ (ys : List Block). slice_index_or ys 0 []) (blocks_kept ws bs (header_place g i ∷ []) no_header)
-
-    body : body_blocks (written ws bs) i (header_block g bs i) ≡ body_blocks bs i (header_block g bs i)
-    body = blocks_kept ws bs (body_places i (header_block g bs i)) no_block
 
 -- ---- moves as writes to blocks of the directory
 
@@ -166,6 +162,56 @@ moves_touch g bs dir f before after at old new j ms are l t =
     let u : Touches (bare (plan_of (in_turn d before after j ms))) l = subst (λ (ps : List PlannedWrite). Touches (bare ps) l) (sym (turns d before after j ms)) t in
     subst (λ (ls : List ℕ). Has ls l) (sym at.places)
     (turns_within d before after j ms (blocks_of g bs dir.num) are.changes (length-blocks_at bs (places_in d.head)) l u)
+
+-- each of these writes is to the place that it says
+abbrev ArePlaced : List ℕ → List (ℕ × PlannedWrite) → Type 0
+ArePlaced ls [] = Unit {0}
+ArePlaced ls (p ∷ ps) = (slice_get ls p.0 ≡ Some p.1.lbn) × ArePlaced ls ps
+
+-- such writes change the blocks at those places in turn
+placed_leave : (ls : List ℕ) (ps : List (ℕ × PlannedWrite)) (bs : List Block) → Once ls → ((l : ℕ) → Has ls l → l < length bs) → ArePlaced ls ps
+    → blocks_at (written (bare (plan_of ps)) bs) ls ≡ body_after ps (blocks_at bs ls)
+placed_leave ls [] bs once within are = refl
+placed_leave ls (p ∷ ps) bs once within are =
+    let long : length (slice_set bs p.1.lbn p.1.block) ≡ length bs = length-set bs p.1.lbn p.1.block in
+    let here = blocks_set bs p.1.lbn p.1.block ls p.0 are.0 once (within p.1.lbn (has_at ls p.0 p.1.lbn are.0)) in
+    placed_leave ls ps (slice_set bs p.1.lbn p.1.block) once (λ l t. let lt = within l t in omega arith) are.1 ∙ ap (body_after ps) here
+
+turns_placed : (d : SeenDir) (before after : Stage) (k : ℕ) (ms : List Move) (body : List Block) → AreChanges ms body → length body ≡ length (places_in d.head) → ArePlaced (places_in d.head) (in_turn d before after k ms)
+turns_placed d before after k [] body changes count = tt
+turns_placed d before after zero (m ∷ ms) body changes count =
+    (placed d.head m ms body changes count, turns_placed d before after zero ms (slice_set body (m.vbn - 1) m.block) changes.1 (length-set body (m.vbn - 1) m.block ∙ count))
+turns_placed d before after (suc k) (m ∷ ms) body changes count =
+    (placed d.head m ms body changes count, turns_placed d before after k ms (slice_set body (m.vbn - 1) m.block) changes.1 (length-set body (m.vbn - 1) m.block ∙ count))
+
+-- the directory has the same header after them, and the blocks that the moves leave
+pub moves_leave : (g : Geometry) (bs : List Block) (own : Owners) (x : Cat) (dir : Fid) (f : File) (before after : Stage) → Spells g bs own x → IsFileNumber g dir.num → (at : IsDirAt g bs dir.num f)
+    → (old new : List RawEnt) (j : ℕ) (ms : List Move) → AreMovesTo (blocks_of g bs dir.num) old new j ms
+    → dir_in g (after_writes (moves_at (dir_in g bs dir) before after j ms) bs) dir ≡ record (dir_in g bs dir) { blocks = moved ms (blocks_of g bs dir.num) }
+moves_leave g bs own x dir f before after s is at old new j ms are = λ i. record { fid = dir; head = header i; blocks = all i } where
+  d : SeenDir
+  d = dir_in g bs dir
+
+  now : List Block
+  now = after_writes (moves_at (dir_in g bs dir) before after j ms) bs
+
+  count : length (blocks_of g bs dir.num) ≡ length (places_in (header_block g bs dir.num))
+  count = length-blocks_at bs (places_in (header_block g bs dir.num))
+
+  header : header_block g now dir.num ≡ header_block g bs dir.num
+  header = header_kept g bs own x s dir.num is (bare (map planned (moves_at d before after j ms))) (λ l t. moves_touch g bs dir f before after at old new j ms are l t) dir.num is
+
+  blocks : blocks_at now (places_in (header_block g bs dir.num)) ≡ moved ms (blocks_of g bs dir.num)
+  blocks =
+      let ls = places_in (header_block g bs dir.num) in
+      let once : Once ls = subst (λ (ks : List ℕ). Once ks) at.places (body_once g bs own x s dir.num is) in
+      let within : (l : ℕ) → Has ls l → l < length bs = λ l t. (of_body g bs own x s dir.num l is (subst (λ (ks : List ℕ). Has ks l) (sym at.places) t)).within in
+      ap (λ ps. blocks_at (written (bare ps) bs) ls) (sym (turns d before after j ms))
+      ∙ placed_leave ls (in_turn d before after j ms) bs once within (turns_placed d before after j ms (blocks_of g bs dir.num) are.changes count)
+      ∙ turns_body d before after j ms (blocks_of g bs dir.num)
+
+  all : blocks_of g now dir.num ≡ moved ms (blocks_of g bs dir.num)
+  all = ap (λ h. blocks_at now (places_in h)) header ∙ blocks
 
 module _ (end : End) (k : Chain) (dir : Fid) (f : File) (before after : Stage) (j : ℕ) (ms : List Move) (new : List RawEnt) (ws : List PlanWrite) (x : Cat) (bs : List Block) (own : Owners)
     (s : StandsOn k empty_handed x bs own) (is : IsFileNumber k.geometry dir.num) (used : file_at x dir.num ≡ Some f) (at : IsDirAt k.geometry bs dir.num f)

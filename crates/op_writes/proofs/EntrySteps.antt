@@ -33,12 +33,12 @@ use Rattle.vol_under.specs.Chains.{End}
 use Rattle.vol_under.specs.Guards.{guard_by}
 use Rattle.op_law.specs.declared.need.PlanWrite.{PlanWrite}
 use Rattle.op_law.specs.Writing.{empty_handed}
-use Rattle.op_law.specs.Moving.{moves_at, raw_entry, insertion_moves, insertion_writes}
+use Rattle.op_law.specs.Moving.{moves_at, raw_entry, insertion_moves, insertion_writes, with_new}
 use Rattle.op_writes.specs.Chained.{Chain, StepsOf, StageOf, after_writes, TouchedBy, StandsOn, OthersStay}
 use Rattle.op_writes.specs.EntryWrites.{dir_in, CanBeEntered, EntrySteps, EntryGuards}
 use Rattle.op_writes.proofs.EntryLists.{inserted_plain, map_plain, not_there, none_over}
 use Rattle.op_writes.proofs.EntryDirs.{blocks_of, IsDirAt, dir_at, dir_lists}
-use Rattle.op_writes.proofs.EntryMoves.{AreMovesTo, moves_touch, moves_steps}
+use Rattle.op_writes.proofs.EntryMoves.{AreMovesTo, moves_touch, moves_leave, moves_steps}
 
 -- a list with an item at its end has one more than those in front of it
 one_behind : {A : Type 0} (xs : List A) (y : A) → length (xs ++ y ∷ []) - 1 < length (xs ++ y ∷ [])
@@ -132,6 +132,15 @@ entry_steps end k dir d e before after ws x bs own s can stage done rest =
     let steps = moves_steps end k dir d before after (length moves - 1) moves _ ws x bs own s can.number can.file (at g bs own x dir d e s.spelt can) are stage in
     let listed_so = subst (λ (es : List DirEnt). LeadTo end k dir d before after ws x bs own es moves) (become g bs own x dir d e s.spelt can) steps in
     subst (λ (ns : List Move). LeadTo end k dir d before after ws x bs own (listed e d.entries) ns) (sym (moves_are g bs own x dir d e s.spelt can)) listed_so done rest
+
+-- the directory as they leave it: the same header, and the blocks with the entry
+pub entry_leaves : (g : Geometry) (dir : Fid) (d : File) (e : DirEnt) (before after : Stage) (x : Cat) (bs : List Block) (own : Owners) → Spells g bs own x → CanBeEntered g x dir.num d e
+    → dir_in g (after_writes (insertion_writes (dir_in g bs dir) e before after) bs) dir ≡ with_new (dir_in g bs dir) e
+unfolding insertion_writes
+entry_leaves g dir d e before after x bs own s can =
+    let P : List Move → Type 0 = λ ns. dir_in g (after_writes (moves_at (dir_in g bs dir) before after (length ns - 1) ns) bs) dir ≡ record (dir_in g bs dir) { blocks = moved ns (blocks_of g bs dir.num) } in
+    subst P (sym (moves_are g bs own x dir d e s can))
+    (moves_leave g bs own x dir d before after s can.number (at g bs own x dir d e s can) _ _ _ (ms g bs own x dir d e s can) (are_moves g bs own x dir d e s can))
 
 pub entry_guards : EntryGuards
 unfolding insertion_writes
