@@ -45,7 +45,7 @@ module _ (g : Geometry) (bs : List Block) (own : Owners) (c : Cat) (s : Spells g
       ]
 
   -- a directory is none of the files that hold the volume's own structures
-  plain_directory : (n : ℕ) (h : Hdr) → header_read (header_block g bs n) ≡ Ok (head.Used h) → h.dir ≡ true → is_structure n ≡ false
+  pub plain_directory : (n : ℕ) (h : Hdr) → header_read (header_block g bs n) ≡ Ok (head.Used h) → h.dir ≡ true → is_structure n ≡ false
   plain_directory n h e d = by_kind (is_structure n) refl where
     by_kind : (k : Bool) → is_structure n ≡ k → is_structure n ≡ false
     by_kind false k = k

@@ -3,3 +3,7 @@ pub mod FileHeads
 pub mod FileBodies
 pub mod FileSteps
 pub mod FileGuards
+pub mod EntryLists
+pub mod EntryDirs
+pub mod EntryMoves
+pub mod EntrySteps
