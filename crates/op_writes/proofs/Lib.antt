@@ -1,3 +1,5 @@
-pub mod Given
+pub mod RowLists
 pub mod RowOrder
 pub mod RowBlocks
+pub mod RowPlaces
+pub mod RowSteps

@@ -16,7 +16,7 @@ use Rattle.vol_owners.proofs.Listing.{same_or_not}
 use Rattle.vol_owners.proofs.Placing.{ranged_has, index-set_here}
 use Rattle.vol_parts.specs.Volumes.{rows_in}
 use Rattle.op_law.specs.Quotas.{block_with, row_seen, is_row_of}
-use Rattle.op_writes.proofs.Given.{range_joined, filter_map-moved, filter_map-changed, given_once}
+use Rattle.op_writes.proofs.RowLists.{range_joined, filter_map-moved, filter_map-changed, given_once}
 use Rattle.op_writes.proofs.RowOrder.{row_changed}
 
 -- the rows of all blocks, by number
@@ -35,9 +35,9 @@ rows_numbered (b ∷ qs) =
     let long : 16 * length (b ∷ qs) ≡ 16 + 16 * length qs = omega arith in
     let h : ℕ → Option Row = row_seen (b ∷ qs) in
     let later : (j : ℕ) → h (j + 16) ≡ row_seen qs j = λ j.
-        let block : (j + 16) / 16 ≡ suc (j / 16) = omega arith in
-        let row : (j + 16) % 16 ≡ j % 16 = omega arith in
-        ap (λ k. row_at (slice_index_or (b ∷ qs) k []) ((j + 16) % 16)) block ∙ ap (row_at (slice_index_or qs (j / 16) [])) row in
+    let block : (j + 16) / 16 ≡ suc (j / 16) = omega arith in
+    let row : (j + 16) % 16 ≡ j % 16 = omega arith in
+    ap (λ k. row_at (slice_index_or (b ∷ qs) k []) ((j + 16) % 16)) block ∙ ap (row_at (slice_index_or qs (j / 16) [])) row in
     let joined : range_with_len 0 (16 * length (b ∷ qs)) ≡ range_with_len 0 16 ++ range_with_len 16 (16 * length qs) = ap (range_with_len 0) long ∙ range_joined 0 16 (16 * length qs) in
     ap (λ rs. rs ++ flat_map rows_in qs) (rows_first b qs 0 16 (lit< tt))
     ∙ ap (λ rs. filter_map h (range_with_len 0 16) ++ rs) (rows_numbered qs ∙ sym (filter_map-moved (row_seen qs) h 16 later 0 (16 * length qs)))
@@ -69,10 +69,10 @@ module _ (qs : List Block) (j : ℕ) (new : Row) (whole : IsWholeBlock (block_wi
   row-put_other : (i : ℕ) → i ≢ j → row_seen put_in i ≡ row_seen qs i
   row-put_other i ne = elim (same_or_not (i / 16) (j / 16)) [
     | inl e ↦
-      let other : i % 16 ≢ j % 16 = λ f. ne (omega arith) in
-      ap (λ k. row_at (slice_index_or put_in k []) (i % 16)) e ∙ ap (λ b. row_at b (i % 16)) (index-set_here qs (j / 16) (row_put (block_with qs j) (j % 16) new) inside)
-      ∙ row_at-put (block_with qs j) (j % 16) (i % 16) new whole.long few flags_fit fits ∙ ap (λ t. cond t (Some new) (row_at (block_with qs j) (i % 16))) (ne_eqb (i % 16) (j % 16) other)
-      ∙ ap (λ k. row_at (slice_index_or qs k []) (i % 16)) (sym e)
+        let other : i % 16 ≢ j % 16 = λ f. ne (omega arith) in
+        ap (λ k. row_at (slice_index_or put_in k []) (i % 16)) e ∙ ap (λ b. row_at b (i % 16)) (index-set_here qs (j / 16) (row_put (block_with qs j) (j % 16) new) inside)
+        ∙ row_at-put (block_with qs j) (j % 16) (i % 16) new whole.long few flags_fit fits ∙ ap (λ t. cond t (Some new) (row_at (block_with qs j) (i % 16))) (ne_eqb (i % 16) (j % 16) other)
+        ∙ ap (λ k. row_at (slice_index_or qs k []) (i % 16)) (sym e)
     | inr away ↦ ap (λ b. row_at b (i % 16)) (get_or-set_other qs (j / 16) (i / 16) (row_put (block_with qs j) (j % 16) new) [] away)
   ]
 

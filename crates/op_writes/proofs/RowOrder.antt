@@ -34,7 +34,7 @@ row-here owner row (r ∷ rs) is none = by (r.owner.0 == owner.0) refl none (row
     order true t = rw (t, is) refl
     order false t = rw (t, u) (ih e)
 
-pub row_of-none : (owner : Uic) (rs : List Row) → (Has (map (λ r. r.uic) rs) owner.0 → ⊥) → row_of owner (rows_sorted rs) ≡ None
+row_of-none : (owner : Uic) (rs : List Row) → (Has (map (λ r. r.uic) rs) owner.0 → ⊥) → row_of owner (rows_sorted rs) ≡ None
 row_of-none owner [] away = refl
 row_of-none owner (r ∷ rs) away =
     let ne : (r.uic == owner.0) ≡ false = ne_eqb r.uic owner.0 (λ e. away (inl e)) in
@@ -81,6 +81,7 @@ module _ (owner : Uic) (change : Row → Row) (rows : QuotaRow → QuotaRow) (is
   with_row-changed row (r ∷ rs) = by (nat_lt row.owner.0 r.owner.0) refl (with_row-changed row rs) where
     f : QuotaRow → QuotaRow
     f = quota_changed owner rows
+
     by : (b : Bool) → nat_lt row.owner.0 r.owner.0 ≡ b → with_row (f row) (map f rs) ≡ map f (with_row row rs) → with_row (f row) (map f (r ∷ rs)) ≡ map f (with_row row (r ∷ rs))
     by true t ih =
         let u : nat_lt (f row).owner.0 (f r).owner.0 ≡ true = ap (λ n. nat_lt n (f r).owner.0) (quota-owner row) ∙ ap (nat_lt row.owner.0) (quota-owner r) ∙ t in

@@ -44,9 +44,9 @@ none_passes test n j e inside =
     let all : length ns ≤ position_or_len test ns = none (position_or_len test ns) (length ns) (ltb (position_or_len test ns) (length ns)) refl e in
     let long = length-range_with_len 0 n in
     ap test (sym at) ∙ fails_before_first test ns j 0 (omega arith) where
-  none : (p l : ℕ) (b : Bool) → ltb p l ≡ b → cond (ltb p l) (Some p) None ≡ None → l ≤ p
-  none p l true t e = absurd (let f : Some p ≡ None = ap (λ c. cond c (Some p) None) (sym t) ∙ e in cc)
-  none p l false t e = grind (arith, nat_tests)
+      none : (p l : ℕ) (b : Bool) → ltb p l ≡ b → cond (ltb p l) (Some p) None ≡ None → l ≤ p
+      none p l true t e = absurd (let f : Some p ≡ None = ap (λ c. cond c (Some p) None) (sym t) ∙ e in cc)
+      none p l false t e = grind (arith, nat_tests)
 
 -- ---- what is given
 
@@ -55,9 +55,9 @@ pub filter_map-changed : {X Y : Type 0} (f : Y → Y) (h k : X → Option Y) (xs
 filter_map-changed f h k [] same = refl
 filter_map-changed {X} {Y} f h k (x ∷ xs) same =
     ap (λ o. cons_option o (filter_map k xs)) (same x (inl refl)) ∙ cons (h x) (filter_map k xs) (filter_map h xs) (filter_map-changed f h k xs (λ y t. same y (inr t))) where
-  cons : (o : Option Y) (ys zs : List Y) → ys ≡ map f zs → cons_option (option_map f o) ys ≡ map f (cons_option o zs)
-  cons None ys zs e = e
-  cons (Some y) ys zs e = ap (λ l. f y ∷ l) e
+      cons : (o : Option Y) (ys zs : List Y) → ys ≡ map f zs → cons_option (option_map f o) ys ≡ map f (cons_option o zs)
+      cons None ys zs e = e
+      cons (Some y) ys zs e = ap (λ l. f y ∷ l) e
 
 module _ {X Y : Type 0} (key : Y → ℕ) (h : X → Option Y) where
   has_cons : (o : Option Y) (ys : List Y) (n : ℕ) → Has (map key ys) n → Has (map key (cons_option o ys)) n
