@@ -1,1 +1,5 @@
 pub mod Tests
+pub mod Bits
+pub mod Chosen
+pub mod Writes
+pub mod Taken

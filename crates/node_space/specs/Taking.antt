@@ -1,5 +1,5 @@
 -- The laws of the search for free space.
-use Rattle.std.specs.Prelude.{◌≡◌, ◌≤◌, ◌<◌, ◌-◌, ◌++◌, ℕ, zero, suc, Bool, true, false, List, [], ◌∷◌, Option, Some, None, IfSome, is_some, length, slice_get}
+use Rattle.std.specs.Prelude.{◌≡◌, ◌≤◌, ◌<◌, ◌-◌, ◌++◌, ◌⊎◌, ℕ, zero, suc, Bool, true, false, List, [], ◌∷◌, Option, Some, None, IfSome, is_some, length, slice_get}
 use Rattle.std.specs.List.{zip}
 use Rattle.vol_words.specs.Fields.{Block}
 use Rattle.lock_db.specs.declared.name.LockName.TheVariants.{V}
@@ -13,6 +13,7 @@ use Rattle.vol_owners.specs.Lists.{Has, Once, StandsIn}
 use Rattle.vol_owners.specs.Owners.{Owners, Things, nothing, Outs}
 use Rattle.vol_parts.specs.declared.geometry.Geometry.{Geometry}
 use Rattle.vol_parts.specs.declared.geometry.Part.TheVariants.{IndexBitmap, Storage}
+use Rattle.vol_parts.specs.Parts.{IsGeometry}
 use Rattle.vol_spell.specs.Places.{place_of, IsPart}
 use Rattle.vol_spell.specs.Spelling.{Spells}
 use Rattle.vol_under.specs.Keeping.{Refills, IsBitmap}
@@ -63,21 +64,24 @@ pub record TakesClustersOf (g : Geometry) (out : Held) (old : Block) (w : PlanWr
   pub number : w.number ≡ out.number
   pub clusters : w.clusters ≡ out.clusters ++ taken
 
--- A write of a search is one under V of a block that was looked at. On all blocks in which that block stands it is a write of a
--- bitmap that takes what is free to the stock of a node.
+-- A write of a search: under V, to a block that was looked at, it takes a number or clusters.
 pub record IsTaking (g : Geometry) (seen : List (ℕ × Block)) (out : Held) (w : PlanWrite) : Type 0 where
   pub lock : w.lock ≡ V
   pub stage : w.stage ≡ stage.Nothing
   pub old : Block
   pub among : Has seen (w.lbn, old)
-  pub bitmap : (base : List Block) (own : Owners) (c : Cat) → Spells g base own c → IsBitmap g w.lbn
-  pub refills : (n : ℕ) (took : Things) (base : List Block) (own : Owners) (c : Cat) → Spells g base own c → Outs n own took (things out.clusters out.number) → slice_get base w.lbn ≡ Some old
-      → Refills g n took (things w.clusters w.number) w.lbn w.block base own c
+  pub takes : TakesNumber g out old w ⊎ TakesClustersOf g out old w
 
 -- Each write of a search is one.
 abbrev pub WritesTake : Type 0
-WritesTake = (g : Geometry) (clusters : ℕ) (number : Bool) (bs : List Block) (ws : List PlanWrite) (k : ℕ) (w : PlanWrite) → found g clusters number bs ≡ Enough ws → slice_get ws k ≡ Some w
+WritesTake = (g : Geometry) (clusters : ℕ) (number : Bool) (bs : List Block) (ws : List PlanWrite) (k : ℕ) (w : PlanWrite) → IsGeometry g → found g clusters number bs ≡ Enough ws → slice_get ws k ≡ Some w
     → IsTaking g (looked g clusters number bs) (out_after ws k) w
+
+-- On all blocks in which the block stands that was looked at, such a write is one of a bitmap, which takes what is free to the
+-- stock of a node.
+abbrev pub TakingsRefill : Type 0
+TakingsRefill = (g : Geometry) (seen : List (ℕ × Block)) (out : Held) (w : PlanWrite) (t : IsTaking g seen out w) (n : ℕ) (took : Things) (base : List Block) (own : Owners) (c : Cat) → Spells g base own c → Outs n own took (things out.clusters out.number)
+    → slice_get base w.lbn ≡ Some t.old → IsBitmap g w.lbn × Refills g n took (things w.clusters w.number) w.lbn w.block base own c
 
 -- ---- what was taken
 
