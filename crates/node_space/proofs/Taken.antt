@@ -26,7 +26,7 @@ use Rattle.node_space.proofs.Chosen.{has_free, once_free, once_taken, free_numbe
 
 -- ---- lists
 
-pub take_none : (n : ℕ) → take n ([] {A = ℕ}) ≡ []
+take_none : (n : ℕ) → let none : List ℕ = [] in take n none ≡ none
 take_none zero = refl
 take_none (suc n) = refl
 
@@ -72,7 +72,7 @@ taken_parts wanted before xs ys =
     ∙ ap (λ (n : ℕ). before ++ (qs ++ take n ys)) left
     ∙ ap (λ (zs : List ℕ). before ++ zs) (sym (take_parts (wanted - length before) xs ys))
 
-pub all_taken : (g : Geometry) (wanted : ℕ) (number : Option ℕ) (before : List ℕ) (k : ℕ) (bs : List Block)
+all_taken : (g : Geometry) (wanted : ℕ) (number : Option ℕ) (before : List ℕ) (k : ℕ) (bs : List Block)
     → last_out (holding before number) (cluster_writes g wanted number before k bs) ≡ holding (before ++ take (wanted - length before) (free_from g k bs)) number
 unfolding last_out cluster_writes free_from taken_in
 all_taken g wanted number before k [] = ap (λ (xs : List ℕ). holding xs number) (sym (append-nil before) ∙ ap (λ (xs : List ℕ). before ++ xs) (sym (take_none (wanted - length before))))
