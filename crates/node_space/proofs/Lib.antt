@@ -3,3 +3,4 @@ pub mod Bits
 pub mod Chosen
 pub mod Writes
 pub mod Taken
+pub mod Shortage
