@@ -1,4 +1,5 @@
 pub mod Tests
+pub mod Ending
 pub mod Bits
 pub mod Chosen
 pub mod Writes

@@ -2,6 +2,15 @@
 //! too little, and the writes that take what is wanted, the lowest first.
 #![tactic(auto)]
 
-mod search;
+mod finding;
+mod laws;
+mod outcome;
+mod taking;
 
-pub use search::Search;
+pub use finding::search;
+pub use laws::{
+    command_is_short, looks_in_order, number_is_free, search_ends, shortage_is_exact, takes_all,
+    takings_refill, writes_take,
+};
+pub use outcome::Search;
+pub use plain_cat::{NoMemory, Refusal};
