@@ -7,3 +7,4 @@ pub mod Writes
 pub mod Taken
 pub mod Shortage
 pub mod Collecting
+pub mod Gathering
