@@ -8,3 +8,4 @@ pub mod Taken
 pub mod Shortage
 pub mod Collecting
 pub mod Gathering
+pub mod Concluding
