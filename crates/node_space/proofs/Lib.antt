@@ -9,3 +9,4 @@ pub mod Shortage
 pub mod Collecting
 pub mod Gathering
 pub mod Concluding
+pub mod Apart

@@ -1,5 +1,5 @@
 -- The laws of the search for free space.
-use Rattle.std.specs.Prelude.{◌≡◌, ◌≤◌, ◌<◌, ◌-◌, ◌++◌, ◌⊎◌, ℕ, zero, suc, Bool, true, false, List, [], ◌∷◌, Option, Some, None, IfSome, is_some, length, slice_get}
+use Rattle.std.specs.Prelude.{◌≡◌, ◌≤◌, ◌<◌, ◌-◌, ◌++◌, ◌⊎◌, ℕ, zero, suc, Bool, true, false, List, [], ◌∷◌, Option, Some, None, IfSome, is_some, length, map, slice_get}
 use Rattle.std.specs.List.{zip}
 use Rattle.vol_words.specs.Fields.{Block}
 use Rattle.lock_db.specs.declared.name.LockName.TheVariants.{V}
@@ -82,6 +82,10 @@ WritesTake = (g : Geometry) (clusters : ℕ) (number : Bool) (bs : List Block) (
 abbrev pub TakingsRefill : Type 0
 TakingsRefill = (g : Geometry) (seen : List (ℕ × Block)) (out : Held) (w : PlanWrite) (t : IsTaking g seen out w) (n : ℕ) (took : Things) (base : List Block) (own : Owners) (c : Cat) → Spells g base own c → Outs n own took (things out.clusters out.number)
     → slice_get base w.lbn ≡ Some t.old → IsBitmap g w.lbn × Refills g n took (things w.clusters w.number) w.lbn w.block base own c
+
+-- No two of them are to the same block.
+abbrev pub WritesApart : Type 0
+WritesApart = (g : Geometry) (clusters : ℕ) (number : Bool) (bs : List Block) (ws : List PlanWrite) (base : List Block) (own : Owners) (c : Cat) → found g clusters number bs ≡ Enough ws → Spells g base own c → Once (map (λ w. w.lbn) ws)
 
 -- ---- what was taken
 

@@ -1,7 +1,7 @@
 //! The laws, each a statement for every value that it speaks of.
 
 ghost use Rattle.node_space.specs.Answering.{LooksInOrder};
-ghost use Rattle.node_space.specs.Taking.{SearchEnds, WritesTake, TakingsRefill, TakesAll, NumberIsFree, ShortageIsExact, CommandIsShort};
+ghost use Rattle.node_space.specs.Taking.{SearchEnds, WritesTake, TakingsRefill, WritesApart, TakesAll, NumberIsFree, ShortageIsExact, CommandIsShort};
 
 /// The block that is looked at next is the first of those that the search may look at that it has not looked at.
 pub fn looks_in_order()
@@ -21,6 +21,11 @@ pub fn writes_take()
 /// Where the block stands that was looked at, such a write takes what is free to the stock of a node, by the space rule.
 pub fn takings_refill()
     ensures { TakingsRefill }
+{}
+
+/// No two writes of a search are to the same block.
+pub fn writes_apart()
+    ensures { WritesApart }
 {}
 
 /// A search takes as many clusters as are wanted, each once, and a number where one is wanted.
