@@ -1,5 +1,5 @@
 -- The writes of a search are to blocks that lie apart.
-use Rattle.std.proofs.Common.{◌≡◌, ◌≤◌, ◌<◌, ◌+◌, ◌*◌, ◌/◌, ◌++◌, ℕ, Bool, true, false, List, [], ◌∷◌, Option, Some, None, map, refl, sym, ap, subst, ◌∙◌, inl, inr, arith}
+use Rattle.std.proofs.Common.{◌≡◌, ◌≤◌, ◌<◌, ◌+◌, ◌/◌, ◌++◌, ℕ, true, false, List, [], ◌∷◌, Option, Some, None, map, refl, sym, subst, inl, inr, arith}
 use Rattle.vol_words.specs.Fields.{Block}
 use Rattle.plain_cat.specs.declared.cat.Cat.{Cat}
 use Rattle.plain_cat.specs.declared.reply.Refusal.TheVariants.{IndexFull}
@@ -8,11 +8,11 @@ use Rattle.vol_owners.specs.Owners.{Owners}
 use Rattle.vol_parts.specs.declared.geometry.Geometry.{Geometry}
 use Rattle.vol_parts.specs.declared.geometry.Part.TheVariants.{IndexBitmap, Storage}
 use Rattle.vol_spell.specs.Reading.{total_of}
-use Rattle.vol_spell.specs.Places.{place_of, IsPart, ArePartsOf}
+use Rattle.vol_spell.specs.Places.{place_of, IsPart}
 use Rattle.vol_spell.specs.Spelling.{Spells}
 use Rattle.vol_spell.proofs.Parts.{are_parts}
 use Rattle.op_law.specs.declared.need.PlanWrite.{PlanWrite}
-use Rattle.node_space.specs.Searching.{Found, More, Short, Enough, free_number, number_write, taken_in, cluster_write, cluster_writes, found_number, found}
+use Rattle.node_space.specs.Searching.{More, Short, Enough, free_number, number_write, taken_in, cluster_write, cluster_writes, found_number}
 use Rattle.node_space.specs.Taking.{WritesApart}
 use Rattle.node_space.proofs.Tests.{enough_of}
 use Rattle.node_space.proofs.Chosen.{LiesIn, has_taken_in}

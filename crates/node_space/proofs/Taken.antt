@@ -1,5 +1,5 @@
 -- What the writes of a search have taken in the end.
-use Rattle.std.proofs.Common.{◌≡◌, ◌≤◌, ◌<◌, ◌+◌, ◌-◌, ◌*◌, ◌/◌, ◌%◌, ◌++◌, ℕ, zero, suc, Bool, true, false, List, [], ◌∷◌, Option, Some, None, length, slice_get, refl, sym, ap, subst, ◌∙◌, inl, inr, arith, append-nil, append_assoc, length-append}
+use Rattle.std.proofs.Common.{◌≡◌, ◌≤◌, ◌+◌, ◌-◌, ◌*◌, ◌/◌, ◌++◌, ℕ, zero, suc, Bool, true, false, List, [], ◌∷◌, Option, Some, None, length, slice_get, refl, sym, ap, subst, ◌∙◌, inl, inr, arith, append-nil, append_assoc, length-append}
 use Rattle.std.specs.Prelude.{take, is_some, IfSome}
 use Rattle.std.proofs.lemmas.List.{length-take-le}
 use Rattle.std.proofs.lemmas.Option.{get_or_from_slice_get}
@@ -10,7 +10,7 @@ use Rattle.plain_cat.specs.declared.reply.Refusal.TheVariants.{IndexFull}
 use Rattle.plain_vol.specs.Lookups.{is_free_number}
 use Rattle.vol_owners.specs.declared.owner.Owner.TheVariants.{Free}
 use Rattle.vol_owners.specs.Counts.{is_same_owner}
-use Rattle.vol_owners.specs.Lists.{Has, Once, AreApart, StandsIn}
+use Rattle.vol_owners.specs.Lists.{Has, Once}
 use Rattle.vol_owners.specs.Owners.{Owners}
 use Rattle.vol_owners.proofs.Listing.{has_parted, once_in_a_row}
 use Rattle.vol_parts.specs.declared.geometry.Geometry.{Geometry}
@@ -19,8 +19,8 @@ use Rattle.vol_spell.specs.Spelling.{Spells}
 use Rattle.vol_under.proofs.Leaking.{number_free_of}
 use Rattle.op_law.specs.declared.need.PlanWrite.{PlanWrite}
 use Rattle.op_law.specs.Writing.{Held, holding, empty_handed}
-use Rattle.node_space.specs.Searching.{Found, More, Short, Enough, places, free_number, free_in, free_from, number_write, taken_in, cluster_write, cluster_writes, found_number, found}
-use Rattle.node_space.specs.Taking.{looked, out_of, out_after, IsWanted, TakesAll, NumberIsFree}
+use Rattle.node_space.specs.Searching.{More, Short, Enough, free_number, free_in, free_from, number_write, taken_in, cluster_write, cluster_writes, found_number, found}
+use Rattle.node_space.specs.Taking.{out_of, out_after, IsWanted, TakesAll, NumberIsFree}
 use Rattle.node_space.proofs.Tests.{enough_of}
 use Rattle.node_space.proofs.Chosen.{has_free, once_free, once_taken, free_number_clear}
 

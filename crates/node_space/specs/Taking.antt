@@ -22,7 +22,7 @@ use Rattle.op_law.specs.declared.need.PlanWrite.{PlanWrite}
 use Rattle.op_law.specs.Fits.{things}
 use Rattle.op_law.specs.Knows.{clusters_wanted, wants_number, has_free_number, is_short}
 use Rattle.op_law.specs.Writing.{Held, holding, empty_handed}
-use Rattle.node_space.specs.Searching.{Found, More, Short, Enough, places, found}
+use Rattle.node_space.specs.Searching.{More, Short, Enough, places, found}
 
 -- ---- the looks
 

@@ -14,3 +14,6 @@ pub use laws::{
 };
 pub use outcome::Search;
 pub use plain_cat::{NoMemory, Refusal};
+
+#[cfg(test)]
+mod tests;
