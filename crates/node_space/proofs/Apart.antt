@@ -14,7 +14,7 @@ use Rattle.vol_spell.proofs.Parts.{are_parts}
 use Rattle.op_law.specs.declared.need.PlanWrite.{PlanWrite}
 use Rattle.node_space.specs.Searching.{More, Short, Enough, free_number, number_write, taken_in, cluster_write, cluster_writes, found_number}
 use Rattle.node_space.specs.Taking.{WritesApart}
-use Rattle.node_space.proofs.Tests.{enough_of}
+use Rattle.node_space.proofs.Ways.{enough_of}
 use Rattle.node_space.proofs.Chosen.{LiesIn, has_taken_in}
 
 abbrev lbns : List PlanWrite → List ℕ

@@ -18,7 +18,7 @@ use Rattle.op_law.specs.declared.need.PlanWrite.{PlanWrite}
 use Rattle.node_space.specs.Searching.{Found, More, Short, Enough, cluster_places, free_number, free_in, free_from, number_write, taken_in, cluster_write, cluster_writes, found_clusters, found_number}
 use Rattle.node_space.specs.declared.outcome.Search.{Search}
 use Rattle.node_space.specs.Answering.{answered, answer, blocks_of}
-use Rattle.node_space.proofs.Tests.{more_of}
+use Rattle.node_space.proofs.Ways.{more_of}
 use Rattle.node_space.proofs.Chosen.{LiesIn, has_free, has_taken_in, free_number_clear}
 
 -- ---- blocks behind the bitmap

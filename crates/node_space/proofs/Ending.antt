@@ -6,7 +6,7 @@ use Rattle.std.proofs.lemmas.Option.{slice_get-get_or}
 use Rattle.node_space.specs.declared.outcome.Search.TheVariants as search
 use Rattle.node_space.specs.Searching.{Found, More, Short, Enough, places, found}
 use Rattle.node_space.specs.Answering.{answered, LooksInOrder}
-use Rattle.node_space.proofs.Tests.{search_ends}
+use Rattle.node_space.proofs.Ways.{search_ends}
 
 looks_on : (next lbn : ℕ) (f : Found) → answered next f ≡ search.Look lbn → (f ≡ More) × (next ≡ lbn)
 looks_on next lbn More e = (refl, let h : search.Look next ≡ search.Look lbn = e in cc)

@@ -1,4 +1,4 @@
-pub mod Tests
+pub mod Ways
 pub mod Ending
 pub mod Ranges
 pub mod Bits

@@ -25,7 +25,7 @@ use Rattle.vol_under.proofs.Short.{free_by_bits}
 use Rattle.op_law.specs.Knows.{clusters_wanted, wants_number, has_free_number}
 use Rattle.node_space.specs.Searching.{More, Short, storage_places, cluster_places, free_number, clusters_in, free_in, free_from, number_write, found_number}
 use Rattle.node_space.specs.Taking.{looked, IsTooLittle, ShortageIsExact, CommandIsShort}
-use Rattle.node_space.proofs.Tests.{short_of}
+use Rattle.node_space.proofs.Ways.{short_of}
 use Rattle.node_space.proofs.Ranges.{range_parts}
 use Rattle.node_space.proofs.Chosen.{lies_in, free_number_clear}
 use Rattle.node_space.proofs.Taken.{clear_is_free, number_bit_seen}

@@ -21,7 +21,7 @@ use Rattle.op_law.specs.declared.need.PlanWrite.{PlanWrite}
 use Rattle.op_law.specs.Writing.{Held, holding, empty_handed}
 use Rattle.node_space.specs.Searching.{More, Short, Enough, free_number, free_in, free_from, number_write, taken_in, cluster_write, cluster_writes, found_number, found}
 use Rattle.node_space.specs.Taking.{out_of, out_after, IsWanted, TakesAll, NumberIsFree}
-use Rattle.node_space.proofs.Tests.{enough_of}
+use Rattle.node_space.proofs.Ways.{enough_of}
 use Rattle.node_space.proofs.Chosen.{has_free, once_free, once_taken, free_number_clear}
 
 -- ---- lists

@@ -25,7 +25,7 @@ use Rattle.op_law.specs.Fits.{things}
 use Rattle.op_law.specs.Writing.{Held, holding, empty_handed}
 use Rattle.node_space.specs.Searching.{More, Short, Enough, storage_places, cluster_places, free_number, number_write, with_taken, free_in, taken_in, cluster_write, cluster_writes, found_number, found}
 use Rattle.node_space.specs.Taking.{looked, out_of, out_after, TakesNumber, TakesClustersOf, IsTaking, WritesTake, TakingsRefill}
-use Rattle.node_space.proofs.Tests.{enough_of}
+use Rattle.node_space.proofs.Ways.{enough_of}
 use Rattle.node_space.proofs.Bits.{put_here, put_there, cleared, kept, set_before, whole_taken}
 use Rattle.node_space.proofs.Chosen.{LiesIn, has_taken_in, once_taken_in, IsClearNumber, free_number_clear}
 
