@@ -10,3 +10,4 @@ pub mod Collecting
 pub mod Gathering
 pub mod Concluding
 pub mod Apart
+pub mod Looked

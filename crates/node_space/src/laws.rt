@@ -1,11 +1,21 @@
 //! The laws, each a statement for every value that it speaks of.
 
 ghost use Rattle.node_space.specs.Answering.{LooksInOrder};
-ghost use Rattle.node_space.specs.Taking.{SearchEnds, WritesTake, TakingsRefill, WritesApart, TakesAll, NumberIsFree, ShortageIsExact, CommandIsShort};
+ghost use Rattle.node_space.specs.Taking.{PlacesLie, LookedGrows, SearchEnds, WritesTake, TakingsRefill, WritesApart, TakesAll, NumberIsFree, NumberIsNew, ShortageIsExact, CommandIsShort};
 
 /// The block that is looked at next is the first of those that the search may look at that it has not looked at.
 pub fn looks_in_order()
     ensures { LooksInOrder }
+{}
+
+/// Each block that a search may look at is a bitmap's, inside the volume, and V guards it.
+pub fn places_lie()
+    ensures { PlacesLie }
+{}
+
+/// One more look comes behind the others.
+pub fn looked_grows()
+    ensures { LookedGrows }
 {}
 
 /// A search that has looked at all that it may look at is over.
@@ -36,6 +46,11 @@ pub fn takes_all()
 /// The number that it takes is free by the catalogue.
 pub fn number_is_free()
     ensures { NumberIsFree }
+{}
+
+/// And it is above those of the system files, where none of these is free.
+pub fn number_is_new()
+    ensures { NumberIsNew }
 {}
 
 /// A search is refused for its reason alone, where nothing is outside at any node.
