@@ -1,5 +1,5 @@
 -- The blocks that a search looks at.
-use Rattle.std.proofs.Common.{◌≡◌, ◌≤◌, ◌<◌, ◌+◌, ◌++◌, ℕ, zero, suc, Bool, true, false, List, [], ◌∷◌, Some, None, length, slice_get, refl, sym, ap, subst, ◌∙◌, inl, inr, arith}
+use Rattle.std.proofs.Common.{◌≡◌, ◌<◌, ◌+◌, ◌++◌, ℕ, zero, suc, Bool, true, false, List, [], ◌∷◌, Some, None, length, slice_get, refl, ap, subst, ◌∙◌, inl, inr, arith}
 use Rattle.std.specs.List.{range_with_len, zip}
 use Rattle.vol_words.specs.Fields.{Block}
 use Rattle.lock_db.specs.declared.name.LockName.TheVariants.{V}
@@ -11,7 +11,7 @@ use Rattle.vol_owners.specs.Owners.{Owners}
 use Rattle.vol_owners.proofs.Placing.{has_ranged}
 use Rattle.vol_parts.specs.declared.geometry.Geometry.{Geometry}
 use Rattle.vol_parts.specs.declared.geometry.Part.TheVariants.{IndexBitmap, Storage}
-use Rattle.vol_parts.specs.Parts.{part_of, storage_blocks}
+use Rattle.vol_parts.specs.Parts.{storage_blocks}
 use Rattle.vol_spell.specs.Reading.{total_of, owner_at}
 use Rattle.vol_spell.specs.Places.{place_of}
 use Rattle.vol_spell.specs.Spelling.{Spells}
@@ -20,7 +20,7 @@ use Rattle.vol_spell.proofs.Frames.{on_volume}
 use Rattle.vol_under.specs.Guards.{Lock, guard_of, guard_by}
 use Rattle.vol_under.specs.Keeping.{IsBitmap}
 use Rattle.node_space.specs.Searching.{cluster_places, places}
-use Rattle.node_space.specs.Taking.{looked, PlacesLie, LookedGrows}
+use Rattle.node_space.specs.Taking.{PlacesLie, LookedGrows}
 
 -- ---- where they lie
 
