@@ -1,0 +1,13 @@
+pub mod Ways
+pub mod Ending
+pub mod Ranges
+pub mod Bits
+pub mod Chosen
+pub mod Writes
+pub mod Taken
+pub mod Shortage
+pub mod Collecting
+pub mod Gathering
+pub mod Concluding
+pub mod Apart
+pub mod Looked
