@@ -7,3 +7,8 @@ pub mod EntryLists
 pub mod EntryDirs
 pub mod EntryMoves
 pub mod EntrySteps
+pub mod RowLists
+pub mod RowOrder
+pub mod RowBlocks
+pub mod RowPlaces
+pub mod RowSteps

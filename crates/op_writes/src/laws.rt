@@ -1,6 +1,7 @@
 //! The laws, each a statement for every value that it speaks of.
 
 ghost use Rattle.vol_under.specs.Chains.{anywhere};
+ghost use Rattle.op_writes.specs.RowWrites.{RowSteps, RowGuards};
 ghost use Rattle.op_writes.specs.FileWrites.{FileSteps, FileGuards};
 ghost use Rattle.op_writes.specs.EntryWrites.{EntrySteps, EntryGuards};
 
@@ -25,4 +26,15 @@ pub fn entry_steps()
 /// What those writes touch are blocks of the directory, which its lock guards.
 pub fn entry_guards()
     ensures { EntryGuards }
+{}
+
+/// The write that changes an owner's quota row is a step, and so are the writes behind it that are steps on what it leaves. Where
+/// the owner has no row there is no write, and the catalogue is the same.
+pub fn row_steps()
+    ensures { RowSteps anywhere }
+{}
+
+/// The lock Q guards the block that the write of an owner's quota row touches.
+pub fn row_guards()
+    ensures { RowGuards }
 {}
