@@ -63,7 +63,7 @@ bytes-text name ver are top =
 
 -- ---- what is read
 
-module _ (g : Geometry) (parent : Fid) (n : ℕ) (e : NewEntry) (qs : List ℕ) (geometry : IsGeometry g) (can : CanBeMade g parent n e qs) (within : (q : ℕ) → Has qs q → q < total_of g) where
+module _ (g : Geometry) (parent : Fid) (n : ℕ) (e : NewEntry) (qs : List ℕ) (geometry : IsGeometry g) (can : CanBeMade g n e qs) (within : (q : ℕ) → Has qs q → q < total_of g) where
   fits : Fits (fields_for g n e.file)
   fits =
       let s = sized g e.file (length qs) can.kind in
@@ -172,14 +172,14 @@ dir_told g n f body qs (inr (e, one)) bare =
     ∙ directory_found g n f.seq f.owner body (merged (runs_for g qs)) (runs_of_one g qs one) (bare (ap (λ (x : File). x.dir) e))
 
 -- what the header tells with the blocks of the file: a directory that can be read, and the file
-pub new_dir_told : (g : Geometry) (parent : Fid) (n : ℕ) (e : NewEntry) (qs : List ℕ) (body : List Block) → IsGeometry g → CanBeMade g parent n e qs → ((q : ℕ) → Has qs q → q < total_of g) → IsBare e.file body
+pub new_dir_told : (g : Geometry) (parent : Fid) (n : ℕ) (e : NewEntry) (qs : List ℕ) (body : List Block) → IsGeometry g → CanBeMade g n e qs → ((q : ℕ) → Has qs q → q < total_of g) → IsBare e.file body
     → dir_found g n (fields_told (new_header g parent n e qs)) (runs_told (new_header g parent n e qs)) body ≡ None
 new_dir_told g parent n e qs body geometry can within bare =
     ap (λ o. dir_found g n o (runs_told (new_header g parent n e qs)) body) (fields_are g parent n e qs geometry can within)
     ∙ ap (λ rs. dir_found g n (Some (fields_for g n e.file)) rs body) (runs_are g parent n e qs geometry can within)
     ∙ dir_told g n e.file body qs can.kind bare
 
-pub new_slot_told : (g : Geometry) (parent : Fid) (n : ℕ) (e : NewEntry) (qs : List ℕ) (body : List Block) → IsGeometry g → CanBeMade g parent n e qs → ((q : ℕ) → Has qs q → q < total_of g) → is_structure n ≡ false → IsBare e.file body
+pub new_slot_told : (g : Geometry) (parent : Fid) (n : ℕ) (e : NewEntry) (qs : List ℕ) (body : List Block) → IsGeometry g → CanBeMade g n e qs → ((q : ℕ) → Has qs q → q < total_of g) → is_structure n ≡ false → IsBare e.file body
     → slot_with g.cluster n (header_read (new_header g parent n e qs)) body ≡ slot.Used e.file
 new_slot_told g parent n e qs body geometry can within plain bare =
     ap (λ r. slot_with g.cluster n r body) (head_is g parent n e qs geometry can within)

@@ -86,7 +86,7 @@ unused g bs own x node n spelt is out q at =
 not_structure : (n : ℕ) → 11 < n → is_structure n ≡ false
 not_structure n above = grind (arith, nat_tests)
 
-module _ (k : Chain) (parent : Fid) (n : ℕ) (e : NewEntry) (qs : List ℕ) (x : Cat) (bs : List Block) (own : Owners) (on : StandsOn k (holding qs (Some n)) x bs own) (can : CanBeMade k.geometry parent n e qs)
+module _ (k : Chain) (parent : Fid) (n : ℕ) (e : NewEntry) (qs : List ℕ) (x : Cat) (bs : List Block) (own : Owners) (on : StandsOn k (holding qs (Some n)) x bs own) (can : CanBeMade k.geometry n e qs)
     (bare_body : AreBody k.geometry k.node n e.file qs bs own (body_writes k.geometry n e.file qs)) where
   abbrev new : Owners
   new = filed n (things qs (Some n)) own

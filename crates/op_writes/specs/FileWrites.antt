@@ -23,8 +23,8 @@ use Rattle.op_writes.specs.Chained.{Chain, StepsOf, StageOf, after_writes, Touch
 abbrev pub IsNewFile : Geometry → File → ℕ → Type 0
 IsNewFile g f clusters = (f ≡ new_file f.seq f.owner clusters) ⊎ ((f ≡ new_dir f.seq f.owner g.cluster) × (clusters ≡ 1))
 
--- what is to be made can be written, under this number, with these clusters, in this directory
-pub record CanBeMade (g : Geometry) (parent : Fid) (n : ℕ) (e : NewEntry) (qs : List ℕ) : Type 0 where
+-- what is to be made can be written, under this number and with these clusters
+pub record CanBeMade (g : Geometry) (n : ℕ) (e : NewEntry) (qs : List ℕ) : Type 0 where
   pub number : IsFileNumber g n
   pub above : 11 < n
   pub kind : IsNewFile g e.file (length qs)
@@ -33,8 +33,6 @@ pub record CanBeMade (g : Geometry) (parent : Fid) (n : ℕ) (e : NewEntry) (qs 
   pub owner : e.file.owner.0 < 2 ^ 32
   pub name : is_name e.name ≡ true
   pub ver : e.ver ≤ 32767
-  pub parent_num : parent.num ≤ 16777215
-  pub parent_seq : parent.seq < 2 ^ 16
 
 -- a directory's own blocks, and the header
 abbrev pub file_writes : Geometry → Fid → ℕ → NewEntry → List ℕ → List PlanWrite
@@ -43,7 +41,7 @@ file_writes g parent n e qs = body_writes g n e.file qs ++ header_write g n (new
 -- the writes are steps, and so are the writes behind them that are steps on what they leave
 abbrev pub FileSteps : End → Type 0
 FileSteps end = (k : Chain) (parent : Fid) (n : ℕ) (e : NewEntry) (qs : List ℕ) (ws : List PlanWrite) (x : Cat) (bs : List Block) (own : Owners)
-    → StandsOn k (holding qs (Some n)) x bs own → CanBeMade k.geometry parent n e qs → Has k.locks (S n) → StageOf k stage.Charged x → StageOf k stage.Lost (with_file x n e.file)
+    → StandsOn k (holding qs (Some n)) x bs own → CanBeMade k.geometry n e qs → Has k.locks (S n) → StageOf k stage.Charged x → StageOf k stage.Lost (with_file x n e.file)
     → ((new : Owners) → StandsOn k empty_handed (with_file x n e.file) (after_writes (file_writes k.geometry parent n e qs) bs) new → OthersStay k.geometry n bs (after_writes (file_writes k.geometry parent n e qs) bs)
     → StepsOf end k ws (after_writes (file_writes k.geometry parent n e qs) bs) new)
     → StepsOf end k (file_writes k.geometry parent n e qs ++ ws) bs own
