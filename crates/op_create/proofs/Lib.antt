@@ -1,3 +1,5 @@
 pub mod Makers
 pub mod Searches
 pub mod Ends
+pub mod Sequences
+pub mod Space
