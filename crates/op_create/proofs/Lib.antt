@@ -3,3 +3,5 @@ pub mod Searches
 pub mod Ends
 pub mod Sequences
 pub mod Space
+pub mod Forms
+pub mod Walks
