@@ -5,3 +5,4 @@ pub mod Sequences
 pub mod Space
 pub mod Forms
 pub mod Walks
+pub mod Replies
