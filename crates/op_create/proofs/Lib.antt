@@ -6,3 +6,4 @@ pub mod Space
 pub mod Forms
 pub mod Walks
 pub mod Replies
+pub mod RowRanges
