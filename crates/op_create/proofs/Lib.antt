@@ -7,3 +7,4 @@ pub mod Forms
 pub mod Walks
 pub mod Replies
 pub mod RowRanges
+pub mod Making

@@ -14,9 +14,9 @@ use Rattle.plain_cat.specs.declared.cat.Cat.{Cat}
 use Rattle.plain_cat.specs.declared.cat.File.{File}
 use Rattle.plain_vol.specs.declared.outcome.Outcome.{Outcome}
 use Rattle.plain_vol.specs.Lookups.{live, free_clusters, is_free_number}
-use Rattle.plain_vol.specs.Directories.{entry}
+use Rattle.plain_vol.specs.Directories.{inserted, entry}
 use Rattle.plain_vol.specs.Changes.{new_fid, charged, with_file, with_entries}
-use Rattle.plain_vol.specs.Answers.{refused, first_refusal, unless, in_directory_file, made, create_outcome, create_refusal, mkdir_outcome, mkdir_refusal, outcome, IsPick, Answer}
+use Rattle.plain_vol.specs.Answers.{refused, first_refusal, unless, in_directory_file, shown, made, create_outcome, create_refusal, mkdir_outcome, mkdir_refusal, outcome, IsPick, Answer}
 use Rattle.plain_vol.specs.Stages.{making_stage, create_stage, mkdir_stage, command_stage, stage_of, staged}
 use Rattle.plain_vol.proofs.LawSteps.{pick_exists}
 use Rattle.vol_parts.specs.declared.geometry.Geometry.{Geometry}
@@ -59,6 +59,13 @@ entry_at c m es n = entry m.name (m.ver es) (new_fid c n)
 
 abbrev pub made_by : Cat → Maker → File → ℕ → Outcome
 made_by c m d n = made c m.dir.num d (entry_at c m d.entries n) (file_for c m n)
+
+-- the catalogue with the new file, and the entry in its directory
+abbrev pub lost_for : Geometry → Cat → Maker → ℕ → Cat
+lost_for g c m n = with_file (charged c m.file.owner (cost_of g m.file)) n (file_for c m n)
+
+abbrev pub after_for : Geometry → Cat → Maker → File → ℕ → Cat
+after_for g c m d n = with_entries (lost_for g c m n) m.dir.num d (inserted (entry_at c m d.entries n) d.entries)
 
 abbrev made_or_none : Cat → Maker → File → Option ℕ → Outcome
 made_or_none c m d None = refused c refusal.IndexFull
@@ -153,8 +160,12 @@ module _ (g : Geometry) (c : Cat) (factor : c.factor ≡ g.cluster) (node : ℕ)
           let has : nat_lt (free_clusters c) m.file.clusters ≡ false = grind (arith, nat_tests) in
           comes_to (Some n) None (last_checks order paid (Some n) ∙ ap (λ t. cond t (Some refusal.DeviceFull) None) has)
 
-      pub makes_answer : Answer c node x (made_by c m d n).reply (made_by c m d n).after
-      makes_answer = (Some n, free, makes)
+      -- the catalogue behind it, by the geometry
+      after_is : (made_by c m d n).after ≡ after_for g c m d n
+      after_is = ap (λ w. with_entries (with_file (charged c m.file.owner (w * m.file.clusters + 1)) n (file_for c m n)) m.dir.num d (inserted (entry_at c m d.entries n) d.entries)) factor
+
+      pub makes_answer : Answer c node x (shown (entry_at c m d.entries n)) (after_for g c m d n)
+      makes_answer = subst (λ a. Answer c node x (shown (entry_at c m d.entries n)) a) after_is (Some n, free, makes)
 
       -- the stages of the command
       stage_told : (st : Stage) → stage_of c node x (Some n) (outcome c node x (Some n)) st ≡ making_stage c n (file_for c m n) (made_by c m d n) st
@@ -166,10 +177,10 @@ module _ (g : Geometry) (c : Cat) (factor : c.factor ≡ g.cluster) (node : ℕ)
       unfolding staged
       stands_charged = (Some n, free, stage_told stage.Charged ∙ ap (λ w. Some (charged c m.file.owner (w * m.file.clusters + 1))) factor)
 
-      pub stands_lost : StandsAt c node (Some x) stage.Lost (with_file (charged c m.file.owner (cost_of g m.file)) n (file_for c m n))
+      pub stands_lost : StandsAt c node (Some x) stage.Lost (lost_for g c m n)
       unfolding staged
       stands_lost = (Some n, free, stage_told stage.Lost ∙ ap (λ w. Some (with_file (charged c m.file.owner (w * m.file.clusters + 1)) n (file_for c m n))) factor)
 
-      pub stands_done : StandsAt c node (Some x) stage.Done (made_by c m d n).after
+      pub stands_done : StandsAt c node (Some x) stage.Done (after_for g c m d n)
       unfolding staged
-      stands_done = (Some n, free, stage_told stage.Done)
+      stands_done = (Some n, free, stage_told stage.Done ∙ ap (λ a. Some a) after_is)

@@ -56,15 +56,6 @@ next_low seq lt = by_test (seq == 65535) refl where
   by_test true e = omega arith
   by_test false e = grind (arith, nat_tests)
 
--- a live file's header has the sequence that was asked for
-pub live_seq : (seq : ℕ) (r : Result Head HeaderFault) (h : Hdr) → live_header seq r ≡ Some h → slot_seq r ≡ seq
-live_seq seq (Ok (head.Used f)) h e = by_test (f.seq == seq) refl e where
-  by_test : (t : Bool) → (f.seq == seq) ≡ t → cond (t && not f.marked) (Some f) None ≡ Some h → f.seq ≡ seq
-  by_test true is k = grind (arith, nat_tests)
-  by_test false is k = absurd (cc)
-live_seq seq (Ok (head.Free last)) h e = absurd (let f : None ≡ Some h = e in cc)
-live_seq seq (Err fault) h e = absurd (let f : None ≡ Some h = e in cc)
-
 -- ---- on a volume
 
 -- what a slot with this header tells
@@ -84,6 +75,3 @@ module _ (g : Geometry) (bs : List Block) (own : Owners) (c : Cat) (s : Spells g
   pub sequence_within : (n : ℕ) → IsFileNumber g n → (new_fid c n).seq < 2 ^ 16
   sequence_within n is =
       subst (λ k. k < 2 ^ 16) (sequence_is n is) (next_low (slot_seq (header_read (header_block g bs n))) (sequence_low (header_block g bs n) (header_bytes n is)))
-
-  pub live_within : (n seq : ℕ) (h : Hdr) → IsFileNumber g n → live_in seq (header_block g bs n) ≡ Some h → seq < 2 ^ 16
-  live_within n seq h is e = subst (λ k. k < 2 ^ 16) (live_seq seq (header_read (header_block g bs n)) h e) (sequence_low (header_block g bs n) (header_bytes n is))
