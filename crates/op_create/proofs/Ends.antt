@@ -1,5 +1,5 @@
 -- What a command that makes a file has outside after its writes: nothing. And the last write of a plan is the insertion's.
-use Rattle.std.proofs.Common.{◌≡◌, ◌∙◌, ◌<◌, ◌-◌, ℕ, zero, suc, Bool, true, false, cond, List, [], ◌∷◌, ◌++◌, Option, Some, None, map, length, take, drop, refl, sym, ap, subst, arith}
+use Rattle.std.proofs.Common.{◌≡◌, ◌∙◌, ◌<◌, ◌-◌, ℕ, zero, suc, Bool, true, false, cond, List, [], ◌∷◌, ◌++◌, Option, Some, None, map, length, take, drop, refl, ap, subst, arith}
 use Rattle.std.specs.Prelude.{◌==◌, ◌&&◌, MatchBool}
 use Rattle.vol_words.specs.Fields.{Block}
 use Rattle.fx_dir.specs.declared.Move.{Move}
@@ -18,7 +18,6 @@ use Rattle.op_law.specs.declared.need.Need.TheVariants as need
 use Rattle.op_law.specs.declared.need.Plan.{Plan}
 use Rattle.op_law.specs.declared.need.PlanWrite.{PlanWrite}
 use Rattle.op_law.specs.declared.seen.Seen.{Seen}
-use Rattle.op_law.specs.declared.seen.Chan.{Chan}
 use Rattle.op_law.specs.Events.{Events, Take, Look, Fetch, Find, Make, Space, space_of, has_space, HasNoSpace, IsGiven, following, Follows}
 use Rattle.op_law.specs.Writing.{holding, header_write, empty_handed}
 use Rattle.op_law.specs.Quotas.{owner_write, row_charged}

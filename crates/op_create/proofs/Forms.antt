@@ -1,5 +1,5 @@
 -- What commands that make a file make, where the entries of the directory refuse nothing.
-use Rattle.std.proofs.Common.{◌≡◌, ◌≤◌, ◌<◌, ◌+◌, ◌^◌, ◌∙◌, inl, inr, ℕ, zero, suc, Bool, true, false, cond, List, [], ◌∷◌, ◌++◌, Option, Some, None, length, map, drop, refl, sym, ap, subst, arith}
+use Rattle.std.proofs.Common.{◌≡◌, ◌≤◌, ◌<◌, ◌+◌, ◌^◌, ◌∙◌, inl, inr, ℕ, zero, suc, Bool, true, false, cond, List, [], ◌∷◌, ◌++◌, Option, Some, None, length, map, drop, refl, sym, ap, arith}
 use Rattle.std.specs.Prelude.{◌==◌, ◌&&◌, not, leb, nat_le}
 use Rattle.std.specs.List.{list_all, prefix_len}
 use Rattle.std.proofs.lemmas.Bool.{and_parts, leb-true}
@@ -15,7 +15,7 @@ use Rattle.plain_cat.specs.declared.reply.Refusal.{Refusal}
 use Rattle.plain_cat.specs.declared.cat.File.{File}
 use Rattle.plain_vol.specs.Lookups.{versions, highest}
 use Rattle.plain_vol.specs.Directories.{before, inserted, is_nil, fits, nowhere, entry, new_version, is_last_version, is_taken}
-use Rattle.plain_vol.specs.Changes.{new_file, new_dir}
+use Rattle.plain_vol.specs.Changes.{new_file}
 use Rattle.plain_vol.specs.Answers.{first_refusal, dir_name}
 use Rattle.vol_parts.specs.declared.geometry.Geometry.{Geometry}
 use Rattle.op_law.specs.Knows.{takes_space, clusters_wanted, wants_number}

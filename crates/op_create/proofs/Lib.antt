@@ -8,3 +8,4 @@ pub mod Walks
 pub mod Replies
 pub mod RowRanges
 pub mod Making
+pub mod Lawful

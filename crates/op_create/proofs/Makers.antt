@@ -16,7 +16,7 @@ use Rattle.op_law.specs.declared.seen.Chan.{Chan}
 use Rattle.op_law.specs.Events.{Events}
 use Rattle.op_law.specs.Refusing.{unless_refused}
 use Rattle.op_law.specs.Writing.{clusters_for}
-use Rattle.op_law.specs.Moving.{SeenDir, entries_of, through_names}
+use Rattle.op_law.specs.Moving.{entries_of, through_names}
 use Rattle.op_law.specs.Entering.{NewEntry, making_events, create_refusals, create_events, mkdir_refusals, mkdir_events}
 use Rattle.op_law.specs.Needs.{events_of}
 use Rattle.op_create.specs.Kinds.{IsMake}

@@ -1,18 +1,14 @@
 -- The writes of a new file as a chain of steps, and what guards them.
-use Rattle.std.proofs.Common.{◌≡◌, ◌≤◌, ◌<◌, ◌-◌, ◌+◌, ◌^◌, ◌∙◌, ◌⊎◌, inl, inr, ℕ, Bool, true, false, cond, List, [], ◌∷◌, ◌++◌, Option, Some, None, length, map, slice_get, slice_set, append_assoc, refl, sym, ap, subst, arith}
+use Rattle.std.proofs.Common.{◌≡◌, ◌≤◌, ◌<◌, ◌-◌, ◌+◌, ◌∙◌, ◌⊎◌, inl, inr, ℕ, Bool, true, false, cond, List, [], ◌∷◌, ◌++◌, Option, Some, None, length, slice_get, slice_set, append_assoc, refl, sym, ap, subst, arith}
 use Rattle.std.specs.Prelude.{◌==◌, Ok}
-use Rattle.std.proofs.lemmas.Bool.Decides.{nat_tests}
 use Rattle.std.proofs.lemmas.List.{append-nil}
 use Rattle.vol_words.specs.Fields.{Block}
 use Rattle.fx_header.specs.declared.slot.Hdr.{Hdr}
 use Rattle.fx_header.specs.declared.slot.Slot.TheVariants as head
 use Rattle.fx_header.specs.Headers.{header_read}
 use Rattle.fx_header.specs.Pointers.{lbns_in}
-use Rattle.fx_quota.specs.declared.types.Row.{Row}
-use Rattle.lock_db.specs.declared.name.LockName.{LockName}
 use Rattle.lock_db.specs.declared.name.LockName.TheVariants.{S, Q}
 use Rattle.plain_cat.specs.declared.ids.Fid.{Fid}
-use Rattle.plain_cat.specs.declared.entries.DirEnt.{DirEnt}
 use Rattle.plain_cat.specs.declared.command.Cmd.{Cmd}
 use Rattle.plain_cat.specs.declared.history.Stage.TheVariants as stage
 use Rattle.plain_cat.specs.declared.cat.Cat.{Cat}
@@ -20,23 +16,21 @@ use Rattle.plain_cat.specs.declared.cat.File.{File}
 use Rattle.plain_cat.specs.declared.cat.Slot.{Slot}
 use Rattle.plain_cat.specs.declared.cat.QuotaRow.{QuotaRow}
 use Rattle.plain_vol.specs.Lookups.{file_in, file_at, of_seq, unmarked, live, row_of, free_clusters}
-use Rattle.plain_vol.specs.Directories.{fits, inserted, nowhere}
+use Rattle.plain_vol.specs.Directories.{nowhere}
 use Rattle.plain_vol.specs.Changes.{new_fid, with_slot, charged}
 use Rattle.plain_vol.specs.Answers.{first_refusal, over_quota}
-use Rattle.vol_owners.specs.Lists.{Has, Touches}
 use Rattle.vol_owners.specs.Owners.{Owners, Things, nothing, Outs}
 use Rattle.vol_owners.specs.Places.{blocks_at}
 use Rattle.vol_owners.proofs.Writing.{get-set_else}
 use Rattle.vol_parts.specs.declared.geometry.Geometry.{Geometry}
-use Rattle.vol_spell.specs.Reading.{IsFileNumber, header_block, runs_told, quota_places, body_places}
+use Rattle.vol_spell.specs.Reading.{header_block, runs_told, quota_places, body_places}
 use Rattle.vol_spell.specs.Spelling.{Spells}
 use Rattle.vol_spell.specs.Views.{IsSameFile}
 use Rattle.vol_under.specs.Chains.{End}
-use Rattle.vol_under.specs.Guards.{Lock, guard_of, MayWrite}
+use Rattle.vol_under.specs.Guards.{guard_of, MayWrite}
 use Rattle.vol_under.specs.UnderWay.{StandsAt}
 use Rattle.op_law.specs.declared.need.PlanWrite.{PlanWrite}
 use Rattle.op_law.specs.Fits.{things}
-use Rattle.op_law.specs.Laws.{planned}
 use Rattle.op_law.specs.Writing.{holding, empty_handed, header_write}
 use Rattle.op_law.specs.Quotas.{row_charged, owner_write}
 use Rattle.op_law.specs.Rows.{places_in}
@@ -44,8 +38,8 @@ use Rattle.op_law.specs.Moving.{SeenDir, insertion_moves, insertion_writes}
 use Rattle.op_law.specs.Entering.{NewEntry, cost_of, new_header, body_writes, entry_for, making_writes, quota_refusals}
 use Rattle.op_law.proofs.Telling.{live_reads, reads_runs}
 use Rattle.op_law.proofs.Looks.{plain_directory}
-use Rattle.op_law.proofs.Through.{file_header, file_told, IsListed}
-use Rattle.op_writes.specs.Chained.{Chain, StepsOf, after_writes, TouchedBy, StandsOn, FilesStay, OthersStay}
+use Rattle.op_law.proofs.Through.{file_told, IsListed}
+use Rattle.op_writes.specs.Chained.{Chain, StepsOf, after_writes, TouchedBy, StandsOn, FilesStay}
 use Rattle.op_writes.specs.RowWrites.{IsInRange, row_for}
 use Rattle.op_writes.specs.FileWrites.{CanBeMade, file_writes}
 use Rattle.op_writes.specs.EntryWrites.{dir_in, CanBeEntered}
@@ -55,11 +49,11 @@ use Rattle.op_writes.proofs.FileGuards.{file_guards}
 use Rattle.op_writes.proofs.EntrySteps.{entry_steps, entry_moved, entry_guards}
 use Rattle.op_create.specs.Kinds.{IsMake}
 use Rattle.op_create.proofs.Makers.{Maker, to_make, maker}
-use Rattle.op_create.proofs.Forms.{passed, room_alike, IsInOrder, in_order, file_of_seq, is_new}
+use Rattle.op_create.proofs.Forms.{passed, room_alike, IsInOrder, in_order, is_new}
 use Rattle.op_create.proofs.Sequences.{sequence_within}
 use Rattle.op_create.proofs.Space.{not_live_number, IsSpace}
 use Rattle.op_create.proofs.RowRanges.{charged_in}
-use Rattle.op_create.proofs.Replies.{file_for, entry_at, lost_for, after_for, stands_charged, stands_lost, stands_done}
+use Rattle.op_create.proofs.Replies.{file_for, lost_for, after_for, stands_charged, stands_lost, stands_done}
 
 -- ---- the directory's slot
 

@@ -1,5 +1,5 @@
 -- The outcome of a command that makes a file: the refusals in their order, and what is made; and the stages on the way.
-use Rattle.std.proofs.Common.{◌≡◌, ◌≤◌, ◌<◌, ◌∙◌, ℕ, Bool, true, false, cond, List, [], ◌∷◌, ◌++◌, Option, Some, None, length, refl, sym, ap, subst, arith}
+use Rattle.std.proofs.Common.{◌≡◌, ◌≤◌, ◌∙◌, ℕ, Bool, true, false, cond, List, [], ◌∷◌, ◌++◌, Option, Some, None, refl, ap, subst, arith}
 use Rattle.std.specs.Prelude.{◌*◌, ◌+◌, nat_lt, is_none}
 use Rattle.std.proofs.lemmas.Bool.Decides.{nat_tests}
 use Rattle.plain_cat.specs.declared.entries.DirEnt.{DirEnt}
@@ -26,7 +26,7 @@ use Rattle.op_law.specs.Entering.{cost_of, quota_refusals}
 use Rattle.op_create.specs.Kinds.{IsMake}
 use Rattle.op_create.proofs.Makers.{Maker, to_make, maker}
 use Rattle.op_create.proofs.Forms.{file_of_seq}
-use Rattle.op_create.proofs.Space.{IsSpace, IsShort}
+use Rattle.op_create.proofs.Space.{IsShort}
 
 -- ---- refusals in a row
 

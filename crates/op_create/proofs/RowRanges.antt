@@ -7,7 +7,7 @@ use Rattle.std.proofs.lemmas.Option.{unwrap_or-slice_get}
 use Rattle.vol_words.specs.Fields.{Block, IsBytes, AreWholeBlocks}
 use Rattle.vol_words.proofs.Puts.{field-lt}
 use Rattle.fx_quota.specs.declared.types.Row.{Row}
-use Rattle.fx_quota.specs.Rows.{flags_at, row_in, row_at, row_start}
+use Rattle.fx_quota.specs.Rows.{flags_at, row_in, row_at}
 use Rattle.plain_cat.specs.declared.ids.Uic.{Uic}
 use Rattle.plain_cat.specs.declared.cat.Cat.{Cat}
 use Rattle.plain_cat.specs.declared.cat.QuotaRow.{QuotaRow}

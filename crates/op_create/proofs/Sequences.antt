@@ -1,9 +1,9 @@
 -- The sequence that a header's block tells is of 16 bits, and so is the next one.
-use Rattle.std.proofs.Common.{◌≡◌, ◌<◌, ◌+◌, ◌^◌, ◌∙◌, ℕ, Bool, true, false, cond, List, Option, Some, None, refl, sym, ap, subst, arith}
-use Rattle.std.specs.Prelude.{◌==◌, ◌&&◌, not, Result, Ok, Err}
+use Rattle.std.proofs.Common.{◌≡◌, ◌<◌, ◌+◌, ◌^◌, ◌∙◌, ℕ, Bool, true, false, cond, List, Some, refl, sym, ap, subst, arith}
+use Rattle.std.specs.Prelude.{◌==◌, not, Result, Ok, Err}
 use Rattle.std.proofs.lemmas.Bool.Decides.{nat_tests}
 use Rattle.std.proofs.lemmas.Option.{slice_get-get_or}
-use Rattle.vol_words.specs.Fields.{Block, IsBytes, IsWholeBlock, field}
+use Rattle.vol_words.specs.Fields.{Block, IsBytes, field}
 use Rattle.vol_words.proofs.Puts.{field-lt}
 use Rattle.fx_header.specs.declared.slot.Hdr.{Hdr}
 use Rattle.fx_header.specs.declared.slot.Slot.{Slot as Head}
@@ -12,17 +12,16 @@ use Rattle.fx_header.specs.declared.slot.HeaderFault.{HeaderFault}
 use Rattle.fx_header.specs.declared.slot.HeaderFault.TheVariants.{BadSum, BadLevel, BadOffsets, BadRvn, BadExtension, BadMap, BadEnd}
 use Rattle.fx_header.specs.Headers.{is_free, has_sum, has_level, has_offsets, is_on_this_volume, is_alone, has_map, has_end, header_read, fields_of}
 use Rattle.plain_cat.specs.declared.cat.Cat.{Cat}
-use Rattle.plain_vol.specs.Lookups.{slot_at, last_seq}
+use Rattle.plain_vol.specs.Lookups.{last_seq}
 use Rattle.plain_vol.specs.Changes.{next_seq, new_fid}
 use Rattle.vol_owners.specs.Owners.{Owners}
 use Rattle.vol_parts.specs.declared.geometry.Geometry.{Geometry}
 use Rattle.vol_parts.specs.Catalogues.{slot_with}
 use Rattle.vol_spell.specs.Reading.{IsFileNumber, header_place, header_block}
 use Rattle.vol_spell.specs.Spelling.{Spells}
-use Rattle.op_law.specs.Rows.{live_header, live_in}
 use Rattle.op_law.specs.Entering.{slot_seq}
 use Rattle.op_law.proofs.Looks.{header_under}
-use Rattle.op_law.proofs.Telling.{file_blocks, slot_is, live_reads}
+use Rattle.op_law.proofs.Telling.{file_blocks, slot_is}
 
 -- ---- one block
 
