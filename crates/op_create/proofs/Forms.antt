@@ -1,20 +1,17 @@
 -- What commands that make a file make, where the entries of the directory refuse nothing.
-use Rattle.std.proofs.Common.{◌≡◌, ◌≤◌, ◌<◌, ◌+◌, ◌^◌, ◌∙◌, inl, inr, ℕ, zero, suc, Bool, true, false, cond, List, [], ◌∷◌, ◌++◌, Option, Some, None, length, map, drop, refl, sym, ap, arith}
+use Rattle.std.proofs.Common.{◌≡◌, ◌≤◌, ◌<◌, ◌+◌, ◌^◌, ◌∙◌, inl, inr, ℕ, Bool, true, false, cond, List, [], ◌∷◌, ◌++◌, None, length, drop, refl, sym, ap, arith}
 use Rattle.std.specs.Prelude.{◌==◌, ◌&&◌, not, leb, nat_le}
 use Rattle.std.specs.List.{list_all, prefix_len}
 use Rattle.std.proofs.lemmas.Bool.{and_parts, leb-true}
 use Rattle.std.proofs.lemmas.Bool.Decides.{nat_tests}
 use Rattle.vol_words.specs.Names.{is_character, is_part, is_tail, is_name}
-use Rattle.vol_words.specs.Packing.{cost, unfilled, over}
 use Rattle.plain_cat.specs.InForm.{is_dir_name, is_version, is_count, is_owner}
-use Rattle.plain_cat.specs.declared.ids.Fid.{Fid}
 use Rattle.plain_cat.specs.declared.entries.DirEnt.{DirEnt}
 use Rattle.plain_cat.specs.declared.command.Cmd.{Cmd}
 use Rattle.plain_cat.specs.declared.command.Cmd.TheVariants as cmd
-use Rattle.plain_cat.specs.declared.reply.Refusal.{Refusal}
 use Rattle.plain_cat.specs.declared.cat.File.{File}
 use Rattle.plain_vol.specs.Lookups.{versions, highest}
-use Rattle.plain_vol.specs.Directories.{before, inserted, is_nil, fits, nowhere, entry, new_version, is_last_version, is_taken}
+use Rattle.plain_vol.specs.Directories.{inserted, is_nil, fits, nowhere, entry, new_version, is_last_version, is_taken}
 use Rattle.plain_vol.specs.Changes.{new_file}
 use Rattle.plain_vol.specs.Answers.{first_refusal, dir_name}
 use Rattle.vol_parts.specs.declared.geometry.Geometry.{Geometry}
@@ -23,66 +20,9 @@ use Rattle.op_law.specs.Writing.{clusters_for}
 use Rattle.op_law.specs.Moving.{is_full}
 use Rattle.op_law.specs.Entering.{create_refusals, mkdir_refusals}
 use Rattle.op_writes.specs.FileWrites.{IsNewFile}
+use Rattle.op_law.proofs.Refusals.{passed}
 use Rattle.op_create.specs.Kinds.{IsMake}
 use Rattle.op_create.proofs.Makers.{Maker, maker}
-
--- ---- refusals that do not hold
-
-abbrev pub Passed : List (Bool × Refusal) → Type 0
-Passed [] = Unit {0}
-Passed (k ∷ ks) = (k.0 ≡ false) × Passed ks
-
-pub passed : (ks : List (Bool × Refusal)) → first_refusal ks ≡ None → Passed ks
-passed [] e = tt
-passed (k ∷ ks) e = by_test k.0 refl e (passed ks) where
-  by_test : (t : Bool) → k.0 ≡ t → cond t (Some k.1) (first_refusal ks) ≡ None → (first_refusal ks ≡ None → Passed ks) → (k.0 ≡ false) × Passed ks
-  by_test true is h more = absurd (let f : Some k.1 ≡ None = h in cc)
-  by_test false is h more = (is, more h)
-
--- ---- room goes by names and versions
-
--- the entry of no file
-abbrev unnumbered : DirEnt → DirEnt
-unnumbered e = record e { fid = nowhere }
-
-abbrev name_of : DirEnt → List ℕ
-name_of e = e.name
-
-unfilled_alike : (last : Option (List ℕ)) (used : ℕ) (es : List DirEnt) → map unnumbered (unfilled name_of last used es) ≡ unfilled name_of last used (map unnumbered es)
-unfilled_alike last used [] = refl
-unfilled_alike last used (e ∷ es) = by_test (leb (used + cost last e.name) 510) (unfilled_alike (Some e.name) (used + cost last e.name) es) where
-  by_test : (t : Bool) → map unnumbered (unfilled name_of (Some e.name) (used + cost last e.name) es) ≡ unfilled name_of (Some e.name) (used + cost last e.name) (map unnumbered es)
-      → map unnumbered (cond t (unfilled name_of (Some e.name) (used + cost last e.name) es) (e ∷ es))
-      ≡ cond t (unfilled name_of (Some e.name) (used + cost last e.name) (map unnumbered es)) (unnumbered e ∷ map unnumbered es)
-  by_test true h = h
-  by_test false h = refl
-
-over_alike : (k : ℕ) (es : List DirEnt) → map unnumbered (over name_of k es) ≡ over name_of k (map unnumbered es)
-over_alike zero es = refl
-over_alike (suc k) es = over_alike k (unfilled name_of None 0 es) ∙ ap (over name_of k) (unfilled_alike None 0 es)
-
-nil_alike : (es : List DirEnt) → is_nil es ≡ is_nil (map unnumbered es)
-nil_alike [] = refl
-nil_alike (e ∷ es) = refl
-
-fits_alike : (k : ℕ) (es : List DirEnt) → fits k es ≡ fits k (map unnumbered es)
-unfolding fits
-fits_alike k es = nil_alike (over name_of k es) ∙ ap is_nil (over_alike k es)
-
-inserted_alike : (e : DirEnt) (es : List DirEnt) → map unnumbered (inserted e es) ≡ inserted (unnumbered e) (map unnumbered es)
-unfolding before
-inserted_alike e [] = refl
-inserted_alike e (x ∷ es) = by_test (before e x) (inserted_alike e es) where
-  by_test : (t : Bool) → map unnumbered (inserted e es) ≡ inserted (unnumbered e) (map unnumbered es)
-      → map unnumbered (cond t (e ∷ x ∷ es) (x ∷ inserted e es)) ≡ cond t (unnumbered e ∷ unnumbered x ∷ map unnumbered es) (unnumbered x ∷ inserted (unnumbered e) (map unnumbered es))
-  by_test true h = refl
-  by_test false h = ap (λ xs. unnumbered x ∷ xs) h
-
--- an entry has room whatever its file
-pub room_alike : (k : ℕ) (name : List ℕ) (ver : ℕ) (fid other : Fid) (es : List DirEnt) → fits k (inserted (entry name ver fid) es) ≡ fits k (inserted (entry name ver other) es)
-room_alike k name ver fid other es =
-    fits_alike k (inserted (entry name ver fid) es) ∙ ap (fits k) (inserted_alike (entry name ver fid) es)
-    ∙ sym (fits_alike k (inserted (entry name ver other) es) ∙ ap (fits k) (inserted_alike (entry name ver other) es))
 
 -- ---- the name of a new directory
 

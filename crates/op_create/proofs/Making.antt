@@ -1,29 +1,22 @@
 -- The writes of a new file as a chain of steps, and what guards them.
-use Rattle.std.proofs.Common.{◌≡◌, ◌≤◌, ◌<◌, ◌-◌, ◌+◌, ◌∙◌, ◌⊎◌, inl, inr, ℕ, Bool, true, false, cond, List, [], ◌∷◌, ◌++◌, Option, Some, None, length, slice_get, slice_set, append_assoc, refl, sym, ap, subst, arith}
-use Rattle.std.specs.Prelude.{◌==◌, Ok}
+use Rattle.std.proofs.Common.{◌≡◌, ◌≤◌, ◌<◌, ◌-◌, ◌+◌, ◌∙◌, inl, inr, ℕ, false, List, [], ◌∷◌, ◌++◌, Some, None, length, append_assoc, refl, sym, subst, arith}
 use Rattle.std.proofs.lemmas.List.{append-nil}
 use Rattle.vol_words.specs.Fields.{Block}
 use Rattle.fx_header.specs.declared.slot.Hdr.{Hdr}
-use Rattle.fx_header.specs.declared.slot.Slot.TheVariants as head
-use Rattle.fx_header.specs.Headers.{header_read}
-use Rattle.fx_header.specs.Pointers.{lbns_in}
 use Rattle.lock_db.specs.declared.name.LockName.TheVariants.{S, Q}
-use Rattle.plain_cat.specs.declared.ids.Fid.{Fid}
 use Rattle.plain_cat.specs.declared.command.Cmd.{Cmd}
 use Rattle.plain_cat.specs.declared.history.Stage.TheVariants as stage
 use Rattle.plain_cat.specs.declared.cat.Cat.{Cat}
 use Rattle.plain_cat.specs.declared.cat.File.{File}
-use Rattle.plain_cat.specs.declared.cat.Slot.{Slot}
 use Rattle.plain_cat.specs.declared.cat.QuotaRow.{QuotaRow}
-use Rattle.plain_vol.specs.Lookups.{file_in, file_at, of_seq, unmarked, live, row_of, free_clusters}
+use Rattle.plain_vol.specs.Lookups.{file_at, live, row_of, free_clusters}
 use Rattle.plain_vol.specs.Directories.{nowhere}
-use Rattle.plain_vol.specs.Changes.{new_fid, with_slot, charged}
+use Rattle.plain_vol.specs.Changes.{new_fid, charged}
 use Rattle.plain_vol.specs.Answers.{first_refusal, over_quota}
 use Rattle.vol_owners.specs.Owners.{Owners, Things, nothing, Outs}
 use Rattle.vol_owners.specs.Places.{blocks_at}
-use Rattle.vol_owners.proofs.Writing.{get-set_else}
 use Rattle.vol_parts.specs.declared.geometry.Geometry.{Geometry}
-use Rattle.vol_spell.specs.Reading.{header_block, runs_told, quota_places, body_places}
+use Rattle.vol_spell.specs.Reading.{quota_places}
 use Rattle.vol_spell.specs.Spelling.{Spells}
 use Rattle.vol_spell.specs.Views.{IsSameFile}
 use Rattle.vol_under.specs.Chains.{End}
@@ -33,11 +26,8 @@ use Rattle.op_law.specs.declared.need.PlanWrite.{PlanWrite}
 use Rattle.op_law.specs.Fits.{things}
 use Rattle.op_law.specs.Writing.{holding, empty_handed, header_write}
 use Rattle.op_law.specs.Quotas.{row_charged, owner_write}
-use Rattle.op_law.specs.Rows.{places_in}
 use Rattle.op_law.specs.Moving.{SeenDir, insertion_moves, insertion_writes}
 use Rattle.op_law.specs.Entering.{NewEntry, cost_of, new_header, body_writes, entry_for, making_writes, quota_refusals}
-use Rattle.op_law.proofs.Telling.{live_reads, reads_runs}
-use Rattle.op_law.proofs.Looks.{plain_directory}
 use Rattle.op_law.proofs.Through.{file_told, IsListed}
 use Rattle.op_writes.specs.Chained.{Chain, StepsOf, after_writes, TouchedBy, StandsOn, FilesStay}
 use Rattle.op_writes.specs.RowWrites.{IsInRange, row_for}
@@ -47,46 +37,16 @@ use Rattle.op_writes.proofs.RowSteps.{row_steps, row_guards}
 use Rattle.op_writes.proofs.FileSteps.{same_on, file_steps}
 use Rattle.op_writes.proofs.FileGuards.{file_guards}
 use Rattle.op_writes.proofs.EntrySteps.{entry_steps, entry_moved, entry_guards}
+use Rattle.op_writes.proofs.RowRanges.{charged_in}
+use Rattle.op_writes.proofs.EntryRooms.{room_alike}
+use Rattle.op_writes.proofs.Chaining.{live_at, other_slot, same_dir, touched_in}
+use Rattle.op_law.proofs.Refusals.{passed}
+use Rattle.op_law.proofs.Spaces.{not_live_number, IsSpace}
 use Rattle.op_create.specs.Kinds.{IsMake}
 use Rattle.op_create.proofs.Makers.{Maker, to_make, maker}
-use Rattle.op_create.proofs.Forms.{passed, room_alike, IsInOrder, in_order, is_new}
+use Rattle.op_create.proofs.Forms.{IsInOrder, in_order, is_new}
 use Rattle.op_create.proofs.Sequences.{sequence_within}
-use Rattle.op_create.proofs.Space.{not_live_number, IsSpace}
-use Rattle.op_create.proofs.RowRanges.{charged_in}
 use Rattle.op_create.proofs.Replies.{file_for, lost_for, after_for, stands_charged, stands_lost, stands_done}
-
--- ---- the directory's slot
-
-live_at : (c : Cat) (fid : Fid) (d : File) → live c fid ≡ Some d → file_at c fid.num ≡ Some d
-live_at c fid d e = by_file (file_at c fid.num) e where
-  by_mark : (f : File) (t : Bool) → cond t None (Some f) ≡ Some d → ◌≡◌ {A = Option File} (Some f) (Some d)
-  by_mark f true k = absurd (let h : None ≡ Some d = k in cc)
-  by_mark f false k = k
-
-  by_seq : (f : File) (t : Bool) → unmarked (cond t (Some f) None) ≡ Some d → ◌≡◌ {A = Option File} (Some f) (Some d)
-  by_seq f true k = by_mark f f.marked k
-  by_seq f false k = absurd (let h : None ≡ Some d = k in cc)
-
-  by_file : (o : Option File) → unmarked (of_seq fid.seq o) ≡ Some d → o ≡ Some d
-  by_file None k = absurd (let h : None ≡ Some d = k in cc)
-  by_file (Some f) k = by_seq f (f.seq == fid.seq) k
-
--- another slot leaves it
-other_slot : (c : Cat) (n i : ℕ) (s : Slot) → 1 ≤ n → 1 ≤ i → (n ≡ i → ⊥) → file_at (with_slot c n s) i ≡ file_at c i
-other_slot c n i s from low ne = by_zero (i == 0) where
-  apart : n - 1 ≡ i - 1 → ⊥
-  apart e = ne (omega arith)
-
-  by_zero : (t : Bool) → file_in (cond t None (slice_get (slice_set c.files (n - 1) s) (i - 1))) ≡ file_in (cond t None (slice_get c.files (i - 1)))
-  by_zero true = refl
-  by_zero false = ap file_in (get-set_else c.files (n - 1) (i - 1) s apart)
-
--- ---- places that are touched
-
-touched_in : (vs ws : List PlanWrite) (l : ℕ) → TouchedBy (vs ++ ws) l → TouchedBy vs l ⊎ TouchedBy ws l
-touched_in [] ws l t = inr t
-touched_in (v ∷ vs) ws l (inl e) = inl (inl e)
-touched_in (v ∷ vs) ws l (inr t) = elim (touched_in vs ws l t) [ inl h ↦ inl (inr h) | inr h ↦ inr h ]
 
 -- ---- the chain
 
@@ -107,8 +67,8 @@ module _ (x : Cmd) (is : IsMake x) (node : ℕ) (g : Geometry) (bs : List Block)
   quota = blocks_at bs (quota_places g)
 
   -- what is made, under its number
-  abbrev pub e : NewEntry
-  e = record { name = m.name; ver = m.ver d.entries; file = file_for c m n }
+  abbrev pub made : NewEntry
+  made = record { name = m.name; ver = m.ver d.entries; file = file_for c m n }
 
   abbrev k : Chain
   k = record { geometry = g; node = node; cmd = Some x; locks = S m.dir.num ∷ Q ∷ S n ∷ []; cat = c; stock = stock }
@@ -123,13 +83,13 @@ module _ (x : Cmd) (is : IsMake x) (node : ℕ) (g : Geometry) (bs : List Block)
   row_part = owner_write g quota m.file.owner (row_charged cost) stage.Charged (holding qs (Some n))
 
   abbrev body_part : List PlanWrite
-  body_part = body_writes g n e.file qs
+  body_part = body_writes g n made.file qs
 
   abbrev head_part : List PlanWrite
-  head_part = header_write g n (new_header g m.dir n e qs) stage.Lost empty_handed ∷ []
+  head_part = header_write g n (new_header g m.dir n made qs) stage.Lost empty_handed ∷ []
 
   abbrev entry_part : List PlanWrite
-  entry_part = insertion_writes dd (entry_for n e) stage.Lost stage.Done
+  entry_part = insertion_writes dd (entry_for n made) stage.Lost stage.Done
 
   form : IsInOrder g m d.entries
   form = in_order g x is d.entries order
@@ -159,7 +119,7 @@ module _ (x : Cmd) (is : IsMake x) (node : ℕ) (g : Geometry) (bs : List Block)
   ranged : (r : QuotaRow) → row_of m.file.owner c.quota ≡ Some r → IsInRange (row_charged cost (row_for r))
   ranged r at = charged_in g bs own c s m.file.owner cost r within at
 
-  can_make : CanBeMade g n e qs
+  can_make : CanBeMade g n made qs
   can_make =
       record {
         number = space.number;
@@ -172,7 +132,7 @@ module _ (x : Cmd) (is : IsMake x) (node : ℕ) (g : Geometry) (bs : List Block)
         ver = form.ver_to;
       }
 
-  can_enter : (y : Cat) → file_at y m.dir.num ≡ Some d → CanBeEntered g y m.dir.num d (entry_for n e)
+  can_enter : (y : Cat) → file_at y m.dir.num ≡ Some d → CanBeEntered g y m.dir.num d (entry_for n made)
   can_enter y at =
       let top = space.number.to in
       let files = s.counts.geometry.files_to in
@@ -189,44 +149,31 @@ module _ (x : Cmd) (is : IsMake x) (node : ℕ) (g : Geometry) (bs : List Block)
         room = room_alike g.cluster m.name (m.ver d.entries) (new_fid c n) nowhere d.entries ∙ form.room;
       }
 
-  enters : CanBeEntered g c m.dir.num d (entry_for n e)
+  enters : CanBeEntered g c m.dir.num d (entry_for n made)
   enters = can_enter c (live_at c m.dir d lives)
 
   -- the directory is still there once the file is
   still : file_at (lost_for g c m n) m.dir.num ≡ Some d
   still = other_slot (charged c m.file.owner cost) n m.dir.num _ space.number.from dir.number.from apart ∙ live_at c m.dir d lives
 
-  -- blocks that leave the directory's file show the same directory
-  same_dir : (bs' : List Block) → IsSameFile g bs bs' m.dir.num → dir_in g bs' m.dir ≡ dir_in g bs m.dir
-  same_dir bs' same =
-      let h : Block = header_block g bs m.dir.num in
-      let reads : header_read h ≡ Ok (head.Used f) = live_reads m.dir.seq (header_read h) f dir.header in
-      let places : body_places m.dir.num h ≡ places_in h =
-      ap (λ t. cond t [] (lbns_in (runs_told h))) (plain_directory g bs own c s m.dir.num f reads dir.dir) ∙ ap (λ rs. lbns_in rs) (reads_runs h f reads) in
-      let body : blocks_at bs' (places_in h) ≡ blocks_at bs (places_in h) =
-      ap (blocks_at bs') (sym places) ∙ ap (λ b. blocks_at bs' (body_places m.dir.num b)) (sym same.header) ∙ same.body ∙ ap (blocks_at bs) places in
-      ap (λ b. dir_of b (blocks_at bs' (places_in b))) same.header ∙ ap (dir_of h) body where
-        dir_of : Block → List Block → SeenDir
-        dir_of b blocks = record { fid = m.dir; head = b; blocks = blocks }
-
   -- ---- the steps
 
   module _ (end : End) (finish : (bs' : List Block) (new : Owners) → Spells g bs' new (after_for g c m d n) → Outs node new nothing stock → end bs' new) where
     behind_file : (bs' : List Block) (new : Owners) → StandsOn k empty_handed (lost_for g c m n) bs' new → IsSameFile g bs bs' m.dir.num → StepsOf end k entry_part bs' new
     behind_file bs' new on same =
-        let steps = entry_steps end k m.dir d (entry_for n e) stage.Lost stage.Done [] (lost_for g c m n) bs' new on (can_enter (lost_for g c m n) still) lost_at done_at
+        let steps = entry_steps end k m.dir d (entry_for n made) stage.Lost stage.Done [] (lost_for g c m n) bs' new on (can_enter (lost_for g c m n) still) lost_at done_at
         (λ last stays. finish _ new last.spelt last.outs) in
-        subst (λ y. StepsOf end k (insertion_writes y (entry_for n e) stage.Lost stage.Done) bs' new) (same_dir bs' same)
-        (subst (λ ws. StepsOf end k ws bs' new) (append-nil (insertion_writes (dir_in g bs' m.dir) (entry_for n e) stage.Lost stage.Done)) steps)
+        subst (λ y. StepsOf end k (insertion_writes y (entry_for n made) stage.Lost stage.Done) bs' new) (same_dir g bs own c s m.dir f dir bs' same)
+        (subst (λ ws. StepsOf end k ws bs' new) (append-nil (insertion_writes (dir_in g bs' m.dir) (entry_for n made) stage.Lost stage.Done)) steps)
 
     behind_row : (bs' : List Block) → StandsOn k (holding qs (Some n)) (charged c m.file.owner cost) bs' own → FilesStay g bs bs' → StepsOf end k (body_part ++ (head_part ++ entry_part)) bs' own
     behind_row bs' on same =
         subst (λ ws. StepsOf end k ws bs' own) (append_assoc body_part head_part entry_part)
-        (file_steps end k m.dir n e qs entry_part (charged c m.file.owner cost) bs' own on can_make (inr (inr (inl refl))) charged_at lost_at
-        (λ new lost stays. behind_file (after_writes (file_writes g m.dir n e qs) bs') new lost
-          (same_on g bs bs' (after_writes (file_writes g m.dir n e qs) bs') m.dir.num (same m.dir.num dir.number) (stays m.dir.num dir.number (λ h. apart (sym h))))))
+        (file_steps end k m.dir n made qs entry_part (charged c m.file.owner cost) bs' own on can_make (inr (inr (inl refl))) charged_at lost_at
+        (λ new lost stays. behind_file (after_writes (file_writes g m.dir n made qs) bs') new lost
+          (same_on g bs bs' (after_writes (file_writes g m.dir n made qs) bs') m.dir.num (same m.dir.num dir.number) (stays m.dir.num dir.number (λ h. apart (sym h))))))
 
-    pub making_steps : StepsOf end k (making_writes g dd quota e n qs) bs own
+    pub making_steps : StepsOf end k (making_writes g dd quota made n qs) bs own
     unfolding making_writes
     making_steps =
         row_steps end k m.file.owner (row_charged cost) raise stage.Charged (holding qs (Some n)) (body_part ++ (head_part ++ entry_part)) c bs own
@@ -235,16 +182,16 @@ module _ (x : Cmd) (is : IsMake x) (node : ℕ) (g : Geometry) (bs : List Block)
 
   -- ---- what guards them
 
-  pub making_guards : (l : ℕ) → TouchedBy (making_writes g dd quota e n qs) l → MayWrite node (S m.dir.num ∷ Q ∷ S n ∷ []) (guard_of g own l)
+  pub making_guards : (l : ℕ) → TouchedBy (making_writes g dd quota made n qs) l → MayWrite node (S m.dir.num ∷ Q ∷ S n ∷ []) (guard_of g own l)
   unfolding making_writes
   making_guards l t = elim (touched_in row_part (body_part ++ (head_part ++ entry_part)) l t) [
     | inl row ↦ subst (MayWrite node k.locks) (sym (row_guards g bs bs own c m.file.owner (row_charged cost) stage.Charged (holding qs (Some n)) l s row)) (inr (inl refl))
     | inr more ↦ elim (touched_in (body_part ++ head_part) entry_part l (subst (λ ws. TouchedBy ws l) (sym (append_assoc body_part head_part entry_part)) more)) [
-      | inl file ↦ file_guards k m.dir n e qs c bs own l (record { spelt = s; outs = outs }) space.number (inr (inr (inl refl))) file
-      | inr entry ↦ subst (MayWrite node k.locks) (sym (entry_guards g m.dir d (entry_for n e) stage.Lost stage.Done c bs own l s enters entry)) (inl refl)
+      | inl file ↦ file_guards k m.dir n made qs c bs own l (record { spelt = s; outs = outs }) space.number (inr (inr (inl refl))) file
+      | inr entry ↦ subst (MayWrite node k.locks) (sym (entry_guards g m.dir d (entry_for n made) stage.Lost stage.Done c bs own l s enters entry)) (inl refl)
     ]
   ]
 
   -- the insertion has a write
-  pub making_moved : length (insertion_moves dd (entry_for n e)) - 1 < length (insertion_moves dd (entry_for n e))
-  making_moved = entry_moved g m.dir d (entry_for n e) c bs own s enters
+  pub making_moved : length (insertion_moves dd (entry_for n made)) - 1 < length (insertion_moves dd (entry_for n made))
+  making_moved = entry_moved g m.dir d (entry_for n made) c bs own s enters

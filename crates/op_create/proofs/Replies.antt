@@ -23,26 +23,11 @@ use Rattle.vol_parts.specs.declared.geometry.Geometry.{Geometry}
 use Rattle.vol_under.specs.UnderWay.{StandsAt}
 use Rattle.op_law.specs.Moving.{is_full}
 use Rattle.op_law.specs.Entering.{cost_of, quota_refusals}
+use Rattle.op_law.proofs.Refusals.{first_stays, first_goes}
 use Rattle.op_create.specs.Kinds.{IsMake}
 use Rattle.op_create.proofs.Makers.{Maker, to_make, maker}
 use Rattle.op_create.proofs.Forms.{file_of_seq}
-use Rattle.op_create.proofs.Space.{IsShort}
-
--- ---- refusals in a row
-
-first_stays : (ks ls : List (Bool × Refusal)) (r : Refusal) → first_refusal ks ≡ Some r → first_refusal (ks ++ ls) ≡ Some r
-first_stays [] ls r e = absurd (let f : None ≡ Some r = e in cc)
-first_stays (k ∷ ks) ls r e = by_test k.0 e (first_stays ks ls r) where
-  by_test : (t : Bool) → cond t (Some k.1) (first_refusal ks) ≡ Some r → (first_refusal ks ≡ Some r → first_refusal (ks ++ ls) ≡ Some r) → cond t (Some k.1) (first_refusal (ks ++ ls)) ≡ Some r
-  by_test true h more = h
-  by_test false h more = more h
-
-first_goes : (ks ls : List (Bool × Refusal)) → first_refusal ks ≡ None → first_refusal (ks ++ ls) ≡ first_refusal ls
-first_goes [] ls e = refl
-first_goes (k ∷ ks) ls e = by_test k.0 e (first_goes ks ls) where
-  by_test : (t : Bool) → cond t (Some k.1) (first_refusal ks) ≡ None → (first_refusal ks ≡ None → first_refusal (ks ++ ls) ≡ first_refusal ls) → cond t (Some k.1) (first_refusal (ks ++ ls)) ≡ first_refusal ls
-  by_test true h more = absurd (let f : Some k.1 ≡ None = h in cc)
-  by_test false h more = more h
+use Rattle.op_law.proofs.Spaces.{IsShort}
 
 -- ---- the outcome
 

@@ -1,6 +1,6 @@
 -- What holds of the events of a command that makes a file where it holds at their ends: it searches for space once, a refusal
 -- writes nothing, and nothing is asked.
-use Rattle.std.proofs.Common.{◌≡◌, ℕ, true, List, Option, Some, None, refl, sym, subst}
+use Rattle.std.proofs.Common.{ℕ, true, List, Option, Some, None, refl, sym, subst}
 use Rattle.vol_words.specs.Fields.{Block}
 use Rattle.lock_db.specs.declared.name.LockName.{LockName}
 use Rattle.lock_db.specs.declared.name.LockName.TheVariants.{Q}
@@ -12,7 +12,6 @@ use Rattle.plain_cat.specs.declared.reply.Refusal.TheVariants as refusal
 use Rattle.plain_vol.specs.Answers.{first_refusal}
 use Rattle.vol_parts.specs.declared.geometry.Geometry.{Geometry}
 use Rattle.vol_spell.specs.Reading.{quota_places}
-use Rattle.op_law.specs.declared.need.Plan.{Plan}
 use Rattle.op_law.specs.declared.seen.Chan.{Chan}
 use Rattle.op_law.specs.Events.{Events, Take, Look, Find, HasNoSearch, SearchesOnce}
 use Rattle.op_law.specs.Rows.{refuses}
@@ -21,9 +20,9 @@ use Rattle.op_law.specs.Quotas.{rows_seen}
 use Rattle.op_law.specs.Moving.{SeenDir, entries_of}
 use Rattle.op_law.specs.Entering.{NewEntry, quota_refusals, into_slot, making_events}
 use Rattle.op_law.specs.Needs.{events_of}
-use Rattle.op_law.specs.Laws.{WritesNothing}
 use Rattle.op_law.proofs.Walking.{EveryPlan}
 use Rattle.op_law.proofs.Through.{all_so, directory_so}
+use Rattle.op_law.proofs.Doing.{IsShaped}
 use Rattle.op_create.specs.Kinds.{IsMake}
 use Rattle.op_create.proofs.Makers.{Maker, to_make, maker_events, maker, events_are}
 
@@ -63,10 +62,6 @@ makes_once x is g channel = makes_so SearchesOnce (λ clusters cs n short. HasNo
     (λ clusters g d quota e cs n b. tt) x is g channel
 
 -- a plan asks for nothing, and where it is refused it writes nothing
-pub record IsShaped (p : Plan) : Type 0 where
-  pub ask : p.ask ≡ None
-  pub refused : WritesNothing p p.reply
-
 pub makes_shaped : (x : Cmd) → IsMake x → (g : Geometry) (channel : Option Chan) → EveryPlan IsShaped (events_of g channel x)
 makes_shaped x is g channel = makes_so (EveryPlan IsShaped) (λ clusters cs n short. EveryPlan IsShaped) (λ name mode next h. h) (λ name lbn next h. h) (λ clusters next h. h)
     (λ r. record { ask = refl; refused = (refl, refl) }) (λ clusters cs n r. record { ask = refl; refused = (refl, refl) }) (λ clusters cs. record { ask = refl; refused = (refl, refl) })

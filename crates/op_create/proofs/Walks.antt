@@ -39,7 +39,7 @@ use Rattle.op_writes.specs.EntryWrites.{dir_in}
 use Rattle.op_create.specs.Kinds.{IsMake}
 use Rattle.op_create.proofs.Makers.{Maker, to_make, maker_events, maker}
 use Rattle.op_create.proofs.Forms.{in_order, is_wanted}
-use Rattle.op_create.proofs.Space.{not_live_number, IsSpace, space_given, IsShort, space_refused, IsKnown}
+use Rattle.op_law.proofs.Spaces.{not_live_number, IsSpace, space_given, IsShort, space_refused, IsKnown}
 
 -- a search that is not refused gives as many clusters as were wanted
 given_all : (clusters : ℕ) (cs : List ℕ) (n : ℕ) → has_space clusters true (record { clusters = cs; number = Some n; short = None }) ≡ true → length cs ≡ clusters

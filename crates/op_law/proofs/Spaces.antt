@@ -52,6 +52,20 @@ not_live_number c fid f n free at same =
 
 -- ---- space that was given
 
+-- as many clusters are free as are given
+pub clusters_given : (g : Geometry) (bs : List Block) (own : Owners) (c : Cat) (node : ℕ) (qs : List ℕ) (number : Option ℕ) (stock : Things) → Spells g bs own c → Outs node own (things qs number) stock → length qs ≤ free_clusters c
+clusters_given g bs own c node qs number stock s outs = by_number number outs where
+  count : (took : Things) → Outs node own took stock → length took.clusters ≤ free_clusters c
+  count took outs =
+      let leak = outside_may_leak g bs own c node took stock (file_numbers (together took stock)) s outs (λ m. ((λ h. h), (λ h. h))) in
+      let long = length-append took.clusters stock.clusters in
+      let le : length (took.clusters ++ stock.clusters) ≤ free_clusters c = leak.0 in
+      omega arith
+
+  by_number : (number : Option ℕ) → Outs node own (things qs number) stock → length qs ≤ free_clusters c
+  by_number None outs = count (things qs None) outs
+  by_number (Some n) outs = count (things qs (Some n)) outs
+
 -- the number is one of the volume's, above those of the system files, and free, and so many clusters are free
 pub record IsSpace (g : Geometry) (c : Cat) (qs : List ℕ) (n : ℕ) : Type 0 where
   pub number : IsFileNumber g n
@@ -69,13 +83,11 @@ space_given g bs own c node qs n stock s outs new =
     let out : slice_get own.numbers (n - 1) ≡ Some (Outside node) = (outs.numbers.all (n - 1)).1 (inl (inl refl)) in
     let lt = slice_get_within own.numbers (n - 1) (Outside node) out in
     let count = s.counts.numbers in
-    let long = length-append qs stock.clusters in
-    let le : length (qs ++ stock.clusters) ≤ free_clusters c = leak.0 in
     record {
       number = record { from = omega arith; to = omega arith };
       above = above;
       free = subst (λ k. is_free_number c k ≡ true) back (and_parts (is_free_number c (n - 1 + 1)) _ leak.1).0;
-      enough = omega arith;
+      enough = clusters_given g bs own c node qs (Some n) stock s outs;
     }
 
 -- ---- space that was refused
@@ -129,6 +141,12 @@ space_refused c x refusal.DeviceFull wants e =
       by_tests true false w e = absurd (cc)
       by_tests false h w e = absurd (cc)
 space_refused c x other wants e = absurd (let f : false ≡ true = e in cc)
+
+-- space was refused to a command that wants no number
+pub clusters_refused : (c : Cat) (x : Cmd) (r : Refusal) → wants_number x ≡ false → is_short c x (Some r) ≡ true → (r ≡ refusal.DeviceFull) × (nat_lt (free_clusters c) (clusters_wanted c.factor x) ≡ true)
+clusters_refused c x refusal.IndexFull wants e = let f : false ≡ true = sym (ap (λ t. t && not (has_free_number c)) wants) ∙ e in absurd (cc)
+clusters_refused c x refusal.DeviceFull wants e = (refl, (and_parts (not (wants_number x && not (has_free_number c))) _ e).1)
+clusters_refused c x other wants e = absurd (let f : false ≡ true = e in cc)
 
 -- ---- what a command knows of the space
 
