@@ -121,12 +121,12 @@ module _ (x : Cmd) (is : IsMake x) (node : ℕ) (seen : Seen) where
         let f = s.constants.factor in
         subst (λ es. ObeysBy x g bs own (IsKnown node x own c stock) Done es []) (sym (events_are x is g seen.channel))
         (makes_obey x is node g bs own c s stock Done
-          (λ none. no refusal.NoSuchFile (refuses_none g c f node x is none))
-          (λ h lives plain. no refusal.NotDir (refuses_plain g c f node x is (file_told bs g m.dir h) lives plain))
-          (λ h dir r shows. no r (refuses_shown g c f node x is (file_told bs g m.dir h) dir.live dir.dir r (alike h dir (Some r) shows)))
-          (λ h dir order r paid. no r (refuses_unpaid g c f node x is (file_told bs g m.dir h) dir.live dir.dir (alike h dir None order) r paid))
-          (λ h dir order r paid short. no r (refuses_short g c f node x is (file_told bs g m.dir h) dir.live dir.dir (alike h dir None order) paid r short))
-          (λ h dir order n qs paid space out count. made_done h dir order paid n qs space out count))
+        (λ none. no refusal.NoSuchFile (refuses_none g c f node x is none))
+        (λ h lives plain. no refusal.NotDir (refuses_plain g c f node x is (file_told bs g m.dir h) lives plain))
+        (λ h dir r shows. no r (refuses_shown g c f node x is (file_told bs g m.dir h) dir.live dir.dir r (alike h dir (Some r) shows)))
+        (λ h dir order r paid. no r (refuses_unpaid g c f node x is (file_told bs g m.dir h) dir.live dir.dir (alike h dir None order) r paid))
+        (λ h dir order r paid short. no r (refuses_short g c f node x is (file_told bs g m.dir h) dir.live dir.dir (alike h dir None order) paid r short))
+        (λ h dir order n qs paid space out count. made_done h dir order paid n qs space out count))
 
 -- CREATE and MKDIR are lawful
 pub create_lawful : (x : Cmd) → IsMake x → Lawful x

@@ -171,7 +171,7 @@ module _ (x : Cmd) (is : IsMake x) (node : ℕ) (g : Geometry) (bs : List Block)
         subst (λ ws. StepsOf end k ws bs' own) (append_assoc body_part head_part entry_part)
         (file_steps end k m.dir n made qs entry_part (charged c m.file.owner cost) bs' own on can_make (inr (inr (inl refl))) charged_at lost_at
         (λ new lost stays. behind_file (after_writes (file_writes g m.dir n made qs) bs') new lost
-          (same_on g bs bs' (after_writes (file_writes g m.dir n made qs) bs') m.dir.num (same m.dir.num dir.number) (stays m.dir.num dir.number (λ h. apart (sym h))))))
+        (same_on g bs bs' (after_writes (file_writes g m.dir n made qs) bs') m.dir.num (same m.dir.num dir.number) (stays m.dir.num dir.number (λ h. apart (sym h))))))
 
     pub making_steps : StepsOf end k (making_writes g dd quota made n qs) bs own
     unfolding making_writes

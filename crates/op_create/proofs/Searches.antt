@@ -49,9 +49,9 @@ module _ (T : Events → Type 0) (R : ℕ → List ℕ → Option ℕ → Option
   names_so : (g : Geometry) (m : Maker) → T (maker_events g m)
   names_so g m = directory_so T take look g m.dir PW _ (refused refusal.NoSuchFile) (refused refusal.NotDir)
       (λ h bs. let d : SeenDir = record { fid = m.dir; head = h; blocks = bs } in by_refusal d (first_refusal (m.refusals (entries_of d)))) where
-    by_refusal : (d : SeenDir) (o : Option Refusal) → T (unless_refused o (making_events g d (to_make m (entries_of d))))
-    by_refusal d None = making_so g d (to_make m (entries_of d))
-    by_refusal d (Some r) = refused r
+        by_refusal : (d : SeenDir) (o : Option Refusal) → T (unless_refused o (making_events g d (to_make m (entries_of d))))
+        by_refusal d None = making_so g d (to_make m (entries_of d))
+        by_refusal d (Some r) = refused r
 
   pub makes_so : (x : Cmd) → IsMake x → (g : Geometry) (channel : Option Chan) → T (events_of g channel x)
   makes_so x is g channel = subst T (sym (events_are x is g channel)) (names_so g (maker g x is))

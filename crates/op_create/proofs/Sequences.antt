@@ -32,7 +32,7 @@ IsLow r = slot_seq r < 2 ^ 16
 -- the first test that fails is a fault, which tells none
 by_tests : (free sum level offsets volume alone map ends : Bool) (seq : ℕ) (h : Hdr) → seq < 2 ^ 16 → h.seq < 2 ^ 16
     → IsLow (cond free (Ok (head.Free seq)) (cond (not sum) (Err BadSum) (cond (not level) (Err BadLevel) (cond (not offsets) (Err BadOffsets) (cond (not volume) (Err BadRvn)
-      (cond (not alone) (Err BadExtension) (cond (not map) (Err BadMap) (cond (not ends) (Err BadEnd) (Ok (head.Used h))))))))))
+    (cond (not alone) (Err BadExtension) (cond (not map) (Err BadMap) (cond (not ends) (Err BadEnd) (Ok (head.Used h))))))))))
 by_tests true sum level offsets volume alone map ends seq h low lt = low
 by_tests false false level offsets volume alone map ends seq h low lt = omega arith
 by_tests false true false offsets volume alone map ends seq h low lt = omega arith
