@@ -9,3 +9,7 @@ pub mod Through
 pub mod Replying
 pub mod OnlyLooking
 pub mod Meeting
+pub mod Ends
+pub mod Refusals
+pub mod Spaces
+pub mod Doing

@@ -98,7 +98,8 @@ module _ (g : Geometry) (bs : List Block) (own : Owners) (c : Cat) (s : Spells g
       let lt : n - 1 < g.files = omega arith in
       slice_get-map (slot_of (volume_of g bs)) (range_with_len 1 g.files) (n - 1) ∙ ap (option_map (slot_of (volume_of g bs))) (ranged 1 g.files (n - 1) lt ∙ ap (λ x. Some x) e)
 
-  slot_is : (n : ℕ) → IsFileNumber g n → slot_at c n ≡ Some (slot_with g.cluster n (header_read (header_block g bs n)) (file_blocks bs (header_block g bs n)))
+  -- the slot of a number, by its header
+  pub slot_is : (n : ℕ) → IsFileNumber g n → slot_at c n ≡ Some (slot_with g.cluster n (header_read (header_block g bs n)) (file_blocks bs (header_block g bs n)))
   slot_is n is =
       let t = told_by g bs own c s in
       let a = is.from in

@@ -1,6 +1,6 @@
 -- The events that commands have in common, walked along.
-use Rattle.std.proofs.Common.{◌≡◌, ◌∙◌, ℕ, Bool, true, false, cond, List, [], ◌∷◌, Option, Some, None, refl, sym, ap, subst, inl, inr}
-use Rattle.std.specs.Prelude.{option_map, Ok}
+use Rattle.std.proofs.Common.{◌≡◌, ◌∙◌, ℕ, Bool, true, false, cond, List, [], ◌∷◌, Option, Some, None, refl, sym, ap, subst, inl, inr, arith}
+use Rattle.std.specs.Prelude.{◌+◌, ◌-◌, ◌<◌, ◌++◌, nat_le, map, filter, option_map, Ok}
 use Rattle.std.proofs.lemmas.Option.{get_or_from_slice_get}
 use Rattle.vol_words.specs.Fields.{Block}
 use Rattle.fx_header.specs.declared.slot.Hdr.{Hdr}
@@ -9,7 +9,8 @@ use Rattle.fx_header.specs.Headers.{header_read}
 use Rattle.fx_header.specs.Pointers.{lbns_in}
 use Rattle.fx_dir.specs.Directory.{directory}
 use Rattle.lock_db.specs.declared.name.LockName.{LockName}
-use Rattle.lock_db.specs.declared.name.LockName.TheVariants.{S}
+use Rattle.lock_db.specs.declared.name.LockName.TheVariants.{S, Q}
+use Rattle.plain_cat.specs.Modes.{rank}
 use Rattle.plain_cat.specs.declared.ids.Fid.{Fid}
 use Rattle.plain_cat.specs.declared.mode.Mode.{Mode}
 use Rattle.plain_cat.specs.declared.mode.Mode.TheVariants.{PR, PW}
@@ -19,21 +20,29 @@ use Rattle.plain_cat.specs.declared.reply.Refusal.TheVariants as refusal
 use Rattle.plain_cat.specs.declared.cat.Cat.{Cat}
 use Rattle.plain_cat.specs.declared.cat.File.{File}
 use Rattle.plain_vol.specs.Lookups.{live}
+use Rattle.vol_owners.specs.declared.owner.Owner.TheVariants.{InFile}
 use Rattle.vol_owners.specs.Lists.{Has}
 use Rattle.vol_owners.specs.Owners.{Owners}
 use Rattle.vol_owners.specs.Places.{blocks_at}
+use Rattle.vol_owners.proofs.Placing.{has_ranged}
 use Rattle.vol_parts.specs.declared.geometry.Geometry.{Geometry}
+use Rattle.vol_parts.specs.declared.geometry.Part.TheVariants.{Quota}
 use Rattle.vol_parts.specs.Catalogues.{plain_entries, file_of}
-use Rattle.vol_spell.specs.Reading.{IsFileNumber, header_place, header_block, runs_told}
+use Rattle.vol_spell.specs.Reading.{IsFileNumber, owner_at, header_place, header_block, runs_told, quota_places}
+use Rattle.vol_spell.specs.Places.{place_of}
 use Rattle.vol_spell.specs.Spelling.{Spells}
+use Rattle.vol_spell.proofs.Parts.{part_there, part_owned}
+use Rattle.vol_spell.proofs.Frames.{on_volume}
+use Rattle.vol_under.specs.Guards.{guard_by}
 use Rattle.op_law.specs.declared.need.Plan.{Plan}
-use Rattle.op_law.specs.Events.{Events, Take, Look}
+use Rattle.op_law.specs.Events.{Events, Take, Look, Space}
 use Rattle.op_law.specs.Rows.{plain_plan, refuses, is_number, live_in, places_in, look_all, through_header, in_directory, through_directory, entries_seen}
+use Rattle.op_law.specs.Quotas.{through_quota}
 use Rattle.op_law.specs.Laws.{held_in, IsLockedLook}
 use Rattle.op_law.proofs.Heads.{header_is}
 use Rattle.op_law.proofs.Telling.{live_reads, reads_runs, file_blocks, live_is, not_live, number_is}
 use Rattle.op_law.proofs.Looks.{IsUnder, header_under, block_under}
-use Rattle.op_law.proofs.Walking.{Obeys}
+use Rattle.op_law.proofs.Walking.{ObeysBy}
 
 -- ---- what holds of events where it holds of those behind each lock and look
 
@@ -60,11 +69,48 @@ module _ (Q : Events → Type 0) (take : (name : LockName) (mode : Mode) (next :
     by_live b None = none
     by_live b (Some h) = by_dir b h.dir
 
+-- ---- locks that are held
+
+-- the last lock that was taken is held
+pub last_held : (held : List (LockName × Mode)) (name : LockName) (mode : Mode) → Has (PR ∷ PW ∷ []) mode → Has (held_in PR (held ++ (name, mode) ∷ [])) name
+last_held [] name mode allowed = by_mode allowed where
+  by_mode : Has (PR ∷ PW ∷ []) mode → Has (held_in PR ((name, mode) ∷ [])) name
+  by_mode (inl e) = subst (λ m. Has (held_in PR ((name, m) ∷ [])) name) e (inl refl)
+  by_mode (inr (inl e)) = subst (λ m. Has (held_in PR ((name, m) ∷ [])) name) e (inl refl)
+  by_mode (inr (inr none)) = absurd none
+last_held (l ∷ held) name mode allowed = by_test (nat_le (rank PR) (rank l.1)) (last_held held name mode allowed) where
+  by_test : (t : Bool) → Has (held_in PR (held ++ (name, mode) ∷ [])) name → Has (map (λ k. k.0) (cond t (l ∷ filter (λ k. nat_le (rank PR) (rank k.1)) (held ++ (name, mode) ∷ [])) (filter (λ k. nat_le (rank PR) (rank k.1)) (held ++ (name, mode) ∷ [])))) name
+  by_test true t = inr t
+  by_test false t = t
+
+-- ---- a file and its blocks
+
+-- the header of a file's number, the file that a header there tells, and its blocks
+abbrev pub file_header : List Block → Geometry → Fid → Block
+file_header bs g fid = header_block g bs fid.num
+
+abbrev pub file_told : List Block → Geometry → Fid → Hdr → File
+file_told bs g fid f = file_of g.cluster fid.num f (file_blocks bs (file_header bs g fid))
+
+abbrev pub listed_blocks : List Block → Geometry → Fid → List Block
+listed_blocks bs g fid = blocks_at bs (places_in (file_header bs g fid))
+
+-- a live directory, and its blocks
+pub record IsListed (g : Geometry) (bs : List Block) (c : Cat) (fid : Fid) (f : Hdr) : Type 0 where
+  pub number : IsFileNumber g fid.num
+  pub header : live_in fid.seq (file_header bs g fid) ≡ Some f
+  pub dir : f.dir ≡ true
+  pub live : live c fid ≡ Some (file_told bs g fid f)
+  pub entries : (file_told bs g fid f).entries ≡ entries_seen (listed_blocks bs g fid)
+
 -- ---- what a command may need
 
-module _ (x : Cmd) (g : Geometry) (bs : List Block) (own : Owners) (c : Cat) (s : Spells g bs own c) (P : Plan → Type 0) where
+module _ (x : Cmd) (g : Geometry) (bs : List Block) (own : Owners) (c : Cat) (s : Spells g bs own c) (Given : Space → Type 0) (P : List (LockName × Mode) → Plan → Type 0) where
   abbrev O : Events → List (LockName × Mode) → Type 0
-  O es held = Obeys x g bs own P es held
+  O es held = ObeysBy x g bs own Given P es held
+
+  abbrev IsNew : List (LockName × Mode) → LockName → Type 0
+  IsNew held name = Has (map (λ l. l.0) held) name → ⊥
 
   pub all_obeys : (name : LockName) (held : List (LockName × Mode)) (ls : List ℕ) (next : List Block → Events) → ((l : ℕ) → Has ls l → IsLockedLook g bs own held name l)
       → O (next (blocks_at bs ls)) held → O (look_all name ls next) held
@@ -75,75 +121,79 @@ module _ (x : Cmd) (g : Geometry) (bs : List Block) (own : Owners) (c : Cat) (s 
         (subst (λ y. O (next (y ∷ blocks_at bs ls)) held) (get_or_from_slice_get bs l b [] at) o),
   )
 
-  module _ (fid : Fid) (mode : Mode) (allowed : Has (PR ∷ PW ∷ []) mode) where
-    -- the one lock that is held
-    abbrev pub file_held : List (LockName × Mode)
-    file_held = (S fid.num, mode) ∷ []
+  module _ (held : List (LockName × Mode)) (mode : Mode) (allowed : Has (PR ∷ PW ∷ []) mode) where
+    under : (n l : ℕ) → IsUnder g bs own n l → IsLockedLook g bs own (held ++ (S n, mode) ∷ []) (S n) l
+    under n l u = record { guard = u.guard; held = last_held held (S n) mode allowed; within = u.within }
 
-    holds : Has (held_in PR file_held) (S fid.num)
-    holds = by_mode allowed where
-      by_mode : Has (PR ∷ PW ∷ []) mode → Has (held_in PR ((S fid.num, mode) ∷ [])) (S fid.num)
-      by_mode (inl e) = subst (λ m. Has (held_in PR ((S fid.num, m) ∷ [])) (S fid.num)) e (inl refl)
-      by_mode (inr (inl e)) = subst (λ m. Has (held_in PR ((S fid.num, m) ∷ [])) (S fid.num)) e (inl refl)
-      by_mode (inr (inr none)) = absurd none
+    -- behind the lock of a number and the header there
+    pub number_obeys : (n : ℕ) (next : Block → Events) → IsNew held (S n) → IsFileNumber g n → O (next (header_block g bs n)) (held ++ (S n, mode) ∷ [])
+        → O (Take (S n) mode (Look (S n) (header_place g n) next)) held
+    number_obeys n next new is behind = (
+      record { new = new; in_mode = allowed; own = refl },
+      (
+        under n (header_place g n) (header_under g bs own c s n is),
+        λ b at. subst (λ y. O (next y) (held ++ (S n, mode) ∷ [])) (header_is g bs n (header_place g n) b refl at) behind,
+      ),
+    )
 
-    under : (l : ℕ) → IsUnder g bs own fid.num l → IsLockedLook g bs own file_held (S fid.num) l
-    under l u = record { guard = u.guard; held = holds; within = u.within }
+    -- behind Q and the quota blocks
+    quota_under : (l : ℕ) → Has (quota_places g) l → IsLockedLook g bs own (held ++ (Q, mode) ∷ []) Q l
+    quota_under l t =
+        let within = has_ranged g.quota_lbn g.cluster l t in
+        let k : ℕ = l - g.quota_lbn in
+        let low = within.0 in
+        let high = within.1 in
+        let lt : k < g.cluster = omega arith in
+        let e : place_of g (Quota k) ≡ l = (let z : g.quota_lbn + (l - g.quota_lbn) ≡ l = omega arith in z) in
+        let R : ℕ → Type 0 = λ y. IsLockedLook g bs own (held ++ (Q, mode) ∷ []) Q y in
+        subst R e (record {
+          guard = ap (λ p. guard_by p (owner_at g own (place_of g (Quota k)))) (part_there g bs own c s (Quota k) lt);
+          held = last_held held Q mode allowed;
+          within = on_volume g bs own c s (place_of g (Quota k)) (InFile 10) (part_owned g bs own c s (Quota k) lt);
+        })
+
+    pub quota_obeys : (next : List Block → Events) → IsNew held Q → O (next (blocks_at bs (quota_places g))) (held ++ (Q, mode) ∷ []) → O (through_quota g mode next) held
+    quota_obeys next new behind = (record { new = new; in_mode = allowed; own = refl }, all_obeys Q (held ++ (Q, mode) ∷ []) (quota_places g) next quota_under behind)
+
+  module _ (fid : Fid) (held : List (LockName × Mode)) (new : IsNew held (S fid.num)) (mode : Mode) (allowed : Has (PR ∷ PW ∷ []) mode) where
+    -- the file's lock is held besides
+    abbrev file_held : List (LockName × Mode)
+    file_held = held ++ (S fid.num, mode) ∷ []
 
     -- behind a file's lock and its header
-    pub header_obeys : (next : Block → Events) → (is_number g fid ≡ false → P (plain_plan (reply.Refused refusal.NoSuchFile)))
-        → (IsFileNumber g fid.num → O (next (header_block g bs fid.num)) file_held) → O (through_header g fid mode next) []
+    pub header_obeys : (next : Block → Events) → (is_number g fid ≡ false → P held (plain_plan (reply.Refused refusal.NoSuchFile)))
+        → (IsFileNumber g fid.num → O (next (header_block g bs fid.num)) file_held) → O (through_header g fid mode next) held
     header_obeys next out behind = by_number (is_number g fid) refl where
-      by_number : (t : Bool) → is_number g fid ≡ t → O (cond t (Take (S fid.num) mode (Look (S fid.num) (header_place g fid.num) next)) (refuses refusal.NoSuchFile)) []
-      by_number true e =
-          let is = number_is g fid e in (
-            record { new = λ h. h; in_mode = allowed; own = refl },
-            (
-              under (header_place g fid.num) (header_under g bs own c s fid.num is),
-              λ b at. subst (λ y. O (next y) file_held) (header_is g bs fid.num (header_place g fid.num) b refl at) (behind is),
-            ),
-          )
+      by_number : (t : Bool) → is_number g fid ≡ t → O (cond t (Take (S fid.num) mode (Look (S fid.num) (header_place g fid.num) next)) (refuses refusal.NoSuchFile)) held
+      by_number true e = let is = number_is g fid e in number_obeys held mode allowed fid.num next new is (behind is)
       by_number false e = out e
 
-    -- the header of the file's number, and the file that a header there tells
-    abbrev pub file_header : Block
-    file_header = header_block g bs fid.num
+    module _ (next : Block → List Block → Events) (none : live c fid ≡ None → (ls : List (LockName × Mode)) → P ls (plain_plan (reply.Refused refusal.NoSuchFile)))
+        (plain : (f : Hdr) → live c fid ≡ Some (file_told bs g fid f) → f.dir ≡ false → P file_held (plain_plan (reply.Refused refusal.NotDir)))
+        (listed : (f : Hdr) → IsListed g bs c fid f → O (next (file_header bs g fid) (listed_blocks bs g fid)) file_held) where
+      lives : IsFileNumber g fid.num → (o : Option Hdr) → live_in fid.seq (file_header bs g fid) ≡ o → live c fid ≡ option_map (file_told bs g fid) o
+      lives is o e = live_is g bs own c s fid is ∙ ap (option_map (file_told bs g fid)) e
 
-    abbrev pub file_told : Hdr → File
-    file_told f = file_of g.cluster fid.num f (file_blocks bs file_header)
-
-    -- a live directory, and its blocks
-    pub record IsListed (f : Hdr) : Type 0 where
-      pub number : IsFileNumber g fid.num
-      pub header : live_in fid.seq file_header ≡ Some f
-      pub dir : f.dir ≡ true
-      pub live : live c fid ≡ Some (file_told f)
-      pub entries : (file_told f).entries ≡ entries_seen (file_blocks bs file_header)
-
-    module _ (next : Block → List Block → Events) (none : live c fid ≡ None → P (plain_plan (reply.Refused refusal.NoSuchFile)))
-        (plain : (f : Hdr) → live c fid ≡ Some (file_told f) → f.dir ≡ false → P (plain_plan (reply.Refused refusal.NotDir)))
-        (listed : (f : Hdr) → IsListed f → O (next file_header (file_blocks bs file_header)) file_held) where
-      lives : IsFileNumber g fid.num → (o : Option Hdr) → live_in fid.seq file_header ≡ o → live c fid ≡ option_map file_told o
-      lives is o e = live_is g bs own c s fid is ∙ ap (option_map file_told) e
-
-      in_dir : IsFileNumber g fid.num → (f : Hdr) → live_in fid.seq file_header ≡ Some f → f.dir ≡ true → O (look_all (S fid.num) (places_in file_header) (next file_header)) file_held
+      in_dir : IsFileNumber g fid.num → (f : Hdr) → live_in fid.seq (file_header bs g fid) ≡ Some f → f.dir ≡ true
+          → O (look_all (S fid.num) (places_in (file_header bs g fid)) (next (file_header bs g fid))) file_held
       in_dir is f e d =
-          let reads : header_read file_header ≡ Ok (head.Used f) = live_reads fid.seq (header_read file_header) f e in
-          let places : lbns_in (runs_told file_header) ≡ places_in file_header = ap lbns_in (reads_runs file_header f reads) in
-          let entries : (file_told f).entries ≡ entries_seen (file_blocks bs file_header) = ap (λ t. cond t (plain_entries (directory (file_blocks bs file_header))) []) d in
-          all_obeys (S fid.num) file_held (places_in file_header) (next file_header)
-          (λ l m. under l (block_under g bs own c s fid.num l f is reads d (subst (λ ls. Has ls l) (sym places) m)))
-          (subst (λ ls. O (next file_header (blocks_at bs ls)) file_held) places (listed f (record { number = is; header = e; dir = d; live = lives is (Some f) e; entries = entries })))
+          let reads : header_read (file_header bs g fid) ≡ Ok (head.Used f) = live_reads fid.seq (header_read (file_header bs g fid)) f e in
+          let places : lbns_in (runs_told (file_header bs g fid)) ≡ places_in (file_header bs g fid) = ap lbns_in (reads_runs (file_header bs g fid) f reads) in
+          let entries : (file_told bs g fid f).entries ≡ entries_seen (listed_blocks bs g fid) =
+          ap (λ t. cond t (plain_entries (directory (file_blocks bs (file_header bs g fid)))) []) d ∙ ap (λ ls. entries_seen (blocks_at bs ls)) places in
+          all_obeys (S fid.num) file_held (places_in (file_header bs g fid)) (next (file_header bs g fid))
+          (λ l m. under held mode allowed fid.num l (block_under g bs own c s fid.num l f is reads d (subst (λ ls. Has ls l) (sym places) m)))
+          (listed f (record { number = is; header = e; dir = d; live = lives is (Some f) e; entries = entries }))
 
-      by_dir : IsFileNumber g fid.num → (f : Hdr) → live_in fid.seq file_header ≡ Some f → (t : Bool) → f.dir ≡ t
-          → O (cond t (look_all (S fid.num) (places_in file_header) (next file_header)) (refuses refusal.NotDir)) file_held
+      by_dir : IsFileNumber g fid.num → (f : Hdr) → live_in fid.seq (file_header bs g fid) ≡ Some f → (t : Bool) → f.dir ≡ t
+          → O (cond t (look_all (S fid.num) (places_in (file_header bs g fid)) (next (file_header bs g fid))) (refuses refusal.NotDir)) file_held
       by_dir is f e true d = in_dir is f e d
       by_dir is f e false d = plain f (lives is (Some f) e) d
 
-      by_live : IsFileNumber g fid.num → (o : Option Hdr) → live_in fid.seq file_header ≡ o → O (in_directory fid file_header (next file_header) o) file_held
-      by_live is None e = none (lives is None e)
+      by_live : IsFileNumber g fid.num → (o : Option Hdr) → live_in fid.seq (file_header bs g fid) ≡ o → O (in_directory fid (file_header bs g fid) (next (file_header bs g fid)) o) file_held
+      by_live is None e = none (lives is None e) file_held
       by_live is (Some f) e = by_dir is f e f.dir refl
 
       -- behind a directory's lock, its header and its blocks
-      pub directory_obeys : O (through_directory g fid mode next) []
-      directory_obeys = header_obeys (λ b. in_directory fid b (next b) (live_in fid.seq b)) (λ e. none (not_live g bs own c s fid e)) (λ is. by_live is (live_in fid.seq file_header) refl)
+      pub directory_obeys : O (through_directory g fid mode next) held
+      directory_obeys = header_obeys (λ b. in_directory fid b (next b) (live_in fid.seq b)) (λ e. none (not_live g bs own c s fid e) held) (λ is. by_live is (live_in fid.seq (file_header bs g fid)) refl)

@@ -30,9 +30,9 @@ use Rattle.op_law.specs.Events.{HasNoSearch}
 use Rattle.op_law.specs.Rows.{plain_plan, answers, live_in, through_header, through_directory, entries_seen}
 use Rattle.op_law.specs.Needs.{facts_of, facts_or_none, lookup_events, list_events, stat_events, events_of}
 use Rattle.op_law.specs.Laws.{Lawful}
-use Rattle.op_law.proofs.Telling.{live_reads, file_blocks, live_is, not_live, blocks_whole}
-use Rattle.op_law.proofs.Walking.{EveryPlan, Obeys}
-use Rattle.op_law.proofs.Through.{header_so, directory_so, file_header, file_told, header_obeys, directory_obeys}
+use Rattle.op_law.proofs.Telling.{live_reads, live_is, not_live, blocks_whole}
+use Rattle.op_law.proofs.Walking.{EveryPlan, AnySpace, Obeys}
+use Rattle.op_law.proofs.Through.{header_so, directory_so, file_header, file_told, listed_blocks, header_obeys, directory_obeys}
 use Rattle.op_law.proofs.OnlyLooking.{IsPlain, IsAnswer, only_looks_lawful}
 use Rattle.op_lookup.specs.Kinds.{IsLook}
 
@@ -70,10 +70,10 @@ module _ (x : Cmd) (channel : Option Chan) (g : Geometry) (bs : List Block) (own
   P p = IsAnswer x channel c p
 
   abbrev told_file : Hdr → File
-  told_file f = file_told x g bs own c s P fid PR (inl refl) f
+  told_file f = file_told bs g fid f
 
   abbrev hb : Block
-  hb = file_header x g bs own c s P fid PR (inl refl)
+  hb = file_header bs g fid
 
   -- an answer that leaves the catalogue, where the outcome tells it
   tells_so : (r : Reply) → ((node : ℕ) (new : Option ℕ) → outcome c node x new ≡ told c r) → P (plain_plan r)
@@ -91,10 +91,10 @@ module _ (x : Cmd) (channel : Option Chan) (g : Geometry) (bs : List Block) (own
 
     directory_told : Obeys x g bs own P (through_directory g fid PR (λ h bs. answers (tell (entries_seen bs)))) []
     unfolding goes
-    directory_told = directory_obeys x g bs own c s P fid PR (inl refl) (λ h bs. answers (tell (entries_seen bs)))
-        (λ none. tells_so (reply.Refused refusal.NoSuchFile) (λ node new. same node new ∙ ap goes none))
+    directory_told = directory_obeys x g bs own c s AnySpace (λ held. P) fid [] (λ h. h) PR (inl refl) (λ h bs. answers (tell (entries_seen bs)))
+        (λ none held. tells_so (reply.Refused refusal.NoSuchFile) (λ node new. same node new ∙ ap goes none))
         (λ f lives d. tells_so (reply.Refused refusal.NotDir) (by_dir f lives false d))
-        (λ f is. tells_so (tell (entries_seen (file_blocks bs hb))) (λ node new. by_dir f is.live true is.dir node new ∙ ap (λ es. told c (tell es)) is.entries))
+        (λ f is. tells_so (tell (entries_seen (listed_blocks bs g fid))) (λ node new. by_dir f is.live true is.dir node new ∙ ap (λ es. told c (tell es)) is.entries))
 
   -- STAT
   module _ (same : (node : ℕ) (new : Option ℕ) → outcome c node x new ≡ stat_of c (live c fid)) where
@@ -107,7 +107,7 @@ module _ (x : Cmd) (channel : Option Chan) (g : Geometry) (bs : List Block) (own
         ∙ ap (λ n. told c (reply.Facts f.dir (record { 0 = f.owner }) n f.mark f.end f.byte)) blocks)
 
     stat_told : Obeys x g bs own P (through_header g fid PR (λ b. facts_or_none (live_in fid.seq b))) []
-    stat_told = header_obeys x g bs own c s P fid PR (inl refl) (λ b. facts_or_none (live_in fid.seq b))
+    stat_told = header_obeys x g bs own c s AnySpace (λ held. P) fid [] (λ h. h) PR (inl refl) (λ b. facts_or_none (live_in fid.seq b))
         (λ out. tells_so (reply.Refused refusal.NoSuchFile) (λ node new. same node new ∙ ap (stat_of c) (not_live g bs own c s fid out)))
         (λ is. stat_behind is (live_in fid.seq hb) refl)
 

@@ -35,7 +35,7 @@ use Rattle.op_law.specs.Sizes.{keep_clusters, trunc_in, trunc_events}
 use Rattle.op_law.specs.Needs.{events_of}
 use Rattle.op_law.specs.Laws.{Lawful}
 use Rattle.op_law.proofs.Telling.{live_is, not_live}
-use Rattle.op_law.proofs.Walking.{EveryPlan, Obeys}
+use Rattle.op_law.proofs.Walking.{EveryPlan, AnySpace, Obeys}
 use Rattle.op_law.proofs.Through.{header_so, file_header, file_told, header_obeys}
 use Rattle.op_law.proofs.OnlyLooking.{IsPlain, IsAnswer, only_looks_lawful}
 use Rattle.op_lookup.specs.Kinds.{IsSystemTrunc}
@@ -74,7 +74,7 @@ module _ (file : Fid) (blocks : ℕ) (system : file.num ≤ 11) (channel : Optio
   P p = IsAnswer x channel c p
 
   abbrev hb : Block
-  hb = file_header x g bs own c s P file PW (inr (inl refl))
+  hb = file_header bs g file
 
   refused_so : (r : Refusal) → trunc_of c file.num (live c file) blocks ≡ refused c r → P (plain_plan (reply.Refused r))
   unfolding outcome trunc_outcome
@@ -83,16 +83,16 @@ module _ (file : Fid) (blocks : ℕ) (system : file.num ≤ 11) (channel : Optio
   at_header : IsFileNumber g file.num → (o : Option Hdr) → live_in file.seq hb ≡ o
       → Obeys x g bs own P (if_file (refuses refusal.NoSuchFile) (trunc_in g (clusters_for g blocks)) (option_map (seen_file g file.num hb) o)) ((S file.num, PW) ∷ [])
   at_header is None e = refused_so refusal.NoSuchFile (ap (λ f. trunc_of c file.num f blocks) (live_is g bs own c s file is
-      ∙ ap (option_map (file_told x g bs own c s P file PW (inr (inl refl)))) e))
+      ∙ ap (option_map (file_told bs g file)) e))
   at_header is (Some h) e =
-      let f : File = file_told x g bs own c s P file PW (inr (inl refl)) h in
+      let f : File = file_told bs g file h in
       subst (λ es. Obeys x g bs own P es ((S file.num, PW) ∷ [])) (sym (kept_so g file (clusters_for g blocks) system (seen_file g file.num hb h) refl))
-      (refused_so refusal.NoPriv (ap (λ f. trunc_of c file.num f blocks) (live_is g bs own c s file is ∙ ap (option_map (file_told x g bs own c s P file PW (inr (inl refl)))) e)
+      (refused_so refusal.NoPriv (ap (λ f. trunc_of c file.num f blocks) (live_is g bs own c s file is ∙ ap (option_map (file_told bs g file)) e)
       ∙ ap (λ t. cond (t || f.dir) (refused c refusal.NoPriv) (truncated c file.num f (min f.clusters (in_clusters c blocks)))) (is_low g file (clusters_for g blocks) system)))
 
   trunc_obeys : Obeys x g bs own P (events_of g channel x) []
   unfolding events_of trunc_events
-  trunc_obeys = header_obeys x g bs own c s P file PW (inr (inl refl)) _
+  trunc_obeys = header_obeys x g bs own c s AnySpace (λ held. P) file [] (λ h. h) PW (inr (inl refl)) _
       (λ out. refused_so refusal.NoSuchFile (ap (λ f. trunc_of c file.num f blocks) (not_live g bs own c s file out)))
       (λ is. at_header is (live_in file.seq hb) refl)
 

@@ -142,6 +142,11 @@ entry_leaves g dir d e before after x bs own s can =
     subst P (sym (moves_are g bs own x dir d e s can))
     (moves_leave g bs own x dir d before after s can.number (at g bs own x dir d e s can) _ _ _ (ms g bs own x dir d e s can) (are_moves g bs own x dir d e s can))
 
+-- there is a write, so that the last decides
+pub entry_moved : (g : Geometry) (dir : Fid) (d : File) (e : DirEnt) (x : Cat) (bs : List Block) (own : Owners) → Spells g bs own x → CanBeEntered g x dir.num d e
+    → length (insertion_moves (dir_in g bs dir) e) - 1 < length (insertion_moves (dir_in g bs dir) e)
+entry_moved g dir d e x bs own s can = subst (λ (ns : List Move). length ns - 1 < length ns) (sym (moves_are g bs own x dir d e s can)) (are_moves g bs own x dir d e s can).decides
+
 pub entry_guards : EntryGuards
 unfolding insertion_writes
 entry_guards g dir d e before after x bs own l s can t =

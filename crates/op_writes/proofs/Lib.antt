@@ -12,3 +12,6 @@ pub mod RowOrder
 pub mod RowBlocks
 pub mod RowPlaces
 pub mod RowSteps
+pub mod RowRanges
+pub mod EntryRooms
+pub mod Chaining

@@ -1,0 +1,51 @@
+-- What a command that makes a file has outside after its writes: nothing. And the last write of a plan is the insertion's.
+use Rattle.std.proofs.Common.{◌≡◌, ◌<◌, ◌-◌, ℕ, Bool, true, false, List, ◌∷◌, ◌++◌, Option, Some, None, map, length}
+use Rattle.std.specs.Prelude.{◌==◌, ◌&&◌}
+use Rattle.vol_words.specs.Fields.{Block}
+use Rattle.plain_cat.specs.declared.command.Cmd.{Cmd}
+use Rattle.plain_cat.specs.declared.history.Stage.{Stage}
+use Rattle.plain_cat.specs.declared.history.Stage.TheVariants as stage
+use Rattle.vol_owners.specs.Owners.{Things, nothing}
+use Rattle.vol_parts.specs.declared.geometry.Geometry.{Geometry}
+use Rattle.vol_under.specs.UnderWay.{stage_after, outs_after}
+use Rattle.op_law.specs.declared.seen.Chan.{Chan}
+use Rattle.op_law.specs.Events.{Space, has_space, HasNoSpace, IsGiven}
+use Rattle.op_law.specs.Writing.{holding, header_write, empty_handed}
+use Rattle.op_law.specs.Quotas.{owner_write, row_charged}
+use Rattle.op_law.specs.Moving.{SeenDir, insertion_moves, insertion_writes}
+use Rattle.op_law.specs.Entering.{NewEntry, cost_of, numbered, entry_for, new_header, body_writes, making_writes}
+use Rattle.op_law.specs.Needs.{events_of}
+use Rattle.op_law.specs.Fits.{things}
+use Rattle.op_law.specs.Laws.{planned}
+use Rattle.op_create.specs.Kinds.{IsMake}
+use Rattle.op_create.proofs.Searches.{makes_so}
+use Rattle.op_law.proofs.Ends.{outs_behind, stage_behind, insertion_outs, insertion_stage, EndsBy, nothing_given, given_nothing}
+
+-- ---- the writes of a new file
+
+pub making_outs : (g : Geometry) (d : SeenDir) (quota : List Block) (e : NewEntry) (n : ℕ) (qs : List ℕ) (o : Things) → outs_after o (map planned (making_writes g d quota e n qs)) ≡ nothing
+unfolding making_writes
+making_outs g d quota e n qs o = outs_behind (owner_write g quota e.file.owner (row_charged (cost_of g e.file)) stage.Charged (holding qs (Some n)))
+    (body_writes g n e.file qs ++ header_write g n (new_header g d.fid n e qs) stage.Lost empty_handed ∷ insertion_writes d (entry_for n e) stage.Lost stage.Done) o nothing (λ o. outs_behind (body_writes g n e.file qs) (header_write g n (new_header g d.fid n e qs) stage.Lost empty_handed ∷ insertion_writes d (entry_for n e) stage.Lost stage.Done) o nothing (λ o. insertion_outs d (entry_for n e) stage.Lost stage.Done))
+
+pub making_stage_is : (g : Geometry) (d : SeenDir) (quota : List Block) (e : NewEntry) (n : ℕ) (qs : List ℕ) (s : Stage) → length (insertion_moves d (entry_for n e)) - 1 < length (insertion_moves d (entry_for n e))
+    → stage_after s (map planned (making_writes g d quota e n qs)) ≡ stage.Done
+unfolding making_writes
+making_stage_is g d quota e n qs s lt = stage_behind (owner_write g quota e.file.owner (row_charged (cost_of g e.file)) stage.Charged (holding qs (Some n)))
+    (body_writes g n e.file qs ++ header_write g n (new_header g d.fid n e qs) stage.Lost empty_handed ∷ insertion_writes d (entry_for n e) stage.Lost stage.Done) s stage.Done (λ s. stage_behind (body_writes g n e.file qs) (header_write g n (new_header g d.fid n e qs) stage.Lost empty_handed ∷ insertion_writes d (entry_for n e) stage.Lost stage.Done) s stage.Done (λ s. insertion_stage d (entry_for n e) stage.Lost stage.Lost stage.Done lt))
+
+-- a search for a number that is not refused gives one
+number_given : (clusters : ℕ) (cs : List ℕ) → has_space clusters true (record { clusters = cs; number = None; short = None }) ≡ true → ⊥
+number_given clusters cs e = by_test (length cs == clusters) e where
+  by_test : (t : Bool) → (t && false) ≡ true → ⊥
+  by_test true e = absurd (cc)
+  by_test false e = absurd (cc)
+
+-- after its writes the command has nothing outside
+pub makes_end : (x : Cmd) → IsMake x → (g : Geometry) (channel : Option Chan) (space : Space) → EndsBy (things space.clusters space.number) (HasNoSpace space) (events_of g channel x)
+makes_end x is g channel space = makes_so (EndsBy (things space.clusters space.number) (HasNoSpace space))
+    (λ clusters cs n short es. has_space clusters true (record { clusters = cs; number = n; short = short }) ≡ true → EndsBy (things cs n) (IsGiven cs n short) es)
+    (λ name mode next h. h) (λ name lbn next h. h) (λ clusters next h. h) (λ r. nothing_given space)
+    (λ clusters cs n r has h. given_nothing cs n r h)
+    (λ clusters cs has h. absurd (number_given clusters cs has))
+    (λ clusters g d quota e cs n has b h. making_outs g d quota (numbered b e) n cs (things cs (Some n))) x is g channel

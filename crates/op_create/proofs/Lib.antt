@@ -1,0 +1,9 @@
+pub mod Makers
+pub mod Searches
+pub mod Ends
+pub mod Sequences
+pub mod Forms
+pub mod Walks
+pub mod Replies
+pub mod Making
+pub mod Lawful
