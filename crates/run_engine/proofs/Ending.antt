@@ -55,24 +55,29 @@ module _ (w : Plain) (good : Good w) (over : AllOver w) where
     by None at = refl
     by (Some s) at = ap (λ (x : Option Cmd). under_with w.locks n s x) (node_left n s at).0
 
+-- where no node has anything under way, the drive spells the catalogue to which the history leads
+module _ (w : Plain) (good : Good w) (rests : (n : ℕ) → nodes_under w.locks w.nodes n ≡ resting nothing) where
   none_writes : (n : ℕ) (name : LockName) → Has (nodes_under w.locks w.nodes n).write name → ⊥
-  none_writes n name h = subst (λ (u : UnderWay). Has u.write name) (all_rest n) h
+  none_writes n name h = subst (λ (u : UnderWay). Has u.write name) (rests n) h
 
   sole : AreSole (nodes_under w.locks w.nodes)
   sole = record { writers = λ n m name h k. absurd (none_writes n name h); readers = λ n m name h k. absurd (none_writes n name h) }
 
   drive_left : IsLeft w.geometry good.running.cat (nodes_under w.locks w.nodes) [] w.blocks
-  drive_left = world_stops w.geometry good.running.cat (nodes_under w.locks w.nodes) w.blocks [] sole good.running.drive tt (λ n. inr (all_rest n))
+  drive_left = world_stops w.geometry good.running.cat (nodes_under w.locks w.nodes) w.blocks [] sole good.running.drive tt (λ n. inr (rests n))
       (λ n ms d once among goes. absurd (among n (first n ms)))
     where
       first : (n : ℕ) (ms : List ℕ) → Has (n ∷ ms) n
       first n ms = inl refl
 
-  pub over_is_spelt : (c : Cat) × HasEnded w c
-  over_is_spelt = (good.running.cat, record {
+  pub rest_is_spelt : (c : Cat) × HasEnded w c
+  rest_is_spelt = (good.running.cat, record {
     replayed = good.running.replayed;
     drive = record { own = drive_left.own; spelt = subst (λ (c : Cat). Spells w.geometry w.blocks drive_left.own c) drive_left.dies drive_left.spelt; outs = drive_left.outs };
   })
+
+pub over_is_spelt : (w : Plain) → Good w → AllOver w → (c : Cat) × HasEnded w c
+over_is_spelt w good over = rest_is_spelt w good (all_rest w good over)
 
 -- as many clusters are free as bits are set
 pub free_is_bits : (w : Plain) (c : Cat) → HasEnded w c → free_clusters c ≡ free_bits w.geometry w.blocks
