@@ -25,18 +25,28 @@ use Rattle.core_state.specs.Goods.{Good}
 use Rattle.core_state.specs.Mounting.{IsMounted, IsMountEnd}
 use Rattle.core_state.specs.declared.mounting.MountFault.{MountFault}
 use Rattle.core_state.specs.declared.mounting.MountFault.TheVariants as mount
+use Rattle.run_engine.specs.declared.fault.RunFault.{RunFault}
+use Rattle.run_engine.specs.declared.fault.RunFault.TheVariants as run
 use Rattle.run_engine.specs.Walks.{played, budget_of, Walk, IsPartOfWalk, AllOver, IsSpent, IsBeforeWrite, Stays}
 use Rattle.run_engine.specs.Reports.{report_bytes}
 use Rattle.run_engine.specs.Ended.{IsSpelt, HasEnded}
+use Rattle.run_engine.proofs.Driving.{told_well}
 use Rattle.clus_top.specs.declared.status.Status.{Status}
 use Rattle.clus_top.specs.declared.status.Status.TheVariants as status
 use Rattle.clus_top.specs.Runs.{IsReport, HasRun, IsUnfinished}
 use Rattle.clus_top.specs.Statuses.{IsGood, IsAccepted, IsReportOn}
-use Rattle.clus_top.specs.Ends.{SpellsWithin, IsScriptEnd, IsReportIn, IsDriveIn, IsEndIn, IsSpentIn, IsCutIn, IsStopIn, IsRunEnd, load_status, mount_status}
+use Rattle.clus_top.specs.Ends.{SpellsWithin, IsScriptEnd, IsReportIn, IsDriveIn, IsEndIn, IsSpentIn, IsCutIn, IsStopIn, IsRunEnd, load_status, mount_status, run_status}
 use Rattle.clus_top.specs.Images.{IsDriveOf, IsLastDriveOf, IsSpentDriveOf, IsCutOf, IsRunImage}
 use Rattle.clus_top.proofs.Walked.{over_walk}
 use Rattle.clus_top.proofs.Answered.{IsAnswered, turn_keeps}
 use Rattle.clus_top.proofs.MountedVolumes.{mounted_geometry}
+
+-- what is said of an error
+pub on_err : {A E : Type 0} (r : Result A E) (e : E) (P : Type 0) → r ≡ Err e → OnErr r P → P
+on_err r e P is h = subst (λ x. OnErr x P) is h
+
+pub same_err : {A E : Type 0} (r : Result A E) (f k : E) → r ≡ Err f → r ≡ Err k → f ≡ k
+same_err r f k is other = cc
 
 -- ---- a run on a mounted volume
 
@@ -65,6 +75,22 @@ module _ (start : Plain) (good : Good start) (m : IsMounted start.blocks start.s
   -- a run that a write cut short
   pub cut_in : (new : Plain) (plays : List ℕ) → plays ≡ start.script.plays → IsPartOfWalk start plays new → Good new → IsBeforeWrite new → IsCutIn start.script start.blocks
   cut_in new plays same part keeps before = record { world = new; ran = has_run new plays same part keeps; before = before }
+
+  -- a run that stopped by this fault
+  pub run_stop : {A : Type 0} (new : Plain) (plays : List ℕ) (told now : Option (List Block)) (had has : ℕ) (r : Result A RunFault) (f : RunFault) → r ≡ Err f
+      → plays ≡ start.script.plays → OnErr r (IsPartOfWalk start plays new) → Good new
+      → (r ≡ Err run.Unfinished → IsSpent (budget_of start) (played plays start) new)
+      → (r ≡ Err run.ImageFault → Rose had has) → (r ≡ Err run.ImageFault → IsBeforeWrite new)
+      → (now ≡ told_as told new.blocks) ⊎ (r ≡ Err run.ImageFault)
+      → IsStopIn start.script start.blocks told now had has (run_status f)
+  run_stop {A} new plays told now had has r run.ImageFault is same part keeps spent cause before image =
+      (cause is, cut_in new plays same (on_err r run.ImageFault (IsPartOfWalk start plays new) is part) keeps (before is))
+  run_stop {A} new plays told now had has r run.NoMemory is same part keeps spent cause before image =
+      inr (drive_in new plays told now same (on_err r run.NoMemory (IsPartOfWalk start plays new) is part) keeps
+      (told_well (r ≡ Err run.ImageFault) _ _ image (λ p. let f : run.NoMemory ≡ run.ImageFault = same_err r run.NoMemory run.ImageFault is p in cc)))
+  run_stop {A} new plays told now had has r run.Unfinished is same part keeps spent cause before image =
+      spent_in new plays told now same (on_err r run.Unfinished (IsPartOfWalk start plays new) is part) keeps
+      (told_well (r ≡ Err run.ImageFault) _ _ image (λ p. let f : run.Unfinished ≡ run.ImageFault = same_err r run.Unfinished run.ImageFault is p in cc)) (spent is)
 
   led : (c d : Cat) (s : Script) (new : Plain) → s ≡ start.script → c ≡ start.opening → Replays c s new.history d → Replays m.opening start.script new.history d
   led c d s new script first h =
@@ -280,9 +306,6 @@ volume_end left size told new script blocks read reading first had has status.Un
 volume_end left size told new script blocks read reading first had has status.ImageFault spelt inside same later end =
     (good left script spelt, rose_later first had has later end.0)
 volume_end left size told new script blocks read reading first had has s spelt inside same later end = absurd end
-
-pub on_err : {A E : Type 0} (r : Result A E) (e : E) (P : Type 0) → r ≡ Err e → OnErr r P → P
-on_err r e P is h = subst (λ x. OnErr x P) is h
 
 pub if_err : {A E : Type 0} (r : Result A E) (P Q : E → Type 0) → ((x : E) → P x → Q x) → IfErr r P → IfErr r Q
 if_err (Ok x) P Q f h = h

@@ -16,6 +16,8 @@ use Rattle.core_state.specs.declared.mounting.MountFault.{MountFault}
 use Rattle.core_state.specs.declared.mounting.MountFault.TheVariants as mount
 use Rattle.core_state.specs.Worlds.{Plain}
 use Rattle.core_state.specs.Images.{told_as}
+use Rattle.run_engine.specs.declared.fault.RunFault.{RunFault}
+use Rattle.run_engine.specs.declared.fault.RunFault.TheVariants as run
 use Rattle.run_engine.specs.Walks.{played, budget_of, AllOver, IsSpent, IsBeforeWrite}
 use Rattle.run_engine.specs.Ended.{IsSpelt}
 use Rattle.vol_parts.specs.declared.finding.Finding.{Finding}
@@ -99,6 +101,12 @@ IsStopIn script bs told new had has s = ⊥
 abbrev pub mount_status : MountFault → Status
 mount_status (mount.NotAccepted f) = status.NotAccepted f
 mount_status mount.NoMemory = status.NoMemory
+
+-- the status of a run that stopped
+abbrev pub run_status : RunFault → Status
+run_status run.ImageFault = status.ImageFault
+run_status run.NoMemory = status.NoMemory
+run_status run.Unfinished = status.Unfinished
 
 -- the status of a load
 abbrev pub load_status : LoadFault → Status

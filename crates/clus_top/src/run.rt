@@ -9,7 +9,7 @@ ghost use Rattle.run_engine.specs.Walks.{AllOver};
 ghost use Rattle.run_engine.specs.Reports.{report_bytes};
 ghost use Rattle.run_engine.specs.Ended.{HasEnded};
 ghost use Rattle.clus_top.specs.Statuses.{IsGood, IsAccepted, IsReportOn};
-ghost use Rattle.clus_top.specs.Ends.{IsStopIn, IsEndIn, IsRunEnd, load_status, mount_status};
+ghost use Rattle.clus_top.specs.Ends.{IsStopIn, IsEndIn, IsRunEnd, load_status, mount_status, run_status};
 ghost use Rattle.clus_top.specs.Images.{IsLastDriveOf, IsRunImage};
 
 use crate::script::script_of;
@@ -35,6 +35,17 @@ fn report_of<I: ImageDev>(alloc: Global, w: &World<I, XqpOp>) -> Result<Vec<u8>,
     }
 }
 
+// Why a run stopped before its end.
+fn run_status(fault: RunFault) -> Status
+    ensures { result ≡ run_status fault }
+{
+    match fault {
+        RunFault::ImageFault => Status::ImageFault,
+        RunFault::NoMemory => Status::NoMemory,
+        RunFault::Unfinished => Status::Unfinished,
+    }
+}
+
 // Runs the script of a volume that is just mounted.
 fn run_on<I: ImageDev>(
     alloc: Global,
@@ -54,9 +65,7 @@ fn run_on<I: ImageDev>(
     w.keeps_the_rules();
     match ran {
         Ok(()) => report_of(alloc, w),
-        Err(RunFault::NoMemory) => Err(Status::NoMemory),
-        Err(RunFault::Unfinished) => Err(Status::Unfinished),
-        Err(RunFault::ImageFault) => Err(Status::ImageFault),
+        Err(fault) => Err(run_status(fault)),
     }
 }
 

@@ -1,7 +1,7 @@
-use Rattle.std.proofs.Common.{◌≡◌, ◌∙◌, Ok, Err, sym, ap, subst, inl, inr}
+use Rattle.std.proofs.Common.{◌≡◌, ◌∙◌, sym, subst, inr}
 use Rattle.run_engine.proofs.Driving.{told_well}
 use Rattle.clus_top.specs.Ends.{IsStopIn}
-use Rattle.clus_top.proofs.Reported.{drive_in, spent_in, cut_in, end_in, on_err, if_err, if_ok}
+use Rattle.clus_top.proofs.Reported.{drive_in, run_stop, end_in, if_err, if_ok}
 use Rattle.clus_top.proofs.run.run_on.Goals as goal
 
 pub returns-in-Ok-clause-report : goal.returns-in-Ok-clause-report
@@ -22,22 +22,9 @@ returns-in-Ok-clause-end g c =
     (λ s e. subst (IsStopIn start.script start.blocks (g.I.ImageDev.told c.args.w.now.image) (g.I.ImageDev.told c.run-ran.new.w.image) (g.I.ImageDev.faults c.args.w.now.image) (g.I.ImageDev.faults c.run-ran.new.w.image)) (sym e) (inr drive))
     c.report_of.ensures.end
 
-pub returns-in-Err-NoMemory-clause-end : goal.returns-in-Err-NoMemory-clause-end
-returns-in-Err-NoMemory-clause-end g c =
-    let image = told_well _ _ _ (c.run-ran.ensures.drive c.requires.told) (λ p. let e = sym (c.in-Err-NoMemory.is ∙ ap Err c.in-Err-NoMemory.field-0-is) ∙ p in cc) in
-    inr (drive_in c.args.w.now.world c.keeps_the_rules.ensures.good c.requires.mounted c.run-ran.new.w.world c.args.plays.now _ _ c.requires.plays
-    (on_err _ _ _ c.in-Err-NoMemory.is c.run-ran.ensures.err) c.keeps_the_rules-2.ensures.good image)
-
-pub returns-in-Err-Unfinished-clause-end : goal.returns-in-Err-Unfinished-clause-end
-returns-in-Err-Unfinished-clause-end g c =
-    let image = told_well _ _ _ (c.run-ran.ensures.drive c.requires.told) (λ p. let e = sym (c.in-Err-Unfinished.is ∙ ap Err c.in-Err-Unfinished.field-0-is) ∙ p in cc) in
-    spent_in c.args.w.now.world c.keeps_the_rules.ensures.good c.requires.mounted c.run-ran.new.w.world c.args.plays.now _ _ c.requires.plays
-    (on_err _ _ _ c.in-Err-Unfinished.is c.run-ran.ensures.err) c.keeps_the_rules-2.ensures.good image
-    (c.run-ran.ensures.spent (c.in-Err-Unfinished.is ∙ ap Err c.in-Err-Unfinished.field-0-is))
-
-pub returns-in-Err-ImageFault-clause-end : goal.returns-in-Err-ImageFault-clause-end
-returns-in-Err-ImageFault-clause-end g c =
-    let fault = c.in-Err-ImageFault.is ∙ ap Err c.in-Err-ImageFault.field-0-is in
-    (c.run-ran.ensures.cause fault,
-    cut_in c.args.w.now.world c.keeps_the_rules.ensures.good c.requires.mounted c.run-ran.new.w.world c.args.plays.now c.requires.plays
-    (on_err _ _ _ c.in-Err-ImageFault.is c.run-ran.ensures.err) c.keeps_the_rules-2.ensures.good (c.run-ran.ensures.before fault))
+pub returns-in-Err-clause-end : goal.returns-in-Err-clause-end
+returns-in-Err-clause-end g c =
+    let start = c.args.w.now.world in
+    subst (IsStopIn start.script start.blocks (g.I.ImageDev.told c.args.w.now.image) (g.I.ImageDev.told c.run-ran.new.w.image) (g.I.ImageDev.faults c.args.w.now.image) (g.I.ImageDev.faults c.run-ran.new.w.image)) (sym c.run_status.ensures)
+    (run_stop start c.keeps_the_rules.ensures.good c.requires.mounted c.run-ran.new.w.world c.args.plays.now _ _ _ _ c.run-ran.result c.in-Err.fault c.in-Err.is c.requires.plays
+        c.run-ran.ensures.err c.keeps_the_rules-2.ensures.good c.run-ran.ensures.spent c.run-ran.ensures.cause c.run-ran.ensures.before (c.run-ran.ensures.drive c.requires.told))
