@@ -97,7 +97,7 @@ pub fn tell<O: TextOut>(alloc: Global, out: &mut O, status: Status) -> Status
 {
     if let Status::ImageFault = status {
         write_text(out, b"image fault\n");
-        return status;
+        return Status::ImageFault;
     }
     match status_text(alloc, &status) {
         Ok(text) => {
