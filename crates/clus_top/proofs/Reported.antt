@@ -244,41 +244,6 @@ stop_image left told new script blocks had has status.ImageFault spelt same end 
     inr (of_told (IsCutOf left) told blocks same (cut_of left blocks script spelt end.1))
 stop_image left told new script blocks had has s spelt same end = absurd end
 
--- before a run nothing is written
-pub script_image : (left : Option (List ℕ)) (told new : Option (List Block)) (read reading : ℕ) (s : Status) → new ≡ told → IsScriptEnd left read reading s → IsRunImage left told new s
-script_image left told new read reading status.ScriptFault same end = same
-script_image left told new read reading status.ScriptTooLong same end = same
-script_image left told new read reading (status.BadScript n) same end = same
-script_image left told new read reading status.TooMany same end = same
-script_image left told new read reading status.NoMemory same end = inl same
-script_image left told new read reading s same end = absurd end
-
-pub load_image : (left : Option (List ℕ)) (told new : Option (List Block)) (f : LoadFault) → new ≡ told → IsRunImage left told new (load_status f)
-load_image left told new load.ImageFault same = inl same
-load_image left told new (load.BadSize n) same = same
-load_image left told new load.NoMemory same = inl same
-
--- where memory ran out for the text of a status that is no fault of the image
-pub told_image : (left : Option (List ℕ)) (told new : Option (List Block)) (s : Status) → (s ≡ status.ImageFault → ⊥) → (s ≡ status.Ok → ⊥) → (s ≡ status.OutFault → ⊥)
-    → IsRunImage left told new s → IsRunImage left told new status.NoMemory
-told_image left told new status.Ok fault ok out image = absurd (ok refl)
-told_image left told new status.BadWords fault ok out image = inl image
-told_image left told new status.ScriptFault fault ok out image = inl image
-told_image left told new status.ScriptTooLong fault ok out image = inl image
-told_image left told new (status.BadScript n) fault ok out image = inl image
-told_image left told new status.TooMany fault ok out image = inl image
-told_image left told new status.ImageFault fault ok out image = absurd (fault refl)
-told_image left told new (status.BadSize n) fault ok out image = inl image
-told_image left told new (status.NotAccepted f) fault ok out image = inl image
-told_image left told new status.Findings fault ok out image = inl image
-told_image left told new status.OutFault fault ok out image = absurd (out refl)
-told_image left told new status.NoMemory fault ok out image = image
-told_image left told new status.Unfinished fault ok out image = inr (spent_drive told image) where
-  spent_drive : (t : Option (List Block)) → IfSome t (λ bs. IsSpentDriveOf left bs new) → IfSome t (λ bs. IsDriveOf left bs new)
-  spent_drive None h = tt
-  spent_drive (Some bs) h = h.0
-told_image left told new (status.BadInit f) fault ok out image = inl image
-
 -- ---- why a run gave no report
 
 unfinished : (bytes : List ℕ) (bs : List Block) (new : Option (List Block)) (script : Script) → SpellsWithin script bytes → IsSpentIn script bs (Some bs) new → IsUnfinished bytes bs
@@ -314,8 +279,3 @@ if_err (Err e) P Q f h = f e h
 pub if_ok : {A E : Type 0} (r : Result A E) (P Q : A → Type 0) → ((x : A) → P x → Q x) → IfOk r P → IfOk r Q
 if_ok (Ok x) P Q f h = f x h
 if_ok (Err e) P Q f h = h
-
--- blocks that are equal to told ones
-pub same_blocks : (told : Option (List Block)) (a b : List Block) → a ≡ b → IfSome told (λ bs. b ≡ bs) → IfSome told (λ bs. a ≡ bs)
-same_blocks None a b e h = tt
-same_blocks (Some bs) a b e h = e ∙ h
