@@ -1,5 +1,5 @@
 -- A volume as it is mounted: its blocks spell the opening catalogue by the geometry that its home block tells.
-use Rattle.std.proofs.Common.{◌≡◌, ◌∙◌, ℕ, List, [], Option, Some, None, Result, Ok, Err, length, refl, sym, ap, subst}
+use Rattle.std.proofs.Common.{◌≡◌, ◌∙◌, ℕ, List, [], Option, Some, None, Result, Ok, Err, refl, sym, ap, subst}
 use Rattle.std.specs.Prelude.{replicate}
 use Rattle.vol_words.specs.Fields.{Block}
 use Rattle.fx_home.specs.declared.home.Home.{Home}
@@ -9,10 +9,9 @@ use Rattle.plain_cat.specs.declared.cat.Cat.{Cat}
 use Rattle.plain_cat.specs.declared.script.Script.{Script}
 use Rattle.vol_owners.specs.Owners.{Owners, nothing}
 use Rattle.vol_parts.specs.declared.geometry.Geometry.{Geometry}
-use Rattle.vol_parts.specs.Volumes.{volume, head, runs, bitmap_lbn, quota_lbn, geometry_of}
+use Rattle.vol_parts.specs.Volumes.{volume, head, runs, geometry_of}
 use Rattle.vol_parts.specs.Findings.{home_at}
 use Rattle.vol_faults.specs.Free.{IsGeometryBy}
-use Rattle.vol_spell.specs.Reading.{volume_of}
 use Rattle.vol_spell.specs.Spelling.{IsHomeOf, Spells}
 use Rattle.vol_spell.proofs.Told.{volume_tells}
 use Rattle.vol_under.specs.UnderWay.{resting}
@@ -20,7 +19,6 @@ use Rattle.core_state.specs.Worlds.{NodeState, Plain, node_at}
 use Rattle.core_state.specs.Goods.{Good, under_by, nodes_under}
 use Rattle.core_state.specs.Mounting.{at_rest, mounted, IsMounted}
 use Rattle.core_state.proofs.MountedWorlds.{at_rest_at}
-use Rattle.run_engine.specs.Ended.{HasEnded}
 use Rattle.run_engine.proofs.Ending.{rest_is_spelt}
 
 -- the label plays no part

@@ -1,11 +1,9 @@
 -- The report of a run is the report of a history that replays, and the image has what the run wrote.
-use Rattle.std.proofs.Common.{◌≡◌, ◌∙◌, ◌≤◌, ◌⊎◌, ◌&&◌, ◌+◌, ◌-◌, ◌^◌, ℕ, Bool, true, false, List, [], ◌∷◌, Option, Some, None, Result, Ok, Err, IfOk, IfErr, IfSome, All, length, refl, sym, ap, subst, arith, inl, inr}
-use Rattle.std.specs.Prelude.{min, slice_index_or, OnErr}
+use Rattle.std.proofs.Common.{◌≡◌, ◌∙◌, ◌≤◌, ◌⊎◌, ℕ, true, List, Option, Some, None, Result, Ok, Err, IfOk, IfErr, IfSome, All, length, refl, sym, ap, subst, arith, inl, inr}
+use Rattle.std.specs.Prelude.{slice_index_or, OnErr}
 use Rattle.vol_words.specs.Fields.{Block}
 use Rattle.vol_words.specs.Faults.{Rose}
 use Rattle.blk_drive.specs.Images.{IsInside}
-use Rattle.blk_drive.specs.declared.mirror.LoadFault.{LoadFault}
-use Rattle.blk_drive.specs.declared.mirror.LoadFault.TheVariants as load
 use Rattle.plain_cat.specs.declared.cat.Cat.{Cat}
 use Rattle.plain_cat.specs.declared.script.Script.{Script}
 use Rattle.plain_vol.specs.Lookups.{free_clusters}
@@ -34,8 +32,8 @@ use Rattle.run_engine.proofs.Driving.{told_well}
 use Rattle.clus_top.specs.declared.status.Status.{Status}
 use Rattle.clus_top.specs.declared.status.Status.TheVariants as status
 use Rattle.clus_top.specs.Runs.{IsReport, HasRun, IsUnfinished}
-use Rattle.clus_top.specs.Statuses.{IsGood, IsAccepted, IsReportOn}
-use Rattle.clus_top.specs.Ends.{SpellsWithin, IsScriptEnd, IsReportIn, IsDriveIn, IsEndIn, IsSpentIn, IsCutIn, IsStopIn, IsRunEnd, load_status, mount_status, run_status}
+use Rattle.clus_top.specs.Statuses.{IsGood, IsReportOn}
+use Rattle.clus_top.specs.Ends.{SpellsWithin, IsReportIn, IsDriveIn, IsEndIn, IsSpentIn, IsCutIn, IsStopIn, IsRunEnd, mount_status, run_status}
 use Rattle.clus_top.specs.Images.{IsDriveOf, IsLastDriveOf, IsSpentDriveOf, IsCutOf, IsRunImage}
 use Rattle.clus_top.proofs.Walked.{over_walk}
 use Rattle.clus_top.proofs.Answered.{IsAnswered, turn_keeps}
@@ -67,10 +65,13 @@ module _ (start : Plain) (good : Good start) (m : IsMounted start.blocks start.s
   pub spent_in : (new : Plain) (plays : List ℕ) (told now : Option (List Block)) → plays ≡ start.script.plays → IsPartOfWalk start plays new → Good new → now ≡ told_as told new.blocks
       → IsSpent (budget_of start) (played plays start) new → Accepts start.blocks × IsSpentIn start.script start.blocks told now
   unfolding drive_in has_run
-  spent_in new plays told now same part keeps image spent = (m.accepted, record {
-    drive = drive_in new plays told now same part keeps image;
-    spent = subst (λ (ns : List ℕ). IsSpent (budget_of start) (played ns start) new) same spent;
-  })
+  spent_in new plays told now same part keeps image spent = (
+    m.accepted,
+    record {
+      drive = drive_in new plays told now same part keeps image;
+      spent = subst (λ (ns : List ℕ). IsSpent (budget_of start) (played ns start) new) same spent;
+    },
+  )
 
   -- a run that a write cut short
   pub cut_in : (new : Plain) (plays : List ℕ) → plays ≡ start.script.plays → IsPartOfWalk start plays new → Good new → IsBeforeWrite new → IsCutIn start.script start.blocks

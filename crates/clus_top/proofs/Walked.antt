@@ -1,8 +1,8 @@
 -- What each turn keeps is kept over plays and turns in rotation.
-use Rattle.std.proofs.Common.{◌≡◌, ◌⊎◌, ℕ, zero, suc, true, false, cond, List, [], ◌∷◌, Option, Some, None, take, sym, subst, inl, inr}
+use Rattle.std.proofs.Common.{ℕ, zero, suc, true, false, cond, List, [], ◌∷◌, Option, Some, None, sym, subst}
 use Rattle.core_state.specs.Worlds.{Plain}
 use Rattle.core_state.specs.Events.{is_over, after_turn}
-use Rattle.run_engine.specs.Walks.{after_play, played, next_from, Rotation, with_turn, after_next, rotation, Walk, IsPartOfWalk}
+use Rattle.run_engine.specs.Walks.{after_play, played, next_from, Rotation, with_turn, after_next, rotation, Walk}
 
 module _ (P : Plain → Type 0) (keeps : (w : Plain) (n : ℕ) → P w → P (after_turn w n)) where
   over_play : (w : Plain) (n : ℕ) → P w → P (after_play w n)

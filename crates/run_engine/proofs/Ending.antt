@@ -71,10 +71,13 @@ module _ (w : Plain) (good : Good w) (rests : (n : ℕ) → nodes_under w.locks 
       first n ms = inl refl
 
   pub rest_is_spelt : (c : Cat) × HasEnded w c
-  rest_is_spelt = (good.running.cat, record {
-    replayed = good.running.replayed;
-    drive = record { own = drive_left.own; spelt = subst (λ (c : Cat). Spells w.geometry w.blocks drive_left.own c) drive_left.dies drive_left.spelt; outs = drive_left.outs };
-  })
+  rest_is_spelt = (
+    good.running.cat,
+    record {
+      replayed = good.running.replayed;
+      drive = record { own = drive_left.own; spelt = subst (λ (c : Cat). Spells w.geometry w.blocks drive_left.own c) drive_left.dies drive_left.spelt; outs = drive_left.outs };
+    },
+  )
 
 pub over_is_spelt : (w : Plain) → Good w → AllOver w → (c : Cat) × HasEnded w c
 over_is_spelt w good over = rest_is_spelt w good (all_rest w good over)

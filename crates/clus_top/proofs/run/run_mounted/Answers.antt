@@ -1,4 +1,4 @@
-use Rattle.std.proofs.Common.{◌≡◌, ◌∙◌, sym, ap, subst}
+use Rattle.std.proofs.Common.{◌∙◌, sym, ap, subst}
 use Rattle.clus_top.specs.Ends.{IsStopIn}
 use Rattle.clus_top.proofs.Looks.{only_look, only_run}
 use Rattle.clus_top.proofs.Reported.{stop_of_mounted, mount_stop, if_err}
@@ -19,9 +19,9 @@ returns-in-Ok-clause-end g c =
     let after = c.into_image.ensures ∙ c.into_parts-history.ensures.image in
     if_err c.run_on-outcome.result _ _
     (λ s h.
-        subst (λ (i : g.row.I.Denot). IsStopIn script bs (told i) (told c.into_image.result) (faults i) (faults c.into_image.result) s) c.in-Ok.ensures.image
-        (subst (λ (i : g.row.I.Denot). IsStopIn script bs (told c.in-Ok.world.image) (told i) (faults c.in-Ok.world.image) (faults i) s) (sym after)
-        (stop_of_mounted bs script c.in-Ok.world.world _ _ _ _ s c.in-Ok.ensures.world h)))
+    subst (λ (i : g.row.I.Denot). IsStopIn script bs (told i) (told c.into_image.result) (faults i) (faults c.into_image.result) s) c.in-Ok.ensures.image
+    (subst (λ (i : g.row.I.Denot). IsStopIn script bs (told c.in-Ok.world.image) (told i) (faults c.in-Ok.world.image) (faults i) s) (sym after)
+    (stop_of_mounted bs script c.in-Ok.world.world _ _ _ _ s c.in-Ok.ensures.world h)))
     c.run_on-outcome.ensures.end
 
 pub returns-in-Err-clause-end : goal.returns-in-Err-clause-end

@@ -1,4 +1,4 @@
-use Rattle.std.proofs.Common.{◌≡◌, ◌∙◌, sym, subst, inr}
+use Rattle.std.proofs.Common.{◌∙◌, sym, subst, inr}
 use Rattle.run_engine.proofs.Driving.{told_well}
 use Rattle.clus_top.specs.Ends.{IsStopIn}
 use Rattle.clus_top.proofs.Reported.{drive_in, run_stop, end_in, if_err, if_ok}
@@ -9,7 +9,7 @@ returns-in-Ok-clause-report g c =
     let image = told_well _ _ _ (c.run-ran.ensures.drive c.requires.told) (λ p. let e = sym c.in-Ok.is ∙ p in cc) in
     if_ok c.report_of.result _ _
     (λ text h. end_in c.args.w.now.world c.keeps_the_rules.ensures.good c.requires.mounted c.run-ran.new.w.world c.args.plays.now _ _ text.items c.requires.plays
-        c.in-Ok.ensures.ok.0 c.in-Ok.ensures.ok.1 c.keeps_the_rules-2.ensures.good c.run-ran.ensures.stays c.in-Ok.ensures.whole image h)
+    c.in-Ok.ensures.ok.0 c.in-Ok.ensures.ok.1 c.keeps_the_rules-2.ensures.good c.run-ran.ensures.stays c.in-Ok.ensures.whole image h)
     c.report_of.ensures.report
 
 pub returns-in-Ok-clause-end : goal.returns-in-Ok-clause-end
@@ -17,7 +17,7 @@ returns-in-Ok-clause-end g c =
     let start = c.args.w.now.world in
     let image = told_well _ _ _ (c.run-ran.ensures.drive c.requires.told) (λ p. let e = sym c.in-Ok.is ∙ p in cc) in
     let drive = drive_in start c.keeps_the_rules.ensures.good c.requires.mounted c.run-ran.new.w.world c.args.plays.now (g.I.ImageDev.told c.args.w.now.image) (g.I.ImageDev.told c.run-ran.new.w.image) c.requires.plays
-        (inr c.in-Ok.ensures.ok.0) c.keeps_the_rules-2.ensures.good image in
+    (inr c.in-Ok.ensures.ok.0) c.keeps_the_rules-2.ensures.good image in
     if_err c.report_of.result _ _
     (λ s e. subst (IsStopIn start.script start.blocks (g.I.ImageDev.told c.args.w.now.image) (g.I.ImageDev.told c.run-ran.new.w.image) (g.I.ImageDev.faults c.args.w.now.image) (g.I.ImageDev.faults c.run-ran.new.w.image)) (sym e) (inr drive))
     c.report_of.ensures.end
@@ -27,4 +27,4 @@ returns-in-Err-clause-end g c =
     let start = c.args.w.now.world in
     subst (IsStopIn start.script start.blocks (g.I.ImageDev.told c.args.w.now.image) (g.I.ImageDev.told c.run-ran.new.w.image) (g.I.ImageDev.faults c.args.w.now.image) (g.I.ImageDev.faults c.run-ran.new.w.image)) (sym c.run_status.ensures)
     (run_stop start c.keeps_the_rules.ensures.good c.requires.mounted c.run-ran.new.w.world c.args.plays.now _ _ _ _ c.run-ran.result c.in-Err.fault c.in-Err.is c.requires.plays
-        c.run-ran.ensures.err c.keeps_the_rules-2.ensures.good c.run-ran.ensures.spent c.run-ran.ensures.cause c.run-ran.ensures.before (c.run-ran.ensures.drive c.requires.told))
+    c.run-ran.ensures.err c.keeps_the_rules-2.ensures.good c.run-ran.ensures.spent c.run-ran.ensures.cause c.run-ran.ensures.before (c.run-ran.ensures.drive c.requires.told))

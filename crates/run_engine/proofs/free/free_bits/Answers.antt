@@ -1,4 +1,4 @@
-use Rattle.std.proofs.Common.{◌+◌, sym, arith}
+use Rattle.std.proofs.Common.{sym, arith}
 use Rattle.vol_spell.specs.Reading.{cluster_bit}
 use Rattle.vol_faults.proofs.FreeLemmas.{count-one, count-same}
 use Rattle.run_engine.proofs.free.free_bits.Goals as goal
