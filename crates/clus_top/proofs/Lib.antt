@@ -1,7 +1,7 @@
 pub mod Looks
-pub mod Quiet
 pub mod Walked
-pub mod Replayed
+pub mod Answered
+pub mod MountedVolumes
 pub mod Reported
 pub mod Analyzed
 pub mod OneVerdict

@@ -1,6 +1,5 @@
 -- The commands that a script can come to only look.
-use Rattle.std.proofs.Common.{◌≡◌, ◌∙◌, ◌==◌, ℕ, zero, suc, Bool, true, false, List, [], ◌∷◌, Option, Some, None, cond, slice_get, refl, sym, ap, subst}
-use Rattle.std.specs.Prelude.{replicate}
+use Rattle.std.proofs.Common.{◌≡◌, ◌∙◌, ◌==◌, ℕ, zero, suc, true, false, List, [], ◌∷◌, Option, Some, None, cond, slice_get, refl, sym, ap, subst}
 use Rattle.std.specs.List.{list_all}
 use Rattle.std.proofs.lemmas.Bool.{false≢true, and_parts}
 use Rattle.plain_cat.specs.declared.ids.Fid.{Fid}
@@ -10,8 +9,7 @@ use Rattle.plain_cat.specs.declared.script.LineCmd.{LineCmd}
 use Rattle.plain_cat.specs.declared.script.LineCmd.TheVariants as line
 use Rattle.plain_cat.specs.declared.script.Line.{Line}
 use Rattle.plain_cat.specs.declared.script.Script.{Script}
-use Rattle.plain_cat.specs.declared.history.Entry.{Entry}
-use Rattle.plain_vol.specs.Own.{past, filled, lines_of, close_from, or_close, next_command}
+use Rattle.plain_vol.specs.Own.{past, filled, lines_of, close_from, or_close}
 use Rattle.run_script.specs.Table.{is_look, AreLooks}
 use Rattle.op_lookup.specs.Kinds.{IsLook}
 use Rattle.core_state.specs.Goods.{is_run, IsRun, HasOnly}

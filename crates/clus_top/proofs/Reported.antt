@@ -1,102 +1,146 @@
--- The report of a run is the report of a history that replays.
-use Rattle.std.proofs.Common.{◌≡◌, ◌∙◌, ◌≤◌, ◌⊎◌, ◌&&◌, ℕ, Bool, true, false, List, [], ◌∷◌, Option, Some, None, Result, Ok, Err, IfOk, IfErr, IfSome, All, length, refl, sym, ap, subst, arith}
-use Rattle.std.specs.Prelude.{slice_index_or}
+-- The report of a run is the report of a history that replays, and the image has what the run wrote.
+use Rattle.std.proofs.Common.{◌≡◌, ◌∙◌, ◌≤◌, ◌⊎◌, ℕ, true, List, Option, Some, None, Result, Ok, Err, IfOk, IfErr, IfSome, All, length, refl, sym, ap, subst, arith, inl, inr}
+use Rattle.std.specs.Prelude.{slice_index_or, OnErr}
 use Rattle.vol_words.specs.Fields.{Block}
+use Rattle.vol_words.specs.Faults.{Rose}
 use Rattle.blk_drive.specs.Images.{IsInside}
 use Rattle.plain_cat.specs.declared.cat.Cat.{Cat}
 use Rattle.plain_cat.specs.declared.script.Script.{Script}
-use Rattle.plain_cat.specs.declared.history.Entry.{Entry}
 use Rattle.plain_vol.specs.Lookups.{free_clusters}
-use Rattle.plain_vol.specs.Own.{Whole}
+use Rattle.plain_vol.specs.Own.{Whole, Killed}
 use Rattle.plain_vol.specs.Replaying.{Replays}
+use Rattle.vol_parts.specs.declared.geometry.Geometry.{Geometry}
 use Rattle.vol_parts.specs.Findings.{Accepts}
 use Rattle.vol_analyze.specs.Judging.{IsFirstFound}
 use Rattle.plain_cat.specs.InForm.{InForm, is_within}
 use Rattle.run_script.proofs.Pieces.{limits}
-use Rattle.core_state.specs.Images.{IsTold, told_as}
+use Rattle.run_script.specs.declared.built.TheConstants.{BUILT}
+use Rattle.run_script.specs.Lines.{lines_of}
+use Rattle.run_script.specs.Spelling.{SpellsScript}
+use Rattle.core_state.specs.Images.{told_as}
 use Rattle.core_state.specs.Worlds.{Plain, IsOfWorld}
-use Rattle.core_state.specs.Goods.{Good, HasOnly}
+use Rattle.core_state.specs.Goods.{Good}
 use Rattle.core_state.specs.Mounting.{IsMounted, IsMountEnd}
-use Rattle.run_engine.specs.Reports.{report_bytes}
-use Rattle.clus_top.specs.declared.status.Status.{Status}
-use Rattle.clus_top.specs.declared.status.Status.TheVariants as status
-use Rattle.clus_top.specs.Runs.{IsReport, IsUnfinished}
-use Rattle.clus_top.specs.Statuses.{IsGood, IsAccepted, IsReportOn}
-use Rattle.clus_top.specs.Ends.{SpellsWithin, IsReportIn, IsUnfinishedIn, IsStopIn, IsRunEnd, mount_status}
-use Rattle.std.proofs.lemmas.Bool.{false≢true}
-use Rattle.op_lookup.specs.Kinds.{IsLook}
-use Rattle.run_script.specs.Table.{AreLooks}
 use Rattle.core_state.specs.declared.mounting.MountFault.{MountFault}
 use Rattle.core_state.specs.declared.mounting.MountFault.TheVariants as mount
-use Rattle.run_engine.specs.Walks.{IsPartOfWalk, IsBeforeWrite}
-use Rattle.clus_top.proofs.Looks.{only_look}
-use Rattle.clus_top.proofs.Quiet.{AreLooked, IsQuiet, none_writes}
-use Rattle.clus_top.proofs.Walked.{quiet_part}
-use Rattle.clus_top.proofs.Replayed.{looked_stays, looked_killed, looked_unmended}
+use Rattle.run_engine.specs.declared.fault.RunFault.{RunFault}
+use Rattle.run_engine.specs.declared.fault.RunFault.TheVariants as run
+use Rattle.run_engine.specs.Walks.{played, budget_of, Walk, IsPartOfWalk, AllOver, IsSpent, IsBeforeWrite, Stays}
+use Rattle.run_engine.specs.Reports.{report_bytes}
+use Rattle.run_engine.specs.Ended.{IsSpelt, HasEnded}
+use Rattle.run_engine.proofs.Driving.{told_well}
+use Rattle.clus_top.specs.declared.status.Status.{Status}
+use Rattle.clus_top.specs.declared.status.Status.TheVariants as status
+use Rattle.clus_top.specs.Runs.{IsReport, HasRun, IsUnfinished}
+use Rattle.clus_top.specs.Statuses.{IsGood, IsReportOn}
+use Rattle.clus_top.specs.Ends.{SpellsWithin, IsReportIn, IsDriveIn, IsEndIn, IsSpentIn, IsCutIn, IsStopIn, IsRunEnd, mount_status, run_status}
+use Rattle.clus_top.specs.Images.{IsDriveOf, IsLastDriveOf, IsSpentDriveOf, IsCutOf, IsRunImage}
+use Rattle.clus_top.proofs.Walked.{over_walk}
+use Rattle.clus_top.proofs.Answered.{IsAnswered, turn_keeps}
+use Rattle.clus_top.proofs.MountedVolumes.{mounted_geometry}
+
+-- what is said of an error
+pub on_err : {A E : Type 0} (r : Result A E) (e : E) (P : Type 0) → r ≡ Err e → OnErr r P → P
+on_err r e P is h = subst (λ x. OnErr x P) is h
+
+pub same_err : {A E : Type 0} (r : Result A E) (f k : E) → r ≡ Err f → r ≡ Err k → f ≡ k
+same_err r f k is other = cc
 
 -- ---- a run on a mounted volume
 
--- a volume that is just mounted is quiet
-pub quiet_start : (w : Plain) → Good w → IsMounted w.blocks w.script w → IsQuiet w.script w.opening w.blocks w
-quiet_start w good m = record {
-  good = good;
-  script = refl;
-  opening = refl;
-  blocks = refl;
-  looked = subst AreLooked (sym (ap (λ (v : Plain). v.history) m.is)) tt;
-}
+module _ (start : Plain) (good : Good start) (m : IsMounted start.blocks start.script start) where
+  -- the history of a volume that is just mounted is empty
+  answered : IsAnswered start
+  answered = subst IsAnswered (sym m.is) (record { orderly = (tt, refl) })
 
--- the history of a quiet world replays, and leads back to the opening catalogue
-pub report_in : (start new : Plain) (text : List ℕ) → IsMounted start.blocks start.script start → IsQuiet start.script start.opening start.blocks new
-    → Whole new.script new.history → text ≡ report_bytes new.history (free_clusters new.opening) → IsReportIn start.script start.blocks text
-report_in start new text m quiet whole written =
-    let cat = quiet.good.running.cat in
-    let replays : Replays new.opening new.script new.history cat = quiet.good.running.replayed in
-    let back : cat ≡ new.opening = looked_stays new.opening new.script new.history cat quiet.looked replays in
-    let first : new.opening ≡ m.opening = quiet.opening ∙ ap (λ (v : Plain). v.opening) m.is in
+  -- a run on it
+  pub has_run : (new : Plain) (plays : List ℕ) → plays ≡ start.script.plays → IsPartOfWalk start plays new → Good new → HasRun start.script start.blocks new
+  has_run new plays same part keeps = record { start = start; mounted = m; walked = subst (λ (ns : List ℕ). IsPartOfWalk start ns new) same part; good = keeps }
+
+  pub drive_in : (new : Plain) (plays : List ℕ) (told now : Option (List Block)) → plays ≡ start.script.plays → IsPartOfWalk start plays new → Good new → now ≡ told_as told new.blocks
+      → IsDriveIn start.script start.blocks told now
+  drive_in new plays told now same part keeps image = record { world = new; ran = has_run new plays same part keeps; image = image }
+
+  -- a run whose turns are spent
+  pub spent_in : (new : Plain) (plays : List ℕ) (told now : Option (List Block)) → plays ≡ start.script.plays → IsPartOfWalk start plays new → Good new → now ≡ told_as told new.blocks
+      → IsSpent (budget_of start) (played plays start) new → Accepts start.blocks × IsSpentIn start.script start.blocks told now
+  unfolding drive_in has_run
+  spent_in new plays told now same part keeps image spent = (
+    m.accepted,
     record {
-      opening = m.opening;
-      history = new.history;
-      after = m.opening;
-      accepted = m.accepted;
-      told = m.told;
-      replayed = led new.opening new.script cat back first quiet.script replays;
-      whole = subst (λ s. Whole s new.history) quiet.script whole;
-      killed = looked_killed start.script new.history quiet.looked;
-      unmended = looked_unmended new.history quiet.looked;
-      written = written ∙ ap (λ (c : Cat). report_bytes new.history (free_clusters c)) first;
-    }
-  where
-    led : (c : Cat) (s : Script) (d : Cat) → d ≡ c → c ≡ m.opening → s ≡ start.script → Replays c s new.history d → Replays m.opening start.script new.history m.opening
-    led c s d back first script h =
-        subst (λ t. Replays m.opening t new.history m.opening) script
-        (subst (λ x. Replays x s new.history x) first (subst (λ x. Replays c s new.history x) back h))
+      drive = drive_in new plays told now same part keeps image;
+      spent = subst (λ (ns : List ℕ). IsSpent (budget_of start) (played ns start) new) same spent;
+    },
+  )
 
--- a run on it stays quiet, as far as it comes
-pub quiet_run : (start : Plain) (ns : List ℕ) (new : Plain) → Good start → IsMounted start.blocks start.script start → AreLooks start.script.lines
-    → IsPartOfWalk start ns new → IsQuiet start.script start.opening start.blocks new
-quiet_run start ns new good m looks part =
-    quiet_part start.script start.opening start.blocks (only_look start.script looks) start ns new part (quiet_start start good m)
+  -- a run that a write cut short
+  pub cut_in : (new : Plain) (plays : List ℕ) → plays ≡ start.script.plays → IsPartOfWalk start plays new → Good new → IsBeforeWrite new → IsCutIn start.script start.blocks
+  cut_in new plays same part keeps before = record { world = new; ran = has_run new plays same part keeps; before = before }
 
--- so no write is its next event
-pub no_write_comes : (s : Script) (c : Cat) (bs : List Block) (w : Plain) → AreLooks s.lines → IsQuiet s c bs w → IsBeforeWrite w → ⊥
-no_write_comes s c bs w looks quiet before =
-    let only : HasOnly IsLook w.script = subst (λ t. HasOnly IsLook t) (sym quiet.script) (only_look s looks) in
-    false≢true (sym (none_writes w quiet.good only before.node) ∙ before.write)
+  -- a run that stopped by this fault
+  pub run_stop : {A : Type 0} (new : Plain) (plays : List ℕ) (told now : Option (List Block)) (had has : ℕ) (r : Result A RunFault) (f : RunFault) → r ≡ Err f
+      → plays ≡ start.script.plays → OnErr r (IsPartOfWalk start plays new) → Good new
+      → (r ≡ Err run.Unfinished → IsSpent (budget_of start) (played plays start) new)
+      → (r ≡ Err run.ImageFault → Rose had has) → (r ≡ Err run.ImageFault → IsBeforeWrite new)
+      → (now ≡ told_as told new.blocks) ⊎ (r ≡ Err run.ImageFault)
+      → IsStopIn start.script start.blocks told now had has (run_status f)
+  run_stop {A} new plays told now had has r run.ImageFault is same part keeps spent cause before image =
+      (cause is, cut_in new plays same (on_err r run.ImageFault (IsPartOfWalk start plays new) is part) keeps (before is))
+  run_stop {A} new plays told now had has r run.NoMemory is same part keeps spent cause before image =
+      inr (drive_in new plays told now same (on_err r run.NoMemory (IsPartOfWalk start plays new) is part) keeps
+      (told_well (r ≡ Err run.ImageFault) _ _ image (λ p. let f : run.NoMemory ≡ run.ImageFault = same_err r run.NoMemory run.ImageFault is p in cc)))
+  run_stop {A} new plays told now had has r run.Unfinished is same part keeps spent cause before image =
+      spent_in new plays told now same (on_err r run.Unfinished (IsPartOfWalk start plays new) is part) keeps
+      (told_well (r ≡ Err run.ImageFault) _ _ image (λ p. let f : run.Unfinished ≡ run.ImageFault = same_err r run.Unfinished run.ImageFault is p in cc)) (spent is)
 
--- why a mounted volume gave no report is why its blocks gave none
-pub stop_of_mounted : (bs : List Block) (s : Script) (w : Plain) (x : Status) → IsMounted bs s w → IsStopIn w.script w.blocks x → IsStopIn s bs x
-stop_of_mounted bs s w x m h =
-    subst (λ t. IsStopIn t bs x) (ap (λ (v : Plain). v.script) m.is) (subst (λ b. IsStopIn w.script b x) (ap (λ (v : Plain). v.blocks) m.is) h)
+  led : (c d : Cat) (s : Script) (new : Plain) → s ≡ start.script → c ≡ start.opening → Replays c s new.history d → Replays m.opening start.script new.history d
+  led c d s new script first h =
+      let opening : start.opening ≡ m.opening = ap (λ (v : Plain). v.opening) m.is in
+      subst (λ (x : Cat). Replays x start.script new.history d) (first ∙ opening) (subst (λ (t : Script). Replays c t new.history d) script h)
 
-pub mount_stop : (s : Script) (bs : List Block) (f : MountFault) → IsMountEnd bs f → IsStopIn s bs (mount_status f)
-mount_stop s bs (mount.NotAccepted f) h = h
-mount_stop s bs mount.NoMemory h = tt
+  -- the history of a world that has come to its end replays, and its drive spells the catalogue to which it leads
+  report_in : (new : Plain) (text : List ℕ) → Stays start new → IsAnswered new → Whole new.script new.history
+      → (c : Cat) → HasEnded new c → text ≡ report_bytes new.history (free_clusters c) → IsReportIn start.script start.blocks new.blocks text
+  report_in new text stays orderly whole c end written = record {
+    opening = m.opening;
+    history = new.history;
+    after = c;
+    geometry = start.geometry;
+    accepted = m.accepted;
+    told = m.told;
+    replayed = led new.opening c new.script new stays.script stays.opening end.replayed;
+    whole = subst (λ (s : Script). Whole s new.history) stays.script whole;
+    killed = subst (λ (s : Script). Killed s new.history) stays.script orderly.orderly.0;
+    unmended = orderly.orderly.1;
+    written = written;
+    parts = mounted_geometry start.blocks start.script start good m;
+    left = subst (λ (g : Geometry). IsSpelt g new.blocks c) stays.geometry end.drive;
+  }
 
--- what the image tells stays, where the blocks stay
-pub told_stays : (t u : Option (List Block)) (old new : List Block) → IsTold t old → new ≡ old → u ≡ told_as t new → u ≡ t
-told_stays None u old new told same e = e
-told_stays (Some bs) u old new told same e = e ∙ ap Some (same ∙ told)
+  -- a run that has come to its end
+  pub end_in : (new : Plain) (plays : List ℕ) (told now : Option (List Block)) (text : List ℕ) → plays ≡ start.script.plays → Walk start plays new → AllOver new → Good new → Stays start new
+      → Whole new.script new.history → now ≡ told_as told new.blocks → (c : Cat) × HasEnded new c × (text ≡ report_bytes new.history (free_clusters c))
+      → IsEndIn start.script start.blocks told now text
+  unfolding drive_in
+  end_in new plays told now text same walk over keeps stays whole image end = record {
+    drive = drive_in new plays told now same (inr walk) keeps image;
+    over = over;
+    report = report_in new text stays (over_walk IsAnswered turn_keeps start plays new walk answered) whole end.0 end.1 end.2;
+  }
+
+-- what is said of a mounted volume is said of its blocks
+pub end_of_mounted : (bs : List Block) (s : Script) (w : Plain) (told new : Option (List Block)) (text : List ℕ) → IsMounted bs s w → IsEndIn w.script w.blocks told new text → IsEndIn s bs told new text
+end_of_mounted bs s w told new text m h =
+    subst (λ (t : Script). IsEndIn t bs told new text) (ap (λ (v : Plain). v.script) m.is) (subst (λ (b : List Block). IsEndIn w.script b told new text) (ap (λ (v : Plain). v.blocks) m.is) h)
+
+pub stop_of_mounted : (bs : List Block) (s : Script) (w : Plain) (told new : Option (List Block)) (had has : ℕ) (x : Status) → IsMounted bs s w
+    → IsStopIn w.script w.blocks told new had has x → IsStopIn s bs told new had has x
+stop_of_mounted bs s w told new had has x m h =
+    subst (λ (t : Script). IsStopIn t bs told new had has x) (ap (λ (v : Plain). v.script) m.is) (subst (λ (b : List Block). IsStopIn w.script b told new had has x) (ap (λ (v : Plain). v.blocks) m.is) h)
+
+pub mount_stop : (s : Script) (bs : List Block) (told new : Option (List Block)) (had has : ℕ) (f : MountFault) → new ≡ told → IsMountEnd bs f → IsStopIn s bs told new had has (mount_status f)
+mount_stop s bs told new had has (mount.NotAccepted f) same h = (h, same)
+mount_stop s bs told new had has mount.NoMemory same h = inl same
 
 -- ---- plays
 
@@ -120,52 +164,114 @@ of_told P None blocks same h = tt
 of_told P (Some bs) blocks same h = subst P same h
 
 -- blocks of which a report is made are accepted
-pub is_accepted : (told : Option (List Block)) (script : Script) (blocks : List Block) (text : List ℕ)
-    → IfSome told (λ bs. blocks ≡ bs) → IsReportIn script blocks text → IfSome told Accepts
-is_accepted told script blocks text same h = of_told Accepts told blocks same h.accepted
+pub is_accepted : (told t new : Option (List Block)) (script : Script) (blocks : List Block) (text : List ℕ)
+    → IfSome told (λ bs. blocks ≡ bs) → IsEndIn script blocks t new text → IfSome told Accepts
+is_accepted told t new script blocks text same h = of_told Accepts told blocks same h.report.accepted
 
-reported : (bytes : List ℕ) (bs : List Block) (script : Script) (text : List ℕ) → SpellsWithin script bytes → IsReportIn script bs text → IsReport bytes bs text
-reported bytes bs script text spelt h = record {
+reported : (bytes : List ℕ) (bs : List Block) (new : Option (List Block)) (script : Script) (text : List ℕ) → SpellsWithin script bytes → IsEndIn script bs (Some bs) new text → IsReport bytes bs new text
+reported bytes bs new script text spelt h = record {
   script = script;
-  opening = h.opening;
-  history = h.history;
-  after = h.after;
+  opening = h.report.opening;
+  history = h.report.history;
+  after = h.report.after;
+  geometry = h.report.geometry;
+  blocks = h.drive.world.blocks;
   spelt = spelt.spelt;
-  accepted = h.accepted;
-  told = h.told;
-  replayed = h.replayed;
-  whole = h.whole;
-  killed = h.killed;
-  unmended = h.unmended;
-  written = h.written;
+  accepted = h.report.accepted;
+  told = h.report.told;
+  replayed = h.report.replayed;
+  whole = h.report.whole;
+  killed = h.report.killed;
+  unmended = h.report.unmended;
+  written = h.report.written;
+  parts = h.report.parts;
+  image = h.drive.image;
+  left = h.report.left;
 }
 
-pub report_on : (left : Option (List ℕ)) (told : Option (List Block)) (script : Script) (blocks : List Block) (text : List ℕ)
-    → IfSome left (SpellsWithin script) → IfSome told (λ bs. blocks ≡ bs) → IsReportIn script blocks text → IsReportOn left told text
-report_on None told script blocks text spelt same h = tt
-report_on (Some bytes) None script blocks text spelt same h = tt
-report_on (Some bytes) (Some bs) script blocks text spelt same h =
-    reported bytes bs script text spelt (let P : List Block → Type 0 = λ x. IsReportIn script x text in subst P same h)
+pub report_on : (left : Option (List ℕ)) (told new : Option (List Block)) (script : Script) (blocks : List Block) (text : List ℕ)
+    → IfSome left (SpellsWithin script) → IfSome told (λ bs. blocks ≡ bs) → IsEndIn script blocks told new text → IsReportOn left told new text
+report_on None told new script blocks text spelt same h = tt
+report_on (Some bytes) None new script blocks text spelt same h = tt
+report_on (Some bytes) (Some bs) new script blocks text spelt same h =
+    reported bytes bs new script text spelt (let P : List Block → Type 0 = λ x. IsEndIn script x (Some bs) new text in subst P same h)
 
-unfinished : (bytes : List ℕ) (bs : List Block) (script : Script) → SpellsWithin script bytes → IsUnfinishedIn script bs → IsUnfinished bytes bs
-unfinished bytes bs script spelt h = record { script = script; start = h.start; stopped = h.stopped; spelt = spelt.spelt; mounted = h.mounted; spent = h.spent }
+-- ---- the drive of a run
 
-unfinished_on : (left : Option (List ℕ)) (told : Option (List Block)) (script : Script) (blocks : List Block)
-    → IfSome left (SpellsWithin script) → IfSome told (λ bs. blocks ≡ bs) → IsUnfinishedIn script blocks → IfSome left (λ bytes. IfSome told (IsUnfinished bytes))
-unfinished_on None told script blocks spelt same h = tt
-unfinished_on (Some bytes) None script blocks spelt same h = tt
-unfinished_on (Some bytes) (Some bs) script blocks spelt same h =
-    unfinished bytes bs script spelt (let P : List Block → Type 0 = λ x. IsUnfinishedIn script x in subst P same h)
+spells : (left : Option (List ℕ)) (script : Script) → IfSome left (SpellsWithin script) → IfSome left (λ bytes. SpellsScript BUILT (lines_of bytes) script)
+spells None script h = tt
+spells (Some bytes) script h = h.spelt
+
+drive_of : (left : Option (List ℕ)) (bs : List Block) (new : Option (List Block)) (script : Script) → IfSome left (SpellsWithin script) → IsDriveIn script bs (Some bs) new → IsDriveOf left bs new
+drive_of left bs new script spelt d = record { script = script; spelt = spells left script spelt; world = d.world; ran = d.ran; image = d.image }
+
+drive_on : (left : Option (List ℕ)) (told new : Option (List Block)) (script : Script) (blocks : List Block)
+    → IfSome left (SpellsWithin script) → IfSome told (λ bs. blocks ≡ bs) → IsDriveIn script blocks told new → IfSome told (λ bs. IsDriveOf left bs new)
+drive_on left None new script blocks spelt same d = tt
+drive_on left (Some bs) new script blocks spelt same d =
+    drive_of left bs new script spelt (let P : List Block → Type 0 = λ x. IsDriveIn script x (Some bs) new in subst P same d)
+
+last_of : (left : Option (List ℕ)) (bs : List Block) (new : Option (List Block)) (script : Script) (text : List ℕ) → IfSome left (SpellsWithin script) → IsEndIn script bs (Some bs) new text → IsLastDriveOf left bs new
+unfolding drive_of
+last_of left bs new script text spelt h = (drive_of left bs new script spelt h.drive, h.over)
+
+pub last_on : (left : Option (List ℕ)) (told new : Option (List Block)) (script : Script) (blocks : List Block) (text : List ℕ)
+    → IfSome left (SpellsWithin script) → IfSome told (λ bs. blocks ≡ bs) → IsEndIn script blocks told new text → IfSome told (λ bs. IsLastDriveOf left bs new)
+last_on left None new script blocks text spelt same h = tt
+last_on left (Some bs) new script blocks text spelt same h =
+    last_of left bs new script text spelt (let P : List Block → Type 0 = λ x. IsEndIn script x (Some bs) new text in subst P same h)
+
+spent_of : (left : Option (List ℕ)) (bs : List Block) (new : Option (List Block)) (script : Script) → IfSome left (SpellsWithin script) → IsSpentIn script bs (Some bs) new → IsSpentDriveOf left bs new
+unfolding drive_of
+spent_of left bs new script spelt h = (drive_of left bs new script spelt h.drive, h.spent)
+
+spent_on : (left : Option (List ℕ)) (told new : Option (List Block)) (script : Script) (blocks : List Block)
+    → IfSome left (SpellsWithin script) → IfSome told (λ bs. blocks ≡ bs) → IsSpentIn script blocks told new → IfSome told (λ bs. IsSpentDriveOf left bs new)
+spent_on left None new script blocks spelt same h = tt
+spent_on left (Some bs) new script blocks spelt same h =
+    spent_of left bs new script spelt (let P : List Block → Type 0 = λ x. IsSpentIn script x (Some bs) new in subst P same h)
+
+cut_of : (left : Option (List ℕ)) (bs : List Block) (script : Script) → IfSome left (SpellsWithin script) → IsCutIn script bs → IsCutOf left bs
+cut_of left bs script spelt h = record { script = script; spelt = spells left script spelt; world = h.world; ran = h.ran; before = h.before }
+
+-- why the blocks gave no report says what the image has
+pub stop_image : (left : Option (List ℕ)) (told new : Option (List Block)) (script : Script) (blocks : List Block) (had has : ℕ) (s : Status)
+    → IfSome left (SpellsWithin script) → IfSome told (λ bs. blocks ≡ bs) → IsStopIn script blocks told new had has s → IsRunImage left told new s
+stop_image left told new script blocks had has (status.NotAccepted f) spelt same end = end.1
+stop_image left told new script blocks had has status.NoMemory spelt same (inl e) = inl e
+stop_image left told new script blocks had has status.NoMemory spelt same (inr d) = inr (drive_on left told new script blocks spelt same d)
+stop_image left told new script blocks had has status.Unfinished spelt same end = spent_on left told new script blocks spelt same end.1
+stop_image left told new script blocks had has status.ImageFault spelt same end =
+    inr (of_told (IsCutOf left) told blocks same (cut_of left blocks script spelt end.1))
+stop_image left told new script blocks had has s spelt same end = absurd end
+
+-- ---- why a run gave no report
+
+unfinished : (bytes : List ℕ) (bs : List Block) (new : Option (List Block)) (script : Script) → SpellsWithin script bytes → IsSpentIn script bs (Some bs) new → IsUnfinished bytes bs
+unfinished bytes bs new script spelt h =
+    record { script = script; start = h.drive.ran.start; stopped = h.drive.world; spelt = spelt.spelt; mounted = h.drive.ran.mounted; spent = h.spent }
+
+unfinished_on : (left : Option (List ℕ)) (told new : Option (List Block)) (script : Script) (blocks : List Block)
+    → IfSome left (SpellsWithin script) → IfSome told (λ bs. blocks ≡ bs) → IsSpentIn script blocks told new → IfSome left (λ bytes. IfSome told (IsUnfinished bytes))
+unfinished_on None told new script blocks spelt same h = tt
+unfinished_on (Some bytes) None new script blocks spelt same h = tt
+unfinished_on (Some bytes) (Some bs) new script blocks spelt same h =
+    unfinished bytes bs new script spelt (let P : List Block → Type 0 = λ x. IsSpentIn script x (Some bs) new in subst P same h)
+
+rose_later : (had before now : ℕ) → had ≤ before → Rose before now → Rose had now
+rose_later had before now le rose = omega arith
 
 -- why the blocks gave no report is why the run gave none
-pub volume_end : (left : Option (List ℕ)) (size : ℕ) (told : Option (List Block)) (script : Script) (blocks : List Block) (read reading had has : ℕ) (s : Status)
-    → IfSome left (SpellsWithin script) → IsInside size → IfSome told (λ bs. blocks ≡ bs) → IsStopIn script blocks s → IsRunEnd left size told read reading had has s
-volume_end left size told script blocks read reading had has (status.NotAccepted f) spelt inside same end =
-    (good left script spelt, inside, of_told (λ bs. IsFirstFound bs f) told blocks same end)
-volume_end left size told script blocks read reading had has status.NoMemory spelt inside same end = tt
-volume_end left size told script blocks read reading had has status.Unfinished spelt inside same end =
-    (good left script spelt, record { inside = inside; accepted = of_told Accepts told blocks same end.0 }, unfinished_on left told script blocks spelt same end.1)
-volume_end left size told script blocks read reading had has s spelt inside same end = absurd end
+pub volume_end : (left : Option (List ℕ)) (size : ℕ) (told new : Option (List Block)) (script : Script) (blocks : List Block) (read reading first had has : ℕ) (s : Status)
+    → IfSome left (SpellsWithin script) → IsInside size → IfSome told (λ bs. blocks ≡ bs) → first ≤ had → IsStopIn script blocks told new had has s → IsRunEnd left size told read reading first has s
+volume_end left size told new script blocks read reading first had has (status.NotAccepted f) spelt inside same later end =
+    (good left script spelt, inside, of_told (λ bs. IsFirstFound bs f) told blocks same end.0)
+volume_end left size told new script blocks read reading first had has status.NoMemory spelt inside same later end = tt
+volume_end left size told new script blocks read reading first had has status.Unfinished spelt inside same later end =
+    (good left script spelt, record { inside = inside; accepted = of_told Accepts told blocks same end.0 }, unfinished_on left told new script blocks spelt same end.1)
+volume_end left size told new script blocks read reading first had has status.ImageFault spelt inside same later end =
+    (good left script spelt, rose_later first had has later end.0)
+volume_end left size told new script blocks read reading first had has s spelt inside same later end = absurd end
 
 pub if_err : {A E : Type 0} (r : Result A E) (P Q : E → Type 0) → ((x : E) → P x → Q x) → IfErr r P → IfErr r Q
 if_err (Ok x) P Q f h = h
@@ -174,8 +280,3 @@ if_err (Err e) P Q f h = f e h
 pub if_ok : {A E : Type 0} (r : Result A E) (P Q : A → Type 0) → ((x : A) → P x → Q x) → IfOk r P → IfOk r Q
 if_ok (Ok x) P Q f h = f x h
 if_ok (Err e) P Q f h = h
-
--- blocks that are equal to told ones
-pub same_blocks : (told : Option (List Block)) (a b : List Block) → a ≡ b → IfSome told (λ bs. b ≡ bs) → IfSome told (λ bs. a ≡ bs)
-same_blocks None a b e h = tt
-same_blocks (Some bs) a b e h = e ∙ h

@@ -1,11 +1,12 @@
 -- How the steps of a job end.
-use Rattle.std.specs.Prelude.{◌≡◌, ◌≤◌, ℕ, false, List, [], ◌∷◌, Option, Some, IfSome, length}
+use Rattle.std.specs.Prelude.{◌≡◌, ◌≤◌, ◌⊎◌, ℕ, false, List, [], ◌∷◌, Option, Some, IfSome, length}
 use Rattle.std.specs.List.{list_any}
 use Rattle.vol_words.specs.Fields.{Block}
 use Rattle.vol_words.specs.Faults.{Rose}
 use Rattle.blk_drive.specs.Images.{IsInside, IsOutside}
 use Rattle.blk_drive.specs.declared.mirror.LoadFault.{LoadFault}
 use Rattle.blk_drive.specs.declared.mirror.LoadFault.TheVariants as load
+use Rattle.fx_home.specs.Homes.{home_read}
 use Rattle.plain_cat.specs.declared.cat.Cat.{Cat}
 use Rattle.plain_cat.specs.declared.script.Script.{Script}
 use Rattle.plain_cat.specs.declared.history.Entry.{Entry}
@@ -14,17 +15,22 @@ use Rattle.plain_vol.specs.Replaying.{Replays}
 use Rattle.core_state.specs.declared.mounting.MountFault.{MountFault}
 use Rattle.core_state.specs.declared.mounting.MountFault.TheVariants as mount
 use Rattle.core_state.specs.Worlds.{Plain}
-use Rattle.core_state.specs.Mounting.{IsMounted}
-use Rattle.run_engine.specs.Walks.{played, budget_of, IsSpent}
+use Rattle.core_state.specs.Images.{told_as}
+use Rattle.run_engine.specs.declared.fault.RunFault.{RunFault}
+use Rattle.run_engine.specs.declared.fault.RunFault.TheVariants as run
+use Rattle.run_engine.specs.Walks.{played, budget_of, AllOver, IsSpent, IsBeforeWrite}
+use Rattle.run_engine.specs.Ended.{IsSpelt}
 use Rattle.vol_parts.specs.declared.finding.Finding.{Finding}
-use Rattle.vol_parts.specs.Findings.{AreFindings, Accepts, CatOf}
+use Rattle.vol_parts.specs.declared.geometry.Geometry.{Geometry}
+use Rattle.vol_parts.specs.Findings.{home_at, AreFindings, Accepts, CatOf}
+use Rattle.vol_faults.specs.Free.{IsGeometryBy}
 use Rattle.run_script.specs.declared.built.TheConstants.{BUILT}
 use Rattle.run_script.specs.Lines.{lines_of}
 use Rattle.run_script.specs.Spelling.{SpellsScript}
 use Rattle.vol_analyze.specs.Judging.{IsFirstFound}
 use Rattle.clus_top.specs.declared.status.Status.{Status}
 use Rattle.clus_top.specs.declared.status.Status.TheVariants as status
-use Rattle.clus_top.specs.Runs.{is_mending, report_text, IsUnfinished}
+use Rattle.clus_top.specs.Runs.{is_mending, report_text, HasRun, IsUnfinished}
 use Rattle.vol_init.specs.declared.fault.InitFault.{InitFault}
 use Rattle.vol_init.specs.declared.fault.InitFault.TheVariants as fault
 use Rattle.vol_init.specs.Refusals.{refusal}
@@ -44,11 +50,12 @@ IsScriptEnd left before now status.TooMany = IfSome left IsOverfull
 IsScriptEnd left before now status.NoMemory = Unit {0}
 IsScriptEnd left before now s = ⊥
 
--- the report of a script on the catalogue that blocks tell, in which nothing is found
-pub record IsReportIn (script : Script) (bs : List Block) (text : List ℕ) : Type 0 where
+-- the report of a script on the catalogue that blocks tell, in which nothing is found, and what it leaves there
+pub record IsReportIn (script : Script) (bs blocks : List Block) (text : List ℕ) : Type 0 where
   pub opening : Cat
   pub history : List Entry
   pub after : Cat
+  pub geometry : Geometry
   pub accepted : Accepts bs
   pub told : CatOf bs opening
   pub replayed : Replays opening script history after
@@ -56,25 +63,50 @@ pub record IsReportIn (script : Script) (bs : List Block) (text : List ℕ) : Ty
   pub killed : Killed script history
   pub unmended : list_any is_mending history ≡ false
   pub written : text ≡ report_text history after
+  pub parts : IsGeometryBy bs (home_read (home_at bs)) geometry
+  pub left : IsSpelt geometry blocks after
 
--- a run of a script on these blocks that cannot end
-pub record IsUnfinishedIn (script : Script) (bs : List Block) : Type 0 where
-  pub start : Plain
-  pub stopped : Plain
-  pub mounted : IsMounted bs script start
-  pub spent : IsSpent (budget_of start) (played script.plays start) stopped
+-- the image has the drive of a world that has run a script, where it told these blocks before
+pub record IsDriveIn (script : Script) (bs : List Block) (told new : Option (List Block)) : Type 0 where
+  pub world : Plain
+  pub ran : HasRun script bs world
+  pub image : new ≡ told_as told world.blocks
 
--- Why a script gave no report on the blocks of a volume. So far its commands only look: no block is written, and no write fails.
-abbrev pub IsStopIn : Script → List Block → Status → Type 0
-IsStopIn script bs (status.NotAccepted f) = IsFirstFound bs f
-IsStopIn script bs status.NoMemory = Unit {0}
-IsStopIn script bs status.Unfinished = Accepts bs × IsUnfinishedIn script bs
-IsStopIn script bs s = ⊥
+-- and the world has come to its end, with this report
+pub record IsEndIn (script : Script) (bs : List Block) (told new : Option (List Block)) (text : List ℕ) : Type 0 where
+  pub drive : IsDriveIn script bs told new
+  pub over : AllOver drive.world
+  pub report : IsReportIn script bs drive.world.blocks text
+
+-- and so many turns are made that no more come, though a node is not over
+pub record IsSpentIn (script : Script) (bs : List Block) (told new : Option (List Block)) : Type 0 where
+  pub drive : IsDriveIn script bs told new
+  pub spent : IsSpent (budget_of drive.ran.start) (played script.plays drive.ran.start) drive.world
+
+-- a world has run a script as far as to a write
+pub record IsCutIn (script : Script) (bs : List Block) : Type 0 where
+  pub world : Plain
+  pub ran : HasRun script bs world
+  pub before : IsBeforeWrite world
+
+-- Why a script gave no report on the blocks of a volume, and what the image has then.
+abbrev pub IsStopIn : Script → List Block → Option (List Block) → Option (List Block) → ℕ → ℕ → Status → Type 0
+IsStopIn script bs told new had has (status.NotAccepted f) = IsFirstFound bs f × (new ≡ told)
+IsStopIn script bs told new had has status.NoMemory = (new ≡ told) ⊎ IsDriveIn script bs told new
+IsStopIn script bs told new had has status.Unfinished = Accepts bs × IsSpentIn script bs told new
+IsStopIn script bs told new had has status.ImageFault = Rose had has × IsCutIn script bs
+IsStopIn script bs told new had has s = ⊥
 
 -- the status of a mount
 abbrev pub mount_status : MountFault → Status
 mount_status (mount.NotAccepted f) = status.NotAccepted f
 mount_status mount.NoMemory = status.NoMemory
+
+-- the status of a run that stopped
+abbrev pub run_status : RunFault → Status
+run_status run.ImageFault = status.ImageFault
+run_status run.NoMemory = status.NoMemory
+run_status run.Unfinished = status.Unfinished
 
 -- the status of a load
 abbrev pub load_status : LoadFault → Status

@@ -1,12 +1,19 @@
 -- What the image has after a job.
-use Rattle.std.specs.Prelude.{◌≡◌, List, Option, Some, None, IfSome}
+use Rattle.std.specs.Prelude.{◌≡◌, ◌⊎◌, ℕ, List, Option, Some, None, IfSome}
 use Rattle.vol_words.specs.Fields.{Block}
 use Rattle.fx_home.specs.declared.home.Home.{Home}
 use Rattle.vol_init.specs.Refusals.{home_of}
 use Rattle.vol_init.specs.Made.{IsMade, IsLeft}
 use Rattle.clus_top.specs.declared.status.Status.{Status}
 use Rattle.clus_top.specs.declared.status.Status.TheVariants as status
+use Rattle.plain_cat.specs.declared.script.Script.{Script}
+use Rattle.run_script.specs.declared.built.TheConstants.{BUILT}
+use Rattle.run_script.specs.Lines.{lines_of}
+use Rattle.run_script.specs.Spelling.{SpellsScript}
+use Rattle.core_state.specs.Worlds.{Plain}
+use Rattle.run_engine.specs.Walks.{played, budget_of, AllOver, IsSpent, IsBeforeWrite}
 use Rattle.clus_top.specs.Words.{Wanted, Run, Analyze, Init}
+use Rattle.clus_top.specs.Runs.{HasRun}
 
 -- the image has a new volume
 abbrev pub IsImageMade : Home → List Block → Option (List Block) → Type 0
@@ -22,9 +29,44 @@ IsFormatted h old new status.ImageFault = IsLeft h old new
 IsFormatted h old new status.NoMemory = IsLeft h old new
 IsFormatted h old new s = new ≡ Some old
 
--- After a job, where the image tells its blocks: only a format changes them.
-abbrev pub IsImageAfter : Option Wanted → Option (List Block) → Option (List Block) → Status → Type 0
-IsImageAfter (Some (Init cluster files label)) told new s = IfSome told (λ old. IsFormatted (home_of cluster files label) old new s)
-IsImageAfter (Some Run) told new s = new ≡ told
-IsImageAfter (Some Analyze) told new s = new ≡ told
-IsImageAfter None told new s = new ≡ told
+-- The image has the drive of a world that has run a script, which these bytes spell where they are told, on the volume of these
+-- blocks, as far as its nodes came.
+pub record IsDriveOf (left : Option (List ℕ)) (bs : List Block) (new : Option (List Block)) : Type 0 where
+  pub script : Script
+  pub spelt : IfSome left (λ bytes. SpellsScript BUILT (lines_of bytes) script)
+  pub world : Plain
+  pub ran : HasRun script bs world
+  pub image : new ≡ Some world.blocks
+
+-- and every node is over
+abbrev pub IsLastDriveOf : Option (List ℕ) → List Block → Option (List Block) → Type 0
+IsLastDriveOf left bs new = (d : IsDriveOf left bs new) × AllOver d.world
+
+-- and so many turns are made that no more come, though a node is not over
+abbrev pub IsSpentDriveOf : Option (List ℕ) → List Block → Option (List Block) → Type 0
+IsSpentDriveOf left bs new = (d : IsDriveOf left bs new) × IsSpent (budget_of d.ran.start) (played d.script.plays d.ran.start) d.world
+
+-- a world has run such a script on the volume of these blocks as far as to a write
+pub record IsCutOf (left : Option (List ℕ)) (bs : List Block) : Type 0 where
+  pub script : Script
+  pub spelt : IfSome left (λ bytes. SpellsScript BUILT (lines_of bytes) script)
+  pub world : Plain
+  pub ran : HasRun script bs world
+  pub before : IsBeforeWrite world
+
+-- After a run: the drive of its world, once every node is over or the turns are spent; after want of memory the old blocks, or
+-- the drive as far as the run came; after a fault of the image the old blocks, or a write failed; and else the old blocks.
+abbrev pub IsRunImage : Option (List ℕ) → Option (List Block) → Option (List Block) → Status → Type 0
+IsRunImage left told new status.Ok = IfSome told (λ bs. IsLastDriveOf left bs new)
+IsRunImage left told new status.OutFault = IfSome told (λ bs. IsLastDriveOf left bs new)
+IsRunImage left told new status.Unfinished = IfSome told (λ bs. IsSpentDriveOf left bs new)
+IsRunImage left told new status.NoMemory = (new ≡ told) ⊎ IfSome told (λ bs. IsDriveOf left bs new)
+IsRunImage left told new status.ImageFault = (new ≡ told) ⊎ IfSome told (λ bs. IsCutOf left bs)
+IsRunImage left told new s = new ≡ told
+
+-- After a job: a run and a format write to the image.
+abbrev pub IsImageAfter : Option Wanted → Option (List ℕ) → Option (List Block) → Option (List Block) → Status → Type 0
+IsImageAfter (Some (Init cluster files label)) left told new s = IfSome told (λ old. IsFormatted (home_of cluster files label) old new s)
+IsImageAfter (Some Run) left told new s = IsRunImage left told new s
+IsImageAfter (Some Analyze) left told new s = new ≡ told
+IsImageAfter None left told new s = new ≡ told

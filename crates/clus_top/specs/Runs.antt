@@ -1,7 +1,8 @@
 -- What a run of a script answers on a volume.
-use Rattle.std.specs.Prelude.{◌≡◌, ℕ, Bool, true, false, List}
+use Rattle.std.specs.Prelude.{◌≡◌, ℕ, Bool, true, false, List, Option, Some}
 use Rattle.std.specs.List.{list_any}
 use Rattle.vol_words.specs.Fields.{Block}
+use Rattle.fx_home.specs.Homes.{home_read}
 use Rattle.plain_cat.specs.declared.script.Script.{Script}
 use Rattle.plain_cat.specs.declared.history.Entry.{Entry}
 use Rattle.plain_cat.specs.declared.history.Entry.TheVariants.{Done, Died, Mended}
@@ -9,13 +10,17 @@ use Rattle.plain_cat.specs.declared.cat.Cat.{Cat}
 use Rattle.plain_vol.specs.Lookups.{free_clusters}
 use Rattle.plain_vol.specs.Own.{Whole, Killed}
 use Rattle.plain_vol.specs.Replaying.{Replays}
-use Rattle.vol_parts.specs.Findings.{Accepts, CatOf}
+use Rattle.vol_parts.specs.declared.geometry.Geometry.{Geometry}
+use Rattle.vol_parts.specs.Findings.{home_at, Accepts, CatOf}
+use Rattle.vol_faults.specs.Free.{IsGeometryBy}
 use Rattle.run_script.specs.declared.built.TheConstants.{BUILT}
 use Rattle.run_script.specs.Lines.{lines_of}
 use Rattle.run_script.specs.Spelling.{SpellsScript}
 use Rattle.core_state.specs.Worlds.{Plain}
+use Rattle.core_state.specs.Goods.{Good}
 use Rattle.core_state.specs.Mounting.{IsMounted}
-use Rattle.run_engine.specs.Walks.{played, budget_of, IsSpent}
+use Rattle.run_engine.specs.Walks.{played, budget_of, IsPartOfWalk, IsSpent}
+use Rattle.run_engine.specs.Ended.{IsSpelt}
 use Rattle.run_engine.specs.Reports.{report_bytes}
 
 -- an entry is a mending
@@ -30,12 +35,15 @@ report_text h c = report_bytes h (free_clusters c)
 
 -- The text is the report of a history in which each node of the script gives each of its commands once and in order, nodes die
 -- only where the script kills them, and nothing is mended; and which replays on one uncached volume: it begins with the
--- catalogue that the blocks tell, in which nothing is found.
-pub record IsReport (bytes : List ℕ) (bs : List Block) (text : List ℕ) : Type 0 where
+-- catalogue that the blocks tell, in which nothing is found. The image has other blocks then: by the geometry of the volume they
+-- spell the catalogue to which the history leads, and nothing is outside at any node.
+pub record IsReport (bytes : List ℕ) (bs : List Block) (new : Option (List Block)) (text : List ℕ) : Type 0 where
   pub script : Script
   pub opening : Cat
   pub history : List Entry
   pub after : Cat
+  pub geometry : Geometry
+  pub blocks : List Block
   pub spelt : SpellsScript BUILT (lines_of bytes) script
   pub accepted : Accepts bs
   pub told : CatOf bs opening
@@ -44,6 +52,17 @@ pub record IsReport (bytes : List ℕ) (bs : List Block) (text : List ℕ) : Typ
   pub killed : Killed script history
   pub unmended : list_any is_mending history ≡ false
   pub written : text ≡ report_text history after
+  pub parts : IsGeometryBy bs (home_read (home_at bs)) geometry
+  pub image : new ≡ Some blocks
+  pub left : IsSpelt geometry blocks after
+
+-- A world that has run a script on the volume of these blocks, as far as its nodes came: plays and turns have led to it from the
+-- volume as it is mounted, and it keeps the rules.
+pub record HasRun (script : Script) (bs : List Block) (w : Plain) : Type 0 where
+  pub start : Plain
+  pub mounted : IsMounted bs script start
+  pub walked : IsPartOfWalk start script.plays w
+  pub good : Good w
 
 -- A run that cannot end: on the volume as it is mounted, after the plays and as many turns in rotation as a run makes at most,
 -- a node is not over.

@@ -166,9 +166,9 @@ IsDue (Some (Init cluster files label)) left size told s = IsInitDue cluster fil
 
 -- ---- what is written
 
--- a text is the report on this script and these blocks, where both are told
-abbrev pub IsReportOn : Option (List ℕ) → Option (List Block) → List ℕ → Type 0
-IsReportOn left told text = IfSome left (λ bytes. IfSome told (λ bs. IsReport bytes bs text))
+-- a text is the report on this script and these blocks, where both are told, and on those that the image has then
+abbrev pub IsReportOn : Option (List ℕ) → Option (List Block) → Option (List Block) → List ℕ → Type 0
+IsReportOn left told new text = IfSome left (λ bytes. IfSome told (λ bs. IsReport bytes bs new text))
 
 -- what an analysis says of a volume in which nothing is found
 abbrev pub accepted_text : List ℕ
@@ -188,12 +188,12 @@ room_text l =
 unfoldable pub made_text : List ℕ → Layout → List ℕ
 made_text label l = codes "volume " ++ (label ++ (codes ": " ++ room_text l))
 
--- the text of status 0 of a job
-abbrev pub IsTextOf : Option Wanted → Option (List ℕ) → ℕ → Option (List Block) → List ℕ → Type 0
-IsTextOf None left size told text = ⊥
-IsTextOf (Some Run) left size told text = IsReportOn left told text
-IsTextOf (Some Analyze) left size told text = text ≡ accepted_text
-IsTextOf (Some (Init cluster files label)) left size told text = text ≡ made_text label (sized cluster files size)
+-- the text of status 0 of a job, on the blocks that the image told and those that it tells then
+abbrev pub IsTextOf : Option Wanted → Option (List ℕ) → ℕ → Option (List Block) → Option (List Block) → List ℕ → Type 0
+IsTextOf None left size told new text = ⊥
+IsTextOf (Some Run) left size told new text = IsReportOn left told new text
+IsTextOf (Some Analyze) left size told new text = text ≡ accepted_text
+IsTextOf (Some (Init cluster files label)) left size told new text = text ≡ made_text label (sized cluster files size)
 
 -- the line of a finding
 abbrev pub finding_line : Finding → List ℕ

@@ -1,14 +1,16 @@
-ghost use Rattle.std.specs.Prelude.{◌≡◌, ◌≤◌, IfOk, IfErr, IfSome, length};
-ghost use Rattle.vol_words.specs.Faults.{Rose};
-ghost use Rattle.blk_drive.specs.Images.{IsInside};
+ghost use Rattle.std.specs.Prelude.{◌≡◌, IfOk, IfErr, IfSome};
+ghost use Rattle.plain_cat.specs.declared.cat.Cat.{Cat};
 ghost use Rattle.plain_cat.specs.InForm.{InForm};
 ghost use Rattle.plain_vol.specs.Lookups.{free_clusters};
 ghost use Rattle.run_script.specs.Table.{AreLooks};
 ghost use Rattle.core_state.specs.Images.{IsTold};
 ghost use Rattle.core_state.specs.Mounting.{IsMounted};
+ghost use Rattle.run_engine.specs.Walks.{AllOver};
 ghost use Rattle.run_engine.specs.Reports.{report_bytes};
+ghost use Rattle.run_engine.specs.Ended.{HasEnded};
 ghost use Rattle.clus_top.specs.Statuses.{IsGood, IsAccepted, IsReportOn};
-ghost use Rattle.clus_top.specs.Ends.{IsStopIn, IsReportIn, IsRunEnd, load_status, mount_status};
+ghost use Rattle.clus_top.specs.Ends.{IsStopIn, IsEndIn, IsRunEnd, load_status, mount_status, run_status};
+ghost use Rattle.clus_top.specs.Images.{IsLastDriveOf, IsRunImage};
 
 use crate::script::script_of;
 use crate::status::Status;
@@ -16,19 +18,31 @@ use blk_drive::{ImageDev, LoadFault, LoadRefused, Mirror};
 use core_state::{MountFault, MountRefused, World};
 use fx_text::TextIn;
 use plain_cat::{Plays, Script};
-use plain_vol::free_clusters;
-use run_engine::{RunFault, report, run};
+use run_engine::{RunFault, free_at_end, report, run};
 use std::alloc::Global;
 use xqp_set::XqpOp;
 
-// The report of a run that has ended. Its commands only look, so that the free clusters are those of the opening catalogue.
+// The report of a run that has ended.
 fn report_of<I: ImageDev>(alloc: Global, w: &World<I, XqpOp>) -> Result<Vec<u8>, Status>
-    ensures report { IfOk result (λ text. text.items ≡ report_bytes w.now.world.history (free_clusters w.now.world.opening)) }
+    requires over { AllOver w.now.world }
+    ensures report { IfOk result (λ text. (c : Cat) × HasEnded w.now.world c × (text.items ≡ report_bytes w.now.world.history (free_clusters c))) }
     ensures end { IfErr result (λ s. s ≡ Status.NoMemory) }
 {
-    match report(alloc, w.history(), free_clusters(w.opening())) {
+    let free = free_at_end(w);
+    match report(alloc, w.history(), free) {
         Ok(text) => Ok(text),
         Err(_) => Err(Status::NoMemory),
+    }
+}
+
+// Why a run stopped before its end.
+fn run_status(fault: RunFault) -> Status
+    ensures { result ≡ run_status fault }
+{
+    match fault {
+        RunFault::ImageFault => Status::ImageFault,
+        RunFault::NoMemory => Status::NoMemory,
+        RunFault::Unfinished => Status::Unfinished,
     }
 }
 
@@ -40,20 +54,18 @@ fn run_on<I: ImageDev>(
 ) -> Result<Vec<u8>, Status>
     requires mounted { IsMounted w.old.world.blocks w.old.world.script w.old.world }
     requires form { InForm w.old.world.script }
-    requires looks { AreLooks w.old.world.script.lines }
     requires plays { plays.now ≡ w.old.world.script.plays }
     requires told { IsTold (I.told w.old.image) w.old.world.blocks }
-    ensures report { IfOk result (λ text. IsReportIn w.old.world.script w.old.world.blocks text.items) }
-    ensures end { IfErr result (IsStopIn w.old.world.script w.old.world.blocks) }
-    ensures told { I.told w.new.image ≡ I.told w.old.image }
+    ensures report { IfOk result (λ text. IsEndIn w.old.world.script w.old.world.blocks (I.told w.old.image) (I.told w.new.image) text.items) }
+    ensures end { IfErr result (IsStopIn w.old.world.script w.old.world.blocks (I.told w.old.image) (I.told w.new.image)
+        (I.faults w.old.image) (I.faults w.new.image)) }
 {
     w.keeps_the_rules();
-    match run(alloc, w, plays) {
+    let ran = run(alloc, w, plays);
+    w.keeps_the_rules();
+    match ran {
         Ok(()) => report_of(alloc, w),
-        Err(RunFault::NoMemory) => Err(Status::NoMemory),
-        Err(RunFault::Unfinished) => Err(Status::Unfinished),
-        // Commands that only look write no block, so no write fails.
-        Err(RunFault::ImageFault) => unreachable!(),
+        Err(fault) => Err(run_status(fault)),
     }
 }
 
@@ -72,9 +84,9 @@ fn run_mounted<I: ImageDev>(alloc: Global, m: Mirror<I>, script: &Script) -> Ran
     requires form { InForm script.now }
     requires looks { AreLooks script.now.lines }
     requires told { IsTold (I.told m.image) m.blocks }
-    ensures report { IfOk result.outcome (λ text. IsReportIn script.now m.blocks text.items) }
-    ensures end { IfErr result.outcome (IsStopIn script.now m.blocks) }
-    ensures told { I.told result.image ≡ I.told m.image }
+    ensures report { IfOk result.outcome (λ text. IsEndIn script.now m.blocks (I.told m.image) (I.told result.image) text.items) }
+    ensures end { IfErr result.outcome (IsStopIn script.now m.blocks (I.told m.image) (I.told result.image)
+        (I.faults m.image) (I.faults result.image)) }
 {
     match World::<I, XqpOp>::mount(alloc, m, script) {
         Ok(mut world) => {
@@ -113,10 +125,11 @@ pub fn load_status(fault: LoadFault) -> Status
 /// Runs the script on the image.
 pub fn run_script<I: ImageDev, T: TextIn>(alloc: Global, image: I, script: &mut T) -> Ran<I>
     ensures passed { IfOk result.outcome (λ text. IfSome (T.left script.old) IsGood × IsAccepted (I.size image) (I.told image)) }
-    ensures report { IfOk result.outcome (λ text. IsReportOn (T.left script.old) (I.told image) text.items) }
+    ensures report { IfOk result.outcome (λ text. IsReportOn (T.left script.old) (I.told image) (I.told result.image) text.items) }
+    ensures ended { IfOk result.outcome (λ text. IfSome (I.told image) (λ bs. IsLastDriveOf (T.left script.old) bs (I.told result.image))) }
     ensures end { IfErr result.outcome (IsRunEnd (T.left script.old) (I.size image) (I.told image)
         (T.faults script.old) (T.faults script.new) (I.faults image) (I.faults result.image)) }
-    ensures told { I.told result.image ≡ I.told image }
+    ensures left { IfErr result.outcome (IsRunImage (T.left script.old) (I.told image) (I.told result.image)) }
 {
     let spelt = match script_of(alloc, script) {
         Ok(spelt) => spelt,

@@ -88,12 +88,17 @@ fn write_text<O: TextOut>(out: &mut O, text: &[u8])
 }
 
 /// Writes the text of a status, and answers the status: the given one, or want of memory, whose text is written then. A
-/// fault of the sink changes neither.
+/// fault of the sink changes neither, and a fault of the image is told without memory.
 #[tactic(auto, unfolding(crate::specs::Statuses::status_text))]
 pub fn tell<O: TextOut>(alloc: Global, out: &mut O, status: Status) -> Status
     ensures status { (result ≡ status) ⊎ (result ≡ Status.NoMemory) }
+    ensures fault { status ≡ Status.ImageFault → result ≡ Status.ImageFault }
     ensures text { IsWritten (O.written out.old) (O.written out.new) (O.faults out.old) (O.faults out.new) (status_text result) }
 {
+    if let Status::ImageFault = status {
+        write_text(out, b"image fault\n");
+        return Status::ImageFault;
+    }
     match status_text(alloc, &status) {
         Ok(text) => {
             write_text(out, text.as_slice());

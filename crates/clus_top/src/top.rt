@@ -4,7 +4,7 @@ ghost use Rattle.vol_words.specs.Fields.{Block};
 ghost use Rattle.clus_top.specs.Ends.{AreFoundIn, IsFoundEnd};
 ghost use Rattle.vol_init.specs.Refusals.{home_of};
 ghost use Rattle.clus_top.specs.Words.{Run, wanted_by};
-ghost use Rattle.clus_top.specs.Images.{IsFormatted, IsImageAfter};
+ghost use Rattle.clus_top.specs.Images.{IsFormatted, IsRunImage, IsImageAfter};
 ghost use Rattle.clus_top.specs.Statuses.{IsRunDue, IsAnalysisDue, IsInitDue, IsDue, accepted_text, made_text, sized, IsTextOf, Writes};
 
 use crate::analysis::{Analysis, analyze_image};
@@ -39,9 +39,9 @@ fn run<I: ImageDev, T: TextIn, O: TextOut>(
     ensures script_fault { result.status ≡ Status.ScriptFault → Rose (T.faults script.old) (T.faults script.new) }
     ensures image_fault { result.status ≡ Status.ImageFault → Rose (I.faults image) (I.faults result.image) }
     ensures out_fault { result.status ≡ Status.OutFault → Rose (O.faults out.old) (O.faults out.new) }
-    ensures written { Writes (IsTextOf (Some Run) (T.left script.old) (I.size image) (I.told image)) (I.told image)
+    ensures written { Writes (IsTextOf (Some Run) (T.left script.old) (I.size image) (I.told image) (I.told result.image)) (I.told image)
         (O.written out.old) (O.written out.new) (O.faults out.old) (O.faults out.new) result.status }
-    ensures told { I.told result.image ≡ I.told image }
+    ensures after { IsRunImage (T.left script.old) (I.told image) (I.told result.image) result.status }
 {
     let Ran { outcome, image } = run_script(alloc, image, script);
     let status = match outcome {
@@ -132,12 +132,14 @@ pub fn vmsclus<I: ImageDev, T: TextIn, O: TextOut>(
 
     // With status 0 the job's text was written, with a fault of the sink first bytes of it, with findings these, and else the
     // text of the status.
-    ensures written { Writes (IsTextOf (wanted_by words.now) (T.left script.old) (I.size image) (I.told image)) (I.told image)
+    ensures written { Writes (IsTextOf (wanted_by words.now) (T.left script.old) (I.size image) (I.told image) (I.told result.image)) (I.told image)
         (O.written out.old) (O.written out.new) (O.faults out.old) (O.faults out.new) result.status }
 
-    // Only a format changes the image's blocks: to a new volume. After a fault or want of memory there are the old blocks, or no
-    // home block that is read, or the new volume.
-    ensures after { IsImageAfter (wanted_by words.now) (I.told image) (I.told result.image) result.status }
+    // A run that has come to its end leaves the drive of its nodes, which spells the catalogue of the report. One that has not
+    // leaves the drive as far as it came; where a write failed nothing is said of the blocks. A format leaves a new volume; after
+    // a fault or want of memory there are the old blocks, or no home block that is read, or the new volume. Nothing else changes
+    // the image's blocks.
+    ensures after { IsImageAfter (wanted_by words.now) (T.left script.old) (I.told image) (I.told result.image) result.status }
 {
     match job_of(words) {
         Some(Job::Run) => run(alloc, image, script, out),

@@ -1,5 +1,5 @@
 -- What the image tells over turns.
-use Rattle.std.proofs.Common.{◌≡◌, ◌⊎◌, List, Option, Some, None, Result, Ok, Err, refl, sym, ap, subst, ◌∙◌, inl, inr}
+use Rattle.std.proofs.Common.{◌≡◌, ◌⊎◌, List, Option, Some, None, refl, sym, ap, subst, ◌∙◌, inl, inr}
 use Rattle.vol_words.specs.Fields.{Block}
 use Rattle.core_state.specs.Images.{IsTold, told_as}
 

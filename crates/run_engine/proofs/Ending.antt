@@ -1,27 +1,93 @@
--- Once every node is over, the history is whole.
-use Rattle.std.proofs.Common.{◌≡◌, ◌||◌, ℕ, Bool, true, false, Option, Some, None, refl, sym, ap, ◌∙◌}
+-- Once every node is over, the history is whole, and the drive spells the catalogue to which it leads.
+use Rattle.std.proofs.Common.{◌≡◌, ◌||◌, ◌<◌, ◌+◌, ◌/◌, ℕ, Bool, true, false, List, [], ◌∷◌, Option, Some, None, length, refl, sym, ap, subst, ◌∙◌, inl, inr, arith}
+use Rattle.vol_words.specs.Fields.{Block}
+use Rattle.lock_db.specs.declared.name.LockName.{LockName}
+use Rattle.plain_cat.specs.declared.cat.Cat.{Cat}
+use Rattle.plain_cat.specs.declared.command.Cmd.{Cmd}
+use Rattle.plain_vol.specs.Lookups.{free_clusters}
 use Rattle.plain_vol.specs.Own.{next_command, Whole}
+use Rattle.vol_owners.specs.declared.owner.Owner.TheVariants.{InFile}
+use Rattle.vol_owners.specs.Lists.{Has}
+use Rattle.vol_owners.specs.Owners.{Owners, nothing}
+use Rattle.vol_parts.specs.declared.geometry.Geometry.{Geometry}
+use Rattle.vol_parts.specs.declared.geometry.Part.TheVariants.{Storage}
+use Rattle.vol_parts.specs.Parts.{storage_blocks}
+use Rattle.vol_spell.specs.Reading.{total_of}
+use Rattle.vol_spell.specs.Spelling.{Spells}
+use Rattle.vol_spell.proofs.Parts.{part_owned}
+use Rattle.vol_spell.proofs.Frames.{on_volume}
+use Rattle.vol_under.specs.UnderWay.{UnderWay, resting, AreSole}
+use Rattle.vol_under.specs.Stopping.{IsLeft}
+use Rattle.vol_under.proofs.Stops.{world_stops}
+use Rattle.vol_under.proofs.Short.{free_by_bits}
 use Rattle.core_state.specs.Worlds.{NodeState, Plain, node_at}
 use Rattle.core_state.specs.Events.{is_over_in}
-use Rattle.core_state.specs.Goods.{IsNode, Good}
+use Rattle.core_state.specs.Goods.{under_with, under_by, nodes_under, IsNode, Good}
 use Rattle.run_engine.specs.Walks.{AllOver}
+use Rattle.run_engine.specs.Ended.{free_bits, HasEnded}
 
 -- a node that has left and has not died is over
 left : (over dead : Bool) → over || dead ≡ true → dead ≡ false → over ≡ true
 left true dead is alive = refl
 left false dead is alive = sym alive ∙ is
 
-pub over_is_whole : (w : Plain) → Good w → AllOver w → Whole w.script w.history
-over_is_whole w good over = (good.own, λ n alive. none_left n) where
-  node_left : (n : ℕ) (s : NodeState) → node_at w.nodes n ≡ Some s → next_command w.script n w.history ≡ None
+module _ (w : Plain) (good : Good w) (over : AllOver w) where
+  node_left : (n : ℕ) (s : NodeState) → node_at w.nodes n ≡ Some s → (s.cmd ≡ None) × (next_command w.script n w.history ≡ None)
   node_left n s at =
       let mine : IsNode w n s = good.nodes n s at in
       let gone : is_over_in (Some s) ≡ true = ap is_over_in (sym at) ∙ over n in
-      (mine.over (left s.over s.past.dead gone mine.alive)).1
-
-  by : (n : ℕ) (o : Option NodeState) → node_at w.nodes n ≡ o → next_command w.script n w.history ≡ None
-  by n None at = good.strangers n at
-  by n (Some s) at = node_left n s at
+      mine.over (left s.over s.past.dead gone mine.alive)
 
   none_left : (n : ℕ) → next_command w.script n w.history ≡ None
-  none_left n = by n (node_at w.nodes n) refl
+  none_left n = by (node_at w.nodes n) refl where
+    by : (o : Option NodeState) → node_at w.nodes n ≡ o → next_command w.script n w.history ≡ None
+    by None at = good.strangers n at
+    by (Some s) at = (node_left n s at).1
+
+  pub over_is_whole : Whole w.script w.history
+  over_is_whole = (good.own, λ n alive. none_left n)
+
+  -- ---- nothing is under way
+
+  all_rest : (n : ℕ) → nodes_under w.locks w.nodes n ≡ resting nothing
+  all_rest n = by (node_at w.nodes n) refl where
+    by : (o : Option NodeState) → node_at w.nodes n ≡ o → under_by w.locks n o ≡ resting nothing
+    by None at = refl
+    by (Some s) at = ap (λ (x : Option Cmd). under_with w.locks n s x) (node_left n s at).0
+
+-- where no node has anything under way, the drive spells the catalogue to which the history leads
+module _ (w : Plain) (good : Good w) (rests : (n : ℕ) → nodes_under w.locks w.nodes n ≡ resting nothing) where
+  none_writes : (n : ℕ) (name : LockName) → Has (nodes_under w.locks w.nodes n).write name → ⊥
+  none_writes n name h = subst (λ (u : UnderWay). Has u.write name) (rests n) h
+
+  sole : AreSole (nodes_under w.locks w.nodes)
+  sole = record { writers = λ n m name h k. absurd (none_writes n name h); readers = λ n m name h k. absurd (none_writes n name h) }
+
+  drive_left : IsLeft w.geometry good.running.cat (nodes_under w.locks w.nodes) [] w.blocks
+  drive_left = world_stops w.geometry good.running.cat (nodes_under w.locks w.nodes) w.blocks [] sole good.running.drive tt (λ n. inr (rests n))
+      (λ n ms d once among goes. absurd (among n (first n ms)))
+    where
+      first : (n : ℕ) (ms : List ℕ) → Has (n ∷ ms) n
+      first n ms = inl refl
+
+  pub rest_is_spelt : (c : Cat) × HasEnded w c
+  rest_is_spelt = (
+    good.running.cat,
+    record {
+      replayed = good.running.replayed;
+      drive = record { own = drive_left.own; spelt = subst (λ (c : Cat). Spells w.geometry w.blocks drive_left.own c) drive_left.dies drive_left.spelt; outs = drive_left.outs };
+    },
+  )
+
+pub over_is_spelt : (w : Plain) → Good w → AllOver w → (c : Cat) × HasEnded w c
+over_is_spelt w good over = rest_is_spelt w good (all_rest w good over)
+
+-- as many clusters are free as bits are set
+pub free_is_bits : (w : Plain) (c : Cat) → HasEnded w c → free_clusters c ≡ free_bits w.geometry w.blocks
+free_is_bits w c h = (free_by_bits w.geometry w.blocks h.drive.own c h.drive.spelt h.drive.outs).clusters
+
+-- the bit of each cluster is on the volume
+pub bit_there : (g : Geometry) (bs : List Block) (own : Owners) (c : Cat) → Spells g bs own c → (q : ℕ) → q < total_of g → g.bitmap_lbn + 1 + q / 4096 < length bs
+bit_there g bs own c s q lt =
+    let k : q / 4096 < storage_blocks (total_of g) = omega arith in
+    on_volume g bs own c s (g.bitmap_lbn + 1 + q / 4096) (InFile 2) (part_owned g bs own c s (Storage (q / 4096)) k)

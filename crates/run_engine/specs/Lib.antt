@@ -1,4 +1,5 @@
 pub mod Walks
 pub mod Reports
+pub mod Ended
 pub mod Laws
 pub mod Faults

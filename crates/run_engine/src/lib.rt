@@ -1,14 +1,16 @@
-//! A run of a script: the turns of its nodes on a world, and the report of what they answered.
+//! A run of a script: the turns of its nodes on a world, the clusters that are free at its end, and the report of what was answered.
 #![tactic(auto)]
 
 mod fault;
+mod free;
 mod laws;
 mod reports;
 mod rotation;
 mod running;
 
 pub use fault::RunFault;
-pub use laws::{over_is_whole, turns_leave_the_rest};
+pub use free::free_at_end;
+pub use laws::{over_is_spelt, over_is_whole, turns_leave_the_rest};
 pub use reports::{report, report_lines};
 pub use running::run;
 

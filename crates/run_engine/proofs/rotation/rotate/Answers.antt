@@ -1,6 +1,5 @@
-use Rattle.std.proofs.Common.{◌≡◌, ◌∙◌, Err, ap, ◌≤◌, ◌+◌, length, sym, subst, arith, inl, inr}
+use Rattle.std.proofs.Common.{◌≡◌, ◌∙◌, Err, ap, sym, subst, arith, inl, inr}
 use Rattle.std.proofs.lemmas.Result.{err_from_is_err_and}
-use Rattle.core_state.specs.Events.{after_turn}
 use Rattle.core_step.specs.declared.turns.TurnFault.TheVariants as turn
 use Rattle.run_engine.specs.Faults.{run_fault}
 use Rattle.run_engine.specs.Walks.{Stays}

@@ -1,6 +1,6 @@
 use Rattle.std.proofs.Common.{◌≡◌, ◌≤◌, ◌+◌, length}
 use Rattle.core_state.specs.Images.{IsTold, told_as}
-use Rattle.run_engine.specs.Walks.{Rotation, rotation}
+use Rattle.run_engine.specs.Walks.{rotation}
 use Rattle.run_engine.proofs.rotation.rotate.Given as goal
 
 abbrev pub invariant-loop-turns : goal.invariant-loop-turns

@@ -1,7 +1,6 @@
-use Rattle.std.proofs.Common.{◌≡◌, ◌∙◌, Err, ap, inr, ◌≤◌, ◌<◌, sym, subst, take, arith, inl}
+use Rattle.std.proofs.Common.{◌≡◌, ◌∙◌, Err, ap, inr, arith, inl}
 use Rattle.std.proofs.lemmas.Result.{err_from_is_err_and}
 use Rattle.core_step.specs.declared.turns.TurnFault.TheVariants as turn
-use Rattle.run_engine.specs.Walks.{Stays}
 use Rattle.run_engine.proofs.Staying.{played_stays, still_of_world}
 use Rattle.run_engine.proofs.Driving.{told_on, told_well}
 use Rattle.run_engine.proofs.Playing.{play_more}

@@ -1,5 +1,3 @@
-use Rattle.std.proofs.Common.{◌≡◌, ◌∙◌, ap}
-use Rattle.run_engine.specs.Walks.{played}
 use Rattle.run_engine.proofs.Staying.{played_stays, walk_stays}
 use Rattle.run_engine.proofs.Ending.{over_is_whole}
 use Rattle.run_engine.proofs.running.run.Goals as goal

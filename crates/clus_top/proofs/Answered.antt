@@ -1,0 +1,48 @@
+-- A run adds answers alone to its history: nobody dies, and nothing is mended.
+use Rattle.std.proofs.Common.{◌≡◌, ◌++◌, ℕ, true, false, List, [], ◌∷◌, Option, Some, None, refl}
+use Rattle.std.specs.List.{list_any}
+use Rattle.plain_cat.specs.declared.command.Cmd.{Cmd}
+use Rattle.plain_cat.specs.declared.reply.Reply.{Reply}
+use Rattle.plain_cat.specs.declared.script.Script.{Script}
+use Rattle.plain_cat.specs.declared.history.Entry.{Entry}
+use Rattle.plain_cat.specs.declared.history.Entry.TheVariants.{Done, Died, Mended}
+use Rattle.plain_vol.specs.Own.{Killed}
+use Rattle.core_state.specs.Worlds.{NodeState, Plain, node_at}
+use Rattle.core_state.specs.Events.{Event, Rest, Stand, Leave, Ask, See, Search, Decide, Put, Answer, next_event, happens, happen_at, after_turn}
+use Rattle.clus_top.specs.Runs.{is_mending}
+
+-- nodes die only where the script kills them, and nothing is mended
+abbrev IsOrderly : Script → List Entry → Type 0
+IsOrderly s h = Killed s h × (list_any is_mending h ≡ false)
+
+one_more : (s : Script) (h : List Entry) (n : ℕ) (x : Cmd) (r : Reply) → IsOrderly s h → IsOrderly s (h ++ Done n x r ∷ [])
+unfolding is_mending
+one_more s [] n x r orderly = ((tt, tt), refl)
+one_more s (Done m y q ∷ es) n x r orderly =
+    let more = one_more s es n x r (orderly.0.1, orderly.1) in
+    ((tt, more.0), more.1)
+one_more s (Died m st k ns ∷ es) n x r orderly =
+    let more = one_more s es n x r (orderly.0.1, orderly.1) in
+    ((orderly.0.0, more.0), more.1)
+one_more s (Mended m ∷ es) n x r orderly = absurd (let f : true ≡ false = orderly.1 in cc)
+
+pub record IsAnswered (w : Plain) : Type 0 where
+  pub orderly : IsOrderly w.script w.history
+
+event_keeps : (w : Plain) (n : ℕ) (s : NodeState) (e : Event) → IsAnswered w → IsAnswered (happens w n s e)
+event_keeps w n s Rest p = record { orderly = p.orderly }
+event_keeps w n s Stand p = record { orderly = p.orderly }
+event_keeps w n s Leave p = record { orderly = p.orderly }
+event_keeps w n s (Ask x name mode) p = record { orderly = p.orderly }
+event_keeps w n s (See x lbn) p = record { orderly = p.orderly }
+event_keeps w n s Search p = p
+event_keeps w n s (Decide x q) p = record { orderly = p.orderly }
+event_keeps w n s (Put v) p = record { orderly = p.orderly }
+event_keeps w n s (Answer x r) p = record { orderly = one_more w.script w.history n x r p.orderly }
+
+at_keeps : (w : Plain) (n : ℕ) (o : Option NodeState) (e : Event) → IsAnswered w → IsAnswered (happen_at w n o e)
+at_keeps w n None e p = p
+at_keeps w n (Some s) e p = event_keeps w n s e p
+
+pub turn_keeps : (w : Plain) (n : ℕ) → IsAnswered w → IsAnswered (after_turn w n)
+turn_keeps w n p = at_keeps w n (node_at w.nodes n) (next_event w n) p
