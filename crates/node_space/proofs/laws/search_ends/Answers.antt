@@ -1,0 +1,5 @@
+use Rattle.node_space.proofs.Tests.{search_ends}
+use Rattle.node_space.proofs.laws.search_ends.Goals as goal
+
+pub returns : goal.returns
+returns c = search_ends
