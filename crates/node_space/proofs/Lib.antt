@@ -1,7 +1,11 @@
 pub mod Tests
 pub mod Ending
+pub mod Ranges
 pub mod Bits
 pub mod Chosen
 pub mod Writes
 pub mod Taken
 pub mod Shortage
+pub mod Collecting
+pub mod Gathering
+pub mod Concluding

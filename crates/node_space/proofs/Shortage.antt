@@ -27,16 +27,11 @@ use Rattle.op_law.specs.Knows.{clusters_wanted, wants_number, has_free_number, i
 use Rattle.node_space.specs.Searching.{Found, More, Short, Enough, storage_places, cluster_places, free_number, clusters_in, free_in, free_from, number_write, found_clusters, found_number, found}
 use Rattle.node_space.specs.Taking.{looked, IsTooLittle, ShortageIsExact, CommandIsShort}
 use Rattle.node_space.proofs.Tests.{short_of}
+use Rattle.node_space.proofs.Ranges.{range_parts}
 use Rattle.node_space.proofs.Chosen.{lies_in, IsClearNumber, free_number_clear}
 use Rattle.node_space.proofs.Taken.{clear_is_free, number_bit_seen}
 
 -- ---- lists
-
-range_parts : (a m n : ℕ) → range_with_len a (m + n) ≡ range_with_len a m ++ range_with_len (a + m) n
-range_parts a zero n = ap (λ k. range_with_len a k) (let e : 0 + n ≡ n = omega arith in e) ∙ ap (λ k. range_with_len k n) (let e : a ≡ a + 0 = omega arith in e)
-range_parts a (suc m) n =
-    ap (λ k. range_with_len a k) (let e : suc m + n ≡ suc (m + n) = omega arith in e)
-    ∙ ap (λ xs. a ∷ xs) (range_parts (a + 1) m n ∙ ap (λ k. range_with_len (a + 1) m ++ range_with_len k n) (let e : a + 1 + m ≡ a + suc m = omega arith in e))
 
 filter_same : (p q : ℕ → Bool) (xs : List ℕ) → ((x : ℕ) → Has xs x → p x ≡ q x) → filter p xs ≡ filter q xs
 filter_same p q [] same = refl

@@ -26,7 +26,7 @@ use Rattle.node_space.proofs.Chosen.{has_free, once_free, once_taken, free_numbe
 
 -- ---- lists
 
-take_none : (n : ℕ) → let none : List ℕ = [] in take n none ≡ none
+pub take_none : (n : ℕ) → let none : List ℕ = [] in take n none ≡ none
 take_none zero = refl
 take_none (suc n) = refl
 
@@ -63,7 +63,7 @@ last_clusters g number before k b [] rest = ap (λ (xs : List ℕ). last_out (ho
 last_clusters g number before k b (q ∷ qs) rest = refl
 
 -- what is taken of free clusters in a row
-taken_parts : (wanted : ℕ) (before xs ys : List ℕ) → (before ++ take (wanted - length before) xs) ++ take (wanted - length (before ++ take (wanted - length before) xs)) ys ≡ before ++ take (wanted - length before) (xs ++ ys)
+pub taken_parts : (wanted : ℕ) (before xs ys : List ℕ) → (before ++ take (wanted - length before) xs) ++ take (wanted - length (before ++ take (wanted - length before) xs)) ys ≡ before ++ take (wanted - length before) (xs ++ ys)
 taken_parts wanted before xs ys =
     let qs = take (wanted - length before) xs in
     let count = length-append before qs in

@@ -1,14 +1,8 @@
-use Rattle.std.proofs.Common.{◌≡◌, ◌<◌, ◌≤◌, ◌+◌, ◌-◌, ◌*◌, ◌++◌, IfOk, OnOk, [], take, length, ℕ}
-use Rattle.std.specs.List.{All}
-use Rattle.lock_db.specs.declared.name.LockName.TheVariants.{V}
-use Rattle.plain_cat.specs.declared.history.Stage.TheVariants as stage
-use Rattle.vol_parts.specs.declared.geometry.Part.TheVariants.{Storage}
-use Rattle.vol_parts.specs.Parts.{IsGeometry}
-use Rattle.vol_spell.specs.Places.{place_of}
-use Rattle.op_law.specs.Writing.{holding, write_at}
-use Rattle.node_space.specs.Searching.{free_number, free_from, number_write, with_taken, taken_in, cluster_write, cluster_writes}
-use Rattle.node_space.specs.Answering.{blocks_of}
+use Rattle.std.proofs.Common.{◌≡◌, ◌-◌, None}
+use Rattle.std.specs.Prelude.{not, find}
+use Rattle.std.specs.List.{range_with_len}
+use Rattle.fx_bitmap.specs.Bits.{bit_at}
 use Rattle.node_space.proofs.taking.free_number.Given as goal
 
 abbrev pub invariant-loop-n : goal.invariant-loop-n
-invariant-loop-n l = ?
+invariant-loop-n l = find (λ m. not (bit_at l.index (m - 1))) (range_with_len 1 (l.n - 1)) ≡ None

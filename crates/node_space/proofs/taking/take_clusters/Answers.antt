@@ -1,31 +1,61 @@
-use Rattle.std.proofs.Common.{rules, ◌≡◌, ◌<◌, ◌≤◌, ◌+◌, ◌-◌, ◌*◌, ◌++◌, IfOk, OnOk, [], take, length, ℕ, ◌/◌, ◌%◌, Bool, true, false, nat_eq, nat_lt, List, ◌∷◌, slice_index_or, slice_set, bit_and, bit_or, Fits, w8, w32, w64, Bor, MutBor}
-use Rattle.std.specs.List.{All}
-use Rattle.lock_db.specs.declared.name.LockName.TheVariants.{V}
-use Rattle.plain_cat.specs.declared.history.Stage.TheVariants as stage
-use Rattle.vol_parts.specs.declared.geometry.Part.TheVariants.{Storage}
-use Rattle.vol_parts.specs.Parts.{IsGeometry}
-use Rattle.vol_spell.specs.Places.{place_of}
-use Rattle.op_law.specs.Writing.{holding, write_at}
-use Rattle.node_space.specs.Searching.{free_number, free_from, number_write, with_taken, taken_in, cluster_write, cluster_writes}
+use Rattle.std.proofs.Common.{◌≡◌, ◌≤◌, ◌<◌, ◌+◌, ◌-◌, ◌*◌, ◌++◌, ℕ, List, ◌∷◌, [], length, get_or, take, sym, ap, subst, ◌∙◌, arith, append-nil}
+use Rattle.std.proofs.Math.Seq.{take-length}
+use Rattle.std.proofs.lemmas.List.{get_or-map, length-map}
+use Rattle.vol_words.specs.Fields.{Block}
+use Rattle.op_law.specs.declared.need.PlanWrite.{PlanWrite}
+use Rattle.node_space.specs.Searching.{free_from, with_taken, taken_in, cluster_write, cluster_writes}
 use Rattle.node_space.specs.Answering.{blocks_of}
+use Rattle.node_space.proofs.Gathering.{Gathered, gathering_begins, gather, wrote, wrote_none}
 use Rattle.node_space.proofs.taking.take_clusters.Goals as goal
+use Rattle.node_space.proofs.taking.take_clusters.Goals.{After-loop-k, then-before-items+in_ok-cluster_write+in_ok-push, else-before-items}
 
--- src/taking.rt:69:5
 pub loop-k-init : goal.loop-k-init
-loop-k-init c = ?
+loop-k-init c = gathering_begins c.args.geometry.now c.args.wanted c.args.number (blocks_of c.args.storage.now) c.args.writes.now c.new-taken.result c.new-taken.ensures
 
--- src/taking.rt:71:21
 pub take_from-requires-clause-rising : goal.take_from-requires-clause-rising
-take_from-requires-clause-rising c = ?
+take_from-requires-clause-rising c = c.loop-k.invariant.below
 
--- src/taking.rt:69:5
+-- the block that is looked at
+block_here : (xs : List (ℕ × Block)) (k : ℕ) (d : ℕ × Block) → k < length xs → get_or (blocks_of xs) k [] ≡ (get_or xs k d).1
+block_here xs k d lt = get_or-map (λ (x : ℕ × Block). x.1) xs k d [] lt
+
 pub loop-k-preserved : goal.loop-k-preserved
-loop-k-preserved c = ?
+loop-k-preserved c =
+    let g = c.args.geometry.now in
+    let bs = blocks_of c.args.storage.now in
+    let b : Block = (get_or c.args.storage.now c.loop-k.k (0, [])).1 in
+    let qs = taken_in g c.args.wanted c.loop-k.taken c.loop-k.k b in
+    let lt : c.loop-k.k < length bs = (let inside = c.loop-k-test.true in let count = length-map c.args.storage.now (λ (x : ℕ × Block). x.1) in omega (arith, count)) in
+    let at = block_here c.args.storage.now c.loop-k.k (0, []) c.loop-k-test.true in
+    let left : c.in_ok-block.block ≡ with_taken b qs = c.in_ok-block.ensures.block in
+    let after : c.take_from.new.taken ≡ c.loop-k.taken ++ qs = c.in_ok-block.ensures.taken in
+    let below = c.in_ok-block.ensures.rising in
+    let was = ap (λ (xs : List ℕ). length xs) c.items-before.ensures.items in
+    let is = ap (λ (xs : List ℕ). length xs) c.items.ensures.items in
+    let writes : c.if-before-items.writes ≡ c.loop-k.writes ++ cluster_write g c.args.number c.loop-k.taken c.loop-k.k b qs = (
+      elim c.if-before-items.branch [
+        | then-before-items+in_ok-cluster_write+in_ok-push w ↦
+            let grew = w.if-before-items.true in
+            w.writes-is ∙ w.in_ok-push.ensures.ok
+            ∙ ap (λ (ws : List PlanWrite). c.loop-k.writes ++ ws)
+            (wrote g c.args.number c.loop-k.taken c.loop-k.k b qs c.take_from.new.taken c.in_ok-block.block w.in_ok-cluster_write.field-0 left after (omega (arith, was, is)) w.in_ok-cluster_write.ensures)
+        | else-before-items w ↦
+            let same = w.if-before-items.false in
+            w.writes-is ∙ wrote_none g c.args.number c.loop-k.taken c.loop-k.k b qs c.take_from.new.taken c.loop-k.writes after (omega (arith, was, is))
+      ]
+    ) in
+    gather g c.args.wanted c.args.number bs c.args.writes.now c.loop-k.taken c.loop-k.writes c.loop-k.k b c.take_from.new.taken c.if-before-items.writes lt at c.loop-k.invariant after writes below
 
--- src/taking.rt:55:1
+whole_list : (c : After-loop-k) → take c.loop-k.k (blocks_of c.args.storage.now) ≡ blocks_of c.args.storage.now
+whole_list c =
+    let stop = c.loop-k-test.false in
+    let le = c.loop-k.auto.k-end in
+    let count = length-map c.args.storage.now (λ (x : ℕ × Block). x.1) in
+    let all : c.loop-k.k ≡ length (blocks_of c.args.storage.now) = omega (arith, count) in
+    ap (λ n. take n (blocks_of c.args.storage.now)) all ∙ take-length (blocks_of c.args.storage.now)
+
 pub returns-clause-taken : goal.returns-clause-taken
-returns-clause-taken c = ?
+returns-clause-taken c = c.loop-k.invariant.taken_is ∙ ap (λ (bs : List Block). take c.args.wanted (free_from c.args.geometry.now 0 bs)) (whole_list c)
 
--- src/taking.rt:55:1
 pub returns-clause-writes : goal.returns-clause-writes
-returns-clause-writes c = ?
+returns-clause-writes c = c.loop-k.invariant.writes_is ∙ ap (λ (bs : List Block). c.args.writes.now ++ cluster_writes c.args.geometry.now c.args.wanted c.args.number [] 0 bs) (whole_list c)
