@@ -3,8 +3,10 @@ pub mod Driving
 pub mod Holding
 pub mod Running
 pub mod Taking
+pub mod Seeking
 pub mod Keeping
 pub mod RunKinds
+pub mod Numbers
 pub mod Beginning
 pub mod Turning
 pub mod Answering

@@ -1,5 +1,6 @@
 -- The invariant of a world, in parts.
 use Rattle.std.specs.Prelude.{◌≡◌, ◌≤◌, ◌+◌, ◌++◌, ◌||◌, not, take, ℕ, Bool, true, false, List, [], ◌∷◌, Option, Some, None, is_some, length, replicate, if◌then◌else◌}
+use Rattle.lock_db.specs.declared.name.LockName.{LockName}
 use Rattle.lock_db.specs.declared.resource.Resource.{Resource}
 use Rattle.plain_cat.specs.declared.mode.Mode.TheVariants.{PR, PW}
 use Rattle.plain_cat.specs.declared.command.Cmd.{Cmd}
@@ -11,7 +12,8 @@ use Rattle.plain_vol.specs.Accounts.{Accounted}
 use Rattle.plain_vol.specs.Own.{past, next_command, Own}
 use Rattle.plain_vol.specs.Replaying.{Replays}
 use Rattle.lock_db.specs.Tables.{IsTable}
-use Rattle.node_locks.specs.Held.{AreHeld, waits_at, held_locks}
+use Rattle.node_locks.specs.Held.{names_of, AreHeld, waits_at, held_locks}
+use Rattle.vol_owners.specs.Lists.{Has}
 use Rattle.vol_owners.specs.Owners.{nothing}
 use Rattle.vol_under.specs.UnderWay.{UnderWay, resting}
 use Rattle.vol_under.specs.Under.{IsUnder}
@@ -23,7 +25,7 @@ use Rattle.op_law.specs.Events.{space_of, HasNoSpace}
 use Rattle.op_law.specs.Needs.{IsNext}
 use Rattle.op_law.specs.Fits.{HasSeen}
 use Rattle.op_law.specs.Knows.{channel_of, may_ask, knows}
-use Rattle.op_law.specs.Laws.{held_in, under_way, Lawful}
+use Rattle.op_law.specs.Laws.{held_in, under_way, takes_lock, Lawful}
 use Rattle.core_state.specs.Worlds.{NodeState, no_search, Plain, node_at, locks_of}
 use Rattle.core_state.specs.Searches.{unwritten, stock_after, Searches}
 
@@ -80,12 +82,14 @@ abbrev pub IsAtPlan : Cmd → Bool → Seen → ℕ → Option Plan → Type 0
 IsAtPlan x waits seen done None = done ≡ 0
 IsAtPlan x waits seen done (Some p) = IsNext x seen (need.Ready p) × (waits ≡ false) × (done ≤ length p.writes)
 
--- a command under way is its node's next one, it obeys the law, and what it has seen fits it
+-- A command under way is its node's next one, it obeys the law, what it has seen fits it, and its locks are such as it takes
+-- itself, besides that of its search for space.
 pub record IsAt (w : Plain) (n : ℕ) (s : NodeState) (x : Cmd) : Type 0 where
   pub next : next_command w.script n w.history ≡ Some x
   pub runs : is_run x ≡ true
   pub lawful : Lawful x
   pub seen : HasSeen x s.seen
+  pub own : (name : LockName) → Has (names_of s.seen.locks) name → takes_lock x name ≡ true
   pub plan : IsAtPlan x (waits_at w.locks n s.asked) s.seen s.done s.plan
   pub search : Searches w.locks n x s.asked s.search s.seen
 

@@ -58,7 +58,7 @@ found_by x seen s = found seen.geometry (wanted_by x seen) (wants_number x) (blo
 
 -- no search is begun, and the locks asked for are those of the command
 pub record HasNotSearched (asked : List (LockName × Mode)) (s : Search) (seen : Seen) : Type 0 where
-  pub asked : asked ≡ seen.locks
+  pub same : asked ≡ seen.locks
   pub looked : s.looked ≡ []
   pub takes : s.takes ≡ []
   pub taken : s.taken ≡ 0
@@ -70,7 +70,7 @@ pub record HasClaimed (x : Cmd) (asked : List (LockName × Mode)) (s : Search) (
   pub takes : takes_space x ≡ true
   pub before : List (LockName × Mode)
   pub after : List (LockName × Mode)
-  pub asked : asked ≡ before ++ (V, PW) ∷ after
+  pub claims : asked ≡ before ++ (V, PW) ∷ after
   pub locks : seen.locks ≡ before ++ after
   pub in_order : s.looked ≡ looked seen.geometry (wanted_by x seen) (wants_number x) (blocks_of s.looked)
 
