@@ -1,12 +1,12 @@
 -- What is free in a block, and what is taken of it.
-use Rattle.std.proofs.Common.{◌≡◌, ◌≢◌, ◌<◌, ◌≤◌, ◌+◌, ◌-◌, ◌*◌, ◌/◌, ◌%◌, ◌==◌, ◌⊎◌, ◌++◌, ℕ, zero, suc, Bool, true, false, List, [], ◌∷◌, Option, Some, None, length, refl, sym, ap, subst, ◌∙◌, inl, inr, arith, cond}
-use Rattle.std.specs.Prelude.{min, not, take, find, filter}
+use Rattle.std.proofs.Common.{◌≡◌, ◌<◌, ◌≤◌, ◌+◌, ◌-◌, ◌*◌, ◌/◌, ◌%◌, ℕ, zero, suc, Bool, true, false, List, [], ◌∷◌, Some, None, length, refl, sym, ap, ◌∙◌, inl, inr, arith, cond}
+use Rattle.std.specs.Prelude.{min, not, take, find}
 use Rattle.std.specs.List.{range_with_len}
 use Rattle.vol_words.specs.Fields.{Block}
 use Rattle.fx_bitmap.specs.Bits.{bit_at}
 use Rattle.plain_laws.proofs.Members.{has_filter}
 use Rattle.vol_owners.specs.Lists.{Has, Once}
-use Rattle.vol_owners.proofs.Listing.{filtered, once_first}
+use Rattle.vol_owners.proofs.Listing.{filtered}
 use Rattle.vol_owners.proofs.Placing.{has_ranged}
 use Rattle.vol_spell.proofs.Clusters.{once_range}
 use Rattle.vol_parts.specs.declared.geometry.Geometry.{Geometry}

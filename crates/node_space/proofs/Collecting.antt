@@ -1,7 +1,7 @@
 -- The clusters of one block that are taken, one after another.
-use Rattle.std.proofs.Common.{◌≡◌, ◌≤◌, ◌<◌, ◌+◌, ◌-◌, ◌*◌, ◌/◌, ◌%◌, ◌++◌, ℕ, zero, suc, Bool, true, false, List, [], ◌∷◌, length, get_or, refl, sym, ap, subst, ◌∙◌, arith, append-nil, append_assoc, length-append}
-use Rattle.std.specs.Prelude.{min, filter, take, slice_index_or}
-use Rattle.std.specs.List.{range_with_len, fold, All}
+use Rattle.std.proofs.Common.{◌≡◌, ◌≤◌, ◌<◌, ◌+◌, ◌-◌, ◌*◌, ◌%◌, ◌++◌, ℕ, zero, suc, Bool, true, false, List, [], ◌∷◌, length, refl, sym, ap, ◌∙◌, arith, append-nil, append_assoc, length-append}
+use Rattle.std.specs.Prelude.{min, filter, take}
+use Rattle.std.specs.List.{range_with_len, All}
 use Rattle.std.proofs.lemmas.List.{take-append-le, length-take}
 use Rattle.std.proofs.lemmas.List.Elements.{All-append}
 use Rattle.std.proofs.lemmas.List.Sums.{fold-append}
@@ -99,7 +99,7 @@ taking_goes_on wanted before first b taken left q le t lt set =
     let qs = taken_to wanted before first b q in
     let count = ap (λ (xs : List ℕ). length xs) t.taken_is ∙ length-append before qs in
     let more = ap (take (wanted - length before)) (filter_passed (is_set b) first (q - first) (q + 1 - first) q (omega arith) (omega arith) set)
-        ∙ one_more (wanted - length before) (filter (is_set b) (range_with_len first (q - first))) q (omega (arith, count)) in
+    ∙ one_more (wanted - length before) (filter (is_set b) (range_with_len first (q - first))) q (omega (arith, count)) in
     record {
       taken_is = ap (λ (xs : List ℕ). xs ++ q ∷ []) t.taken_is ∙ append_assoc before qs (q ∷ []) ∙ ap (λ (xs : List ℕ). before ++ xs) (sym more);
       left_is = ap (λ (c : Block). bits_put c (q % 4096) 1 false) t.left_is ∙ sym (with_one_more b qs q) ∙ ap (λ (xs : List ℕ). with_taken b xs) (sym more);

@@ -1,19 +1,25 @@
 -- What a search comes to by its tests.
-use Rattle.std.proofs.Common.{◌≡◌, ◌≤◌, ◌<◌, ◌+◌, ◌-◌, ◌*◌, ◌/◌, ◌%◌, ◌++◌, ℕ, zero, suc, Bool, true, false, List, [], ◌∷◌, Option, length, refl, sym, ap, subst, ◌∙◌, inl, inr, arith, cond, nat_le, nat_lt, map, append-nil}
-use Rattle.std.specs.Prelude.{min, take}
+use Rattle.std.proofs.Common.{◌≡◌, ◌≤◌, ◌<◌, ◌+◌, ◌-◌, ◌/◌, ◌++◌, ℕ, zero, suc, Bool, true, false, List, [], ◌∷◌, Option, Some, None, length, get_or, refl, sym, ap, ◌∙◌, inl, arith, cond, nat_le, nat_lt}
+use Rattle.std.specs.Prelude.{min, take, drop}
 use Rattle.std.proofs.Math.Nat.{div-le_self}
+use Rattle.std.proofs.Math.Seq.{take-length}
 use Rattle.std.proofs.lemmas.Bool.Decides.{nat_tests}
+use Rattle.std.proofs.lemmas.List.FromFn.{get_or-map-range_with_len}
 use Rattle.std.proofs.lemmas.List.{length-map, length-take, take-map}
 use Rattle.vol_words.specs.Fields.{Block}
 use Rattle.plain_cat.specs.declared.reply.Refusal.TheVariants.{DeviceFull}
 use Rattle.vol_owners.specs.Lists.{Has}
 use Rattle.vol_parts.specs.declared.geometry.Geometry.{Geometry}
+use Rattle.vol_parts.specs.declared.geometry.Part.TheVariants.{Storage}
 use Rattle.vol_parts.specs.Parts.{IsGeometry, storage_blocks}
 use Rattle.vol_spell.specs.Reading.{total_of}
+use Rattle.vol_spell.specs.Places.{place_of}
 use Rattle.op_law.specs.declared.need.PlanWrite.{PlanWrite}
-use Rattle.node_space.specs.Searching.{Found, More, Short, Enough, free_in, free_from, taken_in, cluster_write, cluster_writes, found_clusters}
-use Rattle.node_space.specs.Answering.{blocks_of}
-use Rattle.node_space.proofs.Chosen.{LiesIn, has_free, has_taken_in}
+use Rattle.node_space.specs.Searching.{Found, More, Short, Enough, cluster_places, free_number, free_in, free_from, number_write, taken_in, cluster_write, cluster_writes, found_clusters, found_number}
+use Rattle.node_space.specs.declared.outcome.Search.{Search}
+use Rattle.node_space.specs.Answering.{answered, answer, blocks_of}
+use Rattle.node_space.proofs.Ways.{more_of}
+use Rattle.node_space.proofs.Chosen.{LiesIn, has_free, has_taken_in, free_number_clear}
 
 -- ---- blocks behind the bitmap
 
@@ -120,3 +126,53 @@ collected_of g clusters number first looked taken writes n is e t w =
     let same : blocks_of (take n looked) ≡ take n (blocks_of looked) = sym (take-map (λ (x : ℕ × Block). x.1) n looked) in
     collected g clusters number first (blocks_of looked) taken writes n is (e ∙ ap (λ k. min k 16) (sym count))
     (t ∙ ap (λ (bs : List Block). take clusters (free_from g 0 bs)) same) (w ∙ ap (λ (bs : List Block). first ++ cluster_writes g clusters number [] 0 bs) same)
+
+-- ---- the next block
+
+answers_alike : (a b : ℕ) (f : Found) → (f ≡ More → a ≡ b) → answered a f ≡ answered b f
+answers_alike a b More same = ap (λ l. answered l More) (same refl)
+answers_alike a b (Short r) same = refl
+answers_alike a b (Enough ws) same = refl
+
+next_place : (g : Geometry) (clusters : ℕ) (number : Option ℕ) (first : List PlanWrite) (bs : List Block) → found_clusters g clusters number first bs ≡ More → get_or (cluster_places g clusters) (length bs) 0 ≡ g.bitmap_lbn + 1 + length bs
+next_place g zero number first bs e = let t = more_of g zero number first bs e in absurd (let none : length (free_from g 0 bs) < 0 = t.0 in omega arith)
+next_place g (suc more) number first bs e =
+    let t = more_of g (suc more) number first bs e in
+    get_or-map-range_with_len (λ j. place_of g (Storage j)) 0 (storage_blocks (total_of g)) (length bs) (length bs) 0 t.1 (omega arith)
+
+next_answer : (g : Geometry) (clusters : ℕ) (number : Option ℕ) (first : List PlanWrite) (bs : List Block) (n : ℕ) → n ≡ length bs
+    → answered (g.bitmap_lbn + 1 + n) (found_clusters g clusters number first bs) ≡ answered (get_or (cluster_places g clusters) (length bs) 0) (found_clusters g clusters number first bs)
+next_answer g clusters number first bs n e =
+    answers_alike (g.bitmap_lbn + 1 + n) (get_or (cluster_places g clusters) (length bs) 0) (found_clusters g clusters number first bs)
+    (λ more. ap (λ k. g.bitmap_lbn + 1 + k) e ∙ sym (next_place g clusters number first bs more))
+
+-- the answer without a number
+pub answer_without : (g : Geometry) (clusters : ℕ) (looked : List (ℕ × Block)) (ws : List PlanWrite) (s : Search) → ws ≡ [] → s ≡ answered (g.bitmap_lbn + 1 + length looked) (found_clusters g clusters None ws (blocks_of looked))
+    → s ≡ answer g clusters false (blocks_of looked)
+answer_without g clusters looked ws s e h =
+    let count = length-map looked (λ (x : ℕ × Block). x.1) in
+    h ∙ ap (λ (vs : List PlanWrite). answered (g.bitmap_lbn + 1 + length looked) (found_clusters g clusters None vs (blocks_of looked))) e
+    ∙ next_answer g clusters None [] (blocks_of looked) (length looked) (sym count)
+
+answer_behind : (g : Geometry) (clusters n : ℕ) (x : ℕ × Block) (looked : List (ℕ × Block)) (ws : List PlanWrite) (s : Search) → Some n ≡ free_number g x.1 → ws ≡ number_write g n x.1 ∷ []
+    → s ≡ answered (g.bitmap_lbn + 1 + length looked) (found_clusters g clusters (Some n) ws (blocks_of looked)) → s ≡ answer g clusters true (blocks_of (x ∷ looked))
+answer_behind g clusters n x looked ws s is e h =
+    let bs = blocks_of looked in
+    let count = length-map looked (λ (y : ℕ × Block). y.1) in
+    h ∙ ap (λ (vs : List PlanWrite). answered (g.bitmap_lbn + 1 + length looked) (found_clusters g clusters (Some n) vs bs)) e
+    ∙ next_answer g clusters (Some n) (number_write g n x.1 ∷ []) bs (length looked) (sym count)
+    ∙ ap (λ (o : Option ℕ). answered (get_or (cluster_places g clusters) (length bs) 0) (found_number g clusters x.1 o bs)) is
+
+-- the answer with a number
+pub answer_with : (g : Geometry) (clusters n : ℕ) (looked : List (ℕ × Block)) (ws : List PlanWrite) (s : Search) → 1 ≤ length looked → Some n ≡ free_number g (get_or looked 0 (0, [])).1 → ws ≡ number_write g n (get_or looked 0 (0, [])).1 ∷ []
+    → s ≡ answered (g.bitmap_lbn + 1 + length (take (length looked - 1) (drop 1 looked))) (found_clusters g clusters (Some n) ws (blocks_of (take (length looked - 1) (drop 1 looked)))) → s ≡ answer g clusters true (blocks_of looked)
+answer_with g clusters n [] ws s some is e h = absurd (omega arith)
+answer_with g clusters n (x ∷ looked) ws s some is e h =
+    let all : suc (length looked) - 1 ≡ length looked = omega arith in
+    let rest : take (suc (length looked) - 1) looked ≡ looked = ap (λ k. take k looked) all ∙ take-length looked in
+    answer_behind g clusters n x looked ws s is e
+    (h ∙ ap (λ (xs : List (ℕ × Block)). answered (g.bitmap_lbn + 1 + length xs) (found_clusters g clusters (Some n) ws (blocks_of xs))) rest)
+
+-- a number that was found is one of the volume
+pub found_number_is : (g : Geometry) (b : Block) (n : ℕ) → Some n ≡ free_number g b → (1 ≤ n) × (n ≤ g.files)
+found_number_is g b n e = let h = free_number_clear g b n (sym e) in (h.from, h.to)

@@ -1,14 +1,12 @@
 -- Which block a search looks at next.
-use Rattle.std.proofs.Common.{◌≡◌, ◌≤◌, ◌<◌, ◌⊎◌, ℕ, Bool, List, Some, length, slice_get, refl, sym, ap, subst, ◌∙◌, inl, inr, arith}
+use Rattle.std.proofs.Common.{◌≡◌, ℕ, Some, length, refl, ap, ◌∙◌, inl, inr}
 use Rattle.std.specs.Prelude.{slice_index_or}
 use Rattle.std.proofs.lemmas.Bool.{cases_lt}
 use Rattle.std.proofs.lemmas.Option.{slice_get-get_or}
-use Rattle.vol_words.specs.Fields.{Block}
-use Rattle.vol_parts.specs.declared.geometry.Geometry.{Geometry}
 use Rattle.node_space.specs.declared.outcome.Search.TheVariants as search
 use Rattle.node_space.specs.Searching.{Found, More, Short, Enough, places, found}
-use Rattle.node_space.specs.Answering.{answered, answer, LooksInOrder}
-use Rattle.node_space.proofs.Tests.{search_ends}
+use Rattle.node_space.specs.Answering.{answered, LooksInOrder}
+use Rattle.node_space.proofs.Ways.{search_ends}
 
 looks_on : (next lbn : ℕ) (f : Found) → answered next f ≡ search.Look lbn → (f ≡ More) × (next ≡ lbn)
 looks_on next lbn More e = (refl, let h : search.Look next ≡ search.Look lbn = e in cc)

@@ -1,19 +1,17 @@
 -- The writes of one more block of the storage bitmap.
-use Rattle.std.proofs.Common.{◌≡◌, ◌≤◌, ◌<◌, ◌+◌, ◌-◌, ◌*◌, ◌/◌, ◌++◌, ℕ, zero, suc, Bool, true, false, List, [], ◌∷◌, Option, length, get_or, refl, sym, ap, subst, ◌∙◌, inl, inr, arith, cond, nat_le, nat_lt, map, append-nil, append_assoc, length-append}
-use Rattle.std.specs.Prelude.{min, take}
+use Rattle.std.proofs.Common.{◌≡◌, ◌≤◌, ◌<◌, ◌+◌, ◌-◌, ◌*◌, ◌++◌, ℕ, suc, List, [], ◌∷◌, Option, length, get_or, refl, sym, ap, subst, ◌∙◌, arith, append-nil, append_assoc, length-append}
+use Rattle.std.specs.Prelude.{take}
 use Rattle.std.specs.List.{All}
 use Rattle.std.proofs.lemmas.List.{take_more, length-take}
 use Rattle.vol_words.specs.Fields.{Block}
 use Rattle.lock_db.specs.declared.name.LockName.TheVariants.{V}
 use Rattle.plain_cat.specs.declared.history.Stage.TheVariants as stage
-use Rattle.vol_owners.specs.Lists.{Has}
 use Rattle.vol_parts.specs.declared.geometry.Geometry.{Geometry}
 use Rattle.vol_parts.specs.declared.geometry.Part.TheVariants.{Storage}
 use Rattle.vol_spell.specs.Places.{place_of}
 use Rattle.op_law.specs.declared.need.PlanWrite.{PlanWrite}
 use Rattle.op_law.specs.Writing.{holding, write_at}
 use Rattle.node_space.specs.Searching.{free_in, free_from, with_taken, taken_in, cluster_write, cluster_writes}
-use Rattle.node_space.specs.Answering.{blocks_of}
 use Rattle.node_space.proofs.Taken.{take_none, take_parts, taken_parts}
 
 free_more : (g : Geometry) (k : ℕ) (bs : List Block) (b : Block) (i : ℕ) → i ≡ k + length bs → free_from g k (bs ++ b ∷ []) ≡ free_from g k bs ++ free_in g i b
@@ -78,10 +76,10 @@ gather g wanted number bs first taken writes k b after more lt at t e f below =
     record {
       taken_is = e ∙ gathered_taken g wanted (free_from g 0 (take k bs)) taken k b t.taken_is ∙ ap (take wanted) (sym (free_more g 0 (take k bs) b k place)) ∙ ap (λ (xs : List Block). take wanted (free_from g 0 xs)) (sym next);
       writes_is = f
-      ∙ ap (λ (ws : List PlanWrite). ws ++ cluster_write g number taken k b (taken_in g wanted taken k b)) t.writes_is
-      ∙ append_assoc first (cluster_writes g wanted number [] 0 (take k bs)) (cluster_write g number taken k b (taken_in g wanted taken k b))
-      ∙ ap (λ (ws : List PlanWrite). first ++ ws) (sym (writes_more g wanted number [] 0 (take k bs) b k taken place (t.taken_is ∙ whole_wanted g wanted (take k bs))))
-      ∙ ap (λ (xs : List Block). first ++ cluster_writes g wanted number [] 0 xs) (sym next);
+          ∙ ap (λ (ws : List PlanWrite). ws ++ cluster_write g number taken k b (taken_in g wanted taken k b)) t.writes_is
+          ∙ append_assoc first (cluster_writes g wanted number [] 0 (take k bs)) (cluster_write g number taken k b (taken_in g wanted taken k b))
+          ∙ ap (λ (ws : List PlanWrite). first ++ ws) (sym (writes_more g wanted number [] 0 (take k bs) b k taken place (t.taken_is ∙ whole_wanted g wanted (take k bs))))
+          ∙ ap (λ (xs : List Block). first ++ cluster_writes g wanted number [] 0 xs) (sym next);
       below = below;
     }
 
@@ -99,8 +97,8 @@ pub wrote : (g : Geometry) (number : Option ℕ) (before : List ℕ) (k : ℕ) (
 wrote g number before k b qs taken left w e f lt h =
     let more : length before < length (before ++ qs) = subst (λ (xs : List ℕ). length before < length xs) f lt in
     ap (λ (v : PlanWrite). v ∷ []) (h
-        ∙ ap (λ (x : Block). write_at V (place_of g (Storage k)) x stage.Nothing (holding taken number)) e
-        ∙ ap (λ (xs : List ℕ). write_at V (place_of g (Storage k)) (with_taken b qs) stage.Nothing (holding xs number)) f)
+    ∙ ap (λ (x : Block). write_at V (place_of g (Storage k)) x stage.Nothing (holding taken number)) e
+    ∙ ap (λ (xs : List ℕ). write_at V (place_of g (Storage k)) (with_taken b qs) stage.Nothing (holding xs number)) f)
     ∙ sym (some_taken g number before k b qs more)
 
 -- nothing is taken, and nothing is written

@@ -1,4 +1,4 @@
-pub mod Tests
+pub mod Ways
 pub mod Ending
 pub mod Ranges
 pub mod Bits
@@ -9,3 +9,5 @@ pub mod Shortage
 pub mod Collecting
 pub mod Gathering
 pub mod Concluding
+pub mod Apart
+pub mod Looked

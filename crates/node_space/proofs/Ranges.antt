@@ -1,9 +1,9 @@
 -- Numbers in a row, and what a test finds and keeps of them.
-use Rattle.std.proofs.Common.{◌≡◌, ◌≤◌, ◌<◌, ◌+◌, ◌-◌, ◌++◌, ℕ, zero, suc, Bool, true, false, List, [], ◌∷◌, Option, Some, None, length, get_or, refl, sym, ap, subst, ◌∙◌, arith, cond, append-nil, inl, inr}
+use Rattle.std.proofs.Common.{◌≡◌, ◌<◌, ◌+◌, ◌-◌, ◌++◌, ℕ, zero, suc, Bool, true, false, List, [], ◌∷◌, Option, Some, None, length, get_or, sym, ap, subst, ◌∙◌, arith, cond, append-nil, inl, inr}
 use Rattle.std.proofs.lemmas.List.{get_or-take, get_or_default, length-take}
-use Rattle.std.specs.Prelude.{find, filter, take, min, slice_index_or}
+use Rattle.std.specs.Prelude.{find, filter, take, slice_index_or}
 use Rattle.std.specs.Option.{option_or}
-use Rattle.std.specs.List.{range_with_len, All}
+use Rattle.std.specs.List.{range_with_len}
 use Rattle.std.specs.List.Sorted.{IsStrictlyIncreasing}
 use Rattle.std.proofs.lemmas.Bool.{cases_lt}
 use Rattle.std.proofs.lemmas.List.Elements.{filter-append}

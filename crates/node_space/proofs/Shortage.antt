@@ -1,6 +1,6 @@
 -- A search that was refused was refused for its reason.
 use Rattle.std.proofs.Common.{◌≡◌, ◌≤◌, ◌<◌, ◌+◌, ◌-◌, ◌*◌, ◌/◌, ◌%◌, ◌++◌, ◌&&◌, ◌||◌, ℕ, zero, suc, Bool, true, false, List, [], ◌∷◌, Option, Some, None, length, slice_get, refl, sym, ap, subst, ◌∙◌, inl, inr, arith, cond, nat_lt, length-append}
-use Rattle.std.specs.Prelude.{min, not, find, filter, count_by}
+use Rattle.std.specs.Prelude.{min, not, find, filter}
 use Rattle.std.specs.List.{range_with_len, list_any, zip}
 use Rattle.std.proofs.lemmas.Bool.Decides.{nat_tests}
 use Rattle.std.proofs.lemmas.List.Elements.{filter-append}
@@ -8,27 +8,26 @@ use Rattle.std.proofs.lemmas.List.Sums.{length-filter}
 use Rattle.std.proofs.lemmas.Option.{get_or_from_slice_get}
 use Rattle.vol_words.specs.Fields.{Block}
 use Rattle.fx_bitmap.specs.Bits.{bit_at}
-use Rattle.plain_cat.specs.declared.command.Cmd.{Cmd}
 use Rattle.plain_cat.specs.declared.reply.Refusal.{Refusal}
 use Rattle.plain_cat.specs.declared.reply.Refusal.TheVariants.{IndexFull, DeviceFull}
 use Rattle.plain_cat.specs.declared.cat.Cat.{Cat}
 use Rattle.plain_vol.specs.Lookups.{free_clusters, is_free_number}
 use Rattle.plain_laws.proofs.Members.{has_any}
 use Rattle.vol_owners.specs.Lists.{Has, StandsIn}
-use Rattle.vol_owners.specs.Owners.{Owners, nothing, Outs}
-use Rattle.vol_owners.proofs.Placing.{has_ranged, ranged_has}
+use Rattle.vol_owners.specs.Owners.{Owners}
+use Rattle.vol_owners.proofs.Placing.{ranged_has}
 use Rattle.vol_parts.specs.declared.geometry.Geometry.{Geometry}
 use Rattle.vol_parts.specs.Parts.{storage_blocks}
-use Rattle.vol_spell.specs.Reading.{IsFileNumber, total_of, cluster_bit, number_bit}
+use Rattle.vol_spell.specs.Reading.{total_of, cluster_bit}
 use Rattle.vol_spell.specs.Spelling.{Spells}
 use Rattle.vol_under.specs.Shortage.{IsFreeByBits}
 use Rattle.vol_under.proofs.Short.{free_by_bits}
-use Rattle.op_law.specs.Knows.{clusters_wanted, wants_number, has_free_number, is_short}
-use Rattle.node_space.specs.Searching.{Found, More, Short, Enough, storage_places, cluster_places, free_number, clusters_in, free_in, free_from, number_write, found_clusters, found_number, found}
+use Rattle.op_law.specs.Knows.{clusters_wanted, wants_number, has_free_number}
+use Rattle.node_space.specs.Searching.{More, Short, storage_places, cluster_places, free_number, clusters_in, free_in, free_from, number_write, found_number}
 use Rattle.node_space.specs.Taking.{looked, IsTooLittle, ShortageIsExact, CommandIsShort}
-use Rattle.node_space.proofs.Tests.{short_of}
+use Rattle.node_space.proofs.Ways.{short_of}
 use Rattle.node_space.proofs.Ranges.{range_parts}
-use Rattle.node_space.proofs.Chosen.{lies_in, IsClearNumber, free_number_clear}
+use Rattle.node_space.proofs.Chosen.{lies_in, free_number_clear}
 use Rattle.node_space.proofs.Taken.{clear_is_free, number_bit_seen}
 
 -- ---- lists
@@ -84,7 +83,7 @@ module _ (g : Geometry) (base : List Block) where
       let rest = free_behind (k + 1) count bs (omega arith) (omega arith) stood.1 in
       let here = in_block k b stood.0 in
       let split = ap (λ (xs : List ℕ). length (filter (cluster_bit g base) xs)) (from_block k) ∙ ap (λ (xs : List ℕ). length xs) (filter-append (cluster_bit g base) (clusters_in g k) (range_with_len (4096 * (k + 1)) (total_of g - 4096 * (k + 1))))
-          ∙ length-append (filter (cluster_bit g base) (clusters_in g k)) (filter (cluster_bit g base) (range_with_len (4096 * (k + 1)) (total_of g - 4096 * (k + 1)))) in
+      ∙ length-append (filter (cluster_bit g base) (clusters_in g k)) (filter (cluster_bit g base) (range_with_len (4096 * (k + 1)) (total_of g - 4096 * (k + 1)))) in
       let long = length-append (free_in g k b) (free_from g (k + 1) bs) in
       omega (arith, split, long, here, rest)
 

@@ -1,6 +1,8 @@
 -- What the writes of a search have taken in the end.
-use Rattle.std.proofs.Common.{◌≡◌, ◌≤◌, ◌<◌, ◌+◌, ◌-◌, ◌*◌, ◌/◌, ◌%◌, ◌++◌, ℕ, zero, suc, Bool, true, false, List, [], ◌∷◌, Option, Some, None, length, slice_get, refl, sym, ap, subst, ◌∙◌, inl, inr, arith, append-nil, append_assoc, length-append}
+use Rattle.std.proofs.Common.{◌≡◌, ◌≤◌, ◌+◌, ◌-◌, ◌*◌, ◌/◌, ◌++◌, ℕ, zero, suc, Bool, true, false, List, [], ◌∷◌, Option, Some, None, length, slice_get, refl, sym, ap, subst, ◌∙◌, inl, inr, arith, append-nil, append_assoc, length-append, nat_lt}
 use Rattle.std.specs.Prelude.{take, is_some, IfSome}
+use Rattle.std.proofs.lemmas.Bool.{cases_lt}
+use Rattle.std.proofs.lemmas.Bool.Decides.{nat_tests}
 use Rattle.std.proofs.lemmas.List.{length-take-le}
 use Rattle.std.proofs.lemmas.Option.{get_or_from_slice_get}
 use Rattle.vol_words.specs.Fields.{Block}
@@ -10,7 +12,7 @@ use Rattle.plain_cat.specs.declared.reply.Refusal.TheVariants.{IndexFull}
 use Rattle.plain_vol.specs.Lookups.{is_free_number}
 use Rattle.vol_owners.specs.declared.owner.Owner.TheVariants.{Free}
 use Rattle.vol_owners.specs.Counts.{is_same_owner}
-use Rattle.vol_owners.specs.Lists.{Has, Once, AreApart, StandsIn}
+use Rattle.vol_owners.specs.Lists.{Has, Once}
 use Rattle.vol_owners.specs.Owners.{Owners}
 use Rattle.vol_owners.proofs.Listing.{has_parted, once_in_a_row}
 use Rattle.vol_parts.specs.declared.geometry.Geometry.{Geometry}
@@ -18,10 +20,11 @@ use Rattle.vol_spell.specs.Reading.{IsFileNumber, number_bit}
 use Rattle.vol_spell.specs.Spelling.{Spells}
 use Rattle.vol_under.proofs.Leaking.{number_free_of}
 use Rattle.op_law.specs.declared.need.PlanWrite.{PlanWrite}
+use Rattle.op_law.specs.Knows.{is_new_number}
 use Rattle.op_law.specs.Writing.{Held, holding, empty_handed}
-use Rattle.node_space.specs.Searching.{Found, More, Short, Enough, places, free_number, free_in, free_from, number_write, taken_in, cluster_write, cluster_writes, found_number, found}
-use Rattle.node_space.specs.Taking.{looked, out_of, out_after, IsWanted, TakesAll, NumberIsFree}
-use Rattle.node_space.proofs.Tests.{enough_of}
+use Rattle.node_space.specs.Searching.{More, Short, Enough, free_number, free_in, free_from, number_write, taken_in, cluster_write, cluster_writes, found_number, found}
+use Rattle.node_space.specs.Taking.{out_of, out_after, IsWanted, TakesAll, NumberIsFree, NumberIsNew}
+use Rattle.node_space.proofs.Ways.{enough_of}
 use Rattle.node_space.proofs.Chosen.{has_free, once_free, once_taken, free_number_clear}
 
 -- ---- lists
@@ -165,3 +168,21 @@ number_is_free g clusters true [] ws base own c e s stood = absurd (let f : More
 number_is_free g clusters true (index ∷ bs) ws base own c e s stood =
     subst (λ (o : Option ℕ). IfSome o (λ m. is_free_number c m ≡ true)) (sym (with_number g clusters index bs (free_number g index) ws e).number)
     (number_taken g index (free_number g index) base own c refl s stood.0)
+
+-- a number above those of the system files
+is_above : (n : ℕ) → (n ≤ 11 → ⊥) → nat_lt 11 n ≡ true
+is_above n above = elim (cases_lt 11 n) [ inl lt ↦ grind (arith, nat_tests) | inr le ↦ absurd (above le) ]
+
+number_above : (g : Geometry) (index : Block) (n : Option ℕ) (base : List Block) (own : Owners) (c : Cat) → free_number g index ≡ n → Spells g base own c → slice_get base (4 * g.cluster) ≡ Some index
+    → ((m : ℕ) → 1 ≤ m → m ≤ 11 → is_free_number c m ≡ false) → is_new_number n ≡ true
+number_above g index None base own c e s at used = refl
+number_above g index (Some n) base own c e s at used =
+    let h = free_number_clear g index n e in
+    let free : is_free_number c n ≡ true = number_taken g index (Some n) base own c e s at in
+    is_above n (λ le. absurd (let f : true ≡ false = sym free ∙ used n h.from le in cc))
+
+pub number_is_new : NumberIsNew
+number_is_new g clusters false bs ws base own c e s stood used = ap is_new_number (without_number g clusters bs ws e).number
+number_is_new g clusters true [] ws base own c e s stood used = absurd (let f : More ≡ Enough ws = e in cc)
+number_is_new g clusters true (index ∷ bs) ws base own c e s stood used =
+    ap is_new_number (with_number g clusters index bs (free_number g index) ws e).number ∙ number_above g index (free_number g index) base own c refl s stood.0 used

@@ -1,7 +1,7 @@
 -- The writes of a search, one after another.
-use Rattle.std.proofs.Common.{◌≡◌, ◌≢◌, ◌<◌, ◌≤◌, ◌+◌, ◌-◌, ◌*◌, ◌/◌, ◌%◌, ◌⊎◌, ◌++◌, ℕ, zero, suc, Bool, true, false, List, [], ◌∷◌, Option, Some, None, length, slice_get, refl, sym, ap, subst, ◌∙◌, inl, inr, arith, append-nil}
+use Rattle.std.proofs.Common.{◌≡◌, ◌≢◌, ◌<◌, ◌≤◌, ◌+◌, ◌-◌, ◌/◌, ◌%◌, ◌⊎◌, ◌++◌, ℕ, zero, suc, Bool, true, false, List, [], ◌∷◌, Option, Some, None, length, slice_get, refl, sym, ap, subst, ◌∙◌, inl, inr, arith, append-nil}
 use Rattle.std.specs.Prelude.{◌↔◌, take}
-use Rattle.std.specs.List.{zip, range_with_len}
+use Rattle.std.specs.List.{zip}
 use Rattle.vol_words.specs.Fields.{Block}
 use Rattle.fx_bitmap.specs.Bits.{bit_at, bits_put}
 use Rattle.blk_whole.proofs.Tables.{whole_bits}
@@ -23,9 +23,9 @@ use Rattle.vol_under.proofs.Refills.{takes_clusters, takes_numbers}
 use Rattle.op_law.specs.declared.need.PlanWrite.{PlanWrite}
 use Rattle.op_law.specs.Fits.{things}
 use Rattle.op_law.specs.Writing.{Held, holding, empty_handed}
-use Rattle.node_space.specs.Searching.{Found, More, Short, Enough, storage_places, cluster_places, places, free_number, number_write, with_taken, free_in, taken_in, cluster_write, cluster_writes, found_number, found}
+use Rattle.node_space.specs.Searching.{More, Short, Enough, storage_places, cluster_places, free_number, number_write, with_taken, free_in, taken_in, cluster_write, cluster_writes, found_number, found}
 use Rattle.node_space.specs.Taking.{looked, out_of, out_after, TakesNumber, TakesClustersOf, IsTaking, WritesTake, TakingsRefill}
-use Rattle.node_space.proofs.Tests.{enough_of}
+use Rattle.node_space.proofs.Ways.{enough_of}
 use Rattle.node_space.proofs.Bits.{put_here, put_there, cleared, kept, set_before, whole_taken}
 use Rattle.node_space.proofs.Chosen.{LiesIn, has_taken_in, once_taken_in, IsClearNumber, free_number_clear}
 

@@ -1,5 +1,5 @@
 -- The laws of the search for free space.
-use Rattle.std.specs.Prelude.{◌≡◌, ◌≤◌, ◌<◌, ◌-◌, ◌++◌, ◌⊎◌, ℕ, zero, suc, Bool, true, false, List, [], ◌∷◌, Option, Some, None, IfSome, is_some, length, slice_get}
+use Rattle.std.specs.Prelude.{◌≡◌, ◌≤◌, ◌<◌, ◌-◌, ◌++◌, ◌⊎◌, ℕ, zero, suc, Bool, true, false, List, [], ◌∷◌, Option, Some, None, IfSome, is_some, length, map, slice_get}
 use Rattle.std.specs.List.{zip}
 use Rattle.vol_words.specs.Fields.{Block}
 use Rattle.lock_db.specs.declared.name.LockName.TheVariants.{V}
@@ -16,19 +16,28 @@ use Rattle.vol_parts.specs.declared.geometry.Part.TheVariants.{IndexBitmap, Stor
 use Rattle.vol_parts.specs.Parts.{IsGeometry}
 use Rattle.vol_spell.specs.Places.{place_of, IsPart}
 use Rattle.vol_spell.specs.Spelling.{Spells}
+use Rattle.vol_under.specs.Guards.{Lock, guard_of}
 use Rattle.vol_under.specs.Keeping.{Refills, IsBitmap}
 use Rattle.vol_under.specs.Refilling.{AreTaken, AreNumbersTaken}
 use Rattle.op_law.specs.declared.need.PlanWrite.{PlanWrite}
 use Rattle.op_law.specs.Fits.{things}
-use Rattle.op_law.specs.Knows.{clusters_wanted, wants_number, has_free_number, is_short}
+use Rattle.op_law.specs.Knows.{clusters_wanted, wants_number, has_free_number, is_short, is_new_number}
 use Rattle.op_law.specs.Writing.{Held, holding, empty_handed}
-use Rattle.node_space.specs.Searching.{Found, More, Short, Enough, places, found}
+use Rattle.node_space.specs.Searching.{More, Short, Enough, places, found}
 
 -- ---- the looks
 
 -- the blocks that were looked at, each with its LBN
 abbrev pub looked : Geometry → ℕ → Bool → List Block → List (ℕ × Block)
 looked g clusters number bs = zip (places g clusters number) bs
+
+-- Each that it may look at is a block of a bitmap inside the volume, and V guards it.
+abbrev pub PlacesLie : Type 0
+PlacesLie = (g : Geometry) (clusters : ℕ) (number : Bool) (l : ℕ) (base : List Block) (own : Owners) (c : Cat) → Has (places g clusters number) l → Spells g base own c → (l < length base) × IsBitmap g l × (guard_of g own l ≡ Some (Lock V))
+
+-- One more look comes behind the others.
+abbrev pub LookedGrows : Type 0
+LookedGrows = (g : Geometry) (clusters : ℕ) (number : Bool) (bs : List Block) (lbn : ℕ) (b : Block) → slice_get (places g clusters number) (length bs) ≡ Some lbn → looked g clusters number (bs ++ b ∷ []) ≡ looked g clusters number bs ++ (lbn, b) ∷ []
 
 -- A search that has looked at all that it may look at is over.
 abbrev pub SearchEnds : Type 0
@@ -83,6 +92,10 @@ abbrev pub TakingsRefill : Type 0
 TakingsRefill = (g : Geometry) (seen : List (ℕ × Block)) (out : Held) (w : PlanWrite) (t : IsTaking g seen out w) (n : ℕ) (took : Things) (base : List Block) (own : Owners) (c : Cat) → Spells g base own c → Outs n own took (things out.clusters out.number)
     → slice_get base w.lbn ≡ Some t.old → IsBitmap g w.lbn × Refills g n took (things w.clusters w.number) w.lbn w.block base own c
 
+-- No two of them are to the same block.
+abbrev pub WritesApart : Type 0
+WritesApart = (g : Geometry) (clusters : ℕ) (number : Bool) (bs : List Block) (ws : List PlanWrite) (base : List Block) (own : Owners) (c : Cat) → found g clusters number bs ≡ Enough ws → Spells g base own c → Once (map (λ w. w.lbn) ws)
+
 -- ---- what was taken
 
 -- as many clusters as were wanted, each once, and a number where one was wanted
@@ -98,6 +111,11 @@ TakesAll = (g : Geometry) (clusters : ℕ) (number : Bool) (bs : List Block) (ws
 abbrev pub NumberIsFree : Type 0
 NumberIsFree = (g : Geometry) (clusters : ℕ) (number : Bool) (bs : List Block) (ws : List PlanWrite) (base : List Block) (own : Owners) (c : Cat) → found g clusters number bs ≡ Enough ws
     → Spells g base own c → StandsIn base (looked g clusters number bs) → IfSome (out_after ws (length ws)).number (λ n. is_free_number c n ≡ true)
+
+-- And it is above those of the system files, where none of these is free.
+abbrev pub NumberIsNew : Type 0
+NumberIsNew = (g : Geometry) (clusters : ℕ) (number : Bool) (bs : List Block) (ws : List PlanWrite) (base : List Block) (own : Owners) (c : Cat) → found g clusters number bs ≡ Enough ws
+    → Spells g base own c → StandsIn base (looked g clusters number bs) → ((m : ℕ) → 1 ≤ m → m ≤ 11 → is_free_number c m ≡ false) → is_new_number (out_after ws (length ws)).number ≡ true
 
 -- ---- shortage
 

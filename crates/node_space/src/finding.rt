@@ -53,7 +53,14 @@ fn search_storage(
     ensures { IfOk result (λ s. s ≡ answered (place_of geometry.now (Storage (length looked.now))) (found_clusters geometry.now clusters number writes (blocks_of looked.now))) }
 {
     let count = looked.len().min(16);
-    let taken = take_clusters(alloc, geometry, clusters, number, &looked[..count], &mut writes)?;
+    let taken = take_clusters(
+        alloc,
+        geometry,
+        clusters,
+        number,
+        &looked[..count],
+        &mut writes,
+    )?;
     if clusters as usize <= taken.items().len() {
         return Ok(Search::Take(writes));
     }

@@ -1,11 +1,21 @@
 //! The laws, each a statement for every value that it speaks of.
 
 ghost use Rattle.node_space.specs.Answering.{LooksInOrder};
-ghost use Rattle.node_space.specs.Taking.{SearchEnds, WritesTake, TakingsRefill, TakesAll, NumberIsFree, ShortageIsExact, CommandIsShort};
+ghost use Rattle.node_space.specs.Taking.{PlacesLie, LookedGrows, SearchEnds, WritesTake, TakingsRefill, WritesApart, TakesAll, NumberIsFree, NumberIsNew, ShortageIsExact, CommandIsShort};
 
 /// The block that is looked at next is the first of those that the search may look at that it has not looked at.
 pub fn looks_in_order()
     ensures { LooksInOrder }
+{}
+
+/// Each block that a search may look at is a bitmap's, inside the volume, and V guards it.
+pub fn places_lie()
+    ensures { PlacesLie }
+{}
+
+/// One more look comes behind the others.
+pub fn looked_grows()
+    ensures { LookedGrows }
 {}
 
 /// A search that has looked at all that it may look at is over.
@@ -23,6 +33,11 @@ pub fn takings_refill()
     ensures { TakingsRefill }
 {}
 
+/// No two writes of a search are to the same block.
+pub fn writes_apart()
+    ensures { WritesApart }
+{}
+
 /// A search takes as many clusters as are wanted, each once, and a number where one is wanted.
 pub fn takes_all()
     ensures { TakesAll }
@@ -31,6 +46,11 @@ pub fn takes_all()
 /// The number that it takes is free by the catalogue.
 pub fn number_is_free()
     ensures { NumberIsFree }
+{}
+
+/// And it is above those of the system files, where none of these is free.
+pub fn number_is_new()
+    ensures { NumberIsNew }
 {}
 
 /// A search is refused for its reason alone, where nothing is outside at any node.

@@ -9,8 +9,11 @@ mod taking;
 
 pub use finding::search;
 pub use laws::{
-    command_is_short, looks_in_order, number_is_free, search_ends, shortage_is_exact, takes_all,
-    takings_refill, writes_take,
+    command_is_short, looked_grows, looks_in_order, number_is_free, number_is_new, places_lie,
+    search_ends, shortage_is_exact, takes_all, takings_refill, writes_apart, writes_take,
 };
 pub use outcome::Search;
 pub use plain_cat::{NoMemory, Refusal};
+
+#[cfg(test)]
+mod tests;

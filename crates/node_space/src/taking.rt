@@ -8,7 +8,7 @@ ghost use Rattle.vol_parts.specs.declared.geometry.Part.TheVariants.{Storage};
 ghost use Rattle.vol_parts.specs.Parts.{IsGeometry};
 ghost use Rattle.vol_spell.specs.Places.{place_of};
 ghost use Rattle.op_law.specs.Writing.{holding, write_at};
-ghost use Rattle.node_space.specs.Searching.{free_number, free_from, number_write, with_taken, taken_in, cluster_write, cluster_writes};
+ghost use Rattle.node_space.specs.Searching.{free_number, free_from, number_write, with_taken, taken_in, cluster_writes};
 ghost use Rattle.node_space.specs.Answering.{blocks_of};
 
 use fx_bitmap::{bit, clear_bits, set_bits};
@@ -70,7 +70,7 @@ pub(crate) fn take_clusters(
         let before = taken.items().len();
         let block = take_from(geometry, wanted, k as u32, block, &mut taken)?;
         if before < taken.items().len() {
-            writes.push(cluster_write(alloc, geometry, number, k as u32, block, &taken)?)?;
+            writes.push(block_write(alloc, geometry, number, k as u32, block, &taken)?)?;
         }
     }
     Ok(taken)
@@ -105,7 +105,7 @@ fn take_from(
 }
 
 // The write of block k of the storage bitmap, after which these clusters are taken.
-fn cluster_write(
+fn block_write(
     alloc: Global,
     geometry: &Geometry,
     number: Option<u32>,

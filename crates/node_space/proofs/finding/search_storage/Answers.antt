@@ -1,9 +1,6 @@
-use Rattle.std.proofs.Common.{◌≡◌, ◌≤◌, ◌<◌, ◌+◌, ℕ, List, length, sym, ap, ◌∙◌, arith}
+use Rattle.std.proofs.Common.{◌+◌, ℕ, List, length, sym, ap, arith}
 use Rattle.std.proofs.lemmas.List.{length-map}
 use Rattle.vol_words.specs.Fields.{Block}
-use Rattle.vol_parts.specs.Parts.{storage_blocks}
-use Rattle.vol_spell.specs.Reading.{total_of}
-use Rattle.node_space.specs.Searching.{Found}
 use Rattle.node_space.specs.Answering.{answered, blocks_of}
 use Rattle.node_space.proofs.Concluding.{collected_of, finds_enough, finds_more, finds_short}
 use Rattle.node_space.proofs.finding.search_storage.Goals as goal

@@ -1,4 +1,4 @@
-use Rattle.node_space.proofs.Tests.{search_ends}
+use Rattle.node_space.proofs.Ways.{search_ends}
 use Rattle.node_space.proofs.laws.search_ends.Goals as goal
 
 pub returns : goal.returns

@@ -1,4 +1,4 @@
-use Rattle.std.proofs.Common.{◌≡◌, ◌<◌, length, take, get_or, refl, sym, ap, subst, ◌∙◌, List, ℕ, arith}
+use Rattle.std.proofs.Common.{◌<◌, get_or, sym, subst, List, ℕ}
 use Rattle.std.specs.List.{All}
 use Rattle.node_space.proofs.Ranges.{below_next}
 use Rattle.node_space.proofs.taking.copied.Goals as goal

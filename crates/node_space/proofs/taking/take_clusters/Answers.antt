@@ -1,13 +1,13 @@
-use Rattle.std.proofs.Common.{◌≡◌, ◌≤◌, ◌<◌, ◌+◌, ◌-◌, ◌*◌, ◌++◌, ℕ, List, ◌∷◌, [], length, get_or, take, sym, ap, subst, ◌∙◌, arith, append-nil}
+use Rattle.std.proofs.Common.{◌≡◌, ◌<◌, ◌++◌, ℕ, List, [], length, get_or, take, ap, ◌∙◌, arith}
 use Rattle.std.proofs.Math.Seq.{take-length}
 use Rattle.std.proofs.lemmas.List.{get_or-map, length-map}
 use Rattle.vol_words.specs.Fields.{Block}
 use Rattle.op_law.specs.declared.need.PlanWrite.{PlanWrite}
 use Rattle.node_space.specs.Searching.{free_from, with_taken, taken_in, cluster_write, cluster_writes}
 use Rattle.node_space.specs.Answering.{blocks_of}
-use Rattle.node_space.proofs.Gathering.{Gathered, gathering_begins, gather, wrote, wrote_none}
+use Rattle.node_space.proofs.Gathering.{gathering_begins, gather, wrote, wrote_none}
 use Rattle.node_space.proofs.taking.take_clusters.Goals as goal
-use Rattle.node_space.proofs.taking.take_clusters.Goals.{After-loop-k, then-before-items+in_ok-cluster_write+in_ok-push, else-before-items}
+use Rattle.node_space.proofs.taking.take_clusters.Goals.{After-loop-k, then-before-items+in_ok-block_write+in_ok-push, else-before-items}
 
 pub loop-k-init : goal.loop-k-init
 loop-k-init c = gathering_begins c.args.geometry.now c.args.wanted c.args.number (blocks_of c.args.storage.now) c.args.writes.now c.new-taken.result c.new-taken.ensures
@@ -33,16 +33,16 @@ loop-k-preserved c =
     let was = ap (λ (xs : List ℕ). length xs) c.items-before.ensures.items in
     let is = ap (λ (xs : List ℕ). length xs) c.items.ensures.items in
     let writes : c.if-before-items.writes ≡ c.loop-k.writes ++ cluster_write g c.args.number c.loop-k.taken c.loop-k.k b qs = (
-      elim c.if-before-items.branch [
-        | then-before-items+in_ok-cluster_write+in_ok-push w ↦
-            let grew = w.if-before-items.true in
-            w.writes-is ∙ w.in_ok-push.ensures.ok
-            ∙ ap (λ (ws : List PlanWrite). c.loop-k.writes ++ ws)
-            (wrote g c.args.number c.loop-k.taken c.loop-k.k b qs c.take_from.new.taken c.in_ok-block.block w.in_ok-cluster_write.field-0 left after (omega (arith, was, is)) w.in_ok-cluster_write.ensures)
-        | else-before-items w ↦
-            let same = w.if-before-items.false in
-            w.writes-is ∙ wrote_none g c.args.number c.loop-k.taken c.loop-k.k b qs c.take_from.new.taken c.loop-k.writes after (omega (arith, was, is))
-      ]
+    elim c.if-before-items.branch [
+      | then-before-items+in_ok-block_write+in_ok-push w ↦
+          let grew = w.if-before-items.true in
+          w.writes-is ∙ w.in_ok-push.ensures.ok
+          ∙ ap (λ (ws : List PlanWrite). c.loop-k.writes ++ ws)
+          (wrote g c.args.number c.loop-k.taken c.loop-k.k b qs c.take_from.new.taken c.in_ok-block.block w.in_ok-block_write.field-0 left after (omega (arith, was, is)) w.in_ok-block_write.ensures)
+      | else-before-items w ↦
+          let same = w.if-before-items.false in
+          w.writes-is ∙ wrote_none g c.args.number c.loop-k.taken c.loop-k.k b qs c.take_from.new.taken c.loop-k.writes after (omega (arith, was, is))
+    ]
     ) in
     gather g c.args.wanted c.args.number bs c.args.writes.now c.loop-k.taken c.loop-k.writes c.loop-k.k b c.take_from.new.taken c.if-before-items.writes lt at c.loop-k.invariant after writes below
 

@@ -1,9 +1,8 @@
-use Rattle.std.proofs.Common.{◌≡◌, ◌≤◌, ◌<◌, ◌+◌, ◌-◌, ◌*◌, ◌++◌, ◌%◌, ℕ, List, length, true, false, sym, ap, subst, ◌∙◌, arith}
+use Rattle.std.proofs.Common.{◌≡◌, ◌+◌, ◌-◌, ◌*◌, ◌++◌, ℕ, List, length, sym, ap, ◌∙◌, arith}
 use Rattle.std.specs.Prelude.{min}
-use Rattle.fx_bitmap.specs.Bits.{bit_at, bits_put}
 use Rattle.vol_spell.specs.Reading.{total_of}
 use Rattle.node_space.specs.Searching.{with_taken}
-use Rattle.node_space.proofs.Collecting.{TakenTo, taking_begins, taking_skips, taking_full, taking_goes_on, taking_ends, more_below}
+use Rattle.node_space.proofs.Collecting.{taking_begins, taking_skips, taking_full, taking_goes_on, taking_ends, more_below}
 use Rattle.node_space.proofs.taking.take_from.Goals as goal
 use Rattle.node_space.proofs.taking.take_from.Goals.{After-loop-q, then-items-wanted+then-bit+in_ok-push, else-items-wanted, else-items-wanted-via-then-items-wanted+else-bit, else-items-wanted-via-else-items-wanted}
 
