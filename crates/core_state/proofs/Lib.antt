@@ -8,7 +8,9 @@ pub mod Keeping
 pub mod RunKinds
 pub mod Numbers
 pub mod Beginning
+pub mod Standing
 pub mod Turning
+pub mod Searching
 pub mod Answering
 pub mod Turns
 pub mod MountedWorlds

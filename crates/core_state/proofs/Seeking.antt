@@ -1,36 +1,32 @@
 -- What a search for space has looked at, and where it writes.
-use Rattle.std.proofs.Common.{◌≡◌, ◌≢◌, ◌≤◌, ◌<◌, ◌+◌, ◌-◌, ◌*◌, ◌/◌, ◌++◌, ◌||◌, ◌&&◌, ℕ, zero, suc, Bool, true, false, cond, List, [], ◌∷◌, Option, Some, None, length, map, take, slice_get, refl, sym, ap, subst, ◌∙◌, inl, inr, arith, ◌⊎◌, nat_le, nat_lt, is_some}
-use Rattle.std.specs.Prelude.{not, ◌==◌, filter, slice_index_or}
-use Rattle.std.specs.List.{list_any, range_with_len, zip}
+use Rattle.std.proofs.Common.{◌≡◌, ◌≢◌, ◌≤◌, ◌<◌, ◌+◌, ◌*◌, ◌/◌, ◌++◌, ◌||◌, ◌&&◌, ℕ, zero, suc, Bool, true, false, cond, List, [], ◌∷◌, Option, Some, None, length, map, take, slice_get, refl, sym, ap, subst, ◌∙◌, inl, inr, arith, ◌⊎◌, nat_le, nat_lt}
+use Rattle.std.specs.Prelude.{not, ◌==◌}
+use Rattle.std.specs.List.{zip}
 use Rattle.std.proofs.lemmas.Bool.Decides.{nat_tests}
 use Rattle.vol_words.specs.Fields.{Block}
 use Rattle.lock_db.specs.declared.name.LockName.{LockName}
+use Rattle.lock_db.specs.declared.name.LockName.TheVariants.{V}
 use Rattle.plain_cat.specs.declared.mode.Mode.{Mode}
-use Rattle.plain_cat.specs.declared.command.Cmd.{Cmd}
 use Rattle.plain_cat.specs.declared.reply.Refusal.{Refusal}
 use Rattle.plain_cat.specs.declared.reply.Refusal.TheVariants.{IndexFull, DeviceFull}
 use Rattle.plain_cat.specs.declared.cat.Cat.{Cat}
-use Rattle.vol_owners.specs.Lists.{Has, Touches, StandsIn}
-use Rattle.vol_owners.specs.Owners.{Owners, Things, nothing, Outs}
-use Rattle.vol_owners.proofs.Placing.{has_ranged}
+use Rattle.vol_owners.specs.Lists.{Has, Once, Touches, StandsIn}
+use Rattle.vol_owners.specs.Owners.{Owners}
 use Rattle.vol_parts.specs.declared.geometry.Geometry.{Geometry}
-use Rattle.vol_parts.specs.declared.geometry.Part.{Part}
-use Rattle.vol_parts.specs.declared.geometry.Part.TheVariants.{IndexBitmap, Storage}
-use Rattle.vol_parts.specs.Parts.{IsGeometry, storage_blocks, part_of}
-use Rattle.vol_spell.specs.Reading.{total_of, owner_at}
-use Rattle.vol_spell.specs.Places.{place_of, ArePartsOf}
+use Rattle.vol_parts.specs.Parts.{IsGeometry, storage_blocks}
+use Rattle.vol_spell.specs.Reading.{total_of}
 use Rattle.vol_spell.specs.Spelling.{Spells}
-use Rattle.vol_spell.proofs.Parts.{are_parts}
-use Rattle.vol_spell.proofs.Frames.{on_volume}
+use Rattle.vol_under.specs.Guards.{Lock, guard_of}
 use Rattle.vol_under.specs.Keeping.{IsBitmap}
-use Rattle.op_law.specs.declared.need.Need.{Need}
 use Rattle.op_law.specs.declared.need.Need.TheVariants as need
 use Rattle.op_law.specs.declared.need.PlanWrite.{PlanWrite}
-use Rattle.op_law.specs.Events.{Events, Take, Look, Fetch, Find, Make, Space, has_number, has_space, HasNoSpace, following}
-use Rattle.node_space.specs.Searching.{Found, More, Short, Enough, places, cluster_places, free_number, free_from, number_write, cluster_write, taken_in, cluster_writes, found_clusters, found_number, found}
-use Rattle.node_space.specs.Taking.{looked, out_after, IsWanted}
+use Rattle.op_law.specs.Events.{Events, Take, Look, Fetch, Find, Make, Space, has_space, HasNoSpace, following}
+use Rattle.node_space.specs.Searching.{Found, More, Short, Enough, places, free_number, free_from, number_write, cluster_writes, found_clusters, found_number, found}
+use Rattle.node_space.specs.Taking.{looked}
 use Rattle.node_space.specs.Answering.{blocks_of}
-use Rattle.node_space.proofs.Tests.{short_of, enough_of}
+use Rattle.node_space.proofs.Ways.{short_of}
+use Rattle.node_space.proofs.Looked.{places_lie, looked_grows}
+use Rattle.node_space.proofs.Apart.{writes_apart}
 use Rattle.node_space.proofs.Taken.{takes_all}
 use Rattle.core_state.specs.Searches.{rewrites, unwritten}
 
@@ -136,14 +132,6 @@ zip_none : {A B : Type 0} (xs : List A) → zip xs (let ys : List B = [] in ys) 
 zip_none [] = refl
 zip_none (x ∷ xs) = refl
 
-pub zip_next : (xs : List ℕ) (ys : List Block) (l : ℕ) (b : Block) → slice_get xs (length ys) ≡ Some l → zip xs (ys ++ b ∷ []) ≡ zip xs ys ++ (l, b) ∷ []
-zip_next [] ys l b e = absurd (let f : None ≡ Some l = e in cc)
-zip_next (x ∷ xs) [] l b e =
-    let f : Some x ≡ Some l = e in
-    let h : x ≡ l = cc in
-    ap (λ zs. (x, b) ∷ zs) (zip_none xs) ∙ ap (λ k. (k, b) ∷ []) h
-zip_next (x ∷ xs) (y ∷ ys) l b e = ap (λ zs. (x, y) ∷ zs) (zip_next xs ys l b e)
-
 pub blocks_next : (ss : List (ℕ × Block)) (l : ℕ) (b : Block) → blocks_of (ss ++ (l, b) ∷ []) ≡ blocks_of ss ++ b ∷ []
 blocks_next [] l b = refl
 blocks_next (s ∷ ss) l b = ap (λ bs. s.1 ∷ bs) (blocks_next ss l b)
@@ -152,146 +140,42 @@ blocks_next (s ∷ ss) l b = ap (λ bs. s.1 ∷ bs) (blocks_next ss l b)
 pub next_in_order : (g : Geometry) (clusters : ℕ) (number : Bool) (ss : List (ℕ × Block)) (l : ℕ) (b : Block) → ss ≡ looked g clusters number (blocks_of ss) → slice_get (places g clusters number) (length (blocks_of ss)) ≡ Some l
     → ss ++ (l, b) ∷ [] ≡ looked g clusters number (blocks_of (ss ++ (l, b) ∷ []))
 next_in_order g clusters number ss l b is at =
-    ap (λ zs. zs ++ (l, b) ∷ []) is ∙ sym (zip_next (places g clusters number) (blocks_of ss) l b at) ∙ ap (zip (places g clusters number)) (sym (blocks_next ss l b))
+    ap (λ zs. zs ++ (l, b) ∷ []) is ∙ sym (looked_grows g clusters number (blocks_of ss) l b at) ∙ ap (looked g clusters number) (sym (blocks_next ss l b))
 
 pub none_in_order : (g : Geometry) (clusters : ℕ) (number : Bool) (ss : List (ℕ × Block)) → ss ≡ [] → ss ≡ looked g clusters number (blocks_of ss)
 none_in_order g clusters number ss e = e ∙ sym (zip_none (places g clusters number)) ∙ ap (λ (zs : List (ℕ × Block)). zip (places g clusters number) (blocks_of zs)) (sym e)
-
-zipped_fits : (xs : List ℕ) (ys : List Block) → blocks_of (zip xs ys) ≡ ys → length ys ≤ length xs
-zipped_fits [] [] e = omega arith
-zipped_fits [] (y ∷ ys) e = absurd (let f : [] ≡ y ∷ ys = e in cc)
-zipped_fits (x ∷ xs) [] e = omega arith
-zipped_fits (x ∷ xs) (y ∷ ys) e =
-    let f : y ∷ blocks_of (zip xs ys) ≡ y ∷ ys = e in
-    let h : blocks_of (zip xs ys) ≡ ys = cc in
-    let le = zipped_fits xs ys h in
-    omega arith
-
--- ---- the blocks of a bitmap
-
-map_has : (f : ℕ → ℕ) (xs : List ℕ) (l : ℕ) → Has (map f xs) l → (j : ℕ) × Has xs j × (f j ≡ l)
-map_has f [] l h = absurd h
-map_has f (x ∷ xs) l (inl e) = (x, inl refl, e)
-map_has f (x ∷ xs) l (inr h) = let r = map_has f xs l h in (r.0, inr r.1, r.2)
 
 get_has : (xs : List ℕ) (k l : ℕ) → slice_get xs k ≡ Some l → Has xs l
 get_has [] k l e = absurd (let f : None ≡ Some l = e in cc)
 get_has (x ∷ xs) zero l e = inl (let f : Some x ≡ Some l = e in cc)
 get_has (x ∷ xs) (suc k) l e = inr (get_has xs k l e)
 
-map_count : (f : ℕ → ℕ) (a k : ℕ) → length (map f (range_with_len a k)) ≡ k
-map_count f a zero = refl
-map_count f a (suc k) = ap suc (map_count f (a + 1) k)
-
-module _ (g : Geometry) (bs : List Block) (own : Owners) (c : Cat) (spelt : Spells g bs own c) where
-  parts : ArePartsOf g own
-  parts = are_parts g bs own c spelt
-
-  is_part : (p : Part) (l : ℕ) → part_of g (place_of g p) ≡ Some p → place_of g p ≡ l → part_of g l ≡ Some p
-  is_part p l e f = ap (part_of g) (sym f) ∙ e
-
-  cluster_place : (clusters l : ℕ) → Has (cluster_places g clusters) l → IsBitmap g l
-  cluster_place zero l h = absurd h
-  cluster_place (suc more) l h =
-      let r = map_has (λ j. place_of g (Storage j)) (range_with_len 0 (storage_blocks (total_of g))) l h in
-      let lt : r.0 < 0 + storage_blocks (total_of g) = (has_ranged 0 (storage_blocks (total_of g)) r.0 r.1).1 in
-      inr (r.0, is_part (Storage r.0) l (parts.there (Storage r.0) (let e : 0 + storage_blocks (total_of g) ≡ storage_blocks (total_of g) = omega arith in subst (λ (k : ℕ). r.0 < k) e lt)) r.2)
-
-  has_place : (clusters l : ℕ) (number : Bool) → Has (places g clusters number) l → IsBitmap g l
-  has_place clusters l false h = cluster_place clusters l h
-  has_place clusters l true (inl e) = inl (is_part IndexBitmap l (parts.there IndexBitmap tt) e)
-  has_place clusters l true (inr h) = cluster_place clusters l h
-
-  -- a search looks at bitmaps
-  pub place_is_bitmap : (clusters : ℕ) (number : Bool) (k l : ℕ) → slice_get (places g clusters number) k ≡ Some l → IsBitmap g l
-  place_is_bitmap clusters number k l e = has_place clusters l number (get_has (places g clusters number) k l e)
-
-  pub bitmap_within : (l : ℕ) → IsBitmap g l → l < length bs
-  bitmap_within l (inl e) = on_volume g bs own c spelt l _ (parts.owned l IndexBitmap e)
-  bitmap_within l (inr e) = on_volume g bs own c spelt l _ (parts.owned l (Storage e.0) e.1)
+-- the block that comes next is of a bitmap inside the volume, and V guards it
+pub next_lies : (g : Geometry) (clusters : ℕ) (number : Bool) (k l : ℕ) (base : List Block) (own : Owners) (c : Cat) → slice_get (places g clusters number) k ≡ Some l → Spells g base own c
+    → (l < length base) × IsBitmap g l × (guard_of g own l ≡ Some (Lock V))
+next_lies g clusters number k l base own c e spelt = places_lie g clusters number l base own c (get_has (places g clusters number) k l e) spelt
 
 -- ---- where it writes
 
--- the LBNs of these writes rise, from one and below another
-abbrev Rise : ℕ → ℕ → List PlanWrite → Type 0
-Rise lo hi [] = Unit {0}
-Rise lo hi (w ∷ ws) = (lo ≤ w.lbn) × (w.lbn < hi) × Rise (w.lbn + 1) hi ws
+lbn_has : (ws : List PlanWrite) (k : ℕ) (w : PlanWrite) → slice_get ws k ≡ Some w → Has (map (λ w. w.lbn) ws) w.lbn
+lbn_has [] k w e = absurd (let f : None ≡ Some w = e in cc)
+lbn_has (y ∷ ws) zero w e = inl (let f : Some y ≡ Some w = e in let h : y ≡ w = cc in ap (λ z. z.lbn) h)
+lbn_has (y ∷ ws) (suc k) w e = inr (lbn_has ws k w e)
 
-rise_lower : (lo mid hi : ℕ) (ws : List PlanWrite) → lo ≤ mid → Rise mid hi ws → Rise lo hi ws
-rise_lower lo mid hi [] le r = tt
-rise_lower lo mid hi (w ∷ ws) le r = (let a = r.0 in omega arith, r.1, r.2)
+not_same : (a b : ℕ) → a ≢ b → (a == b) ≡ false
+not_same a b ne = grind (arith, nat_tests)
 
-rise_at : (lo hi : ℕ) (ws : List PlanWrite) (k : ℕ) (w : PlanWrite) → Rise lo hi ws → slice_get ws k ≡ Some w → (lo ≤ w.lbn) × (w.lbn < hi) × (rewrites (take k ws) w.lbn ≡ false)
-rise_at lo hi [] k w r e = absurd (let f : None ≡ Some w = e in cc)
-rise_at lo hi (y ∷ ws) zero w r e =
-    let f : Some y ≡ Some w = e in
-    let h : y ≡ w = cc in
-    (subst (λ (z : PlanWrite). lo ≤ z.lbn) h r.0, subst (λ (z : PlanWrite). z.lbn < hi) h r.1, refl)
-rise_at lo hi (y ∷ ws) (suc k) w r e =
-    let t = rise_at (y.lbn + 1) hi ws k w r.2 e in
-    let a = t.0 in
-    let b = r.0 in
-    (omega arith, t.1, ap (λ u. u || rewrites (take k ws) w.lbn) (apart y.lbn w.lbn a) ∙ t.2) where
-      apart : (x z : ℕ) → x + 1 ≤ z → (x == z) ≡ false
-      apart x z le = grind (arith, nat_tests)
+once_at : (ws : List PlanWrite) (k : ℕ) (w : PlanWrite) → Once (map (λ w. w.lbn) ws) → slice_get ws k ≡ Some w → rewrites (take k ws) w.lbn ≡ false
+once_at [] k w once e = absurd (let f : None ≡ Some w = e in cc)
+once_at (y ∷ ws) zero w once e = refl
+once_at (y ∷ ws) (suc k) w once e =
+    let ne : y.lbn ≢ w.lbn = λ f. once.0 (subst (Has (map (λ w. w.lbn) ws)) (sym f) (lbn_has ws k w e)) in
+    ap (λ u. u || rewrites (take k ws) w.lbn) (not_same y.lbn w.lbn ne) ∙ once_at ws k w once.1 e
 
-clusters_rise : (g : Geometry) (wanted : ℕ) (number : Option ℕ) (before : List ℕ) (k m : ℕ) (bs : List Block) → k + length bs ≤ m → Rise (g.bitmap_lbn + 1 + k) (g.bitmap_lbn + 1 + m) (cluster_writes g wanted number before k bs)
-unfolding cluster_writes
-clusters_rise g wanted number before k m [] le = tt
-clusters_rise g wanted number before k m (b ∷ bs) le =
-    let fit : k + suc (length bs) ≤ m = le in
-    let rest = clusters_rise g wanted number (before ++ taken_in g wanted before k b) (k + 1) m bs (omega arith) in
-    one (taken_in g wanted before k b) (cluster_writes g wanted number (before ++ taken_in g wanted before k b) (k + 1) bs) (let fit : k + suc (length bs) ≤ m = le in omega arith) rest where
-      one : (qs : List ℕ) (rest : List PlanWrite) → k < m → Rise (g.bitmap_lbn + 1 + (k + 1)) (g.bitmap_lbn + 1 + m) rest → Rise (g.bitmap_lbn + 1 + k) (g.bitmap_lbn + 1 + m) (cluster_write g number before k b qs ++ rest)
-      one [] rest lt r = rise_lower (g.bitmap_lbn + 1 + k) (g.bitmap_lbn + 1 + (k + 1)) (g.bitmap_lbn + 1 + m) rest (omega arith) r
-      one (q ∷ qs) rest lt r = (omega arith, omega arith, rise_lower (g.bitmap_lbn + 1 + k + 1) (g.bitmap_lbn + 1 + (k + 1)) (g.bitmap_lbn + 1 + m) rest (omega arith) r)
-
-module _ (g : Geometry) (own : Owners) (parts : ArePartsOf g own) where
-  index_apart : (l : ℕ) → g.bitmap_lbn + 1 ≤ l → l < g.bitmap_lbn + 1 + storage_blocks (total_of g) → 4 * g.cluster ≢ l
-  index_apart l from to e =
-      let lt : l - (g.bitmap_lbn + 1) < storage_blocks (total_of g) = omega arith in
-      let at : 4 * g.cluster ≡ g.bitmap_lbn + 1 + (l - (g.bitmap_lbn + 1)) = omega arith in
-      let f : IndexBitmap ≡ Storage (l - (g.bitmap_lbn + 1)) = parts.apart IndexBitmap (Storage (l - (g.bitmap_lbn + 1))) tt lt at in
-      absurd (cc)
-
-  not_same : (a b : ℕ) → a ≢ b → (a == b) ≡ false
-  not_same a b ne = grind (arith, nat_tests)
-
-  behind_index : (n : ℕ) (index : Block) (ws : List PlanWrite) (k : ℕ) (w : PlanWrite) → Rise (g.bitmap_lbn + 1 + 0) (g.bitmap_lbn + 1 + storage_blocks (total_of g)) ws → slice_get (number_write g n index ∷ ws) k ≡ Some w
-      → rewrites (take k (number_write g n index ∷ ws)) w.lbn ≡ false
-  behind_index n index ws zero w r e = refl
-  behind_index n index ws (suc k) w r e =
-      let t = rise_at (g.bitmap_lbn + 1 + 0) (g.bitmap_lbn + 1 + storage_blocks (total_of g)) ws k w r e in
-      let a = t.0 in
-      ap (λ u. u || rewrites (take k ws) w.lbn) (not_same (4 * g.cluster) w.lbn (index_apart w.lbn (omega arith) t.1)) ∙ t.2
-
-  few_clusters : (clusters : ℕ) → length (cluster_places g clusters) ≤ storage_blocks (total_of g)
-  few_clusters zero = omega arith
-  few_clusters (suc more) = let e = map_count (λ j. place_of g (Storage j)) 0 (storage_blocks (total_of g)) in omega (arith, e)
-
-  by_number : (clusters : ℕ) (index : Block) (n : Option ℕ) (bs : List Block) (ws : List PlanWrite) (k : ℕ) (w : PlanWrite) → length bs ≤ length (cluster_places g clusters) → found_number g clusters index n bs ≡ Enough ws → slice_get ws k ≡ Some w
-      → rewrites (take k ws) w.lbn ≡ false
-  by_number clusters index None bs ws k w le e at = absurd (let f : Short IndexFull ≡ Enough ws = e in cc)
-  by_number clusters index (Some n) bs ws k w le e at =
-      let enough = enough_of g clusters (Some n) (number_write g n index ∷ []) bs ws e in
-      let few = few_clusters clusters in
-      let rise = clusters_rise g clusters (Some n) [] 0 (storage_blocks (total_of g)) bs (omega arith) in
-      ap (λ vs. rewrites (take k vs) w.lbn) enough.1 ∙ behind_index n index (cluster_writes g clusters (Some n) [] 0 bs) k w rise (ap (λ vs. slice_get vs k) (sym enough.1) ∙ at)
-
-  apart_by : (clusters : ℕ) (number : Bool) (bs : List Block) (ws : List PlanWrite) (k : ℕ) (w : PlanWrite) → length bs ≤ length (places g clusters number) → found g clusters number bs ≡ Enough ws → slice_get ws k ≡ Some w
-      → rewrites (take k ws) w.lbn ≡ false
-  apart_by clusters false bs ws k w le e at =
-      let enough = enough_of g clusters None [] bs ws e in
-      let rise = clusters_rise g clusters None [] 0 (length bs) bs (omega arith) in
-      ap (λ vs. rewrites (take k vs) w.lbn) enough.1 ∙ (rise_at _ _ (cluster_writes g clusters None [] 0 bs) k w rise (ap (λ vs. slice_get vs k) (sym enough.1) ∙ at)).2
-  apart_by clusters true [] ws k w le e at = absurd (let f : More ≡ Enough ws = e in cc)
-  apart_by clusters true (index ∷ bs) ws k w le e at = by_number clusters index (free_number g index) bs ws k w (omega arith) e at
-
-  -- no two writes of a search are to one block
-  pub writes_apart : (clusters : ℕ) (number : Bool) (ss : List (ℕ × Block)) (ws : List PlanWrite) (k : ℕ) (w : PlanWrite) → ss ≡ looked g clusters number (blocks_of ss) → found g clusters number (blocks_of ss) ≡ Enough ws → slice_get ws k ≡ Some w
-      → rewrites (take k ws) w.lbn ≡ false
-  writes_apart clusters number ss ws k w is e at =
-      apart_by clusters number (blocks_of ss) ws k w (zipped_fits (places g clusters number) (blocks_of ss) (ap blocks_of (sym is))) e at
+-- no write of a search is to a block to which one before it is
+pub not_before : (g : Geometry) (clusters : ℕ) (number : Bool) (bs : List Block) (ws : List PlanWrite) (base : List Block) (own : Owners) (c : Cat) (k : ℕ) (w : PlanWrite) → found g clusters number bs ≡ Enough ws → Spells g base own c → slice_get ws k ≡ Some w
+    → rewrites (take k ws) w.lbn ≡ false
+not_before g clusters number bs ws base own c k w e spelt at = once_at ws k w (writes_apart g clusters number bs ws base own c e spelt) at
 
 -- ---- how it begins and ends
 
@@ -314,7 +198,7 @@ space_wanted (Find c n next) locks blocks space k b e = by_test (has_space c n s
       subst (λ (m : Bool). has_space k m space ≡ false) i (subst (λ (j : ℕ). has_space j n space ≡ false) h f)
 space_wanted (Make plan) locks blocks space k b e = absurd (let f : need.Ready plan ≡ need.Space k b = e in cc)
 
-abbrev no_space : Space
+abbrev pub no_space : Space
 no_space = record { clusters = []; number = None; short = None }
 
 pub wants_some : (es : Events) (locks : List (LockName × Mode)) (blocks : List (ℕ × Block)) (space : Space) (k : ℕ) (b : Bool) → HasNoSpace space → following es locks blocks space ≡ need.Space k b → has_space k b no_space ≡ false
@@ -350,12 +234,14 @@ first_more g k false is e = by_tests (nat_le k 0) (nat_lt 0 (storage_blocks (tot
   by_tests false true e f = refl
   by_tests false false e f = absurd (let h : false ≡ true = f in cc)
 
--- and it does not end with nothing to write
+-- who wants nothing does not need to search
+pub wants_nothing : (b : Bool) (k : ℕ) → 0 ≡ k → false ≡ b → has_space k b no_space ≡ false → ⊥
+wants_nothing true k f g h = let x : false ≡ true = g in absurd (cc)
+wants_nothing false k f g h = let x : has_space 0 false no_space ≡ false = subst (λ (j : ℕ). has_space j false no_space ≡ false) (sym f) h in let y : true ≡ false = x in absurd (cc)
+
+-- and a search does not end with nothing to write
 pub some_writes : (g : Geometry) (k : ℕ) (b : Bool) (bs : List Block) (ws : List PlanWrite) → has_space k b no_space ≡ false → found g k b bs ≡ Enough ws → 0 < length ws
-some_writes g k b bs [] wanted e = absurd (none b (takes_all g k b bs [] e).clusters (takes_all g k b bs [] e).number wanted) where
-  none : (b : Bool) → 0 ≡ k → false ≡ b → has_space k b no_space ≡ false → ⊥
-  none true f g h = let x : false ≡ true = g in absurd (cc)
-  none false f g h = let x : has_space 0 false no_space ≡ false = subst (λ (j : ℕ). has_space j false no_space ≡ false) (sym f) h in let y : true ≡ false = x in absurd (cc)
+some_writes g k b bs [] wanted e = absurd (wants_nothing b k (takes_all g k b bs [] e).clusters (takes_all g k b bs [] e).number wanted)
 some_writes g k b bs (w ∷ ws) wanted e = omega arith
 
 refused_number : (g : Geometry) (k : ℕ) (index : Block) (n : Option ℕ) (bs : List Block) (r : Refusal) → found_number g k index n bs ≡ Short r → (r ≡ IndexFull) ⊎ (r ≡ DeviceFull)

@@ -11,8 +11,9 @@ use Rattle.plain_cat.specs.declared.mode.Mode.TheVariants.{PW}
 use Rattle.plain_cat.specs.declared.command.Cmd.{Cmd}
 use Rattle.plain_cat.specs.declared.reply.Refusal.{Refusal}
 use Rattle.node_locks.specs.Held.{held_locks}
-use Rattle.vol_owners.specs.Lists.{Has}
+use Rattle.vol_owners.specs.Lists.{Has, Touches}
 use Rattle.vol_owners.specs.Owners.{Things, nothing}
+use Rattle.vol_under.specs.Keeping.{IsBitmap}
 use Rattle.op_law.specs.declared.need.Need.TheVariants as need
 use Rattle.op_law.specs.declared.need.PlanWrite.{PlanWrite}
 use Rattle.op_law.specs.declared.seen.Seen.{Seen}
@@ -74,9 +75,11 @@ pub record HasClaimed (x : Cmd) (asked : List (LockName × Mode)) (s : Search) (
   pub locks : seen.locks ≡ before ++ after
   pub in_order : s.looked ≡ looked seen.geometry (wanted_by x seen) (wants_number x) (blocks_of s.looked)
 
--- the command needs what it searches for
-abbrev pub NeedsSpace : Cmd → Seen → Type 0
-NeedsSpace x seen = IsNext x seen (need.Space (wanted_by x seen) (wants_number x)) × HasNoSpace (space_of seen)
+-- the command needs what it searches for, was given nothing yet, and has looked at no bitmap itself
+pub record NeedsSpace (x : Cmd) (seen : Seen) : Type 0 where
+  pub next : IsNext x seen (need.Space (wanted_by x seen) (wants_number x))
+  pub none : HasNoSpace (space_of seen)
+  pub apart : (l : ℕ) → Touches seen.blocks l → IsBitmap seen.geometry l → ⊥
 
 -- the search goes on to look
 pub record IsLooking (x : Cmd) (asked : List (LockName × Mode)) (s : Search) (seen : Seen) : Type 0 where
