@@ -13,4 +13,5 @@ pub mod Turning
 pub mod Searching
 pub mod Answering
 pub mod Turns
+pub mod Accepting
 pub mod MountedWorlds
