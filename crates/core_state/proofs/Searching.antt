@@ -277,7 +277,7 @@ module _ (w : Plain) (good : Good w) (n : ℕ) (s : NodeState) (at : node_at w.n
     abbrev rest : List (ℕ × Block)
     rest = unwritten (take (t + 1) ws) s.search.looked ++ s.seen.blocks
 
-    taking : Takes g (looked g (wanted_by x s.seen) (wants_number x) (blocks_of s.search.looked)) (out_after ws t) v
+    pub taking : Takes g (looked g (wanted_by x s.seen) (wants_number x) (blocks_of s.search.looked)) (out_after ws t) v
     taking = writes_take g (wanted_by x s.seen) (wants_number x) (blocks_of s.search.looked) ws t v under.spelt.counts.geometry h.found.enough next
 
     among : Has s.search.looked (v.lbn, taking.old)
@@ -293,7 +293,7 @@ module _ (w : Plain) (good : Good w) (n : ℕ) (s : NodeState) (at : node_at w.n
     stood : slice_get under.base v.lbn ≡ Some taking.old
     stood = stands_its under.base u.seen v.lbn taking.old (seen_now w good n s at x cmd free) seen_it
 
-    there_now : slice_get w.blocks v.lbn ≡ Some taking.old
+    pub there_now : slice_get w.blocks v.lbn ≡ Some taking.old
     there_now = is_committed g cat (nodes_under w.locks w.nodes) w.blocks n u (here w good n s at x cmd free) under (my_sole w good n s at x cmd free) (no_writes_now w good n s at x cmd free no_plan) v.lbn look ∙ stood
 
     stock_now : stock_after ws t ≡ things (out_after ws t).clusters (out_after ws t).number
@@ -400,18 +400,43 @@ module _ (w : Plain) (good : Good w) (n : ℕ) (s : NodeState) (at : node_at w.n
   within_end (y ∷ ws) zero e = absurd (let f : Some y ≡ None = e in cc)
   within_end (y ∷ ws) (suc k) e = let le = within_end ws k e in omega arith
 
-  none_there : (ws : List PlanWrite) (k : ℕ) (v : PlanWrite) → ws ≡ [] → slice_get ws k ≡ Some v → ⊥
-  none_there ws k v e at = absurd (let f : None ≡ Some v = ap (λ vs. slice_get vs k) (sym e) ∙ at in cc)
+  -- with a write to make, the search takes
+  pub is_taking : s.search.taken < length s.search.takes → IsTaking w.locks n x s.asked s.search s.seen
+  is_taking lt = by_search now.search where
+    none : (vs : List PlanWrite) (k : ℕ) → vs ≡ [] → k < length vs → ⊥
+    none vs k e lt = absurd (let f : k < 0 = subst (λ (us : List PlanWrite). k < length us) e lt in omega arith)
+
+    by_search : Searches w.locks n x s.asked s.search s.seen → IsTaking w.locks n x s.asked s.search s.seen
+    by_search (NotYet h) = absurd (none s.search.takes s.search.taken h.takes lt)
+    by_search (Looking h) = absurd (none s.search.takes s.search.taken h.takes lt)
+    by_search (Taking h) = h
+    by_search (Taken h) = absurd (let e = h.all in omega arith)
+    by_search (Refused h) = absurd (none s.search.takes s.search.taken h.takes lt)
+
+  -- with the lock of the bitmaps asked for, and no write to make, it looks on
+  pub is_looking : (k : ℕ) (b : Bool) → IsNext x s.seen (need.Space k b) → has_asked V s.asked ≡ true → length s.search.takes ≤ s.search.taken → IsLooking x s.asked s.search s.seen
+  is_looking k b is has over =
+      let may = may_need w good n s at x cmd free (need.Space k b) is in
+      by_search may.0.takes may.1 (wanted (wanted_by x s.seen) (wants_number x) (is ∙ (λ i. need.Space (may.0.clusters_are i) (may.0.number_is i)))) now.search where
+        by_search : takes_space x ≡ true → HasNoSpace (space_of s.seen) → has_space (wanted_by x s.seen) (wants_number x) no_space ≡ false → Searches w.locks n x s.asked s.search s.seen → IsLooking x s.asked s.search s.seen
+        by_search takes space some (NotYet h) = absurd (is_begun w.locks n x s.asked s.search s.seen h (λ k. let a : takes_lock x V ≡ true = now.own V k in let c : takes_lock x V ≡ false = ap not takes in let f : true ≡ false = sym a ∙ c in absurd (cc)) has)
+        by_search takes space some (Looking h) = h
+        by_search takes space some (Taking h) = absurd (let lt = h.part in omega arith)
+        by_search takes space some (Taken h) =
+            let all_taken = takes_all g (wanted_by x s.seen) (wants_number x) (blocks_of s.search.looked) s.search.takes h.found.enough in
+            let no_clusters : 0 ≡ wanted_by x s.seen = ap length (sym space.clusters ∙ h.clusters) ∙ all_taken.clusters in
+            let no_number : false ≡ wants_number x = ap is_some (sym space.number ∙ h.number) ∙ all_taken.number in
+            absurd (wants_nothing (wants_number x) (wanted_by x s.seen) no_clusters no_number some)
+        by_search takes space some (Refused h) = absurd (let f : Some h.why ≡ None = sym h.short ∙ space.short in cc)
 
   -- the next write of the search
   pub grabs_keep : (v : PlanWrite) → slice_get s.search.takes s.search.taken ≡ Some v → Good (altered w w.locks (slice_set w.blocks v.lbn v.block) (set_node w.nodes n (turned (grabbing s v))) w.history)
-  grabs_keep v next = by_search now.search where
-    by_search : Searches w.locks n x s.asked s.search s.seen → Good (altered w w.locks (slice_set w.blocks v.lbn v.block) (set_node w.nodes n (turned (grabbing s v))) w.history)
-    by_search (NotYet h) = absurd (none_there s.search.takes s.search.taken v h.takes next)
-    by_search (Looking h) = absurd (none_there s.search.takes s.search.taken v h.takes next)
-    by_search (Taking h) = write_keeps h v next
-    by_search (Taken h) = absurd (let lt = slice_get_within s.search.takes s.search.taken v next in let e = h.all in omega arith)
-    by_search (Refused h) = absurd (none_there s.search.takes s.search.taken v h.takes next)
+  grabs_keep v next = write_keeps (is_taking (slice_get_within s.search.takes s.search.taken v next)) v next
+
+  -- the block of its next look is one of the volume's
+  pub scan_within : (k : ℕ) (b : Bool) (lbn : ℕ) → answer g k b (blocks_of s.search.looked) ≡ search.Look lbn → lbn < length w.blocks
+  scan_within k b lbn e = subst (λ (j : ℕ). lbn < j) (sym under.over.count)
+      (next_lies g k b (length (blocks_of s.search.looked)) lbn under.base under.own cat (looks_in_order g k b (blocks_of s.search.looked) lbn e) under.spelt).0
 
   -- its next look
   pub scans_keep : (k : ℕ) (b : Bool) → IsNext x s.seen (need.Space k b) → has_asked V s.asked ≡ true → slice_get s.search.takes s.search.taken ≡ None → (lbn : ℕ) → answer g k b (blocks_of s.search.looked) ≡ search.Look lbn
@@ -421,17 +446,14 @@ module _ (w : Plain) (good : Good w) (n : ℕ) (s : NodeState) (at : node_at w.n
       let first : slice_get (places g k b) (length (blocks_of s.search.looked)) ≡ Some lbn = looks_in_order g k b (blocks_of s.search.looked) lbn e in
       subst (λ (m : Bool). Good (with_node w n (turned (scanning s x k m lbn (block_at w.blocks lbn))))) (sym may.0.number_is)
       (subst (λ (j : ℕ). Good (with_node w n (turned (scanning s x j (wants_number x) lbn (block_at w.blocks lbn))))) (sym may.0.clusters_are)
-      (by_search may.0.takes may.1 (subst (λ (m : Bool). slice_get (places g (wanted_by x s.seen) m) (length (blocks_of s.search.looked)) ≡ Some lbn) may.0.number_is
-      (subst (λ (j : ℕ). slice_get (places g j b) (length (blocks_of s.search.looked)) ≡ Some lbn) may.0.clusters_are first))
-      (wanted (wanted_by x s.seen) (wants_number x) (is ∙ (λ i. need.Space (may.0.clusters_are i) (may.0.number_is i)))) now.search)) where
-        by_search : takes_space x ≡ true → HasNoSpace (space_of s.seen) → slice_get (places g (wanted_by x s.seen) (wants_number x)) (length (blocks_of s.search.looked)) ≡ Some lbn → has_space (wanted_by x s.seen) (wants_number x) no_space ≡ false
-            → Searches w.locks n x s.asked s.search s.seen → Good (with_node w n (turned (scanning s x (wanted_by x s.seen) (wants_number x) lbn (block_at w.blocks lbn))))
-        by_search takes space next some (NotYet h) = absurd (is_begun w.locks n x s.asked s.search s.seen h (λ k. let a : takes_lock x V ≡ true = now.own V k in let c : takes_lock x V ≡ false = ap not takes in let f : true ≡ false = sym a ∙ c in absurd (cc)) has)
-        by_search takes space next some (Looking h) = look_keeps h lbn next
-        by_search takes space next some (Taking h) = absurd (let le = within_end s.search.takes s.search.taken none in let lt = h.part in omega arith)
-        by_search takes space next some (Taken h) =
-            let all_taken = takes_all g (wanted_by x s.seen) (wants_number x) (blocks_of s.search.looked) s.search.takes h.found.enough in
-            let no_clusters : 0 ≡ wanted_by x s.seen = ap length (sym space.clusters ∙ h.clusters) ∙ all_taken.clusters in
-            let no_number : false ≡ wants_number x = ap is_some (sym space.number ∙ h.number) ∙ all_taken.number in
-            absurd (wants_nothing (wants_number x) (wanted_by x s.seen) no_clusters no_number some)
-        by_search takes space next some (Refused h) = absurd (let f : Some h.why ≡ None = sym h.short ∙ space.short in cc)
+      (look_keeps (is_looking k b is has (within_end s.search.takes s.search.taken none)) lbn (subst (λ (m : Bool). slice_get (places g (wanted_by x s.seen) m) (length (blocks_of s.search.looked)) ≡ Some lbn) may.0.number_is
+      (subst (λ (j : ℕ). slice_get (places g j b) (length (blocks_of s.search.looked)) ≡ Some lbn) may.0.clusters_are first))))
+
+  -- and it comes to one
+  pub looks_on : (k : ℕ) (b : Bool) → IsNext x s.seen (need.Space k b) → has_asked V s.asked ≡ true → length s.search.takes ≤ s.search.taken → (o : Outcome) → o ≡ answer g k b (blocks_of s.search.looked)
+      → (lbn : ℕ) × (o ≡ search.Look lbn)
+  looks_on k b is has over o e =
+      let may = may_need w good n s at x cmd free (need.Space k b) is in
+      let h = is_looking k b is has over in
+      let more : found g k b (blocks_of s.search.looked) ≡ More = (λ i. found g (may.0.clusters_are i) (may.0.number_is i) (blocks_of s.search.looked)) ∙ h.more in
+      (_, e ∙ ap (answered (slice_index_or (places g k b) (length (blocks_of s.search.looked)) 0)) more)

@@ -77,24 +77,29 @@ new_to_all t n x asked s seen stands name own new h = elim (begun_or_not t n x a
   ]
 ]
 
+first_or : (a b : Bool) → b ≡ true → (a || b) ≡ true
+first_or true b e = refl
+first_or false b e = e
+
+is_asked : (ls : List (LockName × Mode)) (name : LockName) → Has (names_of ls) name → has_asked name ls ≡ true
+is_asked [] name h = absurd h
+is_asked (l ∷ ls) name (inl e) = ap (λ b. b || has_asked name ls) (ap (λ (m : LockName). is_same m name) e ∙ is_same-refl name)
+is_asked (l ∷ ls) name (inr h) = first_or (is_same l.0 name) (has_asked name ls) (is_asked ls name h)
+
+among : (before after : List (LockName × Mode)) → Has (names_of (before ++ (V, PW) ∷ after)) V
+among [] after = inl refl
+among (k ∷ before) after = inr (among before after)
+
+-- a search that is begun has asked for the lock of the bitmaps
+pub claim_asks : (x : Cmd) (asked : List (LockName × Mode)) (s : Search) (seen : Seen) → HasClaimed x asked s seen → has_asked V asked ≡ true
+claim_asks x asked s seen c = is_asked asked V (subst (λ (ls : List (LockName × Mode)). Has (names_of ls) V) (sym c.claims) (among c.before c.after))
+
 -- the lock of the bitmaps is asked for where the search is begun, and there alone
 pub asks_once : (t : List Resource) (n : ℕ) (x : Cmd) (asked : List (LockName × Mode)) (s : Search) (seen : Seen) → Searches t n x asked s seen → has_asked V asked ≡ false → HasNotSearched asked s seen × (Has (names_of asked) V → ⊥)
 asks_once t n x asked s seen stands none = elim (begun_or_not t n x asked s seen stands) [
   | inl i ↦ (i, λ h. absurd (let f : true ≡ false = sym (is_asked asked V h) ∙ none in cc))
-  | inr c ↦ absurd (let f : true ≡ false = sym (is_asked asked V (subst (λ (ls : List (LockName × Mode)). Has (names_of ls) V) (sym c.claims) (among c.before c.after))) ∙ none in cc)
-] where
-  either : (a b : Bool) → b ≡ true → (a || b) ≡ true
-  either true b e = refl
-  either false b e = e
-
-  is_asked : (ls : List (LockName × Mode)) (name : LockName) → Has (names_of ls) name → has_asked name ls ≡ true
-  is_asked [] name h = absurd h
-  is_asked (l ∷ ls) name (inl e) = ap (λ b. b || has_asked name ls) (ap (λ (m : LockName). is_same m name) e ∙ is_same-refl name)
-  is_asked (l ∷ ls) name (inr h) = either (is_same l.0 name) (has_asked name ls) (is_asked ls name h)
-
-  among : (before after : List (LockName × Mode)) → Has (names_of (before ++ (V, PW) ∷ after)) V
-  among [] after = inl refl
-  among (k ∷ before) after = inr (among before after)
+  | inr c ↦ absurd (let f : true ≡ false = sym (claim_asks x asked s seen c) ∙ none in cc)
+]
 
 asked_is : (ls : List (LockName × Mode)) (name : LockName) → has_asked name ls ≡ true → Has (names_of ls) name
 asked_is [] name e = absurd (let f : false ≡ true = e in cc)
