@@ -64,7 +64,7 @@ use Rattle.core_state.proofs.Standing.{new_to_all, asks_once, claim_asks}
 use Rattle.core_state.proofs.Searching.{there_now, is_taking, scan_within, looks_on}
 use Rattle.core_state.proofs.Turning.{under_command, drive, seen_on, may_need, here, planned_at}
 use Rattle.core_step.specs.Giving.{MayGiveAll, MayEnd}
-use Rattle.core_step.specs.Ready.{IsReady}
+use Rattle.core_step.specs.Ready.{IsReady, IsNextTake}
 use Rattle.core_step.specs.declared.turns.Turn.TheVariants as turn
 use Rattle.core_step.specs.declared.turns.Kind.TheVariants as kind
 use Rattle.core_step.specs.Turns.{is_queued_in, told}
@@ -251,7 +251,7 @@ module _ (w : Plain) (good : Good w) (n : ℕ) (r : IsReady w n) where
   within lbn lt = subst (λ (k : ℕ). lbn < k) (sym (drive w good n s r.at r.cmd r.has r.free).over.count) lt
 
   pub look_within : (name : LockName) (lbn : ℕ) → IsNext r.cmd s.seen (need.Block name lbn) → lbn < length w.blocks
-  look_within name lbn is = within lbn (may_need w good n s r.at r.cmd r.has r.free (need.Block name lbn) is).1.within
+  look_within name lbn is = within lbn (may_need w good n s r.at r.cmd r.has r.free (need.Block name lbn) is).within
 
   pub fetch_within : (lbn : ℕ) → IsNext r.cmd s.seen (need.Bare lbn) → lbn < length w.blocks
   fetch_within lbn is = within lbn (may_need w good n s r.at r.cmd r.has r.free (need.Bare lbn) is).within
@@ -300,7 +300,7 @@ module _ (w : Plain) (good : Good w) (n : ℕ) (r : IsReady w n) where
       let now = here w good n s r.at r.cmd r.has r.free in
       let touched : Touches (bare (map planned (writes_of s.plan))) v.lbn = subst (λ (o : Option Plan). Touches (bare (map planned (writes_of o))) v.lbn) (sym plan) (next_in (map planned p.writes) s.done (planned v) (planned_at p.writes s.done v next)) in
       let mine = subst (λ (u : UnderWay). (l : ℕ) → Touches (bare u.plan) l → MayWrite n u.write (guard_of w.geometry good.running.drive.own l)) now (good.running.drive.plan_guarded n) in
-      within v.lbn (guard_within w.geometry good.running.drive.base good.running.drive.own good.running.cat good.running.drive.spelt n v.lbn _ (mine v.lbn touched))
+      subst (λ (k : ℕ). v.lbn < k) (sym good.running.drive.over.count) (guard_within w.geometry good.running.drive.base good.running.drive.own good.running.cat good.running.drive.spelt n v.lbn _ (mine v.lbn touched))
 
   -- its command can end
   pub may_end : length w.script.lines ≤ 4096 → (p : Plan) → s.plan ≡ Some p → MayEnd w.geometry n s w.locks
@@ -438,6 +438,38 @@ module _ {O : Type 0} (cmd_is : O → Cmd) (xs : List (Node O)) (w : Plain) (n :
 
   pub op_need : (next : Need) → IfSome d.op (λ op. need_of (cmd_is op) d.seen ≡ next) → IsNext r.cmd r.state.seen next
   op_need next e = subst (λ (y : NodeState). need_of r.cmd y.seen ≡ next) mine (need_told cmd_is d.op r.cmd d.seen next op_is e)
+
+  pub item_asked : (b : Bool) → has_asked V d.asked ≡ b → has_asked V r.state.asked ≡ b
+  item_asked b e = ap (λ (y : NodeState). has_asked V y.asked) (sym mine) ∙ e
+
+  pub item_answer : (k : ℕ) (b : Bool) (o : Outcome) → o ≡ answer d.seen.geometry k b (blocks_of d.looked) → o ≡ answer r.state.seen.geometry k b (blocks_of r.state.search.looked)
+  item_answer k b o e = e ∙ ap (λ (y : NodeState). answer y.seen.geometry k b (blocks_of y.search.looked)) mine
+
+  pub item_geometry : Good w → IsGeometry d.seen.geometry
+  item_geometry good = subst (λ (y : NodeState). IsGeometry y.seen.geometry) (sym mine) (has_geometry w good n r)
+
+  pub item_more : d.taken < length d.takes → (q : NodeState) → node_at w.nodes n ≡ Some q → q.search.taken < length q.search.takes
+  item_more lt q at = let f : Some (state_of cmd_is d) ≡ Some q = sym told_so ∙ at in let h : state_of cmd_is d ≡ q = cc in subst (λ (y : NodeState). y.search.taken < length y.search.takes) h lt
+
+  pub item_over : length d.takes ≤ d.taken → (q : NodeState) → node_at w.nodes n ≡ Some q → length q.search.takes ≤ q.search.taken
+  item_over le q at = let f : Some (state_of cmd_is d) ≡ Some q = sym told_so ∙ at in let h : state_of cmd_is d ≡ q = cc in subst (λ (y : NodeState). length y.search.takes ≤ y.search.taken) h le
+
+  pub item_last : (last : Bool) → d.taken < length d.takes → last ≡ (d.taken + 1 == length d.takes) → (q : NodeState) → node_at w.nodes n ≡ Some q → IsNextTake q last
+  item_last last lt e q at =
+      let f : Some (state_of cmd_is d) ≡ Some q = sym told_so ∙ at in
+      let h : state_of cmd_is d ≡ q = cc in
+      subst (λ (y : NodeState). IsNextTake y last) h (record { more = lt; is_last = e })
+
+  pub item_take : (ws : List PlanWrite) (v : PlanWrite) → ws ≡ d.takes → d.taken < length ws → v ≡ slice_index_or ws d.taken v → slice_get r.state.search.takes r.state.search.taken ≡ Some v
+  item_take ws v same lt e = subst (λ (y : NodeState). slice_get y.search.takes y.search.taken ≡ Some v) mine (ap (λ (vs : List PlanWrite). slice_get vs d.taken) (sym same) ∙ some_at ws d.taken v lt e)
+
+  pub item_need : (k : ℕ) (b : Bool) → IfSome d.op (λ op. need_of (cmd_is op) d.seen ≡ need.Space k b) → (q : NodeState) (y : Cmd) → node_at w.nodes n ≡ Some q → q.cmd ≡ Some y → IsNext y q.seen (need.Space k b)
+  item_need k b e q y at has =
+      let f : Some r.state ≡ Some q = sym r.at ∙ at in
+      let h : r.state ≡ q = cc in
+      let c : Some r.cmd ≡ Some y = sym r.has ∙ ap (λ (z : NodeState). z.cmd) h ∙ has in
+      let i : r.cmd ≡ y = cc in
+      subst (λ (z : Cmd). IsNext z q.seen (need.Space k b)) i (subst (λ (z : NodeState). IsNext r.cmd z.seen (need.Space k b)) h (op_need (need.Space k b) e))
 
   -- any node of the number is this one
   pub one_node : (q : NodeState) → node_at w.nodes n ≡ Some q → d.done ≡ q.done

@@ -1,6 +1,6 @@
 //! The search for space: its looks and its writes.
 
-ghost use Rattle.std.specs.Prelude.{◌≡◌, ◌<◌, ◌++◌, [], ◌∷◌, Some, IfOk, OnOk, OnErr, length, slice_get, slice_set};
+ghost use Rattle.std.specs.Prelude.{◌≡◌, ◌==◌, ◌<◌, ◌+◌, ◌++◌, [], ◌∷◌, Some, IfOk, OnOk, OnErr, length, slice_get, slice_set};
 ghost use Rattle.vol_words.specs.Faults.{HasCause};
 ghost use Rattle.blk_drive.specs.Images.{told_set};
 ghost use Rattle.vol_parts.specs.Parts.{IsGeometry};
@@ -31,6 +31,17 @@ pub(crate) fn has_asked(locks: &[(LockName, Mode)], name: LockName) -> bool
         }
     }
     false
+}
+
+/// The same clusters again.
+pub(crate) fn copied(alloc: Global, clusters: &Clusters) -> Result<Clusters, NoMemory>
+    ensures { IfOk result (λ copy. copy ≡ clusters.now) }
+{
+    let mut copy = Clusters::new(alloc);
+    for q in clusters.items() {
+        copy.push(*q)?;
+    }
+    Ok(copy)
 }
 
 // The blocks, with one more.

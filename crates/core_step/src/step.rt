@@ -17,7 +17,7 @@ ghost use Rattle.core_step.specs.Turns.{told};
 
 use crate::answers::{answer, put};
 use crate::events::{ask, claim, decide, leave, look, stand};
-use crate::searches::{grab, has_asked, scan};
+use crate::searches::{copied, grab, has_asked, scan};
 use crate::turns::{Kind, Turn, TurnFault};
 use blk_drive::ImageDev;
 use core_state::{Core, Node, World};
@@ -66,7 +66,7 @@ fn taking<I: ImageDev, O: Operation>(
     let block = w.block;
     let number = w.number;
     let last = at.taken + 1 == at.takes.items().len();
-    let clusters = w.clusters.copy(alloc)?;
+    let clusters = copied(alloc, &w.clusters)?;
     grab(core, node, lbn, &block, last, clusters, number)?;
     Ok(Turn::Moved(Kind::Wrote))
 }
@@ -95,10 +95,10 @@ fn searching<I: ImageDev, O: Operation>(
 {
     let at = &core.nodes[node as usize - 1];
     if !has_asked(at.asked.items(), LockName::V) {
-        return match claim(alloc, core, node)? {
-            Asked::Granted => Ok(Turn::Moved(Kind::Locked)),
-            Asked::Queued => Ok(Turn::Waiting),
-        };
+        match claim(alloc, core, node)? {
+            Asked::Granted => return Ok(Turn::Moved(Kind::Locked)),
+            Asked::Queued => return Ok(Turn::Waiting),
+        }
     }
     let next = search(
         alloc,
