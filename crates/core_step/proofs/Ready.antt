@@ -64,7 +64,7 @@ use Rattle.core_state.proofs.Standing.{new_to_all, asks_once, claim_asks}
 use Rattle.core_state.proofs.Searching.{there_now, is_taking, scan_within, looks_on}
 use Rattle.core_state.proofs.Turning.{under_command, drive, seen_on, may_need, here, planned_at}
 use Rattle.core_step.specs.Giving.{MayGiveAll, MayEnd}
-use Rattle.core_step.specs.Ready.{IsReady, IsNextTake}
+use Rattle.core_step.specs.Ready.{IsReady}
 use Rattle.core_step.specs.declared.turns.Turn.TheVariants as turn
 use Rattle.core_step.specs.declared.turns.Kind.TheVariants as kind
 use Rattle.core_step.specs.Turns.{is_queued_in, told}
@@ -448,17 +448,11 @@ module _ {O : Type 0} (cmd_is : O → Cmd) (xs : List (Node O)) (w : Plain) (n :
   pub item_geometry : Good w → IsGeometry d.seen.geometry
   item_geometry good = subst (λ (y : NodeState). IsGeometry y.seen.geometry) (sym mine) (has_geometry w good n r)
 
-  pub item_more : d.taken < length d.takes → (q : NodeState) → node_at w.nodes n ≡ Some q → q.search.taken < length q.search.takes
-  item_more lt q at = let f : Some (state_of cmd_is d) ≡ Some q = sym told_so ∙ at in let h : state_of cmd_is d ≡ q = cc in subst (λ (y : NodeState). y.search.taken < length y.search.takes) h lt
-
   pub item_over : length d.takes ≤ d.taken → (q : NodeState) → node_at w.nodes n ≡ Some q → length q.search.takes ≤ q.search.taken
   item_over le q at = let f : Some (state_of cmd_is d) ≡ Some q = sym told_so ∙ at in let h : state_of cmd_is d ≡ q = cc in subst (λ (y : NodeState). length y.search.takes ≤ y.search.taken) h le
 
-  pub item_last : (last : Bool) → d.taken < length d.takes → last ≡ (d.taken + 1 == length d.takes) → (q : NodeState) → node_at w.nodes n ≡ Some q → IsNextTake q last
-  item_last last lt e q at =
-      let f : Some (state_of cmd_is d) ≡ Some q = sym told_so ∙ at in
-      let h : state_of cmd_is d ≡ q = cc in
-      subst (λ (y : NodeState). IsNextTake y last) h (record { more = lt; is_last = e })
+  pub item_taken : (q : NodeState) → node_at w.nodes n ≡ Some q → d.taken ≡ q.search.taken
+  item_taken q at = let f : Some (state_of cmd_is d) ≡ Some q = sym told_so ∙ at in let h : state_of cmd_is d ≡ q = cc in ap (λ y. y.search.taken) h
 
   pub item_take : (ws : List PlanWrite) (v : PlanWrite) → ws ≡ d.takes → d.taken < length ws → v ≡ slice_index_or ws d.taken v → slice_get r.state.search.takes r.state.search.taken ≡ Some v
   item_take ws v same lt e = subst (λ (y : NodeState). slice_get y.search.takes y.search.taken ≡ Some v) mine (ap (λ (vs : List PlanWrite). slice_get vs d.taken) (sym same) ∙ some_at ws d.taken v lt e)

@@ -1,5 +1,5 @@
 -- A node that goes on with its command.
-use Rattle.std.specs.Prelude.{◌≡◌, ◌==◌, ◌≤◌, ◌<◌, ◌+◌, ℕ, Bool, false, Some, None, length}
+use Rattle.std.specs.Prelude.{◌≡◌, ◌≤◌, ℕ, Bool, false, Some, None, length}
 use Rattle.plain_cat.specs.declared.command.Cmd.{Cmd}
 use Rattle.plain_vol.specs.Own.{next_command}
 use Rattle.node_locks.specs.Held.{waits_at}
@@ -28,15 +28,6 @@ pub record Begins (w : Plain) (n : ℕ) (x : Cmd) : Type 0 where
 abbrev pub HasTakenAll : Plain → ℕ → Type 0
 HasTakenAll w n = (s : NodeState) → node_at w.nodes n ≡ Some s → length s.search.takes ≤ s.search.taken
 
--- or not all
-abbrev pub IsTakingOn : Plain → ℕ → Type 0
-IsTakingOn w n = (s : NodeState) → node_at w.nodes n ≡ Some s → s.search.taken < length s.search.takes
-
 -- its command needs so many clusters next, and a number or none
 abbrev pub NeedsNow : Plain → ℕ → ℕ → Bool → Type 0
 NeedsNow w n clusters number = (s : NodeState) (x : Cmd) → node_at w.nodes n ≡ Some s → s.cmd ≡ Some x → IsNext x s.seen (need.Space clusters number)
-
--- its search has a write to make, which is the last one or not
-pub record IsNextTake (s : NodeState) (last : Bool) : Type 0 where
-  pub more : s.search.taken < length s.search.takes
-  pub is_last : last ≡ (s.search.taken + 1 == length s.search.takes)

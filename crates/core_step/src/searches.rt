@@ -1,6 +1,6 @@
 //! The search for space: its looks and its writes.
 
-ghost use Rattle.std.specs.Prelude.{◌≡◌, ◌==◌, ◌<◌, ◌+◌, ◌++◌, [], ◌∷◌, Some, IfOk, OnOk, OnErr, length, slice_get, slice_set};
+ghost use Rattle.std.specs.Prelude.{◌≡◌, ◌<◌, ◌+◌, ◌++◌, [], ◌∷◌, Some, IfOk, OnOk, OnErr, length, slice_get, slice_set};
 ghost use Rattle.vol_words.specs.Faults.{HasCause};
 ghost use Rattle.blk_drive.specs.Images.{told_set};
 ghost use Rattle.vol_parts.specs.Parts.{IsGeometry};
@@ -8,7 +8,6 @@ ghost use Rattle.plain_cat.specs.declared.command.Cmd.{Cmd};
 ghost use Rattle.op_law.specs.declared.need.PlanWrite.{PlanWrite};
 ghost use Rattle.core_state.specs.Worlds.{NodeState, IsOfWorld, state_of, plain_of, node_at};
 ghost use Rattle.core_state.specs.Events.{Scan, Grab, has_asked, happen, turned, told_by, takes_by, grabbing, one_more, command_at};
-ghost use Rattle.core_step.specs.Ready.{IsNextTake};
 
 use crate::events::count;
 use crate::raises::is_same;
@@ -120,41 +119,40 @@ pub(crate) fn scan<I: ImageDev, O: Operation>(
     Ok(())
 }
 
-// A node has made one write more of its search, and with the last one the command is given what was taken.
+// A node has made so many writes of its search, one more than before, and with the last one the command is given what was taken.
 fn keep_grab<O: Operation>(
     node: &mut Node<O>,
-    last: bool,
+    taken: usize,
     clusters: Clusters,
     number: Option<u32>,
 )
-    requires more { node.old.taken < length node.old.takes }
-    requires last { last ≡ (node.old.taken + 1 == length node.old.takes) }
+    requires { taken ≡ node.old.taken + 1 }
     ensures { (v : PlanWrite) → v.clusters ≡ clusters → v.number ≡ number → state_of O.cmd_is node.new ≡ turned (grabbing (state_of O.cmd_is node.old) v) }
 {
-    if last {
+    if taken == node.takes.items().len() {
         node.seen.clusters = clusters;
         node.seen.number = number;
         node.seen.short = None;
     }
-    node.taken += 1;
+    node.taken = taken;
     node.writes = node.writes.saturating_add(1);
     count(node);
 }
 
-/// A node makes the next write of its search, which is the last one or not, of what it has taken then. An error says that the
-/// image failed: in memory no block has changed, and the node stands before the write.
+/// A node makes the next write of its search, of which it has made so many then, and has taken this with it. An error says that
+/// the image failed: in memory no block has changed, and the node stands before the write.
 pub(crate) fn grab<I: ImageDev, O: Operation>(
     core: &mut Core<I, O>,
     node: u8,
     lbn: u32,
     block: &Block,
-    last: bool,
+    taken: usize,
     clusters: Clusters,
     number: Option<u32>,
 ) -> Result<(), ImageFault>
     requires node { IsOfWorld (plain_of O.cmd_is core.old) node }
     requires within { lbn < length core.old.mirror.blocks }
-    requires more { (s : NodeState) → node_at (plain_of O.cmd_is core.old).nodes node ≡ Some s → IsNextTake s last }
+    requires more { (s : NodeState) → node_at (plain_of O.cmd_is core.old).nodes node ≡ Some s → taken ≡ s.search.taken + 1 }
     ensures world { OnOk result ((v : PlanWrite) → v.lbn ≡ lbn → v.block ≡ block.now → v.clusters ≡ clusters → v.number ≡ number → plain_of O.cmd_is core.new ≡ happen (plain_of O.cmd_is core.old) node (Grab v)) }
     ensures same { OnErr result (plain_of O.cmd_is core.new ≡ plain_of O.cmd_is core.old) }
     ensures cause { HasCause (I.faults core.old.mirror.image) (I.faults core.new.mirror.image) result }
@@ -163,6 +161,6 @@ pub(crate) fn grab<I: ImageDev, O: Operation>(
     ensures room { core.new.history.room ≡ core.old.history.room }
 {
     core.mirror.write(lbn, block)?;
-    keep_grab(&mut core.nodes[node as usize - 1], last, clusters, number);
+    keep_grab(&mut core.nodes[node as usize - 1], taken, clusters, number);
     Ok(())
 }

@@ -12,7 +12,7 @@ ghost use Rattle.core_state.specs.Worlds.{NodeState, IsOfWorld, state_of, plain_
 ghost use Rattle.core_state.specs.Goods.{Good, HasOnly, HasRoom};
 ghost use Rattle.core_state.specs.Images.{IsTold, told_as};
 ghost use Rattle.core_state.specs.Events.{is_write, happen, begun, next_event, command_event, plan_at, after_turn};
-ghost use Rattle.core_step.specs.Ready.{IsReady, Begins, HasTakenAll, IsTakingOn, NeedsNow};
+ghost use Rattle.core_step.specs.Ready.{IsReady, Begins, HasTakenAll, NeedsNow};
 ghost use Rattle.core_step.specs.Turns.{told};
 
 use crate::answers::{answer, put};
@@ -36,39 +36,6 @@ fn next_need<O: Operation>(alloc: Global, node: &Node<O>) -> Result<Need, NoMemo
 {
     let Some(op) = &node.op else { unreachable!() };
     op.next(alloc, &node.seen)
-}
-
-// A search that has decided on writes makes the next of them. What it takes with the last one is the command's.
-fn taking<I: ImageDev, O: Operation>(
-    alloc: Global,
-    core: &mut Core<I, O>,
-    node: u8,
-) -> Result<Turn, TurnFault>
-    requires good { Good (plain_of O.cmd_is core.old) }
-    requires node { IsOfWorld (plain_of O.cmd_is core.old) node }
-    requires ready { IsReady (plain_of O.cmd_is core.old) node }
-    requires plan { plan_at (plain_of O.cmd_is core.old) node ≡ None }
-    requires takes { IsTakingOn (plain_of O.cmd_is core.old) node }
-    requires room { HasRoom (plain_of O.cmd_is core.old) core.old.history.room }
-    ensures world { OnOk result (plain_of O.cmd_is core.new ≡ happen (plain_of O.cmd_is core.old) node (command_event (plain_of O.cmd_is core.old) node)) }
-    ensures answer { IfOk result (λ t. t ≡ told (plain_of O.cmd_is core.new) node (command_event (plain_of O.cmd_is core.old) node)) }
-    ensures same { OnErr result (plain_of O.cmd_is core.new ≡ plain_of O.cmd_is core.old) }
-    ensures later { I.faults core.old.mirror.image ≤ I.faults core.new.mirror.image }
-    ensures cause { result ≡ Err TurnFault.ImageFault → Rose (I.faults core.old.mirror.image) (I.faults core.new.mirror.image) }
-    ensures before { result ≡ Err TurnFault.ImageFault → is_write (command_event (plain_of O.cmd_is core.old) node) ≡ true }
-    ensures drive { IsTold (I.told core.old.mirror.image) core.old.mirror.blocks
-        → (I.told core.new.mirror.image ≡ told_as (I.told core.old.mirror.image) core.new.mirror.blocks) ⊎ (result ≡ Err TurnFault.ImageFault) }
-    ensures room { HasRoom (plain_of O.cmd_is core.new) core.new.history.room }
-{
-    let at = &core.nodes[node as usize - 1];
-    let w = &at.takes.items()[at.taken];
-    let lbn = w.lbn;
-    let block = w.block;
-    let number = w.number;
-    let last = at.taken + 1 == at.takes.items().len();
-    let clusters = copied(alloc, &w.clusters)?;
-    grab(core, node, lbn, &block, last, clusters, number)?;
-    Ok(Turn::Moved(Kind::Wrote))
 }
 
 // A command that needs space searches for it: it asks for the lock of the bitmaps, and then looks at one block after another.
@@ -189,7 +156,7 @@ fn planned<I: ImageDev, O: Operation>(
     Ok(Turn::Answered)
 }
 
-// A node goes on with its command.
+// A node goes on with its command: by its plan, by the next write of its search, or else by its next need.
 fn go_on<I: ImageDev, O: Operation>(
     alloc: Global,
     core: &mut Core<I, O>,
@@ -211,12 +178,19 @@ fn go_on<I: ImageDev, O: Operation>(
 {
     let at = &core.nodes[node as usize - 1];
     if at.plan.is_some() {
-        planned(alloc, core, node)
-    } else if at.taken < at.takes.items().len() {
-        taking(alloc, core, node)
-    } else {
-        unplanned(alloc, core, node)
+        return planned(alloc, core, node);
     }
+    if at.taken < at.takes.items().len() {
+        let w = &at.takes.items()[at.taken];
+        let lbn = w.lbn;
+        let block = w.block;
+        let number = w.number;
+        let taken = at.taken + 1;
+        let clusters = copied(alloc, &w.clusters)?;
+        grab(core, node, lbn, &block, taken, clusters, number)?;
+        return Ok(Turn::Moved(Kind::Wrote));
+    }
+    unplanned(alloc, core, node)
 }
 
 // A node begins a command.
