@@ -13,15 +13,18 @@ use Rattle.plain_cat.specs.declared.reply.Reply.{Reply}
 use Rattle.plain_cat.specs.declared.history.Entry.{Entry}
 use Rattle.plain_cat.specs.declared.history.Entry.TheVariants.{Done}
 use Rattle.plain_cat.specs.declared.cat.Cat.{Cat}
+use Rattle.plain_vol.specs.declared.outcome.Outcome.{Outcome}
+use Rattle.plain_vol.specs.Accounts.{Accounted}
 use Rattle.plain_vol.specs.Answers.{Answer}
 use Rattle.plain_vol.specs.Own.{NodePast, past, after_answer, after_entry}
+use Rattle.plain_vol.proofs.Keeps.{accounts_kept}
 use Rattle.node_past.specs.Laws.{is_of}
 use Rattle.node_past.proofs.Growing.{past_grows, past_of_others, own_grows, replays_grow}
 use Rattle.node_locks.specs.Held.{system_of, HoldsItsLocks, AreHeld, waits_at, held_locks, with_locks}
 use Rattle.node_locks.specs.Sequences.{raised_block}
 use Rattle.node_locks.proofs.Giving.{giving_holds}
 use Rattle.vol_owners.specs.Lists.{Has}
-use Rattle.vol_owners.specs.Owners.{nothing}
+use Rattle.vol_owners.specs.Owners.{Things, nothing}
 use Rattle.vol_owners.proofs.Listing.{same_or_not}
 use Rattle.vol_parts.specs.declared.geometry.Geometry.{Geometry}
 use Rattle.vol_under.specs.UnderWay.{PlannedWrite, UnderWay, outs_after, outs_at, together, resting, idle, changed}
@@ -29,22 +32,26 @@ use Rattle.vol_under.specs.Under.{IsUnder}
 use Rattle.vol_under.specs.Answering.{IsReply}
 use Rattle.vol_under.proofs.Nodes.{changed_here, changed_else}
 use Rattle.vol_under.proofs.Steps.{nodes_alike}
+use Rattle.op_law.specs.declared.need.Need.TheVariants as need
 use Rattle.op_law.specs.declared.need.Plan.{Plan}
 use Rattle.op_law.specs.declared.need.PlanWrite.{PlanWrite}
-use Rattle.op_law.specs.Knows.{knows}
-use Rattle.op_law.specs.Laws.{planned, under_way, IsRight}
+use Rattle.op_law.specs.Knows.{wants_number, knows}
+use Rattle.op_law.specs.Laws.{held_in, planned, under_way, IsRight}
 use Rattle.core_state.specs.Worlds.{NodeState, Plain, node_at, set_node, locks_in, locks_of}
 use Rattle.core_state.specs.Raises.{raise_of}
 use Rattle.core_state.specs.Goods.{writes_of, under_with, under_by, nodes_under, IsAtPlan, IsAt, IsNode, Good}
-use Rattle.core_state.specs.Events.{given_back, turned, answering}
-use Rattle.core_state.proofs.RunKinds.{run_knows, stays_closed}
+use Rattle.core_state.specs.Searches.{unwritten, stock_after, wanted_by, Searches, NotYet, Looking, Taking, Taken, Refused}
+use Rattle.core_state.specs.Events.{given_back, all_writes, turned, answering}
+use Rattle.core_state.proofs.RunKinds.{stays_closed}
+use Rattle.core_state.proofs.Numbers.{answer_stays}
 use Rattle.core_state.proofs.Nodes.{at_here, at_else}
-use Rattle.core_state.proofs.Driving.{wider, grants_keep}
+use Rattle.core_state.proofs.Driving.{wider, grants_keep, reply_grows}
 use Rattle.core_state.proofs.Holding.{held_grows}
 use Rattle.core_state.proofs.Running.{are_sole}
 use Rattle.core_state.proofs.Taking.{answers}
 use Rattle.core_state.proofs.Keeping.{altered, rebuilt, held_set}
-use Rattle.core_state.proofs.Turning.{is_right, under_command, here}
+use Rattle.core_state.proofs.Standing.{all_stock, no_stock}
+use Rattle.core_state.proofs.Turning.{is_right, under_command, here, known, writes_more}
 
 -- ---- all locks go back
 
@@ -104,16 +111,6 @@ taken_whole : (ws : List PlannedWrite) → take (length ws) ws ≡ ws
 taken_whole [] = refl
 taken_whole (w ∷ ws) = ap (λ vs. w ∷ vs) (taken_whole ws)
 
--- the law of a reply stays one after writes
-rereply : (g : Geometry) (n : ℕ) (u : UnderWay) (done : ℕ) (x : Cmd) (r : Reply) → IsReply g n u x r → IsReply g n (record u { done = done }) x r
-rereply g n u done x r law base own c stock j spelt known stands outs le =
-    let h = law base own c stock j spelt known stands outs le in
-    record {
-      leaves = record { new = h.leaves.new; cat = h.leaves.cat; stage = h.leaves.stage; spelt = h.leaves.spelt; moves = h.leaves.moves; outs = h.leaves.outs };
-      opens = h.opens;
-      answer = h.answer;
-    }
-
 -- an entry of node n is none of another
 not_of : (n m : ℕ) (x : Cmd) (r : Reply) → m ≢ n → is_of m (Done n x r) ≡ false
 not_of n m x r ne = grind (arith, nat_tests)
@@ -125,7 +122,7 @@ own_entry n p x r = grind (arith, nat_tests)
 
 -- the others' locks are theirs still, and some of them that waited may be granted
 module _ (g : Geometry) (d : Cat) (t after : List Resource) (nodes : List NodeState) (n : ℕ) (s r : NodeState) (drive : List Block) (at : node_at nodes n ≡ Some s) (rests : r.cmd ≡ None)
-    (grown : (m : ℕ) (q : NodeState) (k : LockName × Mode) → m ≢ n → node_at nodes m ≡ Some q → Has (held_locks t m q.seen.locks) k → Has (held_locks after m q.seen.locks) k) where
+    (grown : (m : ℕ) (q : NodeState) (k : LockName × Mode) → m ≢ n → node_at nodes m ≡ Some q → Has (held_locks t m q.asked) k → Has (held_locks after m q.asked) k) where
   abbrev new : ℕ → UnderWay
   new m = nodes_under after (set_node nodes n r) m
 
@@ -147,8 +144,8 @@ module _ (g : Geometry) (d : Cat) (t after : List Resource) (nodes : List NodeSt
   by_cmd : (m : ℕ) (q : NodeState) → m ≢ n → node_at nodes m ≡ Some q → (o : Option Cmd) → IsGrown (under_with t m q o) (under_with after m q o)
   by_cmd m q ne e None = record { read = λ name h. h; write = λ name h. h; else_same = refl }
   by_cmd m q ne e (Some x) = record {
-    read = λ name h. held_grows PR (held_locks t m q.seen.locks) (held_locks after m q.seen.locks) name (λ k h. grown m q k ne e h) h;
-    write = λ name h. held_grows PW (held_locks t m q.seen.locks) (held_locks after m q.seen.locks) name (λ k h. grown m q k ne e h) h;
+    read = λ name h. held_grows PR (held_locks t m q.asked) (held_locks after m q.asked) name (λ k h. grown m q k ne e h) h;
+    write = λ name h. held_grows PW (held_locks t m q.asked) (held_locks after m q.asked) name (λ k h. grown m q k ne e h) h;
     else_same = refl;
   }
 
@@ -175,13 +172,13 @@ module _ (g : Geometry) (d : Cat) (t after : List Resource) (nodes : List NodeSt
 
 -- ---- the answer
 
-module _ (w : Plain) (good : Good w) (n : ℕ) (s : NodeState) (at : node_at w.nodes n ≡ Some s) (x : Cmd) (cmd : s.cmd ≡ Some x) (free : waits_at w.locks n s.seen.locks ≡ false)
+module _ (w : Plain) (good : Good w) (n : ℕ) (s : NodeState) (at : node_at w.nodes n ≡ Some s) (x : Cmd) (cmd : s.cmd ≡ Some x) (free : waits_at w.locks n s.asked ≡ false)
     (p : Plan) (plan : s.plan ≡ Some p) (last : slice_get p.writes s.done ≡ None) where
   abbrev entry : Entry
   entry = Done n x p.reply
 
   abbrev after : List Resource
-  after = given_back w.geometry n (writes_of s.plan) s.seen.locks w.locks
+  after = given_back w.geometry n (all_writes s) s.asked w.locks
 
   abbrev rested : NodeState
   rested = turned (answering s x p.reply)
@@ -192,8 +189,8 @@ module _ (w : Plain) (good : Good w) (n : ℕ) (s : NodeState) (at : node_at w.n
   now : IsAt w n s x
   now = under_command w good n s at x cmd free
 
-  made : IsAtPlan x (waits_at w.locks n s.seen.locks) s.seen s.done (Some p)
-  made = subst (IsAtPlan x (waits_at w.locks n s.seen.locks) s.seen s.done) plan now.plan
+  made : IsAtPlan x (waits_at w.locks n s.asked) s.seen s.done (Some p)
+  made = subst (IsAtPlan x (waits_at w.locks n s.asked) s.seen s.done) plan now.plan
 
   right : IsRight n x w.geometry (under_way x s.seen p.writes (knows n x s.seen)) p.reply
   right = subst (λ (g : Geometry). IsRight n x g (under_way x s.seen p.writes (knows n x s.seen)) p.reply) mine.geometry
@@ -202,27 +199,41 @@ module _ (w : Plain) (good : Good w) (n : ℕ) (s : NodeState) (at : node_at w.n
   whole : s.done ≡ length (map planned p.writes)
   whole = let le = at_end p.writes s.done last in let ge = made.2 in let e = length_planned p.writes in omega arith
 
+  abbrev left_seen : List (ℕ × Block)
+  left_seen = unwritten (take s.search.taken s.search.takes) s.search.looked
+
+  abbrev stock : Things
+  stock = stock_after s.search.takes s.search.taken
+
   abbrev me : UnderWay
-  me = record (under_way x s.seen p.writes (knows n x s.seen)) { done = s.done }
+  me = record (under_way x s.seen p.writes (knows n x s.seen)) { read = held_in PR s.asked; write = held_in PW s.asked; seen = left_seen ++ s.seen.blocks; done = s.done; stock = stock }
 
   here_now : nodes_under w.locks w.nodes n ≡ me
-  here_now = here w good n s at x cmd free ∙ ap (λ o. record (under_way x s.seen (writes_of o) (knows n x s.seen)) { done = s.done }) plan
+  here_now = here w good n s at x cmd free ∙ ap (λ o. record me { plan = map planned (writes_of o) }) plan
+
+  -- a command that has decided is given all that its search has taken
+  no_stock_left : Searches w.locks n x s.asked s.search s.seen → stock ≡ nothing
+  no_stock_left (NotYet h) = no_stock s.search.takes s.search.taken h.takes h.taken
+  no_stock_left (Looking h) = absurd (let f : need.Ready p ≡ need.Space (wanted_by x s.seen) (wants_number x) = sym made.0 ∙ h.needs.next in cc)
+  no_stock_left (Taking h) = absurd (let f : need.Ready p ≡ need.Space (wanted_by x s.seen) (wants_number x) = sym made.0 ∙ h.needs.next in cc)
+  no_stock_left (Taken h) = all_stock s.search.takes s.search.taken h.all
+  no_stock_left (Refused h) = no_stock s.search.takes s.search.taken h.takes h.taken
 
   left : outs_at s.done me ≡ nothing
   left = ap (λ k. outs_after me.took (take k me.plan)) whole ∙ ap (outs_after me.took) (taken_whole (map planned p.writes)) ∙ right.left
 
   idle_now : idle me ≡ resting nothing
-  idle_now = ap (λ o. resting (together o nothing)) left
+  idle_now = ap (λ o. resting (together o stock)) left ∙ ap (λ o. resting (together nothing o)) (no_stock_left now.search)
 
   answered : (d : Cat) × Answer good.running.cat n x p.reply d × IsUnder w.geometry d (changed (nodes_under w.locks w.nodes) n (resting nothing)) w.blocks
   answered =
       let a = answers w.geometry good.running.cat (nodes_under w.locks w.nodes) w.blocks n me here_now good.running.drive (are_sole w.locks w.nodes good.locked.0 good.locked.1) x p.reply
-      (run_knows x now.runs n s.seen good.running.cat mine.space) whole
-      (rereply w.geometry n (under_way x s.seen p.writes (knows n x s.seen)) s.done x p.reply right.reply) in
+      (known w good n s at x cmd free) whole
+      (reply_grows w.geometry n (under_way x s.seen p.writes (knows n x s.seen)) x p.reply (held_in PR s.asked) (held_in PW s.asked) left_seen s.done stock (writes_more w good n s at x cmd free) right.reply) in
       (a.0, a.1, subst (λ (v : UnderWay). IsUnder w.geometry a.0 (changed (nodes_under w.locks w.nodes) n v) w.blocks) idle_now a.2)
 
   given : AreGivenBack n (locks_of w.nodes) w.locks after
-  given = give_all w.geometry n (writes_of s.plan) s.seen.locks (locks_of w.nodes) w.locks good.locked.0 good.locked.1
+  given = give_all w.geometry n (all_writes s) s.asked (locks_of w.nodes) w.locks good.locked.0 good.locked.1
       (subst (λ (ls : List (LockName × Mode)). waits_at w.locks n ls ≡ false) (sym (ap locks_in at)) free) (ap locks_in at)
 
   alive : (past n w.history).dead ≡ false
@@ -240,19 +251,22 @@ module _ (w : Plain) (good : Good w) (n : ℕ) (s : NodeState) (at : node_at w.n
         drive = under_granted w.geometry answered.0 w.locks after w.nodes n s rested w.blocks at refl
             (λ m q k ne e h. subst (λ (ls : List (LockName × Mode)). Has (held_locks after m ls) k) (ap locks_in e)
             (given.others_hold m k ne (subst (λ (ls : List (LockName × Mode)). Has (held_locks w.locks m ls) k) (sym (ap locks_in e)) h))) answered.2;
+        accounted = subst (λ (o : Outcome). Accounted o.after) answered.1.2 (accounts_kept good.running.cat n x answered.1.0 good.running.accounted answered.1.1);
+        system = λ m le. answer_stays good.running.cat answered.0 n x p.reply now.runs answered.1 m (good.running.system m le);
       })
       (given.table, held_set after w.nodes n s rested at given.held)
       (own_grows w.script w.history entry good.own (alive, now.next))
       (λ m ne. past_of_others m w.history entry (not_of n m x p.reply ne))
       (λ m q ne e waits. subst (λ (ls : List (LockName × Mode)). waits_at after m ls ≡ false) (ap locks_in e)
       (given.others_wait m ne (subst (λ (ls : List (LockName × Mode)). waits_at w.locks m ls ≡ false) (sym (ap locks_in e)) waits)))
+      (λ m q ne e k h. subst (λ (ls : List (LockName × Mode)). Has (held_locks after m ls) k) (ap locks_in e)
+      (given.others_hold m k ne (subst (λ (ls : List (LockName × Mode)). Has (held_locks w.locks m ls) k) (sym (ap locks_in e)) h)))
       (record {
         past = sym grows;
         alive = mine.alive;
         closed = stays_closed x now.runs s.past.channels p.reply ∙ mine.closed;
         geometry = mine.geometry;
         channel = refl;
-        space = record { clusters = refl; number = refl; short = refl };
-        command = record { locks = refl; blocks = refl; plan = refl; done = refl };
+        command = record { locks = refl; blocks = refl; space = record { clusters = refl; number = refl; short = refl }; asked = refl; search = refl; plan = refl; done = refl };
         over = λ o. absurd (let f : s.cmd ≡ None = (mine.over o).0 in let g : Some x ≡ None = sym cmd ∙ f in cc);
       })

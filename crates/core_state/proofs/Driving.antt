@@ -1,47 +1,69 @@
--- The drive under way as a node looks at a block, and as locks are granted.
-use Rattle.std.proofs.Common.{◌≡◌, ◌≤◌, ℕ, List, [], ◌∷◌, ◌++◌, Some, length, slice_get, refl, sym, subst, ◌∙◌, inl, inr}
+-- The drive under way as a node without a plan changes, and as locks are granted.
+use Rattle.std.proofs.Common.{◌≡◌, ◌≤◌, ℕ, zero, suc, List, [], ◌∷◌, ◌++◌, Some, length, take, slice_get, refl, sym, ap, subst, ◌∙◌, inl, inr, arith}
 use Rattle.vol_words.specs.Fields.{Block}
 use Rattle.lock_db.specs.declared.name.LockName.{LockName}
+use Rattle.plain_cat.specs.declared.command.Cmd.{Cmd}
+use Rattle.plain_cat.specs.declared.reply.Reply.{Reply}
 use Rattle.plain_cat.specs.declared.cat.Cat.{Cat}
 use Rattle.vol_owners.specs.Lists.{Has, Touches, StandsIn}
-use Rattle.vol_owners.specs.Owners.{Outs}
-use Rattle.vol_owners.proofs.Writing.{touches_joined, stands_joined}
-use Rattle.vol_parts.specs.declared.geometry.Geometry.{Geometry}
-use Rattle.vol_under.specs.Guards.{guard_of, MayWrite, MayLook}
-use Rattle.vol_under.specs.UnderWay.{bare, UnderWay, writes_to, changed, AreSole}
-use Rattle.vol_under.specs.Under.{IsLawful, IsUnder}
-use Rattle.vol_under.specs.Guards.{IsCommandMove}
+use Rattle.vol_owners.specs.Owners.{Things, Outs}
+use Rattle.vol_owners.proofs.Writing.{stands_joined}
 use Rattle.vol_owners.proofs.Moving.{moves_grow}
-use Rattle.vol_under.proofs.Steps.{idle_lawful}
-use Rattle.vol_under.proofs.Guarding.{wider_command, wider_write, wider_look, unlooked}
+use Rattle.vol_parts.specs.declared.geometry.Geometry.{Geometry}
+use Rattle.vol_under.specs.Guards.{guard_of, MayWrite, MayLook, IsCommandMove}
+use Rattle.vol_under.specs.UnderWay.{PlannedWrite, bare, UnderWay, writes_to, changed, AreSole}
+use Rattle.vol_under.specs.Under.{IsLawful, IsUnder}
+use Rattle.vol_under.specs.Answering.{IsReply}
+use Rattle.vol_under.proofs.Steps.{idle_lawful, held_stands}
+use Rattle.vol_under.proofs.Guarding.{wider_command, wider_write, wider_look}
 use Rattle.vol_under.proofs.Lying.{over_same}
 use Rattle.vol_under.proofs.Nodes.{each, done_alike, done_in, no_writes}
 
--- a look at a block, behind what was seen before
-pub look_behind : (g : Geometry) (c : Cat) (nodes : ℕ → UnderWay) (drive : List Block) (n l : ℕ) (b : Block) → AreSole nodes → (u : IsUnder g c nodes drive) → (nodes n).plan ≡ [] → slice_get drive l ≡ Some b
-    → MayLook (nodes n).read (guard_of g u.own l) → IsUnder g c (changed nodes n (record (nodes n) { seen = (nodes n).seen ++ (l, b) ∷ [] })) drive
-look_behind g c nodes drive n l b sole u no_plan at here =
-    let more : UnderWay = record (nodes n) { seen = (nodes n).seen ++ (l, b) ∷ [] } in
+none_done : (u : UnderWay) → u.plan ≡ [] → writes_to u.done u ≡ []
+none_done u e = ap (λ (ws : List PlannedWrite). bare (take u.done ws)) e ∙ take_none u.done where
+  take_none : (k : ℕ) → bare (take k (let ws : List PlannedWrite = [] in ws)) ≡ []
+  take_none zero = refl
+  take_none (suc k) = refl
+
+-- A node without a plan may become any other one without a plan that has as much outside, and that has seen blocks that stand as
+-- they are committed and that its locks guard.
+pub quiet_keeps : (g : Geometry) (c : Cat) (nodes : ℕ → UnderWay) (drive : List Block) (n : ℕ) (v : UnderWay) → (u : IsUnder g c nodes drive) → (nodes n).plan ≡ [] → v.plan ≡ [] → v.done ≡ 0
+    → Outs n u.own v.took v.stock → StandsIn u.base v.seen → ((l : ℕ) → Touches v.seen l → MayLook v.read (guard_of g u.own l)) → IsUnder g c (changed nodes n v) drive
+quiet_keeps g c nodes drive n v u no_plan none done outs stands guarded = record {
+  base = u.base;
+  own = u.own;
+  spelt = u.spelt;
+  over = over_same (λ m. writes_to (nodes m).done (nodes m)) (λ m. writes_to (changed nodes n v m).done (changed nodes n v m)) u.base drive u.over (done_alike nodes n v (none_done v none ∙ sym (none_done (nodes n) no_plan)));
+  within = each (λ m z. z.done ≤ length z.plan) nodes n v (subst (λ (k : ℕ). k ≤ length v.plan) (sym done) (omega arith)) (λ m ne. u.within m);
+  stands = each (λ m z. StandsIn u.base z.seen) nodes n v stands (λ m ne. u.stands m);
+  outs = each (λ m z. Outs m u.own z.took z.stock) nodes n v outs (λ m ne. u.outs m);
+  lawful = each (λ m z. IsLawful g m z) nodes n v (idle_lawful g n v none) (λ m ne. u.lawful m);
+  plan_guarded = each (λ m z. (k : ℕ) → Touches (bare z.plan) k → MayWrite m z.write (guard_of g u.own k)) nodes n v (λ k t. absurd (no_writes v k none t)) (λ m ne. u.plan_guarded m);
+  seen_guarded = each (λ m z. (k : ℕ) → Touches z.seen k → MayLook z.read (guard_of g u.own k)) nodes n v guarded (λ m ne. u.seen_guarded m);
+}
+
+-- a block of a node without a plan, at which it may look, is that which is committed
+pub looked_stands : (g : Geometry) (c : Cat) (nodes : ℕ → UnderWay) (drive : List Block) (n l : ℕ) → AreSole nodes → (u : IsUnder g c nodes drive) → (nodes n).plan ≡ [] → MayLook (nodes n).read (guard_of g u.own l)
+    → slice_get drive l ≡ slice_get u.base l
+looked_stands g c nodes drive n l sole u no_plan may = held_stands g c nodes drive n l sole u (λ t. no_writes (nodes n) l no_plan (done_in (nodes n) l t)) (inr may)
+
+-- a law stays one with more locks held and more blocks seen
+pub law_grows : (g : Geometry) (n : ℕ) (u : UnderWay) (read write : List LockName) (more : List (ℕ × Block)) (done : ℕ) (stock : Things) → ((x : LockName) → Has u.write x → Has write x) → IsLawful g n u
+    → IsLawful g n (record u { read = read; write = write; seen = more ++ u.seen; done = done; stock = stock })
+law_grows g n u read write more done stock wide law base own c out k spelt knows stands outs le =
+    let h = law base own c out k spelt knows ((stands_joined base more u.seen).0 stands).1 outs le in
+    record { new = h.new; cat = h.cat; stage = h.stage; spelt = h.spelt; moves = moves_grow (IsCommandMove n u.write) (IsCommandMove n write) (wider_command n u.write write wide) own h.new h.moves; outs = h.outs }
+
+-- and so does the law of a reply
+pub reply_grows : (g : Geometry) (n : ℕ) (u : UnderWay) (x : Cmd) (r : Reply) (read write : List LockName) (more : List (ℕ × Block)) (done : ℕ) (stock : Things) → ((y : LockName) → Has u.write y → Has write y) → IsReply g n u x r
+    → IsReply g n (record u { read = read; write = write; seen = more ++ u.seen; done = done; stock = stock }) x r
+reply_grows g n u x r read write more done stock wide law base own c out k spelt knows stands outs le =
+    let h = law base own c out k spelt knows ((stands_joined base more u.seen).0 stands).1 outs le in
     record {
-      base = u.base;
-      own = u.own;
-      spelt = u.spelt;
-      over = over_same (λ m. writes_to (nodes m).done (nodes m)) (λ m. writes_to (changed nodes n more m).done (changed nodes n more m)) u.base drive u.over (done_alike nodes n more refl);
-      within = each (λ m v. v.done ≤ length v.plan) nodes n more (u.within n) (λ m ne. u.within m);
-      stands = each (λ m v. StandsIn u.base v.seen) nodes n more ((stands_joined u.base (nodes n).seen ((l, b) ∷ [])).1 (u.stands n, (sym (u.over.elsewhere l free) ∙ at, tt))) (λ m ne. u.stands m);
-      outs = each (λ m v. Outs m u.own v.took v.stock) nodes n more (u.outs n) (λ m ne. u.outs m);
-      lawful = each (λ m v. IsLawful g m v) nodes n more (idle_lawful g n more no_plan) (λ m ne. u.lawful m);
-      plan_guarded = each (λ m v. (k : ℕ) → Touches (bare v.plan) k → MayWrite m v.write (guard_of g u.own k)) nodes n more (u.plan_guarded n) (λ m ne. u.plan_guarded m);
-      seen_guarded = each (λ m v. (k : ℕ) → Touches v.seen k → MayLook v.read (guard_of g u.own k)) nodes n more
-          (λ k t. elim ((touches_joined (nodes n).seen ((l, b) ∷ []) k).0 t) [
-            | inl s ↦ u.seen_guarded n k s
-            | inr s ↦ elim s [ inl e ↦ subst (λ (j : ℕ). MayLook (nodes n).read (guard_of g u.own j)) e here | inr f ↦ absurd f ]
-          ]) (λ m ne. u.seen_guarded m);
-    } where
-      free : (m : ℕ) → Touches (writes_to (nodes m).done (nodes m)) l → ⊥
-      free m t =
-          let e : m ≡ n = unlooked nodes sole m n (guard_of g u.own l) (u.plan_guarded m l (done_in (nodes m) l t)) here in
-          no_writes (nodes n) l no_plan (subst (λ (k : ℕ). Touches (bare (nodes k).plan) l) e (done_in (nodes m) l t))
+      leaves = record { new = h.leaves.new; cat = h.leaves.cat; stage = h.leaves.stage; spelt = h.leaves.spelt; moves = moves_grow (IsCommandMove n u.write) (IsCommandMove n write) (wider_command n u.write write wide) own h.leaves.new h.leaves.moves; outs = h.leaves.outs };
+      opens = h.opens;
+      answer = h.answer;
+    }
 
 -- a law stays the node's with more locks
 lawful_wider : (g : Geometry) (n : ℕ) (u : UnderWay) (read write : List LockName) → ((x : LockName) → Has u.write x → Has write x) → IsLawful g n u → IsLawful g n (record u { read = read; write = write })

@@ -3,10 +3,15 @@ pub mod Driving
 pub mod Holding
 pub mod Running
 pub mod Taking
+pub mod Seeking
 pub mod Keeping
 pub mod RunKinds
+pub mod Numbers
 pub mod Beginning
+pub mod Standing
 pub mod Turning
+pub mod Searching
 pub mod Answering
 pub mod Turns
+pub mod Accepting
 pub mod MountedWorlds

@@ -13,6 +13,7 @@ use Rattle.plain_cat.specs.declared.mode.Mode.{Mode}
 use Rattle.plain_cat.specs.declared.script.Line.{Line}
 use Rattle.plain_cat.specs.declared.script.Script.{Script}
 use Rattle.plain_cat.specs.declared.cat.Cat.{Cat}
+use Rattle.plain_vol.specs.Accounts.{Accounted}
 use Rattle.plain_vol.specs.Own.{newborn}
 use Rattle.node_past.proofs.Strangers.{strangers_have_nothing}
 use Rattle.node_locks.specs.Held.{HoldsItsLocks}
@@ -27,7 +28,7 @@ use Rattle.vol_under.specs.UnderWay.{resting}
 use Rattle.vol_under.specs.Under.{IsUnder}
 use Rattle.vol_under.proofs.Steps.{mount_stands, nodes_alike}
 use Rattle.core_state.specs.Worlds.{NodeState, Plain, node_at, locks_in, locks_of}
-use Rattle.core_state.specs.Goods.{IsRun, HasOnly, under_by, nodes_under, IsNode, Good, decided, IsWorld}
+use Rattle.core_state.specs.Goods.{HasSystemNumbers, IsRun, HasOnly, under_by, nodes_under, IsNode, Good, decided, IsWorld}
 use Rattle.core_state.specs.Mounting.{at_rest, mounted}
 use Rattle.plain_cat.specs.declared.command.Cmd.{Cmd}
 
@@ -76,7 +77,7 @@ no_line (l ∷ ls) k x n all none = by_first (within_at k x n l.node none (first
 
 -- ---- the world
 
-module _ (bs : List Block) (s : Script) (c : Cat) (g : Geometry) (form : InForm s) (runs : HasOnly IsRun s) (drive : IsUnder g c (λ n. resting nothing) bs) where
+module _ (bs : List Block) (s : Script) (c : Cat) (g : Geometry) (form : InForm s) (runs : HasOnly IsRun s) (drive : IsUnder g c (λ n. resting nothing) bs) (accounted : Accounted c) (system : HasSystemNumbers c) where
   abbrev w : Plain
   w = mounted bs s c g
 
@@ -93,7 +94,7 @@ module _ (bs : List Block) (s : Script) (c : Cat) (g : Geometry) (form : InForm 
   no_locks n = by_node (node_at w.nodes n) refl where
     by_node : (o : Option NodeState) → node_at w.nodes n ≡ o → locks_in o ≡ []
     by_node None e = refl
-    by_node (Some r) e = ap (λ (y : NodeState). y.seen.locks) (at_rest_at s.nodes x n r e)
+    by_node (Some r) e = ap (λ (y : NodeState). y.asked) (at_rest_at s.nodes x n r e)
 
   nothing_held : (n : ℕ) → HoldsItsLocks [] n []
   nothing_held n = record { once = tt; in_order = tt; no_other = λ name h. refl }
@@ -106,15 +107,14 @@ module _ (bs : List Block) (s : Script) (c : Cat) (g : Geometry) (form : InForm 
     closed = refl;
     geometry = refl;
     channel = refl;
-    space = record { clusters = refl; number = refl; short = refl };
-    command = record { locks = refl; blocks = refl; plan = refl; done = refl };
+    command = record { locks = refl; blocks = refl; space = record { clusters = refl; number = refl; short = refl }; asked = refl; search = refl; plan = refl; done = refl };
     over = λ o. absurd (let f : false ≡ true = o in cc);
   }
 
   pub good_mounted : Good w
   good_mounted = record {
     counted = length_rest s.nodes x;
-    running = record { cat = c; replayed = refl; drive = nodes_alike g c (λ n. resting nothing) (nodes_under [] w.nodes) bs under drive };
+    running = record { cat = c; replayed = refl; drive = nodes_alike g c (λ n. resting nothing) (nodes_under [] w.nodes) bs under drive; accounted = accounted; system = system };
     locked = (record { ordered = refl; used = refl; settled_all = tt }, λ n. subst (λ (ls : List (LockName × Mode)). HoldsItsLocks [] n ls) (sym (no_locks n)) (nothing_held n));
     nodes = λ n r e. subst (λ (y : NodeState). IsNode w n y) (sym (at_rest_at s.nodes x n r e)) (node n);
     own = tt;

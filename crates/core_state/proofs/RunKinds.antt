@@ -1,13 +1,18 @@
 -- The commands that a world runs so far.
-use Rattle.std.proofs.Common.{◌≡◌, ◌&&◌, ℕ, Bool, true, false, List, None, refl, ap, ◌∙◌}
+use Rattle.std.proofs.Common.{◌≡◌, ◌≤◌, ◌&&◌, ℕ, Bool, true, false, cond, List, None, refl, ap, ◌∙◌, arith}
+use Rattle.std.specs.Prelude.{All, nat_le, if◌then◌else◌}
+use Rattle.std.specs.List.{list_all}
+use Rattle.std.proofs.lemmas.Bool.Decides.{nat_tests}
+use Rattle.std.proofs.lemmas.List.Sums.{list_all-from_AllPass}
 use Rattle.plain_cat.specs.declared.command.Cmd.{Cmd}
 use Rattle.plain_cat.specs.declared.command.Cmd.TheVariants as cmd
 use Rattle.plain_cat.specs.declared.reply.Reply.{Reply}
-use Rattle.plain_vol.specs.Own.{switched, channels_after, is_opened, is_closed}
 use Rattle.plain_cat.specs.declared.cat.Cat.{Cat}
+use Rattle.plain_cat.specs.declared.cat.QuotaRow.{QuotaRow}
+use Rattle.plain_vol.specs.Accounts.{IsCharged, Accounted}
+use Rattle.plain_vol.specs.Own.{switched, channels_after, is_opened, is_closed}
 use Rattle.op_law.specs.declared.seen.Seen.{Seen}
-use Rattle.op_law.specs.Knows.{may_ask, takes_space, is_new_number, is_short, knows}
-use Rattle.op_law.specs.Events.{space_of, HasNoSpace}
+use Rattle.op_law.specs.Knows.{channel_of, has_channel, may_ask, is_new_number, is_short, changes_usage, is_charged, is_held_open, knows}
 use Rattle.core_state.specs.Goods.{is_run}
 
 -- such a command asks for no lock of opens
@@ -29,30 +34,60 @@ run_asks (cmd.WriteBlock chan vbn text) runs e = absurd (let f : false ≡ true 
 run_asks (cmd.QuotaSet owner quota over) runs e = absurd (let f : false ≡ true = e in cc)
 run_asks (cmd.QuotaShow owner) runs e = absurd (let f : false ≡ true = e in cc)
 
-told : (a b : Bool) → a ≡ true → b ≡ true → (a && (b && true)) ≡ true
-told a b e f = ap (λ t. t && (b && true)) e ∙ ap (λ t. t && true) f
+both : (a b : Bool) → a ≡ true → b ≡ true → (a && b) ≡ true
+both a b e f = ap (λ t. t && b) e ∙ f
 
--- all that it knows of a catalogue besides the blocks is true
-known_by : (x : Cmd) → is_run x ≡ true → (n : ℕ) (seen : Seen) (c : Cat) → is_new_number seen.number ≡ true → is_short c x seen.short ≡ true → knows n x seen c ≡ true
+where_so : (t b : Bool) → b ≡ true → (if t then b else true) ≡ true
+where_so true b e = e
+where_so false b e = refl
+
+at_most : (a b : ℕ) → a ≤ b → nat_le a b ≡ true
+at_most a b e = grind (arith, nat_tests)
+
+all_charged : (c : Cat) (rows : List QuotaRow) → All (IsCharged c) rows → list_all (is_charged c) rows ≡ true
+all_charged c rows all = list_all-from_AllPass (is_charged c) rows (λ k row at. both _ _ (at_most _ _ (all k row at).0) (at_most _ _ (all k row at).1))
+
+-- no channel is named
+names_none : (x : Cmd) → is_run x ≡ true → channel_of x ≡ None
 unfolding is_run
-known_by (cmd.Lookup reg dir name ver) runs n seen c new e = told _ _ new e
-known_by (cmd.List dir) runs n seen c new e = told _ _ new e
-known_by (cmd.Stat file) runs n seen c new e = told _ _ new e
-known_by (cmd.Create reg dir name ver blocks owner) runs n seen c new e = absurd (let f : false ≡ true = runs in cc)
-known_by (cmd.MkDir reg dir name owner) runs n seen c new e = absurd (let f : false ≡ true = runs in cc)
-known_by (cmd.Extend file blocks) runs n seen c new e = absurd (let f : false ≡ true = runs in cc)
-known_by (cmd.Trunc file blocks) runs n seen c new e = absurd (let f : false ≡ true = runs in cc)
-known_by (cmd.Delete dir name ver) runs n seen c new e = absurd (let f : false ≡ true = runs in cc)
-known_by (cmd.Rename dir name ver to to_ver) runs n seen c new e = told _ _ new e
-known_by (cmd.OpenFile chan file mode) runs n seen c new e = absurd (let f : false ≡ true = runs in cc)
-known_by (cmd.CloseFile chan) runs n seen c new e = absurd (let f : false ≡ true = runs in cc)
-known_by (cmd.ReadBlock chan vbn) runs n seen c new e = absurd (let f : false ≡ true = runs in cc)
-known_by (cmd.WriteBlock chan vbn text) runs n seen c new e = absurd (let f : false ≡ true = runs in cc)
-known_by (cmd.QuotaSet owner quota over) runs n seen c new e = told _ _ new e
-known_by (cmd.QuotaShow owner) runs n seen c new e = told _ _ new e
+names_none (cmd.Lookup reg dir name ver) runs = refl
+names_none (cmd.List dir) runs = refl
+names_none (cmd.Stat file) runs = refl
+names_none (cmd.Create reg dir name ver blocks owner) runs = refl
+names_none (cmd.MkDir reg dir name owner) runs = refl
+names_none (cmd.Extend file blocks) runs = refl
+names_none (cmd.Trunc file blocks) runs = refl
+names_none (cmd.Delete dir name ver) runs = refl
+names_none (cmd.Rename dir name ver to to_ver) runs = refl
+names_none (cmd.OpenFile chan file mode) runs = absurd (let f : false ≡ true = runs in cc)
+names_none (cmd.CloseFile chan) runs = absurd (let f : false ≡ true = runs in cc)
+names_none (cmd.ReadBlock chan vbn) runs = absurd (let f : false ≡ true = runs in cc)
+names_none (cmd.WriteBlock chan vbn text) runs = absurd (let f : false ≡ true = runs in cc)
+names_none (cmd.QuotaSet owner quota over) runs = refl
+names_none (cmd.QuotaShow owner) runs = refl
 
-pub run_knows : (x : Cmd) → is_run x ≡ true → (n : ℕ) (seen : Seen) (c : Cat) → HasNoSpace (space_of seen) → knows n x seen c ≡ true
-run_knows x runs n seen c none = known_by x runs n seen c (ap is_new_number none.number) (ap (is_short c x) none.short)
+asks_none : (x : Cmd) → is_run x ≡ true → may_ask x ≡ false
+unfolding is_run
+asks_none (cmd.Lookup reg dir name ver) runs = refl
+asks_none (cmd.List dir) runs = refl
+asks_none (cmd.Stat file) runs = refl
+asks_none (cmd.Create reg dir name ver blocks owner) runs = refl
+asks_none (cmd.MkDir reg dir name owner) runs = refl
+asks_none (cmd.Extend file blocks) runs = refl
+asks_none (cmd.Trunc file blocks) runs = refl
+asks_none (cmd.Delete dir name ver) runs = absurd (let f : false ≡ true = runs in cc)
+asks_none (cmd.Rename dir name ver to to_ver) runs = refl
+asks_none (cmd.OpenFile chan file mode) runs = absurd (let f : false ≡ true = runs in cc)
+asks_none (cmd.CloseFile chan) runs = absurd (let f : false ≡ true = runs in cc)
+asks_none (cmd.ReadBlock chan vbn) runs = refl
+asks_none (cmd.WriteBlock chan vbn text) runs = refl
+asks_none (cmd.QuotaSet owner quota over) runs = refl
+asks_none (cmd.QuotaShow owner) runs = refl
+
+-- what it knows of a catalogue besides the blocks: a number that was given is a new one, a refusal is right, and usages fit
+pub run_knows : (x : Cmd) → is_run x ≡ true → (n : ℕ) (seen : Seen) (c : Cat) → Accounted c → is_new_number seen.number ≡ true → is_short c x seen.short ≡ true → knows n x seen c ≡ true
+run_knows x runs n seen c accounted new short = both _ _ (ap (λ k. has_channel c n k seen.channel) (names_none x runs))
+    (both _ _ new (both _ _ short (both _ _ (where_so (changes_usage x) _ (all_charged c c.quota accounted.usage)) (ap (λ t. cond t (list_all is_held_open c.opens) true) (asks_none x runs)))))
 
 -- its answer opens and closes no channel
 switched_none : (channels : List Bool) (does value : Bool) → switched channels does None value ≡ channels
@@ -76,22 +111,3 @@ stays_closed (cmd.ReadBlock chan vbn) runs channels r = switched_none (switched 
 stays_closed (cmd.WriteBlock chan vbn text) runs channels r = switched_none (switched channels (is_opened r) None true) (is_closed r) false ∙ switched_none channels (is_opened r) true
 stays_closed (cmd.QuotaSet owner quota over) runs channels r = switched_none (switched channels (is_opened r) None true) (is_closed r) false ∙ switched_none channels (is_opened r) true
 stays_closed (cmd.QuotaShow owner) runs channels r = switched_none (switched channels (is_opened r) None true) (is_closed r) false ∙ switched_none channels (is_opened r) true
-
--- it takes no space
-pub run_space : (x : Cmd) → is_run x ≡ true → takes_space x ≡ true → ⊥
-unfolding is_run
-run_space (cmd.Lookup reg dir name ver) runs e = absurd (let f : false ≡ true = e in cc)
-run_space (cmd.List dir) runs e = absurd (let f : false ≡ true = e in cc)
-run_space (cmd.Stat file) runs e = absurd (let f : false ≡ true = e in cc)
-run_space (cmd.Create reg dir name ver blocks owner) runs e = absurd (let f : false ≡ true = runs in cc)
-run_space (cmd.MkDir reg dir name owner) runs e = absurd (let f : false ≡ true = runs in cc)
-run_space (cmd.Extend file blocks) runs e = absurd (let f : false ≡ true = runs in cc)
-run_space (cmd.Trunc file blocks) runs e = absurd (let f : false ≡ true = e in cc)
-run_space (cmd.Delete dir name ver) runs e = absurd (let f : false ≡ true = e in cc)
-run_space (cmd.Rename dir name ver to to_ver) runs e = absurd (let f : false ≡ true = e in cc)
-run_space (cmd.OpenFile chan file mode) runs e = absurd (let f : false ≡ true = e in cc)
-run_space (cmd.CloseFile chan) runs e = absurd (let f : false ≡ true = e in cc)
-run_space (cmd.ReadBlock chan vbn) runs e = absurd (let f : false ≡ true = e in cc)
-run_space (cmd.WriteBlock chan vbn text) runs e = absurd (let f : false ≡ true = e in cc)
-run_space (cmd.QuotaSet owner quota over) runs e = absurd (let f : false ≡ true = e in cc)
-run_space (cmd.QuotaShow owner) runs e = absurd (let f : false ≡ true = e in cc)

@@ -1,5 +1,5 @@
 -- The nodes under way, as one of them changes.
-use Rattle.std.proofs.Common.{◌≡◌, ◌≢◌, ◌≤◌, ℕ, List, Option, Some, None, refl, sym, ap, ◌∙◌, arith}
+use Rattle.std.proofs.Common.{◌≡◌, ◌≢◌, ◌≤◌, ◌++◌, ℕ, take, List, Option, Some, None, refl, sym, ap, ◌∙◌, arith}
 use Rattle.vol_words.specs.Fields.{Block}
 use Rattle.lock_db.specs.declared.name.LockName.{LockName}
 use Rattle.lock_db.specs.declared.resource.Resource.{Resource}
@@ -20,22 +20,29 @@ use Rattle.vol_under.proofs.Steps.{nodes_alike}
 use Rattle.op_law.specs.Knows.{knows}
 use Rattle.op_law.specs.Laws.{held_in, under_way}
 use Rattle.core_state.specs.Worlds.{NodeState, node_at, set_node, locks_in, locks_of}
+use Rattle.core_state.specs.Searches.{unwritten, stock_after}
 use Rattle.core_state.specs.Goods.{writes_of, under_with, under_by, nodes_under}
 use Rattle.core_state.proofs.Nodes.{at_here, at_else}
 use Rattle.core_state.proofs.Holding.{HasIn, in_held_is}
 
 -- a node with a command, by the locks that it holds
 abbrev pub at_locks : ℕ → NodeState → Cmd → List (LockName × Mode) → UnderWay
-at_locks n s x ls = record (under_way x s.seen (writes_of s.plan) (knows n x s.seen)) { read = held_in PR ls; write = held_in PW ls; done = s.done }
+at_locks n s x ls = record (under_way x s.seen (writes_of s.plan) (knows n x s.seen)) {
+  read = held_in PR ls;
+  write = held_in PW ls;
+  seen = unwritten (take s.search.taken s.search.takes) s.search.looked ++ s.seen.blocks;
+  done = s.done;
+  stock = stock_after s.search.takes s.search.taken;
+}
 
 -- a node whose locks stand as they stood is under way as it was
-pub under_alike : (t t' : List Resource) (n : ℕ) (s : NodeState) (o : Option Cmd) → held_locks t' n s.seen.locks ≡ held_locks t n s.seen.locks → under_with t n s o ≡ under_with t' n s o
+pub under_alike : (t t' : List Resource) (n : ℕ) (s : NodeState) (o : Option Cmd) → held_locks t' n s.asked ≡ held_locks t n s.asked → under_with t n s o ≡ under_with t' n s o
 under_alike t t' n s None e = refl
 under_alike t t' n s (Some x) e = ap (λ ls. at_locks n s x ls) (sym e)
 
 -- the nodes under way where node n, which stood as s, stands as r
 pub under_set : (t t' : List Resource) (nodes : List NodeState) (n : ℕ) (s r : NodeState) → node_at nodes n ≡ Some s
-    → ((m : ℕ) (q : NodeState) → m ≢ n → node_at nodes m ≡ Some q → held_locks t' m q.seen.locks ≡ held_locks t m q.seen.locks)
+    → ((m : ℕ) (q : NodeState) → m ≢ n → node_at nodes m ≡ Some q → held_locks t' m q.asked ≡ held_locks t m q.asked)
     → (m : ℕ) → changed (nodes_under t nodes) n (under_with t' n r r.cmd) m ≡ nodes_under t' (set_node nodes n r) m
 under_set t t' nodes n s r at held = each (λ m v. v ≡ nodes_under t' (set_node nodes n r) m) (nodes_under t nodes) n (under_with t' n r r.cmd)
     (ap (under_by t' n) (sym (at_here nodes n r s at))) others where
@@ -48,7 +55,7 @@ under_set t t' nodes n s r at held = each (λ m v. v ≡ nodes_under t' (set_nod
 
 -- the drive under way where node n is now r
 pub under_now : (g : Geometry) (c : Cat) (t t' : List Resource) (nodes : List NodeState) (n : ℕ) (s r : NodeState) (drive : List Block) → node_at nodes n ≡ Some s
-    → ((m : ℕ) (q : NodeState) → m ≢ n → node_at nodes m ≡ Some q → held_locks t' m q.seen.locks ≡ held_locks t m q.seen.locks)
+    → ((m : ℕ) (q : NodeState) → m ≢ n → node_at nodes m ≡ Some q → held_locks t' m q.asked ≡ held_locks t m q.asked)
     → IsUnder g c (changed (nodes_under t nodes) n (under_with t' n r r.cmd)) drive → IsUnder g c (nodes_under t' (set_node nodes n r)) drive
 under_now g c t t' nodes n s r drive at held u =
     nodes_alike g c (changed (nodes_under t nodes) n (under_with t' n r r.cmd)) (nodes_under t' (set_node nodes n r)) drive (under_set t t' nodes n s r at held) u
@@ -62,9 +69,9 @@ under_here t nodes n s at = ap (under_by t n) at
 -- the locks that a node under way holds are those of the world's node
 read_is : (t : List Resource) (nodes : List NodeState) (n : ℕ) (name : LockName) → Has (nodes_under t nodes n).read name → HasIn PR (held_locks t n (locks_of nodes n)) name
 read_is t nodes n name h = by_node (node_at nodes n) h where
-  by_cmd : (s : NodeState) (o : Option Cmd) → Has (under_with t n s o).read name → HasIn PR (held_locks t n s.seen.locks) name
+  by_cmd : (s : NodeState) (o : Option Cmd) → Has (under_with t n s o).read name → HasIn PR (held_locks t n s.asked) name
   by_cmd s None h = absurd h
-  by_cmd s (Some x) h = in_held_is PR (held_locks t n s.seen.locks) name h
+  by_cmd s (Some x) h = in_held_is PR (held_locks t n s.asked) name h
 
   by_node : (o : Option NodeState) → Has (under_by t n o).read name → HasIn PR (held_locks t n (locks_in o)) name
   by_node None h = absurd h
@@ -72,9 +79,9 @@ read_is t nodes n name h = by_node (node_at nodes n) h where
 
 write_is : (t : List Resource) (nodes : List NodeState) (n : ℕ) (name : LockName) → Has (nodes_under t nodes n).write name → HasIn PW (held_locks t n (locks_of nodes n)) name
 write_is t nodes n name h = by_node (node_at nodes n) h where
-  by_cmd : (s : NodeState) (o : Option Cmd) → Has (under_with t n s o).write name → HasIn PW (held_locks t n s.seen.locks) name
+  by_cmd : (s : NodeState) (o : Option Cmd) → Has (under_with t n s o).write name → HasIn PW (held_locks t n s.asked) name
   by_cmd s None h = absurd h
-  by_cmd s (Some x) h = in_held_is PW (held_locks t n s.seen.locks) name h
+  by_cmd s (Some x) h = in_held_is PW (held_locks t n s.asked) name h
 
   by_node : (o : Option NodeState) → Has (under_by t n o).write name → HasIn PW (held_locks t n (locks_in o)) name
   by_node None h = absurd h

@@ -1,39 +1,46 @@
 -- The drive under way after an event of a node that is known to stand as u.
-use Rattle.std.proofs.Common.{◌≡◌, ◌≤◌, ◌+◌, ℕ, true, List, [], ◌∷◌, ◌++◌, Option, Some, Bool, length, take, slice_get, slice_set, refl, sym, ap, subst, ◌∙◌, arith}
+use Rattle.std.proofs.Common.{◌≡◌, ◌≤◌, ◌+◌, ℕ, true, List, [], ◌∷◌, ◌++◌, Option, Some, Bool, length, take, slice_get, slice_set, refl, sym, ap, subst, ◌∙◌, inl, inr, arith}
+use Rattle.std.proofs.lemmas.Bool.Decides.{nat_tests}
 use Rattle.vol_words.specs.Fields.{Block}
 use Rattle.lock_db.specs.declared.name.LockName.{LockName}
+use Rattle.lock_db.specs.declared.name.LockName.TheVariants.{V}
 use Rattle.plain_cat.specs.declared.command.Cmd.{Cmd}
 use Rattle.plain_cat.specs.declared.reply.Reply.{Reply}
 use Rattle.plain_cat.specs.declared.cat.Cat.{Cat}
 use Rattle.plain_vol.specs.Answers.{Answer}
 use Rattle.vol_owners.specs.Lists.{Has, Touches, StandsIn}
-use Rattle.vol_owners.specs.Owners.{Owners, Outs}
+use Rattle.vol_owners.specs.Owners.{Owners, Things, Outs}
+use Rattle.vol_owners.proofs.Listing.{same_or_not}
 use Rattle.vol_parts.specs.declared.geometry.Geometry.{Geometry}
 use Rattle.vol_spell.specs.Spelling.{Spells}
 use Rattle.vol_under.specs.Guards.{guard_of, MayWrite, MayLook}
 use Rattle.vol_under.specs.UnderWay.{PlannedWrite, bare, UnderWay, idle, changed, AreSole}
 use Rattle.vol_under.specs.Under.{IsLawful, IsUnder}
 use Rattle.vol_under.specs.Answering.{IsReply}
-use Rattle.vol_under.proofs.Steps.{ready_keeps, plan_keeps, write_keeps}
+use Rattle.vol_under.specs.Keeping.{Refills, IsBitmap}
+use Rattle.vol_under.proofs.Nodes.{each, changed_here, changed_else}
+use Rattle.vol_under.proofs.Steps.{nodes_alike, plan_keeps, write_keeps, bits_keep}
 use Rattle.vol_under.proofs.Endings.{answer_keeps}
-use Rattle.vol_under.proofs.Guarding.{wider_look}
-use Rattle.core_state.proofs.Driving.{look_behind}
+use Rattle.core_state.proofs.Driving.{quiet_keeps, looked_stands}
 
 module _ (g : Geometry) (c : Cat) (nodes : ℕ → UnderWay) (drive : List Block) (n : ℕ) (u : UnderWay) (is : nodes n ≡ u) (under : IsUnder g c nodes drive) where
-  -- it begins a command, or asks for a lock
-  pub takes_up : u.plan ≡ [] → (cmd : Option Cmd) (knows : Cat → Bool) (read write : List LockName) → ((name : LockName) → Has u.read name → Has read name)
-      → IsUnder g c (changed nodes n (record u { cmd = cmd; knows = knows; read = read; write = write })) drive
-  takes_up no_plan cmd knows read write more =
-      let P : UnderWay → Type 0 = λ v. IsUnder g c (changed nodes n (record v { cmd = cmd; knows = knows; read = read; write = write })) drive in
-      let more_here : (name : LockName) → Has (nodes n).read name → Has read name = λ name t. more name (subst (λ (v : UnderWay). Has v.read name) is t) in
-      subst P is (ready_keeps g c nodes drive n cmd knows read write under (ap (λ (v : UnderWay). v.plan) is ∙ no_plan) (λ own l t look. wider_look (nodes n).read read more_here (guard_of g own l) look))
+  pub its_outs : Outs n under.own u.took u.stock
+  its_outs = subst (λ (v : UnderWay). Outs n under.own v.took v.stock) is (under.outs n)
 
-  -- it looks at a block
-  pub looks : AreSole nodes → u.plan ≡ [] → (l : ℕ) (b : Block) → slice_get drive l ≡ Some b
-      → MayLook u.read (guard_of g under.own l) → IsUnder g c (changed nodes n (record u { seen = u.seen ++ (l, b) ∷ [] })) drive
-  looks sole no_plan l b at may =
-      let P : UnderWay → Type 0 = λ v. IsUnder g c (changed nodes n (record v { seen = v.seen ++ (l, b) ∷ [] })) drive in
-      subst P is (look_behind g c nodes drive n l b sole under (ap (λ (v : UnderWay). v.plan) is ∙ no_plan) at (subst (λ (v : UnderWay). MayLook v.read (guard_of g under.own l)) (sym is) may))
+  pub its_seen : StandsIn under.base u.seen
+  its_seen = subst (λ (v : UnderWay). StandsIn under.base v.seen) is (under.stands n)
+
+  pub its_guards : (l : ℕ) → Touches u.seen l → MayLook u.read (guard_of g under.own l)
+  its_guards = subst (λ (v : UnderWay). (l : ℕ) → Touches v.seen l → MayLook v.read (guard_of g under.own l)) is (under.seen_guarded n)
+
+  -- without a plan it comes to stand otherwise
+  pub becomes : u.plan ≡ [] → (v : UnderWay) → v.plan ≡ [] → v.done ≡ 0 → Outs n under.own v.took v.stock → StandsIn under.base v.seen → ((l : ℕ) → Touches v.seen l → MayLook v.read (guard_of g under.own l)) → IsUnder g c (changed nodes n v) drive
+  becomes no_plan v none done outs stands guarded = quiet_keeps g c nodes drive n v under (ap (λ (z : UnderWay). z.plan) is ∙ no_plan) none done outs stands guarded
+
+  -- what it may look at is committed
+  pub is_committed : AreSole nodes → u.plan ≡ [] → (l : ℕ) → MayLook u.read (guard_of g under.own l) → slice_get drive l ≡ slice_get under.base l
+  is_committed sole no_plan l may =
+      looked_stands g c nodes drive n l sole under (ap (λ (z : UnderWay). z.plan) is ∙ no_plan) (subst (λ (v : UnderWay). MayLook v.read (guard_of g under.own l)) (sym is) may)
 
   -- it decides on writes
   pub decides : u.plan ≡ [] → u.done ≡ 0 → (plan : List PlannedWrite) → IsLawful g n (record u { plan = plan })
@@ -61,3 +68,53 @@ module _ (g : Geometry) (c : Cat) (nodes : ℕ → UnderWay) (drive : List Block
       let P : UnderWay → Type 0 = λ v. (d : Cat) × Answer c n x r d × IsUnder g d (changed nodes n (idle v)) drive in
       subst P is (answer_keeps g c nodes drive n x r sole under (subst (λ (v : UnderWay). v.knows c ≡ true) (sym is) known)
       (subst (λ (v : UnderWay). v.done ≡ length v.plan) (sym is) done) (subst (λ (v : UnderWay). IsReply g n v x r) (sym is) reply))
+
+  -- it writes to a bitmap, at a block that it has not seen
+  pub refills : AreSole nodes → u.plan ≡ [] → (l : ℕ) (old b : Block) (stock : Things) → IsBitmap g l → Has u.write V → (Touches u.seen l → ⊥) → slice_get drive l ≡ Some old
+      → ((base : List Block) (own : Owners) → Spells g base own c → Outs n own u.took u.stock → slice_get base l ≡ Some old → Refills g n u.took stock l b base own c)
+      → IsUnder g c (changed nodes n (record u { stock = stock })) (slice_set drive l b)
+  refills sole no_plan l old b stock bitmap holds unseen at refill =
+      let P : UnderWay → Type 0 = λ v. v.plan ≡ [] → Has v.write V → (Touches v.seen l → ⊥)
+          → ((base : List Block) (own : Owners) → Spells g base own c → Outs n own v.took v.stock → slice_get base l ≡ Some old → Refills g n v.took stock l b base own c)
+          → IsUnder g c (changed nodes n (record v { stock = stock })) (slice_set drive l b) in
+      subst P is (λ p h s r. bits_keep g c nodes drive n l old b stock sole under p bitmap h s at r) no_plan holds unseen refill
+
+-- ---- a write of a search
+
+changed_twice : (nodes : ℕ → UnderWay) (n : ℕ) (a b : UnderWay) (m : ℕ) → changed (changed nodes n a) n b m ≡ changed nodes n b m
+changed_twice nodes n a b m = elim (same_or_not m n) [
+  | inl e ↦ ap (changed (changed nodes n a) n b) e ∙ changed_here (changed nodes n a) n b ∙ sym (ap (changed nodes n b) e ∙ changed_here nodes n b)
+  | inr ne ↦ changed_else (changed nodes n a) n b m ne ∙ changed_else nodes n a m ne ∙ sym (changed_else nodes n b m ne)
+]
+
+-- nodes that hold the same locks
+still_sole : (nodes others : ℕ → UnderWay) → ((m : ℕ) → (others m).read ≡ (nodes m).read) → ((m : ℕ) → (others m).write ≡ (nodes m).write) → AreSole nodes → AreSole others
+still_sole nodes others read write sole = record {
+  writers = λ n m name a b. sole.writers n m name (subst (λ (ls : List LockName). Has ls name) (write n) a) (subst (λ (ls : List LockName). Has ls name) (write m) b);
+  readers = λ n m name a b. sole.readers n m name (subst (λ (ls : List LockName). Has ls name) (write n) a) (subst (λ (ls : List LockName). Has ls name) (read m) b);
+}
+
+-- Node n, which stands as u and has no plan, writes to a block of a bitmap that it has looked at: of what it has seen these
+-- remain, and what the write takes is its stock, or its command's.
+pub grabs : (g : Geometry) (c : Cat) (nodes : ℕ → UnderWay) (drive : List Block) (n : ℕ) (u : UnderWay) (is : nodes n ≡ u) (under : IsUnder g c nodes drive) → AreSole nodes → u.plan ≡ [] → u.done ≡ 0
+    → (l : ℕ) (old b : Block) (rest : List (ℕ × Block)) (stock : Things) → IsBitmap g l → Has u.write V → (Touches rest l → ⊥) → StandsIn under.base rest → ((k : ℕ) → Touches rest k → MayLook u.read (guard_of g under.own k)) → slice_get drive l ≡ Some old
+    → ((base : List Block) (own : Owners) → Spells g base own c → Outs n own u.took u.stock → slice_get base l ≡ Some old → Refills g n u.took stock l b base own c)
+    → (knows : Cat → Bool) (took left : Things) → ((own : Owners) → Outs n own u.took stock → Outs n own took left)
+    → IsUnder g c (changed nodes n (record u { seen = rest; knows = knows; took = took; stock = left })) (slice_set drive l b)
+grabs g c nodes drive n u is under sole no_plan no_done l old b rest stock bitmap holds unseen stands guarded at refill knows took left goes =
+    let a : UnderWay = record u { seen = rest } in
+    let one : IsUnder g c (changed nodes n a) drive = becomes g c nodes drive n u is under no_plan a no_plan no_done (its_outs g c nodes drive n u is under) stands guarded in
+    let same_read = each (λ m (v : UnderWay). v.read ≡ (nodes m).read) nodes n a (sym (ap (λ (v : UnderWay). v.read) is)) (λ m ne. refl) in
+    let same_write = each (λ m (v : UnderWay). v.write ≡ (nodes m).write) nodes n a (sym (ap (λ (v : UnderWay). v.write) is)) (λ m ne. refl) in
+    let b1 : UnderWay = record u { seen = rest; stock = stock } in
+    let two : IsUnder g c (changed (changed nodes n a) n b1) (slice_set drive l b)
+    = refills g c (changed nodes n a) drive n a (changed_here nodes n a) one (still_sole nodes (changed nodes n a) same_read same_write sole) no_plan l old b stock bitmap holds unseen at refill in
+    let v : UnderWay = record u { seen = rest; knows = knows; took = took; stock = left } in
+    let here = changed_here (changed nodes n a) n b1 in
+    let three : IsUnder g c (changed (changed (changed nodes n a) n b1) n v) (slice_set drive l b)
+    = becomes g c (changed (changed nodes n a) n b1) (slice_set drive l b) n b1 here two no_plan v no_plan no_done
+    (goes two.own (its_outs g c (changed (changed nodes n a) n b1) (slice_set drive l b) n b1 here two))
+    (its_seen g c (changed (changed nodes n a) n b1) (slice_set drive l b) n b1 here two)
+    (its_guards g c (changed (changed nodes n a) n b1) (slice_set drive l b) n b1 here two) in
+    nodes_alike g c (changed (changed (changed nodes n a) n b1) n v) (changed nodes n v) (slice_set drive l b)
+    (λ m. changed_twice (changed nodes n a) n b1 v m ∙ changed_twice nodes n a v m) three

@@ -1,10 +1,14 @@
 -- The event of a node's turn, and what it makes of the world.
-use Rattle.std.specs.Prelude.{◌+◌, ◌-◌, ◌^◌, ◌++◌, ◌||◌, min, ℕ, Bool, true, false, List, [], ◌∷◌, Option, Some, None, slice_get, slice_set, slice_index_or, if◌then◌else◌}
+use Rattle.std.specs.Prelude.{◌==◌, ◌+◌, ◌-◌, ◌^◌, ◌++◌, ◌||◌, min, ℕ, Bool, true, false, List, [], ◌∷◌, Option, Some, None, slice_get, slice_set, slice_index_or, length, if◌then◌else◌}
+use Rattle.std.specs.List.{list_any}
 use Rattle.vol_words.specs.Fields.{Block}
 use Rattle.lock_db.specs.declared.name.LockName.{LockName}
+use Rattle.lock_db.specs.declared.name.LockName.TheVariants.{V}
 use Rattle.lock_db.specs.declared.resource.Resource.{Resource}
+use Rattle.lock_db.specs.Names.{is_same}
 use Rattle.lock_db.specs.Tables.{resource_at, asked, released}
 use Rattle.plain_cat.specs.declared.mode.Mode.{Mode}
+use Rattle.plain_cat.specs.declared.mode.Mode.TheVariants.{PW}
 use Rattle.plain_cat.specs.declared.command.Cmd.{Cmd}
 use Rattle.plain_cat.specs.declared.reply.Reply.{Reply}
 use Rattle.plain_cat.specs.declared.history.Entry.TheVariants.{Done}
@@ -18,8 +22,11 @@ use Rattle.op_law.specs.declared.need.Plan.{Plan}
 use Rattle.op_law.specs.declared.need.PlanWrite.{PlanWrite}
 use Rattle.op_law.specs.declared.seen.Seen.{Seen}
 use Rattle.op_law.specs.Needs.{need_of}
-use Rattle.op_law.specs.Going.{with_lock, with_block}
-use Rattle.core_state.specs.Worlds.{NodeState, Plain, node_at, with_node, current}
+use Rattle.op_law.specs.Going.{with_lock, with_block, with_space}
+use Rattle.node_space.specs.declared.outcome.Search.{Search as Outcome}
+use Rattle.node_space.specs.declared.outcome.Search.TheVariants as search
+use Rattle.node_space.specs.Answering.{answer, blocks_of}
+use Rattle.core_state.specs.Worlds.{Search, no_search, NodeState, Plain, node_at, with_node, current}
 use Rattle.core_state.specs.Goods.{writes_of}
 use Rattle.core_state.specs.Raises.{raise_of}
 
@@ -34,8 +41,12 @@ pub data Event : Type 0 where
   Ask : Cmd → LockName → Mode → Event
   -- its command looks at a block
   See : Cmd → ℕ → Event
-  -- its command needs space, which no command does that a world runs so far
-  Search : Event
+  -- its command needs space, and it asks for the lock of the bitmaps
+  Claim : Cmd → Event
+  -- its search for so many clusters, and a number or none, looks at a block
+  Scan : Cmd → ℕ → Bool → ℕ → Event
+  -- it makes the next write of its search
+  Grab : PlanWrite → Event
   -- its command decides on a plan
   Decide : Cmd → Plan → Event
   -- it makes the next write of its plan
@@ -45,12 +56,31 @@ pub data Event : Type 0 where
 
 -- ---- which event comes
 
-abbrev pub by_need : Cmd → Need → Event
-by_need x (need.Lock name mode) = Ask x name mode
-by_need x (need.Block name lbn) = See x lbn
-by_need x (need.Bare lbn) = See x lbn
-by_need x (need.Space clusters number) = Search
-by_need x (need.Ready p) = Decide x p
+-- a lock of this name is asked for
+abbrev pub has_asked : LockName → List (LockName × Mode) → Bool
+has_asked name locks = list_any (λ l. is_same l.0 name) locks
+
+-- a search that looks on; what else it comes to was taken over as it was found
+abbrev pub by_answer : Cmd → ℕ → Bool → Outcome → Event
+by_answer x clusters number (search.Look lbn) = Scan x clusters number lbn
+by_answer x clusters number other = Stand
+
+-- the next write of the search, else its next look
+abbrev pub by_takes : Cmd → NodeState → ℕ → Bool → Option PlanWrite → Event
+by_takes x s clusters number (Some w) = Grab w
+by_takes x s clusters number None = by_answer x clusters number (answer s.seen.geometry clusters number (blocks_of s.search.looked))
+
+-- a search begins with the lock of the bitmaps
+abbrev pub by_search : Cmd → NodeState → ℕ → Bool → Bool → Event
+by_search x s clusters number false = Claim x
+by_search x s clusters number true = by_takes x s clusters number (slice_get s.search.takes s.search.taken)
+
+abbrev pub by_need : Cmd → NodeState → Need → Event
+by_need x s (need.Lock name mode) = Ask x name mode
+by_need x s (need.Block name lbn) = See x lbn
+by_need x s (need.Bare lbn) = See x lbn
+by_need x s (need.Space clusters number) = by_search x s clusters number (has_asked V s.asked)
+by_need x s (need.Ready p) = Decide x p
 
 -- the next write of a plan, and behind them the answer
 abbrev pub by_write : Cmd → Reply → Option PlanWrite → Event
@@ -58,7 +88,7 @@ by_write x r (Some w) = Put w
 by_write x r None = Answer x r
 
 abbrev pub by_plan : Cmd → NodeState → Option Plan → Event
-by_plan x s None = by_need x (need_of x s.seen)
+by_plan x s None = by_need x s (need_of x s.seen)
 by_plan x s (Some p) = by_write x p.reply (slice_get p.writes s.done)
 
 abbrev pub by_command : NodeState → Option Cmd → Event
@@ -69,7 +99,7 @@ by_command s (Some x) = by_plan x s s.plan
 abbrev pub event_of : Plain → ℕ → Option NodeState → Event
 event_of w n None = Rest
 event_of w n (Some s) =
-    if s.over then Rest else if waits_at w.locks n s.seen.locks then Stand else by_command s (current w n s)
+    if s.over then Rest else if waits_at w.locks n s.asked then Stand else by_command s (current w n s)
 
 abbrev pub next_event : Plain → ℕ → Event
 next_event w n = event_of w n (node_at w.nodes n)
@@ -77,6 +107,7 @@ next_event w n = event_of w n (node_at w.nodes n)
 -- whether the next event of a node is a write
 abbrev pub is_write : Event → Bool
 is_write (Put w) = true
+is_write (Grab w) = true
 is_write other = false
 
 -- ---- what an event makes of the world
@@ -90,6 +121,10 @@ abbrev pub given_back : Geometry → ℕ → List PlanWrite → List (LockName �
 given_back g n ws [] t = t
 given_back g n ws (l ∷ locks) t = given_back g n ws locks (released l.0 (system_of n) (raised_block (raise_of g l.0 ws) (resource_at l.0 t)) t)
 
+-- the writes of a node's search and those of its plan
+abbrev pub all_writes : NodeState → List PlanWrite
+all_writes s = s.search.takes ++ writes_of s.plan
+
 -- nothing is seen yet
 abbrev pub unseen : Seen → Seen
 unseen seen = record { geometry = seen.geometry; channel = None; locks = []; blocks = []; clusters = []; number = None; short = None }
@@ -102,10 +137,51 @@ abbrev pub turned : NodeState → NodeState
 turned s = record s { turns = one_more s.turns }
 
 abbrev pub asking : NodeState → Cmd → LockName → Mode → NodeState
-asking s x name mode = record s { cmd = Some x; seen = with_lock name mode s.seen }
+asking s x name mode = record s { cmd = Some x; asked = s.asked ++ (name, mode) ∷ []; seen = with_lock name mode s.seen }
+
+abbrev pub claiming : NodeState → Cmd → NodeState
+claiming s x = record s { cmd = Some x; asked = s.asked ++ (V, PW) ∷ [] }
 
 abbrev pub looking : NodeState → Cmd → ℕ → Block → NodeState
 looking s x lbn b = record s { cmd = Some x; seen = with_block lbn b s.seen; reads = one_more s.reads }
+
+-- what the command has seen once its search has come to this: why it was refused, where it was
+abbrev pub told_by : Outcome → Seen → Seen
+told_by (search.Short r) seen = with_space [] None (Some r) seen
+told_by other seen = seen
+
+-- the writes that a search has decided on once it has come to this
+abbrev pub takes_by : Outcome → List PlanWrite → List PlanWrite
+takes_by (search.Take ws) old = ws
+takes_by other old = old
+
+-- a block more is looked at
+abbrev pub looked_on : Search → ℕ → Block → List (ℕ × Block)
+looked_on h lbn b = h.looked ++ (lbn, b) ∷ []
+
+-- a look of the search, with what the search comes to by it
+abbrev pub scanned : NodeState → Cmd → ℕ → Block → Outcome → NodeState
+scanned s x lbn b o = record s {
+  cmd = Some x;
+  seen = told_by o s.seen;
+  search = record { looked = looked_on s.search lbn b; takes = takes_by o s.search.takes; taken = s.search.taken };
+  reads = one_more s.reads;
+}
+
+abbrev pub scanning : NodeState → Cmd → ℕ → Bool → ℕ → Block → NodeState
+scanning s x clusters number lbn b = scanned s x lbn b (answer s.seen.geometry clusters number (blocks_of (looked_on s.search lbn b)))
+
+-- with the last write of the search the command is given what it has taken
+abbrev pub given_by : Bool → PlanWrite → Seen → Seen
+given_by true v seen = with_space v.clusters v.number None seen
+given_by false v seen = seen
+
+abbrev pub grabbing : NodeState → PlanWrite → NodeState
+grabbing s v = record s {
+  seen = given_by (s.search.taken + 1 == length s.search.takes) v s.seen;
+  search = record s.search { taken = s.search.taken + 1 };
+  writes = one_more s.writes;
+}
 
 abbrev pub deciding : NodeState → Cmd → Plan → NodeState
 deciding s x p = record s { cmd = Some x; plan = Some p; done = 0 }
@@ -114,7 +190,7 @@ abbrev pub writing : NodeState → NodeState
 writing s = record s { done = s.done + 1; writes = one_more s.writes }
 
 abbrev pub answering : NodeState → Cmd → Reply → NodeState
-answering s x r = record s { past = after_answer s.past x r; cmd = None; seen = unseen s.seen; plan = None; done = 0 }
+answering s x r = record s { past = after_answer s.past x r; cmd = None; seen = unseen s.seen; plan = None; done = 0; asked = []; search = no_search }
 
 abbrev pub leaving : NodeState → NodeState
 leaving s = record s { over = true }
@@ -126,11 +202,13 @@ happens w n s Stand = with_node w n (turned s)
 happens w n s Leave = with_node w n (turned (leaving s))
 happens w n s (Ask x name mode) = with_node (record w { locks = asked name (system_of n) mode w.locks }) n (turned (asking s x name mode))
 happens w n s (See x lbn) = with_node w n (turned (looking s x lbn (block_at w.blocks lbn)))
-happens w n s Search = w
+happens w n s (Claim x) = with_node (record w { locks = asked V (system_of n) PW w.locks }) n (turned (claiming s x))
+happens w n s (Scan x clusters number lbn) = with_node w n (turned (scanning s x clusters number lbn (block_at w.blocks lbn)))
+happens w n s (Grab v) = with_node (record w { blocks = slice_set w.blocks v.lbn v.block }) n (turned (grabbing s v))
 happens w n s (Decide x p) = with_node w n (turned (deciding s x p))
 happens w n s (Put v) = with_node (record w { blocks = slice_set w.blocks v.lbn v.block }) n (turned (writing s))
 happens w n s (Answer x r) =
-    with_node (record w { history = w.history ++ Done n x r ∷ []; locks = given_back w.geometry n (writes_of s.plan) s.seen.locks w.locks }) n (turned (answering s x r))
+    with_node (record w { history = w.history ++ Done n x r ∷ []; locks = given_back w.geometry n (all_writes s) s.asked w.locks }) n (turned (answering s x r))
 
 abbrev pub happen_at : Plain → ℕ → Option NodeState → Event → Plain
 happen_at w n None e = w

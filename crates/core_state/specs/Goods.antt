@@ -1,15 +1,19 @@
 -- The invariant of a world, in parts.
-use Rattle.std.specs.Prelude.{◌≡◌, ◌≤◌, ◌+◌, ◌||◌, not, ℕ, Bool, true, false, List, [], ◌∷◌, Option, Some, None, is_some, length, replicate, if◌then◌else◌}
+use Rattle.std.specs.Prelude.{◌≡◌, ◌≤◌, ◌+◌, ◌++◌, ◌||◌, not, take, ℕ, Bool, true, false, List, [], ◌∷◌, Option, Some, None, is_some, length, replicate, if◌then◌else◌}
+use Rattle.lock_db.specs.declared.name.LockName.{LockName}
 use Rattle.lock_db.specs.declared.resource.Resource.{Resource}
 use Rattle.plain_cat.specs.declared.mode.Mode.TheVariants.{PR, PW}
 use Rattle.plain_cat.specs.declared.command.Cmd.{Cmd}
 use Rattle.plain_cat.specs.declared.cat.Cat.{Cat}
 use Rattle.plain_cat.specs.declared.script.Script.{Script}
 use Rattle.plain_cat.specs.declared.history.Entry.{Entry}
+use Rattle.plain_vol.specs.Lookups.{is_free_number}
+use Rattle.plain_vol.specs.Accounts.{Accounted}
 use Rattle.plain_vol.specs.Own.{past, next_command, Own}
 use Rattle.plain_vol.specs.Replaying.{Replays}
 use Rattle.lock_db.specs.Tables.{IsTable}
-use Rattle.node_locks.specs.Held.{AreHeld, waits_at, held_locks}
+use Rattle.node_locks.specs.Held.{names_of, AreHeld, waits_at, held_locks}
+use Rattle.vol_owners.specs.Lists.{Has}
 use Rattle.vol_owners.specs.Owners.{nothing}
 use Rattle.vol_under.specs.UnderWay.{UnderWay, resting}
 use Rattle.vol_under.specs.Under.{IsUnder}
@@ -20,14 +24,14 @@ use Rattle.op_law.specs.declared.seen.Seen.{Seen}
 use Rattle.op_law.specs.Events.{space_of, HasNoSpace}
 use Rattle.op_law.specs.Needs.{IsNext}
 use Rattle.op_law.specs.Fits.{HasSeen}
-use Rattle.op_law.specs.Knows.{channel_of, takes_space, may_ask, changes_usage, knows}
-use Rattle.op_law.specs.Laws.{held_in, under_way, Lawful}
-use Rattle.core_state.specs.Worlds.{NodeState, Plain, node_at, locks_of}
+use Rattle.op_law.specs.Knows.{channel_of, may_ask, knows}
+use Rattle.op_law.specs.Laws.{held_in, under_way, takes_lock, Lawful}
+use Rattle.core_state.specs.Worlds.{NodeState, no_search, Plain, node_at, locks_of}
+use Rattle.core_state.specs.Searches.{unwritten, stock_after, Searches}
 
--- The commands that a world runs so far: those that take no space, ask for no lock of opens, name no channel and change no
--- usage.
+-- The commands that a world runs so far: those that ask for no lock of opens and name no channel.
 unfoldable pub is_run : Cmd → Bool
-is_run x = not (takes_space x || (may_ask x || (is_some (channel_of x) || changes_usage x)))
+is_run x = not (may_ask x || is_some (channel_of x))
 
 -- ---- the nodes under way
 
@@ -35,13 +39,16 @@ abbrev pub writes_of : Option Plan → List PlanWrite
 writes_of None = []
 writes_of (Some p) = p.writes
 
--- A node as the drive sees it: at rest, or with its command, the locks that are granted to it, what it has seen, and its writes.
+-- A node as the drive sees it: at rest, or with its command, the locks that are granted to it, what it has seen for the command
+-- and looked at in its search for space, what the search has taken, and its writes.
 abbrev pub under_with : List Resource → ℕ → NodeState → Option Cmd → UnderWay
 under_with t n s None = resting nothing
 under_with t n s (Some x) = record (under_way x s.seen (writes_of s.plan) (knows n x s.seen)) {
-  read = held_in PR (held_locks t n s.seen.locks);
-  write = held_in PW (held_locks t n s.seen.locks);
+  read = held_in PR (held_locks t n s.asked);
+  write = held_in PW (held_locks t n s.asked);
+  seen = unwritten (take s.search.taken s.search.takes) s.search.looked ++ s.seen.blocks;
   done = s.done;
+  stock = stock_after s.search.takes s.search.taken;
 }
 
 abbrev pub under_by : List Resource → ℕ → Option NodeState → UnderWay
@@ -53,12 +60,18 @@ nodes_under t nodes n = under_by t n (node_at nodes n)
 
 -- ---- the parts
 
+-- no number of a system file is free
+abbrev pub HasSystemNumbers : Cat → Type 0
+HasSystemNumbers c = (n : ℕ) → n ≤ 11 → is_free_number c n ≡ false
+
 -- The history replays from the opening catalogue, and the drive is that of the catalogue to which it leads, with the writes done
--- of each command under way.
+-- of each command under way. The catalogue keeps the limits of a volume and its quotas.
 pub record IsRunning (w : Plain) : Type 0 where
   pub cat : Cat
   pub replayed : Replays w.opening w.script w.history cat
   pub drive : IsUnder w.geometry cat (nodes_under w.locks w.nodes) w.blocks
+  pub accounted : Accounted cat
+  pub system : HasSystemNumbers cat
 
 -- the lock table has for each node's file system the locks that its command has asked for
 abbrev pub AreLocked : Plain → Type 0
@@ -69,18 +82,24 @@ abbrev pub IsAtPlan : Cmd → Bool → Seen → ℕ → Option Plan → Type 0
 IsAtPlan x waits seen done None = done ≡ 0
 IsAtPlan x waits seen done (Some p) = IsNext x seen (need.Ready p) × (waits ≡ false) × (done ≤ length p.writes)
 
--- a command under way is its node's next one, it obeys the law, and what it has seen fits it
+-- A command under way is its node's next one, it obeys the law, what it has seen fits it, and its locks are such as it takes
+-- itself, besides that of its search for space.
 pub record IsAt (w : Plain) (n : ℕ) (s : NodeState) (x : Cmd) : Type 0 where
   pub next : next_command w.script n w.history ≡ Some x
   pub runs : is_run x ≡ true
   pub lawful : Lawful x
   pub seen : HasSeen x s.seen
-  pub plan : IsAtPlan x (waits_at w.locks n s.seen.locks) s.seen s.done s.plan
+  pub own : (name : LockName) → Has (names_of s.seen.locks) name → takes_lock x name ≡ true
+  pub plan : IsAtPlan x (waits_at w.locks n s.asked) s.seen s.done s.plan
+  pub search : Searches w.locks n x s.asked s.search s.seen
 
--- a node without a command has seen nothing and decided on nothing
+-- a node without a command has seen nothing, was given nothing, and has decided on nothing
 pub record IsIdle (s : NodeState) : Type 0 where
   pub locks : s.seen.locks ≡ []
   pub blocks : s.seen.blocks ≡ []
+  pub space : HasNoSpace (space_of s.seen)
+  pub asked : s.asked ≡ []
+  pub search : s.search ≡ no_search
   pub plan : s.plan ≡ None
   pub done : s.done ≡ 0
 
@@ -88,15 +107,13 @@ abbrev pub HasCommand : Plain → ℕ → NodeState → Option Cmd → Type 0
 HasCommand w n s None = IsIdle s
 HasCommand w n s (Some x) = IsAt w n s x
 
--- A node has what the history says of its answers; no channel of it is open, and it was given no space; and once it has left, it
--- has no command left.
+-- A node has what the history says of its answers; no channel of it is open; and once it has left, it has no command left.
 pub record IsNode (w : Plain) (n : ℕ) (s : NodeState) : Type 0 where
   pub past : s.past ≡ past n w.history
   pub alive : s.past.dead ≡ false
   pub closed : s.past.channels ≡ replicate 8 false
   pub geometry : s.seen.geometry ≡ w.geometry
   pub channel : s.seen.channel ≡ None
-  pub space : HasNoSpace (space_of s.seen)
   pub command : HasCommand w n s s.cmd
   pub over : s.over ≡ true → (s.cmd ≡ None) × (next_command w.script n w.history ≡ None)
 

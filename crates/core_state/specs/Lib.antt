@@ -1,6 +1,7 @@
 pub mod Worlds
 pub mod Images
 pub mod Raises
+pub mod Searches
 pub mod Goods
 pub mod Mounting
 pub mod Events

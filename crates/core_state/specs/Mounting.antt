@@ -9,7 +9,7 @@ use Rattle.vol_parts.specs.Findings.{Accepts, CatOf}
 use Rattle.vol_analyze.specs.Judging.{IsFirstFound}
 use Rattle.core_state.specs.declared.mounting.MountFault.{MountFault}
 use Rattle.core_state.specs.declared.mounting.MountFault.TheVariants as fault
-use Rattle.core_state.specs.Worlds.{NodeState, Plain}
+use Rattle.core_state.specs.Worlds.{no_search, NodeState, Plain}
 
 abbrev pub at_rest : Geometry → NodeState
 at_rest g = record {
@@ -18,6 +18,8 @@ at_rest g = record {
   seen = record { geometry = g; channel = None; locks = []; blocks = []; clusters = []; number = None; short = None };
   plan = None;
   done = 0;
+  asked = [];
+  search = no_search;
   over = false;
   turns = 0;
   writes = 0;

@@ -11,9 +11,22 @@ use Rattle.plain_cat.specs.declared.cat.Cat.{Cat}
 use Rattle.plain_vol.specs.Own.{NodePast, next_command}
 use Rattle.vol_parts.specs.declared.geometry.Geometry.{Geometry}
 use Rattle.op_law.specs.declared.need.Plan.{Plan}
+use Rattle.op_law.specs.declared.need.PlanWrite.{PlanWrite}
 use Rattle.op_law.specs.declared.seen.Seen.{Seen}
 use Rattle.core_state.specs.declared.node.Node.{Node}
 use Rattle.core_state.specs.declared.cluster.Core.{Core}
+
+-- what a search for space has done
+pub record Search : Type 0 where
+  -- the blocks of the bitmaps that it has looked at, each with its LBN, in order
+  pub looked : List (ℕ × Block)
+  -- the writes that it has decided on, and how many of them are made
+  pub takes : List PlanWrite
+  pub taken : ℕ
+
+-- no search is begun
+abbrev pub no_search : Search
+no_search = record { looked = []; takes = []; taken = 0 }
 
 -- a node
 pub record NodeState : Type 0 where
@@ -24,6 +37,9 @@ pub record NodeState : Type 0 where
   pub seen : Seen
   pub plan : Option Plan
   pub done : ℕ
+  -- the locks that it has asked for, in order: those of the command, and that of its search for space
+  pub asked : List (LockName × Mode)
+  pub search : Search
   -- it has left the volume
   pub over : Bool
   -- how many turns it has made, and how many blocks it has written, read from the drive, and found cached
@@ -61,6 +77,8 @@ state_of cmd_is n = record {
   seen = n.seen;
   plan = n.plan;
   done = n.done;
+  asked = n.asked;
+  search = record { looked = n.looked; takes = n.takes; taken = n.taken };
   over = n.over;
   turns = n.turns;
   writes = n.writes;
@@ -102,7 +120,7 @@ with_node w n s = record w { nodes = set_node w.nodes n s }
 -- the locks that a node has asked for
 abbrev pub locks_in : Option NodeState → List (LockName × Mode)
 locks_in None = []
-locks_in (Some s) = s.seen.locks
+locks_in (Some s) = s.asked
 
 abbrev pub locks_of : List NodeState → ℕ → List (LockName × Mode)
 locks_of nodes n = locks_in (node_at nodes n)

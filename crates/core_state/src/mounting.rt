@@ -11,7 +11,7 @@ use blk_drive::{ImageDev, Mirror};
 use blk_whole::blocks_are_whole;
 use lock_db::LockDb;
 use node_past::Past;
-use op_law::{NoMemory, Operation, Seen, SeenBlocks, SeenLocks};
+use op_law::{NoMemory, Operation, Seen, SeenBlocks, SeenLocks, Writes};
 use plain_cat::{Cat, Clusters, History, Script};
 use std::alloc::Global;
 use vol_analyze::{Finding, accepted};
@@ -54,6 +54,10 @@ fn resting<O: Operation>(alloc: Global, geometry: Geometry) -> Node<O>
         },
         plan: None,
         done: 0,
+        asked: SeenLocks::new(alloc),
+        looked: SeenBlocks::new(alloc),
+        takes: Writes::new(alloc),
+        taken: 0,
         over: false,
         turns: 0,
         writes: 0,

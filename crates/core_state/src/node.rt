@@ -1,5 +1,5 @@
 use node_past::Past;
-use op_law::{Operation, Plan, Seen};
+use op_law::{Operation, Plan, Seen, SeenBlocks, SeenLocks, Writes};
 
 /// A node of the cluster.
 #[derive(Drop)]
@@ -10,8 +10,7 @@ pub struct Node<O: Operation> {
     /// Its command under way.
     pub op: Option<O>,
 
-    /// What it has seen for the command. Its locks are those that the command has asked for, of which the last may still stand
-    /// in a queue.
+    /// What it has seen for the command.
     pub seen: Seen,
 
     /// What it has decided on.
@@ -19,6 +18,17 @@ pub struct Node<O: Operation> {
 
     /// How many writes of the plan are done.
     pub done: usize,
+
+    /// The locks that it has asked for, in order: those of the command, and that of its search for space. The last may still
+    /// stand in a queue.
+    pub asked: SeenLocks,
+
+    /// The blocks of the bitmaps that its search has looked at.
+    pub looked: SeenBlocks,
+
+    /// The writes that the search has decided on, and how many of them are made.
+    pub takes: Writes,
+    pub taken: usize,
 
     /// Its script is done, and it has left the volume.
     pub over: bool,

@@ -1,6 +1,7 @@
 -- What is known of a node that begins a command.
 use Rattle.std.proofs.Common.{◌≡◌, ◌≤◌, ◌-◌, ◌+◌, ℕ, Bool, true, false, cond, List, [], ◌∷◌, Option, Some, None, Result, Ok, Err, length, map, slice_set, refl, sym, ap, subst, ◌∙◌, arith}
 use Rattle.std.specs.Prelude.{slice_index_or, option_map, is_some, OnOk, IfOk}
+use Rattle.lock_db.specs.declared.name.LockName.TheVariants.{V}
 use Rattle.lock_db.specs.declared.resource.Resource.{Resource}
 use Rattle.plain_cat.specs.declared.command.Cmd.{Cmd}
 use Rattle.plain_vol.specs.Own.{next_command}
@@ -12,7 +13,7 @@ use Rattle.op_law.specs.Needs.{need_of, IsNext}
 use Rattle.op_law.specs.Laws.{Lawful}
 use Rattle.core_state.specs.Worlds.{NodeState, Plain, node_at, set_node, with_node, current, or_next, state_of}
 use Rattle.core_state.specs.Goods.{IsIdle, HasCommand, IsNode, Good, decided, HasRoom}
-use Rattle.core_state.specs.Events.{Event, Rest, Stand, Leave, Ask, See, Decide, by_need, by_plan, by_begun, by_command, event_of, next_event, command_event_of, command_event, happen, happens, begun, plan_in}
+use Rattle.core_state.specs.Events.{Event, Rest, Stand, Leave, Ask, Claim, See, Decide, has_asked, by_search, by_need, by_plan, by_begun, by_command, event_of, next_event, command_event_of, command_event, happen, happens, begun, plan_in}
 use Rattle.core_state.specs.declared.node.Node.{Node}
 use Rattle.core_state.proofs.Nodes.{at_here, set_node_twice, set_node_same, length_node, told_at, told_set}
 use Rattle.core_state.proofs.Turning.{under_command}
@@ -21,7 +22,7 @@ use Rattle.core_step.specs.Ready.{IsReady, Begins}
 use Rattle.core_step.specs.Turns.{told}
 use Rattle.core_step.specs.declared.turns.Turn.{Turn}
 use Rattle.core_step.proofs.Steps.{happen_here}
-use Rattle.core_step.proofs.Ready.{decided_set, event_need, no_space}
+use Rattle.core_step.proofs.Ready.{decided_set, event_need}
 
 module _ (w : Plain) (good : Good w) (n : ℕ) (x : Cmd) (b : Begins w n x) (law : Lawful x) where
   abbrev s : NodeState
@@ -56,17 +57,28 @@ module _ (w : Plain) (good : Good w) (n : ℕ) (x : Cmd) (b : Begins w n x) (law
   }
 
   -- its first event
-  pub event_now : next_event w n ≡ by_need x (need_of x s.seen)
+  pub event_now : next_event w n ≡ by_need x s (need_of x s.seen)
   event_now = ap (event_of w n) b.at ∙ by_over b.on where
-    by_over : s.over ≡ false → event_of w n (Some s) ≡ by_need x (need_of x s.seen)
+    by_over : s.over ≡ false → event_of w n (Some s) ≡ by_need x s (need_of x s.seen)
     by_over on =
-        ap (λ t. cond t Rest (cond (waits_at w.locks n s.seen.locks) Stand (by_command s (current w n s)))) on
+        ap (λ t. cond t Rest (cond (waits_at w.locks n s.asked) Stand (by_command s (current w n s)))) on
         ∙ ap (λ t. cond t Stand (by_command s (current w n s))) b.free
         ∙ ap (by_command s) (ap (λ o. or_next o (next_command w.script n w.history)) b.idle ∙ b.next)
         ∙ ap (by_plan x s) no_plan
 
-  pub event_begun : command_event w1 n ≡ by_need x (need_of x s.seen)
-  event_begun = event_need w1 good_begun n ready_begun (ap (λ o. plan_in o) at_begun ∙ no_plan) (need_of x s.seen) refl
+  -- it has asked for nothing
+  nothing_asked : has_asked V s.asked ≡ false
+  nothing_asked = ap (has_asked V) (subst (HasCommand w n s) b.idle node.command).asked
+
+  same_need : (next : Need) → by_need x (begun s x) next ≡ by_need x s next
+  same_need (need.Lock name mode) = refl
+  same_need (need.Block name lbn) = refl
+  same_need (need.Bare lbn) = refl
+  same_need (need.Space clusters number) = ap (by_search x (begun s x) clusters number) nothing_asked ∙ sym (ap (by_search x s clusters number) nothing_asked)
+  same_need (need.Ready p) = refl
+
+  pub event_begun : command_event w1 n ≡ by_need x s (need_of x s.seen)
+  event_begun = event_need w1 good_begun n ready_begun (ap (λ o. plan_in o) at_begun ∙ no_plan) (need_of x s.seen) refl ∙ same_need (need_of x s.seen)
 
   -- and what it leaves is as though the node had begun with it
   pub same_event : happen w1 n (command_event w1 n) ≡ happen w n (next_event w n)
@@ -74,11 +86,13 @@ module _ (w : Plain) (good : Good w) (n : ℕ) (x : Cmd) (b : Begins w n x) (law
     twice : (t : List Resource) (r : NodeState) → record w { locks = t; nodes = set_node w1.nodes n r } ≡ record w { locks = t; nodes = set_node w.nodes n r }
     twice t r = ap (λ ns. record w { locks = t; nodes = ns }) (set_node_twice w.nodes n (begun s x) r)
 
-    by_next : (next : Need) → need_of x s.seen ≡ next → happen w1 n (by_need x next) ≡ happen w n (by_need x next)
+    by_next : (next : Need) → need_of x s.seen ≡ next → happen w1 n (by_need x s next) ≡ happen w n (by_need x s next)
     by_next (need.Lock name mode) e = sym (happen_here w1 n (begun s x) (Ask x name mode) at_begun) ∙ twice _ _ ∙ happen_here w n s (Ask x name mode) b.at
     by_next (need.Block name lbn) e = sym (happen_here w1 n (begun s x) (See x lbn) at_begun) ∙ twice w.locks _ ∙ happen_here w n s (See x lbn) b.at
     by_next (need.Bare lbn) e = sym (happen_here w1 n (begun s x) (See x lbn) at_begun) ∙ twice w.locks _ ∙ happen_here w n s (See x lbn) b.at
-    by_next (need.Space clusters number) e = absurd (no_space w1 good_begun n ready_begun clusters number e)
+    by_next (need.Space clusters number) e =
+        let claim : by_need x s (need.Space clusters number) ≡ Claim x = ap (by_search x s clusters number) nothing_asked in
+        ap (happen w1 n) claim ∙ sym (happen_here w1 n (begun s x) (Claim x) at_begun) ∙ twice _ _ ∙ happen_here w n s (Claim x) b.at ∙ sym (ap (happen w n) claim)
     by_next (need.Ready p) e = sym (happen_here w1 n (begun s x) (Decide x p) at_begun) ∙ twice w.locks _ ∙ happen_here w n s (Decide x p) b.at
 
   pub same_answer : (new : Plain) → told new n (command_event w1 n) ≡ told new n (next_event w n)
@@ -118,18 +132,18 @@ module _ (w : Plain) (good : Good w) (n : ℕ) (x : Cmd) (b : Begins w n x) (law
 
 module _ (w : Plain) (n : ℕ) (s : NodeState) (at : node_at w.nodes n ≡ Some s) where
   pub rests : s.over ≡ true → next_event w n ≡ Rest
-  rests over = ap (event_of w n) at ∙ ap (λ t. cond t Rest (cond (waits_at w.locks n s.seen.locks) Stand (by_command s (current w n s)))) over
+  rests over = ap (event_of w n) at ∙ ap (λ t. cond t Rest (cond (waits_at w.locks n s.asked) Stand (by_command s (current w n s)))) over
 
-  pub stands : s.over ≡ false → waits_at w.locks n s.seen.locks ≡ true → next_event w n ≡ Stand
-  stands on waits = ap (event_of w n) at ∙ ap (λ t. cond t Rest (cond (waits_at w.locks n s.seen.locks) Stand (by_command s (current w n s)))) on ∙ ap (λ t. cond t Stand (by_command s (current w n s))) waits
+  pub stands : s.over ≡ false → waits_at w.locks n s.asked ≡ true → next_event w n ≡ Stand
+  stands on waits = ap (event_of w n) at ∙ ap (λ t. cond t Rest (cond (waits_at w.locks n s.asked) Stand (by_command s (current w n s)))) on ∙ ap (λ t. cond t Stand (by_command s (current w n s))) waits
 
-  free_event : s.over ≡ false → waits_at w.locks n s.seen.locks ≡ false → next_event w n ≡ by_command s (current w n s)
-  free_event on free = ap (event_of w n) at ∙ ap (λ t. cond t Rest (cond (waits_at w.locks n s.seen.locks) Stand (by_command s (current w n s)))) on ∙ ap (λ t. cond t Stand (by_command s (current w n s))) free
+  free_event : s.over ≡ false → waits_at w.locks n s.asked ≡ false → next_event w n ≡ by_command s (current w n s)
+  free_event on free = ap (event_of w n) at ∙ ap (λ t. cond t Rest (cond (waits_at w.locks n s.asked) Stand (by_command s (current w n s)))) on ∙ ap (λ t. cond t Stand (by_command s (current w n s))) free
 
-  pub leaves : s.over ≡ false → waits_at w.locks n s.seen.locks ≡ false → s.cmd ≡ None → next_command w.script n w.history ≡ None → next_event w n ≡ Leave
+  pub leaves : s.over ≡ false → waits_at w.locks n s.asked ≡ false → s.cmd ≡ None → next_command w.script n w.history ≡ None → next_event w n ≡ Leave
   leaves on free idle none = free_event on free ∙ ap (by_command s) (ap (λ o. or_next o (next_command w.script n w.history)) idle ∙ none)
 
-  pub goes : (x : Cmd) → s.over ≡ false → waits_at w.locks n s.seen.locks ≡ false → s.cmd ≡ Some x → next_event w n ≡ command_event w n
+  pub goes : (x : Cmd) → s.over ≡ false → waits_at w.locks n s.asked ≡ false → s.cmd ≡ Some x → next_event w n ≡ command_event w n
   goes x on free has = free_event on free ∙ ap (by_command s) (ap (λ o. or_next o (next_command w.script n w.history)) has) ∙ sym (ap command_event_of at ∙ ap (by_begun s) has)
 
   pub rest_so : (new : Plain) → s.over ≡ true → new ≡ happen w n Stand → new ≡ happen w n (next_event w n)
@@ -144,7 +158,7 @@ module _ (w : Plain) (n : ℕ) (s : NodeState) (at : node_at w.nodes n ≡ Some 
     same_total : (a b k j : ℕ) → j ≡ k → a + k ≡ b + j → a ≡ b
     same_total a b k j e f = omega arith
 
-is_ready : (w : Plain) (n : ℕ) (s : NodeState) → node_at w.nodes n ≡ Some s → waits_at w.locks n s.seen.locks ≡ false → (o : Option Cmd) → s.cmd ≡ o → is_some o ≡ true → IsReady w n
+is_ready : (w : Plain) (n : ℕ) (s : NodeState) → node_at w.nodes n ≡ Some s → waits_at w.locks n s.asked ≡ false → (o : Option Cmd) → s.cmd ≡ o → is_some o ≡ true → IsReady w n
 is_ready w n s at free None e some = absurd (let f : false ≡ true = some in cc)
 is_ready w n s at free (Some x) e some = record { state = s; at = at; cmd = x; has = e; free = free }
 
@@ -157,7 +171,7 @@ told_none f None e = refl
 told_none f (Some a) e = absurd (let g : true ≡ false = e in cc)
 
 -- a node whose item has an operation is ready
-pub ready_so : {O : Type 0} (cmd_is : O → Cmd) (w : Plain) (n : ℕ) (d : Node O) → node_at w.nodes n ≡ Some (state_of cmd_is d) → waits_at w.locks n d.seen.locks ≡ false → true ≡ is_some d.op → IsReady w n
+pub ready_so : {O : Type 0} (cmd_is : O → Cmd) (w : Plain) (n : ℕ) (d : Node O) → node_at w.nodes n ≡ Some (state_of cmd_is d) → waits_at w.locks n d.asked ≡ false → true ≡ is_some d.op → IsReady w n
 ready_so cmd_is w n d at free some = is_ready w n (state_of cmd_is d) at free (option_map cmd_is d.op) refl (told_some cmd_is d.op ∙ sym some)
 
 pub idle_so : {O : Type 0} (cmd_is : O → Cmd) (d : Node O) → false ≡ is_some d.op → (state_of cmd_is d).cmd ≡ None
@@ -183,7 +197,7 @@ lawful_begun w n x b law s y at now =
     let k : x ≡ y = cc in
     subst (λ (z : Cmd). Lawful z) k law
 
-pub goes_ready : (w : Plain) (n : ℕ) (s : NodeState) → node_at w.nodes n ≡ Some s → (r : IsReady w n) → s.over ≡ false → waits_at w.locks n s.seen.locks ≡ false → next_event w n ≡ command_event w n
+pub goes_ready : (w : Plain) (n : ℕ) (s : NodeState) → node_at w.nodes n ≡ Some s → (r : IsReady w n) → s.over ≡ false → waits_at w.locks n s.asked ≡ false → next_event w n ≡ command_event w n
 goes_ready w n s at r on free =
     let f : Some r.state ≡ Some s = sym r.at ∙ at in
     let h : r.state ≡ s = cc in
@@ -197,11 +211,11 @@ lawful_over w n s at over q x there on =
     let g : true ≡ false = sym over ∙ ap (λ y. y.over) h ∙ on in
     absurd (cc)
 
-pub lawful_waits : (w : Plain) (n : ℕ) (s : NodeState) → node_at w.nodes n ≡ Some s → waits_at w.locks n s.seen.locks ≡ true → (q : NodeState) (x : Cmd) → node_at w.nodes n ≡ Some q → waits_at w.locks n q.seen.locks ≡ false → Lawful x
+pub lawful_waits : (w : Plain) (n : ℕ) (s : NodeState) → node_at w.nodes n ≡ Some s → waits_at w.locks n s.asked ≡ true → (q : NodeState) (x : Cmd) → node_at w.nodes n ≡ Some q → waits_at w.locks n q.asked ≡ false → Lawful x
 lawful_waits w n s at waits q x there free =
     let f : Some s ≡ Some q = sym at ∙ there in
     let h : s ≡ q = cc in
-    let g : true ≡ false = sym waits ∙ ap (λ y. waits_at w.locks n y.seen.locks) h ∙ free in
+    let g : true ≡ false = sym waits ∙ ap (λ y. waits_at w.locks n y.asked) h ∙ free in
     absurd (cc)
 
 pub lawful_left : (w : Plain) (n : ℕ) (s : NodeState) → node_at w.nodes n ≡ Some s → s.cmd ≡ None → next_command w.script n w.history ≡ None → (q : NodeState) (x : Cmd) → node_at w.nodes n ≡ Some q → current w n q ≡ Some x → Lawful x

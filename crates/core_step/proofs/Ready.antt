@@ -5,6 +5,7 @@ use Rattle.std.proofs.lemmas.Bool.Decides.{nat_tests}
 use Rattle.std.proofs.lemmas.Option.{slice_get_within}
 use Rattle.vol_words.specs.Fields.{Block}
 use Rattle.lock_db.specs.declared.name.LockName.{LockName}
+use Rattle.lock_db.specs.declared.name.LockName.TheVariants.{V}
 use Rattle.lock_db.specs.declared.resource.Resource.{Resource}
 use Rattle.lock_db.specs.Queues.{standing_of}
 use Rattle.lock_db.specs.declared.resource.Asked.{Asked}
@@ -13,6 +14,7 @@ use Rattle.lock_db.specs.Resources.{goes_at_once, asked_answer}
 use Rattle.lock_db.specs.Tables.{IsTable, resource_at, asked, released}
 use Rattle.lock_db.proofs.Steps.{IsTable-released}
 use Rattle.plain_cat.specs.declared.mode.Mode.{Mode}
+use Rattle.plain_cat.specs.declared.mode.Mode.TheVariants.{PW}
 use Rattle.plain_cat.specs.declared.command.Cmd.{Cmd}
 use Rattle.plain_cat.specs.declared.reply.Reply.{Reply}
 use Rattle.plain_cat.specs.declared.script.Script.{Script}
@@ -30,7 +32,7 @@ use Rattle.vol_owners.specs.Owners.{Owners, nothing, Outs}
 use Rattle.vol_owners.specs.declared.owner.Owner.{Owner}
 use Rattle.vol_parts.specs.declared.geometry.Geometry.{Geometry}
 use Rattle.vol_parts.specs.declared.geometry.Part.{Part}
-use Rattle.vol_parts.specs.Parts.{part_of}
+use Rattle.vol_parts.specs.Parts.{IsGeometry, part_of}
 use Rattle.vol_spell.specs.Reading.{owner_at}
 use Rattle.vol_spell.specs.Spelling.{Spells}
 use Rattle.vol_spell.proofs.Parts.{are_parts}
@@ -46,15 +48,21 @@ use Rattle.op_law.specs.declared.seen.Seen.{Seen}
 use Rattle.op_law.specs.Needs.{need_of, IsNext}
 use Rattle.op_law.specs.Fits.{FitsSeen}
 use Rattle.op_law.specs.Laws.{planned}
+use Rattle.op_law.specs.Knows.{wants_number}
+use Rattle.node_space.specs.declared.outcome.Search.{Search as Outcome}
+use Rattle.node_space.specs.declared.outcome.Search.TheVariants as search
+use Rattle.node_space.specs.Answering.{answer, blocks_of}
+use Rattle.core_state.specs.Searches.{wanted_by}
 use Rattle.core_state.specs.Worlds.{NodeState, Plain, node_at, set_node, locks_in, locks_of}
 use Rattle.core_state.specs.Raises.{raise_of}
 use Rattle.core_state.specs.Goods.{is_run, writes_of, IsAtPlan, IsAt, IsNode, Good, decided, HasRoom}
-use Rattle.core_state.specs.Events.{Event, Ask, See, Decide, Put, Answer, happens, happen, block_at, turned, asking, looking, deciding, writing, answering, by_need, by_write, by_plan, by_begun, command_event_of, command_event, command_in, command_at, plan_in, plan_at}
+use Rattle.core_state.specs.Events.{Event, Ask, Claim, See, Scan, Grab, Decide, Put, Answer, has_asked, all_writes, by_answer, by_takes, by_search, claiming, scanning, grabbing, happens, happen, block_at, turned, asking, looking, deciding, writing, answering, by_need, by_write, by_plan, by_begun, command_event_of, command_event, command_in, command_at, plan_in, plan_at}
 use Rattle.core_state.specs.Worlds.{state_of}
 use Rattle.core_state.specs.declared.node.Node.{Node}
 use Rattle.core_state.proofs.Nodes.{at_here, length_node, told_at}
-use Rattle.core_state.proofs.RunKinds.{run_space}
-use Rattle.core_state.proofs.Turning.{under_command, seen_on, may_need, here, planned_at}
+use Rattle.core_state.proofs.Standing.{new_to_all, asks_once, claim_asks}
+use Rattle.core_state.proofs.Searching.{there_now, is_taking, scan_within, looks_on}
+use Rattle.core_state.proofs.Turning.{under_command, drive, seen_on, may_need, here, planned_at}
 use Rattle.core_step.specs.Giving.{MayGiveAll, MayEnd}
 use Rattle.core_step.specs.Ready.{IsReady}
 use Rattle.core_step.specs.declared.turns.Turn.TheVariants as turn
@@ -184,8 +192,8 @@ module _ (w : Plain) (good : Good w) (n : ℕ) (r : IsReady w n) where
   fits = record {
     order = is_at.seen;
     node = n;
-    blocks = good.running.drive.base;
-    own = good.running.drive.own;
+    blocks = (drive w good n s r.at r.cmd r.has r.free).base;
+    own = (drive w good n s r.at r.cmd r.has r.free).own;
     cat = good.running.cat;
     on = seen_on w good n s r.at r.cmd r.has r.free;
   }
@@ -196,30 +204,51 @@ module _ (w : Plain) (good : Good w) (n : ℕ) (r : IsReady w n) where
   pub has_plan : (o : Option Plan) → plan_at w n ≡ o → s.plan ≡ o
   has_plan o e = sym (ap plan_in r.at) ∙ e
 
-  pub event_need : plan_at w n ≡ None → (next : Need) → need_of r.cmd s.seen ≡ next → command_event w n ≡ by_need r.cmd next
-  event_need none next e = event_is ∙ ap (by_plan r.cmd s) (has_plan None none) ∙ ap (by_need r.cmd) e
+  pub event_need : plan_at w n ≡ None → (next : Need) → need_of r.cmd s.seen ≡ next → command_event w n ≡ by_need r.cmd s next
+  event_need none next e = event_is ∙ ap (by_plan r.cmd s) (has_plan None none) ∙ ap (by_need r.cmd s) e
 
   pub event_write : (p : Plan) → s.plan ≡ Some p → (o : Option PlanWrite) → slice_get p.writes s.done ≡ o → command_event w n ≡ by_write r.cmd p.reply o
   event_write p plan o e = event_is ∙ ap (by_plan r.cmd s) plan ∙ ap (by_write r.cmd p.reply) e
 
-  -- a lock that is needed can be asked for
-  pub may_lock : (name : LockName) (mode : Mode) → IsNext r.cmd s.seen (need.Lock name mode) → standing_of (system_of n) (resource_at name w.locks).askers ≡ None
-  may_lock name mode is =
-      (subst (λ (ls : List (LockName × Mode)). HoldsItsLocks w.locks n ls) (ap locks_in r.at) (good.locked.1 n)).no_other name ((may_need w good n s r.at r.cmd r.has r.free (need.Lock name mode) is).new)
+  -- a lock on a name that it has none on can be asked for
+  may_ask : (name : LockName) → (Has (names_of s.asked) name → ⊥) → standing_of (system_of n) (resource_at name w.locks).askers ≡ None
+  may_ask name new = (subst (λ (ls : List (LockName × Mode)). HoldsItsLocks w.locks n ls) (ap locks_in r.at) (good.locked.1 n)).no_other name new
 
   -- and it stands in a queue where it was not granted at once
-  pub asked_waits : (name : LockName) (mode : Mode) → IsNext r.cmd s.seen (need.Lock name mode)
-      → waits_at (asked name (system_of n) mode w.locks) n (s.seen.locks ++ (name, mode) ∷ []) ≡ not (goes_at_once (system_of n) mode (resource_at name w.locks).askers)
-  asked_waits name mode is =
-      let mine : locks_of w.nodes n ≡ s.seen.locks = ap locks_in r.at in
-      let new : Has (names_of s.seen.locks) name → ⊥ = (may_need w good n s r.at r.cmd r.has r.free (need.Lock name mode) is).new in
+  waits_more : (name : LockName) (mode : Mode) → (Has (names_of s.asked) name → ⊥)
+      → waits_at (asked name (system_of n) mode w.locks) n (s.asked ++ (name, mode) ∷ []) ≡ not (goes_at_once (system_of n) mode (resource_at name w.locks).askers)
+  waits_more name mode new =
+      let mine : locks_of w.nodes n ≡ s.asked = ap locks_in r.at in
       let after = asking_holds w.locks n (name, mode) (locks_of w.nodes) good.locked.1
       (subst (λ (ls : List (LockName × Mode)). waits_at w.locks n ls ≡ false) (sym mine) r.free)
       (λ h. new (subst (λ (ls : List (LockName × Mode)). Has (names_of ls) name) mine h)) in
       subst (λ (ls : List (LockName × Mode)). waits_at (asked name (system_of n) mode w.locks) n (ls ++ (name, mode) ∷ []) ≡ not (goes_at_once (system_of n) mode (resource_at name w.locks).askers)) mine after.waits
 
-  within : (lbn : ℕ) → lbn < length good.running.drive.base → lbn < length w.blocks
-  within lbn lt = subst (λ (k : ℕ). lbn < k) (sym good.running.drive.over.count) lt
+  -- so it is of a lock that is needed
+  new_lock : (name : LockName) (mode : Mode) → IsNext r.cmd s.seen (need.Lock name mode) → Has (names_of s.asked) name → ⊥
+  new_lock name mode is =
+      let may = may_need w good n s r.at r.cmd r.has r.free (need.Lock name mode) is in
+      new_to_all w.locks n r.cmd s.asked s.search s.seen is_at.search name may.own may.new
+
+  pub may_lock : (name : LockName) (mode : Mode) → IsNext r.cmd s.seen (need.Lock name mode) → standing_of (system_of n) (resource_at name w.locks).askers ≡ None
+  may_lock name mode is = may_ask name (new_lock name mode is)
+
+  pub asked_waits : (name : LockName) (mode : Mode) → IsNext r.cmd s.seen (need.Lock name mode)
+      → waits_at (asked name (system_of n) mode w.locks) n (s.asked ++ (name, mode) ∷ []) ≡ not (goes_at_once (system_of n) mode (resource_at name w.locks).askers)
+  asked_waits name mode is = waits_more name mode (new_lock name mode is)
+
+  -- and of the lock of the bitmaps, where a search begins
+  new_claim : has_asked V s.asked ≡ false → Has (names_of s.asked) V → ⊥
+  new_claim none = (asks_once w.locks n r.cmd s.asked s.search s.seen is_at.search none).1
+
+  pub may_claim : has_asked V s.asked ≡ false → standing_of (system_of n) (resource_at V w.locks).askers ≡ None
+  may_claim none = may_ask V (new_claim none)
+
+  pub claim_waits : has_asked V s.asked ≡ false → waits_at (asked V (system_of n) PW w.locks) n (s.asked ++ (V, PW) ∷ []) ≡ not (goes_at_once (system_of n) PW (resource_at V w.locks).askers)
+  claim_waits none = waits_more V PW (new_claim none)
+
+  within : (lbn : ℕ) → lbn < length (drive w good n s r.at r.cmd r.has r.free).base → lbn < length w.blocks
+  within lbn lt = subst (λ (k : ℕ). lbn < k) (sym (drive w good n s r.at r.cmd r.has r.free).over.count) lt
 
   pub look_within : (name : LockName) (lbn : ℕ) → IsNext r.cmd s.seen (need.Block name lbn) → lbn < length w.blocks
   look_within name lbn is = within lbn (may_need w good n s r.at r.cmd r.has r.free (need.Block name lbn) is).within
@@ -227,8 +256,43 @@ module _ (w : Plain) (good : Good w) (n : ℕ) (r : IsReady w n) where
   pub fetch_within : (lbn : ℕ) → IsNext r.cmd s.seen (need.Bare lbn) → lbn < length w.blocks
   fetch_within lbn is = within lbn (may_need w good n s r.at r.cmd r.has r.free (need.Bare lbn) is).within
 
-  pub no_space : (clusters : ℕ) (number : Bool) → IsNext r.cmd s.seen (need.Space clusters number) → ⊥
-  no_space clusters number is = run_space r.cmd is_at.runs (may_need w good n s r.at r.cmd r.has r.free (need.Space clusters number) is).0.takes
+  -- the geometry that it has seen is one of a volume
+  pub has_geometry : IsGeometry s.seen.geometry
+  has_geometry = (drive w good n s r.at r.cmd r.has r.free).spelt.counts.geometry
+
+  -- a search that has writes to make makes the next one
+  pub event_grab : plan_at w n ≡ None → (v : PlanWrite) → slice_get s.search.takes s.search.taken ≡ Some v → command_event w n ≡ Grab v
+  event_grab none v next =
+      let h = is_taking w good n s r.at r.cmd r.has r.free (has_plan None none) (slice_get_within s.search.takes s.search.taken v next) in
+      event_need none (need.Space (wanted_by r.cmd s.seen) (wants_number r.cmd)) h.needs.next
+      ∙ ap (by_search r.cmd s (wanted_by r.cmd s.seen) (wants_number r.cmd)) (claim_asks r.cmd s.asked s.search s.seen h.found.claimed)
+      ∙ ap (by_takes r.cmd s (wanted_by r.cmd s.seen) (wants_number r.cmd)) next
+
+  pub grab_within : plan_at w n ≡ None → (v : PlanWrite) → slice_get s.search.takes s.search.taken ≡ Some v → v.lbn < length w.blocks
+  grab_within none v next =
+      let lt = slice_get_within s.search.takes s.search.taken v next in
+      let h = is_taking w good n s r.at r.cmd r.has r.free (has_plan None none) lt in
+      slice_get_within w.blocks v.lbn _ (there_now w good n s r.at r.cmd r.has r.free (has_plan None none) h v next)
+
+  -- a search begins with the lock of the bitmaps, and then looks
+  pub event_claim : plan_at w n ≡ None → (k : ℕ) (b : Bool) → IsNext r.cmd s.seen (need.Space k b) → has_asked V s.asked ≡ false → command_event w n ≡ Claim r.cmd
+  event_claim none k b is asks = event_need none (need.Space k b) is ∙ ap (by_search r.cmd s k b) asks
+
+  pub event_scan : plan_at w n ≡ None → (k : ℕ) (b : Bool) → IsNext r.cmd s.seen (need.Space k b) → has_asked V s.asked ≡ true → length s.search.takes ≤ s.search.taken → (lbn : ℕ) → answer s.seen.geometry k b (blocks_of s.search.looked) ≡ search.Look lbn
+      → command_event w n ≡ Scan r.cmd k b lbn
+  event_scan none k b is asks over lbn e =
+      event_need none (need.Space k b) is ∙ ap (by_search r.cmd s k b) asks ∙ ap (by_takes r.cmd s k b) (none_left s.search.takes s.search.taken over) ∙ ap (by_answer r.cmd k b) e where
+        none_left : (ws : List PlanWrite) (k : ℕ) → length ws ≤ k → slice_get ws k ≡ None
+        none_left [] k le = refl
+        none_left (y ∷ ws) zero le = absurd (omega arith)
+        none_left (y ∷ ws) (suc k) le = none_left ws k (omega arith)
+
+  pub scans_within : plan_at w n ≡ None → (k : ℕ) (b : Bool) (lbn : ℕ) → answer s.seen.geometry k b (blocks_of s.search.looked) ≡ search.Look lbn → lbn < length w.blocks
+  scans_within none k b lbn e = scan_within w good n s r.at r.cmd r.has r.free (has_plan None none) k b lbn e
+
+  pub comes_to : plan_at w n ≡ None → (k : ℕ) (b : Bool) → IsNext r.cmd s.seen (need.Space k b) → has_asked V s.asked ≡ true → length s.search.takes ≤ s.search.taken → (o : Outcome) → o ≡ answer s.seen.geometry k b (blocks_of s.search.looked)
+      → (lbn : ℕ) × (o ≡ search.Look lbn)
+  comes_to none k b is asks over o e = looks_on w good n s r.at r.cmd r.has r.free (has_plan None none) k b is asks over o e
 
   -- the next write is to a block of the volume
   pub write_within : (p : Plan) → s.plan ≡ Some p → (v : PlanWrite) → slice_get p.writes s.done ≡ Some v → v.lbn < length w.blocks
@@ -236,7 +300,7 @@ module _ (w : Plain) (good : Good w) (n : ℕ) (r : IsReady w n) where
       let now = here w good n s r.at r.cmd r.has r.free in
       let touched : Touches (bare (map planned (writes_of s.plan))) v.lbn = subst (λ (o : Option Plan). Touches (bare (map planned (writes_of o))) v.lbn) (sym plan) (next_in (map planned p.writes) s.done (planned v) (planned_at p.writes s.done v next)) in
       let mine = subst (λ (u : UnderWay). (l : ℕ) → Touches (bare u.plan) l → MayWrite n u.write (guard_of w.geometry good.running.drive.own l)) now (good.running.drive.plan_guarded n) in
-      within v.lbn (guard_within w.geometry good.running.drive.base good.running.drive.own good.running.cat good.running.drive.spelt n v.lbn _ (mine v.lbn touched))
+      subst (λ (k : ℕ). v.lbn < k) (sym good.running.drive.over.count) (guard_within w.geometry good.running.drive.base good.running.drive.own good.running.cat good.running.drive.spelt n v.lbn _ (mine v.lbn touched))
 
   -- its command can end
   pub may_end : length w.script.lines ≤ 4096 → (p : Plan) → s.plan ≡ Some p → MayEnd w.geometry n s w.locks
@@ -244,7 +308,7 @@ module _ (w : Plain) (good : Good w) (n : ℕ) (r : IsReady w n) where
     cmd = ap is_some r.has;
     plan = ap is_some plan;
     few = (let a = answered in let b = few_lines n w.script.lines in omega arith);
-    gives = give_each w.geometry n (writes_of s.plan) s.seen.locks (locks_of w.nodes) w.locks good.locked.0 good.locked.1
+    gives = give_each w.geometry n (all_writes s) s.asked (locks_of w.nodes) w.locks good.locked.0 good.locked.1
         (subst (λ (ls : List (LockName × Mode)). waits_at w.locks n ls ≡ false) (sym (ap locks_in r.at)) r.free) (ap locks_in r.at);
   } where
     next : or_close s.past (slice_get (lines_of n w.script.lines) s.past.answered) ≡ Some r.cmd
@@ -282,6 +346,15 @@ module _ (w : Plain) (good : Good w) (n : ℕ) (r : IsReady w n) where
   pub ask_room : (x : Cmd) (name : LockName) (mode : Mode) (spare : ℕ) → HasRoom w spare → (new : Plain) → new ≡ happen w n (Ask x name mode) → HasRoom new spare
   ask_room x name mode spare room new is = room_after (Ask x name mode) (turned (asking me x name mode)) spare spare refl refl (same_room (decided w.nodes) spare (weight me) room.places) room new is
 
+  pub claim_room : (x : Cmd) (spare : ℕ) → HasRoom w spare → (new : Plain) → new ≡ happen w n (Claim x) → HasRoom new spare
+  claim_room x spare room new is = room_after (Claim x) (turned (claiming me x)) spare spare refl refl (same_room (decided w.nodes) spare (weight me) room.places) room new is
+
+  pub scan_room : (x : Cmd) (k : ℕ) (b : Bool) (lbn : ℕ) (spare : ℕ) → HasRoom w spare → (new : Plain) → new ≡ happen w n (Scan x k b lbn) → HasRoom new spare
+  scan_room x k b lbn spare room new is = room_after (Scan x k b lbn) (turned (scanning me x k b lbn (block_at w.blocks lbn))) spare spare refl refl (same_room (decided w.nodes) spare (weight me) room.places) room new is
+
+  pub grab_room : (v : PlanWrite) (spare : ℕ) → HasRoom w spare → (new : Plain) → new ≡ happen w n (Grab v) → HasRoom new spare
+  grab_room v spare room new is = room_after (Grab v) (turned (grabbing me v)) spare spare refl refl (same_room (decided w.nodes) spare (weight me) room.places) room new is
+
   pub see_room : (x : Cmd) (lbn : ℕ) (spare : ℕ) → HasRoom w spare → (new : Plain) → new ≡ happen w n (See x lbn) → HasRoom new spare
   see_room x lbn spare room new is = room_after (See x lbn) (turned (looking me x lbn (block_at w.blocks lbn))) spare spare refl refl (same_room (decided w.nodes) spare (weight me) room.places) room new is
 
@@ -310,6 +383,15 @@ module _ (w : Plain) (good : Good w) (n : ℕ) (r : IsReady w n) where
       let there : node_at v.nodes n ≡ Some q = at_here w.nodes n q me r.at in
       let queued : is_queued_in v n (node_at v.nodes n) ≡ not t = ap (is_queued_in v n) there ∙ asked_waits w good n r name mode is ∙ ap not goes in
       ap (λ y. told y n (Ask r.cmd name mode)) (e ∙ sym (happen_here w n me (Ask r.cmd name mode) r.at)) ∙ ap (λ b. cond b turn.Waiting (turn.Moved kind.Locked)) queued
+
+  pub claim_told : has_asked V me.asked ≡ false → (t : Bool) → goes_at_once (system_of n) PW (resource_at V w.locks).askers ≡ t
+      → (new : Plain) → new ≡ happen w n (Claim r.cmd) → told new n (Claim r.cmd) ≡ cond (not t) turn.Waiting (turn.Moved kind.Locked)
+  claim_told none t goes new e =
+      let q : NodeState = turned (claiming me r.cmd) in
+      let v : Plain = happens w n me (Claim r.cmd) in
+      let there : node_at v.nodes n ≡ Some q = at_here w.nodes n q me r.at in
+      let queued : is_queued_in v n (node_at v.nodes n) ≡ not t = ap (is_queued_in v n) there ∙ claim_waits w good n r none ∙ ap not goes in
+      ap (λ y. told y n (Claim r.cmd)) (e ∙ sym (happen_here w n me (Claim r.cmd) r.at)) ∙ ap (λ b. cond b turn.Waiting (turn.Moved kind.Locked)) queued
 
 -- ---- the item that tells the node
 
@@ -356,6 +438,32 @@ module _ {O : Type 0} (cmd_is : O → Cmd) (xs : List (Node O)) (w : Plain) (n :
 
   pub op_need : (next : Need) → IfSome d.op (λ op. need_of (cmd_is op) d.seen ≡ next) → IsNext r.cmd r.state.seen next
   op_need next e = subst (λ (y : NodeState). need_of r.cmd y.seen ≡ next) mine (need_told cmd_is d.op r.cmd d.seen next op_is e)
+
+  pub item_asked : (b : Bool) → has_asked V d.asked ≡ b → has_asked V r.state.asked ≡ b
+  item_asked b e = ap (λ (y : NodeState). has_asked V y.asked) (sym mine) ∙ e
+
+  pub item_answer : (k : ℕ) (b : Bool) (o : Outcome) → o ≡ answer d.seen.geometry k b (blocks_of d.looked) → o ≡ answer r.state.seen.geometry k b (blocks_of r.state.search.looked)
+  item_answer k b o e = e ∙ ap (λ (y : NodeState). answer y.seen.geometry k b (blocks_of y.search.looked)) mine
+
+  pub item_geometry : Good w → IsGeometry d.seen.geometry
+  item_geometry good = subst (λ (y : NodeState). IsGeometry y.seen.geometry) (sym mine) (has_geometry w good n r)
+
+  pub item_over : length d.takes ≤ d.taken → (q : NodeState) → node_at w.nodes n ≡ Some q → length q.search.takes ≤ q.search.taken
+  item_over le q at = let f : Some (state_of cmd_is d) ≡ Some q = sym told_so ∙ at in let h : state_of cmd_is d ≡ q = cc in subst (λ (y : NodeState). length y.search.takes ≤ y.search.taken) h le
+
+  pub item_taken : (q : NodeState) → node_at w.nodes n ≡ Some q → d.taken ≡ q.search.taken
+  item_taken q at = let f : Some (state_of cmd_is d) ≡ Some q = sym told_so ∙ at in let h : state_of cmd_is d ≡ q = cc in ap (λ y. y.search.taken) h
+
+  pub item_take : (ws : List PlanWrite) (v : PlanWrite) → ws ≡ d.takes → d.taken < length ws → v ≡ slice_index_or ws d.taken v → slice_get r.state.search.takes r.state.search.taken ≡ Some v
+  item_take ws v same lt e = subst (λ (y : NodeState). slice_get y.search.takes y.search.taken ≡ Some v) mine (ap (λ (vs : List PlanWrite). slice_get vs d.taken) (sym same) ∙ some_at ws d.taken v lt e)
+
+  pub item_need : (k : ℕ) (b : Bool) → IfSome d.op (λ op. need_of (cmd_is op) d.seen ≡ need.Space k b) → (q : NodeState) (y : Cmd) → node_at w.nodes n ≡ Some q → q.cmd ≡ Some y → IsNext y q.seen (need.Space k b)
+  item_need k b e q y at has =
+      let f : Some r.state ≡ Some q = sym r.at ∙ at in
+      let h : r.state ≡ q = cc in
+      let c : Some r.cmd ≡ Some y = sym r.has ∙ ap (λ (z : NodeState). z.cmd) h ∙ has in
+      let i : r.cmd ≡ y = cc in
+      subst (λ (z : Cmd). IsNext z q.seen (need.Space k b)) i (subst (λ (z : NodeState). IsNext r.cmd z.seen (need.Space k b)) h (op_need (need.Space k b) e))
 
   -- any node of the number is this one
   pub one_node : (q : NodeState) → node_at w.nodes n ≡ Some q → d.done ≡ q.done

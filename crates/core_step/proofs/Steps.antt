@@ -1,9 +1,13 @@
 -- What a world is after one of its nodes has changed.
-use Rattle.std.proofs.Common.{◌≡◌, ◌≤◌, ◌<◌, ◌-◌, ◌++◌, ◌∷◌, [], ℕ, zero, suc, arith, List, Option, Some, None, Result, Ok, Err, length, map, slice_get, slice_set, refl, sym, ap, subst, ◌∙◌}
+use Rattle.std.proofs.Common.{◌≡◌, ◌≤◌, ◌<◌, ◌-◌, ◌++◌, ◌∷◌, [], ℕ, Bool, zero, suc, arith, List, Option, Some, None, Result, Ok, Err, length, map, slice_get, slice_set, refl, sym, ap, subst, ◌∙◌}
 use Rattle.std.specs.Prelude.{slice_index_or, option_map, IsSome, OnOk, OnErr}
 use Rattle.std.proofs.lemmas.Option.{get_or_from_slice_get}
 use Rattle.vol_words.specs.Fields.{Block}
 use Rattle.lock_db.specs.declared.name.LockName.{LockName}
+use Rattle.lock_db.specs.declared.name.LockName.TheVariants.{V}
+use Rattle.plain_cat.specs.declared.mode.Mode.TheVariants.{PW}
+use Rattle.node_space.specs.declared.outcome.Search.{Search as Outcome}
+use Rattle.node_space.specs.Answering.{answer, blocks_of}
 use Rattle.lock_db.specs.Tables.{asked}
 use Rattle.plain_cat.specs.declared.mode.Mode.{Mode}
 use Rattle.plain_cat.specs.declared.command.Cmd.{Cmd}
@@ -16,7 +20,7 @@ use Rattle.op_law.specs.declared.need.PlanWrite.{PlanWrite}
 use Rattle.op_law.specs.Going.{with_lock, with_block}
 use Rattle.core_state.specs.Worlds.{NodeState, Plain, node_at, set_node}
 use Rattle.core_state.specs.Goods.{writes_of}
-use Rattle.core_state.specs.Events.{Event, Stand, Leave, Ask, See, Decide, Put, Answer, happens, happen_at, happen, given_back, turned, leaving, writing, answering, one_more, command_in, command_at, plan_in, plan_at}
+use Rattle.core_state.specs.Events.{Event, Stand, Leave, Ask, Claim, See, Scan, Grab, Decide, Put, Answer, happens, happen_at, happen, all_writes, given_back, turned, leaving, asking, claiming, told_by, takes_by, looked_on, scanned, scanning, grabbing, writing, answering, one_more, command_in, command_at, plan_in, plan_at}
 use Rattle.vol_parts.specs.declared.geometry.Geometry.{Geometry}
 use Rattle.core_step.specs.Giving.{MayGiveAll}
 use Rattle.core_state.proofs.Nodes.{told_at, told_set, set_node_same}
@@ -55,12 +59,32 @@ module _ {A : Type 0} (f : A → NodeState) (xs : List A) (w : Plain) (n : ℕ) 
   pub left : f d' ≡ turned (leaving (f d)) → record w { nodes = after } ≡ happen w n Leave
   left e = ap (λ ns. record w { nodes = ns }) (now (turned (leaving (f d))) e) ∙ happen_here w n (f d) Leave at
 
-  pub asked_so : (x : Cmd) (name : LockName) (mode : Mode) → command_at w n ≡ Some x → f d' ≡ turned (record (f d) { seen = with_lock name mode (f d).seen })
+  pub asked_so : (x : Cmd) (name : LockName) (mode : Mode) → command_at w n ≡ Some x → f d' ≡ turned (record (f d) { asked = (f d).asked ++ (name, mode) ∷ []; seen = with_lock name mode (f d).seen })
       → record w { locks = asked name (system_of n) mode w.locks; nodes = after } ≡ happen w n (Ask x name mode)
   asked_so x name mode c e =
       ap (λ ns. record w { locks = asked name (system_of n) mode w.locks; nodes = ns })
-      (now (turned (record (f d) { cmd = Some x; seen = with_lock name mode (f d).seen })) (e ∙ ap (λ o. turned (record (f d) { cmd = o; seen = with_lock name mode (f d).seen })) (command x c)))
+      (now (turned (asking (f d) x name mode)) (e ∙ ap (λ o. turned (record (f d) { cmd = o; asked = (f d).asked ++ (name, mode) ∷ []; seen = with_lock name mode (f d).seen })) (command x c)))
       ∙ happen_here w n (f d) (Ask x name mode) at
+
+  pub claimed_so : (x : Cmd) → command_at w n ≡ Some x → f d' ≡ turned (record (f d) { asked = (f d).asked ++ (V, PW) ∷ [] }) → record w { locks = asked V (system_of n) PW w.locks; nodes = after } ≡ happen w n (Claim x)
+  claimed_so x c e =
+      ap (λ ns. record w { locks = asked V (system_of n) PW w.locks; nodes = ns }) (now (turned (claiming (f d) x)) (e ∙ ap (λ o. turned (record (f d) { cmd = o; asked = (f d).asked ++ (V, PW) ∷ [] })) (command x c)))
+      ∙ happen_here w n (f d) (Claim x) at
+
+  pub scanned_so : (x : Cmd) (clusters : ℕ) (number : Bool) (lbn : ℕ) (b : Block) (o : Outcome) → command_at w n ≡ Some x → slice_get w.blocks lbn ≡ Some b → o ≡ answer (f d).seen.geometry clusters number (blocks_of (looked_on (f d).search lbn b))
+      → f d' ≡ turned (record (f d) { seen = told_by o (f d).seen; search = record { looked = looked_on (f d).search lbn b; takes = takes_by o (f d).search.takes; taken = (f d).search.taken }; reads = one_more (f d).reads })
+      → record w { nodes = after } ≡ happen w n (Scan x clusters number lbn)
+  scanned_so x clusters number lbn b o c there is e =
+      let block : b ≡ slice_index_or w.blocks lbn [] = sym (get_or_from_slice_get w.blocks lbn b [] there) in
+      ap (λ ns. record w { nodes = ns })
+      (now (turned (scanning (f d) x clusters number lbn (slice_index_or w.blocks lbn [])))
+      (e ∙ ap (λ k. turned (record (scanned (f d) x lbn b o) { cmd = k })) (command x c)
+      ∙ ap (λ k. turned (scanned (f d) x lbn b k)) is
+      ∙ ap (λ y. turned (scanning (f d) x clusters number lbn y)) block))
+      ∙ happen_here w n (f d) (Scan x clusters number lbn) at
+
+  pub grabbed_so : (v : PlanWrite) (bs : List Block) → bs ≡ slice_set w.blocks v.lbn v.block → f d' ≡ turned (grabbing (f d) v) → record w { blocks = bs; nodes = after } ≡ happen w n (Grab v)
+  grabbed_so v bs b e = (λ i. record w { blocks = b i; nodes = now (turned (grabbing (f d) v)) e i }) ∙ happen_here w n (f d) (Grab v) at
 
   pub looked : (x : Cmd) (lbn : ℕ) (b : Block) → command_at w n ≡ Some x → slice_get w.blocks lbn ≡ Some b
       → f d' ≡ turned (record (f d) { seen = with_block lbn b (f d).seen; reads = one_more (f d).reads }) → record w { nodes = after } ≡ happen w n (See x lbn)
@@ -81,15 +105,15 @@ module _ {A : Type 0} (f : A → NodeState) (xs : List A) (w : Plain) (n : ℕ) 
   put_so v bs b e = (λ i. record w { blocks = b i; nodes = now (turned (writing (f d))) e i }) ∙ happen_here w n (f d) (Put v) at
 
   pub answered_so : (x : Cmd) (p : Plan) → command_at w n ≡ Some x → plan_at w n ≡ Some p → (cmd : Cmd) (plan : Plan) → (f d).cmd ≡ Some cmd → (f d).plan ≡ Some plan
-      → f d' ≡ turned (answering (f d) cmd plan.reply) → (t : List Resource) (h : List Entry) → t ≡ given_back w.geometry n plan.writes (f d).seen.locks w.locks → h ≡ w.history ++ Done n cmd plan.reply ∷ []
+      → f d' ≡ turned (answering (f d) cmd plan.reply) → (t : List Resource) (h : List Entry) → t ≡ given_back w.geometry n ((f d).search.takes ++ plan.writes) (f d).asked w.locks → h ≡ w.history ++ Done n cmd plan.reply ∷ []
       → record w { locks = t; nodes = after; history = h } ≡ happen w n (Answer x p.reply)
   answered_so x p c q cmd plan mine made e t h locks history =
       let first : Some cmd ≡ Some x = sym mine ∙ command x c in
       let same_cmd : cmd ≡ x = cc in
       let second : Some plan ≡ Some p = sym made ∙ sym (ap plan_in at) ∙ q in
       let same_plan : plan ≡ p = cc in
-      let ws : given_back w.geometry n plan.writes (f d).seen.locks w.locks ≡ given_back w.geometry n (writes_of (f d).plan) (f d).seen.locks w.locks
-      = ap (λ o. given_back w.geometry n (writes_of o) (f d).seen.locks w.locks) (sym made) in
+      let ws : given_back w.geometry n ((f d).search.takes ++ plan.writes) (f d).asked w.locks ≡ given_back w.geometry n (all_writes (f d)) (f d).asked w.locks
+      = ap (λ o. given_back w.geometry n ((f d).search.takes ++ writes_of o) (f d).asked w.locks) (sym made) in
       (λ i. record w { locks = (locks ∙ ws) i; nodes = now (turned (answering (f d) cmd plan.reply)) e i; history = history i })
       ∙ happen_here w n (f d) (Answer cmd plan.reply) at ∙ (λ i. happen w n (Answer (same_cmd i) (same_plan i).reply))
 
@@ -117,8 +141,8 @@ is_there f None i = i
 is_there f (Some a) i = refl
 
 -- the locks of a command that has ended can be given back, however they were come by
-pub may_give_now : (g : Geometry) (n : ℕ) (made : Option Plan) (p : Plan) (locks : List (LockName × Mode)) (t : List Resource) (ws : List PlanWrite) (ls : List (LockName × Mode)) → made ≡ Some p
-    → ws ≡ p.writes → ls ≡ locks → MayGiveAll g n (writes_of made) locks t → MayGiveAll g n ws ls t
-may_give_now g n made p locks t ws ls m e f may =
-    let same : writes_of made ≡ ws = ap writes_of m ∙ sym e in
-    subst (λ (ks : List (LockName × Mode)). MayGiveAll g n ws ks t) (sym f) (subst (λ (vs : List PlanWrite). MayGiveAll g n vs locks t) same may)
+pub may_give_now : (g : Geometry) (n : ℕ) (made : Option Plan) (p : Plan) (takes : List PlanWrite) (locks : List (LockName × Mode)) (t : List Resource) (us ws : List PlanWrite) (ls : List (LockName × Mode)) → made ≡ Some p
+    → us ≡ takes → ws ≡ p.writes → ls ≡ locks → MayGiveAll g n (takes ++ writes_of made) locks t → MayGiveAll g n (us ++ ws) ls t
+may_give_now g n made p takes locks t us ws ls m d e f may =
+    let same : takes ++ writes_of made ≡ us ++ ws = λ i. sym d i ++ (ap writes_of m ∙ sym e) i in
+    subst (λ (ks : List (LockName × Mode)). MayGiveAll g n (us ++ ws) ks t) (sym f) (subst (λ (vs : List PlanWrite). MayGiveAll g n vs locks t) same may)

@@ -7,7 +7,7 @@ use Rattle.node_locks.specs.Held.{waits_at}
 use Rattle.op_law.specs.Laws.{Lawful}
 use Rattle.core_state.specs.Worlds.{NodeState, Plain, node_at, current}
 use Rattle.core_state.specs.Goods.{Good, HasOnly, HasRoom, IsWorld}
-use Rattle.core_state.specs.Events.{Event, Rest, Stand, Leave, Ask, See, Search, Decide, Put, Answer, happens, happen_at, event_of, after_turn}
+use Rattle.core_state.specs.Events.{Event, Rest, Stand, Leave, Ask, Claim, See, Scan, Grab, Decide, Put, Answer, happens, happen_at, event_of, after_turn}
 use Rattle.core_state.proofs.Turns.{turn_keeps}
 
 script_stays : (w : Plain) (n : ℕ) (s : NodeState) (e : Event) → (happens w n s e).script ≡ w.script
@@ -16,7 +16,9 @@ script_stays w n s Stand = refl
 script_stays w n s Leave = refl
 script_stays w n s (Ask x name mode) = refl
 script_stays w n s (See x lbn) = refl
-script_stays w n s Search = refl
+script_stays w n s (Claim x) = refl
+script_stays w n s (Scan x clusters number lbn) = refl
+script_stays w n s (Grab v) = refl
 script_stays w n s (Decide x p) = refl
 script_stays w n s (Put v) = refl
 script_stays w n s (Answer x r) = refl
@@ -29,7 +31,7 @@ script_after w n = by_node (node_at w.nodes n) where
   by_node (Some s) = script_stays w n s (event_of w n (Some s))
 
 pub world_kept : {T E : Type 0} (r : Result T E) (takes : Cmd → Type 0) (w new : Plain) (spare spare' : ℕ) (n : ℕ) → IsWorld takes w spare → OnOk r (new ≡ after_turn w n)
-    → OnOk r ((s : NodeState) (x : Cmd) → node_at w.nodes n ≡ Some s → s.over ≡ false → waits_at w.locks n s.seen.locks ≡ false → current w n s ≡ Some x → Lawful x)
+    → OnOk r ((s : NodeState) (x : Cmd) → node_at w.nodes n ≡ Some s → s.over ≡ false → waits_at w.locks n s.asked ≡ false → current w n s ≡ Some x → Lawful x)
     → OnErr r (new ≡ w) → HasRoom new spare' → IsWorld takes new spare'
 world_kept (Ok t) takes w new spare spare' n is moved lawful same room = record {
   good = subst (λ (v : Plain). Good v) (sym moved) (turn_keeps w is.good n lawful);

@@ -10,8 +10,8 @@ use Rattle.node_locks.specs.Held.{system_of}
 use Rattle.node_locks.specs.Sequences.{raised_block}
 use Rattle.op_law.specs.declared.need.PlanWrite.{PlanWrite}
 use Rattle.core_state.specs.Worlds.{NodeState}
-use Rattle.core_state.specs.Goods.{writes_of}
 use Rattle.core_state.specs.Raises.{raise_of}
+use Rattle.core_state.specs.Events.{all_writes}
 
 -- the file system of node n holds each of these locks as its turn comes
 abbrev pub MayGiveAll : Geometry → ℕ → List PlanWrite → List (LockName × Mode) → List Resource → Type 0
@@ -24,4 +24,4 @@ pub record MayEnd (g : Geometry) (n : ℕ) (s : NodeState) (t : List Resource) :
   pub cmd : IsSome s.cmd
   pub plan : IsSome s.plan
   pub few : s.past.answered < 4294967295
-  pub gives : MayGiveAll g n (writes_of s.plan) s.seen.locks t
+  pub gives : MayGiveAll g n (all_writes s) s.asked t

@@ -15,7 +15,7 @@ ghost use Rattle.core_step.specs.Giving.{MayEnd};
 use crate::giving::give_back;
 use blk_drive::{ImageDev, ImageFault};
 use core_state::{Core, Node};
-use op_law::{Operation, Plan, Seen, SeenBlocks, SeenLocks};
+use op_law::{Operation, Plan, Seen, SeenBlocks, SeenLocks, Writes};
 use plain_cat::{Clusters, Cmd, Entry};
 use std::alloc::Global;
 use std::mem;
@@ -77,7 +77,8 @@ fn unseen(alloc: Global, geometry: Geometry) -> Seen
 struct Ended {
     cmd: Cmd,
     plan: Plan,
-    seen: Seen,
+    asked: SeenLocks,
+    takes: Writes,
 }
 
 // A node's command ends with the reply of its plan. It takes no memory.
@@ -88,7 +89,8 @@ fn end<O: Operation>(alloc: Global, node: &mut Node<O>) -> Ended
     requires few { node.old.past.answered < 4294967295 }
     ensures cmd { option_map O.cmd_is node.old.op ≡ Some result.cmd }
     ensures plan { node.old.plan ≡ Some result.plan }
-    ensures seen { result.seen ≡ node.old.seen }
+    ensures asked { result.asked ≡ node.old.asked }
+    ensures takes { result.takes ≡ node.old.takes }
     ensures state { state_of O.cmd_is node.new ≡ turned (answering (state_of O.cmd_is node.old) result.cmd result.plan.reply) }
 {
     let (Some(op), Some(plan)) = (node.op.take(), node.plan.take()) else {
@@ -96,11 +98,19 @@ fn end<O: Operation>(alloc: Global, node: &mut Node<O>) -> Ended
     };
     let cmd = op.into_cmd();
     node.past.answer(&cmd, &plan.reply);
-    let fresh = unseen(alloc, node.seen.geometry);
-    let seen = mem::replace(&mut node.seen, fresh);
+    node.seen = unseen(alloc, node.seen.geometry);
     node.done = 0;
+    let asked = mem::replace(&mut node.asked, SeenLocks::new(alloc));
+    node.looked = SeenBlocks::new(alloc);
+    let takes = mem::replace(&mut node.takes, Writes::new(alloc));
+    node.taken = 0;
     node.turns = node.turns.saturating_add(1);
-    Ended { cmd, plan, seen }
+    Ended {
+        cmd,
+        plan,
+        asked,
+        takes,
+    }
 }
 
 /// A node answers: its answer is the last of the history, and its locks go back. It takes no memory.
@@ -113,13 +123,19 @@ pub(crate) fn answer<I: ImageDev, O: Operation>(alloc: Global, core: &mut Core<I
     ensures mirror { core.new.mirror ≡ core.old.mirror }
     ensures room { core.new.history.room + 1 ≡ core.old.history.room }
 {
-    let Ended { cmd, plan, seen } = end(alloc, &mut core.nodes[node as usize - 1]);
+    let Ended {
+        cmd,
+        plan,
+        asked,
+        takes,
+    } = end(alloc, &mut core.nodes[node as usize - 1]);
     let Plan { writes, reply, .. } = plan;
     give_back(
         &core.geometry,
         node,
+        takes.items(),
         writes.items(),
-        seen.locks.items(),
+        asked.items(),
         &mut core.locks,
     );
     core.history.append(Entry::Done { node, cmd, reply });

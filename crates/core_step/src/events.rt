@@ -3,13 +3,15 @@
 ghost use Rattle.std.specs.Prelude.{◌≡◌, ◌≤◌, ◌<◌, ◌++◌, [], ◌∷◌, Some, None, IfOk, OnOk, OnErr, IfSome, IsSome, length, slice_get};
 ghost use Rattle.vol_words.specs.Faults.{HasCause};
 ghost use Rattle.plain_cat.specs.declared.command.Cmd.{Cmd};
+ghost use Rattle.lock_db.specs.declared.name.LockName.TheVariants.{V};
+ghost use Rattle.plain_cat.specs.declared.mode.Mode.TheVariants.{PW};
 ghost use Rattle.lock_db.specs.Queues.{standing_of};
 ghost use Rattle.lock_db.specs.Resources.{asked_answer, goes_at_once};
 ghost use Rattle.lock_db.specs.Tables.{resource_at, asked};
 ghost use Rattle.node_locks.specs.Held.{system_of};
 ghost use Rattle.op_law.specs.Laws.{Lawful};
 ghost use Rattle.core_state.specs.Worlds.{IsOfWorld, state_of, plain_of};
-ghost use Rattle.core_state.specs.Events.{Rest, Stand, Leave, Ask, See, Decide, Put, happen, turned, leaving, begun, looking, deciding, writing, one_more, command_at};
+ghost use Rattle.core_state.specs.Events.{Rest, Stand, Leave, Ask, Claim, See, Decide, Put, happen, turned, leaving, begun, looking, deciding, writing, one_more, command_at};
 
 use blk_drive::{ImageDev, ImageFault};
 use core_state::{Core, Node};
@@ -19,8 +21,8 @@ use plain_cat::{Cmd, Mode};
 use std::alloc::Global;
 use vol_words::Block;
 
-// One turn more.
-fn count<O: Operation>(node: &mut Node<O>)
+/// One turn more.
+pub(crate) fn count<O: Operation>(node: &mut Node<O>)
     ensures { state_of O.cmd_is node.new ≡ turned (state_of O.cmd_is node.old) }
 {
     node.turns = node.turns.saturating_add(1);
@@ -71,11 +73,12 @@ fn with_lock(
     Ok(more)
 }
 
-// A node has asked for these locks.
-fn keep_locks<O: Operation>(node: &mut Node<O>, locks: SeenLocks)
-    ensures { state_of O.cmd_is node.new ≡ turned (record (state_of O.cmd_is node.old) { seen = record node.old.seen { locks = locks } }) }
+// A node's command has asked for these locks, and the node for these.
+fn keep_locks<O: Operation>(node: &mut Node<O>, locks: SeenLocks, asked: SeenLocks)
+    ensures { state_of O.cmd_is node.new ≡ turned (record (state_of O.cmd_is node.old) { asked = asked; seen = record node.old.seen { locks = locks } }) }
 {
     node.seen.locks = locks;
+    node.asked = asked;
     count(node);
 }
 
@@ -96,11 +99,43 @@ pub(crate) fn ask<I: ImageDev, O: Operation>(
     ensures room { core.new.history.room ≡ core.old.history.room }
 {
     let place = node as usize - 1;
-    let more = with_lock(alloc, &core.nodes[place].seen.locks, name, mode)?;
+    let locks = with_lock(alloc, &core.nodes[place].seen.locks, name, mode)?;
+    let more = with_lock(alloc, &core.nodes[place].asked, name, mode)?;
     let asked = core
         .locks
         .request(alloc, name, Owner { node, part: 0 }, mode)?;
-    keep_locks(&mut core.nodes[place], more);
+    keep_locks(&mut core.nodes[place], locks, more);
+    Ok(asked)
+}
+
+// A node has asked for these locks.
+fn keep_asked<O: Operation>(node: &mut Node<O>, asked: SeenLocks)
+    ensures { state_of O.cmd_is node.new ≡ turned (record (state_of O.cmd_is node.old) { asked = asked }) }
+{
+    node.asked = asked;
+    count(node);
+}
+
+/// A node asks for the lock of the bitmaps, for its search for space. An error says that memory ran out, and nothing was asked.
+pub(crate) fn claim<I: ImageDev, O: Operation>(
+    alloc: Global,
+    core: &mut Core<I, O>,
+    node: u8,
+) -> Result<Asked, NoMemory>
+    requires node { IsOfWorld (plain_of O.cmd_is core.old) node }
+    requires new { standing_of (system_of node) (resource_at V core.old.locks).askers ≡ None }
+    ensures world { OnOk result ((x : Cmd) → command_at (plain_of O.cmd_is core.old) node ≡ Some x → plain_of O.cmd_is core.new ≡ happen (plain_of O.cmd_is core.old) node (Claim x)) }
+    ensures answer { IfOk result (λ a. a ≡ asked_answer (goes_at_once (system_of node) PW (resource_at V core.old.locks).askers)) }
+    ensures same { OnErr result (plain_of O.cmd_is core.new ≡ plain_of O.cmd_is core.old) }
+    ensures mirror { core.new.mirror ≡ core.old.mirror }
+    ensures room { core.new.history.room ≡ core.old.history.room }
+{
+    let place = node as usize - 1;
+    let more = with_lock(alloc, &core.nodes[place].asked, LockName::V, Mode::PW)?;
+    let asked = core
+        .locks
+        .request(alloc, LockName::V, Owner { node, part: 0 }, Mode::PW)?;
+    keep_asked(&mut core.nodes[place], more);
     Ok(asked)
 }
 

@@ -5,6 +5,7 @@ mod answers;
 mod events;
 mod giving;
 mod raises;
+mod searches;
 mod step;
 mod turns;
 

@@ -1,6 +1,6 @@
 //! By how much the sequences of a lock are raised as it is given back.
 
-ghost use Rattle.std.specs.Prelude.{◌≡◌, ◌≤◌};
+ghost use Rattle.std.specs.Prelude.{◌≡◌, ◌≤◌, ◌++◌};
 ghost use Rattle.std.specs.List.{list_any};
 ghost use Rattle.lock_db.specs.Names.{is_same};
 ghost use Rattle.fx_header.specs.Headers.{header_read};
@@ -14,8 +14,8 @@ use op_law::PlanWrite;
 use vol_parts::Geometry;
 use vol_words::Block;
 
-// Whether two names are the same.
-fn is_same(a: LockName, b: LockName) -> bool
+/// Whether two names are the same.
+pub(crate) fn is_same(a: LockName, b: LockName) -> bool
     ensures { result ≡ is_same a b }
 {
     match (a, b) {
@@ -123,14 +123,21 @@ fn any_second(g: &Geometry, name: LockName, ws: &[PlanWrite]) -> bool
     false
 }
 
-/// By how much these writes raise the two sequences of a lock.
-pub(crate) fn raise_of(g: &Geometry, name: LockName, ws: &[PlanWrite]) -> Raise
+/// By how much these writes, those of a search and those of a plan, raise the two sequences of a lock.
+pub(crate) fn raise_of(
+    g: &Geometry,
+    name: LockName,
+    takes: &[PlanWrite],
+    ws: &[PlanWrite],
+) -> Raise
     requires { IsGeometry g.now }
-    ensures { result ≡ raise_of g.now name ws.now }
+    ensures { result ≡ raise_of g.now name (takes.now ++ ws.now) }
 {
-    let freed = any_frees(g, name, ws);
+    let freed = any_frees(g, name, takes) || any_frees(g, name, ws);
+    let first = any_first(g, name, takes) || any_first(g, name, ws);
+    let second = any_second(g, name, takes) || any_second(g, name, ws);
     Raise {
-        first: raise_by(freed, any_first(g, name, ws)),
-        second: raise_by(freed, any_second(g, name, ws)),
+        first: raise_by(freed, first),
+        second: raise_by(freed, second),
     }
 }

@@ -12,16 +12,18 @@ ghost use Rattle.core_state.specs.Worlds.{NodeState, IsOfWorld, state_of, plain_
 ghost use Rattle.core_state.specs.Goods.{Good, HasOnly, HasRoom};
 ghost use Rattle.core_state.specs.Images.{IsTold, told_as};
 ghost use Rattle.core_state.specs.Events.{is_write, happen, begun, next_event, command_event, plan_at, after_turn};
-ghost use Rattle.core_step.specs.Ready.{IsReady, Begins};
+ghost use Rattle.core_step.specs.Ready.{IsReady, Begins, HasTakenAll, NeedsNow};
 ghost use Rattle.core_step.specs.Turns.{told};
 
 use crate::answers::{answer, put};
-use crate::events::{ask, decide, leave, look, stand};
+use crate::events::{ask, claim, decide, leave, look, stand};
+use crate::searches::{copied, grab, has_asked, scan};
 use crate::turns::{Kind, Turn, TurnFault};
 use blk_drive::ImageDev;
 use core_state::{Core, Node, World};
 use lock_db::{Asked, LockName};
 use node_locks::waits;
+use node_space::{Search, search};
 use op_law::{Need, NoMemory, Operation, Plan};
 use plain_cat::{Cmd, Mode};
 use std::alloc::Global;
@@ -36,6 +38,49 @@ fn next_need<O: Operation>(alloc: Global, node: &Node<O>) -> Result<Need, NoMemo
     op.next(alloc, &node.seen)
 }
 
+// A command that needs space searches for it: it asks for the lock of the bitmaps, and then looks at one block after another.
+fn searching<I: ImageDev, O: Operation>(
+    alloc: Global,
+    core: &mut Core<I, O>,
+    node: u8,
+    clusters: u32,
+    number: bool,
+) -> Result<Turn, TurnFault>
+    requires good { Good (plain_of O.cmd_is core.old) }
+    requires node { IsOfWorld (plain_of O.cmd_is core.old) node }
+    requires ready { IsReady (plain_of O.cmd_is core.old) node }
+    requires plan { plan_at (plain_of O.cmd_is core.old) node ≡ None }
+    requires takes { HasTakenAll (plain_of O.cmd_is core.old) node }
+    requires needs { NeedsNow (plain_of O.cmd_is core.old) node clusters number }
+    requires room { HasRoom (plain_of O.cmd_is core.old) core.old.history.room }
+    ensures world { OnOk result (plain_of O.cmd_is core.new ≡ happen (plain_of O.cmd_is core.old) node (command_event (plain_of O.cmd_is core.old) node)) }
+    ensures answer { IfOk result (λ t. t ≡ told (plain_of O.cmd_is core.new) node (command_event (plain_of O.cmd_is core.old) node)) }
+    ensures same { OnErr result (plain_of O.cmd_is core.new ≡ plain_of O.cmd_is core.old) }
+    ensures mirror { core.new.mirror ≡ core.old.mirror }
+    ensures memory { result ≡ Err TurnFault.ImageFault → ⊥ }
+    ensures room { HasRoom (plain_of O.cmd_is core.new) core.new.history.room }
+{
+    let at = &core.nodes[node as usize - 1];
+    if !has_asked(at.asked.items(), LockName::V) {
+        match claim(alloc, core, node)? {
+            Asked::Granted => return Ok(Turn::Moved(Kind::Locked)),
+            Asked::Queued => return Ok(Turn::Waiting),
+        }
+    }
+    let next = search(
+        alloc,
+        &at.seen.geometry,
+        clusters,
+        number,
+        at.looked.items(),
+    )?;
+    let Search::Look(lbn) = next else {
+        unreachable!()
+    };
+    scan(alloc, core, node, clusters, number, lbn)?;
+    Ok(Turn::Moved(Kind::Looked))
+}
+
 // A command that has not decided on a plan goes on by its next need.
 fn unplanned<I: ImageDev, O: Operation>(
     alloc: Global,
@@ -46,6 +91,7 @@ fn unplanned<I: ImageDev, O: Operation>(
     requires node { IsOfWorld (plain_of O.cmd_is core.old) node }
     requires ready { IsReady (plain_of O.cmd_is core.old) node }
     requires plan { plan_at (plain_of O.cmd_is core.old) node ≡ None }
+    requires takes { HasTakenAll (plain_of O.cmd_is core.old) node }
     requires room { HasRoom (plain_of O.cmd_is core.old) core.old.history.room }
     ensures world { OnOk result (plain_of O.cmd_is core.new ≡ happen (plain_of O.cmd_is core.old) node (command_event (plain_of O.cmd_is core.old) node)) }
     ensures answer { IfOk result (λ t. t ≡ told (plain_of O.cmd_is core.new) node (command_event (plain_of O.cmd_is core.old) node)) }
@@ -67,7 +113,7 @@ fn unplanned<I: ImageDev, O: Operation>(
             look(core, node, lbn)?;
             Ok(Turn::Moved(Kind::Looked))
         }
-        Need::Space { .. } => unreachable!(),
+        Need::Space { clusters, number } => searching(alloc, core, node, clusters, number),
         Need::Ready(plan) => {
             decide(core, node, plan)?;
             Ok(Turn::Moved(Kind::Planned))
@@ -110,7 +156,7 @@ fn planned<I: ImageDev, O: Operation>(
     Ok(Turn::Answered)
 }
 
-// A node goes on with its command.
+// A node goes on with its command: by its plan, by the next write of its search, or else by its next need.
 fn go_on<I: ImageDev, O: Operation>(
     alloc: Global,
     core: &mut Core<I, O>,
@@ -130,11 +176,21 @@ fn go_on<I: ImageDev, O: Operation>(
         → (I.told core.new.mirror.image ≡ told_as (I.told core.old.mirror.image) core.new.mirror.blocks) ⊎ (result ≡ Err TurnFault.ImageFault) }
     ensures room { HasRoom (plain_of O.cmd_is core.new) core.new.history.room }
 {
-    if core.nodes[node as usize - 1].plan.is_some() {
-        planned(alloc, core, node)
-    } else {
-        unplanned(alloc, core, node)
+    let at = &core.nodes[node as usize - 1];
+    if at.plan.is_some() {
+        return planned(alloc, core, node);
     }
+    if at.taken < at.takes.items().len() {
+        let w = &at.takes.items()[at.taken];
+        let lbn = w.lbn;
+        let block = w.block;
+        let number = w.number;
+        let taken = at.taken + 1;
+        let clusters = copied(alloc, &w.clusters)?;
+        grab(core, node, lbn, &block, taken, clusters, number)?;
+        return Ok(Turn::Moved(Kind::Wrote));
+    }
+    unplanned(alloc, core, node)
 }
 
 // A node begins a command.
@@ -198,7 +254,7 @@ fn step<I: ImageDev, O: Operation>(
     requires room { HasRoom (plain_of O.cmd_is core.old) core.old.history.room }
     ensures world { OnOk result (plain_of O.cmd_is core.new ≡ after_turn (plain_of O.cmd_is core.old) node) }
     ensures answer { IfOk result (λ t. t ≡ told (plain_of O.cmd_is core.new) node (next_event (plain_of O.cmd_is core.old) node)) }
-    ensures lawful { OnOk result ((s : NodeState) (x : Cmd) → node_at (plain_of O.cmd_is core.old).nodes node ≡ Some s → s.over ≡ false → waits_at (plain_of O.cmd_is core.old).locks node s.seen.locks ≡ false → current (plain_of O.cmd_is core.old) node s ≡ Some x → Lawful x) }
+    ensures lawful { OnOk result ((s : NodeState) (x : Cmd) → node_at (plain_of O.cmd_is core.old).nodes node ≡ Some s → s.over ≡ false → waits_at (plain_of O.cmd_is core.old).locks node s.asked ≡ false → current (plain_of O.cmd_is core.old) node s ≡ Some x → Lawful x) }
     ensures same { OnErr result (plain_of O.cmd_is core.new ≡ plain_of O.cmd_is core.old) }
     ensures later { I.faults core.old.mirror.image ≤ I.faults core.new.mirror.image }
     ensures cause { result ≡ Err TurnFault.ImageFault → Rose (I.faults core.old.mirror.image) (I.faults core.new.mirror.image) }
@@ -212,7 +268,7 @@ fn step<I: ImageDev, O: Operation>(
         stand(core, node);
         return Ok(Turn::Over);
     }
-    if waits(&core.locks, node, at.seen.locks.items()) {
+    if waits(&core.locks, node, at.asked.items()) {
         stand(core, node);
         return Ok(Turn::Waiting);
     }

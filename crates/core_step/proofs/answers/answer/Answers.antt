@@ -23,12 +23,12 @@ end-cmd-requires-clause-few g c =
 pub give_back-requires-clause-may : goal.give_back-requires-clause-may
 give_back-requires-clause-may g c =
     let at = told_at (state_of g.O.Operation.cmd_is) c.args.core.now.nodes.items c.args.node c.index_mut.result.now c.requires.node.from c.requires.node.to c.index_mut.ensures.value in
-    may_give_now c.args.core.now.geometry c.args.node c.index_mut.result.now.plan c.end-cmd.result.plan c.index_mut.result.now.seen.locks c.args.core.now.locks c.items.result.now c.items-2.result.now
-    c.end-cmd.ensures.plan c.items.ensures (c.items-2.ensures ∙ ap (λ s. s.locks) c.end-cmd.ensures.seen) (c.requires.ends (state_of g.O.Operation.cmd_is c.index_mut.result.now) at).gives
+    may_give_now c.args.core.now.geometry c.args.node c.index_mut.result.now.plan c.end-cmd.result.plan c.index_mut.result.now.takes c.index_mut.result.now.asked c.args.core.now.locks c.items.result.now c.items-2.result.now c.items-3.result.now
+    c.end-cmd.ensures.plan (c.items.ensures ∙ c.end-cmd.ensures.takes) c.items-2.ensures (c.items-3.ensures ∙ c.end-cmd.ensures.asked) (c.requires.ends (state_of g.O.Operation.cmd_is c.index_mut.result.now) at).gives
 
 pub returns-clause-world : goal.returns-clause-world
 returns-clause-world g c x p cmd plan = answered_so (state_of g.O.Operation.cmd_is) c.args.core.now.nodes.items (plain_of g.O.Operation.cmd_is c.args.core.now) c.args.node c.index_mut.result.now c.end-cmd.new.node
     c.requires.node.from c.requires.node.to c.index_mut.ensures.value refl x p cmd plan c.end-cmd.result.cmd c.end-cmd.result.plan c.end-cmd.ensures.cmd c.end-cmd.ensures.plan c.end-cmd.ensures.state
     c.give_back.new.locks c.append.new.self.items
-    (c.give_back.ensures ∙ (λ i. given_back c.args.core.now.geometry c.args.node (c.items.ensures i) ((c.items-2.ensures ∙ ap (λ s. s.locks) c.end-cmd.ensures.seen) i) c.args.core.now.locks))
+    (c.give_back.ensures ∙ (λ i. given_back c.args.core.now.geometry c.args.node ((c.items.ensures ∙ c.end-cmd.ensures.takes) i ++ c.items-2.ensures i) ((c.items-3.ensures ∙ c.end-cmd.ensures.asked) i) c.args.core.now.locks))
     c.append.ensures.items

@@ -5,13 +5,16 @@ use Rattle.core_step.proofs.answers.end.Goals as goal
 pub returns-clause-state : goal.returns-clause-state
 returns-clause-state g c =
     let node = c.args.node.now in
-    let seen = c.replace-seen.ensures.after ∙ c.unseen-fresh.ensures.rest node.seen refl in
+    let asked = c.replace-asked.ensures.after ∙ c.new.ensures in
+    let takes = c.replace-takes.ensures.after ∙ c.new-3.ensures in
     λ i. record {
       past = c.answer.ensures i;
       cmd = option_map g.O.Operation.cmd_is (c.take.ensures.after i);
-      seen = seen i;
+      seen = c.unseen.ensures.rest node.seen refl i;
       plan = c.take-2.ensures.after i;
       done = 0;
+      asked = asked i;
+      search = record { looked = c.new-2.ensures i; takes = takes i; taken = 0 };
       over = node.over;
       turns = c.saturating_add-node.ensures i;
       writes = node.writes;

@@ -7,7 +7,7 @@ use Rattle.core_state.specs.Worlds.{plain_of}
 use Rattle.core_state.specs.Goods.{HasRoom}
 use Rattle.core_state.specs.Events.{happen}
 use Rattle.core_step.specs.Turns.{told}
-use Rattle.core_step.proofs.Ready.{op_there, op_fits, op_need, event_need, has_plan, may_lock, look_within, fetch_within, no_space, command_is, ask_room, see_room, decide_room, asked_told, goes_granted, goes_queued}
+use Rattle.core_step.proofs.Ready.{op_there, op_fits, op_need, event_need, has_plan, may_lock, look_within, fetch_within, item_need, command_is, ask_room, see_room, decide_room, asked_told, goes_granted, goes_queued}
 use Rattle.core_step.proofs.step.unplanned.Goals as goal
 
 pub next_need-requires-clause-op : goal.next_need-requires-clause-op
@@ -25,8 +25,9 @@ look-requires-clause-within g c = look_within (plain_of g.O.Operation.cmd_is c.a
 pub look-requires-in-Bare-clause-within : goal.look-requires-in-Bare-clause-within
 look-requires-in-Bare-clause-within g c = fetch_within (plain_of g.O.Operation.cmd_is c.args.core.now) c.requires.good c.args.node c.requires.ready c.in-Bare.lbn (op_need g.O.Operation.cmd_is c.args.core.now.nodes.items (plain_of g.O.Operation.cmd_is c.args.core.now) c.args.node c.requires.ready c.index.result.now refl c.requires.node.from c.requires.node.to c.index.ensures (need.Bare c.in-Bare.lbn) (subst (λ (y : Need). IfSome c.index.result.now.op (λ op. need_of (g.O.Operation.cmd_is op) c.index.result.now.seen ≡ y)) c.in-Bare.is c.in_ok-name.ensures))
 
-pub unreachable-requires : goal.unreachable-requires
-unreachable-requires g c = no_space (plain_of g.O.Operation.cmd_is c.args.core.now) c.requires.good c.args.node c.requires.ready c.in-Space.clusters c.in-Space.number (op_need g.O.Operation.cmd_is c.args.core.now.nodes.items (plain_of g.O.Operation.cmd_is c.args.core.now) c.args.node c.requires.ready c.index.result.now refl c.requires.node.from c.requires.node.to c.index.ensures (need.Space c.in-Space.clusters c.in-Space.number) (subst (λ (y : Need). IfSome c.index.result.now.op (λ op. need_of (g.O.Operation.cmd_is op) c.index.result.now.seen ≡ y)) c.in-Space.is c.in_ok-name.ensures))
+pub searching-requires-clause-needs : goal.searching-requires-clause-needs
+searching-requires-clause-needs g c = item_need g.O.Operation.cmd_is c.args.core.now.nodes.items (plain_of g.O.Operation.cmd_is c.args.core.now) c.args.node c.requires.ready c.index.result.now refl c.requires.node.from c.requires.node.to c.index.ensures c.in-Space.clusters c.in-Space.number
+    (subst (λ (y : Need). IfSome c.index.result.now.op (λ op. need_of (g.O.Operation.cmd_is op) c.index.result.now.seen ≡ y)) c.in-Space.is c.in_ok-name.ensures)
 
 pub returns-in-Granted-clause-world : goal.returns-in-Granted-clause-world
 returns-in-Granted-clause-world g c = c.in_ok-ask-in-Lock.ensures.world c.requires.ready.cmd (command_is (plain_of g.O.Operation.cmd_is c.args.core.now) c.requires.good c.args.node c.requires.ready) ∙ ap (happen (plain_of g.O.Operation.cmd_is c.args.core.now) c.args.node) (sym (event_need (plain_of g.O.Operation.cmd_is c.args.core.now) c.requires.good c.args.node c.requires.ready c.requires.plan (need.Lock c.in-Lock.name c.in-Lock.mode) (op_need g.O.Operation.cmd_is c.args.core.now.nodes.items (plain_of g.O.Operation.cmd_is c.args.core.now) c.args.node c.requires.ready c.index.result.now refl c.requires.node.from c.requires.node.to c.index.ensures (need.Lock c.in-Lock.name c.in-Lock.mode) (subst (λ (y : Need). IfSome c.index.result.now.op (λ op. need_of (g.O.Operation.cmd_is op) c.index.result.now.seen ≡ y)) c.in-Lock.is c.in_ok-name.ensures))))

@@ -1,0 +1,133 @@
+-- No command that a world runs makes a number free.
+use Rattle.std.proofs.Common.{◌≡◌, ◌≢◌, ◌≤◌, ◌-◌, ◌*◌, ◌&&◌, ℕ, Bool, true, false, cond, List, [], ◌∷◌, Option, Some, None, slice_get, slice_set, zero, suc, refl, sym, ap, subst, ◌∙◌, inl, inr}
+use Rattle.std.specs.Prelude.{not, min, ◌==◌}
+use Rattle.plain_cat.specs.declared.ids.Fid.{Fid}
+use Rattle.plain_cat.specs.declared.command.Cmd.{Cmd}
+use Rattle.plain_cat.specs.declared.command.Cmd.TheVariants as cmd
+use Rattle.plain_cat.specs.declared.entries.DirEnt.{DirEnt}
+use Rattle.plain_cat.specs.declared.ids.Uic.{Uic}
+use Rattle.plain_cat.specs.declared.reply.Refusal.{Refusal}
+use Rattle.plain_cat.specs.declared.reply.Reply.{Reply}
+use Rattle.plain_cat.specs.declared.cat.Cat.{Cat}
+use Rattle.plain_cat.specs.declared.cat.File.{File}
+use Rattle.plain_cat.specs.declared.cat.QuotaRow.{QuotaRow}
+use Rattle.plain_cat.specs.declared.cat.Slot.{Slot}
+use Rattle.plain_cat.specs.declared.cat.Slot.TheVariants.{Used, Free}
+use Rattle.plain_vol.specs.declared.outcome.Outcome.{Outcome}
+use Rattle.plain_vol.specs.Lookups.{slot_at, in_use, live, entry_of, versions, is_free_slot, is_leaked, is_free_number, row_of}
+use Rattle.plain_vol.specs.Directories.{inserted, without}
+use Rattle.plain_vol.specs.Changes.{in_clusters, cost, with_file, with_entries, charged, discharged, grown, cut, new_fid, new_file, new_dir}
+use Rattle.plain_vol.specs.Answers.{unless, in_directory_file, entered, create_refusal, create_made, create_outcome, dir_name, mkdir_refusal, mkdir_made, mkdir_outcome, extend_of, extend_refusal, extend_outcome, trunc_of, trunc_outcome, with_entry, rename_refusal, rename_outcome, lookup_outcome, list_outcome, stat_of, stat_outcome, quota_set_of, quota_set_outcome, quota_shown, quota_show_outcome, outcome, Answer}
+use Rattle.vol_owners.proofs.Listing.{same_or_not}
+use Rattle.vol_owners.proofs.Writing.{get-set_else}
+use Rattle.core_state.specs.Goods.{is_run}
+
+-- what is not free in c is not free in d
+abbrev pub StaysTaken : Cat → Cat → Type 0
+StaysTaken c d = (n : ℕ) → is_free_number c n ≡ false → is_free_number d n ≡ false
+
+joined : (c d e : Cat) → StaysTaken c d → StaysTaken d e → StaysTaken c e
+joined c d e s t n free = t n (s n free)
+
+-- ---- a slot that is used
+
+set_free : (files : List Slot) (i j : ℕ) (f : File) → is_free_slot (slice_get files j) ≡ false → is_free_slot (slice_get (slice_set files i (Used f)) j) ≡ false
+set_free [] i j f e = e
+set_free (s ∷ files) zero zero f e = refl
+set_free (s ∷ files) zero (suc j) f e = e
+set_free (s ∷ files) (suc i) zero f e = e
+set_free (s ∷ files) (suc i) (suc j) f e = set_free files i j f e
+
+set_taken : (b leaked : Bool) (files : List Slot) (i j : ℕ) (f : File) → (is_free_slot (cond b None (slice_get files j)) && leaked) ≡ false
+    → (is_free_slot (cond b None (slice_get (slice_set files i (Used f)) j)) && leaked) ≡ false
+set_taken true leaked files i j f e = refl
+set_taken false leaked files i j f e = by_free (is_free_slot (slice_get files j)) refl where
+  by_free : (t : Bool) → is_free_slot (slice_get files j) ≡ t → (is_free_slot (slice_get (slice_set files i (Used f)) j) && leaked) ≡ false
+  by_free false g = ap (λ t. t && leaked) (set_free files i j f g)
+  by_free true g = by_leaked leaked (sym (ap (λ t. t && leaked) g) ∙ e) where
+    by_leaked : (l : Bool) → (true && l) ≡ false → (is_free_slot (slice_get (slice_set files i (Used f)) j) && l) ≡ false
+    by_leaked true h = absurd (let k : true ≡ false = h in cc)
+    by_leaked false h = by_last (is_free_slot (slice_get (slice_set files i (Used f)) j)) where
+      by_last : (t : Bool) → (t && false) ≡ false
+      by_last true = refl
+      by_last false = refl
+
+file_stays : (c : Cat) (k : ℕ) (f : File) → StaysTaken c (with_file c k f)
+file_stays c k f n e = set_taken (n == 0) (not (is_leaked c n)) c.files (k - 1) (n - 1) f e
+
+-- ---- outcomes
+
+if_stays : (c : Cat) (b : Bool) (x y : Outcome) → StaysTaken c x.after → StaysTaken c y.after → StaysTaken c (cond b x y).after
+if_stays c true x y h k = h
+if_stays c false x y h k = k
+
+same_stays : (c : Cat) → StaysTaken c c
+same_stays c n e = e
+
+unless_stays : (c : Cat) (r : Option Refusal) (o : Outcome) → StaysTaken c o.after → StaysTaken c (unless c r o).after
+unless_stays c None o h = h
+unless_stays c (Some r) o h = same_stays c
+
+in_stays : (c : Cat) (f : Option File) (next : File → Outcome) → ((d : File) → StaysTaken c (next d).after) → StaysTaken c (in_directory_file c f next).after
+in_stays c None next h = same_stays c
+in_stays c (Some d) next h = if_stays c d.dir (next d) _ (h d) (same_stays c)
+
+entry_stays : (c : Cat) (e : Option DirEnt) (next : DirEnt → Outcome) → ((x : DirEnt) → StaysTaken c (next x).after) → StaysTaken c (with_entry c e next).after
+entry_stays c None next h = same_stays c
+entry_stays c (Some e) next h = if_stays c _ _ _ (same_stays c) (h e)
+
+entered_stays : (c : Cat) (dir : ℕ) (d : File) (e : DirEnt) (f : File) → StaysTaken c (entered c dir d e f)
+entered_stays c dir d e f =
+    let first = charged c f.owner (cost c f.clusters) in
+    let second = with_file first e.fid.num f in
+    joined c second (with_entries second dir d (inserted e d.entries)) (file_stays first e.fid.num f) (file_stays second dir (record d { entries = inserted e d.entries }))
+
+create_stays : (c : Cat) (dir : ℕ) (d : File) (name : List ℕ) (ver blocks : ℕ) (owner : Uic) (new : Option ℕ) → StaysTaken c (create_made c dir d name ver blocks owner new).after
+create_stays c dir d name ver blocks owner None = same_stays c
+create_stays c dir d name ver blocks owner (Some n) = entered_stays c dir d _ _
+
+mkdir_stays : (c : Cat) (dir : ℕ) (d : File) (name : List ℕ) (owner : Uic) (new : Option ℕ) → StaysTaken c (mkdir_made c dir d name owner new).after
+mkdir_stays c dir d name owner None = same_stays c
+mkdir_stays c dir d name owner (Some n) = entered_stays c dir d _ _
+
+extend_stays : (c : Cat) (n : ℕ) (f : Option File) (blocks : ℕ) → StaysTaken c (extend_of c n f blocks).after
+extend_stays c n None blocks = same_stays c
+extend_stays c n (Some f) blocks = unless_stays c (extend_refusal c n f blocks) _ (file_stays (charged c f.owner (c.factor * in_clusters c blocks)) n (grown c f (in_clusters c blocks)))
+
+trunc_stays : (c : Cat) (n : ℕ) (f : Option File) (blocks : ℕ) → StaysTaken c (trunc_of c n f blocks).after
+trunc_stays c n None blocks = same_stays c
+trunc_stays c n (Some f) blocks = if_stays c _ _ _ (same_stays c)
+    (file_stays (discharged c f.owner (c.factor * (f.clusters - min f.clusters (in_clusters c blocks)))) n (cut c f (min f.clusters (in_clusters c blocks))))
+
+stat_stays : (c : Cat) (f : Option File) → StaysTaken c (stat_of c f).after
+stat_stays c None = same_stays c
+stat_stays c (Some f) = same_stays c
+
+quota_stays : (c : Cat) (r : Option QuotaRow) (owner : Uic) (quota over : ℕ) → StaysTaken c (quota_set_of c r owner quota over).after
+quota_stays c (Some r) owner quota over = λ n e. e
+quota_stays c None owner quota over = if_stays c _ _ _ (same_stays c) (λ n e. e)
+
+shown_stays : (c : Cat) (r : Option QuotaRow) → StaysTaken c (quota_shown c r).after
+shown_stays c None = same_stays c
+shown_stays c (Some r) = same_stays c
+
+outcome_stays : (c : Cat) (node : ℕ) (x : Cmd) (new : Option ℕ) → is_run x ≡ true → StaysTaken c (outcome c node x new).after
+unfolding is_run outcome lookup_outcome list_outcome stat_outcome create_outcome mkdir_outcome extend_outcome trunc_outcome rename_outcome quota_set_outcome quota_show_outcome
+outcome_stays c node (cmd.Lookup reg dir name ver) new runs = in_stays c (live c dir) _ (λ d. same_stays c)
+outcome_stays c node (cmd.List dir) new runs = in_stays c (live c dir) _ (λ d. same_stays c)
+outcome_stays c node (cmd.Stat file) new runs = stat_stays c (live c file)
+outcome_stays c node (cmd.Create reg dir name ver blocks owner) new runs = in_stays c (live c dir) _ (λ d. unless_stays c (create_refusal c d name ver blocks owner new) _ (create_stays c dir.num d name ver blocks owner new))
+outcome_stays c node (cmd.MkDir reg dir name owner) new runs = in_stays c (live c dir) _ (λ d. unless_stays c (mkdir_refusal c d (dir_name name) owner new) _ (mkdir_stays c dir.num d (dir_name name) owner new))
+outcome_stays c node (cmd.Extend file blocks) new runs = extend_stays c file.num (live c file) blocks
+outcome_stays c node (cmd.Trunc file blocks) new runs = trunc_stays c file.num (live c file) blocks
+outcome_stays c node (cmd.Delete dir name ver) new runs = absurd (let f : false ≡ true = runs in cc)
+outcome_stays c node (cmd.Rename dir name ver to to_ver) new runs = in_stays c (live c dir) _ (λ d. entry_stays c (entry_of (versions name d.entries) ver) _ (λ e. unless_stays c (rename_refusal c d to to_ver) _ (file_stays c dir.num _)))
+outcome_stays c node (cmd.OpenFile chan file mode) new runs = absurd (let f : false ≡ true = runs in cc)
+outcome_stays c node (cmd.CloseFile chan) new runs = absurd (let f : false ≡ true = runs in cc)
+outcome_stays c node (cmd.ReadBlock chan vbn) new runs = absurd (let f : false ≡ true = runs in cc)
+outcome_stays c node (cmd.WriteBlock chan vbn text) new runs = absurd (let f : false ≡ true = runs in cc)
+outcome_stays c node (cmd.QuotaSet owner quota over) new runs = quota_stays c (row_of owner c.quota) owner quota over
+outcome_stays c node (cmd.QuotaShow owner) new runs = shown_stays c (row_of owner c.quota)
+
+pub answer_stays : (c d : Cat) (node : ℕ) (x : Cmd) (r : Reply) → is_run x ≡ true → Answer c node x r d → StaysTaken c d
+answer_stays c d node x r runs a = subst (λ (o : Outcome). StaysTaken c o.after) a.2 (outcome_stays c node x a.0 runs)

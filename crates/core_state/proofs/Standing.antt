@@ -1,0 +1,291 @@
+-- How a search that stands goes with the locks, the blocks and the knowledge of its command.
+use Rattle.std.proofs.Common.{◌≡◌, ◌≢◌, ◌<◌, ◌++◌, ◌||◌, ℕ, zero, suc, Bool, true, false, cond, List, [], ◌∷◌, Option, Some, None, length, take, refl, sym, ap, subst, ◌∙◌, inl, inr, arith, ◌⊎◌}
+use Rattle.std.specs.Prelude.{◌==◌, not}
+use Rattle.std.specs.List.{list_any}
+use Rattle.std.proofs.lemmas.Bool.Decides.{nat_tests}
+use Rattle.vol_words.specs.Fields.{Block}
+use Rattle.lock_db.specs.declared.name.LockName.{LockName}
+use Rattle.lock_db.specs.declared.name.LockName.TheVariants.{V}
+use Rattle.lock_db.specs.declared.resource.Resource.{Resource}
+use Rattle.lock_db.specs.Names.{is_same}
+use Rattle.lock_db.proofs.Names.{is_same-refl, is_same-same}
+use Rattle.plain_cat.specs.Modes.{rank}
+use Rattle.plain_cat.specs.declared.mode.Mode.{Mode}
+use Rattle.plain_cat.specs.declared.mode.Mode.TheVariants.{PW}
+use Rattle.plain_cat.specs.declared.command.Cmd.{Cmd}
+use Rattle.plain_cat.specs.declared.cat.Cat.{Cat}
+use Rattle.node_locks.specs.Held.{names_of, waits_at, held_locks}
+use Rattle.vol_owners.specs.Lists.{Has, StandsIn}
+use Rattle.vol_owners.specs.Owners.{Things, nothing, Owners, Outs}
+use Rattle.vol_owners.proofs.Writing.{stands_joined}
+use Rattle.vol_owners.proofs.Listing.{same_or_not, has_parted, has_first, has_second}
+use Rattle.vol_under.specs.UnderWay.{UnderWay, AreSole}
+use Rattle.vol_under.specs.Under.{IsUnder}
+use Rattle.op_law.specs.declared.need.Need.TheVariants as need
+use Rattle.op_law.specs.declared.need.PlanWrite.{PlanWrite}
+use Rattle.op_law.specs.declared.seen.Seen.{Seen}
+use Rattle.op_law.specs.Needs.{IsNext}
+use Rattle.op_law.specs.Fits.{things}
+use Rattle.op_law.specs.Going.{with_block, with_lock}
+use Rattle.op_law.specs.Knows.{clusters_wanted, wants_number, is_new_number, is_short, knows}
+use Rattle.op_law.specs.Laws.{held_in, takes_lock}
+use Rattle.node_space.specs.Searching.{Short}
+use Rattle.node_space.specs.Taking.{looked, out_after, IsTooLittle}
+use Rattle.node_space.specs.Answering.{blocks_of}
+use Rattle.node_space.proofs.Shortage.{shortage_is_exact, command_is_short}
+use Rattle.core_state.specs.Worlds.{Search, NodeState, Plain, node_at}
+use Rattle.core_state.specs.Searches.{unwritten, things_of, stock_after, wanted_by, HasNotSearched, HasClaimed, IsRefused, Searches, NotYet, Looking, Taking, Taken, Refused}
+use Rattle.core_state.specs.Goods.{under_with, under_by, nodes_under, IsAt, HasCommand, Good}
+use Rattle.core_state.specs.Events.{has_asked}
+use Rattle.core_state.proofs.Holding.{is_in_held, held_grows}
+use Rattle.core_state.proofs.RunKinds.{run_knows}
+use Rattle.core_state.proofs.Running.{at_locks, under_here, are_sole}
+use Rattle.core_state.proofs.Seeking.{all_left, part_stands}
+
+-- ---- its locks
+
+pub begun_or_not : (t : List Resource) (n : ℕ) (x : Cmd) (asked : List (LockName × Mode)) (s : Search) (seen : Seen) → Searches t n x asked s seen → HasNotSearched asked s seen ⊎ HasClaimed x asked s seen
+begun_or_not t n x asked s seen (NotYet h) = inl h
+begun_or_not t n x asked s seen (Looking h) = inr h.claimed
+begun_or_not t n x asked s seen (Taking h) = inr h.found.claimed
+begun_or_not t n x asked s seen (Taken h) = inr h.found.claimed
+begun_or_not t n x asked s seen (Refused h) = inr h.claimed
+
+-- the locks of its command are among those that it has asked for
+pub locks_within : (t : List Resource) (n : ℕ) (x : Cmd) (asked : List (LockName × Mode)) (s : Search) (seen : Seen) → Searches t n x asked s seen → (l : LockName × Mode) → Has seen.locks l → Has asked l
+locks_within t n x asked s seen stands l h = elim (begun_or_not t n x asked s seen stands) [
+  | inl i ↦ subst (λ (ls : List (LockName × Mode)). Has ls l) (sym i.same) h
+  | inr c ↦ subst (λ (ls : List (LockName × Mode)). Has ls l) (sym c.claims) (elim (has_parted c.before c.after l (subst (λ (ls : List (LockName × Mode)). Has ls l) c.locks h)) [
+    | inl k ↦ has_first c.before ((V, PW) ∷ c.after) l k
+    | inr k ↦ has_second c.before ((V, PW) ∷ c.after) l (inr k)
+  ])
+]
+
+names_parted : (before after : List (LockName × Mode)) (name : LockName) → Has (names_of (before ++ (V, PW) ∷ after)) name → Has (names_of (before ++ after)) name ⊎ (V ≡ name)
+names_parted [] after name (inl e) = inr e
+names_parted [] after name (inr h) = inl h
+names_parted (k ∷ before) after name (inl e) = inl (inl e)
+names_parted (k ∷ before) after name (inr h) = elim (names_parted before after name h) [ inl a ↦ inl (inr a) | inr b ↦ inr b ]
+
+-- a lock that is new to the command, and that it takes itself, is new to the search
+pub new_to_all : (t : List Resource) (n : ℕ) (x : Cmd) (asked : List (LockName × Mode)) (s : Search) (seen : Seen) → Searches t n x asked s seen → (name : LockName) → takes_lock x name ≡ true → (Has (names_of seen.locks) name → ⊥) → Has (names_of asked) name → ⊥
+new_to_all t n x asked s seen stands name own new h = elim (begun_or_not t n x asked s seen stands) [
+  | inl i ↦ new (subst (λ (ls : List (LockName × Mode)). Has (names_of ls) name) i.same h)
+  | inr c ↦ elim (names_parted c.before c.after name (subst (λ (ls : List (LockName × Mode)). Has (names_of ls) name) c.claims h)) [
+    | inl k ↦ new (subst (λ (ls : List (LockName × Mode)). Has (names_of ls) name) (sym c.locks) k)
+    | inr e ↦ absurd (let a : takes_lock x V ≡ true = subst (λ (m : LockName). takes_lock x m ≡ true) (sym e) own in let b : takes_lock x V ≡ false = ap not c.takes in let f : true ≡ false = sym a ∙ b in cc)
+  ]
+]
+
+first_or : (a b : Bool) → b ≡ true → (a || b) ≡ true
+first_or true b e = refl
+first_or false b e = e
+
+is_asked : (ls : List (LockName × Mode)) (name : LockName) → Has (names_of ls) name → has_asked name ls ≡ true
+is_asked [] name h = absurd h
+is_asked (l ∷ ls) name (inl e) = ap (λ b. b || has_asked name ls) (ap (λ (m : LockName). is_same m name) e ∙ is_same-refl name)
+is_asked (l ∷ ls) name (inr h) = first_or (is_same l.0 name) (has_asked name ls) (is_asked ls name h)
+
+among : (before after : List (LockName × Mode)) → Has (names_of (before ++ (V, PW) ∷ after)) V
+among [] after = inl refl
+among (k ∷ before) after = inr (among before after)
+
+-- a search that is begun has asked for the lock of the bitmaps
+pub claim_asks : (x : Cmd) (asked : List (LockName × Mode)) (s : Search) (seen : Seen) → HasClaimed x asked s seen → has_asked V asked ≡ true
+claim_asks x asked s seen c = is_asked asked V (subst (λ (ls : List (LockName × Mode)). Has (names_of ls) V) (sym c.claims) (among c.before c.after))
+
+-- the lock of the bitmaps is asked for where the search is begun, and there alone
+pub asks_once : (t : List Resource) (n : ℕ) (x : Cmd) (asked : List (LockName × Mode)) (s : Search) (seen : Seen) → Searches t n x asked s seen → has_asked V asked ≡ false → HasNotSearched asked s seen × (Has (names_of asked) V → ⊥)
+asks_once t n x asked s seen stands none = elim (begun_or_not t n x asked s seen stands) [
+  | inl i ↦ (i, λ h. absurd (let f : true ≡ false = sym (is_asked asked V h) ∙ none in cc))
+  | inr c ↦ absurd (let f : true ≡ false = sym (claim_asks x asked s seen c) ∙ none in cc)
+]
+
+asked_is : (ls : List (LockName × Mode)) (name : LockName) → has_asked name ls ≡ true → Has (names_of ls) name
+asked_is [] name e = absurd (let f : false ≡ true = e in cc)
+asked_is (l ∷ ls) name e = by_test (is_same l.0 name) refl e (asked_is ls name) where
+  by_test : (b : Bool) → is_same l.0 name ≡ b → (b || has_asked name ls) ≡ true → (has_asked name ls ≡ true → Has (names_of ls) name) → Has (names_of (l ∷ ls)) name
+  by_test true f e rest = inl (is_same-same l.0 name f)
+  by_test false f e rest = inr (rest e)
+
+-- where it is asked for and none of the command's own, the search is begun
+pub is_begun : (t : List Resource) (n : ℕ) (x : Cmd) (asked : List (LockName × Mode)) (s : Search) (seen : Seen) → HasNotSearched asked s seen → (Has (names_of seen.locks) V → ⊥) → has_asked V asked ≡ true → ⊥
+is_begun t n x asked s seen i none e = none (subst (λ (ls : List (LockName × Mode)). Has (names_of ls) V) i.same (asked_is asked V e))
+
+-- a node that has all that it asked for holds V once its search is begun
+pub holds_all : (x : Cmd) (asked : List (LockName × Mode)) (s : Search) (seen : Seen) → HasClaimed x asked s seen → Has (held_in PW asked) V
+holds_all x asked s seen c = is_in_held PW asked V (record {
+  in_mode = PW;
+  has = subst (λ (ls : List (LockName × Mode)). Has ls (V, PW)) (sym c.claims) (has_second c.before ((V, PW) ∷ c.after) (V, PW) (inl refl));
+  strong = omega arith;
+})
+
+-- ---- what it has outside
+
+same_true : (a b : ℕ) → a ≡ b → (a == b) ≡ true
+same_true a b e = grind (arith, nat_tests)
+
+less_false : (a b : ℕ) → a < b → (a == b) ≡ false
+less_false a b lt = grind (arith, nat_tests)
+
+pub all_stock : (ws : List PlanWrite) (k : ℕ) → k ≡ length ws → stock_after ws k ≡ nothing
+all_stock ws k e = ap (λ t. cond t nothing (things_of (out_after ws k))) (same_true k (length ws) e)
+
+pub part_stock : (ws : List PlanWrite) (k : ℕ) → k < length ws → stock_after ws k ≡ things_of (out_after ws k)
+part_stock ws k lt = ap (λ t. cond t nothing (things_of (out_after ws k))) (less_false k (length ws) lt)
+
+pub no_stock : (ws : List PlanWrite) (k : ℕ) → ws ≡ [] → k ≡ 0 → stock_after ws k ≡ nothing
+no_stock ws k e f = all_stock ws k (f ∙ sym (ap length e))
+
+-- ---- what goes on
+
+-- the command looks at a block
+pub block_seen : (t : List Resource) (n : ℕ) (x : Cmd) (asked : List (LockName × Mode)) (s : Search) (seen : Seen) (lbn : ℕ) (b : Block) → ((k : ℕ) (number : Bool) → IsNext x seen (need.Space k number) → ⊥)
+    → Searches t n x asked s seen → Searches t n x asked s (with_block lbn b seen)
+block_seen t n x asked s seen lbn b never (NotYet h) = NotYet (record { same = h.same; looked = h.looked; takes = h.takes; taken = h.taken; space = h.space })
+block_seen t n x asked s seen lbn b never (Looking h) = absurd (never _ _ h.needs.next)
+block_seen t n x asked s seen lbn b never (Taking h) = absurd (never _ _ h.needs.next)
+block_seen t n x asked s seen lbn b never (Taken h) = Taken (record {
+  found = record {
+    claimed = record { takes = h.found.claimed.takes; before = h.found.claimed.before; after = h.found.claimed.after; claims = h.found.claimed.claims; locks = h.found.claimed.locks; in_order = h.found.claimed.in_order };
+    enough = h.found.enough;
+    above = h.found.above;
+    holds = h.found.holds;
+  };
+  all = h.all;
+  clusters = h.clusters;
+  number = h.number;
+  short = h.short;
+})
+block_seen t n x asked s seen lbn b never (Refused h) = Refused (record {
+  claimed = record { takes = h.claimed.takes; before = h.claimed.before; after = h.claimed.after; claims = h.claimed.claims; locks = h.claimed.locks; in_order = h.claimed.in_order };
+  why = h.why;
+  too_little = h.too_little;
+  takes = h.takes;
+  taken = h.taken;
+  clusters = h.clusters;
+  number = h.number;
+  short = h.short;
+})
+
+assoc : (xs ys zs : List (LockName × Mode)) → (xs ++ ys) ++ zs ≡ xs ++ (ys ++ zs)
+assoc [] ys zs = refl
+assoc (x ∷ xs) ys zs = ap (λ ws. x ∷ ws) (assoc xs ys zs)
+
+claimed_more : (x : Cmd) (asked : List (LockName × Mode)) (s : Search) (seen : Seen) (name : LockName) (mode : Mode) → HasClaimed x asked s seen → HasClaimed x (asked ++ (name, mode) ∷ []) s (with_lock name mode seen)
+claimed_more x asked s seen name mode c = record {
+  takes = c.takes;
+  before = c.before;
+  after = c.after ++ (name, mode) ∷ [];
+  claims = ap (λ ls. ls ++ (name, mode) ∷ []) c.claims ∙ assoc c.before ((V, PW) ∷ c.after) ((name, mode) ∷ []);
+  locks = ap (λ ls. ls ++ (name, mode) ∷ []) c.locks ∙ assoc c.before c.after ((name, mode) ∷ []);
+  in_order = c.in_order;
+}
+
+-- the command asks for a lock
+pub lock_seen : (t u : List Resource) (n : ℕ) (x : Cmd) (asked : List (LockName × Mode)) (s : Search) (seen : Seen) (name : LockName) (mode : Mode) → ((k : ℕ) (number : Bool) → IsNext x seen (need.Space k number) → ⊥)
+    → ((l : LockName × Mode) → Has (held_locks t n asked) l → Has (held_locks u n (asked ++ (name, mode) ∷ [])) l) → Searches t n x asked s seen → Searches u n x (asked ++ (name, mode) ∷ []) s (with_lock name mode seen)
+lock_seen t u n x asked s seen name mode never grows (NotYet h) = NotYet (record { same = ap (λ ls. ls ++ (name, mode) ∷ []) h.same; looked = h.looked; takes = h.takes; taken = h.taken; space = h.space })
+lock_seen t u n x asked s seen name mode never grows (Looking h) = absurd (never _ _ h.needs.next)
+lock_seen t u n x asked s seen name mode never grows (Taking h) = absurd (never _ _ h.needs.next)
+lock_seen t u n x asked s seen name mode never grows (Taken h) = Taken (record {
+  found = record {
+    claimed = claimed_more x asked s seen name mode h.found.claimed;
+    enough = h.found.enough;
+    above = h.found.above;
+    holds = held_grows PW (held_locks t n asked) (held_locks u n (asked ++ (name, mode) ∷ [])) V grows h.found.holds;
+  };
+  all = h.all;
+  clusters = h.clusters;
+  number = h.number;
+  short = h.short;
+})
+lock_seen t u n x asked s seen name mode never grows (Refused h) = Refused (record {
+  claimed = claimed_more x asked s seen name mode h.claimed;
+  why = h.why;
+  too_little = h.too_little;
+  takes = h.takes;
+  taken = h.taken;
+  clusters = h.clusters;
+  number = h.number;
+  short = h.short;
+})
+
+-- ---- what the command takes for granted of the catalogue
+
+pub is_above : (t : List Resource) (n : ℕ) (x : Cmd) (asked : List (LockName × Mode)) (s : Search) (seen : Seen) → Searches t n x asked s seen → is_new_number seen.number ≡ true
+is_above t n x asked s seen (NotYet h) = ap is_new_number h.space.number
+is_above t n x asked s seen (Looking h) = ap is_new_number h.needs.none.number
+is_above t n x asked s seen (Taking h) = ap is_new_number h.needs.none.number
+is_above t n x asked s seen (Taken h) = ap is_new_number h.number ∙ h.found.above
+is_above t n x asked s seen (Refused h) = ap is_new_number h.number
+
+-- a node that has nothing outside
+record HasNothing (u : UnderWay) : Type 0 where
+  took : u.took ≡ nothing
+  stock : u.stock ≡ nothing
+
+module _ (w : Plain) (good : Good w) (n : ℕ) (s : NodeState) (at : node_at w.nodes n ≡ Some s) (x : Cmd) (now : IsAt w n s x) (here : nodes_under w.locks w.nodes n ≡ at_locks n s x s.asked)
+    (drive : IsUnder s.seen.geometry good.running.cat (nodes_under w.locks w.nodes) w.blocks) (free : waits_at w.locks n s.asked ≡ false) where
+  sole : AreSole (nodes_under w.locks w.nodes)
+  sole = are_sole w.locks w.nodes good.locked.0 good.locked.1
+
+  -- who has something outside holds the lock of the bitmaps, as no two nodes do
+  others_nothing : Has (held_in PW s.asked) V → (m : ℕ) → m ≢ n → HasNothing (nodes_under w.locks w.nodes m)
+  others_nothing mine m ne = by_node (node_at w.nodes m) refl where
+    holds : Has (nodes_under w.locks w.nodes n).write V
+    holds = subst (λ (u : UnderWay). Has u.write V) (sym here) mine
+
+    alone : (q : NodeState) (y : Cmd) → node_at w.nodes m ≡ Some q → q.cmd ≡ Some y → Has (held_in PW (held_locks w.locks m q.asked)) V → ⊥
+    alone q y e c h =
+        let i : nodes_under w.locks w.nodes m ≡ under_with w.locks m q (Some y) = under_here w.locks w.nodes m q e ∙ ap (under_with w.locks m q) c in
+        ne (sole.writers m n V (subst (λ (u : UnderWay). Has u.write V) (sym i) h) holds)
+
+    by_search : (q : NodeState) (y : Cmd) → node_at w.nodes m ≡ Some q → q.cmd ≡ Some y → Searches w.locks m y q.asked q.search q.seen → HasNothing (under_with w.locks m q (Some y))
+    by_search q y e c (NotYet h) = record { took = λ i. things (h.space.clusters i) (h.space.number i); stock = no_stock q.search.takes q.search.taken h.takes h.taken }
+    by_search q y e c (Looking h) = record { took = λ i. things (h.needs.none.clusters i) (h.needs.none.number i); stock = no_stock q.search.takes q.search.taken h.takes h.taken }
+    by_search q y e c (Taking h) = absurd (alone q y e c h.found.holds)
+    by_search q y e c (Taken h) = absurd (alone q y e c h.found.holds)
+    by_search q y e c (Refused h) = record { took = λ i. things (h.clusters i) (h.number i); stock = no_stock q.search.takes q.search.taken h.takes h.taken }
+
+    by_cmd : (q : NodeState) → node_at w.nodes m ≡ Some q → (o : Option Cmd) → q.cmd ≡ o → HasCommand w m q o → HasNothing (under_with w.locks m q o)
+    by_cmd q e None c i = record { took = refl; stock = refl }
+    by_cmd q e (Some y) c a = by_search q y e c a.search
+
+    by_node : (o : Option NodeState) → node_at w.nodes m ≡ o → HasNothing (under_by w.locks m o)
+    by_node None e = record { took = refl; stock = refl }
+    by_node (Some q) e = by_cmd q e q.cmd refl (good.nodes m q e).command
+
+  nobody_outside : (r : IsRefused x s.asked s.search s.seen) → (m : ℕ) → Outs m drive.own nothing nothing
+  nobody_outside r m = elim (same_or_not m n) [ inl e ↦ subst (λ (k : ℕ). Outs k drive.own nothing nothing) (sym e) its | inr ne ↦ other ne ] where
+    its : Outs n drive.own nothing nothing
+    its =
+        let o : Outs n drive.own (at_locks n s x s.asked).took (at_locks n s x s.asked).stock = subst (λ (u : UnderWay). Outs n drive.own u.took u.stock) here (drive.outs n) in
+        let took : things s.seen.clusters s.seen.number ≡ nothing = λ i. things (r.clusters i) (r.number i) in
+        subst (λ (k : Things). Outs n drive.own nothing k) (no_stock s.search.takes s.search.taken r.takes r.taken) (subst (λ (k : Things). Outs n drive.own k (stock_after s.search.takes s.search.taken)) took o)
+
+    other : m ≢ n → Outs m drive.own nothing nothing
+    other ne =
+        let h = others_nothing (holds_all x s.asked s.search s.seen r.claimed) m ne in
+        subst (λ (k : Things). Outs m drive.own nothing k) h.stock (subst (λ (k : Things). Outs m drive.own k (nodes_under w.locks w.nodes m).stock) h.took (drive.outs m))
+
+  -- what was looked at stands, where nothing is written yet
+  pub looked_stands : s.search.takes ≡ [] → StandsIn drive.base s.search.looked
+  looked_stands none =
+      let both : StandsIn drive.base (at_locks n s x s.asked).seen = subst (λ (u : UnderWay). StandsIn drive.base u.seen) here (drive.stands n) in
+      let left = ((stands_joined drive.base (unwritten (take s.search.taken s.search.takes) s.search.looked) s.seen.blocks).0 both).0 in
+      part_stands drive.base (unwritten (take s.search.taken s.search.takes) s.search.looked) s.search.looked (λ y h. all_left s.search.takes s.search.taken s.search.looked y none h) left
+
+  by_search : Searches w.locks n x s.asked s.search s.seen → is_short good.running.cat x s.seen.short ≡ true
+  by_search (NotYet h) = ap (is_short good.running.cat x) h.space.short
+  by_search (Looking h) = ap (is_short good.running.cat x) h.needs.none.short
+  by_search (Taking h) = ap (is_short good.running.cat x) h.needs.none.short
+  by_search (Taken h) = ap (is_short good.running.cat x) h.short
+  by_search (Refused h) =
+      let stood : StandsIn drive.base (looked s.seen.geometry (wanted_by x s.seen) (wants_number x) (blocks_of s.search.looked)) = subst (StandsIn drive.base) h.claimed.in_order (looked_stands h.takes) in
+      let exact = shortage_is_exact s.seen.geometry (wanted_by x s.seen) (wants_number x) (blocks_of s.search.looked) h.why drive.base drive.own good.running.cat h.too_little drive.spelt (nobody_outside h) stood in
+      ap (is_short good.running.cat x) h.short
+      ∙ command_is_short good.running.cat x h.why (subst (λ (f : ℕ). IsTooLittle (clusters_wanted f x) (wants_number x) good.running.cat h.why) (sym drive.spelt.constants.factor) exact)
+
+  pub is_known : knows n x s.seen good.running.cat ≡ true
+  is_known = run_knows x now.runs n s.seen good.running.cat good.running.accounted (is_above w.locks n x s.asked s.search s.seen now.search) (by_search now.search)

@@ -1,0 +1,131 @@
+-- How the search for space of a node's command stands.
+use Rattle.std.specs.Prelude.{◌≡◌, ◌<◌, ◌==◌, ◌++◌, not, ℕ, true, Bool, List, [], ◌∷◌, Option, None, Some, length, filter, if◌then◌else◌}
+use Rattle.std.specs.List.{list_any}
+use Rattle.vol_words.specs.Fields.{Block}
+use Rattle.lock_db.specs.declared.name.LockName.{LockName}
+use Rattle.lock_db.specs.declared.name.LockName.TheVariants.{V}
+use Rattle.lock_db.specs.declared.resource.Resource.{Resource}
+use Rattle.lock_db.specs.Names.{is_same}
+use Rattle.plain_cat.specs.declared.mode.Mode.{Mode}
+use Rattle.plain_cat.specs.declared.mode.Mode.TheVariants.{PW}
+use Rattle.plain_cat.specs.declared.command.Cmd.{Cmd}
+use Rattle.plain_cat.specs.declared.reply.Refusal.{Refusal}
+use Rattle.node_locks.specs.Held.{held_locks}
+use Rattle.vol_owners.specs.Lists.{Has, Touches}
+use Rattle.vol_owners.specs.Owners.{Things, nothing}
+use Rattle.vol_under.specs.Keeping.{IsBitmap}
+use Rattle.op_law.specs.declared.need.Need.TheVariants as need
+use Rattle.op_law.specs.declared.need.PlanWrite.{PlanWrite}
+use Rattle.op_law.specs.declared.seen.Seen.{Seen}
+use Rattle.op_law.specs.Events.{space_of, HasNoSpace}
+use Rattle.op_law.specs.Needs.{IsNext}
+use Rattle.op_law.specs.Fits.{things}
+use Rattle.op_law.specs.Knows.{clusters_wanted, wants_number, takes_space, is_new_number}
+use Rattle.op_law.specs.Laws.{held_in}
+use Rattle.op_law.specs.Writing.{Held}
+use Rattle.node_space.specs.Searching.{Found, More, Short, Enough, found}
+use Rattle.node_space.specs.Taking.{looked, out_after}
+use Rattle.node_space.specs.Answering.{blocks_of}
+use Rattle.core_state.specs.Worlds.{Search}
+
+-- ---- what it leaves of what it has looked at, and what it has outside
+
+-- one of these writes is to the block of this LBN
+abbrev pub rewrites : List PlanWrite → ℕ → Bool
+rewrites ws lbn = list_any (λ w. w.lbn == lbn) ws
+
+-- of these blocks, those that the writes leave as they were
+abbrev pub unwritten : List PlanWrite → List (ℕ × Block) → List (ℕ × Block)
+unwritten ws looked = filter (λ b. not (rewrites ws b.0)) looked
+
+abbrev pub things_of : Held → Things
+things_of out = things out.clusters out.number
+
+-- what the first of these writes have taken, so many of them, which is nothing where all are made: then the command has it
+abbrev pub stock_after : List PlanWrite → ℕ → Things
+stock_after ws taken = if taken == length ws then nothing else things_of (out_after ws taken)
+
+-- ---- what it comes to
+
+-- the clusters that a command with this seen wants
+abbrev pub wanted_by : Cmd → Seen → ℕ
+wanted_by x seen = clusters_wanted seen.geometry.cluster x
+
+-- what the search of a command has found in the blocks that it has looked at
+abbrev pub found_by : Cmd → Seen → Search → Found
+found_by x seen s = found seen.geometry (wanted_by x seen) (wants_number x) (blocks_of s.looked)
+
+-- ---- how it stands
+
+-- no search is begun, and the locks asked for are those of the command
+pub record HasNotSearched (asked : List (LockName × Mode)) (s : Search) (seen : Seen) : Type 0 where
+  pub same : asked ≡ seen.locks
+  pub looked : s.looked ≡ []
+  pub takes : s.takes ≡ []
+  pub taken : s.taken ≡ 0
+  pub space : HasNoSpace (space_of seen)
+
+-- The lock of the bitmaps is asked for among those of the command, and what was looked at are the first of the blocks that the
+-- search may look at.
+pub record HasClaimed (x : Cmd) (asked : List (LockName × Mode)) (s : Search) (seen : Seen) : Type 0 where
+  pub takes : takes_space x ≡ true
+  pub before : List (LockName × Mode)
+  pub after : List (LockName × Mode)
+  pub claims : asked ≡ before ++ (V, PW) ∷ after
+  pub locks : seen.locks ≡ before ++ after
+  pub in_order : s.looked ≡ looked seen.geometry (wanted_by x seen) (wants_number x) (blocks_of s.looked)
+
+-- the command needs what it searches for, was given nothing yet, and has looked at no bitmap itself
+pub record NeedsSpace (x : Cmd) (seen : Seen) : Type 0 where
+  pub next : IsNext x seen (need.Space (wanted_by x seen) (wants_number x))
+  pub none : HasNoSpace (space_of seen)
+  pub apart : (l : ℕ) → Touches seen.blocks l → IsBitmap seen.geometry l → ⊥
+
+-- the search goes on to look
+pub record IsLooking (x : Cmd) (asked : List (LockName × Mode)) (s : Search) (seen : Seen) : Type 0 where
+  pub claimed : HasClaimed x asked s seen
+  pub needs : NeedsSpace x seen
+  pub more : found_by x seen s ≡ More
+  pub takes : s.takes ≡ []
+  pub taken : s.taken ≡ 0
+
+-- The search has found enough, and these writes take it, under the lock of the bitmaps; a number among it is above those of the
+-- system files.
+pub record HasFound (t : List Resource) (n : ℕ) (x : Cmd) (asked : List (LockName × Mode)) (s : Search) (seen : Seen) : Type 0 where
+  pub claimed : HasClaimed x asked s seen
+  pub enough : found_by x seen s ≡ Enough s.takes
+  pub above : is_new_number (out_after s.takes (length s.takes)).number ≡ true
+  pub holds : Has (held_in PW (held_locks t n asked)) V
+
+-- and not all of the writes are made
+pub record IsTaking (t : List Resource) (n : ℕ) (x : Cmd) (asked : List (LockName × Mode)) (s : Search) (seen : Seen) : Type 0 where
+  pub found : HasFound t n x asked s seen
+  pub needs : NeedsSpace x seen
+  pub part : s.taken < length s.takes
+
+-- or all are made, and the command was given what they take
+pub record HasTaken (t : List Resource) (n : ℕ) (x : Cmd) (asked : List (LockName × Mode)) (s : Search) (seen : Seen) : Type 0 where
+  pub found : HasFound t n x asked s seen
+  pub all : s.taken ≡ length s.takes
+  pub clusters : seen.clusters ≡ (out_after s.takes (length s.takes)).clusters
+  pub number : seen.number ≡ (out_after s.takes (length s.takes)).number
+  pub short : seen.short ≡ None
+
+-- the search has found too little, and the command was told why
+pub record IsRefused (x : Cmd) (asked : List (LockName × Mode)) (s : Search) (seen : Seen) : Type 0 where
+  pub claimed : HasClaimed x asked s seen
+  pub why : Refusal
+  pub too_little : found_by x seen s ≡ Short why
+  pub takes : s.takes ≡ []
+  pub taken : s.taken ≡ 0
+  pub clusters : seen.clusters ≡ []
+  pub number : seen.number ≡ None
+  pub short : seen.short ≡ Some why
+
+-- How the search of node n's command x stands, by the lock table.
+pub data Searches (t : List Resource) (n : ℕ) (x : Cmd) (asked : List (LockName × Mode)) (s : Search) (seen : Seen) : Type 0 where
+  NotYet : HasNotSearched asked s seen → Searches t n x asked s seen
+  Looking : IsLooking x asked s seen → Searches t n x asked s seen
+  Taking : IsTaking t n x asked s seen → Searches t n x asked s seen
+  Taken : HasTaken t n x asked s seen → Searches t n x asked s seen
+  Refused : IsRefused x asked s seen → Searches t n x asked s seen
