@@ -1,5 +1,5 @@
 -- The catalogue of a volume that is accepted keeps the limits and the quotas, and has all system files.
-use Rattle.std.proofs.Common.{◌≡◌, ◌≤◌, ◌<◌, ◌+◌, ◌-◌, ◌*◌, ◌++◌, ◌&&◌, ◌||◌, ℕ, zero, suc, Bool, true, false, cond, List, [], ◌∷◌, Option, Some, None, is_some, Result, Ok, Err, length, map, get_or, slice_get, nat_le, nat_lt, refl, sym, ap, subst, ◌∙◌, inl, inr, arith}
+use Rattle.std.proofs.Common.{◌≡◌, ◌≤◌, ◌<◌, ◌+◌, ◌-◌, ◌++◌, ◌&&◌, ◌||◌, ℕ, zero, suc, Bool, true, false, cond, List, [], ◌∷◌, Option, Some, None, is_some, Result, Ok, Err, length, map, get_or, slice_get, nat_lt, refl, sym, ap, subst, ◌∙◌, inl, inr, arith}
 use Rattle.std.specs.Prelude.{◌==◌, All, not, filter}
 use Rattle.std.specs.List.{list_any, count_by, range_with_len}
 use Rattle.std.proofs.lemmas.Bool.{cases_Bool}
@@ -19,20 +19,18 @@ use Rattle.plain_cat.specs.declared.ids.Uic.{Uic}
 use Rattle.plain_cat.specs.declared.cat.Cat.{Cat}
 use Rattle.plain_cat.specs.declared.cat.QuotaRow.{QuotaRow}
 use Rattle.plain_cat.specs.declared.cat.Slot.{Slot}
-use Rattle.plain_cat.specs.declared.cat.Slot.TheVariants.{Used, Free}
-use Rattle.plain_vol.specs.Lookups.{row_of, is_free_slot, slot_at, is_leaked, is_free_number}
+use Rattle.plain_vol.specs.Lookups.{row_of, is_free_slot, is_leaked, is_free_number}
 use Rattle.plain_vol.specs.Mending.{places, numbers_from, is_true}
 use Rattle.plain_vol.specs.Changes.{with_row}
 use Rattle.plain_vol.specs.Accounts.{charge, HasRow, IsCharged, Accounted}
 use Rattle.vol_parts.specs.declared.finding.Finding.{Finding}
 use Rattle.vol_parts.specs.declared.finding.Finding.TheVariants as finding
-use Rattle.vol_parts.specs.Volumes.{Volume, volume, IsNumber, factor, body, numbers, fields, fields_in, active_rows, geometry_of}
+use Rattle.vol_parts.specs.Volumes.{Volume, volume, IsNumber, factor, body, numbers, fields, fields_in, active_rows}
 use Rattle.vol_parts.specs.Volumes.{head as head_of}
 use Rattle.vol_parts.specs.Catalogues.{quota_row, rows_sorted, slot_of, slot_with, files_of, catalogue}
-use Rattle.vol_parts.specs.Fatal.{is_system_header, is_system_file, is_rowless, are_stated, stated_clusters}
+use Rattle.vol_parts.specs.Fatal.{is_system_header, is_system_file, is_rowless}
 use Rattle.vol_parts.specs.Warnings.{is_marked, names_none, is_second, names_none_found, second_found, has_doubles, is_lost_file, if_any, is_miscounted, usage_found, warnings}
 use Rattle.vol_parts.specs.Findings.{home_at, AreWarningsBy, Accepts, CatOf}
-use Rattle.vol_faults.specs.Conditions.{IsSize}
 use Rattle.vol_spell.proofs.Accepted.{catalogue_is_spelt}
 use Rattle.vol_analyze.proofs.Weakly.{cat-told, IsWeak, weak-volume, file-sizes}
 use Rattle.core_state.specs.Goods.{HasSystemNumbers}

@@ -29,7 +29,6 @@ use Rattle.vol_owners.proofs.Listing.{same_or_not}
 use Rattle.vol_parts.specs.declared.geometry.Geometry.{Geometry}
 use Rattle.vol_under.specs.UnderWay.{PlannedWrite, UnderWay, outs_after, outs_at, together, resting, idle, changed}
 use Rattle.vol_under.specs.Under.{IsUnder}
-use Rattle.vol_under.specs.Answering.{IsReply}
 use Rattle.vol_under.proofs.Nodes.{changed_here, changed_else}
 use Rattle.vol_under.proofs.Steps.{nodes_alike}
 use Rattle.op_law.specs.declared.need.Need.TheVariants as need

@@ -1,5 +1,5 @@
 -- A node begins a command.
-use Rattle.std.proofs.Common.{◌≡◌, ◌≢◌, ◌++◌, ℕ, true, false, List, [], Option, Some, None, map, take, refl, sym, ap, subst, ◌∙◌}
+use Rattle.std.proofs.Common.{◌≡◌, ◌++◌, ℕ, true, false, List, [], Option, Some, None, map, take, refl, sym, ap, subst, ◌∙◌}
 use Rattle.std.specs.Prelude.{replicate}
 use Rattle.vol_words.specs.Fields.{Block}
 use Rattle.lock_db.specs.declared.name.LockName.{LockName}
@@ -7,10 +7,10 @@ use Rattle.lock_db.specs.declared.resource.Resource.{Resource}
 use Rattle.plain_cat.specs.declared.mode.Mode.{Mode}
 use Rattle.plain_cat.specs.declared.mode.Mode.TheVariants.{PR, PW}
 use Rattle.plain_cat.specs.declared.command.Cmd.{Cmd}
-use Rattle.plain_vol.specs.Own.{past, next_command}
+use Rattle.plain_vol.specs.Own.{next_command}
 use Rattle.node_locks.specs.Held.{names_of, AreHeld, waits_at, held_locks}
 use Rattle.op_law.proofs.Going.{seen_goes_on}
-use Rattle.vol_owners.specs.Lists.{Has, StandsIn}
+use Rattle.vol_owners.specs.Lists.{Has}
 use Rattle.vol_owners.specs.Owners.{nothing}
 use Rattle.vol_under.specs.UnderWay.{UnderWay, resting, changed}
 use Rattle.vol_under.specs.Under.{IsUnder}
@@ -19,8 +19,8 @@ use Rattle.op_law.specs.declared.seen.Seen.{Seen}
 use Rattle.op_law.specs.Fits.{things}
 use Rattle.op_law.specs.Going.{GoesOn}
 use Rattle.op_law.specs.Knows.{knows}
-use Rattle.op_law.specs.Laws.{held_in, planned, takes_lock, Lawful}
-use Rattle.core_state.specs.Worlds.{Search, no_search, NodeState, Plain, node_at, with_node, locks_in, locks_of}
+use Rattle.op_law.specs.Laws.{held_in, planned, Lawful}
+use Rattle.core_state.specs.Worlds.{Search, no_search, NodeState, Plain, node_at, with_node, locks_of}
 use Rattle.core_state.specs.Searches.{unwritten, stock_after, NotYet}
 use Rattle.core_state.specs.Goods.{writes_of, under_with, nodes_under, IsAtPlan, IsIdle, HasCommand, IsNode, Good}
 use Rattle.core_state.specs.Events.{begun}

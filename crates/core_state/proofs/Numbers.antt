@@ -1,7 +1,6 @@
 -- No command that a world runs makes a number free.
-use Rattle.std.proofs.Common.{◌≡◌, ◌≢◌, ◌≤◌, ◌-◌, ◌*◌, ◌&&◌, ℕ, Bool, true, false, cond, List, [], ◌∷◌, Option, Some, None, slice_get, slice_set, zero, suc, refl, sym, ap, subst, ◌∙◌, inl, inr}
+use Rattle.std.proofs.Common.{◌≡◌, ◌-◌, ◌*◌, ◌&&◌, ℕ, Bool, true, false, cond, List, [], ◌∷◌, Option, Some, None, slice_get, slice_set, zero, suc, refl, sym, ap, subst, ◌∙◌}
 use Rattle.std.specs.Prelude.{not, min, ◌==◌}
-use Rattle.plain_cat.specs.declared.ids.Fid.{Fid}
 use Rattle.plain_cat.specs.declared.command.Cmd.{Cmd}
 use Rattle.plain_cat.specs.declared.command.Cmd.TheVariants as cmd
 use Rattle.plain_cat.specs.declared.entries.DirEnt.{DirEnt}
@@ -12,14 +11,12 @@ use Rattle.plain_cat.specs.declared.cat.Cat.{Cat}
 use Rattle.plain_cat.specs.declared.cat.File.{File}
 use Rattle.plain_cat.specs.declared.cat.QuotaRow.{QuotaRow}
 use Rattle.plain_cat.specs.declared.cat.Slot.{Slot}
-use Rattle.plain_cat.specs.declared.cat.Slot.TheVariants.{Used, Free}
+use Rattle.plain_cat.specs.declared.cat.Slot.TheVariants.{Used}
 use Rattle.plain_vol.specs.declared.outcome.Outcome.{Outcome}
-use Rattle.plain_vol.specs.Lookups.{slot_at, in_use, live, entry_of, versions, is_free_slot, is_leaked, is_free_number, row_of}
-use Rattle.plain_vol.specs.Directories.{inserted, without}
-use Rattle.plain_vol.specs.Changes.{in_clusters, cost, with_file, with_entries, charged, discharged, grown, cut, new_fid, new_file, new_dir}
+use Rattle.plain_vol.specs.Lookups.{live, entry_of, versions, is_free_slot, is_leaked, is_free_number, row_of}
+use Rattle.plain_vol.specs.Directories.{inserted}
+use Rattle.plain_vol.specs.Changes.{in_clusters, cost, with_file, with_entries, charged, discharged, grown, cut}
 use Rattle.plain_vol.specs.Answers.{unless, in_directory_file, entered, create_refusal, create_made, create_outcome, dir_name, mkdir_refusal, mkdir_made, mkdir_outcome, extend_of, extend_refusal, extend_outcome, trunc_of, trunc_outcome, with_entry, rename_refusal, rename_outcome, lookup_outcome, list_outcome, stat_of, stat_outcome, quota_set_of, quota_set_outcome, quota_shown, quota_show_outcome, outcome, Answer}
-use Rattle.vol_owners.proofs.Listing.{same_or_not}
-use Rattle.vol_owners.proofs.Writing.{get-set_else}
 use Rattle.core_state.specs.Goods.{is_run}
 
 -- what is not free in c is not free in d

@@ -1,5 +1,5 @@
 -- The events of a search for space: each keeps the invariant.
-use Rattle.std.proofs.Common.{◌≡◌, ◌≢◌, ◌≤◌, ◌<◌, ◌+◌, ◌++◌, ℕ, zero, suc, Bool, true, false, List, [], ◌∷◌, Option, Some, None, is_some, length, take, slice_get, slice_set, refl, sym, ap, subst, ◌∙◌, inl, inr, arith}
+use Rattle.std.proofs.Common.{◌≡◌, ◌≤◌, ◌<◌, ◌+◌, ◌++◌, ℕ, zero, suc, Bool, true, false, List, [], ◌∷◌, Option, Some, None, is_some, length, take, slice_get, slice_set, refl, sym, ap, subst, ◌∙◌, inl, inr, arith}
 use Rattle.std.specs.Prelude.{◌==◌, not, slice_index_or}
 use Rattle.std.proofs.lemmas.Bool.Decides.{nat_tests}
 use Rattle.std.proofs.lemmas.List.{append-nil}
@@ -15,12 +15,12 @@ use Rattle.plain_cat.specs.declared.command.Cmd.{Cmd}
 use Rattle.plain_cat.specs.declared.cat.Cat.{Cat}
 use Rattle.node_locks.specs.Held.{system_of, names_of, waits_at, held_locks}
 use Rattle.vol_owners.specs.Lists.{Has, Once, Touches, StandsIn}
-use Rattle.vol_owners.specs.Owners.{Things, nothing, Owners, AreOut, Outs}
+use Rattle.vol_owners.specs.Owners.{Things, nothing, Owners, Outs}
 use Rattle.vol_owners.proofs.Writing.{touches_joined, stands_joined}
 use Rattle.vol_owners.proofs.Listing.{has_parted, has_first, has_second}
 use Rattle.vol_parts.specs.declared.geometry.Geometry.{Geometry}
 use Rattle.vol_spell.specs.Spelling.{Spells}
-use Rattle.vol_under.specs.Guards.{Guard, Lock, guard_of, MayLook}
+use Rattle.vol_under.specs.Guards.{Lock, guard_of, MayLook}
 use Rattle.vol_under.specs.UnderWay.{UnderWay, changed}
 use Rattle.vol_under.specs.Under.{IsUnder}
 use Rattle.vol_under.specs.Keeping.{Refills, IsBitmap}
@@ -31,7 +31,6 @@ use Rattle.op_law.specs.declared.seen.Seen.{Seen}
 use Rattle.op_law.specs.Events.{space_of, has_number, has_space, HasNoSpace}
 use Rattle.op_law.specs.Needs.{events_of, IsNext}
 use Rattle.op_law.specs.Fits.{things}
-use Rattle.op_law.specs.Going.{with_space}
 use Rattle.op_law.specs.Knows.{clusters_wanted, wants_number, takes_space, knows}
 use Rattle.op_law.specs.Laws.{held_in, takes_lock}
 use Rattle.op_law.specs.Writing.{Held, holding}
@@ -44,10 +43,10 @@ use Rattle.node_space.proofs.Ending.{looks_in_order}
 use Rattle.node_space.proofs.Writes.{writes_take, takings_refill}
 use Rattle.node_space.proofs.Taken.{takes_all, number_is_new}
 use Rattle.core_state.specs.Worlds.{Search, NodeState, Plain, node_at, set_node, with_node}
-use Rattle.core_state.specs.Searches.{unwritten, things_of, stock_after, wanted_by, HasNotSearched, HasClaimed, NeedsSpace, IsLooking, IsTaking, HasTaken, Searches, NotYet, Looking, Taking, Taken, Refused}
-use Rattle.core_state.specs.Goods.{writes_of, under_with, nodes_under, IsAtPlan, IsAt, IsNode, Good}
-use Rattle.core_state.specs.Events.{block_at, has_asked, one_more, turned, claiming, told_by, takes_by, looked_on, scanned, scanning, given_by, grabbing}
-use Rattle.core_state.proofs.Holding.{HasIn, in_held_is, held_weaker}
+use Rattle.core_state.specs.Searches.{unwritten, things_of, stock_after, wanted_by, HasClaimed, IsLooking, IsTaking, Searches, NotYet, Looking, Taking, Taken, Refused}
+use Rattle.core_state.specs.Goods.{under_with, nodes_under, IsAtPlan, IsAt, IsNode, Good}
+use Rattle.core_state.specs.Events.{block_at, has_asked, one_more, turned, claiming, looked_on, scanned, scanning, given_by, grabbing}
+use Rattle.core_state.proofs.Holding.{in_held_is, held_weaker}
 use Rattle.core_state.proofs.Running.{at_locks, under_now}
 use Rattle.core_state.proofs.Taking.{becomes, is_committed, grabs}
 use Rattle.core_state.proofs.Seeking.{touches_its, part_stands, stands_its, part_touches, is_left, all_left, left_of, less_left, not_left, next_in_order, none_in_order, next_lies, not_before, no_space, wants_some, wants_nothing, first_more, some_writes, refused_why}

@@ -21,7 +21,7 @@ use Rattle.vol_under.specs.Keeping.{IsBitmap}
 use Rattle.op_law.specs.declared.need.Need.TheVariants as need
 use Rattle.op_law.specs.declared.need.PlanWrite.{PlanWrite}
 use Rattle.op_law.specs.Events.{Events, Take, Look, Fetch, Find, Make, Space, has_space, HasNoSpace, following}
-use Rattle.node_space.specs.Searching.{Found, More, Short, Enough, places, free_number, free_from, number_write, cluster_writes, found_clusters, found_number, found}
+use Rattle.node_space.specs.Searching.{More, Short, Enough, places, free_number, free_from, number_write, cluster_writes, found_clusters, found_number, found}
 use Rattle.node_space.specs.Taking.{looked}
 use Rattle.node_space.specs.Answering.{blocks_of}
 use Rattle.node_space.proofs.Ways.{short_of}

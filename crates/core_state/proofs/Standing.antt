@@ -1,7 +1,6 @@
 -- How a search that stands goes with the locks, the blocks and the knowledge of its command.
-use Rattle.std.proofs.Common.{◌≡◌, ◌≢◌, ◌<◌, ◌++◌, ◌||◌, ℕ, zero, suc, Bool, true, false, cond, List, [], ◌∷◌, Option, Some, None, length, take, refl, sym, ap, subst, ◌∙◌, inl, inr, arith, ◌⊎◌}
+use Rattle.std.proofs.Common.{◌≡◌, ◌≢◌, ◌<◌, ◌++◌, ◌||◌, ℕ, Bool, true, false, cond, List, [], ◌∷◌, Option, Some, None, length, take, refl, sym, ap, subst, ◌∙◌, inl, inr, arith, ◌⊎◌}
 use Rattle.std.specs.Prelude.{◌==◌, not}
-use Rattle.std.specs.List.{list_any}
 use Rattle.std.proofs.lemmas.Bool.Decides.{nat_tests}
 use Rattle.vol_words.specs.Fields.{Block}
 use Rattle.lock_db.specs.declared.name.LockName.{LockName}
@@ -9,14 +8,12 @@ use Rattle.lock_db.specs.declared.name.LockName.TheVariants.{V}
 use Rattle.lock_db.specs.declared.resource.Resource.{Resource}
 use Rattle.lock_db.specs.Names.{is_same}
 use Rattle.lock_db.proofs.Names.{is_same-refl, is_same-same}
-use Rattle.plain_cat.specs.Modes.{rank}
 use Rattle.plain_cat.specs.declared.mode.Mode.{Mode}
 use Rattle.plain_cat.specs.declared.mode.Mode.TheVariants.{PW}
 use Rattle.plain_cat.specs.declared.command.Cmd.{Cmd}
-use Rattle.plain_cat.specs.declared.cat.Cat.{Cat}
 use Rattle.node_locks.specs.Held.{names_of, waits_at, held_locks}
 use Rattle.vol_owners.specs.Lists.{Has, StandsIn}
-use Rattle.vol_owners.specs.Owners.{Things, nothing, Owners, Outs}
+use Rattle.vol_owners.specs.Owners.{Things, nothing, Outs}
 use Rattle.vol_owners.proofs.Writing.{stands_joined}
 use Rattle.vol_owners.proofs.Listing.{same_or_not, has_parted, has_first, has_second}
 use Rattle.vol_under.specs.UnderWay.{UnderWay, AreSole}
@@ -29,7 +26,6 @@ use Rattle.op_law.specs.Fits.{things}
 use Rattle.op_law.specs.Going.{with_block, with_lock}
 use Rattle.op_law.specs.Knows.{clusters_wanted, wants_number, is_new_number, is_short, knows}
 use Rattle.op_law.specs.Laws.{held_in, takes_lock}
-use Rattle.node_space.specs.Searching.{Short}
 use Rattle.node_space.specs.Taking.{looked, out_after, IsTooLittle}
 use Rattle.node_space.specs.Answering.{blocks_of}
 use Rattle.node_space.proofs.Shortage.{shortage_is_exact, command_is_short}

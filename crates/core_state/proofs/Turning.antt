@@ -1,6 +1,6 @@
 -- The events that leave the history: each keeps the invariant.
-use Rattle.std.proofs.Common.{◌≡◌, ◌≢◌, ◌≤◌, ◌<◌, ◌+◌, ◌++◌, ℕ, zero, suc, Bool, true, false, cond, List, [], ◌∷◌, Option, Some, None, length, map, take, slice_get, slice_set, refl, sym, ap, subst, ◌∙◌, inl, inr, arith}
-use Rattle.std.specs.Prelude.{◌==◌, slice_index_or}
+use Rattle.std.proofs.Common.{◌≡◌, ◌<◌, ◌+◌, ◌++◌, ℕ, zero, suc, Bool, true, false, cond, List, [], ◌∷◌, Option, Some, None, length, map, take, slice_get, slice_set, refl, sym, ap, subst, ◌∙◌, inl, inr, arith}
+use Rattle.std.specs.Prelude.{slice_index_or}
 use Rattle.std.proofs.lemmas.Option.{slice_get_within}
 use Rattle.vol_words.specs.Fields.{Block}
 use Rattle.lock_db.specs.declared.name.LockName.{LockName}
@@ -15,14 +15,13 @@ use Rattle.node_locks.specs.Held.{system_of, names_of, HoldsItsLocks, AreHeld, w
 use Rattle.node_locks.proofs.Asking.{asking_holds}
 use Rattle.node_locks.proofs.Keeping.{all_are_held}
 use Rattle.vol_owners.specs.Lists.{Has, Touches, StandsIn}
-use Rattle.vol_owners.specs.Owners.{Things, nothing, Owners, Outs}
+use Rattle.vol_owners.specs.Owners.{Outs}
 use Rattle.vol_owners.proofs.Writing.{touches_joined, stands_joined}
 use Rattle.vol_owners.proofs.Listing.{has_first}
 use Rattle.vol_parts.specs.declared.geometry.Geometry.{Geometry}
-use Rattle.vol_spell.specs.Spelling.{Spells}
-use Rattle.vol_under.specs.Guards.{guard_of, MayWrite, MayLook}
+use Rattle.vol_under.specs.Guards.{guard_of, MayLook}
 use Rattle.vol_under.specs.UnderWay.{UnderWay, changed, AreSole}
-use Rattle.vol_under.specs.Under.{IsLawful, IsUnder}
+use Rattle.vol_under.specs.Under.{IsUnder}
 use Rattle.vol_under.proofs.Guarding.{wider_look, wider_write}
 use Rattle.op_law.specs.declared.need.Need.{Need}
 use Rattle.op_law.specs.declared.need.Need.TheVariants as need
@@ -32,7 +31,7 @@ use Rattle.op_law.specs.declared.need.Ask.{Ask as PlanAsk}
 use Rattle.op_law.specs.declared.seen.Seen.{Seen}
 use Rattle.op_law.specs.Needs.{IsNext}
 use Rattle.op_law.specs.Fits.{HasSeen, IsSeenOn}
-use Rattle.op_law.specs.Going.{GoesOn, with_block, with_lock}
+use Rattle.op_law.specs.Going.{GoesOn, with_block}
 use Rattle.op_law.specs.Knows.{knows}
 use Rattle.op_law.specs.Laws.{held_in, planned, under_way, takes_lock, MayNeed, IsRight, IsPlan}
 use Rattle.op_law.proofs.Going.{seen_goes_on}

@@ -1,5 +1,5 @@
 -- Every turn keeps the invariant.
-use Rattle.std.proofs.Common.{◌≡◌, ◌<◌, ℕ, Bool, true, false, cond, List, Option, Some, None, is_some, length, slice_get, refl, sym, ap, subst, ◌∙◌}
+use Rattle.std.proofs.Common.{◌≡◌, ◌<◌, ℕ, Bool, true, false, cond, List, Option, Some, None, length, slice_get, refl, sym, ap, subst, ◌∙◌}
 use Rattle.lock_db.specs.declared.name.LockName.TheVariants.{V}
 use Rattle.lock_db.specs.declared.resource.Resource.{Resource}
 use Rattle.lock_db.specs.Tables.{asked}

@@ -1,11 +1,10 @@
 -- How the search for space of a node's command stands.
-use Rattle.std.specs.Prelude.{◌≡◌, ◌<◌, ◌==◌, ◌++◌, not, ℕ, true, Bool, List, [], ◌∷◌, Option, None, Some, length, filter, if◌then◌else◌}
+use Rattle.std.specs.Prelude.{◌≡◌, ◌<◌, ◌==◌, ◌++◌, not, ℕ, true, Bool, List, [], ◌∷◌, None, Some, length, filter, if◌then◌else◌}
 use Rattle.std.specs.List.{list_any}
 use Rattle.vol_words.specs.Fields.{Block}
 use Rattle.lock_db.specs.declared.name.LockName.{LockName}
 use Rattle.lock_db.specs.declared.name.LockName.TheVariants.{V}
 use Rattle.lock_db.specs.declared.resource.Resource.{Resource}
-use Rattle.lock_db.specs.Names.{is_same}
 use Rattle.plain_cat.specs.declared.mode.Mode.{Mode}
 use Rattle.plain_cat.specs.declared.mode.Mode.TheVariants.{PW}
 use Rattle.plain_cat.specs.declared.command.Cmd.{Cmd}

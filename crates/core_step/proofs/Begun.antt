@@ -1,5 +1,5 @@
 -- What is known of a node that begins a command.
-use Rattle.std.proofs.Common.{◌≡◌, ◌≤◌, ◌-◌, ◌+◌, ℕ, Bool, true, false, cond, List, [], ◌∷◌, Option, Some, None, Result, Ok, Err, length, map, slice_set, refl, sym, ap, subst, ◌∙◌, arith}
+use Rattle.std.proofs.Common.{◌≡◌, ◌≤◌, ◌-◌, ◌+◌, ℕ, true, false, cond, List, Option, Some, None, Result, Ok, Err, length, map, slice_set, refl, sym, ap, subst, ◌∙◌, arith}
 use Rattle.std.specs.Prelude.{slice_index_or, option_map, is_some, OnOk, IfOk}
 use Rattle.lock_db.specs.declared.name.LockName.TheVariants.{V}
 use Rattle.lock_db.specs.declared.resource.Resource.{Resource}
@@ -8,11 +8,10 @@ use Rattle.plain_vol.specs.Own.{next_command}
 use Rattle.node_locks.specs.Held.{waits_at}
 use Rattle.op_law.specs.declared.need.Need.{Need}
 use Rattle.op_law.specs.declared.need.Need.TheVariants as need
-use Rattle.op_law.specs.declared.need.Plan.{Plan}
-use Rattle.op_law.specs.Needs.{need_of, IsNext}
+use Rattle.op_law.specs.Needs.{need_of}
 use Rattle.op_law.specs.Laws.{Lawful}
 use Rattle.core_state.specs.Worlds.{NodeState, Plain, node_at, set_node, with_node, current, or_next, state_of}
-use Rattle.core_state.specs.Goods.{IsIdle, HasCommand, IsNode, Good, decided, HasRoom}
+use Rattle.core_state.specs.Goods.{HasCommand, IsNode, Good, decided, HasRoom}
 use Rattle.core_state.specs.Events.{Event, Rest, Stand, Leave, Ask, Claim, See, Decide, has_asked, by_search, by_need, by_plan, by_begun, by_command, event_of, next_event, command_event_of, command_event, happen, happens, begun, plan_in}
 use Rattle.core_state.specs.declared.node.Node.{Node}
 use Rattle.core_state.proofs.Nodes.{at_here, set_node_twice, set_node_same, length_node, told_at, told_set}
@@ -20,7 +19,6 @@ use Rattle.core_state.proofs.Turning.{under_command}
 use Rattle.core_state.proofs.Beginning.{begins}
 use Rattle.core_step.specs.Ready.{IsReady, Begins}
 use Rattle.core_step.specs.Turns.{told}
-use Rattle.core_step.specs.declared.turns.Turn.{Turn}
 use Rattle.core_step.proofs.Steps.{happen_here}
 use Rattle.core_step.proofs.Ready.{decided_set, event_need}
 

@@ -1,5 +1,5 @@
 -- What is known of a node that goes on with its command.
-use Rattle.std.proofs.Common.{◌≡◌, ◌≤◌, ◌<◌, ◌+◌, ◌-◌, ◌++◌, ℕ, zero, suc, Bool, true, false, cond, List, [], ◌∷◌, Option, Some, None, length, map, slice_get, slice_set, refl, sym, ap, subst, ◌∙◌, inl, inr, arith}
+use Rattle.std.proofs.Common.{◌≡◌, ◌≤◌, ◌<◌, ◌+◌, ◌-◌, ◌++◌, ℕ, zero, suc, Bool, true, false, cond, List, [], ◌∷◌, Option, Some, None, length, map, slice_get, slice_set, refl, sym, ap, subst, ◌∙◌, arith}
 use Rattle.std.specs.Prelude.{◌==◌, slice_index_or, not, option_map, IfSome, IsSome, is_some, replicate}
 use Rattle.std.proofs.lemmas.Bool.Decides.{nat_tests}
 use Rattle.std.proofs.lemmas.Option.{slice_get_within}
@@ -21,14 +21,14 @@ use Rattle.plain_cat.specs.declared.script.Script.{Script}
 use Rattle.plain_cat.specs.declared.script.Line.{Line}
 use Rattle.plain_cat.specs.declared.script.LineCmd.{LineCmd}
 use Rattle.plain_cat.specs.declared.cat.Cat.{Cat}
-use Rattle.plain_vol.specs.Own.{NodePast, past, lines_of, or_close, close_from, command_after, next_command}
-use Rattle.node_locks.specs.Held.{system_of, names_of, HoldsItsLocks, AreHeld, waits_at, held_locks, with_locks}
+use Rattle.plain_vol.specs.Own.{NodePast, lines_of, or_close, close_from, command_after}
+use Rattle.node_locks.specs.Held.{system_of, names_of, HoldsItsLocks, AreHeld, waits_at, with_locks}
 use Rattle.node_locks.specs.Sequences.{raised_block}
 use Rattle.node_locks.proofs.Asking.{asking_holds}
 use Rattle.node_locks.proofs.Giving.{giving_holds}
 use Rattle.node_locks.proofs.Keeping.{may_give}
-use Rattle.vol_owners.specs.Lists.{Has, Touches, StandsIn}
-use Rattle.vol_owners.specs.Owners.{Owners, nothing, Outs}
+use Rattle.vol_owners.specs.Lists.{Has, Touches}
+use Rattle.vol_owners.specs.Owners.{Owners}
 use Rattle.vol_owners.specs.declared.owner.Owner.{Owner}
 use Rattle.vol_parts.specs.declared.geometry.Geometry.{Geometry}
 use Rattle.vol_parts.specs.declared.geometry.Part.{Part}
@@ -55,7 +55,7 @@ use Rattle.node_space.specs.Answering.{answer, blocks_of}
 use Rattle.core_state.specs.Searches.{wanted_by}
 use Rattle.core_state.specs.Worlds.{NodeState, Plain, node_at, set_node, locks_in, locks_of}
 use Rattle.core_state.specs.Raises.{raise_of}
-use Rattle.core_state.specs.Goods.{is_run, writes_of, IsAtPlan, IsAt, IsNode, Good, decided, HasRoom}
+use Rattle.core_state.specs.Goods.{writes_of, IsAt, IsNode, Good, decided, HasRoom}
 use Rattle.core_state.specs.Events.{Event, Ask, Claim, See, Scan, Grab, Decide, Put, Answer, has_asked, all_writes, by_answer, by_takes, by_search, claiming, scanning, grabbing, happens, happen, block_at, turned, asking, looking, deciding, writing, answering, by_need, by_write, by_plan, by_begun, command_event_of, command_event, command_in, command_at, plan_in, plan_at}
 use Rattle.core_state.specs.Worlds.{state_of}
 use Rattle.core_state.specs.declared.node.Node.{Node}

@@ -2,7 +2,7 @@
 use Rattle.std.specs.Prelude.{ℕ, Bool, false, Option, Some, None, if◌then◌else◌}
 use Rattle.node_locks.specs.Held.{waits_at}
 use Rattle.core_state.specs.Worlds.{NodeState, Plain, node_at}
-use Rattle.core_state.specs.Events.{Event, Rest, Stand, Leave, Ask, Claim, See, Scan, Grab, Decide, Put, Answer, next_event}
+use Rattle.core_state.specs.Events.{Event, Rest, Stand, Leave, Ask, Claim, See, Scan, Grab, Decide, Put, Answer}
 use Rattle.core_step.specs.declared.turns.Turn.{Turn}
 use Rattle.core_step.specs.declared.turns.Turn.TheVariants as turn
 use Rattle.core_step.specs.declared.turns.Kind.TheVariants as kind

@@ -1,7 +1,7 @@
 -- What no turn changes.
 use Rattle.std.proofs.Common.{◌≡◌, ◌≤◌, ℕ, zero, suc, true, false, cond, List, [], ◌∷◌, Option, Some, None, take, refl, sym, subst, ◌∙◌}
 use Rattle.core_state.specs.Worlds.{NodeState, Plain, IsOfWorld, node_at}
-use Rattle.core_state.specs.Events.{Event, Rest, Stand, Leave, Ask, See, Search, Decide, Put, Answer, happens, happen_at, next_event, after_turn, is_over}
+use Rattle.core_state.specs.Events.{Event, Rest, Stand, Leave, Ask, Claim, See, Scan, Grab, Decide, Put, Answer, happens, happen_at, next_event, after_turn, is_over}
 use Rattle.core_state.proofs.Nodes.{length_node}
 use Rattle.run_engine.specs.Walks.{after_play, played, next_from, Rotation, with_turn, after_next, rotation, IsPlayed, IsRotated, Stays}
 
@@ -22,7 +22,9 @@ event_stays w n s Stand = record { script = refl; opening = refl; geometry = ref
 event_stays w n s Leave = record { script = refl; opening = refl; geometry = refl; count = length_node w.nodes n _ }
 event_stays w n s (Ask x name mode) = record { script = refl; opening = refl; geometry = refl; count = length_node w.nodes n _ }
 event_stays w n s (See x lbn) = record { script = refl; opening = refl; geometry = refl; count = length_node w.nodes n _ }
-event_stays w n s Search = nothing_stays w
+event_stays w n s (Claim x) = record { script = refl; opening = refl; geometry = refl; count = length_node w.nodes n _ }
+event_stays w n s (Scan x clusters number lbn) = record { script = refl; opening = refl; geometry = refl; count = length_node w.nodes n _ }
+event_stays w n s (Grab v) = record { script = refl; opening = refl; geometry = refl; count = length_node w.nodes n _ }
 event_stays w n s (Decide x p) = record { script = refl; opening = refl; geometry = refl; count = length_node w.nodes n _ }
 event_stays w n s (Put v) = record { script = refl; opening = refl; geometry = refl; count = length_node w.nodes n _ }
 event_stays w n s (Answer x r) = record { script = refl; opening = refl; geometry = refl; count = length_node w.nodes n _ }

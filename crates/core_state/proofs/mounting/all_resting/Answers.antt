@@ -1,4 +1,4 @@
-use Rattle.std.proofs.Common.{◌≡◌, ◌∙◌, ℕ, map, replicate, ap, arith}
+use Rattle.std.proofs.Common.{◌≡◌, ◌∙◌, ℕ, replicate, ap, arith}
 use Rattle.core_state.specs.Mounting.{at_rest}
 use Rattle.core_state.proofs.mounting.all_resting.Goals as goal
 

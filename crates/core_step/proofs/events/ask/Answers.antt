@@ -1,4 +1,4 @@
-use Rattle.std.proofs.Common.{◌≡◌, ◌++◌, ◌-◌, ◌∷◌, [], refl, ap, map, slice_set, ◌∙◌}
+use Rattle.std.proofs.Common.{◌++◌, ◌-◌, ◌∷◌, [], refl, ap, map, slice_set, ◌∙◌}
 use Rattle.core_state.specs.Worlds.{state_of, plain_of}
 use Rattle.core_state.specs.Events.{turned}
 use Rattle.core_step.proofs.Steps.{asked_so, same_item}

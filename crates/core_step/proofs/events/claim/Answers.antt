@@ -1,4 +1,4 @@
-use Rattle.std.proofs.Common.{◌≡◌, ◌++◌, ◌-◌, ◌∷◌, [], refl, ap, map, slice_set, ◌∙◌}
+use Rattle.std.proofs.Common.{◌++◌, ◌-◌, ◌∷◌, [], refl, ap, map, slice_set, ◌∙◌}
 use Rattle.lock_db.specs.declared.name.LockName.TheVariants.{V}
 use Rattle.plain_cat.specs.declared.mode.Mode.TheVariants.{PW}
 use Rattle.core_state.specs.Worlds.{state_of, plain_of}

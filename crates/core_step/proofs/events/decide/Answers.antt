@@ -1,6 +1,6 @@
-use Rattle.std.proofs.Common.{◌≡◌, ◌-◌, refl, ap, map, slice_set, ◌∙◌}
+use Rattle.std.proofs.Common.{◌-◌, refl, ap, map, slice_set, ◌∙◌}
 use Rattle.core_state.specs.Worlds.{state_of, plain_of}
-use Rattle.core_step.proofs.Steps.{on_ok, on_err, stood, left, asked_so, looked, decided, kept}
+use Rattle.core_step.proofs.Steps.{decided}
 use Rattle.core_step.proofs.events.decide.Goals as goal
 
 pub returns-clause-world : goal.returns-clause-world

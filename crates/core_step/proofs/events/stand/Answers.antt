@@ -1,6 +1,6 @@
-use Rattle.std.proofs.Common.{◌≡◌, refl, ◌∙◌}
+use Rattle.std.proofs.Common.{refl}
 use Rattle.core_state.specs.Worlds.{state_of, plain_of}
-use Rattle.core_step.proofs.Steps.{on_ok, on_err, stood, left, asked_so, looked, decided, kept}
+use Rattle.core_step.proofs.Steps.{stood}
 use Rattle.core_step.proofs.events.stand.Goals as goal
 
 pub returns-clause-world : goal.returns-clause-world

@@ -1,4 +1,4 @@
-use Rattle.std.proofs.Common.{◌≡◌, refl, sym, ap, subst, ◌∙◌}
+use Rattle.std.proofs.Common.{refl, sym, ap, subst, ◌∙◌}
 use Rattle.core_state.specs.Worlds.{state_of, plain_of}
 use Rattle.core_state.specs.Goods.{Good, HasRoom}
 use Rattle.core_state.specs.Events.{happen, is_write, command_event}

@@ -1,10 +1,10 @@
-use Rattle.std.proofs.Common.{◌≡◌, ◌+◌, refl, sym, ap, subst, ◌∙◌, Some, None}
+use Rattle.std.proofs.Common.{◌+◌, refl, sym, ap, subst, ◌∙◌, Some, None}
 use Rattle.std.specs.Prelude.{is_some}
 use Rattle.core_state.specs.Worlds.{plain_of}
 use Rattle.core_state.specs.Goods.{HasRoom}
 use Rattle.core_state.specs.Events.{happen, is_write}
 use Rattle.core_step.specs.Turns.{told}
-use Rattle.core_step.proofs.Ready.{mine, plan_now, next_now, last_now, no_plan_now, one_node, place_kept, event_write, write_within, may_end_at, command_is, plan_is, put_room, answer_room}
+use Rattle.core_step.proofs.Ready.{plan_now, next_now, last_now, no_plan_now, one_node, place_kept, event_write, write_within, may_end_at, command_is, plan_is, put_room, answer_room}
 use Rattle.core_step.proofs.step.planned.Goals as goal
 
 pub unreachable-requires : goal.unreachable-requires

@@ -6,7 +6,7 @@ use Rattle.core_state.specs.Goods.{HasRoom}
 use Rattle.core_state.specs.Events.{has_asked, happen}
 use Rattle.vol_parts.specs.Parts.{IsGeometry}
 use Rattle.core_step.specs.Turns.{told}
-use Rattle.core_step.proofs.Ready.{mine, item_asked, item_answer, item_geometry, may_claim, event_claim, event_scan, scans_within, comes_to, claim_told, claim_room, scan_room, command_is, goes_granted, goes_queued, has_geometry}
+use Rattle.core_step.proofs.Ready.{item_asked, item_answer, item_geometry, may_claim, event_claim, event_scan, scans_within, comes_to, claim_told, claim_room, scan_room, command_is, goes_granted, goes_queued, has_geometry}
 use Rattle.core_step.proofs.step.searching.Goals as goal
 
 pub claim-requires-clause-new : goal.claim-requires-clause-new

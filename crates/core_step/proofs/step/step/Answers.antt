@@ -8,7 +8,7 @@ use Rattle.core_state.specs.Events.{Stand, Leave, turned, leaving, happen, is_wr
 use Rattle.core_state.proofs.Nodes.{told_at}
 use Rattle.core_step.specs.Turns.{told}
 use Rattle.core_step.proofs.Steps.{on_ok}
-use Rattle.core_step.proofs.Begun.{rests, stands, leaves, goes, rest_so, quiet_room, ready_so, idle_so, lawful_ready, lawful_begun, lawful_over, lawful_waits, lawful_left, goes_ready, if_ok, always_ok}
+use Rattle.core_step.proofs.Begun.{rests, stands, leaves, rest_so, quiet_room, ready_so, idle_so, lawful_ready, lawful_begun, lawful_over, lawful_waits, lawful_left, goes_ready, if_ok, always_ok}
 use Rattle.core_step.proofs.step.step.Goals as goal
 
 pub returns-then-at-clause-world : goal.returns-then-at-clause-world

@@ -1,4 +1,3 @@
-use Rattle.std.proofs.Common.{◌≡◌}
 use Rattle.core_state.specs.Worlds.{plain_of}
 use Rattle.core_step.proofs.Worlds.{world_kept}
 use Rattle.core_step.proofs.step.turn.Goals as goal
