@@ -205,14 +205,14 @@ module _ (w : Plain) (good : Good w) (n : ℕ) (r : IsReady w n) where
   -- a lock that is needed can be asked for
   pub may_lock : (name : LockName) (mode : Mode) → IsNext r.cmd s.seen (need.Lock name mode) → standing_of (system_of n) (resource_at name w.locks).askers ≡ None
   may_lock name mode is =
-      (subst (λ (ls : List (LockName × Mode)). HoldsItsLocks w.locks n ls) (ap locks_in r.at) (good.locked.1 n)).no_other name ((may_need w good n s r.at r.cmd r.has r.free (need.Lock name mode) is).new)
+      (subst (λ (ls : List (LockName × Mode)). HoldsItsLocks w.locks n ls) (ap locks_in r.at) (good.locked.1 n)).no_other name ((may_need w good n s r.at r.cmd r.has r.free (need.Lock name mode) is).0)
 
   -- and it stands in a queue where it was not granted at once
   pub asked_waits : (name : LockName) (mode : Mode) → IsNext r.cmd s.seen (need.Lock name mode)
       → waits_at (asked name (system_of n) mode w.locks) n (s.seen.locks ++ (name, mode) ∷ []) ≡ not (goes_at_once (system_of n) mode (resource_at name w.locks).askers)
   asked_waits name mode is =
       let mine : locks_of w.nodes n ≡ s.seen.locks = ap locks_in r.at in
-      let new : Has (names_of s.seen.locks) name → ⊥ = (may_need w good n s r.at r.cmd r.has r.free (need.Lock name mode) is).new in
+      let new : Has (names_of s.seen.locks) name → ⊥ = (may_need w good n s r.at r.cmd r.has r.free (need.Lock name mode) is).0 in
       let after = asking_holds w.locks n (name, mode) (locks_of w.nodes) good.locked.1
       (subst (λ (ls : List (LockName × Mode)). waits_at w.locks n ls ≡ false) (sym mine) r.free)
       (λ h. new (subst (λ (ls : List (LockName × Mode)). Has (names_of ls) name) mine h)) in
@@ -222,13 +222,13 @@ module _ (w : Plain) (good : Good w) (n : ℕ) (r : IsReady w n) where
   within lbn lt = subst (λ (k : ℕ). lbn < k) (sym good.running.drive.over.count) lt
 
   pub look_within : (name : LockName) (lbn : ℕ) → IsNext r.cmd s.seen (need.Block name lbn) → lbn < length w.blocks
-  look_within name lbn is = within lbn (may_need w good n s r.at r.cmd r.has r.free (need.Block name lbn) is).within
+  look_within name lbn is = within lbn (may_need w good n s r.at r.cmd r.has r.free (need.Block name lbn) is).1.within
 
   pub fetch_within : (lbn : ℕ) → IsNext r.cmd s.seen (need.Bare lbn) → lbn < length w.blocks
   fetch_within lbn is = within lbn (may_need w good n s r.at r.cmd r.has r.free (need.Bare lbn) is).within
 
   pub no_space : (clusters : ℕ) (number : Bool) → IsNext r.cmd s.seen (need.Space clusters number) → ⊥
-  no_space clusters number is = run_space r.cmd is_at.runs (may_need w good n s r.at r.cmd r.has r.free (need.Space clusters number) is).0.takes
+  no_space clusters number is = run_space r.cmd is_at.runs (may_need w good n s r.at r.cmd r.has r.free (need.Space clusters number) is).0
 
   -- the next write is to a block of the volume
   pub write_within : (p : Plan) → s.plan ≡ Some p → (v : PlanWrite) → slice_get p.writes s.done ≡ Some v → v.lbn < length w.blocks
