@@ -8,7 +8,7 @@ use Rattle.plain_cat.specs.declared.history.Entry.{Entry}
 use Rattle.plain_cat.specs.declared.history.Entry.TheVariants.{Done, Died, Mended}
 use Rattle.plain_vol.specs.Own.{Killed}
 use Rattle.core_state.specs.Worlds.{NodeState, Plain, node_at}
-use Rattle.core_state.specs.Events.{Event, Rest, Stand, Leave, Ask, See, Search, Decide, Put, Answer, next_event, happens, happen_at, after_turn}
+use Rattle.core_state.specs.Events.{Event, Rest, Stand, Leave, Ask, See, Claim, Scan, Grab, Decide, Put, Answer, next_event, happens, happen_at, after_turn}
 use Rattle.clus_top.specs.Runs.{is_mending}
 
 -- nodes die only where the script kills them, and nothing is mended
@@ -35,7 +35,9 @@ event_keeps w n s Stand p = record { orderly = p.orderly }
 event_keeps w n s Leave p = record { orderly = p.orderly }
 event_keeps w n s (Ask x name mode) p = record { orderly = p.orderly }
 event_keeps w n s (See x lbn) p = record { orderly = p.orderly }
-event_keeps w n s Search p = p
+event_keeps w n s (Claim x) p = record { orderly = p.orderly }
+event_keeps w n s (Scan x clusters number lbn) p = record { orderly = p.orderly }
+event_keeps w n s (Grab v) p = record { orderly = p.orderly }
 event_keeps w n s (Decide x q) p = record { orderly = p.orderly }
 event_keeps w n s (Put v) p = record { orderly = p.orderly }
 event_keeps w n s (Answer x r) p = record { orderly = one_more w.script w.history n x r p.orderly }
