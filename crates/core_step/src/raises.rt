@@ -124,12 +124,7 @@ fn any_second(g: &Geometry, name: LockName, ws: &[PlanWrite]) -> bool
 }
 
 /// By how much these writes, those of a search and those of a plan, raise the two sequences of a lock.
-pub(crate) fn raise_of(
-    g: &Geometry,
-    name: LockName,
-    takes: &[PlanWrite],
-    ws: &[PlanWrite],
-) -> Raise
+pub(crate) fn raise_of(g: &Geometry, name: LockName, takes: &[PlanWrite], ws: &[PlanWrite]) -> Raise
     requires { IsGeometry g.now }
     ensures { result ≡ raise_of g.now name (takes.now ++ ws.now) }
 {

@@ -106,13 +106,7 @@ pub(crate) fn scan<I: ImageDev, O: Operation>(
     let block = *core.mirror.read(lbn);
     let at = &core.nodes[place];
     let looked = with_block(alloc, &at.looked, lbn, &block)?;
-    let found = search(
-        alloc,
-        &at.seen.geometry,
-        clusters,
-        number,
-        looked.items(),
-    )?;
+    let found = search(alloc, &at.seen.geometry, clusters, number, looked.items())?;
     let at = &mut core.nodes[place];
     take_over(alloc, at, found);
     keep_looked(at, looked);
