@@ -74,8 +74,8 @@ module _ (g : Geometry) (c : Cat) (nodes : ℕ → UnderWay) (drive : List Block
       → IsUnder g c (changed nodes n (record u { stock = stock })) (slice_set drive l b)
   refills sole no_plan l old b stock bitmap holds unseen at refill =
       let P : UnderWay → Type 0 = λ v. v.plan ≡ [] → Has v.write V → (Touches v.seen l → ⊥)
-          → ((base : List Block) (own : Owners) → Spells g base own c → Outs n own v.took v.stock → slice_get base l ≡ Some old → Refills g n v.took stock l b base own c)
-          → IsUnder g c (changed nodes n (record v { stock = stock })) (slice_set drive l b) in
+      → ((base : List Block) (own : Owners) → Spells g base own c → Outs n own v.took v.stock → slice_get base l ≡ Some old → Refills g n v.took stock l b base own c)
+      → IsUnder g c (changed nodes n (record v { stock = stock })) (slice_set drive l b) in
       subst P is (λ p h s r. bits_keep g c nodes drive n l old b stock sole under p bitmap h s at r) no_plan holds unseen refill
 
 -- ---- a write of a search
