@@ -287,7 +287,7 @@ fn step<I: ImageDev, O: Operation>(
 /// One turn of a node, which counts from 1: the event of the first rule that applies to it. A node that is over, and one whose
 /// request stands in a queue still, make no other event. After a fault the world is as before: ImageFault comes only where a
 /// write of the image failed, whose block there is then the old one or the new; NoMemory where memory ran out. A turn that
-/// writes or answers takes no memory.
+/// makes a write of a plan, or answers, takes no memory.
 pub fn turn<I: ImageDev, O: Operation>(
     alloc: Global,
     w: &mut World<I, O>,
