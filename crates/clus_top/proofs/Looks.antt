@@ -1,7 +1,9 @@
--- The commands that a script can come to only look.
-use Rattle.std.proofs.Common.{◌≡◌, ◌∙◌, ◌==◌, ℕ, zero, suc, true, false, List, [], ◌∷◌, Option, Some, None, cond, slice_get, refl, sym, ap, subst}
+-- The commands that a script can come to are built.
+use Rattle.std.proofs.Common.{◌≡◌, ◌∙◌, ◌==◌, ◌&&◌, ℕ, zero, suc, Bool, true, false, List, [], ◌∷◌, Option, Some, None, All, IsTrue, cond, slice_get, refl, sym, ap, subst, inl, inr}
 use Rattle.std.specs.List.{list_all}
 use Rattle.std.proofs.lemmas.Bool.{false≢true, and_parts}
+use Rattle.std.proofs.lemmas.List.Sums.{list_all-from_AllPass}
+use Rattle.plain_cat.specs.InForm.{is_within, line_in_form, InForm}
 use Rattle.plain_cat.specs.declared.ids.Fid.{Fid}
 use Rattle.plain_cat.specs.declared.command.Cmd.{Cmd}
 use Rattle.plain_cat.specs.declared.command.Cmd.TheVariants as cmd
@@ -9,49 +11,74 @@ use Rattle.plain_cat.specs.declared.script.LineCmd.{LineCmd}
 use Rattle.plain_cat.specs.declared.script.LineCmd.TheVariants as line
 use Rattle.plain_cat.specs.declared.script.Line.{Line}
 use Rattle.plain_cat.specs.declared.script.Script.{Script}
-use Rattle.plain_vol.specs.Own.{past, filled, lines_of, close_from, or_close}
-use Rattle.run_script.specs.Table.{is_look, AreLooks}
+use Rattle.plain_cat.specs.declared.history.Entry.{Entry}
+use Rattle.plain_vol.specs.Own.{past, filled, lines_of, close_from, or_close, next_command}
+use Rattle.run_script.specs.Table.{is_first, AreFirst}
 use Rattle.op_lookup.specs.Kinds.{IsLook}
+use Rattle.op_create.specs.Kinds.{IsMake}
+use Rattle.xqp_set.specs.Built.{IsBuilt}
 use Rattle.core_state.specs.Goods.{is_run, IsRun, HasOnly}
 
-filled_look : (g : List Fid) (l : LineCmd) → is_look l ≡ true → IsLook (filled g l)
-unfolding filled
-filled_look g (line.Lookup reg dir name ver) h = tt
-filled_look g (line.List dir) h = tt
-filled_look g (line.Stat file) h = tt
-filled_look g l h = absurd (false≢true h)
+-- a line of a command that is built, in form
+abbrev is_good : LineCmd → Bool
+is_good l = is_first l && line_in_form l
 
-lines_look : (node : ℕ) (ls : List Line) → AreLooks ls → list_all is_look (lines_of node ls) ≡ true
-lines_look node [] h = refl
-lines_look node (l ∷ ls) h =
-    let parts = and_parts (is_look l.cmd) (list_all (λ (x : Line). is_look x.cmd) ls) h in
-    elim (l.node == node) as (λ t. list_all is_look (cond t (l.cmd ∷ lines_of node ls) (lines_of node ls)) ≡ true) [
-      | true ↦ rw (parts.0, lines_look node ls parts.1) refl
-      | false ↦ lines_look node ls parts.1
+filled_built : (g : List Fid) (l : LineCmd) → is_first l ≡ true → line_in_form l ≡ true → IsBuilt (filled g l)
+unfolding filled line_in_form
+filled_built g (line.Lookup reg dir name ver) h form = inl tt
+filled_built g (line.List dir) h form = inl tt
+filled_built g (line.Stat file) h form = inl tt
+filled_built g (line.Create reg dir name ver blocks owner) h form = inr (and_parts _ _ (and_parts _ _ form).1).1
+filled_built g (line.MkDir reg dir name owner) h form = inr (and_parts _ _ (and_parts _ _ form).1).1
+filled_built g l h form = absurd (false≢true h)
+
+lines_good : (node : ℕ) (ls : List Line) → list_all (λ (x : Line). is_good x.cmd) ls ≡ true → list_all is_good (lines_of node ls) ≡ true
+lines_good node [] h = refl
+lines_good node (l ∷ ls) h =
+    let parts = and_parts (is_good l.cmd) (list_all (λ (x : Line). is_good x.cmd) ls) h in
+    elim (l.node == node) as (λ t. list_all is_good (cond t (l.cmd ∷ lines_of node ls) (lines_of node ls)) ≡ true) [
+      | true ↦ rw (parts.0, lines_good node ls parts.1) refl
+      | false ↦ lines_good node ls parts.1
     ]
 
-one_looks : (ls : List LineCmd) (i : ℕ) (l : LineCmd) → list_all is_look ls ≡ true → slice_get ls i ≡ Some l → is_look l ≡ true
-one_looks [] i l h e = let f : None ≡ Some l = e in cc
-one_looks (x ∷ xs) zero l h e = let f : Some x ≡ Some l = e in let same : x ≡ l = cc in subst (λ y. is_look y ≡ true) same (and_parts (is_look x) (list_all is_look xs) h).0
-one_looks (x ∷ xs) (suc i) l h e = one_looks xs i l (and_parts (is_look x) (list_all is_look xs) h).1 e
+one_good : (ls : List LineCmd) (i : ℕ) (l : LineCmd) → list_all is_good ls ≡ true → slice_get ls i ≡ Some l → is_good l ≡ true
+one_good [] i l h e = let f : None ≡ Some l = e in cc
+one_good (x ∷ xs) zero l h e = let f : Some x ≡ Some l = e in let same : x ≡ l = cc in subst (λ y. is_good y ≡ true) same (and_parts (is_good x) (list_all is_good xs) h).0
+one_good (x ∷ xs) (suc i) l h e = one_good xs i l (and_parts (is_good x) (list_all is_good xs) h).1 e
+
+all_good : (nodes : ℕ) (ls : List Line) → list_all (λ (x : Line). is_first x.cmd) ls ≡ true → list_all (λ (x : Line). is_within 1 nodes x.node && line_in_form x.cmd) ls ≡ true
+    → list_all (λ (x : Line). is_good x.cmd) ls ≡ true
+all_good nodes [] h k = refl
+all_good nodes (l ∷ ls) h k =
+    let p = and_parts (is_first l.cmd) (list_all (λ (x : Line). is_first x.cmd) ls) h in
+    let q = and_parts (is_within 1 nodes l.node && line_in_form l.cmd) (list_all (λ (x : Line). is_within 1 nodes x.node && line_in_form x.cmd) ls) k in
+    let form = (and_parts (is_within 1 nodes l.node) (line_in_form l.cmd) q.0).1 in
+    rw (p.0, form, all_good nodes ls p.1 q.1) refl
 
 -- a node with no open channel comes to its lines alone
-pub only_look : (s : Script) → AreLooks s.lines → HasOnly IsLook s
-only_look s looks n h x closed e = by (slice_get (lines_of n s.lines) (past n h).answered) refl e where
-  by : (o : Option LineCmd) → slice_get (lines_of n s.lines) (past n h).answered ≡ o → or_close (past n h) o ≡ Some x → IsLook x
+pub only_built : (s : Script) → InForm s → AreFirst s.lines → HasOnly IsBuilt s
+only_built s form first n h x closed e = by (slice_get (lines_of n s.lines) (past n h).answered) refl e where
+  good : list_all is_good (lines_of n s.lines) ≡ true
+  good = lines_good n s.lines (all_good s.nodes s.lines first (list_all-from_AllPass _ s.lines form.lines))
+
+  by : (o : Option LineCmd) → slice_get (lines_of n s.lines) (past n h).answered ≡ o → or_close (past n h) o ≡ Some x → IsBuilt x
   by None at f =
       let none : None ≡ Some x = sym (ap (close_from 1) closed) ∙ f in
       absurd (let g : None ≡ Some x = none in cc)
   by (Some l) at f =
       let same : filled (past n h).registers l ≡ x = cc in
-      subst IsLook same (filled_look (past n h).registers l (one_looks (lines_of n s.lines) (past n h).answered l (lines_look n s.lines looks) at))
+      let parts = and_parts (is_first l) (line_in_form l) (one_good (lines_of n s.lines) (past n h).answered l good at) in
+      subst IsBuilt same (filled_built (past n h).registers l parts.0 parts.1)
 
-look_runs : (x : Cmd) → IsLook x → is_run x ≡ true
+built_runs : (x : Cmd) → IsBuilt x → is_run x ≡ true
 unfolding is_run
-look_runs (cmd.Lookup reg dir name ver) h = refl
-look_runs (cmd.List dir) h = refl
-look_runs (cmd.Stat file) h = refl
-look_runs x h = absurd h
+built_runs (cmd.Lookup reg dir name ver) h = refl
+built_runs (cmd.List dir) h = refl
+built_runs (cmd.Stat file) h = refl
+built_runs (cmd.Create reg dir name ver blocks owner) h = refl
+built_runs (cmd.MkDir reg dir name owner) h = refl
+built_runs x (inl h) = absurd h
+built_runs x (inr h) = absurd h
 
-pub only_run : (s : Script) → AreLooks s.lines → HasOnly IsRun s
-only_run s looks n h x closed e = look_runs x (only_look s looks n h x closed e)
+pub only_run : (s : Script) → InForm s → AreFirst s.lines → HasOnly IsRun s
+only_run s form first n h x closed e = built_runs x (only_built s form first n h x closed e)

@@ -7,3 +7,9 @@ pub mod Walks
 pub mod Replies
 pub mod Making
 pub mod Lawful
+pub mod Charges
+pub mod Clustered
+pub mod Entered
+pub mod DirNames
+pub mod Slots
+pub mod OfVolume

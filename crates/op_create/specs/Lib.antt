@@ -1,1 +1,4 @@
 pub mod Kinds
+pub mod Names
+pub mod Files
+pub mod Given

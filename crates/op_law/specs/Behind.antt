@@ -1,5 +1,5 @@
 -- What comes next behind the first of what a command has seen.
-use Rattle.std.specs.Prelude.{◌≡◌, ℕ, List, [], ◌∷◌, Option, Some, None, map}
+use Rattle.std.specs.Prelude.{◌≡◌, ◌≤◌, ℕ, List, [], ◌∷◌, Option, Some, None, map, length}
 use Rattle.vol_words.specs.Fields.{Block}
 use Rattle.op_law.specs.declared.need.Need.{Need}
 use Rattle.op_law.specs.declared.seeing.Rest.{Rest}
@@ -35,6 +35,11 @@ behind_block next space (looked.Next need) = need
 abbrev pub behind_all : (List Block → Events) → Space → Listed → Need
 behind_all next space (listed.All seen rest) = goes_on_by (next (blocks_alone seen.now)) rest space
 behind_all next space (listed.Next need) = need
+
+-- these are not more blocks than so many
+abbrev pub HasAtMost : ℕ → Listed → Type 0
+HasAtMost count (listed.All seen rest) = length seen.now ≤ count
+HasAtMost count (listed.Next need) = Unit {0}
 
 -- behind the header of a directory and its blocks
 abbrev pub behind_directory : (Block → List Block → Events) → Space → Listing → Need

@@ -17,9 +17,9 @@ pub use lists::{SeenBlocks, SeenLocks, Writes};
 pub use need::{Ask, Need, Plan, PlanWrite};
 pub use operation::Operation;
 pub use plain_cat::NoMemory;
-pub use rows::{answered, entries_seen, is_number, live_in, place_in, refused};
+pub use rows::{answered, blocks_of, entries_seen, is_number, live_in, place_in, refused};
 pub use seeing::{
     Granted, Listed, Listing, Looked, Rest, block_seen, blocks_seen, directory_seen,
-    entries_looked, header_seen, lock_seen,
+    entries_looked, header_lbn, header_seen, lock_seen,
 };
 pub use seen::{Chan, Seen};

@@ -76,8 +76,8 @@ pub fn place_in(b: &Block, at: usize) -> Option<u32>
     None
 }
 
-// The blocks alone.
-fn blocks_of(alloc: Global, seen: &[(u32, Block)]) -> Result<Blocks, NoMemory>
+/// The blocks alone. An error says that memory ran out.
+pub fn blocks_of(alloc: Global, seen: &[(u32, Block)]) -> Result<Blocks, NoMemory>
     ensures { IfOk result (λ bs. bs ≡ map (λ s. s.1) seen.now) }
 {
     let mut blocks = Blocks::new(alloc);

@@ -8,7 +8,7 @@ ghost use Rattle.vol_spell.specs.Reading.{IsFileNumber, header_place};
 ghost use Rattle.op_law.specs.Events.{Events, Take, Look, Space, following};
 ghost use Rattle.op_law.specs.Rows.{look_all, through_header, through_directory, in_directory, live_in};
 ghost use Rattle.op_law.specs.Readable.{AreInside, HeadIsInside};
-ghost use Rattle.op_law.specs.Behind.{behind_lock, behind_block, behind_all, behind_directory, HasBlocks, IsHeadOf};
+ghost use Rattle.op_law.specs.Behind.{behind_lock, behind_block, behind_all, behind_directory, HasBlocks, HasAtMost, IsHeadOf};
 
 use crate::need::Need;
 use crate::rows::{is_number, live_in, place_in, refused};
@@ -107,7 +107,8 @@ pub fn blocks_seen<'a>(
     unseen: Option<u32>,
     rest: Rest<'a>,
 ) -> Listed<'a>
-    ensures { (places : List ℕ) (next : List Block → Events) (space : Space) → length places ≡ count → slice_get places (length rest.entry.blocks.now) ≡ unseen
+    ensures few { HasAtMost count result }
+    ensures need { (places : List ℕ) (next : List Block → Events) (space : Space) → length places ≡ count → slice_get places (length rest.entry.blocks.now) ≡ unseen
         → following (look_all name places next) rest.entry.locks.now rest.entry.blocks.now space ≡ behind_all next space result }
 {
     if let Some(lbn) = unseen {
@@ -123,8 +124,8 @@ pub fn blocks_seen<'a>(
     )
 }
 
-// Where the header of a number stands.
-fn header_lbn(g: &Geometry, n: u32) -> u32
+/// Where the header of a number stands.
+pub fn header_lbn(g: &Geometry, n: u32) -> u32
     requires geometry { IsGeometry g.now }
     requires number { n ≤ g.now.files }
     ensures { result ≡ header_place g.now n }

@@ -1,4 +1,4 @@
-ghost use Rattle.std.specs.Prelude.{◌≡◌, ◌+◌, ◌<◌, ◌≤◌, ◌++◌, [], ◌∷◌, All, OnOk, OnErr};
+ghost use Rattle.std.specs.Prelude.{◌≡◌, ◌+◌, ◌<◌, ◌≤◌, ◌++◌, [], ◌∷◌, All, IfOk, OnOk, OnErr};
 ghost use Rattle.std.specs.List.Sorted.{IsStrictlyIncreasing};
 
 use crate::NoMemory;
@@ -40,6 +40,15 @@ impl Clusters {
     {
         self.list.push(item)?;
         Ok(())
+    }
+
+    /// The same clusters again.
+    pub fn copy(&self, alloc: Global) -> Result<Self, NoMemory>
+        ensures { IfOk result (λ l. l ≡ self.now) }
+    {
+        Ok(Clusters {
+            list: Vec::from_slice(alloc, self.list.as_slice())?,
+        })
     }
 
     /// The clusters, in order.

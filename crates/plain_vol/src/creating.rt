@@ -15,7 +15,8 @@ use plain_cat::{
 };
 use std::alloc::Global;
 
-fn over_quota(row: Option<QuotaRow>, k: u32) -> bool
+/// Whether the usage of a row and these blocks exceed the quota.
+pub fn over_quota(row: Option<QuotaRow>, k: u32) -> bool
     ensures { result ≡ over_quota row k }
 {
     match row {
@@ -201,8 +202,8 @@ pub(crate) fn create(
     )
 }
 
-// The name of a directory's entry.
-fn dir_name(alloc: Global, name: &Name) -> Result<Name, NoMemory>
+/// The name of a directory's entry, by the name of the directory. An error says that memory ran out.
+pub fn dir_name(alloc: Global, name: &Name) -> Result<Name, NoMemory>
     ensures { IfOk result (λ n. n ≡ dir_name name.now) }
 {
     let mut full = name.copy(alloc)?;

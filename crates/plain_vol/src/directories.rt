@@ -5,8 +5,8 @@ ghost use Rattle.plain_vol.specs.Lookups.{versions, highest, first_with, entry_o
 use plain_cat::{DirEnt, DirEnts, Name, NoMemory, Refusal, Reply};
 use std::alloc::Global;
 
-// The highest version of a name, which comes first, or 0.
-pub(crate) fn highest(entries: &[DirEnt], name: &Name) -> u16
+/// The highest version of a name, which comes first, or 0.
+pub fn highest(entries: &[DirEnt], name: &Name) -> u16
     ensures { result ≡ highest (versions name.now entries.now) }
 {
     for e in entries {
@@ -17,8 +17,8 @@ pub(crate) fn highest(entries: &[DirEnt], name: &Name) -> u16
     0
 }
 
-// Whether some version of a name is there.
-pub(crate) fn has_name(entries: &[DirEnt], name: &Name) -> bool
+/// Whether some version of a name is there.
+pub fn has_name(entries: &[DirEnt], name: &Name) -> bool
     ensures { result ≡ not (is_nil (versions name.now entries.now)) }
 {
     for e in entries {
@@ -29,8 +29,8 @@ pub(crate) fn has_name(entries: &[DirEnt], name: &Name) -> bool
     false
 }
 
-// The entry of a name and a version.
-pub(crate) fn with_version<'a>(entries: &'a [DirEnt], name: &Name, ver: u16) -> Option<&'a DirEnt>
+/// The entry of a name and a version.
+pub fn with_version<'a>(entries: &'a [DirEnt], name: &Name, ver: u16) -> Option<&'a DirEnt>
     ensures { option_copied result ≡ first_with ver (versions name.now entries.now) }
 {
     for e in entries {

@@ -28,13 +28,15 @@ mod sameness;
 mod sizing;
 
 pub use accounts::is_accounted;
+pub use changes::inserted;
 pub use checking::Checked;
-pub use directories::look_up;
+pub use creating::{dir_name, over_quota};
+pub use directories::{has_name, highest, look_up, with_version};
 pub use entering::{entries_in, is_own, with_lost_entry};
 pub use forms::is_in_form;
 pub use judge::check_reply;
 pub use laws::{answers_are_determined, commands_are_answered};
-pub use lookups::{file_at, free_clusters, in_use, live};
+pub use lookups::{file_at, free_clusters, in_use, live, row_of};
 pub use outcome::Outcome;
 pub use packing::dir_fits;
 pub use plain_cat::{

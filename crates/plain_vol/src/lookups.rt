@@ -89,8 +89,8 @@ pub(crate) fn is_open(cat: &Cat, n: u32) -> bool
     cat.opens.items().iter().any(|held| has_file(n, *held))
 }
 
-// The quota row of an owner.
-pub(crate) fn row_of(rows: &[QuotaRow], owner: Uic) -> Option<QuotaRow>
+/// The quota row of an owner.
+pub fn row_of(rows: &[QuotaRow], owner: Uic) -> Option<QuotaRow>
     ensures { result ≡ row_of owner rows.now }
 {
     for row in rows {

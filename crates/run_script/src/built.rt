@@ -46,13 +46,14 @@ pub struct Built {
     pub kill: bool,
 }
 
-/// What the program runs so far: LOOKUP, LIST and STAT, of each file and directory, by its identifier or by a register.
+/// What the program runs so far: LOOKUP, LIST, STAT, CREATE and MKDIR, of each file and directory, by its identifier or by a
+/// register.
 pub const BUILT: Built = Built {
     lookup: true,
     list: true,
     stat: true,
-    create: false,
-    mkdir: false,
+    create: true,
+    mkdir: true,
     extend: false,
     trunc: false,
     delete: false,

@@ -17,4 +17,4 @@ pub use dirs::{dir_fault, first_bad_directory};
 pub use finding::Finding;
 pub use geometry::{Geometry, Part, guard};
 pub use heads::head;
-pub use rows::{active_rows, first_double_row, first_rowless_file, sorted_rows};
+pub use rows::{active_rows, first_double_row, first_rowless_file, push_rows, sorted_rows};

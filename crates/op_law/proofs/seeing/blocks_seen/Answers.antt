@@ -2,10 +2,10 @@ use Rattle.std.proofs.Common.{◌∙◌}
 use Rattle.op_law.proofs.Following.{one_unseen, all_seen_to}
 use Rattle.op_law.proofs.seeing.blocks_seen.Goals as goal
 
-pub returns-in-Some : goal.returns-in-Some
-returns-in-Some c = λ places next space size at.
+pub returns-in-Some-clause-need : goal.returns-in-Some-clause-need
+returns-in-Some-clause-need c = λ places next space size at.
     one_unseen c.args.name places next c.args.rest.locks.now c.args.rest.blocks.now space c.in-Some.lbn (at ∙ c.in-Some.is)
 
-pub returns : goal.returns
-returns c = λ places next space size at.
+pub returns-clause-need : goal.returns-clause-need
+returns-clause-need c = λ places next space size at.
     all_seen_to c.args.name places next c.args.rest.locks.now c.args.rest.blocks.now space c.args.count c.min-all.result size (at ∙ c.in_default.is) c.min-all.ensures
