@@ -4,7 +4,7 @@ ghost use Rattle.lock_db.specs.Resources.{goes_at_once, asked_answer, tried_answ
 ghost use Rattle.lock_db.specs.Tables.{IsTable, resource_at, asked, tried, converts_now, converted, try_converted, released, dropped};
 
 use crate::name::{LockName, Owner};
-use crate::resource::{Asked, Resource, Tried};
+use crate::resource::{Asked, Resource, Tried, goes_at_once};
 use crate::{queues, table};
 use plain_cat::{Mode, NoMemory};
 use std::alloc::Global;
@@ -141,6 +141,13 @@ impl LockDb {
         ensures { result ≡ mode_of owner (resource_at name self.now).askers }
     {
         queues::mode_of(table::askers(&self.resources, name), owner)
+    }
+
+    /// Whether a new lock would be granted at once: it goes with all granted locks of the resource, and both queues are empty.
+    pub fn would_grant(&self, name: LockName, owner: Owner, mode: Mode) -> bool
+        ensures { result ≡ goes_at_once owner mode (resource_at name self.now).askers }
+    {
+        goes_at_once(owner, mode, table::askers(&self.resources, name))
     }
 
     /// Whether a request or a conversion of the owner waits.

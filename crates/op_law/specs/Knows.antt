@@ -27,6 +27,11 @@ channel_of (cmd.ReadBlock chan vbn) = Some chan
 channel_of (cmd.WriteBlock chan vbn text) = Some chan
 channel_of other = None
 
+-- the part of a node that asks for the lock of who has a file open: the channel that the command names, or the file system
+abbrev pub asking_part : Option ℕ → ℕ
+asking_part None = 0
+asking_part (Some chan) = chan
+
 abbrev pub is_plain_file : Option File → Bool
 is_plain_file None = false
 is_plain_file (Some f) = not f.dir

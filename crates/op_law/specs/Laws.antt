@@ -25,7 +25,7 @@ use Rattle.op_law.specs.declared.need.PlanWrite.{PlanWrite}
 use Rattle.op_law.specs.declared.need.Ask.{Ask}
 use Rattle.op_law.specs.declared.seen.Seen.{Seen}
 use Rattle.op_law.specs.declared.seen.Chan.{Chan}
-use Rattle.op_law.specs.Knows.{takes_space, clusters_wanted, wants_number, may_ask, knows, is_granted}
+use Rattle.op_law.specs.Knows.{channel_of, asking_part, takes_space, clusters_wanted, wants_number, may_ask, knows, is_granted}
 use Rattle.op_law.specs.Events.{space_of, HasNoSpace, SearchesOnce}
 use Rattle.op_law.specs.Needs.{events_of, IsNext}
 use Rattle.op_law.specs.Fits.{HasSeen, things, IsSeenOn}
@@ -115,16 +115,22 @@ abbrev pub WritesNothing : Plan → Reply → Type 0
 WritesNothing p (reply.Refused r) = (p.writes ≡ []) × (p.ask ≡ None)
 WritesNothing p other = Unit {0}
 
--- With an ask, which not every command may make, the whole plan is right where the ask is granted, and where it is not, the
--- writes before it with its refusal.
+-- an ask of a plan, behind so many of its writes: of a command that may ask, by its channel or else by the file system, for who has
+-- a file open whose lock it holds in PW
+pub record IsAsk (cmd : Cmd) (seen : Seen) (p : Plan) (a : Ask) : Type 0 where
+  pub may : may_ask cmd ≡ true
+  pub by : a.chan ≡ asking_part (channel_of cmd)
+  pub held : Has (held_in PW seen.locks) (S a.file)
+  pub within : a.at ≤ length p.writes
+
+-- With an ask the whole plan is right where the ask is granted, and where it is not, the writes before it with its refusal.
 abbrev pub IsPlan : ℕ → Cmd → Seen → Plan → Option Ask → Type 0
 IsPlan node cmd seen p None = IsRight node cmd seen.geometry (under_way cmd seen p.writes (knows node cmd seen)) p.reply
 IsPlan node cmd seen p (Some a) =
-    (may_ask cmd ≡ true)
+    IsAsk cmd seen p a
     × IsRight node cmd seen.geometry (under_way cmd seen p.writes (λ c. knows node cmd seen c && is_granted node a c)) p.reply
     × IsRight node cmd seen.geometry (under_way cmd seen (take a.at p.writes) (λ c. knows node cmd seen c && not (is_granted node a c))) a.refused
     × IsLawful seen.geometry node (under_way cmd seen (take a.at p.writes) (knows node cmd seen))
-    × (a.at ≤ length p.writes)
 
 -- The law of a command: it searches for space at most once; what it needs next, whatever it has seen, it may need on all blocks
 -- that have that; and its plan is right at each node.
