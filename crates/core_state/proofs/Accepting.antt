@@ -1,6 +1,6 @@
--- The catalogue of a volume that is accepted keeps the limits and the quotas, and has all system files.
+-- The catalogue of a volume that is accepted keeps the limits and the quotas, has all system files, and has nothing open.
 use Rattle.std.proofs.Common.{◌≡◌, ◌≤◌, ◌<◌, ◌+◌, ◌-◌, ◌++◌, ◌&&◌, ◌||◌, ℕ, zero, suc, Bool, true, false, cond, List, [], ◌∷◌, Option, Some, None, is_some, Result, Ok, Err, length, map, get_or, slice_get, nat_lt, refl, sym, ap, subst, ◌∙◌, inl, inr, arith}
-use Rattle.std.specs.Prelude.{◌==◌, All, not, filter}
+use Rattle.std.specs.Prelude.{◌==◌, All, not, filter, replicate}
 use Rattle.std.specs.List.{list_any, count_by, range_with_len}
 use Rattle.std.proofs.lemmas.Bool.{cases_Bool}
 use Rattle.std.proofs.lemmas.Bool.Decides.{nat_tests}
@@ -243,3 +243,14 @@ accepted_system bs c from to whole told =
     let v = volume s.home bs in
     let is : c ≡ catalogue v = cat-told bs c s.home told s.read in
     λ n le. ap (λ d. is_free_number d n) is ∙ no_free v (weak-volume bs c s.home told s.read) n le
+
+none_open : (v : Volume) → (catalogue v).opens ≡ replicate 64 None
+unfolding catalogue
+none_open v = refl
+
+-- and no channel has anything open
+pub told_opens : (bs : List Block) (c : Cat) → 64 ≤ length bs → length bs ≤ 65536 → AreWholeBlocks bs → CatOf bs c → c.opens ≡ replicate 64 None
+told_opens bs c from to whole told =
+    let s = catalogue_is_spelt bs c from to whole told in
+    let is : c ≡ catalogue (volume s.home bs) = cat-told bs c s.home told s.read in
+    ap (λ d. d.opens) is ∙ none_open (volume s.home bs)

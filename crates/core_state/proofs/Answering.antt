@@ -1,5 +1,5 @@
 -- A node answers: the history has one entry more, and the locks go back.
-use Rattle.std.proofs.Common.{◌≡◌, ◌≢◌, ◌≤◌, ◌++◌, ℕ, zero, suc, false, List, [], ◌∷◌, Option, Some, None, length, map, take, slice_get, refl, sym, ap, subst, ◌∙◌, inl, inr, arith}
+use Rattle.std.proofs.Common.{◌≡◌, ◌≢◌, ◌≤◌, ◌++◌, ℕ, zero, suc, Bool, true, false, List, [], ◌∷◌, Option, Some, None, length, map, take, slice_get, refl, sym, ap, subst, ◌∙◌, inl, inr, arith}
 use Rattle.std.proofs.lemmas.Bool.Decides.{nat_tests}
 use Rattle.vol_words.specs.Fields.{Block}
 use Rattle.lock_db.specs.declared.name.LockName.{LockName}
@@ -26,31 +26,37 @@ use Rattle.node_locks.proofs.Giving.{giving_holds}
 use Rattle.vol_owners.specs.Lists.{Has}
 use Rattle.vol_owners.specs.Owners.{Things, nothing}
 use Rattle.vol_owners.proofs.Listing.{same_or_not}
+use Rattle.vol_owners.proofs.Writing.{stands_joined}
 use Rattle.vol_parts.specs.declared.geometry.Geometry.{Geometry}
 use Rattle.vol_under.specs.UnderWay.{PlannedWrite, UnderWay, outs_after, outs_at, together, resting, idle, changed}
+use Rattle.vol_under.specs.Guards.{guard_of}
 use Rattle.vol_under.specs.Under.{IsUnder}
+use Rattle.vol_under.proofs.Guarding.{wider_write}
 use Rattle.vol_under.proofs.Nodes.{changed_here, changed_else}
 use Rattle.vol_under.proofs.Steps.{nodes_alike}
 use Rattle.op_law.specs.declared.need.Need.TheVariants as need
 use Rattle.op_law.specs.declared.need.Plan.{Plan}
 use Rattle.op_law.specs.declared.need.PlanWrite.{PlanWrite}
-use Rattle.op_law.specs.Knows.{wants_number, knows}
+use Rattle.op_law.specs.Needs.{IsNext}
+use Rattle.op_law.specs.Knows.{wants_number}
 use Rattle.op_law.specs.Laws.{held_in, planned, under_way, IsRight}
 use Rattle.core_state.specs.Worlds.{NodeState, Plain, node_at, set_node, locks_in, locks_of}
 use Rattle.core_state.specs.Raises.{raise_of}
-use Rattle.core_state.specs.Goods.{writes_of, under_with, under_by, nodes_under, IsAtPlan, IsAt, IsNode, Good}
+use Rattle.core_state.specs.Asks.{writes_now, granted_ask, knows_now}
+use Rattle.core_state.specs.Goods.{under_with, under_by, nodes_under, IsAt, IsNode, Good}
 use Rattle.core_state.specs.Searches.{unwritten, stock_after, wanted_by, Searches, NotYet, Looking, Taking, Taken, Refused}
-use Rattle.core_state.specs.Events.{given_back, all_writes, turned, answering}
+use Rattle.core_state.specs.Events.{given_back, all_writes, turned, answering, answered_by}
 use Rattle.core_state.proofs.RunKinds.{stays_closed}
-use Rattle.core_state.proofs.Numbers.{answer_stays}
+use Rattle.core_state.proofs.Numbers.{Keeps, answer_stays}
+use Rattle.core_state.proofs.Opens.{opens_given, opens_same}
 use Rattle.core_state.proofs.Nodes.{at_here, at_else}
-use Rattle.core_state.proofs.Driving.{wider, grants_keep, reply_grows}
+use Rattle.core_state.proofs.Driving.{wider, grants_keep, law_grows, reply_grows}
 use Rattle.core_state.proofs.Holding.{held_grows}
 use Rattle.core_state.proofs.Running.{are_sole}
-use Rattle.core_state.proofs.Taking.{answers}
+use Rattle.core_state.proofs.Taking.{answers_by}
 use Rattle.core_state.proofs.Keeping.{altered, rebuilt, held_set}
 use Rattle.core_state.proofs.Standing.{all_stock, no_stock}
-use Rattle.core_state.proofs.Turning.{is_right, under_command, here, known, writes_more}
+use Rattle.core_state.proofs.Turning.{under_command, here, writes_more}
 
 -- ---- all locks go back
 
@@ -171,16 +177,19 @@ module _ (g : Geometry) (d : Cat) (t after : List Resource) (nodes : List NodeSt
 
 -- ---- the answer
 
+-- node n, whose command is at the end of the writes that it makes, answers with the reply that goes with them, by what is so of the
+-- catalogue
 module _ (w : Plain) (good : Good w) (n : ℕ) (s : NodeState) (at : node_at w.nodes n ≡ Some s) (x : Cmd) (cmd : s.cmd ≡ Some x) (free : waits_at w.locks n s.asked ≡ false)
-    (p : Plan) (plan : s.plan ≡ Some p) (last : slice_get p.writes s.done ≡ None) where
+    (p : Plan) (is : IsNext x s.seen (need.Ready p)) (ws : List PlanWrite) (made : writes_now s.tried s.plan ≡ ws) (last : slice_get ws s.done ≡ None) (part : s.done ≤ length ws) (r : Reply) (know : Cat → Bool)
+    (law : IsRight n x s.seen.geometry (under_way x s.seen ws know) r) (known : know good.running.cat ≡ true) where
   abbrev entry : Entry
-  entry = Done n x p.reply
+  entry = Done n x r
 
   abbrev after : List Resource
   after = given_back w.geometry n (all_writes s) s.asked w.locks
 
   abbrev rested : NodeState
-  rested = turned (answering s x p.reply)
+  rested = turned (answering s x r)
 
   mine : IsNode w n s
   mine = good.nodes n s at
@@ -188,15 +197,11 @@ module _ (w : Plain) (good : Good w) (n : ℕ) (s : NodeState) (at : node_at w.n
   now : IsAt w n s x
   now = under_command w good n s at x cmd free
 
-  made : IsAtPlan x (waits_at w.locks n s.asked) s.seen s.done (Some p)
-  made = subst (IsAtPlan x (waits_at w.locks n s.asked) s.seen s.done) plan now.plan
+  right : IsRight n x w.geometry (under_way x s.seen ws know) r
+  right = subst (λ (g : Geometry). IsRight n x g (under_way x s.seen ws know) r) mine.geometry law
 
-  right : IsRight n x w.geometry (under_way x s.seen p.writes (knows n x s.seen)) p.reply
-  right = subst (λ (g : Geometry). IsRight n x g (under_way x s.seen p.writes (knows n x s.seen)) p.reply) mine.geometry
-      (is_right x now.runs n s.seen p p.ask (now.lawful.plans n s.seen p now.seen made.0))
-
-  whole : s.done ≡ length (map planned p.writes)
-  whole = let le = at_end p.writes s.done last in let ge = made.2 in let e = length_planned p.writes in omega arith
+  whole : s.done ≡ length (map planned ws)
+  whole = let le = at_end ws s.done last in let ge = part in let e = length_planned ws in omega arith
 
   abbrev left_seen : List (ℕ × Block)
   left_seen = unwritten (take s.search.taken s.search.takes) s.search.looked
@@ -205,30 +210,33 @@ module _ (w : Plain) (good : Good w) (n : ℕ) (s : NodeState) (at : node_at w.n
   stock = stock_after s.search.takes s.search.taken
 
   abbrev me : UnderWay
-  me = record (under_way x s.seen p.writes (knows n x s.seen)) { read = held_in PR s.asked; write = held_in PW s.asked; seen = left_seen ++ s.seen.blocks; done = s.done; stock = stock }
+  me = record (under_way x s.seen ws (knows_now n x s.seen s.tried s.plan)) { read = held_in PR s.asked; write = held_in PW s.asked; seen = left_seen ++ s.seen.blocks; done = s.done; stock = stock }
 
   here_now : nodes_under w.locks w.nodes n ≡ me
-  here_now = here w good n s at x cmd free ∙ ap (λ o. record me { plan = map planned (writes_of o) }) plan
+  here_now = here w good n s at x cmd free ∙ ap (λ vs. record me { plan = map planned vs }) made
 
   -- a command that has decided is given all that its search has taken
-  no_stock_left : Searches w.locks n x s.asked s.search s.seen → stock ≡ nothing
+  no_stock_left : Searches w.locks n x (granted_ask s.tried s.plan) s.asked s.search s.seen → stock ≡ nothing
   no_stock_left (NotYet h) = no_stock s.search.takes s.search.taken h.takes h.taken
-  no_stock_left (Looking h) = absurd (let f : need.Ready p ≡ need.Space (wanted_by x s.seen) (wants_number x) = sym made.0 ∙ h.needs.next in cc)
-  no_stock_left (Taking h) = absurd (let f : need.Ready p ≡ need.Space (wanted_by x s.seen) (wants_number x) = sym made.0 ∙ h.needs.next in cc)
+  no_stock_left (Looking h) = absurd (let f : need.Ready p ≡ need.Space (wanted_by x s.seen) (wants_number x) = sym is ∙ h.needs.next in cc)
+  no_stock_left (Taking h) = absurd (let f : need.Ready p ≡ need.Space (wanted_by x s.seen) (wants_number x) = sym is ∙ h.needs.next in cc)
   no_stock_left (Taken h) = all_stock s.search.takes s.search.taken h.all
   no_stock_left (Refused h) = no_stock s.search.takes s.search.taken h.takes h.taken
 
   left : outs_at s.done me ≡ nothing
-  left = ap (λ k. outs_after me.took (take k me.plan)) whole ∙ ap (outs_after me.took) (taken_whole (map planned p.writes)) ∙ right.left
+  left = ap (λ k. outs_after me.took (take k me.plan)) whole ∙ ap (outs_after me.took) (taken_whole (map planned ws)) ∙ right.left
 
   idle_now : idle me ≡ resting nothing
   idle_now = ap (λ o. resting (together o stock)) left ∙ ap (λ o. resting (together nothing o)) (no_stock_left now.search)
 
-  answered : (d : Cat) × Answer good.running.cat n x p.reply d × IsUnder w.geometry d (changed (nodes_under w.locks w.nodes) n (resting nothing)) w.blocks
+  answered : (d : Cat) × Answer good.running.cat n x r d × IsUnder w.geometry d (changed (nodes_under w.locks w.nodes) n (resting nothing)) w.blocks
   answered =
-      let a = answers w.geometry good.running.cat (nodes_under w.locks w.nodes) w.blocks n me here_now good.running.drive (are_sole w.locks w.nodes good.locked.0 good.locked.1) x p.reply
-      (known w good n s at x cmd free) whole
-      (reply_grows w.geometry n (under_way x s.seen p.writes (knows n x s.seen)) x p.reply (held_in PR s.asked) (held_in PW s.asked) left_seen s.done stock (writes_more w good n s at x cmd free) right.reply) in
+      let a = answers_by w.geometry good.running.cat (nodes_under w.locks w.nodes) w.blocks n me here_now good.running.drive (are_sole w.locks w.nodes good.locked.0 good.locked.1) know
+      (law_grows w.geometry n (under_way x s.seen ws know) (held_in PR s.asked) (held_in PW s.asked) left_seen s.done stock (writes_more w good n s at x cmd free) right.lawful)
+      (λ base own spelt stands outs l t. wider_write n (held_in PW s.seen.locks) (held_in PW s.asked) (writes_more w good n s at x cmd free) (guard_of w.geometry own l)
+      (right.guarded base own good.running.cat stock spelt known ((stands_joined base left_seen s.seen.blocks).0 stands).1 outs l t))
+      x r known whole
+      (reply_grows w.geometry n (under_way x s.seen ws know) x r (held_in PR s.asked) (held_in PW s.asked) left_seen s.done stock (writes_more w good n s at x cmd free) right.reply) in
       (a.0, a.1, subst (λ (v : UnderWay). IsUnder w.geometry a.0 (changed (nodes_under w.locks w.nodes) n v) w.blocks) idle_now a.2)
 
   given : AreGivenBack n (locks_of w.nodes) w.locks after
@@ -238,10 +246,13 @@ module _ (w : Plain) (good : Good w) (n : ℕ) (s : NodeState) (at : node_at w.n
   alive : (past n w.history).dead ≡ false
   alive = sym (ap (λ y. y.dead) mine.past) ∙ mine.alive
 
-  grows : past n (w.history ++ entry ∷ []) ≡ after_answer s.past x p.reply
-  grows = past_grows n w.history entry ∙ own_entry n (past n w.history) x p.reply ∙ ap (λ y. after_answer y x p.reply) (sym mine.past)
+  grows : past n (w.history ++ entry ∷ []) ≡ after_answer s.past x r
+  grows = past_grows n w.history entry ∙ own_entry n (past n w.history) x r ∙ ap (λ y. after_answer y x r) (sym mine.past)
 
-  pub answers_keep : Good (altered w after w.blocks (set_node w.nodes n rested) (w.history ++ entry ∷ []))
+  kept : Keeps good.running.cat answered.0
+  kept = answer_stays good.running.cat answered.0 n x r now.runs answered.1
+
+  pub answers_keep : Good (answered_by w n s x r)
   unfolding after_answer
   answers_keep = rebuilt w good n s rested at after w.blocks (w.history ++ entry ∷ [])
       (record {
@@ -251,11 +262,12 @@ module _ (w : Plain) (good : Good w) (n : ℕ) (s : NodeState) (at : node_at w.n
             (λ m q k ne e h. subst (λ (ls : List (LockName × Mode)). Has (held_locks after m ls) k) (ap locks_in e)
             (given.others_hold m k ne (subst (λ (ls : List (LockName × Mode)). Has (held_locks w.locks m ls) k) (sym (ap locks_in e)) h))) answered.2;
         accounted = subst (λ (o : Outcome). Accounted o.after) answered.1.2 (accounts_kept good.running.cat n x answered.1.0 good.running.accounted answered.1.1);
-        system = λ m le. answer_stays good.running.cat answered.0 n x p.reply now.runs answered.1 m (good.running.system m le);
+        system = λ m le. kept.1 m le (good.running.system m le);
+        opens = opens_same after good.running.cat answered.0 kept.0 (opens_given w.geometry n (all_writes s) s.asked w.locks good.running.cat good.locked.0 good.running.opens);
       })
       (given.table, held_set after w.nodes n s rested at given.held)
       (own_grows w.script w.history entry good.own (alive, now.next))
-      (λ m ne. past_of_others m w.history entry (not_of n m x p.reply ne))
+      (λ m ne. past_of_others m w.history entry (not_of n m x r ne))
       (λ m q ne e waits. subst (λ (ls : List (LockName × Mode)). waits_at after m ls ≡ false) (ap locks_in e)
       (given.others_wait m ne (subst (λ (ls : List (LockName × Mode)). waits_at w.locks m ls ≡ false) (sym (ap locks_in e)) waits)))
       (λ m q ne e k h. subst (λ (ls : List (LockName × Mode)). Has (held_locks after m ls) k) (ap locks_in e)
@@ -263,7 +275,7 @@ module _ (w : Plain) (good : Good w) (n : ℕ) (s : NodeState) (at : node_at w.n
       (record {
         past = sym grows;
         alive = mine.alive;
-        closed = stays_closed x now.runs s.past.channels p.reply ∙ mine.closed;
+        closed = stays_closed x now.runs s.past.channels r ∙ mine.closed;
         geometry = mine.geometry;
         channel = refl;
         command = record { locks = refl; blocks = refl; space = record { clusters = refl; number = refl; short = refl }; asked = refl; search = refl; plan = refl; done = refl };

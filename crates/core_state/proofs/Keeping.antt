@@ -14,8 +14,10 @@ use Rattle.node_locks.specs.Held.{HoldsItsLocks, AreHeld, waits_at, held_locks, 
 use Rattle.vol_owners.specs.Lists.{Has}
 use Rattle.vol_owners.proofs.Listing.{same_or_not}
 use Rattle.op_law.specs.declared.need.Plan.{Plan}
+use Rattle.op_law.specs.declared.need.Ask.{Ask}
 use Rattle.op_law.specs.declared.seen.Seen.{Seen}
 use Rattle.core_state.specs.Worlds.{Search, NodeState, Plain, node_at, set_node, locks_in, locks_of}
+use Rattle.core_state.specs.Asks.{granted_ask}
 use Rattle.core_state.specs.Searches.{Searches, NotYet, Looking, Taking, Taken, Refused}
 use Rattle.core_state.specs.Goods.{IsRunning, AreLocked, IsAtPlan, HasCommand, IsNode, Good}
 use Rattle.core_state.proofs.Holding.{held_grows}
@@ -26,23 +28,23 @@ abbrev pub altered : Plain → List Resource → List Block → List NodeState �
 altered w t bs ns h = record w { locks = t; blocks = bs; nodes = ns; history = h }
 
 -- a search stands as it stood where its node holds what it held
-pub still_searches : (t u : List Resource) (n : ℕ) (x : Cmd) (asked : List (LockName × Mode)) (s : Search) (seen : Seen) → ((l : LockName × Mode) → Has (held_locks t n asked) l → Has (held_locks u n asked) l)
-    → Searches t n x asked s seen → Searches u n x asked s seen
-still_searches t u n x asked s seen holds (NotYet h) = NotYet h
-still_searches t u n x asked s seen holds (Looking h) = Looking h
-still_searches t u n x asked s seen holds (Taking h) = Taking (record {
+pub still_searches : (t u : List Resource) (n : ℕ) (x : Cmd) (ask : Option Ask) (asked : List (LockName × Mode)) (s : Search) (seen : Seen) → ((l : LockName × Mode) → Has (held_locks t n asked) l → Has (held_locks u n asked) l)
+    → Searches t n x ask asked s seen → Searches u n x ask asked s seen
+still_searches t u n x ask asked s seen holds (NotYet h) = NotYet h
+still_searches t u n x ask asked s seen holds (Looking h) = Looking h
+still_searches t u n x ask asked s seen holds (Taking h) = Taking (record {
   found = record { claimed = h.found.claimed; enough = h.found.enough; above = h.found.above; holds = held_grows PW (held_locks t n asked) (held_locks u n asked) V holds h.found.holds };
   needs = h.needs;
   part = h.part;
 })
-still_searches t u n x asked s seen holds (Taken h) = Taken (record {
+still_searches t u n x ask asked s seen holds (Taken h) = Taken (record {
   found = record { claimed = h.found.claimed; enough = h.found.enough; above = h.found.above; holds = held_grows PW (held_locks t n asked) (held_locks u n asked) V holds h.found.holds };
   all = h.all;
   clusters = h.clusters;
   number = h.number;
   short = h.short;
 })
-still_searches t u n x asked s seen holds (Refused h) = Refused h
+still_searches t u n x ask asked s seen holds (Refused h) = Refused h
 
 -- a node that has had no part in an event
 pub still_node : (w : Plain) (t : List Resource) (bs : List Block) (ns : List NodeState) (h : List Entry) (m : ℕ) (r : NodeState) → past m h ≡ past m w.history
@@ -59,13 +61,13 @@ still_node w t bs ns h m r same waits holds p = record {
   next : next_command w.script m h ≡ next_command w.script m w.history
   next = ap (λ x. command_after w.script m x) same
 
-  by_plan : (x : Cmd) (o : Option Plan) → IsAtPlan x (waits_at w.locks m r.asked) r.seen r.done o → IsAtPlan x (waits_at t m r.asked) r.seen r.done o
+  by_plan : (x : Cmd) (o : Option Plan) → IsAtPlan x (waits_at w.locks m r.asked) r.seen r.done r.tried o → IsAtPlan x (waits_at t m r.asked) r.seen r.done r.tried o
   by_plan x None e = e
   by_plan x (Some q) e = (e.0, waits e.1, e.2)
 
   by_cmd : (o : Option Cmd) → HasCommand w m r o → HasCommand (altered w t bs ns h) m r o
   by_cmd None i = i
-  by_cmd (Some x) a = record { next = next ∙ a.next; runs = a.runs; lawful = a.lawful; seen = a.seen; own = a.own; plan = by_plan x r.plan a.plan; search = still_searches w.locks t m x r.asked r.search r.seen holds a.search }
+  by_cmd (Some x) a = record { next = next ∙ a.next; runs = a.runs; lawful = a.lawful; seen = a.seen; own = a.own; plan = by_plan x r.plan a.plan; search = still_searches w.locks t m x (granted_ask r.tried r.plan) r.asked r.search r.seen holds a.search }
 
 -- The invariant after an event of node n, which stood as s and stands as r: it is enough to show what the event is about.
 pub rebuilt : (w : Plain) → Good w → (n : ℕ) (s r : NodeState) → node_at w.nodes n ≡ Some s → (t : List Resource) (bs : List Block) (h : List Entry)

@@ -1,3 +1,4 @@
+pub mod Opens
 pub mod Nodes
 pub mod Driving
 pub mod Holding
@@ -12,6 +13,7 @@ pub mod Standing
 pub mod Turning
 pub mod Searching
 pub mod Answering
+pub mod Trying
 pub mod Turns
 pub mod Accepting
 pub mod MountedWorlds

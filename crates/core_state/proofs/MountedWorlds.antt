@@ -30,6 +30,7 @@ use Rattle.vol_under.proofs.Steps.{mount_stands, nodes_alike}
 use Rattle.core_state.specs.Worlds.{NodeState, Plain, node_at, locks_in, locks_of}
 use Rattle.core_state.specs.Goods.{HasSystemNumbers, IsRun, HasOnly, under_by, nodes_under, IsNode, Good, decided, IsWorld}
 use Rattle.core_state.specs.Mounting.{at_rest, mounted}
+use Rattle.core_state.proofs.Opens.{opens_none}
 use Rattle.plain_cat.specs.declared.command.Cmd.{Cmd}
 
 -- ---- lists of nodes at rest
@@ -77,7 +78,7 @@ no_line (l ∷ ls) k x n all none = by_first (within_at k x n l.node none (first
 
 -- ---- the world
 
-module _ (bs : List Block) (s : Script) (c : Cat) (g : Geometry) (form : InForm s) (runs : HasOnly IsRun s) (drive : IsUnder g c (λ n. resting nothing) bs) (accounted : Accounted c) (system : HasSystemNumbers c) where
+module _ (bs : List Block) (s : Script) (c : Cat) (g : Geometry) (form : InForm s) (runs : HasOnly IsRun s) (drive : IsUnder g c (λ n. resting nothing) bs) (accounted : Accounted c) (system : HasSystemNumbers c) (none_open : c.opens ≡ replicate 64 None) where
   abbrev w : Plain
   w = mounted bs s c g
 
@@ -114,7 +115,7 @@ module _ (bs : List Block) (s : Script) (c : Cat) (g : Geometry) (form : InForm 
   pub good_mounted : Good w
   good_mounted = record {
     counted = length_rest s.nodes x;
-    running = record { cat = c; replayed = refl; drive = nodes_alike g c (λ n. resting nothing) (nodes_under [] w.nodes) bs under drive; accounted = accounted; system = system };
+    running = record { cat = c; replayed = refl; drive = nodes_alike g c (λ n. resting nothing) (nodes_under [] w.nodes) bs under drive; accounted = accounted; system = system; opens = opens_none c 64 none_open };
     locked = (record { ordered = refl; used = refl; settled_all = tt }, λ n. subst (λ (ls : List (LockName × Mode)). HoldsItsLocks [] n ls) (sym (no_locks n)) (nothing_held n));
     nodes = λ n r e. subst (λ (y : NodeState). IsNode w n y) (sym (at_rest_at s.nodes x n r e)) (node n);
     own = tt;

@@ -1,30 +1,33 @@
--- No command that a world runs makes a number free.
-use Rattle.std.proofs.Common.{◌≡◌, ◌-◌, ◌*◌, ◌&&◌, ℕ, Bool, true, false, cond, List, [], ◌∷◌, Option, Some, None, slice_get, slice_set, zero, suc, refl, sym, ap, subst, ◌∙◌}
-use Rattle.std.specs.Prelude.{not, min, ◌==◌}
+-- No command that a world runs makes the number of a system file free, or changes what a channel has open.
+use Rattle.std.proofs.Common.{◌≡◌, ◌≤◌, ◌<◌, ◌-◌, ◌*◌, ◌&&◌, ℕ, Bool, true, false, cond, List, [], ◌∷◌, Option, Some, None, slice_get, slice_set, zero, suc, refl, sym, ap, subst, ◌∙◌, arith}
+use Rattle.std.specs.Prelude.{not, min, nat_le, ◌==◌}
+use Rattle.std.proofs.lemmas.Bool.Decides.{nat_tests}
 use Rattle.plain_cat.specs.declared.command.Cmd.{Cmd}
 use Rattle.plain_cat.specs.declared.command.Cmd.TheVariants as cmd
 use Rattle.plain_cat.specs.declared.entries.DirEnt.{DirEnt}
 use Rattle.plain_cat.specs.declared.ids.Uic.{Uic}
 use Rattle.plain_cat.specs.declared.reply.Refusal.{Refusal}
+use Rattle.plain_cat.specs.declared.reply.Refusal.TheVariants as refusal
 use Rattle.plain_cat.specs.declared.reply.Reply.{Reply}
 use Rattle.plain_cat.specs.declared.cat.Cat.{Cat}
 use Rattle.plain_cat.specs.declared.cat.File.{File}
 use Rattle.plain_cat.specs.declared.cat.QuotaRow.{QuotaRow}
 use Rattle.plain_cat.specs.declared.cat.Slot.{Slot}
-use Rattle.plain_cat.specs.declared.cat.Slot.TheVariants.{Used}
+use Rattle.plain_cat.specs.declared.cat.Slot.TheVariants.{Used, Free}
 use Rattle.plain_vol.specs.declared.outcome.Outcome.{Outcome}
-use Rattle.plain_vol.specs.Lookups.{live, entry_of, versions, is_free_slot, is_leaked, is_free_number, row_of}
-use Rattle.plain_vol.specs.Directories.{inserted}
-use Rattle.plain_vol.specs.Changes.{in_clusters, cost, with_file, with_entries, charged, discharged, grown, cut}
-use Rattle.plain_vol.specs.Answers.{unless, in_directory_file, entered, create_refusal, create_made, create_outcome, dir_name, mkdir_refusal, mkdir_made, mkdir_outcome, extend_of, extend_refusal, extend_outcome, trunc_of, trunc_outcome, with_entry, rename_refusal, rename_outcome, lookup_outcome, list_outcome, stat_of, stat_outcome, quota_set_of, quota_set_outcome, quota_shown, quota_show_outcome, outcome, Answer}
+use Rattle.plain_vol.specs.Lookups.{in_use, live, is_open, entry_of, versions, is_free_slot, is_leaked, is_free_number, row_of}
+use Rattle.plain_vol.specs.Directories.{inserted, without}
+use Rattle.plain_vol.specs.Changes.{in_clusters, cost, with_file, freed, with_entries, charged, discharged, grown, cut}
+use Rattle.plain_vol.specs.Answers.{refused, unless, in_directory_file, entered, create_refusal, create_made, create_outcome, dir_name, mkdir_refusal, mkdir_made, mkdir_outcome, extend_of, extend_refusal, extend_outcome, trunc_of, trunc_outcome, with_entry, has_entries, unnamed, less_entry, delete_outcome, rename_refusal, rename_outcome, lookup_outcome, list_outcome, stat_of, stat_outcome, quota_set_of, quota_set_outcome, quota_shown, quota_show_outcome, outcome, Answer}
+use Rattle.vol_owners.proofs.Writing.{get-set_else}
 use Rattle.core_state.specs.Goods.{is_run}
 
--- what is not free in c is not free in d
-abbrev pub StaysTaken : Cat → Cat → Type 0
-StaysTaken c d = (n : ℕ) → is_free_number c n ≡ false → is_free_number d n ≡ false
+-- no number of a system file that is not free in c is free in d, and the channels have the same open
+abbrev pub Keeps : Cat → Cat → Type 0
+Keeps c d = (d.opens ≡ c.opens) × ((n : ℕ) → n ≤ 11 → is_free_number c n ≡ false → is_free_number d n ≡ false)
 
-joined : (c d e : Cat) → StaysTaken c d → StaysTaken d e → StaysTaken c e
-joined c d e s t n free = t n (s n free)
+joined : (c d e : Cat) → Keeps c d → Keeps d e → Keeps c e
+joined c d e s t = (t.0 ∙ s.0, λ n le free. t.1 n le (s.1 n le free))
 
 -- ---- a slot that is used
 
@@ -49,67 +52,86 @@ set_taken false leaked files i j f e = by_free (is_free_slot (slice_get files j)
       by_last true = refl
       by_last false = refl
 
-file_stays : (c : Cat) (k : ℕ) (f : File) → StaysTaken c (with_file c k f)
-file_stays c k f n e = set_taken (n == 0) (not (is_leaked c n)) c.files (k - 1) (n - 1) f e
+file_stays : (c : Cat) (k : ℕ) (f : File) → Keeps c (with_file c k f)
+file_stays c k f = (refl, λ n le e. set_taken (n == 0) (not (is_leaked c n)) c.files (k - 1) (n - 1) f e)
+
+above : (k n : ℕ) → nat_le k 11 ≡ false → n ≤ 11 → k - 1 ≡ n - 1 → ⊥
+above k n e le same = let lt : 11 < k = later k e in omega arith where
+  later : (k : ℕ) → nat_le k 11 ≡ false → 11 < k
+  later k e = grind (arith, nat_tests)
+
+-- the number of a file that goes, which is no system file
+freed_stays : (c : Cat) (k : ℕ) (f : File) → nat_le k 11 ≡ false → Keeps c (freed c k f)
+freed_stays c k f no_system = (refl, λ n le e. ap (λ o. is_free_slot (cond (n == 0) None o) && not (is_leaked c n)) (get-set_else c.files (k - 1) (n - 1) (Free f.seq) (above k n no_system le)) ∙ e)
 
 -- ---- outcomes
 
-if_stays : (c : Cat) (b : Bool) (x y : Outcome) → StaysTaken c x.after → StaysTaken c y.after → StaysTaken c (cond b x y).after
+if_stays : (c : Cat) (b : Bool) (x y : Outcome) → Keeps c x.after → Keeps c y.after → Keeps c (cond b x y).after
 if_stays c true x y h k = h
 if_stays c false x y h k = k
 
-same_stays : (c : Cat) → StaysTaken c c
-same_stays c n e = e
+same_stays : (c : Cat) → Keeps c c
+same_stays c = (refl, λ n le e. e)
 
-unless_stays : (c : Cat) (r : Option Refusal) (o : Outcome) → StaysTaken c o.after → StaysTaken c (unless c r o).after
+unless_stays : (c : Cat) (r : Option Refusal) (o : Outcome) → Keeps c o.after → Keeps c (unless c r o).after
 unless_stays c None o h = h
 unless_stays c (Some r) o h = same_stays c
 
-in_stays : (c : Cat) (f : Option File) (next : File → Outcome) → ((d : File) → StaysTaken c (next d).after) → StaysTaken c (in_directory_file c f next).after
+in_stays : (c : Cat) (f : Option File) (next : File → Outcome) → ((d : File) → Keeps c (next d).after) → Keeps c (in_directory_file c f next).after
 in_stays c None next h = same_stays c
 in_stays c (Some d) next h = if_stays c d.dir (next d) _ (h d) (same_stays c)
 
-entry_stays : (c : Cat) (e : Option DirEnt) (next : DirEnt → Outcome) → ((x : DirEnt) → StaysTaken c (next x).after) → StaysTaken c (with_entry c e next).after
+entry_stays : (c : Cat) (e : Option DirEnt) (next : DirEnt → Outcome) → ((x : DirEnt) → nat_le x.fid.num 11 ≡ false → Keeps c (next x).after) → Keeps c (with_entry c e next).after
 entry_stays c None next h = same_stays c
-entry_stays c (Some e) next h = if_stays c _ _ _ (same_stays c) (h e)
+entry_stays c (Some e) next h = by_system (nat_le e.fid.num 11) refl where
+  by_system : (b : Bool) → nat_le e.fid.num 11 ≡ b → Keeps c (cond b (refused c refusal.NoPriv) (next e)).after
+  by_system true is = same_stays c
+  by_system false is = h e is
 
-entered_stays : (c : Cat) (dir : ℕ) (d : File) (e : DirEnt) (f : File) → StaysTaken c (entered c dir d e f)
+unnamed_stays : (c : Cat) (n : ℕ) (f : Option File) → nat_le n 11 ≡ false → Keeps c (unnamed c n f).after
+unnamed_stays c n None no_system = same_stays c
+unnamed_stays c n (Some f) no_system = if_stays c (is_open c n) _ _ (file_stays c n (record f { marked = true })) (freed_stays (discharged c f.owner (cost c f.clusters)) n f no_system)
+
+deleted_stays : (c : Cat) (dir : ℕ) (d : File) (e : DirEnt) (f : Option File) → nat_le e.fid.num 11 ≡ false → Keeps c (unnamed (less_entry c dir d e) e.fid.num f).after
+deleted_stays c dir d e f no_system = joined c (less_entry c dir d e) (unnamed (less_entry c dir d e) e.fid.num f).after (file_stays c dir (record d { entries = without e.name e.ver d.entries })) (unnamed_stays (less_entry c dir d e) e.fid.num f no_system)
+
+entered_stays : (c : Cat) (dir : ℕ) (d : File) (e : DirEnt) (f : File) → Keeps c (entered c dir d e f)
 entered_stays c dir d e f =
     let first = charged c f.owner (cost c f.clusters) in
     let second = with_file first e.fid.num f in
     joined c second (with_entries second dir d (inserted e d.entries)) (file_stays first e.fid.num f) (file_stays second dir (record d { entries = inserted e d.entries }))
 
-create_stays : (c : Cat) (dir : ℕ) (d : File) (name : List ℕ) (ver blocks : ℕ) (owner : Uic) (new : Option ℕ) → StaysTaken c (create_made c dir d name ver blocks owner new).after
+create_stays : (c : Cat) (dir : ℕ) (d : File) (name : List ℕ) (ver blocks : ℕ) (owner : Uic) (new : Option ℕ) → Keeps c (create_made c dir d name ver blocks owner new).after
 create_stays c dir d name ver blocks owner None = same_stays c
 create_stays c dir d name ver blocks owner (Some n) = entered_stays c dir d _ _
 
-mkdir_stays : (c : Cat) (dir : ℕ) (d : File) (name : List ℕ) (owner : Uic) (new : Option ℕ) → StaysTaken c (mkdir_made c dir d name owner new).after
+mkdir_stays : (c : Cat) (dir : ℕ) (d : File) (name : List ℕ) (owner : Uic) (new : Option ℕ) → Keeps c (mkdir_made c dir d name owner new).after
 mkdir_stays c dir d name owner None = same_stays c
 mkdir_stays c dir d name owner (Some n) = entered_stays c dir d _ _
 
-extend_stays : (c : Cat) (n : ℕ) (f : Option File) (blocks : ℕ) → StaysTaken c (extend_of c n f blocks).after
+extend_stays : (c : Cat) (n : ℕ) (f : Option File) (blocks : ℕ) → Keeps c (extend_of c n f blocks).after
 extend_stays c n None blocks = same_stays c
 extend_stays c n (Some f) blocks = unless_stays c (extend_refusal c n f blocks) _ (file_stays (charged c f.owner (c.factor * in_clusters c blocks)) n (grown c f (in_clusters c blocks)))
 
-trunc_stays : (c : Cat) (n : ℕ) (f : Option File) (blocks : ℕ) → StaysTaken c (trunc_of c n f blocks).after
+trunc_stays : (c : Cat) (n : ℕ) (f : Option File) (blocks : ℕ) → Keeps c (trunc_of c n f blocks).after
 trunc_stays c n None blocks = same_stays c
 trunc_stays c n (Some f) blocks = if_stays c _ _ _ (same_stays c)
     (file_stays (discharged c f.owner (c.factor * (f.clusters - min f.clusters (in_clusters c blocks)))) n (cut c f (min f.clusters (in_clusters c blocks))))
 
-stat_stays : (c : Cat) (f : Option File) → StaysTaken c (stat_of c f).after
+stat_stays : (c : Cat) (f : Option File) → Keeps c (stat_of c f).after
 stat_stays c None = same_stays c
 stat_stays c (Some f) = same_stays c
 
-quota_stays : (c : Cat) (r : Option QuotaRow) (owner : Uic) (quota over : ℕ) → StaysTaken c (quota_set_of c r owner quota over).after
-quota_stays c (Some r) owner quota over = λ n e. e
-quota_stays c None owner quota over = if_stays c _ _ _ (same_stays c) (λ n e. e)
+quota_stays : (c : Cat) (r : Option QuotaRow) (owner : Uic) (quota over : ℕ) → Keeps c (quota_set_of c r owner quota over).after
+quota_stays c (Some r) owner quota over = (refl, λ n le e. e)
+quota_stays c None owner quota over = if_stays c _ _ _ (same_stays c) (refl, λ n le e. e)
 
-shown_stays : (c : Cat) (r : Option QuotaRow) → StaysTaken c (quota_shown c r).after
+shown_stays : (c : Cat) (r : Option QuotaRow) → Keeps c (quota_shown c r).after
 shown_stays c None = same_stays c
 shown_stays c (Some r) = same_stays c
 
-outcome_stays : (c : Cat) (node : ℕ) (x : Cmd) (new : Option ℕ) → is_run x ≡ true → StaysTaken c (outcome c node x new).after
-unfolding is_run outcome lookup_outcome list_outcome stat_outcome create_outcome mkdir_outcome extend_outcome trunc_outcome rename_outcome quota_set_outcome quota_show_outcome
+outcome_stays : (c : Cat) (node : ℕ) (x : Cmd) (new : Option ℕ) → is_run x ≡ true → Keeps c (outcome c node x new).after
+unfolding is_run outcome lookup_outcome list_outcome stat_outcome create_outcome mkdir_outcome extend_outcome trunc_outcome delete_outcome rename_outcome quota_set_outcome quota_show_outcome
 outcome_stays c node (cmd.Lookup reg dir name ver) new runs = in_stays c (live c dir) _ (λ d. same_stays c)
 outcome_stays c node (cmd.List dir) new runs = in_stays c (live c dir) _ (λ d. same_stays c)
 outcome_stays c node (cmd.Stat file) new runs = stat_stays c (live c file)
@@ -117,8 +139,8 @@ outcome_stays c node (cmd.Create reg dir name ver blocks owner) new runs = in_st
 outcome_stays c node (cmd.MkDir reg dir name owner) new runs = in_stays c (live c dir) _ (λ d. unless_stays c (mkdir_refusal c d (dir_name name) owner new) _ (mkdir_stays c dir.num d (dir_name name) owner new))
 outcome_stays c node (cmd.Extend file blocks) new runs = extend_stays c file.num (live c file) blocks
 outcome_stays c node (cmd.Trunc file blocks) new runs = trunc_stays c file.num (live c file) blocks
-outcome_stays c node (cmd.Delete dir name ver) new runs = absurd (let f : false ≡ true = runs in cc)
-outcome_stays c node (cmd.Rename dir name ver to to_ver) new runs = in_stays c (live c dir) _ (λ d. entry_stays c (entry_of (versions name d.entries) ver) _ (λ e. unless_stays c (rename_refusal c d to to_ver) _ (file_stays c dir.num _)))
+outcome_stays c node (cmd.Delete dir name ver) new runs = in_stays c (live c dir) _ (λ d. entry_stays c (entry_of (versions name d.entries) ver) _ (λ e no_system. if_stays c (has_entries (in_use c e.fid)) _ _ (same_stays c) (deleted_stays c dir.num d e (in_use c e.fid) no_system)))
+outcome_stays c node (cmd.Rename dir name ver to to_ver) new runs = in_stays c (live c dir) _ (λ d. entry_stays c (entry_of (versions name d.entries) ver) _ (λ e no_system. unless_stays c (rename_refusal c d to to_ver) _ (file_stays c dir.num _)))
 outcome_stays c node (cmd.OpenFile chan file mode) new runs = absurd (let f : false ≡ true = runs in cc)
 outcome_stays c node (cmd.CloseFile chan) new runs = absurd (let f : false ≡ true = runs in cc)
 outcome_stays c node (cmd.ReadBlock chan vbn) new runs = absurd (let f : false ≡ true = runs in cc)
@@ -126,5 +148,5 @@ outcome_stays c node (cmd.WriteBlock chan vbn text) new runs = absurd (let f : f
 outcome_stays c node (cmd.QuotaSet owner quota over) new runs = quota_stays c (row_of owner c.quota) owner quota over
 outcome_stays c node (cmd.QuotaShow owner) new runs = shown_stays c (row_of owner c.quota)
 
-pub answer_stays : (c d : Cat) (node : ℕ) (x : Cmd) (r : Reply) → is_run x ≡ true → Answer c node x r d → StaysTaken c d
-answer_stays c d node x r runs a = subst (λ (o : Outcome). StaysTaken c o.after) a.2 (outcome_stays c node x a.0 runs)
+pub answer_stays : (c d : Cat) (node : ℕ) (x : Cmd) (r : Reply) → is_run x ≡ true → Answer c node x r d → Keeps c d
+answer_stays c d node x r runs a = subst (λ (o : Outcome). Keeps c o.after) a.2 (outcome_stays c node x a.0 runs)

@@ -15,25 +15,6 @@ use Rattle.op_law.specs.declared.seen.Seen.{Seen}
 use Rattle.op_law.specs.Knows.{channel_of, has_channel, may_ask, is_new_number, is_short, changes_usage, is_charged, is_held_open, knows}
 use Rattle.core_state.specs.Goods.{is_run}
 
--- such a command asks for no lock of opens
-pub run_asks : (x : Cmd) → is_run x ≡ true → may_ask x ≡ true → ⊥
-unfolding is_run
-run_asks (cmd.Lookup reg dir name ver) runs e = absurd (let f : false ≡ true = e in cc)
-run_asks (cmd.List dir) runs e = absurd (let f : false ≡ true = e in cc)
-run_asks (cmd.Stat file) runs e = absurd (let f : false ≡ true = e in cc)
-run_asks (cmd.Create reg dir name ver blocks owner) runs e = absurd (let f : false ≡ true = e in cc)
-run_asks (cmd.MkDir reg dir name owner) runs e = absurd (let f : false ≡ true = e in cc)
-run_asks (cmd.Extend file blocks) runs e = absurd (let f : false ≡ true = e in cc)
-run_asks (cmd.Trunc file blocks) runs e = absurd (let f : false ≡ true = e in cc)
-run_asks (cmd.Delete dir name ver) runs e = absurd (let f : false ≡ true = runs in cc)
-run_asks (cmd.Rename dir name ver to to_ver) runs e = absurd (let f : false ≡ true = e in cc)
-run_asks (cmd.OpenFile chan file mode) runs e = absurd (let f : false ≡ true = runs in cc)
-run_asks (cmd.CloseFile chan) runs e = absurd (let f : false ≡ true = runs in cc)
-run_asks (cmd.ReadBlock chan vbn) runs e = absurd (let f : false ≡ true = e in cc)
-run_asks (cmd.WriteBlock chan vbn text) runs e = absurd (let f : false ≡ true = e in cc)
-run_asks (cmd.QuotaSet owner quota over) runs e = absurd (let f : false ≡ true = e in cc)
-run_asks (cmd.QuotaShow owner) runs e = absurd (let f : false ≡ true = e in cc)
-
 both : (a b : Bool) → a ≡ true → b ≡ true → (a && b) ≡ true
 both a b e f = ap (λ t. t && b) e ∙ f
 
@@ -48,7 +29,7 @@ all_charged : (c : Cat) (rows : List QuotaRow) → All (IsCharged c) rows → li
 all_charged c rows all = list_all-from_AllPass (is_charged c) rows (λ k row at. both _ _ (at_most _ _ (all k row at).0) (at_most _ _ (all k row at).1))
 
 -- no channel is named
-names_none : (x : Cmd) → is_run x ≡ true → channel_of x ≡ None
+pub names_none : (x : Cmd) → is_run x ≡ true → channel_of x ≡ None
 unfolding is_run
 names_none (cmd.Lookup reg dir name ver) runs = refl
 names_none (cmd.List dir) runs = refl
@@ -66,28 +47,11 @@ names_none (cmd.WriteBlock chan vbn text) runs = absurd (let f : false ≡ true 
 names_none (cmd.QuotaSet owner quota over) runs = refl
 names_none (cmd.QuotaShow owner) runs = refl
 
-asks_none : (x : Cmd) → is_run x ≡ true → may_ask x ≡ false
-unfolding is_run
-asks_none (cmd.Lookup reg dir name ver) runs = refl
-asks_none (cmd.List dir) runs = refl
-asks_none (cmd.Stat file) runs = refl
-asks_none (cmd.Create reg dir name ver blocks owner) runs = refl
-asks_none (cmd.MkDir reg dir name owner) runs = refl
-asks_none (cmd.Extend file blocks) runs = refl
-asks_none (cmd.Trunc file blocks) runs = refl
-asks_none (cmd.Delete dir name ver) runs = absurd (let f : false ≡ true = runs in cc)
-asks_none (cmd.Rename dir name ver to to_ver) runs = refl
-asks_none (cmd.OpenFile chan file mode) runs = absurd (let f : false ≡ true = runs in cc)
-asks_none (cmd.CloseFile chan) runs = absurd (let f : false ≡ true = runs in cc)
-asks_none (cmd.ReadBlock chan vbn) runs = refl
-asks_none (cmd.WriteBlock chan vbn text) runs = refl
-asks_none (cmd.QuotaSet owner quota over) runs = refl
-asks_none (cmd.QuotaShow owner) runs = refl
-
--- what it knows of a catalogue besides the blocks: a number that was given is a new one, a refusal is right, and usages fit
-pub run_knows : (x : Cmd) → is_run x ≡ true → (n : ℕ) (seen : Seen) (c : Cat) → Accounted c → is_new_number seen.number ≡ true → is_short c x seen.short ≡ true → knows n x seen c ≡ true
-run_knows x runs n seen c accounted new short = both _ _ (ap (λ k. has_channel c n k seen.channel) (names_none x runs))
-    (both _ _ new (both _ _ short (both _ _ (where_so (changes_usage x) _ (all_charged c c.quota accounted.usage)) (ap (λ t. cond t (list_all is_held_open c.opens) true) (asks_none x runs)))))
+-- what it knows of a catalogue besides the blocks: a number that was given is a new one, a refusal is right, usages fit, and no
+-- open goes with every mode
+pub run_knows : (x : Cmd) → is_run x ≡ true → (n : ℕ) (seen : Seen) (c : Cat) → Accounted c → list_all is_held_open c.opens ≡ true → is_new_number seen.number ≡ true → is_short c x seen.short ≡ true → knows n x seen c ≡ true
+run_knows x runs n seen c accounted held new short = both _ _ (ap (λ k. has_channel c n k seen.channel) (names_none x runs))
+    (both _ _ new (both _ _ short (both _ _ (where_so (changes_usage x) _ (all_charged c c.quota accounted.usage)) (where_so (may_ask x) _ held))))
 
 -- its answer opens and closes no channel
 switched_none : (channels : List Bool) (does value : Bool) → switched channels does None value ≡ channels

@@ -17,17 +17,17 @@ use Rattle.vol_under.specs.UnderWay.{UnderWay, changed, AreSole}
 use Rattle.vol_under.specs.Under.{IsUnder}
 use Rattle.vol_under.proofs.Nodes.{each}
 use Rattle.vol_under.proofs.Steps.{nodes_alike}
-use Rattle.op_law.specs.Knows.{knows}
 use Rattle.op_law.specs.Laws.{held_in, under_way}
 use Rattle.core_state.specs.Worlds.{NodeState, node_at, set_node, locks_in, locks_of}
 use Rattle.core_state.specs.Searches.{unwritten, stock_after}
-use Rattle.core_state.specs.Goods.{writes_of, under_with, under_by, nodes_under}
+use Rattle.core_state.specs.Asks.{writes_now, knows_now}
+use Rattle.core_state.specs.Goods.{under_with, under_by, nodes_under}
 use Rattle.core_state.proofs.Nodes.{at_here, at_else}
 use Rattle.core_state.proofs.Holding.{HasIn, in_held_is}
 
 -- a node with a command, by the locks that it holds
 abbrev pub at_locks : ℕ → NodeState → Cmd → List (LockName × Mode) → UnderWay
-at_locks n s x ls = record (under_way x s.seen (writes_of s.plan) (knows n x s.seen)) {
+at_locks n s x ls = record (under_way x s.seen (writes_now s.tried s.plan) (knows_now n x s.seen s.tried s.plan)) {
   read = held_in PR ls;
   write = held_in PW ls;
   seen = unwritten (take s.search.taken s.search.takes) s.search.looked ++ s.seen.blocks;

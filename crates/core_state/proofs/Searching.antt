@@ -26,12 +26,13 @@ use Rattle.vol_under.specs.Under.{IsUnder}
 use Rattle.vol_under.specs.Keeping.{Refills, IsBitmap}
 use Rattle.vol_under.proofs.Guarding.{bitmap_guard}
 use Rattle.op_law.specs.declared.need.Need.TheVariants as need
+use Rattle.op_law.specs.declared.need.Plan.{Plan}
 use Rattle.op_law.specs.declared.need.PlanWrite.{PlanWrite}
 use Rattle.op_law.specs.declared.seen.Seen.{Seen}
 use Rattle.op_law.specs.Events.{space_of, has_number, has_space, HasNoSpace}
 use Rattle.op_law.specs.Needs.{events_of, IsNext}
 use Rattle.op_law.specs.Fits.{things}
-use Rattle.op_law.specs.Knows.{clusters_wanted, wants_number, takes_space, knows}
+use Rattle.op_law.specs.Knows.{clusters_wanted, wants_number, takes_space}
 use Rattle.op_law.specs.Laws.{held_in, takes_lock}
 use Rattle.op_law.specs.Writing.{Held, holding}
 use Rattle.node_space.specs.declared.outcome.Search.{Search as Outcome}
@@ -43,6 +44,7 @@ use Rattle.node_space.proofs.Ending.{looks_in_order}
 use Rattle.node_space.proofs.Writes.{writes_take, takings_refill}
 use Rattle.node_space.proofs.Taken.{takes_all, number_is_new}
 use Rattle.core_state.specs.Worlds.{Search, NodeState, Plain, node_at, set_node, with_node}
+use Rattle.core_state.specs.Asks.{granted_ask, knows_now}
 use Rattle.core_state.specs.Searches.{unwritten, things_of, stock_after, wanted_by, HasClaimed, IsLooking, IsTaking, Searches, NotYet, Looking, Taking, Taken, Refused}
 use Rattle.core_state.specs.Goods.{under_with, nodes_under, IsAtPlan, IsAt, IsNode, Good}
 use Rattle.core_state.specs.Events.{block_at, has_asked, one_more, turned, claiming, looked_on, scanned, scanning, given_by, grabbing}
@@ -53,7 +55,7 @@ use Rattle.core_state.proofs.Seeking.{touches_its, part_stands, stands_its, part
 use Rattle.core_state.proofs.Keeping.{altered, rebuilt, held_same}
 use Rattle.core_state.proofs.Beginning.{alone}
 use Rattle.core_state.proofs.Standing.{asks_once, is_begun, holds_all, all_stock, part_stock, no_stock}
-use Rattle.core_state.proofs.Turning.{index_within, my_sole, under_command, all_here, here, drive, back, outs_now, seen_now, guards_now, is_node, goes, may_need, not_yet, no_writes_now, asked_keep}
+use Rattle.core_state.proofs.Turning.{index_within, my_sole, under_command, search_now, all_here, here, drive, back, outs_now, seen_now, guards_now, is_node, goes, may_need, not_yet, no_writes_now, asked_keep}
 
 -- ---- small steps
 
@@ -107,8 +109,14 @@ module _ (w : Plain) (good : Good w) (n : ℕ) (s : NodeState) (at : node_at w.n
   abbrev left : List (ℕ × Block)
   left = unwritten (take s.search.taken s.search.takes) s.search.looked
 
-  plan_stays : (t : List Resource) (r : NodeState) → r.plan ≡ s.plan → r.done ≡ s.done → IsAtPlan x (waits_at t n r.asked) r.seen r.done r.plan
-  plan_stays t r p d = subst (IsAtPlan x (waits_at t n r.asked) r.seen r.done) (sym (p ∙ no_plan)) (d ∙ not_yet w good n s at x cmd free no_plan)
+  plan_stays : (t : List Resource) (r : NodeState) → r.plan ≡ s.plan → r.done ≡ s.done → IsAtPlan x (waits_at t n r.asked) r.seen r.done r.tried r.plan
+  plan_stays t r p d = subst (IsAtPlan x (waits_at t n r.asked) r.seen r.done r.tried) (sym (p ∙ no_plan)) (d ∙ not_yet w good n s at x cmd free no_plan)
+
+  abbrev stands : Searches w.locks n x None s.asked s.search s.seen
+  stands = search_now w good n s at x cmd free no_plan
+
+  standing : (t : List Resource) (r : NodeState) → r.plan ≡ s.plan → Searches t n x None r.asked r.search r.seen → Searches t n x (granted_ask r.tried r.plan) r.asked r.search r.seen
+  standing t r p h = subst (λ (o : Option Plan). Searches t n x (granted_ask r.tried o) r.asked r.search r.seen) (sym (p ∙ no_plan)) h
 
   wanted : (k : ℕ) (b : Bool) → IsNext x s.seen (need.Space k b) → has_space k b no_space ≡ false
   wanted k b is = wants_some (events_of g s.seen.channel x) s.seen.locks s.seen.blocks (space_of s.seen) k b (may_need w good n s at x cmd free (need.Space k b) is).1 is
@@ -120,12 +128,12 @@ module _ (w : Plain) (good : Good w) (n : ℕ) (s : NodeState) (at : node_at w.n
       let r : NodeState = turned (claiming s x) in
       let t : List Resource = asked V (system_of n) PW w.locks in
       let may = may_need w good n s at x cmd free (need.Space k b) is in
-      let none = asks_once w.locks n x s.asked s.search s.seen now.search not_asked in
+      let none = asks_once w.locks n x s.asked s.search s.seen stands not_asked in
       let next : IsNext x s.seen (need.Space (wanted_by x s.seen) (wants_number x)) = is ∙ (λ i. need.Space (may.0.clusters_are i) (may.0.number_is i)) in
       let more : found g (wanted_by x s.seen) (wants_number x) (blocks_of s.search.looked) ≡ More
       = ap (λ (ss : List (ℕ × Block)). found g (wanted_by x s.seen) (wants_number x) (blocks_of ss)) none.0.looked ∙ first_more g (wanted_by x s.seen) (wants_number x) under.spelt.counts.geometry (wanted (wanted_by x s.seen) (wants_number x) next) in
       asked_keep w good n s at x cmd free no_plan V PW none.1 r refl refl (λ ls. refl)
-      (λ grows. is_node w good n s at x cmd free t w.blocks r refl refl refl refl refl now.seen now.own (plan_stays t r refl refl)
+      (λ grows. is_node w good n s at x cmd free t w.blocks r refl refl refl refl refl now.seen now.own (plan_stays t r refl refl) (standing t r refl
       (Looking (record {
         claimed = record {
           takes = may.0.takes;
@@ -145,11 +153,11 @@ module _ (w : Plain) (good : Good w) (n : ℕ) (s : NodeState) (at : node_at w.n
         more = more;
         takes = none.0.takes;
         taken = none.0.taken;
-      })))
+      }))))
 
   -- ---- a look
 
-  module _ (h : IsLooking x s.asked s.search s.seen) (lbn : ℕ) (next : slice_get (places g (wanted_by x s.seen) (wants_number x)) (length (blocks_of s.search.looked)) ≡ Some lbn) where
+  module _ (h : IsLooking x None s.asked s.search s.seen) (lbn : ℕ) (next : slice_get (places g (wanted_by x s.seen) (wants_number x)) (length (blocks_of s.search.looked)) ≡ Some lbn) where
     abbrev b : Block
     b = block_at w.blocks lbn
 
@@ -160,7 +168,7 @@ module _ (w : Plain) (good : Good w) (n : ℕ) (s : NodeState) (at : node_at w.n
     lies = next_lies g (wanted_by x s.seen) (wants_number x) (length (blocks_of s.search.looked)) lbn under.base under.own cat next under.spelt
 
     holds : Has (held_in PW s.asked) V
-    holds = holds_all x s.asked s.search s.seen h.claimed
+    holds = holds_all x None s.asked s.search s.seen h.claimed
 
     may : MayLook (held_in PR s.asked) (guard_of g under.own lbn)
     may = subst (MayLook (held_in PR s.asked)) (sym lies.2) (held_weaker PW PR s.asked V (omega arith) holds)
@@ -215,7 +223,7 @@ module _ (w : Plain) (good : Good w) (n : ℕ) (s : NodeState) (at : node_at w.n
         let there : v ≡ under_with w.locks n r r.cmd = ap (at_locks n r x) (sym (all_here w good n s at x cmd free) ∙ ap (held_locks w.locks n) (sym same)) ∙ ap (under_with w.locks n r) (sym cmd_is) in
         alone w good n s at r same (subst (λ (k : UnderWay). IsUnder w.geometry cat (changed (nodes_under w.locks w.nodes) n k) w.blocks) there (back w good n s at x cmd free v w.blocks drive_now)) node
 
-    claimed_on : (h2 : Search) (seen : Seen) → h2.looked ≡ more → seen.geometry ≡ g → seen.locks ≡ s.seen.locks → HasClaimed x s.asked h2 seen
+    claimed_on : (h2 : Search) (seen : Seen) → h2.looked ≡ more → seen.geometry ≡ g → seen.locks ≡ s.seen.locks → HasClaimed x None s.asked h2 seen
     claimed_on h2 seen looks geometry locks = record {
       takes = h.claimed.takes;
       before = h.claimed.before;
@@ -233,7 +241,7 @@ module _ (w : Plain) (good : Good w) (n : ℕ) (s : NodeState) (at : node_at w.n
         left_so r refl refl (no_writes_now w good n s at x cmd free no_plan) (not_yet w good n s at x cmd free no_plan) (λ i. things (h.needs.none.clusters i) (h.needs.none.number i))
         (no_stock s.search.takes s.search.taken h.takes h.taken) refl refl
         (is_node w good n s at x cmd free w.locks w.blocks r refl refl refl refl refl now.seen now.own (plan_stays w.locks r refl refl)
-        (Looking (record { claimed = claimed_on r.search s.seen refl refl refl; needs = h.needs; more = e; takes = h.takes; taken = h.taken })))
+        (standing w.locks r refl (Looking (record { claimed = claimed_on r.search s.seen refl refl refl; needs = h.needs; more = e; takes = h.takes; taken = h.taken }))))
     by_found (Short why) e next_lbn =
         let r : NodeState = turned (scanned s x lbn b (search.Short why)) in
         left_so r refl refl (no_writes_now w good n s at x cmd free no_plan) (not_yet w good n s at x cmd free no_plan) refl
@@ -241,7 +249,7 @@ module _ (w : Plain) (good : Good w) (n : ℕ) (s : NodeState) (at : node_at w.n
         (is_node w good n s at x cmd free w.locks w.blocks r refl refl refl refl refl
         ((goes w good n s at x cmd free).refused s.seen (wanted_by x s.seen) (wants_number x) why now.seen h.needs.next (refused_why g (wanted_by x s.seen) (wants_number x) (blocks_of more) why e))
         now.own (plan_stays w.locks r refl refl)
-        (Refused (record { claimed = claimed_on r.search r.seen refl refl refl; why = why; too_little = e; takes = h.takes; taken = h.taken; clusters = refl; number = refl; short = refl })))
+        (standing w.locks r refl (Refused (record { claimed = claimed_on r.search r.seen refl refl refl; why = why; too_little = e; takes = h.takes; taken = h.taken; clusters = refl; number = refl; short = refl }))))
     by_found (Enough ws) e next_lbn =
         let r : NodeState = turned (scanned s x lbn b (search.Take ws)) in
         let some : 0 < length ws = some_writes g (wanted_by x s.seen) (wants_number x) (blocks_of more) ws (wanted (wanted_by x s.seen) (wants_number x) h.needs.next) e in
@@ -250,7 +258,7 @@ module _ (w : Plain) (good : Good w) (n : ℕ) (s : NodeState) (at : node_at w.n
         left_so r refl refl (no_writes_now w good n s at x cmd free no_plan) (not_yet w good n s at x cmd free no_plan) (λ i. things (h.needs.none.clusters i) (h.needs.none.number i))
         none_yet refl refl
         (is_node w good n s at x cmd free w.locks w.blocks r refl refl refl refl refl now.seen now.own (plan_stays w.locks r refl refl)
-        (Taking (record {
+        (standing w.locks r refl (Taking (record {
           found = record {
             claimed = claimed_on r.search s.seen refl refl refl;
             enough = e;
@@ -259,14 +267,14 @@ module _ (w : Plain) (good : Good w) (n : ℕ) (s : NodeState) (at : node_at w.n
           };
           needs = h.needs;
           part = part;
-        })))
+        }))))
 
     pub look_keeps : Good (with_node w n (turned (scanning s x (wanted_by x s.seen) (wants_number x) lbn b)))
     look_keeps = by_found (found g (wanted_by x s.seen) (wants_number x) (blocks_of more)) refl (slice_index_or (places g (wanted_by x s.seen) (wants_number x)) (length (blocks_of more)) 0)
 
   -- ---- a write
 
-  module _ (h : IsTaking w.locks n x s.asked s.search s.seen) (v : PlanWrite) (next : slice_get s.search.takes s.search.taken ≡ Some v) where
+  module _ (h : IsTaking w.locks n x None s.asked s.search s.seen) (v : PlanWrite) (next : slice_get s.search.takes s.search.taken ≡ Some v) where
     abbrev ws : List PlanWrite
     ws = s.search.takes
 
@@ -329,7 +337,7 @@ module _ (w : Plain) (good : Good w) (n : ℕ) (s : NodeState) (at : node_at w.n
         → Good (altered w w.locks written (set_node w.nodes n r) w.history)
     written_so r same know took stock goes_to there node =
         let drive_now = grabs g cat (nodes_under w.locks w.nodes) w.blocks n u (here w good n s at x cmd free) under (my_sole w good n s at x cmd free) (no_writes_now w good n s at x cmd free no_plan) (not_yet w good n s at x cmd free no_plan)
-        v.lbn taking.old v.block rest (things v.clusters v.number) bitmap (holds_all x s.asked s.search s.seen h.found.claimed) untouched
+        v.lbn taking.old v.block rest (things v.clusters v.number) bitmap (holds_all x None s.asked s.search s.seen h.found.claimed) untouched
         (part_stands under.base u.seen rest some_left (seen_now w good n s at x cmd free))
         (λ k m. guards_now w good n s at x cmd free k (part_touches u.seen rest some_left k m)) there_now (λ base own spelt outs stands. (refill base own spelt outs stands).1) know took stock goes_to in
         rebuilt w good n s r at w.locks written w.history
@@ -340,10 +348,11 @@ module _ (w : Plain) (good : Good w) (n : ℕ) (s : NodeState) (at : node_at w.n
               (subst (λ (k : UnderWay). IsUnder w.geometry cat (changed (nodes_under w.locks w.nodes) n k) written) there (back w good n s at x cmd free (record u { seen = rest; knows = know; took = took; stock = stock }) written drive_now));
           accounted = good.running.accounted;
           system = good.running.system;
+          opens = good.running.opens;
         })
         (good.locked.0, held_same w.locks w.nodes n s r at same good.locked.1) good.own (λ m ne. refl) (λ m q ne e waits. waits) (λ m q ne e l k. k) node
 
-    claimed_on_write : (seen : Seen) → seen.geometry ≡ g → seen.locks ≡ s.seen.locks → HasClaimed x s.asked (record s.search { taken = t + 1 }) (record s.seen { clusters = seen.clusters; number = seen.number; short = seen.short })
+    claimed_on_write : (seen : Seen) → seen.geometry ≡ g → seen.locks ≡ s.seen.locks → HasClaimed x None s.asked (record s.search { taken = t + 1 }) (record s.seen { clusters = seen.clusters; number = seen.number; short = seen.short })
     claimed_on_write seen geometry locks = record { takes = h.found.claimed.takes; before = h.found.claimed.before; after = h.found.claimed.after; claims = h.found.claimed.claims; locks = h.found.claimed.locks; in_order = h.found.claimed.in_order }
 
     out_now : out_after ws (t + 1) ≡ holding v.clusters v.number
@@ -356,13 +365,13 @@ module _ (w : Plain) (good : Good w) (n : ℕ) (s : NodeState) (at : node_at w.n
         let stock_is : stock_after ws (t + 1) ≡ things v.clusters v.number = part_stock ws (t + 1) part ∙ ap things_of out_now in
         let there : record u { seen = rest; stock = things v.clusters v.number } ≡ under_with w.locks n r s.cmd
         = (λ i. record (at_locks n r x (sym (all_here w good n s at x cmd free) i)) { stock = sym stock_is i }) ∙ ap (under_with w.locks n r) (sym cmd) in
-        written_so r refl (knows n x s.seen) u.took (things v.clusters v.number) (λ own o. o) there
+        written_so r refl (knows_now n x s.seen s.tried s.plan) u.took (things v.clusters v.number) (λ own o. o) there
         (is_node w good n s at x cmd free w.locks written r refl refl refl cmd refl now.seen now.own (plan_stays w.locks r refl refl)
-        (Taking (record {
+        (standing w.locks r refl (Taking (record {
           found = record { claimed = claimed_on_write s.seen refl refl; enough = h.found.enough; above = h.found.above; holds = h.found.holds };
           needs = h.needs;
           part = part;
-        }))) where
+        })))) where
           more_there : (a b : ℕ) → a < b → (a + 1 == b) ≡ false → a + 1 < b
           more_there a b lt e = grind (arith, nat_tests)
     by_last true e =
@@ -371,21 +380,21 @@ module _ (w : Plain) (good : Good w) (n : ℕ) (s : NodeState) (at : node_at w.n
         let out_last : out_after ws (length ws) ≡ holding v.clusters v.number = ap (out_after ws) (sym all) ∙ out_now in
         let stock_is : stock_after ws (t + 1) ≡ nothing = all_stock ws (t + 1) all in
         let none : u.took ≡ nothing = λ i. things (h.needs.none.clusters i) (h.needs.none.number i) in
-        let there : record u { seen = rest; knows = knows n x r.seen; took = things v.clusters v.number; stock = nothing } ≡ under_with w.locks n r s.cmd
+        let there : record u { seen = rest; knows = knows_now n x r.seen s.tried s.plan; took = things v.clusters v.number; stock = nothing } ≡ under_with w.locks n r s.cmd
         = (λ i. record (at_locks n r x (sym (all_here w good n s at x cmd free) i)) { stock = sym stock_is i }) ∙ ap (under_with w.locks n r) (sym cmd) in
         let all_taken = takes_all g (wanted_by x s.seen) (wants_number x) (blocks_of s.search.looked) ws h.found.enough in
         let count : length v.clusters ≡ wanted_by x s.seen = ap (λ (k : Held). length k.clusters) (sym out_last) ∙ all_taken.clusters in
         let numbered : has_number (wants_number x) v.number ≡ true = number_there (wants_number x) v.number (ap (λ (k : Held). is_some k.number) (sym out_last) ∙ all_taken.number) in
-        written_so r refl (knows n x r.seen) (things v.clusters v.number) nothing (λ own o. out_taken n own (things v.clusters v.number) (subst (λ (k : Things). Outs n own k (things v.clusters v.number)) none o)) there
+        written_so r refl (knows_now n x r.seen s.tried s.plan) (things v.clusters v.number) nothing (λ own o. out_taken n own (things v.clusters v.number) (subst (λ (k : Things). Outs n own k (things v.clusters v.number)) none o)) there
         (is_node w good n s at x cmd free w.locks written r refl refl refl cmd refl
         ((goes w good n s at x cmd free).given s.seen (wanted_by x s.seen) (wants_number x) v.clusters v.number now.seen h.needs.next count numbered) now.own (plan_stays w.locks r refl refl)
-        (Taken (record {
+        (standing w.locks r refl (Taken (record {
           found = record { claimed = claimed_on_write r.seen refl refl; enough = h.found.enough; above = h.found.above; holds = h.found.holds };
           all = all;
           clusters = ap (λ (k : Held). k.clusters) (sym out_last);
           number = ap (λ (k : Held). k.number) (sym out_last);
           short = refl;
-        }))) where
+        })))) where
           all_there : (a b : ℕ) → (a == b) ≡ true → a ≡ b
           all_there a b e = grind (arith, nat_tests)
 
@@ -400,12 +409,12 @@ module _ (w : Plain) (good : Good w) (n : ℕ) (s : NodeState) (at : node_at w.n
   within_end (y ∷ ws) (suc k) e = let le = within_end ws k e in omega arith
 
   -- with a write to make, the search takes
-  pub is_taking : s.search.taken < length s.search.takes → IsTaking w.locks n x s.asked s.search s.seen
-  is_taking lt = by_search now.search where
+  pub is_taking : s.search.taken < length s.search.takes → IsTaking w.locks n x None s.asked s.search s.seen
+  is_taking lt = by_search stands where
     none : (vs : List PlanWrite) (k : ℕ) → vs ≡ [] → k < length vs → ⊥
     none vs k e lt = absurd (let f : k < 0 = subst (λ (us : List PlanWrite). k < length us) e lt in omega arith)
 
-    by_search : Searches w.locks n x s.asked s.search s.seen → IsTaking w.locks n x s.asked s.search s.seen
+    by_search : Searches w.locks n x None s.asked s.search s.seen → IsTaking w.locks n x None s.asked s.search s.seen
     by_search (NotYet h) = absurd (none s.search.takes s.search.taken h.takes lt)
     by_search (Looking h) = absurd (none s.search.takes s.search.taken h.takes lt)
     by_search (Taking h) = h
@@ -413,11 +422,11 @@ module _ (w : Plain) (good : Good w) (n : ℕ) (s : NodeState) (at : node_at w.n
     by_search (Refused h) = absurd (none s.search.takes s.search.taken h.takes lt)
 
   -- with the lock of the bitmaps asked for, and no write to make, it looks on
-  pub is_looking : (k : ℕ) (b : Bool) → IsNext x s.seen (need.Space k b) → has_asked V s.asked ≡ true → length s.search.takes ≤ s.search.taken → IsLooking x s.asked s.search s.seen
+  pub is_looking : (k : ℕ) (b : Bool) → IsNext x s.seen (need.Space k b) → has_asked V s.asked ≡ true → length s.search.takes ≤ s.search.taken → IsLooking x None s.asked s.search s.seen
   is_looking k b is has over =
       let may = may_need w good n s at x cmd free (need.Space k b) is in
-      by_search may.0.takes may.1 (wanted (wanted_by x s.seen) (wants_number x) (is ∙ (λ i. need.Space (may.0.clusters_are i) (may.0.number_is i)))) now.search where
-        by_search : takes_space x ≡ true → HasNoSpace (space_of s.seen) → has_space (wanted_by x s.seen) (wants_number x) no_space ≡ false → Searches w.locks n x s.asked s.search s.seen → IsLooking x s.asked s.search s.seen
+      by_search may.0.takes may.1 (wanted (wanted_by x s.seen) (wants_number x) (is ∙ (λ i. need.Space (may.0.clusters_are i) (may.0.number_is i)))) stands where
+        by_search : takes_space x ≡ true → HasNoSpace (space_of s.seen) → has_space (wanted_by x s.seen) (wants_number x) no_space ≡ false → Searches w.locks n x None s.asked s.search s.seen → IsLooking x None s.asked s.search s.seen
         by_search takes space some (NotYet h) = absurd (is_begun w.locks n x s.asked s.search s.seen h (λ k. let a : takes_lock x V ≡ true = now.own V k in let c : takes_lock x V ≡ false = ap not takes in let f : true ≡ false = sym a ∙ c in absurd (cc)) has)
         by_search takes space some (Looking h) = h
         by_search takes space some (Taking h) = absurd (let lt = h.part in omega arith)

@@ -4,7 +4,7 @@ use Rattle.std.specs.Prelude.{◌==◌, not}
 use Rattle.std.proofs.lemmas.Bool.Decides.{nat_tests}
 use Rattle.vol_words.specs.Fields.{Block}
 use Rattle.lock_db.specs.declared.name.LockName.{LockName}
-use Rattle.lock_db.specs.declared.name.LockName.TheVariants.{V}
+use Rattle.lock_db.specs.declared.name.LockName.TheVariants.{A, V}
 use Rattle.lock_db.specs.declared.resource.Resource.{Resource}
 use Rattle.lock_db.specs.Names.{is_same}
 use Rattle.lock_db.proofs.Names.{is_same-refl, is_same-same}
@@ -20,6 +20,7 @@ use Rattle.vol_under.specs.UnderWay.{UnderWay, AreSole}
 use Rattle.vol_under.specs.Under.{IsUnder}
 use Rattle.op_law.specs.declared.need.Need.TheVariants as need
 use Rattle.op_law.specs.declared.need.PlanWrite.{PlanWrite}
+use Rattle.op_law.specs.declared.need.Ask.{Ask}
 use Rattle.op_law.specs.declared.seen.Seen.{Seen}
 use Rattle.op_law.specs.Needs.{IsNext}
 use Rattle.op_law.specs.Fits.{things}
@@ -30,6 +31,7 @@ use Rattle.node_space.specs.Taking.{looked, out_after, IsTooLittle}
 use Rattle.node_space.specs.Answering.{blocks_of}
 use Rattle.node_space.proofs.Shortage.{shortage_is_exact, command_is_short}
 use Rattle.core_state.specs.Worlds.{Search, NodeState, Plain, node_at}
+use Rattle.core_state.specs.Asks.{granted_ask, lock_of_ask, with_ask}
 use Rattle.core_state.specs.Searches.{unwritten, things_of, stock_after, wanted_by, HasNotSearched, HasClaimed, IsRefused, Searches, NotYet, Looking, Taking, Taken, Refused}
 use Rattle.core_state.specs.Goods.{under_with, under_by, nodes_under, IsAt, HasCommand, Good}
 use Rattle.core_state.specs.Events.{has_asked}
@@ -40,21 +42,26 @@ use Rattle.core_state.proofs.Seeking.{all_left, part_stands}
 
 -- ---- its locks
 
-pub begun_or_not : (t : List Resource) (n : ℕ) (x : Cmd) (asked : List (LockName × Mode)) (s : Search) (seen : Seen) → Searches t n x asked s seen → HasNotSearched asked s seen ⊎ HasClaimed x asked s seen
-begun_or_not t n x asked s seen (NotYet h) = inl h
-begun_or_not t n x asked s seen (Looking h) = inr h.claimed
-begun_or_not t n x asked s seen (Taking h) = inr h.found.claimed
-begun_or_not t n x asked s seen (Taken h) = inr h.found.claimed
-begun_or_not t n x asked s seen (Refused h) = inr h.claimed
+pub begun_or_not : (t : List Resource) (n : ℕ) (x : Cmd) (ask : Option Ask) (asked : List (LockName × Mode)) (s : Search) (seen : Seen) → Searches t n x ask asked s seen → HasNotSearched ask asked s seen ⊎ HasClaimed x ask asked s seen
+begun_or_not t n x ask asked s seen (NotYet h) = inl h
+begun_or_not t n x ask asked s seen (Looking h) = inr h.claimed
+begun_or_not t n x ask asked s seen (Taking h) = inr h.found.claimed
+begun_or_not t n x ask asked s seen (Taken h) = inr h.found.claimed
+begun_or_not t n x ask asked s seen (Refused h) = inr h.claimed
+
+-- a lock stays among them with that of an ask
+has_with : (ls : List (LockName × Mode)) (ask : Option Ask) (l : LockName × Mode) → Has ls l → Has (with_ask ls ask) l
+has_with ls None l h = h
+has_with ls (Some a) l h = has_first ls (lock_of_ask a ∷ []) l h
 
 -- the locks of its command are among those that it has asked for
-pub locks_within : (t : List Resource) (n : ℕ) (x : Cmd) (asked : List (LockName × Mode)) (s : Search) (seen : Seen) → Searches t n x asked s seen → (l : LockName × Mode) → Has seen.locks l → Has asked l
-locks_within t n x asked s seen stands l h = elim (begun_or_not t n x asked s seen stands) [
-  | inl i ↦ subst (λ (ls : List (LockName × Mode)). Has ls l) (sym i.same) h
-  | inr c ↦ subst (λ (ls : List (LockName × Mode)). Has ls l) (sym c.claims) (elim (has_parted c.before c.after l (subst (λ (ls : List (LockName × Mode)). Has ls l) c.locks h)) [
+pub locks_within : (t : List Resource) (n : ℕ) (x : Cmd) (ask : Option Ask) (asked : List (LockName × Mode)) (s : Search) (seen : Seen) → Searches t n x ask asked s seen → (l : LockName × Mode) → Has seen.locks l → Has asked l
+locks_within t n x ask asked s seen stands l h = elim (begun_or_not t n x ask asked s seen stands) [
+  | inl i ↦ subst (λ (ls : List (LockName × Mode)). Has ls l) (sym i.same) (has_with seen.locks ask l h)
+  | inr c ↦ subst (λ (ls : List (LockName × Mode)). Has ls l) (sym c.claims) (has_with (c.before ++ (V, PW) ∷ c.after) ask l (elim (has_parted c.before c.after l (subst (λ (ls : List (LockName × Mode)). Has ls l) c.locks h)) [
     | inl k ↦ has_first c.before ((V, PW) ∷ c.after) l k
     | inr k ↦ has_second c.before ((V, PW) ∷ c.after) l (inr k)
-  ])
+  ]))
 ]
 
 names_parted : (before after : List (LockName × Mode)) (name : LockName) → Has (names_of (before ++ (V, PW) ∷ after)) name → Has (names_of (before ++ after)) name ⊎ (V ≡ name)
@@ -64,14 +71,52 @@ names_parted (k ∷ before) after name (inl e) = inl (inl e)
 names_parted (k ∷ before) after name (inr h) = elim (names_parted before after name h) [ inl a ↦ inl (inr a) | inr b ↦ inr b ]
 
 -- a lock that is new to the command, and that it takes itself, is new to the search
-pub new_to_all : (t : List Resource) (n : ℕ) (x : Cmd) (asked : List (LockName × Mode)) (s : Search) (seen : Seen) → Searches t n x asked s seen → (name : LockName) → takes_lock x name ≡ true → (Has (names_of seen.locks) name → ⊥) → Has (names_of asked) name → ⊥
-new_to_all t n x asked s seen stands name own new h = elim (begun_or_not t n x asked s seen stands) [
+pub new_to_all : (t : List Resource) (n : ℕ) (x : Cmd) (asked : List (LockName × Mode)) (s : Search) (seen : Seen) → Searches t n x None asked s seen → (name : LockName) → takes_lock x name ≡ true → (Has (names_of seen.locks) name → ⊥) → Has (names_of asked) name → ⊥
+new_to_all t n x asked s seen stands name own new h = elim (begun_or_not t n x None asked s seen stands) [
   | inl i ↦ new (subst (λ (ls : List (LockName × Mode)). Has (names_of ls) name) i.same h)
   | inr c ↦ elim (names_parted c.before c.after name (subst (λ (ls : List (LockName × Mode)). Has (names_of ls) name) c.claims h)) [
     | inl k ↦ new (subst (λ (ls : List (LockName × Mode)). Has (names_of ls) name) (sym c.locks) k)
     | inr e ↦ absurd (let a : takes_lock x V ≡ true = subst (λ (m : LockName). takes_lock x m ≡ true) (sym e) own in let b : takes_lock x V ≡ false = ap not c.takes in let f : true ≡ false = sym a ∙ b in cc)
   ]
 ]
+
+-- a name that is among these locks and one more
+names_last : (ls : List (LockName × Mode)) (l : LockName × Mode) (name : LockName) → Has (names_of (ls ++ l ∷ [])) name → Has (names_of ls) name ⊎ (l.0 ≡ name)
+names_last [] l name (inl e) = inr e
+names_last [] l name (inr h) = absurd h
+names_last (k ∷ ls) l name (inl e) = inl (inl e)
+names_last (k ∷ ls) l name (inr h) = elim (names_last ls l name h) [ inl a ↦ inl (inr a) | inr b ↦ inr b ]
+
+-- the lock of who has a file open is asked for by a granted ask alone
+pub record IsAskOf (ask : Option Ask) (f : ℕ) : Type 0 where
+  pub made : Ask
+  pub is : ask ≡ Some made
+  pub file : made.file ≡ f
+
+same_file : (n m : ℕ) → A n ≡ A m → n ≡ m
+same_file n m e = cc
+
+by_ask : (ls : List (LockName × Mode)) (ask : Option Ask) (f : ℕ) → Has (names_of (with_ask ls ask)) (A f) → Has (names_of ls) (A f) ⊎ IsAskOf ask f
+by_ask ls None f h = inl h
+by_ask ls (Some a) f h = elim (names_last ls (lock_of_ask a) (A f) h) [ inl k ↦ inl k | inr e ↦ inr (record { made = a; is = refl; file = same_file a.file f e }) ]
+
+pub asks_open : (t : List Resource) (n : ℕ) (x : Cmd) (ask : Option Ask) (asked : List (LockName × Mode)) (s : Search) (seen : Seen) → Searches t n x ask asked s seen
+    → ((name : LockName) → Has (names_of seen.locks) name → takes_lock x name ≡ true) → (f : ℕ) → Has (names_of asked) (A f) → IsAskOf ask f
+asks_open t n x ask asked s seen stands own f h = elim (begun_or_not t n x ask asked s seen stands) [ inl i ↦ not_begun i | inr c ↦ begun c ] where
+  none_own : Has (names_of seen.locks) (A f) → ⊥
+  none_own k = absurd (let e : false ≡ true = own (A f) k in cc)
+
+  not_begun : HasNotSearched ask asked s seen → IsAskOf ask f
+  not_begun i = elim (by_ask seen.locks ask f (subst (λ (ls : List (LockName × Mode)). Has (names_of ls) (A f)) i.same h)) [ inl k ↦ absurd (none_own k) | inr a ↦ a ]
+
+  begun : HasClaimed x ask asked s seen → IsAskOf ask f
+  begun c = elim (by_ask (c.before ++ (V, PW) ∷ c.after) ask f (subst (λ (ls : List (LockName × Mode)). Has (names_of ls) (A f)) c.claims h)) [
+    | inl k ↦ elim (names_parted c.before c.after (A f) k) [
+      | inl j ↦ absurd (none_own (subst (λ (ls : List (LockName × Mode)). Has (names_of ls) (A f)) (sym c.locks) j))
+      | inr e ↦ absurd (let g : V ≡ A f = e in cc)
+    ]
+    | inr a ↦ a
+  ]
 
 first_or : (a b : Bool) → b ≡ true → (a || b) ≡ true
 first_or true b e = refl
@@ -87,12 +132,12 @@ among [] after = inl refl
 among (k ∷ before) after = inr (among before after)
 
 -- a search that is begun has asked for the lock of the bitmaps
-pub claim_asks : (x : Cmd) (asked : List (LockName × Mode)) (s : Search) (seen : Seen) → HasClaimed x asked s seen → has_asked V asked ≡ true
+pub claim_asks : (x : Cmd) (asked : List (LockName × Mode)) (s : Search) (seen : Seen) → HasClaimed x None asked s seen → has_asked V asked ≡ true
 claim_asks x asked s seen c = is_asked asked V (subst (λ (ls : List (LockName × Mode)). Has (names_of ls) V) (sym c.claims) (among c.before c.after))
 
 -- the lock of the bitmaps is asked for where the search is begun, and there alone
-pub asks_once : (t : List Resource) (n : ℕ) (x : Cmd) (asked : List (LockName × Mode)) (s : Search) (seen : Seen) → Searches t n x asked s seen → has_asked V asked ≡ false → HasNotSearched asked s seen × (Has (names_of asked) V → ⊥)
-asks_once t n x asked s seen stands none = elim (begun_or_not t n x asked s seen stands) [
+pub asks_once : (t : List Resource) (n : ℕ) (x : Cmd) (asked : List (LockName × Mode)) (s : Search) (seen : Seen) → Searches t n x None asked s seen → has_asked V asked ≡ false → HasNotSearched None asked s seen × (Has (names_of asked) V → ⊥)
+asks_once t n x asked s seen stands none = elim (begun_or_not t n x None asked s seen stands) [
   | inl i ↦ (i, λ h. absurd (let f : true ≡ false = sym (is_asked asked V h) ∙ none in cc))
   | inr c ↦ absurd (let f : true ≡ false = sym (claim_asks x asked s seen c) ∙ none in cc)
 ]
@@ -105,14 +150,14 @@ asked_is (l ∷ ls) name e = by_test (is_same l.0 name) refl e (asked_is ls name
   by_test false f e rest = inr (rest e)
 
 -- where it is asked for and none of the command's own, the search is begun
-pub is_begun : (t : List Resource) (n : ℕ) (x : Cmd) (asked : List (LockName × Mode)) (s : Search) (seen : Seen) → HasNotSearched asked s seen → (Has (names_of seen.locks) V → ⊥) → has_asked V asked ≡ true → ⊥
+pub is_begun : (t : List Resource) (n : ℕ) (x : Cmd) (asked : List (LockName × Mode)) (s : Search) (seen : Seen) → HasNotSearched None asked s seen → (Has (names_of seen.locks) V → ⊥) → has_asked V asked ≡ true → ⊥
 is_begun t n x asked s seen i none e = none (subst (λ (ls : List (LockName × Mode)). Has (names_of ls) V) i.same (asked_is asked V e))
 
 -- a node that has all that it asked for holds V once its search is begun
-pub holds_all : (x : Cmd) (asked : List (LockName × Mode)) (s : Search) (seen : Seen) → HasClaimed x asked s seen → Has (held_in PW asked) V
-holds_all x asked s seen c = is_in_held PW asked V (record {
+pub holds_all : (x : Cmd) (ask : Option Ask) (asked : List (LockName × Mode)) (s : Search) (seen : Seen) → HasClaimed x ask asked s seen → Has (held_in PW asked) V
+holds_all x ask asked s seen c = is_in_held PW asked V (record {
   in_mode = PW;
-  has = subst (λ (ls : List (LockName × Mode)). Has ls (V, PW)) (sym c.claims) (has_second c.before ((V, PW) ∷ c.after) (V, PW) (inl refl));
+  has = subst (λ (ls : List (LockName × Mode)). Has ls (V, PW)) (sym c.claims) (has_with (c.before ++ (V, PW) ∷ c.after) ask (V, PW) (has_second c.before ((V, PW) ∷ c.after) (V, PW) (inl refl)));
   strong = omega arith;
 })
 
@@ -137,7 +182,7 @@ no_stock ws k e f = all_stock ws k (f ∙ sym (ap length e))
 
 -- the command looks at a block
 pub block_seen : (t : List Resource) (n : ℕ) (x : Cmd) (asked : List (LockName × Mode)) (s : Search) (seen : Seen) (lbn : ℕ) (b : Block) → ((k : ℕ) (number : Bool) → IsNext x seen (need.Space k number) → ⊥)
-    → Searches t n x asked s seen → Searches t n x asked s (with_block lbn b seen)
+    → Searches t n x None asked s seen → Searches t n x None asked s (with_block lbn b seen)
 block_seen t n x asked s seen lbn b never (NotYet h) = NotYet (record { same = h.same; looked = h.looked; takes = h.takes; taken = h.taken; space = h.space })
 block_seen t n x asked s seen lbn b never (Looking h) = absurd (never _ _ h.needs.next)
 block_seen t n x asked s seen lbn b never (Taking h) = absurd (never _ _ h.needs.next)
@@ -168,7 +213,7 @@ assoc : (xs ys zs : List (LockName × Mode)) → (xs ++ ys) ++ zs ≡ xs ++ (ys 
 assoc [] ys zs = refl
 assoc (x ∷ xs) ys zs = ap (λ ws. x ∷ ws) (assoc xs ys zs)
 
-claimed_more : (x : Cmd) (asked : List (LockName × Mode)) (s : Search) (seen : Seen) (name : LockName) (mode : Mode) → HasClaimed x asked s seen → HasClaimed x (asked ++ (name, mode) ∷ []) s (with_lock name mode seen)
+claimed_more : (x : Cmd) (asked : List (LockName × Mode)) (s : Search) (seen : Seen) (name : LockName) (mode : Mode) → HasClaimed x None asked s seen → HasClaimed x None (asked ++ (name, mode) ∷ []) s (with_lock name mode seen)
 claimed_more x asked s seen name mode c = record {
   takes = c.takes;
   before = c.before;
@@ -180,7 +225,7 @@ claimed_more x asked s seen name mode c = record {
 
 -- the command asks for a lock
 pub lock_seen : (t u : List Resource) (n : ℕ) (x : Cmd) (asked : List (LockName × Mode)) (s : Search) (seen : Seen) (name : LockName) (mode : Mode) → ((k : ℕ) (number : Bool) → IsNext x seen (need.Space k number) → ⊥)
-    → ((l : LockName × Mode) → Has (held_locks t n asked) l → Has (held_locks u n (asked ++ (name, mode) ∷ [])) l) → Searches t n x asked s seen → Searches u n x (asked ++ (name, mode) ∷ []) s (with_lock name mode seen)
+    → ((l : LockName × Mode) → Has (held_locks t n asked) l → Has (held_locks u n (asked ++ (name, mode) ∷ [])) l) → Searches t n x None asked s seen → Searches u n x None (asked ++ (name, mode) ∷ []) s (with_lock name mode seen)
 lock_seen t u n x asked s seen name mode never grows (NotYet h) = NotYet (record { same = ap (λ ls. ls ++ (name, mode) ∷ []) h.same; looked = h.looked; takes = h.takes; taken = h.taken; space = h.space })
 lock_seen t u n x asked s seen name mode never grows (Looking h) = absurd (never _ _ h.needs.next)
 lock_seen t u n x asked s seen name mode never grows (Taking h) = absurd (never _ _ h.needs.next)
@@ -207,14 +252,73 @@ lock_seen t u n x asked s seen name mode never grows (Refused h) = Refused (reco
   short = h.short;
 })
 
+claimed_open : (x : Cmd) (asked : List (LockName × Mode)) (s : Search) (seen : Seen) (a : Ask) → HasClaimed x None asked s seen → HasClaimed x (Some a) (asked ++ lock_of_ask a ∷ []) s seen
+claimed_open x asked s seen a c = record {
+  takes = c.takes;
+  before = c.before;
+  after = c.after;
+  claims = ap (λ ls. ls ++ lock_of_ask a ∷ []) c.claims;
+  locks = c.locks;
+  in_order = c.in_order;
+}
+
+-- the lock of a granted ask is among those that are asked for
+has_last : (ls : List (LockName × Mode)) (ask : Option Ask) (a : Ask) → ask ≡ Some a → Has (with_ask ls ask) (lock_of_ask a)
+has_last ls None a e = absurd (let f : None ≡ Some a = e in cc)
+has_last ls (Some b) a e = let f : Some b ≡ Some a = e in let g : b ≡ a = cc in has_second ls (lock_of_ask b ∷ []) (lock_of_ask a) (inl (ap lock_of_ask g))
+
+pub asked_last : (t : List Resource) (n : ℕ) (x : Cmd) (ask : Option Ask) (asked : List (LockName × Mode)) (s : Search) (seen : Seen) → Searches t n x ask asked s seen → (a : Ask) → ask ≡ Some a → Has asked (lock_of_ask a)
+asked_last t n x ask asked s seen stands a e = elim (begun_or_not t n x ask asked s seen stands) [
+  | inl i ↦ subst (λ (ls : List (LockName × Mode)). Has ls (lock_of_ask a)) (sym i.same) (has_last seen.locks ask a e)
+  | inr c ↦ subst (λ (ls : List (LockName × Mode)). Has ls (lock_of_ask a)) (sym c.claims) (has_last (c.before ++ (V, PW) ∷ c.after) ask a e)
+]
+
+-- its ask is granted
+pub ask_seen : (t u : List Resource) (n : ℕ) (x : Cmd) (asked : List (LockName × Mode)) (s : Search) (seen : Seen) (a : Ask)
+    → ((l : LockName × Mode) → Has (held_locks t n asked) l → Has (held_locks u n (asked ++ lock_of_ask a ∷ [])) l) → Searches t n x None asked s seen → Searches u n x (Some a) (asked ++ lock_of_ask a ∷ []) s seen
+ask_seen t u n x asked s seen a grows (NotYet h) = NotYet (record { same = ap (λ ls. ls ++ lock_of_ask a ∷ []) h.same; looked = h.looked; takes = h.takes; taken = h.taken; space = h.space })
+ask_seen t u n x asked s seen a grows (Looking h) = Looking (record { claimed = claimed_open x asked s seen a h.claimed; needs = h.needs; more = h.more; takes = h.takes; taken = h.taken })
+ask_seen t u n x asked s seen a grows (Taking h) = Taking (record {
+  found = record {
+    claimed = claimed_open x asked s seen a h.found.claimed;
+    enough = h.found.enough;
+    above = h.found.above;
+    holds = held_grows PW (held_locks t n asked) (held_locks u n (asked ++ lock_of_ask a ∷ [])) V grows h.found.holds;
+  };
+  needs = h.needs;
+  part = h.part;
+})
+ask_seen t u n x asked s seen a grows (Taken h) = Taken (record {
+  found = record {
+    claimed = claimed_open x asked s seen a h.found.claimed;
+    enough = h.found.enough;
+    above = h.found.above;
+    holds = held_grows PW (held_locks t n asked) (held_locks u n (asked ++ lock_of_ask a ∷ [])) V grows h.found.holds;
+  };
+  all = h.all;
+  clusters = h.clusters;
+  number = h.number;
+  short = h.short;
+})
+ask_seen t u n x asked s seen a grows (Refused h) = Refused (record {
+  claimed = claimed_open x asked s seen a h.claimed;
+  why = h.why;
+  too_little = h.too_little;
+  takes = h.takes;
+  taken = h.taken;
+  clusters = h.clusters;
+  number = h.number;
+  short = h.short;
+})
+
 -- ---- what the command takes for granted of the catalogue
 
-pub is_above : (t : List Resource) (n : ℕ) (x : Cmd) (asked : List (LockName × Mode)) (s : Search) (seen : Seen) → Searches t n x asked s seen → is_new_number seen.number ≡ true
-is_above t n x asked s seen (NotYet h) = ap is_new_number h.space.number
-is_above t n x asked s seen (Looking h) = ap is_new_number h.needs.none.number
-is_above t n x asked s seen (Taking h) = ap is_new_number h.needs.none.number
-is_above t n x asked s seen (Taken h) = ap is_new_number h.number ∙ h.found.above
-is_above t n x asked s seen (Refused h) = ap is_new_number h.number
+pub is_above : (t : List Resource) (n : ℕ) (x : Cmd) (ask : Option Ask) (asked : List (LockName × Mode)) (s : Search) (seen : Seen) → Searches t n x ask asked s seen → is_new_number seen.number ≡ true
+is_above t n x ask asked s seen (NotYet h) = ap is_new_number h.space.number
+is_above t n x ask asked s seen (Looking h) = ap is_new_number h.needs.none.number
+is_above t n x ask asked s seen (Taking h) = ap is_new_number h.needs.none.number
+is_above t n x ask asked s seen (Taken h) = ap is_new_number h.number ∙ h.found.above
+is_above t n x ask asked s seen (Refused h) = ap is_new_number h.number
 
 -- a node that has nothing outside
 record HasNothing (u : UnderWay) : Type 0 where
@@ -237,7 +341,7 @@ module _ (w : Plain) (good : Good w) (n : ℕ) (s : NodeState) (at : node_at w.n
         let i : nodes_under w.locks w.nodes m ≡ under_with w.locks m q (Some y) = under_here w.locks w.nodes m q e ∙ ap (under_with w.locks m q) c in
         ne (sole.writers m n V (subst (λ (u : UnderWay). Has u.write V) (sym i) h) holds)
 
-    by_search : (q : NodeState) (y : Cmd) → node_at w.nodes m ≡ Some q → q.cmd ≡ Some y → Searches w.locks m y q.asked q.search q.seen → HasNothing (under_with w.locks m q (Some y))
+    by_search : (q : NodeState) (y : Cmd) → node_at w.nodes m ≡ Some q → q.cmd ≡ Some y → Searches w.locks m y (granted_ask q.tried q.plan) q.asked q.search q.seen → HasNothing (under_with w.locks m q (Some y))
     by_search q y e c (NotYet h) = record { took = λ i. things (h.space.clusters i) (h.space.number i); stock = no_stock q.search.takes q.search.taken h.takes h.taken }
     by_search q y e c (Looking h) = record { took = λ i. things (h.needs.none.clusters i) (h.needs.none.number i); stock = no_stock q.search.takes q.search.taken h.takes h.taken }
     by_search q y e c (Taking h) = absurd (alone q y e c h.found.holds)
@@ -252,7 +356,7 @@ module _ (w : Plain) (good : Good w) (n : ℕ) (s : NodeState) (at : node_at w.n
     by_node None e = record { took = refl; stock = refl }
     by_node (Some q) e = by_cmd q e q.cmd refl (good.nodes m q e).command
 
-  nobody_outside : (r : IsRefused x s.asked s.search s.seen) → (m : ℕ) → Outs m drive.own nothing nothing
+  nobody_outside : (r : IsRefused x (granted_ask s.tried s.plan) s.asked s.search s.seen) → (m : ℕ) → Outs m drive.own nothing nothing
   nobody_outside r m = elim (same_or_not m n) [ inl e ↦ subst (λ (k : ℕ). Outs k drive.own nothing nothing) (sym e) its | inr ne ↦ other ne ] where
     its : Outs n drive.own nothing nothing
     its =
@@ -262,7 +366,7 @@ module _ (w : Plain) (good : Good w) (n : ℕ) (s : NodeState) (at : node_at w.n
 
     other : m ≢ n → Outs m drive.own nothing nothing
     other ne =
-        let h = others_nothing (holds_all x s.asked s.search s.seen r.claimed) m ne in
+        let h = others_nothing (holds_all x (granted_ask s.tried s.plan) s.asked s.search s.seen r.claimed) m ne in
         subst (λ (k : Things). Outs m drive.own nothing k) h.stock (subst (λ (k : Things). Outs m drive.own k (nodes_under w.locks w.nodes m).stock) h.took (drive.outs m))
 
   -- what was looked at stands, where nothing is written yet
@@ -272,7 +376,7 @@ module _ (w : Plain) (good : Good w) (n : ℕ) (s : NodeState) (at : node_at w.n
       let left = ((stands_joined drive.base (unwritten (take s.search.taken s.search.takes) s.search.looked) s.seen.blocks).0 both).0 in
       part_stands drive.base (unwritten (take s.search.taken s.search.takes) s.search.looked) s.search.looked (λ y h. all_left s.search.takes s.search.taken s.search.looked y none h) left
 
-  by_search : Searches w.locks n x s.asked s.search s.seen → is_short good.running.cat x s.seen.short ≡ true
+  by_search : Searches w.locks n x (granted_ask s.tried s.plan) s.asked s.search s.seen → is_short good.running.cat x s.seen.short ≡ true
   by_search (NotYet h) = ap (is_short good.running.cat x) h.space.short
   by_search (Looking h) = ap (is_short good.running.cat x) h.needs.none.short
   by_search (Taking h) = ap (is_short good.running.cat x) h.needs.none.short
@@ -284,4 +388,4 @@ module _ (w : Plain) (good : Good w) (n : ℕ) (s : NodeState) (at : node_at w.n
       ∙ command_is_short good.running.cat x h.why (subst (λ (f : ℕ). IsTooLittle (clusters_wanted f x) (wants_number x) good.running.cat h.why) (sym drive.spelt.constants.factor) exact)
 
   pub is_known : knows n x s.seen good.running.cat ≡ true
-  is_known = run_knows x now.runs n s.seen good.running.cat good.running.accounted (is_above w.locks n x s.asked s.search s.seen now.search) (by_search now.search)
+  is_known = run_knows x now.runs n s.seen good.running.cat good.running.accounted good.running.opens.held (is_above w.locks n x (granted_ask s.tried s.plan) s.asked s.search s.seen now.search) (by_search now.search)

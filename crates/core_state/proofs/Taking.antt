@@ -18,7 +18,7 @@ use Rattle.vol_under.specs.Under.{IsLawful, IsUnder}
 use Rattle.vol_under.specs.Answering.{IsReply}
 use Rattle.vol_under.specs.Keeping.{Refills, IsBitmap}
 use Rattle.vol_under.proofs.Nodes.{each, changed_here, changed_else}
-use Rattle.vol_under.proofs.Steps.{nodes_alike, plan_keeps, write_keeps, bits_keep}
+use Rattle.vol_under.proofs.Steps.{nodes_alike, plan_keeps, grant_keeps, write_keeps, bits_keep}
 use Rattle.vol_under.proofs.Endings.{answer_keeps}
 use Rattle.core_state.proofs.Driving.{quiet_keeps, looked_stands}
 
@@ -41,18 +41,29 @@ module _ (g : Geometry) (c : Cat) (nodes : ℕ → UnderWay) (drive : List Block
   is_committed sole no_plan l may =
       looked_stands g c nodes drive n l sole under (ap (λ (z : UnderWay). z.plan) is ∙ no_plan) (subst (λ (v : UnderWay). MayLook v.read (guard_of g under.own l)) (sym is) may)
 
+  -- What it knows and its plan become others, of which the writes that are made are the first too.
+  pub replans : (know : Cat → Bool) (plan : List PlannedWrite) → take u.done plan ≡ take u.done u.plan → u.done ≤ length plan → IsLawful g n (record u { knows = know; plan = plan })
+      → ((base : List Block) (own : Owners) → Spells g base own c → StandsIn base u.seen → Outs n own u.took u.stock → (l : ℕ) → Touches (bare plan) l → MayWrite n u.write (guard_of g own l))
+      → IsUnder g c (changed nodes n (record u { knows = know; plan = plan })) drive
+  replans know plan same le law guarded =
+      let Q : UnderWay → Type 0 = λ v. IsUnder g c (changed nodes n (record v { knows = know; plan = plan; took = u.took; stock = u.stock })) drive in
+      let R : UnderWay → Type 0 = λ v. IsLawful g n (record v { knows = know; plan = plan; took = u.took; stock = u.stock }) in
+      subst Q is (plan_keeps g c nodes drive n know plan u.took u.stock under (subst (λ (v : UnderWay). take v.done plan ≡ take v.done v.plan) (sym is) same) (subst (λ (v : UnderWay). v.done ≤ length plan) (sym is) le) (subst R (sym is) law)
+      (λ own o. subst (λ (v : UnderWay). Outs n own v.took v.stock) is o)
+      (λ base own spelt stands o l t. subst (λ (v : UnderWay). MayWrite n v.write (guard_of g own l)) (sym is) (guarded base own spelt (subst (λ (v : UnderWay). StandsIn base v.seen) is stands) o l t)))
+
   -- it decides on writes
   pub decides : u.plan ≡ [] → u.done ≡ 0 → (plan : List PlannedWrite) → IsLawful g n (record u { plan = plan })
       → ((base : List Block) (own : Owners) → Spells g base own c → StandsIn base u.seen → Outs n own u.took u.stock → (l : ℕ) → Touches (bare plan) l → MayWrite n u.write (guard_of g own l))
       → IsUnder g c (changed nodes n (record u { plan = plan })) drive
-  decides no_plan none_done plan law guarded =
-      let Q : UnderWay → Type 0 = λ v. IsUnder g c (changed nodes n (record v { knows = u.knows; plan = plan; took = u.took; stock = u.stock })) drive in
-      let R : UnderWay → Type 0 = λ v. IsLawful g n (record v { knows = u.knows; plan = plan; took = u.took; stock = u.stock }) in
-      let done : (nodes n).done ≡ 0 = ap (λ (v : UnderWay). v.done) is ∙ none_done in
-      let same : take (nodes n).done plan ≡ take (nodes n).done (nodes n).plan = subst (λ (k : ℕ). take k plan ≡ take k (nodes n).plan) (sym done) refl in
-      subst Q is (plan_keeps g c nodes drive n u.knows plan u.took u.stock under same (subst (λ (k : ℕ). k ≤ length plan) (sym done) (omega arith)) (subst R (sym is) law)
-      (λ own o. subst (λ (v : UnderWay). Outs n own v.took v.stock) is o)
-      (λ base own spelt stands o l t. subst (λ (v : UnderWay). MayWrite n v.write (guard_of g own l)) (sym is) (guarded base own spelt (subst (λ (v : UnderWay). StandsIn base v.seen) is stands) o l t)))
+  decides no_plan none_done plan law guarded = replans u.knows plan (subst (λ (k : ℕ). take k plan ≡ take k u.plan) (sym none_done) refl) (subst (λ (k : ℕ). k ≤ length plan) (sym none_done) (omega arith)) law guarded
+
+  -- it is granted more locks
+  pub widens : (read write : List LockName) → ((name : LockName) → Has u.read name → Has read name) → ((name : LockName) → Has u.write name → Has write name)
+      → IsUnder g c (changed nodes n (record u { read = read; write = write })) drive
+  widens read write reads writes =
+      let Q : UnderWay → Type 0 = λ v. IsUnder g c (changed nodes n (record v { read = read; write = write })) drive in
+      subst Q is (grant_keeps g c nodes drive n read write under (λ name h. reads name (subst (λ (v : UnderWay). Has v.read name) is h)) (λ name h. writes name (subst (λ (v : UnderWay). Has v.write name) is h)))
 
   -- it makes the next write of its plan
   pub writes : AreSole nodes → (v : PlannedWrite) → slice_get u.plan u.done ≡ Some v → IsUnder g c (changed nodes n (record u { done = u.done + 1 })) (slice_set drive v.lbn v.block)
@@ -87,11 +98,36 @@ changed_twice nodes n a b m = elim (same_or_not m n) [
 ]
 
 -- nodes that hold the same locks
-still_sole : (nodes others : ℕ → UnderWay) → ((m : ℕ) → (others m).read ≡ (nodes m).read) → ((m : ℕ) → (others m).write ≡ (nodes m).write) → AreSole nodes → AreSole others
+pub still_sole : (nodes others : ℕ → UnderWay) → ((m : ℕ) → (others m).read ≡ (nodes m).read) → ((m : ℕ) → (others m).write ≡ (nodes m).write) → AreSole nodes → AreSole others
 still_sole nodes others read write sole = record {
   writers = λ n m name a b. sole.writers n m name (subst (λ (ls : List LockName). Has ls name) (write n) a) (subst (λ (ls : List LockName). Has ls name) (write m) b);
   readers = λ n m name a b. sole.readers n m name (subst (λ (ls : List LockName). Has ls name) (write n) a) (subst (λ (ls : List LockName). Has ls name) (read m) b);
 }
+
+module _ (g : Geometry) (c : Cat) (nodes : ℕ → UnderWay) (drive : List Block) (n : ℕ) (u : UnderWay) (is : nodes n ≡ u) (under : IsUnder g c nodes drive) where
+  -- its plan becomes another as it is granted more locks
+  pub replans_wider : (know : Cat → Bool) (plan : List PlannedWrite) (read write : List LockName) → ((name : LockName) → Has u.read name → Has read name) → ((name : LockName) → Has u.write name → Has write name)
+      → take u.done plan ≡ take u.done u.plan → u.done ≤ length plan → IsLawful g n (record u { knows = know; plan = plan })
+      → ((base : List Block) (own : Owners) → Spells g base own c → StandsIn base u.seen → Outs n own u.took u.stock → (l : ℕ) → Touches (bare plan) l → MayWrite n u.write (guard_of g own l))
+      → IsUnder g c (changed nodes n (record u { knows = know; plan = plan; read = read; write = write })) drive
+  replans_wider know plan read write reads writes_too same le law guarded =
+      let a : UnderWay = record u { knows = know; plan = plan } in
+      let b : UnderWay = record u { knows = know; plan = plan; read = read; write = write } in
+      let two : IsUnder g c (changed (changed nodes n a) n b) drive
+      = widens g c (changed nodes n a) drive n a (changed_here nodes n a) (replans g c nodes drive n u is under know plan same le law guarded) read write reads writes_too in
+      nodes_alike g c (changed (changed nodes n a) n b) (changed nodes n b) drive (λ m. changed_twice nodes n a b m) two
+
+  -- it answers, by more than it knew when it decided
+  pub answers_by : AreSole nodes → (know : Cat → Bool) → IsLawful g n (record u { knows = know })
+      → ((base : List Block) (own : Owners) → Spells g base own c → StandsIn base u.seen → Outs n own u.took u.stock → (l : ℕ) → Touches (bare u.plan) l → MayWrite n u.write (guard_of g own l))
+      → (x : Cmd) (r : Reply) → know c ≡ true → u.done ≡ length u.plan → IsReply g n (record u { knows = know }) x r → (d : Cat) × Answer c n x r d × IsUnder g d (changed nodes n (idle u)) drive
+  answers_by sole know law guarded x r known done reply =
+      let a : UnderWay = record u { knows = know } in
+      let one : IsUnder g c (changed nodes n a) drive = replans g c nodes drive n u is under know u.plan refl (omega (arith, done)) law guarded in
+      let same_read = each (λ m (v : UnderWay). v.read ≡ (nodes m).read) nodes n a (sym (ap (λ (v : UnderWay). v.read) is)) (λ m ne. refl) in
+      let same_write = each (λ m (v : UnderWay). v.write ≡ (nodes m).write) nodes n a (sym (ap (λ (v : UnderWay). v.write) is)) (λ m ne. refl) in
+      let two = answers g c (changed nodes n a) drive n a (changed_here nodes n a) one (still_sole nodes (changed nodes n a) same_read same_write sole) x r known done reply in
+      (two.0, two.1, nodes_alike g two.0 (changed (changed nodes n a) n (idle a)) (changed nodes n (idle u)) drive (λ m. changed_twice nodes n a (idle u) m) two.2)
 
 -- Node n, which stands as u and has no plan, writes to a block of a bitmap that it has looked at: of what it has seen these
 -- remain, and what the write takes is its stock, or its command's.

@@ -1,5 +1,5 @@
 -- The events that leave the history: each keeps the invariant.
-use Rattle.std.proofs.Common.{◌≡◌, ◌<◌, ◌+◌, ◌++◌, ℕ, zero, suc, Bool, true, false, cond, List, [], ◌∷◌, Option, Some, None, length, map, take, slice_get, slice_set, refl, sym, ap, subst, ◌∙◌, inl, inr, arith}
+use Rattle.std.proofs.Common.{◌≡◌, ◌≤◌, ◌<◌, ◌+◌, ◌++◌, ◌&&◌, not, ℕ, zero, suc, Bool, true, false, cond, List, [], ◌∷◌, Option, Some, None, length, map, take, slice_get, slice_set, refl, sym, ap, subst, ◌∙◌, inl, inr, arith}
 use Rattle.std.specs.Prelude.{slice_index_or}
 use Rattle.std.proofs.lemmas.Option.{slice_get_within}
 use Rattle.vol_words.specs.Fields.{Block}
@@ -11,17 +11,20 @@ use Rattle.lock_db.proofs.Steps.{IsTable-asked}
 use Rattle.plain_cat.specs.declared.mode.Mode.{Mode}
 use Rattle.plain_cat.specs.declared.mode.Mode.TheVariants.{PR, PW}
 use Rattle.plain_cat.specs.declared.command.Cmd.{Cmd}
+use Rattle.plain_cat.specs.declared.cat.Cat.{Cat}
 use Rattle.node_locks.specs.Held.{system_of, names_of, HoldsItsLocks, AreHeld, waits_at, held_locks, with_locks}
+use Rattle.node_locks.specs.HeldLaws.{IsAskedFor}
 use Rattle.node_locks.proofs.Asking.{asking_holds}
 use Rattle.node_locks.proofs.Keeping.{all_are_held}
 use Rattle.vol_owners.specs.Lists.{Has, Touches, StandsIn}
-use Rattle.vol_owners.specs.Owners.{Outs}
+use Rattle.vol_owners.specs.Owners.{Owners, Things, Outs}
 use Rattle.vol_owners.proofs.Writing.{touches_joined, stands_joined}
 use Rattle.vol_owners.proofs.Listing.{has_first}
 use Rattle.vol_parts.specs.declared.geometry.Geometry.{Geometry}
-use Rattle.vol_under.specs.Guards.{guard_of, MayLook}
-use Rattle.vol_under.specs.UnderWay.{UnderWay, changed, AreSole}
-use Rattle.vol_under.specs.Under.{IsUnder}
+use Rattle.vol_spell.specs.Spelling.{Spells}
+use Rattle.vol_under.specs.Guards.{guard_of, MayWrite, MayLook}
+use Rattle.vol_under.specs.UnderWay.{bare, UnderWay, changed, AreSole}
+use Rattle.vol_under.specs.Under.{IsLawful, IsUnder}
 use Rattle.vol_under.proofs.Guarding.{wider_look, wider_write}
 use Rattle.op_law.specs.declared.need.Need.{Need}
 use Rattle.op_law.specs.declared.need.Need.TheVariants as need
@@ -30,22 +33,23 @@ use Rattle.op_law.specs.declared.need.PlanWrite.{PlanWrite}
 use Rattle.op_law.specs.declared.need.Ask.{Ask as PlanAsk}
 use Rattle.op_law.specs.declared.seen.Seen.{Seen}
 use Rattle.op_law.specs.Needs.{IsNext}
-use Rattle.op_law.specs.Fits.{HasSeen, IsSeenOn}
+use Rattle.op_law.specs.Fits.{things, HasSeen, IsSeenOn}
 use Rattle.op_law.specs.Going.{GoesOn, with_block}
-use Rattle.op_law.specs.Knows.{knows}
-use Rattle.op_law.specs.Laws.{held_in, planned, under_way, takes_lock, MayNeed, IsRight, IsPlan}
+use Rattle.op_law.specs.Knows.{knows, is_granted}
+use Rattle.op_law.specs.Laws.{held_in, planned, under_way, takes_lock, MayNeed, AreGuarded, IsRight, IsPlan}
 use Rattle.op_law.proofs.Going.{seen_goes_on}
 use Rattle.core_state.specs.Worlds.{NodeState, Plain, node_at, set_node, locks_in, locks_of}
+use Rattle.core_state.specs.Asks.{writes_by, writes_now, granted_ask, knows_now}
 use Rattle.core_state.specs.Searches.{unwritten, stock_after, Searches}
-use Rattle.core_state.specs.Goods.{is_run, writes_of, under_with, nodes_under, IsAtPlan, IsAt, HasCommand, IsNode, Good}
+use Rattle.core_state.specs.Goods.{under_with, nodes_under, IsAtPlan, IsAt, HasCommand, IsNode, Good}
 use Rattle.core_state.specs.Events.{block_at, turned, asking, looking, deciding, writing}
-use Rattle.core_state.proofs.RunKinds.{run_asks}
 use Rattle.core_state.proofs.Holding.{held_grows}
 use Rattle.core_state.proofs.Driving.{law_grows}
 use Rattle.core_state.proofs.Running.{at_locks, under_now, under_here, are_sole}
 use Rattle.core_state.proofs.Taking.{its_outs, its_seen, its_guards, becomes, is_committed, decides, writes}
 use Rattle.core_state.proofs.Keeping.{altered, rebuilt, held_set, held_same}
 use Rattle.core_state.proofs.Beginning.{alone}
+use Rattle.core_state.proofs.Opens.{opens_asked}
 use Rattle.core_state.proofs.Standing.{locks_within, new_to_all, block_seen, lock_seen, is_known}
 
 -- a block that there is
@@ -65,10 +69,42 @@ planned_at [] k v e = absurd (let f : None ≡ Some v = e in cc)
 planned_at (y ∷ ws) zero v e = let f : Some y ≡ Some v = e in let h : y ≡ v = cc in ap (λ z. Some (planned z)) h
 planned_at (y ∷ ws) (suc k) v e = planned_at ws k v e
 
--- a command that a world runs asks for nothing, so its plan is right as it is
-pub is_right : (x : Cmd) → is_run x ≡ true → (n : ℕ) (seen : Seen) (p : Plan) (o : Option PlanAsk) → IsPlan n x seen p o → IsRight n x seen.geometry (under_way x seen p.writes (knows n x seen)) p.reply
-is_right x runs n seen p None right = right
-is_right x runs n seen p (Some a) right = absurd (run_asks x runs right.0)
+-- what is touched by the first writes is touched by all
+touches_first : (k : ℕ) (ws : List PlanWrite) (l : ℕ) → Touches (bare (map planned (take k ws))) l → Touches (bare (map planned ws)) l
+touches_first zero ws l t = absurd t
+touches_first (suc k) [] l t = absurd t
+touches_first (suc k) (w ∷ ws) l (inl e) = inl e
+touches_first (suc k) (w ∷ ws) l (inr t) = inr (touches_first k ws l t)
+
+-- the writes of a plan that come before its ask are lawful by what is known without it
+first_lawful : (n : ℕ) (x : Cmd) (seen : Seen) (p : Plan) (o : Option PlanAsk) → IsPlan n x seen p o → IsLawful seen.geometry n (under_way x seen (writes_by o false p.writes) (knows n x seen))
+first_lawful n x seen p None right = right.lawful
+first_lawful n x seen p (Some a) right = right.3
+
+-- and guarded, whether it is granted or not
+first_guarded : (n : ℕ) (x : Cmd) (seen : Seen) (p : Plan) (o : Option PlanAsk) → IsPlan n x seen p o → AreGuarded n (under_way x seen (writes_by o false p.writes) (knows n x seen)) seen.geometry
+first_guarded n x seen p None right = right.guarded
+first_guarded n x seen p (Some a) right = λ base own c stock spelt known stands outs l t. by_granted base own c stock spelt known stands outs l t (is_granted n a c) refl where
+  both : (b d : Bool) → b ≡ true → d ≡ true → (b && d) ≡ true
+  both b d e f = ap (λ k. k && d) e ∙ f
+
+  by_granted : (base : List Block) (own : Owners) (c : Cat) (stock : Things) → Spells seen.geometry base own c → knows n x seen c ≡ true → StandsIn base seen.blocks → Outs n own (things seen.clusters seen.number) stock
+      → (l : ℕ) → Touches (bare (map planned (take a.at p.writes))) l → (b : Bool) → is_granted n a c ≡ b → MayWrite n (held_in PW seen.locks) (guard_of seen.geometry own l)
+  by_granted base own c stock spelt known stands outs l t true e = right.1.guarded base own c stock spelt (both (knows n x seen c) _ known e) stands outs l (touches_first a.at p.writes l t)
+  by_granted base own c stock spelt known stands outs l t false e = right.2.guarded base own c stock spelt (both (knows n x seen c) _ known (ap not e)) stands outs l t
+
+-- the first of the first writes are the first of all
+pub taken_first : (k m : ℕ) (ws : List PlanWrite) → k ≤ length (take m ws) → take k (map planned ws) ≡ take k (map planned (take m ws))
+taken_first zero m ws le = refl
+taken_first (suc k) zero ws le = absurd (omega arith)
+taken_first (suc k) (suc m) [] le = refl
+taken_first (suc k) (suc m) (w ∷ ws) le = ap (λ vs. planned w ∷ vs) (taken_first k m ws (omega arith))
+
+pub within_first : (k m : ℕ) (ws : List PlanWrite) → k ≤ length (take m ws) → k ≤ length (map planned ws)
+within_first zero m ws le = omega arith
+within_first (suc k) zero ws le = absurd (omega arith)
+within_first (suc k) (suc m) [] le = absurd (omega arith)
+within_first (suc k) (suc m) (w ∷ ws) le = let l = within_first k m ws (omega arith) in omega arith
 
 -- what holds of names and of one more
 pub names_of_more : (ls : List (LockName × Mode)) (l : LockName × Mode) (P : LockName → Type 0) → ((name : LockName) → Has (names_of ls) name → P name) → P l.0 → (name : LockName) → Has (names_of (ls ++ l ∷ [])) name → P name
@@ -128,8 +164,8 @@ module _ (w : Plain) (good : Good w) (n : ℕ) (s : NodeState) (at : node_at w.n
 
   -- the node with another state, and the same command
   pub is_node : (t : List Resource) (bs : List Block) (r : NodeState) → r.past ≡ s.past → r.seen.geometry ≡ s.seen.geometry → r.seen.channel ≡ s.seen.channel
-      → r.cmd ≡ Some x → r.over ≡ s.over → HasSeen x r.seen → ((name : LockName) → Has (names_of r.seen.locks) name → takes_lock x name ≡ true) → IsAtPlan x (waits_at t n r.asked) r.seen r.done r.plan
-      → Searches t n x r.asked r.search r.seen → IsNode (altered w t bs (set_node w.nodes n r) w.history) n r
+      → r.cmd ≡ Some x → r.over ≡ s.over → HasSeen x r.seen → ((name : LockName) → Has (names_of r.seen.locks) name → takes_lock x name ≡ true) → IsAtPlan x (waits_at t n r.asked) r.seen r.done r.tried r.plan
+      → Searches t n x (granted_ask r.tried r.plan) r.asked r.search r.seen → IsNode (altered w t bs (set_node w.nodes n r) w.history) n r
   is_node t bs r p g c o ov seen own plan search = record {
     past = p ∙ me.past;
     alive = ap (λ y. y.dead) p ∙ me.alive;
@@ -149,55 +185,89 @@ module _ (w : Plain) (good : Good w) (n : ℕ) (s : NodeState) (at : node_at w.n
   may_need next is = under_command.lawful.needs n s.seen drive.base drive.own good.running.cat next under_command.seen seen_on is
 
   pub not_yet : s.plan ≡ None → s.done ≡ 0
-  not_yet no_plan = subst (IsAtPlan x (waits_at w.locks n s.asked) s.seen s.done) no_plan under_command.plan
+  not_yet no_plan = subst (IsAtPlan x (waits_at w.locks n s.asked) s.seen s.done s.tried) no_plan under_command.plan
+
+  -- its search stands without an ask, and so it will
+  pub search_now : s.plan ≡ None → Searches w.locks n x None s.asked s.search s.seen
+  search_now no_plan = subst (λ (o : Option Plan). Searches w.locks n x (granted_ask s.tried o) s.asked s.search s.seen) no_plan under_command.search
+
+  search_then : s.plan ≡ None → (t : List Resource) (asked : List (LockName × Mode)) (seen : Seen) → Searches t n x None asked s.search seen → Searches t n x (granted_ask s.tried s.plan) asked s.search seen
+  search_then no_plan t asked seen h = subst (λ (o : Option Plan). Searches t n x (granted_ask s.tried o) asked s.search seen) (sym no_plan) h
 
   pub no_writes_now : s.plan ≡ None → (at_locks n s x s.asked).plan ≡ []
-  no_writes_now no_plan = ap (λ o. map planned (writes_of o)) no_plan
+  no_writes_now no_plan = ap (λ o. map planned (writes_now s.tried o)) no_plan
 
   -- it holds the locks of its command
   pub reads_more : (name : LockName) → Has (held_in PR s.seen.locks) name → Has (held_in PR s.asked) name
-  reads_more name h = held_grows PR s.seen.locks s.asked name (locks_within w.locks n x s.asked s.search s.seen under_command.search) h
+  reads_more name h = held_grows PR s.seen.locks s.asked name (locks_within w.locks n x (granted_ask s.tried s.plan) s.asked s.search s.seen under_command.search) h
 
   pub writes_more : (name : LockName) → Has (held_in PW s.seen.locks) name → Has (held_in PW s.asked) name
-  writes_more name h = held_grows PW s.seen.locks s.asked name (locks_within w.locks n x s.asked s.search s.seen under_command.search) h
+  writes_more name h = held_grows PW s.seen.locks s.asked name (locks_within w.locks n x (granted_ask s.tried s.plan) s.asked s.search s.seen under_command.search) h
 
   -- it asks for a lock on a name that it has none on
-  pub asked_keep : s.plan ≡ None → (name : LockName) (mode : Mode) → (Has (names_of s.asked) name → ⊥) → (r : NodeState) → r.asked ≡ s.asked ++ (name, mode) ∷ [] → r.cmd ≡ Some x
-      → ((ls : List (LockName × Mode)) → at_locks n s x ls ≡ at_locks n r x ls)
+  pub asks_new : (name : LockName) (mode : Mode) → (Has (names_of s.asked) name → ⊥) → IsAskedFor n (name, mode) (locks_of w.nodes) w.locks (asked name (system_of n) mode w.locks)
+  asks_new name mode new =
+      let mine : locks_of w.nodes n ≡ s.asked = ap locks_in at in
+      asking_holds w.locks n (name, mode) (locks_of w.nodes) good.locked.1
+      (subst (λ (ls : List (LockName × Mode)). waits_at w.locks n ls ≡ false) (sym mine) free)
+      (λ h. new (subst (λ (ls : List (LockName × Mode)). Has (names_of ls) name) mine h))
+
+  -- it waits for it where it is not granted at once
+  pub asks_wait : (name : LockName) (mode : Mode) → (Has (names_of s.asked) name → ⊥)
+      → waits_at (asked name (system_of n) mode w.locks) n (s.asked ++ (name, mode) ∷ []) ≡ not (goes_at_once (system_of n) mode (resource_at name w.locks).askers)
+  asks_wait name mode new =
+      let mine : locks_of w.nodes n ≡ s.asked = ap locks_in at in
+      subst (λ (ls : List (LockName × Mode)). waits_at (asked name (system_of n) mode w.locks) n (ls ++ (name, mode) ∷ []) ≡ not (goes_at_once (system_of n) mode (resource_at name w.locks).askers)) mine (asks_new name mode new).waits
+
+  -- the world with the lock asked for, where the drive is under way with it
+  pub asked_then : (name : LockName) (mode : Mode) → (Has (names_of s.asked) name → ⊥) → (r : NodeState) → r.asked ≡ s.asked ++ (name, mode) ∷ []
+      → (((l : LockName × Mode) → Has s.asked l → Has (held_locks (asked name (system_of n) mode w.locks) n r.asked) l)
+      → IsUnder w.geometry good.running.cat (changed (nodes_under w.locks w.nodes) n (under_with (asked name (system_of n) mode w.locks) n r r.cmd)) w.blocks)
       → (((l : LockName × Mode) → Has (held_locks w.locks n s.asked) l → Has (held_locks (asked name (system_of n) mode w.locks) n r.asked) l) → IsNode (altered w (asked name (system_of n) mode w.locks) w.blocks (set_node w.nodes n r) w.history) n r)
       → Good (altered w (asked name (system_of n) mode w.locks) w.blocks (set_node w.nodes n r) w.history)
-  asked_keep no_plan name mode new r more cmd_is alike node =
+  asked_then name mode new r more under node =
       let t : List Resource = asked name (system_of n) mode w.locks in
       let mine : locks_of w.nodes n ≡ s.asked = ap locks_in at in
       let table : IsTable t = IsTable-asked name (system_of n) mode w.locks good.locked.0 ((subst (λ (ls : List (LockName × Mode)). HoldsItsLocks w.locks n ls) mine (good.locked.1 n)).no_other name new) in
-      let after = asking_holds w.locks n (name, mode) (locks_of w.nodes) good.locked.1
-      (subst (λ (ls : List (LockName × Mode)). waits_at w.locks n ls ≡ false) (sym mine) free)
-      (λ h. new (subst (λ (ls : List (LockName × Mode)). Has (names_of ls) name) mine h)) in
+      let after = asks_new name mode new in
       let held : AreHeld t (with_locks (locks_of w.nodes) n r.asked)
       = subst (λ (ls : List (LockName × Mode)). AreHeld t (with_locks (locks_of w.nodes) n ls)) (ap (λ ls. ls ++ (name, mode) ∷ []) mine ∙ sym more) after.held in
       let grows : (l : LockName × Mode) → Has s.asked l → Has (held_locks t n r.asked) l = λ l h.
       let e : held_locks t n (s.asked ++ (name, mode) ∷ []) ≡ cond (goes_at_once (system_of n) mode (resource_at name w.locks).askers) (s.asked ++ (name, mode) ∷ []) s.asked
       = subst (λ (ls : List (LockName × Mode)). held_locks t n (ls ++ (name, mode) ∷ []) ≡ cond (goes_at_once (system_of n) mode (resource_at name w.locks).askers) (ls ++ (name, mode) ∷ []) ls) mine after.own in
       subst (λ (ls : List (LockName × Mode)). Has (held_locks t n ls) l) (sym more) (subst (λ (ls : List (LockName × Mode)). Has ls l) (sym e) (has_either s.asked (name, mode) l h (goes_at_once (system_of n) mode (resource_at name w.locks).askers))) in
-      let v : UnderWay = at_locks n s x (held_locks t n r.asked) in
-      let up = becomes s.seen.geometry good.running.cat (nodes_under w.locks w.nodes) w.blocks n (at_locks n s x s.asked) here drive (no_writes_now no_plan) v (no_writes_now no_plan) (not_yet no_plan) outs_now seen_now
-      (λ l h. wider_look (held_in PR s.asked) (held_in PR (held_locks t n r.asked)) (λ m k. held_grows PR s.asked (held_locks t n r.asked) m grows k) (guard_of s.seen.geometry drive.own l) (guards_now l h)) in
-      let there : v ≡ under_with t n r r.cmd = alike (held_locks t n r.asked) ∙ ap (under_with t n r) (sym cmd_is) in
       rebuilt w good n s r at t w.blocks w.history
       (record {
         cat = good.running.cat;
         replayed = good.running.replayed;
         drive = under_now w.geometry good.running.cat w.locks t w.nodes n s r w.blocks at
-            (λ m q ne e. subst (λ (ls : List (LockName × Mode)). held_locks t m ls ≡ held_locks w.locks m ls) (ap locks_in e) (after.others_hold m ne))
-            (subst (λ (u : UnderWay). IsUnder w.geometry good.running.cat (changed (nodes_under w.locks w.nodes) n u) w.blocks) there (back v w.blocks up));
+            (λ m q ne e. subst (λ (ls : List (LockName × Mode)). held_locks t m ls ≡ held_locks w.locks m ls) (ap locks_in e) (after.others_hold m ne)) (under grows);
         accounted = good.running.accounted;
         system = good.running.system;
+        opens = opens_asked name n mode w.locks good.running.cat good.running.opens;
       })
       (table, held_set t w.nodes n s r at held) good.own (λ m ne. refl)
       (λ m q ne e waits. subst (λ (ls : List (LockName × Mode)). waits_at t m ls ≡ false) (ap locks_in e)
       (after.others_wait m ne ∙ subst (λ (ls : List (LockName × Mode)). waits_at w.locks m ls ≡ false) (sym (ap locks_in e)) waits))
       (λ m q ne e l h. subst (λ (ls : List (LockName × Mode)). Has ls l) (sym (subst (λ (ls : List (LockName × Mode)). held_locks t m ls ≡ held_locks w.locks m ls) (ap locks_in e) (after.others_hold m ne))) h)
       (node (λ l h. grows l (subst (λ (ls : List (LockName × Mode)). Has ls l) all_here h)))
+
+  -- it does so before it decides
+  pub asked_keep : s.plan ≡ None → (name : LockName) (mode : Mode) → (Has (names_of s.asked) name → ⊥) → (r : NodeState) → r.asked ≡ s.asked ++ (name, mode) ∷ [] → r.cmd ≡ Some x
+      → ((ls : List (LockName × Mode)) → at_locks n s x ls ≡ at_locks n r x ls)
+      → (((l : LockName × Mode) → Has (held_locks w.locks n s.asked) l → Has (held_locks (asked name (system_of n) mode w.locks) n r.asked) l) → IsNode (altered w (asked name (system_of n) mode w.locks) w.blocks (set_node w.nodes n r) w.history) n r)
+      → Good (altered w (asked name (system_of n) mode w.locks) w.blocks (set_node w.nodes n r) w.history)
+  asked_keep no_plan name mode new r more cmd_is alike node = asked_then name mode new r more under node where
+    t : List Resource
+    t = asked name (system_of n) mode w.locks
+
+    under : ((l : LockName × Mode) → Has s.asked l → Has (held_locks t n r.asked) l) → IsUnder w.geometry good.running.cat (changed (nodes_under w.locks w.nodes) n (under_with t n r r.cmd)) w.blocks
+    under grows =
+        let v : UnderWay = at_locks n s x (held_locks t n r.asked) in
+        let up = becomes s.seen.geometry good.running.cat (nodes_under w.locks w.nodes) w.blocks n (at_locks n s x s.asked) here drive (no_writes_now no_plan) v (no_writes_now no_plan) (not_yet no_plan) outs_now seen_now
+        (λ l h. wider_look (held_in PR s.asked) (held_in PR (held_locks t n r.asked)) (λ m k. held_grows PR s.asked (held_locks t n r.asked) m grows k) (guard_of s.seen.geometry drive.own l) (guards_now l h)) in
+        let there : v ≡ under_with t n r r.cmd = alike (held_locks t n r.asked) ∙ ap (under_with t n r) (sym cmd_is) in
+        subst (λ (u : UnderWay). IsUnder w.geometry good.running.cat (changed (nodes_under w.locks w.nodes) n u) w.blocks) there (back v w.blocks up)
 
   -- a lock is asked for
   pub asks_keep : s.plan ≡ None → (name : LockName) (mode : Mode) → IsNext x s.seen (need.Lock name mode)
@@ -206,11 +276,11 @@ module _ (w : Plain) (good : Good w) (n : ℕ) (s : NodeState) (at : node_at w.n
       let t : List Resource = asked name (system_of n) mode w.locks in
       let r : NodeState = turned (asking s x name mode) in
       let may = may_need (need.Lock name mode) is in
-      asked_keep no_plan name mode (new_to_all w.locks n x s.asked s.search s.seen under_command.search name may.own may.new) r refl refl (λ ls. refl)
+      asked_keep no_plan name mode (new_to_all w.locks n x s.asked s.search s.seen (search_now no_plan) name may.own may.new) r refl refl (λ ls. refl)
       (λ grows. is_node t w.blocks r refl refl refl refl refl (goes.granted s.seen name mode under_command.seen is)
       (names_of_more s.seen.locks (name, mode) (λ m. takes_lock x m ≡ true) under_command.own may.own)
-      (subst (IsAtPlan x (waits_at t n r.asked) r.seen s.done) (sym no_plan) (not_yet no_plan))
-      (lock_seen w.locks t n x s.asked s.search s.seen name mode (λ k b e. absurd (let f : need.Lock name mode ≡ need.Space k b = sym is ∙ e in cc)) grows under_command.search))
+      (subst (IsAtPlan x (waits_at t n r.asked) r.seen s.done s.tried) (sym no_plan) (not_yet no_plan))
+      (search_then no_plan t r.asked r.seen (lock_seen w.locks t n x s.asked s.search s.seen name mode (λ k b e. absurd (let f : need.Lock name mode ≡ need.Space k b = sym is ∙ e in cc)) grows (search_now no_plan))))
 
   -- a block is looked at
   pub looks_keep : s.plan ≡ None → (lbn : ℕ) → HasSeen x (with_block lbn (block_at w.blocks lbn) s.seen) → ((k : ℕ) (b : Bool) → IsNext x s.seen (need.Space k b) → ⊥)
@@ -235,33 +305,39 @@ module _ (w : Plain) (good : Good w) (n : ℕ) (s : NodeState) (at : node_at w.n
       ]) in
       let there : at_locks n r x s.asked ≡ under_with w.locks n r (Some x) = ap (at_locks n r x) (sym all_here) in
       alone w good n s at r refl (subst (λ (u : UnderWay). IsUnder w.geometry good.running.cat (changed (nodes_under w.locks w.nodes) n u) w.blocks) there (back (at_locks n r x s.asked) w.blocks v))
-      (is_node w.locks w.blocks r refl refl refl refl refl seen under_command.own (subst (IsAtPlan x (waits_at w.locks n s.asked) r.seen s.done) (sym no_plan) (not_yet no_plan))
-      (block_seen w.locks n x s.asked s.search s.seen lbn b never under_command.search))
+      (is_node w.locks w.blocks r refl refl refl refl refl seen under_command.own (subst (IsAtPlan x (waits_at w.locks n s.asked) r.seen s.done s.tried) (sym no_plan) (not_yet no_plan))
+      (search_then no_plan w.locks s.asked r.seen (block_seen w.locks n x s.asked s.search s.seen lbn b never (search_now no_plan))))
 
   -- the plan is made
   pub decides_keep : s.plan ≡ None → (p : Plan) → IsNext x s.seen (need.Ready p) → Good (altered w w.locks w.blocks (set_node w.nodes n (turned (deciding s x p))) w.history)
   decides_keep no_plan p is =
       let r : NodeState = turned (deciding s x p) in
-      let right : IsRight n x s.seen.geometry (under_way x s.seen p.writes (knows n x s.seen)) p.reply = is_right x under_command.runs n s.seen p p.ask (under_command.lawful.plans n s.seen p under_command.seen is) in
-      let u : UnderWay = at_locks n s x s.asked in
+      let law : IsPlan n x s.seen p p.ask = under_command.lawful.plans n s.seen p under_command.seen is in
+      let ws : List PlanWrite = writes_by p.ask false p.writes in
+      let u : UnderWay = record (at_locks n s x s.asked) { knows = knows n x s.seen } in
+      let now : nodes_under w.locks w.nodes n ≡ u = here ∙ (λ i. record (at_locks n s x s.asked) { knows = knows_now n x s.seen s.tried (no_plan i) }) in
       let left : List (ℕ × Block) = unwritten (take s.search.taken s.search.takes) s.search.looked in
-      let v = decides s.seen.geometry good.running.cat (nodes_under w.locks w.nodes) w.blocks n u here drive (no_writes_now no_plan) (not_yet no_plan) (map planned p.writes)
-      (law_grows s.seen.geometry n (under_way x s.seen p.writes (knows n x s.seen)) (held_in PR s.asked) (held_in PW s.asked) left s.done (stock_after s.search.takes s.search.taken) writes_more right.lawful)
+      let v = decides s.seen.geometry good.running.cat (nodes_under w.locks w.nodes) w.blocks n u now drive (no_writes_now no_plan) (not_yet no_plan) (map planned ws)
+      (law_grows s.seen.geometry n (under_way x s.seen ws (knows n x s.seen)) (held_in PR s.asked) (held_in PW s.asked) left s.done (stock_after s.search.takes s.search.taken) writes_more (first_lawful n x s.seen p p.ask law))
       (λ base own spelt stands outs l t. wider_write n (held_in PW s.seen.locks) (held_in PW s.asked) writes_more (guard_of s.seen.geometry own l)
-      (right.guarded base own good.running.cat (stock_after s.search.takes s.search.taken) spelt known ((stands_joined base left s.seen.blocks).0 stands).1 outs l t)) in
-      let there : record u { plan = map planned p.writes } ≡ under_with w.locks n r (Some x)
+      (first_guarded n x s.seen p p.ask law base own good.running.cat (stock_after s.search.takes s.search.taken) spelt known ((stands_joined base left s.seen.blocks).0 stands).1 outs l t)) in
+      let there : record u { plan = map planned ws } ≡ under_with w.locks n r (Some x)
       = λ i. record (at_locks n r x (sym all_here i)) { done = not_yet no_plan i } in
-      alone w good n s at r refl (subst (λ (u : UnderWay). IsUnder w.geometry good.running.cat (changed (nodes_under w.locks w.nodes) n u) w.blocks) there (back (record u { plan = map planned p.writes }) w.blocks v))
-      (is_node w.locks w.blocks r refl refl refl refl refl under_command.seen under_command.own (is, free, omega arith) under_command.search)
+      alone w good n s at r refl (subst (λ (u : UnderWay). IsUnder w.geometry good.running.cat (changed (nodes_under w.locks w.nodes) n u) w.blocks) there (back (record u { plan = map planned ws }) w.blocks v))
+      (is_node w.locks w.blocks r refl refl refl refl refl under_command.seen under_command.own (is, free, omega arith) (search_now no_plan))
+
+  -- what it has decided on
+  pub made_of : (p : Plan) → s.plan ≡ Some p → IsAtPlan x (waits_at w.locks n s.asked) s.seen s.done s.tried (Some p)
+  made_of p plan = subst (IsAtPlan x (waits_at w.locks n s.asked) s.seen s.done s.tried) plan under_command.plan
 
   -- a block is written
-  pub writes_keep : (p : Plan) → s.plan ≡ Some p → (v : PlanWrite) → slice_get p.writes s.done ≡ Some v
+  pub writes_keep : (p : Plan) → s.plan ≡ Some p → (v : PlanWrite) → slice_get (writes_by p.ask s.tried p.writes) s.done ≡ Some v
       → Good (altered w w.locks (slice_set w.blocks v.lbn v.block) (set_node w.nodes n (turned (writing s))) w.history)
   writes_keep p plan v next =
       let r : NodeState = turned (writing s) in
       let bs : List Block = slice_set w.blocks v.lbn v.block in
-      let made = subst (IsAtPlan x (waits_at w.locks n s.asked) s.seen s.done) plan under_command.plan in
-      let planned_next : slice_get (map planned (writes_of s.plan)) s.done ≡ Some (planned v) = ap (λ o. slice_get (map planned (writes_of o)) s.done) plan ∙ planned_at p.writes s.done v next in
+      let made = made_of p plan in
+      let planned_next : slice_get (map planned (writes_now s.tried s.plan)) s.done ≡ Some (planned v) = ap (λ o. slice_get (map planned (writes_now s.tried o)) s.done) plan ∙ planned_at (writes_by p.ask s.tried p.writes) s.done v next in
       let u = writes w.geometry good.running.cat (nodes_under w.locks w.nodes) w.blocks n (at_locks n s x s.asked) here good.running.drive my_sole (planned v) planned_next in
       let there : at_locks n r x s.asked ≡ under_with w.locks n r s.cmd = ap (at_locks n r x) (sym all_here) ∙ ap (under_with w.locks n r) (sym cmd) in
       rebuilt w good n s r at w.locks bs w.history
@@ -272,7 +348,8 @@ module _ (w : Plain) (good : Good w) (n : ℕ) (s : NodeState) (at : node_at w.n
             (subst (λ (u : UnderWay). IsUnder w.geometry good.running.cat (changed (nodes_under w.locks w.nodes) n u) bs) there u);
         accounted = good.running.accounted;
         system = good.running.system;
+        opens = good.running.opens;
       })
       (good.locked.0, held_same w.locks w.nodes n s r at refl good.locked.1) good.own (λ m ne. refl) (λ m q ne e waits. waits) (λ m q ne e l h. h)
       (is_node w.locks bs r refl refl refl cmd refl under_command.seen under_command.own
-      (subst (IsAtPlan x (waits_at w.locks n s.asked) s.seen (s.done + 1)) (sym plan) (made.0, made.1, (let lt : s.done < length p.writes = slice_get_within p.writes s.done v next in omega arith))) under_command.search)
+      (subst (IsAtPlan x (waits_at w.locks n s.asked) s.seen (s.done + 1) s.tried) (sym plan) (made.0, made.1, (let lt : s.done < length (writes_by p.ask s.tried p.writes) = slice_get_within (writes_by p.ask s.tried p.writes) s.done v next in omega arith))) under_command.search)

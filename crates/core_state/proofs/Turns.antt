@@ -23,6 +23,7 @@ use Rattle.node_space.specs.declared.outcome.Search.{Search as Outcome}
 use Rattle.node_space.specs.declared.outcome.Search.TheVariants as search
 use Rattle.node_space.specs.Answering.{answer, blocks_of}
 use Rattle.core_state.specs.Worlds.{NodeState, Plain, node_at, set_node, with_node, current, or_next}
+use Rattle.core_state.specs.Asks.{writes_by}
 use Rattle.core_state.specs.Goods.{under_with, nodes_under, HasCommand, IsNode, Good}
 use Rattle.core_state.specs.Events.{begun, Rest, Stand, has_asked, block_at, asking, claiming, looking, deciding, by_answer, by_takes, by_search, by_need, by_write, by_plan, by_command, event_of, happens, happen_at, after_turn, turned, leaving}
 use Rattle.core_state.proofs.Nodes.{at_here, set_node_twice}
@@ -31,7 +32,7 @@ use Rattle.core_state.proofs.Keeping.{altered}
 use Rattle.core_state.proofs.Beginning.{alone, begins}
 use Rattle.core_state.proofs.Turning.{under_command, drive, may_need, goes, asks_keep, looks_keep, decides_keep, writes_keep}
 use Rattle.core_state.proofs.Searching.{claims_keep, scans_keep, grabs_keep}
-use Rattle.core_state.proofs.Answering.{answers_keep}
+use Rattle.core_state.proofs.Trying.{ends_keep}
 
 -- ---- a node that does nothing
 
@@ -116,13 +117,13 @@ module _ (w : Plain) (good : Good w) (n : ℕ) (s : NodeState) (at : node_at w.n
   need_keeps no_plan (need.Space clusters number) is = search_keeps no_plan clusters number is
   need_keeps no_plan (need.Ready p) is = decides_keep w good n s at x cmd free no_plan p is
 
-  write_keeps : (p : Plan) → s.plan ≡ Some p → (o : Option PlanWrite) → slice_get p.writes s.done ≡ o → Good (happens w n s (by_write x p.reply o))
+  write_keeps : (p : Plan) → s.plan ≡ Some p → (o : Option PlanWrite) → slice_get (writes_by p.ask s.tried p.writes) s.done ≡ o → Good (happens w n s (by_write x p s.tried o))
   write_keeps p plan (Some v) next = writes_keep w good n s at x cmd free p plan v next
-  write_keeps p plan None last = answers_keep w good n s at x cmd free p plan last
+  write_keeps p plan None last = ends_keep w good n s at x cmd free p plan last
 
   pub plan_keeps : (o : Option Plan) → s.plan ≡ o → Good (happens w n s (by_plan x s o))
   plan_keeps None e = need_keeps e (need_of x s.seen) refl
-  plan_keeps (Some p) e = write_keeps p e (slice_get p.writes s.done) refl
+  plan_keeps (Some p) e = write_keeps p e (slice_get (writes_by p.ask s.tried p.writes) s.done) refl
 
 -- ---- any node
 

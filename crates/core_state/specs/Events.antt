@@ -3,9 +3,10 @@ use Rattle.std.specs.Prelude.{◌==◌, ◌+◌, ◌-◌, ◌^◌, ◌++◌, ◌
 use Rattle.std.specs.List.{list_any}
 use Rattle.vol_words.specs.Fields.{Block}
 use Rattle.lock_db.specs.declared.name.LockName.{LockName}
-use Rattle.lock_db.specs.declared.name.LockName.TheVariants.{V}
+use Rattle.lock_db.specs.declared.name.LockName.TheVariants.{A, V}
 use Rattle.lock_db.specs.declared.resource.Resource.{Resource}
 use Rattle.lock_db.specs.Names.{is_same}
+use Rattle.lock_db.specs.Resources.{goes_at_once}
 use Rattle.lock_db.specs.Tables.{resource_at, asked, released}
 use Rattle.plain_cat.specs.declared.mode.Mode.{Mode}
 use Rattle.plain_cat.specs.declared.mode.Mode.TheVariants.{PW}
@@ -20,6 +21,7 @@ use Rattle.op_law.specs.declared.need.Need.{Need}
 use Rattle.op_law.specs.declared.need.Need.TheVariants as need
 use Rattle.op_law.specs.declared.need.Plan.{Plan}
 use Rattle.op_law.specs.declared.need.PlanWrite.{PlanWrite}
+use Rattle.op_law.specs.declared.need.Ask.{Ask as PlanAsk}
 use Rattle.op_law.specs.declared.seen.Seen.{Seen}
 use Rattle.op_law.specs.Needs.{need_of}
 use Rattle.op_law.specs.Going.{with_lock, with_block, with_space}
@@ -27,7 +29,7 @@ use Rattle.node_space.specs.declared.outcome.Search.{Search as Outcome}
 use Rattle.node_space.specs.declared.outcome.Search.TheVariants as search
 use Rattle.node_space.specs.Answering.{answer, blocks_of}
 use Rattle.core_state.specs.Worlds.{Search, no_search, NodeState, Plain, node_at, with_node, current}
-use Rattle.core_state.specs.Goods.{writes_of}
+use Rattle.core_state.specs.Asks.{writes_by, writes_now, lock_of_ask}
 use Rattle.core_state.specs.Raises.{raise_of}
 
 pub data Event : Type 0 where
@@ -51,6 +53,8 @@ pub data Event : Type 0 where
   Decide : Cmd → Plan → Event
   -- it makes the next write of its plan
   Put : PlanWrite → Event
+  -- behind the writes before it, it asks without waiting: where the ask is granted it goes on, and else it answers
+  Try : Cmd → PlanAsk → Event
   -- it answers
   Answer : Cmd → Reply → Event
 
@@ -82,14 +86,20 @@ by_need x s (need.Bare lbn) = See x lbn
 by_need x s (need.Space clusters number) = by_search x s clusters number (has_asked V s.asked)
 by_need x s (need.Ready p) = Decide x p
 
--- the next write of a plan, and behind them the answer
-abbrev pub by_write : Cmd → Reply → Option PlanWrite → Event
-by_write x r (Some w) = Put w
-by_write x r None = Answer x r
+-- behind the writes an ask that was not granted yet, or the answer
+abbrev pub by_end : Cmd → Reply → Bool → Option PlanAsk → Event
+by_end x r tried None = Answer x r
+by_end x r true (Some a) = Answer x r
+by_end x r false (Some a) = Try x a
+
+-- the next write of a plan, and behind them what ends it
+abbrev pub by_write : Cmd → Plan → Bool → Option PlanWrite → Event
+by_write x p tried (Some w) = Put w
+by_write x p tried None = by_end x p.reply tried p.ask
 
 abbrev pub by_plan : Cmd → NodeState → Option Plan → Event
 by_plan x s None = by_need x s (need_of x s.seen)
-by_plan x s (Some p) = by_write x p.reply (slice_get p.writes s.done)
+by_plan x s (Some p) = by_write x p s.tried (slice_get (writes_by p.ask s.tried p.writes) s.done)
 
 abbrev pub by_command : NodeState → Option Cmd → Event
 by_command s None = Leave
@@ -121,9 +131,9 @@ abbrev pub given_back : Geometry → ℕ → List PlanWrite → List (LockName �
 given_back g n ws [] t = t
 given_back g n ws (l ∷ locks) t = given_back g n ws locks (released l.0 (system_of n) (raised_block (raise_of g l.0 ws) (resource_at l.0 t)) t)
 
--- the writes of a node's search and those of its plan
+-- the writes of a node's search and those of its plan, where its ask was not granted those before it
 abbrev pub all_writes : NodeState → List PlanWrite
-all_writes s = s.search.takes ++ writes_of s.plan
+all_writes s = s.search.takes ++ writes_now s.tried s.plan
 
 -- nothing is seen yet
 abbrev pub unseen : Seen → Seen
@@ -184,16 +194,34 @@ grabbing s v = record s {
 }
 
 abbrev pub deciding : NodeState → Cmd → Plan → NodeState
-deciding s x p = record s { cmd = Some x; plan = Some p; done = 0 }
+deciding s x p = record s { cmd = Some x; plan = Some p; done = 0; tried = false }
+
+-- its ask was granted
+abbrev pub trying : NodeState → PlanAsk → NodeState
+trying s a = record s { asked = s.asked ++ lock_of_ask a ∷ []; tried = true }
 
 abbrev pub writing : NodeState → NodeState
 writing s = record s { done = s.done + 1; writes = one_more s.writes }
 
 abbrev pub answering : NodeState → Cmd → Reply → NodeState
-answering s x r = record s { past = after_answer s.past x r; cmd = None; seen = unseen s.seen; plan = None; done = 0; asked = []; search = no_search }
+answering s x r = record s { past = after_answer s.past x r; cmd = None; seen = unseen s.seen; plan = None; done = 0; tried = false; asked = []; search = no_search }
 
 abbrev pub leaving : NodeState → NodeState
 leaving s = record s { over = true }
+
+-- node n, which stands as s, answers
+abbrev pub answered_by : Plain → ℕ → NodeState → Cmd → Reply → Plain
+answered_by w n s x r =
+    with_node (record w { history = w.history ++ Done n x r ∷ []; locks = given_back w.geometry n (all_writes s) s.asked w.locks }) n (turned (answering s x r))
+
+-- an ask of node n's file system would be granted
+abbrev pub would_go : Plain → ℕ → PlanAsk → Bool
+would_go w n a = goes_at_once (system_of n) a.mode (resource_at (A a.file) w.locks).askers
+
+-- node n asks: it goes on where that is granted, and else it answers
+abbrev pub tried_by : Plain → ℕ → NodeState → Cmd → PlanAsk → Bool → Plain
+tried_by w n s x a true = with_node (record w { locks = asked (A a.file) (system_of n) a.mode w.locks }) n (turned (trying s a))
+tried_by w n s x a false = answered_by w n s x a.refused
 
 -- an event of node n, which stands as s
 abbrev pub happens : Plain → ℕ → NodeState → Event → Plain
@@ -207,8 +235,8 @@ happens w n s (Scan x clusters number lbn) = with_node w n (turned (scanning s x
 happens w n s (Grab v) = with_node (record w { blocks = slice_set w.blocks v.lbn v.block }) n (turned (grabbing s v))
 happens w n s (Decide x p) = with_node w n (turned (deciding s x p))
 happens w n s (Put v) = with_node (record w { blocks = slice_set w.blocks v.lbn v.block }) n (turned (writing s))
-happens w n s (Answer x r) =
-    with_node (record w { history = w.history ++ Done n x r ∷ []; locks = given_back w.geometry n (all_writes s) s.asked w.locks }) n (turned (answering s x r))
+happens w n s (Try x a) = tried_by w n s x a (would_go w n a)
+happens w n s (Answer x r) = answered_by w n s x r
 
 abbrev pub happen_at : Plain → ℕ → Option NodeState → Event → Plain
 happen_at w n None e = w

@@ -1,5 +1,5 @@
 -- The invariant of a world, in parts.
-use Rattle.std.specs.Prelude.{◌≡◌, ◌≤◌, ◌+◌, ◌++◌, ◌||◌, not, take, ℕ, Bool, true, false, List, [], ◌∷◌, Option, Some, None, is_some, length, replicate, if◌then◌else◌}
+use Rattle.std.specs.Prelude.{◌≡◌, ◌≤◌, ◌+◌, ◌++◌, not, take, ℕ, Bool, true, false, List, [], ◌∷◌, Option, Some, None, is_some, length, replicate, if◌then◌else◌}
 use Rattle.lock_db.specs.declared.name.LockName.{LockName}
 use Rattle.lock_db.specs.declared.resource.Resource.{Resource}
 use Rattle.plain_cat.specs.declared.mode.Mode.TheVariants.{PR, PW}
@@ -19,31 +19,28 @@ use Rattle.vol_under.specs.UnderWay.{UnderWay, resting}
 use Rattle.vol_under.specs.Under.{IsUnder}
 use Rattle.op_law.specs.declared.need.Need.TheVariants as need
 use Rattle.op_law.specs.declared.need.Plan.{Plan}
-use Rattle.op_law.specs.declared.need.PlanWrite.{PlanWrite}
 use Rattle.op_law.specs.declared.seen.Seen.{Seen}
 use Rattle.op_law.specs.Events.{space_of, HasNoSpace}
 use Rattle.op_law.specs.Needs.{IsNext}
 use Rattle.op_law.specs.Fits.{HasSeen}
-use Rattle.op_law.specs.Knows.{channel_of, may_ask, knows}
+use Rattle.op_law.specs.Knows.{channel_of}
 use Rattle.op_law.specs.Laws.{held_in, under_way, takes_lock, Lawful}
 use Rattle.core_state.specs.Worlds.{NodeState, no_search, Plain, node_at, locks_of}
+use Rattle.core_state.specs.Asks.{writes_by, writes_now, granted_ask, knows_now}
+use Rattle.core_state.specs.Opens.{AreOpensLocked}
 use Rattle.core_state.specs.Searches.{unwritten, stock_after, Searches}
 
--- The commands that a world runs so far: those that ask for no lock of opens and name no channel.
+-- The commands that a world runs so far: those that name no channel.
 unfoldable pub is_run : Cmd → Bool
-is_run x = not (may_ask x || is_some (channel_of x))
+is_run x = not (is_some (channel_of x))
 
 -- ---- the nodes under way
 
-abbrev pub writes_of : Option Plan → List PlanWrite
-writes_of None = []
-writes_of (Some p) = p.writes
-
 -- A node as the drive sees it: at rest, or with its command, the locks that are granted to it, what it has seen for the command
--- and looked at in its search for space, what the search has taken, and its writes.
+-- and looked at in its search for space, what the search has taken, and its writes, all or those before its ask.
 abbrev pub under_with : List Resource → ℕ → NodeState → Option Cmd → UnderWay
 under_with t n s None = resting nothing
-under_with t n s (Some x) = record (under_way x s.seen (writes_of s.plan) (knows n x s.seen)) {
+under_with t n s (Some x) = record (under_way x s.seen (writes_now s.tried s.plan) (knows_now n x s.seen s.tried s.plan)) {
   read = held_in PR (held_locks t n s.asked);
   write = held_in PW (held_locks t n s.asked);
   seen = unwritten (take s.search.taken s.search.takes) s.search.looked ++ s.seen.blocks;
@@ -65,33 +62,34 @@ abbrev pub HasSystemNumbers : Cat → Type 0
 HasSystemNumbers c = (n : ℕ) → n ≤ 11 → is_free_number c n ≡ false
 
 -- The history replays from the opening catalogue, and the drive is that of the catalogue to which it leads, with the writes done
--- of each command under way. The catalogue keeps the limits of a volume and its quotas.
+-- of each command under way. The catalogue keeps the limits of a volume and its quotas, and each channel has the lock of its open.
 pub record IsRunning (w : Plain) : Type 0 where
   pub cat : Cat
   pub replayed : Replays w.opening w.script w.history cat
   pub drive : IsUnder w.geometry cat (nodes_under w.locks w.nodes) w.blocks
   pub accounted : Accounted cat
   pub system : HasSystemNumbers cat
+  pub opens : AreOpensLocked w.locks cat
 
 -- the lock table has for each node's file system the locks that its command has asked for
 abbrev pub AreLocked : Plain → Type 0
 AreLocked w = IsTable w.locks × AreHeld w.locks (locks_of w.nodes)
 
 -- a command that has no plan yet has done nothing, and one that has decided has the locks that it asked for
-abbrev pub IsAtPlan : Cmd → Bool → Seen → ℕ → Option Plan → Type 0
-IsAtPlan x waits seen done None = done ≡ 0
-IsAtPlan x waits seen done (Some p) = IsNext x seen (need.Ready p) × (waits ≡ false) × (done ≤ length p.writes)
+abbrev pub IsAtPlan : Cmd → Bool → Seen → ℕ → Bool → Option Plan → Type 0
+IsAtPlan x waits seen done tried None = done ≡ 0
+IsAtPlan x waits seen done tried (Some p) = IsNext x seen (need.Ready p) × (waits ≡ false) × (done ≤ length (writes_by p.ask tried p.writes))
 
 -- A command under way is its node's next one, it obeys the law, what it has seen fits it, and its locks are such as it takes
--- itself, besides that of its search for space.
+-- itself, besides that of its search for space and that of its ask.
 pub record IsAt (w : Plain) (n : ℕ) (s : NodeState) (x : Cmd) : Type 0 where
   pub next : next_command w.script n w.history ≡ Some x
   pub runs : is_run x ≡ true
   pub lawful : Lawful x
   pub seen : HasSeen x s.seen
   pub own : (name : LockName) → Has (names_of s.seen.locks) name → takes_lock x name ≡ true
-  pub plan : IsAtPlan x (waits_at w.locks n s.asked) s.seen s.done s.plan
-  pub search : Searches w.locks n x s.asked s.search s.seen
+  pub plan : IsAtPlan x (waits_at w.locks n s.asked) s.seen s.done s.tried s.plan
+  pub search : Searches w.locks n x (granted_ask s.tried s.plan) s.asked s.search s.seen
 
 -- a node without a command has seen nothing, was given nothing, and has decided on nothing
 pub record IsIdle (s : NodeState) : Type 0 where

@@ -1,6 +1,8 @@
 pub mod Worlds
 pub mod Images
 pub mod Raises
+pub mod Asks
+pub mod Opens
 pub mod Searches
 pub mod Goods
 pub mod Mounting

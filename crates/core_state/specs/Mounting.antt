@@ -18,6 +18,7 @@ at_rest g = record {
   seen = record { geometry = g; channel = None; locks = []; blocks = []; clusters = []; number = None; short = None };
   plan = None;
   done = 0;
+  tried = false;
   asked = [];
   search = no_search;
   over = false;

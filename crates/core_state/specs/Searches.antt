@@ -1,5 +1,5 @@
 -- How the search for space of a node's command stands.
-use Rattle.std.specs.Prelude.{◌≡◌, ◌<◌, ◌==◌, ◌++◌, not, ℕ, true, Bool, List, [], ◌∷◌, None, Some, length, filter, if◌then◌else◌}
+use Rattle.std.specs.Prelude.{◌≡◌, ◌<◌, ◌==◌, ◌++◌, not, ℕ, true, Bool, List, [], ◌∷◌, Option, None, Some, length, filter, if◌then◌else◌}
 use Rattle.std.specs.List.{list_any}
 use Rattle.vol_words.specs.Fields.{Block}
 use Rattle.lock_db.specs.declared.name.LockName.{LockName}
@@ -25,7 +25,9 @@ use Rattle.op_law.specs.Writing.{Held}
 use Rattle.node_space.specs.Searching.{Found, More, Short, Enough, found}
 use Rattle.node_space.specs.Taking.{looked, out_after}
 use Rattle.node_space.specs.Answering.{blocks_of}
+use Rattle.op_law.specs.declared.need.Ask.{Ask}
 use Rattle.core_state.specs.Worlds.{Search}
+use Rattle.core_state.specs.Asks.{with_ask}
 
 -- ---- what it leaves of what it has looked at, and what it has outside
 
@@ -56,9 +58,9 @@ found_by x seen s = found seen.geometry (wanted_by x seen) (wants_number x) (blo
 
 -- ---- how it stands
 
--- no search is begun, and the locks asked for are those of the command
-pub record HasNotSearched (asked : List (LockName × Mode)) (s : Search) (seen : Seen) : Type 0 where
-  pub same : asked ≡ seen.locks
+-- no search is begun, and the locks asked for are those of the command, and that of its ask where it was granted
+pub record HasNotSearched (ask : Option Ask) (asked : List (LockName × Mode)) (s : Search) (seen : Seen) : Type 0 where
+  pub same : asked ≡ with_ask seen.locks ask
   pub looked : s.looked ≡ []
   pub takes : s.takes ≡ []
   pub taken : s.taken ≡ 0
@@ -66,11 +68,11 @@ pub record HasNotSearched (asked : List (LockName × Mode)) (s : Search) (seen :
 
 -- The lock of the bitmaps is asked for among those of the command, and what was looked at are the first of the blocks that the
 -- search may look at.
-pub record HasClaimed (x : Cmd) (asked : List (LockName × Mode)) (s : Search) (seen : Seen) : Type 0 where
+pub record HasClaimed (x : Cmd) (ask : Option Ask) (asked : List (LockName × Mode)) (s : Search) (seen : Seen) : Type 0 where
   pub takes : takes_space x ≡ true
   pub before : List (LockName × Mode)
   pub after : List (LockName × Mode)
-  pub claims : asked ≡ before ++ (V, PW) ∷ after
+  pub claims : asked ≡ with_ask (before ++ (V, PW) ∷ after) ask
   pub locks : seen.locks ≡ before ++ after
   pub in_order : s.looked ≡ looked seen.geometry (wanted_by x seen) (wants_number x) (blocks_of s.looked)
 
@@ -81,8 +83,8 @@ pub record NeedsSpace (x : Cmd) (seen : Seen) : Type 0 where
   pub apart : (l : ℕ) → Touches seen.blocks l → IsBitmap seen.geometry l → ⊥
 
 -- the search goes on to look
-pub record IsLooking (x : Cmd) (asked : List (LockName × Mode)) (s : Search) (seen : Seen) : Type 0 where
-  pub claimed : HasClaimed x asked s seen
+pub record IsLooking (x : Cmd) (ask : Option Ask) (asked : List (LockName × Mode)) (s : Search) (seen : Seen) : Type 0 where
+  pub claimed : HasClaimed x ask asked s seen
   pub needs : NeedsSpace x seen
   pub more : found_by x seen s ≡ More
   pub takes : s.takes ≡ []
@@ -90,29 +92,29 @@ pub record IsLooking (x : Cmd) (asked : List (LockName × Mode)) (s : Search) (s
 
 -- The search has found enough, and these writes take it, under the lock of the bitmaps; a number among it is above those of the
 -- system files.
-pub record HasFound (t : List Resource) (n : ℕ) (x : Cmd) (asked : List (LockName × Mode)) (s : Search) (seen : Seen) : Type 0 where
-  pub claimed : HasClaimed x asked s seen
+pub record HasFound (t : List Resource) (n : ℕ) (x : Cmd) (ask : Option Ask) (asked : List (LockName × Mode)) (s : Search) (seen : Seen) : Type 0 where
+  pub claimed : HasClaimed x ask asked s seen
   pub enough : found_by x seen s ≡ Enough s.takes
   pub above : is_new_number (out_after s.takes (length s.takes)).number ≡ true
   pub holds : Has (held_in PW (held_locks t n asked)) V
 
 -- and not all of the writes are made
-pub record IsTaking (t : List Resource) (n : ℕ) (x : Cmd) (asked : List (LockName × Mode)) (s : Search) (seen : Seen) : Type 0 where
-  pub found : HasFound t n x asked s seen
+pub record IsTaking (t : List Resource) (n : ℕ) (x : Cmd) (ask : Option Ask) (asked : List (LockName × Mode)) (s : Search) (seen : Seen) : Type 0 where
+  pub found : HasFound t n x ask asked s seen
   pub needs : NeedsSpace x seen
   pub part : s.taken < length s.takes
 
 -- or all are made, and the command was given what they take
-pub record HasTaken (t : List Resource) (n : ℕ) (x : Cmd) (asked : List (LockName × Mode)) (s : Search) (seen : Seen) : Type 0 where
-  pub found : HasFound t n x asked s seen
+pub record HasTaken (t : List Resource) (n : ℕ) (x : Cmd) (ask : Option Ask) (asked : List (LockName × Mode)) (s : Search) (seen : Seen) : Type 0 where
+  pub found : HasFound t n x ask asked s seen
   pub all : s.taken ≡ length s.takes
   pub clusters : seen.clusters ≡ (out_after s.takes (length s.takes)).clusters
   pub number : seen.number ≡ (out_after s.takes (length s.takes)).number
   pub short : seen.short ≡ None
 
 -- the search has found too little, and the command was told why
-pub record IsRefused (x : Cmd) (asked : List (LockName × Mode)) (s : Search) (seen : Seen) : Type 0 where
-  pub claimed : HasClaimed x asked s seen
+pub record IsRefused (x : Cmd) (ask : Option Ask) (asked : List (LockName × Mode)) (s : Search) (seen : Seen) : Type 0 where
+  pub claimed : HasClaimed x ask asked s seen
   pub why : Refusal
   pub too_little : found_by x seen s ≡ Short why
   pub takes : s.takes ≡ []
@@ -121,10 +123,10 @@ pub record IsRefused (x : Cmd) (asked : List (LockName × Mode)) (s : Search) (s
   pub number : seen.number ≡ None
   pub short : seen.short ≡ Some why
 
--- How the search of node n's command x stands, by the lock table.
-pub data Searches (t : List Resource) (n : ℕ) (x : Cmd) (asked : List (LockName × Mode)) (s : Search) (seen : Seen) : Type 0 where
-  NotYet : HasNotSearched asked s seen → Searches t n x asked s seen
-  Looking : IsLooking x asked s seen → Searches t n x asked s seen
-  Taking : IsTaking t n x asked s seen → Searches t n x asked s seen
-  Taken : HasTaken t n x asked s seen → Searches t n x asked s seen
-  Refused : IsRefused x asked s seen → Searches t n x asked s seen
+-- How the search of node n's command x stands, by the lock table, where the ask of its plan was granted or there was none.
+pub data Searches (t : List Resource) (n : ℕ) (x : Cmd) (ask : Option Ask) (asked : List (LockName × Mode)) (s : Search) (seen : Seen) : Type 0 where
+  NotYet : HasNotSearched ask asked s seen → Searches t n x ask asked s seen
+  Looking : IsLooking x ask asked s seen → Searches t n x ask asked s seen
+  Taking : IsTaking t n x ask asked s seen → Searches t n x ask asked s seen
+  Taken : HasTaken t n x ask asked s seen → Searches t n x ask asked s seen
+  Refused : IsRefused x ask asked s seen → Searches t n x ask asked s seen

@@ -32,12 +32,14 @@ no_search = record { looked = []; takes = []; taken = 0 }
 pub record NodeState : Type 0 where
   -- what it has of its answers so far
   pub past : NodePast
-  -- its command under way, what it has seen for it, what it has decided on, and how many of the writes are done
+  -- its command under way, what it has seen for it, what it has decided on, how many of the writes are done, and whether the ask
+  -- of its plan was granted
   pub cmd : Option Cmd
   pub seen : Seen
   pub plan : Option Plan
   pub done : ℕ
-  -- the locks that it has asked for, in order: those of the command, and that of its search for space
+  pub tried : Bool
+  -- the locks that it has asked for, in order: those of the command, among them that of its search for space, and that of its ask
   pub asked : List (LockName × Mode)
   pub search : Search
   -- it has left the volume
@@ -77,6 +79,7 @@ state_of cmd_is n = record {
   seen = n.seen;
   plan = n.plan;
   done = n.done;
+  tried = n.tried;
   asked = n.asked;
   search = record { looked = n.looked; takes = n.takes; taken = n.taken };
   over = n.over;

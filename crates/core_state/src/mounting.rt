@@ -54,6 +54,7 @@ fn resting<O: Operation>(alloc: Global, geometry: Geometry) -> Node<O>
         },
         plan: None,
         done: 0,
+        tried: false,
         asked: SeenLocks::new(alloc),
         looked: SeenBlocks::new(alloc),
         takes: Writes::new(alloc),

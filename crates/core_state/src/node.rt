@@ -16,11 +16,12 @@ pub struct Node<O: Operation> {
     /// What it has decided on.
     pub plan: Option<Plan>,
 
-    /// How many writes of the plan are done.
+    /// How many writes of the plan are done, and whether its ask was granted.
     pub done: usize,
+    pub tried: bool,
 
-    /// The locks that it has asked for, in order: those of the command, and that of its search for space. The last may still
-    /// stand in a queue.
+    /// The locks that it has asked for, in order: those of the command, among them that of its search for space, and that of the
+    /// ask of its plan. The last may still stand in a queue.
     pub asked: SeenLocks,
 
     /// The blocks of the bitmaps that its search has looked at.

@@ -4,7 +4,7 @@ use Rattle.fx_home.specs.Homes.{home_read}
 use Rattle.vol_faults.specs.Free.{IsGeometryBy}
 use Rattle.vol_parts.specs.Findings.{home_at}
 use Rattle.core_state.specs.Goods.{IsWorld}
-use Rattle.core_state.proofs.Accepting.{accepted_accounts, accepted_system}
+use Rattle.core_state.proofs.Accepting.{accepted_accounts, accepted_system, told_opens}
 use Rattle.core_state.proofs.MountedWorlds.{judged, mounts, world_mounted}
 use Rattle.core_state.proofs.world.World.mount.Goals as goal
 
@@ -27,6 +27,6 @@ invariant_of-result g c =
     let to = subst (λ (k : ℕ). k ≤ 65536) c.size-size.ensures.blocks c.size-size.ensures.inside.high in
     let whole = subst (λ bs. AreWholeBlocks bs) c.all-2.ensures c.blocks_are_whole.ensures in
     let u = mounts c.args.m.blocks c.in-Ok-Ok.cat c.geometry-geometry.result from to whole j.1 by in
-    let w = world_mounted c.args.m.blocks c.args.script.now c.in-Ok-Ok.cat c.geometry-geometry.result c.requires.form c.requires.runs u (accepted_accounts c.args.m.blocks c.in-Ok-Ok.cat from to whole j.0 j.1) (accepted_system c.args.m.blocks c.in-Ok-Ok.cat from to whole j.1) g.O.Operation.takes c.new.result.room c.requires.taken in
+    let w = world_mounted c.args.m.blocks c.args.script.now c.in-Ok-Ok.cat c.geometry-geometry.result c.requires.form c.requires.runs u (accepted_accounts c.args.m.blocks c.in-Ok-Ok.cat from to whole j.0 j.1) (accepted_system c.args.m.blocks c.in-Ok-Ok.cat from to whole j.1) (told_opens c.args.m.blocks c.in-Ok-Ok.cat from to whole j.1) g.O.Operation.takes c.new.result.room c.requires.taken in
     subst (λ v. IsWorld g.O.Operation.takes v c.new.result.room)
     (sym (λ i. record { script = c.in-Ok.ensures.script i; opening = c.in-Ok-Ok.cat; geometry = c.geometry-geometry.result; blocks = c.args.m.blocks; locks = c.in-Ok.ensures.locks i; nodes = c.in-Ok.ensures.nodes i; history = c.new.ensures i })) w
