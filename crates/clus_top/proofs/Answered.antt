@@ -1,5 +1,5 @@
 -- A run adds answers alone to its history: nobody dies, and nothing is mended.
-use Rattle.std.proofs.Common.{◌≡◌, ◌++◌, ℕ, true, false, List, [], ◌∷◌, Option, Some, None, refl}
+use Rattle.std.proofs.Common.{◌≡◌, ◌++◌, ℕ, Bool, true, false, List, [], ◌∷◌, Option, Some, None, refl}
 use Rattle.std.specs.List.{list_any}
 use Rattle.plain_cat.specs.declared.command.Cmd.{Cmd}
 use Rattle.plain_cat.specs.declared.reply.Reply.{Reply}
@@ -8,7 +8,7 @@ use Rattle.plain_cat.specs.declared.history.Entry.{Entry}
 use Rattle.plain_cat.specs.declared.history.Entry.TheVariants.{Done, Died, Mended}
 use Rattle.plain_vol.specs.Own.{Killed}
 use Rattle.core_state.specs.Worlds.{NodeState, Plain, node_at}
-use Rattle.core_state.specs.Events.{Event, Rest, Stand, Leave, Ask, See, Claim, Scan, Grab, Decide, Put, Answer, next_event, happens, happen_at, after_turn}
+use Rattle.core_state.specs.Events.{Event, Rest, Stand, Leave, Ask, See, Claim, Scan, Grab, Decide, Put, Try, Answer, would_go, tried_by, next_event, happens, happen_at, after_turn}
 use Rattle.clus_top.specs.Runs.{is_mending}
 
 -- nodes die only where the script kills them, and nothing is mended
@@ -40,6 +40,10 @@ event_keeps w n s (Scan x clusters number lbn) p = record { orderly = p.orderly 
 event_keeps w n s (Grab v) p = record { orderly = p.orderly }
 event_keeps w n s (Decide x q) p = record { orderly = p.orderly }
 event_keeps w n s (Put v) p = record { orderly = p.orderly }
+event_keeps w n s (Try x a) p = by_outcome (would_go w.locks n a) where
+  by_outcome : (b : Bool) → IsAnswered (tried_by w n s x a b)
+  by_outcome true = record { orderly = p.orderly }
+  by_outcome false = record { orderly = one_more w.script w.history n x a.refused p.orderly }
 event_keeps w n s (Answer x r) p = record { orderly = one_more w.script w.history n x r p.orderly }
 
 at_keeps : (w : Plain) (n : ℕ) (o : Option NodeState) (e : Event) → IsAnswered w → IsAnswered (happen_at w n o e)

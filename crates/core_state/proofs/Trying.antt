@@ -113,7 +113,7 @@ module _ (w : Plain) (good : Good w) (n : ℕ) (s : NodeState) (at : node_at w.n
     by_node None e h = absurd h
     by_node (Some q) e h = by_cmd q e h q.cmd refl (good.nodes m q e).command
 
-  nobody_asks : s.tried ≡ false → (m : ℕ) → stands_at (A a.file) (system_of m) w.locks ≡ None
+  pub nobody_asks : s.tried ≡ false → (m : ℕ) → stands_at (A a.file) (system_of m) w.locks ≡ None
   nobody_asks not_yet m = let h : HoldsItsLocks w.locks m (locks_of w.nodes m) = good.locked.1 m in h.no_other (A a.file) (not_asked not_yet m)
 
   -- it asks by its file system
@@ -121,7 +121,7 @@ module _ (w : Plain) (good : Good w) (n : ℕ) (s : NodeState) (at : node_at w.n
   by_system = ap (λ k. goes_with cat n k a.file a.mode) (law.0.by ∙ ap asking_part (names_none x now.runs))
 
   -- the ask goes exactly where its mode goes with all opens
-  asks_exactly : s.tried ≡ false → would_go w n a ≡ is_granted n a cat
+  asks_exactly : s.tried ≡ false → would_go w.locks n a ≡ is_granted n a cat
   asks_exactly not_yet = goes_exactly w.locks cat a.file good.running.opens (nobody_asks not_yet) good.locked.0 n a.mode ∙ sym by_system
 
   -- and where it was granted its mode goes with them still
@@ -183,7 +183,7 @@ module _ (w : Plain) (good : Good w) (n : ℕ) (s : NodeState) (at : node_at w.n
   not_mine : s.tried ≡ false → Has (names_of s.asked) (A a.file) → ⊥
   not_mine not_yet h = not_asked not_yet n (subst (λ (ls : List (LockName × Mode)). Has (names_of ls) (A a.file)) (sym (ap locks_in at)) h)
 
-  tries_keep : s.tried ≡ false → would_go w n a ≡ true → Good (altered w t w.blocks (set_node w.nodes n r) w.history)
+  tries_keep : s.tried ≡ false → would_go w.locks n a ≡ true → Good (altered w t w.blocks (set_node w.nodes n r) w.history)
   tries_keep not_yet goes =
       let new : Has (names_of s.asked) (A a.file) → ⊥ = not_mine not_yet in
       asked_then w good n s at x cmd free (A a.file) a.mode new r refl (wider_drive not_yet (sym (asks_exactly not_yet) ∙ goes))
@@ -207,9 +207,9 @@ module _ (w : Plain) (good : Good w) (n : ℕ) (s : NodeState) (at : node_at w.n
 
   -- ---- it asks
 
-  pub ask_keeps : s.tried ≡ false → slice_get (take a.at p.writes) s.done ≡ None → Good (tried_by w n s x a (would_go w n a))
-  ask_keeps not_yet last = by_goes (would_go w n a) refl where
-    by_goes : (b : Bool) → would_go w n a ≡ b → Good (tried_by w n s x a b)
+  pub ask_keeps : s.tried ≡ false → slice_get (take a.at p.writes) s.done ≡ None → Good (tried_by w n s x a (would_go w.locks n a))
+  ask_keeps not_yet last = by_goes (would_go w.locks n a) refl where
+    by_goes : (b : Bool) → would_go w.locks n a ≡ b → Good (tried_by w n s x a b)
     by_goes true goes = tries_keep not_yet goes
     by_goes false refused =
         answers_keep w good n s at x cmd free p made.0 (take a.at p.writes) (first_writes not_yet) last (part not_yet) a.refused (λ c. knows n x s.seen c && not (is_granted n a c)) law.2

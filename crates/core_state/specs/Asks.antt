@@ -4,6 +4,7 @@ use Rattle.lock_db.specs.declared.name.LockName.{LockName}
 use Rattle.lock_db.specs.declared.name.LockName.TheVariants.{A}
 use Rattle.plain_cat.specs.declared.mode.Mode.{Mode}
 use Rattle.plain_cat.specs.declared.command.Cmd.{Cmd}
+use Rattle.plain_cat.specs.declared.reply.Reply.{Reply}
 use Rattle.plain_cat.specs.declared.cat.Cat.{Cat}
 use Rattle.op_law.specs.declared.need.Ask.{Ask}
 use Rattle.op_law.specs.declared.need.Plan.{Plan}
@@ -20,6 +21,12 @@ writes_by (Some a) false ws = take a.at ws
 abbrev pub writes_now : Bool → Option Plan → List PlanWrite
 writes_now tried None = []
 writes_now tried (Some p) = writes_by p.ask tried p.writes
+
+-- the reply behind those writes: that of the plan, or that of its ask where it was not granted
+abbrev pub reply_by : Option Ask → Bool → Reply → Reply
+reply_by None tried r = r
+reply_by (Some a) true r = r
+reply_by (Some a) false r = a.refused
 
 -- an ask, where it was granted
 abbrev pub granted_by : Bool → Option Ask → Option Ask

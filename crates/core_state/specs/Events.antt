@@ -215,8 +215,8 @@ answered_by w n s x r =
     with_node (record w { history = w.history ++ Done n x r ∷ []; locks = given_back w.geometry n (all_writes s) s.asked w.locks }) n (turned (answering s x r))
 
 -- an ask of node n's file system would be granted
-abbrev pub would_go : Plain → ℕ → PlanAsk → Bool
-would_go w n a = goes_at_once (system_of n) a.mode (resource_at (A a.file) w.locks).askers
+abbrev pub would_go : List Resource → ℕ → PlanAsk → Bool
+would_go t n a = goes_at_once (system_of n) a.mode (resource_at (A a.file) t).askers
 
 -- node n asks: it goes on where that is granted, and else it answers
 abbrev pub tried_by : Plain → ℕ → NodeState → Cmd → PlanAsk → Bool → Plain
@@ -235,7 +235,7 @@ happens w n s (Scan x clusters number lbn) = with_node w n (turned (scanning s x
 happens w n s (Grab v) = with_node (record w { blocks = slice_set w.blocks v.lbn v.block }) n (turned (grabbing s v))
 happens w n s (Decide x p) = with_node w n (turned (deciding s x p))
 happens w n s (Put v) = with_node (record w { blocks = slice_set w.blocks v.lbn v.block }) n (turned (writing s))
-happens w n s (Try x a) = tried_by w n s x a (would_go w n a)
+happens w n s (Try x a) = tried_by w n s x a (would_go w.locks n a)
 happens w n s (Answer x r) = answered_by w n s x r
 
 abbrev pub happen_at : Plain → ℕ → Option NodeState → Event → Plain
@@ -273,6 +273,14 @@ plan_in (Some s) = s.plan
 
 abbrev pub plan_at : Plain → ℕ → Option Plan
 plan_at w n = plan_in (node_at w.nodes n)
+
+-- the ask of a node's plan was granted
+abbrev pub tried_in : Option NodeState → Bool
+tried_in None = false
+tried_in (Some s) = s.tried
+
+abbrev pub tried_at : Plain → ℕ → Bool
+tried_at w n = tried_in (node_at w.nodes n)
 
 -- a node with the command x
 abbrev pub begun : NodeState → Cmd → NodeState

@@ -5,7 +5,7 @@ use Rattle.std.proofs.lemmas.Bool.Decides.{nat_tests}
 use Rattle.std.proofs.lemmas.Option.{slice_get_within}
 use Rattle.vol_words.specs.Fields.{Block}
 use Rattle.lock_db.specs.declared.name.LockName.{LockName}
-use Rattle.lock_db.specs.declared.name.LockName.TheVariants.{V}
+use Rattle.lock_db.specs.declared.name.LockName.TheVariants.{A, V}
 use Rattle.lock_db.specs.declared.resource.Resource.{Resource}
 use Rattle.lock_db.specs.Queues.{standing_of}
 use Rattle.lock_db.specs.declared.resource.Asked.{Asked}
@@ -44,6 +44,7 @@ use Rattle.op_law.specs.declared.need.Need.{Need}
 use Rattle.op_law.specs.declared.need.Need.TheVariants as need
 use Rattle.op_law.specs.declared.need.Plan.{Plan}
 use Rattle.op_law.specs.declared.need.PlanWrite.{PlanWrite}
+use Rattle.op_law.specs.declared.need.Ask.{Ask as PlanAsk}
 use Rattle.op_law.specs.declared.seen.Seen.{Seen}
 use Rattle.op_law.specs.Needs.{need_of, IsNext}
 use Rattle.op_law.specs.Fits.{FitsSeen}
@@ -55,15 +56,18 @@ use Rattle.node_space.specs.Answering.{answer, blocks_of}
 use Rattle.core_state.specs.Searches.{wanted_by}
 use Rattle.core_state.specs.Worlds.{NodeState, Plain, node_at, set_node, locks_in, locks_of}
 use Rattle.core_state.specs.Raises.{raise_of}
-use Rattle.core_state.specs.Goods.{writes_of, IsAt, IsNode, Good, decided, HasRoom}
-use Rattle.core_state.specs.Events.{Event, Ask, Claim, See, Scan, Grab, Decide, Put, Answer, has_asked, all_writes, by_answer, by_takes, by_search, claiming, scanning, grabbing, happens, happen, block_at, turned, asking, looking, deciding, writing, answering, by_need, by_write, by_plan, by_begun, command_event_of, command_event, command_in, command_at, plan_in, plan_at}
+use Rattle.core_state.specs.Asks.{writes_by, reply_by, granted_ask, writes_now}
+use Rattle.core_state.specs.Goods.{IsAt, IsNode, Good, decided, HasRoom}
+use Rattle.core_state.specs.Events.{Event, Ask, Claim, See, Scan, Grab, Decide, Put, Try, Answer, has_asked, all_writes, by_answer, by_takes, by_search, claiming, scanning, grabbing, happens, happen, block_at, turned, asking, looking, deciding, writing, trying, answering, would_go, tried_by, by_need, by_end, by_write, by_plan, by_begun, command_event_of, command_event, command_in, command_at, plan_in, plan_at, tried_in, tried_at}
 use Rattle.core_state.specs.Worlds.{state_of}
 use Rattle.core_state.specs.declared.node.Node.{Node}
 use Rattle.core_state.proofs.Nodes.{at_here, length_node, told_at}
 use Rattle.core_state.proofs.Standing.{new_to_all, asks_once, claim_asks}
 use Rattle.core_state.proofs.Searching.{there_now, is_taking, scan_within, looks_on}
-use Rattle.core_state.proofs.Turning.{under_command, drive, seen_on, may_need, here, planned_at}
+use Rattle.core_state.proofs.Turning.{under_command, drive, seen_on, may_need, here, planned_at, search_now}
+use Rattle.core_state.proofs.Trying.{nobody_asks}
 use Rattle.core_step.specs.Giving.{MayGiveAll, MayEnd}
+use Rattle.core_step.specs.Asks.{going_ask, aim_of}
 use Rattle.core_step.specs.Ready.{IsReady}
 use Rattle.core_step.specs.declared.turns.Turn.TheVariants as turn
 use Rattle.core_step.specs.declared.turns.Kind.TheVariants as kind
@@ -176,6 +180,31 @@ pub decided_set : (ns : List NodeState) (n : ℕ) (s r : NodeState) → node_at 
 decided_set ns zero s r e = absurd (let f : None ≡ Some s = e in cc)
 decided_set ns (suc k) s r e = decided_place ns k s r e
 
+-- ---- behind the writes of a plan
+
+-- an ask that goes on is the plan's, was not granted yet, and would be
+pub record IsGoing (t : List Resource) (n : ℕ) (tried : Bool) (ask : Option PlanAsk) (a : PlanAsk) : Type 0 where
+  pub is : ask ≡ Some a
+  pub not_yet : tried ≡ false
+  pub goes : would_go t n a ≡ true
+
+pub going_is : (t : List Resource) (n : ℕ) (tried : Bool) (ask : Option PlanAsk) (a : PlanAsk) → going_ask t n tried ask ≡ Some a → IsGoing t n tried ask a
+going_is t n tried None a e = absurd (let f : None ≡ Some a = e in cc)
+going_is t n true (Some b) a e = absurd (let f : None ≡ Some a = e in cc)
+going_is t n false (Some b) a e = by_goes (would_go t n b) refl e where
+  by_goes : (g : Bool) → would_go t n b ≡ g → cond g (Some b) None ≡ Some a → IsGoing t n false (Some b) a
+  by_goes true is f = let h : b ≡ a = cc in record { is = ap Some h; not_yet = refl; goes = ap (would_go t n) (sym h) ∙ is }
+  by_goes false is f = absurd (let g : None ≡ Some a = f in cc)
+
+-- where none goes on, the command ends as by an answer
+ends : (w : Plain) (n : ℕ) (s : NodeState) (x : Cmd) (r : Reply) (tried : Bool) (ask : Option PlanAsk) → going_ask w.locks n tried ask ≡ None → happens w n s (by_end x r tried ask) ≡ happens w n s (Answer x (reply_by ask tried r))
+ends w n s x r tried None none = refl
+ends w n s x r true (Some a) none = refl
+ends w n s x r false (Some a) none = ap (tried_by w n s x a) (refused (would_go w.locks n a) none) where
+  refused : (g : Bool) → cond g (Some a) None ≡ None → g ≡ false
+  refused true e = absurd (let f : Some a ≡ None = e in cc)
+  refused false e = refl
+
 -- ---- the node
 
 module _ (w : Plain) (good : Good w) (n : ℕ) (r : IsReady w n) where
@@ -207,8 +236,33 @@ module _ (w : Plain) (good : Good w) (n : ℕ) (r : IsReady w n) where
   pub event_need : plan_at w n ≡ None → (next : Need) → need_of r.cmd s.seen ≡ next → command_event w n ≡ by_need r.cmd s next
   event_need none next e = event_is ∙ ap (by_plan r.cmd s) (has_plan None none) ∙ ap (by_need r.cmd s) e
 
-  pub event_write : (p : Plan) → s.plan ≡ Some p → (o : Option PlanWrite) → slice_get p.writes s.done ≡ o → command_event w n ≡ by_write r.cmd p.reply o
-  event_write p plan o e = event_is ∙ ap (by_plan r.cmd s) plan ∙ ap (by_write r.cmd p.reply) e
+  pub event_write : (p : Plan) → s.plan ≡ Some p → (o : Option PlanWrite) → slice_get (writes_by p.ask s.tried p.writes) s.done ≡ o → command_event w n ≡ by_write r.cmd p s.tried o
+  event_write p plan o e = event_is ∙ ap (by_plan r.cmd s) plan ∙ ap (by_write r.cmd p s.tried) e
+
+  -- where its ask would be granted, it makes it
+  pub event_try : (p : Plan) → s.plan ≡ Some p → slice_get (writes_by p.ask s.tried p.writes) s.done ≡ None → (a : PlanAsk) → going_ask w.locks n s.tried p.ask ≡ Some a → command_event w n ≡ Try r.cmd a
+  event_try p plan last a going = let i = going_is w.locks n s.tried p.ask a going in event_write p plan None last ∙ (λ k. by_end r.cmd p.reply (i.not_yet k) (i.is k))
+
+  -- and else it ends as an answer does
+  pub event_ends : (p : Plan) → s.plan ≡ Some p → slice_get (writes_by p.ask s.tried p.writes) s.done ≡ None → going_ask w.locks n s.tried p.ask ≡ None
+      → happen w n (command_event w n) ≡ happen w n (Answer r.cmd (reply_by p.ask s.tried p.reply))
+  event_ends p plan last none =
+      ap (happen w n) (event_write p plan None last) ∙ sym (happen_here w n s (by_end r.cmd p.reply s.tried p.ask) r.at) ∙ ends w n s r.cmd p.reply s.tried p.ask none
+      ∙ happen_here w n s (Answer r.cmd (reply_by p.ask s.tried p.reply)) r.at
+
+  -- which is what it tells
+  pub ends_told : (p : Plan) → s.plan ≡ Some p → slice_get (writes_by p.ask s.tried p.writes) s.done ≡ None → (a : Reply) → (new : Plain) → new ≡ happen w n (Answer r.cmd a) → told new n (command_event w n) ≡ turn.Answered
+  ends_told p plan last a new is =
+      let gone : command_at new n ≡ None = ap (λ v. command_at v n) (is ∙ sym (happen_here w n s (Answer r.cmd a) r.at)) ∙ ap command_in (at_here w.nodes n (turned (answering s r.cmd a)) s r.at) in
+      ap (told new n) (event_write p plan None last) ∙ by_end_told new gone s.tried p.ask where
+        by_end_told : (v : Plain) → command_at v n ≡ None → (b : Bool) (o : Option PlanAsk) → told v n (by_end r.cmd p.reply b o) ≡ turn.Answered
+        by_end_told v gone b None = refl
+        by_end_told v gone true (Some q) = refl
+        by_end_told v gone false (Some q) = ap (λ o. cond (is_some o) (turn.Moved kind.Tried) turn.Answered) gone
+
+  -- the ask may be made
+  pub may_try : (p : Plan) → s.plan ≡ Some p → (a : PlanAsk) → going_ask w.locks n s.tried p.ask ≡ Some a → standing_of (system_of n) (resource_at (A a.file) w.locks).askers ≡ None
+  may_try p plan a going = let i = going_is w.locks n s.tried p.ask a going in nobody_asks w good n s r.at r.cmd r.has r.free p plan a i.is i.not_yet n
 
   -- a lock on a name that it has none on can be asked for
   may_ask : (name : LockName) → (Has (names_of s.asked) name → ⊥) → standing_of (system_of n) (resource_at name w.locks).askers ≡ None
@@ -225,27 +279,27 @@ module _ (w : Plain) (good : Good w) (n : ℕ) (r : IsReady w n) where
       subst (λ (ls : List (LockName × Mode)). waits_at (asked name (system_of n) mode w.locks) n (ls ++ (name, mode) ∷ []) ≡ not (goes_at_once (system_of n) mode (resource_at name w.locks).askers)) mine after.waits
 
   -- so it is of a lock that is needed
-  new_lock : (name : LockName) (mode : Mode) → IsNext r.cmd s.seen (need.Lock name mode) → Has (names_of s.asked) name → ⊥
-  new_lock name mode is =
+  new_lock : plan_at w n ≡ None → (name : LockName) (mode : Mode) → IsNext r.cmd s.seen (need.Lock name mode) → Has (names_of s.asked) name → ⊥
+  new_lock none name mode is =
       let may = may_need w good n s r.at r.cmd r.has r.free (need.Lock name mode) is in
-      new_to_all w.locks n r.cmd s.asked s.search s.seen is_at.search name may.own may.new
+      new_to_all w.locks n r.cmd s.asked s.search s.seen (search_now w good n s r.at r.cmd r.has r.free (has_plan None none)) name may.own may.new
 
-  pub may_lock : (name : LockName) (mode : Mode) → IsNext r.cmd s.seen (need.Lock name mode) → standing_of (system_of n) (resource_at name w.locks).askers ≡ None
-  may_lock name mode is = may_ask name (new_lock name mode is)
+  pub may_lock : plan_at w n ≡ None → (name : LockName) (mode : Mode) → IsNext r.cmd s.seen (need.Lock name mode) → standing_of (system_of n) (resource_at name w.locks).askers ≡ None
+  may_lock none name mode is = may_ask name (new_lock none name mode is)
 
-  pub asked_waits : (name : LockName) (mode : Mode) → IsNext r.cmd s.seen (need.Lock name mode)
+  pub asked_waits : plan_at w n ≡ None → (name : LockName) (mode : Mode) → IsNext r.cmd s.seen (need.Lock name mode)
       → waits_at (asked name (system_of n) mode w.locks) n (s.asked ++ (name, mode) ∷ []) ≡ not (goes_at_once (system_of n) mode (resource_at name w.locks).askers)
-  asked_waits name mode is = waits_more name mode (new_lock name mode is)
+  asked_waits none name mode is = waits_more name mode (new_lock none name mode is)
 
   -- and of the lock of the bitmaps, where a search begins
-  new_claim : has_asked V s.asked ≡ false → Has (names_of s.asked) V → ⊥
-  new_claim none = (asks_once w.locks n r.cmd s.asked s.search s.seen is_at.search none).1
+  new_claim : plan_at w n ≡ None → has_asked V s.asked ≡ false → Has (names_of s.asked) V → ⊥
+  new_claim no_plan none = (asks_once w.locks n r.cmd s.asked s.search s.seen (search_now w good n s r.at r.cmd r.has r.free (has_plan None no_plan)) none).1
 
-  pub may_claim : has_asked V s.asked ≡ false → standing_of (system_of n) (resource_at V w.locks).askers ≡ None
-  may_claim none = may_ask V (new_claim none)
+  pub may_claim : plan_at w n ≡ None → has_asked V s.asked ≡ false → standing_of (system_of n) (resource_at V w.locks).askers ≡ None
+  may_claim no_plan none = may_ask V (new_claim no_plan none)
 
-  pub claim_waits : has_asked V s.asked ≡ false → waits_at (asked V (system_of n) PW w.locks) n (s.asked ++ (V, PW) ∷ []) ≡ not (goes_at_once (system_of n) PW (resource_at V w.locks).askers)
-  claim_waits none = waits_more V PW (new_claim none)
+  pub claim_waits : plan_at w n ≡ None → has_asked V s.asked ≡ false → waits_at (asked V (system_of n) PW w.locks) n (s.asked ++ (V, PW) ∷ []) ≡ not (goes_at_once (system_of n) PW (resource_at V w.locks).askers)
+  claim_waits no_plan none = waits_more V PW (new_claim no_plan none)
 
   within : (lbn : ℕ) → lbn < length (drive w good n s r.at r.cmd r.has r.free).base → lbn < length w.blocks
   within lbn lt = subst (λ (k : ℕ). lbn < k) (sym (drive w good n s r.at r.cmd r.has r.free).over.count) lt
@@ -295,10 +349,11 @@ module _ (w : Plain) (good : Good w) (n : ℕ) (r : IsReady w n) where
   comes_to none k b is asks over o e = looks_on w good n s r.at r.cmd r.has r.free (has_plan None none) k b is asks over o e
 
   -- the next write is to a block of the volume
-  pub write_within : (p : Plan) → s.plan ≡ Some p → (v : PlanWrite) → slice_get p.writes s.done ≡ Some v → v.lbn < length w.blocks
+  pub write_within : (p : Plan) → s.plan ≡ Some p → (v : PlanWrite) → slice_get (writes_by p.ask s.tried p.writes) s.done ≡ Some v → v.lbn < length w.blocks
   write_within p plan v next =
       let now = here w good n s r.at r.cmd r.has r.free in
-      let touched : Touches (bare (map planned (writes_of s.plan))) v.lbn = subst (λ (o : Option Plan). Touches (bare (map planned (writes_of o))) v.lbn) (sym plan) (next_in (map planned p.writes) s.done (planned v) (planned_at p.writes s.done v next)) in
+      let ws : List PlanWrite = writes_by p.ask s.tried p.writes in
+      let touched : Touches (bare (map planned (writes_now s.tried s.plan))) v.lbn = subst (λ (o : Option Plan). Touches (bare (map planned (writes_now s.tried o))) v.lbn) (sym plan) (next_in (map planned ws) s.done (planned v) (planned_at ws s.done v next)) in
       let mine = subst (λ (u : UnderWay). (l : ℕ) → Touches (bare u.plan) l → MayWrite n u.write (guard_of w.geometry good.running.drive.own l)) now (good.running.drive.plan_guarded n) in
       subst (λ (k : ℕ). v.lbn < k) (sym good.running.drive.over.count) (guard_within w.geometry good.running.drive.base good.running.drive.own good.running.cat good.running.drive.spelt n v.lbn _ (mine v.lbn touched))
 
@@ -374,23 +429,33 @@ module _ (w : Plain) (good : Good w) (n : ℕ) (r : IsReady w n) where
         answered_counts : (d s s' : ℕ) → s' + 1 ≡ s → d ≤ s → d + 0 ≤ s' + 1
         answered_counts d s s' e le = omega arith
 
+  pub try_room : (x : Cmd) (a : PlanAsk) (spare : ℕ) → would_go w.locks n a ≡ true → HasRoom w spare → (new : Plain) → new ≡ happen w n (Try x a) → HasRoom new spare
+  try_room x a spare goes room new is = room_after (Try x a) (turned (trying me a)) spare spare (ap (λ b. (tried_by w n me x a b).script) goes) (ap (λ b. (tried_by w n me x a b).nodes) goes)
+      (same_room (decided w.nodes) spare (weight me) room.places) room new is
+
+  -- what an ask that is granted answers
+  pub try_told : (a : PlanAsk) → would_go w.locks n a ≡ true → (new : Plain) → new ≡ happen w n (Try r.cmd a) → told new n (Try r.cmd a) ≡ turn.Moved kind.Tried
+  try_told a goes new e =
+      let there : command_at new n ≡ Some r.cmd = ap (λ v. command_at v n) (e ∙ sym (happen_here w n me (Try r.cmd a) r.at) ∙ ap (tried_by w n me r.cmd a) goes) ∙ ap command_in (at_here w.nodes n (turned (trying me a)) me r.at) ∙ r.has in
+      ap (λ o. cond (is_some o) (turn.Moved kind.Tried) turn.Answered) there
+
   -- what a request answers
-  pub asked_told : (name : LockName) (mode : Mode) → IsNext r.cmd me.seen (need.Lock name mode) → (t : Bool) → goes_at_once (system_of n) mode (resource_at name w.locks).askers ≡ t
+  pub asked_told : plan_at w n ≡ None → (name : LockName) (mode : Mode) → IsNext r.cmd me.seen (need.Lock name mode) → (t : Bool) → goes_at_once (system_of n) mode (resource_at name w.locks).askers ≡ t
       → (new : Plain) → new ≡ happen w n (Ask r.cmd name mode) → told new n (Ask r.cmd name mode) ≡ cond (not t) turn.Waiting (turn.Moved kind.Locked)
-  asked_told name mode is t goes new e =
+  asked_told none name mode is t goes new e =
       let q : NodeState = turned (asking me r.cmd name mode) in
       let v : Plain = happens w n me (Ask r.cmd name mode) in
       let there : node_at v.nodes n ≡ Some q = at_here w.nodes n q me r.at in
-      let queued : is_queued_in v n (node_at v.nodes n) ≡ not t = ap (is_queued_in v n) there ∙ asked_waits w good n r name mode is ∙ ap not goes in
+      let queued : is_queued_in v n (node_at v.nodes n) ≡ not t = ap (is_queued_in v n) there ∙ asked_waits w good n r none name mode is ∙ ap not goes in
       ap (λ y. told y n (Ask r.cmd name mode)) (e ∙ sym (happen_here w n me (Ask r.cmd name mode) r.at)) ∙ ap (λ b. cond b turn.Waiting (turn.Moved kind.Locked)) queued
 
-  pub claim_told : has_asked V me.asked ≡ false → (t : Bool) → goes_at_once (system_of n) PW (resource_at V w.locks).askers ≡ t
+  pub claim_told : plan_at w n ≡ None → has_asked V me.asked ≡ false → (t : Bool) → goes_at_once (system_of n) PW (resource_at V w.locks).askers ≡ t
       → (new : Plain) → new ≡ happen w n (Claim r.cmd) → told new n (Claim r.cmd) ≡ cond (not t) turn.Waiting (turn.Moved kind.Locked)
-  claim_told none t goes new e =
+  claim_told no_plan none t goes new e =
       let q : NodeState = turned (claiming me r.cmd) in
       let v : Plain = happens w n me (Claim r.cmd) in
       let there : node_at v.nodes n ≡ Some q = at_here w.nodes n q me r.at in
-      let queued : is_queued_in v n (node_at v.nodes n) ≡ not t = ap (is_queued_in v n) there ∙ claim_waits w good n r none ∙ ap not goes in
+      let queued : is_queued_in v n (node_at v.nodes n) ≡ not t = ap (is_queued_in v n) there ∙ claim_waits w good n r no_plan none ∙ ap not goes in
       ap (λ y. told y n (Claim r.cmd)) (e ∙ sym (happen_here w n me (Claim r.cmd) r.at)) ∙ ap (λ b. cond b turn.Waiting (turn.Moved kind.Locked)) queued
 
 -- ---- the item that tells the node
@@ -478,14 +543,20 @@ module _ {O : Type 0} (cmd_is : O → Cmd) (xs : List (Node O)) (w : Plain) (n :
       let f : false ≡ true = sym (ap is_some none) ∙ some in
       absurd (cc)
 
-  pub next_now : (p : Plan) (ws us : List PlanWrite) (v : PlanWrite) → ws ≡ p.writes → us ≡ p.writes → d.done < length us → v ≡ slice_index_or ws d.done v → slice_get p.writes r.state.done ≡ Some v
-  next_now p ws us v same also lt e =
-      subst (λ (y : NodeState). slice_get p.writes y.done ≡ Some v) mine (some_at p.writes d.done v (subst (λ (vs : List PlanWrite). d.done < length vs) also lt) (subst (λ (vs : List PlanWrite). v ≡ slice_index_or vs d.done v) same e))
+  pub next_now : (p : Plan) (ws : List PlanWrite) (v : PlanWrite) → ws ≡ writes_by p.ask d.tried p.writes → d.done < length ws → v ≡ slice_index_or ws d.done v → slice_get (writes_by p.ask r.state.tried p.writes) r.state.done ≡ Some v
+  next_now p ws v same lt e = subst (λ (y : NodeState). slice_get (writes_by p.ask y.tried p.writes) y.done ≡ Some v) mine (subst (λ (vs : List PlanWrite). slice_get vs d.done ≡ Some v) same (some_at ws d.done v lt e))
 
-  pub last_now : (p : Plan) (ws : List PlanWrite) → ws ≡ p.writes → length ws ≤ d.done → slice_get p.writes r.state.done ≡ None
-  last_now p ws same over = subst (λ (y : NodeState). slice_get p.writes y.done ≡ None) mine (subst (λ (us : List PlanWrite). slice_get us d.done ≡ None) same (none_at ws d.done over))
+  pub last_now : (p : Plan) (ws : List PlanWrite) → ws ≡ writes_by p.ask d.tried p.writes → length ws ≤ d.done → slice_get (writes_by p.ask r.state.tried p.writes) r.state.done ≡ None
+  last_now p ws same over = subst (λ (y : NodeState). slice_get (writes_by p.ask y.tried p.writes) y.done ≡ None) mine (subst (λ (us : List PlanWrite). slice_get us d.done ≡ None) same (none_at ws d.done over))
+
+  -- the ask that it tells is the node's
+  pub item_aim : (t : List Resource) (p : Plan) (o : Option (ℕ × Mode)) → o ≡ aim_of (going_ask t n d.tried p.ask) → o ≡ aim_of (going_ask t n r.state.tried p.ask)
+  item_aim t p o e = e ∙ ap (λ (y : NodeState). aim_of (going_ask t n y.tried p.ask)) mine
 
 module _ (w : Plain) (good : Good w) (n : ℕ) (r : IsReady w n) where
+  pub tried_is : tried_at w n ≡ r.state.tried
+  tried_is = ap tried_in r.at
+
   pub plan_is : (p : Plan) → r.state.plan ≡ Some p → plan_at w n ≡ Some p
   plan_is p e = ap plan_in r.at ∙ e
 
@@ -497,6 +568,24 @@ module _ (w : Plain) (good : Good w) (n : ℕ) (r : IsReady w n) where
 
   pub place_kept : (p : Plan) → r.state.plan ≡ Some p → (spare : ℕ) → HasRoom w spare → 0 < spare
   place_kept p plan spare room = let one = has_decided w.nodes n r.state r.at (ap is_some plan) in let le = room.places in omega arith
+
+-- an aim is that of an ask
+pub record IsAimed (o : Option PlanAsk) (file : ℕ) (mode : Mode) : Type 0 where
+  pub made : PlanAsk
+  pub is : o ≡ Some made
+  pub file_is : made.file ≡ file
+  pub mode_is : made.mode ≡ mode
+
+pub aimed : (o : Option PlanAsk) (file : ℕ) (mode : Mode) → aim_of o ≡ Some (file, mode) → IsAimed o file mode
+aimed None file mode e = absurd (let f : None ≡ Some (file, mode) = e in cc)
+aimed (Some a) file mode e =
+    let f : Some (a.file, a.mode) ≡ Some (file, mode) = e in
+    let g : (a.file, a.mode) ≡ (file, mode) = cc in
+    record { made = a; is = refl; file_is = ap (λ (k : ℕ × Mode). k.0) g; mode_is = ap (λ (k : ℕ × Mode). k.1) g }
+
+pub aims_none : (o : Option PlanAsk) → aim_of o ≡ None → o ≡ None
+aims_none None e = refl
+aims_none (Some a) e = absurd (let f : Some (a.file, a.mode) ≡ None = e in cc)
 
 pub none_of : {A : Type 0} (o : Option A) → is_some o ≡ false → o ≡ None
 none_of None e = refl

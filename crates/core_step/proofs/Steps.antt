@@ -1,14 +1,17 @@
 -- What a world is after one of its nodes has changed.
-use Rattle.std.proofs.Common.{◌≡◌, ◌≤◌, ◌<◌, ◌-◌, ◌++◌, ◌∷◌, [], ℕ, Bool, zero, suc, arith, List, Option, Some, None, Result, Ok, Err, length, map, slice_get, slice_set, refl, sym, ap, subst, ◌∙◌}
+use Rattle.std.proofs.Common.{◌≡◌, ◌≤◌, ◌<◌, ◌-◌, ◌++◌, ◌∷◌, [], ℕ, Bool, true, false, cond, zero, suc, arith, List, Option, Some, None, Result, Ok, Err, length, map, slice_get, slice_set, refl, sym, ap, subst, ◌∙◌}
 use Rattle.std.specs.Prelude.{slice_index_or, option_map, IsSome, OnOk, OnErr}
 use Rattle.std.proofs.lemmas.Option.{get_or_from_slice_get}
 use Rattle.vol_words.specs.Fields.{Block}
 use Rattle.lock_db.specs.declared.name.LockName.{LockName}
 use Rattle.lock_db.specs.declared.name.LockName.TheVariants.{V}
+use Rattle.lock_db.specs.declared.name.LockName.TheVariants as lock_name
 use Rattle.plain_cat.specs.declared.mode.Mode.TheVariants.{PW}
 use Rattle.node_space.specs.declared.outcome.Search.{Search as Outcome}
 use Rattle.node_space.specs.Answering.{answer, blocks_of}
-use Rattle.lock_db.specs.Tables.{asked}
+use Rattle.lock_db.specs.declared.name.Owner.{Owner as LockOwner}
+use Rattle.lock_db.specs.Resources.{goes_at_once}
+use Rattle.lock_db.specs.Tables.{resource_at, asked, tried}
 use Rattle.plain_cat.specs.declared.mode.Mode.{Mode}
 use Rattle.plain_cat.specs.declared.command.Cmd.{Cmd}
 use Rattle.node_locks.specs.Held.{system_of}
@@ -17,10 +20,11 @@ use Rattle.plain_cat.specs.declared.history.Entry.{Entry}
 use Rattle.plain_cat.specs.declared.history.Entry.TheVariants.{Done}
 use Rattle.op_law.specs.declared.need.Plan.{Plan}
 use Rattle.op_law.specs.declared.need.PlanWrite.{PlanWrite}
+use Rattle.op_law.specs.declared.need.Ask.{Ask as PlanAsk}
 use Rattle.op_law.specs.Going.{with_lock, with_block}
 use Rattle.core_state.specs.Worlds.{NodeState, Plain, node_at, set_node}
-use Rattle.core_state.specs.Goods.{writes_of}
-use Rattle.core_state.specs.Events.{Event, Stand, Leave, Ask, Claim, See, Scan, Grab, Decide, Put, Answer, happens, happen_at, happen, all_writes, given_back, turned, leaving, asking, claiming, told_by, takes_by, looked_on, scanned, scanning, grabbing, writing, answering, one_more, command_in, command_at, plan_in, plan_at}
+use Rattle.core_state.specs.Asks.{writes_by, reply_by, writes_now}
+use Rattle.core_state.specs.Events.{Event, Stand, Leave, Ask, Claim, See, Scan, Grab, Decide, Put, Try, Answer, would_go, tried_by, happens, happen_at, happen, all_writes, given_back, turned, leaving, asking, claiming, told_by, takes_by, looked_on, scanned, scanning, grabbing, writing, trying, answering, one_more, command_in, command_at, plan_in, plan_at, tried_in, tried_at}
 use Rattle.vol_parts.specs.declared.geometry.Geometry.{Geometry}
 use Rattle.core_step.specs.Giving.{MayGiveAll}
 use Rattle.core_state.proofs.Nodes.{told_at, told_set, set_node_same}
@@ -37,6 +41,11 @@ on_err (Err e) P Q go p = go p
 -- an event of a node that stands so
 pub happen_here : (w : Plain) (n : ℕ) (s : NodeState) (e : Event) → node_at w.nodes n ≡ Some s → happens w n s e ≡ happen w n e
 happen_here w n s e at = sym (ap (λ o. happen_at w n o e) at)
+
+-- a request that does not wait and is granted is a request
+pub tried_granted : (name : LockName) (owner : LockOwner) (mode : Mode) (t : List Resource) → goes_at_once owner mode (resource_at name t).askers ≡ true → tried name owner mode t ≡ asked name owner mode t
+unfolding tried
+tried_granted name owner mode t e = ap (λ b. cond b (asked name owner mode t) t) e
 
 -- ---- item d of the list xs, which is told as node n of the world w, is d' now
 
@@ -95,27 +104,32 @@ module _ {A : Type 0} (f : A → NodeState) (xs : List A) (w : Plain) (n : ℕ) 
       ∙ ap (λ y. turned (record (f d) { cmd = Some x; seen = with_block lbn y (f d).seen; reads = one_more (f d).reads })) (sym (get_or_from_slice_get w.blocks lbn b [] there))))
       ∙ happen_here w n (f d) (See x lbn) at
 
-  pub decided : (x : Cmd) (p : Plan) → command_at w n ≡ Some x → f d' ≡ turned (record (f d) { plan = Some p; done = 0 }) → record w { nodes = after } ≡ happen w n (Decide x p)
+  pub decided : (x : Cmd) (p : Plan) → command_at w n ≡ Some x → f d' ≡ turned (record (f d) { plan = Some p; done = 0; tried = false }) → record w { nodes = after } ≡ happen w n (Decide x p)
   decided x p c e =
       ap (λ ns. record w { nodes = ns })
-      (now (turned (record (f d) { cmd = Some x; plan = Some p; done = 0 })) (e ∙ ap (λ o. turned (record (f d) { cmd = o; plan = Some p; done = 0 })) (command x c)))
+      (now (turned (record (f d) { cmd = Some x; plan = Some p; done = 0; tried = false })) (e ∙ ap (λ o. turned (record (f d) { cmd = o; plan = Some p; done = 0; tried = false })) (command x c)))
       ∙ happen_here w n (f d) (Decide x p) at
+
+  pub tried_so : (x : Cmd) (a : PlanAsk) → would_go w.locks n a ≡ true → f d' ≡ turned (trying (f d) a) → record w { locks = asked (lock_name.A a.file) (system_of n) a.mode w.locks; nodes = after } ≡ happen w n (Try x a)
+  tried_so x a goes e =
+      ap (λ ns. record w { locks = asked (lock_name.A a.file) (system_of n) a.mode w.locks; nodes = ns }) (now (turned (trying (f d) a)) e) ∙ sym (ap (tried_by w n (f d) x a) goes) ∙ happen_here w n (f d) (Try x a) at
 
   pub put_so : (v : PlanWrite) (bs : List Block) → bs ≡ slice_set w.blocks v.lbn v.block → f d' ≡ turned (writing (f d)) → record w { blocks = bs; nodes = after } ≡ happen w n (Put v)
   put_so v bs b e = (λ i. record w { blocks = b i; nodes = now (turned (writing (f d))) e i }) ∙ happen_here w n (f d) (Put v) at
 
-  pub answered_so : (x : Cmd) (p : Plan) → command_at w n ≡ Some x → plan_at w n ≡ Some p → (cmd : Cmd) (plan : Plan) → (f d).cmd ≡ Some cmd → (f d).plan ≡ Some plan
-      → f d' ≡ turned (answering (f d) cmd plan.reply) → (t : List Resource) (h : List Entry) → t ≡ given_back w.geometry n ((f d).search.takes ++ plan.writes) (f d).asked w.locks → h ≡ w.history ++ Done n cmd plan.reply ∷ []
-      → record w { locks = t; nodes = after; history = h } ≡ happen w n (Answer x p.reply)
-  answered_so x p c q cmd plan mine made e t h locks history =
+  pub answered_so : (x : Cmd) (p : Plan) → command_at w n ≡ Some x → plan_at w n ≡ Some p → (cmd : Cmd) (plan : Plan) (b : Bool) → (f d).cmd ≡ Some cmd → (f d).plan ≡ Some plan → b ≡ (f d).tried
+      → f d' ≡ turned (answering (f d) cmd (reply_by plan.ask b plan.reply)) → (t : List Resource) (h : List Entry) → t ≡ given_back w.geometry n ((f d).search.takes ++ writes_by plan.ask b plan.writes) (f d).asked w.locks
+      → h ≡ w.history ++ Done n cmd (reply_by plan.ask b plan.reply) ∷ [] → record w { locks = t; nodes = after; history = h } ≡ happen w n (Answer x (reply_by p.ask (tried_at w n) p.reply))
+  answered_so x p c q cmd plan b mine made tried e t h locks history =
       let first : Some cmd ≡ Some x = sym mine ∙ command x c in
       let same_cmd : cmd ≡ x = cc in
       let second : Some plan ≡ Some p = sym made ∙ sym (ap plan_in at) ∙ q in
       let same_plan : plan ≡ p = cc in
-      let ws : given_back w.geometry n ((f d).search.takes ++ plan.writes) (f d).asked w.locks ≡ given_back w.geometry n (all_writes (f d)) (f d).asked w.locks
-      = ap (λ o. given_back w.geometry n ((f d).search.takes ++ writes_of o) (f d).asked w.locks) (sym made) in
-      (λ i. record w { locks = (locks ∙ ws) i; nodes = now (turned (answering (f d) cmd plan.reply)) e i; history = history i })
-      ∙ happen_here w n (f d) (Answer cmd plan.reply) at ∙ (λ i. happen w n (Answer (same_cmd i) (same_plan i).reply))
+      let same_tried : b ≡ tried_at w n = tried ∙ sym (ap tried_in at) in
+      let ws : given_back w.geometry n ((f d).search.takes ++ writes_by plan.ask b plan.writes) (f d).asked w.locks ≡ given_back w.geometry n (all_writes (f d)) (f d).asked w.locks
+      = λ i. given_back w.geometry n ((f d).search.takes ++ writes_now (tried i) (sym made i)) (f d).asked w.locks in
+      (λ i. record w { locks = (locks ∙ ws) i; nodes = now (turned (answering (f d) cmd (reply_by plan.ask b plan.reply))) e i; history = history i })
+      ∙ happen_here w n (f d) (Answer cmd (reply_by plan.ask b plan.reply)) at ∙ (λ i. happen w n (Answer (same_cmd i) (reply_by (same_plan i).ask (same_tried i) (same_plan i).reply)))
 
 -- a node that is set to what tells the same
 pub kept : {A : Type 0} (f : A → NodeState) (xs : List A) (w : Plain) (n : ℕ) (d d' : A) → 1 ≤ n → n ≤ length (map f xs) → d ≡ slice_index_or xs (n - 1) d → w.nodes ≡ map f xs → f d' ≡ f d
@@ -141,8 +155,8 @@ is_there f None i = i
 is_there f (Some a) i = refl
 
 -- the locks of a command that has ended can be given back, however they were come by
-pub may_give_now : (g : Geometry) (n : ℕ) (made : Option Plan) (p : Plan) (takes : List PlanWrite) (locks : List (LockName × Mode)) (t : List Resource) (us ws : List PlanWrite) (ls : List (LockName × Mode)) → made ≡ Some p
-    → us ≡ takes → ws ≡ p.writes → ls ≡ locks → MayGiveAll g n (takes ++ writes_of made) locks t → MayGiveAll g n (us ++ ws) ls t
-may_give_now g n made p takes locks t us ws ls m d e f may =
-    let same : takes ++ writes_of made ≡ us ++ ws = λ i. sym d i ++ (ap writes_of m ∙ sym e) i in
+pub may_give_now : (g : Geometry) (n : ℕ) (tried b : Bool) (made : Option Plan) (p : Plan) (takes : List PlanWrite) (locks : List (LockName × Mode)) (t : List Resource) (us ws : List PlanWrite) (ls : List (LockName × Mode)) → b ≡ tried → made ≡ Some p
+    → us ≡ takes → ws ≡ writes_by p.ask b p.writes → ls ≡ locks → MayGiveAll g n (takes ++ writes_now tried made) locks t → MayGiveAll g n (us ++ ws) ls t
+may_give_now g n tried b made p takes locks t us ws ls done m d e f may =
+    let same : takes ++ writes_now tried made ≡ us ++ ws = λ i. sym d i ++ ((λ j. writes_now (sym done j) (m j)) ∙ sym e) i in
     subst (λ (ks : List (LockName × Mode)). MayGiveAll g n (us ++ ws) ks t) (sym f) (subst (λ (vs : List PlanWrite). MayGiveAll g n vs locks t) same may)

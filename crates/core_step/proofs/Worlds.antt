@@ -1,5 +1,5 @@
 -- A turn leaves a world one.
-use Rattle.std.proofs.Common.{◌≡◌, ℕ, false, Option, Some, None, Result, Ok, Err, refl, sym, subst}
+use Rattle.std.proofs.Common.{◌≡◌, ℕ, Bool, true, false, Option, Some, None, Result, Ok, Err, refl, sym, subst}
 use Rattle.std.specs.Prelude.{OnOk, OnErr}
 use Rattle.plain_cat.specs.declared.command.Cmd.{Cmd}
 use Rattle.plain_cat.specs.declared.script.Script.{Script}
@@ -7,7 +7,7 @@ use Rattle.node_locks.specs.Held.{waits_at}
 use Rattle.op_law.specs.Laws.{Lawful}
 use Rattle.core_state.specs.Worlds.{NodeState, Plain, node_at, current}
 use Rattle.core_state.specs.Goods.{Good, HasOnly, HasRoom, IsWorld}
-use Rattle.core_state.specs.Events.{Event, Rest, Stand, Leave, Ask, Claim, See, Scan, Grab, Decide, Put, Answer, happens, happen_at, event_of, after_turn}
+use Rattle.core_state.specs.Events.{Event, Rest, Stand, Leave, Ask, Claim, See, Scan, Grab, Decide, Put, Try, Answer, would_go, tried_by, happens, happen_at, event_of, after_turn}
 use Rattle.core_state.proofs.Turns.{turn_keeps}
 
 script_stays : (w : Plain) (n : ℕ) (s : NodeState) (e : Event) → (happens w n s e).script ≡ w.script
@@ -21,6 +21,10 @@ script_stays w n s (Scan x clusters number lbn) = refl
 script_stays w n s (Grab v) = refl
 script_stays w n s (Decide x p) = refl
 script_stays w n s (Put v) = refl
+script_stays w n s (Try x a) = by_outcome (would_go w.locks n a) where
+  by_outcome : (b : Bool) → (tried_by w n s x a b).script ≡ w.script
+  by_outcome true = refl
+  by_outcome false = refl
 script_stays w n s (Answer x r) = refl
 
 -- no turn changes the script

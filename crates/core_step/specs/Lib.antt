@@ -1,3 +1,4 @@
+pub mod Asks
 pub mod Turns
 pub mod Giving
 pub mod Ready

@@ -1,8 +1,8 @@
 -- What a turn answers.
-use Rattle.std.specs.Prelude.{ℕ, Bool, false, Option, Some, None, if◌then◌else◌}
+use Rattle.std.specs.Prelude.{ℕ, Bool, false, Option, Some, None, is_some, if◌then◌else◌}
 use Rattle.node_locks.specs.Held.{waits_at}
 use Rattle.core_state.specs.Worlds.{NodeState, Plain, node_at}
-use Rattle.core_state.specs.Events.{Event, Rest, Stand, Leave, Ask, Claim, See, Scan, Grab, Decide, Put, Answer}
+use Rattle.core_state.specs.Events.{Event, Rest, Stand, Leave, Ask, Claim, See, Scan, Grab, Decide, Put, Try, Answer, command_at}
 use Rattle.core_step.specs.declared.turns.Turn.{Turn}
 use Rattle.core_step.specs.declared.turns.Turn.TheVariants as turn
 use Rattle.core_step.specs.declared.turns.Kind.TheVariants as kind
@@ -24,4 +24,5 @@ told w n (Scan x clusters number lbn) = turn.Moved kind.Looked
 told w n (Grab v) = turn.Moved kind.Wrote
 told w n (Decide x p) = turn.Moved kind.Planned
 told w n (Put v) = turn.Moved kind.Wrote
+told w n (Try x a) = if is_some (command_at w n) then turn.Moved kind.Tried else turn.Answered
 told w n (Answer x r) = turn.Answered

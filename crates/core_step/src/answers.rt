@@ -9,9 +9,11 @@ ghost use Rattle.op_law.specs.declared.need.Plan.{Plan};
 ghost use Rattle.op_law.specs.declared.need.PlanWrite.{PlanWrite};
 ghost use Rattle.op_law.specs.declared.seen.Seen.{Seen};
 ghost use Rattle.core_state.specs.Worlds.{NodeState, IsOfWorld, state_of, plain_of, node_at};
-ghost use Rattle.core_state.specs.Events.{Put, Answer, happen, turned, writing, answering, unseen, command_at, plan_at};
+ghost use Rattle.core_state.specs.Events.{Put, Answer, happen, turned, writing, answering, unseen, command_at, plan_at, tried_at};
+ghost use Rattle.core_state.specs.Asks.{reply_by};
 ghost use Rattle.core_step.specs.Giving.{MayEnd};
 
+use crate::asks::{into_reply, reply_by, writes_by};
 use crate::giving::give_back;
 use blk_drive::{ImageDev, ImageFault};
 use core_state::{Core, Node};
@@ -77,11 +79,12 @@ fn unseen(alloc: Global, geometry: Geometry) -> Seen
 struct Ended {
     cmd: Cmd,
     plan: Plan,
+    tried: bool,
     asked: SeenLocks,
     takes: Writes,
 }
 
-// A node's command ends with the reply of its plan. It takes no memory.
+// A node's command ends with the reply of its plan, or of its ask where that was not granted. It takes no memory.
 #[tactic(auto, unfolding(plain_vol::specs::Own::after_answer))]
 fn end<O: Operation>(alloc: Global, node: &mut Node<O>) -> Ended
     requires op { IsSome node.old.op }
@@ -89,17 +92,20 @@ fn end<O: Operation>(alloc: Global, node: &mut Node<O>) -> Ended
     requires few { node.old.past.answered < 4294967295 }
     ensures cmd { option_map O.cmd_is node.old.op ≡ Some result.cmd }
     ensures plan { node.old.plan ≡ Some result.plan }
+    ensures tried { result.tried ≡ node.old.tried }
     ensures asked { result.asked ≡ node.old.asked }
     ensures takes { result.takes ≡ node.old.takes }
-    ensures state { state_of O.cmd_is node.new ≡ turned (answering (state_of O.cmd_is node.old) result.cmd result.plan.reply) }
+    ensures state { state_of O.cmd_is node.new ≡ turned (answering (state_of O.cmd_is node.old) result.cmd (reply_by result.plan.ask result.tried result.plan.reply)) }
 {
     let (Some(op), Some(plan)) = (node.op.take(), node.plan.take()) else {
         unreachable!()
     };
+    let tried = node.tried;
     let cmd = op.into_cmd();
-    node.past.answer(&cmd, &plan.reply);
+    node.past.answer(&cmd, reply_by(&plan, tried));
     node.seen = unseen(alloc, node.seen.geometry);
     node.done = 0;
+    node.tried = false;
     let asked = mem::replace(&mut node.asked, SeenLocks::new(alloc));
     node.looked = SeenBlocks::new(alloc);
     let takes = mem::replace(&mut node.takes, Writes::new(alloc));
@@ -108,35 +114,38 @@ fn end<O: Operation>(alloc: Global, node: &mut Node<O>) -> Ended
     Ended {
         cmd,
         plan,
+        tried,
         asked,
         takes,
     }
 }
 
-/// A node answers: its answer is the last of the history, and its locks go back. It takes no memory.
+/// A node answers, with the reply of its plan, or of its ask where that was not granted: its answer is the last of the history, and
+/// its locks go back. It takes no memory.
 pub(crate) fn answer<I: ImageDev, O: Operation>(alloc: Global, core: &mut Core<I, O>, node: u8)
     requires node { IsOfWorld (plain_of O.cmd_is core.old) node }
     requires geometry { IsGeometry core.old.geometry }
     requires ends { (s : NodeState) → node_at (plain_of O.cmd_is core.old).nodes node ≡ Some s → MayEnd core.old.geometry node s core.old.locks }
     requires place { 0 < core.old.history.room }
-    ensures world { (x : Cmd) (p : Plan) → command_at (plain_of O.cmd_is core.old) node ≡ Some x → plan_at (plain_of O.cmd_is core.old) node ≡ Some p → plain_of O.cmd_is core.new ≡ happen (plain_of O.cmd_is core.old) node (Answer x p.reply) }
+    ensures world { (x : Cmd) (p : Plan) → command_at (plain_of O.cmd_is core.old) node ≡ Some x → plan_at (plain_of O.cmd_is core.old) node ≡ Some p → plain_of O.cmd_is core.new ≡ happen (plain_of O.cmd_is core.old) node (Answer x (reply_by p.ask (tried_at (plain_of O.cmd_is core.old) node) p.reply)) }
     ensures mirror { core.new.mirror ≡ core.old.mirror }
     ensures room { core.new.history.room + 1 ≡ core.old.history.room }
 {
     let Ended {
         cmd,
         plan,
+        tried,
         asked,
         takes,
     } = end(alloc, &mut core.nodes[node as usize - 1]);
-    let Plan { writes, reply, .. } = plan;
     give_back(
         &core.geometry,
         node,
         takes.items(),
-        writes.items(),
+        writes_by(&plan, tried),
         asked.items(),
         &mut core.locks,
     );
+    let reply = into_reply(plan, tried);
     core.history.append(Entry::Done { node, cmd, reply });
 }

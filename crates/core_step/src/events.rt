@@ -1,17 +1,18 @@
 //! The events, each as a function on what a world is made of.
 
-ghost use Rattle.std.specs.Prelude.{◌≡◌, ◌≤◌, ◌<◌, ◌++◌, [], ◌∷◌, Some, None, IfOk, OnOk, OnErr, IfSome, IsSome, length, slice_get};
+ghost use Rattle.std.specs.Prelude.{true, false, ◌≡◌, ◌≤◌, ◌<◌, ◌++◌, [], ◌∷◌, Some, None, IfOk, OnOk, OnErr, IfSome, IsSome, length, slice_get};
 ghost use Rattle.vol_words.specs.Faults.{HasCause};
 ghost use Rattle.plain_cat.specs.declared.command.Cmd.{Cmd};
-ghost use Rattle.lock_db.specs.declared.name.LockName.TheVariants.{V};
+ghost use Rattle.lock_db.specs.declared.name.LockName.TheVariants.{A, V};
 ghost use Rattle.plain_cat.specs.declared.mode.Mode.TheVariants.{PW};
 ghost use Rattle.lock_db.specs.Queues.{standing_of};
 ghost use Rattle.lock_db.specs.Resources.{asked_answer, goes_at_once};
 ghost use Rattle.lock_db.specs.Tables.{resource_at, asked};
 ghost use Rattle.node_locks.specs.Held.{system_of};
+ghost use Rattle.op_law.specs.declared.need.Ask.{Ask as PlanAsk};
 ghost use Rattle.op_law.specs.Laws.{Lawful};
 ghost use Rattle.core_state.specs.Worlds.{IsOfWorld, state_of, plain_of};
-ghost use Rattle.core_state.specs.Events.{Rest, Stand, Leave, Ask, Claim, See, Decide, Put, happen, turned, leaving, begun, looking, deciding, writing, one_more, command_at};
+ghost use Rattle.core_state.specs.Events.{Rest, Stand, Leave, Ask, Claim, See, Decide, Put, Try, happen, turned, leaving, begun, looking, deciding, writing, one_more, command_at};
 
 use blk_drive::{ImageDev, ImageFault};
 use core_state::{Core, Node};
@@ -139,6 +140,41 @@ pub(crate) fn claim<I: ImageDev, O: Operation>(
     Ok(asked)
 }
 
+// A node has asked for these locks, and the ask of its plan was granted.
+fn keep_tried<O: Operation>(node: &mut Node<O>, asked: SeenLocks)
+    ensures { state_of O.cmd_is node.new ≡ turned (record (state_of O.cmd_is node.old) { asked = asked; tried = true }) }
+{
+    node.asked = asked;
+    node.tried = true;
+    count(node);
+}
+
+/// A node's command makes the ask of its plan for who has this file open, in this mode, where that is granted. An error says that
+/// memory ran out, and nothing was asked.
+pub(crate) fn try_ask<I: ImageDev, O: Operation>(
+    alloc: Global,
+    core: &mut Core<I, O>,
+    node: u8,
+    file: u32,
+    mode: Mode,
+) -> Result<(), NoMemory>
+    requires node { IsOfWorld (plain_of O.cmd_is core.old) node }
+    requires new { standing_of (system_of node) (resource_at (A file) core.old.locks).askers ≡ None }
+    requires goes { goes_at_once (system_of node) mode (resource_at (A file) core.old.locks).askers ≡ true }
+    ensures world { OnOk result ((x : Cmd) (a : PlanAsk) → a.file ≡ file → a.mode ≡ mode → plain_of O.cmd_is core.new ≡ happen (plain_of O.cmd_is core.old) node (Try x a)) }
+    ensures same { OnErr result (plain_of O.cmd_is core.new ≡ plain_of O.cmd_is core.old) }
+    ensures mirror { core.new.mirror ≡ core.old.mirror }
+    ensures room { core.new.history.room ≡ core.old.history.room }
+{
+    let place = node as usize - 1;
+    let name = LockName::A(file);
+    let more = with_lock(alloc, &core.nodes[place].asked, name, mode)?;
+    core.locks
+        .try_request(alloc, name, Owner { node, part: 0 }, mode)?;
+    keep_tried(&mut core.nodes[place], more);
+    Ok(())
+}
+
 // A node has looked at a block. A refusal of memory leaves it as it was.
 fn keep_block<O: Operation>(node: &mut Node<O>, lbn: u32, block: Block) -> Result<(), NoMemory>
     ensures ok { OnOk result (state_of O.cmd_is node.new ≡ turned (record (state_of O.cmd_is node.old) { seen = record node.old.seen { blocks = node.old.seen.blocks ++ (lbn, block) ∷ [] }; reads = one_more node.old.reads })) }
@@ -169,10 +205,11 @@ pub(crate) fn look<I: ImageDev, O: Operation>(
 
 // A node has decided on a plan.
 fn keep_plan<O: Operation>(node: &mut Node<O>, plan: Plan)
-    ensures { state_of O.cmd_is node.new ≡ turned (record (state_of O.cmd_is node.old) { plan = Some plan; done = 0 }) }
+    ensures { state_of O.cmd_is node.new ≡ turned (record (state_of O.cmd_is node.old) { plan = Some plan; done = 0; tried = false }) }
 {
     node.plan = Some(plan);
     node.done = 0;
+    node.tried = false;
     count(node);
 }
 

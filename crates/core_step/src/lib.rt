@@ -2,6 +2,7 @@
 #![tactic(auto)]
 
 mod answers;
+mod asks;
 mod events;
 mod giving;
 mod raises;

@@ -1,7 +1,7 @@
 //! A turn: the event of the first rule that applies.
 
 ghost use Rattle.std.specs.Prelude.{◌≡◌, ◌≤◌, ◌⊎◌, true, false, Some, None, Err, IfOk, OnOk, OnErr, IfSome, IsSome};
-ghost use Rattle.vol_words.specs.Faults.{Rose, HasCause};
+ghost use Rattle.vol_words.specs.Faults.{Rose};
 ghost use Rattle.plain_cat.specs.declared.command.Cmd.{Cmd};
 ghost use Rattle.plain_vol.specs.Own.{next_command};
 ghost use Rattle.node_locks.specs.Held.{waits_at};
@@ -13,10 +13,12 @@ ghost use Rattle.core_state.specs.Goods.{Good, HasOnly, HasRoom};
 ghost use Rattle.core_state.specs.Images.{IsTold, told_as};
 ghost use Rattle.core_state.specs.Events.{is_write, happen, begun, next_event, command_event, plan_at, after_turn};
 ghost use Rattle.core_step.specs.Ready.{IsReady, Begins, HasTakenAll, NeedsNow};
+ghost use Rattle.core_step.specs.Asks.{is_granted_ask};
 ghost use Rattle.core_step.specs.Turns.{told};
 
 use crate::answers::{answer, put};
-use crate::events::{ask, claim, decide, leave, look, stand};
+use crate::asks::{going_ask, writes_by};
+use crate::events::{ask, claim, decide, leave, look, stand, try_ask};
 use crate::searches::{copied, grab, has_asked, scan};
 use crate::turns::{Kind, Turn, TurnFault};
 use blk_drive::ImageDev;
@@ -121,7 +123,7 @@ fn unplanned<I: ImageDev, O: Operation>(
     }
 }
 
-// A command that has decided on a plan makes its next write, or answers.
+// A command that has decided on a plan makes its next write, or its ask, or answers.
 fn planned<I: ImageDev, O: Operation>(
     alloc: Global,
     core: &mut Core<I, O>,
@@ -135,8 +137,9 @@ fn planned<I: ImageDev, O: Operation>(
     ensures world { OnOk result (plain_of O.cmd_is core.new ≡ happen (plain_of O.cmd_is core.old) node (command_event (plain_of O.cmd_is core.old) node)) }
     ensures answer { IfOk result (λ t. t ≡ told (plain_of O.cmd_is core.new) node (command_event (plain_of O.cmd_is core.old) node)) }
     ensures same { OnErr result (plain_of O.cmd_is core.new ≡ plain_of O.cmd_is core.old) }
-    ensures cause { HasCause (I.faults core.old.mirror.image) (I.faults core.new.mirror.image) result }
-    ensures memory { result ≡ Err TurnFault.NoMemory → ⊥ }
+    ensures later { I.faults core.old.mirror.image ≤ I.faults core.new.mirror.image }
+    ensures cause { result ≡ Err TurnFault.ImageFault → Rose (I.faults core.old.mirror.image) (I.faults core.new.mirror.image) }
+    ensures memory { result ≡ Err TurnFault.NoMemory → is_granted_ask core.old.locks node (command_event (plain_of O.cmd_is core.old) node) ≡ true }
     ensures before { result ≡ Err TurnFault.ImageFault → is_write (command_event (plain_of O.cmd_is core.old) node) ≡ true }
     ensures drive { IsTold (I.told core.old.mirror.image) core.old.mirror.blocks
         → (I.told core.new.mirror.image ≡ told_as (I.told core.old.mirror.image) core.new.mirror.blocks) ⊎ (result ≡ Err TurnFault.ImageFault) }
@@ -144,13 +147,18 @@ fn planned<I: ImageDev, O: Operation>(
 {
     let at = &core.nodes[node as usize - 1];
     let Some(plan) = &at.plan else { unreachable!() };
-    if at.done < plan.writes.items().len() {
-        let w = &plan.writes.items()[at.done];
+    let writes = writes_by(plan, at.tried);
+    if at.done < writes.len() {
+        let w = &writes[at.done];
         let lbn = w.lbn;
         let block = w.block;
         let done = at.done + 1;
         put(core, node, lbn, &block, done)?;
         return Ok(Turn::Moved(Kind::Wrote));
+    }
+    if let Some((file, mode)) = going_ask(plan, at.tried, &core.locks, node) {
+        try_ask(alloc, core, node, file, mode)?;
+        return Ok(Turn::Moved(Kind::Tried));
     }
     answer(alloc, core, node);
     Ok(Turn::Answered)
@@ -286,8 +294,9 @@ fn step<I: ImageDev, O: Operation>(
 
 /// One turn of a node, which counts from 1: the event of the first rule that applies to it. A node that is over, and one whose
 /// request stands in a queue still, make no other event. After a fault the world is as before: ImageFault comes only where a
-/// write of the image failed, whose block there is then the old one or the new; NoMemory where memory ran out. A turn that
-/// makes a write of a plan, or answers, takes no memory.
+/// write of the image failed, whose block there is then the old one or the new; NoMemory where memory ran out. Once a
+/// command has decided on a plan only an ask that is granted takes memory: a turn that makes a write of the plan, or answers, takes
+/// none.
 pub fn turn<I: ImageDev, O: Operation>(
     alloc: Global,
     w: &mut World<I, O>,

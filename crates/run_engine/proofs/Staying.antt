@@ -1,7 +1,7 @@
 -- What no turn changes.
-use Rattle.std.proofs.Common.{◌≡◌, ◌≤◌, ℕ, zero, suc, true, false, cond, List, [], ◌∷◌, Option, Some, None, take, refl, sym, subst, ◌∙◌}
+use Rattle.std.proofs.Common.{◌≡◌, ◌≤◌, ℕ, zero, suc, Bool, true, false, cond, List, [], ◌∷◌, Option, Some, None, take, refl, sym, subst, ◌∙◌}
 use Rattle.core_state.specs.Worlds.{NodeState, Plain, IsOfWorld, node_at}
-use Rattle.core_state.specs.Events.{Event, Rest, Stand, Leave, Ask, Claim, See, Scan, Grab, Decide, Put, Answer, happens, happen_at, next_event, after_turn, is_over}
+use Rattle.core_state.specs.Events.{Event, Rest, Stand, Leave, Ask, Claim, See, Scan, Grab, Decide, Put, Try, Answer, would_go, tried_by, happens, happen_at, next_event, after_turn, is_over}
 use Rattle.core_state.proofs.Nodes.{length_node}
 use Rattle.run_engine.specs.Walks.{after_play, played, next_from, Rotation, with_turn, after_next, rotation, IsPlayed, IsRotated, Stays}
 
@@ -27,6 +27,10 @@ event_stays w n s (Scan x clusters number lbn) = record { script = refl; opening
 event_stays w n s (Grab v) = record { script = refl; opening = refl; geometry = refl; count = length_node w.nodes n _ }
 event_stays w n s (Decide x p) = record { script = refl; opening = refl; geometry = refl; count = length_node w.nodes n _ }
 event_stays w n s (Put v) = record { script = refl; opening = refl; geometry = refl; count = length_node w.nodes n _ }
+event_stays w n s (Try x a) = by_outcome (would_go w.locks n a) where
+  by_outcome : (b : Bool) → Stays w (tried_by w n s x a b)
+  by_outcome true = record { script = refl; opening = refl; geometry = refl; count = length_node w.nodes n _ }
+  by_outcome false = record { script = refl; opening = refl; geometry = refl; count = length_node w.nodes n _ }
 event_stays w n s (Answer x r) = record { script = refl; opening = refl; geometry = refl; count = length_node w.nodes n _ }
 
 event_at_stays : (w : Plain) (n : ℕ) (o : Option NodeState) (e : Event) → Stays w (happen_at w n o e)

@@ -1,5 +1,6 @@
-use Rattle.std.proofs.Common.{refl, ◌∙◌}
+use Rattle.std.proofs.Common.{refl, ap, ◌∙◌, false}
 use Rattle.std.specs.Prelude.{option_map}
+use Rattle.plain_vol.specs.Own.{after_answer}
 use Rattle.core_step.proofs.answers.end.Goals as goal
 
 pub returns-clause-state : goal.returns-clause-state
@@ -8,11 +9,12 @@ returns-clause-state g c =
     let asked = c.replace-asked.ensures.after ∙ c.new.ensures in
     let takes = c.replace-takes.ensures.after ∙ c.new-3.ensures in
     λ i. record {
-      past = c.answer.ensures i;
+      past = (c.answer.ensures ∙ ap (after_answer node.past c.into_cmd-cmd.result) c.reply_by.ensures) i;
       cmd = option_map g.O.Operation.cmd_is (c.take.ensures.after i);
       seen = c.unseen.ensures.rest node.seen refl i;
       plan = c.take-2.ensures.after i;
       done = 0;
+      tried = false;
       asked = asked i;
       search = record { looked = c.new-2.ensures i; takes = takes i; taken = 0 };
       over = node.over;

@@ -10,13 +10,13 @@ use Rattle.core_step.proofs.Ready.{item_asked, item_answer, item_geometry, may_c
 use Rattle.core_step.proofs.step.searching.Goals as goal
 
 pub claim-requires-clause-new : goal.claim-requires-clause-new
-claim-requires-clause-new g c = may_claim (plain_of g.O.Operation.cmd_is c.args.core.now) c.requires.good c.args.node c.requires.ready (item_asked g.O.Operation.cmd_is c.args.core.now.nodes.items (plain_of g.O.Operation.cmd_is c.args.core.now) c.args.node c.requires.ready c.index-at.result.now refl c.requires.node.from c.requires.node.to c.index-at.ensures false (ap (λ ls. has_asked V ls) (sym c.items.ensures) ∙ sym c.has_asked.ensures ∙ c.if-not-has_asked.true))
+claim-requires-clause-new g c = may_claim (plain_of g.O.Operation.cmd_is c.args.core.now) c.requires.good c.args.node c.requires.ready c.requires.plan (item_asked g.O.Operation.cmd_is c.args.core.now.nodes.items (plain_of g.O.Operation.cmd_is c.args.core.now) c.args.node c.requires.ready c.index-at.result.now refl c.requires.node.from c.requires.node.to c.index-at.ensures false (ap (λ ls. has_asked V ls) (sym c.items.ensures) ∙ sym c.has_asked.ensures ∙ c.if-not-has_asked.true))
 
 pub returns-in-Granted-clause-world : goal.returns-in-Granted-clause-world
 returns-in-Granted-clause-world g c = (c.in_ok-claim.ensures.world c.requires.ready.cmd (command_is (plain_of g.O.Operation.cmd_is c.args.core.now) c.requires.good c.args.node c.requires.ready)) ∙ ap (happen (plain_of g.O.Operation.cmd_is c.args.core.now) c.args.node) (sym (event_claim (plain_of g.O.Operation.cmd_is c.args.core.now) c.requires.good c.args.node c.requires.ready c.requires.plan c.args.clusters c.args.number (c.requires.needs c.requires.ready.state c.requires.ready.cmd c.requires.ready.at c.requires.ready.has) (item_asked g.O.Operation.cmd_is c.args.core.now.nodes.items (plain_of g.O.Operation.cmd_is c.args.core.now) c.args.node c.requires.ready c.index-at.result.now refl c.requires.node.from c.requires.node.to c.index-at.ensures false (ap (λ ls. has_asked V ls) (sym c.items.ensures) ∙ sym c.has_asked.ensures ∙ c.if-not-has_asked.true))))
 
 pub returns-in-Granted-clause-answer : goal.returns-in-Granted-clause-answer
-returns-in-Granted-clause-answer g c = sym (ap (told (plain_of g.O.Operation.cmd_is c.claim.new.core) c.args.node) (event_claim (plain_of g.O.Operation.cmd_is c.args.core.now) c.requires.good c.args.node c.requires.ready c.requires.plan c.args.clusters c.args.number (c.requires.needs c.requires.ready.state c.requires.ready.cmd c.requires.ready.at c.requires.ready.has) (item_asked g.O.Operation.cmd_is c.args.core.now.nodes.items (plain_of g.O.Operation.cmd_is c.args.core.now) c.args.node c.requires.ready c.index-at.result.now refl c.requires.node.from c.requires.node.to c.index-at.ensures false (ap (λ ls. has_asked V ls) (sym c.items.ensures) ∙ sym c.has_asked.ensures ∙ c.if-not-has_asked.true))) ∙ claim_told (plain_of g.O.Operation.cmd_is c.args.core.now) c.requires.good c.args.node c.requires.ready (item_asked g.O.Operation.cmd_is c.args.core.now.nodes.items (plain_of g.O.Operation.cmd_is c.args.core.now) c.args.node c.requires.ready c.index-at.result.now refl c.requires.node.from c.requires.node.to c.index-at.ensures false (ap (λ ls. has_asked V ls) (sym c.items.ensures) ∙ sym c.has_asked.ensures ∙ c.if-not-has_asked.true)) true (goes_granted _ c.in_ok-claim.field-0 c.in_ok-claim.ensures.answer c.in-Granted.is) (plain_of g.O.Operation.cmd_is c.claim.new.core) (c.in_ok-claim.ensures.world c.requires.ready.cmd (command_is (plain_of g.O.Operation.cmd_is c.args.core.now) c.requires.good c.args.node c.requires.ready)))
+returns-in-Granted-clause-answer g c = sym (ap (told (plain_of g.O.Operation.cmd_is c.claim.new.core) c.args.node) (event_claim (plain_of g.O.Operation.cmd_is c.args.core.now) c.requires.good c.args.node c.requires.ready c.requires.plan c.args.clusters c.args.number (c.requires.needs c.requires.ready.state c.requires.ready.cmd c.requires.ready.at c.requires.ready.has) (item_asked g.O.Operation.cmd_is c.args.core.now.nodes.items (plain_of g.O.Operation.cmd_is c.args.core.now) c.args.node c.requires.ready c.index-at.result.now refl c.requires.node.from c.requires.node.to c.index-at.ensures false (ap (λ ls. has_asked V ls) (sym c.items.ensures) ∙ sym c.has_asked.ensures ∙ c.if-not-has_asked.true))) ∙ claim_told (plain_of g.O.Operation.cmd_is c.args.core.now) c.requires.good c.args.node c.requires.ready c.requires.plan (item_asked g.O.Operation.cmd_is c.args.core.now.nodes.items (plain_of g.O.Operation.cmd_is c.args.core.now) c.args.node c.requires.ready c.index-at.result.now refl c.requires.node.from c.requires.node.to c.index-at.ensures false (ap (λ ls. has_asked V ls) (sym c.items.ensures) ∙ sym c.has_asked.ensures ∙ c.if-not-has_asked.true)) true (goes_granted _ c.in_ok-claim.field-0 c.in_ok-claim.ensures.answer c.in-Granted.is) (plain_of g.O.Operation.cmd_is c.claim.new.core) (c.in_ok-claim.ensures.world c.requires.ready.cmd (command_is (plain_of g.O.Operation.cmd_is c.args.core.now) c.requires.good c.args.node c.requires.ready)))
 
 pub returns-in-Granted-clause-room : goal.returns-in-Granted-clause-room
 returns-in-Granted-clause-room g c = subst (λ k. HasRoom (plain_of g.O.Operation.cmd_is c.claim.new.core) k) (sym c.in_ok-claim.ensures.room) (claim_room (plain_of g.O.Operation.cmd_is c.args.core.now) c.requires.good c.args.node c.requires.ready c.requires.ready.cmd c.args.core.now.history.room c.requires.room (plain_of g.O.Operation.cmd_is c.claim.new.core) (c.in_ok-claim.ensures.world c.requires.ready.cmd (command_is (plain_of g.O.Operation.cmd_is c.args.core.now) c.requires.good c.args.node c.requires.ready)))
@@ -25,7 +25,7 @@ pub returns-in-Queued-clause-world : goal.returns-in-Queued-clause-world
 returns-in-Queued-clause-world g c = (c.in_ok-claim.ensures.world c.requires.ready.cmd (command_is (plain_of g.O.Operation.cmd_is c.args.core.now) c.requires.good c.args.node c.requires.ready)) ∙ ap (happen (plain_of g.O.Operation.cmd_is c.args.core.now) c.args.node) (sym (event_claim (plain_of g.O.Operation.cmd_is c.args.core.now) c.requires.good c.args.node c.requires.ready c.requires.plan c.args.clusters c.args.number (c.requires.needs c.requires.ready.state c.requires.ready.cmd c.requires.ready.at c.requires.ready.has) (item_asked g.O.Operation.cmd_is c.args.core.now.nodes.items (plain_of g.O.Operation.cmd_is c.args.core.now) c.args.node c.requires.ready c.index-at.result.now refl c.requires.node.from c.requires.node.to c.index-at.ensures false (ap (λ ls. has_asked V ls) (sym c.items.ensures) ∙ sym c.has_asked.ensures ∙ c.if-not-has_asked.true))))
 
 pub returns-in-Queued-clause-answer : goal.returns-in-Queued-clause-answer
-returns-in-Queued-clause-answer g c = sym (ap (told (plain_of g.O.Operation.cmd_is c.claim.new.core) c.args.node) (event_claim (plain_of g.O.Operation.cmd_is c.args.core.now) c.requires.good c.args.node c.requires.ready c.requires.plan c.args.clusters c.args.number (c.requires.needs c.requires.ready.state c.requires.ready.cmd c.requires.ready.at c.requires.ready.has) (item_asked g.O.Operation.cmd_is c.args.core.now.nodes.items (plain_of g.O.Operation.cmd_is c.args.core.now) c.args.node c.requires.ready c.index-at.result.now refl c.requires.node.from c.requires.node.to c.index-at.ensures false (ap (λ ls. has_asked V ls) (sym c.items.ensures) ∙ sym c.has_asked.ensures ∙ c.if-not-has_asked.true))) ∙ claim_told (plain_of g.O.Operation.cmd_is c.args.core.now) c.requires.good c.args.node c.requires.ready (item_asked g.O.Operation.cmd_is c.args.core.now.nodes.items (plain_of g.O.Operation.cmd_is c.args.core.now) c.args.node c.requires.ready c.index-at.result.now refl c.requires.node.from c.requires.node.to c.index-at.ensures false (ap (λ ls. has_asked V ls) (sym c.items.ensures) ∙ sym c.has_asked.ensures ∙ c.if-not-has_asked.true)) false (goes_queued _ c.in_ok-claim.field-0 c.in_ok-claim.ensures.answer c.in-Queued.is) (plain_of g.O.Operation.cmd_is c.claim.new.core) (c.in_ok-claim.ensures.world c.requires.ready.cmd (command_is (plain_of g.O.Operation.cmd_is c.args.core.now) c.requires.good c.args.node c.requires.ready)))
+returns-in-Queued-clause-answer g c = sym (ap (told (plain_of g.O.Operation.cmd_is c.claim.new.core) c.args.node) (event_claim (plain_of g.O.Operation.cmd_is c.args.core.now) c.requires.good c.args.node c.requires.ready c.requires.plan c.args.clusters c.args.number (c.requires.needs c.requires.ready.state c.requires.ready.cmd c.requires.ready.at c.requires.ready.has) (item_asked g.O.Operation.cmd_is c.args.core.now.nodes.items (plain_of g.O.Operation.cmd_is c.args.core.now) c.args.node c.requires.ready c.index-at.result.now refl c.requires.node.from c.requires.node.to c.index-at.ensures false (ap (λ ls. has_asked V ls) (sym c.items.ensures) ∙ sym c.has_asked.ensures ∙ c.if-not-has_asked.true))) ∙ claim_told (plain_of g.O.Operation.cmd_is c.args.core.now) c.requires.good c.args.node c.requires.ready c.requires.plan (item_asked g.O.Operation.cmd_is c.args.core.now.nodes.items (plain_of g.O.Operation.cmd_is c.args.core.now) c.args.node c.requires.ready c.index-at.result.now refl c.requires.node.from c.requires.node.to c.index-at.ensures false (ap (λ ls. has_asked V ls) (sym c.items.ensures) ∙ sym c.has_asked.ensures ∙ c.if-not-has_asked.true)) false (goes_queued _ c.in_ok-claim.field-0 c.in_ok-claim.ensures.answer c.in-Queued.is) (plain_of g.O.Operation.cmd_is c.claim.new.core) (c.in_ok-claim.ensures.world c.requires.ready.cmd (command_is (plain_of g.O.Operation.cmd_is c.args.core.now) c.requires.good c.args.node c.requires.ready)))
 
 pub returns-in-Queued-clause-room : goal.returns-in-Queued-clause-room
 returns-in-Queued-clause-room g c = subst (λ k. HasRoom (plain_of g.O.Operation.cmd_is c.claim.new.core) k) (sym c.in_ok-claim.ensures.room) (claim_room (plain_of g.O.Operation.cmd_is c.args.core.now) c.requires.good c.args.node c.requires.ready c.requires.ready.cmd c.args.core.now.history.room c.requires.room (plain_of g.O.Operation.cmd_is c.claim.new.core) (c.in_ok-claim.ensures.world c.requires.ready.cmd (command_is (plain_of g.O.Operation.cmd_is c.args.core.now) c.requires.good c.args.node c.requires.ready)))

@@ -17,7 +17,7 @@ pub next_need-requires-clause-fits : goal.next_need-requires-clause-fits
 next_need-requires-clause-fits g c = op_fits g.O.Operation.cmd_is c.args.core.now.nodes.items (plain_of g.O.Operation.cmd_is c.args.core.now) c.args.node c.requires.ready c.index.result.now refl c.requires.node.from c.requires.node.to c.index.ensures c.requires.good
 
 pub ask-requires-clause-new : goal.ask-requires-clause-new
-ask-requires-clause-new g c = may_lock (plain_of g.O.Operation.cmd_is c.args.core.now) c.requires.good c.args.node c.requires.ready c.in-Lock.name c.in-Lock.mode (op_need g.O.Operation.cmd_is c.args.core.now.nodes.items (plain_of g.O.Operation.cmd_is c.args.core.now) c.args.node c.requires.ready c.index.result.now refl c.requires.node.from c.requires.node.to c.index.ensures (need.Lock c.in-Lock.name c.in-Lock.mode) (subst (λ (y : Need). IfSome c.index.result.now.op (λ op. need_of (g.O.Operation.cmd_is op) c.index.result.now.seen ≡ y)) c.in-Lock.is c.in_ok-name.ensures))
+ask-requires-clause-new g c = may_lock (plain_of g.O.Operation.cmd_is c.args.core.now) c.requires.good c.args.node c.requires.ready c.requires.plan c.in-Lock.name c.in-Lock.mode (op_need g.O.Operation.cmd_is c.args.core.now.nodes.items (plain_of g.O.Operation.cmd_is c.args.core.now) c.args.node c.requires.ready c.index.result.now refl c.requires.node.from c.requires.node.to c.index.ensures (need.Lock c.in-Lock.name c.in-Lock.mode) (subst (λ (y : Need). IfSome c.index.result.now.op (λ op. need_of (g.O.Operation.cmd_is op) c.index.result.now.seen ≡ y)) c.in-Lock.is c.in_ok-name.ensures))
 
 pub look-requires-clause-within : goal.look-requires-clause-within
 look-requires-clause-within g c = look_within (plain_of g.O.Operation.cmd_is c.args.core.now) c.requires.good c.args.node c.requires.ready c.in-Block.field-0 c.in-Block.lbn (op_need g.O.Operation.cmd_is c.args.core.now.nodes.items (plain_of g.O.Operation.cmd_is c.args.core.now) c.args.node c.requires.ready c.index.result.now refl c.requires.node.from c.requires.node.to c.index.ensures (need.Block c.in-Block.field-0 c.in-Block.lbn) (subst (λ (y : Need). IfSome c.index.result.now.op (λ op. need_of (g.O.Operation.cmd_is op) c.index.result.now.seen ≡ y)) c.in-Block.is c.in_ok-name.ensures))
@@ -35,7 +35,7 @@ returns-in-Granted-clause-world g c = c.in_ok-ask-in-Lock.ensures.world c.requir
 pub returns-in-Granted-clause-answer : goal.returns-in-Granted-clause-answer
 returns-in-Granted-clause-answer g c =
     sym (ap (told (plain_of g.O.Operation.cmd_is c.ask.new.core) c.args.node) (event_need (plain_of g.O.Operation.cmd_is c.args.core.now) c.requires.good c.args.node c.requires.ready c.requires.plan (need.Lock c.in-Lock.name c.in-Lock.mode) (op_need g.O.Operation.cmd_is c.args.core.now.nodes.items (plain_of g.O.Operation.cmd_is c.args.core.now) c.args.node c.requires.ready c.index.result.now refl c.requires.node.from c.requires.node.to c.index.ensures (need.Lock c.in-Lock.name c.in-Lock.mode) (subst (λ (y : Need). IfSome c.index.result.now.op (λ op. need_of (g.O.Operation.cmd_is op) c.index.result.now.seen ≡ y)) c.in-Lock.is c.in_ok-name.ensures)))
-    ∙ asked_told (plain_of g.O.Operation.cmd_is c.args.core.now) c.requires.good c.args.node c.requires.ready c.in-Lock.name c.in-Lock.mode (op_need g.O.Operation.cmd_is c.args.core.now.nodes.items (plain_of g.O.Operation.cmd_is c.args.core.now) c.args.node c.requires.ready c.index.result.now refl c.requires.node.from c.requires.node.to c.index.ensures (need.Lock c.in-Lock.name c.in-Lock.mode) (subst (λ (y : Need). IfSome c.index.result.now.op (λ op. need_of (g.O.Operation.cmd_is op) c.index.result.now.seen ≡ y)) c.in-Lock.is c.in_ok-name.ensures)) true (goes_granted _ c.in_ok-ask-in-Lock.field-0 c.in_ok-ask-in-Lock.ensures.answer c.in-Granted.is) (plain_of g.O.Operation.cmd_is c.ask.new.core) (c.in_ok-ask-in-Lock.ensures.world c.requires.ready.cmd (command_is (plain_of g.O.Operation.cmd_is c.args.core.now) c.requires.good c.args.node c.requires.ready)))
+    ∙ asked_told (plain_of g.O.Operation.cmd_is c.args.core.now) c.requires.good c.args.node c.requires.ready c.requires.plan c.in-Lock.name c.in-Lock.mode (op_need g.O.Operation.cmd_is c.args.core.now.nodes.items (plain_of g.O.Operation.cmd_is c.args.core.now) c.args.node c.requires.ready c.index.result.now refl c.requires.node.from c.requires.node.to c.index.ensures (need.Lock c.in-Lock.name c.in-Lock.mode) (subst (λ (y : Need). IfSome c.index.result.now.op (λ op. need_of (g.O.Operation.cmd_is op) c.index.result.now.seen ≡ y)) c.in-Lock.is c.in_ok-name.ensures)) true (goes_granted _ c.in_ok-ask-in-Lock.field-0 c.in_ok-ask-in-Lock.ensures.answer c.in-Granted.is) (plain_of g.O.Operation.cmd_is c.ask.new.core) (c.in_ok-ask-in-Lock.ensures.world c.requires.ready.cmd (command_is (plain_of g.O.Operation.cmd_is c.args.core.now) c.requires.good c.args.node c.requires.ready)))
 
 pub returns-in-Granted-clause-room : goal.returns-in-Granted-clause-room
 returns-in-Granted-clause-room g c = subst (λ k. HasRoom (plain_of g.O.Operation.cmd_is c.ask.new.core) k) (sym c.in_ok-ask-in-Lock.ensures.room)
@@ -47,7 +47,7 @@ returns-in-Queued-clause-world g c = c.in_ok-ask-in-Lock.ensures.world c.require
 pub returns-in-Queued-clause-answer : goal.returns-in-Queued-clause-answer
 returns-in-Queued-clause-answer g c =
     sym (ap (told (plain_of g.O.Operation.cmd_is c.ask.new.core) c.args.node) (event_need (plain_of g.O.Operation.cmd_is c.args.core.now) c.requires.good c.args.node c.requires.ready c.requires.plan (need.Lock c.in-Lock.name c.in-Lock.mode) (op_need g.O.Operation.cmd_is c.args.core.now.nodes.items (plain_of g.O.Operation.cmd_is c.args.core.now) c.args.node c.requires.ready c.index.result.now refl c.requires.node.from c.requires.node.to c.index.ensures (need.Lock c.in-Lock.name c.in-Lock.mode) (subst (λ (y : Need). IfSome c.index.result.now.op (λ op. need_of (g.O.Operation.cmd_is op) c.index.result.now.seen ≡ y)) c.in-Lock.is c.in_ok-name.ensures)))
-    ∙ asked_told (plain_of g.O.Operation.cmd_is c.args.core.now) c.requires.good c.args.node c.requires.ready c.in-Lock.name c.in-Lock.mode (op_need g.O.Operation.cmd_is c.args.core.now.nodes.items (plain_of g.O.Operation.cmd_is c.args.core.now) c.args.node c.requires.ready c.index.result.now refl c.requires.node.from c.requires.node.to c.index.ensures (need.Lock c.in-Lock.name c.in-Lock.mode) (subst (λ (y : Need). IfSome c.index.result.now.op (λ op. need_of (g.O.Operation.cmd_is op) c.index.result.now.seen ≡ y)) c.in-Lock.is c.in_ok-name.ensures)) false (goes_queued _ c.in_ok-ask-in-Lock.field-0 c.in_ok-ask-in-Lock.ensures.answer c.in-Queued.is) (plain_of g.O.Operation.cmd_is c.ask.new.core) (c.in_ok-ask-in-Lock.ensures.world c.requires.ready.cmd (command_is (plain_of g.O.Operation.cmd_is c.args.core.now) c.requires.good c.args.node c.requires.ready)))
+    ∙ asked_told (plain_of g.O.Operation.cmd_is c.args.core.now) c.requires.good c.args.node c.requires.ready c.requires.plan c.in-Lock.name c.in-Lock.mode (op_need g.O.Operation.cmd_is c.args.core.now.nodes.items (plain_of g.O.Operation.cmd_is c.args.core.now) c.args.node c.requires.ready c.index.result.now refl c.requires.node.from c.requires.node.to c.index.ensures (need.Lock c.in-Lock.name c.in-Lock.mode) (subst (λ (y : Need). IfSome c.index.result.now.op (λ op. need_of (g.O.Operation.cmd_is op) c.index.result.now.seen ≡ y)) c.in-Lock.is c.in_ok-name.ensures)) false (goes_queued _ c.in_ok-ask-in-Lock.field-0 c.in_ok-ask-in-Lock.ensures.answer c.in-Queued.is) (plain_of g.O.Operation.cmd_is c.ask.new.core) (c.in_ok-ask-in-Lock.ensures.world c.requires.ready.cmd (command_is (plain_of g.O.Operation.cmd_is c.args.core.now) c.requires.good c.args.node c.requires.ready)))
 
 pub returns-in-Queued-clause-room : goal.returns-in-Queued-clause-room
 returns-in-Queued-clause-room g c = subst (λ k. HasRoom (plain_of g.O.Operation.cmd_is c.ask.new.core) k) (sym c.in_ok-ask-in-Lock.ensures.room)
