@@ -20,4 +20,6 @@ mod tests;
 #[cfg(test)]
 mod tree;
 #[cfg(test)]
+mod turn_by_turn;
+#[cfg(test)]
 mod worked_lines;

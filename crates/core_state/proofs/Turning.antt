@@ -68,7 +68,7 @@ planned_at (y ∷ ws) (suc k) v e = planned_at ws k v e
 -- a command that a world runs asks for nothing, so its plan is right as it is
 pub is_right : (x : Cmd) → is_run x ≡ true → (n : ℕ) (seen : Seen) (p : Plan) (o : Option PlanAsk) → IsPlan n x seen p o → IsRight n x seen.geometry (under_way x seen p.writes (knows n x seen)) p.reply
 is_right x runs n seen p None right = right
-is_right x runs n seen p (Some a) right = absurd (run_asks x runs right.0)
+is_right x runs n seen p (Some a) right = absurd (run_asks x runs right.0.may)
 
 -- what holds of names and of one more
 pub names_of_more : (ls : List (LockName × Mode)) (l : LockName × Mode) (P : LockName → Type 0) → ((name : LockName) → Has (names_of ls) name → P name) → P l.0 → (name : LockName) → Has (names_of (ls ++ l ∷ [])) name → P name
