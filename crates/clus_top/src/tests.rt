@@ -54,7 +54,7 @@ pub fn call(
 }
 
 // An image of so many zero blocks.
-fn zeros(alloc: Global, count: usize) -> Result<MemImage, NoMemory> {
+pub fn zeros(alloc: Global, count: usize) -> Result<MemImage, NoMemory> {
     if count > 100_000 {
         return Err(AllocError);
     }
@@ -67,7 +67,7 @@ pub fn volume(alloc: Global) -> Result<MemImage, NoMemory> {
 }
 
 // The image with one byte changed.
-fn with_byte(image: MemImage, lbn: u32, at: usize, byte: u8) -> Result<MemImage, NoMemory> {
+pub fn with_byte(image: MemImage, lbn: u32, at: usize, byte: u8) -> Result<MemImage, NoMemory> {
     let mut image = image;
     let mut b = [0; 512];
     let Ok(count) = image.blocks() else {
