@@ -111,9 +111,12 @@ fn eleven(rt: &impl Abort, alloc: Global) -> Result<MemImage, NoMemory> {
     for k in 1..12u32 {
         let name = long(alloc, k)?;
         script.push_str(format!(in alloc; "1 CREATE R2 R1 {name};0 0 [1,4]\n")?.as_str())?;
-        report.push_str(
-            format!(in alloc; "{} N1 CREATE R2 (12,1,0) {name};0 0 [1,4] = ({},1,0) {name};1\n", 1 + k, 12 + k)?.as_str(),
-        )?;
+        report.push_str(format!(in alloc;
+            "{} N1 CREATE R2 (12,1,0) {name};0 0 [1,4] = ({},1,0) {name};1\n",
+            1 + k,
+            12 + k
+        )?
+        .as_str())?;
     }
     report.push_str("end: 12 answered, 0 died, 230 free\n")?;
     made(rt, alloc, volume(alloc)?, script.as_str(), report.as_str())

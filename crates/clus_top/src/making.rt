@@ -124,7 +124,8 @@ fn directories_in_directories(rt: HostRuntime) -> Result<(), Fail> {
         1 CREATE R4 R8 H.I;1 0 [1,4]\n\
         1 CREATE R5 R1 F.DIR;2 0 [1,4]\n\
         1 MKDIR R6 R1 F [1,4]\n";
-    let report = "1 N1 MKDIR R1 (4,4,0) A123456789B123456789C123456789D12345678 [1,4] = (12,1,0) A123456789B123456789C123456789D12345678.DIR;1\n\
+    let report =
+        "1 N1 MKDIR R1 (4,4,0) A123456789B123456789C123456789D12345678 [1,4] = (12,1,0) A123456789B123456789C123456789D12345678.DIR;1\n\
         2 N1 MKDIR R1 (4,4,0) A123456789B123456789C123456789D12345678 [1,1] = refused DupFile\n\
         3 N1 MKDIR R2 (12,1,0) E [1,1] = (13,1,0) E.DIR;1\n\
         4 N1 CREATE R3 (13,1,0) .;0 5 [1,4] = (14,1,0) .;1\n\
@@ -304,16 +305,18 @@ impl Written {
         let line = self.lines;
         self.script
             .push_str(format!(in alloc; "1 {command} {dir} {rest}\n")?.as_str())?;
-        self.report
-            .push_str(format!(in alloc; "{line} N1 {command} {fid} {rest} = {reply}\n")?.as_str())?;
+        self.report.push_str(format!(in alloc;
+            "{line} N1 {command} {fid} {rest} = {reply}\n"
+        )?.as_str())?;
         Ok(())
     }
 
     // Its last line.
     fn close(&mut self, alloc: Global, free: u32) -> Result<(), NoMemory> {
         let lines = self.lines;
-        self.report
-            .push_str(format!(in alloc; "end: {lines} answered, 0 died, {free} free\n")?.as_str())
+        self.report.push_str(format!(in alloc;
+            "end: {lines} answered, 0 died, {free} free\n"
+        )?.as_str())
     }
 }
 
@@ -327,13 +330,7 @@ fn a_full_index(rt: HostRuntime) -> Result<(), Fail> {
     let mut text = Written::new(alloc, "NODES 1\n")?;
     for ver in 1..22u32 {
         let reply = format!(in alloc; "({},1,0) A.B;{ver}", 11 + ver)?;
-        text.push(
-            alloc,
-            "CREATE R2",
-            MFD,
-            "A.B;0 0 [1,4]",
-            reply.as_str(),
-        )?;
+        text.push(alloc, "CREATE R2", MFD, "A.B;0 0 [1,4]", reply.as_str())?;
     }
     text.push(
         alloc,
@@ -369,13 +366,7 @@ fn a_full_directory(rt: HostRuntime) -> Result<(), Fail> {
         };
         text.push(alloc, "CREATE R2", IN_R1, rest.as_str(), reply.as_str())?;
     }
-    text.push(
-        alloc,
-        "CREATE R2",
-        IN_R1,
-        "A.B;0 0 [1,4]",
-        "(33,1,0) A.B;1",
-    )?;
+    text.push(alloc, "CREATE R2", IN_R1, "A.B;0 0 [1,4]", "(33,1,0) A.B;1")?;
     text.close(alloc, 230)?;
     made(
         &rt,
@@ -389,7 +380,9 @@ fn a_full_directory(rt: HostRuntime) -> Result<(), Fail> {
 
 /// The name of number k: two digits, 37 letters X, a full stop and 39 letters Y.
 pub fn long(alloc: Global, k: u32) -> Result<String, NoMemory> {
-    format!(in alloc; "{k:02}XXXXXXXXXXXXXXXXXXXXXXXXXXXXXXXXXXXXX.YYYYYYYYYYYYYYYYYYYYYYYYYYYYYYYYYYYYYYY")
+    format!(in alloc;
+        "{k:02}XXXXXXXXXXXXXXXXXXXXXXXXXXXXXXXXXXXXX.YYYYYYYYYYYYYYYYYYYYYYYYYYYYYYYYYYYYYYY"
+    )
 }
 
 // A volume of 8,192 clusters, whose storage bitmap is LBN 134 and 135. The first free cluster is 139, which the directory takes;
@@ -403,13 +396,7 @@ fn a_file_over_two_blocks_of_the_bitmap(rt: HostRuntime) -> Result<(), Fail> {
     text.push(alloc, "MKDIR R1", MFD, "D [1,4]", "(12,1,0) D.DIR;1")?;
     for ver in 1..53u32 {
         let reply = format!(in alloc; "({},1,0) A.B;{ver}", 12 + ver)?;
-        text.push(
-            alloc,
-            "CREATE R2",
-            IN_R1,
-            "A.B;0 77 [1,4]",
-            reply.as_str(),
-        )?;
+        text.push(alloc, "CREATE R2", IN_R1, "A.B;0 77 [1,4]", reply.as_str())?;
     }
     text.close(alloc, 4048)?;
     let after = made(

@@ -156,16 +156,23 @@ const fn in_turns<'a>(line: &'a str, entry: &'a str, free: u32, turns: u32) -> T
 // turn less second.
 fn takes(rt: &impl Abort, alloc: Global, row: Timed<'_>) -> Result<(), NoMemory> {
     let Timed {
-        line, entry, free, ..
+        line,
+        entry,
+        free,
+        ..
     } = row;
     let facts = "STAT (11,1,0) = directory [1,1] 4 blocks mark 0 end 5,0";
     let plays = row.turns;
     let script = format!(in alloc; "NODES 2\nSCHED 1*{plays} 2*4\n1 {line}\n2 STAT LOST\n")?;
-    let report = format!(in alloc; "1 N1 {entry}\n2 N2 {facts}\nend: 2 answered, 0 died, {free} free\n")?;
+    let report = format!(in alloc;
+        "1 N1 {entry}\n2 N2 {facts}\nend: 2 answered, 0 died, {free} free\n"
+    )?;
     made(rt, alloc, volume(alloc)?, script.as_str(), report.as_str())?;
     let plays = row.turns.saturating_sub(1);
     let script = format!(in alloc; "NODES 2\nSCHED 1*{plays} 2*4\n1 {line}\n2 STAT LOST\n")?;
-    let report = format!(in alloc; "1 N2 {facts}\n2 N1 {entry}\nend: 2 answered, 0 died, {free} free\n")?;
+    let report = format!(in alloc;
+        "1 N2 {facts}\n2 N1 {entry}\nend: 2 answered, 0 died, {free} free\n"
+    )?;
     made(rt, alloc, volume(alloc)?, script.as_str(), report.as_str())?;
     Ok(())
 }
