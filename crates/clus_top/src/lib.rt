@@ -16,6 +16,12 @@ pub use theorems::one_status_is_due;
 pub use top::{Finished, vmsclus};
 
 #[cfg(test)]
+mod faults;
+#[cfg(test)]
+mod making;
+#[cfg(test)]
+mod queues;
+#[cfg(test)]
 mod tests;
 #[cfg(test)]
 mod tree;

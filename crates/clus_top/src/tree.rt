@@ -48,7 +48,7 @@ fn header(num: u16, seq: u16, flags: u8, lbn: u16, count: u16) -> Block {
 }
 
 // The blocks of an image.
-fn blocks_of(alloc: Global, image: &MemImage) -> Result<Vec<Block>, NoMemory> {
+pub fn blocks_of(alloc: Global, image: &MemImage) -> Result<Vec<Block>, NoMemory> {
     let mut blocks = Vec::new(alloc);
     for block in image.all() {
         blocks.push(*block)?;
