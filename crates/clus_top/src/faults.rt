@@ -38,7 +38,28 @@ fn failing(alloc: Global, image: &MemImage, stop: Stop) -> Result<MemImage, NoMe
     Ok(MemImage::new(blocks, vec![in alloc; fail]?))
 }
 
-// Each write of a script fails, as a row says.
+// Each write of a script fails, as a row says. What is told are the lines of the answers before it, and the fault.
+fn stops_behind(
+    rt: &impl Abort,
+    alloc: Global,
+    image: &MemImage,
+    script: &str,
+    lines: &str,
+    rows: &[Stop],
+) -> Result<(), NoMemory> {
+    let report = format!(in alloc; "{lines}image fault\n")?;
+    for row in rows {
+        let called = call(alloc, &["run"], failing(alloc, image, *row)?, script)?;
+        let text = str::from_utf8(called.out.bytes()).unwrap_or("no text");
+        assert_eq!(rt; (called.code, text), (4, report.as_str()));
+        let found = call(alloc, &["analyze"], called.image, "")?;
+        let text = str::from_utf8(found.out.bytes()).unwrap_or("no text");
+        assert_eq!(rt; text, row.found, "write {}", row.write);
+    }
+    Ok(())
+}
+
+// The same where nothing is answered before it.
 fn stops(
     rt: &impl Abort,
     alloc: Global,
@@ -46,14 +67,19 @@ fn stops(
     script: &str,
     rows: &[Stop],
 ) -> Result<(), NoMemory> {
-    for row in rows {
-        let called = call(alloc, &["run"], failing(alloc, image, *row)?, script)?;
-        let text = str::from_utf8(called.out.bytes()).unwrap_or("no text");
-        assert_eq!(rt; (called.code, text), (4, "image fault\n"));
-        let found = call(alloc, &["analyze"], called.image, "")?;
-        let text = str::from_utf8(found.out.bytes()).unwrap_or("no text");
-        assert_eq!(rt; text, row.found, "write {}", row.write);
-    }
+    stops_behind(rt, alloc, image, script, "", rows)
+}
+
+// The second file's number is taken by the fifth write, and its owner charged by the sixth.
+#[test]
+fn answers_before_a_fault_are_told(rt: HostRuntime) -> Result<(), Fail> {
+    let alloc = rt.alloc();
+    let script =
+        "NODES 1\n1 CREATE R1 MFD A.TXT;0 0 [1,4]\n1 STAT R1\n1 CREATE R1 MFD B.TXT;0 0 [1,4]\n";
+    let lines = "1 N1 CREATE R1 (4,4,0) A.TXT;0 0 [1,4] = (12,1,0) A.TXT;1\n\
+        2 N1 STAT (12,1,0) = file [1,4] 0 blocks mark 1 end 1,0\n";
+    let rows = [stopped_at(6, false, "leaked numbers 1\n")];
+    stops_behind(&rt, alloc, &volume(alloc)?, script, lines, &rows)?;
     Ok(())
 }
 

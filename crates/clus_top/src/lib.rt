@@ -5,15 +5,14 @@ mod analysis;
 mod format;
 mod run;
 mod script;
-mod status;
 mod tell;
 mod theorems;
 mod top;
 mod words;
 
-pub use status::Status;
+pub use run_engine::{Finished, Status};
 pub use theorems::one_status_is_due;
-pub use top::{Finished, vmsclus};
+pub use top::vmsclus;
 
 #[cfg(test)]
 mod faults;

@@ -4,10 +4,10 @@ ghost use Rattle.run_script.specs.Table.{AreBuilt};
 ghost use Rattle.run_script.specs.declared.built.TheConstants.{BUILT};
 ghost use Rattle.clus_top.specs.Ends.{SpellsWithin, IsScriptEnd};
 
-use crate::status::Status;
 use fx_text::{TextFault, TextIn, read_all};
 use plain_cat::Script;
 use run_script::{ScriptFault, read_script};
+use run_engine::Status;
 use std::alloc::Global;
 
 /// The greatest number of bytes of a script.
