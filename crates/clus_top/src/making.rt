@@ -1,7 +1,7 @@
 //! Files and directories are made: each report, and the image after it.
 
 use crate::tests::{call, volume, with_byte, zeros};
-use crate::tree::blocks_of;
+use crate::tree::tree_at;
 use blk_drive::MemImage;
 use plain_cat::NoMemory;
 use std::alloc::Global;
@@ -221,26 +221,53 @@ fn a_quota_is_kept(rt: HostRuntime) -> Result<(), Fail> {
     Ok(())
 }
 
-// The quota of [1,4] is 13 here, and its overdraft 200, which a new file may not use. The other owner has quota left.
+// The quota of [1,4] is 13 here, and its overdraft 200, which a new file may not use. The first row of the second quota block is
+// that of [2,2], who may use 5.
+fn with_quotas(alloc: Global) -> Result<MemImage, NoMemory> {
+    let mut image = volume(alloc)?;
+    let bytes = [
+        (96, 44, 13),
+        (96, 45, 0),
+        (96, 48, 200),
+        (97, 0, 1),
+        (97, 4, 2),
+        (97, 6, 2),
+        (97, 12, 5),
+    ];
+    for (lbn, at, byte) in bytes {
+        image = with_byte(image, lbn, at, byte)?;
+    }
+    Ok(image)
+}
+
+// What one owner is refused, another one is granted, up to its last block.
 #[test]
 fn another_owner_has_quota(rt: HostRuntime) -> Result<(), Fail> {
     let alloc = rt.alloc();
-    let low = with_byte(volume(alloc)?, 96, 44, 13)?;
-    let image = with_byte(with_byte(low, 96, 45, 0)?, 96, 48, 200)?;
     let script = "NODES 2\n\
         SCHED 1*50\n\
         1 CREATE R1 MFD A.TXT;0 12 [1,4]\n\
         2 CREATE R2 MFD B.TXT;0 0 [1,4]\n\
         2 CREATE R2 MFD B.TXT;0 0 [1,1]\n\
         2 MKDIR R3 MFD D [1,4]\n\
-        2 MKDIR R3 MFD D [1,1]\n";
+        2 MKDIR R3 MFD D [2,2]\n\
+        2 CREATE R4 R3 C.TXT;0 0 [2,2]\n";
     let report = "1 N1 CREATE R1 (4,4,0) A.TXT;0 12 [1,4] = (12,1,0) A.TXT;1\n\
         2 N2 CREATE R2 (4,4,0) B.TXT;0 0 [1,4] = refused ExQuota\n\
         3 N2 CREATE R2 (4,4,0) B.TXT;0 0 [1,1] = (13,1,0) B.TXT;1\n\
         4 N2 MKDIR R3 (4,4,0) D [1,4] = refused ExQuota\n\
-        5 N2 MKDIR R3 (4,4,0) D [1,1] = (14,1,0) D.DIR;1\n\
-        end: 5 answered, 0 died, 227 free\n";
-    made(&rt, alloc, image, script, report)?;
+        5 N2 MKDIR R3 (4,4,0) D [2,2] = (14,1,0) D.DIR;1\n\
+        6 N2 CREATE R4 (14,1,0) C.TXT;0 0 [2,2] = refused ExQuota\n\
+        end: 6 answered, 0 died, 227 free\n";
+    let after = made(&rt, alloc, with_quotas(alloc)?, script, report)?;
+    assert!(rt;
+        has(
+            after.all(),
+            97,
+            0,
+            b"\x01\0\0\0\x02\0\x02\0\x05\0\0\0\x05\0"
+        )
+    );
     Ok(())
 }
 
@@ -324,11 +351,13 @@ const MFD: (&str, &str) = ("MFD", "(4,4,0)");
 
 const IN_R1: (&str, &str) = ("R1", "(12,1,0)");
 
+// The first file takes all clusters, and what is wanted then is a number first.
 #[test]
 fn a_full_index(rt: HostRuntime) -> Result<(), Fail> {
     let alloc = rt.alloc();
     let mut text = Written::new(alloc, "NODES 1\n")?;
-    for ver in 1..22u32 {
+    text.push(alloc, "CREATE R2", MFD, "A.B;0 22 [1,4]", "(12,1,0) A.B;1")?;
+    for ver in 2..22u32 {
         let reply = format!(in alloc; "({},1,0) A.B;{ver}", 11 + ver)?;
         text.push(alloc, "CREATE R2", MFD, "A.B;0 0 [1,4]", reply.as_str())?;
     }
@@ -340,7 +369,7 @@ fn a_full_index(rt: HostRuntime) -> Result<(), Fail> {
         "refused IndexFull",
     )?;
     text.push(alloc, "MKDIR R2", MFD, "D [1,1]", "refused IndexFull")?;
-    text.close(alloc, 22)?;
+    text.close(alloc, 0)?;
     made(
         &rt,
         alloc,
@@ -409,5 +438,57 @@ fn a_file_over_two_blocks_of_the_bitmap(rt: HostRuntime) -> Result<(), Fail> {
     assert!(rt; has(after.all(), 68, 200, b"\x4c\x40\xe3\x0f\0\0"));
     assert!(rt; has(after.all(), 134, 0, &[0; 512]));
     assert!(rt; has(after.all(), 135, 0, b"\0\0\0\0\0\0\xff\xff"));
+    Ok(())
+}
+
+// The directory (12,1,0) has blocks that are not packed, and its A.TXT a limit of 5 and a flag. Of the clusters 25 to 27 the second
+// is free alone.
+fn scattered(alloc: Global) -> Result<MemImage, NoMemory> {
+    let mut image = tree_at(alloc, 108, 0xf4)?;
+    for (at, byte) in [(2, 5), (3, 0), (4, 1)] {
+        image = with_byte(image, 100, at, byte)?;
+    }
+    Ok(image)
+}
+
+// A new file has the lowest free clusters in two runs, and the directory is packed. A new version has its name's limit and flag.
+#[test]
+fn scattered_clusters_and_entries(rt: HostRuntime) -> Result<(), Fail> {
+    let alloc = rt.alloc();
+    let script = "NODES 1\n\
+        1 CREATE R1 (12,1,0) C.TXT;0 12 [1,1]\n\
+        1 CREATE R1 (12,1,0) A.TXT;0 0 [1,4]\n\
+        1 LIST (12,1,0)\n";
+    let report = "1 N1 CREATE R1 (12,1,0) C.TXT;0 12 [1,1] = (16,1,0) C.TXT;1\n\
+        2 N1 CREATE R1 (12,1,0) A.TXT;0 0 [1,4] = (17,1,0) A.TXT;3\n\
+        3 N1 LIST (12,1,0) = 5 entries A.TXT;3 (17,1,0) A.TXT;2 (13,1,0) A.TXT;1 (14,1,0) B.DAT;1 (15,2,0) C.TXT;1 (16,1,0)\n\
+        end: 3 answered, 0 died, 226 free\n";
+    let after = made(&rt, alloc, scattered(alloc)?, script, report)?;
+    let b = after.all();
+    assert!(rt; has(b, 32, 200, b"\x03\x40\x68\0\x07\x40\x70\0\0\0"));
+    assert!(rt;
+        has(
+            b,
+            100,
+            0,
+            b"\x22\0\x05\0\x01\x05A.TXT\0\x03\0\x11\0\x01\0\0\0\x02\0\x0d\0\x01\0\0\0\x01\0\x0e\0\x01\0\0\0"
+        )
+    );
+    assert!(rt;
+        has(
+            b,
+            100,
+            36,
+            b"\x12\0\xff\x7f\0\x05B.DAT\0\x01\0\x0f\0\x02\0\0\0\x12\0\xff\x7f\0\x05C.TXT\0\x01\0\x10\0\x01\0\0\0\xff\xff\0"
+        )
+    );
+    assert!(rt;
+        has(
+            b,
+            101,
+            0,
+            b"\xff\xff\0\0\0\0\0\0\0\0\0\0\0\0\0\0\0\0\0\0\0\0"
+        )
+    );
     Ok(())
 }

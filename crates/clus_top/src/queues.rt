@@ -29,7 +29,7 @@ fn two_nodes_make_one_name(rt: HostRuntime) -> Result<(), Fail> {
 }
 
 // A look-up waits for a creation, and a creation for a look-up. Lists go together, unless one asks behind a creation that waits.
-// Two creations in two directories go together as far as the quota file, which node 2 comes to first.
+// Two creations in two directories go together as far as the quota file, which node 2 comes to first. The lock of a new file's number is the last that its creation asks for, in turn 17.
 #[test]
 fn queues_form_and_drain(rt: HostRuntime) -> Result<(), Fail> {
     let rows = [
@@ -66,6 +66,24 @@ fn queues_form_and_drain(rt: HostRuntime) -> Result<(), Fail> {
             "1 N2 CREATE R1 (11,1,0) A.TXT;0 4 [1,4] = (12,1,0) A.TXT;1\n\
             2 N1 CREATE R1 (4,4,0) A.TXT;0 4 [1,4] = (13,1,0) A.TXT;1\n\
             end: 2 answered, 0 died, 229 free\n",
+        ),
+        (
+            "NODES 2\nSCHED 2 1*40\n1 CREATE R1 MFD A.TXT;0 4 [1,4]\n2 STAT (12,1,0)\n",
+            "1 N2 STAT (12,1,0) = refused NoSuchFile\n\
+            2 N1 CREATE R1 (4,4,0) A.TXT;0 4 [1,4] = (12,1,0) A.TXT;1\n\
+            end: 2 answered, 0 died, 230 free\n",
+        ),
+        (
+            "NODES 2\nSCHED 1*17 2*40\n1 CREATE R1 MFD A.TXT;0 4 [1,4]\n2 STAT (12,1,0)\n",
+            "1 N1 CREATE R1 (4,4,0) A.TXT;0 4 [1,4] = (12,1,0) A.TXT;1\n\
+            2 N2 STAT (12,1,0) = file [1,4] 4 blocks mark 1 end 1,0\n\
+            end: 2 answered, 0 died, 230 free\n",
+        ),
+        (
+            "NODES 2\nSCHED 1*16 2*4\n1 CREATE R1 MFD A.TXT;0 4 [1,4]\n2 STAT (12,1,0)\n",
+            "1 N2 STAT (12,1,0) = refused NoSuchFile\n\
+            2 N1 CREATE R1 (4,4,0) A.TXT;0 4 [1,4] = (12,1,0) A.TXT;1\n\
+            end: 2 answered, 0 died, 230 free\n",
         ),
     ];
     all_made(&rt, rt.alloc(), &rows)?;
