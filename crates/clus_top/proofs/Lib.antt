@@ -1,4 +1,4 @@
-pub mod Looks
+pub mod Commands
 pub mod Walked
 pub mod Answered
 pub mod MountedVolumes

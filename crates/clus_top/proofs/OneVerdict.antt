@@ -11,8 +11,8 @@ use Rattle.run_script.specs.Laws.{SayOneThing}
 use Rattle.vol_analyze.specs.Judging.{IsFirstFound}
 use Rattle.vol_init.specs.declared.fault.InitFault.{InitFault}
 use Rattle.vol_init.specs.Refusals.{refusal}
-use Rattle.clus_top.specs.declared.status.Status.{Status}
-use Rattle.clus_top.specs.declared.status.Status.TheVariants as status
+use Rattle.run_engine.specs.declared.status.Status.{Status}
+use Rattle.run_engine.specs.declared.status.Status.TheVariants as status
 use Rattle.clus_top.specs.Words.{Wanted, Run, Analyze, Init}
 use Rattle.clus_top.specs.Statuses.{IsTooLong, IsBad, IsOverfull, IsGood, IsRunDue, IsAnalysisDue, sized, IsPossible, IsInitDue, IsWordsDue}
 use Rattle.clus_top.specs.Verdicts.{is_verdict, HasOneVerdict}

@@ -29,12 +29,14 @@ use Rattle.run_engine.specs.Walks.{played, budget_of, Walk, IsPartOfWalk, AllOve
 use Rattle.run_engine.specs.Reports.{report_bytes}
 use Rattle.run_engine.specs.Ended.{IsSpelt, HasEnded}
 use Rattle.run_engine.proofs.Driving.{told_well}
-use Rattle.clus_top.specs.declared.status.Status.{Status}
-use Rattle.clus_top.specs.declared.status.Status.TheVariants as status
+use Rattle.run_engine.specs.declared.status.Status.{Status}
+use Rattle.run_engine.specs.declared.status.Status.TheVariants as status
 use Rattle.clus_top.specs.Runs.{IsReport, HasRun, IsUnfinished}
 use Rattle.clus_top.specs.Statuses.{IsGood, IsReportOn}
-use Rattle.clus_top.specs.Ends.{SpellsWithin, IsReportIn, IsDriveIn, IsEndIn, IsSpentIn, IsCutIn, IsStopIn, IsRunEnd, mount_status, run_status}
-use Rattle.clus_top.specs.Images.{IsDriveOf, IsLastDriveOf, IsSpentDriveOf, IsCutOf, IsRunImage}
+use Rattle.clus_top.specs.declared.run.Stop.{Stop}
+use Rattle.clus_top.specs.declared.run.Stop.TheVariants as stop
+use Rattle.clus_top.specs.Ends.{SpellsWithin, IsReportIn, IsDriveIn, IsEndIn, IsSpentIn, IsCutIn, IsCutShortIn, IsStopIn, IsStopBy, IsStopOf, IsRunEnd, IsRunStop, IsQuietImage, IsStopImage, mount_status}
+use Rattle.clus_top.specs.Images.{IsDriveOf, IsLastDriveOf, IsSpentDriveOf, IsCutOf, IsCutShort}
 use Rattle.clus_top.proofs.Walked.{over_walk}
 use Rattle.clus_top.proofs.Answered.{IsAnswered, turn_keeps}
 use Rattle.clus_top.proofs.MountedVolumes.{mounted_geometry}
@@ -83,15 +85,18 @@ module _ (start : Plain) (good : Good start) (m : IsMounted start.blocks start.s
       → (r ≡ Err run.Unfinished → IsSpent (budget_of start) (played plays start) new)
       → (r ≡ Err run.ImageFault → Rose had has) → (r ≡ Err run.ImageFault → IsBeforeWrite new)
       → (now ≡ told_as told new.blocks) ⊎ (r ≡ Err run.ImageFault)
-      → IsStopIn start.script start.blocks told now had has (run_status f)
-  run_stop {A} new plays told now had has r run.ImageFault is same part keeps spent cause before image =
-      (cause is, cut_in new plays same (on_err r run.ImageFault (IsPartOfWalk start plays new) is part) keeps (before is))
-  run_stop {A} new plays told now had has r run.NoMemory is same part keeps spent cause before image =
-      inr (drive_in new plays told now same (on_err r run.NoMemory (IsPartOfWalk start plays new) is part) keeps
-      (told_well (r ≡ Err run.ImageFault) _ _ image (λ p. let f : run.NoMemory ≡ run.ImageFault = same_err r run.NoMemory run.ImageFault is p in cc)))
-  run_stop {A} new plays told now had has r run.Unfinished is same part keeps spent cause before image =
-      spent_in new plays told now same (on_err r run.Unfinished (IsPartOfWalk start plays new) is part) keeps
-      (told_well (r ≡ Err run.ImageFault) _ _ image (λ p. let f : run.Unfinished ≡ run.ImageFault = same_err r run.Unfinished run.ImageFault is p in cc)) (spent is)
+      → (s : Stop) → IsStopOf new f s → IsStopBy start.script start.blocks told now had has s
+  unfolding cut_in
+  run_stop {A} new plays told now had has r run.ImageFault is same part keeps spent cause before image (stop.Cut text) written =
+      (cause is, record { cut = cut_in new plays same (on_err r run.ImageFault (IsPartOfWalk start plays new) is part) keeps (before is); written = written })
+  run_stop {A} new plays told now had has r run.ImageFault is same part keeps spent cause before image (stop.By s) none =
+      subst (IsStopIn start.script start.blocks told now) (sym none) (inr (inr (cut_in new plays same (on_err r run.ImageFault (IsPartOfWalk start plays new) is part) keeps (before is))))
+  run_stop {A} new plays told now had has r run.NoMemory is same part keeps spent cause before image s e =
+      subst (IsStopBy start.script start.blocks told now had has) (sym e) (inr (inl (drive_in new plays told now same (on_err r run.NoMemory (IsPartOfWalk start plays new) is part) keeps
+      (told_well (r ≡ Err run.ImageFault) _ _ image (λ p. let f : run.NoMemory ≡ run.ImageFault = same_err r run.NoMemory run.ImageFault is p in cc)))))
+  run_stop {A} new plays told now had has r run.Unfinished is same part keeps spent cause before image s e =
+      subst (IsStopBy start.script start.blocks told now had has) (sym e) (spent_in new plays told now same (on_err r run.Unfinished (IsPartOfWalk start plays new) is part) keeps
+      (told_well (r ≡ Err run.ImageFault) _ _ image (λ p. let f : run.Unfinished ≡ run.ImageFault = same_err r run.Unfinished run.ImageFault is p in cc)) (spent is))
 
   led : (c d : Cat) (s : Script) (new : Plain) → s ≡ start.script → c ≡ start.opening → Replays c s new.history d → Replays m.opening start.script new.history d
   led c d s new script first h =
@@ -133,14 +138,14 @@ pub end_of_mounted : (bs : List Block) (s : Script) (w : Plain) (told new : Opti
 end_of_mounted bs s w told new text m h =
     subst (λ (t : Script). IsEndIn t bs told new text) (ap (λ (v : Plain). v.script) m.is) (subst (λ (b : List Block). IsEndIn w.script b told new text) (ap (λ (v : Plain). v.blocks) m.is) h)
 
-pub stop_of_mounted : (bs : List Block) (s : Script) (w : Plain) (told new : Option (List Block)) (had has : ℕ) (x : Status) → IsMounted bs s w
-    → IsStopIn w.script w.blocks told new had has x → IsStopIn s bs told new had has x
+pub stop_of_mounted : (bs : List Block) (s : Script) (w : Plain) (told new : Option (List Block)) (had has : ℕ) (x : Stop) → IsMounted bs s w
+    → IsStopBy w.script w.blocks told new had has x → IsStopBy s bs told new had has x
 stop_of_mounted bs s w told new had has x m h =
-    subst (λ (t : Script). IsStopIn t bs told new had has x) (ap (λ (v : Plain). v.script) m.is) (subst (λ (b : List Block). IsStopIn w.script b told new had has x) (ap (λ (v : Plain). v.blocks) m.is) h)
+    subst (λ (t : Script). IsStopBy t bs told new had has x) (ap (λ (v : Plain). v.script) m.is) (subst (λ (b : List Block). IsStopBy w.script b told new had has x) (ap (λ (v : Plain). v.blocks) m.is) h)
 
-pub mount_stop : (s : Script) (bs : List Block) (told new : Option (List Block)) (had has : ℕ) (f : MountFault) → new ≡ told → IsMountEnd bs f → IsStopIn s bs told new had has (mount_status f)
-mount_stop s bs told new had has (mount.NotAccepted f) same h = (h, same)
-mount_stop s bs told new had has mount.NoMemory same h = inl same
+pub mount_stop : (s : Script) (bs : List Block) (told new : Option (List Block)) (f : MountFault) → new ≡ told → IsMountEnd bs f → IsStopIn s bs told new (mount_status f)
+mount_stop s bs told new (mount.NotAccepted f) same h = (h, same)
+mount_stop s bs told new mount.NoMemory same h = inl same
 
 -- ---- plays
 
@@ -234,16 +239,30 @@ spent_on left (Some bs) new script blocks spelt same h =
 cut_of : (left : Option (List ℕ)) (bs : List Block) (script : Script) → IfSome left (SpellsWithin script) → IsCutIn script bs → IsCutOf left bs
 cut_of left bs script spelt h = record { script = script; spelt = spells left script spelt; world = h.world; ran = h.ran; before = h.before }
 
+short_of : (left : Option (List ℕ)) (bs : List Block) (script : Script) (text : List ℕ) → IfSome left (SpellsWithin script) → IsCutShortIn script bs text → IsCutShort left bs text
+unfolding cut_of
+short_of left bs script text spelt h = record { cut = cut_of left bs script spelt h.cut; written = h.written }
+
+far_on : (left : Option (List ℕ)) (told new : Option (List Block)) (script : Script) (blocks : List Block)
+    → IfSome left (SpellsWithin script) → IfSome told (λ bs. blocks ≡ bs) → IsDriveIn script blocks told new ⊎ IsCutIn script blocks → IfSome told (λ bs. IsDriveOf left bs new ⊎ IsCutOf left bs)
+far_on left None new script blocks spelt same d = tt
+far_on left (Some bs) new script blocks spelt same (inl d) =
+    inl (drive_of left bs new script spelt (let P : List Block → Type 0 = λ x. IsDriveIn script x (Some bs) new in subst P same d))
+far_on left (Some bs) new script blocks spelt same (inr d) = inr (subst (IsCutOf left) same (cut_of left blocks script spelt d))
+
+quiet_image : (left : Option (List ℕ)) (told new : Option (List Block)) (script : Script) (blocks : List Block) (s : Status)
+    → IfSome left (SpellsWithin script) → IfSome told (λ bs. blocks ≡ bs) → IsStopIn script blocks told new s → IsQuietImage left told new s
+quiet_image left told new script blocks (status.NotAccepted f) spelt same end = end.1
+quiet_image left told new script blocks status.NoMemory spelt same (inl e) = inl e
+quiet_image left told new script blocks status.NoMemory spelt same (inr d) = inr (far_on left told new script blocks spelt same d)
+quiet_image left told new script blocks status.Unfinished spelt same end = spent_on left told new script blocks spelt same end.1
+quiet_image left told new script blocks s spelt same end = absurd end
+
 -- why the blocks gave no report says what the image has
-pub stop_image : (left : Option (List ℕ)) (told new : Option (List Block)) (script : Script) (blocks : List Block) (had has : ℕ) (s : Status)
-    → IfSome left (SpellsWithin script) → IfSome told (λ bs. blocks ≡ bs) → IsStopIn script blocks told new had has s → IsRunImage left told new s
-stop_image left told new script blocks had has (status.NotAccepted f) spelt same end = end.1
-stop_image left told new script blocks had has status.NoMemory spelt same (inl e) = inl e
-stop_image left told new script blocks had has status.NoMemory spelt same (inr d) = inr (drive_on left told new script blocks spelt same d)
-stop_image left told new script blocks had has status.Unfinished spelt same end = spent_on left told new script blocks spelt same end.1
-stop_image left told new script blocks had has status.ImageFault spelt same end =
-    inr (of_told (IsCutOf left) told blocks same (cut_of left blocks script spelt end.1))
-stop_image left told new script blocks had has s spelt same end = absurd end
+pub stop_image : (left : Option (List ℕ)) (told new : Option (List Block)) (script : Script) (blocks : List Block) (had has : ℕ) (s : Stop)
+    → IfSome left (SpellsWithin script) → IfSome told (λ bs. blocks ≡ bs) → IsStopBy script blocks told new had has s → IsStopImage left told new s
+stop_image left told new script blocks had has (stop.Cut text) spelt same end = of_told (λ bs. IsCutShort left bs text.items) told blocks same (short_of left blocks script text.items spelt end.1)
+stop_image left told new script blocks had has (stop.By s) spelt same end = quiet_image left told new script blocks s spelt same end
 
 -- ---- why a run gave no report
 
@@ -262,16 +281,19 @@ rose_later : (had before now : ℕ) → had ≤ before → Rose before now → R
 rose_later had before now le rose = omega arith
 
 -- why the blocks gave no report is why the run gave none
-pub volume_end : (left : Option (List ℕ)) (size : ℕ) (told new : Option (List Block)) (script : Script) (blocks : List Block) (read reading first had has : ℕ) (s : Status)
-    → IfSome left (SpellsWithin script) → IsInside size → IfSome told (λ bs. blocks ≡ bs) → first ≤ had → IsStopIn script blocks told new had has s → IsRunEnd left size told read reading first has s
-volume_end left size told new script blocks read reading first had has (status.NotAccepted f) spelt inside same later end =
+quiet_end : (left : Option (List ℕ)) (size : ℕ) (told new : Option (List Block)) (script : Script) (blocks : List Block) (read reading first has : ℕ) (s : Status)
+    → IfSome left (SpellsWithin script) → IsInside size → IfSome told (λ bs. blocks ≡ bs) → IsStopIn script blocks told new s → IsRunEnd left size told read reading first has s
+quiet_end left size told new script blocks read reading first has (status.NotAccepted f) spelt inside same end =
     (good left script spelt, inside, of_told (λ bs. IsFirstFound bs f) told blocks same end.0)
-volume_end left size told new script blocks read reading first had has status.NoMemory spelt inside same later end = tt
-volume_end left size told new script blocks read reading first had has status.Unfinished spelt inside same later end =
+quiet_end left size told new script blocks read reading first has status.NoMemory spelt inside same end = tt
+quiet_end left size told new script blocks read reading first has status.Unfinished spelt inside same end =
     (good left script spelt, record { inside = inside; accepted = of_told Accepts told blocks same end.0 }, unfinished_on left told new script blocks spelt same end.1)
-volume_end left size told new script blocks read reading first had has status.ImageFault spelt inside same later end =
-    (good left script spelt, rose_later first had has later end.0)
-volume_end left size told new script blocks read reading first had has s spelt inside same later end = absurd end
+quiet_end left size told new script blocks read reading first has s spelt inside same end = absurd end
+
+pub volume_end : (left : Option (List ℕ)) (size : ℕ) (told new : Option (List Block)) (script : Script) (blocks : List Block) (read reading first had has : ℕ) (s : Stop)
+    → IfSome left (SpellsWithin script) → IsInside size → IfSome told (λ bs. blocks ≡ bs) → first ≤ had → IsStopBy script blocks told new had has s → IsRunStop left size told read reading first has s
+volume_end left size told new script blocks read reading first had has (stop.Cut text) spelt inside same later end = (good left script spelt, rose_later first had has later end.0)
+volume_end left size told new script blocks read reading first had has (stop.By s) spelt inside same later end = quiet_end left size told new script blocks read reading first has s spelt inside same end
 
 pub if_err : {A E : Type 0} (r : Result A E) (P Q : E → Type 0) → ((x : E) → P x → Q x) → IfErr r P → IfErr r Q
 if_err (Ok x) P Q f h = h

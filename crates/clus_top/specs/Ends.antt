@@ -28,13 +28,16 @@ use Rattle.run_script.specs.declared.built.TheConstants.{BUILT}
 use Rattle.run_script.specs.Lines.{lines_of}
 use Rattle.run_script.specs.Spelling.{SpellsScript}
 use Rattle.vol_analyze.specs.Judging.{IsFirstFound}
-use Rattle.clus_top.specs.declared.status.Status.{Status}
-use Rattle.clus_top.specs.declared.status.Status.TheVariants as status
+use Rattle.clus_top.specs.declared.run.Stop.{Stop}
+use Rattle.clus_top.specs.declared.run.Stop.TheVariants as stop
+use Rattle.run_engine.specs.declared.status.Status.{Status}
+use Rattle.run_engine.specs.declared.status.Status.TheVariants as status
 use Rattle.clus_top.specs.Runs.{is_mending, report_text, HasRun, IsUnfinished}
 use Rattle.vol_init.specs.declared.fault.InitFault.{InitFault}
 use Rattle.vol_init.specs.declared.fault.InitFault.TheVariants as fault
 use Rattle.vol_init.specs.Refusals.{refusal}
-use Rattle.clus_top.specs.Statuses.{IsTooLong, IsBad, IsOverfull, IsGood, IsAccepted, sized}
+use Rattle.clus_top.specs.Statuses.{IsTooLong, IsBad, IsOverfull, IsGood, IsAccepted, sized, cut_text}
+use Rattle.clus_top.specs.Images.{IsDriveOf, IsSpentDriveOf, IsCutOf, IsCutShort}
 
 -- a text within its limit spells this script
 pub record SpellsWithin (script : Script) (bytes : List ℕ) : Type 0 where
@@ -89,24 +92,34 @@ pub record IsCutIn (script : Script) (bs : List Block) : Type 0 where
   pub ran : HasRun script bs world
   pub before : IsBeforeWrite world
 
--- Why a script gave no report on the blocks of a volume, and what the image has then.
-abbrev pub IsStopIn : Script → List Block → Option (List Block) → Option (List Block) → ℕ → ℕ → Status → Type 0
-IsStopIn script bs told new had has (status.NotAccepted f) = IsFirstFound bs f × (new ≡ told)
-IsStopIn script bs told new had has status.NoMemory = (new ≡ told) ⊎ IsDriveIn script bs told new
-IsStopIn script bs told new had has status.Unfinished = Accepts bs × IsSpentIn script bs told new
-IsStopIn script bs told new had has status.ImageFault = Rose had has × IsCutIn script bs
-IsStopIn script bs told new had has s = ⊥
+-- with this text
+pub record IsCutShortIn (script : Script) (bs : List Block) (text : List ℕ) : Type 0 where
+  pub cut : IsCutIn script bs
+  pub written : text ≡ cut_text cut.world.history
+
+-- Why a script gave no report on the blocks of a volume, but for a write that failed, and what the image has then.
+abbrev pub IsStopIn : Script → List Block → Option (List Block) → Option (List Block) → Status → Type 0
+IsStopIn script bs told new (status.NotAccepted f) = IsFirstFound bs f × (new ≡ told)
+IsStopIn script bs told new status.NoMemory = (new ≡ told) ⊎ (IsDriveIn script bs told new ⊎ IsCutIn script bs)
+IsStopIn script bs told new status.Unfinished = Accepts bs × IsSpentIn script bs told new
+IsStopIn script bs told new s = ⊥
+
+-- why it gave none
+abbrev pub IsStopBy : Script → List Block → Option (List Block) → Option (List Block) → ℕ → ℕ → Stop → Type 0
+IsStopBy script bs told new had has (stop.Cut text) = Rose had has × IsCutShortIn script bs text.items
+IsStopBy script bs told new had has (stop.By s) = IsStopIn script bs told new s
+
+-- how a run that stopped by a fault is told: a write that failed by the lines of the answers before it, as far as memory goes
+abbrev pub IsStopOf : Plain → RunFault → Stop → Type 0
+IsStopOf w run.ImageFault (stop.Cut text) = text.items ≡ cut_text w.history
+IsStopOf w run.ImageFault (stop.By s) = s ≡ status.NoMemory
+IsStopOf w run.NoMemory r = r ≡ stop.By status.NoMemory
+IsStopOf w run.Unfinished r = r ≡ stop.By status.Unfinished
 
 -- the status of a mount
 abbrev pub mount_status : MountFault → Status
 mount_status (mount.NotAccepted f) = status.NotAccepted f
 mount_status mount.NoMemory = status.NoMemory
-
--- the status of a run that stopped
-abbrev pub run_status : RunFault → Status
-run_status run.ImageFault = status.ImageFault
-run_status run.NoMemory = status.NoMemory
-run_status run.Unfinished = status.Unfinished
 
 -- the status of a load
 abbrev pub load_status : LoadFault → Status
@@ -126,6 +139,21 @@ IsRunEnd left size told read reading had has (status.NotAccepted f) = IfSome lef
 IsRunEnd left size told read reading had has status.NoMemory = Unit {0}
 IsRunEnd left size told read reading had has status.Unfinished = IfSome left IsGood × IsAccepted size told × IfSome left (λ bytes. IfSome told (IsUnfinished bytes))
 IsRunEnd left size told read reading had has s = ⊥
+
+-- a run that a write cut short is one of a good script, and the image has counted a fault
+abbrev pub IsRunStop : Option (List ℕ) → ℕ → Option (List Block) → ℕ → ℕ → ℕ → ℕ → Stop → Type 0
+IsRunStop left size told read reading had has (stop.Cut text) = IfSome left IsGood × Rose had has
+IsRunStop left size told read reading had has (stop.By s) = IsRunEnd left size told read reading had has s
+
+-- what the image has with a status whose text says all, and with the text of a run that a write cut short
+abbrev pub IsQuietImage : Option (List ℕ) → Option (List Block) → Option (List Block) → Status → Type 0
+IsQuietImage left told new status.NoMemory = (new ≡ told) ⊎ IfSome told (λ bs. IsDriveOf left bs new ⊎ IsCutOf left bs)
+IsQuietImage left told new status.Unfinished = IfSome told (λ bs. IsSpentDriveOf left bs new)
+IsQuietImage left told new s = new ≡ told
+
+abbrev pub IsStopImage : Option (List ℕ) → Option (List Block) → Option (List Block) → Stop → Type 0
+IsStopImage left told new (stop.Cut text) = IfSome told (λ bs. IsCutShort left bs text.items)
+IsStopImage left told new (stop.By s) = IsQuietImage left told new s
 
 -- these are the findings of the blocks
 abbrev pub AreFoundIn : List Finding → List Block → Type 0

@@ -4,8 +4,8 @@ use Rattle.vol_words.specs.Fields.{Block}
 use Rattle.fx_home.specs.declared.home.Home.{Home}
 use Rattle.vol_init.specs.Refusals.{home_of}
 use Rattle.vol_init.specs.Made.{IsMade, IsLeft}
-use Rattle.clus_top.specs.declared.status.Status.{Status}
-use Rattle.clus_top.specs.declared.status.Status.TheVariants as status
+use Rattle.run_engine.specs.declared.status.Status.{Status}
+use Rattle.run_engine.specs.declared.status.Status.TheVariants as status
 use Rattle.plain_cat.specs.declared.script.Script.{Script}
 use Rattle.run_script.specs.declared.built.TheConstants.{BUILT}
 use Rattle.run_script.specs.Lines.{lines_of}
@@ -14,6 +14,7 @@ use Rattle.core_state.specs.Worlds.{Plain}
 use Rattle.run_engine.specs.Walks.{played, budget_of, AllOver, IsSpent, IsBeforeWrite}
 use Rattle.clus_top.specs.Words.{Wanted, Run, Analyze, Init}
 use Rattle.clus_top.specs.Runs.{HasRun}
+use Rattle.clus_top.specs.Statuses.{status_text, cut_text}
 
 -- the image has a new volume
 abbrev pub IsImageMade : Home → List Block → Option (List Block) → Type 0
@@ -55,14 +56,33 @@ pub record IsCutOf (left : Option (List ℕ)) (bs : List Block) : Type 0 where
   pub before : IsBeforeWrite world
 
 -- After a run: the drive of its world, once every node is over or the turns are spent; after want of memory the old blocks, or
--- the drive as far as the run came; after a fault of the image the old blocks, or a write failed; and else the old blocks.
+-- the drive as far as the run came, or a write failed; after a fault of the image the old blocks, or a write failed; and else the
+-- old blocks.
 abbrev pub IsRunImage : Option (List ℕ) → Option (List Block) → Option (List Block) → Status → Type 0
 IsRunImage left told new status.Ok = IfSome told (λ bs. IsLastDriveOf left bs new)
 IsRunImage left told new status.OutFault = IfSome told (λ bs. IsLastDriveOf left bs new)
 IsRunImage left told new status.Unfinished = IfSome told (λ bs. IsSpentDriveOf left bs new)
-IsRunImage left told new status.NoMemory = (new ≡ told) ⊎ IfSome told (λ bs. IsDriveOf left bs new)
+IsRunImage left told new status.NoMemory = (new ≡ told) ⊎ IfSome told (λ bs. IsDriveOf left bs new ⊎ IsCutOf left bs)
 IsRunImage left told new status.ImageFault = (new ≡ told) ⊎ IfSome told (λ bs. IsCutOf left bs)
 IsRunImage left told new s = new ≡ told
+
+-- ---- what is told of a fault of the image
+
+-- a run that a write cut short, with its text
+pub record IsCutShort (left : Option (List ℕ)) (bs : List Block) (text : List ℕ) : Type 0 where
+  pub cut : IsCutOf left bs
+  pub written : text ≡ cut_text cut.world.history
+
+-- The text of a fault of the image: of a run that a write cut short the lines of the answers before it and the text of the fault,
+-- and else that alone, and the image has its blocks.
+abbrev pub IsRunFaultText : Option (List ℕ) → Option (List Block) → Option (List Block) → List ℕ → Type 0
+IsRunFaultText left told new text = ((new ≡ told) × (text ≡ status_text status.ImageFault)) ⊎ IfSome told (λ bs. IsCutShort left bs text)
+
+abbrev pub IsFaultTextOf : Option Wanted → Option (List ℕ) → Option (List Block) → Option (List Block) → List ℕ → Type 0
+IsFaultTextOf (Some Run) left told new text = IsRunFaultText left told new text
+IsFaultTextOf (Some Analyze) left told new text = text ≡ status_text status.ImageFault
+IsFaultTextOf (Some (Init cluster files label)) left told new text = text ≡ status_text status.ImageFault
+IsFaultTextOf None left told new text = text ≡ status_text status.ImageFault
 
 -- After a job: a run and a format write to the image.
 abbrev pub IsImageAfter : Option Wanted → Option (List ℕ) → Option (List Block) → Option (List Block) → Status → Type 0

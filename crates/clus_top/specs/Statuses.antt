@@ -14,32 +14,17 @@ use Rattle.plain_cat.specs.declared.script.Script.{Script}
 use Rattle.run_script.specs.declared.built.TheConstants.{BUILT}
 use Rattle.run_script.specs.Lines.{lines_of}
 use Rattle.run_script.specs.Spelling.{SpellsScript, IsBadLine, IsTooMany}
-use Rattle.clus_top.specs.declared.status.Status.{Status}
-use Rattle.clus_top.specs.declared.status.Status.TheVariants as status
+use Rattle.run_engine.specs.declared.status.Status.{Status}
+use Rattle.run_engine.specs.declared.status.Status.TheVariants as status
 use Rattle.vol_fresh.specs.declared.layout.Layout.{Layout}
 use Rattle.vol_fresh.specs.Layouts.{total, reserved_clusters}
 use Rattle.vol_init.specs.declared.fault.InitFault.{InitFault}
 use Rattle.vol_init.specs.declared.fault.InitFault.TheVariants as fault
 use Rattle.vol_init.specs.Refusals.{refusal}
 use Rattle.clus_top.specs.Words.{Wanted, Run, Analyze, Init}
+use Rattle.run_engine.specs.Reports.{lines_bytes}
+use Rattle.plain_cat.specs.declared.history.Entry.{Entry}
 use Rattle.clus_top.specs.Runs.{IsReport, IsUnfinished}
-
--- the number of a status
-abbrev pub status_code : Status → ℕ
-status_code status.Ok = 0
-status_code status.BadWords = 1
-status_code status.ScriptFault = 2
-status_code status.ScriptTooLong = 2
-status_code (status.BadScript n) = 3
-status_code status.TooMany = 3
-status_code status.ImageFault = 4
-status_code (status.BadSize n) = 4
-status_code (status.NotAccepted f) = 5
-status_code status.Findings = 5
-status_code status.OutFault = 6
-status_code status.NoMemory = 7
-status_code status.Unfinished = 8
-status_code (status.BadInit f) = 9
 
 -- why an image is not formatted
 unfoldable pub init_fault_text : InitFault → List ℕ
@@ -66,6 +51,10 @@ status_text status.OutFault = []
 status_text status.NoMemory = codes "no memory" ++ newline
 status_text status.Unfinished = codes "unfinished" ++ newline
 status_text (status.BadInit f) = init_fault_text f ++ newline
+
+-- the text of a run that a write of the image has cut short: the lines of the answers so far, and that of the fault
+abbrev pub cut_text : List Entry → List ℕ
+cut_text h = lines_bytes h ++ status_text status.ImageFault
 
 -- ---- scripts
 
@@ -213,10 +202,11 @@ pub record IsFindingsText (text : List ℕ) (bs : List Block) : Type 0 where
 abbrev pub IsWritten : Option (List ℕ) → Option (List ℕ) → ℕ → ℕ → List ℕ → Type 0
 IsWritten old new before now text = Appends old new text ⊎ (Rose before now × AppendsStart old new text)
 
--- What was written at a status, where R is said of the text of status 0: all of that text, or first bytes of it where the sink
--- fails; the findings; or the text of the status.
-abbrev pub Writes : (List ℕ → Type 0) → Option (List Block) → Option (List ℕ) → Option (List ℕ) → ℕ → ℕ → Status → Type 0
-Writes R told old new before now status.Ok = (text : List ℕ) × R text × Appends old new text
-Writes R told old new before now status.OutFault = (text : List ℕ) × R text × AppendsStart old new text
-Writes R told old new before now status.Findings = (text : List ℕ) × IfSome told (IsFindingsText text) × IsWritten old new before now text
-Writes R told old new before now s = IsWritten old new before now (status_text s)
+-- What was written at a status, where R is said of the text of status 0, and F of the text of a fault of the image: all of that
+-- text, or first bytes of it where the sink fails; the findings; or the text of the status.
+abbrev pub Writes : (R F : List ℕ → Type 0) → Option (List Block) → Option (List ℕ) → Option (List ℕ) → ℕ → ℕ → Status → Type 0
+Writes R F told old new before now status.Ok = (text : List ℕ) × R text × Appends old new text
+Writes R F told old new before now status.OutFault = (text : List ℕ) × R text × AppendsStart old new text
+Writes R F told old new before now status.Findings = (text : List ℕ) × IfSome told (IsFindingsText text) × IsWritten old new before now text
+Writes R F told old new before now status.ImageFault = (text : List ℕ) × F text × IsWritten old new before now text
+Writes R F told old new before now s = IsWritten old new before now (status_text s)

@@ -1,8 +1,8 @@
 -- That of all statuses exactly one is due.
 use Rattle.std.specs.Prelude.{◌≡◌, ℕ, Bool, true, false, List, Option, Some}
 use Rattle.vol_words.specs.Fields.{Block}
-use Rattle.clus_top.specs.declared.status.Status.{Status}
-use Rattle.clus_top.specs.declared.status.Status.TheVariants as status
+use Rattle.run_engine.specs.declared.status.Status.{Status}
+use Rattle.run_engine.specs.declared.status.Status.TheVariants as status
 use Rattle.clus_top.specs.Words.{Wanted}
 use Rattle.clus_top.specs.Statuses.{IsDue}
 

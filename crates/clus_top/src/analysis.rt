@@ -3,8 +3,8 @@ ghost use Rattle.blk_drive.specs.Images.{IsInside};
 ghost use Rattle.clus_top.specs.Ends.{IsLoadEnd, AreFoundIn};
 
 use crate::run::load_status;
-use crate::status::Status;
 use blk_drive::{ImageDev, LoadRefused, Mirror};
+use run_engine::Status;
 use std::alloc::Global;
 use vol_analyze::{Finding, analyze};
 use vol_words::Block;

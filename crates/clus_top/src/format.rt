@@ -6,9 +6,9 @@ ghost use Rattle.clus_top.specs.Ends.{init_status, IsInitEnd};
 ghost use Rattle.clus_top.specs.Images.{IsImageMade, IsFormatted};
 
 use crate::run::load_status;
-use crate::status::Status;
 use blk_drive::{ImageDev, LoadRefused, Mirror};
 use plain_cat::NoMemory;
+use run_engine::Status;
 use std::alloc::Global;
 use vol_fresh::Layout;
 use vol_init::{InitFault, init};

@@ -5,19 +5,26 @@ mod analysis;
 mod format;
 mod run;
 mod script;
-mod status;
 mod tell;
 mod theorems;
 mod top;
 mod words;
 
-pub use status::Status;
+pub use run_engine::{Finished, Status};
 pub use theorems::one_status_is_due;
-pub use top::{Finished, vmsclus};
+pub use top::vmsclus;
 
+#[cfg(test)]
+mod faults;
+#[cfg(test)]
+mod making;
+#[cfg(test)]
+mod queues;
 #[cfg(test)]
 mod tests;
 #[cfg(test)]
 mod tree;
+#[cfg(test)]
+mod turn_by_turn;
 #[cfg(test)]
 mod worked_lines;

@@ -2,47 +2,71 @@ ghost use Rattle.std.specs.Prelude.{◌≡◌, IfOk, IfErr, IfSome};
 ghost use Rattle.plain_cat.specs.declared.cat.Cat.{Cat};
 ghost use Rattle.plain_cat.specs.InForm.{InForm};
 ghost use Rattle.plain_vol.specs.Lookups.{free_clusters};
-ghost use Rattle.run_script.specs.Table.{AreFirst};
+ghost use Rattle.run_script.specs.Table.{AreBuilt};
+ghost use Rattle.run_script.specs.declared.built.TheConstants.{BUILT};
 ghost use Rattle.core_state.specs.Images.{IsTold};
 ghost use Rattle.core_state.specs.Mounting.{IsMounted};
 ghost use Rattle.run_engine.specs.Walks.{AllOver};
 ghost use Rattle.run_engine.specs.Reports.{report_bytes};
 ghost use Rattle.run_engine.specs.Ended.{HasEnded};
-ghost use Rattle.clus_top.specs.Statuses.{IsGood, IsAccepted, IsReportOn};
-ghost use Rattle.clus_top.specs.Ends.{IsStopIn, IsEndIn, IsRunEnd, load_status, mount_status, run_status};
-ghost use Rattle.clus_top.specs.Images.{IsLastDriveOf, IsRunImage};
+ghost use Rattle.clus_top.specs.Statuses.{IsGood, IsAccepted, IsReportOn, cut_text};
+ghost use Rattle.clus_top.specs.Ends.{IsStopOf, IsStopBy, IsEndIn, IsRunStop, IsStopImage, load_status, mount_status};
+ghost use Rattle.clus_top.specs.Images.{IsLastDriveOf};
 
 use crate::script::script_of;
-use crate::status::Status;
 use blk_drive::{ImageDev, LoadFault, LoadRefused, Mirror};
 use core_state::{MountFault, MountRefused, World};
 use fx_text::TextIn;
-use plain_cat::{Plays, Script};
-use run_engine::{RunFault, free_at_end, report, run};
+use plain_cat::{NoMemory, Plays, Script};
+use run_engine::{RunFault, Status, free_at_end, report, report_lines, run};
 use std::alloc::Global;
+use vol_texts::push_bytes;
 use xqp_set::XqpOp;
 
+/// Why a run gave no report.
+#[derive(Drop)]
+pub enum Stop {
+    /// A write of the image failed: the lines of the answers before it, and the text of that fault.
+    Cut(Vec<u8>),
+
+    /// Another status, whose text says all.
+    By(Status),
+}
+
 // The report of a run that has ended.
-fn report_of<I: ImageDev>(alloc: Global, w: &World<I, XqpOp>) -> Result<Vec<u8>, Status>
+fn report_of<I: ImageDev>(alloc: Global, w: &World<I, XqpOp>) -> Result<Vec<u8>, Stop>
     requires over { AllOver w.now.world }
     ensures report { IfOk result (λ text. (c : Cat) × HasEnded w.now.world c × (text.items ≡ report_bytes w.now.world.history (free_clusters c))) }
-    ensures end { IfErr result (λ s. s ≡ Status.NoMemory) }
+    ensures end { IfErr result (λ s. s ≡ Stop.By Status.NoMemory) }
 {
     let free = free_at_end(w);
     match report(alloc, w.history(), free) {
         Ok(text) => Ok(text),
-        Err(_) => Err(Status::NoMemory),
+        Err(_) => Err(Stop::By(Status::NoMemory)),
     }
 }
 
+// The text of a run that a write of the image has cut short.
+#[tactic(auto, unfolding(crate::specs::Statuses::status_text))]
+fn cut_text<I: ImageDev>(alloc: Global, w: &World<I, XqpOp>) -> Result<Vec<u8>, NoMemory>
+    ensures { IfOk result (λ text. text.items ≡ cut_text w.now.world.history) }
+{
+    let mut text = report_lines(alloc, w.history())?;
+    push_bytes(&mut text, b"image fault\n")?;
+    Ok(text)
+}
+
 // Why a run stopped before its end.
-fn run_status(fault: RunFault) -> Status
-    ensures { result ≡ run_status fault }
+fn stop_of<I: ImageDev>(alloc: Global, w: &World<I, XqpOp>, fault: RunFault) -> Stop
+    ensures { IsStopOf w.now.world fault result }
 {
     match fault {
-        RunFault::ImageFault => Status::ImageFault,
-        RunFault::NoMemory => Status::NoMemory,
-        RunFault::Unfinished => Status::Unfinished,
+        RunFault::ImageFault => match cut_text(alloc, w) {
+            Ok(text) => Stop::Cut(text),
+            Err(_) => Stop::By(Status::NoMemory),
+        },
+        RunFault::NoMemory => Stop::By(Status::NoMemory),
+        RunFault::Unfinished => Stop::By(Status::Unfinished),
     }
 }
 
@@ -51,13 +75,13 @@ fn run_on<I: ImageDev>(
     alloc: Global,
     w: &mut World<I, XqpOp>,
     plays: &Plays,
-) -> Result<Vec<u8>, Status>
+) -> Result<Vec<u8>, Stop>
     requires mounted { IsMounted w.old.world.blocks w.old.world.script w.old.world }
     requires form { InForm w.old.world.script }
     requires plays { plays.now ≡ w.old.world.script.plays }
     requires told { IsTold (I.told w.old.image) w.old.world.blocks }
     ensures report { IfOk result (λ text. IsEndIn w.old.world.script w.old.world.blocks (I.told w.old.image) (I.told w.new.image) text.items) }
-    ensures end { IfErr result (IsStopIn w.old.world.script w.old.world.blocks (I.told w.old.image) (I.told w.new.image)
+    ensures end { IfErr result (IsStopBy w.old.world.script w.old.world.blocks (I.told w.old.image) (I.told w.new.image)
         (I.faults w.old.image) (I.faults w.new.image)) }
 {
     w.keeps_the_rules();
@@ -65,7 +89,7 @@ fn run_on<I: ImageDev>(
     w.keeps_the_rules();
     match ran {
         Ok(()) => report_of(alloc, w),
-        Err(fault) => Err(run_status(fault)),
+        Err(fault) => Err(stop_of(alloc, w, fault)),
     }
 }
 
@@ -82,10 +106,10 @@ fn mount_status(fault: MountFault) -> Status
 // Mounts a drive, and runs the script on it.
 fn run_mounted<I: ImageDev>(alloc: Global, m: Mirror<I>, script: &Script) -> Ran<I>
     requires form { InForm script.now }
-    requires looks { AreFirst script.now.lines }
+    requires built { AreBuilt BUILT script.now.lines }
     requires told { IsTold (I.told m.image) m.blocks }
     ensures report { IfOk result.outcome (λ text. IsEndIn script.now m.blocks (I.told m.image) (I.told result.image) text.items) }
-    ensures end { IfErr result.outcome (IsStopIn script.now m.blocks (I.told m.image) (I.told result.image)
+    ensures end { IfErr result.outcome (IsStopBy script.now m.blocks (I.told m.image) (I.told result.image)
         (I.faults m.image) (I.faults result.image)) }
 {
     match World::<I, XqpOp>::mount(alloc, m, script) {
@@ -98,16 +122,16 @@ fn run_mounted<I: ImageDev>(alloc: Global, m: Mirror<I>, script: &Script) -> Ran
             }
         }
         Err(MountRefused { fault, mirror }) => Ran {
-            outcome: Err(mount_status(fault)),
+            outcome: Err(Stop::By(mount_status(fault))),
             image: mirror.into_image(),
         },
     }
 }
 
-/// The end of a run: the text of status 0 or another status, and the image.
+/// The end of a run: the text of status 0, or why there is none, and the image.
 #[derive(Drop)]
 pub struct Ran<I: ImageDev> {
-    pub outcome: Result<Vec<u8>, Status>,
+    pub outcome: Result<Vec<u8>, Stop>,
     pub image: I,
 }
 
@@ -127,15 +151,15 @@ pub fn run_script<I: ImageDev, T: TextIn>(alloc: Global, image: I, script: &mut 
     ensures passed { IfOk result.outcome (λ text. IfSome (T.left script.old) IsGood × IsAccepted (I.size image) (I.told image)) }
     ensures report { IfOk result.outcome (λ text. IsReportOn (T.left script.old) (I.told image) (I.told result.image) text.items) }
     ensures ended { IfOk result.outcome (λ text. IfSome (I.told image) (λ bs. IsLastDriveOf (T.left script.old) bs (I.told result.image))) }
-    ensures end { IfErr result.outcome (IsRunEnd (T.left script.old) (I.size image) (I.told image)
+    ensures end { IfErr result.outcome (IsRunStop (T.left script.old) (I.size image) (I.told image)
         (T.faults script.old) (T.faults script.new) (I.faults image) (I.faults result.image)) }
-    ensures left { IfErr result.outcome (IsRunImage (T.left script.old) (I.told image) (I.told result.image)) }
+    ensures left { IfErr result.outcome (IsStopImage (T.left script.old) (I.told image) (I.told result.image)) }
 {
     let spelt = match script_of(alloc, script) {
         Ok(spelt) => spelt,
         Err(status) => {
             return Ran {
-                outcome: Err(status),
+                outcome: Err(Stop::By(status)),
                 image,
             };
         }
@@ -143,7 +167,7 @@ pub fn run_script<I: ImageDev, T: TextIn>(alloc: Global, image: I, script: &mut 
     match Mirror::load(alloc, image) {
         Ok(mirror) => run_mounted(alloc, mirror, &spelt),
         Err(LoadRefused { fault, image }) => Ran {
-            outcome: Err(load_status(fault)),
+            outcome: Err(Stop::By(load_status(fault))),
             image,
         },
     }

@@ -5,9 +5,9 @@ ghost use Rattle.fx_text.specs.Streams.{AppendsStart};
 ghost use Rattle.vol_texts.specs.Reports.{newline};
 ghost use Rattle.clus_top.specs.Statuses.{status_text, finding_line, findings_text, IsWritten};
 
-use crate::status::Status;
 use fx_text::{TextOut, write_all};
 use plain_cat::NoMemory;
+use run_engine::Status;
 use std::alloc::Global;
 use vol_analyze::{Finding, push_finding};
 use vol_init::InitFault;
@@ -140,6 +140,16 @@ pub fn tell_findings<O: TextOut>(alloc: Global, out: &mut O, findings: &[Finding
             Status::NoMemory
         }
     }
+}
+
+/// Writes the text of a run that a write of the image has cut short, and answers the status: that of the fault. A fault of the
+/// sink does not change it.
+pub fn tell_cut<O: TextOut>(out: &mut O, text: &[u8]) -> Status
+    ensures status { result ≡ Status.ImageFault }
+    ensures text { IsWritten (O.written out.old) (O.written out.new) (O.faults out.old) (O.faults out.new) text.now }
+{
+    write_text(out, text);
+    Status::ImageFault
 }
 
 /// Writes the text of status 0, and answers the status: 0, or a fault of the sink.

@@ -1,4 +1,5 @@
 use super::*;
+use crate::making::made;
 use blk_drive::{Fail as Failing, ImageDev, MemImage};
 use fx_text::{MemIn, MemOut, Word};
 use plain_cat::NoMemory;
@@ -54,7 +55,7 @@ pub fn call(
 }
 
 // An image of so many zero blocks.
-fn zeros(alloc: Global, count: usize) -> Result<MemImage, NoMemory> {
+pub fn zeros(alloc: Global, count: usize) -> Result<MemImage, NoMemory> {
     if count > 100_000 {
         return Err(AllocError);
     }
@@ -67,7 +68,7 @@ pub fn volume(alloc: Global) -> Result<MemImage, NoMemory> {
 }
 
 // The image with one byte changed.
-fn with_byte(image: MemImage, lbn: u32, at: usize, byte: u8) -> Result<MemImage, NoMemory> {
+pub fn with_byte(image: MemImage, lbn: u32, at: usize, byte: u8) -> Result<MemImage, NoMemory> {
     let mut image = image;
     let mut b = [0; 512];
     let Ok(count) = image.blocks() else {
@@ -97,7 +98,45 @@ fn wrong_row(
     Ok(None)
 }
 
-// The scripts and reports of the folder examples/.
+const MAKING: &str =
+    "# Two nodes make a directory and files in it, and list them. Node 1 has the first turns, in which it makes the directory.\n\
+    NODES 2\n\
+    SCHED 1*27\n\
+    1 MKDIR R1 MFD NOTES [1,4]\n\
+    1 CREATE R2 R1 PLAN.TXT;0 3 [1,4]\n\
+    1 CREATE R2 R1 PLAN.TXT;0 3 [1,4]\n\
+    1 LIST R1\n\
+    2 LOOKUP R1 MFD NOTES.DIR;0\n\
+    2 CREATE R2 R1 TODO.TXT;0 10 [1,1]\n\
+    2 STAT R2\n\
+    2 LIST R1\n\
+    2 CREATE R3 R1 TODO.TXT;1 0 [1,4]\n";
+
+const MAKING_REPORT: &str = "1 N1 MKDIR R1 (4,4,0) NOTES [1,4] = (12,1,0) NOTES.DIR;1\n\
+    2 N2 LOOKUP R1 (4,4,0) NOTES.DIR;0 = (12,1,0) NOTES.DIR;1\n\
+    3 N1 CREATE R2 (12,1,0) PLAN.TXT;0 3 [1,4] = (13,1,0) PLAN.TXT;1\n\
+    4 N2 CREATE R2 (12,1,0) TODO.TXT;0 10 [1,1] = (14,1,0) TODO.TXT;1\n\
+    5 N2 STAT (14,1,0) = file [1,1] 12 blocks mark 1 end 1,0\n\
+    6 N1 CREATE R2 (12,1,0) PLAN.TXT;0 3 [1,4] = (15,1,0) PLAN.TXT;2\n\
+    7 N2 LIST (12,1,0) = 3 entries PLAN.TXT;2 (15,1,0) PLAN.TXT;1 (13,1,0) TODO.TXT;1 (14,1,0)\n\
+    8 N1 LIST (12,1,0) = 3 entries PLAN.TXT;2 (15,1,0) PLAN.TXT;1 (13,1,0) TODO.TXT;1 (14,1,0)\n\
+    9 N2 CREATE R3 (12,1,0) TODO.TXT;1 0 [1,4] = refused DupFile\n\
+    end: 9 answered, 0 died, 225 free\n";
+
+const LOOKING_BACK: &str = "# One node looks at what the script `making` has left.\n\
+    NODES 1\n\
+    1 LOOKUP R1 MFD NOTES.DIR;0\n\
+    1 LIST R1\n\
+    1 LOOKUP R2 R1 PLAN.TXT;1\n\
+    1 STAT R2\n";
+
+const LOOKING_BACK_REPORT: &str = "1 N1 LOOKUP R1 (4,4,0) NOTES.DIR;0 = (12,1,0) NOTES.DIR;1\n\
+    2 N1 LIST (12,1,0) = 3 entries PLAN.TXT;2 (15,1,0) PLAN.TXT;1 (13,1,0) TODO.TXT;1 (14,1,0)\n\
+    3 N1 LOOKUP R2 (12,1,0) PLAN.TXT;1 = (13,1,0) PLAN.TXT;1\n\
+    4 N1 STAT (13,1,0) = file [1,4] 4 blocks mark 1 end 1,0\n\
+    end: 4 answered, 0 died, 225 free\n";
+
+// The scripts and reports of the folder examples/. The last script is run on the volume that the one before it leaves.
 #[test]
 fn examples(rt: HostRuntime) -> Result<(), Fail> {
     let rows = [
@@ -123,6 +162,9 @@ fn examples(rt: HostRuntime) -> Result<(), Fail> {
         ),
     ];
     assert_eq!(rt; wrong_row(rt.alloc(), &rows)?, None);
+    let alloc = rt.alloc();
+    let image = made(&rt, alloc, volume(alloc)?, MAKING, MAKING_REPORT)?;
+    made(&rt, alloc, image, LOOKING_BACK, LOOKING_BACK_REPORT)?;
     Ok(())
 }
 

@@ -4,29 +4,19 @@ ghost use Rattle.vol_words.specs.Fields.{Block};
 ghost use Rattle.clus_top.specs.Ends.{AreFoundIn, IsFoundEnd};
 ghost use Rattle.vol_init.specs.Refusals.{home_of};
 ghost use Rattle.clus_top.specs.Words.{Run, wanted_by};
-ghost use Rattle.clus_top.specs.Images.{IsFormatted, IsRunImage, IsImageAfter};
-ghost use Rattle.clus_top.specs.Statuses.{IsRunDue, IsAnalysisDue, IsInitDue, IsDue, accepted_text, made_text, sized, IsTextOf, Writes};
+ghost use Rattle.clus_top.specs.Images.{IsFormatted, IsRunImage, IsImageAfter, IsRunFaultText, IsFaultTextOf};
+ghost use Rattle.clus_top.specs.Statuses.{IsRunDue, IsAnalysisDue, IsInitDue, IsDue, accepted_text, made_text, sized, IsTextOf, status_text, Writes};
 
 use crate::analysis::{Analysis, analyze_image};
 use crate::format::{Format, init_image};
-use crate::run::{Ran, run_script};
-use crate::status::Status;
-use crate::tell::{tell, tell_findings, tell_text};
+use crate::run::{Ran, Stop, run_script};
+use crate::tell::{tell, tell_cut, tell_findings, tell_text};
 use crate::words::{Job, job_of};
 use blk_drive::ImageDev;
 use fx_text::{TextIn, TextOut, Word};
+use run_engine::{Finished, Status};
 use std::alloc::Global;
 use vol_analyze::Finding;
-
-/// How a call ended, and the image that was handed in.
-#[derive(Drop)]
-pub struct Finished<I: ImageDev> {
-    /// How the call ended.
-    pub status: Status,
-
-    /// The image, which comes back with every status.
-    pub image: I,
-}
 
 // The job `run`.
 fn run<I: ImageDev, T: TextIn, O: TextOut>(
@@ -39,14 +29,16 @@ fn run<I: ImageDev, T: TextIn, O: TextOut>(
     ensures script_fault { result.status ≡ Status.ScriptFault → Rose (T.faults script.old) (T.faults script.new) }
     ensures image_fault { result.status ≡ Status.ImageFault → Rose (I.faults image) (I.faults result.image) }
     ensures out_fault { result.status ≡ Status.OutFault → Rose (O.faults out.old) (O.faults out.new) }
-    ensures written { Writes (IsTextOf (Some Run) (T.left script.old) (I.size image) (I.told image) (I.told result.image)) (I.told image)
+    ensures written { Writes (IsTextOf (Some Run) (T.left script.old) (I.size image) (I.told image) (I.told result.image))
+        (IsRunFaultText (T.left script.old) (I.told image) (I.told result.image)) (I.told image)
         (O.written out.old) (O.written out.new) (O.faults out.old) (O.faults out.new) result.status }
     ensures after { IsRunImage (T.left script.old) (I.told image) (I.told result.image) result.status }
 {
     let Ran { outcome, image } = run_script(alloc, image, script);
     let status = match outcome {
         Ok(text) => tell_text(out, text.as_slice()),
-        Err(status) => tell(alloc, out, status),
+        Err(Stop::Cut(text)) => tell_cut(out, text.as_slice()),
+        Err(Stop::By(status)) => tell(alloc, out, status),
     };
     Finished { status, image }
 }
@@ -56,7 +48,7 @@ fn tell_found<O: TextOut>(alloc: Global, out: &mut O, findings: &[Finding]) -> S
     ensures end { IsFoundEnd findings.now result }
     ensures out_fault { result ≡ Status.OutFault → Rose (O.faults out.old) (O.faults out.new) }
     ensures written { (told : Option (List Block)) → IfSome told (AreFoundIn findings.now)
-        → Writes (λ text. text ≡ accepted_text) told (O.written out.old) (O.written out.new) (O.faults out.old) (O.faults out.new) result }
+        → Writes (λ text. text ≡ accepted_text) (λ text. text ≡ status_text Status.ImageFault) told (O.written out.old) (O.written out.new) (O.faults out.old) (O.faults out.new) result }
 {
     match findings {
         [] => tell_text(out, b"accepted\n"),
@@ -69,7 +61,7 @@ fn analyze<I: ImageDev, O: TextOut>(alloc: Global, image: I, out: &mut O) -> Fin
     ensures due { IsAnalysisDue (I.size image) (I.told image) result.status }
     ensures image_fault { result.status ≡ Status.ImageFault → Rose (I.faults image) (I.faults result.image) }
     ensures out_fault { result.status ≡ Status.OutFault → Rose (O.faults out.old) (O.faults out.new) }
-    ensures written { Writes (λ text. text ≡ accepted_text) (I.told image)
+    ensures written { Writes (λ text. text ≡ accepted_text) (λ text. text ≡ status_text Status.ImageFault) (I.told image)
         (O.written out.old) (O.written out.new) (O.faults out.old) (O.faults out.new) result.status }
     ensures told { I.told result.image ≡ I.told image }
 {
@@ -93,7 +85,7 @@ fn init<I: ImageDev, O: TextOut>(
     ensures due { IsInitDue cluster files label.now (I.size image) result.status }
     ensures image_fault { result.status ≡ Status.ImageFault → Rose (I.faults image) (I.faults result.image) }
     ensures out_fault { result.status ≡ Status.OutFault → Rose (O.faults out.old) (O.faults out.new) }
-    ensures written { Writes (λ text. text ≡ made_text label.now (sized cluster files (I.size image))) (I.told image)
+    ensures written { Writes (λ text. text ≡ made_text label.now (sized cluster files (I.size image))) (λ text. text ≡ status_text Status.ImageFault) (I.told image)
         (O.written out.old) (O.written out.new) (O.faults out.old) (O.faults out.new) result.status }
     ensures after { IfSome (I.told image) (λ old. IsFormatted (home_of cluster files label.now) old (I.told result.image) result.status) }
 {
@@ -108,8 +100,8 @@ fn init<I: ImageDev, O: TextOut>(
 /// Does the job that the words ask for, prints its text, and gives the image back.
 ///
 /// `run` reads a script of at most 1,048,576 bytes and runs it on a volume in which nothing is found. So far its commands are
-/// LOOKUP, LIST and STAT, of any file and directory, by an identifier or a register. Its nodes, 1 to 8, first have a turn for each
-/// play of the schedule, and then turns in rotation from node 1 until each has given its commands; a node that is done makes no
+/// LOOKUP, LIST, STAT, CREATE and MKDIR, of any file and directory, by an identifier or a register. Its nodes, 1 to 8, first have a
+/// turn for each play of the schedule, and then turns in rotation from node 1 until each has given its commands; a node that is done makes no
 /// turn. `analyze` prints what is found in a volume. `init CLUSTER FILES LABEL` makes a volume with 1 to 16 blocks in a cluster, 32
 /// to 4,096 file numbers, and a label of 1 to 12 characters of A to Z, 0 to 9, `$`, `_` and `-`. Other words are `BadWords`.
 ///
@@ -131,8 +123,9 @@ pub fn vmsclus<I: ImageDev, T: TextIn, O: TextOut>(
     ensures out_fault { result.status ≡ Status.OutFault → Rose (O.faults out.old) (O.faults out.new) }
 
     // With status 0 the job's text was written, with a fault of the sink first bytes of it, with findings these, and else the
-    // text of the status.
-    ensures written { Writes (IsTextOf (wanted_by words.now) (T.left script.old) (I.size image) (I.told image) (I.told result.image)) (I.told image)
+    // text of the status; in front of that of a write that failed in a run the lines of the answers before it.
+    ensures written { Writes (IsTextOf (wanted_by words.now) (T.left script.old) (I.size image) (I.told image) (I.told result.image))
+        (IsFaultTextOf (wanted_by words.now) (T.left script.old) (I.told image) (I.told result.image)) (I.told image)
         (O.written out.old) (O.written out.new) (O.faults out.old) (O.faults out.new) result.status }
 
     // A run that has come to its end leaves the drive of its nodes, which spells the catalogue of the report. One that has not

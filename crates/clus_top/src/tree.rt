@@ -48,7 +48,7 @@ fn header(num: u16, seq: u16, flags: u8, lbn: u16, count: u16) -> Block {
 }
 
 // The blocks of an image.
-fn blocks_of(alloc: Global, image: &MemImage) -> Result<Vec<Block>, NoMemory> {
+pub fn blocks_of(alloc: Global, image: &MemImage) -> Result<Vec<Block>, NoMemory> {
     let mut blocks = Vec::new(alloc);
     for block in image.all() {
         blocks.push(*block)?;
@@ -57,8 +57,9 @@ fn blocks_of(alloc: Global, image: &MemImage) -> Result<Vec<Block>, NoMemory> {
 }
 
 /// The fresh volume with Z.DIR;1 (12,1) in the main directory, and three files in that: 13 and 15 have no block, and 14 has
-/// four. Two clusters more are in use, and twelve blocks more are charged to [1,1].
-fn tree(alloc: Global) -> Result<MemImage, NoMemory> {
+/// four from this LBN on. Two clusters more are in use, as this byte of the storage bitmap says, and twelve blocks more are
+/// charged to [1,1].
+pub fn tree_at(alloc: Global, lbn: u16, free: u8) -> Result<MemImage, NoMemory> {
     let mut b = blocks_of(alloc, &volume(alloc)?)?;
     if b.len() != 1024 {
         return Err(AllocError);
@@ -66,9 +67,9 @@ fn tree(alloc: Global) -> Result<MemImage, NoMemory> {
     b[16][1] = 0x7f;
     b[28] = header(12, 1, DIRECTORY, 100, 4);
     b[29] = header(13, 1, 0, 0, 0);
-    b[30] = header(14, 1, 0, 104, 4);
+    b[30] = header(14, 1, 0, lbn, 4);
     b[31] = header(15, 2, 0, 0, 0);
-    b[85][3] = 0xf8;
+    b[85][3] = free;
     b[89] = block(MORE);
     b[96][8] = 123;
     b[100] = block(FIRST);
@@ -76,6 +77,11 @@ fn tree(alloc: Global) -> Result<MemImage, NoMemory> {
     b[102] = block(b"\xff\xff");
     b[103] = block(b"\xff\xff");
     Ok(MemImage::new(b, Vec::new(alloc)))
+}
+
+// Its files have clusters 25 and 26.
+fn tree(alloc: Global) -> Result<MemImage, NoMemory> {
+    tree_at(alloc, 104, 0xf8)
 }
 
 // Whether a script has this report on that volume, which it leaves as it was.

@@ -258,6 +258,14 @@ is_over_in (Some s) = s.over || s.past.dead
 abbrev pub is_over : Plain → ℕ → Bool
 is_over w n = is_over_in (node_at w.nodes n)
 
+-- one of the counts of a node
+abbrev pub counted_in : (NodeState → ℕ) → Option NodeState → ℕ
+counted_in count None = 0
+counted_in count (Some s) = count s
+
+abbrev pub count_of : (NodeState → ℕ) → Plain → ℕ → ℕ
+count_of count w n = counted_in count (node_at w.nodes n)
+
 -- the command that a node has begun
 abbrev pub command_in : Option NodeState → Option Cmd
 command_in None = None

@@ -1,7 +1,7 @@
 ghost use Rattle.std.specs.Prelude.{◌≡◌, ◌≤◌, length};
 ghost use Rattle.core_state.specs.Worlds.{IsOfWorld};
 ghost use Rattle.core_state.specs.Goods.{Good};
-ghost use Rattle.core_state.specs.Events.{is_over};
+ghost use Rattle.core_state.specs.Events.{is_over, count_of};
 
 use crate::cluster::Core;
 use blk_drive::{ImageDev, Mirror};
@@ -68,6 +68,39 @@ impl<I: ImageDev, O: Operation> World<I, O> {
     {
         let node = &self.core.nodes[node as usize - 1];
         node.over || node.past.is_dead()
+    }
+
+    /// How many turns a node has made since mounting, those in which its request waited among them, and without those that a fault
+    /// stopped. The nodes count from 1; the count stays at the last value of 64 bits, as the next three do.
+    pub fn turns(&self, node: u8) -> u64
+        requires { IsOfWorld self.now.world node }
+        ensures { result ≡ count_of (λ s. s.turns) self.now.world node }
+    {
+        self.core.nodes[node as usize - 1].turns
+    }
+
+    /// How many blocks a node has written since mounting.
+    pub fn writes(&self, node: u8) -> u64
+        requires { IsOfWorld self.now.world node }
+        ensures { result ≡ count_of (λ s. s.writes) self.now.world node }
+    {
+        self.core.nodes[node as usize - 1].writes
+    }
+
+    /// How many blocks a node has read from the drive since mounting.
+    pub fn reads(&self, node: u8) -> u64
+        requires { IsOfWorld self.now.world node }
+        ensures { result ≡ count_of (λ s. s.reads) self.now.world node }
+    {
+        self.core.nodes[node as usize - 1].reads
+    }
+
+    /// How many blocks a node has found cached since mounting.
+    pub fn hits(&self, node: u8) -> u64
+        requires { IsOfWorld self.now.world node }
+        ensures { result ≡ count_of (λ s. s.hits) self.now.world node }
+    {
+        self.core.nodes[node as usize - 1].hits
     }
 
     /// The history and the drive.

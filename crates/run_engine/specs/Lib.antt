@@ -3,3 +3,4 @@ pub mod Reports
 pub mod Ended
 pub mod Laws
 pub mod Faults
+pub mod Statuses

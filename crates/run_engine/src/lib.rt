@@ -1,4 +1,5 @@
-//! A run of a script: the turns of its nodes on a world, the clusters that are free at its end, and the report of what was answered.
+//! A run of a script: the turns of its nodes on a world, the clusters that are free at its end, and the report of what was answered;
+//! and how a call of the program ends.
 #![tactic(auto)]
 
 mod fault;
@@ -7,12 +8,14 @@ mod laws;
 mod reports;
 mod rotation;
 mod running;
+mod status;
 
 pub use fault::RunFault;
 pub use free::free_at_end;
 pub use laws::{over_is_spelt, over_is_whole, turns_leave_the_rest};
 pub use reports::{report, report_lines};
 pub use running::run;
+pub use status::{Finished, Status};
 
 #[cfg(test)]
 mod tests;

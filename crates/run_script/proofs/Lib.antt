@@ -9,7 +9,7 @@ pub mod Commanded
 pub mod Said
 pub mod Spelt
 pub mod Formed
-pub mod Looked
+pub mod AllBuilt
 pub mod ReadBack
 pub mod OneThing
 pub mod SoakLemmas

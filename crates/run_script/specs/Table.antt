@@ -81,16 +81,3 @@ is_built table cmd = is_on table (kind_of cmd) && may_name table cmd
 -- the command of each of these lines is run
 abbrev pub AreBuilt : Built → List Line → Type 0
 AreBuilt table ls = list_all (λ (l : Line). is_built table l.cmd) ls ≡ true
-
--- a command that only looks, or that makes a file
-abbrev pub is_first : LineCmd → Bool
-is_first (line.Lookup reg dir name ver) = true
-is_first (line.List dir) = true
-is_first (line.Stat file) = true
-is_first (line.Create reg dir name ver blocks owner) = true
-is_first (line.MkDir reg dir name owner) = true
-is_first cmd = false
-
--- the command of each of these lines does so
-abbrev pub AreFirst : List Line → Type 0
-AreFirst ls = list_all (λ (l : Line). is_first l.cmd) ls ≡ true

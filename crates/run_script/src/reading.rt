@@ -1,7 +1,7 @@
 ghost use Rattle.std.specs.Prelude.{◌≡◌, ◌⊎◌, ℕ, None, Ok, Err, IfOk};
 ghost use Rattle.plain_cat.specs.declared.script.Script.{Script};
 ghost use Rattle.run_script.specs.Lines.{lines_of};
-ghost use Rattle.run_script.specs.Table.{AreBuilt, AreFirst};
+ghost use Rattle.run_script.specs.Table.{AreBuilt};
 ghost use Rattle.run_script.specs.Spelling.{SpellsScript, IsBadLine, IsTooMany};
 ghost use Rattle.run_script.specs.Steps.{Reads, read_from};
 ghost use Rattle.plain_cat.specs.InForm.{InForm};
@@ -55,11 +55,11 @@ pub fn read_with(alloc: Global, table: &Built, bytes: &[u8]) -> Result<Script, S
     read_lines(alloc, table, bytes)
 }
 
-/// Reads a script for the program as it stands: [`read_with`] of what it runs, [`BUILT`]. So far its commands only look, or make a file.
+/// Reads a script for the program as it stands: [`read_with`] of what it runs, [`BUILT`].
 pub fn read_script(alloc: Global, bytes: &[u8]) -> Result<Script, ScriptFault>
     ensures spelt { IfOk result (SpellsScript BUILT (lines_of bytes.now)) }
     ensures form { IfOk result InForm }
-    ensures looks { IfOk result (λ s. AreFirst s.lines) }
+    ensures built { IfOk result (λ s. AreBuilt BUILT s.lines) }
     ensures bad { (n : ℕ) → result ≡ Err (ScriptFault.BadLine n) → IsBadLine BUILT (lines_of bytes.now) n }
     ensures over { result ≡ Err ScriptFault.TooMany → IsTooMany BUILT (lines_of bytes.now) }
     ensures each_script { (s : Script) → SpellsScript BUILT (lines_of bytes.now) s → (result ≡ Ok s) ⊎ (result ≡ Err ScriptFault.NoMemory) }

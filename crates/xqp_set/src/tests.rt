@@ -2,8 +2,10 @@ ghost use Rattle.xqp_set.specs.Built.{IsBuilt};
 
 use crate::XqpOp;
 use blk_drive::{MemImage, Mirror};
+use lock_db::LockName;
 use op_law::{Operation, Plan, Seen, run_alone};
-use plain_cat::{Cmd, Fid, Refusal, Reply};
+use plain_cat::{Cmd, Fid, Mode, Name, Refusal, Reply, Uic};
+use plain_vol::is_in_form;
 use std::alloc::Global;
 use std::test::Fail;
 use vol_init::init;
@@ -57,6 +59,34 @@ fn a_refusal_goes_through_the_set(rt: HostRuntime) -> Result<(), Fail> {
     assert_eq!(&rt; seen.blocks.items().len(), 1);
     assert!(&rt; plan.writes.items().is_empty());
     assert!(&rt; matches!(plan.reply, Reply::Refused(Refusal::NoSuchFile)));
+    Ok(())
+}
+
+// The owner has no quota row, which shows once the quota file's four blocks are seen, behind the directory's header and its four.
+#[test]
+#[tactic(auto, unfolding(plain_cat::specs::InForm::in_form))]
+fn a_creation_goes_through_the_set(rt: HostRuntime) -> Result<(), Fail> {
+    let mut name = Name::new(rt.alloc());
+    for byte in b"A.TXT" {
+        name.push(*byte)?;
+    }
+    let cmd = Cmd::Create {
+        reg: 1,
+        dir: fid(4, 4),
+        name,
+        ver: 0,
+        blocks: 10,
+        owner: Uic(131_074),
+    };
+    if !is_in_form(&cmd) {
+        return Err(Fail::from("the command is in form"));
+    }
+    let (seen, plan) = run(rt.alloc(), cmd)?;
+    let locks = [(LockName::S(4), Mode::PW), (LockName::Q, Mode::PW)];
+    assert!(&rt; seen.locks.items() == locks.as_slice());
+    assert_eq!(&rt; seen.blocks.items().len(), 9);
+    assert!(&rt; plan.writes.items().is_empty());
+    assert!(&rt; matches!(plan.reply, Reply::Refused(Refusal::NoQuota)));
     Ok(())
 }
 

@@ -1,5 +1,5 @@
 use Rattle.std.proofs.Common.{subst}
-use Rattle.clus_top.specs.Ends.{IsEndIn, IsStopIn}
+use Rattle.clus_top.specs.Ends.{IsEndIn, IsStopBy}
 use Rattle.clus_top.proofs.Reported.{good, is_accepted, report_on, last_on, stop_image, volume_end, if_err, if_ok}
 use Rattle.clus_top.proofs.run.run_script.Goals as goal
 
@@ -39,7 +39,7 @@ returns-in-Ok-load-clause-end g c =
     if_err c.run_mounted.result.outcome _ _
     (λ s h. volume_end (g.T.TextIn.left c.args.script.now) (g.I.ImageDev.size c.args.image) (g.I.ImageDev.told c.args.image) new c.in-Ok.spelt c.in-Ok-load.mirror.blocks _ _ _ had has s
     c.in-Ok.ensures.spelt c.in-Ok-load.ensures.inside c.in-Ok-load.ensures.blocks c.in-Ok-load.ensures.later
-    (subst (λ t. IsStopIn c.in-Ok.spelt c.in-Ok-load.mirror.blocks t new had has s) c.in-Ok-load.ensures.told h))
+    (subst (λ t. IsStopBy c.in-Ok.spelt c.in-Ok-load.mirror.blocks t new had has s) c.in-Ok-load.ensures.told h))
     c.run_mounted.ensures.end
 
 pub returns-in-Ok-load-clause-left : goal.returns-in-Ok-load-clause-left
@@ -49,5 +49,5 @@ returns-in-Ok-load-clause-left g c =
     let had = g.I.ImageDev.faults c.in-Ok-load.mirror.image in
     if_err c.run_mounted.result.outcome _ _
     (λ s h. stop_image (g.T.TextIn.left c.args.script.now) (g.I.ImageDev.told c.args.image) new c.in-Ok.spelt c.in-Ok-load.mirror.blocks had has s c.in-Ok.ensures.spelt c.in-Ok-load.ensures.blocks
-    (subst (λ t. IsStopIn c.in-Ok.spelt c.in-Ok-load.mirror.blocks t new had has s) c.in-Ok-load.ensures.told h))
+    (subst (λ t. IsStopBy c.in-Ok.spelt c.in-Ok-load.mirror.blocks t new had has s) c.in-Ok-load.ensures.told h))
     c.run_mounted.ensures.end

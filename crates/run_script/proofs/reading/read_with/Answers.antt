@@ -5,7 +5,7 @@ use Rattle.run_script.specs.Spelling.{SpellsScript}
 use Rattle.run_script.proofs.Spelt.{spelt_from, bad_from, over_from, each_script, each_bad_line, each_excess}
 use Rattle.run_script.specs.Table.{AreBuilt}
 use Rattle.run_script.proofs.Formed.{spelt_in_form}
-use Rattle.run_script.proofs.Looked.{spelt_built}
+use Rattle.run_script.proofs.AllBuilt.{spelt_built}
 use Rattle.run_script.proofs.reading.read_with.Goals as goal
 
 pub returns-clause-spelt : goal.returns-clause-spelt

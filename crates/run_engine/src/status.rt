@@ -1,7 +1,8 @@
 ghost use Rattle.std.specs.Prelude.{◌≡◌};
 
-use vol_analyze::Finding;
+use blk_drive::ImageDev;
 use vol_init::InitFault;
+use vol_parts::Finding;
 
 /// How a call of the program ended.
 #[derive(Drop)]
@@ -51,7 +52,7 @@ pub enum Status {
 }
 
 impl Status {
-    ghost use Rattle.clus_top.specs.Statuses.{status_code};
+    ghost use Rattle.run_engine.specs.Statuses.{status_code};
 
     /// The number with which the program ends: 0 to 9.
     pub fn code(&self) -> u8
@@ -70,4 +71,14 @@ impl Status {
             Status::BadInit(_) => 9,
         }
     }
+}
+
+/// How a call of the program ended, and the image that was handed in.
+#[derive(Drop)]
+pub struct Finished<I: ImageDev> {
+    /// How the call ended.
+    pub status: Status,
+
+    /// The image, which comes back with every status.
+    pub image: I,
 }

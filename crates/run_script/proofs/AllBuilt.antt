@@ -1,17 +1,13 @@
 -- The commands of a script that is read are run.
 use Rattle.std.proofs.Common.{◌≡◌, ℕ, Bool, true, List, [], ◌∷◌, Option, Some, None, refl, ap, subst, inl, inr}
 use Rattle.std.specs.List.{list_all}
-use Rattle.std.proofs.lemmas.Bool.{false≢true, and_parts}
 use Rattle.std.proofs.lemmas.List.Folds.{list_all-append}
-use Rattle.plain_cat.specs.declared.script.LineCmd.{LineCmd}
-use Rattle.plain_cat.specs.declared.script.LineCmd.TheVariants as line
 use Rattle.plain_cat.specs.declared.script.Line.{Line}
 use Rattle.plain_cat.specs.declared.script.Script.{Script}
 use Rattle.run_script.specs.declared.built.Built.{Built}
-use Rattle.run_script.specs.declared.built.TheConstants.{BUILT}
 use Rattle.run_script.specs.declared.items.Item.{Item}
 use Rattle.run_script.specs.declared.items.Item.TheVariants.{Skipped, Nodes, Plays, Death, Command}
-use Rattle.run_script.specs.Table.{is_built, AreBuilt, is_first, AreFirst}
+use Rattle.run_script.specs.Table.{is_built, AreBuilt}
 use Rattle.run_script.specs.Grammar.{IsItemText, IsLineText}
 use Rattle.run_script.specs.Spelling.{with_item, Leads, SpellsScript}
 
@@ -61,18 +57,3 @@ led table state (l ∷ ls) after h next = led table (with_item state next.0) ls 
 -- what lines spell is run
 pub spelt_built : (table : Built) (lines : List (List ℕ)) (s : Script) → SpellsScript table lines s → AreBuilt table s.lines
 spelt_built table lines s h = led table None lines (Some s) refl h
-
--- what the program runs so far only looks, or makes a file
-built_looks : (cmd : LineCmd) → is_built BUILT cmd ≡ true → is_first cmd ≡ true
-built_looks (line.Lookup reg dir name ver) h = refl
-built_looks (line.List dir) h = refl
-built_looks (line.Stat file) h = refl
-built_looks (line.Create reg dir name ver blocks owner) h = refl
-built_looks (line.MkDir reg dir name owner) h = refl
-built_looks cmd h = absurd (false≢true h)
-
-pub built_look : (ls : List Line) → AreBuilt BUILT ls → AreFirst ls
-built_look [] h = refl
-built_look (l ∷ ls) h =
-    let parts = and_parts (on BUILT l) (list_all (on BUILT) ls) h in
-    rw (built_looks l.cmd parts.0, built_look ls parts.1) refl

@@ -1,0 +1,169 @@
+//! Creations of which a write of the image fails: what is found on the image behind it.
+
+use crate::making::{long, made};
+use crate::tests::{call, volume};
+use crate::tree::blocks_of;
+use blk_drive::{Fail as Failing, MemImage};
+use plain_cat::NoMemory;
+use std::alloc::{AllocError, Global};
+use std::process::Abort;
+use std::test::Fail;
+
+/// A write of the image, from 1, whether its block is on the image though it fails, and what `analyze` prints then.
+#[derive(Clone, Copy)]
+struct Stop {
+    write: u64,
+    lands: bool,
+    found: &'static str,
+}
+
+const fn stopped_at(write: u64, lands: bool, found: &'static str) -> Stop {
+    Stop {
+        write,
+        lands,
+        found,
+    }
+}
+
+// The image of 1,024 blocks, of which this write fails. A run begins with 1,025 calls that read it.
+fn failing(alloc: Global, image: &MemImage, stop: Stop) -> Result<MemImage, NoMemory> {
+    let blocks = blocks_of(alloc, image)?;
+    if blocks.len() != 1024 {
+        return Err(AllocError);
+    }
+    let fail = Failing {
+        call: stop.write.saturating_add(1025),
+        lands: stop.lands,
+    };
+    Ok(MemImage::new(blocks, vec![in alloc; fail]?))
+}
+
+// Each write of a script fails, as a row says. What is told are the lines of the answers before it, and the fault.
+fn stops_behind(
+    rt: &impl Abort,
+    alloc: Global,
+    image: &MemImage,
+    script: &str,
+    lines: &str,
+    rows: &[Stop],
+) -> Result<(), NoMemory> {
+    let report = format!(in alloc; "{lines}image fault\n")?;
+    for row in rows {
+        let called = call(alloc, &["run"], failing(alloc, image, *row)?, script)?;
+        let text = str::from_utf8(called.out.bytes()).unwrap_or("no text");
+        assert_eq!(rt; (called.code, text), (4, report.as_str()));
+        let found = call(alloc, &["analyze"], called.image, "")?;
+        let text = str::from_utf8(found.out.bytes()).unwrap_or("no text");
+        assert_eq!(rt; text, row.found, "write {}", row.write);
+    }
+    Ok(())
+}
+
+// The same where nothing is answered before it.
+fn stops(
+    rt: &impl Abort,
+    alloc: Global,
+    image: &MemImage,
+    script: &str,
+    rows: &[Stop],
+) -> Result<(), NoMemory> {
+    stops_behind(rt, alloc, image, script, "", rows)
+}
+
+// The second file's number is taken by the fifth write, and its owner charged by the sixth.
+#[test]
+fn answers_before_a_fault_are_told(rt: HostRuntime) -> Result<(), Fail> {
+    let alloc = rt.alloc();
+    let script =
+        "NODES 1\n1 CREATE R1 MFD A.TXT;0 0 [1,4]\n1 STAT R1\n1 CREATE R1 MFD B.TXT;0 0 [1,4]\n";
+    let lines = "1 N1 CREATE R1 (4,4,0) A.TXT;0 0 [1,4] = (12,1,0) A.TXT;1\n\
+        2 N1 STAT (12,1,0) = file [1,4] 0 blocks mark 1 end 1,0\n";
+    let rows = [stopped_at(6, false, "leaked numbers 1\n")];
+    stops_behind(&rt, alloc, &volume(alloc)?, script, lines, &rows)?;
+    Ok(())
+}
+
+// Index bitmap, storage bitmap, quota row, header, directory.
+#[test]
+fn a_file_is_made_in_stages(rt: HostRuntime) -> Result<(), Fail> {
+    let alloc = rt.alloc();
+    let script = "NODES 1\n1 CREATE R1 MFD A.TXT;0 10 [1,4]\n";
+    let rows = [
+        stopped_at(1, false, "accepted\n"),
+        stopped_at(1, true, "leaked numbers 1\n"),
+        stopped_at(2, false, "leaked numbers 1\n"),
+        stopped_at(2, true, "leaked clusters 3\nleaked numbers 1\n"),
+        stopped_at(3, false, "leaked clusters 3\nleaked numbers 1\n"),
+        stopped_at(
+            3,
+            true,
+            "leaked clusters 3\nleaked numbers 1\nusage of [1,4]: has 13, should be 0\n",
+        ),
+        stopped_at(
+            4,
+            false,
+            "leaked clusters 3\nleaked numbers 1\nusage of [1,4]: has 13, should be 0\n",
+        ),
+        stopped_at(4, true, "lost 12\n"),
+        stopped_at(5, false, "lost 12\n"),
+        stopped_at(5, true, "accepted\n"),
+    ];
+    stops(&rt, alloc, &volume(alloc)?, script, &rows)?;
+    Ok(())
+}
+
+// The four blocks of a directory come behind the quota row, and its header behind them.
+#[test]
+fn a_directory_is_made_in_stages(rt: HostRuntime) -> Result<(), Fail> {
+    let alloc = rt.alloc();
+    let charged = "leaked clusters 1\nleaked numbers 1\nusage of [1,4]: has 5, should be 0\n";
+    let rows = [
+        stopped_at(3, false, "leaked clusters 1\nleaked numbers 1\n"),
+        stopped_at(4, false, charged),
+        stopped_at(7, true, charged),
+        stopped_at(8, true, "lost 12\n"),
+        stopped_at(9, false, "lost 12\n"),
+        stopped_at(9, true, "accepted\n"),
+    ];
+    let script = "NODES 1\n1 MKDIR R1 MFD A [1,4]\n";
+    stops(&rt, alloc, &volume(alloc)?, script, &rows)?;
+    Ok(())
+}
+
+// A directory of eleven files with long names, 13 to 23, in blocks of five, five and one.
+fn eleven(rt: &impl Abort, alloc: Global) -> Result<MemImage, NoMemory> {
+    let mut script = String::from_str(alloc, "NODES 1\n1 MKDIR R1 MFD D [1,4]\n")?;
+    let mut report = String::from_str(alloc, "1 N1 MKDIR R1 (4,4,0) D [1,4] = (12,1,0) D.DIR;1\n")?;
+    for k in 1..12u32 {
+        let name = long(alloc, k)?;
+        script.push_str(format!(in alloc; "1 CREATE R2 R1 {name};0 0 [1,4]\n")?.as_str())?;
+        report.push_str(format!(in alloc;
+            "{} N1 CREATE R2 (12,1,0) {name};0 0 [1,4] = ({},1,0) {name};1\n",
+            1 + k,
+            12 + k
+        )?
+        .as_str())?;
+    }
+    report.push_str("end: 12 answered, 0 died, 230 free\n")?;
+    made(rt, alloc, volume(alloc)?, script.as_str(), report.as_str())
+}
+
+// A new first entry moves one out of each block: the writes are index bitmap, quota row, header, and the blocks of the directory,
+// the last first. Until its last write no entry is missing, and some stand in two blocks.
+#[test]
+fn an_entry_comes_last_block_first(rt: HostRuntime) -> Result<(), Fail> {
+    let alloc = rt.alloc();
+    let image = eleven(&rt, alloc)?;
+    let name = long(alloc, 0)?;
+    let script = format!(in alloc; "NODES 1\n1 CREATE R1 (12,1,0) {name};0 0 [1,4]\n")?;
+    let rows = [
+        stopped_at(4, false, "lost 24\n"),
+        stopped_at(4, true, "doubles in 12\nlost 24\n"),
+        stopped_at(5, false, "doubles in 12\nlost 24\n"),
+        stopped_at(5, true, "doubles in 12\nlost 24\n"),
+        stopped_at(6, false, "doubles in 12\nlost 24\n"),
+        stopped_at(6, true, "accepted\n"),
+    ];
+    stops(&rt, alloc, &image, script.as_str(), &rows)?;
+    Ok(())
+}
