@@ -278,6 +278,7 @@ module _ (w : Plain) (good : Good w) (n : ℕ) (s : NodeState) (at : node_at w.n
         closed = stays_closed x now.runs s.past.channels r ∙ mine.closed;
         geometry = mine.geometry;
         channel = refl;
+        keeps = record { stock = mine.keeps.stock; cache = mine.keeps.cache };
         command = record { locks = refl; blocks = refl; space = record { clusters = refl; number = refl; short = refl }; asked = refl; search = refl; plan = refl; done = refl };
         over = λ o. absurd (let f : s.cmd ≡ None = (mine.over o).0 in let g : Some x ≡ None = sym cmd ∙ f in cc);
       })

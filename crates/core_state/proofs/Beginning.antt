@@ -89,6 +89,7 @@ module _ (w : Plain) (good : Good w) (n : ℕ) (s : NodeState) (at : node_at w.n
         closed = node.closed;
         geometry = node.geometry;
         channel = node.channel;
+        keeps = record { stock = node.keeps.stock; cache = node.keeps.cache };
         command = record {
           next = next;
           runs = good.runs n w.history x (subst (λ p. p.channels ≡ replicate 8 false) node.past node.closed) next;

@@ -55,6 +55,7 @@ still_node w t bs ns h m r same waits holds p = record {
   closed = p.closed;
   geometry = p.geometry;
   channel = p.channel;
+  keeps = p.keeps;
   command = by_cmd r.cmd p.command;
   over = λ o. ((p.over o).0, next ∙ (p.over o).1);
 } where

@@ -108,6 +108,7 @@ module _ (bs : List Block) (s : Script) (c : Cat) (g : Geometry) (form : InForm 
     closed = refl;
     geometry = refl;
     channel = refl;
+    keeps = record { stock = refl; cache = refl };
     command = record { locks = refl; blocks = refl; space = record { clusters = refl; number = refl; short = refl }; asked = refl; search = refl; plan = refl; done = refl };
     over = λ o. absurd (let f : false ≡ true = o in cc);
   }

@@ -133,7 +133,7 @@ module _ (w : Plain) (good : Good w) (n : ℕ) (s : NodeState) (at : node_at w.n
       let more : found g (wanted_by x s.seen) (wants_number x) (blocks_of s.search.looked) ≡ More
       = ap (λ (ss : List (ℕ × Block)). found g (wanted_by x s.seen) (wants_number x) (blocks_of ss)) none.0.looked ∙ first_more g (wanted_by x s.seen) (wants_number x) under.spelt.counts.geometry (wanted (wanted_by x s.seen) (wants_number x) next) in
       asked_keep w good n s at x cmd free no_plan V PW none.1 r refl refl (λ ls. refl)
-      (λ grows. is_node w good n s at x cmd free t w.blocks r refl refl refl refl refl now.seen now.own (plan_stays t r refl refl) (standing t r refl
+      (λ grows. is_node w good n s at x cmd free t w.blocks r refl refl refl refl refl refl refl now.seen now.own (plan_stays t r refl refl) (standing t r refl
       (Looking (record {
         claimed = record {
           takes = may.0.takes;
@@ -240,13 +240,13 @@ module _ (w : Plain) (good : Good w) (n : ℕ) (s : NodeState) (at : node_at w.n
         let r : NodeState = turned (scanned s x lbn b (search.Look next_lbn)) in
         left_so r refl refl (no_writes_now w good n s at x cmd free no_plan) (not_yet w good n s at x cmd free no_plan) (λ i. things (h.needs.none.clusters i) (h.needs.none.number i))
         (no_stock s.search.takes s.search.taken h.takes h.taken) refl refl
-        (is_node w good n s at x cmd free w.locks w.blocks r refl refl refl refl refl now.seen now.own (plan_stays w.locks r refl refl)
+        (is_node w good n s at x cmd free w.locks w.blocks r refl refl refl refl refl refl refl now.seen now.own (plan_stays w.locks r refl refl)
         (standing w.locks r refl (Looking (record { claimed = claimed_on r.search s.seen refl refl refl; needs = h.needs; more = e; takes = h.takes; taken = h.taken }))))
     by_found (Short why) e next_lbn =
         let r : NodeState = turned (scanned s x lbn b (search.Short why)) in
         left_so r refl refl (no_writes_now w good n s at x cmd free no_plan) (not_yet w good n s at x cmd free no_plan) refl
         (no_stock s.search.takes s.search.taken h.takes h.taken) refl refl
-        (is_node w good n s at x cmd free w.locks w.blocks r refl refl refl refl refl
+        (is_node w good n s at x cmd free w.locks w.blocks r refl refl refl refl refl refl refl
         ((goes w good n s at x cmd free).refused s.seen (wanted_by x s.seen) (wants_number x) why now.seen h.needs.next (refused_why g (wanted_by x s.seen) (wants_number x) (blocks_of more) why e))
         now.own (plan_stays w.locks r refl refl)
         (standing w.locks r refl (Refused (record { claimed = claimed_on r.search r.seen refl refl refl; why = why; too_little = e; takes = h.takes; taken = h.taken; clusters = refl; number = refl; short = refl }))))
@@ -257,7 +257,7 @@ module _ (w : Plain) (good : Good w) (n : ℕ) (s : NodeState) (at : node_at w.n
         let none_yet : stock_after ws s.search.taken ≡ nothing = part_stock ws s.search.taken part ∙ ap (λ k. things_of (out_after ws k)) h.taken in
         left_so r refl refl (no_writes_now w good n s at x cmd free no_plan) (not_yet w good n s at x cmd free no_plan) (λ i. things (h.needs.none.clusters i) (h.needs.none.number i))
         none_yet refl refl
-        (is_node w good n s at x cmd free w.locks w.blocks r refl refl refl refl refl now.seen now.own (plan_stays w.locks r refl refl)
+        (is_node w good n s at x cmd free w.locks w.blocks r refl refl refl refl refl refl refl now.seen now.own (plan_stays w.locks r refl refl)
         (standing w.locks r refl (Taking (record {
           found = record {
             claimed = claimed_on r.search s.seen refl refl refl;
@@ -366,7 +366,7 @@ module _ (w : Plain) (good : Good w) (n : ℕ) (s : NodeState) (at : node_at w.n
         let there : record u { seen = rest; stock = things v.clusters v.number } ≡ under_with w.locks n r s.cmd
         = (λ i. record (at_locks n r x (sym (all_here w good n s at x cmd free) i)) { stock = sym stock_is i }) ∙ ap (under_with w.locks n r) (sym cmd) in
         written_so r refl (knows_now n x s.seen s.tried s.plan) u.took (things v.clusters v.number) (λ own o. o) there
-        (is_node w good n s at x cmd free w.locks written r refl refl refl cmd refl now.seen now.own (plan_stays w.locks r refl refl)
+        (is_node w good n s at x cmd free w.locks written r refl refl refl cmd refl refl refl now.seen now.own (plan_stays w.locks r refl refl)
         (standing w.locks r refl (Taking (record {
           found = record { claimed = claimed_on_write s.seen refl refl; enough = h.found.enough; above = h.found.above; holds = h.found.holds };
           needs = h.needs;
@@ -386,7 +386,7 @@ module _ (w : Plain) (good : Good w) (n : ℕ) (s : NodeState) (at : node_at w.n
         let count : length v.clusters ≡ wanted_by x s.seen = ap (λ (k : Held). length k.clusters) (sym out_last) ∙ all_taken.clusters in
         let numbered : has_number (wants_number x) v.number ≡ true = number_there (wants_number x) v.number (ap (λ (k : Held). is_some k.number) (sym out_last) ∙ all_taken.number) in
         written_so r refl (knows_now n x r.seen s.tried s.plan) (things v.clusters v.number) nothing (λ own o. out_taken n own (things v.clusters v.number) (subst (λ (k : Things). Outs n own k (things v.clusters v.number)) none o)) there
-        (is_node w good n s at x cmd free w.locks written r refl refl refl cmd refl
+        (is_node w good n s at x cmd free w.locks written r refl refl refl cmd refl refl refl
         ((goes w good n s at x cmd free).given s.seen (wanted_by x s.seen) (wants_number x) v.clusters v.number now.seen h.needs.next count numbered) now.own (plan_stays w.locks r refl refl)
         (standing w.locks r refl (Taken (record {
           found = record { claimed = claimed_on_write r.seen refl refl; enough = h.found.enough; above = h.found.above; holds = h.found.holds };

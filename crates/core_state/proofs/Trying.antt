@@ -187,7 +187,7 @@ module _ (w : Plain) (good : Good w) (n : ℕ) (s : NodeState) (at : node_at w.n
   tries_keep not_yet goes =
       let new : Has (names_of s.asked) (A a.file) → ⊥ = not_mine not_yet in
       asked_then w good n s at x cmd free (A a.file) a.mode new r refl (wider_drive not_yet (sym (asks_exactly not_yet) ∙ goes))
-      (λ grows. is_node w good n s at x cmd free t w.blocks r refl refl refl cmd refl now.seen now.own
+      (λ grows. is_node w good n s at x cmd free t w.blocks r refl refl refl cmd refl refl refl now.seen now.own
       (subst (IsAtPlan x (waits_at t n r.asked) s.seen s.done true) (sym plan) (made.0, asks_wait w good n s at x cmd free (A a.file) a.mode new ∙ ap not goes, all_made))
       (subst (λ (o : Option PlanAsk). Searches t n x o r.asked s.search s.seen) (sym granted_then) (ask_seen w.locks t n x s.asked s.search s.seen a grows stands))) where
         all_made : s.done ≤ length (writes_by p.ask true p.writes)

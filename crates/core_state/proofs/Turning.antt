@@ -164,14 +164,15 @@ module _ (w : Plain) (good : Good w) (n : ℕ) (s : NodeState) (at : node_at w.n
 
   -- the node with another state, and the same command
   pub is_node : (t : List Resource) (bs : List Block) (r : NodeState) → r.past ≡ s.past → r.seen.geometry ≡ s.seen.geometry → r.seen.channel ≡ s.seen.channel
-      → r.cmd ≡ Some x → r.over ≡ s.over → HasSeen x r.seen → ((name : LockName) → Has (names_of r.seen.locks) name → takes_lock x name ≡ true) → IsAtPlan x (waits_at t n r.asked) r.seen r.done r.tried r.plan
+      → r.cmd ≡ Some x → r.over ≡ s.over → r.stock ≡ s.stock → r.cache ≡ s.cache → HasSeen x r.seen → ((name : LockName) → Has (names_of r.seen.locks) name → takes_lock x name ≡ true) → IsAtPlan x (waits_at t n r.asked) r.seen r.done r.tried r.plan
       → Searches t n x (granted_ask r.tried r.plan) r.asked r.search r.seen → IsNode (altered w t bs (set_node w.nodes n r) w.history) n r
-  is_node t bs r p g c o ov seen own plan search = record {
+  is_node t bs r p g c o ov st ca seen own plan search = record {
     past = p ∙ me.past;
     alive = ap (λ y. y.dead) p ∙ me.alive;
     closed = ap (λ y. y.channels) p ∙ me.closed;
     geometry = g ∙ me.geometry;
     channel = c ∙ me.channel;
+    keeps = record { stock = st ∙ me.keeps.stock; cache = ca ∙ me.keeps.cache };
     command = subst (HasCommand (altered w t bs (set_node w.nodes n r) w.history) n r) (sym o)
         (record { next = under_command.next; runs = under_command.runs; lawful = under_command.lawful; seen = seen; own = own; plan = plan; search = search });
     over = λ e. absurd (let f : s.cmd ≡ None = (me.over (sym ov ∙ e)).0 in let h : Some x ≡ None = sym cmd ∙ f in cc);
@@ -277,7 +278,7 @@ module _ (w : Plain) (good : Good w) (n : ℕ) (s : NodeState) (at : node_at w.n
       let r : NodeState = turned (asking s x name mode) in
       let may = may_need (need.Lock name mode) is in
       asked_keep no_plan name mode (new_to_all w.locks n x s.asked s.search s.seen (search_now no_plan) name may.own may.new) r refl refl (λ ls. refl)
-      (λ grows. is_node t w.blocks r refl refl refl refl refl (goes.granted s.seen name mode under_command.seen is)
+      (λ grows. is_node t w.blocks r refl refl refl refl refl refl refl (goes.granted s.seen name mode under_command.seen is)
       (names_of_more s.seen.locks (name, mode) (λ m. takes_lock x m ≡ true) under_command.own may.own)
       (subst (IsAtPlan x (waits_at t n r.asked) r.seen s.done s.tried) (sym no_plan) (not_yet no_plan))
       (search_then no_plan t r.asked r.seen (lock_seen w.locks t n x s.asked s.search s.seen name mode (λ k b e. absurd (let f : need.Lock name mode ≡ need.Space k b = sym is ∙ e in cc)) grows (search_now no_plan))))
@@ -305,7 +306,7 @@ module _ (w : Plain) (good : Good w) (n : ℕ) (s : NodeState) (at : node_at w.n
       ]) in
       let there : at_locks n r x s.asked ≡ under_with w.locks n r (Some x) = ap (at_locks n r x) (sym all_here) in
       alone w good n s at r refl (subst (λ (u : UnderWay). IsUnder w.geometry good.running.cat (changed (nodes_under w.locks w.nodes) n u) w.blocks) there (back (at_locks n r x s.asked) w.blocks v))
-      (is_node w.locks w.blocks r refl refl refl refl refl seen under_command.own (subst (IsAtPlan x (waits_at w.locks n s.asked) r.seen s.done s.tried) (sym no_plan) (not_yet no_plan))
+      (is_node w.locks w.blocks r refl refl refl refl refl refl refl seen under_command.own (subst (IsAtPlan x (waits_at w.locks n s.asked) r.seen s.done s.tried) (sym no_plan) (not_yet no_plan))
       (search_then no_plan w.locks s.asked r.seen (block_seen w.locks n x s.asked s.search s.seen lbn b never (search_now no_plan))))
 
   -- the plan is made
@@ -324,7 +325,7 @@ module _ (w : Plain) (good : Good w) (n : ℕ) (s : NodeState) (at : node_at w.n
       let there : record u { plan = map planned ws } ≡ under_with w.locks n r (Some x)
       = λ i. record (at_locks n r x (sym all_here i)) { done = not_yet no_plan i } in
       alone w good n s at r refl (subst (λ (u : UnderWay). IsUnder w.geometry good.running.cat (changed (nodes_under w.locks w.nodes) n u) w.blocks) there (back (record u { plan = map planned ws }) w.blocks v))
-      (is_node w.locks w.blocks r refl refl refl refl refl under_command.seen under_command.own (is, free, omega arith) (search_now no_plan))
+      (is_node w.locks w.blocks r refl refl refl refl refl refl refl under_command.seen under_command.own (is, free, omega arith) (search_now no_plan))
 
   -- what it has decided on
   pub made_of : (p : Plan) → s.plan ≡ Some p → IsAtPlan x (waits_at w.locks n s.asked) s.seen s.done s.tried (Some p)
@@ -351,5 +352,5 @@ module _ (w : Plain) (good : Good w) (n : ℕ) (s : NodeState) (at : node_at w.n
         opens = good.running.opens;
       })
       (good.locked.0, held_same w.locks w.nodes n s r at refl good.locked.1) good.own (λ m ne. refl) (λ m q ne e waits. waits) (λ m q ne e l h. h)
-      (is_node w.locks bs r refl refl refl cmd refl under_command.seen under_command.own
+      (is_node w.locks bs r refl refl refl cmd refl refl refl under_command.seen under_command.own
       (subst (IsAtPlan x (waits_at w.locks n s.asked) s.seen (s.done + 1) s.tried) (sym plan) (made.0, made.1, (let lt : s.done < length (writes_by p.ask s.tried p.writes) = slice_get_within (writes_by p.ask s.tried p.writes) s.done v next in omega arith))) under_command.search)

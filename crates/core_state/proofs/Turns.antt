@@ -53,6 +53,7 @@ module _ (w : Plain) (good : Good w) (n : ℕ) (s : NodeState) (at : node_at w.n
     closed = mine.closed;
     geometry = mine.geometry;
     channel = mine.channel;
+    keeps = record { stock = mine.keeps.stock; cache = mine.keeps.cache };
     command = command s.cmd mine.command;
     over = mine.over;
   }) where
@@ -71,6 +72,7 @@ module _ (w : Plain) (good : Good w) (n : ℕ) (s : NodeState) (at : node_at w.n
     closed = mine.closed;
     geometry = mine.geometry;
     channel = mine.channel;
+    keeps = record { stock = mine.keeps.stock; cache = mine.keeps.cache };
     command = command s.cmd mine.command;
     over = λ o. (none, over);
   }) where

@@ -25,7 +25,7 @@ use Rattle.op_law.specs.Needs.{IsNext}
 use Rattle.op_law.specs.Fits.{HasSeen}
 use Rattle.op_law.specs.Knows.{channel_of}
 use Rattle.op_law.specs.Laws.{held_in, under_way, takes_lock, Lawful}
-use Rattle.core_state.specs.Worlds.{NodeState, no_search, Plain, node_at, locks_of}
+use Rattle.core_state.specs.Worlds.{NodeState, no_search, empty_stock, Plain, node_at, locks_of}
 use Rattle.core_state.specs.Asks.{writes_by, writes_now, granted_ask, knows_now}
 use Rattle.core_state.specs.Opens.{AreOpensLocked}
 use Rattle.core_state.specs.Searches.{unwritten, stock_after, Searches}
@@ -105,6 +105,11 @@ abbrev pub HasCommand : Plain → ℕ → NodeState → Option Cmd → Type 0
 HasCommand w n s None = IsIdle s
 HasCommand w n s (Some x) = IsAt w n s x
 
+-- no node keeps a stock or cached blocks so far
+pub record KeepsNothing (s : NodeState) : Type 0 where
+  pub stock : s.stock ≡ empty_stock
+  pub cache : s.cache ≡ []
+
 -- A node has what the history says of its answers; no channel of it is open; and once it has left, it has no command left.
 pub record IsNode (w : Plain) (n : ℕ) (s : NodeState) : Type 0 where
   pub past : s.past ≡ past n w.history
@@ -112,6 +117,7 @@ pub record IsNode (w : Plain) (n : ℕ) (s : NodeState) : Type 0 where
   pub closed : s.past.channels ≡ replicate 8 false
   pub geometry : s.seen.geometry ≡ w.geometry
   pub channel : s.seen.channel ≡ None
+  pub keeps : KeepsNothing s
   pub command : HasCommand w n s s.cmd
   pub over : s.over ≡ true → (s.cmd ≡ None) × (next_command w.script n w.history ≡ None)
 

@@ -9,7 +9,7 @@ use Rattle.vol_parts.specs.Findings.{Accepts, CatOf}
 use Rattle.vol_analyze.specs.Judging.{IsFirstFound}
 use Rattle.core_state.specs.declared.mounting.MountFault.{MountFault}
 use Rattle.core_state.specs.declared.mounting.MountFault.TheVariants as fault
-use Rattle.core_state.specs.Worlds.{no_search, NodeState, Plain}
+use Rattle.core_state.specs.Worlds.{no_search, empty_stock, NodeState, Plain}
 
 abbrev pub at_rest : Geometry → NodeState
 at_rest g = record {
@@ -21,6 +21,8 @@ at_rest g = record {
   tried = false;
   asked = [];
   search = no_search;
+  stock = empty_stock;
+  cache = [];
   over = false;
   turns = 0;
   writes = 0;

@@ -2,6 +2,7 @@
 use Rattle.std.specs.Prelude.{◌≤◌, ℕ, zero, suc, Bool, List, [], Option, Some, None, length, map, option_map, slice_get, slice_set}
 use Rattle.vol_words.specs.Fields.{Block}
 use Rattle.lock_db.specs.declared.name.LockName.{LockName}
+use Rattle.node_cache.specs.Cached.{Cached}
 use Rattle.lock_db.specs.declared.resource.Resource.{Resource}
 use Rattle.plain_cat.specs.declared.mode.Mode.{Mode}
 use Rattle.plain_cat.specs.declared.command.Cmd.{Cmd}
@@ -28,6 +29,14 @@ pub record Search : Type 0 where
 abbrev pub no_search : Search
 no_search = record { looked = []; takes = []; taken = 0 }
 
+-- free clusters and file numbers that a node keeps for its commands
+pub record Stock : Type 0 where
+  pub clusters : List ℕ
+  pub numbers : List ℕ
+
+abbrev pub empty_stock : Stock
+empty_stock = record { clusters = []; numbers = [] }
+
 -- a node
 pub record NodeState : Type 0 where
   -- what it has of its answers so far
@@ -42,6 +51,9 @@ pub record NodeState : Type 0 where
   -- the locks that it has asked for, in order: those of the command, among them that of its search for space, and that of its ask
   pub asked : List (LockName × Mode)
   pub search : Search
+  -- its stock, and the blocks that it keeps in its cache, the one that was used last in front
+  pub stock : Stock
+  pub cache : List Cached
   -- it has left the volume
   pub over : Bool
   -- how many turns it has made, and how many blocks it has written, read from the drive, and found cached
@@ -82,6 +94,8 @@ state_of cmd_is n = record {
   tried = n.tried;
   asked = n.asked;
   search = record { looked = n.looked; takes = n.takes; taken = n.taken };
+  stock = record { clusters = n.stock.clusters; numbers = n.stock.numbers };
+  cache = n.cache;
   over = n.over;
   turns = n.turns;
   writes = n.writes;

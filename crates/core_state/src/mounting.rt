@@ -9,7 +9,9 @@ use crate::node::Node;
 use crate::world::World;
 use blk_drive::{ImageDev, Mirror};
 use blk_whole::blocks_are_whole;
+use extent_cache::Extents;
 use lock_db::LockDb;
+use node_cache::NodeCache;
 use node_past::Past;
 use op_law::{NoMemory, Operation, Seen, SeenBlocks, SeenLocks, Writes};
 use plain_cat::{Cat, Clusters, History, Script};
@@ -37,10 +39,10 @@ pub struct MountRefused<I: ImageDev> {
 
 // A node at rest.
 #[tactic(auto, unfolding(plain_vol::specs::Own::newborn))]
-fn resting<O: Operation>(alloc: Global, geometry: Geometry) -> Node<O>
-    ensures { state_of O.cmd_is result ≡ at_rest geometry }
+fn resting<O: Operation>(alloc: Global, geometry: Geometry) -> Result<Node<O>, NoMemory>
+    ensures { IfOk result (λ node. state_of O.cmd_is node ≡ at_rest geometry) }
 {
-    Node {
+    Ok(Node {
         past: Past::new(),
         op: None,
         seen: Seen {
@@ -59,12 +61,14 @@ fn resting<O: Operation>(alloc: Global, geometry: Geometry) -> Node<O>
         looked: SeenBlocks::new(alloc),
         takes: Writes::new(alloc),
         taken: 0,
+        stock: Extents::new(alloc)?,
+        cache: NodeCache::new(alloc)?,
         over: false,
         turns: 0,
         writes: 0,
         reads: 0,
         hits: 0,
-    }
+    })
 }
 
 // So many nodes at rest.
@@ -77,7 +81,7 @@ fn all_resting<O: Operation>(
 {
     let mut nodes = Vec::new(alloc);
     for _ in 0..count {
-        nodes.push(resting(alloc, geometry))?;
+        nodes.push(resting(alloc, geometry)?)?;
     }
     Ok(nodes)
 }

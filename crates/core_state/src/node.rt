@@ -1,3 +1,5 @@
+use extent_cache::Extents;
+use node_cache::NodeCache;
 use node_past::Past;
 use op_law::{Operation, Plan, Seen, SeenBlocks, SeenLocks, Writes};
 
@@ -30,6 +32,12 @@ pub struct Node<O: Operation> {
     /// The writes that the search has decided on, and how many of them are made.
     pub takes: Writes,
     pub taken: usize,
+
+    /// The free clusters and file numbers that it keeps for its commands: none so far.
+    pub stock: Extents,
+
+    /// The blocks that it keeps, each under the lock by which it was looked at: none so far.
+    pub cache: NodeCache,
 
     /// Its script is done, and it has left the volume.
     pub over: bool,

@@ -17,6 +17,8 @@ returns-clause-state g c =
       tried = false;
       asked = asked i;
       search = record { looked = c.new-2.ensures i; takes = takes i; taken = 0 };
+      stock = record { clusters = node.stock.clusters; numbers = node.stock.numbers };
+      cache = node.cache;
       over = node.over;
       turns = c.saturating_add-node.ensures i;
       writes = node.writes;

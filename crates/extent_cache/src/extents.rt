@@ -1,0 +1,152 @@
+//! The stock and its calls.
+
+ghost use Rattle.std.specs.Prelude.{◌≡◌, ◌+◌, ◌≤◌, ◌<◌, [], length, take, drop, IfOk, OnOk, OnErr, MatchOption, IfSome};
+ghost use Rattle.extent_cache.specs.Stock.{IsStock, AreNew, with_clusters, with_number, Holds, clusters_kept, numbers_kept};
+
+use crate::rising::{clusters_of, drop_covered, drop_first, numbers_of, put_in};
+use crate::taken::{Taken, Taken2};
+use plain_cat::NoMemory;
+use std::alloc::Global;
+use std::marker::Model;
+
+/// A stock of free clusters and file numbers, with spare room for more of each.
+#[derive(Drop)]
+pub struct Extents {
+    clusters: Vec<u32>,
+    numbers: Vec<u32>,
+}
+
+impl Model for Extents {
+    ghost use Rattle.std.specs.Prelude.{◌-◌, vec_capacity, vec_len};
+    ghost use Rattle.extent_cache.specs.Stock.{Stock, RisesWithin};
+
+    ghost Value = { Stock };
+
+    ghost view = { λ e. record {
+      clusters = e.clusters.items;
+      numbers = e.numbers.items;
+      cluster_room = vec_capacity e.clusters - vec_len e.clusters;
+      number_room = vec_capacity e.numbers - vec_len e.numbers;
+    } };
+
+    ghost invariant = { λ e. RisesWithin 0 65536 e.clusters.items × RisesWithin 1 4097 e.numbers.items };
+}
+
+impl Extents {
+    ghost use Rattle.extent_cache.specs.Takings.{taken, numbers_left};
+
+    /// An empty stock. It fails only where memory is refused.
+    pub fn new(alloc: Global) -> Result<Extents, NoMemory>
+        ensures { IfOk result (λ e. (e.clusters ≡ []) × (e.numbers ≡ [])) }
+    {
+        Ok(Extents {
+            clusters: Vec::new(alloc),
+            numbers: Vec::new(alloc),
+        })
+    }
+
+    /// Takes the `clusters` lowest clusters, and with `number` the lowest file number. None comes exactly where the
+    /// stock holds too few of either, and then it stays as it is, as it does where memory is refused.
+    pub fn take(
+        &mut self,
+        alloc: Global,
+        clusters: u32,
+        number: bool,
+    ) -> Result<Option<Taken>, NoMemory>
+        ensures taken { IfOk result (λ t. t ≡ taken clusters number self.old) }
+        ensures left { IfOk result (λ t. MatchOption t (self.new ≡ self.old)
+            (λ _. Holds (drop clusters self.old.clusters) (numbers_left number self.old.numbers) self.old self.new)) }
+        ensures err { OnErr result (self.new ≡ self.old) }
+    {
+        let count = clusters as usize;
+        if self.clusters.len() < count || number && self.numbers.is_empty() {
+            return Ok(None);
+        }
+        let clusters = clusters_of(alloc, &self.clusters[..count])?;
+        drop_first(&mut self.clusters, count);
+        let number = if number {
+            Some(self.numbers.remove(0))
+        } else {
+            None
+        };
+        Ok(Some(Taken { clusters, number }))
+    }
+
+    /// Takes memory for this many clusters and file numbers more, so that they go in without any. What is held stays,
+    /// also where memory is refused.
+    pub fn make_room(&mut self, _alloc: Global, clusters: u32, numbers: u32) -> Result<(), NoMemory>
+        ensures same { Holds self.old.clusters self.old.numbers self.old self.new }
+        ensures clusters { OnOk result (clusters ≤ self.new.cluster_room) }
+        ensures numbers { OnOk result (numbers ≤ self.new.number_room) }
+    {
+        self.clusters.reserve(clusters as usize)?;
+        self.numbers.reserve(numbers as usize)
+    }
+
+    /// Puts in the `n` clusters from `from` on, all below 65,536 and none of them held. It takes no memory: room for
+    /// them was made before.
+    pub fn put_clusters(&mut self, from: u32, n: u32)
+        requires within { from + n ≤ 65536 }
+        requires new { AreNew from n self.old.clusters }
+        requires room { n ≤ self.old.cluster_room }
+        ensures { self.new ≡ with_clusters from n self.old }
+    {
+        put_in(&mut self.clusters, from, n);
+    }
+
+    /// Puts in a file number, from 1 to 4,096 and not held. It takes no memory: room for it was made before.
+    pub fn put_number(&mut self, n: u32)
+        requires least { 1 ≤ n }
+        requires most { n ≤ 4096 }
+        requires new { AreNew n 1 self.old.numbers }
+        requires room { 1 ≤ self.old.number_room }
+        ensures { self.new ≡ with_number n self.old }
+    {
+        put_in(&mut self.numbers, n, 1);
+    }
+
+    /// All that is held. The stock keeps it.
+    pub fn all(&self, alloc: Global) -> Result<Taken2, NoMemory>
+        ensures clusters { IfOk result (λ t. t.clusters ≡ self.now.clusters) }
+        ensures numbers { IfOk result (λ t. t.numbers.items ≡ self.now.numbers) }
+    {
+        Ok(Taken2 {
+            clusters: clusters_of(alloc, &self.clusters)?,
+            numbers: numbers_of(alloc, &self.numbers)?,
+        })
+    }
+
+    /// Drops the clusters that one storage bitmap block covers, 0 to 15, or all file numbers for None.
+    pub fn give_back_one(&mut self, storage_block: Option<u32>)
+        requires { IfSome storage_block (λ block. block < 16) }
+        ensures { Holds (clusters_kept storage_block self.old.clusters) (numbers_kept storage_block self.old.numbers) self.old self.new }
+    {
+        match storage_block {
+            Some(block) => drop_covered(&mut self.clusters, block),
+            None => self.numbers.clear(),
+        }
+    }
+
+    /// How many clusters are held.
+    pub fn count(&self) -> u32
+        ensures count { result ≡ length self.now.clusters }
+        ensures stock { IsStock self.now }
+    {
+        self.clusters.len() as u32
+    }
+
+    /// The file numbers that are held, in rising order.
+    pub fn numbers(&self) -> &[u32]
+        ensures { result.now ≡ self.now.numbers }
+    {
+        &self.numbers
+    }
+
+    /// Drops all that is held, and keeps the memory.
+    pub fn clear(&mut self)
+        ensures { Holds [] [] self.old self.new }
+    {
+        self.clusters.clear();
+        self.numbers.clear();
+    }
+}

@@ -1,0 +1,4 @@
+pub mod Cached
+pub mod Views
+pub mod Lending
+pub mod Laws
