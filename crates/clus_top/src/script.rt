@@ -6,8 +6,8 @@ ghost use Rattle.clus_top.specs.Ends.{SpellsWithin, IsScriptEnd};
 
 use fx_text::{TextFault, TextIn, read_all};
 use plain_cat::Script;
-use run_script::{ScriptFault, read_script};
 use run_engine::Status;
+use run_script::{ScriptFault, read_script};
 use std::alloc::Global;
 
 /// The greatest number of bytes of a script.

@@ -64,7 +64,12 @@ fn counts(world: &World<MemImage, XqpOp>) -> Result<[u64; 4], Fail> {
     if world.script().nodes < 1 {
         return Err(Fail::from("there is a node"));
     }
-    Ok([world.turns(1), world.writes(1), world.reads(1), world.hits(1)])
+    Ok([
+        world.turns(1),
+        world.writes(1),
+        world.reads(1),
+        world.hits(1),
+    ])
 }
 
 // The directory under its lock, the quota file under its own, the bitmaps under theirs, the new number's slot under its own; then
@@ -74,9 +79,31 @@ fn a_create_is_made_turn_by_turn(rt: HostRuntime) -> Result<(), Fail> {
     let alloc = rt.alloc();
     let mut world = mounted(alloc, "NODES 1\n1 CREATE R1 MFD A.TXT;0 10 [1,4]\n")?;
     let turns = [
-        LOCKED, LOOKED, LOOKED, LOOKED, LOOKED, LOOKED, LOCKED, LOOKED, LOOKED, LOOKED, LOOKED,
-        LOCKED, LOOKED, LOOKED, WROTE, WROTE, LOCKED, LOOKED, PLANNED, WROTE, WROTE, WROTE,
-        Turn::Answered, Turn::Over, Turn::Over,
+        LOCKED,
+        LOOKED,
+        LOOKED,
+        LOOKED,
+        LOOKED,
+        LOOKED,
+        LOCKED,
+        LOOKED,
+        LOOKED,
+        LOOKED,
+        LOOKED,
+        LOCKED,
+        LOOKED,
+        LOOKED,
+        WROTE,
+        WROTE,
+        LOCKED,
+        LOOKED,
+        PLANNED,
+        WROTE,
+        WROTE,
+        WROTE,
+        Turn::Answered,
+        Turn::Over,
+        Turn::Over,
     ];
     assert_eq!(&rt; other(alloc, &mut world, 1, &turns)?, None);
     assert_eq!(&rt; counts(&world)?, [25, 5, 12, 0]);
@@ -91,7 +118,10 @@ fn look_ups_wait_for_a_create(rt: HostRuntime) -> Result<(), Fail> {
     let script = "NODES 3\n1 CREATE R1 MFD A.TXT;0 0 [1,4]\n2 LOOKUP R1 MFD A.TXT;0\n3 LIST MFD\n";
     let mut world = mounted(alloc, script)?;
     assert_eq!(&rt; other(alloc, &mut world, 1, &[LOCKED])?, None);
-    assert_eq!(&rt; other(alloc, &mut world, 2, &[Turn::Waiting, Turn::Waiting])?, None);
+    assert_eq!(&rt;
+        other(alloc, &mut world, 2, &[Turn::Waiting, Turn::Waiting])?,
+        None
+    );
     assert_eq!(&rt; other(alloc, &mut world, 3, &[Turn::Waiting])?, None);
     let turns = [
         LOOKED, LOOKED, LOOKED, LOOKED, LOOKED, LOCKED, LOOKED, LOOKED, LOOKED, LOOKED, LOCKED,
@@ -102,8 +132,24 @@ fn look_ups_wait_for_a_create(rt: HostRuntime) -> Result<(), Fail> {
     assert_eq!(&rt; other(alloc, &mut world, 1, &[Turn::Answered])?, None);
     assert_eq!(&rt; other(alloc, &mut world, 2, &[LOOKED])?, None);
     assert_eq!(&rt; other(alloc, &mut world, 3, &[LOOKED, LOOKED])?, None);
-    let rest = [LOOKED, LOOKED, LOOKED, LOOKED, PLANNED, Turn::Answered, Turn::Over];
+    let rest = [
+        LOOKED,
+        LOOKED,
+        LOOKED,
+        LOOKED,
+        PLANNED,
+        Turn::Answered,
+        Turn::Over,
+    ];
     assert_eq!(&rt; other(alloc, &mut world, 2, &rest)?, None);
-    assert_eq!(&rt; other(alloc, &mut world, 3, &[LOOKED, LOOKED, LOOKED, PLANNED, Turn::Answered])?, None);
+    assert_eq!(&rt;
+        other(
+            alloc,
+            &mut world,
+            3,
+            &[LOOKED, LOOKED, LOOKED, PLANNED, Turn::Answered]
+        )?,
+        None
+    );
     Ok(())
 }
