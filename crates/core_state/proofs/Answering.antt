@@ -54,7 +54,7 @@ use Rattle.core_state.proofs.Driving.{wider, grants_keep, law_grows, reply_grows
 use Rattle.core_state.proofs.Holding.{held_grows}
 use Rattle.core_state.proofs.Running.{are_sole}
 use Rattle.core_state.proofs.Taking.{answers_by}
-use Rattle.core_state.proofs.Keeping.{altered, rebuilt, held_set}
+use Rattle.core_state.proofs.Keeping.{rebuilt, held_set}
 use Rattle.core_state.proofs.Standing.{all_stock, no_stock}
 use Rattle.core_state.proofs.Turning.{under_command, here, writes_more}
 

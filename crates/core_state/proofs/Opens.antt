@@ -1,6 +1,6 @@
 -- The locks of who has a file open: what requests and releases of the nodes' file systems leave of them, and which asks go.
-use Rattle.std.proofs.Common.{◌≡◌, ◌≢◌, ◌⊎◌, ◌≤◌, ◌<◌, ◌+◌, ◌-◌, ◌*◌, ◌==◌, ◌&&◌, ◌||◌, ℕ, zero, suc, Bool, true, false, cond, not, List, [], ◌∷◌, Option, Some, None, find, option_map, slice_get, refl, ap, sym, subst, ◌∙◌, inl, inr, arith}
-use Rattle.std.specs.Prelude.{nat_le, nat_lt, replicate, if◌then◌else◌}
+use Rattle.std.proofs.Common.{◌≡◌, ◌≤◌, ◌<◌, ◌+◌, ◌-◌, ◌*◌, ◌==◌, ◌&&◌, ◌||◌, ℕ, zero, suc, Bool, true, false, cond, not, List, [], ◌∷◌, Option, Some, None, find, option_map, slice_get, refl, ap, sym, ◌∙◌, inl, inr, arith}
+use Rattle.std.specs.Prelude.{nat_le, nat_lt, replicate}
 use Rattle.std.specs.List.{list_all, list_any}
 use Rattle.std.proofs.lemmas.Bool.Decides.{nat_tests}
 use Rattle.vol_parts.specs.declared.geometry.Geometry.{Geometry}
@@ -22,7 +22,7 @@ use Rattle.lock_db.specs.Queues.{held, waits, converts, is_queued, is_waiting, i
 use Rattle.lock_db.specs.Resources.{goes_at_once, first_standing, released_of}
 use Rattle.lock_db.specs.Tables.{resource_at, all_together, stand_together, asked, released, IsTable}
 use Rattle.lock_db.specs.Laws.{stands_at}
-use Rattle.lock_db.proofs.Lists.{and-left, and-right, and-both, or-right, or-if_right, not-true, find-push_no, find-passes, find-filter, find-absent, list_any-none, list_all-find, list_all-every, list_all-weaker}
+use Rattle.lock_db.proofs.Lists.{and-left, and-right, and-both, or-right, or-if_right, not-true, find-push_no, find-passes, find-filter, find-absent, list_any-none, list_all-find, list_all-every}
 use Rattle.lock_db.proofs.Owners.{same_owner-refl, same_owner-same}
 use Rattle.lock_db.proofs.Together.{lets, goes-held, all_together-head, all_together-tail, all_together-filter}
 use Rattle.lock_db.proofs.Blocks.{asked-at, asked-leaves, released-at, released-leaves}

@@ -1,11 +1,11 @@
 -- A plan that is at its ask, or at its end: the ask goes exactly where its mode goes with all opens, and each way on keeps the
 -- invariant.
-use Rattle.std.proofs.Common.{◌≡◌, ◌≤◌, ◌++◌, ◌&&◌, not, ℕ, zero, suc, Bool, true, false, List, [], ◌∷◌, Option, Some, None, length, map, take, slice_get, refl, sym, ap, subst, ◌∙◌, inl, inr, arith}
+use Rattle.std.proofs.Common.{◌≡◌, ◌≤◌, ◌&&◌, not, ℕ, zero, suc, Bool, true, false, List, [], ◌∷◌, Option, Some, None, length, map, take, slice_get, refl, sym, ap, subst, ◌∙◌, arith}
 use Rattle.lock_db.specs.declared.name.LockName.{LockName}
 use Rattle.lock_db.specs.declared.name.LockName.TheVariants.{S, A}
 use Rattle.lock_db.specs.declared.askers.Standing.TheVariants.{Granted}
 use Rattle.lock_db.specs.declared.resource.Resource.{Resource}
-use Rattle.lock_db.specs.Tables.{resource_at, asked}
+use Rattle.lock_db.specs.Tables.{asked}
 use Rattle.lock_db.specs.Laws.{stands_at}
 use Rattle.vol_words.specs.Fields.{Block}
 use Rattle.plain_cat.specs.declared.mode.Mode.{Mode}
@@ -20,18 +20,16 @@ use Rattle.vol_under.specs.Guards.{guard_of}
 use Rattle.vol_under.specs.UnderWay.{UnderWay, changed}
 use Rattle.vol_under.specs.Under.{IsUnder}
 use Rattle.vol_under.proofs.Guarding.{wider_write}
-use Rattle.op_law.specs.declared.need.Need.TheVariants as need
 use Rattle.op_law.specs.declared.need.Ask.{Ask as PlanAsk}
 use Rattle.op_law.specs.declared.need.Plan.{Plan}
 use Rattle.op_law.specs.declared.need.PlanWrite.{PlanWrite}
 use Rattle.op_law.specs.declared.seen.Seen.{Seen}
-use Rattle.op_law.specs.Needs.{IsNext}
 use Rattle.op_law.specs.Knows.{asking_part, goes_with, knows, is_granted}
-use Rattle.op_law.specs.Laws.{held_in, planned, under_way, IsRight, IsAsk, IsPlan}
+use Rattle.op_law.specs.Laws.{held_in, planned, under_way, IsAsk, IsPlan}
 use Rattle.core_state.specs.Worlds.{NodeState, Plain, node_at, set_node, locks_in, locks_of}
-use Rattle.core_state.specs.Asks.{writes_by, writes_now, granted_by, granted_ask, lock_of_ask, known_with, knows_now}
+use Rattle.core_state.specs.Asks.{writes_by, writes_now, granted_ask, lock_of_ask, known_with, knows_now}
 use Rattle.core_state.specs.Searches.{unwritten, stock_after, Searches}
-use Rattle.core_state.specs.Goods.{under_with, nodes_under, IsAtPlan, IsAt, HasCommand, IsNode, Good}
+use Rattle.core_state.specs.Goods.{under_with, nodes_under, IsAtPlan, IsAt, HasCommand, Good}
 use Rattle.core_state.specs.Events.{turned, trying, would_go, tried_by, by_end, happens}
 use Rattle.core_state.proofs.Holding.{held_grows}
 use Rattle.core_state.proofs.RunKinds.{names_none}

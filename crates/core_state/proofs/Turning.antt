@@ -36,7 +36,7 @@ use Rattle.op_law.specs.Needs.{IsNext}
 use Rattle.op_law.specs.Fits.{things, HasSeen, IsSeenOn}
 use Rattle.op_law.specs.Going.{GoesOn, with_block}
 use Rattle.op_law.specs.Knows.{knows, is_granted}
-use Rattle.op_law.specs.Laws.{held_in, planned, under_way, takes_lock, MayNeed, AreGuarded, IsRight, IsPlan}
+use Rattle.op_law.specs.Laws.{held_in, planned, under_way, takes_lock, MayNeed, AreGuarded, IsPlan}
 use Rattle.op_law.proofs.Going.{seen_goes_on}
 use Rattle.core_state.specs.Worlds.{NodeState, Plain, node_at, set_node, locks_in, locks_of}
 use Rattle.core_state.specs.Asks.{writes_by, writes_now, granted_ask, knows_now}

@@ -1,5 +1,5 @@
 -- The locks of who has a file open, by the catalogue.
-use Rattle.std.specs.Prelude.{◌≡◌, ◌≤◌, ◌&&◌, nat_le, ℕ, Bool, true, List, Option, Some, None, if◌then◌else◌}
+use Rattle.std.specs.Prelude.{◌≡◌, ◌≤◌, ◌&&◌, nat_le, Bool, true, List, Option, Some, None, if◌then◌else◌}
 use Rattle.std.specs.List.{list_all}
 use Rattle.lock_db.specs.declared.name.LockName.{LockName}
 use Rattle.lock_db.specs.declared.name.LockName.TheVariants.{A}

@@ -56,7 +56,7 @@ use Rattle.node_space.specs.Answering.{answer, blocks_of}
 use Rattle.core_state.specs.Searches.{wanted_by}
 use Rattle.core_state.specs.Worlds.{NodeState, Plain, node_at, set_node, locks_in, locks_of}
 use Rattle.core_state.specs.Raises.{raise_of}
-use Rattle.core_state.specs.Asks.{writes_by, reply_by, granted_ask, writes_now}
+use Rattle.core_state.specs.Asks.{writes_by, reply_by, writes_now}
 use Rattle.core_state.specs.Goods.{IsAt, IsNode, Good, decided, HasRoom}
 use Rattle.core_state.specs.Events.{Event, Ask, Claim, See, Scan, Grab, Decide, Put, Try, Answer, has_asked, all_writes, by_answer, by_takes, by_search, claiming, scanning, grabbing, happens, happen, block_at, turned, asking, looking, deciding, writing, trying, answering, would_go, tried_by, by_need, by_end, by_write, by_plan, by_begun, command_event_of, command_event, command_in, command_at, plan_in, plan_at, tried_in, tried_at}
 use Rattle.core_state.specs.Worlds.{state_of}
