@@ -25,6 +25,4 @@ mod tests;
 #[cfg(test)]
 mod tree;
 #[cfg(test)]
-mod turn_by_turn;
-#[cfg(test)]
 mod worked_lines;
