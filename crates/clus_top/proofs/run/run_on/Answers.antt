@@ -1,4 +1,4 @@
-use Rattle.std.proofs.Common.{◌∙◌, sym, subst, inr}
+use Rattle.std.proofs.Common.{◌∙◌, sym, subst, inl, inr}
 use Rattle.run_engine.proofs.Driving.{told_well}
 use Rattle.clus_top.specs.Ends.{IsStopBy}
 use Rattle.clus_top.proofs.Reported.{drive_in, run_stop, end_in, if_err, if_ok}
