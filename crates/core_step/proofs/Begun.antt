@@ -19,6 +19,7 @@ use Rattle.core_state.proofs.Turning.{under_command}
 use Rattle.core_state.proofs.Beginning.{begins}
 use Rattle.core_step.specs.Ready.{IsReady, Begins}
 use Rattle.core_step.specs.Turns.{told}
+use Rattle.core_step.specs.Memory.{takes_none}
 use Rattle.core_step.proofs.Steps.{happen_here}
 use Rattle.core_step.proofs.Ready.{decided_set, event_need}
 
@@ -143,6 +144,24 @@ module _ (w : Plain) (n : ℕ) (s : NodeState) (at : node_at w.nodes n ≡ Some 
 
   pub goes : (x : Cmd) → s.over ≡ false → waits_at w.locks n s.asked ≡ false → s.cmd ≡ Some x → next_event w n ≡ command_event w n
   goes x on free has = free_event on free ∙ ap (by_command s) (ap (λ o. or_next o (next_command w.script n w.history)) has) ∙ sym (ap command_event_of at ∙ ap (by_begun s) has)
+
+  -- one without a command begins one, or leaves, and either may take memory
+  pub idle_takes : Good w → s.cmd ≡ None → s.over ≡ false → waits_at w.locks n s.asked ≡ false → takes_none w.locks n (next_event w n) ≡ false
+  idle_takes good idle on free =
+      ap (takes_none w.locks n) (free_event on free ∙ ap (by_command s) (ap (λ o. or_next o (next_command w.script n w.history)) idle)) ∙ by_line (next_command w.script n w.history) where
+        nothing : HasCommand w n s None
+        nothing = subst (HasCommand w n s) idle (good.nodes n s at).command
+
+        by_next : (x : Cmd) (next : Need) → takes_none w.locks n (by_need x s next) ≡ false
+        by_next x (need.Lock name mode) = refl
+        by_next x (need.Block name lbn) = refl
+        by_next x (need.Bare lbn) = refl
+        by_next x (need.Space k b) = ap (λ t. takes_none w.locks n (by_search x s k b t)) (ap (has_asked V) nothing.asked)
+        by_next x (need.Ready p) = refl
+
+        by_line : (o : Option Cmd) → takes_none w.locks n (by_command s o) ≡ false
+        by_line None = refl
+        by_line (Some x) = ap (λ p. takes_none w.locks n (by_plan x s p)) nothing.plan ∙ by_next x (need_of x s.seen)
 
   pub rest_so : (new : Plain) → s.over ≡ true → new ≡ happen w n Stand → new ≡ happen w n (next_event w n)
   rest_so new over is = is ∙ sym (happen_here w n s Stand at) ∙ happen_here w n s Rest at ∙ sym (ap (happen w n) (rests over))

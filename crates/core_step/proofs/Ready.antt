@@ -69,6 +69,7 @@ use Rattle.core_state.proofs.Trying.{nobody_asks}
 use Rattle.core_step.specs.Giving.{MayGiveAll, MayEnd}
 use Rattle.core_step.specs.Asks.{going_ask, aim_of}
 use Rattle.core_step.specs.Ready.{IsReady}
+use Rattle.core_step.specs.Memory.{takes_none}
 use Rattle.core_step.specs.declared.turns.Turn.TheVariants as turn
 use Rattle.core_step.specs.declared.turns.Kind.TheVariants as kind
 use Rattle.core_step.specs.Turns.{is_queued_in, told}
@@ -347,6 +348,33 @@ module _ (w : Plain) (good : Good w) (n : ℕ) (r : IsReady w n) where
   pub comes_to : plan_at w n ≡ None → (k : ℕ) (b : Bool) → IsNext r.cmd s.seen (need.Space k b) → has_asked V s.asked ≡ true → length s.search.takes ≤ s.search.taken → (o : Outcome) → o ≡ answer s.seen.geometry k b (blocks_of s.search.looked)
       → (lbn : ℕ) × (o ≡ search.Look lbn)
   comes_to none k b is asks over o e = looks_on w good n s r.at r.cmd r.has r.free (has_plan None none) k b is asks over o e
+
+  -- before it has a plan each of its events may take memory
+  pub takes_some : plan_at w n ≡ None → takes_none w.locks n (command_event w n) ≡ false
+  takes_some none = ap (takes_none w.locks n) (event_need none (need_of r.cmd s.seen) refl) ∙ by_next (need_of r.cmd s.seen) refl where
+    over_none : (ws : List PlanWrite) (k : ℕ) → slice_get ws k ≡ None → length ws ≤ k
+    over_none [] k e = omega arith
+    over_none (y ∷ ws) zero e = absurd (let f : Some y ≡ None = e in cc)
+    over_none (y ∷ ws) (suc k) e = let le = over_none ws k e in omega arith
+
+    -- a search looks on
+    by_outcome : (k : ℕ) (b : Bool) (o : Outcome) → (lbn : ℕ) × (o ≡ search.Look lbn) → takes_none w.locks n (by_answer r.cmd k b o) ≡ false
+    by_outcome k b o looks = ap (λ q. takes_none w.locks n (by_answer r.cmd k b q)) looks.1
+
+    by_left : (k : ℕ) (b : Bool) → IsNext r.cmd s.seen (need.Space k b) → has_asked V s.asked ≡ true → (o : Option PlanWrite) → slice_get s.search.takes s.search.taken ≡ o → takes_none w.locks n (by_takes r.cmd s k b o) ≡ false
+    by_left k b is asks (Some v) next = refl
+    by_left k b is asks None next = by_outcome k b (answer s.seen.geometry k b (blocks_of s.search.looked)) (comes_to none k b is asks (over_none s.search.takes s.search.taken next) _ refl)
+
+    by_asked : (k : ℕ) (b : Bool) → IsNext r.cmd s.seen (need.Space k b) → (t : Bool) → has_asked V s.asked ≡ t → takes_none w.locks n (by_search r.cmd s k b t) ≡ false
+    by_asked k b is false asks = refl
+    by_asked k b is true asks = by_left k b is asks (slice_get s.search.takes s.search.taken) refl
+
+    by_next : (next : Need) → need_of r.cmd s.seen ≡ next → takes_none w.locks n (by_need r.cmd s next) ≡ false
+    by_next (need.Lock name mode) e = refl
+    by_next (need.Block name lbn) e = refl
+    by_next (need.Bare lbn) e = refl
+    by_next (need.Space k b) e = by_asked k b e (has_asked V s.asked) refl
+    by_next (need.Ready p) e = refl
 
   -- the next write is to a block of the volume
   pub write_within : (p : Plan) → s.plan ≡ Some p → (v : PlanWrite) → slice_get (writes_by p.ask s.tried p.writes) s.done ≡ Some v → v.lbn < length w.blocks

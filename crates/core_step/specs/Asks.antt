@@ -3,7 +3,7 @@ use Rattle.std.specs.Prelude.{ℕ, Bool, true, false, List, Option, Some, None, 
 use Rattle.lock_db.specs.declared.resource.Resource.{Resource}
 use Rattle.plain_cat.specs.declared.mode.Mode.{Mode}
 use Rattle.op_law.specs.declared.need.Ask.{Ask}
-use Rattle.core_state.specs.Events.{Event, Try, would_go}
+use Rattle.core_state.specs.Events.{would_go}
 
 -- the ask of a plan, where it was not granted yet and would be
 abbrev pub going_ask : List Resource → ℕ → Bool → Option Ask → Option Ask
@@ -15,8 +15,3 @@ going_ask t n false (Some a) = if would_go t n a then Some a else None
 abbrev pub aim_of : Option Ask → Option (ℕ × Mode)
 aim_of None = None
 aim_of (Some a) = Some (a.file, a.mode)
-
--- an ask that is granted
-abbrev pub is_granted_ask : List Resource → ℕ → Event → Bool
-is_granted_ask t n (Try x a) = would_go t n a
-is_granted_ask t n other = false

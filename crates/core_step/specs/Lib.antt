@@ -2,3 +2,4 @@ pub mod Asks
 pub mod Turns
 pub mod Giving
 pub mod Ready
+pub mod Memory

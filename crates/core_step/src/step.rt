@@ -13,7 +13,7 @@ ghost use Rattle.core_state.specs.Goods.{Good, HasOnly, HasRoom};
 ghost use Rattle.core_state.specs.Images.{IsTold, told_as};
 ghost use Rattle.core_state.specs.Events.{is_write, happen, begun, next_event, command_event, plan_at, after_turn};
 ghost use Rattle.core_step.specs.Ready.{IsReady, Begins, HasTakenAll, NeedsNow};
-ghost use Rattle.core_step.specs.Asks.{is_granted_ask};
+ghost use Rattle.core_step.specs.Memory.{takes_none};
 ghost use Rattle.core_step.specs.Turns.{told};
 
 use crate::answers::{answer, put};
@@ -139,7 +139,7 @@ fn planned<I: ImageDev, O: Operation>(
     ensures same { OnErr result (plain_of O.cmd_is core.new ≡ plain_of O.cmd_is core.old) }
     ensures later { I.faults core.old.mirror.image ≤ I.faults core.new.mirror.image }
     ensures cause { result ≡ Err TurnFault.ImageFault → Rose (I.faults core.old.mirror.image) (I.faults core.new.mirror.image) }
-    ensures memory { result ≡ Err TurnFault.NoMemory → is_granted_ask core.old.locks node (command_event (plain_of O.cmd_is core.old) node) ≡ true }
+    ensures memory { result ≡ Err TurnFault.NoMemory → takes_none core.old.locks node (command_event (plain_of O.cmd_is core.old) node) ≡ false }
     ensures before { result ≡ Err TurnFault.ImageFault → is_write (command_event (plain_of O.cmd_is core.old) node) ≡ true }
     ensures drive { IsTold (I.told core.old.mirror.image) core.old.mirror.blocks
         → (I.told core.new.mirror.image ≡ told_as (I.told core.old.mirror.image) core.new.mirror.blocks) ⊎ (result ≡ Err TurnFault.ImageFault) }
@@ -179,6 +179,7 @@ fn go_on<I: ImageDev, O: Operation>(
     ensures same { OnErr result (plain_of O.cmd_is core.new ≡ plain_of O.cmd_is core.old) }
     ensures later { I.faults core.old.mirror.image ≤ I.faults core.new.mirror.image }
     ensures cause { result ≡ Err TurnFault.ImageFault → Rose (I.faults core.old.mirror.image) (I.faults core.new.mirror.image) }
+    ensures memory { result ≡ Err TurnFault.NoMemory → takes_none core.old.locks node (command_event (plain_of O.cmd_is core.old) node) ≡ false }
     ensures before { result ≡ Err TurnFault.ImageFault → is_write (command_event (plain_of O.cmd_is core.old) node) ≡ true }
     ensures drive { IsTold (I.told core.old.mirror.image) core.old.mirror.blocks
         → (I.told core.new.mirror.image ≡ told_as (I.told core.old.mirror.image) core.new.mirror.blocks) ⊎ (result ≡ Err TurnFault.ImageFault) }
@@ -235,6 +236,7 @@ fn first<I: ImageDev, O: Operation>(
     ensures same { OnErr result (plain_of O.cmd_is core.new ≡ plain_of O.cmd_is core.old) }
     ensures later { I.faults core.old.mirror.image ≤ I.faults core.new.mirror.image }
     ensures cause { result ≡ Err TurnFault.ImageFault → Rose (I.faults core.old.mirror.image) (I.faults core.new.mirror.image) }
+    ensures memory { result ≡ Err TurnFault.NoMemory → takes_none core.old.locks node (next_event (plain_of O.cmd_is core.old) node) ≡ false }
     ensures before { result ≡ Err TurnFault.ImageFault → is_write (next_event (plain_of O.cmd_is core.old) node) ≡ true }
     ensures drive { IsTold (I.told core.old.mirror.image) core.old.mirror.blocks
         → (I.told core.new.mirror.image ≡ told_as (I.told core.old.mirror.image) core.new.mirror.blocks) ⊎ (result ≡ Err TurnFault.ImageFault) }
@@ -266,6 +268,7 @@ fn step<I: ImageDev, O: Operation>(
     ensures same { OnErr result (plain_of O.cmd_is core.new ≡ plain_of O.cmd_is core.old) }
     ensures later { I.faults core.old.mirror.image ≤ I.faults core.new.mirror.image }
     ensures cause { result ≡ Err TurnFault.ImageFault → Rose (I.faults core.old.mirror.image) (I.faults core.new.mirror.image) }
+    ensures memory { result ≡ Err TurnFault.NoMemory → takes_none core.old.locks node (next_event (plain_of O.cmd_is core.old) node) ≡ false }
     ensures before { result ≡ Err TurnFault.ImageFault → is_write (next_event (plain_of O.cmd_is core.old) node) ≡ true }
     ensures drive { IsTold (I.told core.old.mirror.image) core.old.mirror.blocks
         → (I.told core.new.mirror.image ≡ told_as (I.told core.old.mirror.image) core.new.mirror.blocks) ⊎ (result ≡ Err TurnFault.ImageFault) }
@@ -294,9 +297,9 @@ fn step<I: ImageDev, O: Operation>(
 
 /// One turn of a node, which counts from 1: the event of the first rule that applies to it. A node that is over, and one whose
 /// request stands in a queue still, make no other event. After a fault the world is as before: ImageFault comes only where a
-/// write of the image failed, whose block there is then the old one or the new; NoMemory where memory ran out. Once a
-/// command has decided on a plan only an ask that is granted takes memory: a turn that makes a write of the plan, or answers, takes
-/// none.
+/// write of the image failed, whose block there is then the old one or the new; NoMemory where memory ran out. A turn that makes
+/// a write of a plan, or answers, takes no memory, and neither does one in which nothing happens: once a command has decided on a
+/// plan only an ask that is granted takes any.
 pub fn turn<I: ImageDev, O: Operation>(
     alloc: Global,
     w: &mut World<I, O>,
@@ -306,6 +309,7 @@ pub fn turn<I: ImageDev, O: Operation>(
     ensures moved { OnOk result (w.new.world ≡ after_turn w.old.world node) }
     ensures answer { IfOk result (λ t. t ≡ told w.new.world node (next_event w.old.world node)) }
     ensures same { OnErr result (w.new.world ≡ w.old.world) }
+    ensures memory { result ≡ Err TurnFault.NoMemory → takes_none w.old.world.locks node (next_event w.old.world node) ≡ false }
     ensures later { I.faults w.old.image ≤ I.faults w.new.image }
     ensures cause { result ≡ Err TurnFault.ImageFault → Rose (I.faults w.old.image) (I.faults w.new.image) }
 

@@ -4,7 +4,8 @@ use Rattle.core_state.specs.Worlds.{plain_of}
 use Rattle.core_state.specs.Goods.{HasRoom}
 use Rattle.core_state.specs.Events.{happen, is_write, plan_in}
 use Rattle.core_step.specs.Turns.{told}
-use Rattle.core_step.proofs.Ready.{told_so, none_of, item_over, item_taken, item_take, event_grab, grab_within, grab_room}
+use Rattle.core_step.specs.Memory.{takes_none}
+use Rattle.core_step.proofs.Ready.{told_so, none_of, item_over, item_taken, item_take, event_grab, grab_within, grab_room, takes_some}
 use Rattle.core_step.proofs.step.go_on.Goals as goal
 
 pub planned-requires-clause-plan : goal.planned-requires-clause-plan
@@ -26,6 +27,9 @@ grab-requires-clause-within g c = grab_within (plain_of g.O.Operation.cmd_is c.a
 pub grab-requires-clause-more : goal.grab-requires-clause-more
 grab-requires-clause-more g c s at = ap (λ k. k + 1) (item_taken g.O.Operation.cmd_is c.args.core.now.nodes.items (plain_of g.O.Operation.cmd_is c.args.core.now) c.args.node c.requires.ready c.index-at.result.now refl c.requires.node.from c.requires.node.to c.index-at.ensures s at)
 
+pub returns-in_err-clusters-clause-memory : goal.returns-in_err-clusters-clause-memory
+returns-in_err-clusters-clause-memory g c e = ap (takes_none c.args.core.now.locks c.args.node) (event_grab (plain_of g.O.Operation.cmd_is c.args.core.now) c.requires.good c.args.node c.requires.ready (ap plan_in (told_so g.O.Operation.cmd_is c.args.core.now.nodes.items (plain_of g.O.Operation.cmd_is c.args.core.now) c.args.node c.requires.ready c.index-at.result.now refl c.requires.node.from c.requires.node.to c.index-at.ensures) ∙ none_of c.index-at.result.now.plan (sym c.if-is_some.ensures)) c.index-items-at.result (item_take g.O.Operation.cmd_is c.args.core.now.nodes.items (plain_of g.O.Operation.cmd_is c.args.core.now) c.args.node c.requires.ready c.index-at.result.now refl c.requires.node.from c.requires.node.to c.index-at.ensures c.items-then-at-items.result.now c.index-items-at.result c.items-then-at-items.ensures (subst (λ ws. c.index-at.result.now.taken < length ws) (c.items.ensures ∙ sym c.items-then-at-items.ensures) c.if-at-items.true) c.index-items-at.is))
+
 pub returns-in_err-grab-clause-before : goal.returns-in_err-grab-clause-before
 returns-in_err-grab-clause-before g c e = ap is_write (event_grab (plain_of g.O.Operation.cmd_is c.args.core.now) c.requires.good c.args.node c.requires.ready (ap plan_in (told_so g.O.Operation.cmd_is c.args.core.now.nodes.items (plain_of g.O.Operation.cmd_is c.args.core.now) c.args.node c.requires.ready c.index-at.result.now refl c.requires.node.from c.requires.node.to c.index-at.ensures) ∙ none_of c.index-at.result.now.plan (sym c.if-is_some.ensures)) c.index-items-at.result (item_take g.O.Operation.cmd_is c.args.core.now.nodes.items (plain_of g.O.Operation.cmd_is c.args.core.now) c.args.node c.requires.ready c.index-at.result.now refl c.requires.node.from c.requires.node.to c.index-at.ensures c.items-then-at-items.result.now c.index-items-at.result c.items-then-at-items.ensures (subst (λ ws. c.index-at.result.now.taken < length ws) (c.items.ensures ∙ sym c.items-then-at-items.ensures) c.if-at-items.true) c.index-items-at.is))
 
@@ -37,3 +41,8 @@ returns-then-at-items-clause-answer g c = sym (ap (told (plain_of g.O.Operation.
 
 pub returns-then-at-items-clause-room : goal.returns-then-at-items-clause-room
 returns-then-at-items-clause-room g c = subst (λ k. HasRoom (plain_of g.O.Operation.cmd_is c.grab.new.core) k) (sym c.in_ok-grab.ensures.room) (grab_room (plain_of g.O.Operation.cmd_is c.args.core.now) c.requires.good c.args.node c.requires.ready c.index-items-at.result c.args.core.now.history.room c.requires.room (plain_of g.O.Operation.cmd_is c.grab.new.core) (c.in_ok-grab.ensures.world c.index-items-at.result refl refl (sym c.in_ok-clusters.ensures) refl))
+
+pub returns-clause-memory : goal.returns-clause-memory
+returns-clause-memory g c e =
+    let at = told_so g.O.Operation.cmd_is c.args.core.now.nodes.items (plain_of g.O.Operation.cmd_is c.args.core.now) c.args.node c.requires.ready c.index-at.result.now refl c.requires.node.from c.requires.node.to c.index-at.ensures in
+    takes_some (plain_of g.O.Operation.cmd_is c.args.core.now) c.requires.good c.args.node c.requires.ready (ap plan_in at ∙ none_of c.index-at.result.now.plan (sym c.if-is_some.ensures))

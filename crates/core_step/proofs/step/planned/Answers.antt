@@ -1,4 +1,4 @@
-use Rattle.std.proofs.Common.{◌+◌, ◌≡◌, refl, sym, ap, subst, ◌∙◌, Some, None}
+use Rattle.std.proofs.Common.{not, ◌+◌, ◌≡◌, refl, sym, ap, subst, ◌∙◌, Some, None}
 use Rattle.std.specs.Prelude.{is_some}
 use Rattle.lock_db.specs.declared.name.LockName.TheVariants.{A}
 use Rattle.lock_db.specs.Queues.{standing_of}
@@ -9,7 +9,8 @@ use Rattle.core_state.specs.Worlds.{plain_of}
 use Rattle.core_state.specs.Asks.{reply_by}
 use Rattle.core_state.specs.Goods.{HasRoom}
 use Rattle.core_state.specs.Events.{Answer, happen, is_write, tried_at}
-use Rattle.core_step.specs.Asks.{going_ask, is_granted_ask}
+use Rattle.core_step.specs.Asks.{going_ask}
+use Rattle.core_step.specs.Memory.{takes_none}
 use Rattle.core_step.specs.Turns.{told}
 use Rattle.core_step.proofs.Ready.{plan_now, next_now, last_now, item_aim, aimed, aims_none, going_is, no_plan_now, one_node, place_kept, event_write, event_try, event_ends, ends_told, may_try, write_within, may_end_at, command_is, plan_is, tried_is, put_room, try_room, try_told, answer_room}
 use Rattle.core_step.proofs.step.planned.Goals as goal
@@ -59,7 +60,7 @@ returns-in_err-try_ask-clause-memory g c e =
     let last = (last_now g.O.Operation.cmd_is c.args.core.now.nodes.items (plain_of g.O.Operation.cmd_is c.args.core.now) c.args.node c.requires.ready c.index-at.result.now refl c.requires.node.from c.requires.node.to c.index-at.ensures c.in-Some.plan c.writes_by-writes.result.now c.writes_by-writes.ensures c.if-at-writes.false) in
     let aim = aimed (going_ask c.args.core.now.locks c.args.node c.requires.ready.state.tried c.in-Some.plan.ask) c.in-Some-going_ask.file c.in-Some-going_ask.mode (sym (item_aim g.O.Operation.cmd_is c.args.core.now.nodes.items (plain_of g.O.Operation.cmd_is c.args.core.now) c.args.node c.requires.ready c.index-at.result.now refl c.requires.node.from c.requires.node.to c.index-at.ensures c.args.core.now.locks c.in-Some.plan c.going_ask.result c.going_ask.ensures) ∙ c.in-Some-going_ask.is) in
     let going = going_is c.args.core.now.locks c.args.node c.requires.ready.state.tried c.in-Some.plan.ask aim.made aim.is in
-    ap (is_granted_ask c.args.core.now.locks c.args.node) (event_try (plain_of g.O.Operation.cmd_is c.args.core.now) c.requires.good c.args.node c.requires.ready c.in-Some.plan plan last aim.made aim.is) ∙ going.goes
+    ap (takes_none c.args.core.now.locks c.args.node) (event_try (plain_of g.O.Operation.cmd_is c.args.core.now) c.requires.good c.args.node c.requires.ready c.in-Some.plan plan last aim.made aim.is) ∙ ap not going.goes
 
 pub returns-in-Some-going_ask-clause-world : goal.returns-in-Some-going_ask-clause-world
 returns-in-Some-going_ask-clause-world g c =

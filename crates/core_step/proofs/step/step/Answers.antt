@@ -7,8 +7,9 @@ use Rattle.core_state.specs.Goods.{HasRoom}
 use Rattle.core_state.specs.Events.{Stand, Leave, turned, leaving, happen, is_write}
 use Rattle.core_state.proofs.Nodes.{told_at}
 use Rattle.core_step.specs.Turns.{told}
+use Rattle.core_step.specs.Memory.{takes_none}
 use Rattle.core_step.proofs.Steps.{on_ok}
-use Rattle.core_step.proofs.Begun.{rests, stands, leaves, rest_so, quiet_room, ready_so, idle_so, lawful_ready, lawful_begun, lawful_over, lawful_waits, lawful_left, goes_ready, if_ok, always_ok}
+use Rattle.core_step.proofs.Begun.{idle_takes, rests, stands, leaves, rest_so, quiet_room, ready_so, idle_so, lawful_ready, lawful_begun, lawful_over, lawful_waits, lawful_left, goes_ready, if_ok, always_ok}
 use Rattle.core_step.proofs.step.step.Goals as goal
 
 pub returns-then-at-clause-world : goal.returns-then-at-clause-world
@@ -70,3 +71,9 @@ returns-in-Some-clause-lawful g c = always_ok c.first.result _ (λ s x at on fre
 
 pub returns-then-is_some-clause-before : goal.returns-then-is_some-clause-before
 returns-then-is_some-clause-before g c e = ap is_write (goes_ready (plain_of g.O.Operation.cmd_is c.args.core.now) c.args.node (state_of g.O.Operation.cmd_is c.index-at.result.now) (told_at (state_of g.O.Operation.cmd_is) c.args.core.now.nodes.items c.args.node c.index-at.result.now c.requires.node.from c.requires.node.to c.index-at.ensures) (ready_so g.O.Operation.cmd_is (plain_of g.O.Operation.cmd_is c.args.core.now) c.args.node c.index-at.result.now (told_at (state_of g.O.Operation.cmd_is) c.args.core.now.nodes.items c.args.node c.index-at.result.now c.requires.node.from c.requires.node.to c.index-at.ensures) (sym (c.if-waits.ensures ∙ ap (waits_at c.args.core.now.locks c.args.node) c.items.ensures)) c.if-is_some.ensures) c.if-at.false (sym (c.if-waits.ensures ∙ ap (waits_at c.args.core.now.locks c.args.node) c.items.ensures))) ∙ c.go_on.ensures.before e
+
+pub returns-then-is_some-clause-memory : goal.returns-then-is_some-clause-memory
+returns-then-is_some-clause-memory g c e = ap (takes_none c.args.core.now.locks c.args.node) (goes_ready (plain_of g.O.Operation.cmd_is c.args.core.now) c.args.node (state_of g.O.Operation.cmd_is c.index-at.result.now) (told_at (state_of g.O.Operation.cmd_is) c.args.core.now.nodes.items c.args.node c.index-at.result.now c.requires.node.from c.requires.node.to c.index-at.ensures) (ready_so g.O.Operation.cmd_is (plain_of g.O.Operation.cmd_is c.args.core.now) c.args.node c.index-at.result.now (told_at (state_of g.O.Operation.cmd_is) c.args.core.now.nodes.items c.args.node c.index-at.result.now c.requires.node.from c.requires.node.to c.index-at.ensures) (sym (c.if-waits.ensures ∙ ap (waits_at c.args.core.now.locks c.args.node) c.items.ensures)) c.if-is_some.ensures) c.if-at.false (sym (c.if-waits.ensures ∙ ap (waits_at c.args.core.now.locks c.args.node) c.items.ensures))) ∙ c.go_on.ensures.memory e
+
+pub returns-in_err-cmd-clause-memory : goal.returns-in_err-cmd-clause-memory
+returns-in_err-cmd-clause-memory g c e = idle_takes (plain_of g.O.Operation.cmd_is c.args.core.now) c.args.node (state_of g.O.Operation.cmd_is c.index-at.result.now) (told_at (state_of g.O.Operation.cmd_is) c.args.core.now.nodes.items c.args.node c.index-at.result.now c.requires.node.from c.requires.node.to c.index-at.ensures) c.requires.good (idle_so g.O.Operation.cmd_is c.index-at.result.now c.if-is_some.ensures) c.if-at.false (sym (c.if-waits.ensures ∙ ap (waits_at c.args.core.now.locks c.args.node) c.items.ensures))
