@@ -32,17 +32,6 @@ pub(crate) fn has_asked(locks: &[(LockName, Mode)], name: LockName) -> bool
     false
 }
 
-/// The same clusters again.
-pub(crate) fn copied(alloc: Global, clusters: &Clusters) -> Result<Clusters, NoMemory>
-    ensures { IfOk result (λ copy. copy ≡ clusters.now) }
-{
-    let mut copy = Clusters::new(alloc);
-    for q in clusters.items() {
-        copy.push(*q)?;
-    }
-    Ok(copy)
-}
-
 // The blocks, with one more.
 fn with_block(
     alloc: Global,

@@ -19,7 +19,7 @@ ghost use Rattle.core_step.specs.Turns.{told};
 use crate::answers::{answer, put};
 use crate::asks::{going_ask, writes_by};
 use crate::events::{ask, claim, decide, leave, look, stand, try_ask};
-use crate::searches::{copied, grab, has_asked, scan};
+use crate::searches::{grab, has_asked, scan};
 use crate::turns::{Kind, Turn, TurnFault};
 use blk_drive::ImageDev;
 use core_state::{Core, Node, World};
@@ -195,7 +195,7 @@ fn go_on<I: ImageDev, O: Operation>(
         let block = w.block;
         let number = w.number;
         let taken = at.taken + 1;
-        let clusters = copied(alloc, &w.clusters)?;
+        let clusters = w.clusters.copy(alloc)?;
         grab(core, node, lbn, &block, taken, clusters, number)?;
         return Ok(Turn::Moved(Kind::Wrote));
     }

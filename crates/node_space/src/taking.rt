@@ -122,18 +122,7 @@ fn block_write(
         lbn: geometry.bitmap_lbn + 1 + k,
         block,
         stage: Stage::Nothing,
-        clusters: copied(alloc, taken)?,
+        clusters: taken.copy(alloc)?,
         number,
     })
-}
-
-// The same clusters once more.
-fn copied(alloc: Global, clusters: &Clusters) -> Result<Clusters, NoMemory>
-    ensures { IfOk result (λ copy. copy ≡ clusters.now) }
-{
-    let mut copy = Clusters::new(alloc);
-    for q in clusters.items() {
-        copy.push(*q)?;
-    }
-    Ok(copy)
 }
