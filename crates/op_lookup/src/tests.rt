@@ -235,12 +235,14 @@ fn finds(
     found: Version,
 ) -> Result<bool, NoMemory> {
     let ended = lookup(alloc, asked.fid, text, asked.ver)?;
-    Ok(
-        matches!(&ended, Some((seen, plan)) if has_seen(seen, asked.fid.num, lbns)
-        && plan.writes.items().is_empty()
-        && is_found(&plan.reply, found.fid, text, found.ver)),
-    )
+    Ok(match &ended {
+        Some((seen, plan)) => has_seen(seen, asked.fid.num, lbns)
+            && plan.writes.items().is_empty()
+            && is_found(&plan.reply, found.fid, text, found.ver),
+        None => false,
+    })
 }
+
 // The lock, the header, and the two blocks in order: then the plan. Version 0 is the highest.
 #[test]
 fn a_lookup_goes_turn_by_turn(rt: HostRuntime) -> Result<(), Fail> {
@@ -294,10 +296,10 @@ fn is_listed(reply: &Reply) -> bool {
 /// Whether the LIST of the directory of number 12 looks at its blocks in order and tells its entries.
 fn lists(alloc: Global) -> Result<bool, NoMemory> {
     let ended = look(alloc, Cmd::List { dir: fid(12, 1) })?;
-    Ok(
-        matches!(&ended, Some((seen, plan)) if has_seen(seen, 12, &[20, 50, 51])
-        && is_listed(&plan.reply)),
-    )
+    Ok(match &ended {
+        Some((seen, plan)) => has_seen(seen, 12, &[20, 50, 51]) && is_listed(&plan.reply),
+        None => false,
+    })
 }
 
 #[test]
@@ -416,10 +418,10 @@ fn trunc(alloc: Global, file: Fid) -> Result<Option<(Seen, Plan)>, NoMemory>
 /// Whether the TRUNC of file 4 with this sequence locks it in PW, looks at its header, and is refused so.
 fn trunc_is_refused(alloc: Global, seq: u16, why: Refusal) -> Result<bool, NoMemory> {
     let ended = trunc(alloc, fid(4, seq))?;
-    Ok(
-        matches!(&ended, Some((seen, plan)) if has_seen_in(seen, Mode::PW, 4, &[12])
-        && is_refused(plan, why)),
-    )
+    Ok(match &ended {
+        Some((seen, plan)) => has_seen_in(seen, Mode::PW, 4, &[12]) && is_refused(plan, why),
+        None => false,
+    })
 }
 
 /// Whether the TRUNC of the number 0 is refused at once, without a lock.
