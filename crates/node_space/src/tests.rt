@@ -1,6 +1,6 @@
 use crate::{Search, search};
 use lock_db::LockName;
-use op_law::{PlanWrite, Writes};
+use op_law::PlanWrite;
 use plain_cat::{NoMemory, Refusal, Stage};
 use std::alloc::Global;
 use std::test::Fail;
@@ -58,19 +58,40 @@ fn find(
     search(alloc, &LARGE, clusters, number, looked)
 }
 
-fn looks_at(found: &Search, lbn: u32) -> bool {
-    matches!(found, Search::Look(next) if *next == lbn)
+/// Whether such a search looks at this block next.
+fn looks_at(
+    alloc: Global,
+    clusters: u32,
+    number: bool,
+    looked: &[(u32, Block)],
+    lbn: u32,
+) -> Result<bool, NoMemory> {
+    let found = find(alloc, clusters, number, looked)?;
+    Ok(matches!(&found, Search::Look(next) if *next == lbn))
 }
 
-fn is_short(found: &Search, why: Refusal) -> bool {
-    matches!(found, Search::Short(r) if *r == why)
+/// Whether such a search ends with too little.
+fn is_short(
+    alloc: Global,
+    clusters: u32,
+    number: bool,
+    looked: &[(u32, Block)],
+    why: Refusal,
+) -> Result<bool, NoMemory> {
+    let found = find(alloc, clusters, number, looked)?;
+    Ok(matches!(&found, Search::Short(r) if *r == why))
 }
 
-fn writes_of(found: &Search) -> Result<&Writes, Fail> {
-    match found {
-        Search::Take(writes) => Ok(writes),
-        _ => Err(Fail::from("there is enough")),
-    }
+/// Whether such a search ends with so many writes.
+fn has_writes(
+    alloc: Global,
+    clusters: u32,
+    number: bool,
+    looked: &[(u32, Block)],
+    count: usize,
+) -> Result<bool, NoMemory> {
+    let found = find(alloc, clusters, number, looked)?;
+    Ok(matches!(&found, Search::Take(writes) if writes.items().len() == count))
 }
 
 /// A write under V of this block, after which these clusters are outside and this number.
@@ -89,38 +110,59 @@ fn is_write(
         && write.number == number
 }
 
+/// A write of the index-file bitmap that takes number 13 alone.
+fn takes_number(write: &PlanWrite) -> bool {
+    let used = block(&[(0, 0xff), (1, 0x1f)]);
+    is_write(write, INDEX, &used, &[], Some(13))
+}
+
+/// The writes that take number 13 and three clusters: all free ones of the first block, and the lowest of the second.
+fn take_three(writes: &[PlanWrite]) -> bool {
+    let rest = block(&[(113, 0x01)]);
+    matches!(writes, [number, one, two] if takes_number(number)
+        && is_write(one, FIRST, &block(&[]), &[100, 4095], Some(13))
+        && is_write(two, SECOND, &rest, &[100, 4095, 4097], Some(13)))
+}
+
+/// Whether the search for a number and three clusters comes to their writes.
+fn takes_three(alloc: Global, looked: &[(u32, Block)]) -> Result<bool, NoMemory> {
+    let found = find(alloc, 3, true, looked)?;
+    Ok(matches!(&found, Search::Take(writes) if take_three(writes.items())))
+}
+
 // The blocks are looked at in order, and then the index block is written, and the storage blocks, the lowest clusters first.
 #[test]
 fn a_number_and_three_clusters_are_taken(rt: HostRuntime) -> Result<(), Fail> {
     let alloc = rt.alloc();
     let looked = [(INDEX, index()), (FIRST, first()), (SECOND, second())];
-    for (seen, lbn) in [(0, INDEX), (1, FIRST), (2, SECOND)] {
-        let Some(before) = looked.get(..seen) else {
-            return Err(Fail::from("there are three blocks"));
-        };
-        assert!(&rt; looks_at(&find(alloc, 3, true, before)?, lbn));
-    }
-    let found = find(alloc, 3, true, &looked)?;
-    let [number, one, two] = writes_of(&found)?.items() else {
-        return Err(Fail::from("there are three writes"));
-    };
-    let used = block(&[(0, 0xff), (1, 0x1f)]);
-    assert!(&rt; is_write(number, INDEX, &used, &[], Some(13)));
-    assert!(&rt; is_write(one, FIRST, &block(&[]), &[100, 4095], Some(13)));
-    let rest = block(&[(113, 0x01)]);
-    assert!(&rt; is_write(two, SECOND, &rest, &[100, 4095, 4097], Some(13)));
+    let index_first = looks_at(alloc, 3, true, &looked[..0], INDEX)?;
+    assert!(&rt; index_first);
+    let then_storage = looks_at(alloc, 3, true, &looked[..1], FIRST)?;
+    assert!(&rt; then_storage);
+    let then_second = looks_at(alloc, 3, true, &looked[..2], SECOND)?;
+    assert!(&rt; then_second);
+    let taken = takes_three(alloc, &looked)?;
+    assert!(&rt; taken);
     Ok(())
+}
+
+/// The write that takes cluster 100.
+fn take_lowest(writes: &[PlanWrite]) -> bool {
+    let rest = block(&[(511, 0x80)]);
+    matches!(writes, [write] if is_write(write, FIRST, &rest, &[100], None))
+}
+
+/// Whether the search for one cluster comes to the write of the lowest.
+fn takes_lowest(alloc: Global) -> Result<bool, NoMemory> {
+    let found = find(alloc, 1, false, &[(FIRST, first())])?;
+    Ok(matches!(&found, Search::Take(writes) if take_lowest(writes.items())))
 }
 
 // One cluster is the lowest, and the block behind it is neither looked at nor written.
 #[test]
 fn the_lowest_cluster_is_taken_first(rt: HostRuntime) -> Result<(), Fail> {
-    let found = find(rt.alloc(), 1, false, &[(FIRST, first())])?;
-    let [write] = writes_of(&found)?.items() else {
-        return Err(Fail::from("there is one write"));
-    };
-    let rest = block(&[(511, 0x80)]);
-    assert!(&rt; is_write(write, FIRST, &rest, &[100], None));
+    let taken = takes_lowest(rt.alloc())?;
+    assert!(&rt; taken);
     Ok(())
 }
 
@@ -128,8 +170,8 @@ fn the_lowest_cluster_is_taken_first(rt: HostRuntime) -> Result<(), Fail> {
 #[test]
 fn a_full_index_is_refused(rt: HostRuntime) -> Result<(), Fail> {
     let full = block(&[(0, 0xff), (1, 0xff), (2, 0xff), (3, 0xff)]);
-    let found = find(rt.alloc(), 3, true, &[(INDEX, full)])?;
-    assert!(&rt; is_short(&found, Refusal::IndexFull));
+    let refused = is_short(rt.alloc(), 3, true, &[(INDEX, full)], Refusal::IndexFull)?;
+    assert!(&rt; refused);
     Ok(())
 }
 
@@ -137,25 +179,30 @@ fn a_full_index_is_refused(rt: HostRuntime) -> Result<(), Fail> {
 fn a_full_device_is_refused_after_the_last_block(rt: HostRuntime) -> Result<(), Fail> {
     let alloc = rt.alloc();
     let looked = [(FIRST, first()), (SECOND, second())];
-    assert!(&rt; looks_at(&find(alloc, 5, false, &[(FIRST, first())])?, SECOND));
-    assert!(&rt; is_short(&find(alloc, 5, false, &looked)?, Refusal::DeviceFull));
-    assert_eq!(&rt;
-        writes_of(&find(alloc, 4, false, &looked)?)?.items().len(),
-        2
-    );
+    let goes_on = looks_at(alloc, 5, false, &[(FIRST, first())], SECOND)?;
+    assert!(&rt; goes_on);
+    let refused = is_short(alloc, 5, false, &looked, Refusal::DeviceFull)?;
+    assert!(&rt; refused);
+    let taken = has_writes(alloc, 4, false, &looked, 2)?;
+    assert!(&rt; taken);
     Ok(())
+}
+
+/// Whether the search for a number alone comes to its write.
+fn takes_number_alone(alloc: Global) -> Result<bool, NoMemory> {
+    let found = find(alloc, 0, true, &[(INDEX, index())])?;
+    Ok(matches!(&found, Search::Take(writes)
+        if matches!(writes.items(), [number] if takes_number(number))))
 }
 
 #[test]
 fn a_number_alone_needs_the_index_block_alone(rt: HostRuntime) -> Result<(), Fail> {
     let alloc = rt.alloc();
-    assert!(&rt; looks_at(&find(alloc, 0, true, &[])?, INDEX));
-    let found = find(alloc, 0, true, &[(INDEX, index())])?;
-    let [number] = writes_of(&found)?.items() else {
-        return Err(Fail::from("there is one write"));
-    };
-    let used = block(&[(0, 0xff), (1, 0x1f)]);
-    assert!(&rt; is_write(number, INDEX, &used, &[], Some(13)));
-    assert!(&rt; writes_of(&find(alloc, 0, false, &[])?)?.items().is_empty());
+    let looks = looks_at(alloc, 0, true, &[], INDEX)?;
+    assert!(&rt; looks);
+    let taken = takes_number_alone(alloc)?;
+    assert!(&rt; taken);
+    let nothing = has_writes(alloc, 0, false, &[], 0)?;
+    assert!(&rt; nothing);
     Ok(())
 }

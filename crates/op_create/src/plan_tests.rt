@@ -118,61 +118,95 @@ fn leaves(w: &PlanWrite, clusters: &[u32]) -> bool {
     w.clusters.items() == clusters && w.number.is_some() == !clusters.is_empty()
 }
 
-// Clusters 25, 26 and 28: two runs. The row, the header, the moves of the entry: of which the last alone shows it.
-#[test]
-fn a_file_with_clusters(rt: HostRuntime) -> Result<(), Fail> {
-    let alloc = rt.alloc();
+/// The writes that make C.TXT;1 of [1,4] with the clusters 25, 26 and 28.
+fn file_writes(alloc: Global) -> Result<Writes, Fail> {
     let text = name(alloc, b"C.TXT")?;
     let mut clusters = Clusters::new(alloc);
     clusters.push(25)?;
     clusters.push(26)?;
     clusters.push(28)?;
     let f = new_file(&text, 1, Uic(65540), 3);
-    let writes = writes_of(alloc, &f, &clusters)?;
-    let [row, header, left, rest, entry] = writes.items() else {
-        return Err(Fail::from("there are five writes"));
-    };
-    assert!(&rt; is_write(row, LockName::Q, 46, Stage::Charged) && leaves(row, &[25, 26, 28]));
-    assert!(&rt;
-        reads(
+    writes_of(alloc, &f, &clusters)
+}
+
+/// The write of the row of [1,4], to which the three clusters are charged.
+fn is_row(row: &PlanWrite) -> bool {
+    is_write(row, LockName::Q, 46, Stage::Charged)
+        && leaves(row, &[25, 26, 28])
+        && reads(
             &row.block,
             32,
-            b"\x01\0\0\0\x04\0\x01\0\x0a\0\0\0\xc8\0\0\0"
+            b"\x01\0\0\0\x04\0\x01\0\x0a\0\0\0\xc8\0\0\0",
         )
-    );
-    assert!(&rt; is_write(header, LockName::S(17), 25, Stage::Lost) && leaves(header, &[]));
-    assert!(&rt; reads(&header.block, 200, b"\x03\x40\x32\0\x01\x40\x38\0"));
-    assert!(&rt; reads(&header.block, 76, b"\x01\0\0\0"));
-    assert!(&rt; is_write(left, LockName::S(12), 50, Stage::Lost));
-    assert!(&rt; is_write(rest, LockName::S(12), 51, Stage::Lost));
-    assert!(&rt; is_write(entry, LockName::S(12), 50, Stage::Done) && leaves(entry, &[]));
-    assert!(&rt;
-        reads(
+}
+
+/// The write of the header of the file, which has two runs.
+fn is_header(header: &PlanWrite) -> bool {
+    is_write(header, LockName::S(17), 25, Stage::Lost)
+        && leaves(header, &[])
+        && reads(&header.block, 200, b"\x03\x40\x32\0\x01\x40\x38\0")
+        && reads(&header.block, 76, b"\x01\0\0\0")
+}
+
+/// The write that shows the entry, behind that of B.DAT.
+fn is_entry(entry: &PlanWrite) -> bool {
+    is_write(entry, LockName::S(12), 50, Stage::Done)
+        && leaves(entry, &[])
+        && reads(
             &entry.block,
             28,
-            b"\x12\0\xff\x7f\0\x05B.DAT\0\x01\0\x0f\0\x02\0\0\0\x12\0\xff\x7f\0\x05C.TXT\0\x01\0\x11\0\0\0\0\0"
+            b"\x12\0\xff\x7f\0\x05B.DAT\0\x01\0\x0f\0\x02\0\0\0\x12\0\xff\x7f\0\x05C.TXT\0\x01\0\x11\0\0\0\0\0",
         )
-    );
+}
+
+/// The five writes of the file.
+fn make_the_file(writes: &[PlanWrite]) -> bool {
+    matches!(writes, [row, header, left, rest, entry] if is_row(row)
+        && is_header(header)
+        && is_write(left, LockName::S(12), 50, Stage::Lost)
+        && is_write(rest, LockName::S(12), 51, Stage::Lost)
+        && is_entry(entry))
+}
+
+// Clusters 25, 26 and 28: two runs. The row, the header, the moves of the entry: of which the last alone shows it.
+#[test]
+fn a_file_with_clusters(rt: HostRuntime) -> Result<(), Fail> {
+    let writes = file_writes(rt.alloc())?;
+    let made = make_the_file(writes.items());
+    assert!(&rt; made);
     Ok(())
+}
+
+/// The writes that make the directory Y.DIR of [0,0] with cluster 27.
+fn directory_writes(alloc: Global) -> Result<Writes, Fail> {
+    let text = name(alloc, b"Y.DIR")?;
+    let mut clusters = Clusters::new(alloc);
+    clusters.push(27)?;
+    let f = new_dir(&SMALL, &text, Uic(0));
+    writes_of(alloc, &f, &clusters)
+}
+
+/// A write of a block of the new directory, whose cluster is charged by then.
+fn is_own_block(w: &PlanWrite, lbn: u32) -> bool {
+    is_write(w, LockName::S(17), lbn, Stage::Charged) && leaves(w, &[27])
+}
+
+/// The four first writes of the directory.
+fn make_the_directory(writes: &[PlanWrite]) -> bool {
+    matches!(writes, [row, first, second, header, ..]
+        if reads(&row.block, 0, b"\x01\0\0\0\0\0\0\0\x46\0\0\0\xc8\0\0\0")
+            && is_own_block(first, 54)
+            && is_own_block(second, 55)
+            && first.block == block(b"\xff\xff")
+            && is_write(header, LockName::S(17), 25, Stage::Lost)
+            && reads(&header.block, 76, b"\0\0\0\0"))
 }
 
 // A directory of cluster 27: its own blocks, without an entry, come behind the row.
 #[test]
 fn a_directory(rt: HostRuntime) -> Result<(), Fail> {
-    let alloc = rt.alloc();
-    let text = name(alloc, b"Y.DIR")?;
-    let mut clusters = Clusters::new(alloc);
-    clusters.push(27)?;
-    let f = new_dir(&SMALL, &text, Uic(0));
-    let writes = writes_of(alloc, &f, &clusters)?;
-    let [row, first, second, header, ..] = writes.items() else {
-        return Err(Fail::from("there are four writes and those of the entry"));
-    };
-    assert!(&rt; reads(&row.block, 0, b"\x01\0\0\0\0\0\0\0\x46\0\0\0\xc8\0\0\0"));
-    assert!(&rt; is_write(first, LockName::S(17), 54, Stage::Charged) && leaves(first, &[27]));
-    assert!(&rt; is_write(second, LockName::S(17), 55, Stage::Charged) && leaves(second, &[27]));
-    assert!(&rt; first.block == block(b"\xff\xff"));
-    assert!(&rt; is_write(header, LockName::S(17), 25, Stage::Lost));
-    assert!(&rt; reads(&header.block, 76, b"\0\0\0\0"));
+    let writes = directory_writes(rt.alloc())?;
+    let made = make_the_directory(writes.items());
+    assert!(&rt; made);
     Ok(())
 }

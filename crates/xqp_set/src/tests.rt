@@ -4,7 +4,7 @@ use crate::XqpOp;
 use blk_drive::{MemImage, Mirror};
 use lock_db::LockName;
 use op_law::{Operation, Plan, Seen, run_alone};
-use plain_cat::{Cmd, Fid, Mode, Name, Refusal, Reply, Uic};
+use plain_cat::{Cmd, Fid, Mode, Name, NoMemory, Refusal, Reply, Uic};
 use plain_vol::is_in_form;
 use std::alloc::Global;
 use std::test::Fail;
@@ -22,8 +22,8 @@ fn volume(alloc: Global) -> Result<Mirror<MemImage>, Fail> {
     }
 }
 
-/// What a command sees on the volume, and its plan.
-fn run(alloc: Global, cmd: Cmd) -> Result<(Seen, Plan), Fail>
+/// What a command sees on the volume, and its plan, if it makes one.
+fn run(alloc: Global, cmd: Cmd) -> Result<Option<(Seen, Plan)>, Fail>
     requires { IsBuilt cmd }
 {
     let mirror = volume(alloc)?;
@@ -31,70 +31,105 @@ fn run(alloc: Global, cmd: Cmd) -> Result<(Seen, Plan), Fail>
     if blocks.len() < 64 || blocks.len() > 65_536 {
         return Err(Fail::from("the blocks are those of a volume"));
     }
-    match run_alone(alloc, &XqpOp::of(cmd), blocks)? {
-        Some(ended) => Ok(ended),
-        None => Err(Fail::from("the command makes its plan")),
-    }
+    Ok(run_alone(alloc, &XqpOp::of(cmd), blocks)?)
 }
 
 fn fid(num: u32, seq: u16) -> Fid {
     Fid { num, seq }
 }
 
+fn name(alloc: Global, text: &[u8]) -> Result<Name, NoMemory> {
+    let mut name = Name::new(alloc);
+    for byte in text {
+        name.push(*byte)?;
+    }
+    Ok(name)
+}
+
+/// One lock, looks at five blocks, and then eleven entries.
+fn is_listed(seen: &Seen, plan: &Plan) -> bool {
+    seen.locks.items().len() == 1
+        && seen.blocks.items().len() == 5
+        && matches!(&plan.reply, Reply::Listed(listed) if listed.items().len() == 11)
+}
+
+/// Whether a LIST of the main directory tells its entries.
+fn lists(alloc: Global) -> Result<bool, Fail> {
+    let ended = run(alloc, Cmd::List { dir: fid(4, 4) })?;
+    Ok(matches!(&ended, Some((seen, plan)) if is_listed(seen, plan)))
+}
+
 #[test]
 fn a_list_goes_through_the_set(rt: HostRuntime) -> Result<(), Fail> {
-    let (seen, plan) = run(rt.alloc(), Cmd::List { dir: fid(4, 4) })?;
-    assert_eq!(&rt; seen.locks.items().len(), 1);
-    assert_eq!(&rt; seen.blocks.items().len(), 5);
-    let Reply::Listed(listed) = &plan.reply else {
-        return Err(Fail::from("the entries are listed"));
-    };
-    assert_eq!(&rt; listed.items().len(), 11);
+    let told = lists(rt.alloc())?;
+    assert!(&rt; told);
     Ok(())
+}
+
+/// A refusal that writes nothing, after looks at so many blocks.
+fn is_refused(seen: &Seen, plan: &Plan, looks: usize, why: Refusal) -> bool {
+    seen.blocks.items().len() == looks
+        && plan.writes.items().is_empty()
+        && matches!(plan.reply, Reply::Refused(r) if r == why)
+}
+
+/// Whether a STAT with another sequence looks at one block and is refused.
+fn stat_is_refused(alloc: Global) -> Result<bool, Fail> {
+    let ended = run(alloc, Cmd::Stat { file: fid(4, 5) })?;
+    Ok(matches!(&ended, Some((seen, plan)) if is_refused(seen, plan, 1, Refusal::NoSuchFile)))
 }
 
 #[test]
 fn a_refusal_goes_through_the_set(rt: HostRuntime) -> Result<(), Fail> {
-    let (seen, plan) = run(rt.alloc(), Cmd::Stat { file: fid(4, 5) })?;
-    assert_eq!(&rt; seen.blocks.items().len(), 1);
-    assert!(&rt; plan.writes.items().is_empty());
-    assert!(&rt; matches!(plan.reply, Reply::Refused(Refusal::NoSuchFile)));
+    let refused = stat_is_refused(rt.alloc())?;
+    assert!(&rt; refused);
     Ok(())
 }
 
-// The owner has no quota row, which shows once the quota file's four blocks are seen, behind the directory's header and its four.
-#[test]
+/// A creation that is refused for want of a quota row, under the locks of the main directory and of the quota, and writes nothing.
+fn has_no_quota(seen: &Seen, plan: &Plan) -> bool {
+    let locks = [(LockName::S(4), Mode::PW), (LockName::Q, Mode::PW)];
+    seen.locks.items() == locks.as_slice() && is_refused(seen, plan, 9, Refusal::NoQuota)
+}
+
+/// Whether a CREATE of A.TXT in the main directory is in form, and refused for want of a quota row.
 #[tactic(auto, unfolding(plain_cat::specs::InForm::in_form))]
-fn a_creation_goes_through_the_set(rt: HostRuntime) -> Result<(), Fail> {
-    let mut name = Name::new(rt.alloc());
-    for byte in b"A.TXT" {
-        name.push(*byte)?;
-    }
+fn creation_is_refused(alloc: Global) -> Result<bool, Fail> {
     let cmd = Cmd::Create {
         reg: 1,
         dir: fid(4, 4),
-        name,
+        name: name(alloc, b"A.TXT")?,
         ver: 0,
         blocks: 10,
         owner: Uic(131_074),
     };
     if !is_in_form(&cmd) {
-        return Err(Fail::from("the command is in form"));
+        return Ok(false);
     }
-    let (seen, plan) = run(rt.alloc(), cmd)?;
-    let locks = [(LockName::S(4), Mode::PW), (LockName::Q, Mode::PW)];
-    assert!(&rt; seen.locks.items() == locks.as_slice());
-    assert_eq!(&rt; seen.blocks.items().len(), 9);
-    assert!(&rt; plan.writes.items().is_empty());
-    assert!(&rt; matches!(plan.reply, Reply::Refused(Refusal::NoQuota)));
+    let ended = run(alloc, cmd)?;
+    Ok(matches!(&ended, Some((seen, plan)) if has_no_quota(seen, plan)))
+}
+
+// The owner has no quota row, which shows once the quota file's four blocks are seen, behind the directory's header and its four.
+#[test]
+fn a_creation_goes_through_the_set(rt: HostRuntime) -> Result<(), Fail> {
+    let refused = creation_is_refused(rt.alloc())?;
+    assert!(&rt; refused);
     Ok(())
+}
+
+/// Whether a command is the STAT of (10,1).
+fn is_stat(cmd: &Cmd) -> bool {
+    matches!(cmd, Cmd::Stat { file } if file.num == 10 && file.seq == 1)
 }
 
 #[test]
 fn an_operation_tells_its_command(rt: HostRuntime) -> Result<(), Fail> {
     let op = XqpOp::of(Cmd::Stat { file: fid(10, 1) });
-    assert!(&rt; matches!(op.cmd(), Cmd::Stat { file } if file.num == 10 && file.seq == 1));
+    let told = is_stat(op.cmd());
     let cmd = op.into_cmd();
-    assert!(&rt; matches!(&cmd, Cmd::Stat { file } if file.num == 10 && file.seq == 1));
+    let kept = is_stat(&cmd);
+    assert!(&rt; told);
+    assert!(&rt; kept);
     Ok(())
 }
