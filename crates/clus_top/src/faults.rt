@@ -1,7 +1,7 @@
 //! Creations of which a write of the image fails: what is found on the image behind it.
 
-use crate::making::{long, made};
-use crate::tests::{call, volume};
+use crate::making::{Written, long};
+use crate::tests::{Called, Exchange, answered, call, volume};
 use crate::tree::blocks_of;
 use blk_drive::{Fail as Failing, MemImage};
 use plain_cat::NoMemory;
@@ -38,6 +38,26 @@ fn failing(alloc: Global, image: &MemImage, stop: Stop) -> Result<MemImage, NoMe
     Ok(MemImage::new(blocks, vec![in alloc; fail]?))
 }
 
+// What is found behind a failed write has to be what its row says.
+fn check_found(rt: &impl Abort, found: &Called, stop: Stop) {
+    let text = str::from_utf8(found.out.bytes()).unwrap_or("no text");
+    assert_eq!(rt; text, stop.found, "write {}", stop.write);
+}
+
+// One write of a script fails, and this is the report.
+fn stops_at(
+    rt: &impl Abort,
+    alloc: Global,
+    image: &MemImage,
+    wanted: Exchange<'_>,
+    stop: Stop,
+) -> Result<(), NoMemory> {
+    let image = answered(rt, alloc, failing(alloc, image, stop)?, wanted)?;
+    let found = call(alloc, &["analyze"], image, "")?;
+    check_found(rt, &found, stop);
+    Ok(())
+}
+
 // Each write of a script fails, as a row says. What is told are the lines of the answers before it, and the fault.
 fn stops_behind(
     rt: &impl Abort,
@@ -48,13 +68,9 @@ fn stops_behind(
     rows: &[Stop],
 ) -> Result<(), NoMemory> {
     let report = format!(in alloc; "{lines}image fault\n")?;
-    for row in rows {
-        let called = call(alloc, &["run"], failing(alloc, image, *row)?, script)?;
-        let text = str::from_utf8(called.out.bytes()).unwrap_or("no text");
-        assert_eq!(rt; (called.code, text), (4, report.as_str()));
-        let found = call(alloc, &["analyze"], called.image, "")?;
-        let text = str::from_utf8(found.out.bytes()).unwrap_or("no text");
-        assert_eq!(rt; text, row.found, "write {}", row.write);
+    let wanted = Exchange::run(script, 4, report.as_str());
+    for stop in rows {
+        stops_at(rt, alloc, image, wanted, *stop)?;
     }
     Ok(())
 }
@@ -132,20 +148,16 @@ fn a_directory_is_made_in_stages(rt: HostRuntime) -> Result<(), Fail> {
 
 // A directory of eleven files with long names, 13 to 23, in blocks of five, five and one.
 fn eleven(rt: &impl Abort, alloc: Global) -> Result<MemImage, NoMemory> {
-    let mut script = String::from_str(alloc, "NODES 1\n1 MKDIR R1 MFD D [1,4]\n")?;
-    let mut report = String::from_str(alloc, "1 N1 MKDIR R1 (4,4,0) D [1,4] = (12,1,0) D.DIR;1\n")?;
-    for k in 1..12u32 {
-        let name = long(alloc, k)?;
-        script.push_str(format!(in alloc; "1 CREATE R2 R1 {name};0 0 [1,4]\n")?.as_str())?;
-        report.push_str(format!(in alloc;
-            "{} N1 CREATE R2 (12,1,0) {name};0 0 [1,4] = ({},1,0) {name};1\n",
-            1 + k,
-            12 + k
-        )?
-        .as_str())?;
-    }
-    report.push_str("end: 12 answered, 0 died, 230 free\n")?;
-    made(rt, alloc, volume(alloc)?, script.as_str(), report.as_str())
+    let mut text = Written::new(alloc, "NODES 1\n")?;
+    text.push_directory(alloc, 11)?;
+    text.close(alloc, 230)?;
+    text.made(rt, alloc, volume(alloc)?)
+}
+
+// A script that makes a file whose name comes before theirs.
+fn before_them(alloc: Global) -> Result<String, NoMemory> {
+    let name = long(alloc, 0)?;
+    format!(in alloc; "NODES 1\n1 CREATE R1 (12,1,0) {name};0 0 [1,4]\n")
 }
 
 // A new first entry moves one out of each block: the writes are index bitmap, quota row, header, and the blocks of the directory,
@@ -154,8 +166,7 @@ fn eleven(rt: &impl Abort, alloc: Global) -> Result<MemImage, NoMemory> {
 fn an_entry_comes_last_block_first(rt: HostRuntime) -> Result<(), Fail> {
     let alloc = rt.alloc();
     let image = eleven(&rt, alloc)?;
-    let name = long(alloc, 0)?;
-    let script = format!(in alloc; "NODES 1\n1 CREATE R1 (12,1,0) {name};0 0 [1,4]\n")?;
+    let script = before_them(alloc)?;
     let rows = [
         stopped_at(4, false, "lost 24\n"),
         stopped_at(4, true, "doubles in 12\nlost 24\n"),

@@ -1,6 +1,6 @@
 //! Files and directories are made: each report, and the image after it.
 
-use crate::tests::{call, volume, with_byte, zeros};
+use crate::tests::{Exchange, answered, call, volume, with_byte, zeros};
 use crate::tree::tree_at;
 use blk_drive::MemImage;
 use plain_cat::NoMemory;
@@ -17,13 +17,8 @@ pub fn made(
     script: &str,
     report: &str,
 ) -> Result<MemImage, NoMemory> {
-    let called = call(alloc, &["run"], image, script)?;
-    let text = str::from_utf8(called.out.bytes()).unwrap_or("no text");
-    assert_eq!(rt; (called.code, text), (0, report), "{script}");
-    let found = call(alloc, &["analyze"], called.image, "")?;
-    let text = str::from_utf8(found.out.bytes()).unwrap_or("no text");
-    assert_eq!(rt; (found.code, text), (0, "accepted\n"), "{script}");
-    Ok(found.image)
+    let image = answered(rt, alloc, image, Exchange::run(script, 0, report))?;
+    answered(rt, alloc, image, Exchange::analysis(0, "accepted\n"))
 }
 
 /// The same of each row, a script and its report, on a fresh volume.
@@ -53,13 +48,48 @@ fn has(blocks: &[Block], lbn: usize, at: usize, bytes: &[u8]) -> bool {
     }
 }
 
+/// Bytes that the block of an LBN has at an offset.
+#[derive(Clone, Copy)]
+struct Part<'a> {
+    lbn: usize,
+    at: usize,
+    bytes: &'a [u8],
+}
+
+const fn bytes_at<'a>(lbn: usize, at: usize, bytes: &'a [u8]) -> Part<'a> {
+    Part { lbn, at, bytes }
+}
+
+// The image has to have each of these parts.
+fn check_parts(rt: &impl Abort, image: &MemImage, parts: &[Part<'_>]) {
+    for part in parts {
+        let Part { lbn, at, bytes } = *part;
+        assert!(rt; has(image.all(), lbn, at, bytes), "block {lbn} at {at}");
+    }
+}
+
+// The image and a fresh volume have to differ in these blocks.
+fn check_changed(
+    rt: &impl Abort,
+    alloc: Global,
+    image: &MemImage,
+    wanted: &[usize],
+) -> Result<(), NoMemory> {
+    let before = volume(alloc)?;
+    let lbns = changed(alloc, &before, image)?;
+    check_lbns(rt, lbns.as_slice(), wanted);
+    Ok(())
+}
+
+fn check_lbns(rt: &impl Abort, lbns: &[usize], wanted: &[usize]) {
+    assert_eq!(rt; lbns, wanted);
+}
+
 #[test]
 fn eight_nodes_without_a_command(rt: HostRuntime) -> Result<(), Fail> {
-    let alloc = rt.alloc();
-    let before = volume(alloc)?;
     let report = "end: 0 answered, 0 died, 231 free\n";
-    let after = made(&rt, alloc, volume(alloc)?, "NODES 8\n", report)?;
-    assert!(rt; changed(alloc, &before, &after)?.is_empty());
+    let after = made(&rt, rt.alloc(), volume(rt.alloc())?, "NODES 8\n", report)?;
+    check_changed(&rt, rt.alloc(), &after, &[])?;
     Ok(())
 }
 
@@ -72,38 +102,41 @@ fn a_file_stands_on_the_image(rt: HostRuntime) -> Result<(), Fail> {
     let report = "1 N1 CREATE R1 (4,4,0) A.TXT;0 10 [1,4] = (12,1,0) A.TXT;1\n\
         2 N1 STAT (12,1,0) = file [1,4] 12 blocks mark 1 end 1,0\n\
         end: 2 answered, 0 died, 228 free\n";
-    let before = volume(alloc)?;
-    let after = made(&rt, alloc, volume(alloc)?, script, report)?;
-    let lbns = changed(alloc, &before, &after)?;
-    assert_eq!(rt; lbns.as_slice(), [16, 28, 85, 88, 96].as_slice());
-    let b = after.all();
-    assert!(rt; has(b, 16, 1, b"\x0f\0"));
-    assert!(rt; has(b, 28, 8, b"\x0c\0\x01\0\0\0"));
-    assert!(rt; has(b, 28, 24, b"\0\0\x0c\0\0\0\x01\0\0\0"));
-    assert!(rt; has(b, 28, 60, b"\x04\0\x01\0\0\0\x04\0\x04\0\0\0"));
-    assert!(rt; has(b, 28, 76, b"\x01\0\0\0A.TXT;1 "));
-    assert!(rt; has(b, 28, 200, b"\x0b\x40\x64\0\0\0"));
-    assert!(rt; has(b, 85, 3, b"\xf0\xff"));
-    assert!(rt;
-        has(
-            b,
+    let parts = [
+        bytes_at(16, 1, b"\x0f\0"),
+        bytes_at(28, 8, b"\x0c\0\x01\0\0\0"),
+        bytes_at(28, 24, b"\0\0\x0c\0\0\0\x01\0\0\0"),
+        bytes_at(28, 60, b"\x04\0\x01\0\0\0\x04\0\x04\0\0\0"),
+        bytes_at(28, 76, b"\x01\0\0\0A.TXT;1 "),
+        bytes_at(28, 200, b"\x0b\x40\x64\0\0\0"),
+        bytes_at(85, 3, b"\xf0\xff"),
+        bytes_at(
             88,
             24,
-            b"\x12\0\xff\x7f\0\x05A.TXT\0\x01\0\x0c\0\x01\0\0\0\x16\0\xff\x7f\0\x0aBACKUP.SYS"
-        )
-    );
-    assert!(rt;
-        has(
-            b,
+            b"\x12\0\xff\x7f\0\x05A.TXT\0\x01\0\x0c\0\x01\0\0\0\x16\0\xff\x7f\0\x0aBACKUP.SYS",
+        ),
+        bytes_at(
             96,
             32,
-            b"\x01\0\0\0\x04\0\x01\0\x0d\0\0\0\x40\x04\0\0\0\0\0\0"
-        )
-    );
+            b"\x01\0\0\0\x04\0\x01\0\x0d\0\0\0\x40\x04\0\0\0\0\0\0",
+        ),
+    ];
+    let after = made(&rt, alloc, volume(alloc)?, script, report)?;
+    check_changed(&rt, alloc, &after, &[16, 28, 85, 88, 96])?;
+    check_parts(&rt, &after, &parts);
     Ok(())
 }
 
 const LONGEST: &str = "A123456789B123456789C123456789D12345678";
+
+// The first 20 bytes of the longest name, and zeros behind them.
+fn begun() -> [u8; 54] {
+    let mut text = [0; 54];
+    for (place, byte) in text.iter_mut().zip(LONGEST.as_bytes().iter().take(20)) {
+        *place = *byte;
+    }
+    text
+}
 
 // A directory of the longest name, one in it, and files in that.
 #[test]
@@ -141,12 +174,12 @@ fn directories_in_directories(rt: HostRuntime) -> Result<(), Fail> {
         14 N1 MKDIR R6 (12,1,0) F [1,4] = refused DupFile\n\
         end: 14 answered, 0 died, 226 free\n";
     let after = made(&rt, alloc, volume(alloc)?, script, report)?;
-    let mut text = [0; 54];
-    for (place, byte) in text.iter_mut().zip(LONGEST.as_bytes().iter().take(20)) {
-        *place = *byte;
-    }
-    assert!(rt; has(after.all(), 28, 80, &text));
-    assert!(rt; has(after.all(), 28, 134, b"C123456789D12345678.DIR;1  "));
+    let text = begun();
+    let parts = [
+        bytes_at(28, 80, &text),
+        bytes_at(28, 134, b"C123456789D12345678.DIR;1  "),
+    ];
+    check_parts(&rt, &after, &parts);
     Ok(())
 }
 
@@ -180,21 +213,29 @@ fn versions_and_refusals(rt: HostRuntime) -> Result<(), Fail> {
     Ok(())
 }
 
+// The fresh volume with sequence 7 in the free slot of number 12.
+fn with_sequence(alloc: Global) -> Result<MemImage, NoMemory> {
+    with_byte(volume(alloc)?, 28, 10, 7)
+}
+
+// The same with the last sequence that there is.
+fn with_last_sequence(alloc: Global) -> Result<MemImage, NoMemory> {
+    with_byte(with_byte(volume(alloc)?, 28, 10, 255)?, 28, 11, 255)
+}
+
 // The sequence of a slot that was in use before, as it stands in the free slot of number 12.
 #[test]
 fn a_number_has_the_next_sequence(rt: HostRuntime) -> Result<(), Fail> {
     let alloc = rt.alloc();
     let script = "NODES 1\n1 CREATE R1 LOST A.TXT;0 0 [1,4]\n1 STAT R1\n";
-    let image = with_byte(volume(alloc)?, 28, 10, 7)?;
     let report = "1 N1 CREATE R1 (11,1,0) A.TXT;0 0 [1,4] = (12,8,0) A.TXT;1\n\
         2 N1 STAT (12,8,0) = file [1,4] 0 blocks mark 1 end 1,0\n\
         end: 2 answered, 0 died, 231 free\n";
-    made(&rt, alloc, image, script, report)?;
-    let image = with_byte(with_byte(volume(alloc)?, 28, 10, 255)?, 28, 11, 255)?;
+    made(&rt, alloc, with_sequence(alloc)?, script, report)?;
     let report = "1 N1 CREATE R1 (11,1,0) A.TXT;0 0 [1,4] = (12,1,0) A.TXT;1\n\
         2 N1 STAT (12,1,0) = file [1,4] 0 blocks mark 1 end 1,0\n\
         end: 2 answered, 0 died, 231 free\n";
-    made(&rt, alloc, image, script, report)?;
+    made(&rt, alloc, with_last_sequence(alloc)?, script, report)?;
     Ok(())
 }
 
@@ -260,14 +301,8 @@ fn another_owner_has_quota(rt: HostRuntime) -> Result<(), Fail> {
         6 N2 CREATE R4 (14,1,0) C.TXT;0 0 [2,2] = refused ExQuota\n\
         end: 6 answered, 0 died, 227 free\n";
     let after = made(&rt, alloc, with_quotas(alloc)?, script, report)?;
-    assert!(rt;
-        has(
-            after.all(),
-            97,
-            0,
-            b"\x01\0\0\0\x02\0\x02\0\x05\0\0\0\x05\0"
-        )
-    );
+    let row = b"\x01\0\0\0\x02\0\x02\0\x05\0\0\0\x05\0";
+    check_parts(&rt, &after, &[bytes_at(97, 0, row)]);
     Ok(())
 }
 
@@ -299,17 +334,30 @@ fn a_full_device(rt: HostRuntime) -> Result<(), Fail> {
     Ok(())
 }
 
-// A script and its report, which are written line by line.
+// Writes these pieces behind a text.
+fn push_all(text: &mut String, pieces: &[&str]) -> Result<(), NoMemory> {
+    for piece in pieces {
+        text.push_str(piece)?;
+    }
+    Ok(())
+}
+
+// Writes a number behind a text.
+fn push_number(text: &mut String, alloc: Global, number: u32) -> Result<(), NoMemory> {
+    text.push_str(format!(in alloc; "{number}")?.as_str())
+}
+
+/// A script and its report, which are written line by line.
 #[derive(Drop)]
-struct Written {
+pub struct Written {
     script: String,
     report: String,
     lines: u32,
 }
 
 impl Written {
-    // A script of so many nodes.
-    fn new(alloc: Global, nodes: &str) -> Result<Written, NoMemory> {
+    /// A script of so many nodes.
+    pub fn new(alloc: Global, nodes: &str) -> Result<Written, NoMemory> {
         Ok(Written {
             script: String::from_str(alloc, nodes)?,
             report: String::new(alloc),
@@ -329,17 +377,58 @@ impl Written {
     ) -> Result<(), NoMemory> {
         let (dir, fid) = dirs;
         self.lines = self.lines.saturating_add(1);
-        let line = self.lines;
-        self.script
-            .push_str(format!(in alloc; "1 {command} {dir} {rest}\n")?.as_str())?;
-        self.report.push_str(format!(in alloc;
-            "{line} N1 {command} {fid} {rest} = {reply}\n"
-        )?.as_str())?;
+        push_all(
+            &mut self.script,
+            &["1 ", command, " ", dir, " ", rest, "\n"],
+        )?;
+        push_number(&mut self.report, alloc, self.lines)?;
+        push_all(
+            &mut self.report,
+            &[" N1 ", command, " ", fid, " ", rest, " = ", reply, "\n"],
+        )
+    }
+
+    // One more creation of A.B, which makes the file of this number and version.
+    fn push_version(
+        &mut self,
+        alloc: Global,
+        dirs: (&str, &str),
+        rest: &str,
+        num: u32,
+        ver: u32,
+    ) -> Result<(), NoMemory> {
+        let reply = format!(in alloc; "({num},1,0) A.B;{ver}")?;
+        self.push(alloc, "CREATE R2", dirs, rest, reply.as_str())
+    }
+
+    // One more creation of the file with the long name of this number, and the reply.
+    fn push_long(&mut self, alloc: Global, k: u32, reply: &str) -> Result<(), NoMemory> {
+        let rest = long_rest(alloc, k)?;
+        self.push(alloc, "CREATE R2", IN_R1, rest.as_str(), reply)
+    }
+
+    /// A directory, and so many files with long names in it.
+    pub fn push_directory(&mut self, alloc: Global, count: u32) -> Result<(), NoMemory> {
+        self.push(alloc, "MKDIR R1", MFD, "D [1,4]", "(12,1,0) D.DIR;1")?;
+        for k in 1..count.saturating_add(1) {
+            let reply = long_reply(alloc, k)?;
+            self.push_long(alloc, k, reply.as_str())?;
+        }
         Ok(())
     }
 
-    // Its last line.
-    fn close(&mut self, alloc: Global, free: u32) -> Result<(), NoMemory> {
+    /// The image that the script leaves, which has the report.
+    pub fn made(
+        &self,
+        rt: &impl Abort,
+        alloc: Global,
+        image: MemImage,
+    ) -> Result<MemImage, NoMemory> {
+        made(rt, alloc, image, self.script.as_str(), self.report.as_str())
+    }
+
+    /// Its last line.
+    pub fn close(&mut self, alloc: Global, free: u32) -> Result<(), NoMemory> {
         let lines = self.lines;
         self.report.push_str(format!(in alloc;
             "end: {lines} answered, 0 died, {free} free\n"
@@ -351,15 +440,24 @@ const MFD: (&str, &str) = ("MFD", "(4,4,0)");
 
 const IN_R1: (&str, &str) = ("R1", "(12,1,0)");
 
-// The first file takes all clusters, and what is wanted then is a number first.
-#[test]
-fn a_full_index(rt: HostRuntime) -> Result<(), Fail> {
-    let alloc = rt.alloc();
-    let mut text = Written::new(alloc, "NODES 1\n")?;
+// The operands of a creation of the file with the long name of number k, behind its directory.
+fn long_rest(alloc: Global, k: u32) -> Result<String, NoMemory> {
+    let name = long(alloc, k)?;
+    format!(in alloc; "{name};0 0 [1,4]")
+}
+
+// The reply to it, where number 12 is the directory.
+fn long_reply(alloc: Global, k: u32) -> Result<String, NoMemory> {
+    let name = long(alloc, k)?;
+    let num = k.saturating_add(12);
+    format!(in alloc; "({num},1,0) {name};1")
+}
+
+// The first file takes all clusters, and 21 numbers are in use then.
+fn push_full_index(text: &mut Written, alloc: Global) -> Result<(), NoMemory> {
     text.push(alloc, "CREATE R2", MFD, "A.B;0 22 [1,4]", "(12,1,0) A.B;1")?;
     for ver in 2..22u32 {
-        let reply = format!(in alloc; "({},1,0) A.B;{ver}", 11 + ver)?;
-        text.push(alloc, "CREATE R2", MFD, "A.B;0 0 [1,4]", reply.as_str())?;
+        text.push_version(alloc, MFD, "A.B;0 0 [1,4]", 11 + ver, ver)?;
     }
     text.push(
         alloc,
@@ -369,41 +467,32 @@ fn a_full_index(rt: HostRuntime) -> Result<(), Fail> {
         "refused IndexFull",
     )?;
     text.push(alloc, "MKDIR R2", MFD, "D [1,1]", "refused IndexFull")?;
-    text.close(alloc, 0)?;
-    made(
-        &rt,
-        alloc,
-        tiny(alloc)?,
-        text.script.as_str(),
-        text.report.as_str(),
-    )?;
+    text.close(alloc, 0)
+}
+
+// The first file takes all clusters, and what is wanted then is a number first.
+#[test]
+fn a_full_index(rt: HostRuntime) -> Result<(), Fail> {
+    let mut text = Written::new(rt.alloc(), "NODES 1\n")?;
+    push_full_index(&mut text, rt.alloc())?;
+    text.made(&rt, rt.alloc(), tiny(rt.alloc())?)?;
     Ok(())
+}
+
+// The directory takes 20 of the long names, and a short one behind them.
+fn push_full_directory(text: &mut Written, alloc: Global) -> Result<(), NoMemory> {
+    text.push_directory(alloc, 20)?;
+    text.push_long(alloc, 21, "refused DirFull")?;
+    text.push(alloc, "CREATE R2", IN_R1, "A.B;0 0 [1,4]", "(33,1,0) A.B;1")?;
+    text.close(alloc, 230)
 }
 
 // Five entries of the long names fill a block but for 40 bytes, and the directory has four.
 #[test]
 fn a_full_directory(rt: HostRuntime) -> Result<(), Fail> {
-    let alloc = rt.alloc();
-    let mut text = Written::new(alloc, "NODES 1\n")?;
-    text.push(alloc, "MKDIR R1", MFD, "D [1,4]", "(12,1,0) D.DIR;1")?;
-    for k in 1..22u32 {
-        let name = long(alloc, k)?;
-        let rest = format!(in alloc; "{name};0 0 [1,4]")?;
-        let reply = match k {
-            21 => String::from_str(alloc, "refused DirFull")?,
-            _ => format!(in alloc; "({},1,0) {name};1", 12 + k)?,
-        };
-        text.push(alloc, "CREATE R2", IN_R1, rest.as_str(), reply.as_str())?;
-    }
-    text.push(alloc, "CREATE R2", IN_R1, "A.B;0 0 [1,4]", "(33,1,0) A.B;1")?;
-    text.close(alloc, 230)?;
-    made(
-        &rt,
-        alloc,
-        volume(alloc)?,
-        text.script.as_str(),
-        text.report.as_str(),
-    )?;
+    let mut text = Written::new(rt.alloc(), "NODES 1\n")?;
+    push_full_directory(&mut text, rt.alloc())?;
+    text.made(&rt, rt.alloc(), volume(rt.alloc())?)?;
     Ok(())
 }
 
@@ -414,30 +503,34 @@ pub fn long(alloc: Global, k: u32) -> Result<String, NoMemory> {
     )
 }
 
+// The volume of 8,192 clusters of one block.
+fn wide(alloc: Global) -> Result<MemImage, NoMemory> {
+    let words = ["init", "1", "128", "WIDE"];
+    Ok(call(alloc, &words, zeros(alloc, 8192)?, "")?.image)
+}
+
+// A directory, and 52 files of 77 blocks in it.
+fn push_many_blocks(text: &mut Written, alloc: Global) -> Result<(), NoMemory> {
+    text.push(alloc, "MKDIR R1", MFD, "D [1,4]", "(12,1,0) D.DIR;1")?;
+    for ver in 1..53u32 {
+        text.push_version(alloc, IN_R1, "A.B;0 77 [1,4]", 12 + ver, ver)?;
+    }
+    text.close(alloc, 4048)
+}
+
 // A volume of 8,192 clusters, whose storage bitmap is LBN 134 and 135. The first free cluster is 139, which the directory takes;
 // file 52 of those in it, of number 64, has clusters 4,067 to 4,143, and they are one run.
 #[test]
 fn a_file_over_two_blocks_of_the_bitmap(rt: HostRuntime) -> Result<(), Fail> {
-    let alloc = rt.alloc();
-    let words = ["init", "1", "128", "WIDE"];
-    let image = call(alloc, &words, zeros(alloc, 8192)?, "")?.image;
-    let mut text = Written::new(alloc, "NODES 1\n")?;
-    text.push(alloc, "MKDIR R1", MFD, "D [1,4]", "(12,1,0) D.DIR;1")?;
-    for ver in 1..53u32 {
-        let reply = format!(in alloc; "({},1,0) A.B;{ver}", 12 + ver)?;
-        text.push(alloc, "CREATE R2", IN_R1, "A.B;0 77 [1,4]", reply.as_str())?;
-    }
-    text.close(alloc, 4048)?;
-    let after = made(
-        &rt,
-        alloc,
-        image,
-        text.script.as_str(),
-        text.report.as_str(),
-    )?;
-    assert!(rt; has(after.all(), 68, 200, b"\x4c\x40\xe3\x0f\0\0"));
-    assert!(rt; has(after.all(), 134, 0, &[0; 512]));
-    assert!(rt; has(after.all(), 135, 0, b"\0\0\0\0\0\0\xff\xff"));
+    let mut text = Written::new(rt.alloc(), "NODES 1\n")?;
+    push_many_blocks(&mut text, rt.alloc())?;
+    let after = text.made(&rt, rt.alloc(), wide(rt.alloc())?)?;
+    let parts = [
+        bytes_at(68, 200, b"\x4c\x40\xe3\x0f\0\0"),
+        bytes_at(134, 0, &[0; 512]),
+        bytes_at(135, 0, b"\0\0\0\0\0\0\xff\xff"),
+    ];
+    check_parts(&rt, &after, &parts);
     Ok(())
 }
 
@@ -463,32 +556,21 @@ fn scattered_clusters_and_entries(rt: HostRuntime) -> Result<(), Fail> {
         2 N1 CREATE R1 (12,1,0) A.TXT;0 0 [1,4] = (17,1,0) A.TXT;3\n\
         3 N1 LIST (12,1,0) = 5 entries A.TXT;3 (17,1,0) A.TXT;2 (13,1,0) A.TXT;1 (14,1,0) B.DAT;1 (15,2,0) C.TXT;1 (16,1,0)\n\
         end: 3 answered, 0 died, 226 free\n";
-    let after = made(&rt, alloc, scattered(alloc)?, script, report)?;
-    let b = after.all();
-    assert!(rt; has(b, 32, 200, b"\x03\x40\x68\0\x07\x40\x70\0\0\0"));
-    assert!(rt;
-        has(
-            b,
+    let parts = [
+        bytes_at(32, 200, b"\x03\x40\x68\0\x07\x40\x70\0\0\0"),
+        bytes_at(
             100,
             0,
-            b"\x22\0\x05\0\x01\x05A.TXT\0\x03\0\x11\0\x01\0\0\0\x02\0\x0d\0\x01\0\0\0\x01\0\x0e\0\x01\0\0\0"
-        )
-    );
-    assert!(rt;
-        has(
-            b,
+            b"\x22\0\x05\0\x01\x05A.TXT\0\x03\0\x11\0\x01\0\0\0\x02\0\x0d\0\x01\0\0\0\x01\0\x0e\0\x01\0\0\0",
+        ),
+        bytes_at(
             100,
             36,
-            b"\x12\0\xff\x7f\0\x05B.DAT\0\x01\0\x0f\0\x02\0\0\0\x12\0\xff\x7f\0\x05C.TXT\0\x01\0\x10\0\x01\0\0\0\xff\xff\0"
-        )
-    );
-    assert!(rt;
-        has(
-            b,
-            101,
-            0,
-            b"\xff\xff\0\0\0\0\0\0\0\0\0\0\0\0\0\0\0\0\0\0\0\0"
-        )
-    );
+            b"\x12\0\xff\x7f\0\x05B.DAT\0\x01\0\x0f\0\x02\0\0\0\x12\0\xff\x7f\0\x05C.TXT\0\x01\0\x10\0\x01\0\0\0\xff\xff\0",
+        ),
+        bytes_at(101, 0, b"\xff\xff\0\0\0\0\0\0\0\0\0\0\0\0\0\0\0\0\0\0\0\0"),
+    ];
+    let after = made(&rt, alloc, scattered(alloc)?, script, report)?;
+    check_parts(&rt, &after, &parts);
     Ok(())
 }

@@ -170,29 +170,51 @@ const fn in_turns<'a>(line: &'a str, entry: &'a str, free: u32, turns: u32) -> T
     }
 }
 
-// With these turns of node 1, and then four of node 2, which are those of its command, node 1 is answered first, and with one
-// turn less second.
-fn takes(rt: &impl Abort, alloc: Global, row: Timed<'_>) -> Result<(), NoMemory> {
-    let Timed {
-        line,
-        entry,
-        free,
-        ..
-    } = row;
-    let facts = "STAT (11,1,0) = directory [1,1] 4 blocks mark 0 end 5,0";
-    let plays = row.turns;
-    let script = format!(in alloc; "NODES 2\nSCHED 1*{plays} 2*4\n1 {line}\n2 STAT LOST\n")?;
-    let report = format!(in alloc;
-        "1 N1 {entry}\n2 N2 {facts}\nend: 2 answered, 0 died, {free} free\n"
-    )?;
-    made(rt, alloc, volume(alloc)?, script.as_str(), report.as_str())?;
-    let plays = row.turns.saturating_sub(1);
-    let script = format!(in alloc; "NODES 2\nSCHED 1*{plays} 2*4\n1 {line}\n2 STAT LOST\n")?;
-    let report = format!(in alloc;
-        "1 N2 {facts}\n2 N1 {entry}\nend: 2 answered, 0 died, {free} free\n"
-    )?;
-    made(rt, alloc, volume(alloc)?, script.as_str(), report.as_str())?;
+// The script in which node 1 has so many turns for this line, and then node 2 four, which are those of its command.
+fn script_in_turns(alloc: Global, line: &str, turns: u32) -> Result<String, NoMemory> {
+    format!(in alloc; "NODES 2\nSCHED 1*{turns} 2*4\n1 {line}\n2 STAT LOST\n")
+}
+
+const FACTS: &str = "STAT (11,1,0) = directory [1,1] 4 blocks mark 0 end 5,0";
+
+// The report where node 1 is answered first.
+fn first_report(alloc: Global, row: Timed<'_>) -> Result<String, NoMemory> {
+    let Timed { entry, free, .. } = row;
+    let facts = FACTS;
+    format!(in alloc; "1 N1 {entry}\n2 N2 {facts}\nend: 2 answered, 0 died, {free} free\n")
+}
+
+// The report where it is answered second.
+fn second_report(alloc: Global, row: Timed<'_>) -> Result<String, NoMemory> {
+    let Timed { entry, free, .. } = row;
+    let facts = FACTS;
+    format!(in alloc; "1 N2 {facts}\n2 N1 {entry}\nend: 2 answered, 0 died, {free} free\n")
+}
+
+// With so many turns the line has this report.
+fn reported(
+    rt: &impl Abort,
+    alloc: Global,
+    line: &str,
+    turns: u32,
+    report: &str,
+) -> Result<(), NoMemory> {
+    let script = script_in_turns(alloc, line, turns)?;
+    made(rt, alloc, volume(alloc)?, script.as_str(), report)?;
     Ok(())
+}
+
+// With these turns of node 1 it is answered first.
+fn is_first(rt: &impl Abort, alloc: Global, row: Timed<'_>) -> Result<(), NoMemory> {
+    let report = first_report(alloc, row)?;
+    reported(rt, alloc, row.line, row.turns, report.as_str())
+}
+
+// With one turn less it is answered second.
+fn is_second(rt: &impl Abort, alloc: Global, row: Timed<'_>) -> Result<(), NoMemory> {
+    let report = second_report(alloc, row)?;
+    let turns = row.turns.saturating_sub(1);
+    reported(rt, alloc, row.line, turns, report.as_str())
 }
 
 // The directory's lock, its header and its four blocks are six turns; the quota file's lock and its four blocks five; the lock of
@@ -245,7 +267,8 @@ fn a_creation_takes_turns(rt: HostRuntime) -> Result<(), Fail> {
         ),
     ];
     for row in rows {
-        takes(&rt, rt.alloc(), row)?;
+        is_first(&rt, rt.alloc(), row)?;
+        is_second(&rt, rt.alloc(), row)?;
     }
     Ok(())
 }

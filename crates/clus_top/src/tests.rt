@@ -4,6 +4,7 @@ use blk_drive::{Fail as Failing, ImageDev, MemImage};
 use fx_text::{MemIn, MemOut, Word};
 use plain_cat::NoMemory;
 use std::alloc::{AllocError, Global};
+use std::process::Abort;
 use std::test::Fail;
 
 /// What a call answered.
@@ -54,6 +55,60 @@ pub fn call(
     call_with(alloc, words, image, script, NONE)
 }
 
+/// The words and the script of a call, and its answer.
+#[derive(Clone, Copy)]
+pub struct Exchange<'a> {
+    pub words: &'a [&'a str],
+    pub script: &'a str,
+    pub code: u8,
+    pub text: &'a str,
+}
+
+const RUN: &[&str] = &["run"];
+
+const ANALYZE: &[&str] = &["analyze"];
+
+impl<'a> Exchange<'a> {
+    /// A run of a script.
+    pub fn run(script: &'a str, code: u8, text: &'a str) -> Exchange<'a> {
+        Exchange {
+            words: RUN,
+            script,
+            code,
+            text,
+        }
+    }
+
+    /// An analysis.
+    pub fn analysis(code: u8, text: &'a str) -> Exchange<'a> {
+        Exchange {
+            words: ANALYZE,
+            script: "",
+            code,
+            text,
+        }
+    }
+}
+
+// A call has to have this answer.
+fn check_answer(rt: &impl Abort, called: &Called, wanted: Exchange<'_>) {
+    let script = wanted.script;
+    let text = str::from_utf8(called.out.bytes()).unwrap_or("no text");
+    assert_eq!(rt; (called.code, text), (wanted.code, wanted.text), "{script}");
+}
+
+/// The image behind a call, which has this answer.
+pub fn answered(
+    rt: &impl Abort,
+    alloc: Global,
+    image: MemImage,
+    wanted: Exchange<'_>,
+) -> Result<MemImage, NoMemory> {
+    let called = call(alloc, wanted.words, image, wanted.script)?;
+    check_answer(rt, &called, wanted);
+    Ok(called.image)
+}
+
 // An image of so many zero blocks.
 pub fn zeros(alloc: Global, count: usize) -> Result<MemImage, NoMemory> {
     if count > 100_000 {
@@ -84,18 +139,21 @@ pub fn with_byte(image: MemImage, lbn: u32, at: usize, byte: u8) -> Result<MemIm
     Ok(image)
 }
 
-// The first script that is answered otherwise on a fresh volume.
-fn wrong_row(
+// Each script is answered so on a fresh volume.
+fn all_answered(
+    rt: &impl Abort,
     alloc: Global,
     rows: &[(&'static str, u8, &'static str)],
-) -> Result<Option<&'static str>, NoMemory> {
+) -> Result<(), NoMemory> {
     for (script, code, text) in rows {
-        let called = call(alloc, &["run"], volume(alloc)?, script)?;
-        if called.code != *code || called.out.bytes() != text.as_bytes() {
-            return Ok(Some(*script));
-        }
+        answered(
+            rt,
+            alloc,
+            volume(alloc)?,
+            Exchange::run(script, *code, text),
+        )?;
     }
-    Ok(None)
+    Ok(())
 }
 
 const MAKING: &str =
@@ -136,61 +194,68 @@ const LOOKING_BACK_REPORT: &str = "1 N1 LOOKUP R1 (4,4,0) NOTES.DIR;0 = (12,1,0)
     4 N1 STAT (13,1,0) = file [1,4] 4 blocks mark 1 end 1,0\n\
     end: 4 answered, 0 died, 225 free\n";
 
-// The scripts and reports of the folder examples/. The last script is run on the volume that the one before it leaves.
-#[test]
-fn examples(rt: HostRuntime) -> Result<(), Fail> {
-    let rows = [
-        (
-            "NODES 1\n1 LOOKUP R1 MFD INDEXF.SYS;1\n",
-            0,
-            "1 N1 LOOKUP R1 (4,4,0) INDEXF.SYS;1 = (1,1,0) INDEXF.SYS;1\nend: 1 answered, 0 died, 231 free\n",
-        ),
-        (
-            "NODES 1\n1 LOOKUP R1 MFD INDEXF.SYS;2\n",
-            0,
-            "1 N1 LOOKUP R1 (4,4,0) INDEXF.SYS;2 = refused NoSuchFile\nend: 1 answered, 0 died, 231 free\n",
-        ),
-        (
-            "# Two nodes look into the main directory.\nNODES 2\nSCHED 2 1*2 2\n\n2 LOOKUP R1 MFD INDEXF.SYS;1\n1 LOOKUP R1 MFD 000000.DIR;0\n1 LOOKUP R2 (4,4,0) INDEXF.SYS;0\n2 LOOKUP R8 MFD ABSENT.X;3\n",
-            0,
-            "1 N1 LOOKUP R1 (4,4,0) 000000.DIR;0 = (4,4,0) 000000.DIR;1\n2 N2 LOOKUP R1 (4,4,0) INDEXF.SYS;1 = (1,1,0) INDEXF.SYS;1\n3 N1 LOOKUP R2 (4,4,0) INDEXF.SYS;0 = (1,1,0) INDEXF.SYS;1\n4 N2 LOOKUP R8 (4,4,0) ABSENT.X;3 = refused NoSuchFile\nend: 4 answered, 0 died, 231 free\n",
-        ),
-        (
-            "# Two nodes look at files and directories by registers. Node 2 has the first turns.\nNODES 2\nSCHED 2*12\n1 LOOKUP R1 MFD SYSLOST.DIR;0\n1 LIST R1\n1 STAT R1\n2 STAT MFD\n2 LOOKUP R8 MFD QUOTA.SYS;1\n2 STAT R8\n",
-            0,
-            "1 N2 STAT (4,4,0) = directory [1,1] 4 blocks mark 0 end 5,0\n2 N2 LOOKUP R8 (4,4,0) QUOTA.SYS;1 = (10,1,0) QUOTA.SYS;1\n3 N2 STAT (10,1,0) = file [1,1] 4 blocks mark 0 end 5,0\n4 N1 LOOKUP R1 (4,4,0) SYSLOST.DIR;0 = (11,1,0) SYSLOST.DIR;1\n5 N1 LIST (11,1,0) = 0 entries\n6 N1 STAT (11,1,0) = directory [1,1] 4 blocks mark 0 end 5,0\nend: 6 answered, 0 died, 231 free\n",
-        ),
-    ];
-    assert_eq!(rt; wrong_row(rt.alloc(), &rows)?, None);
-    let alloc = rt.alloc();
-    let image = made(&rt, alloc, volume(alloc)?, MAKING, MAKING_REPORT)?;
-    made(&rt, alloc, image, LOOKING_BACK, LOOKING_BACK_REPORT)?;
+// The second script is run on the volume that the first one leaves.
+fn makes_and_looks_back(rt: &impl Abort, alloc: Global) -> Result<(), NoMemory> {
+    let image = made(rt, alloc, volume(alloc)?, MAKING, MAKING_REPORT)?;
+    made(rt, alloc, image, LOOKING_BACK, LOOKING_BACK_REPORT)?;
     Ok(())
 }
 
+const EXAMPLES: &[(&str, u8, &str)] = &[
+    (
+        "NODES 1\n1 LOOKUP R1 MFD INDEXF.SYS;1\n",
+        0,
+        "1 N1 LOOKUP R1 (4,4,0) INDEXF.SYS;1 = (1,1,0) INDEXF.SYS;1\nend: 1 answered, 0 died, 231 free\n",
+    ),
+    (
+        "NODES 1\n1 LOOKUP R1 MFD INDEXF.SYS;2\n",
+        0,
+        "1 N1 LOOKUP R1 (4,4,0) INDEXF.SYS;2 = refused NoSuchFile\nend: 1 answered, 0 died, 231 free\n",
+    ),
+    (
+        "# Two nodes look into the main directory.\nNODES 2\nSCHED 2 1*2 2\n\n2 LOOKUP R1 MFD INDEXF.SYS;1\n1 LOOKUP R1 MFD 000000.DIR;0\n1 LOOKUP R2 (4,4,0) INDEXF.SYS;0\n2 LOOKUP R8 MFD ABSENT.X;3\n",
+        0,
+        "1 N1 LOOKUP R1 (4,4,0) 000000.DIR;0 = (4,4,0) 000000.DIR;1\n2 N2 LOOKUP R1 (4,4,0) INDEXF.SYS;1 = (1,1,0) INDEXF.SYS;1\n3 N1 LOOKUP R2 (4,4,0) INDEXF.SYS;0 = (1,1,0) INDEXF.SYS;1\n4 N2 LOOKUP R8 (4,4,0) ABSENT.X;3 = refused NoSuchFile\nend: 4 answered, 0 died, 231 free\n",
+    ),
+    (
+        "# Two nodes look at files and directories by registers. Node 2 has the first turns.\nNODES 2\nSCHED 2*12\n1 LOOKUP R1 MFD SYSLOST.DIR;0\n1 LIST R1\n1 STAT R1\n2 STAT MFD\n2 LOOKUP R8 MFD QUOTA.SYS;1\n2 STAT R8\n",
+        0,
+        "1 N2 STAT (4,4,0) = directory [1,1] 4 blocks mark 0 end 5,0\n2 N2 LOOKUP R8 (4,4,0) QUOTA.SYS;1 = (10,1,0) QUOTA.SYS;1\n3 N2 STAT (10,1,0) = file [1,1] 4 blocks mark 0 end 5,0\n4 N1 LOOKUP R1 (4,4,0) SYSLOST.DIR;0 = (11,1,0) SYSLOST.DIR;1\n5 N1 LIST (11,1,0) = 0 entries\n6 N1 STAT (11,1,0) = directory [1,1] 4 blocks mark 0 end 5,0\nend: 6 answered, 0 died, 231 free\n",
+    ),
+];
+
+// The scripts and reports of the folder examples/. The last script is run on the volume that the one before it leaves.
+#[test]
+fn examples(rt: HostRuntime) -> Result<(), Fail> {
+    all_answered(&rt, rt.alloc(), EXAMPLES)?;
+    makes_and_looks_back(&rt, rt.alloc())?;
+    Ok(())
+}
+
+const LOOK_UPS: &[(&str, u8, &str)] = &[
+    (
+        "NODES 1\n1 LOOKUP R1 MFD QUOTA.SYS;0",
+        0,
+        "1 N1 LOOKUP R1 (4,4,0) QUOTA.SYS;0 = (10,1,0) QUOTA.SYS;1\nend: 1 answered, 0 died, 231 free\n",
+    ),
+    ("NODES 8\n", 0, "end: 0 answered, 0 died, 231 free\n"),
+    ("", 3, "bad line 1\n"),
+    ("# nothing\n", 3, "bad line 2\n"),
+    ("NODES 9\n", 3, "bad line 1\n"),
+    ("NODES 1\n\n1 LOOKUP R9 MFD A.B;1\n", 3, "bad line 3\n"),
+    ("NODES 1\n2 LOOKUP R1 MFD A.B;1\n", 3, "bad line 2\n"),
+    ("NODES 1\n1 LOOKUP R1 MFD A.B;01\n", 3, "bad line 2\n"),
+    ("NODES 1\n1 CREATE R1 MFD\n", 3, "bad line 2\n"),
+    ("NODES 1\n1 EXTEND R1 1\n", 3, "bad line 2\n"),
+    ("NODES 1\n1 LIST R9\n", 3, "bad line 2\n"),
+    ("NODES 1\nKILL 1 TURN 1\n", 3, "bad line 2\n"),
+    ("NODES 1\nSCHED 1*65536 1\nbad\n", 3, "too many\n"),
+    ("NODES 1\nbad\nSCHED 1*65536 1\n", 3, "bad line 2\n"),
+];
+
 #[test]
 fn runs_scripts_of_look_ups(rt: HostRuntime) -> Result<(), Fail> {
-    let rows = [
-        (
-            "NODES 1\n1 LOOKUP R1 MFD QUOTA.SYS;0",
-            0,
-            "1 N1 LOOKUP R1 (4,4,0) QUOTA.SYS;0 = (10,1,0) QUOTA.SYS;1\nend: 1 answered, 0 died, 231 free\n",
-        ),
-        ("NODES 8\n", 0, "end: 0 answered, 0 died, 231 free\n"),
-        ("", 3, "bad line 1\n"),
-        ("# nothing\n", 3, "bad line 2\n"),
-        ("NODES 9\n", 3, "bad line 1\n"),
-        ("NODES 1\n\n1 LOOKUP R9 MFD A.B;1\n", 3, "bad line 3\n"),
-        ("NODES 1\n2 LOOKUP R1 MFD A.B;1\n", 3, "bad line 2\n"),
-        ("NODES 1\n1 LOOKUP R1 MFD A.B;01\n", 3, "bad line 2\n"),
-        ("NODES 1\n1 CREATE R1 MFD\n", 3, "bad line 2\n"),
-        ("NODES 1\n1 EXTEND R1 1\n", 3, "bad line 2\n"),
-        ("NODES 1\n1 LIST R9\n", 3, "bad line 2\n"),
-        ("NODES 1\nKILL 1 TURN 1\n", 3, "bad line 2\n"),
-        ("NODES 1\nSCHED 1*65536 1\nbad\n", 3, "too many\n"),
-        ("NODES 1\nbad\nSCHED 1*65536 1\n", 3, "bad line 2\n"),
-    ];
-    assert_eq!(rt; wrong_row(rt.alloc(), &rows)?, None);
+    all_answered(&rt, rt.alloc(), LOOK_UPS)?;
     Ok(())
 }
 
@@ -221,20 +286,17 @@ fn is_refused(called: &Called, text: &str) -> bool {
         && bytes.ends_with(text.as_bytes())
 }
 
-// The first edit whose finding is another.
-fn wrong_edit(alloc: Global, edits: &[Edit]) -> Result<Option<&'static str>, NoMemory> {
-    for e in edits {
-        let image = with_byte(volume(alloc)?, e.lbn, e.at, e.byte)?;
-        let found = call(alloc, &["analyze"], image, "")?;
-        if found.code != 5 || found.out.bytes() != e.text.as_bytes() {
-            return Ok(Some(e.text));
-        }
-        let refused = call(alloc, &["run"], found.image, "NODES 1\n")?;
-        if !is_refused(&refused, e.text) {
-            return Ok(Some(e.text));
-        }
-    }
-    Ok(None)
+// An analysis prints this finding, and a run is refused by it.
+fn is_found(rt: &impl Abort, alloc: Global, image: MemImage, text: &str) -> Result<(), NoMemory> {
+    let image = answered(rt, alloc, image, Exchange::analysis(5, text))?;
+    let refused = call(alloc, &["run"], image, "NODES 1\n")?;
+    assert!(rt; is_refused(&refused, text), "{text}");
+    Ok(())
+}
+
+// The fresh volume with this edit.
+fn edited(alloc: Global, edit: Edit) -> Result<MemImage, NoMemory> {
+    with_byte(volume(alloc)?, edit.lbn, edit.at, edit.byte)
 }
 
 #[test]
@@ -253,38 +315,51 @@ fn finds_what_one_byte_spoils(rt: HostRuntime) -> Result<(), Fail> {
         spoilt(85, 4, 0xfe, "leaked clusters 1\n"),
         spoilt(96, 8, 0x70, "usage of [1,1]: has 112, should be 111\n"),
     ];
-    assert_eq!(rt; wrong_edit(rt.alloc(), &edits)?, None);
+    for edit in edits {
+        is_found(&rt, rt.alloc(), edited(rt.alloc(), edit)?, edit.text)?;
+    }
     Ok(())
+}
+
+// The fresh volume with block 27 zero, which is a header.
+fn without_a_header(alloc: Global) -> Result<MemImage, NoMemory> {
+    let mut image = volume(alloc)?;
+    let Ok(1024) = image.blocks() else {
+        return Err(AllocError);
+    };
+    if image.write_block(27, &[0; 512]).is_err() {
+        return Err(AllocError);
+    }
+    Ok(image)
 }
 
 #[test]
 fn a_system_file_without_its_header_is_found(rt: HostRuntime) -> Result<(), Fail> {
-    let alloc = rt.alloc();
-    let mut image = volume(alloc)?;
-    let Ok(1024) = image.blocks() else {
-        return Err(Fail::from("the image has other blocks"));
-    };
-    assert!(rt; image.write_block(27, &[0; 512]).is_ok());
-    let found = call(alloc, &["analyze"], image, "")?;
-    assert!(rt; found.out.bytes() == b"system file 11\n".as_slice());
-    let refused = call(alloc, &["run"], found.image, "NODES 1\n")?;
-    assert!(rt; is_refused(&refused, "system file 11\n"));
+    let image = without_a_header(rt.alloc())?;
+    is_found(&rt, rt.alloc(), image, "system file 11\n")?;
     Ok(())
+}
+
+// The fresh volume with two edits whose findings are not fatal.
+fn with_two_findings(alloc: Global) -> Result<MemImage, NoMemory> {
+    with_byte(with_byte(volume(alloc)?, 96, 8, 0x70)?, 85, 4, 0xfe)
+}
+
+// An image with two edits more, of which one has a fatal finding.
+fn with_a_fatal_one(image: MemImage) -> Result<MemImage, NoMemory> {
+    with_byte(with_byte(image, 16, 0, 0xfe)?, 88, 0, 0)
 }
 
 // Two findings that are not fatal, and then a fatal one beside them.
 #[test]
 fn prints_findings_in_their_order(rt: HostRuntime) -> Result<(), Fail> {
-    let alloc = rt.alloc();
-    let both = with_byte(with_byte(volume(alloc)?, 96, 8, 0x70)?, 85, 4, 0xfe)?;
-    let found = call(alloc, &["analyze"], both, "")?;
-    assert!(rt;
-        found.out.bytes()
-            == b"leaked clusters 1\nusage of [1,1]: has 112, should be 111\n".as_slice()
+    let both = Exchange::analysis(
+        5,
+        "leaked clusters 1\nusage of [1,1]: has 112, should be 111\n",
     );
-    let fatal = with_byte(with_byte(found.image, 16, 0, 0xfe)?, 88, 0, 0)?;
-    let found = call(alloc, &["analyze"], fatal, "")?;
-    assert!(rt; found.out.bytes() == b"directory 4: BadRecord\n".as_slice());
+    let image = answered(&rt, rt.alloc(), with_two_findings(rt.alloc())?, both)?;
+    let fatal = Exchange::analysis(5, "directory 4: BadRecord\n");
+    answered(&rt, rt.alloc(), with_a_fatal_one(image)?, fatal)?;
     Ok(())
 }
 
@@ -297,74 +372,123 @@ struct Format<'a> {
     text: &'static str,
 }
 
-const fn asked<'a>(words: [&'a str; 4], blocks: usize, code: u8, text: &'static str) -> Format<'a> {
-    Format {
-        words,
-        blocks,
-        code,
-        text,
-    }
+// A format of so many zero blocks is answered so.
+fn formatted(rt: &impl Abort, alloc: Global, row: Format<'_>) -> Result<(), NoMemory> {
+    let wanted = Exchange {
+        words: &row.words,
+        script: "",
+        code: row.code,
+        text: row.text,
+    };
+    answered(rt, alloc, zeros(alloc, row.blocks)?, wanted)?;
+    Ok(())
 }
 
-// The text of the first format that is answered otherwise.
-fn wrong_format(alloc: Global, rows: &[Format<'_>]) -> Result<Option<&'static str>, NoMemory> {
-    for row in rows {
-        let called = call(alloc, &row.words, zeros(alloc, row.blocks)?, "")?;
-        if called.code != row.code || called.out.bytes() != row.text.as_bytes() {
-            return Ok(Some(row.text));
-        }
-    }
-    Ok(None)
-}
+const FORMATS: &[Format<'static>] = &[
+    Format {
+        words: ["init", "4", "64", "KVOL"],
+        blocks: 1024,
+        code: 0,
+        text: "volume KVOL: 1024 blocks, 231 free clusters, 53 free numbers\n",
+    },
+    Format {
+        words: ["init", "001", "00032", "TINY"],
+        blocks: 64,
+        code: 0,
+        text: "volume TINY: 64 blocks, 22 free clusters, 21 free numbers\n",
+    },
+    Format {
+        words: ["init", "16", "32", "TINY"],
+        blocks: 64,
+        code: 9,
+        text: "too small\n",
+    },
+    Format {
+        words: ["init", "17", "32", "TINY"],
+        blocks: 64,
+        code: 9,
+        text: "bad cluster\n",
+    },
+    Format {
+        words: ["init", "0", "31", "TINY"],
+        blocks: 64,
+        code: 9,
+        text: "bad cluster\n",
+    },
+    Format {
+        words: ["init", "1", "31", "TINY"],
+        blocks: 64,
+        code: 9,
+        text: "bad files\n",
+    },
+    Format {
+        words: ["init", "1", "32", "ABCDEFGHIJKLM"],
+        blocks: 64,
+        code: 9,
+        text: "bad label\n",
+    },
+    Format {
+        words: ["init", "1", "32", "tiny"],
+        blocks: 64,
+        code: 9,
+        text: "bad label\n",
+    },
+    Format {
+        words: ["init", "1", "32", "TINY"],
+        blocks: 63,
+        code: 4,
+        text: "bad size 63\n",
+    },
+    Format {
+        words: ["init", "000001", "32", "TINY"],
+        blocks: 64,
+        code: 1,
+        text: "bad words\n",
+    },
+    Format {
+        words: ["init", "1", "x", "TINY"],
+        blocks: 64,
+        code: 1,
+        text: "bad words\n",
+    },
+    Format {
+        words: ["make", "1", "32", "TINY"],
+        blocks: 64,
+        code: 1,
+        text: "bad words\n",
+    },
+];
 
 #[test]
 fn formats_images(rt: HostRuntime) -> Result<(), Fail> {
-    let rows = [
-        asked(
-            ["init", "4", "64", "KVOL"],
-            1024,
-            0,
-            "volume KVOL: 1024 blocks, 231 free clusters, 53 free numbers\n",
-        ),
-        asked(
-            ["init", "001", "00032", "TINY"],
-            64,
-            0,
-            "volume TINY: 64 blocks, 22 free clusters, 21 free numbers\n",
-        ),
-        asked(["init", "16", "32", "TINY"], 64, 9, "too small\n"),
-        asked(["init", "17", "32", "TINY"], 64, 9, "bad cluster\n"),
-        asked(["init", "0", "31", "TINY"], 64, 9, "bad cluster\n"),
-        asked(["init", "1", "31", "TINY"], 64, 9, "bad files\n"),
-        asked(["init", "1", "32", "ABCDEFGHIJKLM"], 64, 9, "bad label\n"),
-        asked(["init", "1", "32", "tiny"], 64, 9, "bad label\n"),
-        asked(["init", "1", "32", "TINY"], 63, 4, "bad size 63\n"),
-        asked(["init", "000001", "32", "TINY"], 64, 1, "bad words\n"),
-        asked(["init", "1", "x", "TINY"], 64, 1, "bad words\n"),
-        asked(["make", "1", "32", "TINY"], 64, 1, "bad words\n"),
-    ];
-    assert_eq!(rt; wrong_format(rt.alloc(), &rows)?, None);
+    for row in FORMATS {
+        formatted(&rt, rt.alloc(), *row)?;
+    }
     Ok(())
+}
+
+// The call with these words on so many zero blocks is answered so. It leaves this image.
+fn answered_on_zeros(
+    rt: &impl Abort,
+    alloc: Global,
+    count: usize,
+    wanted: Exchange<'_>,
+) -> Result<MemImage, NoMemory> {
+    answered(rt, alloc, zeros(alloc, count)?, wanted)
 }
 
 #[test]
 fn a_fresh_volume_is_accepted(rt: HostRuntime) -> Result<(), Fail> {
-    let alloc = rt.alloc();
-    let found = call(alloc, &["analyze"], volume(alloc)?, "")?;
-    assert_eq!(rt; found.code, 0);
-    assert!(rt; found.out.bytes() == b"accepted\n".as_slice());
-    let large = call(
-        alloc,
-        &["init", "16", "4096", "BIG"],
-        zeros(alloc, 65_536)?,
-        "",
-    )?;
-    assert!(rt;
-        large.out.bytes()
-            == b"volume BIG: 65536 blocks, 3831 free clusters, 4085 free numbers\n".as_slice()
-    );
-    let found = call(alloc, &["analyze"], large.image, "")?;
-    assert!(rt; found.out.bytes() == b"accepted\n".as_slice());
+    let accepted = Exchange::analysis(0, "accepted\n");
+    answered(&rt, rt.alloc(), volume(rt.alloc())?, accepted)?;
+    let large = Exchange {
+        words: &["init", "16", "4096", "BIG"],
+        script: "",
+        code: 0,
+        text: "volume BIG: 65536 blocks, 3831 free clusters, 4085 free numbers\n",
+    };
+    let image = answered_on_zeros(&rt, rt.alloc(), 65_536, large)?;
+    answered(&rt, rt.alloc(), image, accepted)?;
     Ok(())
 }
 
@@ -390,18 +514,17 @@ fn noise(alloc: Global, count: usize) -> Result<Called, NoMemory> {
 
 #[test]
 fn sizes_and_noise(rt: HostRuntime) -> Result<(), Fail> {
-    let alloc = rt.alloc();
-    let noise = noise(alloc, 10_000)?;
-    assert_eq!(rt; noise.code, 5);
-    assert!(rt; noise.out.bytes() == b"home: BadFormat\n".as_slice());
-    let small = call(alloc, &["analyze"], zeros(alloc, 63)?, "")?;
-    assert!(rt; small.out.bytes() == b"bad size 63\n".as_slice());
-    let least = call(alloc, &["analyze"], zeros(alloc, 64)?, "")?;
-    assert!(rt; least.out.bytes() == b"home: BadFormat\n".as_slice());
-    let large = call(alloc, &["analyze"], zeros(alloc, 65_537)?, "")?;
-    assert!(rt; large.out.bytes() == b"bad size 65537\n".as_slice());
-    let late = call(alloc, &["run"], zeros(alloc, 63)?, "NODES 1\n")?;
-    assert!(rt; late.code == 4 && late.out.bytes() == b"bad size 63\n".as_slice());
+    let found = noise(rt.alloc(), 10_000)?;
+    check_answer(&rt, &found, Exchange::analysis(5, "home: BadFormat\n"));
+    let rows = [
+        (63, Exchange::analysis(4, "bad size 63\n")),
+        (64, Exchange::analysis(5, "home: BadFormat\n")),
+        (65_537, Exchange::analysis(4, "bad size 65537\n")),
+        (63, Exchange::run("NODES 1\n", 4, "bad size 63\n")),
+    ];
+    for (count, wanted) in rows {
+        answered_on_zeros(&rt, rt.alloc(), count, wanted)?;
+    }
     Ok(())
 }
 
@@ -414,37 +537,88 @@ fn repeated(alloc: Global, line: &str, times: usize) -> Result<String, NoMemory>
     Ok(script)
 }
 
+/// A line, how often it stands in a script, and the answer to the script.
+#[derive(Clone, Copy)]
+struct Long<'a> {
+    line: &'a str,
+    times: usize,
+    code: u8,
+    text: &'a str,
+}
+
+// The image behind the run of a long script, which has this answer.
+fn answered_at_length(
+    rt: &impl Abort,
+    alloc: Global,
+    image: MemImage,
+    long: Long<'_>,
+) -> Result<MemImage, NoMemory> {
+    let script = repeated(alloc, long.line, long.times)?;
+    answered(
+        rt,
+        alloc,
+        image,
+        Exchange::run(script.as_str(), long.code, long.text),
+    )
+}
+
 #[test]
 fn refuses_scripts_without_end(rt: HostRuntime) -> Result<(), Fail> {
-    let alloc = rt.alloc();
-    let many = repeated(alloc, "1 LOOKUP R1 MFD A.B;0\n", 4097)?;
-    let called = call(alloc, &["run"], volume(alloc)?, many.as_str())?;
-    assert!(rt; called.code == 3 && called.out.bytes() == b"too many\n".as_slice());
-    let long = repeated(alloc, "# an empty line\n", 65_537)?;
-    let called = call(alloc, &["run"], called.image, long.as_str())?;
-    assert!(rt; called.code == 2 && called.out.bytes() == b"script too long\n".as_slice());
+    let many = Long {
+        line: "1 LOOKUP R1 MFD A.B;0\n",
+        times: 4097,
+        code: 3,
+        text: "too many\n",
+    };
+    let image = answered_at_length(&rt, rt.alloc(), volume(rt.alloc())?, many)?;
+    let long = Long {
+        line: "# an empty line\n",
+        times: 65_537,
+        code: 2,
+        text: "script too long\n",
+    };
+    answered_at_length(&rt, rt.alloc(), image, long)?;
     Ok(())
+}
+
+// The image behind a run of which calls of the script or the sink fail, and which has this answer.
+fn answered_in_spite(
+    rt: &impl Abort,
+    alloc: Global,
+    image: MemImage,
+    fails: Failures,
+    wanted: Exchange<'_>,
+) -> Result<MemImage, NoMemory> {
+    let called = call_with(alloc, wanted.words, image, wanted.script, fails)?;
+    check_answer(rt, &called, wanted);
+    Ok(called.image)
+}
+
+// An image without blocks, whose first call fails.
+fn without_blocks(alloc: Global) -> Result<MemImage, NoMemory> {
+    let failing = Failing {
+        call: 1,
+        lands: false,
+    };
+    Ok(MemImage::new(Vec::new(alloc), vec![in alloc; failing]?))
 }
 
 #[test]
 fn tells_each_fault(rt: HostRuntime) -> Result<(), Fail> {
     let alloc = rt.alloc();
     let script = Failures { script: 1, out: 0 };
-    let called = call_with(alloc, &["run"], volume(alloc)?, "NODES 1\n", script)?;
-    assert!(rt; called.code == 2 && called.out.bytes() == b"script fault\n".as_slice());
+    let wanted = Exchange::run("NODES 1\n", 2, "script fault\n");
+    let image = answered_in_spite(&rt, alloc, volume(alloc)?, script, wanted)?;
     let out = Failures { script: 0, out: 1 };
-    let called = call_with(alloc, &["run"], called.image, "NODES 1\n", out)?;
-    assert!(rt; called.code == 6 && called.out.bytes().is_empty());
-    let called = call(alloc, &["run", "now"], called.image, "")?;
-    assert!(rt; called.code == 1 && called.out.bytes() == b"bad words\n".as_slice());
-    let failing = vec![in alloc;
-        Failing {
-            call: 1,
-            lands: false
-        },
-    ]?;
-    let image = MemImage::new(Vec::new(alloc), failing);
-    let called = call(alloc, &["analyze"], image, "")?;
-    assert!(rt; called.code == 4 && called.out.bytes() == b"image fault\n".as_slice());
+    let image = answered_in_spite(&rt, alloc, image, out, Exchange::run("NODES 1\n", 6, ""))?;
+    let words = Exchange {
+        words: &["run", "now"],
+        script: "",
+        code: 1,
+        text: "bad words\n",
+    };
+    answered(&rt, alloc, image, words)?;
+    let fault = Exchange::analysis(4, "image fault\n");
+    answered(&rt, alloc, without_blocks(alloc)?, fault)?;
     Ok(())
 }

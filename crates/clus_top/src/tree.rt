@@ -1,9 +1,10 @@
 //! Look-ups, lists and facts on a volume with a directory and files in it, by nodes in turn.
 
-use crate::tests::{call, volume};
+use crate::tests::{Called, Exchange, answered, call, volume};
 use blk_drive::MemImage;
 use plain_cat::NoMemory;
 use std::alloc::{AllocError, Global};
+use std::process::Abort;
 use std::test::Fail;
 use vol_words::{Block, put_bytes, put_long, put_word, set_sum};
 
@@ -84,12 +85,18 @@ fn tree(alloc: Global) -> Result<MemImage, NoMemory> {
     tree_at(alloc, 104, 0xf8)
 }
 
-// Whether a script has this report on that volume, which it leaves as it was.
-fn has_report(alloc: Global, script: &str, report: &str) -> Result<bool, NoMemory> {
-    let called = call(alloc, &["run"], tree(alloc)?, script)?;
-    let after = blocks_of(alloc, &called.image)?;
-    let before = blocks_of(alloc, &tree(alloc)?)?;
-    Ok(called.code == 0 && called.out.bytes() == report.as_bytes() && after == before)
+// Whether an image is still that volume.
+fn is_tree(alloc: Global, image: &MemImage) -> Result<bool, NoMemory> {
+    let before = tree(alloc)?;
+    Ok(image.all() == before.all())
+}
+
+// A script has this report on that volume, which it leaves as it was.
+fn reports(rt: &impl Abort, alloc: Global, script: &str, report: &str) -> Result<(), NoMemory> {
+    let after = answered(rt, alloc, tree(alloc)?, Exchange::run(script, 0, report))?;
+    let is_same = is_tree(alloc, &after)?;
+    assert!(rt; is_same, "{script}");
+    Ok(())
 }
 
 #[test]
@@ -132,7 +139,7 @@ fn registers_lead_down(rt: HostRuntime) -> Result<(), Fail> {
         13 N1 LOOKUP R1 (12,1,0) B.DAT;0 = (15,2,0) B.DAT;1\n\
         14 N1 STAT (15,2,0) = file [1,1] 0 blocks mark 0 end 1,0\n\
         end: 14 answered, 0 died, 229 free\n";
-    assert!(rt; has_report(rt.alloc(), script, report)?);
+    reports(&rt, rt.alloc(), script, report)?;
     Ok(())
 }
 
@@ -165,7 +172,7 @@ fn eight_nodes_take_turns(rt: HostRuntime) -> Result<(), Fail> {
         6 N8 LOOKUP R1 (13,1,0) A.B;1 = refused NotDir\n\
         7 N2 LIST (12,1,0) = 3 entries A.TXT;2 (13,1,0) A.TXT;1 (14,1,0) B.DAT;1 (15,2,0)\n\
         end: 7 answered, 0 died, 229 free\n";
-    assert!(rt; has_report(rt.alloc(), script.as_str(), report)?);
+    reports(&rt, rt.alloc(), script.as_str(), report)?;
     Ok(())
 }
 
@@ -181,7 +188,7 @@ fn plays_come_first(rt: HostRuntime) -> Result<(), Fail> {
         6 N4 STAT (14,1,0) = file [1,1] 4 blocks mark 0 end 5,0\n\
         7 N6 STAT (15,2,0) = file [1,1] 0 blocks mark 0 end 1,0\n\
         end: 7 answered, 0 died, 229 free\n";
-    assert!(rt; has_report(rt.alloc(), script.as_str(), report)?);
+    reports(&rt, rt.alloc(), script.as_str(), report)?;
     Ok(())
 }
 
@@ -197,11 +204,8 @@ fn longest(alloc: Global) -> Result<String, NoMemory> {
     Ok(script)
 }
 
-#[test]
-fn the_longest_script_ends(rt: HostRuntime) -> Result<(), Fail> {
-    let alloc = rt.alloc();
-    let script = longest(alloc)?;
-    let called = call(alloc, &["run"], tree(alloc)?, script.as_str())?;
+// All look-ups of the longest script have to be answered.
+fn check_longest(rt: &impl Abort, called: &Called) {
     let report = called.out.bytes();
     assert_eq!(rt; called.code, 0);
     assert!(rt;
@@ -212,5 +216,12 @@ fn the_longest_script_ends(rt: HostRuntime) -> Result<(), Fail> {
             b"\n4096 N8 LOOKUP R1 (12,1,0) B.DAT;1 = (15,2,0) B.DAT;1\nend: 4096 answered, 0 died, 229 free\n"
         )
     );
+}
+
+#[test]
+fn the_longest_script_ends(rt: HostRuntime) -> Result<(), Fail> {
+    let script = longest(rt.alloc())?;
+    let called = call(rt.alloc(), &["run"], tree(rt.alloc())?, script.as_str())?;
+    check_longest(&rt, &called);
     Ok(())
 }

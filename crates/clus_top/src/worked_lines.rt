@@ -84,28 +84,40 @@ fn open(node: u8, mode: Mode, reply: Reply) -> Entry {
     done(node, cmd, reply)
 }
 
-// What the second node does while the first has the file open.
-fn look_and_delete(alloc: Global, entries: &mut Vec<Entry>) -> Result<(), NoMemory> {
-    let name = name_of(alloc, "B.DAT")?;
-    let cmd = Cmd::Lookup {
+// The second node looks the file up.
+fn looked_up(alloc: Global) -> Result<Cmd, NoMemory> {
+    Ok(Cmd::Lookup {
         reg: 1,
         dir: MFD,
         name: name_of(alloc, "B.DAT")?,
         ver: 0,
-    };
-    let found = Reply::Found {
+    })
+}
+
+// It finds the file.
+fn found(alloc: Global) -> Result<Reply, NoMemory> {
+    Ok(Reply::Found {
         fid: FILE,
-        name,
+        name: name_of(alloc, "B.DAT")?,
         ver: 1,
-    };
-    entries.push(done(2, cmd, found))?;
-    entries.push(open(2, Mode::PR, Reply::Refused(Refusal::AccConflict)))?;
-    let cmd = Cmd::Delete {
+    })
+}
+
+// It deletes the file.
+fn deleted(alloc: Global) -> Result<Cmd, NoMemory> {
+    Ok(Cmd::Delete {
         dir: MFD,
         name: name_of(alloc, "B.DAT")?,
         ver: 0,
-    };
-    entries.push(done(2, cmd, Reply::Marked))?;
+    })
+}
+
+// What the second node does while the first has the file open.
+fn look_and_delete(alloc: Global, entries: &mut Vec<Entry>) -> Result<(), NoMemory> {
+    let reply = found(alloc)?;
+    entries.push(done(2, looked_up(alloc)?, reply))?;
+    entries.push(open(2, Mode::PR, Reply::Refused(Refusal::AccConflict)))?;
+    entries.push(done(2, deleted(alloc)?, Reply::Marked))?;
     Ok(())
 }
 
