@@ -1,7 +1,5 @@
-ghost use Rattle.std.specs.Prelude.{length};
-ghost use Rattle.vol_faults.specs.Conditions.{IsSize};
-
-use crate::{accepted, analyze, push_finding};
+use crate::tests::written;
+use crate::{accepted, analyze};
 use fx_home::{Home, Scb, home_block, scb_block};
 use plain_cat::NoMemory;
 use std::alloc::Global;
@@ -125,32 +123,45 @@ fn faulty() -> [Block; 64] {
 }
 
 /// The findings, each on a line.
-fn lines(alloc: Global, blocks: &[Block]) -> Result<Vec<u8>, NoMemory>
-    requires { IsSize (length blocks.now) }
-{
+fn lines(alloc: Global, blocks: &[Block; 64]) -> Result<Vec<u8>, NoMemory> {
     let found = analyze(alloc, blocks)?;
-    let mut out = Vec::new(alloc);
-    for f in &found {
-        push_finding(alloc, &mut out, f)?;
-        out.push(b'\n')?;
-    }
-    Ok(out)
+    written(alloc, &found)
+}
+
+/// Whether the findings are these lines.
+fn are_told(alloc: Global, blocks: &[Block; 64], text: &[u8]) -> Result<bool, NoMemory> {
+    Ok(lines(alloc, blocks)?.as_slice() == text)
+}
+
+/// Whether nothing is found, and the catalogue has the sizes of the sound volume.
+fn is_accepted(alloc: Global, blocks: &[Block; 64]) -> Result<bool, NoMemory> {
+    Ok(match accepted(alloc, blocks)? {
+        Ok(cat) => (cat.factor, cat.total, cat.reserved) == (2, 32, 25),
+        Err(_) => false,
+    })
+}
+
+/// Whether the volume has no fatal finding, and a catalogue of 32 files.
+fn is_read(alloc: Global, blocks: &[Block; 64]) -> Result<bool, NoMemory> {
+    Ok(match read_volume(alloc, blocks)? {
+        Some(same) => same.files.items().len() == 32,
+        None => false,
+    })
 }
 
 #[test]
 fn sound_volumes_are_accepted(rt: HostRuntime) -> Result<(), Fail> {
     let alloc = rt.alloc();
     let b = sound();
-    assert!(rt; lines(alloc, &b)?.is_empty());
-    let Ok(cat) = accepted(alloc, &b)? else {
-        return Err(Fail::from("nothing is found in the volume"));
-    };
-    assert_eq!(rt; (cat.factor, cat.total, cat.reserved), (2, 32, 25));
-    let Some(same) = read_volume(alloc, &b)? else {
-        return Err(Fail::from("the volume has no fatal finding"));
-    };
-    assert_eq!(rt; same.files.items().len(), 32);
+    assert!(rt; are_told(alloc, &b, b"")?);
+    assert!(rt; is_accepted(alloc, &b)?);
+    assert!(rt; is_read(alloc, &b)?);
     Ok(())
+}
+
+/// Whether the volume is refused since file 13 is marked.
+fn is_refused(alloc: Global, blocks: &[Block; 64]) -> Result<bool, NoMemory> {
+    Ok(matches!(accepted(alloc, blocks)?, Err(Finding::Marked(13))))
 }
 
 #[test]
@@ -159,8 +170,8 @@ fn all_that_is_mended_is_found_in_order(rt: HostRuntime) -> Result<(), Fail> {
     let b = faulty();
     let text =
         "marked 13\nentry Z.TXT;1 in 4 names no file\nsecond entry Y.TXT;1 in 4\ndoubles in 4\nlost 14\nlost 15\nleaked clusters 3\nleaked numbers 2\nusage of [0,0]: has 61, should be 70\n";
-    assert!(rt; lines(alloc, &b)?.as_slice() == text.as_bytes());
-    assert!(rt; matches!(accepted(alloc, &b)?, Err(Finding::Marked(13))));
+    assert!(rt; are_told(alloc, &b, text.as_bytes())?);
+    assert!(rt; is_refused(alloc, &b)?);
     Ok(())
 }
 
@@ -176,49 +187,58 @@ fn change(b: &mut [Block; 64], lbn: usize, at: usize, byte: u8) {
     }
 }
 
+/// Changes, and what is told after each: the block, the place in it, the byte, and the line.
+const BEFORE: [(usize, usize, u8, &str); 13] = [
+    (52, 14, 15, "directory loop at 15\n"),
+    (23, 53, 0xa0, "marked directory 15\n"),
+    (44, 35, b'Q', "system entry 8\n"),
+    (8, 0, 0xfe, "free number 1 in use\n"),
+    (43, 0, 1, "free cluster 0 in use\n"),
+    (46, 4, 1, "no quota row for 1\n"),
+    (46, 36, 1, "no quota row for 1\n"),
+    (46, 32, 1, "quota row [0,1]\n"),
+    (45, 18, 7, "directory 4: Clash\n"),
+    (45, 15, b'R', "directory 4: BadOrder\n"),
+    (44, 0, 0x17, "directory 4: BadRecord\n"),
+    (12, 30, 2, "directory 4: BadSize\n"),
+    (20, 202, 48, "shared cluster 24\n"),
+];
+
+/// Those that go on behind file 12 with too many clusters.
+const BEHIND: [(usize, usize, u8, &str); 6] = [
+    (20, 202, 51, "runs of 12\n"),
+    (42, 100, 1, "storage control block: BadSum\n"),
+    (13, 10, 9, "system file 5\n"),
+    (20, 8, 13, "header 12: WrongNumber\n"),
+    (20, 7, 3, "header 12: BadLevel\n"),
+    (1, 496, b'd', "home: BadFormat\n"),
+];
+
+/// File 12 with three times the first 52 blocks.
+fn put_thrice(b: &mut [Block; 64]) {
+    put_word(&mut b[20], 26, 156);
+    put_word(&mut b[20], 30, 157);
+    b[20][58] = 6;
+    put_bytes(&mut b[20], 200, THRICE);
+    set_sum(&mut b[20]);
+}
+
 // Each finding of an earlier kind is told in place of those before it, which still hold.
 #[test]
 fn the_first_fatal_finding_is_told_alone(rt: HostRuntime) -> Result<(), Fail> {
     let alloc = rt.alloc();
     let mut b = faulty();
     b[48] = block(LAST);
-    assert!(rt; lines(alloc, &b)?.as_slice() == b"no room for 15\n".as_slice());
-    let cases = [
-        (52, 14, 15, "directory loop at 15\n"),
-        (23, 53, 0xa0, "marked directory 15\n"),
-        (44, 35, b'Q', "system entry 8\n"),
-        (8, 0, 0xfe, "free number 1 in use\n"),
-        (43, 0, 1, "free cluster 0 in use\n"),
-        (46, 4, 1, "no quota row for 1\n"),
-        (46, 36, 1, "no quota row for 1\n"),
-        (46, 32, 1, "quota row [0,1]\n"),
-        (45, 18, 7, "directory 4: Clash\n"),
-        (45, 15, b'R', "directory 4: BadOrder\n"),
-        (44, 0, 0x17, "directory 4: BadRecord\n"),
-        (12, 30, 2, "directory 4: BadSize\n"),
-        (20, 202, 48, "shared cluster 24\n"),
-    ];
-    for (lbn, at, byte, text) in cases {
-        change(&mut b, lbn, at, byte);
-        assert!(rt; lines(alloc, &b)?.as_slice() == text.as_bytes(), "{text}");
+    assert!(rt; are_told(alloc, &b, b"no room for 15\n")?);
+    for (lbn, at, byte, text) in &BEFORE {
+        change(&mut b, *lbn, *at, *byte);
+        assert!(rt; are_told(alloc, &b, text.as_bytes())?, "{text}");
     }
-    put_word(&mut b[20], 26, 156);
-    put_word(&mut b[20], 30, 157);
-    b[20][58] = 6;
-    put_bytes(&mut b[20], 200, THRICE);
-    set_sum(&mut b[20]);
-    assert!(rt; lines(alloc, &b)?.as_slice() == b"clusters of 12\n".as_slice());
-    let cases = [
-        (20, 202, 51, "runs of 12\n"),
-        (42, 100, 1, "storage control block: BadSum\n"),
-        (13, 10, 9, "system file 5\n"),
-        (20, 8, 13, "header 12: WrongNumber\n"),
-        (20, 7, 3, "header 12: BadLevel\n"),
-        (1, 496, b'd', "home: BadFormat\n"),
-    ];
-    for (lbn, at, byte, text) in cases {
-        change(&mut b, lbn, at, byte);
-        assert!(rt; lines(alloc, &b)?.as_slice() == text.as_bytes(), "{text}");
+    put_thrice(&mut b);
+    assert!(rt; are_told(alloc, &b, b"clusters of 12\n")?);
+    for (lbn, at, byte, text) in &BEHIND {
+        change(&mut b, *lbn, *at, *byte);
+        assert!(rt; are_told(alloc, &b, text.as_bytes())?, "{text}");
     }
     Ok(())
 }
@@ -236,15 +256,25 @@ fn noise(seed: u32) -> [Block; 64] {
     b
 }
 
+/// Whether the header of file 1 is told.
+fn is_header_told(alloc: Global, blocks: &[Block; 64]) -> Result<bool, NoMemory> {
+    Ok(lines(alloc, blocks)?.starts_with(b"header 1: "))
+}
+
+/// Whether there is no volume to be read.
+fn is_no_volume(alloc: Global, blocks: &[Block; 64]) -> Result<bool, NoMemory> {
+    Ok(read_volume(alloc, blocks)?.is_none())
+}
+
 #[test]
 fn any_bytes_are_told_apart_from_a_volume(rt: HostRuntime) -> Result<(), Fail> {
     let alloc = rt.alloc();
     for seed in 1..5u32 {
         let mut b = noise(seed);
-        assert!(rt; lines(alloc, &b)?.as_slice() == b"home: BadFormat\n".as_slice());
+        assert!(rt; are_told(alloc, &b, b"home: BadFormat\n")?);
         b[1] = home_block(&SMALL);
-        assert!(rt; lines(alloc, &b)?.starts_with(b"header 1: "));
-        assert!(rt; read_volume(alloc, &b)?.is_none());
+        assert!(rt; is_header_told(alloc, &b)?);
+        assert!(rt; is_no_volume(alloc, &b)?);
     }
     Ok(())
 }

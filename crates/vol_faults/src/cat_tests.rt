@@ -34,48 +34,151 @@ fn file(alloc: Global, seq: u16, dir: bool, marked: bool, entries: DirEnts) -> S
     })
 }
 
-/// A directory of sequence 1 with entries for so many identifiers.
-fn directory(alloc: Global, marked: bool, named: &[Fid]) -> Result<Slot, NoMemory> {
+/// What a directory of sequence 1 is: whether it is marked, and the identifiers that it has entries for.
+#[derive(Clone, Copy)]
+struct Directory<'a> {
+    marked: bool,
+    named: &'a [Fid],
+}
+
+/// A directory without an entry.
+const EMPTY: Directory = Directory {
+    marked: false,
+    named: &[],
+};
+
+fn directory_slot(alloc: Global, wanted: Directory) -> Result<Slot, NoMemory> {
     let mut entries = DirEnts::new(alloc);
-    for fid in named {
+    for fid in wanted.named {
         entries.push(entry(alloc, b"SUB.DIR", fid.num, fid.seq)?)?;
     }
-    Ok(file(alloc, 1, true, marked, entries))
+    Ok(file(alloc, 1, true, wanted.marked, entries))
+}
+
+/// An entry of the main directory.
+#[derive(Clone, Copy)]
+struct Named {
+    text: &'static [u8],
+    num: u32,
+    seq: u16,
+}
+
+/// The entries of the system files before that of QUOTA.SYS.
+const BEFORE: [Named; 8] = [
+    Named {
+        text: b"000000.DIR",
+        num: 4,
+        seq: 4,
+    },
+    Named {
+        text: b"BACKUP.SYS",
+        num: 8,
+        seq: 8,
+    },
+    Named {
+        text: b"BADBLK.SYS",
+        num: 3,
+        seq: 3,
+    },
+    Named {
+        text: b"BADLOG.SYS",
+        num: 9,
+        seq: 9,
+    },
+    Named {
+        text: b"BITMAP.SYS",
+        num: 2,
+        seq: 2,
+    },
+    Named {
+        text: b"CONTIN.SYS",
+        num: 7,
+        seq: 7,
+    },
+    Named {
+        text: b"CORIMG.SYS",
+        num: 5,
+        seq: 5,
+    },
+    Named {
+        text: b"INDEXF.SYS",
+        num: 1,
+        seq: 1,
+    },
+];
+
+/// Those behind it, and that of an empty directory.
+const BEHIND: [Named; 3] = [
+    Named {
+        text: b"SYSLOST.DIR",
+        num: 11,
+        seq: 1,
+    },
+    Named {
+        text: b"VOLSET.SYS",
+        num: 6,
+        seq: 6,
+    },
+    Named {
+        text: b"USER.DIR",
+        num: 12,
+        seq: 1,
+    },
+];
+
+fn add_entry(alloc: Global, entries: &mut DirEnts, named: Named) -> Result<(), NoMemory> {
+    entries.push(entry(alloc, named.text, named.num, named.seq)?)?;
+    Ok(())
 }
 
 /// The entries of the system files, of which that of QUOTA.SYS has this sequence, and that of an empty directory.
 fn main_directory(alloc: Global, quota_seq: u16) -> Result<Slot, NoMemory> {
     let mut entries = DirEnts::new(alloc);
-    entries.push(entry(alloc, b"000000.DIR", 4, 4)?)?;
-    entries.push(entry(alloc, b"BACKUP.SYS", 8, 8)?)?;
-    entries.push(entry(alloc, b"BADBLK.SYS", 3, 3)?)?;
-    entries.push(entry(alloc, b"BADLOG.SYS", 9, 9)?)?;
-    entries.push(entry(alloc, b"BITMAP.SYS", 2, 2)?)?;
-    entries.push(entry(alloc, b"CONTIN.SYS", 7, 7)?)?;
-    entries.push(entry(alloc, b"CORIMG.SYS", 5, 5)?)?;
-    entries.push(entry(alloc, b"INDEXF.SYS", 1, 1)?)?;
-    entries.push(entry(alloc, b"QUOTA.SYS", 10, quota_seq)?)?;
-    entries.push(entry(alloc, b"SYSLOST.DIR", 11, 1)?)?;
-    entries.push(entry(alloc, b"VOLSET.SYS", 6, 6)?)?;
-    entries.push(entry(alloc, b"USER.DIR", 12, 1)?)?;
+    for named in &BEFORE {
+        add_entry(alloc, &mut entries, *named)?;
+    }
+    let quota = Named {
+        text: b"QUOTA.SYS",
+        num: 10,
+        seq: quota_seq,
+    };
+    add_entry(alloc, &mut entries, quota)?;
+    for named in &BEHIND {
+        add_entry(alloc, &mut entries, *named)?;
+    }
     Ok(file(alloc, 4, true, false, entries))
 }
 
+/// Adds a file without a block that was written.
+fn add_file(alloc: Global, files: &mut Files, seq: u16, dir: bool) -> Result<(), NoMemory> {
+    files.push(file(alloc, seq, dir, false, DirEnts::new(alloc)))?;
+    Ok(())
+}
+
 /// The system files, and the files 12 and 13.
-fn catalogue(alloc: Global, main: Slot, twelve: Slot, thirteen: Slot) -> Result<Cat, NoMemory> {
+fn all_files(
+    alloc: Global,
+    quota_seq: u16,
+    twelve: Directory,
+    thirteen: Directory,
+) -> Result<Files, NoMemory> {
     let mut files = Files::new(alloc);
     for seq in 1..4 {
-        files.push(file(alloc, seq, false, false, DirEnts::new(alloc)))?;
+        add_file(alloc, &mut files, seq, false)?;
     }
-    files.push(main)?;
+    files.push(main_directory(alloc, quota_seq)?)?;
     for seq in 5..10 {
-        files.push(file(alloc, seq, false, false, DirEnts::new(alloc)))?;
+        add_file(alloc, &mut files, seq, false)?;
     }
-    files.push(file(alloc, 1, false, false, DirEnts::new(alloc)))?;
-    files.push(file(alloc, 1, true, false, DirEnts::new(alloc)))?;
-    files.push(twelve)?;
-    files.push(thirteen)?;
-    Ok(Cat {
+    add_file(alloc, &mut files, 1, false)?;
+    add_file(alloc, &mut files, 1, true)?;
+    files.push(directory_slot(alloc, twelve)?)?;
+    files.push(directory_slot(alloc, thirteen)?)?;
+    Ok(files)
+}
+
+fn catalogue(alloc: Global, files: Files) -> Cat {
+    Cat {
         factor: 4,
         total: 256,
         reserved: 11,
@@ -85,7 +188,7 @@ fn catalogue(alloc: Global, main: Slot, twelve: Slot, thirteen: Slot) -> Result<
         opens: Channels::new(alloc),
         leaked: 0,
         leaked_numbers: Flags::new(alloc),
-    })
+    }
 }
 
 /// The first finding of the kinds that a catalogue alone tells.
@@ -102,78 +205,89 @@ fn first(alloc: Global, cat: &Cat) -> Result<Option<Finding>, NoMemory> {
     first_loop(alloc, cat)
 }
 
-/// The first finding where the directories 12 and 13 have these entries.
-fn first_of(alloc: Global, twelve: &[Fid], thirteen: &[Fid]) -> Result<Option<Finding>, NoMemory> {
-    let main = main_directory(alloc, 1)?;
-    let twelve = directory(alloc, false, twelve)?;
-    let thirteen = directory(alloc, false, thirteen)?;
-    first(alloc, &catalogue(alloc, main, twelve, thirteen)?)
-}
-
 /// The first finding where QUOTA.SYS has an entry of this sequence, and the directories 12 and 13 are these.
 fn first_with(
     alloc: Global,
     quota_seq: u16,
-    twelve: Slot,
-    thirteen: Slot,
+    twelve: Directory,
+    thirteen: Directory,
 ) -> Result<Option<Finding>, NoMemory> {
-    let main = main_directory(alloc, quota_seq)?;
-    first(alloc, &catalogue(alloc, main, twelve, thirteen)?)
+    let cat = catalogue(alloc, all_files(alloc, quota_seq, twelve, thirteen)?);
+    first(alloc, &cat)
+}
+
+/// Whether nothing is found where the directories are these.
+fn finds_nothing(alloc: Global, twelve: Directory, thirteen: Directory) -> Result<bool, NoMemory> {
+    Ok(first_with(alloc, 1, twelve, thirteen)?.is_none())
+}
+
+fn finds_system_entry_10(alloc: Global, quota_seq: u16) -> Result<bool, NoMemory> {
+    Ok(matches!(
+        first_with(alloc, quota_seq, EMPTY, EMPTY)?,
+        Some(Finding::SystemEntry(10))
+    ))
+}
+
+fn finds_marked_directory_13(alloc: Global, thirteen: Directory) -> Result<bool, NoMemory> {
+    Ok(matches!(
+        first_with(alloc, 1, EMPTY, thirteen)?,
+        Some(Finding::MarkedDir(13))
+    ))
 }
 
 #[test]
 fn entries_and_marked_directories(rt: HostRuntime) -> Result<(), Fail> {
     let alloc = rt.alloc();
-    let one = Fid { num: 1, seq: 1 };
-    let gone = directory(alloc, true, &[])?;
-    let empty = directory(alloc, false, &[])?;
-    assert!(rt; first_with(alloc, 1, gone, empty)?.is_none());
-    let other = directory(alloc, false, &[])?;
-    let empty = directory(alloc, false, &[])?;
-    assert!(rt;
-        matches!(
-            first_with(alloc, 10, other, empty)?,
-            Some(Finding::SystemEntry(10))
-        )
-    );
-    let other = directory(alloc, false, &[])?;
-    let full = directory(alloc, true, &[one])?;
-    assert!(rt;
-        matches!(
-            first_with(alloc, 1, other, full)?,
-            Some(Finding::MarkedDir(13))
-        )
-    );
+    let gone = Directory {
+        marked: true,
+        named: &[],
+    };
+    assert!(rt; finds_nothing(alloc, gone, EMPTY)?);
+    assert!(rt; finds_system_entry_10(alloc, 10)?);
+    let full = Directory {
+        marked: true,
+        named: &[Fid { num: 1, seq: 1 }],
+    };
+    assert!(rt; finds_marked_directory_13(alloc, full)?);
     Ok(())
+}
+
+/// The identifiers of the main directory, of the directories 12 and 13, and of an earlier file of the number 12.
+const MAIN: Fid = Fid { num: 4, seq: 4 };
+
+const TWELVE: Fid = Fid { num: 12, seq: 1 };
+
+const THIRTEEN: Fid = Fid { num: 13, seq: 1 };
+
+const OLD: Fid = Fid { num: 12, seq: 2 };
+
+fn unmarked(named: &[Fid]) -> Directory {
+    Directory {
+        marked: false,
+        named,
+    }
+}
+
+/// Whether nothing is found where directory 12 has an entry of directory 13, and that these entries.
+fn is_no_loop(alloc: Global, thirteen: &[Fid]) -> Result<bool, NoMemory> {
+    finds_nothing(alloc, unmarked(&[THIRTEEN]), unmarked(thirteen))
+}
+
+/// Whether a loop at this number is found there.
+fn is_loop_at(alloc: Global, thirteen: &[Fid], number: u32) -> Result<bool, NoMemory> {
+    Ok(matches!(
+        first_with(alloc, 1, unmarked(&[THIRTEEN]), unmarked(thirteen))?,
+        Some(Finding::DirLoop(n)) if n == number
+    ))
 }
 
 #[test]
 fn chains_that_lead_back(rt: HostRuntime) -> Result<(), Fail> {
     let alloc = rt.alloc();
-    let [main, twelve, thirteen] = [4, 12, 13].map(|num| Fid {
-        num,
-        seq: if num == 4 { 4 } else { 1 },
-    });
-    let old = Fid { num: 12, seq: 2 };
-    assert!(rt; matches!(first_of(alloc, &[thirteen], &[])?, None));
-    assert!(rt; matches!(first_of(alloc, &[thirteen], &[old])?, None));
-    assert!(rt;
-        matches!(
-            first_of(alloc, &[thirteen], &[twelve])?,
-            Some(Finding::DirLoop(12))
-        )
-    );
-    assert!(rt;
-        matches!(
-            first_of(alloc, &[thirteen], &[thirteen])?,
-            Some(Finding::DirLoop(13))
-        )
-    );
-    assert!(rt;
-        matches!(
-            first_of(alloc, &[thirteen], &[old, main])?,
-            Some(Finding::DirLoop(4))
-        )
-    );
+    assert!(rt; is_no_loop(alloc, &[])?);
+    assert!(rt; is_no_loop(alloc, &[OLD])?);
+    assert!(rt; is_loop_at(alloc, &[TWELVE], 12)?);
+    assert!(rt; is_loop_at(alloc, &[THIRTEEN], 13)?);
+    assert!(rt; is_loop_at(alloc, &[OLD, MAIN], 4)?);
     Ok(())
 }

@@ -1,14 +1,10 @@
-ghost use Rattle.std.specs.Prelude.{length};
-ghost use Rattle.vol_faults.specs.Conditions.{IsSize};
-
-use crate::tests::{SMALL, small};
+use crate::tests::{SMALL, Told, kind_of, small};
 use crate::{free_counts, geometry, read_whole};
 use fx_home::{HomeFault, home_block};
 use fx_quota::{Row, set_row};
-use plain_cat::NoMemory;
+use plain_cat::{Cat, NoMemory};
 use std::alloc::Global;
 use std::test::Fail;
-use vol_parts::Finding;
 use vol_words::Block;
 
 /// The entries of the system files.
@@ -52,26 +48,35 @@ fn whole() -> [Block; 64] {
     b
 }
 
-fn found(alloc: Global, blocks: &[Block]) -> Result<Option<Finding>, NoMemory>
-    requires { IsSize (length blocks.now) }
-{
-    Ok(read_whole(alloc, blocks)?.err())
+fn found(alloc: Global, blocks: &[Block; 64]) -> Result<Told, NoMemory> {
+    Ok(kind_of(&read_whole(alloc, blocks)?.err()))
+}
+
+/// Whether a catalogue has the sizes of the sound volume.
+fn has_its_sizes(cat: &Cat) -> bool {
+    (cat.factor, cat.total, cat.reserved) == (1, 64, 42)
+        && (cat.rows, cat.leaked) == (16, 0)
+        && cat.files.items().len() == 32
+        && cat.quota.items().len() == 1
+}
+
+/// Whether the volume has no fatal finding, and is read with these sizes and places.
+fn is_read(alloc: Global, blocks: &[Block; 64]) -> Result<bool, NoMemory> {
+    let Ok(cat) = read_whole(alloc, blocks)? else {
+        return Ok(false);
+    };
+    let at = geometry(blocks);
+    Ok(
+        has_its_sizes(&cat)
+            && free_counts(blocks) == (22, 21)
+            && (at.blocks, at.cluster, at.files) == (64, 1, 32)
+            && (at.bitmap_lbn, at.quota_lbn) == (37, 40),
+    )
 }
 
 #[test]
 fn a_volume_is_read(rt: HostRuntime) -> Result<(), Fail> {
-    let b = whole();
-    let Ok(cat) = read_whole(rt.alloc(), &b)? else {
-        return Err(Fail::from("the volume has no fatal finding"));
-    };
-    assert_eq!(rt; (cat.factor, cat.total, cat.reserved), (1, 64, 42));
-    assert_eq!(rt; (cat.rows, cat.leaked), (16, 0));
-    assert_eq!(rt; cat.files.items().len(), 32);
-    assert_eq!(rt; cat.quota.items().len(), 1);
-    assert_eq!(rt; free_counts(&b), (22, 21));
-    let at = geometry(&b);
-    assert_eq!(rt; (at.blocks, at.cluster, at.files), (64, 1, 32));
-    assert_eq!(rt; (at.bitmap_lbn, at.quota_lbn), (37, 40));
+    assert!(rt; is_read(rt.alloc(), &whole())?);
     Ok(())
 }
 
@@ -81,16 +86,16 @@ fn one_byte_makes_a_finding(rt: HostRuntime) -> Result<(), Fail> {
     let alloc = rt.alloc();
     let mut b = whole();
     b[39][35] = b'Q';
-    assert!(rt; matches!(found(alloc, &b)?, Some(Finding::SystemEntry(8))));
+    assert!(rt; matches!(found(alloc, &b)?, Told::SystemEntry(8)));
     b[4][0] = 0xfe;
-    assert!(rt; matches!(found(alloc, &b)?, Some(Finding::FreeNumber(1))));
+    assert!(rt; matches!(found(alloc, &b)?, Told::FreeNumber(1)));
     b[38][5] = 0xfe;
-    assert!(rt; matches!(found(alloc, &b)?, Some(Finding::FreeCluster(41))));
+    assert!(rt; matches!(found(alloc, &b)?, Told::FreeCluster(41)));
     b[40][4] = 1;
-    assert!(rt; matches!(found(alloc, &b)?, Some(Finding::NoQuotaRow(1))));
+    assert!(rt; matches!(found(alloc, &b)?, Told::NoQuotaRow(1)));
     b[39][0] = 0x17;
-    assert!(rt; matches!(found(alloc, &b)?, Some(Finding::DirRecord(4))));
+    assert!(rt; matches!(found(alloc, &b)?, Told::DirRecord(4)));
     b[1][496] = b'd';
-    assert!(rt; matches!(found(alloc, &b)?, Some(Finding::Home(HomeFault::BadFormat))));
+    assert!(rt; matches!(found(alloc, &b)?, Told::Home(HomeFault::BadFormat)));
     Ok(())
 }

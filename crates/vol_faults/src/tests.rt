@@ -9,7 +9,7 @@ use crate::{
 };
 use fx_bitmap::{clear_bits, set_bits};
 use fx_header::HeaderFault;
-use fx_home::{Home, Scb, ScbFault, scb_block};
+use fx_home::{Home, HomeFault, Scb, ScbFault, scb_block};
 use plain_cat::NoMemory;
 use std::alloc::Global;
 use std::test::Fail;
@@ -107,85 +107,142 @@ fn first(alloc: Global, home: &Home, blocks: &[Block]) -> Result<(Option<Finding
     Ok((None, count_outside(home, blocks, &counts)))
 }
 
+/// What is found, of the kinds that the tests look for.
+#[derive(Clone, Copy)]
+pub(crate) enum Told {
+    Nothing,
+    Home(HomeFault),
+    Header(u32, HeaderFault),
+    WrongNumber(u32),
+    SystemFile(u32),
+    Scb(ScbFault),
+    Runs(u32),
+    Clusters(u32),
+    SharedCluster(u32),
+    DirRecord(u32),
+    NoQuotaRow(u32),
+    FreeCluster(u32),
+    FreeNumber(u32),
+    SystemEntry(u32),
+    Other,
+}
+
+pub(crate) fn kind_of(found: &Option<Finding>) -> Told {
+    match found {
+        None => Told::Nothing,
+        Some(Finding::Home(fault)) => Told::Home(*fault),
+        Some(Finding::Header(n, fault)) => Told::Header(*n, *fault),
+        Some(Finding::WrongNumber(n)) => Told::WrongNumber(*n),
+        Some(Finding::SystemFile(n)) => Told::SystemFile(*n),
+        Some(Finding::Scb(fault)) => Told::Scb(*fault),
+        Some(Finding::Runs(n)) => Told::Runs(*n),
+        Some(Finding::Clusters(n)) => Told::Clusters(*n),
+        Some(Finding::SharedCluster(n)) => Told::SharedCluster(*n),
+        Some(Finding::DirRecord(n)) => Told::DirRecord(*n),
+        Some(Finding::NoQuotaRow(n)) => Told::NoQuotaRow(*n),
+        Some(Finding::FreeCluster(n)) => Told::FreeCluster(*n),
+        Some(Finding::FreeNumber(n)) => Told::FreeNumber(*n),
+        Some(Finding::SystemEntry(n)) => Told::SystemEntry(*n),
+        Some(_) => Told::Other,
+    }
+}
+
+/// The first finding, and how many clusters are outside where there is none.
+fn first_told(alloc: Global, b: &[Block; 64]) -> Result<(Told, u32), NoMemory> {
+    let (found, outside) = first(alloc, &SMALL, b)?;
+    Ok((kind_of(&found), outside))
+}
+
+/// The sound volume with one block in place of its own.
+fn with_block(lbn: usize, block: &Block) -> [Block; 64] {
+    let mut b = small();
+    if let Some(place) = b.get_mut(lbn) {
+        *place = *block;
+    }
+    b
+}
+
+/// The first finding with one block in place of its own.
+fn first_with(alloc: Global, lbn: usize, block: &Block) -> Result<(Told, u32), NoMemory> {
+    first_told(alloc, &with_block(lbn, block))
+}
+
 #[test]
 fn first_findings_of_headers(rt: HostRuntime) -> Result<(), Fail> {
     let alloc = rt.alloc();
-    let mut b = small();
-    assert!(rt; matches!(first(alloc, &SMALL, &b)?, (None, 0)));
-    b[24] = header(20, 1, 0, NO_RUN, NO_RUN);
-    put_word(&mut b[24], 12, 1);
+    assert!(rt; matches!(first_told(alloc, &small())?, (Told::Nothing, 0)));
+    let mut changed = header(20, 1, 0, NO_RUN, NO_RUN);
+    put_word(&mut changed, 12, 1);
     assert!(rt;
         matches!(
-            first(alloc, &SMALL, &b)?,
-            (Some(Finding::Header(20, HeaderFault::BadSum)), _)
+            first_with(alloc, 24, &changed)?,
+            (Told::Header(20, HeaderFault::BadSum), _)
         )
     );
-    b[24] = header(21, 1, 0, NO_RUN, NO_RUN);
-    assert!(rt;
-        matches!(
-            first(alloc, &SMALL, &b)?,
-            (Some(Finding::WrongNumber(20)), _)
-        )
-    );
-    b = small();
-    b[9] = header(5, 5, MARKED, NO_RUN, NO_RUN);
-    assert!(rt; matches!(first(alloc, &SMALL, &b)?, (Some(Finding::SystemFile(5)), _)));
-    b = small();
-    b[5] = header(1, 1, 0, (0, 36), NO_RUN);
-    assert!(rt; matches!(first(alloc, &SMALL, &b)?, (Some(Finding::SystemFile(1)), _)));
-    b = small();
-    b[37] = scb_block(&Scb {
+    let other = header(21, 1, 0, NO_RUN, NO_RUN);
+    assert!(rt; matches!(first_with(alloc, 24, &other)?, (Told::WrongNumber(20), _)));
+    let marked = header(5, 5, MARKED, NO_RUN, NO_RUN);
+    assert!(rt; matches!(first_with(alloc, 9, &marked)?, (Told::SystemFile(5), _)));
+    let short = header(1, 1, 0, (0, 36), NO_RUN);
+    assert!(rt; matches!(first_with(alloc, 5, &short)?, (Told::SystemFile(1), _)));
+    let larger = scb_block(&Scb {
         cluster: 1,
         blocks: 65,
     });
     assert!(rt;
         matches!(
-            first(alloc, &SMALL, &b)?,
-            (Some(Finding::Scb(ScbFault::BadSize)), _)
+            first_with(alloc, 37, &larger)?,
+            (Told::Scb(ScbFault::BadSize), _)
         )
     );
     Ok(())
 }
 
+/// The sound volume with a file 12 of these runs.
+fn with_runs(flags: u32, first: (u16, u16), second: (u16, u16)) -> [Block; 64] {
+    with_block(16, &header(12, 1, flags, first, second))
+}
+
+/// The first finding with a file 12 of these runs.
+fn first_of_file(
+    alloc: Global,
+    flags: u32,
+    first: (u16, u16),
+    second: (u16, u16),
+) -> Result<(Told, u32), NoMemory> {
+    first_told(alloc, &with_runs(flags, first, second))
+}
+
 #[test]
 fn first_findings_of_clusters(rt: HostRuntime) -> Result<(), Fail> {
     let alloc = rt.alloc();
-    let mut b = small();
-    b[16] = header(12, 1, 0, (60, 5), NO_RUN);
-    assert!(rt; matches!(first(alloc, &SMALL, &b)?, (Some(Finding::Runs(12)), _)));
-    b[16] = header(12, 1, 0, (0, 39), (0, 39));
-    assert!(rt; matches!(first(alloc, &SMALL, &b)?, (Some(Finding::Clusters(12)), _)));
-    b[16] = header(12, 1, MARKED, (41, 3), NO_RUN);
     assert!(rt;
         matches!(
-            first(alloc, &SMALL, &b)?,
-            (Some(Finding::SharedCluster(41)), _)
+            first_of_file(alloc, 0, (60, 5), NO_RUN)?,
+            (Told::Runs(12), _)
         )
     );
-    b[16] = header(12, 1, MARKED, (42, 1), (63, 1));
     assert!(rt;
         matches!(
-            first(alloc, &SMALL, &b)?,
-            (Some(Finding::FreeCluster(42)), _)
+            first_of_file(alloc, 0, (0, 39), (0, 39))?,
+            (Told::Clusters(12), _)
         )
     );
+    assert!(rt;
+        matches!(
+            first_of_file(alloc, MARKED, (41, 3), NO_RUN)?,
+            (Told::SharedCluster(41), _)
+        )
+    );
+    let mut b = with_runs(MARKED, (42, 1), (63, 1));
+    assert!(rt; matches!(first_told(alloc, &b)?, (Told::FreeCluster(42), _)));
     clear_bits(&mut b[38], 42, 1);
-    assert!(rt;
-        matches!(
-            first(alloc, &SMALL, &b)?,
-            (Some(Finding::FreeCluster(63)), _)
-        )
-    );
+    assert!(rt; matches!(first_told(alloc, &b)?, (Told::FreeCluster(63), _)));
     clear_bits(&mut b[38], 63, 1);
-    assert!(rt;
-        matches!(
-            first(alloc, &SMALL, &b)?,
-            (Some(Finding::FreeNumber(12)), _)
-        )
-    );
+    assert!(rt; matches!(first_told(alloc, &b)?, (Told::FreeNumber(12), _)));
     set_bits(&mut b[4], 11, 1);
-    assert!(rt; matches!(first(alloc, &SMALL, &b)?, (None, 0)));
+    assert!(rt; matches!(first_told(alloc, &b)?, (Told::Nothing, 0)));
     clear_bits(&mut b[38], 50, 3);
-    assert!(rt; matches!(first(alloc, &SMALL, &b)?, (None, 3)));
+    assert!(rt; matches!(first_told(alloc, &b)?, (Told::Nothing, 3)));
     Ok(())
 }
