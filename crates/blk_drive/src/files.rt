@@ -1,6 +1,9 @@
 //! An image in a file, of which large pieces are read ahead.
-ghost use Rattle.std.specs.Prelude.{◌≡◌, ◌<◌, ◌≤◌, ◌*◌, ◌^◌, ◌↔◌, false, IfOk, IfSome, IsOk, IsTrue, None};
+ghost use Rattle.std.specs.Prelude.{◌≡◌, ◌<◌, ◌≤◌, ◌+◌, ◌*◌, ◌^◌, ◌↔◌, false, slice_range, IfOk, IfSome, IsOk, IsTrue, None};
+ghost use Rattle.std.specs.Bool.{OnTrue};
+ghost use Rattle.std.specs.Io.KnownBytes.{Appends, Consumes};
 ghost use Rattle.vol_words.specs.Faults.{HasCause};
+ghost use Rattle.blk_drive.specs.Files.{place_in};
 
 use crate::{DevFault, ImageDev, NoMemory};
 use std::alloc::Global;
@@ -11,6 +14,20 @@ use vol_words::Block;
 
 // The blocks of a piece that is read ahead: 1 MiB.
 const AHEAD: u32 = 2048;
+
+// Writes the whole block where the file stands. It is written only where all of it was taken.
+fn write_whole<W: Write>(file: &mut W, b: &Block) -> bool
+    ensures { OnTrue result (Appends (W.contents file.old) (W.contents file.new) b.now) }
+{
+    file.write_all(b).is_ok()
+}
+
+// Fills the whole piece from where the file stands.
+fn read_whole<R: Read>(file: &mut R, piece: &mut [u8]) -> bool
+    ensures { OnTrue result (Consumes (R.remaining file.old) (R.remaining file.new) piece.new) }
+{
+    file.read_exact(piece).is_ok()
+}
 
 // An open file, and the piece of it that was read last: so many blocks from a first one on.
 #[derive(Drop)]
@@ -24,14 +41,18 @@ struct Opened<F: Drop> {
 impl<F: Read + Write + Seek + Drop> Opened<F> {
     // Where the block lies in the piece, if it does.
     fn place_of(&self, lbn: u32) -> Option<usize>
-        ensures { IfSome result (λ at. at ≤ 512 * 2 ^ 32) }
+        ensures place { result ≡ place_in self.now.first self.now.count lbn }
+        ensures bound { IfSome result (λ at. at ≤ 512 * 2 ^ 32) }
     {
         let index = lbn.checked_sub(self.first)?;
         (index < self.count).then_some(index as usize * 512)
     }
 
     // Copies the block from the piece, if it lies there.
-    fn copy(&self, lbn: u32, b: &mut Block) -> bool {
+    fn copy(&self, lbn: u32, b: &mut Block) -> bool
+        ensures { OnTrue result (IfSome (place_in self.now.first self.now.count lbn)
+            (λ at. b.new ≡ slice_range self.now.piece.items at (at + 512))) }
+    {
         let Some(at) = self.place_of(lbn) else {
             return false;
         };
@@ -52,7 +73,7 @@ impl<F: Read + Write + Seek + Drop> Opened<F> {
             .file
             .seek(SeekFrom::Start(u64::from(lbn) * 512))
             .is_ok()
-            && self.file.read_exact(piece).is_ok();
+            && read_whole(&mut self.file, piece);
         if is_read {
             self.first = lbn;
             self.count = count;
@@ -69,15 +90,24 @@ impl<F: Read + Write + Seek + Drop> Opened<F> {
             || (self.fetch(lbn, 1) && self.copy(lbn, b))
     }
 
-    // Writes the block to the file. A piece that had the old block is given up.
-    fn write(&mut self, lbn: u32, b: &Block) -> bool {
+    // Gives the piece up where it has the block.
+    fn give_up(&mut self, lbn: u32)
+        ensures { place_in self.new.first self.new.count lbn ≡ None }
+    {
         if self.place_of(lbn).is_some() {
             self.count = 0;
         }
+    }
+
+    // Writes the block to the file. A piece that had the old block is given up.
+    fn write(&mut self, lbn: u32, b: &Block) -> bool
+        ensures { place_in self.new.first self.new.count lbn ≡ None }
+    {
+        self.give_up(lbn);
         self.file
             .seek(SeekFrom::Start(u64::from(lbn) * 512))
             .is_ok()
-            && self.file.write_all(b).is_ok()
+            && write_whole(&mut self.file, b)
     }
 }
 

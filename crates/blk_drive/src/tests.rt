@@ -176,6 +176,51 @@ fn image_of(rt: &HostRuntime, path: Path<'_>) -> Result<FileImage<File>, Failed>
     Ok(image)
 }
 
+// Makes a file of so many bytes, each of them 5.
+fn write_file(rt: &HostRuntime, path: Path<'_>, len: usize) -> Result<(), Failed> {
+    let bytes: Vec<u8> = vec![in rt.alloc(); 5; len]?;
+    fs::write(rt, path, bytes.as_slice())?;
+    Ok(())
+}
+
+// How many blocks the image of a file of so many bytes has.
+fn size_of_file(rt: &HostRuntime, path: Path<'_>, len: usize) -> Result<Option<u32>, Failed> {
+    write_file(rt, path, len)?;
+    let mut image = image_of(rt, path)?;
+    Ok(image.blocks().ok())
+}
+
+#[test]
+fn a_rest_that_is_no_block_is_left_out(rt: HostRuntime) -> Result<(), Failed> {
+    let name = format!(in rt.alloc(); "blk_drive-rest-{}", process::id(rt.process()))?;
+    let path = env::temp_dir(&rt)?.join(rt.alloc(), name.as_str())?;
+    for (len, want) in [(511usize, 0), (64 * 512, 64), (64 * 512 + 511, 64)] {
+        let size = size_of_file(&rt, path.as_path(), len)?;
+        assert_eq!(rt; size, Some(want), "{len} bytes");
+    }
+    fs::remove_file(&rt, path.as_path())?;
+    Ok(())
+}
+
+// A file that is not open for writing is read, and each write of it fails.
+fn check_unwritable(rt: &impl Abort, image: &mut FileImage<File>) {
+    assert_eq!(rt; read(image, 3), Some([5; 512]));
+    assert!(rt; !write(image, 3, &[6; 512]));
+    assert!(rt; !write(image, 3, &[6; 512]));
+    assert_eq!(rt; read(image, 3), Some([5; 512]));
+}
+
+#[test]
+fn a_file_that_is_not_written_gives_a_fault(rt: HostRuntime) -> Result<(), Failed> {
+    let name = format!(in rt.alloc(); "blk_drive-read-{}", process::id(rt.process()))?;
+    let path = env::temp_dir(&rt)?.join(rt.alloc(), name.as_str())?;
+    write_file(&rt, path.as_path(), 64 * 512)?;
+    let mut image = FileImage::new(rt.alloc(), File::open(&rt, path.as_path())?)?;
+    check_unwritable(&rt, &mut image);
+    fs::remove_file(&rt, path.as_path())?;
+    Ok(())
+}
+
 #[test]
 fn reads_and_writes_a_file(rt: HostRuntime) -> Result<(), Failed> {
     let name = format!(in rt.alloc(); "blk_drive-{}", process::id(rt.process()))?;

@@ -13,8 +13,7 @@ use Rattle.plain_cat.specs.declared.script.Line.{Line}
 use Rattle.plain_cat.specs.declared.script.Script.{Script}
 use Rattle.plain_cat.specs.declared.history.Entry.{Entry}
 use Rattle.plain_vol.specs.Own.{past, filled, lines_of, close_from, or_close, next_command}
-use Rattle.run_script.specs.declared.built.TheConstants.{BUILT}
-use Rattle.run_script.specs.Table.{is_built, AreBuilt}
+use Rattle.run_script.specs.Table.{run_so_far, is_built, AreBuilt}
 use Rattle.op_lookup.specs.Kinds.{IsLook}
 use Rattle.op_create.specs.Kinds.{IsMake}
 use Rattle.xqp_set.specs.Built.{IsBuilt}
@@ -22,9 +21,9 @@ use Rattle.core_state.specs.Goods.{is_run, IsRun, HasOnly}
 
 -- a line of a command that is built, in form
 abbrev is_good : LineCmd → Bool
-is_good l = is_built BUILT l && line_in_form l
+is_good l = is_built run_so_far l && line_in_form l
 
-filled_built : (g : List Fid) (l : LineCmd) → is_built BUILT l ≡ true → line_in_form l ≡ true → IsBuilt (filled g l)
+filled_built : (g : List Fid) (l : LineCmd) → is_built run_so_far l ≡ true → line_in_form l ≡ true → IsBuilt (filled g l)
 unfolding filled line_in_form
 filled_built g (line.Lookup reg dir name ver) h form = inl tt
 filled_built g (line.List dir) h form = inl tt
@@ -47,17 +46,17 @@ one_good [] i l h e = let f : None ≡ Some l = e in cc
 one_good (x ∷ xs) zero l h e = let f : Some x ≡ Some l = e in let same : x ≡ l = cc in subst (λ y. is_good y ≡ true) same (and_parts (is_good x) (list_all is_good xs) h).0
 one_good (x ∷ xs) (suc i) l h e = one_good xs i l (and_parts (is_good x) (list_all is_good xs) h).1 e
 
-all_good : (nodes : ℕ) (ls : List Line) → list_all (λ (x : Line). is_built BUILT x.cmd) ls ≡ true → list_all (λ (x : Line). is_within 1 nodes x.node && line_in_form x.cmd) ls ≡ true
+all_good : (nodes : ℕ) (ls : List Line) → list_all (λ (x : Line). is_built run_so_far x.cmd) ls ≡ true → list_all (λ (x : Line). is_within 1 nodes x.node && line_in_form x.cmd) ls ≡ true
     → list_all (λ (x : Line). is_good x.cmd) ls ≡ true
 all_good nodes [] h k = refl
 all_good nodes (l ∷ ls) h k =
-    let p = and_parts (is_built BUILT l.cmd) (list_all (λ (x : Line). is_built BUILT x.cmd) ls) h in
+    let p = and_parts (is_built run_so_far l.cmd) (list_all (λ (x : Line). is_built run_so_far x.cmd) ls) h in
     let q = and_parts (is_within 1 nodes l.node && line_in_form l.cmd) (list_all (λ (x : Line). is_within 1 nodes x.node && line_in_form x.cmd) ls) k in
     let form = (and_parts (is_within 1 nodes l.node) (line_in_form l.cmd) q.0).1 in
     rw (p.0, form, all_good nodes ls p.1 q.1) refl
 
 -- a node with no open channel comes to its lines alone
-pub only_built : (s : Script) → InForm s → AreBuilt BUILT s.lines → HasOnly IsBuilt s
+pub only_built : (s : Script) → InForm s → AreBuilt run_so_far s.lines → HasOnly IsBuilt s
 only_built s form built n h x closed e = by (slice_get (lines_of n s.lines) (past n h).answered) refl e where
   good : list_all is_good (lines_of n s.lines) ≡ true
   good = lines_good n s.lines (all_good s.nodes s.lines built (list_all-from_AllPass _ s.lines form.lines))
@@ -68,7 +67,7 @@ only_built s form built n h x closed e = by (slice_get (lines_of n s.lines) (pas
       absurd (let g : None ≡ Some x = none in cc)
   by (Some l) at f =
       let same : filled (past n h).registers l ≡ x = cc in
-      let parts = and_parts (is_built BUILT l) (line_in_form l) (one_good (lines_of n s.lines) (past n h).answered l good at) in
+      let parts = and_parts (is_built run_so_far l) (line_in_form l) (one_good (lines_of n s.lines) (past n h).answered l good at) in
       subst IsBuilt same (filled_built (past n h).registers l parts.0 parts.1)
 
 built_runs : (x : Cmd) → IsBuilt x → is_run x ≡ true
@@ -81,5 +80,5 @@ built_runs (cmd.MkDir reg dir name owner) h = refl
 built_runs x (inl h) = absurd h
 built_runs x (inr h) = absurd h
 
-pub only_run : (s : Script) → InForm s → AreBuilt BUILT s.lines → HasOnly IsRun s
+pub only_run : (s : Script) → InForm s → AreBuilt run_so_far s.lines → HasOnly IsRun s
 only_run s form built n h x closed e = built_runs x (only_built s form built n h x closed e)

@@ -14,7 +14,7 @@ use Rattle.vol_parts.specs.Findings.{Accepts}
 use Rattle.vol_analyze.specs.Judging.{IsFirstFound}
 use Rattle.plain_cat.specs.InForm.{InForm, is_within}
 use Rattle.run_script.proofs.Pieces.{limits}
-use Rattle.run_script.specs.declared.built.TheConstants.{BUILT}
+use Rattle.run_script.specs.Table.{run_so_far}
 use Rattle.run_script.specs.Lines.{lines_of}
 use Rattle.run_script.specs.Spelling.{SpellsScript}
 use Rattle.core_state.specs.Images.{told_as}
@@ -25,14 +25,14 @@ use Rattle.core_state.specs.declared.mounting.MountFault.{MountFault}
 use Rattle.core_state.specs.declared.mounting.MountFault.TheVariants as mount
 use Rattle.run_engine.specs.declared.fault.RunFault.{RunFault}
 use Rattle.run_engine.specs.declared.fault.RunFault.TheVariants as run
-use Rattle.run_engine.specs.Walks.{played, budget_of, Walk, IsPartOfWalk, AllOver, IsSpent, IsBeforeWrite, Stays}
+use Rattle.run_engine.specs.Walks.{played, budget_of, IsPartOfWalk, IsRotatedIn, AllOver, IsSpent, IsNextIn, IsBeforeWrite, Stays}
 use Rattle.run_engine.specs.Reports.{report_bytes}
 use Rattle.run_engine.specs.Ended.{IsSpelt, HasEnded}
 use Rattle.run_engine.proofs.Driving.{told_well}
 use Rattle.run_engine.specs.declared.status.Status.{Status}
 use Rattle.run_engine.specs.declared.status.Status.TheVariants as status
 use Rattle.clus_top.specs.Runs.{IsReport, HasRun, IsUnfinished}
-use Rattle.clus_top.specs.Statuses.{IsGood, IsReportOn}
+use Rattle.clus_top.specs.Statuses.{IsGood, IsReportOn, status_text}
 use Rattle.clus_top.specs.declared.run.Stop.{Stop}
 use Rattle.clus_top.specs.declared.run.Stop.TheVariants as stop
 use Rattle.clus_top.specs.Ends.{SpellsWithin, IsReportIn, IsDriveIn, IsEndIn, IsSpentIn, IsCutIn, IsCutShortIn, IsStopIn, IsStopBy, IsStopOf, IsRunEnd, IsRunStop, IsQuietImage, IsStopImage, mount_status}
@@ -76,24 +76,31 @@ module _ (start : Plain) (good : Good start) (m : IsMounted start.blocks start.s
   )
 
   -- a run that a write cut short
-  pub cut_in : (new : Plain) (plays : List ℕ) → plays ≡ start.script.plays → IsPartOfWalk start plays new → Good new → IsBeforeWrite new → IsCutIn start.script start.blocks
-  cut_in new plays same part keeps before = record { world = new; ran = has_run new plays same part keeps; before = before }
+  pub cut_in : (new : Plain) (plays : List ℕ) (told now : Option (List Block)) → plays ≡ start.script.plays → IsPartOfWalk start plays new → Good new
+      → IsBeforeWrite (IsNextIn start plays new) start.blocks told now new → IsCutIn start.script start.blocks told now
+  unfolding has_run
+  cut_in new plays told now same part keeps before = record {
+    world = new;
+    ran = has_run new plays same part keeps;
+    before = subst (λ (ns : List ℕ). IsBeforeWrite (IsNextIn start ns new) start.blocks told now new) same before;
+  }
 
   -- a run that stopped by this fault
   pub run_stop : {A : Type 0} (new : Plain) (plays : List ℕ) (told now : Option (List Block)) (had has : ℕ) (r : Result A RunFault) (f : RunFault) → r ≡ Err f
       → plays ≡ start.script.plays → OnErr r (IsPartOfWalk start plays new) → Good new
       → (r ≡ Err run.Unfinished → IsSpent (budget_of start) (played plays start) new)
-      → (r ≡ Err run.ImageFault → Rose had has) → (r ≡ Err run.ImageFault → IsBeforeWrite new)
+      → (r ≡ Err run.ImageFault → Rose had has) → (r ≡ Err run.ImageFault → IsBeforeWrite (IsNextIn start plays new) start.blocks told now new)
       → (now ≡ told_as told new.blocks) ⊎ (r ≡ Err run.ImageFault)
       → (s : Stop) → IsStopOf new f s → IsStopBy start.script start.blocks told now had has s
   unfolding cut_in
   run_stop {A} new plays told now had has r run.ImageFault is same part keeps spent cause before image (stop.Cut text) written =
-      (cause is, record { cut = cut_in new plays same (on_err r run.ImageFault (IsPartOfWalk start plays new) is part) keeps (before is); written = written })
-  run_stop {A} new plays told now had has r run.ImageFault is same part keeps spent cause before image (stop.By s) none =
-      subst (IsStopIn start.script start.blocks told now) (sym none) (inr (inr (cut_in new plays same (on_err r run.ImageFault (IsPartOfWalk start plays new) is part) keeps (before is))))
+      (cause is, record { cut = cut_in new plays told now same (on_err r run.ImageFault (IsPartOfWalk start plays new) is part) keeps (before is); written = written })
+  run_stop {A} new plays told now had has r run.ImageFault is same part keeps spent cause before image stop.Bare none =
+      (cause is, cut_in new plays told now same (on_err r run.ImageFault (IsPartOfWalk start plays new) is part) keeps (before is))
+  run_stop {A} new plays told now had has r run.ImageFault is same part keeps spent cause before image (stop.By s) none = absurd none
   run_stop {A} new plays told now had has r run.NoMemory is same part keeps spent cause before image s e =
-      subst (IsStopBy start.script start.blocks told now had has) (sym e) (inr (inl (drive_in new plays told now same (on_err r run.NoMemory (IsPartOfWalk start plays new) is part) keeps
-      (told_well (r ≡ Err run.ImageFault) _ _ image (λ p. let f : run.NoMemory ≡ run.ImageFault = same_err r run.NoMemory run.ImageFault is p in cc)))))
+      subst (IsStopBy start.script start.blocks told now had has) (sym e) (inr (drive_in new plays told now same (on_err r run.NoMemory (IsPartOfWalk start plays new) is part) keeps
+      (told_well (r ≡ Err run.ImageFault) _ _ image (λ p. let f : run.NoMemory ≡ run.ImageFault = same_err r run.NoMemory run.ImageFault is p in cc))))
   run_stop {A} new plays told now had has r run.Unfinished is same part keeps spent cause before image s e =
       subst (IsStopBy start.script start.blocks told now had has) (sym e) (spent_in new plays told now same (on_err r run.Unfinished (IsPartOfWalk start plays new) is part) keeps
       (told_well (r ≡ Err run.ImageFault) _ _ image (λ p. let f : run.Unfinished ≡ run.ImageFault = same_err r run.Unfinished run.ImageFault is p in cc)) (spent is))
@@ -105,10 +112,9 @@ module _ (start : Plain) (good : Good start) (m : IsMounted start.blocks start.s
 
   -- the history of a world that has come to its end replays, and its drive spells the catalogue to which it leads
   report_in : (new : Plain) (text : List ℕ) → Stays start new → IsAnswered new → Whole new.script new.history
-      → (c : Cat) → HasEnded new c → text ≡ report_bytes new.history (free_clusters c) → IsReportIn start.script start.blocks new.blocks text
+      → (c : Cat) → HasEnded new c → text ≡ report_bytes new.history (free_clusters c) → IsReportIn start.script start.blocks new text
   report_in new text stays orderly whole c end written = record {
     opening = m.opening;
-    history = new.history;
     after = c;
     geometry = start.geometry;
     accepted = m.accepted;
@@ -123,14 +129,15 @@ module _ (start : Plain) (good : Good start) (m : IsMounted start.blocks start.s
   }
 
   -- a run that has come to its end
-  pub end_in : (new : Plain) (plays : List ℕ) (told now : Option (List Block)) (text : List ℕ) → plays ≡ start.script.plays → Walk start plays new → AllOver new → Good new → Stays start new
+  pub end_in : (new : Plain) (plays : List ℕ) (told now : Option (List Block)) (text : List ℕ) → plays ≡ start.script.plays → IsRotatedIn (budget_of start) (played plays start) new → AllOver new → Good new → Stays start new
       → Whole new.script new.history → now ≡ told_as told new.blocks → (c : Cat) × HasEnded new c × (text ≡ report_bytes new.history (free_clusters c))
       → IsEndIn start.script start.blocks told now text
-  unfolding drive_in
+  unfolding drive_in has_run
   end_in new plays told now text same walk over keeps stays whole image end = record {
-    drive = drive_in new plays told now same (inr walk) keeps image;
+    drive = drive_in new plays told now same (inr (walk.turns, walk.at)) keeps image;
+    walked = subst (λ (ns : List ℕ). IsRotatedIn (budget_of start) (played ns start) new) same walk;
     over = over;
-    report = report_in new text stays (over_walk IsAnswered turn_keeps start plays new walk answered) whole end.0 end.1 end.2;
+    report = report_in new text stays (over_walk IsAnswered turn_keeps start plays new (walk.turns, walk.at) answered) whole end.0 end.1 end.2;
   }
 
 -- what is said of a mounted volume is said of its blocks
@@ -176,13 +183,16 @@ is_accepted told t new script blocks text same h = of_told Accepts told blocks s
 reported : (bytes : List ℕ) (bs : List Block) (new : Option (List Block)) (script : Script) (text : List ℕ) → SpellsWithin script bytes → IsEndIn script bs (Some bs) new text → IsReport bytes bs new text
 reported bytes bs new script text spelt h = record {
   script = script;
+  start = h.drive.ran.start;
+  world = h.drive.world;
   opening = h.report.opening;
-  history = h.report.history;
   after = h.report.after;
   geometry = h.report.geometry;
-  blocks = h.drive.world.blocks;
   spelt = spelt.spelt;
   accepted = h.report.accepted;
+  mounted = h.drive.ran.mounted;
+  walked = h.walked;
+  over = h.over;
   told = h.report.told;
   replayed = h.report.replayed;
   whole = h.report.whole;
@@ -203,7 +213,7 @@ report_on (Some bytes) (Some bs) new script blocks text spelt same h =
 
 -- ---- the drive of a run
 
-spells : (left : Option (List ℕ)) (script : Script) → IfSome left (SpellsWithin script) → IfSome left (λ bytes. SpellsScript BUILT (lines_of bytes) script)
+spells : (left : Option (List ℕ)) (script : Script) → IfSome left (SpellsWithin script) → IfSome left (λ bytes. SpellsScript run_so_far (lines_of bytes) script)
 spells None script h = tt
 spells (Some bytes) script h = h.spelt
 
@@ -236,32 +246,38 @@ spent_on left None new script blocks spelt same h = tt
 spent_on left (Some bs) new script blocks spelt same h =
     spent_of left bs new script spelt (let P : List Block → Type 0 = λ x. IsSpentIn script x (Some bs) new in subst P same h)
 
-cut_of : (left : Option (List ℕ)) (bs : List Block) (script : Script) → IfSome left (SpellsWithin script) → IsCutIn script bs → IsCutOf left bs
-cut_of left bs script spelt h = record { script = script; spelt = spells left script spelt; world = h.world; ran = h.ran; before = h.before }
+cut_of : (left : Option (List ℕ)) (bs : List Block) (new : Option (List Block)) (script : Script) → IfSome left (SpellsWithin script) → IsCutIn script bs (Some bs) new → IsCutOf left bs new
+cut_of left bs new script spelt h = record { script = script; spelt = spells left script spelt; world = h.world; ran = h.ran; before = h.before }
 
-short_of : (left : Option (List ℕ)) (bs : List Block) (script : Script) (text : List ℕ) → IfSome left (SpellsWithin script) → IsCutShortIn script bs text → IsCutShort left bs text
+short_of : (left : Option (List ℕ)) (bs : List Block) (new : Option (List Block)) (script : Script) (text : List ℕ) → IfSome left (SpellsWithin script) → IsCutShortIn script bs (Some bs) new text → IsCutShort left bs new text
 unfolding cut_of
-short_of left bs script text spelt h = record { cut = cut_of left bs script spelt h.cut; written = h.written }
+short_of left bs new script text spelt h = record { cut = cut_of left bs new script spelt h.cut; written = inl h.written }
 
-far_on : (left : Option (List ℕ)) (told new : Option (List Block)) (script : Script) (blocks : List Block)
-    → IfSome left (SpellsWithin script) → IfSome told (λ bs. blocks ≡ bs) → IsDriveIn script blocks told new ⊎ IsCutIn script blocks → IfSome told (λ bs. IsDriveOf left bs new ⊎ IsCutOf left bs)
-far_on left None new script blocks spelt same d = tt
-far_on left (Some bs) new script blocks spelt same (inl d) =
-    inl (drive_of left bs new script spelt (let P : List Block → Type 0 = λ x. IsDriveIn script x (Some bs) new in subst P same d))
-far_on left (Some bs) new script blocks spelt same (inr d) = inr (subst (IsCutOf left) same (cut_of left blocks script spelt d))
+short_on : (left : Option (List ℕ)) (told new : Option (List Block)) (script : Script) (blocks : List Block) (text : List ℕ)
+    → IfSome left (SpellsWithin script) → IfSome told (λ bs. blocks ≡ bs) → IsCutShortIn script blocks told new text → IfSome told (λ bs. IsCutShort left bs new text)
+short_on left None new script blocks text spelt same h = tt
+short_on left (Some bs) new script blocks text spelt same h =
+    short_of left bs new script text spelt (let P : List Block → Type 0 = λ x. IsCutShortIn script x (Some bs) new text in subst P same h)
+
+bare_on : (left : Option (List ℕ)) (told new : Option (List Block)) (script : Script) (blocks : List Block)
+    → IfSome left (SpellsWithin script) → IfSome told (λ bs. blocks ≡ bs) → IsCutIn script blocks told new → IfSome told (λ bs. IsCutShort left bs new (status_text status.ImageFault))
+bare_on left None new script blocks spelt same h = tt
+bare_on left (Some bs) new script blocks spelt same h =
+    record { cut = cut_of left bs new script spelt (let P : List Block → Type 0 = λ x. IsCutIn script x (Some bs) new in subst P same h); written = inr refl }
 
 quiet_image : (left : Option (List ℕ)) (told new : Option (List Block)) (script : Script) (blocks : List Block) (s : Status)
     → IfSome left (SpellsWithin script) → IfSome told (λ bs. blocks ≡ bs) → IsStopIn script blocks told new s → IsQuietImage left told new s
 quiet_image left told new script blocks (status.NotAccepted f) spelt same end = end.1
 quiet_image left told new script blocks status.NoMemory spelt same (inl e) = inl e
-quiet_image left told new script blocks status.NoMemory spelt same (inr d) = inr (far_on left told new script blocks spelt same d)
+quiet_image left told new script blocks status.NoMemory spelt same (inr d) = inr (drive_on left told new script blocks spelt same d)
 quiet_image left told new script blocks status.Unfinished spelt same end = spent_on left told new script blocks spelt same end.1
 quiet_image left told new script blocks s spelt same end = absurd end
 
 -- why the blocks gave no report says what the image has
 pub stop_image : (left : Option (List ℕ)) (told new : Option (List Block)) (script : Script) (blocks : List Block) (had has : ℕ) (s : Stop)
     → IfSome left (SpellsWithin script) → IfSome told (λ bs. blocks ≡ bs) → IsStopBy script blocks told new had has s → IsStopImage left told new s
-stop_image left told new script blocks had has (stop.Cut text) spelt same end = of_told (λ bs. IsCutShort left bs text.items) told blocks same (short_of left blocks script text.items spelt end.1)
+stop_image left told new script blocks had has (stop.Cut text) spelt same end = short_on left told new script blocks text.items spelt same end.1
+stop_image left told new script blocks had has stop.Bare spelt same end = bare_on left told new script blocks spelt same end.1
 stop_image left told new script blocks had has (stop.By s) spelt same end = quiet_image left told new script blocks s spelt same end
 
 -- ---- why a run gave no report
@@ -293,6 +309,7 @@ quiet_end left size told new script blocks read reading first has s spelt inside
 pub volume_end : (left : Option (List ℕ)) (size : ℕ) (told new : Option (List Block)) (script : Script) (blocks : List Block) (read reading first had has : ℕ) (s : Stop)
     → IfSome left (SpellsWithin script) → IsInside size → IfSome told (λ bs. blocks ≡ bs) → first ≤ had → IsStopBy script blocks told new had has s → IsRunStop left size told read reading first has s
 volume_end left size told new script blocks read reading first had has (stop.Cut text) spelt inside same later end = (good left script spelt, rose_later first had has later end.0)
+volume_end left size told new script blocks read reading first had has stop.Bare spelt inside same later end = (good left script spelt, rose_later first had has later end.0)
 volume_end left size told new script blocks read reading first had has (stop.By s) spelt inside same later end = quiet_end left size told new script blocks read reading first has s spelt inside same end
 
 pub if_err : {A E : Type 0} (r : Result A E) (P Q : E → Type 0) → ((x : E) → P x → Q x) → IfErr r P → IfErr r Q

@@ -9,7 +9,6 @@ use Rattle.blk_drive.specs.declared.mirror.LoadFault.TheVariants as load
 use Rattle.fx_home.specs.Homes.{home_read}
 use Rattle.plain_cat.specs.declared.cat.Cat.{Cat}
 use Rattle.plain_cat.specs.declared.script.Script.{Script}
-use Rattle.plain_cat.specs.declared.history.Entry.{Entry}
 use Rattle.plain_vol.specs.Own.{Whole, Killed}
 use Rattle.plain_vol.specs.Replaying.{Replays}
 use Rattle.core_state.specs.declared.mounting.MountFault.{MountFault}
@@ -18,13 +17,13 @@ use Rattle.core_state.specs.Worlds.{Plain}
 use Rattle.core_state.specs.Images.{told_as}
 use Rattle.run_engine.specs.declared.fault.RunFault.{RunFault}
 use Rattle.run_engine.specs.declared.fault.RunFault.TheVariants as run
-use Rattle.run_engine.specs.Walks.{played, budget_of, AllOver, IsSpent, IsBeforeWrite}
+use Rattle.run_engine.specs.Walks.{played, budget_of, AllOver, IsRotatedIn, IsSpent, IsNextIn, IsBeforeWrite}
 use Rattle.run_engine.specs.Ended.{IsSpelt}
 use Rattle.vol_parts.specs.declared.finding.Finding.{Finding}
 use Rattle.vol_parts.specs.declared.geometry.Geometry.{Geometry}
 use Rattle.vol_parts.specs.Findings.{home_at, AreFindings, Accepts, CatOf}
 use Rattle.vol_faults.specs.Free.{IsGeometryBy}
-use Rattle.run_script.specs.declared.built.TheConstants.{BUILT}
+use Rattle.run_script.specs.Table.{run_so_far}
 use Rattle.run_script.specs.Lines.{lines_of}
 use Rattle.run_script.specs.Spelling.{SpellsScript}
 use Rattle.vol_analyze.specs.Judging.{IsFirstFound}
@@ -36,13 +35,13 @@ use Rattle.clus_top.specs.Runs.{is_mending, report_text, HasRun, IsUnfinished}
 use Rattle.vol_init.specs.declared.fault.InitFault.{InitFault}
 use Rattle.vol_init.specs.declared.fault.InitFault.TheVariants as fault
 use Rattle.vol_init.specs.Refusals.{refusal}
-use Rattle.clus_top.specs.Statuses.{IsTooLong, IsBad, IsOverfull, IsGood, IsAccepted, sized, cut_text}
-use Rattle.clus_top.specs.Images.{IsDriveOf, IsSpentDriveOf, IsCutOf, IsCutShort}
+use Rattle.clus_top.specs.Statuses.{IsTooLong, IsBad, IsOverfull, IsGood, IsAccepted, sized, status_text, cut_text}
+use Rattle.clus_top.specs.Images.{IsDriveOf, IsSpentDriveOf, IsCutShort}
 
 -- a text within its limit spells this script
 pub record SpellsWithin (script : Script) (bytes : List ℕ) : Type 0 where
   pub within : length bytes ≤ 1048576
-  pub spelt : SpellsScript BUILT (lines_of bytes) script
+  pub spelt : SpellsScript run_so_far (lines_of bytes) script
 
 -- why a text gave no script
 abbrev pub IsScriptEnd : Option (List ℕ) → ℕ → ℕ → Status → Type 0
@@ -53,21 +52,20 @@ IsScriptEnd left before now status.TooMany = IfSome left IsOverfull
 IsScriptEnd left before now status.NoMemory = Unit {0}
 IsScriptEnd left before now s = ⊥
 
--- the report of a script on the catalogue that blocks tell, in which nothing is found, and what it leaves there
-pub record IsReportIn (script : Script) (bs blocks : List Block) (text : List ℕ) : Type 0 where
+-- the report of a world that has run a script on the catalogue that blocks tell, in which nothing is found, and what it leaves there
+pub record IsReportIn (script : Script) (bs : List Block) (w : Plain) (text : List ℕ) : Type 0 where
   pub opening : Cat
-  pub history : List Entry
   pub after : Cat
   pub geometry : Geometry
   pub accepted : Accepts bs
   pub told : CatOf bs opening
-  pub replayed : Replays opening script history after
-  pub whole : Whole script history
-  pub killed : Killed script history
-  pub unmended : list_any is_mending history ≡ false
-  pub written : text ≡ report_text history after
+  pub replayed : Replays opening script w.history after
+  pub whole : Whole script w.history
+  pub killed : Killed script w.history
+  pub unmended : list_any is_mending w.history ≡ false
+  pub written : text ≡ report_text w.history after
   pub parts : IsGeometryBy bs (home_read (home_at bs)) geometry
-  pub left : IsSpelt geometry blocks after
+  pub left : IsSpelt geometry w.blocks after
 
 -- the image has the drive of a world that has run a script, where it told these blocks before
 pub record IsDriveIn (script : Script) (bs : List Block) (told new : Option (List Block)) : Type 0 where
@@ -78,41 +76,45 @@ pub record IsDriveIn (script : Script) (bs : List Block) (told new : Option (Lis
 -- and the world has come to its end, with this report
 pub record IsEndIn (script : Script) (bs : List Block) (told new : Option (List Block)) (text : List ℕ) : Type 0 where
   pub drive : IsDriveIn script bs told new
+  pub walked : IsRotatedIn (budget_of drive.ran.start) (played script.plays drive.ran.start) drive.world
   pub over : AllOver drive.world
-  pub report : IsReportIn script bs drive.world.blocks text
+  pub report : IsReportIn script bs drive.world text
 
 -- and so many turns are made that no more come, though a node is not over
 pub record IsSpentIn (script : Script) (bs : List Block) (told new : Option (List Block)) : Type 0 where
   pub drive : IsDriveIn script bs told new
   pub spent : IsSpent (budget_of drive.ran.start) (played script.plays drive.ran.start) drive.world
 
--- a world has run a script as far as to a write
-pub record IsCutIn (script : Script) (bs : List Block) : Type 0 where
+-- A world has run a script as far as to a write of the node whose turn it is, and the image has the blocks from before that turn,
+-- or those that it would have left.
+pub record IsCutIn (script : Script) (bs : List Block) (told new : Option (List Block)) : Type 0 where
   pub world : Plain
   pub ran : HasRun script bs world
-  pub before : IsBeforeWrite world
+  pub before : IsBeforeWrite (IsNextIn ran.start script.plays world) bs told new world
 
 -- with this text
-pub record IsCutShortIn (script : Script) (bs : List Block) (text : List ℕ) : Type 0 where
-  pub cut : IsCutIn script bs
+pub record IsCutShortIn (script : Script) (bs : List Block) (told new : Option (List Block)) (text : List ℕ) : Type 0 where
+  pub cut : IsCutIn script bs told new
   pub written : text ≡ cut_text cut.world.history
 
 -- Why a script gave no report on the blocks of a volume, but for a write that failed, and what the image has then.
 abbrev pub IsStopIn : Script → List Block → Option (List Block) → Option (List Block) → Status → Type 0
 IsStopIn script bs told new (status.NotAccepted f) = IsFirstFound bs f × (new ≡ told)
-IsStopIn script bs told new status.NoMemory = (new ≡ told) ⊎ (IsDriveIn script bs told new ⊎ IsCutIn script bs)
+IsStopIn script bs told new status.NoMemory = (new ≡ told) ⊎ IsDriveIn script bs told new
 IsStopIn script bs told new status.Unfinished = Accepts bs × IsSpentIn script bs told new
 IsStopIn script bs told new s = ⊥
 
 -- why it gave none
 abbrev pub IsStopBy : Script → List Block → Option (List Block) → Option (List Block) → ℕ → ℕ → Stop → Type 0
-IsStopBy script bs told new had has (stop.Cut text) = Rose had has × IsCutShortIn script bs text.items
+IsStopBy script bs told new had has (stop.Cut text) = Rose had has × IsCutShortIn script bs told new text.items
+IsStopBy script bs told new had has stop.Bare = Rose had has × IsCutIn script bs told new
 IsStopBy script bs told new had has (stop.By s) = IsStopIn script bs told new s
 
--- how a run that stopped by a fault is told: a write that failed by the lines of the answers before it, as far as memory goes
+-- how a run that stopped by a fault is told
 abbrev pub IsStopOf : Plain → RunFault → Stop → Type 0
 IsStopOf w run.ImageFault (stop.Cut text) = text.items ≡ cut_text w.history
-IsStopOf w run.ImageFault (stop.By s) = s ≡ status.NoMemory
+IsStopOf w run.ImageFault stop.Bare = Unit {0}
+IsStopOf w run.ImageFault (stop.By s) = ⊥
 IsStopOf w run.NoMemory r = r ≡ stop.By status.NoMemory
 IsStopOf w run.Unfinished r = r ≡ stop.By status.Unfinished
 
@@ -143,16 +145,18 @@ IsRunEnd left size told read reading had has s = ⊥
 -- a run that a write cut short is one of a good script, and the image has counted a fault
 abbrev pub IsRunStop : Option (List ℕ) → ℕ → Option (List Block) → ℕ → ℕ → ℕ → ℕ → Stop → Type 0
 IsRunStop left size told read reading had has (stop.Cut text) = IfSome left IsGood × Rose had has
+IsRunStop left size told read reading had has stop.Bare = IfSome left IsGood × Rose had has
 IsRunStop left size told read reading had has (stop.By s) = IsRunEnd left size told read reading had has s
 
 -- what the image has with a status whose text says all, and with the text of a run that a write cut short
 abbrev pub IsQuietImage : Option (List ℕ) → Option (List Block) → Option (List Block) → Status → Type 0
-IsQuietImage left told new status.NoMemory = (new ≡ told) ⊎ IfSome told (λ bs. IsDriveOf left bs new ⊎ IsCutOf left bs)
+IsQuietImage left told new status.NoMemory = (new ≡ told) ⊎ IfSome told (λ bs. IsDriveOf left bs new)
 IsQuietImage left told new status.Unfinished = IfSome told (λ bs. IsSpentDriveOf left bs new)
 IsQuietImage left told new s = new ≡ told
 
 abbrev pub IsStopImage : Option (List ℕ) → Option (List Block) → Option (List Block) → Stop → Type 0
-IsStopImage left told new (stop.Cut text) = IfSome told (λ bs. IsCutShort left bs text.items)
+IsStopImage left told new (stop.Cut text) = IfSome told (λ bs. IsCutShort left bs new text.items)
+IsStopImage left told new stop.Bare = IfSome told (λ bs. IsCutShort left bs new (status_text status.ImageFault))
 IsStopImage left told new (stop.By s) = IsQuietImage left told new s
 
 -- these are the findings of the blocks

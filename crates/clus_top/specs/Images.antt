@@ -7,11 +7,11 @@ use Rattle.vol_init.specs.Made.{IsMade, IsLeft}
 use Rattle.run_engine.specs.declared.status.Status.{Status}
 use Rattle.run_engine.specs.declared.status.Status.TheVariants as status
 use Rattle.plain_cat.specs.declared.script.Script.{Script}
-use Rattle.run_script.specs.declared.built.TheConstants.{BUILT}
+use Rattle.run_script.specs.Table.{run_so_far}
 use Rattle.run_script.specs.Lines.{lines_of}
 use Rattle.run_script.specs.Spelling.{SpellsScript}
 use Rattle.core_state.specs.Worlds.{Plain}
-use Rattle.run_engine.specs.Walks.{played, budget_of, AllOver, IsSpent, IsBeforeWrite}
+use Rattle.run_engine.specs.Walks.{played, budget_of, AllOver, IsSpent, IsNextIn, IsBeforeWrite}
 use Rattle.clus_top.specs.Words.{Wanted, Run, Analyze, Init}
 use Rattle.clus_top.specs.Runs.{HasRun}
 use Rattle.clus_top.specs.Statuses.{status_text, cut_text}
@@ -34,7 +34,7 @@ IsFormatted h old new s = new ≡ Some old
 -- blocks, as far as its nodes came.
 pub record IsDriveOf (left : Option (List ℕ)) (bs : List Block) (new : Option (List Block)) : Type 0 where
   pub script : Script
-  pub spelt : IfSome left (λ bytes. SpellsScript BUILT (lines_of bytes) script)
+  pub spelt : IfSome left (λ bytes. SpellsScript run_so_far (lines_of bytes) script)
   pub world : Plain
   pub ran : HasRun script bs world
   pub image : new ≡ Some world.blocks
@@ -47,36 +47,37 @@ IsLastDriveOf left bs new = (d : IsDriveOf left bs new) × AllOver d.world
 abbrev pub IsSpentDriveOf : Option (List ℕ) → List Block → Option (List Block) → Type 0
 IsSpentDriveOf left bs new = (d : IsDriveOf left bs new) × IsSpent (budget_of d.ran.start) (played d.script.plays d.ran.start) d.world
 
--- a world has run such a script on the volume of these blocks as far as to a write
-pub record IsCutOf (left : Option (List ℕ)) (bs : List Block) : Type 0 where
+-- A world has run such a script on the volume of these blocks as far as to a write of the node whose turn it is. The image has the
+-- drive of this world, or that which this one turn would have left: one block may be ahead, and no other differs.
+pub record IsCutOf (left : Option (List ℕ)) (bs : List Block) (new : Option (List Block)) : Type 0 where
   pub script : Script
-  pub spelt : IfSome left (λ bytes. SpellsScript BUILT (lines_of bytes) script)
+  pub spelt : IfSome left (λ bytes. SpellsScript run_so_far (lines_of bytes) script)
   pub world : Plain
   pub ran : HasRun script bs world
-  pub before : IsBeforeWrite world
+  pub before : IsBeforeWrite (IsNextIn ran.start script.plays world) bs (Some bs) new world
 
 -- After a run: the drive of its world, once every node is over or the turns are spent; after want of memory the old blocks, or
--- the drive as far as the run came, or a write failed; after a fault of the image the old blocks, or a write failed; and else the
--- old blocks.
+-- the drive as far as the run came; after a fault of the image the old blocks, or the drive as far as the run came but for the
+-- block of a write that failed; and else the old blocks.
 abbrev pub IsRunImage : Option (List ℕ) → Option (List Block) → Option (List Block) → Status → Type 0
 IsRunImage left told new status.Ok = IfSome told (λ bs. IsLastDriveOf left bs new)
 IsRunImage left told new status.OutFault = IfSome told (λ bs. IsLastDriveOf left bs new)
 IsRunImage left told new status.Unfinished = IfSome told (λ bs. IsSpentDriveOf left bs new)
-IsRunImage left told new status.NoMemory = (new ≡ told) ⊎ IfSome told (λ bs. IsDriveOf left bs new ⊎ IsCutOf left bs)
-IsRunImage left told new status.ImageFault = (new ≡ told) ⊎ IfSome told (λ bs. IsCutOf left bs)
+IsRunImage left told new status.NoMemory = (new ≡ told) ⊎ IfSome told (λ bs. IsDriveOf left bs new)
+IsRunImage left told new status.ImageFault = (new ≡ told) ⊎ IfSome told (λ bs. IsCutOf left bs new)
 IsRunImage left told new s = new ≡ told
 
 -- ---- what is told of a fault of the image
 
--- a run that a write cut short, with its text
-pub record IsCutShort (left : Option (List ℕ)) (bs : List Block) (text : List ℕ) : Type 0 where
-  pub cut : IsCutOf left bs
-  pub written : text ≡ cut_text cut.world.history
+-- a run that a write cut short, with the lines of the answers before it, which may have found no memory
+pub record IsCutShort (left : Option (List ℕ)) (bs : List Block) (new : Option (List Block)) (text : List ℕ) : Type 0 where
+  pub cut : IsCutOf left bs new
+  pub written : (text ≡ cut_text cut.world.history) ⊎ (text ≡ status_text status.ImageFault)
 
--- The text of a fault of the image: of a run that a write cut short the lines of the answers before it and the text of the fault,
--- and else that alone, and the image has its blocks.
+-- The text of a fault of the image: of a run that a write cut short the lines of the answers before it, if they found memory, and
+-- the text of the fault, and else that alone, and the image has its blocks.
 abbrev pub IsRunFaultText : Option (List ℕ) → Option (List Block) → Option (List Block) → List ℕ → Type 0
-IsRunFaultText left told new text = ((new ≡ told) × (text ≡ status_text status.ImageFault)) ⊎ IfSome told (λ bs. IsCutShort left bs text)
+IsRunFaultText left told new text = ((new ≡ told) × (text ≡ status_text status.ImageFault)) ⊎ IfSome told (λ bs. IsCutShort left bs new text)
 
 abbrev pub IsFaultTextOf : Option Wanted → Option (List ℕ) → Option (List Block) → Option (List Block) → List ℕ → Type 0
 IsFaultTextOf (Some Run) left told new text = IsRunFaultText left told new text

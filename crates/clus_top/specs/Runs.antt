@@ -13,13 +13,13 @@ use Rattle.plain_vol.specs.Replaying.{Replays}
 use Rattle.vol_parts.specs.declared.geometry.Geometry.{Geometry}
 use Rattle.vol_parts.specs.Findings.{home_at, Accepts, CatOf}
 use Rattle.vol_faults.specs.Free.{IsGeometryBy}
-use Rattle.run_script.specs.declared.built.TheConstants.{BUILT}
+use Rattle.run_script.specs.Table.{run_so_far}
 use Rattle.run_script.specs.Lines.{lines_of}
 use Rattle.run_script.specs.Spelling.{SpellsScript}
 use Rattle.core_state.specs.Worlds.{Plain}
 use Rattle.core_state.specs.Goods.{Good}
 use Rattle.core_state.specs.Mounting.{IsMounted}
-use Rattle.run_engine.specs.Walks.{played, budget_of, IsPartOfWalk, IsSpent}
+use Rattle.run_engine.specs.Walks.{played, budget_of, IsPartOfWalk, IsRotatedIn, AllOver, IsSpent}
 use Rattle.run_engine.specs.Ended.{IsSpelt}
 use Rattle.run_engine.specs.Reports.{report_bytes}
 
@@ -33,28 +33,32 @@ is_mending (Mended m) = true
 abbrev pub report_text : List Entry → Cat → List ℕ
 report_text h c = report_bytes h (free_clusters c)
 
--- The text is the report of a history in which each node of the script gives each of its commands once and in order, nodes die
--- only where the script kills them, and nothing is mended; and which replays on one uncached volume: it begins with the
--- catalogue that the blocks tell, in which nothing is found. The image has other blocks then: by the geometry of the volume they
--- spell the catalogue to which the history leads, and nothing is outside at any node.
+-- The text is the report of the history of a world: from the volume as it is mounted the script's plays and turns in rotation, at
+-- most as many as a run makes, have led to it, and every node is over. In this history each node of the script gives each of its
+-- commands once and in order, nodes die only where the script kills them, and nothing is mended; and it replays on one uncached
+-- volume, which begins with the catalogue that the blocks tell, in which nothing is found. The image has the blocks of this world:
+-- by the geometry of the volume they spell the catalogue to which the history leads, and nothing is outside at any node.
 pub record IsReport (bytes : List ℕ) (bs : List Block) (new : Option (List Block)) (text : List ℕ) : Type 0 where
   pub script : Script
+  pub start : Plain
+  pub world : Plain
   pub opening : Cat
-  pub history : List Entry
   pub after : Cat
   pub geometry : Geometry
-  pub blocks : List Block
-  pub spelt : SpellsScript BUILT (lines_of bytes) script
+  pub spelt : SpellsScript run_so_far (lines_of bytes) script
   pub accepted : Accepts bs
+  pub mounted : IsMounted bs script start
+  pub walked : IsRotatedIn (budget_of start) (played script.plays start) world
+  pub over : AllOver world
   pub told : CatOf bs opening
-  pub replayed : Replays opening script history after
-  pub whole : Whole script history
-  pub killed : Killed script history
-  pub unmended : list_any is_mending history ≡ false
-  pub written : text ≡ report_text history after
+  pub replayed : Replays opening script world.history after
+  pub whole : Whole script world.history
+  pub killed : Killed script world.history
+  pub unmended : list_any is_mending world.history ≡ false
+  pub written : text ≡ report_text world.history after
   pub parts : IsGeometryBy bs (home_read (home_at bs)) geometry
-  pub image : new ≡ Some blocks
-  pub left : IsSpelt geometry blocks after
+  pub image : new ≡ Some world.blocks
+  pub left : IsSpelt geometry world.blocks after
 
 -- A world that has run a script on the volume of these blocks, as far as its nodes came: plays and turns have led to it from the
 -- volume as it is mounted, and it keeps the rules.
@@ -70,6 +74,6 @@ pub record IsUnfinished (bytes : List ℕ) (bs : List Block) : Type 0 where
   pub script : Script
   pub start : Plain
   pub stopped : Plain
-  pub spelt : SpellsScript BUILT (lines_of bytes) script
+  pub spelt : SpellsScript run_so_far (lines_of bytes) script
   pub mounted : IsMounted bs script start
   pub spent : IsSpent (budget_of start) (played script.plays start) stopped

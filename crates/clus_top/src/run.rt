@@ -1,9 +1,8 @@
-ghost use Rattle.std.specs.Prelude.{◌≡◌, IfOk, IfErr, IfSome};
+ghost use Rattle.std.specs.Prelude.{◌≡◌, IfOk, IfErr, IfSome, OnErr};
 ghost use Rattle.plain_cat.specs.declared.cat.Cat.{Cat};
 ghost use Rattle.plain_cat.specs.InForm.{InForm};
 ghost use Rattle.plain_vol.specs.Lookups.{free_clusters};
-ghost use Rattle.run_script.specs.Table.{AreBuilt};
-ghost use Rattle.run_script.specs.declared.built.TheConstants.{BUILT};
+ghost use Rattle.run_script.specs.Table.{AreBuilt, run_so_far};
 ghost use Rattle.core_state.specs.Images.{IsTold};
 ghost use Rattle.core_state.specs.Mounting.{IsMounted};
 ghost use Rattle.run_engine.specs.Walks.{AllOver};
@@ -28,6 +27,9 @@ use xqp_set::XqpOp;
 pub enum Stop {
     /// A write of the image failed: the lines of the answers before it, and the text of that fault.
     Cut(Vec<u8>),
+
+    /// A write of the image failed, and the lines of the answers before it found no memory.
+    Bare,
 
     /// Another status, whose text says all.
     By(Status),
@@ -56,15 +58,23 @@ fn cut_text<I: ImageDev>(alloc: Global, w: &World<I, XqpOp>) -> Result<Vec<u8>, 
     Ok(text)
 }
 
+// How a write that failed is told: with the lines of the answers before it, if there are any.
+fn cut_by(lines: Result<Vec<u8>, NoMemory>) -> Stop
+    ensures with { IfOk lines (λ text. result ≡ Stop.Cut text) }
+    ensures without { OnErr lines (result ≡ Stop.Bare) }
+{
+    match lines {
+        Ok(text) => Stop::Cut(text),
+        Err(_) => Stop::Bare,
+    }
+}
+
 // Why a run stopped before its end.
 fn stop_of<I: ImageDev>(alloc: Global, w: &World<I, XqpOp>, fault: RunFault) -> Stop
     ensures { IsStopOf w.now.world fault result }
 {
     match fault {
-        RunFault::ImageFault => match cut_text(alloc, w) {
-            Ok(text) => Stop::Cut(text),
-            Err(_) => Stop::By(Status::NoMemory),
-        },
+        RunFault::ImageFault => cut_by(cut_text(alloc, w)),
         RunFault::NoMemory => Stop::By(Status::NoMemory),
         RunFault::Unfinished => Stop::By(Status::Unfinished),
     }
@@ -106,7 +116,7 @@ fn mount_status(fault: MountFault) -> Status
 // Mounts a drive, and runs the script on it.
 fn run_mounted<I: ImageDev>(alloc: Global, m: Mirror<I>, script: &Script) -> Ran<I>
     requires form { InForm script.now }
-    requires built { AreBuilt BUILT script.now.lines }
+    requires built { AreBuilt run_so_far script.now.lines }
     requires told { IsTold (I.told m.image) m.blocks }
     ensures report { IfOk result.outcome (λ text. IsEndIn script.now m.blocks (I.told m.image) (I.told result.image) text.items) }
     ensures end { IfErr result.outcome (IsStopBy script.now m.blocks (I.told m.image) (I.told result.image)

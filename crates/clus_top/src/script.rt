@@ -1,7 +1,6 @@
 ghost use Rattle.std.specs.Prelude.{IfOk, IfErr, IfSome};
 ghost use Rattle.plain_cat.specs.InForm.{InForm};
-ghost use Rattle.run_script.specs.Table.{AreBuilt};
-ghost use Rattle.run_script.specs.declared.built.TheConstants.{BUILT};
+ghost use Rattle.run_script.specs.Table.{AreBuilt, run_so_far};
 ghost use Rattle.clus_top.specs.Ends.{SpellsWithin, IsScriptEnd};
 
 use fx_text::{TextFault, TextIn, read_all};
@@ -17,7 +16,7 @@ const SCRIPT_LIMIT: usize = 1_048_576;
 pub fn script_of<T: TextIn>(alloc: Global, script: &mut T) -> Result<Script, Status>
     ensures spelt { IfOk result (λ s. IfSome (T.left script.old) (SpellsWithin s)) }
     ensures form { IfOk result InForm }
-    ensures built { IfOk result (λ s. AreBuilt BUILT s.lines) }
+    ensures built { IfOk result (λ s. AreBuilt run_so_far s.lines) }
     ensures end { IfErr result (IsScriptEnd (T.left script.old) (T.faults script.old) (T.faults script.new)) }
 {
     let bytes = match read_all(alloc, script, SCRIPT_LIMIT) {

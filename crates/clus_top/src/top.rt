@@ -38,6 +38,7 @@ fn run<I: ImageDev, T: TextIn, O: TextOut>(
     let status = match outcome {
         Ok(text) => tell_text(out, text.as_slice()),
         Err(Stop::Cut(text)) => tell_cut(out, text.as_slice()),
+        Err(Stop::Bare) => tell(alloc, out, Status::ImageFault),
         Err(Stop::By(status)) => tell(alloc, out, status),
     };
     Finished { status, image }
@@ -123,15 +124,15 @@ pub fn vmsclus<I: ImageDev, T: TextIn, O: TextOut>(
     ensures out_fault { result.status ≡ Status.OutFault → Rose (O.faults out.old) (O.faults out.new) }
 
     // With status 0 the job's text was written, with a fault of the sink first bytes of it, with findings these, and else the
-    // text of the status; in front of that of a write that failed in a run the lines of the answers before it.
+    // text of the status; in front of that of a write that failed in a run the lines of the answers before it, if they found memory.
     ensures written { Writes (IsTextOf (wanted_by words.now) (T.left script.old) (I.size image) (I.told image) (I.told result.image))
         (IsFaultTextOf (wanted_by words.now) (T.left script.old) (I.told image) (I.told result.image)) (I.told image)
         (O.written out.old) (O.written out.new) (O.faults out.old) (O.faults out.new) result.status }
 
     // A run that has come to its end leaves the drive of its nodes, which spells the catalogue of the report. One that has not
-    // leaves the drive as far as it came; where a write failed nothing is said of the blocks. A format leaves a new volume; after
-    // a fault or want of memory there are the old blocks, or no home block that is read, or the new volume. Nothing else changes
-    // the image's blocks.
+    // leaves the drive as far as it came; where a write failed its block is the old one or the new one. A format leaves a new
+    // volume; after a fault or want of memory there are the old blocks, or no home block that is read, or the new volume. Nothing
+    // else changes the image's blocks.
     ensures after { IsImageAfter (wanted_by words.now) (T.left script.old) (I.told image) (I.told result.image) result.status }
 {
     match job_of(words) {

@@ -181,7 +181,7 @@ module _ (g : Geometry) (d : Cat) (t after : List Resource) (nodes : List NodeSt
 -- catalogue
 module _ (w : Plain) (good : Good w) (n : ℕ) (s : NodeState) (at : node_at w.nodes n ≡ Some s) (x : Cmd) (cmd : s.cmd ≡ Some x) (free : waits_at w.locks n s.asked ≡ false)
     (p : Plan) (is : IsNext x s.seen (need.Ready p)) (ws : List PlanWrite) (made : writes_now s.tried s.plan ≡ ws) (last : slice_get ws s.done ≡ None) (part : s.done ≤ length ws) (r : Reply) (know : Cat → Bool)
-    (law : IsRight n x s.seen.geometry (under_way x s.seen ws know) r) (known : know good.running.cat ≡ true) where
+    (law : IsRight n x s.seen.geometry ws (under_way x s.seen ws know) r) (known : know good.running.cat ≡ true) where
   abbrev entry : Entry
   entry = Done n x r
 
@@ -197,8 +197,8 @@ module _ (w : Plain) (good : Good w) (n : ℕ) (s : NodeState) (at : node_at w.n
   now : IsAt w n s x
   now = under_command w good n s at x cmd free
 
-  right : IsRight n x w.geometry (under_way x s.seen ws know) r
-  right = subst (λ (g : Geometry). IsRight n x g (under_way x s.seen ws know) r) mine.geometry law
+  right : IsRight n x w.geometry ws (under_way x s.seen ws know) r
+  right = subst (λ (g : Geometry). IsRight n x g ws (under_way x s.seen ws know) r) mine.geometry law
 
   whole : s.done ≡ length (map planned ws)
   whole = let le = at_end ws s.done last in let ge = part in let e = length_planned ws in omega arith

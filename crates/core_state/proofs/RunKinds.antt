@@ -12,7 +12,7 @@ use Rattle.plain_cat.specs.declared.cat.QuotaRow.{QuotaRow}
 use Rattle.plain_vol.specs.Accounts.{IsCharged, Accounted}
 use Rattle.plain_vol.specs.Own.{switched, channels_after, is_opened, is_closed}
 use Rattle.op_law.specs.declared.seen.Seen.{Seen}
-use Rattle.op_law.specs.Knows.{channel_of, has_channel, may_ask, is_new_number, is_short, changes_usage, is_charged, is_held_open, knows}
+use Rattle.op_law.specs.Knows.{channel_of, has_channel, may_ask, is_new_number, wanted, is_short, changes_usage, is_charged, is_held_open, knows}
 use Rattle.core_state.specs.Goods.{is_run}
 
 both : (a b : Bool) → a ≡ true → b ≡ true → (a && b) ≡ true
@@ -49,7 +49,7 @@ names_none (cmd.QuotaShow owner) runs = refl
 
 -- what it knows of a catalogue besides the blocks: a number that was given is a new one, a refusal is right, usages fit, and no
 -- open goes with every mode
-pub run_knows : (x : Cmd) → is_run x ≡ true → (n : ℕ) (seen : Seen) (c : Cat) → Accounted c → list_all is_held_open c.opens ≡ true → is_new_number seen.number ≡ true → is_short c x seen.short ≡ true → knows n x seen c ≡ true
+pub run_knows : (x : Cmd) → is_run x ≡ true → (n : ℕ) (seen : Seen) (c : Cat) → Accounted c → list_all is_held_open c.opens ≡ true → is_new_number seen.number ≡ true → is_short c (wanted seen x) seen.short ≡ true → knows n x seen c ≡ true
 run_knows x runs n seen c accounted held new short = both _ _ (ap (λ k. has_channel c n k seen.channel) (names_none x runs))
     (both _ _ new (both _ _ short (both _ _ (where_so (changes_usage x) _ (all_charged c c.quota accounted.usage)) (where_so (may_ask x) _ held))))
 

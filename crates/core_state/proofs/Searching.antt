@@ -421,21 +421,26 @@ module _ (w : Plain) (good : Good w) (n : ℕ) (s : NodeState) (at : node_at w.n
     by_search (Taken h) = absurd (let e = h.all in omega arith)
     by_search (Refused h) = absurd (none s.search.takes s.search.taken h.takes lt)
 
-  -- with the lock of the bitmaps asked for, and no write to make, it looks on
+  -- With the lock of the bitmaps asked for, and no write to make, it looks on: where it has given nothing and the command wants
+  -- something, and so where the command needs it.
+  pub still_looking : takes_space x ≡ true → HasNoSpace (space_of s.seen) → ((wanted_by x s.seen ≡ 0) × (wants_number x ≡ false) → ⊥) → has_asked V s.asked ≡ true → length s.search.takes ≤ s.search.taken → IsLooking x None s.asked s.search s.seen
+  still_looking takes space some has over = by_search stands where
+    by_search : Searches w.locks n x None s.asked s.search s.seen → IsLooking x None s.asked s.search s.seen
+    by_search (NotYet h) = absurd (is_begun w.locks n x s.asked s.search s.seen h (λ k. let a : takes_lock x V ≡ true = now.own V k in let c : takes_lock x V ≡ false = ap not takes in let f : true ≡ false = sym a ∙ c in absurd (cc)) has)
+    by_search (Looking h) = h
+    by_search (Taking h) = absurd (let lt = h.part in omega arith)
+    by_search (Taken h) =
+        let all_taken = takes_all g (wanted_by x s.seen) (wants_number x) (blocks_of s.search.looked) s.search.takes h.found.enough in
+        let no_clusters : wanted_by x s.seen ≡ 0 = sym (ap length (sym space.clusters ∙ h.clusters) ∙ all_taken.clusters) in
+        let no_number : wants_number x ≡ false = sym (ap is_some (sym space.number ∙ h.number) ∙ all_taken.number) in
+        absurd (some (no_clusters, no_number))
+    by_search (Refused h) = absurd (let f : Some h.why ≡ None = sym h.short ∙ space.short in cc)
+
   pub is_looking : (k : ℕ) (b : Bool) → IsNext x s.seen (need.Space k b) → has_asked V s.asked ≡ true → length s.search.takes ≤ s.search.taken → IsLooking x None s.asked s.search s.seen
   is_looking k b is has over =
       let may = may_need w good n s at x cmd free (need.Space k b) is in
-      by_search may.0.takes may.1 (wanted (wanted_by x s.seen) (wants_number x) (is ∙ (λ i. need.Space (may.0.clusters_are i) (may.0.number_is i)))) stands where
-        by_search : takes_space x ≡ true → HasNoSpace (space_of s.seen) → has_space (wanted_by x s.seen) (wants_number x) no_space ≡ false → Searches w.locks n x None s.asked s.search s.seen → IsLooking x None s.asked s.search s.seen
-        by_search takes space some (NotYet h) = absurd (is_begun w.locks n x s.asked s.search s.seen h (λ k. let a : takes_lock x V ≡ true = now.own V k in let c : takes_lock x V ≡ false = ap not takes in let f : true ≡ false = sym a ∙ c in absurd (cc)) has)
-        by_search takes space some (Looking h) = h
-        by_search takes space some (Taking h) = absurd (let lt = h.part in omega arith)
-        by_search takes space some (Taken h) =
-            let all_taken = takes_all g (wanted_by x s.seen) (wants_number x) (blocks_of s.search.looked) s.search.takes h.found.enough in
-            let no_clusters : 0 ≡ wanted_by x s.seen = ap length (sym space.clusters ∙ h.clusters) ∙ all_taken.clusters in
-            let no_number : false ≡ wants_number x = ap is_some (sym space.number ∙ h.number) ∙ all_taken.number in
-            absurd (wants_nothing (wants_number x) (wanted_by x s.seen) no_clusters no_number some)
-        by_search takes space some (Refused h) = absurd (let f : Some h.why ≡ None = sym h.short ∙ space.short in cc)
+      let some = wanted (wanted_by x s.seen) (wants_number x) (is ∙ (λ i. need.Space (may.0.clusters_are i) (may.0.number_is i))) in
+      still_looking may.0.takes may.1 (λ z. absurd (wants_nothing (wants_number x) (wanted_by x s.seen) (sym z.0) (sym z.1) some)) has over
 
   -- the next write of the search
   pub grabs_keep : (v : PlanWrite) → slice_get s.search.takes s.search.taken ≡ Some v → Good (altered w w.locks (slice_set w.blocks v.lbn v.block) (set_node w.nodes n (turned (grabbing s v))) w.history)

@@ -25,9 +25,9 @@ use Rattle.op_law.specs.declared.seen.Seen.{Seen}
 use Rattle.op_law.specs.Needs.{IsNext}
 use Rattle.op_law.specs.Fits.{things}
 use Rattle.op_law.specs.Going.{with_block, with_lock}
-use Rattle.op_law.specs.Knows.{clusters_wanted, wants_number, is_new_number, is_short, knows}
+use Rattle.op_law.specs.Knows.{wanted, wants_number, is_new_number, is_short, knows}
 use Rattle.op_law.specs.Laws.{held_in, takes_lock}
-use Rattle.node_space.specs.Taking.{looked, out_after, IsTooLittle}
+use Rattle.node_space.specs.Taking.{looked, out_after}
 use Rattle.node_space.specs.Answering.{blocks_of}
 use Rattle.node_space.proofs.Shortage.{shortage_is_exact, command_is_short}
 use Rattle.core_state.specs.Worlds.{Search, NodeState, Plain, node_at}
@@ -376,16 +376,16 @@ module _ (w : Plain) (good : Good w) (n : ℕ) (s : NodeState) (at : node_at w.n
       let left = ((stands_joined drive.base (unwritten (take s.search.taken s.search.takes) s.search.looked) s.seen.blocks).0 both).0 in
       part_stands drive.base (unwritten (take s.search.taken s.search.takes) s.search.looked) s.search.looked (λ y h. all_left s.search.takes s.search.taken s.search.looked y none h) left
 
-  by_search : Searches w.locks n x (granted_ask s.tried s.plan) s.asked s.search s.seen → is_short good.running.cat x s.seen.short ≡ true
-  by_search (NotYet h) = ap (is_short good.running.cat x) h.space.short
-  by_search (Looking h) = ap (is_short good.running.cat x) h.needs.none.short
-  by_search (Taking h) = ap (is_short good.running.cat x) h.needs.none.short
-  by_search (Taken h) = ap (is_short good.running.cat x) h.short
+  by_search : Searches w.locks n x (granted_ask s.tried s.plan) s.asked s.search s.seen → is_short good.running.cat (wanted s.seen x) s.seen.short ≡ true
+  by_search (NotYet h) = ap (is_short good.running.cat (wanted s.seen x)) h.space.short
+  by_search (Looking h) = ap (is_short good.running.cat (wanted s.seen x)) h.needs.none.short
+  by_search (Taking h) = ap (is_short good.running.cat (wanted s.seen x)) h.needs.none.short
+  by_search (Taken h) = ap (is_short good.running.cat (wanted s.seen x)) h.short
   by_search (Refused h) =
       let stood : StandsIn drive.base (looked s.seen.geometry (wanted_by x s.seen) (wants_number x) (blocks_of s.search.looked)) = subst (StandsIn drive.base) h.claimed.in_order (looked_stands h.takes) in
       let exact = shortage_is_exact s.seen.geometry (wanted_by x s.seen) (wants_number x) (blocks_of s.search.looked) h.why drive.base drive.own good.running.cat h.too_little drive.spelt (nobody_outside h) stood in
-      ap (is_short good.running.cat x) h.short
-      ∙ command_is_short good.running.cat x h.why (subst (λ (f : ℕ). IsTooLittle (clusters_wanted f x) (wants_number x) good.running.cat h.why) (sym drive.spelt.constants.factor) exact)
+      ap (is_short good.running.cat (wanted s.seen x)) h.short
+      ∙ command_is_short good.running.cat (wanted s.seen x) h.why exact
 
   pub is_known : knows n x s.seen good.running.cat ≡ true
   is_known = run_knows x now.runs n s.seen good.running.cat good.running.accounted good.running.opens.held (is_above w.locks n x (granted_ask s.tried s.plan) s.asked s.search s.seen now.search) (by_search now.search)

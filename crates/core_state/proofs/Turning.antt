@@ -182,7 +182,7 @@ module _ (w : Plain) (good : Good w) (n : ℕ) (s : NodeState) (at : node_at w.n
   goes = seen_goes_on x under_command.lawful.searches
 
   -- what it needs next it may need
-  pub may_need : (next : Need) → IsNext x s.seen next → MayNeed x s.seen drive.base drive.own next
+  pub may_need : (next : Need) → IsNext x s.seen next → MayNeed x s.seen drive.base drive.own good.running.cat next
   may_need next is = under_command.lawful.needs n s.seen drive.base drive.own good.running.cat next under_command.seen seen_on is
 
   pub not_yet : s.plan ≡ None → s.done ≡ 0

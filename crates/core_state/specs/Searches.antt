@@ -19,7 +19,7 @@ use Rattle.op_law.specs.declared.seen.Seen.{Seen}
 use Rattle.op_law.specs.Events.{space_of, HasNoSpace}
 use Rattle.op_law.specs.Needs.{IsNext}
 use Rattle.op_law.specs.Fits.{things}
-use Rattle.op_law.specs.Knows.{clusters_wanted, wants_number, takes_space, is_new_number}
+use Rattle.op_law.specs.Knows.{wanted, wants_number, takes_space, is_new_number}
 use Rattle.op_law.specs.Laws.{held_in}
 use Rattle.op_law.specs.Writing.{Held}
 use Rattle.node_space.specs.Searching.{Found, More, Short, Enough, found}
@@ -50,7 +50,7 @@ stock_after ws taken = if taken == length ws then nothing else things_of (out_af
 
 -- the clusters that a command with this seen wants
 abbrev pub wanted_by : Cmd → Seen → ℕ
-wanted_by x seen = clusters_wanted seen.geometry.cluster x
+wanted_by x seen = (wanted seen x).clusters
 
 -- what the search of a command has found in the blocks that it has looked at
 abbrev pub found_by : Cmd → Seen → Search → Found

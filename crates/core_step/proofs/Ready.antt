@@ -63,12 +63,12 @@ use Rattle.core_state.specs.Worlds.{state_of}
 use Rattle.core_state.specs.declared.node.Node.{Node}
 use Rattle.core_state.proofs.Nodes.{at_here, length_node, told_at}
 use Rattle.core_state.proofs.Standing.{new_to_all, asks_once, claim_asks}
-use Rattle.core_state.proofs.Searching.{there_now, is_taking, scan_within, looks_on}
+use Rattle.core_state.proofs.Searching.{there_now, is_taking, scan_within, looks_on, still_looking}
 use Rattle.core_state.proofs.Turning.{under_command, drive, seen_on, may_need, here, planned_at, search_now}
 use Rattle.core_state.proofs.Trying.{nobody_asks}
 use Rattle.core_step.specs.Giving.{MayGiveAll, MayEnd}
 use Rattle.core_step.specs.Asks.{going_ask, aim_of}
-use Rattle.core_step.specs.Ready.{IsReady}
+use Rattle.core_step.specs.Ready.{IsReady, IsSearching, SearchesAsNeeded}
 use Rattle.core_step.specs.Memory.{takes_none}
 use Rattle.core_step.specs.declared.turns.Turn.TheVariants as turn
 use Rattle.core_step.specs.declared.turns.Kind.TheVariants as kind
@@ -84,6 +84,15 @@ need_told cmd_is (Some op) x seen next e n = let f : Some (cmd_is op) ≡ Some x
 pub fits_told : {O : Type 0} (cmd_is : O → Cmd) (o : Option O) (x : Cmd) (seen : Seen) → option_map cmd_is o ≡ Some x → FitsSeen x seen → IfSome o (λ op. FitsSeen (cmd_is op) seen)
 fits_told cmd_is None x seen e fits = absurd (let f : None ≡ Some x = e in cc)
 fits_told cmd_is (Some op) x seen e fits = let f : Some (cmd_is op) ≡ Some x = e in let h : x ≡ cmd_is op = cc in subst (λ (y : Cmd). FitsSeen y seen) h fits
+
+-- what a node searches for is what the operation would say
+pub searched_told : {O : Type 0} (cmd_is : O → Cmd) (o : Option O) (s : NodeState) (x : Cmd) (k : ℕ) (b : Bool) → s.cmd ≡ option_map cmd_is o → option_map cmd_is o ≡ Some x → SearchesAsNeeded s → IsSearching s x k b
+    → IfSome o (λ op. need_of (cmd_is op) s.seen ≡ need.Space k b)
+searched_told cmd_is None s x k b cmd e asks is = absurd (let f : None ≡ Some x = e in cc)
+searched_told cmd_is (Some op) s x k b cmd e asks is =
+    let f : Some (cmd_is op) ≡ Some x = e in
+    let h : x ≡ cmd_is op = cc in
+    subst (λ (y : Cmd). need_of y s.seen ≡ need.Space k b) h (asks x k b (cmd ∙ e) is)
 
 -- ---- a block that is guarded is one of the volume's
 
@@ -345,6 +354,14 @@ module _ (w : Plain) (good : Good w) (n : ℕ) (r : IsReady w n) where
   pub scans_within : plan_at w n ≡ None → (k : ℕ) (b : Bool) (lbn : ℕ) → answer s.seen.geometry k b (blocks_of s.search.looked) ≡ search.Look lbn → lbn < length w.blocks
   scans_within none k b lbn e = scan_within w good n s r.at r.cmd r.has r.free (has_plan None none) k b lbn e
 
+  -- what it searches for its command needs
+  pub searches_now : plan_at w n ≡ None → length s.search.takes ≤ s.search.taken → (k : ℕ) (b : Bool) → IsSearching s r.cmd k b → IsNext r.cmd s.seen (need.Space k b)
+  searches_now none over k b h =
+      let wants = h.wants in
+      let some = λ (z : (wanted_by r.cmd s.seen ≡ 0) × (wants_number r.cmd ≡ false)). wants.some (sym wants.clusters_are ∙ z.0, sym wants.number_is ∙ z.1) in
+      let looks = still_looking w good n s r.at r.cmd r.has r.free (has_plan None none) wants.takes h.none some h.asked over in
+      looks.needs.next ∙ (λ i. need.Space (wants.clusters_are i) (wants.number_is i))
+
   pub comes_to : plan_at w n ≡ None → (k : ℕ) (b : Bool) → IsNext r.cmd s.seen (need.Space k b) → has_asked V s.asked ≡ true → length s.search.takes ≤ s.search.taken → (o : Outcome) → o ≡ answer s.seen.geometry k b (blocks_of s.search.looked)
       → (lbn : ℕ) × (o ≡ search.Look lbn)
   comes_to none k b is asks over o e = looks_on w good n s r.at r.cmd r.has r.free (has_plan None none) k b is asks over o e
@@ -540,6 +557,12 @@ module _ {O : Type 0} (cmd_is : O → Cmd) (xs : List (Node O)) (w : Plain) (n :
 
   pub item_geometry : Good w → IsGeometry d.seen.geometry
   item_geometry good = subst (λ (y : NodeState). IsGeometry y.seen.geometry) (sym mine) (has_geometry w good n r)
+
+  pub item_searches : Good w → plan_at w n ≡ None → length r.state.search.takes ≤ r.state.search.taken → SearchesAsNeeded (state_of cmd_is d)
+  item_searches good none over = subst (λ (y : NodeState). SearchesAsNeeded y) (sym mine) (λ x k b has h.
+      let f : Some r.cmd ≡ Some x = sym r.has ∙ has in
+      let i : r.cmd ≡ x = cc in
+      subst (λ (y : Cmd). IsNext y r.state.seen (need.Space k b)) i (searches_now w good n r none over k b (subst (λ (y : Cmd). IsSearching r.state y k b) (sym i) h)))
 
   pub item_over : length d.takes ≤ d.taken → (q : NodeState) → node_at w.nodes n ≡ Some q → length q.search.takes ≤ q.search.taken
   item_over le q at = let f : Some (state_of cmd_is d) ≡ Some q = sym told_so ∙ at in let h : state_of cmd_is d ≡ q = cc in subst (λ (y : NodeState). length y.search.takes ≤ y.search.taken) h le

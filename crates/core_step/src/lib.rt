@@ -5,6 +5,7 @@ mod answers;
 mod asks;
 mod events;
 mod giving;
+mod needs;
 mod raises;
 mod searches;
 mod step;

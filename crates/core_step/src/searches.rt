@@ -1,6 +1,6 @@
 //! The search for space: its looks and its writes.
 
-ghost use Rattle.std.specs.Prelude.{◌≡◌, ◌<◌, ◌+◌, ◌++◌, [], ◌∷◌, Some, IfOk, OnOk, OnErr, length, slice_get, slice_set};
+ghost use Rattle.std.specs.Prelude.{◌≡◌, ◌⊎◌, ◌<◌, ◌+◌, ◌++◌, [], ◌∷◌, Some, IfOk, OnOk, OnErr, length, slice_get, slice_set};
 ghost use Rattle.vol_words.specs.Faults.{HasCause};
 ghost use Rattle.blk_drive.specs.Images.{told_set};
 ghost use Rattle.vol_parts.specs.Parts.{IsGeometry};
@@ -141,6 +141,8 @@ pub(crate) fn grab<I: ImageDev, O: Operation>(
     ensures cause { HasCause (I.faults core.old.mirror.image) (I.faults core.new.mirror.image) result }
     ensures blocks { OnOk result (core.new.mirror.blocks ≡ slice_set core.old.mirror.blocks lbn block.now) }
     ensures image { OnOk result (I.told core.new.mirror.image ≡ told_set (I.told core.old.mirror.image) lbn block.now) }
+    ensures failed { OnErr result ((I.told core.new.mirror.image ≡ I.told core.old.mirror.image)
+        ⊎ (I.told core.new.mirror.image ≡ told_set (I.told core.old.mirror.image) lbn block.now)) }
     ensures room { core.new.history.room ≡ core.old.history.room }
 {
     core.mirror.write(lbn, block)?;

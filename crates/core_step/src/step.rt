@@ -5,12 +5,10 @@ ghost use Rattle.vol_words.specs.Faults.{Rose};
 ghost use Rattle.plain_cat.specs.declared.command.Cmd.{Cmd};
 ghost use Rattle.plain_vol.specs.Own.{next_command};
 ghost use Rattle.node_locks.specs.Held.{waits_at};
-ghost use Rattle.op_law.specs.Needs.{need_of};
-ghost use Rattle.op_law.specs.Fits.{FitsSeen};
 ghost use Rattle.op_law.specs.Laws.{Lawful};
 ghost use Rattle.core_state.specs.Worlds.{NodeState, IsOfWorld, state_of, plain_of, node_at, current};
 ghost use Rattle.core_state.specs.Goods.{Good, HasOnly, HasRoom};
-ghost use Rattle.core_state.specs.Images.{IsTold, told_as};
+ghost use Rattle.core_state.specs.Images.{IsTold, IsTorn, told_as};
 ghost use Rattle.core_state.specs.Events.{is_write, happen, begun, next_event, command_event, plan_at, after_turn};
 ghost use Rattle.core_step.specs.Ready.{IsReady, Begins, HasTakenAll, NeedsNow};
 ghost use Rattle.core_step.specs.Memory.{takes_none};
@@ -19,6 +17,7 @@ ghost use Rattle.core_step.specs.Turns.{told};
 use crate::answers::{answer, put};
 use crate::asks::{going_ask, writes_by};
 use crate::events::{ask, claim, decide, leave, look, stand, try_ask};
+use crate::needs::next_need;
 use crate::searches::{grab, has_asked, scan};
 use crate::turns::{Kind, Turn, TurnFault};
 use blk_drive::ImageDev;
@@ -26,19 +25,9 @@ use core_state::{Core, Node, World};
 use lock_db::{Asked, LockName};
 use node_locks::waits;
 use node_space::{Search, search};
-use op_law::{Need, NoMemory, Operation, Plan};
+use op_law::{Need, Operation, Plan};
 use plain_cat::{Cmd, Mode};
 use std::alloc::Global;
-
-// What a node's command needs next. An error says that memory ran out.
-fn next_need<O: Operation>(alloc: Global, node: &Node<O>) -> Result<Need, NoMemory>
-    requires op { IsSome node.now.op }
-    requires fits { IfSome node.now.op (λ op. FitsSeen (O.cmd_is op) node.now.seen) }
-    ensures { IfOk result (λ need. IfSome node.now.op (λ op. need_of (O.cmd_is op) node.now.seen ≡ need)) }
-{
-    let Some(op) = &node.op else { unreachable!() };
-    op.next(alloc, &node.seen)
-}
 
 // A command that needs space searches for it: it asks for the lock of the bitmaps, and then looks at one block after another.
 fn searching<I: ImageDev, O: Operation>(
@@ -141,6 +130,8 @@ fn planned<I: ImageDev, O: Operation>(
     ensures cause { result ≡ Err TurnFault.ImageFault → Rose (I.faults core.old.mirror.image) (I.faults core.new.mirror.image) }
     ensures memory { result ≡ Err TurnFault.NoMemory → takes_none core.old.locks node (command_event (plain_of O.cmd_is core.old) node) ≡ false }
     ensures before { result ≡ Err TurnFault.ImageFault → is_write (command_event (plain_of O.cmd_is core.old) node) ≡ true }
+    ensures torn { result ≡ Err TurnFault.ImageFault → IsTold (I.told core.old.mirror.image) core.old.mirror.blocks
+        → IsTorn (I.told core.old.mirror.image) (I.told core.new.mirror.image) core.old.mirror.blocks (happen (plain_of O.cmd_is core.old) node (command_event (plain_of O.cmd_is core.old) node)).blocks }
     ensures drive { IsTold (I.told core.old.mirror.image) core.old.mirror.blocks
         → (I.told core.new.mirror.image ≡ told_as (I.told core.old.mirror.image) core.new.mirror.blocks) ⊎ (result ≡ Err TurnFault.ImageFault) }
     ensures room { HasRoom (plain_of O.cmd_is core.new) core.new.history.room }
@@ -181,6 +172,8 @@ fn go_on<I: ImageDev, O: Operation>(
     ensures cause { result ≡ Err TurnFault.ImageFault → Rose (I.faults core.old.mirror.image) (I.faults core.new.mirror.image) }
     ensures memory { result ≡ Err TurnFault.NoMemory → takes_none core.old.locks node (command_event (plain_of O.cmd_is core.old) node) ≡ false }
     ensures before { result ≡ Err TurnFault.ImageFault → is_write (command_event (plain_of O.cmd_is core.old) node) ≡ true }
+    ensures torn { result ≡ Err TurnFault.ImageFault → IsTold (I.told core.old.mirror.image) core.old.mirror.blocks
+        → IsTorn (I.told core.old.mirror.image) (I.told core.new.mirror.image) core.old.mirror.blocks (happen (plain_of O.cmd_is core.old) node (command_event (plain_of O.cmd_is core.old) node)).blocks }
     ensures drive { IsTold (I.told core.old.mirror.image) core.old.mirror.blocks
         → (I.told core.new.mirror.image ≡ told_as (I.told core.old.mirror.image) core.new.mirror.blocks) ⊎ (result ≡ Err TurnFault.ImageFault) }
     ensures room { HasRoom (plain_of O.cmd_is core.new) core.new.history.room }
@@ -238,6 +231,8 @@ fn first<I: ImageDev, O: Operation>(
     ensures cause { result ≡ Err TurnFault.ImageFault → Rose (I.faults core.old.mirror.image) (I.faults core.new.mirror.image) }
     ensures memory { result ≡ Err TurnFault.NoMemory → takes_none core.old.locks node (next_event (plain_of O.cmd_is core.old) node) ≡ false }
     ensures before { result ≡ Err TurnFault.ImageFault → is_write (next_event (plain_of O.cmd_is core.old) node) ≡ true }
+    ensures torn { result ≡ Err TurnFault.ImageFault → IsTold (I.told core.old.mirror.image) core.old.mirror.blocks
+        → IsTorn (I.told core.old.mirror.image) (I.told core.new.mirror.image) core.old.mirror.blocks (after_turn (plain_of O.cmd_is core.old) node).blocks }
     ensures drive { IsTold (I.told core.old.mirror.image) core.old.mirror.blocks
         → (I.told core.new.mirror.image ≡ told_as (I.told core.old.mirror.image) core.new.mirror.blocks) ⊎ (result ≡ Err TurnFault.ImageFault) }
     ensures room { HasRoom (plain_of O.cmd_is core.new) core.new.history.room }
@@ -270,6 +265,8 @@ fn step<I: ImageDev, O: Operation>(
     ensures cause { result ≡ Err TurnFault.ImageFault → Rose (I.faults core.old.mirror.image) (I.faults core.new.mirror.image) }
     ensures memory { result ≡ Err TurnFault.NoMemory → takes_none core.old.locks node (next_event (plain_of O.cmd_is core.old) node) ≡ false }
     ensures before { result ≡ Err TurnFault.ImageFault → is_write (next_event (plain_of O.cmd_is core.old) node) ≡ true }
+    ensures torn { result ≡ Err TurnFault.ImageFault → IsTold (I.told core.old.mirror.image) core.old.mirror.blocks
+        → IsTorn (I.told core.old.mirror.image) (I.told core.new.mirror.image) core.old.mirror.blocks (after_turn (plain_of O.cmd_is core.old) node).blocks }
     ensures drive { IsTold (I.told core.old.mirror.image) core.old.mirror.blocks
         → (I.told core.new.mirror.image ≡ told_as (I.told core.old.mirror.image) core.new.mirror.blocks) ⊎ (result ≡ Err TurnFault.ImageFault) }
     ensures room { HasRoom (plain_of O.cmd_is core.new) core.new.history.room }
@@ -313,8 +310,11 @@ pub fn turn<I: ImageDev, O: Operation>(
     ensures later { I.faults w.old.image ≤ I.faults w.new.image }
     ensures cause { result ≡ Err TurnFault.ImageFault → Rose (I.faults w.old.image) (I.faults w.new.image) }
 
-    // It comes only in place of a write, and in all other cases the image has the blocks of the drive, if it had them before.
+    // It comes only in place of a write. The image, if it had the blocks of the drive before, has then those from before the turn or
+    // those that the turn would have left, and in all other cases those of the drive.
     ensures before { result ≡ Err TurnFault.ImageFault → is_write (next_event w.old.world node) ≡ true }
+    ensures torn { result ≡ Err TurnFault.ImageFault → IsTold (I.told w.old.image) w.old.world.blocks
+        → IsTorn (I.told w.old.image) (I.told w.new.image) w.old.world.blocks (after_turn w.old.world node).blocks }
     ensures drive { IsTold (I.told w.old.image) w.old.world.blocks
         → (I.told w.new.image ≡ told_as (I.told w.old.image) w.new.world.blocks) ⊎ (result ≡ Err TurnFault.ImageFault) }
 {

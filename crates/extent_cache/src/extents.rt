@@ -1,6 +1,6 @@
 //! The stock and its calls.
 
-ghost use Rattle.std.specs.Prelude.{◌≡◌, ◌+◌, ◌≤◌, ◌<◌, [], length, take, drop, IfOk, OnOk, OnErr, MatchOption, IfSome};
+ghost use Rattle.std.specs.Prelude.{◌≡◌, ◌+◌, ◌≤◌, ◌<◌, [], length, take, drop, IfOk, OnOk, OnErr, MatchOption, IfSome, IsTrue};
 ghost use Rattle.extent_cache.specs.Stock.{IsStock, AreNew, with_clusters, with_number, Holds, clusters_kept, numbers_kept};
 
 use crate::rising::{clusters_of, drop_covered, drop_first, numbers_of, put_in};
@@ -33,7 +33,7 @@ impl Model for Extents {
 }
 
 impl Extents {
-    ghost use Rattle.extent_cache.specs.Takings.{taken, numbers_left};
+    ghost use Rattle.extent_cache.specs.Takings.{taken, numbers_left, holds_enough};
 
     /// An empty stock. It fails only where memory is refused.
     pub fn new(alloc: Global) -> Result<Extents, NoMemory>
@@ -43,6 +43,36 @@ impl Extents {
             clusters: Vec::new(alloc),
             numbers: Vec::new(alloc),
         })
+    }
+
+    /// The `clusters` lowest clusters, and with `number` the lowest file number. The stock keeps them. None comes exactly
+    /// where it holds too few of either.
+    pub fn lowest(
+        &self,
+        alloc: Global,
+        clusters: u32,
+        number: bool,
+    ) -> Result<Option<Taken>, NoMemory>
+        ensures { IfOk result (λ t. t ≡ taken clusters number self.now) }
+    {
+        let count = clusters as usize;
+        if self.clusters.len() < count || number && self.numbers.is_empty() {
+            return Ok(None);
+        }
+        let clusters = clusters_of(alloc, &self.clusters[..count])?;
+        let number = if number { Some(self.numbers[0]) } else { None };
+        Ok(Some(Taken { clusters, number }))
+    }
+
+    /// Drops what `lowest` gives, where the stock holds enough of it. It takes no memory, and keeps what it has.
+    pub fn drop_lowest(&mut self, clusters: u32, number: bool)
+        requires { IsTrue (holds_enough clusters number self.old) }
+        ensures { Holds (drop clusters self.old.clusters) (numbers_left number self.old.numbers) self.old self.new }
+    {
+        drop_first(&mut self.clusters, clusters as usize);
+        if number {
+            drop_first(&mut self.numbers, 1);
+        }
     }
 
     /// Takes the `clusters` lowest clusters, and with `number` the lowest file number. None comes exactly where the
@@ -58,18 +88,11 @@ impl Extents {
             (λ _. Holds (drop clusters self.old.clusters) (numbers_left number self.old.numbers) self.old self.new)) }
         ensures err { OnErr result (self.new ≡ self.old) }
     {
-        let count = clusters as usize;
-        if self.clusters.len() < count || number && self.numbers.is_empty() {
-            return Ok(None);
+        let lowest = self.lowest(alloc, clusters, number)?;
+        if lowest.is_some() {
+            self.drop_lowest(clusters, number);
         }
-        let clusters = clusters_of(alloc, &self.clusters[..count])?;
-        drop_first(&mut self.clusters, count);
-        let number = if number {
-            Some(self.numbers.remove(0))
-        } else {
-            None
-        };
-        Ok(Some(Taken { clusters, number }))
+        Ok(lowest)
     }
 
     /// Takes memory for this many clusters and file numbers more, so that they go in without any. What is held stays,

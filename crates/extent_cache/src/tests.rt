@@ -41,6 +41,20 @@ fn lowest_go_out_first(rt: HostRuntime) -> Result<(), Fail> {
     Ok(())
 }
 
+#[test]
+fn lowest_are_told_and_then_dropped(rt: HostRuntime) -> Result<(), Fail> {
+    let mut stock = stocked(&rt)?;
+    assert!(rt; stock.lowest(rt.alloc(), 6, false)?.is_some());
+    assert!(rt; stock.lowest(rt.alloc(), 7, false)?.is_none());
+    let lowest: Taken = stock.lowest(rt.alloc(), 3, true)?.ok_or("it holds enough")?;
+    assert_eq!(rt; lowest.clusters.items(), [40, 41, 4094].as_slice());
+    assert_eq!(rt; lowest.number, Some(12));
+    assert_eq!(rt; (stock.count(), stock.numbers().len()), (6, 2));
+    stock.drop_lowest(3, true);
+    assert_eq!(rt; (stock.count(), stock.numbers()), (3, [14].as_slice()));
+    Ok(())
+}
+
 /// Storage bitmap block 0 covers clusters 0 to 4,095, and block 1 those from 4,096 on.
 #[test]
 fn one_block_goes_back(rt: HostRuntime) -> Result<(), Fail> {

@@ -54,7 +54,7 @@ keeps-uniform es (g ∷ gs) u n = (map-own (marked None g) ∙ none g n.0 ∙ sy
   none [] n = refl
   none (e ∷ g) n = λ i. e ∷ uniform-marked es e g u n.0 n.1 i
 
-block-at : (g : List RawEnt) → IsWritable g → entries_at (block_of g) ≡ marked None g
+pub block-at : (g : List RawEnt) → IsWritable g → entries_at (block_of g) ≡ marked None g
 block-at g w = ap (λ (o : Option (List RawEnt)). unwrap_or o []) (block-read g w.sound w.order w.room)
 
 pub block-parsed : (g : List RawEnt) → IsWritable g → IsParsed (block_of g)

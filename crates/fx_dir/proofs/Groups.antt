@@ -104,7 +104,7 @@ left-out-reads k e es h r o =
     let j : joined (map (without e) (pack name_of k (inserted e es))) ≡ es = joined-without e (pack name_of k (inserted e es)) ∙ ap (without e) (pack-joined k (inserted e es) o) ∙ without-inserted e es h in
     parts-read es (map (without e) (pack name_of k (inserted e es))) j r (without-room e (pack name_of k (inserted e es)) (pack-room k (inserted e es)))
 
-all-filter : (p q : RawEnt → Bool) (es : List RawEnt) → list_all q es ≡ true → list_all q (filter p es) ≡ true
+pub all-filter : (p q : RawEnt → Bool) (es : List RawEnt) → list_all q es ≡ true → list_all q (filter p es) ≡ true
 all-filter p q [] h = refl
 all-filter p q (x ∷ es) h =
     let r = and_cases _ _ h in

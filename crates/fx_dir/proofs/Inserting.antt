@@ -1,15 +1,16 @@
 -- The law of an insertion.
-use Rattle.std.proofs.Common.{◌≡◌, ◌∙◌, ◌-◌, ◌<◌, true, false, ℕ, suc, List, [], ◌∷◌, ◌++◌, Some, None, Ok, map, take, drop, length, length-drop, slice_get, slice_set, slice_index_or, refl, sym, ap, subst, arith}
+use Rattle.std.proofs.Common.{◌≡◌, ◌∙◌, ◌-◌, ◌<◌, true, false, ℕ, suc, List, [], ◌∷◌, ◌++◌, Some, None, Result, Ok, map, take, drop, length, length-drop, slice_get, slice_set, slice_index_or, refl, sym, ap, subst, arith}
 use Rattle.std.proofs.lemmas.List.{length-map}
 use Rattle.vol_words.specs.Fields.{Block}
 use Rattle.vol_words.specs.Packing.{pack, over}
 use Rattle.fx_dir.specs.declared.RawEnt.{RawEnt}
 use Rattle.fx_dir.specs.declared.Move.{Move}
+use Rattle.fx_dir.specs.declared.DirFault.{DirFault}
 use Rattle.fx_dir.specs.Lists.{Each, In, joined}
 use Rattle.fx_dir.specs.Entries.{rises, has, without, plain}
 use Rattle.fx_dir.specs.Directory.{directory, plainly, all_entries}
 use Rattle.fx_dir.specs.Writing.{if_fits, IsUniform, name_of, block_of}
-use Rattle.fx_dir.specs.Moves.{written, rising, falling, less_last, place, inserted, as_new, insert_writes, insertion, insertion_on, AreChanges, Inserts, on_entries}
+use Rattle.fx_dir.specs.Moves.{written, rising, falling, less_last, place, inserted, as_new, insert_writes, insertion, insertion_on, packed_as, AreChanges, Inserts, on_entries}
 use Rattle.fx_dir.proofs.Order.{not_both}
 use Rattle.fx_dir.proofs.Meeting.{Reads, Sound}
 use Rattle.fx_dir.proofs.Cover.{each-append, each-imp}
@@ -20,7 +21,7 @@ use Rattle.fx_dir.proofs.Showing.{IsParsed, seen, shows}
 use Rattle.fx_dir.proofs.Building.{IsWritable, Keeps, keeps-plain, keeps-uniform, block-parsed, blocks-parsed, blocks-seen, pack-writable, pack-seen, map-own, none-writable, index-seen}
 use Rattle.fx_dir.proofs.Groups.{has-inserted, has-within, place-has, place-within, put-back, rises-inserted, each-got}
 use Rattle.fx_dir.proofs.Images.{rising-whole}
-use Rattle.fx_dir.proofs.Passing.{first-reads, insert-before, insert-after}
+use Rattle.fx_dir.proofs.Passing.{first-reads, insert-before, insert-done, insert-after}
 use Rattle.fx_dir.proofs.Based.{IsLong, map-nil, based, read-parsed, read-order, read-uniform, seen-plain, seen-own}
 use Rattle.fx_dir.proofs.Changing.{changes-append, rising-changes, falling-changes, less_last-changes, length-written, written-each, rising-each, falling-each, less_last-each, get-map}
 use Rattle.fx_dir.proofs.Seeing.{inserted-view, withouts-view, map-set_at, each-index, in-inserted, withouts-each, withouts-writable, plain-as_new, has-as_new, as_new-uniform}
@@ -128,6 +129,9 @@ module _ (v : RawEnt → RawEnt) (view : IsView v) (old : List Block) (fs : List
       shows v view (written writes old) (inserted (v e) (map v fs)) (parsed writes writes-parsed)
       (insert-after v old left right (map block_of hs) (map v fs) (v e) at last base absent-seen fits-seen left-seen right-seen new-seen back)
 
+  pub whole-all : written writes old ≡ map block_of hs
+  whole-all = insert-done v old left right (map block_of hs) (map v fs) (v e) at last base absent-seen fits-seen left-seen right-seen new-seen back
+
   -- ---- each write changes its block
   left-count : length left ≡ k
   left-count = length-map gs block_of ∙ pack-length k fs
@@ -170,6 +174,7 @@ inserts old fs e ws long read absent fits sound all-sound is =
       after = (let a = after-all plain plain-view old fs new read base absent-new fits sound all-sound plainly-kept in ap plainly a.1 ∙ ap Ok (a.2 ∙ ap (λ (x : RawEnt). inserted x (map plain fs)) (plain-as_new fs e)) ∙ sym (ap (λ r. on_entries (inserted (plain e)) (plainly r)) read));
       kept_before = λ u n h. let b = before-all (λ x. x) own-view old fs new read (own-base u) absent-new fits sound all-sound (own-kept u) n h in b.1 ∙ ap Ok (sym (map-own b.0) ∙ b.2 ∙ map-own fs) ∙ sym read;
       kept_after = λ u. let a = after-all (λ x. x) own-view old fs new read (own-base u) absent-new fits sound all-sound (own-kept u) in a.1 ∙ ap Ok (sym (map-own a.0) ∙ a.2 ∙ ap (inserted new) (map-own fs)) ∙ sym (ap (on_entries (λ es. inserted (as_new es e) es)) read);
+      whole = whole-all plain plain-view old fs new read base absent-new fits sound all-sound plainly-kept ∙ sym (ap (λ (r : Result (List RawEnt) DirFault). packed_as old (on_entries (λ es. inserted (as_new es e) es) r)) read);
       changes = all-changes plain plain-view old fs new read base absent-new fits sound all-sound plainly-kept;
     })
   where

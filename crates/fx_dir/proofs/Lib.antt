@@ -22,3 +22,6 @@ pub mod Seeing
 pub mod Inserting
 pub mod Removing
 pub mod Moving
+pub mod Merging
+pub mod Repacking
+pub mod Single

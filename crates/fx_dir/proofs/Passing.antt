@@ -1,6 +1,6 @@
 -- The blocks of a directory after each number of the writes of an insertion or a removal, as lists of what is seen of
 -- each block.
-use Rattle.std.proofs.Common.{◌≡◌, ◌≤◌, ◌+◌, ◌-◌, ◌<◌, false, ℕ, zero, suc, List, [], ◌∷◌, ◌++◌, map, take, drop, length, slice_set, refl, sym, ap, subst, ◌∙◌, arith, length-append}
+use Rattle.std.proofs.Common.{◌≡◌, ◌≤◌, ◌+◌, ◌-◌, ◌<◌, false, ℕ, zero, suc, List, [], ◌∷◌, ◌++◌, map, take, drop, length, slice_set, refl, sym, ap, subst, ◌∙◌, arith, append_assoc, length-append}
 use Rattle.std.proofs.lemmas.List.{length-map}
 use Rattle.vol_words.specs.Fields.{Block}
 use Rattle.vol_words.specs.Packing.{pack, over}
@@ -38,7 +38,7 @@ module _ (v : RawEnt → RawEnt) where
       subst (λ (t : List (List RawEnt)). Reads es t) (sym (map-mix (seen v) j xs ys ∙ (λ i. take j (g i) ++ drop j (h i)))) r
 
   -- a pass from blocks with the entries es to their packing, first block to last
-  to-packing : (k : ℕ) (es : List RawEnt) (from to : List Block) (n : ℕ) → length from ≡ k → Reads es (map (seen v) from) → map (seen v) to ≡ pack name_of k es
+  pub to-packing : (k : ℕ) (es : List RawEnt) (from to : List Block) (n : ℕ) → length from ≡ k → Reads es (map (seen v) from) → map (seen v) to ≡ pack name_of k es
       → Reads es (map (seen v) (written (take n (rising 1 from to)) from))
   to-packing k es from to n count reads packed =
       let l : length from ≡ length to = count ∙ sym (sym (length-map to (seen v)) ∙ ap length packed ∙ pack-length k es) in
@@ -170,3 +170,11 @@ module _ (v : RawEnt → RawEnt) where
         ∙ written-append (pass ++ record { vbn = suc at; block = decides } ∷ []) (take p.0 (rising 1 right new)) old
         ∙ ap (written (take p.0 (rising 1 right new))) decided in
         subst (λ (t : List Block). Reads (without e es) (map (seen v) t)) (sym q) (to-packing size (without e es) right new p.0 count-right rest-reads new-seen)
+
+    pub remove-done : written writes old ≡ new
+    remove-done =
+        let count-new : length new ≡ size = sym (length-map new (seen v)) ∙ ap length new-seen ∙ pack-length size (without e es) in
+        ap (λ (t : List Move). written t old) (sym (append_assoc pass (record { vbn = suc at; block = decides } ∷ []) (rising 1 right new)))
+        ∙ written-append (pass ++ record { vbn = suc at; block = decides } ∷ []) (rising 1 right new) old
+        ∙ ap (written (rising 1 right new)) decided
+        ∙ rising-whole right new [] 1 (count-right ∙ sym count-new) refl

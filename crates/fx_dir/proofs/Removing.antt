@@ -1,10 +1,11 @@
 -- The law of a removal.
-use Rattle.std.proofs.Common.{◌≡◌, ◌∙◌, ◌+◌, ◌-◌, ◌<◌, ◌≤◌, true, false, ℕ, zero, suc, List, [], ◌∷◌, Some, Ok, map, take, length, slice_get, slice_set, slice_index_or, refl, sym, ap, subst, arith, length-append}
+use Rattle.std.proofs.Common.{◌≡◌, ◌∙◌, ◌+◌, ◌-◌, ◌<◌, ◌≤◌, true, false, ℕ, zero, suc, List, [], ◌∷◌, Some, Result, Ok, map, take, length, slice_get, slice_set, slice_index_or, refl, sym, ap, subst, arith, length-append}
 use Rattle.std.proofs.lemmas.List.{length-map}
 use Rattle.vol_words.specs.Fields.{Block}
 use Rattle.vol_words.specs.Packing.{pack, over}
 use Rattle.fx_dir.specs.declared.RawEnt.{RawEnt}
 use Rattle.fx_dir.specs.declared.Move.{Move}
+use Rattle.fx_dir.specs.declared.DirFault.{DirFault}
 use Rattle.fx_dir.specs.Lists.{Each, In, joined}
 use Rattle.fx_dir.specs.Entries.{rises, has, without, plain}
 use Rattle.fx_dir.specs.Directory.{directory, plainly, all_entries}
@@ -20,7 +21,7 @@ use Rattle.fx_dir.proofs.Showing.{IsParsed, seen, shows}
 use Rattle.fx_dir.proofs.Building.{IsWritable, Keeps, keeps-plain, keeps-uniform, block-parsed, blocks-parsed, blocks-seen, pack-writable, pack-seen, map-own, none-writable, block-seen}
 use Rattle.fx_dir.proofs.Groups.{joined-without, without-room, has-without, place-has, place-within, take-out, rises-filter, get-index}
 use Rattle.fx_dir.proofs.Images.{rising-whole}
-use Rattle.fx_dir.proofs.Passing.{remove-before, remove-after}
+use Rattle.fx_dir.proofs.Passing.{remove-before, remove-after, remove-done}
 use Rattle.fx_dir.proofs.Based.{IsLong, map-nil, based, read-parsed, read-order, read-uniform, seen-plain, seen-own}
 use Rattle.fx_dir.proofs.Changing.{changes-append, rising-changes, written-each, rising-each, get-map}
 use Rattle.fx_dir.proofs.Seeing.{without-view, withouts-view, map-set_at, each-index, without-each, without-in, withouts-each, without-writable, withouts-writable}
@@ -130,6 +131,9 @@ module _ (v : RawEnt → RawEnt) (view : IsView v) (old : List Block) (fs : List
   after-decided n h =
       shows v view (written (take n writes) old) (without (v e) (map v fs)) (parsed n) (remove-after v old left right new (map v fs) (v e) at decides base left-seen right-seen new-seen out n h)
 
+  pub whole-rest : written writes old ≡ new
+  whole-rest = remove-done v old left right new (map v fs) (v e) at decides base left-seen right-seen new-seen out
+
   -- ---- each write changes its block
   left-count : length left ≡ k
   left-count = length-map gs block_of ∙ pack-length k fs
@@ -187,6 +191,7 @@ removes old fs e ws long read there sound key is =
       after = λ n h. let a = after-decided plain plain-view old fs e read base there sound plainly-kept n h in ap plainly a.1 ∙ ap Ok (a.2 ∙ ap (λ (x : RawEnt). without x (map plain fs)) key) ∙ sym (ap (λ r. on_entries (without e) (plainly r)) read);
       kept_before = λ u n h. let b = before-decided (λ x. x) own-view old fs e read (own-base u) there sound (own-kept u) n h in b.1 ∙ ap Ok (sym (map-own b.0) ∙ b.2 ∙ map-own fs) ∙ sym read;
       kept_after = λ u n h. let a = after-decided (λ x. x) own-view old fs e read (own-base u) there sound (own-kept u) n h in a.1 ∙ ap Ok (sym (map-own a.0) ∙ a.2 ∙ ap (without e) (map-own fs)) ∙ sym (ap (on_entries (without e)) read);
+      whole = whole-rest plain plain-view old fs e read base there sound plainly-kept ∙ sym (ap (λ (r : Result (List RawEnt) DirFault). packed_as old (on_entries (without e) r)) read);
       changes = all-changes plain plain-view old fs e read base there sound plainly-kept;
     })
   where

@@ -1,24 +1,48 @@
 -- Entries of which each is before the next are in order.
-use Rattle.std.proofs.Common.{◌≡◌, ◌∙◌, ◌&&◌, Bool, true, false, ℕ, List, [], ◌∷◌, drop, refl, sym, arith}
+use Rattle.std.proofs.Common.{◌≡◌, ◌∙◌, ◌&&◌, Bool, true, false, ℕ, List, [], ◌∷◌, drop, refl, sym, ap, arith, ltb, eqb}
 use Rattle.std.proofs.lemmas.Bool.Decides.{nat_tests}
-use Rattle.std.proofs.lemmas.Cmp.{same_from_slice_cmp_tested}
-use Rattle.std.specs.Cmp.Lexicographic.{slice_partial_cmp}
-use Rattle.std.specs.Ordering.{nat_cmp, is_lt, is_some_and, MatchOrdering}
+use Rattle.std.proofs.lemmas.Cmp.{same_from_slice_cmp}
+use Rattle.std.specs.Cmp.Lexicographic.{slice_cmp}
+use Rattle.std.specs.Ordering.{nat_cmp, ordering_then, is_lt, is_eq, MatchOrdering}
 use Rattle.std.specs.declared.cmp.Ordering.{Ordering}
 use Rattle.std.specs.declared.cmp.Ordering.TheVariants.{Less, Equal, Greater}
 use Rattle.std.specs.List.{list_all, zip}
-use Rattle.std.specs.Prelude.{Some}
+use Rattle.std.specs.Str.{bytes_eq}
 use Rattle.fx_dir.specs.declared.RawEnt.{RawEnt}
-use Rattle.fx_dir.specs.Entries.{lower, before, rises}
+use Rattle.fx_dir.specs.Entries.{lower, same, before, rises}
 use Rattle.fx_dir.proofs.Order.{and_cases, both, no_and, before-trans}
 
--- what `<` answers of bytes
-pub lower-slice : (xs ys : List ℕ) (r : Bool) → r ≡ is_some_and is_lt (slice_partial_cmp (λ x y. Some (nat_cmp x y)) xs ys) → r ≡ lower xs ys
-lower-slice = same_from_slice_cmp_tested nat_cmp is_lt lower refl (λ _ _. refl) (λ _ _. refl) more where
+-- what `cmp` answers of bytes
+pub cmp-lower : (xs ys : List ℕ) (r : Ordering) → r ≡ slice_cmp nat_cmp xs ys → is_lt r ≡ lower xs ys
+cmp-lower = same_from_slice_cmp nat_cmp is_lt lower refl (λ _ _. refl) (λ _ _. refl) more where
   more : (x y : ℕ) (xs ys : List ℕ) (o : Ordering) → o ≡ nat_cmp x y → MatchOrdering o (lower (x ∷ xs) (y ∷ ys) ≡ is_lt Less) (lower (x ∷ xs) (y ∷ ys) ≡ lower xs ys) (lower (x ∷ xs) (y ∷ ys) ≡ is_lt Greater)
   more x y xs ys Less e = grind (arith, nat_tests)
   more x y xs ys Equal e = grind (arith, nat_tests)
   more x y xs ys Greater e = grind (arith, nat_tests)
+
+pub cmp-equal : (xs ys : List ℕ) (r : Ordering) → r ≡ slice_cmp nat_cmp xs ys → is_eq r ≡ bytes_eq xs ys
+cmp-equal = same_from_slice_cmp nat_cmp is_eq bytes_eq refl (λ _ _. refl) (λ _ _. refl) more where
+  more : (x y : ℕ) (xs ys : List ℕ) (o : Ordering) → o ≡ nat_cmp x y → MatchOrdering o (bytes_eq (x ∷ xs) (y ∷ ys) ≡ is_eq Less) (bytes_eq (x ∷ xs) (y ∷ ys) ≡ bytes_eq xs ys) (bytes_eq (x ∷ xs) (y ∷ ys) ≡ is_eq Greater)
+  more x y xs ys Less e = grind (arith, nat_tests)
+  more x y xs ys Equal e = grind (arith, nat_tests)
+  more x y xs ys Greater e = grind (arith, nat_tests)
+
+-- the order by name, and of one name by falling version
+pub order-before : (n v : Ordering) (a b : RawEnt) → is_lt n ≡ lower a.name b.name → is_eq n ≡ bytes_eq a.name b.name → v ≡ nat_cmp b.ver a.ver → is_lt (ordering_then n v) ≡ before a b
+unfolding before
+order-before Less v a b l e h = rw (sym l) refl
+order-before Equal v a b l e h = rw (sym l, sym e) (ap is_lt h ∙ less b.ver a.ver) where
+  less : (x y : ℕ) → is_lt (nat_cmp x y) ≡ ltb x y
+  less x y = grind (arith, nat_tests)
+order-before Greater v a b l e h = rw (sym l, sym e) refl
+
+pub order-same : (n v : Ordering) (a b : RawEnt) → is_eq n ≡ bytes_eq a.name b.name → v ≡ nat_cmp b.ver a.ver → is_eq (ordering_then n v) ≡ same a b
+unfolding same
+order-same Less v a b e h = rw (sym e) refl
+order-same Equal v a b e h = rw (sym e) (ap is_eq h ∙ equal b.ver a.ver) where
+  equal : (x y : ℕ) → is_eq (nat_cmp x y) ≡ eqb y x
+  equal x y = grind (arith, nat_tests)
+order-same Greater v a b e h = rw (sym e) refl
 
 pub all-trans : (e x : RawEnt) (es : List RawEnt) → before e x ≡ true → list_all (before x) es ≡ true → list_all (before e) es ≡ true
 all-trans e x [] h a = refl

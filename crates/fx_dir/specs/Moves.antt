@@ -102,9 +102,13 @@ abbrev pub packed_as : List Block → Result (List RawEnt) DirFault → List Blo
 packed_as old (Ok es) = map block_of (pack name_of (length old) es)
 packed_as old (Err fault) = old
 
+-- the writes that pack the entries of a directory into its blocks, first to last
+abbrev pub repacking : List Block → List Move
+repacking old = rising 1 old (packed_as old (directory old))
+
 -- how many writes pack the entries, before one is removed
 abbrev pub packing_writes : List Block → ℕ
-packing_writes old = length (rising 1 old (packed_as old (directory old)))
+packing_writes old = length (repacking old)
 
 -- what is read, changed in the entries alone
 abbrev pub on_entries : (List RawEnt → List RawEnt) → Result (List RawEnt) DirFault → Result (List RawEnt) DirFault
@@ -119,16 +123,17 @@ AreChanges (w ∷ ws) bs =
     × AreChanges ws (slice_set bs (w.vbn - 1) w.block)
 
 -- The law of an insertion: the old entries are read after each number of the writes but all, and then the old ones and
--- the new one. Where the records of each name agree in version limit and flags, these stay as they are.
+-- the new one, which are packed. Where the records of each name agree in version limit and flags, these stay as they are.
 pub record Inserts (old : List Block) (e : RawEnt) (ws : List Move) : Type 0 where
   pub before : (n : ℕ) → n < length ws → dir_entries (written (take n ws) old) ≡ dir_entries old
   pub after : dir_entries (written ws old) ≡ on_entries (inserted (plain e)) (dir_entries old)
   pub kept_before : IsUniform (all_entries old) → (n : ℕ) → n < length ws → directory (written (take n ws) old) ≡ directory old
   pub kept_after : IsUniform (all_entries old) → directory (written ws old) ≡ on_entries (λ es. inserted (as_new es e) es) (directory old)
+  pub whole : written ws old ≡ packed_as old (on_entries (λ es. inserted (as_new es e) es) (directory old))
   pub changes : AreChanges ws old
 
 -- The law of a removal, with the number of writes in front of the one that decides, which are those that pack the entries:
--- the old entries are read up to it, and from it on the rest.
+-- the old entries are read up to it, and from it on the rest, which all writes leave packed.
 pub record Removes (old : List Block) (e : RawEnt) (ws : List Move) : Type 0 where
   pub first : ℕ
   pub packing : first ≡ packing_writes old
@@ -137,4 +142,13 @@ pub record Removes (old : List Block) (e : RawEnt) (ws : List Move) : Type 0 whe
   pub after : (n : ℕ) → first < n → dir_entries (written (take n ws) old) ≡ on_entries (without e) (dir_entries old)
   pub kept_before : IsUniform (all_entries old) → (n : ℕ) → n ≤ first → directory (written (take n ws) old) ≡ directory old
   pub kept_after : IsUniform (all_entries old) → (n : ℕ) → first < n → directory (written (take n ws) old) ≡ on_entries (without e) (directory old)
+  pub whole : written ws old ≡ packed_as old (on_entries (without e) (directory old))
+  pub changes : AreChanges ws old
+
+-- The law of a packing: the same entries are read after each number of the writes, and all of them leave these packed.
+-- Where the records of each name agree in version limit and flags, these stay as they are.
+pub record Packs (old : List Block) (ws : List Move) : Type 0 where
+  pub entries : (n : ℕ) → dir_entries (written (take n ws) old) ≡ dir_entries old
+  pub kept : IsUniform (all_entries old) → (n : ℕ) → directory (written (take n ws) old) ≡ directory old
+  pub whole : written ws old ≡ packed_as old (directory old)
   pub changes : AreChanges ws old

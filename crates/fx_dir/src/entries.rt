@@ -1,12 +1,14 @@
-ghost use Rattle.std.specs.Prelude.{◌≡◌, ◌<◌, ◌≤◌, ◌++◌, IfOk, drop};
+ghost use Rattle.std.specs.Prelude.{◌≡◌, true, IfOk, drop};
 ghost use Rattle.std.specs.Str.{bytes_eq};
-ghost use Rattle.std.specs.List.{list_any, list_all, zip};
+ghost use Rattle.std.specs.List.{list_all, zip};
+ghost use Rattle.std.specs.Ordering.{is_lt, is_eq};
 ghost use Rattle.fx_dir.specs.declared.RawEnt.{RawEnt};
 ghost use Rattle.fx_dir.specs.Writing.{IsRanged};
-ghost use Rattle.fx_dir.specs.Entries.{same, clash, lower, before, rises, has, fresh, any_clash};
+ghost use Rattle.fx_dir.specs.Entries.{same, clash, lower, before, rises, has};
 
 use crate::{NoMemory, RawEnt, RawName};
 use std::alloc::Global;
+use std::cmp::Ordering;
 
 impl RawEnt {
     /// An entry equal to this one.
@@ -32,27 +34,36 @@ impl RawEnt {
         self.name.bytes() == other.name.bytes() && self.ver == other.ver
     }
 
+    /// Whether an entry of the same name and version has another file identifier.
     #[tactic(auto, unfolding(crate::specs::Entries::clash))]
-    fn is_clash(&self, other: &RawEnt) -> bool
+    pub(crate) fn is_clash(&self, other: &RawEnt) -> bool
+        requires { same self.now other.now ≡ true }
         ensures { result ≡ clash self.now other.now }
     {
-        self.is_same(other) && !(self.num == other.num && self.seq == other.seq)
+        !(self.num == other.num && self.seq == other.seq)
     }
 
-    #[tactic(auto, unfolding(crate::specs::Entries::before))]
+    /// The order of two entries: by name, then by falling version.
+    pub(crate) fn order(&self, other: &RawEnt) -> Ordering
+        ensures before { is_lt result ≡ before self.now other.now }
+        ensures same { is_eq result ≡ same self.now other.now }
+    {
+        name_order(self.name.bytes(), other.name.bytes()).then(other.ver.cmp(&self.ver))
+    }
+
     pub(crate) fn is_before(&self, other: &RawEnt) -> bool
         ensures { result ≡ before self.now other.now }
     {
-        is_lower(self.name.bytes(), other.name.bytes())
-            || (self.name.bytes() == other.name.bytes() && other.ver < self.ver)
+        self.order(other).is_lt()
     }
 }
 
 /// By bytes, where a text comes before those that go on after it.
-fn is_lower(a: &[u8], b: &[u8]) -> bool
-    ensures { result ≡ lower a.now b.now }
+fn name_order(a: &[u8], b: &[u8]) -> Ordering
+    ensures lower { is_lt result ≡ lower a.now b.now }
+    ensures equal { is_eq result ≡ bytes_eq a.now b.now }
 {
-    a < b
+    a.cmp(b)
 }
 
 /// Whether one of this name and version is there.
@@ -60,32 +71,6 @@ pub(crate) fn has(es: &[RawEnt], e: &RawEnt) -> bool
     ensures { result ≡ has es.now e.now }
 {
     es.iter().any(|x| e.is_same(x))
-}
-
-fn has_clash(es: &[RawEnt], e: &RawEnt) -> bool
-    ensures { result ≡ list_any (clash e.now) es.now }
-{
-    es.iter().any(|x| e.is_clash(x))
-}
-
-/// Whether one has the name and version of one that is there, and another file identifier.
-pub(crate) fn any_clash(es: &[RawEnt], fs: &[RawEnt]) -> bool
-    ensures { result ≡ any_clash es.now fs.now }
-{
-    fs.iter().any(|e| has_clash(es, e))
-}
-
-/// Those whose name and version are not there yet.
-pub(crate) fn fresh(alloc: Global, es: &[RawEnt], fs: Vec<RawEnt>) -> Result<Vec<RawEnt>, NoMemory>
-    ensures { IfOk result (λ v. v.items ≡ fresh es.now fs.items) }
-{
-    let mut list = Vec::new(alloc);
-    for e in fs {
-        if !has(es, &e) {
-            list.push(e)?;
-        }
-    }
-    Ok(list)
 }
 
 /// Whether each is before the next one.

@@ -1,7 +1,7 @@
 //! Laws of directories that no code runs: the contract of each function is a theorem.
 
 ghost use Rattle.fx_dir.specs.Directory.{ReadsSet};
-ghost use Rattle.fx_dir.specs.Laws.{BlocksReadBack, PackingIsLeast};
+ghost use Rattle.fx_dir.specs.Laws.{BlocksReadBack, PackingIsLeast, SinglePacked};
 
 /// The list that is read is the set of all entries of all records, in order.
 pub fn reading_gives_the_set()
@@ -16,4 +16,9 @@ pub fn written_blocks_read_back()
 /// The entries of blocks that are read without a fault pack into as many blocks.
 pub fn packing_is_least()
     ensures { PackingIsLeast }
+{}
+
+/// No entry of packed blocks stands in two of them.
+pub fn packed_blocks_have_no_doubles()
+    ensures { SinglePacked }
 {}

@@ -3,7 +3,8 @@
 //! A block is a list of records and a word that ends them. A record has a name and versions of it, each with the file
 //! identifier that it stands for. [`read_dir`] reads the blocks of a directory, [`packed`] fills blocks with entries, and
 //! [`insert_moves`] and [`remove_moves`] give the writes, block by block, by which an entry comes or goes while the
-//! directory has its other entries at every moment.
+//! directory has its other entries at every moment, and [`pack_moves`] those by which entries that stand in two blocks
+//! come to stand in one.
 #![tactic(auto)]
 
 ghost use Rattle.std.specs.Prelude.{◌≡◌, IfOk};
@@ -23,8 +24,11 @@ mod records;
 mod tests;
 mod writing;
 
-pub use laws::{packing_is_least, reading_gives_the_set, written_blocks_read_back};
-pub use moves::{insert_moves, remove_moves};
+pub use laws::{
+    packed_blocks_have_no_doubles, packing_is_least, reading_gives_the_set,
+    written_blocks_read_back,
+};
+pub use moves::{insert_moves, pack_moves, remove_moves};
 pub use packing::packed;
 pub use reading::read_dir;
 

@@ -9,7 +9,7 @@ ghost use Rattle.fx_dir.specs.Lists.{Each};
 ghost use Rattle.fx_dir.specs.Entries.{before, has, rises, without};
 ghost use Rattle.fx_dir.specs.Directory.{directory};
 ghost use Rattle.fx_dir.specs.Writing.{IsInForm, IsRanged, AreWritable};
-ghost use Rattle.fx_dir.specs.Moves.{rising, falling, less_last, place, inserted, as_new, insert_writes, insertion, Inserts, remove_writes, removal, key, Removes};
+ghost use Rattle.fx_dir.specs.Moves.{rising, falling, less_last, place, inserted, as_new, insert_writes, insertion, Inserts, remove_writes, removal, key, Removes, repacking, Packs};
 
 use crate::entries::has;
 use crate::packing::{Group, blocks_of, pack_into};
@@ -250,6 +250,23 @@ pub fn insert_moves(alloc: Global, old: &[Block], e: &RawEnt) -> Result<Option<V
         &new,
         after.list.as_slice(),
     )?))
+}
+
+/// The writes that pack the entries of a directory into its blocks, in their order.
+///
+/// The blocks `old` are those of a directory without a fault. It has the same entries after each number of the writes,
+/// and after all of them none that stands in two blocks; each write changes its block. There is none where the entries
+/// are packed.
+pub fn pack_moves(alloc: Global, old: &[Block]) -> Result<Vec<Move>, NoMemory>
+    requires numbered { length old.now < 2 ^ 32 }
+    requires read { IsOk (directory old.now) }
+    ensures moves { IfOk result (λ v. v.items ≡ repacking old.now) }
+    ensures law { IfOk result (λ v. Packs old.now v.items) }
+{
+    let es = entries(alloc, old)?;
+    let packing = pack_into(alloc, es.as_slice(), old.len())?;
+    let blocks = blocks_of(alloc, packing.list.as_slice())?;
+    rising(alloc, old, blocks.as_slice())
 }
 
 /// The writes of a removal that leads from the packing `left` of all entries to the packing `rest`.

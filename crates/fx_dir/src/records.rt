@@ -1,8 +1,9 @@
-ghost use Rattle.std.specs.Prelude.{◌≡◌, ◌+◌, ◌-◌, ◌*◌, ◌/◌, ◌≤◌, ◌<◌, ◌++◌, IfOk, IfSome, OnSome, option_map, length, take, drop};
+ghost use Rattle.std.specs.Prelude.{◌≡◌, true, ◌+◌, ◌-◌, ◌*◌, ◌/◌, ◌≤◌, ◌<◌, ◌++◌, IfOk, IfSome, OnSome, option_map, length, take, drop};
 ghost use Rattle.std.specs.Bool.{OnTrue};
 ghost use Rattle.vol_words.specs.Fields.{field};
 ghost use Rattle.fx_dir.specs.declared.RawEnt.{RawEnt};
 ghost use Rattle.fx_dir.specs.Lists.{Each};
+ghost use Rattle.fx_dir.specs.Entries.{rises};
 ghost use Rattle.fx_dir.specs.Writing.{IsInForm};
 ghost use Rattle.fx_dir.specs.Records.{record_length, head_length, name_in, is_end, is_whole, is_named, is_version, entry_in, versions_in, record_entries, records_in, block_entries};
 
@@ -156,6 +157,7 @@ fn records_in(alloc: Global, b: &Block) -> Result<Option<Vec<RawEnt>>, NoMemory>
 pub(crate) fn block_entries(alloc: Global, b: &Block) -> Result<Option<Vec<RawEnt>>, NoMemory>
     ensures value { IfOk result (λ o. option_map (λ v. v.items) o ≡ block_entries b.now) }
     ensures form { IfOk result (λ o. IfSome o (λ v. Each IsInForm v.items)) }
+    ensures order { IfOk result (λ o. IfSome o (λ v. rises v.items ≡ true)) }
 {
     let Some(list) = records_in(alloc, b)? else {
         return Ok(None);

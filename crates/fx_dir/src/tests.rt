@@ -2,7 +2,9 @@ ghost use Rattle.std.specs.Prelude.{◌≡◌, IfOk};
 ghost use Rattle.fx_dir.specs.Writing.{IsInForm};
 
 use crate::entries::has;
-use crate::{DirFault, Move, RawEnt, RawName, insert_moves, packed, read_dir, remove_moves};
+use crate::{
+    DirFault, Move, RawEnt, RawName, insert_moves, pack_moves, packed, read_dir, remove_moves,
+};
 use std::alloc::Global;
 use std::test::Fail;
 use vol_words::{Block, put_bytes};
@@ -447,6 +449,31 @@ fn a_removal_packs_after_it_decides(rt: HostRuntime) -> Result<(), Fail> {
         write(2, empty),
     ];
     assert!(rt; removes(rt.alloc(), &old, long_block(6, 6, false), &expected)?);
+    Ok(())
+}
+
+/// Whether the entries of a directory are packed by these moves.
+fn packs_by(alloc: Global, old: &[Block; 4], by: &[Move]) -> Result<bool, Fail> {
+    let _ents = read_dir(alloc, old)?;
+    let moves = pack_moves(alloc, old)?;
+    Ok(are_moves(moves.as_slice(), by))
+}
+
+/// An entry that stands in two blocks comes to stand in one, and a packed directory is left as it is.
+#[test]
+fn a_packing_leaves_no_entry_in_two_blocks(rt: HostRuntime) -> Result<(), Fail> {
+    let empty = block(b"\xff\xff");
+    let old = [
+        long_block(1, 3, false),
+        long_block(3, 5, false),
+        long_block(6, 6, true),
+        empty,
+    ];
+    let first = long_block(1, 5, false);
+    let second = long_block(6, 6, true);
+    let by = [write(1, first), write(2, second), write(3, empty)];
+    assert!(rt; packs_by(rt.alloc(), &old, &by)?);
+    assert!(rt; packs_by(rt.alloc(), &[first, second, empty, empty], &[])?);
     Ok(())
 }
 

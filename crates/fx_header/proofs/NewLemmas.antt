@@ -65,6 +65,9 @@ record Rows (table : Table) (h : Hdr) : Type 0 where
   no-segment : apart table 4 2 ≡ true
   no-volume : apart table 12 1 ≡ true
   no-chain : apart table 14 6 ≡ true
+  no-link : apart table 14 2 ≡ true
+  no-link-seq : apart table 16 2 ≡ true
+  no-link-high : apart table 19 1 ≡ true
 
 new-rows : (h : Hdr) (parent : ℕ × ℕ) → Rows (new_rows h parent) h
 unfolding area_rows size_rows owner_rows apart
@@ -89,6 +92,9 @@ new-rows h parent = record {
   no-segment = refl;
   no-volume = refl;
   no-chain = refl;
+  no-link = refl;
+  no-link-seq = refl;
+  no-link-high = refl;
 }
 
 -- a row of a table that is laid into zeros reads as its number, and bytes of no row are zero
@@ -108,6 +114,18 @@ zero-volume = refl
 zero-chain : field zeros 14 6 ≡ 0
 unfolding zeros
 zero-chain = refl
+
+zero-link : field zeros 14 2 ≡ 0
+unfolding zeros
+zero-link = refl
+
+zero-link-seq : field zeros 16 2 ≡ 0
+unfolding zeros
+zero-link-seq = refl
+
+zero-link-high : field zeros 19 1 ≡ 0
+unfolding zeros
+zero-link-high = refl
 
 zero-number : field zeros 8 2 ≡ 0
 unfolding zeros
@@ -167,6 +185,9 @@ pub record Fits (h : Hdr) : Type 0 where
   pub mark : h.mark < 2 ^ 32
   pub end : h.end < 2 ^ 32
   pub byte : h.byte < 2 ^ 16
+  pub seg : h.seg ≡ 0
+  pub ext : h.ext ≡ 0
+  pub ext_seq : h.ext_seq ≡ 0
 
 -- what a new header tells, from its rows
 laid-fielded : (table : Table) (n : List ℕ) (h : Hdr) → Rows table h → Fits h → Same n (laid table zeros) 0 80 → Fielded n h
@@ -203,6 +224,9 @@ laid-fielded table n h rows fits same =
         mark = told 19 76 4 h.mark rows.mark (omega (arith, fits.mark)) (omega arith);
         end = omega (arith, told 11 28 2 (h.end / 2 ^ 16) rows.end-upper (omega (arith, fits.end)) (omega arith), told 12 30 2 (h.end % 2 ^ 16) rows.end-lower (omega arith) (omega arith));
         byte = told 13 32 2 h.byte rows.byte (omega (arith, fits.byte)) (omega arith);
+        seg = none 4 2 rows.no-segment (omega arith) ∙ zero-segment ∙ sym fits.seg;
+        ext = omega (arith, none 14 2 rows.no-link (omega arith), zero-link, sym (field-byte n 19), none 19 1 rows.no-link-high (omega arith), zero-link-high, fits.ext);
+        ext_seq = none 16 2 rows.no-link-seq (omega arith) ∙ zero-link-seq ∙ sym fits.ext_seq;
       };
     }
 

@@ -12,7 +12,7 @@ use Rattle.fx_header.specs.declared.slot.Slot.TheVariants.{Used}
 use Rattle.fx_header.specs.Pointers.{AreRuns, merged, map_words, blocks_in, runs_of}
 use Rattle.fx_header.specs.Headers.{map_offset, access_offset, map_area, map_in_use, map_bytes, runs_in, blocks_of, is_free, has_sum, has_level, has_offsets, is_on_this_volume, is_alone, has_map, high_first_rows, header_read, with_runs}
 use Rattle.fx_header.proofs.SpellLemmas.{runs_of-words, rest_of-words, even-words, blocks_in-merged}
-use Rattle.fx_header.proofs.SoundLemmas.{Sound, Same, areas-of, same-front, same-field, same-byte, same-within, same-range, same-put_below, same-field_below, same-field_above, same-summed, same-same, sum-true, ends-of, ends-true, sound-reads, reads-sound}
+use Rattle.fx_header.proofs.SoundLemmas.{Sound, Same, areas-of, same-front, same-field, same-byte, same-within, same-range, same-put_below, same-field_below, same-field_above, same-summed, same-same, sum-true, blocks-true, ends-of, ends-true, sound-reads, reads-sound}
 use Rattle.fx_header.proofs.SetterLemmas.{Tells, tells-of, tells-fields, high-length, high-reads, high-below, high-above}
 
 -- a byte is a field of one byte
@@ -128,6 +128,9 @@ runs-sound b h runs long f are room fits end byte mark =
       mark = behind 76 4 (omega arith) (omega arith) ∙ t.mark;
       end = rw (middle 28 2 (omega arith) (omega arith), middle 30 2 (omega arith) (omega arith)) t.end;
       byte = middle 32 2 (omega arith) (omega arith) ∙ t.byte;
+      seg = front 4 2 (omega arith) ∙ t.seg;
+      ext = rw (same-byte n b 0 24 19 w.front (omega arith) (omega arith), front 14 2 (omega arith)) t.ext;
+      ext_seq = front 16 2 (omega arith) ∙ t.ext_seq;
     } in
     let read : blocks_in (runs_in n) ≡ blocks_in runs = ap blocks_in (runs-read n b runs are w) ∙ blocks_in-merged runs in
     record {
@@ -138,8 +141,8 @@ runs-sound b h runs long f are room fits end byte mark =
       volume = same.volume ∙ f.volume;
       alone = same.alone ∙ f.alone;
       map = written-map n b runs f.offsets are room w;
+      size = blocks-true n (read ∙ sym w.blocks);
       ends = ends-true n (record {
-        blocks = read ∙ sym w.blocks;
         end = omega (arith, told.end, w.blocks);
         byte = omega (arith, told.byte);
         mark = omega (arith, told.mark, w.blocks);

@@ -9,8 +9,8 @@ use Rattle.vol_words.proofs.Puts.{length-put_field, length-summed, field-put_sam
 use Rattle.fx_header.specs.declared.slot.Hdr.{Hdr}
 use Rattle.fx_header.specs.declared.slot.Slot.TheVariants.{Used}
 use Rattle.fx_header.specs.Pointers.{blocks_in, runs_of}
-use Rattle.fx_header.specs.Headers.{number_of, high_first, has_flag, runs_in, blocks_of, end_of, byte_of, mark_of, fields_of, has_sum, high_first_rows, header_read, with_flags, marked, scattered, with_mark, with_end}
-use Rattle.fx_header.proofs.SoundLemmas.{Sound, Same, same-front, same-field, same-byte, same-within, same-field_below, same-field_above, same-summed, same-same, sum-true, same-map, sound-reads, reads-sound, ends-of, ends-true}
+use Rattle.fx_header.specs.Headers.{number_of, high_first, has_flag, runs_in, blocks_of, end_of, byte_of, mark_of, segment_of, link_of, link_seq_of, fields_of, has_sum, high_first_rows, header_read, with_flags, marked, scattered, with_mark, with_end}
+use Rattle.fx_header.proofs.SoundLemmas.{Sound, Same, same-front, same-field, same-byte, same-within, same-field_below, same-field_above, same-summed, same-same, sum-true, same-map, sound-reads, reads-sound, blocks-of, blocks-true, ends-of, ends-true}
 
 -- the fields of a header, one by one
 pub record Tells (b : List ℕ) (h : Hdr) : Type 0 where
@@ -23,6 +23,9 @@ pub record Tells (b : List ℕ) (h : Hdr) : Type 0 where
   pub mark : mark_of b ≡ h.mark
   pub end : end_of b ≡ h.end
   pub byte : byte_of b ≡ h.byte
+  pub seg : segment_of b ≡ h.seg
+  pub ext : link_of b ≡ h.ext
+  pub ext_seq : link_seq_of b ≡ h.ext_seq
 
 pub tells-of : (b : List ℕ) (h : Hdr) → fields_of b ≡ h → Tells b h
 unfolding fields_of
@@ -36,11 +39,14 @@ tells-of b h e = record {
   mark = ap (λ g. g.mark) e;
   end = ap (λ g. g.end) e;
   byte = ap (λ g. g.byte) e;
+  seg = ap (λ g. g.seg) e;
+  ext = ap (λ g. g.ext) e;
+  ext_seq = ap (λ g. g.ext_seq) e;
 }
 
 pub tells-fields : (b : List ℕ) (h : Hdr) → Tells b h → fields_of b ≡ h
 unfolding fields_of
-tells-fields b h t = rw (t.num, t.seq, t.owner, t.dir, t.marked, t.blocks, t.mark, t.end, t.byte) refl
+tells-fields b h t = rw (t.num, t.seq, t.owner, t.dir, t.marked, t.blocks, t.mark, t.end, t.byte, t.seg, t.ext, t.ext_seq) refl
 
 -- a header of which a field between the front and the map area was written, and no byte of its map
 still-sound : (n b : List ℕ) (h g : Hdr) → length n ≡ 512 → length b ≡ 512 → Sound b h → Same n b 0 28 → Same n b 58 59 → Same n b 80 510
@@ -49,7 +55,6 @@ still-sound n b h g long-n long-b s low words area sum tells end byte mark =
     let front : Same n b 0 24 = same-within n b 0 28 0 24 low (omega arith) (omega arith) in
     let f = same-front n b front in
     let m = same-map n b (long-n ∙ sym long-b) s.offsets s.map front words area in
-    let e = ends-of b s.ends in
     let t = tells-of b h s.fields in
     let upper : field n 24 2 ≡ field b 24 2 = same-field n b 0 28 24 2 low (omega arith) (omega arith) in
     let lower : field n 26 2 ≡ field b 26 2 = same-field n b 0 28 26 2 low (omega arith) (omega arith) in
@@ -63,8 +68,8 @@ still-sound n b h g long-n long-b s low words area sum tells end byte mark =
       volume = f.volume ∙ s.volume;
       alone = f.alone ∙ s.alone;
       map = m.1;
+      size = blocks-true n (runs ∙ blocks-of b s.size ∙ sym blocks);
       ends = ends-true n (record {
-        blocks = runs ∙ e.blocks ∙ sym blocks;
         end = omega (arith, tells.end, blocks, t.blocks);
         byte = omega (arith, tells.byte);
         mark = omega (arith, tells.mark, blocks, t.blocks);
@@ -98,6 +103,9 @@ mark-sound b h mark long fits limit s =
       mark = written;
       end = rw (kept 28 2 (omega arith), kept 30 2 (omega arith)) t.end;
       byte = kept 32 2 (omega arith) ∙ t.byte;
+      seg = kept 4 2 (omega arith) ∙ t.seg;
+      ext = rw (same-byte n b 0 76 19 low (omega arith) (omega arith), kept 14 2 (omega arith)) t.ext;
+      ext_seq = kept 16 2 (omega arith) ∙ t.ext_seq;
     })
     (omega (arith, e.end, t.end, t.blocks)) (omega (arith, e.byte, t.byte)) limit
 
@@ -128,6 +136,9 @@ flags-sound b h flags dir mark long fits is_dir is_marked s =
       mark = above 76 4 (omega arith) (omega arith) ∙ t.mark;
       end = rw (below 28 2 (omega arith), below 30 2 (omega arith)) t.end;
       byte = below 32 2 (omega arith) ∙ t.byte;
+      seg = below 4 2 (omega arith) ∙ t.seg;
+      ext = rw (same-byte n b 0 52 19 low (omega arith) (omega arith), below 14 2 (omega arith)) t.ext;
+      ext_seq = below 16 2 (omega arith) ∙ t.ext_seq;
     })
     (omega (arith, e.end, t.end, t.blocks)) (omega (arith, e.byte, t.byte)) (omega (arith, e.mark, t.mark, t.blocks))
 
@@ -218,6 +229,9 @@ end-sound b h end byte long fits limit small s =
       mark = above 76 4 (omega arith) (omega arith) ∙ t.mark;
       end = rw (upper, lower) (high-reads b 28 end (omega arith) fits);
       byte = same-field n m 0 510 32 2 summing (omega arith) (omega arith) ∙ field-put_same one 32 2 byte (omega arith) (omega arith);
+      seg = below 4 2 (omega arith) ∙ t.seg;
+      ext = rw (same-byte n b 0 28 19 low (omega arith) (omega arith), below 14 2 (omega arith)) t.ext;
+      ext_seq = below 16 2 (omega arith) ∙ t.ext_seq;
     })
     limit small (omega (arith, e.mark, t.mark, t.blocks))
 

@@ -12,7 +12,7 @@ use Rattle.fx_header.specs.declared.slot.Hdr.{Hdr}
 use Rattle.fx_header.specs.declared.slot.HeaderFault.{HeaderFault}
 use Rattle.std.proofs.lemmas.Bool.{and_parts, leb-true, le-leb, eqb-true, eq-eqb}
 use Rattle.fx_header.specs.Pointers.{blocks_in}
-use Rattle.fx_header.specs.Headers.{ident_offset, map_offset, access_offset, reserved_offset, map_area, map_in_use, map_bytes, runs_in, blocks_of, end_of, byte_of, mark_of, is_free, has_sum, has_level, has_offsets, is_on_this_volume, is_alone, has_map, has_end, fields_of, header_read}
+use Rattle.fx_header.specs.Headers.{ident_offset, map_offset, access_offset, reserved_offset, map_area, map_in_use, map_bytes, runs_in, blocks_of, end_of, byte_of, mark_of, is_free, has_sum, has_level, has_offsets, is_on_this_volume, is_alone, has_map, has_blocks, has_end, fields_of, header_read}
 
 -- all tests hold, and these are the fields
 pub record Sound (b : List ℕ) (h : Hdr) : Type 0 where
@@ -23,12 +23,13 @@ pub record Sound (b : List ℕ) (h : Hdr) : Type 0 where
   pub volume : is_on_this_volume b ≡ true
   pub alone : is_alone b ≡ true
   pub map : has_map b ≡ true
+  pub size : has_blocks b ≡ true
   pub ends : has_end b ≡ true
   pub fields : fields_of b ≡ h
 
 pub sound-reads : (b : List ℕ) (h : Hdr) → Sound b h → header_read b ≡ Ok (Used h)
 unfolding header_read
-sound-reads b h s = rw (s.used, s.sum, s.level, s.offsets, s.volume, s.alone, s.map, s.ends, s.fields) refl
+sound-reads b h s = rw (s.used, s.sum, s.level, s.offsets, s.volume, s.alone, s.map, s.size, s.ends, s.fields) refl
 
 -- the slot is in use, and past a test that would have answered a fault
 past-free : (t : Bool) (seq : ℕ) (others : Result Slot HeaderFault) (h : Hdr) → (if t then Ok (Free seq) else others) ≡ Ok (Used h) → (t ≡ false) × (others ≡ Ok (Used h))
@@ -52,7 +53,8 @@ reads-sound b h read =
     let volume = past-fault _ _ _ h offsets.1 in
     let alone = past-fault _ _ _ h volume.1 in
     let map = past-fault _ _ _ h alone.1 in
-    let ends = past-fault _ _ _ h map.1 in
+    let size = past-fault _ _ _ h map.1 in
+    let ends = past-fault _ _ _ h size.1 in
     record {
       used = used.0;
       sum = sum.0;
@@ -61,6 +63,7 @@ reads-sound b h read =
       volume = volume.0;
       alone = alone.0;
       map = map.0;
+      size = size.0;
       ends = ends.0;
       fields = of-used (fields_of b) h ends.1;
     }
@@ -190,8 +193,15 @@ pub map-fits : (b : List ℕ) → has_map b ≡ true → map_in_use b ≤ map_ar
 unfolding has_map
 map-fits b t = leb-true (map_in_use b) (map_area b) (and_parts _ _ t).0
 
+pub blocks-of : (b : List ℕ) → has_blocks b ≡ true → blocks_in (runs_in b) ≡ blocks_of b
+unfolding has_blocks
+blocks-of b t = eqb-true (blocks_in (runs_in b)) (blocks_of b) t
+
+pub blocks-true : (b : List ℕ) → blocks_in (runs_in b) ≡ blocks_of b → has_blocks b ≡ true
+unfolding has_blocks
+blocks-true b e = eq-eqb (blocks_in (runs_in b)) (blocks_of b) e
+
 pub record Ends (b : List ℕ) : Type 0 where
-  pub blocks : blocks_in (runs_in b) ≡ blocks_of b
   pub end : end_of b ≤ blocks_of b + 1
   pub byte : byte_of b ≤ 511
   pub mark : mark_of b ≤ blocks_of b + 1
@@ -201,10 +211,8 @@ unfolding has_end
 ends-of b t =
     let mark = and_parts _ _ t in
     let byte = and_parts _ _ mark.0 in
-    let end = and_parts _ _ byte.0 in
     record {
-      blocks = eqb-true (blocks_in (runs_in b)) (blocks_of b) end.0;
-      end = leb-true (end_of b) (blocks_of b + 1) end.1;
+      end = leb-true (end_of b) (blocks_of b + 1) byte.0;
       byte = leb-true (byte_of b) 511 byte.1;
       mark = leb-true (mark_of b) (blocks_of b + 1) mark.1;
     }
@@ -213,7 +221,6 @@ pub ends-true : (b : List ℕ) → Ends b → has_end b ≡ true
 unfolding has_end
 ends-true b e =
     rw (
-      eq-eqb (blocks_in (runs_in b)) (blocks_of b) e.blocks,
       le-leb (end_of b) (blocks_of b + 1) e.end,
       le-leb (byte_of b) 511 e.byte,
       le-leb (mark_of b) (blocks_of b + 1) e.mark,

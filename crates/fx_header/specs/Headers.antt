@@ -60,6 +60,16 @@ byte_of b = field b 32 2
 abbrev pub mark_of : Block → ℕ
 mark_of b = field b 76 4
 
+-- which header of the file it is (SEG_NUM), and the number and the sequence number of the next one (EXT_FID)
+abbrev pub segment_of : Block → ℕ
+segment_of b = field b 4 2
+
+abbrev pub link_of : Block → ℕ
+link_of b = slice_index b 19 * 2 ^ 16 + field b 14 2
+
+abbrev pub link_seq_of : Block → ℕ
+link_seq_of b = field b 16 2
+
 -- the file characteristics have all bits of the mask
 abbrev pub has_flag : Block → ℕ → Bool
 has_flag b mask = bit_and (field b 52 4) mask == mask
@@ -96,11 +106,13 @@ is_alone b = (field b 4 2 == 0) && (field b 14 6 == 0)
 unfoldable pub has_map : Block → Bool
 has_map b = nat_le (map_in_use b) (map_area b) && (length (rest_of (map_bytes b)) == 0)
 
--- the blocks are those of the runs, and the end of file and the mark are at most one block behind them
+-- the blocks are those of the runs
+unfoldable pub has_blocks : Block → Bool
+has_blocks b = blocks_in (runs_in b) == blocks_of b
+
+-- the end of file and the mark are at most one block behind the blocks
 unfoldable pub has_end : Block → Bool
-has_end b =
-    (blocks_in (runs_in b) == blocks_of b) && nat_le (end_of b) (blocks_of b + 1) && nat_le (byte_of b) 511
-    && nat_le (mark_of b) (blocks_of b + 1)
+has_end b = nat_le (end_of b) (blocks_of b + 1) && nat_le (byte_of b) 511 && nat_le (mark_of b) (blocks_of b + 1)
 
 -- the fields that a header in use tells
 unfoldable pub fields_of : Block → Hdr
@@ -115,6 +127,9 @@ fields_of b =
       mark = mark_of b;
       end = end_of b;
       byte = byte_of b;
+      seg = segment_of b;
+      ext = link_of b;
+      ext_seq = link_seq_of b;
     }
 
 -- What a header slot says: it is free with the sequence of its last use, or it is in use and none of the tests fails;
@@ -128,6 +143,7 @@ header_read b =
     else if not (is_on_this_volume b) then Err BadRvn
     else if not (is_alone b) then Err BadExtension
     else if not (has_map b) then Err BadMap
+    else if not (has_blocks b) then Err BadEnd
     else if not (has_end b) then Err BadEnd
     else Ok (Used (fields_of b))
 

@@ -1,7 +1,7 @@
 ghost use Rattle.std.specs.Prelude.{◌≡◌, ◌+◌, ◌≤◌, ◌<◌, ◌^◌, IsTrue, IfOk};
 ghost use Rattle.vol_words.specs.Fields.{field};
 ghost use Rattle.fx_header.specs.Pointers.{blocks_in};
-ghost use Rattle.fx_header.specs.Headers.{high_first, number_of, has_flag, runs_in, is_free, has_sum, has_level, has_offsets, is_on_this_volume, is_alone, has_map, has_end, fields_of, header_read, HasRuns};
+ghost use Rattle.fx_header.specs.Headers.{high_first, number_of, has_flag, runs_in, is_free, has_sum, has_level, has_offsets, is_on_this_volume, is_alone, has_map, has_blocks, has_end, segment_of, link_of, link_seq_of, fields_of, header_read, HasRuns};
 
 use crate::flags::FileFlags;
 use crate::pointers::{ends_whole, map_words, runs};
@@ -101,17 +101,30 @@ fn blocks_in_runs(b: &Block) -> u64
     blocks
 }
 
-#[tactic(auto, unfolding(crate::specs::Headers::has_end))]
-fn has_end(b: &Block) -> bool
+#[tactic(auto, unfolding(crate::specs::Headers::has_blocks))]
+fn has_blocks(b: &Block) -> bool
     requires offsets { IsTrue (has_offsets b.now) }
     requires map { IsTrue (has_map b.now) }
+    ensures { result ≡ has_blocks b.now }
+{
+    blocks_in_runs(b) == u64::from(high_first_at(b, 24))
+}
+
+#[tactic(auto, unfolding(crate::specs::Headers::has_end))]
+fn has_end(b: &Block) -> bool
     ensures { result ≡ has_end b.now }
 {
     let blocks = u64::from(high_first_at(b, 24));
-    blocks_in_runs(b) == blocks
-        && u64::from(high_first_at(b, 28)) <= blocks + 1
+    u64::from(high_first_at(b, 28)) <= blocks + 1
         && word_at(b, 32) <= 511
         && u64::from(long_at(b, 76)) <= blocks + 1
+}
+
+/// The file number of the next header of the file, 0 where there is none.
+fn link_at(b: &Block) -> u32
+    ensures { result ≡ link_of b.now }
+{
+    u32::from(b[19]) * 65536 + u32::from(word_at(b, 14))
 }
 
 #[tactic(auto, unfolding(crate::specs::Headers::fields_of))]
@@ -129,6 +142,9 @@ fn fields_of(b: &Block) -> Hdr
         mark: long_at(b, 76),
         end: high_first_at(b, 28),
         byte: word_at(b, 32),
+        seg: word_at(b, 4),
+        ext: link_at(b),
+        ext_seq: word_at(b, 16),
     }
 }
 
@@ -159,6 +175,9 @@ pub fn read_header(b: &Block) -> Result<Slot, HeaderFault>
     }
     if !has_map(b) {
         return Err(HeaderFault::BadMap);
+    }
+    if !has_blocks(b) {
+        return Err(HeaderFault::BadEnd);
     }
     if !has_end(b) {
         return Err(HeaderFault::BadEnd);

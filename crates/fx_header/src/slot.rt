@@ -30,6 +30,12 @@ pub struct Hdr {
     pub end: u32,
     /// The first free byte of that block, at most 511.
     pub byte: u16,
+    /// Which header of the file this is (SEG_NUM), 0 for the first one.
+    pub seg: u16,
+    /// The file number of the next header of the file (EXT_FID), 0 where there is none.
+    pub ext: u32,
+    /// The sequence number that goes with it.
+    pub ext_seq: u16,
 }
 
 /// Why a slot in use is no sound header: the first of these tests that fails.

@@ -39,6 +39,9 @@ fn a_directory_reads(rt: HostRuntime) {
         mark: 0,
         end: 5,
         byte: 0,
+        seg: 0,
+        ext: 0,
+        ext_seq: 0,
     };
     assert_eq!(rt; read_header(&b), Ok(Slot::Used(directory)));
 }
@@ -187,7 +190,7 @@ fn are_runs(runs: &[Run]) -> bool
 
 /// The file (131,587,7) of 5 blocks in the directory (66,1,0), and its name.
 fn file(blocks: u32) -> Hdr
-    ensures { result ≡ record { num = 131587; seq = 7; owner = 65540; dir = false; marked = false; blocks = blocks; mark = 1; end = 1; byte = 0 } }
+    ensures { result ≡ record { num = 131587; seq = 7; owner = 65540; dir = false; marked = false; blocks = blocks; mark = 1; end = 1; byte = 0; seg = 0; ext = 0; ext_seq = 0 } }
 {
     Hdr {
         num: 0x02_0203,
@@ -199,6 +202,9 @@ fn file(blocks: u32) -> Hdr
         mark: 1,
         end: 1,
         byte: 0,
+        seg: 0,
+        ext: 0,
+        ext_seq: 0,
     }
 }
 

@@ -123,7 +123,7 @@ pub fn free_slot(seq: u16) -> Block
     b
 }
 
-/// The header of a new file, whose number is 1 to 16,777,215. The text is its name as `NAME.TYP;1`, of which the ident
+/// The header of a new file, whose number is 1 to 16,777,215, and which has no other header. The text is its name as `NAME.TYP;1`, of which the ident
 /// area holds 86 characters, and `parent` is the number and the sequence number of its directory. The map area has 155
 /// words and is empty: `set_runs` fills it, and only then is the header sound.
 #[tactic(auto, unfolding(crate::specs::Headers::header_bytes))]
@@ -134,6 +134,7 @@ pub fn new_header(h: &Hdr, text: &[u8], parent: (u32, u16)) -> Block
     requires mark { h.now.mark ≤ h.now.blocks + 1 }
     requires end { h.now.end ≤ h.now.blocks + 1 }
     requires byte { h.now.byte ≤ 511 }
+    requires alone { (h.now.seg ≡ 0) × (h.now.ext ≡ 0) × (h.now.ext_seq ≡ 0) }
     ensures written { result ≡ header_bytes h.now text.now parent }
     ensures offsets { IsTrue (has_offsets result) }
     ensures area { map_area result ≡ 155 }

@@ -8,9 +8,8 @@ use Rattle.vol_words.proofs.Ranges.{slice_range-put_same}
 use Rattle.vol_words.proofs.Keeping.{Keeps, put-keeps, put_field-keeps, summed-keeps, keeps-keeps}
 use Rattle.vol_words.proofs.Tables.{length-zeros, length-laid, field-laid}
 use Rattle.fx_home.specs.declared.home.Home.{Home}
-use Rattle.fx_home.specs.declared.home.TheConstants.{FORMAT_NAME}
 use Rattle.fx_home.specs.declared.scb.Scb.{Scb}
-use Rattle.fx_home.specs.Homes.{IsWithinLimits, has_format, has_level, has_sum1, has_sum2, has_cluster, has_files, has_layout, home_in, home_read, home_table, with_sum1, with_label, with_format, home_bytes, has_scb_level, has_scb_sum, scb_read, scb_table, scb_bytes}
+use Rattle.fx_home.specs.Homes.{IsWithinLimits, format_name, has_format, has_level, has_sum1, has_sum2, has_cluster, has_files, has_layout, home_in, home_read, home_table, with_sum1, with_label, with_format, home_bytes, has_scb_level, has_scb_sum, scb_read, scb_table, scb_bytes}
 use Rattle.fx_home.proofs.Reading.{Passes, home_read-passes}
 
 sum1-keeps : (b : List ℕ) → length b ≡ 512 → Keeps 58 b (with_sum1 b)
@@ -23,7 +22,7 @@ label-keeps b label l len = put-keeps 472 b label l (omega arith)
 
 format-keeps : (b : List ℕ) → length b ≡ 512 → Keeps 496 b (with_format b)
 unfolding with_format
-format-keeps b l = put-keeps 496 b FORMAT_NAME l (lit≤ tt)
+format-keeps b l = put-keeps 496 b format_name l (lit≤ tt)
 
 field-with_sum1 : (b : List ℕ) → length b ≡ 512 → field (with_sum1 b) 58 2 ≡ checksum b 29
 unfolding with_sum1
@@ -35,9 +34,9 @@ label-with_label : (b label : List ℕ) → length b ≡ 512 → length label �
 unfolding with_label
 label-with_label b label l len = slice_range-put_same b 472 label 484 (omega arith) (omega arith)
 
-name-with_format : (b : List ℕ) → length b ≡ 512 → slice_range (with_format b) 496 508 ≡ FORMAT_NAME
+name-with_format : (b : List ℕ) → length b ≡ 512 → slice_range (with_format b) 496 508 ≡ format_name
 unfolding with_format
-name-with_format b l = slice_range-put_same b 496 FORMAT_NAME 508 (omega arith) refl
+name-with_format b l = slice_range-put_same b 496 format_name 508 (omega arith) refl
 
 -- what reads back from a home block
 record Reads (h : Home) (b : List ℕ) : Type 0 where
@@ -81,7 +80,7 @@ reads-keeps h o a b behind k r = record {
 }
 
 -- a block with these fields, texts and sums passes the tests
-reads-passes : (h : Home) (b : List ℕ) → IsWithinLimits h → Reads h b → slice_range b 496 508 ≡ FORMAT_NAME → field b 58 2 ≡ checksum b 29 → field b 510 2 ≡ checksum b 255 → Passes b
+reads-passes : (h : Home) (b : List ℕ) → IsWithinLimits h → Reads h b → slice_range b 496 508 ≡ format_name → field b 58 2 ≡ checksum b 29 → field b 510 2 ≡ checksum b 255 → Passes b
 unfolding has_format has_level has_sum1 has_sum2 has_cluster has_files has_layout
 reads-passes h b limits r format sum1 sum2 = record {
   format = rw format refl;

@@ -3,23 +3,22 @@ use Rattle.std.specs.Prelude.{◌≡◌, ◌+◌, ◌*◌, ◌%◌, ◌<◌, ◌
 use Rattle.vol_words.specs.Fields.{Block, field, put_field}
 use Rattle.vol_words.specs.Tables.{Table, laid}
 use Rattle.fx_quota.specs.declared.types.Row.{Row}
-use Rattle.fx_quota.specs.declared.TheConstants.{UIC, USAGE, PERMQUOTA, OVERDRAFT}
 
 -- where row i begins
 abbrev pub row_start : ℕ → ℕ
 row_start i = 32 * i
 
--- the flags of a row, of which the lowest bit says that the row is active
+-- the flags of a row, 4 bytes at its beginning, of which the lowest bit says that the row is active
 abbrev pub flags_at : Block → ℕ → ℕ
 flags_at b i = field b (row_start i) 4
 
--- what the fields of row i say
+-- what the fields of row i say, each of 4 bytes: the owner's UIC at 4, the usage at 8, the quota at 12, the overdraft at 16
 abbrev pub row_in : Block → ℕ → Row
 row_in b i = record {
-  uic = field b (row_start i + UIC) 4;
-  usage = field b (row_start i + USAGE) 4;
-  quota = field b (row_start i + PERMQUOTA) 4;
-  over = field b (row_start i + OVERDRAFT) 4;
+  uic = field b (row_start i + 4) 4;
+  usage = field b (row_start i + 8) 4;
+  quota = field b (row_start i + 12) 4;
+  over = field b (row_start i + 16) 4;
 }
 
 -- row i, or none where it is not active
@@ -29,8 +28,8 @@ row_at b i = if flags_at b i % 2 == 1 then Some (row_in b i) else None
 -- the fields of an active row that begins at `start`
 abbrev pub row_table : ℕ → ℕ → Row → Table
 row_table start flags r =
-    (start, 4, bit_or flags 1) ∷ (start + UIC, 4, r.uic) ∷ (start + USAGE, 4, r.usage)
-    ∷ (start + PERMQUOTA, 4, r.quota) ∷ (start + OVERDRAFT, 4, r.over) ∷ []
+    (start, 4, bit_or flags 1) ∷ (start + 4, 4, r.uic) ∷ (start + 8, 4, r.usage)
+    ∷ (start + 12, 4, r.quota) ∷ (start + 16, 4, r.over) ∷ []
 
 -- the block in which row i is active and says r
 unfoldable pub row_put : Block → ℕ → Row → Block

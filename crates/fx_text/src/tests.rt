@@ -1,7 +1,7 @@
 use crate::{MemIn, MemOut, NoMemory, StdIn, StdOut, TextFault, TextIn, Word, read_all, write_all};
 use std::alloc::Global;
 use std::fs::File;
-use std::io::{ErrorKind, Read};
+use std::io::{ErrorKind, Read, Write};
 use std::test::Fail;
 use std::{env, fs, io, process};
 
@@ -83,6 +83,50 @@ fn reads_through_failures(rt: HostRuntime) -> Result<(), Fail> {
     let answer = read_all(rt.alloc(), &mut absent, 9).map(|all| all.len());
     assert_eq!(rt; answer, Err(TextFault::ReadFault));
     Ok(())
+}
+
+// A writer whose first write fails in this way. It then takes five bytes of the eight, and the three that are left.
+#[derive(Drop)]
+struct FailsOnce {
+    kind: ErrorKind,
+    writes: u8,
+}
+
+impl Write for FailsOnce {
+    fn write(&mut self, piece: &[u8]) -> io::Result<usize> {
+        self.writes = self.writes.saturating_add(1);
+        match self.writes {
+            2 if piece.len() == 8 => Ok(5),
+            3 if piece.len() == 3 => Ok(3),
+            1 => Err(io::Error::from(self.kind)),
+            _ => Err(io::Error::from(ErrorKind::Other)),
+        }
+    }
+
+    fn flush(&mut self) -> io::Result<()> {
+        Ok(())
+    }
+}
+
+// Whether the text is written by a sink whose first write fails in this way.
+fn is_written_past(kind: ErrorKind) -> bool {
+    let mut sink = StdOut::new(FailsOnce { kind, writes: 0 });
+    write_all(&mut sink, b"eight it").is_ok()
+}
+
+#[test]
+fn writes_through_a_signal_alone(rt: HostRuntime) {
+    // A signal has the same bytes written again. A full disk, a closed pipe and others end the text.
+    assert!(rt; is_written_past(ErrorKind::Interrupted));
+    for kind in [
+        ErrorKind::StorageFull,
+        ErrorKind::BrokenPipe,
+        ErrorKind::WouldBlock,
+        ErrorKind::WriteZero,
+        ErrorKind::Other,
+    ] {
+        assert!(rt; !is_written_past(kind), "{kind:?}");
+    }
 }
 
 #[test]

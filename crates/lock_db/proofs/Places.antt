@@ -10,8 +10,8 @@ use Rattle.lock_db.specs.declared.askers.Standing.TheVariants.{Granted, Converti
 use Rattle.lock_db.specs.declared.askers.Asker.{Asker}
 use Rattle.lock_db.specs.declared.resource.Resource.{Resource}
 use Rattle.lock_db.specs.Queues.{with_standing, without, one_grant, granted_upto, settled, lock_of}
-use Rattle.lock_db.specs.Resources.{fresh, is_used, goes_at_once, first_standing, asked_of, converts_at_once, written, conversion_writes, regranted, queued_up, mode_held, converted_of, try_converted_of, released_of}
-use Rattle.lock_db.specs.Tables.{IsAt, IsGap, resource_at, kept, placed, asked, converted, converts_now, try_converted, released, is_ordered}
+use Rattle.lock_db.specs.Resources.{fresh, is_used, goes_at_once, first_standing, asked_of, converts_at_once, written, conversion_writes, regranted, queued_up, mode_held, converted_of, try_converted_of, released_of, recovered_of}
+use Rattle.lock_db.specs.Tables.{IsAt, IsGap, resource_at, kept, placed, asked, converted, converts_now, try_converted, released, recovered, is_ordered}
 use Rattle.lock_db.proofs.Heads.{one_grant-some}
 use Rattle.lock_db.proofs.Order.{drop-cons_more, IsAt-stands, IsGap-stands}
 
@@ -28,6 +28,12 @@ resource_at-name name t i o a = ap (λ (r : Resource). r.name) (resource_at-here
 pub lock-there : (name : LockName) (t : List Resource) (i : ℕ) (owner : Owner) → IsGap name t i → IsSome (lock_of owner (resource_at name t).askers) → ⊥
 lock-there name t i owner g l =
     let none : IsSome (lock_of owner (fresh name).askers) = rw (resource_at-gap name t i g) at l in
+    cc
+
+-- a resource that somebody asks for is in the table
+pub used-there : (name : LockName) (t : List Resource) (i : ℕ) → IsGap name t i → is_used (resource_at name t) ≡ true → ⊥
+used-there name t i g u =
+    let none : is_used (fresh name) ≡ true = rw (resource_at-gap name t i g) at u in
     cc
 
 kept-used : (r : Resource) → is_used r ≡ true → kept r ≡ r ∷ []
@@ -140,6 +146,13 @@ released-here name t i owner value d o a =
     let r : Resource = resource_at name t in
     let s = IsAt-stands name t i o a in
     rw (← resource_at-here name t i d o a) (sym (s.instead (released_of owner value r) (written-name _ value _ ∙ resource_at-name name t i o a)))
+
+pub recovered-here : (name : LockName) (t : List Resource) (i : ℕ) (value : List ℕ) (d : Resource) → is_ordered t ≡ true → IsAt name t i → is_used (resource_at name t) ≡ true
+    → set t i (recovered_of value (get_or t i d)) ≡ recovered name value t
+unfolding recovered
+recovered-here name t i value d o a u =
+    let r : Resource = resource_at name t in
+    rw (← resource_at-here name t i d o a) (placed-set name t i (recovered_of value r) o a (resource_at-name name t i o a) u)
 
 -- a resource that somebody asks for stays in its place
 pub vacated-used : (t : List Resource) (i : ℕ) (d x : Resource) → i < length t → x ≡ get_or t i x → is_used x ≡ true → t ≡ take i t ++ (kept (get_or t i d) ++ drop (i + 1) t)

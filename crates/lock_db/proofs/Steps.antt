@@ -13,8 +13,8 @@ use Rattle.lock_db.specs.declared.askers.Asker.{Asker}
 use Rattle.lock_db.specs.declared.resource.Resource.{Resource}
 use Rattle.lock_db.specs.Names.{is_before, same_owner}
 use Rattle.lock_db.specs.Queues.{held, goes, is_upward, is_converting, is_waiting, with_standing, without, without_node, settled, standing_of, settled_mode, lock_of}
-use Rattle.lock_db.specs.Resources.{fresh, is_used, goes_at_once, first_standing, asked_of, converts_at_once, written, conversion_writes, regranted, queued_up, converted_from, mode_held, converted_of, released_of, dropped_of}
-use Rattle.lock_db.specs.Tables.{resource_at, kept, placed, asked, tried, converted, converts_now, try_converted, released, dropped, all_together, is_ordered, IsSettled, IsTable}
+use Rattle.lock_db.specs.Resources.{fresh, is_used, goes_at_once, first_standing, asked_of, converts_at_once, written, conversion_writes, regranted, queued_up, converted_from, mode_held, converted_of, released_of, dropped_of, recovered_of}
+use Rattle.lock_db.specs.Tables.{resource_at, kept, placed, asked, tried, converted, converts_now, try_converted, released, dropped, recovered, all_together, is_ordered, IsSettled, IsTable}
 use Rattle.lock_db.proofs.Lists.{and-left, and-right, and-both, list_all-head, list_all-tail, list_all-filter, list_all-weaker, list_all-passing, list_all-joined}
 use Rattle.lock_db.proofs.Names.{is_before-trans}
 use Rattle.lock_db.proofs.Together.{all_together-filter, all_together-granted, all_together-queued, all_together-asked, goes-held, goes-lower}
@@ -202,6 +202,10 @@ try_converted-table name owner mode t old s l u =
 pub IsTable-released : (name : LockName) (owner : Owner) (value : List ℕ) (t : List Resource) → IsTable t → IsTable (released name owner value t)
 unfolding released
 IsTable-released name owner value t s = IsTable-placed (released_of owner value (resource_at name t)) t s (IsSettled-released owner value (resource_at name t) (IsSettled-at name t s))
+
+pub IsTable-recovered : (name : LockName) (value : List ℕ) (t : List Resource) → IsTable t → IsTable (recovered name value t)
+unfolding recovered
+IsTable-recovered name value t s = IsTable-placed (recovered_of value (resource_at name t)) t s (IsSettled-at name t s)
 
 pub IsTable-converted : (name : LockName) (owner : Owner) (mode : Mode) (value : List ℕ) (t : List Resource) → IsTable t → IsSome (lock_of owner (resource_at name t).askers)
     → (lock_of owner (resource_at name t).askers ≡ Some PR → mode ≡ CW → ⊥) → IsTable (converted name owner mode value t)

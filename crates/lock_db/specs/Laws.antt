@@ -12,7 +12,7 @@ use Rattle.lock_db.specs.declared.askers.Asker.{Asker}
 use Rattle.lock_db.specs.declared.resource.Resource.{Resource}
 use Rattle.lock_db.specs.Queues.{is_queued, standing_of, settled, held, wanted, is_waiting, goes_beside, without, without_node, lock_of, is_writing}
 use Rattle.lock_db.specs.Resources.{first_standing, goes_at_once, is_writer_of, conversion_writes, mode_held}
-use Rattle.lock_db.specs.Tables.{resource_at, asked, tried, converted, try_converted, released, dropped, converts_now, all_together, IsTable}
+use Rattle.lock_db.specs.Tables.{resource_at, asked, tried, converted, try_converted, released, dropped, recovered, converts_now, all_together, IsTable}
 
 -- any two granted locks of different owners are compatible
 abbrev pub GoTogether : List Asker → Type 0
@@ -84,6 +84,13 @@ DeathsClearTheMark =
     → MatchBool (somebody (without_node node (resource_at name t).askers))
     (BlockIs (resource_at name t).value ((resource_at name t).valid && not (list_any (is_writer_of node) (resource_at name t).askers)) (resource_at name (dropped node t)))
     (BlockIs (replicate 16 0) true (resource_at name (dropped node t)))
+
+-- a recovery writes the block without its mark, and leaves the locks and requests
+abbrev pub RecoveriesClearTheMark : Type 0
+RecoveriesClearTheMark =
+    (name : LockName) (value : List ℕ) (t : List Resource) → IsTrue (somebody (resource_at name t).askers)
+    → BlockIs value false (resource_at name (recovered name value t))
+    × ((resource_at name (recovered name value t)).askers ≡ (resource_at name t).askers)
 
 -- a call on one name leaves the resource of every other name as it is
 abbrev pub LeavesOthers : LockName → List Resource → List Resource → Type 0

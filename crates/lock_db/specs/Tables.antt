@@ -8,7 +8,7 @@ use Rattle.lock_db.specs.declared.askers.Asker.{Asker}
 use Rattle.lock_db.specs.declared.resource.Resource.{Resource}
 use Rattle.lock_db.specs.Names.{is_same, is_before, same_owner}
 use Rattle.lock_db.specs.Queues.{held, goes_beside, one_grant}
-use Rattle.lock_db.specs.Resources.{fresh, is_used, goes_at_once, converts_at_once, mode_held, asked_of, regranted, converted_of, released_of, dropped_of}
+use Rattle.lock_db.specs.Resources.{fresh, is_used, goes_at_once, converts_at_once, mode_held, asked_of, regranted, converted_of, released_of, dropped_of, recovered_of}
 
 -- a resource of this name stands at place i
 pub record IsAt (name : LockName) (t : List Resource) (i : ℕ) : Type 0 where
@@ -62,6 +62,10 @@ released name owner value t = placed (released_of owner value (resource_at name 
 -- after a node's death: each resource without the node, and those at which nobody is left vanish
 unfoldable pub dropped : ℕ → List Resource → List Resource
 dropped node t = filter is_used (map (dropped_of node) t)
+
+-- after a recovery of the value block of a name
+unfoldable pub recovered : LockName → List ℕ → List Resource → List Resource
+recovered name value t = placed (recovered_of value (resource_at name t)) t
 
 -- what two askers hold goes together: the modes are compatible where both have a lock
 abbrev pub go_together : Option Mode → Option Mode → Bool

@@ -59,6 +59,14 @@ impl Askers {
         }
     }
 
+    pub(crate) fn copy(&self, alloc: Global) -> Result<Askers, NoMemory>
+        ensures { IfOk result (λ a. a ≡ self.now) }
+    {
+        Ok(Askers {
+            list: Vec::from_slice(alloc, self.list.as_slice())?,
+        })
+    }
+
     pub(crate) fn list(&self) -> &[Asker]
         ensures { result.now ≡ self.now }
     {

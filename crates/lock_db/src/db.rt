@@ -1,7 +1,7 @@
 ghost use Rattle.std.specs.Prelude.{◌≡◌, ◌≢◌, IfOk, OnOk, OnErr, IsSome, IfSome, IsTrue, false, None, Some, Ok, []};
 ghost use Rattle.lock_db.specs.Queues.{is_upward, standing_of, lock_of, mode_of, queues, holds_up};
-ghost use Rattle.lock_db.specs.Resources.{goes_at_once, asked_answer, tried_answer};
-ghost use Rattle.lock_db.specs.Tables.{IsTable, resource_at, asked, tried, converts_now, converted, try_converted, released, dropped};
+ghost use Rattle.lock_db.specs.Resources.{is_used, goes_at_once, asked_answer, tried_answer};
+ghost use Rattle.lock_db.specs.Tables.{IsTable, resource_at, asked, tried, converts_now, converted, try_converted, released, dropped, recovered};
 
 use crate::name::{LockName, Owner};
 use crate::resource::{Asked, Resource, Tried, goes_at_once};
@@ -123,6 +123,24 @@ impl LockDb {
         ensures { self.new ≡ dropped node self.old }
     {
         table::drop_node(&mut self.resources, node);
+    }
+
+    /// After a death of the lock's master: the value block of a name at which somebody has a lock or a request gets
+    /// these bytes, and is not valid until a holder in PW or EX writes it. It takes no memory.
+    pub fn recover(&mut self, name: LockName, value: [u8; 16])
+        requires { IsTrue (is_used (resource_at name self.old)) }
+        ensures { self.new ≡ recovered name value self.old }
+    {
+        table::recover(&mut self.resources, name, value);
+    }
+
+    /// The same table once more. `NoMemory` comes only where memory is refused.
+    pub fn copy(&self, alloc: Global) -> Result<LockDb, NoMemory>
+        ensures { IfOk result (λ d. d ≡ self.now) }
+    {
+        Ok(LockDb {
+            resources: table::copy(alloc, &self.resources)?,
+        })
     }
 
     /// The value block, and whether it is valid.

@@ -9,8 +9,8 @@ ghost use Rattle.lock_db.specs.declared.name.Owner.{Owner};
 ghost use Rattle.lock_db.specs.declared.askers.Asker.{Asker};
 ghost use Rattle.lock_db.specs.declared.resource.Resource.{Resource};
 ghost use Rattle.lock_db.specs.Queues.{is_converting, head_of, settled};
-ghost use Rattle.lock_db.specs.Tables.{IsTable, all_together, resource_at, asked, tried, converted, try_converted, released};
-ghost use Rattle.lock_db.specs.Laws.{GoTogether, StandsOnce, IsHeldUp, waiting_queue, GrantsServeTheWaiting, RequestsStand, ConversionsStand, ReleasesLeaveNothing, DeathsLeaveNothing, RequestsKeepTheBlock, TriesKeepTheBlock, ConversionsWriteTheBlock, ReleasesWriteTheBlock, DeathsClearTheMark, LeavesOthers, DeathLeavesOthers};
+ghost use Rattle.lock_db.specs.Tables.{IsTable, all_together, resource_at, asked, tried, converted, try_converted, released, recovered};
+ghost use Rattle.lock_db.specs.Laws.{GoTogether, StandsOnce, IsHeldUp, waiting_queue, GrantsServeTheWaiting, RequestsStand, ConversionsStand, ReleasesLeaveNothing, DeathsLeaveNothing, RequestsKeepTheBlock, TriesKeepTheBlock, ConversionsWriteTheBlock, ReleasesWriteTheBlock, DeathsClearTheMark, RecoveriesClearTheMark, LeavesOthers, DeathLeavesOthers};
 
 /// Any two granted locks of different owners on one name are compatible.
 pub fn granted_locks_go_together()
@@ -87,6 +87,11 @@ pub fn deaths_clear_the_mark()
     ensures { DeathsClearTheMark }
 {}
 
+/// A recovery writes the bytes of a value block and leaves them not valid. It changes no lock and no request.
+pub fn recoveries_clear_the_mark()
+    ensures { RecoveriesClearTheMark }
+{}
+
 /// A call on one name touches no other name's locks, queues and value block.
 pub fn calls_leave_other_names()
     ensures request { (name : LockName) (owner : Owner) (mode : Mode) (t : List Resource)
@@ -99,6 +104,8 @@ pub fn calls_leave_other_names()
         → LeavesOthers name t (try_converted name owner mode t) }
     ensures release { (name : LockName) (owner : Owner) (value : List ℕ) (t : List Resource)
         → LeavesOthers name t (released name owner value t) }
+    ensures recover { (name : LockName) (value : List ℕ) (t : List Resource)
+        → LeavesOthers name t (recovered name value t) }
 {}
 
 /// The death of a node touches no name at which it had no lock or request.

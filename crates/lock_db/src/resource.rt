@@ -3,7 +3,7 @@
 ghost use Rattle.std.specs.Prelude.{◌≡◌, ◌≢◌, ◌<◌, IfOk, IfErr, OnOk, OnErr, IsSome, Some, None, [], ◌∷◌, ◌++◌, unwrap_or};
 ghost use Rattle.std.specs.List.{list_any};
 ghost use Rattle.lock_db.specs.Queues.{goes, lock_of, is_upward};
-ghost use Rattle.lock_db.specs.Resources.{fresh, is_used, goes_at_once, first_standing, asked_of, asked_answer, tried_answer, converts_at_once, written, conversion_writes, mode_held, regranted, queued_up, converted_from, converted_of, try_converted_of, released_of, is_writer_of, dropped_of};
+ghost use Rattle.lock_db.specs.Resources.{fresh, is_used, goes_at_once, first_standing, asked_of, asked_answer, tried_answer, converts_at_once, written, conversion_writes, mode_held, regranted, queued_up, converted_from, converted_of, try_converted_of, released_of, is_writer_of, dropped_of, recovered_of};
 
 use crate::askers::{Asker, Askers, Standing};
 use crate::name::{LockName, Owner};
@@ -137,6 +137,24 @@ impl Resource {
         self.askers.remove_node(node);
         self.askers.settle();
         self.valid = self.valid && !died_writing;
+    }
+
+    pub(crate) fn recover(&mut self, value: [u8; 16])
+        ensures { self.new ≡ recovered_of value self.old }
+    {
+        self.value = value;
+        self.valid = false;
+    }
+
+    pub(crate) fn copy(&self, alloc: Global) -> Result<Resource, NoMemory>
+        ensures { IfOk result (λ r. r ≡ self.now) }
+    {
+        Ok(Resource {
+            name: self.name,
+            askers: self.askers.copy(alloc)?,
+            value: self.value,
+            valid: self.valid,
+        })
     }
 }
 

@@ -5,7 +5,7 @@ ghost use Rattle.lock_db.specs.declared.resource.Resource.{Resource};
 ghost use Rattle.lock_db.specs.Names.{is_same};
 ghost use Rattle.lock_db.specs.Queues.{lock_of};
 ghost use Rattle.lock_db.specs.Resources.{is_used, goes_at_once, asked_answer, tried_answer, dropped_of};
-ghost use Rattle.lock_db.specs.Tables.{resource_at, kept, IsAt, IsGap, is_ordered, IsTable, asked, tried, converts_now, converted, try_converted, released, dropped};
+ghost use Rattle.lock_db.specs.Tables.{resource_at, kept, IsAt, IsGap, is_ordered, IsTable, asked, tried, converts_now, converted, try_converted, released, dropped, recovered};
 
 use crate::askers::Asker;
 use crate::name::{LockName, Owner};
@@ -149,6 +149,29 @@ pub(crate) fn release(table: &mut Vec<Resource>, name: LockName, owner: Owner, v
     let r = &mut table[i];
     r.release(owner, value);
     vacate(table, i);
+}
+
+pub(crate) fn recover(table: &mut [Resource], name: LockName, value: [u8; 16])
+    requires ordered { IsTrue (is_ordered table.old) }
+    requires used { IsTrue (is_used (resource_at name table.old)) }
+    ensures { table.new ≡ recovered name value table.old }
+{
+    let Ok(i) = search(table, name) else {
+        unreachable!()
+    };
+    let r = &mut table[i];
+    r.recover(value);
+}
+
+/// The same resources once more.
+pub(crate) fn copy(alloc: Global, table: &[Resource]) -> Result<Vec<Resource>, NoMemory>
+    ensures { IfOk result (λ t. t.items ≡ table.now) }
+{
+    let mut all = Vec::new(alloc);
+    for r in table {
+        all.push(r.copy(alloc)?)?;
+    }
+    Ok(all)
 }
 
 fn drop_from_all(table: &mut [Resource], node: u8)

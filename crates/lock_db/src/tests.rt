@@ -203,3 +203,25 @@ fn a_node_holds_up_the_requests_of_others_alone(rt: HostRuntime) -> Result<(), F
     assert!(rt; db.mode(name, NODE1) == Some(Mode::PR));
     Ok(())
 }
+
+// A table in which node 1 has this name in PW, and node 2 waits for it.
+fn held(rt: &HostRuntime, name: LockName) -> Result<LockDb, Fail> {
+    let mut db = LockDb::new(rt.alloc())?;
+    ask(rt, &mut db, name, NODE1, Mode::PW)?;
+    ask(rt, &mut db, name, NODE2, Mode::PR)?;
+    Ok(db)
+}
+
+#[test]
+fn a_recovery_writes_the_block_of_a_copy_alone(rt: HostRuntime) -> Result<(), Fail> {
+    let name = LockName::S(5);
+    let db = held(&rt, name)?;
+    let mut copy = db.copy(rt.alloc())?;
+    if copy.mode(name, NODE1) == Some(Mode::PW) {
+        copy.recover(name, [4; 16]);
+    }
+    assert!(rt; copy.value(name) == ([4; 16], false));
+    assert!(rt; copy.queued(name, NODE2) && !copy.queued(name, NODE1));
+    assert!(rt; db.value(name) == ([0; 16], true));
+    Ok(())
+}

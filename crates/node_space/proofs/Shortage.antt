@@ -11,7 +11,7 @@ use Rattle.fx_bitmap.specs.Bits.{bit_at}
 use Rattle.plain_cat.specs.declared.reply.Refusal.{Refusal}
 use Rattle.plain_cat.specs.declared.reply.Refusal.TheVariants.{IndexFull, DeviceFull}
 use Rattle.plain_cat.specs.declared.cat.Cat.{Cat}
-use Rattle.plain_vol.specs.Lookups.{free_clusters, is_free_number}
+use Rattle.plain_vol.specs.Lookups.{free_clusters, is_free_number, has_free_number}
 use Rattle.plain_laws.proofs.Members.{has_any}
 use Rattle.vol_owners.specs.Lists.{Has, StandsIn}
 use Rattle.vol_owners.specs.Owners.{Owners}
@@ -22,7 +22,6 @@ use Rattle.vol_spell.specs.Reading.{total_of, cluster_bit}
 use Rattle.vol_spell.specs.Spelling.{Spells}
 use Rattle.vol_under.specs.Shortage.{IsFreeByBits}
 use Rattle.vol_under.proofs.Short.{free_by_bits}
-use Rattle.op_law.specs.Knows.{clusters_wanted, wants_number, has_free_number}
 use Rattle.node_space.specs.Searching.{More, Short, storage_places, cluster_places, free_number, clusters_in, free_in, free_from, number_write, found_number}
 use Rattle.node_space.specs.Taking.{looked, IsTooLittle, ShortageIsExact, CommandIsShort}
 use Rattle.node_space.proofs.Ways.{short_of}
@@ -151,6 +150,6 @@ full_device true false a b e lt = absurd (let f : false ≡ true = e refl in cc)
 full_device false h a b e lt = grind (arith, nat_tests)
 
 pub command_is_short : CommandIsShort
-command_is_short c x IndexFull t = full_index (wants_number x) (has_free_number c) t.0 t.1
-command_is_short c x DeviceFull t = full_device (wants_number x) (has_free_number c) (free_clusters c) (clusters_wanted c.factor x) t.0 t.1
-command_is_short c x other t = absurd t
+command_is_short c k IndexFull t = full_index k.number (has_free_number c) t.0 t.1
+command_is_short c k DeviceFull t = full_device k.number (has_free_number c) (free_clusters c) k.clusters t.0 t.1
+command_is_short c k other t = absurd t

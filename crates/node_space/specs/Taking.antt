@@ -4,11 +4,10 @@ use Rattle.std.specs.List.{zip}
 use Rattle.vol_words.specs.Fields.{Block}
 use Rattle.lock_db.specs.declared.name.LockName.TheVariants.{V}
 use Rattle.plain_cat.specs.declared.history.Stage.TheVariants as stage
-use Rattle.plain_cat.specs.declared.command.Cmd.{Cmd}
 use Rattle.plain_cat.specs.declared.reply.Refusal.{Refusal}
 use Rattle.plain_cat.specs.declared.reply.Refusal.TheVariants.{IndexFull, DeviceFull}
 use Rattle.plain_cat.specs.declared.cat.Cat.{Cat}
-use Rattle.plain_vol.specs.Lookups.{free_clusters, is_free_number}
+use Rattle.plain_vol.specs.Lookups.{free_clusters, is_free_number, has_free_number}
 use Rattle.vol_owners.specs.Lists.{Has, Once, StandsIn}
 use Rattle.vol_owners.specs.Owners.{Owners, Things, nothing, Outs}
 use Rattle.vol_parts.specs.declared.geometry.Geometry.{Geometry}
@@ -21,7 +20,7 @@ use Rattle.vol_under.specs.Keeping.{Refills, IsBitmap}
 use Rattle.vol_under.specs.Refilling.{AreTaken, AreNumbersTaken}
 use Rattle.op_law.specs.declared.need.PlanWrite.{PlanWrite}
 use Rattle.op_law.specs.Fits.{things}
-use Rattle.op_law.specs.Knows.{clusters_wanted, wants_number, has_free_number, is_short, is_new_number}
+use Rattle.op_law.specs.Knows.{Wanted, is_short, is_new_number}
 use Rattle.op_law.specs.Writing.{Held, holding, empty_handed}
 use Rattle.node_space.specs.Searching.{More, Short, Enough, places, found}
 
@@ -132,4 +131,4 @@ ShortageIsExact = (g : Geometry) (clusters : ℕ) (number : Bool) (bs : List Blo
 
 -- A command for which it was made was short of space.
 abbrev pub CommandIsShort : Type 0
-CommandIsShort = (c : Cat) (x : Cmd) (r : Refusal) → IsTooLittle (clusters_wanted c.factor x) (wants_number x) c r → is_short c x (Some r) ≡ true
+CommandIsShort = (c : Cat) (k : Wanted) (r : Refusal) → IsTooLittle k.clusters k.number c r → is_short c k (Some r) ≡ true

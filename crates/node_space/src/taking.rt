@@ -13,7 +13,7 @@ ghost use Rattle.node_space.specs.Answering.{blocks_of};
 
 use fx_bitmap::{bit, clear_bits, set_bits};
 use lock_db::LockName;
-use op_law::{PlanWrite, Writes};
+use op_law::{Numbers, PlanWrite, Writes};
 use plain_cat::{Clusters, NoMemory, Stage};
 use std::alloc::Global;
 use vol_parts::Geometry;
@@ -46,6 +46,7 @@ pub(crate) fn number_write(alloc: Global, geometry: &Geometry, n: u32, index: &B
         block,
         stage: Stage::Nothing,
         clusters: Clusters::new(alloc),
+        numbers: Numbers::new(alloc),
         number: Some(n),
     }
 }
@@ -123,6 +124,7 @@ fn block_write(
         block,
         stage: Stage::Nothing,
         clusters: taken.copy(alloc)?,
+        numbers: Numbers::new(alloc),
         number,
     })
 }

@@ -1,25 +1,30 @@
 -- What a command that makes a file has outside after its writes: nothing. And the last write of a plan is the insertion's.
-use Rattle.std.proofs.Common.{◌≡◌, ◌<◌, ◌-◌, ℕ, Bool, true, false, List, ◌∷◌, ◌++◌, Option, Some, None, map, length}
+use Rattle.std.proofs.Common.{◌≡◌, ◌<◌, ◌-◌, ℕ, Bool, true, false, cond, List, [], ◌∷◌, ◌++◌, Option, Some, None, map, length, sym, ap, inl, inr}
 use Rattle.std.specs.Prelude.{◌==◌, ◌&&◌}
 use Rattle.vol_words.specs.Fields.{Block}
+use Rattle.fx_dir.specs.Writing.{block_of}
+use Rattle.lock_db.specs.declared.name.LockName.{LockName}
+use Rattle.lock_db.specs.declared.name.LockName.TheVariants.{S}
 use Rattle.plain_cat.specs.declared.command.Cmd.{Cmd}
 use Rattle.plain_cat.specs.declared.history.Stage.{Stage}
 use Rattle.plain_cat.specs.declared.history.Stage.TheVariants as stage
 use Rattle.vol_owners.specs.Owners.{Things, nothing}
+use Rattle.vol_owners.specs.Places.{spread}
 use Rattle.vol_parts.specs.declared.geometry.Geometry.{Geometry}
 use Rattle.vol_under.specs.UnderWay.{stage_after, outs_after}
 use Rattle.op_law.specs.declared.seen.Chan.{Chan}
 use Rattle.op_law.specs.Events.{Space, has_space, HasNoSpace, IsGiven}
-use Rattle.op_law.specs.Writing.{holding, header_write, empty_handed}
-use Rattle.op_law.specs.Quotas.{owner_write, row_charged}
+use Rattle.op_law.specs.declared.need.PlanWrite.{PlanWrite}
+use Rattle.op_law.specs.Writing.{holding, header_write, empty_handed, write_at}
+use Rattle.op_law.specs.Quotas.{owner_write, changed_write, row_place, is_row_of, row_charged}
 use Rattle.op_law.specs.Moving.{SeenDir, insertion_moves, insertion_writes}
 use Rattle.op_law.specs.Entering.{NewEntry, cost_of, numbered, entry_for, new_header, body_writes, making_writes}
 use Rattle.op_law.specs.Needs.{events_of}
 use Rattle.op_law.specs.Fits.{things}
-use Rattle.op_law.specs.Laws.{planned}
+use Rattle.op_law.specs.Laws.{planned, KeepsOut}
 use Rattle.op_create.specs.Kinds.{IsMake}
 use Rattle.op_create.proofs.Searches.{makes_so}
-use Rattle.op_law.proofs.Ends.{outs_behind, stage_behind, insertion_outs, insertion_stage, EndsBy, nothing_given, given_nothing}
+use Rattle.op_law.proofs.Ends.{outs_behind, stage_behind, insertion_outs, insertion_stage, both_kept, insertion_kept, EndsBy, nothing_given, given_nothing}
 
 -- ---- the writes of a new file
 
@@ -33,6 +38,28 @@ pub making_stage_is : (g : Geometry) (d : SeenDir) (quota : List Block) (e : New
 unfolding making_writes
 making_stage_is g d quota e n qs s lt = stage_behind (owner_write g quota e.file.owner (row_charged (cost_of g e.file)) stage.Charged (holding qs (Some n)))
     (body_writes g n e.file qs ++ header_write g n (new_header g d.fid n e qs) stage.Lost empty_handed ∷ insertion_writes d (entry_for n e) stage.Lost stage.Done) s stage.Done (λ s. stage_behind (body_writes g n e.file qs) (header_write g n (new_header g d.fid n e qs) stage.Lost empty_handed ∷ insertion_writes d (entry_for n e) stage.Lost stage.Done) s stage.Done (λ s. insertion_stage d (entry_for n e) stage.Lost stage.Lost stage.Done lt))
+
+-- each of them has outside what was given, or nothing
+pub making_kept : (locks : List LockName) (g : Geometry) (d : SeenDir) (quota : List Block) (e : NewEntry) (n : ℕ) (qs : List ℕ) → KeepsOut (things qs (Some n)) locks (making_writes g d quota e n qs)
+unfolding making_writes owner_write body_writes
+making_kept locks g d quota e n qs =
+    both_kept (things qs (Some n)) locks (owner_write g quota e.file.owner (row_charged (cost_of g e.file)) stage.Charged (holding qs (Some n)))
+    (body_writes g n e.file qs ++ header_write g n (new_header g d.fid n e qs) stage.Lost empty_handed ∷ insertion_writes d (entry_for n e) stage.Lost stage.Done) (row (row_place (is_row_of e.file.owner) quota))
+    (both_kept (things qs (Some n)) locks (body_writes g n e.file qs) (header_write g n (new_header g d.fid n e qs) stage.Lost empty_handed ∷ insertion_writes d (entry_for n e) stage.Lost stage.Done) (body e.file.dir)
+    (λ w t. elim t [ inl here ↦ inl (ap (λ (v : PlanWrite). (planned v).outs) (sym here)) | inr more ↦ insertion_kept (things qs (Some n)) locks d (entry_for n e) stage.Lost stage.Done w more ])) where
+      row : (o : Option ℕ) → KeepsOut (things qs (Some n)) locks (changed_write g quota (row_charged (cost_of g e.file)) stage.Charged (holding qs (Some n)) o)
+      row None w t = absurd t
+      row (Some j) w (inl here) = inr (inl (ap (λ (v : PlanWrite). (planned v).outs) (sym here)))
+      row (Some j) w (inr none) = absurd none
+
+      each : (ls : List ℕ) → KeepsOut (things qs (Some n)) locks (map (λ l. write_at (S n) l (block_of []) stage.Charged (holding qs (Some n))) ls)
+      each [] w t = absurd t
+      each (l ∷ ls) w (inl here) = inr (inl (ap (λ (v : PlanWrite). (planned v).outs) (sym here)))
+      each (l ∷ ls) w (inr t) = each ls w t
+
+      body : (t : Bool) → KeepsOut (things qs (Some n)) locks (cond t (map (λ l. write_at (S n) l (block_of []) stage.Charged (holding qs (Some n))) (spread g.cluster qs)) [])
+      body true = each (spread g.cluster qs)
+      body false = λ w t. absurd t
 
 -- a search for a number that is not refused gives one
 number_given : (clusters : ℕ) (cs : List ℕ) → has_space clusters true (record { clusters = cs; number = None; short = None }) ≡ true → ⊥

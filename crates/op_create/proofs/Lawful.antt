@@ -32,7 +32,7 @@ use Rattle.op_law.specs.Fits.{things}
 use Rattle.op_law.specs.Rows.{plain_plan, entries_seen}
 use Rattle.op_law.specs.Writing.{plan_of}
 use Rattle.op_law.specs.Entering.{NewEntry, numbered, entry_for, making_writes, slot_seq, quota_refusals}
-use Rattle.op_law.specs.Laws.{Lawful}
+use Rattle.op_law.specs.Laws.{held_in, KeepsOut, Lawful}
 use Rattle.op_law.proofs.Walking.{ObeysBy}
 use Rattle.op_law.proofs.Through.{file_told, listed_blocks, IsListed}
 use Rattle.op_writes.specs.EntryWrites.{dir_in}
@@ -40,13 +40,16 @@ use Rattle.op_law.proofs.Doing.{busy, IsDone, refusal_done, does_lawful}
 use Rattle.op_create.specs.Kinds.{IsMake}
 use Rattle.op_create.proofs.Makers.{Maker, to_make, maker, events_are}
 use Rattle.op_create.proofs.Searches.{makes_once, makes_shaped}
-use Rattle.op_create.proofs.Ends.{making_outs, making_stage_is, makes_end}
+use Rattle.op_create.proofs.Ends.{making_outs, making_stage_is, making_kept, makes_end}
 use Rattle.op_create.proofs.Forms.{file_of_seq}
 use Rattle.op_create.proofs.Sequences.{sequence_is}
-use Rattle.op_law.proofs.Spaces.{IsSpace, IsKnown}
+use Rattle.op_law.proofs.Spaces.{IsSpace, IsKnown, known_space}
 use Rattle.op_create.proofs.Replies.{after_for, refuses_none, refuses_plain, refuses_shown, refuses_unpaid, refuses_short, stands_done, makes_answer}
-use Rattle.op_create.proofs.Making.{made, making_steps, making_guards, making_moved}
+use Rattle.op_create.proofs.Making.{made, making_steps, making_named, making_leaves, making_moved}
 use Rattle.op_create.proofs.Walks.{makes_obey}
+
+things_are : (cs qs : List ℕ) (m n : Option ℕ) → cs ≡ qs → m ≡ n → things cs m ≡ things qs n
+things_are cs qs m n e f = ap (λ y. things cs y) f ∙ ap (λ ys. things ys n) e
 
 module _ (x : Cmd) (is : IsMake x) (node : ℕ) (seen : Seen) where
   abbrev g : Geometry
@@ -74,7 +77,7 @@ module _ (x : Cmd) (is : IsMake x) (node : ℕ) (seen : Seen) where
       alike o h = ap (λ y. first_refusal (m.refusals y)) dir.entries ∙ h
 
       module _ (order : first_refusal (m.refusals es) ≡ None) (paid : first_refusal (quota_refusals g (to_make m []) c.quota) ≡ None) (n : ℕ) (qs : List ℕ) (space : IsSpace g c qs n) (out : Outs node own (things qs (Some n)) stock)
-          (count : length qs ≡ m.file.clusters) where
+          (count : length qs ≡ m.file.clusters) (given : things seen.clusters seen.number ≡ things qs (Some n)) where
         abbrev order_at : first_refusal (m.refusals d.entries) ≡ None
         order_at = alike None order
 
@@ -111,22 +114,25 @@ module _ (x : Cmd) (is : IsMake x) (node : ℕ) (seen : Seen) where
 
         made_done : Done k_locks (made_plan (numbered (header_block g bs n) (to_make m es)))
         made_done = subst (λ y. Done k_locks (made_plan y)) same_new (record {
-          guarded = making_guards x is node g bs own c s stock f dir order_at paid n qs space out count;
+          named = making_named x is node g bs own c s stock f dir order_at paid n qs space out count;
+          dirs = making_leaves x is node g bs own c s stock f dir order_at paid n qs space out count;
+          kept_out = subst (λ (t : Things). KeepsOut t (held_in PW k_locks) (making_writes g (dir_in g bs m.dir) (blocks_at bs (quota_places g)) new n qs)) (sym given)
+              (making_kept (held_in PW k_locks) g (dir_in g bs m.dir) (blocks_at bs (quota_places g)) new n qs);
           steps = making_steps x is node g bs own c s stock f dir order_at paid n qs space out count (Replied g node (busy x node seen (made_plan new)) x (shown (entry_for n new)) c stock) finish;
         })
 
     -- on these blocks the command needs what it may, and its plan is done
-    obeys : ObeysBy x g bs own (IsKnown node x own c stock) Done (events_of g seen.channel x) []
-    obeys =
+    obeys : IsKnown node x seen own c stock → ObeysBy x g bs own c seen Done (events_of g seen.channel x) []
+    obeys known =
         let f = s.constants.factor in
-        subst (λ es. ObeysBy x g bs own (IsKnown node x own c stock) Done es []) (sym (events_are x is g seen.channel))
-        (makes_obey x is node g bs own c s stock Done
+        subst (λ es. ObeysBy x g bs own c seen Done es []) (sym (events_are x is g seen.channel))
+        (makes_obey x is node seen bs own c s stock known Done
         (λ none. no refusal.NoSuchFile (refuses_none g c f node x is none))
         (λ h lives plain. no refusal.NotDir (refuses_plain g c f node x is (file_told bs g m.dir h) lives plain))
         (λ h dir r shows. no r (refuses_shown g c f node x is (file_told bs g m.dir h) dir.live dir.dir r (alike h dir (Some r) shows)))
         (λ h dir order r paid. no r (refuses_unpaid g c f node x is (file_told bs g m.dir h) dir.live dir.dir (alike h dir None order) r paid))
         (λ h dir order r paid short. no r (refuses_short g c f node x is (file_told bs g m.dir h) dir.live dir.dir (alike h dir None order) paid r short))
-        (λ h dir order n qs paid space out count. made_done h dir order paid n qs space out count))
+        (λ h dir order n qs paid space out count of_space. made_done h dir order paid n qs space out count (things_are seen.clusters qs seen.number (Some n) of_space.clusters of_space.number)))
 
 -- CREATE and MKDIR are lawful
 pub create_lawful : (x : Cmd) → IsMake x → Lawful x
@@ -134,5 +140,5 @@ create_lawful x is = does_lawful x (record {
   searches = makes_once x is;
   shaped = makes_shaped x is;
   ends = makes_end x is;
-  obeys = λ node seen bs own c stock s outs known. obeys x is node seen bs own c stock s outs;
+  obeys = λ node seen bs own c stock s outs known. obeys x is node seen bs own c stock s outs (known_space node x seen own c stock outs known);
 })

@@ -11,5 +11,5 @@ pub mod Charges
 pub mod Clustered
 pub mod Entered
 pub mod DirNames
-pub mod Slots
 pub mod OfVolume
+pub mod Judged

@@ -20,26 +20,27 @@ use Rattle.vol_spell.specs.Reading.{quota_places}
 use Rattle.vol_spell.specs.Spelling.{Spells}
 use Rattle.vol_spell.specs.Views.{IsSameFile}
 use Rattle.vol_under.specs.Chains.{End}
-use Rattle.vol_under.specs.Guards.{guard_of, MayWrite}
 use Rattle.vol_under.specs.UnderWay.{StandsAt}
 use Rattle.op_law.specs.declared.need.PlanWrite.{PlanWrite}
 use Rattle.op_law.specs.Fits.{things}
+use Rattle.op_law.specs.Laws.{AreNamed, LeavesDirs}
 use Rattle.op_law.specs.Writing.{holding, empty_handed, header_write}
 use Rattle.op_law.specs.Quotas.{row_charged, owner_write}
 use Rattle.op_law.specs.Moving.{SeenDir, insertion_moves, insertion_writes}
 use Rattle.op_law.specs.Entering.{NewEntry, cost_of, new_header, body_writes, entry_for, making_writes, quota_refusals}
 use Rattle.op_law.proofs.Through.{file_told, IsListed}
-use Rattle.op_writes.specs.Chained.{Chain, StepsOf, after_writes, TouchedBy, StandsOn, FilesStay}
+use Rattle.op_law.proofs.Naming.{both_named, both_leave, no_header_leaves}
+use Rattle.op_writes.specs.Chained.{Chain, StepsOf, after_writes, StandsOn, FilesStay}
 use Rattle.op_writes.specs.RowWrites.{IsInRange, row_for}
 use Rattle.op_writes.specs.FileWrites.{CanBeMade, file_writes}
 use Rattle.op_writes.specs.EntryWrites.{dir_in, CanBeEntered}
-use Rattle.op_writes.proofs.RowSteps.{row_steps, row_guards}
+use Rattle.op_writes.proofs.RowSteps.{row_steps, row_guards, row_no_header}
 use Rattle.op_writes.proofs.FileSteps.{same_on, file_steps}
-use Rattle.op_writes.proofs.FileGuards.{file_guards}
-use Rattle.op_writes.proofs.EntrySteps.{entry_steps, entry_moved, entry_guards}
+use Rattle.op_writes.proofs.FileGuards.{file_guards, file_leaves}
+use Rattle.op_writes.proofs.EntrySteps.{entry_steps, entry_moved, entry_guards, entry_no_header}
 use Rattle.op_writes.proofs.RowRanges.{charged_in}
 use Rattle.op_writes.proofs.EntryRooms.{room_alike}
-use Rattle.op_writes.proofs.Chaining.{live_at, other_slot, same_dir, touched_in}
+use Rattle.op_writes.proofs.Chaining.{live_at, other_slot, same_dir}
 use Rattle.op_law.proofs.Refusals.{passed}
 use Rattle.op_law.proofs.Spaces.{not_live_number, IsSpace}
 use Rattle.op_create.specs.Kinds.{IsMake}
@@ -182,15 +183,26 @@ module _ (x : Cmd) (is : IsMake x) (node : ℕ) (g : Geometry) (bs : List Block)
 
   -- ---- what guards them
 
-  pub making_guards : (l : ℕ) → TouchedBy (making_writes g dd quota made n qs) l → MayWrite node (S m.dir.num ∷ Q ∷ S n ∷ []) (guard_of g own l)
+  pub making_named : AreNamed node (S m.dir.num ∷ Q ∷ S n ∷ []) g own (making_writes g dd quota made n qs)
   unfolding making_writes
-  making_guards l t = elim (touched_in row_part (body_part ++ (head_part ++ entry_part)) l t) [
-    | inl row ↦ subst (MayWrite node k.locks) (sym (row_guards g bs bs own c m.file.owner (row_charged cost) stage.Charged (holding qs (Some n)) l s row)) (inr (inl refl))
-    | inr more ↦ elim (touched_in (body_part ++ head_part) entry_part l (subst (λ ws. TouchedBy ws l) (sym (append_assoc body_part head_part entry_part)) more)) [
-      | inl file ↦ file_guards k m.dir n made qs c bs own l (record { spelt = s; outs = outs }) space.number (inr (inr (inl refl))) file
-      | inr entry ↦ subst (MayWrite node k.locks) (sym (entry_guards g m.dir d (entry_for n made) stage.Lost stage.Done c bs own l s enters entry)) (inl refl)
-    ]
-  ]
+  making_named =
+      both_named node k.locks g own row_part (body_part ++ (head_part ++ entry_part))
+      (row_guards g bs bs own c m.file.owner (row_charged cost) stage.Charged (holding qs (Some n)) node k.locks s (inr (inl refl)))
+      (subst (λ ws. AreNamed node k.locks g own ws) (append_assoc body_part head_part entry_part)
+      (both_named node k.locks g own (body_part ++ head_part) entry_part
+      (file_guards k m.dir n made qs c bs own (record { spelt = s; outs = outs }) space.number (inr (inr (inl refl))))
+      (entry_guards g m.dir d (entry_for n made) stage.Lost stage.Done c bs own node k.locks s enters (inl refl))))
+
+  -- each leaves the runs of directories
+  pub making_leaves : LeavesDirs g bs (making_writes g dd quota made n qs)
+  unfolding making_writes
+  making_leaves =
+      both_leave g bs row_part (body_part ++ (head_part ++ entry_part))
+      (no_header_leaves g bs row_part (row_no_header g bs bs own c m.file.owner (row_charged cost) stage.Charged (holding qs (Some n)) s))
+      (subst (λ ws. LeavesDirs g bs ws) (append_assoc body_part head_part entry_part)
+      (both_leave g bs (body_part ++ head_part) entry_part
+      (file_leaves k m.dir n made qs c bs own (record { spelt = s; outs = outs }) space.number)
+      (no_header_leaves g bs entry_part (entry_no_header g m.dir d (entry_for n made) stage.Lost stage.Done c bs own s enters))))
 
   -- the insertion has a write
   pub making_moved : length (insertion_moves dd (entry_for n made)) - 1 < length (insertion_moves dd (entry_for n made))

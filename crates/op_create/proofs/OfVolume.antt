@@ -13,7 +13,7 @@ use Rattle.op_law.specs.Events.{space_of}
 use Rattle.op_law.specs.Entering.{create_events, mkdir_events}
 use Rattle.op_law.specs.Needs.{events_of}
 use Rattle.op_law.specs.Readable.{HeadIsInside}
-use Rattle.op_law.specs.Knows.{channel_of, has_channel, is_new_number, is_short, usages_fit, opens_hold}
+use Rattle.op_law.specs.Knows.{channel_of, has_channel, is_new_number, wanted, is_short, usages_fit, opens_hold}
 use Rattle.op_law.specs.Fits.{things, FitsSeen}
 use Rattle.op_law.proofs.Heads.{through_inside}
 use Rattle.op_create.specs.Kinds.{IsMake}
@@ -47,6 +47,6 @@ outs_within g node own clusters (Some n) stock total files outs new =
 pub fits_volume : (x : Cmd) (seen : Seen) → FitsSeen x seen → IsOfVolume seen.geometry seen.clusters seen.number
 fits_volume x seen f =
     let c = f.cat in
-    let more = and_right (has_channel c f.node (channel_of x) seen.channel) (is_new_number seen.number && (is_short c x seen.short && (usages_fit c x && opens_hold c x))) f.on.known in
-    let new = and_left (is_new_number seen.number) (is_short c x seen.short && (usages_fit c x && opens_hold c x)) more in
+    let more = and_right (has_channel c f.node (channel_of x) seen.channel) (is_new_number seen.number && (is_short c (wanted seen x) seen.short && (usages_fit c x && opens_hold c x))) f.on.known in
+    let new = and_left (is_new_number seen.number) (is_short c (wanted seen x) seen.short && (usages_fit c x && opens_hold c x)) more in
     outs_within seen.geometry f.node f.own seen.clusters seen.number f.on.stock f.on.spelt.counts.clusters f.on.spelt.counts.numbers f.on.outs new

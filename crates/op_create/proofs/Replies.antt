@@ -18,6 +18,7 @@ use Rattle.plain_vol.specs.Directories.{inserted, entry}
 use Rattle.plain_vol.specs.Changes.{new_fid, charged, with_file, with_entries}
 use Rattle.plain_vol.specs.Answers.{refused, first_refusal, unless, in_directory_file, shown, made, create_outcome, create_refusal, mkdir_outcome, mkdir_refusal, outcome, IsPick, Answer}
 use Rattle.plain_vol.specs.Stages.{making_stage, create_stage, mkdir_stage, command_stage, stage_of, staged}
+use Rattle.plain_vol.proofs.Picks.{free_is_pick}
 use Rattle.plain_vol.proofs.LawSteps.{pick_exists}
 use Rattle.vol_parts.specs.declared.geometry.Geometry.{Geometry}
 use Rattle.vol_under.specs.UnderWay.{StandsAt}
@@ -140,6 +141,9 @@ module _ (g : Geometry) (c : Cat) (factor : c.factor ≡ g.cluster) (node : ℕ)
     refuses_short order paid other short = absurd short
 
     module _ (order : Shows None) (paid : PaidTo None) (n : ℕ) (enough : m.file.clusters ≤ free_clusters c) (free : is_free_number c n ≡ true) where
+      pick : IsPick c (Some n)
+      pick = free_is_pick c (Some n) free
+
       makes : outcome c node x (Some n) ≡ made_by c m d n
       makes =
           let has : nat_lt (free_clusters c) m.file.clusters ≡ false = grind (arith, nat_tests) in
@@ -150,7 +154,7 @@ module _ (g : Geometry) (c : Cat) (factor : c.factor ≡ g.cluster) (node : ℕ)
       after_is = ap (λ w. with_entries (with_file (charged c m.file.owner (w * m.file.clusters + 1)) n (file_for c m n)) m.dir.num d (inserted (entry_at c m d.entries n) d.entries)) factor
 
       pub makes_answer : Answer c node x (shown (entry_at c m d.entries n)) (after_for g c m d n)
-      makes_answer = subst (λ a. Answer c node x (shown (entry_at c m d.entries n)) a) after_is (Some n, free, makes)
+      makes_answer = subst (λ a. Answer c node x (shown (entry_at c m d.entries n)) a) after_is (Some n, pick, makes)
 
       -- the stages of the command
       stage_told : (st : Stage) → stage_of c node x (Some n) (outcome c node x (Some n)) st ≡ making_stage c n (file_for c m n) (made_by c m d n) st
@@ -160,12 +164,12 @@ module _ (g : Geometry) (c : Cat) (factor : c.factor ≡ g.cluster) (node : ℕ)
 
       pub stands_charged : StandsAt c node (Some x) stage.Charged (charged c m.file.owner (cost_of g m.file))
       unfolding staged
-      stands_charged = (Some n, free, stage_told stage.Charged ∙ ap (λ w. Some (charged c m.file.owner (w * m.file.clusters + 1))) factor)
+      stands_charged = (Some n, pick, stage_told stage.Charged ∙ ap (λ w. Some (charged c m.file.owner (w * m.file.clusters + 1))) factor)
 
       pub stands_lost : StandsAt c node (Some x) stage.Lost (lost_for g c m n)
       unfolding staged
-      stands_lost = (Some n, free, stage_told stage.Lost ∙ ap (λ w. Some (with_file (charged c m.file.owner (w * m.file.clusters + 1)) n (file_for c m n))) factor)
+      stands_lost = (Some n, pick, stage_told stage.Lost ∙ ap (λ w. Some (with_file (charged c m.file.owner (w * m.file.clusters + 1)) n (file_for c m n))) factor)
 
       pub stands_done : StandsAt c node (Some x) stage.Done (after_for g c m d n)
       unfolding staged
-      stands_done = (Some n, free, stage_told stage.Done ∙ ap (λ a. Some a) after_is)
+      stands_done = (Some n, pick, stage_told stage.Done ∙ ap (λ a. Some a) after_is)

@@ -10,7 +10,7 @@ use Rattle.fx_header.specs.declared.slot.Slot.{Slot as Head}
 use Rattle.fx_header.specs.declared.slot.Slot.TheVariants as head
 use Rattle.fx_header.specs.declared.slot.HeaderFault.{HeaderFault}
 use Rattle.fx_header.specs.declared.slot.HeaderFault.TheVariants.{BadSum, BadLevel, BadOffsets, BadRvn, BadExtension, BadMap, BadEnd}
-use Rattle.fx_header.specs.Headers.{is_free, has_sum, has_level, has_offsets, is_on_this_volume, is_alone, has_map, has_end, header_read, fields_of}
+use Rattle.fx_header.specs.Headers.{is_free, has_sum, has_level, has_offsets, is_on_this_volume, is_alone, has_map, has_blocks, has_end, header_read, fields_of}
 use Rattle.plain_cat.specs.declared.cat.Cat.{Cat}
 use Rattle.plain_vol.specs.Lookups.{last_seq}
 use Rattle.plain_vol.specs.Changes.{next_seq, new_fid}
@@ -30,24 +30,25 @@ abbrev IsLow : Result Head HeaderFault → Type 0
 IsLow r = slot_seq r < 2 ^ 16
 
 -- the first test that fails is a fault, which tells none
-by_tests : (free sum level offsets volume alone map ends : Bool) (seq : ℕ) (h : Hdr) → seq < 2 ^ 16 → h.seq < 2 ^ 16
+by_tests : (free sum level offsets volume alone map size ends : Bool) (seq : ℕ) (h : Hdr) → seq < 2 ^ 16 → h.seq < 2 ^ 16
     → IsLow (cond free (Ok (head.Free seq)) (cond (not sum) (Err BadSum) (cond (not level) (Err BadLevel) (cond (not offsets) (Err BadOffsets) (cond (not volume) (Err BadRvn)
-    (cond (not alone) (Err BadExtension) (cond (not map) (Err BadMap) (cond (not ends) (Err BadEnd) (Ok (head.Used h))))))))))
-by_tests true sum level offsets volume alone map ends seq h low lt = low
-by_tests false false level offsets volume alone map ends seq h low lt = omega arith
-by_tests false true false offsets volume alone map ends seq h low lt = omega arith
-by_tests false true true false volume alone map ends seq h low lt = omega arith
-by_tests false true true true false alone map ends seq h low lt = omega arith
-by_tests false true true true true false map ends seq h low lt = omega arith
-by_tests false true true true true true false ends seq h low lt = omega arith
-by_tests false true true true true true true false seq h low lt = omega arith
-by_tests false true true true true true true true seq h low lt = lt
+    (cond (not alone) (Err BadExtension) (cond (not map) (Err BadMap) (cond (not size) (Err BadEnd) (cond (not ends) (Err BadEnd) (Ok (head.Used h)))))))))))
+by_tests true sum level offsets volume alone map size ends seq h low lt = low
+by_tests false false level offsets volume alone map size ends seq h low lt = omega arith
+by_tests false true false offsets volume alone map size ends seq h low lt = omega arith
+by_tests false true true false volume alone map size ends seq h low lt = omega arith
+by_tests false true true true false alone map size ends seq h low lt = omega arith
+by_tests false true true true true false map size ends seq h low lt = omega arith
+by_tests false true true true true true false size ends seq h low lt = omega arith
+by_tests false true true true true true true false ends seq h low lt = omega arith
+by_tests false true true true true true true true false seq h low lt = omega arith
+by_tests false true true true true true true true true seq h low lt = lt
 
 pub sequence_low : (b : Block) → IsBytes b → slot_seq (header_read b) < 2 ^ 16
 unfolding header_read fields_of
 sequence_low b bytes =
     let low : field b 10 2 < 2 ^ 16 = field-lt b 10 2 bytes in
-    by_tests (is_free b) (has_sum b) (has_level b) (has_offsets b) (is_on_this_volume b) (is_alone b) (has_map b) (has_end b) (field b 10 2) (fields_of b) low low
+    by_tests (is_free b) (has_sum b) (has_level b) (has_offsets b) (is_on_this_volume b) (is_alone b) (has_map b) (has_blocks b) (has_end b) (field b 10 2) (fields_of b) low low
 
 pub next_low : (seq : ℕ) → seq < 2 ^ 16 → next_seq seq < 2 ^ 16
 next_low seq lt = by_test (seq == 65535) refl where

@@ -1,6 +1,6 @@
 -- The events of a command that makes a file, walked along on blocks that have what it has seen.
-use Rattle.std.proofs.Common.{◌≡◌, ◌∙◌, inl, inr, ℕ, Bool, true, false, List, [], ◌∷◌, Option, Some, None, length, refl, sym, ap, subst, arith}
-use Rattle.std.specs.Prelude.{◌==◌, ◌&&◌}
+use Rattle.std.proofs.Common.{◌≡◌, inl, inr, ℕ, Bool, true, false, List, [], ◌∷◌, Option, Some, None, length, refl, sym, ap, subst, arith}
+use Rattle.std.specs.Prelude.{◌==◌, ◌&&◌, is_some, if◌then◌else◌}
 use Rattle.std.proofs.lemmas.Bool.Decides.{nat_tests}
 use Rattle.vol_words.specs.Fields.{Block}
 use Rattle.fx_header.specs.declared.slot.Hdr.{Hdr}
@@ -24,8 +24,9 @@ use Rattle.vol_parts.specs.declared.geometry.Geometry.{Geometry}
 use Rattle.vol_spell.specs.Reading.{header_block, quota_places}
 use Rattle.vol_spell.specs.Spelling.{Spells}
 use Rattle.op_law.specs.declared.need.Plan.{Plan}
-use Rattle.op_law.specs.Events.{Events, Find, Space, has_space}
-use Rattle.op_law.specs.Knows.{clusters_wanted}
+use Rattle.op_law.specs.declared.seen.Seen.{Seen}
+use Rattle.op_law.specs.Events.{Events, Find, Space, space_of, has_space}
+use Rattle.op_law.specs.Knows.{wanted, is_short, is_new_number}
 use Rattle.op_law.specs.Rows.{plain_plan}
 use Rattle.op_law.specs.Refusing.{unless_refused, if_space}
 use Rattle.op_law.specs.Writing.{plan_of}
@@ -33,13 +34,15 @@ use Rattle.op_law.specs.Quotas.{rows_seen}
 use Rattle.op_law.specs.Moving.{SeenDir, entries_of}
 use Rattle.op_law.specs.Entering.{numbered, entry_for, making_writes, quota_refusals, made_of, into_slot, making_events}
 use Rattle.op_law.specs.Fits.{things}
+use Rattle.op_law.specs.Order.{level, IsBefore, Higher}
 use Rattle.op_law.proofs.Walking.{ObeysBy}
 use Rattle.op_law.proofs.Through.{file_told, IsListed, number_obeys, quota_obeys, directory_obeys}
 use Rattle.op_writes.specs.EntryWrites.{dir_in}
+use Rattle.op_writes.proofs.Chaining.{live_at}
 use Rattle.op_create.specs.Kinds.{IsMake}
 use Rattle.op_create.proofs.Makers.{Maker, to_make, maker_events, maker}
 use Rattle.op_create.proofs.Forms.{in_order, is_wanted}
-use Rattle.op_law.proofs.Spaces.{not_live_number, IsSpace, space_given, IsShort, space_refused, IsKnown}
+use Rattle.op_law.proofs.Spaces.{not_live_number, no_file_at, IsSpace, space_given, IsShort, space_refused, IsKnown}
 
 -- a search that is not refused gives as many clusters as were wanted
 given_all : (clusters : ℕ) (cs : List ℕ) (n : ℕ) → has_space clusters true (record { clusters = cs; number = Some n; short = None }) ≡ true → length cs ≡ clusters
@@ -54,15 +57,15 @@ none_given clusters cs e = by_test (length cs == clusters) e where
   by_test true k = absurd (cc)
   by_test false k = absurd (cc)
 
-module _ (x : Cmd) (is : IsMake x) (node : ℕ) (g : Geometry) (bs : List Block) (own : Owners) (c : Cat) (s : Spells g bs own c) (stock : Things) (P : List (LockName × Mode) → Plan → Type 0) where
+module _ (x : Cmd) (is : IsMake x) (node : ℕ) (seen : Seen) (bs : List Block) (own : Owners) (c : Cat) (s : Spells seen.geometry bs own c) (stock : Things) (known : IsKnown node x seen own c stock) (P : List (LockName × Mode) → Plan → Type 0) where
+  abbrev g : Geometry
+  g = seen.geometry
+
   abbrev m : Maker
   m = maker g x is
 
-  abbrev Known : Space → Type 0
-  Known space = IsKnown node x own c stock space
-
   abbrev O : Events → List (LockName × Mode) → Type 0
-  O es held = ObeysBy x g bs own Known P es held
+  O es held = ObeysBy x g bs own c seen P es held
 
   -- a refusal is so, whatever locks are held
   abbrev pub No : Refusal → Type 0
@@ -85,6 +88,11 @@ module _ (x : Cmd) (is : IsMake x) (node : ℕ) (g : Geometry) (bs : List Block)
   abbrev pub locks : ℕ → List (LockName × Mode)
   locks n = (S m.dir.num, PW) ∷ (Q, PW) ∷ (S n, PW) ∷ []
 
+  -- these clusters and this number are those that were given
+  pub record IsOfSpace (n : ℕ) (qs : List ℕ) : Type 0 where
+    pub clusters : seen.clusters ≡ qs
+    pub number : seen.number ≡ Some n
+
   -- the plan, with the slot of the number as it was seen
   abbrev pub plan : ℕ → List ℕ → Plan
   plan n qs =
@@ -93,32 +101,48 @@ module _ (x : Cmd) (is : IsMake x) (node : ℕ) (g : Geometry) (bs : List Block)
 
   module _ (f : Hdr) (dir : IsListed g bs c m.dir f) (order : first_refusal (m.refusals es) ≡ None)
       (unpaid : (r : Refusal) → Paid (Some r) → No r) (short : (r : Refusal) → Paid None → IsShort c m.file.clusters r → No r)
-      (made : (n : ℕ) (qs : List ℕ) → Paid None → IsSpace g c qs n → Outs node own (things qs (Some n)) stock → length qs ≡ m.file.clusters → P (locks n) (plan n qs)) where
+      (made : (n : ℕ) (qs : List ℕ) → Paid None → IsSpace g c qs n → Outs node own (things qs (Some n)) stock → length qs ≡ m.file.clusters → IsOfSpace n qs → P (locks n) (plan n qs)) where
+    -- the directory is in use
+    in_use : level c (S m.dir.num) ≡ 0
+    in_use = ap (λ o. if is_some o then 0 else 4) (live_at c m.dir (file_told bs g m.dir f) dir.live)
+
     abbrev two : List (LockName × Mode)
     two = (S m.dir.num, PW) ∷ (Q, PW) ∷ []
 
-    into : (n : ℕ) (qs : List ℕ) → Paid None → IsSpace g c qs n → Outs node own (things qs (Some n)) stock → length qs ≡ m.file.clusters → O (into_slot g d quota (to_make m es) qs n) two
-    into n qs paid space outs count = number_obeys x g bs own c s Known P two PW (inr (inl refl)) n (λ slot. made_of g d quota (numbered slot (to_make m es)) n qs) new space.number (made n qs paid space outs count) where
-      new : Has (S m.dir.num ∷ Q ∷ []) (S n) → ⊥
-      new (inl e) = not_live_number c m.dir (file_told bs g m.dir f) n space.free dir.live (let h : S m.dir.num ≡ S n = e in cc)
-      new (inr (inl e)) = absurd (cc)
-      new (inr (inr t)) = t
+    into : (n : ℕ) (qs : List ℕ) → Paid None → IsSpace g c qs n → Outs node own (things qs (Some n)) stock → length qs ≡ m.file.clusters → IsOfSpace n qs → O (into_slot g d quota (to_make m es) qs n) two
+    into n qs paid given outs count of_space =
+        number_obeys x g bs own c s seen P two PW (inr (inl refl)) n (λ slot. made_of g d quota (numbered slot (to_make m es)) n qs) new (inr of_space.number) after given.number (made n qs paid given outs count of_space) where
+          new : Has (S m.dir.num ∷ Q ∷ []) (S n) → ⊥
+          new (inl e) = not_live_number c m.dir (file_told bs g m.dir f) n given.free dir.live (let h : S m.dir.num ≡ S n = e in cc)
+          new (inr (inl e)) = absurd (cc)
+          new (inr (inr t)) = t
 
-    by_space : Paid None → (cs : List ℕ) (n : Option ℕ) (why : Option Refusal) → Known (record { clusters = cs; number = n; short = why }) → has_space m.file.clusters true (record { clusters = cs; number = n; short = why }) ≡ true
+          last : level c (S n) ≡ 4
+          last = ap (λ o. if is_some o then 0 else 4) (no_file_at c n given.free)
+
+          after : (other : LockName) → Has (S m.dir.num ∷ Q ∷ []) other → IsBefore c other (S n)
+          after other (inl e) = subst (λ y. IsBefore c y (S n)) e (Higher (let a = in_use in let b = last in omega arith))
+          after other (inr (inl e)) = subst (λ y. IsBefore c y (S n)) e (Higher (let b = last in omega arith))
+          after other (inr (inr t)) = absurd t
+
+    by_space : Paid None → (cs : List ℕ) (n : Option ℕ) (why : Option Refusal) → space_of seen ≡ record { clusters = cs; number = n; short = why } → has_space m.file.clusters true (record { clusters = cs; number = n; short = why }) ≡ true
         → O (if_space (into_slot g d quota (to_make m es)) cs n why) two
-    by_space paid cs n (Some r) known has =
-        let wanted = is_wanted g x is in
-        let clusters : clusters_wanted c.factor x ≡ m.file.clusters = ap (λ w. clusters_wanted w x) s.constants.factor ∙ sym wanted.clusters in
-        short r paid (subst (λ k. IsShort c k r) clusters (space_refused c x r (sym wanted.number) known.short)) two
-    by_space paid cs None None known has = absurd (none_given m.file.clusters cs has)
-    by_space paid cs (Some n) None known has = into n cs paid (space_given g bs own c node cs n stock s known.outs known.new) known.outs (given_all m.file.clusters cs n has)
+    by_space paid cs n (Some r) is_so has =
+        let want = is_wanted g x is in
+        short r paid (subst (λ k. IsShort c k r) (sym want.clusters) (space_refused c (wanted seen x) r (sym want.number) (subst (λ (y : Space). is_short c (wanted seen x) y.short ≡ true) is_so known.short))) two
+    by_space paid cs None None is_so has = absurd (none_given m.file.clusters cs has)
+    by_space paid cs (Some n) None is_so has =
+        let out : Outs node own (things cs (Some n)) stock = subst (λ (y : Space). Outs node own (things y.clusters y.number) stock) is_so known.outs in
+        let new : is_new_number (Some n) ≡ true = subst (λ (y : Space). is_new_number y.number ≡ true) is_so known.new in
+        into n cs paid (space_given g bs own c node cs n stock s out new) out (given_all m.file.clusters cs n has)
+        (record { clusters = ap (λ (y : Space). y.clusters) is_so; number = ap (λ (y : Space). y.number) is_so })
 
     by_quota : (o : Option Refusal) → Paid o → O (unless_refused o (Find m.file.clusters true (if_space (into_slot g d quota (to_make m es))))) two
     by_quota (Some r) paid = unpaid r paid two
     by_quota None paid =
-        let wanted = is_wanted g x is in (
-          record { takes = wanted.takes; few = (in_order g x is es order).few; clusters_are = wanted.clusters; number_is = wanted.number },
-          λ space known has given. by_space paid space.clusters space.number space.short known has,
+        let want = is_wanted g x is in (
+          record { takes = want.takes; quota = inr (inl refl); few = (in_order g x is es order).few; clusters_are = want.clusters; number_is = want.number },
+          λ has given. by_space paid seen.clusters seen.number seen.short refl has,
         )
 
     -- what comes behind the quota blocks
@@ -128,12 +152,16 @@ module _ (x : Cmd) (is : IsMake x) (node : ℕ) (g : Geometry) (bs : List Block)
     making_obeys : O (making_events g d (to_make m es)) ((S m.dir.num, PW) ∷ [])
     making_obeys =
         let rows : c.quota ≡ rows_seen quota = s.rows.quota in
-        quota_obeys x g bs own c s Known P ((S m.dir.num, PW) ∷ []) PW (inr (inl refl)) (λ qs. by_rows qs (rows_seen qs)) new
+        quota_obeys x g bs own c s seen P ((S m.dir.num, PW) ∷ []) PW (inr (inl refl)) (λ qs. by_rows qs (rows_seen qs)) new behind_dir
         (subst (λ rs. O (by_rows quota rs) two) rows
         (by_quota (first_refusal (quota_refusals g (to_make m es) c.quota)) refl)) where
           new : Has (S m.dir.num ∷ []) Q → ⊥
           new (inl e) = absurd (cc)
           new (inr t) = t
+
+          behind_dir : (other : LockName) → Has (S m.dir.num ∷ []) other → IsBefore c other Q
+          behind_dir other (inl e) = subst (λ y. IsBefore c y Q) e (Higher (let a = in_use in omega arith))
+          behind_dir other (inr t) = absurd t
 
   module _ (none : live c m.dir ≡ None → No refusal.NoSuchFile)
       (plain : (f : Hdr) → live c m.dir ≡ Some (file_told bs g m.dir f) → f.dir ≡ false → No refusal.NotDir)
@@ -141,7 +169,7 @@ module _ (x : Cmd) (is : IsMake x) (node : ℕ) (g : Geometry) (bs : List Block)
       (unpaid : (f : Hdr) → IsListed g bs c m.dir f → first_refusal (m.refusals es) ≡ None → (r : Refusal) → Paid (Some r) → No r)
       (short : (f : Hdr) → IsListed g bs c m.dir f → first_refusal (m.refusals es) ≡ None → (r : Refusal) → Paid None → IsShort c m.file.clusters r → No r)
       (made : (f : Hdr) → IsListed g bs c m.dir f → first_refusal (m.refusals es) ≡ None → (n : ℕ) (qs : List ℕ) → Paid None → IsSpace g c qs n → Outs node own (things qs (Some n)) stock → length qs ≡ m.file.clusters
-      → P (locks n) (plan n qs)) where
+      → IsOfSpace n qs → P (locks n) (plan n qs)) where
     by_order : (f : Hdr) → IsListed g bs c m.dir f → (o : Option Refusal) → first_refusal (m.refusals es) ≡ o → O (unless_refused o (making_events g d (to_make m es))) ((S m.dir.num, PW) ∷ [])
     by_order f dir None order = making_obeys f dir order (unpaid f dir order) (short f dir order) (made f dir order)
     by_order f dir (Some r) order = shows f dir r order ((S m.dir.num, PW) ∷ [])
@@ -151,4 +179,4 @@ module _ (x : Cmd) (is : IsMake x) (node : ℕ) (g : Geometry) (bs : List Block)
     behind h blocks = let seen : SeenDir = record { fid = m.dir; head = h; blocks = blocks } in unless_refused (first_refusal (m.refusals (entries_of seen))) (making_events g seen (to_make m (entries_of seen)))
 
     pub makes_obey : O (maker_events g m) []
-    makes_obey = directory_obeys x g bs own c s Known P m.dir [] (λ h. h) PW (inr (inl refl)) behind none (λ f lives e. plain f lives e _) (λ f dir. by_order f dir (first_refusal (m.refusals es)) refl)
+    makes_obey = directory_obeys x g bs own c s seen P m.dir [] (λ h. h) (inl (λ h. h)) (λ other h. absurd h) PW (inr (inl refl)) behind none (λ f lives e. plain f lives e _) (λ f dir. by_order f dir (first_refusal (m.refusals es)) refl)

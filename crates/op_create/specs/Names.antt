@@ -5,7 +5,7 @@ use Rattle.vol_parts.specs.declared.geometry.Geometry.{Geometry}
 use Rattle.op_law.specs.declared.need.Need.{Need}
 use Rattle.op_law.specs.Events.{Events, Space}
 use Rattle.op_law.specs.Moving.{SeenDir}
-use Rattle.op_law.specs.Behind.{goes_on_by, blocks_alone}
+use Rattle.op_law.specs.Behind.{goes_on_by, blocks_alone, FollowsBy}
 use Rattle.op_law.specs.Readable.{HasMap, AreInside}
 use Rattle.op_create.specs.declared.names.DirSeen.{DirSeen}
 use Rattle.op_create.specs.declared.names.Names.{Names}
@@ -19,6 +19,11 @@ dir_seen d = record { fid = d.fid; head = d.head.now; blocks = blocks_alone d.bl
 abbrev pub behind_names : (SeenDir → Events) → Space → Names → Need
 behind_names next space (names.All d rest) = goes_on_by (next (dir_seen d)) rest space
 behind_names next space (names.Next need) = need
+
+-- what was seen behind it follows what comes there
+abbrev pub FollowsNames : (SeenDir → Events) → Space → Names → Type 0
+FollowsNames next space (names.All d rest) = FollowsBy (next (dir_seen d)) rest space
+FollowsNames next space (names.Next need) = Unit {0}
 
 -- the runs of its header can be read, and end at or before LBN 65,536
 pub record IsReadable (d : DirSeen) : Type 0 where

@@ -1,33 +1,28 @@
 //! What CREATE and MKDIR need next.
 
-ghost use Rattle.std.specs.Prelude.{◌≡◌, ◌≤◌, true, length, IfOk, IsTrue};
+ghost use Rattle.std.specs.Prelude.{◌≡◌, ◌≤◌, true, None, length, IfOk, IsTrue};
 ghost use Rattle.plain_cat.specs.InForm.{is_dir_name};
 ghost use Rattle.plain_vol.specs.Answers.{first_refusal};
 ghost use Rattle.vol_words.specs.Names.{is_name};
 ghost use Rattle.vol_parts.specs.Parts.{IsGeometry};
 ghost use Rattle.vol_spell.specs.Reading.{IsFileNumber};
 ghost use Rattle.op_law.specs.Events.{next_of, space_of};
-ghost use Rattle.op_law.specs.Quotas.{rows_seen};
-ghost use Rattle.op_law.specs.Entering.{made_of, into_slot, making_events, quota_refusals, create_in, create_events, mkdir_in, mkdir_events};
-ghost use Rattle.op_law.specs.Behind.{goes_on_by, blocks_alone};
+ghost use Rattle.op_law.specs.Moving.{entries_of};
+ghost use Rattle.op_law.specs.Entering.{made_of, create_refusals, create_in, create_events, mkdir_refusals, mkdir_in, mkdir_events};
+ghost use Rattle.op_law.specs.Behind.{goes_on_by, blocks_alone, FollowsBy, HasFirst};
 ghost use Rattle.op_law.specs.Readable.{HeadIsInside};
 ghost use Rattle.op_create.specs.Names.{dir_seen, IsReadable};
 ghost use Rattle.op_create.specs.Files.{file_made, entry_made, IsSound, IsNewIn, IsOfVolume};
 
-use crate::files::{NewFile, clusters_for, cost_of, new_dir, new_file, numbered};
+use crate::files::{NewFile, clusters_for, new_dir, new_file, numbered};
 use crate::names::{DirSeen, Names, create_refusal, mkdir_refusal, names_seen, new_version};
-use crate::numbers::{Given, number_given};
-use crate::quotas::{quota_seen, rows_seen};
+use crate::slots::{Place, place_seen};
 use crate::writing::{entry_for, making_writes};
 use lock_db::LockName;
-use op_law::{
-    Granted, Listed, Looked, Need, NoMemory, Plan, Rest, Seen, block_seen, entries_seen,
-    header_lbn, lock_seen, refused,
-};
-use plain_cat::{Fid, Mode, Name, Refusal, Reply, Uic};
-use plain_vol::{dir_name, over_quota, row_of};
+use op_law::{Need, NoMemory, Plan, Rest, Seen, entries_seen, refused};
+use plain_cat::{Fid, Mode, Name, Reply, Uic};
+use plain_vol::dir_name;
 use std::alloc::Global;
-use vol_parts::Geometry;
 use vol_words::Block;
 
 // The plan, with the sequence that the slot gives.
@@ -62,92 +57,38 @@ fn made(
     }))
 }
 
-// The lock of the new number, its slot, and the plan.
-fn into_slot(
+// CREATE, behind a directory that refuses nothing.
+fn create_judged(
     alloc: Global,
     seen: &Seen,
     d: &DirSeen<'_>,
-    quota: &[(u32, Block)],
-    f: &NewFile<'_>,
-    n: u32,
+    name: &Name,
+    ver: u16,
+    clusters: u32,
+    owner: Uic,
     rest: Rest<'_>,
 ) -> Result<Need, NoMemory>
     requires geometry { IsGeometry seen.now.geometry }
     requires readable { IsReadable d.now }
-    requires few { length quota.now ≤ 16 }
-    requires sound { IsSound seen.now.geometry f.now }
-    requires new { IsNewIn (dir_seen d.now) f.now }
-    requires number { IsFileNumber seen.now.geometry n }
-    requires count { length seen.now.clusters ≡ f.now.clusters }
+    requires parent { d.now.fid.num ≤ 16777215 }
+    requires name { is_name name.now ≡ true }
+    requires version { ver ≤ 32767 }
     requires within { IsOfVolume seen.now.geometry seen.now.clusters seen.now.number }
-    ensures { IfOk result (λ need. need ≡ goes_on_by (into_slot seen.now.geometry (dir_seen d.now) (blocks_alone quota.now) (entry_made f.now) seen.now.clusters n) rest.entry (space_of seen.now)) }
+    requires judged { first_refusal (create_refusals seen.now.geometry (entries_of (dir_seen d.now)) name.now ver clusters) ≡ None }
+    ensures { IfOk result (λ need. need ≡ goes_on_by (create_in seen.now.geometry (dir_seen d.now) name.now ver clusters owner) rest.entry (space_of seen.now)) }
 {
-    match lock_seen(LockName::S(n), Mode::PW, rest) {
-        Granted::Next(need) => Ok(need),
-        Granted::Held(behind) => {
-            let lbn = header_lbn(&seen.geometry, n);
-            match block_seen(LockName::S(n), lbn, behind) {
-                Looked::Next(need) => Ok(need),
-                Looked::Seen(slot, last) => {
-                    made(alloc, seen, d, quota, &numbered(slot, f), n, last)
-                }
-            }
+    match place_seen(alloc, seen, owner, clusters, rest)? {
+        Place::Next(need) => Ok(need),
+        Place::Slot(quota, n, slot, last) => {
+            let entries = entries_seen(alloc, d.blocks)?;
+            let ver = new_version(&entries, name, ver);
+            let f = new_file(name, ver, owner, clusters);
+            made(alloc, seen, d, quota, &numbered(slot, &f), n, last)
         }
     }
 }
 
-// Why the owner does not get a new file, if not.
-fn quota_refusal(
-    alloc: Global,
-    g: &Geometry,
-    quota: &[(u32, Block)],
-    f: &NewFile<'_>,
-) -> Result<Option<Refusal>, NoMemory>
-    requires geometry { IsGeometry g.now }
-    requires sound { IsSound g.now f.now }
-    ensures { IfOk result (λ r. r ≡ first_refusal (quota_refusals g.now (entry_made f.now) (rows_seen (blocks_alone quota.now)))) }
-{
-    let rows = rows_seen(alloc, quota)?;
-    let row = row_of(rows.items(), f.owner);
-    if row.is_none() {
-        return Ok(Some(Refusal::NoQuota));
-    }
-    if over_quota(row, cost_of(g, f)) {
-        return Ok(Some(Refusal::ExQuota));
-    }
-    Ok(None)
-}
-
-// The quota, the space, the new slot.
-fn making_next(
-    alloc: Global,
-    seen: &Seen,
-    d: &DirSeen<'_>,
-    f: &NewFile<'_>,
-    rest: Rest<'_>,
-) -> Result<Need, NoMemory>
-    requires geometry { IsGeometry seen.now.geometry }
-    requires readable { IsReadable d.now }
-    requires sound { IsSound seen.now.geometry f.now }
-    requires new { IsNewIn (dir_seen d.now) f.now }
-    requires within { IsOfVolume seen.now.geometry seen.now.clusters seen.now.number }
-    ensures { IfOk result (λ need. need ≡ goes_on_by (making_events seen.now.geometry (dir_seen d.now) (entry_made f.now)) rest.entry (space_of seen.now)) }
-{
-    match quota_seen(&seen.geometry, Mode::PW, rest) {
-        Listed::Next(need) => Ok(need),
-        Listed::All(quota, behind) => {
-            if let Some(why) = quota_refusal(alloc, &seen.geometry, quota, f)? {
-                return Ok(refused(alloc, why));
-            }
-            match number_given(alloc, seen, f.clusters, behind) {
-                Given::Next(need) => Ok(need),
-                Given::Number(n) => into_slot(alloc, seen, d, quota, f, n, behind),
-            }
-        }
-    }
-}
-
-// CREATE, behind the directory.
+// CREATE, behind the directory. It asks for Q once the directory refuses nothing, so behind Q that is known.
 fn create_in(
     alloc: Global,
     seen: &Seen,
@@ -164,14 +105,19 @@ fn create_in(
     requires name { is_name name.now ≡ true }
     requires version { ver ≤ 32767 }
     requires within { IsOfVolume seen.now.geometry seen.now.clusters seen.now.number }
+    requires follows { FollowsBy (create_in seen.now.geometry (dir_seen d.now) name.now ver clusters owner) rest (space_of seen.now) }
     ensures { IfOk result (λ need. need ≡ goes_on_by (create_in seen.now.geometry (dir_seen d.now) name.now ver clusters owner) rest.entry (space_of seen.now)) }
 {
-    let entries = entries_seen(alloc, d.blocks)?;
-    if let Some(why) = create_refusal(alloc, &seen.geometry, &entries, name, ver, clusters)? {
-        return Ok(refused(alloc, why));
+    match rest.locks {
+        [_, ..] => create_judged(alloc, seen, d, name, ver, clusters, owner, rest),
+        [] => {
+            let entries = entries_seen(alloc, d.blocks)?;
+            match create_refusal(alloc, &seen.geometry, &entries, name, ver, clusters)? {
+                Some(why) => Ok(refused(alloc, why)),
+                None => Ok(Need::Lock(LockName::Q, Mode::PW)),
+            }
+        }
     }
-    let ver = new_version(&entries, name, ver);
-    making_next(alloc, seen, d, &new_file(name, ver, owner, clusters), rest)
 }
 
 /// What a CREATE needs next. An error says that memory ran out.
@@ -191,6 +137,7 @@ pub(crate) fn create_next(
     requires name { is_name name.now ≡ true }
     requires version { ver ≤ 32767 }
     requires blocks { blocks ≤ 65536 }
+    requires follows { HasFirst (create_events seen.now.geometry dir name.now ver blocks owner) seen.now }
     ensures { IfOk result (λ need. need ≡ next_of (create_events seen.now.geometry dir name.now ver blocks owner) seen.now) }
 {
     match names_seen(alloc, &seen.geometry, dir, seen.all()) {
@@ -202,7 +149,33 @@ pub(crate) fn create_next(
     }
 }
 
-// MKDIR, behind the directory.
+// MKDIR, behind a directory that refuses nothing.
+fn mkdir_judged(
+    alloc: Global,
+    seen: &Seen,
+    d: &DirSeen<'_>,
+    name: &Name,
+    owner: Uic,
+    rest: Rest<'_>,
+) -> Result<Need, NoMemory>
+    requires geometry { IsGeometry seen.now.geometry }
+    requires readable { IsReadable d.now }
+    requires parent { d.now.fid.num ≤ 16777215 }
+    requires name { is_name name.now ≡ true }
+    requires within { IsOfVolume seen.now.geometry seen.now.clusters seen.now.number }
+    requires judged { first_refusal (mkdir_refusals seen.now.geometry (entries_of (dir_seen d.now)) name.now) ≡ None }
+    ensures { IfOk result (λ need. need ≡ goes_on_by (mkdir_in seen.now.geometry (dir_seen d.now) name.now owner) rest.entry (space_of seen.now)) }
+{
+    match place_seen(alloc, seen, owner, 1, rest)? {
+        Place::Next(need) => Ok(need),
+        Place::Slot(quota, n, slot, last) => {
+            let f = new_dir(&seen.geometry, name, owner);
+            made(alloc, seen, d, quota, &numbered(slot, &f), n, last)
+        }
+    }
+}
+
+// MKDIR, behind the directory. It asks for Q once the directory refuses nothing, so behind Q that is known.
 fn mkdir_in(
     alloc: Global,
     seen: &Seen,
@@ -216,13 +189,19 @@ fn mkdir_in(
     requires parent { d.now.fid.num ≤ 16777215 }
     requires name { is_name name.now ≡ true }
     requires within { IsOfVolume seen.now.geometry seen.now.clusters seen.now.number }
+    requires follows { FollowsBy (mkdir_in seen.now.geometry (dir_seen d.now) name.now owner) rest (space_of seen.now) }
     ensures { IfOk result (λ need. need ≡ goes_on_by (mkdir_in seen.now.geometry (dir_seen d.now) name.now owner) rest.entry (space_of seen.now)) }
 {
-    let entries = entries_seen(alloc, d.blocks)?;
-    if let Some(why) = mkdir_refusal(alloc, &seen.geometry, &entries, name)? {
-        return Ok(refused(alloc, why));
+    match rest.locks {
+        [_, ..] => mkdir_judged(alloc, seen, d, name, owner, rest),
+        [] => {
+            let entries = entries_seen(alloc, d.blocks)?;
+            match mkdir_refusal(alloc, &seen.geometry, &entries, name)? {
+                Some(why) => Ok(refused(alloc, why)),
+                None => Ok(Need::Lock(LockName::Q, Mode::PW)),
+            }
+        }
     }
-    making_next(alloc, seen, d, &new_dir(&seen.geometry, name, owner), rest)
 }
 
 /// What a MKDIR needs next. An error says that memory ran out.
@@ -238,6 +217,7 @@ pub(crate) fn mkdir_next(
     requires inside { HeadIsInside seen.now.blocks }
     requires within { IsOfVolume seen.now.geometry seen.now.clusters seen.now.number }
     requires name { IsTrue (is_dir_name name.now) }
+    requires follows { HasFirst (mkdir_events seen.now.geometry dir name.now owner) seen.now }
     ensures { IfOk result (λ need. need ≡ next_of (mkdir_events seen.now.geometry dir name.now owner) seen.now) }
 {
     match names_seen(alloc, &seen.geometry, dir, seen.all()) {

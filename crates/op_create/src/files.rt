@@ -1,12 +1,12 @@
 //! A new file: what is said of it, and the block of its header.
 
-ghost use Rattle.std.specs.Prelude.{◌≡◌, ◌≤◌, ◌<◌, ◌^◌, ℕ, List, None, length, IfOk};
+ghost use Rattle.std.specs.Prelude.{◌≡◌, ◌≤◌, ◌<◌, ◌+◌, ◌*◌, ◌^◌, ℕ, List, None, length, IfOk};
 ghost use Rattle.plain_cat.specs.declared.ids.Fid.{Fid};
 ghost use Rattle.plain_vol.specs.Changes.{next_seq, new_file, new_dir};
 ghost use Rattle.vol_parts.specs.Parts.{IsGeometry};
 ghost use Rattle.vol_spell.specs.Reading.{IsFileNumber};
 ghost use Rattle.op_law.specs.Writing.{clusters_for, runs_for};
-ghost use Rattle.op_law.specs.Entering.{NewEntry, cost_of, fields_for, text_of, new_header, slot_seq, numbered};
+ghost use Rattle.op_law.specs.Entering.{NewEntry, fields_for, text_of, new_header, slot_seq, numbered};
 ghost use Rattle.fx_header.specs.Headers.{header_read};
 ghost use Rattle.op_create.specs.Files.{file_made, entry_made, IsSound, IsOfVolume};
 
@@ -86,13 +86,13 @@ pub(crate) fn clusters_for(g: &Geometry, blocks: u32) -> u32
     (blocks + (g.cluster - 1)) / g.cluster
 }
 
-/// What a file costs its owner: its blocks, and one more.
-pub(crate) fn cost_of(g: &Geometry, f: &NewFile<'_>) -> u32
+/// What a file of so many clusters, at most 77, costs its owner: its blocks, and one more.
+pub(crate) fn cost_of(g: &Geometry, clusters: u32) -> u32
     requires geometry { IsGeometry g.now }
-    requires sound { IsSound g.now f.now }
-    ensures { result ≡ cost_of g.now (file_made f.now) }
+    requires few { clusters ≤ 77 }
+    ensures { result ≡ g.now.cluster * clusters + 1 }
 {
-    g.cluster * f.clusters + 1
+    g.cluster * clusters + 1
 }
 
 // The last sequence that a slot tells.
@@ -145,6 +145,9 @@ fn fields_for(g: &Geometry, n: u32, f: &NewFile<'_>) -> Hdr
         mark: f.mark,
         end: f.end,
         byte: 0,
+        seg: 0,
+        ext: 0,
+        ext_seq: 0,
     }
 }
 

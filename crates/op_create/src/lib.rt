@@ -10,6 +10,7 @@ mod operation;
 #[cfg(test)]
 mod plan_tests;
 mod quotas;
+mod slots;
 #[cfg(test)]
 mod tests;
 mod writing;

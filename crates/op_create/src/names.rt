@@ -10,7 +10,8 @@ ghost use Rattle.op_law.specs.Rows.{in_directory, live_in};
 ghost use Rattle.op_law.specs.Moving.{SeenDir, through_names, is_full};
 ghost use Rattle.op_law.specs.Entering.{create_refusals, mkdir_refusals};
 ghost use Rattle.op_law.specs.Readable.{AreInside, HeadIsInside};
-ghost use Rattle.op_create.specs.Names.{behind_names, ShowsReadable, IsDirectory, IsNumbered};
+ghost use Rattle.op_law.specs.Behind.{FollowsBy};
+ghost use Rattle.op_create.specs.Names.{behind_names, FollowsNames, ShowsReadable, IsDirectory, IsNumbered};
 
 use lock_db::LockName;
 use op_law::{
@@ -51,6 +52,7 @@ fn blocks_listed<'a>(alloc: Global, dir: Fid, head: &'a Block, rest: Rest<'a>) -
     ensures readable { ShowsReadable result }
     ensures of { IsDirectory dir result }
     ensures need { (next : SeenDir → Events) (space : Space) → following (in_directory dir head.now (λ bs. next (record { fid = dir; head = head.now; blocks = bs })) (live_in dir.seq head.now)) rest.entry.locks.now rest.entry.blocks.now space ≡ behind_names next space result }
+    ensures follows { (next : SeenDir → Events) (space : Space) → FollowsBy (in_directory dir head.now (λ bs. next (record { fid = dir; head = head.now; blocks = bs })) (live_in dir.seq head.now)) rest.entry space → FollowsNames next space result }
 {
     let Some(h) = live_in(head, dir.seq) else {
         return Names::Next(refused(alloc, Refusal::NoSuchFile));
@@ -79,6 +81,7 @@ pub fn names_seen<'a>(alloc: Global, g: &Geometry, dir: Fid, rest: Rest<'a>) -> 
     ensures readable { ShowsReadable result }
     ensures number { IsNumbered g.now result }
     ensures need { (next : SeenDir → Events) (space : Space) → following (through_names g.now dir next) rest.entry.locks.now rest.entry.blocks.now space ≡ behind_names next space result }
+    ensures follows { (next : SeenDir → Events) (space : Space) → FollowsBy (through_names g.now dir next) rest.entry space → FollowsNames next space result }
 {
     if !is_number(g, dir) {
         return Names::Next(refused(alloc, Refusal::NoSuchFile));

@@ -43,6 +43,9 @@ fn head() -> Result<Block, Fail>
         mark: 0,
         end: 3,
         byte: 0,
+        seg: 0,
+        ext: 0,
+        ext_seq: 0,
     };
     let mut head = new_header(&fields, b"Z.DIR;1", (4, 4));
     if !set_runs(&mut head, &[Run { lbn: 50, count: 2 }]) {

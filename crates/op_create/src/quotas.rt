@@ -12,11 +12,11 @@ ghost use Rattle.vol_spell.specs.Reading.{quota_places};
 ghost use Rattle.op_law.specs.Events.{Events, Space, following};
 ghost use Rattle.op_law.specs.Writing.{holding};
 ghost use Rattle.op_law.specs.Quotas.{through_quota, rows_seen, block_with, row_seen, is_row_of, row_place, owner_write, row_charged};
-ghost use Rattle.op_law.specs.Behind.{behind_all, blocks_alone, HasAtMost};
+ghost use Rattle.op_law.specs.Behind.{behind_all, blocks_alone, FollowsBy, FollowsAll, HasAtMost};
 
 use fx_quota::{Row, row, set_row};
 use lock_db::LockName;
-use op_law::{Granted, Listed, NoMemory, PlanWrite, Rest, Writes, blocks_seen, lock_seen};
+use op_law::{Granted, Listed, NoMemory, Numbers, PlanWrite, Rest, Writes, blocks_seen, lock_seen};
 use plain_cat::{Clusters, Mode, QuotaRows, Stage, Uic};
 use std::alloc::Global;
 use vol_parts::{Geometry, push_rows, sorted_rows};
@@ -39,6 +39,7 @@ pub fn quota_seen<'a>(g: &Geometry, mode: Mode, rest: Rest<'a>) -> Listed<'a>
     requires { IsGeometry g.now }
     ensures few { HasAtMost g.now.cluster result }
     ensures need { (next : List Block → Events) (space : Space) → following (through_quota g.now mode next) rest.entry.locks.now rest.entry.blocks.now space ≡ behind_all next space result }
+    ensures follows { (next : List Block → Events) (space : Space) → FollowsBy (through_quota g.now mode next) rest.entry space → FollowsAll next space result }
 {
     match lock_seen(LockName::Q, mode, rest) {
         Granted::Next(need) => Listed::Next(need),
@@ -146,6 +147,7 @@ pub fn push_charge(
         block: charged_block(quota, j, k),
         stage: Stage::Charged,
         clusters: clusters.copy(alloc)?,
+        numbers: Numbers::new(alloc),
         number,
     })
 }

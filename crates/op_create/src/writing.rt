@@ -22,7 +22,7 @@ use crate::names::DirSeen;
 use crate::quotas::push_charge;
 use fx_dir::{DirFault, Move, RawEnt, RawName, insert_moves, packed, read_dir};
 use lock_db::LockName;
-use op_law::{NoMemory, PlanWrite, Writes, blocks_of, header_lbn, place_in};
+use op_law::{NoMemory, Numbers, PlanWrite, Writes, blocks_of, header_lbn, place_in};
 use plain_cat::{Blocks, Clusters, DirEnt, Fid, Stage};
 use std::alloc::{AllocError, Global};
 use vol_parts::Geometry;
@@ -80,12 +80,15 @@ fn move_write(alloc: Global, d: &DirSeen<'_>, m: &Move, stage: Stage) -> PlanWri
     ensures { result ≡ move_write (dir_seen d.now) stage m.now }
 {
     let at = m.vbn.saturating_sub(1) as usize;
+    let clusters = Clusters::new(alloc);
+    let numbers = Numbers::new(alloc);
     PlanWrite {
         lock: LockName::S(d.fid.num),
         lbn: place_in(d.head, at).unwrap_or(0),
         block: m.block,
         stage,
-        clusters: Clusters::new(alloc),
+        clusters,
+        numbers,
         number: None,
     }
 }
@@ -137,6 +140,7 @@ fn push_cluster(
             block: *block,
             stage: Stage::Charged,
             clusters: clusters.copy(alloc)?,
+            numbers: Numbers::new(alloc),
             number: Some(n),
         })?;
     }
@@ -202,6 +206,7 @@ fn push_header(
         block: header_block(alloc, g, parent, n, f, clusters)?,
         stage: Stage::Lost,
         clusters: Clusters::new(alloc),
+        numbers: Numbers::new(alloc),
         number: None,
     })
 }
@@ -248,7 +253,7 @@ pub(crate) fn making_writes(
         g,
         quota,
         f.owner,
-        cost_of(g, f),
+        cost_of(g, f.clusters),
         clusters,
         Some(n),
     )?;

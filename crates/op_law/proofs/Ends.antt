@@ -1,5 +1,5 @@
 -- What is outside after the writes of a plan, and the stage after them.
-use Rattle.std.proofs.Common.{◌≡◌, ◌∙◌, ◌<◌, ◌-◌, ℕ, zero, suc, Bool, true, false, cond, List, [], ◌∷◌, ◌++◌, Option, Some, None, map, length, take, drop, refl, ap, subst, arith}
+use Rattle.std.proofs.Common.{◌≡◌, ◌∙◌, ◌<◌, ◌-◌, ℕ, zero, suc, Bool, true, false, cond, List, [], ◌∷◌, ◌++◌, Option, Some, None, map, length, take, drop, refl, sym, ap, subst, inl, inr, arith}
 use Rattle.std.specs.Prelude.{MatchBool}
 use Rattle.vol_words.specs.Fields.{Block}
 use Rattle.fx_dir.specs.declared.Move.{Move}
@@ -10,14 +10,16 @@ use Rattle.plain_cat.specs.declared.history.Stage.{Stage}
 use Rattle.plain_cat.specs.declared.reply.Refusal.{Refusal}
 use Rattle.plain_cat.specs.declared.reply.Refusal.TheVariants as refusal
 use Rattle.vol_owners.specs.Owners.{Things, nothing}
+use Rattle.vol_owners.proofs.Listing.{has_parted}
 use Rattle.vol_under.specs.UnderWay.{stage_after, outs_after}
 use Rattle.op_law.specs.declared.need.Need.TheVariants as need
 use Rattle.op_law.specs.declared.need.Plan.{Plan}
 use Rattle.op_law.specs.declared.need.PlanWrite.{PlanWrite}
+use Rattle.op_law.specs.declared.need.Ask.{Ask}
 use Rattle.op_law.specs.Events.{Events, Take, Look, Fetch, Find, Make, Space, has_space, HasNoSpace, IsGiven, following, Follows}
 use Rattle.op_law.specs.Moving.{SeenDir, move_write, insertion_moves, insertion_writes}
 use Rattle.op_law.specs.Fits.{things}
-use Rattle.op_law.specs.Laws.{planned}
+use Rattle.op_law.specs.Laws.{planned, KeepsOut}
 
 -- ---- writes behind writes
 
@@ -59,7 +61,31 @@ pub insertion_stage : (d : SeenDir) (e : DirEnt) (s before after : Stage) → le
 unfolding insertion_writes
 insertion_stage d e s before after lt = let ms = insertion_moves d e in moves_stage d s before after ms (length ms - 1) lt
 
+-- ---- what is outside after each write
+
+module _ (given : Things) (locks : List LockName) where
+  -- writes behind writes
+  pub both_kept : (vs ws : List PlanWrite) → KeepsOut given locks vs → KeepsOut given locks ws → KeepsOut given locks (vs ++ ws)
+  both_kept vs ws first behind w t = elim (has_parted vs ws w t) [ inl h ↦ first w h | inr h ↦ behind w h ]
+
+  moves_kept : (d : SeenDir) (s : Stage) (ms : List Move) → KeepsOut given locks (map (move_write d s) ms)
+  moves_kept d s [] w t = absurd t
+  moves_kept d s (m ∷ ms) w (inl e) = inl (ap (λ (v : PlanWrite). (planned v).outs) (sym e))
+  moves_kept d s (m ∷ ms) w (inr t) = moves_kept d s ms w t
+
+  pub insertion_kept : (d : SeenDir) (e : DirEnt) (before after : Stage) → KeepsOut given locks (insertion_writes d e before after)
+  unfolding insertion_writes
+  insertion_kept d e before after =
+      let ms = insertion_moves d e in
+      both_kept (map (move_write d before) (take (length ms - 1) ms)) (map (move_write d after) (drop (length ms - 1) ms))
+      (moves_kept d before (take (length ms - 1) ms)) (moves_kept d after (drop (length ms - 1) ms))
+
 -- ---- what every plan leaves outside
+
+-- after the writes of a plan nothing is outside, where this was taken, nor after those before its ask
+abbrev pub LeavesNothing : Things → Plan → Option Ask → Type 0
+LeavesNothing took p None = outs_after took (map planned p.writes) ≡ nothing
+LeavesNothing took p (Some a) = (outs_after took (map planned p.writes) ≡ nothing) × (outs_after took (map planned (take a.at p.writes)) ≡ nothing)
 
 -- each plan leaves nothing outside, where this was taken and where what holds at its place in the events holds
 abbrev pub EndsBy : Things → Type 0 → Events → Type 0
@@ -68,14 +94,14 @@ EndsBy took given (Look name lbn next) = (b : Block) → EndsBy took given (next
 EndsBy took given (Fetch lbn next) = (b : Block) → EndsBy took given (next b)
 EndsBy took given (Find clusters number next) =
     (cs : List ℕ) (n : Option ℕ) (short : Option Refusal) → has_space clusters number (record { clusters = cs; number = n; short = short }) ≡ true → EndsBy (things cs n) (IsGiven cs n short) (next cs n short)
-EndsBy took given (Make plan) = given → outs_after took (map planned plan.writes) ≡ nothing
+EndsBy took given (Make plan) = given → LeavesNothing took plan plan.ask
 
 module _ (space : Space) (p : Plan) where
   abbrev took : Things
   took = things space.clusters space.number
 
   abbrev IsLeft : Type 0
-  IsLeft = outs_after took (map planned p.writes) ≡ nothing
+  IsLeft = LeavesNothing took p p.ask
 
   pub left_by : (es : Events) (given : Type 0) (locks : List (LockName × Mode)) (blocks : List (ℕ × Block)) → EndsBy took given es → Follows es locks blocks space given → following es locks blocks space ≡ need.Ready p → IsLeft
   left_by (Take name mode next) given [] blocks ends f e = absurd (let k : need.Lock name mode ≡ need.Ready p = e in cc)
@@ -96,7 +122,7 @@ module _ (space : Space) (p : Plan) where
   left_by (Make plan) given locks blocks ends f e =
       let k : need.Ready plan ≡ need.Ready p = e in
       let same : plan ≡ p = cc in
-      subst (λ (q : Plan). outs_after took (map planned q.writes) ≡ nothing) same (ends f.2)
+      subst (λ (q : Plan). LeavesNothing took q q.ask) same (ends f.2)
 
 -- before a search nothing was given
 pub nothing_given : (space : Space) → HasNoSpace space → things space.clusters space.number ≡ nothing

@@ -1,5 +1,5 @@
 -- The next need where some of the first events are seen.
-use Rattle.std.proofs.Common.{◌≡◌, ◌≤◌, ◌-◌, ◌∙◌, ℕ, zero, suc, true, cond, List, [], ◌∷◌, Some, None, length, take, drop, slice_get, min, refl, sym, ap, arith}
+use Rattle.std.proofs.Common.{◌≡◌, ◌≤◌, ◌-◌, ◌∙◌, ℕ, zero, suc, true, cond, List, [], ◌∷◌, Some, None, length, take, drop, slice_get, min, refl, sym, ap, subst, arith}
 use Rattle.std.proofs.lemmas.List.{take_rest}
 use Rattle.vol_words.specs.Fields.{Block}
 use Rattle.lock_db.specs.declared.name.LockName.{LockName}
@@ -10,7 +10,7 @@ use Rattle.plain_cat.specs.declared.reply.Refusal.TheVariants as refusal
 use Rattle.vol_parts.specs.declared.geometry.Geometry.{Geometry}
 use Rattle.vol_spell.specs.Reading.{header_place}
 use Rattle.op_law.specs.declared.need.Need.TheVariants as need
-use Rattle.op_law.specs.Events.{Events, Take, Look, Space, following}
+use Rattle.op_law.specs.Events.{Events, Take, Look, Space, following, Follows}
 use Rattle.op_law.specs.Rows.{is_number, refuses, look_all, through_header}
 use Rattle.op_law.specs.Behind.{blocks_alone}
 
@@ -44,8 +44,33 @@ all_seen_to name ls next locks blocks space count all size none is =
     ∙ ap (λ n. following (next (blocks_alone (take n blocks))) locks (drop n blocks) space) e
     ∙ ap (λ bs. following (next (blocks_alone (take all blocks))) locks bs space) (sym (take_rest blocks all))
 
+-- ---- and what was seen behind them
+
+all_follow : (name : LockName) (ls : List ℕ) (next : List Block → Events) (locks : List (LockName × Mode)) (blocks : List (ℕ × Block)) (space : Space) (given : Type 0)
+    → slice_get ls (length blocks) ≡ None → Follows (look_all name ls next) locks blocks space given → Follows (next (blocks_alone (take (length ls) blocks))) locks (drop (length ls) blocks) space given
+all_follow name [] next locks blocks space given none f = f
+all_follow name (y ∷ ls) next locks [] space given none f = absurd (let k : Some y ≡ None = none in cc)
+all_follow name (y ∷ ls) next locks (b ∷ blocks) space given none f = all_follow name ls (λ bs. next (b.1 ∷ bs)) locks blocks space given none f.1
+
+pub all_follow_to : (name : LockName) (ls : List ℕ) (next : List Block → Events) (locks : List (LockName × Mode)) (blocks : List (ℕ × Block)) (space : Space) (given : Type 0) (count all : ℕ)
+    → length ls ≡ count → slice_get ls (length blocks) ≡ None → all ≡ min count (length blocks) → Follows (look_all name ls next) locks blocks space given
+    → Follows (next (blocks_alone (take all blocks))) locks (take (length blocks - all) (drop all blocks)) space given
+all_follow_to name ls next locks blocks space given count all size none is f =
+    let le = no_fewer ls (length blocks) none in
+    let e : length ls ≡ all = omega arith in
+    let there = all_follow name ls next locks blocks space given none f in
+    subst (λ bs. Follows (next (blocks_alone (take all blocks))) locks bs space given) (sym (take_rest blocks all))
+    (subst (λ n. Follows (next (blocks_alone (take n blocks))) locks (drop n blocks) space given) e there)
+
+-- ---- a header
+
 -- a file's lock and its header, where the number is one of the volume's
 pub through_number : (g : Geometry) (fid : Fid) (mode : Mode) (next : Block → Events) (locks : List (LockName × Mode)) (blocks : List (ℕ × Block)) (space : Space) → is_number g fid ≡ true
     → following (through_header g fid mode next) locks blocks space ≡ following (Take (S fid.num) mode (Look (S fid.num) (header_place g fid.num) next)) locks blocks space
 through_number g fid mode next locks blocks space e =
     ap (λ t. following (cond t (Take (S fid.num) mode (Look (S fid.num) (header_place g fid.num) next)) (refuses refusal.NoSuchFile)) locks blocks space) e
+
+pub through_follows : (g : Geometry) (fid : Fid) (mode : Mode) (next : Block → Events) (locks : List (LockName × Mode)) (blocks : List (ℕ × Block)) (space : Space) (given : Type 0) → is_number g fid ≡ true
+    → Follows (through_header g fid mode next) locks blocks space given → Follows (Take (S fid.num) mode (Look (S fid.num) (header_place g fid.num) next)) locks blocks space given
+through_follows g fid mode next locks blocks space given e f =
+    subst (λ t. Follows (cond t (Take (S fid.num) mode (Look (S fid.num) (header_place g fid.num) next)) (refuses refusal.NoSuchFile)) locks blocks space given) e f

@@ -12,4 +12,8 @@ pub mod Meeting
 pub mod Ends
 pub mod Refusals
 pub mod Spaces
+pub mod Naming
 pub mod Doing
+pub mod Asking
+pub mod Ordering
+pub mod Versions

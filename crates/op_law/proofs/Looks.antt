@@ -14,7 +14,7 @@ use Rattle.vol_owners.specs.Owners.{Owners}
 use Rattle.vol_parts.specs.declared.geometry.Geometry.{Geometry}
 use Rattle.vol_parts.specs.declared.geometry.Part.TheVariants.{Header}
 use Rattle.vol_parts.specs.Volumes.{fields_in}
-use Rattle.vol_parts.specs.Catalogues.{is_structure}
+use Rattle.vol_parts.specs.Catalogues.{is_structure, file_of}
 use Rattle.vol_parts.specs.Fatal.{is_system_header}
 use Rattle.vol_spell.specs.Reading.{IsFileNumber, owner_at, header_place, header_block, fields_told, runs_told}
 use Rattle.vol_spell.specs.Bodies.{IsOfBody}
@@ -23,15 +23,19 @@ use Rattle.vol_spell.proofs.Parts.{part_there, part_owned}
 use Rattle.vol_spell.proofs.Frames.{of_body, on_volume}
 use Rattle.vol_spell.proofs.Told.{no_dir, no_directory, which_structure}
 use Rattle.vol_under.specs.Guards.{Lock, guard_by, guard_of}
+use Rattle.op_law.specs.Laws.{IsCacheable, Fixed, OfDirectory}
+use Rattle.op_law.proofs.Telling.{file_blocks, file_told_at}
 
--- a block of the volume that the lock of a file guards
-pub record IsUnder (g : Geometry) (bs : List Block) (own : Owners) (n l : ℕ) : Type 0 where
+-- a block of the volume that the lock of a file guards, and that may be cached
+pub record IsUnder (g : Geometry) (bs : List Block) (own : Owners) (c : Cat) (n l : ℕ) : Type 0 where
+  pub kind : IsCacheable g own c l
   pub guard : guard_of g own l ≡ Some (Lock (S n))
   pub within : l < length bs
 
 module _ (g : Geometry) (bs : List Block) (own : Owners) (c : Cat) (s : Spells g bs own c) where
-  pub header_under : (n : ℕ) → IsFileNumber g n → IsUnder g bs own n (header_place g n)
+  pub header_under : (n : ℕ) → IsFileNumber g n → IsUnder g bs own c n (header_place g n)
   header_under n is = record {
+    kind = Fixed (Header n) (part_there g bs own c s (Header n) is);
     guard = ap (λ p. guard_by p (owner_at g own (header_place g n))) (part_there g bs own c s (Header n) is);
     within = on_volume g bs own c s (header_place g n) (InFile 1) (part_owned g bs own c s (Header n) is);
   }
@@ -55,11 +59,12 @@ module _ (g : Geometry) (bs : List Block) (own : Owners) (c : Cat) (s : Spells g
         absurd (cc)
 
   pub block_under : (n l : ℕ) (h : Hdr) → IsFileNumber g n → header_read (header_block g bs n) ≡ Ok (head.Used h) → h.dir ≡ true
-      → Has (lbns_in (runs_told (header_block g bs n))) l → IsUnder g bs own n l
+      → Has (lbns_in (runs_told (header_block g bs n))) l → IsUnder g bs own c n l
   block_under n l h is e d t =
       let P : Bool → Type 0 = λ k. Has (cond k [] (lbns_in (runs_told (header_block g bs n)))) l in
       let o : IsOfBody g bs own n l = of_body g bs own c s n l is (subst P (sym (plain_directory n h e d)) t) in
       record {
+        kind = OfDirectory n (file_of g.cluster n h (file_blocks bs (header_block g bs n))) (file_told_at g bs own c s n h is e) d o.owned;
         guard = ap (λ p. guard_by p (owner_at g own l)) o.no_part ∙ ap (λ x. guard_by None x) o.owned;
         within = o.within;
       }

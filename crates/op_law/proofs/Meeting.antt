@@ -24,7 +24,7 @@ use Rattle.op_law.specs.declared.need.Need.TheVariants as need
 use Rattle.op_law.specs.declared.seen.Seen.{Seen}
 use Rattle.op_law.specs.Events.{space_of, HasNoSpace}
 use Rattle.op_law.specs.Needs.{need_of, IsNext}
-use Rattle.op_law.specs.Knows.{channel_of, has_channel, is_new_number, is_short, may_ask, changes_usage, is_charged, knows}
+use Rattle.op_law.specs.Knows.{channel_of, has_channel, is_new_number, wanted, is_short, may_ask, changes_usage, is_charged, knows}
 use Rattle.op_law.specs.Fits.{things, FitsOn, FitsSeen}
 use Rattle.op_law.specs.Going.{with_lock, with_block, IsLookAt}
 use Rattle.op_law.specs.Laws.{Lawful}
@@ -60,7 +60,7 @@ knows_first : (x : Cmd) (seen : Seen) (c : Cat) → Accounted c → seen.channel
 knows_first x seen c accounted no_channel none = both _ _
     (ap (λ k. has_channel (closed c) 0 (channel_of x) k) no_channel ∙ nothing_open c (channel_of x))
     (both _ _ (ap is_new_number none.number)
-    (both _ _ (ap (λ r. is_short (closed c) x r) none.short)
+    (both _ _ (ap (λ r. is_short (closed c) (wanted seen x) r) none.short)
     (both _ _ (where_so (changes_usage x) _ (all_charged (closed c) c.quota accounted.usage)) (where_so (may_ask x) true refl))))
 
 -- ---- what was seen

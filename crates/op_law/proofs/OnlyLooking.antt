@@ -7,7 +7,7 @@ use Rattle.plain_cat.specs.declared.reply.Reply.{Reply}
 use Rattle.plain_cat.specs.declared.reply.Reply.TheVariants as reply
 use Rattle.plain_cat.specs.declared.cat.Cat.{Cat}
 use Rattle.plain_vol.specs.Answers.{Answer}
-use Rattle.vol_owners.specs.Lists.{Touches}
+use Rattle.vol_owners.specs.Lists.{Has, Touches}
 use Rattle.vol_owners.specs.Owners.{Owners, nothing}
 use Rattle.vol_parts.specs.declared.geometry.Geometry.{Geometry}
 use Rattle.vol_spell.specs.Spelling.{Spells}
@@ -24,7 +24,7 @@ use Rattle.op_law.specs.Knows.{channel_of, has_channel, knows}
 use Rattle.op_law.specs.Fits.{things}
 use Rattle.op_law.specs.Laws.{planned, under_way, IsRight, WritesNothing, IsPlan, Lawful}
 use Rattle.op_law.proofs.Replying.{looks_reply}
-use Rattle.op_law.proofs.Walking.{EveryPlan, every_plan, AnySpace, Obeys, kept, next_fine, may_need}
+use Rattle.op_law.proofs.Walking.{EveryPlan, every_plan, Obeys, kept, next_fine, may_need}
 
 -- a plan that writes nothing and asks for nothing
 pub record IsPlain (p : Plan) : Type 0 where
@@ -39,7 +39,7 @@ IsAnswer x channel c p = (node : ℕ) → has_channel c node (channel_of x) chan
 pub record OnlyLooks (x : Cmd) : Type 0 where
   pub searches : (g : Geometry) (channel : Option Chan) → HasNoSearch (events_of g channel x)
   pub plain : (g : Geometry) (channel : Option Chan) → EveryPlan IsPlain (events_of g channel x)
-  pub obeys : (g : Geometry) (channel : Option Chan) (bs : List Block) (own : Owners) (c : Cat) → Spells g bs own c → Obeys x g bs own (IsAnswer x channel c) (events_of g channel x) []
+  pub obeys : (g : Geometry) (channel : Option Chan) (seen : Seen) (bs : List Block) (own : Owners) (c : Cat) → Spells g bs own c → Obeys x g bs own c seen (IsAnswer x channel c) (events_of g channel x) []
 
 none_once : (es : Events) → HasNoSearch es → SearchesOnce es
 none_once (Take name mode next) none = none_once next none
@@ -69,14 +69,17 @@ module _ (x : Cmd) (looks : OnlyLooks x) where
     took_nothing : things seen.clusters seen.number ≡ nothing
     took_nothing = ap (λ n. things seen.clusters n) none.number ∙ ap (λ cs. things cs None) none.clusters
 
-    right : IsRight node x seen.geometry (under_way x seen p.writes (knows node x seen)) p.reply
+    right : IsRight node x seen.geometry p.writes (under_way x seen p.writes (knows node x seen)) p.reply
     right =
         let u = under_way x seen p.writes (knows node x seen) in
         record {
+          named = λ base own c stock spelt known stands outs w h. absurd (subst (λ ws. Has ws w) is_plain.writes h);
+          dirs = λ base own c stock spelt known stands outs w h. absurd (subst (λ ws. Has ws w) is_plain.writes h);
+          kept_out = λ base own c stock spelt known stands outs w h. absurd (subst (λ ws. Has ws w) is_plain.writes h);
           guarded = λ base own c stock spelt known stands outs l touches. absurd (subst (λ ws. Touches (bare ws) l) no_writes touches);
           lawful = idle_lawful seen.geometry node u no_writes;
           reply = looks_reply seen.geometry node u x p.reply no_writes (λ base own c spelt knows stands.
-              next_fine x seen base own AnySpace (λ held. IsAnswer x seen.channel c) (need.Ready p) (once seen.geometry seen.channel) (looks.obeys seen.geometry seen.channel base own c spelt) tt stands has is
+              next_fine x seen base own c (λ held. IsAnswer x seen.channel c) (need.Ready p) (once seen.geometry seen.channel) (looks.obeys seen.geometry seen.channel seen base own c spelt) stands has is
               node (both_first (has_channel c node (channel_of x) seen.channel) _ knows));
           left = ap (λ ws. outs_after (things seen.clusters seen.number) ws) no_writes ∙ took_nothing;
         }
@@ -93,8 +96,8 @@ module _ (x : Cmd) (looks : OnlyLooks x) where
   pub only_looks_lawful : Lawful x
   only_looks_lawful = record {
     searches = once;
-    needs = λ node seen bs own c next has on is. may_need x seen bs own AnySpace (λ held. IsAnswer x seen.channel c) next
-        (next_fine x seen bs own AnySpace (λ held. IsAnswer x seen.channel c) next (once seen.geometry seen.channel) (looks.obeys seen.geometry seen.channel bs own c on.spelt) tt on.stands has is);
+    needs = λ node seen bs own c next has on is. may_need x seen bs own c (λ held. IsAnswer x seen.channel c) next
+        (next_fine x seen bs own c (λ held. IsAnswer x seen.channel c) next (once seen.geometry seen.channel) (looks.obeys seen.geometry seen.channel seen bs own c on.spelt) on.stands has is);
     plans = plan;
     refusals = λ seen p has is. nothing_written 0 seen p has is;
   }

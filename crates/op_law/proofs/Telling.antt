@@ -12,10 +12,10 @@ use Rattle.fx_header.specs.declared.slot.Slot.TheVariants as head
 use Rattle.fx_header.specs.declared.slot.HeaderFault.{HeaderFault}
 use Rattle.fx_header.specs.Headers.{header_read, runs_in, fields_of}
 use Rattle.fx_header.specs.Pointers.{lbns_in}
-use Rattle.fx_header.proofs.SoundLemmas.{reads-sound, ends-of}
+use Rattle.fx_header.proofs.SoundLemmas.{reads-sound, blocks-of}
 use Rattle.plain_cat.specs.declared.ids.Fid.{Fid}
 use Rattle.plain_cat.specs.declared.cat.Cat.{Cat}
-use Rattle.plain_vol.specs.Lookups.{slot_at, file_in, of_seq, unmarked, live}
+use Rattle.plain_vol.specs.Lookups.{slot_at, file_in, file_at, of_seq, unmarked, live}
 use Rattle.vol_owners.specs.Owners.{Owners}
 use Rattle.vol_owners.specs.Places.{blocks_at}
 use Rattle.vol_owners.proofs.Placing.{spread_places}
@@ -48,7 +48,7 @@ pub blocks_said : (b : Block) (h : Hdr) → header_read b ≡ Ok (head.Used h) �
 unfolding fields_of
 blocks_said b h e =
     let sound = reads-sound b h e in
-    length-lbns_in (runs_in b) ∙ (ends-of b sound.ends).blocks ∙ ap (λ (x : Hdr). x.blocks) sound.fields
+    length-lbns_in (runs_in b) ∙ blocks-of b sound.size ∙ ap (λ (x : Hdr). x.blocks) sound.fields
 
 quotient : (k w : ℕ) → 1 ≤ w → k * w / w ≡ k
 quotient k w low = ap (λ x. x / w) (let z : k * w ≡ k * w + 0 = omega arith in z) ∙ div-mul-add k w 0 (omega arith)
@@ -106,6 +106,10 @@ module _ (g : Geometry) (bs : List Block) (own : Owners) (c : Cat) (s : Spells g
       let z : (n == 0) ≡ false = grind (arith, nat_tests) in
       ap (λ x. cond x None (slice_get c.files (n - 1))) z ∙ ap (λ xs. slice_get xs (n - 1)) t.files ∙ listed_slot n is
       ∙ ap (λ x. Some x) (slot_there_of (volume_of g bs) n (header_block g bs n) (file_blocks bs (header_block g bs n)) (t.heads n is) (t.bodies n is))
+
+  -- the file of a number whose header is in use
+  pub file_told_at : (n : ℕ) (h : Hdr) → IsFileNumber g n → header_read (header_block g bs n) ≡ Ok (head.Used h) → file_at c n ≡ Some (file_of g.cluster n h (file_blocks bs (header_block g bs n)))
+  file_told_at n h is e = ap file_in (slot_is n is) ∙ ap (λ r. file_in (Some (slot_with g.cluster n r (file_blocks bs (header_block g bs n))))) e
 
   -- the live file under an identifier, by the header of its number
   pub live_is : (fid : Fid) → IsFileNumber g fid.num

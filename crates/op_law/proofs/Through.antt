@@ -35,10 +35,12 @@ use Rattle.vol_spell.proofs.Parts.{part_there, part_owned}
 use Rattle.vol_spell.proofs.Frames.{on_volume}
 use Rattle.vol_under.specs.Guards.{guard_by}
 use Rattle.op_law.specs.declared.need.Plan.{Plan}
-use Rattle.op_law.specs.Events.{Events, Take, Look, Space}
+use Rattle.op_law.specs.declared.seen.Seen.{Seen}
+use Rattle.op_law.specs.Events.{Events, Take, Look}
 use Rattle.op_law.specs.Rows.{plain_plan, refuses, is_number, live_in, places_in, look_all, through_header, in_directory, through_directory, entries_seen}
 use Rattle.op_law.specs.Quotas.{through_quota}
-use Rattle.op_law.specs.Laws.{held_in, IsLockedLook}
+use Rattle.op_law.specs.Order.{IsBefore}
+use Rattle.op_law.specs.Laws.{held_in, ComesInTurn, Fixed, IsLockedLook}
 use Rattle.op_law.proofs.Heads.{header_is}
 use Rattle.op_law.proofs.Telling.{live_reads, reads_runs, file_blocks, live_is, not_live, number_is}
 use Rattle.op_law.proofs.Looks.{IsUnder, header_under, block_under}
@@ -105,14 +107,18 @@ pub record IsListed (g : Geometry) (bs : List Block) (c : Cat) (fid : Fid) (f : 
 
 -- ---- what a command may need
 
-module _ (x : Cmd) (g : Geometry) (bs : List Block) (own : Owners) (c : Cat) (s : Spells g bs own c) (Given : Space → Type 0) (P : List (LockName × Mode) → Plan → Type 0) where
+module _ (x : Cmd) (g : Geometry) (bs : List Block) (own : Owners) (c : Cat) (s : Spells g bs own c) (seen : Seen) (P : List (LockName × Mode) → Plan → Type 0) where
   abbrev O : Events → List (LockName × Mode) → Type 0
-  O es held = ObeysBy x g bs own Given P es held
+  O es held = ObeysBy x g bs own c seen P es held
 
   abbrev IsNew : List (LockName × Mode) → LockName → Type 0
   IsNew held name = Has (map (λ l. l.0) held) name → ⊥
 
-  pub all_obeys : (name : LockName) (held : List (LockName × Mode)) (ls : List ℕ) (next : List Block → Events) → ((l : ℕ) → Has ls l → IsLockedLook g bs own held name l)
+  -- it comes behind all of these locks
+  abbrev IsBehind : List (LockName × Mode) → LockName → Type 0
+  IsBehind held name = (other : LockName) → Has (map (λ l. l.0) held) other → IsBefore c other name
+
+  pub all_obeys : (name : LockName) (held : List (LockName × Mode)) (ls : List ℕ) (next : List Block → Events) → ((l : ℕ) → Has ls l → IsLockedLook g bs own c held name l)
       → O (next (blocks_at bs ls)) held → O (look_all name ls next) held
   all_obeys name held [] next guarded o = o
   all_obeys name held (l ∷ ls) next guarded o = (
@@ -122,14 +128,14 @@ module _ (x : Cmd) (g : Geometry) (bs : List Block) (own : Owners) (c : Cat) (s 
   )
 
   module _ (held : List (LockName × Mode)) (mode : Mode) (allowed : Has (PR ∷ PW ∷ []) mode) where
-    under : (n l : ℕ) → IsUnder g bs own n l → IsLockedLook g bs own (held ++ (S n, mode) ∷ []) (S n) l
-    under n l u = record { guard = u.guard; held = last_held held (S n) mode allowed; within = u.within }
+    under : (n l : ℕ) → IsUnder g bs own c n l → IsLockedLook g bs own c (held ++ (S n, mode) ∷ []) (S n) l
+    under n l u = record { kind = u.kind; guard = u.guard; held = last_held held (S n) mode allowed; within = u.within }
 
     -- behind the lock of a number and the header there
-    pub number_obeys : (n : ℕ) (next : Block → Events) → IsNew held (S n) → IsFileNumber g n → O (next (header_block g bs n)) (held ++ (S n, mode) ∷ [])
+    pub number_obeys : (n : ℕ) (next : Block → Events) → IsNew held (S n) → ComesInTurn held seen.number (S n) → IsBehind held (S n) → IsFileNumber g n → O (next (header_block g bs n)) (held ++ (S n, mode) ∷ [])
         → O (Take (S n) mode (Look (S n) (header_place g n) next)) held
-    number_obeys n next new is behind = (
-      record { new = new; in_mode = allowed; own = refl },
+    number_obeys n next new turn after is behind = (
+      record { new = new; in_mode = allowed; own = refl; turn = turn; after = after },
       (
         under n (header_place g n) (header_under g bs own c s n is),
         λ b at. subst (λ y. O (next y) (held ++ (S n, mode) ∷ [])) (header_is g bs n (header_place g n) b refl at) behind,
@@ -137,7 +143,7 @@ module _ (x : Cmd) (g : Geometry) (bs : List Block) (own : Owners) (c : Cat) (s 
     )
 
     -- behind Q and the quota blocks
-    quota_under : (l : ℕ) → Has (quota_places g) l → IsLockedLook g bs own (held ++ (Q, mode) ∷ []) Q l
+    quota_under : (l : ℕ) → Has (quota_places g) l → IsLockedLook g bs own c (held ++ (Q, mode) ∷ []) Q l
     quota_under l t =
         let within = has_ranged g.quota_lbn g.cluster l t in
         let k : ℕ = l - g.quota_lbn in
@@ -145,17 +151,18 @@ module _ (x : Cmd) (g : Geometry) (bs : List Block) (own : Owners) (c : Cat) (s 
         let high = within.1 in
         let lt : k < g.cluster = omega arith in
         let e : place_of g (Quota k) ≡ l = (let z : g.quota_lbn + (l - g.quota_lbn) ≡ l = omega arith in z) in
-        let R : ℕ → Type 0 = λ y. IsLockedLook g bs own (held ++ (Q, mode) ∷ []) Q y in
+        let R : ℕ → Type 0 = λ y. IsLockedLook g bs own c (held ++ (Q, mode) ∷ []) Q y in
         subst R e (record {
+          kind = Fixed (Quota k) (part_there g bs own c s (Quota k) lt);
           guard = ap (λ p. guard_by p (owner_at g own (place_of g (Quota k)))) (part_there g bs own c s (Quota k) lt);
           held = last_held held Q mode allowed;
           within = on_volume g bs own c s (place_of g (Quota k)) (InFile 10) (part_owned g bs own c s (Quota k) lt);
         })
 
-    pub quota_obeys : (next : List Block → Events) → IsNew held Q → O (next (blocks_at bs (quota_places g))) (held ++ (Q, mode) ∷ []) → O (through_quota g mode next) held
-    quota_obeys next new behind = (record { new = new; in_mode = allowed; own = refl }, all_obeys Q (held ++ (Q, mode) ∷ []) (quota_places g) next quota_under behind)
+    pub quota_obeys : (next : List Block → Events) → IsNew held Q → IsBehind held Q → O (next (blocks_at bs (quota_places g))) (held ++ (Q, mode) ∷ []) → O (through_quota g mode next) held
+    quota_obeys next new after behind = (record { new = new; in_mode = allowed; own = refl; turn = tt; after = after }, all_obeys Q (held ++ (Q, mode) ∷ []) (quota_places g) next quota_under behind)
 
-  module _ (fid : Fid) (held : List (LockName × Mode)) (new : IsNew held (S fid.num)) (mode : Mode) (allowed : Has (PR ∷ PW ∷ []) mode) where
+  module _ (fid : Fid) (held : List (LockName × Mode)) (new : IsNew held (S fid.num)) (turn : ComesInTurn held seen.number (S fid.num)) (after : IsBehind held (S fid.num)) (mode : Mode) (allowed : Has (PR ∷ PW ∷ []) mode) where
     -- the file's lock is held besides
     abbrev file_held : List (LockName × Mode)
     file_held = held ++ (S fid.num, mode) ∷ []
@@ -165,7 +172,7 @@ module _ (x : Cmd) (g : Geometry) (bs : List Block) (own : Owners) (c : Cat) (s 
         → (IsFileNumber g fid.num → O (next (header_block g bs fid.num)) file_held) → O (through_header g fid mode next) held
     header_obeys next out behind = by_number (is_number g fid) refl where
       by_number : (t : Bool) → is_number g fid ≡ t → O (cond t (Take (S fid.num) mode (Look (S fid.num) (header_place g fid.num) next)) (refuses refusal.NoSuchFile)) held
-      by_number true e = let is = number_is g fid e in number_obeys held mode allowed fid.num next new is (behind is)
+      by_number true e = let is = number_is g fid e in number_obeys held mode allowed fid.num next new turn after is (behind is)
       by_number false e = out e
 
     module _ (next : Block → List Block → Events) (none : live c fid ≡ None → (ls : List (LockName × Mode)) → P ls (plain_plan (reply.Refused refusal.NoSuchFile)))

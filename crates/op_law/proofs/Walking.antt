@@ -6,6 +6,7 @@ use Rattle.vol_words.specs.Fields.{Block}
 use Rattle.lock_db.specs.declared.name.LockName.{LockName}
 use Rattle.plain_cat.specs.declared.mode.Mode.{Mode}
 use Rattle.plain_cat.specs.declared.command.Cmd.{Cmd}
+use Rattle.plain_cat.specs.declared.cat.Cat.{Cat}
 use Rattle.plain_cat.specs.declared.reply.Refusal.{Refusal}
 use Rattle.vol_owners.specs.Lists.{StandsIn}
 use Rattle.vol_owners.specs.Owners.{Owners}
@@ -16,6 +17,7 @@ use Rattle.op_law.specs.declared.seen.Seen.{Seen}
 use Rattle.vol_parts.specs.declared.geometry.Geometry.{Geometry}
 use Rattle.op_law.specs.Events.{Events, Take, Look, Fetch, Find, Make, Space, space_of, has_space, HasNoSpace, IsGiven, HasNoSearch, SearchesOnce, following, Follows}
 use Rattle.op_law.specs.Needs.{events_of, IsNext}
+use Rattle.op_law.specs.Knows.{wanted}
 use Rattle.op_law.specs.Fits.{HasSeen}
 use Rattle.op_law.specs.Laws.{IsNewLock, IsLockedLook, IsGuardedLook, IsSearch, MayNeed}
 use Rattle.op_law.proofs.Going.{Ready, ready_more, ready}
@@ -58,24 +60,20 @@ every_plan P es locks blocks space p every e = subst (IsPlanSo P) e (every_need 
 
 -- ---- what a command may need on the blocks of a volume
 
-module _ (x : Cmd) (g : Geometry) (bs : List Block) (own : Owners) (S : Space → Type 0) (P : List (LockName × Mode) → Plan → Type 0) where
-  -- The events of the command, which holds these locks by then, are such as it may need on these blocks, and with space that is
-  -- so each plan that it may come to on them, holding locks, is so.
+module _ (x : Cmd) (g : Geometry) (bs : List Block) (own : Owners) (c : Cat) (seen : Seen) (P : List (LockName × Mode) → Plan → Type 0) where
+  -- The events of the command, which holds these locks by then, are such as it may need on these blocks, and with the space
+  -- that was given each plan that it may come to on them, holding locks, is so.
   abbrev pub ObeysBy : Events → List (LockName × Mode) → Type 0
-  ObeysBy (Take name mode next) held = IsNewLock x held name mode × ObeysBy next (held ++ (name, mode) ∷ [])
-  ObeysBy (Look name lbn next) held = IsLockedLook g bs own held name lbn × ((b : Block) → slice_get bs lbn ≡ Some b → ObeysBy (next b) held)
+  ObeysBy (Take name mode next) held = IsNewLock x c held seen.number name mode × ObeysBy next (held ++ (name, mode) ∷ [])
+  ObeysBy (Look name lbn next) held = IsLockedLook g bs own c held name lbn × ((b : Block) → slice_get bs lbn ≡ Some b → ObeysBy (next b) held)
   ObeysBy (Fetch lbn next) held = IsGuardedLook g bs own held lbn × ((b : Block) → slice_get bs lbn ≡ Some b → ObeysBy (next b) held)
-  ObeysBy (Find clusters number next) held = IsSearch x g.cluster clusters number
-      × ((space : Space) → S space → has_space clusters number space ≡ true → IsGiven space.clusters space.number space.short → ObeysBy (next space.clusters space.number space.short) held)
+  ObeysBy (Find clusters number next) held = IsSearch x held (wanted seen x) clusters number
+      × (has_space clusters number (space_of seen) ≡ true → IsGiven seen.clusters seen.number seen.short → ObeysBy (next seen.clusters seen.number seen.short) held)
   ObeysBy (Make plan) held = P held plan
 
--- whatever the space is
-abbrev pub AnySpace : Space → Type 0
-AnySpace space = Unit {0}
-
 -- the same where only the plan matters
-abbrev pub Obeys : Cmd → Geometry → List Block → Owners → (Plan → Type 0) → Events → List (LockName × Mode) → Type 0
-Obeys x g bs own P = ObeysBy x g bs own AnySpace (λ held. P)
+abbrev pub Obeys : Cmd → Geometry → List Block → Owners → Cat → Seen → (Plan → Type 0) → Events → List (LockName × Mode) → Type 0
+Obeys x g bs own c seen P = ObeysBy x g bs own c seen (λ held. P)
 
 -- what holds before a search holds on, where there is none
 pub kept : (es : Events) (space : Space) (given : Type 0) (locks : List (LockName × Mode)) (blocks : List (ℕ × Block)) → HasNoSearch es → Follows es locks blocks space given → given
@@ -88,60 +86,61 @@ kept (Fetch lbn next) space given locks (b ∷ blocks) once f = kept (next b.1) 
 kept (Find clusters number next) space given locks blocks once f = absurd once
 kept (Make plan) space given locks blocks once f = f.2
 
-module _ (x : Cmd) (seen : Seen) (bs : List Block) (own : Owners) (S : Space → Type 0) (P : List (LockName × Mode) → Plan → Type 0) where
+module _ (x : Cmd) (seen : Seen) (bs : List Block) (own : Owners) (c : Cat) (P : List (LockName × Mode) → Plan → Type 0) where
   -- the need is one that the command may have, or a plan that is so with the locks that are held
   abbrev pub IsFine : Need → Type 0
   IsFine (need.Ready p) = P seen.locks p
-  IsFine (need.Lock name mode) = MayNeed x seen bs own (need.Lock name mode)
-  IsFine (need.Block name lbn) = MayNeed x seen bs own (need.Block name lbn)
-  IsFine (need.Bare lbn) = MayNeed x seen bs own (need.Bare lbn)
-  IsFine (need.Space clusters number) = MayNeed x seen bs own (need.Space clusters number)
+  IsFine (need.Lock name mode) = MayNeed x seen bs own c (need.Lock name mode)
+  IsFine (need.Block name lbn) = MayNeed x seen bs own c (need.Block name lbn)
+  IsFine (need.Bare lbn) = MayNeed x seen bs own c (need.Bare lbn)
+  IsFine (need.Space clusters number) = MayNeed x seen bs own c (need.Space clusters number)
 
   -- the locks held by now are all
   all_held : (held locks : List (LockName × Mode)) → seen.locks ≡ held ++ locks → locks ≡ [] → held ≡ seen.locks
   all_held held locks e none = sym (append-nil held) ∙ ap (λ ls. held ++ ls) (sym none) ∙ sym e
 
   abbrev Walks : Events → Type 0 → List (LockName × Mode) → List (LockName × Mode) → List (ℕ × Block) → Type 0
-  Walks es given held locks blocks = seen.locks ≡ held ++ locks → StandsIn bs blocks → Ready es (space_of seen) given → S (space_of seen)
-      → ObeysBy x seen.geometry bs own S P es held → Follows es locks blocks (space_of seen) given → IsFine (following es locks blocks (space_of seen))
+  Walks es given held locks blocks = seen.locks ≡ held ++ locks → StandsIn bs blocks → Ready es (space_of seen) given
+      → ObeysBy x seen.geometry bs own c seen P es held → Follows es locks blocks (space_of seen) given → IsFine (following es locks blocks (space_of seen))
 
   walks : (es : Events) (given : Type 0) (held locks : List (LockName × Mode)) (blocks : List (ℕ × Block)) → Walks es given held locks blocks
-  walks (Take name mode next) given held [] blocks e stands r so o f =
+  walks (Take name mode next) given held [] blocks e stands r o f =
       let all = all_held held [] e refl in
-      subst (λ ls. IsNewLock x ls name mode) all o.0
-  walks (Take name mode next) given held (l ∷ locks) blocks e stands r so o f =
-      walks next given (held ++ (name, mode) ∷ []) locks blocks (e ∙ ap (λ k. held ++ k ∷ locks) f.0 ∙ sym (append_assoc held ((name, mode) ∷ []) locks)) stands r so o.1 f.1
-  walks (Look name lbn next) given held locks [] e stands r so o f =
+      subst (λ ls. IsNewLock x c ls seen.number name mode) all o.0
+  walks (Take name mode next) given held (l ∷ locks) blocks e stands r o f =
+      walks next given (held ++ (name, mode) ∷ []) locks blocks (e ∙ ap (λ k. held ++ k ∷ locks) f.0 ∙ sym (append_assoc held ((name, mode) ∷ []) locks)) stands r o.1 f.1
+  walks (Look name lbn next) given held locks [] e stands r o f =
       let all = all_held held locks e f.0 in
-      subst (λ ls. IsLockedLook seen.geometry bs own ls name lbn) all o.0
-  walks (Look name lbn next) given held locks (b ∷ blocks) e stands r so o f =
-      walks (next b.1) given held locks blocks e stands.1 (r b.1) so (o.1 b.1 (subst (λ l. slice_get bs l ≡ Some b.1) f.0 stands.0)) f.1
-  walks (Fetch lbn next) given held locks [] e stands r so o f =
+      subst (λ ls. IsLockedLook seen.geometry bs own c ls name lbn) all o.0
+  walks (Look name lbn next) given held locks (b ∷ blocks) e stands r o f =
+      walks (next b.1) given held locks blocks e stands.1 (r b.1) (o.1 b.1 (subst (λ l. slice_get bs l ≡ Some b.1) f.0 stands.0)) f.1
+  walks (Fetch lbn next) given held locks [] e stands r o f =
       let all = all_held held locks e f.0 in
       subst (λ ls. IsGuardedLook seen.geometry bs own ls lbn) all o.0
-  walks (Fetch lbn next) given held locks (b ∷ blocks) e stands r so o f =
-      walks (next b.1) given held locks blocks e stands.1 (r b.1) so (o.1 b.1 (subst (λ l. slice_get bs l ≡ Some b.1) f.0 stands.0)) f.1
-  walks (Find clusters number next) given held locks blocks e stands r so o f =
+  walks (Fetch lbn next) given held locks (b ∷ blocks) e stands r o f =
+      walks (next b.1) given held locks blocks e stands.1 (r b.1) (o.1 b.1 (subst (λ l. slice_get bs l ≡ Some b.1) f.0 stands.0)) f.1
+  walks (Find clusters number next) given held locks blocks e stands r o f =
       by_test (walks (next seen.clusters seen.number seen.short) (IsGiven seen.clusters seen.number seen.short) held locks blocks)
       (has_space clusters number (space_of seen)) refl f where
         by_test : Walks (next seen.clusters seen.number seen.short) (IsGiven seen.clusters seen.number seen.short) held locks blocks → (t : Bool) → has_space clusters number (space_of seen) ≡ t
             → MatchBool t (Follows (next seen.clusters seen.number seen.short) locks blocks (space_of seen) (IsGiven seen.clusters seen.number seen.short)) ((locks ≡ []) × (blocks ≡ []) × given)
             → IsFine (cond t (following (next seen.clusters seen.number seen.short) locks blocks (space_of seen)) (need.Space clusters number))
         by_test more true has f =
-            more e stands (ready_more (next seen.clusters seen.number seen.short) (space_of seen) (IsGiven seen.clusters seen.number seen.short) (r.1 seen.clusters seen.number seen.short)) so
-            (o.1 (space_of seen) so has (kept (next seen.clusters seen.number seen.short) (space_of seen) (IsGiven seen.clusters seen.number seen.short) locks blocks (r.1 seen.clusters seen.number seen.short) f)) f
+            more e stands (ready_more (next seen.clusters seen.number seen.short) (space_of seen) (IsGiven seen.clusters seen.number seen.short) (r.1 seen.clusters seen.number seen.short))
+            (o.1 has (kept (next seen.clusters seen.number seen.short) (space_of seen) (IsGiven seen.clusters seen.number seen.short) locks blocks (r.1 seen.clusters seen.number seen.short) f)) f
         by_test more false has f =
-            (o.0, r.0 f.2)
-  walks (Make plan) given held locks blocks e stands r so o f = subst (λ ls. P ls plan) (all_held held locks e f.0) o
+            let all = all_held held locks e f.0 in
+            (subst (λ ls. IsSearch x ls (wanted seen x) clusters number) all o.0, r.0 f.2)
+  walks (Make plan) given held locks blocks e stands r o f = subst (λ ls. P ls plan) (all_held held locks e f.0) o
 
   -- on blocks that have what a command has seen, whatever it needs next is fine
-  pub next_fine : (next : Need) → SearchesOnce (events_of seen.geometry seen.channel x) → ObeysBy x seen.geometry bs own S P (events_of seen.geometry seen.channel x) [] → S (space_of seen) → StandsIn bs seen.blocks
+  pub next_fine : (next : Need) → SearchesOnce (events_of seen.geometry seen.channel x) → ObeysBy x seen.geometry bs own c seen P (events_of seen.geometry seen.channel x) [] → StandsIn bs seen.blocks
       → HasSeen x seen → IsNext x seen next → IsFine next
-  next_fine next once o so stands has is =
+  next_fine next once o stands has is =
       let es = events_of seen.geometry seen.channel x in
-      subst IsFine is (walks es (HasNoSpace (space_of seen)) [] seen.locks seen.blocks refl stands (ready es (space_of seen) once) so o has)
+      subst IsFine is (walks es (HasNoSpace (space_of seen)) [] seen.locks seen.blocks refl stands (ready es (space_of seen) once) o has)
 
-  pub may_need : (next : Need) → IsFine next → MayNeed x seen bs own next
+  pub may_need : (next : Need) → IsFine next → MayNeed x seen bs own c next
   may_need (need.Ready p) f = tt
   may_need (need.Lock name mode) f = f
   may_need (need.Block name lbn) f = f

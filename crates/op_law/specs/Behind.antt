@@ -11,11 +11,20 @@ use Rattle.op_law.specs.declared.seeing.Listed.{Listed}
 use Rattle.op_law.specs.declared.seeing.Listed.TheVariants as listed
 use Rattle.op_law.specs.declared.seeing.Listing.{Listing}
 use Rattle.op_law.specs.declared.seeing.Listing.TheVariants as listing
-use Rattle.op_law.specs.Events.{Events, Space, following}
+use Rattle.op_law.specs.declared.seen.Seen.{Seen}
+use Rattle.op_law.specs.Events.{Events, Space, space_of, HasNoSpace, following, Follows}
 
 -- the next need of these events, where this was seen from them on
 abbrev pub goes_on_by : Events → Rest → Space → Need
 goes_on_by es rest space = following es rest.locks.now rest.blocks.now space
+
+-- what was seen from these events on are the first of those that they need, and they come before a search for space
+abbrev pub FollowsBy : Events → Rest → Space → Type 0
+FollowsBy es rest space = Follows es rest.locks.now rest.blocks.now space (HasNoSpace space)
+
+-- the same of all that was seen
+abbrev pub HasFirst : Events → Seen → Type 0
+HasFirst es seen = Follows es seen.locks seen.blocks (space_of seen) (HasNoSpace (space_of seen))
 
 -- the blocks alone, of blocks with their LBNs
 abbrev pub blocks_alone : List (ℕ × Block) → List Block
@@ -26,15 +35,28 @@ abbrev pub behind_lock : Events → Space → Granted → Need
 behind_lock next space (granted.Held rest) = goes_on_by next rest space
 behind_lock next space (granted.Next need) = need
 
+-- what was seen behind it follows what comes there
+abbrev pub FollowsLock : Events → Space → Granted → Type 0
+FollowsLock next space (granted.Held rest) = FollowsBy next rest space
+FollowsLock next space (granted.Next need) = Unit {0}
+
 -- behind a block, by what it shows
 abbrev pub behind_block : (Block → Events) → Space → Looked → Need
 behind_block next space (looked.Seen b rest) = goes_on_by (next b.now) rest space
 behind_block next space (looked.Next need) = need
 
+abbrev pub FollowsBlock : (Block → Events) → Space → Looked → Type 0
+FollowsBlock next space (looked.Seen b rest) = FollowsBy (next b.now) rest space
+FollowsBlock next space (looked.Next need) = Unit {0}
+
 -- behind blocks
 abbrev pub behind_all : (List Block → Events) → Space → Listed → Need
 behind_all next space (listed.All seen rest) = goes_on_by (next (blocks_alone seen.now)) rest space
 behind_all next space (listed.Next need) = need
+
+abbrev pub FollowsAll : (List Block → Events) → Space → Listed → Type 0
+FollowsAll next space (listed.All seen rest) = FollowsBy (next (blocks_alone seen.now)) rest space
+FollowsAll next space (listed.Next need) = Unit {0}
 
 -- these are not more blocks than so many
 abbrev pub HasAtMost : ℕ → Listed → Type 0

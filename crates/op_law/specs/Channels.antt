@@ -21,7 +21,8 @@ use Rattle.op_law.specs.declared.seen.Chan.{Chan}
 use Rattle.op_law.specs.Events.{Events, Fetch, Make}
 use Rattle.op_law.specs.Rows.{answers, refuses}
 use Rattle.op_law.specs.Refusing.{SeenFile, unless_refused, through_live, through_open}
-use Rattle.op_law.specs.Writing.{empty_handed, header_write, body_write, block_place, plan_of, asking_plan}
+use Rattle.op_law.specs.Writing.{empty_handed, header_write, plan_of, asking_plan}
+use Rattle.op_law.specs.SeenFiles.{file_place, file_write}
 use Rattle.op_law.specs.Freeing.{through_space, freeing_writes}
 
 -- an ask of a channel before all writes, with its reply where it is not granted
@@ -78,7 +79,7 @@ within g vbn next f = if is_outside_file g f.file vbn then refuses refusal.EndOf
 -- a block at or above the mark is zeros, and is not looked at
 abbrev pub read_in : ℕ → SeenFile → Events
 read_in vbn f =
-    if is_past_mark f.file vbn then answers (reply.Bytes zeros) else Fetch (block_place f.head vbn) (λ b. answers (reply.Bytes b))
+    if is_past_mark f.file vbn then answers (reply.Bytes zeros) else Fetch (file_place f vbn) (λ b. answers (reply.Bytes b))
 
 abbrev pub read_on : Geometry → Option Chan → ℕ → Events
 read_on g None vbn = refuses refusal.NotOpen
@@ -98,7 +99,7 @@ written_header f vbn = with_sizes f.head (ended (marked_up f.file vbn) vbn)
 
 -- zeros from the mark to in front of a virtual block
 abbrev pub zero_writes : SeenFile → ℕ → List PlanWrite
-zero_writes f vbn = map (λ v. body_write f.num f.head v zeros stage.Nothing) (range_with_len f.file.mark (vbn - f.file.mark))
+zero_writes f vbn = map (λ v. file_write f v zeros stage.Nothing) (range_with_len f.file.mark (vbn - f.file.mark))
 
 abbrev pub last_header : Geometry → SeenFile → ℕ → PlanWrite
 last_header g f vbn = header_write g f.num (written_header f vbn) stage.Done empty_handed
@@ -107,9 +108,9 @@ last_header g f vbn = header_write g f.num (written_header f vbn) stage.Done emp
 -- header follows where the end changes.
 unfoldable pub block_writes : Geometry → SeenFile → ℕ → Block → List PlanWrite
 block_writes g f vbn b =
-    if is_past_mark f.file vbn then zero_writes f vbn ++ body_write f.num f.head vbn b stage.Nothing ∷ last_header g f vbn ∷ []
-    else if nat_le f.file.end vbn then body_write f.num f.head vbn b stage.DataOnly ∷ last_header g f vbn ∷ []
-    else body_write f.num f.head vbn b stage.Done ∷ []
+    if is_past_mark f.file vbn then zero_writes f vbn ++ file_write f vbn b stage.Nothing ∷ last_header g f vbn ∷ []
+    else if nat_le f.file.end vbn then file_write f vbn b stage.DataOnly ∷ last_header g f vbn ∷ []
+    else file_write f vbn b stage.Done ∷ []
 
 abbrev pub write_in : Geometry → ℕ → List ℕ → SeenFile → Events
 write_in g vbn text f = Make (plan_of (block_writes g f vbn (text_block text)) reply.Written)

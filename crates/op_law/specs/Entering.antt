@@ -27,6 +27,7 @@ use Rattle.vol_spell.specs.Reading.{header_place}
 use Rattle.op_law.specs.declared.need.PlanWrite.{PlanWrite}
 use Rattle.op_law.specs.Events.{Events, Take, Look, Find, Make}
 use Rattle.op_law.specs.Refusing.{unless_refused, if_space}
+use Rattle.vol_parts.specs.Volumes.{most_clusters}
 use Rattle.op_law.specs.Writing.{holding, empty_handed, write_at, header_write, plan_of, clusters_for, runs_for}
 use Rattle.op_law.specs.Quotas.{through_quota, rows_seen, owner_write, row_charged}
 use Rattle.op_law.specs.Moving.{SeenDir, entries_of, through_names, is_full, insertion_writes}
@@ -55,6 +56,9 @@ fields_for g n f = record {
   mark = f.mark;
   end = f.end;
   byte = f.byte;
+  seg = 0;
+  ext = 0;
+  ext_seq = 0;
 }
 
 -- what a new header has for the name of its file: NAME.TYP;v
@@ -118,7 +122,7 @@ create_refusals g entries name ver clusters =
     let es = versions name entries in
     (is_last_version ver es, refusal.BadVersion)
     ∷ (is_taken (new_version ver es) es, refusal.DupFile)
-    ∷ (nat_lt 77 clusters, refusal.FileLimit)
+    ∷ (nat_lt most_clusters clusters, refusal.FileLimit)
     ∷ (is_full g entries name (new_version ver es), refusal.DirFull)
     ∷ []
 

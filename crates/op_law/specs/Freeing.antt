@@ -1,5 +1,5 @@
 -- Clusters and file numbers that become free: the bitmap blocks that are looked at and written.
-use Rattle.std.specs.Prelude.{◌==◌, ◌+◌, ◌-◌, ◌*◌, ◌/◌, ◌%◌, ◌++◌, nat_lt, ℕ, Bool, true, false, List, [], ◌∷◌, Option, Some, map, filter}
+use Rattle.std.specs.Prelude.{◌==◌, ◌+◌, ◌-◌, ◌*◌, ◌/◌, ◌%◌, ◌++◌, nat_lt, ℕ, Bool, true, false, List, [], ◌∷◌, None, map, filter}
 use Rattle.std.specs.List.{list_any, range_with_len, fold}
 use Rattle.vol_words.specs.Fields.{Block}
 use Rattle.fx_bitmap.specs.Bits.{bits_put}
@@ -17,7 +17,8 @@ use Rattle.op_law.specs.declared.need.PlanWrite.{PlanWrite}
 use Rattle.op_law.specs.Events.{Events, Take, Look}
 use Rattle.op_law.specs.Rows.{look_all}
 use Rattle.op_law.specs.Refusing.{SeenFile}
-use Rattle.op_law.specs.Writing.{holding, empty_handed, write_at, header_write, clusters_seen}
+use Rattle.op_law.specs.Writing.{holding, empty_handed, write_at, with_numbers, header_write}
+use Rattle.op_law.specs.SeenFiles.{file_clusters}
 use Rattle.op_law.specs.Quotas.{through_quota, owner_write, row_discharged}
 
 -- these clusters of the volume in rising order, each once
@@ -47,26 +48,36 @@ abbrev pub behind : ℕ → List ℕ → List ℕ
 behind k qs = filter (λ q. nat_lt k (q / 4096)) qs
 
 -- The write that makes those of the clusters free that have their bits in block k. What has its bits behind it is still outside,
--- and the number, if there is one.
-abbrev pub storage_write : Geometry → Stage → List ℕ → Option ℕ → ℕ → Block → PlanWrite
-storage_write g s qs number k b =
-    write_at V (place_of g (Storage k)) (with_free b (filter (lies_in k) qs)) s (holding (behind k qs) number)
+-- and these numbers.
+abbrev pub storage_write : Geometry → Stage → List ℕ → List ℕ → ℕ → Block → PlanWrite
+storage_write g s qs numbers k b =
+    with_numbers numbers (write_at V (place_of g (Storage k)) (with_free b (filter (lies_in k) qs)) s (holding (behind k qs) None))
 
 -- the same for each of these blocks
-abbrev pub storage_writes : Geometry → Stage → List ℕ → Option ℕ → List ℕ → List Block → List PlanWrite
-storage_writes g s qs number [] bs = []
-storage_writes g s qs number (k ∷ ks) [] = []
-storage_writes g s qs number (k ∷ ks) (b ∷ bs) = storage_write g s qs number k b ∷ storage_writes g s qs number ks bs
+abbrev pub storage_writes : Geometry → Stage → List ℕ → List ℕ → List ℕ → List Block → List PlanWrite
+storage_writes g s qs numbers [] bs = []
+storage_writes g s qs numbers (k ∷ ks) [] = []
+storage_writes g s qs numbers (k ∷ ks) (b ∷ bs) = storage_write g s qs numbers k b ∷ storage_writes g s qs numbers ks bs
 
--- the write of the index-file bitmap that makes number n free
-abbrev pub index_write : Geometry → ℕ → Block → PlanWrite
-index_write g n b = write_at V (place_of g IndexBitmap) (bits_put b (n - 1) 1 false) stage.Freed empty_handed
+-- a block of the index-file bitmap in which the bits of these numbers are clear, so that they are free
+unfoldable pub without_numbers : Block → List ℕ → Block
+without_numbers b ns = fold (λ c n. bits_put c (n - 1) 1 false) b ns
+
+-- the write of the index-file bitmap that makes these numbers free, where there are any
+abbrev pub index_write : Geometry → Stage → List ℕ → Block → List PlanWrite
+index_write g s [] b = []
+index_write g s (n ∷ ns) b = write_at V (place_of g IndexBitmap) (without_numbers b (n ∷ ns)) s empty_handed ∷ []
+
+-- What was a file's and is outside becomes free: the clusters, and behind them the numbers. The blocks are those of the storage
+-- bitmap that have bits of the clusters, and that of the index-file bitmap, which is no matter where there are no numbers.
+abbrev pub freeing_tail : Geometry → Stage → List ℕ → List ℕ → List Block → Block → List PlanWrite
+freeing_tail g s qs numbers storage index = storage_writes g s qs numbers (blocks_for g qs) storage ++ index_write g s numbers index
 
 -- ---- a whole file
 
 -- the clusters of a file, rising
 abbrev pub all_clusters : Geometry → SeenFile → List ℕ
-all_clusters g f = rising g (clusters_seen g f.head)
+all_clusters g f = rising g (file_clusters g f)
 
 -- what a command looks at before a file goes: the quota blocks, the index-file bitmap, the storage blocks of its clusters
 pub record SeenSpace : Type 0 where
@@ -83,7 +94,6 @@ through_space g f next = through_quota g PW (λ quota. Take V PW (Look V (place_
 unfoldable pub freeing_writes : Geometry → SeenFile → SeenSpace → List PlanWrite
 freeing_writes g f s =
     let qs = all_clusters g f in
-    header_write g f.num (freed f.file.seq) stage.Freed (holding qs (Some f.num))
-    ∷ storage_writes g stage.Freed qs (Some f.num) (blocks_for g qs) s.storage
-    ++ index_write g f.num s.index
-    ∷ owner_write g s.quota f.file.owner (row_discharged (g.cluster * f.file.clusters + 1)) stage.Done empty_handed
+    with_numbers (f.num ∷ []) (header_write g f.num (freed f.file.seq) stage.Freed (holding qs None))
+    ∷ freeing_tail g stage.Freed qs (f.num ∷ []) s.storage s.index
+    ++ owner_write g s.quota f.file.owner (row_discharged (g.cluster * f.file.clusters + 1)) stage.Done empty_handed

@@ -1,6 +1,6 @@
 -- What a command takes for granted of the catalogue besides the blocks that it has seen.
-use Rattle.std.specs.Prelude.{◌==◌, ◌&&◌, ◌+◌, ◌-◌, ◌/◌, not, nat_lt, nat_le, ℕ, Bool, true, false, List, Option, Some, None, is_none, length, slice_set, if◌then◌else◌}
-use Rattle.std.specs.List.{list_any, list_all, range_with_len}
+use Rattle.std.specs.Prelude.{◌==◌, ◌&&◌, ◌+◌, ◌-◌, ◌/◌, not, nat_lt, nat_le, ℕ, Bool, true, false, List, Option, Some, None, is_none, slice_set, if◌then◌else◌}
+use Rattle.std.specs.List.{list_any, list_all}
 use Rattle.plain_cat.specs.Modes.{rank}
 use Rattle.plain_cat.specs.declared.mode.Mode.{Mode}
 use Rattle.plain_cat.specs.declared.command.Cmd.{Cmd}
@@ -11,7 +11,7 @@ use Rattle.plain_cat.specs.declared.cat.Cat.{Cat}
 use Rattle.plain_cat.specs.declared.cat.File.{File}
 use Rattle.plain_cat.specs.declared.cat.Open.{Open}
 use Rattle.plain_cat.specs.declared.cat.QuotaRow.{QuotaRow}
-use Rattle.plain_vol.specs.Lookups.{in_use, channel_at, place, free_clusters, is_free_number}
+use Rattle.plain_vol.specs.Lookups.{in_use, channel_at, place, free_clusters, has_free_number}
 use Rattle.plain_vol.specs.Accounts.{charge}
 use Rattle.plain_vol.specs.Answers.{conflicts}
 use Rattle.op_law.specs.declared.need.Ask.{Ask}
@@ -95,16 +95,21 @@ wants_number (cmd.Create reg dir name ver blocks owner) = true
 wants_number (cmd.MkDir reg dir name owner) = true
 wants_number other = false
 
--- a number of the volume is free
-abbrev pub has_free_number : Cat → Bool
-has_free_number c = list_any (is_free_number c) (range_with_len 1 (length c.files))
+-- the space that a command wants: so many clusters, and a number or none
+pub record Wanted : Type 0 where
+  pub clusters : ℕ
+  pub number : Bool
+
+-- what it wants, by what it has seen
+abbrev pub wanted : Seen → Cmd → Wanted
+wanted seen x = record { clusters = clusters_wanted seen.geometry.cluster x; number = wants_number x }
 
 -- Space was refused for its reason: a number was wanted and none is free, or else the clusters that are free are too few.
-abbrev pub is_short : Cat → Cmd → Option Refusal → Bool
-is_short c x None = true
-is_short c x (Some refusal.IndexFull) = wants_number x && not (has_free_number c)
-is_short c x (Some refusal.DeviceFull) = not (wants_number x && not (has_free_number c)) && nat_lt (free_clusters c) (clusters_wanted c.factor x)
-is_short c x (Some other) = false
+abbrev pub is_short : Cat → Wanted → Option Refusal → Bool
+is_short c k None = true
+is_short c k (Some refusal.IndexFull) = k.number && not (has_free_number c)
+is_short c k (Some refusal.DeviceFull) = not (k.number && not (has_free_number c)) && nat_lt (free_clusters c) k.clusters
+is_short c k (Some other) = false
 
 -- ---- a number that was given
 
@@ -135,7 +140,7 @@ usages_fit c x = if changes_usage x then list_all (is_charged c) c.quota else tr
 -- what a command of a node knows of the catalogue once it has seen this
 abbrev pub knows : ℕ → Cmd → Seen → Cat → Bool
 knows node x seen c =
-    has_channel c node (channel_of x) seen.channel && (is_new_number seen.number && (is_short c x seen.short && (usages_fit c x && opens_hold c x)))
+    has_channel c node (channel_of x) seen.channel && (is_new_number seen.number && (is_short c (wanted seen x) seen.short && (usages_fit c x && opens_hold c x)))
 
 -- the mode of an ask goes with all other opens of the file, so that it is granted
 abbrev pub is_granted : ℕ → Ask → Cat → Bool

@@ -1,6 +1,9 @@
 -- The law of an operation.
-use Rattle.std.specs.Prelude.{◌≡◌, ◌≤◌, ◌<◌, ◌&&◌, not, nat_le, ℕ, Bool, true, false, List, [], ◌∷◌, Option, Some, None, length, map, filter, take}
+use Rattle.std.specs.Prelude.{◌≡◌, ◌⊎◌, ◌≤◌, ◌<◌, ◌-◌, ◌&&◌, not, nat_le, ℕ, Bool, true, false, List, [], ◌∷◌, Option, Some, None, length, map, filter, take, Ok}
 use Rattle.vol_words.specs.Fields.{Block}
+use Rattle.fx_header.specs.declared.slot.Hdr.{Hdr}
+use Rattle.fx_header.specs.declared.slot.Slot.TheVariants.{Free}
+use Rattle.fx_header.specs.Headers.{header_read}
 use Rattle.lock_db.specs.declared.name.LockName.{LockName}
 use Rattle.lock_db.specs.declared.name.LockName.TheVariants.{S, Q, V}
 use Rattle.plain_cat.specs.Modes.{rank}
@@ -10,11 +13,18 @@ use Rattle.plain_cat.specs.declared.command.Cmd.{Cmd}
 use Rattle.plain_cat.specs.declared.reply.Reply.{Reply}
 use Rattle.plain_cat.specs.declared.reply.Reply.TheVariants as reply
 use Rattle.plain_cat.specs.declared.cat.Cat.{Cat}
+use Rattle.plain_cat.specs.declared.cat.File.{File}
+use Rattle.plain_vol.specs.Lookups.{file_at}
+use Rattle.vol_owners.specs.declared.owner.Owner.TheVariants.{InFile}
 use Rattle.vol_owners.specs.Lists.{Has, Touches, StandsIn}
 use Rattle.vol_owners.specs.Owners.{Owners, Things, nothing, Outs}
 use Rattle.vol_parts.specs.declared.geometry.Geometry.{Geometry}
+use Rattle.vol_parts.specs.declared.geometry.Part.{Part}
+use Rattle.vol_parts.specs.declared.geometry.Part.TheVariants.{Header}
+use Rattle.vol_parts.specs.Parts.{part_of}
+use Rattle.vol_spell.specs.Reading.{owner_at, header_block, fields_told, runs_told}
 use Rattle.vol_spell.specs.Spelling.{Spells}
-use Rattle.vol_under.specs.Guards.{Lock, guard_of, MayWrite, MayLook}
+use Rattle.vol_under.specs.Guards.{Guard, Lock, Stock, guard_of, MayWrite, MayLook}
 use Rattle.vol_under.specs.UnderWay.{PlannedWrite, bare, outs_after, UnderWay}
 use Rattle.vol_under.specs.Under.{IsLawful}
 use Rattle.vol_under.specs.Answering.{IsReply}
@@ -25,8 +35,10 @@ use Rattle.op_law.specs.declared.need.PlanWrite.{PlanWrite}
 use Rattle.op_law.specs.declared.need.Ask.{Ask}
 use Rattle.op_law.specs.declared.seen.Seen.{Seen}
 use Rattle.op_law.specs.declared.seen.Chan.{Chan}
-use Rattle.op_law.specs.Knows.{channel_of, asking_part, takes_space, clusters_wanted, wants_number, may_ask, knows, is_granted}
+use Rattle.op_law.specs.Knows.{channel_of, asking_part, takes_space, Wanted, wanted, may_ask, knows, is_granted}
 use Rattle.op_law.specs.Events.{space_of, HasNoSpace, SearchesOnce}
+use Rattle.vol_parts.specs.Volumes.{most_clusters}
+use Rattle.op_law.specs.Order.{IsBefore}
 use Rattle.op_law.specs.Needs.{events_of, IsNext}
 use Rattle.op_law.specs.Fits.{HasSeen, things, IsSeenOn}
 
@@ -36,8 +48,13 @@ use Rattle.op_law.specs.Fits.{HasSeen, things, IsSeenOn}
 abbrev pub held_in : Mode → List (LockName × Mode) → List LockName
 held_in mode locks = map (λ l. l.0) (filter (λ l. nat_le (rank mode) (rank l.1)) locks)
 
+-- these things, and in front of their numbers these file numbers
+abbrev pub numbers_before : List ℕ → Things → Things
+numbers_before [] t = t
+numbers_before (n ∷ ns) t = let rest = numbers_before ns t in record rest { numbers = (n - 1) ∷ rest.numbers }
+
 abbrev pub planned : PlanWrite → PlannedWrite
-planned w = record { lbn = w.lbn; block = w.block; stage = w.stage; outs = things w.clusters w.number }
+planned w = record { lbn = w.lbn; block = w.block; stage = w.stage; outs = numbers_before w.numbers (things w.clusters w.number) }
 
 -- a node with a command under way that has seen this, has decided on these writes, and knows this of the catalogue
 abbrev pub under_way : Cmd → Seen → List PlanWrite → (Cat → Bool) → UnderWay
@@ -62,14 +79,30 @@ takes_lock cmd Q = true
 takes_lock cmd V = not (takes_space cmd)
 takes_lock cmd other = false
 
--- one of these, which is not held yet, in PR or PW
-pub record IsNewLock (cmd : Cmd) (locks : List (LockName × Mode)) (name : LockName) (mode : Mode) : Type 0 where
+-- V comes behind Q in PW; and the lock of a file before Q, but for that of the number that was given
+abbrev pub ComesInTurn : List (LockName × Mode) → Option ℕ → LockName → Type 0
+ComesInTurn locks number (S n) = (Has (map (λ l. l.0) locks) Q → ⊥) ⊎ (number ≡ Some n)
+ComesInTurn locks number V = Has (held_in PW locks) Q
+ComesInTurn locks number other = Unit {0}
+
+-- One of these, which is not held yet, in PR or PW, in its turn, where this number was given; and behind all that are held, in the
+-- order of the names.
+pub record IsNewLock (cmd : Cmd) (c : Cat) (locks : List (LockName × Mode)) (number : Option ℕ) (name : LockName) (mode : Mode) : Type 0 where
   pub new : Has (map (λ l. l.0) locks) name → ⊥
   pub in_mode : Has (PR ∷ PW ∷ []) mode
   pub own : takes_lock cmd name ≡ true
+  pub turn : ComesInTurn locks number name
+  pub after : (held : LockName) → Has (map (λ l. l.0) locks) held → IsBefore c held name
 
--- a block of the volume, whose lock has this name and is held
-pub record IsLockedLook (g : Geometry) (bs : List Block) (own : Owners) (locks : List (LockName × Mode)) (name : LockName) (lbn : ℕ) : Type 0 where
+-- A block that may be cached: it is a fixed part of the volume, or lies in a cluster of a directory. Blocks of other files are no
+-- such blocks.
+pub data IsCacheable (g : Geometry) (own : Owners) (c : Cat) (lbn : ℕ) : Type 0 where
+  Fixed : (p : Part) → part_of g lbn ≡ Some p → IsCacheable g own c lbn
+  OfDirectory : (n : ℕ) (f : File) → file_at c n ≡ Some f → f.dir ≡ true → owner_at g own lbn ≡ Some (InFile n) → IsCacheable g own c lbn
+
+-- a block of the volume that may be cached, whose lock has this name and is held
+pub record IsLockedLook (g : Geometry) (bs : List Block) (own : Owners) (c : Cat) (locks : List (LockName × Mode)) (name : LockName) (lbn : ℕ) : Type 0 where
+  pub kind : IsCacheable g own c lbn
   pub guard : guard_of g own lbn ≡ Some (Lock name)
   pub held : Has (held_in PR locks) name
   pub within : lbn < length bs
@@ -79,36 +112,74 @@ pub record IsGuardedLook (g : Geometry) (bs : List Block) (own : Owners) (locks 
   pub guard : MayLook (held_in PR locks) (guard_of g own lbn)
   pub within : lbn < length bs
 
--- a search of a command that takes space, for what it wants and at most 77 clusters
-pub record IsSearch (cmd : Cmd) (factor clusters : ℕ) (number : Bool) : Type 0 where
+-- a search of a command that takes space and holds Q in PW, for what it wants, and no more clusters than a header lists
+pub record IsSearch (cmd : Cmd) (locks : List (LockName × Mode)) (k : Wanted) (clusters : ℕ) (number : Bool) : Type 0 where
   pub takes : takes_space cmd ≡ true
-  pub few : clusters ≤ 77
-  pub clusters_are : clusters ≡ clusters_wanted factor cmd
-  pub number_is : number ≡ wants_number cmd
+  pub quota : Has (held_in PW locks) Q
+  pub few : clusters ≤ most_clusters
+  pub clusters_are : clusters ≡ k.clusters
+  pub number_is : number ≡ k.number
 
--- What a command may need on blocks that have what it has seen: a new lock, a look under a lock that it holds, and once a search
+-- What a command may need on blocks that spell a catalogue and have what it has seen: a new lock, a look under a lock that it holds, and once a search
 -- for space.
-abbrev pub MayNeed : Cmd → Seen → List Block → Owners → Need → Type 0
-MayNeed cmd seen bs own (need.Lock name mode) = IsNewLock cmd seen.locks name mode
-MayNeed cmd seen bs own (need.Block name lbn) = IsLockedLook seen.geometry bs own seen.locks name lbn
-MayNeed cmd seen bs own (need.Bare lbn) = IsGuardedLook seen.geometry bs own seen.locks lbn
-MayNeed cmd seen bs own (need.Space clusters number) = IsSearch cmd seen.geometry.cluster clusters number × HasNoSpace (space_of seen)
-MayNeed cmd seen bs own (need.Ready plan) = Unit {0}
+abbrev pub MayNeed : Cmd → Seen → List Block → Owners → Cat → Need → Type 0
+MayNeed cmd seen bs own c (need.Lock name mode) = IsNewLock cmd c seen.locks seen.number name mode
+MayNeed cmd seen bs own c (need.Block name lbn) = IsLockedLook seen.geometry bs own c seen.locks name lbn
+MayNeed cmd seen bs own c (need.Bare lbn) = IsGuardedLook seen.geometry bs own seen.locks lbn
+MayNeed cmd seen bs own c (need.Space clusters number) = IsSearch cmd seen.locks (wanted seen cmd) clusters number × HasNoSpace (space_of seen)
+MayNeed cmd seen bs own c (need.Ready plan) = Unit {0}
 
 -- ---- plans
 
+-- A write under the lock of this name: it is held in PW, and guards the block, unless the node has the block outside.
+pub record IsNamed (node : ℕ) (locks : List LockName) (name : LockName) (guard : Option Guard) : Type 0 where
+  pub held : Has locks name
+  pub guards : (guard ≡ Some (Lock name)) ⊎ (guard ≡ Some (Stock node))
+
+-- each of these writes is under the lock that it names
+abbrev pub AreNamed : ℕ → List LockName → Geometry → Owners → List PlanWrite → Type 0
+AreNamed node locks g own ws = (w : PlanWrite) → Has ws w → IsNamed node locks w.lock (guard_of g own w.lbn)
+
+-- so it is on all blocks that have what the node has seen, and on which what it knows is so
+abbrev pub OnItsBlocks : ℕ → UnderWay → Geometry → (List Block → Owners → Type 0) → Type 0
+OnItsBlocks node u g P = (base : List Block) (own : Owners) (c : Cat) (stock : Things) → Spells g base own c → u.knows c ≡ true → StandsIn base u.seen → Outs node own u.took stock → P base own
+
 -- each write is to a block whose lock is held in PW, or that the node has outside
 abbrev pub AreGuarded : ℕ → UnderWay → Geometry → Type 0
-AreGuarded node u g = (base : List Block) (own : Owners) (c : Cat) (stock : Things) → Spells g base own c → u.knows c ≡ true → StandsIn base u.seen → Outs node own u.took stock
-    → (l : ℕ) → Touches (bare u.plan) l → MayWrite node u.write (guard_of g own l)
+AreGuarded node u g = OnItsBlocks node u g (λ base own. (l : ℕ) → Touches (bare u.plan) l → MayWrite node u.write (guard_of g own l))
 
--- These writes and this reply are right: each write is guarded, each number of the writes leaves a stage of the command, the
--- reply goes with all of them, and after them the command has nothing outside.
-pub record IsRight (node : ℕ) (cmd : Cmd) (g : Geometry) (u : UnderWay) (r : Reply) : Type 0 where
+-- after each of these writes what is outside is nothing, or what was given, or V is held in PW
+abbrev pub KeepsOut : Things → List LockName → List PlanWrite → Type 0
+KeepsOut given locks ws = (w : PlanWrite) → Has ws w → ((planned w).outs ≡ nothing) ⊎ (((planned w).outs ≡ given) ⊎ Has locks V)
+
+-- a header that is in use is a directory's
+abbrev pub is_dir_told : Option Hdr → Bool
+is_dir_told None = false
+is_dir_told (Some h) = h.dir
+
+-- A new header leaves the runs of a directory that the old one tells: it is a free slot, or the old one tells no directory, or it
+-- tells a directory of the same runs.
+pub data KeepsRuns (old new : Block) : Type 0 where
+  Freed : (last : ℕ) → header_read new ≡ Ok (Free last) → KeepsRuns old new
+  NoDir : is_dir_told (fields_told old) ≡ false → KeepsRuns old new
+  Same : is_dir_told (fields_told new) ≡ true → runs_told new ≡ runs_told old → KeepsRuns old new
+
+-- each of these writes that is to a header leaves a directory's runs, so that they leave it with a free slot alone
+abbrev pub LeavesDirs : Geometry → List Block → List PlanWrite → Type 0
+LeavesDirs g base ws = (w : PlanWrite) → Has ws w → (i : ℕ) → part_of g w.lbn ≡ Some (Header i) → KeepsRuns (header_block g base i) w.block
+
+-- These writes, which are the node's plan, and this reply are right: each write is guarded, by the lock that it names, each
+-- number of the writes leaves a stage of the command, the reply goes with all of them, and after them the command has nothing
+-- outside, nor before that anything but what it was given, where it does not hold V in PW. A header that is written leaves a
+-- directory's runs, unless its slot becomes free.
+pub record IsRight (node : ℕ) (cmd : Cmd) (g : Geometry) (ws : List PlanWrite) (u : UnderWay) (r : Reply) : Type 0 where
+  pub named : OnItsBlocks node u g (λ base own. AreNamed node u.write g own ws)
   pub guarded : AreGuarded node u g
   pub lawful : IsLawful g node u
   pub reply : IsReply g node u cmd r
   pub left : outs_after u.took u.plan ≡ nothing
+  pub dirs : OnItsBlocks node u g (λ base own. LeavesDirs g base ws)
+  pub kept_out : OnItsBlocks node u g (λ base own. KeepsOut u.took u.write ws)
 
 -- a refusal writes nothing
 abbrev pub WritesNothing : Plan → Reply → Type 0
@@ -125,17 +196,17 @@ pub record IsAsk (cmd : Cmd) (seen : Seen) (p : Plan) (a : Ask) : Type 0 where
 
 -- With an ask the whole plan is right where the ask is granted, and where it is not, the writes before it with its refusal.
 abbrev pub IsPlan : ℕ → Cmd → Seen → Plan → Option Ask → Type 0
-IsPlan node cmd seen p None = IsRight node cmd seen.geometry (under_way cmd seen p.writes (knows node cmd seen)) p.reply
+IsPlan node cmd seen p None = IsRight node cmd seen.geometry p.writes (under_way cmd seen p.writes (knows node cmd seen)) p.reply
 IsPlan node cmd seen p (Some a) =
     IsAsk cmd seen p a
-    × IsRight node cmd seen.geometry (under_way cmd seen p.writes (λ c. knows node cmd seen c && is_granted node a c)) p.reply
-    × IsRight node cmd seen.geometry (under_way cmd seen (take a.at p.writes) (λ c. knows node cmd seen c && not (is_granted node a c))) a.refused
+    × IsRight node cmd seen.geometry p.writes (under_way cmd seen p.writes (λ c. knows node cmd seen c && is_granted node a c)) p.reply
+    × IsRight node cmd seen.geometry (take a.at p.writes) (under_way cmd seen (take a.at p.writes) (λ c. knows node cmd seen c && not (is_granted node a c))) a.refused
     × IsLawful seen.geometry node (under_way cmd seen (take a.at p.writes) (knows node cmd seen))
 
 -- The law of a command: it searches for space at most once; what it needs next, whatever it has seen, it may need on all blocks
 -- that have that; and its plan is right at each node.
 pub record Lawful (cmd : Cmd) : Type 0 where
   pub searches : (g : Geometry) (channel : Option Chan) → SearchesOnce (events_of g channel cmd)
-  pub needs : (node : ℕ) (seen : Seen) (bs : List Block) (own : Owners) (c : Cat) (next : Need) → HasSeen cmd seen → IsSeenOn node cmd seen bs own c → IsNext cmd seen next → MayNeed cmd seen bs own next
+  pub needs : (node : ℕ) (seen : Seen) (bs : List Block) (own : Owners) (c : Cat) (next : Need) → HasSeen cmd seen → IsSeenOn node cmd seen bs own c → IsNext cmd seen next → MayNeed cmd seen bs own c next
   pub plans : (node : ℕ) (seen : Seen) (p : Plan) → HasSeen cmd seen → IsNext cmd seen (need.Ready p) → IsPlan node cmd seen p p.ask
   pub refusals : (seen : Seen) (p : Plan) → HasSeen cmd seen → IsNext cmd seen (need.Ready p) → WritesNothing p p.reply

@@ -7,6 +7,7 @@ pub mod Writing
 pub mod Quotas
 pub mod Moving
 pub mod Entering
+pub mod SeenFiles
 pub mod Freeing
 pub mod Sizes
 pub mod Removing
@@ -16,4 +17,5 @@ pub mod Knows
 pub mod Fits
 pub mod Going
 pub mod Looking
+pub mod Order
 pub mod Laws

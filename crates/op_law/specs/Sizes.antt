@@ -18,9 +18,11 @@ use Rattle.op_law.specs.declared.need.PlanWrite.{PlanWrite}
 use Rattle.op_law.specs.Events.{Events, Take, Find, Make}
 use Rattle.op_law.specs.Rows.{answers}
 use Rattle.op_law.specs.Refusing.{SeenFile, unless_refused, through_live, if_clusters}
-use Rattle.op_law.specs.Writing.{holding, empty_handed, header_write, plan_of, clusters_for, clusters_seen, runs_for}
+use Rattle.vol_parts.specs.Volumes.{most_clusters}
+use Rattle.op_law.specs.Writing.{holding, empty_handed, header_write, plan_of, clusters_for, runs_for}
+use Rattle.op_law.specs.SeenFiles.{file_clusters}
 use Rattle.op_law.specs.Quotas.{through_quota, rows_seen, owner_write, row_charged, row_discharged}
-use Rattle.op_law.specs.Freeing.{rising, blocks_for, look_storage, storage_writes}
+use Rattle.op_law.specs.Freeing.{rising, blocks_for, look_storage, freeing_tail}
 
 -- the reply that shows all blocks of so many clusters
 abbrev pub size_shown : Geometry → ℕ → Reply
@@ -34,7 +36,7 @@ grown_mark g f = if f.mark == 0 then g.cluster * f.clusters + 1 else f.mark
 
 -- the header of a file with these clusters more, which is not said to be contiguous any more
 unfoldable pub grown_header : Geometry → SeenFile → List ℕ → Block
-grown_header g f qs = scattered (with_mark (with_runs f.head (runs_for g (clusters_seen g f.head ++ qs))) (grown_mark g f.file))
+grown_header g f qs = scattered (with_mark (with_runs f.head (runs_for g (file_clusters g f ++ qs))) (grown_mark g f.file))
 
 -- the owner is charged, and the file gets the clusters
 unfoldable pub growing_writes : Geometry → SeenFile → List Block → List ℕ → ℕ → List PlanWrite
@@ -47,7 +49,7 @@ grown_by g f quota k qs = Make (plan_of (growing_writes g f quota qs k) (size_sh
 
 -- the refusals that the header shows
 abbrev pub growing_refusals : SeenFile → ℕ → List (Bool × Refusal)
-growing_refusals f k = (is_kept f.num f.file, refusal.NoPriv) ∷ (nat_lt 77 (f.file.clusters + k), refusal.FileLimit) ∷ []
+growing_refusals f k = (is_kept f.num f.file, refusal.NoPriv) ∷ (nat_lt most_clusters (f.file.clusters + k), refusal.FileLimit) ∷ []
 
 -- and the one that the quota blocks show
 abbrev pub draft_refusals : Geometry → SeenFile → List Block → ℕ → List (Bool × Refusal)
@@ -68,18 +70,18 @@ lowered head f blocks = with_mark (with_end head (min f.end (blocks + 1)) (if na
 
 -- the header of a file with its first k clusters alone
 unfoldable pub cut_header : Geometry → SeenFile → ℕ → Block
-cut_header g f k = with_runs (lowered f.head f.file (g.cluster * k)) (runs_for g (take k (clusters_seen g f.head)))
+cut_header g f k = with_runs (lowered f.head f.file (g.cluster * k)) (runs_for g (take k (file_clusters g f)))
 
 -- the clusters behind the first k, rising
 abbrev pub cut_clusters : Geometry → SeenFile → ℕ → List ℕ
-cut_clusters g f k = rising g (drop k (clusters_seen g f.head))
+cut_clusters g f k = rising g (drop k (file_clusters g f))
 
 -- the file loses clusters, they become free, and the owner is charged less
 unfoldable pub cutting_writes : Geometry → SeenFile → ℕ → List Block → List Block → List PlanWrite
 cutting_writes g f k quota storage =
     let qs = cut_clusters g f k in
     header_write g f.num (cut_header g f k) stage.Shortened (holding qs None)
-    ∷ storage_writes g stage.Shortened qs None (blocks_for g qs) storage
+    ∷ freeing_tail g stage.Shortened qs [] storage []
     ++ owner_write g quota f.file.owner (row_discharged (g.cluster * (f.file.clusters - k))) stage.Done empty_handed
 
 -- Q and V, the quota blocks, the storage blocks of the clusters that go, and the plan

@@ -27,7 +27,11 @@ empty_handed = holding [] None
 
 -- a write under a lock, with the stage after it and what is outside then
 abbrev pub write_at : LockName → ℕ → Block → Stage → Held → PlanWrite
-write_at name lbn b s out = record { lock = name; lbn = lbn; block = b; stage = s; clusters = out.clusters; number = out.number }
+write_at name lbn b s out = record { lock = name; lbn = lbn; block = b; stage = s; clusters = out.clusters; numbers = []; number = out.number }
+
+-- the same with these file numbers outside too
+abbrev pub with_numbers : List ℕ → PlanWrite → PlanWrite
+with_numbers ns w = record w { numbers = ns }
 
 -- the write of the header of file n
 abbrev pub header_write : Geometry → ℕ → Block → Stage → Held → PlanWrite

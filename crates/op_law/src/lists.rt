@@ -1,4 +1,5 @@
-ghost use Rattle.std.specs.Prelude.{◌≡◌, ◌++◌, [], ◌∷◌, OnOk, OnErr};
+ghost use Rattle.std.specs.Prelude.{◌≡◌, ◌++◌, [], ◌∷◌, not, filter, option_to_list, OnOk, OnErr, IsNone};
+ghost use Rattle.lock_db.specs.Names.{is_same};
 
 use crate::need::PlanWrite;
 use lock_db::LockName;
@@ -23,6 +24,13 @@ impl Model for SeenLocks {
     ghost view = { λ l. l.list.items };
 }
 
+// Whether a lock has another name.
+fn is_other(lock: &(LockName, Mode), name: LockName) -> bool
+    ensures { result ≡ not (is_same lock.now.0 name) }
+{
+    lock.0 != name
+}
+
 impl SeenLocks {
     /// No lock.
     pub fn new(alloc: Global) -> Self
@@ -40,6 +48,20 @@ impl SeenLocks {
     {
         self.list.push(item)?;
         Ok(())
+    }
+
+    /// Removes the lock of this name, where it is there. The others stay, in order, and no memory is taken.
+    pub fn remove(&mut self, name: LockName)
+        ensures { self.new ≡ filter (λ l. not (is_same l.0 name)) self.old }
+    {
+        self.list.retain(|l| is_other(l, name));
+    }
+
+    /// Drops all locks, and keeps the memory.
+    pub fn clear(&mut self)
+        ensures { self.new ≡ [] }
+    {
+        self.list.clear();
     }
 
     /// The locks, in order.
@@ -84,6 +106,21 @@ impl SeenBlocks {
         Ok(())
     }
 
+    /// Takes the last block out, and gives it with its LBN. None comes exactly where there is no block.
+    pub fn pop(&mut self) -> Option<(u32, Block)>
+        ensures last { self.old ≡ self.new ++ option_to_list result }
+        ensures none { IsNone result → self.old ≡ [] }
+    {
+        self.list.pop()
+    }
+
+    /// Drops all blocks, and keeps the memory.
+    pub fn clear(&mut self)
+        ensures { self.new ≡ [] }
+    {
+        self.list.clear();
+    }
+
     /// The blocks, in order.
     pub fn items(&self) -> &[(u32, Block)]
         ensures { result.now ≡ self.now }
@@ -124,6 +161,13 @@ impl Writes {
     {
         self.list.push(item)?;
         Ok(())
+    }
+
+    /// Drops all writes, and keeps the memory.
+    pub fn clear(&mut self)
+        ensures { self.new ≡ [] }
+    {
+        self.list.clear();
     }
 
     /// The writes, in order.

@@ -1,4 +1,5 @@
 use crate::lists::Writes;
+use crate::numbers::Numbers;
 use lock_db::LockName;
 use plain_cat::{Clusters, Mode, Reply, Stage};
 use vol_words::Block;
@@ -45,8 +46,10 @@ pub struct PlanWrite {
     /// The stage of the command after the write.
     pub stage: Stage,
 
-    /// The clusters that the command has after it outside files and bitmaps, and the file number, from 1.
+    /// The clusters that the command has after it outside files and bitmaps, and the file numbers, each from 1: these, and behind
+    /// them one more or none.
     pub clusters: Clusters,
+    pub numbers: Numbers,
     pub number: Option<u32>,
 }
 

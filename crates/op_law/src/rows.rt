@@ -1,6 +1,8 @@
 //! The events that commands have in common, each worked out.
 
 ghost use Rattle.std.specs.Prelude.{◌≡◌, ◌+◌, ◌≤◌, IfOk, IfSome, map, length, slice_get};
+ghost use Rattle.std.specs.Str.{bytes_eq};
+ghost use Rattle.plain_vol.specs.Lookups.{versions};
 ghost use Rattle.vol_parts.specs.Catalogues.{plain_entry};
 ghost use Rattle.op_law.specs.Rows.{answered, refused, is_number, live_in, places_in, entries_seen};
 ghost use Rattle.op_law.specs.Behind.{blocks_alone};
@@ -10,9 +12,9 @@ use crate::lists::Writes;
 use crate::need::{Need, Plan};
 use fx_dir::{DirFault, RawEnt, read_dir};
 use fx_header::{Hdr, Slot, read_header, runs};
-use plain_cat::{Blocks, DirEnt, DirEnts, Fid, Name, NoMemory, Refusal, Reply};
+use plain_cat::{Blocks, DirEnts, Fid, Name, NoMemory, Refusal, Reply};
 use std::alloc::{AllocError, Global};
-use vol_parts::Geometry;
+use vol_parts::{Geometry, plain_entry, read_entries};
 use vol_words::Block;
 
 /// Nothing more is needed, and nothing is written: the reply. It takes no memory.
@@ -87,35 +89,22 @@ pub fn blocks_of(alloc: Global, seen: &[(u32, Block)]) -> Result<Blocks, NoMemor
     Ok(blocks)
 }
 
-// A name of these bytes.
-fn plain_name(alloc: Global, bytes: &[u8]) -> Result<Name, NoMemory>
-    ensures { IfOk result (λ name. name ≡ bytes.now) }
+// Whether an entry has this name.
+fn is_named(e: &RawEnt, name: &Name) -> bool
+    ensures { result ≡ bytes_eq e.now.name name.now }
 {
-    let mut name = Name::new(alloc);
-    for byte in bytes {
-        name.push(*byte)?;
-    }
-    Ok(name)
+    e.name.bytes() == name.items()
 }
 
-// An entry without the version limit and the flags of its record.
-fn plain_entry(alloc: Global, e: &RawEnt) -> Result<DirEnt, NoMemory>
-    ensures { IfOk result (λ entry. entry ≡ plain_entry e.now) }
-{
-    let seq = e.seq;
-    Ok(DirEnt {
-        name: plain_name(alloc, e.name.bytes())?,
-        ver: e.ver,
-        fid: Fid { num: e.num, seq },
-    })
-}
-
-fn plain_entries(alloc: Global, found: &[RawEnt]) -> Result<DirEnts, NoMemory>
-    ensures { IfOk result (λ entries. entries ≡ map plain_entry found.now) }
+// The entries of a name.
+fn plain_versions(alloc: Global, found: &[RawEnt], name: &Name) -> Result<DirEnts, NoMemory>
+    ensures { IfOk result (λ entries. entries ≡ versions name.now (map plain_entry found.now)) }
 {
     let mut entries = DirEnts::new(alloc);
     for e in found {
-        entries.push(plain_entry(alloc, e)?)?;
+        if is_named(e, name) {
+            entries.push(plain_entry(alloc, e)?)?;
+        }
     }
     Ok(entries)
 }
@@ -125,8 +114,15 @@ fn plain_entries(alloc: Global, found: &[RawEnt]) -> Result<DirEnts, NoMemory>
 pub fn entries_seen(alloc: Global, seen: &[(u32, Block)]) -> Result<DirEnts, NoMemory>
     ensures { IfOk result (λ entries. entries ≡ entries_seen (blocks_alone seen.now)) }
 {
+    read_entries(alloc, blocks_of(alloc, seen)?.items())
+}
+
+/// Those of them that have this name, by falling version. An error says that memory ran out.
+pub fn versions_seen(alloc: Global, seen: &[(u32, Block)], name: &Name) -> Result<DirEnts, NoMemory>
+    ensures { IfOk result (λ entries. entries ≡ versions name.now (entries_seen (blocks_alone seen.now))) }
+{
     match read_dir(alloc, blocks_of(alloc, seen)?.items()) {
-        Ok(found) => plain_entries(alloc, found.as_slice()),
+        Ok(found) => plain_versions(alloc, found.as_slice(), name),
         Err(DirFault::NoMemory) => Err(AllocError),
         Err(DirFault::BadRecord(_)) => Ok(DirEnts::new(alloc)),
         Err(DirFault::BadOrder) => Ok(DirEnts::new(alloc)),

@@ -8,7 +8,7 @@ ghost use Rattle.vol_spell.specs.Reading.{IsFileNumber, header_place};
 ghost use Rattle.op_law.specs.Events.{Events, Take, Look, Space, following};
 ghost use Rattle.op_law.specs.Rows.{look_all, through_header, through_directory, in_directory, live_in};
 ghost use Rattle.op_law.specs.Readable.{AreInside, HeadIsInside};
-ghost use Rattle.op_law.specs.Behind.{behind_lock, behind_block, behind_all, behind_directory, HasBlocks, HasAtMost, IsHeadOf};
+ghost use Rattle.op_law.specs.Behind.{behind_lock, behind_block, behind_all, behind_directory, FollowsBy, FollowsLock, FollowsBlock, FollowsAll, HasBlocks, HasAtMost, IsHeadOf};
 
 use crate::need::Need;
 use crate::rows::{is_number, live_in, place_in, refused};
@@ -72,6 +72,7 @@ pub enum Listing<'a> {
 pub fn lock_seen<'a>(name: LockName, mode: Mode, rest: Rest<'a>) -> Granted<'a>
     ensures blocks { HasBlocks rest.entry.blocks.now result }
     ensures need { (next : Events) (space : Space) → following (Take name mode next) rest.entry.locks.now rest.entry.blocks.now space ≡ behind_lock next space result }
+    ensures follows { (next : Events) (space : Space) → FollowsBy (Take name mode next) rest.entry space → FollowsLock next space result }
 {
     match rest.locks {
         [_, locks @ ..] => Granted::Held(Rest {
@@ -86,6 +87,7 @@ pub fn lock_seen<'a>(name: LockName, mode: Mode, rest: Rest<'a>) -> Granted<'a>
 pub fn block_seen<'a>(name: LockName, lbn: u32, rest: Rest<'a>) -> Looked<'a>
     ensures head { IsHeadOf rest.entry.blocks.now result }
     ensures need { (next : Block → Events) (space : Space) → following (Look name lbn next) rest.entry.locks.now rest.entry.blocks.now space ≡ behind_block next space result }
+    ensures follows { (next : Block → Events) (space : Space) → FollowsBy (Look name lbn next) rest.entry space → FollowsBlock next space result }
 {
     match rest.blocks {
         [(_, block), blocks @ ..] => Looked::Seen(
@@ -110,6 +112,8 @@ pub fn blocks_seen<'a>(
     ensures few { HasAtMost count result }
     ensures need { (places : List ℕ) (next : List Block → Events) (space : Space) → length places ≡ count → slice_get places (length rest.entry.blocks.now) ≡ unseen
         → following (look_all name places next) rest.entry.locks.now rest.entry.blocks.now space ≡ behind_all next space result }
+    ensures follows { (places : List ℕ) (next : List Block → Events) (space : Space) → length places ≡ count → slice_get places (length rest.entry.blocks.now) ≡ unseen
+        → FollowsBy (look_all name places next) rest.entry space → FollowsAll next space result }
 {
     if let Some(lbn) = unseen {
         return Listed::Next(Need::Block(name, lbn));
@@ -144,6 +148,7 @@ pub fn header_seen<'a>(
     requires { IsGeometry g.now }
     ensures head { IsHeadOf rest.entry.blocks.now result }
     ensures need { (next : Block → Events) (space : Space) → following (through_header g.now file mode next) rest.entry.locks.now rest.entry.blocks.now space ≡ behind_block next space result }
+    ensures follows { (next : Block → Events) (space : Space) → FollowsBy (through_header g.now file mode next) rest.entry space → FollowsBlock next space result }
 {
     if !is_number(g, file) {
         return Looked::Next(refused(alloc, Refusal::NoSuchFile));

@@ -25,13 +25,14 @@ use Rattle.vol_parts.specs.declared.geometry.Geometry.{Geometry}
 use Rattle.vol_spell.specs.Reading.{IsFileNumber}
 use Rattle.vol_spell.specs.Spelling.{Spells}
 use Rattle.op_law.specs.declared.need.Plan.{Plan}
+use Rattle.op_law.specs.declared.seen.Seen.{Seen}
 use Rattle.op_law.specs.declared.seen.Chan.{Chan}
 use Rattle.op_law.specs.Events.{HasNoSearch}
 use Rattle.op_law.specs.Rows.{plain_plan, answers, live_in, through_header, through_directory, entries_seen}
 use Rattle.op_law.specs.Needs.{facts_of, facts_or_none, lookup_events, list_events, stat_events, events_of}
 use Rattle.op_law.specs.Laws.{Lawful}
 use Rattle.op_law.proofs.Telling.{live_reads, live_is, not_live, blocks_whole}
-use Rattle.op_law.proofs.Walking.{EveryPlan, AnySpace, Obeys}
+use Rattle.op_law.proofs.Walking.{EveryPlan, Obeys}
 use Rattle.op_law.proofs.Through.{header_so, directory_so, file_header, file_told, listed_blocks, header_obeys, directory_obeys}
 use Rattle.op_law.proofs.OnlyLooking.{IsPlain, IsAnswer, only_looks_lawful}
 use Rattle.op_lookup.specs.Kinds.{IsLook}
@@ -65,7 +66,7 @@ plain other look g channel = absurd look
 
 -- ---- on all blocks the plan is the answer
 
-module _ (x : Cmd) (channel : Option Chan) (g : Geometry) (bs : List Block) (own : Owners) (c : Cat) (s : Spells g bs own c) (fid : Fid) where
+module _ (x : Cmd) (channel : Option Chan) (g : Geometry) (seen : Seen) (bs : List Block) (own : Owners) (c : Cat) (s : Spells g bs own c) (fid : Fid) where
   abbrev P : Plan → Type 0
   P p = IsAnswer x channel c p
 
@@ -89,16 +90,16 @@ module _ (x : Cmd) (channel : Option Chan) (g : Geometry) (bs : List Block) (own
     unfolding goes
     by_dir f lives t d node new = same node new ∙ ap goes lives ∙ ap (λ t. cond t (told c (tell (told_file f).entries)) (told c (reply.Refused refusal.NotDir))) d
 
-    directory_told : Obeys x g bs own P (through_directory g fid PR (λ h bs. answers (tell (entries_seen bs)))) []
+    directory_told : Obeys x g bs own c seen P (through_directory g fid PR (λ h bs. answers (tell (entries_seen bs)))) []
     unfolding goes
-    directory_told = directory_obeys x g bs own c s AnySpace (λ held. P) fid [] (λ h. h) PR (inl refl) (λ h bs. answers (tell (entries_seen bs)))
+    directory_told = directory_obeys x g bs own c s seen (λ held. P) fid [] (λ h. h) (inl (λ h. h)) (λ other h. absurd h) PR (inl refl) (λ h bs. answers (tell (entries_seen bs)))
         (λ none held. tells_so (reply.Refused refusal.NoSuchFile) (λ node new. same node new ∙ ap goes none))
         (λ f lives d. tells_so (reply.Refused refusal.NotDir) (by_dir f lives false d))
         (λ f is. tells_so (tell (entries_seen (listed_blocks bs g fid))) (λ node new. by_dir f is.live true is.dir node new ∙ ap (λ es. told c (tell es)) is.entries))
 
   -- STAT
   module _ (same : (node : ℕ) (new : Option ℕ) → outcome c node x new ≡ stat_of c (live c fid)) where
-    stat_behind : IsFileNumber g fid.num → (o : Option Hdr) → live_in fid.seq hb ≡ o → Obeys x g bs own P (facts_or_none o) ((S fid.num, PR) ∷ [])
+    stat_behind : IsFileNumber g fid.num → (o : Option Hdr) → live_in fid.seq hb ≡ o → Obeys x g bs own c seen P (facts_or_none o) ((S fid.num, PR) ∷ [])
     stat_behind is None e = tells_so (reply.Refused refusal.NoSuchFile) (λ node new. same node new ∙ ap (stat_of c) (live_is g bs own c s fid is ∙ ap (option_map told_file) e))
     stat_behind is (Some f) e =
         let reads : header_read hb ≡ Ok (head.Used f) = live_reads fid.seq (header_read hb) f e in
@@ -106,18 +107,18 @@ module _ (x : Cmd) (channel : Option Chan) (g : Geometry) (bs : List Block) (own
         tells_so (facts_of f) (λ node new. same node new ∙ ap (stat_of c) (live_is g bs own c s fid is ∙ ap (option_map told_file) e)
         ∙ ap (λ n. told c (reply.Facts f.dir (record { 0 = f.owner }) n f.mark f.end f.byte)) blocks)
 
-    stat_told : Obeys x g bs own P (through_header g fid PR (λ b. facts_or_none (live_in fid.seq b))) []
-    stat_told = header_obeys x g bs own c s AnySpace (λ held. P) fid [] (λ h. h) PR (inl refl) (λ b. facts_or_none (live_in fid.seq b))
+    stat_told : Obeys x g bs own c seen P (through_header g fid PR (λ b. facts_or_none (live_in fid.seq b))) []
+    stat_told = header_obeys x g bs own c s seen (λ held. P) fid [] (λ h. h) (inl (λ h. h)) (λ other h. absurd h) PR (inl refl) (λ b. facts_or_none (live_in fid.seq b))
         (λ out. tells_so (reply.Refused refusal.NoSuchFile) (λ node new. same node new ∙ ap (stat_of c) (not_live g bs own c s fid out)))
         (λ is. stat_behind is (live_in fid.seq hb) refl)
 
-obeys : (x : Cmd) → IsLook x → (g : Geometry) (channel : Option Chan) (bs : List Block) (own : Owners) (c : Cat) → Spells g bs own c → Obeys x g bs own (IsAnswer x channel c) (events_of g channel x) []
+obeys : (x : Cmd) → IsLook x → (g : Geometry) (channel : Option Chan) (seen : Seen) (bs : List Block) (own : Owners) (c : Cat) → Spells g bs own c → Obeys x g bs own c seen (IsAnswer x channel c) (events_of g channel x) []
 unfolding events_of lookup_events list_events stat_events outcome lookup_outcome list_outcome stat_outcome
-obeys (cmd.Lookup reg dir name ver) look g channel bs own c s =
-    directory_told (cmd.Lookup reg dir name ver) channel g bs own c s dir (λ es. found (entry_of (versions name es) ver)) (λ node new. refl)
-obeys (cmd.List dir) look g channel bs own c s = directory_told (cmd.List dir) channel g bs own c s dir (λ es. reply.Listed es) (λ node new. refl)
-obeys (cmd.Stat file) look g channel bs own c s = stat_told (cmd.Stat file) channel g bs own c s file (λ node new. refl)
-obeys other look g channel bs own c s = absurd look
+obeys (cmd.Lookup reg dir name ver) look g channel seen bs own c s =
+    directory_told (cmd.Lookup reg dir name ver) channel g seen bs own c s dir (λ es. found (entry_of (versions name es) ver)) (λ node new. refl)
+obeys (cmd.List dir) look g channel seen bs own c s = directory_told (cmd.List dir) channel g seen bs own c s dir (λ es. reply.Listed es) (λ node new. refl)
+obeys (cmd.Stat file) look g channel seen bs own c s = stat_told (cmd.Stat file) channel g seen bs own c s file (λ node new. refl)
+obeys other look g channel seen bs own c s = absurd look
 
 pub look_lawful : (x : Cmd) → IsLook x → Lawful x
 look_lawful x look = only_looks_lawful x (record { searches = searches x look; plain = plain x look; obeys = obeys x look })

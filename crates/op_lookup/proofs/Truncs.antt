@@ -25,6 +25,7 @@ use Rattle.vol_parts.specs.declared.geometry.Geometry.{Geometry}
 use Rattle.vol_spell.specs.Reading.{IsFileNumber}
 use Rattle.vol_spell.specs.Spelling.{Spells}
 use Rattle.op_law.specs.declared.need.Plan.{Plan}
+use Rattle.op_law.specs.declared.seen.Seen.{Seen}
 use Rattle.op_law.specs.declared.seen.Chan.{Chan}
 use Rattle.op_law.specs.declared.need.Need.{Need}
 use Rattle.op_law.specs.Events.{Events, Space, HasNoSearch, following}
@@ -35,7 +36,7 @@ use Rattle.op_law.specs.Sizes.{keep_clusters, trunc_in, trunc_events}
 use Rattle.op_law.specs.Needs.{events_of}
 use Rattle.op_law.specs.Laws.{Lawful}
 use Rattle.op_law.proofs.Telling.{live_is, not_live}
-use Rattle.op_law.proofs.Walking.{EveryPlan, AnySpace, Obeys}
+use Rattle.op_law.proofs.Walking.{EveryPlan, Obeys}
 use Rattle.op_law.proofs.Through.{header_so, file_header, file_told, header_obeys}
 use Rattle.op_law.proofs.OnlyLooking.{IsPlain, IsAnswer, only_looks_lawful}
 use Rattle.op_lookup.specs.Kinds.{IsSystemTrunc}
@@ -66,7 +67,7 @@ plain (cmd.Trunc file blocks) system g channel = header_so (EveryPlan IsPlain) (
     (λ b. behind g file (clusters_for g blocks) system (EveryPlan IsPlain) b (live_in file.seq b) (record { writes = refl; ask = refl }) (record { writes = refl; ask = refl }))
 plain other system g channel = absurd system
 
-module _ (file : Fid) (blocks : ℕ) (system : file.num ≤ 11) (channel : Option Chan) (g : Geometry) (bs : List Block) (own : Owners) (c : Cat) (s : Spells g bs own c) where
+module _ (file : Fid) (blocks : ℕ) (system : file.num ≤ 11) (channel : Option Chan) (g : Geometry) (seen : Seen) (bs : List Block) (own : Owners) (c : Cat) (s : Spells g bs own c) where
   abbrev x : Cmd
   x = cmd.Trunc file blocks
 
@@ -81,25 +82,25 @@ module _ (file : Fid) (blocks : ℕ) (system : file.num ≤ 11) (channel : Optio
   refused_so r e = λ node has. let p = pick_exists c in (p.0, p.1, e)
 
   at_header : IsFileNumber g file.num → (o : Option Hdr) → live_in file.seq hb ≡ o
-      → Obeys x g bs own P (if_file (refuses refusal.NoSuchFile) (trunc_in g (clusters_for g blocks)) (option_map (seen_file g file.num hb) o)) ((S file.num, PW) ∷ [])
+      → Obeys x g bs own c seen P (if_file (refuses refusal.NoSuchFile) (trunc_in g (clusters_for g blocks)) (option_map (seen_file g file.num hb) o)) ((S file.num, PW) ∷ [])
   at_header is None e = refused_so refusal.NoSuchFile (ap (λ f. trunc_of c file.num f blocks) (live_is g bs own c s file is
       ∙ ap (option_map (file_told bs g file)) e))
   at_header is (Some h) e =
       let f : File = file_told bs g file h in
-      subst (λ es. Obeys x g bs own P es ((S file.num, PW) ∷ [])) (sym (kept_so g file (clusters_for g blocks) system (seen_file g file.num hb h) refl))
+      subst (λ es. Obeys x g bs own c seen P es ((S file.num, PW) ∷ [])) (sym (kept_so g file (clusters_for g blocks) system (seen_file g file.num hb h) refl))
       (refused_so refusal.NoPriv (ap (λ f. trunc_of c file.num f blocks) (live_is g bs own c s file is ∙ ap (option_map (file_told bs g file)) e)
       ∙ ap (λ t. cond (t || f.dir) (refused c refusal.NoPriv) (truncated c file.num f (min f.clusters (in_clusters c blocks)))) (is_low g file (clusters_for g blocks) system)))
 
-  trunc_obeys : Obeys x g bs own P (events_of g channel x) []
+  trunc_obeys : Obeys x g bs own c seen P (events_of g channel x) []
   unfolding events_of trunc_events
-  trunc_obeys = header_obeys x g bs own c s AnySpace (λ held. P) file [] (λ h. h) PW (inr (inl refl)) _
+  trunc_obeys = header_obeys x g bs own c s seen (λ held. P) file [] (λ h. h) (inl (λ h. h)) (λ other h. absurd h) PW (inr (inl refl)) _
       (λ out. refused_so refusal.NoSuchFile (ap (λ f. trunc_of c file.num f blocks) (not_live g bs own c s file out)))
       (λ is. at_header is (live_in file.seq hb) refl)
 
-obeys : (x : Cmd) → IsSystemTrunc x → (g : Geometry) (channel : Option Chan) (bs : List Block) (own : Owners) (c : Cat) → Spells g bs own c
-    → Obeys x g bs own (IsAnswer x channel c) (events_of g channel x) []
-obeys (cmd.Trunc file blocks) system g channel bs own c s = trunc_obeys file blocks system channel g bs own c s
-obeys other system g channel bs own c s = absurd system
+obeys : (x : Cmd) → IsSystemTrunc x → (g : Geometry) (channel : Option Chan) (seen : Seen) (bs : List Block) (own : Owners) (c : Cat) → Spells g bs own c
+    → Obeys x g bs own c seen (IsAnswer x channel c) (events_of g channel x) []
+obeys (cmd.Trunc file blocks) system g channel seen bs own c s = trunc_obeys file blocks system channel g seen bs own c s
+obeys other system g channel seen bs own c s = absurd system
 
 pub trunc_lawful : (x : Cmd) → IsSystemTrunc x → Lawful x
 trunc_lawful x system = only_looks_lawful x (record { searches = searches x system; plain = plain x system; obeys = obeys x system })

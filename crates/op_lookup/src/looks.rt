@@ -9,14 +9,14 @@ ghost use Rattle.op_law.specs.Needs.{facts_of, lookup_events, list_events, stat_
 use fx_header::Hdr;
 use op_law::{
     Listing, Looked, Need, NoMemory, Seen, answered, directory_seen, entries_seen, header_seen,
-    live_in, refused,
+    live_in, refused, versions_seen,
 };
 use plain_cat::{Fid, Mode, Name, Refusal, Reply, Uic};
 use plain_vol::look_up;
 use std::alloc::Global;
 
 // LOOKUP
-#[tactic(auto, unfolding(op_law::specs::Needs::lookup_events))]
+#[tactic(auto, using(op_law::proofs::Versions::versions_twice), unfolding(op_law::specs::Needs::lookup_events))]
 pub(crate) fn lookup_next(
     alloc: Global,
     dir: Fid,
@@ -31,7 +31,7 @@ pub(crate) fn lookup_next(
     match directory_seen(alloc, &seen.geometry, dir, Mode::PR, seen.all()) {
         Listing::Next(need) => Ok(need),
         Listing::All(_, blocks, _) => {
-            let entries = entries_seen(alloc, blocks)?;
+            let entries = versions_seen(alloc, blocks, name)?;
             Ok(answered(alloc, look_up(alloc, &entries, name, ver)?))
         }
     }

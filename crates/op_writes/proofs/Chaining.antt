@@ -1,5 +1,5 @@
--- Slots beside the one that is written, a directory whose file stays, and places that writes in a row touch.
-use Rattle.std.proofs.Common.{◌≡◌, ◌≤◌, ◌-◌, ◌∙◌, ◌⊎◌, inl, inr, ℕ, Bool, true, false, cond, List, [], ◌∷◌, ◌++◌, Option, Some, None, slice_get, slice_set, refl, sym, ap, arith}
+-- Slots beside the one that is written, and a directory whose file stays.
+use Rattle.std.proofs.Common.{◌≡◌, ◌≤◌, ◌-◌, ◌∙◌, ℕ, Bool, true, false, cond, List, [], Option, Some, None, slice_get, slice_set, refl, sym, ap, arith}
 use Rattle.std.specs.Prelude.{◌==◌, Ok}
 use Rattle.vol_words.specs.Fields.{Block}
 use Rattle.fx_header.specs.declared.slot.Hdr.{Hdr}
@@ -16,16 +16,15 @@ use Rattle.vol_owners.specs.Owners.{Owners}
 use Rattle.vol_owners.specs.Places.{blocks_at}
 use Rattle.vol_owners.proofs.Writing.{get-set_else}
 use Rattle.vol_parts.specs.declared.geometry.Geometry.{Geometry}
-use Rattle.vol_spell.specs.Reading.{header_block, runs_told, body_places}
+use Rattle.vol_parts.specs.Volumes.{Told}
+use Rattle.vol_spell.specs.Reading.{header_block, told_of, runs_told, body_places}
 use Rattle.vol_spell.specs.Spelling.{Spells}
 use Rattle.vol_spell.specs.Views.{IsSameFile}
-use Rattle.op_law.specs.declared.need.PlanWrite.{PlanWrite}
 use Rattle.op_law.specs.Rows.{places_in}
 use Rattle.op_law.specs.Moving.{SeenDir}
 use Rattle.op_law.proofs.Telling.{live_reads, reads_runs}
 use Rattle.op_law.proofs.Looks.{plain_directory}
 use Rattle.op_law.proofs.Through.{IsListed}
-use Rattle.op_writes.specs.Chained.{TouchedBy}
 use Rattle.op_writes.specs.EntryWrites.{dir_in}
 
 -- the slot of a live file
@@ -58,16 +57,11 @@ pub same_dir : (g : Geometry) (bs : List Block) (own : Owners) (c : Cat) (s : Sp
 same_dir g bs own c s fid f dir bs' same =
     let h : Block = header_block g bs fid.num in
     let reads : header_read h ≡ Ok (head.Used f) = live_reads fid.seq (header_read h) f dir.header in
-    let places : body_places fid.num h ≡ places_in h =
+    let t : Told = told_of g bs fid.num in
+    let places : body_places fid.num t ≡ places_in h =
     ap (λ t. cond t [] (lbns_in (runs_told h))) (plain_directory g bs own c s fid.num f reads dir.dir) ∙ ap (λ rs. lbns_in rs) (reads_runs h f reads) in
     let body : blocks_at bs' (places_in h) ≡ blocks_at bs (places_in h) =
-    ap (blocks_at bs') (sym places) ∙ ap (λ b. blocks_at bs' (body_places fid.num b)) (sym same.header) ∙ same.body ∙ ap (blocks_at bs) places in
+    ap (blocks_at bs') (sym places) ∙ ap (λ x. blocks_at bs' (body_places fid.num x)) (sym same.told) ∙ same.body ∙ ap (blocks_at bs) places in
     ap (λ b. dir_of b (blocks_at bs' (places_in b))) same.header ∙ ap (dir_of h) body where
       dir_of : Block → List Block → SeenDir
       dir_of b blocks = record { fid = fid; head = b; blocks = blocks }
-
--- a place that is touched, by the writes before or behind
-pub touched_in : (vs ws : List PlanWrite) (l : ℕ) → TouchedBy (vs ++ ws) l → TouchedBy vs l ⊎ TouchedBy ws l
-touched_in [] ws l t = inr t
-touched_in (v ∷ vs) ws l (inl e) = inl (inl e)
-touched_in (v ∷ vs) ws l (inr t) = elim (touched_in vs ws l t) [ inl h ↦ inl (inr h) | inr h ↦ inr h ]

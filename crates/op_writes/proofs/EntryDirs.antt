@@ -27,10 +27,10 @@ use Rattle.vol_owners.specs.Places.{blocks_at}
 use Rattle.vol_owners.proofs.Placing.{length-blocks_at}
 use Rattle.vol_parts.specs.declared.finding.Finding.TheVariants as finding
 use Rattle.vol_parts.specs.declared.geometry.Geometry.{Geometry}
-use Rattle.vol_parts.specs.Volumes.{fields_in, runs_with}
+use Rattle.vol_parts.specs.Volumes.{Told, fields_in, runs_with}
 use Rattle.vol_parts.specs.Catalogues.{plain_entry, plain_entries, is_structure, written_blocks, entries_in, file_of, slot_with}
 use Rattle.vol_parts.specs.Fatal.{is_cluster_run, has_dir_size, found_in}
-use Rattle.vol_spell.specs.Reading.{IsFileNumber, header_block, fields_told, runs_told, body_places, body_blocks}
+use Rattle.vol_spell.specs.Reading.{IsFileNumber, header_block, told_of, runs_told, body_places, body_blocks}
 use Rattle.vol_spell.specs.Spelling.{Tells, dir_found, Spells}
 use Rattle.vol_spell.proofs.Frames.{of_body}
 use Rattle.vol_under.specs.Series.{slot_told}
@@ -48,7 +48,7 @@ pub record IsDirAt (g : Geometry) (bs : List Block) (n : ℕ) (d : File) : Type 
   pub entries : List RawEnt
   pub header : header_read (header_block g bs n) ≡ Ok (head.Used fields)
   pub dir : fields.dir ≡ true
-  pub places : body_places n (header_block g bs n) ≡ places_in (header_block g bs n)
+  pub places : body_places n (told_of g bs n) ≡ places_in (header_block g bs n)
   pub file : file_of g.cluster n fields (blocks_of g bs n) ≡ d
   pub size : has_dir_size g.cluster fields (runs_in (header_block g bs n)) ≡ true
   pub read : directory (blocks_of g bs n) ≡ Ok entries
@@ -100,20 +100,20 @@ module _ (g : Geometry) (bs : List Block) (own : Owners) (x : Cat) (s : Spells g
   abbrev h : Block
   h = header_block g bs n
 
-  tells : Tells g own n h (body_blocks bs n h) (slot.Used d)
+  tells : Tells g own n (told_of g bs n) (body_blocks bs n (told_of g bs n)) (slot.Used d)
   tells = s.files n (slot.Used d) is (used_at x n d at)
 
-  by_read : (r : Result Head HeaderFault) → header_read h ≡ r → slot_with g.cluster n r (body_blocks bs n h) ≡ slot.Used d
-      → dir_found g n (fields_in r) (runs_with (fields_in r) h) (body_blocks bs n h) ≡ None → IsDirAt g bs n d
+  by_read : (r : Result Head HeaderFault) → header_read h ≡ r → slot_with g.cluster n r (body_blocks bs n (told_of g bs n)) ≡ slot.Used d
+      → dir_found g n (fields_in r) (runs_with (fields_in r) h) (body_blocks bs n (told_of g bs n)) ≡ None → IsDirAt g bs n d
   by_read (Err fault) e told found = absurd (cc)
   by_read (Ok (head.Free seq)) e told found = absurd (cc)
   by_read (Ok (head.Used f)) e told found =
-      let file : file_of g.cluster n f (body_blocks bs n h) ≡ d = cc in
+      let file : file_of g.cluster n f (body_blocks bs n (told_of g bs n)) ≡ d = cc in
       let is_dir : f.dir ≡ true = ap (λ (y : File). y.dir) file ∙ dir in
       let plain : is_structure n ≡ false = plain_directory g bs own x s n f e is_dir in
-      let places : body_places n h ≡ places_in h =
+      let places : body_places n (told_of g bs n) ≡ places_in h =
       ap (λ q. if q then [] else lbns_in (runs_told h)) plain ∙ ap (λ r. lbns_in (runs_with (fields_in r) h)) e in
-      let body : body_blocks bs n h ≡ blocks_of g bs n = ap (blocks_at bs) places in
+      let body : body_blocks bs n (told_of g bs n) ≡ blocks_of g bs n = ap (blocks_at bs) places in
       let found_on : dir_found g n (Some f) (runs_in h) (blocks_of g bs n) ≡ None = ap (dir_found g n (Some f) (runs_in h)) (sym body) ∙ found in
       let sound = nothing_found g n f (runs_in h) (blocks_of g bs n) is_dir found_on in
       let run = and_parts (is_cluster_run g.cluster (runs_in h)) ((f.mark == 0) && ((f.end == g.cluster + 1) && (f.byte == 0))) sound.size in
@@ -146,11 +146,11 @@ pub dir_lists : (g : Geometry) (bs : List Block) (n : ℕ) (d : File) (at : IsDi
 dir_lists g bs n d at = ap (λ (y : File). y.entries) (sym at.file) ∙ entries_told at.fields (blocks_of g bs n) at.dir ∙ ap plain_entries at.read
 
 -- blocks that read as these entries tell the directory with them, and nothing is found in it
-pub record ShowsDir (g : Geometry) (n : ℕ) (h : Block) (d : File) (es : List RawEnt) (blocks : List Block) : Type 0 where
-  pub none : dir_found g n (fields_told h) (runs_told h) blocks ≡ None
-  pub slot : slot_told g n h blocks ≡ slot.Used (record d { entries = map plain_entry es })
+pub record ShowsDir (g : Geometry) (n : ℕ) (t : Told) (d : File) (es : List RawEnt) (blocks : List Block) : Type 0 where
+  pub none : dir_found g n (fields_in t.head) t.runs blocks ≡ None
+  pub slot : slot_told g n t blocks ≡ slot.Used (record d { entries = map plain_entry es })
 
-pub shows_dir : (g : Geometry) (bs : List Block) (n : ℕ) (d : File) (at : IsDirAt g bs n d) (es : List RawEnt) (blocks : List Block) → dir_entries blocks ≡ Ok es → ShowsDir g n (header_block g bs n) d es blocks
+pub shows_dir : (g : Geometry) (bs : List Block) (n : ℕ) (d : File) (at : IsDirAt g bs n d) (es : List RawEnt) (blocks : List Block) → dir_entries blocks ≡ Ok es → ShowsDir g n (told_of g bs n) d es blocks
 shows_dir g bs n d at es blocks read =
     let f = at.fields in
     let h = header_block g bs n in

@@ -28,7 +28,7 @@ use Rattle.vol_parts.specs.declared.geometry.Geometry.{Geometry}
 use Rattle.vol_parts.specs.declared.geometry.Part.TheVariants.{Header}
 use Rattle.vol_parts.specs.Parts.{part_of}
 use Rattle.vol_parts.specs.Catalogues.{plain_entry}
-use Rattle.vol_spell.specs.Reading.{IsFileNumber, header_place, header_block, body_places, body_blocks, owner_at}
+use Rattle.vol_spell.specs.Reading.{IsFileNumber, header_place, header_block, header_tells, told_of, body_places, body_blocks, owner_at}
 use Rattle.vol_spell.specs.Spelling.{Spells}
 use Rattle.vol_spell.specs.Views.{IsSameFile}
 use Rattle.vol_spell.proofs.Parts.{part_there}
@@ -52,7 +52,7 @@ use Rattle.op_writes.proofs.EntryDirs.{blocks_of, IsDirAt, ShowsDir, shows_dir, 
 -- ---- writes to blocks of one file leave each header, and the others' blocks
 
 module _ (g : Geometry) (bs : List Block) (own : Owners) (x : Cat) (s : Spells g bs own x) (n : ℕ) (is : IsFileNumber g n)
-    (ws : List (ℕ × Block)) (within : (l : ℕ) → Touches ws l → Has (body_places n (header_block g bs n)) l) where
+    (ws : List (ℕ × Block)) (within : (l : ℕ) → Touches ws l → Has (body_places n (told_of g bs n)) l) where
   header_kept : (i : ℕ) → IsFileNumber g i → header_block g (written ws bs) i ≡ header_block g bs i
   header_kept i file = ap (λ (ys : List Block). slice_index_or ys 0 []) (blocks_kept ws bs (header_place g i ∷ []) no_header) where
     no_header : (l : ℕ) → Touches ws l → Has (header_place g i ∷ []) l → ⊥
@@ -60,8 +60,11 @@ module _ (g : Geometry) (bs : List Block) (own : Owners) (x : Cat) (s : Spells g
     no_header l t (inr none) = none
 
   others_kept : (i : ℕ) → IsFileNumber g i → (i ≡ n → ⊥) → IsSameFile g bs (written ws bs) i
-  others_kept i file other = record { header = header_kept i file; body = ap (body_blocks (written ws bs) i) (header_kept i file) ∙ blocks_kept ws bs (body_places i (header_block g bs i)) no_block } where
-    no_block : (l : ℕ) → Touches ws l → Has (body_places i (header_block g bs i)) l → ⊥
+  others_kept i file other = record { header = header_kept i file; told = kept; body = ap (body_blocks (written ws bs) i) kept ∙ blocks_kept ws bs (body_places i (told_of g bs i)) no_block } where
+    kept : told_of g (written ws bs) i ≡ told_of g bs i
+    kept = ap (header_tells i) (header_kept i file)
+
+    no_block : (l : ℕ) → Touches ws l → Has (body_places i (told_of g bs i)) l → ⊥
     no_block l t u =
         let here : owner_at g own l ≡ Some (InFile n) = (body_owned g bs own x s n l is (within l t)).1 in
         let there : owner_at g own l ≡ Some (InFile i) = (body_owned g bs own x s i l file u).1 in
@@ -112,15 +115,15 @@ turns_within d before after (suc k) (m ∷ ms) body changes count l (inr t) =
     turns_within d before after k ms (slice_set body (m.vbn - 1) m.block) changes.1 (length-set body (m.vbn - 1) m.block ∙ count) l t
 
 module _ (k : Chain) (x : Cat) (d : SeenDir) (f : File) (old : List RawEnt) (new : List RawEnt) (before after : Stage)
-    (places : body_places d.fid.num d.head ≡ places_in d.head)
-    (keeps : (blocks : List Block) → dir_entries blocks ≡ Ok old → ShowsDir k.geometry d.fid.num d.head f old blocks)
-    (shows : (blocks : List Block) → dir_entries blocks ≡ Ok new → ShowsDir k.geometry d.fid.num d.head f new blocks)
+    (places : body_places d.fid.num (header_tells d.fid.num d.head) ≡ places_in d.head)
+    (keeps : (blocks : List Block) → dir_entries blocks ≡ Ok old → ShowsDir k.geometry d.fid.num (header_tells d.fid.num d.head) f old blocks)
+    (shows : (blocks : List Block) → dir_entries blocks ≡ Ok new → ShowsDir k.geometry d.fid.num (header_tells d.fid.num d.head) f new blocks)
     (stage : StageOf k before (with_entries x d.fid.num f (map plain_entry old)))
     (done : StageOf k after (with_entries x d.fid.num f (map plain_entry new))) where
   -- a move whose blocks tell the directory with these entries
   one_move : (t : Stage) (es : List RawEnt) (m : Move) (ms : List Move) (body : List Block) → IsWholeBlock m.block → AreChanges (m ∷ ms) body → length body ≡ length (places_in d.head)
-      → StageOf k t (with_entries x d.fid.num f (map plain_entry es)) → ShowsDir k.geometry d.fid.num d.head f es (slice_set body (m.vbn - 1) m.block)
-      → IsBodyMove k.geometry k.node k.cmd k.cat x d.fid.num d.head (things [] None) (planned (move_write d t m)) (m.vbn - 1) (slice_set body (m.vbn - 1) m.block)
+      → StageOf k t (with_entries x d.fid.num f (map plain_entry es)) → ShowsDir k.geometry d.fid.num (header_tells d.fid.num d.head) f es (slice_set body (m.vbn - 1) m.block)
+      → IsBodyMove k.geometry k.node k.cmd k.cat x d.fid.num (header_tells d.fid.num d.head) (things [] None) (planned (move_write d t m)) (m.vbn - 1) (slice_set body (m.vbn - 1) m.block)
   one_move t es m ms body whole changes count stands show = record {
     whole = whole;
     place = ap (λ ls. slice_get ls (m.vbn - 1)) places ∙ placed d.head m ms body changes count;
@@ -133,7 +136,7 @@ module _ (k : Chain) (x : Cat) (d : SeenDir) (f : File) (old : List RawEnt) (new
   turns_move : (j : ℕ) (ms : List Move) (body : List Block) → Each (λ m. IsWholeBlock m.block) ms → AreChanges ms body → length body ≡ length (places_in d.head)
       → ((i : ℕ) → 1 ≤ i → i ≤ j → i ≤ length ms → dir_entries (moved (take i ms) body) ≡ Ok old)
       → ((i : ℕ) → j < i → i ≤ length ms → dir_entries (moved (take i ms) body) ≡ Ok new)
-      → BodyMoves k.geometry k.node k.cmd k.cat x d.fid.num d.head (things [] None) (in_turn d before after j ms) body
+      → BodyMoves k.geometry k.node k.cmd k.cat x d.fid.num (header_tells d.fid.num d.head) (things [] None) (in_turn d before after j ms) body
   turns_move j [] body whole changes count same other = tt
   turns_move zero (m ∷ ms) body whole changes count same other =
       let next = slice_set body (m.vbn - 1) m.block in
@@ -156,7 +159,7 @@ pub record AreMovesTo (body : List Block) (old new : List RawEnt) (j : ℕ) (ms 
 
 -- what the writes touch are blocks of the directory
 pub moves_touch : (g : Geometry) (bs : List Block) (dir : Fid) (f : File) (before after : Stage) (at : IsDirAt g bs dir.num f) (old new : List RawEnt) (j : ℕ) (ms : List Move)
-    → AreMovesTo (blocks_of g bs dir.num) old new j ms → (l : ℕ) → TouchedBy (moves_at (dir_in g bs dir) before after j ms) l → Has (body_places dir.num (header_block g bs dir.num)) l
+    → AreMovesTo (blocks_of g bs dir.num) old new j ms → (l : ℕ) → TouchedBy (moves_at (dir_in g bs dir) before after j ms) l → Has (body_places dir.num (told_of g bs dir.num)) l
 moves_touch g bs dir f before after at old new j ms are l t =
     let d : SeenDir = dir_in g bs dir in
     let u : Touches (bare (plan_of (in_turn d before after j ms))) l = subst (λ (ps : List PlannedWrite). Touches (bare ps) l) (sym (turns d before after j ms)) t in
@@ -238,8 +241,8 @@ module _ (end : End) (k : Chain) (dir : Fid) (f : File) (before after : Stage) (
       let lt = are.decides in
       ap (λ (ns : List Move). dir_entries (moved ns (blocks_of k.geometry bs dir.num))) (sym (take_all (length ms) ms (omega arith))) ∙ are.other (length ms) lt (omega arith)
 
-  told : slot_told k.geometry dir.num d.head (body_after turns_of (blocks_of k.geometry bs dir.num)) ≡ slot.Used (record f { entries = map plain_entry new })
-  told = ap (slot_told k.geometry dir.num d.head) (turns_body d before after j ms (blocks_of k.geometry bs dir.num)) ∙ (shows_dir k.geometry bs dir.num f at new _ last).slot
+  told : slot_told k.geometry dir.num (header_tells dir.num d.head) (body_after turns_of (blocks_of k.geometry bs dir.num)) ≡ slot.Used (record f { entries = map plain_entry new })
+  told = ap (slot_told k.geometry dir.num (header_tells dir.num d.head)) (turns_body d before after j ms (blocks_of k.geometry bs dir.num)) ∙ (shows_dir k.geometry bs dir.num f at new _ last).slot
 
   abbrev Rest : List PlannedWrite → Type 0
   Rest ps = Spells k.geometry (written (bare ps) bs) own (with_entries x dir.num f (map plain_entry new)) → OthersStay k.geometry dir.num bs (written (bare ps) bs)
@@ -257,7 +260,7 @@ module _ (end : End) (k : Chain) (dir : Fid) (f : File) (before after : Stage) (
       let moves = turns_move k x d f (map plain at.entries) new before after at.places (shows_dir k.geometry bs dir.num f at (map plain at.entries)) (shows_dir k.geometry bs dir.num f at new) first done
       j ms (blocks_of k.geometry bs dir.num) are.whole are.changes count (λ i from to le. are.same i to) are.other in
       subst (λ (ps : List PlannedWrite). Steps end k.geometry k.node k.cmd k.locks k.cat k.stock ps bs own) all
-      (body_series end k.geometry k.node k.cmd k.locks k.cat x k.stock (things [] None) dir.num d.head (blocks_of k.geometry bs dir.num) turns_of (map planned ws) bs own is s.spelt
-      (record { header = refl; body = ap (blocks_at bs) at.places }) s.outs moves
+      (body_series end k.geometry k.node k.cmd k.locks k.cat x k.stock (things [] None) dir.num d.head (header_tells dir.num d.head) (blocks_of k.geometry bs dir.num) turns_of (map planned ws) bs own is s.spelt
+      (record { header = refl; told = refl; body = ap (blocks_at bs) at.places }) s.outs moves
       (λ spelt there. behind (subst (λ (t : Slot). Spells k.geometry (written (bare (plan_of turns_of)) bs) own (with_slot x dir.num t)) told spelt)
       (subst (λ (ps : List PlannedWrite). OthersStay k.geometry dir.num bs (written (bare ps) bs)) (sym (turns d before after j ms)) stay)))

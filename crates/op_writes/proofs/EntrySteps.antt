@@ -1,5 +1,5 @@
 -- The writes that enter an entry into a directory are steps, and the directory's lock guards them.
-use Rattle.std.proofs.Common.{◌≡◌, ◌∙◌, ◌<◌, ◌-◌, ◌++◌, false, List, [], ◌∷◌, Some, None, Ok, length, map, take_all, unwrap_or, refl, sym, ap, subst, arith, length-append}
+use Rattle.std.proofs.Common.{◌≡◌, ◌∙◌, ◌<◌, ◌-◌, ◌++◌, false, List, [], ◌∷◌, Some, None, Ok, length, map, take, drop, take_all, unwrap_or, inl, inr, ℕ, refl, sym, ap, subst, arith, length-append}
 use Rattle.std.proofs.lemmas.Option.{slice_get-get_or}
 use Rattle.vol_words.specs.Fields.{Block}
 use Rattle.vol_words.specs.Packing.{pack, over}
@@ -15,6 +15,7 @@ use Rattle.fx_dir.proofs.Seeing.{inserted-each, plain-as_new, as_new-form, as_ne
 use Rattle.fx_dir.proofs.Inserting.{inserts}
 use Rattle.blk_whole.proofs.Ranges.{read-sound}
 use Rattle.blk_whole.proofs.Moving.{whole_insertion}
+use Rattle.lock_db.specs.declared.name.LockName.TheVariants.{S}
 use Rattle.plain_cat.specs.declared.ids.Fid.{Fid}
 use Rattle.plain_cat.specs.declared.entries.DirEnt.{DirEnt}
 use Rattle.plain_cat.specs.declared.history.Stage.{Stage}
@@ -23,17 +24,22 @@ use Rattle.plain_cat.specs.declared.cat.File.{File}
 use Rattle.plain_vol.specs.Lookups.{versions}
 use Rattle.plain_vol.specs.Directories.{inserted as listed, is_taken, fits}
 use Rattle.plain_vol.specs.Changes.{with_entries}
+use Rattle.vol_owners.specs.Lists.{Has}
 use Rattle.vol_owners.specs.Owners.{Owners}
+use Rattle.vol_owners.proofs.Listing.{has_parted}
 use Rattle.vol_parts.specs.declared.geometry.Geometry.{Geometry}
+use Rattle.vol_parts.specs.declared.geometry.Part.TheVariants.{Header}
 use Rattle.vol_parts.specs.Catalogues.{plain_entry}
 use Rattle.vol_spell.specs.Reading.{owner_at}
 use Rattle.vol_spell.specs.Spelling.{Spells}
+use Rattle.vol_spell.specs.Bodies.{IsOfBody}
 use Rattle.vol_spell.proofs.Frames.{of_body}
 use Rattle.vol_under.specs.Chains.{End}
 use Rattle.vol_under.specs.Guards.{guard_by}
 use Rattle.op_law.specs.declared.need.PlanWrite.{PlanWrite}
 use Rattle.op_law.specs.Writing.{empty_handed}
-use Rattle.op_law.specs.Moving.{moves_at, raw_entry, insertion_moves, insertion_writes, with_new}
+use Rattle.op_law.proofs.Naming.{under_lock, TouchesNoHeader}
+use Rattle.op_law.specs.Moving.{SeenDir, move_write, moves_at, raw_entry, insertion_moves, insertion_writes, with_new}
 use Rattle.op_writes.specs.Chained.{Chain, StepsOf, StageOf, after_writes, TouchedBy, StandsOn, OthersStay}
 use Rattle.op_writes.specs.EntryWrites.{dir_in, CanBeEntered, EntrySteps, EntryGuards}
 use Rattle.op_writes.proofs.EntryLists.{inserted_plain, map_plain, not_there, none_over}
@@ -147,10 +153,47 @@ pub entry_moved : (g : Geometry) (dir : Fid) (d : File) (e : DirEnt) (x : Cat) (
     → length (insertion_moves (dir_in g bs dir) e) - 1 < length (insertion_moves (dir_in g bs dir) e)
 entry_moved g dir d e x bs own s can = subst (λ (ns : List Move). length ns - 1 < length ns) (sym (moves_are g bs own x dir d e s can)) (are_moves g bs own x dir d e s can).decides
 
-pub entry_guards : EntryGuards
+-- what they touch are blocks of the directory
+touched_body : (g : Geometry) (dir : Fid) (d : File) (e : DirEnt) (before after : Stage) (x : Cat) (bs : List Block) (own : Owners) (l : ℕ) → Spells g bs own x → CanBeEntered g x dir.num d e
+    → TouchedBy (insertion_writes (dir_in g bs dir) e before after) l → IsOfBody g bs own dir.num l
 unfolding insertion_writes
-entry_guards g dir d e before after x bs own l s can t =
+touched_body g dir d e before after x bs own l s can t =
     let u = subst (λ (ns : List Move). TouchedBy (moves_at (dir_in g bs dir) before after (length ns - 1) ns) l) (moves_are g bs own x dir d e s can) t in
     let within = moves_touch g bs dir d before after (at g bs own x dir d e s can) _ _ _ (ms g bs own x dir d e s can) (are_moves g bs own x dir d e s can) l u in
-    let o = of_body g bs own x s dir.num l can.number within in
-    ap (λ p. guard_by p (owner_at g own l)) o.no_part ∙ ap (λ w. guard_by None w) o.owned
+    of_body g bs own x s dir.num l can.number within
+
+-- a write among others touches its block
+touched_at : (ws : List PlanWrite) (w : PlanWrite) → Has ws w → TouchedBy ws w.lbn
+touched_at [] w t = absurd t
+touched_at (v ∷ ws) w (inl e) = inl (ap (λ (u : PlanWrite). u.lbn) e)
+touched_at (v ∷ ws) w (inr t) = inr (touched_at ws w t)
+
+-- moves are written under the directory's lock
+moves_locks : (d : SeenDir) (before after : Stage) (k : ℕ) (ms : List Move) (w : PlanWrite) → Has (moves_at d before after k ms) w → w.lock ≡ S d.fid.num
+moves_locks d before after k ms w t = elim (has_parted (map (move_write d before) (take k ms)) (map (move_write d after) (drop k ms)) w t) [
+  | inl h ↦ each before (take k ms) h
+  | inr h ↦ each after (drop k ms) h
+] where
+  each : (s : Stage) (ns : List Move) → Has (map (move_write d s) ns) w → w.lock ≡ S d.fid.num
+  each s [] t = absurd t
+  each s (m ∷ ns) (inl e) = ap (λ (v : PlanWrite). v.lock) (sym e)
+  each s (m ∷ ns) (inr t) = each s ns t
+
+entry_locks : (d : SeenDir) (e : DirEnt) (before after : Stage) (w : PlanWrite) → Has (insertion_writes d e before after) w → w.lock ≡ S d.fid.num
+unfolding insertion_writes
+entry_locks d e before after w t = moves_locks d before after (length (insertion_moves d e) - 1) (insertion_moves d e) w t
+
+pub entry_guards : EntryGuards
+entry_guards g dir d e before after x bs own node locks s can held w t =
+    let ws : List PlanWrite = insertion_writes (dir_in g bs dir) e before after in
+    let o = touched_body g dir d e before after x bs own w.lbn s can (touched_at ws w t) in
+    under_lock node locks g own (S dir.num) w held (entry_locks (dir_in g bs dir) e before after w t)
+    (ap (λ p. guard_by p (owner_at g own w.lbn)) o.no_part ∙ ap (λ y. guard_by None y) o.owned)
+
+-- and none is a header
+pub entry_no_header : (g : Geometry) (dir : Fid) (d : File) (e : DirEnt) (before after : Stage) (x : Cat) (bs : List Block) (own : Owners) → Spells g bs own x → CanBeEntered g x dir.num d e
+    → TouchesNoHeader g (insertion_writes (dir_in g bs dir) e before after)
+entry_no_header g dir d e before after x bs own s can w t i at =
+    let o = touched_body g dir d e before after x bs own w.lbn s can (touched_at (insertion_writes (dir_in g bs dir) e before after) w t) in
+    let both : None ≡ Some (Header i) = sym o.no_part ∙ at in
+    absurd (cc)

@@ -88,6 +88,9 @@ module _ (g : Geometry) (parent : Fid) (n : ℕ) (e : NewEntry) (qs : List ℕ) 
         mark = omega arith;
         end = omega arith;
         byte = omega arith;
+        seg = refl;
+        ext = refl;
+        ext_seq = refl;
       }
 
   abbrev base : Block

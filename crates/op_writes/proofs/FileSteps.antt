@@ -1,5 +1,5 @@
 -- The writes of a new file as steps, and what guards the blocks that they touch.
-use Rattle.std.proofs.Common.{◌≡◌, ◌<◌, ◌+◌, ◌-◌, ◌++◌, ◌⊎◌, ℕ, true, false, List, [], ◌∷◌, Option, Some, None, map, slice_get, slice_set, is_some, refl, sym, ap, subst, ◌∙◌, inl, inr, arith, cond}
+use Rattle.std.proofs.Common.{◌≡◌, ◌<◌, ◌≤◌, ◌+◌, ◌-◌, ◌++◌, ◌⊎◌, ℕ, true, false, List, [], ◌∷◌, Option, Some, None, length, map, slice_get, slice_set, is_some, refl, sym, ap, subst, ◌∙◌, inl, inr, arith, cond}
 use Rattle.std.proofs.lemmas.Bool.Decides.{nat_tests}
 use Rattle.std.proofs.lemmas.Option.{slice_get_within}
 use Rattle.vol_words.specs.Fields.{Block}
@@ -20,15 +20,17 @@ use Rattle.vol_owners.specs.Places.{blocks_at, spread}
 use Rattle.vol_owners.proofs.Listing.{once_first}
 use Rattle.vol_parts.specs.declared.geometry.Geometry.{Geometry}
 use Rattle.vol_parts.specs.declared.geometry.Part.TheVariants.{Header}
-use Rattle.vol_parts.specs.Volumes.{runs_with}
+use Rattle.vol_parts.specs.Volumes.{Told, most_clusters, runs_with}
 use Rattle.vol_parts.specs.Catalogues.{is_structure}
-use Rattle.vol_spell.specs.Reading.{IsFileNumber, total_of, header_place, header_block, fields_told, runs_told, clusters_of, clusters_told, body_places, body_blocks}
+use Rattle.vol_spell.specs.Reading.{IsFileNumber, total_of, header_place, header_block, header_tells, told_of, fields_told, runs_told, clusters_of, clusters_told, body_places, body_blocks}
 use Rattle.vol_spell.specs.Spelling.{AreWhole, IsHead, Tells, Spells}
 use Rattle.vol_spell.specs.Kinds.{IsHeaderFor}
 use Rattle.vol_spell.specs.Views.{IsSameFile}
 use Rattle.vol_spell.proofs.Keeping.{outside_write}
-use Rattle.vol_spell.proofs.Parts.{told, part_there}
-use Rattle.vol_spell.proofs.Viewing.{parts_stay, outside_stays}
+use Rattle.vol_spell.proofs.Parts.{slot_is_own, own_slot_there, own_number, in_use, told, part_there, part_owned}
+use Rattle.vol_spell.proofs.Frames.{on_volume}
+use Rattle.vol_spell.proofs.Adds.{sized}
+use Rattle.vol_spell.proofs.Viewing.{told_set, parts_stay, outside_stays}
 use Rattle.vol_under.specs.UnderWay.{PlannedWrite, bare}
 use Rattle.vol_under.specs.Chains.{End, IsStep, Steps}
 use Rattle.vol_under.specs.Filing.{filed, Takes}
@@ -59,11 +61,11 @@ in_a_row (v ∷ vs) ws w = ap (λ us. planned v ∷ us) (in_a_row vs ws w)
 
 -- what is the same after one write and after those behind it
 pub same_on : (g : Geometry) (a b c : List Block) (i : ℕ) → IsSameFile g a b i → IsSameFile g b c i → IsSameFile g a c i
-same_on g a b c i p q = record { header = q.header ∙ p.header; body = q.body ∙ p.body }
+same_on g a b c i p q = record { header = q.header ∙ p.header; told = q.told ∙ p.told; body = q.body ∙ p.body }
 
 -- writes to blocks that a node has outside leave each file
 files_stay : (g : Geometry) (node : ℕ) (s : Stage) (o : Things) (vs : List PlannedWrite) (bs : List Block) (own : Owners) (x : Cat) → Spells g bs own x → ((w : PlannedWrite) → Has vs w → IsOutsideWrite g node own s o w) → FilesStay g bs (written (bare vs) bs)
-files_stay g node s o [] bs own x spelt each i is = record { header = refl; body = refl }
+files_stay g node s o [] bs own x spelt each i is = record { header = refl; told = refl; body = refl }
 files_stay g node s o (v ∷ vs) bs own x spelt each i is =
     let h = each v (inl refl) in
     let next = outside_write g bs own x node v.lbn v.block spelt h.whole h.owner in
@@ -77,8 +79,8 @@ files_stay g node s o (v ∷ vs) bs own x spelt each i is =
 unused : (g : Geometry) (bs : List Block) (own : Owners) (x : Cat) (node n : ℕ) → Spells g bs own x → IsFileNumber g n → slice_get own.numbers (n - 1) ≡ Some (Outside node) → (q : ℕ) → slice_get own.clusters q ≡ Some (InFile n) → ⊥
 unused g bs own x node n spelt is out q at =
     let t = told g bs own x spelt n is in
-    by_fields (fields_told (header_block g bs n)) refl ((t.runs q).1 at) t.used.0 where
-      by_fields : (o : Option Hdr) → fields_told (header_block g bs n) ≡ o → Has (clusters_told g (header_block g bs n)) q → (is_some (fields_told (header_block g bs n)) ≡ true → slice_get own.numbers (n - 1) ≡ Some (InFile n)) → ⊥
+    by_fields (fields_told (header_block g bs n)) refl ((t.runs q).1 at) (in_use g bs own x spelt n is).0 where
+      by_fields : (o : Option Hdr) → fields_told (header_block g bs n) ≡ o → Has (clusters_told g (told_of g bs n)) q → (is_some (fields_told (header_block g bs n)) ≡ true → slice_get own.numbers (n - 1) ≡ Some (InFile n)) → ⊥
       by_fields None e t used = subst (λ (o : Option Hdr). Has (clusters_of g.cluster (runs_with o (header_block g bs n))) q) e t
       by_fields (Some h) e t used =
           let f : Some (Outside node) ≡ Some (InFile n) = sym out ∙ used (ap is_some e) in absurd (cc)
@@ -116,16 +118,24 @@ module _ (k : Chain) (parent : Fid) (n : ℕ) (e : NewEntry) (qs : List ℕ) (x 
   runs_eq : runs_told head ≡ merged (runs_for k.geometry qs)
   runs_eq = runs_are k.geometry parent n e qs on.spelt.counts.geometry can within
 
-  clusters_eq : clusters_told k.geometry head ≡ qs
+  abbrev tells : Told
+  tells = header_tells n (new_header k.geometry parent n e qs)
+
+  clusters_eq : clusters_told k.geometry tells ≡ qs
   clusters_eq = ap (λ (rs : List Run). clusters_of k.geometry.cluster rs) runs_eq ∙ clusters_for_runs k.geometry on.spelt.counts.geometry.cluster_from qs within
 
-  places_eq : body_places n head ≡ spread k.geometry.cluster qs
+  places_eq : body_places n tells ≡ spread k.geometry.cluster qs
   places_eq = ap (λ t. cond t [] (lbns_in (runs_told head))) plain ∙ ap (λ (rs : List Run). lbns_in rs) runs_eq ∙ lbns_merged k.geometry qs
 
-  bare_blocks : IsBare e.file (body_blocks mid_blocks n head)
+  bare_blocks : IsBare e.file (body_blocks mid_blocks n tells)
   bare_blocks d = ap (λ (ls : List ℕ). directory (blocks_at mid_blocks ls)) places_eq ∙ bare_body.bare d
 
-  head_told : Tells k.geometry new n head (body_blocks mid_blocks n head) (slot.Used e.file)
+  only_number : (i : ℕ) → Has ((n - 1) ∷ []) i ⊎ (slice_get own.numbers i ≡ Some (InFile n)) → n ≡ i + 1
+  only_number i (inl (inl a)) = let from = can.number.from in omega arith
+  only_number i (inl (inr t)) = absurd t
+  only_number i (inr u) = own_number k.geometry bs own x on.spelt i n u
+
+  head_told : Tells k.geometry new n tells (body_blocks mid_blocks n tells) (slot.Used e.file)
   head_told =
       let geometry = on.spelt.counts.geometry in
       let t = takes in
@@ -137,26 +147,28 @@ module _ (k : Chain) (parent : Fid) (n : ℕ) (e : NewEntry) (qs : List ℕ) (x 
           (λ u. (t.clusters q).1 (inl (subst (λ (ls : List ℕ). Has ls q) clusters_eq u))),
           (λ u. elim ((t.clusters q).0 u) [ inl v ↦ subst (λ (ls : List ℕ). Has ls q) (sym clusters_eq) v | inr v ↦ absurd (unused k.geometry bs own x k.node n on.spelt can.number number_out q v) ]),
         );
-        used = ((λ u. (t.numbers (n - 1)).1 (inl (inl refl))), (λ u. ap is_some (fields_are k.geometry parent n e qs geometry can within)));
-        dir = new_dir_told k.geometry parent n e qs (body_blocks mid_blocks n head) geometry can within bare_blocks;
-        slot = new_slot_told k.geometry parent n e qs (body_blocks mid_blocks n head) geometry can within plain bare_blocks;
+        few = λ above. subst (λ (ls : List ℕ). length ls ≤ most_clusters) (sym clusters_eq) can.few;
+        slots = λ m. (
+          (λ u. subst (λ (i : ℕ). IsFileNumber k.geometry i × (slice_get new.numbers (i - 1) ≡ Some (InFile n))) (sym (slot_is_own (fields_told head) n m u).0) (can.number, (t.numbers (n - 1)).1 (inl (inl refl)))),
+          (λ u. subst (λ (i : ℕ). Has tells.slots i) (only_number (m - 1) ((t.numbers (m - 1)).0 u.1) ∙ (let low = u.0.from in let z : m - 1 + 1 ≡ m = omega arith in z))
+              (own_slot_there (fields_told head) n (ap is_some (fields_are k.geometry parent n e qs geometry can within)))),
+        );
+        size = sized n (new_header k.geometry parent n e qs);
+        dir = new_dir_told k.geometry parent n e qs (body_blocks mid_blocks n tells) geometry can within bare_blocks;
+        slot = new_slot_told k.geometry parent n e qs (body_blocks mid_blocks n tells) geometry can within plain bare_blocks;
       }
 
-  own_number : (i : ℕ) → Has ((n - 1) ∷ []) i ⊎ (slice_get own.numbers i ≡ Some (InFile n)) → n ≡ i + 1
-  own_number i (inl (inl a)) = let from = can.number.from in omega arith
-  own_number i (inl (inr t)) = absurd t
-  own_number i (inr u) = on.spelt.owners.known_numbers i n u
-
-  header_for : IsHeaderFor k.geometry mid_blocks k.node n own new x head (slot.Used e.file)
-  header_for =
+  header_for : Spells k.geometry mid_blocks own x → IsHeaderFor k.geometry mid_blocks k.node n n own new x head (slot.Used e.file)
+  header_for spelt =
       let t = takes in
+      let len = on_volume k.geometry mid_blocks own x spelt (header_place k.geometry n) (InFile 1) (part_owned k.geometry mid_blocks own x spelt (Header n) can.number) in
       record {
         whole = whole_new k.geometry parent n e qs on.spelt.counts.geometry can within;
         number = can.number;
+        own_slot = refl;
         plain = plain;
         moves = t.moves;
-        named = λ i u. own_number i ((t.numbers i).0 u);
-        tells = head_told;
+        tells = subst (λ (z : Told). Tells k.geometry new n z (body_blocks mid_blocks n z) (slot.Used e.file)) (sym (told_set k.geometry mid_blocks n head len)) head_told;
         reserved = λ old low at. let above = can.above in absurd (omega arith);
       }
 
@@ -169,12 +181,12 @@ file_steps end k parent n e qs ws x bs own on can lock charged lost rest =
     let mid : List Block = after_writes vs bs in
     let to : Owners = filed n (things qs (Some n)) own in
     let t = takes k parent n e qs x bs own on can body in
-    let for = header_for k parent n e qs x bs own on can body in
     let end_is : after_writes (file_writes g parent n e qs) bs ≡ slice_set mid (header_place g n) (new_header g parent n e qs) = after_last vs last bs in
     let behind : Spells g mid own x → Steps end g k.node k.cmd k.locks k.cat k.stock (planned last ∷ map planned ws) mid own =
     λ spelt.
+    let for = header_for k parent n e qs x bs own on can body spelt in
     let step : IsStep g k.node k.cmd k.locks k.cat k.stock (planned last) mid own to (with_file x n e.file) =
-    (step_kinds g k.node k.cmd k.locks k.cat k.stock).header (planned last) mid own to x n (slot.Used e.file) spelt refl for lock lost t.outs in
+    (step_kinds g k.node k.cmd k.locks k.cat k.stock).header (planned last) mid own to x n n (slot.Used e.file) spelt refl for lock lost t.outs in
     let stands : StandsOn k empty_handed (with_file x n e.file) (after_writes (file_writes g parent n e qs) bs) to =
     record { spelt = subst (λ (bs' : List Block). Spells g bs' to (with_file x n e.file)) (sym end_is) step.spelt; outs = t.outs } in
     let others : OthersStay g n bs (after_writes (file_writes g parent n e qs) bs) = λ i is ne.

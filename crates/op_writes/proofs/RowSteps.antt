@@ -16,25 +16,27 @@ use Rattle.vol_owners.specs.Owners.{Owners}
 use Rattle.vol_owners.specs.Places.{blocks_at}
 use Rattle.vol_owners.proofs.Placing.{ranged_has}
 use Rattle.vol_parts.specs.declared.geometry.Geometry.{Geometry}
-use Rattle.vol_parts.specs.declared.geometry.Part.TheVariants.{Quota}
+use Rattle.vol_parts.specs.declared.geometry.Part.TheVariants.{Header, Quota}
 use Rattle.vol_parts.specs.Parts.{part_of}
 use Rattle.vol_parts.specs.Volumes.{rows_in}
 use Rattle.vol_parts.specs.Catalogues.{quota_row, rows_sorted}
 use Rattle.vol_spell.specs.Reading.{owner_at, quota_places, rows_told}
+use Rattle.vol_spell.specs.Spelling.{Spells}
 use Rattle.vol_spell.specs.Kinds.{with_rows}
 use Rattle.vol_spell.proofs.Parts.{part_there}
 use Rattle.vol_spell.proofs.Viewing.{parts_stay, quota_set}
 use Rattle.vol_under.specs.Chains.{End, IsStep}
-use Rattle.vol_under.specs.Guards.{Lock, guard_by, guard_of}
+use Rattle.vol_under.specs.Guards.{guard_by}
 use Rattle.vol_under.proofs.Reach.{step_kinds}
 use Rattle.blk_whole.proofs.Tables.{whole_row}
 use Rattle.op_law.specs.declared.need.PlanWrite.{PlanWrite}
-use Rattle.op_law.specs.Laws.{planned}
+use Rattle.op_law.specs.Laws.{planned, AreNamed}
+use Rattle.op_law.proofs.Naming.{under_lock, TouchesNoHeader}
 use Rattle.op_law.specs.Writing.{Held}
 use Rattle.op_law.specs.Quotas.{block_with, row_seen, is_row_of, row_place, row_write, changed_write, owner_write}
 use Rattle.lock_db.specs.declared.name.LockName.TheVariants.{Q}
-use Rattle.op_writes.specs.Chained.{Chain, StepsOf, StageOf, after_writes, TouchedBy, StandsOn, FilesStay}
-use Rattle.op_writes.specs.RowWrites.{IsInRange, IsRowChange, row_for, with_changed, RowSteps, RowGuards}
+use Rattle.op_writes.specs.Chained.{Chain, StepsOf, StageOf, after_writes, StandsOn, FilesStay}
+use Rattle.op_writes.specs.RowWrites.{IsInRange, IsRowChange, row_for, with_changed, row_writes, RowSteps, RowGuards}
 use Rattle.op_writes.proofs.RowLists.{has_item}
 use Rattle.op_writes.proofs.RowOrder.{row_changed, quota_changed, unchanged, sorted-changed, owners-changed, row_of-sorted}
 use Rattle.op_writes.proofs.RowBlocks.{rows_numbered, row_active, rows-changed}
@@ -42,14 +44,27 @@ use Rattle.op_writes.proofs.RowPlaces.{no_row, found_row, block_inside, quota_wh
 
 pub row_guards : RowGuards
 unfolding owner_write
-row_guards g bs base own x owner change s out l spelt touches = by (row_place (is_row_of owner) (blocks_at bs (quota_places g))) refl touches where
-  by : (o : Option ℕ) → row_place (is_row_of owner) (blocks_at bs (quota_places g)) ≡ o → TouchedBy (changed_write g (blocks_at bs (quota_places g)) change s out o) l → guard_of g own l ≡ Some (Lock Q)
-  by None e t = absurd t
-  by (Some j) e (inr t) = absurd t
-  by (Some j) e (inl same) =
+row_guards g bs base own x owner change s out node locks spelt held = by (row_place (is_row_of owner) (blocks_at bs (quota_places g))) refl where
+  by : (o : Option ℕ) → row_place (is_row_of owner) (blocks_at bs (quota_places g)) ≡ o → AreNamed node locks g own (changed_write g (blocks_at bs (quota_places g)) change s out o)
+  by None e w t = absurd t
+  by (Some j) e w (inr t) = absurd t
+  by (Some j) e w (inl same) =
       let found = found_row owner (blocks_at bs (quota_places g)) j e in
-      let part : part_of g l ≡ Some (Quota (j / 16)) = ap (part_of g) (sym same) ∙ part_there g base own x spelt (Quota (j / 16)) (block_inside g bs j found.0) in
-      ap (λ p. guard_by p (owner_at g own l)) part
+      let part : part_of g w.lbn ≡ Some (Quota (j / 16)) = ap (λ (v : PlanWrite). part_of g v.lbn) (sym same) ∙ part_there g base own x spelt (Quota (j / 16)) (block_inside g bs j found.0) in
+      under_lock node locks g own Q w held (ap (λ (v : PlanWrite). v.lock) (sym same)) (ap (λ p. guard_by p (owner_at g own w.lbn)) part)
+
+-- it is to no header
+pub row_no_header : (g : Geometry) (bs base : List Block) (own : Owners) (x : Cat) (owner : Uic) (change : Row → Row) (s : Stage) (out : Held) → Spells g base own x → TouchesNoHeader g (row_writes g bs owner change s out)
+unfolding owner_write
+row_no_header g bs base own x owner change s out spelt = by (row_place (is_row_of owner) (blocks_at bs (quota_places g))) refl where
+  by : (o : Option ℕ) → row_place (is_row_of owner) (blocks_at bs (quota_places g)) ≡ o → TouchesNoHeader g (changed_write g (blocks_at bs (quota_places g)) change s out o)
+  by None e w t i at = t
+  by (Some j) e w (inr t) i at = t
+  by (Some j) e w (inl same) i at =
+      let found = found_row owner (blocks_at bs (quota_places g)) j e in
+      let part : part_of g w.lbn ≡ Some (Quota (j / 16)) = ap (λ (v : PlanWrite). part_of g v.lbn) (sym same) ∙ part_there g base own x spelt (Quota (j / 16)) (block_inside g bs j found.0) in
+      let both : Some (Quota (j / 16)) ≡ Some (Header i) = sym part ∙ at in
+      absurd (cc)
 
 -- a catalogue in which no row is the owner's stays
 same_rows : (owner : Uic) (change : Row → Row) (rows : QuotaRow → QuotaRow) (is : IsRowChange change rows) (x : Cat) (rs : List Row) → x.quota ≡ rows_sorted rs → (Has (map (λ r. r.uic) rs) owner.0 → ⊥) → with_changed owner rows x ≡ x
@@ -85,7 +100,7 @@ module _ (end : End) (k : Chain) (owner : Uic) (change : Row → Row) (rows : Qu
   without_row : row_place (is_row_of owner) seen ≡ None → Rest [] → StepsOf end k ws bs own
   without_row e rest =
       let same = same_rows owner change rows is x (flat_map rows_in seen) on.spelt.rows.quota (no_row owner seen e) in
-      rest (subst (λ (c : Cat). StandsOn k out c bs own) (sym same) on) (λ i number. record { header = refl; body = refl })
+      rest (subst (λ (c : Cat). StandsOn k out c bs own) (sym same) on) (λ i number. record { header = refl; told = refl; body = refl })
 
   module _ (j : ℕ) (e : row_place (is_row_of owner) seen ≡ Some j) where
     abbrev write : PlanWrite

@@ -2,6 +2,7 @@
 use Rattle.std.specs.Prelude.{◌≡◌, ◌≤◌, ◌<◌, ◌++◌, ◌^◌, ℕ, true, false, List, Some}
 use Rattle.vol_words.specs.Fields.{Block}
 use Rattle.vol_words.specs.Names.{is_name}
+use Rattle.lock_db.specs.declared.name.LockName.{LockName}
 use Rattle.lock_db.specs.declared.name.LockName.TheVariants.{S}
 use Rattle.plain_cat.specs.declared.ids.Fid.{Fid}
 use Rattle.plain_cat.specs.declared.entries.DirEnt.{DirEnt}
@@ -11,18 +12,19 @@ use Rattle.plain_cat.specs.declared.cat.File.{File}
 use Rattle.plain_vol.specs.Lookups.{file_at, versions}
 use Rattle.plain_vol.specs.Directories.{inserted, is_taken, fits}
 use Rattle.plain_vol.specs.Changes.{with_entries}
+use Rattle.vol_owners.specs.Lists.{Has}
 use Rattle.vol_owners.specs.Owners.{Owners}
 use Rattle.vol_owners.specs.Places.{blocks_at}
 use Rattle.vol_parts.specs.declared.geometry.Geometry.{Geometry}
 use Rattle.vol_spell.specs.Reading.{IsFileNumber, header_block}
 use Rattle.vol_spell.specs.Spelling.{Spells}
 use Rattle.vol_under.specs.Chains.{End}
-use Rattle.vol_under.specs.Guards.{Lock, guard_of}
 use Rattle.op_law.specs.declared.need.PlanWrite.{PlanWrite}
 use Rattle.op_law.specs.Rows.{places_in}
+use Rattle.op_law.specs.Laws.{AreNamed}
 use Rattle.op_law.specs.Writing.{empty_handed}
 use Rattle.op_law.specs.Moving.{SeenDir, insertion_writes}
-use Rattle.op_writes.specs.Chained.{Chain, StepsOf, StageOf, after_writes, TouchedBy, StandsOn, OthersStay}
+use Rattle.op_writes.specs.Chained.{Chain, StepsOf, StageOf, after_writes, StandsOn, OthersStay}
 
 -- the directory of an identifier as these blocks have it
 abbrev pub dir_in : Geometry → List Block → Fid → SeenDir
@@ -51,7 +53,7 @@ EntrySteps end = (k : Chain) (dir : Fid) (d : File) (e : DirEnt) (before after :
     → StepsOf end k ws (after_writes (insertion_writes (dir_in k.geometry bs dir) e before after) bs) own)
     → StepsOf end k (insertion_writes (dir_in k.geometry bs dir) e before after ++ ws) bs own
 
--- what they touch is guarded by the directory's lock
+-- they are under the directory's lock, which guards what they touch
 abbrev pub EntryGuards : Type 0
-EntryGuards = (g : Geometry) (dir : Fid) (d : File) (e : DirEnt) (before after : Stage) (x : Cat) (bs : List Block) (own : Owners) (l : ℕ) → Spells g bs own x → CanBeEntered g x dir.num d e
-    → TouchedBy (insertion_writes (dir_in g bs dir) e before after) l → guard_of g own l ≡ Some (Lock (S dir.num))
+EntryGuards = (g : Geometry) (dir : Fid) (d : File) (e : DirEnt) (before after : Stage) (x : Cat) (bs : List Block) (own : Owners) (node : ℕ) (locks : List LockName) → Spells g bs own x → CanBeEntered g x dir.num d e
+    → Has locks (S dir.num) → AreNamed node locks g own (insertion_writes (dir_in g bs dir) e before after)

@@ -13,11 +13,11 @@ use Rattle.vol_owners.specs.Owners.{Owners}
 use Rattle.vol_parts.specs.declared.geometry.Geometry.{Geometry}
 use Rattle.vol_spell.specs.Reading.{IsFileNumber}
 use Rattle.vol_under.specs.Chains.{End}
-use Rattle.vol_under.specs.Guards.{guard_of, MayWrite}
 use Rattle.op_law.specs.declared.need.PlanWrite.{PlanWrite}
+use Rattle.op_law.specs.Laws.{AreNamed}
 use Rattle.op_law.specs.Writing.{holding, empty_handed, header_write}
 use Rattle.op_law.specs.Entering.{NewEntry, new_header, body_writes}
-use Rattle.op_writes.specs.Chained.{Chain, StepsOf, StageOf, after_writes, TouchedBy, StandsOn, OthersStay}
+use Rattle.op_writes.specs.Chained.{Chain, StepsOf, StageOf, after_writes, StandsOn, OthersStay}
 
 -- a new file of so many clusters, or a new directory of one
 abbrev pub IsNewFile : Geometry → File → ℕ → Type 0
@@ -46,7 +46,7 @@ FileSteps end = (k : Chain) (parent : Fid) (n : ℕ) (e : NewEntry) (qs : List �
     → StepsOf end k ws (after_writes (file_writes k.geometry parent n e qs) bs) new)
     → StepsOf end k (file_writes k.geometry parent n e qs ++ ws) bs own
 
--- what they touch is guarded by the lock of the number, or outside at the node
+-- they are under the lock of the number, which guards what they touch, unless it is outside at the node
 abbrev pub FileGuards : Type 0
-FileGuards = (k : Chain) (parent : Fid) (n : ℕ) (e : NewEntry) (qs : List ℕ) (x : Cat) (bs : List Block) (own : Owners) (l : ℕ)
-    → StandsOn k (holding qs (Some n)) x bs own → IsFileNumber k.geometry n → Has k.locks (S n) → TouchedBy (file_writes k.geometry parent n e qs) l → MayWrite k.node k.locks (guard_of k.geometry own l)
+FileGuards = (k : Chain) (parent : Fid) (n : ℕ) (e : NewEntry) (qs : List ℕ) (x : Cat) (bs : List Block) (own : Owners)
+    → StandsOn k (holding qs (Some n)) x bs own → IsFileNumber k.geometry n → Has k.locks (S n) → AreNamed k.node k.locks k.geometry own (file_writes k.geometry parent n e qs)

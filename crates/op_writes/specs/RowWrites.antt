@@ -2,12 +2,14 @@
 use Rattle.std.specs.Prelude.{◌≡◌, ◌==◌, ◌<◌, ◌++◌, ◌^◌, ℕ, List, Some, map, if◌then◌else◌}
 use Rattle.vol_words.specs.Fields.{Block}
 use Rattle.fx_quota.specs.declared.types.Row.{Row}
+use Rattle.lock_db.specs.declared.name.LockName.{LockName}
 use Rattle.lock_db.specs.declared.name.LockName.TheVariants.{Q}
 use Rattle.plain_cat.specs.declared.ids.Uic.{Uic}
 use Rattle.plain_cat.specs.declared.history.Stage.{Stage}
 use Rattle.plain_cat.specs.declared.cat.Cat.{Cat}
 use Rattle.plain_cat.specs.declared.cat.QuotaRow.{QuotaRow}
 use Rattle.plain_vol.specs.Lookups.{row_of}
+use Rattle.vol_owners.specs.Lists.{Has}
 use Rattle.vol_owners.specs.Owners.{Owners}
 use Rattle.vol_owners.specs.Places.{blocks_at}
 use Rattle.vol_parts.specs.declared.geometry.Geometry.{Geometry}
@@ -15,11 +17,11 @@ use Rattle.vol_parts.specs.Catalogues.{quota_row}
 use Rattle.vol_spell.specs.Reading.{quota_places}
 use Rattle.vol_spell.specs.Spelling.{Spells}
 use Rattle.vol_under.specs.Chains.{End}
-use Rattle.vol_under.specs.Guards.{Lock, guard_of}
 use Rattle.op_law.specs.declared.need.PlanWrite.{PlanWrite}
+use Rattle.op_law.specs.Laws.{AreNamed}
 use Rattle.op_law.specs.Writing.{Held}
 use Rattle.op_law.specs.Quotas.{owner_write}
-use Rattle.op_writes.specs.Chained.{Chain, StepsOf, StageOf, after_writes, TouchedBy, StandsOn, FilesStay}
+use Rattle.op_writes.specs.Chained.{Chain, StepsOf, StageOf, after_writes, StandsOn, FilesStay}
 
 -- the numbers of a row are of 32 bits
 pub record IsInRange (r : Row) : Type 0 where
@@ -54,7 +56,7 @@ RowSteps end = (k : Chain) (owner : Uic) (change : Row → Row) (rows : QuotaRow
     → StepsOf end k ws (after_writes (row_writes k.geometry bs owner change s out) bs) own)
     → StepsOf end k (row_writes k.geometry bs owner change s out ++ ws) bs own
 
--- the lock Q guards what it writes
+-- the lock Q guards what it writes, and it is under that lock
 abbrev pub RowGuards : Type 0
-RowGuards = (g : Geometry) (bs base : List Block) (own : Owners) (x : Cat) (owner : Uic) (change : Row → Row) (s : Stage) (out : Held) (l : ℕ) → Spells g base own x
-    → TouchedBy (row_writes g bs owner change s out) l → guard_of g own l ≡ Some (Lock Q)
+RowGuards = (g : Geometry) (bs base : List Block) (own : Owners) (x : Cat) (owner : Uic) (change : Row → Row) (s : Stage) (out : Held) (node : ℕ) (locks : List LockName) → Spells g base own x
+    → Has locks Q → AreNamed node locks g own (row_writes g bs owner change s out)

@@ -12,7 +12,7 @@ pub fn file_steps()
     ensures { FileSteps anywhere }
 {}
 
-/// Each block that the writes of a new file touch is guarded by the lock of its number, or outside at the node.
+/// Each write of a new file is under the lock of its number, which guards the block, unless the node has the block outside.
 pub fn file_guards()
     ensures { FileGuards }
 {}
@@ -23,7 +23,7 @@ pub fn entry_steps()
     ensures { EntrySteps anywhere }
 {}
 
-/// What those writes touch are blocks of the directory, which its lock guards.
+/// Each of those writes is under the directory's lock, which guards the block.
 pub fn entry_guards()
     ensures { EntryGuards }
 {}
@@ -34,7 +34,7 @@ pub fn row_steps()
     ensures { RowSteps anywhere }
 {}
 
-/// The lock Q guards the block that the write of an owner's quota row touches.
+/// The write of an owner's quota row is under the lock Q, which guards the block.
 pub fn row_guards()
     ensures { RowGuards }
 {}

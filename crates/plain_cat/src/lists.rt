@@ -42,6 +42,13 @@ impl Clusters {
         Ok(())
     }
 
+    /// Drops all clusters, and keeps the memory.
+    pub fn clear(&mut self)
+        ensures { self.new ≡ [] }
+    {
+        self.list.clear();
+    }
+
     /// The same clusters again.
     pub fn copy(&self, alloc: Global) -> Result<Self, NoMemory>
         ensures { IfOk result (λ l. l ≡ self.now) }

@@ -18,7 +18,7 @@ use Rattle.plain_vol.specs.Directories.{is_nil}
 use Rattle.plain_vol.specs.Accounts.{charge}
 use Rattle.plain_vol.specs.Mending.{places, is_own, is_first, each_from, without_opens, without_entries, is_empty, is_named, is_lost_slot, lost, with_lost, is_gone, gone_slot, without_gone, without_leaks, summed_row, put_right, mended}
 use Rattle.plain_laws.specs.Clearing.{IsUnmarked, Cleared, AreNamed, HasOwnEntry, KeepsNames}
-use Rattle.plain_laws.proofs.Slots.{stands_at}
+use Rattle.plain_vol.proofs.Standing.{stands_at}
 use Rattle.plain_laws.proofs.Members.{Has, has_from, has_to, has_left}
 use Rattle.plain_laws.proofs.Standing.{number_rises, Alive}
 use Rattle.plain_laws.proofs.Places.{In, in_from, in_to, Names, names_from, names_to}

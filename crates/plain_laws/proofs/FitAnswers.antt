@@ -21,7 +21,9 @@ use Rattle.plain_vol.specs.Directories.{inserted, without, entry, new_version}
 use Rattle.plain_vol.specs.Changes.{in_clusters, cost, with_slot, with_file, with_entries, charged, new_fid, new_file, new_dir, grown, cut, marked_up, written, with_channel}
 use Rattle.plain_vol.specs.Answers.{first_refusal, unless, in_directory_file, lookup_outcome, list_outcome, stat_of, stat_outcome, create_checks, create_refusal, create_made, create_outcome, dir_name, mkdir_checks, mkdir_refusal, mkdir_made, mkdir_outcome, extend_checks, extend_refusal, extend_of, extend_outcome, trunc_of, trunc_outcome, less_entry, entered, unnamed, with_entry, delete_outcome, rename_refusal, rename_outcome, open_of, open_outcome, closed, close_of, close_outcome, read_of, read_open, read_outcome, write_of, write_open, write_outcome, quota_set_of, quota_set_outcome, quota_shown, quota_show_outcome, outcome, IsPick}
 use Rattle.plain_laws.specs.Fitting.{Fits}
-use Rattle.plain_laws.proofs.Slots.{stands_at, stands_in_use, stands_live, stands_free, get_set}
+use Rattle.plain_vol.proofs.Picks.{pick_is_free}
+use Rattle.plain_vol.proofs.Standing.{stands_at, stands_in_use, stands_live, stands_free}
+use Rattle.plain_vol.proofs.Kept.{get_set}
 
 -- one slot gets at most k clusters more
 sum_set : (xs : List Slot) (i j : ℕ) (old s : Slot) (k : ℕ) → slice_get xs i ≡ Some old → clusters_in s ≤ clusters_in old + k
@@ -149,13 +151,13 @@ create_made_fits : (c : Cat) (dir : ℕ) (d : File) (name : List ℕ) (ver block
     → slice_get c.files (dir - 1) ≡ Some (Used d) → in_clusters c blocks ≤ free_clusters c → Fits (create_made c dir d name ver blocks owner new).after
 create_made_fits c dir d name ver blocks owner None h pick at few = h
 create_made_fits c dir d name ver blocks owner (Some n) h pick at few =
-    entered_fits c dir d (entry name (new_version ver (versions name d.entries)) (new_fid c n)) (new_file (new_fid c n).seq owner (in_clusters c blocks)) h at pick few
+    entered_fits c dir d (entry name (new_version ver (versions name d.entries)) (new_fid c n)) (new_file (new_fid c n).seq owner (in_clusters c blocks)) h at (pick_is_free c (Some n) pick) few
 
 mkdir_made_fits : (c : Cat) (dir : ℕ) (d : File) (name : List ℕ) (owner : Uic) (new : Option ℕ) → Fits c → IsPick c new
     → slice_get c.files (dir - 1) ≡ Some (Used d) → 1 ≤ free_clusters c → Fits (mkdir_made c dir d name owner new).after
 mkdir_made_fits c dir d name owner None h pick at few = h
 mkdir_made_fits c dir d name owner (Some n) h pick at few =
-    entered_fits c dir d (entry name 1 (new_fid c n)) (new_dir (new_fid c n).seq owner c.factor) h at pick few
+    entered_fits c dir d (entry name 1 (new_fid c n)) (new_dir (new_fid c n).seq owner c.factor) h at (pick_is_free c (Some n) pick) few
 
 create_fits : (c : Cat) (dir : Fid) (name : List ℕ) (ver blocks : ℕ) (owner : Uic) (new : Option ℕ) → Fits c → IsPick c new
     → Fits (create_outcome c dir name ver blocks owner new).after

@@ -21,7 +21,7 @@ use Rattle.plain_vol.specs.Mending.{less_entries, each_from, without_opens, with
 use Rattle.plain_vol.specs.Own.{next_command}
 use Rattle.plain_vol.specs.Replaying.{MayLeak, dead, Leads, ReplaysFrom, Replays}
 use Rattle.plain_laws.specs.Fitting.{Fits}
-use Rattle.plain_laws.proofs.Slots.{some_map, stands_at}
+use Rattle.plain_vol.proofs.Standing.{some_map, stands_at}
 use Rattle.plain_laws.proofs.FitAnswers.{entries_fit, outcome_fits}
 use Rattle.plain_laws.proofs.FitStages.{FitsIf, staged_fits}
 

@@ -19,7 +19,8 @@ use Rattle.plain_vol.specs.Changes.{in_clusters, with_file, freed, new_fid, new_
 use Rattle.plain_vol.specs.Answers.{unless, in_directory_file, create_refusal, create_made, create_outcome, dir_name, mkdir_refusal, mkdir_made, mkdir_outcome, less_entry, outcome, IsPick}
 use Rattle.plain_vol.specs.Stages.{is_refusal, only_if, making_stage, create_stage, mkdir_stage, extend_stage, trunc_stage, unnaming_stage, entry_stage, delete_stage, renaming_stage, rename_stage, closing_stage, close_stage, writing_stage, write_stage, quota_stage, command_stage, shown_stage, begun, staged}
 use Rattle.plain_laws.specs.Fitting.{Fits}
-use Rattle.plain_laws.proofs.Slots.{stands_at, stands_in_use, stands_live}
+use Rattle.plain_vol.proofs.Picks.{pick_is_free}
+use Rattle.plain_vol.proofs.Standing.{stands_at, stands_in_use, stands_live}
 use Rattle.plain_laws.proofs.FitAnswers.{less_fits, holds_less, held_fits, entries_fit, create_room, mkdir_room, placed_fits, outcome_fits}
 
 -- a catalogue, where there is one, fits
@@ -68,7 +69,7 @@ mkdir_passed c dir name owner new h =
 making_fits : (c : Cat) (n : ℕ) (f : File) (o : Outcome) (s : Stage) → Fits c → Fits o.after → IsPick c (Some n) → f.clusters ≤ free_clusters c
     → FitsIf (making_stage c n f o s)
 making_fits c n f o stage.Charged h k pick few = h
-making_fits c n f o stage.Lost h k pick few = placed_fits c n f h pick few
+making_fits c n f o stage.Lost h k pick few = placed_fits c n f h (pick_is_free c (Some n) pick) few
 making_fits c n f o stage.Done h k pick few = k
 making_fits c n f o s h k pick few = tt
 

@@ -13,7 +13,7 @@ use Rattle.plain_vol.specs.declared.places.Place.{Place}
 use Rattle.plain_vol.specs.Lookups.{file_at}
 use Rattle.plain_vol.specs.Directories.{before, inserted}
 use Rattle.plain_vol.specs.Mending.{entries_in, places_from, places, same_fid, same_place, system_names, is_name_of, is_own, is_first, is_named}
-use Rattle.plain_laws.proofs.Slots.{stands_at}
+use Rattle.plain_vol.proofs.Standing.{stands_at}
 use Rattle.plain_laws.proofs.Members.{Has, has_left, has_right, has_either, has_map, has_mapped, any_has, has_any}
 use Rattle.plain_laws.proofs.Standing.{number_rises, file_from}
 

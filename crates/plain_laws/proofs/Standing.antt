@@ -12,7 +12,7 @@ use Rattle.plain_cat.specs.declared.cat.Slot.TheVariants.{Used}
 use Rattle.plain_vol.specs.Lookups.{slot_at, file_in, file_at, of_seq, in_use, unmarked, live}
 use Rattle.plain_vol.specs.Changes.{with_slot}
 use Rattle.plain_vol.specs.Mending.{each_from}
-use Rattle.plain_laws.proofs.Slots.{stands_at}
+use Rattle.plain_vol.proofs.Standing.{stands_at}
 
 -- 0 is no number
 pub number_rises : (c : Cat) (n : ℕ) (f : File) → file_at c n ≡ Some f → 0 < n

@@ -14,7 +14,7 @@ use Rattle.plain_vol.specs.Lookups.{slot_at, file_in, file_at, live}
 use Rattle.plain_vol.specs.Directories.{inserted}
 use Rattle.plain_vol.specs.Changes.{with_entries}
 use Rattle.plain_vol.specs.Mending.{places, is_own, is_first, stays, less_entries, without_opens, without_entries, numbers_from, lost, lost_entry, with_lost_entry, enter, enter_all, enter_some, with_lost, is_gone, gone_slot, without_gone, put_right, counts, mended, mended_from}
-use Rattle.plain_laws.proofs.Slots.{some_if, some_map, stands_at}
+use Rattle.plain_vol.proofs.Standing.{some_if, some_map, stands_at}
 use Rattle.plain_laws.proofs.Members.{Has, has_filter, has_kept}
 use Rattle.plain_laws.proofs.Standing.{number_rises, stands_from, slot_each, file_same, file_other, Alive, alive_from, alive_to}
 use Rattle.plain_laws.proofs.Places.{In, inserted_has, has_inserted}

@@ -1,16 +1,14 @@
-use Rattle.std.proofs.Common.{◌≡◌, ◌==◌, ◌&&◌, ◌+◌, ◌-◌, ◌*◌, ◌≤◌, ◌<◌, ◌∙◌, ℕ, suc, Bool, true, false, cond, not, min, List, [], ◌∷◌, Option, Some, None, is_some, is_none, map, nat_le, nat_lt, slice_get, get_or, refl, sym, ap, subst, arith}
+use Rattle.std.proofs.Common.{◌≡◌, ◌==◌, ◌+◌, ◌-◌, ◌≤◌, ◌∙◌, ℕ, suc, Bool, true, false, cond, min, List, [], ◌∷◌, Option, Some, None, is_some, is_none, map, nat_lt, slice_get, get_or, refl, sym, ap, subst, arith}
 use Rattle.std.specs.Prelude.{All}
 use Rattle.std.proofs.lemmas.Bool.Decides.{nat_tests}
 use Rattle.std.proofs.lemmas.List.Elements.{All-map, All-cons}
 use Rattle.std.proofs.lemmas.List.Sums.{sum_by-le}
-use Rattle.std.specs.List.{sum_by}
 use Rattle.plain_cat.specs.declared.ids.Fid.{Fid}
 use Rattle.plain_cat.specs.declared.ids.Uic.{Uic}
 use Rattle.plain_cat.specs.declared.mode.Mode.{Mode}
 use Rattle.plain_cat.specs.declared.entries.DirEnt.{DirEnt}
 use Rattle.plain_cat.specs.declared.command.Cmd.{Cmd}
 use Rattle.plain_cat.specs.declared.command.Cmd.TheVariants as cmd
-use Rattle.plain_cat.specs.declared.reply.Refusal.{Refusal}
 use Rattle.plain_cat.specs.declared.cat.Cat.{Cat}
 use Rattle.plain_cat.specs.declared.cat.File.{File}
 use Rattle.plain_cat.specs.declared.cat.Slot.{Slot}
@@ -18,11 +16,12 @@ use Rattle.plain_cat.specs.declared.cat.Slot.TheVariants.{Used, Free}
 use Rattle.plain_cat.specs.declared.cat.Open.{Open}
 use Rattle.plain_cat.specs.declared.cat.QuotaRow.{QuotaRow}
 use Rattle.plain_vol.specs.declared.outcome.Outcome.{Outcome}
-use Rattle.plain_vol.specs.Lookups.{slot_at, last_seq, file_at, in_use, live, versions, entry_of, channel_at, is_open, row_of, clusters_in, is_free_number}
-use Rattle.plain_vol.specs.Directories.{inserted, without, entry, new_version}
-use Rattle.plain_vol.specs.Changes.{in_clusters, new_fid, new_file, new_dir, grown, written, with_channel, with_row, allowed, cost}
+use Rattle.plain_vol.specs.Lookups.{slot_at, last_seq, file_at, in_use, live, versions, entry_of, channel_at, row_of}
+use Rattle.plain_vol.specs.Directories.{without, entry, new_version}
+use Rattle.plain_vol.specs.Changes.{in_clusters, new_fid, new_file, new_dir, written, with_channel, with_row, allowed, cost}
 use Rattle.plain_vol.specs.Accounts.{share, charge, HasRow, IsCharged, Accounted}
-use Rattle.plain_vol.specs.Answers.{lookup_outcome, list_outcome, stat_of, stat_outcome, create_checks, create_refusal, create_made, create_outcome, dir_name, mkdir_checks, mkdir_refusal, mkdir_made, mkdir_outcome, extend_checks, extend_refusal, extend_of, extend_outcome, trunc_of, trunc_outcome, has_entries, less_entry, unnamed, with_entry, delete_outcome, rename_refusal, rename_outcome, open_of, open_outcome, closed, close_of, close_outcome, read_of, read_open, read_outcome, write_of, write_open, write_outcome, quota_set_of, quota_set_outcome, quota_shown, quota_show_outcome, outcome, IsPick}
+use Rattle.plain_vol.specs.Answers.{lookup_outcome, list_outcome, stat_of, stat_outcome, create_checks, create_refusal, create_made, create_outcome, dir_name, mkdir_checks, mkdir_refusal, mkdir_made, mkdir_outcome, extend_checks, extend_refusal, extend_of, extend_outcome, trunc_of, trunc_outcome, less_entry, unnamed, with_entry, delete_outcome, rename_refusal, rename_outcome, open_of, open_outcome, closed, close_of, close_outcome, read_of, read_open, read_outcome, write_of, write_open, write_outcome, quota_set_of, quota_set_outcome, quota_shown, quota_show_outcome, outcome, IsPick}
+use Rattle.plain_vol.proofs.Picks.{pick_is_free}
 use Rattle.plain_vol.proofs.Standing.{stands_at, stands_in_use, stands_live, stands_free}
 use Rattle.plain_vol.proofs.Usages.{product_le}
 use Rattle.plain_vol.proofs.Accounting.{has_row-map}
@@ -58,7 +57,7 @@ create_made_keeps : (c : Cat) (dir : ℕ) (d : File) (name : List ℕ) (ver bloc
 create_made_keeps c dir d name ver blocks owner None a pick at few row = a
 create_made_keeps c dir d name ver blocks owner (Some n) a pick at few row =
     entered_keep c dir d (entry name (new_version ver (versions name d.entries)) (new_fid c n)) (new_file (new_fid c n).seq owner (in_clusters c blocks))
-    (last_seq (slot_at c n)) a at (stands_free c n pick) (omega (arith, product_le c.factor (in_clusters c blocks) a.factor_to few)) row
+    (last_seq (slot_at c n)) a at (stands_free c n (pick_is_free c (Some n) pick)) (omega (arith, product_le c.factor (in_clusters c blocks) a.factor_to few)) row
 
 create_keeps : (c : Cat) (dir : Fid) (name : List ℕ) (ver blocks : ℕ) (owner : Uic) (new : Option ℕ) → Accounted c → IsPick c new
     → Accounted (create_outcome c dir name ver blocks owner new).after
@@ -80,7 +79,7 @@ mkdir_made_keeps : (c : Cat) (dir : ℕ) (d : File) (name : List ℕ) (owner : U
 mkdir_made_keeps c dir d name owner None a pick at row = a
 mkdir_made_keeps c dir d name owner (Some n) a pick at row =
     entered_keep c dir d (entry name 1 (new_fid c n)) (new_dir (new_fid c n).seq owner c.factor)
-    (last_seq (slot_at c n)) a at (stands_free c n pick) (omega (arith, a.factor_to)) row
+    (last_seq (slot_at c n)) a at (stands_free c n (pick_is_free c (Some n) pick)) (omega (arith, a.factor_to)) row
 
 mkdir_keeps : (c : Cat) (dir : Fid) (name : List ℕ) (owner : Uic) (new : Option ℕ) → Accounted c → IsPick c new
     → Accounted (mkdir_outcome c dir name owner new).after

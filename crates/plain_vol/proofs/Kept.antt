@@ -1,12 +1,8 @@
-use Rattle.std.proofs.Common.{◌≡◌, ◌≢◌, ◌==◌, ◌&&◌, ◌+◌, ◌-◌, ◌*◌, ◌≤◌, ◌<◌, ◌∙◌, ◌⊎◌, inl, inr, ℕ, Bool, true, false, cond, not, min, List, [], ◌∷◌, Option, Some, None, is_some, is_none, length, map, nat_le, nat_lt, slice_get, slice_set, set, get_or, refl, sym, ap, subst, arith}
-use Rattle.std.specs.Prelude.{All}
+use Rattle.std.proofs.Common.{◌≡◌, ◌≢◌, ◌==◌, ◌+◌, ◌-◌, ◌*◌, ◌≤◌, ◌<◌, ◌∙◌, ◌⊎◌, inl, inr, ℕ, Bool, true, false, cond, List, [], ◌∷◌, Option, Some, None, length, slice_get, set, get_or, refl, sym, ap, subst, arith}
 use Rattle.std.proofs.lemmas.Bool.Decides.{nat_tests}
 use Rattle.std.proofs.lemmas.List.{length-set, get_or-set_same, get_or-set_other}
-use Rattle.std.proofs.lemmas.List.Elements.{All-map, All-cons}
 use Rattle.std.proofs.lemmas.Option.{slice_get_within, slice_get-get_or, get_or_from_slice_get}
-use Rattle.plain_cat.specs.declared.ids.Fid.{Fid}
 use Rattle.plain_cat.specs.declared.ids.Uic.{Uic}
-use Rattle.plain_cat.specs.declared.mode.Mode.{Mode}
 use Rattle.plain_cat.specs.declared.entries.DirEnt.{DirEnt}
 use Rattle.plain_cat.specs.declared.reply.Refusal.{Refusal}
 use Rattle.plain_cat.specs.declared.cat.Cat.{Cat}
@@ -14,13 +10,12 @@ use Rattle.plain_cat.specs.declared.cat.File.{File}
 use Rattle.plain_cat.specs.declared.cat.Slot.{Slot}
 use Rattle.plain_cat.specs.declared.cat.Slot.TheVariants.{Used, Free}
 use Rattle.plain_cat.specs.declared.cat.Open.{Open}
-use Rattle.plain_cat.specs.declared.cat.QuotaRow.{QuotaRow}
 use Rattle.plain_vol.specs.declared.outcome.Outcome.{Outcome}
-use Rattle.plain_vol.specs.Lookups.{slot_at, last_seq, file_at, in_use, live, clusters_in, is_free_number}
-use Rattle.plain_vol.specs.Directories.{inserted, without}
-use Rattle.plain_vol.specs.Changes.{cost, with_slot, with_file, freed, with_entries, charged, discharged, grown, cut, blocks_of, ended, marked_up, written}
-use Rattle.plain_vol.specs.Accounts.{share, charge, HasRow, IsCharged, Accounted}
-use Rattle.plain_vol.specs.Answers.{first_refusal, unless, in_directory_file, removed, less_entry, entered}
+use Rattle.plain_vol.specs.Lookups.{clusters_in}
+use Rattle.plain_vol.specs.Directories.{inserted}
+use Rattle.plain_vol.specs.Changes.{cost, with_file, with_entries, charged, discharged, grown, cut, marked_up, written}
+use Rattle.plain_vol.specs.Accounts.{share, HasRow, Accounted}
+use Rattle.plain_vol.specs.Answers.{first_refusal, unless, in_directory_file, removed, entered}
 use Rattle.plain_vol.specs.Replaying.{dead}
 use Rattle.plain_vol.proofs.Usages.{product_le}
 use Rattle.plain_vol.proofs.Accounting.{charge_accounts, discharge_accounts, same_accounts}

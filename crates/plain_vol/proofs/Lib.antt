@@ -1,6 +1,7 @@
 pub mod Packs
 pub mod Usages
 pub mod Standing
+pub mod Picks
 pub mod Accounting
 pub mod Kept
 pub mod Keeps
@@ -8,3 +9,6 @@ pub mod Choices
 pub mod Placing
 pub mod MendSteps
 pub mod LawSteps
+pub mod Ordered
+pub mod FormSteps
+pub mod FormEntries

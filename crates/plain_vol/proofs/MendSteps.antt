@@ -1,6 +1,6 @@
-use Rattle.std.proofs.Common.{◌≡◌, ◌+◌, ◌-◌, ◌*◌, ◌≤◌, ◌<◌, ◌++◌, ◌∙◌, ℕ, zero, suc, take, Bool, true, false, cond, not, List, [], ◌∷◌, Option, Some, None, length, map, get_or, slice_get, refl, sym, ap, subst, arith}
+use Rattle.std.proofs.Common.{◌≡◌, ◌+◌, ◌*◌, ◌≤◌, ◌<◌, ◌++◌, ◌∙◌, ℕ, zero, suc, take, Bool, true, false, cond, List, [], ◌∷◌, Option, Some, None, length, map, get_or, refl, sym, ap, subst, arith}
 use Rattle.std.specs.Prelude.{All, option_map, option_and_then, unwrap_or}
-use Rattle.std.specs.List.{sum_by, count_by}
+use Rattle.std.specs.List.{sum_by}
 use Rattle.std.proofs.lemmas.List.Elements.{All-map, All-cons}
 use Rattle.std.proofs.lemmas.List.Sums.{sum_by-cons}
 use Rattle.plain_cat.specs.declared.ids.Uic.{Uic}
@@ -18,14 +18,14 @@ use Rattle.plain_vol.proofs.Standing.{some_map, stands_at}
 use Rattle.plain_vol.proofs.Accounting.{has_row-map}
 use Rattle.plain_vol.proofs.Kept.{entries_keep, opens_keep}
 
-each_length : (g : ℕ → Slot → Slot) (n : ℕ) (xs : List Slot) → length (each_from g n xs) ≡ length xs
+pub each_length : (g : ℕ → Slot → Slot) (n : ℕ) (xs : List Slot) → length (each_from g n xs) ≡ length xs
 each_length g n [] = refl
 each_length g n (x ∷ xs) = ap suc (each_length g (n + 1) xs)
 
 slots_rest : (P : Slot → Type 0) (x : Slot) (xs : List Slot) → All P (x ∷ xs) → All P xs
 slots_rest P x xs all k d h = all (suc k) d (omega (arith, h))
 
-each_all : (P Q : Slot → Type 0) (g : ℕ → Slot → Slot) → ((n : ℕ) (s : Slot) → P s → Q (g n s)) → (n : ℕ) (xs : List Slot) → All P xs → All Q (each_from g n xs)
+pub each_all : (P Q : Slot → Type 0) (g : ℕ → Slot → Slot) → ((n : ℕ) (s : Slot) → P s → Q (g n s)) → (n : ℕ) (xs : List Slot) → All P xs → All Q (each_from g n xs)
 each_all P Q g keeps n [] all = λ k d h. absurd (omega (arith, h))
 each_all P Q g keeps n (x ∷ xs) all =
     All-cons Q (g n x) (each_from g (n + 1) xs) (keeps n x (all 0 x (omega arith))) (each_all P Q g keeps (n + 1) xs (slots_rest P x xs all))

@@ -1,4 +1,4 @@
-use Rattle.std.proofs.Common.{◌≡◌, ◌+◌, ◌<◌, ◌∙◌, ◌++◌, ℕ, suc, List, ◌∷◌, length, drop, get_or, map, refl, sym, ap, subst, append_assoc, drop-cons, arith}
+use Rattle.std.proofs.Common.{◌≡◌, ◌+◌, ◌<◌, ◌∙◌, ◌++◌, ℕ, suc, List, ◌∷◌, length, drop, get_or, map, sym, ap, subst, append_assoc, drop-cons, arith}
 use Rattle.plain_cat.specs.declared.entries.DirEnt.{DirEnt}
 use Rattle.plain_cat.specs.declared.cat.Slot.{Slot}
 use Rattle.plain_vol.specs.declared.places.Place.{Place}

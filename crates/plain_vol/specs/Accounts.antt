@@ -1,9 +1,8 @@
 -- The quotas of a catalogue, and the limits that it keeps under all commands.
-use Rattle.std.specs.Prelude.{◌≡◌, ◌==◌, ◌≤◌, ◌+◌, ◌*◌, ℕ, Bool, true, List, Option, Some, None, All, length, map, is_some, if◌then◌else◌}
+use Rattle.std.specs.Prelude.{◌≡◌, ◌==◌, ◌≤◌, ◌+◌, ◌*◌, ℕ, true, List, All, length, is_some, if◌then◌else◌}
 use Rattle.std.specs.List.{sum_by}
 use Rattle.plain_cat.specs.declared.ids.Uic.{Uic}
 use Rattle.plain_cat.specs.declared.cat.Cat.{Cat}
-use Rattle.plain_cat.specs.declared.cat.File.{File}
 use Rattle.plain_cat.specs.declared.cat.Slot.{Slot}
 use Rattle.plain_cat.specs.declared.cat.Slot.TheVariants.{Used, Free}
 use Rattle.plain_cat.specs.declared.cat.QuotaRow.{QuotaRow}
@@ -37,3 +36,8 @@ pub record Accounted (c : Cat) : Type 0 where
   pub sizes : All (λ s. c.factor * clusters_in s ≤ 65536) c.files
   pub owners : All (HasRow c.quota) c.files
   pub usage : All (IsCharged c) c.quota
+
+-- What one death may leave above a row's sum, in blocks: the cost of the largest file. A file has at most 77 clusters of at
+-- most 16 blocks, and one more for the file.
+abbrev pub death_cost : ℕ
+death_cost = 16 * 77 + 1

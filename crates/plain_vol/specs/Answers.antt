@@ -19,7 +19,7 @@ use Rattle.plain_cat.specs.declared.cat.File.{File}
 use Rattle.plain_cat.specs.declared.cat.Open.{Open}
 use Rattle.plain_cat.specs.declared.cat.QuotaRow.{QuotaRow}
 use Rattle.plain_vol.specs.declared.outcome.Outcome.{Outcome}
-use Rattle.plain_vol.specs.Lookups.{file_at, in_use, live, versions, entry_of, found, channel_at, has_file, is_open, row_of, free_clusters, is_free_number}
+use Rattle.plain_vol.specs.Lookups.{file_at, in_use, live, versions, entry_of, found, channel_at, is_open, row_of, free_clusters, is_free_number, has_free_number}
 use Rattle.plain_vol.specs.Directories.{inserted, without, is_nil, fits, entry, nowhere, new_version, is_last_version, is_taken}
 use Rattle.plain_vol.specs.Changes.{in_clusters, blocks_of, cost, with_file, freed, with_entries, charged, discharged, new_fid, new_file, new_dir, grown, cut, block_of, written, with_channel, with_row, allowed}
 
@@ -164,8 +164,9 @@ abbrev pub extend_of : Cat → ℕ → Option File → ℕ → Outcome
 extend_of c n None blocks = refused c refusal.NoSuchFile
 extend_of c n (Some f) blocks = unless c (extend_refusal c n f blocks) (extended c n f (in_clusters c blocks))
 
-unfoldable pub extend_outcome : Cat → Fid → ℕ → Outcome
-extend_outcome c file blocks = extend_of c file.num (live c file) blocks
+-- whatever number is free: a file takes none for its growth
+unfoldable pub extend_outcome : Cat → Fid → ℕ → Option ℕ → Outcome
+extend_outcome c file blocks new = extend_of c file.num (live c file) blocks
 
 -- TRUNC
 abbrev pub truncated : Cat → ℕ → File → ℕ → Outcome
@@ -324,7 +325,7 @@ outcome c node (cmd.List dir) new = list_outcome c dir
 outcome c node (cmd.Stat file) new = stat_outcome c file
 outcome c node (cmd.Create reg dir name ver blocks owner) new = create_outcome c dir name ver blocks owner new
 outcome c node (cmd.MkDir reg dir name owner) new = mkdir_outcome c dir name owner new
-outcome c node (cmd.Extend file blocks) new = extend_outcome c file blocks
+outcome c node (cmd.Extend file blocks) new = extend_outcome c file blocks new
 outcome c node (cmd.Trunc file blocks) new = trunc_outcome c file blocks
 outcome c node (cmd.Delete dir name ver) new = delete_outcome c dir name ver
 outcome c node (cmd.Rename dir name ver to to_ver) new = rename_outcome c dir name ver to to_ver
@@ -335,10 +336,10 @@ outcome c node (cmd.WriteBlock chan vbn text) new = write_outcome c node chan vb
 outcome c node (cmd.QuotaSet owner quota over) new = quota_set_outcome c owner quota over
 outcome c node (cmd.QuotaShow owner) new = quota_show_outcome c owner
 
--- a free number, or none where none is free
+-- a free number, where a new file can have one, and else none
 abbrev pub IsPick : Cat → Option ℕ → Type 0
-IsPick c None = (n : ℕ) → is_free_number c n ≡ false
-IsPick c (Some n) = is_free_number c n ≡ true
+IsPick c None = has_free_number c ≡ false
+IsPick c (Some n) = is_free_number c n && has_free_number c ≡ true
 
 -- Node `node` gives a command to c, the reply is r, and the catalogue after it d. The one free choice is the number that a
 -- new file takes.

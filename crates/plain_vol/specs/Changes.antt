@@ -1,5 +1,5 @@
 -- How a command changes a catalogue, part by part.
-use Rattle.std.specs.Prelude.{◌==◌, ◌&&◌, ◌||◌, ◌-◌, ◌+◌, ◌*◌, ◌/◌, not, nat_lt, nat_le, min, ℕ, Bool, true, false, List, [], ◌∷◌, ◌++◌, Option, Some, None, take, map, replicate, slice_set, slice_index_or, if◌then◌else◌}
+use Rattle.std.specs.Prelude.{◌==◌, ◌&&◌, ◌-◌, ◌+◌, ◌*◌, ◌/◌, not, nat_lt, nat_le, min, ℕ, Bool, true, false, List, [], ◌∷◌, ◌++◌, Option, take, map, replicate, slice_set, slice_index_or, if◌then◌else◌}
 use Rattle.vol_words.specs.Fields.{Block, put}
 use Rattle.vol_words.specs.Tables.{zeros}
 use Rattle.plain_cat.specs.declared.ids.Fid.{Fid}

@@ -1,6 +1,6 @@
 -- What the judge says of an entry of a history.
-use Rattle.std.specs.Prelude.{◌≡◌, ◌⊎◌, ℕ, Bool, true, false, List, Option, Some, None}
-use Rattle.plain_cat.specs.InForm.{in_form}
+use Rattle.std.specs.Prelude.{◌≡◌, ◌⊎◌, ℕ, Bool, true, false, Option, Some, None}
+use Rattle.plain_cat.specs.InForm.{is_within, in_form}
 use Rattle.plain_cat.specs.declared.history.Stage.{Stage}
 use Rattle.plain_cat.specs.declared.history.Stage.TheVariants as stage
 use Rattle.plain_cat.specs.declared.history.Entry.{Entry}
@@ -37,11 +37,15 @@ EntryInForm (Done node cmd r) = in_form cmd ≡ true
 EntryInForm (Died node st k ns) = Unit {0}
 EntryInForm (Mended m) = Unit {0}
 
--- An entry leads from c to d. Of a death this says so only where it left nothing of a command, since the command is not
--- told.
+-- nodes are 1 to 8
+abbrev pub is_node : ℕ → Bool
+is_node n = is_within 1 8 n
+
+-- An entry leads from c to d: an answer or a death of a node, or a mending. Of a death this says so only where it left
+-- nothing of a command, since the command is not told.
 abbrev pub IsLegal : Cat → Entry → Cat → Type 0
-IsLegal c (Done node cmd r) d = Answer c node cmd r d
-IsLegal c (Died node st k ns) d = (is_quiet st ≡ true) × MayLeak c k ns.items × (d ≡ dead c node k ns.items)
+IsLegal c (Done node cmd r) d = (is_node node ≡ true) × Answer c node cmd r d
+IsLegal c (Died node st k ns) d = (is_node node ≡ true) × (is_quiet st ≡ true) × MayLeak c k ns.items × (d ≡ dead c node k ns.items)
 IsLegal c (Mended m) d = mended c ≡ Some (d, m)
 
 abbrev pub IsChecked : Cat → Entry → Checked → Type 0

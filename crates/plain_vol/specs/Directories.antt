@@ -1,10 +1,10 @@
 -- The entries of a directory in order, and whether they pack.
-use Rattle.std.specs.Prelude.{◌==◌, ◌&&◌, ◌||◌, ◌+◌, not, nat_lt, nat_le, ℕ, Bool, true, false, List, [], ◌∷◌, Option, Some, None, filter, is_some, if◌then◌else◌}
+use Rattle.std.specs.Prelude.{◌==◌, ◌&&◌, ◌||◌, ◌+◌, not, nat_lt, nat_le, ℕ, Bool, true, false, List, [], ◌∷◌, filter, is_some, if◌then◌else◌}
 use Rattle.std.specs.Str.{bytes_eq}
 use Rattle.vol_words.specs.Packing.{over}
 use Rattle.plain_cat.specs.declared.ids.Fid.{Fid}
 use Rattle.plain_cat.specs.declared.entries.DirEnt.{DirEnt}
-use Rattle.plain_vol.specs.Lookups.{versions, highest, first_with}
+use Rattle.plain_vol.specs.Lookups.{highest, first_with}
 
 -- by bytes, where a text comes before those that go on after it
 abbrev pub lower : List ℕ → List ℕ → Bool

@@ -10,3 +10,4 @@ pub mod Replaying
 pub mod Checks
 pub mod Mends
 pub mod Laws
+pub mod OneForm

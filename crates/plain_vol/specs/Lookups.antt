@@ -1,6 +1,6 @@
 -- What stands in a catalogue.
-use Rattle.std.specs.Prelude.{◌==◌, ◌&&◌, ◌-◌, ◌+◌, ◌*◌, ℕ, Bool, true, false, not, List, [], ◌∷◌, Option, Some, None, slice_get, drop, filter, if◌then◌else◌, option_and_then}
-use Rattle.std.specs.List.{sum_by, list_any}
+use Rattle.std.specs.Prelude.{◌==◌, ◌&&◌, ◌-◌, ◌+◌, ◌*◌, ℕ, Bool, true, false, not, List, [], ◌∷◌, Option, Some, None, slice_get, drop, filter, length, if◌then◌else◌}
+use Rattle.std.specs.List.{sum_by, list_any, range_with_len}
 use Rattle.std.specs.Str.{bytes_eq}
 use Rattle.plain_cat.specs.declared.ids.Fid.{Fid}
 use Rattle.plain_cat.specs.declared.ids.Uic.{Uic}
@@ -125,3 +125,7 @@ is_leaked c n = is_set (slice_get c.leaked_numbers (n - 1))
 -- whether a number is free: of no file, and not leaked
 abbrev pub is_free_number : Cat → ℕ → Bool
 is_free_number c n = is_free_slot (slot_at c n) && not (is_leaked c n)
+
+-- whether a new file can have a number: some number is free
+abbrev pub has_free_number : Cat → Bool
+has_free_number c = list_any (is_free_number c) (range_with_len 1 (length c.files))

@@ -1,9 +1,8 @@
 -- Mending: what is left of a catalogue once nobody uses the volume and its faults are put right.
-use Rattle.std.specs.Prelude.{◌≡◌, ◌==◌, ◌&&◌, ◌||◌, ◌-◌, ◌+◌, ◌*◌, ◌/◌, ◌%◌, not, nat_lt, nat_le, ℕ, Bool, true, false, List, [], ◌∷◌, ◌++◌, Option, Some, None, codes, filter, map, length, is_none, option_map, option_and_then, slice_get, unwrap_or, if◌then◌else◌}
-use Rattle.std.specs.List.{list_any, count_by, sum_by, position}
+use Rattle.std.specs.Prelude.{◌==◌, ◌&&◌, ◌||◌, ◌-◌, ◌+◌, ◌/◌, ◌%◌, not, nat_le, ℕ, Bool, true, false, List, [], ◌∷◌, ◌++◌, Option, Some, None, codes, filter, map, length, is_none, option_map, option_and_then, slice_get, unwrap_or, if◌then◌else◌}
+use Rattle.std.specs.List.{list_any, count_by}
 use Rattle.std.specs.Str.{bytes_eq}
 use Rattle.plain_cat.specs.declared.ids.Fid.{Fid}
-use Rattle.plain_cat.specs.declared.ids.Uic.{Uic}
 use Rattle.plain_cat.specs.declared.entries.DirEnt.{DirEnt}
 use Rattle.plain_cat.specs.declared.history.Mended.{Mended}
 use Rattle.plain_cat.specs.declared.cat.Cat.{Cat}

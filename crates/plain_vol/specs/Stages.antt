@@ -1,5 +1,5 @@
 -- What is left of a command whose node died between its writes.
-use Rattle.std.specs.Prelude.{◌≡◌, ◌==◌, ◌&&◌, ◌||◌, ◌-◌, ◌+◌, ◌*◌, not, nat_lt, nat_le, min, ℕ, Bool, true, false, List, [], ◌∷◌, Option, Some, None, option_and_then, if◌then◌else◌}
+use Rattle.std.specs.Prelude.{◌&&◌, ◌*◌, not, nat_lt, nat_le, ℕ, Bool, true, false, List, Option, Some, None, option_and_then, if◌then◌else◌}
 use Rattle.plain_cat.specs.declared.ids.Fid.{Fid}
 use Rattle.plain_cat.specs.declared.ids.Uic.{Uic}
 use Rattle.plain_cat.specs.declared.entries.DirEnt.{DirEnt}

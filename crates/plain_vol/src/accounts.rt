@@ -71,7 +71,7 @@ fn is_charged(cat: &Cat, row: &QuotaRow) -> bool
 fn are_charged(cat: &Cat) -> bool
     requires numbers { length cat.now.files ≤ 4096 }
     requires sizes { All (λ (s : Slot). cat.now.factor * clusters_in s ≤ 65536) cat.now.files }
-    ensures { IsTrue result → All (IsCharged cat.now) cat.now.quota }
+    ensures { IsTrue result ↔ All (IsCharged cat.now) cat.now.quota }
 {
     for row in cat.quota.items() {
         if !is_charged(cat, row) {
@@ -84,7 +84,7 @@ fn are_charged(cat: &Cat) -> bool
 /// Whether a catalogue keeps the limits of a volume and its quotas are in order, as `check_reply` needs it: each owner of a
 /// file has a quota row, and the usage of each row is what its owner's files cost, or at most 1,000,000 blocks more.
 pub fn is_accounted(cat: &Cat) -> bool
-    ensures { IsTrue result → Accounted cat.now }
+    ensures { IsTrue result ↔ Accounted cat.now }
 {
     1 <= cat.factor
         && cat.factor <= 16

@@ -1,10 +1,9 @@
 ghost use Rattle.std.specs.Prelude.{◌≡◌, ◌≤◌, ◌↔◌, IsTrue, true, ℕ, Option, Some, IfOk, length};
 ghost use Rattle.plain_cat.specs.InForm.{in_form};
 ghost use Rattle.plain_cat.specs.declared.history.Entry.TheVariants.{Done, Died};
-ghost use Rattle.plain_vol.specs.Lookups.{is_free_number};
 ghost use Rattle.plain_vol.specs.Accounts.{Accounted};
 ghost use Rattle.plain_vol.specs.Answers.{IsPick};
-ghost use Rattle.plain_vol.specs.Checks.{shown_number, is_quiet, EntryInForm, IsChecked, KeepsAccounts};
+ghost use Rattle.plain_vol.specs.Checks.{shown_number, is_node, is_quiet, EntryInForm, IsChecked, KeepsAccounts};
 ghost use Rattle.plain_vol.specs.Mends.{counts_of};
 
 use crate::checking::Checked;
@@ -28,12 +27,20 @@ fn shown_number(reply: &Reply) -> Option<u32>
 fn choose(cat: &Cat, reply: &Reply) -> Option<u32>
     requires { length cat.now.files ≤ 4096 }
     ensures pick { IsPick cat.now result }
-    ensures shown { (n : ℕ) → shown_number reply.now ≡ Some n → is_free_number cat.now n ≡ true → result ≡ Some n }
+    ensures shown { (n : ℕ) → shown_number reply.now ≡ Some n → IsPick cat.now (Some n) → result ≡ Some n }
 {
+    let first = lookups::pick(cat)?;
     match shown_number(reply) {
         Some(n) if lookups::is_free_number(cat, n) => Some(n),
-        _ => lookups::pick(cat),
+        _ => Some(first),
     }
+}
+
+// Whether this is the number of a node.
+fn is_node(node: u8) -> bool
+    ensures { result ≡ is_node node }
+{
+    1 <= node && node <= 8
 }
 
 // Whether the reply is the one of a node's command.
@@ -49,6 +56,9 @@ fn check_answer(
     ensures exact { IfOk result (IsChecked cat.now (Done node cmd.now reply.now)) }
     ensures keeps { IfOk result KeepsAccounts }
 {
+    if !is_node(node) {
+        return Ok(Checked::Illegal);
+    }
     let new = choose(cat, reply);
     let answer = outcome(alloc, cat, node, cmd, new)?;
     if is_same_reply(&answer.reply, reply) {
@@ -77,7 +87,8 @@ fn check_death(
     ensures exact { IfOk result (IsChecked cat.now (Died node stage clusters numbers.now)) }
     ensures keeps { IfOk result KeepsAccounts }
 {
-    if !is_quiet(stage)
+    if !is_node(node)
+        || !is_quiet(stage)
         || lookups::free_clusters(cat) < clusters
         || !dying::are_free(cat, numbers.items())
     {
@@ -117,7 +128,7 @@ fn check_mending(alloc: Global, cat: &Cat, counts: &Mended) -> Result<Checked, N
 /// entry is a case of the rules, and `Illegal` exactly where it is none: an answer is the reply of its command, with any free
 /// number for a new file; a mending has the counts of what mending does; and a death is judged where it left nothing of a
 /// command, with clusters and numbers that are free, since the entry does not tell the command. A death at a later stage is
-/// `Illegal` here.
+/// `Illegal` here, and so is an answer or a death of a node outside 1 to 8.
 pub fn check_reply(alloc: Global, cat: &Cat, e: &Entry) -> Result<Checked, NoMemory>
     requires cat { Accounted cat.now }
     requires entry { EntryInForm e.now }

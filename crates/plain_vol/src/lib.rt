@@ -35,9 +35,12 @@ pub use directories::{has_name, highest, look_up, with_version};
 pub use entering::{entries_in, is_own, with_lost_entry};
 pub use forms::is_in_form;
 pub use judge::check_reply;
-pub use laws::{answers_are_determined, commands_are_answered};
+pub use laws::{
+    answers_are_determined, commands_are_answered, deaths_are_within, legal_entries_keep_the_form,
+};
 pub use lookups::{file_at, free_clusters, in_use, live, row_of};
 pub use outcome::Outcome;
+pub use outcomes::outcome as outcome_of;
 pub use packing::dir_fits;
 pub use plain_cat::{
     Blocks, Cat, Channels, Clusters, Cmd, DirEnt, DirEnts, Entry, Fid, File, FileRef, Files, Flags,

@@ -159,7 +159,8 @@ pub(crate) fn is_free_number(cat: &Cat, n: u32) -> bool
     matches!(slot_at(cat, n), Some(Slot::Free(_))) && !is_leaked(cat, n)
 }
 
-// A free number, the lowest one, or none where none is free.
+// The lowest free number, or none where a new file can have none.
+#[tactic(auto, using(crate::proofs::Picks::has_number))]
 pub(crate) fn pick(cat: &Cat) -> Option<u32>
     requires { length cat.now.files ≤ 4096 }
     ensures { IsPick cat.now result }

@@ -8,9 +8,11 @@ use crate::{creating, naming, opening, quotas, reading, sizing};
 use plain_cat::{Cat, Cmd, NoMemory};
 use std::alloc::Global;
 
-// What a node's command is answered, and the catalogue after it, where new is the number that a new file takes.
+/// What the command of a node of 1 to 8 is answered, and the catalogue after it, where `new` is the number that a new file
+/// takes, or none where none is free. CREATE and MKDIR answer `IndexFull` exactly where they come to ask for a number and it
+/// is none; other commands make nothing of it. An error says that memory ran out.
 #[tactic(auto, unfolding(crate::specs::Answers::outcome, plain_cat::specs::InForm::in_form))]
-pub(crate) fn outcome(
+pub fn outcome(
     alloc: Global,
     cat: &Cat,
     node: u8,
@@ -39,7 +41,7 @@ pub(crate) fn outcome(
             owner,
             ..
         } => creating::make_dir(alloc, cat, *dir, name, *owner, new),
-        Cmd::Extend { file, blocks } => sizing::extend(alloc, cat, *file, *blocks),
+        Cmd::Extend { file, blocks } => sizing::extend(alloc, cat, *file, *blocks, new),
         Cmd::Trunc { file, blocks } => sizing::trunc(alloc, cat, *file, *blocks),
         Cmd::Delete { dir, name, ver } => naming::delete(alloc, cat, *dir, name, *ver),
         Cmd::Rename {

@@ -58,12 +58,18 @@ fn extended(alloc: Global, cat: &Cat, n: u32, file: &File, k: u32) -> Result<Out
     })
 }
 
-// EXTEND
+// EXTEND, which takes no number
 #[tactic(auto, unfolding(crate::specs::Answers::extend_outcome, crate::specs::Answers::extend_refusal))]
-pub(crate) fn extend(alloc: Global, cat: &Cat, fid: Fid, blocks: u32) -> Result<Outcome, NoMemory>
+pub(crate) fn extend(
+    alloc: Global,
+    cat: &Cat,
+    fid: Fid,
+    blocks: u32,
+    new: Option<u32>,
+) -> Result<Outcome, NoMemory>
     requires cat { Accounted cat.now }
     requires blocks { blocks ≤ 65536 }
-    ensures { IfOk result (λ o. o ≡ extend_outcome cat.now fid blocks) }
+    ensures { IfOk result (λ o. o ≡ extend_outcome cat.now fid blocks new) }
 {
     let Some(file) = lookups::live(cat, fid) else {
         return refused(alloc, cat, Refusal::NoSuchFile);

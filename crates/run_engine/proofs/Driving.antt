@@ -1,7 +1,7 @@
 -- What the image tells over turns.
 use Rattle.std.proofs.Common.{◌≡◌, ◌⊎◌, List, Option, Some, None, refl, sym, ap, subst, ◌∙◌, inl, inr}
 use Rattle.vol_words.specs.Fields.{Block}
-use Rattle.core_state.specs.Images.{IsTold, told_as}
+use Rattle.core_state.specs.Images.{IsTold, IsTorn, told_as}
 
 -- it tells what it told, where its blocks are the same
 pub told_same : (t : Option (List Block)) (bs : List Block) → IsTold t bs → t ≡ told_as t bs
@@ -27,3 +27,10 @@ told_on P t u v bs cs e step = by (step (is_told t u bs e)) where
 pub told_well : (P : Type 0) (t u : Option (List Block)) → (t ≡ u) ⊎ P → (P → ⊥) → t ≡ u
 told_well P t u (inl e) none = e
 told_well P t u (inr p) none = absurd (none p)
+
+-- what a turn leaves where its write fails, after turns that went well
+pub torn_on : (t u v : Option (List Block)) (bs before after : List Block) → u ≡ told_as t bs → (IsTold u bs → IsTorn u v before after) → IsTorn t v before after
+torn_on t u v bs before after e torn = by (torn (is_told t u bs e)) where
+  by : IsTorn u v before after → IsTorn t v before after
+  by (inl f) = inl (f ∙ as_before t u bs before e)
+  by (inr f) = inr (f ∙ as_before t u bs after e)

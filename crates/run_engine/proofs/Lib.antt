@@ -3,3 +3,4 @@ pub mod Playing
 pub mod Rotating
 pub mod Ending
 pub mod Driving
+pub mod Stopping

@@ -1,6 +1,8 @@
 -- The walk of a world: first the plays of a schedule, and then turns in rotation.
-use Rattle.std.specs.Prelude.{◌≡◌, ◌+◌, ◌-◌, ◌*◌, ◌⊎◌, ℕ, zero, suc, true, false, List, [], ◌∷◌, Option, Some, None, length, take, if◌then◌else◌}
+use Rattle.std.specs.Prelude.{◌≡◌, ◌≤◌, ◌+◌, ◌-◌, ◌*◌, ◌⊎◌, ℕ, zero, suc, true, false, List, [], ◌∷◌, Option, Some, None, length, slice_get, take, if◌then◌else◌}
+use Rattle.vol_words.specs.Fields.{Block}
 use Rattle.core_state.specs.Worlds.{Plain}
+use Rattle.core_state.specs.Images.{IsTold, IsTorn}
 use Rattle.core_state.specs.Events.{after_turn, is_over, is_write, next_event}
 
 -- ---- plays
@@ -59,6 +61,12 @@ rotated k from w = (rotation k (record { world = w; from = from })).world
 abbrev pub IsRotated : Plain → Plain → Type 0
 IsRotated old new = (k : ℕ) × (new ≡ rotated k 1 old)
 
+-- the same, after at most so many
+pub record IsRotatedIn (most : ℕ) (old new : Plain) : Type 0 where
+  pub turns : ℕ
+  pub few : turns ≤ most
+  pub at : new ≡ rotated turns 1 old
+
 -- ---- walks
 
 -- one turn for each play, and then turns in rotation
@@ -83,10 +91,33 @@ pub record IsSpent (budget : ℕ) (old new : Plain) : Type 0 where
   pub node : ℕ
   pub left : is_over new node ≡ false
 
--- the next event of some node is a write
-pub record IsBeforeWrite (w : Plain) : Type 0 where
+-- ---- whose turn comes
+
+-- after the first plays, that of the next play, where that node is not over
+pub record IsNextPlay (old : Plain) (plays : List ℕ) (w : Plain) (n : ℕ) : Type 0 where
+  pub made : ℕ
+  pub at : w ≡ played (take made plays) old
+  pub play : slice_get plays made ≡ Some n
+  pub alive : is_over w n ≡ false
+
+-- after turns in rotation, that of the next node that is not over
+pub record IsNextTurn (old w : Plain) (n : ℕ) : Type 0 where
+  pub made : ℕ
+  pub from : ℕ
+  pub at : rotation made (record { world = old; from = 1 }) ≡ record { world = w; from = from }
+  pub turn : next_from w from ≡ Some n
+
+-- in a walk, the one or the other
+abbrev pub IsNextIn : Plain → List ℕ → Plain → ℕ → Type 0
+IsNextIn old plays w n = IsNextPlay old plays w n ⊎ IsNextTurn (played plays old) w n
+
+-- A turn whose write failed: `IsNext` says whose turn it was, and the next event of that node is the write. Where the image told the
+-- blocks of the drive at first, it has then those from before that turn, or those that the turn would have left.
+pub record IsBeforeWrite (IsNext : ℕ → Type 0) (first : List Block) (told now : Option (List Block)) (w : Plain) : Type 0 where
   pub node : ℕ
+  pub next : IsNext node
   pub write : is_write (next_event w node) ≡ true
+  pub image : IsTold told first → IsTorn told now w.blocks (after_turn w node).blocks
 
 -- ---- what no turn changes
 

@@ -1,9 +1,10 @@
-ghost use Rattle.std.specs.Prelude.{◌≡◌, ◌≤◌, ◌⊎◌, Err, OnOk, OnErr, All};
+ghost use Rattle.std.specs.Prelude.{◌≡◌, ◌≤◌, ◌⊎◌, true, false, Err, OnOk, OnErr, All};
 ghost use Rattle.vol_words.specs.Faults.{Rose};
 ghost use Rattle.plain_vol.specs.Own.{Whole};
 ghost use Rattle.core_state.specs.Worlds.{IsOfWorld};
-ghost use Rattle.core_state.specs.Images.{IsTold, told_as};
-ghost use Rattle.run_engine.specs.Walks.{after_play, played, Walk, IsPartOfWalk, IsPlayed, AllOver, IsSpent, IsBeforeWrite, Stays, budget_of};
+ghost use Rattle.core_state.specs.Images.{IsTold, IsTorn, told_as};
+ghost use Rattle.core_state.specs.Events.{is_over, is_write, next_event, after_turn};
+ghost use Rattle.run_engine.specs.Walks.{after_play, played, IsPartOfWalk, IsPlayed, IsRotatedIn, AllOver, IsSpent, IsNextPlay, IsNextIn, IsBeforeWrite, Stays, budget_of};
 
 use crate::fault::RunFault;
 use crate::rotation::{nodes_of, rotate};
@@ -37,7 +38,10 @@ fn play<I: ImageDev, O: Operation>(
     ensures same { OnErr result (w.new.world ≡ w.old.world) }
     ensures later { I.faults w.old.image ≤ I.faults w.new.image }
     ensures cause { result ≡ Err TurnFault.ImageFault → Rose (I.faults w.old.image) (I.faults w.new.image) }
-    ensures before { result ≡ Err TurnFault.ImageFault → IsBeforeWrite w.new.world }
+    ensures alive { result ≡ Err TurnFault.ImageFault → is_over w.old.world node ≡ false }
+    ensures before { result ≡ Err TurnFault.ImageFault → is_write (next_event w.old.world node) ≡ true }
+    ensures torn { result ≡ Err TurnFault.ImageFault → IsTold (I.told w.old.image) w.old.world.blocks
+        → IsTorn (I.told w.old.image) (I.told w.new.image) w.old.world.blocks (after_turn w.old.world node).blocks }
     ensures drive { IsTold (I.told w.old.image) w.old.world.blocks
         → (I.told w.new.image ≡ told_as (I.told w.old.image) w.new.world.blocks) ⊎ (result ≡ Err TurnFault.ImageFault) }
 {
@@ -58,7 +62,7 @@ fn play_all<I: ImageDev, O: Operation>(
     ensures part { OnErr result (IsPlayed w.old.world plays.now w.new.world) }
     ensures later { I.faults w.old.image ≤ I.faults w.new.image }
     ensures cause { result ≡ Err TurnFault.ImageFault → Rose (I.faults w.old.image) (I.faults w.new.image) }
-    ensures before { result ≡ Err TurnFault.ImageFault → IsBeforeWrite w.new.world }
+    ensures before { result ≡ Err TurnFault.ImageFault → IsBeforeWrite (IsNextPlay w.old.world plays.now w.new.world) w.old.world.blocks (I.told w.old.image) (I.told w.new.image) w.new.world }
     ensures drive { IsTold (I.told w.old.image) w.old.world.blocks
         → (I.told w.new.image ≡ told_as (I.told w.old.image) w.new.world.blocks) ⊎ (result ≡ Err TurnFault.ImageFault) }
 {
@@ -72,22 +76,23 @@ fn play_all<I: ImageDev, O: Operation>(
 /// node that is over makes no turn: its play has no effect, and the rotation passes over it. A run ends once every node is over.
 ///
 /// The plays are nodes from 1 to the last. The rotation makes at most 2,048 × nodes × (commands + nodes) turns, and the run is
-/// `Unfinished` where a node is not over after so many. After a fault the world is as it was before the turn that failed, and
-/// `ImageFault` comes only where the image has counted a fault.
+/// `Unfinished` where a node is not over after so many. After a fault the world is as it was before the turn that failed.
+/// `ImageFault` comes only in place of a write of the node whose turn it is, and where the image has counted a fault: an image that
+/// told the blocks of the drive has then those from before that turn, or those that it would have left.
 pub fn run<I: ImageDev, O: Operation>(
     alloc: Global,
     w: &mut World<I, O>,
     plays: &Plays,
 ) -> Result<(), RunFault>
     requires { All (IsOfWorld w.old.world) plays.now }
-    ensures ok { OnOk result (Walk w.old.world plays.now w.new.world × AllOver w.new.world) }
+    ensures ok { OnOk result (IsRotatedIn (budget_of w.old.world) (played plays.now w.old.world) w.new.world × AllOver w.new.world) }
     ensures whole { OnOk result (Whole w.new.world.script w.new.world.history) }
     ensures err { OnErr result (IsPartOfWalk w.old.world plays.now w.new.world) }
     ensures spent { result ≡ Err RunFault.Unfinished → IsSpent (budget_of w.old.world) (played plays.now w.old.world) w.new.world }
     ensures stays { Stays w.old.world w.new.world }
     ensures later { I.faults w.old.image ≤ I.faults w.new.image }
     ensures cause { result ≡ Err RunFault.ImageFault → Rose (I.faults w.old.image) (I.faults w.new.image) }
-    ensures before { result ≡ Err RunFault.ImageFault → IsBeforeWrite w.new.world }
+    ensures before { result ≡ Err RunFault.ImageFault → IsBeforeWrite (IsNextIn w.old.world plays.now w.new.world) w.old.world.blocks (I.told w.old.image) (I.told w.new.image) w.new.world }
     ensures drive { IsTold (I.told w.old.image) w.old.world.blocks
         → (I.told w.new.image ≡ told_as (I.told w.old.image) w.new.world.blocks) ⊎ (result ≡ Err RunFault.ImageFault) }
 {

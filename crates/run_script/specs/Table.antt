@@ -11,6 +11,28 @@ use Rattle.run_script.specs.declared.built.Kind.{Kind}
 use Rattle.run_script.specs.declared.built.Kind.TheVariants as kind
 use Rattle.run_script.specs.declared.built.Built.{Built}
 
+-- What the program runs so far: LOOKUP, LIST, STAT, CREATE and MKDIR, of each file and directory, and no deaths.
+abbrev pub run_so_far : Built
+run_so_far = record {
+  lookup = true;
+  list = true;
+  stat = true;
+  create = true;
+  mkdir = true;
+  extend = false;
+  trunc = false;
+  delete = false;
+  rename = false;
+  open_file = false;
+  close_file = false;
+  read_block = false;
+  write_block = false;
+  quota_set = false;
+  quota_show = false;
+  other_directories = true;
+  kill = false;
+}
+
 -- the entry of a kind
 abbrev pub is_on : Built → Kind → Bool
 is_on table kind.Lookup = table.lookup

@@ -1,7 +1,7 @@
 ghost use Rattle.std.specs.Prelude.{◌≡◌, ◌⊎◌, ℕ, None, Ok, Err, IfOk};
 ghost use Rattle.plain_cat.specs.declared.script.Script.{Script};
 ghost use Rattle.run_script.specs.Lines.{lines_of};
-ghost use Rattle.run_script.specs.Table.{AreBuilt};
+ghost use Rattle.run_script.specs.Table.{AreBuilt, run_so_far};
 ghost use Rattle.run_script.specs.Spelling.{SpellsScript, IsBadLine, IsTooMany};
 ghost use Rattle.run_script.specs.Steps.{Reads, read_from};
 ghost use Rattle.plain_cat.specs.InForm.{InForm};
@@ -57,14 +57,14 @@ pub fn read_with(alloc: Global, table: &Built, bytes: &[u8]) -> Result<Script, S
 
 /// Reads a script for the program as it stands: [`read_with`] of what it runs, [`BUILT`].
 pub fn read_script(alloc: Global, bytes: &[u8]) -> Result<Script, ScriptFault>
-    ensures spelt { IfOk result (SpellsScript BUILT (lines_of bytes.now)) }
+    ensures spelt { IfOk result (SpellsScript run_so_far (lines_of bytes.now)) }
     ensures form { IfOk result InForm }
-    ensures built { IfOk result (λ s. AreBuilt BUILT s.lines) }
-    ensures bad { (n : ℕ) → result ≡ Err (ScriptFault.BadLine n) → IsBadLine BUILT (lines_of bytes.now) n }
-    ensures over { result ≡ Err ScriptFault.TooMany → IsTooMany BUILT (lines_of bytes.now) }
-    ensures each_script { (s : Script) → SpellsScript BUILT (lines_of bytes.now) s → (result ≡ Ok s) ⊎ (result ≡ Err ScriptFault.NoMemory) }
-    ensures each_bad { (n : ℕ) → IsBadLine BUILT (lines_of bytes.now) n → (result ≡ Err (ScriptFault.BadLine n)) ⊎ (result ≡ Err ScriptFault.NoMemory) }
-    ensures each_over { IsTooMany BUILT (lines_of bytes.now) → (result ≡ Err ScriptFault.TooMany) ⊎ (result ≡ Err ScriptFault.NoMemory) }
+    ensures built { IfOk result (λ s. AreBuilt run_so_far s.lines) }
+    ensures bad { (n : ℕ) → result ≡ Err (ScriptFault.BadLine n) → IsBadLine run_so_far (lines_of bytes.now) n }
+    ensures over { result ≡ Err ScriptFault.TooMany → IsTooMany run_so_far (lines_of bytes.now) }
+    ensures each_script { (s : Script) → SpellsScript run_so_far (lines_of bytes.now) s → (result ≡ Ok s) ⊎ (result ≡ Err ScriptFault.NoMemory) }
+    ensures each_bad { (n : ℕ) → IsBadLine run_so_far (lines_of bytes.now) n → (result ≡ Err (ScriptFault.BadLine n)) ⊎ (result ≡ Err ScriptFault.NoMemory) }
+    ensures each_over { IsTooMany run_so_far (lines_of bytes.now) → (result ≡ Err ScriptFault.TooMany) ⊎ (result ≡ Err ScriptFault.NoMemory) }
 {
     read_with(alloc, &BUILT, bytes)
 }

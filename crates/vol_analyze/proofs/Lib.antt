@@ -3,3 +3,4 @@ pub mod Reading
 pub mod Told
 pub mod Weakly
 pub mod Once
+pub mod Heads

@@ -27,18 +27,18 @@ found_at v k n =
     if k == 1 then Some (header_found n (head v n))
     else if k == 2 then Some (finding.SystemFile n)
     else if k == 3 then option_map finding.Scb (scb_fault v)
-    else if k == 4 then Some (finding.Runs n)
-    else if k == 5 then Some (finding.Clusters n)
-    else if k == 6 then Some (finding.SharedCluster n)
-    else if k == 7 then dir_fault v n
-    else if k == 8 then Some (finding.QuotaRow (record { 0 = n }))
-    else if k == 9 then Some (finding.NoQuotaRow n)
-    else if k == 10 then Some (finding.FreeCluster n)
-    else if k == 11 then Some (finding.FreeNumber n)
-    else if k == 12 then Some (finding.SystemEntry n)
-    else if k == 13 then Some (finding.MarkedDir n)
-    else if k == 14 then Some (finding.DirLoop n)
-    else if k == 15 then Some (finding.NoRoom n)
+    else if k == 5 then Some (finding.Runs n)
+    else if k == 6 then Some (finding.Clusters n)
+    else if k == 7 then Some (finding.SharedCluster n)
+    else if k == 8 then dir_fault v n
+    else if k == 9 then Some (finding.QuotaRow (record { 0 = n }))
+    else if k == 10 then Some (finding.NoQuotaRow n)
+    else if k == 11 then Some (finding.FreeCluster n)
+    else if k == 12 then Some (finding.FreeNumber n)
+    else if k == 13 then Some (finding.SystemEntry n)
+    else if k == 14 then Some (finding.MarkedDir n)
+    else if k == 15 then Some (finding.DirLoop n)
+    else if k == 16 then Some (finding.NoRoom n)
     else None
 
 bad_header : (n : ℕ) (fault : HeaderFault) (o : Result Slot HeaderFault) → o ≡ Err fault → header_found n o ≡ finding.Header n fault

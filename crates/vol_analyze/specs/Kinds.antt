@@ -33,3 +33,11 @@ abbrev pub findings_with : Cat → List ℕ → List Finding
 findings_with c ds =
     marked_of c ++ (nameless_of c (places c) ++ (seconds_of c (places c)
     ++ (map finding.Doubles ds ++ (lost_of c ++ (leaks_of c ++ usages_of c)))))
+
+-- of the findings that are not fatal those of the first kinds: of marked files, and of entries
+abbrev pub early_of : Cat → List Finding
+early_of c = marked_of c ++ (nameless_of c (places c) ++ seconds_of c (places c))
+
+-- and those of the others, where these directories have doubles
+abbrev pub late_of : Cat → List ℕ → List Finding
+late_of c ds = map finding.Doubles ds ++ (lost_of c ++ (leaks_of c ++ usages_of c))

@@ -1,12 +1,12 @@
 //! All findings of a volume's blocks, and whether they are accepted.
 
-ghost use Rattle.std.specs.Prelude.{◌≡◌, [], ◌∷◌, List, length, IfOk, MatchOption};
+ghost use Rattle.std.specs.Prelude.{length, IfOk};
 ghost use Rattle.fx_home.specs.Homes.{home_read};
-ghost use Rattle.vol_parts.specs.declared.finding.Finding.{Finding};
 ghost use Rattle.vol_parts.specs.Findings.{home_at, AreWarningsBy, AreFindings, CatOf};
 ghost use Rattle.vol_faults.specs.Conditions.{IsSize};
-ghost use Rattle.vol_analyze.specs.Judging.{IsJudged};
+ghost use Rattle.vol_analyze.specs.Judging.{IsFirstWarning, IsJudged};
 
+use crate::firsts::first_warning;
 use crate::warnings::all_warnings;
 use blk_whole::blocks_are_whole;
 use fx_home::read_home;
@@ -46,18 +46,22 @@ pub fn analyze(alloc: Global, blocks: &[Block]) -> Result<Vec<Finding>, NoMemory
     }
 }
 
-// The first of these.
-fn first_of(mut found: Vec<Finding>) -> Option<Finding>
-    ensures { MatchOption result (found.items ≡ []) (λ f. (fs : List Finding) × (found.items ≡ f ∷ fs)) }
+// The first finding that is not fatal, where the blocks tell this catalogue.
+fn first_warning_of(alloc: Global, blocks: &[Block], cat: &Cat) -> Result<Option<Finding>, NoMemory>
+    requires size { IsSize (length blocks.now) }
+    requires told { CatOf blocks.now cat.now }
+    ensures { IfOk result (IsFirstWarning blocks.now (home_read (home_at blocks.now))) }
 {
-    if found.is_empty() {
-        return None;
+    blocks_are_whole(blocks);
+    match read_home(&blocks[1]) {
+        Ok(home) => first_warning(alloc, &home, blocks, cat),
+        Err(_) => Ok(None),
     }
-    Some(found.remove(0))
 }
 
 /// The catalogue of blocks in which nothing is found, else the first of what [`analyze`] finds. There are 64 to 65,536 blocks.
 /// An error says that memory ran out.
+#[tactic(auto, using(crate::proofs::Heads::judged_none, crate::proofs::Heads::judged_first))]
 pub fn accepted(alloc: Global, blocks: &[Block]) -> Result<Result<Cat, Finding>, NoMemory>
     requires { IsSize (length blocks.now) }
     ensures { IfOk result (IsJudged blocks.now) }
@@ -66,7 +70,7 @@ pub fn accepted(alloc: Global, blocks: &[Block]) -> Result<Result<Cat, Finding>,
         Ok(cat) => cat,
         Err(found) => return Ok(Err(found)),
     };
-    match first_of(warnings_of(alloc, blocks, &cat)?) {
+    match first_warning_of(alloc, blocks, &cat)? {
         Some(found) => Ok(Err(found)),
         None => Ok(Ok(cat)),
     }

@@ -39,13 +39,13 @@ pub(crate) fn push_marked(out: &mut Vec<Finding>, cat: &Cat) -> Result<(), NoMem
 
 // Whether an entry names no file in use.
 #[tactic(auto, unfolding(vol_parts::specs::Warnings::names_none))]
-fn names_none(cat: &Cat, spot: &Spot<'_>) -> bool
+pub(crate) fn names_none(cat: &Cat, spot: &Spot<'_>) -> bool
     ensures { result ≡ names_none cat.now (place_of spot.now) }
 {
     in_use(cat, spot.entry.fid).is_none()
 }
 
-fn nameless(alloc: Global, spot: &Spot<'_>) -> Result<Finding, NoMemory>
+pub(crate) fn nameless(alloc: Global, spot: &Spot<'_>) -> Result<Finding, NoMemory>
     ensures { IfOk result (λ f. f ≡ names_none_found (place_of spot.now)) }
 {
     Ok(Finding::NamesNone {
@@ -72,7 +72,7 @@ pub(crate) fn push_nameless(
     Ok(())
 }
 
-fn second(alloc: Global, spot: &Spot<'_>) -> Result<Finding, NoMemory>
+pub(crate) fn second(alloc: Global, spot: &Spot<'_>) -> Result<Finding, NoMemory>
     ensures { IfOk result (λ f. f ≡ second_found (place_of spot.now)) }
 {
     Ok(Finding::Second {

@@ -3,6 +3,7 @@
 
 mod analysis;
 mod doubles;
+mod firsts;
 mod kinds;
 mod laws;
 mod texts;

@@ -17,7 +17,7 @@ use vol_places::{all_firsts, spots};
 use vol_words::Block;
 
 // Adds directories that have doubles.
-fn push_doubles(out: &mut Vec<Finding>, doubles: &[u32]) -> Result<(), NoMemory>
+pub(crate) fn push_doubles(out: &mut Vec<Finding>, doubles: &[u32]) -> Result<(), NoMemory>
     ensures { OnOk result (out.new.items ≡ out.old.items ++ map Finding.Doubles doubles.now) }
 {
     for n in doubles {

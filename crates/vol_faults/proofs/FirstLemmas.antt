@@ -84,10 +84,10 @@ header-wrong v n s low e =
 
 -- ---- file numbers
 
-free-number : (v : Volume) (g : Finding) → rank g ≡ 11 → IsFatalIn v g → IsAmong v (is_free_in_use v) 1 v.home.files g
+free-number : (v : Volume) (g : Finding) → rank g ≡ 12 → IsFatalIn v g → IsAmong v (is_free_in_use v) 1 v.home.files g
 unfolding is_free_in_use
 free-number v (finding.FreeNumber n) e h = among v (is_free_in_use v) (finding.FreeNumber n) h.0 (and_from _ _ (not_from_false (is_used_number v n) h.1) h.2)
 free-number v g e h = absurd (omega arith)
 
-pub free-number-found : (v : Volume) → AreFound v 11 (is_free_in_use v) 1 v.home.files
+pub free-number-found : (v : Volume) → AreFound v 12 (is_free_in_use v) 1 v.home.files
 free-number-found v = record { only = free-number v }

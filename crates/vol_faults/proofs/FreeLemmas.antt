@@ -30,33 +30,33 @@ home-read bs fault readable e =
     absurd (cc (w.1))
 
 -- no fatal finding holds of it but one
-pub none-of-readable : (bs : List Block) (home : Home) → IsReadable bs → home_read (home_at bs) ≡ Ok home → NoneBelow (volume home bs) 15
+pub none-of-readable : (bs : List Block) (home : Home) → IsReadable bs → home_read (home_at bs) ≡ Ok home → NoneBelow (volume home bs) 16
 none-of-readable bs home readable e g below h =
     let w = readable g (subst (λ (x : Result Home HomeFault). IsFatalBy bs x g) (sym e) h) in
-    let is : rank g ≡ 15 = ap rank w.1 in
+    let is : rank g ≡ 16 = ap rank w.1 in
     absurd (omega arith)
 
-sound-slot : (v : Volume) (n : ℕ) (r : Result Slot HeaderFault) → NoneBelow v 15 → IsNumber v n → head v n ≡ r → is_bad_slot n r ≡ true → ⊥
+sound-slot : (v : Volume) (n : ℕ) (r : Result Slot HeaderFault) → NoneBelow v 16 → IsNumber v n → head v n ≡ r → is_bad_slot n r ≡ true → ⊥
 sound-slot v n (Err fault) none number e bad = none (finding.Header n fault) (omega arith) (number, e)
 sound-slot v n (Ok s) none number e bad = none (finding.WrongNumber n) (omega arith) (number, wrong-number n (head v n) s e (subst (λ (x : Result Slot HeaderFault). is_bad_slot n x ≡ true) (sym e) bad))
 
-sound-head : (v : Volume) (n : ℕ) → NoneBelow v 15 → IsNumber v n → is_bad_header v n ≡ false
+sound-head : (v : Volume) (n : ℕ) → NoneBelow v 16 → IsNumber v n → is_bad_header v n ≡ false
 unfolding is_bad_header
 sound-head v n none number = elim (cases_Bool (is_bad_header v n)) [
   | inl bad ↦ absurd (sound-slot v n (head v n) none number refl bad)
   | inr sound ↦ sound
 ]
 
-pub heads-sound : (v : Volume) → NoneBelow v 15 → HasHeads v
+pub heads-sound : (v : Volume) → NoneBelow v 16 → HasHeads v
 heads-sound v none = record { sound = λ n number. sound-head v n none number }
 
-sound-system : (v : Volume) (n : ℕ) → NoneBelow v 15 → 1 ≤ n → n ≤ 11 → is_system_file v n ≡ true
+sound-system : (v : Volume) (n : ℕ) → NoneBelow v 16 → 1 ≤ n → n ≤ 11 → is_system_file v n ≡ true
 sound-system v n none from to = elim (cases_Bool (is_system_file v n)) [
   | inl sound ↦ sound
   | inr bad ↦ absurd (none (finding.SystemFile n) (omega arith) (from, to, bad))
 ]
 
-pub systems-sound : (v : Volume) → NoneBelow v 15 → HasSystemFiles v
+pub systems-sound : (v : Volume) → NoneBelow v 16 → HasSystemFiles v
 systems-sound v none = record { sound = λ n from to. sound-system v n none from to }
 
 -- the next number passes

@@ -10,3 +10,5 @@ pub mod RoomLemmas
 pub mod SharingLemmas
 pub mod WholeLemmas
 pub mod FreeLemmas
+pub mod WayLemmas
+pub mod WalkLemmas

@@ -15,14 +15,14 @@ pub catalogue-numbers : (v : Volume) → length (catalogue v).files ≡ v.home.f
 unfolding catalogue files_of
 catalogue-numbers v = length-map-range_with_len (slot_of v) 1 v.home.files
 
-of-volume : (v : Volume) (g : Finding) → 12 ≤ rank g → rank g ≤ 15 → IsFatalIn v g → IsFatalOf (catalogue v) g
+of-volume : (v : Volume) (g : Finding) → 13 ≤ rank g → rank g ≤ 16 → IsFatalIn v g → IsFatalOf (catalogue v) g
 of-volume v (finding.SystemEntry n) low high h = h
 of-volume v (finding.MarkedDir n) low high h = h.1
 of-volume v (finding.DirLoop n) low high h = h
 of-volume v (finding.NoRoom n) low high h = h
 of-volume v g low high h = absurd (omega arith)
 
-of-catalogue : (v : Volume) (g : Finding) → 12 ≤ rank g → rank g ≤ 15 → IsFatalOf (catalogue v) g → IsFatalIn v g
+of-catalogue : (v : Volume) (g : Finding) → 13 ≤ rank g → rank g ≤ 16 → IsFatalOf (catalogue v) g → IsFatalIn v g
 of-catalogue v (finding.SystemEntry n) low high h = h
 of-catalogue v (finding.MarkedDir n) low high h =
     let w = marked-number (catalogue v) n h in
@@ -32,7 +32,7 @@ of-catalogue v (finding.DirLoop n) low high h = h
 of-catalogue v (finding.NoRoom n) low high h = h
 of-catalogue v g low high h = absurd (omega arith)
 
-pub first-of-volume : (v : Volume) (k : ℕ) (r : Option Finding) → 12 ≤ k → k ≤ 15 → IsFirstIn (catalogue v) k r → IsFirstOf v k r
+pub first-of-volume : (v : Volume) (k : ℕ) (r : Option Finding) → 13 ≤ k → k ≤ 16 → IsFirstIn (catalogue v) k r → IsFirstOf v k r
 first-of-volume v k None low high none = λ g is h. none g is (of-volume v g (omega arith) (omega arith) h)
 first-of-volume v k (Some f) low high first = record {
   rank_is = first.rank_is;

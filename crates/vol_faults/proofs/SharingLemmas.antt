@@ -110,21 +110,21 @@ shared-inside v q have s =
 abbrev IsBelow : (ℕ → Bool) → ℕ → Finding → Type 0
 IsBelow test count g = (0 ≤ subject g) × (subject g < 0 + count) × (test (subject g) ≡ true)
 
-shared-cluster : (v : Volume) → HasAllRunsInside v → (g : Finding) → rank g ≡ 6 → IsFatalIn v g → IsBelow (λ q. nat_le 2 (times v q)) (total v) g
+shared-cluster : (v : Volume) → HasAllRunsInside v → (g : Finding) → rank g ≡ 7 → IsFatalIn v g → IsBelow (λ q. nat_le 2 (times v q)) (total v) g
 shared-cluster v have (finding.SharedCluster q) e h =
     (omega arith, let inside = shared-inside v q have h in omega arith, le-leb 2 (times v q) (shared-times v q h))
 shared-cluster v have g e h = absurd (omega arith)
 
 -- the shared clusters are those whose count is two
-pub shared-found : (v : Volume) → HasAllRunsInside v → AreFound v 6 (λ q. nat_le 2 (times v q)) 0 (total v)
+pub shared-found : (v : Volume) → HasAllRunsInside v → AreFound v 7 (λ q. nat_le 2 (times v q)) 0 (total v)
 shared-found v have = record { only = shared-cluster v have }
 
-free-cluster : (v : Volume) (g : Finding) → rank g ≡ 10 → IsFatalIn v g → IsBelow (λ q. is_free_cluster v q && nat_le 1 (times v q)) (total v) g
+free-cluster : (v : Volume) (g : Finding) → rank g ≡ 11 → IsFatalIn v g → IsBelow (λ q. is_free_cluster v q && nat_le 1 (times v q)) (total v) g
 free-cluster v (finding.FreeCluster q) e h = (omega arith, let inside = h.0 in omega arith, and_from _ _ h.1 (some-times v q ∙ h.2))
 free-cluster v g e h = absurd (omega arith)
 
 -- the free clusters of files are those that are free and whose count is not zero
-pub free-found : (v : Volume) → AreFound v 10 (λ q. is_free_cluster v q && nat_le 1 (times v q)) 0 (total v)
+pub free-found : (v : Volume) → AreFound v 11 (λ q. is_free_cluster v q && nat_le 1 (times v q)) 0 (total v)
 free-found v = record { only = free-cluster v }
 
 capped : (t : ℕ) → nat_le 1 (min 2 t) ≡ nat_le 1 t

@@ -66,25 +66,30 @@ pub none-first : (v : Volume) → NoneBelow v 1
 none-first v (finding.Home fault) low h = h
 none-first v g low h = absurd (omega arith)
 
+-- nothing is of the rank that is kept
+pub none-kept : (v : Volume) → IsFirstOf v 4 None
+none-kept v (finding.Home fault) e h = absurd (omega arith)
+none-kept v g e h = absurd (omega arith)
+
 -- the same for a kind that the catalogue tells
-pub cat-step : (v : Volume) (c : Cat) (k m : ℕ) (r : Option Finding) → catalogue v ≡ c → 12 ≤ k → k ≤ 15 → NoneBelow v k → IsFirstIn c k r → suc k ≡ m
+pub cat-step : (v : Volume) (c : Cat) (k m : ℕ) (r : Option Finding) → catalogue v ≡ c → 13 ≤ k → k ≤ 16 → NoneBelow v k → IsFirstIn c k r → suc k ≡ m
     → IsFirstBelow v m r
 cat-step v c k m r e low high none first next =
     let told : IsFirstIn (catalogue v) k r = subst (λ (x : Cat). IsFirstIn x k r) (sym e) first in
     step v k m r none (first-of-volume v k r low high told) next
 
 -- the loops, behind the two kinds before them
-pub cat-loops : {E : Type 0} (c : Cat) (r : Result (Option Finding) E) → IsFirstIn c 12 None → IsFirstIn c 13 None → IfOk r (IsFirstIn c 14)
-    → IfOk r (λ first. (v : Volume) → catalogue v ≡ c → NoneBelow v 12 → IsFirstBelow v 15 first)
+pub cat-loops : {E : Type 0} (c : Cat) (r : Result (Option Finding) E) → IsFirstIn c 13 None → IsFirstIn c 14 None → IfOk r (IsFirstIn c 15)
+    → IfOk r (λ first. (v : Volume) → catalogue v ≡ c → NoneBelow v 13 → IsFirstBelow v 16 first)
 cat-loops c (Ok first) entries marked loops = λ v e none.
-    let thirteen = cat-step v c 12 13 None e (omega arith) (omega arith) none entries refl in
-    let fourteen = cat-step v c 13 14 None e (omega arith) (omega arith) thirteen marked refl in
-    cat-step v c 14 15 first e (omega arith) (omega arith) fourteen loops refl
+    let fourteen = cat-step v c 13 14 None e (omega arith) (omega arith) none entries refl in
+    let fifteen = cat-step v c 14 15 None e (omega arith) (omega arith) fourteen marked refl in
+    cat-step v c 15 16 first e (omega arith) (omega arith) fifteen loops refl
 cat-loops c (Err fault) entries marked loops = loops
 
 -- ---- the blocks
 
-fatal-none : (v : Volume) (f : Finding) → NoneBelow v 15 → IsFatalIn v f → (n : ℕ) × (f ≡ finding.NoRoom n)
+fatal-none : (v : Volume) (f : Finding) → NoneBelow v 16 → IsFatalIn v f → (n : ℕ) × (f ≡ finding.NoRoom n)
 fatal-none v (finding.NoRoom n) none h = (n, refl)
 fatal-none v (finding.Home fault) none h = absurd h
 fatal-none v (finding.Header n fault) none h = absurd (none (finding.Header n fault) (omega arith) h)

@@ -4,3 +4,4 @@ pub mod Counts
 pub mod Free
 pub mod Reaching
 pub mod Whole
+pub mod Walking

@@ -24,13 +24,13 @@ abbrev pub IsFirstBelow : Volume → ℕ → Option Finding → Type 0
 IsFirstBelow v k None = NoneBelow v k
 IsFirstBelow v k (Some f) = IsFirstThere v k f
 
--- what is read of a volume whose home block is read: [SYSLOST] may lack room, which is rank 15
+-- what is read of a volume whose home block is read: [SYSLOST] may lack room, which is rank 16
 abbrev pub IsReadOf : Volume → Result Cat Finding → Type 0
-IsReadOf v (Err f) = IsFirstThere v 15 f
-IsReadOf v (Ok c) = NoneBelow v 15 × (c ≡ catalogue v)
+IsReadOf v (Err f) = IsFirstThere v 16 f
+IsReadOf v (Ok c) = NoneBelow v 16 × (c ≡ catalogue v)
 
 -- What is read of a volume's blocks: the first fatal finding, where that is another one than that [SYSLOST] lacks room for
 -- a lost file; else the catalogue.
 abbrev pub IsRead : List Block → Result Cat Finding → Type 0
-IsRead bs (Err f) = (rank f < 15) × IsFirstFatal bs f
+IsRead bs (Err f) = (rank f < 16) × IsFirstFatal bs f
 IsRead bs (Ok c) = IsReadable bs × IsCatalogueBy bs (home_read (home_at bs)) c

@@ -65,7 +65,7 @@ fn lowest_with_run_off(home: &Home, blocks: &[Block]) -> Option<u32>
 #[tactic(auto, unfolding(crate::specs::Conditions::has_run_off))]
 pub fn first_run_off(home: &Home, blocks: &[Block]) -> Option<Finding>
     requires { IsWithinLimits home.now }
-    ensures first { IsFirstOf (volume home.now blocks.now) 4 result }
+    ensures first { IsFirstOf (volume home.now blocks.now) 5 result }
     ensures none { IfNone result (HasAllRunsInside (volume home.now blocks.now)) }
 {
     Some(Finding::Runs(lowest_with_run_off(home, blocks)?))
@@ -98,7 +98,7 @@ fn lowest_large_file(home: &Home, blocks: &[Block]) -> Option<u32>
 /// The first file behind the system files that has more than 77 clusters.
 pub fn first_large_file(home: &Home, blocks: &[Block]) -> Option<Finding>
     requires { IsWithinLimits home.now }
-    ensures { IsFirstOf (volume home.now blocks.now) 5 result }
+    ensures { IsFirstOf (volume home.now blocks.now) 6 result }
 {
     Some(Finding::Clusters(lowest_large_file(home, blocks)?))
 }

@@ -37,7 +37,7 @@ pub fn first_shared_cluster(home: &Home, blocks: &[Block], counts: &[u8]) -> Opt
     requires size { IsSize (length blocks.now) }
     requires runs { HasAllRunsInside (volume home.now blocks.now) }
     requires counts { AreCounts (volume home.now blocks.now) counts.now }
-    ensures { IsFirstOf (volume home.now blocks.now) 6 result }
+    ensures { IsFirstOf (volume home.now blocks.now) 7 result }
 {
     Some(Finding::SharedCluster(lowest_shared(home, blocks, counts)?))
 }
@@ -76,7 +76,7 @@ pub fn first_free_cluster(home: &Home, blocks: &[Block], counts: &[u8]) -> Optio
     requires size { IsSize (length blocks.now) }
     requires systems { HasSystemFiles (volume home.now blocks.now) }
     requires counts { AreCounts (volume home.now blocks.now) counts.now }
-    ensures { IsFirstOf (volume home.now blocks.now) 10 result }
+    ensures { IsFirstOf (volume home.now blocks.now) 11 result }
 {
     Some(Finding::FreeCluster(lowest_free_in_file(home, blocks, counts)?))
 }

@@ -50,7 +50,7 @@ fn lowest_missing_entry(cat: &Cat) -> Option<u32>
 
 /// The first system file of which the master file directory lacks the entry.
 pub fn first_missing_entry(cat: &Cat) -> Option<Finding>
-    ensures { IsFirstIn cat.now 12 result }
+    ensures { IsFirstIn cat.now 13 result }
 {
     Some(Finding::SystemEntry(lowest_missing_entry(cat)?))
 }
@@ -79,7 +79,7 @@ fn lowest_marked_dir(cat: &Cat) -> Option<u32>
 /// The first directory that is marked for delete and has entries.
 pub fn first_marked_dir(cat: &Cat) -> Option<Finding>
     requires { length cat.now.files ≤ 4096 }
-    ensures { IsFirstIn cat.now 13 result }
+    ensures { IsFirstIn cat.now 14 result }
 {
     Some(Finding::MarkedDir(lowest_marked_dir(cat)?))
 }

@@ -30,7 +30,7 @@ use vol_words::Block;
 fn first_of_files(home: &Home, blocks: &[Block]) -> Option<Finding>
     requires limits { IsWithinLimits home.now }
     requires size { IsSize (length blocks.now) }
-    ensures first { IsFirstBelow (volume home.now blocks.now) 6 result }
+    ensures first { IsFirstBelow (volume home.now blocks.now) 7 result }
     ensures heads { IfNone result (HasHeads (volume home.now blocks.now)) }
     ensures systems { IfNone result (HasSystemFiles (volume home.now blocks.now)) }
     ensures runs { IfNone result (HasAllRunsInside (volume home.now blocks.now)) }
@@ -54,8 +54,8 @@ fn first_of_files(home: &Home, blocks: &[Block]) -> Option<Finding>
 fn first_of_rows(alloc: Global, home: &Home, blocks: &[Block]) -> Result<Option<Finding>, NoMemory>
     requires limits { IsWithinLimits home.now }
     requires runs { HasAllRunsInside (volume home.now blocks.now) }
-    requires none { NoneBelow (volume home.now blocks.now) 8 }
-    ensures { IfOk result (IsFirstBelow (volume home.now blocks.now) 10) }
+    requires none { NoneBelow (volume home.now blocks.now) 9 }
+    ensures { IfOk result (IsFirstBelow (volume home.now blocks.now) 11) }
 {
     let rows = active_rows(alloc, home, blocks)?;
     if let Some(found) = first_double_row(home, blocks, rows.as_slice()) {
@@ -77,8 +77,8 @@ fn first_of_parts(
     requires systems { HasSystemFiles (volume home.now blocks.now) }
     requires runs { HasAllRunsInside (volume home.now blocks.now) }
     requires counts { AreCounts (volume home.now blocks.now) counts.now }
-    requires none { NoneBelow (volume home.now blocks.now) 6 }
-    ensures { IfOk result (IsFirstBelow (volume home.now blocks.now) 12) }
+    requires none { NoneBelow (volume home.now blocks.now) 7 }
+    ensures { IfOk result (IsFirstBelow (volume home.now blocks.now) 13) }
 {
     if let Some(found) = first_shared_cluster(home, blocks, counts) {
         return Ok(Some(found));
@@ -98,7 +98,7 @@ fn first_of_parts(
 /// The first of system files' entries, marked directories and loops, where nothing comes before them.
 fn first_of_catalogue(alloc: Global, cat: &Cat) -> Result<Option<Finding>, NoMemory>
     requires { length cat.now.files ≤ 4096 }
-    ensures { IfOk result (λ first. (v : Volume) → catalogue v ≡ cat.now → NoneBelow v 12 → IsFirstBelow v 15 first) }
+    ensures { IfOk result (λ first. (v : Volume) → catalogue v ≡ cat.now → NoneBelow v 13 → IsFirstBelow v 16 first) }
 {
     if let Some(found) = first_missing_entry(cat) {
         return Ok(Some(found));

@@ -12,7 +12,7 @@ ghost use Rattle.vol_faults.specs.CatFindings.{IsFirstIn};
 
 /// The first finding of these kinds that holds of the catalogue of a volume is the first that holds of the volume.
 pub fn catalogues_tell_volumes()
-    ensures { (v : Volume) (k : ℕ) (r : Option Finding) → 12 ≤ k → k ≤ 15 → IsFirstIn (catalogue v) k r → IsFirstOf v k r }
+    ensures { (v : Volume) (k : ℕ) (r : Option Finding) → 13 ≤ k → k ≤ 16 → IsFirstIn (catalogue v) k r → IsFirstOf v k r }
 {}
 
 /// At most one lost file has no room in [SYSLOST] behind those before it, and there is one exactly where mending gives up.

@@ -39,7 +39,7 @@ fn lowest_free_in_use(home: &Home, blocks: &[Block]) -> Option<u32>
 pub fn first_free_number(home: &Home, blocks: &[Block]) -> Option<Finding>
     requires limits { IsWithinLimits home.now }
     requires heads { HasHeads (volume home.now blocks.now) }
-    ensures { IsFirstOf (volume home.now blocks.now) 11 result }
+    ensures { IsFirstOf (volume home.now blocks.now) 12 result }
 {
     Some(Finding::FreeNumber(lowest_free_in_use(home, blocks)?))
 }

@@ -12,6 +12,7 @@ use Rattle.plain_vol.specs.Lookups.{clusters_in}
 use Rattle.vol_parts.specs.Volumes.{Volume, IsNumber, total, fields_in, fields, runs, body, is_in_file, is_in_files, is_free_cluster}
 use Rattle.vol_parts.specs.Catalogues.{written_blocks, entries_in, slot_of, files_of, rows_sorted, is_outside_cluster, is_outside_number, catalogue}
 use Rattle.vol_parts.proofs.Sizes.{runs-none, length-body}
+use Rattle.vol_parts.proofs.Slots.{in_slots}
 use Rattle.vol_fresh.specs.declared.layout.Layout.{Layout}
 use Rattle.vol_fresh.specs.Layouts.{clusters_of, reserved_clusters, header_of, quota_rows, entries_of, system_slot, fresh}
 use Rattle.vol_fresh.specs.Fresh.{layout_of, IsFresh}
@@ -130,7 +131,7 @@ pub outside_number : (v : Volume) (n : ℕ) → IsFresh v → IsNumber v n → i
 unfolding is_outside_number
 outside_number v n is number =
     ⊎_elim (λ (h : 11 < n). rw (is.numbers n number, lt-leb n 11 h) refl)
-    (λ (h : n ≤ 11). rw (is.numbers n number, le-leb n 11 h, used_fields v n is number.from h) refl)
+    (λ (h : n ≤ 11). rw (is.numbers n number, le-leb n 11 h, in_slots v n number, used_fields v n is number.from h) refl)
     (cases_lt 11 n)
 
 rows_are : (l : Layout) → rows_sorted (quota_rows l) ≡ (fresh l).quota

@@ -87,6 +87,9 @@ header_of l n = record {
   mark = 0;
   end = blocks_of l n + 1;
   byte = 0;
+  seg = 0;
+  ext = 0;
+  ext_seq = 0;
 }
 
 -- the text that the header of the file of a number, 1 to 11, has for its name: NAME.TYP and version 1
@@ -114,11 +117,16 @@ abbrev pub whole_quota : Layout → ℕ
 whole_quota l = l.blocks + l.files
 
 -- [1,1] is charged the blocks of the system files, and one for each of them
+abbrev pub system_row : Layout → Row
+system_row l = record { uic = system_owner; usage = l.cluster * reserved_clusters l + 11; quota = whole_quota l; over = 0 }
+
+-- [1,4] is charged nothing yet
+abbrev pub user_row : Layout → Row
+user_row l = record { uic = user_owner; usage = 0; quota = whole_quota l; over = 0 }
+
+-- the two who have quota
 unfoldable pub quota_rows : Layout → List Row
-quota_rows l =
-    record { uic = system_owner; usage = l.cluster * reserved_clusters l + 11; quota = whole_quota l; over = 0 }
-    ∷ record { uic = user_owner; usage = 0; quota = whole_quota l; over = 0 }
-    ∷ []
+quota_rows l = system_row l ∷ user_row l ∷ []
 
 -- ---- the catalogue
 

@@ -122,6 +122,9 @@ impl Layout {
             mark: 0,
             end: blocks + 1,
             byte: 0,
+            seg: 0,
+            ext: 0,
+            ext_seq: 0,
         }
     }
 }

@@ -26,7 +26,7 @@ use Rattle.vol_parts.specs.Warnings.{has_doubles}
 use Rattle.vol_init.proofs.EntryLemmas.{main-rises}
 use Rattle.vol_init.specs.declared.part.Part.{Part}
 use Rattle.vol_init.specs.declared.part.Part.TheVariants.{HomeCopy, HeaderCopy, Numbers, Header, Control, Storage, Main, Lost, Quota}
-use Rattle.vol_init.specs.Parts.{first_block, part_of, home_copy_bytes, header_block, is_free, SaysHeader, Says}
+use Rattle.vol_init.specs.Parts.{first_block, part_of, home_copy_bytes, header_block, control_block, quota_block, is_free, SaysHeader, SaysControl, SaysQuota, Says}
 use Rattle.vol_init.proofs.PlaceLemmas.{Places, places, bitmap-some, part-home-copy, part-header-copy, part-numbers, part-header, part-control, part-storage, part-main, part-lost, part-quota}
 use Rattle.vol_init.proofs.ZeroLemmas.{freed-none}
 use Rattle.vol_init.proofs.HeaderLemmas.{runs-some}
@@ -119,11 +119,14 @@ clusters-of v main lost q s p small =
     let there : bit_at (block_at v (first_block l 2 + 1 + k)) (q % 4096) ≡ is_free l q = says (q % 4096) (omega arith) ∙ ap (is_free l) whole in
     rw (bitmap-lies v main lost s p) there
 
+control-says : (v : Volume) (main lost : List Block) → Stands (layout_of v) main lost v → Places (layout_of v) → SaysControl (layout_of v) (block_at v (first_block (layout_of v) 2))
+control-says v main lost s p =
+    let l : Layout = layout_of v in
+    s.says (first_block l 2) Control (part-control l p) (omega (arith, p.index, p.some)) (omega (arith, p.bitmap, p.main, p.lost, p.quota))
+
 control-of : (v : Volume) (main lost : List Block) → Stands (layout_of v) main lost v → Places (layout_of v)
     → scb_read (block_at v (bitmap_lbn v)) ≡ Ok (record { cluster = v.home.cluster; blocks = length v.blocks })
-control-of v main lost s p =
-    let l : Layout = layout_of v in
-    rw (bitmap-lies v main lost s p) (s.says (first_block l 2) Control (part-control l p) (omega (arith, p.index, p.some)) (omega (arith, p.bitmap, p.main, p.lost, p.quota)))
+control-of v main lost s p = rw (bitmap-lies v main lost s p) (control-says v main lost s p).reads
 
 -- the blocks of a directory
 main-body : (v : Volume) (main lost : List Block) → Stands (layout_of v) main lost v → Places (layout_of v) → body v 4 ≡ main
@@ -145,7 +148,7 @@ lost-body v main lost s p =
     body-run v 11 _ run ∙ ap (λ n. map (block_at v) (range_with_len (first_block l 11) n)) count ∙ picked (block_at v) lost (first_block l 11) there
 
 quota-says : (v : Volume) (main lost : List Block) (k : ℕ) → Stands (layout_of v) main lost v → Places (layout_of v) → k < v.home.cluster
-    → rows_in (block_at v (first_block (layout_of v) 10 + k)) ≡ (if k == 0 then quota_rows (layout_of v) else [])
+    → SaysQuota (layout_of v) k (block_at v (first_block (layout_of v) 10 + k))
 quota-says v main lost k s p h =
     s.says (first_block (layout_of v) 10 + k) (Quota k) (part-quota (layout_of v) k p h) (omega (arith, p.index, p.bitmap, p.main, p.lost, p.some)) (omega (arith, p.quota))
 
@@ -157,12 +160,12 @@ rows-of v main lost s p =
     let run = run-of v main lost 10 s p (omega arith) (omega arith) (one-cluster-quota l).0 in
     let count : v.home.cluster * clusters_of l 10 ≡ v.home.cluster = rw (one-cluster-quota l).1 (omega arith) in
     let zeroth : a + 0 ≡ a = omega arith in
-    let first : rows_in (block_at v a) ≡ quota_rows l = rw zeroth at (quota-says v main lost 0 s p (omega (arith, p.some))) in
+    let first : rows_in (block_at v a) ≡ quota_rows l = rw zeroth at (quota-says v main lost 0 s p (omega (arith, p.some))).rows in
     let others : (j : ℕ) → a < j → j < a + v.home.cluster → rows_in (block_at v j) ≡ [] = λ j low high.
     let k : ℕ = j - a in
     let same : a + k ≡ j = omega arith in
     let later = ne_eqb k 0 (λ e. omega arith) in
-    let says : rows_in (block_at v j) ≡ (if k == 0 then quota_rows l else []) = rw same at (quota-says v main lost k s p (omega arith)) in
+    let says : rows_in (block_at v j) ≡ (if k == 0 then quota_rows l else []) = rw same at (quota-says v main lost k s p (omega arith)).rows in
     says ∙ rw later refl in
     rw (body-run v 10 _ run ∙ ap (λ n. map (block_at v) (range_with_len a n)) count) (rows-first (block_at v) (quota_rows l) a v.home.cluster p.some first others)
 
@@ -204,6 +207,8 @@ pub record IsExact (v : Volume) : Type 0 where
   pub header_copy : block_at v (3 * v.home.cluster) ≡ block_at v (4 * v.home.cluster + 1)
   pub headers : (n : ℕ) → 1 ≤ n → n ≤ 11 → block_at v (4 * v.home.cluster + n) ≡ header_block (layout_of v) n
   pub slots : (n : ℕ) → 11 < n → n ≤ v.home.files → block_at v (4 * v.home.cluster + n) ≡ zeros
+  pub control : block_at v (first_block (layout_of v) 2) ≡ control_block (layout_of v)
+  pub quota : (k : ℕ) → k < v.home.cluster → block_at v (first_block (layout_of v) 10 + k) ≡ quota_block (layout_of v) k
 
 stands-exact : (v : Volume) (main lost : List Block) → Stands (layout_of v) main lost v → IsExact v
 stands-exact v main lost s =
@@ -221,6 +226,8 @@ stands-exact v main lost s =
       header_copy = header ∙ sym (system 1 (omega arith) (omega arith));
       headers = system;
       slots = λ n from to. (header-says v main lost n s p (omega arith) to).1.freed from ∙ freed-none;
+      control = (control-says v main lost s p).bytes;
+      quota = λ k h. (quota-says v main lost k s p h).bytes;
     }
 
 pub exact : (v : Volume) (l : Layout) (main lost : List Block) → layout_of v ≡ l → Stands l main lost v → IsExact v

@@ -8,15 +8,16 @@ use Rattle.vol_parts.specs.Parts.{storage_blocks}
 use Rattle.vol_parts.specs.Volumes.{Volume, volume, total, is_free_cluster, is_used_number}
 use Rattle.vol_parts.specs.Findings.{home_at}
 use Rattle.vol_fresh.specs.Fresh.{IsFresh, layout_of}
-use Rattle.vol_init.specs.Parts.{block_in, part_of, home_copy_bytes, header_block}
+use Rattle.vol_init.specs.Parts.{block_in, part_of, first_block, home_copy_bytes, header_block, control_block, quota_block}
 
 -- the bits past the last cluster and past the last number are clear
 pub record IsClear (v : Volume) : Type 0 where
   pub clusters : (q : ℕ) → total v ≤ q → q < 4096 * storage_blocks (total v) → is_free_cluster v q ≡ false
   pub numbers : (n : ℕ) → v.home.files < n → n ≤ 4096 → is_used_number v n ≡ false
 
--- The blocks are a fresh volume with this home block, whose bytes are exact like those of both copies and of all headers;
--- the slots of unused numbers are zeros, nothing is set past the last cluster and number, and other blocks stay.
+-- The blocks are a fresh volume with this home block, whose bytes are exact like those of both copies, of all headers, of the
+-- storage control block and of QUOTA.SYS; the slots of unused numbers are zeros, nothing is set past the last cluster and
+-- number, and other blocks stay.
 pub record IsMade (h : Home) (old new : List Block) : Type 0 where
   pub count : length new ≡ length old
   pub home : home_read (home_at new) ≡ Ok h
@@ -26,6 +27,8 @@ pub record IsMade (h : Home) (old new : List Block) : Type 0 where
   pub fresh : IsFresh (volume h new)
   pub headers : (n : ℕ) → 1 ≤ n → n ≤ 11 → block_in new (4 * h.cluster + n) ≡ header_block (layout_of (volume h new)) n
   pub slots : (n : ℕ) → 11 < n → n ≤ h.files → block_in new (4 * h.cluster + n) ≡ zeros
+  pub control : block_in new (first_block (layout_of (volume h new)) 2) ≡ control_block (layout_of (volume h new))
+  pub quota : (k : ℕ) → k < h.cluster → block_in new (first_block (layout_of (volume h new)) 10 + k) ≡ quota_block (layout_of (volume h new)) k
   pub clear : IsClear (volume h new)
   pub others : (lbn : ℕ) → lbn ≢ 1 → part_of (layout_of (volume h new)) lbn ≡ None → block_in new lbn ≡ block_in old lbn
 

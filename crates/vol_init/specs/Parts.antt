@@ -2,15 +2,16 @@
 use Rattle.std.specs.Prelude.{◌≡◌, ◌≤◌, ◌<◌, ◌+◌, ◌*◌, ◌-◌, ◌==◌, ◌&&◌, nat_le, nat_lt, ℕ, Bool, List, [], Option, Some, None, Ok, slice_get, slice_index_or, if◌then◌else◌}
 use Rattle.vol_words.specs.Fields.{Block, put_field, summed}
 use Rattle.fx_home.specs.declared.home.Home.{Home}
-use Rattle.vol_init.specs.declared.blocks.TheConstants.{HOMELBN, HOMEVBN}
-use Rattle.fx_home.specs.Homes.{home_bytes, with_sum1, scb_read}
+use Rattle.vol_words.specs.Tables.{zeros}
+use Rattle.fx_home.specs.Homes.{home_bytes, with_sum1, scb_read, scb_bytes}
 use Rattle.fx_header.specs.declared.slot.Slot.TheVariants.{Used, Free}
 use Rattle.fx_header.specs.Headers.{header_read, runs_in, header_bytes, with_runs, freed}
 use Rattle.fx_bitmap.specs.Bits.{bit_at}
+use Rattle.fx_quota.specs.Rows.{row_put}
 use Rattle.vol_parts.specs.Parts.{storage_blocks, is_among}
 use Rattle.vol_parts.specs.Volumes.{rows_in}
 use Rattle.vol_fresh.specs.declared.layout.Layout.{Layout}
-use Rattle.vol_fresh.specs.Layouts.{total, reserved_clusters, first_cluster, header_of, text_of, runs_of, quota_rows}
+use Rattle.vol_fresh.specs.Layouts.{total, reserved_clusters, first_cluster, header_of, text_of, runs_of, system_row, user_row, quota_rows}
 use Rattle.vol_init.specs.declared.part.Part.{Part}
 use Rattle.vol_init.specs.declared.part.Part.TheVariants.{HomeCopy, HeaderCopy, Numbers, Header, Control, Storage, Main, Lost, Quota}
 
@@ -53,13 +54,33 @@ IsInside l (Quota k) = k < l.cluster
 abbrev pub is_free : Layout → ℕ → Bool
 is_free l q = nat_le (reserved_clusters l) q && nat_lt q (total l)
 
--- the copy of a home block: its bytes with the copy's own LBN and VBN, and both checksums written again
+-- the copy of a home block: its bytes with the copy's own LBN, 4 bytes at 0, and VBN, 2 bytes at 16, and both checksums
+-- written again
 unfoldable pub home_copy_bytes : Home → Block
-home_copy_bytes h = summed (with_sum1 (put_field (put_field (home_bytes h) HOMELBN 4 (2 * h.cluster)) HOMEVBN 2 (2 * h.cluster + 1)))
+home_copy_bytes h = summed (with_sum1 (put_field (put_field (home_bytes h) 0 4 (2 * h.cluster)) 16 2 (2 * h.cluster + 1)))
 
 -- the header of a system file, which stands in the master file directory, file 4
 unfoldable pub header_block : Layout → ℕ → Block
 header_block l n = with_runs (header_bytes (header_of l n) (text_of n) (4, 4)) (runs_of l n)
+
+-- the storage control block: the level, the cluster factor, the blocks of the volume and the checksum, and zeros elsewhere
+abbrev pub control_block : Layout → Block
+control_block l = scb_bytes (record { cluster = l.cluster; blocks = l.blocks })
+
+-- A block of QUOTA.SYS, counted from 0. The first has [1,1] in its first row and [1,4] in its second, and zeros behind them;
+-- the others are zeros.
+unfoldable pub quota_block : Layout → ℕ → Block
+quota_block l k = if k == 0 then row_put (row_put zeros 0 (system_row l)) 1 (user_row l) else zeros
+
+-- the storage control block is this one, and is read
+pub record SaysControl (l : Layout) (b : Block) : Type 0 where
+  pub bytes : b ≡ control_block l
+  pub reads : scb_read b ≡ Ok (record { cluster = l.cluster; blocks = l.blocks })
+
+-- a block of QUOTA.SYS is this one, and its active rows are the two, or none
+pub record SaysQuota (l : Layout) (k : ℕ) (b : Block) : Type 0 where
+  pub bytes : b ≡ quota_block l k
+  pub rows : rows_in b ≡ (if k == 0 then quota_rows l else [])
 
 -- a header slot is that of a system file, or of no file so far
 pub record SaysHeader (l : Layout) (n : ℕ) (b : Block) : Type 0 where
@@ -75,8 +96,8 @@ Says l h main lost HomeCopy b = b ≡ home_copy_bytes h
 Says l h main lost HeaderCopy b = b ≡ header_block l 1
 Says l h main lost Numbers b = (i : ℕ) → i < 4096 → bit_at b i ≡ nat_lt i 11
 Says l h main lost (Header n) b = SaysHeader l n b
-Says l h main lost Control b = scb_read b ≡ Ok (record { cluster = l.cluster; blocks = l.blocks })
+Says l h main lost Control b = SaysControl l b
 Says l h main lost (Storage k) b = (i : ℕ) → i < 4096 → bit_at b i ≡ is_free l (4096 * k + i)
 Says l h main lost (Main k) b = slice_get main k ≡ Some b
 Says l h main lost (Lost k) b = slice_get lost k ≡ Some b
-Says l h main lost (Quota k) b = rows_in b ≡ (if k == 0 then quota_rows l else [])
+Says l h main lost (Quota k) b = SaysQuota l k b

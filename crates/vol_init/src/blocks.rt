@@ -6,7 +6,7 @@ ghost use Rattle.fx_header.specs.Headers.{header_read, runs_in, has_offsets, map
 ghost use Rattle.fx_bitmap.specs.Bits.{bit_at};
 ghost use Rattle.vol_parts.specs.Volumes.{rows_in};
 ghost use Rattle.vol_fresh.specs.Layouts.{IsLayout, reserved_clusters, total, header_of, text_of, runs_of, quota_rows};
-ghost use Rattle.vol_init.specs.Parts.{home_copy_bytes, header_block, is_free, IsInside, Says};
+ghost use Rattle.vol_init.specs.Parts.{home_copy_bytes, header_block, quota_block, is_free, IsInside, Says};
 ghost use Rattle.vol_init.specs.Plans.{IsPlan};
 
 use crate::part::Part;
@@ -121,10 +121,11 @@ fn storage_block(layout: &Layout, k: u32) -> Block
 }
 
 /// A block of QUOTA.SYS, the first of which has the rows.
-#[tactic(auto, unfolding(vol_fresh::specs::Layouts::quota_rows))]
+#[tactic(auto, unfolding(vol_fresh::specs::Layouts::quota_rows, crate::specs::Parts::quota_block))]
 fn quota_block(layout: &Layout, k: u32) -> Block
     requires { IsLayout layout.now }
-    ensures { rows_in result ≡ (if k == 0 then quota_rows layout.now else []) }
+    ensures written { result ≡ quota_block layout.now k }
+    ensures rows { rows_in result ≡ (if k == 0 then quota_rows layout.now else []) }
 {
     let mut b = zeros();
     if k > 0 {

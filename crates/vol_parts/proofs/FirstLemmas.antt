@@ -45,7 +45,7 @@ unfolding dir_fault
 fault-of v n f e = test-of v n (fields v n) f e
 
 record IsDirFinding (v : Volume) (n : ℕ) (f : Finding) : Type 0 where
-  ranked : rank f ≡ 7
+  ranked : rank f ≡ 8
   about : subject f ≡ n
   fatal : IsFatalIn v f
 
@@ -60,14 +60,14 @@ record HasFault (v : Volume) (g : Finding) : Type 0 where
   number : IsNumber v (subject g)
   fault : dir_fault v (subject g) ≡ Some g
 
-of-rank : (v : Volume) (g : Finding) → rank g ≡ 7 → IsFatalIn v g → HasFault v g
+of-rank : (v : Volume) (g : Finding) → rank g ≡ 8 → IsFatalIn v g → HasFault v g
 of-rank v (finding.DirSize n) e h = record { number = h.0; fault = h.1 }
 of-rank v (finding.DirRecord n) e h = record { number = h.0; fault = h.1 }
 of-rank v (finding.DirOrder n) e h = record { number = h.0; fault = h.1 }
 of-rank v (finding.DirClash n) e h = record { number = h.0; fault = h.1 }
 of-rank v g e h = absurd (omega arith)
 
-pub first-directory : (v : Volume) (o : Option Finding) → IsFirstDirFault v o → IsFirstOf v 7 o
+pub first-directory : (v : Volume) (o : Option Finding) → IsFirstDirFault v o → IsFirstOf v 8 o
 first-directory v None none = λ g e h.
     let w = of-rank v g e h in
     let no_fault = none (subject g) w.number in
@@ -87,11 +87,11 @@ first-directory v (Some f) (n, number, fault, lower) =
 
 -- ---- quota rows
 
-of-owners : (v : Volume) (g : Finding) → rank g ≡ 8 → IsFatalIn v g → has_two_rows (active_rows v) (subject g) ≡ true
+of-owners : (v : Volume) (g : Finding) → rank g ≡ 9 → IsFatalIn v g → has_two_rows (active_rows v) (subject g) ≡ true
 of-owners v (finding.QuotaRow owner) e h = h
 of-owners v g e h = absurd (omega arith)
 
-pub first-double : (v : Volume) (o : Option Uic) → IsLowestTwice (active_rows v) o → IsFirstOf v 8 (option_map finding.QuotaRow o)
+pub first-double : (v : Volume) (o : Option Uic) → IsLowestTwice (active_rows v) o → IsFirstOf v 9 (option_map finding.QuotaRow o)
 first-double v None none = λ g e h. both_ways _ (none (subject g)) (of-owners v g e h)
 first-double v (Some owner) low = record {
   rank_is = refl;
@@ -103,12 +103,12 @@ record IsRowless (v : Volume) (g : Finding) : Type 0 where
   number : IsNumber v (subject g)
   rowless : is_rowless (active_rows v) (fields v (subject g)) ≡ true
 
-of-files : (v : Volume) (g : Finding) → rank g ≡ 9 → IsFatalIn v g → IsRowless v g
+of-files : (v : Volume) (g : Finding) → rank g ≡ 10 → IsFatalIn v g → IsRowless v g
 of-files v (finding.NoQuotaRow n) e h = record { number = h.0; rowless = h.1 }
 of-files v g e h = absurd (omega arith)
 
 pub first-rowless : (v : Volume) (o : Option ℕ) → IsLowest (λ n. is_rowless (active_rows v) (fields v n)) 1 v.home.files o
-    → IsFirstOf v 9 (option_map finding.NoQuotaRow o)
+    → IsFirstOf v 10 (option_map finding.NoQuotaRow o)
 first-rowless v None none = λ g e h.
     let w = of-files v g e h in
     let last = w.number.to in

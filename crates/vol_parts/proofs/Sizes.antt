@@ -1,7 +1,6 @@
 -- How many blocks a file has.
 use Rattle.std.proofs.Common.{◌≡◌, ◌∙◌, ◌+◌, ◌*◌, ◌/◌, ◌<◌, ◌≤◌, ℕ, List, [], ◌∷◌, length, map, get_or, take, All, Result, Ok, Err, Option, Some, None, refl, sym, ap, arith}
 use Rattle.std.specs.List.{range_with_len, sum_by}
-use Rattle.std.proofs.lemmas.Bool.{and_parts, eqb-true}
 use Rattle.std.proofs.lemmas.List.{length-map}
 use Rattle.std.proofs.lemmas.List.Concat.{length-flat_map}
 use Rattle.std.proofs.lemmas.List.FromFn.{length-range_with_len, get_or-range_with_len, length-map-range_with_len, take-map-range_with_len}
@@ -15,8 +14,8 @@ use Rattle.fx_header.specs.declared.slot.Slot.TheVariants.{Free, Used}
 use Rattle.fx_header.specs.declared.slot.Hdr.{Hdr}
 use Rattle.fx_header.specs.declared.slot.HeaderFault.{HeaderFault}
 use Rattle.fx_header.specs.Pointers.{blocks_in, lbns_in}
-use Rattle.fx_header.specs.Headers.{runs_in, blocks_of, has_end, fields_of}
-use Rattle.fx_header.proofs.SoundLemmas.{Sound}
+use Rattle.fx_header.specs.Headers.{runs_in, fields_of}
+use Rattle.fx_header.proofs.SoundLemmas.{Sound, blocks-of}
 use Rattle.fx_header.proofs.PointerLemmas.{length-runs_in}
 use Rattle.plain_cat.specs.declared.cat.Slot.{Slot as Told}
 use Rattle.plain_vol.specs.Lookups.{clusters_in}
@@ -52,13 +51,9 @@ runs-none v n e = rw e refl
 
 -- and as many as a sound header says
 sound-blocks : (b : Block) (f : Hdr) → Sound b f → f.blocks ≡ blocks_in (runs_in b)
-unfolding has_end fields_of
+unfolding fields_of
 sound-blocks b f s =
-    let end = and_parts _ _ s.ends in
-    let byte = and_parts _ _ end.0 in
-    let mark = and_parts _ _ byte.0 in
-    let same : blocks_in (runs_in b) ≡ blocks_of b = eqb-true _ _ mark.0 in
-    sym (ap (λ (h : Hdr). h.blocks) s.fields) ∙ sym same
+    sym (ap (λ (h : Hdr). h.blocks) s.fields) ∙ sym (blocks-of b s.size)
 
 pub blocks-size : (v : Volume) (n : ℕ) (f : Hdr) → fields v n ≡ Some f → f.blocks ≡ length (body v n)
 blocks-size v n f e =

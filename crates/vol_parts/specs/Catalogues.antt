@@ -1,5 +1,5 @@
 -- The catalogue that the blocks of a volume tell.
-use Rattle.std.specs.Prelude.{◌*◌, ◌-◌, ◌/◌, ◌==◌, ◌&&◌, ◌||◌, not, ℕ, Bool, List, [], ◌∷◌, None, Result, Ok, Err, length, map, is_some, take, replicate, if◌then◌else◌}
+use Rattle.std.specs.Prelude.{◌*◌, ◌-◌, ◌/◌, ◌==◌, ◌&&◌, ◌||◌, not, ℕ, Bool, List, [], ◌∷◌, None, Result, Ok, Err, length, map, take, replicate, if◌then◌else◌}
 use Rattle.std.specs.List.{range_with_len, count_by, sum_by}
 use Rattle.vol_words.specs.Fields.{Block}
 use Rattle.fx_header.specs.declared.slot.Hdr.{Hdr}
@@ -18,7 +18,7 @@ use Rattle.plain_cat.specs.declared.cat.Slot.TheVariants.{Used, Free}
 use Rattle.plain_cat.specs.declared.cat.QuotaRow.{QuotaRow}
 use Rattle.plain_vol.specs.Lookups.{clusters_in}
 use Rattle.plain_vol.specs.Changes.{with_row}
-use Rattle.vol_parts.specs.Volumes.{Volume, factor, total, numbers, head as head_of, fields, body, is_in_files, is_free_cluster, is_used_number, active_rows}
+use Rattle.vol_parts.specs.Volumes.{Volume, factor, total, numbers, head as head_of, body, is_in_files, is_in_slots, is_free_cluster, is_used_number, active_rows}
 
 -- an entry without the version limit and the flags of its record
 abbrev pub plain_entry : RawEnt → DirEnt
@@ -83,7 +83,7 @@ is_outside_cluster v q = not (is_free_cluster v q) && not (is_in_files v q)
 
 -- a file number is outside: in use by its bit, and no file's
 unfoldable pub is_outside_number : Volume → ℕ → Bool
-is_outside_number v n = is_used_number v n && not (is_some (fields v n))
+is_outside_number v n = is_used_number v n && not (is_in_slots v n)
 
 -- The catalogue: nothing is open, and what is outside is leaked.
 unfoldable pub catalogue : Volume → Cat

@@ -22,7 +22,7 @@ use Rattle.plain_vol.specs.Mending.{is_own, without_opens, without_entries, lost
 use Rattle.vol_parts.specs.declared.finding.Finding.{Finding}
 use Rattle.vol_parts.specs.declared.finding.Finding.TheVariants as finding
 use Rattle.vol_parts.specs.Parts.{storage_blocks}
-use Rattle.vol_parts.specs.Volumes.{Volume, IsNumber, factor, total, block_at, head as head_of, fields, runs, is_in_run, is_in_files, bitmap_lbn, is_free_cluster, is_used_number, body, active_rows}
+use Rattle.vol_parts.specs.Volumes.{Volume, IsNumber, factor, total, block_at, head as head_of, used_slot, fields, most_clusters, runs, is_in_run, is_in_files, bitmap_lbn, is_free_cluster, is_used_number, body, active_rows}
 use Rattle.vol_parts.specs.Catalogues.{catalogue}
 
 -- ---- system files
@@ -82,10 +82,10 @@ scb_fault v = scb_test v (scb_read (block_at v (bitmap_lbn v)))
 unfoldable pub is_off_bounds : Volume → Run → Bool
 is_off_bounds v r = not ((r.lbn % factor v == 0) && ((r.count % factor v == 0) && nat_le (r.lbn + r.count) (factor v * total v)))
 
--- more than 77 clusters
+-- more clusters than a header lists
 abbrev pub is_too_large : Volume → Option Hdr → Bool
 is_too_large v None = false
-is_too_large v (Some f) = nat_lt 77 (f.blocks / factor v)
+is_too_large v (Some f) = nat_lt most_clusters (f.blocks / factor v)
 
 -- run i, from 0, of the file n has the cluster q
 pub record IsInRun (v : Volume) (q n i : ℕ) : Type 0 where
@@ -193,7 +193,7 @@ pub record HasNoRoom (c : Cat) (n : ℕ) : Type 0 where
 abbrev pub IsFatalIn : Volume → Finding → Type 0
 IsFatalIn v (finding.Home fault) = ⊥
 IsFatalIn v (finding.Header n fault) = IsNumber v n × (head_of v n ≡ Err fault)
-IsFatalIn v (finding.WrongNumber n) = IsNumber v n × ((f : Hdr) × (fields v n ≡ Some f) × (f.num ≢ n))
+IsFatalIn v (finding.WrongNumber n) = IsNumber v n × ((f : Hdr) × (used_slot v n ≡ Some f) × (f.num ≢ n))
 IsFatalIn v (finding.SystemFile n) = (1 ≤ n) × (n ≤ 11) × (is_system_file v n ≡ false)
 IsFatalIn v (finding.Scb fault) = scb_fault v ≡ Some fault
 IsFatalIn v (finding.Runs n) = IsNumber v n × (list_any (is_off_bounds v) (runs v n) ≡ true)
@@ -206,7 +206,7 @@ IsFatalIn v (finding.DirClash n) = IsNumber v n × (dir_fault v n ≡ Some (find
 IsFatalIn v (finding.QuotaRow owner) = has_two_rows (active_rows v) owner.0 ≡ true
 IsFatalIn v (finding.NoQuotaRow n) = IsNumber v n × (is_rowless (active_rows v) (fields v n) ≡ true)
 IsFatalIn v (finding.FreeCluster q) = (q < total v) × (is_free_cluster v q ≡ true) × (is_in_files v q ≡ true)
-IsFatalIn v (finding.FreeNumber n) = IsNumber v n × (is_used_number v n ≡ false) × (is_some (fields v n) ≡ true)
+IsFatalIn v (finding.FreeNumber n) = IsNumber v n × (is_used_number v n ≡ false) × (is_some (used_slot v n) ≡ true)
 IsFatalIn v (finding.SystemEntry n) = (1 ≤ n) × (n ≤ 11) × (list_any (is_system_entry n) (entries_of (catalogue v) 4) ≡ false)
 IsFatalIn v (finding.MarkedDir n) = IsNumber v n × (is_marked_dir (file_at (catalogue v) n) ≡ true)
 IsFatalIn v (finding.DirLoop n) = Path (catalogue v) n n

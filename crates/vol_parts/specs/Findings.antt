@@ -24,29 +24,30 @@ IsFatalBy bs (Ok home) f = IsFatalIn (volume home bs) f
 abbrev pub IsFatal : List Block → Finding → Type 0
 IsFatal bs f = IsFatalBy bs (home_read (home_at bs)) f
 
--- in which order the kinds of fatal findings are looked for; the two of a header are one kind, and the four of a directory
+-- in which order the kinds of fatal findings are looked for; the two of a header are one kind, and the four of a directory. No
+-- finding has rank 4: the place before the runs of a file is kept for another kind.
 abbrev pub rank : Finding → ℕ
 rank (finding.Home fault) = 0
 rank (finding.Header n fault) = 1
 rank (finding.WrongNumber n) = 1
 rank (finding.SystemFile n) = 2
 rank (finding.Scb fault) = 3
-rank (finding.Runs n) = 4
-rank (finding.Clusters n) = 5
-rank (finding.SharedCluster q) = 6
-rank (finding.DirSize n) = 7
-rank (finding.DirRecord n) = 7
-rank (finding.DirOrder n) = 7
-rank (finding.DirClash n) = 7
-rank (finding.QuotaRow owner) = 8
-rank (finding.NoQuotaRow n) = 9
-rank (finding.FreeCluster q) = 10
-rank (finding.FreeNumber n) = 11
-rank (finding.SystemEntry n) = 12
-rank (finding.MarkedDir n) = 13
-rank (finding.DirLoop n) = 14
-rank (finding.NoRoom n) = 15
-rank f = 16
+rank (finding.Runs n) = 5
+rank (finding.Clusters n) = 6
+rank (finding.SharedCluster q) = 7
+rank (finding.DirSize n) = 8
+rank (finding.DirRecord n) = 8
+rank (finding.DirOrder n) = 8
+rank (finding.DirClash n) = 8
+rank (finding.QuotaRow owner) = 9
+rank (finding.NoQuotaRow n) = 10
+rank (finding.FreeCluster q) = 11
+rank (finding.FreeNumber n) = 12
+rank (finding.SystemEntry n) = 13
+rank (finding.MarkedDir n) = 14
+rank (finding.DirLoop n) = 15
+rank (finding.NoRoom n) = 16
+rank f = 17
 
 -- of one rank the lowest number, cluster or owner comes first
 abbrev pub subject : Finding → ℕ

@@ -1,5 +1,5 @@
 -- What the blocks of a volume say, part by part, once the home block has told the cluster factor and the file numbers.
-use Rattle.std.specs.Prelude.{◌+◌, ◌*◌, ◌-◌, ◌/◌, ◌%◌, ◌≤◌, ◌&&◌, nat_lt, ℕ, Bool, List, [], ◌∷◌, Option, Some, None, Result, Ok, Err, length, map, flat_map, slice_index_or, if◌then◌else◌}
+use Rattle.std.specs.Prelude.{◌+◌, ◌*◌, ◌-◌, ◌/◌, ◌%◌, ◌≤◌, ◌==◌, ◌&&◌, nat_lt, ℕ, Bool, List, [], ◌∷◌, Option, Some, None, Result, Ok, Err, length, map, flat_map, slice_index_or, if◌then◌else◌}
 use Rattle.std.specs.List.{range_with_len, list_any, filter_map}
 use Rattle.vol_words.specs.Fields.{Block}
 use Rattle.fx_home.specs.declared.home.Home.{Home}
@@ -61,19 +61,53 @@ fields_in (Ok (Used f)) = Some f
 fields_in (Ok (Free seq)) = None
 fields_in (Err fault) = None
 
--- the fields of the header, where the number is in use
-abbrev pub fields : Volume → ℕ → Option Hdr
-fields v n = fields_in (head v n)
+-- the fields of the header slot of a number, where the slot is used
+abbrev pub used_slot : Volume → ℕ → Option Hdr
+used_slot v n = fields_in (head v n)
 
--- ---- runs and blocks of files
+-- the fields of the file of a number, where the file is in use: those of its first header, which has the slot of that number
+abbrev pub fields : Volume → ℕ → Option Hdr
+fields v n = used_slot v n
+
+-- the most clusters that a header lists, where its number is above 11
+abbrev pub most_clusters : ℕ
+most_clusters = 77
+
+-- ---- what is told of a file
+
+-- what is told of the file of a number: what the slot of its first header says, the numbers of all its header slots, and its
+-- runs, in order
+pub record Told : Type 0 where
+  pub head : Result Slot HeaderFault
+  pub slots : List ℕ
+  pub runs : List Run
+
+abbrev pub slots_with : Option Hdr → ℕ → List ℕ
+slots_with (Some f) n = n ∷ []
+slots_with None n = []
 
 abbrev pub runs_with : Option Hdr → Block → List Run
 runs_with (Some f) b = runs_in b
 runs_with None b = []
 
+-- by the block in the slot of that number, of which this is said: a file has one header
+abbrev pub told_by : ℕ → Result Slot HeaderFault → Block → Told
+told_by n said b = record { head = said; slots = slots_with (fields_in said) n; runs = runs_with (fields_in said) b }
+
+abbrev pub told : Volume → ℕ → Told
+told v n = told_by n (head v n) (header_at v n)
+
+-- a number is that of a header slot of file n
+abbrev pub is_slot_of : Volume → ℕ → ℕ → Bool
+is_slot_of v m n = list_any (λ k. k == m) (told v n).slots
+
+-- a number belongs to a file
+unfoldable pub is_in_slots : Volume → ℕ → Bool
+is_in_slots v m = list_any (is_slot_of v m) (numbers v)
+
 -- the runs of the file of a number, in order
 unfoldable pub runs : Volume → ℕ → List Run
-runs v n = runs_with (fields v n) (header_at v n)
+runs v n = (told v n).runs
 
 -- the blocks of a file, in order of virtual block
 unfoldable pub body : Volume → ℕ → List Block

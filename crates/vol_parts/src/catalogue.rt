@@ -30,8 +30,8 @@ fn plain_name(alloc: Global, bytes: &[u8]) -> Result<Name, NoMemory>
     Ok(name)
 }
 
-// An entry without the version limit and the flags of its record.
-fn plain_entry(alloc: Global, e: &RawEnt) -> Result<DirEnt, NoMemory>
+/// An entry without the version limit and the flags of its record. An error says that memory ran out.
+pub fn plain_entry(alloc: Global, e: &RawEnt) -> Result<DirEnt, NoMemory>
     ensures { IfOk result (λ entry. entry ≡ plain_entry e.now) }
 {
     let seq = e.seq;
@@ -52,8 +52,8 @@ fn plain_entries(alloc: Global, found: &[RawEnt]) -> Result<DirEnts, NoMemory>
     Ok(entries)
 }
 
-// The entries of the blocks of a directory, none where the blocks have a fault.
-fn entries_of(alloc: Global, blocks: &[Block]) -> Result<DirEnts, NoMemory>
+/// The entries of the blocks of a directory, in order; none where the blocks have a fault. An error says that memory ran out.
+pub fn read_entries(alloc: Global, blocks: &[Block]) -> Result<DirEnts, NoMemory>
     ensures { IfOk result (λ entries. entries ≡ plain_entries (directory blocks.now)) }
 {
     match read_dir(alloc, blocks) {
@@ -91,7 +91,7 @@ fn file_of(alloc: Global, home: &Home, n: u32, f: &Hdr, all: Blocks) -> Result<F
     ensures { IfOk result (λ file. file ≡ file_of home.now.cluster n f.now all) }
 {
     let entries = if f.dir {
-        entries_of(alloc, all.items())?
+        read_entries(alloc, all.items())?
     } else {
         DirEnts::new(alloc)
     };

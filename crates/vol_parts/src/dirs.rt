@@ -116,7 +116,7 @@ pub fn first_bad_directory(
 ) -> Result<Option<Finding>, NoMemory>
     requires limits { IsWithinLimits home.now }
     requires runs { HasAllRunsInside (volume home.now blocks.now) }
-    ensures { IfOk result (IsFirstOf (volume home.now blocks.now) 7) }
+    ensures { IfOk result (IsFirstOf (volume home.now blocks.now) 8) }
 {
     lowest_dir_fault(alloc, home, blocks)
 }

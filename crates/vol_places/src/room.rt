@@ -61,7 +61,7 @@ fn roomless(
 /// mending removes are gone; none where each has room. The catalogue has up to 4,096 files. An error says that memory ran out.
 pub fn first_without_room(alloc: Global, cat: &Cat) -> Result<Option<Finding>, NoMemory>
     requires { length cat.now.files ≤ 4096 }
-    ensures { IfOk result (IsFirstIn cat.now 15) }
+    ensures { IfOk result (IsFirstIn cat.now 16) }
 {
     let spots = spots(alloc, cat)?;
     let firsts = all_firsts(alloc, cat, spots.as_slice())?;

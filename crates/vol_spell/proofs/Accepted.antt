@@ -1,8 +1,9 @@
 -- The catalogue of a volume with no fatal finding is spelt.
-use Rattle.std.proofs.Common.{◌≡◌, ◌≢◌, ◌<◌, ◌≤◌, ◌+◌, ◌-◌, ◌*◌, ◌%◌, ◌⊎◌, ℕ, zero, suc, Bool, true, false, not, List, [], ◌∷◌, Option, Some, None, length, map, slice_get, refl, sym, ap, subst, ◌∙◌, inl, inr, arith, cond, append-nil}
+use Rattle.std.proofs.Common.{◌≡◌, ◌≢◌, ◌<◌, ◌≤◌, ◌+◌, ◌-◌, ◌*◌, ◌/◌, ◌%◌, ◌⊎◌, ℕ, zero, suc, Bool, true, false, not, List, [], ◌∷◌, Option, Some, None, length, map, slice_get, refl, sym, ap, subst, ◌∙◌, inl, inr, arith, cond, append-nil}
 use Rattle.std.specs.Prelude.{◌↔◌, ◌==◌, ◌&&◌, ◌||◌, nat_lt, nat_le, is_some, Result, Ok, Err, slice_index_or, if◌then◌else◌, count_by}
 use Rattle.std.specs.List.{range_with_len, list_any, find}
 use Rattle.std.proofs.Math.Nat.{mul-div-le}
+use Rattle.std.proofs.lemmas.Bool.Decides.{nat_tests}
 use Rattle.std.proofs.lemmas.Bool.{and_parts, ltb-true, leb-true, eqb-true, eq-eqb, le-leb}
 use Rattle.std.proofs.lemmas.List.FromFn.{length-range_with_len, length-map-range_with_len}
 use Rattle.vol_words.specs.Fields.{Block, AreWholeBlocks}
@@ -21,7 +22,7 @@ use Rattle.fx_header.specs.declared.slot.Slot.TheVariants as head
 use Rattle.fx_header.specs.declared.slot.HeaderFault.{HeaderFault}
 use Rattle.fx_header.specs.declared.slot.HeaderFault.TheVariants.{BadSum}
 use Rattle.fx_header.specs.Headers.{header_read}
-use Rattle.fx_header.specs.Pointers.{lbns_in}
+use Rattle.fx_header.specs.Pointers.{blocks_in, lbns_in}
 use Rattle.fx_dir.specs.declared.RawEnt.{RawEnt}
 use Rattle.fx_dir.specs.declared.DirFault.{DirFault}
 use Rattle.fx_dir.specs.declared.DirFault.TheVariants as dir
@@ -29,6 +30,7 @@ use Rattle.fx_dir.specs.Directory.{directory}
 use Rattle.fx_quota.specs.declared.types.Row.{Row}
 use Rattle.plain_cat.specs.declared.cat.Cat.{Cat}
 use Rattle.plain_cat.specs.declared.cat.Slot.{Slot}
+use Rattle.plain_vol.specs.Lookups.{clusters_in}
 use Rattle.vol_owners.specs.declared.owner.Owner.{Owner}
 use Rattle.vol_owners.specs.declared.owner.Owner.TheVariants.{Free, InFile, Outside, Leaked}
 use Rattle.vol_owners.specs.Lists.{Has, Once}
@@ -41,15 +43,16 @@ use Rattle.vol_parts.specs.declared.finding.Finding.{Finding}
 use Rattle.vol_parts.specs.declared.finding.Finding.TheVariants as finding
 use Rattle.vol_parts.specs.declared.geometry.Geometry.{Geometry}
 use Rattle.vol_parts.specs.Parts.{IsGeometry, storage_blocks}
-use Rattle.vol_parts.specs.Volumes.{Volume, volume, factor, total, numbers, IsNumber, block_at, header_lbn, head as head_of, fields_in, fields, runs, body, is_in_run, is_in_file, is_in_files, first_lbn, bitmap_lbn, quota_lbn, geometry_of, is_free_cluster, is_used_number, active_rows}
-use Rattle.vol_parts.specs.Catalogues.{is_structure, slot_of, files_of, rows_sorted, is_outside_cluster, is_outside_number, catalogue}
-use Rattle.vol_parts.specs.Fatal.{is_system_header, is_system_directory, stated_clusters, are_stated, is_system_file, in_whole_clusters, scb_test, scb_fault, is_off_bounds, IsInRun, IsShared, has_dir_size, found_in, dir_test, dir_fault, IsFatalIn, has_two_rows}
+use Rattle.vol_parts.specs.Volumes.{Volume, volume, factor, total, numbers, IsNumber, block_at, header_lbn, head as head_of, fields_in, fields, most_clusters, Told, told as told_in, is_slot_of, is_in_slots, runs, body, is_in_run, is_in_file, is_in_files, first_lbn, bitmap_lbn, quota_lbn, geometry_of, is_free_cluster, is_used_number, active_rows}
+use Rattle.vol_parts.specs.Catalogues.{is_structure, slot_with, slot_of, files_of, rows_sorted, is_outside_cluster, is_outside_number, catalogue}
+use Rattle.vol_parts.specs.Fatal.{is_system_header, is_system_directory, stated_clusters, are_stated, is_system_file, in_whole_clusters, scb_test, scb_fault, is_off_bounds, is_too_large, IsInRun, IsShared, has_dir_size, found_in, dir_test, dir_fault, IsFatalIn, has_two_rows}
 use Rattle.vol_parts.specs.Findings.{home_at, IsFatalBy, IsCatalogueBy}
-use Rattle.vol_spell.specs.Reading.{IsFileNumber, total_of, header_block, fields_told, runs_told, clusters_told, body_blocks, cluster_bit, number_bit, quota_places, rows_told}
-use Rattle.vol_spell.specs.Spelling.{IsHomeOf, IsHead, IsWhole, AreWhole, dir_found, Tells, IsStructure, run_for, HasStructures, Spells}
+use Rattle.vol_spell.specs.Reading.{IsFileNumber, total_of, header_block, told_of, fields_told, runs_told, clusters_of, clusters_told, body_blocks, cluster_bit, number_bit, quota_places, rows_told}
+use Rattle.vol_spell.specs.Spelling.{IsHomeOf, IsHead, IsWhole, AreWhole, dir_found, size_in, Tells, IsStructure, run_for, HasStructures, Spells}
 use Rattle.vol_spell.specs.Accepting.{owner_found, cluster_owner, number_owner, owners_told, IsSpelt, CatalogueIsSpelt}
-use Rattle.vol_spell.proofs.Parts.{room}
-use Rattle.vol_spell.proofs.Told.{head_there, runs_there, body_there, free_cluster_at, rows_there, slot_there_of, no_dir, no_directory, which_structure, seen}
+use Rattle.vol_spell.proofs.Parts.{slot_is_own, one_slot, room}
+use Rattle.vol_spell.proofs.Adds.{sized, size_by}
+use Rattle.vol_spell.proofs.Told.{head_there, told_there, runs_there, body_there, free_cluster_at, rows_there, slot_there_of, no_dir, no_directory, which_structure, seen}
 use Rattle.vol_spell.proofs.Picking.{found_is, found_none, any_place, place_any, has_any, get_along, along_get, count_along, map_along, once_by_place, two_counted}
 use Rattle.vol_spell.proofs.Clusters.{IsInRunAt, run_of, of_run, clusters_once, within_total}
 
@@ -210,6 +213,19 @@ length-files_of : (v : Volume) → length (files_of v) ≡ v.home.files
 unfolding files_of
 length-files_of v = length-map-range_with_len (slot_of v) 1 v.home.files
 
+-- a file whose blocks are those of few clusters lists few
+few_by : (g : Geometry) (n : ℕ) (r : Result Head HeaderFault) (rs : List Run) → 1 ≤ g.cluster → IsHead n r → AreWhole g rs → blocks_in rs ≡ size_in (fields_in r)
+    → ((f : Hdr) → fields_in r ≡ Some f → nat_lt most_clusters (f.blocks / g.cluster) ≡ false) → length (clusters_of g.cluster rs) ≤ most_clusters
+few_by g n r rs low is w size few = by_head r (size_by g n r rs [] (slot_with g.cluster n r []) low is w size refl) is few where
+  at_most : (x k : ℕ) → x ≡ k → nat_lt 77 x ≡ false → k ≤ 77
+  at_most x k e t = grind (arith, nat_tests)
+
+  by_head : (q : Result Head HeaderFault) → clusters_in (slot_with g.cluster n q []) ≡ length (clusters_of g.cluster rs) → IsHead n q
+      → ((f : Hdr) → fields_in q ≡ Some f → nat_lt most_clusters (f.blocks / g.cluster) ≡ false) → length (clusters_of g.cluster rs) ≤ most_clusters
+  by_head (Ok (head.Used f)) count is few = at_most (f.blocks / g.cluster) (length (clusters_of g.cluster rs)) count (few f refl)
+  by_head (Ok (head.Free seq)) count is few = let none : 0 ≡ length (clusters_of g.cluster rs) = count in omega arith
+  by_head (Err fault) count is few = absurd is
+
 -- ---- owners by test
 
 not_free : (free : Bool) (o : Option ℕ) (n : ℕ) → cond free Free (owner_found o) ≡ InFile n → (free ≡ false) × (o ≡ Some n)
@@ -233,47 +249,51 @@ free_owner v q = ((λ e. rw e refl), (λ e. back (is_free_cluster v q) (find (is
   back false None e = absurd (let f : Leaked ≡ Free = e in cc)
   back false (Some m) e = absurd (let f : InFile m ≡ Free = e in cc)
 
+-- leaked is what is not free and in no file
+leaked_by : (test : ℕ → Bool) (ns : List ℕ) (used : Bool) → (used && not (list_any test ns)) ≡ is_same_owner Leaked (cond (not used) Free (owner_found (find test ns)))
+unfolding is_same_owner
+leaked_by test ns used = by_test used (find test ns) refl where
+  by_any : (t : Bool) → find test ns ≡ None → list_any test ns ≡ t → not t ≡ true
+  by_any false e t = refl
+  by_any true e t = let h = any_place test ns t in
+      absurd (let f : false ≡ true = sym (found_none test ns h.item e (has_at ns h.place h.item h.there)) ∙ h.passes in cc)
+
+  by_test : (used : Bool) (o : Option ℕ) → find test ns ≡ o → (used && not (list_any test ns)) ≡ is_same_owner Leaked (cond (not used) Free (owner_found o))
+  by_test false o e = refl
+  by_test true None e = by_any (list_any test ns) e refl
+  by_test true (Some n) e =
+      let h = found_is test ns n e in
+      ap not (has_any test ns n h.0 h.1)
+
 leaked_owner : (v : Volume) (q : ℕ) → is_outside_cluster v q ≡ is_same_owner Leaked (cluster_owner v q)
-unfolding cluster_owner is_outside_cluster is_in_files is_same_owner
-leaked_owner v q = by_test (is_free_cluster v q) (find (is_in_file v q) (numbers v)) refl where
-  by_test : (free : Bool) (o : Option ℕ) → find (is_in_file v q) (numbers v) ≡ o → not free && not (list_any (is_in_file v q) (numbers v)) ≡ is_same_owner Leaked (cond free Free (owner_found o))
-  by_test true o e = refl
-  by_test false None e = by_any (list_any (is_in_file v q) (numbers v)) refl where
-    by_any : (t : Bool) → list_any (is_in_file v q) (numbers v) ≡ t → not t ≡ true
-    by_any false t = refl
-    by_any true t = let h = any_place (is_in_file v q) (numbers v) t in
-        absurd (let f : false ≡ true = sym (found_none (is_in_file v q) (numbers v) h.item e (has_at (numbers v) h.place h.item h.there)) ∙ h.passes in cc)
-  by_test false (Some n) e =
-      let h = found_is (is_in_file v q) (numbers v) n e in
-      ap not (has_any (is_in_file v q) (numbers v) n h.0 h.1)
+unfolding cluster_owner is_outside_cluster is_in_files
+leaked_owner v q = leaked_by (is_in_file v q) (numbers v) (not (is_free_cluster v q)) ∙ ap (λ t. is_same_owner Leaked (cond t Free (owner_found (find (is_in_file v q) (numbers v))))) (twice (is_free_cluster v q)) where
+  twice : (t : Bool) → not (not t) ≡ t
+  twice true = refl
+  twice false = refl
 
-in_use_owner : (v : Volume) (n m : ℕ) → number_owner v n ≡ InFile m → (is_used_number v n ≡ true) × (is_some (fields v n) ≡ true) × (m ≡ n)
+in_slots_owner : (v : Volume) (m n : ℕ) → number_owner v m ≡ InFile n → (is_used_number v m ≡ true) × (find (is_slot_of v m) (numbers v) ≡ Some n)
 unfolding number_owner
-in_use_owner v n m e = by_tests (is_used_number v n) (is_some (fields v n)) e where
-  by_tests : (a b : Bool) → cond (not a) Free (cond b (InFile n) Leaked) ≡ InFile m → (a ≡ true) × (b ≡ true) × (m ≡ n)
-  by_tests true true e = (refl, refl, (let f : InFile n ≡ InFile m = e in cc))
-  by_tests true false e = absurd (let f : Leaked ≡ InFile m = e in cc)
-  by_tests false b e = absurd (let f : Free ≡ InFile m = e in cc)
+in_slots_owner v m n e = let h = not_free (not (is_used_number v m)) (find (is_slot_of v m) (numbers v)) n e in (not_not (is_used_number v m) h.0, h.1) where
+  not_not : (t : Bool) → not t ≡ false → t ≡ true
+  not_not true e = refl
+  not_not false e = sym e
 
-owner_in_use : (v : Volume) (n : ℕ) → is_used_number v n ≡ true → is_some (fields v n) ≡ true → number_owner v n ≡ InFile n
+owner_in_slots : (v : Volume) (m n : ℕ) → is_used_number v m ≡ true → find (is_slot_of v m) (numbers v) ≡ Some n → number_owner v m ≡ InFile n
 unfolding number_owner
-owner_in_use v n a b = rw (a, b) refl
+owner_in_slots v m n a b = rw (a, b) refl
 
-free_number_owner : (v : Volume) (n : ℕ) → (is_used_number v n ≡ false) ↔ (number_owner v n ≡ Free)
+free_number_owner : (v : Volume) (m : ℕ) → (is_used_number v m ≡ false) ↔ (number_owner v m ≡ Free)
 unfolding number_owner
-free_number_owner v n = ((λ e. rw e refl), (λ e. back (is_used_number v n) (is_some (fields v n)) e)) where
-  back : (a b : Bool) → cond (not a) Free (cond b (InFile n) Leaked) ≡ Free → a ≡ false
-  back false b e = refl
-  back true true e = absurd (let f : InFile n ≡ Free = e in cc)
-  back true false e = absurd (let f : Leaked ≡ Free = e in cc)
+free_number_owner v m = ((λ e. rw e refl), (λ e. back (is_used_number v m) (find (is_slot_of v m) (numbers v)) e)) where
+  back : (a : Bool) (o : Option ℕ) → cond (not a) Free (owner_found o) ≡ Free → a ≡ false
+  back false o e = refl
+  back true None e = absurd (let f : Leaked ≡ Free = e in cc)
+  back true (Some n) e = absurd (let f : InFile n ≡ Free = e in cc)
 
-leaked_number_owner : (v : Volume) (n : ℕ) → is_outside_number v n ≡ is_same_owner Leaked (number_owner v n)
-unfolding number_owner is_outside_number is_same_owner
-leaked_number_owner v n = by_tests (is_used_number v n) (is_some (fields v n)) where
-  by_tests : (a b : Bool) → a && not b ≡ is_same_owner Leaked (cond (not a) Free (cond b (InFile n) Leaked))
-  by_tests false b = refl
-  by_tests true true = refl
-  by_tests true false = refl
+leaked_number_owner : (v : Volume) (m : ℕ) → is_outside_number v m ≡ is_same_owner Leaked (number_owner v m)
+unfolding number_owner is_outside_number is_in_slots
+leaked_number_owner v m = leaked_by (is_slot_of v m) (numbers v) (is_used_number v m)
 
 never_outside : (v : Volume) (q node : ℕ) → cluster_owner v q ≢ Outside node
 unfolding cluster_owner
@@ -283,13 +303,13 @@ never_outside v q node e = by_tests (is_free_cluster v q) (find (is_in_file v q)
   by_tests false None e = cc
   by_tests false (Some n) e = cc
 
-number_never_outside : (v : Volume) (n node : ℕ) → number_owner v n ≢ Outside node
+number_never_outside : (v : Volume) (m node : ℕ) → number_owner v m ≢ Outside node
 unfolding number_owner
-number_never_outside v n node e = by_tests (is_used_number v n) (is_some (fields v n)) e where
-  by_tests : (a b : Bool) → cond (not a) Free (cond b (InFile n) Leaked) ≡ Outside node → ⊥
-  by_tests false b e = cc
-  by_tests true true e = cc
-  by_tests true false e = cc
+number_never_outside v m node e = by_tests (is_used_number v m) (find (is_slot_of v m) (numbers v)) e where
+  by_tests : (a : Bool) (o : Option ℕ) → cond (not a) Free (owner_found o) ≡ Outside node → ⊥
+  by_tests false o e = cc
+  by_tests true None e = cc
+  by_tests true (Some n) e = cc
 
 -- ---- a volume in which nothing fatal is found
 
@@ -353,11 +373,11 @@ module _ (home : Home) (bs : List Block) (read : home_read (home_at bs) ≡ Ok h
     shared : (n ≢ m) ⊎ (i ≢ j) → IsShared (volume home bs) q
     shared apart = record { n = n; i = i; m = m; j = j; one = in_run n i r is_n at_n in_n; other = in_run m j s is_m at_m in_m; apart = apart }
 
-  v_once : (n : ℕ) → IsFileNumber g n → Once (clusters_told g (header_block g bs n))
+  v_once : (n : ℕ) → IsFileNumber g n → Once (clusters_told g (told_of g bs n))
   v_once n is = clusters_once g (runs_told (header_block g bs n)) low (v_whole n is) (λ q i j r s a b t u. (v_one q n n i j r s is is a b t u).1)
 
   -- a file has a cluster exactly where it is one of those that its header tells
-  v_in_file : (q n : ℕ) → IsFileNumber g n → Has (clusters_told g (header_block g bs n)) q ↔ (is_in_file v q n ≡ true)
+  v_in_file : (q n : ℕ) → IsFileNumber g n → Has (clusters_told g (told_of g bs n)) q ↔ (is_in_file v q n ≡ true)
   v_in_file q n is = (
     (λ t. let h = run_of g (runs_told (header_block g bs n)) q low (v_whole n is) t in place_any (is_in_run (factor v) q) (runs v n) h.place h.run (ap (λ rs. slice_get rs h.place) (v_runs n is) ∙ h.there) h.inside),
     (λ e. let h = any_place (is_in_run (factor v) q) (runs v n) e in of_run g (runs_told (header_block g bs n)) q h.place h.item low (v_whole n is) (ap (λ rs. slice_get rs h.place) (sym (v_runs n is)) ∙ h.there) h.passes),
@@ -369,7 +389,7 @@ module _ (home : Home) (bs : List Block) (read : home_read (home_at bs) ≡ Ok h
   v_numbers : (n : ℕ) → IsFileNumber g n → Has (numbers v) n
   v_numbers n is = let a = is.from in let b = is.to in ranged_has 1 home.files n a (let lt : n < 1 + home.files = omega arith in lt)
 
-  v_in_total : (q n : ℕ) → IsFileNumber g n → Has (clusters_told g (header_block g bs n)) q → q < total v
+  v_in_total : (q n : ℕ) → IsFileNumber g n → Has (clusters_told g (told_of g bs n)) q → q < total v
   v_in_total q n is t =
       let h = run_of g (runs_told (header_block g bs n)) q low (v_whole n is) t in
       within_total g h.run q (whole_at g (runs_told (header_block g bs n)) h.place h.run (v_whole n is) h.there) h.inside
@@ -378,7 +398,7 @@ module _ (home : Home) (bs : List Block) (read : home_read (home_at bs) ≡ Ok h
   unfolding is_in_files
   v_in_files q n is e = has_any (is_in_file v q) (numbers v) n (v_numbers n is) e
 
-  v_owner : (q n : ℕ) → IsFileNumber g n → Has (clusters_told g (header_block g bs n)) q → cluster_owner v q ≡ InFile n
+  v_owner : (q n : ℕ) → IsFileNumber g n → Has (clusters_told g (told_of g bs n)) q → cluster_owner v q ≡ InFile n
   v_owner q n is t = owner_in_file v q n (by_free (is_free_cluster v q) refl) (by_found (find (is_in_file v q) (numbers v)) refl) where
     mine : is_in_file v q n ≡ true
     mine = (v_in_file q n is).0 t
@@ -419,7 +439,7 @@ module _ (home : Home) (bs : List Block) (read : home_read (home_at bs) ≡ Ok h
   number_from_at : (n : ℕ) (o : Owner) → IsFileNumber g n → slice_get (map (number_owner v) (numbers v)) (n - 1) ≡ Some o → number_owner v n ≡ o
   number_from_at n o is e = let a = is.from in ap (number_owner v) (let z : n ≡ 1 + (n - 1) = omega arith in z) ∙ (number_from (n - 1) o e).1
 
-  v_clusters : (n q : ℕ) → IsFileNumber g n → Has (clusters_told g (header_block g bs n)) q ↔ (slice_get (map (cluster_owner v) (range_with_len 0 (total v))) q ≡ Some (InFile n))
+  v_clusters : (n q : ℕ) → IsFileNumber g n → Has (clusters_told g (told_of g bs n)) q ↔ (slice_get (map (cluster_owner v) (range_with_len 0 (total v))) q ≡ Some (InFile n))
   v_clusters n q is = (
     (λ t. cluster_at q (InFile n) (v_in_total q n is t) (v_owner q n is t)),
     (λ e. let h = in_file_owner v q n (cluster_from q (InFile n) e).1 in (v_in_file q n is).1 (found_is (is_in_file v q) (numbers v) n h.1).1),
@@ -428,14 +448,52 @@ module _ (home : Home) (bs : List Block) (read : home_read (home_at bs) ≡ Ok h
   v_known : (q n : ℕ) → slice_get (map (cluster_owner v) (range_with_len 0 (total v))) q ≡ Some (InFile n) → IsFileNumber g n
   v_known q n e = let h = in_file_owner v q n (cluster_from q (InFile n) e).1 in v_number n (found_is (is_in_file v q) (numbers v) n h.1).0
 
-  v_used : (n : ℕ) → IsFileNumber g n → (is_some (fields_told (header_block g bs n)) ≡ true) ↔ (slice_get (map (number_owner v) (numbers v)) (n - 1) ≡ Some (InFile n))
-  v_used n is = (
-    (λ e. let u : is_some (fields v n) ≡ true = ap is_some (v_fields n is) ∙ e in number_at n (InFile n) is (owner_in_use v n (by_bit (is_used_number v n) refl u) u)),
-    (λ e. ap is_some (sym (v_fields n is)) ∙ (in_use_owner v n n (number_from_at n (InFile n) is e)).1),
-  ) where
-    by_bit : (b : Bool) → is_used_number v n ≡ b → is_some (fields v n) ≡ true → is_used_number v n ≡ true
-    by_bit true e u = e
-    by_bit false e u = absurd (weak (finding.FreeNumber n) (number_is n is, e, u))
+  v_told : (n : ℕ) → IsFileNumber g n → told_in v n ≡ told_of g bs n
+  v_told n is = told_there v n (v_head n is)
+
+  -- a number is one of a file's exactly where it is among the header slots that are told of the file
+  v_in_slots : (m n : ℕ) → IsFileNumber g n → Has (told_of g bs n).slots m ↔ (is_slot_of v m n ≡ true)
+  v_in_slots m n is = (
+    (λ t. has_any (λ k. k == m) (told_in v n).slots m (subst (λ (x : Told). Has x.slots m) (sym (v_told n is)) t) (eq-eqb m m refl)),
+    (λ e.
+        let h = any_place (λ k. k == m) (told_in v n).slots e in
+        let same : h.item ≡ m = eqb-true h.item m h.passes in
+        subst (λ (x : Told). Has x.slots m) (v_told n is) (subst (λ k. Has (told_in v n).slots k) same (has_at (told_in v n).slots h.place h.item h.there))),
+  )
+
+  v_slot_owner : (m n : ℕ) → IsFileNumber g n → Has (told_of g bs n).slots m → IsFileNumber g m × (number_owner v m ≡ InFile n)
+  v_slot_owner m n is t = (is_m, owner_in_slots v m n (by_bit (is_used_number v m) refl) (by_found (find (is_slot_of v m) (numbers v)) refl)) where
+    same : m ≡ n
+    same = one_slot g bs n m t
+
+    is_m : IsFileNumber g m
+    is_m = subst (λ (k : ℕ). IsFileNumber g k) (sym same) is
+
+    used : is_some (fields v m) ≡ true
+    used = ap is_some (v_fields m is_m) ∙ ap (λ k. is_some (fields_told (header_block g bs k))) same ∙ (slot_is_own (fields_told (header_block g bs n)) n m t).1
+
+    by_bit : (b : Bool) → is_used_number v m ≡ b → is_used_number v m ≡ true
+    by_bit true e = e
+    by_bit false e = absurd (weak (finding.FreeNumber m) (number_is m is_m, e, used))
+
+    by_found : (o : Option ℕ) → find (is_slot_of v m) (numbers v) ≡ o → find (is_slot_of v m) (numbers v) ≡ Some n
+    by_found None e = absurd (let f : false ≡ true = sym (found_none (is_slot_of v m) (numbers v) n e (v_numbers n is)) ∙ (v_in_slots m n is).0 t in cc)
+    by_found (Some k) e =
+        let h = found_is (is_slot_of v m) (numbers v) k e in
+        let other : m ≡ k = one_slot g bs k m ((v_in_slots m k (v_number k h.0)).1 h.1) in
+        e ∙ ap (λ x. Some x) (sym other ∙ same)
+
+  v_slots : (n m : ℕ) → IsFileNumber g n → Has (told_of g bs n).slots m ↔ (IsFileNumber g m × (slice_get (map (number_owner v) (numbers v)) (m - 1) ≡ Some (InFile n)))
+  v_slots n m is = (
+    (λ t. let h = v_slot_owner m n is t in (h.0, number_at m (InFile n) h.0 h.1)),
+    (λ x. let h = in_slots_owner v m n (number_from_at m (InFile n) x.0 x.1) in (v_in_slots m n is).1 (found_is (is_slot_of v m) (numbers v) n h.1).1),
+  )
+
+  v_few : (n : ℕ) → IsFileNumber g n → 11 < n → length (clusters_told g (told_of g bs n)) ≤ most_clusters
+  v_few n is above = few_by g n (told_of g bs n).head (told_of g bs n).runs low (v_reads n is) (v_whole n is) (sized n (header_block g bs n)) (λ f e. by_test f e (is_too_large v (Some f)) refl) where
+    by_test : (f : Hdr) → fields_told (header_block g bs n) ≡ Some f → (t : Bool) → is_too_large v (Some f) ≡ t → is_too_large v (Some f) ≡ false
+    by_test f e false t = t
+    by_test f e true t = absurd (weak (finding.Clusters n) (number_is n is, above, ap (is_too_large v) (v_fields n is ∙ e) ∙ t))
 
   v_cluster_bits : (q : ℕ) → q < total v → (cluster_bit g bs q ≡ true) ↔ (slice_get (map (cluster_owner v) (range_with_len 0 (total v))) q ≡ Some Free)
   v_cluster_bits q lt =
@@ -451,8 +509,8 @@ module _ (home : Home) (bs : List Block) (read : home_read (home_at bs) ≡ Ok h
         (λ e. sym bit ∙ (free_number_owner v n).1 (number_from_at n Free is e)),
       )
 
-  v_known_numbers : (i n : ℕ) → slice_get (map (number_owner v) (numbers v)) i ≡ Some (InFile n) → n ≡ i + 1
-  v_known_numbers i n e = (in_use_owner v (1 + i) n (number_from i (InFile n) e).1).2 ∙ (let z : 1 + i ≡ i + 1 = omega arith in z)
+  v_known_numbers : (i n : ℕ) → slice_get (map (number_owner v) (numbers v)) i ≡ Some (InFile n) → IsFileNumber g n
+  v_known_numbers i n e = let h = in_slots_owner v (1 + i) n (number_from i (InFile n) e).1 in v_number n (found_is (is_slot_of v (1 + i)) (numbers v) n h.1).0
 
   v_outs : (node : ℕ) → Outs node (owners_told v) nothing nothing
   v_outs node = record {
@@ -579,20 +637,22 @@ module _ (home : Home) (bs : List Block) (read : home_read (home_at bs) ≡ Ok h
       ∙ ap (λ rs. dir_found g n (fields v n) rs (blocks_at bs (lbns_in (runs_told (header_block g bs n))))) (sym (v_runs n is))
       ∙ ap (λ xs. dir_found g n (fields v n) (runs v n) xs) (sym (v_body n is)) ∙ dir_same v n (fields v n) ∙ v_dir_test n is
 
-  v_dir : (n : ℕ) → IsFileNumber g n → dir_found g n (fields_told (header_block g bs n)) (runs_told (header_block g bs n)) (body_blocks bs n (header_block g bs n)) ≡ None
+  v_dir : (n : ℕ) → IsFileNumber g n → dir_found g n (fields_told (header_block g bs n)) (runs_told (header_block g bs n)) (body_blocks bs n (told_of g bs n)) ≡ None
   v_dir n is = by_kind (is_structure n) refl where
-    by_kind : (k : Bool) → is_structure n ≡ k → dir_found g n (fields_told (header_block g bs n)) (runs_told (header_block g bs n)) (body_blocks bs n (header_block g bs n)) ≡ None
+    by_kind : (k : Bool) → is_structure n ≡ k → dir_found g n (fields_told (header_block g bs n)) (runs_told (header_block g bs n)) (body_blocks bs n (told_of g bs n)) ≡ None
     by_kind true e = dir_blind g n (fields_told (header_block g bs n)) _ _ (no_directory n e) (v_structure_header n e)
     by_kind false e =
         ap (λ t. dir_found g n (fields_told (header_block g bs n)) (runs_told (header_block g bs n)) (blocks_at bs (cond t [] (lbns_in (runs_told (header_block g bs n)))))) e ∙ v_dir_all n is
 
-  v_files : (n : ℕ) (s : Slot) → IsFileNumber g n → slice_get (files_of v) (n - 1) ≡ Some s → Tells g (owners_told v) n (header_block g bs n) (body_blocks bs n (header_block g bs n)) s
+  v_files : (n : ℕ) (s : Slot) → IsFileNumber g n → slice_get (files_of v) (n - 1) ≡ Some s → Tells g (owners_told v) n (told_of g bs n) (body_blocks bs n (told_of g bs n)) s
   v_files n s is at = record {
     reads = v_reads n is;
     whole = v_whole n is;
     once = v_once n is;
     runs = λ q. v_clusters n q is;
-    used = v_used n is;
+    few = v_few n is;
+    slots = λ m. v_slots n m is;
+    size = sized n (header_block g bs n);
     dir = v_dir n is;
     slot =
         (let a = is.from in

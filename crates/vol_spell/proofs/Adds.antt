@@ -15,7 +15,7 @@ use Rattle.fx_header.specs.declared.slot.Slot.TheVariants as head
 use Rattle.fx_header.specs.declared.slot.HeaderFault.{HeaderFault}
 use Rattle.fx_header.specs.Headers.{header_read, runs_in, fields_of, blocks_of}
 use Rattle.fx_header.specs.Pointers.{blocks_in}
-use Rattle.fx_header.proofs.SoundLemmas.{reads-sound, ends-of}
+use Rattle.fx_header.proofs.SoundLemmas.{reads-sound, blocks-of as size-of}
 use Rattle.plain_cat.specs.declared.cat.Cat.{Cat}
 use Rattle.plain_cat.specs.declared.cat.Slot.{Slot}
 use Rattle.plain_cat.specs.declared.cat.Slot.TheVariants as slot
@@ -26,10 +26,10 @@ use Rattle.vol_owners.specs.Owners.{Owners}
 use Rattle.vol_owners.specs.Counts.{is_same_owner}
 use Rattle.vol_owners.proofs.Counting.{counts_list}
 use Rattle.vol_parts.specs.declared.geometry.Geometry.{Geometry}
-use Rattle.vol_parts.specs.Volumes.{fields_in, runs_with}
+use Rattle.vol_parts.specs.Volumes.{fields_in, runs_with, Told}
 use Rattle.vol_parts.specs.Catalogues.{slot_with}
-use Rattle.vol_spell.specs.Reading.{IsFileNumber, total_of, header_block, clusters_of, clusters_told}
-use Rattle.vol_spell.specs.Spelling.{AreWhole, IsHead, Tells, Spells}
+use Rattle.vol_spell.specs.Reading.{IsFileNumber, total_of, header_tells, told_of, clusters_of, clusters_told}
+use Rattle.vol_spell.specs.Spelling.{AreWhole, IsHead, size_in, Tells, Spells}
 use Rattle.vol_spell.specs.Adding.{is_outside, CountsAdd, ClustersAddUp}
 use Rattle.vol_spell.proofs.Parts.{low, told}
 
@@ -54,21 +54,33 @@ unfolding fields_of
 read_blocks b f e =
     let s = reads-sound b f e in
     let h : blocks_of b ≡ f.blocks = ap (λ (x : Hdr). x.blocks) s.fields in
-    (ends-of b s.ends).blocks ∙ h
+    size-of b s.size ∙ h
 
-size_by : (g : Geometry) (n : ℕ) (b : Block) (blocks : List Block) (r : Result Head HeaderFault) (s : Slot) → 1 ≤ g.cluster → header_read b ≡ r → IsHead n r → AreWhole g (runs_with (fields_in r) b)
-    → slot_with g.cluster n r blocks ≡ s → clusters_in s ≡ length (clusters_of g.cluster (runs_with (fields_in r) b))
-size_by g n b blocks (Ok (head.Used f)) s low e is w at =
-    let k = length (clusters_of g.cluster (runs_in b)) in
-    let h : k * g.cluster ≡ f.blocks = size_of_runs g (runs_in b) low w ∙ read_blocks b f e in
+-- the runs that a header tells have the blocks that it says
+pub sized : (n : ℕ) (b : Block) → blocks_in (header_tells n b).runs ≡ size_in (fields_in (header_tells n b).head)
+sized n b = by_read (header_read b) refl where
+  by_read : (r : Result Head HeaderFault) → header_read b ≡ r → blocks_in (runs_with (fields_in r) b) ≡ size_in (fields_in r)
+  by_read (Ok (head.Used f)) e = read_blocks b f e
+  by_read (Ok (head.Free seq)) e = refl
+  by_read (Err fault) e = refl
+
+none_by : (k f : ℕ) → 1 ≤ f → k * f ≡ 0 → 0 ≡ k
+none_by zero f low e = refl
+none_by (suc k) f low e = let h : suc k * f ≡ f + k * f = omega arith in absurd (omega arith)
+
+pub size_by : (g : Geometry) (n : ℕ) (r : Result Head HeaderFault) (rs : List Run) (blocks : List Block) (s : Slot) → 1 ≤ g.cluster → IsHead n r → AreWhole g rs → blocks_in rs ≡ size_in (fields_in r)
+    → slot_with g.cluster n r blocks ≡ s → clusters_in s ≡ length (clusters_of g.cluster rs)
+size_by g n (Ok (head.Used f)) rs blocks s low is w size at =
+    let k = length (clusters_of g.cluster rs) in
+    let h : k * g.cluster ≡ f.blocks = size_of_runs g rs low w ∙ size in
     let d : f.blocks / g.cluster ≡ k = ap (λ x. x / g.cluster) (sym h ∙ (let z : k * g.cluster ≡ k * g.cluster + 0 = omega arith in z)) ∙ div-mul-add k g.cluster 0 (omega arith) in
     ap clusters_in (sym at) ∙ d
-size_by g n b blocks (Ok (head.Free seq)) s low e is w at = ap clusters_in (sym at)
-size_by g n b blocks (Err fault) s low e is w at = absurd is
+size_by g n (Ok (head.Free seq)) rs blocks s low is w size at = ap clusters_in (sym at) ∙ none_by (length (clusters_of g.cluster rs)) g.cluster low (size_of_runs g rs low w ∙ size)
+size_by g n (Err fault) rs blocks s low is w size at = absurd is
 
--- a file has as many clusters as its header tells
-pub size_told : (g : Geometry) (own : Owners) (n : ℕ) (b : Block) (blocks : List Block) (s : Slot) → 1 ≤ g.cluster → Tells g own n b blocks s → clusters_in s ≡ length (clusters_told g b)
-size_told g own n b blocks s low t = size_by g n b blocks (header_read b) s low refl t.reads t.whole t.slot
+-- a file has as many clusters as are told of it
+pub size_told : (g : Geometry) (own : Owners) (n : ℕ) (t : Told) (blocks : List Block) (s : Slot) → 1 ≤ g.cluster → Tells g own n t blocks s → clusters_in s ≡ length (clusters_told g t)
+size_told g own n t blocks s low tells = size_by g n t.head t.runs blocks s low tells.reads tells.whole tells.size tells.slot
 
 -- ---- counting by owner
 
@@ -141,8 +153,8 @@ module _ (g : Geometry) (bs : List Block) (own : Owners) (c : Cat) (s : Spells g
       let is : IsFileNumber g (k + 1) = record { from = omega arith; to = omega arith } in
       let t = told g bs own c s (k + 1) is in
       let e : k + 1 - 1 ≡ k = omega arith in
-      counts_list (InFile (k + 1)) (clusters_told g (header_block g bs (k + 1))) own.clusters t.once t.runs
-      ∙ sym (size_told g own (k + 1) (header_block g bs (k + 1)) _ _ (low g bs own c s) t) ∙ ap (λ i. clusters_in (get_or c.files i (slot.Free 0))) e
+      counts_list (InFile (k + 1)) (clusters_told g (told_of g bs (k + 1))) own.clusters t.once t.runs
+      ∙ sym (size_told g own (k + 1) (told_of g bs (k + 1)) _ _ (low g bs own c s) t) ∙ ap (λ i. clusters_in (get_or c.files i (slot.Free 0))) e
 
   belows : (k : ℕ) → k ≤ g.files → sum_by (below k) own.clusters ≡ sum_by clusters_in (take k c.files)
   belows zero le = below_none own.clusters

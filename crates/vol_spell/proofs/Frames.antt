@@ -24,14 +24,15 @@ use Rattle.vol_parts.specs.declared.geometry.Geometry.{Geometry}
 use Rattle.vol_parts.specs.declared.geometry.Part.{Part}
 use Rattle.vol_parts.specs.declared.geometry.Part.TheVariants.{Header, IndexBitmap, Storage, Quota}
 use Rattle.vol_parts.specs.Parts.{part_of, storage_blocks}
-use Rattle.vol_parts.specs.Volumes.{rows_in}
+use Rattle.vol_parts.specs.Volumes.{fields_in, Told, rows_in}
 use Rattle.vol_parts.specs.Catalogues.{is_structure}
-use Rattle.vol_spell.specs.Reading.{IsFileNumber, total_of, owner_at, header_place, header_block, body_places, body_blocks, runs_told, cluster_bit, number_bit, quota_places, rows_told, fields_told}
+use Rattle.vol_spell.specs.Reading.{IsFileNumber, total_of, owner_at, header_place, header_tells, told_of, body_places, body_blocks, cluster_bit, number_bit, quota_places, rows_told}
 use Rattle.vol_spell.specs.Places.{file_of_part}
 use Rattle.vol_spell.specs.Spelling.{Tells, IsStructure, HasStructures, Spells, IsHomeOf}
 use Rattle.vol_spell.specs.Bodies.{IsOfBody}
+use Rattle.vol_spell.specs.Views.{ToldStays}
 use Rattle.vol_spell.proofs.Runs.{lbns_once}
-use Rattle.vol_spell.proofs.Parts.{low, told, in_file, home_owned, control_owned, part_owned, part_owner}
+use Rattle.vol_spell.proofs.Parts.{one_head, low, told, in_file, slot_number, home_owned, control_owned, part_owned, part_owner}
 
 structure_file : (p : Part) → is_structure (file_of_part p) ≡ true
 structure_file (Header n) = refl
@@ -41,37 +42,42 @@ structure_file (Quota k) = refl
 
 -- ---- one file
 
--- a block that is set elsewhere leaves what the header of a number and its blocks tell
-pub file_stays : (g : Geometry) (own : Owners) (bs : List Block) (l : ℕ) (b : Block) (n : ℕ) (s : Slot) → header_place g n ≢ l → (Has (body_places n (header_block g bs n)) l → ⊥)
-    → Tells g own n (header_block g bs n) (body_blocks bs n (header_block g bs n)) s
-    → Tells g own n (header_block g (slice_set bs l b) n) (body_blocks (slice_set bs l b) n (header_block g (slice_set bs l b) n)) s
+-- what is told of a file stays where none of the blocks in its header slots changes
+pub told_stays : ToldStays
+told_stays g bs n l b away = ap (header_tells n) (get_or-set_other bs l (header_place g n) b [] (away n (inl refl)))
+
+-- a block that is set elsewhere leaves what is told of a file and its blocks
+pub file_stays : (g : Geometry) (own : Owners) (bs : List Block) (l : ℕ) (b : Block) (n : ℕ) (s : Slot) → ((m : ℕ) → Has (n ∷ (told_of g bs n).slots) m → header_place g m ≢ l)
+    → (Has (body_places n (told_of g bs n)) l → ⊥)
+    → Tells g own n (told_of g bs n) (body_blocks bs n (told_of g bs n)) s
+    → Tells g own n (told_of g (slice_set bs l b) n) (body_blocks (slice_set bs l b) n (told_of g (slice_set bs l b) n)) s
 file_stays g own bs l b n s other away t =
-    let h : header_block g (slice_set bs l b) n ≡ header_block g bs n = get_or-set_other bs l (header_place g n) b [] other in
-    let P : Block → Type 0 = λ x. Tells g own n x (body_blocks (slice_set bs l b) n x) s in
-    let R : List Block → Type 0 = λ xs. Tells g own n (header_block g bs n) xs s in
-    subst P (sym h) (subst R (sym (blocks_stay bs l b (body_places n (header_block g bs n)) away)) t)
+    let h = told_stays g bs n l b other in
+    let P : Told → Type 0 = λ x. Tells g own n x (body_blocks (slice_set bs l b) n x) s in
+    let R : List Block → Type 0 = λ xs. Tells g own n (told_of g bs n) xs s in
+    subst P (sym h) (subst R (sym (blocks_stay bs l b (body_places n (told_of g bs n)) away)) t)
 
 -- what a file tells stays where what it owns stays
-pub tells_on : (g : Geometry) (own new : Owners) (n : ℕ) (h : Block) (blocks : List Block) (s : Slot)
+pub tells_on : (g : Geometry) (own new : Owners) (n : ℕ) (h : Told) (blocks : List Block) (s : Slot)
     → ((q : ℕ) → (slice_get new.clusters q ≡ Some (InFile n)) ↔ (slice_get own.clusters q ≡ Some (InFile n)))
-    → ((slice_get new.numbers (n - 1) ≡ Some (InFile n)) ↔ (slice_get own.numbers (n - 1) ≡ Some (InFile n)))
+    → ((i : ℕ) → (slice_get new.numbers i ≡ Some (InFile n)) ↔ (slice_get own.numbers i ≡ Some (InFile n)))
     → Tells g own n h blocks s → Tells g new n h blocks s
 tells_on g own new n h blocks s cs ns t = record {
   reads = t.reads;
   whole = t.whole;
   once = t.once;
   runs = λ q. ((λ u. (cs q).1 ((t.runs q).0 u)), (λ e. (t.runs q).1 ((cs q).0 e)));
-  used = ((λ u. ns.1 (t.used.0 u)), (λ e. t.used.1 (ns.0 e)));
+  few = t.few;
+  slots = λ m. ((λ u. let x = (t.slots m).0 u in (x.0, (ns (m - 1)).1 x.1)), (λ x. (t.slots m).1 (x.0, (ns (m - 1)).0 x.1)));
+  size = t.size;
   dir = t.dir;
   slot = t.slot;
 }
 
 structure_stays : (g : Geometry) (bs : List Block) (l : ℕ) (b : Block) (n : ℕ) (r : Run) → header_place g n ≢ l → IsStructure g bs n r → IsStructure g (slice_set bs l b) n r
 structure_stays g bs l b n r other st =
-    let h : header_block g (slice_set bs l b) n ≡ header_block g bs n = get_or-set_other bs l (header_place g n) b [] other in
-    let P : Block → Type 0 = λ x. is_system_header n (fields_told x) ≡ true in
-    let R : Block → Type 0 = λ x. runs_told x ≡ r ∷ [] in
-    record { header = subst P (sym h) st.header; run = subst R (sym h) st.run }
+    let h = told_stays g bs n l b (λ m t. subst (λ k. header_place g k ≢ l) (sym (one_head g bs n m t)) other) in
+    record { header = ap (λ t. is_system_header n (fields_in t.head)) h ∙ st.header; run = ap (λ t. t.runs) h ∙ st.run }
 
 pub structures_stay : (g : Geometry) (bs : List Block) (l : ℕ) (b : Block) → 1 ≢ l → g.bitmap_lbn ≢ l → ((n : ℕ) → is_structure n ≡ true → header_place g n ≢ l) → HasStructures g bs → HasStructures g (slice_set bs l b)
 structures_stay g bs l b home control headers st =
@@ -109,27 +115,27 @@ module _ (g : Geometry) (bs : List Block) (own : Owners) (c : Cat) (s : Spells g
             omega arith
 
   -- a block of a file's slot lies in its clusters
-  pub body_owned : (n l : ℕ) → IsFileNumber g n → Has (body_places n (header_block g bs n)) l → (is_structure n ≡ false) × (owner_at g own l ≡ Some (InFile n))
+  pub body_owned : (n l : ℕ) → IsFileNumber g n → Has (body_places n (told_of g bs n)) l → (is_structure n ≡ false) × (owner_at g own l ≡ Some (InFile n))
   body_owned n l is t = by_kind (is_structure n) refl where
     by_kind : (k : Bool) → is_structure n ≡ k → (is_structure n ≡ false) × (owner_at g own l ≡ Some (InFile n))
-    by_kind true e = let R : Bool → Type 0 = λ x. Has (cond x [] (lbns_in (runs_told (header_block g bs n)))) l in absurd (subst R e t)
-    by_kind false e = let R : Bool → Type 0 = λ x. Has (cond x [] (lbns_in (runs_told (header_block g bs n)))) l in (e, in_file g bs own c s n l is (subst R e t))
+    by_kind true e = let R : Bool → Type 0 = λ x. Has (cond x [] (lbns_in (told_of g bs n).runs)) l in absurd (subst R e t)
+    by_kind false e = let R : Bool → Type 0 = λ x. Has (cond x [] (lbns_in (told_of g bs n).runs)) l in (e, in_file g bs own c s n l is (subst R e t))
 
   -- and is no part of the volume
-  pub body_no_part : (n l : ℕ) (p : Part) → IsFileNumber g n → Has (body_places n (header_block g bs n)) l → part_of g l ≢ Some p
+  pub body_no_part : (n l : ℕ) (p : Part) → IsFileNumber g n → Has (body_places n (told_of g bs n)) l → part_of g l ≢ Some p
   body_no_part n l p is t at =
       let o = body_owned n l is t in
       let e : file_of_part p ≡ n = (let h : Some (InFile (file_of_part p)) ≡ Some (InFile n) = sym (part_owner g bs own c s l p at) ∙ o.1 in cc) in
       let f : true ≡ false = sym (structure_file p) ∙ ap is_structure e ∙ o.0 in
       absurd (cc)
 
-  pub body_once : (n : ℕ) → IsFileNumber g n → Once (body_places n (header_block g bs n))
+  pub body_once : (n : ℕ) → IsFileNumber g n → Once (body_places n (told_of g bs n))
   body_once n is = by_kind (is_structure n) where
-    by_kind : (k : Bool) → Once {A = ℕ} (cond k [] (lbns_in (runs_told (header_block g bs n))))
+    by_kind : (k : Bool) → Once {A = ℕ} (cond k [] (lbns_in (told_of g bs n).runs))
     by_kind true = tt
-    by_kind false = let t = told g bs own c s n is in lbns_once g (header_block g bs n) (low g bs own c s) t.whole t.once
+    by_kind false = let t = told g bs own c s n is in lbns_once g (told_of g bs n) (low g bs own c s) t.whole t.once
 
-  pub of_body : (n l : ℕ) → IsFileNumber g n → Has (body_places n (header_block g bs n)) l → IsOfBody g bs own n l
+  pub of_body : (n l : ℕ) → IsFileNumber g n → Has (body_places n (told_of g bs n)) l → IsOfBody g bs own n l
   of_body n l is t =
       let o = body_owned n l is t in
       record {
@@ -167,6 +173,10 @@ module _ (g : Geometry) (bs : List Block) (own : Owners) (c : Cat) (s : Spells g
   pub header_apart : (l : ℕ) (o : Owner) → owner_at g own l ≡ Some o → InFile 1 ≢ o → (n : ℕ) → IsFileNumber g n → header_place g n ≢ l
   header_apart l o at ne n is = apart_by g own (header_place g n) l (InFile 1) o (part_owned g bs own c s (Header n) is) at ne
 
+  -- so the blocks in the header slots of a file stay where those of all numbers do
+  pub heads_apart : (n l : ℕ) → IsFileNumber g n → ((m : ℕ) → IsFileNumber g m → header_place g m ≢ l) → (m : ℕ) → Has (n ∷ (told_of g bs n).slots) m → header_place g m ≢ l
+  heads_apart n l is apart m t = elim t [ inl e ↦ apart m (subst (λ k. IsFileNumber g k) e is) | inr u ↦ apart m (slot_number g bs own c s n m is u) ]
+
   pub index_apart : (l : ℕ) (o : Owner) → owner_at g own l ≡ Some o → InFile 1 ≢ o → 4 * g.cluster ≢ l
   index_apart l o at ne = apart_by g own (4 * g.cluster) l (InFile 1) o (part_owned g bs own c s IndexBitmap tt) at ne
 
@@ -182,7 +192,7 @@ module _ (g : Geometry) (bs : List Block) (own : Owners) (c : Cat) (s : Spells g
       let f = s.counts.geometry.files_from in
       record { from = grind (arith, nat_tests); to = (let h : n ≤ 10 = grind (arith, nat_tests) in omega arith) }
 
-  pub away_by : (n l : ℕ) (o : Owner) → IsFileNumber g n → owner_at g own l ≡ Some o → (is_structure n ≡ false → InFile n ≢ o) → Has (body_places n (header_block g bs n)) l → ⊥
+  pub away_by : (n l : ℕ) (o : Owner) → IsFileNumber g n → owner_at g own l ≡ Some o → (is_structure n ≡ false → InFile n ≢ o) → Has (body_places n (told_of g bs n)) l → ⊥
   away_by n l o is at ne t =
       let h = body_owned n l is t in
       ne h.0 (let f : Some (InFile n) ≡ Some o = sym h.1 ∙ at in cc)

@@ -37,18 +37,18 @@ few_files bs c h =
     omega (arith, limits.files_high)
 
 -- the first lost file without room is the first fatal finding
-pub room_first : (bs : List Block) (c : Cat) (f : Finding) → IsReadable bs → IsCatalogueBy bs (home_read (home_at bs)) c → IsFirstIn c 15 (Some f) → IsFirstFatal bs f
+pub room_first : (bs : List Block) (c : Cat) (f : Finding) → IsReadable bs → IsCatalogueBy bs (home_read (home_at bs)) c → IsFirstIn c 16 (Some f) → IsFirstFatal bs f
 room_first bs c f readable h first =
     let t = home_told bs c h in
     let v = volume t.home bs in
-    let there = cat-step v c 15 16 (Some f) (sym t.told) (omega arith) (omega arith) (none-of-readable bs t.home readable t.read) first refl in
+    let there = cat-step v c 16 17 (Some f) (sym t.told) (omega arith) (omega arith) (none-of-readable bs t.home readable t.read) first refl in
     record {
       fatal = subst (λ (x : Result Home HomeFault). IsFatalBy bs x f) (sym t.read) there.fatal;
       first = λ g k. there.first g (subst (λ (x : Result Home HomeFault). IsFatalBy bs x g) t.read k);
     }
 
 -- where there is none, no fatal finding holds
-pub room_none : (bs : List Block) (c : Cat) → IsReadable bs → IsCatalogueBy bs (home_read (home_at bs)) c → IsFirstIn c 15 None → CatOf bs c
+pub room_none : (bs : List Block) (c : Cat) → IsReadable bs → IsCatalogueBy bs (home_read (home_at bs)) c → IsFirstIn c 16 None → CatOf bs c
 room_none bs c readable h none =
     let t = home_told bs c h in
     record {

@@ -1,11 +1,10 @@
 -- The kinds of writes.
-use Rattle.std.proofs.Common.{◌≡◌, ◌≢◌, ◌<◌, ◌+◌, ◌*◌, ◌-◌, ◌/◌, ◌⊎◌, ℕ, zero, suc, Bool, true, false, List, [], ◌∷◌, Option, Some, length, map, slice_get, slice_set, refl, sym, ap, subst, ◌∙◌, inl, inr, arith, length-set, get_or-set_other, cond}
+use Rattle.std.proofs.Common.{◌≡◌, ◌≢◌, ◌<◌, ◌+◌, ◌*◌, ◌-◌, ◌/◌, ℕ, zero, suc, Bool, true, false, List, [], ◌∷◌, Option, Some, length, map, slice_get, slice_set, refl, sym, ap, subst, ◌∙◌, inl, inr, arith, length-set, cond}
 use Rattle.std.specs.Prelude.{◌↔◌, ◌==◌, count_by, Result, Ok, Err}
 use Rattle.vol_words.specs.Fields.{Block, IsWholeBlock, AreWholeBlocks}
 use Rattle.fx_header.specs.declared.slot.Slot.{Slot as Head}
 use Rattle.fx_header.specs.declared.slot.Slot.TheVariants as head
 use Rattle.fx_header.specs.declared.slot.HeaderFault.{HeaderFault}
-use Rattle.fx_header.specs.Headers.{header_read}
 use Rattle.fx_header.specs.Pointers.{lbns_in}
 use Rattle.fx_quota.specs.declared.types.Row.{Row}
 use Rattle.plain_cat.specs.declared.cat.Cat.{Cat}
@@ -18,18 +17,19 @@ use Rattle.vol_owners.specs.Lists.{Has, Once}
 use Rattle.vol_owners.specs.Owners.{Owners, Moves, OwnersMove, IsFileMove, IsSpaceMove, IsDeathMove}
 use Rattle.vol_owners.specs.Counts.{is_same_owner}
 use Rattle.vol_owners.proofs.Moving.{owner_stays}
-use Rattle.vol_owners.proofs.Listing.{has_at, same_or_not}
-use Rattle.vol_owners.proofs.Placing.{blocks_stay, blocks_set, index-set_here}
+use Rattle.vol_owners.proofs.Listing.{has_at}
+use Rattle.vol_owners.proofs.Placing.{blocks_stay, blocks_set}
 use Rattle.vol_parts.specs.declared.geometry.Geometry.{Geometry}
 use Rattle.vol_parts.specs.declared.geometry.Part.TheVariants.{Header, IndexBitmap, Storage, Quota}
 use Rattle.vol_parts.specs.Parts.{part_of}
+use Rattle.vol_parts.specs.Volumes.{Told}
 use Rattle.vol_parts.specs.Catalogues.{is_structure, slot_with, rows_sorted}
-use Rattle.vol_spell.specs.Reading.{IsFileNumber, total_of, owner_at, header_place, header_block, body_places, body_blocks, runs_told, cluster_bit, number_bit, rows_told}
+use Rattle.vol_spell.specs.Reading.{IsFileNumber, total_of, owner_at, header_place, told_of, body_places, body_blocks, cluster_bit, number_bit, rows_told}
 use Rattle.vol_spell.specs.Spelling.{Tells, Spells}
 use Rattle.vol_spell.specs.Kinds.{OutsideWrite, QuotaWrite, with_rows, StorageWrite, IndexWrite, IsHeaderFor, HeaderWrite, IsBodyFor, BodyWrite, with_leaks, DeathLeaks}
 use Rattle.vol_spell.proofs.Runs.{has_cluster}
-use Rattle.vol_spell.proofs.Parts.{differ, low, told, part_owned, part_owner, part_only}
-use Rattle.vol_spell.proofs.Frames.{file_stays, tells_on, structures_stay, on_volume, body_owned, body_once, cluster_bits_stay, rows_stay, header_apart, index_apart, home_apart, control_apart, structure_number, away_by, number_bits_stay, set_case, reserved_stays}
+use Rattle.vol_spell.proofs.Parts.{one_head, differ, low, told, part_owned, part_owner, part_only}
+use Rattle.vol_spell.proofs.Frames.{told_stays, file_stays, tells_on, structures_stay, on_volume, body_owned, body_once, cluster_bits_stay, rows_stay, header_apart, heads_apart, index_apart, home_apart, control_apart, structure_number, away_by, number_bits_stay, set_case, reserved_stays}
 use Rattle.vol_spell.proofs.Leaks.{leaks_stay, leak_flags_stay}
 
 -- what one test says, another says that is the same
@@ -81,7 +81,7 @@ module _ (g : Geometry) (bs : List Block) (own : Owners) (c : Cat) (s : Spells g
         structures = structures_stay g bs l b (home_apart g bs own c s l (Outside node) at (λ e. absurd (cc))) (control_apart g bs own c s l (Outside node) at (λ e. absurd (cc)))
             (λ n st. header_apart g bs own c s l (Outside node) at (λ e. absurd (cc)) n (structure_number g bs own c s n st)) s.structures;
         constants = s.constants;
-        files = λ n x is h. file_stays g own bs l b n x (header_apart g bs own c s l (Outside node) at (λ e. absurd (cc)) n is)
+        files = λ n x is h. file_stays g own bs l b n x (heads_apart g bs own c s n l is (header_apart g bs own c s l (Outside node) at (λ e. absurd (cc))))
             (away_by g bs own c s n l (Outside node) is at (λ p e. absurd (cc))) (s.files n x is h);
         rows = record {
           quota = s.rows.quota ∙ ap rows_sorted (sym rows);
@@ -114,7 +114,7 @@ module _ (g : Geometry) (bs : List Block) (own : Owners) (c : Cat) (s : Spells g
         structures = structures_stay g bs l b (home_apart g bs own c s l (InFile 10) at one) (control_apart g bs own c s l (InFile 10) at two)
             (λ n st. header_apart g bs own c s l (InFile 10) at one n (structure_number g bs own c s n st)) s.structures;
         constants = record { factor = s.constants.factor; total = s.constants.total; reserved = s.constants.reserved; rows = s.constants.rows };
-        files = λ n x is h. file_stays g own bs l b n x (header_apart g bs own c s l (InFile 10) at one n is)
+        files = λ n x is h. file_stays g own bs l b n x (heads_apart g bs own c s n l is (header_apart g bs own c s l (InFile 10) at one))
             (away_by g bs own c s n l (InFile 10) is at (λ p. other_file 10 n refl p)) (s.files n x is h);
         rows = record {
           quota = refl;
@@ -153,8 +153,8 @@ module _ (g : Geometry) (bs : List Block) (own : Owners) (c : Cat) (s : Spells g
         structures = structures_stay g bs l b (home_apart g bs own c s l (InFile 2) at one) (let ne : g.bitmap_lbn ≢ l = omega arith in ne)
             (λ n st. header_apart g bs own c s l (InFile 2) at one n (structure_number g bs own c s n st)) s.structures;
         constants = s.constants;
-        files = λ n x is h. tells_on g own new n _ _ x (owner_stays (IsSpaceMove node) own.clusters new.clusters (Some (InFile n)) moves (λ f. f)) (numbers_same new n same)
-            (file_stays g own bs l b n x (header_apart g bs own c s l (InFile 2) at one n is) (away_by g bs own c s n l (InFile 2) is at (λ p. other_file 2 n refl p)) (s.files n x is h));
+        files = λ n x is h. tells_on g own new n _ _ x (owner_stays (IsSpaceMove node) own.clusters new.clusters (Some (InFile n)) moves (λ f. f)) (λ i. number_same new i (InFile n) same)
+            (file_stays g own bs l b n x (heads_apart g bs own c s n l is (header_apart g bs own c s l (InFile 2) at one)) (away_by g bs own c s n l (InFile 2) is at (λ p. other_file 2 n refl p)) (s.files n x is h));
         rows = record {
           quota = s.rows.quota ∙ ap rows_sorted (sym rows);
           once = subst P (sym rows) s.rows.once;
@@ -170,9 +170,6 @@ module _ (g : Geometry) (bs : List Block) (own : Owners) (c : Cat) (s : Spells g
       } where
         number_same : (new : Owners) (i : ℕ) (o : Owner) → new.numbers ≡ own.numbers → (slice_get new.numbers i ≡ Some o) ↔ (slice_get own.numbers i ≡ Some o)
         number_same new i o e = let h : slice_get new.numbers i ≡ slice_get own.numbers i = ap (λ xs. slice_get xs i) e in ((λ t. sym h ∙ t), (λ t. h ∙ t))
-
-        numbers_same : (new : Owners) (n : ℕ) → new.numbers ≡ own.numbers → (slice_get new.numbers (n - 1) ≡ Some (InFile n)) ↔ (slice_get own.numbers (n - 1) ≡ Some (InFile n))
-        numbers_same new n e = number_same new (n - 1) (InFile n) e
 
   pub index_write_lem : (new : Owners) (node l : ℕ) (b : Block) → IsWholeBlock b → part_of g l ≡ Some IndexBitmap → new.clusters ≡ own.clusters → Moves (IsSpaceMove node) own.numbers new.numbers
       → ((n : ℕ) → IsFileNumber g n → (number_bit g (slice_set bs l b) n ≡ false) ↔ (slice_get new.numbers (n - 1) ≡ Some Free)) → Spells g (slice_set bs l b) new c
@@ -197,8 +194,8 @@ module _ (g : Geometry) (bs : List Block) (own : Owners) (c : Cat) (s : Spells g
         structures = structures_stay g bs l b (let ne : 1 ≢ l = omega arith in ne) (control_apart g bs own c s l (InFile 1) at two)
             (λ n st. other n (structure_number g bs own c s n st)) s.structures;
         constants = s.constants;
-        files = λ n x is h. tells_on g own new n _ _ x (λ q. cluster_same new q (InFile n) same) (owner_stays (IsSpaceMove node) own.numbers new.numbers (Some (InFile n)) moves (λ f. f) (n - 1))
-            (file_stays g own bs l b n x (other n is) (away_by g bs own c s n l (InFile 1) is at (λ p. other_file 1 n refl p)) (s.files n x is h));
+        files = λ n x is h. tells_on g own new n _ _ x (λ q. cluster_same new q (InFile n) same) (owner_stays (IsSpaceMove node) own.numbers new.numbers (Some (InFile n)) moves (λ f. f))
+            (file_stays g own bs l b n x (heads_apart g bs own c s n l is other) (away_by g bs own c s n l (InFile 1) is at (λ p. other_file 1 n refl p)) (s.files n x is h));
         rows = record {
           quota = s.rows.quota ∙ ap rows_sorted (sym rows);
           once = subst P (sym rows) s.rows.once;
@@ -217,24 +214,23 @@ module _ (g : Geometry) (bs : List Block) (own : Owners) (c : Cat) (s : Spells g
 
   -- ---- a header
 
-  -- the blocks that a new header names are apart from the header's own place
-  pub new_body_away : (new : Owners) (node n l : ℕ) (b : Block) (x : Slot) → IsHeaderFor g bs node n own new c b x → owner_at g own l ≡ Some (InFile 1) → Has (body_places n b) l → ⊥
+  -- the blocks that a file has by a new header are apart from the header's own place
+  pub new_body_away : (new : Owners) (node n l : ℕ) (b : Block) (x : Slot) → IsHeaderFor g bs node n n own new c b x → owner_at g own l ≡ Some (InFile 1) → Has (body_places n (told_of g (slice_set bs (header_place g n) b) n)) l → ⊥
   new_body_away new node n l b x h at t =
-      let R : Bool → Type 0 = λ k. Has (cond k [] (lbns_in (runs_told b))) l in
-      let u : Has (lbns_in (runs_told b)) l = subst R h.plain t in
-      let mine : owner_at g new l ≡ Some (InFile n) = (h.tells.runs (l / g.cluster)).0 (has_cluster g b l (low g bs own c s) h.tells.whole u) in
+      let now : Told = told_of g (slice_set bs (header_place g n) b) n in
+      let R : Bool → Type 0 = λ k. Has (cond k [] (lbns_in now.runs)) l in
+      let u : Has (lbns_in now.runs) l = subst R h.plain t in
+      let mine : owner_at g new l ≡ Some (InFile n) = (h.tells.runs (l / g.cluster)).0 (has_cluster g now l (low g bs own c s) h.tells.whole u) in
       let ne : 1 ≢ n = not_structure 1 n refl h.plain in
       let kept : owner_at g new l ≡ Some (InFile 1) = (owner_stays (IsFileMove node n) own.clusters new.clusters (Some (InFile 1)) h.moves.clusters (λ e. ne e) (l / g.cluster)).1 at in
       ne (let f : Some (InFile 1) ≡ Some (InFile n) = sym kept ∙ mine in cc)
 
-  pub header_write_lem : (new : Owners) (node n : ℕ) (b : Block) (x : Slot) → IsHeaderFor g bs node n own new c b x → Spells g (slice_set bs (header_place g n) b) new (with_slot c n x)
+  pub header_write_lem : (new : Owners) (node n : ℕ) (b : Block) (x : Slot) → IsHeaderFor g bs node n n own new c b x → Spells g (slice_set bs (header_place g n) b) new (with_slot c n x)
   header_write_lem new node n b x h =
       let l = header_place g n in
       let at : owner_at g own (header_place g n) ≡ Some (InFile 1) = part_owned g bs own c s (Header n) h.number in
       let lo = h.number.from in
       let hi = h.number.to in
-      let len : header_place g n < length bs = on_volume g bs own c s (header_place g n) (InFile 1) at in
-      let here : header_block g (slice_set bs (header_place g n) b) n ≡ b = index-set_here bs (header_place g n) b len in
       let low = low g bs own c s in
       let two : InFile 2 ≢ InFile 1 = two_files 2 1 refl in
       let ten : InFile 10 ≢ InFile 1 = two_files 10 1 refl in
@@ -259,11 +255,11 @@ module _ (g : Geometry) (bs : List Block) (own : Owners) (c : Cat) (s : Spells g
           rows = s.constants.rows;
         };
         files = λ m y is e. elim (set_case c.files (n - 1) (m - 1) x y inside e) [
-          | inl same ↦ written m y here at (let f = same.0 in let a = is.from in let k : n ≡ m = omega arith in k) same.1
+          | inl same ↦ written m y at (let f = same.0 in let a = is.from in let k : n ≡ m = omega arith in k) same.1
           | inr other ↦ (let f = other.0 in let ne : n ≢ m = (λ k. f (ap (λ z. z - 1) k)) in
               tells_on g own new m _ _ y (owner_stays (IsFileMove node n) own.clusters new.clusters (Some (InFile m)) h.moves.clusters (λ k. ne (sym k)))
-              (owner_stays (IsFileMove node n) own.numbers new.numbers (Some (InFile m)) h.moves.numbers (λ k. ne (sym k)) (m - 1))
-              (file_stays g own bs l b m y (let d : header_place g m ≢ header_place g n = λ k. ne (omega arith) in d) (away_by g bs own c s m l (InFile 1) is at (λ p. other_file 1 m refl p)) (s.files m y is other.1)))
+              (owner_stays (IsFileMove node n) own.numbers new.numbers (Some (InFile m)) h.moves.numbers (λ k. ne (sym k)))
+              (file_stays g own bs l b m y (λ j t. let same = one_head g bs m j t in let d : header_place g j ≢ header_place g n = (λ k. ne (omega arith)) in d) (away_by g bs own c s m l (InFile 1) is at (λ p. other_file 1 m refl p)) (s.files m y is other.1)))
         ];
         rows = record {
           quota = s.rows.quota ∙ ap rows_sorted (sym rows);
@@ -274,24 +270,19 @@ module _ (g : Geometry) (bs : List Block) (own : Owners) (c : Cat) (s : Spells g
           number_bits = λ m is. iff (same_bit false _ _ _ (number_bits_stay g bs l b m (let ne : 4 * g.cluster ≢ header_place g n = omega arith in ne)) (s.owners.number_bits m is))
               (owner_stays (IsFileMove node n) own.numbers new.numbers (Some Free) h.moves.numbers (λ f. f) (m - 1));
           known = known_stays g (IsFileMove node n) own.clusters new.clusters h.moves.clusters (λ m e. subst (λ (k : ℕ). IsFileNumber g k) (sym e) h.number) s.owners.known;
-          known_numbers = λ i m e. by_number i m (same_or_not m n) e;
+          known_numbers = known_stays g (IsFileMove node n) own.numbers new.numbers h.moves.numbers (λ m e. subst (λ (k : ℕ). IsFileNumber g k) (sym e) h.number) s.owners.known_numbers;
           leaked = s.owners.leaked ∙ sym (leaks_stay (IsFileMove node n) own.clusters new.clusters (λ f. f) h.moves.clusters);
           leaked_numbers = s.owners.leaked_numbers ∙ sym (leak_flags_stay (IsFileMove node n) own.numbers new.numbers (λ f. f) h.moves.numbers);
         };
       } where
-        written : (m : ℕ) (y : Slot) → header_block g (slice_set bs (header_place g n) b) n ≡ b → owner_at g own (header_place g n) ≡ Some (InFile 1) → n ≡ m → x ≡ y
-            → Tells g new m (header_block g (slice_set bs (header_place g n) b) m) (body_blocks (slice_set bs (header_place g n) b) m (header_block g (slice_set bs (header_place g n) b) m)) y
-        written m y here at e f =
-            let bs' = slice_set bs (header_place g n) b in
-            let P : ℕ → Type 0 = λ k. Tells g new k (header_block g (slice_set bs (header_place g n) b) k) (body_blocks (slice_set bs (header_place g n) b) k (header_block g (slice_set bs (header_place g n) b) k)) y in
-            let Q : Slot → Type 0 = λ z. Tells g new n (header_block g (slice_set bs (header_place g n) b) n) (body_blocks (slice_set bs (header_place g n) b) n (header_block g (slice_set bs (header_place g n) b) n)) z in
-            let H : Block → Type 0 = λ z. Tells g new n z (body_blocks (slice_set bs (header_place g n) b) n z) x in
-            let B : List Block → Type 0 = λ zs. Tells g new n b zs x in
-            subst P e (subst Q f (subst H (sym here) (subst B (sym (blocks_stay bs (header_place g n) b (body_places n b) (new_body_away new node n (header_place g n) b x h at))) h.tells)))
-
-        by_number : (i m : ℕ) → (m ≡ n) ⊎ (m ≢ n) → slice_get new.numbers i ≡ Some (InFile m) → m ≡ i + 1
-        by_number i m (inl e) at = e ∙ h.named i (at ∙ ap (λ k. Some (InFile k)) e)
-        by_number i m (inr ne) at = s.owners.known_numbers i m ((owner_stays (IsFileMove node n) own.numbers new.numbers (Some (InFile m)) h.moves.numbers (λ k. ne k) i).0 at)
+        written : (m : ℕ) (y : Slot) → owner_at g own (header_place g n) ≡ Some (InFile 1) → n ≡ m → x ≡ y
+            → Tells g new m (told_of g (slice_set bs (header_place g n) b) m) (body_blocks (slice_set bs (header_place g n) b) m (told_of g (slice_set bs (header_place g n) b) m)) y
+        written m y at e f =
+            let now : Told = told_of g (slice_set bs (header_place g n) b) n in
+            let P : ℕ → Type 0 = λ k. Tells g new k (told_of g (slice_set bs (header_place g n) b) k) (body_blocks (slice_set bs (header_place g n) b) k (told_of g (slice_set bs (header_place g n) b) k)) y in
+            let Q : Slot → Type 0 = λ z. Tells g new n now (body_blocks (slice_set bs (header_place g n) b) n now) z in
+            let B : List Block → Type 0 = λ zs. Tells g new n now zs x in
+            subst P e (subst Q f (subst B (sym (blocks_stay bs (header_place g n) b (body_places n now) (new_body_away new node n (header_place g n) b x h at))) h.tells))
 
   -- ---- a block of a file
 
@@ -305,7 +296,7 @@ module _ (g : Geometry) (bs : List Block) (own : Owners) (c : Cat) (s : Spells g
   body_write_lem n v l b x h =
       let lo = h.number.from in
       let hi = h.number.to in
-      let has : Has (body_places n (header_block g bs n)) l = has_at (body_places n (header_block g bs n)) v l h.place in
+      let has : Has (body_places n (told_of g bs n)) l = has_at (body_places n (told_of g bs n)) v l h.place in
       let mine = body_owned g bs own c s n l h.number has in
       let at : owner_at g own l ≡ Some (InFile n) = mine.1 in
       let len : l < length bs = on_volume g bs own c s l (InFile n) at in
@@ -333,9 +324,9 @@ module _ (g : Geometry) (bs : List Block) (own : Owners) (c : Cat) (s : Spells g
           rows = s.constants.rows;
         };
         files = λ m y is e. elim (set_case c.files (n - 1) (m - 1) x y inside e) [
-          | inl same ↦ written m y (header_apart g bs own c s l (InFile n) at one n h.number) len (let f = same.0 in let a = is.from in let k : n ≡ m = omega arith in k) same.1
+          | inl same ↦ written m y (heads_apart g bs own c s n l h.number (header_apart g bs own c s l (InFile n) at one)) len (let f = same.0 in let a = is.from in let k : n ≡ m = omega arith in k) same.1
           | inr other ↦ (let f = other.0 in let ne : n ≢ m = (λ k. f (ap (λ z. z - 1) k)) in
-              file_stays g own bs l b m y (header_apart g bs own c s l (InFile n) at one m is) (away_by g bs own c s m l (InFile n) is at (λ p e. ne (let k : m ≡ n = cc in sym k))) (s.files m y is other.1))
+              file_stays g own bs l b m y (heads_apart g bs own c s m l is (header_apart g bs own c s l (InFile n) at one)) (away_by g bs own c s m l (InFile n) is at (λ p e. ne (let k : m ≡ n = cc in sym k))) (s.files m y is other.1))
         ];
         rows = record {
           quota = s.rows.quota ∙ ap rows_sorted (sym rows);
@@ -353,20 +344,20 @@ module _ (g : Geometry) (bs : List Block) (own : Owners) (c : Cat) (s : Spells g
         kept : (old : Slot) → slice_get c.files (n - 1) ≡ Some old → clusters_in x ≡ clusters_in old
         kept old e =
             let t = s.files n old h.number e in
-            ap clusters_in (sym h.slot) ∙ same_clusters g.cluster n (header_read (header_block g bs n)) _ _ ∙ ap clusters_in t.slot
+            ap clusters_in (sym h.slot) ∙ same_clusters g.cluster n (told_of g bs n).head _ _ ∙ ap clusters_in t.slot
 
-        written : (m : ℕ) (y : Slot) → header_place g n ≢ l → l < length bs → n ≡ m → x ≡ y
-            → Tells g own m (header_block g (slice_set bs l b) m) (body_blocks (slice_set bs l b) m (header_block g (slice_set bs l b) m)) y
+        written : (m : ℕ) (y : Slot) → ((j : ℕ) → Has (n ∷ (told_of g bs n).slots) j → header_place g j ≢ l) → l < length bs → n ≡ m → x ≡ y
+            → Tells g own m (told_of g (slice_set bs l b) m) (body_blocks (slice_set bs l b) m (told_of g (slice_set bs l b) m)) y
         written m y other len e f =
             let t = told g bs own c s n h.number in
-            let here : header_block g (slice_set bs l b) n ≡ header_block g bs n = get_or-set_other bs l (header_place g n) b [] other in
-            let P : ℕ → Type 0 = λ k. Tells g own k (header_block g (slice_set bs l b) k) (body_blocks (slice_set bs l b) k (header_block g (slice_set bs l b) k)) y in
-            let Q : Slot → Type 0 = λ z. Tells g own n (header_block g (slice_set bs l b) n) (body_blocks (slice_set bs l b) n (header_block g (slice_set bs l b) n)) z in
-            let H : Block → Type 0 = λ z. Tells g own n z (body_blocks (slice_set bs l b) n z) x in
-            let B : List Block → Type 0 = λ zs. Tells g own n (header_block g bs n) zs x in
-            let now : Tells g own n (header_block g bs n) (slice_set (body_blocks bs n (header_block g bs n)) v b) x =
-            record { reads = t.reads; whole = t.whole; once = t.once; runs = t.runs; used = t.used; dir = h.dir; slot = h.slot } in
-            subst P e (subst Q f (subst H (sym here) (subst B (sym (blocks_set bs l b (body_places n (header_block g bs n)) v h.place (body_once g bs own c s n h.number) len)) now)))
+            let here = told_stays g bs n l b other in
+            let P : ℕ → Type 0 = λ k. Tells g own k (told_of g (slice_set bs l b) k) (body_blocks (slice_set bs l b) k (told_of g (slice_set bs l b) k)) y in
+            let Q : Slot → Type 0 = λ z. Tells g own n (told_of g (slice_set bs l b) n) (body_blocks (slice_set bs l b) n (told_of g (slice_set bs l b) n)) z in
+            let H : Told → Type 0 = λ z. Tells g own n z (body_blocks (slice_set bs l b) n z) x in
+            let B : List Block → Type 0 = λ zs. Tells g own n (told_of g bs n) zs x in
+            let now : Tells g own n (told_of g bs n) (slice_set (body_blocks bs n (told_of g bs n)) v b) x =
+            record { reads = t.reads; whole = t.whole; once = t.once; runs = t.runs; few = t.few; slots = t.slots; size = t.size; dir = h.dir; slot = h.slot } in
+            subst P e (subst Q f (subst H (sym here) (subst B (sym (blocks_set bs l b (body_places n (told_of g bs n)) v h.place (body_once g bs own c s n h.number) len)) now)))
 
   -- ---- the death of a node
 
@@ -387,7 +378,7 @@ module _ (g : Geometry) (bs : List Block) (own : Owners) (c : Cat) (s : Spells g
         whole = s.whole;
         structures = s.structures;
         constants = record { factor = s.constants.factor; total = s.constants.total; reserved = s.constants.reserved; rows = s.constants.rows };
-        files = λ n x is h. tells_on g own new n _ _ x (λ q. clusters q (InFile n) (λ f. f)) (numbers (n - 1) (InFile n) (λ f. f)) (s.files n x is h);
+        files = λ n x is h. tells_on g own new n _ _ x (λ q. clusters q (InFile n) (λ f. f)) (λ i. numbers i (InFile n) (λ f. f)) (s.files n x is h);
         rows = record { quota = s.rows.quota; once = s.rows.once };
         owners = record {
           cluster_bits = λ q lt. iff (s.owners.cluster_bits q lt) (clusters q Free (λ f. f));
@@ -412,7 +403,10 @@ pub index_write : IndexWrite
 index_write g bs own new c node l b s whole part same moves bits = index_write_lem g bs own c s new node l b whole part same moves bits
 
 pub header_write : HeaderWrite
-header_write g bs own new c node n b x s h = header_write_lem g bs own c s new node n b x h
+header_write g bs own new c node n m b x s h =
+    let P : ℕ → Type 0 = λ k. IsHeaderFor g bs node n k own new c b x in
+    let Q : ℕ → Type 0 = λ k. Spells g (slice_set bs (header_place g k) b) new (with_slot c n x) in
+    subst Q (sym h.own_slot) (header_write_lem g bs own c s new node n b x (subst P h.own_slot h))
 
 pub body_write : BodyWrite
 body_write g bs own c n v l b x s h = body_write_lem g bs own c s n v l b x h

@@ -12,3 +12,4 @@ pub mod Clusters
 pub mod Accepted
 pub mod Fully
 pub mod Packing
+pub mod Forms

@@ -12,7 +12,7 @@ use Rattle.vol_parts.specs.declared.geometry.Geometry.{Geometry}
 use Rattle.vol_spell.specs.Reading.{IsFileNumber, total_of, cluster_bit, number_bit}
 use Rattle.vol_spell.specs.Spelling.{Spells}
 use Rattle.vol_spell.specs.Owning.{IsClusterOf, IsNumberOf, EachIsOwned}
-use Rattle.vol_spell.proofs.Parts.{told}
+use Rattle.vol_spell.proofs.Parts.{told, own_number, in_use}
 
 -- a bit that is set exactly where nobody is the owner
 bit_is : (t : Bool) (o : Owner) → ((t ≡ true) ↔ (Some o ≡ Some Free)) → t ≡ is_same_owner Free o
@@ -44,6 +44,10 @@ of_owner A x q o p at h = ((λ a. sym at ∙ h.0 a), (λ e. h.1 (at ∙ e)))
 same_owner : (A : Type 0) (o p : Owner) → (A ↔ (Some o ≡ Some p)) → (A ↔ (o ≡ p))
 same_owner A o p h = ((λ a. let e : Some o ≡ Some p = h.0 a in cc), (λ e. h.1 (ap (λ x. Some x) e)))
 
+-- of two things the first holds anyway
+of_number : (A B C : Type 0) → B → (A ↔ (B × C)) → (A ↔ C)
+of_number A B C b h = ((λ a. (h.0 a).1), (λ x. h.1 (b, x)))
+
 module _ (g : Geometry) (bs : List Block) (own : Owners) (c : Cat) (s : Spells g bs own c) where
   cluster_of : (q : ℕ) (o : Owner) → q < total_of g → slice_get own.clusters q ≡ Some o → IsClusterOf g bs q o
   cluster_of q o lt at = record {
@@ -56,8 +60,9 @@ module _ (g : Geometry) (bs : List Block) (own : Owners) (c : Cat) (s : Spells g
   number_of : (n : ℕ) (o : Owner) → IsFileNumber g n → slice_get own.numbers (n - 1) ≡ Some o → IsNumberOf g bs n o
   number_of n o is at = record {
     bit = bit_is_not (number_bit g bs n) o (of_owner _ own.numbers (n - 1) o Free at (s.owners.number_bits n is));
-    file = same_owner _ o (InFile n) (of_owner _ own.numbers (n - 1) o (InFile n) at (told g bs own c s n is).used);
-    known = λ m e. let k = s.owners.known_numbers (n - 1) m (at ∙ ap (λ x. Some x) e) in let a = is.from in omega arith;
+    file = same_owner _ o (InFile n) (of_owner _ own.numbers (n - 1) o (InFile n) at (in_use g bs own c s n is));
+    slots = λ m is_m. same_owner _ o (InFile m) (of_owner _ own.numbers (n - 1) o (InFile m) at (of_number _ _ _ is ((told g bs own c s m is_m).slots n)));
+    known = λ m e. let k = own_number g bs own c s (n - 1) m (at ∙ ap (λ x. Some x) e) in let a = is.from in omega arith;
   }
 
 pub each_is_owned : EachIsOwned

@@ -1,12 +1,14 @@
 -- Where the parts of a volume lie.
-use Rattle.std.proofs.Common.{◌≡◌, ◌≢◌, ◌<◌, ◌≤◌, ◌+◌, ◌*◌, ◌-◌, ◌/◌, ℕ, Bool, true, false, List, Option, Some, None, slice_get, get_or, refl, sym, ap, subst, ◌∙◌, arith, cond}
-use Rattle.std.specs.Prelude.{◌==◌}
+use Rattle.std.proofs.Common.{◌≡◌, ◌≢◌, ◌<◌, ◌≤◌, ◌+◌, ◌*◌, ◌-◌, ◌/◌, ℕ, Bool, true, false, List, ◌∷◌, Option, Some, None, slice_get, get_or, refl, sym, ap, subst, ◌∙◌, inl, inr, arith, cond}
+use Rattle.std.specs.Prelude.{◌==◌, ◌↔◌, is_some}
 use Rattle.std.proofs.lemmas.Bool.Decides.{nat_tests}
-use Rattle.std.proofs.lemmas.Option.{slice_get-get_or}
+use Rattle.std.proofs.lemmas.Option.{slice_get-get_or, slice_get_within}
 use Rattle.vol_words.specs.Fields.{Block}
 use Rattle.fx_header.specs.declared.run.Run.{Run}
+use Rattle.fx_header.specs.declared.slot.Hdr.{Hdr}
 use Rattle.fx_header.specs.Pointers.{lbns_in}
 use Rattle.plain_cat.specs.declared.cat.Cat.{Cat}
+use Rattle.plain_cat.specs.declared.cat.Slot.{Slot}
 use Rattle.plain_cat.specs.declared.cat.Slot.TheVariants as slot
 use Rattle.vol_owners.specs.declared.owner.Owner.TheVariants.{InFile}
 use Rattle.vol_owners.specs.Lists.{Has}
@@ -15,8 +17,9 @@ use Rattle.vol_parts.specs.declared.geometry.Geometry.{Geometry}
 use Rattle.vol_parts.specs.declared.geometry.Part.{Part}
 use Rattle.vol_parts.specs.declared.geometry.Part.TheVariants.{Header, IndexBitmap, Storage, Quota}
 use Rattle.vol_parts.specs.Parts.{part_of, is_among, storage_blocks}
+use Rattle.vol_parts.specs.Volumes.{slots_with}
 use Rattle.vol_parts.specs.Fatal.{in_whole_clusters}
-use Rattle.vol_spell.specs.Reading.{IsFileNumber, total_of, owner_at, header_block, body_blocks, runs_told}
+use Rattle.vol_spell.specs.Reading.{IsFileNumber, total_of, owner_at, header_block, fields_told, told_of, body_blocks}
 use Rattle.vol_spell.specs.Places.{place_of, IsPart, file_of_part, ArePartsOf}
 use Rattle.vol_spell.specs.Spelling.{Tells, IsStructure, Spells}
 use Rattle.vol_spell.proofs.Runs.{has_cluster, in_one_run}
@@ -79,20 +82,64 @@ differ a b e f = grind (arith, nat_tests)
 pub room : (f k x : ℕ) → 1 ≤ f → x < k → x < f * in_whole_clusters f k
 room f k x low lt = omega arith
 
+-- ---- header slots: a file has one, its own, where it is in use
+
+pub slot_is_own : (o : Option Hdr) (n m : ℕ) → Has (slots_with o n) m → (m ≡ n) × (is_some o ≡ true)
+slot_is_own None n m t = absurd t
+slot_is_own (Some f) n m t = elim t [ inl e ↦ (sym e, refl) | inr none ↦ absurd none ]
+
+pub own_slot_there : (o : Option Hdr) (n : ℕ) → is_some o ≡ true → Has (slots_with o n) n
+own_slot_there None n e = absurd (let f : false ≡ true = e in cc)
+own_slot_there (Some f) n e = inl refl
+
+pub one_slot : (g : Geometry) (bs : List Block) (n m : ℕ) → Has (told_of g bs n).slots m → m ≡ n
+one_slot g bs n m t = (slot_is_own (fields_told (header_block g bs n)) n m t).0
+
+-- and of the number of a file and its header slots
+pub one_head : (g : Geometry) (bs : List Block) (n m : ℕ) → Has (n ∷ (told_of g bs n).slots) m → m ≡ n
+one_head g bs n m t = elim t [ inl e ↦ sym e | inr u ↦ one_slot g bs n m u ]
+
+-- the number is the file's where the header is in use
+pub used_of : (g : Geometry) (own : Owners) (bs : List Block) (n : ℕ) (blocks : List Block) (s : Slot) → IsFileNumber g n → Tells g own n (told_of g bs n) blocks s
+    → (is_some (fields_told (header_block g bs n)) ≡ true) ↔ (slice_get own.numbers (n - 1) ≡ Some (InFile n))
+used_of g own bs n blocks s is t = (
+  (λ used. ((t.slots n).0 (own_slot_there (fields_told (header_block g bs n)) n used)).1),
+  (λ e. (slot_is_own (fields_told (header_block g bs n)) n n ((t.slots n).1 (is, e))).1),
+)
+
 module _ (g : Geometry) (bs : List Block) (own : Owners) (c : Cat) (s : Spells g bs own c) where
   pub low : 1 ≤ g.cluster
   low = s.counts.geometry.cluster_from
 
-  -- a number has a slot, and its header tells it
+  -- a number has a slot, and what is told of its file tells it
   pub slot_there : (n : ℕ) → IsFileNumber g n → slice_get c.files (n - 1) ≡ Some (get_or c.files (n - 1) (slot.Free 0))
   slot_there n is = let a = is.from in let b = is.to in let e = s.counts.slots in slice_get-get_or c.files (n - 1) (slot.Free 0) (omega arith)
 
-  pub told : (n : ℕ) → IsFileNumber g n → Tells g own n (header_block g bs n) (body_blocks bs n (header_block g bs n)) (get_or c.files (n - 1) (slot.Free 0))
+  pub told : (n : ℕ) → IsFileNumber g n → Tells g own n (told_of g bs n) (body_blocks bs n (told_of g bs n)) (get_or c.files (n - 1) (slot.Free 0))
   told n is = s.files n (get_or c.files (n - 1) (slot.Free 0)) is (slot_there n is)
 
   -- the blocks of a file lie in its clusters
-  pub in_file : (n l : ℕ) → IsFileNumber g n → Has (lbns_in (runs_told (header_block g bs n))) l → owner_at g own l ≡ Some (InFile n)
-  in_file n l is t = let h = told n is in (h.runs (l / g.cluster)).0 (has_cluster g (header_block g bs n) l low h.whole t)
+  pub in_file : (n l : ℕ) → IsFileNumber g n → Has (lbns_in (told_of g bs n).runs) l → owner_at g own l ≡ Some (InFile n)
+  in_file n l is t = let h = told n is in (h.runs (l / g.cluster)).0 (has_cluster g (told_of g bs n) l low h.whole t)
+
+  -- a header slot of a file has a number
+  pub slot_number : (n m : ℕ) → IsFileNumber g n → Has (told_of g bs n).slots m → IsFileNumber g m
+  slot_number n m is t = (((told n is).slots m).0 t).0
+
+  -- a file that has a number has its own
+  pub own_number : (i n : ℕ) → slice_get own.numbers i ≡ Some (InFile n) → n ≡ i + 1
+  own_number i n e =
+      let is = s.owners.known_numbers i n e in
+      let lt = slice_get_within own.numbers i (InFile n) e in
+      let len = s.counts.numbers in
+      let m : IsFileNumber g (i + 1) = record { from = omega arith; to = omega arith } in
+      let back : i + 1 - 1 ≡ i = omega arith in
+      let has = ((told n is).slots (i + 1)).1 (m, ap (slice_get own.numbers) back ∙ e) in
+      sym (one_slot g bs n (i + 1) has)
+
+  -- a number is its file's exactly where its header is in use
+  pub in_use : (n : ℕ) → IsFileNumber g n → (is_some (fields_told (header_block g bs n)) ≡ true) ↔ (slice_get own.numbers (n - 1) ≡ Some (InFile n))
+  in_use n is = let t = told n is in used_of g own bs n (body_blocks bs n (told_of g bs n)) (get_or c.files (n - 1) (slot.Free 0)) is t
 
   pub in_structure : (n : ℕ) (r : Run) → IsFileNumber g n → IsStructure g bs n r → (l : ℕ) → r.lbn ≤ l → l < r.lbn + r.count → owner_at g own l ≡ Some (InFile n)
   in_structure n r is st l lo hi = in_file n l is (let P : List Run → Type 0 = λ rs. Has (lbns_in rs) l in subst P (sym st.run) (in_one_run r l lo hi))

@@ -1,7 +1,6 @@
 -- Runs, their clusters and their blocks.
 use Rattle.std.proofs.Common.{◌≡◌, ◌<◌, ◌≤◌, ◌+◌, ◌*◌, ◌/◌, ◌%◌, ℕ, zero, suc, List, [], ◌∷◌, ◌++◌, refl, sym, ap, subst, ◌∙◌, arith}
 use Rattle.std.specs.List.{range_with_len}
-use Rattle.vol_words.specs.Fields.{Block}
 use Rattle.fx_header.specs.declared.run.Run.{Run}
 use Rattle.fx_header.specs.Pointers.{lbns_in}
 use Rattle.vol_owners.specs.Lists.{Has, Once}
@@ -9,7 +8,8 @@ use Rattle.vol_owners.specs.Places.{spread}
 use Rattle.vol_owners.proofs.Placing.{spread_joined, spread_in, spread_once, ranged_has}
 use Rattle.vol_owners.proofs.Listing.{has_first}
 use Rattle.vol_parts.specs.declared.geometry.Geometry.{Geometry}
-use Rattle.vol_spell.specs.Reading.{runs_told, clusters_of, clusters_told}
+use Rattle.vol_parts.specs.Volumes.{Told}
+use Rattle.vol_spell.specs.Reading.{clusters_of, clusters_told}
 use Rattle.vol_spell.specs.Spelling.{AreWhole}
 
 range_joined : (a j k : ℕ) → range_with_len a (j + k) ≡ range_with_len a j ++ range_with_len (a + j) k
@@ -47,16 +47,16 @@ lbns_spread g (r ∷ rs) low w =
     ∙ sym (spread_joined f (range_with_len (r.lbn / f) (r.count / f)) (clusters_of f rs))
 
 -- a block of a file lies in one of its clusters
-pub has_cluster : (g : Geometry) (b : Block) (l : ℕ) → 1 ≤ g.cluster → AreWhole g (runs_told b) → Has (lbns_in (runs_told b)) l → Has (clusters_told g b) (l / g.cluster)
-has_cluster g b l low w t =
+pub has_cluster : (g : Geometry) (t : Told) (l : ℕ) → 1 ≤ g.cluster → AreWhole g t.runs → Has (lbns_in t.runs) l → Has (clusters_told g t) (l / g.cluster)
+has_cluster g t l low w has =
     let P : List ℕ → Type 0 = λ ls. Has ls l in
-    spread_in g.cluster (clusters_told g b) l (subst P (lbns_spread g (runs_told b) low w) t)
+    spread_in g.cluster (clusters_told g t) l (subst P (lbns_spread g t.runs low w) has)
 
 -- and is listed once
-pub lbns_once : (g : Geometry) (b : Block) → 1 ≤ g.cluster → AreWhole g (runs_told b) → Once (clusters_told g b) → Once (lbns_in (runs_told b))
-lbns_once g b low w once =
+pub lbns_once : (g : Geometry) (t : Told) → 1 ≤ g.cluster → AreWhole g t.runs → Once (clusters_told g t) → Once (lbns_in t.runs)
+lbns_once g t low w once =
     let P : List ℕ → Type 0 = λ ls. Once ls in
-    subst P (sym (lbns_spread g (runs_told b) low w)) (spread_once g.cluster (clusters_told g b) once)
+    subst P (sym (lbns_spread g t.runs low w)) (spread_once g.cluster (clusters_told g t) once)
 
 -- a block of a single run
 pub in_one_run : (r : Run) (l : ℕ) → r.lbn ≤ l → l < r.lbn + r.count → Has (lbns_in (r ∷ [])) l

@@ -22,10 +22,10 @@ use Rattle.vol_owners.specs.Owners.{Owners}
 use Rattle.vol_owners.specs.Places.{blocks_at}
 use Rattle.vol_parts.specs.declared.geometry.Geometry.{Geometry}
 use Rattle.vol_parts.specs.declared.geometry.Part.TheVariants.{Header}
-use Rattle.vol_parts.specs.Volumes.{Volume, factor, header_lbn, header_at, head as head_of, fields_in, runs_with, runs, body, first_lbn, bitmap_lbn, quota_lbn, geometry_of, is_free_cluster, is_used_number, rows_in, active_rows}
+use Rattle.vol_parts.specs.Volumes.{Volume, factor, header_lbn, header_at, head as head_of, fields_in, runs_with, told_by as told_by_head, told as told_in, runs, body, first_lbn, bitmap_lbn, quota_lbn, geometry_of, is_free_cluster, is_used_number, rows_in, active_rows}
 use Rattle.vol_parts.specs.Catalogues.{is_structure, slot_with, slot_of, files_of, rows_sorted, written_blocks, entries_in, plain_entries}
 use Rattle.vol_parts.specs.Fatal.{is_system_header, system_seq, is_system_directory}
-use Rattle.vol_spell.specs.Reading.{IsFileNumber, volume_of, header_place, header_block, fields_told, runs_told, body_blocks, number_bit, quota_places, rows_told}
+use Rattle.vol_spell.specs.Reading.{IsFileNumber, volume_of, header_place, header_block, header_tells, told_of, fields_told, runs_told, body_blocks, number_bit, quota_places, rows_told}
 use Rattle.vol_spell.specs.Spelling.{Spells}
 use Rattle.vol_spell.specs.Telling.{IsToldBy, VolumeTells}
 use Rattle.vol_spell.proofs.Parts.{slot_there, told, part_owned}
@@ -44,6 +44,9 @@ map_range_is f a (suc k) (x ∷ xs) len each =
 pub head_there : (v : Volume) (n : ℕ) → header_lbn v n < length v.blocks → head_of v n ≡ header_read (header_at v n)
 unfolding head_of
 head_there v n lt = rw (lt-ltb (header_lbn v n) (length v.blocks) lt) refl
+
+pub told_there : (v : Volume) (n : ℕ) → head_of v n ≡ header_read (header_at v n) → told_in v n ≡ header_tells n (header_at v n)
+told_there v n e = ap (λ r. told_by_head n r (header_at v n)) e
 
 pub runs_there : (v : Volume) (n : ℕ) → head_of v n ≡ header_read (header_at v n) → runs v n ≡ runs_told (header_at v n)
 unfolding runs
@@ -105,15 +108,18 @@ which_structure n e = elim (same_or_not n 1) [
 
 -- the blocks of a file, as its slot tells of them
 pub seen : (g : Geometry) (bs : List Block) (n : ℕ) (b : Block) → (is_structure n ≡ true → is_system_header n (fields_told b) ≡ true)
-    → slot_with g.cluster n (header_read b) (blocks_at bs (lbns_in (runs_told b))) ≡ slot_with g.cluster n (header_read b) (body_blocks bs n b)
+    → slot_with g.cluster n (header_read b) (blocks_at bs (lbns_in (runs_told b))) ≡ slot_with g.cluster n (header_read b) (body_blocks bs n (header_tells n b))
 seen g bs n b system = by_kind (is_structure n) refl where
-  by_kind : (k : Bool) → is_structure n ≡ k → slot_with g.cluster n (header_read b) (blocks_at bs (lbns_in (runs_told b))) ≡ slot_with g.cluster n (header_read b) (body_blocks bs n b)
+  by_kind : (k : Bool) → is_structure n ≡ k → slot_with g.cluster n (header_read b) (blocks_at bs (lbns_in (runs_told b))) ≡ slot_with g.cluster n (header_read b) (body_blocks bs n (header_tells n b))
   by_kind true e = blind g.cluster n (header_read b) _ _ e (no_directory n e) (system e)
   by_kind false e = ap (λ t. slot_with g.cluster n (header_read b) (blocks_at bs (cond t [] (lbns_in (runs_told b))))) (sym e)
 
 module _ (g : Geometry) (bs : List Block) (own : Owners) (c : Cat) (s : Spells g bs own c) where
   v_head : (n : ℕ) → IsFileNumber g n → head_of (volume_of g bs) n ≡ header_read (header_block g bs n)
   v_head n is = head_there (volume_of g bs) n (on_volume g bs own c s (header_place g n) (InFile 1) (part_owned g bs own c s (Header n) is))
+
+  v_told : (n : ℕ) → IsFileNumber g n → told_in (volume_of g bs) n ≡ told_of g bs n
+  v_told n is = told_there (volume_of g bs) n (v_head n is)
 
   v_runs : (n : ℕ) → IsFileNumber g n → runs (volume_of g bs) n ≡ runs_told (header_block g bs n)
   v_runs n is = runs_there (volume_of g bs) n (v_head n is)
@@ -160,6 +166,7 @@ module _ (g : Geometry) (bs : List Block) (own : Owners) (c : Cat) (s : Spells g
   told_by = record {
     geometry = v_geometry;
     heads = v_head;
+    told = v_told;
     runs = v_runs;
     bodies = v_body;
     cluster_bits = λ q. free_cluster_at (volume_of g bs) q g.bitmap_lbn v_bitmap;

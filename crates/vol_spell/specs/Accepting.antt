@@ -1,6 +1,6 @@
 -- The owners that the blocks of a volume tell where nobody holds anything outside, and that a volume with no fatal finding
 -- spells its catalogue with them.
-use Rattle.std.specs.Prelude.{◌≡◌, ◌≤◌, not, ℕ, List, Option, Some, None, Ok, is_some, length, map, if◌then◌else◌}
+use Rattle.std.specs.Prelude.{◌≡◌, ◌≤◌, not, ℕ, List, Option, Some, None, Ok, length, map, if◌then◌else◌}
 use Rattle.std.specs.List.{range_with_len, find}
 use Rattle.vol_words.specs.Fields.{Block, AreWholeBlocks}
 use Rattle.fx_home.specs.declared.home.Home.{Home}
@@ -9,7 +9,7 @@ use Rattle.plain_cat.specs.declared.cat.Cat.{Cat}
 use Rattle.vol_owners.specs.declared.owner.Owner.{Owner}
 use Rattle.vol_owners.specs.declared.owner.Owner.TheVariants.{Free, InFile, Leaked}
 use Rattle.vol_owners.specs.Owners.{Owners, Outs, nothing}
-use Rattle.vol_parts.specs.Volumes.{Volume, volume, total, numbers, fields, is_in_file, is_free_cluster, is_used_number, geometry_of}
+use Rattle.vol_parts.specs.Volumes.{Volume, volume, total, numbers, is_slot_of, is_in_file, is_free_cluster, is_used_number, geometry_of}
 use Rattle.vol_parts.specs.Findings.{home_at, CatOf}
 use Rattle.vol_spell.specs.Spelling.{Spells}
 
@@ -21,9 +21,9 @@ owner_found (Some n) = InFile n
 unfoldable pub cluster_owner : Volume → ℕ → Owner
 cluster_owner v q = if is_free_cluster v q then Free else owner_found (find (is_in_file v q) (numbers v))
 
--- a number is free by its bit, else its file's where its header is in use, else leaked
+-- a number is free by its bit, else of the first file that has it for a header slot, else leaked
 unfoldable pub number_owner : Volume → ℕ → Owner
-number_owner v n = if not (is_used_number v n) then Free else if is_some (fields v n) then InFile n else Leaked
+number_owner v m = if not (is_used_number v m) then Free else owner_found (find (is_slot_of v m) (numbers v))
 
 abbrev pub owners_told : Volume → Owners
 owners_told v = record { clusters = map (cluster_owner v) (range_with_len 0 (total v)); numbers = map (number_owner v) (numbers v) }

@@ -8,7 +8,7 @@ use Rattle.vol_parts.specs.declared.geometry.Geometry.{Geometry}
 use Rattle.vol_parts.specs.Parts.{part_of}
 use Rattle.vol_parts.specs.Catalogues.{is_structure}
 use Rattle.plain_cat.specs.declared.cat.Cat.{Cat}
-use Rattle.vol_spell.specs.Reading.{IsFileNumber, owner_at, header_block, body_places}
+use Rattle.vol_spell.specs.Reading.{IsFileNumber, owner_at, told_of, body_places}
 use Rattle.vol_spell.specs.Places.{ArePartsOf}
 use Rattle.vol_spell.specs.Spelling.{Spells}
 
@@ -25,5 +25,5 @@ pub record IsOfBody (g : Geometry) (bs : List Block) (own : Owners) (n l : ℕ) 
 
 -- the blocks of each file are so, and none is listed twice
 pub record BodiesLieApart : Type 0 where
-  pub each : (g : Geometry) (bs : List Block) (own : Owners) (c : Cat) (n l : ℕ) → Spells g bs own c → IsFileNumber g n → Has (body_places n (header_block g bs n)) l → IsOfBody g bs own n l
-  pub once : (g : Geometry) (bs : List Block) (own : Owners) (c : Cat) (n : ℕ) → Spells g bs own c → IsFileNumber g n → Once (body_places n (header_block g bs n))
+  pub each : (g : Geometry) (bs : List Block) (own : Owners) (c : Cat) (n l : ℕ) → Spells g bs own c → IsFileNumber g n → Has (body_places n (told_of g bs n)) l → IsOfBody g bs own n l
+  pub once : (g : Geometry) (bs : List Block) (own : Owners) (c : Cat) (n : ℕ) → Spells g bs own c → IsFileNumber g n → Once (body_places n (told_of g bs n))

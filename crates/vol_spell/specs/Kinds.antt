@@ -1,21 +1,21 @@
 -- The kinds of writes, and the death of a node. Each takes blocks that spell a catalogue to blocks that spell one, whatever the
 -- whole block that is written, if it reads as the kind says.
-use Rattle.std.specs.Prelude.{◌≡◌, ◌≤◌, ◌+◌, ◌<◌, ◌-◌, ◌↔◌, ℕ, true, false, List, Some, None, map, count_by, slice_get, slice_set}
+use Rattle.std.specs.Prelude.{◌≡◌, ◌≤◌, ◌<◌, ◌-◌, ◌↔◌, ℕ, true, false, List, Some, None, map, count_by, slice_get, slice_set}
 use Rattle.vol_words.specs.Fields.{Block, IsWholeBlock}
-use Rattle.fx_header.specs.Headers.{header_read}
 use Rattle.plain_cat.specs.declared.cat.Cat.{Cat}
 use Rattle.plain_cat.specs.declared.cat.Slot.{Slot}
 use Rattle.plain_vol.specs.Lookups.{clusters_in}
 use Rattle.plain_vol.specs.Changes.{with_slot}
-use Rattle.vol_owners.specs.declared.owner.Owner.TheVariants.{Free, InFile, Outside, Leaked}
+use Rattle.vol_owners.specs.declared.owner.Owner.TheVariants.{Free, Outside, Leaked}
 use Rattle.vol_owners.specs.Lists.{Once}
 use Rattle.vol_owners.specs.Owners.{Owners, Moves, OwnersMove, IsFileMove, IsSpaceMove, IsDeathMove}
 use Rattle.vol_owners.specs.Counts.{is_same_owner}
 use Rattle.vol_parts.specs.declared.geometry.Geometry.{Geometry}
 use Rattle.vol_parts.specs.declared.geometry.Part.TheVariants.{IndexBitmap, Storage, Quota}
 use Rattle.vol_parts.specs.Parts.{part_of}
+use Rattle.vol_parts.specs.Volumes.{fields_in}
 use Rattle.vol_parts.specs.Catalogues.{is_structure, slot_with, rows_sorted}
-use Rattle.vol_spell.specs.Reading.{IsFileNumber, total_of, owner_at, header_place, header_block, fields_told, runs_told, body_places, body_blocks, cluster_bit, number_bit, rows_told}
+use Rattle.vol_spell.specs.Reading.{IsFileNumber, total_of, owner_at, header_place, told_of, body_places, body_blocks, cluster_bit, number_bit, rows_told}
 use Rattle.vol_spell.specs.Spelling.{Tells, dir_found, Spells}
 
 -- a block in no file and no bitmap, which a node holds: nothing changes
@@ -45,30 +45,30 @@ IndexWrite = (g : Geometry) (bs : List Block) (own new : Owners) (c : Cat) (node
     → ((n : ℕ) → IsFileNumber g n → (number_bit g (slice_set bs l b) n ≡ false) ↔ (slice_get new.numbers (n - 1) ≡ Some Free))
     → Spells g (slice_set bs l b) new c
 
--- The new header of file n by a node: what the file gets was outside at the node, and what it loses goes there, and of the
--- numbers the file has its own alone. With the blocks that it names the header tells the slot s, where a file that is counted
--- as reserved keeps its number of clusters.
-pub record IsHeaderFor (g : Geometry) (bs : List Block) (node n : ℕ) (own new : Owners) (c : Cat) (b : Block) (s : Slot) : Type 0 where
+-- The block b in header slot m of file n, whose only slot is its own, by a node: what the file gets was outside at the node, and
+-- what it loses goes there. With it and the blocks that are named then the file tells the slot s, where a file that is counted as
+-- reserved keeps its number of clusters.
+pub record IsHeaderFor (g : Geometry) (bs : List Block) (node n m : ℕ) (own new : Owners) (c : Cat) (b : Block) (s : Slot) : Type 0 where
   pub whole : IsWholeBlock b
   pub number : IsFileNumber g n
+  pub own_slot : m ≡ n
   pub plain : is_structure n ≡ false
   pub moves : OwnersMove (IsFileMove node n) own new
-  pub named : (i : ℕ) → slice_get new.numbers i ≡ Some (InFile n) → n ≡ i + 1
-  pub tells : Tells g new n b (body_blocks bs n b) s
+  pub tells : let t = told_of g (slice_set bs (header_place g m) b) n in Tells g new n t (body_blocks bs n t) s
   pub reserved : (old : Slot) → n ≤ 11 → slice_get c.files (n - 1) ≡ Some old → clusters_in s ≡ clusters_in old
 
 -- a header: one slot changes
 abbrev pub HeaderWrite : Type 0
-HeaderWrite = (g : Geometry) (bs : List Block) (own new : Owners) (c : Cat) (node n : ℕ) (b : Block) (s : Slot) → Spells g bs own c → IsHeaderFor g bs node n own new c b s
-    → Spells g (slice_set bs (header_place g n) b) new (with_slot c n s)
+HeaderWrite = (g : Geometry) (bs : List Block) (own new : Owners) (c : Cat) (node n m : ℕ) (b : Block) (s : Slot) → Spells g bs own c → IsHeaderFor g bs node n m own new c b s
+    → Spells g (slice_set bs (header_place g m) b) new (with_slot c n s)
 
 -- The block v, from 0, of file n, which stands at l: with it the file's blocks tell the slot s, and a directory can be read.
 pub record IsBodyFor (g : Geometry) (bs : List Block) (n v l : ℕ) (b : Block) (s : Slot) : Type 0 where
   pub whole : IsWholeBlock b
   pub number : IsFileNumber g n
-  pub place : slice_get (body_places n (header_block g bs n)) v ≡ Some l
-  pub dir : dir_found g n (fields_told (header_block g bs n)) (runs_told (header_block g bs n)) (slice_set (body_blocks bs n (header_block g bs n)) v b) ≡ None
-  pub slot : slot_with g.cluster n (header_read (header_block g bs n)) (slice_set (body_blocks bs n (header_block g bs n)) v b) ≡ s
+  pub place : slice_get (body_places n (told_of g bs n)) v ≡ Some l
+  pub dir : let t = told_of g bs n in dir_found g n (fields_in t.head) t.runs (slice_set (body_blocks bs n t) v b) ≡ None
+  pub slot : let t = told_of g bs n in slot_with g.cluster n t.head (slice_set (body_blocks bs n t) v b) ≡ s
 
 -- a block of a file: its slot changes
 abbrev pub BodyWrite : Type 0

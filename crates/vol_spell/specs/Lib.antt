@@ -10,3 +10,4 @@ pub mod Telling
 pub mod Accepting
 pub mod Fully
 pub mod Packing
+pub mod Forms

@@ -8,22 +8,24 @@ use Rattle.vol_owners.specs.Lists.{Has, Once}
 use Rattle.vol_owners.specs.Owners.{Owners}
 use Rattle.vol_owners.specs.Counts.{is_same_owner}
 use Rattle.vol_parts.specs.declared.geometry.Geometry.{Geometry}
-use Rattle.vol_spell.specs.Reading.{IsFileNumber, total_of, header_block, fields_told, clusters_told, cluster_bit, number_bit}
+use Rattle.vol_spell.specs.Reading.{IsFileNumber, total_of, header_block, told_of, fields_told, clusters_told, cluster_bit, number_bit}
 use Rattle.vol_spell.specs.Spelling.{Spells}
 
 -- Cluster q is of owner o alone: its bit is set exactly where o is nobody, and it is in the runs of a file exactly where o is
 -- that file. Where o is a node or it is leaked, the bit is clear and no file has it.
 pub record IsClusterOf (g : Geometry) (bs : List Block) (q : ℕ) (o : Owner) : Type 0 where
   pub bit : cluster_bit g bs q ≡ is_same_owner Free o
-  pub files : (n : ℕ) → IsFileNumber g n → Has (clusters_told g (header_block g bs n)) q ↔ (o ≡ InFile n)
-  pub once : (n : ℕ) → IsFileNumber g n → Once (clusters_told g (header_block g bs n))
+  pub files : (n : ℕ) → IsFileNumber g n → Has (clusters_told g (told_of g bs n)) q ↔ (o ≡ InFile n)
+  pub once : (n : ℕ) → IsFileNumber g n → Once (clusters_told g (told_of g bs n))
   pub known : (n : ℕ) → o ≡ InFile n → IsFileNumber g n
 
--- Number n is of owner o alone: its bit is clear exactly where o is nobody, and its header is in use exactly where o is its
--- file. Where o is a node or it is leaked, the bit is set and the header is free.
+-- Number n is of owner o alone: its bit is clear exactly where o is nobody, its header is in use exactly where o is its file, and
+-- it is among the header slots of a file exactly where o is that file. Where o is a node or it is leaked, the bit is set and the
+-- header is free.
 pub record IsNumberOf (g : Geometry) (bs : List Block) (n : ℕ) (o : Owner) : Type 0 where
   pub bit : number_bit g bs n ≡ not (is_same_owner Free o)
   pub file : (is_some (fields_told (header_block g bs n)) ≡ true) ↔ (o ≡ InFile n)
+  pub slots : (m : ℕ) → IsFileNumber g m → Has (told_of g bs m).slots n ↔ (o ≡ InFile m)
   pub known : (m : ℕ) → o ≡ InFile m → m ≡ n
 
 -- each cluster and each number has one owner

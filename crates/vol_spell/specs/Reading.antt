@@ -12,7 +12,7 @@ use Rattle.vol_owners.specs.declared.owner.Owner.{Owner}
 use Rattle.vol_owners.specs.Owners.{Owners}
 use Rattle.vol_owners.specs.Places.{blocks_at}
 use Rattle.vol_parts.specs.declared.geometry.Geometry.{Geometry}
-use Rattle.vol_parts.specs.Volumes.{Volume, volume, fields_in, runs_with, rows_in}
+use Rattle.vol_parts.specs.Volumes.{Volume, volume, fields_in, Told, runs_with, told_by, rows_in}
 use Rattle.vol_parts.specs.Catalogues.{is_structure}
 
 -- the blocks as a volume of this geometry; its label plays no part
@@ -53,18 +53,26 @@ runs_told b = runs_with (fields_told b) b
 abbrev pub clusters_of : ℕ → List Run → List ℕ
 clusters_of factor runs = flat_map (λ r. range_with_len (r.lbn / factor) (r.count / factor)) runs
 
--- the clusters that a header tells
-abbrev pub clusters_told : Geometry → Block → List ℕ
-clusters_told g b = clusters_of g.cluster (runs_told b)
+-- what the header b alone tells of the file of number n
+abbrev pub header_tells : ℕ → Block → Told
+header_tells n b = told_by n (header_read b) b
 
--- The places of a file's blocks that the catalogue tells of, from its header. Those of the files 1, 2 and 10 are parts of the
--- volume, of which no file's slot tells.
-abbrev pub body_places : ℕ → Block → List ℕ
-body_places n b = if is_structure n then [] else lbns_in (runs_told b)
+-- what the blocks tell of the file of a number
+abbrev pub told_of : Geometry → List Block → ℕ → Told
+told_of g bs n = header_tells n (header_block g bs n)
+
+-- the clusters of a file, by what is told of it
+abbrev pub clusters_told : Geometry → Told → List ℕ
+clusters_told g t = clusters_of g.cluster t.runs
+
+-- The places of a file's blocks that the catalogue tells of, by what is told of the file. Those of the files 1, 2 and 10 are
+-- parts of the volume, of which no file's slot tells.
+abbrev pub body_places : ℕ → Told → List ℕ
+body_places n t = if is_structure n then [] else lbns_in t.runs
 
 -- and the blocks there
-abbrev pub body_blocks : List Block → ℕ → Block → List Block
-body_blocks bs n b = blocks_at bs (body_places n b)
+abbrev pub body_blocks : List Block → ℕ → Told → List Block
+body_blocks bs n t = blocks_at bs (body_places n t)
 
 -- ---- bits and rows
 

@@ -1,5 +1,5 @@
 -- Blocks that spell a catalogue, with one owner for each cluster and each file number.
-use Rattle.std.specs.Prelude.{◌≡◌, ◌≤◌, ◌<◌, ◌+◌, ◌*◌, ◌-◌, ◌%◌, ◌↔◌, not, ℕ, true, false, List, [], ◌∷◌, Option, Some, None, Result, Ok, Err, is_some, length, map, take, count_by, sum_by, slice_get, slice_index_or, if◌then◌else◌}
+use Rattle.std.specs.Prelude.{◌≡◌, ◌≤◌, ◌<◌, ◌+◌, ◌*◌, ◌-◌, ◌%◌, ◌↔◌, not, ℕ, true, false, List, [], ◌∷◌, Option, Some, None, Result, Ok, Err, length, map, take, count_by, sum_by, slice_get, slice_index_or, if◌then◌else◌}
 use Rattle.vol_words.specs.Fields.{Block, AreWholeBlocks}
 use Rattle.fx_home.specs.declared.home.Home.{Home}
 use Rattle.fx_home.specs.declared.home.HomeFault.{HomeFault}
@@ -9,7 +9,7 @@ use Rattle.fx_header.specs.declared.slot.Hdr.{Hdr}
 use Rattle.fx_header.specs.declared.slot.Slot.{Slot as Head}
 use Rattle.fx_header.specs.declared.slot.Slot.TheVariants as head
 use Rattle.fx_header.specs.declared.slot.HeaderFault.{HeaderFault}
-use Rattle.fx_header.specs.Headers.{header_read}
+use Rattle.fx_header.specs.Pointers.{blocks_in}
 use Rattle.fx_dir.specs.Directory.{directory}
 use Rattle.plain_cat.specs.declared.cat.Cat.{Cat}
 use Rattle.plain_cat.specs.declared.cat.Slot.{Slot}
@@ -22,9 +22,10 @@ use Rattle.vol_parts.specs.declared.finding.Finding.{Finding}
 use Rattle.vol_parts.specs.declared.finding.Finding.TheVariants as finding
 use Rattle.vol_parts.specs.declared.geometry.Geometry.{Geometry}
 use Rattle.vol_parts.specs.Parts.{IsGeometry, storage_blocks}
+use Rattle.vol_parts.specs.Volumes.{fields_in, most_clusters, Told}
 use Rattle.vol_parts.specs.Catalogues.{slot_with, rows_sorted}
 use Rattle.vol_parts.specs.Fatal.{is_system_header, has_dir_size, found_in, in_whole_clusters}
-use Rattle.vol_spell.specs.Reading.{IsFileNumber, total_of, header_block, fields_told, runs_told, clusters_told, body_blocks, cluster_bit, number_bit, rows_told}
+use Rattle.vol_spell.specs.Reading.{IsFileNumber, total_of, told_of, clusters_told, body_blocks, cluster_bit, number_bit, rows_told}
 
 -- ---- a file
 
@@ -50,17 +51,24 @@ dir_found g n None runs blocks = None
 dir_found g n (Some f) runs blocks =
     if not f.dir then None else if has_dir_size g.cluster f runs then found_in n (directory blocks) else Some (finding.DirSize n)
 
--- What the header b of number n and the blocks of its file tell, with the owners as they are: the slot s. The clusters of its
--- runs are those that the file owns, each listed once; the number is the file's where the header is in use; and a directory
--- can be read.
-pub record Tells (g : Geometry) (own : Owners) (n : ℕ) (b : Block) (blocks : List Block) (s : Slot) : Type 0 where
-  pub reads : IsHead n (header_read b)
-  pub whole : AreWhole g (runs_told b)
-  pub once : Once (clusters_told g b)
-  pub runs : (q : ℕ) → Has (clusters_told g b) q ↔ (slice_get own.clusters q ≡ Some (InFile n))
-  pub used : (is_some (fields_told b) ≡ true) ↔ (slice_get own.numbers (n - 1) ≡ Some (InFile n))
-  pub dir : dir_found g n (fields_told b) (runs_told b) blocks ≡ None
-  pub slot : slot_with g.cluster n (header_read b) blocks ≡ s
+-- so many blocks has a file in use by its first header, none where there is no file
+abbrev pub size_in : Option Hdr → ℕ
+size_in (Some f) = f.blocks
+size_in None = 0
+
+-- What is told of the file of number n, and the blocks of the file, tell the slot s, with the owners as they are. The clusters of
+-- its runs are those that the file owns, each listed once, and above number 11 no more than a header lists; its header slots are
+-- the numbers that it owns; its runs have the blocks that its first header says; and a directory can be read.
+pub record Tells (g : Geometry) (own : Owners) (n : ℕ) (t : Told) (blocks : List Block) (s : Slot) : Type 0 where
+  pub reads : IsHead n t.head
+  pub whole : AreWhole g t.runs
+  pub once : Once (clusters_told g t)
+  pub runs : (q : ℕ) → Has (clusters_told g t) q ↔ (slice_get own.clusters q ≡ Some (InFile n))
+  pub few : 11 < n → length (clusters_told g t) ≤ most_clusters
+  pub slots : (m : ℕ) → Has t.slots m ↔ (IsFileNumber g m × (slice_get own.numbers (m - 1) ≡ Some (InFile n)))
+  pub size : blocks_in t.runs ≡ size_in (fields_in t.head)
+  pub dir : dir_found g n (fields_in t.head) t.runs blocks ≡ None
+  pub slot : slot_with g.cluster n t.head blocks ≡ s
 
 -- ---- the volume's own structures
 
@@ -71,8 +79,8 @@ IsHomeOf g (Err fault) = ⊥
 
 -- a system file that holds parts of the volume, in one run
 pub record IsStructure (g : Geometry) (bs : List Block) (n : ℕ) (r : Run) : Type 0 where
-  pub header : is_system_header n (fields_told (header_block g bs n)) ≡ true
-  pub run : runs_told (header_block g bs n) ≡ r ∷ []
+  pub header : is_system_header n (fields_in (told_of g bs n).head) ≡ true
+  pub run : (told_of g bs n).runs ≡ r ∷ []
 
 -- so many clusters that they have so many blocks, from a first one on
 abbrev pub run_for : Geometry → ℕ → ℕ → Run
@@ -119,8 +127,8 @@ pub record AreOwners (g : Geometry) (bs : List Block) (own : Owners) (c : Cat) :
   pub number_bits : (n : ℕ) → IsFileNumber g n → (number_bit g bs n ≡ false) ↔ (slice_get own.numbers (n - 1) ≡ Some Free)
   -- a file that has a cluster has one of the volume's numbers
   pub known : (q n : ℕ) → slice_get own.clusters q ≡ Some (InFile n) → IsFileNumber g n
-  -- a file that has a number has its own
-  pub known_numbers : (i n : ℕ) → slice_get own.numbers i ≡ Some (InFile n) → n ≡ i + 1
+  -- a file that has a number has one of the volume's numbers
+  pub known_numbers : (i n : ℕ) → slice_get own.numbers i ≡ Some (InFile n) → IsFileNumber g n
   -- the leaked clusters are counted
   pub leaked : c.leaked ≡ count_by (is_same_owner Leaked) own.clusters
   -- the leaked numbers are flagged
@@ -136,8 +144,8 @@ pub record Spells (g : Geometry) (bs : List Block) (own : Owners) (c : Cat) : Ty
   pub structures : HasStructures g bs
   -- what no command changes is as the geometry says
   pub constants : HasConstants g c
-  -- the header of each number tells its slot, with the blocks of its file
-  pub files : (n : ℕ) (s : Slot) → IsFileNumber g n → slice_get c.files (n - 1) ≡ Some s → Tells g own n (header_block g bs n) (body_blocks bs n (header_block g bs n)) s
+  -- what is told of each file tells its slot, with the blocks of the file
+  pub files : (n : ℕ) (s : Slot) → IsFileNumber g n → slice_get c.files (n - 1) ≡ Some s → Tells g own n (told_of g bs n) (body_blocks bs n (told_of g bs n)) s
   -- the quota rows are the catalogue's
   pub rows : HasRows g bs c
   -- the owners are those that the bits and the catalogue tell

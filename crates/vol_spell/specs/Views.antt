@@ -1,28 +1,35 @@
 -- What a write leaves of a file's header and blocks, of bits and of rows, and what it makes of them.
-use Rattle.std.specs.Prelude.{◌≡◌, ◌≢◌, ◌-◌, ◌/◌, ◌%◌, ℕ, List, Some, slice_get, slice_set}
+use Rattle.std.specs.Prelude.{◌≡◌, ◌≢◌, ◌-◌, ◌/◌, ◌%◌, ℕ, List, ◌∷◌, Some, slice_get, slice_set}
 use Rattle.vol_words.specs.Fields.{Block}
 use Rattle.fx_bitmap.specs.Bits.{bit_at}
 use Rattle.plain_cat.specs.declared.cat.Cat.{Cat}
 use Rattle.plain_cat.specs.declared.cat.Slot.{Slot}
 use Rattle.vol_owners.specs.declared.owner.Owner.TheVariants.{InFile, Outside}
+use Rattle.vol_owners.specs.Lists.{Has}
 use Rattle.vol_owners.specs.Owners.{Owners}
 use Rattle.vol_owners.specs.Places.{blocks_at}
 use Rattle.vol_parts.specs.declared.geometry.Geometry.{Geometry}
 use Rattle.vol_parts.specs.declared.geometry.Part.{Part}
 use Rattle.vol_parts.specs.declared.geometry.Part.TheVariants.{Header, IndexBitmap, Storage, Quota}
 use Rattle.vol_parts.specs.Parts.{part_of}
-use Rattle.vol_spell.specs.Reading.{IsFileNumber, owner_at, header_place, header_block, body_places, body_blocks, cluster_bit, number_bit, quota_places}
+use Rattle.vol_parts.specs.Volumes.{Told}
+use Rattle.vol_spell.specs.Reading.{IsFileNumber, owner_at, header_place, header_block, header_tells, told_of, body_places, body_blocks, cluster_bit, number_bit, quota_places}
 use Rattle.vol_spell.specs.Spelling.{Spells}
 use Rattle.vol_spell.specs.Kinds.{IsHeaderFor}
 
--- the header of a number has this block, and its file these
-pub record IsFileAt (g : Geometry) (bs : List Block) (n : ℕ) (h : Block) (blocks : List Block) : Type 0 where
-  pub header : header_block g bs n ≡ h
-  pub body : body_blocks bs n (header_block g bs n) ≡ blocks
+-- where none of the blocks in a file's header slots, and in the slot of its number, changes, what is told of the file stays
+abbrev pub ToldStays : Type 0
+ToldStays = (g : Geometry) (bs : List Block) (n l : ℕ) (b : Block) → ((m : ℕ) → Has (n ∷ (told_of g bs n).slots) m → header_place g m ≢ l) → told_of g (slice_set bs l b) n ≡ told_of g bs n
 
--- the header and the blocks of a file are the same in both
+-- the slot of a number has this block, this is told of its file, and the file has these blocks
+pub record IsFileAt (g : Geometry) (bs : List Block) (n : ℕ) (h : Block) (t : Told) (blocks : List Block) : Type 0 where
+  pub header : header_block g bs n ≡ h
+  pub told : told_of g bs n ≡ t
+  pub body : body_blocks bs n (told_of g bs n) ≡ blocks
+
+-- the header of a file, what is told of it, and its blocks are the same in both
 abbrev pub IsSameFile : Geometry → List Block → List Block → ℕ → Type 0
-IsSameFile g bs bs' n = IsFileAt g bs' n (header_block g bs n) (body_blocks bs n (header_block g bs n))
+IsSameFile g bs bs' n = let t = told_of g bs n in IsFileAt g bs' n (header_block g bs n) t (body_blocks bs n t)
 
 -- a write to a place that is not the file's header, nor in its clusters, leaves the file
 abbrev pub OthersStay : Type 0
@@ -36,8 +43,8 @@ PartsStay = (g : Geometry) (bs : List Block) (own : Owners) (c : Cat) (n l : ℕ
 
 -- a write to a place among a file's blocks sets that block
 abbrev pub BodySet : Type 0
-BodySet = (g : Geometry) (bs : List Block) (own : Owners) (c : Cat) (n v l : ℕ) (b : Block) → Spells g bs own c → IsFileNumber g n → slice_get (body_places n (header_block g bs n)) v ≡ Some l
-    → IsFileAt g (slice_set bs l b) n (header_block g bs n) (slice_set (body_blocks bs n (header_block g bs n)) v b)
+BodySet = (g : Geometry) (bs : List Block) (own : Owners) (c : Cat) (n v l : ℕ) (b : Block) → Spells g bs own c → IsFileNumber g n → slice_get (body_places n (told_of g bs n)) v ≡ Some l
+    → let t = told_of g bs n in IsFileAt g (slice_set bs l b) n (header_block g bs n) t (slice_set (body_blocks bs n t) v b)
 
 -- a write to a place that a node holds outside leaves each file
 abbrev pub OutsideStays : Type 0
@@ -46,8 +53,8 @@ OutsideStays = (g : Geometry) (bs : List Block) (own : Owners) (c : Cat) (n node
 
 -- a new header of a file is its header, and leaves the blocks that it names
 abbrev pub HeaderSet : Type 0
-HeaderSet = (g : Geometry) (bs : List Block) (own new : Owners) (c : Cat) (node n : ℕ) (b : Block) (s : Slot) → Spells g bs own c → IsHeaderFor g bs node n own new c b s
-    → IsFileAt g (slice_set bs (header_place g n) b) n b (body_blocks bs n b)
+HeaderSet = (g : Geometry) (bs : List Block) (own new : Owners) (c : Cat) (node n m : ℕ) (b : Block) (s : Slot) → Spells g bs own c → IsHeaderFor g bs node n m own new c b s
+    → IsFileAt g (slice_set bs (header_place g m) b) n b (header_tells n b) (body_blocks bs n (header_tells n b))
 
 -- a block of the storage bitmap tells the bits of its 4,096 clusters, and leaves the others
 pub record IsStorageSet (g : Geometry) (bs bs' : List Block) (k : ℕ) (b : Block) : Type 0 where

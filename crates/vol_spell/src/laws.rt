@@ -3,11 +3,12 @@
 ghost use Rattle.vol_spell.specs.Bodies.{PartsLieApart, BodiesLieApart};
 ghost use Rattle.vol_spell.specs.Owning.{EachIsOwned};
 ghost use Rattle.vol_spell.specs.Kinds.{OutsideWrite, QuotaWrite, StorageWrite, IndexWrite, HeaderWrite, BodyWrite, DeathLeaks};
-ghost use Rattle.vol_spell.specs.Views.{OthersStay, PartsStay, OutsideStays, BodySet, HeaderSet, StorageSet, IndexSet, QuotaSet};
+ghost use Rattle.vol_spell.specs.Views.{ToldStays, OthersStay, PartsStay, OutsideStays, BodySet, HeaderSet, StorageSet, IndexSet, QuotaSet};
 ghost use Rattle.vol_spell.specs.Adding.{ClustersAddUp};
 ghost use Rattle.vol_spell.specs.Telling.{VolumeTells};
 ghost use Rattle.vol_spell.specs.Accepting.{CatalogueIsSpelt};
 ghost use Rattle.vol_spell.specs.Packing.{PackingFits};
+ghost use Rattle.vol_spell.specs.Forms.{SpeltHasOneForm, ReadHasOneForm};
 
 /// Each part of a volume lies in the clusters of its file, apart from all others.
 pub fn parts_lie_apart()
@@ -33,6 +34,11 @@ pub fn volume_tells()
 /// The free clusters, those outside at a node, the leaked ones and those of all files are all clusters of the volume.
 pub fn clusters_add_up()
     ensures { ClustersAddUp }
+{}
+
+/// A write to a place that is none of a file's header slots leaves what is told of the file.
+pub fn told_stays()
+    ensures { ToldStays }
 {}
 
 /// A write to a place that is not a file's header, nor in its clusters, leaves its header and its blocks.
@@ -119,4 +125,11 @@ pub fn catalogue_is_spelt()
 /// Blocks of a directory can be written of entries exactly where the entries of the catalogue fit in as many.
 pub fn packing_fits()
     ensures { PackingFits }
+{}
+
+/// What the blocks of a volume spell, and so the catalogue that is read of it, has the one form of a catalogue: its lists are in
+/// order, with nothing twice.
+pub fn catalogues_have_one_form()
+    ensures spelt { SpeltHasOneForm }
+    ensures read { ReadHasOneForm }
 {}

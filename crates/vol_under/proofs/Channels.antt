@@ -69,9 +69,9 @@ module _ (c : Cat) where
     made d None = refl
     made d (Some k) = refl
 
-  extend_kept : (file : Fid) (blocks : ℕ) → (extend_outcome c file blocks).after.opens ≡ c.opens
+  extend_kept : (file : Fid) (blocks : ℕ) (new : Option ℕ) → (extend_outcome c file blocks new).after.opens ≡ c.opens
   unfolding extend_outcome
-  extend_kept file blocks = by_file (live c file) where
+  extend_kept file blocks new = by_file (live c file) where
     by_file : (f : Option File) → (extend_of c file.num f blocks).after.opens ≡ c.opens
     by_file None = refl
     by_file (Some f) = unless_kept _ _ refl
@@ -181,7 +181,7 @@ command_kept c d n (cmd.Create reg dir name ver blocks owner) None s e = inl (no
 command_kept c d n (cmd.Create reg dir name ver blocks owner) (Some k) s e = inl (making_kept c k _ (create_outcome c dir name ver blocks owner (Some k)) s d (create_kept c dir name ver blocks owner (Some k)) e)
 command_kept c d n (cmd.MkDir reg dir name owner) None s e = inl (none_kept c.opens d e)
 command_kept c d n (cmd.MkDir reg dir name owner) (Some k) s e = inl (making_kept c k _ (mkdir_outcome c dir name owner (Some k)) s d (mkdir_kept c dir name owner (Some k)) e)
-command_kept c d n (cmd.Extend file blocks) new s e = inl (extending_kept c (live c file) blocks (extend_outcome c file blocks) s d (extend_kept c file blocks) e)
+command_kept c d n (cmd.Extend file blocks) new s e = inl (extending_kept c (live c file) blocks (extend_outcome c file blocks new) s d (extend_kept c file blocks new) e)
 command_kept c d n (cmd.Trunc file blocks) new s e = inl (cutting_kept c file.num (live c file) blocks (trunc_outcome c file blocks) s d (trunc_kept c file blocks) e)
 command_kept c d n (cmd.Delete dir name ver) new s e = inl (then_kept c.opens _ (live c dir) d
     (λ f h. then_kept c.opens _ (entry_of (versions name f.entries) ver) d (λ x k. unnaming_kept c dir.num f x (in_use c x.fid) (delete_outcome c dir name ver) s d (delete_kept c dir name ver) k) h) e)

@@ -28,10 +28,11 @@ use Rattle.vol_owners.proofs.Counting.{handing_counts, out_counts}
 use Rattle.vol_parts.specs.declared.geometry.Geometry.{Geometry}
 use Rattle.vol_parts.specs.Volumes.{fields_in}
 use Rattle.vol_parts.specs.Catalogues.{slot_with}
-use Rattle.vol_spell.specs.Reading.{IsFileNumber, header_block, body_blocks}
+use Rattle.vol_spell.specs.Reading.{IsFileNumber, header_block, told_of, body_blocks}
 use Rattle.vol_spell.specs.Spelling.{IsHead, Spells}
 use Rattle.vol_spell.specs.Adding.{is_outside}
 use Rattle.vol_spell.proofs.Adds.{clusters_add_up}
+use Rattle.vol_spell.proofs.Parts.{used_of}
 use Rattle.vol_under.specs.Ending.{OutsideMayLeak}
 
 -- a header that is not in use tells a free slot
@@ -59,8 +60,8 @@ number_free_of g bs own c o i no_file no_leak s at =
     let number : IsFileNumber g (i + 1) = record { from = omega arith; to = omega arith } in
     let here : slice_get c.files i ≡ Some (get_or c.files i (slot.Free 0)) = slice_get-get_or c.files i (slot.Free 0) (omega arith) in
     let t = s.files (i + 1) (get_or c.files i (slot.Free 0)) number (ap (λ k. slice_get c.files k) back ∙ here) in
-    let free : is_free_slot (Some (get_or c.files i (slot.Free 0))) ≡ true = free_slot (i + 1) g.cluster (header_read (header_block g bs (i + 1))) (body_blocks bs (i + 1) (header_block g bs (i + 1))) (get_or c.files i (slot.Free 0)) t.reads
-    (λ used. no_file (i + 1) (let e : Some o ≡ Some (InFile (i + 1)) = sym at ∙ ap (λ k. slice_get own.numbers k) (sym back) ∙ t.used.0 used in cc)) t.slot in
+    let free : is_free_slot (Some (get_or c.files i (slot.Free 0))) ≡ true = free_slot (i + 1) g.cluster (header_read (header_block g bs (i + 1))) (body_blocks bs (i + 1) (told_of g bs (i + 1))) (get_or c.files i (slot.Free 0)) t.reads
+    (λ used. no_file (i + 1) (let e : Some o ≡ Some (InFile (i + 1)) = sym at ∙ ap (λ k. slice_get own.numbers k) (sym back) ∙ (used_of g own bs (i + 1) (body_blocks bs (i + 1) (told_of g bs (i + 1))) (get_or c.files i (slot.Free 0)) number t).0 used in cc)) t.slot in
     let leaked : is_set (slice_get c.leaked_numbers i) ≡ false =
     ap (λ (xs : List Bool). is_set (slice_get xs i)) s.owners.leaked_numbers ∙ ap is_set (slice_get-map (is_same_owner Leaked) own.numbers i) ∙ not_leaked o (slice_get own.numbers i) no_leak at in
     both _ _ (ap (λ (b : Bool). is_free_slot (cond b None (slice_get c.files (i + 1 - 1)))) some ∙ ap (λ k. is_free_slot (slice_get c.files k)) back ∙ ap is_free_slot here ∙ free)

@@ -82,9 +82,9 @@ pub step_kinds : (g : Geometry) (n : ℕ) (cmd : Option Cmd) (locks : List LockN
 step_kinds g n cmd locks c stock = record {
   outside = λ w bs own x s whole owner stage outs. record { stage = stage; spelt = outside_write g bs own x n w.lbn w.block s whole owner; moves = stays own; outs = outs };
   quota = λ w bs own x k s whole part once stage outs. record { stage = stage; spelt = quota_write g bs own x k w.lbn w.block s whole part once; moves = stays own; outs = outs };
-  header = λ w bs own new x i slot s place is holds stage outs. record {
+  header = λ w bs own new x i m slot s place is holds stage outs. record {
     stage = stage;
-    spelt = subst (λ (l : ℕ). Spells g (slice_set bs l w.block) new (with_slot x i slot)) (sym place) (header_write g bs own new x n i w.block slot s is);
+    spelt = subst (λ (l : ℕ). Spells g (slice_set bs l w.block) new (with_slot x i slot)) (sym place) (header_write g bs own new x n i m w.block slot s is);
     moves = moves_grow (IsFileMove n i) (IsCommandMove n locks) (file_command n i locks holds) own new is.moves;
     outs = outs;
   };

@@ -23,10 +23,11 @@ use Rattle.vol_owners.proofs.Listing.{has_parted, has_first, has_second}
 use Rattle.vol_parts.specs.declared.geometry.Geometry.{Geometry}
 use Rattle.vol_parts.specs.Volumes.{fields_in}
 use Rattle.vol_parts.specs.Catalogues.{slot_with}
-use Rattle.vol_spell.specs.Reading.{IsFileNumber, total_of, header_block, body_blocks, cluster_bit, number_bit}
+use Rattle.vol_spell.specs.Reading.{IsFileNumber, total_of, header_block, told_of, body_blocks, cluster_bit, number_bit}
 use Rattle.vol_spell.specs.Spelling.{Spells}
 use Rattle.vol_spell.specs.Adding.{is_outside}
 use Rattle.vol_spell.proofs.Adds.{clusters_add_up}
+use Rattle.vol_spell.proofs.Parts.{used_of, own_number}
 use Rattle.vol_spell.proofs.Owned.{each_is_owned}
 use Rattle.vol_under.specs.Shortage.{OutAlike, IsFreeByBits, FreeByBits}
 use Rattle.vol_under.proofs.Leaking.{number_free_of}
@@ -118,13 +119,13 @@ module _ (g : Geometry) (bs : List Block) (own : Owners) (c : Cat) (s : Spells g
   unfolding is_same_owner
   clear n Free is free at = (s.owners.number_bits n is).1 at
   clear n (InFile m) is free at = absurd (
-      let own_is : m ≡ n - 1 + 1 = s.owners.known_numbers (n - 1) m at in
+      let own_is : m ≡ n - 1 + 1 = own_number g bs own c s (n - 1) m at in
       let a = is.from in
       let same : m ≡ n = omega arith in
       let there : slice_get c.files (n - 1) ≡ Some (slot.Free (last_seq (slot_at c n))) = stands_free c n free in
       let t = s.files n (slot.Free (last_seq (slot_at c n))) is there in
-      let used = t.used.1 (at ∙ ap (λ k. Some (InFile k)) same) in
-      let h : is_free_slot (Some (slot.Free (last_seq (slot_at c n)))) ≡ false = used_slot n g.cluster (header_read (header_block g bs n)) (body_blocks bs n (header_block g bs n)) _ used t.slot in
+      let used = (used_of g own bs n (body_blocks bs n (told_of g bs n)) (slot.Free (last_seq (slot_at c n))) is t).1 (at ∙ ap (λ k. Some (InFile k)) same) in
+      let h : is_free_slot (Some (slot.Free (last_seq (slot_at c n)))) ≡ false = used_slot n g.cluster (header_read (header_block g bs n)) (body_blocks bs n (told_of g bs n)) _ used t.slot in
       let f : true ≡ false = h in cc)
   clear n (Outside m) is free at = absurd (no_number m (n - 1) at)
   clear n Leaked is free at = absurd (

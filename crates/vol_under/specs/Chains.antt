@@ -86,8 +86,8 @@ pub record StepKinds (g : Geometry) (n : ℕ) (cmd : Option Cmd) (locks : List L
   -- a quota block
   pub quota : (w : PlannedWrite) (bs : List Block) (own : Owners) (x : Cat) (k : ℕ) → Spells g bs own x → IsWholeBlock w.block → part_of g w.lbn ≡ Some (Quota k) → Once (map (λ r. r.uic) (rows_told g (slice_set bs w.lbn w.block)))
       → StandsAt c n cmd w.stage (with_rows g (slice_set bs w.lbn w.block) x) → Outs n own w.outs stock → IsStep g n cmd locks c stock w bs own own (with_rows g (slice_set bs w.lbn w.block) x)
-  -- the header of a file whose lock the node holds
-  pub header : (w : PlannedWrite) (bs : List Block) (own new : Owners) (x : Cat) (i : ℕ) (s : Slot) → Spells g bs own x → w.lbn ≡ header_place g i → IsHeaderFor g bs n i own new x w.block s → Has locks (S i)
+  -- a header slot m of a file whose lock the node holds
+  pub header : (w : PlannedWrite) (bs : List Block) (own new : Owners) (x : Cat) (i m : ℕ) (s : Slot) → Spells g bs own x → w.lbn ≡ header_place g m → IsHeaderFor g bs n i m own new x w.block s → Has locks (S i)
       → StandsAt c n cmd w.stage (with_slot x i s) → Outs n new w.outs stock → IsStep g n cmd locks c stock w bs own new (with_slot x i s)
   -- a block of a file
   pub body : (w : PlannedWrite) (bs : List Block) (own : Owners) (x : Cat) (i v : ℕ) (s : Slot) → Spells g bs own x → IsBodyFor g bs i v w.lbn w.block s

@@ -17,9 +17,9 @@ returns-in-Ok-clause-end g c =
     let start = c.args.w.now.world in
     let image = told_well _ _ _ (c.run-ran.ensures.drive c.requires.told) (λ p. let e = sym c.in-Ok.is ∙ p in cc) in
     let drive = drive_in start c.keeps_the_rules.ensures.good c.requires.mounted c.run-ran.new.w.world c.args.plays.now (g.I.ImageDev.told c.args.w.now.image) (g.I.ImageDev.told c.run-ran.new.w.image) c.requires.plays
-    (inr c.in-Ok.ensures.ok.0) c.keeps_the_rules-2.ensures.good image in
+    (inr (c.in-Ok.ensures.ok.0.turns, c.in-Ok.ensures.ok.0.at)) c.keeps_the_rules-2.ensures.good image in
     if_err c.report_of.result _ _
-    (λ s e. subst (IsStopBy start.script start.blocks (g.I.ImageDev.told c.args.w.now.image) (g.I.ImageDev.told c.run-ran.new.w.image) (g.I.ImageDev.faults c.args.w.now.image) (g.I.ImageDev.faults c.run-ran.new.w.image)) (sym e) (inr (inl drive)))
+    (λ s e. subst (IsStopBy start.script start.blocks (g.I.ImageDev.told c.args.w.now.image) (g.I.ImageDev.told c.run-ran.new.w.image) (g.I.ImageDev.faults c.args.w.now.image) (g.I.ImageDev.faults c.run-ran.new.w.image)) (sym e) (inr drive))
     c.report_of.ensures.end
 
 pub returns-in-Err-clause-end : goal.returns-in-Err-clause-end

@@ -1,11 +1,12 @@
 use Rattle.std.proofs.Common.{refl, sym, ap, subst, ◌∙◌}
-use Rattle.core_state.specs.Worlds.{state_of, plain_of}
+use Rattle.core_state.specs.Worlds.{Plain, state_of, plain_of}
 use Rattle.core_state.specs.Goods.{Good, HasRoom}
 use Rattle.core_state.specs.Events.{happen, is_write, command_event}
 use Rattle.core_step.specs.Ready.{IsReady}
 use Rattle.core_step.specs.Turns.{told}
 use Rattle.core_step.specs.Memory.{takes_none}
 use Rattle.core_step.proofs.Begun.{event_now, event_begun, good_begun, ready_begun, room_begun, room_back, same_event, same_answer, forget_so, begun_so}
+use Rattle.core_step.proofs.Torn.{torn_as}
 use Rattle.core_step.proofs.step.first.Goals as goal
 
 pub go_on-requires-clause-good : goal.go_on-requires-clause-good
@@ -39,3 +40,7 @@ returns-in-Err-clause-before g c e = ap is_write (event_now (plain_of g.O.Operat
 
 pub returns-in-Err-clause-memory : goal.returns-in-Err-clause-memory
 returns-in-Err-clause-memory g c e = ap (takes_none c.args.core.now.locks c.args.node) (event_now (plain_of g.O.Operation.cmd_is c.args.core.now) c.requires.good c.args.node c.args.cmd c.requires.begins c.begin.ensures.lawful ∙ sym (event_begun (plain_of g.O.Operation.cmd_is c.args.core.now) c.requires.good c.args.node c.args.cmd c.requires.begins c.begin.ensures.lawful) ∙ ap (λ v. command_event v c.args.node) (sym (begun_so (plain_of g.O.Operation.cmd_is c.args.core.now) c.requires.good c.args.node c.args.cmd c.requires.begins c.begin.ensures.lawful (state_of g.O.Operation.cmd_is) c.args.core.now.nodes.items c.index_mut.result.now c.begin.new.node refl c.requires.node.from c.requires.node.to c.index_mut.ensures.value c.begin.ensures.state))) ∙ c.in-Err.ensures.memory e
+
+pub returns-in-Err-clause-torn : goal.returns-in-Err-clause-torn
+returns-in-Err-clause-torn g c e told =
+    torn_as _ _ _ _ _ (ap (λ (v : Plain). v.blocks) (ap (λ v. happen v c.args.node (command_event v c.args.node)) (begun_so (plain_of g.O.Operation.cmd_is c.args.core.now) c.requires.good c.args.node c.args.cmd c.requires.begins c.begin.ensures.lawful (state_of g.O.Operation.cmd_is) c.args.core.now.nodes.items c.index_mut.result.now c.begin.new.node refl c.requires.node.from c.requires.node.to c.index_mut.ensures.value c.begin.ensures.state) ∙ same_event (plain_of g.O.Operation.cmd_is c.args.core.now) c.requires.good c.args.node c.args.cmd c.requires.begins c.begin.ensures.lawful)) (c.in-Err.ensures.torn e told)

@@ -6,6 +6,7 @@ use Rattle.core_state.specs.Events.{happen, is_write, plan_in}
 use Rattle.core_step.specs.Turns.{told}
 use Rattle.core_step.specs.Memory.{takes_none}
 use Rattle.core_step.proofs.Ready.{told_so, none_of, item_over, item_taken, item_take, event_grab, grab_within, grab_room, takes_some}
+use Rattle.core_step.proofs.Torn.{grab_torn}
 use Rattle.core_step.proofs.step.go_on.Goals as goal
 
 pub planned-requires-clause-plan : goal.planned-requires-clause-plan
@@ -46,3 +47,7 @@ pub returns-clause-memory : goal.returns-clause-memory
 returns-clause-memory g c e =
     let at = told_so g.O.Operation.cmd_is c.args.core.now.nodes.items (plain_of g.O.Operation.cmd_is c.args.core.now) c.args.node c.requires.ready c.index-at.result.now refl c.requires.node.from c.requires.node.to c.index-at.ensures in
     takes_some (plain_of g.O.Operation.cmd_is c.args.core.now) c.requires.good c.args.node c.requires.ready (ap plan_in at ∙ none_of c.index-at.result.now.plan (sym c.if-is_some.ensures))
+
+pub returns-in_err-grab-clause-torn : goal.returns-in_err-grab-clause-torn
+returns-in_err-grab-clause-torn g c e told =
+    grab_torn (plain_of g.O.Operation.cmd_is c.args.core.now) c.args.node c.requires.ready.state c.requires.ready.at c.index-items-at.result _ _ told c.in_err-grab.ensures.failed _ (event_grab (plain_of g.O.Operation.cmd_is c.args.core.now) c.requires.good c.args.node c.requires.ready (ap plan_in (told_so g.O.Operation.cmd_is c.args.core.now.nodes.items (plain_of g.O.Operation.cmd_is c.args.core.now) c.args.node c.requires.ready c.index-at.result.now refl c.requires.node.from c.requires.node.to c.index-at.ensures) ∙ none_of c.index-at.result.now.plan (sym c.if-is_some.ensures)) c.index-items-at.result (item_take g.O.Operation.cmd_is c.args.core.now.nodes.items (plain_of g.O.Operation.cmd_is c.args.core.now) c.args.node c.requires.ready c.index-at.result.now refl c.requires.node.from c.requires.node.to c.index-at.ensures c.items-then-at-items.result.now c.index-items-at.result c.items-then-at-items.ensures (subst (λ ws. c.index-at.result.now.taken < length ws) (c.items.ensures ∙ sym c.items-then-at-items.ensures) c.if-at-items.true) c.index-items-at.is))

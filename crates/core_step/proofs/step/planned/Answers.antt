@@ -13,6 +13,7 @@ use Rattle.core_step.specs.Asks.{going_ask}
 use Rattle.core_step.specs.Memory.{takes_none}
 use Rattle.core_step.specs.Turns.{told}
 use Rattle.core_step.proofs.Ready.{plan_now, next_now, last_now, item_aim, aimed, aims_none, going_is, no_plan_now, one_node, place_kept, event_write, event_try, event_ends, ends_told, may_try, write_within, may_end_at, command_is, plan_is, tried_is, put_room, try_room, try_told, answer_room}
+use Rattle.core_step.proofs.Torn.{put_torn}
 use Rattle.core_step.proofs.step.planned.Goals as goal
 
 pub unreachable-requires : goal.unreachable-requires
@@ -104,3 +105,7 @@ returns-clause-answer g c = sym (ends_told (plain_of g.O.Operation.cmd_is c.args
 pub returns-clause-room : goal.returns-clause-room
 returns-clause-room g c = answer_room (plain_of g.O.Operation.cmd_is c.args.core.now) c.requires.good c.args.node c.requires.ready c.requires.ready.cmd (reply_by c.in-Some.plan.ask (tried_at (plain_of g.O.Operation.cmd_is c.args.core.now) c.args.node) c.in-Some.plan.reply) c.args.core.now.history.room c.answer.new.core.history.room (ap is_some (plan_now g.O.Operation.cmd_is c.args.core.now.nodes.items (plain_of g.O.Operation.cmd_is c.args.core.now) c.args.node c.requires.ready c.index-at.result.now refl c.requires.node.from c.requires.node.to c.index-at.ensures c.in-Some.plan c.in-Some.is)) c.answer.ensures.room c.requires.room
     (plain_of g.O.Operation.cmd_is c.answer.new.core) (c.answer.ensures.world c.requires.ready.cmd c.in-Some.plan (command_is (plain_of g.O.Operation.cmd_is c.args.core.now) c.requires.good c.args.node c.requires.ready) (plan_is (plain_of g.O.Operation.cmd_is c.args.core.now) c.requires.good c.args.node c.requires.ready c.in-Some.plan (plan_now g.O.Operation.cmd_is c.args.core.now.nodes.items (plain_of g.O.Operation.cmd_is c.args.core.now) c.args.node c.requires.ready c.index-at.result.now refl c.requires.node.from c.requires.node.to c.index-at.ensures c.in-Some.plan c.in-Some.is)))
+
+pub returns-in_err-put-clause-torn : goal.returns-in_err-put-clause-torn
+returns-in_err-put-clause-torn g c e told =
+    put_torn (plain_of g.O.Operation.cmd_is c.args.core.now) c.args.node c.requires.ready.state c.requires.ready.at c.index-writes-at.result _ _ told c.in_err-put.ensures.failed _ (event_write (plain_of g.O.Operation.cmd_is c.args.core.now) c.requires.good c.args.node c.requires.ready c.in-Some.plan (plan_now g.O.Operation.cmd_is c.args.core.now.nodes.items (plain_of g.O.Operation.cmd_is c.args.core.now) c.args.node c.requires.ready c.index-at.result.now refl c.requires.node.from c.requires.node.to c.index-at.ensures c.in-Some.plan c.in-Some.is) (Some c.index-writes-at.result) (next_now g.O.Operation.cmd_is c.args.core.now.nodes.items (plain_of g.O.Operation.cmd_is c.args.core.now) c.args.node c.requires.ready c.index-at.result.now refl c.requires.node.from c.requires.node.to c.index-at.ensures c.in-Some.plan c.writes_by-writes.result.now c.index-writes-at.result c.writes_by-writes.ensures c.if-at-writes.true c.index-writes-at.is))

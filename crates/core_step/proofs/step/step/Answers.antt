@@ -10,6 +10,7 @@ use Rattle.core_step.specs.Turns.{told}
 use Rattle.core_step.specs.Memory.{takes_none}
 use Rattle.core_step.proofs.Steps.{on_ok}
 use Rattle.core_step.proofs.Begun.{idle_takes, rests, stands, leaves, rest_so, quiet_room, ready_so, idle_so, lawful_ready, lawful_begun, lawful_over, lawful_waits, lawful_left, goes_ready, if_ok, always_ok}
+use Rattle.core_step.proofs.Torn.{torn_as}
 use Rattle.core_step.proofs.step.step.Goals as goal
 
 pub returns-then-at-clause-world : goal.returns-then-at-clause-world
@@ -77,3 +78,7 @@ returns-then-is_some-clause-memory g c e = ap (takes_none c.args.core.now.locks 
 
 pub returns-in_err-cmd-clause-memory : goal.returns-in_err-cmd-clause-memory
 returns-in_err-cmd-clause-memory g c e = idle_takes (plain_of g.O.Operation.cmd_is c.args.core.now) c.args.node (state_of g.O.Operation.cmd_is c.index-at.result.now) (told_at (state_of g.O.Operation.cmd_is) c.args.core.now.nodes.items c.args.node c.index-at.result.now c.requires.node.from c.requires.node.to c.index-at.ensures) c.requires.good (idle_so g.O.Operation.cmd_is c.index-at.result.now c.if-is_some.ensures) c.if-at.false (sym (c.if-waits.ensures ∙ ap (waits_at c.args.core.now.locks c.args.node) c.items.ensures))
+
+pub returns-then-is_some-clause-torn : goal.returns-then-is_some-clause-torn
+returns-then-is_some-clause-torn g c e told =
+    torn_as _ _ _ _ _ (sym (ap (λ k. (happen (plain_of g.O.Operation.cmd_is c.args.core.now) c.args.node k).blocks) (goes_ready (plain_of g.O.Operation.cmd_is c.args.core.now) c.args.node (state_of g.O.Operation.cmd_is c.index-at.result.now) (told_at (state_of g.O.Operation.cmd_is) c.args.core.now.nodes.items c.args.node c.index-at.result.now c.requires.node.from c.requires.node.to c.index-at.ensures) (ready_so g.O.Operation.cmd_is (plain_of g.O.Operation.cmd_is c.args.core.now) c.args.node c.index-at.result.now (told_at (state_of g.O.Operation.cmd_is) c.args.core.now.nodes.items c.args.node c.index-at.result.now c.requires.node.from c.requires.node.to c.index-at.ensures) (sym (c.if-waits.ensures ∙ ap (waits_at c.args.core.now.locks c.args.node) c.items.ensures)) c.if-is_some.ensures) c.if-at.false (sym (c.if-waits.ensures ∙ ap (waits_at c.args.core.now.locks c.args.node) c.items.ensures))))) (c.go_on.ensures.torn e told)

@@ -7,7 +7,7 @@ use Rattle.core_state.specs.Worlds.{plain_of}
 use Rattle.core_state.specs.Goods.{HasRoom}
 use Rattle.core_state.specs.Events.{happen}
 use Rattle.core_step.specs.Turns.{told}
-use Rattle.core_step.proofs.Ready.{op_there, op_fits, op_need, event_need, has_plan, may_lock, look_within, fetch_within, item_need, command_is, ask_room, see_room, decide_room, asked_told, goes_granted, goes_queued}
+use Rattle.core_step.proofs.Ready.{op_there, op_fits, op_need, item_geometry, item_searches, event_need, has_plan, may_lock, look_within, fetch_within, item_need, command_is, ask_room, see_room, decide_room, asked_told, goes_granted, goes_queued}
 use Rattle.core_step.proofs.step.unplanned.Goals as goal
 
 pub next_need-requires-clause-op : goal.next_need-requires-clause-op
@@ -15,6 +15,12 @@ next_need-requires-clause-op g c = op_there g.O.Operation.cmd_is c.args.core.now
 
 pub next_need-requires-clause-fits : goal.next_need-requires-clause-fits
 next_need-requires-clause-fits g c = op_fits g.O.Operation.cmd_is c.args.core.now.nodes.items (plain_of g.O.Operation.cmd_is c.args.core.now) c.args.node c.requires.ready c.index.result.now refl c.requires.node.from c.requires.node.to c.index.ensures c.requires.good
+
+pub next_need-requires-clause-geometry : goal.next_need-requires-clause-geometry
+next_need-requires-clause-geometry g c = item_geometry g.O.Operation.cmd_is c.args.core.now.nodes.items (plain_of g.O.Operation.cmd_is c.args.core.now) c.args.node c.requires.ready c.index.result.now refl c.requires.node.from c.requires.node.to c.index.ensures c.requires.good
+
+pub next_need-requires-clause-searches : goal.next_need-requires-clause-searches
+next_need-requires-clause-searches g c = item_searches g.O.Operation.cmd_is c.args.core.now.nodes.items (plain_of g.O.Operation.cmd_is c.args.core.now) c.args.node c.requires.ready c.index.result.now refl c.requires.node.from c.requires.node.to c.index.ensures c.requires.good c.requires.plan (c.requires.takes c.requires.ready.state c.requires.ready.at)
 
 pub ask-requires-clause-new : goal.ask-requires-clause-new
 ask-requires-clause-new g c = may_lock (plain_of g.O.Operation.cmd_is c.args.core.now) c.requires.good c.args.node c.requires.ready c.requires.plan c.in-Lock.name c.in-Lock.mode (op_need g.O.Operation.cmd_is c.args.core.now.nodes.items (plain_of g.O.Operation.cmd_is c.args.core.now) c.args.node c.requires.ready c.index.result.now refl c.requires.node.from c.requires.node.to c.index.ensures (need.Lock c.in-Lock.name c.in-Lock.mode) (subst (λ (y : Need). IfSome c.index.result.now.op (λ op. need_of (g.O.Operation.cmd_is op) c.index.result.now.seen ≡ y)) c.in-Lock.is c.in_ok-name.ensures))

@@ -30,6 +30,9 @@ fits c = record {
   mark = omega (arith, c.requires.mark, c.requires.blocks);
   end = omega (arith, c.requires.end, c.requires.blocks);
   byte = omega (arith, c.requires.byte);
+  seg = c.requires.alone.0;
+  ext = c.requires.alone.1;
+  ext_seq = c.requires.alone.2;
 }
 
 pub returns-clause-written : goal.returns-clause-written

@@ -1,4 +1,4 @@
-use Rattle.lock_db.proofs.Blocks.{asked-leaves, tried-leaves, converted-leaves, try_converted-leaves, released-leaves}
+use Rattle.lock_db.proofs.Blocks.{asked-leaves, tried-leaves, converted-leaves, try_converted-leaves, released-leaves, recovered-leaves}
 use Rattle.lock_db.proofs.laws.calls_leave_other_names.Goals as goal
 
 pub returns : goal.returns
@@ -8,4 +8,5 @@ returns c = record {
   convert = converted-leaves;
   try_convert = try_converted-leaves;
   release = released-leaves;
+  recover = recovered-leaves;
 }

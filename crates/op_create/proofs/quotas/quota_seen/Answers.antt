@@ -10,3 +10,9 @@ returns-in-Held-clause-need c = λ next space.
     let g = c.args.g.now in
     c.in-Held.ensures.need (look_all Q (quota_places g) next) space
     ∙ c.blocks_seen.ensures.need (quota_places g) next space (length-range_with_len g.quota_lbn g.cluster) (sym c.quota_lbn.ensures)
+
+pub returns-in-Held-clause-follows : goal.returns-in-Held-clause-follows
+returns-in-Held-clause-follows c = λ next space f.
+    let g = c.args.g.now in
+    c.blocks_seen.ensures.follows (quota_places g) next space (length-range_with_len g.quota_lbn g.cluster) (sym c.quota_lbn.ensures)
+    (c.in-Held.ensures.follows (look_all Q (quota_places g) next) space f)

@@ -11,4 +11,4 @@ returns c =
     let m = c.args.m.now in
     let e : c.unwrap_or.result ≡ slice_index_or (places_in head) (m.vbn - 1) 0 =
     c.unwrap_or.ensures ∙ ap (λ o. unwrap_or o 0) (c.place_in.ensures ∙ ap (slice_get (places_in head)) c.saturating_sub-at.ensures) ∙ unwrap_or-slice_get (places_in head) (m.vbn - 1) 0 in
-    λ i. record { lock = S c.args.d.now.fid.num; lbn = e i; block = m.block; stage = c.args.stage; clusters = c.new.ensures i; number = None }
+    λ i. record { lock = S c.args.d.now.fid.num; lbn = e i; block = m.block; stage = c.args.stage; clusters = c.new-clusters.ensures i; numbers = c.new-numbers.ensures i; number = None }

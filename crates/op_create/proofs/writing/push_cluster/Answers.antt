@@ -21,6 +21,7 @@ loop-i-preserved c =
     let w = c.args.g.now.cluster in
     let i = c.loop-i.i in
     c.in_ok-push.ensures.ok
+    ∙ ap (λ ns. c.loop-i.writes ++ record (write_at (S n) (q * w + i) c.args.block.now stage.Charged (holding c.in_ok-copy.field-0 (Some n))) { numbers = ns } ∷ []) c.new.ensures
     ∙ ap (λ qs. c.loop-i.writes ++ write_at (S n) (q * w + i) c.args.block.now stage.Charged (holding qs (Some n)) ∷ []) c.in_ok-copy.ensures
     ∙ ap (λ ws. ws ++ write_at (S n) (q * w + i) c.args.block.now stage.Charged (holding c.args.clusters.now (Some n)) ∷ []) c.loop-i.invariant
     ∙ more_places (λ x. write_at (S n) x c.args.block.now stage.Charged (holding c.args.clusters.now (Some n))) c.args.writes.now (q * w) i

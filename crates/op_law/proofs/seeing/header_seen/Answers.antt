@@ -1,10 +1,10 @@
 use Rattle.std.proofs.Common.{◌≡◌, ◌∙◌, ap, sym, subst, true, rules}
 use Rattle.lock_db.specs.declared.name.LockName.TheVariants.{S}
 use Rattle.vol_spell.specs.Reading.{header_place}
-use Rattle.op_law.specs.Events.{Look, following}
+use Rattle.op_law.specs.Events.{Look, HasNoSpace, following}
 use Rattle.op_law.specs.Rows.{is_number}
-use Rattle.op_law.specs.Behind.{IsHeadOf}
-use Rattle.op_law.proofs.Following.{through_number}
+use Rattle.op_law.specs.Behind.{FollowsBy, IsHeadOf}
+use Rattle.op_law.proofs.Following.{through_number, through_follows}
 use Rattle.op_law.proofs.seeing.header_seen.Goals as goal
 
 pub returns-in-Next-clause-need : goal.returns-in-Next-clause-need
@@ -23,3 +23,10 @@ returns-in-Held-clause-need c = λ next space.
     ∙ c.in-Held.ensures.need (Look (S c.args.file.num) (header_place c.args.g.now c.args.file.num) next) space
     ∙ ap (λ l. following (Look (S c.args.file.num) l next) c.in-Held.behind.locks.now c.in-Held.behind.blocks.now space) (sym c.header_lbn.ensures)
     ∙ c.block_seen.ensures.need next space
+
+pub returns-in-Held-clause-follows : goal.returns-in-Held-clause-follows
+returns-in-Held-clause-follows c = λ next space f.
+    let t : is_number c.args.g.now c.args.file ≡ true = search rules in
+    let taken = through_follows c.args.g.now c.args.file c.args.mode next c.args.rest.locks.now c.args.rest.blocks.now space (HasNoSpace space) t f in
+    let looked = c.in-Held.ensures.follows (Look (S c.args.file.num) (header_place c.args.g.now c.args.file.num) next) space taken in
+    c.block_seen.ensures.follows next space (subst (λ l. FollowsBy (Look (S c.args.file.num) l next) c.in-Held.behind space) (sym c.header_lbn.ensures) looked)

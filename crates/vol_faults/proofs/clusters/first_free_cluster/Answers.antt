@@ -11,7 +11,7 @@ use Rattle.vol_faults.proofs.clusters.first_free_cluster.Goals as goal
 pub returns-in_err-lowest_free_in_file : goal.returns-in_err-lowest_free_in_file
 returns-in_err-lowest_free_in_file c =
     let v = volume c.args.home.now c.args.blocks.now in
-    rw c.from_residual.ensures (none-found v 10 (λ q. is_free_cluster v q && nat_le 1 (times v q)) 0 (total v) (free-found v) c.in_err-lowest_free_in_file.ensures)
+    rw c.from_residual.ensures (none-found v 11 (λ q. is_free_cluster v q && nat_le 1 (times v q)) 0 (total v) (free-found v) c.in_err-lowest_free_in_file.ensures)
 
 pub returns : goal.returns
 returns c =
@@ -19,5 +19,5 @@ returns c =
     let q = c.in_ok-lowest_free_in_file.field-0 in
     let low = c.in_ok-lowest_free_in_file.ensures in
     let parts = and_parts _ _ low.2 in
-    least-found v 10 (λ q. is_free_cluster v q && nat_le 1 (times v q)) 0 (total v) q (FreeCluster q) (free-found v) low refl refl
+    least-found v 11 (λ q. is_free_cluster v q && nat_le 1 (times v q)) 0 (total v) q (FreeCluster q) (free-found v) low refl refl
     (omega (arith, low.1), parts.0, sym (some-times v q) ∙ parts.1)

@@ -1,15 +1,17 @@
-use Rattle.std.proofs.Common.{arith}
-use Rattle.vol_faults.proofs.ReachLemmas.{search-starts, search-goes-on, search-ends}
+use Rattle.std.proofs.Common.{◌≡◌, ◌<◌, length, arith, rules}
+use Rattle.vol_faults.proofs.WalkLemmas.{all-inside, last-begin, shorter-walk, shorter-kept, kept-on}
 use Rattle.vol_faults.proofs.loops.follow.Goals as goal
 
-pub loop-next-init : goal.loop-next-init
-loop-next-init c =
-    search-starts c.args.cat.now c.args.n c.args.seen.now c.add_named.new.seen c.new-left.result.items c.add_named.new.left.items c.requires.none c.new-left.ensures.items c.in_ok-add_named.ensures
+pub close-requires-clause-all : goal.close-requires-clause-all
+close-requires-clause-all c = all-inside c.args.cat.now c.loop-walk.walk c.loop-walk.invariant.walk
 
-pub loop-next-preserved : goal.loop-next-preserved
-loop-next-preserved c =
-    search-goes-on c.args.cat.now c.args.n c.in-Some.next c.loop-next.seen c.add_named-in-Some.new.seen c.loop-next.left.items c.pop.new.self.items c.add_named-in-Some.new.left.items
-    c.in-Some.ensures.items c.loop-next.invariant c.in_ok-add_named-2.ensures
-
-pub returns : goal.returns
-returns c = search-ends c.args.cat.now c.args.n c.loop-next.seen c.loop-next.left.items (omega (arith, c.in_default.ensures.cases)) c.loop-next.invariant
+pub loop-walk-preserved-then-walk-begin : goal.loop-walk-preserved-then-walk-begin
+loop-walk-preserved-then-walk-begin c =
+    let h = c.loop-walk.invariant in
+    let some : 0 < length c.loop-walk.walk.way.items = search rules in
+    let size : c.len.result ≡ length c.loop-walk.walk.begins.items = omega (arith, c.len.ensures) in
+    let last = last-begin c.args.cat.now c.loop-walk.walk c.index-begin.result.now c.len.result h.walk some size c.index-begin.ensures in
+    record {
+      walk = shorter-walk c.args.cat.now c.index-begin.result.now c.loop-walk.walk c.close.new.walk h.walk last.0 last.1 c.if-walk-begin.true c.close.ensures;
+      kept = kept-on c.args.walk.now c.loop-walk.walk c.close.new.walk h.kept (shorter-kept c.args.cat.now c.index-begin.result.now c.loop-walk.walk c.close.new.walk h.walk c.close.ensures);
+    }

@@ -9,7 +9,7 @@ use Rattle.vol_faults.proofs.numbers.first_free_number.Goals as goal
 pub returns-in_err-lowest_free_in_use : goal.returns-in_err-lowest_free_in_use
 returns-in_err-lowest_free_in_use c =
     let v = volume c.args.home.now c.args.blocks.now in
-    rw c.from_residual.ensures (none-found v 11 (is_free_in_use v) 1 v.home.files (free-number-found v) c.in_err-lowest_free_in_use.ensures)
+    rw c.from_residual.ensures (none-found v 12 (is_free_in_use v) 1 v.home.files (free-number-found v) c.in_err-lowest_free_in_use.ensures)
 
 pub returns : goal.returns
 unfolding is_free_in_use
@@ -18,5 +18,5 @@ returns c =
     let n = c.in_ok-lowest_free_in_use.field-0 in
     let low = c.in_ok-lowest_free_in_use.ensures in
     let parts = and_parts _ _ low.2 in
-    least-found v 11 (is_free_in_use v) 1 v.home.files n (FreeNumber n) (free-number-found v) low refl refl
+    least-found v 12 (is_free_in_use v) 1 v.home.files n (FreeNumber n) (free-number-found v) low refl refl
     (record { from = low.0; to = omega (arith, low.1) }, not-true _ parts.0, parts.1)

@@ -1,4 +1,4 @@
-use Rattle.std.proofs.Common.{arith}
+use Rattle.std.proofs.Common.{refl, arith}
 use Rattle.vol_fresh.specs.Layouts.{header_of}
 use Rattle.vol_init.proofs.HeaderLemmas.{few-blocks}
 use Rattle.vol_init.proofs.blocks.bare_header.Goals as goal
@@ -22,3 +22,7 @@ new_header-requires-clause-end c = rw c.header_of.ensures (omega arith)
 pub new_header-requires-clause-byte : goal.new_header-requires-clause-byte
 unfolding header_of
 new_header-requires-clause-byte c = rw c.header_of.ensures (omega arith)
+
+pub new_header-requires-clause-alone : goal.new_header-requires-clause-alone
+unfolding header_of
+new_header-requires-clause-alone c = rw c.header_of.ensures (refl, refl, refl)

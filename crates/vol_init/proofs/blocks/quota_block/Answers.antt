@@ -6,12 +6,12 @@ use Rattle.vol_fresh.specs.Layouts.{quota_rows}
 use Rattle.vol_init.proofs.ZeroLemmas.{zeros-rows, rows-put}
 use Rattle.vol_init.proofs.blocks.quota_block.Goals as goal
 
-pub returns-then-k-gt0 : goal.returns-then-k-gt0
-returns-then-k-gt0 c = rw (ne_eqb c.args.k 0 (λ e. omega arith)) (ap rows_in c.zeros-b.ensures ∙ zeros-rows)
+pub returns-then-k-gt0-clause-rows : goal.returns-then-k-gt0-clause-rows
+returns-then-k-gt0-clause-rows c = rw (ne_eqb c.args.k 0 (λ e. omega arith)) (ap rows_in c.zeros-b.ensures ∙ zeros-rows)
 
-pub returns : goal.returns
+pub returns-clause-rows : goal.returns-clause-rows
 unfolding quota_rows
-returns c =
+returns-clause-rows c =
     let l = c.args.layout.now in
     let system : Row = record { uic = 65537; usage = l.cluster * c.reserved_clusters.result + 11; quota = l.blocks + l.files; over = 0 } in
     let user : Row = record { uic = 65540; usage = 0; quota = l.blocks + l.files; over = 0 } in

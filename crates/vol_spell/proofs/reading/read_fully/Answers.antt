@@ -14,11 +14,11 @@ first_without_room-requires c =
 pub returns-in-Some : goal.returns-in-Some
 returns-in-Some c =
     let read = subst (λ (r : Result Cat Finding). IsRead c.args.blocks.now r) c.in-Ok.is c.in_ok-cat.ensures in
-    let first = subst (λ (o : Option Finding). IsFirstIn c.in-Ok.cat 15 o) c.in-Some.is c.in_ok-found.ensures in
+    let first = subst (λ (o : Option Finding). IsFirstIn c.in-Ok.cat 16 o) c.in-Some.is c.in_ok-found.ensures in
     room_first c.args.blocks.now c.in-Ok.cat c.in-Some.found read.0 read.1 first
 
 pub returns-in-None : goal.returns-in-None
 returns-in-None c =
     let read = subst (λ (r : Result Cat Finding). IsRead c.args.blocks.now r) c.in-Ok.is c.in_ok-cat.ensures in
-    let none = subst (λ (o : Option Finding). IsFirstIn c.in-Ok.cat 15 o) c.in-None.is c.in_ok-found.ensures in
+    let none = subst (λ (o : Option Finding). IsFirstIn c.in-Ok.cat 16 o) c.in-None.is c.in_ok-found.ensures in
     room_none c.args.blocks.now c.in-Ok.cat read.0 read.1 none

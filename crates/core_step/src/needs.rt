@@ -1,0 +1,86 @@
+//! What a node's command needs next.
+
+ghost use Rattle.std.specs.Prelude.{◌≡◌, ◌+◌, ◌-◌, ◌/◌, false, IfOk, IfSome, IsSome, IsTrue};
+ghost use Rattle.vol_parts.specs.Parts.{IsGeometry};
+ghost use Rattle.op_law.specs.Events.{HasNoSpace, space_of};
+ghost use Rattle.op_law.specs.Needs.{need_of};
+ghost use Rattle.op_law.specs.Fits.{FitsSeen};
+ghost use Rattle.core_state.specs.Worlds.{state_of};
+ghost use Rattle.core_step.specs.Ready.{WantsSpace, IsSearching, SearchesAsNeeded};
+
+use crate::searches::has_asked;
+use core_state::Node;
+use lock_db::LockName;
+use op_law::{Need, NoMemory, Operation, Seen};
+use plain_cat::Cmd;
+use std::alloc::Global;
+use vol_parts::Geometry;
+
+// Blocks rounded up to clusters, where they are at most as many as a volume has.
+fn clusters_for(g: &Geometry, blocks: u32) -> Option<u32>
+    requires { IsGeometry g.now }
+    ensures { IfSome result (λ k. k ≡ (blocks + (g.now.cluster - 1)) / g.now.cluster) }
+{
+    if 65536 < blocks {
+        return None;
+    }
+    Some((blocks + (g.cluster - 1)) / g.cluster)
+}
+
+// So many clusters, and a number or none, where that is something.
+fn something(clusters: u32, number: bool) -> Option<(u32, bool)>
+    ensures same { IfSome result (λ wanted. wanted ≡ (clusters, number)) }
+    ensures some { IfSome result (λ wanted. (clusters ≡ 0) × (number ≡ false) → ⊥) }
+{
+    if clusters == 0 && !number {
+        return None;
+    }
+    Some((clusters, number))
+}
+
+// What a command searches for, where it searches for space and that is within the volume.
+fn space_wanted(g: &Geometry, cmd: &Cmd) -> Option<(u32, bool)>
+    requires { IsGeometry g.now }
+    ensures { IfSome result (λ wanted. WantsSpace g.now cmd.now wanted.0 wanted.1) }
+{
+    match cmd {
+        Cmd::Create { blocks, .. } => something(clusters_for(g, *blocks)?, true),
+        Cmd::MkDir { .. } => something(1, true),
+        Cmd::Extend { blocks, .. } => something(clusters_for(g, *blocks)?, false),
+        _ => None,
+    }
+}
+
+// Whether a command was given no space, and none was refused.
+fn has_no_space(seen: &Seen) -> bool
+    ensures { IsTrue result → HasNoSpace (space_of seen.now) }
+{
+    seen.clusters.items().is_empty() && seen.number.is_none() && seen.short.is_none()
+}
+
+// What a node searches for for its command, where the search is begun and has come to nothing yet.
+fn searched_for<O: Operation>(node: &Node<O>, cmd: &Cmd) -> Option<(u32, bool)>
+    requires { IsGeometry node.now.seen.geometry }
+    ensures { IfSome result (λ wanted. IsSearching (state_of O.cmd_is node.now) cmd.now wanted.0 wanted.1) }
+{
+    if !has_asked(node.asked.items(), LockName::V) || !has_no_space(&node.seen) {
+        return None;
+    }
+    space_wanted(&node.seen.geometry, cmd)
+}
+
+/// What a node's command needs next. While a search for space looks on, that is known without the operation, which is not
+/// asked. An error says that memory ran out.
+pub(crate) fn next_need<O: Operation>(alloc: Global, node: &Node<O>) -> Result<Need, NoMemory>
+    requires op { IsSome node.now.op }
+    requires fits { IfSome node.now.op (λ op. FitsSeen (O.cmd_is op) node.now.seen) }
+    requires geometry { IsGeometry node.now.seen.geometry }
+    requires searches { SearchesAsNeeded (state_of O.cmd_is node.now) }
+    ensures { IfOk result (λ need. IfSome node.now.op (λ op. need_of (O.cmd_is op) node.now.seen ≡ need)) }
+{
+    let Some(op) = &node.op else { unreachable!() };
+    if let Some((clusters, number)) = searched_for(node, op.cmd()) {
+        return Ok(Need::Space { clusters, number });
+    }
+    op.next(alloc, &node.seen)
+}

@@ -1,6 +1,0 @@
-use Rattle.std.proofs.Common.{◌≡◌, map, take}
-use Rattle.vol_parts.specs.Catalogues.{plain_entry}
-use Rattle.op_law.proofs.rows.plain_entries.Given as goal
-
-abbrev pub invariant-loop-e : goal.invariant-loop-e
-invariant-loop-e l = l.entries ≡ map plain_entry (take l.e-index l.found)

@@ -1,0 +1,8 @@
+use Rattle.std.proofs.Common.{◌≡◌, drop, map}
+use Rattle.std.specs.Prelude.{slice_get}
+use Rattle.vol_places.specs.Places.{place_of}
+use Rattle.vol_analyze.specs.Kinds.{nameless_of}
+use Rattle.vol_analyze.proofs.firsts.first_nameless.Given as goal
+
+abbrev pub invariant-loop-spot : goal.invariant-loop-spot
+invariant-loop-spot l = slice_get (nameless_of l.cat (map place_of (drop l.spot-index l.spots))) 0 ≡ slice_get (nameless_of l.cat (map place_of l.spots)) 0

@@ -1,0 +1,5 @@
+use Rattle.vol_spell.proofs.Frames.{told_stays}
+use Rattle.vol_spell.proofs.laws.told_stays.Goals as goal
+
+pub returns : goal.returns
+returns c = told_stays
