@@ -1,9 +1,10 @@
 -- The commands that a script can come to are built.
-use Rattle.std.proofs.Common.{◌≡◌, ◌∙◌, ◌==◌, ◌&&◌, ℕ, zero, suc, Bool, true, false, List, [], ◌∷◌, Option, Some, None, All, IsTrue, cond, slice_get, refl, sym, ap, subst, inl, inr}
+use Rattle.std.proofs.Common.{◌≡◌, ◌∙◌, ◌==◌, ◌&&◌, ℕ, zero, suc, Bool, true, false, List, [], ◌∷◌, Option, Some, None, cond, slice_get, refl, sym, ap, subst}
 use Rattle.std.specs.List.{list_all}
 use Rattle.std.proofs.lemmas.Bool.{false≢true, and_parts}
 use Rattle.std.proofs.lemmas.List.Sums.{list_all-from_AllPass}
-use Rattle.plain_cat.specs.InForm.{is_within, line_in_form, InForm}
+use Rattle.vol_words.specs.Names.{is_name}
+use Rattle.plain_cat.specs.InForm.{is_within, is_file_ref, is_version, line_in_form, InForm}
 use Rattle.plain_cat.specs.declared.ids.Fid.{Fid}
 use Rattle.plain_cat.specs.declared.command.Cmd.{Cmd}
 use Rattle.plain_cat.specs.declared.command.Cmd.TheVariants as cmd
@@ -11,11 +12,8 @@ use Rattle.plain_cat.specs.declared.script.LineCmd.{LineCmd}
 use Rattle.plain_cat.specs.declared.script.LineCmd.TheVariants as line
 use Rattle.plain_cat.specs.declared.script.Line.{Line}
 use Rattle.plain_cat.specs.declared.script.Script.{Script}
-use Rattle.plain_cat.specs.declared.history.Entry.{Entry}
-use Rattle.plain_vol.specs.Own.{past, filled, lines_of, close_from, or_close, next_command}
+use Rattle.plain_vol.specs.Own.{past, filled, lines_of, close_from, or_close}
 use Rattle.run_script.specs.Table.{run_so_far, is_built, AreBuilt}
-use Rattle.op_lookup.specs.Kinds.{IsLook}
-use Rattle.op_create.specs.Kinds.{IsMake}
 use Rattle.xqp_set.specs.Built.{IsBuilt}
 use Rattle.core_state.specs.Goods.{is_run, IsRun, HasOnly}
 
@@ -25,11 +23,20 @@ is_good l = is_built run_so_far l && line_in_form l
 
 filled_built : (g : List Fid) (l : LineCmd) → is_built run_so_far l ≡ true → line_in_form l ≡ true → IsBuilt (filled g l)
 unfolding filled line_in_form
-filled_built g (line.Lookup reg dir name ver) h form = inl tt
-filled_built g (line.List dir) h form = inl tt
-filled_built g (line.Stat file) h form = inl tt
-filled_built g (line.Create reg dir name ver blocks owner) h form = inr (and_parts _ _ (and_parts _ _ form).1).1
-filled_built g (line.MkDir reg dir name owner) h form = inr (and_parts _ _ (and_parts _ _ form).1).1
+filled_built g (line.Lookup reg dir name ver) h form = tt
+filled_built g (line.List dir) h form = tt
+filled_built g (line.Stat file) h form = tt
+filled_built g (line.Create reg dir name ver blocks owner) h form = (and_parts _ _ (and_parts _ _ form).1).1
+filled_built g (line.MkDir reg dir name owner) h form = (and_parts _ _ (and_parts _ _ form).1).1
+filled_built g (line.Extend file blocks) h form = (and_parts _ _ form).1
+filled_built g (line.Trunc file blocks) h form = (and_parts _ _ form).1
+filled_built g (line.Delete dir name ver) h form = tt
+filled_built g (line.Rename dir name ver to to_ver) h form =
+    let new = is_name to && is_version to_ver in
+    let names = (and_parts (is_file_ref dir) (is_name name && (is_version ver && new)) form).1 in
+    (and_parts (is_version ver) new (and_parts (is_name name) (is_version ver && new) names).1).1
+filled_built g (line.QuotaSet owner quota over) h form = form
+filled_built g (line.QuotaShow owner) h form = tt
 filled_built g l h form = absurd (false≢true h)
 
 lines_good : (node : ℕ) (ls : List Line) → list_all (λ (x : Line). is_good x.cmd) ls ≡ true → list_all is_good (lines_of node ls) ≡ true
@@ -77,8 +84,13 @@ built_runs (cmd.List dir) h = refl
 built_runs (cmd.Stat file) h = refl
 built_runs (cmd.Create reg dir name ver blocks owner) h = refl
 built_runs (cmd.MkDir reg dir name owner) h = refl
-built_runs x (inl h) = absurd h
-built_runs x (inr h) = absurd h
+built_runs (cmd.Extend file blocks) h = refl
+built_runs (cmd.Trunc file blocks) h = refl
+built_runs (cmd.Delete dir name ver) h = refl
+built_runs (cmd.Rename dir name ver to to_ver) h = refl
+built_runs (cmd.QuotaSet owner quota over) h = refl
+built_runs (cmd.QuotaShow owner) h = refl
+built_runs x h = absurd h
 
 pub only_run : (s : Script) → InForm s → AreBuilt run_so_far s.lines → HasOnly IsRun s
 only_run s form built n h x closed e = built_runs x (only_built s form built n h x closed e)

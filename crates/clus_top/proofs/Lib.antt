@@ -6,3 +6,4 @@ pub mod Reported
 pub mod Analyzed
 pub mod OneVerdict
 pub mod Pushed
+pub mod Spent

@@ -25,18 +25,18 @@ use Rattle.core_state.specs.declared.mounting.MountFault.{MountFault}
 use Rattle.core_state.specs.declared.mounting.MountFault.TheVariants as mount
 use Rattle.run_engine.specs.declared.fault.RunFault.{RunFault}
 use Rattle.run_engine.specs.declared.fault.RunFault.TheVariants as run
-use Rattle.run_engine.specs.Walks.{played, budget_of, IsPartOfWalk, IsRotatedIn, AllOver, IsSpent, IsNextIn, IsBeforeWrite, Stays}
+use Rattle.run_engine.specs.Walks.{played, budget_of, IsPartOfWalk, IsRotatedIn, AllOver, IsSpent, IsNextIn, IsBeforeWrite, IsBeforeTaking, Stays}
 use Rattle.run_engine.specs.Reports.{report_bytes}
 use Rattle.run_engine.specs.Ended.{IsSpelt, HasEnded}
 use Rattle.run_engine.proofs.Driving.{told_well}
 use Rattle.run_engine.specs.declared.status.Status.{Status}
 use Rattle.run_engine.specs.declared.status.Status.TheVariants as status
-use Rattle.clus_top.specs.Runs.{IsReport, HasRun, IsUnfinished}
+use Rattle.clus_top.specs.Runs.{IsReport, HasRun, LacksMemory, IsUnfinished}
 use Rattle.clus_top.specs.Statuses.{IsGood, IsReportOn, status_text}
 use Rattle.clus_top.specs.declared.run.Stop.{Stop}
 use Rattle.clus_top.specs.declared.run.Stop.TheVariants as stop
-use Rattle.clus_top.specs.Ends.{SpellsWithin, IsReportIn, IsDriveIn, IsEndIn, IsSpentIn, IsCutIn, IsCutShortIn, IsStopIn, IsStopBy, IsStopOf, IsRunEnd, IsRunStop, IsQuietImage, IsStopImage, mount_status}
-use Rattle.clus_top.specs.Images.{IsDriveOf, IsLastDriveOf, IsSpentDriveOf, IsCutOf, IsCutShort}
+use Rattle.clus_top.specs.Ends.{SpellsWithin, IsReportIn, IsDriveIn, IsEndIn, IsSpentIn, IsLackingIn, IsCutIn, IsCutShortIn, IsStopIn, IsStopBy, IsStopOf, IsRunEnd, IsRunStop, IsQuietImage, IsStopImage, mount_status}
+use Rattle.clus_top.specs.Images.{IsDriveOf, IsLastDriveOf, IsSpentDriveOf, IsLackingDriveOf, IsCutOf, IsCutShort}
 use Rattle.clus_top.proofs.Walked.{over_walk}
 use Rattle.clus_top.proofs.Answered.{IsAnswered, turn_keeps}
 use Rattle.clus_top.proofs.MountedVolumes.{mounted_geometry}
@@ -75,6 +75,15 @@ module _ (start : Plain) (good : Good start) (m : IsMounted start.blocks start.s
     },
   )
 
+  -- a run that lacks memory
+  pub lacking_in : (new : Plain) (plays : List ℕ) (told now : Option (List Block)) → plays ≡ start.script.plays → IsPartOfWalk start plays new → Good new → now ≡ told_as told new.blocks
+      → LacksMemory start plays new → IsLackingIn start.script start.blocks told now
+  unfolding drive_in has_run
+  lacking_in new plays told now same part keeps image lacks = record {
+    drive = drive_in new plays told now same part keeps image;
+    lacks = subst (λ (ns : List ℕ). LacksMemory start ns new) same lacks;
+  }
+
   -- a run that a write cut short
   pub cut_in : (new : Plain) (plays : List ℕ) (told now : Option (List Block)) → plays ≡ start.script.plays → IsPartOfWalk start plays new → Good new
       → IsBeforeWrite (IsNextIn start plays new) start.blocks told now new → IsCutIn start.script start.blocks told now
@@ -90,18 +99,19 @@ module _ (start : Plain) (good : Good start) (m : IsMounted start.blocks start.s
       → plays ≡ start.script.plays → OnErr r (IsPartOfWalk start plays new) → Good new
       → (r ≡ Err run.Unfinished → IsSpent (budget_of start) (played plays start) new)
       → (r ≡ Err run.ImageFault → Rose had has) → (r ≡ Err run.ImageFault → IsBeforeWrite (IsNextIn start plays new) start.blocks told now new)
+      → (r ≡ Err run.NoMemory → IsBeforeTaking (IsNextIn start plays new) new)
       → (now ≡ told_as told new.blocks) ⊎ (r ≡ Err run.ImageFault)
       → (s : Stop) → IsStopOf new f s → IsStopBy start.script start.blocks told now had has s
   unfolding cut_in
-  run_stop {A} new plays told now had has r run.ImageFault is same part keeps spent cause before image (stop.Cut text) written =
+  run_stop {A} new plays told now had has r run.ImageFault is same part keeps spent cause before taking image (stop.Cut text) written =
       (cause is, record { cut = cut_in new plays told now same (on_err r run.ImageFault (IsPartOfWalk start plays new) is part) keeps (before is); written = written })
-  run_stop {A} new plays told now had has r run.ImageFault is same part keeps spent cause before image stop.Bare none =
+  run_stop {A} new plays told now had has r run.ImageFault is same part keeps spent cause before taking image stop.Bare none =
       (cause is, cut_in new plays told now same (on_err r run.ImageFault (IsPartOfWalk start plays new) is part) keeps (before is))
-  run_stop {A} new plays told now had has r run.ImageFault is same part keeps spent cause before image (stop.By s) none = absurd none
-  run_stop {A} new plays told now had has r run.NoMemory is same part keeps spent cause before image s e =
-      subst (IsStopBy start.script start.blocks told now had has) (sym e) (inr (drive_in new plays told now same (on_err r run.NoMemory (IsPartOfWalk start plays new) is part) keeps
-      (told_well (r ≡ Err run.ImageFault) _ _ image (λ p. let f : run.NoMemory ≡ run.ImageFault = same_err r run.NoMemory run.ImageFault is p in cc))))
-  run_stop {A} new plays told now had has r run.Unfinished is same part keeps spent cause before image s e =
+  run_stop {A} new plays told now had has r run.ImageFault is same part keeps spent cause before taking image (stop.By s) none = absurd none
+  run_stop {A} new plays told now had has r run.NoMemory is same part keeps spent cause before taking image s e =
+      subst (IsStopBy start.script start.blocks told now had has) (sym e) (inr (lacking_in new plays told now same (on_err r run.NoMemory (IsPartOfWalk start plays new) is part) keeps
+      (told_well (r ≡ Err run.ImageFault) _ _ image (λ p. let f : run.NoMemory ≡ run.ImageFault = same_err r run.NoMemory run.ImageFault is p in cc)) (inl (taking is))))
+  run_stop {A} new plays told now had has r run.Unfinished is same part keeps spent cause before taking image s e =
       subst (IsStopBy start.script start.blocks told now had has) (sym e) (spent_in new plays told now same (on_err r run.Unfinished (IsPartOfWalk start plays new) is part) keeps
       (told_well (r ≡ Err run.ImageFault) _ _ image (λ p. let f : run.Unfinished ≡ run.ImageFault = same_err r run.Unfinished run.ImageFault is p in cc)) (spent is))
 
@@ -220,11 +230,15 @@ spells (Some bytes) script h = h.spelt
 drive_of : (left : Option (List ℕ)) (bs : List Block) (new : Option (List Block)) (script : Script) → IfSome left (SpellsWithin script) → IsDriveIn script bs (Some bs) new → IsDriveOf left bs new
 drive_of left bs new script spelt d = record { script = script; spelt = spells left script spelt; world = d.world; ran = d.ran; image = d.image }
 
-drive_on : (left : Option (List ℕ)) (told new : Option (List Block)) (script : Script) (blocks : List Block)
-    → IfSome left (SpellsWithin script) → IfSome told (λ bs. blocks ≡ bs) → IsDriveIn script blocks told new → IfSome told (λ bs. IsDriveOf left bs new)
-drive_on left None new script blocks spelt same d = tt
-drive_on left (Some bs) new script blocks spelt same d =
-    drive_of left bs new script spelt (let P : List Block → Type 0 = λ x. IsDriveIn script x (Some bs) new in subst P same d)
+lacking_of : (left : Option (List ℕ)) (bs : List Block) (new : Option (List Block)) (script : Script) → IfSome left (SpellsWithin script) → IsLackingIn script bs (Some bs) new → IsLackingDriveOf left bs new
+unfolding drive_of
+lacking_of left bs new script spelt h = (drive_of left bs new script spelt h.drive, h.lacks)
+
+lacking_on : (left : Option (List ℕ)) (told new : Option (List Block)) (script : Script) (blocks : List Block)
+    → IfSome left (SpellsWithin script) → IfSome told (λ bs. blocks ≡ bs) → IsLackingIn script blocks told new → IfSome told (λ bs. IsLackingDriveOf left bs new)
+lacking_on left None new script blocks spelt same h = tt
+lacking_on left (Some bs) new script blocks spelt same h =
+    lacking_of left bs new script spelt (let P : List Block → Type 0 = λ x. IsLackingIn script x (Some bs) new in subst P same h)
 
 last_of : (left : Option (List ℕ)) (bs : List Block) (new : Option (List Block)) (script : Script) (text : List ℕ) → IfSome left (SpellsWithin script) → IsEndIn script bs (Some bs) new text → IsLastDriveOf left bs new
 unfolding drive_of
@@ -269,7 +283,7 @@ quiet_image : (left : Option (List ℕ)) (told new : Option (List Block)) (scrip
     → IfSome left (SpellsWithin script) → IfSome told (λ bs. blocks ≡ bs) → IsStopIn script blocks told new s → IsQuietImage left told new s
 quiet_image left told new script blocks (status.NotAccepted f) spelt same end = end.1
 quiet_image left told new script blocks status.NoMemory spelt same (inl e) = inl e
-quiet_image left told new script blocks status.NoMemory spelt same (inr d) = inr (drive_on left told new script blocks spelt same d)
+quiet_image left told new script blocks status.NoMemory spelt same (inr d) = inr (lacking_on left told new script blocks spelt same d)
 quiet_image left told new script blocks status.Unfinished spelt same end = spent_on left told new script blocks spelt same end.1
 quiet_image left told new script blocks s spelt same end = absurd end
 

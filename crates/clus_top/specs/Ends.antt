@@ -31,12 +31,12 @@ use Rattle.clus_top.specs.declared.run.Stop.{Stop}
 use Rattle.clus_top.specs.declared.run.Stop.TheVariants as stop
 use Rattle.run_engine.specs.declared.status.Status.{Status}
 use Rattle.run_engine.specs.declared.status.Status.TheVariants as status
-use Rattle.clus_top.specs.Runs.{is_mending, report_text, HasRun, IsUnfinished}
+use Rattle.clus_top.specs.Runs.{is_mending, report_text, HasRun, LacksMemory, IsUnfinished}
 use Rattle.vol_init.specs.declared.fault.InitFault.{InitFault}
 use Rattle.vol_init.specs.declared.fault.InitFault.TheVariants as fault
 use Rattle.vol_init.specs.Refusals.{refusal}
 use Rattle.clus_top.specs.Statuses.{IsTooLong, IsBad, IsOverfull, IsGood, IsAccepted, sized, status_text, cut_text}
-use Rattle.clus_top.specs.Images.{IsDriveOf, IsSpentDriveOf, IsCutShort}
+use Rattle.clus_top.specs.Images.{IsLackingDriveOf, IsSpentDriveOf, IsCutShort}
 
 -- a text within its limit spells this script
 pub record SpellsWithin (script : Script) (bytes : List ℕ) : Type 0 where
@@ -85,6 +85,11 @@ pub record IsSpentIn (script : Script) (bs : List Block) (told new : Option (Lis
   pub drive : IsDriveIn script bs told new
   pub spent : IsSpent (budget_of drive.ran.start) (played script.plays drive.ran.start) drive.world
 
+-- and it may lack memory there
+pub record IsLackingIn (script : Script) (bs : List Block) (told new : Option (List Block)) : Type 0 where
+  pub drive : IsDriveIn script bs told new
+  pub lacks : LacksMemory drive.ran.start script.plays drive.world
+
 -- A world has run a script as far as to a write of the node whose turn it is, and the image has the blocks from before that turn,
 -- or those that it would have left.
 pub record IsCutIn (script : Script) (bs : List Block) (told new : Option (List Block)) : Type 0 where
@@ -100,7 +105,7 @@ pub record IsCutShortIn (script : Script) (bs : List Block) (told new : Option (
 -- Why a script gave no report on the blocks of a volume, but for a write that failed, and what the image has then.
 abbrev pub IsStopIn : Script → List Block → Option (List Block) → Option (List Block) → Status → Type 0
 IsStopIn script bs told new (status.NotAccepted f) = IsFirstFound bs f × (new ≡ told)
-IsStopIn script bs told new status.NoMemory = (new ≡ told) ⊎ IsDriveIn script bs told new
+IsStopIn script bs told new status.NoMemory = (new ≡ told) ⊎ IsLackingIn script bs told new
 IsStopIn script bs told new status.Unfinished = Accepts bs × IsSpentIn script bs told new
 IsStopIn script bs told new s = ⊥
 
@@ -150,7 +155,7 @@ IsRunStop left size told read reading had has (stop.By s) = IsRunEnd left size t
 
 -- what the image has with a status whose text says all, and with the text of a run that a write cut short
 abbrev pub IsQuietImage : Option (List ℕ) → Option (List Block) → Option (List Block) → Status → Type 0
-IsQuietImage left told new status.NoMemory = (new ≡ told) ⊎ IfSome told (λ bs. IsDriveOf left bs new)
+IsQuietImage left told new status.NoMemory = (new ≡ told) ⊎ IfSome told (λ bs. IsLackingDriveOf left bs new)
 IsQuietImage left told new status.Unfinished = IfSome told (λ bs. IsSpentDriveOf left bs new)
 IsQuietImage left told new s = new ≡ told
 

@@ -13,7 +13,7 @@ use Rattle.run_script.specs.Spelling.{SpellsScript}
 use Rattle.core_state.specs.Worlds.{Plain}
 use Rattle.run_engine.specs.Walks.{played, budget_of, AllOver, IsSpent, IsNextIn, IsBeforeWrite}
 use Rattle.clus_top.specs.Words.{Wanted, Run, Analyze, Init}
-use Rattle.clus_top.specs.Runs.{HasRun}
+use Rattle.clus_top.specs.Runs.{HasRun, LacksMemory}
 use Rattle.clus_top.specs.Statuses.{status_text, cut_text}
 
 -- the image has a new volume
@@ -47,6 +47,10 @@ IsLastDriveOf left bs new = (d : IsDriveOf left bs new) × AllOver d.world
 abbrev pub IsSpentDriveOf : Option (List ℕ) → List Block → Option (List Block) → Type 0
 IsSpentDriveOf left bs new = (d : IsDriveOf left bs new) × IsSpent (budget_of d.ran.start) (played d.script.plays d.ran.start) d.world
 
+-- and it may lack memory there
+abbrev pub IsLackingDriveOf : Option (List ℕ) → List Block → Option (List Block) → Type 0
+IsLackingDriveOf left bs new = (d : IsDriveOf left bs new) × LacksMemory d.ran.start d.script.plays d.world
+
 -- A world has run such a script on the volume of these blocks as far as to a write of the node whose turn it is. The image has the
 -- drive of this world, or that which this one turn would have left: one block may be ahead, and no other differs.
 pub record IsCutOf (left : Option (List ℕ)) (bs : List Block) (new : Option (List Block)) : Type 0 where
@@ -57,13 +61,13 @@ pub record IsCutOf (left : Option (List ℕ)) (bs : List Block) (new : Option (L
   pub before : IsBeforeWrite (IsNextIn ran.start script.plays world) bs (Some bs) new world
 
 -- After a run: the drive of its world, once every node is over or the turns are spent; after want of memory the old blocks, or
--- the drive as far as the run came; after a fault of the image the old blocks, or the drive as far as the run came but for the
+-- the drive as far as to where the run lacked it; after a fault of the image the old blocks, or the drive as far as the run came but for the
 -- block of a write that failed; and else the old blocks.
 abbrev pub IsRunImage : Option (List ℕ) → Option (List Block) → Option (List Block) → Status → Type 0
 IsRunImage left told new status.Ok = IfSome told (λ bs. IsLastDriveOf left bs new)
 IsRunImage left told new status.OutFault = IfSome told (λ bs. IsLastDriveOf left bs new)
 IsRunImage left told new status.Unfinished = IfSome told (λ bs. IsSpentDriveOf left bs new)
-IsRunImage left told new status.NoMemory = (new ≡ told) ⊎ IfSome told (λ bs. IsDriveOf left bs new)
+IsRunImage left told new status.NoMemory = (new ≡ told) ⊎ IfSome told (λ bs. IsLackingDriveOf left bs new)
 IsRunImage left told new status.ImageFault = (new ≡ told) ⊎ IfSome told (λ bs. IsCutOf left bs new)
 IsRunImage left told new s = new ≡ told
 

@@ -1,5 +1,5 @@
 -- What a run of a script answers on a volume.
-use Rattle.std.specs.Prelude.{◌≡◌, ℕ, Bool, true, false, List, Option, Some}
+use Rattle.std.specs.Prelude.{◌≡◌, ◌⊎◌, ℕ, Bool, true, false, List, Option, Some}
 use Rattle.std.specs.List.{list_any}
 use Rattle.vol_words.specs.Fields.{Block}
 use Rattle.fx_home.specs.Homes.{home_read}
@@ -19,7 +19,7 @@ use Rattle.run_script.specs.Spelling.{SpellsScript}
 use Rattle.core_state.specs.Worlds.{Plain}
 use Rattle.core_state.specs.Goods.{Good}
 use Rattle.core_state.specs.Mounting.{IsMounted}
-use Rattle.run_engine.specs.Walks.{played, budget_of, IsPartOfWalk, IsRotatedIn, AllOver, IsSpent}
+use Rattle.run_engine.specs.Walks.{played, budget_of, IsPartOfWalk, IsRotatedIn, AllOver, IsSpent, IsNextIn, IsBeforeTaking}
 use Rattle.run_engine.specs.Ended.{IsSpelt}
 use Rattle.run_engine.specs.Reports.{report_bytes}
 
@@ -67,6 +67,11 @@ pub record HasRun (script : Script) (bs : List Block) (w : Plain) : Type 0 where
   pub mounted : IsMounted bs script start
   pub walked : IsPartOfWalk start script.plays w
   pub good : Good w
+
+-- Where a run, which has come from the first world to the second, can lack memory: before an event that takes some, of the node whose
+-- turn it is; for the report, once every node is over; and for the text, once the turns are spent.
+abbrev pub LacksMemory : Plain → List ℕ → Plain → Type 0
+LacksMemory start plays w = IsBeforeTaking (IsNextIn start plays w) w ⊎ (AllOver w ⊎ IsSpent (budget_of start) (played plays start) w)
 
 -- A run that cannot end: on the volume as it is mounted, after the plays and as many turns in rotation as a run makes at most,
 -- a node is not over.

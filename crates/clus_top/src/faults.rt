@@ -11,13 +11,13 @@ use std::test::Fail;
 
 /// A write of the image, from 1, whether its block is on the image though it fails, and what `analyze` prints then.
 #[derive(Clone, Copy)]
-struct Stop {
+pub struct Stop {
     write: u64,
     lands: bool,
     found: &'static str,
 }
 
-const fn stopped_at(write: u64, lands: bool, found: &'static str) -> Stop {
+pub const fn stopped_at(write: u64, lands: bool, found: &'static str) -> Stop {
     Stop {
         write,
         lands,
@@ -26,7 +26,7 @@ const fn stopped_at(write: u64, lands: bool, found: &'static str) -> Stop {
 }
 
 // The image of 1,024 blocks, of which this write fails. A run begins with 1,025 calls that read it.
-fn failing(alloc: Global, image: &MemImage, stop: Stop) -> Result<MemImage, NoMemory> {
+pub fn failing(alloc: Global, image: &MemImage, stop: Stop) -> Result<MemImage, NoMemory> {
     let blocks = blocks_of(alloc, image)?;
     if blocks.len() != 1024 {
         return Err(AllocError);
@@ -147,7 +147,7 @@ fn a_directory_is_made_in_stages(rt: HostRuntime) -> Result<(), Fail> {
 }
 
 // A directory of eleven files with long names, 13 to 23, in blocks of five, five and one.
-fn eleven(rt: &impl Abort, alloc: Global) -> Result<MemImage, NoMemory> {
+pub fn eleven(rt: &impl Abort, alloc: Global) -> Result<MemImage, NoMemory> {
     let mut text = Written::new(alloc, "NODES 1\n")?;
     text.push_directory(alloc, 11)?;
     text.close(alloc, 230)?;
@@ -155,7 +155,7 @@ fn eleven(rt: &impl Abort, alloc: Global) -> Result<MemImage, NoMemory> {
 }
 
 // A script that makes a file whose name comes before theirs.
-fn before_them(alloc: Global) -> Result<String, NoMemory> {
+pub fn before_them(alloc: Global) -> Result<String, NoMemory> {
     let name = long(alloc, 0)?;
     format!(in alloc; "NODES 1\n1 CREATE R1 (12,1,0) {name};0 0 [1,4]\n")
 }

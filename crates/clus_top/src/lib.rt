@@ -15,11 +15,17 @@ pub use theorems::one_status_is_due;
 pub use top::vmsclus;
 
 #[cfg(test)]
+mod changing;
+#[cfg(test)]
+mod each_write;
+#[cfg(test)]
 mod faults;
 #[cfg(test)]
 mod making;
 #[cfg(test)]
 mod queues;
+#[cfg(test)]
+mod quotas;
 #[cfg(test)]
 mod tests;
 #[cfg(test)]

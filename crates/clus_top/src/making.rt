@@ -365,9 +365,9 @@ impl Written {
         })
     }
 
-    // One more command of node 1: up to its operands, the directory in the script and in the report, what comes behind it, and
-    // the reply.
-    fn push(
+    /// One more command of node 1: up to its operands, the directory in the script and in the report, what comes behind it, and
+    /// the reply.
+    pub fn push(
         &mut self,
         alloc: Global,
         command: &str,

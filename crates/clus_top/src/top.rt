@@ -19,6 +19,7 @@ use std::alloc::Global;
 use vol_analyze::Finding;
 
 // The job `run`.
+#[tactic(auto, using(crate::proofs::Spent::spent_lacks))]
 fn run<I: ImageDev, T: TextIn, O: TextOut>(
     alloc: Global,
     image: I,
@@ -101,8 +102,8 @@ fn init<I: ImageDev, O: TextOut>(
 /// Does the job that the words ask for, prints its text, and gives the image back.
 ///
 /// `run` reads a script of at most 1,048,576 bytes and runs it on a volume in which nothing is found. So far its commands are
-/// LOOKUP, LIST, STAT, CREATE and MKDIR, of any file and directory, by an identifier or a register. Its nodes, 1 to 8, first have a
-/// turn for each play of the schedule, and then turns in rotation from node 1 until each has given its commands; a node that is done makes no
+/// LOOKUP, LIST, STAT, CREATE and MKDIR, of any file and directory, by an identifier or a register, QUOTASET and QUOTASHOW. Its
+/// nodes, 1 to 8, first have a turn for each play of the schedule, and then turns in rotation from node 1 until each has given its commands; a node that is done makes no
 /// turn. `analyze` prints what is found in a volume. `init CLUSTER FILES LABEL` makes a volume with 1 to 16 blocks in a cluster, 32
 /// to 4,096 file numbers, and a label of 1 to 12 characters of A to Z, 0 to 9, `$`, `_` and `-`. Other words are `BadWords`.
 ///

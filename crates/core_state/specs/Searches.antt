@@ -19,7 +19,7 @@ use Rattle.op_law.specs.declared.seen.Seen.{Seen}
 use Rattle.op_law.specs.Events.{space_of, HasNoSpace}
 use Rattle.op_law.specs.Needs.{IsNext}
 use Rattle.op_law.specs.Fits.{things}
-use Rattle.op_law.specs.Knows.{wanted, wants_number, takes_space, is_new_number}
+use Rattle.op_law.specs.Knows.{wanted, takes_space, is_new_number}
 use Rattle.op_law.specs.Laws.{held_in}
 use Rattle.op_law.specs.Writing.{Held}
 use Rattle.node_space.specs.Searching.{Found, More, Short, Enough, found}
@@ -54,7 +54,7 @@ wanted_by x seen = (wanted seen x).clusters
 
 -- what the search of a command has found in the blocks that it has looked at
 abbrev pub found_by : Cmd → Seen → Search → Found
-found_by x seen s = found seen.geometry (wanted_by x seen) (wants_number x) (blocks_of s.looked)
+found_by x seen s = found seen.geometry (wanted_by x seen) (wanted seen x).number (blocks_of s.looked)
 
 -- ---- how it stands
 
@@ -74,11 +74,11 @@ pub record HasClaimed (x : Cmd) (ask : Option Ask) (asked : List (LockName × Mo
   pub after : List (LockName × Mode)
   pub claims : asked ≡ with_ask (before ++ (V, PW) ∷ after) ask
   pub locks : seen.locks ≡ before ++ after
-  pub in_order : s.looked ≡ looked seen.geometry (wanted_by x seen) (wants_number x) (blocks_of s.looked)
+  pub in_order : s.looked ≡ looked seen.geometry (wanted_by x seen) (wanted seen x).number (blocks_of s.looked)
 
 -- the command needs what it searches for, was given nothing yet, and has looked at no bitmap itself
 pub record NeedsSpace (x : Cmd) (seen : Seen) : Type 0 where
-  pub next : IsNext x seen (need.Space (wanted_by x seen) (wants_number x))
+  pub next : IsNext x seen (need.Space (wanted_by x seen) (wanted seen x).number)
   pub none : HasNoSpace (space_of seen)
   pub apart : (l : ℕ) → Touches seen.blocks l → IsBitmap seen.geometry l → ⊥
 

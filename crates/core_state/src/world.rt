@@ -6,7 +6,7 @@ ghost use Rattle.core_state.specs.Events.{is_over, count_of};
 use crate::cluster::Core;
 use blk_drive::{ImageDev, Mirror};
 use op_law::Operation;
-use plain_cat::{Cat, Entry, History, Script};
+use plain_cat::{Cat, History, Script};
 use std::marker::Model;
 
 /// A mounted volume and the nodes that run a script on it.
@@ -41,10 +41,10 @@ impl<I: ImageDev, O: Operation> World<I, O> {
     }
 
     /// The answers so far, in order.
-    pub fn history(&self) -> &[Entry]
-        ensures { result.now ≡ self.now.world.history }
+    pub fn history(&self) -> &History
+        ensures { result.now.items ≡ self.now.world.history }
     {
-        self.core.history.items()
+        &self.core.history
     }
 
     /// The catalogue that the volume told as it was mounted.

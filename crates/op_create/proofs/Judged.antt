@@ -1,29 +1,21 @@
--- What was seen behind refusals shows that none of them holds, and what comes next then.
-use Rattle.std.proofs.Common.{◌≡◌, ◌∙◌, ℕ, List, [], ◌∷◌, Option, Some, None, refl, ap, subst, sym}
+-- What comes next behind refusals of which none holds.
+use Rattle.std.proofs.Common.{◌≡◌, ◌∙◌, ℕ, List, Option, None, ap}
 use Rattle.vol_words.specs.Fields.{Block}
-use Rattle.lock_db.specs.declared.name.LockName.{LockName}
 use Rattle.plain_cat.specs.declared.ids.Fid.{Fid}
 use Rattle.plain_cat.specs.declared.ids.Uic.{Uic}
-use Rattle.plain_cat.specs.declared.mode.Mode.{Mode}
 use Rattle.plain_cat.specs.declared.reply.Refusal.{Refusal}
 use Rattle.vol_parts.specs.declared.geometry.Geometry.{Geometry}
 use Rattle.op_law.specs.declared.seen.Seen.{Seen}
 use Rattle.op_law.specs.declared.seeing.Rest.{Rest}
-use Rattle.op_law.specs.Events.{Events, Space, space_of, HasNoSpace, Follows}
+use Rattle.op_law.specs.Events.{Events, Space}
 use Rattle.op_law.specs.Refusing.{unless_refused}
 use Rattle.op_law.specs.Writing.{clusters_for}
 use Rattle.op_law.specs.Moving.{SeenDir, through_names}
 use Rattle.op_law.specs.Entering.{NewEntry, numbered, made_of, making_events, create_in, create_events, mkdir_in, mkdir_events}
-use Rattle.op_law.specs.Behind.{goes_on_by, FollowsBy, HasFirst}
+use Rattle.op_law.specs.Behind.{goes_on_by, HasFirst}
 use Rattle.plain_vol.specs.Answers.{dir_name}
 use Rattle.op_create.specs.declared.slots.Place.{Place}
 use Rattle.op_create.specs.Given.{through_place, behind_place}
-
--- a lock was granted there
-pub judged : (o : Option Refusal) (next : Events) (l : LockName × Mode) (locks : List (LockName × Mode)) (blocks : List (ℕ × Block)) (space : Space) (given : Type 0)
-    → Follows (unless_refused o next) (l ∷ locks) blocks space given → o ≡ None
-judged None next l locks blocks space given f = refl
-judged (Some r) next l locks blocks space given f = absurd (let e : l ∷ locks ≡ [] = f.0 in cc)
 
 -- the plan by the quota blocks, the clusters, the number and its slot
 abbrev pub made_at : Geometry → SeenDir → NewEntry → List Block → List ℕ → ℕ → Block → Events
@@ -36,12 +28,6 @@ pub place_next : (g : Geometry) (d : SeenDir) (e : NewEntry) (o : Option Refusal
 place_next g d e o rest space p none is = ap (λ r. goes_on_by (unless_refused r (making_events g d e)) rest space) none ∙ is
 
 -- ---- all that was seen, from the directory on
-
-pub first_names : (g : Geometry) (dir : Fid) (next : SeenDir → Events) (seen : Seen) (rest : Rest) → rest.locks.now ≡ seen.locks → rest.blocks.now ≡ seen.blocks
-    → HasFirst (through_names g dir next) seen → FollowsBy (through_names g dir next) rest (space_of seen)
-first_names g dir next seen rest locks blocks first =
-    subst (λ ls. Follows (through_names g dir next) ls rest.blocks.now (space_of seen) (HasNoSpace (space_of seen))) (sym locks)
-    (subst (λ bs. Follows (through_names g dir next) seen.locks bs (space_of seen) (HasNoSpace (space_of seen))) (sym blocks) first)
 
 pub create_first : (g : Geometry) (dir : Fid) (name : List ℕ) (ver blocks : ℕ) (owner : Uic) (seen : Seen) → HasFirst (create_events g dir name ver blocks owner) seen
     → HasFirst (through_names g dir (λ d. create_in g d name ver (clusters_for g blocks) owner)) seen

@@ -47,6 +47,7 @@ use Rattle.op_law.proofs.Spaces.{IsSpace, IsKnown, known_space}
 use Rattle.op_create.proofs.Replies.{after_for, refuses_none, refuses_plain, refuses_shown, refuses_unpaid, refuses_short, stands_done, makes_answer}
 use Rattle.op_create.proofs.Making.{made, making_steps, making_named, making_leaves, making_moved}
 use Rattle.op_create.proofs.Walks.{makes_obey}
+use Rattle.op_create.proofs.Brief.{makes_brief}
 
 things_are : (cs qs : List ℕ) (m n : Option ℕ) → cs ≡ qs → m ≡ n → things cs m ≡ things qs n
 things_are cs qs m n e f = ap (λ y. things cs y) f ∙ ap (λ ys. things ys n) e
@@ -141,4 +142,5 @@ create_lawful x is = does_lawful x (record {
   shaped = makes_shaped x is;
   ends = makes_end x is;
   obeys = λ node seen bs own c stock s outs known. obeys x is node seen bs own c stock s outs (known_space node x seen own c stock outs known);
+  brief = makes_brief x is;
 })

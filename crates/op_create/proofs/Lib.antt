@@ -6,10 +6,9 @@ pub mod Forms
 pub mod Walks
 pub mod Replies
 pub mod Making
+pub mod Brief
 pub mod Lawful
-pub mod Charges
 pub mod Clustered
-pub mod Entered
 pub mod DirNames
 pub mod OfVolume
 pub mod Judged

@@ -31,9 +31,10 @@ use Rattle.op_law.specs.Entering.{NewEntry, cost_of, new_header, body_writes, en
 use Rattle.op_law.proofs.Through.{file_told, IsListed}
 use Rattle.op_law.proofs.Naming.{both_named, both_leave, no_header_leaves}
 use Rattle.op_writes.specs.Chained.{Chain, StepsOf, after_writes, StandsOn, FilesStay}
-use Rattle.op_writes.specs.RowWrites.{IsInRange, row_for}
+use Rattle.vol_writes.specs.Rows.{IsInRange, row_for}
 use Rattle.op_writes.specs.FileWrites.{CanBeMade, file_writes}
-use Rattle.op_writes.specs.EntryWrites.{dir_in, CanBeEntered}
+use Rattle.vol_writes.specs.Entries.{CanBeEntered}
+use Rattle.op_writes.specs.EntryWrites.{dir_in}
 use Rattle.op_writes.proofs.RowSteps.{row_steps, row_guards, row_no_header}
 use Rattle.op_writes.proofs.FileSteps.{same_on, file_steps}
 use Rattle.op_writes.proofs.FileGuards.{file_guards, file_leaves}

@@ -45,7 +45,7 @@ use Rattle.op_create.proofs.Forms.{in_order, is_wanted}
 use Rattle.op_law.proofs.Spaces.{not_live_number, no_file_at, IsSpace, space_given, IsShort, space_refused, IsKnown}
 
 -- a search that is not refused gives as many clusters as were wanted
-given_all : (clusters : ℕ) (cs : List ℕ) (n : ℕ) → has_space clusters true (record { clusters = cs; number = Some n; short = None }) ≡ true → length cs ≡ clusters
+pub given_all : (clusters : ℕ) (cs : List ℕ) (n : ℕ) → has_space clusters true (record { clusters = cs; number = Some n; short = None }) ≡ true → length cs ≡ clusters
 given_all clusters cs n e = by_test (length cs == clusters) refl e where
   by_test : (t : Bool) → (length cs == clusters) ≡ t → (t && true) ≡ true → length cs ≡ clusters
   by_test true is k = grind (arith, nat_tests)

@@ -1,12 +1,10 @@
 -- A new file, and what makes sure that it can be written.
-use Rattle.std.specs.Prelude.{◌≡◌, ◌≤◌, ◌<◌, ◌+◌, ◌*◌, ℕ, true, false, List, [], Option, IfSome}
+use Rattle.std.specs.Prelude.{◌≡◌, ◌≤◌, ◌+◌, ◌*◌, true, false, []}
 use Rattle.vol_words.specs.Names.{is_name}
 use Rattle.plain_cat.specs.declared.cat.File.{File}
 use Rattle.plain_vol.specs.Lookups.{versions}
 use Rattle.plain_vol.specs.Directories.{is_taken}
-use Rattle.vol_owners.specs.Lists.{Has}
 use Rattle.vol_parts.specs.declared.geometry.Geometry.{Geometry}
-use Rattle.vol_spell.specs.Reading.{IsFileNumber, total_of}
 use Rattle.op_law.specs.Entering.{NewEntry}
 use Rattle.op_law.specs.Moving.{SeenDir, entries_of}
 use Rattle.op_create.specs.declared.files.NewFile.{NewFile}
@@ -43,8 +41,3 @@ pub record IsSound (g : Geometry) (f : NewFile) : Type 0 where
 pub record IsNewIn (d : SeenDir) (f : NewFile) : Type 0 where
   pub parent : d.fid.num ≤ 16777215
   pub new : is_taken f.ver (versions f.name.now (entries_of d)) ≡ false
-
--- clusters and a number that were given are the volume's
-pub record IsOfVolume (g : Geometry) (clusters : List ℕ) (number : Option ℕ) : Type 0 where
-  pub there : (q : ℕ) → Has clusters q → q < total_of g
-  pub slot : IfSome number (λ n. IsFileNumber g n)

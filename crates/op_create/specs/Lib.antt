@@ -1,4 +1,3 @@
 pub mod Kinds
-pub mod Names
 pub mod Files
 pub mod Given

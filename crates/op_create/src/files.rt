@@ -5,13 +5,14 @@ ghost use Rattle.plain_cat.specs.declared.ids.Fid.{Fid};
 ghost use Rattle.plain_vol.specs.Changes.{next_seq, new_file, new_dir};
 ghost use Rattle.vol_parts.specs.Parts.{IsGeometry};
 ghost use Rattle.vol_spell.specs.Reading.{IsFileNumber};
-ghost use Rattle.op_law.specs.Writing.{clusters_for, runs_for};
 ghost use Rattle.op_law.specs.Entering.{NewEntry, fields_for, text_of, new_header, slot_seq, numbered};
 ghost use Rattle.fx_header.specs.Headers.{header_read};
-ghost use Rattle.op_create.specs.Files.{file_made, entry_made, IsSound, IsOfVolume};
+ghost use Rattle.op_parts.specs.Given.{IsOfVolume};
+ghost use Rattle.op_create.specs.Files.{file_made, entry_made, IsSound};
 
-use fx_header::{Hdr, Run, Slot, new_header, read_header, set_runs};
+use fx_header::{Hdr, Slot, new_header, read_header, set_runs};
 use op_law::NoMemory;
+use op_parts::runs_for;
 use plain_cat::{Clusters, Fid, Name, Uic};
 use std::alloc::Global;
 use vol_parts::Geometry;
@@ -75,24 +76,6 @@ pub(crate) fn new_dir<'a>(g: &Geometry, name: &'a Name, owner: Uic) -> NewFile<'
         mark: 0,
         end: g.cluster + 1,
     }
-}
-
-/// Blocks rounded up to clusters.
-pub(crate) fn clusters_for(g: &Geometry, blocks: u32) -> u32
-    requires geometry { IsGeometry g.now }
-    requires blocks { blocks ≤ 65536 }
-    ensures { result ≡ clusters_for g.now blocks }
-{
-    (blocks + (g.cluster - 1)) / g.cluster
-}
-
-/// What a file of so many clusters, at most 77, costs its owner: its blocks, and one more.
-pub(crate) fn cost_of(g: &Geometry, clusters: u32) -> u32
-    requires geometry { IsGeometry g.now }
-    requires few { clusters ≤ 77 }
-    ensures { result ≡ g.now.cluster * clusters + 1 }
-{
-    g.cluster * clusters + 1
 }
 
 // The last sequence that a slot tells.
@@ -160,22 +143,6 @@ fn text_of(alloc: Global, f: &NewFile<'_>) -> Result<Vec<u8>, NoMemory>
     let mut text = Vec::from_slice(alloc, f.name.items())?;
     text.extend_from_slice(version.as_bytes())?;
     Ok(text)
-}
-
-// The runs of clusters, one for each.
-fn runs_for(alloc: Global, g: &Geometry, clusters: &Clusters) -> Result<Vec<Run>, NoMemory>
-    requires geometry { IsGeometry g.now }
-    requires within { IsOfVolume g.now clusters.now None }
-    ensures { IfOk result (λ runs. runs.items ≡ runs_for g.now clusters.now) }
-{
-    let mut runs = Vec::new(alloc);
-    for q in clusters.items() {
-        runs.push(Run {
-            lbn: *q * g.cluster,
-            count: g.cluster,
-        })?;
-    }
-    Ok(runs)
 }
 
 /// The header of a new file of these clusters under number n, which is entered in the directory `parent`. An error says that

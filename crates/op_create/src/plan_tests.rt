@@ -3,20 +3,21 @@
 ghost use Rattle.std.specs.Prelude.{◌≡◌, [], ◌∷◌, None, IfOk, IsTrue};
 ghost use Rattle.fx_header.specs.Headers.{runs_in};
 ghost use Rattle.vol_parts.specs.Parts.{IsGeometry};
-ghost use Rattle.op_create.specs.Files.{IsSound, IsOfVolume};
+ghost use Rattle.op_parts.specs.Given.{IsOfVolume};
+ghost use Rattle.op_create.specs.Files.{IsSound};
 
 use crate::files::{NewFile, new_dir, new_file};
-use crate::names::DirSeen;
-use crate::tests::{FIRST, SECOND, block, name, volume};
 use crate::writing::making_writes;
 use fx_header::{Hdr, Run, new_header, set_runs};
 use lock_db::LockName;
 use op_law::{PlanWrite, Writes, entries_seen, live_in};
+use op_parts::DirSeen;
 use plain_cat::{Clusters, Fid, Stage, Uic};
 use plain_vol::with_version;
 use std::alloc::Global;
 use std::test::Fail;
 use vol_parts::Geometry;
+use vol_sample::{FIRST, SECOND, block, name, volume};
 use vol_words::Block;
 use vol_words::names::is_name;
 

@@ -10,15 +10,14 @@ ghost use Rattle.op_law.specs.Events.{Events, Space, following, space_of};
 ghost use Rattle.op_law.specs.Quotas.{rows_seen};
 ghost use Rattle.op_law.specs.Behind.{goes_on_by, blocks_alone};
 ghost use Rattle.op_create.specs.Given.{charge_refusals, through_slot, through_place, behind_place, IsSlotOf, IsPlace};
-ghost use Rattle.op_create.specs.Files.{IsOfVolume};
+ghost use Rattle.op_parts.specs.Given.{IsOfVolume};
 
-use crate::files::cost_of;
 use crate::numbers::{Given, number_given};
-use crate::quotas::{quota_seen, rows_seen};
 use lock_db::LockName;
 use op_law::{
     Granted, Listed, Looked, Need, NoMemory, Rest, Seen, block_seen, header_lbn, lock_seen, refused,
 };
+use op_parts::{cost_of, quota_seen, rows_seen};
 use plain_cat::{Mode, Refusal, Uic};
 use plain_vol::{over_quota, row_of};
 use std::alloc::Global;

@@ -1,121 +1,28 @@
 //! The writes that make a file and enter it.
 
-ghost use Rattle.std.specs.Prelude.{◌≡◌, ◌≤◌, ◌<◌, ◌*◌, ◌++◌, [], ◌∷◌, false, Some, length, map, is_ok, None, IfOk, OnOk};
+ghost use Rattle.std.specs.Prelude.{◌≡◌, ◌≤◌, ◌*◌, ◌++◌, [], ◌∷◌, Some, length, map, None, IfOk, OnOk};
 ghost use Rattle.std.specs.List.{range_with_len};
-ghost use Rattle.fx_dir.specs.Writing.{IsInForm, block_of};
-ghost use Rattle.fx_dir.specs.Directory.{directory};
+ghost use Rattle.fx_dir.specs.Writing.{block_of};
 ghost use Rattle.lock_db.specs.declared.name.LockName.TheVariants.{S};
 ghost use Rattle.plain_cat.specs.declared.history.Stage.TheVariants as stage;
-ghost use Rattle.plain_vol.specs.Lookups.{versions};
-ghost use Rattle.plain_vol.specs.Directories.{is_taken};
 ghost use Rattle.vol_parts.specs.Parts.{IsGeometry};
 ghost use Rattle.vol_spell.specs.Reading.{IsFileNumber};
 ghost use Rattle.op_law.specs.Writing.{holding, empty_handed, write_at, header_write};
-ghost use Rattle.op_law.specs.Moving.{raw_entry, entries_of, move_write, insertion_moves, insertion_writes};
 ghost use Rattle.op_law.specs.Entering.{body_writes, new_header, entry_for, making_writes};
 ghost use Rattle.op_law.specs.Behind.{blocks_alone};
-ghost use Rattle.op_create.specs.Names.{dir_seen, IsReadable};
-ghost use Rattle.op_create.specs.Files.{file_made, entry_made, IsSound, IsNewIn, IsOfVolume};
+ghost use Rattle.op_parts.specs.Names.{dir_seen, IsReadable};
+ghost use Rattle.op_parts.specs.Given.{IsOfVolume};
+ghost use Rattle.op_create.specs.Files.{file_made, entry_made, IsSound, IsNewIn};
 
-use crate::files::{NewFile, cost_of, header_block};
-use crate::names::DirSeen;
-use crate::quotas::push_charge;
-use fx_dir::{DirFault, Move, RawEnt, RawName, insert_moves, packed, read_dir};
+use crate::files::{NewFile, header_block};
+use fx_dir::packed;
 use lock_db::LockName;
-use op_law::{NoMemory, Numbers, PlanWrite, Writes, blocks_of, header_lbn, place_in};
-use plain_cat::{Blocks, Clusters, DirEnt, Fid, Stage};
-use std::alloc::{AllocError, Global};
+use op_law::{NoMemory, Numbers, PlanWrite, Writes};
+use op_parts::{DirSeen, cost_of, push_charge, push_header, push_insertion};
+use plain_cat::{Clusters, DirEnt, Fid, Stage};
+use std::alloc::Global;
 use vol_parts::Geometry;
 use vol_words::Block;
-
-// ---- an entry
-
-// An entry as a directory's blocks have it.
-fn raw_entry(alloc: Global, e: &DirEnt) -> Result<RawEnt, NoMemory>
-    ensures { IfOk result (λ raw. raw ≡ raw_entry e.now) }
-{
-    Ok(RawEnt {
-        name: RawName::new(alloc, e.name.items())?,
-        ver: e.ver,
-        num: e.fid.num,
-        seq: e.fid.seq,
-        limit: 32767,
-        flags: 0,
-    })
-}
-
-// Whether blocks are read as a directory.
-fn is_directory(alloc: Global, blocks: &Blocks) -> Result<bool, NoMemory>
-    ensures { IfOk result (λ b. b ≡ is_ok (directory blocks.now)) }
-{
-    match read_dir(alloc, blocks.items()) {
-        Ok(_) => Ok(true),
-        Err(DirFault::NoMemory) => Err(AllocError),
-        Err(DirFault::BadRecord(_)) => Ok(false),
-        Err(DirFault::BadOrder) => Ok(false),
-        Err(DirFault::Clash) => Ok(false),
-    }
-}
-
-// The moves that enter an entry: none where the blocks are no directory, or have no room for it.
-fn insertion_moves(alloc: Global, d: &DirSeen<'_>, e: &DirEnt) -> Result<Vec<Move>, NoMemory>
-    requires readable { IsReadable d.now }
-    requires form { IsInForm (raw_entry e.now) }
-    requires new { is_taken e.now.ver (versions e.now.name (entries_of (dir_seen d.now))) ≡ false }
-    ensures { IfOk result (λ ms. ms.items ≡ insertion_moves (dir_seen d.now) e.now) }
-{
-    let blocks = blocks_of(alloc, d.blocks)?;
-    if !is_directory(alloc, &blocks)? {
-        return Ok(Vec::new(alloc));
-    }
-    match insert_moves(alloc, blocks.items(), &raw_entry(alloc, e)?)? {
-        Some(moves) => Ok(moves),
-        None => Ok(Vec::new(alloc)),
-    }
-}
-
-// The write of a move.
-fn move_write(alloc: Global, d: &DirSeen<'_>, m: &Move, stage: Stage) -> PlanWrite
-    requires { IsReadable d.now }
-    ensures { result ≡ move_write (dir_seen d.now) stage m.now }
-{
-    let at = m.vbn.saturating_sub(1) as usize;
-    let clusters = Clusters::new(alloc);
-    let numbers = Numbers::new(alloc);
-    PlanWrite {
-        lock: LockName::S(d.fid.num),
-        lbn: place_in(d.head, at).unwrap_or(0),
-        block: m.block,
-        stage,
-        clusters,
-        numbers,
-        number: None,
-    }
-}
-
-/// Adds the writes that enter an entry, of which the last leaves the stage `after`, and those in front of it `before`. A refusal
-/// of memory says nothing of the writes.
-#[tactic(auto, unfolding(op_law::specs::Moving::insertion_writes))]
-pub fn push_insertion(
-    alloc: Global,
-    writes: &mut Writes,
-    d: &DirSeen<'_>,
-    e: &DirEnt,
-    before: Stage,
-    after: Stage,
-) -> Result<(), NoMemory>
-    requires readable { IsReadable d.now }
-    requires form { IsInForm (raw_entry e.now) }
-    requires new { is_taken e.now.ver (versions e.now.name (entries_of (dir_seen d.now))) ≡ false }
-    ensures { OnOk result (writes.new ≡ writes.old ++ insertion_writes (dir_seen d.now) e.now before after) }
-{
-    let moves = insertion_moves(alloc, d, e)?;
-    for (i, m) in moves.as_slice().iter().enumerate() {
-        let stage = if i + 1 < moves.len() { before } else { after };
-        writes.push(move_write(alloc, d, m, stage))?;
-    }
-    Ok(())
-}
 
 // ---- a file
 
@@ -183,7 +90,7 @@ fn push_body(
 }
 
 // Adds the write of the header of a new file of these clusters.
-fn push_header(
+fn push_new_header(
     alloc: Global,
     writes: &mut Writes,
     g: &Geometry,
@@ -200,15 +107,9 @@ fn push_header(
     requires within { IsOfVolume g.now clusters.now None }
     ensures { OnOk result (writes.new ≡ writes.old ++ header_write g.now n (new_header g.now parent n (entry_made f.now) clusters.now) stage.Lost empty_handed ∷ []) }
 {
-    writes.push(PlanWrite {
-        lock: LockName::S(n),
-        lbn: header_lbn(g, n),
-        block: header_block(alloc, g, parent, n, f, clusters)?,
-        stage: Stage::Lost,
-        clusters: Clusters::new(alloc),
-        numbers: Numbers::new(alloc),
-        number: None,
-    })
+    let block = header_block(alloc, g, parent, n, f, clusters)?;
+    let none = Clusters::new(alloc);
+    push_header(alloc, writes, g, n, &block, Stage::Lost, none, None)
 }
 
 // ---- the plan
@@ -258,7 +159,7 @@ pub(crate) fn making_writes(
         Some(n),
     )?;
     push_body(alloc, &mut writes, g, n, f, clusters)?;
-    push_header(alloc, &mut writes, g, d.fid, n, f, clusters)?;
+    push_new_header(alloc, &mut writes, g, d.fid, n, f, clusters)?;
     let e = entry_for(alloc, n, f)?;
     push_insertion(alloc, &mut writes, d, &e, Stage::Lost, Stage::Done)?;
     Ok(writes)

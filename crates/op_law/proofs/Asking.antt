@@ -30,6 +30,7 @@ use Rattle.op_law.specs.Needs.{events_of, IsNext}
 use Rattle.op_law.specs.Fits.{HasSeen, things, IsSeenOn}
 use Rattle.op_law.specs.Laws.{held_in, planned, under_way, MayNeed, IsRight, WritesNothing, IsPlan, Lawful}
 use Rattle.op_law.proofs.Walking.{ObeysBy, IsFine, next_fine, may_need}
+use Rattle.op_law.proofs.Brief.{Briefs, briefs}
 use Rattle.op_law.proofs.Ends.{LeavesNothing, EndsBy, left_by}
 use Rattle.op_law.proofs.Doing.{AreDone, done_right}
 
@@ -94,14 +95,15 @@ module _ (x : Cmd) (node : ℕ) (seen : Seen) where
   IsDoneBy bs own c stock held p (Some a) = IsDoneEither bs own c stock held p a
 
 -- A command that searches for space at most once, whose plans ask as it may, refuse without a write and leave nothing outside,
--- and which on all blocks that have what it has seen needs what it may, and has a plan that is done, whether its ask is granted or
--- not.
+-- and which on all blocks that have what it has seen needs what it may, is brief, and has a plan that is done, whether its ask is
+-- granted or not.
 pub record Asks (x : Cmd) : Type 0 where
   pub searches : (g : Geometry) (channel : Option Chan) → SearchesOnce (events_of g channel x)
   pub shaped : (g : Geometry) (channel : Option Chan) → EveryEnd (λ held p. IsShapedBy x held p p.ask) (events_of g channel x) []
   pub ends : (g : Geometry) (channel : Option Chan) (space : Space) → EndsBy (things space.clusters space.number) (HasNoSpace space) (events_of g channel x)
-  pub obeys : (node : ℕ) (seen : Seen) (bs : List Block) (own : Owners) (c : Cat) (stock : Things) → Spells seen.geometry bs own c → Outs node own (things seen.clusters seen.number) stock → knows node x seen c ≡ true
+  pub obeys : (node : ℕ) (seen : Seen) (bs : List Block) (own : Owners) (c : Cat) (stock : Things) → Spells seen.geometry bs own c → Outs node own (things seen.clusters seen.number) stock → knows node x seen c ≡ true → HasSeen x seen
       → ObeysBy x seen.geometry bs own c seen (λ held p. IsDoneBy x node seen bs own c stock held p p.ask) (events_of seen.geometry seen.channel x) []
+  pub brief : Briefs x
 
 -- ---- the first writes of a plan
 
@@ -137,7 +139,7 @@ module _ (x : Cmd) (asks : Asks x) (node : ℕ) (seen : Seen) (has : HasSeen x s
   fine : (bs : List Block) (own : Owners) (c : Cat) (stock : Things) (next : Need) → Spells seen.geometry bs own c → knows node x seen c ≡ true → StandsIn bs seen.blocks → Outs node own (things seen.clusters seen.number) stock → IsNext x seen next
       → IsFine x seen bs own c (λ held p. IsDoneBy x node seen bs own c stock held p p.ask) next
   fine bs own c stock next s known stands outs goes =
-      next_fine x seen bs own c (λ held p. IsDoneBy x node seen bs own c stock held p p.ask) next (asks.searches seen.geometry seen.channel) (asks.obeys node seen bs own c stock s outs known) stands has goes
+      next_fine x seen bs own c (λ held p. IsDoneBy x node seen bs own c stock held p p.ask) next (asks.searches seen.geometry seen.channel) (asks.obeys node seen bs own c stock s outs known has) stands has goes
 
   may : (bs : List Block) (own : Owners) (c : Cat) (next : Need) → IsSeenOn node x seen bs own c → IsNext x seen next → MayNeed x seen bs own c next
   may bs own c next on goes =
@@ -204,4 +206,5 @@ asks_lawful x asks = record {
   needs = λ node seen bs own c next has on goes. may x asks node seen has bs own c next on goes;
   plans = λ node seen p has ready. plan_right x asks node seen has p ready;
   refusals = λ seen p has ready. nothing_written x asks 0 seen has p ready;
+  brief = briefs x asks.brief;
 }

@@ -31,6 +31,7 @@ use Rattle.op_law.specs.Fits.{HasSeen, things, IsSeenOn}
 use Rattle.op_law.specs.Rows.{plain_plan}
 use Rattle.op_law.specs.Laws.{held_in, planned, under_way, MayNeed, AreNamed, LeavesDirs, KeepsOut, IsRight, WritesNothing, IsPlan, Lawful}
 use Rattle.op_law.proofs.Walking.{EveryPlan, every_plan, ObeysBy, IsFine, next_fine, may_need}
+use Rattle.op_law.proofs.Brief.{Briefs, briefs}
 use Rattle.op_law.proofs.Ends.{LeavesNothing, EndsBy, left_by}
 use Rattle.op_law.proofs.Naming.{named_guards}
 
@@ -78,13 +79,14 @@ module _ (x : Cmd) (node : ℕ) (seen : Seen) where
       }
 
 -- A command that searches for space at most once, whose plans ask for nothing, refuse without a write and leave nothing outside,
--- and which on all blocks that have what it has seen needs what it may, and has a plan that is done.
+-- and which on all blocks that have what it has seen needs what it may, is brief, and has a plan that is done.
 pub record Does (x : Cmd) : Type 0 where
   pub searches : (g : Geometry) (channel : Option Chan) → SearchesOnce (events_of g channel x)
   pub shaped : (g : Geometry) (channel : Option Chan) → EveryPlan IsShaped (events_of g channel x)
   pub ends : (g : Geometry) (channel : Option Chan) (space : Space) → EndsBy (things space.clusters space.number) (HasNoSpace space) (events_of g channel x)
   pub obeys : (node : ℕ) (seen : Seen) (bs : List Block) (own : Owners) (c : Cat) (stock : Things) → Spells seen.geometry bs own c → Outs node own (things seen.clusters seen.number) stock → knows node x seen c ≡ true
       → ObeysBy x seen.geometry bs own c seen (IsDone x node seen bs own c stock) (events_of seen.geometry seen.channel x) []
+  pub brief : Briefs x
 
 module _ (x : Cmd) (does : Does x) (node : ℕ) (seen : Seen) (has : HasSeen x seen) where
   fine : (bs : List Block) (own : Owners) (c : Cat) (stock : Things) (next : Need) → Spells seen.geometry bs own c → knows node x seen c ≡ true → StandsIn bs seen.blocks → Outs node own (things seen.clusters seen.number) stock → IsNext x seen next
@@ -114,4 +116,5 @@ does_lawful x does = record {
   needs = λ node seen bs own c next has on goes. may x does node seen has bs own c next on goes;
   plans = λ node seen p has ready. plan_right x does node seen has p ready;
   refusals = λ seen p has ready. (shaped_so x does 0 seen has p ready).refused;
+  brief = briefs x does.brief;
 }

@@ -5,6 +5,8 @@ pub mod Looks
 pub mod Going
 pub mod Following
 pub mod Walking
+pub mod Brief
+pub mod Counting
 pub mod Through
 pub mod Replying
 pub mod OnlyLooking
@@ -17,3 +19,5 @@ pub mod Doing
 pub mod Asking
 pub mod Ordering
 pub mod Versions
+pub mod RemovalEnds
+pub mod Spaceless

@@ -24,6 +24,7 @@ use Rattle.op_law.specs.Knows.{channel_of, has_channel, knows}
 use Rattle.op_law.specs.Fits.{things}
 use Rattle.op_law.specs.Laws.{planned, under_way, IsRight, WritesNothing, IsPlan, Lawful}
 use Rattle.op_law.proofs.Replying.{looks_reply}
+use Rattle.op_law.proofs.Brief.{Briefs, briefs}
 use Rattle.op_law.proofs.Walking.{EveryPlan, every_plan, Obeys, kept, next_fine, may_need}
 
 -- a plan that writes nothing and asks for nothing
@@ -35,11 +36,12 @@ pub record IsPlain (p : Plan) : Type 0 where
 abbrev pub IsAnswer : Cmd → Option Chan → Cat → Plan → Type 0
 IsAnswer x channel c p = (node : ℕ) → has_channel c node (channel_of x) channel ≡ true → Answer c node x p.reply c
 
--- A command that only looks: it searches for no space, writes nothing, and on all blocks its plan is its answer.
+-- A command that only looks: it searches for no space, writes nothing, and on all blocks its plan is its answer, and it is brief.
 pub record OnlyLooks (x : Cmd) : Type 0 where
   pub searches : (g : Geometry) (channel : Option Chan) → HasNoSearch (events_of g channel x)
   pub plain : (g : Geometry) (channel : Option Chan) → EveryPlan IsPlain (events_of g channel x)
   pub obeys : (g : Geometry) (channel : Option Chan) (seen : Seen) (bs : List Block) (own : Owners) (c : Cat) → Spells g bs own c → Obeys x g bs own c seen (IsAnswer x channel c) (events_of g channel x) []
+  pub brief : Briefs x
 
 none_once : (es : Events) → HasNoSearch es → SearchesOnce es
 none_once (Take name mode next) none = none_once next none
@@ -100,4 +102,5 @@ module _ (x : Cmd) (looks : OnlyLooks x) where
         (next_fine x seen bs own c (λ held. IsAnswer x seen.channel c) next (once seen.geometry seen.channel) (looks.obeys seen.geometry seen.channel seen bs own c on.spelt) on.stands has is);
     plans = plan;
     refusals = λ seen p has is. nothing_written 0 seen p has is;
+    brief = briefs x looks.brief;
   }

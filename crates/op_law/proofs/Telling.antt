@@ -50,7 +50,7 @@ blocks_said b h e =
     let sound = reads-sound b h e in
     length-lbns_in (runs_in b) ∙ blocks-of b sound.size ∙ ap (λ (x : Hdr). x.blocks) sound.fields
 
-quotient : (k w : ℕ) → 1 ≤ w → k * w / w ≡ k
+pub quotient : (k w : ℕ) → 1 ≤ w → k * w / w ≡ k
 quotient k w low = ap (λ x. x / w) (let z : k * w ≡ k * w + 0 = omega arith in z) ∙ div-mul-add k w 0 (omega arith)
 
 -- ---- the slot of a number

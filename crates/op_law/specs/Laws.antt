@@ -41,6 +41,7 @@ use Rattle.vol_parts.specs.Volumes.{most_clusters}
 use Rattle.op_law.specs.Order.{IsBefore}
 use Rattle.op_law.specs.Needs.{events_of, IsNext}
 use Rattle.op_law.specs.Fits.{HasSeen, things, IsSeenOn}
+use Rattle.op_law.specs.Bounds.{IsBrief}
 
 -- ---- a command under way
 
@@ -204,9 +205,11 @@ IsPlan node cmd seen p (Some a) =
     × IsLawful seen.geometry node (under_way cmd seen (take a.at p.writes) (knows node cmd seen))
 
 -- The law of a command: it searches for space at most once; what it needs next, whatever it has seen, it may need on all blocks
--- that have that; and its plan is right at each node.
+-- that have that; its plan is right at each node; and it is brief on blocks that have what it has seen, where a directory has one
+-- cluster and a file no more than a header lists.
 pub record Lawful (cmd : Cmd) : Type 0 where
   pub searches : (g : Geometry) (channel : Option Chan) → SearchesOnce (events_of g channel cmd)
   pub needs : (node : ℕ) (seen : Seen) (bs : List Block) (own : Owners) (c : Cat) (next : Need) → HasSeen cmd seen → IsSeenOn node cmd seen bs own c → IsNext cmd seen next → MayNeed cmd seen bs own c next
   pub plans : (node : ℕ) (seen : Seen) (p : Plan) → HasSeen cmd seen → IsNext cmd seen (need.Ready p) → IsPlan node cmd seen p p.ask
   pub refusals : (seen : Seen) (p : Plan) → HasSeen cmd seen → IsNext cmd seen (need.Ready p) → WritesNothing p p.reply
+  pub brief : (node : ℕ) (seen : Seen) (bs : List Block) (own : Owners) (c : Cat) → HasSeen cmd seen → IsSeenOn node cmd seen bs own c → IsBrief cmd seen

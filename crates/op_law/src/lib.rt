@@ -14,7 +14,7 @@ mod seen;
 
 pub use alone::run_alone;
 pub use laws::{looks_reply, seen_goes_on};
-pub use lists::{SeenBlocks, SeenLocks, Writes};
+pub use lists::{KeptLocks, SeenBlocks, SeenLocks, Writes};
 pub use need::{Ask, Need, Plan, PlanWrite};
 pub use numbers::Numbers;
 pub use operation::Operation;

@@ -1,5 +1,5 @@
 -- The law of LOOKUP, LIST and STAT.
-use Rattle.std.proofs.Common.{◌≡◌, ◌∙◌, inl, ℕ, Bool, true, false, cond, List, [], ◌∷◌, Option, Some, None, refl, ap}
+use Rattle.std.proofs.Common.{◌≡◌, ◌∙◌, inl, ℕ, Bool, true, false, cond, List, [], ◌∷◌, Option, Some, None, refl, ap, arith}
 use Rattle.std.specs.Prelude.{option_map, Ok}
 use Rattle.vol_words.specs.Fields.{Block}
 use Rattle.fx_header.specs.declared.slot.Hdr.{Hdr}
@@ -27,13 +27,15 @@ use Rattle.vol_spell.specs.Spelling.{Spells}
 use Rattle.op_law.specs.declared.need.Plan.{Plan}
 use Rattle.op_law.specs.declared.seen.Seen.{Seen}
 use Rattle.op_law.specs.declared.seen.Chan.{Chan}
-use Rattle.op_law.specs.Events.{HasNoSearch}
+use Rattle.op_law.specs.Events.{Space, space_of, HasNoSearch}
 use Rattle.op_law.specs.Rows.{plain_plan, answers, live_in, through_header, through_directory, entries_seen}
 use Rattle.op_law.specs.Needs.{facts_of, facts_or_none, lookup_events, list_events, stat_events, events_of}
 use Rattle.op_law.specs.Laws.{Lawful}
 use Rattle.op_law.proofs.Telling.{live_reads, live_is, not_live, blocks_whole}
 use Rattle.op_law.proofs.Walking.{EveryPlan, Obeys}
 use Rattle.op_law.proofs.Through.{header_so, directory_so, file_header, file_told, listed_blocks, header_obeys, directory_obeys}
+use Rattle.op_law.proofs.Brief.{BriefBy, Briefs}
+use Rattle.op_law.proofs.Counting.{header_brief, directory_brief}
 use Rattle.op_law.proofs.OnlyLooking.{IsPlain, IsAnswer, only_looks_lawful}
 use Rattle.op_lookup.specs.Kinds.{IsLook}
 
@@ -120,5 +122,21 @@ obeys (cmd.List dir) look g channel seen bs own c s = directory_told (cmd.List d
 obeys (cmd.Stat file) look g channel seen bs own c s = stat_told (cmd.Stat file) channel g seen bs own c s file (λ node new. refl)
 obeys other look g channel seen bs own c s = absurd look
 
+-- ---- they are brief
+
+facts_brief : (bs : List Block) (space : Space) (o : Option Hdr) → BriefBy bs space 120 (facts_or_none o) 3 69
+facts_brief bs space None = omega arith
+facts_brief bs space (Some h) = omega arith
+
+brief : (x : Cmd) → IsLook x → Briefs x
+unfolding events_of lookup_events list_events stat_events
+brief (cmd.Lookup reg dir name ver) look node seen bs own c on =
+    directory_brief bs (space_of seen) 120 seen.geometry own c on.spelt dir PR 4 70 (omega arith) _ (omega arith) (λ blocks few. omega arith)
+brief (cmd.List dir) look node seen bs own c on =
+    directory_brief bs (space_of seen) 120 seen.geometry own c on.spelt dir PR 4 70 (omega arith) _ (omega arith) (λ blocks few. omega arith)
+brief (cmd.Stat file) look node seen bs own c on =
+    header_brief bs (space_of seen) 120 seen.geometry own c on.spelt file PR 4 70 (omega arith) _ (omega arith) (λ is. facts_brief bs (space_of seen) _)
+brief other look node seen bs own c on = absurd look
+
 pub look_lawful : (x : Cmd) → IsLook x → Lawful x
-look_lawful x look = only_looks_lawful x (record { searches = searches x look; plain = plain x look; obeys = obeys x look })
+look_lawful x look = only_looks_lawful x (record { searches = searches x look; plain = plain x look; obeys = obeys x look; brief = brief x look })

@@ -1,3 +1,4 @@
 pub mod Looking
 pub mod Lawful
 pub mod Truncs
+pub mod Opening

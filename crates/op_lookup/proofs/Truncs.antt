@@ -28,7 +28,7 @@ use Rattle.op_law.specs.declared.need.Plan.{Plan}
 use Rattle.op_law.specs.declared.seen.Seen.{Seen}
 use Rattle.op_law.specs.declared.seen.Chan.{Chan}
 use Rattle.op_law.specs.declared.need.Need.{Need}
-use Rattle.op_law.specs.Events.{Events, Space, HasNoSearch, following}
+use Rattle.op_law.specs.Events.{Events, Space, space_of, HasNoSearch, following}
 use Rattle.op_law.specs.Rows.{refused as refused_need, plain_plan, refuses, live_in, through_header}
 use Rattle.op_law.specs.Refusing.{SeenFile, seen_file, if_file, unless_refused}
 use Rattle.op_law.specs.Writing.{clusters_for}
@@ -38,6 +38,8 @@ use Rattle.op_law.specs.Laws.{Lawful}
 use Rattle.op_law.proofs.Telling.{live_is, not_live}
 use Rattle.op_law.proofs.Walking.{EveryPlan, Obeys}
 use Rattle.op_law.proofs.Through.{header_so, file_header, file_told, header_obeys}
+use Rattle.op_law.proofs.Brief.{BriefBy, Briefs}
+use Rattle.op_law.proofs.Counting.{header_brief}
 use Rattle.op_law.proofs.OnlyLooking.{IsPlain, IsAnswer, only_looks_lawful}
 use Rattle.op_lookup.specs.Kinds.{IsSystemTrunc}
 
@@ -102,8 +104,16 @@ obeys : (x : Cmd) → IsSystemTrunc x → (g : Geometry) (channel : Option Chan)
 obeys (cmd.Trunc file blocks) system g channel seen bs own c s = trunc_obeys file blocks system channel g seen bs own c s
 obeys other system g channel seen bs own c s = absurd system
 
+brief : (x : Cmd) → IsSystemTrunc x → Briefs x
+unfolding events_of trunc_events
+brief (cmd.Trunc file blocks) system node seen bs own c on =
+    let b = file_header bs seen.geometry file in
+    header_brief bs (space_of seen) 120 seen.geometry own c on.spelt file PW 4 70 (omega arith) _ (omega arith)
+    (λ is. behind seen.geometry file (clusters_for seen.geometry blocks) system (λ es. BriefBy bs (space_of seen) 120 es 3 69) b (live_in file.seq b) (omega arith) (omega arith))
+brief other system node seen bs own c on = absurd system
+
 pub trunc_lawful : (x : Cmd) → IsSystemTrunc x → Lawful x
-trunc_lawful x system = only_looks_lawful x (record { searches = searches x system; plain = plain x system; obeys = obeys x system })
+trunc_lawful x system = only_looks_lawful x (record { searches = searches x system; plain = plain x system; obeys = obeys x system; brief = brief x system })
 
 -- ---- the next need
 

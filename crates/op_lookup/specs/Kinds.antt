@@ -1,7 +1,7 @@
--- The commands that only look, and those of a second operation, for the tests.
+-- The commands that only look, and those of two operations for the tests.
 use Rattle.std.specs.Prelude.{◌≤◌}
 use Rattle.plain_cat.specs.declared.command.Cmd.{Cmd}
-use Rattle.plain_cat.specs.declared.command.Cmd.TheVariants.{Lookup, List, Stat, Trunc}
+use Rattle.plain_cat.specs.declared.command.Cmd.TheVariants.{Lookup, List, Stat, Trunc, OpenFile}
 
 abbrev pub IsLook : Cmd → Type 0
 IsLook (Lookup reg dir name ver) = Unit {0}
@@ -13,3 +13,8 @@ IsLook other = ⊥
 abbrev pub IsSystemTrunc : Cmd → Type 0
 IsSystemTrunc (Trunc file blocks) = file.num ≤ 11
 IsSystemTrunc other = ⊥
+
+-- an OPEN, which asks for the lock of who has the file open
+abbrev pub IsOpen : Cmd → Type 0
+IsOpen (OpenFile chan file mode) = Unit {0}
+IsOpen other = ⊥

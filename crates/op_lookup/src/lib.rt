@@ -2,6 +2,8 @@
 #![tactic(auto)]
 
 mod looks;
+#[cfg(test)]
+mod opens;
 mod operation;
 #[cfg(test)]
 mod system_truncs;

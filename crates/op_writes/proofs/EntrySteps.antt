@@ -1,124 +1,50 @@
 -- The writes that enter an entry into a directory are steps, and the directory's lock guards them.
-use Rattle.std.proofs.Common.{◌≡◌, ◌∙◌, ◌<◌, ◌-◌, ◌++◌, false, List, [], ◌∷◌, Some, None, Ok, length, map, take, drop, take_all, unwrap_or, inl, inr, ℕ, refl, sym, ap, subst, arith, length-append}
-use Rattle.std.proofs.lemmas.Option.{slice_get-get_or}
+use Rattle.std.proofs.Common.{◌≡◌, ◌∙◌, ◌<◌, ◌-◌, ◌++◌, List, [], ◌∷◌, Some, None, length, map, take, drop, unwrap_or, inl, inr, ℕ, sym, ap, subst}
 use Rattle.vol_words.specs.Fields.{Block}
-use Rattle.vol_words.specs.Packing.{pack, over}
-use Rattle.fx_dir.specs.declared.RawEnt.{RawEnt}
 use Rattle.fx_dir.specs.declared.Move.{Move}
-use Rattle.fx_dir.specs.Entries.{has, plain}
-use Rattle.fx_dir.specs.Directory.{plainly, dir_entries}
-use Rattle.fx_dir.specs.Writing.{IsInForm, IsRanged, name_of, if_fits}
-use Rattle.fx_dir.specs.Moves.{written as moved, inserted, as_new, insert_writes, insertion, insertion_on, on_entries, Inserts}
-use Rattle.fx_dir.proofs.Meeting.{Sound}
-use Rattle.fx_dir.proofs.Based.{long-from}
-use Rattle.fx_dir.proofs.Seeing.{inserted-each, plain-as_new, as_new-form, as_new-ranged}
-use Rattle.fx_dir.proofs.Inserting.{inserts}
-use Rattle.blk_whole.proofs.Ranges.{read-sound}
-use Rattle.blk_whole.proofs.Moving.{whole_insertion}
+use Rattle.fx_dir.specs.Moves.{written as moved}
 use Rattle.lock_db.specs.declared.name.LockName.TheVariants.{S}
 use Rattle.plain_cat.specs.declared.ids.Fid.{Fid}
 use Rattle.plain_cat.specs.declared.entries.DirEnt.{DirEnt}
 use Rattle.plain_cat.specs.declared.history.Stage.{Stage}
 use Rattle.plain_cat.specs.declared.cat.Cat.{Cat}
 use Rattle.plain_cat.specs.declared.cat.File.{File}
-use Rattle.plain_vol.specs.Lookups.{versions}
-use Rattle.plain_vol.specs.Directories.{inserted as listed, is_taken, fits}
+use Rattle.plain_vol.specs.Directories.{inserted as listed}
 use Rattle.plain_vol.specs.Changes.{with_entries}
 use Rattle.vol_owners.specs.Lists.{Has}
 use Rattle.vol_owners.specs.Owners.{Owners}
 use Rattle.vol_owners.proofs.Listing.{has_parted}
 use Rattle.vol_parts.specs.declared.geometry.Geometry.{Geometry}
 use Rattle.vol_parts.specs.declared.geometry.Part.TheVariants.{Header}
-use Rattle.vol_parts.specs.Catalogues.{plain_entry}
 use Rattle.vol_spell.specs.Reading.{owner_at}
 use Rattle.vol_spell.specs.Spelling.{Spells}
 use Rattle.vol_spell.specs.Bodies.{IsOfBody}
 use Rattle.vol_spell.proofs.Frames.{of_body}
+use Rattle.vol_writes.specs.Entries.{blocks_of, AreMovesIn, CanBeEntered, Enters}
+use Rattle.vol_writes.proofs.EntryAdds.{entry_enters}
 use Rattle.vol_under.specs.Chains.{End}
 use Rattle.vol_under.specs.Guards.{guard_by}
 use Rattle.op_law.specs.declared.need.PlanWrite.{PlanWrite}
 use Rattle.op_law.specs.Writing.{empty_handed}
 use Rattle.op_law.proofs.Naming.{under_lock, TouchesNoHeader}
-use Rattle.op_law.specs.Moving.{SeenDir, move_write, moves_at, raw_entry, insertion_moves, insertion_writes, with_new}
+use Rattle.op_law.specs.Moving.{SeenDir, move_write, moves_at, insertion_moves, insertion_writes, with_new}
 use Rattle.op_writes.specs.Chained.{Chain, StepsOf, StageOf, after_writes, TouchedBy, StandsOn, OthersStay}
-use Rattle.op_writes.specs.EntryWrites.{dir_in, CanBeEntered, EntrySteps, EntryGuards}
-use Rattle.op_writes.proofs.EntryLists.{inserted_plain, map_plain, not_there, none_over}
-use Rattle.op_writes.proofs.EntryDirs.{blocks_of, IsDirAt, dir_at, dir_lists}
-use Rattle.op_writes.proofs.EntryMoves.{AreMovesTo, moves_touch, moves_leave, moves_steps}
-
--- a list with an item at its end has one more than those in front of it
-one_behind : {A : Type 0} (xs : List A) (y : A) → length (xs ++ y ∷ []) - 1 < length (xs ++ y ∷ [])
-one_behind xs y = let n = length-append xs (y ∷ []) in omega arith
+use Rattle.op_writes.specs.EntryWrites.{dir_in, EntrySteps, EntryGuards}
+use Rattle.op_writes.proofs.EntryMoves.{moves_touch, moves_leave, moves_steps}
 
 module _ (g : Geometry) (bs : List Block) (own : Owners) (x : Cat) (dir : Fid) (d : File) (e : DirEnt) (s : Spells g bs own x) (can : CanBeEntered g x dir.num d e) where
-  abbrev at : IsDirAt g bs dir.num d
-  at = dir_at g bs own x s dir.num can.number d can.file can.dir
-
-  abbrev old : List Block
-  old = blocks_of g bs dir.num
-
-  abbrev fs : List RawEnt
-  fs = at.entries
-
-  abbrev r : RawEnt
-  r = raw_entry e
-
-  abbrev new : RawEnt
-  new = as_new fs r
+  enters : Enters g bs dir.num d e
+  enters = entry_enters g bs own x dir.num d e s can
 
   -- the moves of the insertion
   abbrev ms : List Move
-  ms = insert_writes old (pack name_of (length old) fs) new (pack name_of (length old) (inserted new fs))
-
-  lists : d.entries ≡ map plain_entry fs
-  lists = dir_lists g bs dir.num d at
-
-  form : IsInForm r
-  form = record { named = can.name; from_one = can.ver_from; to_last = can.ver_to; numbered = can.num }
-
-  fitted : over name_of (length old) (inserted new fs) ≡ []
-  fitted =
-      let same : plain_entry new ≡ e = ap plain_entry (plain-as_new fs r) in
-      let all : map plain_entry (inserted new fs) ≡ listed e d.entries = inserted_plain new fs ∙ (let back = sym lists in λ i. listed (same i) (back i)) in
-      none_over (length old) (inserted new fs) ((λ i. fits (at.count i) (all i)) ∙ can.room)
-
-  absent : has fs r ≡ false
-  absent = not_there r fs (ap (λ es. is_taken e.ver (versions e.name es)) (sym lists) ∙ can.new)
-
-  there : insertion old r ≡ Some ms
-  there = ap (insertion_on old r) at.read ∙ ap (λ left. if_fits left ms) fitted
+  ms = enters.moves
 
   moves_are : insertion_moves (dir_in g bs dir) e ≡ ms
-  moves_are = ap (λ o. unwrap_or o []) there
+  moves_are = ap (λ o. unwrap_or o []) enters.inserted_by
 
-  sound : Sound fs
-  sound = read-sound old fs at.whole at.read
-
-  all_sound : Sound (inserted new fs)
-  all_sound = record {
-    form = inserted-each IsInForm new fs (as_new-form fs r form) sound.form;
-    ranged = inserted-each IsRanged new fs (as_new-ranged fs r can.seq sound.ranged) sound.ranged;
-  }
-
-  law : Inserts old r ms
-  law = inserts old fs r ms (long-from old (λ i lt. (at.whole i _ (slice_get-get_or old i [] lt)).long)) at.read absent fitted sound all_sound refl
-
-  were : dir_entries old ≡ Ok (map plain fs)
-  were = ap plainly at.read
-
-  become : map plain_entry (inserted (plain r) (map plain fs)) ≡ listed e d.entries
-  become = inserted_plain (plain r) (map plain fs) ∙ ap (listed e) (map_plain fs ∙ sym lists)
-
-  are_moves : AreMovesTo old (map plain fs) (inserted (plain r) (map plain fs)) (length ms - 1) ms
-  are_moves =
-      let last : length ms - 1 < length ms = one_behind _ _ in
-      record {
-        whole = whole_insertion old r ms at.whole form there;
-        changes = law.changes;
-        decides = last;
-        same = λ i le. law.before i (omega arith) ∙ were;
-        other = λ i lt le. ap (λ ns. dir_entries (moved ns old)) (take_all i ms (omega arith)) ∙ law.after ∙ ap (on_entries (inserted (plain r))) were;
-      }
+  moves_in : AreMovesIn g bs own x dir.num d enters.old enters.new (length ms - 1) ms
+  moves_in = record { spelt = s; number = can.number; file = can.file; dir = can.dir; moves = enters.lead }
 
 module _ (end : End) (k : Chain) (dir : Fid) (d : File) (before after : Stage) (ws : List PlanWrite) (x : Cat) (bs : List Block) (own : Owners) where
   -- moves, of which the last decides, are steps that lead to these entries
@@ -133,10 +59,10 @@ pub entry_steps : (end : End) → EntrySteps end
 unfolding insertion_writes
 entry_steps end k dir d e before after ws x bs own s can stage done rest =
     let g = k.geometry in
-    let moves = ms g bs own x dir d e s.spelt can in
-    let are = are_moves g bs own x dir d e s.spelt can in
-    let steps = moves_steps end k dir d before after (length moves - 1) moves _ ws x bs own s can.number can.file (at g bs own x dir d e s.spelt can) are stage in
-    let listed_so = subst (λ (es : List DirEnt). LeadTo end k dir d before after ws x bs own es moves) (become g bs own x dir d e s.spelt can) steps in
+    let entered = enters g bs own x dir d e s.spelt can in
+    let moves = entered.moves in
+    let steps = moves_steps end k dir d before after (length moves - 1) moves entered.old entered.new ws x bs own s.outs (moves_in g bs own x dir d e s.spelt can) stage in
+    let listed_so = subst (λ (es : List DirEnt). LeadTo end k dir d before after ws x bs own es moves) entered.entries steps in
     subst (λ (ns : List Move). LeadTo end k dir d before after ws x bs own (listed e d.entries) ns) (sym (moves_are g bs own x dir d e s.spelt can)) listed_so done rest
 
 -- the directory as they leave it: the same header, and the blocks with the entry
@@ -146,12 +72,12 @@ unfolding insertion_writes
 entry_leaves g dir d e before after x bs own s can =
     let P : List Move → Type 0 = λ ns. dir_in g (after_writes (moves_at (dir_in g bs dir) before after (length ns - 1) ns) bs) dir ≡ record (dir_in g bs dir) { blocks = moved ns (blocks_of g bs dir.num) } in
     subst P (sym (moves_are g bs own x dir d e s can))
-    (moves_leave g bs own x dir d before after s can.number (at g bs own x dir d e s can) _ _ _ (ms g bs own x dir d e s can) (are_moves g bs own x dir d e s can))
+    (moves_leave g bs own x dir d before after _ _ _ (ms g bs own x dir d e s can) (moves_in g bs own x dir d e s can))
 
 -- there is a write, so that the last decides
 pub entry_moved : (g : Geometry) (dir : Fid) (d : File) (e : DirEnt) (x : Cat) (bs : List Block) (own : Owners) → Spells g bs own x → CanBeEntered g x dir.num d e
     → length (insertion_moves (dir_in g bs dir) e) - 1 < length (insertion_moves (dir_in g bs dir) e)
-entry_moved g dir d e x bs own s can = subst (λ (ns : List Move). length ns - 1 < length ns) (sym (moves_are g bs own x dir d e s can)) (are_moves g bs own x dir d e s can).decides
+entry_moved g dir d e x bs own s can = subst (λ (ns : List Move). length ns - 1 < length ns) (sym (moves_are g bs own x dir d e s can)) (enters g bs own x dir d e s can).lead.decides
 
 -- what they touch are blocks of the directory
 touched_body : (g : Geometry) (dir : Fid) (d : File) (e : DirEnt) (before after : Stage) (x : Cat) (bs : List Block) (own : Owners) (l : ℕ) → Spells g bs own x → CanBeEntered g x dir.num d e
@@ -159,17 +85,17 @@ touched_body : (g : Geometry) (dir : Fid) (d : File) (e : DirEnt) (before after 
 unfolding insertion_writes
 touched_body g dir d e before after x bs own l s can t =
     let u = subst (λ (ns : List Move). TouchedBy (moves_at (dir_in g bs dir) before after (length ns - 1) ns) l) (moves_are g bs own x dir d e s can) t in
-    let within = moves_touch g bs dir d before after (at g bs own x dir d e s can) _ _ _ (ms g bs own x dir d e s can) (are_moves g bs own x dir d e s can) l u in
+    let within = moves_touch g bs own x dir d before after _ _ _ (ms g bs own x dir d e s can) (moves_in g bs own x dir d e s can) l u in
     of_body g bs own x s dir.num l can.number within
 
 -- a write among others touches its block
-touched_at : (ws : List PlanWrite) (w : PlanWrite) → Has ws w → TouchedBy ws w.lbn
+pub touched_at : (ws : List PlanWrite) (w : PlanWrite) → Has ws w → TouchedBy ws w.lbn
 touched_at [] w t = absurd t
 touched_at (v ∷ ws) w (inl e) = inl (ap (λ (u : PlanWrite). u.lbn) e)
 touched_at (v ∷ ws) w (inr t) = inr (touched_at ws w t)
 
 -- moves are written under the directory's lock
-moves_locks : (d : SeenDir) (before after : Stage) (k : ℕ) (ms : List Move) (w : PlanWrite) → Has (moves_at d before after k ms) w → w.lock ≡ S d.fid.num
+pub moves_locks : (d : SeenDir) (before after : Stage) (k : ℕ) (ms : List Move) (w : PlanWrite) → Has (moves_at d before after k ms) w → w.lock ≡ S d.fid.num
 moves_locks d before after k ms w t = elim (has_parted (map (move_write d before) (take k ms)) (map (move_write d after) (drop k ms)) w t) [
   | inl h ↦ each before (take k ms) h
   | inr h ↦ each after (drop k ms) h

@@ -1,46 +1,42 @@
 -- The write of an owner's quota row is a step, and the lock Q guards it.
-use Rattle.std.proofs.Common.{◌≡◌, ◌*◌, ◌/◌, ◌%◌, ◌<◌, ◌++◌, ℕ, true, List, [], ◌∷◌, Option, Some, None, length, map, slice_set, refl, sym, ap, subst, ◌∙◌, inl, inr, arith}
+use Rattle.std.proofs.Common.{◌≡◌, ◌/◌, ◌%◌, ◌<◌, ◌++◌, ℕ, List, [], ◌∷◌, Option, Some, None, map, slice_set, refl, sym, ap, subst, ◌∙◌, inl, inr, arith}
 use Rattle.std.specs.Prelude.{flat_map}
-use Rattle.std.specs.List.{range_with_len, filter_map}
-use Rattle.vol_words.specs.Fields.{Block, IsWholeBlock}
+use Rattle.vol_words.specs.Fields.{Block}
 use Rattle.fx_quota.specs.declared.types.Row.{Row}
 use Rattle.fx_quota.specs.Rows.{row_in}
-use Rattle.fx_quota.proofs.Reading.{Fits}
 use Rattle.plain_cat.specs.declared.ids.Uic.{Uic}
 use Rattle.plain_cat.specs.declared.history.Stage.{Stage}
 use Rattle.plain_cat.specs.declared.cat.Cat.{Cat}
 use Rattle.plain_cat.specs.declared.cat.QuotaRow.{QuotaRow}
 use Rattle.plain_vol.specs.Lookups.{row_of}
-use Rattle.vol_owners.specs.Lists.{Has, Once}
+use Rattle.vol_owners.specs.Lists.{Has}
 use Rattle.vol_owners.specs.Owners.{Owners}
 use Rattle.vol_owners.specs.Places.{blocks_at}
-use Rattle.vol_owners.proofs.Placing.{ranged_has}
+use Rattle.vol_owners.proofs.Moving.{moves_compose}
 use Rattle.vol_parts.specs.declared.geometry.Geometry.{Geometry}
 use Rattle.vol_parts.specs.declared.geometry.Part.TheVariants.{Header, Quota}
 use Rattle.vol_parts.specs.Parts.{part_of}
 use Rattle.vol_parts.specs.Volumes.{rows_in}
-use Rattle.vol_parts.specs.Catalogues.{quota_row, rows_sorted}
-use Rattle.vol_spell.specs.Reading.{owner_at, quota_places, rows_told}
+use Rattle.vol_parts.specs.Catalogues.{rows_sorted}
+use Rattle.vol_spell.specs.Reading.{owner_at, quota_places}
 use Rattle.vol_spell.specs.Spelling.{Spells}
-use Rattle.vol_spell.specs.Kinds.{with_rows}
 use Rattle.vol_spell.proofs.Parts.{part_there}
-use Rattle.vol_spell.proofs.Viewing.{parts_stay, quota_set}
+use Rattle.vol_spell.proofs.Viewing.{parts_stay}
+use Rattle.vol_writes.specs.Rows.{IsInRange, IsRowChange, row_for, with_changed}
+use Rattle.vol_writes.proofs.RowOrder.{quota_changed, unchanged, sorted-changed}
+use Rattle.vol_writes.proofs.RowKinds.{row_spelt}
+use Rattle.vol_writes.proofs.QuotaBlocks.{quota_count, block_inside}
 use Rattle.vol_under.specs.Chains.{End, IsStep}
-use Rattle.vol_under.specs.Guards.{guard_by}
-use Rattle.vol_under.proofs.Reach.{step_kinds}
-use Rattle.blk_whole.proofs.Tables.{whole_row}
+use Rattle.vol_under.specs.Guards.{guard_by, IsCommandMove}
 use Rattle.op_law.specs.declared.need.PlanWrite.{PlanWrite}
 use Rattle.op_law.specs.Laws.{planned, AreNamed}
 use Rattle.op_law.proofs.Naming.{under_lock, TouchesNoHeader}
 use Rattle.op_law.specs.Writing.{Held}
-use Rattle.op_law.specs.Quotas.{block_with, row_seen, is_row_of, row_place, row_write, changed_write, owner_write}
+use Rattle.op_law.specs.Quotas.{block_with, is_row_of, row_place, row_write, changed_write, owner_write}
 use Rattle.lock_db.specs.declared.name.LockName.TheVariants.{Q}
 use Rattle.op_writes.specs.Chained.{Chain, StepsOf, StageOf, after_writes, StandsOn, FilesStay}
-use Rattle.op_writes.specs.RowWrites.{IsInRange, IsRowChange, row_for, with_changed, row_writes, RowSteps, RowGuards}
-use Rattle.op_writes.proofs.RowLists.{has_item}
-use Rattle.op_writes.proofs.RowOrder.{row_changed, quota_changed, unchanged, sorted-changed, owners-changed, row_of-sorted}
-use Rattle.op_writes.proofs.RowBlocks.{rows_numbered, row_active, rows-changed}
-use Rattle.op_writes.proofs.RowPlaces.{no_row, found_row, block_inside, quota_whole}
+use Rattle.op_writes.specs.RowWrites.{row_writes, RowSteps, RowGuards}
+use Rattle.op_writes.proofs.RowPlaces.{no_row, found_row}
 
 pub row_guards : RowGuards
 unfolding owner_write
@@ -70,20 +66,6 @@ row_no_header g bs base own x owner change s out spelt = by (row_place (is_row_o
 same_rows : (owner : Uic) (change : Row → Row) (rows : QuotaRow → QuotaRow) (is : IsRowChange change rows) (x : Cat) (rs : List Row) → x.quota ≡ rows_sorted rs → (Has (map (λ r. r.uic) rs) owner.0 → ⊥) → with_changed owner rows x ≡ x
 same_rows owner change rows is x rs e away =
     ap (λ (q : List QuotaRow). record x { quota = q }) (ap (map (quota_changed owner rows)) e ∙ sym (sorted-changed owner change rows is rs) ∙ ap rows_sorted (unchanged owner change rows is rs away) ∙ sym e)
-
--- a row that is in range fits
-fits_in : (r : Row) → IsInRange r → Fits r
-fits_in r h = record { uic = h.uic; usage = h.usage; quota = h.quota; over = h.over }
-
--- the row that is found is the catalogue's
-row_fits : (owner : Uic) (change : Row → Row) (x : Cat) (qs : List Block) (j : ℕ) → x.quota ≡ rows_sorted (flat_map rows_in qs) → Once (map (λ r. r.uic) (flat_map rows_in qs)) → j < 16 * length qs → is_row_of owner (row_seen qs j) ≡ true
-    → ((r : QuotaRow) → row_of owner x.quota ≡ Some r → IsInRange (change (row_for r))) → Fits (change (row_in (block_with qs j) (j % 16)))
-row_fits owner change x qs j quota once lt is range =
-    let old = row_in (block_with qs j) (j % 16) in
-    let active = row_active owner (block_with qs j) (j % 16) is in
-    let item : Has (filter_map (row_seen qs) (range_with_len 0 (16 * length qs))) old = has_item (λ (r : Row). r.uic) (row_seen qs) (range_with_len 0 (16 * length qs)) j old (ranged_has 0 (16 * length qs) j (omega arith) (omega arith)) active.0 in
-    let told : Has (flat_map rows_in qs) old = subst (λ (rs : List Row). Has rs old) (sym (rows_numbered qs)) item in
-    fits_in (change old) (range (quota_row old) (ap (row_of owner) quota ∙ row_of-sorted owner (flat_map rows_in qs) old once told active.1))
 
 module _ (end : End) (k : Chain) (owner : Uic) (change : Row → Row) (rows : QuotaRow → QuotaRow) (s : Stage) (out : Held) (ws : List PlanWrite) (x : Cat) (bs : List Block) (own : Owners)
     (on : StandsOn k out x bs own) (is : IsRowChange change rows) (range : (r : QuotaRow) → row_of owner x.quota ≡ Some r → IsInRange (change (row_for r))) (stage : StageOf k s (with_changed owner rows x)) where
@@ -115,25 +97,14 @@ module _ (end : End) (k : Chain) (owner : Uic) (change : Row → Row) (rows : Qu
     part : part_of g write.lbn ≡ Some (Quota (j / 16))
     part = part_there g bs own x on.spelt (Quota (j / 16)) inside
 
-    whole : IsWholeBlock (block_with seen j)
-    whole = quota_whole g bs own x (j / 16) on.spelt inside
-
-    told : rows_told g after ≡ map (row_changed owner change) (rows_told g bs)
-    told =
+    spelt : Spells g after own (with_changed owner rows x)
+    spelt =
         let found = found_row owner seen j e in
-        let fits = row_fits owner change x seen j on.spelt.rows.quota on.spelt.rows.once found.0 found.1 range in
-        ap (flat_map rows_in) (quota_set g bs own x (j / 16) write.lbn write.block on.spelt part) ∙ rows-changed owner change seen j whole found.0 on.spelt.rows.once found.1 fits
-
-    once : Once (map (λ r. r.uic) (rows_told g after))
-    once = subst (λ (ns : List ℕ). Once ns) (sym (ap (map (λ r. r.uic)) told ∙ owners-changed owner change rows is (rows_told g bs))) on.spelt.rows.once
-
-    same : with_rows g after x ≡ with_changed owner rows x
-    same = ap (λ (q : List QuotaRow). record x { quota = q }) (ap rows_sorted told ∙ sorted-changed owner change rows is (rows_told g bs) ∙ ap (map (quota_changed owner rows)) (sym on.spelt.rows.quota))
+        let count = quota_count g bs in
+        row_spelt g bs own x owner j change rows on.spelt (omega arith) found.1 is range
 
     step : IsStep g k.node k.cmd k.locks k.cat k.stock (planned write) bs own own (with_changed owner rows x)
-    step = subst (λ (c : Cat). IsStep g k.node k.cmd k.locks k.cat k.stock (planned write) bs own own c) same
-        ((step_kinds g k.node k.cmd k.locks k.cat k.stock).quota (planned write) bs own x (j / 16) on.spelt (whole_row (block_with seen j) (j % 16) (change (row_in (block_with seen j) (j % 16))) whole (omega arith)) part once
-        (subst (λ (c : Cat). StageOf k s c) (sym same) stage) on.outs)
+    step = record { stage = stage; spelt = spelt; moves = (moves_compose (IsCommandMove k.node k.locks)).still own; outs = on.outs }
 
     with_row : Rest (write ∷ []) → StepsOf end k (write ∷ ws) bs own
     with_row rest = (own, with_changed owner rows x, step, rest (record { spelt = step.spelt; outs = on.outs }) (λ i number. parts_stay g bs own x i write.lbn (Quota (j / 16)) write.block on.spelt number part (λ f. absurd (cc))))

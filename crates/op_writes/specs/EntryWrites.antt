@@ -1,7 +1,6 @@
 -- The writes that enter an entry into a directory.
-use Rattle.std.specs.Prelude.{◌≡◌, ◌≤◌, ◌<◌, ◌++◌, ◌^◌, ℕ, true, false, List, Some}
+use Rattle.std.specs.Prelude.{◌++◌, ℕ, List}
 use Rattle.vol_words.specs.Fields.{Block}
-use Rattle.vol_words.specs.Names.{is_name}
 use Rattle.lock_db.specs.declared.name.LockName.{LockName}
 use Rattle.lock_db.specs.declared.name.LockName.TheVariants.{S}
 use Rattle.plain_cat.specs.declared.ids.Fid.{Fid}
@@ -9,15 +8,15 @@ use Rattle.plain_cat.specs.declared.entries.DirEnt.{DirEnt}
 use Rattle.plain_cat.specs.declared.history.Stage.{Stage}
 use Rattle.plain_cat.specs.declared.cat.Cat.{Cat}
 use Rattle.plain_cat.specs.declared.cat.File.{File}
-use Rattle.plain_vol.specs.Lookups.{file_at, versions}
-use Rattle.plain_vol.specs.Directories.{inserted, is_taken, fits}
+use Rattle.plain_vol.specs.Directories.{inserted}
 use Rattle.plain_vol.specs.Changes.{with_entries}
 use Rattle.vol_owners.specs.Lists.{Has}
 use Rattle.vol_owners.specs.Owners.{Owners}
 use Rattle.vol_owners.specs.Places.{blocks_at}
 use Rattle.vol_parts.specs.declared.geometry.Geometry.{Geometry}
-use Rattle.vol_spell.specs.Reading.{IsFileNumber, header_block}
+use Rattle.vol_spell.specs.Reading.{header_block}
 use Rattle.vol_spell.specs.Spelling.{Spells}
+use Rattle.vol_writes.specs.Entries.{CanBeEntered}
 use Rattle.vol_under.specs.Chains.{End}
 use Rattle.op_law.specs.declared.need.PlanWrite.{PlanWrite}
 use Rattle.op_law.specs.Rows.{places_in}
@@ -29,19 +28,6 @@ use Rattle.op_writes.specs.Chained.{Chain, StepsOf, StageOf, after_writes, Stand
 -- the directory of an identifier as these blocks have it
 abbrev pub dir_in : Geometry → List Block → Fid → SeenDir
 dir_in g bs dir = record { fid = dir; head = header_block g bs dir.num; blocks = blocks_at bs (places_in (header_block g bs dir.num)) }
-
--- an entry within the limits of the format, which is not in the directory yet and has room there
-pub record CanBeEntered (g : Geometry) (x : Cat) (n : ℕ) (d : File) (e : DirEnt) : Type 0 where
-  pub number : IsFileNumber g n
-  pub file : file_at x n ≡ Some d
-  pub dir : d.dir ≡ true
-  pub name : is_name e.name ≡ true
-  pub ver_from : 1 ≤ e.ver
-  pub ver_to : e.ver ≤ 32767
-  pub num : e.fid.num ≤ 16777215
-  pub seq : e.fid.seq < 2 ^ 16
-  pub new : is_taken e.ver (versions e.name d.entries) ≡ false
-  pub room : fits g.cluster (inserted e d.entries) ≡ true
 
 -- the writes are steps: all but the last leave the stage `before`, and that the stage `after`. So are the writes behind them that
 -- are steps on what they leave.

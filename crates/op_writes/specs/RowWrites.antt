@@ -1,5 +1,5 @@
 -- The write of an owner's quota row.
-use Rattle.std.specs.Prelude.{◌≡◌, ◌==◌, ◌<◌, ◌++◌, ◌^◌, ℕ, List, Some, map, if◌then◌else◌}
+use Rattle.std.specs.Prelude.{◌≡◌, ◌++◌, ℕ, List, Some}
 use Rattle.vol_words.specs.Fields.{Block}
 use Rattle.fx_quota.specs.declared.types.Row.{Row}
 use Rattle.lock_db.specs.declared.name.LockName.{LockName}
@@ -13,35 +13,15 @@ use Rattle.vol_owners.specs.Lists.{Has}
 use Rattle.vol_owners.specs.Owners.{Owners}
 use Rattle.vol_owners.specs.Places.{blocks_at}
 use Rattle.vol_parts.specs.declared.geometry.Geometry.{Geometry}
-use Rattle.vol_parts.specs.Catalogues.{quota_row}
 use Rattle.vol_spell.specs.Reading.{quota_places}
 use Rattle.vol_spell.specs.Spelling.{Spells}
+use Rattle.vol_writes.specs.Rows.{IsInRange, IsRowChange, row_for, with_changed}
 use Rattle.vol_under.specs.Chains.{End}
 use Rattle.op_law.specs.declared.need.PlanWrite.{PlanWrite}
 use Rattle.op_law.specs.Laws.{AreNamed}
 use Rattle.op_law.specs.Writing.{Held}
 use Rattle.op_law.specs.Quotas.{owner_write}
 use Rattle.op_writes.specs.Chained.{Chain, StepsOf, StageOf, after_writes, StandsOn, FilesStay}
-
--- the numbers of a row are of 32 bits
-pub record IsInRange (r : Row) : Type 0 where
-  pub uic : r.uic < 2 ^ 32
-  pub usage : r.usage < 2 ^ 32
-  pub quota : r.quota < 2 ^ 32
-  pub over : r.over < 2 ^ 32
-
--- a change of a row on the volume, and the same change of the catalogue's row
-pub record IsRowChange (change : Row → Row) (rows : QuotaRow → QuotaRow) : Type 0 where
-  pub owner : (r : Row) → (change r).uic ≡ r.uic
-  pub same : (r : Row) → quota_row (change r) ≡ rows (quota_row r)
-
--- the row on the volume of a row of the catalogue
-abbrev pub row_for : QuotaRow → Row
-row_for r = record { uic = r.owner.0; usage = r.usage; quota = r.quota; over = r.over }
-
--- the catalogue in which the rows of an owner are changed
-abbrev pub with_changed : Uic → (QuotaRow → QuotaRow) → Cat → Cat
-with_changed owner rows x = record x { quota = map (λ r. if r.owner.0 == owner.0 then rows r else r) x.quota }
 
 -- the write of an owner's row by the quota blocks as they stand, if the owner has one
 abbrev pub row_writes : Geometry → List Block → Uic → (Row → Row) → Stage → Held → List PlanWrite

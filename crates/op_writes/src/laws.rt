@@ -2,8 +2,10 @@
 
 ghost use Rattle.vol_under.specs.Chains.{anywhere};
 ghost use Rattle.op_writes.specs.RowWrites.{RowSteps, RowGuards};
+ghost use Rattle.op_writes.specs.NewRows.{NewRowSteps, NewRowGuards};
 ghost use Rattle.op_writes.specs.FileWrites.{FileSteps, FileGuards};
 ghost use Rattle.op_writes.specs.EntryWrites.{EntrySteps, EntryGuards};
+ghost use Rattle.op_writes.specs.RemovalWrites.{RemovalSteps, RemovalGuards};
 
 /// The writes of a new file are steps: a directory's own blocks, in clusters that the node has outside, and then the header under
 /// the number that it has outside. After them the file has those clusters and that number, the command has nothing outside, and
@@ -28,6 +30,18 @@ pub fn entry_guards()
     ensures { EntryGuards }
 {}
 
+/// The writes that remove an entry from a directory are steps of a plan: those that pack the directory's entries leave them as
+/// they are, and from the next one on the directory has the others. So are the writes behind them that are steps on what they
+/// leave.
+pub fn removal_steps()
+    ensures { RemovalSteps anywhere }
+{}
+
+/// Each of those writes is under the directory's lock, which guards the block.
+pub fn removal_guards()
+    ensures { RemovalGuards }
+{}
+
 /// The write that changes an owner's quota row is a step, and so are the writes behind it that are steps on what it leaves. Where
 /// the owner has no row there is no write, and the catalogue is the same.
 pub fn row_steps()
@@ -37,4 +51,15 @@ pub fn row_steps()
 /// The write of an owner's quota row is under the lock Q, which guards the block.
 pub fn row_guards()
     ensures { RowGuards }
+{}
+
+/// The write that makes the first quota row that is not active that of an owner without a row is a step, and so are the writes
+/// behind it that are steps on what it leaves. Behind it the catalogue has that row more, in order of owner.
+pub fn new_row_steps()
+    ensures { NewRowSteps anywhere }
+{}
+
+/// The write of a new quota row is under the lock Q, which guards the block.
+pub fn new_row_guards()
+    ensures { NewRowGuards }
 {}

@@ -4,6 +4,7 @@ use Rattle.vol_words.specs.Fields.{Block}
 use Rattle.core_state.specs.Worlds.{Plain}
 use Rattle.core_state.specs.Images.{IsTold, IsTorn}
 use Rattle.core_state.specs.Events.{after_turn, is_over, is_write, next_event}
+use Rattle.core_step.specs.Memory.{takes_none}
 
 -- ---- plays
 
@@ -118,6 +119,12 @@ pub record IsBeforeWrite (IsNext : ℕ → Type 0) (first : List Block) (told no
   pub next : IsNext node
   pub write : is_write (next_event w node) ≡ true
   pub image : IsTold told first → IsTorn told now w.blocks (after_turn w node).blocks
+
+-- A turn that lacked memory: `IsNext` says whose turn it was, and the next event of that node takes memory.
+pub record IsBeforeTaking (IsNext : ℕ → Type 0) (w : Plain) : Type 0 where
+  pub node : ℕ
+  pub next : IsNext node
+  pub takes : takes_none w.locks node (next_event w node) ≡ false
 
 -- ---- what no turn changes
 

@@ -3,7 +3,7 @@ ghost use Rattle.vol_words.specs.Faults.{Rose};
 ghost use Rattle.core_state.specs.Worlds.{IsOfWorld};
 ghost use Rattle.core_state.specs.Images.{IsTold, told_as};
 ghost use Rattle.core_state.specs.Events.{is_over};
-ghost use Rattle.run_engine.specs.Walks.{first_from, next_from, AllOver, IsRotatedIn, IsSpent, IsNextTurn, IsBeforeWrite};
+ghost use Rattle.run_engine.specs.Walks.{first_from, next_from, AllOver, IsRotatedIn, IsSpent, IsNextTurn, IsBeforeWrite, IsBeforeTaking};
 
 use crate::fault::RunFault;
 use blk_drive::ImageDev;
@@ -66,6 +66,7 @@ pub fn rotate<I: ImageDev, O: Operation>(
     ensures later { I.faults w.old.image ≤ I.faults w.new.image }
     ensures cause { result ≡ Err RunFault.ImageFault → Rose (I.faults w.old.image) (I.faults w.new.image) }
     ensures before { result ≡ Err RunFault.ImageFault → IsBeforeWrite (IsNextTurn w.old.world w.new.world) w.old.world.blocks (I.told w.old.image) (I.told w.new.image) w.new.world }
+    ensures memory { result ≡ Err RunFault.NoMemory → IsBeforeTaking (IsNextTurn w.old.world w.new.world) w.new.world }
     ensures drive { IsTold (I.told w.old.image) w.old.world.blocks
         → (I.told w.new.image ≡ told_as (I.told w.old.image) w.new.world.blocks) ⊎ (result ≡ Err RunFault.ImageFault) }
 {

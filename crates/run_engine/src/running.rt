@@ -4,7 +4,8 @@ ghost use Rattle.plain_vol.specs.Own.{Whole};
 ghost use Rattle.core_state.specs.Worlds.{IsOfWorld};
 ghost use Rattle.core_state.specs.Images.{IsTold, IsTorn, told_as};
 ghost use Rattle.core_state.specs.Events.{is_over, is_write, next_event, after_turn};
-ghost use Rattle.run_engine.specs.Walks.{after_play, played, IsPartOfWalk, IsPlayed, IsRotatedIn, AllOver, IsSpent, IsNextPlay, IsNextIn, IsBeforeWrite, Stays, budget_of};
+ghost use Rattle.core_step.specs.Memory.{takes_none};
+ghost use Rattle.run_engine.specs.Walks.{after_play, played, IsPartOfWalk, IsPlayed, IsRotatedIn, AllOver, IsSpent, IsNextPlay, IsNextIn, IsBeforeWrite, IsBeforeTaking, Stays, budget_of};
 
 use crate::fault::RunFault;
 use crate::rotation::{nodes_of, rotate};
@@ -38,7 +39,8 @@ fn play<I: ImageDev, O: Operation>(
     ensures same { OnErr result (w.new.world ≡ w.old.world) }
     ensures later { I.faults w.old.image ≤ I.faults w.new.image }
     ensures cause { result ≡ Err TurnFault.ImageFault → Rose (I.faults w.old.image) (I.faults w.new.image) }
-    ensures alive { result ≡ Err TurnFault.ImageFault → is_over w.old.world node ≡ false }
+    ensures alive { OnErr result (is_over w.old.world node ≡ false) }
+    ensures memory { result ≡ Err TurnFault.NoMemory → takes_none w.old.world.locks node (next_event w.old.world node) ≡ false }
     ensures before { result ≡ Err TurnFault.ImageFault → is_write (next_event w.old.world node) ≡ true }
     ensures torn { result ≡ Err TurnFault.ImageFault → IsTold (I.told w.old.image) w.old.world.blocks
         → IsTorn (I.told w.old.image) (I.told w.new.image) w.old.world.blocks (after_turn w.old.world node).blocks }
@@ -63,6 +65,7 @@ fn play_all<I: ImageDev, O: Operation>(
     ensures later { I.faults w.old.image ≤ I.faults w.new.image }
     ensures cause { result ≡ Err TurnFault.ImageFault → Rose (I.faults w.old.image) (I.faults w.new.image) }
     ensures before { result ≡ Err TurnFault.ImageFault → IsBeforeWrite (IsNextPlay w.old.world plays.now w.new.world) w.old.world.blocks (I.told w.old.image) (I.told w.new.image) w.new.world }
+    ensures memory { result ≡ Err TurnFault.NoMemory → IsBeforeTaking (IsNextPlay w.old.world plays.now w.new.world) w.new.world }
     ensures drive { IsTold (I.told w.old.image) w.old.world.blocks
         → (I.told w.new.image ≡ told_as (I.told w.old.image) w.new.world.blocks) ⊎ (result ≡ Err TurnFault.ImageFault) }
 {
@@ -78,7 +81,8 @@ fn play_all<I: ImageDev, O: Operation>(
 /// The plays are nodes from 1 to the last. The rotation makes at most 2,048 × nodes × (commands + nodes) turns, and the run is
 /// `Unfinished` where a node is not over after so many. After a fault the world is as it was before the turn that failed.
 /// `ImageFault` comes only in place of a write of the node whose turn it is, and where the image has counted a fault: an image that
-/// told the blocks of the drive has then those from before that turn, or those that it would have left.
+/// told the blocks of the drive has then those from before that turn, or those that it would have left. `NoMemory` comes only where
+/// the event of the node whose turn it is takes memory: no write of a plan and no answer does.
 pub fn run<I: ImageDev, O: Operation>(
     alloc: Global,
     w: &mut World<I, O>,
@@ -93,6 +97,7 @@ pub fn run<I: ImageDev, O: Operation>(
     ensures later { I.faults w.old.image ≤ I.faults w.new.image }
     ensures cause { result ≡ Err RunFault.ImageFault → Rose (I.faults w.old.image) (I.faults w.new.image) }
     ensures before { result ≡ Err RunFault.ImageFault → IsBeforeWrite (IsNextIn w.old.world plays.now w.new.world) w.old.world.blocks (I.told w.old.image) (I.told w.new.image) w.new.world }
+    ensures memory { result ≡ Err RunFault.NoMemory → IsBeforeTaking (IsNextIn w.old.world plays.now w.new.world) w.new.world }
     ensures drive { IsTold (I.told w.old.image) w.old.world.blocks
         → (I.told w.new.image ≡ told_as (I.told w.old.image) w.new.world.blocks) ⊎ (result ≡ Err RunFault.ImageFault) }
 {

@@ -1,5 +1,7 @@
 use super::*;
-use plain_cat::{Cmd, Entry, Fid, Mode, Name, NoMemory, NumberList, Refusal, Reply, Stage, Uic};
+use plain_cat::{
+    Cmd, Entry, Fid, History, Mode, Name, NoMemory, NumberList, Refusal, Reply, Stage, Uic,
+};
 use std::alloc::Global;
 use std::test::Fail;
 
@@ -57,8 +59,8 @@ fn death(alloc: Global) -> Result<Entry, NoMemory> {
 }
 
 // One node dies, and the other does not find its file and makes one.
-fn death_and_two_answers(alloc: Global) -> Result<Vec<Entry>, NoMemory> {
-    let mut entries = Vec::new(alloc);
+fn death_and_two_answers(alloc: Global) -> Result<History, NoMemory> {
+    let mut entries = History::new(alloc);
     entries.push(death(alloc)?)?;
     let cmd = Cmd::Lookup {
         reg: 1,
@@ -75,7 +77,7 @@ fn death_and_two_answers(alloc: Global) -> Result<Vec<Entry>, NoMemory> {
 fn counts_answers_and_deaths(rt: HostRuntime) -> Result<(), Fail> {
     let alloc = rt.alloc();
     let entries = death_and_two_answers(alloc)?;
-    let text = report(alloc, entries.as_slice(), 211)?;
+    let text = report(alloc, &entries, 211)?;
     let wanted = "1 N1 died at lost, leaked 16 clusters, 8 numbers\n\
         2 N2 LOOKUP R1 (4,4,0) A.TXT;0 = refused NoSuchFile\n\
         3 N2 CREATE R1 (4,4,0) B.TXT;0 4 [1,4] = (21,1,0) B.TXT;1\n\
@@ -85,9 +87,9 @@ fn counts_answers_and_deaths(rt: HostRuntime) -> Result<(), Fail> {
 }
 
 // A file is made, opened, deleted while it is open, and closed.
-fn open_and_delete(alloc: Global) -> Result<Vec<Entry>, NoMemory> {
+fn open_and_delete(alloc: Global) -> Result<History, NoMemory> {
     let file = Fid { num: 12, seq: 1 };
-    let mut entries = Vec::new(alloc);
+    let mut entries = History::new(alloc);
     entries.push(created(alloc, 1, "A.TXT", 12)?)?;
     let cmd = Cmd::OpenFile {
         chan: 1,
@@ -114,9 +116,9 @@ fn lines_stand_with_and_without_the_last(rt: HostRuntime) -> Result<(), Fail> {
         2 N1 OPEN 1 (12,1,0) EX = open\n\
         3 N1 DELETE (4,4,0) A.TXT;0 = marked\n\
         4 N1 CLOSE 1 = closed and deleted\n";
-    let lines = report_lines(alloc, entries.as_slice())?;
+    let lines = report_lines(alloc, &entries)?;
     assert!(rt; lines.as_slice() == wanted.as_bytes());
-    let text = report(alloc, entries.as_slice(), 231)?;
+    let text = report(alloc, &entries, 231)?;
     assert!(rt; text.as_slice().starts_with(wanted.as_bytes()));
     assert!(rt;
         text.as_slice()
@@ -128,9 +130,9 @@ fn lines_stand_with_and_without_the_last(rt: HostRuntime) -> Result<(), Fail> {
 #[test]
 fn reports_no_entry(rt: HostRuntime) -> Result<(), Fail> {
     let alloc = rt.alloc();
-    let lines = report_lines(alloc, &[])?;
+    let lines = report_lines(alloc, &History::new(alloc))?;
     assert!(rt; lines.is_empty());
-    let text = report(alloc, &[], 0)?;
+    let text = report(alloc, &History::new(alloc), 0)?;
     assert!(rt; text.as_slice() == "end: 0 answered, 0 died, 0 free\n".as_bytes());
     Ok(())
 }

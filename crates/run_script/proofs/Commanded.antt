@@ -12,12 +12,12 @@ use Rattle.plain_cat.specs.declared.script.Line.{Line}
 use Rattle.plain_cat.specs.InForm.{is_within, is_eighth, is_file_ref, is_owner, is_version, is_count, is_quota, is_open_mode, is_dir_name, is_text, line_in_form}
 use Rattle.vol_texts.specs.Names.{uic_text, entry_text, mode_text}
 use Rattle.vol_texts.specs.Commands.{register_text}
-use Rattle.run_script.specs.Table.{is_on, kind_of, may_name}
+use Rattle.run_script.specs.Table.{is_on, kind_of}
 use Rattle.run_script.specs.Grammar.{IsRefText, IsCommandText, IsNodeCommand}
 use Rattle.run_script.specs.declared.built.Built.{Built}
 use Rattle.run_script.specs.declared.built.Kind.{Kind}
 use Rattle.run_script.specs.declared.built.Kind.TheVariants as kind
-use Rattle.run_script.specs.Steps.{number_of, register_of, ref_of, entry_of, owner_of, mode_of, dir_name_of, text_of, count_of, channel_of, quota_of, operand, arity, command_of, open_kind, named_kind, node_command, node_line, if_named, line_of, with1, with2, with3, with4, with5}
+use Rattle.run_script.specs.Steps.{number_of, register_of, ref_of, entry_of, owner_of, mode_of, dir_name_of, text_of, count_of, channel_of, quota_of, operand, arity, command_of, open_kind, named_kind, node_command, line_of, with1, with2, with3, with4, with5}
 use Rattle.run_script.proofs.Pieces.{three_of, four_of, five_of, six_of, seven_of, chosen, by_word, same_some, no_none, made1, made2, made3, made4, made5}
 use Rattle.run_script.proofs.Words.{register-back, register-sound, ref-back, ref-sound, entry-back, entry-sound, count-back, count-sound, owner-back, owner-sound, dir_name-back, dir_name-sound, some-back, some-sound, channel-back, channel-sound, mode-back, mode-sound, text-back, text-sound, quota-back, quota-sound}
 
@@ -524,25 +524,19 @@ back_command (line.QuotaShow x0) first spoken said limits =
     subst P (sym said) (back_quota_show x0 first limits)
 
 -- the command of a node is read from the words that say it
-node-back : (table : Built) (l : Line) (ws : List (List ℕ)) → IsNodeCommand table l ws → node_line table ws ≡ Some l
-unfolding node_line
-node-back table l ws h =
-    let on = and_parts (is_on table (kind_of l.cmd)) (may_name table l.cmd) h.on in
-    let r = back_command l.cmd (decimal l.node) h.spoken h.command h.limits in
-    let made : node_command table (decimal l.node ∷ h.spoken) (Some (kind_of l.cmd)) ≡ Some l =
-    ap (λ t. cond t (with2 (channel_of (decimal l.node)) (command_of (kind_of l.cmd) (decimal l.node ∷ h.spoken)) (λ node cmd. record { node = node; cmd = cmd })) None)
-    (and_from (is_on table (kind_of l.cmd)) (length (decimal l.node ∷ h.spoken) == arity (kind_of l.cmd) + 2) on.0 (eq-eqb _ _ r.count))
-    ∙ with2-some (channel_of (decimal l.node)) (command_of (kind_of l.cmd) (decimal l.node ∷ h.spoken)) (λ node cmd. record { node = node; cmd = cmd }) l.node l.cmd (channel-back l.node h.node) r.read in
-    ap (node_line table) h.whole ∙ ap (node_command table (decimal l.node ∷ h.spoken)) r.kind ∙ made
-
 pub line-back : (table : Built) (l : Line) (ws : List (List ℕ)) → IsNodeCommand table l ws → line_of table ws ≡ Some l
 unfolding line_of
 line-back table l ws h =
-    ap (if_named table) (node-back table l ws h) ∙ ap (λ t. cond t (Some l) None) (and_parts (is_on table (kind_of l.cmd)) (may_name table l.cmd) h.on).1
+    let r = back_command l.cmd (decimal l.node) h.spoken h.command h.limits in
+    let made : node_command table (decimal l.node ∷ h.spoken) (Some (kind_of l.cmd)) ≡ Some l =
+    ap (λ t. cond t (with2 (channel_of (decimal l.node)) (command_of (kind_of l.cmd) (decimal l.node ∷ h.spoken)) (λ node cmd. record { node = node; cmd = cmd })) None)
+    (and_from (is_on table (kind_of l.cmd)) (length (decimal l.node ∷ h.spoken) == arity (kind_of l.cmd) + 2) h.on (eq-eqb _ _ r.count))
+    ∙ with2-some (channel_of (decimal l.node)) (command_of (kind_of l.cmd) (decimal l.node ∷ h.spoken)) (λ node cmd. record { node = node; cmd = cmd }) l.node l.cmd (channel-back l.node h.node) r.read in
+    ap (line_of table) h.whole ∙ ap (node_command table (decimal l.node ∷ h.spoken)) r.kind ∙ made
 
-node_command-sound : (table : Built) (ws : List (List ℕ)) (o : Option Kind) (l : Line) → ((k : Kind) → o ≡ Some k → get_or ws 1 [] ≡ kind_word k) → node_command table ws o ≡ Some l → may_name table l.cmd ≡ true → IsNodeCommand table l ws
-node_command-sound table ws None l w h named = absurd (no_none l h)
-node_command-sound table ws (Some k) l w h named =
+node_command-sound : (table : Built) (ws : List (List ℕ)) (o : Option Kind) (l : Line) → ((k : Kind) → o ≡ Some k → get_or ws 1 [] ≡ kind_word k) → node_command table ws o ≡ Some l → IsNodeCommand table l ws
+node_command-sound table ws None l w h = absurd (no_none l h)
+node_command-sound table ws (Some k) l w h =
     let c = chosen (is_on table k && length ws == arity k + 2) _ l h in
     let t = and_parts (is_on table k) (length ws == arity k + 2) c.0 in
     let m = made2 (channel_of (get_or ws 0 [])) (command_of k ws) (λ node cmd. record { node = node; cmd = cmd }) l c.1 in
@@ -555,19 +549,9 @@ node_command-sound table ws (Some k) l w h named =
       node = n.0;
       command = s.command;
       limits = s.limits;
-      on = and_from (is_on table (kind_of m.b)) (may_name table m.b) (ap (is_on table) s.is ∙ t.0) (ap (λ (x : Line). may_name table x.cmd) m.made ∙ named);
+      on = ap (is_on table) s.is ∙ t.0;
     })
-
-node-sound : (table : Built) (ws : List (List ℕ)) (l : Line) → node_line table ws ≡ Some l → may_name table l.cmd ≡ true → IsNodeCommand table l ws
-unfolding node_line
-node-sound table ws l h named = node_command-sound table ws (named_kind (get_or ws 1 [])) l (λ k e. named_kind-sound (get_or ws 1 []) k e) h named
-
-if_named-made : (table : Built) (o : Option Line) (l : Line) → if_named table o ≡ Some l → (o ≡ Some l) × (may_name table l.cmd ≡ true)
-if_named-made table None l h = absurd (no_none l h)
-if_named-made table (Some x) l h =
-    let c = chosen (may_name table x.cmd) (Some x) l h in
-    (c.1, ap (λ (x : Line). may_name table x.cmd) (sym (same_some x l c.1)) ∙ c.0)
 
 pub line-sound : (table : Built) (ws : List (List ℕ)) (l : Line) → line_of table ws ≡ Some l → IsNodeCommand table l ws
 unfolding line_of
-line-sound table ws l h = let m = if_named-made table (node_line table ws) l h in node-sound table ws l m.0 m.1
+line-sound table ws l h = node_command-sound table ws (named_kind (get_or ws 1 [])) l (λ k e. named_kind-sound (get_or ws 1 []) k e) h

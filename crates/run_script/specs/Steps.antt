@@ -19,7 +19,7 @@ use Rattle.plain_cat.specs.declared.script.Line.{Line}
 use Rattle.plain_cat.specs.declared.script.Script.{Script}
 use Rattle.plain_cat.specs.InForm.{is_within, is_dir_name, is_text}
 use Rattle.run_script.specs.Lines.{parts, words_of}
-use Rattle.run_script.specs.Table.{is_on, may_name}
+use Rattle.run_script.specs.Table.{is_on}
 use Rattle.run_script.specs.Grammar.{main_dir, lost_dir, is_skipped}
 use Rattle.run_script.specs.Spelling.{may_stand, has_room, with_item}
 use Rattle.run_script.specs.declared.fault.LineFault.{LineFault}
@@ -200,16 +200,8 @@ abbrev pub node_command : Built → List (List ℕ) → Option Kind → Option L
 node_command table ws None = None
 node_command table ws (Some k) = if is_on table k && length ws == arity k + 2 then with2 (channel_of (get_or ws 0 [])) (command_of k ws) (λ node cmd. record { node = node; cmd = cmd }) else None
 
-unfoldable pub node_line : Built → List (List ℕ) → Option Line
-node_line table ws = node_command table ws (named_kind (get_or ws 1 []))
-
--- and where it may name its files
-abbrev pub if_named : Built → Option Line → Option Line
-if_named table None = None
-if_named table (Some l) = if may_name table l.cmd then Some l else None
-
 unfoldable pub line_of : Built → List (List ℕ) → Option Line
-line_of table ws = if_named table (node_line table ws)
+line_of table ws = node_command table ws (named_kind (get_or ws 1 []))
 
 -- a word of a schedule
 unfoldable pub run_of : List ℕ → Option Run

@@ -1,9 +1,6 @@
--- Which commands a program runs: its table has an entry for each kind of command, one for commands that name another file
--- than the main directory, and one for lines with KILL.
-use Rattle.std.specs.Prelude.{◌≡◌, ◌==◌, ◌&&◌, ◌||◌, Bool, true, false, List}
+-- Which commands a program runs: its table has an entry for each kind of command, and one for lines with KILL.
+use Rattle.std.specs.Prelude.{◌≡◌, Bool, true, false, List}
 use Rattle.std.specs.List.{list_all}
-use Rattle.plain_cat.specs.declared.script.FileRef.{FileRef}
-use Rattle.plain_cat.specs.declared.script.FileRef.TheVariants.{Fixed, Reg}
 use Rattle.plain_cat.specs.declared.script.LineCmd.{LineCmd}
 use Rattle.plain_cat.specs.declared.script.LineCmd.TheVariants as line
 use Rattle.plain_cat.specs.declared.script.Line.{Line}
@@ -11,7 +8,8 @@ use Rattle.run_script.specs.declared.built.Kind.{Kind}
 use Rattle.run_script.specs.declared.built.Kind.TheVariants as kind
 use Rattle.run_script.specs.declared.built.Built.{Built}
 
--- What the program runs so far: LOOKUP, LIST, STAT, CREATE and MKDIR, of each file and directory, and no deaths.
+-- What the program runs so far: LOOKUP, LIST, STAT, CREATE, MKDIR, EXTEND, TRUNC, DELETE and RENAME, of each file and directory,
+-- QUOTASET and QUOTASHOW, and no deaths.
 abbrev pub run_so_far : Built
 run_so_far = record {
   lookup = true;
@@ -19,17 +17,16 @@ run_so_far = record {
   stat = true;
   create = true;
   mkdir = true;
-  extend = false;
-  trunc = false;
-  delete = false;
-  rename = false;
+  extend = true;
+  trunc = true;
+  delete = true;
+  rename = true;
   open_file = false;
   close_file = false;
   read_block = false;
   write_block = false;
-  quota_set = false;
-  quota_show = false;
-  other_directories = true;
+  quota_set = true;
+  quota_show = true;
   kill = false;
 }
 
@@ -69,36 +66,9 @@ kind_of (line.WriteBlock chan vbn text) = kind.WriteBlock
 kind_of (line.QuotaSet owner quota over) = kind.QuotaSet
 kind_of (line.QuotaShow owner) = kind.QuotaShow
 
--- a reference is to the main directory, (4,4,0)
-abbrev pub is_main_ref : FileRef → Bool
-is_main_ref (Fixed fid) = (fid.num == 4) && (fid.seq == 4)
-is_main_ref (Reg reg) = false
-
--- a command names no other file than the main directory
-abbrev pub names_main_only : LineCmd → Bool
-names_main_only (line.Lookup reg dir name ver) = is_main_ref dir
-names_main_only (line.List dir) = is_main_ref dir
-names_main_only (line.Stat file) = is_main_ref file
-names_main_only (line.Create reg dir name ver blocks owner) = is_main_ref dir
-names_main_only (line.MkDir reg dir name owner) = is_main_ref dir
-names_main_only (line.Extend file blocks) = is_main_ref file
-names_main_only (line.Trunc file blocks) = is_main_ref file
-names_main_only (line.Delete dir name ver) = is_main_ref dir
-names_main_only (line.Rename dir name ver to to_ver) = is_main_ref dir
-names_main_only (line.OpenFile chan file mode) = is_main_ref file
-names_main_only (line.CloseFile chan) = true
-names_main_only (line.ReadBlock chan vbn) = true
-names_main_only (line.WriteBlock chan vbn text) = true
-names_main_only (line.QuotaSet owner quota over) = true
-names_main_only (line.QuotaShow owner) = true
-
--- a command may name its files
-abbrev pub may_name : Built → LineCmd → Bool
-may_name table cmd = table.other_directories || names_main_only cmd
-
--- a command is run: its kind is on, and it may name its files
+-- a command is run: its kind is on
 abbrev pub is_built : Built → LineCmd → Bool
-is_built table cmd = is_on table (kind_of cmd) && may_name table cmd
+is_built table cmd = is_on table (kind_of cmd)
 
 -- the command of each of these lines is run
 abbrev pub AreBuilt : Built → List Line → Type 0

@@ -1,6 +1,6 @@
 ghost use Rattle.std.specs.Prelude.{◌≡◌, ◌<◌};
 ghost use Rattle.run_script.specs.Lines.{words_of};
-ghost use Rattle.run_script.specs.Steps.{Gives, command_of, node_line, line_of, operand};
+ghost use Rattle.run_script.specs.Steps.{Gives, command_of, line_of, operand};
 
 use crate::built::{Built, Kind};
 use crate::fault::LineFault;
@@ -210,10 +210,10 @@ fn read_command(alloc: Global, kind: Kind, line: &[u8]) -> Result<LineCmd, LineF
     }
 }
 
-// Reads a node with its command, where the table has its kind.
-#[tactic(auto, unfolding(crate::specs::Steps::node_line))]
-fn read_node_line(alloc: Global, table: &Built, line: &[u8]) -> Result<Line, LineFault>
-    ensures { Gives (node_line table.now (words_of line.now)) result }
+/// Reads a node with its command, where the program runs commands of this kind.
+#[tactic(auto, unfolding(crate::specs::Steps::line_of))]
+pub fn read_node_command(alloc: Global, table: &Built, line: &[u8]) -> Result<Line, LineFault>
+    ensures { Gives (line_of table.now (words_of line.now)) result }
 {
     let Some(kind) = named_kind(part(line, b' ', 1)) else {
         return Err(LineFault::Bad);
@@ -224,17 +224,4 @@ fn read_node_line(alloc: Global, table: &Built, line: &[u8]) -> Result<Line, Lin
     let node = read_channel(part(line, b' ', 0))?;
     let cmd = read_command(alloc, kind, line)?;
     Ok(Line { node, cmd })
-}
-
-/// Reads a node with its command, where the program runs it.
-#[tactic(auto, unfolding(crate::specs::Steps::line_of))]
-pub fn read_node_command(alloc: Global, table: &Built, line: &[u8]) -> Result<Line, LineFault>
-    ensures { Gives (line_of table.now (words_of line.now)) result }
-{
-    let found = read_node_line(alloc, table, line)?;
-    if table.may_name(&found.cmd) {
-        Ok(found)
-    } else {
-        Err(LineFault::Bad)
-    }
 }

@@ -20,7 +20,6 @@ const ALL: Built = Built {
     write_block: true,
     quota_set: true,
     quota_show: true,
-    other_directories: true,
     kill: true,
 };
 
@@ -176,12 +175,12 @@ fn reads_all_that_is_on(rt: HostRuntime) -> Result<(), Fail> {
         "1 TRUNC R1 1",
         "1 DELETE MFD A.B;1",
         "1 RENAME MFD A.B;1 C.D;1",
+        "1 QUOTASET [1,4] 1 1",
+        "1 QUOTASHOW [1,4]",
         "1 OPEN 1 R1 CR",
         "1 CLOSE 1",
         "1 READ 1 1",
         "1 WRITE 1 1 A",
-        "1 QUOTASET [1,4] 1 1",
-        "1 QUOTASHOW [1,4]",
         "KILL 1 TURN 1",
     ];
     let mut text = Vec::from_slice(rt.alloc(), b"NODES 1\n")?;
@@ -189,7 +188,7 @@ fn reads_all_that_is_on(rt: HostRuntime) -> Result<(), Fail> {
         let mut alone = Vec::from_slice(rt.alloc(), b"NODES 1\n")?;
         alone.extend_from_slice(line.as_bytes())?;
         let taken = read_script(rt.alloc(), alone.as_slice()).is_ok();
-        assert_eq!(rt; taken, i < 5, "{line}");
+        assert_eq!(rt; taken, i < 11, "{line}");
         text.extend_from_slice(line.as_bytes())?;
         text.push(b'\n')?;
     }
@@ -222,25 +221,5 @@ fn stops_where_there_is_no_room(rt: HostRuntime) -> Result<(), Fail> {
         fault(alloc, b"NODES 1\nSCHED 1*65536\nSCHED 1\nbad") == Some(ScriptFault::TooMany)
     );
     assert!(rt; fault(alloc, b"NODES 1\nSCHED 1*65536 1 bad") == Some(ScriptFault::BadLine(2)));
-    Ok(())
-}
-
-#[test]
-fn names_the_main_directory_alone(rt: HostRuntime) -> Result<(), Fail> {
-    let main_only = Built {
-        other_directories: false,
-        ..BUILT
-    };
-    for (line, main) in [
-        ("NODES 1\n1 LOOKUP R1 MFD A.B;1", true),
-        ("NODES 1\n1 LOOKUP R1 (4,4,0) A.B;1", true),
-        ("NODES 1\n1 LOOKUP R1 LOST A.B;1", false),
-        ("NODES 1\n1 LOOKUP R1 (4,5,0) A.B;1", false),
-        ("NODES 1\n1 LOOKUP R1 R4 A.B;1", false),
-    ] {
-        let alone = read_with(rt.alloc(), &main_only, line.as_bytes()).is_ok();
-        assert_eq!(rt; alone, main, "{line}");
-        assert!(rt; read_script(rt.alloc(), line.as_bytes()).is_ok(), "{line}");
-    }
     Ok(())
 }

@@ -1,8 +1,12 @@
 ghost use Rattle.std.specs.Prelude.{◌≡◌, IfOk};
 
 use op_create::OpCreate;
+use op_delete::OpDelete;
+use op_extend::OpExtend;
 use op_law::{Need, NoMemory, Operation, Seen};
 use op_lookup::OpLookup;
+use op_quota::OpQuota;
+use op_rename::OpRename;
 use plain_cat::Cmd;
 use std::alloc::Global;
 
@@ -14,6 +18,18 @@ pub enum XqpOp {
 
     /// Of a CREATE or MKDIR.
     Create(OpCreate),
+
+    /// Of an EXTEND or TRUNC.
+    Extend(OpExtend),
+
+    /// Of a DELETE.
+    Delete(OpDelete),
+
+    /// Of a RENAME.
+    Rename(OpRename),
+
+    /// Of a QUOTASET or QUOTASHOW.
+    Quota(OpQuota),
 }
 
 impl Operation for XqpOp {
@@ -25,8 +41,15 @@ impl Operation for XqpOp {
 
     fn of(cmd: Cmd) -> Self {
         match cmd {
+            Cmd::Lookup { .. } | Cmd::List { .. } | Cmd::Stat { .. } => {
+                XqpOp::Lookup(OpLookup::of(cmd))
+            }
             Cmd::Create { .. } | Cmd::MkDir { .. } => XqpOp::Create(OpCreate::of(cmd)),
-            _ => XqpOp::Lookup(OpLookup::of(cmd)),
+            Cmd::Extend { .. } | Cmd::Trunc { .. } => XqpOp::Extend(OpExtend::of(cmd)),
+            Cmd::Delete { .. } => XqpOp::Delete(OpDelete::of(cmd)),
+            Cmd::Rename { .. } => XqpOp::Rename(OpRename::of(cmd)),
+            Cmd::QuotaSet { .. } | Cmd::QuotaShow { .. } => XqpOp::Quota(OpQuota::of(cmd)),
+            _ => unreachable!(),
         }
     }
 
@@ -34,6 +57,10 @@ impl Operation for XqpOp {
         match self {
             XqpOp::Lookup(op) => op.cmd(),
             XqpOp::Create(op) => op.cmd(),
+            XqpOp::Extend(op) => op.cmd(),
+            XqpOp::Delete(op) => op.cmd(),
+            XqpOp::Rename(op) => op.cmd(),
+            XqpOp::Quota(op) => op.cmd(),
         }
     }
 
@@ -41,6 +68,10 @@ impl Operation for XqpOp {
         match self {
             XqpOp::Lookup(op) => op.into_cmd(),
             XqpOp::Create(op) => op.into_cmd(),
+            XqpOp::Extend(op) => op.into_cmd(),
+            XqpOp::Delete(op) => op.into_cmd(),
+            XqpOp::Rename(op) => op.into_cmd(),
+            XqpOp::Quota(op) => op.into_cmd(),
         }
     }
 
@@ -48,6 +79,10 @@ impl Operation for XqpOp {
         match self {
             XqpOp::Lookup(op) => op.next(alloc, seen),
             XqpOp::Create(op) => op.next(alloc, seen),
+            XqpOp::Extend(op) => op.next(alloc, seen),
+            XqpOp::Delete(op) => op.next(alloc, seen),
+            XqpOp::Rename(op) => op.next(alloc, seen),
+            XqpOp::Quota(op) => op.next(alloc, seen),
         }
     }
 }

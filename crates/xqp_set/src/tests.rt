@@ -1,60 +1,34 @@
 ghost use Rattle.xqp_set.specs.Built.{IsBuilt};
 
 use crate::XqpOp;
-use blk_drive::{MemImage, Mirror};
 use lock_db::LockName;
 use op_law::{Operation, Plan, Seen, run_alone};
-use plain_cat::{Cmd, Fid, Mode, Name, NoMemory, Refusal, Reply, Uic};
+use plain_cat::{Cmd, Fid, Mode, NoMemory, Refusal, Reply, Uic};
 use plain_vol::is_in_form;
 use std::alloc::Global;
 use std::test::Fail;
-use vol_init::init;
-
-/// A volume of 1,024 blocks, in clusters of four, with 64 files.
-fn volume(alloc: Global) -> Result<Mirror<MemImage>, Fail> {
-    let image = MemImage::new(vec![in alloc; [0; 512]; 1024]?, Vec::new(alloc));
-    let Ok(mut mirror) = Mirror::load(alloc, image) else {
-        return Err(Fail::from("the image has a size of a volume"));
-    };
-    match init(alloc, &mut mirror, 4, 64, b"KVOL") {
-        Ok(()) => Ok(mirror),
-        Err(_) => Err(Fail::from("the volume is made")),
-    }
-}
+use vol_sample::{name, volume};
 
 /// What a command sees on the volume, and its plan, if it makes one.
-fn run(alloc: Global, cmd: Cmd) -> Result<Option<(Seen, Plan)>, Fail>
+fn run(alloc: Global, cmd: Cmd) -> Result<Option<(Seen, Plan)>, NoMemory>
     requires { IsBuilt cmd }
 {
-    let mirror = volume(alloc)?;
-    let blocks = mirror.all();
-    if blocks.len() < 64 || blocks.len() > 65_536 {
-        return Err(Fail::from("the blocks are those of a volume"));
-    }
-    Ok(run_alone(alloc, &XqpOp::of(cmd), blocks)?)
+    run_alone(alloc, &XqpOp::of(cmd), &volume())
 }
 
 fn fid(num: u32, seq: u16) -> Fid {
     Fid { num, seq }
 }
 
-fn name(alloc: Global, text: &[u8]) -> Result<Name, NoMemory> {
-    let mut name = Name::new(alloc);
-    for byte in text {
-        name.push(*byte)?;
-    }
-    Ok(name)
-}
-
-/// One lock, looks at five blocks, and then eleven entries.
+/// One lock, looks at three blocks, and then twelve entries.
 fn is_listed(seen: &Seen, plan: &Plan) -> bool {
     seen.locks.items().len() == 1
-        && seen.blocks.items().len() == 5
-        && matches!(&plan.reply, Reply::Listed(listed) if listed.items().len() == 11)
+        && seen.blocks.items().len() == 3
+        && matches!(&plan.reply, Reply::Listed(listed) if listed.items().len() == 12)
 }
 
 /// Whether a LIST of the main directory tells its entries.
-fn lists(alloc: Global) -> Result<bool, Fail> {
+fn lists(alloc: Global) -> Result<bool, NoMemory> {
     let ended = run(alloc, Cmd::List { dir: fid(4, 4) })?;
     Ok(matches!(&ended, Some((seen, plan)) if is_listed(seen, plan)))
 }
@@ -74,7 +48,7 @@ fn is_refused(seen: &Seen, plan: &Plan, looks: usize, why: Refusal) -> bool {
 }
 
 /// Whether a STAT with another sequence looks at one block and is refused.
-fn stat_is_refused(alloc: Global) -> Result<bool, Fail> {
+fn stat_is_refused(alloc: Global) -> Result<bool, NoMemory> {
     let ended = run(alloc, Cmd::Stat { file: fid(4, 5) })?;
     Ok(matches!(&ended, Some((seen, plan)) if is_refused(seen, plan, 1, Refusal::NoSuchFile)))
 }
@@ -89,12 +63,12 @@ fn a_refusal_goes_through_the_set(rt: HostRuntime) -> Result<(), Fail> {
 /// A creation that is refused for want of a quota row, under the locks of the main directory and of the quota, and writes nothing.
 fn has_no_quota(seen: &Seen, plan: &Plan) -> bool {
     let locks = [(LockName::S(4), Mode::PW), (LockName::Q, Mode::PW)];
-    seen.locks.items() == locks.as_slice() && is_refused(seen, plan, 9, Refusal::NoQuota)
+    seen.locks.items() == locks.as_slice() && is_refused(seen, plan, 5, Refusal::NoQuota)
 }
 
 /// Whether a CREATE of A.TXT in the main directory is in form, and refused for want of a quota row.
 #[tactic(auto, unfolding(plain_cat::specs::InForm::in_form))]
-fn creation_is_refused(alloc: Global) -> Result<bool, Fail> {
+fn creation_is_refused(alloc: Global) -> Result<bool, NoMemory> {
     let cmd = Cmd::Create {
         reg: 1,
         dir: fid(4, 4),
@@ -110,11 +84,39 @@ fn creation_is_refused(alloc: Global) -> Result<bool, Fail> {
     Ok(matches!(&ended, Some((seen, plan)) if has_no_quota(seen, plan)))
 }
 
-// The owner has no quota row, which shows once the quota file's four blocks are seen, behind the directory's header and its four.
+// The owner has no quota row, which shows once the quota file's two blocks are seen, behind the directory's header and its two.
 #[test]
 fn a_creation_goes_through_the_set(rt: HostRuntime) -> Result<(), Fail> {
     let refused = creation_is_refused(rt.alloc())?;
     assert!(&rt; refused);
+    Ok(())
+}
+
+/// The row of [1,4], under the lock of the quota file, of whose two blocks the first has it.
+fn is_usage(seen: &Seen, plan: &Plan) -> bool {
+    seen.locks.items() == [(LockName::Q, Mode::PR)].as_slice()
+        && seen.blocks.items().len() == 2
+        && matches!(
+            plan.reply,
+            Reply::Usage {
+                usage: 3,
+                quota: 200,
+                over: 0
+            }
+        )
+}
+
+/// Whether a QUOTASHOW of [1,4] tells its row.
+fn shows(alloc: Global) -> Result<bool, NoMemory> {
+    let owner = Uic(65_540);
+    let ended = run(alloc, Cmd::QuotaShow { owner })?;
+    Ok(matches!(&ended, Some((seen, plan)) if is_usage(seen, plan)))
+}
+
+#[test]
+fn a_quota_goes_through_the_set(rt: HostRuntime) -> Result<(), Fail> {
+    let told = shows(rt.alloc())?;
+    assert!(&rt; told);
     Ok(())
 }
 

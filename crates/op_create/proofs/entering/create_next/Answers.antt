@@ -4,8 +4,9 @@ use Rattle.op_law.specs.Writing.{clusters_for}
 use Rattle.op_law.specs.Moving.{SeenDir}
 use Rattle.op_law.specs.Entering.{create_in}
 use Rattle.op_law.specs.Behind.{FollowsBy}
-use Rattle.op_create.specs.Names.{dir_seen}
-use Rattle.op_create.proofs.Judged.{first_names, create_first}
+use Rattle.op_parts.specs.Names.{dir_seen}
+use Rattle.op_parts.proofs.Followed.{first_names}
+use Rattle.op_create.proofs.Judged.{create_first}
 use Rattle.op_create.proofs.entering.create_next.Goals as goal
 
 pub create_in-requires-clause-parent : goal.create_in-requires-clause-parent

@@ -4,8 +4,9 @@ use Rattle.op_law.specs.Events.{space_of}
 use Rattle.op_law.specs.Moving.{SeenDir}
 use Rattle.op_law.specs.Entering.{mkdir_in}
 use Rattle.op_law.specs.Behind.{FollowsBy}
-use Rattle.op_create.specs.Names.{dir_seen}
-use Rattle.op_create.proofs.Judged.{first_names, mkdir_first}
+use Rattle.op_parts.specs.Names.{dir_seen}
+use Rattle.op_parts.proofs.Followed.{first_names}
+use Rattle.op_create.proofs.Judged.{mkdir_first}
 use Rattle.vol_words.specs.Names.{is_name}
 use Rattle.op_create.proofs.DirNames.{dir_name_is}
 use Rattle.op_create.proofs.entering.mkdir_next.Goals as goal

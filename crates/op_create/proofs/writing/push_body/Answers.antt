@@ -1,6 +1,7 @@
 use Rattle.std.proofs.Common.{subst, get_or}
 use Rattle.vol_owners.specs.Lists.{Has}
-use Rattle.op_create.proofs.Clustered.{listed, one}
+use Rattle.op_parts.proofs.Clustered.{listed}
+use Rattle.op_create.proofs.Clustered.{one}
 use Rattle.op_create.proofs.writing.push_body.Goals as goal
 
 pub push_cluster-requires-clause-within : goal.push_cluster-requires-clause-within

@@ -1,9 +1,11 @@
 use Rattle.std.proofs.Common.{sym, subst}
-use Rattle.op_law.specs.Fits.{FitsOn}
-use Rattle.op_law.proofs.Meeting.{locked}
+use Rattle.op_law.specs.Alone.{IsMet}
+use Rattle.op_law.proofs.Meeting.{locked_alone}
 use Rattle.op_law.proofs.alone.lock.Goals as goal
 
 pub returns : goal.returns
 returns g c =
-    let x = locked (g.O.Operation.cmd_is c.args.op.now) c.args.seen.now c.args.blocks.now c.args.name c.args.mode c.requires.lawful c.requires.fits c.requires.need in
-    subst (λ ls. FitsOn (g.O.Operation.cmd_is c.args.op.now) (record c.args.seen.now { locks = ls }) c.args.blocks.now) (sym c.in_ok-push.ensures.ok) x
+    let x = g.O.Operation.cmd_is c.args.op.now in
+    let seen = c.args.seen.now in
+    subst (λ ls. IsMet x c.args.blocks.now seen (record seen { locks = ls })) (sym c.in_ok-push.ensures.ok)
+    (locked_alone x c.args.blocks.now seen c.args.name c.args.mode c.requires.lawful c.requires.alone c.requires.need)

@@ -1,13 +1,13 @@
-use Rattle.std.proofs.Common.{refl, sym, subst}
-use Rattle.std.proofs.lemmas.Option.{slice_get_read}
-use Rattle.op_law.specs.Fits.{FitsOn}
-use Rattle.op_law.proofs.Meeting.{looked}
+use Rattle.std.proofs.Common.{[], sym, subst, get_or}
+use Rattle.std.proofs.lemmas.Option.{slice_get-get_or}
+use Rattle.op_law.specs.Alone.{IsMet}
+use Rattle.op_law.proofs.Meeting.{looked_alone}
 use Rattle.op_law.proofs.alone.look.Goals as goal
 
 pub returns : goal.returns
 returns g c =
-    let b = c.in-Some.block.now in
-    let read = c.in-Some.ensures.lookup in
-    let at = slice_get_read c.args.blocks.now _ c.args.lbn b refl read.3.0 read.1 in
-    let x = looked (g.O.Operation.cmd_is c.args.op.now) c.args.seen.now c.args.blocks.now c.args.lbn b c.requires.lawful c.requires.fits c.requires.need at in
-    subst (λ bs. FitsOn (g.O.Operation.cmd_is c.args.op.now) (record c.args.seen.now { blocks = bs }) c.args.blocks.now) (sym c.in_ok-push.ensures.ok) x
+    let x = g.O.Operation.cmd_is c.args.op.now in
+    let seen = c.args.seen.now in
+    let at = slice_get-get_or c.args.blocks.now c.args.lbn [] c.requires.within in
+    subst (λ bs. IsMet x c.args.blocks.now seen (record seen { blocks = bs })) (sym c.in_ok-push.ensures.ok)
+    (looked_alone x c.args.blocks.now seen c.args.lbn (get_or c.args.blocks.now c.args.lbn []) c.requires.lawful c.requires.alone c.requires.need at)

@@ -1,9 +1,9 @@
 use Rattle.std.proofs.Common.{◌≡◌, ◌∙◌, ℕ, List, Err, sym, ap, subst}
 use Rattle.std.proofs.lemmas.Result.{err_from_is_err_and}
 use Rattle.run_engine.specs.declared.fault.RunFault.TheVariants as run
-use Rattle.run_engine.specs.Walks.{IsNextIn, IsBeforeWrite}
+use Rattle.run_engine.specs.Walks.{IsNextIn, IsBeforeWrite, IsBeforeTaking}
 use Rattle.run_engine.proofs.Staying.{played_stays, walk_stays}
-use Rattle.run_engine.proofs.Stopping.{image_fault, by_play, by_turn}
+use Rattle.run_engine.proofs.Stopping.{image_fault, no_memory, by_play, by_turn, taking_by_play, taking_by_turn}
 use Rattle.run_engine.proofs.Ending.{over_is_whole}
 use Rattle.run_engine.proofs.running.run.Goals as goal
 
@@ -36,3 +36,21 @@ returns-in_err-rotate-clause-before g c e =
     let new = c.rotate.new.w.world in
     subst (λ (ns : List ℕ). IsBeforeWrite (IsNextIn old ns new) old.blocks (g.I.ImageDev.told c.args.w.now.image) (g.I.ImageDev.told c.rotate.new.w.image) new) c.items.ensures
     (by_turn _ old c.play_all.new.w.world c.items.result.now old.blocks _ _ _ new c.in_ok-play_all.ensures.played c.in_ok-play_all.ensures.drive (λ q. cc) (c.in_err-rotate.ensures.before (ap Err (sym p.2 ∙ f))))
+
+pub returns-in_err-play_all-clause-memory : goal.returns-in_err-play_all-clause-memory
+returns-in_err-play_all-clause-memory g c e =
+    let p = err_from_is_err_and c.from_residual.result c.from_residual.ensures.1 in
+    let f : p.0 ≡ run.NoMemory = cc in
+    let old = c.args.w.now.world in
+    let new = c.play_all.new.w.world in
+    subst (λ (ns : List ℕ). IsBeforeTaking (IsNextIn old ns new) new) c.items.ensures
+    (taking_by_play old c.items.result.now new (c.in_err-play_all.ensures.memory (ap Err (no_memory c.in_err-play_all.field-0.0 (sym p.2 ∙ f)))))
+
+pub returns-in_err-rotate-clause-memory : goal.returns-in_err-rotate-clause-memory
+returns-in_err-rotate-clause-memory g c e =
+    let p = err_from_is_err_and c.from_residual-in_err-rotate.result c.from_residual-in_err-rotate.ensures.1 in
+    let f : p.0 ≡ run.NoMemory = cc in
+    let old = c.args.w.now.world in
+    let new = c.rotate.new.w.world in
+    subst (λ (ns : List ℕ). IsBeforeTaking (IsNextIn old ns new) new) c.items.ensures
+    (taking_by_turn old c.play_all.new.w.world c.items.result.now new c.in_ok-play_all.ensures.played (c.in_err-rotate.ensures.memory (ap Err (sym p.2 ∙ f))))

@@ -1,0 +1,35 @@
+use Rattle.std.proofs.Common.{rules, ◌≡◌, ◌∙◌, ◌<◌, false, Some, ap, sym, arith}
+use Rattle.std.specs.Prelude.{nat_le}
+use Rattle.std.proofs.lemmas.Bool.Decides.{nat_tests}
+use Rattle.plain_vol.specs.Lookups.{versions, entry_of}
+use Rattle.op_law.specs.Events.{Space as Given}
+use Rattle.op_law.specs.Behind.{goes_on_by, blocks_alone}
+use Rattle.op_law.specs.Moving.{entries_of}
+use Rattle.op_law.specs.Refusing.{if_entry}
+use Rattle.op_law.specs.Removing.{delete_in}
+use Rattle.op_parts.specs.Names.{dir_seen}
+use Rattle.op_delete.proofs.Found.{found_so, behind_entry}
+use Rattle.op_delete.proofs.Mapped.{mapped}
+use Rattle.op_delete.proofs.deleting.entry_looked.Goals as goal
+
+pub delete_in-requires-clause-entry : goal.delete_in-requires-clause-entry
+delete_in-requires-clause-entry c =
+    let name = c.args.name.now in
+    let found = ap (λ es. entry_of (versions name es) c.args.ver) (sym c.in_ok-entries.ensures) ∙ sym c.in-Some.ensures in
+    record {
+      readable = c.requires.readable;
+      few = c.requires.few;
+      there = found_so (blocks_alone c.args.d.now.blocks.now) name c.args.ver c.in-Some.e.now found;
+    }
+
+pub returns : goal.returns
+returns c =
+    let g = c.args.g.now in
+    let d = dir_seen c.args.d.now in
+    let e = c.in-Some.e.now in
+    let name = c.args.name.now in
+    let rest = c.args.rest in
+    let found = ap (λ es. entry_of (versions name es) c.args.ver) (sym c.in_ok-entries.ensures) ∙ sym c.in-Some.ensures in
+    let plain : nat_le e.fid.num 11 ≡ false = search rules in
+    mapped _ _ (λ n. (given : Given) → goes_on_by (delete_in g d e) rest given ≡ n) (λ n. (given : Given) → goes_on_by (if_entry (entry_of (versions name (entries_of d)) c.args.ver) (delete_in g d)) rest given ≡ n) c.delete_in.result
+    (λ n h given. behind_entry g d (entry_of (versions name (entries_of d)) c.args.ver) e rest.locks.now rest.blocks.now given found plain ∙ h given) c.delete_in.ensures

@@ -1,0 +1,4 @@
+pub mod Kinds
+pub mod Seeing
+pub mod Looking
+pub mod Deleting

@@ -1,0 +1,113 @@
+//! The file that an entry names, where one is in use: its number and its header.
+
+ghost use Rattle.std.specs.Prelude.{◌≡◌, ◌≤◌, length, option_map, IfSome};
+ghost use Rattle.vol_words.specs.Fields.{Block};
+ghost use Rattle.vol_parts.specs.Parts.{IsGeometry};
+ghost use Rattle.vol_parts.specs.declared.geometry.Geometry.{Geometry as Volume};
+ghost use Rattle.op_law.specs.declared.need.Plan.{Plan};
+ghost use Rattle.op_law.specs.Events.{Events, Make, Space, following};
+ghost use Rattle.op_law.specs.Rows.{places_in};
+ghost use Rattle.op_law.specs.Refusing.{SeenFile, seen_file, used_in, if_file};
+ghost use Rattle.op_law.specs.Removing.{under_lock, through_named};
+ghost use Rattle.op_law.specs.Behind.{behind_block, IsHeadOf};
+ghost use Rattle.op_law.specs.Readable.{HasMap, AreInside, HeadIsInside};
+ghost use Rattle.op_delete.specs.Seeing.{behind_named, ShowsFile};
+
+use fx_header::{Hdr, Slot, read_header};
+use lock_db::LockName;
+use op_law::{Granted, Looked, Need, Rest, block_seen, header_lbn, is_number, lock_seen};
+use plain_cat::{Fid, Mode};
+use vol_parts::Geometry;
+use vol_words::Block;
+
+/// A file in use whose header was seen. It may be marked for delete.
+#[derive(Clone, Copy)]
+pub struct FileSeen<'a> {
+    pub num: u32,
+
+    /// The block of its header.
+    pub head: &'a Block,
+
+    /// The fields that the header tells.
+    pub fields: Hdr,
+}
+
+/// The file that an entry names, where its header is seen.
+#[derive(Drop)]
+pub(crate) enum Named<'a> {
+    /// The file, and what was seen behind its header.
+    File(FileSeen<'a>, Rest<'a>),
+
+    /// No such file is in use.
+    Nothing,
+
+    /// The header is not seen yet: what the command needs next.
+    Next(Need),
+}
+
+// The header of the file in use of this sequence, by its block, or none where the slot has none.
+fn used_in(b: &Block, seq: u16) -> Option<Hdr>
+    ensures header { result ≡ used_in seq b.now }
+    ensures map { IfSome result (λ h. HasMap b.now) }
+    ensures count { IfSome result (λ h. length (places_in b.now) ≡ h.blocks) }
+{
+    match read_header(b) {
+        Ok(Slot::Used(h)) => if h.seq == seq { Some(h) } else { None },
+        Ok(Slot::Free(_)) => None,
+        Err(_) => None,
+    }
+}
+
+// The header of a number under its lock in PW. Where the lock is that of the directory it is held already.
+fn header_under<'a>(g: &Geometry, dir: u32, n: u32, rest: Rest<'a>) -> Looked<'a>
+    requires geometry { IsGeometry g.now }
+    requires number { n ≤ g.now.files }
+    ensures head { IsHeadOf rest.entry.blocks.now result }
+    ensures need { (next : Block → Events) (space : Space) → following (under_lock g.now dir n next) rest.entry.locks.now rest.entry.blocks.now space ≡ behind_block next space result }
+{
+    let lbn = header_lbn(g, n);
+    if n == dir {
+        return block_seen(LockName::S(n), lbn, rest);
+    }
+    match lock_seen(LockName::S(n), Mode::PW, rest) {
+        Granted::Next(need) => Looked::Next(need),
+        Granted::Held(behind) => block_seen(LockName::S(n), lbn, behind),
+    }
+}
+
+// The file of a header.
+fn file_in<'a>(fid: Fid, head: &'a Block, rest: Rest<'a>) -> Named<'a>
+    requires inside { AreInside head.now }
+    ensures file { ShowsFile fid.num result }
+    ensures need { (g : Volume) (plan : Plan) (next : SeenFile → Events) (space : Space)
+        → following (if_file (Make plan) next (option_map (seen_file g fid.num head.now) (used_in fid.seq head.now))) rest.entry.locks.now rest.entry.blocks.now space ≡ behind_named g plan next space result }
+{
+    match used_in(head, fid.seq) {
+        Some(fields) => Named::File(
+            FileSeen {
+                num: fid.num,
+                head,
+                fields,
+            },
+            rest,
+        ),
+        None => Named::Nothing,
+    }
+}
+
+/// The file that an entry of a directory of this number names. It takes no memory.
+pub(crate) fn named_seen<'a>(g: &Geometry, dir: u32, fid: Fid, rest: Rest<'a>) -> Named<'a>
+    requires geometry { IsGeometry g.now }
+    requires inside { HeadIsInside rest.blocks.now }
+    ensures file { ShowsFile g.now.files result }
+    ensures need { (plan : Plan) (next : SeenFile → Events) (space : Space)
+        → following (through_named g.now dir fid (Make plan) next) rest.entry.locks.now rest.entry.blocks.now space ≡ behind_named g.now plan next space result }
+{
+    if !is_number(g, fid) {
+        return Named::Nothing;
+    }
+    match header_under(g, dir, fid.num, rest) {
+        Looked::Next(need) => Named::Next(need),
+        Looked::Seen(head, behind) => file_in(fid, head, behind),
+    }
+}

@@ -1,0 +1,127 @@
+-- The outcome of EXTEND: the refusals in their order, and the file that is grown; and the stages on the way.
+use Rattle.std.proofs.Common.{◌≡◌, ◌≤◌, ◌∙◌, ℕ, Bool, true, false, cond, List, [], ◌∷◌, ◌++◌, Option, Some, None, ap, arith}
+use Rattle.std.specs.Prelude.{◌*◌, ◌+◌, ◌-◌, ◌/◌, nat_lt}
+use Rattle.std.proofs.lemmas.Bool.Decides.{nat_tests}
+use Rattle.plain_cat.specs.declared.ids.Fid.{Fid}
+use Rattle.plain_cat.specs.declared.command.Cmd.{Cmd}
+use Rattle.plain_cat.specs.declared.command.Cmd.TheVariants as cmd
+use Rattle.plain_cat.specs.declared.history.Stage.{Stage}
+use Rattle.plain_cat.specs.declared.history.Stage.TheVariants as stage
+use Rattle.plain_cat.specs.declared.reply.Reply.TheVariants as reply
+use Rattle.plain_cat.specs.declared.reply.Refusal.{Refusal}
+use Rattle.plain_cat.specs.declared.reply.Refusal.TheVariants as refusal
+use Rattle.plain_cat.specs.declared.cat.Cat.{Cat}
+use Rattle.plain_cat.specs.declared.cat.File.{File}
+use Rattle.plain_vol.specs.declared.outcome.Outcome.{Outcome}
+use Rattle.plain_vol.specs.Lookups.{live, row_of, free_clusters}
+use Rattle.plain_vol.specs.Changes.{charged, with_file, grown}
+use Rattle.plain_vol.specs.Answers.{refused, first_refusal, unless, is_kept, over_draft, extend_refusal, extend_of, extend_outcome, outcome, Answer}
+use Rattle.plain_vol.specs.Stages.{extend_stage, command_stage, stage_of, staged}
+use Rattle.plain_vol.proofs.LawSteps.{pick_exists}
+use Rattle.vol_parts.specs.declared.geometry.Geometry.{Geometry}
+use Rattle.vol_under.specs.UnderWay.{StandsAt}
+use Rattle.op_law.specs.Sizes.{size_shown}
+use Rattle.op_law.specs.Writing.{clusters_for}
+use Rattle.op_law.proofs.Refusals.{first_stays, first_goes}
+
+-- the refusals that the header shows, and those of the quota rows
+abbrev pub head_checks : ℕ → File → ℕ → List (Bool × Refusal)
+head_checks n f k = (is_kept n f, refusal.NoPriv) ∷ (nat_lt 77 (f.clusters + k), refusal.FileLimit) ∷ []
+
+abbrev pub draft_checks : Geometry → Cat → File → ℕ → List (Bool × Refusal)
+draft_checks g c f k = (over_draft (row_of f.owner c.quota) (g.cluster * k), refusal.ExQuota) ∷ []
+
+abbrev space_checks : Cat → ℕ → List (Bool × Refusal)
+space_checks c k = (nat_lt (free_clusters c) k, refusal.DeviceFull) ∷ []
+
+abbrev checks : Geometry → Cat → ℕ → File → ℕ → List (Bool × Refusal)
+checks g c n f k = head_checks n f k ++ (draft_checks g c f k ++ space_checks c k)
+
+-- the catalogue with the charge, and with the grown file
+abbrev pub charged_for : Geometry → Cat → File → ℕ → Cat
+charged_for g c f k = charged c f.owner (g.cluster * k)
+
+abbrev pub after_for : Geometry → Cat → ℕ → File → ℕ → Cat
+after_for g c n f k = with_file (charged_for g c f k) n (grown c f k)
+
+module _ (g : Geometry) (c : Cat) (factor : c.factor ≡ g.cluster) (node : ℕ) (file : Fid) (blocks : ℕ) where
+  abbrev x : Cmd
+  x = cmd.Extend file blocks
+
+  abbrev k : ℕ
+  k = clusters_for g blocks
+
+  -- the outcome where a volume has so many blocks in a cluster
+  abbrev by_factor : File → ℕ → Outcome
+  by_factor f w = let j = (blocks + (w - 1)) / w in
+      unless c (first_refusal ((is_kept file.num f, refusal.NoPriv) ∷ (nat_lt 77 (f.clusters + j), refusal.FileLimit) ∷ (over_draft (row_of f.owner c.quota) (w * j), refusal.ExQuota) ∷ (nat_lt (free_clusters c) j, refusal.DeviceFull) ∷ []))
+      (record { reply = reply.Size (w * (f.clusters + j)); after = with_file (charged c f.owner (w * j)) file.num (grown c f j) })
+
+  outcome_by : (new : Option ℕ) (o : Option File) → live c file ≡ o → outcome c node (cmd.Extend file blocks) new ≡ extend_of c file.num o blocks
+  unfolding outcome extend_outcome
+  outcome_by new o e = ap (λ y. extend_of c file.num y blocks) e
+
+  outcome_is : (new : Option ℕ) (f : File) → live c file ≡ Some f → outcome c node (cmd.Extend file blocks) new ≡ by_factor f g.cluster
+  unfolding extend_refusal
+  outcome_is new f lives = outcome_by new (Some f) lives ∙ ap (by_factor f) factor
+
+  -- the answer is this refusal
+  abbrev pub Refuses : Refusal → Type 0
+  Refuses r = Answer c node (cmd.Extend file blocks) (reply.Refused r) c
+
+  refuses_any : (r : Refusal) → ((new : Option ℕ) → outcome c node (cmd.Extend file blocks) new ≡ refused c r) → Refuses r
+  refuses_any r e = let p = pick_exists c in (p.0, p.1, e p.0)
+
+  pub refuses_none : live c file ≡ None → Refuses refusal.NoSuchFile
+  refuses_none e = refuses_any refusal.NoSuchFile (λ new. outcome_by new None e)
+
+  module _ (f : File) (lives : live c file ≡ Some f) where
+    grown_by : Outcome
+    grown_by = record { reply = size_shown g (f.clusters + k); after = after_for g c file.num f k }
+
+    -- what the refusals come to
+    comes_to : (new : Option ℕ) (o : Option Refusal) → first_refusal (checks g c file.num f k) ≡ o → outcome c node (cmd.Extend file blocks) new ≡ unless c o (record { reply = size_shown g (f.clusters + k); after = after_for g c file.num f k })
+    comes_to new o e = outcome_is new f lives ∙ ap (λ y. unless c y (record { reply = size_shown g (f.clusters + k); after = after_for g c file.num f k })) e
+
+    abbrev Shows : Option Refusal → Type 0
+    Shows o = first_refusal (head_checks file.num f k) ≡ o
+
+    abbrev PaidTo : Option Refusal → Type 0
+    PaidTo o = first_refusal (draft_checks g c f k) ≡ o
+
+    pub refuses_shown : (r : Refusal) → Shows (Some r) → Refuses r
+    refuses_shown r e = refuses_any r (λ new. comes_to new (Some r) (first_stays (head_checks file.num f k) (draft_checks g c f k ++ space_checks c k) r e))
+
+    pub refuses_unpaid : Shows None → (r : Refusal) → PaidTo (Some r) → Refuses r
+    refuses_unpaid order r e = refuses_any r (λ new. comes_to new (Some r)
+        (first_goes (head_checks file.num f k) (draft_checks g c f k ++ space_checks c k) order ∙ first_stays (draft_checks g c f k) (space_checks c k) r e))
+
+    -- the refusal of the space is the last
+    last_check : Shows None → PaidTo None → first_refusal (checks g c file.num f k) ≡ cond (nat_lt (free_clusters c) k) (Some refusal.DeviceFull) None
+    last_check order paid = first_goes (head_checks file.num f k) (draft_checks g c f k ++ space_checks c k) order ∙ first_goes (draft_checks g c f k) (space_checks c k) paid
+
+    pub refuses_short : Shows None → PaidTo None → nat_lt (free_clusters c) k ≡ true → Refuses refusal.DeviceFull
+    refuses_short order paid short = refuses_any refusal.DeviceFull (λ new. comes_to new (Some refusal.DeviceFull) (last_check order paid ∙ ap (λ t. cond t (Some refusal.DeviceFull) None) short))
+
+    module _ (order : Shows None) (paid : PaidTo None) (enough : k ≤ free_clusters c) where
+      grows : (new : Option ℕ) → outcome c node (cmd.Extend file blocks) new ≡ record { reply = size_shown g (f.clusters + k); after = after_for g c file.num f k }
+      grows new =
+          let has : nat_lt (free_clusters c) k ≡ false = grind (arith, nat_tests) in
+          comes_to new None (last_check order paid ∙ ap (λ t. cond t (Some refusal.DeviceFull) None) has)
+
+      pub grows_answer : Answer c node (cmd.Extend file blocks) (size_shown g (f.clusters + k)) (after_for g c file.num f k)
+      grows_answer = let p = pick_exists c in (p.0, p.1, grows p.0)
+
+      -- the stages of the command
+      stage_told : (new : Option ℕ) (st : Stage) → stage_of c node (cmd.Extend file blocks) new (outcome c node (cmd.Extend file blocks) new) st ≡ extend_stage c (Some f) blocks (record { reply = size_shown g (f.clusters + k); after = after_for g c file.num f k }) st
+      unfolding command_stage
+      stage_told new st =
+          ap (λ o. stage_of c node (cmd.Extend file blocks) new o st) (grows new) ∙ ap (λ y. extend_stage c y blocks (record { reply = size_shown g (f.clusters + k); after = after_for g c file.num f k }) st) lives
+
+      pub stands_charged : StandsAt c node (Some (cmd.Extend file blocks)) stage.Charged (charged_for g c f k)
+      unfolding staged extend_stage
+      stands_charged = let p = pick_exists c in (p.0, p.1, stage_told p.0 stage.Charged ∙ ap (λ w. Some (charged c f.owner (w * ((blocks + (w - 1)) / w)))) factor)
+
+      pub stands_done : StandsAt c node (Some (cmd.Extend file blocks)) stage.Done (after_for g c file.num f k)
+      unfolding staged extend_stage
+      stands_done = let p = pick_exists c in (p.0, p.1, stage_told p.0 stage.Done)

@@ -1,0 +1,7 @@
+use Rattle.std.proofs.Common.{◌≡◌, ◌++◌}
+use Rattle.std.specs.List.{range_with_len}
+use Rattle.op_law.specs.Writing.{runs_for}
+use Rattle.op_extend.proofs.runs.push_clusters.Given as goal
+
+abbrev pub invariant-loop-i : goal.invariant-loop-i
+invariant-loop-i l = l.all.items ≡ l.fn.all.items ++ runs_for l.g (range_with_len l.first l.i)

@@ -1,0 +1,198 @@
+//! What EXTEND needs next.
+
+ghost use Rattle.std.specs.Prelude.{◌≡◌, ◌≤◌, ◌+◌, ◌/◌, option_map, None, length, IfOk};
+ghost use Rattle.plain_vol.specs.Answers.{first_refusal, over_draft};
+ghost use Rattle.vol_parts.specs.Parts.{IsGeometry};
+ghost use Rattle.op_law.specs.Events.{next_of, space_of};
+ghost use Rattle.op_law.specs.Rows.{live_in, refuses};
+ghost use Rattle.op_law.specs.Refusing.{seen_file, if_file};
+ghost use Rattle.op_law.specs.Sizes.{grown_by, growing_refusals, draft_refusals, extend_in, extend_events};
+ghost use Rattle.op_law.specs.Behind.{goes_on_by, blocks_alone};
+ghost use Rattle.op_law.specs.Readable.{AreInside, HeadIsInside};
+ghost use Rattle.plain_cat.specs.declared.reply.Refusal.TheVariants as refusal;
+ghost use Rattle.op_parts.specs.Given.{IsOfVolume};
+ghost use Rattle.op_extend.specs.Seeing.{file_seen, IsSized, HeadIsSized, IsReadable};
+ghost use Rattle.fx_header.specs.Headers.{header_read};
+ghost use Rattle.fx_header.specs.declared.slot.Hdr.{Hdr};
+ghost use Rattle.fx_header.specs.declared.slot.Slot.TheVariants.{Used};
+ghost use Rattle.std.specs.Prelude.{Ok};
+
+use crate::given::{Given, clusters_given};
+use crate::seeing::FileSeen;
+use crate::writing::growing_writes;
+use op_law::{
+    Listed, Looked, Need, NoMemory, Plan, Rest, Seen, header_seen, is_number, live_in, refused,
+};
+use op_parts::{clusters_for, quota_seen, rows_seen};
+use plain_cat::{Fid, Mode, QuotaRow, Refusal, Reply, Uic};
+use plain_vol::row_of;
+use std::alloc::Global;
+use vol_parts::Geometry;
+use vol_words::Block;
+
+// Whether the usage of a row and these blocks exceed the quota and the overdraft.
+fn over_draft(row: Option<QuotaRow>, k: u32) -> bool
+    ensures { result ≡ over_draft row k }
+{
+    match row {
+        Some(row) => row.quota as u64 + (row.over as u64) < row.usage as u64 + k as u64,
+        None => false,
+    }
+}
+
+// Why a file does not get so many clusters, by its header, if it does not.
+fn growing_refusal(g: &Geometry, f: &FileSeen<'_>, k: u32) -> Option<Refusal>
+    requires geometry { IsGeometry g.now }
+    requires few { k ≤ 65536 }
+    ensures { result ≡ first_refusal (growing_refusals (file_seen g.now f.now) k) }
+{
+    if f.num <= 11 || f.fields.dir {
+        return Some(Refusal::NoPriv);
+    }
+    if 77 < (f.fields.blocks / g.cluster) as u64 + k as u64 {
+        return Some(Refusal::FileLimit);
+    }
+    None
+}
+
+// Why its owner does not get so many clusters, at most 77, by the quota blocks, if not.
+fn draft_refusal(
+    alloc: Global,
+    g: &Geometry,
+    f: &FileSeen<'_>,
+    quota: &[(u32, Block)],
+    k: u32,
+) -> Result<Option<Refusal>, NoMemory>
+    requires geometry { IsGeometry g.now }
+    requires few { k ≤ 77 }
+    ensures { IfOk result (λ r. r ≡ first_refusal (draft_refusals g.now (file_seen g.now f.now) (blocks_alone quota.now) k)) }
+{
+    let rows = rows_seen(alloc, quota)?;
+    let row = row_of(rows.items(), Uic(f.fields.owner));
+    if over_draft(row, g.cluster * k) {
+        return Ok(Some(Refusal::ExQuota));
+    }
+    Ok(None)
+}
+
+// The plan.
+fn grown(
+    alloc: Global,
+    seen: &Seen,
+    f: &FileSeen<'_>,
+    quota: &[(u32, Block)],
+    k: u32,
+    rest: Rest<'_>,
+) -> Result<Need, NoMemory>
+    requires geometry { IsGeometry seen.now.geometry }
+    requires readable { IsReadable seen.now.geometry f.now }
+    requires quota { length quota.now ≤ 16 }
+    requires few { f.now.fields.blocks / seen.now.geometry.cluster + k ≤ 77 }
+    requires count { length seen.now.clusters ≡ k }
+    requires within { IsOfVolume seen.now.geometry seen.now.clusters seen.now.number }
+    ensures { IfOk result (λ need. need ≡ goes_on_by (grown_by seen.now.geometry (file_seen seen.now.geometry f.now) (blocks_alone quota.now) k seen.now.clusters) rest.entry (space_of seen.now)) }
+{
+    let g = &seen.geometry;
+    Ok(Need::Ready(Plan {
+        writes: growing_writes(alloc, g, f, quota, &seen.clusters, k)?,
+        ask: None,
+        reply: Reply::Size(g.cluster * (f.fields.blocks / g.cluster + k)),
+    }))
+}
+
+// Behind the file's header.
+fn extend_in(
+    alloc: Global,
+    seen: &Seen,
+    f: &FileSeen<'_>,
+    k: u32,
+    rest: Rest<'_>,
+) -> Result<Need, NoMemory>
+    requires geometry { IsGeometry seen.now.geometry }
+    requires readable { IsReadable seen.now.geometry f.now }
+    requires few { k ≤ 65536 }
+    requires within { IsOfVolume seen.now.geometry seen.now.clusters seen.now.number }
+    ensures { IfOk result (λ need. need ≡ goes_on_by (extend_in seen.now.geometry k (file_seen seen.now.geometry f.now)) rest.entry (space_of seen.now)) }
+{
+    let g = &seen.geometry;
+    if let Some(why) = growing_refusal(g, f, k) {
+        return Ok(refused(alloc, why));
+    }
+    match quota_seen(g, Mode::PW, rest) {
+        Listed::Next(need) => Ok(need),
+        Listed::All(quota, behind) => {
+            if let Some(why) = draft_refusal(alloc, g, f, quota, k)? {
+                return Ok(refused(alloc, why));
+            }
+            match clusters_given(alloc, seen, k, behind) {
+                Given::Next(need) => Ok(need),
+                Given::Clusters => grown(alloc, seen, f, quota, k, behind),
+            }
+        }
+    }
+}
+
+// Behind the header of a number of the volume.
+fn in_header(
+    alloc: Global,
+    seen: &Seen,
+    file: Fid,
+    head: &Block,
+    k: u32,
+    rest: Rest<'_>,
+) -> Result<Need, NoMemory>
+    requires geometry { IsGeometry seen.now.geometry }
+    requires number { file.num ≤ seen.now.geometry.files }
+    requires inside { AreInside head.now }
+    requires sized { (h : Hdr) → header_read head.now ≡ Ok (Used h) → IsSized seen.now.geometry file.num head.now h }
+    requires few { k ≤ 65536 }
+    requires within { IsOfVolume seen.now.geometry seen.now.clusters seen.now.number }
+    ensures { IfOk result (λ need. need ≡ goes_on_by (if_file (refuses refusal.NoSuchFile) (extend_in seen.now.geometry k) (option_map (seen_file seen.now.geometry file.num head.now) (live_in file.seq head.now))) rest.entry (space_of seen.now)) }
+{
+    match live_in(head, file.seq) {
+        Some(fields) => extend_in(
+            alloc,
+            seen,
+            &FileSeen {
+                num: file.num,
+                head,
+                fields,
+            },
+            k,
+            rest,
+        ),
+        None => Ok(refused(alloc, Refusal::NoSuchFile)),
+    }
+}
+
+/// What an EXTEND needs next. An error says that memory ran out.
+#[tactic(auto, unfolding(op_law::specs::Sizes::extend_events))]
+pub(crate) fn extend_next(
+    alloc: Global,
+    file: Fid,
+    blocks: u32,
+    seen: &Seen,
+) -> Result<Need, NoMemory>
+    requires geometry { IsGeometry seen.now.geometry }
+    requires inside { HeadIsInside seen.now.blocks }
+    requires sized { HeadIsSized seen.now.geometry file.num seen.now.blocks }
+    requires within { IsOfVolume seen.now.geometry seen.now.clusters seen.now.number }
+    requires blocks { blocks ≤ 65536 }
+    ensures { IfOk result (λ need. need ≡ next_of (extend_events seen.now.geometry file blocks) seen.now) }
+{
+    let g = &seen.geometry;
+    if !is_number(g, file) {
+        return Ok(refused(alloc, Refusal::NoSuchFile));
+    }
+    match header_seen(alloc, g, file, Mode::PW, seen.all()) {
+        Looked::Next(need) => Ok(need),
+        Looked::Seen(head, rest) => in_header(
+            alloc,
+            seen,
+            file,
+            head,
+            clusters_for(g, blocks),
+            rest,
+        ),
+    }
+}

@@ -1,0 +1,11 @@
+pub mod HeadRuns
+pub mod HeadSteps
+pub mod HeadFiles
+pub mod HeadTold
+pub mod Rerun
+pub mod Grown
+pub mod GrownSteps
+pub mod Kept
+pub mod Rising
+pub mod Freed
+pub mod Cut

@@ -1,0 +1,12 @@
+pub mod Filters
+pub mod Bits
+pub mod Given
+pub mod Turns
+pub mod Named
+pub mod Still
+pub mod Steps
+pub mod RowRange
+pub mod Endings
+pub mod Tails
+pub mod Pushing
+pub mod Counted

@@ -1,0 +1,4 @@
+pub mod BitmapWrites
+pub mod Standing
+pub mod TailWrites
+pub mod Looked

@@ -1,0 +1,5 @@
+pub mod Charges
+pub mod Clustered
+pub mod Entered
+pub mod OfVolume
+pub mod Followed

@@ -1,0 +1,3 @@
+pub mod ShowLaw
+pub mod SetLaw
+pub mod Lawful

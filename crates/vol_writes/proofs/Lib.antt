@@ -1,0 +1,14 @@
+pub mod RowLists
+pub mod RowOrder
+pub mod RowBlocks
+pub mod RowRanges
+pub mod QuotaBlocks
+pub mod RowKinds
+pub mod RowNewLists
+pub mod RowNew
+pub mod EntryLists
+pub mod EntryDirs
+pub mod EntryMoves
+pub mod EntryAdds
+pub mod RemovalLists
+pub mod EntryGoes
