@@ -8,7 +8,9 @@ use Rattle.plain_cat.specs.declared.history.Entry.{Entry}
 use Rattle.plain_cat.specs.declared.history.Entry.TheVariants.{Done, Died, Mended}
 use Rattle.plain_vol.specs.Own.{Killed}
 use Rattle.core_state.specs.Worlds.{NodeState, Plain, node_at}
-use Rattle.core_state.specs.Events.{Event, Rest, Stand, Leave, Ask, See, Claim, Scan, Grab, Decide, Put, Try, Answer, would_go, tried_by, next_event, happens, happen_at, after_turn}
+use Rattle.core_state.specs.Event.{Event}
+use Rattle.core_state.specs.Event as event
+use Rattle.core_state.specs.Events.{would_go, asked_by, readied_at, readied, next_event, happens, happen_at, after_turn}
 use Rattle.clus_top.specs.Runs.{is_mending}
 
 -- nodes die only where the script kills them, and nothing is mended
@@ -30,25 +32,31 @@ pub record IsAnswered (w : Plain) : Type 0 where
   pub orderly : IsOrderly w.script w.history
 
 event_keeps : (w : Plain) (n : ℕ) (s : NodeState) (e : Event) → IsAnswered w → IsAnswered (happens w n s e)
-event_keeps w n s Rest p = record { orderly = p.orderly }
-event_keeps w n s Stand p = record { orderly = p.orderly }
-event_keeps w n s Leave p = record { orderly = p.orderly }
-event_keeps w n s (Ask x name mode) p = record { orderly = p.orderly }
-event_keeps w n s (See x lbn) p = record { orderly = p.orderly }
-event_keeps w n s (Claim x) p = record { orderly = p.orderly }
-event_keeps w n s (Scan x clusters number lbn) p = record { orderly = p.orderly }
-event_keeps w n s (Grab v) p = record { orderly = p.orderly }
-event_keeps w n s (Decide x q) p = record { orderly = p.orderly }
-event_keeps w n s (Put v) p = record { orderly = p.orderly }
-event_keeps w n s (Try x a) p = by_outcome (would_go w.locks n a) where
-  by_outcome : (b : Bool) → IsAnswered (tried_by w n s x a b)
+event_keeps w n s event.Rest p = record { orderly = p.orderly }
+event_keeps w n s event.Stand p = record { orderly = p.orderly }
+event_keeps w n s event.Leave p = record { orderly = p.orderly }
+event_keeps w n s (event.Lock name mode) p = record { orderly = p.orderly }
+event_keeps w n s (event.Look lbn) p = record { orderly = p.orderly }
+event_keeps w n s (event.Fetch lbn) p = record { orderly = p.orderly }
+event_keeps w n s event.SpaceLock p = record { orderly = p.orderly }
+event_keeps w n s (event.SpaceLook clusters number lbn) p = record { orderly = p.orderly }
+event_keeps w n s event.SpaceEnd p = record { orderly = p.orderly }
+event_keeps w n s (event.SpaceWrite v) p = record { orderly = p.orderly }
+event_keeps w n s (event.Plan q) p = record { orderly = p.orderly }
+event_keeps w n s (event.Write v) p = record { orderly = p.orderly }
+event_keeps w n s (event.Ask x a) p = by_outcome (would_go w.locks n a) where
+  by_outcome : (b : Bool) → IsAnswered (asked_by w n s x a b)
   by_outcome true = record { orderly = p.orderly }
   by_outcome false = record { orderly = one_more w.script w.history n x a.refused p.orderly }
-event_keeps w n s (Answer x r) p = record { orderly = one_more w.script w.history n x r p.orderly }
+event_keeps w n s (event.Answer x r) p = record { orderly = one_more w.script w.history n x r p.orderly }
 
 at_keeps : (w : Plain) (n : ℕ) (o : Option NodeState) (e : Event) → IsAnswered w → IsAnswered (happen_at w n o e)
 at_keeps w n None e p = p
 at_keeps w n (Some s) e p = event_keeps w n s e p
 
+readied_keeps : (w : Plain) (n : ℕ) (o : Option NodeState) → IsAnswered w → IsAnswered (readied_at w n o)
+readied_keeps w n None p = p
+readied_keeps w n (Some s) p = record { orderly = p.orderly }
+
 pub turn_keeps : (w : Plain) (n : ℕ) → IsAnswered w → IsAnswered (after_turn w n)
-turn_keeps w n p = at_keeps w n (node_at w.nodes n) (next_event w n) p
+turn_keeps w n p = at_keeps (readied w n) n (node_at (readied w n).nodes n) (next_event w n) (readied_keeps w n (node_at w.nodes n) p)

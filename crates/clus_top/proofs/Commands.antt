@@ -62,35 +62,40 @@ all_good nodes (l ∷ ls) h k =
     let form = (and_parts (is_within 1 nodes l.node) (line_in_form l.cmd) q.0).1 in
     rw (p.0, form, all_good nodes ls p.1 q.1) refl
 
--- a node with no open channel comes to its lines alone
-pub only_built : (s : Script) → InForm s → AreBuilt run_so_far s.lines → HasOnly IsBuilt s
-only_built s form built n h x closed e = by (slice_get (lines_of n s.lines) (past n h).answered) refl e where
+-- a line of a command that is built names no channel
+filled_runs : (g : List Fid) (l : LineCmd) → is_built run_so_far l ≡ true → is_run (filled g l) ≡ true
+unfolding filled is_run
+filled_runs g (line.Lookup reg dir name ver) h = refl
+filled_runs g (line.List dir) h = refl
+filled_runs g (line.Stat file) h = refl
+filled_runs g (line.Create reg dir name ver blocks owner) h = refl
+filled_runs g (line.MkDir reg dir name owner) h = refl
+filled_runs g (line.Extend file blocks) h = refl
+filled_runs g (line.Trunc file blocks) h = refl
+filled_runs g (line.Delete dir name ver) h = refl
+filled_runs g (line.Rename dir name ver to to_ver) h = refl
+filled_runs g (line.QuotaSet owner quota over) h = refl
+filled_runs g (line.QuotaShow owner) h = refl
+filled_runs g l h = absurd (false≢true h)
+
+-- what holds of each line of a command that is built, in form, holds of all to which a node with no open channel comes
+only_these : (these : Cmd → Type 0) → ((g : List Fid) (l : LineCmd) → is_built run_so_far l ≡ true → line_in_form l ≡ true → these (filled g l)) → (s : Script) → InForm s → AreBuilt run_so_far s.lines → HasOnly these s
+only_these these holds s form built n h x closed e = by (slice_get (lines_of n s.lines) (past n h).answered) refl e where
   good : list_all is_good (lines_of n s.lines) ≡ true
   good = lines_good n s.lines (all_good s.nodes s.lines built (list_all-from_AllPass _ s.lines form.lines))
 
-  by : (o : Option LineCmd) → slice_get (lines_of n s.lines) (past n h).answered ≡ o → or_close (past n h) o ≡ Some x → IsBuilt x
+  by : (o : Option LineCmd) → slice_get (lines_of n s.lines) (past n h).answered ≡ o → or_close (past n h) o ≡ Some x → these x
   by None at f =
       let none : None ≡ Some x = sym (ap (close_from 1) closed) ∙ f in
       absurd (let g : None ≡ Some x = none in cc)
   by (Some l) at f =
       let same : filled (past n h).registers l ≡ x = cc in
       let parts = and_parts (is_built run_so_far l) (line_in_form l) (one_good (lines_of n s.lines) (past n h).answered l good at) in
-      subst IsBuilt same (filled_built (past n h).registers l parts.0 parts.1)
+      subst these same (holds (past n h).registers l parts.0 parts.1)
 
-built_runs : (x : Cmd) → IsBuilt x → is_run x ≡ true
-unfolding is_run
-built_runs (cmd.Lookup reg dir name ver) h = refl
-built_runs (cmd.List dir) h = refl
-built_runs (cmd.Stat file) h = refl
-built_runs (cmd.Create reg dir name ver blocks owner) h = refl
-built_runs (cmd.MkDir reg dir name owner) h = refl
-built_runs (cmd.Extend file blocks) h = refl
-built_runs (cmd.Trunc file blocks) h = refl
-built_runs (cmd.Delete dir name ver) h = refl
-built_runs (cmd.Rename dir name ver to to_ver) h = refl
-built_runs (cmd.QuotaSet owner quota over) h = refl
-built_runs (cmd.QuotaShow owner) h = refl
-built_runs x h = absurd h
+-- the operations take them, and a world runs them
+pub only_built : (s : Script) → InForm s → AreBuilt run_so_far s.lines → HasOnly IsBuilt s
+only_built s form built = only_these IsBuilt filled_built s form built
 
 pub only_run : (s : Script) → InForm s → AreBuilt run_so_far s.lines → HasOnly IsRun s
-only_run s form built n h x closed e = built_runs x (only_built s form built n h x closed e)
+only_run s form built = only_these IsRun (λ g l h in_form. filled_runs g l h) s form built

@@ -4,8 +4,7 @@ use Rattle.std.proofs.lemmas.Bool.Decides.{nat_tests}
 use Rattle.vol_words.specs.Fields.{Block}
 use Rattle.lock_db.specs.declared.name.LockName.{LockName}
 use Rattle.lock_db.specs.declared.resource.Resource.{Resource}
-use Rattle.lock_db.specs.Tables.{IsTable, resource_at, released}
-use Rattle.lock_db.proofs.Steps.{IsTable-released}
+use Rattle.lock_db.specs.Tables.{resource_at, released}
 use Rattle.plain_cat.specs.declared.mode.Mode.{Mode}
 use Rattle.plain_cat.specs.declared.mode.Mode.TheVariants.{PR, PW}
 use Rattle.plain_cat.specs.declared.command.Cmd.{Cmd}
@@ -20,10 +19,12 @@ use Rattle.plain_vol.specs.Own.{NodePast, past, after_answer, after_entry}
 use Rattle.plain_vol.proofs.Keeps.{accounts_kept}
 use Rattle.node_past.specs.Laws.{is_of}
 use Rattle.node_past.proofs.Growing.{past_grows, past_of_others, own_grows, replays_grow}
-use Rattle.node_locks.specs.Held.{system_of, HoldsItsLocks, AreHeld, waits_at, held_locks, with_locks}
+use Rattle.node_locks.specs.Held.{system_of, names_of, HoldsItsLocks, AreHeld, waits_at, Row, without, with_rows}
+use Rattle.node_locks.specs.Sweeping.{all_given, without_all, all_taken_out, AreSwept}
 use Rattle.node_locks.specs.Sequences.{raised_block}
-use Rattle.node_locks.proofs.Giving.{giving_holds}
-use Rattle.vol_owners.specs.Lists.{Has}
+use Rattle.vol_owners.specs.Lists.{Has, Once}
+use Rattle.node_locks.proofs.Sweeping.{sweeping_holds, all_go}
+use Rattle.node_locks.proofs.Keeping.{rows_go_on}
 use Rattle.vol_owners.specs.Owners.{Things, nothing}
 use Rattle.vol_owners.proofs.Listing.{same_or_not}
 use Rattle.vol_owners.proofs.Writing.{stands_joined}
@@ -40,11 +41,11 @@ use Rattle.op_law.specs.declared.need.PlanWrite.{PlanWrite}
 use Rattle.op_law.specs.Needs.{IsNext}
 use Rattle.op_law.specs.Knows.{wants_number}
 use Rattle.op_law.specs.Laws.{held_in, planned, under_way, IsRight}
-use Rattle.core_state.specs.Worlds.{NodeState, Plain, node_at, set_node, locks_in, locks_of}
+use Rattle.core_state.specs.Worlds.{NodeState, Plain, node_at, set_node, rows_of, rows_in, rows_at}
 use Rattle.core_state.specs.Raises.{raise_of}
 use Rattle.core_state.specs.Asks.{writes_now, granted_ask, knows_now}
-use Rattle.core_state.specs.Goods.{under_with, under_by, nodes_under, IsAt, IsNode, Good}
-use Rattle.core_state.specs.Searches.{unwritten, stock_after, wanted_by, Searches, NotYet, Looking, Taking, Taken, Refused}
+use Rattle.core_state.specs.Goods.{held_by, under_with, under_by, nodes_under, IsAt, IsNode, Good}
+use Rattle.core_state.specs.Searches.{unwritten, stock_after, wanted_by, Spaces, Off, Looking, Taking, Taken, Refused}
 use Rattle.core_state.specs.Events.{given_back, all_writes, turned, answering, answered_by}
 use Rattle.core_state.proofs.RunKinds.{stays_closed}
 use Rattle.core_state.proofs.Numbers.{Keeps, answer_stays}
@@ -54,52 +55,21 @@ use Rattle.core_state.proofs.Driving.{wider, grants_keep, law_grows, reply_grows
 use Rattle.core_state.proofs.Holding.{held_grows}
 use Rattle.core_state.proofs.Running.{are_sole}
 use Rattle.core_state.proofs.Taking.{answers_by}
-use Rattle.core_state.proofs.Keeping.{rebuilt, held_set}
+use Rattle.core_state.proofs.SmallWorlds.{small_answered}
+use Rattle.core_state.proofs.Keeping.{rebuilt, held_set, LosesNothing, asked_once}
 use Rattle.core_state.proofs.Standing.{all_stock, no_stock}
 use Rattle.core_state.proofs.Turning.{under_command, here, writes_more}
 
 -- ---- all locks go back
 
--- what is left after node n gave back all of its locks
-pub record AreGivenBack (n : ℕ) (locks : ℕ → List (LockName × Mode)) (t after : List Resource) : Type 0 where
-  pub table : IsTable after
-  pub held : AreHeld after (with_locks locks n [])
-  pub others_wait : (m : ℕ) → m ≢ n → waits_at t m (locks m) ≡ false → waits_at after m (locks m) ≡ false
-  pub others_hold : (m : ℕ) (k : LockName × Mode) → m ≢ n → Has (held_locks t m (locks m)) k → Has (held_locks after m (locks m)) k
+-- they go back by their names
+given_names : (g : Geometry) (n : ℕ) (ws : List PlanWrite) (ls : Row) (t : List Resource) → all_given n (λ name u. raised_block (raise_of g name ws) (resource_at name u)) (names_of ls) t ≡ given_back g n ws ls t
+given_names g n ws [] t = refl
+given_names g n ws (l ∷ ls) t = given_names g n ws ls (released l.0 (system_of n) (raised_block (raise_of g l.0 ws) (resource_at l.0 t)) t)
 
-with_here : (locks : ℕ → List (LockName × Mode)) (n : ℕ) (ls : List (LockName × Mode)) → with_locks locks n ls n ≡ ls
-with_here locks n ls = grind (arith, nat_tests)
-
-with_else : (locks : ℕ → List (LockName × Mode)) (n m : ℕ) (ls : List (LockName × Mode)) → m ≢ n → with_locks locks n ls m ≡ locks m
-with_else locks n m ls ne = grind (arith, nat_tests)
-
-with_twice : (locks : ℕ → List (LockName × Mode)) (n m : ℕ) (xs ys : List (LockName × Mode)) → with_locks (with_locks locks n xs) n ys m ≡ with_locks locks n ys m
-with_twice locks n m xs ys = grind (arith, nat_tests)
-
-give_all : (g : Geometry) (n : ℕ) (ws : List PlanWrite) (ls : List (LockName × Mode)) (locks : ℕ → List (LockName × Mode)) (t : List Resource) → IsTable t → AreHeld t locks → waits_at t n (locks n) ≡ false → locks n ≡ ls
-    → AreGivenBack n locks t (given_back g n ws ls t)
-give_all g n ws [] locks t table held waits is = record {
-  table = table;
-  held = λ m. subst (λ (xs : List (LockName × Mode)). HoldsItsLocks t m xs) (sym (same m)) (held m);
-  others_wait = λ m ne e. e;
-  others_hold = λ m k ne h. h;
-} where
-  same : (m : ℕ) → with_locks locks n [] m ≡ locks m
-  same m = elim (same_or_not m n) [ inl e ↦ ap (λ k. with_locks locks n [] k) e ∙ with_here locks n [] ∙ sym is ∙ sym (ap locks e) | inr ne ↦ with_else locks n m [] ne ]
-give_all g n ws (l ∷ ls) locks t table held waits is =
-    let value : List ℕ = raised_block (raise_of g l.0 ws) (resource_at l.0 t) in
-    let u : List Resource = released l.0 (system_of n) value t in
-    let one = giving_holds t n l ls value locks table held waits is in
-    let rest = give_all g n ws ls (with_locks locks n ls) u (IsTable-released l.0 (system_of n) value t table) one.held
-    (subst (λ (xs : List (LockName × Mode)). waits_at u n xs ≡ false) (sym (with_here locks n ls)) one.waits) (with_here locks n ls) in
-    record {
-      table = rest.table;
-      held = λ m. subst (λ (xs : List (LockName × Mode)). HoldsItsLocks (given_back g n ws ls u) m xs) (with_twice locks n m ls []) (rest.held m);
-      others_wait = λ m ne e. subst (λ (xs : List (LockName × Mode)). waits_at (given_back g n ws ls u) m xs ≡ false) (with_else locks n m ls ne)
-          (rest.others_wait m ne (subst (λ (xs : List (LockName × Mode)). waits_at u m xs ≡ false) (sym (with_else locks n m ls ne)) (one.others_wait m ne e)));
-      others_hold = λ m k ne h. subst (λ (xs : List (LockName × Mode)). Has (held_locks (given_back g n ws ls u) m xs) k) (with_else locks n m ls ne)
-          (rest.others_hold m k ne (subst (λ (xs : List (LockName × Mode)). Has (held_locks u m xs) k) (sym (with_else locks n m ls ne)) (one.others_hold m k ne h)));
-    }
+out_second : (names : List LockName) (kept ls : Row) (rest : List Row) → all_taken_out 1 names (kept ∷ (ls ∷ rest)) ≡ kept ∷ (without_all names ls ∷ rest)
+out_second [] kept ls rest = refl
+out_second (name ∷ names) kept ls rest = out_second names kept (without name ls) rest
 
 -- ---- small steps
 
@@ -127,7 +97,7 @@ own_entry n p x r = grind (arith, nat_tests)
 
 -- the others' locks are theirs still, and some of them that waited may be granted
 module _ (g : Geometry) (d : Cat) (t after : List Resource) (nodes : List NodeState) (n : ℕ) (s r : NodeState) (drive : List Block) (at : node_at nodes n ≡ Some s) (rests : r.cmd ≡ None)
-    (grown : (m : ℕ) (q : NodeState) (k : LockName × Mode) → m ≢ n → node_at nodes m ≡ Some q → Has (held_locks t m q.asked) k → Has (held_locks after m q.asked) k) where
+    (grown : (m : ℕ) (q : NodeState) (k : LockName × Mode) → m ≢ n → node_at nodes m ≡ Some q → Has (held_by t m q) k → Has (held_by after m q) k) where
   abbrev new : ℕ → UnderWay
   new m = nodes_under after (set_node nodes n r) m
 
@@ -149,8 +119,8 @@ module _ (g : Geometry) (d : Cat) (t after : List Resource) (nodes : List NodeSt
   by_cmd : (m : ℕ) (q : NodeState) → m ≢ n → node_at nodes m ≡ Some q → (o : Option Cmd) → IsGrown (under_with t m q o) (under_with after m q o)
   by_cmd m q ne e None = record { read = λ name h. h; write = λ name h. h; else_same = refl }
   by_cmd m q ne e (Some x) = record {
-    read = λ name h. held_grows PR (held_locks t m q.asked) (held_locks after m q.asked) name (λ k h. grown m q k ne e h) h;
-    write = λ name h. held_grows PW (held_locks t m q.asked) (held_locks after m q.asked) name (λ k h. grown m q k ne e h) h;
+    read = λ name h. held_grows PR (held_by t m q) (held_by after m q) name (λ k h. grown m q k ne e h) h;
+    write = λ name h. held_grows PW (held_by t m q) (held_by after m q) name (λ k h. grown m q k ne e h) h;
     else_same = refl;
   }
 
@@ -204,24 +174,24 @@ module _ (w : Plain) (good : Good w) (n : ℕ) (s : NodeState) (at : node_at w.n
   whole = let le = at_end ws s.done last in let ge = part in let e = length_planned ws in omega arith
 
   abbrev left_seen : List (ℕ × Block)
-  left_seen = unwritten (take s.search.taken s.search.takes) s.search.looked
+  left_seen = unwritten (take s.run.made s.run.writes) s.run.looked
 
   abbrev stock : Things
-  stock = stock_after s.search.takes s.search.taken
+  stock = stock_after s.run.writes s.run.made
 
   abbrev me : UnderWay
-  me = record (under_way x s.seen ws (knows_now n x s.seen s.tried s.plan)) { read = held_in PR s.asked; write = held_in PW s.asked; seen = left_seen ++ s.seen.blocks; done = s.done; stock = stock }
+  me = record (under_way x s.seen ws (knows_now n x s.seen s.tried s.plan)) { read = held_in PR (held_by w.locks n s); write = held_in PW (held_by w.locks n s); seen = left_seen ++ s.seen.blocks; done = s.done; stock = stock }
 
   here_now : nodes_under w.locks w.nodes n ≡ me
   here_now = here w good n s at x cmd free ∙ ap (λ vs. record me { plan = map planned vs }) made
 
   -- a command that has decided is given all that its search has taken
-  no_stock_left : Searches w.locks n x (granted_ask s.tried s.plan) s.asked s.search s.seen → stock ≡ nothing
-  no_stock_left (NotYet h) = no_stock s.search.takes s.search.taken h.takes h.taken
+  no_stock_left : Spaces w.locks n x (granted_ask s.tried s.plan) s.asked s.run s.seen → stock ≡ nothing
+  no_stock_left (Off h) = no_stock s.run.writes s.run.made h.writes h.made
   no_stock_left (Looking h) = absurd (let f : need.Ready p ≡ need.Space (wanted_by x s.seen) (wants_number x) = sym is ∙ h.needs.next in cc)
   no_stock_left (Taking h) = absurd (let f : need.Ready p ≡ need.Space (wanted_by x s.seen) (wants_number x) = sym is ∙ h.needs.next in cc)
-  no_stock_left (Taken h) = all_stock s.search.takes s.search.taken h.all
-  no_stock_left (Refused h) = no_stock s.search.takes s.search.taken h.takes h.taken
+  no_stock_left (Taken h) = all_stock s.run.writes s.run.made h.all
+  no_stock_left (Refused h) = no_stock s.run.writes s.run.made h.writes h.made
 
   left : outs_at s.done me ≡ nothing
   left = ap (λ k. outs_after me.took (take k me.plan)) whole ∙ ap (outs_after me.took) (taken_whole (map planned ws)) ∙ right.left
@@ -232,19 +202,35 @@ module _ (w : Plain) (good : Good w) (n : ℕ) (s : NodeState) (at : node_at w.n
   answered : (d : Cat) × Answer good.running.cat n x r d × IsUnder w.geometry d (changed (nodes_under w.locks w.nodes) n (resting nothing)) w.blocks
   answered =
       let a = answers_by w.geometry good.running.cat (nodes_under w.locks w.nodes) w.blocks n me here_now good.running.drive (are_sole w.locks w.nodes good.locked.0 good.locked.1) know
-      (law_grows w.geometry n (under_way x s.seen ws know) (held_in PR s.asked) (held_in PW s.asked) left_seen s.done stock (writes_more w good n s at x cmd free) right.lawful)
-      (λ base own spelt stands outs l t. wider_write n (held_in PW s.seen.locks) (held_in PW s.asked) (writes_more w good n s at x cmd free) (guard_of w.geometry own l)
+      (law_grows w.geometry n (under_way x s.seen ws know) (held_in PR (held_by w.locks n s)) (held_in PW (held_by w.locks n s)) left_seen s.done stock (writes_more w good n s at x cmd free) right.lawful)
+      (λ base own spelt stands outs l t. wider_write n (held_in PW s.seen.locks) (held_in PW (held_by w.locks n s)) (writes_more w good n s at x cmd free) (guard_of w.geometry own l)
       (right.guarded base own good.running.cat stock spelt known ((stands_joined base left_seen s.seen.blocks).0 stands).1 outs l t))
       x r known whole
-      (reply_grows w.geometry n (under_way x s.seen ws know) x r (held_in PR s.asked) (held_in PW s.asked) left_seen s.done stock (writes_more w good n s at x cmd free) right.reply) in
+      (reply_grows w.geometry n (under_way x s.seen ws know) x r (held_in PR (held_by w.locks n s)) (held_in PW (held_by w.locks n s)) left_seen s.done stock (writes_more w good n s at x cmd free) right.reply) in
       (a.0, a.1, subst (λ (v : UnderWay). IsUnder w.geometry a.0 (changed (nodes_under w.locks w.nodes) n v) w.blocks) idle_now a.2)
 
-  given : AreGivenBack n (locks_of w.nodes) w.locks after
-  given = give_all w.geometry n (all_writes s) s.asked (locks_of w.nodes) w.locks good.locked.0 good.locked.1
-      (subst (λ (ls : List (LockName × Mode)). waits_at w.locks n ls ≡ false) (sym (ap locks_in at)) free) (ap locks_in at)
+  once : Once (names_of s.asked)
+  once = let h : HoldsItsLocks w.locks n (rows_of s) = subst (λ (rs : List Row). HoldsItsLocks w.locks n rs) (ap rows_in at) (good.locked.1 n) in asked_once s (good.nodes n s at).store h.once
 
-  alive : (past n w.history).dead ≡ false
-  alive = sym (ap (λ y. y.dead) mine.past) ∙ mine.alive
+  given : AreSwept n 1 (without_all (names_of s.asked) s.asked) (all_taken_out 1 (names_of s.asked) (rows_of s)) (rows_of s) (rows_at w.nodes) w.locks after
+  given = subst (AreSwept n 1 (without_all (names_of s.asked) s.asked) (all_taken_out 1 (names_of s.asked) (rows_of s)) (rows_of s) (rows_at w.nodes) w.locks) (given_names w.geometry n (all_writes s) s.asked w.locks)
+      (sweeping_holds (λ name u. raised_block (raise_of w.geometry name (all_writes s)) (resource_at name u)) w.locks n 1 s.asked (names_of s.asked) (rows_of s) (rows_at w.nodes) good.locked.0 good.locked.1 (ap rows_in at) refl free once (λ name h. h)).1
+
+  -- its rows are empty then, and the other nodes lose nothing
+  emptied : all_taken_out 1 (names_of s.asked) (rows_of s) ≡ rows_of rested
+  emptied = out_second (names_of s.asked) s.kept s.asked (s.back ∷ []) ∙ ap (λ (ls : Row). s.kept ∷ (ls ∷ (s.back ∷ []))) (all_go s.asked once)
+
+  others_go : (m : ℕ) (q : NodeState) → m ≢ n → node_at w.nodes m ≡ Some q → LosesNothing w.locks after m q
+  others_go m q ne e ls i = given.others m ls ne (subst (λ (rs : List Row). Has rs ls) (sym (ap rows_in e)) i)
+
+  busy : s.cmd ≡ None → ⊥
+  busy none = absurd (let f : Some x ≡ None = sym cmd ∙ none in cc)
+
+  alive : s.past.dead ≡ false
+  alive = by_death s.past.dead refl where
+    by_death : (b : Bool) → s.past.dead ≡ b → s.past.dead ≡ false
+    by_death true e = absurd (busy (mine.gone e).cmd)
+    by_death false e = e
 
   grows : past n (w.history ++ entry ∷ []) ≡ after_answer s.past x r
   grows = past_grows n w.history entry ∙ own_entry n (past n w.history) x r ∙ ap (λ y. after_answer y x r) (sym mine.past)
@@ -259,26 +245,25 @@ module _ (w : Plain) (good : Good w) (n : ℕ) (s : NodeState) (at : node_at w.n
         cat = answered.0;
         replayed = replays_grow w.opening w.script w.history good.running.cat entry answered.0 good.running.replayed answered.1;
         drive = under_granted w.geometry answered.0 w.locks after w.nodes n s rested w.blocks at refl
-            (λ m q k ne e h. subst (λ (ls : List (LockName × Mode)). Has (held_locks after m ls) k) (ap locks_in e)
-            (given.others_hold m k ne (subst (λ (ls : List (LockName × Mode)). Has (held_locks w.locks m ls) k) (sym (ap locks_in e)) h))) answered.2;
+            (λ m q k ne e h. rows_go_on w.locks after m (rows_of q) k (others_go m q ne e) h) answered.2;
         accounted = subst (λ (o : Outcome). Accounted o.after) answered.1.2 (accounts_kept good.running.cat n x answered.1.0 good.running.accounted answered.1.1);
         system = λ m le. kept.1 m le (good.running.system m le);
         opens = opens_same after good.running.cat answered.0 kept.0 (opens_given w.geometry n (all_writes s) s.asked w.locks good.running.cat good.locked.0 good.running.opens);
+        same = kept.0;
       })
-      (given.table, held_set after w.nodes n s rested at given.held)
-      (own_grows w.script w.history entry good.own (alive, now.next))
+      (given.table, held_set after w.nodes n s rested at (subst (λ (rs : List Row). AreHeld after (with_rows (rows_at w.nodes) n rs)) emptied given.held))
+      (own_grows w.script w.history entry good.own (sym (ap (λ y. y.dead) mine.past) ∙ alive, now.next))
+      (small_answered w good.small n s rested at w.geometry (all_writes s) s.asked once x r w.blocks)
       (λ m ne. past_of_others m w.history entry (not_of n m x r ne))
-      (λ m q ne e waits. subst (λ (ls : List (LockName × Mode)). waits_at after m ls ≡ false) (ap locks_in e)
-      (given.others_wait m ne (subst (λ (ls : List (LockName × Mode)). waits_at w.locks m ls ≡ false) (sym (ap locks_in e)) waits)))
-      (λ m q ne e k h. subst (λ (ls : List (LockName × Mode)). Has (held_locks after m ls) k) (ap locks_in e)
-      (given.others_hold m k ne (subst (λ (ls : List (LockName × Mode)). Has (held_locks w.locks m ls) k) (sym (ap locks_in e)) h)))
+      others_go
       (record {
         past = sym grows;
-        alive = mine.alive;
-        closed = stays_closed x now.runs s.past.channels r ∙ mine.closed;
         geometry = mine.geometry;
+        channels = record { told = mine.channels.told ∙ sym (stays_closed x now.runs s.past.channels r); closed = mine.channels.closed };
         channel = refl;
-        keeps = record { stock = mine.keeps.stock; cache = mine.keeps.cache };
-        command = record { locks = refl; blocks = refl; space = record { clusters = refl; number = refl; short = refl }; asked = refl; search = refl; plan = refl; done = refl };
-        over = λ o. absurd (let f : s.cmd ≡ None = (mine.over o).0 in let g : Some x ≡ None = sym cmd ∙ f in cc);
+        store = mine.store;
+        rests = (given.rest 0 s.kept (λ e. absurd (omega arith)) refl).waits ∙ mine.rests;
+        command = record { locks = refl; blocks = refl; space = record { clusters = refl; number = refl; short = refl }; asked = refl; run = refl; plan = refl; done = refl };
+        over = λ o. absurd (busy (mine.over o).0.cmd);
+        gone = λ o. absurd (let f : true ≡ false = sym o ∙ alive in cc);
       })

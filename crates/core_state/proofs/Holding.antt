@@ -54,3 +54,12 @@ pub held_weaker : (strong weak : Mode) (xs : List (LockName × Mode)) (name : Lo
 held_weaker strong weak xs name le t =
     let h = in_held_is strong xs name t in
     is_in_held weak xs name (record { in_mode = h.in_mode; has = h.has; strong = (let a : rank strong ≤ rank h.in_mode = h.strong in omega arith) })
+
+pub named_there : (ls : List (LockName × Mode)) (name : LockName) (mode : Mode) → Has ls (name, mode) → Has (named ls) name
+named_there [] name mode h = absurd h
+named_there (l ∷ ls) name mode (inl e) = inl (ap (λ (k : LockName × Mode). k.0) e)
+named_there (l ∷ ls) name mode (inr h) = inr (named_there ls name mode h)
+
+-- a name that is held is one of the names
+pub held_named : (mode : Mode) (ls : List (LockName × Mode)) (name : LockName) → Has (held_in mode ls) name → Has (map (λ (k : LockName × Mode). k.0) ls) name
+held_named mode ls name h = let k = in_held_is mode ls name h in named_there ls name k.in_mode k.has

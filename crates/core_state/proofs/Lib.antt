@@ -1,5 +1,6 @@
 pub mod Opens
 pub mod Nodes
+pub mod Channels
 pub mod Driving
 pub mod Holding
 pub mod Running
@@ -7,13 +8,19 @@ pub mod Taking
 pub mod Seeking
 pub mod Keeping
 pub mod RunKinds
+pub mod SmallTables
+pub mod SmallCounts
+pub mod SmallBegun
+pub mod SmallWorlds
 pub mod Numbers
 pub mod Beginning
 pub mod Standing
+pub mod Preparing
 pub mod Turning
 pub mod Searching
 pub mod Answering
 pub mod Trying
 pub mod Turns
+pub mod Openings
 pub mod Accepting
 pub mod MountedWorlds

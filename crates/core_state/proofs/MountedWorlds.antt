@@ -1,5 +1,5 @@
 -- A mounted world keeps the rules.
-use Rattle.std.proofs.Common.{◌≡◌, ◌≤◌, ◌+◌, ◌&&◌, ℕ, zero, suc, Bool, true, false, List, [], ◌∷◌, Option, Some, None, Result, Ok, length, slice_get, refl, sym, ap, subst, arith}
+use Rattle.std.proofs.Common.{◌≡◌, ◌≤◌, ◌+◌, ◌&&◌, ℕ, zero, suc, Bool, true, false, List, [], ◌∷◌, Option, Some, None, Result, Ok, length, slice_get, refl, sym, ap, subst, arith, inl}
 use Rattle.std.specs.Prelude.{◌==◌, All, IsTrue, replicate}
 use Rattle.std.specs.List.{list_any}
 use Rattle.std.proofs.lemmas.Bool.Decides.{nat_tests}
@@ -7,30 +7,33 @@ use Rattle.vol_words.specs.Fields.{Block, AreWholeBlocks}
 use Rattle.fx_home.specs.declared.home.Home.{Home}
 use Rattle.fx_home.specs.declared.home.HomeFault.{HomeFault}
 use Rattle.fx_home.specs.Homes.{home_read}
-use Rattle.lock_db.specs.declared.name.LockName.{LockName}
 use Rattle.plain_cat.specs.InForm.{InForm, is_within, line_in_form}
-use Rattle.plain_cat.specs.declared.mode.Mode.{Mode}
 use Rattle.plain_cat.specs.declared.script.Line.{Line}
 use Rattle.plain_cat.specs.declared.script.Script.{Script}
 use Rattle.plain_cat.specs.declared.cat.Cat.{Cat}
 use Rattle.plain_vol.specs.Accounts.{Accounted}
 use Rattle.plain_vol.specs.Own.{newborn}
 use Rattle.node_past.proofs.Strangers.{strangers_have_nothing}
-use Rattle.node_locks.specs.Held.{HoldsItsLocks}
+use Rattle.node_locks.specs.Held.{joined}
+use Rattle.node_locks.proofs.Dying.{nothing_is_held}
 use Rattle.vol_faults.specs.Free.{IsGeometryBy}
 use Rattle.vol_parts.specs.declared.geometry.Geometry.{Geometry}
 use Rattle.vol_parts.specs.Volumes.{volume, geometry_of}
 use Rattle.vol_parts.specs.declared.finding.Finding.{Finding}
 use Rattle.vol_parts.specs.Findings.{home_at, Accepts, CatOf}
 use Rattle.vol_analyze.specs.Judging.{IsJudged}
+use Rattle.vol_owners.specs.Lists.{Has}
 use Rattle.vol_owners.specs.Owners.{nothing}
 use Rattle.vol_under.specs.UnderWay.{resting}
 use Rattle.vol_under.specs.Under.{IsUnder}
 use Rattle.vol_under.proofs.Steps.{mount_stands, nodes_alike}
-use Rattle.core_state.specs.Worlds.{NodeState, Plain, node_at, locks_in, locks_of}
-use Rattle.core_state.specs.Goods.{HasSystemNumbers, IsRun, HasOnly, under_by, nodes_under, IsNode, Good, decided, IsWorld}
+use Rattle.core_state.specs.Worlds.{NodeState, Plain, node_at, rows_of, rows_in, rows_at}
+use Rattle.core_state.specs.Goods.{HasSystemNumbers, IsRun, HasOnly, under_by, nodes_under, IsNode, Good, IsAccepted, decided, IsWorld}
 use Rattle.core_state.specs.Mounting.{at_rest, mounted}
+use Rattle.core_state.specs.Channels.{HasOpens}
 use Rattle.core_state.proofs.Opens.{opens_none}
+use Rattle.core_state.proofs.SmallWorlds.{small_mounted}
+use Rattle.core_state.proofs.Channels.{none_opened}
 use Rattle.plain_cat.specs.declared.command.Cmd.{Cmd}
 
 -- ---- lists of nodes at rest
@@ -91,35 +94,44 @@ module _ (bs : List Block) (s : Script) (c : Cat) (g : Geometry) (form : InForm 
     by_node None e = refl
     by_node (Some r) e = ap (λ y. under_by [] n (Some y)) (sym (at_rest_at s.nodes x n r e))
 
-  no_locks : (n : ℕ) → locks_of w.nodes n ≡ []
+  no_locks : (n : ℕ) → joined (rows_at w.nodes n) ≡ []
   no_locks n = by_node (node_at w.nodes n) refl where
-    by_node : (o : Option NodeState) → node_at w.nodes n ≡ o → locks_in o ≡ []
+    by_node : (o : Option NodeState) → node_at w.nodes n ≡ o → joined (rows_in o) ≡ []
     by_node None e = refl
-    by_node (Some r) e = ap (λ (y : NodeState). y.asked) (at_rest_at s.nodes x n r e)
-
-  nothing_held : (n : ℕ) → HoldsItsLocks [] n []
-  nothing_held n = record { once = tt; in_order = tt; no_other = λ name h. refl }
+    by_node (Some r) e = ap (λ (y : NodeState). joined (rows_of y)) (at_rest_at s.nodes x n r e)
 
   node : (n : ℕ) → IsNode w n x
   unfolding newborn
   node n = record {
     past = refl;
-    alive = refl;
-    closed = refl;
     geometry = refl;
+    channels = record { told = refl; closed = refl };
     channel = refl;
-    keeps = record { stock = refl; cache = refl };
-    command = record { locks = refl; blocks = refl; space = record { clusters = refl; number = refl; short = refl }; asked = refl; search = refl; plan = refl; done = refl };
+    store = record { kept = refl; back = refl; stock = refl; cache = refl };
+    rests = refl;
+    command = record { locks = refl; blocks = refl; space = record { clusters = refl; number = refl; short = refl }; asked = refl; run = refl; plan = refl; done = refl };
     over = λ o. absurd (let f : false ≡ true = o in cc);
+    gone = λ o. absurd (let f : false ≡ true = o in cc);
   }
 
   pub good_mounted : Good w
   good_mounted = record {
     counted = length_rest s.nodes x;
-    running = record { cat = c; replayed = refl; drive = nodes_alike g c (λ n. resting nothing) (nodes_under [] w.nodes) bs under drive; accounted = accounted; system = system; opens = opens_none c 64 none_open };
-    locked = (record { ordered = refl; used = refl; settled_all = tt }, λ n. subst (λ (ls : List (LockName × Mode)). HoldsItsLocks [] n ls) (sym (no_locks n)) (nothing_held n));
+    running = record {
+      cat = c;
+      replayed = refl;
+      drive = nodes_alike g c (λ n. resting nothing) (nodes_under [] w.nodes) bs under drive;
+      accounted = accounted;
+      system = system;
+      opens = opens_none c 64 none_open;
+      opened = λ n r e. subst (λ (y : NodeState). HasOpens c n y.opens) (sym (at_rest_at s.nodes x n r e)) (none_opened c 64 n none_open);
+      stocked = λ n r e. record { holds = inl (ap (λ (y : NodeState). y.stock) (at_rest_at s.nodes x n r e)) };
+      cached = λ n r k e has. absurd (subst (λ (y : NodeState). Has y.cache k) (at_rest_at s.nodes x n r e) has);
+    };
+    locked = (record { ordered = refl; used = refl; settled_all = tt }, nothing_is_held (rows_at w.nodes) no_locks);
     nodes = λ n r e. subst (λ (y : NodeState). IsNode w n y) (sym (at_rest_at s.nodes x n r e)) (node n);
     own = tt;
+    small = small_mounted bs s c g;
     runs = runs;
     strangers = λ n e. strangers_have_nothing s n [] (no_line s.lines s.nodes x n form.lines e) refl;
   }
@@ -127,9 +139,10 @@ module _ (bs : List Block) (s : Script) (c : Cat) (g : Geometry) (form : InForm 
   few_nodes : s.nodes ≤ 8
   few_nodes = let is = form.nodes in grind (arith, nat_tests)
 
-  pub world_mounted : (takes : Cmd → Type 0) (spare : ℕ) → HasOnly takes s → IsWorld takes w spare
-  world_mounted takes spare taken = record {
+  pub world_mounted : (takes : Cmd → Type 0) (spare : ℕ) → IsAccepted c → HasOnly takes s → IsWorld takes w spare
+  world_mounted takes spare accepted taken = record {
     good = good_mounted;
+    accepted = accepted;
     room = record { few = subst (λ (k : ℕ). k ≤ 8) (sym (length_rest s.nodes x)) few_nodes; lines = form.lines_fit; places = subst (λ (k : ℕ). k ≤ spare) (sym (none_decided s.nodes g)) (omega arith) };
     taken = taken;
   }

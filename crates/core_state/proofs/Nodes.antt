@@ -1,7 +1,8 @@
 -- A node of a list of nodes that changes.
-use Rattle.std.proofs.Common.{◌≡◌, ◌≢◌, ◌≤◌, ◌<◌, ◌-◌, ℕ, zero, suc, List, [], ◌∷◌, Some, None, length, map, slice_get, slice_set, refl, sym, ap, subst, ◌∙◌, arith}
+use Rattle.std.proofs.Common.{◌≡◌, ◌≢◌, ◌≤◌, ◌<◌, ◌-◌, ℕ, zero, suc, List, [], ◌∷◌, Some, None, length, map, slice_get, slice_set, refl, sym, ap, subst, ◌∙◌, inl, inr, arith}
 use Rattle.std.specs.Prelude.{slice_index_or}
 use Rattle.std.proofs.lemmas.Option.{slice_get_within}
+use Rattle.vol_owners.proofs.Listing.{same_or_not}
 use Rattle.vol_owners.proofs.Writing.{get-set_else, get-set_here}
 use Rattle.core_state.specs.Worlds.{NodeState, node_at, set_node}
 
@@ -13,6 +14,16 @@ pub at_else : (nodes : List NodeState) (n m : ℕ) (s : NodeState) → m ≢ n �
 at_else nodes zero m s ne = refl
 at_else nodes (suc k) zero s ne = refl
 at_else nodes (suc k) (suc j) s ne = get-set_else nodes k j s (λ f. ne (ap suc (sym f)))
+
+-- what holds of all nodes, where node n, which stood as s, stands as r
+pub all_set : (nodes : List NodeState) (n : ℕ) (s r : NodeState) → node_at nodes n ≡ Some s → (P : ℕ → NodeState → Type 0) → P n r → ((m : ℕ) (q : NodeState) → m ≢ n → node_at nodes m ≡ Some q → P m q)
+    → (m : ℕ) (q : NodeState) → node_at (set_node nodes n r) m ≡ Some q → P m q
+all_set nodes n s r at P mine others m q e = elim (same_or_not m n) [ inl f ↦ here f | inr ne ↦ others m q ne (sym (at_else nodes n m r ne) ∙ e) ] where
+  here : m ≡ n → P m q
+  here f =
+      let x : Some q ≡ Some r = sym e ∙ ap (node_at (set_node nodes n r)) f ∙ at_here nodes n r s at in
+      let y : r ≡ q = cc in
+      subst (λ (k : ℕ). P k q) (sym f) (subst (λ (z : NodeState). P n z) y mine)
 
 -- a node that is set twice is set once
 pub set_twice : (nodes : List NodeState) (k : ℕ) (a b : NodeState) → slice_set (slice_set nodes k a) k b ≡ slice_set nodes k b

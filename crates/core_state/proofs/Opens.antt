@@ -30,7 +30,7 @@ use Rattle.lock_db.proofs.Places.{written-askers}
 use Rattle.lock_db.proofs.Steps.{IsSettled-at, IsTable-released, HasLock, HasLock-lock_of}
 use Rattle.node_locks.specs.Held.{system_of}
 use Rattle.node_locks.specs.Sequences.{raised_block}
-use Rattle.node_locks.proofs.Giving.{Served, settled-served, vacated-standing}
+use Rattle.node_locks.proofs.Served.{Served, settled-served, vacated-standing}
 use Rattle.node_locks.proofs.Nodes.{name_or_not}
 use Rattle.op_law.specs.declared.need.PlanWrite.{PlanWrite}
 use Rattle.op_law.specs.Knows.{is_held_open}
@@ -120,7 +120,7 @@ opens_same t c d same opens = record {
   held = ap (λ os. list_all is_held_open os) same ∙ opens.held;
 }
 
-none_open : (k i : ℕ) → joined (slice_get (replicate k None) i) ≡ None
+pub none_open : (k i : ℕ) → joined (slice_get (replicate k None) i) ≡ None
 none_open zero i = refl
 none_open (suc k) zero = refl
 none_open (suc k) (suc i) = none_open k i

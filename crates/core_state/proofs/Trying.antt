@@ -12,8 +12,8 @@ use Rattle.plain_cat.specs.declared.mode.Mode.{Mode}
 use Rattle.plain_cat.specs.declared.mode.Mode.TheVariants.{PR, PW}
 use Rattle.plain_cat.specs.declared.command.Cmd.{Cmd}
 use Rattle.plain_cat.specs.declared.cat.Cat.{Cat}
-use Rattle.node_locks.specs.Held.{system_of, names_of, HoldsItsLocks, waits_at, held_locks}
-use Rattle.node_locks.proofs.Keeping.{all_are_held, held_are_granted}
+use Rattle.node_locks.specs.Held.{system_of, Row, joined, names_of, HoldsItsLocks, waits_at}
+use Rattle.node_locks.proofs.Keeping.{held_are_granted}
 use Rattle.vol_owners.specs.Lists.{Has}
 use Rattle.vol_owners.proofs.Writing.{stands_joined}
 use Rattle.vol_under.specs.Guards.{guard_of}
@@ -26,20 +26,20 @@ use Rattle.op_law.specs.declared.need.PlanWrite.{PlanWrite}
 use Rattle.op_law.specs.declared.seen.Seen.{Seen}
 use Rattle.op_law.specs.Knows.{asking_part, goes_with, knows, is_granted}
 use Rattle.op_law.specs.Laws.{held_in, planned, under_way, IsAsk, IsPlan}
-use Rattle.core_state.specs.Worlds.{NodeState, Plain, node_at, set_node, locks_in, locks_of}
+use Rattle.core_state.specs.Worlds.{NodeState, Plain, node_at, set_node, rows_of, rows_in, rows_at}
 use Rattle.core_state.specs.Asks.{writes_by, writes_now, granted_ask, lock_of_ask, known_with, knows_now}
-use Rattle.core_state.specs.Searches.{unwritten, stock_after, Searches}
-use Rattle.core_state.specs.Goods.{under_with, nodes_under, IsAtPlan, IsAt, HasCommand, Good}
-use Rattle.core_state.specs.Events.{turned, trying, would_go, tried_by, by_end, happens}
+use Rattle.core_state.specs.Searches.{unwritten, stock_after, Spaces}
+use Rattle.core_state.specs.Goods.{under_with, nodes_under, IsAtPlan, IsAt, HasCommand, Good, held_by}
+use Rattle.core_state.specs.Events.{turned, asking, would_go, asked_by, by_end, happens}
 use Rattle.core_state.proofs.Holding.{held_grows}
 use Rattle.core_state.proofs.RunKinds.{names_none}
 use Rattle.core_state.proofs.Opens.{granted_goes, goes_exactly}
 use Rattle.core_state.proofs.Driving.{law_grows}
-use Rattle.core_state.proofs.Running.{at_locks, under_here}
+use Rattle.core_state.proofs.Running.{all_asked, at_locks, under_here}
 use Rattle.core_state.proofs.Taking.{replans_wider}
-use Rattle.core_state.proofs.Keeping.{altered}
+use Rattle.core_state.proofs.Keeping.{altered, asked_alone, asked_among}
 use Rattle.core_state.proofs.Standing.{locks_within, IsAskOf, asks_open, ask_seen, asked_last}
-use Rattle.core_state.proofs.Turning.{my_sole, under_command, all_here, here, drive, back, known, is_node, writes_more, made_of, asks_wait, asked_then, taken_first, within_first}
+use Rattle.core_state.proofs.Turning.{my_sole, under_command, here, drive, back, known, is_node, writes_more, made_of, asks_wait, kept_rests, asked_then, taken_first, within_first}
 use Rattle.core_state.proofs.Answering.{answers_keep}
 
 both : (a b : Bool) → a ≡ true → b ≡ true → (a && b) ≡ true
@@ -52,10 +52,10 @@ record IsAskedBy (tried : Bool) (plan : Option Plan) (a : PlanAsk) : Type 0 wher
   ask : by.ask ≡ Some a
   made : tried ≡ true
 
-asked_by : (tried : Bool) (plan : Option Plan) (a : PlanAsk) → granted_ask tried plan ≡ Some a → IsAskedBy tried plan a
-asked_by tried None a e = absurd (let f : None ≡ Some a = e in cc)
-asked_by true (Some p) a e = record { by = p; is = refl; ask = e; made = refl }
-asked_by false (Some p) a e = absurd (let f : None ≡ Some a = e in cc)
+made_by : (tried : Bool) (plan : Option Plan) (a : PlanAsk) → granted_ask tried plan ≡ Some a → IsAskedBy tried plan a
+made_by tried None a e = absurd (let f : None ≡ Some a = e in cc)
+made_by true (Some p) a e = record { by = p; is = refl; ask = e; made = refl }
+made_by false (Some p) a e = absurd (let f : None ≡ Some a = e in cc)
 
 -- the law of an ask
 law_of : (n : ℕ) (x : Cmd) (seen : Seen) (p : Plan) (a : PlanAsk) → IsPlan n x seen p p.ask → p.ask ≡ Some a → IsPlan n x seen p (Some a)
@@ -66,14 +66,13 @@ module _ (w : Plain) (good : Good w) where
   asker_writes : (m : ℕ) (q : NodeState) (y : Cmd) → node_at w.nodes m ≡ Some q → q.cmd ≡ Some y → (f : ℕ) → Has (names_of q.asked) (A f) → Has (nodes_under w.locks w.nodes m).write (S f) × (q.tried ≡ true)
   asker_writes m q y at cmd f has =
       let now : IsAt w m q y = subst (HasCommand w m q) cmd (good.nodes m q at).command in
-      let its : IsAskOf (granted_ask q.tried q.plan) f = asks_open w.locks m y (granted_ask q.tried q.plan) q.asked q.search q.seen now.search now.own f has in
-      let by = asked_by q.tried q.plan its.made its.is in
+      let its : IsAskOf (granted_ask q.tried q.plan) f = asks_open w.locks m y (granted_ask q.tried q.plan) q.asked q.run q.seen now.search now.own f has in
+      let by = made_by q.tried q.plan its.made its.is in
       let made : IsAtPlan y (waits_at w.locks m q.asked) q.seen q.done q.tried (Some by.by) = subst (IsAtPlan y (waits_at w.locks m q.asked) q.seen q.done q.tried) by.is now.plan in
       let law : IsAsk y q.seen by.by its.made = (law_of m y q.seen by.by its.made (now.lawful.plans m q.seen by.by now.seen made.0) by.ask).0 in
       let holds : Has (held_in PW q.seen.locks) (S f) = subst (λ (k : ℕ). Has (held_in PW q.seen.locks) (S k)) its.file law.held in
-      let all : held_locks w.locks m q.asked ≡ q.asked = all_are_held w.locks m q.asked made.1 in
-      let more : Has (held_in PW (held_locks w.locks m q.asked)) (S f) = subst (λ (ls : List (LockName × Mode)). Has (held_in PW ls) (S f)) (sym all)
-      (held_grows PW q.seen.locks q.asked (S f) (locks_within w.locks m y (granted_ask q.tried q.plan) q.asked q.search q.seen now.search) holds) in
+      let more : Has (held_in PW (held_by w.locks m q)) (S f)
+      = held_grows PW q.seen.locks (held_by w.locks m q) (S f) (λ l h. all_asked w.locks m q l made.1 (locks_within w.locks m y (granted_ask q.tried q.plan) q.asked q.run q.seen now.search l h)) holds in
       let is : under_with w.locks m q (Some y) ≡ nodes_under w.locks w.nodes m = ap (under_with w.locks m q) (sym cmd) ∙ sym (under_here w.locks w.nodes m q at) in
       (subst (λ (u : UnderWay). Has u.write (S f)) is more, by.made)
 
@@ -96,7 +95,7 @@ module _ (w : Plain) (good : Good w) (n : ℕ) (s : NodeState) (at : node_at w.n
   holds_file = subst (λ (u : UnderWay). Has u.write (S a.file)) (sym (here w good n s at x cmd free)) (writes_more w good n s at x cmd free (S a.file) law.0.held)
 
   -- no other file system has anything at the file's lock, nor has its own before it has asked
-  not_asked : s.tried ≡ false → (m : ℕ) → Has (names_of (locks_of w.nodes m)) (A a.file) → ⊥
+  not_asked : s.tried ≡ false → (m : ℕ) → Has (names_of (joined (rows_at w.nodes m))) (A a.file) → ⊥
   not_asked not_yet m has = by_node (node_at w.nodes m) refl has where
     by_cmd : (q : NodeState) → node_at w.nodes m ≡ Some q → Has (names_of q.asked) (A a.file) → (o : Option Cmd) → q.cmd ≡ o → HasCommand w m q o → ⊥
     by_cmd q e h None c i = absurd (subst (λ (ls : List (LockName × Mode)). Has (names_of ls) (A a.file)) i.asked h)
@@ -107,12 +106,12 @@ module _ (w : Plain) (good : Good w) (n : ℕ) (s : NodeState) (at : node_at w.n
         let is : q ≡ s = cc in
         absurd (let f : true ≡ false = sym its.1 ∙ ap (λ (z : NodeState). z.tried) is ∙ not_yet in cc)
 
-    by_node : (o : Option NodeState) → node_at w.nodes m ≡ o → Has (names_of (locks_in o)) (A a.file) → ⊥
+    by_node : (o : Option NodeState) → node_at w.nodes m ≡ o → Has (names_of (joined (rows_in o))) (A a.file) → ⊥
     by_node None e h = absurd h
-    by_node (Some q) e h = by_cmd q e h q.cmd refl (good.nodes m q e).command
+    by_node (Some q) e h = by_cmd q e (asked_alone q (good.nodes m q e).store (A a.file) h) q.cmd refl (good.nodes m q e).command
 
   pub nobody_asks : s.tried ≡ false → (m : ℕ) → stands_at (A a.file) (system_of m) w.locks ≡ None
-  nobody_asks not_yet m = let h : HoldsItsLocks w.locks m (locks_of w.nodes m) = good.locked.1 m in h.no_other (A a.file) (not_asked not_yet m)
+  nobody_asks not_yet m = let h : HoldsItsLocks w.locks m (rows_at w.nodes m) = good.locked.1 m in h.no_other (A a.file) (not_asked not_yet m)
 
   -- it asks by its file system
   by_system : is_granted n a cat ≡ goes_with cat n 0 a.file a.mode
@@ -126,11 +125,9 @@ module _ (w : Plain) (good : Good w) (n : ℕ) (s : NodeState) (at : node_at w.n
   still_granted : s.tried ≡ true → is_granted n a cat ≡ true
   still_granted done =
       let is : granted_ask s.tried s.plan ≡ Some a = (λ i. granted_ask (done i) (plan i)) ∙ ask in
-      let has : Has s.asked (lock_of_ask a) = asked_last w.locks n x (granted_ask s.tried s.plan) s.asked s.search s.seen now.search a is in
-      let mine : locks_of w.nodes n ≡ s.asked = ap locks_in at in
-      let h : HoldsItsLocks w.locks n s.asked = subst (λ (ls : List (LockName × Mode)). HoldsItsLocks w.locks n ls) mine (good.locked.1 n) in
-      let granted : stands_at (A a.file) (system_of n) w.locks ≡ Some (Granted a.mode)
-      = (held_are_granted w.locks n (lock_of_ask a) s.asked h).0 (subst (λ (ls : List (LockName × Mode)). Has ls (lock_of_ask a)) (sym (all_here w good n s at x cmd free)) has) in
+      let has : Has s.asked (lock_of_ask a) = asked_last w.locks n x (granted_ask s.tried s.plan) s.asked s.run s.seen now.search a is in
+      let h : HoldsItsLocks w.locks n (rows_of s) = subst (λ (rs : List Row). HoldsItsLocks w.locks n rs) (ap rows_in at) (good.locked.1 n) in
+      let granted : stands_at (A a.file) (system_of n) w.locks ≡ Some (Granted a.mode) = (held_are_granted w.locks n (lock_of_ask a) (rows_of s) h).0 (all_asked w.locks n s (lock_of_ask a) free has) in
       by_system ∙ ap not (granted_goes w.locks cat n a.file a.mode good.locked.0 good.running.opens granted)
 
   -- ---- it is granted
@@ -139,13 +136,13 @@ module _ (w : Plain) (good : Good w) (n : ℕ) (s : NodeState) (at : node_at w.n
   t = asked (A a.file) (system_of n) a.mode w.locks
 
   abbrev r : NodeState
-  r = turned (trying s a)
+  r = turned (asking s a)
 
   abbrev know : Cat → Bool
   know c = knows n x s.seen c && is_granted n a c
 
   abbrev left : List (ℕ × Block)
-  left = unwritten (take s.search.taken s.search.takes) s.search.looked
+  left = unwritten (take s.run.made s.run.writes) s.run.looked
 
   -- the writes so far are the first of all
   first_writes : s.tried ≡ false → writes_now s.tried s.plan ≡ take a.at p.writes
@@ -160,18 +157,18 @@ module _ (w : Plain) (good : Good w) (n : ℕ) (s : NodeState) (at : node_at w.n
   all_known_then : (c : Cat) → know c ≡ knows_now n x s.seen true s.plan c
   all_known_then c = sym (ap (λ (o : Option Plan). known_with n (knows n x s.seen) (granted_ask true o) c) plan ∙ ap (λ o. known_with n (knows n x s.seen) o c) ask)
 
-  wider_drive : s.tried ≡ false → is_granted n a cat ≡ true → ((l : LockName × Mode) → Has s.asked l → Has (held_locks t n r.asked) l)
+  wider_drive : s.tried ≡ false → is_granted n a cat ≡ true → ((l : LockName × Mode) → Has (held_by w.locks n s) l → Has (held_by t n r) l)
       → IsUnder w.geometry cat (changed (nodes_under w.locks w.nodes) n (under_with t n r r.cmd)) w.blocks
   wider_drive not_yet granted grows =
-      let u : UnderWay = at_locks n s x s.asked in
-      let ls : List (LockName × Mode) = held_locks t n r.asked in
-      let stock = stock_after s.search.takes s.search.taken in
+      let u : UnderWay = at_locks n s x (held_by w.locks n s) in
+      let ls : Row = held_by t n r in
+      let stock = stock_after s.run.writes s.run.made in
       let v = replans_wider s.seen.geometry cat (nodes_under w.locks w.nodes) w.blocks n u (here w good n s at x cmd free) (drive w good n s at x cmd free) know (map planned p.writes) (held_in PR ls) (held_in PW ls)
-      (λ name h. held_grows PR s.asked ls name grows h) (λ name h. held_grows PW s.asked ls name grows h)
+      (λ name h. held_grows PR (held_by w.locks n s) ls name grows h) (λ name h. held_grows PW (held_by w.locks n s) ls name grows h)
       (taken_first s.done a.at p.writes (part not_yet) ∙ ap (λ (ws : List PlanWrite). take s.done (map planned ws)) (sym (first_writes not_yet)))
       (within_first s.done a.at p.writes (part not_yet))
-      (law_grows s.seen.geometry n (under_way x s.seen p.writes know) (held_in PR s.asked) (held_in PW s.asked) left s.done stock (writes_more w good n s at x cmd free) law.1.lawful)
-      (λ base own spelt stands outs l h. wider_write n (held_in PW s.seen.locks) (held_in PW s.asked) (writes_more w good n s at x cmd free) (guard_of s.seen.geometry own l)
+      (law_grows s.seen.geometry n (under_way x s.seen p.writes know) (held_in PR (held_by w.locks n s)) (held_in PW (held_by w.locks n s)) left s.done stock (writes_more w good n s at x cmd free) law.1.lawful)
+      (λ base own spelt stands outs l h. wider_write n (held_in PW s.seen.locks) (held_in PW (held_by w.locks n s)) (writes_more w good n s at x cmd free) (guard_of s.seen.geometry own l)
       (law.1.guarded base own cat stock spelt (both (knows n x s.seen cat) _ (known w good n s at x cmd free) granted) ((stands_joined base left s.seen.blocks).0 stands).1 outs l h)) in
       let there : record u { knows = know; plan = map planned p.writes; read = held_in PR ls; write = held_in PW ls } ≡ under_with t n r r.cmd
       = (λ i. record (at_locks n r x ls) { knows = λ c. all_known_then c i; plan = map planned (all_writes_then i) }) ∙ ap (under_with t n r) (sym cmd) in
@@ -179,15 +176,16 @@ module _ (w : Plain) (good : Good w) (n : ℕ) (s : NodeState) (at : node_at w.n
       (back w good n s at x cmd free (record u { knows = know; plan = map planned p.writes; read = held_in PR ls; write = held_in PW ls }) w.blocks v)
 
   not_mine : s.tried ≡ false → Has (names_of s.asked) (A a.file) → ⊥
-  not_mine not_yet h = not_asked not_yet n (subst (λ (ls : List (LockName × Mode)). Has (names_of ls) (A a.file)) (sym (ap locks_in at)) h)
+  not_mine not_yet h = not_asked not_yet n (subst (λ (rs : List Row). Has (names_of (joined rs)) (A a.file)) (sym (ap rows_in at)) (asked_among s (good.nodes n s at).store (A a.file) h))
 
-  tries_keep : s.tried ≡ false → would_go w.locks n a ≡ true → Good (altered w t w.blocks (set_node w.nodes n r) w.history)
-  tries_keep not_yet goes =
+  asks_keep : s.tried ≡ false → would_go w.locks n a ≡ true → Good (altered w t w.blocks (set_node w.nodes n r) w.history)
+  asks_keep not_yet goes =
       let new : Has (names_of s.asked) (A a.file) → ⊥ = not_mine not_yet in
-      asked_then w good n s at x cmd free (A a.file) a.mode new r refl (wider_drive not_yet (sym (asks_exactly not_yet) ∙ goes))
-      (λ grows. is_node w good n s at x cmd free t w.blocks r refl refl refl cmd refl refl refl now.seen now.own
+      asked_then w good n s at x cmd free (A a.file) a.mode new r refl refl (wider_drive not_yet (sym (asks_exactly not_yet) ∙ goes))
+      (λ grows. is_node w good n s at x cmd free t w.blocks r refl refl refl refl (kept_rests w good n s at x cmd free (A a.file) a.mode new) now.seen now.own
       (subst (IsAtPlan x (waits_at t n r.asked) s.seen s.done true) (sym plan) (made.0, asks_wait w good n s at x cmd free (A a.file) a.mode new ∙ ap not goes, all_made))
-      (subst (λ (o : Option PlanAsk). Searches t n x o r.asked s.search s.seen) (sym granted_then) (ask_seen w.locks t n x s.asked s.search s.seen a grows stands))) where
+      (subst (λ (o : Option PlanAsk). Spaces t n x o r.asked s.run s.seen) (sym granted_then) (ask_seen w.locks t n x s.asked s.run s.seen a grows stands))
+      (λ e. absurd (let f : true ≡ false = sym e ∙ asks_wait w good n s at x cmd free (A a.file) a.mode new ∙ ap not goes in cc))) where
         all_made : s.done ≤ length (writes_by p.ask true p.writes)
         all_made = subst (λ (o : Option PlanAsk). s.done ≤ length (writes_by o true p.writes)) (sym ask) (whole s.done a.at p.writes (part not_yet)) where
           whole : (k m : ℕ) (ws : List PlanWrite) → k ≤ length (take m ws) → k ≤ length ws
@@ -200,15 +198,15 @@ module _ (w : Plain) (good : Good w) (n : ℕ) (s : NodeState) (at : node_at w.n
         granted_then : granted_ask true s.plan ≡ Some a
         granted_then = ap (granted_ask true) plan ∙ ask
 
-        stands : Searches w.locks n x None s.asked s.search s.seen
-        stands = subst (λ (o : Option PlanAsk). Searches w.locks n x o s.asked s.search s.seen) ((λ i. granted_ask (not_yet i) (plan i))) now.search
+        stands : Spaces w.locks n x None s.asked s.run s.seen
+        stands = subst (λ (o : Option PlanAsk). Spaces w.locks n x o s.asked s.run s.seen) ((λ i. granted_ask (not_yet i) (plan i))) now.search
 
   -- ---- it asks
 
-  pub ask_keeps : s.tried ≡ false → slice_get (take a.at p.writes) s.done ≡ None → Good (tried_by w n s x a (would_go w.locks n a))
+  pub ask_keeps : s.tried ≡ false → slice_get (take a.at p.writes) s.done ≡ None → Good (asked_by w n s x a (would_go w.locks n a))
   ask_keeps not_yet last = by_goes (would_go w.locks n a) refl where
-    by_goes : (b : Bool) → would_go w.locks n a ≡ b → Good (tried_by w n s x a b)
-    by_goes true goes = tries_keep not_yet goes
+    by_goes : (b : Bool) → would_go w.locks n a ≡ b → Good (asked_by w n s x a b)
+    by_goes true goes = asks_keep not_yet goes
     by_goes false refused =
         answers_keep w good n s at x cmd free p made.0 (take a.at p.writes) (first_writes not_yet) last (part not_yet) a.refused (λ c. knows n x s.seen c && not (is_granted n a c)) law.2
         (both (knows n x s.seen cat) _ (known w good n s at x cmd free) (ap not (sym (asks_exactly not_yet) ∙ refused)))

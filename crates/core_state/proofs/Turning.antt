@@ -1,5 +1,5 @@
 -- The events that leave the history: each keeps the invariant.
-use Rattle.std.proofs.Common.{◌≡◌, ◌≤◌, ◌<◌, ◌+◌, ◌++◌, ◌&&◌, not, ℕ, zero, suc, Bool, true, false, cond, List, [], ◌∷◌, Option, Some, None, length, map, take, slice_get, slice_set, refl, sym, ap, subst, ◌∙◌, inl, inr, arith}
+use Rattle.std.proofs.Common.{◌≡◌, ◌≤◌, ◌<◌, ◌+◌, ◌++◌, ◌&&◌, not, ℕ, zero, suc, Bool, true, false, cond, List, [], ◌∷◌, Option, Some, None, length, map, take, slice_get, slice_set, refl, sym, ap, subst, ◌∙◌, inl, inr, arith, ◌≢◌}
 use Rattle.std.specs.Prelude.{slice_index_or}
 use Rattle.std.proofs.lemmas.Option.{slice_get_within}
 use Rattle.vol_words.specs.Fields.{Block}
@@ -12,10 +12,11 @@ use Rattle.plain_cat.specs.declared.mode.Mode.{Mode}
 use Rattle.plain_cat.specs.declared.mode.Mode.TheVariants.{PR, PW}
 use Rattle.plain_cat.specs.declared.command.Cmd.{Cmd}
 use Rattle.plain_cat.specs.declared.cat.Cat.{Cat}
-use Rattle.node_locks.specs.Held.{system_of, names_of, HoldsItsLocks, AreHeld, waits_at, held_locks, with_locks}
-use Rattle.node_locks.specs.HeldLaws.{IsAskedFor}
+use Rattle.node_locks.specs.Held.{system_of, Row, names_of, HoldsItsLocks, AreHeld, waits_at, held_locks, all_held, put_in, with_rows}
+use Rattle.node_locks.specs.HeldLaws.{StandsStill, GoesOn as RowGoesOn, IsAskedFor}
 use Rattle.node_locks.proofs.Asking.{asking_holds}
-use Rattle.node_locks.proofs.Keeping.{all_are_held}
+use Rattle.node_locks.proofs.Keeping.{all_are_held, rows_stand_still}
+use Rattle.node_locks.proofs.Growing.{asking_grows}
 use Rattle.vol_owners.specs.Lists.{Has, Touches, StandsIn}
 use Rattle.vol_owners.specs.Owners.{Owners, Things, Outs}
 use Rattle.vol_owners.proofs.Writing.{touches_joined, stands_joined}
@@ -38,25 +39,36 @@ use Rattle.op_law.specs.Going.{GoesOn, with_block}
 use Rattle.op_law.specs.Knows.{knows, is_granted}
 use Rattle.op_law.specs.Laws.{held_in, planned, under_way, takes_lock, MayNeed, AreGuarded, IsPlan}
 use Rattle.op_law.proofs.Going.{seen_goes_on}
-use Rattle.core_state.specs.Worlds.{NodeState, Plain, node_at, set_node, locks_in, locks_of}
+use Rattle.plain_vol.specs.Own.{NodePast}
+use Rattle.node_cache.specs.Cached.{Cached}
+use Rattle.op_law.specs.declared.seen.Chan.{Chan}
+use Rattle.core_state.specs.Channels.{channel_now, HasChannels}
+use Rattle.core_state.specs.Stores.{HasStore}
+use Rattle.core_state.specs.Worlds.{Stock, NodeState, Plain, node_at, set_node, rows_of, rows_in, rows_at}
 use Rattle.core_state.specs.Asks.{writes_by, writes_now, granted_ask, knows_now}
-use Rattle.core_state.specs.Searches.{unwritten, stock_after, Searches}
-use Rattle.core_state.specs.Goods.{under_with, nodes_under, IsAtPlan, IsAt, HasCommand, IsNode, Good}
-use Rattle.core_state.specs.Events.{block_at, turned, asking, looking, deciding, writing}
+use Rattle.core_state.specs.Searches.{unwritten, stock_after, Spaces}
+use Rattle.core_state.specs.Waiting.{WaitsFor, ItsLock}
+use Rattle.core_state.specs.Goods.{under_with, nodes_under, IsAtPlan, IsAt, HasCommand, IsNode, Good, held_by}
+use Rattle.core_state.specs.Events.{block_at, turned, locking, looking, planning, writing}
 use Rattle.core_state.proofs.Holding.{held_grows}
 use Rattle.core_state.proofs.Driving.{law_grows}
-use Rattle.core_state.proofs.Running.{at_locks, under_now, under_here, are_sole}
+use Rattle.core_state.proofs.Running.{all_asked, at_locks, under_now, under_here, are_sole}
 use Rattle.core_state.proofs.Taking.{its_outs, its_seen, its_guards, becomes, is_committed, decides, writes}
-use Rattle.core_state.proofs.Keeping.{altered, rebuilt, held_set, held_same}
+use Rattle.core_state.proofs.SmallWorlds.{small_set, small_asked}
+use Rattle.core_state.proofs.Keeping.{altered, rebuilt, held_set, held_same, loses_nothing, asked_alone}
 use Rattle.core_state.proofs.Beginning.{alone}
 use Rattle.core_state.proofs.Opens.{opens_asked}
-use Rattle.core_state.proofs.Standing.{locks_within, new_to_all, block_seen, lock_seen, is_known}
+use Rattle.core_state.proofs.Standing.{locks_within, new_to_all, block_seen, comes_behind, lock_seen, is_known}
 
 -- a block that there is
 pub index_within : (bs : List Block) (l : ℕ) → l < length bs → slice_get bs l ≡ Some (slice_index_or bs l [])
 index_within [] l lt = absurd (omega arith)
 index_within (b ∷ bs) zero lt = refl
 index_within (b ∷ bs) (suc l) lt = index_within bs l (omega arith)
+
+-- a row that stands still loses nothing
+goes_still : (t u : List Resource) (m : ℕ) (ls : Row) → StandsStill t u m ls → RowGoesOn t u m ls
+goes_still t u m ls s = record { waits = λ e. s.waits ∙ e; holds = λ l h. subst (λ (ks : Row). Has ks l) (sym s.holds) h }
 
 -- a lock stays, whether another is granted or not
 has_either : (ls : List (LockName × Mode)) (more l : LockName × Mode) → Has ls l → (b : Bool) → Has (cond b (ls ++ more ∷ []) ls) l
@@ -113,6 +125,19 @@ names_of_more [] l P old new name (inr h) = absurd h
 names_of_more (k ∷ ls) l P old new name (inl e) = old name (inl e)
 names_of_more (k ∷ ls) l P old new name (inr h) = names_of_more ls l P (λ m t. old m (inr t)) new name h
 
+-- what an event of a node's command leaves
+pub record Rest : Type 0 where
+  pub past : NodePast
+  pub opens : List (Option Chan)
+  pub kept : List (LockName × Mode)
+  pub back : List (LockName × Mode)
+  pub stock : Stock
+  pub cache : List Cached
+  pub over : Bool
+
+abbrev pub rest_of : NodeState → Rest
+rest_of s = record { past = s.past; opens = s.opens; kept = s.kept; back = s.back; stock = s.stock; cache = s.cache; over = s.over }
+
 -- ---- an event of a node with a command
 
 module _ (w : Plain) (good : Good w) (n : ℕ) (s : NodeState) (at : node_at w.nodes n ≡ Some s) (x : Cmd) (cmd : s.cmd ≡ Some x) (free : waits_at w.locks n s.asked ≡ false) where
@@ -129,8 +154,8 @@ module _ (w : Plain) (good : Good w) (n : ℕ) (s : NodeState) (at : node_at w.n
   pub all_here : held_locks w.locks n s.asked ≡ s.asked
   all_here = all_are_held w.locks n s.asked free
 
-  pub here : nodes_under w.locks w.nodes n ≡ at_locks n s x s.asked
-  here = under_here w.locks w.nodes n s at ∙ ap (under_with w.locks n s) cmd ∙ ap (at_locks n s x) all_here
+  pub here : nodes_under w.locks w.nodes n ≡ at_locks n s x (held_by w.locks n s)
+  here = under_here w.locks w.nodes n s at ∙ ap (under_with w.locks n s) cmd
 
   -- the drive, by the geometry that the command has seen
   pub drive : IsUnder s.seen.geometry good.running.cat (nodes_under w.locks w.nodes) w.blocks
@@ -139,14 +164,14 @@ module _ (w : Plain) (good : Good w) (n : ℕ) (s : NodeState) (at : node_at w.n
   pub back : (v : UnderWay) (bs : List Block) → IsUnder s.seen.geometry good.running.cat (changed (nodes_under w.locks w.nodes) n v) bs → IsUnder w.geometry good.running.cat (changed (nodes_under w.locks w.nodes) n v) bs
   back v bs u = subst (λ (g : Geometry). IsUnder g good.running.cat (changed (nodes_under w.locks w.nodes) n v) bs) me.geometry u
 
-  pub outs_now : Outs n drive.own (at_locks n s x s.asked).took (at_locks n s x s.asked).stock
-  outs_now = its_outs s.seen.geometry good.running.cat (nodes_under w.locks w.nodes) w.blocks n (at_locks n s x s.asked) here drive
+  pub outs_now : Outs n drive.own (at_locks n s x (held_by w.locks n s)).took (at_locks n s x (held_by w.locks n s)).stock
+  outs_now = its_outs s.seen.geometry good.running.cat (nodes_under w.locks w.nodes) w.blocks n (at_locks n s x (held_by w.locks n s)) here drive
 
-  pub seen_now : StandsIn drive.base (at_locks n s x s.asked).seen
-  seen_now = its_seen s.seen.geometry good.running.cat (nodes_under w.locks w.nodes) w.blocks n (at_locks n s x s.asked) here drive
+  pub seen_now : StandsIn drive.base (at_locks n s x (held_by w.locks n s)).seen
+  seen_now = its_seen s.seen.geometry good.running.cat (nodes_under w.locks w.nodes) w.blocks n (at_locks n s x (held_by w.locks n s)) here drive
 
-  pub guards_now : (l : ℕ) → Touches (at_locks n s x s.asked).seen l → MayLook (held_in PR s.asked) (guard_of s.seen.geometry drive.own l)
-  guards_now = its_guards s.seen.geometry good.running.cat (nodes_under w.locks w.nodes) w.blocks n (at_locks n s x s.asked) here drive
+  pub guards_now : (l : ℕ) → Touches (at_locks n s x (held_by w.locks n s)).seen l → MayLook (held_in PR (held_by w.locks n s)) (guard_of s.seen.geometry drive.own l)
+  guards_now = its_guards s.seen.geometry good.running.cat (nodes_under w.locks w.nodes) w.blocks n (at_locks n s x (held_by w.locks n s)) here drive
 
   -- what it takes for granted of the catalogue is so
   pub known : knows n x s.seen good.running.cat ≡ true
@@ -156,27 +181,34 @@ module _ (w : Plain) (good : Good w) (n : ℕ) (s : NodeState) (at : node_at w.n
   pub seen_on : IsSeenOn n x s.seen drive.base drive.own good.running.cat
   seen_on = record {
     spelt = drive.spelt;
-    stands = ((stands_joined drive.base (unwritten (take s.search.taken s.search.takes) s.search.looked) s.seen.blocks).0 seen_now).1;
-    stock = stock_after s.search.takes s.search.taken;
+    stands = ((stands_joined drive.base (unwritten (take s.run.made s.run.writes) s.run.looked) s.seen.blocks).0 seen_now).1;
+    stock = stock_after s.run.writes s.run.made;
     outs = outs_now;
     known = known;
   }
 
+  -- it waits for nothing
+  pub no_wait : (seen : Seen) → waits_at w.locks n s.asked ≡ true → WaitsFor x s.asked seen
+  no_wait seen e = absurd (let f : true ≡ false = sym e ∙ free in cc)
+
   -- the node with another state, and the same command
-  pub is_node : (t : List Resource) (bs : List Block) (r : NodeState) → r.past ≡ s.past → r.seen.geometry ≡ s.seen.geometry → r.seen.channel ≡ s.seen.channel
-      → r.cmd ≡ Some x → r.over ≡ s.over → r.stock ≡ s.stock → r.cache ≡ s.cache → HasSeen x r.seen → ((name : LockName) → Has (names_of r.seen.locks) name → takes_lock x name ≡ true) → IsAtPlan x (waits_at t n r.asked) r.seen r.done r.tried r.plan
-      → Searches t n x (granted_ask r.tried r.plan) r.asked r.search r.seen → IsNode (altered w t bs (set_node w.nodes n r) w.history) n r
-  is_node t bs r p g c o ov st ca seen own plan search = record {
-    past = p ∙ me.past;
-    alive = ap (λ y. y.dead) p ∙ me.alive;
-    closed = ap (λ y. y.channels) p ∙ me.closed;
+  pub is_node : (t : List Resource) (bs : List Block) (r : NodeState) → rest_of r ≡ rest_of s → r.seen.geometry ≡ s.seen.geometry → r.seen.channel ≡ s.seen.channel
+      → r.cmd ≡ s.cmd → waits_at t n s.kept ≡ false → HasSeen x r.seen → ((name : LockName) → Has (names_of r.seen.locks) name → takes_lock x name ≡ true) → IsAtPlan x (waits_at t n r.asked) r.seen r.done r.tried r.plan
+      → Spaces t n x (granted_ask r.tried r.plan) r.asked r.run r.seen → (waits_at t n r.asked ≡ true → WaitsFor x r.asked r.seen) → IsNode (altered w t bs (set_node w.nodes n r) w.history) n r
+  is_node t bs r same g c o rests seen own plan search waits = record {
+    past = ap (λ (k : Rest). k.past) same ∙ me.past;
     geometry = g ∙ me.geometry;
-    channel = c ∙ me.channel;
-    keeps = record { stock = st ∙ me.keeps.stock; cache = ca ∙ me.keeps.cache };
-    command = subst (HasCommand (altered w t bs (set_node w.nodes n r) w.history) n r) (sym o)
-        (record { next = under_command.next; runs = under_command.runs; lawful = under_command.lawful; seen = seen; own = own; plan = plan; search = search });
-    over = λ e. absurd (let f : s.cmd ≡ None = (me.over (sym ov ∙ e)).0 in let h : Some x ≡ None = sym cmd ∙ f in cc);
-  }
+    channels = subst (λ (k : Rest). HasChannels k.past k.opens) (sym same) me.channels;
+    channel = c ∙ me.channel ∙ (λ i. channel_now (sym same i).opens (sym o i));
+    store = subst (λ (k : Rest). HasStore k.kept k.back k.stock k.cache) (sym same) me.store;
+    rests = subst (λ (k : Rest). waits_at t n k.kept ≡ false) (sym same) rests;
+    command = subst (HasCommand (altered w t bs (set_node w.nodes n r) w.history) n r) (sym (o ∙ cmd))
+        (record { next = under_command.next; runs = under_command.runs; lawful = under_command.lawful; seen = seen; own = own; plan = plan; search = search; waits = waits });
+    over = λ e. absurd (busy (me.over (sym (ap (λ (k : Rest). k.over) same) ∙ e)).0.cmd);
+    gone = λ e. absurd (busy (me.gone (sym (ap (λ (k : Rest). k.past.dead) same) ∙ e)).cmd);
+  } where
+    busy : s.cmd ≡ None → ⊥
+    busy none = absurd (let h : Some x ≡ None = sym cmd ∙ none in cc)
 
   pub goes : GoesOn x
   goes = seen_goes_on x under_command.lawful.searches
@@ -189,143 +221,144 @@ module _ (w : Plain) (good : Good w) (n : ℕ) (s : NodeState) (at : node_at w.n
   not_yet no_plan = subst (IsAtPlan x (waits_at w.locks n s.asked) s.seen s.done s.tried) no_plan under_command.plan
 
   -- its search stands without an ask, and so it will
-  pub search_now : s.plan ≡ None → Searches w.locks n x None s.asked s.search s.seen
-  search_now no_plan = subst (λ (o : Option Plan). Searches w.locks n x (granted_ask s.tried o) s.asked s.search s.seen) no_plan under_command.search
+  pub search_now : s.plan ≡ None → Spaces w.locks n x None s.asked s.run s.seen
+  search_now no_plan = subst (λ (o : Option Plan). Spaces w.locks n x (granted_ask s.tried o) s.asked s.run s.seen) no_plan under_command.search
 
-  search_then : s.plan ≡ None → (t : List Resource) (asked : List (LockName × Mode)) (seen : Seen) → Searches t n x None asked s.search seen → Searches t n x (granted_ask s.tried s.plan) asked s.search seen
-  search_then no_plan t asked seen h = subst (λ (o : Option Plan). Searches t n x (granted_ask s.tried o) asked s.search seen) (sym no_plan) h
+  search_then : s.plan ≡ None → (t : List Resource) (asked : List (LockName × Mode)) (seen : Seen) → Spaces t n x None asked s.run seen → Spaces t n x (granted_ask s.tried s.plan) asked s.run seen
+  search_then no_plan t asked seen h = subst (λ (o : Option Plan). Spaces t n x (granted_ask s.tried o) asked s.run seen) (sym no_plan) h
 
-  pub no_writes_now : s.plan ≡ None → (at_locks n s x s.asked).plan ≡ []
+  pub no_writes_now : s.plan ≡ None → (at_locks n s x (held_by w.locks n s)).plan ≡ []
   no_writes_now no_plan = ap (λ o. map planned (writes_now s.tried o)) no_plan
 
   -- it holds the locks of its command
-  pub reads_more : (name : LockName) → Has (held_in PR s.seen.locks) name → Has (held_in PR s.asked) name
-  reads_more name h = held_grows PR s.seen.locks s.asked name (locks_within w.locks n x (granted_ask s.tried s.plan) s.asked s.search s.seen under_command.search) h
+  holds_its : (l : LockName × Mode) → Has s.seen.locks l → Has (held_by w.locks n s) l
+  holds_its l h = all_asked w.locks n s l free (locks_within w.locks n x (granted_ask s.tried s.plan) s.asked s.run s.seen under_command.search l h)
 
-  pub writes_more : (name : LockName) → Has (held_in PW s.seen.locks) name → Has (held_in PW s.asked) name
-  writes_more name h = held_grows PW s.seen.locks s.asked name (locks_within w.locks n x (granted_ask s.tried s.plan) s.asked s.search s.seen under_command.search) h
+  pub reads_more : (name : LockName) → Has (held_in PR s.seen.locks) name → Has (held_in PR (held_by w.locks n s)) name
+  reads_more name h = held_grows PR s.seen.locks (held_by w.locks n s) name holds_its h
+
+  pub writes_more : (name : LockName) → Has (held_in PW s.seen.locks) name → Has (held_in PW (held_by w.locks n s)) name
+  writes_more name h = held_grows PW s.seen.locks (held_by w.locks n s) name holds_its h
 
   -- it asks for a lock on a name that it has none on
-  pub asks_new : (name : LockName) (mode : Mode) → (Has (names_of s.asked) name → ⊥) → IsAskedFor n (name, mode) (locks_of w.nodes) w.locks (asked name (system_of n) mode w.locks)
-  asks_new name mode new =
-      let mine : locks_of w.nodes n ≡ s.asked = ap locks_in at in
-      asking_holds w.locks n (name, mode) (locks_of w.nodes) good.locked.1
-      (subst (λ (ls : List (LockName × Mode)). waits_at w.locks n ls ≡ false) (sym mine) free)
-      (λ h. new (subst (λ (ls : List (LockName × Mode)). Has (names_of ls) name) mine h))
+  pub asks_new : (name : LockName) (mode : Mode) → (Has (names_of s.asked) name → ⊥) → IsAskedFor n 1 s.asked (name, mode) (rows_of s) (rows_at w.nodes) w.locks (asked name (system_of n) mode w.locks)
+  asks_new name mode new = asking_holds w.locks n 1 s.asked (name, mode) (rows_of s) (rows_at w.nodes) good.locked.1 (ap rows_in at) refl free (λ h. new (asked_alone s me.store name h))
 
   -- it waits for it where it is not granted at once
   pub asks_wait : (name : LockName) (mode : Mode) → (Has (names_of s.asked) name → ⊥)
       → waits_at (asked name (system_of n) mode w.locks) n (s.asked ++ (name, mode) ∷ []) ≡ not (goes_at_once (system_of n) mode (resource_at name w.locks).askers)
-  asks_wait name mode new =
-      let mine : locks_of w.nodes n ≡ s.asked = ap locks_in at in
-      subst (λ (ls : List (LockName × Mode)). waits_at (asked name (system_of n) mode w.locks) n (ls ++ (name, mode) ∷ []) ≡ not (goes_at_once (system_of n) mode (resource_at name w.locks).askers)) mine (asks_new name mode new).waits
+  asks_wait name mode new = (asks_new name mode new).waits
+
+  -- and for none of those that outlive its commands
+  pub kept_rests : (name : LockName) (mode : Mode) → (Has (names_of s.asked) name → ⊥) → waits_at (asked name (system_of n) mode w.locks) n s.kept ≡ false
+  kept_rests name mode new = ((asks_new name mode new).rest 0 s.kept (λ e. absurd (omega arith)) refl).waits ∙ me.rests
 
   -- the world with the lock asked for, where the drive is under way with it
-  pub asked_then : (name : LockName) (mode : Mode) → (Has (names_of s.asked) name → ⊥) → (r : NodeState) → r.asked ≡ s.asked ++ (name, mode) ∷ []
-      → (((l : LockName × Mode) → Has s.asked l → Has (held_locks (asked name (system_of n) mode w.locks) n r.asked) l)
+  pub asked_then : (name : LockName) (mode : Mode) → (Has (names_of s.asked) name → ⊥) → (r : NodeState) → r.asked ≡ s.asked ++ (name, mode) ∷ [] → rows_of r ≡ put_in 1 (name, mode) (rows_of s)
+      → (((l : LockName × Mode) → Has (held_by w.locks n s) l → Has (held_by (asked name (system_of n) mode w.locks) n r) l)
       → IsUnder w.geometry good.running.cat (changed (nodes_under w.locks w.nodes) n (under_with (asked name (system_of n) mode w.locks) n r r.cmd)) w.blocks)
       → (((l : LockName × Mode) → Has (held_locks w.locks n s.asked) l → Has (held_locks (asked name (system_of n) mode w.locks) n r.asked) l) → IsNode (altered w (asked name (system_of n) mode w.locks) w.blocks (set_node w.nodes n r) w.history) n r)
       → Good (altered w (asked name (system_of n) mode w.locks) w.blocks (set_node w.nodes n r) w.history)
-  asked_then name mode new r more under node =
+  asked_then name mode new r more rows under node =
       let t : List Resource = asked name (system_of n) mode w.locks in
-      let mine : locks_of w.nodes n ≡ s.asked = ap locks_in at in
-      let table : IsTable t = IsTable-asked name (system_of n) mode w.locks good.locked.0 ((subst (λ (ls : List (LockName × Mode)). HoldsItsLocks w.locks n ls) mine (good.locked.1 n)).no_other name new) in
+      let mine : HoldsItsLocks w.locks n (rows_of s) = subst (λ (rs : List Row). HoldsItsLocks w.locks n rs) (ap rows_in at) (good.locked.1 n) in
+      let table : IsTable t = IsTable-asked name (system_of n) mode w.locks good.locked.0 (mine.no_other name (λ h. new (asked_alone s me.store name h))) in
       let after = asks_new name mode new in
-      let held : AreHeld t (with_locks (locks_of w.nodes) n r.asked)
-      = subst (λ (ls : List (LockName × Mode)). AreHeld t (with_locks (locks_of w.nodes) n ls)) (ap (λ ls. ls ++ (name, mode) ∷ []) mine ∙ sym more) after.held in
+      let held : AreHeld t (with_rows (rows_at w.nodes) n (rows_of r)) = subst (λ (rs : List Row). AreHeld t (with_rows (rows_at w.nodes) n rs)) (sym rows) after.held in
+      let all : (l : LockName × Mode) → Has (held_by w.locks n s) l → Has (held_by t n r) l = λ l h.
+      subst (λ (rs : List Row). Has (all_held t n rs) l) (sym rows) (asking_grows w.locks n 1 s.asked (name, mode) l (rows_of s) (rows_at w.nodes) good.locked.1 (ap rows_in at) refl free (λ k. new (asked_alone s me.store name k)) h) in
       let grows : (l : LockName × Mode) → Has s.asked l → Has (held_locks t n r.asked) l = λ l h.
-      let e : held_locks t n (s.asked ++ (name, mode) ∷ []) ≡ cond (goes_at_once (system_of n) mode (resource_at name w.locks).askers) (s.asked ++ (name, mode) ∷ []) s.asked
-      = subst (λ (ls : List (LockName × Mode)). held_locks t n (ls ++ (name, mode) ∷ []) ≡ cond (goes_at_once (system_of n) mode (resource_at name w.locks).askers) (ls ++ (name, mode) ∷ []) ls) mine after.own in
-      subst (λ (ls : List (LockName × Mode)). Has (held_locks t n ls) l) (sym more) (subst (λ (ls : List (LockName × Mode)). Has ls l) (sym e) (has_either s.asked (name, mode) l h (goes_at_once (system_of n) mode (resource_at name w.locks).askers))) in
+      subst (λ (ls : List (LockName × Mode)). Has (held_locks t n ls) l) (sym more) (subst (λ (ls : List (LockName × Mode)). Has ls l) (sym after.last) (has_either s.asked (name, mode) l h (goes_at_once (system_of n) mode (resource_at name w.locks).askers))) in
+      let still : (m : ℕ) (q : NodeState) → m ≢ n → (ls : Row) → StandsStill w.locks t m ls = λ m q ne ls. after.others m ls ne in
       rebuilt w good n s r at t w.blocks w.history
       (record {
         cat = good.running.cat;
         replayed = good.running.replayed;
         drive = under_now w.geometry good.running.cat w.locks t w.nodes n s r w.blocks at
-            (λ m q ne e. subst (λ (ls : List (LockName × Mode)). held_locks t m ls ≡ held_locks w.locks m ls) (ap locks_in e) (after.others_hold m ne)) (under grows);
+            (λ m q ne e. rows_stand_still w.locks t m (rows_of q) (λ ls i. still m q ne ls)) (under all);
         accounted = good.running.accounted;
         system = good.running.system;
         opens = opens_asked name n mode w.locks good.running.cat good.running.opens;
+        same = refl;
       })
-      (table, held_set t w.nodes n s r at held) good.own (λ m ne. refl)
-      (λ m q ne e waits. subst (λ (ls : List (LockName × Mode)). waits_at t m ls ≡ false) (ap locks_in e)
-      (after.others_wait m ne ∙ subst (λ (ls : List (LockName × Mode)). waits_at w.locks m ls ≡ false) (sym (ap locks_in e)) waits))
-      (λ m q ne e l h. subst (λ (ls : List (LockName × Mode)). Has ls l) (sym (subst (λ (ls : List (LockName × Mode)). held_locks t m ls ≡ held_locks w.locks m ls) (ap locks_in e) (after.others_hold m ne))) h)
+      (table, held_set t w.nodes n s r at held) good.own (small_asked w good.small n s r at name mode w.blocks) (λ m ne. refl)
+      (λ m q ne e ls i. goes_still w.locks t m ls (still m q ne ls))
       (node (λ l h. grows l (subst (λ (ls : List (LockName × Mode)). Has ls l) all_here h)))
 
   -- it does so before it decides
-  pub asked_keep : s.plan ≡ None → (name : LockName) (mode : Mode) → (Has (names_of s.asked) name → ⊥) → (r : NodeState) → r.asked ≡ s.asked ++ (name, mode) ∷ [] → r.cmd ≡ Some x
+  pub locked_keep : s.plan ≡ None → (name : LockName) (mode : Mode) → (Has (names_of s.asked) name → ⊥) → (r : NodeState) → r.asked ≡ s.asked ++ (name, mode) ∷ [] → rows_of r ≡ put_in 1 (name, mode) (rows_of s) → r.cmd ≡ Some x
       → ((ls : List (LockName × Mode)) → at_locks n s x ls ≡ at_locks n r x ls)
       → (((l : LockName × Mode) → Has (held_locks w.locks n s.asked) l → Has (held_locks (asked name (system_of n) mode w.locks) n r.asked) l) → IsNode (altered w (asked name (system_of n) mode w.locks) w.blocks (set_node w.nodes n r) w.history) n r)
       → Good (altered w (asked name (system_of n) mode w.locks) w.blocks (set_node w.nodes n r) w.history)
-  asked_keep no_plan name mode new r more cmd_is alike node = asked_then name mode new r more under node where
+  locked_keep no_plan name mode new r more rows cmd_is alike node = asked_then name mode new r more rows under node where
     t : List Resource
     t = asked name (system_of n) mode w.locks
 
-    under : ((l : LockName × Mode) → Has s.asked l → Has (held_locks t n r.asked) l) → IsUnder w.geometry good.running.cat (changed (nodes_under w.locks w.nodes) n (under_with t n r r.cmd)) w.blocks
+    under : ((l : LockName × Mode) → Has (held_by w.locks n s) l → Has (held_by t n r) l) → IsUnder w.geometry good.running.cat (changed (nodes_under w.locks w.nodes) n (under_with t n r r.cmd)) w.blocks
     under grows =
-        let v : UnderWay = at_locks n s x (held_locks t n r.asked) in
-        let up = becomes s.seen.geometry good.running.cat (nodes_under w.locks w.nodes) w.blocks n (at_locks n s x s.asked) here drive (no_writes_now no_plan) v (no_writes_now no_plan) (not_yet no_plan) outs_now seen_now
-        (λ l h. wider_look (held_in PR s.asked) (held_in PR (held_locks t n r.asked)) (λ m k. held_grows PR s.asked (held_locks t n r.asked) m grows k) (guard_of s.seen.geometry drive.own l) (guards_now l h)) in
-        let there : v ≡ under_with t n r r.cmd = alike (held_locks t n r.asked) ∙ ap (under_with t n r) (sym cmd_is) in
+        let v : UnderWay = at_locks n s x (held_by t n r) in
+        let up = becomes s.seen.geometry good.running.cat (nodes_under w.locks w.nodes) w.blocks n (at_locks n s x (held_by w.locks n s)) here drive (no_writes_now no_plan) v (no_writes_now no_plan) (not_yet no_plan) outs_now seen_now
+        (λ l h. wider_look (held_in PR (held_by w.locks n s)) (held_in PR (held_by t n r)) (λ m k. held_grows PR (held_by w.locks n s) (held_by t n r) m grows k) (guard_of s.seen.geometry drive.own l) (guards_now l h)) in
+        let there : v ≡ under_with t n r r.cmd = alike (held_by t n r) ∙ ap (under_with t n r) (sym cmd_is) in
         subst (λ (u : UnderWay). IsUnder w.geometry good.running.cat (changed (nodes_under w.locks w.nodes) n u) w.blocks) there (back v w.blocks up)
 
   -- a lock is asked for
-  pub asks_keep : s.plan ≡ None → (name : LockName) (mode : Mode) → IsNext x s.seen (need.Lock name mode)
-      → Good (altered w (asked name (system_of n) mode w.locks) w.blocks (set_node w.nodes n (turned (asking s x name mode))) w.history)
-  asks_keep no_plan name mode is =
+  pub locks_keep : s.plan ≡ None → (name : LockName) (mode : Mode) → IsNext x s.seen (need.Lock name mode)
+      → Good (altered w (asked name (system_of n) mode w.locks) w.blocks (set_node w.nodes n (turned (locking s name mode))) w.history)
+  locks_keep no_plan name mode is =
       let t : List Resource = asked name (system_of n) mode w.locks in
-      let r : NodeState = turned (asking s x name mode) in
+      let r : NodeState = turned (locking s name mode) in
       let may = may_need (need.Lock name mode) is in
-      asked_keep no_plan name mode (new_to_all w.locks n x s.asked s.search s.seen (search_now no_plan) name may.own may.new) r refl refl (λ ls. refl)
-      (λ grows. is_node t w.blocks r refl refl refl refl refl refl refl (goes.granted s.seen name mode under_command.seen is)
+      locked_keep no_plan name mode (new_to_all w.locks n x s.asked s.run s.seen (search_now no_plan) name may.own may.new) r refl refl cmd (λ ls. refl)
+      (λ grows. is_node t w.blocks r refl refl refl refl (kept_rests name mode (new_to_all w.locks n x s.asked s.run s.seen (search_now no_plan) name may.own may.new)) (goes.granted s.seen name mode under_command.seen is)
       (names_of_more s.seen.locks (name, mode) (λ m. takes_lock x m ≡ true) under_command.own may.own)
       (subst (IsAtPlan x (waits_at t n r.asked) r.seen s.done s.tried) (sym no_plan) (not_yet no_plan))
-      (search_then no_plan t r.asked r.seen (lock_seen w.locks t n x s.asked s.search s.seen name mode (λ k b e. absurd (let f : need.Lock name mode ≡ need.Space k b = sym is ∙ e in cc)) grows (search_now no_plan))))
+      (search_then no_plan t r.asked r.seen (lock_seen w.locks t n x s.asked s.run s.seen name mode (λ k b e. absurd (let f : need.Lock name mode ≡ need.Space k b = sym is ∙ e in cc)) (comes_behind x s.asked s.run s.seen name may.own may.new may.turn) grows (search_now no_plan)))
+      (λ e. ItsLock (record { name = name; mode = mode; before = s.seen; fits = under_command.seen; next = is; is = refl; last = record { front = s.asked; last = refl } })))
 
   -- a block is looked at
   pub looks_keep : s.plan ≡ None → (lbn : ℕ) → HasSeen x (with_block lbn (block_at w.blocks lbn) s.seen) → ((k : ℕ) (b : Bool) → IsNext x s.seen (need.Space k b) → ⊥)
       → MayLook (held_in PR s.seen.locks) (guard_of s.seen.geometry drive.own lbn) → lbn < length w.blocks
-      → Good (altered w w.locks w.blocks (set_node w.nodes n (turned (looking s x lbn (block_at w.blocks lbn)))) w.history)
+      → Good (altered w w.locks w.blocks (set_node w.nodes n (turned (looking s lbn (block_at w.blocks lbn)))) w.history)
   looks_keep no_plan lbn seen never guarded within =
       let b : Block = block_at w.blocks lbn in
-      let r : NodeState = turned (looking s x lbn b) in
-      let left : List (ℕ × Block) = unwritten (take s.search.taken s.search.takes) s.search.looked in
-      let may : MayLook (held_in PR s.asked) (guard_of s.seen.geometry drive.own lbn) = wider_look (held_in PR s.seen.locks) (held_in PR s.asked) reads_more (guard_of s.seen.geometry drive.own lbn) guarded in
+      let r : NodeState = turned (looking s lbn b) in
+      let left : List (ℕ × Block) = unwritten (take s.run.made s.run.writes) s.run.looked in
+      let may : MayLook (held_in PR (held_by w.locks n s)) (guard_of s.seen.geometry drive.own lbn) = wider_look (held_in PR s.seen.locks) (held_in PR (held_by w.locks n s)) reads_more (guard_of s.seen.geometry drive.own lbn) guarded in
       let stands : slice_get drive.base lbn ≡ Some b
-      = sym (is_committed s.seen.geometry good.running.cat (nodes_under w.locks w.nodes) w.blocks n (at_locks n s x s.asked) here drive my_sole (no_writes_now no_plan) lbn may) ∙ index_within w.blocks lbn within in
+      = sym (is_committed s.seen.geometry good.running.cat (nodes_under w.locks w.nodes) w.blocks n (at_locks n s x (held_by w.locks n s)) here drive my_sole (no_writes_now no_plan) lbn may) ∙ index_within w.blocks lbn within in
       let old = (stands_joined drive.base left s.seen.blocks).0 seen_now in
-      let v = becomes s.seen.geometry good.running.cat (nodes_under w.locks w.nodes) w.blocks n (at_locks n s x s.asked) here drive (no_writes_now no_plan) (at_locks n r x s.asked) (no_writes_now no_plan) (not_yet no_plan) outs_now
+      let v = becomes s.seen.geometry good.running.cat (nodes_under w.locks w.nodes) w.blocks n (at_locks n s x (held_by w.locks n s)) here drive (no_writes_now no_plan) (at_locks n r x (held_by w.locks n s)) (no_writes_now no_plan) (not_yet no_plan) outs_now
       ((stands_joined drive.base left (s.seen.blocks ++ (lbn, b) ∷ [])).1 (old.0, (stands_joined drive.base s.seen.blocks ((lbn, b) ∷ [])).1 (old.1, (stands, tt))))
       (λ l t. elim ((touches_joined left (s.seen.blocks ++ (lbn, b) ∷ []) l).0 t) [
         | inl h ↦ guards_now l ((touches_joined left s.seen.blocks l).1 (inl h))
         | inr h ↦ elim ((touches_joined s.seen.blocks ((lbn, b) ∷ []) l).0 h) [
           | inl k ↦ guards_now l ((touches_joined left s.seen.blocks l).1 (inr k))
-          | inr k ↦ elim k [ inl e ↦ subst (λ (j : ℕ). MayLook (held_in PR s.asked) (guard_of s.seen.geometry drive.own j)) e may | inr f ↦ absurd f ]
+          | inr k ↦ elim k [ inl e ↦ subst (λ (j : ℕ). MayLook (held_in PR (held_by w.locks n s)) (guard_of s.seen.geometry drive.own j)) e may | inr f ↦ absurd f ]
         ]
       ]) in
-      let there : at_locks n r x s.asked ≡ under_with w.locks n r (Some x) = ap (at_locks n r x) (sym all_here) in
-      alone w good n s at r refl (subst (λ (u : UnderWay). IsUnder w.geometry good.running.cat (changed (nodes_under w.locks w.nodes) n u) w.blocks) there (back (at_locks n r x s.asked) w.blocks v))
-      (is_node w.locks w.blocks r refl refl refl refl refl refl refl seen under_command.own (subst (IsAtPlan x (waits_at w.locks n s.asked) r.seen s.done s.tried) (sym no_plan) (not_yet no_plan))
-      (search_then no_plan w.locks s.asked r.seen (block_seen w.locks n x s.asked s.search s.seen lbn b never (search_now no_plan))))
+      let there : at_locks n r x (held_by w.locks n s) ≡ under_with w.locks n r r.cmd = ap (under_with w.locks n r) (sym cmd) in
+      alone w good n s at r refl (subst (λ (u : UnderWay). IsUnder w.geometry good.running.cat (changed (nodes_under w.locks w.nodes) n u) w.blocks) there (back (at_locks n r x (held_by w.locks n s)) w.blocks v))
+      (is_node w.locks w.blocks r refl refl refl refl me.rests seen under_command.own (subst (IsAtPlan x (waits_at w.locks n s.asked) r.seen s.done s.tried) (sym no_plan) (not_yet no_plan))
+      (search_then no_plan w.locks s.asked r.seen (block_seen w.locks n x s.asked s.run s.seen lbn b never (search_now no_plan))) (no_wait r.seen))
 
   -- the plan is made
-  pub decides_keep : s.plan ≡ None → (p : Plan) → IsNext x s.seen (need.Ready p) → Good (altered w w.locks w.blocks (set_node w.nodes n (turned (deciding s x p))) w.history)
-  decides_keep no_plan p is =
-      let r : NodeState = turned (deciding s x p) in
+  pub plans_keep : s.plan ≡ None → (p : Plan) → IsNext x s.seen (need.Ready p) → Good (altered w w.locks w.blocks (set_node w.nodes n (turned (planning s p))) w.history)
+  plans_keep no_plan p is =
+      let r : NodeState = turned (planning s p) in
       let law : IsPlan n x s.seen p p.ask = under_command.lawful.plans n s.seen p under_command.seen is in
       let ws : List PlanWrite = writes_by p.ask false p.writes in
-      let u : UnderWay = record (at_locks n s x s.asked) { knows = knows n x s.seen } in
-      let now : nodes_under w.locks w.nodes n ≡ u = here ∙ (λ i. record (at_locks n s x s.asked) { knows = knows_now n x s.seen s.tried (no_plan i) }) in
-      let left : List (ℕ × Block) = unwritten (take s.search.taken s.search.takes) s.search.looked in
+      let u : UnderWay = record (at_locks n s x (held_by w.locks n s)) { knows = knows n x s.seen } in
+      let now : nodes_under w.locks w.nodes n ≡ u = here ∙ (λ i. record (at_locks n s x (held_by w.locks n s)) { knows = knows_now n x s.seen s.tried (no_plan i) }) in
+      let left : List (ℕ × Block) = unwritten (take s.run.made s.run.writes) s.run.looked in
       let v = decides s.seen.geometry good.running.cat (nodes_under w.locks w.nodes) w.blocks n u now drive (no_writes_now no_plan) (not_yet no_plan) (map planned ws)
-      (law_grows s.seen.geometry n (under_way x s.seen ws (knows n x s.seen)) (held_in PR s.asked) (held_in PW s.asked) left s.done (stock_after s.search.takes s.search.taken) writes_more (first_lawful n x s.seen p p.ask law))
-      (λ base own spelt stands outs l t. wider_write n (held_in PW s.seen.locks) (held_in PW s.asked) writes_more (guard_of s.seen.geometry own l)
-      (first_guarded n x s.seen p p.ask law base own good.running.cat (stock_after s.search.takes s.search.taken) spelt known ((stands_joined base left s.seen.blocks).0 stands).1 outs l t)) in
-      let there : record u { plan = map planned ws } ≡ under_with w.locks n r (Some x)
-      = λ i. record (at_locks n r x (sym all_here i)) { done = not_yet no_plan i } in
+      (law_grows s.seen.geometry n (under_way x s.seen ws (knows n x s.seen)) (held_in PR (held_by w.locks n s)) (held_in PW (held_by w.locks n s)) left s.done (stock_after s.run.writes s.run.made) writes_more (first_lawful n x s.seen p p.ask law))
+      (λ base own spelt stands outs l t. wider_write n (held_in PW s.seen.locks) (held_in PW (held_by w.locks n s)) writes_more (guard_of s.seen.geometry own l)
+      (first_guarded n x s.seen p p.ask law base own good.running.cat (stock_after s.run.writes s.run.made) spelt known ((stands_joined base left s.seen.blocks).0 stands).1 outs l t)) in
+      let there : record u { plan = map planned ws } ≡ under_with w.locks n r r.cmd
+      = (λ i. record (at_locks n r x (held_by w.locks n s)) { done = not_yet no_plan i }) ∙ ap (under_with w.locks n r) (sym cmd) in
       alone w good n s at r refl (subst (λ (u : UnderWay). IsUnder w.geometry good.running.cat (changed (nodes_under w.locks w.nodes) n u) w.blocks) there (back (record u { plan = map planned ws }) w.blocks v))
-      (is_node w.locks w.blocks r refl refl refl refl refl refl refl under_command.seen under_command.own (is, free, omega arith) (search_now no_plan))
+      (is_node w.locks w.blocks r refl refl refl refl me.rests under_command.seen under_command.own (is, free, omega arith) (search_now no_plan) (no_wait s.seen))
 
   -- what it has decided on
   pub made_of : (p : Plan) → s.plan ≡ Some p → IsAtPlan x (waits_at w.locks n s.asked) s.seen s.done s.tried (Some p)
@@ -339,8 +372,8 @@ module _ (w : Plain) (good : Good w) (n : ℕ) (s : NodeState) (at : node_at w.n
       let bs : List Block = slice_set w.blocks v.lbn v.block in
       let made = made_of p plan in
       let planned_next : slice_get (map planned (writes_now s.tried s.plan)) s.done ≡ Some (planned v) = ap (λ o. slice_get (map planned (writes_now s.tried o)) s.done) plan ∙ planned_at (writes_by p.ask s.tried p.writes) s.done v next in
-      let u = writes w.geometry good.running.cat (nodes_under w.locks w.nodes) w.blocks n (at_locks n s x s.asked) here good.running.drive my_sole (planned v) planned_next in
-      let there : at_locks n r x s.asked ≡ under_with w.locks n r s.cmd = ap (at_locks n r x) (sym all_here) ∙ ap (under_with w.locks n r) (sym cmd) in
+      let u = writes w.geometry good.running.cat (nodes_under w.locks w.nodes) w.blocks n (at_locks n s x (held_by w.locks n s)) here good.running.drive my_sole (planned v) planned_next in
+      let there : at_locks n r x (held_by w.locks n s) ≡ under_with w.locks n r s.cmd = ap (under_with w.locks n r) (sym cmd) in
       rebuilt w good n s r at w.locks bs w.history
       (record {
         cat = good.running.cat;
@@ -350,7 +383,8 @@ module _ (w : Plain) (good : Good w) (n : ℕ) (s : NodeState) (at : node_at w.n
         accounted = good.running.accounted;
         system = good.running.system;
         opens = good.running.opens;
+        same = refl;
       })
-      (good.locked.0, held_same w.locks w.nodes n s r at refl good.locked.1) good.own (λ m ne. refl) (λ m q ne e waits. waits) (λ m q ne e l h. h)
-      (is_node w.locks bs r refl refl refl cmd refl refl refl under_command.seen under_command.own
-      (subst (IsAtPlan x (waits_at w.locks n s.asked) s.seen (s.done + 1) s.tried) (sym plan) (made.0, made.1, (let lt : s.done < length (writes_by p.ask s.tried p.writes) = slice_get_within (writes_by p.ask s.tried p.writes) s.done v next in omega arith))) under_command.search)
+      (good.locked.0, held_same w.locks w.nodes n s r at refl good.locked.1) good.own (small_set w good.small n s r at bs) (λ m ne. refl) (λ m q ne e. loses_nothing w.locks m q)
+      (is_node w.locks bs r refl refl refl refl me.rests under_command.seen under_command.own
+      (subst (IsAtPlan x (waits_at w.locks n s.asked) s.seen (s.done + 1) s.tried) (sym plan) (made.0, made.1, (let lt : s.done < length (writes_by p.ask s.tried p.writes) = slice_get_within (writes_by p.ask s.tried p.writes) s.done v next in omega arith))) under_command.search (no_wait s.seen))

@@ -1,5 +1,5 @@
 -- Every turn keeps the invariant.
-use Rattle.std.proofs.Common.{◌≡◌, ◌<◌, ℕ, Bool, true, false, cond, List, Option, Some, None, length, slice_get, refl, sym, ap, subst, ◌∙◌}
+use Rattle.std.proofs.Common.{◌≡◌, ◌<◌, ◌||◌, ℕ, Bool, true, false, cond, List, Option, Some, None, length, slice_get, refl, sym, ap, subst, ◌∙◌}
 use Rattle.lock_db.specs.declared.name.LockName.TheVariants.{V}
 use Rattle.lock_db.specs.declared.resource.Resource.{Resource}
 use Rattle.lock_db.specs.Tables.{asked}
@@ -22,16 +22,17 @@ use Rattle.op_law.specs.Laws.{held_in, Lawful}
 use Rattle.node_space.specs.declared.outcome.Search.{Search as Outcome}
 use Rattle.node_space.specs.declared.outcome.Search.TheVariants as search
 use Rattle.node_space.specs.Answering.{answer, blocks_of}
-use Rattle.core_state.specs.Worlds.{NodeState, Plain, node_at, set_node, with_node, current, or_next}
+use Rattle.core_state.specs.Worlds.{NodeState, Plain, node_at, with_node, current, rows_of}
 use Rattle.core_state.specs.Asks.{writes_by}
 use Rattle.core_state.specs.Goods.{under_with, nodes_under, HasCommand, IsNode, Good}
-use Rattle.core_state.specs.Events.{begun, Rest, Stand, has_asked, block_at, asking, claiming, looking, deciding, by_answer, by_takes, by_search, by_need, by_write, by_plan, by_command, event_of, happens, happen_at, after_turn, turned, leaving}
-use Rattle.core_state.proofs.Nodes.{at_here, set_node_twice}
+use Rattle.core_state.specs.Event as event
+use Rattle.core_state.specs.Events.{has_asked, block_at, by_answer, by_writes, by_search, by_need, by_write, by_plan, by_command, is_out, event_of, event_now, prepared_by, prepared, readied_at, happens, happen_at, happen, after_turn, turned, leaving}
+use Rattle.core_state.proofs.Nodes.{at_here}
 use Rattle.core_state.proofs.Running.{under_here}
 use Rattle.core_state.proofs.Keeping.{altered}
-use Rattle.core_state.proofs.Beginning.{alone, begins}
-use Rattle.core_state.proofs.Turning.{under_command, drive, may_need, goes, asks_keep, looks_keep, decides_keep, writes_keep}
-use Rattle.core_state.proofs.Searching.{claims_keep, scans_keep, grabs_keep}
+use Rattle.core_state.proofs.Beginning.{alone, prepares_keep}
+use Rattle.core_state.proofs.Turning.{under_command, drive, may_need, goes, locks_keep, looks_keep, plans_keep, writes_keep}
+use Rattle.core_state.proofs.Searching.{space_locks_keep, space_looks_keep, space_writes_keep}
 use Rattle.core_state.proofs.Trying.{ends_keep}
 
 -- ---- a node that does nothing
@@ -40,7 +41,7 @@ module _ (w : Plain) (good : Good w) (n : ℕ) (s : NodeState) (at : node_at w.n
   mine : IsNode w n s
   mine = good.nodes n s at
 
-  alike : (r : NodeState) → r.asked ≡ s.asked → under_with w.locks n s s.cmd ≡ under_with w.locks n r r.cmd → IsNode (with_node w n r) n r → Good (with_node w n r)
+  alike : (r : NodeState) → rows_of r ≡ rows_of s → under_with w.locks n s s.cmd ≡ under_with w.locks n r r.cmd → IsNode (with_node w n r) n r → Good (with_node w n r)
   alike r same under is = alone w good n s at r same drive is where
     drive : IsUnder w.geometry good.running.cat (changed (nodes_under w.locks w.nodes) n (under_with w.locks n r r.cmd)) w.blocks
     drive = subst (λ (v : UnderWay). IsUnder w.geometry good.running.cat (changed (nodes_under w.locks w.nodes) n v) w.blocks) (under_here w.locks w.nodes n s at ∙ under)
@@ -49,40 +50,37 @@ module _ (w : Plain) (good : Good w) (n : ℕ) (s : NodeState) (at : node_at w.n
   turned_keeps : Good (with_node w n (turned s))
   turned_keeps = alike (turned s) refl (by_cmd s.cmd) (record {
     past = mine.past;
-    alive = mine.alive;
-    closed = mine.closed;
     geometry = mine.geometry;
+    channels = mine.channels;
     channel = mine.channel;
-    keeps = record { stock = mine.keeps.stock; cache = mine.keeps.cache };
-    command = command s.cmd mine.command;
+    store = mine.store;
+    rests = mine.rests;
+    command = mine.command;
     over = mine.over;
+    gone = mine.gone;
   }) where
     by_cmd : (o : Option Cmd) → under_with w.locks n s o ≡ under_with w.locks n (turned s) o
     by_cmd None = refl
     by_cmd (Some x) = refl
 
-    command : (o : Option Cmd) → HasCommand w n s o → HasCommand (with_node w n (turned s)) n (turned s) o
-    command None i = record { locks = i.locks; blocks = i.blocks; space = i.space; asked = i.asked; search = i.search; plan = i.plan; done = i.done }
-    command (Some x) a = record { next = a.next; runs = a.runs; lawful = a.lawful; seen = a.seen; own = a.own; plan = a.plan; search = a.search }
-
   leaves_keep : s.cmd ≡ None → next_command w.script n w.history ≡ None → Good (with_node w n (turned (leaving s)))
   leaves_keep none over = alike (turned (leaving s)) refl (by_cmd s.cmd) (record {
     past = mine.past;
-    alive = mine.alive;
-    closed = mine.closed;
     geometry = mine.geometry;
+    channels = mine.channels;
     channel = mine.channel;
-    keeps = record { stock = mine.keeps.stock; cache = mine.keeps.cache };
-    command = command s.cmd mine.command;
-    over = λ o. (none, over);
+    store = mine.store;
+    rests = mine.rests;
+    command = mine.command;
+    over = λ o. (
+      record { cmd = none; asked = (subst (HasCommand w n s) none mine.command).asked; kept = mine.store.kept; back = mine.store.back; stock = mine.store.stock; cache = mine.store.cache },
+      over,
+    );
+    gone = mine.gone;
   }) where
     by_cmd : (o : Option Cmd) → under_with w.locks n s o ≡ under_with w.locks n (turned (leaving s)) o
     by_cmd None = refl
     by_cmd (Some x) = refl
-
-    command : (o : Option Cmd) → HasCommand w n s o → HasCommand (with_node w n (turned (leaving s))) n (turned (leaving s)) o
-    command None i = record { locks = i.locks; blocks = i.blocks; space = i.space; asked = i.asked; search = i.search; plan = i.plan; done = i.done }
-    command (Some x) a = record { next = a.next; runs = a.runs; lawful = a.lawful; seen = a.seen; own = a.own; plan = a.plan; search = a.search }
 
 -- ---- a node with a command
 
@@ -90,23 +88,23 @@ module _ (w : Plain) (good : Good w) (n : ℕ) (s : NodeState) (at : node_at w.n
   within : (lbn : ℕ) → lbn < length (drive w good n s at x cmd free).base → lbn < length w.blocks
   within lbn lt = subst (λ (k : ℕ). lbn < k) (sym (drive w good n s at x cmd free).over.count) lt
 
-  search_keeps : s.plan ≡ None → (k : ℕ) (b : Bool) → IsNext x s.seen (need.Space k b) → Good (happens w n s (by_search x s k b (has_asked V s.asked)))
+  search_keeps : s.plan ≡ None → (k : ℕ) (b : Bool) → IsNext x s.seen (need.Space k b) → Good (happens w n s (by_search s k b (has_asked V s.asked)))
   search_keeps no_plan k b is = by_asked (has_asked V s.asked) refl where
-    answered : has_asked V s.asked ≡ true → slice_get s.search.takes s.search.taken ≡ None → (o : Outcome) → answer s.seen.geometry k b (blocks_of s.search.looked) ≡ o → Good (happens w n s (by_answer x k b o))
-    answered has none (search.Look lbn) e = scans_keep w good n s at x cmd free no_plan k b is has none lbn e
+    answered : has_asked V s.asked ≡ true → slice_get s.run.writes s.run.made ≡ None → (o : Outcome) → answer s.seen.geometry k b (blocks_of s.run.looked) ≡ o → Good (happens w n s (by_answer k b o))
+    answered has none (search.Look lbn) e = space_looks_keep w good n s at x cmd free no_plan k b is has none lbn e
     answered has none (search.Short r) e = turned_keeps w good n s at
     answered has none (search.Take ws) e = turned_keeps w good n s at
 
-    taken : has_asked V s.asked ≡ true → (o : Option PlanWrite) → slice_get s.search.takes s.search.taken ≡ o → Good (happens w n s (by_takes x s k b o))
-    taken has (Some v) e = grabs_keep w good n s at x cmd free no_plan v e
-    taken has None e = answered has e (answer s.seen.geometry k b (blocks_of s.search.looked)) refl
+    taken : has_asked V s.asked ≡ true → (o : Option PlanWrite) → slice_get s.run.writes s.run.made ≡ o → Good (happens w n s (by_writes s k b o))
+    taken has (Some v) e = space_writes_keep w good n s at x cmd free no_plan v e
+    taken has None e = answered has e (answer s.seen.geometry k b (blocks_of s.run.looked)) refl
 
-    by_asked : (t : Bool) → has_asked V s.asked ≡ t → Good (happens w n s (by_search x s k b t))
-    by_asked false e = claims_keep w good n s at x cmd free no_plan k b is e
-    by_asked true e = taken e (slice_get s.search.takes s.search.taken) refl
+    by_asked : (t : Bool) → has_asked V s.asked ≡ t → Good (happens w n s (by_search s k b t))
+    by_asked false e = space_locks_keep w good n s at x cmd free no_plan k b is e
+    by_asked true e = taken e (slice_get s.run.writes s.run.made) refl
 
-  need_keeps : s.plan ≡ None → (next : Need) → IsNext x s.seen next → Good (happens w n s (by_need x s next))
-  need_keeps no_plan (need.Lock name mode) is = asks_keep w good n s at x cmd free no_plan name mode is
+  need_keeps : s.plan ≡ None → (next : Need) → IsNext x s.seen next → Good (happens w n s (by_need s next))
+  need_keeps no_plan (need.Lock name mode) is = locks_keep w good n s at x cmd free no_plan name mode is
   need_keeps no_plan (need.Block name lbn) is =
       looks_keep w good n s at x cmd free no_plan lbn ((goes w good n s at x cmd free).looked s.seen lbn _ (under_command w good n s at x cmd free).seen (subst (IsLookAt lbn) (sym is) refl))
       (λ k b e. absurd (let f : need.Block name lbn ≡ need.Space k b = sym is ∙ e in cc))
@@ -117,7 +115,7 @@ module _ (w : Plain) (good : Good w) (n : ℕ) (s : NodeState) (at : node_at w.n
       (λ k b e. absurd (let f : need.Bare lbn ≡ need.Space k b = sym is ∙ e in cc))
       (may_need w good n s at x cmd free (need.Bare lbn) is).guard (within lbn (may_need w good n s at x cmd free (need.Bare lbn) is).within)
   need_keeps no_plan (need.Space clusters number) is = search_keeps no_plan clusters number is
-  need_keeps no_plan (need.Ready p) is = decides_keep w good n s at x cmd free no_plan p is
+  need_keeps no_plan (need.Ready p) is = plans_keep w good n s at x cmd free no_plan p is
 
   write_keeps : (p : Plan) → s.plan ≡ Some p → (o : Option PlanWrite) → slice_get (writes_by p.ask s.tried p.writes) s.done ≡ o → Good (happens w n s (by_write x p s.tried o))
   write_keeps p plan (Some v) next = writes_keep w good n s at x cmd free p plan v next
@@ -127,66 +125,42 @@ module _ (w : Plain) (good : Good w) (n : ℕ) (s : NodeState) (at : node_at w.n
   plan_keeps None e = need_keeps e (need_of x s.seen) refl
   plan_keeps (Some p) e = write_keeps p e (slice_get (writes_by p.ask s.tried p.writes) s.done) refl
 
--- ---- any node
+-- ---- any node that has prepared for its event
 
 module _ (w : Plain) (good : Good w) (n : ℕ) (s : NodeState) (at : node_at w.nodes n ≡ Some s) where
-  node : IsNode w n s
-  node = good.nodes n s at
+  pub event_keeps : (is_out s ≡ false → waits_at w.locks n s.asked ≡ false → s.cmd ≡ None → next_command w.script n w.history ≡ None) → Good (happens w n s (event_of w n (Some s)))
+  event_keeps ends = by_out (is_out s) refl where
+    by_cmd : is_out s ≡ false → waits_at w.locks n s.asked ≡ false → (o : Option Cmd) → s.cmd ≡ o → Good (happens w n s (by_command s o))
+    by_cmd on free None e = leaves_keep w good n s at e (ends on free e)
+    by_cmd on free (Some x) e = plan_keeps w good n s at x e free s.plan refl
 
-  -- a node without a command has asked for nothing
-  idle_asks : s.cmd ≡ None → has_asked V s.asked ≡ false
-  idle_asks none = ap (has_asked V) (subst (HasCommand w n s) none node.command).asked
-
-  -- a node that begins a command makes its first event
-  begin_keeps : (x : Cmd) → s.cmd ≡ None → s.over ≡ false → waits_at w.locks n s.asked ≡ false → next_command w.script n w.history ≡ Some x → Lawful x → Good (happens w n s (by_need x s (need_of x s.seen)))
-  begin_keeps x none on free next lawful =
-      let w1 : Plain = with_node w n (begun s x) in
-      let good1 = begins w good n s at x none on next lawful in
-      let no_plan : s.plan ≡ None = (subst (HasCommand w n s) none node.command).plan in
-      let g = plan_keeps w1 good1 n (begun s x) (at_here w.nodes n (begun s x) s at) x refl free None no_plan in
-      same (need_of x s.seen) g where
-        twice : (t : List Resource) (r : NodeState) → Good (altered w t w.blocks (set_node (set_node w.nodes n (begun s x)) n r) w.history) → Good (altered w t w.blocks (set_node w.nodes n r) w.history)
-        twice t r g = subst (λ (ns : List NodeState). Good (altered w t w.blocks ns w.history)) (set_node_twice w.nodes n (begun s x) r) g
-
-        claim : (k : ℕ) (b : Bool) (t : Bool) → t ≡ false → Good (happens (with_node w n (begun s x)) n (begun s x) (by_search x (begun s x) k b t)) → Good (happens w n s (by_search x s k b t))
-        claim k b false e g = twice (asked V (system_of n) PW w.locks) (turned (claiming s x)) g
-        claim k b true e g = absurd (let f : true ≡ false = e in cc)
-
-        same : (next : Need) → Good (happens (with_node w n (begun s x)) n (begun s x) (by_need x (begun s x) next)) → Good (happens w n s (by_need x s next))
-        same (need.Lock name mode) g = twice (asked name (system_of n) mode w.locks) (turned (asking s x name mode)) g
-        same (need.Block name lbn) g = twice w.locks (turned (looking s x lbn (block_at w.blocks lbn))) g
-        same (need.Bare lbn) g = twice w.locks (turned (looking s x lbn (block_at w.blocks lbn))) g
-        same (need.Space clusters number) g = claim clusters number (has_asked V s.asked) (idle_asks none) g
-        same (need.Ready p) g = twice w.locks (turned (deciding s x p)) g
-
-  -- a node that neither is over nor waits
-  goes_keep : s.over ≡ false → waits_at w.locks n s.asked ≡ false → ((x : Cmd) → current w n s ≡ Some x → Lawful x) → Good (happens w n s (by_command s (current w n s)))
-  goes_keep on free lawful = by_cmd s.cmd refl where
-    no_plan : s.cmd ≡ None → s.plan ≡ None
-    no_plan none = (subst (HasCommand w n s) none node.command).plan
-
-    by_next : (o : Option Cmd) → s.cmd ≡ None → next_command w.script n w.history ≡ o → Good (happens w n s (by_command s o))
-    by_next None none e = leaves_keep w good n s at none e
-    by_next (Some x) none e = subst (λ (o : Option Plan). Good (happens w n s (by_plan x s o))) (sym (no_plan none))
-        (begin_keeps x none on free e (lawful x (ap (λ o. or_next o (next_command w.script n w.history)) none ∙ e)))
-
-    by_cmd : (o : Option Cmd) → s.cmd ≡ o → Good (happens w n s (by_command s (or_next o (next_command w.script n w.history))))
-    by_cmd None e = by_next (next_command w.script n w.history) e refl
-    by_cmd (Some x) e = plan_keeps w good n s at x e free s.plan refl
-
-  pub event_keeps : ((x : Cmd) → s.over ≡ false → waits_at w.locks n s.asked ≡ false → current w n s ≡ Some x → Lawful x) → Good (happens w n s (event_of w n (Some s)))
-  event_keeps lawful = by_over s.over refl where
-    by_waits : (t : Bool) → s.over ≡ false → waits_at w.locks n s.asked ≡ t → Good (happens w n s (cond t Stand (by_command s (current w n s))))
+    by_waits : (t : Bool) → is_out s ≡ false → waits_at w.locks n s.asked ≡ t → Good (happens w n s (cond t event.Stand (by_command s s.cmd)))
     by_waits true on e = turned_keeps w good n s at
-    by_waits false on e = goes_keep on e (λ x c. lawful x on e c)
+    by_waits false on e = by_cmd on e s.cmd refl
 
-    by_over : (t : Bool) → s.over ≡ t → Good (happens w n s (cond t Rest (cond (waits_at w.locks n s.asked) Stand (by_command s (current w n s)))))
-    by_over true e = turned_keeps w good n s at
-    by_over false e = by_waits (waits_at w.locks n s.asked) e refl
+    by_out : (t : Bool) → is_out s ≡ t → Good (happens w n s (cond t event.Rest (cond (waits_at w.locks n s.asked) event.Stand (by_command s s.cmd))))
+    by_out true e = turned_keeps w good n s at
+    by_out false e = by_waits (waits_at w.locks n s.asked) e refl
+
+-- a node that has prepared and has no command has none left
+ends_at : (w : Plain) (n : ℕ) (s : NodeState) (t : Bool) → (is_out s || waits_at w.locks n s.asked) ≡ t → (o : Option Cmd) → s.cmd ≡ o → (k : Option Cmd) → next_command w.script n w.history ≡ k
+    → is_out (cond t s (prepared_by s o k)) ≡ false → waits_at w.locks n (cond t s (prepared_by s o k)).asked ≡ false → (cond t s (prepared_by s o k)).cmd ≡ None → k ≡ None
+ends_at w n s true e o c k f on free none = absurd (let g : true ≡ false = sym e ∙ (λ i. on i || free i) in cc)
+ends_at w n s false e (Some x) c k f on free none = absurd (let g : Some x ≡ None = sym c ∙ none in cc)
+ends_at w n s false e None c None f on free none = refl
+ends_at w n s false e None c (Some x) f on free none = absurd (let g : Some x ≡ None = none in cc)
 
 -- the turn of a node, whose command obeys the law where it goes on
-pub turn_keeps : (w : Plain) → Good w → (n : ℕ) → ((s : NodeState) (x : Cmd) → node_at w.nodes n ≡ Some s → s.over ≡ false → waits_at w.locks n s.asked ≡ false → current w n s ≡ Some x → Lawful x) → Good (after_turn w n)
+pub turn_keeps : (w : Plain) → Good w → (n : ℕ) → ((s : NodeState) (x : Cmd) → node_at w.nodes n ≡ Some s → is_out s ≡ false → waits_at w.locks n s.asked ≡ false → current w n s ≡ Some x → Lawful x) → Good (after_turn w n)
 turn_keeps w good n lawful = by_node (node_at w.nodes n) refl where
-  by_node : (o : Option NodeState) → node_at w.nodes n ≡ o → Good (happen_at w n o (event_of w n o))
-  by_node None e = good
-  by_node (Some s) e = event_keeps w good n s e (λ x on free c. lawful s x e on free c)
+  at_once : (v : Plain) (o : Option NodeState) → node_at v.nodes n ≡ o → Good (happen_at v n o (event_of v n o)) → Good (happen v n (event_now v n))
+  at_once v o e g = subst (λ (q : Option NodeState). Good (happen_at v n q (event_of v n q))) (sym e) g
+
+  by_node : (o : Option NodeState) → node_at w.nodes n ≡ o → Good (happen (readied_at w n o) n (event_now (readied_at w n o) n))
+  by_node None e = at_once w None e good
+  by_node (Some s) e =
+      let p : NodeState = prepared w n s in
+      let v : Plain = with_node w n p in
+      let there : node_at v.nodes n ≡ Some p = at_here w.nodes n p s e in
+      let good_then : Good v = prepares_keep w good n s e (λ x on free c. lawful s x e on free c) in
+      at_once v (Some p) there (event_keeps v good_then n p there (ends_at w n s (is_out s || waits_at w.locks n s.asked) refl s.cmd refl (next_command w.script n w.history) refl))

@@ -13,7 +13,7 @@ use Rattle.plain_cat.specs.declared.mode.Mode.TheVariants.{PW}
 use Rattle.plain_cat.specs.declared.command.Cmd.{Cmd}
 use Rattle.plain_cat.specs.declared.reply.Reply.{Reply}
 use Rattle.plain_cat.specs.declared.history.Entry.TheVariants.{Done}
-use Rattle.plain_vol.specs.Own.{after_answer}
+use Rattle.plain_vol.specs.Own.{after_answer, next_command}
 use Rattle.vol_parts.specs.declared.geometry.Geometry.{Geometry}
 use Rattle.node_locks.specs.Held.{system_of, waits_at}
 use Rattle.node_locks.specs.Sequences.{raised_block}
@@ -28,35 +28,15 @@ use Rattle.op_law.specs.Going.{with_lock, with_block, with_space}
 use Rattle.node_space.specs.declared.outcome.Search.{Search as Outcome}
 use Rattle.node_space.specs.declared.outcome.Search.TheVariants as search
 use Rattle.node_space.specs.Answering.{answer, blocks_of}
-use Rattle.core_state.specs.Worlds.{Search, no_search, NodeState, Plain, node_at, with_node, current}
+use Rattle.core_state.specs.Event.{Event}
+use Rattle.core_state.specs.Event as event
+use Rattle.core_state.specs.declared.space.Phase.TheVariants as phase
+use Rattle.core_state.specs.declared.space.SpaceRun.{SpaceRun}
+use Rattle.core_state.specs.Runs.{no_run}
+use Rattle.core_state.specs.Worlds.{NodeState, Plain, node_at, with_node}
+use Rattle.core_state.specs.Channels.{channel_seen}
 use Rattle.core_state.specs.Asks.{writes_by, writes_now, lock_of_ask}
 use Rattle.core_state.specs.Raises.{raise_of}
-
-pub data Event : Type 0 where
-  -- the node is over
-  Rest : Event
-  -- its request stands in a queue still
-  Stand : Event
-  -- its script is done, and it leaves the volume
-  Leave : Event
-  -- its command asks for a lock
-  Ask : Cmd → LockName → Mode → Event
-  -- its command looks at a block
-  See : Cmd → ℕ → Event
-  -- its command needs space, and it asks for the lock of the bitmaps
-  Claim : Cmd → Event
-  -- its search for so many clusters, and a number or none, looks at a block
-  Scan : Cmd → ℕ → Bool → ℕ → Event
-  -- it makes the next write of its search
-  Grab : PlanWrite → Event
-  -- its command decides on a plan
-  Decide : Cmd → Plan → Event
-  -- it makes the next write of its plan
-  Put : PlanWrite → Event
-  -- behind the writes before it, it asks without waiting: where the ask is granted it goes on, and else it answers
-  Try : Cmd → PlanAsk → Event
-  -- it answers
-  Answer : Cmd → Reply → Event
 
 -- ---- which event comes
 
@@ -64,60 +44,93 @@ pub data Event : Type 0 where
 abbrev pub has_asked : LockName → List (LockName × Mode) → Bool
 has_asked name locks = list_any (λ l. is_same l.0 name) locks
 
--- a search that looks on; what else it comes to was taken over as it was found
-abbrev pub by_answer : Cmd → ℕ → Bool → Outcome → Event
-by_answer x clusters number (search.Look lbn) = Scan x clusters number lbn
-by_answer x clusters number other = Stand
+-- a search that looks on
+abbrev pub by_answer : ℕ → Bool → Outcome → Event
+by_answer clusters number (search.Look lbn) = event.SpaceLook clusters number lbn
+by_answer clusters number other = event.SpaceEnd
 
 -- the next write of the search, else its next look
-abbrev pub by_takes : Cmd → NodeState → ℕ → Bool → Option PlanWrite → Event
-by_takes x s clusters number (Some w) = Grab w
-by_takes x s clusters number None = by_answer x clusters number (answer s.seen.geometry clusters number (blocks_of s.search.looked))
+abbrev pub by_writes : NodeState → ℕ → Bool → Option PlanWrite → Event
+by_writes s clusters number (Some w) = event.SpaceWrite w
+by_writes s clusters number None = by_answer clusters number (answer s.seen.geometry clusters number (blocks_of s.run.looked))
 
 -- a search begins with the lock of the bitmaps
-abbrev pub by_search : Cmd → NodeState → ℕ → Bool → Bool → Event
-by_search x s clusters number false = Claim x
-by_search x s clusters number true = by_takes x s clusters number (slice_get s.search.takes s.search.taken)
+abbrev pub by_search : NodeState → ℕ → Bool → Bool → Event
+by_search s clusters number false = event.SpaceLock
+by_search s clusters number true = by_writes s clusters number (slice_get s.run.writes s.run.made)
 
-abbrev pub by_need : Cmd → NodeState → Need → Event
-by_need x s (need.Lock name mode) = Ask x name mode
-by_need x s (need.Block name lbn) = See x lbn
-by_need x s (need.Bare lbn) = See x lbn
-by_need x s (need.Space clusters number) = by_search x s clusters number (has_asked V s.asked)
-by_need x s (need.Ready p) = Decide x p
+abbrev pub by_need : NodeState → Need → Event
+by_need s (need.Lock name mode) = event.Lock name mode
+by_need s (need.Block name lbn) = event.Look lbn
+by_need s (need.Bare lbn) = event.Fetch lbn
+by_need s (need.Space clusters number) = by_search s clusters number (has_asked V s.asked)
+by_need s (need.Ready p) = event.Plan p
 
 -- behind the writes an ask that was not granted yet, or the answer
 abbrev pub by_end : Cmd → Reply → Bool → Option PlanAsk → Event
-by_end x r tried None = Answer x r
-by_end x r true (Some a) = Answer x r
-by_end x r false (Some a) = Try x a
+by_end x r tried None = event.Answer x r
+by_end x r true (Some a) = event.Answer x r
+by_end x r false (Some a) = event.Ask x a
 
 -- the next write of a plan, and behind them what ends it
 abbrev pub by_write : Cmd → Plan → Bool → Option PlanWrite → Event
-by_write x p tried (Some w) = Put w
+by_write x p tried (Some w) = event.Write w
 by_write x p tried None = by_end x p.reply tried p.ask
 
 abbrev pub by_plan : Cmd → NodeState → Option Plan → Event
-by_plan x s None = by_need x s (need_of x s.seen)
+by_plan x s None = by_need s (need_of x s.seen)
 by_plan x s (Some p) = by_write x p s.tried (slice_get (writes_by p.ask s.tried p.writes) s.done)
 
+-- the event of a node that has prepared for it, is not over, and does not wait
 abbrev pub by_command : NodeState → Option Cmd → Event
-by_command s None = Leave
+by_command s None = event.Leave
 by_command s (Some x) = by_plan x s s.plan
 
--- the first rule that applies
-abbrev pub event_of : Plain → ℕ → Option NodeState → Event
-event_of w n None = Rest
-event_of w n (Some s) =
-    if s.over then Rest else if waits_at w.locks n s.asked then Stand else by_command s (current w n s)
+-- a node has left, or is dead
+abbrev pub is_out : NodeState → Bool
+is_out s = s.over || s.past.dead
 
+-- the first rule that applies to a node that has prepared for its event
+abbrev pub event_of : Plain → ℕ → Option NodeState → Event
+event_of w n None = event.Rest
+event_of w n (Some s) = if is_out s then event.Rest else if waits_at w.locks n s.asked then event.Stand else by_command s s.cmd
+
+abbrev pub event_now : Plain → ℕ → Event
+event_now w n = event_of w n (node_at w.nodes n)
+
+-- ---- what comes before it
+
+-- a node with the command x, for which it has seen what the channel of the command has open
+abbrev pub begun : NodeState → Cmd → NodeState
+begun s x = record s { cmd = Some x; seen = record s.seen { channel = channel_seen s.opens x } }
+
+-- a node without a command begins its next one
+abbrev pub prepared_by : NodeState → Option Cmd → Option Cmd → NodeState
+prepared_by s (Some x) next = s
+prepared_by s None (Some x) = begun s x
+prepared_by s None None = s
+
+-- What a node does before its event, and without an event of its own: it begins its next command, where it is not over, does not
+-- wait, and has none.
+abbrev pub prepared : Plain → ℕ → NodeState → NodeState
+prepared w n s = if is_out s || waits_at w.locks n s.asked then s else prepared_by s s.cmd (next_command w.script n w.history)
+
+abbrev pub readied_at : Plain → ℕ → Option NodeState → Plain
+readied_at w n None = w
+readied_at w n (Some s) = with_node w n (prepared w n s)
+
+-- the world in which node n has prepared for its event
+abbrev pub readied : Plain → ℕ → Plain
+readied w n = readied_at w n (node_at w.nodes n)
+
+-- the event of the next turn of a node
 abbrev pub next_event : Plain → ℕ → Event
-next_event w n = event_of w n (node_at w.nodes n)
+next_event w n = event_now (readied w n) n
 
 -- whether the next event of a node is a write
 abbrev pub is_write : Event → Bool
-is_write (Put w) = true
-is_write (Grab w) = true
+is_write (event.Write w) = true
+is_write (event.SpaceWrite w) = true
 is_write other = false
 
 -- ---- what an event makes of the world
@@ -133,7 +146,7 @@ given_back g n ws (l ∷ locks) t = given_back g n ws locks (released l.0 (syste
 
 -- the writes of a node's search and those of its plan, where its ask was not granted those before it
 abbrev pub all_writes : NodeState → List PlanWrite
-all_writes s = s.search.takes ++ writes_now s.tried s.plan
+all_writes s = s.run.writes ++ writes_now s.tried s.plan
 
 -- nothing is seen yet
 abbrev pub unseen : Seen → Seen
@@ -146,14 +159,14 @@ block_at bs lbn = slice_index_or bs lbn []
 abbrev pub turned : NodeState → NodeState
 turned s = record s { turns = one_more s.turns }
 
-abbrev pub asking : NodeState → Cmd → LockName → Mode → NodeState
-asking s x name mode = record s { cmd = Some x; asked = s.asked ++ (name, mode) ∷ []; seen = with_lock name mode s.seen }
+abbrev pub locking : NodeState → LockName → Mode → NodeState
+locking s name mode = record s { asked = s.asked ++ (name, mode) ∷ []; seen = with_lock name mode s.seen }
 
-abbrev pub claiming : NodeState → Cmd → NodeState
-claiming s x = record s { cmd = Some x; asked = s.asked ++ (V, PW) ∷ [] }
+abbrev pub space_locking : NodeState → NodeState
+space_locking s = record s { asked = s.asked ++ (V, PW) ∷ []; run = record s.run { phase = phase.Last } }
 
-abbrev pub looking : NodeState → Cmd → ℕ → Block → NodeState
-looking s x lbn b = record s { cmd = Some x; seen = with_block lbn b s.seen; reads = one_more s.reads }
+abbrev pub looking : NodeState → ℕ → Block → NodeState
+looking s lbn b = record s { seen = with_block lbn b s.seen; reads = one_more s.reads }
 
 -- what the command has seen once its search has come to this: why it was refused, where it was
 abbrev pub told_by : Outcome → Seen → Seen
@@ -161,50 +174,49 @@ told_by (search.Short r) seen = with_space [] None (Some r) seen
 told_by other seen = seen
 
 -- the writes that a search has decided on once it has come to this
-abbrev pub takes_by : Outcome → List PlanWrite → List PlanWrite
-takes_by (search.Take ws) old = ws
-takes_by other old = old
+abbrev pub writes_found : Outcome → List PlanWrite → List PlanWrite
+writes_found (search.Take ws) old = ws
+writes_found other old = old
 
 -- a block more is looked at
-abbrev pub looked_on : Search → ℕ → Block → List (ℕ × Block)
-looked_on h lbn b = h.looked ++ (lbn, b) ∷ []
+abbrev pub looked_on : SpaceRun → ℕ → Block → List (ℕ × Block)
+looked_on run lbn b = run.looked ++ (lbn, b) ∷ []
 
 -- a look of the search, with what the search comes to by it
-abbrev pub scanned : NodeState → Cmd → ℕ → Block → Outcome → NodeState
-scanned s x lbn b o = record s {
-  cmd = Some x;
+abbrev pub space_looked : NodeState → ℕ → Block → Outcome → NodeState
+space_looked s lbn b o = record s {
   seen = told_by o s.seen;
-  search = record { looked = looked_on s.search lbn b; takes = takes_by o s.search.takes; taken = s.search.taken };
+  run = record s.run { looked = looked_on s.run lbn b; writes = writes_found o s.run.writes };
   reads = one_more s.reads;
 }
 
-abbrev pub scanning : NodeState → Cmd → ℕ → Bool → ℕ → Block → NodeState
-scanning s x clusters number lbn b = scanned s x lbn b (answer s.seen.geometry clusters number (blocks_of (looked_on s.search lbn b)))
+abbrev pub space_looking : NodeState → ℕ → Bool → ℕ → Block → NodeState
+space_looking s clusters number lbn b = space_looked s lbn b (answer s.seen.geometry clusters number (blocks_of (looked_on s.run lbn b)))
 
 -- with the last write of the search the command is given what it has taken
 abbrev pub given_by : Bool → PlanWrite → Seen → Seen
 given_by true v seen = with_space v.clusters v.number None seen
 given_by false v seen = seen
 
-abbrev pub grabbing : NodeState → PlanWrite → NodeState
-grabbing s v = record s {
-  seen = given_by (s.search.taken + 1 == length s.search.takes) v s.seen;
-  search = record s.search { taken = s.search.taken + 1 };
+abbrev pub space_writing : NodeState → PlanWrite → NodeState
+space_writing s v = record s {
+  seen = given_by (s.run.made + 1 == length s.run.writes) v s.seen;
+  run = record s.run { made = s.run.made + 1 };
   writes = one_more s.writes;
 }
 
-abbrev pub deciding : NodeState → Cmd → Plan → NodeState
-deciding s x p = record s { cmd = Some x; plan = Some p; done = 0; tried = false }
+abbrev pub planning : NodeState → Plan → NodeState
+planning s p = record s { plan = Some p; done = 0; tried = false }
 
 -- its ask was granted
-abbrev pub trying : NodeState → PlanAsk → NodeState
-trying s a = record s { asked = s.asked ++ lock_of_ask a ∷ []; tried = true }
+abbrev pub asking : NodeState → PlanAsk → NodeState
+asking s a = record s { asked = s.asked ++ lock_of_ask a ∷ []; tried = true }
 
 abbrev pub writing : NodeState → NodeState
 writing s = record s { done = s.done + 1; writes = one_more s.writes }
 
 abbrev pub answering : NodeState → Cmd → Reply → NodeState
-answering s x r = record s { past = after_answer s.past x r; cmd = None; seen = unseen s.seen; plan = None; done = 0; tried = false; asked = []; search = no_search }
+answering s x r = record s { past = after_answer s.past x r; cmd = None; seen = unseen s.seen; plan = None; done = 0; tried = false; asked = []; run = no_run }
 
 abbrev pub leaving : NodeState → NodeState
 leaving s = record s { over = true }
@@ -219,24 +231,26 @@ abbrev pub would_go : List Resource → ℕ → PlanAsk → Bool
 would_go t n a = goes_at_once (system_of n) a.mode (resource_at (A a.file) t).askers
 
 -- node n asks: it goes on where that is granted, and else it answers
-abbrev pub tried_by : Plain → ℕ → NodeState → Cmd → PlanAsk → Bool → Plain
-tried_by w n s x a true = with_node (record w { locks = asked (A a.file) (system_of n) a.mode w.locks }) n (turned (trying s a))
-tried_by w n s x a false = answered_by w n s x a.refused
+abbrev pub asked_by : Plain → ℕ → NodeState → Cmd → PlanAsk → Bool → Plain
+asked_by w n s x a true = with_node (record w { locks = asked (A a.file) (system_of n) a.mode w.locks }) n (turned (asking s a))
+asked_by w n s x a false = answered_by w n s x a.refused
 
 -- an event of node n, which stands as s
 abbrev pub happens : Plain → ℕ → NodeState → Event → Plain
-happens w n s Rest = with_node w n (turned s)
-happens w n s Stand = with_node w n (turned s)
-happens w n s Leave = with_node w n (turned (leaving s))
-happens w n s (Ask x name mode) = with_node (record w { locks = asked name (system_of n) mode w.locks }) n (turned (asking s x name mode))
-happens w n s (See x lbn) = with_node w n (turned (looking s x lbn (block_at w.blocks lbn)))
-happens w n s (Claim x) = with_node (record w { locks = asked V (system_of n) PW w.locks }) n (turned (claiming s x))
-happens w n s (Scan x clusters number lbn) = with_node w n (turned (scanning s x clusters number lbn (block_at w.blocks lbn)))
-happens w n s (Grab v) = with_node (record w { blocks = slice_set w.blocks v.lbn v.block }) n (turned (grabbing s v))
-happens w n s (Decide x p) = with_node w n (turned (deciding s x p))
-happens w n s (Put v) = with_node (record w { blocks = slice_set w.blocks v.lbn v.block }) n (turned (writing s))
-happens w n s (Try x a) = tried_by w n s x a (would_go w.locks n a)
-happens w n s (Answer x r) = answered_by w n s x r
+happens w n s event.Rest = with_node w n (turned s)
+happens w n s event.Stand = with_node w n (turned s)
+happens w n s event.Leave = with_node w n (turned (leaving s))
+happens w n s (event.Lock name mode) = with_node (record w { locks = asked name (system_of n) mode w.locks }) n (turned (locking s name mode))
+happens w n s (event.Look lbn) = with_node w n (turned (looking s lbn (block_at w.blocks lbn)))
+happens w n s (event.Fetch lbn) = with_node w n (turned (looking s lbn (block_at w.blocks lbn)))
+happens w n s event.SpaceLock = with_node (record w { locks = asked V (system_of n) PW w.locks }) n (turned (space_locking s))
+happens w n s (event.SpaceLook clusters number lbn) = with_node w n (turned (space_looking s clusters number lbn (block_at w.blocks lbn)))
+happens w n s event.SpaceEnd = with_node w n (turned s)
+happens w n s (event.SpaceWrite v) = with_node (record w { blocks = slice_set w.blocks v.lbn v.block }) n (turned (space_writing s v))
+happens w n s (event.Plan p) = with_node w n (turned (planning s p))
+happens w n s (event.Write v) = with_node (record w { blocks = slice_set w.blocks v.lbn v.block }) n (turned (writing s))
+happens w n s (event.Ask x a) = asked_by w n s x a (would_go w.locks n a)
+happens w n s (event.Answer x r) = answered_by w n s x r
 
 abbrev pub happen_at : Plain → ℕ → Option NodeState → Event → Plain
 happen_at w n None e = w
@@ -246,14 +260,14 @@ happen_at w n (Some s) e = happens w n s e
 abbrev pub happen : Plain → ℕ → Event → Plain
 happen w n e = happen_at w n (node_at w.nodes n) e
 
--- the world after a turn of node n
+-- the world after a turn of node n: it prepares, and then comes its event
 abbrev pub after_turn : Plain → ℕ → Plain
-after_turn w n = happen w n (next_event w n)
+after_turn w n = happen (readied w n) n (next_event w n)
 
 -- a node has left
 abbrev pub is_over_in : Option NodeState → Bool
 is_over_in None = true
-is_over_in (Some s) = s.over || s.past.dead
+is_over_in (Some s) = is_out s
 
 abbrev pub is_over : Plain → ℕ → Bool
 is_over w n = is_over_in (node_at w.nodes n)
@@ -290,18 +304,10 @@ tried_in (Some s) = s.tried
 abbrev pub tried_at : Plain → ℕ → Bool
 tried_at w n = tried_in (node_at w.nodes n)
 
--- a node with the command x
-abbrev pub begun : NodeState → Cmd → NodeState
-begun s x = record s { cmd = Some x }
-
--- the event of a node that has begun a command, and does not wait
-abbrev pub by_begun : NodeState → Option Cmd → Event
-by_begun s None = Rest
-by_begun s (Some x) = by_plan x s s.plan
-
+-- the event of a node that goes on with its command
 abbrev pub command_event_of : Option NodeState → Event
-command_event_of None = Rest
-command_event_of (Some s) = by_begun s s.cmd
+command_event_of None = event.Rest
+command_event_of (Some s) = by_command s s.cmd
 
 abbrev pub command_event : Plain → ℕ → Event
 command_event w n = command_event_of (node_at w.nodes n)

@@ -2,6 +2,7 @@
 use Rattle.std.specs.Prelude.{◌≡◌, ◌≤◌, ◌+◌, ◌++◌, not, take, ℕ, Bool, true, false, List, [], ◌∷◌, Option, Some, None, is_some, length, replicate, if◌then◌else◌}
 use Rattle.lock_db.specs.declared.name.LockName.{LockName}
 use Rattle.lock_db.specs.declared.resource.Resource.{Resource}
+use Rattle.plain_cat.specs.declared.mode.Mode.{Mode}
 use Rattle.plain_cat.specs.declared.mode.Mode.TheVariants.{PR, PW}
 use Rattle.plain_cat.specs.declared.command.Cmd.{Cmd}
 use Rattle.plain_cat.specs.declared.cat.Cat.{Cat}
@@ -11,8 +12,10 @@ use Rattle.plain_vol.specs.Lookups.{is_free_number}
 use Rattle.plain_vol.specs.Accounts.{Accounted}
 use Rattle.plain_vol.specs.Own.{past, next_command, Own}
 use Rattle.plain_vol.specs.Replaying.{Replays}
+use Rattle.vol_words.specs.Fields.{Block}
+use Rattle.vol_parts.specs.Findings.{Accepts, CatOf}
 use Rattle.lock_db.specs.Tables.{IsTable}
-use Rattle.node_locks.specs.Held.{names_of, AreHeld, waits_at, held_locks}
+use Rattle.node_locks.specs.Held.{Row, names_of, AreHeld, waits_at, all_held}
 use Rattle.vol_owners.specs.Lists.{Has}
 use Rattle.vol_owners.specs.Owners.{nothing}
 use Rattle.vol_under.specs.UnderWay.{UnderWay, resting}
@@ -25,10 +28,16 @@ use Rattle.op_law.specs.Needs.{IsNext}
 use Rattle.op_law.specs.Fits.{HasSeen}
 use Rattle.op_law.specs.Knows.{channel_of}
 use Rattle.op_law.specs.Laws.{held_in, under_way, takes_lock, Lawful}
-use Rattle.core_state.specs.Worlds.{NodeState, no_search, empty_stock, Plain, node_at, locks_of}
+use Rattle.core_state.specs.declared.space.SpaceRun.{SpaceRun}
+use Rattle.core_state.specs.Runs.{no_run}
+use Rattle.core_state.specs.Worlds.{Course, course_of, NodeState, Plain, node_at, rows_of, rows_at}
 use Rattle.core_state.specs.Asks.{writes_by, writes_now, granted_ask, knows_now}
 use Rattle.core_state.specs.Opens.{AreOpensLocked}
-use Rattle.core_state.specs.Searches.{unwritten, stock_after, Searches}
+use Rattle.core_state.specs.Channels.{channel_now, HasChannels, HasOpens}
+use Rattle.core_state.specs.Stores.{HasStore, IsGone, IsStocked, AreCached}
+use Rattle.core_state.specs.Searches.{unwritten, stock_after, Spaces}
+use Rattle.core_state.specs.Waiting.{WaitsFor}
+use Rattle.core_state.specs.Small.{AreSmall}
 
 -- The commands that a world runs so far: those that name no channel.
 unfoldable pub is_run : Cmd → Bool
@@ -36,16 +45,20 @@ is_run x = not (is_some (channel_of x))
 
 -- ---- the nodes under way
 
+-- the locks that a node holds
+abbrev pub held_by : List Resource → ℕ → NodeState → Row
+held_by t n s = all_held t n (rows_of s)
+
 -- A node as the drive sees it: at rest, or with its command, the locks that are granted to it, what it has seen for the command
 -- and looked at in its search for space, what the search has taken, and its writes, all or those before its ask.
 abbrev pub under_with : List Resource → ℕ → NodeState → Option Cmd → UnderWay
 under_with t n s None = resting nothing
 under_with t n s (Some x) = record (under_way x s.seen (writes_now s.tried s.plan) (knows_now n x s.seen s.tried s.plan)) {
-  read = held_in PR (held_locks t n s.asked);
-  write = held_in PW (held_locks t n s.asked);
-  seen = unwritten (take s.search.taken s.search.takes) s.search.looked ++ s.seen.blocks;
+  read = held_in PR (held_by t n s);
+  write = held_in PW (held_by t n s);
+  seen = unwritten (take s.run.made s.run.writes) s.run.looked ++ s.seen.blocks;
   done = s.done;
-  stock = stock_after s.search.takes s.search.taken;
+  stock = stock_after s.run.writes s.run.made;
 }
 
 abbrev pub under_by : List Resource → ℕ → Option NodeState → UnderWay
@@ -63,6 +76,7 @@ HasSystemNumbers c = (n : ℕ) → n ≤ 11 → is_free_number c n ≡ false
 
 -- The history replays from the opening catalogue, and the drive is that of the catalogue to which it leads, with the writes done
 -- of each command under way. The catalogue keeps the limits of a volume and its quotas, and each channel has the lock of its open.
+-- What the nodes have open, cached and in stock is so.
 pub record IsRunning (w : Plain) : Type 0 where
   pub cat : Cat
   pub replayed : Replays w.opening w.script w.history cat
@@ -70,56 +84,67 @@ pub record IsRunning (w : Plain) : Type 0 where
   pub accounted : Accounted cat
   pub system : HasSystemNumbers cat
   pub opens : AreOpensLocked w.locks cat
+  pub opened : (n : ℕ) (s : NodeState) → node_at w.nodes n ≡ Some s → HasOpens cat n s.opens
+  pub stocked : (n : ℕ) (s : NodeState) → node_at w.nodes n ≡ Some s → IsStocked w.locks n s
+  pub cached : AreCached w drive.own cat
 
--- the lock table has for each node's file system the locks that its command has asked for
+-- the lock table has for each node's file system the rows of locks that it has asked for
 abbrev pub AreLocked : Plain → Type 0
-AreLocked w = IsTable w.locks × AreHeld w.locks (locks_of w.nodes)
+AreLocked w = IsTable w.locks × AreHeld w.locks (rows_at w.nodes)
 
 -- a command that has no plan yet has done nothing, and one that has decided has the locks that it asked for
 abbrev pub IsAtPlan : Cmd → Bool → Seen → ℕ → Bool → Option Plan → Type 0
 IsAtPlan x waits seen done tried None = done ≡ 0
 IsAtPlan x waits seen done tried (Some p) = IsNext x seen (need.Ready p) × (waits ≡ false) × (done ≤ length (writes_by p.ask tried p.writes))
 
--- A command under way is its node's next one, it obeys the law, what it has seen fits it, and its locks are such as it takes
--- itself, besides that of its search for space and that of its ask.
-pub record IsAt (w : Plain) (n : ℕ) (s : NodeState) (x : Cmd) : Type 0 where
-  pub next : next_command w.script n w.history ≡ Some x
+-- A command of node n under way, which has come so far, is its node's next one, by the lock table. It obeys the law, what it has
+-- seen fits it, and its locks are such as it takes itself, besides that of its search for space and that of its ask. Where it waits,
+-- it is for the last of them.
+pub record IsUnderWay (coming : Option Cmd) (t : List Resource) (n : ℕ) (d : Course) (x : Cmd) : Type 0 where
+  pub next : coming ≡ Some x
   pub runs : is_run x ≡ true
   pub lawful : Lawful x
-  pub seen : HasSeen x s.seen
-  pub own : (name : LockName) → Has (names_of s.seen.locks) name → takes_lock x name ≡ true
-  pub plan : IsAtPlan x (waits_at w.locks n s.asked) s.seen s.done s.tried s.plan
-  pub search : Searches w.locks n x (granted_ask s.tried s.plan) s.asked s.search s.seen
+  pub seen : HasSeen x d.seen
+  pub own : (name : LockName) → Has (names_of d.seen.locks) name → takes_lock x name ≡ true
+  pub plan : IsAtPlan x (waits_at t n d.asked) d.seen d.done d.tried d.plan
+  pub search : Spaces t n x (granted_ask d.tried d.plan) d.asked d.run d.seen
+  pub waits : waits_at t n d.asked ≡ true → WaitsFor x d.asked d.seen
 
 -- a node without a command has seen nothing, was given nothing, and has decided on nothing
-pub record IsIdle (s : NodeState) : Type 0 where
-  pub locks : s.seen.locks ≡ []
-  pub blocks : s.seen.blocks ≡ []
-  pub space : HasNoSpace (space_of s.seen)
-  pub asked : s.asked ≡ []
-  pub search : s.search ≡ no_search
-  pub plan : s.plan ≡ None
-  pub done : s.done ≡ 0
+pub record IsIdle (seen : Seen) (own : List (LockName × Mode)) (rules : SpaceRun) (made : Option Plan) (writes : ℕ) : Type 0 where
+  pub locks : seen.locks ≡ []
+  pub blocks : seen.blocks ≡ []
+  pub space : HasNoSpace (space_of seen)
+  pub asked : own ≡ []
+  pub run : rules ≡ no_run
+  pub plan : made ≡ None
+  pub done : writes ≡ 0
+
+-- a node stands so by its command
+abbrev pub HasCourse : Option Cmd → List Resource → ℕ → Course → Option Cmd → Type 0
+HasCourse next t n d None = IsIdle d.seen d.asked d.run d.plan d.done
+HasCourse next t n d (Some x) = IsUnderWay next t n d x
+
+-- the same of node n of a world, which stands as s
+abbrev pub IsAt : Plain → ℕ → NodeState → Cmd → Type 0
+IsAt w n s x = IsUnderWay (next_command w.script n w.history) w.locks n (course_of s) x
 
 abbrev pub HasCommand : Plain → ℕ → NodeState → Option Cmd → Type 0
-HasCommand w n s None = IsIdle s
-HasCommand w n s (Some x) = IsAt w n s x
+HasCommand w n s cmd = HasCourse (next_command w.script n w.history) w.locks n (course_of s) cmd
 
--- no node keeps a stock or cached blocks so far
-pub record KeepsNothing (s : NodeState) : Type 0 where
-  pub stock : s.stock ≡ empty_stock
-  pub cache : s.cache ≡ []
-
--- A node has what the history says of its answers; no channel of it is open; and once it has left, it has no command left.
+-- A node has what the history says of its answers, its channels and its store are in order, it waits for none of the locks that
+-- outlive its commands, and it stands as its command has left it. Once it has left or is dead, it has nothing; and it leaves only
+-- where no command is left.
 pub record IsNode (w : Plain) (n : ℕ) (s : NodeState) : Type 0 where
   pub past : s.past ≡ past n w.history
-  pub alive : s.past.dead ≡ false
-  pub closed : s.past.channels ≡ replicate 8 false
   pub geometry : s.seen.geometry ≡ w.geometry
-  pub channel : s.seen.channel ≡ None
-  pub keeps : KeepsNothing s
+  pub channels : HasChannels s.past s.opens
+  pub channel : s.seen.channel ≡ channel_now s.opens s.cmd
+  pub store : HasStore s.kept s.back s.stock s.cache
+  pub rests : waits_at w.locks n s.kept ≡ false
   pub command : HasCommand w n s s.cmd
-  pub over : s.over ≡ true → (s.cmd ≡ None) × (next_command w.script n w.history ≡ None)
+  pub over : s.over ≡ true → IsGone s.cmd s.asked s.kept s.back s.stock s.cache × (next_command w.script n w.history ≡ None)
+  pub gone : s.past.dead ≡ true → IsGone s.cmd s.asked s.kept s.back s.stock s.cache
 
 -- each command that the script can come to, while no channel is open, is one of these
 abbrev pub HasOnly : (Cmd → Type 0) → Script → Type 0
@@ -136,6 +161,7 @@ pub record Good (w : Plain) : Type 0 where
   pub locked : AreLocked w
   pub nodes : (n : ℕ) (s : NodeState) → node_at w.nodes n ≡ Some s → IsNode w n s
   pub own : Own w.script w.history
+  pub small : AreSmall w
   pub runs : HasOnly IsRun w.script
   -- the entries are of nodes of the world
   pub strangers : (n : ℕ) → node_at w.nodes n ≡ None → next_command w.script n w.history ≡ None
@@ -151,8 +177,13 @@ pub record HasRoom (w : Plain) (spare : ℕ) : Type 0 where
   pub lines : length w.script.lines ≤ 4096
   pub places : decided w.nodes ≤ spare
 
--- such a world whose operations take each command of the script
+-- a catalogue that an accepted volume tells
+abbrev pub IsAccepted : Cat → Type 0
+IsAccepted c = (bs : List Block) × Accepts bs × CatOf bs c
+
+-- such a world whose opening catalogue is that of an accepted volume, and whose operations take each command of the script
 pub record IsWorld (takes : Cmd → Type 0) (w : Plain) (spare : ℕ) : Type 0 where
   pub good : Good w
+  pub accepted : IsAccepted w.opening
   pub room : HasRoom w spare
   pub taken : HasOnly takes w.script

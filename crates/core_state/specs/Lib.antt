@@ -1,9 +1,15 @@
+pub mod Runs
 pub mod Worlds
 pub mod Images
 pub mod Raises
 pub mod Asks
 pub mod Opens
+pub mod Channels
+pub mod Stores
 pub mod Searches
+pub mod Waiting
+pub mod Small
 pub mod Goods
 pub mod Mounting
+pub mod Event
 pub mod Events

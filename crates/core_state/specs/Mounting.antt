@@ -9,7 +9,8 @@ use Rattle.vol_parts.specs.Findings.{Accepts, CatOf}
 use Rattle.vol_analyze.specs.Judging.{IsFirstFound}
 use Rattle.core_state.specs.declared.mounting.MountFault.{MountFault}
 use Rattle.core_state.specs.declared.mounting.MountFault.TheVariants as fault
-use Rattle.core_state.specs.Worlds.{no_search, empty_stock, NodeState, Plain}
+use Rattle.core_state.specs.Runs.{no_run}
+use Rattle.core_state.specs.Worlds.{empty_stock, NodeState, Plain}
 
 abbrev pub at_rest : Geometry → NodeState
 at_rest g = record {
@@ -20,7 +21,10 @@ at_rest g = record {
   done = 0;
   tried = false;
   asked = [];
-  search = no_search;
+  kept = [];
+  back = [];
+  opens = replicate 8 None;
+  run = no_run;
   stock = empty_stock;
   cache = [];
   over = false;

@@ -3,7 +3,7 @@ use Rattle.std.specs.Prelude.{◌≡◌, ◌<◌, ◌==◌, ◌++◌, not, ℕ, 
 use Rattle.std.specs.List.{list_any}
 use Rattle.vol_words.specs.Fields.{Block}
 use Rattle.lock_db.specs.declared.name.LockName.{LockName}
-use Rattle.lock_db.specs.declared.name.LockName.TheVariants.{V}
+use Rattle.lock_db.specs.declared.name.LockName.TheVariants.{S, Q, V}
 use Rattle.lock_db.specs.declared.resource.Resource.{Resource}
 use Rattle.plain_cat.specs.declared.mode.Mode.{Mode}
 use Rattle.plain_cat.specs.declared.mode.Mode.TheVariants.{PW}
@@ -26,7 +26,8 @@ use Rattle.node_space.specs.Searching.{Found, More, Short, Enough, found}
 use Rattle.node_space.specs.Taking.{looked, out_after}
 use Rattle.node_space.specs.Answering.{blocks_of}
 use Rattle.op_law.specs.declared.need.Ask.{Ask}
-use Rattle.core_state.specs.Worlds.{Search}
+use Rattle.core_state.specs.declared.space.Phase.TheVariants as phase
+use Rattle.core_state.specs.declared.space.SpaceRun.{SpaceRun}
 use Rattle.core_state.specs.Asks.{with_ask}
 
 -- ---- what it leaves of what it has looked at, and what it has outside
@@ -53,28 +54,37 @@ abbrev pub wanted_by : Cmd → Seen → ℕ
 wanted_by x seen = (wanted seen x).clusters
 
 -- what the search of a command has found in the blocks that it has looked at
-abbrev pub found_by : Cmd → Seen → Search → Found
-found_by x seen s = found seen.geometry (wanted_by x seen) (wanted seen x).number (blocks_of s.looked)
+abbrev pub found_by : Cmd → Seen → SpaceRun → Found
+found_by x seen run = found seen.geometry (wanted_by x seen) (wanted seen x).number (blocks_of run.looked)
 
 -- ---- how it stands
 
 -- no search is begun, and the locks asked for are those of the command, and that of its ask where it was granted
-pub record HasNotSearched (ask : Option Ask) (asked : List (LockName × Mode)) (s : Search) (seen : Seen) : Type 0 where
+pub record HasNotSearched (ask : Option Ask) (asked : List (LockName × Mode)) (run : SpaceRun) (seen : Seen) : Type 0 where
+  pub off : run.phase ≡ phase.Off
   pub same : asked ≡ with_ask seen.locks ask
-  pub looked : s.looked ≡ []
-  pub takes : s.takes ≡ []
-  pub taken : s.taken ≡ 0
+  pub looked : run.looked ≡ []
+  pub writes : run.writes ≡ []
+  pub made : run.made ≡ 0
   pub space : HasNoSpace (space_of seen)
 
--- The lock of the bitmaps is asked for among those of the command, and what was looked at are the first of the blocks that the
--- search may look at.
-pub record HasClaimed (x : Cmd) (ask : Option Ask) (asked : List (LockName × Mode)) (s : Search) (seen : Seen) : Type 0 where
+-- the lock of the file of this number
+abbrev pub IsOfNumber : Option ℕ → LockName → Type 0
+IsOfNumber number (S n) = number ≡ Some n
+IsOfNumber number other = ⊥
+
+-- The lock of the bitmaps is asked for among those of the command, behind Q in PW, and behind it comes no lock but that of the file
+-- whose number was given. What was looked at are the first of the blocks that the search may look at.
+pub record HasClaimed (x : Cmd) (ask : Option Ask) (asked : List (LockName × Mode)) (run : SpaceRun) (seen : Seen) : Type 0 where
   pub takes : takes_space x ≡ true
+  pub last : run.phase ≡ phase.Last
   pub before : List (LockName × Mode)
   pub after : List (LockName × Mode)
   pub claims : asked ≡ with_ask (before ++ (V, PW) ∷ after) ask
   pub locks : seen.locks ≡ before ++ after
-  pub in_order : s.looked ≡ looked seen.geometry (wanted_by x seen) (wanted seen x).number (blocks_of s.looked)
+  pub quota : Has (held_in PW before) Q
+  pub behind : (l : LockName × Mode) → Has after l → IsOfNumber seen.number l.0
+  pub in_order : run.looked ≡ looked seen.geometry (wanted_by x seen) (wanted seen x).number (blocks_of run.looked)
 
 -- the command needs what it searches for, was given nothing yet, and has looked at no bitmap itself
 pub record NeedsSpace (x : Cmd) (seen : Seen) : Type 0 where
@@ -83,50 +93,52 @@ pub record NeedsSpace (x : Cmd) (seen : Seen) : Type 0 where
   pub apart : (l : ℕ) → Touches seen.blocks l → IsBitmap seen.geometry l → ⊥
 
 -- the search goes on to look
-pub record IsLooking (x : Cmd) (ask : Option Ask) (asked : List (LockName × Mode)) (s : Search) (seen : Seen) : Type 0 where
-  pub claimed : HasClaimed x ask asked s seen
+pub record IsLooking (x : Cmd) (ask : Option Ask) (asked : List (LockName × Mode)) (run : SpaceRun) (seen : Seen) : Type 0 where
+  pub claimed : HasClaimed x ask asked run seen
   pub needs : NeedsSpace x seen
-  pub more : found_by x seen s ≡ More
-  pub takes : s.takes ≡ []
-  pub taken : s.taken ≡ 0
+  pub more : found_by x seen run ≡ More
+  pub writes : run.writes ≡ []
+  pub made : run.made ≡ 0
 
 -- The search has found enough, and these writes take it, under the lock of the bitmaps; a number among it is above those of the
 -- system files.
-pub record HasFound (t : List Resource) (n : ℕ) (x : Cmd) (ask : Option Ask) (asked : List (LockName × Mode)) (s : Search) (seen : Seen) : Type 0 where
-  pub claimed : HasClaimed x ask asked s seen
-  pub enough : found_by x seen s ≡ Enough s.takes
-  pub above : is_new_number (out_after s.takes (length s.takes)).number ≡ true
+pub record HasFound (t : List Resource) (n : ℕ) (x : Cmd) (ask : Option Ask) (asked : List (LockName × Mode)) (run : SpaceRun) (seen : Seen) : Type 0 where
+  pub claimed : HasClaimed x ask asked run seen
+  pub enough : found_by x seen run ≡ Enough run.writes
+  pub above : is_new_number (out_after run.writes (length run.writes)).number ≡ true
   pub holds : Has (held_in PW (held_locks t n asked)) V
 
 -- and not all of the writes are made
-pub record IsTaking (t : List Resource) (n : ℕ) (x : Cmd) (ask : Option Ask) (asked : List (LockName × Mode)) (s : Search) (seen : Seen) : Type 0 where
-  pub found : HasFound t n x ask asked s seen
+pub record IsTaking (t : List Resource) (n : ℕ) (x : Cmd) (ask : Option Ask) (asked : List (LockName × Mode)) (run : SpaceRun) (seen : Seen) : Type 0 where
+  pub found : HasFound t n x ask asked run seen
   pub needs : NeedsSpace x seen
-  pub part : s.taken < length s.takes
+  pub part : run.made < length run.writes
 
 -- or all are made, and the command was given what they take
-pub record HasTaken (t : List Resource) (n : ℕ) (x : Cmd) (ask : Option Ask) (asked : List (LockName × Mode)) (s : Search) (seen : Seen) : Type 0 where
-  pub found : HasFound t n x ask asked s seen
-  pub all : s.taken ≡ length s.takes
-  pub clusters : seen.clusters ≡ (out_after s.takes (length s.takes)).clusters
-  pub number : seen.number ≡ (out_after s.takes (length s.takes)).number
+pub record HasTaken (t : List Resource) (n : ℕ) (x : Cmd) (ask : Option Ask) (asked : List (LockName × Mode)) (run : SpaceRun) (seen : Seen) : Type 0 where
+  pub found : HasFound t n x ask asked run seen
+  pub all : run.made ≡ length run.writes
+  pub clusters : seen.clusters ≡ (out_after run.writes (length run.writes)).clusters
+  pub number : seen.number ≡ (out_after run.writes (length run.writes)).number
   pub short : seen.short ≡ None
 
 -- the search has found too little, and the command was told why
-pub record IsRefused (x : Cmd) (ask : Option Ask) (asked : List (LockName × Mode)) (s : Search) (seen : Seen) : Type 0 where
-  pub claimed : HasClaimed x ask asked s seen
+pub record IsRefused (t : List Resource) (n : ℕ) (x : Cmd) (ask : Option Ask) (asked : List (LockName × Mode)) (run : SpaceRun) (seen : Seen) : Type 0 where
+  pub claimed : HasClaimed x ask asked run seen
+  pub holds : Has (held_in PW (held_locks t n asked)) V
   pub why : Refusal
-  pub too_little : found_by x seen s ≡ Short why
-  pub takes : s.takes ≡ []
-  pub taken : s.taken ≡ 0
+  pub too_little : found_by x seen run ≡ Short why
+  pub writes : run.writes ≡ []
+  pub made : run.made ≡ 0
   pub clusters : seen.clusters ≡ []
   pub number : seen.number ≡ None
   pub short : seen.short ≡ Some why
 
--- How the search of node n's command x stands, by the lock table, where the ask of its plan was granted or there was none.
-pub data Searches (t : List Resource) (n : ℕ) (x : Cmd) (ask : Option Ask) (asked : List (LockName × Mode)) (s : Search) (seen : Seen) : Type 0 where
-  NotYet : HasNotSearched ask asked s seen → Searches t n x ask asked s seen
-  Looking : IsLooking x ask asked s seen → Searches t n x ask asked s seen
-  Taking : IsTaking t n x ask asked s seen → Searches t n x ask asked s seen
-  Taken : HasTaken t n x ask asked s seen → Searches t n x ask asked s seen
-  Refused : IsRefused x ask asked s seen → Searches t n x ask asked s seen
+-- How node n stands by its rules for space, for its command x, by the lock table, where the ask of its plan was granted or there was
+-- none.
+pub data Spaces (t : List Resource) (n : ℕ) (x : Cmd) (ask : Option Ask) (asked : List (LockName × Mode)) (run : SpaceRun) (seen : Seen) : Type 0 where
+  Off : HasNotSearched ask asked run seen → Spaces t n x ask asked run seen
+  Looking : IsLooking x ask asked run seen → Spaces t n x ask asked run seen
+  Taking : IsTaking t n x ask asked run seen → Spaces t n x ask asked run seen
+  Taken : HasTaken t n x ask asked run seen → Spaces t n x ask asked run seen
+  Refused : IsRefused t n x ask asked run seen → Spaces t n x ask asked run seen

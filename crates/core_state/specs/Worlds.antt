@@ -1,5 +1,5 @@
 -- A world as plain data: a drive, a lock table, a history, and the nodes that run the script.
-use Rattle.std.specs.Prelude.{◌≤◌, ℕ, zero, suc, Bool, List, [], Option, Some, None, length, map, option_map, slice_get, slice_set}
+use Rattle.std.specs.Prelude.{◌≤◌, ℕ, zero, suc, Bool, List, [], ◌∷◌, Option, Some, None, length, map, option_map, slice_get, slice_set}
 use Rattle.vol_words.specs.Fields.{Block}
 use Rattle.lock_db.specs.declared.name.LockName.{LockName}
 use Rattle.node_cache.specs.Cached.{Cached}
@@ -12,22 +12,12 @@ use Rattle.plain_cat.specs.declared.cat.Cat.{Cat}
 use Rattle.plain_vol.specs.Own.{NodePast, next_command}
 use Rattle.vol_parts.specs.declared.geometry.Geometry.{Geometry}
 use Rattle.op_law.specs.declared.need.Plan.{Plan}
-use Rattle.op_law.specs.declared.need.PlanWrite.{PlanWrite}
 use Rattle.op_law.specs.declared.seen.Seen.{Seen}
+use Rattle.op_law.specs.declared.seen.Chan.{Chan}
+use Rattle.core_state.specs.declared.space.SpaceRun.{SpaceRun}
 use Rattle.core_state.specs.declared.node.Node.{Node}
+use Rattle.node_locks.specs.Held.{Row}
 use Rattle.core_state.specs.declared.cluster.Core.{Core}
-
--- what a search for space has done
-pub record Search : Type 0 where
-  -- the blocks of the bitmaps that it has looked at, each with its LBN, in order
-  pub looked : List (ℕ × Block)
-  -- the writes that it has decided on, and how many of them are made
-  pub takes : List PlanWrite
-  pub taken : ℕ
-
--- no search is begun
-abbrev pub no_search : Search
-no_search = record { looked = []; takes = []; taken = 0 }
 
 -- free clusters and file numbers that a node keeps for its commands
 pub record Stock : Type 0 where
@@ -50,7 +40,13 @@ pub record NodeState : Type 0 where
   pub tried : Bool
   -- the locks that it has asked for, in order: those of the command, among them that of its search for space, and that of its ask
   pub asked : List (LockName × Mode)
-  pub search : Search
+  -- the locks that outlive its commands, and those that it has asked for to give its stock back
+  pub kept : List (LockName × Mode)
+  pub back : List (LockName × Mode)
+  -- what its eight channels have open
+  pub opens : List (Option Chan)
+  -- what it has done by its rules for space
+  pub run : SpaceRun
   -- its stock, and the blocks that it keeps in its cache, the one that was used last in front
   pub stock : Stock
   pub cache : List Cached
@@ -61,6 +57,19 @@ pub record NodeState : Type 0 where
   pub writes : ℕ
   pub reads : ℕ
   pub hits : ℕ
+
+-- what a command has come to: what it has seen, what it has decided on, how many of the writes are done, whether its ask was granted,
+-- the locks that were asked for, and what is done for it by the rules for space
+pub record Course : Type 0 where
+  pub seen : Seen
+  pub plan : Option Plan
+  pub done : ℕ
+  pub tried : Bool
+  pub asked : List (LockName × Mode)
+  pub run : SpaceRun
+
+abbrev pub course_of : NodeState → Course
+course_of s = record { seen = s.seen; plan = s.plan; done = s.done; tried = s.tried; asked = s.asked; run = s.run }
 
 -- a world
 pub record Plain : Type 0 where
@@ -93,7 +102,10 @@ state_of cmd_is n = record {
   done = n.done;
   tried = n.tried;
   asked = n.asked;
-  search = record { looked = n.looked; takes = n.takes; taken = n.taken };
+  kept = n.kept.items;
+  back = n.back.items;
+  opens = n.opens;
+  run = n.run;
   stock = record { clusters = n.stock.clusters; numbers = n.stock.numbers };
   cache = n.cache;
   over = n.over;
@@ -134,13 +146,18 @@ set_node nodes (suc k) s = slice_set nodes k s
 abbrev pub with_node : Plain → ℕ → NodeState → Plain
 with_node w n s = record w { nodes = set_node w.nodes n s }
 
--- the locks that a node has asked for
-abbrev pub locks_in : Option NodeState → List (LockName × Mode)
-locks_in None = []
-locks_in (Some s) = s.asked
+-- the rows of locks that a node has asked for: those that outlive its commands, those of its command, and those by which it gives its
+-- stock back
+abbrev pub rows_of : NodeState → List Row
+rows_of s = s.kept ∷ (s.asked ∷ (s.back ∷ []))
 
-abbrev pub locks_of : List NodeState → ℕ → List (LockName × Mode)
-locks_of nodes n = locks_in (node_at nodes n)
+abbrev pub rows_in : Option NodeState → List Row
+rows_in None = []
+rows_in (Some s) = rows_of s
+
+-- those of each node
+abbrev pub rows_at : List NodeState → ℕ → List Row
+rows_at nodes n = rows_in (node_at nodes n)
 
 -- the command that a node goes on with, or begins
 abbrev pub or_next : Option Cmd → Option Cmd → Option Cmd

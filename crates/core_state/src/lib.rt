@@ -4,10 +4,12 @@
 mod cluster;
 mod mounting;
 mod node;
+mod space;
 mod world;
 
 pub use cluster::Core;
 pub use mounting::{MountFault, MountRefused};
 pub use node::Node;
 pub use op_law::NoMemory;
+pub use space::{Phase, SpaceRun};
 pub use world::World;

@@ -6,6 +6,7 @@ ghost use Rattle.core_state.specs.Mounting.{IsMounted, IsMountEnd, at_rest};
 
 use crate::cluster::Core;
 use crate::node::Node;
+use crate::space::SpaceRun;
 use crate::world::World;
 use blk_drive::{ImageDev, Mirror};
 use blk_whole::blocks_are_whole;
@@ -13,7 +14,7 @@ use extent_cache::Extents;
 use lock_db::LockDb;
 use node_cache::NodeCache;
 use node_past::Past;
-use op_law::{NoMemory, Operation, Seen, SeenBlocks, SeenLocks, Writes};
+use op_law::{KeptLocks, NoMemory, Operation, Seen, SeenBlocks, SeenLocks};
 use plain_cat::{Cat, Clusters, History, Script};
 use std::alloc::Global;
 use vol_analyze::{Finding, accepted};
@@ -58,9 +59,10 @@ fn resting<O: Operation>(alloc: Global, geometry: Geometry) -> Result<Node<O>, N
         done: 0,
         tried: false,
         asked: SeenLocks::new(alloc),
-        looked: SeenBlocks::new(alloc),
-        takes: Writes::new(alloc),
-        taken: 0,
+        kept: KeptLocks::new(alloc),
+        back: KeptLocks::new(alloc),
+        opens: [None; 8],
+        run: SpaceRun::new(alloc),
         stock: Extents::new(alloc)?,
         cache: NodeCache::new(alloc)?,
         over: false,

@@ -1,7 +1,8 @@
+use crate::space::SpaceRun;
 use extent_cache::Extents;
 use node_cache::NodeCache;
 use node_past::Past;
-use op_law::{Operation, Plan, Seen, SeenBlocks, SeenLocks, Writes};
+use op_law::{Chan, KeptLocks, Operation, Plan, Seen, SeenLocks};
 
 /// A node of the cluster.
 #[derive(Drop)]
@@ -26,12 +27,15 @@ pub struct Node<O: Operation> {
     /// ask of its plan. The last may still stand in a queue.
     pub asked: SeenLocks,
 
-    /// The blocks of the bitmaps that its search has looked at.
-    pub looked: SeenBlocks,
+    /// The locks that outlive its commands, and those that it has asked for to give its stock back: none so far.
+    pub kept: KeptLocks,
+    pub back: KeptLocks,
 
-    /// The writes that the search has decided on, and how many of them are made.
-    pub takes: Writes,
-    pub taken: usize,
+    /// What its eight channels have open: nothing so far.
+    pub opens: [Option<Chan>; 8],
+
+    /// What it has done by its rules for space.
+    pub run: SpaceRun,
 
     /// The free clusters and file numbers that it keeps for its commands: none so far.
     pub stock: Extents,

@@ -1,6 +1,7 @@
 ghost use Rattle.std.specs.Prelude.{◌≡◌, ◌≤◌, length};
 ghost use Rattle.core_state.specs.Worlds.{IsOfWorld};
-ghost use Rattle.core_state.specs.Goods.{Good};
+ghost use Rattle.core_state.specs.Goods.{Good, IsAccepted};
+ghost use Rattle.core_state.specs.Small.{AllGoOn};
 ghost use Rattle.core_state.specs.Events.{is_over, count_of};
 
 use crate::cluster::Core;
@@ -31,13 +32,23 @@ impl<I: ImageDev, O: Operation> Model for World<I, O> {
 }
 
 impl<I: ImageDev, O: Operation> World<I, O> {
-    /// Every world keeps the rules: what holds of it as it is mounted and after each event holds of it at any time.
+    /// Every world keeps the rules: what holds of it as it is mounted and after each event holds of it at any time. Its opening
+    /// catalogue is that of an accepted volume.
     pub fn keeps_the_rules(&self)
         ensures good { Good self.now.world }
+        ensures accepted { IsAccepted self.now.world.opening }
         ensures few { length self.now.world.nodes ≤ 8 }
         ensures lines { length self.now.world.script.lines ≤ 4096 }
     {
         let _core = &self.core;
+    }
+
+    /// No sequence of a value block comes to the last value of 64 bits: an answer raises each by just as much as its writes ask for,
+    /// and by one at least where the block is not valid.
+    pub fn sequences_do_not_stop(&self)
+        ensures { AllGoOn self.now.world }
+    {
+        self.keeps_the_rules();
     }
 
     /// The answers so far, in order.

@@ -2,4 +2,5 @@ pub mod Steps
 pub mod Ready
 pub mod Begun
 pub mod Worlds
-pub mod Torn
+pub mod Outcomes
+pub mod Lists

@@ -1,7 +1,6 @@
 -- What is known of a node that goes on with its command.
 use Rattle.std.proofs.Common.{◌≡◌, ◌≤◌, ◌<◌, ◌+◌, ◌-◌, ◌++◌, ℕ, zero, suc, Bool, true, false, cond, List, [], ◌∷◌, Option, Some, None, length, map, slice_get, slice_set, refl, sym, ap, subst, ◌∙◌, arith}
 use Rattle.std.specs.Prelude.{◌==◌, slice_index_or, not, option_map, IfSome, IsSome, is_some, replicate}
-use Rattle.std.proofs.lemmas.Bool.Decides.{nat_tests}
 use Rattle.std.proofs.lemmas.Option.{slice_get_within}
 use Rattle.vol_words.specs.Fields.{Block}
 use Rattle.lock_db.specs.declared.name.LockName.{LockName}
@@ -9,10 +8,9 @@ use Rattle.lock_db.specs.declared.name.LockName.TheVariants.{A, V}
 use Rattle.lock_db.specs.declared.resource.Resource.{Resource}
 use Rattle.lock_db.specs.Queues.{standing_of}
 use Rattle.lock_db.specs.declared.resource.Asked.{Asked}
-use Rattle.lock_db.specs.declared.resource.Asked.TheVariants as asked_so
+use Rattle.lock_db.specs.declared.resource.Asked.TheVariants as locked_so
 use Rattle.lock_db.specs.Resources.{goes_at_once, asked_answer}
-use Rattle.lock_db.specs.Tables.{IsTable, resource_at, asked, released}
-use Rattle.lock_db.proofs.Steps.{IsTable-released}
+use Rattle.lock_db.specs.Tables.{resource_at, asked, released}
 use Rattle.plain_cat.specs.declared.mode.Mode.{Mode}
 use Rattle.plain_cat.specs.declared.mode.Mode.TheVariants.{PW}
 use Rattle.plain_cat.specs.declared.command.Cmd.{Cmd}
@@ -22,11 +20,11 @@ use Rattle.plain_cat.specs.declared.script.Line.{Line}
 use Rattle.plain_cat.specs.declared.script.LineCmd.{LineCmd}
 use Rattle.plain_cat.specs.declared.cat.Cat.{Cat}
 use Rattle.plain_vol.specs.Own.{NodePast, lines_of, or_close, close_from, command_after}
-use Rattle.node_locks.specs.Held.{system_of, names_of, HoldsItsLocks, AreHeld, waits_at, with_locks}
+use Rattle.node_locks.specs.Held.{system_of, Row, names_of, HoldsItsLocks, waits_at}
+use Rattle.node_locks.specs.Sweeping.{MayGiveAll as MayGiveNamed}
 use Rattle.node_locks.specs.Sequences.{raised_block}
-use Rattle.node_locks.proofs.Asking.{asking_holds}
-use Rattle.node_locks.proofs.Giving.{giving_holds}
-use Rattle.node_locks.proofs.Keeping.{may_give}
+use Rattle.node_locks.proofs.Rows.{order-of}
+use Rattle.node_locks.proofs.Sweeping.{sweeping_holds}
 use Rattle.vol_owners.specs.Lists.{Has, Touches}
 use Rattle.vol_owners.specs.Owners.{Owners}
 use Rattle.vol_owners.specs.declared.owner.Owner.{Owner}
@@ -54,18 +52,23 @@ use Rattle.node_space.specs.declared.outcome.Search.{Search as Outcome}
 use Rattle.node_space.specs.declared.outcome.Search.TheVariants as search
 use Rattle.node_space.specs.Answering.{answer, blocks_of}
 use Rattle.core_state.specs.Searches.{wanted_by}
-use Rattle.core_state.specs.Worlds.{NodeState, Plain, node_at, set_node, locks_in, locks_of}
+use Rattle.core_state.specs.Worlds.{NodeState, Plain, IsOfWorld, node_at, set_node, rows_of, rows_in, rows_at}
 use Rattle.core_state.specs.Raises.{raise_of}
 use Rattle.core_state.specs.Asks.{writes_by, reply_by, writes_now}
 use Rattle.core_state.specs.Goods.{IsAt, IsNode, Good, decided, HasRoom}
-use Rattle.core_state.specs.Events.{Event, Ask, Claim, See, Scan, Grab, Decide, Put, Try, Answer, has_asked, all_writes, by_answer, by_takes, by_search, claiming, scanning, grabbing, happens, happen, block_at, turned, asking, looking, deciding, writing, trying, answering, would_go, tried_by, by_need, by_end, by_write, by_plan, by_begun, command_event_of, command_event, command_in, command_at, plan_in, plan_at, tried_in, tried_at}
+use Rattle.core_state.specs.Event.{Event}
+use Rattle.core_state.specs.Event as event
+use Rattle.core_state.specs.Events.{has_asked, all_writes, by_answer, by_writes, by_search, space_locking, space_looking, space_writing, happens, happen, block_at, turned, locking, looking, planning, writing, asking, answering, would_go, asked_by, by_need, by_end, by_write, by_plan, by_command, event_of, event_now, next_event, readied, command_in, command_at, plan_in, plan_at, tried_in, tried_at}
 use Rattle.core_state.specs.Worlds.{state_of}
 use Rattle.core_state.specs.declared.node.Node.{Node}
 use Rattle.core_state.proofs.Nodes.{at_here, length_node, told_at}
+use Rattle.core_state.proofs.Keeping.{has_asked_row, asked_alone, asked_once}
 use Rattle.core_state.proofs.Standing.{new_to_all, asks_once, claim_asks}
-use Rattle.core_state.proofs.Searching.{there_now, is_taking, scan_within, looks_on, still_looking}
-use Rattle.core_state.proofs.Turning.{under_command, drive, seen_on, may_need, here, planned_at, search_now}
+use Rattle.core_state.proofs.Searching.{there_now, is_taking, space_look_within, looks_on, still_looking}
+use Rattle.core_state.proofs.Turning.{under_command, drive, seen_on, may_need, here, planned_at, search_now, asks_wait}
 use Rattle.core_state.proofs.Trying.{nobody_asks}
+use Rattle.core_state.proofs.Channels.{all_closed}
+use Rattle.core_state.proofs.Preparing.{has_prepared, readied_same}
 use Rattle.core_step.specs.Giving.{MayGiveAll, MayEnd}
 use Rattle.core_step.specs.Asks.{going_ask, aim_of}
 use Rattle.core_step.specs.Ready.{IsReady, IsSearching, SearchesAsNeeded}
@@ -74,6 +77,8 @@ use Rattle.core_step.specs.declared.turns.Turn.TheVariants as turn
 use Rattle.core_step.specs.declared.turns.Kind.TheVariants as kind
 use Rattle.core_step.specs.Turns.{is_queued_in, told}
 use Rattle.core_step.proofs.Steps.{happen_here, is_there}
+use Rattle.core_step.proofs.Lists.{unnamed, stands_nowhere}
+use Rattle.core_step.proofs.Outcomes.{Makes, makes_as}
 
 -- ---- what the operation of a node tells
 
@@ -109,17 +114,9 @@ module _ (g : Geometry) (bs : List Block) (own : Owners) (c : Cat) (s : Spells g
 
 -- ---- the locks can all be given back
 
-give_each : (g : Geometry) (n : ℕ) (ws : List PlanWrite) (ls : List (LockName × Mode)) (locks : ℕ → List (LockName × Mode)) (t : List Resource) → IsTable t → AreHeld t locks → waits_at t n (locks n) ≡ false → locks n ≡ ls
-    → MayGiveAll g n ws ls t
-give_each g n ws [] locks t table held waits is = tt
-give_each g n ws (l ∷ ls) locks t table held waits is =
-    let value : List ℕ = raised_block (raise_of g l.0 ws) (resource_at l.0 t) in
-    let u : List Resource = released l.0 (system_of n) value t in
-    let one = giving_holds t n l ls value locks table held waits is in
-    let here : with_locks locks n ls n ≡ ls = grind (arith, nat_tests) in (
-      may_give t n l ls (subst (λ (xs : List (LockName × Mode)). HoldsItsLocks t n xs) is (held n)) (subst (λ (xs : List (LockName × Mode)). waits_at t n xs ≡ false) is waits),
-      give_each g n ws ls (with_locks locks n ls) u (IsTable-released l.0 (system_of n) value t table) one.held (subst (λ (xs : List (LockName × Mode)). waits_at u n xs ≡ false) (sym here) one.waits) here,
-    )
+may_each : (g : Geometry) (n : ℕ) (ws : List PlanWrite) (ls : Row) (t : List Resource) → MayGiveNamed n (λ name u. raised_block (raise_of g name ws) (resource_at name u)) (names_of ls) t → MayGiveAll g n ws ls t
+may_each g n ws [] t may = tt
+may_each g n ws (l ∷ ls) t may = (may.0, may_each g n ws ls (released l.0 (system_of n) (raised_block (raise_of g l.0 ws) (resource_at l.0 t)) t) may.1)
 
 -- ---- a node's answers are fewer than its lines
 
@@ -207,17 +204,17 @@ going_is t n false (Some b) a e = by_goes (would_go t n b) refl e where
   by_goes false is f = absurd (let g : None ≡ Some a = f in cc)
 
 -- where none goes on, the command ends as by an answer
-ends : (w : Plain) (n : ℕ) (s : NodeState) (x : Cmd) (r : Reply) (tried : Bool) (ask : Option PlanAsk) → going_ask w.locks n tried ask ≡ None → happens w n s (by_end x r tried ask) ≡ happens w n s (Answer x (reply_by ask tried r))
+ends : (w : Plain) (n : ℕ) (s : NodeState) (x : Cmd) (r : Reply) (tried : Bool) (ask : Option PlanAsk) → going_ask w.locks n tried ask ≡ None → happens w n s (by_end x r tried ask) ≡ happens w n s (event.Answer x (reply_by ask tried r))
 ends w n s x r tried None none = refl
 ends w n s x r true (Some a) none = refl
-ends w n s x r false (Some a) none = ap (tried_by w n s x a) (refused (would_go w.locks n a) none) where
+ends w n s x r false (Some a) none = ap (asked_by w n s x a) (refused (would_go w.locks n a) none) where
   refused : (g : Bool) → cond g (Some a) None ≡ None → g ≡ false
   refused true e = absurd (let f : Some a ≡ None = e in cc)
   refused false e = refl
 
 -- ---- the node
 
-module _ (w : Plain) (good : Good w) (n : ℕ) (r : IsReady w n) where
+module _ {w : Plain} (good : Good w) {n : ℕ} (r : IsReady w n) where
   abbrev s : NodeState
   s = r.state
 
@@ -237,79 +234,102 @@ module _ (w : Plain) (good : Good w) (n : ℕ) (r : IsReady w n) where
     on = seen_on w good n s r.at r.cmd r.has r.free;
   }
 
-  pub event_is : command_event w n ≡ by_plan r.cmd s s.plan
-  event_is = ap command_event_of r.at ∙ ap (by_begun s) r.has
+  -- it goes on, and prepares nothing for it
+  pub event_is : Makes w n (by_plan r.cmd s s.plan)
+  event_is = record {
+    event = ap (λ v. event_now v n) stays ∙ ap (event_of w n) r.at ∙ (λ i. cond (r.on i) event.Rest (cond (r.free i) event.Stand (by_command s (r.has i))));
+    stays = stays;
+  } where
+    stays : readied w n ≡ w
+    stays = readied_same w n s r.at (has_prepared w n s r.cmd r.has)
 
   pub has_plan : (o : Option Plan) → plan_at w n ≡ o → s.plan ≡ o
   has_plan o e = sym (ap plan_in r.at) ∙ e
 
-  pub event_need : plan_at w n ≡ None → (next : Need) → need_of r.cmd s.seen ≡ next → command_event w n ≡ by_need r.cmd s next
-  event_need none next e = event_is ∙ ap (by_plan r.cmd s) (has_plan None none) ∙ ap (by_need r.cmd s) e
+  pub event_need : plan_at w n ≡ None → (next : Need) → need_of r.cmd s.seen ≡ next → Makes w n (by_need s next)
+  event_need none next e = makes_as event_is (ap (by_plan r.cmd s) (has_plan None none) ∙ ap (by_need s) e)
 
-  pub event_write : (p : Plan) → s.plan ≡ Some p → (o : Option PlanWrite) → slice_get (writes_by p.ask s.tried p.writes) s.done ≡ o → command_event w n ≡ by_write r.cmd p s.tried o
-  event_write p plan o e = event_is ∙ ap (by_plan r.cmd s) plan ∙ ap (by_write r.cmd p s.tried) e
+  pub event_write : (p : Plan) → s.plan ≡ Some p → (o : Option PlanWrite) → slice_get (writes_by p.ask s.tried p.writes) s.done ≡ o → Makes w n (by_write r.cmd p s.tried o)
+  event_write p plan o e = makes_as event_is (ap (by_plan r.cmd s) plan ∙ ap (by_write r.cmd p s.tried) e)
 
   -- where its ask would be granted, it makes it
-  pub event_try : (p : Plan) → s.plan ≡ Some p → slice_get (writes_by p.ask s.tried p.writes) s.done ≡ None → (a : PlanAsk) → going_ask w.locks n s.tried p.ask ≡ Some a → command_event w n ≡ Try r.cmd a
-  event_try p plan last a going = let i = going_is w.locks n s.tried p.ask a going in event_write p plan None last ∙ (λ k. by_end r.cmd p.reply (i.not_yet k) (i.is k))
+  pub event_ask : (p : Plan) → s.plan ≡ Some p → slice_get (writes_by p.ask s.tried p.writes) s.done ≡ None → (a : PlanAsk) → going_ask w.locks n s.tried p.ask ≡ Some a → Makes w n (event.Ask r.cmd a)
+  event_ask p plan last a going = let i = going_is w.locks n s.tried p.ask a going in makes_as (event_write p plan None last) (λ k. by_end r.cmd p.reply (i.not_yet k) (i.is k))
 
   -- and else it ends as an answer does
-  pub event_ends : (p : Plan) → s.plan ≡ Some p → slice_get (writes_by p.ask s.tried p.writes) s.done ≡ None → going_ask w.locks n s.tried p.ask ≡ None
-      → happen w n (command_event w n) ≡ happen w n (Answer r.cmd (reply_by p.ask s.tried p.reply))
-  event_ends p plan last none =
-      ap (happen w n) (event_write p plan None last) ∙ sym (happen_here w n s (by_end r.cmd p.reply s.tried p.ask) r.at) ∙ ends w n s r.cmd p.reply s.tried p.ask none
-      ∙ happen_here w n s (Answer r.cmd (reply_by p.ask s.tried p.reply)) r.at
+  pub ends_as : (p : Plan) → going_ask w.locks n s.tried p.ask ≡ None → happen w n (by_end r.cmd p.reply s.tried p.ask) ≡ happen w n (event.Answer r.cmd (reply_by p.ask s.tried p.reply))
+  ends_as p none = sym (happen_here w n s (by_end r.cmd p.reply s.tried p.ask) r.at) ∙ ends w n s r.cmd p.reply s.tried p.ask none ∙ happen_here w n s (event.Answer r.cmd (reply_by p.ask s.tried p.reply)) r.at
 
   -- which is what it tells
-  pub ends_told : (p : Plan) → s.plan ≡ Some p → slice_get (writes_by p.ask s.tried p.writes) s.done ≡ None → (a : Reply) → (new : Plain) → new ≡ happen w n (Answer r.cmd a) → told new n (command_event w n) ≡ turn.Answered
-  ends_told p plan last a new is =
-      let gone : command_at new n ≡ None = ap (λ v. command_at v n) (is ∙ sym (happen_here w n s (Answer r.cmd a) r.at)) ∙ ap command_in (at_here w.nodes n (turned (answering s r.cmd a)) s r.at) in
-      ap (told new n) (event_write p plan None last) ∙ by_end_told new gone s.tried p.ask where
-        by_end_told : (v : Plain) → command_at v n ≡ None → (b : Bool) (o : Option PlanAsk) → told v n (by_end r.cmd p.reply b o) ≡ turn.Answered
-        by_end_told v gone b None = refl
-        by_end_told v gone true (Some q) = refl
-        by_end_told v gone false (Some q) = ap (λ o. cond (is_some o) (turn.Moved kind.Tried) turn.Answered) gone
+  pub ends_told : (p : Plan) (a : Reply) (new : Plain) → new ≡ happen w n (event.Answer r.cmd a) → told new n (by_end r.cmd p.reply s.tried p.ask) ≡ turn.Answered
+  ends_told p a new is = by_end_told s.tried p.ask where
+    gone : command_at new n ≡ None
+    gone = ap (λ v. command_at v n) (is ∙ sym (happen_here w n s (event.Answer r.cmd a) r.at)) ∙ ap command_in (at_here w.nodes n (turned (answering s r.cmd a)) s r.at)
+
+    by_end_told : (b : Bool) (o : Option PlanAsk) → told new n (by_end r.cmd p.reply b o) ≡ turn.Answered
+    by_end_told b None = refl
+    by_end_told true (Some q) = refl
+    by_end_told false (Some q) = ap (λ o. cond (is_some o) (turn.Moved kind.Tried) turn.Answered) gone
 
   -- the ask may be made
-  pub may_try : (p : Plan) → s.plan ≡ Some p → (a : PlanAsk) → going_ask w.locks n s.tried p.ask ≡ Some a → standing_of (system_of n) (resource_at (A a.file) w.locks).askers ≡ None
-  may_try p plan a going = let i = going_is w.locks n s.tried p.ask a going in nobody_asks w good n s r.at r.cmd r.has r.free p plan a i.is i.not_yet n
+  pub may_ask : (p : Plan) → s.plan ≡ Some p → (a : PlanAsk) → going_ask w.locks n s.tried p.ask ≡ Some a → standing_of (system_of n) (resource_at (A a.file) w.locks).askers ≡ None
+  may_ask p plan a going = let i = going_is w.locks n s.tried p.ask a going in nobody_asks w good n s r.at r.cmd r.has r.free p plan a i.is i.not_yet n
+
+  has_rows : HoldsItsLocks w.locks n (rows_of s)
+  has_rows = subst (λ (rs : List Row). HoldsItsLocks w.locks n rs) (ap rows_in r.at) (good.locked.1 n)
 
   -- a lock on a name that it has none on can be asked for
-  may_ask : (name : LockName) → (Has (names_of s.asked) name → ⊥) → standing_of (system_of n) (resource_at name w.locks).askers ≡ None
-  may_ask name new = (subst (λ (ls : List (LockName × Mode)). HoldsItsLocks w.locks n ls) (ap locks_in r.at) (good.locked.1 n)).no_other name new
+  may_request : (name : LockName) → (Has (names_of s.asked) name → ⊥) → standing_of (system_of n) (resource_at name w.locks).askers ≡ None
+  may_request name new = has_rows.no_other name (λ h. new (asked_alone s node.store name h))
 
   -- and it stands in a queue where it was not granted at once
   waits_more : (name : LockName) (mode : Mode) → (Has (names_of s.asked) name → ⊥)
       → waits_at (asked name (system_of n) mode w.locks) n (s.asked ++ (name, mode) ∷ []) ≡ not (goes_at_once (system_of n) mode (resource_at name w.locks).askers)
-  waits_more name mode new =
-      let mine : locks_of w.nodes n ≡ s.asked = ap locks_in r.at in
-      let after = asking_holds w.locks n (name, mode) (locks_of w.nodes) good.locked.1
-      (subst (λ (ls : List (LockName × Mode)). waits_at w.locks n ls ≡ false) (sym mine) r.free)
-      (λ h. new (subst (λ (ls : List (LockName × Mode)). Has (names_of ls) name) mine h)) in
-      subst (λ (ls : List (LockName × Mode)). waits_at (asked name (system_of n) mode w.locks) n (ls ++ (name, mode) ∷ []) ≡ not (goes_at_once (system_of n) mode (resource_at name w.locks).askers)) mine after.waits
+  waits_more name mode new = asks_wait w good n s r.at r.cmd r.has r.free name mode new
 
   -- so it is of a lock that is needed
   new_lock : plan_at w n ≡ None → (name : LockName) (mode : Mode) → IsNext r.cmd s.seen (need.Lock name mode) → Has (names_of s.asked) name → ⊥
   new_lock none name mode is =
       let may = may_need w good n s r.at r.cmd r.has r.free (need.Lock name mode) is in
-      new_to_all w.locks n r.cmd s.asked s.search s.seen (search_now w good n s r.at r.cmd r.has r.free (has_plan None none)) name may.own may.new
+      new_to_all w.locks n r.cmd s.asked s.run s.seen (search_now w good n s r.at r.cmd r.has r.free (has_plan None none)) name may.own may.new
 
   pub may_lock : plan_at w n ≡ None → (name : LockName) (mode : Mode) → IsNext r.cmd s.seen (need.Lock name mode) → standing_of (system_of n) (resource_at name w.locks).askers ≡ None
-  may_lock none name mode is = may_ask name (new_lock none name mode is)
+  may_lock none name mode is = may_request name (new_lock none name mode is)
 
-  pub asked_waits : plan_at w n ≡ None → (name : LockName) (mode : Mode) → IsNext r.cmd s.seen (need.Lock name mode)
+  pub lock_waits : plan_at w n ≡ None → (name : LockName) (mode : Mode) → IsNext r.cmd s.seen (need.Lock name mode)
       → waits_at (asked name (system_of n) mode w.locks) n (s.asked ++ (name, mode) ∷ []) ≡ not (goes_at_once (system_of n) mode (resource_at name w.locks).askers)
-  asked_waits none name mode is = waits_more name mode (new_lock none name mode is)
+  lock_waits none name mode is = waits_more name mode (new_lock none name mode is)
 
   -- and of the lock of the bitmaps, where a search begins
-  new_claim : plan_at w n ≡ None → has_asked V s.asked ≡ false → Has (names_of s.asked) V → ⊥
-  new_claim no_plan none = (asks_once w.locks n r.cmd s.asked s.search s.seen (search_now w good n s r.at r.cmd r.has r.free (has_plan None no_plan)) none).1
+  new_space_lock : plan_at w n ≡ None → has_asked V s.asked ≡ false → Has (names_of s.asked) V → ⊥
+  new_space_lock no_plan none = (asks_once w.locks n r.cmd s.asked s.run s.seen (search_now w good n s r.at r.cmd r.has r.free (has_plan None no_plan)) none).1
 
-  pub may_claim : plan_at w n ≡ None → has_asked V s.asked ≡ false → standing_of (system_of n) (resource_at V w.locks).askers ≡ None
-  may_claim no_plan none = may_ask V (new_claim no_plan none)
+  pub may_lock_space : plan_at w n ≡ None → has_asked V s.asked ≡ false → standing_of (system_of n) (resource_at V w.locks).askers ≡ None
+  may_lock_space no_plan none = may_request V (new_space_lock no_plan none)
 
-  pub claim_waits : plan_at w n ≡ None → has_asked V s.asked ≡ false → waits_at (asked V (system_of n) PW w.locks) n (s.asked ++ (V, PW) ∷ []) ≡ not (goes_at_once (system_of n) PW (resource_at V w.locks).askers)
-  claim_waits no_plan none = waits_more V PW (new_claim no_plan none)
+  pub space_lock_waits : plan_at w n ≡ None → has_asked V s.asked ≡ false → waits_at (asked V (system_of n) PW w.locks) n (s.asked ++ (V, PW) ∷ []) ≡ not (goes_at_once (system_of n) PW (resource_at V w.locks).askers)
+  space_lock_waits no_plan none = waits_more V PW (new_space_lock no_plan none)
+
+  -- it has not asked for that lock yet
+  apart : (name : LockName) → (Has (names_of s.asked) name → ⊥) → (q : NodeState) → node_at w.nodes n ≡ Some q → has_asked name q.asked ≡ false
+  apart name new q at =
+      let f : Some s ≡ Some q = sym r.at ∙ at in
+      let h : s ≡ q = cc in
+      subst (λ (y : NodeState). has_asked name y.asked ≡ false) h (unnamed s.asked name new)
+
+  pub lock_apart : plan_at w n ≡ None → (name : LockName) (mode : Mode) → IsNext r.cmd s.seen (need.Lock name mode) → (q : NodeState) → node_at w.nodes n ≡ Some q → (has_asked name q.asked ≡ false) × (has_asked name q.seen.locks ≡ false)
+  lock_apart none name mode is q at =
+      let may = may_need w good n s r.at r.cmd r.has r.free (need.Lock name mode) is in
+      let f : Some s ≡ Some q = sym r.at ∙ at in
+      let h : s ≡ q = cc in
+      (apart name (new_lock none name mode is) q at, subst (λ (y : NodeState). has_asked name y.seen.locks ≡ false) h (unnamed s.seen.locks name may.new))
+
+  pub space_lock_apart : plan_at w n ≡ None → has_asked V s.asked ≡ false → (q : NodeState) → node_at w.nodes n ≡ Some q → has_asked V q.asked ≡ false
+  space_lock_apart no_plan none q at = apart V (new_space_lock no_plan none) q at
+
+  pub ask_apart : (file : ℕ) → standing_of (system_of n) (resource_at (A file) w.locks).askers ≡ None → (q : NodeState) → node_at w.nodes n ≡ Some q → has_asked (A file) q.asked ≡ false
+  ask_apart file none q at =
+      apart (A file) (stands_nowhere w.locks n s.asked (A file) (order-of w.locks n (rows_of s) s.asked has_rows.in_order (has_asked_row s)) none) q at
 
   within : (lbn : ℕ) → lbn < length (drive w good n s r.at r.cmd r.has r.free).base → lbn < length w.blocks
   within lbn lt = subst (λ (k : ℕ). lbn < k) (sym (drive w good n s r.at r.cmd r.has r.free).over.count) lt
@@ -325,73 +345,68 @@ module _ (w : Plain) (good : Good w) (n : ℕ) (r : IsReady w n) where
   has_geometry = (drive w good n s r.at r.cmd r.has r.free).spelt.counts.geometry
 
   -- a search that has writes to make makes the next one
-  pub event_grab : plan_at w n ≡ None → (v : PlanWrite) → slice_get s.search.takes s.search.taken ≡ Some v → command_event w n ≡ Grab v
-  event_grab none v next =
-      let h = is_taking w good n s r.at r.cmd r.has r.free (has_plan None none) (slice_get_within s.search.takes s.search.taken v next) in
-      event_need none (need.Space (wanted_by r.cmd s.seen) (wants_number r.cmd)) h.needs.next
-      ∙ ap (by_search r.cmd s (wanted_by r.cmd s.seen) (wants_number r.cmd)) (claim_asks r.cmd s.asked s.search s.seen h.found.claimed)
-      ∙ ap (by_takes r.cmd s (wanted_by r.cmd s.seen) (wants_number r.cmd)) next
+  pub event_space_write : plan_at w n ≡ None → (v : PlanWrite) → slice_get s.run.writes s.run.made ≡ Some v → Makes w n (event.SpaceWrite v)
+  event_space_write none v next =
+      let h = is_taking w good n s r.at r.cmd r.has r.free (has_plan None none) (slice_get_within s.run.writes s.run.made v next) in
+      makes_as (event_need none (need.Space (wanted_by r.cmd s.seen) (wants_number r.cmd)) h.needs.next)
+      (ap (by_search s (wanted_by r.cmd s.seen) (wants_number r.cmd)) (claim_asks r.cmd s.asked s.run s.seen h.found.claimed) ∙ ap (by_writes s (wanted_by r.cmd s.seen) (wants_number r.cmd)) next)
 
-  pub grab_within : plan_at w n ≡ None → (v : PlanWrite) → slice_get s.search.takes s.search.taken ≡ Some v → v.lbn < length w.blocks
-  grab_within none v next =
-      let lt = slice_get_within s.search.takes s.search.taken v next in
+  pub space_write_within : plan_at w n ≡ None → (v : PlanWrite) → slice_get s.run.writes s.run.made ≡ Some v → v.lbn < length w.blocks
+  space_write_within none v next =
+      let lt = slice_get_within s.run.writes s.run.made v next in
       let h = is_taking w good n s r.at r.cmd r.has r.free (has_plan None none) lt in
       slice_get_within w.blocks v.lbn _ (there_now w good n s r.at r.cmd r.has r.free (has_plan None none) h v next)
 
   -- a search begins with the lock of the bitmaps, and then looks
-  pub event_claim : plan_at w n ≡ None → (k : ℕ) (b : Bool) → IsNext r.cmd s.seen (need.Space k b) → has_asked V s.asked ≡ false → command_event w n ≡ Claim r.cmd
-  event_claim none k b is asks = event_need none (need.Space k b) is ∙ ap (by_search r.cmd s k b) asks
+  pub event_space_lock : plan_at w n ≡ None → (k : ℕ) (b : Bool) → IsNext r.cmd s.seen (need.Space k b) → has_asked V s.asked ≡ false → Makes w n event.SpaceLock
+  event_space_lock none k b is asks = makes_as (event_need none (need.Space k b) is) (ap (by_search s k b) asks)
 
-  pub event_scan : plan_at w n ≡ None → (k : ℕ) (b : Bool) → IsNext r.cmd s.seen (need.Space k b) → has_asked V s.asked ≡ true → length s.search.takes ≤ s.search.taken → (lbn : ℕ) → answer s.seen.geometry k b (blocks_of s.search.looked) ≡ search.Look lbn
-      → command_event w n ≡ Scan r.cmd k b lbn
-  event_scan none k b is asks over lbn e =
-      event_need none (need.Space k b) is ∙ ap (by_search r.cmd s k b) asks ∙ ap (by_takes r.cmd s k b) (none_left s.search.takes s.search.taken over) ∙ ap (by_answer r.cmd k b) e where
+  pub event_space_look : plan_at w n ≡ None → (k : ℕ) (b : Bool) → IsNext r.cmd s.seen (need.Space k b) → has_asked V s.asked ≡ true → length s.run.writes ≤ s.run.made → (lbn : ℕ) → answer s.seen.geometry k b (blocks_of s.run.looked) ≡ search.Look lbn
+      → Makes w n (event.SpaceLook k b lbn)
+  event_space_look none k b is asks over lbn e =
+      makes_as (event_need none (need.Space k b) is) (ap (by_search s k b) asks ∙ ap (by_writes s k b) (none_left s.run.writes s.run.made over) ∙ ap (by_answer k b) e) where
         none_left : (ws : List PlanWrite) (k : ℕ) → length ws ≤ k → slice_get ws k ≡ None
         none_left [] k le = refl
         none_left (y ∷ ws) zero le = absurd (omega arith)
         none_left (y ∷ ws) (suc k) le = none_left ws k (omega arith)
 
-  pub scans_within : plan_at w n ≡ None → (k : ℕ) (b : Bool) (lbn : ℕ) → answer s.seen.geometry k b (blocks_of s.search.looked) ≡ search.Look lbn → lbn < length w.blocks
-  scans_within none k b lbn e = scan_within w good n s r.at r.cmd r.has r.free (has_plan None none) k b lbn e
+  pub space_looks_within : plan_at w n ≡ None → (k : ℕ) (b : Bool) (lbn : ℕ) → answer s.seen.geometry k b (blocks_of s.run.looked) ≡ search.Look lbn → lbn < length w.blocks
+  space_looks_within none k b lbn e = space_look_within w good n s r.at r.cmd r.has r.free (has_plan None none) k b lbn e
 
   -- what it searches for its command needs
-  pub searches_now : plan_at w n ≡ None → length s.search.takes ≤ s.search.taken → (k : ℕ) (b : Bool) → IsSearching s r.cmd k b → IsNext r.cmd s.seen (need.Space k b)
+  pub searches_now : plan_at w n ≡ None → length s.run.writes ≤ s.run.made → (k : ℕ) (b : Bool) → IsSearching s r.cmd k b → IsNext r.cmd s.seen (need.Space k b)
   searches_now none over k b h =
       let wants = h.wants in
       let some = λ (z : (wanted_by r.cmd s.seen ≡ 0) × (wants_number r.cmd ≡ false)). wants.some (sym wants.clusters_are ∙ z.0, sym wants.number_is ∙ z.1) in
       let looks = still_looking w good n s r.at r.cmd r.has r.free (has_plan None none) wants.takes h.none some h.asked over in
       looks.needs.next ∙ (λ i. need.Space (wants.clusters_are i) (wants.number_is i))
 
-  pub comes_to : plan_at w n ≡ None → (k : ℕ) (b : Bool) → IsNext r.cmd s.seen (need.Space k b) → has_asked V s.asked ≡ true → length s.search.takes ≤ s.search.taken → (o : Outcome) → o ≡ answer s.seen.geometry k b (blocks_of s.search.looked)
+  pub comes_to : plan_at w n ≡ None → (k : ℕ) (b : Bool) → IsNext r.cmd s.seen (need.Space k b) → has_asked V s.asked ≡ true → length s.run.writes ≤ s.run.made → (o : Outcome) → o ≡ answer s.seen.geometry k b (blocks_of s.run.looked)
       → (lbn : ℕ) × (o ≡ search.Look lbn)
   comes_to none k b is asks over o e = looks_on w good n s r.at r.cmd r.has r.free (has_plan None none) k b is asks over o e
 
   -- before it has a plan each of its events may take memory
-  pub takes_some : plan_at w n ≡ None → takes_none w.locks n (command_event w n) ≡ false
-  takes_some none = ap (takes_none w.locks n) (event_need none (need_of r.cmd s.seen) refl) ∙ by_next (need_of r.cmd s.seen) refl where
-    over_none : (ws : List PlanWrite) (k : ℕ) → slice_get ws k ≡ None → length ws ≤ k
-    over_none [] k e = omega arith
-    over_none (y ∷ ws) zero e = absurd (let f : Some y ≡ None = e in cc)
-    over_none (y ∷ ws) (suc k) e = let le = over_none ws k e in omega arith
+  pub takes_some : plan_at w n ≡ None → takes_none w.locks n (next_event w n) ≡ false
+  takes_some none = ap (takes_none w.locks n) (event_need none (need_of r.cmd s.seen) refl).event ∙ by_next (need_of r.cmd s.seen) where
+    by_outcome : (k : ℕ) (b : Bool) (o : Outcome) → takes_none w.locks n (by_answer k b o) ≡ false
+    by_outcome k b (search.Look lbn) = refl
+    by_outcome k b (search.Short why) = refl
+    by_outcome k b (search.Take ws) = refl
 
-    -- a search looks on
-    by_outcome : (k : ℕ) (b : Bool) (o : Outcome) → (lbn : ℕ) × (o ≡ search.Look lbn) → takes_none w.locks n (by_answer r.cmd k b o) ≡ false
-    by_outcome k b o looks = ap (λ q. takes_none w.locks n (by_answer r.cmd k b q)) looks.1
+    by_left : (k : ℕ) (b : Bool) (o : Option PlanWrite) → takes_none w.locks n (by_writes s k b o) ≡ false
+    by_left k b (Some v) = refl
+    by_left k b None = by_outcome k b (answer s.seen.geometry k b (blocks_of s.run.looked))
 
-    by_left : (k : ℕ) (b : Bool) → IsNext r.cmd s.seen (need.Space k b) → has_asked V s.asked ≡ true → (o : Option PlanWrite) → slice_get s.search.takes s.search.taken ≡ o → takes_none w.locks n (by_takes r.cmd s k b o) ≡ false
-    by_left k b is asks (Some v) next = refl
-    by_left k b is asks None next = by_outcome k b (answer s.seen.geometry k b (blocks_of s.search.looked)) (comes_to none k b is asks (over_none s.search.takes s.search.taken next) _ refl)
+    by_asked : (k : ℕ) (b : Bool) (t : Bool) → takes_none w.locks n (by_search s k b t) ≡ false
+    by_asked k b false = refl
+    by_asked k b true = by_left k b (slice_get s.run.writes s.run.made)
 
-    by_asked : (k : ℕ) (b : Bool) → IsNext r.cmd s.seen (need.Space k b) → (t : Bool) → has_asked V s.asked ≡ t → takes_none w.locks n (by_search r.cmd s k b t) ≡ false
-    by_asked k b is false asks = refl
-    by_asked k b is true asks = by_left k b is asks (slice_get s.search.takes s.search.taken) refl
-
-    by_next : (next : Need) → need_of r.cmd s.seen ≡ next → takes_none w.locks n (by_need r.cmd s next) ≡ false
-    by_next (need.Lock name mode) e = refl
-    by_next (need.Block name lbn) e = refl
-    by_next (need.Bare lbn) e = refl
-    by_next (need.Space k b) e = by_asked k b e (has_asked V s.asked) refl
-    by_next (need.Ready p) e = refl
+    by_next : (next : Need) → takes_none w.locks n (by_need s next) ≡ false
+    by_next (need.Lock name mode) = refl
+    by_next (need.Block name lbn) = refl
+    by_next (need.Bare lbn) = refl
+    by_next (need.Space k b) = by_asked k b (has_asked V s.asked)
+    by_next (need.Ready p) = refl
 
   -- the next write is to a block of the volume
   pub write_within : (p : Plan) → s.plan ≡ Some p → (v : PlanWrite) → slice_get (writes_by p.ask s.tried p.writes) s.done ≡ Some v → v.lbn < length w.blocks
@@ -408,14 +423,15 @@ module _ (w : Plain) (good : Good w) (n : ℕ) (r : IsReady w n) where
     cmd = ap is_some r.has;
     plan = ap is_some plan;
     few = (let a = answered in let b = few_lines n w.script.lines in omega arith);
-    gives = give_each w.geometry n (all_writes s) s.asked (locks_of w.nodes) w.locks good.locked.0 good.locked.1
-        (subst (λ (ls : List (LockName × Mode)). waits_at w.locks n ls ≡ false) (sym (ap locks_in r.at)) r.free) (ap locks_in r.at);
+    gives = may_each w.geometry n (all_writes s) s.asked w.locks
+        (sweeping_holds (λ name u. raised_block (raise_of w.geometry name (all_writes s)) (resource_at name u)) w.locks n 1 s.asked (names_of s.asked) (rows_of s) (rows_at w.nodes) good.locked.0 good.locked.1 (ap rows_in r.at) refl r.free
+        (asked_once s node.store has_rows.once) (λ name h. h)).0;
   } where
     next : or_close s.past (slice_get (lines_of n w.script.lines) s.past.answered) ≡ Some r.cmd
     next = ap (command_after w.script n) node.past ∙ is_at.next
 
     answered : s.past.answered < length (lines_of n w.script.lines)
-    answered = there_within (lines_of n w.script.lines) s.past.answered (no_close n s.past (slice_get (lines_of n w.script.lines) s.past.answered) r.cmd node.closed next)
+    answered = there_within (lines_of n w.script.lines) s.past.answered (no_close n s.past (slice_get (lines_of n w.script.lines) s.past.answered) r.cmd (all_closed s.past s.opens node.channels) next)
 
 -- ---- what its turn leaves
 
@@ -425,7 +441,7 @@ same_room a b k le = omega arith
 from_counts : (d a b x y : ℕ) → d + a ≡ b + x → b + x ≤ y + a → d ≤ y
 from_counts d a b x y e le = omega arith
 
-module _ (w : Plain) (good : Good w) (n : ℕ) (r : IsReady w n) where
+module _ {w : Plain} (good : Good w) {n : ℕ} (r : IsReady w n) where
   abbrev me : NodeState
   me = r.state
 
@@ -443,65 +459,75 @@ module _ (w : Plain) (good : Good w) (n : ℕ) (r : IsReady w n) where
     places = subst (λ (ns : List NodeState). decided ns ≤ spare') (sym nodes) (from_counts (decided (set_node w.nodes n q)) (weight me) (decided w.nodes) (weight q) spare' (decided_set w.nodes n me q r.at) le);
   })
 
-  pub ask_room : (x : Cmd) (name : LockName) (mode : Mode) (spare : ℕ) → HasRoom w spare → (new : Plain) → new ≡ happen w n (Ask x name mode) → HasRoom new spare
-  ask_room x name mode spare room new is = room_after (Ask x name mode) (turned (asking me x name mode)) spare spare refl refl (same_room (decided w.nodes) spare (weight me) room.places) room new is
+  pub lock_room : (name : LockName) (mode : Mode) (spare : ℕ) → HasRoom w spare → (new : Plain) → new ≡ happen w n (event.Lock name mode) → HasRoom new spare
+  lock_room name mode spare room new is = room_after (event.Lock name mode) (turned (locking me name mode)) spare spare refl refl (same_room (decided w.nodes) spare (weight me) room.places) room new is
 
-  pub claim_room : (x : Cmd) (spare : ℕ) → HasRoom w spare → (new : Plain) → new ≡ happen w n (Claim x) → HasRoom new spare
-  claim_room x spare room new is = room_after (Claim x) (turned (claiming me x)) spare spare refl refl (same_room (decided w.nodes) spare (weight me) room.places) room new is
+  pub space_lock_room : (spare : ℕ) → HasRoom w spare → (new : Plain) → new ≡ happen w n event.SpaceLock → HasRoom new spare
+  space_lock_room spare room new is = room_after event.SpaceLock (turned (space_locking me)) spare spare refl refl (same_room (decided w.nodes) spare (weight me) room.places) room new is
 
-  pub scan_room : (x : Cmd) (k : ℕ) (b : Bool) (lbn : ℕ) (spare : ℕ) → HasRoom w spare → (new : Plain) → new ≡ happen w n (Scan x k b lbn) → HasRoom new spare
-  scan_room x k b lbn spare room new is = room_after (Scan x k b lbn) (turned (scanning me x k b lbn (block_at w.blocks lbn))) spare spare refl refl (same_room (decided w.nodes) spare (weight me) room.places) room new is
+  pub space_look_room : (k : ℕ) (b : Bool) (lbn : ℕ) (spare : ℕ) → HasRoom w spare → (new : Plain) → new ≡ happen w n (event.SpaceLook k b lbn) → HasRoom new spare
+  space_look_room k b lbn spare room new is = room_after (event.SpaceLook k b lbn) (turned (space_looking me k b lbn (block_at w.blocks lbn))) spare spare refl refl (same_room (decided w.nodes) spare (weight me) room.places) room new is
 
-  pub grab_room : (v : PlanWrite) (spare : ℕ) → HasRoom w spare → (new : Plain) → new ≡ happen w n (Grab v) → HasRoom new spare
-  grab_room v spare room new is = room_after (Grab v) (turned (grabbing me v)) spare spare refl refl (same_room (decided w.nodes) spare (weight me) room.places) room new is
+  pub space_write_room : (v : PlanWrite) (spare : ℕ) → HasRoom w spare → (new : Plain) → new ≡ happen w n (event.SpaceWrite v) → HasRoom new spare
+  space_write_room v spare room new is = room_after (event.SpaceWrite v) (turned (space_writing me v)) spare spare refl refl (same_room (decided w.nodes) spare (weight me) room.places) room new is
 
-  pub see_room : (x : Cmd) (lbn : ℕ) (spare : ℕ) → HasRoom w spare → (new : Plain) → new ≡ happen w n (See x lbn) → HasRoom new spare
-  see_room x lbn spare room new is = room_after (See x lbn) (turned (looking me x lbn (block_at w.blocks lbn))) spare spare refl refl (same_room (decided w.nodes) spare (weight me) room.places) room new is
+  pub look_room : (lbn : ℕ) (spare : ℕ) → HasRoom w spare → (new : Plain) → new ≡ happen w n (event.Look lbn) → HasRoom new spare
+  look_room lbn spare room new is = room_after (event.Look lbn) (turned (looking me lbn (block_at w.blocks lbn))) spare spare refl refl (same_room (decided w.nodes) spare (weight me) room.places) room new is
 
-  pub put_room : (v : PlanWrite) (spare : ℕ) → HasRoom w spare → (new : Plain) → new ≡ happen w n (Put v) → HasRoom new spare
-  put_room v spare room new is = room_after (Put v) (turned (writing me)) spare spare refl refl (same_room (decided w.nodes) spare (weight me) room.places) room new is
+  pub fetch_room : (lbn : ℕ) (spare : ℕ) → HasRoom w spare → (new : Plain) → new ≡ happen w n (event.Fetch lbn) → HasRoom new spare
+  fetch_room lbn spare room new is = room_after (event.Fetch lbn) (turned (looking me lbn (block_at w.blocks lbn))) spare spare refl refl (same_room (decided w.nodes) spare (weight me) room.places) room new is
 
-  pub decide_room : (x : Cmd) (p : Plan) (spare spare' : ℕ) → me.plan ≡ None → 8 ≤ spare' → HasRoom w spare → (new : Plain) → new ≡ happen w n (Decide x p) → HasRoom new spare'
-  decide_room x p spare spare' none wide room new is = subst (λ (v : Plain). HasRoom v spare') (sym (is ∙ sym (happen_here w n me (Decide x p) r.at))) (record {
-    few = subst (λ (k : ℕ). k ≤ 8) (sym (length_node w.nodes n (turned (deciding me x p)))) room.few;
+  pub write_room : (v : PlanWrite) (spare : ℕ) → HasRoom w spare → (new : Plain) → new ≡ happen w n (event.Write v) → HasRoom new spare
+  write_room v spare room new is = room_after (event.Write v) (turned (writing me)) spare spare refl refl (same_room (decided w.nodes) spare (weight me) room.places) room new is
+
+  pub plan_room : (p : Plan) (spare spare' : ℕ) → me.plan ≡ None → 8 ≤ spare' → HasRoom w spare → (new : Plain) → new ≡ happen w n (event.Plan p) → HasRoom new spare'
+  plan_room p spare spare' none wide room new is = subst (λ (v : Plain). HasRoom v spare') (sym (is ∙ sym (happen_here w n me (event.Plan p) r.at))) (record {
+    few = subst (λ (k : ℕ). k ≤ 8) (sym (length_node w.nodes n (turned (planning me p)))) room.few;
     lines = room.lines;
-    places = (let a = decided_few (set_node w.nodes n (turned (deciding me x p))) in let b = length_node w.nodes n (turned (deciding me x p)) in let few = room.few in omega arith);
+    places = (let a = decided_few (set_node w.nodes n (turned (planning me p))) in let b = length_node w.nodes n (turned (planning me p)) in let few = room.few in omega arith);
   })
 
-  pub answer_room : (x : Cmd) (a : Reply) (spare spare' : ℕ) → is_some me.plan ≡ true → spare' + 1 ≡ spare → HasRoom w spare → (new : Plain) → new ≡ happen w n (Answer x a) → HasRoom new spare'
-  answer_room x a spare spare' made less room new is = room_after (Answer x a) (turned (answering me x a)) spare spare' refl refl
+  pub answer_room : (x : Cmd) (a : Reply) (spare spare' : ℕ) → is_some me.plan ≡ true → spare' + 1 ≡ spare → HasRoom w spare → (new : Plain) → new ≡ happen w n (event.Answer x a) → HasRoom new spare'
+  answer_room x a spare spare' made less room new is = room_after (event.Answer x a) (turned (answering me x a)) spare spare' refl refl
       (subst (λ (t : Bool). decided w.nodes + 0 ≤ spare' + cond t 1 0) (sym made) (answered_counts (decided w.nodes) spare spare' less room.places)) room new is where
         answered_counts : (d s s' : ℕ) → s' + 1 ≡ s → d ≤ s → d + 0 ≤ s' + 1
         answered_counts d s s' e le = omega arith
 
-  pub try_room : (x : Cmd) (a : PlanAsk) (spare : ℕ) → would_go w.locks n a ≡ true → HasRoom w spare → (new : Plain) → new ≡ happen w n (Try x a) → HasRoom new spare
-  try_room x a spare goes room new is = room_after (Try x a) (turned (trying me a)) spare spare (ap (λ b. (tried_by w n me x a b).script) goes) (ap (λ b. (tried_by w n me x a b).nodes) goes)
+  pub ask_room : (x : Cmd) (a : PlanAsk) (spare : ℕ) → would_go w.locks n a ≡ true → HasRoom w spare → (new : Plain) → new ≡ happen w n (event.Ask x a) → HasRoom new spare
+  ask_room x a spare goes room new is = room_after (event.Ask x a) (turned (asking me a)) spare spare (ap (λ b. (asked_by w n me x a b).script) goes) (ap (λ b. (asked_by w n me x a b).nodes) goes)
       (same_room (decided w.nodes) spare (weight me) room.places) room new is
 
   -- what an ask that is granted answers
-  pub try_told : (a : PlanAsk) → would_go w.locks n a ≡ true → (new : Plain) → new ≡ happen w n (Try r.cmd a) → told new n (Try r.cmd a) ≡ turn.Moved kind.Tried
-  try_told a goes new e =
-      let there : command_at new n ≡ Some r.cmd = ap (λ v. command_at v n) (e ∙ sym (happen_here w n me (Try r.cmd a) r.at) ∙ ap (tried_by w n me r.cmd a) goes) ∙ ap command_in (at_here w.nodes n (turned (trying me a)) me r.at) ∙ r.has in
+  pub ask_told : (a : PlanAsk) → would_go w.locks n a ≡ true → (new : Plain) → new ≡ happen w n (event.Ask r.cmd a) → told new n (event.Ask r.cmd a) ≡ turn.Moved kind.Tried
+  ask_told a goes new e =
+      let there : command_at new n ≡ Some r.cmd = ap (λ v. command_at v n) (e ∙ sym (happen_here w n me (event.Ask r.cmd a) r.at) ∙ ap (asked_by w n me r.cmd a) goes) ∙ ap command_in (at_here w.nodes n (turned (asking me a)) me r.at) ∙ r.has in
       ap (λ o. cond (is_some o) (turn.Moved kind.Tried) turn.Answered) there
 
   -- what a request answers
-  pub asked_told : plan_at w n ≡ None → (name : LockName) (mode : Mode) → IsNext r.cmd me.seen (need.Lock name mode) → (t : Bool) → goes_at_once (system_of n) mode (resource_at name w.locks).askers ≡ t
-      → (new : Plain) → new ≡ happen w n (Ask r.cmd name mode) → told new n (Ask r.cmd name mode) ≡ cond (not t) turn.Waiting (turn.Moved kind.Locked)
-  asked_told none name mode is t goes new e =
-      let q : NodeState = turned (asking me r.cmd name mode) in
-      let v : Plain = happens w n me (Ask r.cmd name mode) in
+  pub lock_told : plan_at w n ≡ None → (name : LockName) (mode : Mode) → IsNext r.cmd me.seen (need.Lock name mode) → (t : Bool) → goes_at_once (system_of n) mode (resource_at name w.locks).askers ≡ t
+      → (new : Plain) → new ≡ happen w n (event.Lock name mode) → told new n (event.Lock name mode) ≡ cond (not t) turn.Waiting (turn.Moved kind.Locked)
+  lock_told none name mode is t goes new e =
+      let q : NodeState = turned (locking me name mode) in
+      let v : Plain = happens w n me (event.Lock name mode) in
       let there : node_at v.nodes n ≡ Some q = at_here w.nodes n q me r.at in
-      let queued : is_queued_in v n (node_at v.nodes n) ≡ not t = ap (is_queued_in v n) there ∙ asked_waits w good n r none name mode is ∙ ap not goes in
-      ap (λ y. told y n (Ask r.cmd name mode)) (e ∙ sym (happen_here w n me (Ask r.cmd name mode) r.at)) ∙ ap (λ b. cond b turn.Waiting (turn.Moved kind.Locked)) queued
+      let queued : is_queued_in v n (node_at v.nodes n) ≡ not t = ap (is_queued_in v n) there ∙ lock_waits good r none name mode is ∙ ap not goes in
+      ap (λ y. told y n (event.Lock name mode)) (e ∙ sym (happen_here w n me (event.Lock name mode) r.at)) ∙ ap (λ b. cond b turn.Waiting (turn.Moved kind.Locked)) queued
 
-  pub claim_told : plan_at w n ≡ None → has_asked V me.asked ≡ false → (t : Bool) → goes_at_once (system_of n) PW (resource_at V w.locks).askers ≡ t
-      → (new : Plain) → new ≡ happen w n (Claim r.cmd) → told new n (Claim r.cmd) ≡ cond (not t) turn.Waiting (turn.Moved kind.Locked)
-  claim_told no_plan none t goes new e =
-      let q : NodeState = turned (claiming me r.cmd) in
-      let v : Plain = happens w n me (Claim r.cmd) in
+  pub space_lock_told : plan_at w n ≡ None → has_asked V me.asked ≡ false → (t : Bool) → goes_at_once (system_of n) PW (resource_at V w.locks).askers ≡ t
+      → (new : Plain) → new ≡ happen w n event.SpaceLock → told new n event.SpaceLock ≡ cond (not t) turn.Waiting (turn.Moved kind.Locked)
+  space_lock_told no_plan none t goes new e =
+      let q : NodeState = turned (space_locking me) in
+      let v : Plain = happens w n me event.SpaceLock in
       let there : node_at v.nodes n ≡ Some q = at_here w.nodes n q me r.at in
-      let queued : is_queued_in v n (node_at v.nodes n) ≡ not t = ap (is_queued_in v n) there ∙ claim_waits w good n r no_plan none ∙ ap not goes in
-      ap (λ y. told y n (Claim r.cmd)) (e ∙ sym (happen_here w n me (Claim r.cmd) r.at)) ∙ ap (λ b. cond b turn.Waiting (turn.Moved kind.Locked)) queued
+      let queued : is_queued_in v n (node_at v.nodes n) ≡ not t = ap (is_queued_in v n) there ∙ space_lock_waits good r no_plan none ∙ ap not goes in
+      ap (λ y. told y n event.SpaceLock) (e ∙ sym (happen_here w n me event.SpaceLock r.at)) ∙ ap (λ b. cond b turn.Waiting (turn.Moved kind.Locked)) queued
+
+  -- and what a write leaves of the drive
+  pub write_leaves : (v : PlanWrite) → (happen w n (event.Write v)).blocks ≡ slice_set w.blocks v.lbn v.block
+  write_leaves v = sym (ap (λ (y : Plain). y.blocks) (happen_here w n me (event.Write v) r.at))
+
+  pub space_write_leaves : (v : PlanWrite) → (happen w n (event.SpaceWrite v)).blocks ≡ slice_set w.blocks v.lbn v.block
+  space_write_leaves v = sym (ap (λ (y : Plain). y.blocks) (happen_here w n me (event.SpaceWrite v) r.at))
 
 -- ---- the item that tells the node
 
@@ -515,63 +541,73 @@ some_at [] k v lt e = absurd (omega arith)
 some_at (x ∷ xs) zero v lt e = ap (λ y. Some y) (sym e)
 some_at (x ∷ xs) (suc k) v lt e = some_at xs k v (omega arith) e
 
-granted_goes : (t : Bool) → asked_answer t ≡ asked_so.Granted → t ≡ true
+granted_goes : (t : Bool) → asked_answer t ≡ locked_so.Granted → t ≡ true
 granted_goes true e = refl
-granted_goes false e = absurd (let f : asked_so.Queued ≡ asked_so.Granted = e in cc)
+granted_goes false e = absurd (let f : locked_so.Queued ≡ locked_so.Granted = e in cc)
 
-queued_goes : (t : Bool) → asked_answer t ≡ asked_so.Queued → t ≡ false
-queued_goes true e = absurd (let f : asked_so.Granted ≡ asked_so.Queued = e in cc)
+queued_goes : (t : Bool) → asked_answer t ≡ locked_so.Queued → t ≡ false
+queued_goes true e = absurd (let f : locked_so.Granted ≡ locked_so.Queued = e in cc)
 queued_goes false e = refl
 
-pub goes_granted : (t : Bool) (a : Asked) → a ≡ asked_answer t → a ≡ asked_so.Granted → t ≡ true
+pub goes_granted : (t : Bool) (a : Asked) → a ≡ asked_answer t → a ≡ locked_so.Granted → t ≡ true
 goes_granted t a e g = granted_goes t (sym e ∙ g)
 
-pub goes_queued : (t : Bool) (a : Asked) → a ≡ asked_answer t → a ≡ asked_so.Queued → t ≡ false
+pub goes_queued : (t : Bool) (a : Asked) → a ≡ asked_answer t → a ≡ locked_so.Queued → t ≡ false
 goes_queued t a e q = queued_goes t (sym e ∙ q)
 
-module _ {O : Type 0} (cmd_is : O → Cmd) (xs : List (Node O)) (w : Plain) (n : ℕ) (r : IsReady w n) (d : Node O) (nodes : w.nodes ≡ map (state_of cmd_is) xs)
-    (from : 1 ≤ n) (to : n ≤ length (map (state_of cmd_is) xs)) (is : d ≡ slice_index_or xs (n - 1) d) where
-  pub told_so : node_at w.nodes n ≡ Some (state_of cmd_is d)
-  told_so = ap (λ ns. node_at ns n) nodes ∙ told_at (state_of cmd_is) xs n d from to is
+-- the item d tells the node that goes on
+pub record IsItem {O : Type 0} (cmd_is : O → Cmd) {w : Plain} {n : ℕ} (r : IsReady w n) (d : Node O) : Type 0 where
+  pub at : node_at w.nodes n ≡ Some (state_of cmd_is d)
 
-  pub mine : state_of cmd_is d ≡ r.state
-  mine = let f : Some (state_of cmd_is d) ≡ Some r.state = sym told_so ∙ r.at in cc
+pub item_of : {O : Type 0} (cmd_is : O → Cmd) (xs : List (Node O)) {w : Plain} {n : ℕ} (r : IsReady w n) (d : Node O) → w.nodes ≡ map (state_of cmd_is) xs → IsOfWorld w n → d ≡ slice_index_or xs (n - 1) d → IsItem cmd_is r d
+item_of cmd_is xs {w} {n} r d nodes node is = record {
+  at = ap (λ ns. node_at ns n) nodes ∙ told_at (state_of cmd_is) xs n d node.from (subst (λ (ns : List NodeState). n ≤ length ns) nodes node.to) is;
+}
+
+module _ {O : Type 0} {cmd_is : O → Cmd} {w : Plain} {n : ℕ} {r : IsReady w n} {d : Node O} (it : IsItem cmd_is r d) where
+  pub tells : state_of cmd_is d ≡ r.state
+  tells = let f : Some (state_of cmd_is d) ≡ Some r.state = sym it.at ∙ r.at in cc
+
+  -- any node of the number is this one
+  pub one_node : (q : NodeState) → node_at w.nodes n ≡ Some q → state_of cmd_is d ≡ q
+  one_node q at = let f : Some (state_of cmd_is d) ≡ Some q = sym it.at ∙ at in cc
+
+  -- it has a plan, or none
+  pub item_plan : (o : Option Plan) → d.plan ≡ o → plan_at w n ≡ o
+  item_plan o e = ap plan_in it.at ∙ e
 
   pub op_is : option_map cmd_is d.op ≡ Some r.cmd
-  op_is = ap (λ y. y.cmd) mine ∙ r.has
+  op_is = ap (λ y. y.cmd) tells ∙ r.has
 
   pub op_there : IsSome d.op
   op_there = is_there cmd_is d.op (ap is_some op_is)
 
   pub op_fits : Good w → IfSome d.op (λ op. FitsSeen (cmd_is op) d.seen)
-  op_fits good = fits_told cmd_is d.op r.cmd d.seen op_is (subst (λ (y : NodeState). FitsSeen r.cmd y.seen) (sym mine) (fits w good n r))
+  op_fits good = fits_told cmd_is d.op r.cmd d.seen op_is (subst (λ (y : NodeState). FitsSeen r.cmd y.seen) (sym tells) (fits good r))
 
   pub op_need : (next : Need) → IfSome d.op (λ op. need_of (cmd_is op) d.seen ≡ next) → IsNext r.cmd r.state.seen next
-  op_need next e = subst (λ (y : NodeState). need_of r.cmd y.seen ≡ next) mine (need_told cmd_is d.op r.cmd d.seen next op_is e)
+  op_need next e = subst (λ (y : NodeState). need_of r.cmd y.seen ≡ next) tells (need_told cmd_is d.op r.cmd d.seen next op_is e)
 
   pub item_asked : (b : Bool) → has_asked V d.asked ≡ b → has_asked V r.state.asked ≡ b
-  item_asked b e = ap (λ (y : NodeState). has_asked V y.asked) (sym mine) ∙ e
+  item_asked b e = ap (λ (y : NodeState). has_asked V y.asked) (sym tells) ∙ e
 
-  pub item_answer : (k : ℕ) (b : Bool) (o : Outcome) → o ≡ answer d.seen.geometry k b (blocks_of d.looked) → o ≡ answer r.state.seen.geometry k b (blocks_of r.state.search.looked)
-  item_answer k b o e = e ∙ ap (λ (y : NodeState). answer y.seen.geometry k b (blocks_of y.search.looked)) mine
+  pub item_answer : (k : ℕ) (b : Bool) (o : Outcome) → o ≡ answer d.seen.geometry k b (blocks_of d.run.looked) → o ≡ answer r.state.seen.geometry k b (blocks_of r.state.run.looked)
+  item_answer k b o e = e ∙ ap (λ (y : NodeState). answer y.seen.geometry k b (blocks_of y.run.looked)) tells
 
   pub item_geometry : Good w → IsGeometry d.seen.geometry
-  item_geometry good = subst (λ (y : NodeState). IsGeometry y.seen.geometry) (sym mine) (has_geometry w good n r)
+  item_geometry good = subst (λ (y : NodeState). IsGeometry y.seen.geometry) (sym tells) (has_geometry good r)
 
-  pub item_searches : Good w → plan_at w n ≡ None → length r.state.search.takes ≤ r.state.search.taken → SearchesAsNeeded (state_of cmd_is d)
-  item_searches good none over = subst (λ (y : NodeState). SearchesAsNeeded y) (sym mine) (λ x k b has h.
+  pub item_searches : Good w → plan_at w n ≡ None → length r.state.run.writes ≤ r.state.run.made → SearchesAsNeeded (state_of cmd_is d)
+  item_searches good none over = subst (λ (y : NodeState). SearchesAsNeeded y) (sym tells) (λ x k b has h.
       let f : Some r.cmd ≡ Some x = sym r.has ∙ has in
       let i : r.cmd ≡ x = cc in
-      subst (λ (y : Cmd). IsNext y r.state.seen (need.Space k b)) i (searches_now w good n r none over k b (subst (λ (y : Cmd). IsSearching r.state y k b) (sym i) h)))
+      subst (λ (y : Cmd). IsNext y r.state.seen (need.Space k b)) i (searches_now good r none over k b (subst (λ (y : Cmd). IsSearching r.state y k b) (sym i) h)))
 
-  pub item_over : length d.takes ≤ d.taken → (q : NodeState) → node_at w.nodes n ≡ Some q → length q.search.takes ≤ q.search.taken
-  item_over le q at = let f : Some (state_of cmd_is d) ≡ Some q = sym told_so ∙ at in let h : state_of cmd_is d ≡ q = cc in subst (λ (y : NodeState). length y.search.takes ≤ y.search.taken) h le
+  pub item_over : length d.run.writes ≤ d.run.made → (q : NodeState) → node_at w.nodes n ≡ Some q → length q.run.writes ≤ q.run.made
+  item_over le q at = subst (λ (y : NodeState). length y.run.writes ≤ y.run.made) (one_node q at) le
 
-  pub item_taken : (q : NodeState) → node_at w.nodes n ≡ Some q → d.taken ≡ q.search.taken
-  item_taken q at = let f : Some (state_of cmd_is d) ≡ Some q = sym told_so ∙ at in let h : state_of cmd_is d ≡ q = cc in ap (λ y. y.search.taken) h
-
-  pub item_take : (ws : List PlanWrite) (v : PlanWrite) → ws ≡ d.takes → d.taken < length ws → v ≡ slice_index_or ws d.taken v → slice_get r.state.search.takes r.state.search.taken ≡ Some v
-  item_take ws v same lt e = subst (λ (y : NodeState). slice_get y.search.takes y.search.taken ≡ Some v) mine (ap (λ (vs : List PlanWrite). slice_get vs d.taken) (sym same) ∙ some_at ws d.taken v lt e)
+  pub item_take : (ws : List PlanWrite) (v : PlanWrite) → ws ≡ d.run.writes → d.run.made < length ws → v ≡ slice_index_or ws d.run.made v → slice_get r.state.run.writes r.state.run.made ≡ Some v
+  item_take ws v same lt e = subst (λ (y : NodeState). slice_get y.run.writes y.run.made ≡ Some v) tells (ap (λ (vs : List PlanWrite). slice_get vs d.run.made) (sym same) ∙ some_at ws d.run.made v lt e)
 
   pub item_need : (k : ℕ) (b : Bool) → IfSome d.op (λ op. need_of (cmd_is op) d.seen ≡ need.Space k b) → (q : NodeState) (y : Cmd) → node_at w.nodes n ≡ Some q → q.cmd ≡ Some y → IsNext y q.seen (need.Space k b)
   item_need k b e q y at has =
@@ -581,30 +617,26 @@ module _ {O : Type 0} (cmd_is : O → Cmd) (xs : List (Node O)) (w : Plain) (n :
       let i : r.cmd ≡ y = cc in
       subst (λ (z : Cmd). IsNext z q.seen (need.Space k b)) i (subst (λ (z : NodeState). IsNext r.cmd z.seen (need.Space k b)) h (op_need (need.Space k b) e))
 
-  -- any node of the number is this one
-  pub one_node : (q : NodeState) → node_at w.nodes n ≡ Some q → d.done ≡ q.done
-  one_node q at = let f : Some (state_of cmd_is d) ≡ Some q = sym told_so ∙ at in let h : state_of cmd_is d ≡ q = cc in ap (λ y. y.done) h
-
   pub plan_now : (p : Plan) → d.plan ≡ Some p → r.state.plan ≡ Some p
-  plan_now p e = sym (ap (λ y. y.plan) mine) ∙ e
+  plan_now p e = sym (ap (λ y. y.plan) tells) ∙ e
 
   pub no_plan_now : d.plan ≡ None → IsSome (plan_at w n) → ⊥
   no_plan_now e some =
-      let none : plan_at w n ≡ None = ap plan_in told_so ∙ e in
+      let none : plan_at w n ≡ None = item_plan None e in
       let f : false ≡ true = sym (ap is_some none) ∙ some in
       absurd (cc)
 
   pub next_now : (p : Plan) (ws : List PlanWrite) (v : PlanWrite) → ws ≡ writes_by p.ask d.tried p.writes → d.done < length ws → v ≡ slice_index_or ws d.done v → slice_get (writes_by p.ask r.state.tried p.writes) r.state.done ≡ Some v
-  next_now p ws v same lt e = subst (λ (y : NodeState). slice_get (writes_by p.ask y.tried p.writes) y.done ≡ Some v) mine (subst (λ (vs : List PlanWrite). slice_get vs d.done ≡ Some v) same (some_at ws d.done v lt e))
+  next_now p ws v same lt e = subst (λ (y : NodeState). slice_get (writes_by p.ask y.tried p.writes) y.done ≡ Some v) tells (subst (λ (vs : List PlanWrite). slice_get vs d.done ≡ Some v) same (some_at ws d.done v lt e))
 
   pub last_now : (p : Plan) (ws : List PlanWrite) → ws ≡ writes_by p.ask d.tried p.writes → length ws ≤ d.done → slice_get (writes_by p.ask r.state.tried p.writes) r.state.done ≡ None
-  last_now p ws same over = subst (λ (y : NodeState). slice_get (writes_by p.ask y.tried p.writes) y.done ≡ None) mine (subst (λ (us : List PlanWrite). slice_get us d.done ≡ None) same (none_at ws d.done over))
+  last_now p ws same over = subst (λ (y : NodeState). slice_get (writes_by p.ask y.tried p.writes) y.done ≡ None) tells (subst (λ (us : List PlanWrite). slice_get us d.done ≡ None) same (none_at ws d.done over))
 
   -- the ask that it tells is the node's
   pub item_aim : (t : List Resource) (p : Plan) (o : Option (ℕ × Mode)) → o ≡ aim_of (going_ask t n d.tried p.ask) → o ≡ aim_of (going_ask t n r.state.tried p.ask)
-  item_aim t p o e = e ∙ ap (λ (y : NodeState). aim_of (going_ask t n y.tried p.ask)) mine
+  item_aim t p o e = e ∙ ap (λ (y : NodeState). aim_of (going_ask t n y.tried p.ask)) tells
 
-module _ (w : Plain) (good : Good w) (n : ℕ) (r : IsReady w n) where
+module _ {w : Plain} (good : Good w) {n : ℕ} (r : IsReady w n) where
   pub tried_is : tried_at w n ≡ r.state.tried
   tried_is = ap tried_in r.at
 
@@ -615,7 +647,7 @@ module _ (w : Plain) (good : Good w) (n : ℕ) (r : IsReady w n) where
   may_end_at few p plan s at =
       let f : Some r.state ≡ Some s = sym r.at ∙ at in
       let h : r.state ≡ s = cc in
-      subst (λ (y : NodeState). MayEnd w.geometry n y w.locks) h (may_end w good n r few p plan)
+      subst (λ (y : NodeState). MayEnd w.geometry n y w.locks) h (may_end good r few p plan)
 
   pub place_kept : (p : Plan) → r.state.plan ≡ Some p → (spare : ℕ) → HasRoom w spare → 0 < spare
   place_kept p plan spare room = let one = has_decided w.nodes n r.state r.at (ap is_some plan) in let le = room.places in omega arith

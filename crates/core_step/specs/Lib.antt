@@ -3,3 +3,4 @@ pub mod Turns
 pub mod Giving
 pub mod Ready
 pub mod Memory
+pub mod Outcome

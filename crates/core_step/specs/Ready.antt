@@ -10,28 +10,33 @@ use Rattle.op_law.specs.Events.{space_of, HasNoSpace}
 use Rattle.op_law.specs.Needs.{IsNext}
 use Rattle.op_law.specs.Knows.{clusters_wanted, wants_number, takes_space}
 use Rattle.core_state.specs.Worlds.{NodeState, Plain, node_at}
-use Rattle.core_state.specs.Events.{has_asked}
+use Rattle.core_state.specs.Events.{is_out, has_asked}
 
--- node n has begun a command, waits for nothing, and has not left
+-- node n has begun a command, is not over, and waits for nothing
 pub record IsReady (w : Plain) (n : ℕ) : Type 0 where
   pub state : NodeState
   pub at : node_at w.nodes n ≡ Some state
   pub cmd : Cmd
   pub has : state.cmd ≡ Some cmd
+  pub on : is_out state ≡ false
   pub free : waits_at w.locks n state.asked ≡ false
+
+-- a node without the command that it has begun
+abbrev pub forgotten : NodeState → NodeState
+forgotten s = record s { cmd = None; seen = record s.seen { channel = None } }
 
 -- node n begins the command x
 pub record Begins (w : Plain) (n : ℕ) (x : Cmd) : Type 0 where
   pub state : NodeState
   pub at : node_at w.nodes n ≡ Some state
   pub idle : state.cmd ≡ None
-  pub on : state.over ≡ false
+  pub on : is_out state ≡ false
   pub free : waits_at w.locks n state.asked ≡ false
   pub next : next_command w.script n w.history ≡ Some x
 
 -- a node has made all writes that its search has decided on
-abbrev pub HasTakenAll : Plain → ℕ → Type 0
-HasTakenAll w n = (s : NodeState) → node_at w.nodes n ≡ Some s → length s.search.takes ≤ s.search.taken
+abbrev pub HasMadeAll : Plain → ℕ → Type 0
+HasMadeAll w n = (s : NodeState) → node_at w.nodes n ≡ Some s → length s.run.writes ≤ s.run.made
 
 -- its command needs so many clusters next, and a number or none
 abbrev pub NeedsNow : Plain → ℕ → ℕ → Bool → Type 0

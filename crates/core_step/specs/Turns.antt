@@ -2,7 +2,9 @@
 use Rattle.std.specs.Prelude.{ℕ, Bool, false, Option, Some, None, is_some, if◌then◌else◌}
 use Rattle.node_locks.specs.Held.{waits_at}
 use Rattle.core_state.specs.Worlds.{NodeState, Plain, node_at}
-use Rattle.core_state.specs.Events.{Event, Rest, Stand, Leave, Ask, Claim, See, Scan, Grab, Decide, Put, Try, Answer, command_at}
+use Rattle.core_state.specs.Event.{Event}
+use Rattle.core_state.specs.Event as event
+use Rattle.core_state.specs.Events.{command_at}
 use Rattle.core_step.specs.declared.turns.Turn.{Turn}
 use Rattle.core_step.specs.declared.turns.Turn.TheVariants as turn
 use Rattle.core_step.specs.declared.turns.Kind.TheVariants as kind
@@ -14,15 +16,17 @@ is_queued_in w n (Some s) = waits_at w.locks n s.asked
 
 -- the answer after an event of node n that has led to this world
 abbrev pub told : Plain → ℕ → Event → Turn
-told w n Rest = turn.Over
-told w n Stand = turn.Waiting
-told w n Leave = turn.Over
-told w n (Ask x name mode) = if is_queued_in w n (node_at w.nodes n) then turn.Waiting else turn.Moved kind.Locked
-told w n (See x lbn) = turn.Moved kind.Looked
-told w n (Claim x) = if is_queued_in w n (node_at w.nodes n) then turn.Waiting else turn.Moved kind.Locked
-told w n (Scan x clusters number lbn) = turn.Moved kind.Looked
-told w n (Grab v) = turn.Moved kind.Wrote
-told w n (Decide x p) = turn.Moved kind.Planned
-told w n (Put v) = turn.Moved kind.Wrote
-told w n (Try x a) = if is_some (command_at w n) then turn.Moved kind.Tried else turn.Answered
-told w n (Answer x r) = turn.Answered
+told w n event.Rest = turn.Over
+told w n event.Stand = turn.Waiting
+told w n event.Leave = turn.Over
+told w n (event.Lock name mode) = if is_queued_in w n (node_at w.nodes n) then turn.Waiting else turn.Moved kind.Locked
+told w n (event.Look lbn) = turn.Moved kind.Looked
+told w n (event.Fetch lbn) = turn.Moved kind.Looked
+told w n event.SpaceLock = if is_queued_in w n (node_at w.nodes n) then turn.Waiting else turn.Moved kind.Locked
+told w n (event.SpaceLook clusters number lbn) = turn.Moved kind.Looked
+told w n event.SpaceEnd = turn.Waiting
+told w n (event.SpaceWrite v) = turn.Moved kind.Wrote
+told w n (event.Plan p) = turn.Moved kind.Planned
+told w n (event.Write v) = turn.Moved kind.Wrote
+told w n (event.Ask x a) = if is_some (command_at w n) then turn.Moved kind.Tried else turn.Answered
+told w n (event.Answer x r) = turn.Answered

@@ -9,15 +9,16 @@ ghost use Rattle.op_law.specs.declared.need.Plan.{Plan};
 ghost use Rattle.op_law.specs.declared.need.PlanWrite.{PlanWrite};
 ghost use Rattle.op_law.specs.declared.seen.Seen.{Seen};
 ghost use Rattle.core_state.specs.Worlds.{NodeState, IsOfWorld, state_of, plain_of, node_at};
-ghost use Rattle.core_state.specs.Events.{Put, Answer, happen, turned, writing, answering, unseen, command_at, plan_at, tried_at};
+ghost use Rattle.core_state.specs.Event as event;
+ghost use Rattle.core_state.specs.Events.{happen, turned, writing, answering, unseen, command_at, plan_at, tried_at};
 ghost use Rattle.core_state.specs.Asks.{reply_by};
 ghost use Rattle.core_step.specs.Giving.{MayEnd};
 
 use crate::asks::{into_reply, reply_by, writes_by};
 use crate::giving::give_back;
 use blk_drive::{ImageDev, ImageFault};
-use core_state::{Core, Node};
-use op_law::{Operation, Plan, Seen, SeenBlocks, SeenLocks, Writes};
+use core_state::{Core, Node, SpaceRun};
+use op_law::{Operation, Plan, Seen, SeenBlocks, SeenLocks};
 use plain_cat::{Clusters, Cmd, Entry};
 use std::alloc::Global;
 use std::mem;
@@ -36,7 +37,7 @@ fn keep_write<O: Operation>(node: &mut Node<O>, done: usize)
 
 /// A node makes a write, the next of its plan, and has done so many then. An error says that the image failed: in memory no block has changed, and the node
 /// stands before the write.
-pub(crate) fn put<I: ImageDev, O: Operation>(
+pub(crate) fn write<I: ImageDev, O: Operation>(
     core: &mut Core<I, O>,
     node: u8,
     lbn: u32,
@@ -46,7 +47,7 @@ pub(crate) fn put<I: ImageDev, O: Operation>(
     requires node { IsOfWorld (plain_of O.cmd_is core.old) node }
     requires within { lbn < length core.old.mirror.blocks }
     requires more { (s : NodeState) → node_at (plain_of O.cmd_is core.old).nodes node ≡ Some s → done ≡ s.done + 1 }
-    ensures world { OnOk result ((v : PlanWrite) → v.lbn ≡ lbn → v.block ≡ block.now → plain_of O.cmd_is core.new ≡ happen (plain_of O.cmd_is core.old) node (Put v)) }
+    ensures world { OnOk result ((v : PlanWrite) → v.lbn ≡ lbn → v.block ≡ block.now → plain_of O.cmd_is core.new ≡ happen (plain_of O.cmd_is core.old) node (event.Write v)) }
     ensures same { OnErr result (plain_of O.cmd_is core.new ≡ plain_of O.cmd_is core.old) }
     ensures cause { HasCause (I.faults core.old.mirror.image) (I.faults core.new.mirror.image) result }
     ensures blocks { OnOk result (core.new.mirror.blocks ≡ slice_set core.old.mirror.blocks lbn block.now) }
@@ -83,7 +84,7 @@ struct Ended {
     plan: Plan,
     tried: bool,
     asked: SeenLocks,
-    takes: Writes,
+    run: SpaceRun,
 }
 
 // A node's command ends with the reply of its plan, or of its ask where that was not granted. It takes no memory.
@@ -96,7 +97,7 @@ fn end<O: Operation>(alloc: Global, node: &mut Node<O>) -> Ended
     ensures plan { node.old.plan ≡ Some result.plan }
     ensures tried { result.tried ≡ node.old.tried }
     ensures asked { result.asked ≡ node.old.asked }
-    ensures takes { result.takes ≡ node.old.takes }
+    ensures run { result.run ≡ node.old.run }
     ensures state { state_of O.cmd_is node.new ≡ turned (answering (state_of O.cmd_is node.old) result.cmd (reply_by result.plan.ask result.tried result.plan.reply)) }
 {
     let (Some(op), Some(plan)) = (node.op.take(), node.plan.take()) else {
@@ -109,16 +110,14 @@ fn end<O: Operation>(alloc: Global, node: &mut Node<O>) -> Ended
     node.done = 0;
     node.tried = false;
     let asked = mem::replace(&mut node.asked, SeenLocks::new(alloc));
-    node.looked = SeenBlocks::new(alloc);
-    let takes = mem::replace(&mut node.takes, Writes::new(alloc));
-    node.taken = 0;
+    let run = mem::replace(&mut node.run, SpaceRun::new(alloc));
     node.turns = node.turns.saturating_add(1);
     Ended {
         cmd,
         plan,
         tried,
         asked,
-        takes,
+        run,
     }
 }
 
@@ -129,7 +128,7 @@ pub(crate) fn answer<I: ImageDev, O: Operation>(alloc: Global, core: &mut Core<I
     requires geometry { IsGeometry core.old.geometry }
     requires ends { (s : NodeState) → node_at (plain_of O.cmd_is core.old).nodes node ≡ Some s → MayEnd core.old.geometry node s core.old.locks }
     requires place { 0 < core.old.history.room }
-    ensures world { (x : Cmd) (p : Plan) → command_at (plain_of O.cmd_is core.old) node ≡ Some x → plan_at (plain_of O.cmd_is core.old) node ≡ Some p → plain_of O.cmd_is core.new ≡ happen (plain_of O.cmd_is core.old) node (Answer x (reply_by p.ask (tried_at (plain_of O.cmd_is core.old) node) p.reply)) }
+    ensures world { (x : Cmd) (p : Plan) → command_at (plain_of O.cmd_is core.old) node ≡ Some x → plan_at (plain_of O.cmd_is core.old) node ≡ Some p → plain_of O.cmd_is core.new ≡ happen (plain_of O.cmd_is core.old) node (event.Answer x (reply_by p.ask (tried_at (plain_of O.cmd_is core.old) node) p.reply)) }
     ensures mirror { core.new.mirror ≡ core.old.mirror }
     ensures room { core.new.history.room + 1 ≡ core.old.history.room }
 {
@@ -138,12 +137,12 @@ pub(crate) fn answer<I: ImageDev, O: Operation>(alloc: Global, core: &mut Core<I
         plan,
         tried,
         asked,
-        takes,
+        run,
     } = end(alloc, &mut core.nodes[node as usize - 1]);
     give_back(
         &core.geometry,
         node,
-        takes.items(),
+        run.writes.items(),
         writes_by(&plan, tried),
         asked.items(),
         &mut core.locks,

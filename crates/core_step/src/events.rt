@@ -1,7 +1,6 @@
 //! The events, each as a function on what a world is made of.
 
-ghost use Rattle.std.specs.Prelude.{true, false, ◌≡◌, ◌≤◌, ◌<◌, ◌++◌, [], ◌∷◌, Some, None, IfOk, OnOk, OnErr, IfSome, IsSome, length, slice_get};
-ghost use Rattle.vol_words.specs.Faults.{HasCause};
+ghost use Rattle.std.specs.Prelude.{true, false, ◌≡◌, ◌≤◌, ◌<◌, ◌++◌, [], ◌∷◌, Some, None, IfOk, OnOk, OnErr, length};
 ghost use Rattle.plain_cat.specs.declared.command.Cmd.{Cmd};
 ghost use Rattle.lock_db.specs.declared.name.LockName.TheVariants.{A, V};
 ghost use Rattle.plain_cat.specs.declared.mode.Mode.TheVariants.{PW};
@@ -10,13 +9,13 @@ ghost use Rattle.lock_db.specs.Resources.{asked_answer, goes_at_once};
 ghost use Rattle.lock_db.specs.Tables.{resource_at, asked};
 ghost use Rattle.node_locks.specs.Held.{system_of};
 ghost use Rattle.op_law.specs.declared.need.Ask.{Ask as PlanAsk};
-ghost use Rattle.op_law.specs.Laws.{Lawful};
-ghost use Rattle.core_state.specs.Worlds.{IsOfWorld, state_of, plain_of};
-ghost use Rattle.core_state.specs.Events.{Rest, Stand, Leave, Ask, Claim, See, Decide, Put, Try, happen, turned, leaving, begun, looking, deciding, writing, one_more, command_at};
+ghost use Rattle.core_state.specs.Worlds.{NodeState, IsOfWorld, state_of, plain_of, node_at};
+ghost use Rattle.core_state.specs.Event as event;
+ghost use Rattle.core_state.specs.Events.{has_asked, happen, turned, leaving, locking, space_locking, looking, planning, one_more};
 
 use blk_drive::{ImageDev, ImageFault};
-use core_state::{Core, Node};
-use lock_db::{Asked, LockName, Owner};
+use core_state::{Core, Node, Phase};
+use lock_db::{Asked, LockDb, LockName, Owner};
 use op_law::{NoMemory, Operation, Plan, SeenLocks};
 use plain_cat::{Cmd, Mode};
 use std::alloc::Global;
@@ -29,10 +28,18 @@ pub(crate) fn count<O: Operation>(node: &mut Node<O>)
     node.turns = node.turns.saturating_add(1);
 }
 
+/// One turn more, in which a block was read from the drive.
+pub(crate) fn count_read<O: Operation>(node: &mut Node<O>)
+    ensures { state_of O.cmd_is node.new ≡ turned (record (state_of O.cmd_is node.old) { reads = one_more node.old.reads }) }
+{
+    node.reads = node.reads.saturating_add(1);
+    count(node);
+}
+
 /// A turn in which nothing happens.
 pub(crate) fn stand<I: ImageDev, O: Operation>(core: &mut Core<I, O>, node: u8)
     requires { IsOfWorld (plain_of O.cmd_is core.old) node }
-    ensures world { plain_of O.cmd_is core.new ≡ happen (plain_of O.cmd_is core.old) node Stand }
+    ensures world { plain_of O.cmd_is core.new ≡ happen (plain_of O.cmd_is core.old) node event.Stand }
     ensures mirror { core.new.mirror ≡ core.old.mirror }
     ensures room { core.new.history.room ≡ core.old.history.room }
 {
@@ -50,41 +57,69 @@ fn leave_node<O: Operation>(node: &mut Node<O>)
 /// A node leaves the volume.
 pub(crate) fn leave<I: ImageDev, O: Operation>(core: &mut Core<I, O>, node: u8)
     requires { IsOfWorld (plain_of O.cmd_is core.old) node }
-    ensures world { plain_of O.cmd_is core.new ≡ happen (plain_of O.cmd_is core.old) node Leave }
+    ensures world { plain_of O.cmd_is core.new ≡ happen (plain_of O.cmd_is core.old) node event.Leave }
     ensures mirror { core.new.mirror ≡ core.old.mirror }
     ensures room { core.new.history.room ≡ core.old.history.room }
 {
     leave_node(&mut core.nodes[node as usize - 1]);
 }
 
-// The locks, with one more.
-fn with_lock(
+// A node's file system asks for a lock, which is then the last of these. An error says that memory ran out, and nothing was asked.
+fn request(
     alloc: Global,
-    locks: &SeenLocks,
+    locks: &mut LockDb,
+    node: u8,
+    list: &mut SeenLocks,
     name: LockName,
     mode: Mode,
-) -> Result<SeenLocks, NoMemory>
-    ensures { IfOk result (λ more. more ≡ locks.now ++ (name, mode) ∷ []) }
+) -> Result<Asked, NoMemory>
+    requires new { standing_of (system_of node) (resource_at name locks.old).askers ≡ None }
+    requires apart { has_asked name list.old ≡ false }
+    ensures ok { OnOk result ((locks.new ≡ asked name (system_of node) mode locks.old) × (list.new ≡ list.old ++ (name, mode) ∷ [])) }
+    ensures answer { IfOk result (λ a. a ≡ asked_answer (goes_at_once (system_of node) mode (resource_at name locks.old).askers)) }
+    ensures err { OnErr result ((locks.new ≡ locks.old) × (list.new ≡ list.old)) }
 {
-    let mut more = SeenLocks::new(alloc);
-    for lock in locks.items() {
-        more.push(*lock)?;
+    list.push((name, mode))?;
+    match locks.request(alloc, name, Owner { node, part: 0 }, mode) {
+        Ok(asked) => Ok(asked),
+        Err(fault) => {
+            list.remove(name);
+            Err(fault)
+        }
     }
-    more.push((name, mode))?;
-    Ok(more)
 }
 
-// A node's command has asked for these locks, and the node for these.
-fn keep_locks<O: Operation>(node: &mut Node<O>, locks: SeenLocks, asked: SeenLocks)
-    ensures { state_of O.cmd_is node.new ≡ turned (record (state_of O.cmd_is node.old) { asked = asked; seen = record node.old.seen { locks = locks } }) }
+// A node's command asks for a lock. An error says that memory ran out, and nothing was asked.
+fn request_lock<O: Operation>(
+    alloc: Global,
+    locks: &mut LockDb,
+    node: u8,
+    at: &mut Node<O>,
+    name: LockName,
+    mode: Mode,
+) -> Result<Asked, NoMemory>
+    requires new { standing_of (system_of node) (resource_at name locks.old).askers ≡ None }
+    requires apart { has_asked name at.old.asked ≡ false }
+    requires unseen { has_asked name at.old.seen.locks ≡ false }
+    ensures ok { OnOk result ((locks.new ≡ asked name (system_of node) mode locks.old) × (state_of O.cmd_is at.new ≡ turned (locking (state_of O.cmd_is at.old) name mode))) }
+    ensures answer { IfOk result (λ a. a ≡ asked_answer (goes_at_once (system_of node) mode (resource_at name locks.old).askers)) }
+    ensures err { OnErr result ((locks.new ≡ locks.old) × (state_of O.cmd_is at.new ≡ state_of O.cmd_is at.old)) }
 {
-    node.seen.locks = locks;
-    node.asked = asked;
-    count(node);
+    at.seen.locks.push((name, mode))?;
+    match request(alloc, locks, node, &mut at.asked, name, mode) {
+        Ok(asked) => {
+            count(at);
+            Ok(asked)
+        }
+        Err(fault) => {
+            at.seen.locks.remove(name);
+            Err(fault)
+        }
+    }
 }
 
 /// A node's command asks for a lock. An error says that memory ran out, and nothing was asked.
-pub(crate) fn ask<I: ImageDev, O: Operation>(
+pub(crate) fn lock<I: ImageDev, O: Operation>(
     alloc: Global,
     core: &mut Core<I, O>,
     node: u8,
@@ -93,65 +128,78 @@ pub(crate) fn ask<I: ImageDev, O: Operation>(
 ) -> Result<Asked, NoMemory>
     requires node { IsOfWorld (plain_of O.cmd_is core.old) node }
     requires new { standing_of (system_of node) (resource_at name core.old.locks).askers ≡ None }
-    ensures world { OnOk result ((x : Cmd) → command_at (plain_of O.cmd_is core.old) node ≡ Some x → plain_of O.cmd_is core.new ≡ happen (plain_of O.cmd_is core.old) node (Ask x name mode)) }
+    requires apart { (s : NodeState) → node_at (plain_of O.cmd_is core.old).nodes node ≡ Some s → (has_asked name s.asked ≡ false) × (has_asked name s.seen.locks ≡ false) }
+    ensures world { OnOk result (plain_of O.cmd_is core.new ≡ happen (plain_of O.cmd_is core.old) node (event.Lock name mode)) }
     ensures answer { IfOk result (λ a. a ≡ asked_answer (goes_at_once (system_of node) mode (resource_at name core.old.locks).askers)) }
     ensures same { OnErr result (plain_of O.cmd_is core.new ≡ plain_of O.cmd_is core.old) }
     ensures mirror { core.new.mirror ≡ core.old.mirror }
     ensures room { core.new.history.room ≡ core.old.history.room }
 {
-    let place = node as usize - 1;
-    let locks = with_lock(alloc, &core.nodes[place].seen.locks, name, mode)?;
-    let more = with_lock(alloc, &core.nodes[place].asked, name, mode)?;
-    let asked = core
-        .locks
-        .request(alloc, name, Owner { node, part: 0 }, mode)?;
-    keep_locks(&mut core.nodes[place], locks, more);
+    let at = &mut core.nodes[node as usize - 1];
+    request_lock(alloc, &mut core.locks, node, at, name, mode)
+}
+
+// A node asks for the lock of the bitmaps. An error says that memory ran out, and nothing was asked.
+fn request_space_lock<O: Operation>(
+    alloc: Global,
+    locks: &mut LockDb,
+    node: u8,
+    at: &mut Node<O>,
+) -> Result<Asked, NoMemory>
+    requires new { standing_of (system_of node) (resource_at V locks.old).askers ≡ None }
+    requires apart { has_asked V at.old.asked ≡ false }
+    ensures ok { OnOk result ((locks.new ≡ asked V (system_of node) PW locks.old) × (state_of O.cmd_is at.new ≡ turned (space_locking (state_of O.cmd_is at.old)))) }
+    ensures answer { IfOk result (λ a. a ≡ asked_answer (goes_at_once (system_of node) PW (resource_at V locks.old).askers)) }
+    ensures err { OnErr result ((locks.new ≡ locks.old) × (state_of O.cmd_is at.new ≡ state_of O.cmd_is at.old)) }
+{
+    let asked = request(alloc, locks, node, &mut at.asked, LockName::V, Mode::PW)?;
+    at.run.phase = Phase::Last;
+    count(at);
     Ok(asked)
 }
 
-// A node has asked for these locks.
-fn keep_asked<O: Operation>(node: &mut Node<O>, asked: SeenLocks)
-    ensures { state_of O.cmd_is node.new ≡ turned (record (state_of O.cmd_is node.old) { asked = asked }) }
-{
-    node.asked = asked;
-    count(node);
-}
-
 /// A node asks for the lock of the bitmaps, for its search for space. An error says that memory ran out, and nothing was asked.
-pub(crate) fn claim<I: ImageDev, O: Operation>(
+pub(crate) fn space_lock<I: ImageDev, O: Operation>(
     alloc: Global,
     core: &mut Core<I, O>,
     node: u8,
 ) -> Result<Asked, NoMemory>
     requires node { IsOfWorld (plain_of O.cmd_is core.old) node }
     requires new { standing_of (system_of node) (resource_at V core.old.locks).askers ≡ None }
-    ensures world { OnOk result ((x : Cmd) → command_at (plain_of O.cmd_is core.old) node ≡ Some x → plain_of O.cmd_is core.new ≡ happen (plain_of O.cmd_is core.old) node (Claim x)) }
+    requires apart { (s : NodeState) → node_at (plain_of O.cmd_is core.old).nodes node ≡ Some s → has_asked V s.asked ≡ false }
+    ensures world { OnOk result (plain_of O.cmd_is core.new ≡ happen (plain_of O.cmd_is core.old) node event.SpaceLock) }
     ensures answer { IfOk result (λ a. a ≡ asked_answer (goes_at_once (system_of node) PW (resource_at V core.old.locks).askers)) }
     ensures same { OnErr result (plain_of O.cmd_is core.new ≡ plain_of O.cmd_is core.old) }
     ensures mirror { core.new.mirror ≡ core.old.mirror }
     ensures room { core.new.history.room ≡ core.old.history.room }
 {
-    let place = node as usize - 1;
-    let more = with_lock(alloc, &core.nodes[place].asked, LockName::V, Mode::PW)?;
-    let asked = core
-        .locks
-        .request(alloc, LockName::V, Owner { node, part: 0 }, Mode::PW)?;
-    keep_asked(&mut core.nodes[place], more);
-    Ok(asked)
+    let at = &mut core.nodes[node as usize - 1];
+    request_space_lock(alloc, &mut core.locks, node, at)
 }
 
-// A node has asked for these locks, and the ask of its plan was granted.
-fn keep_tried<O: Operation>(node: &mut Node<O>, asked: SeenLocks)
-    ensures { state_of O.cmd_is node.new ≡ turned (record (state_of O.cmd_is node.old) { asked = asked; tried = true }) }
+// A node makes the ask of its plan, which would be granted. An error says that memory ran out, and nothing was asked.
+fn request_ask<O: Operation>(
+    alloc: Global,
+    locks: &mut LockDb,
+    node: u8,
+    at: &mut Node<O>,
+    name: LockName,
+    mode: Mode,
+) -> Result<(), NoMemory>
+    requires new { standing_of (system_of node) (resource_at name locks.old).askers ≡ None }
+    requires apart { has_asked name at.old.asked ≡ false }
+    ensures ok { OnOk result ((locks.new ≡ asked name (system_of node) mode locks.old) × (state_of O.cmd_is at.new ≡ turned (record (state_of O.cmd_is at.old) { asked = at.old.asked ++ (name, mode) ∷ []; tried = true }))) }
+    ensures err { OnErr result ((locks.new ≡ locks.old) × (state_of O.cmd_is at.new ≡ state_of O.cmd_is at.old)) }
 {
-    node.asked = asked;
-    node.tried = true;
-    count(node);
+    request(alloc, locks, node, &mut at.asked, name, mode)?;
+    at.tried = true;
+    count(at);
+    Ok(())
 }
 
 /// A node's command makes the ask of its plan for who has this file open, in this mode, where that is granted. An error says that
 /// memory ran out, and nothing was asked.
-pub(crate) fn try_ask<I: ImageDev, O: Operation>(
+pub(crate) fn ask<I: ImageDev, O: Operation>(
     alloc: Global,
     core: &mut Core<I, O>,
     node: u8,
@@ -160,29 +208,24 @@ pub(crate) fn try_ask<I: ImageDev, O: Operation>(
 ) -> Result<(), NoMemory>
     requires node { IsOfWorld (plain_of O.cmd_is core.old) node }
     requires new { standing_of (system_of node) (resource_at (A file) core.old.locks).askers ≡ None }
+    requires apart { (s : NodeState) → node_at (plain_of O.cmd_is core.old).nodes node ≡ Some s → has_asked (A file) s.asked ≡ false }
     requires goes { goes_at_once (system_of node) mode (resource_at (A file) core.old.locks).askers ≡ true }
-    ensures world { OnOk result ((x : Cmd) (a : PlanAsk) → a.file ≡ file → a.mode ≡ mode → plain_of O.cmd_is core.new ≡ happen (plain_of O.cmd_is core.old) node (Try x a)) }
+    ensures world { OnOk result ((x : Cmd) (a : PlanAsk) → a.file ≡ file → a.mode ≡ mode → plain_of O.cmd_is core.new ≡ happen (plain_of O.cmd_is core.old) node (event.Ask x a)) }
     ensures same { OnErr result (plain_of O.cmd_is core.new ≡ plain_of O.cmd_is core.old) }
     ensures mirror { core.new.mirror ≡ core.old.mirror }
     ensures room { core.new.history.room ≡ core.old.history.room }
 {
-    let place = node as usize - 1;
-    let name = LockName::A(file);
-    let more = with_lock(alloc, &core.nodes[place].asked, name, mode)?;
-    core.locks
-        .try_request(alloc, name, Owner { node, part: 0 }, mode)?;
-    keep_tried(&mut core.nodes[place], more);
-    Ok(())
+    let at = &mut core.nodes[node as usize - 1];
+    request_ask(alloc, &mut core.locks, node, at, LockName::A(file), mode)
 }
 
 // A node has looked at a block. A refusal of memory leaves it as it was.
 fn keep_block<O: Operation>(node: &mut Node<O>, lbn: u32, block: Block) -> Result<(), NoMemory>
-    ensures ok { OnOk result (state_of O.cmd_is node.new ≡ turned (record (state_of O.cmd_is node.old) { seen = record node.old.seen { blocks = node.old.seen.blocks ++ (lbn, block) ∷ [] }; reads = one_more node.old.reads })) }
+    ensures ok { OnOk result (state_of O.cmd_is node.new ≡ turned (looking (state_of O.cmd_is node.old) lbn block)) }
     ensures err { OnErr result (state_of O.cmd_is node.new ≡ state_of O.cmd_is node.old) }
 {
     node.seen.blocks.push((lbn, block))?;
-    node.reads = node.reads.saturating_add(1);
-    count(node);
+    count_read(node);
     Ok(())
 }
 
@@ -194,7 +237,24 @@ pub(crate) fn look<I: ImageDev, O: Operation>(
 ) -> Result<(), NoMemory>
     requires node { IsOfWorld (plain_of O.cmd_is core.old) node }
     requires within { lbn < length core.old.mirror.blocks }
-    ensures world { OnOk result ((x : Cmd) → command_at (plain_of O.cmd_is core.old) node ≡ Some x → plain_of O.cmd_is core.new ≡ happen (plain_of O.cmd_is core.old) node (See x lbn)) }
+    ensures world { OnOk result (plain_of O.cmd_is core.new ≡ happen (plain_of O.cmd_is core.old) node (event.Look lbn)) }
+    ensures same { OnErr result (plain_of O.cmd_is core.new ≡ plain_of O.cmd_is core.old) }
+    ensures mirror { core.new.mirror ≡ core.old.mirror }
+    ensures room { core.new.history.room ≡ core.old.history.room }
+{
+    let block = *core.mirror.read(lbn);
+    keep_block(&mut core.nodes[node as usize - 1], lbn, block)
+}
+
+/// A node's command looks at a file's own block. An error says that memory ran out, and nothing was looked at.
+pub(crate) fn fetch<I: ImageDev, O: Operation>(
+    core: &mut Core<I, O>,
+    node: u8,
+    lbn: u32,
+) -> Result<(), NoMemory>
+    requires node { IsOfWorld (plain_of O.cmd_is core.old) node }
+    requires within { lbn < length core.old.mirror.blocks }
+    ensures world { OnOk result (plain_of O.cmd_is core.new ≡ happen (plain_of O.cmd_is core.old) node (event.Fetch lbn)) }
     ensures same { OnErr result (plain_of O.cmd_is core.new ≡ plain_of O.cmd_is core.old) }
     ensures mirror { core.new.mirror ≡ core.old.mirror }
     ensures room { core.new.history.room ≡ core.old.history.room }
@@ -205,7 +265,7 @@ pub(crate) fn look<I: ImageDev, O: Operation>(
 
 // A node has decided on a plan.
 fn keep_plan<O: Operation>(node: &mut Node<O>, plan: Plan)
-    ensures { state_of O.cmd_is node.new ≡ turned (record (state_of O.cmd_is node.old) { plan = Some plan; done = 0; tried = false }) }
+    ensures { state_of O.cmd_is node.new ≡ turned (planning (state_of O.cmd_is node.old) plan) }
 {
     node.plan = Some(plan);
     node.done = 0;
@@ -215,13 +275,13 @@ fn keep_plan<O: Operation>(node: &mut Node<O>, plan: Plan)
 
 /// A node's command decides on a plan, and a place for its answer is kept. An error says that memory ran out, and nothing was
 /// decided.
-pub(crate) fn decide<I: ImageDev, O: Operation>(
+pub(crate) fn plan<I: ImageDev, O: Operation>(
     core: &mut Core<I, O>,
     node: u8,
     plan: Plan,
 ) -> Result<(), NoMemory>
     requires { IsOfWorld (plain_of O.cmd_is core.old) node }
-    ensures world { OnOk result ((x : Cmd) → command_at (plain_of O.cmd_is core.old) node ≡ Some x → plain_of O.cmd_is core.new ≡ happen (plain_of O.cmd_is core.old) node (Decide x plan)) }
+    ensures world { OnOk result (plain_of O.cmd_is core.new ≡ happen (plain_of O.cmd_is core.old) node (event.Plan plan)) }
     ensures same { OnErr result (plain_of O.cmd_is core.new ≡ plain_of O.cmd_is core.old) }
     ensures mirror { core.new.mirror ≡ core.old.mirror }
     ensures place { OnOk result (8 ≤ core.new.history.room) }

@@ -3,6 +3,7 @@
 
 mod answers;
 mod asks;
+mod channels;
 mod events;
 mod giving;
 mod needs;

@@ -4,18 +4,18 @@ ghost use Rattle.std.specs.Prelude.{◌≡◌, ◌⊎◌, ◌<◌, ◌+◌, ◌+
 ghost use Rattle.vol_words.specs.Faults.{HasCause};
 ghost use Rattle.blk_drive.specs.Images.{told_set};
 ghost use Rattle.vol_parts.specs.Parts.{IsGeometry};
-ghost use Rattle.plain_cat.specs.declared.command.Cmd.{Cmd};
 ghost use Rattle.op_law.specs.declared.need.PlanWrite.{PlanWrite};
 ghost use Rattle.core_state.specs.Worlds.{NodeState, IsOfWorld, state_of, plain_of, node_at};
-ghost use Rattle.core_state.specs.Events.{Scan, Grab, has_asked, happen, turned, told_by, takes_by, grabbing, one_more, command_at};
+ghost use Rattle.core_state.specs.Event as event;
+ghost use Rattle.core_state.specs.Events.{has_asked, happen, turned, told_by, writes_found, space_looking, space_writing};
 
-use crate::events::count;
+use crate::events::{count, count_read};
 use crate::raises::is_same;
 use blk_drive::{ImageDev, ImageFault};
 use core_state::{Core, Node};
 use lock_db::LockName;
 use node_space::{Search, search};
-use op_law::{NoMemory, Operation, SeenBlocks};
+use op_law::{NoMemory, Operation};
 use plain_cat::{Clusters, Mode};
 use std::alloc::Global;
 use vol_words::Block;
@@ -32,26 +32,9 @@ pub(crate) fn has_asked(locks: &[(LockName, Mode)], name: LockName) -> bool
     false
 }
 
-// The blocks, with one more.
-fn with_block(
-    alloc: Global,
-    blocks: &SeenBlocks,
-    lbn: u32,
-    block: &Block,
-) -> Result<SeenBlocks, NoMemory>
-    ensures { IfOk result (λ more. more ≡ blocks.now ++ (lbn, block.now) ∷ []) }
-{
-    let mut more = SeenBlocks::new(alloc);
-    for seen in blocks.items() {
-        more.push(*seen)?;
-    }
-    more.push((lbn, *block))?;
-    Ok(more)
-}
-
 // What a search has come to is taken over: why it was refused, or its writes.
 fn take_over<O: Operation>(alloc: Global, node: &mut Node<O>, found: Search)
-    ensures { state_of O.cmd_is node.new ≡ record (state_of O.cmd_is node.old) { seen = told_by found node.old.seen; search = record { looked = node.old.looked; takes = takes_by found node.old.takes; taken = node.old.taken } } }
+    ensures { state_of O.cmd_is node.new ≡ record (state_of O.cmd_is node.old) { seen = told_by found node.old.seen; run = record node.old.run { writes = writes_found found node.old.run.writes } } }
 {
     match found {
         Search::Look(_) => {}
@@ -60,22 +43,47 @@ fn take_over<O: Operation>(alloc: Global, node: &mut Node<O>, found: Search)
             node.seen.number = None;
             node.seen.short = Some(why);
         }
-        Search::Take(writes) => node.takes = writes,
+        Search::Take(writes) => node.run.writes = writes,
     }
 }
 
-// A search has looked at these blocks.
-fn keep_looked<O: Operation>(node: &mut Node<O>, looked: SeenBlocks)
-    ensures { state_of O.cmd_is node.new ≡ turned (record (state_of O.cmd_is node.old) { search = record { looked = looked; takes = node.old.takes; taken = node.old.taken }; reads = one_more node.old.reads }) }
+// A node's search looks at a block more, and what it then comes to is taken over. An error says that memory ran out, and nothing
+// was looked at.
+fn look_on<O: Operation>(
+    alloc: Global,
+    node: &mut Node<O>,
+    clusters: u32,
+    number: bool,
+    lbn: u32,
+    block: &Block,
+) -> Result<(), NoMemory>
+    requires { IsGeometry node.old.seen.geometry }
+    ensures ok { OnOk result (state_of O.cmd_is node.new ≡ turned (space_looking (state_of O.cmd_is node.old) clusters number lbn block.now)) }
+    ensures err { OnErr result (state_of O.cmd_is node.new ≡ state_of O.cmd_is node.old) }
 {
-    node.looked = looked;
-    node.reads = node.reads.saturating_add(1);
-    count(node);
+    node.run.looked.push((lbn, *block))?;
+    match search(
+        alloc,
+        &node.seen.geometry,
+        clusters,
+        number,
+        node.run.looked.items(),
+    ) {
+        Ok(found) => {
+            take_over(alloc, node, found);
+            count_read(node);
+            Ok(())
+        }
+        Err(fault) => {
+            let _block = node.run.looked.pop();
+            Err(fault)
+        }
+    }
 }
 
 /// A node's search for so many clusters, and a number or none, looks at a block, and what it then comes to is taken over. An
 /// error says that memory ran out, and nothing was looked at.
-pub(crate) fn scan<I: ImageDev, O: Operation>(
+pub(crate) fn space_look<I: ImageDev, O: Operation>(
     alloc: Global,
     core: &mut Core<I, O>,
     node: u8,
@@ -86,57 +94,57 @@ pub(crate) fn scan<I: ImageDev, O: Operation>(
     requires node { IsOfWorld (plain_of O.cmd_is core.old) node }
     requires geometry { (s : NodeState) → node_at (plain_of O.cmd_is core.old).nodes node ≡ Some s → IsGeometry s.seen.geometry }
     requires within { lbn < length core.old.mirror.blocks }
-    ensures world { OnOk result ((x : Cmd) → command_at (plain_of O.cmd_is core.old) node ≡ Some x → plain_of O.cmd_is core.new ≡ happen (plain_of O.cmd_is core.old) node (Scan x clusters number lbn)) }
+    ensures world { OnOk result (plain_of O.cmd_is core.new ≡ happen (plain_of O.cmd_is core.old) node (event.SpaceLook clusters number lbn)) }
     ensures same { OnErr result (plain_of O.cmd_is core.new ≡ plain_of O.cmd_is core.old) }
     ensures mirror { core.new.mirror ≡ core.old.mirror }
     ensures room { core.new.history.room ≡ core.old.history.room }
 {
-    let place = node as usize - 1;
     let block = *core.mirror.read(lbn);
-    let at = &core.nodes[place];
-    let looked = with_block(alloc, &at.looked, lbn, &block)?;
-    let found = search(alloc, &at.seen.geometry, clusters, number, looked.items())?;
-    let at = &mut core.nodes[place];
-    take_over(alloc, at, found);
-    keep_looked(at, looked);
-    Ok(())
+    look_on(
+        alloc,
+        &mut core.nodes[node as usize - 1],
+        clusters,
+        number,
+        lbn,
+        &block,
+    )
 }
 
 // A node has made so many writes of its search, one more than before, and with the last one the command is given what was taken.
-fn keep_grab<O: Operation>(
+fn keep_space_write<O: Operation>(
     node: &mut Node<O>,
-    taken: usize,
+    made: usize,
     clusters: Clusters,
     number: Option<u32>,
 )
-    requires { taken ≡ node.old.taken + 1 }
-    ensures { (v : PlanWrite) → v.clusters ≡ clusters → v.number ≡ number → state_of O.cmd_is node.new ≡ turned (grabbing (state_of O.cmd_is node.old) v) }
+    requires { made ≡ node.old.run.made + 1 }
+    ensures { (v : PlanWrite) → v.clusters ≡ clusters → v.number ≡ number → state_of O.cmd_is node.new ≡ turned (space_writing (state_of O.cmd_is node.old) v) }
 {
-    if taken == node.takes.items().len() {
+    if made == node.run.writes.items().len() {
         node.seen.clusters = clusters;
         node.seen.number = number;
         node.seen.short = None;
     }
-    node.taken = taken;
+    node.run.made = made;
     node.writes = node.writes.saturating_add(1);
     count(node);
 }
 
 /// A node makes the next write of its search, of which it has made so many then, and has taken this with it. An error says that
 /// the image failed: in memory no block has changed, and the node stands before the write.
-pub(crate) fn grab<I: ImageDev, O: Operation>(
+pub(crate) fn space_write<I: ImageDev, O: Operation>(
     core: &mut Core<I, O>,
     node: u8,
     lbn: u32,
     block: &Block,
-    taken: usize,
+    made: usize,
     clusters: Clusters,
     number: Option<u32>,
 ) -> Result<(), ImageFault>
     requires node { IsOfWorld (plain_of O.cmd_is core.old) node }
     requires within { lbn < length core.old.mirror.blocks }
-    requires more { (s : NodeState) → node_at (plain_of O.cmd_is core.old).nodes node ≡ Some s → taken ≡ s.search.taken + 1 }
-    ensures world { OnOk result ((v : PlanWrite) → v.lbn ≡ lbn → v.block ≡ block.now → v.clusters ≡ clusters → v.number ≡ number → plain_of O.cmd_is core.new ≡ happen (plain_of O.cmd_is core.old) node (Grab v)) }
+    requires more { (s : NodeState) → node_at (plain_of O.cmd_is core.old).nodes node ≡ Some s → made ≡ s.run.made + 1 }
+    ensures world { OnOk result ((v : PlanWrite) → v.lbn ≡ lbn → v.block ≡ block.now → v.clusters ≡ clusters → v.number ≡ number → plain_of O.cmd_is core.new ≡ happen (plain_of O.cmd_is core.old) node (event.SpaceWrite v)) }
     ensures same { OnErr result (plain_of O.cmd_is core.new ≡ plain_of O.cmd_is core.old) }
     ensures cause { HasCause (I.faults core.old.mirror.image) (I.faults core.new.mirror.image) result }
     ensures blocks { OnOk result (core.new.mirror.blocks ≡ slice_set core.old.mirror.blocks lbn block.now) }
@@ -146,6 +154,6 @@ pub(crate) fn grab<I: ImageDev, O: Operation>(
     ensures room { core.new.history.room ≡ core.old.history.room }
 {
     core.mirror.write(lbn, block)?;
-    keep_grab(&mut core.nodes[node as usize - 1], taken, clusters, number);
+    keep_space_write(&mut core.nodes[node as usize - 1], made, clusters, number);
     Ok(())
 }

@@ -9,16 +9,18 @@ ghost use Rattle.op_law.specs.Laws.{Lawful};
 ghost use Rattle.core_state.specs.Worlds.{NodeState, IsOfWorld, state_of, plain_of, node_at, current};
 ghost use Rattle.core_state.specs.Goods.{Good, HasOnly, HasRoom};
 ghost use Rattle.core_state.specs.Images.{IsTold, IsTorn, told_as};
-ghost use Rattle.core_state.specs.Events.{is_write, happen, begun, next_event, command_event, plan_at, after_turn};
-ghost use Rattle.core_step.specs.Ready.{IsReady, Begins, HasTakenAll, NeedsNow};
+ghost use Rattle.core_state.specs.Events.{is_out, is_write, begun, next_event, plan_at, after_turn};
+ghost use Rattle.core_step.specs.Ready.{IsReady, Begins, HasMadeAll, NeedsNow, forgotten};
 ghost use Rattle.core_step.specs.Memory.{takes_none};
+ghost use Rattle.core_step.specs.Outcome.{IsTurn, held_of};
 ghost use Rattle.core_step.specs.Turns.{told};
 
-use crate::answers::{answer, put};
+use crate::answers::{answer, write};
 use crate::asks::{going_ask, writes_by};
-use crate::events::{ask, claim, decide, leave, look, stand, try_ask};
+use crate::channels::channel_seen;
+use crate::events::{ask, fetch, leave, lock, look, plan, space_lock, stand};
 use crate::needs::next_need;
-use crate::searches::{grab, has_asked, scan};
+use crate::searches::{has_asked, space_look, space_write};
 use crate::turns::{Kind, Turn, TurnFault};
 use blk_drive::ImageDev;
 use core_state::{Core, Node, World};
@@ -41,19 +43,14 @@ fn searching<I: ImageDev, O: Operation>(
     requires node { IsOfWorld (plain_of O.cmd_is core.old) node }
     requires ready { IsReady (plain_of O.cmd_is core.old) node }
     requires plan { plan_at (plain_of O.cmd_is core.old) node ≡ None }
-    requires takes { HasTakenAll (plain_of O.cmd_is core.old) node }
+    requires made { HasMadeAll (plain_of O.cmd_is core.old) node }
     requires needs { NeedsNow (plain_of O.cmd_is core.old) node clusters number }
     requires room { HasRoom (plain_of O.cmd_is core.old) core.old.history.room }
-    ensures world { OnOk result (plain_of O.cmd_is core.new ≡ happen (plain_of O.cmd_is core.old) node (command_event (plain_of O.cmd_is core.old) node)) }
-    ensures answer { IfOk result (λ t. t ≡ told (plain_of O.cmd_is core.new) node (command_event (plain_of O.cmd_is core.old) node)) }
-    ensures same { OnErr result (plain_of O.cmd_is core.new ≡ plain_of O.cmd_is core.old) }
-    ensures mirror { core.new.mirror ≡ core.old.mirror }
-    ensures memory { result ≡ Err TurnFault.ImageFault → ⊥ }
-    ensures room { HasRoom (plain_of O.cmd_is core.new) core.new.history.room }
+    ensures { IsTurn I.faults I.told node (held_of O.cmd_is core.old) (held_of O.cmd_is core.new) result }
 {
     let at = &core.nodes[node as usize - 1];
     if !has_asked(at.asked.items(), LockName::V) {
-        match claim(alloc, core, node)? {
+        match space_lock(alloc, core, node)? {
             Asked::Granted => return Ok(Turn::Moved(Kind::Locked)),
             Asked::Queued => return Ok(Turn::Waiting),
         }
@@ -63,12 +60,12 @@ fn searching<I: ImageDev, O: Operation>(
         &at.seen.geometry,
         clusters,
         number,
-        at.looked.items(),
+        at.run.looked.items(),
     )?;
     let Search::Look(lbn) = next else {
         unreachable!()
     };
-    scan(alloc, core, node, clusters, number, lbn)?;
+    space_look(alloc, core, node, clusters, number, lbn)?;
     Ok(Turn::Moved(Kind::Looked))
 }
 
@@ -82,17 +79,12 @@ fn unplanned<I: ImageDev, O: Operation>(
     requires node { IsOfWorld (plain_of O.cmd_is core.old) node }
     requires ready { IsReady (plain_of O.cmd_is core.old) node }
     requires plan { plan_at (plain_of O.cmd_is core.old) node ≡ None }
-    requires takes { HasTakenAll (plain_of O.cmd_is core.old) node }
+    requires made { HasMadeAll (plain_of O.cmd_is core.old) node }
     requires room { HasRoom (plain_of O.cmd_is core.old) core.old.history.room }
-    ensures world { OnOk result (plain_of O.cmd_is core.new ≡ happen (plain_of O.cmd_is core.old) node (command_event (plain_of O.cmd_is core.old) node)) }
-    ensures answer { IfOk result (λ t. t ≡ told (plain_of O.cmd_is core.new) node (command_event (plain_of O.cmd_is core.old) node)) }
-    ensures same { OnErr result (plain_of O.cmd_is core.new ≡ plain_of O.cmd_is core.old) }
-    ensures mirror { core.new.mirror ≡ core.old.mirror }
-    ensures memory { result ≡ Err TurnFault.ImageFault → ⊥ }
-    ensures room { HasRoom (plain_of O.cmd_is core.new) core.new.history.room }
+    ensures { IsTurn I.faults I.told node (held_of O.cmd_is core.old) (held_of O.cmd_is core.new) result }
 {
     match next_need(alloc, &core.nodes[node as usize - 1])? {
-        Need::Lock(name, mode) => match ask(alloc, core, node, name, mode)? {
+        Need::Lock(name, mode) => match lock(alloc, core, node, name, mode)? {
             Asked::Granted => Ok(Turn::Moved(Kind::Locked)),
             Asked::Queued => Ok(Turn::Waiting),
         },
@@ -101,12 +93,12 @@ fn unplanned<I: ImageDev, O: Operation>(
             Ok(Turn::Moved(Kind::Looked))
         }
         Need::Bare(lbn) => {
-            look(core, node, lbn)?;
+            fetch(core, node, lbn)?;
             Ok(Turn::Moved(Kind::Looked))
         }
         Need::Space { clusters, number } => searching(alloc, core, node, clusters, number),
-        Need::Ready(plan) => {
-            decide(core, node, plan)?;
+        Need::Ready(made) => {
+            plan(core, node, made)?;
             Ok(Turn::Moved(Kind::Planned))
         }
     }
@@ -123,18 +115,7 @@ fn planned<I: ImageDev, O: Operation>(
     requires ready { IsReady (plain_of O.cmd_is core.old) node }
     requires plan { IsSome (plan_at (plain_of O.cmd_is core.old) node) }
     requires room { HasRoom (plain_of O.cmd_is core.old) core.old.history.room }
-    ensures world { OnOk result (plain_of O.cmd_is core.new ≡ happen (plain_of O.cmd_is core.old) node (command_event (plain_of O.cmd_is core.old) node)) }
-    ensures answer { IfOk result (λ t. t ≡ told (plain_of O.cmd_is core.new) node (command_event (plain_of O.cmd_is core.old) node)) }
-    ensures same { OnErr result (plain_of O.cmd_is core.new ≡ plain_of O.cmd_is core.old) }
-    ensures later { I.faults core.old.mirror.image ≤ I.faults core.new.mirror.image }
-    ensures cause { result ≡ Err TurnFault.ImageFault → Rose (I.faults core.old.mirror.image) (I.faults core.new.mirror.image) }
-    ensures memory { result ≡ Err TurnFault.NoMemory → takes_none core.old.locks node (command_event (plain_of O.cmd_is core.old) node) ≡ false }
-    ensures before { result ≡ Err TurnFault.ImageFault → is_write (command_event (plain_of O.cmd_is core.old) node) ≡ true }
-    ensures torn { result ≡ Err TurnFault.ImageFault → IsTold (I.told core.old.mirror.image) core.old.mirror.blocks
-        → IsTorn (I.told core.old.mirror.image) (I.told core.new.mirror.image) core.old.mirror.blocks (happen (plain_of O.cmd_is core.old) node (command_event (plain_of O.cmd_is core.old) node)).blocks }
-    ensures drive { IsTold (I.told core.old.mirror.image) core.old.mirror.blocks
-        → (I.told core.new.mirror.image ≡ told_as (I.told core.old.mirror.image) core.new.mirror.blocks) ⊎ (result ≡ Err TurnFault.ImageFault) }
-    ensures room { HasRoom (plain_of O.cmd_is core.new) core.new.history.room }
+    ensures { IsTurn I.faults I.told node (held_of O.cmd_is core.old) (held_of O.cmd_is core.new) result }
 {
     let at = &core.nodes[node as usize - 1];
     let Some(plan) = &at.plan else { unreachable!() };
@@ -144,11 +125,11 @@ fn planned<I: ImageDev, O: Operation>(
         let lbn = w.lbn;
         let block = w.block;
         let done = at.done + 1;
-        put(core, node, lbn, &block, done)?;
+        write(core, node, lbn, &block, done)?;
         return Ok(Turn::Moved(Kind::Wrote));
     }
     if let Some((file, mode)) = going_ask(plan, at.tried, &core.locks, node) {
-        try_ask(alloc, core, node, file, mode)?;
+        ask(alloc, core, node, file, mode)?;
         return Ok(Turn::Moved(Kind::Tried));
     }
     answer(alloc, core, node);
@@ -165,50 +146,41 @@ fn go_on<I: ImageDev, O: Operation>(
     requires node { IsOfWorld (plain_of O.cmd_is core.old) node }
     requires ready { IsReady (plain_of O.cmd_is core.old) node }
     requires room { HasRoom (plain_of O.cmd_is core.old) core.old.history.room }
-    ensures world { OnOk result (plain_of O.cmd_is core.new ≡ happen (plain_of O.cmd_is core.old) node (command_event (plain_of O.cmd_is core.old) node)) }
-    ensures answer { IfOk result (λ t. t ≡ told (plain_of O.cmd_is core.new) node (command_event (plain_of O.cmd_is core.old) node)) }
-    ensures same { OnErr result (plain_of O.cmd_is core.new ≡ plain_of O.cmd_is core.old) }
-    ensures later { I.faults core.old.mirror.image ≤ I.faults core.new.mirror.image }
-    ensures cause { result ≡ Err TurnFault.ImageFault → Rose (I.faults core.old.mirror.image) (I.faults core.new.mirror.image) }
-    ensures memory { result ≡ Err TurnFault.NoMemory → takes_none core.old.locks node (command_event (plain_of O.cmd_is core.old) node) ≡ false }
-    ensures before { result ≡ Err TurnFault.ImageFault → is_write (command_event (plain_of O.cmd_is core.old) node) ≡ true }
-    ensures torn { result ≡ Err TurnFault.ImageFault → IsTold (I.told core.old.mirror.image) core.old.mirror.blocks
-        → IsTorn (I.told core.old.mirror.image) (I.told core.new.mirror.image) core.old.mirror.blocks (happen (plain_of O.cmd_is core.old) node (command_event (plain_of O.cmd_is core.old) node)).blocks }
-    ensures drive { IsTold (I.told core.old.mirror.image) core.old.mirror.blocks
-        → (I.told core.new.mirror.image ≡ told_as (I.told core.old.mirror.image) core.new.mirror.blocks) ⊎ (result ≡ Err TurnFault.ImageFault) }
-    ensures room { HasRoom (plain_of O.cmd_is core.new) core.new.history.room }
+    ensures { IsTurn I.faults I.told node (held_of O.cmd_is core.old) (held_of O.cmd_is core.new) result }
 {
     let at = &core.nodes[node as usize - 1];
     if at.plan.is_some() {
         return planned(alloc, core, node);
     }
-    if at.taken < at.takes.items().len() {
-        let w = &at.takes.items()[at.taken];
+    if at.run.made < at.run.writes.items().len() {
+        let w = &at.run.writes.items()[at.run.made];
         let lbn = w.lbn;
         let block = w.block;
         let number = w.number;
-        let taken = at.taken + 1;
+        let made = at.run.made + 1;
         let clusters = w.clusters.copy(alloc)?;
-        grab(core, node, lbn, &block, taken, clusters, number)?;
+        space_write(core, node, lbn, &block, made, clusters, number)?;
         return Ok(Turn::Moved(Kind::Wrote));
     }
     unplanned(alloc, core, node)
 }
 
-// A node begins a command.
+// A node begins a command, for which it has seen what its channel has open.
 fn begin<O: Operation>(node: &mut Node<O>, cmd: Cmd)
     requires { O.takes cmd }
     ensures lawful { Lawful cmd }
     ensures state { state_of O.cmd_is node.new ≡ begun (state_of O.cmd_is node.old) cmd }
 {
+    node.seen.channel = channel_seen(&node.opens, &cmd);
     node.op = Some(O::of(cmd));
 }
 
 // A node is without a command again.
 fn forget<O: Operation>(node: &mut Node<O>)
-    ensures { state_of O.cmd_is node.new ≡ record (state_of O.cmd_is node.old) { cmd = None } }
+    ensures { state_of O.cmd_is node.new ≡ forgotten (state_of O.cmd_is node.old) }
 {
     node.op = None;
+    node.seen.channel = None;
 }
 
 // A node begins a command with its first event. After an error it is without the command.
@@ -223,19 +195,8 @@ fn first<I: ImageDev, O: Operation>(
     requires begins { Begins (plain_of O.cmd_is core.old) node cmd }
     requires takes { O.takes cmd }
     requires room { HasRoom (plain_of O.cmd_is core.old) core.old.history.room }
-    ensures world { OnOk result (plain_of O.cmd_is core.new ≡ after_turn (plain_of O.cmd_is core.old) node) }
-    ensures answer { IfOk result (λ t. t ≡ told (plain_of O.cmd_is core.new) node (next_event (plain_of O.cmd_is core.old) node)) }
+    ensures turn { IsTurn I.faults I.told node (held_of O.cmd_is core.old) (held_of O.cmd_is core.new) result }
     ensures lawful { Lawful cmd }
-    ensures same { OnErr result (plain_of O.cmd_is core.new ≡ plain_of O.cmd_is core.old) }
-    ensures later { I.faults core.old.mirror.image ≤ I.faults core.new.mirror.image }
-    ensures cause { result ≡ Err TurnFault.ImageFault → Rose (I.faults core.old.mirror.image) (I.faults core.new.mirror.image) }
-    ensures memory { result ≡ Err TurnFault.NoMemory → takes_none core.old.locks node (next_event (plain_of O.cmd_is core.old) node) ≡ false }
-    ensures before { result ≡ Err TurnFault.ImageFault → is_write (next_event (plain_of O.cmd_is core.old) node) ≡ true }
-    ensures torn { result ≡ Err TurnFault.ImageFault → IsTold (I.told core.old.mirror.image) core.old.mirror.blocks
-        → IsTorn (I.told core.old.mirror.image) (I.told core.new.mirror.image) core.old.mirror.blocks (after_turn (plain_of O.cmd_is core.old) node).blocks }
-    ensures drive { IsTold (I.told core.old.mirror.image) core.old.mirror.blocks
-        → (I.told core.new.mirror.image ≡ told_as (I.told core.old.mirror.image) core.new.mirror.blocks) ⊎ (result ≡ Err TurnFault.ImageFault) }
-    ensures room { HasRoom (plain_of O.cmd_is core.new) core.new.history.room }
 {
     begin(&mut core.nodes[node as usize - 1], cmd);
     match go_on(alloc, core, node) {
@@ -247,7 +208,14 @@ fn first<I: ImageDev, O: Operation>(
     }
 }
 
-/// One turn of a node: the event of the first rule that applies. After an error what the world is made of is as before.
+// Whether a node has left, or is dead.
+fn is_out<O: Operation>(node: &Node<O>) -> bool
+    ensures { result ≡ is_out (state_of O.cmd_is node.now) }
+{
+    node.over || node.past.is_dead()
+}
+
+// One turn of a node: the event of the first rule that applies. After an error what the world is made of is as before.
 fn step<I: ImageDev, O: Operation>(
     alloc: Global,
     core: &mut Core<I, O>,
@@ -257,22 +225,11 @@ fn step<I: ImageDev, O: Operation>(
     requires takes { HasOnly O.takes core.old.script }
     requires node { IsOfWorld (plain_of O.cmd_is core.old) node }
     requires room { HasRoom (plain_of O.cmd_is core.old) core.old.history.room }
-    ensures world { OnOk result (plain_of O.cmd_is core.new ≡ after_turn (plain_of O.cmd_is core.old) node) }
-    ensures answer { IfOk result (λ t. t ≡ told (plain_of O.cmd_is core.new) node (next_event (plain_of O.cmd_is core.old) node)) }
-    ensures lawful { OnOk result ((s : NodeState) (x : Cmd) → node_at (plain_of O.cmd_is core.old).nodes node ≡ Some s → s.over ≡ false → waits_at (plain_of O.cmd_is core.old).locks node s.asked ≡ false → current (plain_of O.cmd_is core.old) node s ≡ Some x → Lawful x) }
-    ensures same { OnErr result (plain_of O.cmd_is core.new ≡ plain_of O.cmd_is core.old) }
-    ensures later { I.faults core.old.mirror.image ≤ I.faults core.new.mirror.image }
-    ensures cause { result ≡ Err TurnFault.ImageFault → Rose (I.faults core.old.mirror.image) (I.faults core.new.mirror.image) }
-    ensures memory { result ≡ Err TurnFault.NoMemory → takes_none core.old.locks node (next_event (plain_of O.cmd_is core.old) node) ≡ false }
-    ensures before { result ≡ Err TurnFault.ImageFault → is_write (next_event (plain_of O.cmd_is core.old) node) ≡ true }
-    ensures torn { result ≡ Err TurnFault.ImageFault → IsTold (I.told core.old.mirror.image) core.old.mirror.blocks
-        → IsTorn (I.told core.old.mirror.image) (I.told core.new.mirror.image) core.old.mirror.blocks (after_turn (plain_of O.cmd_is core.old) node).blocks }
-    ensures drive { IsTold (I.told core.old.mirror.image) core.old.mirror.blocks
-        → (I.told core.new.mirror.image ≡ told_as (I.told core.old.mirror.image) core.new.mirror.blocks) ⊎ (result ≡ Err TurnFault.ImageFault) }
-    ensures room { HasRoom (plain_of O.cmd_is core.new) core.new.history.room }
+    ensures turn { IsTurn I.faults I.told node (held_of O.cmd_is core.old) (held_of O.cmd_is core.new) result }
+    ensures lawful { OnOk result ((s : NodeState) (x : Cmd) → node_at (plain_of O.cmd_is core.old).nodes node ≡ Some s → is_out s ≡ false → waits_at (plain_of O.cmd_is core.old).locks node s.asked ≡ false → current (plain_of O.cmd_is core.old) node s ≡ Some x → Lawful x) }
 {
     let at = &core.nodes[node as usize - 1];
-    if at.over {
+    if is_out(at) {
         stand(core, node);
         return Ok(Turn::Over);
     }

@@ -1,7 +1,17 @@
 pub mod Standing
 pub mod Nodes
+pub mod Rows
+pub mod Served
 pub mod Asking
+pub mod Moving
+pub mod Converting
+pub mod Lowering
+pub mod Taking
 pub mod Giving
+pub mod PuttingBack
+pub mod Sweeping
+pub mod Channels
 pub mod Dying
 pub mod Keeping
+pub mod Growing
 pub mod ReadingBack

@@ -1,20 +1,20 @@
 -- How a node's locks stand in a table, and in a later one.
-use Rattle.std.proofs.Common.{◌≡◌, ◌⊎◌, ◌-◌, ℕ, suc, true, false, List, [], ◌∷◌, ◌++◌, Some, None, slice_get, length, option_map, unwrap_or, if◌then◌else◌, refl, ap, ◌∙◌, inl, inr, arith}
-use Rattle.std.proofs.lemmas.List.{map-append}
+use Rattle.std.proofs.Common.{◌≡◌, ◌⊎◌, ◌-◌, ℕ, suc, Bool, true, false, List, [], ◌∷◌, ◌++◌, Some, None, slice_get, length, option_map, unwrap_or, if◌then◌else◌, refl, ap, ◌∙◌, inl, inr, arith}
 use Rattle.plain_cat.specs.declared.mode.Mode.{Mode}
 use Rattle.lock_db.specs.declared.name.LockName.{LockName}
 use Rattle.lock_db.specs.declared.resource.Resource.{Resource}
 use Rattle.lock_db.specs.Queues.{is_queued}
 use Rattle.lock_db.specs.Laws.{stands_at}
-use Rattle.vol_owners.specs.Lists.{Has, Once}
-use Rattle.vol_owners.proofs.Listing.{once_in_a_row}
-use Rattle.node_locks.specs.Held.{system_of, names_of, IsGranted, IsWaiting, StandInOrder, HoldsItsLocks, is_queued_at, waits_at, held_locks}
+use Rattle.vol_owners.specs.Lists.{Has}
+use Rattle.node_locks.specs.Held.{system_of, names_of, IsGranted, IsWaiting, StandInOrder, is_queued_at, waits_at, held_locks}
+use Rattle.node_locks.specs.HeldLaws.{StandsStill, GoesOn}
 
 pub queued-granted : (t : List Resource) (n : ℕ) (l : LockName × Mode) → IsGranted t n l → is_queued_at t n l ≡ false
 queued-granted t n l g = ap (λ o. unwrap_or (option_map is_queued o) false) g
 
 pub queued-waiting : (t : List Resource) (n : ℕ) (l : LockName × Mode) → IsWaiting t n l → is_queued_at t n l ≡ true
-queued-waiting t n l w = ap (λ o. unwrap_or (option_map is_queued o) false) w
+queued-waiting t n l (inl w) = ap (λ o. unwrap_or (option_map is_queued o) false) w
+queued-waiting t n l (inr w) = ap (λ o. unwrap_or (option_map is_queued o) false) w
 
 -- each of the locks is granted
 abbrev pub AllGranted : List Resource → ℕ → List (LockName × Mode) → Type 0
@@ -47,10 +47,10 @@ pub granted-later : (t u : List Resource) (n : ℕ) (ls : List (LockName × Mode
 granted-later t u n [] h g = tt
 granted-later t u n (l ∷ ls) h g = (h l (inl refl) g.0, granted-later t u n ls (λ k i. h k (inr i)) g.1)
 
-pub all_held : (t : List Resource) (n : ℕ) (ls : List (LockName × Mode)) → waits_at t n ls ≡ false → held_locks t n ls ≡ ls
-all_held t n [] q = refl
-all_held t n (l ∷ []) q = rw q refl
-all_held t n (l ∷ (k ∷ ls)) q = ap (λ ys. l ∷ ys) (all_held t n (k ∷ ls) q)
+pub held-idle : (t : List Resource) (n : ℕ) (ls : List (LockName × Mode)) → waits_at t n ls ≡ false → held_locks t n ls ≡ ls
+held-idle t n [] q = refl
+held-idle t n (l ∷ []) q = rw q refl
+held-idle t n (l ∷ (k ∷ ls)) q = ap (λ ys. l ∷ ys) (held-idle t n (k ∷ ls) q)
 
 -- one lock more, the last one
 pub in_order-push : (t : List Resource) (n : ℕ) (ls : List (LockName × Mode)) (l : LockName × Mode) → AllGranted t n ls → IsGranted t n l ⊎ IsWaiting t n l → StandInOrder t n (ls ++ l ∷ [])
@@ -68,13 +68,6 @@ held-push t n [] l = refl
 held-push t n (k ∷ []) l = refl
 held-push t n (k ∷ (j ∷ ls)) l = ap (λ ys. k ∷ ys) (held-push t n (j ∷ ls) l)
 
-pub names-push : (ls : List (LockName × Mode)) (l : LockName × Mode) → names_of (ls ++ l ∷ []) ≡ names_of ls ++ l.0 ∷ []
-names-push ls l = map-append (λ (k : LockName × Mode). k.0) ls (l ∷ [])
-
-pub once-push : (ls : List (LockName × Mode)) (l : LockName × Mode) → Once (names_of ls) → (Has (names_of ls) l.0 → ⊥) → Once (names_of (ls ++ l ∷ []))
-once-push ls l o f =
-    rw (names-push ls l) (once_in_a_row (names_of ls) (l.0 ∷ []) o ((λ x. x), tt) (λ x h k. elim k [ inl e ↦ f (rw e h) | inr z ↦ z ]))
-
 -- the last lock of a list
 pub waits-last : (t : List Resource) (n : ℕ) (ls : List (LockName × Mode)) (l : LockName × Mode) → slice_get ls (length ls - 1) ≡ Some l → waits_at t n ls ≡ is_queued_at t n l
 waits-last t n [] l e = cc
@@ -85,25 +78,22 @@ waits-last t n (k ∷ (j ∷ ls)) l e =
     waits-last t n (j ∷ ls) l (rw rest (rw whole at e))
 
 -- What a node's locks in one table are in a later one: what is granted stays so, what waits may be granted, and nothing comes.
-pub record GoesOn (m : ℕ) (t u : List Resource) : Type 0 where
+pub record ComesTo (m : ℕ) (t u : List Resource) : Type 0 where
   pub granted : (l : LockName × Mode) → IsGranted t m l → IsGranted u m l
   pub waiting : (l : LockName × Mode) → IsWaiting t m l → IsGranted u m l ⊎ IsWaiting u m l
   pub nothing : (name : LockName) → stands_at name (system_of m) t ≡ None → stands_at name (system_of m) u ≡ None
 
--- a lock that is the last of a list
-goes-last : (m : ℕ) (t u : List Resource) (l : LockName × Mode) → GoesOn m t u → IsGranted t m l ⊎ IsWaiting t m l → IsGranted u m l ⊎ IsWaiting u m l
-goes-last m t u l o (inl g) = inl (o.granted l g)
-goes-last m t u l o (inr w) = o.waiting l w
+-- a lock that is the last of a row
+comes-last : (m : ℕ) (t u : List Resource) (l : LockName × Mode) → ComesTo m t u → IsGranted t m l ⊎ IsWaiting t m l → IsGranted u m l ⊎ IsWaiting u m l
+comes-last m t u l o (inl g) = inl (o.granted l g)
+comes-last m t u l o (inr w) = o.waiting l w
 
-goes-in_order : (m : ℕ) (t u : List Resource) (ls : List (LockName × Mode)) → GoesOn m t u → StandInOrder t m ls → StandInOrder u m ls
-goes-in_order m t u [] o s = tt
-goes-in_order m t u (l ∷ []) o s = goes-last m t u l o s
-goes-in_order m t u (l ∷ (k ∷ ls)) o s = (o.granted l s.0, goes-in_order m t u (k ∷ ls) o s.1)
+pub comes-in_order : (m : ℕ) (t u : List Resource) (ls : List (LockName × Mode)) → ComesTo m t u → StandInOrder t m ls → StandInOrder u m ls
+comes-in_order m t u [] o s = tt
+comes-in_order m t u (l ∷ []) o s = comes-last m t u l o s
+comes-in_order m t u (l ∷ (k ∷ ls)) o s = (o.granted l s.0, comes-in_order m t u (k ∷ ls) o s.1)
 
-pub goes-holds : (m : ℕ) (t u : List Resource) (ls : List (LockName × Mode)) → GoesOn m t u → HoldsItsLocks t m ls → HoldsItsLocks u m ls
-goes-holds m t u ls o h = record { once = h.once; in_order = goes-in_order m t u ls o h.in_order; no_other = λ name f. o.nothing name (h.no_other name f) }
-
-held-last : (m : ℕ) (t u : List Resource) (l x : LockName × Mode) → GoesOn m t u → IsGranted t m l ⊎ IsWaiting t m l → Has (held_locks t m (l ∷ [])) x → Has (held_locks u m (l ∷ [])) x
+held-last : (m : ℕ) (t u : List Resource) (l x : LockName × Mode) → ComesTo m t u → IsGranted t m l ⊎ IsWaiting t m l → Has (held_locks t m (l ∷ [])) x → Has (held_locks u m (l ∷ [])) x
 held-last m t u l x o (inl g) h =
     let before = queued-granted t m l g in
     let after = queued-granted u m l (o.granted l g) in
@@ -111,34 +101,54 @@ held-last m t u l x o (inl g) h =
 held-last m t u l x o (inr w) h = let before = queued-waiting t m l w in absurd (rw before at h)
 
 -- what a node holds it goes on to hold
-pub goes-held : (m : ℕ) (t u : List Resource) (ls : List (LockName × Mode)) (x : LockName × Mode) → GoesOn m t u → StandInOrder t m ls → Has (held_locks t m ls) x → Has (held_locks u m ls) x
-goes-held m t u [] x o s h = h
-goes-held m t u (l ∷ []) x o s h = held-last m t u l x o s h
-goes-held m t u (l ∷ (k ∷ ls)) x o s h = elim h [ inl e ↦ inl e | inr r ↦ inr (goes-held m t u (k ∷ ls) x o s.1 r) ]
+comes-held : (m : ℕ) (t u : List Resource) (ls : List (LockName × Mode)) (x : LockName × Mode) → ComesTo m t u → StandInOrder t m ls → Has (held_locks t m ls) x → Has (held_locks u m ls) x
+comes-held m t u [] x o s h = h
+comes-held m t u (l ∷ []) x o s h = held-last m t u l x o s h
+comes-held m t u (l ∷ (k ∷ ls)) x o s h = elim h [ inl e ↦ inl e | inr r ↦ inr (comes-held m t u (k ∷ ls) x o s.1 r) ]
 
--- who waits for nothing goes on so
-pub goes-idle : (m : ℕ) (t u : List Resource) (ls : List (LockName × Mode)) → GoesOn m t u → StandInOrder t m ls → waits_at t m ls ≡ false → waits_at u m ls ≡ false
-goes-idle m t u ls o s q = waits-granted u m ls (granted-later t u m ls (λ l i g. o.granted l g) (granted-all t m ls s q))
+-- and who waits for nothing goes on so
+pub comes-on : (m : ℕ) (t u : List Resource) (ls : List (LockName × Mode)) → ComesTo m t u → StandInOrder t m ls → GoesOn t u m ls
+comes-on m t u ls o s = record {
+  waits = λ q. waits-granted u m ls (granted-later t u m ls (λ l i g. o.granted l g) (granted-all t m ls s q));
+  holds = λ x h. comes-held m t u ls x o s h;
+}
 
 -- at each name a node stands as it stood
 abbrev pub StandsAlike : ℕ → List Resource → List Resource → Type 0
 StandsAlike m t u = (name : LockName) → stands_at name (system_of m) u ≡ stands_at name (system_of m) t
 
-pub alike-goes : (m : ℕ) (t u : List Resource) → StandsAlike m t u → GoesOn m t u
-alike-goes m t u a = record { granted = λ l g. a l.0 ∙ g; waiting = λ l w. inr (a l.0 ∙ w); nothing = λ name e. a name ∙ e }
+pub alike-comes : (m : ℕ) (t u : List Resource) → StandsAlike m t u → ComesTo m t u
+alike-comes m t u a = record { granted = λ l g. a l.0 ∙ g; waiting = λ l w. inr (elim w [ inl e ↦ inl (a l.0 ∙ e) | inr e ↦ inr (a l.0 ∙ e) ]); nothing = λ name e. a name ∙ e }
 
-queued-alike : (m : ℕ) (t u : List Resource) (l : LockName × Mode) → StandsAlike m t u → is_queued_at u m l ≡ is_queued_at t m l
-queued-alike m t u l a = ap (λ o. unwrap_or (option_map is_queued o) false) (a l.0)
+-- a row at whose names a node stands as it stood
+abbrev pub AlikeAt : ℕ → List Resource → List Resource → List (LockName × Mode) → Type 0
+AlikeAt m t u ls = (name : LockName) → Has (names_of ls) name → stands_at name (system_of m) u ≡ stands_at name (system_of m) t
 
-pub waits-alike : (m : ℕ) (t u : List Resource) (ls : List (LockName × Mode)) → StandsAlike m t u → waits_at u m ls ≡ waits_at t m ls
+queued-alike : (m : ℕ) (t u : List Resource) (l : LockName × Mode) → stands_at l.0 (system_of m) u ≡ stands_at l.0 (system_of m) t → is_queued_at u m l ≡ is_queued_at t m l
+queued-alike m t u l e = ap (λ o. unwrap_or (option_map is_queued o) false) e
+
+waits-alike : (m : ℕ) (t u : List Resource) (ls : List (LockName × Mode)) → AlikeAt m t u ls → waits_at u m ls ≡ waits_at t m ls
 waits-alike m t u [] a = refl
-waits-alike m t u (l ∷ []) a = queued-alike m t u l a
-waits-alike m t u (l ∷ (k ∷ ls)) a = waits-alike m t u (k ∷ ls) a
+waits-alike m t u (l ∷ []) a = queued-alike m t u l (a l.0 (inl refl))
+waits-alike m t u (l ∷ (k ∷ ls)) a = waits-alike m t u (k ∷ ls) (λ name i. a name (inr i))
 
-pub held-alike : (m : ℕ) (t u : List Resource) (ls : List (LockName × Mode)) → StandsAlike m t u → held_locks u m ls ≡ held_locks t m ls
+held-alike : (m : ℕ) (t u : List Resource) (ls : List (LockName × Mode)) → AlikeAt m t u ls → held_locks u m ls ≡ held_locks t m ls
 held-alike m t u [] a = refl
-held-alike m t u (l ∷ []) a = ap (λ b. if b then [] else l ∷ []) (queued-alike m t u l a)
-held-alike m t u (l ∷ (k ∷ ls)) a = ap (λ ys. l ∷ ys) (held-alike m t u (k ∷ ls) a)
+held-alike m t u (l ∷ []) a = ap (λ b. if b then [] else l ∷ []) (queued-alike m t u l (a l.0 (inl refl)))
+held-alike m t u (l ∷ (k ∷ ls)) a = ap (λ ys. l ∷ ys) (held-alike m t u (k ∷ ls) (λ name i. a name (inr i)))
+
+pub stands-still : (m : ℕ) (t u : List Resource) (ls : List (LockName × Mode)) → AlikeAt m t u ls → StandsStill t u m ls
+stands-still m t u ls a = record { waits = waits-alike m t u ls a; holds = held-alike m t u ls a }
+
+alike-last : (m : ℕ) (t u : List Resource) (l : LockName × Mode) → stands_at l.0 (system_of m) u ≡ stands_at l.0 (system_of m) t → IsGranted t m l ⊎ IsWaiting t m l → IsGranted u m l ⊎ IsWaiting u m l
+alike-last m t u l e (inl g) = inl (e ∙ g)
+alike-last m t u l e (inr (inl w)) = inr (inl (e ∙ w))
+alike-last m t u l e (inr (inr w)) = inr (inr (e ∙ w))
+
+pub alike-in_order : (m : ℕ) (t u : List Resource) (ls : List (LockName × Mode)) → AlikeAt m t u ls → StandInOrder t m ls → StandInOrder u m ls
+alike-in_order m t u [] a s = tt
+alike-in_order m t u (l ∷ []) a s = alike-last m t u l (a l.0 (inl refl)) s
+alike-in_order m t u (l ∷ (k ∷ ls)) a s = (a l.0 (inl refl) ∙ s.0, alike-in_order m t u (k ∷ ls) (λ name i. a name (inr i)) s.1)
 
 -- what a node holds is granted
 granted-one : (t : List Resource) (n : ℕ) (l x : LockName × Mode) → IsGranted t n l ⊎ IsWaiting t n l → Has (held_locks t n (l ∷ [])) x → IsGranted t n x
@@ -159,10 +169,21 @@ held-granted t n [] x s i g = i
 held-granted t n (l ∷ []) x s i g = elim i [ inl e ↦ held-one t n l x (rw e g) e | inr z ↦ absurd z ]
 held-granted t n (l ∷ (k ∷ ls)) x s i g = elim i [ inl e ↦ inl e | inr r ↦ inr (held-granted t n (k ∷ ls) x s.1 r g) ]
 
+-- what a node holds it asked for
+asked-one : (t : List Resource) (n : ℕ) (l x : LockName × Mode) (queued : Bool) → Has (if queued then [] else l ∷ []) x → Has (l ∷ []) x
+asked-one t n l x true h = absurd h
+asked-one t n l x false h = h
+
+pub held-asked : (t : List Resource) (n : ℕ) (ls : List (LockName × Mode)) (x : LockName × Mode) → Has (held_locks t n ls) x → Has ls x
+held-asked t n [] x h = h
+held-asked t n (l ∷ []) x h = asked-one t n l x (is_queued_at t n l) h
+held-asked t n (l ∷ (k ∷ ls)) x h = elim h [ inl e ↦ inl e | inr r ↦ inr (held-asked t n (k ∷ ls) x r) ]
+
 -- how a lock that a node asked for stands
 stands-last : (t : List Resource) (n : ℕ) (l : LockName × Mode) (mode : Mode) → IsGranted t n l ⊎ IsWaiting t n l → IsGranted t n (l.0, mode) → l ≡ (l.0, mode)
 stands-last t n l mode (inl g) k = let same : l.1 ≡ mode = cc in ap (λ (x : Mode). let p : LockName × Mode = (l.0, x) in p) same
-stands-last t n l mode (inr w) k = cc
+stands-last t n l mode (inr (inl w)) k = cc
+stands-last t n l mode (inr (inr w)) k = cc
 
 pub asked-granted : (t : List Resource) (n : ℕ) (ls : List (LockName × Mode)) (name : LockName) (mode : Mode) → StandInOrder t n ls → Has (names_of ls) name → IsGranted t n (name, mode) → Has ls (name, mode)
 asked-granted t n [] name mode s i g = i
@@ -180,11 +201,11 @@ waiting-last t n (k ∷ []) l s q = waiting-one t n l s.1 q
 waiting-last t n (k ∷ (j ∷ ls)) l s q = waiting-last t n (j ∷ ls) l s.1 q
 
 -- how the lock on a name stands
-named-first : (t : List Resource) (n : ℕ) (l : LockName × Mode) (ls : List (LockName × Mode)) → StandInOrder t n (l ∷ ls) → IsGranted t n l ⊎ IsWaiting t n l
+pub named-first : (t : List Resource) (n : ℕ) (l : LockName × Mode) (ls : List (LockName × Mode)) → StandInOrder t n (l ∷ ls) → IsGranted t n l ⊎ IsWaiting t n l
 named-first t n l [] s = s
 named-first t n l (j ∷ ls) s = inl s.0
 
-in_order-rest : (t : List Resource) (n : ℕ) (l : LockName × Mode) (ls : List (LockName × Mode)) → StandInOrder t n (l ∷ ls) → StandInOrder t n ls
+pub in_order-rest : (t : List Resource) (n : ℕ) (l : LockName × Mode) (ls : List (LockName × Mode)) → StandInOrder t n (l ∷ ls) → StandInOrder t n ls
 in_order-rest t n l [] s = tt
 in_order-rest t n l (j ∷ ls) s = s.1
 

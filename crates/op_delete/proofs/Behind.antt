@@ -1,8 +1,7 @@
 -- What the code sees behind the directory: its blocks are few, and the header there is one whose runs are inside. The code knows
 -- what comes behind a directory for any row of events; so a row is taken that carries its blocks to its plan.
 use Rattle.std.proofs.Common.{◌≡◌, ◌≤◌, ◌∙◌, ℕ, Bool, true, false, cond, List, [], ◌∷◌, Option, Some, None, length, map, slice_get, refl, sym, ap, subst, arith}
-use Rattle.std.specs.Prelude.{◌==◌, nat_le, option_map, Ok}
-use Rattle.std.proofs.lemmas.List.{length-map}
+use Rattle.std.specs.Prelude.{◌==◌, nat_le, option_map}
 use Rattle.vol_words.specs.Fields.{Block}
 use Rattle.fx_header.specs.declared.slot.Hdr.{Hdr}
 use Rattle.fx_header.specs.Headers.{header_read}
@@ -29,11 +28,9 @@ use Rattle.op_law.specs.declared.need.Need.{Need}
 use Rattle.op_law.specs.declared.need.Need.TheVariants as need
 use Rattle.op_law.specs.declared.need.Plan.{Plan}
 use Rattle.op_law.specs.declared.seen.Seen.{Seen}
-use Rattle.op_law.specs.Behind.{blocks_alone, goes_on_by}
 use Rattle.op_law.specs.Events.{Events, Take, Look, Make, Space, space_of, HasNoSpace, following, Follows}
 use Rattle.op_law.specs.Fits.{FitsSeen}
 use Rattle.op_law.specs.Moving.{SeenDir, entries_of, through_names, removal_writes}
-use Rattle.op_law.specs.Needs.{events_of}
 use Rattle.op_law.specs.Readable.{AreInside, HeadIsInside}
 use Rattle.op_law.specs.Refusing.{seen_file, used_in, if_file, if_entry}
 use Rattle.op_law.specs.Freeing.{through_space}
@@ -177,7 +174,7 @@ module _ (dir : Fid) (name : List ℕ) (ver : ℕ) (seen : Seen) (f : FitsSeen (
   abbrev g : Geometry
   g = seen.geometry
 
-  order : Follows (through_names g dir (behind dir name ver g)) seen.locks seen.blocks (space_of seen) (HasNoSpace (space_of seen))
+  pub order : Follows (through_names g dir (behind dir name ver g)) seen.locks seen.blocks (space_of seen) (HasNoSpace (space_of seen))
   order = subst (λ es. Follows es seen.locks seen.blocks (space_of seen) (HasNoSpace (space_of seen))) (events_are dir name ver g seen.channel) f.order
 
   pub first_inside : HeadIsInside seen.blocks

@@ -1,5 +1,5 @@
 -- How many blocks a header that can be read tells: at most 512 runs of at most 65,536 blocks.
-use Rattle.std.proofs.Common.{◌≡◌, ◌≤◌, ◌<◌, ◌+◌, ◌*◌, ◌∙◌, ℕ, suc, List, [], ◌∷◌, All, length, sym, ap, subst, arith}
+use Rattle.std.proofs.Common.{◌≡◌, ◌≤◌, ◌+◌, ◌*◌, suc, List, [], ◌∷◌, All, length, subst, arith}
 use Rattle.std.proofs.lemmas.List.Sums.{sum_by-cons}
 use Rattle.vol_words.specs.Fields.{Block}
 use Rattle.fx_header.specs.declared.run.Run.{Run}

@@ -6,8 +6,6 @@ use Rattle.vol_words.specs.Fields.{Block}
 use Rattle.fx_dir.specs.Entries.{has}
 use Rattle.fx_dir.specs.Directory.{directory}
 use Rattle.fx_dir.specs.Moves.{key}
-use Rattle.lock_db.specs.declared.name.LockName.{LockName}
-use Rattle.plain_cat.specs.declared.mode.Mode.{Mode}
 use Rattle.plain_cat.specs.declared.entries.DirEnt.{DirEnt}
 use Rattle.plain_cat.specs.declared.reply.Refusal.TheVariants as refusal
 use Rattle.plain_vol.specs.Lookups.{versions, entry_of}
@@ -15,7 +13,6 @@ use Rattle.plain_vol.specs.Directories.{is_taken}
 use Rattle.vol_parts.specs.declared.geometry.Geometry.{Geometry}
 use Rattle.vol_parts.specs.Catalogues.{plain_entries}
 use Rattle.vol_writes.proofs.RemovalLists.{found_there, is_there}
-use Rattle.op_law.specs.Events.{Space, following}
 use Rattle.op_law.specs.Moving.{SeenDir}
 use Rattle.op_law.specs.Refusing.{if_entry}
 use Rattle.op_law.specs.Removing.{delete_in}
@@ -26,8 +23,5 @@ pub found_so : (bs : List Block) (name : List ℕ) (ver : ℕ) (e : DirEnt) → 
 found_so bs name ver e found = λ es read. is_there e.name e.ver es (subst (λ r. is_taken e.ver (versions e.name (plain_entries r)) ≡ true) read (found_there name ver (entries_seen bs) e found))
 
 -- what comes behind it, where it names no system file
-pub behind_entry : (g : Geometry) (d : SeenDir) (o : Option DirEnt) (e : DirEnt) (locks : List (LockName × Mode)) (blocks : List (ℕ × Block)) (space : Space) → o ≡ Some e → nat_le e.fid.num 11 ≡ false
-    → following (if_entry o (delete_in g d)) locks blocks space ≡ following (delete_in g d e) locks blocks space
-behind_entry g d o e locks blocks space is plain =
-    ap (λ (x : Option DirEnt). following (if_entry x (delete_in g d)) locks blocks space) is
-    ∙ ap (λ t. following (cond t (refuses refusal.NoPriv) (delete_in g d e)) locks blocks space) plain
+pub behind_entry : (g : Geometry) (d : SeenDir) (o : Option DirEnt) (e : DirEnt) → o ≡ Some e → nat_le e.fid.num 11 ≡ false → if_entry o (delete_in g d) ≡ delete_in g d e
+behind_entry g d o e is plain = ap (λ (x : Option DirEnt). if_entry x (delete_in g d)) is ∙ ap (λ t. cond t (refuses refusal.NoPriv) (delete_in g d e)) plain

@@ -11,3 +11,5 @@ pub mod Mapped
 pub mod Found
 pub mod Few
 pub mod Behind
+pub mod Told
+pub mod Empty

@@ -1,5 +1,5 @@
--- The header of a number whose lock is not the directory's is behind a lock of its own.
-use Rattle.std.proofs.Common.{◌≡◌, ℕ, Bool, true, false, cond, List, ap}
+-- The header of a number whose lock is not the directory's is behind a lock of its own; else the lock is held.
+use Rattle.std.proofs.Common.{◌≡◌, ℕ, true, false, cond, List, ap}
 use Rattle.std.specs.Prelude.{◌==◌}
 use Rattle.vol_words.specs.Fields.{Block}
 use Rattle.lock_db.specs.declared.name.LockName.{LockName}
@@ -11,6 +11,12 @@ use Rattle.vol_spell.specs.Reading.{header_place}
 use Rattle.op_law.specs.Events.{Events, Take, Look, Space, following}
 use Rattle.op_law.specs.Removing.{under_lock}
 
-pub own_lock : (g : Geometry) (dir n : ℕ) (next : Block → Events) (locks : List (LockName × Mode)) (blocks : List (ℕ × Block)) (space : Space) → (n == dir) ≡ false
+pub same_lock : (g : Geometry) (dir n : ℕ) (next : Block → Events) → (n == dir) ≡ true → under_lock g dir n next ≡ Look (S n) (header_place g n) next
+same_lock g dir n next e = ap (λ t. cond t (Look (S n) (header_place g n) next) (Take (S n) PW (Look (S n) (header_place g n) next))) e
+
+pub own_lock : (g : Geometry) (dir n : ℕ) (next : Block → Events) → (n == dir) ≡ false → under_lock g dir n next ≡ Take (S n) PW (Look (S n) (header_place g n) next)
+own_lock g dir n next e = ap (λ t. cond t (Look (S n) (header_place g n) next) (Take (S n) PW (Look (S n) (header_place g n) next))) e
+
+pub own_following : (g : Geometry) (dir n : ℕ) (next : Block → Events) (locks : List (LockName × Mode)) (blocks : List (ℕ × Block)) (space : Space) → (n == dir) ≡ false
     → following (under_lock g dir n next) locks blocks space ≡ following (Take (S n) PW (Look (S n) (header_place g n) next)) locks blocks space
-own_lock g dir n next locks blocks space e = ap (λ t. following (cond t (Look (S n) (header_place g n) next) (Take (S n) PW (Look (S n) (header_place g n) next))) locks blocks space) e
+own_following g dir n next locks blocks space e = ap (λ es. following es locks blocks space) (own_lock g dir n next e)

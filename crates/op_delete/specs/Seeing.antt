@@ -1,14 +1,14 @@
 -- A file as the command has seen it, in order to delete it.
-use Rattle.std.specs.Prelude.{◌≡◌, ◌≤◌, ℕ, length}
-use Rattle.fx_header.specs.Headers.{header_read}
+use Rattle.std.specs.Prelude.{◌≡◌, ◌≤◌, ℕ, Some, length}
 use Rattle.vol_parts.specs.declared.geometry.Geometry.{Geometry}
+use Rattle.vol_spell.specs.Reading.{fields_told}
 use Rattle.op_law.specs.declared.need.Need.{Need}
 use Rattle.op_law.specs.declared.need.Need.TheVariants as need
 use Rattle.op_law.specs.declared.need.Plan.{Plan}
 use Rattle.op_law.specs.Events.{Events, Space}
 use Rattle.op_law.specs.Rows.{places_in}
 use Rattle.op_law.specs.Refusing.{SeenFile, seen_file}
-use Rattle.op_law.specs.Behind.{goes_on_by}
+use Rattle.op_law.specs.Behind.{goes_on_by, FollowsBy}
 use Rattle.op_law.specs.Readable.{HasMap, AreInside}
 use Rattle.op_delete.specs.declared.seeing.FileSeen.{FileSeen}
 use Rattle.op_delete.specs.declared.seeing.Named.{Named}
@@ -18,9 +18,10 @@ use Rattle.op_delete.specs.declared.seeing.Named.TheVariants as named
 abbrev pub file_seen : Geometry → FileSeen → SeenFile
 file_seen g f = seen_file g f.num f.head.now f.fields
 
--- the runs of its header can be read, and end at or before LBN 65,536; and it has as many blocks as its header says, which are at
+-- its fields are those that its header tells; the runs can be read, and end at or before LBN 65,536; and it has as many blocks as its header says, which are at
 -- most 512 runs of 65,536
 pub record IsReadable (f : FileSeen) : Type 0 where
+  pub reads : fields_told f.head.now ≡ Some f.fields
   pub map : HasMap f.head.now
   pub inside : AreInside f.head.now
   pub count : length (places_in f.head.now) ≡ f.fields.blocks
@@ -31,6 +32,12 @@ abbrev pub behind_named : Geometry → Plan → (SeenFile → Events) → Space 
 behind_named g plan next space (named.File f rest) = goes_on_by (next (file_seen g f)) rest space
 behind_named g plan next space (named.Nothing) = need.Ready plan
 behind_named g plan next space (named.Next need) = need
+
+-- what was seen behind it follows what comes there
+abbrev pub FollowsNamed : Geometry → (SeenFile → Events) → Space → Named → Type 0
+FollowsNamed g next space (named.File f rest) = FollowsBy (next (file_seen g f)) rest space
+FollowsNamed g next space (named.Nothing) = Unit {0}
+FollowsNamed g next space (named.Next need) = Unit {0}
 
 -- the file has at most this number, and its header can be read
 abbrev pub ShowsFile : ℕ → Named → Type 0

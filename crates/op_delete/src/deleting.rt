@@ -1,11 +1,12 @@
 //! What a DELETE needs next.
 
-ghost use Rattle.std.specs.Prelude.{◌≡◌, ◌≤◌, true, length, IfOk};
+ghost use Rattle.std.specs.Prelude.{◌≡◌, ◌≤◌, true, Some, length, IfOk};
 ghost use Rattle.std.specs.Result.{ForOk};
 ghost use Rattle.fx_dir.specs.Entries.{has};
 ghost use Rattle.fx_dir.specs.Directory.{directory};
 ghost use Rattle.fx_dir.specs.Moves.{key};
 ghost use Rattle.plain_cat.specs.declared.command.Cmd.TheVariants as cmd;
+ghost use Rattle.op_law.specs.declared.need.Need.TheVariants as need;
 ghost use Rattle.plain_cat.specs.declared.history.Stage.TheVariants as stage;
 ghost use Rattle.plain_cat.specs.declared.reply.Reply.TheVariants as reply;
 ghost use Rattle.plain_vol.specs.Lookups.{versions, entry_of};
@@ -15,17 +16,18 @@ ghost use Rattle.op_law.specs.Fits.{FitsSeen};
 ghost use Rattle.op_law.specs.Refusing.{if_entry};
 ghost use Rattle.op_law.specs.Writing.{plan_of};
 ghost use Rattle.op_law.specs.Moving.{entries_of, removal_writes};
-ghost use Rattle.op_law.specs.Behind.{goes_on_by, blocks_alone};
+ghost use Rattle.op_law.specs.Behind.{goes_on_by, blocks_alone, FollowsBy};
 ghost use Rattle.op_law.specs.Readable.{HeadIsInside};
 ghost use Rattle.op_law.specs.Freeing.{all_clusters, through_space};
-ghost use Rattle.op_law.specs.Removing.{if_empty, delete_plan, delete_in, delete_events};
+ghost use Rattle.op_law.specs.Removing.{delete_plan, delete_in, delete_events};
 ghost use Rattle.op_parts.specs.Names.{dir_seen, IsReadable as IsDirReadable};
 ghost use Rattle.op_delete.specs.Seeing.{file_seen, IsReadable};
 ghost use Rattle.op_delete.specs.Looking.{space_seen, IsWhole};
-ghost use Rattle.op_delete.specs.Deleting.{CanGo};
+ghost use Rattle.op_delete.specs.Deleting.{plan_by, file_goes, CanGo};
+ghost use Rattle.op_delete.specs.Naming.{LockIsOf};
 
-use crate::clusters::all_clusters;
 use crate::looking::{Empty, Space, SpaceSeen, empty_seen, space_seen};
+use crate::naming::{Told, file_told};
 use crate::seeing::{FileSeen, Named, named_seen};
 use crate::writing::{push_freed, push_removed, push_unnaming};
 use op_law::{Ask, Need, NoMemory, Plan, Rest, Seen, Writes, entries_seen, refused};
@@ -83,28 +85,55 @@ fn deleted(
     })
 }
 
+// The same, by the entry of this name and version, where it is there.
+fn deleted_by(
+    alloc: Global,
+    g: &Geometry,
+    d: &DirSeen<'_>,
+    name: &Name,
+    ver: u16,
+    f: &FileSeen<'_>,
+    clusters: &Clusters,
+    space: &SpaceSeen<'_>,
+) -> Result<Need, NoMemory>
+    requires geometry { IsGeometry g.now }
+    requires dir { IsDirReadable d.now }
+    requires few { length d.now.blocks.now ≤ 16 }
+    requires number { f.now.num ≤ g.now.files }
+    requires readable { IsReadable f.now }
+    requires clusters { clusters.now ≡ all_clusters g.now (file_seen g.now f.now) }
+    requires whole { IsWhole g.now clusters.now space.now }
+    ensures { IfOk result (λ n. n ≡ need.Ready (plan_by (λ e. delete_plan g.now (dir_seen d.now) e (file_seen g.now f.now) (space_seen space.now)) (entry_of (versions name.now (entries_of (dir_seen d.now))) ver))) }
+{
+    let entries = entries_seen(alloc, d.blocks)?;
+    let Some(e) = entry_found(&entries, name, ver) else {
+        return Ok(refused(alloc, Refusal::NoSuchFile));
+    };
+    let plan = deleted(alloc, g, d, e, f, clusters, space)?;
+    Ok(Need::Ready(plan))
+}
+
 // Behind a file that is no directory with entries.
 fn space_looked(
     alloc: Global,
     g: &Geometry,
     d: &DirSeen<'_>,
-    e: &DirEnt,
+    name: &Name,
+    ver: u16,
     f: &FileSeen<'_>,
     rest: Rest<'_>,
 ) -> Result<Need, NoMemory>
     requires geometry { IsGeometry g.now }
-    requires entry { CanGo d.now e.now }
+    requires dir { IsDirReadable d.now }
+    requires few { length d.now.blocks.now ≤ 16 }
     requires number { f.now.num ≤ g.now.files }
     requires readable { IsReadable f.now }
-    ensures { IfOk result (λ need. (given : Given) → goes_on_by (through_space g.now (file_seen g.now f.now) (λ s. Make (delete_plan g.now (dir_seen d.now) e.now (file_seen g.now f.now) s))) rest.entry given ≡ need) }
+    ensures { IfOk result (λ need. (given : Given) → goes_on_by (through_space g.now (file_seen g.now f.now)
+        (λ s. Make (plan_by (λ e. delete_plan g.now (dir_seen d.now) e (file_seen g.now f.now) s) (entry_of (versions name.now (entries_of (dir_seen d.now))) ver)))) rest.entry given ≡ need) }
 {
-    let clusters = all_clusters(alloc, g, f)?;
-    match space_seen(alloc, g, &clusters, rest)? {
+    match space_seen(alloc, g, f, rest)? {
         Space::Next(need) => Ok(need),
-        Space::All(space) => {
-            let plan = deleted(alloc, g, d, e, f, &clusters, &space)?;
-            Ok(Need::Ready(plan))
-        }
+        Space::All(space, clusters) => { deleted_by(alloc, g, d, name, ver, f, &clusters, &space) }
     }
 }
 
@@ -113,34 +142,40 @@ fn file_looked(
     alloc: Global,
     g: &Geometry,
     d: &DirSeen<'_>,
-    e: &DirEnt,
+    name: &Name,
+    ver: u16,
     f: &FileSeen<'_>,
     rest: Rest<'_>,
 ) -> Result<Need, NoMemory>
     requires geometry { IsGeometry g.now }
-    requires entry { CanGo d.now e.now }
+    requires dir { IsDirReadable d.now }
+    requires few { length d.now.blocks.now ≤ 16 }
     requires number { f.now.num ≤ g.now.files }
     requires readable { IsReadable f.now }
-    ensures { IfOk result (λ need. (given : Given) → goes_on_by (if_empty (file_seen g.now f.now) (through_space g.now (file_seen g.now f.now) (λ s. Make (delete_plan g.now (dir_seen d.now) e.now (file_seen g.now f.now) s)))) rest.entry given ≡ need) }
+    ensures { IfOk result (λ need. (given : Given) → FollowsBy (file_goes g.now (dir_seen d.now) (entry_of (versions name.now (entries_of (dir_seen d.now))) ver) (file_seen g.now f.now)) rest.entry given
+        → goes_on_by (file_goes g.now (dir_seen d.now) (entry_of (versions name.now (entries_of (dir_seen d.now))) ver) (file_seen g.now f.now)) rest.entry given ≡ need) }
 {
     match empty_seen(alloc, g, f, rest)? {
         Empty::Next(need) => Ok(need),
-        Empty::Shown(behind) => space_looked(alloc, g, d, e, f, behind),
+        Empty::Shown(behind) => space_looked(alloc, g, d, name, ver, f, behind),
     }
 }
 
-// Behind the entry.
+// Behind the entry, which the directory has under this name and version.
 fn delete_in(
     alloc: Global,
     g: &Geometry,
     d: &DirSeen<'_>,
+    name: &Name,
+    ver: u16,
     e: &DirEnt,
     rest: Rest<'_>,
 ) -> Result<Need, NoMemory>
     requires geometry { IsGeometry g.now }
     requires entry { CanGo d.now e.now }
+    requires found { entry_of (versions name.now (entries_of (dir_seen d.now))) ver ≡ Some e.now }
     requires inside { HeadIsInside rest.blocks.now }
-    ensures { IfOk result (λ need. (given : Given) → goes_on_by (delete_in g.now (dir_seen d.now) e.now) rest.entry given ≡ need) }
+    ensures { IfOk result (λ need. (given : Given) → FollowsBy (delete_in g.now (dir_seen d.now) e.now) rest.entry given → goes_on_by (delete_in g.now (dir_seen d.now) e.now) rest.entry given ≡ need) }
 {
     match named_seen(g, d.fid.num, e.fid, rest) {
         Named::Next(need) => Ok(need),
@@ -148,11 +183,11 @@ fn delete_in(
             let plan = entry_removed(alloc, d, e)?;
             Ok(Need::Ready(plan))
         }
-        Named::File(f, behind) => file_looked(alloc, g, d, e, &f, behind),
+        Named::File(f, behind) => file_looked(alloc, g, d, name, ver, &f, behind),
     }
 }
 
-// Behind the directory.
+// Behind the directory, by its entries.
 fn entry_looked(
     alloc: Global,
     g: &Geometry,
@@ -165,7 +200,8 @@ fn entry_looked(
     requires readable { IsDirReadable d.now }
     requires few { length d.now.blocks.now ≤ 16 }
     requires inside { HeadIsInside rest.blocks.now }
-    ensures { IfOk result (λ need. (given : Given) → goes_on_by (if_entry (entry_of (versions name.now (entries_of (dir_seen d.now))) ver) (delete_in g.now (dir_seen d.now))) rest.entry given ≡ need) }
+    ensures { IfOk result (λ need. (given : Given) → FollowsBy (if_entry (entry_of (versions name.now (entries_of (dir_seen d.now))) ver) (delete_in g.now (dir_seen d.now))) rest.entry given
+        → goes_on_by (if_entry (entry_of (versions name.now (entries_of (dir_seen d.now))) ver) (delete_in g.now (dir_seen d.now))) rest.entry given ≡ need) }
 {
     let entries = entries_seen(alloc, d.blocks)?;
     let Some(e) = entry_found(&entries, name, ver) else {
@@ -174,7 +210,32 @@ fn entry_looked(
     if e.fid.num <= 11 {
         return Ok(refused(alloc, Refusal::NoPriv));
     }
-    delete_in(alloc, g, d, e, rest)
+    delete_in(alloc, g, d, name, ver, e, rest)
+}
+
+// Behind the directory. Its entries are read where no more than the header of the file was seen behind it, and for the plan.
+fn dir_looked(
+    alloc: Global,
+    g: &Geometry,
+    d: &DirSeen<'_>,
+    name: &Name,
+    ver: u16,
+    rest: Rest<'_>,
+) -> Result<Need, NoMemory>
+    requires geometry { IsGeometry g.now }
+    requires readable { IsDirReadable d.now }
+    requires few { length d.now.blocks.now ≤ 16 }
+    requires number { d.now.fid.num ≤ g.now.files }
+    requires locked { LockIsOf g.now rest.locks.now }
+    requires inside { HeadIsInside rest.blocks.now }
+    ensures { IfOk result (λ need. (given : Given) → FollowsBy (if_entry (entry_of (versions name.now (entries_of (dir_seen d.now))) ver) (delete_in g.now (dir_seen d.now))) rest.entry given
+        → goes_on_by (if_entry (entry_of (versions name.now (entries_of (dir_seen d.now))) ver) (delete_in g.now (dir_seen d.now))) rest.entry given ≡ need) }
+{
+    match file_told(g, d, rest) {
+        Told::Next(need) => Ok(need),
+        Told::File(f, behind) => file_looked(alloc, g, d, name, ver, &f, behind),
+        Told::Nothing => entry_looked(alloc, g, d, name, ver, rest),
+    }
 }
 
 /// What a DELETE needs next. An error says that memory ran out.
@@ -192,6 +253,6 @@ pub(crate) fn delete_next(
 {
     match names_seen(alloc, &seen.geometry, dir, seen.all()) {
         Names::Next(need) => Ok(need),
-        Names::All(d, rest) => entry_looked(alloc, &seen.geometry, &d, name, ver, rest),
+        Names::All(d, rest) => dir_looked(alloc, &seen.geometry, &d, name, ver, rest),
     }
 }

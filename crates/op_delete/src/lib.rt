@@ -5,6 +5,7 @@ mod clusters;
 mod deleting;
 pub mod laws;
 mod looking;
+mod naming;
 mod operation;
 mod seeing;
 #[cfg(test)]

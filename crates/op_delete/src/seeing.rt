@@ -1,17 +1,18 @@
 //! The file that an entry names, where one is in use: its number and its header.
 
-ghost use Rattle.std.specs.Prelude.{◌≡◌, ◌≤◌, length, option_map, IfSome};
+ghost use Rattle.std.specs.Prelude.{◌≡◌, ◌≤◌, length, option_map, Some, IfSome};
 ghost use Rattle.vol_words.specs.Fields.{Block};
 ghost use Rattle.vol_parts.specs.Parts.{IsGeometry};
 ghost use Rattle.vol_parts.specs.declared.geometry.Geometry.{Geometry as Volume};
+ghost use Rattle.vol_spell.specs.Reading.{fields_told};
 ghost use Rattle.op_law.specs.declared.need.Plan.{Plan};
 ghost use Rattle.op_law.specs.Events.{Events, Make, Space, following};
 ghost use Rattle.op_law.specs.Rows.{places_in};
 ghost use Rattle.op_law.specs.Refusing.{SeenFile, seen_file, used_in, if_file};
 ghost use Rattle.op_law.specs.Removing.{under_lock, through_named};
-ghost use Rattle.op_law.specs.Behind.{behind_block, IsHeadOf};
+ghost use Rattle.op_law.specs.Behind.{behind_block, FollowsBy, FollowsBlock, IsHeadOf};
 ghost use Rattle.op_law.specs.Readable.{HasMap, AreInside, HeadIsInside};
-ghost use Rattle.op_delete.specs.Seeing.{behind_named, ShowsFile};
+ghost use Rattle.op_delete.specs.Seeing.{behind_named, FollowsNamed, ShowsFile};
 
 use fx_header::{Hdr, Slot, read_header};
 use lock_db::LockName;
@@ -45,17 +46,29 @@ pub(crate) enum Named<'a> {
     Next(Need),
 }
 
-// The header of the file in use of this sequence, by its block, or none where the slot has none.
-fn used_in(b: &Block, seq: u16) -> Option<Hdr>
-    ensures header { result ≡ used_in seq b.now }
+/// The header of the file in use in a slot, by its block, or none where the slot has none.
+pub(crate) fn fields_told(b: &Block) -> Option<Hdr>
+    ensures header { result ≡ fields_told b.now }
     ensures map { IfSome result (λ h. HasMap b.now) }
     ensures count { IfSome result (λ h. length (places_in b.now) ≡ h.blocks) }
+    ensures few { IfSome result (λ h. AreInside b.now → h.blocks ≤ 33554432) }
 {
     match read_header(b) {
-        Ok(Slot::Used(h)) => if h.seq == seq { Some(h) } else { None },
+        Ok(Slot::Used(h)) => Some(h),
         Ok(Slot::Free(_)) => None,
         Err(_) => None,
     }
+}
+
+// The same of the file in use of this sequence.
+fn used_in(b: &Block, seq: u16) -> Option<Hdr>
+    ensures header { result ≡ used_in seq b.now }
+    ensures told { IfSome result (λ h. fields_told b.now ≡ Some h) }
+    ensures map { IfSome result (λ h. HasMap b.now) }
+    ensures count { IfSome result (λ h. length (places_in b.now) ≡ h.blocks) }
+{
+    let h = fields_told(b)?;
+    if h.seq == seq { Some(h) } else { None }
 }
 
 // The header of a number under its lock in PW. Where the lock is that of the directory it is held already.
@@ -64,6 +77,7 @@ fn header_under<'a>(g: &Geometry, dir: u32, n: u32, rest: Rest<'a>) -> Looked<'a
     requires number { n ≤ g.now.files }
     ensures head { IsHeadOf rest.entry.blocks.now result }
     ensures need { (next : Block → Events) (space : Space) → following (under_lock g.now dir n next) rest.entry.locks.now rest.entry.blocks.now space ≡ behind_block next space result }
+    ensures follows { (next : Block → Events) (space : Space) → FollowsBy (under_lock g.now dir n next) rest.entry space → FollowsBlock next space result }
 {
     let lbn = header_lbn(g, n);
     if n == dir {
@@ -81,6 +95,8 @@ fn file_in<'a>(fid: Fid, head: &'a Block, rest: Rest<'a>) -> Named<'a>
     ensures file { ShowsFile fid.num result }
     ensures need { (g : Volume) (plan : Plan) (next : SeenFile → Events) (space : Space)
         → following (if_file (Make plan) next (option_map (seen_file g fid.num head.now) (used_in fid.seq head.now))) rest.entry.locks.now rest.entry.blocks.now space ≡ behind_named g plan next space result }
+    ensures follows { (g : Volume) (plan : Plan) (next : SeenFile → Events) (space : Space)
+        → FollowsBy (if_file (Make plan) next (option_map (seen_file g fid.num head.now) (used_in fid.seq head.now))) rest.entry space → FollowsNamed g next space result }
 {
     match used_in(head, fid.seq) {
         Some(fields) => Named::File(
@@ -102,6 +118,7 @@ pub(crate) fn named_seen<'a>(g: &Geometry, dir: u32, fid: Fid, rest: Rest<'a>) -
     ensures file { ShowsFile g.now.files result }
     ensures need { (plan : Plan) (next : SeenFile → Events) (space : Space)
         → following (through_named g.now dir fid (Make plan) next) rest.entry.locks.now rest.entry.blocks.now space ≡ behind_named g.now plan next space result }
+    ensures follows { (plan : Plan) (next : SeenFile → Events) (space : Space) → FollowsBy (through_named g.now dir fid (Make plan) next) rest.entry space → FollowsNamed g.now next space result }
 {
     if !is_number(g, fid) {
         return Named::Nothing;

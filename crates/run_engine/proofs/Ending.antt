@@ -5,7 +5,7 @@ use Rattle.lock_db.specs.declared.name.LockName.{LockName}
 use Rattle.plain_cat.specs.declared.cat.Cat.{Cat}
 use Rattle.plain_cat.specs.declared.command.Cmd.{Cmd}
 use Rattle.plain_vol.specs.Lookups.{free_clusters}
-use Rattle.plain_vol.specs.Own.{next_command, Whole}
+use Rattle.plain_vol.specs.Own.{past, next_command, Whole}
 use Rattle.vol_owners.specs.declared.owner.Owner.TheVariants.{InFile}
 use Rattle.vol_owners.specs.Lists.{Has}
 use Rattle.vol_owners.specs.Owners.{Owners, nothing}
@@ -26,26 +26,26 @@ use Rattle.core_state.specs.Goods.{under_with, under_by, nodes_under, IsNode, Go
 use Rattle.run_engine.specs.Walks.{AllOver}
 use Rattle.run_engine.specs.Ended.{free_bits, HasEnded}
 
--- a node that has left and has not died is over
-left : (over dead : Bool) → over || dead ≡ true → dead ≡ false → over ≡ true
-left true dead is alive = refl
-left false dead is alive = sym alive ∙ is
-
 module _ (w : Plain) (good : Good w) (over : AllOver w) where
-  node_left : (n : ℕ) (s : NodeState) → node_at w.nodes n ≡ Some s → (s.cmd ≡ None) × (next_command w.script n w.history ≡ None)
-  node_left n s at =
-      let mine : IsNode w n s = good.nodes n s at in
-      let gone : is_over_in (Some s) ≡ true = ap is_over_in (sym at) ∙ over n in
-      mine.over (left s.over s.past.dead gone mine.alive)
+  -- a node that is over has no command, and none left but where it is dead
+  node_left : (n : ℕ) (s : NodeState) → node_at w.nodes n ≡ Some s → (s.cmd ≡ None) × ((past n w.history).dead ≡ false → next_command w.script n w.history ≡ None)
+  node_left n s at = by_out s.over s.past.dead refl refl (ap is_over_in (sym at) ∙ over n) where
+    mine : IsNode w n s
+    mine = good.nodes n s at
 
-  none_left : (n : ℕ) → next_command w.script n w.history ≡ None
-  none_left n = by (node_at w.nodes n) refl where
+    by_out : (o d : Bool) → s.over ≡ o → s.past.dead ≡ d → (o || d) ≡ true → (s.cmd ≡ None) × ((past n w.history).dead ≡ false → next_command w.script n w.history ≡ None)
+    by_out true d e f out = ((mine.over e).0.cmd, λ alive. (mine.over e).1)
+    by_out false true e f out = ((mine.gone f).cmd, λ alive. absurd (let g : true ≡ false = sym f ∙ ap (λ y. y.dead) mine.past ∙ alive in cc))
+    by_out false false e f out = absurd (let g : false ≡ true = out in cc)
+
+  none_left : (n : ℕ) → (past n w.history).dead ≡ false → next_command w.script n w.history ≡ None
+  none_left n alive = by (node_at w.nodes n) refl where
     by : (o : Option NodeState) → node_at w.nodes n ≡ o → next_command w.script n w.history ≡ None
     by None at = good.strangers n at
-    by (Some s) at = (node_left n s at).1
+    by (Some s) at = (node_left n s at).1 alive
 
   pub over_is_whole : Whole w.script w.history
-  over_is_whole = (good.own, λ n alive. none_left n)
+  over_is_whole = (good.own, λ n alive. none_left n alive)
 
   -- ---- nothing is under way
 

@@ -1,7 +1,9 @@
 -- What no turn changes.
 use Rattle.std.proofs.Common.{◌≡◌, ◌≤◌, ℕ, zero, suc, Bool, true, false, cond, List, [], ◌∷◌, Option, Some, None, take, refl, sym, subst, ◌∙◌}
 use Rattle.core_state.specs.Worlds.{NodeState, Plain, IsOfWorld, node_at}
-use Rattle.core_state.specs.Events.{Event, Rest, Stand, Leave, Ask, Claim, See, Scan, Grab, Decide, Put, Try, Answer, would_go, tried_by, happens, happen_at, next_event, after_turn, is_over}
+use Rattle.core_state.specs.Event.{Event}
+use Rattle.core_state.specs.Event as event
+use Rattle.core_state.specs.Events.{would_go, asked_by, happens, happen_at, readied_at, readied, next_event, after_turn, is_over}
 use Rattle.core_state.proofs.Nodes.{length_node}
 use Rattle.run_engine.specs.Walks.{after_play, played, next_from, Rotation, with_turn, after_next, rotation, IsPlayed, IsRotated, Stays}
 
@@ -17,28 +19,35 @@ then_stays a b c p q = record {
 }
 
 event_stays : (w : Plain) (n : ℕ) (s : NodeState) (e : Event) → Stays w (happens w n s e)
-event_stays w n s Rest = record { script = refl; opening = refl; geometry = refl; count = length_node w.nodes n _ }
-event_stays w n s Stand = record { script = refl; opening = refl; geometry = refl; count = length_node w.nodes n _ }
-event_stays w n s Leave = record { script = refl; opening = refl; geometry = refl; count = length_node w.nodes n _ }
-event_stays w n s (Ask x name mode) = record { script = refl; opening = refl; geometry = refl; count = length_node w.nodes n _ }
-event_stays w n s (See x lbn) = record { script = refl; opening = refl; geometry = refl; count = length_node w.nodes n _ }
-event_stays w n s (Claim x) = record { script = refl; opening = refl; geometry = refl; count = length_node w.nodes n _ }
-event_stays w n s (Scan x clusters number lbn) = record { script = refl; opening = refl; geometry = refl; count = length_node w.nodes n _ }
-event_stays w n s (Grab v) = record { script = refl; opening = refl; geometry = refl; count = length_node w.nodes n _ }
-event_stays w n s (Decide x p) = record { script = refl; opening = refl; geometry = refl; count = length_node w.nodes n _ }
-event_stays w n s (Put v) = record { script = refl; opening = refl; geometry = refl; count = length_node w.nodes n _ }
-event_stays w n s (Try x a) = by_outcome (would_go w.locks n a) where
-  by_outcome : (b : Bool) → Stays w (tried_by w n s x a b)
+event_stays w n s event.Rest = record { script = refl; opening = refl; geometry = refl; count = length_node w.nodes n _ }
+event_stays w n s event.Stand = record { script = refl; opening = refl; geometry = refl; count = length_node w.nodes n _ }
+event_stays w n s event.Leave = record { script = refl; opening = refl; geometry = refl; count = length_node w.nodes n _ }
+event_stays w n s (event.Lock name mode) = record { script = refl; opening = refl; geometry = refl; count = length_node w.nodes n _ }
+event_stays w n s (event.Look lbn) = record { script = refl; opening = refl; geometry = refl; count = length_node w.nodes n _ }
+event_stays w n s (event.Fetch lbn) = record { script = refl; opening = refl; geometry = refl; count = length_node w.nodes n _ }
+event_stays w n s event.SpaceLock = record { script = refl; opening = refl; geometry = refl; count = length_node w.nodes n _ }
+event_stays w n s (event.SpaceLook clusters number lbn) = record { script = refl; opening = refl; geometry = refl; count = length_node w.nodes n _ }
+event_stays w n s event.SpaceEnd = record { script = refl; opening = refl; geometry = refl; count = length_node w.nodes n _ }
+event_stays w n s (event.SpaceWrite v) = record { script = refl; opening = refl; geometry = refl; count = length_node w.nodes n _ }
+event_stays w n s (event.Plan p) = record { script = refl; opening = refl; geometry = refl; count = length_node w.nodes n _ }
+event_stays w n s (event.Write v) = record { script = refl; opening = refl; geometry = refl; count = length_node w.nodes n _ }
+event_stays w n s (event.Ask x a) = by_outcome (would_go w.locks n a) where
+  by_outcome : (b : Bool) → Stays w (asked_by w n s x a b)
   by_outcome true = record { script = refl; opening = refl; geometry = refl; count = length_node w.nodes n _ }
   by_outcome false = record { script = refl; opening = refl; geometry = refl; count = length_node w.nodes n _ }
-event_stays w n s (Answer x r) = record { script = refl; opening = refl; geometry = refl; count = length_node w.nodes n _ }
+event_stays w n s (event.Answer x r) = record { script = refl; opening = refl; geometry = refl; count = length_node w.nodes n _ }
 
 event_at_stays : (w : Plain) (n : ℕ) (o : Option NodeState) (e : Event) → Stays w (happen_at w n o e)
 event_at_stays w n None e = nothing_stays w
 event_at_stays w n (Some s) e = event_stays w n s e
 
+-- nor does what comes before its event
+readied_stays : (w : Plain) (n : ℕ) (o : Option NodeState) → Stays w (readied_at w n o)
+readied_stays w n None = nothing_stays w
+readied_stays w n (Some s) = record { script = refl; opening = refl; geometry = refl; count = length_node w.nodes n _ }
+
 pub turn_stays : (w : Plain) (n : ℕ) → Stays w (after_turn w n)
-turn_stays w n = event_at_stays w n (node_at w.nodes n) (next_event w n)
+turn_stays w n = then_stays w (readied w n) (after_turn w n) (readied_stays w n (node_at w.nodes n)) (event_at_stays (readied w n) n (node_at (readied w n).nodes n) (next_event w n))
 
 -- ---- over plays and rotation
 

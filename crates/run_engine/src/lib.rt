@@ -18,4 +18,6 @@ pub use running::run;
 pub use status::{Finished, Status};
 
 #[cfg(test)]
+mod sends;
+#[cfg(test)]
 mod tests;

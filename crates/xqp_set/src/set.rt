@@ -1,6 +1,8 @@
 ghost use Rattle.std.specs.Prelude.{◌≡◌, IfOk};
 
+use op_access::OpAccess;
 use op_create::OpCreate;
+use op_data::OpData;
 use op_delete::OpDelete;
 use op_extend::OpExtend;
 use op_law::{Need, NoMemory, Operation, Seen};
@@ -10,7 +12,7 @@ use op_rename::OpRename;
 use plain_cat::Cmd;
 use std::alloc::Global;
 
-/// The operation of a command, whichever of those it is that are built.
+/// The operation of a command, whichever it is.
 #[derive(Drop)]
 pub enum XqpOp {
     /// Of a LOOKUP, LIST or STAT.
@@ -27,6 +29,12 @@ pub enum XqpOp {
 
     /// Of a RENAME.
     Rename(OpRename),
+
+    /// Of an OPEN or CLOSE.
+    Access(OpAccess),
+
+    /// Of a READ or WRITE.
+    Data(OpData),
 
     /// Of a QUOTASET or QUOTASHOW.
     Quota(OpQuota),
@@ -48,8 +56,9 @@ impl Operation for XqpOp {
             Cmd::Extend { .. } | Cmd::Trunc { .. } => XqpOp::Extend(OpExtend::of(cmd)),
             Cmd::Delete { .. } => XqpOp::Delete(OpDelete::of(cmd)),
             Cmd::Rename { .. } => XqpOp::Rename(OpRename::of(cmd)),
+            Cmd::OpenFile { .. } | Cmd::CloseFile { .. } => XqpOp::Access(OpAccess::of(cmd)),
+            Cmd::ReadBlock { .. } | Cmd::WriteBlock { .. } => XqpOp::Data(OpData::of(cmd)),
             Cmd::QuotaSet { .. } | Cmd::QuotaShow { .. } => XqpOp::Quota(OpQuota::of(cmd)),
-            _ => unreachable!(),
         }
     }
 
@@ -60,6 +69,8 @@ impl Operation for XqpOp {
             XqpOp::Extend(op) => op.cmd(),
             XqpOp::Delete(op) => op.cmd(),
             XqpOp::Rename(op) => op.cmd(),
+            XqpOp::Access(op) => op.cmd(),
+            XqpOp::Data(op) => op.cmd(),
             XqpOp::Quota(op) => op.cmd(),
         }
     }
@@ -71,6 +82,8 @@ impl Operation for XqpOp {
             XqpOp::Extend(op) => op.into_cmd(),
             XqpOp::Delete(op) => op.into_cmd(),
             XqpOp::Rename(op) => op.into_cmd(),
+            XqpOp::Access(op) => op.into_cmd(),
+            XqpOp::Data(op) => op.into_cmd(),
             XqpOp::Quota(op) => op.into_cmd(),
         }
     }
@@ -82,6 +95,8 @@ impl Operation for XqpOp {
             XqpOp::Extend(op) => op.next(alloc, seen),
             XqpOp::Delete(op) => op.next(alloc, seen),
             XqpOp::Rename(op) => op.next(alloc, seen),
+            XqpOp::Access(op) => op.next(alloc, seen),
+            XqpOp::Data(op) => op.next(alloc, seen),
             XqpOp::Quota(op) => op.next(alloc, seen),
         }
     }

@@ -7,7 +7,7 @@ pub returns-clause-state : goal.returns-clause-state
 returns-clause-state g c =
     let node = c.args.node.now in
     let asked = c.replace-asked.ensures.after ∙ c.new.ensures in
-    let takes = c.replace-takes.ensures.after ∙ c.new-3.ensures in
+    let run = c.replace-run.ensures.after ∙ c.new-2.ensures in
     λ i. record {
       past = (c.answer.ensures ∙ ap (after_answer node.past c.into_cmd-cmd.result) c.reply_by.ensures) i;
       cmd = option_map g.O.Operation.cmd_is (c.take.ensures.after i);
@@ -16,7 +16,10 @@ returns-clause-state g c =
       done = 0;
       tried = false;
       asked = asked i;
-      search = record { looked = c.new-2.ensures i; takes = takes i; taken = 0 };
+      kept = node.kept.items;
+      back = node.back.items;
+      opens = node.opens;
+      run = run i;
       stock = record { clusters = node.stock.clusters; numbers = node.stock.numbers };
       cache = node.cache;
       over = node.over;

@@ -1,4 +1,4 @@
-use Rattle.std.proofs.Common.{not, ◌+◌, ◌≡◌, refl, sym, ap, subst, ◌∙◌, Some, None}
+use Rattle.std.proofs.Common.{not, ◌+◌, ◌≡◌, refl, sym, ap, subst, ◌∙◌, Some, None, rules}
 use Rattle.std.specs.Prelude.{is_some}
 use Rattle.lock_db.specs.declared.name.LockName.TheVariants.{A}
 use Rattle.lock_db.specs.Queues.{standing_of}
@@ -8,104 +8,117 @@ use Rattle.node_locks.specs.Held.{system_of}
 use Rattle.core_state.specs.Worlds.{plain_of}
 use Rattle.core_state.specs.Asks.{reply_by}
 use Rattle.core_state.specs.Goods.{HasRoom}
-use Rattle.core_state.specs.Events.{Answer, happen, is_write, tried_at}
+use Rattle.core_state.specs.Event as event
+use Rattle.core_state.specs.Events.{happen, tried_at}
 use Rattle.core_step.specs.Asks.{going_ask}
 use Rattle.core_step.specs.Memory.{takes_none}
-use Rattle.core_step.specs.Turns.{told}
-use Rattle.core_step.proofs.Ready.{plan_now, next_now, last_now, item_aim, aimed, aims_none, going_is, no_plan_now, one_node, place_kept, event_write, event_try, event_ends, ends_told, may_try, write_within, may_end_at, command_is, plan_is, tried_is, put_room, try_room, try_told, answer_room}
-use Rattle.core_step.proofs.Torn.{put_torn}
+use Rattle.core_step.proofs.Ready.{IsItem, item_of, one_node, plan_now, next_now, last_now, item_aim, aimed, aims_none, going_is, no_plan_now, place_kept, event_write, event_ask, ends_as, ends_told, may_ask, ask_apart, write_within, write_leaves, may_end_at, command_is, plan_is, tried_is, write_room, ask_room, ask_told, answer_room}
+use Rattle.core_step.proofs.Outcomes.{quiet, wrote, lacking, failed, still_room}
 use Rattle.core_step.proofs.step.planned.Goals as goal
 
 pub unreachable-requires : goal.unreachable-requires
-unreachable-requires g c = no_plan_now g.O.Operation.cmd_is c.args.core.now.nodes.items (plain_of g.O.Operation.cmd_is c.args.core.now) c.args.node c.requires.ready c.index-at.result.now refl c.requires.node.from c.requires.node.to c.index-at.ensures c.in_default.is c.requires.plan
+unreachable-requires g c =
+    let it : IsItem g.O.Operation.cmd_is c.requires.ready c.index-at.result.now = item_of g.O.Operation.cmd_is c.args.core.now.nodes.items c.requires.ready c.index-at.result.now refl c.requires.node c.index-at.ensures in
+    no_plan_now it c.in_default.is c.requires.plan
 
-pub put-requires-clause-within : goal.put-requires-clause-within
-put-requires-clause-within g c = write_within (plain_of g.O.Operation.cmd_is c.args.core.now) c.requires.good c.args.node c.requires.ready c.in-Some.plan (plan_now g.O.Operation.cmd_is c.args.core.now.nodes.items (plain_of g.O.Operation.cmd_is c.args.core.now) c.args.node c.requires.ready c.index-at.result.now refl c.requires.node.from c.requires.node.to c.index-at.ensures c.in-Some.plan c.in-Some.is) c.index-writes-at.result (next_now g.O.Operation.cmd_is c.args.core.now.nodes.items (plain_of g.O.Operation.cmd_is c.args.core.now) c.args.node c.requires.ready c.index-at.result.now refl c.requires.node.from c.requires.node.to c.index-at.ensures c.in-Some.plan c.writes_by-writes.result.now c.index-writes-at.result c.writes_by-writes.ensures c.if-at-writes.true c.index-writes-at.is)
+pub write-requires-clause-within : goal.write-requires-clause-within
+write-requires-clause-within g c =
+    let it : IsItem g.O.Operation.cmd_is c.requires.ready c.index-at.result.now = item_of g.O.Operation.cmd_is c.args.core.now.nodes.items c.requires.ready c.index-at.result.now refl c.requires.node c.index-at.ensures in
+    let plan = plan_now it c.in-Some.plan c.in-Some.is in
+    let next = next_now it c.in-Some.plan c.writes_by-writes.result.now c.index-writes-at.result c.writes_by-writes.ensures c.if-at-writes.true c.index-writes-at.is in
+    write_within c.requires.good c.requires.ready c.in-Some.plan plan c.index-writes-at.result next
 
-pub put-requires-clause-more : goal.put-requires-clause-more
-put-requires-clause-more g c q at = ap (λ k. k + 1) (one_node g.O.Operation.cmd_is c.args.core.now.nodes.items (plain_of g.O.Operation.cmd_is c.args.core.now) c.args.node c.requires.ready c.index-at.result.now refl c.requires.node.from c.requires.node.to c.index-at.ensures q at)
+pub write-requires-clause-more : goal.write-requires-clause-more
+write-requires-clause-more g c q at =
+    let it : IsItem g.O.Operation.cmd_is c.requires.ready c.index-at.result.now = item_of g.O.Operation.cmd_is c.args.core.now.nodes.items c.requires.ready c.index-at.result.now refl c.requires.node c.index-at.ensures in
+    ap (λ y. y.done + 1) (one_node it q at)
 
-pub returns-in_err-put-clause-before : goal.returns-in_err-put-clause-before
-returns-in_err-put-clause-before g c e = ap is_write (event_write (plain_of g.O.Operation.cmd_is c.args.core.now) c.requires.good c.args.node c.requires.ready c.in-Some.plan (plan_now g.O.Operation.cmd_is c.args.core.now.nodes.items (plain_of g.O.Operation.cmd_is c.args.core.now) c.args.node c.requires.ready c.index-at.result.now refl c.requires.node.from c.requires.node.to c.index-at.ensures c.in-Some.plan c.in-Some.is) (Some c.index-writes-at.result) (next_now g.O.Operation.cmd_is c.args.core.now.nodes.items (plain_of g.O.Operation.cmd_is c.args.core.now) c.args.node c.requires.ready c.index-at.result.now refl c.requires.node.from c.requires.node.to c.index-at.ensures c.in-Some.plan c.writes_by-writes.result.now c.index-writes-at.result c.writes_by-writes.ensures c.if-at-writes.true c.index-writes-at.is))
+pub returns-in_err-write : goal.returns-in_err-write
+returns-in_err-write g c =
+    let it : IsItem g.O.Operation.cmd_is c.requires.ready c.index-at.result.now = item_of g.O.Operation.cmd_is c.args.core.now.nodes.items c.requires.ready c.index-at.result.now refl c.requires.node c.index-at.ensures in
+    let plan = plan_now it c.in-Some.plan c.in-Some.is in
+    let next = next_now it c.in-Some.plan c.writes_by-writes.result.now c.index-writes-at.result c.writes_by-writes.ensures c.if-at-writes.true c.index-writes-at.is in
+    failed _ _ _ (search rules) (event_write c.requires.good c.requires.ready c.in-Some.plan plan (Some c.index-writes-at.result) next) c.in_err-write.ensures.same refl (write_leaves c.requires.good c.requires.ready c.index-writes-at.result)
+    c.in_err-write.ensures.cause.later c.in_err-write.ensures.cause.failed c.in_err-write.ensures.failed (still_room c.in_err-write.ensures.same c.in_err-write.ensures.room c.requires.room)
 
-pub returns-then-at-writes-clause-world : goal.returns-then-at-writes-clause-world
-returns-then-at-writes-clause-world g c = c.in_ok-put.ensures.world c.index-writes-at.result refl refl ∙ ap (happen (plain_of g.O.Operation.cmd_is c.args.core.now) c.args.node) (sym (event_write (plain_of g.O.Operation.cmd_is c.args.core.now) c.requires.good c.args.node c.requires.ready c.in-Some.plan (plan_now g.O.Operation.cmd_is c.args.core.now.nodes.items (plain_of g.O.Operation.cmd_is c.args.core.now) c.args.node c.requires.ready c.index-at.result.now refl c.requires.node.from c.requires.node.to c.index-at.ensures c.in-Some.plan c.in-Some.is) (Some c.index-writes-at.result) (next_now g.O.Operation.cmd_is c.args.core.now.nodes.items (plain_of g.O.Operation.cmd_is c.args.core.now) c.args.node c.requires.ready c.index-at.result.now refl c.requires.node.from c.requires.node.to c.index-at.ensures c.in-Some.plan c.writes_by-writes.result.now c.index-writes-at.result c.writes_by-writes.ensures c.if-at-writes.true c.index-writes-at.is)))
+pub returns-then-at-writes : goal.returns-then-at-writes
+returns-then-at-writes g c =
+    let it : IsItem g.O.Operation.cmd_is c.requires.ready c.index-at.result.now = item_of g.O.Operation.cmd_is c.args.core.now.nodes.items c.requires.ready c.index-at.result.now refl c.requires.node c.index-at.ensures in
+    let plan = plan_now it c.in-Some.plan c.in-Some.is in
+    let next = next_now it c.in-Some.plan c.writes_by-writes.result.now c.index-writes-at.result c.writes_by-writes.ensures c.if-at-writes.true c.index-writes-at.is in
+    let world = c.in_ok-write.ensures.world c.index-writes-at.result refl refl in
+    wrote _ _ _ (event_write c.requires.good c.requires.ready c.in-Some.plan plan (Some c.index-writes-at.result) next) world refl c.in_ok-write.ensures.cause.later c.in_ok-write.ensures.image c.in_ok-write.ensures.blocks
+    (subst (λ k. HasRoom (plain_of g.O.Operation.cmd_is c.write.new.core) k) (sym c.in_ok-write.ensures.room) (write_room c.requires.good c.requires.ready c.index-writes-at.result c.args.core.now.history.room c.requires.room (plain_of g.O.Operation.cmd_is c.write.new.core) world))
 
-pub returns-then-at-writes-clause-answer : goal.returns-then-at-writes-clause-answer
-returns-then-at-writes-clause-answer g c = sym (ap (told (plain_of g.O.Operation.cmd_is c.put.new.core) c.args.node) (event_write (plain_of g.O.Operation.cmd_is c.args.core.now) c.requires.good c.args.node c.requires.ready c.in-Some.plan (plan_now g.O.Operation.cmd_is c.args.core.now.nodes.items (plain_of g.O.Operation.cmd_is c.args.core.now) c.args.node c.requires.ready c.index-at.result.now refl c.requires.node.from c.requires.node.to c.index-at.ensures c.in-Some.plan c.in-Some.is) (Some c.index-writes-at.result) (next_now g.O.Operation.cmd_is c.args.core.now.nodes.items (plain_of g.O.Operation.cmd_is c.args.core.now) c.args.node c.requires.ready c.index-at.result.now refl c.requires.node.from c.requires.node.to c.index-at.ensures c.in-Some.plan c.writes_by-writes.result.now c.index-writes-at.result c.writes_by-writes.ensures c.if-at-writes.true c.index-writes-at.is)))
-
-pub returns-then-at-writes-clause-room : goal.returns-then-at-writes-clause-room
-returns-then-at-writes-clause-room g c =
-    subst (λ k. HasRoom (plain_of g.O.Operation.cmd_is c.put.new.core) k) (sym c.in_ok-put.ensures.room)
-    (put_room (plain_of g.O.Operation.cmd_is c.args.core.now) c.requires.good c.args.node c.requires.ready c.index-writes-at.result c.args.core.now.history.room c.requires.room (plain_of g.O.Operation.cmd_is c.put.new.core) (c.in_ok-put.ensures.world c.index-writes-at.result refl refl))
-
-pub try_ask-requires-clause-new : goal.try_ask-requires-clause-new
-try_ask-requires-clause-new g c =
-    let plan = (plan_now g.O.Operation.cmd_is c.args.core.now.nodes.items (plain_of g.O.Operation.cmd_is c.args.core.now) c.args.node c.requires.ready c.index-at.result.now refl c.requires.node.from c.requires.node.to c.index-at.ensures c.in-Some.plan c.in-Some.is) in
-    let last = (last_now g.O.Operation.cmd_is c.args.core.now.nodes.items (plain_of g.O.Operation.cmd_is c.args.core.now) c.args.node c.requires.ready c.index-at.result.now refl c.requires.node.from c.requires.node.to c.index-at.ensures c.in-Some.plan c.writes_by-writes.result.now c.writes_by-writes.ensures c.if-at-writes.false) in
-    let aim = aimed (going_ask c.args.core.now.locks c.args.node c.requires.ready.state.tried c.in-Some.plan.ask) c.in-Some-going_ask.file c.in-Some-going_ask.mode (sym (item_aim g.O.Operation.cmd_is c.args.core.now.nodes.items (plain_of g.O.Operation.cmd_is c.args.core.now) c.args.node c.requires.ready c.index-at.result.now refl c.requires.node.from c.requires.node.to c.index-at.ensures c.args.core.now.locks c.in-Some.plan c.going_ask.result c.going_ask.ensures) ∙ c.in-Some-going_ask.is) in
+pub ask-requires-clause-new : goal.ask-requires-clause-new
+ask-requires-clause-new g c =
+    let it : IsItem g.O.Operation.cmd_is c.requires.ready c.index-at.result.now = item_of g.O.Operation.cmd_is c.args.core.now.nodes.items c.requires.ready c.index-at.result.now refl c.requires.node c.index-at.ensures in
+    let plan = plan_now it c.in-Some.plan c.in-Some.is in
+    let aim = aimed (going_ask c.args.core.now.locks c.args.node c.requires.ready.state.tried c.in-Some.plan.ask) c.in-Some-going_ask.file c.in-Some-going_ask.mode (sym (item_aim it c.args.core.now.locks c.in-Some.plan c.going_ask.result c.going_ask.ensures) ∙ c.in-Some-going_ask.is) in
     let going = going_is c.args.core.now.locks c.args.node c.requires.ready.state.tried c.in-Some.plan.ask aim.made aim.is in
-    subst (λ k. standing_of (system_of c.args.node) (resource_at (A k) c.args.core.now.locks).askers ≡ None) aim.file_is (may_try (plain_of g.O.Operation.cmd_is c.args.core.now) c.requires.good c.args.node c.requires.ready c.in-Some.plan plan aim.made aim.is)
+    let none = subst (λ k. standing_of (system_of c.args.node) (resource_at (A k) c.args.core.now.locks).askers ≡ None) aim.file_is (may_ask c.requires.good c.requires.ready c.in-Some.plan plan aim.made aim.is) in
+    none
 
-pub try_ask-requires-clause-goes : goal.try_ask-requires-clause-goes
-try_ask-requires-clause-goes g c =
-    let plan = (plan_now g.O.Operation.cmd_is c.args.core.now.nodes.items (plain_of g.O.Operation.cmd_is c.args.core.now) c.args.node c.requires.ready c.index-at.result.now refl c.requires.node.from c.requires.node.to c.index-at.ensures c.in-Some.plan c.in-Some.is) in
-    let last = (last_now g.O.Operation.cmd_is c.args.core.now.nodes.items (plain_of g.O.Operation.cmd_is c.args.core.now) c.args.node c.requires.ready c.index-at.result.now refl c.requires.node.from c.requires.node.to c.index-at.ensures c.in-Some.plan c.writes_by-writes.result.now c.writes_by-writes.ensures c.if-at-writes.false) in
-    let aim = aimed (going_ask c.args.core.now.locks c.args.node c.requires.ready.state.tried c.in-Some.plan.ask) c.in-Some-going_ask.file c.in-Some-going_ask.mode (sym (item_aim g.O.Operation.cmd_is c.args.core.now.nodes.items (plain_of g.O.Operation.cmd_is c.args.core.now) c.args.node c.requires.ready c.index-at.result.now refl c.requires.node.from c.requires.node.to c.index-at.ensures c.args.core.now.locks c.in-Some.plan c.going_ask.result c.going_ask.ensures) ∙ c.in-Some-going_ask.is) in
+pub ask-requires-clause-apart : goal.ask-requires-clause-apart
+ask-requires-clause-apart g c =
+    let it : IsItem g.O.Operation.cmd_is c.requires.ready c.index-at.result.now = item_of g.O.Operation.cmd_is c.args.core.now.nodes.items c.requires.ready c.index-at.result.now refl c.requires.node c.index-at.ensures in
+    let plan = plan_now it c.in-Some.plan c.in-Some.is in
+    let aim = aimed (going_ask c.args.core.now.locks c.args.node c.requires.ready.state.tried c.in-Some.plan.ask) c.in-Some-going_ask.file c.in-Some-going_ask.mode (sym (item_aim it c.args.core.now.locks c.in-Some.plan c.going_ask.result c.going_ask.ensures) ∙ c.in-Some-going_ask.is) in
+    let going = going_is c.args.core.now.locks c.args.node c.requires.ready.state.tried c.in-Some.plan.ask aim.made aim.is in
+    let none = subst (λ k. standing_of (system_of c.args.node) (resource_at (A k) c.args.core.now.locks).askers ≡ None) aim.file_is (may_ask c.requires.good c.requires.ready c.in-Some.plan plan aim.made aim.is) in
+    ask_apart c.requires.good c.requires.ready c.in-Some-going_ask.file none
+
+pub ask-requires-clause-goes : goal.ask-requires-clause-goes
+ask-requires-clause-goes g c =
+    let it : IsItem g.O.Operation.cmd_is c.requires.ready c.index-at.result.now = item_of g.O.Operation.cmd_is c.args.core.now.nodes.items c.requires.ready c.index-at.result.now refl c.requires.node c.index-at.ensures in
+    let aim = aimed (going_ask c.args.core.now.locks c.args.node c.requires.ready.state.tried c.in-Some.plan.ask) c.in-Some-going_ask.file c.in-Some-going_ask.mode (sym (item_aim it c.args.core.now.locks c.in-Some.plan c.going_ask.result c.going_ask.ensures) ∙ c.in-Some-going_ask.is) in
     let going = going_is c.args.core.now.locks c.args.node c.requires.ready.state.tried c.in-Some.plan.ask aim.made aim.is in
     (λ i. goes_at_once (system_of c.args.node) (sym aim.mode_is i) (resource_at (A (sym aim.file_is i)) c.args.core.now.locks).askers) ∙ going.goes
 
-pub returns-in_err-try_ask-clause-memory : goal.returns-in_err-try_ask-clause-memory
-returns-in_err-try_ask-clause-memory g c e =
-    let plan = (plan_now g.O.Operation.cmd_is c.args.core.now.nodes.items (plain_of g.O.Operation.cmd_is c.args.core.now) c.args.node c.requires.ready c.index-at.result.now refl c.requires.node.from c.requires.node.to c.index-at.ensures c.in-Some.plan c.in-Some.is) in
-    let last = (last_now g.O.Operation.cmd_is c.args.core.now.nodes.items (plain_of g.O.Operation.cmd_is c.args.core.now) c.args.node c.requires.ready c.index-at.result.now refl c.requires.node.from c.requires.node.to c.index-at.ensures c.in-Some.plan c.writes_by-writes.result.now c.writes_by-writes.ensures c.if-at-writes.false) in
-    let aim = aimed (going_ask c.args.core.now.locks c.args.node c.requires.ready.state.tried c.in-Some.plan.ask) c.in-Some-going_ask.file c.in-Some-going_ask.mode (sym (item_aim g.O.Operation.cmd_is c.args.core.now.nodes.items (plain_of g.O.Operation.cmd_is c.args.core.now) c.args.node c.requires.ready c.index-at.result.now refl c.requires.node.from c.requires.node.to c.index-at.ensures c.args.core.now.locks c.in-Some.plan c.going_ask.result c.going_ask.ensures) ∙ c.in-Some-going_ask.is) in
+pub returns-in_err-ask : goal.returns-in_err-ask
+returns-in_err-ask g c =
+    let it : IsItem g.O.Operation.cmd_is c.requires.ready c.index-at.result.now = item_of g.O.Operation.cmd_is c.args.core.now.nodes.items c.requires.ready c.index-at.result.now refl c.requires.node c.index-at.ensures in
+    let plan = plan_now it c.in-Some.plan c.in-Some.is in
+    let last = last_now it c.in-Some.plan c.writes_by-writes.result.now c.writes_by-writes.ensures c.if-at-writes.false in
+    let aim = aimed (going_ask c.args.core.now.locks c.args.node c.requires.ready.state.tried c.in-Some.plan.ask) c.in-Some-going_ask.file c.in-Some-going_ask.mode (sym (item_aim it c.args.core.now.locks c.in-Some.plan c.going_ask.result c.going_ask.ensures) ∙ c.in-Some-going_ask.is) in
     let going = going_is c.args.core.now.locks c.args.node c.requires.ready.state.tried c.in-Some.plan.ask aim.made aim.is in
-    ap (takes_none c.args.core.now.locks c.args.node) (event_try (plain_of g.O.Operation.cmd_is c.args.core.now) c.requires.good c.args.node c.requires.ready c.in-Some.plan plan last aim.made aim.is) ∙ ap not going.goes
+    lacking _ (search rules) c.in_err-ask.ensures.same (ap (takes_none c.args.core.now.locks c.args.node) (event_ask c.requires.good c.requires.ready c.in-Some.plan plan last aim.made aim.is).event ∙ ap not going.goes)
+    (ap (λ m. m.image) c.in_err-ask.ensures.mirror) (still_room c.in_err-ask.ensures.same c.in_err-ask.ensures.room c.requires.room)
 
-pub returns-in-Some-going_ask-clause-world : goal.returns-in-Some-going_ask-clause-world
-returns-in-Some-going_ask-clause-world g c =
-    let plan = (plan_now g.O.Operation.cmd_is c.args.core.now.nodes.items (plain_of g.O.Operation.cmd_is c.args.core.now) c.args.node c.requires.ready c.index-at.result.now refl c.requires.node.from c.requires.node.to c.index-at.ensures c.in-Some.plan c.in-Some.is) in
-    let last = (last_now g.O.Operation.cmd_is c.args.core.now.nodes.items (plain_of g.O.Operation.cmd_is c.args.core.now) c.args.node c.requires.ready c.index-at.result.now refl c.requires.node.from c.requires.node.to c.index-at.ensures c.in-Some.plan c.writes_by-writes.result.now c.writes_by-writes.ensures c.if-at-writes.false) in
-    let aim = aimed (going_ask c.args.core.now.locks c.args.node c.requires.ready.state.tried c.in-Some.plan.ask) c.in-Some-going_ask.file c.in-Some-going_ask.mode (sym (item_aim g.O.Operation.cmd_is c.args.core.now.nodes.items (plain_of g.O.Operation.cmd_is c.args.core.now) c.args.node c.requires.ready c.index-at.result.now refl c.requires.node.from c.requires.node.to c.index-at.ensures c.args.core.now.locks c.in-Some.plan c.going_ask.result c.going_ask.ensures) ∙ c.in-Some-going_ask.is) in
+pub returns-in-Some-going_ask : goal.returns-in-Some-going_ask
+returns-in-Some-going_ask g c =
+    let it : IsItem g.O.Operation.cmd_is c.requires.ready c.index-at.result.now = item_of g.O.Operation.cmd_is c.args.core.now.nodes.items c.requires.ready c.index-at.result.now refl c.requires.node c.index-at.ensures in
+    let plan = plan_now it c.in-Some.plan c.in-Some.is in
+    let last = last_now it c.in-Some.plan c.writes_by-writes.result.now c.writes_by-writes.ensures c.if-at-writes.false in
+    let aim = aimed (going_ask c.args.core.now.locks c.args.node c.requires.ready.state.tried c.in-Some.plan.ask) c.in-Some-going_ask.file c.in-Some-going_ask.mode (sym (item_aim it c.args.core.now.locks c.in-Some.plan c.going_ask.result c.going_ask.ensures) ∙ c.in-Some-going_ask.is) in
     let going = going_is c.args.core.now.locks c.args.node c.requires.ready.state.tried c.in-Some.plan.ask aim.made aim.is in
-    (c.in_ok-try_ask.ensures.world c.requires.ready.cmd aim.made aim.file_is aim.mode_is) ∙ ap (happen (plain_of g.O.Operation.cmd_is c.args.core.now) c.args.node) (sym (event_try (plain_of g.O.Operation.cmd_is c.args.core.now) c.requires.good c.args.node c.requires.ready c.in-Some.plan plan last aim.made aim.is))
-
-pub returns-in-Some-going_ask-clause-answer : goal.returns-in-Some-going_ask-clause-answer
-returns-in-Some-going_ask-clause-answer g c =
-    let plan = (plan_now g.O.Operation.cmd_is c.args.core.now.nodes.items (plain_of g.O.Operation.cmd_is c.args.core.now) c.args.node c.requires.ready c.index-at.result.now refl c.requires.node.from c.requires.node.to c.index-at.ensures c.in-Some.plan c.in-Some.is) in
-    let last = (last_now g.O.Operation.cmd_is c.args.core.now.nodes.items (plain_of g.O.Operation.cmd_is c.args.core.now) c.args.node c.requires.ready c.index-at.result.now refl c.requires.node.from c.requires.node.to c.index-at.ensures c.in-Some.plan c.writes_by-writes.result.now c.writes_by-writes.ensures c.if-at-writes.false) in
-    let aim = aimed (going_ask c.args.core.now.locks c.args.node c.requires.ready.state.tried c.in-Some.plan.ask) c.in-Some-going_ask.file c.in-Some-going_ask.mode (sym (item_aim g.O.Operation.cmd_is c.args.core.now.nodes.items (plain_of g.O.Operation.cmd_is c.args.core.now) c.args.node c.requires.ready c.index-at.result.now refl c.requires.node.from c.requires.node.to c.index-at.ensures c.args.core.now.locks c.in-Some.plan c.going_ask.result c.going_ask.ensures) ∙ c.in-Some-going_ask.is) in
-    let going = going_is c.args.core.now.locks c.args.node c.requires.ready.state.tried c.in-Some.plan.ask aim.made aim.is in
-    sym (ap (told (plain_of g.O.Operation.cmd_is c.try_ask.new.core) c.args.node) (event_try (plain_of g.O.Operation.cmd_is c.args.core.now) c.requires.good c.args.node c.requires.ready c.in-Some.plan plan last aim.made aim.is) ∙ try_told (plain_of g.O.Operation.cmd_is c.args.core.now) c.requires.good c.args.node c.requires.ready aim.made going.goes (plain_of g.O.Operation.cmd_is c.try_ask.new.core) (c.in_ok-try_ask.ensures.world c.requires.ready.cmd aim.made aim.file_is aim.mode_is))
-
-pub returns-in-Some-going_ask-clause-room : goal.returns-in-Some-going_ask-clause-room
-returns-in-Some-going_ask-clause-room g c =
-    let plan = (plan_now g.O.Operation.cmd_is c.args.core.now.nodes.items (plain_of g.O.Operation.cmd_is c.args.core.now) c.args.node c.requires.ready c.index-at.result.now refl c.requires.node.from c.requires.node.to c.index-at.ensures c.in-Some.plan c.in-Some.is) in
-    let last = (last_now g.O.Operation.cmd_is c.args.core.now.nodes.items (plain_of g.O.Operation.cmd_is c.args.core.now) c.args.node c.requires.ready c.index-at.result.now refl c.requires.node.from c.requires.node.to c.index-at.ensures c.in-Some.plan c.writes_by-writes.result.now c.writes_by-writes.ensures c.if-at-writes.false) in
-    let aim = aimed (going_ask c.args.core.now.locks c.args.node c.requires.ready.state.tried c.in-Some.plan.ask) c.in-Some-going_ask.file c.in-Some-going_ask.mode (sym (item_aim g.O.Operation.cmd_is c.args.core.now.nodes.items (plain_of g.O.Operation.cmd_is c.args.core.now) c.args.node c.requires.ready c.index-at.result.now refl c.requires.node.from c.requires.node.to c.index-at.ensures c.args.core.now.locks c.in-Some.plan c.going_ask.result c.going_ask.ensures) ∙ c.in-Some-going_ask.is) in
-    let going = going_is c.args.core.now.locks c.args.node c.requires.ready.state.tried c.in-Some.plan.ask aim.made aim.is in
-    subst (λ k. HasRoom (plain_of g.O.Operation.cmd_is c.try_ask.new.core) k) (sym c.in_ok-try_ask.ensures.room)
-    (try_room (plain_of g.O.Operation.cmd_is c.args.core.now) c.requires.good c.args.node c.requires.ready c.requires.ready.cmd aim.made c.args.core.now.history.room going.goes c.requires.room (plain_of g.O.Operation.cmd_is c.try_ask.new.core) (c.in_ok-try_ask.ensures.world c.requires.ready.cmd aim.made aim.file_is aim.mode_is))
+    let world = c.in_ok-ask.ensures.world c.requires.ready.cmd aim.made aim.file_is aim.mode_is in
+    quiet _ (event_ask c.requires.good c.requires.ready c.in-Some.plan plan last aim.made aim.is) world (ask_told c.requires.good c.requires.ready aim.made going.goes (plain_of g.O.Operation.cmd_is c.ask.new.core) world)
+    (ap (λ m. m.image) c.in_ok-ask.ensures.mirror) (ap (λ m. m.blocks) c.in_ok-ask.ensures.mirror)
+    (subst (λ k. HasRoom (plain_of g.O.Operation.cmd_is c.ask.new.core) k) (sym c.in_ok-ask.ensures.room) (ask_room c.requires.good c.requires.ready c.requires.ready.cmd aim.made c.args.core.now.history.room going.goes c.requires.room (plain_of g.O.Operation.cmd_is c.ask.new.core) world))
 
 pub answer-requires-clause-ends : goal.answer-requires-clause-ends
-answer-requires-clause-ends g c = may_end_at (plain_of g.O.Operation.cmd_is c.args.core.now) c.requires.good c.args.node c.requires.ready c.requires.room.lines c.in-Some.plan (plan_now g.O.Operation.cmd_is c.args.core.now.nodes.items (plain_of g.O.Operation.cmd_is c.args.core.now) c.args.node c.requires.ready c.index-at.result.now refl c.requires.node.from c.requires.node.to c.index-at.ensures c.in-Some.plan c.in-Some.is)
+answer-requires-clause-ends g c =
+    let it : IsItem g.O.Operation.cmd_is c.requires.ready c.index-at.result.now = item_of g.O.Operation.cmd_is c.args.core.now.nodes.items c.requires.ready c.index-at.result.now refl c.requires.node c.index-at.ensures in
+    let plan = plan_now it c.in-Some.plan c.in-Some.is in
+    may_end_at c.requires.good c.requires.ready c.requires.room.lines c.in-Some.plan plan
 
 pub answer-requires-clause-place : goal.answer-requires-clause-place
-answer-requires-clause-place g c = place_kept (plain_of g.O.Operation.cmd_is c.args.core.now) c.requires.good c.args.node c.requires.ready c.in-Some.plan (plan_now g.O.Operation.cmd_is c.args.core.now.nodes.items (plain_of g.O.Operation.cmd_is c.args.core.now) c.args.node c.requires.ready c.index-at.result.now refl c.requires.node.from c.requires.node.to c.index-at.ensures c.in-Some.plan c.in-Some.is) c.args.core.now.history.room c.requires.room
+answer-requires-clause-place g c =
+    let it : IsItem g.O.Operation.cmd_is c.requires.ready c.index-at.result.now = item_of g.O.Operation.cmd_is c.args.core.now.nodes.items c.requires.ready c.index-at.result.now refl c.requires.node c.index-at.ensures in
+    let plan = plan_now it c.in-Some.plan c.in-Some.is in
+    place_kept c.requires.good c.requires.ready c.in-Some.plan plan c.args.core.now.history.room c.requires.room
 
-pub returns-clause-world : goal.returns-clause-world
-returns-clause-world g c = (c.answer.ensures.world c.requires.ready.cmd c.in-Some.plan (command_is (plain_of g.O.Operation.cmd_is c.args.core.now) c.requires.good c.args.node c.requires.ready) (plan_is (plain_of g.O.Operation.cmd_is c.args.core.now) c.requires.good c.args.node c.requires.ready c.in-Some.plan (plan_now g.O.Operation.cmd_is c.args.core.now.nodes.items (plain_of g.O.Operation.cmd_is c.args.core.now) c.args.node c.requires.ready c.index-at.result.now refl c.requires.node.from c.requires.node.to c.index-at.ensures c.in-Some.plan c.in-Some.is)))
-    ∙ ap (λ b. happen (plain_of g.O.Operation.cmd_is c.args.core.now) c.args.node (Answer c.requires.ready.cmd (reply_by c.in-Some.plan.ask b c.in-Some.plan.reply))) (tried_is (plain_of g.O.Operation.cmd_is c.args.core.now) c.requires.good c.args.node c.requires.ready)
-    ∙ sym (event_ends (plain_of g.O.Operation.cmd_is c.args.core.now) c.requires.good c.args.node c.requires.ready c.in-Some.plan (plan_now g.O.Operation.cmd_is c.args.core.now.nodes.items (plain_of g.O.Operation.cmd_is c.args.core.now) c.args.node c.requires.ready c.index-at.result.now refl c.requires.node.from c.requires.node.to c.index-at.ensures c.in-Some.plan c.in-Some.is) (last_now g.O.Operation.cmd_is c.args.core.now.nodes.items (plain_of g.O.Operation.cmd_is c.args.core.now) c.args.node c.requires.ready c.index-at.result.now refl c.requires.node.from c.requires.node.to c.index-at.ensures c.in-Some.plan c.writes_by-writes.result.now c.writes_by-writes.ensures c.if-at-writes.false) (aims_none (going_ask c.args.core.now.locks c.args.node c.requires.ready.state.tried c.in-Some.plan.ask) (sym (item_aim g.O.Operation.cmd_is c.args.core.now.nodes.items (plain_of g.O.Operation.cmd_is c.args.core.now) c.args.node c.requires.ready c.index-at.result.now refl c.requires.node.from c.requires.node.to c.index-at.ensures c.args.core.now.locks c.in-Some.plan c.going_ask.result c.going_ask.ensures) ∙ c.in_default-going_ask.is)))
-
-pub returns-clause-answer : goal.returns-clause-answer
-returns-clause-answer g c = sym (ends_told (plain_of g.O.Operation.cmd_is c.args.core.now) c.requires.good c.args.node c.requires.ready c.in-Some.plan (plan_now g.O.Operation.cmd_is c.args.core.now.nodes.items (plain_of g.O.Operation.cmd_is c.args.core.now) c.args.node c.requires.ready c.index-at.result.now refl c.requires.node.from c.requires.node.to c.index-at.ensures c.in-Some.plan c.in-Some.is) (last_now g.O.Operation.cmd_is c.args.core.now.nodes.items (plain_of g.O.Operation.cmd_is c.args.core.now) c.args.node c.requires.ready c.index-at.result.now refl c.requires.node.from c.requires.node.to c.index-at.ensures c.in-Some.plan c.writes_by-writes.result.now c.writes_by-writes.ensures c.if-at-writes.false) (reply_by c.in-Some.plan.ask (tried_at (plain_of g.O.Operation.cmd_is c.args.core.now) c.args.node) c.in-Some.plan.reply) (plain_of g.O.Operation.cmd_is c.answer.new.core) (c.answer.ensures.world c.requires.ready.cmd c.in-Some.plan (command_is (plain_of g.O.Operation.cmd_is c.args.core.now) c.requires.good c.args.node c.requires.ready) (plan_is (plain_of g.O.Operation.cmd_is c.args.core.now) c.requires.good c.args.node c.requires.ready c.in-Some.plan (plan_now g.O.Operation.cmd_is c.args.core.now.nodes.items (plain_of g.O.Operation.cmd_is c.args.core.now) c.args.node c.requires.ready c.index-at.result.now refl c.requires.node.from c.requires.node.to c.index-at.ensures c.in-Some.plan c.in-Some.is))))
-
-pub returns-clause-room : goal.returns-clause-room
-returns-clause-room g c = answer_room (plain_of g.O.Operation.cmd_is c.args.core.now) c.requires.good c.args.node c.requires.ready c.requires.ready.cmd (reply_by c.in-Some.plan.ask (tried_at (plain_of g.O.Operation.cmd_is c.args.core.now) c.args.node) c.in-Some.plan.reply) c.args.core.now.history.room c.answer.new.core.history.room (ap is_some (plan_now g.O.Operation.cmd_is c.args.core.now.nodes.items (plain_of g.O.Operation.cmd_is c.args.core.now) c.args.node c.requires.ready c.index-at.result.now refl c.requires.node.from c.requires.node.to c.index-at.ensures c.in-Some.plan c.in-Some.is)) c.answer.ensures.room c.requires.room
-    (plain_of g.O.Operation.cmd_is c.answer.new.core) (c.answer.ensures.world c.requires.ready.cmd c.in-Some.plan (command_is (plain_of g.O.Operation.cmd_is c.args.core.now) c.requires.good c.args.node c.requires.ready) (plan_is (plain_of g.O.Operation.cmd_is c.args.core.now) c.requires.good c.args.node c.requires.ready c.in-Some.plan (plan_now g.O.Operation.cmd_is c.args.core.now.nodes.items (plain_of g.O.Operation.cmd_is c.args.core.now) c.args.node c.requires.ready c.index-at.result.now refl c.requires.node.from c.requires.node.to c.index-at.ensures c.in-Some.plan c.in-Some.is)))
-
-pub returns-in_err-put-clause-torn : goal.returns-in_err-put-clause-torn
-returns-in_err-put-clause-torn g c e told =
-    put_torn (plain_of g.O.Operation.cmd_is c.args.core.now) c.args.node c.requires.ready.state c.requires.ready.at c.index-writes-at.result _ _ told c.in_err-put.ensures.failed _ (event_write (plain_of g.O.Operation.cmd_is c.args.core.now) c.requires.good c.args.node c.requires.ready c.in-Some.plan (plan_now g.O.Operation.cmd_is c.args.core.now.nodes.items (plain_of g.O.Operation.cmd_is c.args.core.now) c.args.node c.requires.ready c.index-at.result.now refl c.requires.node.from c.requires.node.to c.index-at.ensures c.in-Some.plan c.in-Some.is) (Some c.index-writes-at.result) (next_now g.O.Operation.cmd_is c.args.core.now.nodes.items (plain_of g.O.Operation.cmd_is c.args.core.now) c.args.node c.requires.ready c.index-at.result.now refl c.requires.node.from c.requires.node.to c.index-at.ensures c.in-Some.plan c.writes_by-writes.result.now c.index-writes-at.result c.writes_by-writes.ensures c.if-at-writes.true c.index-writes-at.is))
+pub returns : goal.returns
+returns g c =
+    let it : IsItem g.O.Operation.cmd_is c.requires.ready c.index-at.result.now = item_of g.O.Operation.cmd_is c.args.core.now.nodes.items c.requires.ready c.index-at.result.now refl c.requires.node c.index-at.ensures in
+    let plan = plan_now it c.in-Some.plan c.in-Some.is in
+    let last = last_now it c.in-Some.plan c.writes_by-writes.result.now c.writes_by-writes.ensures c.if-at-writes.false in
+    let world = c.answer.ensures.world c.requires.ready.cmd c.in-Some.plan (command_is c.requires.good c.requires.ready) (plan_is c.requires.good c.requires.ready c.in-Some.plan plan) in
+    let none = aims_none (going_ask c.args.core.now.locks c.args.node c.requires.ready.state.tried c.in-Some.plan.ask) (sym (item_aim it c.args.core.now.locks c.in-Some.plan c.going_ask.result c.going_ask.ensures) ∙ c.in_default-going_ask.is) in
+    let reply = reply_by c.in-Some.plan.ask (tried_at (plain_of g.O.Operation.cmd_is c.args.core.now) c.args.node) c.in-Some.plan.reply in
+    quiet _ (event_write c.requires.good c.requires.ready c.in-Some.plan plan None last)
+    (world ∙ ap (λ b. happen (plain_of g.O.Operation.cmd_is c.args.core.now) c.args.node (event.Answer c.requires.ready.cmd (reply_by c.in-Some.plan.ask b c.in-Some.plan.reply))) (tried_is c.requires.good c.requires.ready) ∙ sym (ends_as c.requires.good c.requires.ready c.in-Some.plan none))
+    (ends_told c.requires.good c.requires.ready c.in-Some.plan reply (plain_of g.O.Operation.cmd_is c.answer.new.core) world)
+    (ap (λ m. m.image) c.answer.ensures.mirror) (ap (λ m. m.blocks) c.answer.ensures.mirror)
+    (answer_room c.requires.good c.requires.ready c.requires.ready.cmd reply c.args.core.now.history.room c.answer.new.core.history.room (ap is_some plan) c.answer.ensures.room c.requires.room (plain_of g.O.Operation.cmd_is c.answer.new.core) world)

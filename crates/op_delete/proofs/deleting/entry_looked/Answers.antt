@@ -1,9 +1,8 @@
-use Rattle.std.proofs.Common.{rules, ◌≡◌, ◌∙◌, ◌<◌, false, Some, ap, sym, arith}
+use Rattle.std.proofs.Common.{rules, ◌≡◌, ◌∙◌, false, ap, sym, subst}
 use Rattle.std.specs.Prelude.{nat_le}
-use Rattle.std.proofs.lemmas.Bool.Decides.{nat_tests}
 use Rattle.plain_vol.specs.Lookups.{versions, entry_of}
 use Rattle.op_law.specs.Events.{Space as Given}
-use Rattle.op_law.specs.Behind.{goes_on_by, blocks_alone}
+use Rattle.op_law.specs.Behind.{goes_on_by, blocks_alone, FollowsBy}
 use Rattle.op_law.specs.Moving.{entries_of}
 use Rattle.op_law.specs.Refusing.{if_entry}
 use Rattle.op_law.specs.Removing.{delete_in}
@@ -22,6 +21,9 @@ delete_in-requires-clause-entry c =
       there = found_so (blocks_alone c.args.d.now.blocks.now) name c.args.ver c.in-Some.e.now found;
     }
 
+pub delete_in-requires-clause-found : goal.delete_in-requires-clause-found
+delete_in-requires-clause-found c = ap (λ es. entry_of (versions c.args.name.now es) c.args.ver) (sym c.in_ok-entries.ensures) ∙ sym c.in-Some.ensures
+
 pub returns : goal.returns
 returns c =
     let g = c.args.g.now in
@@ -29,7 +31,10 @@ returns c =
     let e = c.in-Some.e.now in
     let name = c.args.name.now in
     let rest = c.args.rest in
+    let o = entry_of (versions name (entries_of d)) c.args.ver in
     let found = ap (λ es. entry_of (versions name es) c.args.ver) (sym c.in_ok-entries.ensures) ∙ sym c.in-Some.ensures in
     let plain : nat_le e.fid.num 11 ≡ false = search rules in
-    mapped _ _ (λ n. (given : Given) → goes_on_by (delete_in g d e) rest given ≡ n) (λ n. (given : Given) → goes_on_by (if_entry (entry_of (versions name (entries_of d)) c.args.ver) (delete_in g d)) rest given ≡ n) c.delete_in.result
-    (λ n h given. behind_entry g d (entry_of (versions name (entries_of d)) c.args.ver) e rest.locks.now rest.blocks.now given found plain ∙ h given) c.delete_in.ensures
+    let is = behind_entry g d o e found plain in
+    mapped _ _ (λ n. (given : Given) → FollowsBy (delete_in g d e) rest given → goes_on_by (delete_in g d e) rest given ≡ n)
+    (λ n. (given : Given) → FollowsBy (if_entry o (delete_in g d)) rest given → goes_on_by (if_entry o (delete_in g d)) rest given ≡ n) c.delete_in.result
+    (λ n h given follows. ap (λ es. goes_on_by es rest given) is ∙ h given (subst (λ es. FollowsBy es rest given) is follows)) c.delete_in.ensures

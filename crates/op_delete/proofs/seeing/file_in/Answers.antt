@@ -7,4 +7,4 @@ returns-in-Some-clause-file c =
     let b = c.args.head.now in
     let few = places_few b c.told-head c.in-Some.ensures.map c.requires.inside in
     let count = c.in-Some.ensures.count in
-    (omega arith, record { map = c.in-Some.ensures.map; inside = c.requires.inside; count = count; few = omega arith })
+    (omega arith, record { reads = c.in-Some.ensures.told; map = c.in-Some.ensures.map; inside = c.requires.inside; count = count; few = omega arith })

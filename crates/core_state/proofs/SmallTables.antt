@@ -1,0 +1,144 @@
+-- What the calls of the lock manager make of the sequences of value blocks: a request leaves each, and where locks go back no
+-- sequence is raised by more than two.
+use Rattle.std.proofs.Common.{◌≡◌, ◌≢◌, ◌≤◌, ◌<◌, ◌+◌, ◌-◌, ◌^◌, ℕ, Bool, true, false, List, [], ◌∷◌, refl, sym, ap, subst, ◌∙◌, inl, inr, arith}
+use Rattle.std.specs.Prelude.{◌⊎◌, replicate, MatchBool}
+use Rattle.std.specs.List.{list_any}
+use Rattle.plain_cat.specs.declared.mode.Mode.{Mode}
+use Rattle.lock_db.specs.declared.name.LockName.{LockName}
+use Rattle.lock_db.specs.declared.name.Owner.{Owner}
+use Rattle.lock_db.specs.declared.resource.Resource.{Resource}
+use Rattle.lock_db.specs.Names.{is_same}
+use Rattle.lock_db.specs.Queues.{is_writing, without}
+use Rattle.lock_db.specs.Resources.{mode_held}
+use Rattle.lock_db.specs.Tables.{resource_at, asked, released}
+use Rattle.lock_db.specs.Laws.{BlockStays, BlockIs, somebody}
+use Rattle.lock_db.proofs.Names.{is_same-refl, is_same-same}
+use Rattle.lock_db.proofs.Blocks.{requests-keep, releases-write, asked-leaves, released-leaves}
+use Rattle.vol_owners.specs.Lists.{Has, Once}
+use Rattle.vol_parts.specs.declared.geometry.Geometry.{Geometry}
+use Rattle.node_locks.specs.Held.{system_of, names_of}
+use Rattle.node_locks.specs.Sequences.{rise, raised, first_sequence, second_sequence, raised_block}
+use Rattle.node_locks.specs.declared.sequences.Raise.{Raise}
+use Rattle.node_locks.proofs.ReadingBack.{sequences_read_back}
+use Rattle.op_law.specs.declared.need.PlanWrite.{PlanWrite}
+use Rattle.core_state.specs.Raises.{frees, writes_first, writes_second, raise_by, raise_of}
+use Rattle.core_state.specs.Events.{given_back}
+
+-- ---- one sequence
+
+-- a rise by two at most
+rise_little : (valid : Bool) (by : ℕ) → by ≤ 2 → rise valid by ≤ 2
+rise_little true by le = le
+rise_little false by le = omega arith
+
+-- raised by two at most, and within 64 bits
+raised_little : (valid : Bool) (by sequence : ℕ) → by ≤ 2 → raised valid by sequence ≤ sequence + 2
+raised_little valid by sequence le = let r = rise_little valid by le in omega arith
+
+raised_fits : (valid : Bool) (by sequence : ℕ) → raised valid by sequence < 2 ^ 64
+raised_fits valid by sequence = omega arith
+
+-- a raise of each sequence by two at most
+pub record IsSmallRaise (raise : Raise) : Type 0 where
+  pub first : raise.first ≤ 2
+  pub second : raise.second ≤ 2
+
+-- one of the two sequences of a value block: in zeros it is zero, and raised by two at most it grows by two at most
+pub record IsSequence (seq : List ℕ → ℕ) : Type 0 where
+  pub zeros : seq (replicate 16 0) ≡ 0
+  pub little : (raise : Raise) (r : Resource) → IsSmallRaise raise → seq (raised_block raise r) ≤ seq r.value + 2
+
+pub is_first : IsSequence first_sequence
+unfolding first_sequence
+is_first = record {
+  zeros = refl;
+  little = λ raise r small.
+      let e = (sequences_read_back (raised r.valid raise.first (first_sequence r.value)) (raised r.valid raise.second (second_sequence r.value)) (raised_fits r.valid raise.first (first_sequence r.value)) (raised_fits r.valid raise.second (second_sequence r.value))).first_is in
+      subst (λ (k : ℕ). k ≤ first_sequence r.value + 2) (sym e) (raised_little r.valid raise.first (first_sequence r.value) small.first);
+}
+
+pub is_second : IsSequence second_sequence
+unfolding second_sequence
+is_second = record {
+  zeros = refl;
+  little = λ raise r small.
+      let e = (sequences_read_back (raised r.valid raise.first (first_sequence r.value)) (raised r.valid raise.second (second_sequence r.value)) (raised_fits r.valid raise.first (first_sequence r.value)) (raised_fits r.valid raise.second (second_sequence r.value))).second_is in
+      subst (λ (k : ℕ). k ≤ second_sequence r.value + 2) (sym e) (raised_little r.valid raise.second (second_sequence r.value) small.second);
+}
+
+-- what a command has written raises each by two at most
+raise_little : (freed wrote : Bool) → raise_by freed wrote ≤ 2
+raise_little true wrote = omega arith
+raise_little false true = omega arith
+raise_little false false = omega arith
+
+little_raise : (g : Geometry) (name : LockName) (ws : List PlanWrite) → IsSmallRaise (raise_of g name ws)
+little_raise g name ws = record {
+  first = raise_little (list_any (frees g name) ws) (list_any (writes_first g name) ws);
+  second = raise_little (list_any (frees g name) ws) (list_any (writes_second g name) ws);
+}
+
+-- two names are one or not
+pub same_name : (a b : LockName) → (a ≡ b) ⊎ (a ≢ b)
+same_name a b = by_test (is_same a b) refl where
+  by_test : (t : Bool) → is_same a b ≡ t → (a ≡ b) ⊎ (a ≢ b)
+  by_test true e = inl (is_same-same a b e)
+  by_test false e = inr (λ f. let g : is_same a a ≡ false = subst (λ (x : LockName). is_same a x ≡ false) (sym f) e in let h : true ≡ false = sym (is_same-refl a) ∙ g in absurd (cc))
+
+module _ (seq : List ℕ → ℕ) (is : IsSequence seq) where
+  abbrev at : LockName → List Resource → ℕ
+  at name t = seq (resource_at name t).value
+
+  -- ---- a request
+
+  pub asked_same : (name other : LockName) (owner : Owner) (mode : Mode) (t : List Resource) → at other (asked name owner mode t) ≡ at other t
+  asked_same name other owner mode t = elim (same_name other name) [
+    | inl e ↦ subst (λ (x : LockName). at x (asked name owner mode t) ≡ at x t) (sym e) (ap seq (requests-keep name owner mode t).0.bytes)
+    | inr ne ↦ ap (λ (r : Resource). seq r.value) (asked-leaves name owner mode t other ne)
+  ]
+
+  -- ---- a release
+
+  -- the value block stays, is the one that was given, or is gone
+  by_block : (some writes : Bool) (value : List ℕ) (old new : Resource) → MatchBool some (MatchBool writes (BlockIs value true new) (BlockStays old new)) (BlockIs (replicate 16 0) true new)
+      → seq value ≤ seq old.value + 2 → seq new.value ≤ seq old.value + 2
+  by_block true true value old new h le = subst (λ (v : List ℕ). seq v ≤ seq old.value + 2) (sym h.bytes_are) le
+  by_block true false value old new h le = let e : seq new.value ≡ seq old.value = ap seq h.bytes in omega arith
+  by_block false writes value old new h le = let e : seq new.value ≡ 0 = ap seq h.bytes_are ∙ is.zeros in omega arith
+
+  released_here : (name : LockName) (owner : Owner) (raise : Raise) (t : List Resource) → IsSmallRaise raise → at name (released name owner (raised_block raise (resource_at name t)) t) ≤ at name t + 2
+  released_here name owner raise t small =
+      let r : Resource = resource_at name t in
+      let value : List ℕ = raised_block raise r in
+      by_block (somebody (without owner r.askers)) (is_writing (mode_held owner r)) value r (resource_at name (released name owner value t)) (releases-write name owner value t) (is.little raise r small)
+
+  released_else : (name other : LockName) (owner : Owner) (value : List ℕ) (t : List Resource) → other ≢ name → at other (released name owner value t) ≡ at other t
+  released_else name other owner value t ne = ap (λ (r : Resource). seq r.value) (released-leaves name owner value t other ne)
+
+  -- ---- locks that go back one after the other
+
+  module _ (g : Geometry) (n : ℕ) (ws : List PlanWrite) where
+    abbrev value : LockName → List Resource → List ℕ
+    value name t = raised_block (raise_of g name ws) (resource_at name t)
+
+    given_else : (ls : List (LockName × Mode)) (t : List Resource) (name : LockName) → (Has (names_of ls) name → ⊥) → at name (given_back g n ws ls t) ≡ at name t
+    given_else [] t name none = refl
+    given_else (l ∷ ls) t name none =
+        given_else ls (released l.0 (system_of n) (value l.0 t) t) name (λ h. none (inr h)) ∙ released_else l.0 name (system_of n) (value l.0 t) t (λ e. none (inl (sym e)))
+
+    pub given_little : (ls : List (LockName × Mode)) (t : List Resource) → Once (names_of ls) → (name : LockName) → at name (given_back g n ws ls t) ≤ at name t + 2
+    given_little [] t once name = omega arith
+    given_little (l ∷ ls) t once name =
+        let u : List Resource = released l.0 (system_of n) (value l.0 t) t in
+        elim (same_name name l.0) [
+          | inl e ↦
+              subst (λ (x : LockName). at x (given_back g n ws ls u) ≤ at x t + 2) (sym e) (
+              let a : at l.0 (given_back g n ws ls u) ≡ at l.0 u = given_else ls u l.0 once.0 in
+              let b : at l.0 u ≤ at l.0 t + 2 = released_here l.0 (system_of n) (raise_of g l.0 ws) t (little_raise g l.0 ws) in
+              omega arith
+              )
+          | inr ne ↦
+              let a : at name (given_back g n ws ls u) ≤ at name u + 2 = given_little ls u once.1 name in
+              let b : at name u ≡ at name t = released_else l.0 name (system_of n) (value l.0 t) t ne in
+              omega arith
+        ]

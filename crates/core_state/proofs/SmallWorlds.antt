@@ -1,0 +1,121 @@
+-- The sequences stay small over each kind of event, and so none comes to the last value of 64 bits.
+use Rattle.std.proofs.Common.{◌≡◌, ◌≤◌, ◌+◌, ◌*◌, ◌++◌, ◌-◌, ℕ, zero, suc, Bool, true, false, cond, List, [], ◌∷◌, Option, Some, None, is_some, length, refl, ap, arith}
+use Rattle.std.specs.Prelude.{replicate}
+use Rattle.std.specs.List.{sum_by, count_by}
+use Rattle.std.proofs.lemmas.List.Sums.{sum_by-cons, count_by-le-length}
+use Rattle.vol_words.specs.Fields.{Block}
+use Rattle.lock_db.specs.declared.name.LockName.{LockName}
+use Rattle.lock_db.specs.declared.resource.Resource.{Resource}
+use Rattle.lock_db.specs.Resources.{fresh}
+use Rattle.lock_db.specs.Tables.{resource_at, asked}
+use Rattle.plain_cat.specs.declared.mode.Mode.{Mode}
+use Rattle.plain_cat.specs.declared.command.Cmd.{Cmd}
+use Rattle.plain_cat.specs.declared.reply.Reply.{Reply}
+use Rattle.plain_cat.specs.declared.history.Entry.{Entry}
+use Rattle.plain_cat.specs.declared.history.Entry.TheVariants.{Done}
+use Rattle.plain_cat.specs.declared.script.Script.{Script}
+use Rattle.plain_cat.specs.declared.cat.Cat.{Cat}
+use Rattle.vol_owners.specs.Lists.{Once}
+use Rattle.vol_parts.specs.declared.geometry.Geometry.{Geometry}
+use Rattle.node_locks.specs.Held.{system_of, names_of}
+use Rattle.node_locks.specs.Sequences.{first_sequence, second_sequence}
+use Rattle.op_law.specs.declared.need.PlanWrite.{PlanWrite}
+use Rattle.core_state.specs.Worlds.{NodeState, Plain, node_at, set_node}
+use Rattle.core_state.specs.Small.{is_begun, has_command, begun_count, owed, AreSmall, GoesOn, AllGoOn}
+use Rattle.core_state.specs.Goods.{IsRun, Good}
+use Rattle.core_state.specs.Events.{given_back}
+use Rattle.core_state.specs.Mounting.{at_rest, mounted}
+use Rattle.core_state.proofs.RunKinds.{stays_closed}
+use Rattle.core_state.proofs.Keeping.{altered}
+use Rattle.core_state.proofs.SmallTables.{is_first, is_second, asked_same, given_little}
+use Rattle.core_state.proofs.SmallCounts.{sum_set, sum_more}
+use Rattle.core_state.proofs.SmallBegun.{few_answers, few_begun}
+
+-- ---- what is owed
+
+abbrev one : Bool → ℕ
+one b = cond b 1 0
+
+-- four for each command under way
+owed_is : (s : NodeState) → owed s ≡ 4 * one (has_command s)
+owed_is s = by_test (has_command s) where
+  by_test : (b : Bool) → cond b 4 0 ≡ 4 * one b
+  by_test true = refl
+  by_test false = refl
+
+-- a sum over nodes of which one changes
+sum_node : (f : NodeState → ℕ) (nodes : List NodeState) (n : ℕ) (s r : NodeState) → node_at nodes n ≡ Some s → sum_by f (set_node nodes n r) + f s ≡ sum_by f nodes + f r
+sum_node f nodes zero s r at = absurd (let e : None ≡ Some s = at in cc)
+sum_node f nodes (suc k) s r at = sum_set f nodes k s r at
+
+-- ---- an event of node n, which stood as s and stands as r
+
+-- Each sequence grows by so much at most, so many commands end, and what the node owes falls by what the sequences grow.
+small_event : (w : Plain) → AreSmall w → (n : ℕ) (s r : NodeState) → node_at w.nodes n ≡ Some s → (t : List Resource) (bs : List Block) (h : List Entry) (more ended : ℕ)
+    → ((name : LockName) → first_sequence (resource_at name t).value ≤ first_sequence (resource_at name w.locks).value + more)
+    → ((name : LockName) → second_sequence (resource_at name t).value ≤ second_sequence (resource_at name w.locks).value + more)
+    → count_by is_begun h ≡ count_by is_begun w.history + ended → more + (owed r + 4 * one (has_command s)) ≤ owed s + 4 * (ended + one (has_command r))
+    → AreSmall (altered w t bs (set_node w.nodes n r) h)
+small_event w small n s r at t bs h more ended first second counted within = record {
+  first = λ name. let a = first name in let b = small.first name in by_sums (first_sequence (resource_at name t).value) (first_sequence (resource_at name w.locks).value) a b;
+  second = λ name. let a = second name in let b = small.second name in by_sums (second_sequence (resource_at name t).value) (second_sequence (resource_at name w.locks).value) a b;
+} where
+  by_sums : (new old : ℕ) → new ≤ old + more → old + sum_by owed w.nodes ≤ 4 * begun_count w → new + sum_by owed (set_node w.nodes n r) ≤ 4 * (count_by is_begun h + count_by has_command (set_node w.nodes n r))
+  by_sums new old le was =
+      let a : sum_by owed (set_node w.nodes n r) + owed s ≡ sum_by owed w.nodes + owed r = sum_node owed w.nodes n s r at in
+      let b : count_by has_command (set_node w.nodes n r) + one (has_command s) ≡ count_by has_command w.nodes + one (has_command r) = sum_node (λ y. one (has_command y)) w.nodes n s r at in
+      let c : count_by is_begun h ≡ count_by is_begun w.history + ended = counted in
+      let d : more + (owed r + 4 * one (has_command s)) ≤ owed s + 4 * (ended + one (has_command r)) = within in
+      omega arith
+
+-- the node alone changes, or a block
+pub small_set : (w : Plain) → AreSmall w → (n : ℕ) (s r : NodeState) → node_at w.nodes n ≡ Some s → (bs : List Block) → AreSmall (altered w w.locks bs (set_node w.nodes n r) w.history)
+small_set w small n s r at bs = small_event w small n s r at w.locks bs w.history 0 0 (λ name. omega arith) (λ name. omega arith) (omega arith) (let a = owed_is s in let b = owed_is r in omega arith)
+
+-- it asks for a lock
+pub small_asked : (w : Plain) → AreSmall w → (n : ℕ) (s r : NodeState) → node_at w.nodes n ≡ Some s → (name : LockName) (mode : Mode) (bs : List Block)
+    → AreSmall (altered w (asked name (system_of n) mode w.locks) bs (set_node w.nodes n r) w.history)
+small_asked w small n s r at name mode bs = small_event w small n s r at (asked name (system_of n) mode w.locks) bs w.history 0 0
+    (λ other. let e = asked_same first_sequence is_first name other (system_of n) mode w.locks in omega arith)
+    (λ other. let e = asked_same second_sequence is_second name other (system_of n) mode w.locks in omega arith)
+    (omega arith) (let a = owed_is s in let b = owed_is r in omega arith)
+
+-- it answers, and gives back its locks, each on a name of its own
+pub small_answered : (w : Plain) → AreSmall w → (n : ℕ) (s r : NodeState) → node_at w.nodes n ≡ Some s → (g : Geometry) (ws : List PlanWrite) (ls : List (LockName × Mode)) → Once (names_of ls) → (x : Cmd) (reply : Reply) (bs : List Block)
+    → AreSmall (altered w (given_back g n ws ls w.locks) bs (set_node w.nodes n r) (w.history ++ Done n x reply ∷ []))
+small_answered w small n s r at g ws ls once x reply bs = small_event w small n s r at (given_back g n ws ls w.locks) bs (w.history ++ Done n x reply ∷ []) 2 1
+    (given_little first_sequence is_first g n ws ls w.locks once) (given_little second_sequence is_second g n ws ls w.locks once)
+    (sum_more (λ e. one (is_begun e)) w.history (Done n x reply)) (let a = owed_is s in let b = owed_is r in omega arith)
+
+-- ---- a mounted world
+
+none_owed : (k : ℕ) (s : NodeState) → s.cmd ≡ None → sum_by owed (replicate k s) ≡ 0
+none_owed zero s none = refl
+none_owed (suc k) s none =
+    let rest = none_owed k s none in
+    let a : sum_by owed (s ∷ replicate k s) ≡ owed s + sum_by owed (replicate k s) = sum_by-cons owed s (replicate k s) in
+    let b : owed s ≡ 0 = ap (λ (o : Option Cmd). cond (is_some o) 4 0) none in
+    omega arith
+
+pub small_mounted : (bs : List Block) (s : Script) (c : Cat) (g : Geometry) → AreSmall (mounted bs s c g)
+small_mounted bs s c g = record {
+  first = λ name. let a = none_owed s.nodes (at_rest g) refl in let b : first_sequence (fresh name).value ≡ 0 = is_first.zeros in omega arith;
+  second = λ name. let a = none_owed s.nodes (at_rest g) refl in let b : second_sequence (fresh name).value ≡ 0 = is_second.zeros in omega arith;
+}
+
+-- ---- no sequence stops
+
+goes_by : (sequence : ℕ) → sequence ≤ 4 * (4096 * 4105 + 8) → GoesOn sequence
+goes_by sequence few true by le = omega arith
+goes_by sequence few false by le = omega arith
+
+pub all_go_on : (w : Plain) → Good w → length w.nodes ≤ 8 → length w.script.lines ≤ 4096 → AllGoOn w
+all_go_on w good few lines = record {
+  first = λ name. goes_by (first_sequence (resource_at name w.locks).value) (let a = good.small.first name in let b = begun in omega arith);
+  second = λ name. goes_by (second_sequence (resource_at name w.locks).value) (let a = good.small.second name in let b = begun in omega arith);
+} where
+  begun : begun_count w ≤ 4096 * 4105 + 8
+  begun =
+      let a = few_begun w.script w.history w.opening good.running.cat good.own good.running.replayed lines (few_answers IsRun stays_closed w.script w.history good.runs good.own) in
+      let b : count_by has_command w.nodes ≤ length w.nodes = count_by-le-length has_command w.nodes in
+      omega arith

@@ -1,9 +1,0 @@
-use Rattle.std.proofs.Common.{◌-◌, refl, ap, map, slice_set, ◌∙◌}
-use Rattle.core_state.specs.Worlds.{state_of, plain_of}
-use Rattle.core_step.proofs.Steps.{decided}
-use Rattle.core_step.proofs.events.decide.Goals as goal
-
-pub returns-clause-world : goal.returns-clause-world
-returns-clause-world g c x is =
-    ap (λ h. record (plain_of g.O.Operation.cmd_is c.args.core.now) { nodes = map (state_of g.O.Operation.cmd_is) (slice_set c.args.core.now.nodes.items (c.args.node - 1) c.keep_plan.new.node); history = h }) c.make_room.ensures.same
-    ∙ decided (state_of g.O.Operation.cmd_is) c.args.core.now.nodes.items (plain_of g.O.Operation.cmd_is c.args.core.now) c.args.node c.index_mut.result.now c.keep_plan.new.node c.requires.from c.requires.to c.index_mut.ensures.value refl x c.args.plan is c.keep_plan.ensures

@@ -1,0 +1,163 @@
+-- CLOSE obeys the law, and so does each command that the operation takes.
+use Rattle.std.proofs.Common.{◌≡◌, ◌∙◌, inl, inr, ℕ, Bool, true, false, cond, List, [], ◌∷◌, Option, Some, None, is_some, refl, sym, ap, subst, arith}
+use Rattle.std.specs.Prelude.{◌&&◌, is_none, option_map}
+use Rattle.std.specs.List.{list_all}
+use Rattle.std.proofs.lemmas.Bool.{and_parts}
+use Rattle.vol_words.specs.Fields.{Block}
+use Rattle.fx_header.specs.declared.slot.Hdr.{Hdr}
+use Rattle.lock_db.specs.declared.name.LockName.{LockName}
+use Rattle.lock_db.specs.declared.name.LockName.TheVariants.{S}
+use Rattle.plain_cat.specs.InForm.{is_eighth}
+use Rattle.plain_cat.specs.declared.mode.Mode.{Mode}
+use Rattle.plain_cat.specs.declared.mode.Mode.TheVariants.{PW}
+use Rattle.plain_cat.specs.declared.command.Cmd.{Cmd}
+use Rattle.plain_cat.specs.declared.command.Cmd.TheVariants as cmd
+use Rattle.plain_cat.specs.declared.reply.Reply.TheVariants as reply
+use Rattle.plain_cat.specs.declared.reply.Refusal.TheVariants as refusal
+use Rattle.plain_cat.specs.declared.cat.Cat.{Cat}
+use Rattle.plain_cat.specs.declared.cat.File.{File}
+use Rattle.plain_cat.specs.declared.cat.Open.{Open}
+use Rattle.plain_vol.specs.Lookups.{in_use, channel_at}
+use Rattle.vol_owners.specs.Owners.{Owners, Things, nothing, Outs}
+use Rattle.vol_parts.specs.declared.geometry.Geometry.{Geometry}
+use Rattle.vol_parts.specs.Catalogues.{file_of}
+use Rattle.vol_spell.specs.Reading.{IsFileNumber, header_block}
+use Rattle.vol_spell.specs.Spelling.{Spells}
+use Rattle.op_law.specs.declared.need.Plan.{Plan}
+use Rattle.op_law.specs.declared.seen.Seen.{Seen}
+use Rattle.op_law.specs.declared.seen.Chan.{Chan}
+use Rattle.op_law.specs.Channels.{close_plan, close_in, close_on, close_events}
+use Rattle.op_law.specs.Events.{Events, Take, Look, Fetch, Find, Make, space_of, HasNoSpace, HasNoSearch, SearchesOnce}
+use Rattle.op_law.specs.Fits.{HasSeen, things}
+use Rattle.op_law.specs.Freeing.{through_space, freeing_writes}
+use Rattle.op_law.specs.Knows.{has_channel, is_held_open, is_new_number, is_short, usages_fit, opens_hold, wanted, knows}
+use Rattle.op_law.specs.Laws.{Lawful}
+use Rattle.op_law.specs.Needs.{events_of}
+use Rattle.op_law.specs.Order.{level, Higher}
+use Rattle.op_law.specs.Refusing.{seen_file, used_in, if_file}
+use Rattle.op_law.specs.Rows.{answers}
+use Rattle.op_law.proofs.Asking.{IsDoneBy, asks_lawful}
+use Rattle.op_law.proofs.Doing.{refusal_done}
+use Rattle.op_law.proofs.Ends.{nothing_given}
+use Rattle.op_law.proofs.Telling.{file_blocks, file_told_at}
+use Rattle.op_law.proofs.Through.{header_obeys}
+use Rattle.op_law.proofs.Walking.{ObeysBy, kept}
+use Rattle.op_files.specs.Files.{file_in}
+use Rattle.op_gone.proofs.Looks.{space_obeys}
+use Rattle.op_gone.proofs.Uses.{used_reads, used_is, not_used}
+use Rattle.op_access.specs.Kinds.{IsClose, IsAccess}
+use Rattle.op_access.proofs.Opens.{HasOpen, has_open}
+use Rattle.op_access.proofs.OpenLaw.{open_lawful}
+use Rattle.op_access.proofs.CloseOutcomes.{refuses_answer}
+use Rattle.op_access.proofs.CloseWalks.{no_search, shaped, ends}
+use Rattle.op_access.proofs.ClosePlans.{stays_done, plan_done}
+use Rattle.op_access.proofs.CloseBrief.{close_brief}
+
+-- where nothing is searched for, it is at most once
+once : (es : Events) → HasNoSearch es → SearchesOnce es
+once (Take lock mode next) none = once next none
+once (Look lock lbn next) none = λ b. once (next b) (none b)
+once (Fetch lbn next) none = λ b. once (next b) (none b)
+once (Find clusters number next) none = absurd none
+once (Make plan) none = tt
+
+none_there : (o : Option Open) → is_none o ≡ true → o ≡ None
+none_there None e = refl
+none_there (Some o) e = absurd (let f : false ≡ true = e in cc)
+
+module _ (chan : ℕ) (is : is_eighth chan ≡ true) where
+  abbrev x : Cmd
+  x = cmd.CloseFile chan
+
+  module _ (node : ℕ) (seen : Seen) (bs : List Block) (own : Owners) (c : Cat) (stock : Things) (s : Spells seen.geometry bs own c)
+      (given : things seen.clusters seen.number ≡ nothing) (outs : Outs node own nothing stock) (hold : list_all is_held_open c.opens ≡ true) where
+    abbrev g : Geometry
+    g = seen.geometry
+
+    abbrev Done : List (LockName × Mode) → Plan → Type 0
+    Done held p = IsDoneBy (cmd.CloseFile chan) node seen bs own c stock held p p.ask
+
+    abbrev O : Events → List (LockName × Mode) → Type 0
+    O es held = ObeysBy (cmd.CloseFile chan) seen.geometry bs own c seen Done es held
+
+    module _ (p : Chan) (has : HasOpen c node chan p) where
+      abbrev n : ℕ
+      n = p.file.num
+
+      abbrev first : List (LockName × Mode)
+      first = (S p.file.num, PW) ∷ []
+
+      -- a file that a channel has open is in use
+      no_file : in_use c p.file ≡ None → ⊥
+      no_file none = let f : ◌≡◌ {A = Option File} None (Some has.told) = sym none ∙ has.used in cc
+
+      module _ (h : Hdr) (number : IsFileNumber seen.geometry p.file.num) (used : used_in p.file.seq (header_block seen.geometry bs p.file.num) ≡ Some h) where
+        file_level : level c (S p.file.num) ≡ 0
+        file_level = ap (λ (o : Option File). cond (is_some o) 0 4) (file_told_at g bs own c s p.file.num h number (used_reads p.file.seq _ h used))
+
+        by_marked : (t : Bool) → h.marked ≡ t
+            → O (cond t (through_space g (file_in g bs n h) (λ sp. Make (close_plan n chan p.mode (freeing_writes g (file_in g bs n h) sp)))) (answers (reply.Closed false))) first
+        by_marked true marked =
+            space_obeys x g bs own c s seen Done n h refl (Higher (let z = file_level in omega arith)) (Higher (let z = file_level in omega arith)) (Higher (omega arith))
+            (λ sp. close_plan n chan p.mode (freeing_writes g (file_in g bs n h) sp))
+            (plan_done node seen bs own c s stock given outs chan is p has hold h number (used_reads p.file.seq _ h used) marked)
+        by_marked false unmarked = stays_done node seen bs own c s stock given outs chan is p has hold h number (used_reads p.file.seq _ h used) unmarked first
+
+      by_used : IsFileNumber seen.geometry p.file.num → (o : Option Hdr) → used_in p.file.seq (header_block seen.geometry bs p.file.num) ≡ o
+          → O (if_file (answers (reply.Closed false)) (close_in seen.geometry chan p.mode) (option_map (seen_file seen.geometry p.file.num (header_block seen.geometry bs p.file.num)) o)) first
+      by_used number None e =
+          absurd (no_file (used_is g bs own c s p.file number ∙ ap (option_map (λ h. file_of g.cluster n h (file_blocks bs (header_block g bs n)))) e))
+      by_used number (Some h) e = by_marked h number e h.marked refl
+
+      on_open : O (close_on seen.geometry (Some p) chan) []
+      on_open = header_obeys x g bs own c s seen Done p.file [] (λ t. t) (inl (λ t. t)) (λ other t. absurd t) PW (inr (inl refl)) _
+          (λ out. absurd (no_file (not_used g bs own c s p.file out)))
+          (λ number. by_used number (used_in p.file.seq (header_block g bs n)) refl)
+
+    on_channel : (channel : Option Chan) → has_channel c node (Some chan) channel ≡ true → O (close_on seen.geometry channel chan) []
+    on_channel None free =
+        refusal_done x node seen bs own c stock s (subst (λ t. Outs node own t stock) (sym given) outs) refusal.NotOpen (refuses_answer c node chan (none_there (channel_at c node chan) free)) []
+    on_channel (Some p) open_so = on_open p (has_open c node chan p open_so)
+
+    obeys : has_channel c node (Some chan) seen.channel ≡ true → O (events_of seen.geometry seen.channel (cmd.CloseFile chan)) []
+    unfolding events_of close_events
+    obeys known = on_channel seen.channel known
+
+  -- nothing was given
+  none_given : (seen : Seen) → HasSeen (cmd.CloseFile chan) seen → things seen.clusters seen.number ≡ nothing
+  none_given seen has = nothing_given (space_of seen)
+      (kept (events_of seen.geometry seen.channel x) (space_of seen) (HasNoSpace (space_of seen)) seen.locks seen.blocks (no_search chan seen.geometry seen.channel) has)
+
+  -- what is known: the channel has this open, and no open is in NL
+  module _ (node : ℕ) (seen : Seen) (c : Cat) (known : knows node (cmd.CloseFile chan) seen c ≡ true) where
+    abbrev behind : Bool
+    behind = is_short c (wanted seen (cmd.CloseFile chan)) seen.short && (usages_fit c (cmd.CloseFile chan) && opens_hold c (cmd.CloseFile chan))
+
+    channel_known : (has_channel c node (Some chan) seen.channel ≡ true) × ((is_new_number seen.number && behind) ≡ true)
+    channel_known = and_parts (has_channel c node (Some chan) seen.channel) (is_new_number seen.number && behind) known
+
+    held_open : list_all is_held_open c.opens ≡ true
+    held_open =
+        let a = and_parts (is_new_number seen.number) behind channel_known.1 in
+        let b = and_parts (is_short c (wanted seen x) seen.short) (usages_fit c x && opens_hold c x) a.1 in
+        (and_parts (usages_fit c x) (opens_hold c x) b.1).1
+
+  closes_lawful : Lawful (cmd.CloseFile chan)
+  closes_lawful = asks_lawful x (record {
+    searches = λ g channel. once (events_of g channel x) (no_search chan g channel);
+    shaped = shaped chan;
+    ends = ends chan;
+    obeys = λ node seen bs own c stock s outs known has.
+        let given = none_given seen has in
+        obeys node seen bs own c stock s given (subst (λ t. Outs node own t stock) given outs) (held_open node seen c known) (channel_known node seen c known).0;
+    brief = close_brief chan;
+  })
+
+pub close_lawful : (x : Cmd) → IsClose x → Lawful x
+close_lawful (cmd.CloseFile chan) is = closes_lawful chan is
+close_lawful other is = absurd is
+
+pub access_lawful : (x : Cmd) → IsAccess x → Lawful x
+access_lawful (cmd.OpenFile chan file mode) is = open_lawful (cmd.OpenFile chan file mode) is
+access_lawful (cmd.CloseFile chan) is = close_lawful (cmd.CloseFile chan) is
+access_lawful other is = absurd is

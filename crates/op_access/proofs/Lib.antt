@@ -1,0 +1,10 @@
+mod OpenLaw
+mod Opens
+mod CloseOutcomes
+mod CloseWalks
+mod ClosePlans
+mod CloseBrief
+mod Looking
+mod Mapped
+mod Lawful
+mod OnChannel

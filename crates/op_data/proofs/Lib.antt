@@ -1,0 +1,13 @@
+pub mod Uses
+pub mod Channel
+pub mod Shows
+pub mod OpenWalk
+pub mod Walks
+pub mod Texts
+pub mod Brief
+pub mod ReadReplies
+pub mod ReadLawful
+pub mod WriteReplies
+pub mod WriteLawful
+pub mod Either
+pub mod FitsFile

@@ -1,0 +1,73 @@
+-- A file that a channel has open, behind its lock and its header.
+use Rattle.std.proofs.Common.{◌≡◌, ◌∙◌, ℕ, Bool, true, false, cond, List, [], ◌∷◌, Option, Some, None, inl, inr, refl, sym, ap}
+use Rattle.std.specs.Prelude.{◌==◌, option_map, Ok}
+use Rattle.vol_words.specs.Fields.{Block}
+use Rattle.fx_header.specs.declared.slot.Hdr.{Hdr}
+use Rattle.fx_header.specs.declared.slot.Slot.TheVariants as head
+use Rattle.fx_header.specs.Headers.{header_read}
+use Rattle.lock_db.specs.declared.name.LockName.{LockName}
+use Rattle.lock_db.specs.declared.name.LockName.TheVariants.{S}
+use Rattle.plain_cat.specs.declared.mode.Mode.{Mode}
+use Rattle.plain_cat.specs.declared.mode.Mode.TheVariants.{PR, PW}
+use Rattle.plain_cat.specs.declared.command.Cmd.{Cmd}
+use Rattle.plain_cat.specs.declared.reply.Refusal.TheVariants as refusal
+use Rattle.plain_cat.specs.declared.cat.Cat.{Cat}
+use Rattle.plain_cat.specs.declared.cat.File.{File}
+use Rattle.plain_vol.specs.Lookups.{file_at, of_seq, in_use}
+use Rattle.vol_owners.specs.Lists.{Has}
+use Rattle.vol_owners.specs.Owners.{Owners}
+use Rattle.vol_parts.specs.declared.geometry.Geometry.{Geometry}
+use Rattle.vol_parts.specs.Catalogues.{file_of}
+use Rattle.vol_spell.specs.Reading.{IsFileNumber, header_block}
+use Rattle.vol_spell.specs.Spelling.{Spells}
+use Rattle.op_law.specs.declared.need.Plan.{Plan}
+use Rattle.op_law.specs.declared.seen.Seen.{Seen}
+use Rattle.op_law.specs.declared.seen.Chan.{Chan}
+use Rattle.op_law.specs.Events.{Events}
+use Rattle.op_law.specs.Refusing.{SeenFile, seen_file, used_in, if_file, through_open}
+use Rattle.op_law.specs.Rows.{is_number, refuses}
+use Rattle.op_law.proofs.Telling.{file_blocks}
+use Rattle.op_law.proofs.Through.{header_obeys}
+use Rattle.op_law.proofs.Walking.{ObeysBy}
+use Rattle.op_files.specs.Files.{file_in, IsFileThere}
+use Rattle.op_data.proofs.Channel.{HasOpen}
+use Rattle.op_data.proofs.Uses.{used_reads, used_is, not_used}
+
+-- a file in use is the one that stands under its number
+stands_in_use : (seq : ℕ) (o : Option File) (f : File) → of_seq seq o ≡ Some f → o ≡ Some f
+stands_in_use seq None f e = e
+stands_in_use seq (Some h) f e = by_seq (h.seq == seq) e where
+  by_seq : (t : Bool) → cond t (Some h) None ≡ Some f → ◌≡◌ {A = Option File} (Some h) (Some f)
+  by_seq true k = k
+  by_seq false k = absurd (let g : None ≡ Some f = k in cc)
+
+-- the file of the channel stands under its number
+pub open_file : (c : Cat) (node chan : ℕ) (p : Chan) (opened : HasOpen c node chan p) → file_at c p.file.num ≡ Some opened.file
+open_file c node chan p opened = stands_in_use p.file.seq (file_at c p.file.num) opened.file opened.used
+
+module _ (g : Geometry) (bs : List Block) (own : Owners) (c : Cat) (s : Spells g bs own c) (node chan : ℕ) (p : Chan) (opened : HasOpen c node chan p) where
+  abbrev n : ℕ
+  n = p.file.num
+
+  -- the header of its number is in use
+  pub open_there : (h : Hdr) → IsFileNumber g p.file.num → used_in p.file.seq (header_block g bs p.file.num) ≡ Some h → IsFileThere g c bs p.file.num h opened.file
+  open_there h is e = record { number = is; above = opened.above; reads = used_reads p.file.seq (header_read (header_block g bs n)) h e; file = open_file c node chan p opened }
+
+  -- there is none other
+  pub open_some : IsFileNumber g p.file.num → used_in p.file.seq (header_block g bs p.file.num) ≡ None → ⊥
+  open_some is e = let f : None ≡ Some opened.file = sym (used_is g bs own c s p.file is ∙ ap (option_map (λ h. file_of g.cluster p.file.num h (file_blocks bs (header_block g bs p.file.num)))) e) ∙ opened.used in cc
+
+  pub open_number : is_number g p.file ≡ false → ⊥
+  open_number e = let f : None ≡ Some opened.file = sym (not_used g bs own c s p.file e) ∙ opened.used in cc
+
+  module _ (x : Cmd) (seen : Seen) (P : List (LockName × Mode) → Plan → Type 0) (mode : Mode) (allowed : Has (PR ∷ PW ∷ []) mode) (next : SeenFile → Events) where
+    -- what comes next obeys the law where it does behind the file's lock and its header
+    pub open_obeys : ((h : Hdr) → IsFileThere g c bs p.file.num h opened.file → ObeysBy x g bs own c seen P (next (file_in g bs p.file.num h)) ((S p.file.num, mode) ∷ []))
+        → ObeysBy x g bs own c seen P (through_open g p.file mode (refuses refusal.EndOfFile) next) []
+    open_obeys behind = header_obeys x g bs own c s seen P p.file [] (λ t. t) (inl (λ t. t)) (λ other t. absurd t) mode allowed
+        (λ b. if_file (refuses refusal.EndOfFile) next (option_map (seen_file g n b) (used_in p.file.seq b)))
+        (λ e. absurd (open_number e)) (λ is. by_used is (used_in p.file.seq (header_block g bs n)) refl) where
+          by_used : IsFileNumber g p.file.num → (o : Option Hdr) → used_in p.file.seq (header_block g bs p.file.num) ≡ o
+              → ObeysBy x g bs own c seen P (if_file (refuses refusal.EndOfFile) next (option_map (seen_file g p.file.num (header_block g bs p.file.num)) o)) ((S p.file.num, mode) ∷ [])
+          by_used is None e = absurd (open_some is e)
+          by_used is (Some h) e = behind h (open_there h is e)

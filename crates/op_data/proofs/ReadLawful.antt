@@ -1,0 +1,154 @@
+-- The law of READ.
+use Rattle.std.proofs.Common.{◌≡◌, ◌≤◌, ◌*◌, ◌∙◌, inl, inr, ℕ, Bool, true, false, cond, List, [], ◌∷◌, Option, Some, None, refl, sym, ap, subst, arith}
+use Rattle.std.specs.Prelude.{◌==◌, ◌&&◌, ◌||◌, ◌-◌, nat_lt, slice_index_or}
+use Rattle.std.proofs.lemmas.Bool.Decides.{nat_tests}
+use Rattle.vol_words.specs.Fields.{Block}
+use Rattle.vol_words.specs.Tables.{zeros}
+use Rattle.fx_header.specs.declared.slot.Hdr.{Hdr}
+use Rattle.lock_db.specs.declared.name.LockName.{LockName}
+use Rattle.lock_db.specs.declared.name.LockName.TheVariants.{S}
+use Rattle.plain_cat.specs.declared.mode.Mode.{Mode}
+use Rattle.plain_cat.specs.declared.mode.Mode.TheVariants.{PR, PW}
+use Rattle.plain_cat.specs.declared.command.Cmd.{Cmd}
+use Rattle.plain_cat.specs.declared.command.Cmd.TheVariants as cmd
+use Rattle.plain_cat.specs.declared.reply.Reply.{Reply}
+use Rattle.plain_cat.specs.declared.reply.Reply.TheVariants as reply
+use Rattle.plain_cat.specs.declared.reply.Refusal.TheVariants as refusal
+use Rattle.plain_cat.specs.declared.cat.Cat.{Cat}
+use Rattle.plain_cat.specs.declared.cat.File.{File}
+use Rattle.plain_vol.specs.Lookups.{file_at, channel_at}
+use Rattle.plain_vol.specs.Changes.{is_past_mark, block_of}
+use Rattle.plain_vol.specs.Answers.{is_outside, Answer}
+use Rattle.vol_owners.specs.Lists.{Has}
+use Rattle.vol_owners.specs.Owners.{Owners, Things, nothing, Outs}
+use Rattle.vol_parts.specs.declared.geometry.Geometry.{Geometry}
+use Rattle.vol_parts.specs.Catalogues.{file_of}
+use Rattle.vol_spell.specs.Spelling.{Spells}
+use Rattle.vol_under.specs.Guards.{MayLook}
+use Rattle.vol_under.proofs.Steps.{stands_first}
+use Rattle.op_law.specs.declared.need.Plan.{Plan}
+use Rattle.op_law.specs.declared.seen.Seen.{Seen}
+use Rattle.op_law.specs.declared.seen.Chan.{Chan}
+use Rattle.op_law.specs.Channels.{is_outside_file, within, read_in, read_on, read_events}
+use Rattle.op_law.specs.Events.{Events, Fetch}
+use Rattle.op_law.specs.Fits.{things}
+use Rattle.op_law.specs.Knows.{has_channel, knows}
+use Rattle.op_law.specs.Laws.{held_in, IsGuardedLook, Lawful}
+use Rattle.op_law.specs.Needs.{events_of}
+use Rattle.op_law.specs.Refusing.{SeenFile}
+use Rattle.op_law.specs.Rows.{plain_plan, answers, refuses}
+use Rattle.op_law.specs.SeenFiles.{file_place}
+use Rattle.op_law.proofs.Doing.{IsDone}
+use Rattle.op_law.proofs.Spaceless.{spaceless_lawful}
+use Rattle.op_law.proofs.Walking.{ObeysBy}
+use Rattle.op_files.specs.Files.{file_in, IsFileThere}
+use Rattle.op_blocks.specs.BlockWrites.{blocks_in, HasBlock}
+use Rattle.op_blocks.proofs.Places.{file, guard, lies}
+use Rattle.op_data.specs.Kinds.{IsRead}
+use Rattle.op_data.proofs.Channel.{HasOpen, both_hold, none_open, open_as}
+use Rattle.op_data.proofs.Shows.{block_shows}
+use Rattle.op_data.proofs.OpenWalk.{open_file, open_obeys}
+use Rattle.op_data.proofs.Walks.{read_no_search, read_shaped, read_end}
+use Rattle.op_data.proofs.Brief.{read_brief}
+use Rattle.op_data.proofs.ReadReplies.{read_closed, read_outside, read_bytes}
+
+-- a virtual block is one of the file's blocks, by the blocks as by the catalogue
+pub same_outside : (g : Geometry) (bs : List Block) (own : Owners) (c : Cat) (n : ℕ) (h : Hdr) (f : File) (vbn : ℕ) → Spells g bs own c → IsFileThere g c bs n h f → is_outside c f vbn ≡ is_outside_file g (file_in g bs n h).file vbn
+same_outside g bs own c n h f vbn s there =
+    ap (λ w. (vbn == 0) || nat_lt (w * f.clusters) vbn) s.constants.factor
+    ∙ ap (λ (y : File). (vbn == 0) || nat_lt (g.cluster * y.clusters) vbn) (file g bs own c n h f s there)
+
+pub has_block : (g : Geometry) (bs : List Block) (own : Owners) (c : Cat) (n : ℕ) (h : Hdr) (f : File) (vbn : ℕ) → Spells g bs own c → IsFileThere g c bs n h f → f.dir ≡ false → is_outside_file g (file_in g bs n h).file vbn ≡ false → HasBlock g c bs n h f vbn
+has_block g bs own c n h f vbn s there flat inside =
+    let e : (vbn == 0) || nat_lt (g.cluster * f.clusters) vbn ≡ false = ap (λ (y : File). (vbn == 0) || nat_lt (g.cluster * y.clusters) vbn) (file g bs own c n h f s there) ∙ inside in
+    let low = in_range vbn (g.cluster * f.clusters) e in
+    record { there = there; flat = flat; from = low.0; to = low.1 } where
+      in_range : (vbn limit : ℕ) → ((vbn == 0) || nat_lt limit vbn) ≡ false → (1 ≤ vbn) × (vbn ≤ limit)
+      in_range vbn limit e = (grind (arith, nat_tests), grind (arith, nat_tests))
+
+module _ (chan vbn : ℕ) (node : ℕ) (seen : Seen) (bs : List Block) (own : Owners) (c : Cat) (stock : Things) (s : Spells seen.geometry bs own c)
+    (given : things seen.clusters seen.number ≡ nothing) (outs : Outs node own nothing stock) where
+  abbrev g : Geometry
+  g = seen.geometry
+
+  abbrev x : Cmd
+  x = cmd.ReadBlock chan vbn
+
+  abbrev Done : List (LockName × Mode) → Plan → Type 0
+  Done held p = IsDone (cmd.ReadBlock chan vbn) node seen bs own c stock held p
+
+  abbrev O : Events → List (LockName × Mode) → Type 0
+  O es held = ObeysBy (cmd.ReadBlock chan vbn) seen.geometry bs own c seen Done es held
+
+  before : Outs node own (things seen.clusters seen.number) stock
+  before = subst (λ t. Outs node own t stock) (sym given) outs
+
+  -- an answer writes nothing
+  unchanged : (r : Reply) → Answer c node (cmd.ReadBlock chan vbn) r c → (held : List (LockName × Mode)) → Done held (plain_plan r)
+  unchanged r answer held = record { named = λ w t. absurd t; dirs = λ w t. absurd t; kept_out = λ w t. absurd t; steps = (c, stands_first c node (Some x), s, before, c.opens, answer) }
+
+  module _ (p : Chan) (opened : HasOpen c node chan p) (h : Hdr) (there : IsFileThere seen.geometry c bs p.file.num h opened.file) where
+    abbrev n : ℕ
+    n = p.file.num
+
+    abbrev sf : SeenFile
+    sf = file_in seen.geometry bs p.file.num h
+
+    abbrev first : List (LockName × Mode)
+    first = (S p.file.num, PR) ∷ []
+
+    at_file : file_at c p.file.num ≡ Some opened.file
+    at_file = open_file c node chan p opened
+
+    told : opened.file ≡ file_of seen.geometry.cluster p.file.num h (blocks_in seen.geometry bs p.file.num)
+    told = file g bs own c n h opened.file s there
+
+    module _ (inside : is_outside_file seen.geometry (file_in seen.geometry bs p.file.num h).file vbn ≡ false) where
+      has : HasBlock seen.geometry c bs p.file.num h opened.file vbn
+      has = has_block g bs own c n h opened.file vbn s there opened.flat inside
+
+      bytes : (b : Block) → block_of opened.file vbn ≡ b → Done ((S p.file.num, PR) ∷ []) (plain_plan (reply.Bytes b))
+      bytes b shows = unchanged (reply.Bytes b) (read_bytes c node chan vbn n opened.mode opened.file opened.at at_file (same_outside g bs own c n h opened.file vbn s there ∙ inside) b shows) first
+
+      -- the block is under the file's lock
+      look : IsGuardedLook seen.geometry bs own ((S p.file.num, PR) ∷ []) (file_place (file_in seen.geometry bs p.file.num h) vbn)
+      look = record {
+        guard = subst (MayLook (held_in PR first)) (sym (guard g bs own c n h opened.file s there vbn has.from has.to)) (inl refl);
+        within = (lies g bs own c n h opened.file s there vbn has.from has.to).within;
+      }
+
+      by_past : (t : Bool) → is_past_mark (file_in seen.geometry bs p.file.num h).file vbn ≡ t
+          → O (cond t (answers (reply.Bytes zeros)) (Fetch (file_place (file_in seen.geometry bs p.file.num h) vbn) (λ b. answers (reply.Bytes b)))) ((S p.file.num, PR) ∷ [])
+      by_past true e =
+          let past : is_past_mark opened.file vbn ≡ true = ap (λ (y : File). is_past_mark y vbn) told ∙ e in
+          bytes zeros (ap (λ (t : Bool). cond t zeros (slice_index_or opened.file.written (vbn - 1) zeros)) past)
+      by_past false e =
+          let past : is_past_mark opened.file vbn ≡ false = ap (λ (y : File). is_past_mark y vbn) told ∙ e in
+          (look, λ b at. bytes b (block_shows g bs own c n h opened.file vbn b s has past at))
+
+    by_outside : (t : Bool) → is_outside_file seen.geometry (file_in seen.geometry bs p.file.num h).file vbn ≡ t
+        → O (cond t (refuses refusal.EndOfFile) (read_in vbn (file_in seen.geometry bs p.file.num h))) ((S p.file.num, PR) ∷ [])
+    by_outside true e = unchanged (reply.Refused refusal.EndOfFile) (read_outside c node chan vbn n opened.mode opened.file opened.at at_file (same_outside g bs own c n h opened.file vbn s there ∙ e)) first
+    by_outside false e = by_past e (is_past_mark sf.file vbn) refl
+
+  by_channel : (o : Option Chan) → has_channel c node (Some chan) o ≡ true → O (read_on seen.geometry o vbn) []
+  by_channel None e = unchanged (reply.Refused refusal.NotOpen) (read_closed c node chan vbn (none_open (channel_at c node chan) e)) []
+  by_channel (Some p) e =
+      let opened = open_as c node chan p (channel_at c node chan) refl e in
+      open_obeys g bs own c s node chan p opened x seen Done PR (inl refl) (within g vbn (read_in vbn)) (λ h there. by_outside p opened h there (is_outside_file g (file_in g bs p.file.num h).file vbn) refl)
+
+  -- on these blocks the command needs what it may, and its plan is done
+  pub read_obeys : knows node (cmd.ReadBlock chan vbn) seen c ≡ true → O (events_of seen.geometry seen.channel (cmd.ReadBlock chan vbn)) []
+  unfolding events_of read_events
+  read_obeys known = by_channel seen.channel (both_hold (has_channel c node (Some chan) seen.channel) _ known).0
+
+-- READ is lawful
+pub read_lawful : (x : Cmd) → IsRead x → Lawful x
+read_lawful (cmd.ReadBlock chan vbn) is = spaceless_lawful (cmd.ReadBlock chan vbn) (record {
+  searches = read_no_search chan vbn;
+  shaped = read_shaped chan vbn;
+  ends = read_end chan vbn;
+  obeys = λ node seen bs own c stock s given outs known. read_obeys chan vbn node seen bs own c stock s given outs known;
+  brief = read_brief chan vbn;
+})
+read_lawful other is = absurd is

@@ -1,0 +1,12 @@
+use Rattle.std.proofs.Common.{◌∙◌, unwrap_or, slice_index_or, ap}
+use Rattle.std.proofs.lemmas.Option.{unwrap_or-slice_get}
+use Rattle.op_law.specs.Rows.{places_in}
+use Rattle.op_data.proofs.seeing.file_place.Goals as goal
+
+pub returns : goal.returns
+returns c =
+    let places = places_in c.args.f.now.head.now in
+    c.unwrap_or.ensures
+    ∙ ap (λ o. unwrap_or o 0) c.place_in.ensures
+    ∙ unwrap_or-slice_get places c.saturating_sub.result 0
+    ∙ ap (λ i. slice_index_or places i 0) c.saturating_sub.ensures

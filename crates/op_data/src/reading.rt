@@ -1,0 +1,65 @@
+//! What READ needs next.
+
+ghost use Rattle.std.specs.Prelude.{◌≡◌};
+ghost use Rattle.vol_parts.specs.Parts.{IsGeometry};
+ghost use Rattle.op_law.specs.Behind.{goes_on_by};
+ghost use Rattle.op_law.specs.Channels.{within, read_in, read_on, read_events};
+ghost use Rattle.op_law.specs.Events.{next_of, space_of};
+ghost use Rattle.op_law.specs.Readable.{HeadIsInside};
+ghost use Rattle.op_data.specs.Seeing.{file_seen, IsReadable};
+
+use crate::seeing::{FileSeen, Opened, bare_seen, file_place, is_outside, open_seen};
+use crate::sizing::is_past_mark;
+use op_law::{Chan, Looked, Need, Rest, Seen, answered, refused};
+use plain_cat::{Mode, Refusal, Reply};
+use std::alloc::Global;
+use vol_words::zeros;
+
+// Behind the header of the file, which has the block.
+fn read_in(alloc: Global, seen: &Seen, f: &FileSeen<'_>, vbn: u32, rest: Rest<'_>) -> Need
+    requires { IsReadable f.now }
+    ensures { result ≡ goes_on_by (read_in vbn (file_seen seen.now.geometry f.now)) rest.entry (space_of seen.now) }
+{
+    let g = &seen.geometry;
+    if is_past_mark(g, f, vbn) {
+        return answered(alloc, Reply::Bytes(zeros()));
+    }
+    match bare_seen(file_place(g, f, vbn), rest) {
+        Looked::Next(need) => need,
+        Looked::Seen(block, _) => answered(alloc, Reply::Bytes(*block)),
+    }
+}
+
+// Behind the header of the file.
+fn within(alloc: Global, seen: &Seen, f: &FileSeen<'_>, vbn: u32, rest: Rest<'_>) -> Need
+    requires geometry { IsGeometry seen.now.geometry }
+    requires readable { IsReadable f.now }
+    ensures { result ≡ goes_on_by (within seen.now.geometry vbn (read_in vbn) (file_seen seen.now.geometry f.now)) rest.entry (space_of seen.now) }
+{
+    if is_outside(&seen.geometry, f, vbn) {
+        return refused(alloc, Refusal::EndOfFile);
+    }
+    read_in(alloc, seen, f, vbn, rest)
+}
+
+/// What a READ needs next. It takes no memory.
+#[tactic(auto, unfolding(op_law::specs::Channels::read_events))]
+pub(crate) fn read_next(alloc: Global, vbn: u32, seen: &Seen) -> Need
+    requires geometry { IsGeometry seen.now.geometry }
+    requires inside { HeadIsInside seen.now.blocks }
+    ensures { result ≡ next_of (read_events seen.now.geometry seen.now.channel vbn) seen.now }
+{
+    match seen.channel {
+        None => refused(alloc, Refusal::NotOpen),
+        Some(Chan { file, .. }) => match open_seen(
+            alloc,
+            &seen.geometry,
+            file,
+            Mode::PR,
+            seen.all(),
+        ) {
+            Opened::Next(need) => need,
+            Opened::File(f, rest) => within(alloc, seen, &f, vbn, rest),
+        },
+    }
+}

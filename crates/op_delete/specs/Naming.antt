@@ -1,0 +1,71 @@
+-- The file that an entry names, told by what was seen behind the directory.
+use Rattle.std.specs.Prelude.{◌≡◌, ◌≤◌, ℕ, List, [], ◌∷◌, Option, Some, None, IfSome, length, option_map}
+use Rattle.vol_words.specs.Fields.{Block}
+use Rattle.lock_db.specs.declared.name.LockName.{LockName}
+use Rattle.lock_db.specs.declared.name.LockName.TheVariants.{S}
+use Rattle.plain_cat.specs.declared.mode.Mode.{Mode}
+use Rattle.plain_cat.specs.declared.entries.DirEnt.{DirEnt}
+use Rattle.vol_parts.specs.declared.geometry.Geometry.{Geometry}
+use Rattle.op_law.specs.declared.need.Plan.{Plan}
+use Rattle.op_law.specs.declared.seeing.Rest.{Rest}
+use Rattle.op_law.specs.Events.{Events, Make, Space}
+use Rattle.op_law.specs.Moving.{SeenDir}
+use Rattle.op_law.specs.Refusing.{SeenFile, seen_file, used_in, if_file, if_entry}
+use Rattle.op_law.specs.Removing.{delete_in}
+use Rattle.op_law.specs.Behind.{goes_on_by, first_seen, FollowsBy}
+use Rattle.op_delete.specs.declared.seeing.FileSeen.{FileSeen}
+use Rattle.op_delete.specs.declared.naming.Told.{Told}
+use Rattle.op_delete.specs.declared.naming.Told.TheVariants as told
+use Rattle.op_delete.specs.Seeing.{file_seen, IsReadable}
+use Rattle.op_delete.specs.Deleting.{file_goes}
+
+-- behind the header of a number: what comes next, where the file of this sequence is in use there, or else this plan
+abbrev pub if_used : Geometry → ℕ → ℕ → Plan → (SeenFile → Events) → Block → Events
+if_used g n seq plan next b = if_file (Make plan) next (option_map (seen_file g n b) (used_in seq b))
+
+-- the number of the first lock, where it is a file's, and the locks behind it
+abbrev pub file_locked : List (LockName × Mode) → Option (ℕ × List (LockName × Mode))
+file_locked [] = None
+file_locked (l ∷ locks) = by_name l.0 where
+  by_name : LockName → Option (ℕ × List (LockName × Mode))
+  by_name (S n) = Some (n, locks)
+  by_name other = None
+
+-- that number is one of the volume's
+abbrev pub LockIsOf : Geometry → List (LockName × Mode) → Type 0
+LockIsOf g locks = IfSome (file_locked locks) (λ p. p.0 ≤ g.files)
+
+-- what was seen from these events on passes all that comes before the next
+pub record Passes (es : Events) (rest : Rest) (next : Events) (behind : Rest) (space : Space) : Type 0 where
+  pub need : goes_on_by es rest space ≡ goes_on_by next behind space
+  pub follows : FollowsBy next behind space
+
+-- the file in use of a number, by the block that was seen first, and what was seen behind it
+pub record IsFileOf (n : ℕ) (rest : Rest) (f : FileSeen) (behind : Rest) : Type 0 where
+  pub number : f.num ≡ n
+  pub head : first_seen rest.blocks.now ≡ Some (f.head.now, behind.blocks.now)
+  pub readable : IsReadable f
+
+abbrev pub IsFirstFile : ℕ → Rest → Told → Type 0
+IsFirstFile n rest (told.File f behind) = IsFileOf n rest f behind
+IsFirstFile n rest (told.Next need) = ⊥
+IsFirstFile n rest (told.Nothing) = Unit {0}
+
+-- at a header either more was seen behind it, by which its file is in use, or no lock and no other block
+abbrev pub IsPassed : Geometry → Events → Rest → (SeenFile → Events) → Space → Told → Type 0
+IsPassed g es rest next space (told.File f behind) = Passes es rest (next (file_seen g f)) behind space
+IsPassed g es rest next space (told.Next need) = ⊥
+IsPassed g es rest next space (told.Nothing) = (rest.locks.now ≡ []) × (length rest.blocks.now ≤ 1)
+
+-- What was seen behind a directory tells the file of the entry, or what the command needs next; or it is no more than a lock and
+-- a header.
+abbrev pub IsTold : Geometry → SeenDir → Option DirEnt → Rest → Space → Told → Type 0
+IsTold g d o rest space (told.File f behind) = Passes (if_entry o (delete_in g d)) rest (file_goes g d o (file_seen g f)) behind space
+IsTold g d o rest space (told.Next need) = goes_on_by (if_entry o (delete_in g d)) rest space ≡ need
+IsTold g d o rest space (told.Nothing) = (length rest.locks.now ≤ 1) × (length rest.blocks.now ≤ 1)
+
+-- the file that is told has at most this number, and its header can be read
+abbrev pub TellsFile : ℕ → Told → Type 0
+TellsFile top (told.File f behind) = (f.num ≤ top) × IsReadable f
+TellsFile top (told.Next need) = Unit {0}
+TellsFile top (told.Nothing) = Unit {0}

@@ -1,0 +1,5 @@
+pub mod Steps
+pub mod Looks
+pub mod Uses
+mod Mapped
+mod Few

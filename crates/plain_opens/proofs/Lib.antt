@@ -1,0 +1,9 @@
+pub mod Lists
+pub mod Files
+pub mod Moving
+pub mod Staging
+pub mod Having
+pub mod Keeping
+pub mod Naming
+pub mod Commanding
+pub mod Replaying
