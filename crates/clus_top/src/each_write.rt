@@ -188,6 +188,19 @@ const BY_CHANGES: &[(&str, u64)] = &[
     ("NODES 8\n8 QUOTASET [2,2] 100 0\n7 QUOTASHOW [2,2]\n", 1),
 ];
 
+/// Scripts in which open files are written and go: a WRITE at the mark has two writes, one past it two more for the blocks between,
+/// and one below it one; a DELETE of an open file has two, and the CLOSE by which the file goes four.
+const BY_CHANNELS: &[(&str, u64)] = &[
+    (
+        "NODES 1\n1 CREATE R1 MFD A.TXT;0 8 [1,4]\n1 OPEN 1 R1 PW\n1 WRITE 1 1 A\n1 WRITE 1 4 B\n1 WRITE 1 2 C\n1 DELETE MFD A.TXT;0\n",
+        18,
+    ),
+    (
+        "NODES 2\nSCHED 1*28 2*100\n1 CREATE R1 MFD B.DAT;0 4 [1,4]\n1 OPEN 1 R1 CW\n1 WRITE 1 1 HELLO\n1 CLOSE 1\n2 OPEN 1 (12,1,0) PR\n2 DELETE MFD B.DAT;0\n",
+        13,
+    ),
+];
+
 // Each write of each of these scripts fails.
 fn all_fail(rt: &impl Abort, alloc: Global, rows: &[(&str, u64)]) -> Result<(), NoMemory> {
     let image = volume(alloc)?;
@@ -218,6 +231,12 @@ fn each_write_of_several_nodes_fails(rt: HostRuntime) -> Result<(), Fail> {
 #[test]
 fn each_write_of_a_change_fails(rt: HostRuntime) -> Result<(), Fail> {
     all_fail(&rt, rt.alloc(), BY_CHANGES)?;
+    Ok(())
+}
+
+#[test]
+fn each_write_to_an_open_file_fails(rt: HostRuntime) -> Result<(), Fail> {
+    all_fail(&rt, rt.alloc(), BY_CHANNELS)?;
     Ok(())
 }
 

@@ -17,6 +17,8 @@ pub use top::vmsclus;
 #[cfg(test)]
 mod changing;
 #[cfg(test)]
+mod channels;
+#[cfg(test)]
 mod each_write;
 #[cfg(test)]
 mod faults;

@@ -50,26 +50,27 @@ fn has(blocks: &[Block], lbn: usize, at: usize, bytes: &[u8]) -> bool {
 
 /// Bytes that the block of an LBN has at an offset.
 #[derive(Clone, Copy)]
-struct Part<'a> {
+pub struct Part<'a> {
     lbn: usize,
     at: usize,
     bytes: &'a [u8],
 }
 
-const fn bytes_at<'a>(lbn: usize, at: usize, bytes: &'a [u8]) -> Part<'a> {
+/// These bytes, there.
+pub const fn bytes_at<'a>(lbn: usize, at: usize, bytes: &'a [u8]) -> Part<'a> {
     Part { lbn, at, bytes }
 }
 
-// The image has to have each of these parts.
-fn check_parts(rt: &impl Abort, image: &MemImage, parts: &[Part<'_>]) {
+/// The image has to have each of these parts.
+pub fn check_parts(rt: &impl Abort, image: &MemImage, parts: &[Part<'_>]) {
     for part in parts {
         let Part { lbn, at, bytes } = *part;
         assert!(rt; has(image.all(), lbn, at, bytes), "block {lbn} at {at}");
     }
 }
 
-// The image and a fresh volume have to differ in these blocks.
-fn check_changed(
+/// The image and a fresh volume have to differ in these blocks.
+pub fn check_changed(
     rt: &impl Abort,
     alloc: Global,
     image: &MemImage,

@@ -246,7 +246,11 @@ const LOOK_UPS: &[(&str, u8, &str)] = &[
     ("NODES 1\n2 LOOKUP R1 MFD A.B;1\n", 3, "bad line 2\n"),
     ("NODES 1\n1 LOOKUP R1 MFD A.B;01\n", 3, "bad line 2\n"),
     ("NODES 1\n1 CREATE R1 MFD\n", 3, "bad line 2\n"),
-    ("NODES 1\n1 OPEN 1 R1 CR\n", 3, "bad line 2\n"),
+    (
+        "NODES 1\n1 OPEN 1 R1 CR\n",
+        0,
+        "1 N1 OPEN 1 (0,0,0) CR = refused NoSuchFile\nend: 1 answered, 0 died, 231 free\n",
+    ),
     ("NODES 1\n1 LIST R9\n", 3, "bad line 2\n"),
     ("NODES 1\nKILL 1 TURN 1\n", 3, "bad line 2\n"),
     ("NODES 1\nSCHED 1*65536 1\nbad\n", 3, "too many\n"),

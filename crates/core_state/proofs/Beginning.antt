@@ -1,6 +1,5 @@
 -- A node begins a command.
 use Rattle.std.proofs.Common.{◌≡◌, ◌++◌, ◌||◌, ℕ, Bool, true, false, cond, List, [], Option, Some, None, map, take, refl, sym, ap, subst, ◌∙◌, ◌∷◌}
-use Rattle.std.specs.Prelude.{replicate}
 use Rattle.vol_words.specs.Fields.{Block}
 use Rattle.lock_db.specs.declared.name.LockName.{LockName}
 use Rattle.lock_db.specs.declared.resource.Resource.{Resource}
@@ -22,16 +21,17 @@ use Rattle.op_law.specs.Laws.{held_in, planned, Lawful}
 use Rattle.core_state.specs.Runs.{no_run}
 use Rattle.core_state.specs.declared.space.SpaceRun.{SpaceRun}
 use Rattle.core_state.specs.Worlds.{NodeState, Plain, node_at, with_node, current, or_next, rows_of, rows_at}
-use Rattle.core_state.specs.Asks.{writes_now, granted_ask, with_ask, knows_now}
+use Rattle.core_state.specs.Asks.{writes_now, granted_ask, own_ask, with_ask, knows_now}
 use Rattle.core_state.specs.Searches.{unwritten, stock_after, Off}
 use Rattle.core_state.specs.Goods.{under_with, nodes_under, IsAtPlan, IsIdle, HasCommand, IsNode, Good}
 use Rattle.core_state.specs.Events.{is_out, begun, prepared_by, prepared}
-use Rattle.core_state.proofs.Channels.{all_closed}
+use Rattle.core_state.proofs.Commands.{next_names}
+use Rattle.core_state.proofs.Switching.{AsksAlike}
 use Rattle.core_state.proofs.Nodes.{set_node_same}
 use Rattle.core_state.proofs.Running.{under_now, under_here}
 use Rattle.core_state.proofs.Taking.{its_outs, becomes}
 use Rattle.core_state.proofs.SmallWorlds.{small_set}
-use Rattle.core_state.proofs.Keeping.{rebuilt, held_same, loses_nothing}
+use Rattle.core_state.proofs.Keeping.{still_driven, rebuilt, held_same, loses_nothing}
 
 -- a node under way by what it is made of
 abbrev shape : ℕ → Cmd → Seen → List Resource → List Row → SpaceRun → List (ℕ × Block) → List ℕ → Option ℕ → Bool → Option Plan → ℕ → UnderWay
@@ -63,19 +63,11 @@ module _ (w : Plain) (good : Good w) (n : ℕ) (s : NodeState) (at : node_at w.n
   held_at = good.locked.1
 
   -- a change of the node alone
-  pub alone : (r : NodeState) → rows_of r ≡ rows_of s → IsUnder w.geometry good.running.cat (changed (nodes_under w.locks w.nodes) n (under_with w.locks n r r.cmd)) w.blocks
+  pub alone : (r : NodeState) → rows_of r ≡ rows_of s → AsksAlike (granted_ask s.tried s.plan) (granted_ask r.tried r.plan) → r.opens ≡ s.opens → IsUnder w.geometry good.running.cat (changed (nodes_under w.locks w.nodes) n (under_with w.locks n r r.cmd)) w.blocks
       → IsNode (with_node w n r) n r → Good (with_node w n r)
-  alone r same drive is = rebuilt w good n s r at w.locks w.blocks w.history
-      (record {
-        cat = good.running.cat;
-        replayed = good.running.replayed;
-        drive = under_now w.geometry good.running.cat w.locks w.locks w.nodes n s r w.blocks at (λ m q ne e. refl) drive;
-        accounted = good.running.accounted;
-        system = good.running.system;
-        opens = good.running.opens;
-        same = refl;
-      })
-      (good.locked.0, held_same w.locks w.nodes n s r at same held_at) good.own (small_set w good.small n s r at w.blocks) (λ m ne. refl) (λ m q ne e. loses_nothing w.locks m q) is
+  alone r same alike opens drive is = rebuilt w good n s r at w.locks w.blocks w.history
+      (still_driven w good n s r at w.locks w.blocks alike opens (under_now w.geometry good.running.cat w.locks w.locks w.nodes n s r w.blocks at (λ m q ne e. refl) drive) good.running.opens)
+      (good.locked.0, held_same w.locks w.nodes n s r at same held_at) good.own (small_set w good.small n s r at w.blocks) (good.few n) (λ m ne. refl) (λ m q ne e. loses_nothing w.locks m q) is
 
   -- ---- begun
 
@@ -96,7 +88,7 @@ module _ (w : Plain) (good : Good w) (n : ℕ) (s : NodeState) (at : node_at w.n
       let idle : IsIdle s.seen s.asked s.run s.plan s.done = subst (HasCommand w n s) none node.command in
       let goes : GoesOn x = seen_goes_on x law.searches in
       let still = neither s.over s.past.dead on in
-      alone (begun s x) refl (begins_under x none idle) (record {
+      alone (begun s x) refl (λ part o low. refl) refl (begins_under x none idle) (record {
         past = node.past;
         geometry = node.geometry;
         channels = node.channels;
@@ -105,14 +97,14 @@ module _ (w : Plain) (good : Good w) (n : ℕ) (s : NodeState) (at : node_at w.n
         rests = node.rests;
         command = record {
           next = next;
-          runs = good.runs n w.history x (subst (λ p. p.channels ≡ replicate 8 false) node.past (all_closed s.past s.opens node.channels)) next;
+          form = next_names w.script good.form n w.history x next;
           lawful = law;
           seen = goes.first (begun s x).seen idle.locks idle.blocks idle.space;
           own = λ name h. absurd (subst (λ (ls : List (LockName × Mode)). Has (names_of ls) name) idle.locks h);
           plan = subst (IsAtPlan x (waits_at w.locks n s.asked) (begun s x).seen s.done s.tried) (sym idle.plan) idle.done;
           search = Off (record {
             off = ap (λ (h : SpaceRun). h.phase) idle.run;
-            same = idle.asked ∙ sym (ap (λ o. with_ask s.seen.locks (granted_ask s.tried o)) idle.plan ∙ idle.locks);
+            same = idle.asked ∙ sym (ap (λ o. with_ask s.seen.locks (own_ask s.tried o)) idle.plan ∙ idle.locks);
             looked = ap (λ (h : SpaceRun). h.looked) idle.run;
             writes = ap (λ (h : SpaceRun). h.writes) idle.run;
             made = ap (λ (h : SpaceRun). h.made) idle.run;

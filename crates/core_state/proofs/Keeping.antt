@@ -25,14 +25,16 @@ use Rattle.op_law.specs.declared.need.Ask.{Ask}
 use Rattle.op_law.specs.declared.seen.Seen.{Seen}
 use Rattle.core_state.specs.declared.space.SpaceRun.{SpaceRun}
 use Rattle.core_state.specs.Worlds.{NodeState, Plain, node_at, set_node, rows_of, rows_in, rows_at}
-use Rattle.core_state.specs.Asks.{granted_ask}
+use Rattle.core_state.specs.Asks.{granted_ask, own_ask}
 use Rattle.core_state.specs.Searches.{Spaces, Off, Looking, Taking, Taken, Refused}
 use Rattle.core_state.specs.Stores.{HasStore}
 use Rattle.core_state.specs.Channels.{HasOpens}
-use Rattle.core_state.specs.Opens.{AreOpensLocked}
+use Rattle.core_state.specs.Opens.{open_now, AreOpensLocked}
 use Rattle.core_state.specs.Small.{AreSmall}
-use Rattle.core_state.specs.Goods.{nodes_under, HasSystemNumbers, AreLocked, IsAtPlan, HasCommand, IsNode, Good}
-use Rattle.core_state.proofs.Channels.{still_opened}
+use Rattle.core_state.specs.Goods.{nodes_under, HasSystemNumbers, AreLocked, IsAtPlan, HasCommand, IsNode, HasFewAnswers, Good}
+use Rattle.plain_opens.specs.Opens.{OpensNameFiles}
+use Rattle.core_state.proofs.Opens.{opens_same}
+use Rattle.core_state.proofs.Switching.{AsksAlike, now_alike}
 use Rattle.core_state.proofs.Holding.{held_grows}
 use Rattle.core_state.proofs.Nodes.{at_here, at_else, all_set, length_node}
 
@@ -128,25 +130,40 @@ still_node w t bs ns h m r same goes p = record {
 
   by_cmd : (o : Option Cmd) → HasCommand w m r o → HasCommand (altered w t bs ns h) m r o
   by_cmd None i = i
-  by_cmd (Some x) a = record { next = next ∙ a.next; runs = a.runs; lawful = a.lawful; seen = a.seen; own = a.own; plan = by_plan x r.plan a.plan; search = still_searches w.locks t m x (granted_ask r.tried r.plan) r.asked r.run r.seen asked_goes.holds a.search; waits = λ e. a.waits (waited (waits_at w.locks m r.asked) (waits_at t m r.asked) asked_goes.waits e) }
+  by_cmd (Some x) a = record { next = next ∙ a.next; form = a.form; lawful = a.lawful; seen = a.seen; own = a.own; plan = by_plan x r.plan a.plan; search = still_searches w.locks t m x (own_ask r.tried r.plan) r.asked r.run r.seen asked_goes.holds a.search; waits = λ e. a.waits (waited (waits_at w.locks m r.asked) (waits_at t m r.asked) asked_goes.waits e) }
 
--- What an event makes of the catalogue, of which this was the one before, and of the drive. No channel opens or closes.
-pub record IsDriven (w : Plain) (before : Cat) (t : List Resource) (bs : List Block) (ns : List NodeState) (h : List Entry) : Type 0 where
+-- what an event makes of the catalogue, of the drive, and of what the channels have open
+pub record IsDriven (w : Plain) (t : List Resource) (bs : List Block) (ns : List NodeState) (h : List Entry) : Type 0 where
   pub cat : Cat
   pub replayed : Replays w.opening w.script h cat
   pub drive : IsUnder w.geometry cat (nodes_under t ns) bs
   pub accounted : Accounted cat
   pub system : HasSystemNumbers cat
-  pub opens : AreOpensLocked t cat
-  pub same : cat.opens ≡ before.opens
+  pub named : OpensNameFiles cat
+  pub opens : AreOpensLocked t (open_now cat ns)
+  pub opened : (m : ℕ) (q : NodeState) → node_at ns m ≡ Some q → HasOpens cat m q.opens
+
+-- an event that leaves the history, and what each channel has open
+pub still_driven : (w : Plain) (good : Good w) → (n : ℕ) (s r : NodeState) → node_at w.nodes n ≡ Some s → (t : List Resource) (bs : List Block) → AsksAlike (granted_ask s.tried s.plan) (granted_ask r.tried r.plan) → r.opens ≡ s.opens
+    → IsUnder w.geometry good.running.cat (nodes_under t (set_node w.nodes n r)) bs → AreOpensLocked t (open_now good.running.cat w.nodes) → IsDriven w t bs (set_node w.nodes n r) w.history
+still_driven w good n s r at t bs alike same drive opens = record {
+  cat = good.running.cat;
+  replayed = good.running.replayed;
+  drive = drive;
+  accounted = good.running.accounted;
+  system = good.running.system;
+  named = good.running.named;
+  opens = opens_same t (open_now good.running.cat w.nodes) (open_now good.running.cat (set_node w.nodes n r)) (now_alike good.running.cat w.nodes n s r at alike) opens;
+  opened = all_set w.nodes n s r at (λ m q. HasOpens good.running.cat m q.opens) (subst (HasOpens good.running.cat n) (sym same) (good.running.opened n s at)) (λ m q ne e. good.running.opened m q e);
+}
 
 -- The invariant after an event of node n, which stood as s and stands as r: it is enough to show what the event is about.
 pub rebuilt : (w : Plain) (good : Good w) → (n : ℕ) (s r : NodeState) → node_at w.nodes n ≡ Some s → (t : List Resource) (bs : List Block) (h : List Entry)
-    → IsDriven w good.running.cat t bs (set_node w.nodes n r) h → AreLocked (altered w t bs (set_node w.nodes n r) h) → Own w.script h → AreSmall (altered w t bs (set_node w.nodes n r) h)
+    → IsDriven w t bs (set_node w.nodes n r) h → AreLocked (altered w t bs (set_node w.nodes n r) h) → Own w.script h → AreSmall (altered w t bs (set_node w.nodes n r) h) → HasFewAnswers w.script n (past n h)
     → ((m : ℕ) → m ≢ n → past m h ≡ past m w.history)
     → ((m : ℕ) (q : NodeState) → m ≢ n → node_at w.nodes m ≡ Some q → LosesNothing w.locks t m q)
     → IsNode (altered w t bs (set_node w.nodes n r) h) n r → Good (altered w t bs (set_node w.nodes n r) h)
-rebuilt w good n s r at t bs h driven locked own small others goes node = record {
+rebuilt w good n s r at t bs h driven locked own small few others goes node = record {
   counted = length_node w.nodes n r ∙ good.counted;
   running = record {
     cat = driven.cat;
@@ -154,8 +171,9 @@ rebuilt w good n s r at t bs h driven locked own small others goes node = record
     drive = driven.drive;
     accounted = driven.accounted;
     system = driven.system;
+    named = driven.named;
     opens = driven.opens;
-    opened = opened;
+    opened = driven.opened;
     stocked = λ m q e. record { holds = inl (nodes m q e).store.stock };
     cached = λ m q c e has. absurd (subst (λ (cs : List Cached). Has cs c) (nodes m q e).store.cache has);
   };
@@ -163,7 +181,8 @@ rebuilt w good n s r at t bs h driven locked own small others goes node = record
   nodes = nodes;
   own = own;
   small = small;
-  runs = good.runs;
+  form = good.form;
+  few = few_all;
   strangers = strangers;
 } where
   ns : List NodeState
@@ -172,10 +191,11 @@ rebuilt w good n s r at t bs h driven locked own small others goes node = record
   nodes : (m : ℕ) (q : NodeState) → node_at ns m ≡ Some q → IsNode (altered w t bs ns h) m q
   nodes = all_set w.nodes n s r at (λ m q. IsNode (altered w t bs ns h) m q) node (λ m q ne e. still_node w t bs ns h m q (others m ne) (goes m q ne e) (good.nodes m q e))
 
-  opened : (m : ℕ) (q : NodeState) → node_at ns m ≡ Some q → HasOpens driven.cat m q.opens
-  opened = all_set w.nodes n s r at (λ m q. HasOpens driven.cat m q.opens)
-      (still_opened good.running.cat driven.cat n s.opens r.opens driven.same (good.nodes n s at).channels.closed node.channels.closed (good.running.opened n s at))
-      (λ m q ne e. still_opened good.running.cat driven.cat m q.opens q.opens driven.same (good.nodes m q e).channels.closed (good.nodes m q e).channels.closed (good.running.opened m q e))
+  few_all : (m : ℕ) → HasFewAnswers w.script m (past m h)
+  few_all m = elim (same_or_not m n) [
+    | inl f ↦ subst (λ (k : ℕ). HasFewAnswers w.script k (past k h)) (sym f) few
+    | inr ne ↦ subst (HasFewAnswers w.script m) (sym (others m ne)) (good.few m)
+  ]
 
   strangers : (m : ℕ) → node_at ns m ≡ None → next_command w.script m h ≡ None
   strangers m e = elim (same_or_not m n) [

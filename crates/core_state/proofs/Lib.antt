@@ -7,7 +7,10 @@ pub mod Running
 pub mod Taking
 pub mod Seeking
 pub mod Keeping
-pub mod RunKinds
+pub mod Commands
+pub mod Knowing
+pub mod Ends
+pub mod Switching
 pub mod SmallTables
 pub mod SmallCounts
 pub mod SmallBegun
@@ -20,6 +23,7 @@ pub mod Turning
 pub mod Searching
 pub mod Answering
 pub mod Trying
+pub mod Closing
 pub mod Turns
 pub mod Openings
 pub mod Accepting

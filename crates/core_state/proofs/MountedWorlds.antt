@@ -28,10 +28,14 @@ use Rattle.vol_under.specs.UnderWay.{resting}
 use Rattle.vol_under.specs.Under.{IsUnder}
 use Rattle.vol_under.proofs.Steps.{mount_stands, nodes_alike}
 use Rattle.core_state.specs.Worlds.{NodeState, Plain, node_at, rows_of, rows_in, rows_at}
-use Rattle.core_state.specs.Goods.{HasSystemNumbers, IsRun, HasOnly, under_by, nodes_under, IsNode, Good, IsAccepted, decided, IsWorld}
+use Rattle.core_state.specs.Asks.{granted_ask}
+use Rattle.core_state.specs.Opens.{open_of, open_with, asked_in, asked_at, open_now}
+use Rattle.core_state.specs.Goods.{HasSystemNumbers, HasOnly, under_by, nodes_under, IsNode, Good, IsAccepted, decided, IsWorld}
 use Rattle.core_state.specs.Mounting.{at_rest, mounted}
 use Rattle.core_state.specs.Channels.{HasOpens}
-use Rattle.core_state.proofs.Opens.{opens_none}
+use Rattle.plain_opens.proofs.Naming.{closed_names}
+use Rattle.core_state.proofs.Opens.{opens_none, opens_same}
+use Rattle.core_state.proofs.SmallBegun.{few_newborn}
 use Rattle.core_state.proofs.SmallWorlds.{small_mounted}
 use Rattle.core_state.proofs.Channels.{none_opened}
 use Rattle.plain_cat.specs.declared.command.Cmd.{Cmd}
@@ -81,7 +85,7 @@ no_line (l ∷ ls) k x n all none = by_first (within_at k x n l.node none (first
 
 -- ---- the world
 
-module _ (bs : List Block) (s : Script) (c : Cat) (g : Geometry) (form : InForm s) (runs : HasOnly IsRun s) (drive : IsUnder g c (λ n. resting nothing) bs) (accounted : Accounted c) (system : HasSystemNumbers c) (none_open : c.opens ≡ replicate 64 None) where
+module _ (bs : List Block) (s : Script) (c : Cat) (g : Geometry) (form : InForm s) (drive : IsUnder g c (λ n. resting nothing) bs) (accounted : Accounted c) (system : HasSystemNumbers c) (none_open : c.opens ≡ replicate 64 None) where
   abbrev w : Plain
   w = mounted bs s c g
 
@@ -100,12 +104,18 @@ module _ (bs : List Block) (s : Script) (c : Cat) (g : Geometry) (form : InForm 
     by_node None e = refl
     by_node (Some r) e = ap (λ (y : NodeState). joined (rows_of y)) (at_rest_at s.nodes x n r e)
 
+  no_asks : (n : ℕ) → asked_at w.nodes n ≡ None
+  no_asks n = by_node (node_at w.nodes n) refl where
+    by_node : (o : Option NodeState) → node_at w.nodes n ≡ o → asked_in o ≡ None
+    by_node None e = refl
+    by_node (Some r) e = ap (λ (y : NodeState). granted_ask y.tried y.plan) (at_rest_at s.nodes x n r e)
+
   node : (n : ℕ) → IsNode w n x
   unfolding newborn
   node n = record {
     past = refl;
     geometry = refl;
-    channels = record { told = refl; closed = refl };
+    channels = refl;
     channel = refl;
     store = record { kept = refl; back = refl; stock = refl; cache = refl };
     rests = refl;
@@ -123,7 +133,8 @@ module _ (bs : List Block) (s : Script) (c : Cat) (g : Geometry) (form : InForm 
       drive = nodes_alike g c (λ n. resting nothing) (nodes_under [] w.nodes) bs under drive;
       accounted = accounted;
       system = system;
-      opens = opens_none c 64 none_open;
+      named = closed_names c none_open;
+      opens = opens_same [] (open_of c) (open_now c w.nodes) (λ owner low. ap (λ a. open_with owner.part a (open_of c owner)) (no_asks owner.node)) (opens_none c 64 none_open);
       opened = λ n r e. subst (λ (y : NodeState). HasOpens c n y.opens) (sym (at_rest_at s.nodes x n r e)) (none_opened c 64 n none_open);
       stocked = λ n r e. record { holds = inl (ap (λ (y : NodeState). y.stock) (at_rest_at s.nodes x n r e)) };
       cached = λ n r k e has. absurd (subst (λ (y : NodeState). Has y.cache k) (at_rest_at s.nodes x n r e) has);
@@ -132,7 +143,8 @@ module _ (bs : List Block) (s : Script) (c : Cat) (g : Geometry) (form : InForm 
     nodes = λ n r e. subst (λ (y : NodeState). IsNode w n y) (sym (at_rest_at s.nodes x n r e)) (node n);
     own = tt;
     small = small_mounted bs s c g;
-    runs = runs;
+    form = form;
+    few = λ n. few_newborn s n;
     strangers = λ n e. strangers_have_nothing s n [] (no_line s.lines s.nodes x n form.lines e) refl;
   }
 

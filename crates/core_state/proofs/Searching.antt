@@ -46,7 +46,7 @@ use Rattle.node_space.proofs.Writes.{writes_take, takings_refill}
 use Rattle.node_space.proofs.Taken.{takes_all, number_is_new}
 use Rattle.core_state.specs.declared.space.SpaceRun.{SpaceRun}
 use Rattle.core_state.specs.Worlds.{NodeState, Plain, node_at, set_node, with_node, rows_of}
-use Rattle.core_state.specs.Asks.{granted_ask, knows_now}
+use Rattle.core_state.specs.Asks.{granted_ask, own_ask, knows_now}
 use Rattle.core_state.specs.Searches.{unwritten, things_of, stock_after, wanted_by, IsOfNumber, HasClaimed, IsLooking, IsTaking, Spaces, Off, Looking, Taking, Taken, Refused}
 use Rattle.core_state.specs.Waiting.{SpaceLock}
 use Rattle.core_state.specs.Goods.{under_with, nodes_under, IsAtPlan, IsAt, IsNode, Good, held_by}
@@ -56,7 +56,8 @@ use Rattle.core_state.proofs.Running.{at_locks, under_now, all_asked}
 use Rattle.core_state.proofs.Taking.{becomes, is_committed, grabs}
 use Rattle.core_state.proofs.Seeking.{touches_its, part_stands, stands_its, part_touches, is_left, all_left, left_of, less_left, not_left, next_in_order, none_in_order, next_lies, not_before, no_space, wants_some, wants_nothing, first_more, some_writes, refused_why}
 use Rattle.core_state.proofs.SmallWorlds.{small_set}
-use Rattle.core_state.proofs.Keeping.{altered, rebuilt, held_same, asked_alone, loses_nothing}
+use Rattle.core_state.proofs.Switching.{AsksAlike}
+use Rattle.core_state.proofs.Keeping.{altered, still_driven, rebuilt, held_same, asked_alone, loses_nothing}
 use Rattle.core_state.proofs.Beginning.{alone}
 use Rattle.core_state.proofs.Standing.{asks_once, is_begun, holds_all, all_stock, part_stock, no_stock}
 use Rattle.core_state.proofs.Turning.{index_within, my_sole, under_command, search_now, all_here, here, drive, back, outs_now, seen_now, guards_now, is_node, goes, may_need, not_yet, no_wait, no_writes_now, locked_keep, kept_rests}
@@ -127,8 +128,8 @@ module _ (w : Plain) (good : Good w) (n : ℕ) (s : NodeState) (at : node_at w.n
   abbrev stands : Spaces w.locks n x None s.asked s.run s.seen
   stands = search_now w good n s at x cmd free no_plan
 
-  standing : (t : List Resource) (r : NodeState) → r.plan ≡ s.plan → Spaces t n x None r.asked r.run r.seen → Spaces t n x (granted_ask r.tried r.plan) r.asked r.run r.seen
-  standing t r p h = subst (λ (o : Option Plan). Spaces t n x (granted_ask r.tried o) r.asked r.run r.seen) (sym (p ∙ no_plan)) h
+  standing : (t : List Resource) (r : NodeState) → r.plan ≡ s.plan → Spaces t n x None r.asked r.run r.seen → Spaces t n x (own_ask r.tried r.plan) r.asked r.run r.seen
+  standing t r p h = subst (λ (o : Option Plan). Spaces t n x (own_ask r.tried o) r.asked r.run r.seen) (sym (p ∙ no_plan)) h
 
   wanted : (k : ℕ) (b : Bool) → IsNext x s.seen (need.Space k b) → has_space k b no_space ≡ false
   wanted k b is = wants_some (events_of g s.seen.channel x) s.seen.locks s.seen.blocks (space_of s.seen) k b (may_need w good n s at x cmd free (need.Space k b) is).1 is
@@ -144,7 +145,7 @@ module _ (w : Plain) (good : Good w) (n : ℕ) (s : NodeState) (at : node_at w.n
       let next : IsNext x s.seen (need.Space (wanted_by x s.seen) (wants_number x)) = is ∙ (λ i. need.Space (may.0.clusters_are i) (may.0.number_is i)) in
       let more : found g (wanted_by x s.seen) (wants_number x) (blocks_of s.run.looked) ≡ More
       = ap (λ (ss : List (ℕ × Block)). found g (wanted_by x s.seen) (wants_number x) (blocks_of ss)) none.0.looked ∙ first_more g (wanted_by x s.seen) (wants_number x) under.spelt.counts.geometry (wanted (wanted_by x s.seen) (wants_number x) next) in
-      locked_keep w good n s at x cmd free no_plan V PW none.1 r refl refl cmd (λ ls. refl)
+      locked_keep w good n s at x cmd free no_plan V PW none.1 r (λ part o low. refl) refl refl refl cmd (λ ls. refl)
       (λ grows. is_node w good n s at x cmd free t w.blocks r refl refl refl refl (kept_rests w good n s at x cmd free V PW none.1) now.seen now.own (plan_stays t r refl refl) (standing t r refl
       (Looking (record {
         claimed = record {
@@ -230,9 +231,9 @@ module _ (w : Plain) (good : Good w) (n : ℕ) (s : NodeState) (at : node_at w.n
         (subst (λ (k : Things). Outs n under.own k (stock_after s.run.writes s.run.made)) took (outs_now w good n s at x cmd free))
 
     -- the node as the look leaves it
-    left_so : (r : NodeState) → rows_of r ≡ rows_of s → r.cmd ≡ Some x → (at_locks n r x (held_by w.locks n s)).plan ≡ [] → r.done ≡ 0 → things r.seen.clusters r.seen.number ≡ nothing → stock_after r.run.writes r.run.made ≡ nothing
+    left_so : (r : NodeState) → rows_of r ≡ rows_of s → AsksAlike (granted_ask s.tried s.plan) (granted_ask r.tried r.plan) → r.opens ≡ s.opens → r.cmd ≡ Some x → (at_locks n r x (held_by w.locks n s)).plan ≡ [] → r.done ≡ 0 → things r.seen.clusters r.seen.number ≡ nothing → stock_after r.run.writes r.run.made ≡ nothing
         → r.run.looked ≡ more → r.seen.blocks ≡ s.seen.blocks → IsNode (with_node w n r) n r → Good (with_node w n r)
-    left_so r same cmd_is none done took stock looks blocks node =
+    left_so r same asks opens cmd_is none done took stock looks blocks node =
         let v : UnderWay = at_locks n r x (held_by w.locks n s) in
         let seen_is : unwritten (take r.run.made r.run.writes) more ++ s.seen.blocks ≡ v.seen = λ i. unwritten (take r.run.made r.run.writes) (sym looks i) ++ sym blocks i in
         let drive_now = becomes g cat (nodes_under w.locks w.nodes) w.blocks n u (here w good n s at x cmd free) under (no_writes_now w good n s at x cmd free no_plan) v none done
@@ -240,7 +241,7 @@ module _ (w : Plain) (good : Good w) (n : ℕ) (s : NodeState) (at : node_at w.n
         (subst (StandsIn under.base) seen_is (all_stand (take r.run.made r.run.writes)))
         (subst (λ (ss : List (ℕ × Block)). (l : ℕ) → Touches ss l → MayLook (held_in PR (held_by w.locks n s)) (guard_of g under.own l)) seen_is (all_guarded (take r.run.made r.run.writes))) in
         let there : v ≡ under_with w.locks n r r.cmd = ap (at_locks n r x) (ap (all_held w.locks n) (sym same)) ∙ ap (under_with w.locks n r) (sym cmd_is) in
-        alone w good n s at r same (subst (λ (k : UnderWay). IsUnder w.geometry cat (changed (nodes_under w.locks w.nodes) n k) w.blocks) there (back w good n s at x cmd free v w.blocks drive_now)) node
+        alone w good n s at r same asks opens (subst (λ (k : UnderWay). IsUnder w.geometry cat (changed (nodes_under w.locks w.nodes) n k) w.blocks) there (back w good n s at x cmd free v w.blocks drive_now)) node
 
     claimed_on : (h2 : SpaceRun) (seen : Seen) → h2.phase ≡ s.run.phase → h2.looked ≡ more → seen.geometry ≡ g → seen.locks ≡ s.seen.locks → HasClaimed x None s.asked h2 seen
     claimed_on h2 seen still looks geometry locks = record {
@@ -260,13 +261,13 @@ module _ (w : Plain) (good : Good w) (n : ℕ) (s : NodeState) (at : node_at w.n
     by_found : (f : Found) → found g (wanted_by x s.seen) (wants_number x) (blocks_of more) ≡ f → (next_lbn : ℕ) → Good (with_node w n (turned (space_looked s lbn b (answered next_lbn f))))
     by_found More e next_lbn =
         let r : NodeState = turned (space_looked s lbn b (search.Look next_lbn)) in
-        left_so r refl cmd (no_writes_now w good n s at x cmd free no_plan) (not_yet w good n s at x cmd free no_plan) (λ i. things (h.needs.none.clusters i) (h.needs.none.number i))
+        left_so r refl (λ part o low. refl) refl cmd (no_writes_now w good n s at x cmd free no_plan) (not_yet w good n s at x cmd free no_plan) (λ i. things (h.needs.none.clusters i) (h.needs.none.number i))
         (no_stock s.run.writes s.run.made h.writes h.made) refl refl
         (is_node w good n s at x cmd free w.locks w.blocks r refl refl refl refl (good.nodes n s at).rests now.seen now.own (plan_stays w.locks r refl refl)
         (standing w.locks r refl (Looking (record { claimed = claimed_on r.run s.seen refl refl refl refl; needs = h.needs; more = e; writes = h.writes; made = h.made }))) (no_wait w good n s at x cmd free s.seen))
     by_found (Short why) e next_lbn =
         let r : NodeState = turned (space_looked s lbn b (search.Short why)) in
-        left_so r refl cmd (no_writes_now w good n s at x cmd free no_plan) (not_yet w good n s at x cmd free no_plan) refl
+        left_so r refl (λ part o low. refl) refl cmd (no_writes_now w good n s at x cmd free no_plan) (not_yet w good n s at x cmd free no_plan) refl
         (no_stock s.run.writes s.run.made h.writes h.made) refl refl
         (is_node w good n s at x cmd free w.locks w.blocks r refl refl refl refl (good.nodes n s at).rests
         ((goes w good n s at x cmd free).refused s.seen (wanted_by x s.seen) (wants_number x) why now.seen h.needs.next (refused_why g (wanted_by x s.seen) (wants_number x) (blocks_of more) why e))
@@ -277,7 +278,7 @@ module _ (w : Plain) (good : Good w) (n : ℕ) (s : NodeState) (at : node_at w.n
         let some : 0 < length ws = some_writes g (wanted_by x s.seen) (wants_number x) (blocks_of more) ws (wanted (wanted_by x s.seen) (wants_number x) h.needs.next) e in
         let part : s.run.made < length ws = subst (λ (k : ℕ). k < length ws) (sym h.made) some in
         let none_yet : stock_after ws s.run.made ≡ nothing = part_stock ws s.run.made part ∙ ap (λ k. things_of (out_after ws k)) h.made in
-        left_so r refl cmd (no_writes_now w good n s at x cmd free no_plan) (not_yet w good n s at x cmd free no_plan) (λ i. things (h.needs.none.clusters i) (h.needs.none.number i))
+        left_so r refl (λ part o low. refl) refl cmd (no_writes_now w good n s at x cmd free no_plan) (not_yet w good n s at x cmd free no_plan) (λ i. things (h.needs.none.clusters i) (h.needs.none.number i))
         none_yet refl refl
         (is_node w good n s at x cmd free w.locks w.blocks r refl refl refl refl (good.nodes n s at).rests now.seen now.own (plan_stays w.locks r refl refl)
         (standing w.locks r refl (Taking (record {
@@ -357,26 +358,20 @@ module _ (w : Plain) (good : Good w) (n : ℕ) (s : NodeState) (at : node_at w.n
     holds_bitmaps = held_grows PW s.asked (held_by w.locks n s) V (λ l k. all_asked w.locks n s l free k) (holds_all x None s.asked s.run s.seen h.found.claimed)
 
     -- the node as the write leaves it
-    written_so : (r : NodeState) → rows_of r ≡ rows_of s → (know : Cat → Bool) (took stock : Things) → ((own : Owners) → Outs n own u.took (things v.clusters v.number) → Outs n own took stock)
+    written_so : (r : NodeState) → rows_of r ≡ rows_of s → AsksAlike (granted_ask s.tried s.plan) (granted_ask r.tried r.plan) → r.opens ≡ s.opens → (know : Cat → Bool) (took stock : Things) → ((own : Owners) → Outs n own u.took (things v.clusters v.number) → Outs n own took stock)
         → record u { seen = rest; knows = know; took = took; stock = stock } ≡ under_with w.locks n r r.cmd → IsNode (altered w w.locks written (set_node w.nodes n r) w.history) n r
         → Good (altered w w.locks written (set_node w.nodes n r) w.history)
-    written_so r same know took stock goes_to there node =
+    written_so r same asks opens know took stock goes_to there node =
         let drive_now = grabs g cat (nodes_under w.locks w.nodes) w.blocks n u (here w good n s at x cmd free) under (my_sole w good n s at x cmd free) (no_writes_now w good n s at x cmd free no_plan) (not_yet w good n s at x cmd free no_plan)
         v.lbn taking.old v.block rest (things v.clusters v.number) bitmap holds_bitmaps untouched
         (part_stands under.base u.seen rest some_left (seen_now w good n s at x cmd free))
         (λ k m. guards_now w good n s at x cmd free k (part_touches u.seen rest some_left k m)) there_now (λ base own spelt outs stands. (refill base own spelt outs stands).1) know took stock goes_to in
         rebuilt w good n s r at w.locks written w.history
-        (record {
-          cat = cat;
-          replayed = good.running.replayed;
-          drive = under_now w.geometry cat w.locks w.locks w.nodes n s r written at (λ m q ne e. refl)
-              (subst (λ (k : UnderWay). IsUnder w.geometry cat (changed (nodes_under w.locks w.nodes) n k) written) there (back w good n s at x cmd free (record u { seen = rest; knows = know; took = took; stock = stock }) written drive_now));
-          accounted = good.running.accounted;
-          system = good.running.system;
-          opens = good.running.opens;
-          same = refl;
-        })
-        (good.locked.0, held_same w.locks w.nodes n s r at same good.locked.1) good.own (small_set w good.small n s r at written) (λ m ne. refl) (λ m q ne e. loses_nothing w.locks m q) node
+        (still_driven w good n s r at w.locks written asks opens
+        (under_now w.geometry cat w.locks w.locks w.nodes n s r written at (λ m q ne e. refl)
+        (subst (λ (k : UnderWay). IsUnder w.geometry cat (changed (nodes_under w.locks w.nodes) n k) written) there (back w good n s at x cmd free (record u { seen = rest; knows = know; took = took; stock = stock }) written drive_now)))
+        good.running.opens)
+        (good.locked.0, held_same w.locks w.nodes n s r at same good.locked.1) good.own (small_set w good.small n s r at written) (good.few n) (λ m ne. refl) (λ m q ne e. loses_nothing w.locks m q) node
 
     claimed_on_write : (seen : Seen) → seen.geometry ≡ g → seen.locks ≡ s.seen.locks → HasClaimed x None s.asked (record s.run { made = t + 1 }) (record s.seen { clusters = seen.clusters; number = seen.number; short = seen.short })
     claimed_on_write seen geometry locks = record { takes = h.found.claimed.takes; last = h.found.claimed.last; before = h.found.claimed.before; after = h.found.claimed.after; claims = h.found.claimed.claims; locks = h.found.claimed.locks; quota = h.found.claimed.quota; behind = λ l k. absurd (no_number s.seen.number h.needs.none.number l.0 (h.found.claimed.behind l k)); in_order = h.found.claimed.in_order }
@@ -391,7 +386,7 @@ module _ (w : Plain) (good : Good w) (n : ℕ) (s : NodeState) (at : node_at w.n
         let stock_is : stock_after ws (t + 1) ≡ things v.clusters v.number = part_stock ws (t + 1) part ∙ ap things_of out_now in
         let there : record u { seen = rest; stock = things v.clusters v.number } ≡ under_with w.locks n r s.cmd
         = (λ i. record (at_locks n r x (held_by w.locks n s)) { stock = sym stock_is i }) ∙ ap (under_with w.locks n r) (sym cmd) in
-        written_so r refl (knows_now n x s.seen s.tried s.plan) u.took (things v.clusters v.number) (λ own o. o) there
+        written_so r refl (λ part o low. refl) refl (knows_now n x s.seen s.tried s.plan) u.took (things v.clusters v.number) (λ own o. o) there
         (is_node w good n s at x cmd free w.locks written r refl refl refl refl (good.nodes n s at).rests now.seen now.own (plan_stays w.locks r refl refl)
         (standing w.locks r refl (Taking (record {
           found = record { claimed = claimed_on_write s.seen refl refl; enough = h.found.enough; above = h.found.above; holds = h.found.holds };
@@ -411,7 +406,7 @@ module _ (w : Plain) (good : Good w) (n : ℕ) (s : NodeState) (at : node_at w.n
         let all_taken = takes_all g (wanted_by x s.seen) (wants_number x) (blocks_of s.run.looked) ws h.found.enough in
         let count : length v.clusters ≡ wanted_by x s.seen = ap (λ (k : Held). length k.clusters) (sym out_last) ∙ all_taken.clusters in
         let numbered : has_number (wants_number x) v.number ≡ true = number_there (wants_number x) v.number (ap (λ (k : Held). is_some k.number) (sym out_last) ∙ all_taken.number) in
-        written_so r refl (knows_now n x r.seen s.tried s.plan) (things v.clusters v.number) nothing (λ own o. out_taken n own (things v.clusters v.number) (subst (λ (k : Things). Outs n own k (things v.clusters v.number)) none o)) there
+        written_so r refl (λ part o low. refl) refl (knows_now n x r.seen s.tried s.plan) (things v.clusters v.number) nothing (λ own o. out_taken n own (things v.clusters v.number) (subst (λ (k : Things). Outs n own k (things v.clusters v.number)) none o)) there
         (is_node w good n s at x cmd free w.locks written r refl refl refl refl (good.nodes n s at).rests
         ((goes w good n s at x cmd free).given s.seen (wanted_by x s.seen) (wants_number x) v.clusters v.number now.seen h.needs.next count numbered) now.own (plan_stays w.locks r refl refl)
         (standing w.locks r refl (Taken (record {

@@ -1,11 +1,11 @@
 -- How many commands a history can have: each node's entries are its answers, and one death at most; and its answers are few.
 use Rattle.std.proofs.Common.{◌≡◌, ◌==◌, ◌≤◌, ◌<◌, ◌+◌, ◌*◌, ◌++◌, not, ℕ, zero, suc, Bool, true, false, cond, eqb, List, [], ◌∷◌, Option, Some, None, IsSome, length, slice_get, refl, sym, ap, subst, ◌∙◌, inl, inr, arith}
-use Rattle.std.specs.Prelude.{◌⊎◌, replicate}
+use Rattle.std.specs.Prelude.{◌⊎◌, ◌-◌, is_some, slice_set}
 use Rattle.std.specs.List.{list_any, sum_by, count_by}
 use Rattle.std.proofs.lemmas.Bool.{eqb-true}
 use Rattle.std.proofs.lemmas.Bool.Decides.{nat_tests}
 use Rattle.std.proofs.lemmas.List.{append_assoc, append-nil}
-use Rattle.std.proofs.lemmas.List.Sums.{sum_by-cons}
+use Rattle.std.proofs.lemmas.List.Sums.{sum_by-cons, count_by-le-length}
 use Rattle.plain_cat.specs.declared.command.Cmd.{Cmd}
 use Rattle.plain_cat.specs.declared.reply.Reply.{Reply}
 use Rattle.plain_cat.specs.declared.cat.Cat.{Cat}
@@ -17,13 +17,16 @@ use Rattle.plain_cat.specs.declared.script.Line.{Line}
 use Rattle.plain_cat.specs.declared.script.LineCmd.{LineCmd}
 use Rattle.plain_cat.specs.declared.script.Script.{Script}
 use Rattle.plain_vol.specs.Stages.{staged}
-use Rattle.plain_vol.specs.Own.{NodePast, newborn, past, after_answer, after_entry, channels_after, lines_of, close_from, or_close, next_command, IsNext, OwnFrom, Own}
+use Rattle.plain_cat.specs.declared.command.Cmd.TheVariants as cmd
+use Rattle.plain_vol.specs.Mending.{is_true}
+use Rattle.plain_vol.specs.Own.{NodePast, newborn, past, after_answer, after_entry, is_opened, is_closed, switched, channels_after, lines_of, or_close, command_after, next_command, IsNext, OwnFrom, Own}
 use Rattle.plain_vol.specs.Replaying.{Leads, ReplaysFrom, Replays}
 use Rattle.node_past.specs.Laws.{is_of, has_line}
 use Rattle.node_past.proofs.Growing.{past_grows, own_grows}
 use Rattle.node_past.proofs.Strangers.{own_strangers}
 use Rattle.core_state.specs.Small.{is_idle, is_begun}
-use Rattle.core_state.specs.Goods.{HasOnly}
+use Rattle.core_state.specs.Goods.{HasFewAnswers}
+use Rattle.core_state.proofs.Commands.{closes_one}
 
 -- ---- sums
 
@@ -164,50 +167,71 @@ few_lines n (l ∷ ls) = by_test (l.node == n) refl (few_lines n ls) where
   by_test true e r = omega arith
   by_test false e r = omega arith
 
-no_close : (n : ℕ) (p : NodePast) (o : Option LineCmd) (x : Cmd) → p.channels ≡ replicate 8 false → or_close p o ≡ Some x → IsSome o
-no_close n p None x closed e = absurd (let f : close_from 1 (replicate 8 false) ≡ Some x = ap (close_from 1) (sym closed) ∙ e in let g : None ≡ Some x = f in cc)
-no_close n p (Some l) x closed e = refl
-
-there_within : {A : Type 0} (xs : List A) (k : ℕ) → IsSome (slice_get xs k) → k < length xs
+pub there_within : {A : Type 0} (xs : List A) (k : ℕ) → IsSome (slice_get xs k) → k < length xs
 there_within [] k i = absurd (let f : false ≡ true = i in cc)
 there_within (x ∷ xs) zero i = omega arith
 there_within (x ∷ xs) (suc k) i = let lt = there_within xs k i in omega arith
 
--- no channel is open, and there are no more answers than lines
-record IsWithinLines (s : Script) (n : ℕ) (p : NodePast) : Type 0 where
-  closed : p.channels ≡ replicate 8 false
-  within : p.answered ≤ length (lines_of n s.lines)
+-- few answers are at most eight more than lines
+pub few_so : (s : Script) (n : ℕ) (p : NodePast) → HasFewAnswers s n p → p.answered ≤ length (lines_of n s.lines) + 8
+few_so s n p (inl le) = omega arith
+few_so s n p (inr le) = omega arith
 
-module _ (runs : Cmd → Type 0) (stays : (x : Cmd) → runs x → (channels : List Bool) (r : Reply) → channels_after channels x r ≡ channels) (s : Script) (only : HasOnly runs s) (n : ℕ) where
-  within_next : (h : List Entry) (e : Entry) → IsNext s h e → IsWithinLines s n (past n h) → IsWithinLines s n (after_entry n (past n h) e)
-  unfolding after_answer
-  within_next h (Done m x r) next is = by_node (eqb m n) refl where
-    by_node : (b : Bool) → eqb m n ≡ b → IsWithinLines s n (cond b (after_answer (past n h) x r) (past n h))
-    by_node true e =
-        let given : next_command s n h ≡ Some x = subst (λ (k : ℕ). next_command s k h ≡ Some x) (eqb-true m n e) next.1 in
-        let lt : (past n h).answered < length (lines_of n s.lines) = there_within (lines_of n s.lines) (past n h).answered (no_close n (past n h) (slice_get (lines_of n s.lines) (past n h).answered) x is.closed given) in
-        record { closed = stays x (only n h x is.closed given) (past n h).channels r ∙ is.closed; within = omega arith }
-    by_node false e = is
-  within_next h (Died m st k l) next is = by_node (eqb m n) where
-    by_node : (b : Bool) → IsWithinLines s n (cond b (record (past n h) { dead = true }) (past n h))
-    by_node true = record { closed = is.closed; within = is.within }
-    by_node false = is
-  within_next h (Mended m) next is = is
+-- and less than 32 bits
+pub answers_fit : (s : Script) (n : ℕ) (p : NodePast) → length s.lines ≤ 4096 → HasFewAnswers s n p → p.answered < 4294967295
+answers_fit s n p lines few = let a = few_so s n p few in let b = few_lines n s.lines in omega arith
 
-  within_all : (h es : List Entry) → OwnFrom s h es → IsWithinLines s n (past n h) → IsWithinLines s n (past n (h ++ es))
-  within_all h [] own is = subst (λ (k : List Entry). IsWithinLines s n (past n k)) (sym (append-nil h)) is
-  within_all h (e ∷ es) own is =
-      subst (λ (k : List Entry). IsWithinLines s n (past n k)) (append_assoc h (e ∷ []) es)
-      (within_all (h ++ e ∷ []) es own.1 (subst (IsWithinLines s n) (sym (past_grows n h e)) (within_next h e own.0 is)))
+-- a node without an answer has few
+pub few_newborn : (s : Script) (n : ℕ) → HasFewAnswers s n newborn
+unfolding newborn
+few_newborn s n = inl (omega arith)
 
-  within_lines : (h : List Entry) → Own s h → IsWithinLines s n (past n h)
-  unfolding newborn
-  within_lines h own = within_all [] h own (record { closed = refl; within = omega arith })
+-- ---- one answer more
 
--- where no channel is ever open, a node has no more answers than lines
-pub few_answers : (runs : Cmd → Type 0) → ((x : Cmd) → runs x → (channels : List Bool) (r : Reply) → channels_after channels x r ≡ channels) → (s : Script) (h : List Entry) → HasOnly runs s → Own s h
-    → (n : ℕ) → (past n h).answered ≤ length (lines_of n s.lines) + 8
-few_answers runs stays s h only own n = let le = (within_lines runs stays s only n h own).within in omega arith
+-- one of the channels is closed
+closed_one : (channels : List Bool) (k : ℕ) → slice_get channels k ≡ Some true → count_by is_true (slice_set channels k false) + 1 ≡ count_by is_true channels
+closed_one [] k e = absurd (let f : None ≡ Some true = e in cc)
+closed_one (b ∷ channels) zero e =
+    let f : Some b ≡ Some true = e in
+    let g : b ≡ true = cc in
+    let h : one b ≡ 1 = ap one g in
+    let i : sum_by (λ x. one (is_true x)) (false ∷ channels) ≡ 0 + sum_by (λ x. one (is_true x)) channels = sum_by-cons (λ x. one (is_true x)) false channels in
+    let j : sum_by (λ x. one (is_true x)) (b ∷ channels) ≡ one b + sum_by (λ x. one (is_true x)) channels = sum_by-cons (λ x. one (is_true x)) b channels in
+    omega arith
+closed_one (b ∷ channels) (suc k) e =
+    let rest : sum_by (λ x. one (is_true x)) (slice_set channels k false) + 1 ≡ sum_by (λ x. one (is_true x)) channels = closed_one channels k e in
+    let i : sum_by (λ x. one (is_true x)) (b ∷ slice_set channels k false) ≡ one b + sum_by (λ x. one (is_true x)) (slice_set channels k false) = sum_by-cons (λ x. one (is_true x)) b (slice_set channels k false) in
+    let j : sum_by (λ x. one (is_true x)) (b ∷ channels) ≡ one b + sum_by (λ x. one (is_true x)) channels = sum_by-cons (λ x. one (is_true x)) b channels in
+    omega arith
+
+count_few : (channels : List Bool) → count_by is_true channels ≤ length channels
+count_few channels = count_by-le-length is_true channels
+
+-- A node that has answered a command of one of its lines, or that has closed an open channel behind them, has few answers still.
+pub few_go_on : (s : Script) (n : ℕ) (p : NodePast) (x : Cmd) (r : Reply) → length p.channels ≡ 8 → command_after s n p ≡ Some x → ((chan : ℕ) → x ≡ cmd.CloseFile chan → slice_get p.channels (chan - 1) ≡ Some true → is_closed r ≡ true)
+    → HasFewAnswers s n p → HasFewAnswers s n (after_answer p x r)
+unfolding after_answer
+few_go_on s n p x r eight next closes few = by_line (slice_get (lines_of n s.lines) p.answered) refl next where
+  -- it has a line still, or has come to the end of them
+  by_line : (o : Option LineCmd) → slice_get (lines_of n s.lines) p.answered ≡ o → or_close p o ≡ Some x → HasFewAnswers s n (after_answer p x r)
+  by_line (Some l) at e = inl (let lt : p.answered < length (lines_of n s.lines) = there_within (lines_of n s.lines) p.answered (ap is_some at) in omega arith)
+  by_line None at e =
+      let c = closes_one 1 p.channels x e in
+      let closed : is_closed r ≡ true = closes c.chan c.is c.open_now in
+      let channels : channels_after p.channels x r ≡ slice_set p.channels (c.chan - 1) false = ap (λ y. channels_after p.channels y r) c.is ∙ closing c.chan r closed in
+      let count : count_by is_true (slice_set p.channels (c.chan - 1) false) + 1 ≡ count_by is_true p.channels = closed_one p.channels (c.chan - 1) c.open_now in
+      let same : count_by is_true (channels_after p.channels x r) ≡ count_by is_true (slice_set p.channels (c.chan - 1) false) = ap (count_by is_true) channels in
+      let most = count_few p.channels in
+      inr (by_few count same most few) where
+        closing : (chan : ℕ) (q : Reply) → is_closed q ≡ true → channels_after p.channels (cmd.CloseFile chan) q ≡ slice_set p.channels (chan - 1) false
+        closing chan q e = (λ i. switched (switched p.channels (is_opened q) None true) (e i) (Some chan) false) ∙ ap (λ cs. slice_set cs (chan - 1) false) (none_switched p.channels (is_opened q)) where
+          none_switched : (channels : List Bool) (does : Bool) → switched channels does None true ≡ channels
+          none_switched channels true = refl
+          none_switched channels false = refl
+
+        by_few : {k m : ℕ} → k + 1 ≡ count_by is_true p.channels → m ≡ k → count_by is_true p.channels ≤ length p.channels → HasFewAnswers s n p → p.answered + 1 + m ≤ length (lines_of n s.lines) + 8
+        by_few count same most (inl le) = omega arith
+        by_few count same most (inr le) = omega arith
 
 -- ---- the commands of a history
 

@@ -1,26 +1,34 @@
 -- What the calls of the lock manager make of the sequences of value blocks: a request leaves each, and where locks go back no
 -- sequence is raised by more than two.
-use Rattle.std.proofs.Common.{◌≡◌, ◌≢◌, ◌≤◌, ◌<◌, ◌+◌, ◌-◌, ◌^◌, ℕ, Bool, true, false, List, [], ◌∷◌, refl, sym, ap, subst, ◌∙◌, inl, inr, arith}
+use Rattle.std.proofs.Common.{◌≡◌, ◌≢◌, ◌≤◌, ◌<◌, ◌+◌, ◌-◌, ◌^◌, ℕ, Bool, true, false, List, [], ◌∷◌, Option, Some, None, cond, IsSome, refl, sym, ap, subst, ◌∙◌, inl, inr, arith}
 use Rattle.std.specs.Prelude.{◌⊎◌, replicate, MatchBool}
 use Rattle.std.specs.List.{list_any}
 use Rattle.plain_cat.specs.declared.mode.Mode.{Mode}
+use Rattle.plain_cat.specs.declared.command.Cmd.{Cmd}
+use Rattle.plain_cat.specs.declared.command.Cmd.TheVariants as cmd
+use Rattle.plain_cat.specs.declared.reply.Reply.{Reply}
+use Rattle.plain_vol.specs.Own.{is_closed}
 use Rattle.lock_db.specs.declared.name.LockName.{LockName}
+use Rattle.lock_db.specs.declared.name.LockName.TheVariants.{A}
 use Rattle.lock_db.specs.declared.name.Owner.{Owner}
 use Rattle.lock_db.specs.declared.resource.Resource.{Resource}
 use Rattle.lock_db.specs.Names.{is_same}
-use Rattle.lock_db.specs.Queues.{is_writing, without}
-use Rattle.lock_db.specs.Resources.{mode_held}
-use Rattle.lock_db.specs.Tables.{resource_at, asked, released}
+use Rattle.lock_db.specs.Queues.{is_writing, without, lock_of}
+use Rattle.lock_db.specs.Resources.{mode_held, conversion_writes}
+use Rattle.lock_db.specs.Tables.{resource_at, asked, converted, released}
 use Rattle.lock_db.specs.Laws.{BlockStays, BlockIs, somebody}
 use Rattle.lock_db.proofs.Names.{is_same-refl, is_same-same}
-use Rattle.lock_db.proofs.Blocks.{requests-keep, releases-write, asked-leaves, released-leaves}
+use Rattle.lock_db.proofs.Blocks.{requests-keep, conversions-write, releases-write, asked-leaves, converted-leaves, released-leaves}
 use Rattle.vol_owners.specs.Lists.{Has, Once}
 use Rattle.vol_parts.specs.declared.geometry.Geometry.{Geometry}
 use Rattle.node_locks.specs.Held.{system_of, names_of}
+use Rattle.node_locks.specs.Taking.{has_lock, taken}
 use Rattle.node_locks.specs.Sequences.{rise, raised, first_sequence, second_sequence, raised_block}
 use Rattle.node_locks.specs.declared.sequences.Raise.{Raise}
 use Rattle.node_locks.proofs.ReadingBack.{sequences_read_back}
 use Rattle.op_law.specs.declared.need.PlanWrite.{PlanWrite}
+use Rattle.op_law.specs.declared.seen.Chan.{Chan}
+use Rattle.core_state.specs.Channels.{let_go, closed_off}
 use Rattle.core_state.specs.Raises.{frees, writes_first, writes_second, raise_by, raise_of}
 use Rattle.core_state.specs.Events.{given_back}
 
@@ -97,6 +105,25 @@ module _ (seq : List ℕ → ℕ) (is : IsSequence seq) where
     | inr ne ↦ ap (λ (r : Resource). seq r.value) (asked-leaves name owner mode t other ne)
   ]
 
+  -- ---- a lock that is taken: a request, or a conversion that keeps the value block
+
+  by_kept : (writes : Bool) (old new : Resource) → MatchBool writes (BlockIs old.value true new) (BlockStays old new) → seq new.value ≡ seq old.value
+  by_kept true old new h = ap seq h.bytes_are
+  by_kept false old new h = ap seq h.bytes
+
+  converted_same : (name other : LockName) (owner : Owner) (mode : Mode) (t : List Resource) → IsSome (lock_of owner (resource_at name t).askers) → at other (converted name owner mode (resource_at name t).value t) ≡ at other t
+  converted_same name other owner mode t some = elim (same_name other name) [
+    | inl e ↦ subst (λ (x : LockName). at x (converted name owner mode (resource_at name t).value t) ≡ at x t) (sym e)
+        (by_kept (conversion_writes (mode_held owner (resource_at name t)) mode) (resource_at name t) (resource_at name (converted name owner mode (resource_at name t).value t)) (conversions-write name owner mode (resource_at name t).value t some))
+    | inr ne ↦ ap (λ (r : Resource). seq r.value) (converted-leaves name owner mode (resource_at name t).value t other ne)
+  ]
+
+  pub taken_same : (name other : LockName) (owner : Owner) (mode : Mode) (t : List Resource) → (has_lock name owner t ≡ true → IsSome (lock_of owner (resource_at name t).askers)) → at other (taken name owner mode t) ≡ at other t
+  taken_same name other owner mode t some = by_lock (has_lock name owner t) refl where
+    by_lock : (b : Bool) → has_lock name owner t ≡ b → at other (cond b (converted name owner mode (resource_at name t).value t) (asked name owner mode t)) ≡ at other t
+    by_lock true e = converted_same name other owner mode t (some e)
+    by_lock false e = asked_same name other owner mode t
+
   -- ---- a release
 
   -- the value block stays, is the one that was given, or is gone
@@ -114,6 +141,29 @@ module _ (seq : List ℕ → ℕ) (is : IsSequence seq) where
 
   released_else : (name other : LockName) (owner : Owner) (value : List ℕ) (t : List Resource) → other ≢ name → at other (released name owner value t) ≡ at other t
   released_else name other owner value t ne = ap (λ (r : Resource). seq r.value) (released-leaves name owner value t other ne)
+
+  -- one with zeros raises nothing
+  released_zeros : (name other : LockName) (owner : Owner) (t : List Resource) → at other (released name owner (replicate 16 0) t) ≤ at other t + 0
+  released_zeros name other owner t = elim (same_name other name) [
+    | inl e ↦ subst (λ (x : LockName). at x (released name owner (replicate 16 0) t) ≤ at x t + 0) (sym e) (no_more (somebody (without owner (resource_at name t).askers)) (is_writing (mode_held owner (resource_at name t)))
+        (resource_at name t) (resource_at name (released name owner (replicate 16 0) t)) (releases-write name owner (replicate 16 0) t))
+    | inr ne ↦ let e : at other (released name owner (replicate 16 0) t) ≡ at other t = released_else name other owner (replicate 16 0) t ne in omega arith
+  ] where
+    no_more : (some writes : Bool) (old new : Resource) → MatchBool some (MatchBool writes (BlockIs (replicate 16 0) true new) (BlockStays old new)) (BlockIs (replicate 16 0) true new) → seq new.value ≤ seq old.value + 0
+    no_more true true old new h = let e : seq new.value ≡ 0 = ap seq h.bytes_are ∙ is.zeros in omega arith
+    no_more true false old new h = let e : seq new.value ≡ seq old.value = ap seq h.bytes in omega arith
+    no_more false writes old new h = let e : seq new.value ≡ 0 = ap seq h.bytes_are ∙ is.zeros in omega arith
+
+  let_go_little : (n chan : ℕ) (had : Option Chan) (other : LockName) (t : List Resource) → at other (let_go n chan had t) ≤ at other t + 0
+  let_go_little n chan None other t = omega arith
+  let_go_little n chan (Some p) other t = released_zeros (A p.file.num) other (record { node = n; part = chan }) t
+
+  pub closed_off_little : (n : ℕ) (had : Option Chan) (x : Cmd) (r : Reply) (other : LockName) (t : List Resource) → at other (closed_off n had x r t) ≤ at other t + 0
+  closed_off_little n had (cmd.CloseFile chan) r other t = by_reply (is_closed r) where
+    by_reply : (b : Bool) → at other (cond b (let_go n chan had t) t) ≤ at other t + 0
+    by_reply true = let_go_little n chan had other t
+    by_reply false = omega arith
+  closed_off_little n had y r other t = omega arith
 
   -- ---- locks that go back one after the other
 

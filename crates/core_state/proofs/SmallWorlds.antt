@@ -1,10 +1,12 @@
 -- The sequences stay small over each kind of event, and so none comes to the last value of 64 bits.
-use Rattle.std.proofs.Common.{◌≡◌, ◌≤◌, ◌+◌, ◌*◌, ◌++◌, ◌-◌, ℕ, zero, suc, Bool, true, false, cond, List, [], ◌∷◌, Option, Some, None, is_some, length, refl, ap, arith}
+use Rattle.std.proofs.Common.{◌≡◌, ◌≤◌, ◌+◌, ◌*◌, ◌++◌, ◌-◌, ℕ, zero, suc, Bool, true, false, cond, List, [], ◌∷◌, Option, Some, None, IsSome, is_some, length, refl, ap, arith}
 use Rattle.std.specs.Prelude.{replicate}
 use Rattle.std.specs.List.{sum_by, count_by}
 use Rattle.std.proofs.lemmas.List.Sums.{sum_by-cons, count_by-le-length}
 use Rattle.vol_words.specs.Fields.{Block}
 use Rattle.lock_db.specs.declared.name.LockName.{LockName}
+use Rattle.lock_db.specs.declared.name.Owner.{Owner}
+use Rattle.lock_db.specs.Queues.{lock_of}
 use Rattle.lock_db.specs.declared.resource.Resource.{Resource}
 use Rattle.lock_db.specs.Resources.{fresh}
 use Rattle.lock_db.specs.Tables.{resource_at, asked}
@@ -18,18 +20,21 @@ use Rattle.plain_cat.specs.declared.cat.Cat.{Cat}
 use Rattle.vol_owners.specs.Lists.{Once}
 use Rattle.vol_parts.specs.declared.geometry.Geometry.{Geometry}
 use Rattle.node_locks.specs.Held.{system_of, names_of}
+use Rattle.node_locks.specs.Taking.{has_lock, taken}
 use Rattle.node_locks.specs.Sequences.{first_sequence, second_sequence}
 use Rattle.op_law.specs.declared.need.PlanWrite.{PlanWrite}
+use Rattle.op_law.specs.declared.seen.Chan.{Chan}
+use Rattle.plain_vol.specs.Own.{past}
 use Rattle.core_state.specs.Worlds.{NodeState, Plain, node_at, set_node}
 use Rattle.core_state.specs.Small.{is_begun, has_command, begun_count, owed, AreSmall, GoesOn, AllGoOn}
-use Rattle.core_state.specs.Goods.{IsRun, Good}
+use Rattle.core_state.specs.Channels.{closed_off}
+use Rattle.core_state.specs.Goods.{HasFewAnswers, Good}
 use Rattle.core_state.specs.Events.{given_back}
 use Rattle.core_state.specs.Mounting.{at_rest, mounted}
-use Rattle.core_state.proofs.RunKinds.{stays_closed}
 use Rattle.core_state.proofs.Keeping.{altered}
-use Rattle.core_state.proofs.SmallTables.{is_first, is_second, asked_same, given_little}
+use Rattle.core_state.proofs.SmallTables.{is_first, is_second, asked_same, taken_same, closed_off_little, given_little}
 use Rattle.core_state.proofs.SmallCounts.{sum_set, sum_more}
-use Rattle.core_state.proofs.SmallBegun.{few_answers, few_begun}
+use Rattle.core_state.proofs.SmallBegun.{few_so, few_begun}
 
 -- ---- what is owed
 
@@ -80,11 +85,20 @@ small_asked w small n s r at name mode bs = small_event w small n s r at (asked 
     (λ other. let e = asked_same second_sequence is_second name other (system_of n) mode w.locks in omega arith)
     (omega arith) (let a = owed_is s in let b = owed_is r in omega arith)
 
--- it answers, and gives back its locks, each on a name of its own
-pub small_answered : (w : Plain) → AreSmall w → (n : ℕ) (s r : NodeState) → node_at w.nodes n ≡ Some s → (g : Geometry) (ws : List PlanWrite) (ls : List (LockName × Mode)) → Once (names_of ls) → (x : Cmd) (reply : Reply) (bs : List Block)
-    → AreSmall (altered w (given_back g n ws ls w.locks) bs (set_node w.nodes n r) (w.history ++ Done n x reply ∷ []))
-small_answered w small n s r at g ws ls once x reply bs = small_event w small n s r at (given_back g n ws ls w.locks) bs (w.history ++ Done n x reply ∷ []) 2 1
-    (given_little first_sequence is_first g n ws ls w.locks once) (given_little second_sequence is_second g n ws ls w.locks once)
+-- a part of it takes a lock, of which no conversion waits where it has one
+pub small_taken : (w : Plain) → AreSmall w → (n : ℕ) (s r : NodeState) → node_at w.nodes n ≡ Some s → (name : LockName) (owner : Owner) (mode : Mode) (bs : List Block)
+    → (has_lock name owner w.locks ≡ true → IsSome (lock_of owner (resource_at name w.locks).askers)) → AreSmall (altered w (taken name owner mode w.locks) bs (set_node w.nodes n r) w.history)
+small_taken w small n s r at name owner mode bs some = small_event w small n s r at (taken name owner mode w.locks) bs w.history 0 0
+    (λ other. let e = taken_same first_sequence is_first name other owner mode w.locks some in omega arith)
+    (λ other. let e = taken_same second_sequence is_second name other owner mode w.locks some in omega arith)
+    (omega arith) (let a = owed_is s in let b = owed_is r in omega arith)
+
+-- it answers, and gives back its locks, each on a name of its own, and then that of its channel
+pub small_answered : (w : Plain) → AreSmall w → (n : ℕ) (s r : NodeState) → node_at w.nodes n ≡ Some s → (g : Geometry) (ws : List PlanWrite) (ls : List (LockName × Mode)) → Once (names_of ls) → (had : Option Chan) (x : Cmd) (reply : Reply) (bs : List Block)
+    → AreSmall (altered w (closed_off n had x reply (given_back g n ws ls w.locks)) bs (set_node w.nodes n r) (w.history ++ Done n x reply ∷ []))
+small_answered w small n s r at g ws ls once had x reply bs = small_event w small n s r at (closed_off n had x reply (given_back g n ws ls w.locks)) bs (w.history ++ Done n x reply ∷ []) 2 1
+    (λ other. let a = closed_off_little first_sequence is_first n had x reply other (given_back g n ws ls w.locks) in let b = given_little first_sequence is_first g n ws ls w.locks once other in omega arith)
+    (λ other. let a = closed_off_little second_sequence is_second n had x reply other (given_back g n ws ls w.locks) in let b = given_little second_sequence is_second g n ws ls w.locks once other in omega arith)
     (sum_more (λ e. one (is_begun e)) w.history (Done n x reply)) (let a = owed_is s in let b = owed_is r in omega arith)
 
 -- ---- a mounted world
@@ -116,6 +130,6 @@ all_go_on w good few lines = record {
 } where
   begun : begun_count w ≤ 4096 * 4105 + 8
   begun =
-      let a = few_begun w.script w.history w.opening good.running.cat good.own good.running.replayed lines (few_answers IsRun stays_closed w.script w.history good.runs good.own) in
+      let a = few_begun w.script w.history w.opening good.running.cat good.own good.running.replayed lines (λ n. few_so w.script n (past n w.history) (good.few n)) in
       let b : count_by has_command w.nodes ≤ length w.nodes = count_by-le-length has_command w.nodes in
       omega arith

@@ -25,19 +25,21 @@ use Rattle.op_law.specs.declared.seen.Seen.{Seen}
 use Rattle.op_law.specs.Needs.{IsNext}
 use Rattle.op_law.specs.Fits.{things}
 use Rattle.op_law.specs.Going.{with_block, with_lock}
-use Rattle.op_law.specs.Knows.{wanted, wants_number, is_new_number, is_short, knows}
+use Rattle.op_law.specs.Knows.{channel_of, has_channel, wanted, wants_number, is_new_number, is_short, knows}
 use Rattle.op_law.specs.Laws.{held_in, takes_lock, ComesInTurn}
 use Rattle.node_space.specs.Taking.{looked, out_after}
 use Rattle.node_space.specs.Answering.{blocks_of}
 use Rattle.node_space.proofs.Shortage.{shortage_is_exact, command_is_short}
 use Rattle.core_state.specs.declared.space.SpaceRun.{SpaceRun}
 use Rattle.core_state.specs.Worlds.{NodeState, Plain, node_at}
-use Rattle.core_state.specs.Asks.{granted_ask, lock_of_ask, with_ask}
+use Rattle.core_state.specs.Asks.{own_ask, lock_of_ask, with_ask}
 use Rattle.core_state.specs.Searches.{unwritten, things_of, stock_after, wanted_by, HasNotSearched, IsOfNumber, HasClaimed, IsRefused, Spaces, Off, Looking, Taking, Taken, Refused}
 use Rattle.core_state.specs.Goods.{under_with, under_by, nodes_under, IsAt, HasCommand, Good, held_by}
 use Rattle.core_state.specs.Events.{has_asked}
 use Rattle.core_state.proofs.Holding.{is_in_held, held_grows, held_named}
-use Rattle.core_state.proofs.RunKinds.{run_knows}
+use Rattle.core_state.proofs.Knowing.{knows_all}
+use Rattle.core_state.proofs.Channels.{opens_hold, channel_known}
+use Rattle.core_state.specs.Channels.{channel_now}
 use Rattle.core_state.proofs.Running.{asked_held, all_asked, at_locks, under_here, are_sole}
 use Rattle.core_state.proofs.Seeking.{all_left, part_stands}
 
@@ -354,7 +356,7 @@ record HasNothing (u : UnderWay) : Type 0 where
   took : u.took ≡ nothing
   stock : u.stock ≡ nothing
 
-module _ (w : Plain) (good : Good w) (n : ℕ) (s : NodeState) (at : node_at w.nodes n ≡ Some s) (x : Cmd) (now : IsAt w n s x) (here : nodes_under w.locks w.nodes n ≡ at_locks n s x (held_by w.locks n s))
+module _ (w : Plain) (good : Good w) (n : ℕ) (s : NodeState) (at : node_at w.nodes n ≡ Some s) (x : Cmd) (has : s.cmd ≡ Some x) (now : IsAt w n s x) (here : nodes_under w.locks w.nodes n ≡ at_locks n s x (held_by w.locks n s))
     (drive : IsUnder s.seen.geometry good.running.cat (nodes_under w.locks w.nodes) w.blocks) (free : waits_at w.locks n s.asked ≡ false) where
   sole : AreSole (nodes_under w.locks w.nodes)
   sole = are_sole w.locks w.nodes good.locked.0 good.locked.1
@@ -371,7 +373,7 @@ module _ (w : Plain) (good : Good w) (n : ℕ) (s : NodeState) (at : node_at w.n
         let more : Has (held_in PW (held_by w.locks m q)) V = held_grows PW (held_locks w.locks m q.asked) (held_by w.locks m q) V (λ l k. asked_held w.locks m q l k) h in
         ne (sole.writers m n V (subst (λ (u : UnderWay). Has u.write V) (sym i) more) holds)
 
-    by_search : (q : NodeState) (y : Cmd) → node_at w.nodes m ≡ Some q → q.cmd ≡ Some y → Spaces w.locks m y (granted_ask q.tried q.plan) q.asked q.run q.seen → HasNothing (under_with w.locks m q (Some y))
+    by_search : (q : NodeState) (y : Cmd) → node_at w.nodes m ≡ Some q → q.cmd ≡ Some y → Spaces w.locks m y (own_ask q.tried q.plan) q.asked q.run q.seen → HasNothing (under_with w.locks m q (Some y))
     by_search q y e c (Off h) = record { took = λ i. things (h.space.clusters i) (h.space.number i); stock = no_stock q.run.writes q.run.made h.writes h.made }
     by_search q y e c (Looking h) = record { took = λ i. things (h.needs.none.clusters i) (h.needs.none.number i); stock = no_stock q.run.writes q.run.made h.writes h.made }
     by_search q y e c (Taking h) = absurd (alone q y e c h.found.holds)
@@ -386,7 +388,7 @@ module _ (w : Plain) (good : Good w) (n : ℕ) (s : NodeState) (at : node_at w.n
     by_node None e = record { took = refl; stock = refl }
     by_node (Some q) e = by_cmd q e q.cmd refl (good.nodes m q e).command
 
-  nobody_outside : (r : IsRefused w.locks n x (granted_ask s.tried s.plan) s.asked s.run s.seen) → (m : ℕ) → Outs m drive.own nothing nothing
+  nobody_outside : (r : IsRefused w.locks n x (own_ask s.tried s.plan) s.asked s.run s.seen) → (m : ℕ) → Outs m drive.own nothing nothing
   nobody_outside r m = elim (same_or_not m n) [ inl e ↦ subst (λ (k : ℕ). Outs k drive.own nothing nothing) (sym e) its | inr ne ↦ other ne ] where
     its : Outs n drive.own nothing nothing
     its =
@@ -397,7 +399,7 @@ module _ (w : Plain) (good : Good w) (n : ℕ) (s : NodeState) (at : node_at w.n
     other : m ≢ n → Outs m drive.own nothing nothing
     other ne =
         let mine : Has (held_in PW (held_by w.locks n s)) V
-        = held_grows PW s.asked (held_by w.locks n s) V (λ l k. all_asked w.locks n s l free k) (holds_all x (granted_ask s.tried s.plan) s.asked s.run s.seen r.claimed) in
+        = held_grows PW s.asked (held_by w.locks n s) V (λ l k. all_asked w.locks n s l free k) (holds_all x (own_ask s.tried s.plan) s.asked s.run s.seen r.claimed) in
         let h = others_nothing mine m ne in
         subst (λ (k : Things). Outs m drive.own nothing k) h.stock (subst (λ (k : Things). Outs m drive.own k (nodes_under w.locks w.nodes m).stock) h.took (drive.outs m))
 
@@ -408,7 +410,7 @@ module _ (w : Plain) (good : Good w) (n : ℕ) (s : NodeState) (at : node_at w.n
       let left = ((stands_joined drive.base (unwritten (take s.run.made s.run.writes) s.run.looked) s.seen.blocks).0 both).0 in
       part_stands drive.base (unwritten (take s.run.made s.run.writes) s.run.looked) s.run.looked (λ y h. all_left s.run.writes s.run.made s.run.looked y none h) left
 
-  by_search : Spaces w.locks n x (granted_ask s.tried s.plan) s.asked s.run s.seen → is_short good.running.cat (wanted s.seen x) s.seen.short ≡ true
+  by_search : Spaces w.locks n x (own_ask s.tried s.plan) s.asked s.run s.seen → is_short good.running.cat (wanted s.seen x) s.seen.short ≡ true
   by_search (Off h) = ap (is_short good.running.cat (wanted s.seen x)) h.space.short
   by_search (Looking h) = ap (is_short good.running.cat (wanted s.seen x)) h.needs.none.short
   by_search (Taking h) = ap (is_short good.running.cat (wanted s.seen x)) h.needs.none.short
@@ -420,4 +422,7 @@ module _ (w : Plain) (good : Good w) (n : ℕ) (s : NodeState) (at : node_at w.n
       ∙ command_is_short good.running.cat (wanted s.seen x) h.why exact
 
   pub is_known : knows n x s.seen good.running.cat ≡ true
-  is_known = run_knows x now.runs n s.seen good.running.cat good.running.accounted good.running.opens.held (is_above w.locks n x (granted_ask s.tried s.plan) s.asked s.run s.seen now.search) (by_search now.search)
+  is_known = knows_all x n s.seen good.running.cat good.running.accounted (opens_hold good.running.cat good.running.named) channel
+      (is_above w.locks n x (own_ask s.tried s.plan) s.asked s.run s.seen now.search) (by_search now.search) where
+        channel : has_channel good.running.cat n (channel_of x) s.seen.channel ≡ true
+        channel = ap (has_channel good.running.cat n (channel_of x)) ((good.nodes n s at).channel ∙ ap (channel_now s.opens) has) ∙ channel_known good.running.cat n s.opens x now.form (good.running.opened n s at)

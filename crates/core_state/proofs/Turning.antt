@@ -45,7 +45,7 @@ use Rattle.op_law.specs.declared.seen.Chan.{Chan}
 use Rattle.core_state.specs.Channels.{channel_now, HasChannels}
 use Rattle.core_state.specs.Stores.{HasStore}
 use Rattle.core_state.specs.Worlds.{Stock, NodeState, Plain, node_at, set_node, rows_of, rows_in, rows_at}
-use Rattle.core_state.specs.Asks.{writes_by, writes_now, granted_ask, knows_now}
+use Rattle.core_state.specs.Asks.{writes_by, writes_now, granted_ask, own_ask, knows_now}
 use Rattle.core_state.specs.Searches.{unwritten, stock_after, Spaces}
 use Rattle.core_state.specs.Waiting.{WaitsFor, ItsLock}
 use Rattle.core_state.specs.Goods.{under_with, nodes_under, IsAtPlan, IsAt, HasCommand, IsNode, Good, held_by}
@@ -55,7 +55,9 @@ use Rattle.core_state.proofs.Driving.{law_grows}
 use Rattle.core_state.proofs.Running.{all_asked, at_locks, under_now, under_here, are_sole}
 use Rattle.core_state.proofs.Taking.{its_outs, its_seen, its_guards, becomes, is_committed, decides, writes}
 use Rattle.core_state.proofs.SmallWorlds.{small_set, small_asked}
-use Rattle.core_state.proofs.Keeping.{altered, rebuilt, held_set, held_same, loses_nothing, asked_alone}
+use Rattle.core_state.proofs.Switching.{AsksAlike}
+use Rattle.core_state.specs.Opens.{open_with, open_now}
+use Rattle.core_state.proofs.Keeping.{altered, still_driven, rebuilt, held_set, held_same, loses_nothing, asked_alone}
 use Rattle.core_state.proofs.Beginning.{alone}
 use Rattle.core_state.proofs.Opens.{opens_asked}
 use Rattle.core_state.proofs.Standing.{locks_within, new_to_all, block_seen, comes_behind, lock_seen, is_known}
@@ -175,7 +177,7 @@ module _ (w : Plain) (good : Good w) (n : ℕ) (s : NodeState) (at : node_at w.n
 
   -- what it takes for granted of the catalogue is so
   pub known : knows n x s.seen good.running.cat ≡ true
-  known = is_known w good n s at x under_command here drive free
+  known = is_known w good n s at x cmd under_command here drive free
 
   -- what it has seen stands in the committed blocks, which spell the catalogue
   pub seen_on : IsSeenOn n x s.seen drive.base drive.own good.running.cat
@@ -194,7 +196,7 @@ module _ (w : Plain) (good : Good w) (n : ℕ) (s : NodeState) (at : node_at w.n
   -- the node with another state, and the same command
   pub is_node : (t : List Resource) (bs : List Block) (r : NodeState) → rest_of r ≡ rest_of s → r.seen.geometry ≡ s.seen.geometry → r.seen.channel ≡ s.seen.channel
       → r.cmd ≡ s.cmd → waits_at t n s.kept ≡ false → HasSeen x r.seen → ((name : LockName) → Has (names_of r.seen.locks) name → takes_lock x name ≡ true) → IsAtPlan x (waits_at t n r.asked) r.seen r.done r.tried r.plan
-      → Spaces t n x (granted_ask r.tried r.plan) r.asked r.run r.seen → (waits_at t n r.asked ≡ true → WaitsFor x r.asked r.seen) → IsNode (altered w t bs (set_node w.nodes n r) w.history) n r
+      → Spaces t n x (own_ask r.tried r.plan) r.asked r.run r.seen → (waits_at t n r.asked ≡ true → WaitsFor x r.asked r.seen) → IsNode (altered w t bs (set_node w.nodes n r) w.history) n r
   is_node t bs r same g c o rests seen own plan search waits = record {
     past = ap (λ (k : Rest). k.past) same ∙ me.past;
     geometry = g ∙ me.geometry;
@@ -203,7 +205,7 @@ module _ (w : Plain) (good : Good w) (n : ℕ) (s : NodeState) (at : node_at w.n
     store = subst (λ (k : Rest). HasStore k.kept k.back k.stock k.cache) (sym same) me.store;
     rests = subst (λ (k : Rest). waits_at t n k.kept ≡ false) (sym same) rests;
     command = subst (HasCommand (altered w t bs (set_node w.nodes n r) w.history) n r) (sym (o ∙ cmd))
-        (record { next = under_command.next; runs = under_command.runs; lawful = under_command.lawful; seen = seen; own = own; plan = plan; search = search; waits = waits });
+        (record { next = under_command.next; form = under_command.form; lawful = under_command.lawful; seen = seen; own = own; plan = plan; search = search; waits = waits });
     over = λ e. absurd (busy (me.over (sym (ap (λ (k : Rest). k.over) same) ∙ e)).0.cmd);
     gone = λ e. absurd (busy (me.gone (sym (ap (λ (k : Rest). k.past.dead) same) ∙ e)).cmd);
   } where
@@ -222,17 +224,17 @@ module _ (w : Plain) (good : Good w) (n : ℕ) (s : NodeState) (at : node_at w.n
 
   -- its search stands without an ask, and so it will
   pub search_now : s.plan ≡ None → Spaces w.locks n x None s.asked s.run s.seen
-  search_now no_plan = subst (λ (o : Option Plan). Spaces w.locks n x (granted_ask s.tried o) s.asked s.run s.seen) no_plan under_command.search
+  search_now no_plan = subst (λ (o : Option Plan). Spaces w.locks n x (own_ask s.tried o) s.asked s.run s.seen) no_plan under_command.search
 
-  search_then : s.plan ≡ None → (t : List Resource) (asked : List (LockName × Mode)) (seen : Seen) → Spaces t n x None asked s.run seen → Spaces t n x (granted_ask s.tried s.plan) asked s.run seen
-  search_then no_plan t asked seen h = subst (λ (o : Option Plan). Spaces t n x (granted_ask s.tried o) asked s.run seen) (sym no_plan) h
+  search_then : s.plan ≡ None → (t : List Resource) (asked : List (LockName × Mode)) (seen : Seen) → Spaces t n x None asked s.run seen → Spaces t n x (own_ask s.tried s.plan) asked s.run seen
+  search_then no_plan t asked seen h = subst (λ (o : Option Plan). Spaces t n x (own_ask s.tried o) asked s.run seen) (sym no_plan) h
 
   pub no_writes_now : s.plan ≡ None → (at_locks n s x (held_by w.locks n s)).plan ≡ []
   no_writes_now no_plan = ap (λ o. map planned (writes_now s.tried o)) no_plan
 
   -- it holds the locks of its command
   holds_its : (l : LockName × Mode) → Has s.seen.locks l → Has (held_by w.locks n s) l
-  holds_its l h = all_asked w.locks n s l free (locks_within w.locks n x (granted_ask s.tried s.plan) s.asked s.run s.seen under_command.search l h)
+  holds_its l h = all_asked w.locks n s l free (locks_within w.locks n x (own_ask s.tried s.plan) s.asked s.run s.seen under_command.search l h)
 
   pub reads_more : (name : LockName) → Has (held_in PR s.seen.locks) name → Has (held_in PR (held_by w.locks n s)) name
   reads_more name h = held_grows PR s.seen.locks (held_by w.locks n s) name holds_its h
@@ -254,12 +256,12 @@ module _ (w : Plain) (good : Good w) (n : ℕ) (s : NodeState) (at : node_at w.n
   kept_rests name mode new = ((asks_new name mode new).rest 0 s.kept (λ e. absurd (omega arith)) refl).waits ∙ me.rests
 
   -- the world with the lock asked for, where the drive is under way with it
-  pub asked_then : (name : LockName) (mode : Mode) → (Has (names_of s.asked) name → ⊥) → (r : NodeState) → r.asked ≡ s.asked ++ (name, mode) ∷ [] → rows_of r ≡ put_in 1 (name, mode) (rows_of s)
+  pub asked_then : (name : LockName) (mode : Mode) → (Has (names_of s.asked) name → ⊥) → (r : NodeState) → AsksAlike (granted_ask s.tried s.plan) (granted_ask r.tried r.plan) → r.opens ≡ s.opens → r.asked ≡ s.asked ++ (name, mode) ∷ [] → rows_of r ≡ put_in 1 (name, mode) (rows_of s)
       → (((l : LockName × Mode) → Has (held_by w.locks n s) l → Has (held_by (asked name (system_of n) mode w.locks) n r) l)
       → IsUnder w.geometry good.running.cat (changed (nodes_under w.locks w.nodes) n (under_with (asked name (system_of n) mode w.locks) n r r.cmd)) w.blocks)
       → (((l : LockName × Mode) → Has (held_locks w.locks n s.asked) l → Has (held_locks (asked name (system_of n) mode w.locks) n r.asked) l) → IsNode (altered w (asked name (system_of n) mode w.locks) w.blocks (set_node w.nodes n r) w.history) n r)
       → Good (altered w (asked name (system_of n) mode w.locks) w.blocks (set_node w.nodes n r) w.history)
-  asked_then name mode new r more rows under node =
+  asked_then name mode new r alike same_opens more rows under node =
       let t : List Resource = asked name (system_of n) mode w.locks in
       let mine : HoldsItsLocks w.locks n (rows_of s) = subst (λ (rs : List Row). HoldsItsLocks w.locks n rs) (ap rows_in at) (good.locked.1 n) in
       let table : IsTable t = IsTable-asked name (system_of n) mode w.locks good.locked.0 (mine.no_other name (λ h. new (asked_alone s me.store name h))) in
@@ -271,26 +273,19 @@ module _ (w : Plain) (good : Good w) (n : ℕ) (s : NodeState) (at : node_at w.n
       subst (λ (ls : List (LockName × Mode)). Has (held_locks t n ls) l) (sym more) (subst (λ (ls : List (LockName × Mode)). Has ls l) (sym after.last) (has_either s.asked (name, mode) l h (goes_at_once (system_of n) mode (resource_at name w.locks).askers))) in
       let still : (m : ℕ) (q : NodeState) → m ≢ n → (ls : Row) → StandsStill w.locks t m ls = λ m q ne ls. after.others m ls ne in
       rebuilt w good n s r at t w.blocks w.history
-      (record {
-        cat = good.running.cat;
-        replayed = good.running.replayed;
-        drive = under_now w.geometry good.running.cat w.locks t w.nodes n s r w.blocks at
-            (λ m q ne e. rows_stand_still w.locks t m (rows_of q) (λ ls i. still m q ne ls)) (under all);
-        accounted = good.running.accounted;
-        system = good.running.system;
-        opens = opens_asked name n mode w.locks good.running.cat good.running.opens;
-        same = refl;
-      })
-      (table, held_set t w.nodes n s r at held) good.own (small_asked w good.small n s r at name mode w.blocks) (λ m ne. refl)
+      (still_driven w good n s r at t w.blocks alike same_opens
+      (under_now w.geometry good.running.cat w.locks t w.nodes n s r w.blocks at (λ m q ne e. rows_stand_still w.locks t m (rows_of q) (λ ls i. still m q ne ls)) (under all))
+      (opens_asked name n mode w.locks (open_now good.running.cat w.nodes) good.running.opens))
+      (table, held_set t w.nodes n s r at held) good.own (small_asked w good.small n s r at name mode w.blocks) (good.few n) (λ m ne. refl)
       (λ m q ne e ls i. goes_still w.locks t m ls (still m q ne ls))
       (node (λ l h. grows l (subst (λ (ls : List (LockName × Mode)). Has ls l) all_here h)))
 
   -- it does so before it decides
-  pub locked_keep : s.plan ≡ None → (name : LockName) (mode : Mode) → (Has (names_of s.asked) name → ⊥) → (r : NodeState) → r.asked ≡ s.asked ++ (name, mode) ∷ [] → rows_of r ≡ put_in 1 (name, mode) (rows_of s) → r.cmd ≡ Some x
+  pub locked_keep : s.plan ≡ None → (name : LockName) (mode : Mode) → (Has (names_of s.asked) name → ⊥) → (r : NodeState) → AsksAlike (granted_ask s.tried s.plan) (granted_ask r.tried r.plan) → r.opens ≡ s.opens → r.asked ≡ s.asked ++ (name, mode) ∷ [] → rows_of r ≡ put_in 1 (name, mode) (rows_of s) → r.cmd ≡ Some x
       → ((ls : List (LockName × Mode)) → at_locks n s x ls ≡ at_locks n r x ls)
       → (((l : LockName × Mode) → Has (held_locks w.locks n s.asked) l → Has (held_locks (asked name (system_of n) mode w.locks) n r.asked) l) → IsNode (altered w (asked name (system_of n) mode w.locks) w.blocks (set_node w.nodes n r) w.history) n r)
       → Good (altered w (asked name (system_of n) mode w.locks) w.blocks (set_node w.nodes n r) w.history)
-  locked_keep no_plan name mode new r more rows cmd_is alike node = asked_then name mode new r more rows under node where
+  locked_keep no_plan name mode new r asks same_opens more rows cmd_is alike node = asked_then name mode new r asks same_opens more rows under node where
     t : List Resource
     t = asked name (system_of n) mode w.locks
 
@@ -309,7 +304,7 @@ module _ (w : Plain) (good : Good w) (n : ℕ) (s : NodeState) (at : node_at w.n
       let t : List Resource = asked name (system_of n) mode w.locks in
       let r : NodeState = turned (locking s name mode) in
       let may = may_need (need.Lock name mode) is in
-      locked_keep no_plan name mode (new_to_all w.locks n x s.asked s.run s.seen (search_now no_plan) name may.own may.new) r refl refl cmd (λ ls. refl)
+      locked_keep no_plan name mode (new_to_all w.locks n x s.asked s.run s.seen (search_now no_plan) name may.own may.new) r (λ part o low. refl) refl refl refl cmd (λ ls. refl)
       (λ grows. is_node t w.blocks r refl refl refl refl (kept_rests name mode (new_to_all w.locks n x s.asked s.run s.seen (search_now no_plan) name may.own may.new)) (goes.granted s.seen name mode under_command.seen is)
       (names_of_more s.seen.locks (name, mode) (λ m. takes_lock x m ≡ true) under_command.own may.own)
       (subst (IsAtPlan x (waits_at t n r.asked) r.seen s.done s.tried) (sym no_plan) (not_yet no_plan))
@@ -338,7 +333,7 @@ module _ (w : Plain) (good : Good w) (n : ℕ) (s : NodeState) (at : node_at w.n
         ]
       ]) in
       let there : at_locks n r x (held_by w.locks n s) ≡ under_with w.locks n r r.cmd = ap (under_with w.locks n r) (sym cmd) in
-      alone w good n s at r refl (subst (λ (u : UnderWay). IsUnder w.geometry good.running.cat (changed (nodes_under w.locks w.nodes) n u) w.blocks) there (back (at_locks n r x (held_by w.locks n s)) w.blocks v))
+      alone w good n s at r refl (λ part o low. refl) refl (subst (λ (u : UnderWay). IsUnder w.geometry good.running.cat (changed (nodes_under w.locks w.nodes) n u) w.blocks) there (back (at_locks n r x (held_by w.locks n s)) w.blocks v))
       (is_node w.locks w.blocks r refl refl refl refl me.rests seen under_command.own (subst (IsAtPlan x (waits_at w.locks n s.asked) r.seen s.done s.tried) (sym no_plan) (not_yet no_plan))
       (search_then no_plan w.locks s.asked r.seen (block_seen w.locks n x s.asked s.run s.seen lbn b never (search_now no_plan))) (no_wait r.seen))
 
@@ -357,7 +352,7 @@ module _ (w : Plain) (good : Good w) (n : ℕ) (s : NodeState) (at : node_at w.n
       (first_guarded n x s.seen p p.ask law base own good.running.cat (stock_after s.run.writes s.run.made) spelt known ((stands_joined base left s.seen.blocks).0 stands).1 outs l t)) in
       let there : record u { plan = map planned ws } ≡ under_with w.locks n r r.cmd
       = (λ i. record (at_locks n r x (held_by w.locks n s)) { done = not_yet no_plan i }) ∙ ap (under_with w.locks n r) (sym cmd) in
-      alone w good n s at r refl (subst (λ (u : UnderWay). IsUnder w.geometry good.running.cat (changed (nodes_under w.locks w.nodes) n u) w.blocks) there (back (record u { plan = map planned ws }) w.blocks v))
+      alone w good n s at r refl (λ part o low. sym (ap (λ q. open_with part (granted_ask s.tried q) o) no_plan)) refl (subst (λ (u : UnderWay). IsUnder w.geometry good.running.cat (changed (nodes_under w.locks w.nodes) n u) w.blocks) there (back (record u { plan = map planned ws }) w.blocks v))
       (is_node w.locks w.blocks r refl refl refl refl me.rests under_command.seen under_command.own (is, free, omega arith) (search_now no_plan) (no_wait s.seen))
 
   -- what it has decided on
@@ -375,16 +370,9 @@ module _ (w : Plain) (good : Good w) (n : ℕ) (s : NodeState) (at : node_at w.n
       let u = writes w.geometry good.running.cat (nodes_under w.locks w.nodes) w.blocks n (at_locks n s x (held_by w.locks n s)) here good.running.drive my_sole (planned v) planned_next in
       let there : at_locks n r x (held_by w.locks n s) ≡ under_with w.locks n r s.cmd = ap (under_with w.locks n r) (sym cmd) in
       rebuilt w good n s r at w.locks bs w.history
-      (record {
-        cat = good.running.cat;
-        replayed = good.running.replayed;
-        drive = under_now w.geometry good.running.cat w.locks w.locks w.nodes n s r bs at (λ m q ne e. refl)
-            (subst (λ (u : UnderWay). IsUnder w.geometry good.running.cat (changed (nodes_under w.locks w.nodes) n u) bs) there u);
-        accounted = good.running.accounted;
-        system = good.running.system;
-        opens = good.running.opens;
-        same = refl;
-      })
-      (good.locked.0, held_same w.locks w.nodes n s r at refl good.locked.1) good.own (small_set w good.small n s r at bs) (λ m ne. refl) (λ m q ne e. loses_nothing w.locks m q)
+      (still_driven w good n s r at w.locks bs (λ part o low. refl) refl
+      (under_now w.geometry good.running.cat w.locks w.locks w.nodes n s r bs at (λ m q ne e. refl) (subst (λ (u : UnderWay). IsUnder w.geometry good.running.cat (changed (nodes_under w.locks w.nodes) n u) bs) there u))
+      good.running.opens)
+      (good.locked.0, held_same w.locks w.nodes n s r at refl good.locked.1) good.own (small_set w good.small n s r at bs) (good.few n) (λ m ne. refl) (λ m q ne e. loses_nothing w.locks m q)
       (is_node w.locks bs r refl refl refl refl me.rests under_command.seen under_command.own
       (subst (IsAtPlan x (waits_at w.locks n s.asked) s.seen (s.done + 1) s.tried) (sym plan) (made.0, made.1, (let lt : s.done < length (writes_by p.ask s.tried p.writes) = slice_get_within (writes_by p.ask s.tried p.writes) s.done v next in omega arith))) under_command.search (no_wait s.seen))

@@ -23,7 +23,8 @@ use Rattle.node_space.specs.declared.outcome.Search.{Search as Outcome}
 use Rattle.node_space.specs.declared.outcome.Search.TheVariants as search
 use Rattle.node_space.specs.Answering.{answer, blocks_of}
 use Rattle.core_state.specs.Worlds.{NodeState, Plain, node_at, with_node, current, rows_of}
-use Rattle.core_state.specs.Asks.{writes_by}
+use Rattle.core_state.specs.Asks.{writes_by, granted_ask}
+use Rattle.core_state.proofs.Switching.{AsksAlike}
 use Rattle.core_state.specs.Goods.{under_with, nodes_under, HasCommand, IsNode, Good}
 use Rattle.core_state.specs.Event as event
 use Rattle.core_state.specs.Events.{has_asked, block_at, by_answer, by_writes, by_search, by_need, by_write, by_plan, by_command, is_out, event_of, event_now, prepared_by, prepared, readied_at, happens, happen_at, happen, after_turn, turned, leaving}
@@ -41,14 +42,14 @@ module _ (w : Plain) (good : Good w) (n : ℕ) (s : NodeState) (at : node_at w.n
   mine : IsNode w n s
   mine = good.nodes n s at
 
-  alike : (r : NodeState) → rows_of r ≡ rows_of s → under_with w.locks n s s.cmd ≡ under_with w.locks n r r.cmd → IsNode (with_node w n r) n r → Good (with_node w n r)
-  alike r same under is = alone w good n s at r same drive is where
+  alike : (r : NodeState) → rows_of r ≡ rows_of s → AsksAlike (granted_ask s.tried s.plan) (granted_ask r.tried r.plan) → r.opens ≡ s.opens → under_with w.locks n s s.cmd ≡ under_with w.locks n r r.cmd → IsNode (with_node w n r) n r → Good (with_node w n r)
+  alike r same asks opens under is = alone w good n s at r same asks opens drive is where
     drive : IsUnder w.geometry good.running.cat (changed (nodes_under w.locks w.nodes) n (under_with w.locks n r r.cmd)) w.blocks
     drive = subst (λ (v : UnderWay). IsUnder w.geometry good.running.cat (changed (nodes_under w.locks w.nodes) n v) w.blocks) (under_here w.locks w.nodes n s at ∙ under)
         (nodes_alike w.geometry good.running.cat (nodes_under w.locks w.nodes) (changed (nodes_under w.locks w.nodes) n (nodes_under w.locks w.nodes n)) w.blocks (λ m. sym (each (λ (k : ℕ) (v : UnderWay). v ≡ nodes_under w.locks w.nodes k) (nodes_under w.locks w.nodes) n (nodes_under w.locks w.nodes n) refl (λ k ne. refl) m)) good.running.drive)
 
   turned_keeps : Good (with_node w n (turned s))
-  turned_keeps = alike (turned s) refl (by_cmd s.cmd) (record {
+  turned_keeps = alike (turned s) refl (λ part o low. refl) refl (by_cmd s.cmd) (record {
     past = mine.past;
     geometry = mine.geometry;
     channels = mine.channels;
@@ -64,7 +65,7 @@ module _ (w : Plain) (good : Good w) (n : ℕ) (s : NodeState) (at : node_at w.n
     by_cmd (Some x) = refl
 
   leaves_keep : s.cmd ≡ None → next_command w.script n w.history ≡ None → Good (with_node w n (turned (leaving s)))
-  leaves_keep none over = alike (turned (leaving s)) refl (by_cmd s.cmd) (record {
+  leaves_keep none over = alike (turned (leaving s)) refl (λ part o low. refl) refl (by_cmd s.cmd) (record {
     past = mine.past;
     geometry = mine.geometry;
     channels = mine.channels;

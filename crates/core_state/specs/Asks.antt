@@ -1,6 +1,7 @@
 -- The ask of a plan: what a command writes, holds and knows by it.
-use Rattle.std.specs.Prelude.{◌&&◌, ◌++◌, take, ℕ, Bool, true, false, List, [], ◌∷◌, Option, Some, None}
+use Rattle.std.specs.Prelude.{◌==◌, ◌&&◌, ◌++◌, take, ℕ, Bool, true, false, List, [], ◌∷◌, Option, Some, None, if◌then◌else◌}
 use Rattle.lock_db.specs.declared.name.LockName.{LockName}
+use Rattle.lock_db.specs.declared.name.Owner.{Owner}
 use Rattle.lock_db.specs.declared.name.LockName.TheVariants.{A}
 use Rattle.plain_cat.specs.declared.mode.Mode.{Mode}
 use Rattle.plain_cat.specs.declared.command.Cmd.{Cmd}
@@ -37,6 +38,19 @@ granted_by false ask = None
 abbrev pub granted_ask : Bool → Option Plan → Option Ask
 granted_ask tried None = None
 granted_ask tried (Some p) = granted_by tried p.ask
+
+-- the part of node n that asks: the channel of the ask, or part 0, which is the file system
+abbrev pub asker_of : ℕ → Ask → Owner
+asker_of n a = record { node = n; part = a.chan }
+
+-- an ask, where it is by the file system
+abbrev pub own_of : Option Ask → Option Ask
+own_of None = None
+own_of (Some a) = if a.chan == 0 then Some a else None
+
+-- the ask of a plan, where it was granted to the file system
+abbrev pub own_ask : Bool → Option Plan → Option Ask
+own_ask tried plan = own_of (granted_ask tried plan)
 
 -- the lock that an ask is for: that of who has the file open
 abbrev pub lock_of_ask : Ask → LockName × Mode

@@ -6,7 +6,6 @@ use Rattle.lock_db.specs.declared.name.LockName.{LockName}
 use Rattle.lock_db.specs.declared.name.LockName.TheVariants.{A, V}
 use Rattle.lock_db.specs.declared.resource.Resource.{Resource}
 use Rattle.lock_db.specs.Names.{is_same}
-use Rattle.lock_db.specs.Resources.{goes_at_once}
 use Rattle.lock_db.specs.Tables.{resource_at, asked, released}
 use Rattle.plain_cat.specs.declared.mode.Mode.{Mode}
 use Rattle.plain_cat.specs.declared.mode.Mode.TheVariants.{PW}
@@ -16,6 +15,7 @@ use Rattle.plain_cat.specs.declared.history.Entry.TheVariants.{Done}
 use Rattle.plain_vol.specs.Own.{after_answer, next_command}
 use Rattle.vol_parts.specs.declared.geometry.Geometry.{Geometry}
 use Rattle.node_locks.specs.Held.{system_of, waits_at}
+use Rattle.node_locks.specs.Taking.{taken, taken_now}
 use Rattle.node_locks.specs.Sequences.{raised_block}
 use Rattle.op_law.specs.declared.need.Need.{Need}
 use Rattle.op_law.specs.declared.need.Need.TheVariants as need
@@ -34,8 +34,8 @@ use Rattle.core_state.specs.declared.space.Phase.TheVariants as phase
 use Rattle.core_state.specs.declared.space.SpaceRun.{SpaceRun}
 use Rattle.core_state.specs.Runs.{no_run}
 use Rattle.core_state.specs.Worlds.{NodeState, Plain, node_at, with_node}
-use Rattle.core_state.specs.Channels.{channel_seen}
-use Rattle.core_state.specs.Asks.{writes_by, writes_now, lock_of_ask}
+use Rattle.core_state.specs.Channels.{channel_seen, opens_then, closed_off}
+use Rattle.core_state.specs.Asks.{writes_by, writes_now, asker_of, own_of, with_ask}
 use Rattle.core_state.specs.Raises.{raise_of}
 
 -- ---- which event comes
@@ -208,31 +208,45 @@ space_writing s v = record s {
 abbrev pub planning : NodeState → Plan → NodeState
 planning s p = record s { plan = Some p; done = 0; tried = false }
 
--- its ask was granted
+-- its ask was granted: where it is by the file system, its lock is the last of the command's
 abbrev pub asking : NodeState → PlanAsk → NodeState
-asking s a = record s { asked = s.asked ++ lock_of_ask a ∷ []; tried = true }
+asking s a = record s { asked = with_ask s.asked (own_of (Some a)); tried = true }
 
 abbrev pub writing : NodeState → NodeState
 writing s = record s { done = s.done + 1; writes = one_more s.writes }
 
 abbrev pub answering : NodeState → Cmd → Reply → NodeState
-answering s x r = record s { past = after_answer s.past x r; cmd = None; seen = unseen s.seen; plan = None; done = 0; tried = false; asked = []; run = no_run }
+answering s x r = record s {
+  past = after_answer s.past x r;
+  cmd = None;
+  seen = unseen s.seen;
+  plan = None;
+  done = 0;
+  tried = false;
+  asked = [];
+  opens = opens_then s.opens x r;
+  run = no_run;
+}
 
 abbrev pub leaving : NodeState → NodeState
 leaving s = record s { over = true }
 
+-- The locks after an answer: those of the command went back, and then that of its channel, where it was closed. A channel that
+-- OPEN has opened keeps its lock.
+abbrev pub locks_after : Plain → ℕ → NodeState → Cmd → Reply → List Resource
+locks_after w n s x r = closed_off n (channel_seen s.opens x) x r (given_back w.geometry n (all_writes s) s.asked w.locks)
+
 -- node n, which stands as s, answers
 abbrev pub answered_by : Plain → ℕ → NodeState → Cmd → Reply → Plain
-answered_by w n s x r =
-    with_node (record w { history = w.history ++ Done n x r ∷ []; locks = given_back w.geometry n (all_writes s) s.asked w.locks }) n (turned (answering s x r))
+answered_by w n s x r = with_node (record w { history = w.history ++ Done n x r ∷ []; locks = locks_after w n s x r }) n (turned (answering s x r))
 
--- an ask of node n's file system would be granted
+-- an ask of a part of node n would be granted at once
 abbrev pub would_go : List Resource → ℕ → PlanAsk → Bool
-would_go t n a = goes_at_once (system_of n) a.mode (resource_at (A a.file) t).askers
+would_go t n a = taken_now (A a.file) (asker_of n a) a.mode t
 
 -- node n asks: it goes on where that is granted, and else it answers
 abbrev pub asked_by : Plain → ℕ → NodeState → Cmd → PlanAsk → Bool → Plain
-asked_by w n s x a true = with_node (record w { locks = asked (A a.file) (system_of n) a.mode w.locks }) n (turned (asking s a))
+asked_by w n s x a true = with_node (record w { locks = taken (A a.file) (asker_of n a) a.mode w.locks }) n (turned (asking s a))
 asked_by w n s x a false = answered_by w n s x a.refused
 
 -- an event of node n, which stands as s

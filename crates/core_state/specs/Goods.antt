@@ -1,17 +1,21 @@
 -- The invariant of a world, in parts.
-use Rattle.std.specs.Prelude.{◌≡◌, ◌≤◌, ◌+◌, ◌++◌, not, take, ℕ, Bool, true, false, List, [], ◌∷◌, Option, Some, None, is_some, length, replicate, if◌then◌else◌}
+use Rattle.std.specs.Prelude.{◌≡◌, ◌≤◌, ◌⊎◌, ◌+◌, ◌++◌, take, ℕ, Bool, true, false, List, [], ◌∷◌, Option, Some, None, is_some, length, if◌then◌else◌}
+use Rattle.std.specs.List.{count_by}
 use Rattle.lock_db.specs.declared.name.LockName.{LockName}
 use Rattle.lock_db.specs.declared.resource.Resource.{Resource}
 use Rattle.plain_cat.specs.declared.mode.Mode.{Mode}
 use Rattle.plain_cat.specs.declared.mode.Mode.TheVariants.{PR, PW}
+use Rattle.plain_cat.specs.InForm.{InForm}
 use Rattle.plain_cat.specs.declared.command.Cmd.{Cmd}
 use Rattle.plain_cat.specs.declared.cat.Cat.{Cat}
 use Rattle.plain_cat.specs.declared.script.Script.{Script}
 use Rattle.plain_cat.specs.declared.history.Entry.{Entry}
 use Rattle.plain_vol.specs.Lookups.{is_free_number}
 use Rattle.plain_vol.specs.Accounts.{Accounted}
-use Rattle.plain_vol.specs.Own.{past, next_command, Own}
+use Rattle.plain_vol.specs.Mending.{is_true}
+use Rattle.plain_vol.specs.Own.{NodePast, past, lines_of, next_command, Own}
 use Rattle.plain_vol.specs.Replaying.{Replays}
+use Rattle.plain_opens.specs.Opens.{OpensNameFiles}
 use Rattle.vol_words.specs.Fields.{Block}
 use Rattle.vol_parts.specs.Findings.{Accepts, CatOf}
 use Rattle.lock_db.specs.Tables.{IsTable}
@@ -26,22 +30,17 @@ use Rattle.op_law.specs.declared.seen.Seen.{Seen}
 use Rattle.op_law.specs.Events.{space_of, HasNoSpace}
 use Rattle.op_law.specs.Needs.{IsNext}
 use Rattle.op_law.specs.Fits.{HasSeen}
-use Rattle.op_law.specs.Knows.{channel_of}
 use Rattle.op_law.specs.Laws.{held_in, under_way, takes_lock, Lawful}
 use Rattle.core_state.specs.declared.space.SpaceRun.{SpaceRun}
 use Rattle.core_state.specs.Runs.{no_run}
 use Rattle.core_state.specs.Worlds.{Course, course_of, NodeState, Plain, node_at, rows_of, rows_at}
-use Rattle.core_state.specs.Asks.{writes_by, writes_now, granted_ask, knows_now}
-use Rattle.core_state.specs.Opens.{AreOpensLocked}
-use Rattle.core_state.specs.Channels.{channel_now, HasChannels, HasOpens}
+use Rattle.core_state.specs.Asks.{writes_by, writes_now, own_ask, knows_now}
+use Rattle.core_state.specs.Opens.{open_now, AreOpensLocked}
+use Rattle.core_state.specs.Channels.{names_in_form, channel_now, HasChannels, HasOpens}
 use Rattle.core_state.specs.Stores.{HasStore, IsGone, IsStocked, AreCached}
 use Rattle.core_state.specs.Searches.{unwritten, stock_after, Spaces}
 use Rattle.core_state.specs.Waiting.{WaitsFor}
 use Rattle.core_state.specs.Small.{AreSmall}
-
--- The commands that a world runs so far: those that name no channel.
-unfoldable pub is_run : Cmd → Bool
-is_run x = not (is_some (channel_of x))
 
 -- ---- the nodes under way
 
@@ -75,15 +74,16 @@ abbrev pub HasSystemNumbers : Cat → Type 0
 HasSystemNumbers c = (n : ℕ) → n ≤ 11 → is_free_number c n ≡ false
 
 -- The history replays from the opening catalogue, and the drive is that of the catalogue to which it leads, with the writes done
--- of each command under way. The catalogue keeps the limits of a volume and its quotas, and each channel has the lock of its open.
--- What the nodes have open, cached and in stock is so.
+-- of each command under way. The catalogue keeps the limits of a volume and its quotas, and its opens name files. Each channel has
+-- the lock of what it has open, by the catalogue or by an ask that was granted. What the nodes have open, cached and in stock is so.
 pub record IsRunning (w : Plain) : Type 0 where
   pub cat : Cat
   pub replayed : Replays w.opening w.script w.history cat
   pub drive : IsUnder w.geometry cat (nodes_under w.locks w.nodes) w.blocks
   pub accounted : Accounted cat
   pub system : HasSystemNumbers cat
-  pub opens : AreOpensLocked w.locks cat
+  pub named : OpensNameFiles cat
+  pub opens : AreOpensLocked w.locks (open_now cat w.nodes)
   pub opened : (n : ℕ) (s : NodeState) → node_at w.nodes n ≡ Some s → HasOpens cat n s.opens
   pub stocked : (n : ℕ) (s : NodeState) → node_at w.nodes n ≡ Some s → IsStocked w.locks n s
   pub cached : AreCached w drive.own cat
@@ -97,17 +97,17 @@ abbrev pub IsAtPlan : Cmd → Bool → Seen → ℕ → Bool → Option Plan →
 IsAtPlan x waits seen done tried None = done ≡ 0
 IsAtPlan x waits seen done tried (Some p) = IsNext x seen (need.Ready p) × (waits ≡ false) × (done ≤ length (writes_by p.ask tried p.writes))
 
--- A command of node n under way, which has come so far, is its node's next one, by the lock table. It obeys the law, what it has
--- seen fits it, and its locks are such as it takes itself, besides that of its search for space and that of its ask. Where it waits,
--- it is for the last of them.
+-- A command of node n under way, which has come so far, is its node's next one, by the lock table. Its channel is one of eight. It
+-- obeys the law, what it has seen fits it, and its locks are such as it takes itself, besides that of its search for space and that
+-- of an ask of its file system. Where it waits, it is for the last of them.
 pub record IsUnderWay (coming : Option Cmd) (t : List Resource) (n : ℕ) (d : Course) (x : Cmd) : Type 0 where
   pub next : coming ≡ Some x
-  pub runs : is_run x ≡ true
+  pub form : names_in_form x ≡ true
   pub lawful : Lawful x
   pub seen : HasSeen x d.seen
   pub own : (name : LockName) → Has (names_of d.seen.locks) name → takes_lock x name ≡ true
   pub plan : IsAtPlan x (waits_at t n d.asked) d.seen d.done d.tried d.plan
-  pub search : Spaces t n x (granted_ask d.tried d.plan) d.asked d.run d.seen
+  pub search : Spaces t n x (own_ask d.tried d.plan) d.asked d.run d.seen
   pub waits : waits_at t n d.asked ≡ true → WaitsFor x d.asked d.seen
 
 -- a node without a command has seen nothing, was given nothing, and has decided on nothing
@@ -146,13 +146,14 @@ pub record IsNode (w : Plain) (n : ℕ) (s : NodeState) : Type 0 where
   pub over : s.over ≡ true → IsGone s.cmd s.asked s.kept s.back s.stock s.cache × (next_command w.script n w.history ≡ None)
   pub gone : s.past.dead ≡ true → IsGone s.cmd s.asked s.kept s.back s.stock s.cache
 
--- each command that the script can come to, while no channel is open, is one of these
+-- each command that the script can come to is one of these
 abbrev pub HasOnly : (Cmd → Type 0) → Script → Type 0
-HasOnly these s = (n : ℕ) (h : List Entry) (x : Cmd) → (past n h).channels ≡ replicate 8 false → next_command s n h ≡ Some x → these x
+HasOnly these s = (n : ℕ) (h : List Entry) (x : Cmd) → next_command s n h ≡ Some x → these x
 
--- a world runs it
-abbrev pub IsRun : Cmd → Type 0
-IsRun x = is_run x ≡ true
+-- A node has not answered more commands than it has lines; or, with the channels that are still open, eight more at most, since each
+-- close behind the last line closes a channel.
+abbrev pub HasFewAnswers : Script → ℕ → NodePast → Type 0
+HasFewAnswers s n p = (p.answered ≤ length (lines_of n s.lines)) ⊎ (p.answered + count_by is_true p.channels ≤ length (lines_of n s.lines) + 8)
 
 -- The invariant.
 pub record Good (w : Plain) : Type 0 where
@@ -162,7 +163,8 @@ pub record Good (w : Plain) : Type 0 where
   pub nodes : (n : ℕ) (s : NodeState) → node_at w.nodes n ≡ Some s → IsNode w n s
   pub own : Own w.script w.history
   pub small : AreSmall w
-  pub runs : HasOnly IsRun w.script
+  pub form : InForm w.script
+  pub few : (n : ℕ) → HasFewAnswers w.script n (past n w.history)
   -- the entries are of nodes of the world
   pub strangers : (n : ℕ) → node_at w.nodes n ≡ None → next_command w.script n w.history ≡ None
 

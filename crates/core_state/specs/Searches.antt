@@ -59,7 +59,7 @@ found_by x seen run = found seen.geometry (wanted_by x seen) (wanted seen x).num
 
 -- ---- how it stands
 
--- no search is begun, and the locks asked for are those of the command, and that of its ask where it was granted
+-- no search is begun, and the locks asked for are those of the command, and that of its ask where it was granted to the file system
 pub record HasNotSearched (ask : Option Ask) (asked : List (LockName × Mode)) (run : SpaceRun) (seen : Seen) : Type 0 where
   pub off : run.phase ≡ phase.Off
   pub same : asked ≡ with_ask seen.locks ask

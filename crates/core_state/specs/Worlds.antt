@@ -38,7 +38,8 @@ pub record NodeState : Type 0 where
   pub plan : Option Plan
   pub done : ℕ
   pub tried : Bool
-  -- the locks that it has asked for, in order: those of the command, among them that of its search for space, and that of its ask
+  -- the locks that its file system has asked for, in order: those of the command, among them that of its search for space, and that of
+  -- its ask, where that is by the file system
   pub asked : List (LockName × Mode)
   -- the locks that outlive its commands, and those that it has asked for to give its stock back
   pub kept : List (LockName × Mode)

@@ -1,7 +1,7 @@
 ghost use Rattle.std.specs.Prelude.{◌≡◌, [], IfOk, IfErr, map, replicate};
 ghost use Rattle.plain_cat.specs.InForm.{InForm};
 ghost use Rattle.core_state.specs.Worlds.{state_of};
-ghost use Rattle.core_state.specs.Goods.{IsRun, HasOnly};
+ghost use Rattle.core_state.specs.Goods.{HasOnly};
 ghost use Rattle.core_state.specs.Mounting.{IsMounted, IsMountEnd, at_rest};
 
 use crate::cluster::Core;
@@ -122,7 +122,6 @@ impl<I: ImageDev, O: Operation> World<I, O> {
         script: &Script,
     ) -> Result<World<I, O>, MountRefused<I>>
         requires form { InForm script.now }
-        requires runs { HasOnly IsRun script.now }
         requires taken { HasOnly O.takes script.now }
         ensures world { IfOk result (λ w. IsMounted m.blocks script.now w.world) }
         ensures image { IfOk result (λ w. w.image ≡ m.image) }

@@ -23,15 +23,15 @@ pub struct Node<O: Operation> {
     pub done: usize,
     pub tried: bool,
 
-    /// The locks that it has asked for, in order: those of the command, among them that of its search for space, and that of the
-    /// ask of its plan. The last may still stand in a queue.
+    /// The locks that its file system has asked for, in order: those of the command, among them that of its search for space, and
+    /// that of the ask of its plan, where that is by the file system. The last may still stand in a queue.
     pub asked: SeenLocks,
 
     /// The locks that outlive its commands, and those that it has asked for to give its stock back: none so far.
     pub kept: KeptLocks,
     pub back: KeptLocks,
 
-    /// What its eight channels have open: nothing so far.
+    /// What its eight channels have open.
     pub opens: [Option<Chan>; 8],
 
     /// What it has done by its rules for space.

@@ -1,10 +1,11 @@
 -- What is known of a node that goes on with its command.
-use Rattle.std.proofs.Common.{◌≡◌, ◌≤◌, ◌<◌, ◌+◌, ◌-◌, ◌++◌, ℕ, zero, suc, Bool, true, false, cond, List, [], ◌∷◌, Option, Some, None, length, map, slice_get, slice_set, refl, sym, ap, subst, ◌∙◌, arith}
-use Rattle.std.specs.Prelude.{◌==◌, slice_index_or, not, option_map, IfSome, IsSome, is_some, replicate}
+use Rattle.std.proofs.Common.{◌≡◌, ◌≤◌, ◌<◌, ◌+◌, ◌-◌, ◌++◌, ℕ, zero, suc, Bool, true, false, cond, List, [], ◌∷◌, Option, Some, None, length, map, slice_get, slice_set, refl, sym, ap, subst, ◌∙◌, inl, inr, arith}
+use Rattle.std.specs.Prelude.{◌==◌, slice_index_or, not, option_map, IfSome, IsSome, is_some}
 use Rattle.std.proofs.lemmas.Option.{slice_get_within}
 use Rattle.vol_words.specs.Fields.{Block}
 use Rattle.lock_db.specs.declared.name.LockName.{LockName}
 use Rattle.lock_db.specs.declared.name.LockName.TheVariants.{A, V}
+use Rattle.lock_db.specs.declared.name.Owner.{Owner}
 use Rattle.lock_db.specs.declared.resource.Resource.{Resource}
 use Rattle.lock_db.specs.Queues.{standing_of}
 use Rattle.lock_db.specs.declared.resource.Asked.{Asked}
@@ -12,22 +13,20 @@ use Rattle.lock_db.specs.declared.resource.Asked.TheVariants as locked_so
 use Rattle.lock_db.specs.Resources.{goes_at_once, asked_answer}
 use Rattle.lock_db.specs.Tables.{resource_at, asked, released}
 use Rattle.plain_cat.specs.declared.mode.Mode.{Mode}
-use Rattle.plain_cat.specs.declared.mode.Mode.TheVariants.{PW}
+use Rattle.plain_cat.specs.declared.mode.Mode.TheVariants.{CW, PW, EX}
 use Rattle.plain_cat.specs.declared.command.Cmd.{Cmd}
 use Rattle.plain_cat.specs.declared.reply.Reply.{Reply}
 use Rattle.plain_cat.specs.declared.script.Script.{Script}
-use Rattle.plain_cat.specs.declared.script.Line.{Line}
-use Rattle.plain_cat.specs.declared.script.LineCmd.{LineCmd}
 use Rattle.plain_cat.specs.declared.cat.Cat.{Cat}
-use Rattle.plain_vol.specs.Own.{NodePast, lines_of, or_close, close_from, command_after}
 use Rattle.node_locks.specs.Held.{system_of, Row, names_of, HoldsItsLocks, waits_at}
+use Rattle.node_locks.specs.Taking.{taken_now}
 use Rattle.node_locks.specs.Sweeping.{MayGiveAll as MayGiveNamed}
 use Rattle.node_locks.specs.Sequences.{raised_block}
 use Rattle.node_locks.proofs.Rows.{order-of}
 use Rattle.node_locks.proofs.Sweeping.{sweeping_holds}
 use Rattle.vol_owners.specs.Lists.{Has, Touches}
 use Rattle.vol_owners.specs.Owners.{Owners}
-use Rattle.vol_owners.specs.declared.owner.Owner.{Owner}
+use Rattle.vol_owners.specs.declared.owner.Owner.{Owner as Possessor}
 use Rattle.vol_parts.specs.declared.geometry.Geometry.{Geometry}
 use Rattle.vol_parts.specs.declared.geometry.Part.{Part}
 use Rattle.vol_parts.specs.Parts.{IsGeometry, part_of}
@@ -54,11 +53,11 @@ use Rattle.node_space.specs.Answering.{answer, blocks_of}
 use Rattle.core_state.specs.Searches.{wanted_by}
 use Rattle.core_state.specs.Worlds.{NodeState, Plain, IsOfWorld, node_at, set_node, rows_of, rows_in, rows_at}
 use Rattle.core_state.specs.Raises.{raise_of}
-use Rattle.core_state.specs.Asks.{writes_by, reply_by, writes_now}
-use Rattle.core_state.specs.Goods.{IsAt, IsNode, Good, decided, HasRoom}
+use Rattle.core_state.specs.Asks.{writes_by, reply_by, writes_now, asker_of}
+use Rattle.core_state.specs.Goods.{IsAt, IsNode, HasFewAnswers, Good, decided, HasRoom}
 use Rattle.core_state.specs.Event.{Event}
 use Rattle.core_state.specs.Event as event
-use Rattle.core_state.specs.Events.{has_asked, all_writes, by_answer, by_writes, by_search, space_locking, space_looking, space_writing, happens, happen, block_at, turned, locking, looking, planning, writing, asking, answering, would_go, asked_by, by_need, by_end, by_write, by_plan, by_command, event_of, event_now, next_event, readied, command_in, command_at, plan_in, plan_at, tried_in, tried_at}
+use Rattle.core_state.specs.Events.{has_asked, given_back, all_writes, by_answer, by_writes, by_search, space_locking, space_looking, space_writing, happens, happen, block_at, turned, locking, looking, planning, writing, asking, answering, would_go, asked_by, by_need, by_end, by_write, by_plan, by_command, event_of, event_now, next_event, readied, command_in, command_at, plan_in, plan_at, tried_in, tried_at}
 use Rattle.core_state.specs.Worlds.{state_of}
 use Rattle.core_state.specs.declared.node.Node.{Node}
 use Rattle.core_state.proofs.Nodes.{at_here, length_node, told_at}
@@ -66,11 +65,17 @@ use Rattle.core_state.proofs.Keeping.{has_asked_row, asked_alone, asked_once}
 use Rattle.core_state.proofs.Standing.{new_to_all, asks_once, claim_asks}
 use Rattle.core_state.proofs.Searching.{there_now, is_taking, space_look_within, looks_on, still_looking}
 use Rattle.core_state.proofs.Turning.{under_command, drive, seen_on, may_need, here, planned_at, search_now, asks_wait}
-use Rattle.core_state.proofs.Trying.{nobody_asks}
-use Rattle.core_state.proofs.Channels.{all_closed}
+use Rattle.core_state.proofs.Trying.{nobody_asks, StandsSo, stands_so, goes_as_request}
+use Rattle.core_state.proofs.Closing.{closing_lock, close_channel, form_now}
+use Rattle.core_state.proofs.SmallBegun.{answers_fit}
+use Rattle.core_state.proofs.Opens.{locked, no_lock, has_its}
 use Rattle.core_state.proofs.Preparing.{has_prepared, readied_same}
-use Rattle.core_step.specs.Giving.{MayGiveAll, MayEnd}
-use Rattle.core_step.specs.Asks.{going_ask, aim_of}
+use Rattle.core_step.specs.Giving.{MayGiveAll, MayLetGo, MayCloseOff, MayEnd}
+use Rattle.core_state.specs.Channels.{names_in_form, opened, channel_seen}
+use Rattle.op_law.specs.declared.seen.Chan.{Chan}
+use Rattle.plain_cat.specs.declared.command.Cmd.TheVariants as cmd
+use Rattle.core_step.specs.Asks.{going_ask, aim_of, GoesAsRequest, MayAsk}
+use Rattle.core_step.specs.declared.asks.Aim.{Aim}
 use Rattle.core_step.specs.Ready.{IsReady, IsSearching, SearchesAsNeeded}
 use Rattle.core_step.specs.Memory.{takes_none}
 use Rattle.core_step.specs.declared.turns.Turn.TheVariants as turn
@@ -104,7 +109,7 @@ searched_told cmd_is (Some op) s x k b cmd e asks is =
 module _ (g : Geometry) (bs : List Block) (own : Owners) (c : Cat) (s : Spells g bs own c) where
   guard_within : (node l : ℕ) (locks : List LockName) → MayWrite node locks (guard_of g own l) → l < length bs
   guard_within node l locks may = by_part (part_of g l) refl may where
-    by_owner : (o : Option Owner) → owner_at g own l ≡ o → MayWrite node locks (guard_by_owner o) → l < length bs
+    by_owner : (o : Option Possessor) → owner_at g own l ≡ o → MayWrite node locks (guard_by_owner o) → l < length bs
     by_owner None e may = absurd may
     by_owner (Some o) e may = on_volume g bs own c s l o e
 
@@ -117,24 +122,6 @@ module _ (g : Geometry) (bs : List Block) (own : Owners) (c : Cat) (s : Spells g
 may_each : (g : Geometry) (n : ℕ) (ws : List PlanWrite) (ls : Row) (t : List Resource) → MayGiveNamed n (λ name u. raised_block (raise_of g name ws) (resource_at name u)) (names_of ls) t → MayGiveAll g n ws ls t
 may_each g n ws [] t may = tt
 may_each g n ws (l ∷ ls) t may = (may.0, may_each g n ws ls (released l.0 (system_of n) (raised_block (raise_of g l.0 ws) (resource_at l.0 t)) t) may.1)
-
--- ---- a node's answers are fewer than its lines
-
-few_lines : (n : ℕ) (ls : List Line) → length (lines_of n ls) ≤ length ls
-few_lines n [] = omega arith
-few_lines n (l ∷ ls) = by_test (l.node == n) refl (few_lines n ls) where
-  by_test : (t : Bool) → (l.node == n) ≡ t → length (lines_of n ls) ≤ length ls → length (cond t (l.cmd ∷ lines_of n ls) (lines_of n ls)) ≤ suc (length ls)
-  by_test true e r = omega arith
-  by_test false e r = omega arith
-
-no_close : (n : ℕ) (p : NodePast) (o : Option LineCmd) (x : Cmd) → p.channels ≡ replicate 8 false → or_close p o ≡ Some x → IsSome o
-no_close n p None x closed e = absurd (let f : close_from 1 (replicate 8 false) ≡ Some x = ap (close_from 1) (sym closed) ∙ e in let g : None ≡ Some x = f in cc)
-no_close n p (Some l) x closed e = refl
-
-there_within : {A : Type 0} (xs : List A) (k : ℕ) → IsSome (slice_get xs k) → k < length xs
-there_within [] k i = absurd (let f : false ≡ true = i in cc)
-there_within (x ∷ xs) zero i = omega arith
-there_within (x ∷ xs) (suc k) i = let lt = there_within xs k i in omega arith
 
 -- ---- how many nodes have decided
 
@@ -272,8 +259,29 @@ module _ {w : Plain} (good : Good w) {n : ℕ} (r : IsReady w n) where
     by_end_told false (Some q) = ap (λ o. cond (is_some o) (turn.Moved kind.Tried) turn.Answered) gone
 
   -- the ask may be made
-  pub may_ask : (p : Plan) → s.plan ≡ Some p → (a : PlanAsk) → going_ask w.locks n s.tried p.ask ≡ Some a → standing_of (system_of n) (resource_at (A a.file) w.locks).askers ≡ None
-  may_ask p plan a going = let i = going_is w.locks n s.tried p.ask a going in nobody_asks w good n s r.at r.cmd r.has r.free p plan a i.is i.not_yet n
+  pub may_ask : (p : Plan) → s.plan ≡ Some p → (a : PlanAsk) → going_ask w.locks n s.tried p.ask ≡ Some a → MayAsk (A a.file) (asker_of n a) a.mode w.locks
+  may_ask p plan a going = by_stand (stands_so w good n s r.at r.cmd r.has r.free p plan a i.is i.not_yet) where
+    i : IsGoing w.locks n s.tried p.ask a
+    i = going_is w.locks n s.tried p.ask a going
+
+    me : Owner
+    me = asker_of n a
+
+    by_stand : StandsSo w good n s r.at r.cmd r.has r.free p plan a i.is → MayAsk (A a.file) me a.mode w.locks
+    by_stand (inl none) = record {
+      new = λ e. none;
+      lock = λ has. absurd (let g : true ≡ false = sym has ∙ no_lock me (resource_at (A a.file) w.locks).askers none in cc);
+      across = λ has e. absurd (let g : true ≡ false = sym has ∙ no_lock me (resource_at (A a.file) w.locks).askers none in cc);
+    }
+    by_stand (inr k) = record {
+      new = λ e. absurd (let g : true ≡ false = sym (has_its me (resource_at (A a.file) w.locks).askers k.0 k.1) ∙ e in cc);
+      lock = λ has. ap is_some (locked me (resource_at (A a.file) w.locks).askers k.0 k.1);
+      across = λ has e. absurd (let g : EX ≡ CW = sym k.3 ∙ e in cc);
+    }
+
+  -- a conversion goes where a request would
+  pub goes_as : (p : Plan) → s.plan ≡ Some p → s.tried ≡ false → GoesAsRequest w.locks n p.ask
+  goes_as p plan not_yet a is = goes_as_request w good n s r.at r.cmd r.has r.free p plan a is not_yet
 
   has_rows : HoldsItsLocks w.locks n (rows_of s)
   has_rows = subst (λ (rs : List Row). HoldsItsLocks w.locks n rs) (ap rows_in r.at) (good.locked.1 n)
@@ -327,9 +335,11 @@ module _ {w : Plain} (good : Good w) {n : ℕ} (r : IsReady w n) where
   pub space_lock_apart : plan_at w n ≡ None → has_asked V s.asked ≡ false → (q : NodeState) → node_at w.nodes n ≡ Some q → has_asked V q.asked ≡ false
   space_lock_apart no_plan none q at = apart V (new_space_lock no_plan none) q at
 
-  pub ask_apart : (file : ℕ) → standing_of (system_of n) (resource_at (A file) w.locks).askers ≡ None → (q : NodeState) → node_at w.nodes n ≡ Some q → has_asked (A file) q.asked ≡ false
-  ask_apart file none q at =
-      apart (A file) (stands_nowhere w.locks n s.asked (A file) (order-of w.locks n (rows_of s) s.asked has_rows.in_order (has_asked_row s)) none) q at
+  pub ask_apart : (p : Plan) → s.plan ≡ Some p → (a : PlanAsk) → going_ask w.locks n s.tried p.ask ≡ Some a → (q : NodeState) → node_at w.nodes n ≡ Some q → has_asked (A a.file) q.asked ≡ false
+  ask_apart p plan a going q at =
+      let i = going_is w.locks n s.tried p.ask a going in
+      let none : standing_of (system_of n) (resource_at (A a.file) w.locks).askers ≡ None = nobody_asks w good n s r.at r.cmd r.has r.free p plan a i.is i.not_yet n in
+      apart (A a.file) (stands_nowhere w.locks n s.asked (A a.file) (order-of w.locks n (rows_of s) s.asked has_rows.in_order (has_asked_row s)) none) q at
 
   within : (lbn : ℕ) → lbn < length (drive w good n s r.at r.cmd r.has r.free).base → lbn < length w.blocks
   within lbn lt = subst (λ (k : ℕ). lbn < k) (sym (drive w good n s r.at r.cmd r.has r.free).over.count) lt
@@ -417,21 +427,25 @@ module _ {w : Plain} (good : Good w) {n : ℕ} (r : IsReady w n) where
       let mine = subst (λ (u : UnderWay). (l : ℕ) → Touches (bare u.plan) l → MayWrite n u.write (guard_of w.geometry good.running.drive.own l)) now (good.running.drive.plan_guarded n) in
       subst (λ (k : ℕ). v.lbn < k) (sym good.running.drive.over.count) (guard_within w.geometry good.running.drive.base good.running.drive.own good.running.cat good.running.drive.spelt n v.lbn _ (mine v.lbn touched))
 
+  -- a channel that is closed has the lock that it gives back
+  closes_so : (x : Cmd) (a : Reply) → names_in_form x ≡ true → MayCloseOff n (channel_seen s.opens x) x a (given_back w.geometry n (all_writes s) s.asked w.locks)
+  closes_so (cmd.CloseFile chan) a form = λ closed. by_open (opened s.opens chan) refl where
+    by_open : (o : Option Chan) → opened s.opens chan ≡ o → MayLetGo n chan o (given_back w.geometry n (all_writes s) s.asked w.locks)
+    by_open None e = tt
+    by_open (Some p) e = let k = close_channel chan form in closing_lock w good n s r.at chan k.0 k.1 p e
+  closes_so other a form = tt
+
   -- its command can end
   pub may_end : length w.script.lines ≤ 4096 → (p : Plan) → s.plan ≡ Some p → MayEnd w.geometry n s w.locks
   may_end few p plan = record {
     cmd = ap is_some r.has;
     plan = ap is_some plan;
-    few = (let a = answered in let b = few_lines n w.script.lines in omega arith);
+    few = answers_fit w.script n s.past few (subst (HasFewAnswers w.script n) (sym node.past) (good.few n));
     gives = may_each w.geometry n (all_writes s) s.asked w.locks
         (sweeping_holds (λ name u. raised_block (raise_of w.geometry name (all_writes s)) (resource_at name u)) w.locks n 1 s.asked (names_of s.asked) (rows_of s) (rows_at w.nodes) good.locked.0 good.locked.1 (ap rows_in r.at) refl r.free
         (asked_once s node.store has_rows.once) (λ name h. h)).0;
-  } where
-    next : or_close s.past (slice_get (lines_of n w.script.lines) s.past.answered) ≡ Some r.cmd
-    next = ap (command_after w.script n) node.past ∙ is_at.next
-
-    answered : s.past.answered < length (lines_of n w.script.lines)
-    answered = there_within (lines_of n w.script.lines) s.past.answered (no_close n s.past (slice_get (lines_of n w.script.lines) s.past.answered) r.cmd (all_closed s.past s.opens node.channels) next)
+    closes = λ x q has_cmd has_plan. closes_so x (reply_by q.ask s.tried q.reply) (form_now w good n s r.at x has_cmd r.free);
+  }
 
 -- ---- what its turn leaves
 
@@ -633,8 +647,8 @@ module _ {O : Type 0} {cmd_is : O → Cmd} {w : Plain} {n : ℕ} {r : IsReady w 
   last_now p ws same over = subst (λ (y : NodeState). slice_get (writes_by p.ask y.tried p.writes) y.done ≡ None) tells (subst (λ (us : List PlanWrite). slice_get us d.done ≡ None) same (none_at ws d.done over))
 
   -- the ask that it tells is the node's
-  pub item_aim : (t : List Resource) (p : Plan) (o : Option (ℕ × Mode)) → o ≡ aim_of (going_ask t n d.tried p.ask) → o ≡ aim_of (going_ask t n r.state.tried p.ask)
-  item_aim t p o e = e ∙ ap (λ (y : NodeState). aim_of (going_ask t n y.tried p.ask)) tells
+  pub item_aim : (t : List Resource) (p : Plan) (o : Option Aim) → o ≡ option_map aim_of (going_ask t n d.tried p.ask) → o ≡ option_map aim_of (going_ask t n r.state.tried p.ask)
+  item_aim t p o e = e ∙ ap (λ (y : NodeState). option_map aim_of (going_ask t n y.tried p.ask)) tells
 
 module _ {w : Plain} (good : Good w) {n : ℕ} (r : IsReady w n) where
   pub tried_is : tried_at w n ≡ r.state.tried
@@ -653,22 +667,25 @@ module _ {w : Plain} (good : Good w) {n : ℕ} (r : IsReady w n) where
   place_kept p plan spare room = let one = has_decided w.nodes n r.state r.at (ap is_some plan) in let le = room.places in omega arith
 
 -- an aim is that of an ask
-pub record IsAimed (o : Option PlanAsk) (file : ℕ) (mode : Mode) : Type 0 where
+pub record IsAimed (o : Option PlanAsk) (aim : Aim) : Type 0 where
   pub made : PlanAsk
   pub is : o ≡ Some made
-  pub file_is : made.file ≡ file
-  pub mode_is : made.mode ≡ mode
+  pub same : aim ≡ aim_of made
 
-pub aimed : (o : Option PlanAsk) (file : ℕ) (mode : Mode) → aim_of o ≡ Some (file, mode) → IsAimed o file mode
-aimed None file mode e = absurd (let f : None ≡ Some (file, mode) = e in cc)
-aimed (Some a) file mode e =
-    let f : Some (a.file, a.mode) ≡ Some (file, mode) = e in
-    let g : (a.file, a.mode) ≡ (file, mode) = cc in
-    record { made = a; is = refl; file_is = ap (λ (k : ℕ × Mode). k.0) g; mode_is = ap (λ (k : ℕ × Mode). k.1) g }
+pub aimed : (o : Option PlanAsk) (aim : Aim) → option_map aim_of o ≡ Some aim → IsAimed o aim
+aimed None aim e = absurd (let f : None ≡ Some aim = e in cc)
+aimed (Some a) aim e =
+    let f : Some (aim_of a) ≡ Some aim = e in
+    let g : aim_of a ≡ aim = cc in
+    record { made = a; is = refl; same = sym g }
 
-pub aims_none : (o : Option PlanAsk) → aim_of o ≡ None → o ≡ None
+pub aims_none : (o : Option PlanAsk) → option_map aim_of o ≡ None → o ≡ None
 aims_none None e = refl
-aims_none (Some a) e = absurd (let f : Some (a.file, a.mode) ≡ None = e in cc)
+aims_none (Some a) e = absurd (let f : Some (aim_of a) ≡ None = e in cc)
+
+-- an ask that has the aim of one that would be granted would be too
+pub same_aim : (t : List Resource) (n : ℕ) (a b : PlanAsk) → aim_of a ≡ aim_of b → would_go t n a ≡ true → would_go t n b ≡ true
+same_aim t n a b e goes = ap (λ (k : Aim). taken_now (A k.file) (record { node = n; part = k.chan }) k.mode t) (sym e) ∙ goes
 
 pub none_of : {A : Type 0} (o : Option A) → is_some o ≡ false → o ≡ None
 none_of None e = refl

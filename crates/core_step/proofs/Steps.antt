@@ -1,6 +1,7 @@
 -- What a world is after one of its nodes has changed.
-use Rattle.std.proofs.Common.{◌≡◌, ◌≤◌, ◌-◌, ◌++◌, ◌∷◌, [], ℕ, Bool, true, List, Option, Some, None, Result, Ok, Err, length, map, slice_get, slice_set, refl, sym, ap, subst, ◌∙◌}
-use Rattle.std.specs.Prelude.{slice_index_or, option_map, IsSome, OnOk, OnErr}
+use Rattle.std.proofs.Common.{◌≡◌, ◌≤◌, ◌-◌, ◌++◌, ◌∷◌, [], ℕ, Bool, true, false, cond, List, Option, Some, None, Result, Ok, Err, length, map, slice_get, slice_set, refl, sym, ap, subst, ◌∙◌, arith}
+use Rattle.std.specs.Prelude.{◌==◌, not, filter, slice_index_or, option_map, IsSome, OnOk, OnErr}
+use Rattle.std.proofs.lemmas.Bool.Decides.{nat_tests}
 use Rattle.std.proofs.lemmas.Option.{get_or_from_slice_get}
 use Rattle.vol_words.specs.Fields.{Block}
 use Rattle.lock_db.specs.declared.name.LockName.{LockName}
@@ -18,12 +19,19 @@ use Rattle.op_law.specs.declared.need.Plan.{Plan}
 use Rattle.op_law.specs.declared.need.PlanWrite.{PlanWrite}
 use Rattle.op_law.specs.declared.need.Ask.{Ask as PlanAsk}
 use Rattle.core_state.specs.Worlds.{NodeState, Plain, node_at, set_node}
-use Rattle.core_state.specs.Asks.{writes_by, reply_by, writes_now}
+use Rattle.core_state.specs.Asks.{writes_by, reply_by, writes_now, asker_of, own_of, with_ask}
+use Rattle.core_state.specs.Channels.{channel_seen, closed_off}
+use Rattle.node_locks.specs.Taking.{taken}
 use Rattle.core_state.specs.Event.{Event}
 use Rattle.core_state.specs.Event as event
-use Rattle.core_state.specs.Events.{would_go, asked_by, happens, happen_at, happen, all_writes, given_back, turned, leaving, locking, space_locking, looking, space_looking, space_writing, planning, writing, asking, answering, command_in, command_at, plan_in, plan_at, tried_in, tried_at}
+use Rattle.core_state.specs.Events.{has_asked, would_go, asked_by, happens, happen_at, happen, given_back, locks_after, turned, leaving, locking, space_locking, looking, space_looking, space_writing, planning, writing, asking, answering, command_in, command_at, plan_in, plan_at, tried_in, tried_at}
 use Rattle.vol_parts.specs.declared.geometry.Geometry.{Geometry}
-use Rattle.core_step.specs.Giving.{MayGiveAll}
+use Rattle.core_step.specs.Giving.{MayGiveAll, MayCloseOff}
+use Rattle.core_step.specs.Asks.{noted, unnoted}
+use Rattle.core_step.proofs.Lists.{removed}
+use Rattle.plain_cat.specs.declared.reply.Reply.{Reply}
+use Rattle.op_law.specs.declared.seen.Chan.{Chan}
+use Rattle.lock_db.specs.Names.{is_same}
 use Rattle.core_state.proofs.Nodes.{told_at, told_set, set_node_same}
 
 -- where something holds of an Ok, what follows from it holds
@@ -86,15 +94,15 @@ module _ {A : Type 0} (f : A → NodeState) (xs : List A) (w : Plain) (n : ℕ) 
   pub planned_so : (p : Plan) → f d' ≡ turned (planning (f d) p) → record w { nodes = after } ≡ happen w n (event.Plan p)
   planned_so p e = ap (λ ns. record w { nodes = ns }) (now (turned (planning (f d) p)) e) ∙ happen_here w n (f d) (event.Plan p) at
 
-  pub asked_so : (x : Cmd) (a : PlanAsk) → would_go w.locks n a ≡ true → f d' ≡ turned (asking (f d) a) → record w { locks = asked (lock_name.A a.file) (system_of n) a.mode w.locks; nodes = after } ≡ happen w n (event.Ask x a)
+  pub asked_so : (x : Cmd) (a : PlanAsk) → would_go w.locks n a ≡ true → f d' ≡ turned (asking (f d) a) → record w { locks = taken (lock_name.A a.file) (asker_of n a) a.mode w.locks; nodes = after } ≡ happen w n (event.Ask x a)
   asked_so x a goes e =
-      ap (λ ns. record w { locks = asked (lock_name.A a.file) (system_of n) a.mode w.locks; nodes = ns }) (now (turned (asking (f d) a)) e) ∙ sym (ap (asked_by w n (f d) x a) goes) ∙ happen_here w n (f d) (event.Ask x a) at
+      ap (λ ns. record w { locks = taken (lock_name.A a.file) (asker_of n a) a.mode w.locks; nodes = ns }) (now (turned (asking (f d) a)) e) ∙ sym (ap (asked_by w n (f d) x a) goes) ∙ happen_here w n (f d) (event.Ask x a) at
 
   pub wrote_so : (v : PlanWrite) (bs : List Block) → bs ≡ slice_set w.blocks v.lbn v.block → f d' ≡ turned (writing (f d)) → record w { blocks = bs; nodes = after } ≡ happen w n (event.Write v)
   wrote_so v bs b e = (λ i. record w { blocks = b i; nodes = now (turned (writing (f d))) e i }) ∙ happen_here w n (f d) (event.Write v) at
 
   pub answered_so : (x : Cmd) (p : Plan) → command_at w n ≡ Some x → plan_at w n ≡ Some p → (cmd : Cmd) (plan : Plan) (b : Bool) → (f d).cmd ≡ Some cmd → (f d).plan ≡ Some plan → b ≡ (f d).tried
-      → f d' ≡ turned (answering (f d) cmd (reply_by plan.ask b plan.reply)) → (t : List Resource) (h : List Entry) → t ≡ given_back w.geometry n ((f d).run.writes ++ writes_by plan.ask b plan.writes) (f d).asked w.locks
+      → f d' ≡ turned (answering (f d) cmd (reply_by plan.ask b plan.reply)) → (t : List Resource) (h : List Entry) → t ≡ closed_off n (channel_seen (f d).opens cmd) cmd (reply_by plan.ask b plan.reply) (given_back w.geometry n ((f d).run.writes ++ writes_by plan.ask b plan.writes) (f d).asked w.locks)
       → h ≡ w.history ++ Done n cmd (reply_by plan.ask b plan.reply) ∷ [] → record w { locks = t; nodes = after; history = h } ≡ happen w n (event.Answer x (reply_by p.ask (tried_at w n) p.reply))
   answered_so x p c q cmd plan b mine made tried e t h locks history =
       let first : Some cmd ≡ Some x = sym mine ∙ sym (ap command_in at) ∙ c in
@@ -102,8 +110,8 @@ module _ {A : Type 0} (f : A → NodeState) (xs : List A) (w : Plain) (n : ℕ) 
       let second : Some plan ≡ Some p = sym made ∙ sym (ap plan_in at) ∙ q in
       let same_plan : plan ≡ p = cc in
       let same_tried : b ≡ tried_at w n = tried ∙ sym (ap tried_in at) in
-      let ws : given_back w.geometry n ((f d).run.writes ++ writes_by plan.ask b plan.writes) (f d).asked w.locks ≡ given_back w.geometry n (all_writes (f d)) (f d).asked w.locks
-      = λ i. given_back w.geometry n ((f d).run.writes ++ writes_now (tried i) (sym made i)) (f d).asked w.locks in
+      let ws : closed_off n (channel_seen (f d).opens cmd) cmd (reply_by plan.ask b plan.reply) (given_back w.geometry n ((f d).run.writes ++ writes_by plan.ask b plan.writes) (f d).asked w.locks) ≡ locks_after w n (f d) cmd (reply_by plan.ask b plan.reply)
+      = λ i. closed_off n (channel_seen (f d).opens cmd) cmd (reply_by plan.ask b plan.reply) (given_back w.geometry n ((f d).run.writes ++ writes_now (tried i) (sym made i)) (f d).asked w.locks) in
       (λ i. record w { locks = (locks ∙ ws) i; nodes = now (turned (answering (f d) cmd (reply_by plan.ask b plan.reply))) e i; history = history i })
       ∙ happen_here w n (f d) (event.Answer cmd (reply_by plan.ask b plan.reply)) at ∙ (λ i. happen w n (event.Answer (same_cmd i) (reply_by (same_plan i).ask (same_tried i) (same_plan i).reply)))
 
@@ -124,3 +132,31 @@ pub may_give_now : (g : Geometry) (n : ℕ) (tried b : Bool) (made : Option Plan
 may_give_now g n tried b made p takes locks t us ws ls done m d e f may =
     let same : takes ++ writes_now tried made ≡ us ++ ws = λ i. sym d i ++ ((λ j. writes_now (sym done j) (m j)) ∙ sym e) i in
     subst (λ (ks : List (LockName × Mode)). MayGiveAll g n (us ++ ws) ks t) (sym f) (subst (λ (vs : List PlanWrite). MayGiveAll g n vs locks t) same may)
+
+-- and then that of its channel, whatever ended
+pub may_close_now : (n : ℕ) (g : Geometry) (s : NodeState) (t u : List Resource) (x : Cmd) (p : Plan) (b : Bool) (had : Option Chan) (r : Reply) → s.cmd ≡ Some x → s.plan ≡ Some p → b ≡ s.tried → had ≡ channel_seen s.opens x → r ≡ reply_by p.ask b p.reply
+    → u ≡ given_back g n (s.run.writes ++ writes_by p.ask b p.writes) s.asked t
+    → ((y : Cmd) (q : Plan) → s.cmd ≡ Some y → s.plan ≡ Some q → MayCloseOff n (channel_seen s.opens y) y (reply_by q.ask s.tried q.reply) (given_back g n (s.run.writes ++ writes_now s.tried s.plan) s.asked t)) → MayCloseOff n had x r u
+may_close_now n g s t u x p b had r cmd plan done channel reply table may =
+    let now = may x p cmd plan in
+    let replies : reply_by p.ask s.tried p.reply ≡ r = sym (reply ∙ ap (λ k. reply_by p.ask k p.reply) done) in
+    let locks : given_back g n (s.run.writes ++ writes_now s.tried s.plan) s.asked t ≡ u = (λ i. given_back g n (s.run.writes ++ writes_now (sym done i) (plan i)) s.asked t) ∙ sym table in
+    subst (λ (ks : List Resource). MayCloseOff n had x r ks) locks (subst (λ (k : Reply). MayCloseOff n had x k (given_back g n (s.run.writes ++ writes_now s.tried s.plan) s.asked t)) replies
+    (subst (λ (o : Option Chan). MayCloseOff n o x (reply_by p.ask s.tried p.reply) (given_back g n (s.run.writes ++ writes_now s.tried s.plan) s.asked t)) (sym channel) now))
+
+-- the locks with that of an ask of the file system
+pub noted_so : (ls : List (LockName × Mode)) (a : PlanAsk) → noted ls a.chan (lock_name.A a.file) a.mode ≡ with_ask ls (own_of (Some a))
+noted_so ls a = by_test (a.chan == 0) where
+  by_test : (b : Bool) → cond b (ls ++ (lock_name.A a.file, a.mode) ∷ []) ls ≡ with_ask ls (cond b (Some a) None)
+  by_test true = refl
+  by_test false = refl
+
+-- what was noted and taken back
+pub unnoted_so : (ls : List (LockName × Mode)) (chan : ℕ) (name : LockName) (mode : Mode) → (chan ≡ 0 → has_asked name ls ≡ false) → unnoted (noted ls chan name mode) chan name ≡ ls
+unnoted_so ls chan name mode none = by_test (chan == 0) refl where
+  is_zero : (chan == 0) ≡ true → chan ≡ 0
+  is_zero e = grind (arith, nat_tests)
+
+  by_test : (b : Bool) → (chan == 0) ≡ b → cond b (filter (λ l. not (is_same l.0 name)) (cond b (ls ++ (name, mode) ∷ []) ls)) (cond b (ls ++ (name, mode) ∷ []) ls) ≡ ls
+  by_test true e = removed ls name mode (none (is_zero e))
+  by_test false e = refl

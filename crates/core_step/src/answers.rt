@@ -12,13 +12,15 @@ ghost use Rattle.core_state.specs.Worlds.{NodeState, IsOfWorld, state_of, plain_
 ghost use Rattle.core_state.specs.Event as event;
 ghost use Rattle.core_state.specs.Events.{happen, turned, writing, answering, unseen, command_at, plan_at, tried_at};
 ghost use Rattle.core_state.specs.Asks.{reply_by};
+ghost use Rattle.core_state.specs.Channels.{channel_seen};
 ghost use Rattle.core_step.specs.Giving.{MayEnd};
 
 use crate::asks::{into_reply, reply_by, writes_by};
+use crate::channels::{channel_seen, close_off, open_and_close};
 use crate::giving::give_back;
 use blk_drive::{ImageDev, ImageFault};
 use core_state::{Core, Node, SpaceRun};
-use op_law::{Operation, Plan, Seen, SeenBlocks, SeenLocks};
+use op_law::{Chan, Operation, Plan, Seen, SeenBlocks, SeenLocks};
 use plain_cat::{Clusters, Cmd, Entry};
 use std::alloc::Global;
 use std::mem;
@@ -77,7 +79,7 @@ fn unseen(alloc: Global, geometry: Geometry) -> Seen
     }
 }
 
-// What a command leaves behind as it ends.
+// What a command leaves behind as it ends, and what its channel had open.
 #[derive(Drop)]
 struct Ended {
     cmd: Cmd,
@@ -85,6 +87,7 @@ struct Ended {
     tried: bool,
     asked: SeenLocks,
     run: SpaceRun,
+    had: Option<Chan>,
 }
 
 // A node's command ends with the reply of its plan, or of its ask where that was not granted. It takes no memory.
@@ -98,6 +101,7 @@ fn end<O: Operation>(alloc: Global, node: &mut Node<O>) -> Ended
     ensures tried { result.tried ≡ node.old.tried }
     ensures asked { result.asked ≡ node.old.asked }
     ensures run { result.run ≡ node.old.run }
+    ensures had { result.had ≡ channel_seen node.old.opens result.cmd }
     ensures state { state_of O.cmd_is node.new ≡ turned (answering (state_of O.cmd_is node.old) result.cmd (reply_by result.plan.ask result.tried result.plan.reply)) }
 {
     let (Some(op), Some(plan)) = (node.op.take(), node.plan.take()) else {
@@ -106,6 +110,8 @@ fn end<O: Operation>(alloc: Global, node: &mut Node<O>) -> Ended
     let tried = node.tried;
     let cmd = op.into_cmd();
     node.past.answer(&cmd, reply_by(&plan, tried));
+    let had = channel_seen(&node.opens, &cmd);
+    open_and_close(&mut node.opens, &cmd, reply_by(&plan, tried));
     node.seen = unseen(alloc, node.seen.geometry);
     node.done = 0;
     node.tried = false;
@@ -118,11 +124,12 @@ fn end<O: Operation>(alloc: Global, node: &mut Node<O>) -> Ended
         tried,
         asked,
         run,
+        had,
     }
 }
 
 /// A node answers, with the reply of its plan, or of its ask where that was not granted: its answer is the last of the history, and
-/// its locks go back. It takes no memory.
+/// the locks of its command go back. OPEN keeps its channel's lock, and CLOSE gives it back. It takes no memory.
 pub(crate) fn answer<I: ImageDev, O: Operation>(alloc: Global, core: &mut Core<I, O>, node: u8)
     requires node { IsOfWorld (plain_of O.cmd_is core.old) node }
     requires geometry { IsGeometry core.old.geometry }
@@ -138,6 +145,7 @@ pub(crate) fn answer<I: ImageDev, O: Operation>(alloc: Global, core: &mut Core<I
         tried,
         asked,
         run,
+        had,
     } = end(alloc, &mut core.nodes[node as usize - 1]);
     give_back(
         &core.geometry,
@@ -147,6 +155,7 @@ pub(crate) fn answer<I: ImageDev, O: Operation>(alloc: Global, core: &mut Core<I
         asked.items(),
         &mut core.locks,
     );
+    close_off(&mut core.locks, node, had, &cmd, reply_by(&plan, tried));
     let reply = into_reply(plan, tried);
     core.history.append(Entry::Done { node, cmd, reply });
 }

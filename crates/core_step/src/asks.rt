@@ -1,8 +1,8 @@
 //! The ask of a plan: which of its writes a command makes, and with which reply it ends.
 
-ghost use Rattle.std.specs.Prelude.{◌≡◌};
+ghost use Rattle.std.specs.Prelude.{◌≡◌, false, option_map};
 ghost use Rattle.core_state.specs.Asks.{writes_by, reply_by};
-ghost use Rattle.core_step.specs.Asks.{going_ask, aim_of};
+ghost use Rattle.core_step.specs.Asks.{going_ask, aim_of, GoesAsRequest};
 
 use lock_db::{LockDb, LockName, Owner};
 use op_law::{Plan, PlanWrite};
@@ -40,13 +40,35 @@ pub(crate) fn into_reply(plan: Plan, tried: bool) -> Reply
     if tried { reply } else { ask.refused }
 }
 
-/// The file and the mode of the ask of a plan, where it was not granted yet and would be. It takes no memory.
-pub(crate) fn going_ask(plan: &Plan, tried: bool, locks: &LockDb, node: u8) -> Option<(u32, Mode)>
-    ensures { result ≡ aim_of (going_ask locks.now node tried plan.now.ask) }
+/// An ask as it is made.
+#[derive(Clone, Copy)]
+pub(crate) struct Aim {
+    /// The number of the file.
+    pub(crate) file: u32,
+
+    /// The channel that asks, 1 to 8, or 0 for the node's file system.
+    pub(crate) chan: u8,
+
+    /// The mode, CR to EX.
+    pub(crate) mode: Mode,
+}
+
+/// The ask of a plan, where it was not granted yet and would be at once. It takes no memory.
+pub(crate) fn going_ask(plan: &Plan, tried: bool, locks: &LockDb, node: u8) -> Option<Aim>
+    requires { tried ≡ false → GoesAsRequest locks.now node plan.now.ask }
+    ensures { result ≡ option_map aim_of (going_ask locks.now node tried plan.now.ask) }
 {
     let Some(ask) = &plan.ask else { return None };
-    if tried || !locks.would_grant(LockName::A(ask.file), Owner { node, part: 0 }, ask.mode) {
+    let owner = Owner {
+        node,
+        part: ask.chan,
+    };
+    if tried || !locks.would_grant(LockName::A(ask.file), owner, ask.mode) {
         return None;
     }
-    Some((ask.file, ask.mode))
+    Some(Aim {
+        file: ask.file,
+        chan: ask.chan,
+        mode: ask.mode,
+    })
 }

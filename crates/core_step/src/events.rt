@@ -8,11 +8,14 @@ ghost use Rattle.lock_db.specs.Queues.{standing_of};
 ghost use Rattle.lock_db.specs.Resources.{asked_answer, goes_at_once};
 ghost use Rattle.lock_db.specs.Tables.{resource_at, asked};
 ghost use Rattle.node_locks.specs.Held.{system_of};
+ghost use Rattle.node_locks.specs.Taking.{taken};
 ghost use Rattle.op_law.specs.declared.need.Ask.{Ask as PlanAsk};
 ghost use Rattle.core_state.specs.Worlds.{NodeState, IsOfWorld, state_of, plain_of, node_at};
 ghost use Rattle.core_state.specs.Event as event;
-ghost use Rattle.core_state.specs.Events.{has_asked, happen, turned, leaving, locking, space_locking, looking, planning, one_more};
+ghost use Rattle.core_state.specs.Events.{has_asked, happen, turned, leaving, locking, space_locking, looking, planning, one_more, would_go};
+ghost use Rattle.core_step.specs.Asks.{aim_of, MayAsk, noted, unnoted};
 
+use crate::asks::Aim;
 use blk_drive::{ImageDev, ImageFault};
 use core_state::{Core, Node, Phase};
 use lock_db::{Asked, LockDb, LockName, Owner};
@@ -177,46 +180,99 @@ pub(crate) fn space_lock<I: ImageDev, O: Operation>(
     request_space_lock(alloc, &mut core.locks, node, at)
 }
 
+// An owner asks for a lock that would be granted at once: a new one, or the conversion of one that it has, whose value block stays. An
+// error says that memory ran out, and nothing was asked.
+fn take(
+    alloc: Global,
+    locks: &mut LockDb,
+    owner: Owner,
+    name: LockName,
+    mode: Mode,
+) -> Result<(), NoMemory>
+    requires { MayAsk name owner mode locks.old }
+    ensures ok { OnOk result (locks.new ≡ taken name owner mode locks.old) }
+    ensures err { OnErr result (locks.new ≡ locks.old) }
+{
+    if locks.mode(name, owner).is_some() {
+        let (value, _) = locks.value(name);
+        let _granted = locks.convert(name, owner, mode, value);
+    } else {
+        let _granted = locks.request(alloc, name, owner, mode)?;
+    }
+    Ok(())
+}
+
+// The lock of an ask of the file system is the last of these; that of a channel is none of them. An error says that memory ran out.
+fn note(list: &mut SeenLocks, chan: u8, name: LockName, mode: Mode) -> Result<(), NoMemory>
+    ensures ok { OnOk result (list.new ≡ noted list.old chan name mode) }
+    ensures err { OnErr result (list.new ≡ list.old) }
+{
+    if chan == 0 {
+        list.push((name, mode))?;
+    }
+    Ok(())
+}
+
+// It is none of them again.
+fn unnote(list: &mut SeenLocks, chan: u8, name: LockName)
+    ensures { list.new ≡ unnoted list.old chan name }
+{
+    if chan == 0 {
+        list.remove(name);
+    }
+}
+
 // A node makes the ask of its plan, which would be granted. An error says that memory ran out, and nothing was asked.
 fn request_ask<O: Operation>(
     alloc: Global,
     locks: &mut LockDb,
     node: u8,
     at: &mut Node<O>,
-    name: LockName,
-    mode: Mode,
+    aim: Aim,
 ) -> Result<(), NoMemory>
-    requires new { standing_of (system_of node) (resource_at name locks.old).askers ≡ None }
-    requires apart { has_asked name at.old.asked ≡ false }
-    ensures ok { OnOk result ((locks.new ≡ asked name (system_of node) mode locks.old) × (state_of O.cmd_is at.new ≡ turned (record (state_of O.cmd_is at.old) { asked = at.old.asked ++ (name, mode) ∷ []; tried = true }))) }
+    requires may { MayAsk (A aim.file) (record { node = node; part = aim.chan }) aim.mode locks.old }
+    requires apart { aim.chan ≡ 0 → has_asked (A aim.file) at.old.asked ≡ false }
+    ensures ok { OnOk result ((locks.new ≡ taken (A aim.file) (record { node = node; part = aim.chan }) aim.mode locks.old) × (state_of O.cmd_is at.new ≡ turned (record (state_of O.cmd_is at.old) { asked = noted at.old.asked aim.chan (A aim.file) aim.mode; tried = true }))) }
     ensures err { OnErr result ((locks.new ≡ locks.old) × (state_of O.cmd_is at.new ≡ state_of O.cmd_is at.old)) }
 {
-    request(alloc, locks, node, &mut at.asked, name, mode)?;
-    at.tried = true;
-    count(at);
-    Ok(())
+    let name = LockName::A(aim.file);
+    let owner = Owner {
+        node,
+        part: aim.chan,
+    };
+    note(&mut at.asked, aim.chan, name, aim.mode)?;
+    match take(alloc, locks, owner, name, aim.mode) {
+        Ok(()) => {
+            at.tried = true;
+            count(at);
+            Ok(())
+        }
+        Err(fault) => {
+            unnote(&mut at.asked, aim.chan, name);
+            Err(fault)
+        }
+    }
 }
 
-/// A node's command makes the ask of its plan for who has this file open, in this mode, where that is granted. An error says that
-/// memory ran out, and nothing was asked.
+/// A node's command makes the ask of its plan for who has this file open, in this mode, by a channel or by the file system, where that
+/// is granted. An error says that memory ran out, and nothing was asked.
 pub(crate) fn ask<I: ImageDev, O: Operation>(
     alloc: Global,
     core: &mut Core<I, O>,
     node: u8,
-    file: u32,
-    mode: Mode,
+    aim: Aim,
 ) -> Result<(), NoMemory>
     requires node { IsOfWorld (plain_of O.cmd_is core.old) node }
-    requires new { standing_of (system_of node) (resource_at (A file) core.old.locks).askers ≡ None }
-    requires apart { (s : NodeState) → node_at (plain_of O.cmd_is core.old).nodes node ≡ Some s → has_asked (A file) s.asked ≡ false }
-    requires goes { goes_at_once (system_of node) mode (resource_at (A file) core.old.locks).askers ≡ true }
-    ensures world { OnOk result ((x : Cmd) (a : PlanAsk) → a.file ≡ file → a.mode ≡ mode → plain_of O.cmd_is core.new ≡ happen (plain_of O.cmd_is core.old) node (event.Ask x a)) }
+    requires may { MayAsk (A aim.file) (record { node = node; part = aim.chan }) aim.mode core.old.locks }
+    requires apart { (s : NodeState) → node_at (plain_of O.cmd_is core.old).nodes node ≡ Some s → aim.chan ≡ 0 → has_asked (A aim.file) s.asked ≡ false }
+    requires goes { (a : PlanAsk) → aim ≡ aim_of a → would_go core.old.locks node a ≡ true }
+    ensures world { OnOk result ((x : Cmd) (a : PlanAsk) → aim ≡ aim_of a → plain_of O.cmd_is core.new ≡ happen (plain_of O.cmd_is core.old) node (event.Ask x a)) }
     ensures same { OnErr result (plain_of O.cmd_is core.new ≡ plain_of O.cmd_is core.old) }
     ensures mirror { core.new.mirror ≡ core.old.mirror }
     ensures room { core.new.history.room ≡ core.old.history.room }
 {
     let at = &mut core.nodes[node as usize - 1];
-    request_ask(alloc, &mut core.locks, node, at, LockName::A(file), mode)
+    request_ask(alloc, &mut core.locks, node, at, aim)
 }
 
 // A node has looked at a block. A refusal of memory leaves it as it was.

@@ -128,8 +128,8 @@ fn planned<I: ImageDev, O: Operation>(
         write(core, node, lbn, &block, done)?;
         return Ok(Turn::Moved(Kind::Wrote));
     }
-    if let Some((file, mode)) = going_ask(plan, at.tried, &core.locks, node) {
-        ask(alloc, core, node, file, mode)?;
+    if let Some(aim) = going_ask(plan, at.tried, &core.locks, node) {
+        ask(alloc, core, node, aim)?;
         return Ok(Turn::Moved(Kind::Tried));
     }
     answer(alloc, core, node);

@@ -8,8 +8,7 @@ use Rattle.run_script.specs.declared.built.Kind.{Kind}
 use Rattle.run_script.specs.declared.built.Kind.TheVariants as kind
 use Rattle.run_script.specs.declared.built.Built.{Built}
 
--- What the program runs so far: LOOKUP, LIST, STAT, CREATE, MKDIR, EXTEND, TRUNC, DELETE and RENAME, of each file and directory,
--- QUOTASET and QUOTASHOW, and no deaths.
+-- What the program runs so far: every command, and no deaths.
 abbrev pub run_so_far : Built
 run_so_far = record {
   lookup = true;
@@ -21,10 +20,10 @@ run_so_far = record {
   trunc = true;
   delete = true;
   rename = true;
-  open_file = false;
-  close_file = false;
-  read_block = false;
-  write_block = false;
+  open_file = true;
+  close_file = true;
+  read_block = true;
+  write_block = true;
   quota_set = true;
   quota_show = true;
   kill = false;

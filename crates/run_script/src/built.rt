@@ -42,8 +42,7 @@ pub struct Built {
     pub kill: bool,
 }
 
-/// What the program runs so far: LOOKUP, LIST, STAT, CREATE, MKDIR, EXTEND, TRUNC, DELETE and RENAME, of each file and directory,
-/// by its identifier or by a register, and QUOTASET and QUOTASHOW.
+/// What the program runs so far: every command, and no deaths of nodes.
 pub const BUILT: Built = Built {
     lookup: true,
     list: true,
@@ -54,10 +53,10 @@ pub const BUILT: Built = Built {
     trunc: true,
     delete: true,
     rename: true,
-    open_file: false,
-    close_file: false,
-    read_block: false,
-    write_block: false,
+    open_file: true,
+    close_file: true,
+    read_block: true,
+    write_block: true,
     quota_set: true,
     quota_show: true,
     kill: false,

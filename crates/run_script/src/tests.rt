@@ -188,7 +188,7 @@ fn reads_all_that_is_on(rt: HostRuntime) -> Result<(), Fail> {
         let mut alone = Vec::from_slice(rt.alloc(), b"NODES 1\n")?;
         alone.extend_from_slice(line.as_bytes())?;
         let taken = read_script(rt.alloc(), alone.as_slice()).is_ok();
-        assert_eq!(rt; taken, i < 11, "{line}");
+        assert_eq!(rt; taken, i < 15, "{line}");
         text.extend_from_slice(line.as_bytes())?;
         text.push(b'\n')?;
     }

@@ -1,12 +1,9 @@
 use Rattle.std.proofs.Common.{◌∙◌, sym, ap, subst}
 use Rattle.clus_top.specs.declared.run.Stop.TheVariants as stop
 use Rattle.clus_top.specs.Ends.{IsStopBy}
-use Rattle.clus_top.proofs.Commands.{only_built, only_run}
+use Rattle.clus_top.proofs.Commands.{only_built}
 use Rattle.clus_top.proofs.Reported.{stop_of_mounted, mount_stop, if_err}
 use Rattle.clus_top.proofs.run.run_mounted.Goals as goal
-
-pub mount-requires-clause-runs : goal.mount-requires-clause-runs
-mount-requires-clause-runs g c = only_run c.args.script.now c.requires.form c.requires.built
 
 pub mount-requires-clause-taken : goal.mount-requires-clause-taken
 mount-requires-clause-taken g c = only_built c.args.script.now c.requires.form c.requires.built

@@ -1,6 +1,7 @@
 use Rattle.std.proofs.Common.{refl, ap, ◌∙◌, false}
 use Rattle.std.specs.Prelude.{option_map}
 use Rattle.plain_vol.specs.Own.{after_answer}
+use Rattle.core_state.specs.Channels.{opens_then}
 use Rattle.core_step.proofs.answers.end.Goals as goal
 
 pub returns-clause-state : goal.returns-clause-state
@@ -18,7 +19,7 @@ returns-clause-state g c =
       asked = asked i;
       kept = node.kept.items;
       back = node.back.items;
-      opens = node.opens;
+      opens = (c.open_and_close.ensures ∙ ap (opens_then node.opens c.into_cmd-cmd.result) c.reply_by-2.ensures) i;
       run = run i;
       stock = record { clusters = node.stock.clusters; numbers = node.stock.numbers };
       cache = node.cache;

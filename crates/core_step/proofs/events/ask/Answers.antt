@@ -1,12 +1,12 @@
-use Rattle.std.proofs.Common.{true, ◌++◌, ◌-◌, ◌∷◌, [], refl, sym, ap, map, slice_set, ◌∙◌}
+use Rattle.std.proofs.Common.{◌-◌, true, refl, sym, ap, map, slice_set, ◌∙◌}
+use Rattle.lock_db.specs.declared.name.LockName.TheVariants.{A}
+use Rattle.node_locks.specs.Taking.{taken}
 use Rattle.core_state.specs.Worlds.{state_of, plain_of}
 use Rattle.core_state.specs.Events.{turned}
-use Rattle.lock_db.specs.declared.name.LockName.TheVariants.{A}
-use Rattle.lock_db.specs.Resources.{goes_at_once}
-use Rattle.lock_db.specs.Tables.{resource_at, asked}
-use Rattle.node_locks.specs.Held.{system_of}
 use Rattle.core_state.proofs.Nodes.{told_at}
-use Rattle.core_step.proofs.Steps.{on_ok, on_err, asked_so, kept}
+use Rattle.core_step.specs.Asks.{noted}
+use Rattle.core_step.specs.declared.asks.Aim.{Aim}
+use Rattle.core_step.proofs.Steps.{on_ok, on_err, asked_so, kept, noted_so}
 use Rattle.core_step.proofs.events.ask.Goals as goal
 
 pub request_ask-requires-clause-apart : goal.request_ask-requires-clause-apart
@@ -16,11 +16,11 @@ pub returns-clause-world : goal.returns-clause-world
 returns-clause-world g c =
     let f = state_of g.O.Operation.cmd_is in
     let node = c.index_mut-at.result.now in
-    on_ok c.request_ask.result _ _ (λ e x a file mode.
-    let table = e.0 ∙ (λ i. asked (A (sym file i)) (system_of c.args.node) (sym mode i) c.args.core.now.locks) in
-    let goes = (λ i. goes_at_once (system_of c.args.node) (mode i) (resource_at (A (file i)) c.args.core.now.locks).askers) ∙ c.requires.goes in
+    on_ok c.request_ask.result _ _ (λ e x a aim.
+    let table = e.0 ∙ ap (λ (k : Aim). taken (A k.file) (record { node = c.args.node; part = k.chan }) k.mode c.args.core.now.locks) aim in
+    let locks = ap (λ (k : Aim). noted node.asked k.chan (A k.file) k.mode) aim ∙ noted_so node.asked a in
     ap (λ t. record (plain_of g.O.Operation.cmd_is c.args.core.now) { locks = t; nodes = map f (slice_set c.args.core.now.nodes.items (c.args.node - 1) c.request_ask.new.at) }) table
-    ∙ asked_so f c.args.core.now.nodes.items (plain_of g.O.Operation.cmd_is c.args.core.now) c.args.node node c.request_ask.new.at c.requires.node.from c.requires.node.to c.index_mut-at.ensures.value refl x a goes (e.1 ∙ (λ i. turned (record (f node) { asked = node.asked ++ (A (sym file i), sym mode i) ∷ []; tried = true })))) c.request_ask.ensures.ok
+    ∙ asked_so f c.args.core.now.nodes.items (plain_of g.O.Operation.cmd_is c.args.core.now) c.args.node node c.request_ask.new.at c.requires.node.from c.requires.node.to c.index_mut-at.ensures.value refl x a (c.requires.goes a aim) (e.1 ∙ ap (λ ls. turned (record (f node) { asked = ls; tried = true })) locks)) c.request_ask.ensures.ok
 
 pub returns-clause-same : goal.returns-clause-same
 returns-clause-same g c =

@@ -1,18 +1,16 @@
-use Rattle.std.proofs.Common.{not, ◌+◌, ◌≡◌, refl, sym, ap, subst, ◌∙◌, Some, None, rules}
+use Rattle.std.proofs.Common.{not, false, ◌+◌, ◌≡◌, refl, sym, ap, subst, ◌∙◌, Some, None, rules}
 use Rattle.std.specs.Prelude.{is_some}
 use Rattle.lock_db.specs.declared.name.LockName.TheVariants.{A}
-use Rattle.lock_db.specs.Queues.{standing_of}
-use Rattle.lock_db.specs.Resources.{goes_at_once}
-use Rattle.lock_db.specs.Tables.{resource_at}
-use Rattle.node_locks.specs.Held.{system_of}
 use Rattle.core_state.specs.Worlds.{plain_of}
 use Rattle.core_state.specs.Asks.{reply_by}
 use Rattle.core_state.specs.Goods.{HasRoom}
 use Rattle.core_state.specs.Event as event
 use Rattle.core_state.specs.Events.{happen, tried_at}
-use Rattle.core_step.specs.Asks.{going_ask}
+use Rattle.core_state.specs.Events.{has_asked}
+use Rattle.core_step.specs.Asks.{going_ask, MayAsk}
+use Rattle.core_step.specs.declared.asks.Aim.{Aim}
 use Rattle.core_step.specs.Memory.{takes_none}
-use Rattle.core_step.proofs.Ready.{IsItem, item_of, one_node, plan_now, next_now, last_now, item_aim, aimed, aims_none, going_is, no_plan_now, place_kept, event_write, event_ask, ends_as, ends_told, may_ask, ask_apart, write_within, write_leaves, may_end_at, command_is, plan_is, tried_is, write_room, ask_room, ask_told, answer_room}
+use Rattle.core_step.proofs.Ready.{IsItem, item_of, tells, goes_as, same_aim, one_node, plan_now, next_now, last_now, item_aim, aimed, aims_none, going_is, no_plan_now, place_kept, event_write, event_ask, ends_as, ends_told, may_ask, ask_apart, write_within, write_leaves, may_end_at, command_is, plan_is, tried_is, write_room, ask_room, ask_told, answer_room}
 use Rattle.core_step.proofs.Outcomes.{quiet, wrote, lacking, failed, still_room}
 use Rattle.core_step.proofs.step.planned.Goals as goal
 
@@ -50,37 +48,39 @@ returns-then-at-writes g c =
     wrote _ _ _ (event_write c.requires.good c.requires.ready c.in-Some.plan plan (Some c.index-writes-at.result) next) world refl c.in_ok-write.ensures.cause.later c.in_ok-write.ensures.image c.in_ok-write.ensures.blocks
     (subst (λ k. HasRoom (plain_of g.O.Operation.cmd_is c.write.new.core) k) (sym c.in_ok-write.ensures.room) (write_room c.requires.good c.requires.ready c.index-writes-at.result c.args.core.now.history.room c.requires.room (plain_of g.O.Operation.cmd_is c.write.new.core) world))
 
-pub ask-requires-clause-new : goal.ask-requires-clause-new
-ask-requires-clause-new g c =
+pub going_ask-requires : goal.going_ask-requires
+going_ask-requires g c not_yet =
     let it : IsItem g.O.Operation.cmd_is c.requires.ready c.index-at.result.now = item_of g.O.Operation.cmd_is c.args.core.now.nodes.items c.requires.ready c.index-at.result.now refl c.requires.node c.index-at.ensures in
     let plan = plan_now it c.in-Some.plan c.in-Some.is in
-    let aim = aimed (going_ask c.args.core.now.locks c.args.node c.requires.ready.state.tried c.in-Some.plan.ask) c.in-Some-going_ask.file c.in-Some-going_ask.mode (sym (item_aim it c.args.core.now.locks c.in-Some.plan c.going_ask.result c.going_ask.ensures) ∙ c.in-Some-going_ask.is) in
-    let going = going_is c.args.core.now.locks c.args.node c.requires.ready.state.tried c.in-Some.plan.ask aim.made aim.is in
-    let none = subst (λ k. standing_of (system_of c.args.node) (resource_at (A k) c.args.core.now.locks).askers ≡ None) aim.file_is (may_ask c.requires.good c.requires.ready c.in-Some.plan plan aim.made aim.is) in
-    none
+    goes_as c.requires.good c.requires.ready c.in-Some.plan plan (ap (λ y. y.tried) (sym (tells it)) ∙ not_yet)
+
+pub ask-requires-clause-may : goal.ask-requires-clause-may
+ask-requires-clause-may g c =
+    let it : IsItem g.O.Operation.cmd_is c.requires.ready c.index-at.result.now = item_of g.O.Operation.cmd_is c.args.core.now.nodes.items c.requires.ready c.index-at.result.now refl c.requires.node c.index-at.ensures in
+    let plan = plan_now it c.in-Some.plan c.in-Some.is in
+    let aim = aimed (going_ask c.args.core.now.locks c.args.node c.requires.ready.state.tried c.in-Some.plan.ask) c.in-Some-going_ask.aim (sym (item_aim it c.args.core.now.locks c.in-Some.plan c.going_ask.result c.going_ask.ensures) ∙ c.in-Some-going_ask.is) in
+    subst (λ (k : Aim). MayAsk (A k.file) (record { node = c.args.node; part = k.chan }) k.mode c.args.core.now.locks) (sym aim.same) (may_ask c.requires.good c.requires.ready c.in-Some.plan plan aim.made aim.is)
 
 pub ask-requires-clause-apart : goal.ask-requires-clause-apart
-ask-requires-clause-apart g c =
+ask-requires-clause-apart g c s at own =
     let it : IsItem g.O.Operation.cmd_is c.requires.ready c.index-at.result.now = item_of g.O.Operation.cmd_is c.args.core.now.nodes.items c.requires.ready c.index-at.result.now refl c.requires.node c.index-at.ensures in
     let plan = plan_now it c.in-Some.plan c.in-Some.is in
-    let aim = aimed (going_ask c.args.core.now.locks c.args.node c.requires.ready.state.tried c.in-Some.plan.ask) c.in-Some-going_ask.file c.in-Some-going_ask.mode (sym (item_aim it c.args.core.now.locks c.in-Some.plan c.going_ask.result c.going_ask.ensures) ∙ c.in-Some-going_ask.is) in
-    let going = going_is c.args.core.now.locks c.args.node c.requires.ready.state.tried c.in-Some.plan.ask aim.made aim.is in
-    let none = subst (λ k. standing_of (system_of c.args.node) (resource_at (A k) c.args.core.now.locks).askers ≡ None) aim.file_is (may_ask c.requires.good c.requires.ready c.in-Some.plan plan aim.made aim.is) in
-    ask_apart c.requires.good c.requires.ready c.in-Some-going_ask.file none
+    let aim = aimed (going_ask c.args.core.now.locks c.args.node c.requires.ready.state.tried c.in-Some.plan.ask) c.in-Some-going_ask.aim (sym (item_aim it c.args.core.now.locks c.in-Some.plan c.going_ask.result c.going_ask.ensures) ∙ c.in-Some-going_ask.is) in
+    subst (λ (k : Aim). has_asked (A k.file) s.asked ≡ false) (sym aim.same) (ask_apart c.requires.good c.requires.ready c.in-Some.plan plan aim.made aim.is s at)
 
 pub ask-requires-clause-goes : goal.ask-requires-clause-goes
-ask-requires-clause-goes g c =
+ask-requires-clause-goes g c a same =
     let it : IsItem g.O.Operation.cmd_is c.requires.ready c.index-at.result.now = item_of g.O.Operation.cmd_is c.args.core.now.nodes.items c.requires.ready c.index-at.result.now refl c.requires.node c.index-at.ensures in
-    let aim = aimed (going_ask c.args.core.now.locks c.args.node c.requires.ready.state.tried c.in-Some.plan.ask) c.in-Some-going_ask.file c.in-Some-going_ask.mode (sym (item_aim it c.args.core.now.locks c.in-Some.plan c.going_ask.result c.going_ask.ensures) ∙ c.in-Some-going_ask.is) in
+    let aim = aimed (going_ask c.args.core.now.locks c.args.node c.requires.ready.state.tried c.in-Some.plan.ask) c.in-Some-going_ask.aim (sym (item_aim it c.args.core.now.locks c.in-Some.plan c.going_ask.result c.going_ask.ensures) ∙ c.in-Some-going_ask.is) in
     let going = going_is c.args.core.now.locks c.args.node c.requires.ready.state.tried c.in-Some.plan.ask aim.made aim.is in
-    (λ i. goes_at_once (system_of c.args.node) (sym aim.mode_is i) (resource_at (A (sym aim.file_is i)) c.args.core.now.locks).askers) ∙ going.goes
+    same_aim c.args.core.now.locks c.args.node aim.made a (sym aim.same ∙ same) going.goes
 
 pub returns-in_err-ask : goal.returns-in_err-ask
 returns-in_err-ask g c =
     let it : IsItem g.O.Operation.cmd_is c.requires.ready c.index-at.result.now = item_of g.O.Operation.cmd_is c.args.core.now.nodes.items c.requires.ready c.index-at.result.now refl c.requires.node c.index-at.ensures in
     let plan = plan_now it c.in-Some.plan c.in-Some.is in
     let last = last_now it c.in-Some.plan c.writes_by-writes.result.now c.writes_by-writes.ensures c.if-at-writes.false in
-    let aim = aimed (going_ask c.args.core.now.locks c.args.node c.requires.ready.state.tried c.in-Some.plan.ask) c.in-Some-going_ask.file c.in-Some-going_ask.mode (sym (item_aim it c.args.core.now.locks c.in-Some.plan c.going_ask.result c.going_ask.ensures) ∙ c.in-Some-going_ask.is) in
+    let aim = aimed (going_ask c.args.core.now.locks c.args.node c.requires.ready.state.tried c.in-Some.plan.ask) c.in-Some-going_ask.aim (sym (item_aim it c.args.core.now.locks c.in-Some.plan c.going_ask.result c.going_ask.ensures) ∙ c.in-Some-going_ask.is) in
     let going = going_is c.args.core.now.locks c.args.node c.requires.ready.state.tried c.in-Some.plan.ask aim.made aim.is in
     lacking _ (search rules) c.in_err-ask.ensures.same (ap (takes_none c.args.core.now.locks c.args.node) (event_ask c.requires.good c.requires.ready c.in-Some.plan plan last aim.made aim.is).event ∙ ap not going.goes)
     (ap (λ m. m.image) c.in_err-ask.ensures.mirror) (still_room c.in_err-ask.ensures.same c.in_err-ask.ensures.room c.requires.room)
@@ -90,9 +90,9 @@ returns-in-Some-going_ask g c =
     let it : IsItem g.O.Operation.cmd_is c.requires.ready c.index-at.result.now = item_of g.O.Operation.cmd_is c.args.core.now.nodes.items c.requires.ready c.index-at.result.now refl c.requires.node c.index-at.ensures in
     let plan = plan_now it c.in-Some.plan c.in-Some.is in
     let last = last_now it c.in-Some.plan c.writes_by-writes.result.now c.writes_by-writes.ensures c.if-at-writes.false in
-    let aim = aimed (going_ask c.args.core.now.locks c.args.node c.requires.ready.state.tried c.in-Some.plan.ask) c.in-Some-going_ask.file c.in-Some-going_ask.mode (sym (item_aim it c.args.core.now.locks c.in-Some.plan c.going_ask.result c.going_ask.ensures) ∙ c.in-Some-going_ask.is) in
+    let aim = aimed (going_ask c.args.core.now.locks c.args.node c.requires.ready.state.tried c.in-Some.plan.ask) c.in-Some-going_ask.aim (sym (item_aim it c.args.core.now.locks c.in-Some.plan c.going_ask.result c.going_ask.ensures) ∙ c.in-Some-going_ask.is) in
     let going = going_is c.args.core.now.locks c.args.node c.requires.ready.state.tried c.in-Some.plan.ask aim.made aim.is in
-    let world = c.in_ok-ask.ensures.world c.requires.ready.cmd aim.made aim.file_is aim.mode_is in
+    let world = c.in_ok-ask.ensures.world c.requires.ready.cmd aim.made aim.same in
     quiet _ (event_ask c.requires.good c.requires.ready c.in-Some.plan plan last aim.made aim.is) world (ask_told c.requires.good c.requires.ready aim.made going.goes (plain_of g.O.Operation.cmd_is c.ask.new.core) world)
     (ap (λ m. m.image) c.in_ok-ask.ensures.mirror) (ap (λ m. m.blocks) c.in_ok-ask.ensures.mirror)
     (subst (λ k. HasRoom (plain_of g.O.Operation.cmd_is c.ask.new.core) k) (sym c.in_ok-ask.ensures.room) (ask_room c.requires.good c.requires.ready c.requires.ready.cmd aim.made c.args.core.now.history.room going.goes c.requires.room (plain_of g.O.Operation.cmd_is c.ask.new.core) world))

@@ -27,6 +27,6 @@ invariant_of-result g c =
     let to = subst (λ (k : ℕ). k ≤ 65536) c.size-size.ensures.blocks c.size-size.ensures.inside.high in
     let whole = subst (λ bs. AreWholeBlocks bs) c.all-2.ensures c.blocks_are_whole.ensures in
     let u = mounts c.args.m.blocks c.in-Ok-Ok.cat c.geometry-geometry.result from to whole j.1 by in
-    let w = world_mounted c.args.m.blocks c.args.script.now c.in-Ok-Ok.cat c.geometry-geometry.result c.requires.form c.requires.runs u (accepted_accounts c.args.m.blocks c.in-Ok-Ok.cat from to whole j.0 j.1) (accepted_system c.args.m.blocks c.in-Ok-Ok.cat from to whole j.1) (told_opens c.args.m.blocks c.in-Ok-Ok.cat from to whole j.1) g.O.Operation.takes c.new.result.room (c.args.m.blocks, j.0, j.1) c.requires.taken in
+    let w = world_mounted c.args.m.blocks c.args.script.now c.in-Ok-Ok.cat c.geometry-geometry.result c.requires.form u (accepted_accounts c.args.m.blocks c.in-Ok-Ok.cat from to whole j.0 j.1) (accepted_system c.args.m.blocks c.in-Ok-Ok.cat from to whole j.1) (told_opens c.args.m.blocks c.in-Ok-Ok.cat from to whole j.1) g.O.Operation.takes c.new.result.room (c.args.m.blocks, j.0, j.1) c.requires.taken in
     subst (λ v. IsWorld g.O.Operation.takes v c.new.result.room)
     (sym (λ i. record { script = c.in-Ok.ensures.script i; opening = c.in-Ok-Ok.cat; geometry = c.geometry-geometry.result; blocks = c.args.m.blocks; locks = c.in-Ok.ensures.locks i; nodes = c.in-Ok.ensures.nodes i; history = c.new.ensures i })) w
