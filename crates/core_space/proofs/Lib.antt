@@ -1,0 +1,5 @@
+pub mod Setting
+pub mod Filled
+pub mod Given
+pub mod Refused
+pub mod Loops

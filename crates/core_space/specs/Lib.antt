@@ -1,0 +1,4 @@
+pub mod Filling
+pub mod Giving
+pub mod Rule
+pub mod Laws

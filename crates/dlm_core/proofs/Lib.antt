@@ -1,0 +1,12 @@
+pub mod Beliefs
+pub mod Calls
+pub mod Firsts
+pub mod Grants
+pub mod Mails
+pub mod Modes
+pub mod Others
+pub mod Safety
+pub mod Sound
+pub mod Tables
+pub mod Takes
+pub mod Truth

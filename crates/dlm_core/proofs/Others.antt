@@ -1,0 +1,210 @@
+-- How a call on a name leaves its owner and all others there.
+use Rattle.std.proofs.Common.{◌≡◌, ◌==◌, ◌||◌, ◌⊎◌, inl, inr, ℕ, zero, suc, Bool, true, false, not, List, [], ◌∷◌, Option, Some, None, IsSome, find, length, refl, arith, cond, ap, sym, ◌∙◌, if◌then◌else◌, unwrap_or, option_map, option_and_then}
+use Rattle.plain_cat.specs.declared.mode.Mode.{Mode}
+use Rattle.plain_cat.specs.declared.mode.Mode.TheVariants.{PR}
+use Rattle.lock_db.specs.declared.name.LockName.{LockName}
+use Rattle.lock_db.specs.declared.name.Owner.{Owner}
+use Rattle.lock_db.specs.declared.askers.Standing.{Standing}
+use Rattle.lock_db.specs.declared.askers.Standing.TheVariants.{Granted, Converting, Waiting}
+use Rattle.lock_db.specs.declared.askers.Asker.{Asker}
+use Rattle.lock_db.specs.declared.resource.Resource.{Resource}
+use Rattle.lock_db.specs.Names.{same_owner}
+use Rattle.lock_db.specs.Queues.{held, wanted, is_queued, standing_so, with_standing, without, one_grant, granted_upto, settled, standing_of, lock_of, settled_mode, is_writing}
+use Rattle.lock_db.specs.Resources.{goes_at_once, first_standing, converts_at_once, written, conversion_writes, regranted, queued_up, mode_held, converted_of, released_of}
+use Rattle.lock_db.specs.Tables.{resource_at, asked, converted, released, all_together, IsTable, converts_now}
+use Rattle.lock_db.specs.Laws.{LeavesOthers}
+use Rattle.lock_db.proofs.Lists.{find-push_no, find-filter, list_all-every}
+use Rattle.lock_db.proofs.Owners.{same_owner-same}
+use Rattle.lock_db.proofs.Together.{all_together-filter, all_together-granted}
+use Rattle.lock_db.proofs.Heads.{one_grant-some}
+use Rattle.lock_db.proofs.Order.{vacated}
+use Rattle.lock_db.proofs.Places.{written-askers}
+use Rattle.lock_db.proofs.Steps.{IsSettled-at, HasLock-lock_of, converts-goes, lock-is, IsTable-asked, IsTable-converted}
+use Rattle.lock_db.proofs.Blocks.{asked-at, converted-at, released-at, asked-leaves, converted-leaves}
+use Rattle.lock_db.proofs.Standings.{grants-serve, requests-stand, conversions-stand}
+use Rattle.dlm_core.specs.declared.messages.Message.{Message}
+use Rattle.dlm_core.specs.Modes.{is_across, is_lowering, lowers, crosses}
+use Rattle.dlm_core.specs.Steps.{stands_as, ask_made}
+use Rattle.dlm_core.specs.Lanes.{queued_as}
+use Rattle.dlm_core.proofs.Modes.{lowering-not_up, across-not}
+
+-- the asker of an owner
+abbrev pub owned : Owner → Asker → Bool
+owned owner a = same_owner a.owner owner
+
+-- what a call may make of the standing of another owner: nothing, or a lock in the mode that it waits for
+abbrev pub Served : Option Standing → Option Standing → Type 0
+Served before after = (after ≡ before) ⊎ ((s : Standing) × (before ≡ Some s) × (is_queued s ≡ true) × (after ≡ Some (Granted (wanted s))))
+
+find-with : (owner other : Owner) (s : Standing) (xs : List Asker) → same_owner other owner ≡ false → find (owned owner) (with_standing other s xs) ≡ find (owned owner) xs
+find-with owner other s [] n = refl
+find-with owner other s (a ∷ xs) n =
+    let rest = find-with owner other s xs n in
+    (elim (same_owner a.owner other) as (λ b. same_owner a.owner other ≡ b → find (owned owner) (cond b (record a { standing = s }) a ∷ with_standing other s xs) ≡ find (owned owner) (a ∷ xs)) [
+      | true ↦ λ e.
+          let is : a.owner ≡ other = same_owner-same a.owner other e in
+          let no : same_owner a.owner owner ≡ false = rw is n in
+          rw no rest
+      | false ↦ λ e. ap (λ (f : Option Asker). cond (same_owner a.owner owner) (Some a) f) rest
+    ]) refl
+
+with-none : (owner other : Owner) (s : Standing) (xs : List Asker) → find (owned owner) xs ≡ None → find (owned owner) (with_standing other s xs) ≡ None
+with-none owner other s [] f = refl
+with-none owner other s (a ∷ xs) f =
+    let rest : find (owned owner) xs ≡ None → find (owned owner) (with_standing other s xs) ≡ None = with-none owner other s xs in
+    let same : owned owner (standing_so other s a) ≡ owned owner a = (elim (same_owner a.owner other) as (λ b. owned owner (cond b (record a { standing = s }) a) ≡ owned owner a) [ true ↦ refl | false ↦ refl ]) in
+    rw same (
+    (elim (owned owner a) as (λ b. cond b (Some a) (find (owned owner) xs) ≡ None → cond b (Some (standing_so other s a)) (find (owned owner) (with_standing other s xs)) ≡ None) [ true ↦ λ g. cc | false ↦ rest ]) f)
+
+granted_upto-none : (k : ℕ) (owner : Owner) (xs : List Asker) → find (owned owner) xs ≡ None → find (owned owner) (granted_upto k xs) ≡ None
+unfolding granted_upto
+granted_upto-none zero owner xs f = f
+granted_upto-none (suc k) owner xs f =
+    (elim (one_grant xs) as (λ o. one_grant xs ≡ o → find (owned owner) (unwrap_or (option_map (granted_upto k) o) xs) ≡ None) [
+      | None ↦ λ n. f
+      | Some ys ↦ λ n.
+          let g = one_grant-some xs ys n in
+          granted_upto-none k owner ys (ap (find (owned owner)) g.after ∙ with-none owner g.head.owner (Granted (wanted g.head.standing)) xs f)
+    ]) refl
+
+standing-none : (o : Option Asker) → option_map (λ (a : Asker). a.standing) o ≡ None → o ≡ None
+standing-none None e = refl
+standing-none (Some a) e = cc
+
+-- a settle serves those who wait
+settled-serves : (owner : Owner) (xs : List Asker) → all_together xs ≡ true → Served (standing_of owner xs) (standing_of owner (settled xs))
+settled-serves owner xs t =
+    (elim (standing_of owner xs) as (λ o. standing_of owner xs ≡ o → Served o (standing_of owner (settled xs))) [
+      | None ↦ λ e. inl (ap (option_map (λ (a : Asker). a.standing)) (granted_upto-none (length xs) owner xs (standing-none (find (owned owner) xs) e)))
+      | Some s ↦ λ e. (elim (grants-serve xs owner s t e) [ inl r ↦ inl r | inr r ↦ inr (s, refl, r.0, r.1) ])
+    ]) refl
+
+served-from : (a b c : Option Standing) → b ≡ a → Served b c → Served a c
+served-from a b c e s = rw (← e) s
+
+-- what an asker of another owner is behind a change of one owner's place
+apart : (owner other : Owner) (a : Asker) → same_owner other owner ≡ false → (not (same_owner a.owner other) || not (owned owner a)) ≡ true
+apart owner other a n =
+    (elim (same_owner a.owner other) as (λ b. same_owner a.owner other ≡ b → (not b || not (owned owner a)) ≡ true) [
+      | true ↦ λ e. let is : a.owner ≡ other = same_owner-same a.owner other e in rw is (rw n refl)
+      | false ↦ λ e. refl
+    ]) refl
+
+find-without : (owner other : Owner) (xs : List Asker) → same_owner other owner ≡ false → find (owned owner) (without other xs) ≡ find (owned owner) xs
+find-without owner other xs n = find-filter (owned owner) (λ (a : Asker). not (same_owner a.owner other)) xs (list_all-every (λ (a : Asker). not (same_owner a.owner other) || not (owned owner a)) xs (λ a. apart owner other a n))
+
+standing-without : (owner other : Owner) (xs : List Asker) → same_owner other owner ≡ false → standing_of owner (without other xs) ≡ standing_of owner xs
+standing-without owner other xs n = ap (option_map (λ (a : Asker). a.standing)) (find-without owner other xs n)
+
+-- others at a request
+pub asked-serves : (x : LockName) (p o : Owner) (mode : Mode) (t : List Resource) → same_owner o p ≡ false
+    → Served (standing_of p (resource_at x t).askers) (standing_of p (resource_at x (asked x o mode t)).askers)
+asked-serves x p o mode t n =
+    let xs : List Asker = (resource_at x t).askers in
+    inl (ap (λ (r : Resource). standing_of p r.askers) (asked-at x o mode t)
+    ∙ ap (option_map (λ (a : Asker). a.standing)) (find-push_no (owned p) xs (record { owner = o; standing = first_standing (goes_at_once o mode xs) mode }) n))
+
+-- others at a conversion
+pub converted-serves : (x : LockName) (p o : Owner) (old mode : Mode) (value : List ℕ) (t : List Resource) → IsTable t → same_owner o p ≡ false
+    → lock_of o (resource_at x t).askers ≡ Some old → is_across old mode ≡ false
+    → Served (standing_of p (resource_at x t).askers) (standing_of p (resource_at x (converted x o mode value t)).askers)
+converted-serves x p o old mode value t tab n l c =
+    let r : Resource = resource_at x t in
+    let xs : List Asker = r.askers in
+    let some : IsSome (lock_of o xs) = rw l refl in
+    let together = (IsSettled-at x t tab).together in
+    let h = HasLock-lock_of o old xs l in
+    let at : standing_of p (resource_at x (converted x o mode value t)).askers ≡ standing_of p (converted_of o mode value r).askers = ap (λ (q : Resource). standing_of p q.askers) (converted-at x o mode value t some) in
+    rw (at, lock-is o r old l) (
+    (elim (converts_at_once o old mode xs) as (λ b. converts_at_once o old mode xs ≡ b → Served (standing_of p xs) (standing_of p (if b then written (conversion_writes old mode) value (regranted o mode r) else queued_up o old mode r).askers)) [
+      | true ↦ λ e.
+          let goes = converts-goes o old mode xs together h (across-not old mode c) e in
+          let ys : List Asker = with_standing o (Granted mode) xs in
+          let k = settled-serves p ys (all_together-granted o mode xs together goes) in
+          rw (written-askers (conversion_writes old mode) value (regranted o mode r)) (
+          served-from (standing_of p xs) (standing_of p ys) (standing_of p (settled ys)) (ap (option_map (λ (a : Asker). a.standing)) (find-with p o (Granted mode) xs n)) k)
+      | false ↦ λ e.
+          inl (ap (option_map (λ (a : Asker). a.standing)) (find-push_no (owned p) (without o xs) (record { owner = o; standing = Converting old mode }) n ∙ find-without p o xs n))
+    ]) refl)
+
+suc-not : (n : ℕ) → (suc n == 0) ≡ false
+suc-not n = grind arith
+
+vacated-askers : (p : Owner) (r : Resource) → standing_of p (vacated r).askers ≡ standing_of p r.askers
+vacated-askers p r =
+    (elim r.askers as (λ xs. standing_of p (vacated (record r { askers = xs })).askers ≡ standing_of p xs) [ [] ↦ refl | a ∷ xs ↦ rw (suc-not (length xs)) refl ])
+
+-- others at a release
+pub released-serves : (x : LockName) (p o : Owner) (value : List ℕ) (t : List Resource) → IsTable t → same_owner o p ≡ false
+    → Served (standing_of p (resource_at x t).askers) (standing_of p (resource_at x (released x o value t)).askers)
+released-serves x p o value t tab n =
+    let r : Resource = resource_at x t in
+    let xs : List Asker = r.askers in
+    let ys : List Asker = without o xs in
+    let together = (IsSettled-at x t tab).together in
+    let at : standing_of p (resource_at x (released x o value t)).askers ≡ standing_of p (settled ys) =
+    ap (λ (q : Resource). standing_of p q.askers) (released-at x o value t) ∙ vacated-askers p (released_of o value r)
+    ∙ ap (standing_of p) (written-askers (is_writing (mode_held o r)) value (record r { askers = settled ys })) in
+    rw at (served-from (standing_of p xs) (standing_of p ys) (standing_of p (settled ys)) (standing-without p o xs n)
+    (settled-serves p ys (all_together-filter (λ (a : Asker). not (same_owner a.owner o)) xs together)))
+
+-- what an owner that can be served has
+pub can-mode : (lock : Option Mode) (s : Option Standing) → s ≡ stands_as lock → option_and_then held s ≡ lock
+can-mode None s e = rw e refl
+can-mode (Some m) s e = rw e refl
+
+pub can-lock : (lock : Option Mode) (s : Option Standing) → s ≡ stands_as lock → option_and_then settled_mode s ≡ lock
+can-lock None s e = rw e refl
+can-lock (Some m) s e = rw e refl
+
+-- the table after an ask
+pub record Made (m : Message) (mode : Mode) (lock : Option Mode) (t t2 : List Resource) : Type 0 where
+  pub table : IsTable t2
+  pub others : LeavesOthers m.name t t2
+  pub here : (p : Owner) → same_owner m.owner p ≡ false → Served (standing_of p (resource_at m.name t).askers) (standing_of p (resource_at m.name t2).askers)
+  pub own : (standing_of m.owner (resource_at m.name t2).askers ≡ Some (Granted mode)) ⊎ ((lowers lock mode ≡ false) × (standing_of m.owner (resource_at m.name t2).askers ≡ Some (queued_as lock mode)))
+
+first-own : (b : Bool) (mode : Mode) (s : Option Standing) → s ≡ Some (first_standing b mode) → (s ≡ Some (Granted mode)) ⊎ ((false ≡ false) × (s ≡ Some (Waiting mode)))
+first-own true mode s e = inl e
+first-own false mode s e = inr (refl, e)
+
+request-made : (m : Message) (mode : Mode) (t : List Resource) → IsTable t → standing_of m.owner (resource_at m.name t).askers ≡ None → Made m mode None t (asked m.name m.owner mode t)
+request-made m mode t tab e = record {
+  table = IsTable-asked m.name m.owner mode t tab e;
+  others = asked-leaves m.name m.owner mode t;
+  here = λ p n. asked-serves m.name p m.owner mode t n;
+  own = first-own (goes_at_once m.owner mode (resource_at m.name t).askers) mode (standing_of m.owner (resource_at m.name (asked m.name m.owner mode t)).askers) (requests-stand m.name m.owner mode t e);
+}
+
+converts-lower : (o : Owner) (old mode : Mode) (xs : List Asker) → is_lowering old mode ≡ true → converts_at_once o old mode xs ≡ true
+converts-lower o old mode xs e = rw (lowering-not_up old mode e) refl
+
+own-converted : (b c : Bool) (old mode : Mode) (s : Option Standing) → s ≡ Some (if b then Granted mode else Converting old mode) → (c ≡ true → b ≡ true)
+    → (s ≡ Some (Granted mode)) ⊎ ((c ≡ false) × (s ≡ Some (Converting old mode)))
+own-converted true c old mode s e f = inl e
+own-converted false true old mode s e f = let k : false ≡ true = f refl in cc
+own-converted false false old mode s e f = inr (refl, e)
+
+some-mode : (a b : Mode) → Some a ≡ Some b → a ≡ b
+some-mode a b e = cc
+
+conversion-made : (m : Message) (old mode : Mode) (t : List Resource) → IsTable t → lock_of m.owner (resource_at m.name t).askers ≡ Some old → is_across old mode ≡ false
+    → Made m mode (Some old) t (converted m.name m.owner mode m.value t)
+conversion-made m old mode t tab l c =
+    let r : Resource = resource_at m.name t in
+    let some : IsSome (lock_of m.owner r.askers) = rw l refl in
+    let n = across-not old mode c in
+    record {
+      table = IsTable-converted m.name m.owner mode m.value t tab some (λ p q. n (some-mode old PR (sym l ∙ p)) q);
+      others = converted-leaves m.name m.owner mode m.value t;
+      here = λ p d. converted-serves m.name p m.owner old mode m.value t tab d l c;
+      own = own-converted (converts_now m.name m.owner mode t) (is_lowering old mode) old mode (standing_of m.owner (resource_at m.name (converted m.name m.owner mode m.value t)).askers)
+          (conversions-stand m.name m.owner old mode m.value t tab l n) (λ e. rw (lock-is m.owner r old l) (converts-lower m.owner old mode r.askers e));
+    }
+
+pub ask-made : (m : Message) (mode : Mode) (lock : Option Mode) (t : List Resource) → IsTable t → standing_of m.owner (resource_at m.name t).askers ≡ stands_as lock → crosses lock mode ≡ false
+    → Made m mode lock t (ask_made m mode t)
+ask-made m mode None t tab e c = let k = can-mode None (standing_of m.owner (resource_at m.name t).askers) e in rw k (request-made m mode t tab e)
+ask-made m mode (Some old) t tab e c =
+    let k = can-mode (Some old) (standing_of m.owner (resource_at m.name t).askers) e in
+    rw k (conversion-made m old mode t tab (can-lock (Some old) (standing_of m.owner (resource_at m.name t).askers) e) c)

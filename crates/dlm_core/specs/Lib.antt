@@ -1,0 +1,5 @@
+pub mod Lanes
+pub mod Modes
+pub mod Runs
+pub mod States
+pub mod Steps

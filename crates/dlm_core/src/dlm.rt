@@ -1,0 +1,64 @@
+//! The core and its calls.
+
+ghost use Rattle.std.specs.Prelude.{◌≡◌, ◌≤◌, OnErr, OnOk, IfOk};
+ghost use Rattle.dlm_core.specs.States.{start};
+ghost use Rattle.dlm_core.specs.Steps.{after, told_of};
+ghost use Rattle.dlm_core.specs.Lanes.{IsSound, BeliefsGoTogether};
+ghost use Rattle.dlm_core.specs.Runs.{GoesByCalls};
+
+use crate::cluster::Cluster;
+use crate::events::{Event, Told};
+use plain_cat::NoMemory;
+use std::alloc::Global;
+use std::marker::Model;
+
+/// The lock database of all nodes. At every moment, what two owners believe of one name goes together.
+#[derive(Drop)]
+pub struct Dlm {
+    cluster: Cluster,
+}
+
+impl Model for Dlm {
+    ghost use Rattle.dlm_core.specs.States.{State};
+    ghost use Rattle.dlm_core.specs.Lanes.{IsSound};
+
+    ghost Value = { State };
+
+    ghost view = { λ d. d.cluster };
+
+    ghost invariant = { λ d. IsSound d.cluster };
+}
+
+impl Dlm {
+    /// What holds of it after each event holds of it at any time.
+    pub fn keeps_the_rules(&self)
+        ensures sound { IsSound self.now }
+        ensures safe { BeliefsGoTogether self.now }
+    {
+        let _cluster = &self.cluster;
+    }
+
+    /// The nodes are 1 to `nodes`, and nobody has asked for anything. `NoMemory` comes only where memory is refused.
+    pub fn new(alloc: Global, nodes: u8) -> Result<Dlm, NoMemory>
+        requires { 1 ≤ nodes }
+        ensures { IfOk result (λ d. d ≡ start nodes) }
+    {
+        Ok(Dlm {
+            cluster: Cluster::new(alloc, nodes)?,
+        })
+    }
+
+    /// Plays an event. Of the tables one makes one call of the lock manager at most, one that it may take, and all others
+    /// stay. Where memory is refused nothing has changed.
+    pub fn step(&mut self, alloc: Global, e: &Event) -> Result<Told, NoMemory>
+        ensures after { OnOk result (self.new ≡ after e.now self.old) }
+        ensures calls { OnOk result (GoesByCalls self.old self.new) }
+        ensures told { IfOk result (λ t. t ≡ told_of e.now self.old) }
+        ensures err { OnErr result (self.new ≡ self.old) }
+    {
+        let mut next = self.cluster.copy(alloc)?;
+        let told = next.act(alloc, *e)?;
+        self.cluster = next;
+        Ok(told)
+    }
+}

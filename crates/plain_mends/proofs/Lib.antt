@@ -1,0 +1,13 @@
+pub mod Fewer
+pub mod Frames
+pub mod GoneSteps
+pub mod Standing
+pub mod FullSteps
+pub mod Skipping
+pub mod EmptySteps
+pub mod SlotSteps
+pub mod DoneSteps
+pub mod SoundSteps
+pub mod SoundAnswers
+pub mod SoundStages
+pub mod SoundMends

@@ -1,0 +1,70 @@
+-- Catalogues in order: what commands, deaths and mending keep, and what mending needs of an accepted volume.
+use Rattle.std.specs.Prelude.{◌≡◌, ◌==◌, ◌&&◌, ◌||◌, ◌≤◌, ◌<◌, nat_le, ℕ, Bool, true, false, List, [], Option, Some, None, length, is_some, if◌then◌else◌}
+use Rattle.std.specs.List.{Contains, list_any}
+use Rattle.plain_cat.specs.declared.entries.DirEnt.{DirEnt}
+use Rattle.plain_cat.specs.declared.cat.Cat.{Cat}
+use Rattle.plain_cat.specs.declared.cat.File.{File}
+use Rattle.plain_vol.specs.Lookups.{file_at, row_of}
+use Rattle.plain_vol.specs.Answers.{has_entries}
+use Rattle.plain_vol.specs.Mending.{is_own}
+
+-- the sequence of a system file's identifier: its own number up to 9, then 1
+abbrev pub system_seq : ℕ → ℕ
+system_seq n = if nat_le n 9 then n else 1
+
+-- the master file directory and [SYSLOST]
+abbrev pub is_system_directory : ℕ → Bool
+is_system_directory n = (n == 4) || (n == 11)
+
+-- the file of a system number has its sequence, is a directory where it should be, and is not marked for delete
+pub record IsSystemFile (n : ℕ) (f : File) : Type 0 where
+  pub seq : f.seq ≡ system_seq n
+  pub dir : f.dir ≡ is_system_directory n
+  pub unmarked : f.marked ≡ false
+
+-- whether an entry of the master file directory is the own entry of system file n
+unfoldable pub is_system_entry : ℕ → DirEnt → Bool
+is_system_entry n e = is_own (record { dir = 4; entry = e }) && ((e.fid.num == n) && (e.fid.seq == system_seq n))
+
+-- an entry has the name and the version that system file n has in the master file directory
+abbrev pub HasOwnName : ℕ → DirEnt → Type 0
+HasOwnName n e = is_own (record { dir = 4; entry = record { name = e.name; ver = e.ver; fid = record { num = n; seq = 0 } } }) ≡ true
+
+abbrev pub listed : Option File → List DirEnt
+listed None = []
+listed (Some f) = if f.dir then f.entries else []
+
+-- the entries of the directory of this number
+abbrev pub entries_of : Cat → ℕ → List DirEnt
+entries_of c n = listed (file_at c n)
+
+-- an entry of directory n has the number m, whether a file of that number is in use or not; the master file directory's own entry is
+-- left out
+pub record LeadsTo (c : Cat) (n m : ℕ) : Type 0 where
+  pub entry : DirEnt
+  pub there : Contains (entries_of c n) entry
+  pub names : entry.fid.num ≡ m
+  pub other : n ≡ 4 → is_system_entry 4 entry ≡ false
+
+-- a chain of entries from n to m
+pub data NumberPath (c : Cat) (n : ℕ) : ℕ → Type 0 where
+  One : {m : ℕ} → LeadsTo c n m → NumberPath c n m
+  More : {k m : ℕ} → NumberPath c n k → LeadsTo c k m → NumberPath c n m
+
+pub record IsSound (c : Cat) : Type 0 where
+  -- The system files are there.
+  pub systems : (n : ℕ) → 1 ≤ n → n ≤ 11 → (f : File) × (file_at c n ≡ Some f) × IsSystemFile n f
+  -- A file above number 11 has at most 77 clusters.
+  pub sizes : (n : ℕ) (f : File) → 11 < n → file_at c n ≡ Some f → f.clusters ≤ 77
+  -- Each owner of a file has a quota row.
+  pub owners : (n : ℕ) (f : File) → file_at c n ≡ Some f → is_some (row_of f.owner c.quota) ≡ true
+  -- Each system file has its own entry in the master file directory.
+  pub entries : (n : ℕ) → 1 ≤ n → n ≤ 11 → list_any (is_system_entry n) (entries_of c 4) ≡ true
+  -- No other entry there has its name and version.
+  pub named : (e : DirEnt) (n : ℕ) → 1 ≤ n → n ≤ 11 → Contains (entries_of c 4) e → HasOwnName n e → e.fid.num ≡ n
+  -- A directory with an entry is not marked for delete.
+  pub closed : (n : ℕ) (f : File) → file_at c n ≡ Some f → has_entries (Some f) ≡ true → f.marked ≡ false
+  -- No chain of entries returns.
+  pub ordered : (n : ℕ) → NumberPath c n n → ⊥
+  -- Eight nodes have eight channels each.
+  pub channels : length c.opens ≡ 64

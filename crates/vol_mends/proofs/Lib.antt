@@ -1,0 +1,5 @@
+pub mod Views
+pub mod Tests
+pub mod Telling
+pub mod WeakSteps
+pub mod SoundMends

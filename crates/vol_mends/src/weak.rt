@@ -1,0 +1,18 @@
+ghost use Rattle.vol_mends.specs.Weak.{SpeltIsWeak};
+ghost use Rattle.vol_mends.specs.Mends.{SpeltMends, SoundCanMend};
+
+/// Where nobody holds anything outside, blocks that spell a catalogue that can be mended have no fatal finding, and the catalogue that
+/// is read of them is this one, with nothing open.
+pub fn spelt_is_weak()
+    ensures { SpeltIsWeak }
+{}
+
+/// So such blocks mend to what their catalogue mends to.
+pub fn spelt_mends()
+    ensures { SpeltMends }
+{}
+
+/// A catalogue in order can be mended, unless `[SYSLOST]` lacks room for a lost file that is not empty.
+pub fn sound_can_mend()
+    ensures { SoundCanMend }
+{}
