@@ -1,16 +1,20 @@
--- A run adds answers alone to its history: nobody dies, and nothing is mended.
-use Rattle.std.proofs.Common.{◌≡◌, ◌++◌, ℕ, Bool, true, false, List, [], ◌∷◌, Option, Some, None, refl}
+-- A run adds answers to its history, and the deaths for which its script has kills; nothing is mended.
+use Rattle.std.proofs.Common.{◌≡◌, ◌==◌, ◌++◌, ◌&&◌, ◌||◌, not, ℕ, Bool, true, false, cond, List, [], ◌∷◌, Option, Some, None, refl, ap}
 use Rattle.std.specs.List.{list_any}
 use Rattle.plain_cat.specs.declared.command.Cmd.{Cmd}
 use Rattle.plain_cat.specs.declared.reply.Reply.{Reply}
+use Rattle.plain_cat.specs.Spared.{Spared}
+use Rattle.plain_cat.specs.declared.script.Kill.{Kill}
 use Rattle.plain_cat.specs.declared.script.Script.{Script}
+use Rattle.plain_cat.specs.declared.history.Stage.{Stage}
 use Rattle.plain_cat.specs.declared.history.Entry.{Entry}
 use Rattle.plain_cat.specs.declared.history.Entry.TheVariants.{Done, Died, Mended}
 use Rattle.plain_vol.specs.Own.{Killed}
 use Rattle.core_state.specs.Worlds.{NodeState, Plain, node_at}
 use Rattle.core_state.specs.Event.{Event}
 use Rattle.core_state.specs.Event as event
-use Rattle.core_state.specs.Events.{would_go, asked_by, readied_at, readied, next_event, happens, happen_at, after_turn}
+use Rattle.core_state.specs.Deaths.{death_of, comes_at, kills, kills_at, is_due, died_at, died, after_step}
+use Rattle.core_state.specs.Events.{would_go, asked_by, readied_at, readied, next_event, happens, happen_at, after_turn, is_over}
 use Rattle.clus_top.specs.Runs.{is_mending}
 
 -- nodes die only where the script kills them, and nothing is mended
@@ -27,6 +31,17 @@ one_more s (Died m st k ns ∷ es) n x r orderly =
     let more = one_more s es n x r (orderly.0.1, orderly.1) in
     ((orderly.0.0, more.0), more.1)
 one_more s (Mended m ∷ es) n x r orderly = absurd (let f : true ≡ false = orderly.1 in cc)
+
+dead_more : (s : Script) (h : List Entry) (n : ℕ) (stage : Stage) (clusters : ℕ) (numbers : Spared ℕ) → list_any (λ (k : Kill). k.node == n) s.kills ≡ true → IsOrderly s h → IsOrderly s (h ++ Died n stage clusters numbers ∷ [])
+unfolding is_mending
+dead_more s [] n stage clusters numbers kill orderly = ((kill, tt), refl)
+dead_more s (Done m y q ∷ es) n stage clusters numbers kill orderly =
+    let more = dead_more s es n stage clusters numbers kill (orderly.0.1, orderly.1) in
+    ((tt, more.0), more.1)
+dead_more s (Died m st k ns ∷ es) n stage clusters numbers kill orderly =
+    let more = dead_more s es n stage clusters numbers kill (orderly.0.1, orderly.1) in
+    ((orderly.0.0, more.0), more.1)
+dead_more s (Mended m ∷ es) n stage clusters numbers kill orderly = absurd (let f : true ≡ false = orderly.1 in cc)
 
 pub record IsAnswered (w : Plain) : Type 0 where
   pub orderly : IsOrderly w.script w.history
@@ -58,5 +73,37 @@ readied_keeps : (w : Plain) (n : ℕ) (o : Option NodeState) → IsAnswered w �
 readied_keeps w n None p = p
 readied_keeps w n (Some s) p = record { orderly = p.orderly }
 
-pub turn_keeps : (w : Plain) (n : ℕ) → IsAnswered w → IsAnswered (after_turn w n)
+turn_keeps : (w : Plain) (n : ℕ) → IsAnswered w → IsAnswered (after_turn w n)
 turn_keeps w n p = at_keeps (readied w n) n (node_at (readied w n).nodes n) (next_event w n) (readied_keeps w n (node_at w.nodes n) p)
+
+-- ---- a death comes where the script has a kill for the node
+
+first_part : (a b : Bool) → (a && b) ≡ true → a ≡ true
+first_part true b e = refl
+first_part false b e = e
+
+second_part : (a b : Bool) → (a && b) ≡ true → b ≡ true
+second_part true b e = e
+second_part false b e = absurd (let f : false ≡ true = e in cc)
+
+any_kill : (w : Plain) (n : ℕ) (s : NodeState) (ks : List Kill) → list_any (kills w n s) ks ≡ true → list_any (λ (k : Kill). k.node == n) ks ≡ true
+any_kill w n s [] e = e
+any_kill w n s (k ∷ ks) e = by_first (kills w n s k) refl e (any_kill w n s ks) where
+  either : (b : Bool) → list_any (λ (j : Kill). j.node == n) ks ≡ true → (b || list_any (λ (j : Kill). j.node == n) ks) ≡ true
+  either true h = refl
+  either false h = h
+
+  by_first : (b : Bool) → kills w n s k ≡ b → (b || list_any (kills w n s) ks) ≡ true → (list_any (kills w n s) ks ≡ true → list_any (λ (j : Kill). j.node == n) ks ≡ true)
+      → ((k.node == n) || list_any (λ (j : Kill). j.node == n) ks) ≡ true
+  by_first true f g more = ap (λ b. b || list_any (λ (j : Kill). j.node == n) ks) (first_part (k.node == n) (comes_at k.at s (next_event w n)) f)
+  by_first false f g more = either (k.node == n) (more g)
+
+died_keeps : (w : Plain) (n : ℕ) (o : Option NodeState) → kills_at w n o ≡ true → IsAnswered w → IsAnswered (died_at w n o)
+died_keeps w n None e p = p
+died_keeps w n (Some s) e p = record { orderly = dead_more w.script w.history n _ _ _ (any_kill w n s w.script.kills e) p.orderly }
+
+pub step_keeps : (w : Plain) (n : ℕ) → IsAnswered w → IsAnswered (after_step w n)
+step_keeps w n p = by_due (is_due w n) refl where
+  by_due : (b : Bool) → is_due w n ≡ b → IsAnswered (cond b (died w n) (after_turn w n))
+  by_due true e = died_keeps w n (node_at w.nodes n) (second_part (not (is_over w n)) (kills_at w n (node_at w.nodes n)) e) p
+  by_due false e = turn_keeps w n p

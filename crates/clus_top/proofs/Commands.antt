@@ -1,5 +1,5 @@
--- The commands that a script can come to are built.
-use Rattle.std.proofs.Common.{◌≡◌, ◌∙◌, ◌==◌, ◌&&◌, ℕ, zero, suc, Bool, true, false, List, [], ◌∷◌, Option, Some, None, cond, slice_get, refl, sym, ap, subst}
+-- The commands that a script can come to are in form, each as its operation takes it.
+use Rattle.std.proofs.Common.{◌≡◌, ◌==◌, ◌&&◌, ℕ, zero, suc, true, false, List, [], ◌∷◌, Option, Some, None, cond, slice_get, refl, sym, subst}
 use Rattle.std.specs.List.{list_all}
 use Rattle.std.proofs.lemmas.Bool.{and_parts}
 use Rattle.std.proofs.lemmas.List.Sums.{list_all-from_AllPass}
@@ -13,69 +13,56 @@ use Rattle.plain_cat.specs.declared.script.LineCmd.TheVariants as line
 use Rattle.plain_cat.specs.declared.script.Line.{Line}
 use Rattle.plain_cat.specs.declared.script.Script.{Script}
 use Rattle.plain_vol.specs.Own.{past, filled, lines_of, or_close}
-use Rattle.run_script.specs.Table.{run_so_far, is_built, AreBuilt}
 use Rattle.xqp_set.specs.Built.{IsBuilt}
 use Rattle.core_state.specs.Channels.{names_in_form}
 use Rattle.core_state.specs.Goods.{HasOnly}
 use Rattle.core_state.proofs.Commands.{closes_one, next_names}
 
--- a line of a command that is built, in form
-abbrev is_good : LineCmd → Bool
-is_good l = is_built run_so_far l && line_in_form l
-
-filled_built : (g : List Fid) (l : LineCmd) → is_built run_so_far l ≡ true → line_in_form l ≡ true → IsBuilt (filled g l)
+filled_built : (g : List Fid) (l : LineCmd) → line_in_form l ≡ true → IsBuilt (filled g l)
 unfolding filled line_in_form
-filled_built g (line.Lookup reg dir name ver) h form = tt
-filled_built g (line.List dir) h form = tt
-filled_built g (line.Stat file) h form = tt
-filled_built g (line.Create reg dir name ver blocks owner) h form = (and_parts _ _ (and_parts _ _ form).1).1
-filled_built g (line.MkDir reg dir name owner) h form = (and_parts _ _ (and_parts _ _ form).1).1
-filled_built g (line.Extend file blocks) h form = (and_parts _ _ form).1
-filled_built g (line.Trunc file blocks) h form = (and_parts _ _ form).1
-filled_built g (line.Delete dir name ver) h form = tt
-filled_built g (line.Rename dir name ver to to_ver) h form =
+filled_built g (line.Lookup reg dir name ver) form = tt
+filled_built g (line.List dir) form = tt
+filled_built g (line.Stat file) form = tt
+filled_built g (line.Create reg dir name ver blocks owner) form = (and_parts _ _ (and_parts _ _ form).1).1
+filled_built g (line.MkDir reg dir name owner) form = (and_parts _ _ (and_parts _ _ form).1).1
+filled_built g (line.Extend file blocks) form = (and_parts _ _ form).1
+filled_built g (line.Trunc file blocks) form = (and_parts _ _ form).1
+filled_built g (line.Delete dir name ver) form = tt
+filled_built g (line.Rename dir name ver to to_ver) form =
     let new = is_name to && is_version to_ver in
     let names = (and_parts (is_file_ref dir) (is_name name && (is_version ver && new)) form).1 in
     (and_parts (is_version ver) new (and_parts (is_name name) (is_version ver && new) names).1).1
-filled_built g (line.OpenFile chan file mode) h form = tt
-filled_built g (line.CloseFile chan) h form = form
-filled_built g (line.ReadBlock chan vbn) h form = (and_parts (is_eighth chan) (is_count vbn) form).1
-filled_built g (line.WriteBlock chan vbn text) h form = (and_parts (is_eighth chan) (is_count vbn && is_text text) form).1
-filled_built g (line.QuotaSet owner quota over) h form = form
-filled_built g (line.QuotaShow owner) h form = tt
+filled_built g (line.OpenFile chan file mode) form = tt
+filled_built g (line.CloseFile chan) form = form
+filled_built g (line.ReadBlock chan vbn) form = (and_parts (is_eighth chan) (is_count vbn) form).1
+filled_built g (line.WriteBlock chan vbn text) form = (and_parts (is_eighth chan) (is_count vbn && is_text text) form).1
+filled_built g (line.QuotaSet owner quota over) form = form
+filled_built g (line.QuotaShow owner) form = tt
 
-lines_good : (node : ℕ) (ls : List Line) → list_all (λ (x : Line). is_good x.cmd) ls ≡ true → list_all is_good (lines_of node ls) ≡ true
-lines_good node [] h = refl
-lines_good node (l ∷ ls) h =
-    let parts = and_parts (is_good l.cmd) (list_all (λ (x : Line). is_good x.cmd) ls) h in
-    elim (l.node == node) as (λ t. list_all is_good (cond t (l.cmd ∷ lines_of node ls) (lines_of node ls)) ≡ true) [
-      | true ↦ rw (parts.0, lines_good node ls parts.1) refl
-      | false ↦ lines_good node ls parts.1
+lines_good : (nodes node : ℕ) (ls : List Line) → list_all (λ (x : Line). is_within 1 nodes x.node && line_in_form x.cmd) ls ≡ true → list_all line_in_form (lines_of node ls) ≡ true
+lines_good nodes node [] h = refl
+lines_good nodes node (l ∷ ls) h =
+    let parts = and_parts (is_within 1 nodes l.node && line_in_form l.cmd) (list_all (λ (x : Line). is_within 1 nodes x.node && line_in_form x.cmd) ls) h in
+    let form = (and_parts (is_within 1 nodes l.node) (line_in_form l.cmd) parts.0).1 in
+    elim (l.node == node) as (λ t. list_all line_in_form (cond t (l.cmd ∷ lines_of node ls) (lines_of node ls)) ≡ true) [
+      | true ↦ rw (form, lines_good nodes node ls parts.1) refl
+      | false ↦ lines_good nodes node ls parts.1
     ]
 
-one_good : (ls : List LineCmd) (i : ℕ) (l : LineCmd) → list_all is_good ls ≡ true → slice_get ls i ≡ Some l → is_good l ≡ true
+one_good : (ls : List LineCmd) (i : ℕ) (l : LineCmd) → list_all line_in_form ls ≡ true → slice_get ls i ≡ Some l → line_in_form l ≡ true
 one_good [] i l h e = let f : None ≡ Some l = e in cc
-one_good (x ∷ xs) zero l h e = let f : Some x ≡ Some l = e in let same : x ≡ l = cc in subst (λ y. is_good y ≡ true) same (and_parts (is_good x) (list_all is_good xs) h).0
-one_good (x ∷ xs) (suc i) l h e = one_good xs i l (and_parts (is_good x) (list_all is_good xs) h).1 e
-
-all_good : (nodes : ℕ) (ls : List Line) → list_all (λ (x : Line). is_built run_so_far x.cmd) ls ≡ true → list_all (λ (x : Line). is_within 1 nodes x.node && line_in_form x.cmd) ls ≡ true
-    → list_all (λ (x : Line). is_good x.cmd) ls ≡ true
-all_good nodes [] h k = refl
-all_good nodes (l ∷ ls) h k =
-    let p = and_parts (is_built run_so_far l.cmd) (list_all (λ (x : Line). is_built run_so_far x.cmd) ls) h in
-    let q = and_parts (is_within 1 nodes l.node && line_in_form l.cmd) (list_all (λ (x : Line). is_within 1 nodes x.node && line_in_form x.cmd) ls) k in
-    let form = (and_parts (is_within 1 nodes l.node) (line_in_form l.cmd) q.0).1 in
-    rw (p.0, form, all_good nodes ls p.1 q.1) refl
+one_good (x ∷ xs) zero l h e = let f : Some x ≡ Some l = e in let same : x ≡ l = cc in subst (λ y. line_in_form y ≡ true) same (and_parts (line_in_form x) (list_all line_in_form xs) h).0
+one_good (x ∷ xs) (suc i) l h e = one_good xs i l (and_parts (line_in_form x) (list_all line_in_form xs) h).1 e
 
 -- a close of a channel in form is built
 close_built : (chan : ℕ) → names_in_form (cmd.CloseFile chan) ≡ true → IsBuilt (cmd.CloseFile chan)
 close_built chan form = form
 
 -- each command to which a script comes is that of a line, or a close behind the lines
-pub only_built : (s : Script) → InForm s → AreBuilt run_so_far s.lines → HasOnly IsBuilt s
-only_built s form built n h x e = by (slice_get (lines_of n s.lines) (past n h).answered) refl e where
-  good : list_all is_good (lines_of n s.lines) ≡ true
-  good = lines_good n s.lines (all_good s.nodes s.lines built (list_all-from_AllPass _ s.lines form.lines))
+pub only_built : (s : Script) → InForm s → HasOnly IsBuilt s
+only_built s form n h x e = by (slice_get (lines_of n s.lines) (past n h).answered) refl e where
+  good : list_all line_in_form (lines_of n s.lines) ≡ true
+  good = lines_good s.nodes n s.lines (list_all-from_AllPass _ s.lines form.lines)
 
   by : (o : Option LineCmd) → slice_get (lines_of n s.lines) (past n h).answered ≡ o → or_close (past n h) o ≡ Some x → IsBuilt x
   by None at f =
@@ -83,5 +70,4 @@ only_built s form built n h x e = by (slice_get (lines_of n s.lines) (past n h).
       subst IsBuilt (sym c.is) (close_built c.chan (subst (λ (y : Cmd). names_in_form y ≡ true) c.is (next_names s form n h x e)))
   by (Some l) at f =
       let same : filled (past n h).registers l ≡ x = cc in
-      let parts = and_parts (is_built run_so_far l) (line_in_form l) (one_good (lines_of n s.lines) (past n h).answered l good at) in
-      subst IsBuilt same (filled_built (past n h).registers l parts.0 parts.1)
+      subst IsBuilt same (filled_built (past n h).registers l (one_good (lines_of n s.lines) (past n h).answered l good at))

@@ -5,7 +5,6 @@ use Rattle.vol_words.specs.Fields.{Block}
 use Rattle.blk_drive.specs.Images.{IsInside, IsOutside}
 use Rattle.vol_parts.specs.declared.finding.Finding.{Finding}
 use Rattle.vol_parts.specs.Findings.{AreFindings, Accepts}
-use Rattle.run_script.specs.Table.{run_so_far}
 use Rattle.run_script.specs.Lines.{lines_of}
 use Rattle.run_script.specs.Laws.{SayOneThing}
 use Rattle.vol_analyze.specs.Judging.{IsFirstFound}
@@ -70,7 +69,7 @@ alone_long bytes size bs long status.NoMemory v h = absurd (false≢true v)
 alone_long bytes size bs long status.Unfinished v h = absurd (false≢true v)
 alone_long bytes size bs long (status.BadInit x) v h = absurd h
 
-alone_bad : (bytes : List ℕ) (size : ℕ) (bs : List Block) (n : ℕ) → SayOneThing run_so_far (lines_of bytes) → IsBad n bytes → AloneInRun bytes size bs (status.BadScript n)
+alone_bad : (bytes : List ℕ) (size : ℕ) (bs : List Block) (n : ℕ) → SayOneThing (lines_of bytes) → IsBad n bytes → AloneInRun bytes size bs (status.BadScript n)
 alone_bad bytes size bs n one bad status.Ok v h = absurd (one.good h.0.script n h.0.spelt bad.bad)
 alone_bad bytes size bs n one bad status.BadWords v h = absurd h
 alone_bad bytes size bs n one bad status.ScriptFault v h = absurd (false≢true v)
@@ -86,7 +85,7 @@ alone_bad bytes size bs n one bad status.NoMemory v h = absurd (false≢true v)
 alone_bad bytes size bs n one bad status.Unfinished v h = absurd (false≢true v)
 alone_bad bytes size bs n one bad (status.BadInit x) v h = absurd h
 
-alone_over : (bytes : List ℕ) (size : ℕ) (bs : List Block) → SayOneThing run_so_far (lines_of bytes) → IsOverfull bytes → AloneInRun bytes size bs status.TooMany
+alone_over : (bytes : List ℕ) (size : ℕ) (bs : List Block) → SayOneThing (lines_of bytes) → IsOverfull bytes → AloneInRun bytes size bs status.TooMany
 alone_over bytes size bs one over status.Ok v h = absurd (one.within h.0.script h.0.spelt over.over)
 alone_over bytes size bs one over status.BadWords v h = absurd h
 alone_over bytes size bs one over status.ScriptFault v h = absurd (false≢true v)
@@ -102,7 +101,7 @@ alone_over bytes size bs one over status.NoMemory v h = absurd (false≢true v)
 alone_over bytes size bs one over status.Unfinished v h = absurd (false≢true v)
 alone_over bytes size bs one over (status.BadInit x) v h = absurd h
 
-alone_size : (bytes : List ℕ) (size : ℕ) (bs : List Block) → SayOneThing run_so_far (lines_of bytes) → IsGood bytes → IsOutside size → AloneInRun bytes size bs (status.BadSize size)
+alone_size : (bytes : List ℕ) (size : ℕ) (bs : List Block) → SayOneThing (lines_of bytes) → IsGood bytes → IsOutside size → AloneInRun bytes size bs (status.BadSize size)
 alone_size bytes size bs one good out status.Ok v h = absurd (outside size h.1.inside out)
 alone_size bytes size bs one good out status.BadWords v h = absurd h
 alone_size bytes size bs one good out status.ScriptFault v h = absurd (false≢true v)
@@ -118,7 +117,7 @@ alone_size bytes size bs one good out status.NoMemory v h = absurd (false≢true
 alone_size bytes size bs one good out status.Unfinished v h = absurd (false≢true v)
 alone_size bytes size bs one good out (status.BadInit x) v h = absurd h
 
-alone_found : (bytes : List ℕ) (size : ℕ) (bs : List Block) (f : Finding) → SayOneThing run_so_far (lines_of bytes) → OneList bs → IsGood bytes → IsInside size → IsFirstFound bs f → AloneInRun bytes size bs (status.NotAccepted f)
+alone_found : (bytes : List ℕ) (size : ℕ) (bs : List Block) (f : Finding) → SayOneThing (lines_of bytes) → OneList bs → IsGood bytes → IsInside size → IsFirstFound bs f → AloneInRun bytes size bs (status.NotAccepted f)
 alone_found bytes size bs f one list good inside found status.Ok v h = absurd (unfound bs f list h.1.accepted found)
 alone_found bytes size bs f one list good inside found status.BadWords v h = absurd h
 alone_found bytes size bs f one list good inside found status.ScriptFault v h = absurd (false≢true v)
@@ -134,7 +133,7 @@ alone_found bytes size bs f one list good inside found status.NoMemory v h = abs
 alone_found bytes size bs f one list good inside found status.Unfinished v h = absurd (false≢true v)
 alone_found bytes size bs f one list good inside found (status.BadInit x) v h = absurd h
 
-alone_good : (bytes : List ℕ) (size : ℕ) (bs : List Block) → SayOneThing run_so_far (lines_of bytes) → OneList bs → IsGood bytes → IsInside size → Accepts bs → AloneInRun bytes size bs status.Ok
+alone_good : (bytes : List ℕ) (size : ℕ) (bs : List Block) → SayOneThing (lines_of bytes) → OneList bs → IsGood bytes → IsInside size → Accepts bs → AloneInRun bytes size bs status.Ok
 alone_good bytes size bs one list good inside none status.Ok v h = refl
 alone_good bytes size bs one list good inside none status.BadWords v h = absurd h
 alone_good bytes size bs one list good inside none status.ScriptFault v h = absurd (false≢true v)
@@ -215,7 +214,7 @@ words_alone status.Unfinished v h = absurd (false≢true v)
 words_alone (status.BadInit x) v h = absurd h
 
 -- a good script, and an image of the right size
-of_inside : (bytes : List ℕ) (size : ℕ) (bs : List Block) (fs : List Finding) → SayOneThing run_so_far (lines_of bytes) → OneList bs → IsGood bytes → IsInside size → AreFindings bs fs
+of_inside : (bytes : List ℕ) (size : ℕ) (bs : List Block) (fs : List Finding) → SayOneThing (lines_of bytes) → OneList bs → IsGood bytes → IsInside size → AreFindings bs fs
     → HasOneVerdict (Some Run) bytes size bs
 of_inside bytes size bs [] one list good inside none = record {
   status = status.Ok;
@@ -233,7 +232,7 @@ of_inside bytes size bs (f ∷ fs) one list good inside found =
     }
 
 -- a good script
-of_good : (bytes : List ℕ) (size : ℕ) (bs : List Block) (fs : List Finding) → SayOneThing run_so_far (lines_of bytes) → OneList bs → IsGood bytes → AreFindings bs fs
+of_good : (bytes : List ℕ) (size : ℕ) (bs : List Block) (fs : List Finding) → SayOneThing (lines_of bytes) → OneList bs → IsGood bytes → AreFindings bs fs
     → HasOneVerdict (Some Run) bytes size bs
 of_good bytes size bs fs one list good found =
     elim (is_size size) [
@@ -242,7 +241,7 @@ of_good bytes size bs fs one list good found =
     ]
 
 -- a script within its limit
-of_script : (bytes : List ℕ) (size : ℕ) (bs : List Block) (fs : List Finding) → SayOneThing run_so_far (lines_of bytes) → OneList bs → length bytes ≤ 1048576 → AreFindings bs fs
+of_script : (bytes : List ℕ) (size : ℕ) (bs : List Block) (fs : List Finding) → SayOneThing (lines_of bytes) → OneList bs → length bytes ≤ 1048576 → AreFindings bs fs
     → HasOneVerdict (Some Run) bytes size bs
 of_script bytes size bs fs one list within found =
     elim one.something [
@@ -255,7 +254,7 @@ of_script bytes size bs fs one list within found =
           record { status = status.TooMany; verdict = refl; due = is; alone = alone_over bytes size bs one is }
     ]
 
-of_run : (bytes : List ℕ) (size : ℕ) (bs : List Block) (fs : List Finding) → SayOneThing run_so_far (lines_of bytes) → OneList bs → AreFindings bs fs → HasOneVerdict (Some Run) bytes size bs
+of_run : (bytes : List ℕ) (size : ℕ) (bs : List Block) (fs : List Finding) → SayOneThing (lines_of bytes) → OneList bs → AreFindings bs fs → HasOneVerdict (Some Run) bytes size bs
 of_run bytes size bs fs one list found =
     elim (cases_lt 1048576 (length bytes)) [
       | inl long ↦ record { status = status.ScriptTooLong; verdict = refl; due = long; alone = alone_long bytes size bs long }
@@ -359,7 +358,7 @@ of_init cluster files label bytes size bs =
       | inl inside ↦ of_format cluster files label bytes size bs (refusal (sized cluster files size) label) inside refl
     ]
 
-pub one_verdict : (wanted : Option Wanted) (bytes : List ℕ) (size : ℕ) (bs : List Block) (fs : List Finding) → SayOneThing run_so_far (lines_of bytes) → OneList bs → AreFindings bs fs
+pub one_verdict : (wanted : Option Wanted) (bytes : List ℕ) (size : ℕ) (bs : List Block) (fs : List Finding) → SayOneThing (lines_of bytes) → OneList bs → AreFindings bs fs
     → HasOneVerdict wanted bytes size bs
 one_verdict None bytes size bs fs one list found = record { status = status.BadWords; verdict = refl; due = tt; alone = words_alone }
 one_verdict (Some Run) bytes size bs fs one list found = of_run bytes size bs fs one list found

@@ -14,7 +14,6 @@ use Rattle.vol_parts.specs.Findings.{Accepts}
 use Rattle.vol_analyze.specs.Judging.{IsFirstFound}
 use Rattle.plain_cat.specs.InForm.{InForm, is_within}
 use Rattle.run_script.proofs.Pieces.{limits}
-use Rattle.run_script.specs.Table.{run_so_far}
 use Rattle.run_script.specs.Lines.{lines_of}
 use Rattle.run_script.specs.Spelling.{SpellsScript}
 use Rattle.core_state.specs.Images.{told_as}
@@ -38,7 +37,7 @@ use Rattle.clus_top.specs.declared.run.Stop.TheVariants as stop
 use Rattle.clus_top.specs.Ends.{SpellsWithin, IsReportIn, IsDriveIn, IsEndIn, IsSpentIn, IsLackingIn, IsCutIn, IsCutShortIn, IsStopIn, IsStopBy, IsStopOf, IsRunEnd, IsRunStop, IsQuietImage, IsStopImage, mount_status}
 use Rattle.clus_top.specs.Images.{IsDriveOf, IsLastDriveOf, IsSpentDriveOf, IsLackingDriveOf, IsCutOf, IsCutShort}
 use Rattle.clus_top.proofs.Walked.{over_walk}
-use Rattle.clus_top.proofs.Answered.{IsAnswered, turn_keeps}
+use Rattle.clus_top.proofs.Answered.{IsAnswered, step_keeps}
 use Rattle.clus_top.proofs.MountedVolumes.{mounted_geometry}
 
 -- what is said of an error
@@ -147,7 +146,7 @@ module _ (start : Plain) (good : Good start) (m : IsMounted start.blocks start.s
     drive = drive_in new plays told now same (inr (walk.turns, walk.at)) keeps image;
     walked = subst (λ (ns : List ℕ). IsRotatedIn (budget_of start) (played ns start) new) same walk;
     over = over;
-    report = report_in new text stays (over_walk IsAnswered turn_keeps start plays new (walk.turns, walk.at) answered) whole end.0 end.1 end.2;
+    report = report_in new text stays (over_walk IsAnswered step_keeps start plays new (walk.turns, walk.at) answered) whole end.0 end.1 end.2;
   }
 
 -- what is said of a mounted volume is said of its blocks
@@ -223,7 +222,7 @@ report_on (Some bytes) (Some bs) new script blocks text spelt same h =
 
 -- ---- the drive of a run
 
-spells : (left : Option (List ℕ)) (script : Script) → IfSome left (SpellsWithin script) → IfSome left (λ bytes. SpellsScript run_so_far (lines_of bytes) script)
+spells : (left : Option (List ℕ)) (script : Script) → IfSome left (SpellsWithin script) → IfSome left (λ bytes. SpellsScript (lines_of bytes) script)
 spells None script h = tt
 spells (Some bytes) script h = h.spelt
 

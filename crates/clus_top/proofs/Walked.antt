@@ -1,13 +1,14 @@
--- What each turn keeps is kept over plays and turns in rotation.
+-- What each step keeps is kept over plays and turns in rotation.
 use Rattle.std.proofs.Common.{ℕ, zero, suc, true, false, cond, List, [], ◌∷◌, Option, Some, None, sym, subst}
 use Rattle.core_state.specs.Worlds.{Plain}
-use Rattle.core_state.specs.Events.{is_over, after_turn}
+use Rattle.core_state.specs.Deaths.{after_step}
+use Rattle.core_state.specs.Events.{is_over}
 use Rattle.run_engine.specs.Walks.{after_play, played, next_from, Rotation, with_turn, after_next, rotation, Walk}
 
-module _ (P : Plain → Type 0) (keeps : (w : Plain) (n : ℕ) → P w → P (after_turn w n)) where
+module _ (P : Plain → Type 0) (keeps : (w : Plain) (n : ℕ) → P w → P (after_step w n)) where
   over_play : (w : Plain) (n : ℕ) → P w → P (after_play w n)
   unfolding after_play
-  over_play w n p = elim (is_over w n) as (λ t. P (cond t w (after_turn w n))) [ true ↦ p | false ↦ keeps w n p ]
+  over_play w n p = elim (is_over w n) as (λ t. P (cond t w (after_step w n))) [ true ↦ p | false ↦ keeps w n p ]
 
   over_plays : (ns : List ℕ) (w : Plain) → P w → P (played ns w)
   over_plays [] w p = p

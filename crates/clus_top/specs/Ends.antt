@@ -23,7 +23,6 @@ use Rattle.vol_parts.specs.declared.finding.Finding.{Finding}
 use Rattle.vol_parts.specs.declared.geometry.Geometry.{Geometry}
 use Rattle.vol_parts.specs.Findings.{home_at, AreFindings, Accepts, CatOf}
 use Rattle.vol_faults.specs.Free.{IsGeometryBy}
-use Rattle.run_script.specs.Table.{run_so_far}
 use Rattle.run_script.specs.Lines.{lines_of}
 use Rattle.run_script.specs.Spelling.{SpellsScript}
 use Rattle.vol_analyze.specs.Judging.{IsFirstFound}
@@ -41,7 +40,7 @@ use Rattle.clus_top.specs.Images.{IsLackingDriveOf, IsSpentDriveOf, IsCutShort}
 -- a text within its limit spells this script
 pub record SpellsWithin (script : Script) (bytes : List ℕ) : Type 0 where
   pub within : length bytes ≤ 1048576
-  pub spelt : SpellsScript run_so_far (lines_of bytes) script
+  pub spelt : SpellsScript (lines_of bytes) script
 
 -- why a text gave no script
 abbrev pub IsScriptEnd : Option (List ℕ) → ℕ → ℕ → Status → Type 0

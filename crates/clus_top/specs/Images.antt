@@ -7,7 +7,6 @@ use Rattle.vol_init.specs.Made.{IsMade, IsLeft}
 use Rattle.run_engine.specs.declared.status.Status.{Status}
 use Rattle.run_engine.specs.declared.status.Status.TheVariants as status
 use Rattle.plain_cat.specs.declared.script.Script.{Script}
-use Rattle.run_script.specs.Table.{run_so_far}
 use Rattle.run_script.specs.Lines.{lines_of}
 use Rattle.run_script.specs.Spelling.{SpellsScript}
 use Rattle.core_state.specs.Worlds.{Plain}
@@ -34,7 +33,7 @@ IsFormatted h old new s = new ≡ Some old
 -- blocks, as far as its nodes came.
 pub record IsDriveOf (left : Option (List ℕ)) (bs : List Block) (new : Option (List Block)) : Type 0 where
   pub script : Script
-  pub spelt : IfSome left (λ bytes. SpellsScript run_so_far (lines_of bytes) script)
+  pub spelt : IfSome left (λ bytes. SpellsScript (lines_of bytes) script)
   pub world : Plain
   pub ran : HasRun script bs world
   pub image : new ≡ Some world.blocks
@@ -55,7 +54,7 @@ IsLackingDriveOf left bs new = (d : IsDriveOf left bs new) × LacksMemory d.ran.
 -- drive of this world, or that which this one turn would have left: one block may be ahead, and no other differs.
 pub record IsCutOf (left : Option (List ℕ)) (bs : List Block) (new : Option (List Block)) : Type 0 where
   pub script : Script
-  pub spelt : IfSome left (λ bytes. SpellsScript run_so_far (lines_of bytes) script)
+  pub spelt : IfSome left (λ bytes. SpellsScript (lines_of bytes) script)
   pub world : Plain
   pub ran : HasRun script bs world
   pub before : IsBeforeWrite (IsNextIn ran.start script.plays world) bs (Some bs) new world

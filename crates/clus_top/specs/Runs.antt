@@ -13,7 +13,6 @@ use Rattle.plain_vol.specs.Replaying.{Replays}
 use Rattle.vol_parts.specs.declared.geometry.Geometry.{Geometry}
 use Rattle.vol_parts.specs.Findings.{home_at, Accepts, CatOf}
 use Rattle.vol_faults.specs.Free.{IsGeometryBy}
-use Rattle.run_script.specs.Table.{run_so_far}
 use Rattle.run_script.specs.Lines.{lines_of}
 use Rattle.run_script.specs.Spelling.{SpellsScript}
 use Rattle.core_state.specs.Worlds.{Plain}
@@ -45,7 +44,7 @@ pub record IsReport (bytes : List ℕ) (bs : List Block) (new : Option (List Blo
   pub opening : Cat
   pub after : Cat
   pub geometry : Geometry
-  pub spelt : SpellsScript run_so_far (lines_of bytes) script
+  pub spelt : SpellsScript (lines_of bytes) script
   pub accepted : Accepts bs
   pub mounted : IsMounted bs script start
   pub walked : IsRotatedIn (budget_of start) (played script.plays start) world
@@ -79,6 +78,6 @@ pub record IsUnfinished (bytes : List ℕ) (bs : List Block) : Type 0 where
   pub script : Script
   pub start : Plain
   pub stopped : Plain
-  pub spelt : SpellsScript run_so_far (lines_of bytes) script
+  pub spelt : SpellsScript (lines_of bytes) script
   pub mounted : IsMounted bs script start
   pub spent : IsSpent (budget_of start) (played script.plays start) stopped

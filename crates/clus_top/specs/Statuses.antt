@@ -11,7 +11,6 @@ use Rattle.vol_parts.specs.Findings.{AreFindings, Accepts}
 use Rattle.vol_analyze.specs.Texts.{finding_text}
 use Rattle.vol_analyze.specs.Judging.{IsFirstFound}
 use Rattle.plain_cat.specs.declared.script.Script.{Script}
-use Rattle.run_script.specs.Table.{run_so_far}
 use Rattle.run_script.specs.Lines.{lines_of}
 use Rattle.run_script.specs.Spelling.{SpellsScript, IsBadLine, IsTooMany}
 use Rattle.run_engine.specs.declared.status.Status.{Status}
@@ -65,18 +64,18 @@ IsTooLong bytes = 1048576 < length bytes
 -- a script has a first bad line, with this number
 pub record IsBad (n : ℕ) (bytes : List ℕ) : Type 0 where
   pub within : length bytes ≤ 1048576
-  pub bad : IsBadLine run_so_far (lines_of bytes) n
+  pub bad : IsBadLine (lines_of bytes) n
 
 -- a script has one command or some plays too many, before any bad line
 pub record IsOverfull (bytes : List ℕ) : Type 0 where
   pub within : length bytes ≤ 1048576
-  pub over : IsTooMany run_so_far (lines_of bytes)
+  pub over : IsTooMany (lines_of bytes)
 
 -- a script is read
 pub record IsGood (bytes : List ℕ) : Type 0 where
   pub within : length bytes ≤ 1048576
   pub script : Script
-  pub spelt : SpellsScript run_so_far (lines_of bytes) script
+  pub spelt : SpellsScript (lines_of bytes) script
 
 -- ---- volumes
 

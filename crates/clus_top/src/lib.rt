@@ -19,6 +19,8 @@ mod changing;
 #[cfg(test)]
 mod channels;
 #[cfg(test)]
+mod deaths;
+#[cfg(test)]
 mod each_write;
 #[cfg(test)]
 mod faults;

@@ -2,7 +2,6 @@ ghost use Rattle.std.specs.Prelude.{◌≡◌, IfOk, IfErr, IfSome, OnErr};
 ghost use Rattle.plain_cat.specs.declared.cat.Cat.{Cat};
 ghost use Rattle.plain_cat.specs.InForm.{InForm};
 ghost use Rattle.plain_vol.specs.Lookups.{free_clusters};
-ghost use Rattle.run_script.specs.Table.{AreBuilt, run_so_far};
 ghost use Rattle.core_state.specs.Images.{IsTold};
 ghost use Rattle.core_state.specs.Mounting.{IsMounted};
 ghost use Rattle.run_engine.specs.Walks.{AllOver};
@@ -116,7 +115,6 @@ fn mount_status(fault: MountFault) -> Status
 // Mounts a drive, and runs the script on it.
 fn run_mounted<I: ImageDev>(alloc: Global, m: Mirror<I>, script: &Script) -> Ran<I>
     requires form { InForm script.now }
-    requires built { AreBuilt run_so_far script.now.lines }
     requires told { IsTold (I.told m.image) m.blocks }
     ensures report { IfOk result.outcome (λ text. IsEndIn script.now m.blocks (I.told m.image) (I.told result.image) text.items) }
     ensures end { IfErr result.outcome (IsStopBy script.now m.blocks (I.told m.image) (I.told result.image)

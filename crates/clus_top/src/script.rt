@@ -1,6 +1,5 @@
 ghost use Rattle.std.specs.Prelude.{IfOk, IfErr, IfSome};
 ghost use Rattle.plain_cat.specs.InForm.{InForm};
-ghost use Rattle.run_script.specs.Table.{AreBuilt, run_so_far};
 ghost use Rattle.clus_top.specs.Ends.{SpellsWithin, IsScriptEnd};
 
 use fx_text::{TextFault, TextIn, read_all};
@@ -16,7 +15,6 @@ const SCRIPT_LIMIT: usize = 1_048_576;
 pub fn script_of<T: TextIn>(alloc: Global, script: &mut T) -> Result<Script, Status>
     ensures spelt { IfOk result (λ s. IfSome (T.left script.old) (SpellsWithin s)) }
     ensures form { IfOk result InForm }
-    ensures built { IfOk result (λ s. AreBuilt run_so_far s.lines) }
     ensures end { IfErr result (IsScriptEnd (T.left script.old) (T.faults script.old) (T.faults script.new)) }
 {
     let bytes = match read_all(alloc, script, SCRIPT_LIMIT) {

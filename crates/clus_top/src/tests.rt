@@ -252,7 +252,16 @@ const LOOK_UPS: &[(&str, u8, &str)] = &[
         "1 N1 OPEN 1 (0,0,0) CR = refused NoSuchFile\nend: 1 answered, 0 died, 231 free\n",
     ),
     ("NODES 1\n1 LIST R9\n", 3, "bad line 2\n"),
-    ("NODES 1\nKILL 1 TURN 1\n", 3, "bad line 2\n"),
+    (
+        "NODES 1\nKILL 1 TURN 1\n",
+        0,
+        "1 N1 died at idle, leaked 0 clusters, 0 numbers\nend: 0 answered, 1 died, 231 free\n",
+    ),
+    (
+        "NODES 1\nKILL 1 TURN 1\nKILL 1 WRITE 1\n",
+        3,
+        "bad line 3\n",
+    ),
     ("NODES 1\nSCHED 1*65536 1\nbad\n", 3, "too many\n"),
     ("NODES 1\nbad\nSCHED 1*65536 1\n", 3, "bad line 2\n"),
 ];

@@ -101,10 +101,11 @@ fn init<I: ImageDev, O: TextOut>(
 
 /// Does the job that the words ask for, prints its text, and gives the image back.
 ///
-/// `run` reads a script of at most 1,048,576 bytes and runs it on a volume in which nothing is found. So far its commands are
-/// LOOKUP, LIST, STAT, CREATE and MKDIR, of any file and directory, by an identifier or a register, QUOTASET and QUOTASHOW. Its
-/// nodes, 1 to 8, first have a turn for each play of the schedule, and then turns in rotation from node 1 until each has given its commands; a node that is done makes no
-/// turn. `analyze` prints what is found in a volume. `init CLUSTER FILES LABEL` makes a volume with 1 to 16 blocks in a cluster, 32
+/// `run` reads a script of at most 1,048,576 bytes and runs it on a volume in which nothing is found. Its commands are all fifteen,
+/// of any file and directory, by an identifier or a register. Its nodes, 1 to 8, first have a turn for each play of the schedule, and
+/// then turns in rotation from node 1 until each has given its commands, and has closed what it left open; a node that is done makes
+/// no turn. Where the script kills a node, it dies in place of that turn, and makes no other.
+/// `analyze` prints what is found in a volume. `init CLUSTER FILES LABEL` makes a volume with 1 to 16 blocks in a cluster, 32
 /// to 4,096 file numbers, and a label of 1 to 12 characters of A to Z, 0 to 9, `$`, `_` and `-`. Other words are `BadWords`.
 ///
 /// What is tested first is told: the words; of a run the script's bytes and then its lines; the image's bytes, and their number;

@@ -1,5 +1,5 @@
 -- The catalogue of a volume that is accepted keeps the limits and the quotas, has all system files, and has nothing open.
-use Rattle.std.proofs.Common.{◌≡◌, ◌≤◌, ◌<◌, ◌+◌, ◌-◌, ◌++◌, ◌&&◌, ◌||◌, ℕ, zero, suc, Bool, true, false, cond, List, [], ◌∷◌, Option, Some, None, is_some, Result, Ok, Err, length, map, get_or, slice_get, nat_lt, refl, sym, ap, subst, ◌∙◌, inl, inr, arith}
+use Rattle.std.proofs.Common.{◌≡◌, ◌≤◌, ◌<◌, ◌+◌, ◌-◌, ◌*◌, ◌/◌, ◌++◌, ◌&&◌, ◌||◌, ℕ, zero, suc, Bool, true, false, cond, List, [], ◌∷◌, Option, Some, None, is_some, Result, Ok, Err, length, map, get_or, slice_get, nat_lt, refl, sym, ap, subst, ◌∙◌, inl, inr, arith}
 use Rattle.std.specs.Prelude.{◌==◌, All, not, filter, replicate}
 use Rattle.std.specs.List.{list_any, count_by, range_with_len}
 use Rattle.std.proofs.lemmas.Bool.{cases_Bool}
@@ -27,13 +27,18 @@ use Rattle.vol_parts.specs.declared.finding.Finding.{Finding}
 use Rattle.vol_parts.specs.declared.finding.Finding.TheVariants as finding
 use Rattle.vol_parts.specs.Volumes.{Volume, volume, IsNumber, factor, body, numbers, fields, fields_in, active_rows}
 use Rattle.vol_parts.specs.Volumes.{head as head_of}
-use Rattle.vol_parts.specs.Catalogues.{quota_row, rows_sorted, slot_of, slot_with, files_of, catalogue}
-use Rattle.vol_parts.specs.Fatal.{is_system_header, is_system_file, is_rowless}
+use Rattle.vol_parts.specs.Catalogues.{quota_row, rows_sorted, file_of, slot_of, slot_with, files_of, catalogue}
+use Rattle.vol_parts.specs.Fatal.{is_too_large, is_system_header, is_system_file, is_rowless}
 use Rattle.vol_parts.specs.Warnings.{is_marked, names_none, is_second, names_none_found, second_found, has_doubles, is_lost_file, if_any, is_miscounted, usage_found, warnings}
 use Rattle.vol_parts.specs.Findings.{home_at, AreWarningsBy, Accepts, CatOf}
 use Rattle.vol_spell.proofs.Accepted.{catalogue_is_spelt}
 use Rattle.vol_analyze.proofs.Weakly.{cat-told, IsWeak, weak-volume, file-sizes}
 use Rattle.core_state.specs.Goods.{HasSystemNumbers}
+use Rattle.plain_usages.specs.Usages.{IsNear, AreNear, HasSmallFiles}
+use Rattle.plain_vol.specs.Accounts.{death_cost}
+use Rattle.plain_vol.proofs.Standing.{stands_at}
+use Rattle.plain_cat.specs.declared.cat.File.{File}
+use Rattle.plain_cat.specs.declared.cat.Slot.TheVariants.{Used, Free}
 
 -- ---- quota rows
 
@@ -254,3 +259,65 @@ told_opens bs c from to whole told =
     let s = catalogue_is_spelt bs c from to whole told in
     let is : c ≡ catalogue (volume s.home bs) = cat-told bs c s.home told s.read in
     ap (λ d. d.opens) is ∙ none_open (volume s.home bs)
+
+-- ---- usages are exact, and files are small
+
+all_exact : (c : Cat) (rows : List QuotaRow) → filter (is_miscounted c) rows ≡ [] → All (IsNear c 0) rows
+all_exact c [] e = λ i d lt. absurd (omega arith)
+all_exact c (r ∷ rs) e = by_test (is_miscounted c r) refl e (all_exact c rs) where
+  is_charge : (a b : ℕ) → not (a == b) ≡ false → a ≤ b + death_cost * 0
+  is_charge a b e = let f : a ≡ b = grind (arith, nat_tests) in omega arith
+
+  by_test : (b : Bool) → is_miscounted c r ≡ b → cond b (r ∷ filter (is_miscounted c) rs) (filter (is_miscounted c) rs) ≡ [] → (filter (is_miscounted c) rs ≡ [] → All (IsNear c 0) rs) → All (IsNear c 0) (r ∷ rs)
+  by_test true f e rest = absurd (let g : r ∷ filter (is_miscounted c) rs ≡ [] = e in cc)
+  by_test false f e rest = All-cons (IsNear c 0) r rs (is_charge r.usage (charge c r.owner) f) (rest e)
+
+pub accepted_near : (bs : List Block) (c : Cat) → 64 ≤ length bs → length bs ≤ 65536 → AreWholeBlocks bs → Accepts bs → CatOf bs c → AreNear c 0
+accepted_near bs c from to whole accepts told =
+    let s = catalogue_is_spelt bs c from to whole told in
+    let v = volume s.home bs in
+    let is : c ≡ catalogue v = cat-told bs c s.home told s.read in
+    subst (λ (d : Cat). AreNear d 0) (sym is) (all_exact (catalogue v) (catalogue v).quota (none_miscounted v (no_warnings bs s.home accepts s.read)))
+
+module _ (v : Volume) (weak : IsWeak v) where
+  small_by : (n : ℕ) → IsNumber v n → 11 < n → (r : Result Head HeaderFault) → head_of v n ≡ r → (f : File) → slot_with (factor v) n r (body v n) ≡ Used f → f.clusters ≤ 77
+  small_by n number above (Ok (head.Used h)) e f is =
+      let same : file_of (factor v) n h (body v n) ≡ f = (let g : Used (file_of (factor v) n h (body v n)) ≡ Used f = is in cc) in
+      subst (λ (x : File). x.clusters ≤ 77) same (few (h.blocks / factor v) (by_size (is_too_large v (fields v n)) refl)) where
+        told : fields v n ≡ Some h
+        told = ap fields_in e
+
+        few : (k : ℕ) → nat_lt 77 k ≡ false → k ≤ 77
+        few k e = grind (arith, nat_tests)
+
+        by_size : (b : Bool) → is_too_large v (fields v n) ≡ b → nat_lt 77 (h.blocks / factor v) ≡ false
+        by_size true large = absurd (weak.none (finding.Clusters n) (number, above, large))
+        by_size false fits = sym (ap (is_too_large v) told) ∙ fits
+  small_by n number above (Ok (head.Free seq)) e f is = absurd (let g : Free seq ≡ Used f = is in cc)
+  small_by n number above (Err fault) e f is = absurd (let g : Free 0 ≡ Used f = is in cc)
+
+  small_slot : (n : ℕ) → IsNumber v n → 11 < n → (f : File) → slot_of v n ≡ Used f → f.clusters ≤ 77
+  unfolding slot_of
+  small_slot n number above f is = small_by n number above (head_of v n) refl f is
+
+  small_at : (n : ℕ) (f : File) → 11 < n → slice_get (files_of v) (n - 1) ≡ Some (Used f) → f.clusters ≤ 77
+  unfolding files_of
+  small_at n f above at =
+      let r = mapped_range (slot_of v) 1 v.home.files (n - 1) (Used f) at in
+      let lt = r.1 in
+      let number : 1 + (n - 1) ≡ n = omega arith in
+      small_slot n (record { from = omega arith; to = omega arith }) above f (sym (ap (slot_of v) number) ∙ sym r.0)
+
+pub accepted_sized : (bs : List Block) (c : Cat) → 64 ≤ length bs → length bs ≤ 65536 → AreWholeBlocks bs → CatOf bs c → HasSmallFiles c
+accepted_sized bs c from to whole told =
+    let s = catalogue_is_spelt bs c from to whole told in
+    let v = volume s.home bs in
+    let is : c ≡ catalogue v = cat-told bs c s.home told s.read in
+    let weak = weak-volume bs c s.home told s.read in
+    let g = s.spelt.counts.geometry in
+    let factor = s.spelt.constants.factor in
+    let high = g.cluster_to in
+    record {
+      factor = omega arith;
+      files = λ n f above at. small_at v weak n f above (sym (ap (λ (fs : List Slot). slice_get fs (n - 1)) (ap (λ (d : Cat). d.files) is ∙ files_are v weak)) ∙ stands_at c n f at);
+    }

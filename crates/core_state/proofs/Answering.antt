@@ -67,6 +67,10 @@ use Rattle.core_state.specs.Channels.{names_in_form, opened, channel_seen, chann
 use Rattle.core_state.specs.Goods.{held_by, under_with, under_by, nodes_under, IsAt, IsNode, HasFewAnswers, Good}
 use Rattle.core_state.specs.Searches.{unwritten, stock_after, wanted_by, Spaces, Off, Looking, Taking, Taken, Refused}
 use Rattle.core_state.specs.Events.{given_back, all_writes, turned, answering, locks_after, answered_by}
+use Rattle.plain_usages.specs.Usages.{AreNear}
+use Rattle.plain_usages.proofs.Stating.{answer_near, answer_small}
+use Rattle.core_state.specs.Fallen.{falls}
+use Rattle.core_state.proofs.Falling.{answers_fell, answers_left}
 use Rattle.core_state.proofs.Numbers.{Keeps, answer_stays}
 use Rattle.core_state.proofs.Opens.{opens_given}
 use Rattle.core_state.proofs.Ends.{EndsSo}
@@ -361,7 +365,7 @@ module _ (w : Plain) (good : Good w) (n : ℕ) (s : NodeState) (at : node_at w.n
   close_is chan e is_open_so =
       let its = channel_from chan (subst (λ (y : Cmd). names_in_form y ≡ true) e now.form) in
       let has = (good.running.opened n s at).each chan its.0 its.1 in
-      by_open (opened s.opens chan) refl (some_true s.opens (chan - 1) (ap (λ cs. slice_get cs (chan - 1)) mine.channels ∙ is_open_so)) has where
+      by_open (opened s.opens chan) refl (some_true s.opens (chan - 1) (ap (λ cs. slice_get cs (chan - 1)) (mine.channels alive) ∙ is_open_so)) has where
         by_open : (o : Option Chan) → opened s.opens chan ≡ o → is_some o ≡ true → has_channel good.running.cat n (Some chan) o ≡ true → is_closed r ≡ true
         by_open None f some has = absurd (let g : false ≡ true = some in cc)
         by_open (Some p) f some has =
@@ -381,6 +385,9 @@ module _ (w : Plain) (good : Good w) (n : ℕ) (s : NodeState) (at : node_at w.n
         drive = under_granted w.geometry answered.0 w.locks after w.nodes n s rested w.blocks at refl
             (λ m q k ne e h. rows_go_on w.locks after m (rows_of q) k (others_go m q ne e) h) answered.2;
         accounted = subst (λ (o : Outcome). Accounted o.after) answered.1.2 (accounts_kept good.running.cat n x answered.1.0 good.running.accounted answered.1.1);
+        near = subst (AreNear answered.0) (sym (answers_fell w.history n x r)) (answer_near good.running.cat answered.0 n x r (falls w.history) good.running.near answered.1);
+        sized = answer_small good.running.cat answered.0 n x r good.running.sized answered.1;
+        fell = answers_fell w.history n x r ∙ good.running.fell ∙ sym (answers_left w.history n x r w.script.nodes);
         system = λ m le. kept m le (good.running.system m le);
         named = answer_names good.running.cat answered.0 n x r (names_channel x now.form) good.running.named answered.1;
         opens = opens_locked;
@@ -397,7 +404,7 @@ module _ (w : Plain) (good : Good w) (n : ℕ) (s : NodeState) (at : node_at w.n
       (record {
         past = sym grows;
         geometry = mine.geometry;
-        channels = channels_go_on s.past s.opens x (channel_seen s.opens x) (granted_ask s.tried s.plan) r ends_so mine.channels;
+        channels = λ on. channels_go_on s.past s.opens x (channel_seen s.opens x) (granted_ask s.tried s.plan) r ends_so (mine.channels alive);
         channel = refl;
         store = mine.store;
         rests = kept_rests_then;

@@ -302,7 +302,7 @@ stays_closed x none channels r =
       no_closed other e = refl
 
 -- what a node has open goes on to be what its answers say
-pub channels_go_on : (p : NodePast) (opens : List (Option Chan)) (x : Cmd) (channel : Option Chan) (ask : Option Ask) (r : Reply) → EndsSo x channel ask r → HasChannels p opens → map is_some (opens_then opens x r) ≡ channels_after p.channels x r
+pub channels_go_on : (p : NodePast) (opens : List (Option Chan)) (x : Cmd) (channel : Option Chan) (ask : Option Ask) (r : Reply) → EndsSo x channel ask r → map is_some opens ≡ p.channels → map is_some (opens_then opens x r) ≡ channels_after p.channels x r
 channels_go_on p opens x channel ask r (Opened o) told =
     (λ i. map is_some (opens_then opens (o.is i) (o.reply i))) ∙ map_set opens (o.chan - 1) (Some (record { file = o.file; mode = o.mode })) ∙ ap (λ cs. slice_set cs (o.chan - 1) true) told
     ∙ sym (λ i. channels_after p.channels (o.is i) (o.reply i))

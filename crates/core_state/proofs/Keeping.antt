@@ -31,6 +31,8 @@ use Rattle.core_state.specs.Stores.{HasStore}
 use Rattle.core_state.specs.Channels.{HasOpens}
 use Rattle.core_state.specs.Opens.{open_now, AreOpensLocked}
 use Rattle.core_state.specs.Small.{AreSmall}
+use Rattle.core_state.specs.Fallen.{falls, fallen}
+use Rattle.plain_usages.specs.Usages.{AreNear, HasSmallFiles}
 use Rattle.core_state.specs.Goods.{nodes_under, HasSystemNumbers, AreLocked, IsAtPlan, HasCommand, IsNode, HasFewAnswers, Good}
 use Rattle.plain_opens.specs.Opens.{OpensNameFiles}
 use Rattle.core_state.proofs.Opens.{opens_same}
@@ -138,6 +140,9 @@ pub record IsDriven (w : Plain) (t : List Resource) (bs : List Block) (ns : List
   pub replayed : Replays w.opening w.script h cat
   pub drive : IsUnder w.geometry cat (nodes_under t ns) bs
   pub accounted : Accounted cat
+  pub near : AreNear cat (falls h)
+  pub sized : HasSmallFiles cat
+  pub fell : falls h ≡ fallen h w.script.nodes
   pub system : HasSystemNumbers cat
   pub named : OpensNameFiles cat
   pub opens : AreOpensLocked t (open_now cat ns)
@@ -151,6 +156,9 @@ still_driven w good n s r at t bs alike same drive opens = record {
   replayed = good.running.replayed;
   drive = drive;
   accounted = good.running.accounted;
+  near = good.running.near;
+  sized = good.running.sized;
+  fell = good.running.fell;
   system = good.running.system;
   named = good.running.named;
   opens = opens_same t (open_now good.running.cat w.nodes) (open_now good.running.cat (set_node w.nodes n r)) (now_alike good.running.cat w.nodes n s r at alike) opens;
@@ -170,6 +178,9 @@ rebuilt w good n s r at t bs h driven locked own small few others goes node = re
     replayed = driven.replayed;
     drive = driven.drive;
     accounted = driven.accounted;
+    near = driven.near;
+    sized = driven.sized;
+    fell = driven.fell;
     system = driven.system;
     named = driven.named;
     opens = driven.opens;

@@ -1,3 +1,5 @@
+pub mod Falling
+pub mod Sparing
 pub mod Opens
 pub mod Nodes
 pub mod Channels
@@ -25,6 +27,7 @@ pub mod Answering
 pub mod Trying
 pub mod Closing
 pub mod Turns
+pub mod Dying
 pub mod Openings
 pub mod Accepting
 pub mod MountedWorlds

@@ -34,6 +34,8 @@ use Rattle.core_state.specs.Goods.{HasSystemNumbers, HasOnly, under_by, nodes_un
 use Rattle.core_state.specs.Mounting.{at_rest, mounted}
 use Rattle.core_state.specs.Channels.{HasOpens}
 use Rattle.plain_opens.proofs.Naming.{closed_names}
+use Rattle.plain_usages.specs.Usages.{AreNear, HasSmallFiles}
+use Rattle.core_state.proofs.Falling.{none_fallen}
 use Rattle.core_state.proofs.Opens.{opens_none, opens_same}
 use Rattle.core_state.proofs.SmallBegun.{few_newborn}
 use Rattle.core_state.proofs.SmallWorlds.{small_mounted}
@@ -85,7 +87,7 @@ no_line (l ∷ ls) k x n all none = by_first (within_at k x n l.node none (first
 
 -- ---- the world
 
-module _ (bs : List Block) (s : Script) (c : Cat) (g : Geometry) (form : InForm s) (drive : IsUnder g c (λ n. resting nothing) bs) (accounted : Accounted c) (system : HasSystemNumbers c) (none_open : c.opens ≡ replicate 64 None) where
+module _ (bs : List Block) (s : Script) (c : Cat) (g : Geometry) (form : InForm s) (drive : IsUnder g c (λ n. resting nothing) bs) (accounted : Accounted c) (near : AreNear c 0) (sized : HasSmallFiles c) (system : HasSystemNumbers c) (none_open : c.opens ≡ replicate 64 None) where
   abbrev w : Plain
   w = mounted bs s c g
 
@@ -115,7 +117,7 @@ module _ (bs : List Block) (s : Script) (c : Cat) (g : Geometry) (form : InForm 
   node n = record {
     past = refl;
     geometry = refl;
-    channels = refl;
+    channels = λ on. refl;
     channel = refl;
     store = record { kept = refl; back = refl; stock = refl; cache = refl };
     rests = refl;
@@ -132,6 +134,9 @@ module _ (bs : List Block) (s : Script) (c : Cat) (g : Geometry) (form : InForm 
       replayed = refl;
       drive = nodes_alike g c (λ n. resting nothing) (nodes_under [] w.nodes) bs under drive;
       accounted = accounted;
+      near = near;
+      sized = sized;
+      fell = sym (none_fallen s.nodes);
       system = system;
       named = closed_names c none_open;
       opens = opens_same [] (open_of c) (open_now c w.nodes) (λ owner low. ap (λ a. open_with owner.part a (open_of c owner)) (no_asks owner.node)) (opens_none c 64 none_open);
@@ -151,11 +156,11 @@ module _ (bs : List Block) (s : Script) (c : Cat) (g : Geometry) (form : InForm 
   few_nodes : s.nodes ≤ 8
   few_nodes = let is = form.nodes in grind (arith, nat_tests)
 
-  pub world_mounted : (takes : Cmd → Type 0) (spare : ℕ) → IsAccepted c → HasOnly takes s → IsWorld takes w spare
-  world_mounted takes spare accepted taken = record {
+  pub world_mounted : (takes : Cmd → Type 0) (spare : ℕ) → IsAccepted c → HasOnly takes s → 8 ≤ spare → IsWorld takes w spare
+  world_mounted takes spare accepted taken wide = record {
     good = good_mounted;
     accepted = accepted;
-    room = record { few = subst (λ (k : ℕ). k ≤ 8) (sym (length_rest s.nodes x)) few_nodes; lines = form.lines_fit; places = subst (λ (k : ℕ). k ≤ spare) (sym (none_decided s.nodes g)) (omega arith) };
+    room = record { few = subst (λ (k : ℕ). k ≤ 8) (sym (length_rest s.nodes x)) few_nodes; lines = form.lines_fit; places = (let none = none_decided s.nodes g in let few = few_nodes in omega arith) };
     taken = taken;
   }
 

@@ -42,7 +42,7 @@ abbrev one : Bool → ℕ
 one b = cond b 1 0
 
 -- four for each command under way
-owed_is : (s : NodeState) → owed s ≡ 4 * one (has_command s)
+pub owed_is : (s : NodeState) → owed s ≡ 4 * one (has_command s)
 owed_is s = by_test (has_command s) where
   by_test : (b : Bool) → cond b 4 0 ≡ 4 * one b
   by_test true = refl
@@ -56,7 +56,7 @@ sum_node f nodes (suc k) s r at = sum_set f nodes k s r at
 -- ---- an event of node n, which stood as s and stands as r
 
 -- Each sequence grows by so much at most, so many commands end, and what the node owes falls by what the sequences grow.
-small_event : (w : Plain) → AreSmall w → (n : ℕ) (s r : NodeState) → node_at w.nodes n ≡ Some s → (t : List Resource) (bs : List Block) (h : List Entry) (more ended : ℕ)
+pub small_event : (w : Plain) → AreSmall w → (n : ℕ) (s r : NodeState) → node_at w.nodes n ≡ Some s → (t : List Resource) (bs : List Block) (h : List Entry) (more ended : ℕ)
     → ((name : LockName) → first_sequence (resource_at name t).value ≤ first_sequence (resource_at name w.locks).value + more)
     → ((name : LockName) → second_sequence (resource_at name t).value ≤ second_sequence (resource_at name w.locks).value + more)
     → count_by is_begun h ≡ count_by is_begun w.history + ended → more + (owed r + 4 * one (has_command s)) ≤ owed s + 4 * (ended + one (has_command r))

@@ -357,7 +357,7 @@ record HasNothing (u : UnderWay) : Type 0 where
   stock : u.stock ≡ nothing
 
 module _ (w : Plain) (good : Good w) (n : ℕ) (s : NodeState) (at : node_at w.nodes n ≡ Some s) (x : Cmd) (has : s.cmd ≡ Some x) (now : IsAt w n s x) (here : nodes_under w.locks w.nodes n ≡ at_locks n s x (held_by w.locks n s))
-    (drive : IsUnder s.seen.geometry good.running.cat (nodes_under w.locks w.nodes) w.blocks) (free : waits_at w.locks n s.asked ≡ false) where
+    (drive : IsUnder s.seen.geometry good.running.cat (nodes_under w.locks w.nodes) w.blocks) where
   sole : AreSole (nodes_under w.locks w.nodes)
   sole = are_sole w.locks w.nodes good.locked.0 good.locked.1
 
@@ -399,7 +399,7 @@ module _ (w : Plain) (good : Good w) (n : ℕ) (s : NodeState) (at : node_at w.n
     other : m ≢ n → Outs m drive.own nothing nothing
     other ne =
         let mine : Has (held_in PW (held_by w.locks n s)) V
-        = held_grows PW s.asked (held_by w.locks n s) V (λ l k. all_asked w.locks n s l free k) (holds_all x (own_ask s.tried s.plan) s.asked s.run s.seen r.claimed) in
+        = held_grows PW (held_locks w.locks n s.asked) (held_by w.locks n s) V (λ l k. asked_held w.locks n s l k) r.holds in
         let h = others_nothing mine m ne in
         subst (λ (k : Things). Outs m drive.own nothing k) h.stock (subst (λ (k : Things). Outs m drive.own k (nodes_under w.locks w.nodes m).stock) h.took (drive.outs m))
 

@@ -378,7 +378,7 @@ module _ (w : Plain) (good : Good w) (n : ℕ) (s : NodeState) (at : node_at w.n
     by_stand (inr k) = goes_exactly w.locks cat n a.chan a.file a.mode part good.locked.0 others_stand (inr (k.0, k.1))
 
   -- and where it was granted its mode goes with them still
-  still_granted : s.tried ≡ true → is_granted n a cat ≡ true
+  pub still_granted : s.tried ≡ true → is_granted n a cat ≡ true
   still_granted done = granted_goes w.locks cat n a.chan a.file a.mode part good.locked.0 others_stand (elim (zero_or_not a.chan) [ inl z ↦ by_system z | inr ne ↦ by_channel ne ]) where
     granted : granted_ask s.tried s.plan ≡ Some a
     granted = (λ i. granted_ask (done i) (plan i)) ∙ ask
@@ -576,6 +576,9 @@ module _ (w : Plain) (good : Good w) (n : ℕ) (s : NodeState) (at : node_at w.n
       replayed = good.running.replayed;
       drive = under_now w.geometry cat w.locks t w.nodes n s q w.blocks at (λ m y off e. rows_stand_still w.locks t m (rows_of y) (λ ls i. still.still m ls)) under_then;
       accounted = good.running.accounted;
+      near = good.running.near;
+      sized = good.running.sized;
+      fell = good.running.fell;
       system = good.running.system;
       named = good.running.named;
       opens = took.opens (open_now cat (set_node w.nodes n q)) mine_then others_then;

@@ -177,7 +177,7 @@ module _ (w : Plain) (good : Good w) (n : ℕ) (s : NodeState) (at : node_at w.n
 
   -- what it takes for granted of the catalogue is so
   pub known : knows n x s.seen good.running.cat ≡ true
-  known = is_known w good n s at x cmd under_command here drive free
+  known = is_known w good n s at x cmd under_command here drive
 
   -- what it has seen stands in the committed blocks, which spell the catalogue
   pub seen_on : IsSeenOn n x s.seen drive.base drive.own good.running.cat

@@ -1,5 +1,5 @@
 -- What the channels of a node have open.
-use Rattle.std.specs.Prelude.{◌≡◌, ◌≤◌, ◌-◌, ◌&&◌, ℕ, Bool, true, List, Option, Some, None, is_some, length, map, replicate, slice_index_or, slice_set, if◌then◌else◌}
+use Rattle.std.specs.Prelude.{◌≡◌, ◌≤◌, ◌-◌, ◌&&◌, ℕ, Bool, true, false, List, Option, Some, None, is_some, length, map, replicate, slice_index_or, slice_set, if◌then◌else◌}
 use Rattle.lock_db.specs.declared.name.LockName.TheVariants.{A}
 use Rattle.lock_db.specs.declared.resource.Resource.{Resource}
 use Rattle.lock_db.specs.Tables.{released}
@@ -54,9 +54,9 @@ abbrev pub closed_off : ℕ → Option Chan → Cmd → Reply → List Resource 
 closed_off n had (cmd.CloseFile chan) r t = if is_closed r then let_go n chan had t else t
 closed_off n had other r t = t
 
--- of a node's channels those have something open that its answers say
+-- of a node's channels those have something open that its answers say, while it lives
 abbrev pub HasChannels : NodePast → List (Option Chan) → Type 0
-HasChannels p opens = map is_some opens ≡ p.channels
+HasChannels p opens = p.dead ≡ false → map is_some opens ≡ p.channels
 
 -- node n has open what the catalogue says
 pub record HasOpens (c : Cat) (n : ℕ) (opens : List (Option Chan)) : Type 0 where

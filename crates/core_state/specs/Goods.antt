@@ -16,6 +16,7 @@ use Rattle.plain_vol.specs.Mending.{is_true}
 use Rattle.plain_vol.specs.Own.{NodePast, past, lines_of, next_command, Own}
 use Rattle.plain_vol.specs.Replaying.{Replays}
 use Rattle.plain_opens.specs.Opens.{OpensNameFiles}
+use Rattle.plain_usages.specs.Usages.{AreNear, HasSmallFiles}
 use Rattle.vol_words.specs.Fields.{Block}
 use Rattle.vol_parts.specs.Findings.{Accepts, CatOf}
 use Rattle.lock_db.specs.Tables.{IsTable}
@@ -41,6 +42,7 @@ use Rattle.core_state.specs.Stores.{HasStore, IsGone, IsStocked, AreCached}
 use Rattle.core_state.specs.Searches.{unwritten, stock_after, Spaces}
 use Rattle.core_state.specs.Waiting.{WaitsFor}
 use Rattle.core_state.specs.Small.{AreSmall}
+use Rattle.core_state.specs.Fallen.{falls, fallen, living}
 
 -- ---- the nodes under way
 
@@ -75,12 +77,16 @@ HasSystemNumbers c = (n : ℕ) → n ≤ 11 → is_free_number c n ≡ false
 
 -- The history replays from the opening catalogue, and the drive is that of the catalogue to which it leads, with the writes done
 -- of each command under way. The catalogue keeps the limits of a volume and its quotas, and its opens name files. Each channel has
--- the lock of what it has open, by the catalogue or by an ask that was granted. What the nodes have open, cached and in stock is so.
+-- the lock of what it has open, by the catalogue or by an ask that was granted. Each death is that of a node of the world, and usages
+-- are above what files cost by what the deaths have left at most. What the nodes have open, cached and in stock is so.
 pub record IsRunning (w : Plain) : Type 0 where
   pub cat : Cat
   pub replayed : Replays w.opening w.script w.history cat
   pub drive : IsUnder w.geometry cat (nodes_under w.locks w.nodes) w.blocks
   pub accounted : Accounted cat
+  pub near : AreNear cat (falls w.history)
+  pub sized : HasSmallFiles cat
+  pub fell : falls w.history ≡ fallen w.history w.script.nodes
   pub system : HasSystemNumbers cat
   pub named : OpensNameFiles cat
   pub opens : AreOpensLocked w.locks (open_now cat w.nodes)
@@ -173,11 +179,16 @@ abbrev pub decided : List NodeState → ℕ
 decided [] = 0
 decided (s ∷ ss) = (if is_some s.plan then 1 else 0) + decided ss
 
--- A world of at most 8 nodes and 4,096 lines, whose history has room for the answer of each node that has decided.
+-- A world of at most 8 nodes and 4,096 lines, whose history has room for the answer of each node that has decided, and for the death of
+-- each that lives.
 pub record HasRoom (w : Plain) (spare : ℕ) : Type 0 where
   pub few : length w.nodes ≤ 8
   pub lines : length w.script.lines ≤ 4096
-  pub places : decided w.nodes ≤ spare
+  pub places : decided w.nodes + living w.history w.script.nodes ≤ spare
+
+-- a list of file numbers is kept for the death of each node that lives
+abbrev pub HasLists : Plain → ℕ → Type 0
+HasLists w lists = living w.history w.script.nodes ≤ lists
 
 -- a catalogue that an accepted volume tells
 abbrev pub IsAccepted : Cat → Type 0

@@ -1,4 +1,5 @@
 pub mod Runs
+pub mod Spare
 pub mod Worlds
 pub mod Images
 pub mod Raises
@@ -9,7 +10,9 @@ pub mod Stores
 pub mod Searches
 pub mod Waiting
 pub mod Small
+pub mod Fallen
 pub mod Goods
 pub mod Mounting
 pub mod Event
 pub mod Events
+pub mod Deaths

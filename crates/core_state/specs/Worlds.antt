@@ -7,6 +7,7 @@ use Rattle.lock_db.specs.declared.resource.Resource.{Resource}
 use Rattle.plain_cat.specs.declared.mode.Mode.{Mode}
 use Rattle.plain_cat.specs.declared.command.Cmd.{Cmd}
 use Rattle.plain_cat.specs.declared.history.Entry.{Entry}
+use Rattle.plain_cat.specs.declared.history.Entry.TheVariants.{Died}
 use Rattle.plain_cat.specs.declared.script.Script.{Script}
 use Rattle.plain_cat.specs.declared.cat.Cat.{Cat}
 use Rattle.plain_vol.specs.Own.{NodePast, next_command}
@@ -116,6 +117,11 @@ state_of cmd_is n = record {
   hits = n.hits;
 }
 
+-- an entry as it is told: how much room its list has is no matter
+abbrev pub shown : Entry → Entry
+shown (Died n stage clusters numbers) = Died n stage clusters (record { items = numbers.items; room = 0 })
+shown other = other
+
 abbrev pub plain_of : {I O : Type 0} → (O → Cmd) → Core I O → Plain
 plain_of cmd_is w = record {
   script = w.script;
@@ -124,7 +130,7 @@ plain_of cmd_is w = record {
   blocks = w.mirror.blocks;
   locks = w.locks;
   nodes = map (state_of cmd_is) w.nodes.items;
-  history = w.history.items;
+  history = map shown w.history.items;
 }
 
 -- ---- the nodes of a world

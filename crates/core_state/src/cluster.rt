@@ -26,6 +26,7 @@ pub struct Core<I: ImageDev, O: Operation> {
     /// The nodes, in order from node 1.
     pub nodes: Vec<Node<O>>,
 
-    /// The answers so far, in order. It has room for the answer of each node that has decided on a plan.
+    /// The answers so far, in order. It has room for the answer of each node that has decided on a plan, and for the death
+    /// of each that lives.
     pub history: History,
 }

@@ -1,4 +1,4 @@
-ghost use Rattle.std.specs.Prelude.{◌≡◌, [], IfOk, IfErr, map, replicate};
+ghost use Rattle.std.specs.Prelude.{◌≡◌, ◌≤◌, [], IfOk, IfErr, map, replicate};
 ghost use Rattle.plain_cat.specs.InForm.{InForm};
 ghost use Rattle.core_state.specs.Worlds.{state_of};
 ghost use Rattle.core_state.specs.Goods.{HasOnly};
@@ -7,6 +7,7 @@ ghost use Rattle.core_state.specs.Mounting.{IsMounted, IsMountEnd, at_rest};
 use crate::cluster::Core;
 use crate::node::Node;
 use crate::space::SpaceRun;
+use crate::spare::SpareLists;
 use crate::world::World;
 use blk_drive::{ImageDev, Mirror};
 use blk_whole::blocks_are_whole;
@@ -94,6 +95,8 @@ struct Made<O: Operation> {
     script: Script,
     locks: LockDb,
     nodes: Vec<Node<O>>,
+    history: History,
+    lists: SpareLists,
 }
 
 fn made_of<O: Operation>(
@@ -104,11 +107,18 @@ fn made_of<O: Operation>(
     ensures script { IfOk result (λ m. m.script ≡ script.now) }
     ensures locks { IfOk result (λ m. m.locks ≡ []) }
     ensures nodes { IfOk result (λ m. map (state_of O.cmd_is) m.nodes.items ≡ replicate script.now.nodes (at_rest geometry)) }
+    ensures history { IfOk result (λ m. m.history.items ≡ []) }
+    ensures room { IfOk result (λ m. 8 ≤ m.history.room) }
+    ensures lists { IfOk result (λ m. m.lists ≡ script.now.nodes) }
 {
+    let mut history = History::new(alloc);
+    history.make_room(8)?;
     Ok(Made {
         script: script.copy(alloc)?,
         locks: LockDb::new(alloc)?,
         nodes: all_resting(alloc, geometry, script.nodes)?,
+        history,
+        lists: SpareLists::new(alloc, script.nodes)?,
     })
 }
 
@@ -160,8 +170,9 @@ impl<I: ImageDev, O: Operation> World<I, O> {
                 mirror: m,
                 locks: made.locks,
                 nodes: made.nodes,
-                history: History::new(alloc),
+                history: made.history,
             },
+            lists: made.lists,
         })
     }
 }

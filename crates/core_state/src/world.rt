@@ -1,10 +1,11 @@
-ghost use Rattle.std.specs.Prelude.{◌≡◌, ◌≤◌, length};
-ghost use Rattle.core_state.specs.Worlds.{IsOfWorld};
+ghost use Rattle.std.specs.Prelude.{◌≡◌, ◌≤◌, length, map};
+ghost use Rattle.core_state.specs.Worlds.{IsOfWorld, shown};
 ghost use Rattle.core_state.specs.Goods.{Good, IsAccepted};
 ghost use Rattle.core_state.specs.Small.{AllGoOn};
 ghost use Rattle.core_state.specs.Events.{is_over, count_of};
 
 use crate::cluster::Core;
+use crate::spare::SpareLists;
 use blk_drive::{ImageDev, Mirror};
 use op_law::Operation;
 use plain_cat::{Cat, History, Script};
@@ -18,17 +19,20 @@ use std::marker::Model;
 #[derive(Drop)]
 pub struct World<I: ImageDev, O: Operation> {
     pub core: Core<I, O>,
+
+    /// A list of file numbers for the death of each node that lives.
+    pub lists: SpareLists,
 }
 
 impl<I: ImageDev, O: Operation> Model for World<I, O> {
     ghost use Rattle.core_state.specs.Worlds.{Held, plain_of};
-    ghost use Rattle.core_state.specs.Goods.{IsWorld};
+    ghost use Rattle.core_state.specs.Goods.{IsWorld, HasLists};
 
     ghost Value = { Held I };
 
     ghost view = { λ w. record { world = plain_of O.cmd_is w.core; image = w.core.mirror.image; room = w.core.history.room } };
 
-    ghost invariant = { λ w. IsWorld O.takes (plain_of O.cmd_is w.core) w.core.history.room };
+    ghost invariant = { λ w. IsWorld O.takes (plain_of O.cmd_is w.core) w.core.history.room × HasLists (plain_of O.cmd_is w.core) w.lists };
 }
 
 impl<I: ImageDev, O: Operation> World<I, O> {
@@ -53,7 +57,7 @@ impl<I: ImageDev, O: Operation> World<I, O> {
 
     /// The answers so far, in order.
     pub fn history(&self) -> &History
-        ensures { result.now.items ≡ self.now.world.history }
+        ensures { map shown result.now.items ≡ self.now.world.history }
     {
         &self.core.history
     }
@@ -116,7 +120,7 @@ impl<I: ImageDev, O: Operation> World<I, O> {
 
     /// The history and the drive.
     pub fn into_parts(self) -> (History, Mirror<I>)
-        ensures history { result.0.items ≡ self.world.history }
+        ensures history { map shown result.0.items ≡ self.world.history }
         ensures blocks { result.1.blocks ≡ self.world.blocks }
         ensures image { result.1.image ≡ self.image }
     {

@@ -11,6 +11,7 @@ use Rattle.op_law.specs.Needs.{need_of}
 use Rattle.op_law.specs.Laws.{Lawful}
 use Rattle.core_state.specs.Worlds.{NodeState, Plain, node_at, set_node, with_node, current, or_next, state_of}
 use Rattle.core_state.specs.Channels.{channel_now}
+use Rattle.core_state.specs.Fallen.{living}
 use Rattle.core_state.specs.Goods.{HasCommand, IsNode, Good, decided, HasRoom}
 use Rattle.core_state.specs.Event.{Event}
 use Rattle.core_state.specs.Event as event
@@ -58,7 +59,7 @@ module _ (w : Plain) (good : Good w) (n : ℕ) (x : Cmd) (b : Begins w n x) (law
   room_begun spare room = record {
     few = subst (λ (k : ℕ). k ≤ 8) (sym (length_node w.nodes n (begun s x))) room.few;
     lines = room.lines;
-    places = subst (λ (k : ℕ). k ≤ spare) (sym (same_count (decided w1.nodes) (decided w.nodes) (cond (is_some s.plan) 1 0) (decided_set w.nodes n s (begun s x) b.at))) room.places;
+    places = subst (λ (k : ℕ). k + living w.history w.script.nodes ≤ spare) (sym (same_count (decided w1.nodes) (decided w.nodes) (cond (is_some s.plan) 1 0) (decided_set w.nodes n s (begun s x) b.at))) room.places;
   }
 
   -- its turn is that of the node with the command
@@ -85,7 +86,7 @@ module _ (w : Plain) (good : Good w) (n : ℕ) (x : Cmd) (b : Begins w n x) (law
   room_back spare room = record {
     few = subst (λ (k : ℕ). k ≤ 8) (length_node w.nodes n (begun s x)) room.few;
     lines = room.lines;
-    places = subst (λ (k : ℕ). k ≤ spare) (same_count (decided w1.nodes) (decided w.nodes) (cond (is_some s.plan) 1 0) (decided_set w.nodes n s (begun s x) b.at)) room.places;
+    places = subst (λ (k : ℕ). k + living w.history w.script.nodes ≤ spare) (same_count (decided w1.nodes) (decided w.nodes) (cond (is_some s.plan) 1 0) (decided_set w.nodes n s (begun s x) b.at)) room.places;
   }
 
   -- an item that told the node with its command, and forgets it
@@ -154,7 +155,7 @@ module _ (w : Plain) (n : ℕ) (s : NodeState) (at : node_at w.nodes n ≡ Some 
   quiet_room spare e q so plan room new is = subst (λ (v : Plain). HasRoom v spare) (sym (is ∙ sym (happen_here w n s e at) ∙ so)) (record {
     few = subst (λ (k : ℕ). k ≤ 8) (sym (length_node w.nodes n q)) room.few;
     lines = room.lines;
-    places = subst (λ (k : ℕ). k ≤ spare) (sym (same_total (decided (set_node w.nodes n q)) (decided w.nodes) (cond (is_some s.plan) 1 0) (cond (is_some q.plan) 1 0) (ap (λ t. cond t 1 0) plan) (decided_set w.nodes n s q at))) room.places;
+    places = subst (λ (k : ℕ). k + living w.history w.script.nodes ≤ spare) (sym (same_total (decided (set_node w.nodes n q)) (decided w.nodes) (cond (is_some s.plan) 1 0) (cond (is_some q.plan) 1 0) (ap (λ t. cond t 1 0) plan) (decided_set w.nodes n s q at))) room.places;
   }) where
     same_total : (a b k j : ℕ) → j ≡ k → a + k ≡ b + j → a ≡ b
     same_total a b k j e f = omega arith

@@ -54,6 +54,8 @@ use Rattle.core_state.specs.Searches.{wanted_by}
 use Rattle.core_state.specs.Worlds.{NodeState, Plain, IsOfWorld, node_at, set_node, rows_of, rows_in, rows_at}
 use Rattle.core_state.specs.Raises.{raise_of}
 use Rattle.core_state.specs.Asks.{writes_by, reply_by, writes_now, asker_of}
+use Rattle.core_state.specs.Fallen.{living}
+use Rattle.core_state.proofs.Falling.{answers_left}
 use Rattle.core_state.specs.Goods.{IsAt, IsNode, HasFewAnswers, Good, decided, HasRoom}
 use Rattle.core_state.specs.Event.{Event}
 use Rattle.core_state.specs.Event as event
@@ -452,8 +454,8 @@ module _ {w : Plain} (good : Good w) {n : ℕ} (r : IsReady w n) where
 same_room : (a b k : ℕ) → a ≤ b → a + k ≤ b + k
 same_room a b k le = omega arith
 
-from_counts : (d a b x y : ℕ) → d + a ≡ b + x → b + x ≤ y + a → d ≤ y
-from_counts d a b x y e le = omega arith
+from_counts : (d a b l x y : ℕ) → d + a ≡ b + x → (b + l) + x ≤ y + a → d + l ≤ y
+from_counts d a b l x y e le = omega arith
 
 module _ {w : Plain} (good : Good w) {n : ℕ} (r : IsReady w n) where
   abbrev me : NodeState
@@ -462,54 +464,63 @@ module _ {w : Plain} (good : Good w) {n : ℕ} (r : IsReady w n) where
   abbrev weight : NodeState → ℕ
   weight x = cond (is_some x.plan) 1 0
 
+  -- for how many entries the history has to have room
+  abbrev lives : ℕ
+  lives = living w.history w.script.nodes
+
+  abbrev needed : ℕ
+  needed = decided w.nodes + lives
+
   pub command_is : command_at w n ≡ Some r.cmd
   command_is = ap command_in r.at ∙ r.has
 
-  pub room_after : (e : Event) (q : NodeState) (spare spare' : ℕ) → (happens w n me e).script ≡ w.script → (happens w n me e).nodes ≡ set_node w.nodes n q → decided w.nodes + weight q ≤ spare' + weight me
+  pub room_after : (e : Event) (q : NodeState) (spare spare' : ℕ) → (happens w n me e).script ≡ w.script → (happens w n me e).nodes ≡ set_node w.nodes n q → living (happens w n me e).history w.script.nodes ≡ lives → needed + weight q ≤ spare' + weight me
       → HasRoom w spare → (new : Plain) → new ≡ happen w n e → HasRoom new spare'
-  room_after e q spare spare' script nodes le room new is = subst (λ (v : Plain). HasRoom v spare') (sym (is ∙ sym (happen_here w n me e r.at))) (record {
+  room_after e q spare spare' script nodes live le room new is = subst (λ (v : Plain). HasRoom v spare') (sym (is ∙ sym (happen_here w n me e r.at))) (record {
     few = subst (λ (ns : List NodeState). length ns ≤ 8) (sym nodes) (subst (λ (k : ℕ). k ≤ 8) (sym (length_node w.nodes n q)) room.few);
     lines = subst (λ (c : Script). length c.lines ≤ 4096) (sym script) room.lines;
-    places = subst (λ (ns : List NodeState). decided ns ≤ spare') (sym nodes) (from_counts (decided (set_node w.nodes n q)) (weight me) (decided w.nodes) (weight q) spare' (decided_set w.nodes n me q r.at) le);
+    places = subst (λ (c : Script). decided (happens w n me e).nodes + living (happens w n me e).history c.nodes ≤ spare') (sym script)
+        (subst (λ (k : ℕ). decided (happens w n me e).nodes + k ≤ spare') (sym live)
+        (subst (λ (ns : List NodeState). decided ns + lives ≤ spare') (sym nodes) (from_counts (decided (set_node w.nodes n q)) (weight me) (decided w.nodes) lives (weight q) spare' (decided_set w.nodes n me q r.at) le)));
   })
 
   pub lock_room : (name : LockName) (mode : Mode) (spare : ℕ) → HasRoom w spare → (new : Plain) → new ≡ happen w n (event.Lock name mode) → HasRoom new spare
-  lock_room name mode spare room new is = room_after (event.Lock name mode) (turned (locking me name mode)) spare spare refl refl (same_room (decided w.nodes) spare (weight me) room.places) room new is
+  lock_room name mode spare room new is = room_after (event.Lock name mode) (turned (locking me name mode)) spare spare refl refl refl (same_room needed spare (weight me) room.places) room new is
 
   pub space_lock_room : (spare : ℕ) → HasRoom w spare → (new : Plain) → new ≡ happen w n event.SpaceLock → HasRoom new spare
-  space_lock_room spare room new is = room_after event.SpaceLock (turned (space_locking me)) spare spare refl refl (same_room (decided w.nodes) spare (weight me) room.places) room new is
+  space_lock_room spare room new is = room_after event.SpaceLock (turned (space_locking me)) spare spare refl refl refl (same_room needed spare (weight me) room.places) room new is
 
   pub space_look_room : (k : ℕ) (b : Bool) (lbn : ℕ) (spare : ℕ) → HasRoom w spare → (new : Plain) → new ≡ happen w n (event.SpaceLook k b lbn) → HasRoom new spare
-  space_look_room k b lbn spare room new is = room_after (event.SpaceLook k b lbn) (turned (space_looking me k b lbn (block_at w.blocks lbn))) spare spare refl refl (same_room (decided w.nodes) spare (weight me) room.places) room new is
+  space_look_room k b lbn spare room new is = room_after (event.SpaceLook k b lbn) (turned (space_looking me k b lbn (block_at w.blocks lbn))) spare spare refl refl refl (same_room needed spare (weight me) room.places) room new is
 
   pub space_write_room : (v : PlanWrite) (spare : ℕ) → HasRoom w spare → (new : Plain) → new ≡ happen w n (event.SpaceWrite v) → HasRoom new spare
-  space_write_room v spare room new is = room_after (event.SpaceWrite v) (turned (space_writing me v)) spare spare refl refl (same_room (decided w.nodes) spare (weight me) room.places) room new is
+  space_write_room v spare room new is = room_after (event.SpaceWrite v) (turned (space_writing me v)) spare spare refl refl refl (same_room needed spare (weight me) room.places) room new is
 
   pub look_room : (lbn : ℕ) (spare : ℕ) → HasRoom w spare → (new : Plain) → new ≡ happen w n (event.Look lbn) → HasRoom new spare
-  look_room lbn spare room new is = room_after (event.Look lbn) (turned (looking me lbn (block_at w.blocks lbn))) spare spare refl refl (same_room (decided w.nodes) spare (weight me) room.places) room new is
+  look_room lbn spare room new is = room_after (event.Look lbn) (turned (looking me lbn (block_at w.blocks lbn))) spare spare refl refl refl (same_room needed spare (weight me) room.places) room new is
 
   pub fetch_room : (lbn : ℕ) (spare : ℕ) → HasRoom w spare → (new : Plain) → new ≡ happen w n (event.Fetch lbn) → HasRoom new spare
-  fetch_room lbn spare room new is = room_after (event.Fetch lbn) (turned (looking me lbn (block_at w.blocks lbn))) spare spare refl refl (same_room (decided w.nodes) spare (weight me) room.places) room new is
+  fetch_room lbn spare room new is = room_after (event.Fetch lbn) (turned (looking me lbn (block_at w.blocks lbn))) spare spare refl refl refl (same_room needed spare (weight me) room.places) room new is
 
   pub write_room : (v : PlanWrite) (spare : ℕ) → HasRoom w spare → (new : Plain) → new ≡ happen w n (event.Write v) → HasRoom new spare
-  write_room v spare room new is = room_after (event.Write v) (turned (writing me)) spare spare refl refl (same_room (decided w.nodes) spare (weight me) room.places) room new is
+  write_room v spare room new is = room_after (event.Write v) (turned (writing me)) spare spare refl refl refl (same_room needed spare (weight me) room.places) room new is
 
-  pub plan_room : (p : Plan) (spare spare' : ℕ) → me.plan ≡ None → 8 ≤ spare' → HasRoom w spare → (new : Plain) → new ≡ happen w n (event.Plan p) → HasRoom new spare'
+  pub plan_room : (p : Plan) (spare spare' : ℕ) → me.plan ≡ None → 16 ≤ spare' → HasRoom w spare → (new : Plain) → new ≡ happen w n (event.Plan p) → HasRoom new spare'
   plan_room p spare spare' none wide room new is = subst (λ (v : Plain). HasRoom v spare') (sym (is ∙ sym (happen_here w n me (event.Plan p) r.at))) (record {
     few = subst (λ (k : ℕ). k ≤ 8) (sym (length_node w.nodes n (turned (planning me p)))) room.few;
     lines = room.lines;
-    places = (let a = decided_few (set_node w.nodes n (turned (planning me p))) in let b = length_node w.nodes n (turned (planning me p)) in let few = room.few in omega arith);
+    places = (let a = decided_few (set_node w.nodes n (turned (planning me p))) in let b = length_node w.nodes n (turned (planning me p)) in let few = room.few in let count = good.counted in omega arith);
   })
 
   pub answer_room : (x : Cmd) (a : Reply) (spare spare' : ℕ) → is_some me.plan ≡ true → spare' + 1 ≡ spare → HasRoom w spare → (new : Plain) → new ≡ happen w n (event.Answer x a) → HasRoom new spare'
-  answer_room x a spare spare' made less room new is = room_after (event.Answer x a) (turned (answering me x a)) spare spare' refl refl
-      (subst (λ (t : Bool). decided w.nodes + 0 ≤ spare' + cond t 1 0) (sym made) (answered_counts (decided w.nodes) spare spare' less room.places)) room new is where
+  answer_room x a spare spare' made less room new is = room_after (event.Answer x a) (turned (answering me x a)) spare spare' refl refl (ap (λ k. w.script.nodes - k) (answers_left w.history n x a w.script.nodes))
+      (subst (λ (t : Bool). needed + 0 ≤ spare' + cond t 1 0) (sym made) (answered_counts needed spare spare' less room.places)) room new is where
         answered_counts : (d s s' : ℕ) → s' + 1 ≡ s → d ≤ s → d + 0 ≤ s' + 1
         answered_counts d s s' e le = omega arith
 
   pub ask_room : (x : Cmd) (a : PlanAsk) (spare : ℕ) → would_go w.locks n a ≡ true → HasRoom w spare → (new : Plain) → new ≡ happen w n (event.Ask x a) → HasRoom new spare
   ask_room x a spare goes room new is = room_after (event.Ask x a) (turned (asking me a)) spare spare (ap (λ b. (asked_by w n me x a b).script) goes) (ap (λ b. (asked_by w n me x a b).nodes) goes)
-      (same_room (decided w.nodes) spare (weight me) room.places) room new is
+      (ap (λ b. living (asked_by w n me x a b).history w.script.nodes) goes) (same_room needed spare (weight me) room.places) room new is
 
   -- what an ask that is granted answers
   pub ask_told : (a : PlanAsk) → would_go w.locks n a ≡ true → (new : Plain) → new ≡ happen w n (event.Ask r.cmd a) → told new n (event.Ask r.cmd a) ≡ turn.Moved kind.Tried

@@ -1,12 +1,14 @@
 -- A turn leaves a world one.
-use Rattle.std.proofs.Common.{◌≡◌, ℕ, Bool, true, false, Option, Some, None, Result, Ok, Err, refl, sym, subst, ◌∙◌}
+use Rattle.std.proofs.Common.{◌≡◌, ◌≤◌, ◌-◌, ℕ, Bool, true, false, Option, Some, None, Result, Ok, Err, refl, sym, ap, subst, ◌∙◌}
 use Rattle.std.specs.Prelude.{OnOk, OnErr}
 use Rattle.plain_cat.specs.declared.command.Cmd.{Cmd}
 use Rattle.plain_cat.specs.declared.script.Script.{Script}
 use Rattle.node_locks.specs.Held.{waits_at}
 use Rattle.op_law.specs.Laws.{Lawful}
 use Rattle.core_state.specs.Worlds.{NodeState, Plain, node_at, current}
-use Rattle.core_state.specs.Goods.{Good, HasOnly, HasRoom, IsAccepted, IsWorld}
+use Rattle.core_state.specs.Goods.{Good, HasOnly, HasRoom, HasLists, IsAccepted, IsWorld}
+use Rattle.core_state.specs.Fallen.{living}
+use Rattle.core_state.proofs.Falling.{answers_left}
 use Rattle.core_state.specs.Event.{Event}
 use Rattle.core_state.specs.Event as event
 use Rattle.core_state.specs.Events.{would_go, asked_by, happens, happen_at, is_out, readied_at, readied, next_event, happen, after_turn}
@@ -63,3 +65,30 @@ world_kept (Err e) takes w new spare spare' n is moved lawful same room = record
   room = room;
   taken = subst (λ (v : Plain). HasOnly takes v.script) (sym same) is.taken;
 }
+
+-- as many nodes live as before
+lives_stay : (w : Plain) (n : ℕ) (s : NodeState) (e : Event) → living (happens w n s e).history (happens w n s e).script.nodes ≡ living w.history w.script.nodes
+lives_stay w n s (event.Ask x a) = by_outcome (would_go w.locks n a) where
+  by_outcome : (b : Bool) → living (asked_by w n s x a b).history (asked_by w n s x a b).script.nodes ≡ living w.history w.script.nodes
+  by_outcome true = refl
+  by_outcome false = ap (λ k. w.script.nodes - k) (answers_left w.history n x a.refused w.script.nodes)
+lives_stay w n s (event.Answer x r) = ap (λ k. w.script.nodes - k) (answers_left w.history n x r w.script.nodes)
+lives_stay w n s other = refl
+
+lives_here : (w : Plain) (n : ℕ) (e : Event) → living (happen w n e).history (happen w n e).script.nodes ≡ living w.history w.script.nodes
+lives_here w n e = by_node (node_at w.nodes n) where
+  by_node : (o : Option NodeState) → living (happen_at w n o e).history (happen_at w n o e).script.nodes ≡ living w.history w.script.nodes
+  by_node None = refl
+  by_node (Some s) = lives_stay w n s e
+
+lives_readied : (w : Plain) (n : ℕ) → living (readied w n).history (readied w n).script.nodes ≡ living w.history w.script.nodes
+lives_readied w n = by_node (node_at w.nodes n) where
+  by_node : (o : Option NodeState) → living (readied_at w n o).history (readied_at w n o).script.nodes ≡ living w.history w.script.nodes
+  by_node None = refl
+  by_node (Some s) = refl
+
+-- so the lists for their deaths are enough
+pub lists_kept : {T E : Type 0} (r : Result T E) (w new : Plain) (lists n : ℕ) → HasLists w lists → OnOk r (new ≡ after_turn w n) → OnErr r (new ≡ w) → HasLists new lists
+lists_kept (Ok t) w new lists n has moved same =
+    subst (λ (v : Plain). HasLists v lists) (sym moved) (subst (λ (k : ℕ). k ≤ lists) (sym (lives_here (readied w n) n (next_event w n) ∙ lives_readied w n)) has)
+lists_kept (Err e) w new lists n has moved same = subst (λ (v : Plain). HasLists v lists) (sym same) has

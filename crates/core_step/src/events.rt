@@ -329,7 +329,7 @@ fn keep_plan<O: Operation>(node: &mut Node<O>, plan: Plan)
     count(node);
 }
 
-/// A node's command decides on a plan, and a place for its answer is kept. An error says that memory ran out, and nothing was
+/// A node's command decides on a plan, and a place for its answer is kept, as one is for the death of each node. An error says that memory ran out, and nothing was
 /// decided.
 pub(crate) fn plan<I: ImageDev, O: Operation>(
     core: &mut Core<I, O>,
@@ -340,10 +340,10 @@ pub(crate) fn plan<I: ImageDev, O: Operation>(
     ensures world { OnOk result (plain_of O.cmd_is core.new ≡ happen (plain_of O.cmd_is core.old) node (event.Plan plan)) }
     ensures same { OnErr result (plain_of O.cmd_is core.new ≡ plain_of O.cmd_is core.old) }
     ensures mirror { core.new.mirror ≡ core.old.mirror }
-    ensures place { OnOk result (8 ≤ core.new.history.room) }
+    ensures place { OnOk result (16 ≤ core.new.history.room) }
     ensures room { core.old.history.room ≤ core.new.history.room }
 {
-    core.history.make_room(8)?;
+    core.history.make_room(16)?;
     keep_plan(&mut core.nodes[node as usize - 1], plan);
     Ok(())
 }

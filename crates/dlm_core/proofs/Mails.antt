@@ -10,7 +10,7 @@ use Rattle.lock_db.proofs.Lists.{and-left, and-right, and-both, list_all-head, l
 use Rattle.lock_db.proofs.Owners.{same_owner-same}
 use Rattle.lock_db.proofs.Names.{is_same-same}
 use Rattle.dlm_core.specs.declared.messages.Message.{Message}
-use Rattle.dlm_core.specs.States.{home, is_between, past_first}
+use Rattle.dlm_core.specs.States.{master, is_between, past_first}
 use Rattle.dlm_core.specs.Steps.{is_grant, same_truth}
 use Rattle.dlm_core.specs.Lanes.{is_about, is_kind, letters_of, is_addressed}
 
@@ -65,12 +65,12 @@ past-all p r (k ∷ ks) e =
 
 -- from which node a letter about an owner and a name comes, and to which it goes
 abbrev pub from_of : ℕ → Bool → Owner → LockName → ℕ
-from_of n true o x = home n x
+from_of n true o x = master n x
 from_of n false o x = o.node
 
 abbrev pub to_of : ℕ → Bool → Owner → LockName → ℕ
 to_of n true o x = o.node
-to_of n false o x = home n x
+to_of n false o x = master n x
 
 pub kind-owner : (g : Bool) (o : Owner) (x : LockName) (m : Message) → is_kind g o x m ≡ true → m.owner ≡ o
 kind-owner g o x m e = same_owner-same m.owner o (and-left (same_owner m.owner o) (is_same m.name x) (and-right (same_truth g (is_grant m.letter)) (is_about o x m) e))
@@ -87,7 +87,7 @@ pub kind-grant : (g : Bool) (o : Owner) (x : LockName) (m : Message) → is_kind
 kind-grant g o x m e = same_truth-same g (is_grant m.letter) (and-left (same_truth g (is_grant m.letter)) (is_about o x m) e)
 
 addressed-at : (n : ℕ) (g : Bool) (o : Owner) (x : LockName) (from to : ℕ) (isg : Bool) → isg ≡ g
-    → (if isg then (from == home n x) && (to == o.node) else ((from == o.node) && (to == home n x))) ≡ true
+    → (if isg then (from == master n x) && (to == o.node) else ((from == o.node) && (to == master n x))) ≡ true
     → ((from == from_of n g o x) && (to == to_of n g o x)) ≡ true
 addressed-at n true o x from to isg e h = rw e at h
 addressed-at n false o x from to isg e h = rw e at h

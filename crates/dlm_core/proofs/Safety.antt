@@ -18,7 +18,7 @@ use Rattle.dlm_core.specs.declared.messages.Letter.{Letter}
 use Rattle.dlm_core.specs.declared.messages.Letter.TheVariants.{Ask, Drop, Grant}
 use Rattle.dlm_core.specs.declared.queue.Waiter.{Waiter}
 use Rattle.dlm_core.specs.Modes.{is_lowering}
-use Rattle.dlm_core.specs.States.{State, home, told_at, table_at, hold_at}
+use Rattle.dlm_core.specs.States.{State, master, told_at, table_at, hold_at}
 use Rattle.dlm_core.specs.Steps.{stands_as}
 use Rattle.dlm_core.specs.Lanes.{IsLane, lowered, raises, IsSound, BeliefsGoTogether}
 use Rattle.dlm_core.specs.Lanes.IsLane.{Sends, Stands, Comes}
@@ -86,7 +86,7 @@ sound-safe s i a b x m n d e f =
     let xs : List Asker = (told_at x s).askers in
     let u = lane-under a x (standing_of a xs) _ _ _ (hold_at a x s.holds).belief _ m (i.lanes a x) e in
     let v = lane-under b x (standing_of b xs) _ _ _ (hold_at b x s.holds).belief _ n (i.lanes b x) f in
-    let g = granted-together a b u.mode v.mode xs (IsSettled-at x (table_at (home s.nodes x) s.tables) (i.tables_are (home s.nodes x))).together d u.has v.has in
+    let g = granted-together a b u.mode v.mode xs (IsSettled-at x (table_at (master s.nodes x) s.tables) (i.tables_are (master s.nodes x))).together d u.has v.has in
     let one : compatible_modes m v.mode ≡ true = u.under (Some v.mode) g in
     let two : compatible_modes v.mode m ≡ true = compatible_modes-comm v.mode m ∙ one in
     compatible_modes-comm m n ∙ v.under (Some m) two

@@ -25,7 +25,7 @@ use Rattle.dlm_core.specs.declared.queue.Waiter.{Waiter}
 use Rattle.dlm_core.specs.declared.events.Event.{Event}
 use Rattle.dlm_core.specs.declared.events.Event.TheVariants as event
 use Rattle.dlm_core.specs.Modes.{lowers, crosses, is_lowering}
-use Rattle.dlm_core.specs.States.{State, home, table_at, told_at, hold_at, noted, asked_hold, is_at, is_between, past_first, start}
+use Rattle.dlm_core.specs.States.{State, master, table_at, told_at, hold_at, noted, asked_hold, is_at, is_between, past_first, start}
 use Rattle.dlm_core.specs.Steps.{is_grant, same_truth, call_to, called, ask_after, drop_after, served, ask_made, put_last, taken, pass_after, after, CanTake, Fits, IsTakeable}
 use Rattle.dlm_core.specs.Lanes.{is_about, is_kind, letters_of, waiters_of, is_of, IsLane, LaneAt, standing_at, is_addressed, IsSound, raises}
 use Rattle.dlm_core.specs.Lanes.IsLane.{Sends, Stands}
@@ -35,7 +35,7 @@ use Rattle.dlm_core.proofs.Beliefs.{at-owner, at-name, at-itself, noted-here, no
 use Rattle.dlm_core.proofs.Others.{ask-made, Made, can-mode, released-serves}
 use Rattle.dlm_core.proofs.Calls.{lane-lowered, lane-asked, lane-dropped, lane-granted, lane-head, Head}
 use Rattle.dlm_core.proofs.Calls.Head.{Raise, Lower, Leave}
-use Rattle.dlm_core.proofs.Takes.{eq-of, home-low, home-high, Call, PreLane, call-sound}
+use Rattle.dlm_core.proofs.Takes.{eq-of, master-low, master-high, Call, PreLane, call-sound}
 
 -- nobody has asked for anything
 start-table : (n i : ℕ) → IsTable (get_or (replicate n []) i [])
@@ -54,7 +54,7 @@ start-sound n l = record {
   each_has_one = length-replicate n [];
   tables_are = λ k. start-table n (k - 1);
   addressed = refl;
-  lanes = λ o x. Sends None [] (start-told n (home n x - 1) x o) refl refl refl refl tt;
+  lanes = λ o x. Sends None [] (start-told n (master n x - 1) x o) refl refl refl refl tt;
 }
 
 -- an owner's call is noted and sent
@@ -66,7 +66,7 @@ about-at : (p : Owner) (y : LockName) (h : Hold) (l : Letter) (n fill : ℕ) →
 about-at p y h l n fill = refl
 
 call-addressed : (n : ℕ) (o : Owner) (x : LockName) (l : Letter) (fill : ℕ) → is_grant l ≡ false → is_addressed n (call_to n o x l fill) ≡ true
-call-addressed n o x l fill e = rw e (and-both (o.node == o.node) (home n x == home n x) (grind arith) (grind arith))
+call-addressed n o x l fill e = rw e (and-both (o.node == o.node) (master n x == master n x) (grind arith) (grind arith))
 
 -- the lane of whoever calls, with what it believes now
 called-own : (s : State) (h : Hold) (l : Letter) (fill : ℕ) → is_grant l ≡ false
@@ -162,8 +162,8 @@ drop-sound s o x fill h i e =
     ]) refl
 
 -- the first message of a pair
-pub call-home : (s : State) (m : Message) → is_addressed s.nodes m ≡ true → is_grant m.letter ≡ false → m.to ≡ home s.nodes m.name
-call-home s m a e = let k : ((m.from == m.owner.node) && (m.to == home s.nodes m.name)) ≡ true = rw e at a in eq-of m.to (home s.nodes m.name) (and-right (m.from == m.owner.node) (m.to == home s.nodes m.name) k)
+pub call-master : (s : State) (m : Message) → is_addressed s.nodes m ≡ true → is_grant m.letter ≡ false → m.to ≡ master s.nodes m.name
+call-master s m a e = let k : ((m.from == m.owner.node) && (m.to == master s.nodes m.name)) ≡ true = rw e at a in eq-of m.to (master s.nodes m.name) (and-right (m.from == m.owner.node) (m.to == master s.nodes m.name) k)
 
 about-itself : (m : Message) → is_about m.owner m.name m ≡ true
 about-itself m = rw (same_owner-refl m.owner, is_same-refl m.name) refl
@@ -180,7 +180,7 @@ kind-other false p y m e = rw e refl
 pub record First (s : State) (from to : ℕ) (m : Message) : Type 0 where
   pub first : find (is_between from to) s.mail ≡ Some m
   pub call : is_grant m.letter ≡ false
-  pub at_home : m.to ≡ home s.nodes m.name
+  pub at_master : m.to ≡ master s.nodes m.name
   pub head : Head m.owner m.name (standing_at m.owner m.name s) m.letter (letters_of false m.owner m.name (past_first (is_between from to) s.mail))
       (letters_of true m.owner m.name (past_first (is_between from to) s.mail)) (waiters_of m.owner m.name s.queue) (hold_at m.owner m.name s.holds).belief (hold_at m.owner m.name s.holds).wait
   pub grants : (p : Owner) (y : LockName) → letters_of true p y (past_first (is_between from to) s.mail) ≡ letters_of true p y s.mail
@@ -198,7 +198,7 @@ call-first s from to m i f e =
     record {
       first = f;
       call = e;
-      at_home = call-home s m mine e;
+      at_master = call-master s m mine e;
       head = rw (gr m.owner m.name) he;
       grants = gr;
       calls = λ p y a. letters-past false p y from to s.mail m f (not-about false p y m a);
@@ -213,9 +213,9 @@ head-can m t rest grants qu be wa (Leave k l st c) = record { lock = Some k; sta
 -- the node that gets the first message of a pair can take it
 pub takeable : (s : State) (from to : ℕ) (m : Message) → IsSound s → find (is_between from to) s.mail ≡ Some m → IsTakeable m (record s { mail = past_first (is_between from to) s.mail })
 takeable s from to m i f = record {
-  node = λ e. let a = call-first s from to m i f e in rw a.at_home (home-low s.nodes m.name);
-  table = λ e. let a = call-first s from to m i f e in rw (a.at_home, i.each_has_one) (home-high s.nodes m.name i.some_node);
-  owner = λ e. let a = call-first s from to m i f e in subst (λ (n : ℕ). CanTake m m.letter (table_at n s.tables)) (sym a.at_home) (head-can m (table_at (home s.nodes m.name) s.tables) _ _ _ _ _ a.head);
+  node = λ e. let a = call-first s from to m i f e in rw a.at_master (master-low s.nodes m.name);
+  table = λ e. let a = call-first s from to m i f e in rw (a.at_master, i.each_has_one) (master-high s.nodes m.name i.some_node);
+  owner = λ e. let a = call-first s from to m i f e in subst (λ (n : ℕ). CanTake m m.letter (table_at n s.tables)) (sym a.at_master) (head-can m (table_at (master s.nodes m.name) s.tables) _ _ _ _ _ a.head);
 }
 
 ask-same : (w v : Mode) (l : Letter) → l ≡ Ask w → l ≡ Ask v → w ≡ v
@@ -281,10 +281,10 @@ can-made : (m : Message) (w : Mode) (t : List Resource) → IsTable t → m.lett
 can-made m w t tab l c = ask-made m w c.lock t tab c.stands (subst (λ (z : Letter). Fits c.lock z) l c.fits)
 
 pub ask-call : (s : State) (from to : ℕ) (m : Message) (w : Mode) → IsSound s → First s from to m → m.letter ≡ Ask w
-    → Call s m (past_first (is_between from to) s.mail) (ask_made m w (table_at (home s.nodes m.name) s.tables)) (put_last m w (mode_of m.owner (told_at m.name s).askers) s.queue)
+    → Call s m (past_first (is_between from to) s.mail) (ask_made m w (table_at (master s.nodes m.name) s.tables)) (put_last m w (mode_of m.owner (told_at m.name s).askers) s.queue)
 ask-call s from to m w i a l =
-    let t : List Resource = table_at (home s.nodes m.name) s.tables in
-    let tab = i.tables_are (home s.nodes m.name) in
+    let t : List Resource = table_at (master s.nodes m.name) s.tables in
+    let tab = i.tables_are (master s.nodes m.name) in
     let made = can-made m w t tab l (head-can m t _ _ _ _ _ a.head) in
     record {
       table = made.table;
@@ -305,10 +305,10 @@ drop-own m t t2 rest grants qu be wa l n (Lower k v lv st d close) = let z : Dro
 drop-own m t t2 rest grants qu be wa l n (Leave k lv st close) = inl (close (standing_of m.owner (resource_at m.name t2).askers) n)
 
 pub drop-call : (s : State) (from to : ℕ) (m : Message) → IsSound s → First s from to m → m.letter ≡ Drop
-    → Call s m (past_first (is_between from to) s.mail) (released m.name m.owner m.value (table_at (home s.nodes m.name) s.tables)) s.queue
+    → Call s m (past_first (is_between from to) s.mail) (released m.name m.owner m.value (table_at (master s.nodes m.name) s.tables)) s.queue
 drop-call s from to m i a l =
-    let t : List Resource = table_at (home s.nodes m.name) s.tables in
-    let tab = i.tables_are (home s.nodes m.name) in
+    let t : List Resource = table_at (master s.nodes m.name) s.tables in
+    let tab = i.tables_are (master s.nodes m.name) in
     record {
       table = IsTable-released m.name m.owner m.value t tab;
       others = released-leaves m.name m.owner m.value t;
@@ -358,12 +358,12 @@ take-sound s from to m (Ask w) i f e =
     let a = call-first s from to m i f (rw e refl) in
     let ms : List Message = past_first (is_between from to) s.mail in
     subst (λ (n : ℕ). IsSound (served n m.name (ask_made m w (table_at n s.tables)) (record s { mail = ms; queue = put_last m w (mode_of m.owner (resource_at m.name (table_at n s.tables)).askers) s.queue })))
-    (sym a.at_home) (call-sound s m _ _ _ i (ask-call s from to m w i a e))
+    (sym a.at_master) (call-sound s m _ _ _ i (ask-call s from to m w i a e))
 take-sound s from to m Drop i f e =
     let a = call-first s from to m i f (rw e refl) in
     let ms : List Message = past_first (is_between from to) s.mail in
     subst (λ (n : ℕ). IsSound (served n m.name (released m.name m.owner m.value (table_at n s.tables)) (record s { mail = ms })))
-    (sym a.at_home) (call-sound s m _ _ _ i (drop-call s from to m i a e))
+    (sym a.at_master) (call-sound s m _ _ _ i (drop-call s from to m i a e))
 take-sound s from to m (Grant w v) i f e = grant-sound s from to m w v i f e
 
 pass-sound : (s : State) (from to : ℕ) → IsSound s → IsSound (pass_after from to (find (is_between from to) s.mail) s)

@@ -1,4 +1,4 @@
--- What a home's call makes of all lanes.
+-- What a master's call makes of all lanes.
 use Rattle.std.proofs.Common.{◌≡◌, ◌≢◌, ◌==◌, ◌&&◌, ◌++◌, ◌⊎◌, ℕ, ◌-◌, ◌%◌, ◌≤◌, ◌<◌, Bool, true, false, List, [], ◌∷◌, Option, map, filter, length, set, get_or, refl, arith, cond, ap, sym, ◌∙◌}
 use Rattle.std.specs.List.{list_all}
 use Rattle.std.proofs.Math.Nat.{mod-lt}
@@ -18,7 +18,7 @@ use Rattle.lock_db.proofs.Names.{is_same-same, is_same-refl}
 use Rattle.dlm_core.specs.declared.messages.Letter.{Letter}
 use Rattle.dlm_core.specs.declared.messages.Message.{Message}
 use Rattle.dlm_core.specs.declared.queue.Waiter.{Waiter}
-use Rattle.dlm_core.specs.States.{State, home, table_at, hold_at, rank_of}
+use Rattle.dlm_core.specs.States.{State, master, table_at, hold_at, rank_of}
 use Rattle.dlm_core.specs.Steps.{same_truth, served, gets_grant, is_served, grant_of, grants_of, left_of}
 use Rattle.dlm_core.specs.Lanes.{is_about, letters_of, waiters_of, IsLane, LaneAt, standing_at, is_addressed, IsSound}
 use Rattle.dlm_core.proofs.Mails.{letters-append}
@@ -32,11 +32,11 @@ eq-of a b e = grind arith
 ne-of : (a b : ℕ) → (a == b) ≡ false → a ≢ b
 ne-of a b e h = grind arith
 
-pub home-low : (n : ℕ) (x : LockName) → 1 ≤ home n x
-home-low n x = omega arith
+pub master-low : (n : ℕ) (x : LockName) → 1 ≤ master n x
+master-low n x = omega arith
 
-pub home-high : (n : ℕ) (x : LockName) → 1 ≤ n → home n x ≤ n
-home-high n x l = let k : rank_of x % n < n = mod-lt (rank_of x) (omega arith) in omega arith
+pub master-high : (n : ℕ) (x : LockName) → 1 ≤ n → master n x ≤ n
+master-high n x l = let k : rank_of x % n < n = mod-lt (rank_of x) (omega arith) in omega arith
 
 table-here : (tables : List (List Resource)) (node : ℕ) (t : List Resource) → 1 ≤ node → node ≤ length tables → table_at node (set tables (node - 1) t) ≡ t
 table-here tables node t l h = get_or-set_same tables (node - 1) t [] (omega arith)
@@ -51,20 +51,20 @@ tables-set tables node t l h i all k =
       | false ↦ λ e. rw (table-other tables node k t (ne-of (k - 1) (node - 1) e)) (all k)
     ]) refl
 
--- the resource of a name after its home's table has become another
-pub told-here : (n : ℕ) (x : LockName) (tables : List (List Resource)) (t : List Resource) → 1 ≤ n → length tables ≡ n → resource_at x (table_at (home n x) (set tables (home n x - 1) t)) ≡ resource_at x t
-told-here n x tables t l h = ap (resource_at x) (table-here tables (home n x) t (home-low n x) (rw h (home-high n x l)))
+-- the resource of a name after its master's table has become another
+pub told-here : (n : ℕ) (x : LockName) (tables : List (List Resource)) (t : List Resource) → 1 ≤ n → length tables ≡ n → resource_at x (table_at (master n x) (set tables (master n x - 1) t)) ≡ resource_at x t
+told-here n x tables t l h = ap (resource_at x) (table-here tables (master n x) t (master-low n x) (rw h (master-high n x l)))
 
-told-other : (n : ℕ) (x y : LockName) (tables : List (List Resource)) (t : List Resource) → 1 ≤ n → length tables ≡ n → y ≢ x → LeavesOthers x (table_at (home n x) tables) t
-    → resource_at y (table_at (home n y) (set tables (home n x - 1) t)) ≡ resource_at y (table_at (home n y) tables)
+told-other : (n : ℕ) (x y : LockName) (tables : List (List Resource)) (t : List Resource) → 1 ≤ n → length tables ≡ n → y ≢ x → LeavesOthers x (table_at (master n x) tables) t
+    → resource_at y (table_at (master n y) (set tables (master n x - 1) t)) ≡ resource_at y (table_at (master n y) tables)
 told-other n x y tables t l h d o =
-    (elim (home n y - 1 == home n x - 1) as (λ b. (home n y - 1 == home n x - 1) ≡ b → resource_at y (table_at (home n y) (set tables (home n x - 1) t)) ≡ resource_at y (table_at (home n y) tables)) [
+    (elim (master n y - 1 == master n x - 1) as (λ b. (master n y - 1 == master n x - 1) ≡ b → resource_at y (table_at (master n y) (set tables (master n x - 1) t)) ≡ resource_at y (table_at (master n y) tables)) [
       | true ↦ λ e.
-          let is : home n y - 1 ≡ home n x - 1 = eq-of (home n y - 1) (home n x - 1) e in
-          let after : table_at (home n y) (set tables (home n x - 1) t) ≡ t = ap (λ (i : ℕ). get_or (set tables (home n x - 1) t) i []) is ∙ table-here tables (home n x) t (home-low n x) (rw h (home-high n x l)) in
-          let before : table_at (home n y) tables ≡ table_at (home n x) tables = ap (λ (i : ℕ). get_or tables i []) is in
+          let is : master n y - 1 ≡ master n x - 1 = eq-of (master n y - 1) (master n x - 1) e in
+          let after : table_at (master n y) (set tables (master n x - 1) t) ≡ t = ap (λ (i : ℕ). get_or (set tables (master n x - 1) t) i []) is ∙ table-here tables (master n x) t (master-low n x) (rw h (master-high n x l)) in
+          let before : table_at (master n y) tables ≡ table_at (master n x) tables = ap (λ (i : ℕ). get_or tables i []) is in
           ap (resource_at y) after ∙ o y d ∙ ap (resource_at y) (sym before)
-      | false ↦ λ e. ap (resource_at y) (table-other tables (home n x) (home n y) t (ne-of (home n y - 1) (home n x - 1) e))
+      | false ↦ λ e. ap (resource_at y) (table-other tables (master n x) (master n y) t (ne-of (master n y - 1) (master n x - 1) e))
     ]) refl
 
 -- the letters behind which grants are sent
@@ -106,7 +106,7 @@ served-other from x t p y st ms q be wa d l =
 -- all that is to be known of a call on a name, which is the first message of a pair, for the state to stay sound
 pub record Call (s : State) (m : Message) (ms : List Message) (t : List Resource) (q : List Waiter) : Type 0 where
   pub table : IsTable t
-  pub others : LeavesOthers m.name (table_at (home s.nodes m.name) s.tables) t
+  pub others : LeavesOthers m.name (table_at (master s.nodes m.name) s.tables) t
   pub here : (p : Owner) → same_owner m.owner p ≡ false → Served (standing_at p m.name s) (standing_of p (resource_at m.name t).askers)
   pub queue : (p : Owner) (y : LockName) → is_about p y m ≡ false → waiters_of p y q ≡ waiters_of p y s.queue
   pub grants : (p : Owner) (y : LockName) → letters_of true p y ms ≡ letters_of true p y s.mail
@@ -115,9 +115,9 @@ pub record Call (s : State) (m : Message) (ms : List Message) (t : List Resource
   pub own : PreLane m.owner m.name (standing_of m.owner (resource_at m.name t).askers) (letters_of false m.owner m.name ms) (letters_of true m.owner m.name ms) (waiters_of m.owner m.name q)
       (hold_at m.owner m.name s.holds).belief (hold_at m.owner m.name s.holds).wait
 
--- the state in which the home has taken the call
+-- the state in which the master has taken the call
 abbrev pub taken_call : State → LockName → List Message → List Resource → List Waiter → State
-taken_call s x ms t q = served (home s.nodes x) x t (record s { mail = ms; queue = q })
+taken_call s x ms t q = served (master s.nodes x) x t (record s { mail = ms; queue = q })
 
 other-name : (p : Owner) (y : LockName) (m : Message) → is_same m.name y ≡ false → is_about p y m ≡ false
 other-name p y m e = (elim (same_owner m.owner p) as (λ b. (b && is_same m.name y) ≡ false) [ true ↦ e | false ↦ refl ])
@@ -135,14 +135,14 @@ lane-other s m ms t q i c p y e =
     let st : standing_at p y (taken_call s m.name ms t q) ≡ standing_at p y s = ap (λ (r : Resource). standing_of p r.askers) (told-other s.nodes m.name y s.tables t i.some_node i.each_has_one d c.others) in
     let l : IsLane p y (standing_at p y s) (letters_of false p y ms) (letters_of true p y ms) (waiters_of p y q) (hold_at p y s.holds).belief (hold_at p y s.holds).wait =
     rw (c.calls p y out, c.grants p y, c.queue p y out) (i.lanes p y) in
-    rw st (served-other (home s.nodes m.name) m.name t p y (standing_at p y s) ms q (hold_at p y s.holds).belief (hold_at p y s.holds).wait d l)
+    rw st (served-other (master s.nodes m.name) m.name t p y (standing_at p y s) ms q (hold_at p y s.holds).belief (hold_at p y s.holds).wait d l)
 
 lane-here : (s : State) (m : Message) (ms : List Message) (t : List Resource) (q : List Waiter) → IsSound s → Call s m ms t q → (p : Owner)
     → PreLane p m.name (standing_of p (resource_at m.name t).askers) (letters_of false p m.name ms) (letters_of true p m.name ms) (waiters_of p m.name q) (hold_at p m.name s.holds).belief (hold_at p m.name s.holds).wait
     → LaneAt p m.name (taken_call s m.name ms t q)
 lane-here s m ms t q i c p l =
     let st : standing_at p m.name (taken_call s m.name ms t q) ≡ standing_of p (resource_at m.name t).askers = ap (λ (r : Resource). standing_of p r.askers) (told-here s.nodes m.name s.tables t i.some_node i.each_has_one) in
-    rw st (served-here (home s.nodes m.name) m.name t p ms q (hold_at p m.name s.holds).belief (hold_at p m.name s.holds).wait l)
+    rw st (served-here (master s.nodes m.name) m.name t p ms q (hold_at p m.name s.holds).belief (hold_at p m.name s.holds).wait l)
 
 lane-beside : (s : State) (m : Message) (ms : List Message) (t : List Resource) (q : List Waiter) → IsSound s → Call s m ms t q → (p : Owner) → same_owner m.owner p ≡ false → LaneAt p m.name (taken_call s m.name ms t q)
 lane-beside s m ms t q i c p e =
@@ -165,25 +165,25 @@ call-lanes s m ms t q i c p y =
     ]) refl
 
 -- grants are addressed to their owners
-grants-addressed : (n : ℕ) (x : LockName) (r : Resource) (t : List Resource) (c : Bool) (q : List Waiter) → list_all (is_addressed n) (map (grant_of (home n x) r) (filter (gets_grant x t c) q)) ≡ true
+grants-addressed : (n : ℕ) (x : LockName) (r : Resource) (t : List Resource) (c : Bool) (q : List Waiter) → list_all (is_addressed n) (map (grant_of (master n x) r) (filter (gets_grant x t c) q)) ≡ true
 grants-addressed n x r t c [] = refl
 grants-addressed n x r t c (w ∷ q) =
     let rest = grants-addressed n x r t c q in
-    (elim (gets_grant x t c w) as (λ b. gets_grant x t c w ≡ b → list_all (is_addressed n) (map (grant_of (home n x) r) (cond b (w ∷ filter (gets_grant x t c) q) (filter (gets_grant x t c) q))) ≡ true) [
+    (elim (gets_grant x t c w) as (λ b. gets_grant x t c w ≡ b → list_all (is_addressed n) (map (grant_of (master n x) r) (cond b (w ∷ filter (gets_grant x t c) q) (filter (gets_grant x t c) q))) ≡ true) [
       | true ↦ λ e.
           let named : w.name ≡ x = is_same-same w.name x (and-left (is_same w.name x) _ (and-left (is_served x t w) (same_truth c w.converts) e)) in
-          let own : ((home n x == home n w.name) && (w.owner.node == w.owner.node)) ≡ true = rw named (and-both (home n x == home n x) (w.owner.node == w.owner.node) (grind arith) (grind arith)) in
-          and-both (is_addressed n (grant_of (home n x) r w)) _ own rest
+          let own : ((master n x == master n w.name) && (w.owner.node == w.owner.node)) ≡ true = rw named (and-both (master n x == master n x) (w.owner.node == w.owner.node) (grind arith) (grind arith)) in
+          and-both (is_addressed n (grant_of (master n x) r w)) _ own rest
       | false ↦ λ e. rest
     ]) refl
 
 pub call-sound : (s : State) (m : Message) (ms : List Message) (t : List Resource) (q : List Waiter) → IsSound s → Call s m ms t q → IsSound (taken_call s m.name ms t q)
 call-sound s m ms t q i c = record {
   some_node = i.some_node;
-  each_has_one = length-set s.tables (home s.nodes m.name - 1) t ∙ i.each_has_one;
-  tables_are = tables-set s.tables (home s.nodes m.name) t (home-low s.nodes m.name) (rw i.each_has_one (home-high s.nodes m.name i.some_node)) c.table i.tables_are;
-  addressed = list_all-joined (is_addressed s.nodes) ms (grants_of (home s.nodes m.name) m.name t true q ++ grants_of (home s.nodes m.name) m.name t false q) c.addressed
-      (list_all-joined (is_addressed s.nodes) (grants_of (home s.nodes m.name) m.name t true q) (grants_of (home s.nodes m.name) m.name t false q)
+  each_has_one = length-set s.tables (master s.nodes m.name - 1) t ∙ i.each_has_one;
+  tables_are = tables-set s.tables (master s.nodes m.name) t (master-low s.nodes m.name) (rw i.each_has_one (master-high s.nodes m.name i.some_node)) c.table i.tables_are;
+  addressed = list_all-joined (is_addressed s.nodes) ms (grants_of (master s.nodes m.name) m.name t true q ++ grants_of (master s.nodes m.name) m.name t false q) c.addressed
+      (list_all-joined (is_addressed s.nodes) (grants_of (master s.nodes m.name) m.name t true q) (grants_of (master s.nodes m.name) m.name t false q)
       (grants-addressed s.nodes m.name (resource_at m.name t) t true q) (grants-addressed s.nodes m.name (resource_at m.name t) t false q));
   lanes = call-lanes s m ms t q i c;
 }

@@ -1,6 +1,6 @@
 -- What holds of the state after every list of events. A lane is all that stands of one owner and one name: how the owner stands in
--- the table of the name's home, its calls that are on their way there, the grants that are on their way back, what of it waits at the
--- home, and what it believes.
+-- the table of the name's master, its calls that are on their way there, the grants that are on their way back, what of it waits at the
+-- master, and what it believes.
 use Rattle.std.specs.Prelude.{◌≡◌, ◌≢◌, ◌==◌, ◌&&◌, not, ℕ, ◌≤◌, Bool, true, false, List, [], ◌∷◌, ◌++◌, Option, Some, None, filter, map, if◌then◌else◌, is_some, length, IsTrue, option_and_then}
 use Rattle.std.specs.List.{list_all}
 use Rattle.plain_cat.specs.declared.mode.Mode.{Mode}
@@ -18,7 +18,7 @@ use Rattle.dlm_core.specs.declared.messages.Message.{Message}
 use Rattle.dlm_core.specs.declared.queue.Waiter.{Waiter}
 use Rattle.dlm_core.specs.Modes.{is_lowering, lowers, crosses}
 use Rattle.dlm_core.specs.Steps.{stands_as, is_grant, same_truth}
-use Rattle.dlm_core.specs.States.{State, home, table_at, told_at, hold_at}
+use Rattle.dlm_core.specs.States.{State, master, table_at, told_at, hold_at}
 
 -- a message about this owner's lock on this name
 abbrev pub is_about : Owner → LockName → Message → Bool
@@ -78,11 +78,11 @@ IsGrantOf w (Grant m v ∷ ls) = (m ≡ w) × (ls ≡ [])
 
 -- The lane of an owner and a name.
 pub data IsLane (owner : Owner) (name : LockName) (standing : Option Standing) (calls grants : List Letter) (queued : List Waiter) (belief wait : Option Mode) : Type 0 where
-  -- No grant is on its way and nothing waits at the home. The calls lower the lock that the table has to what is believed, and then
+  -- No grant is on its way and nothing waits at the master. The calls lower the lock that the table has to what is believed, and then
   -- ask for what is waited for.
   Sends : (lock : Option Mode) (before : List Letter) → standing ≡ stands_as lock → grants ≡ [] → queued ≡ []
       → calls ≡ before ++ last_ask wait → lowered lock before ≡ Some belief → MayWait belief wait → IsLane owner name standing calls grants queued belief wait
-  -- The ask stands in a queue at the home, and the table has what is believed.
+  -- The ask stands in a queue at the master, and the table has what is believed.
   Stands : (w : Mode) → wait ≡ Some w → standing ≡ Some (queued_as belief w) → calls ≡ [] → grants ≡ []
       → queued ≡ record { owner = owner; name = name; mode = w; converts = is_some belief } ∷ [] → IsTrue (raises belief w) → IsLane owner name standing calls grants queued belief wait
   -- The table has granted it, and the grant is on its way.
@@ -99,11 +99,11 @@ LaneAt owner name s =
     IsLane owner name (standing_at owner name s) (letters_of false owner name s.mail) (letters_of true owner name s.mail)
     (waiters_of owner name s.queue) (hold_at owner name s.holds).belief (hold_at owner name s.holds).wait
 
--- a call is on its way from its owner to the home of its name, and a grant the other way
+-- a call is on its way from its owner to the master of its name, and a grant the other way
 abbrev pub is_addressed : ℕ → Message → Bool
 is_addressed nodes m =
-    if is_grant m.letter then (m.from == home nodes m.name) && (m.to == m.owner.node)
-    else ((m.from == m.owner.node) && (m.to == home nodes m.name))
+    if is_grant m.letter then (m.from == master nodes m.name) && (m.to == m.owner.node)
+    else ((m.from == m.owner.node) && (m.to == master nodes m.name))
 
 -- what holds of the state at all times
 pub record IsSound (s : State) : Type 0 where

@@ -13,7 +13,7 @@ use Rattle.dlm_core.specs.declared.queue.Waiter.{Waiter}
 use Rattle.dlm_core.specs.Modes.{lowers}
 
 -- The nodes are 1 to `nodes`. Each has a table, in their order. Messages stand in the order in which they were sent, and asks
--- that wait in the order in which their homes took them.
+-- that wait in the order in which their masters took them.
 pub record State : Type 0 where
   pub nodes : ℕ
   pub tables : List (List Resource)
@@ -30,16 +30,16 @@ rank_of X = 2
 rank_of V = 3
 
 -- the node that keeps the resource of a name
-abbrev pub home : ℕ → LockName → ℕ
-home nodes name = 1 + rank_of name % nodes
+abbrev pub master : ℕ → LockName → ℕ
+master nodes name = 1 + rank_of name % nodes
 
 -- the table of a node
 abbrev pub table_at : ℕ → List (List Resource) → List Resource
 table_at node tables = get_or tables (node - 1) []
 
--- the union of all tables, told by name: the resource of a name in the table of its home
+-- the union of all tables, told by name: the resource of a name in the table of its master
 abbrev pub told_at : LockName → State → Resource
-told_at name s = resource_at name (table_at (home s.nodes name) s.tables)
+told_at name s = resource_at name (table_at (master s.nodes name) s.tables)
 
 -- a message from a node to a node
 abbrev pub is_between : ℕ → ℕ → Message → Bool

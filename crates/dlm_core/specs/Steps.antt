@@ -19,7 +19,7 @@ use Rattle.dlm_core.specs.declared.events.Event.TheVariants as event
 use Rattle.dlm_core.specs.declared.events.Told.{Told}
 use Rattle.dlm_core.specs.declared.events.Told.TheVariants as told
 use Rattle.dlm_core.specs.Modes.{lowers, crosses}
-use Rattle.dlm_core.specs.States.{State, home, table_at, is_between, past_first, hold_at, noted, asked_hold}
+use Rattle.dlm_core.specs.States.{State, master, table_at, is_between, past_first, hold_at, noted, asked_hold}
 
 -- a lock of which no conversion is queued, or none
 abbrev pub stands_as : Option Mode → Option Standing
@@ -32,10 +32,10 @@ is_grant (Ask mode) = false
 is_grant Drop = false
 is_grant (Grant mode valid) = true
 
--- a message to the home of a name
+-- a message to the master of a name
 abbrev pub call_to : ℕ → Owner → LockName → Letter → ℕ → Message
 call_to nodes owner name letter fill =
-    record { from = owner.node; to = home nodes name; owner = owner; name = name; letter = letter; value = replicate 16 fill }
+    record { from = owner.node; to = master nodes name; owner = owner; name = name; letter = letter; value = replicate 16 fill }
 
 -- what an owner believes is noted, and its message is sent
 abbrev pub called : Hold → Letter → ℕ → State → State
@@ -86,7 +86,7 @@ is_left name t w = not (is_served name t w)
 abbrev pub left_of : LockName → List Resource → List Waiter → List Waiter
 left_of name t q = filter (is_left name t) q
 
--- A home has made a call on a name, which has left its table so: the grants are sent, conversions first, each in order of
+-- A master has made a call on a name, which has left its table so: the grants are sent, conversions first, each in order of
 -- asking.
 abbrev pub served : ℕ → LockName → List Resource → State → State
 served from name t s = record s {
@@ -109,7 +109,7 @@ abbrev pub ask_taken : Message → Mode → List Resource → State → State
 ask_taken m mode t s =
     served m.to m.name (ask_made m mode t) (record s { queue = put_last m mode (mode_of m.owner (resource_at m.name t).askers) s.queue })
 
--- the owner stands so that its home can take a call: it has a lock of which no conversion is queued, or none
+-- the owner stands so that its master can take a call: it has a lock of which no conversion is queued, or none
 abbrev pub Fits : Option Mode → Letter → Type 0
 Fits lock (Ask mode) = crosses lock mode ≡ false
 Fits lock Drop = IsSome lock

@@ -7,7 +7,7 @@ ghost use Rattle.dlm_core.specs.Lanes.{IsSound};
 
 use crate::events::{Event, Told};
 use crate::holds::{Hold, asked_hold, crosses, hold_at, lowers, note};
-use crate::homes::home;
+use crate::masters::master;
 use crate::messages::{Letter, Message, take_first};
 use crate::queue::{Waiter, serve};
 use lock_db::{LockDb, LockName, Mode, NoMemory, Owner};
@@ -117,7 +117,7 @@ impl Cluster {
         })
     }
 
-    /// Notes what the owner believes from now on, and sends its call to the home of the name.
+    /// Notes what the owner believes from now on, and sends its call to the master of the name.
     fn call(&mut self, hold: Hold, letter: Letter, fill: u8) -> Result<(), NoMemory>
         requires { 1 ≤ self.old.nodes }
         ensures { OnOk result (self.new ≡ called hold letter fill self.old) }
@@ -125,7 +125,7 @@ impl Cluster {
         note(&mut self.holds, hold)?;
         self.mail.push(Message {
             from: hold.owner.node,
-            to: home(self.nodes, hold.name),
+            to: master(self.nodes, hold.name),
             owner: hold.owner,
             name: hold.name,
             letter,
@@ -168,7 +168,7 @@ impl Cluster {
         Ok(Told::Done)
     }
 
-    /// The home of a name takes an ask.
+    /// The master of a name takes an ask.
     fn take_ask(&mut self, alloc: Global, m: Message, mode: Mode) -> Result<(), NoMemory>
         requires node { 1 ≤ m.to }
         requires table { m.to ≤ length self.old.tables }
@@ -182,7 +182,7 @@ impl Cluster {
         serve(table, m.to, m.name, &mut self.queue, &mut self.mail)
     }
 
-    /// The home of a name takes a drop.
+    /// The master of a name takes a drop.
     fn take_drop(&mut self, m: Message) -> Result<(), NoMemory>
         requires node { 1 ≤ m.to }
         requires table { m.to ≤ length self.old.tables }

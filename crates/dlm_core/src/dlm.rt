@@ -38,7 +38,7 @@ impl Dlm {
         let _cluster = &self.cluster;
     }
 
-    /// The nodes are 1 to `nodes`, and nobody has asked for anything. `NoMemory` comes only where memory is refused.
+    /// A core of the nodes 1 to `nodes`, at most 255, where nobody has asked for anything. The one error is `NoMemory`.
     pub fn new(alloc: Global, nodes: u8) -> Result<Dlm, NoMemory>
         requires { 1 ≤ nodes }
         ensures { IfOk result (λ d. d ≡ start nodes) }
@@ -48,11 +48,12 @@ impl Dlm {
         })
     }
 
-    /// Plays an event. Of the tables one makes one call of the lock manager at most, one that it may take, and all others
-    /// stay. Where memory is refused nothing has changed.
+    /// Plays an event, and answers as `Told` says. Where the event delivers an ask or a drop, the table of the master makes
+    /// the call that the message asks for, one that it may take, and all other tables stay; else all tables stay. The one
+    /// error is `NoMemory`, and after it nothing has changed.
     pub fn step(&mut self, alloc: Global, e: &Event) -> Result<Told, NoMemory>
         ensures after { OnOk result (self.new ≡ after e.now self.old) }
-        ensures calls { OnOk result (GoesByCalls self.old self.new) }
+        ensures calls { OnOk result (GoesByCalls e.now self.old self.new) }
         ensures told { IfOk result (λ t. t ≡ told_of e.now self.old) }
         ensures err { OnErr result (self.new ≡ self.old) }
     {

@@ -1,51 +1,58 @@
 //! What happens to the core, and what it answers.
+//!
+//! The nodes of a core are 1 to n. An owner is a part of a node: part 0 is the node's file system, and 1 to 8 are its
+//! channels. No event is refused for a number outside these ranges: an owner of a node that is not there is served like
+//! any other.
 
 use lock_db::{LockName, Mode, Owner};
 
 /// One event.
 #[derive(Clone, Copy, Debug, PartialEq)]
 pub enum Event {
-    /// An owner asks for a lock, or for another mode of the lock that it believes it has.
+    /// An owner asks for a lock, or for another mode of the lock that it believes it has. Where the answer is `Done`, one
+    /// message is sent to the master of the name.
     Ask {
-        /// Who asks.
+        /// Who asks: a node from 1 to n, and a part from 0 to 8.
         owner: Owner,
         /// The resource.
         name: LockName,
         /// The mode that it wants.
         mode: Mode,
-        /// Each of the 16 bytes of the value block that it writes, where it gives up a mode that writes.
+        /// Each of the 16 bytes of the value block, 0 to 255. They are written where the owner lowers its lock from PW or
+        /// EX, or keeps that mode.
         fill: u8,
     },
-    /// An owner gives up the lock that it believes it has.
+    /// An owner gives up the lock that it believes it has. Where the answer is `Done`, one message is sent to the master
+    /// of the name.
     Drop {
-        /// Whose lock it is.
+        /// Whose lock it is: a node from 1 to n, and a part from 0 to 8.
         owner: Owner,
         /// The resource.
         name: LockName,
-        /// Each of the 16 bytes of the value block that it writes, where the mode was one that writes.
+        /// Each of the 16 bytes of the value block, 0 to 255. They are written where the lock is in PW or EX.
         fill: u8,
     },
     /// The first message that is on its way from a node to a node is delivered.
     Pass {
-        /// The node that has sent it.
+        /// The node that has sent it, 1 to n.
         from: u8,
-        /// The node that gets it.
+        /// The node that gets it, 1 to n.
         to: u8,
     },
 }
 
-/// What a step answers.
+/// What a step answers: of what fits an event, the first in this order. The first four change nothing.
 #[derive(Clone, Copy, Debug, PartialEq)]
 pub enum Told {
-    /// The owner waits for a grant on that name. Nothing has changed.
+    /// An Ask or a Drop, and an earlier ask of the owner on this name is not granted yet.
     Busy,
-    /// The owner believes that it has no lock there. Nothing has changed.
+    /// A Drop, and the owner, which does not wait, believes no lock there.
     NotHeld,
-    /// From PR to CW and from CW to PR a lock is not converted. Nothing has changed.
+    /// An Ask from PR to CW or from CW to PR, and the owner does not wait. Neither mode goes wherever the other goes.
     BadConvert,
-    /// No message is on its way between these nodes. Nothing has changed.
+    /// A Pass, and no message is on its way from the one node to the other.
     Nothing,
-    /// A grant was delivered.
+    /// A Pass that has delivered a grant.
     Granted {
         /// Whose lock it is.
         owner: Owner,
@@ -53,11 +60,11 @@ pub enum Told {
         name: LockName,
         /// The mode that it has now.
         mode: Mode,
-        /// The value block, as it was when the lock was granted.
+        /// The value block that the name had at its master when the lock was granted.
         value: [u8; 16],
-        /// Whether the value block was valid then.
+        /// Whether it was valid then.
         valid: bool,
     },
-    /// Done.
+    /// An Ask or a Drop whose message is sent, or a Pass that has delivered an ask or a drop to its master.
     Done,
 }

@@ -1,17 +1,17 @@
 //! A lock database that is distributed over nodes.
 //!
-//! Each resource has a home: the node that keeps its locks, its queues and its value block. An owner on any node asks by a
-//! message to that node, and has a new lock or a greater mode only when the message with the grant has come. The core is a
-//! plain value over events: no clock, no thread, no network. An event asks, drops, or delivers the first message of a
-//! pair of nodes, so a list of events tells an order of deliveries, and every order is told by one.
+//! Each resource has a master: the node that keeps its locks, its queues and its value block. An owner on any node calls it
+//! by messages, and acts on a new lock or a greater mode only when the message with the grant has come. The core is a plain
+//! value over events: no clock, no thread, no network. An event asks, drops, or delivers the first message from one node to
+//! another, so a list of events is an order of deliveries.
 #![tactic(auto)]
 
 mod cluster;
 mod dlm;
 mod events;
 mod holds;
-mod homes;
 pub mod laws;
+mod masters;
 mod messages;
 mod queue;
 

@@ -8,11 +8,11 @@ use lock_db::{LockName, Mode, Owner};
 /// What a message says.
 #[derive(Clone, Copy, Debug, PartialEq)]
 pub enum Letter {
-    /// To the home of a name: the owner asks for a lock, or for another mode of its lock.
+    /// To the master of a name: the owner asks for a lock, or for another mode of its lock.
     Ask(Mode),
-    /// To the home of a name: the owner gives up its lock.
+    /// To the master of a name: the owner gives up its lock.
     Drop,
-    /// From the home of a name: the owner has a lock in this mode, and this says whether the value block is valid.
+    /// From the master of a name: the owner has a lock in this mode, and this says whether the value block is valid.
     Grant(Mode, bool),
 }
 

@@ -1,4 +1,4 @@
-//! The asks that wait at their homes.
+//! The asks that wait at their masters.
 
 ghost use Rattle.std.specs.Prelude.{◌≡◌, ◌++◌, OnOk, true, false};
 ghost use Rattle.lock_db.specs.Tables.{resource_at};
@@ -7,7 +7,7 @@ ghost use Rattle.dlm_core.specs.Steps.{is_served, grant_of, gets_grant, grants_o
 use crate::messages::{Letter, Message};
 use lock_db::{LockDb, LockName, Mode, NoMemory, Owner};
 
-/// An ask that its home has taken and that is not granted yet.
+/// An ask that its master has taken and that is not granted yet.
 #[derive(Clone, Copy, Debug, PartialEq)]
 pub struct Waiter {
     /// Who asks.

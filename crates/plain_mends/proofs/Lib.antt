@@ -5,6 +5,7 @@ pub mod Standing
 pub mod FullSteps
 pub mod Skipping
 pub mod EmptySteps
+pub mod SettledSteps
 pub mod SlotSteps
 pub mod DoneSteps
 pub mod SoundSteps

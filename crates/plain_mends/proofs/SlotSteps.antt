@@ -1,7 +1,7 @@
 -- Mending ends the same once the slot of a file is free that is marked, or named by no entry.
 use Rattle.std.proofs.Common.{◌≡◌, ◌≢◌, ◌==◌, ◌&&◌, ◌||◌, ◌-◌, ◌+◌, ◌<◌, ◌⊎◌, inl, inr, ◌++◌, ◌∙◌, ℕ, zero, suc, Bool, true, false, cond, not, List, [], ◌∷◌, Option, Some, None, map, slice_get, set, nat_le, refl, sym, ap, subst, arith}
 use Rattle.std.specs.Prelude.{option_map, option_and_then, unwrap_or}
-use Rattle.std.specs.List.{list_any}
+use Rattle.std.specs.List.{Contains, list_any}
 use Rattle.std.proofs.lemmas.Bool.{and_from, eqb-true, eq-eqb, cases_eq, ne_eqb}
 use Rattle.plain_cat.specs.declared.ids.Fid.{Fid}
 use Rattle.plain_cat.specs.declared.entries.DirEnt.{DirEnt}
@@ -206,6 +206,27 @@ module _ (c : Cat) (n : ℕ) (f : File) (settled : Settled c) (none : lost c fal
       let r = has_filter (λ k. not (k == n)) (lost c true) m (subst (λ (ks : List ℕ). Has ks m) (lost_y true) h) in
       enter_none c y m refl (file_y 11 (λ e. not_eleven (sym e))) (file_y m (λ e. not_true (m == n) r.1 (eq-eqb m n e))) (full m r.0)
 
+  -- names and own entries are as before
+  there : (p : Place) → Contains (places y) p → Contains (places c) p
+  there p h = subst (λ (ps : List Place). Contains ps p) places_same h
+
+  back : (k : ℕ) (g : File) → file_at y k ≡ Some g → file_at c k ≡ Some g
+  back k g h = sym (file_y k (λ e. none_y g (ap (λ j. file_at y j) (sym e) ∙ h))) ∙ h
+
+  own_y : (k : ℕ) (g : File) → HasOwnEntry c k g → HasOwnEntry y k g
+  own_y k g (p, has, own, name) = (p, subst (λ (ps : List Place). Contains ps p) (sym places_same) has, own, name)
+
+  settled_y : Settled y
+  settled_y = record {
+    stay = stay_y;
+    names = record {
+      unmarked = λ p g has h. settled.names.unmarked p g (there p has) (back p.dir g h);
+      written = λ p g has h. settled.names.written p g (there p has) (back p.dir g h);
+      lost = λ g h. let l = settled.names.lost g (back 11 g h) in record { directory = l.directory; unmarked = l.unmarked; own = own_y 11 g l.own };
+    };
+    owned = λ k g low h free. own_y k g (settled.owned k g low (back k g h) free);
+  }
+
   -- what the last steps leave is the same
   gone_each : (k : ℕ) (s : Slot) → gone_slot (without_opens y) k s ≡ gone_slot (without_opens c) k s
   gone_each k (Free q) = refl
@@ -257,6 +278,9 @@ slot_ends c n f z settled none full at gone = ends_alike c (leaving c n f) z (λ
 
 pub slot_stays : (c : Cat) (n : ℕ) (f : File) → Settled c → lost c false ≡ [] → file_at c n ≡ Some f → is_gone c n f ≡ true → AllStay (leaving c n f)
 slot_stays = stay_y
+
+pub slot_settled : (c : Cat) (n : ℕ) (f : File) → Settled c → lost c false ≡ [] → file_at c n ≡ Some f → is_gone c n f ≡ true → Settled (leaving c n f)
+slot_settled = settled_y
 
 pub slot_none : (c : Cat) (n : ℕ) (f : File) → Settled c → lost c false ≡ [] → file_at c n ≡ Some f → is_gone c n f ≡ true → lost (leaving c n f) false ≡ []
 slot_none = none_lost

@@ -1,8 +1,10 @@
 -- The files that wait to be entered in [SYSLOST].
-use Rattle.std.specs.Prelude.{◌≡◌, ℕ, Bool, true, false, List, [], All, None}
+use Rattle.std.specs.Prelude.{◌≡◌, ◌≢◌, ℕ, Bool, true, false, List, [], All, Some, None}
 use Rattle.std.specs.List.{Contains}
 use Rattle.plain_cat.specs.declared.cat.Cat.{Cat}
+use Rattle.plain_cat.specs.declared.cat.File.{File}
 use Rattle.plain_cat.specs.declared.cat.QuotaRow.{QuotaRow}
+use Rattle.plain_vol.specs.Lookups.{file_at}
 use Rattle.plain_vol.specs.Accounts.{charge}
 use Rattle.plain_vol.specs.Mending.{lost, enter}
 use Rattle.plain_laws.specs.Clearing.{IsUnmarked, KeepsNames, AreOwned}
@@ -14,6 +16,10 @@ pub record Settled (c : Cat) : Type 0 where
   pub stay : AllStay c
   pub names : KeepsNames c
   pub owned : AreOwned c
+
+-- [SYSLOST] has no mark of 1, which says that nothing was written to it
+abbrev pub LostIsWritten : Cat → Type 0
+LostIsWritten c = (f : File) → file_at c 11 ≡ Some f → f.mark ≢ 1
 
 -- for none of these is there room in [SYSLOST]
 abbrev pub AreFull : Cat → List ℕ → Type 0

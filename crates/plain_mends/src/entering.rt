@@ -5,7 +5,7 @@ ghost use Rattle.plain_cat.specs.declared.cat.Cat.{Cat};
 ghost use Rattle.plain_vol.specs.Directories.{inserted, fits};
 ghost use Rattle.plain_vol.specs.Mending.{lost, lost_name, with_lost_entry, enter};
 ghost use Rattle.plain_mends.specs.Resuming.{MendsTo, AllStay};
-ghost use Rattle.plain_mends.specs.Waiting.{Settled, AreFull};
+ghost use Rattle.plain_mends.specs.Waiting.{Settled, LostIsWritten, AreFull};
 
 /// Fewer entries fit where more do.
 pub fn fewer_fit()
@@ -20,10 +20,11 @@ pub fn still_full()
 {}
 
 /// Mending ends the same once the next lost file that is not empty is entered in `[SYSLOST]`, where each entry stays. Each entry
-/// stays then too, and the files that are still to be entered are the others.
+/// stays then too, with names and own entries as before, and the files that are still to be entered are the others.
 pub fn full_enters()
     ensures ends { (x y : Cat) (n : ℕ) (ns : List ℕ) (z : Cat) → Settled x → lost x false ≡ n ∷ ns → enter x n ≡ Some y → MendsTo x z → MendsTo y z }
     ensures stay { (x y : Cat) (n : ℕ) (ns : List ℕ) → Settled x → lost x false ≡ n ∷ ns → enter x n ≡ Some y → AllStay y }
+    ensures settled { (x y : Cat) (n : ℕ) (ns : List ℕ) → Settled x → LostIsWritten x → lost x false ≡ n ∷ ns → enter x n ≡ Some y → Settled y × LostIsWritten y }
     ensures full { (x y : Cat) (n : ℕ) (ns : List ℕ) → Settled x → lost x false ≡ n ∷ ns → enter x n ≡ Some y → lost y false ≡ ns }
     ensures empty { (x y : Cat) (n : ℕ) (ns : List ℕ) → Settled x → lost x false ≡ n ∷ ns → enter x n ≡ Some y → lost y true ≡ lost x true }
 {}
@@ -33,6 +34,7 @@ pub fn full_enters()
 pub fn empty_enters()
     ensures ends { (x y : Cat) (ms : List ℕ) (n : ℕ) (ns : List ℕ) (z : Cat) → Settled x → length x.files < 100000 → lost x false ≡ [] → lost x true ≡ ms ++ n ∷ ns → AreFull x ms → enter x n ≡ Some y → MendsTo x z → MendsTo y z }
     ensures stay { (x y : Cat) (ms : List ℕ) (n : ℕ) (ns : List ℕ) → Settled x → lost x true ≡ ms ++ n ∷ ns → enter x n ≡ Some y → AllStay y }
+    ensures settled { (x y : Cat) (ms : List ℕ) (n : ℕ) (ns : List ℕ) → Settled x → LostIsWritten x → lost x true ≡ ms ++ n ∷ ns → enter x n ≡ Some y → Settled y × LostIsWritten y }
     ensures none { (x y : Cat) (ms : List ℕ) (n : ℕ) (ns : List ℕ) → Settled x → lost x false ≡ [] → lost x true ≡ ms ++ n ∷ ns → enter x n ≡ Some y → lost y false ≡ [] }
     ensures empty { (x y : Cat) (ms : List ℕ) (n : ℕ) (ns : List ℕ) → Settled x → lost x true ≡ ms ++ n ∷ ns → enter x n ≡ Some y → lost y true ≡ ms ++ ns }
     ensures full { (x y : Cat) (ms : List ℕ) (n : ℕ) (ns : List ℕ) → Settled x → length x.files < 100000 → lost x true ≡ ms ++ n ∷ ns → AreFull x ms → enter x n ≡ Some y → AreFull y ms }

@@ -13,6 +13,7 @@ ghost use Rattle.plain_mends.specs.Waiting.{Settled, AreFull, IsDone};
 pub fn slot_goes()
     ensures ends { (c : Cat) (n : ℕ) (f : File) (z : Cat) → Settled c → lost c false ≡ [] → AreFull c (lost c true) → file_at c n ≡ Some f → is_gone c n f ≡ true → MendsTo c z → MendsTo (leaving c n f) z }
     ensures stay { (c : Cat) (n : ℕ) (f : File) → Settled c → lost c false ≡ [] → file_at c n ≡ Some f → is_gone c n f ≡ true → AllStay (leaving c n f) }
+    ensures settled { (c : Cat) (n : ℕ) (f : File) → Settled c → lost c false ≡ [] → file_at c n ≡ Some f → is_gone c n f ≡ true → Settled (leaving c n f) }
     ensures none { (c : Cat) (n : ℕ) (f : File) → Settled c → lost c false ≡ [] → file_at c n ≡ Some f → is_gone c n f ≡ true → lost (leaving c n f) false ≡ [] }
     ensures full { (c : Cat) (n : ℕ) (f : File) → Settled c → lost c false ≡ [] → AreFull c (lost c true) → file_at c n ≡ Some f → is_gone c n f ≡ true → AreFull (leaving c n f) (lost (leaving c n f) true) }
 {}

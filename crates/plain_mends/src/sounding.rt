@@ -13,7 +13,8 @@ ghost use Rattle.plain_vol.specs.Replaying.{dead, Leads, Replays};
 ghost use Rattle.plain_mends.specs.Sound.{IsSound};
 
 /// A catalogue in order stays so: after each answer, at each stage of a command, after a death and a mending, and so along every
-/// replay.
+/// replay. It is a property of what is mounted on an accepted volume: on another one that can be mended, an entry that names no file
+/// may close a chain of numbers.
 pub fn sound_stays()
     ensures answers { (c d : Cat) (n : ℕ) (x : Cmd) (r : Reply) → IsSound c → Answer c n x r d → IsSound d }
     ensures stages { (c d : Cat) (n : ℕ) (x : Option Cmd) (s : Stage) (new : Option ℕ) → IsSound c → IsPick c new → staged c n x s new ≡ Some d → IsSound d }

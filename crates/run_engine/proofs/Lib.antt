@@ -4,3 +4,4 @@ pub mod Rotating
 pub mod Ending
 pub mod Driving
 pub mod Stopping
+pub mod Showing

@@ -2,7 +2,8 @@
 use Rattle.std.proofs.Common.{◌≡◌, ◌≤◌, ◌<◌, ◌+◌, ◌-◌, ℕ, zero, suc, Bool, true, false, cond, List, [], ◌∷◌, Option, Some, None, IfSome, length, slice_get, refl, sym, ap, subst, ◌∙◌, inl, inr, arith}
 use Rattle.std.proofs.lemmas.Bool.{cases_lt}
 use Rattle.core_state.specs.Worlds.{NodeState, Plain, IsOfWorld}
-use Rattle.core_state.specs.Events.{after_turn, is_over_in, is_over}
+use Rattle.core_state.specs.Deaths.{after_step}
+use Rattle.core_state.specs.Events.{is_over_in, is_over}
 use Rattle.run_engine.specs.Walks.{first_from, or_first, next_from, Rotation, with_turn, after_next, rotation, AllOver}
 
 -- ---- a search up to the last node, one number more
@@ -151,7 +152,7 @@ unfolding rotation after_next
 one_more k r world from n is next = ap after_next is ∙ ap (λ o. with_turn (record { world = world; from = from }) o) next
 
 pub rotation_more : (k : ℕ) (r : Rotation) (world : Plain) (from n : ℕ) (new : Plain) → rotation k r ≡ record { world = world; from = from } → Some n ≡ next_from world from
-    → new ≡ after_turn world n → rotation (k + 1) r ≡ record { world = new; from = n + 1 }
+    → new ≡ after_step world n → rotation (k + 1) r ≡ record { world = new; from = n + 1 }
 rotation_more k r world from n new is next turn =
     let e : k + 1 ≡ suc k = omega arith in
     ap (λ j. rotation j r) e ∙ (one_more k r world from n is (sym next) ∙ ap (λ (v : Plain). let x : Rotation = record { world = v; from = n + 1 } in x) (sym turn))

@@ -4,6 +4,7 @@ use Rattle.core_state.specs.Worlds.{NodeState, Plain, IsOfWorld, node_at}
 use Rattle.core_state.specs.Event.{Event}
 use Rattle.core_state.specs.Event as event
 use Rattle.core_state.specs.Events.{would_go, asked_by, happens, happen_at, readied_at, readied, next_event, after_turn, is_over}
+use Rattle.core_state.specs.Deaths.{is_due, died_at, died, after_step}
 use Rattle.core_state.proofs.Nodes.{length_node}
 use Rattle.run_engine.specs.Walks.{after_play, played, next_from, Rotation, with_turn, after_next, rotation, IsPlayed, IsRotated, Stays}
 
@@ -46,14 +47,22 @@ readied_stays : (w : Plain) (n : ℕ) (o : Option NodeState) → Stays w (readie
 readied_stays w n None = nothing_stays w
 readied_stays w n (Some s) = record { script = refl; opening = refl; geometry = refl; count = length_node w.nodes n _ }
 
-pub turn_stays : (w : Plain) (n : ℕ) → Stays w (after_turn w n)
+turn_stays : (w : Plain) (n : ℕ) → Stays w (after_turn w n)
 turn_stays w n = then_stays w (readied w n) (after_turn w n) (readied_stays w n (node_at w.nodes n)) (event_at_stays (readied w n) n (node_at (readied w n).nodes n) (next_event w n))
+
+died_stays : (w : Plain) (n : ℕ) (o : Option NodeState) → Stays w (died_at w n o)
+died_stays w n None = nothing_stays w
+died_stays w n (Some s) = record { script = refl; opening = refl; geometry = refl; count = length_node w.nodes n _ }
+
+-- nor does a death
+pub step_stays : (w : Plain) (n : ℕ) → Stays w (after_step w n)
+step_stays w n = elim (is_due w n) as (λ b. Stays w (cond b (died w n) (after_turn w n))) [ true ↦ died_stays w n (node_at w.nodes n) | false ↦ turn_stays w n ]
 
 -- ---- over plays and rotation
 
 pub play_stays : (w : Plain) (n : ℕ) → Stays w (after_play w n)
 unfolding after_play
-play_stays w n = elim (is_over w n) as (λ b. Stays w (cond b w (after_turn w n))) [ true ↦ nothing_stays w | false ↦ turn_stays w n ]
+play_stays w n = elim (is_over w n) as (λ b. Stays w (cond b w (after_step w n))) [ true ↦ nothing_stays w | false ↦ step_stays w n ]
 
 pub plays_stay : (ns : List ℕ) (w : Plain) → Stays w (played ns w)
 plays_stay [] w = nothing_stays w
@@ -61,7 +70,7 @@ plays_stay (n ∷ ns) w = then_stays w (after_play w n) (played ns (after_play w
 
 with_turn_stays : (r : Rotation) (o : Option ℕ) → Stays r.world (with_turn r o).world
 with_turn_stays r None = nothing_stays r.world
-with_turn_stays r (Some n) = turn_stays r.world n
+with_turn_stays r (Some n) = step_stays r.world n
 
 next_stays : (r : Rotation) → Stays r.world (after_next r).world
 unfolding after_next

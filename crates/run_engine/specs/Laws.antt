@@ -4,7 +4,7 @@ use Rattle.std.specs.Prelude.{ℕ}
 use Rattle.plain_cat.specs.declared.cat.Cat.{Cat}
 use Rattle.core_state.specs.Worlds.{Plain}
 use Rattle.core_state.specs.Goods.{Good}
-use Rattle.core_state.specs.Events.{after_turn}
+use Rattle.core_state.specs.Deaths.{after_step}
 use Rattle.run_engine.specs.Walks.{AllOver, Stays}
 use Rattle.run_engine.specs.Ended.{HasEnded}
 
@@ -16,6 +16,6 @@ OverIsWhole = (w : Plain) → Good w → AllOver w → Whole w.script w.history
 abbrev pub OverIsSpelt : Type 0
 OverIsSpelt = (w : Plain) → Good w → AllOver w → (c : Cat) × HasEnded w c
 
--- a turn leaves the script, the opening catalogue, the places of the volume's parts, and the number of nodes
+-- a turn, and a death in its place, leaves the script, the opening catalogue, the places of the volume's parts, and the number of nodes
 abbrev pub TurnsLeaveTheRest : Type 0
-TurnsLeaveTheRest = (w : Plain) (n : ℕ) → Stays w (after_turn w n)
+TurnsLeaveTheRest = (w : Plain) (n : ℕ) → Stays w (after_step w n)

@@ -3,14 +3,15 @@ use Rattle.std.specs.Prelude.{◌≡◌, ◌≤◌, ◌+◌, ◌-◌, ◌*◌, �
 use Rattle.vol_words.specs.Fields.{Block}
 use Rattle.core_state.specs.Worlds.{Plain}
 use Rattle.core_state.specs.Images.{IsTold, IsTorn}
-use Rattle.core_state.specs.Events.{after_turn, is_over, is_write, next_event}
+use Rattle.core_state.specs.Deaths.{is_due, after_step}
+use Rattle.core_state.specs.Events.{is_over, is_write, next_event}
 use Rattle.core_step.specs.Memory.{takes_none}
 
 -- ---- plays
 
--- the world after a play of a node: a node that is over makes no turn
+-- the world after a play of a node: its turn, or the death in its place; a node that is over makes no turn
 unfoldable pub after_play : Plain → ℕ → Plain
-after_play w n = if is_over w n then w else after_turn w n
+after_play w n = if is_over w n then w else after_step w n
 
 -- the world after these plays
 abbrev pub played : List ℕ → Plain → Plain
@@ -41,10 +42,10 @@ pub record Rotation : Type 0 where
   pub world : Plain
   pub from : ℕ
 
--- the turn of a node; where all are over, nothing comes
+-- the turn of a node, or the death in its place; where all are over, nothing comes
 abbrev pub with_turn : Rotation → Option ℕ → Rotation
 with_turn r None = r
-with_turn r (Some n) = record { world = after_turn r.world n; from = n + 1 }
+with_turn r (Some n) = record { world = after_step r.world n; from = n + 1 }
 
 unfoldable pub after_next : Rotation → Rotation
 after_next r = with_turn r (next_from r.world r.from)
@@ -117,13 +118,15 @@ IsNextIn old plays w n = IsNextPlay old plays w n ⊎ IsNextTurn (played plays o
 pub record IsBeforeWrite (IsNext : ℕ → Type 0) (first : List Block) (told now : Option (List Block)) (w : Plain) : Type 0 where
   pub node : ℕ
   pub next : IsNext node
+  pub turn : is_due w node ≡ false
   pub write : is_write (next_event w node) ≡ true
-  pub image : IsTold told first → IsTorn told now w.blocks (after_turn w node).blocks
+  pub image : IsTold told first → IsTorn told now w.blocks (after_step w node).blocks
 
 -- A turn that lacked memory: `IsNext` says whose turn it was, and the next event of that node takes memory.
 pub record IsBeforeTaking (IsNext : ℕ → Type 0) (w : Plain) : Type 0 where
   pub node : ℕ
   pub next : IsNext node
+  pub turn : is_due w node ≡ false
   pub takes : takes_none w.locks node (next_event w node) ≡ false
 
 -- ---- what no turn changes

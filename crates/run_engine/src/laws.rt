@@ -13,7 +13,7 @@ pub fn over_is_spelt()
     ensures { OverIsSpelt }
 {}
 
-/// A turn leaves the script, the opening catalogue, the places of the volume's parts, and the number of nodes.
+/// A turn, and a death in its place, leaves the script, the opening catalogue, the places of the volume's parts, and the number of nodes.
 pub fn turns_leave_the_rest()
     ensures { TurnsLeaveTheRest }
 {}

@@ -1,4 +1,5 @@
-ghost use Rattle.std.specs.Prelude.{◌≡◌, ◌++◌, IfOk, OnOk, count_by};
+ghost use Rattle.std.specs.Prelude.{◌≡◌, ◌++◌, IfOk, OnOk, count_by, map};
+ghost use Rattle.core_state.specs.Worlds.{shown};
 ghost use Rattle.run_engine.specs.Reports.{is_answer, is_death, counts_text, closing_text, lines_bytes, report_bytes};
 
 use plain_cat::{Entry, History, NoMemory};
@@ -79,7 +80,7 @@ fn push_closing(
 
 /// The lines of a history, one for each entry, numbered from 1: the report of a run that stopped, which has no last line.
 pub fn report_lines(alloc: Global, h: &History) -> Result<Vec<u8>, NoMemory>
-    ensures { IfOk result (λ text. text.items ≡ lines_bytes h.now.items) }
+    ensures { IfOk result (λ text. text.items ≡ lines_bytes (map shown h.now.items)) }
 {
     let mut text = Vec::new(alloc);
     push_lines(alloc, &mut text, h.items())?;
@@ -89,7 +90,7 @@ pub fn report_lines(alloc: Global, h: &History) -> Result<Vec<u8>, NoMemory>
 /// The report of a run: the lines of its history, and a last line that counts the answers, the deaths and the clusters that are
 /// free at its end.
 pub fn report(alloc: Global, h: &History, free: u32) -> Result<Vec<u8>, NoMemory>
-    ensures { IfOk result (λ text. text.items ≡ report_bytes h.now.items free) }
+    ensures { IfOk result (λ text. text.items ≡ report_bytes (map shown h.now.items) free) }
 {
     let entries = h.items();
     let mut text = report_lines(alloc, h)?;

@@ -7,8 +7,8 @@ ghost use Rattle.run_engine.specs.Walks.{first_from, next_from, AllOver, IsRotat
 
 use crate::fault::RunFault;
 use blk_drive::ImageDev;
+use core_death::seat_turn;
 use core_state::World;
-use core_step::turn;
 use op_law::Operation;
 use std::alloc::Global;
 
@@ -74,7 +74,7 @@ pub fn rotate<I: ImageDev, O: Operation>(
     for _turns in 0..budget {
         match next_node(w, from) {
             Some(node) => {
-                turn(alloc, w, node)?;
+                seat_turn(alloc, w, node)?;
                 from = node + 1;
             }
             None => return Ok(()),

@@ -3,15 +3,17 @@ ghost use Rattle.vol_words.specs.Faults.{Rose};
 ghost use Rattle.plain_vol.specs.Own.{Whole};
 ghost use Rattle.core_state.specs.Worlds.{IsOfWorld};
 ghost use Rattle.core_state.specs.Images.{IsTold, IsTorn, told_as};
-ghost use Rattle.core_state.specs.Events.{is_over, is_write, next_event, after_turn};
+ghost use Rattle.core_state.specs.Deaths.{is_due, after_step};
+ghost use Rattle.core_state.specs.Events.{is_over, is_write, next_event};
 ghost use Rattle.core_step.specs.Memory.{takes_none};
 ghost use Rattle.run_engine.specs.Walks.{after_play, played, IsPartOfWalk, IsPlayed, IsRotatedIn, AllOver, IsSpent, IsNextPlay, IsNextIn, IsBeforeWrite, IsBeforeTaking, Stays, budget_of};
 
 use crate::fault::RunFault;
 use crate::rotation::{nodes_of, rotate};
 use blk_drive::ImageDev;
+use core_death::seat_turn;
 use core_state::World;
-use core_step::{TurnFault, turn};
+use core_step::TurnFault;
 use op_law::Operation;
 use plain_cat::Plays;
 use std::alloc::Global;
@@ -27,7 +29,7 @@ fn budget_of<I: ImageDev, O: Operation>(w: &World<I, O>) -> u32
     (2_048 * nodes * (commands + nodes)) as u32
 }
 
-// A play of a node: its turn, if it is not over.
+// A play of a node: its turn, or the death in its place, if it is not over.
 #[tactic(auto, unfolding(crate::specs::Walks::after_play))]
 fn play<I: ImageDev, O: Operation>(
     alloc: Global,
@@ -40,15 +42,16 @@ fn play<I: ImageDev, O: Operation>(
     ensures later { I.faults w.old.image ≤ I.faults w.new.image }
     ensures cause { result ≡ Err TurnFault.ImageFault → Rose (I.faults w.old.image) (I.faults w.new.image) }
     ensures alive { OnErr result (is_over w.old.world node ≡ false) }
+    ensures turn { OnErr result (is_due w.old.world node ≡ false) }
     ensures memory { result ≡ Err TurnFault.NoMemory → takes_none w.old.world.locks node (next_event w.old.world node) ≡ false }
     ensures before { result ≡ Err TurnFault.ImageFault → is_write (next_event w.old.world node) ≡ true }
     ensures torn { result ≡ Err TurnFault.ImageFault → IsTold (I.told w.old.image) w.old.world.blocks
-        → IsTorn (I.told w.old.image) (I.told w.new.image) w.old.world.blocks (after_turn w.old.world node).blocks }
+        → IsTorn (I.told w.old.image) (I.told w.new.image) w.old.world.blocks (after_step w.old.world node).blocks }
     ensures drive { IsTold (I.told w.old.image) w.old.world.blocks
         → (I.told w.new.image ≡ told_as (I.told w.old.image) w.new.world.blocks) ⊎ (result ≡ Err TurnFault.ImageFault) }
 {
     if !w.is_over(node) {
-        turn(alloc, w, node)?;
+        seat_turn(alloc, w, node)?;
     }
     Ok(())
 }

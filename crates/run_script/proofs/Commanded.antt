@@ -12,11 +12,9 @@ use Rattle.plain_cat.specs.declared.script.Line.{Line}
 use Rattle.plain_cat.specs.InForm.{is_within, is_eighth, is_file_ref, is_owner, is_version, is_count, is_quota, is_open_mode, is_dir_name, is_text, line_in_form}
 use Rattle.vol_texts.specs.Names.{uic_text, entry_text, mode_text}
 use Rattle.vol_texts.specs.Commands.{register_text}
-use Rattle.run_script.specs.Table.{is_on, kind_of}
 use Rattle.run_script.specs.Grammar.{IsRefText, IsCommandText, IsNodeCommand}
-use Rattle.run_script.specs.declared.built.Built.{Built}
-use Rattle.run_script.specs.declared.built.Kind.{Kind}
-use Rattle.run_script.specs.declared.built.Kind.TheVariants as kind
+use Rattle.run_script.specs.declared.kinds.Kind.{Kind}
+use Rattle.run_script.specs.declared.kinds.Kind.TheVariants as kind
 use Rattle.run_script.specs.Steps.{number_of, register_of, ref_of, entry_of, owner_of, mode_of, dir_name_of, text_of, count_of, channel_of, quota_of, operand, arity, command_of, open_kind, named_kind, node_command, line_of, with1, with2, with3, with4, with5}
 use Rattle.run_script.proofs.Pieces.{three_of, four_of, five_of, six_of, seven_of, chosen, by_word, same_some, no_none, made1, made2, made3, made4, made5}
 use Rattle.run_script.proofs.Words.{register-back, register-sound, ref-back, ref-sound, entry-back, entry-sound, count-back, count-sound, owner-back, owner-sound, dir_name-back, dir_name-sound, some-back, some-sound, channel-back, channel-sound, mode-back, mode-sound, text-back, text-sound, quota-back, quota-sound}
@@ -38,6 +36,24 @@ with4-some oa ob oc od f a b c d h k l m = ap (λ o. with4 o ob oc od f) h ∙ w
 with5-some : {A B C D E F : Type 0} (oa : Option A) (ob : Option B) (oc : Option C) (od : Option D) (oe : Option E) (f : A → B → C → D → E → F) (a : A) (b : B) (c : C) (d : D) (e : E)
     → oa ≡ Some a → ob ≡ Some b → oc ≡ Some c → od ≡ Some d → oe ≡ Some e → with5 oa ob oc od oe f ≡ Some (f a b c d e)
 with5-some oa ob oc od oe f a b c d e h k l m n = ap (λ o. with5 o ob oc od oe f) h ∙ with4-some ob oc od oe (f a) b c d e k l m n
+
+-- the kind of a command
+abbrev kind_of : LineCmd → Kind
+kind_of (line.Lookup reg dir name ver) = kind.Lookup
+kind_of (line.List dir) = kind.List
+kind_of (line.Stat file) = kind.Stat
+kind_of (line.Create reg dir name ver blocks owner) = kind.Create
+kind_of (line.MkDir reg dir name owner) = kind.MkDir
+kind_of (line.Extend file blocks) = kind.Extend
+kind_of (line.Trunc file blocks) = kind.Trunc
+kind_of (line.Delete dir name ver) = kind.Delete
+kind_of (line.Rename dir name ver to to_ver) = kind.Rename
+kind_of (line.OpenFile chan file mode) = kind.OpenFile
+kind_of (line.CloseFile chan) = kind.CloseFile
+kind_of (line.ReadBlock chan vbn) = kind.ReadBlock
+kind_of (line.WriteBlock chan vbn text) = kind.WriteBlock
+kind_of (line.QuotaSet owner quota over) = kind.QuotaSet
+kind_of (line.QuotaShow owner) = kind.QuotaShow
 
 -- words that say a command of this kind
 record Spoken (k : Kind) (ws : List (List ℕ)) (cmd : LineCmd) : Type 0 where
@@ -524,34 +540,32 @@ back_command (line.QuotaShow x0) first spoken said limits =
     subst P (sym said) (back_quota_show x0 first limits)
 
 -- the command of a node is read from the words that say it
-pub line-back : (table : Built) (l : Line) (ws : List (List ℕ)) → IsNodeCommand table l ws → line_of table ws ≡ Some l
+pub line-back : (l : Line) (ws : List (List ℕ)) → IsNodeCommand l ws → line_of ws ≡ Some l
 unfolding line_of
-line-back table l ws h =
+line-back l ws h =
     let r = back_command l.cmd (decimal l.node) h.spoken h.command h.limits in
-    let made : node_command table (decimal l.node ∷ h.spoken) (Some (kind_of l.cmd)) ≡ Some l =
+    let made : node_command (decimal l.node ∷ h.spoken) (Some (kind_of l.cmd)) ≡ Some l =
     ap (λ t. cond t (with2 (channel_of (decimal l.node)) (command_of (kind_of l.cmd) (decimal l.node ∷ h.spoken)) (λ node cmd. record { node = node; cmd = cmd })) None)
-    (and_from (is_on table (kind_of l.cmd)) (length (decimal l.node ∷ h.spoken) == arity (kind_of l.cmd) + 2) h.on (eq-eqb _ _ r.count))
+    (eq-eqb (length (decimal l.node ∷ h.spoken)) (arity (kind_of l.cmd) + 2) r.count)
     ∙ with2-some (channel_of (decimal l.node)) (command_of (kind_of l.cmd) (decimal l.node ∷ h.spoken)) (λ node cmd. record { node = node; cmd = cmd }) l.node l.cmd (channel-back l.node h.node) r.read in
-    ap (line_of table) h.whole ∙ ap (node_command table (decimal l.node ∷ h.spoken)) r.kind ∙ made
+    ap line_of h.whole ∙ ap (node_command (decimal l.node ∷ h.spoken)) r.kind ∙ made
 
-node_command-sound : (table : Built) (ws : List (List ℕ)) (o : Option Kind) (l : Line) → ((k : Kind) → o ≡ Some k → get_or ws 1 [] ≡ kind_word k) → node_command table ws o ≡ Some l → IsNodeCommand table l ws
-node_command-sound table ws None l w h = absurd (no_none l h)
-node_command-sound table ws (Some k) l w h =
-    let c = chosen (is_on table k && length ws == arity k + 2) _ l h in
-    let t = and_parts (is_on table k) (length ws == arity k + 2) c.0 in
+node_command-sound : (ws : List (List ℕ)) (o : Option Kind) (l : Line) → ((k : Kind) → o ≡ Some k → get_or ws 1 [] ≡ kind_word k) → node_command ws o ≡ Some l → IsNodeCommand l ws
+node_command-sound ws None l w h = absurd (no_none l h)
+node_command-sound ws (Some k) l w h =
+    let c = chosen (length ws == arity k + 2) _ l h in
     let m = made2 (channel_of (get_or ws 0 [])) (command_of k ws) (λ node cmd. record { node = node; cmd = cmd }) l c.1 in
     let n = channel-sound (get_or ws 0 []) m.a m.is_a in
-    let s = sound_command k ws m.b (eqb-true (length ws) (arity k + 2) t.1) (w k refl) m.is_b in
-    let P : Line → Type 0 = λ l. IsNodeCommand table l ws in
+    let s = sound_command k ws m.b (eqb-true (length ws) (arity k + 2) c.0) (w k refl) m.is_b in
+    let P : Line → Type 0 = λ l. IsNodeCommand l ws in
     subst P m.made (record {
       spoken = s.rest;
       whole = s.whole ∙ ap (λ first. first ∷ s.rest) n.1;
       node = n.0;
       command = s.command;
       limits = s.limits;
-      on = ap (is_on table) s.is ∙ t.0;
     })
 
-pub line-sound : (table : Built) (ws : List (List ℕ)) (l : Line) → line_of table ws ≡ Some l → IsNodeCommand table l ws
+pub line-sound : (ws : List (List ℕ)) (l : Line) → line_of ws ≡ Some l → IsNodeCommand l ws
 unfolding line_of
-line-sound table ws l h = node_command-sound table ws (named_kind (get_or ws 1 [])) l (λ k e. named_kind-sound (get_or ws 1 []) k e) h
+line-sound ws l h = node_command-sound ws (named_kind (get_or ws 1 [])) l (λ k e. named_kind-sound (get_or ws 1 []) k e) h

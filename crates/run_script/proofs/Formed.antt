@@ -9,7 +9,6 @@ use Rattle.plain_cat.specs.declared.script.Script.{Script}
 use Rattle.plain_cat.specs.InForm.{is_within, is_eighth, line_in_form, kill_count, InForm}
 use Rattle.run_script.specs.Grammar.{AreRunTexts, IsLineText, IsItemText}
 use Rattle.run_script.specs.Spelling.{plays_of, is_killed, may_stand, has_room, with_item, Leads, SpellsScript}
-use Rattle.run_script.specs.declared.built.Built.{Built}
 use Rattle.run_script.specs.declared.items.Run.{Run}
 use Rattle.run_script.specs.declared.items.Item.{Item}
 use Rattle.run_script.specs.declared.items.Item.TheVariants.{Skipped, Nodes, Plays, Death, Command}
@@ -52,9 +51,9 @@ abbrev Formed : Option Script → Type 0
 Formed None = Unit {0}
 Formed (Some s) = InForm s
 
-with_text : (table : Built) (item : Item) (words : List (List ℕ)) (state : Option Script) → Formed state → IsItemText table item words → may_stand state item ≡ true → has_room state item ≡ true → Formed (with_item state item)
-with_text table Skipped words state f text stands room = absurd text
-with_text table (Nodes n) words None f text stands room = record {
+with_text : (item : Item) (words : List (List ℕ)) (state : Option Script) → Formed state → IsItemText item words → may_stand state item ≡ true → has_room state item ≡ true → Formed (with_item state item)
+with_text Skipped words state f text stands room = absurd text
+with_text (Nodes n) words None f text stands room = record {
   nodes = text.1;
   lines_fit = omega arith;
   lines = All-nil _;
@@ -63,9 +62,9 @@ with_text table (Nodes n) words None f text stands room = record {
   kills = All-nil _;
   killed_once = no_kill;
 }
-with_text table (Nodes n) words (Some s) f text stands room = absurd (false≢true stands)
-with_text table (Plays rs) words None f text stands room = absurd (false≢true stands)
-with_text table (Plays rs) words (Some s) f text stands room = record {
+with_text (Nodes n) words (Some s) f text stands room = absurd (false≢true stands)
+with_text (Plays rs) words None f text stands room = absurd (false≢true stands)
+with_text (Plays rs) words (Some s) f text stands room = record {
   nodes = f.nodes;
   lines_fit = f.lines_fit;
   lines = f.lines;
@@ -74,8 +73,8 @@ with_text table (Plays rs) words (Some s) f text stands room = record {
   kills = f.kills;
   killed_once = f.killed_once;
 }
-with_text table (Death k) words None f text stands room = absurd (false≢true stands)
-with_text table (Death k) words (Some s) f text stands room =
+with_text (Death k) words None f text stands room = absurd (false≢true stands)
+with_text (Death k) words (Some s) f text stands room =
     let both = and_parts (leb k.node s.nodes) (not (is_killed k.node s.kills)) stands in
     record {
       nodes = f.nodes;
@@ -87,8 +86,8 @@ with_text table (Death k) words (Some s) f text stands room =
           (and_from (is_within 1 s.nodes k.node) (is_within 1 1000000 (kill_count k.at)) (known k.node s.nodes text.node both.0) text.count);
       killed_once = distinct-push s.kills k f.killed_once (not-true (is_killed k.node s.kills) both.1);
     }
-with_text table (Command l) words None f text stands room = absurd (false≢true stands)
-with_text table (Command l) words (Some s) f text stands room = record {
+with_text (Command l) words None f text stands room = absurd (false≢true stands)
+with_text (Command l) words (Some s) f text stands room = record {
   nodes = f.nodes;
   lines_fit = omega (arith, leb-true (length s.lines + 1) 4096 room, length-append s.lines (l ∷ []));
   lines = All-push (λ (l : Line). IsTrue (is_within 1 s.nodes l.node && line_in_form l.cmd)) s.lines l f.lines
@@ -103,13 +102,13 @@ with_skipped : (state : Option Script) → Formed state → Formed (with_item st
 with_skipped None f = f
 with_skipped (Some s) f = f
 
-with_line : (table : Built) (item : Item) (l : List ℕ) (state : Option Script) → Formed state → IsLineText table item l → may_stand state item ≡ true → has_room state item ≡ true → Formed (with_item state item)
-with_line table item l state f (inl h) stands room = let P : Item → Type 0 = λ item. Formed (with_item state item) in subst P (sym h.1) (with_skipped state f)
-with_line table item l state f (inr h) stands room = with_text table item _ state f h.1 stands room
+with_line : (item : Item) (l : List ℕ) (state : Option Script) → Formed state → IsLineText item l → may_stand state item ≡ true → has_room state item ≡ true → Formed (with_item state item)
+with_line item l state f (inl h) stands room = let P : Item → Type 0 = λ item. Formed (with_item state item) in subst P (sym h.1) (with_skipped state f)
+with_line item l state f (inr h) stands room = with_text item _ state f h.1 stands room
 
-formed : (table : Built) (lines : List (List ℕ)) (start end : Option Script) → Formed start → Leads table start lines end → Formed end
-formed table [] start end f h = subst Formed h f
-formed table (l ∷ ls) start end f h = formed table ls (with_item start h.0) end (with_line table h.0 l start f h.1 h.2 h.3) h.4
+formed : (lines : List (List ℕ)) (start end : Option Script) → Formed start → Leads start lines end → Formed end
+formed [] start end f h = subst Formed h f
+formed (l ∷ ls) start end f h = formed ls (with_item start h.0) end (with_line h.0 l start f h.1 h.2 h.3) h.4
 
-pub spelt_in_form : (table : Built) (lines : List (List ℕ)) (s : Script) → SpellsScript table lines s → InForm s
-spelt_in_form table lines s h = formed table lines None (Some s) tt h
+pub spelt_in_form : (lines : List (List ℕ)) (s : Script) → SpellsScript lines s → InForm s
+spelt_in_form lines s h = formed lines None (Some s) tt h

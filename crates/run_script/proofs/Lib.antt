@@ -9,7 +9,6 @@ pub mod Commanded
 pub mod Said
 pub mod Spelt
 pub mod Formed
-pub mod AllBuilt
 pub mod ReadBack
 pub mod OneThing
 pub mod SoakLemmas

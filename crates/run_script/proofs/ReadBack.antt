@@ -17,9 +17,7 @@ use Rattle.vol_texts.specs.Commands.{then_word, register_text, command_text}
 use Rattle.run_script.specs.Lines.{words_of}
 use Rattle.run_script.specs.Grammar.{IsCommandText, IsLineText, is_skipped}
 use Rattle.run_script.specs.Fixed.{fixed_line, node_text, has_sequence}
-use Rattle.run_script.specs.Table.{is_built}
 use Rattle.run_script.specs.Laws.{ReadsBack}
-use Rattle.run_script.specs.declared.built.Built.{Built}
 use Rattle.run_script.specs.declared.items.Item.TheVariants.{Command}
 use Rattle.run_script.proofs.Pieces.{Lacks, parts-none, parts-at, Lacks-append, number_lacks, passing_lack, part_lacks, name_lacks, limits, same_some}
 use Rattle.run_script.proofs.Said.{item-back}
@@ -239,10 +237,10 @@ spoken_line node rest h =
     let l = limits 1 8 node h in
     ap (λ d. is_skipped (d ++ rest)) (decimal_digit node (omega (arith, l))) ∙ ne_eqb (48 + node) 35 (λ e. omega (arith, e))
 
-pub reads_back_text : (table : Built) (node : ℕ) (c : Cmd) → is_eighth node ≡ true → in_form c ≡ true → has_sequence c ≡ true → is_built table (fixed_line c) ≡ true → ReadsBack table node c
-reads_back_text table node c at form seq on =
+pub reads_back_text : (node : ℕ) (c : Cmd) → is_eighth node ≡ true → in_form c ≡ true → has_sequence c ≡ true → ReadsBack node c
+reads_back_text node c at form seq =
     let w = written c form seq in
-    let text : IsLineText table (Command (record { node = node; cmd = fixed_line c })) (node_text node c) = inr (
+    let text : IsLineText (Command (record { node = node; cmd = fixed_line c })) (node_text node c) = inr (
       spoken_line node (then_word (command_text c)) at,
       record {
         spoken = w.spoken;
@@ -250,10 +248,9 @@ reads_back_text table node c at form seq on =
         node = at;
         command = w.command;
         limits = same_form c form;
-        on = on;
       },
     ) in
     record {
       spelt = text;
-      alone = λ item other. same_some item (Command (record { node = node; cmd = fixed_line c })) (sym (item-back table item (node_text node c) other) ∙ item-back table _ (node_text node c) text);
+      alone = λ item other. same_some item (Command (record { node = node; cmd = fixed_line c })) (sym (item-back item (node_text node c) other) ∙ item-back _ (node_text node c) text);
     }

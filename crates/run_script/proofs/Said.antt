@@ -1,8 +1,8 @@
 -- Lines: what a line says is read from it, and nothing else.
-use Rattle.std.proofs.Common.{◌≡◌, ◌∙◌, ◌≤◌, ◌<◌, ◌^◌, ◌⊎◌, ◌++◌, ◌&&◌, ◌==◌, ℕ, true, false, List, [], ◌∷◌, Option, Some, None, length, drop, get_or, refl, sym, ap, subst, cond, leb, arith, inl, inr, codes}
+use Rattle.std.proofs.Common.{◌≡◌, ◌∙◌, ◌≤◌, ◌<◌, ◌^◌, ◌⊎◌, ◌++◌, ◌==◌, ℕ, true, false, List, [], ◌∷◌, Option, Some, None, length, drop, get_or, refl, sym, ap, subst, cond, leb, arith, inl, inr, codes}
 use Rattle.std.specs.Fmt.{decimal}
 use Rattle.std.specs.Str.{bytes_eq}
-use Rattle.std.proofs.lemmas.Bool.{cases_Bool, and_parts, eqb-true, le-leb, leb-true}
+use Rattle.std.proofs.lemmas.Bool.{cases_Bool, eqb-true, le-leb, leb-true}
 use Rattle.std.proofs.lemmas.Slice.Eq.{bytes_eq-Decides}
 use Rattle.plain_cat.specs.declared.script.KillAt.{KillAt}
 use Rattle.plain_cat.specs.declared.script.KillAt.TheVariants.{Turn, Write}
@@ -10,7 +10,6 @@ use Rattle.plain_cat.specs.declared.script.Kill.{Kill}
 use Rattle.plain_cat.specs.InForm.{is_within, is_eighth, kill_count}
 use Rattle.run_script.specs.Lines.{parts, words_of}
 use Rattle.run_script.specs.Grammar.{IsRunText, AreRunTexts, IsSchedule, kill_words, IsDeath, IsItemText, is_skipped, IsLineText}
-use Rattle.run_script.specs.declared.built.Built.{Built}
 use Rattle.run_script.specs.declared.items.Run.{Run}
 use Rattle.run_script.specs.declared.items.Item.{Item}
 use Rattle.run_script.specs.declared.items.Item.TheVariants.{Skipped, Nodes, Plays, Death, Command}
@@ -130,35 +129,31 @@ moment-sound a b at h =
       ]
     ]
 
-by_moment : (table : Built) (node : ℕ) (at : KillAt) → is_eighth node ≡ true → is_within 1 1000000 (kill_count at) ≡ true → table.kill ≡ true
-    → death_of table (codes "KILL" ∷ decimal node ∷ kill_words at) ≡ Some (record { node = node; at = at })
+by_moment : (node : ℕ) (at : KillAt) → is_eighth node ≡ true → is_within 1 1000000 (kill_count at) ≡ true
+    → death_of (codes "KILL" ∷ decimal node ∷ kill_words at) ≡ Some (record { node = node; at = at })
 unfolding death_of
-by_moment table node (Turn t) n c on =
-    ap (λ b. cond (b && true) (with2 (number_of 10 1 8 (decimal node)) (moment_of (codes "TURN") (decimal t)) (λ node at. record { node = node; at = at })) None) on
-    ∙ ap (λ o. with2 o (moment_of (codes "TURN") (decimal t)) (λ node at. record { node = node; at = at })) (channel-back node n)
+by_moment node (Turn t) n c =
+    ap (λ o. with2 o (moment_of (codes "TURN") (decimal t)) (λ node at. record { node = node; at = at })) (channel-back node n)
     ∙ ap (λ o. with1 o (λ at. record { node = node; at = at })) (moment-back (Turn t) (codes "TURN") (decimal t) refl c)
-by_moment table node (Write t) n c on =
-    ap (λ b. cond (b && true) (with2 (number_of 10 1 8 (decimal node)) (moment_of (codes "WRITE") (decimal t)) (λ node at. record { node = node; at = at })) None) on
-    ∙ ap (λ o. with2 o (moment_of (codes "WRITE") (decimal t)) (λ node at. record { node = node; at = at })) (channel-back node n)
+by_moment node (Write t) n c =
+    ap (λ o. with2 o (moment_of (codes "WRITE") (decimal t)) (λ node at. record { node = node; at = at })) (channel-back node n)
     ∙ ap (λ o. with1 o (λ at. record { node = node; at = at })) (moment-back (Write t) (codes "WRITE") (decimal t) refl c)
 
-death-back : (table : Built) (k : Kill) (ws : List (List ℕ)) → IsDeath table k ws → death_of table ws ≡ Some k
-death-back table k ws h = ap (death_of table) h.whole ∙ by_moment table k.node k.at h.node h.count h.on
+death-back : (k : Kill) (ws : List (List ℕ)) → IsDeath k ws → death_of ws ≡ Some k
+death-back k ws h = ap death_of h.whole ∙ by_moment k.node k.at h.node h.count
 
-death-sound : (table : Built) (ws : List (List ℕ)) (k : Kill) → get_or ws 0 [] ≡ codes "KILL" → death_of table ws ≡ Some k → IsDeath table k ws
+death-sound : (ws : List (List ℕ)) (k : Kill) → get_or ws 0 [] ≡ codes "KILL" → death_of ws ≡ Some k → IsDeath k ws
 unfolding death_of
-death-sound table ws k first h =
-    let c = chosen (table.kill && length ws == 4) _ k h in
-    let t = and_parts table.kill (length ws == 4) c.0 in
+death-sound ws k first h =
+    let c = chosen (length ws == 4) _ k h in
     let m = made2 (number_of 10 1 8 (get_or ws 1 [])) (moment_of (get_or ws 2 []) (get_or ws 3 [])) (λ node at. record { node = node; at = at }) k c.1 in
     let n = channel-sound (get_or ws 1 []) m.a m.is_a in
     let at = moment-sound (get_or ws 2 []) (get_or ws 3 []) m.b m.is_b in
-    let P : Kill → Type 0 = λ k. IsDeath table k ws in
+    let P : Kill → Type 0 = λ k. IsDeath k ws in
     subst P m.made (record {
-      whole = four_of ws (eqb-true (length ws) 4 t.1) ∙ (λ i. first i ∷ n.1 i ∷ at.0 i);
+      whole = four_of ws (eqb-true (length ws) 4 c.0) ∙ (λ i. first i ∷ n.1 i ∷ at.0 i);
       node = n.0;
       count = at.1;
-      on = t.0;
     })
 
 nodes-back : (n : ℕ) → is_eighth n ≡ true → nodes_of (codes "NODES" ∷ decimal n ∷ []) ≡ Some n
@@ -183,48 +178,48 @@ no_word n word h letter = elim (cases_Bool (bytes_eq (decimal n) word)) [
       absurd (omega (arith, f, here))
 ]
 
-pub said-back : (table : Built) (item : Item) (ws : List (List ℕ)) → IsItemText table item ws → said_of table ws ≡ Some item
+pub said-back : (item : Item) (ws : List (List ℕ)) → IsItemText item ws → said_of ws ≡ Some item
 unfolding said_of
-said-back table Skipped ws h = absurd h
-said-back table (Nodes n) ws h = ap (said_of table) h.0 ∙ ap (λ o. with1 o Nodes) (nodes-back n h.1)
-said-back table (Plays rs) ws h = ap (said_of table) h.1 ∙ ap (λ o. with1 o Plays) (sym (ap schedule_of h.1) ∙ schedule-back rs ws h)
-said-back table (Death k) ws h = ap (said_of table) h.whole ∙ ap (λ o. with1 o Death) (sym (ap (death_of table) h.whole) ∙ death-back table k ws h)
-said-back table (Command l) ws h =
+said-back Skipped ws h = absurd h
+said-back (Nodes n) ws h = ap said_of h.0 ∙ ap (λ o. with1 o Nodes) (nodes-back n h.1)
+said-back (Plays rs) ws h = ap said_of h.1 ∙ ap (λ o. with1 o Plays) (sym (ap schedule_of h.1) ∙ schedule-back rs ws h)
+said-back (Death k) ws h = ap said_of h.whole ∙ ap (λ o. with1 o Death) (sym (ap death_of h.whole) ∙ death-back k ws h)
+said-back (Command l) ws h =
     let first : get_or ws 0 [] ≡ decimal l.node = ap (λ ws. get_or ws 0 []) h.whole in
     ap (λ t. cond t (with1 (nodes_of ws) Nodes) (cond (bytes_eq (get_or ws 0 []) (codes "SCHED")) (with1 (schedule_of ws) Plays)
-    (cond (bytes_eq (get_or ws 0 []) (codes "KILL")) (with1 (death_of table ws) Death) (with1 (line_of table ws) Command))))
+    (cond (bytes_eq (get_or ws 0 []) (codes "KILL")) (with1 (death_of ws) Death) (with1 (line_of ws) Command))))
     (ap (λ w. bytes_eq w (codes "NODES")) first ∙ no_word l.node (codes "NODES") h.node (omega arith))
-    ∙ ap (λ t. cond t (with1 (schedule_of ws) Plays) (cond (bytes_eq (get_or ws 0 []) (codes "KILL")) (with1 (death_of table ws) Death) (with1 (line_of table ws) Command)))
+    ∙ ap (λ t. cond t (with1 (schedule_of ws) Plays) (cond (bytes_eq (get_or ws 0 []) (codes "KILL")) (with1 (death_of ws) Death) (with1 (line_of ws) Command)))
     (ap (λ w. bytes_eq w (codes "SCHED")) first ∙ no_word l.node (codes "SCHED") h.node (omega arith))
-    ∙ ap (λ t. cond t (with1 (death_of table ws) Death) (with1 (line_of table ws) Command))
+    ∙ ap (λ t. cond t (with1 (death_of ws) Death) (with1 (line_of ws) Command))
     (ap (λ w. bytes_eq w (codes "KILL")) first ∙ no_word l.node (codes "KILL") h.node (omega arith))
-    ∙ ap (λ o. with1 o Command) (line-back table l ws h)
+    ∙ ap (λ o. with1 o Command) (line-back l ws h)
 
-pub said-sound : (table : Built) (ws : List (List ℕ)) (item : Item) → said_of table ws ≡ Some item → IsItemText table item ws
+pub said-sound : (ws : List (List ℕ)) (item : Item) → said_of ws ≡ Some item → IsItemText item ws
 unfolding said_of
-said-sound table ws item h =
-    let P : Item → Type 0 = λ item. IsItemText table item ws in
+said-sound ws item h =
+    let P : Item → Type 0 = λ item. IsItemText item ws in
     elim (by_word (get_or ws 0 []) (codes "NODES") _ _ item h) [
       | inl nodes ↦ let m = made1 (nodes_of ws) Nodes item nodes.1 in subst P m.made (nodes-sound ws m.a nodes.0 m.is_a)
       | inr rest ↦ elim (by_word (get_or ws 0 []) (codes "SCHED") _ _ item rest) [
         | inl plays ↦ let m = made1 (schedule_of ws) Plays item plays.1 in subst P m.made (schedule-sound ws m.a plays.0 m.is_a)
         | inr rest ↦ elim (by_word (get_or ws 0 []) (codes "KILL") _ _ item rest) [
-          | inl death ↦ let m = made1 (death_of table ws) Death item death.1 in subst P m.made (death-sound table ws m.a death.0 m.is_a)
-          | inr line ↦ let m = made1 (line_of table ws) Command item line in subst P m.made (line-sound table ws m.a m.is_a)
+          | inl death ↦ let m = made1 (death_of ws) Death item death.1 in subst P m.made (death-sound ws m.a death.0 m.is_a)
+          | inr line ↦ let m = made1 (line_of ws) Command item line in subst P m.made (line-sound ws m.a m.is_a)
         ]
       ]
     ]
 
 -- what a line says is read
-pub item-back : (table : Built) (item : Item) (bytes : List ℕ) → IsLineText table item bytes → item_of table bytes ≡ Some item
+pub item-back : (item : Item) (bytes : List ℕ) → IsLineText item bytes → item_of bytes ≡ Some item
 unfolding item_of
-item-back table item bytes (inl h) = ap (λ t. cond t (Some Skipped) (said_of table (words_of bytes))) h.0 ∙ ap (λ i. Some i) (sym h.1)
-item-back table item bytes (inr h) = ap (λ t. cond t (Some Skipped) (said_of table (words_of bytes))) h.0 ∙ said-back table item (words_of bytes) h.1
+item-back item bytes (inl h) = ap (λ t. cond t (Some Skipped) (said_of (words_of bytes))) h.0 ∙ ap (λ i. Some i) (sym h.1)
+item-back item bytes (inr h) = ap (λ t. cond t (Some Skipped) (said_of (words_of bytes))) h.0 ∙ said-back item (words_of bytes) h.1
 
 -- and what is read of it it says
-pub item-sound : (table : Built) (bytes : List ℕ) (item : Item) → item_of table bytes ≡ Some item → IsLineText table item bytes
+pub item-sound : (bytes : List ℕ) (item : Item) → item_of bytes ≡ Some item → IsLineText item bytes
 unfolding item_of
-item-sound table bytes item h = elim (cases_Bool (is_skipped bytes)) [
-  | inl skipped ↦ inl (skipped, sym (same_some Skipped item (sym (ap (λ t. cond t (Some Skipped) (said_of table (words_of bytes))) skipped) ∙ h)))
-  | inr spoken ↦ inr (spoken, said-sound table (words_of bytes) item (sym (ap (λ t. cond t (Some Skipped) (said_of table (words_of bytes))) spoken) ∙ h))
+item-sound bytes item h = elim (cases_Bool (is_skipped bytes)) [
+  | inl skipped ↦ inl (skipped, sym (same_some Skipped item (sym (ap (λ t. cond t (Some Skipped) (said_of (words_of bytes))) skipped) ∙ h)))
+  | inr spoken ↦ inr (spoken, said-sound (words_of bytes) item (sym (ap (λ t. cond t (Some Skipped) (said_of (words_of bytes))) spoken) ∙ h))
 ]

@@ -13,8 +13,6 @@ use Rattle.plain_cat.specs.InForm.{is_within, is_eighth, line_in_form, kill_coun
 use Rattle.vol_texts.specs.Names.{fid_text, uic_text, entry_text, mode_text}
 use Rattle.vol_texts.specs.Commands.{register_text}
 use Rattle.run_script.specs.Lines.{words_of}
-use Rattle.run_script.specs.Table.{is_built}
-use Rattle.run_script.specs.declared.built.Built.{Built}
 use Rattle.run_script.specs.declared.items.Run.{Run}
 use Rattle.run_script.specs.declared.items.Item.{Item}
 use Rattle.run_script.specs.declared.items.Item.TheVariants.{Skipped, Nodes, Plays, Death, Command}
@@ -51,14 +49,13 @@ IsCommandText (line.WriteBlock chan vbn text) words = words ≡ codes "WRITE" �
 IsCommandText (line.QuotaSet owner quota over) words = words ≡ codes "QUOTASET" ∷ uic_text owner ∷ decimal quota ∷ decimal over ∷ []
 IsCommandText (line.QuotaShow owner) words = words ≡ codes "QUOTASHOW" ∷ uic_text owner ∷ []
 
--- a node with its command, within the limits, which the program runs
-pub record IsNodeCommand (table : Built) (l : Line) (words : List (List ℕ)) : Type 0 where
+-- a node with its command, within the limits
+pub record IsNodeCommand (l : Line) (words : List (List ℕ)) : Type 0 where
   pub spoken : List (List ℕ)
   pub whole : words ≡ decimal l.node ∷ spoken
   pub node : is_eighth l.node ≡ true
   pub command : IsCommandText l.cmd spoken
   pub limits : line_in_form l.cmd ≡ true
-  pub on : is_built table l.cmd ≡ true
 
 -- a word of a schedule is a node, which has one play, or a node with the number of its plays
 pub record IsRunText (r : Run) (word : List ℕ) : Type 0 where
@@ -81,20 +78,19 @@ abbrev pub kill_words : KillAt → List (List ℕ)
 kill_words (Turn t) = codes "TURN" ∷ decimal t ∷ []
 kill_words (Write k) = codes "WRITE" ∷ decimal k ∷ []
 
--- words are the death of a node, where the program runs those
-pub record IsDeath (table : Built) (k : Kill) (words : List (List ℕ)) : Type 0 where
+-- words are the death of a node
+pub record IsDeath (k : Kill) (words : List (List ℕ)) : Type 0 where
   pub whole : words ≡ codes "KILL" ∷ decimal k.node ∷ kill_words k.at
   pub node : is_eighth k.node ≡ true
   pub count : is_within 1 1000000 (kill_count k.at) ≡ true
-  pub on : table.kill ≡ true
 
 -- what the words of a line say
-abbrev pub IsItemText : Built → Item → List (List ℕ) → Type 0
-IsItemText table Skipped words = ⊥
-IsItemText table (Nodes n) words = (words ≡ codes "NODES" ∷ decimal n ∷ []) × (is_eighth n ≡ true)
-IsItemText table (Plays rs) words = IsSchedule rs words
-IsItemText table (Death k) words = IsDeath table k words
-IsItemText table (Command l) words = IsNodeCommand table l words
+abbrev pub IsItemText : Item → List (List ℕ) → Type 0
+IsItemText Skipped words = ⊥
+IsItemText (Nodes n) words = (words ≡ codes "NODES" ∷ decimal n ∷ []) × (is_eighth n ≡ true)
+IsItemText (Plays rs) words = IsSchedule rs words
+IsItemText (Death k) words = IsDeath k words
+IsItemText (Command l) words = IsNodeCommand l words
 
 -- an empty line, or one that begins with a number sign
 abbrev pub is_skipped : List ℕ → Bool
@@ -102,5 +98,5 @@ is_skipped [] = true
 is_skipped (b ∷ bs) = b == 35
 
 -- what a line says: nothing where it is skipped, and else what its words say
-abbrev pub IsLineText : Built → Item → List ℕ → Type 0
-IsLineText table item bytes = ((is_skipped bytes ≡ true) × (item ≡ Skipped)) ⊎ ((is_skipped bytes ≡ false) × IsItemText table item (words_of bytes))
+abbrev pub IsLineText : Item → List ℕ → Type 0
+IsLineText item bytes = ((is_skipped bytes ≡ true) × (item ≡ Skipped)) ⊎ ((is_skipped bytes ≡ false) × IsItemText item (words_of bytes))

@@ -1,6 +1,5 @@
 pub mod Laws
 pub mod Lines
-pub mod Table
 pub mod Grammar
 pub mod Fixed
 pub mod Spelling

@@ -4,7 +4,6 @@ use Rattle.std.specs.List.{list_all}
 use Rattle.plain_cat.specs.declared.script.Kill.{Kill}
 use Rattle.plain_cat.specs.declared.script.Script.{Script}
 use Rattle.run_script.specs.Grammar.{IsLineText}
-use Rattle.run_script.specs.declared.built.Built.{Built}
 use Rattle.run_script.specs.declared.items.Run.{Run}
 use Rattle.run_script.specs.declared.items.Item.{Item}
 use Rattle.run_script.specs.declared.items.Item.TheVariants.{Skipped, Nodes, Plays, Death, Command}
@@ -46,40 +45,40 @@ with_item (Some s) (Command l) = Some (record s { lines = s.lines ++ l ∷ [] })
 with_item state item = state
 
 -- these lines, behind lines that spell the one, spell the other with them: each may stand where it stands, and has room
-abbrev pub Leads : Built → Option Script → List (List ℕ) → Option Script → Type 0
-Leads table before [] after = before ≡ after
-Leads table before (l ∷ ls) after =
-    (item : Item) × IsLineText table item l × (may_stand before item ≡ true) × (has_room before item ≡ true) × Leads table (with_item before item) ls after
+abbrev pub Leads : Option Script → List (List ℕ) → Option Script → Type 0
+Leads before [] after = before ≡ after
+Leads before (l ∷ ls) after =
+    (item : Item) × IsLineText item l × (may_stand before item ≡ true) × (has_room before item ≡ true) × Leads (with_item before item) ls after
 
 -- lines spell a script
-abbrev pub SpellsScript : Built → List (List ℕ) → Script → Type 0
-SpellsScript table lines s = Leads table None lines (Some s)
+abbrev pub SpellsScript : List (List ℕ) → Script → Type 0
+SpellsScript lines s = Leads None lines (Some s)
 
 -- behind lines that spell this, the next one says nothing that may stand there, or is missing where none told the nodes
-abbrev pub IsBadNext : Built → Option Script → List (List ℕ) → Type 0
-IsBadNext table state [] = state ≡ None
-IsBadNext table state (l ∷ ls) = (item : Item) → IsLineText table item l → may_stand state item ≡ true → ⊥
+abbrev pub IsBadNext : Option Script → List (List ℕ) → Type 0
+IsBadNext state [] = state ≡ None
+IsBadNext state (l ∷ ls) = (item : Item) → IsLineText item l → may_stand state item ≡ true → ⊥
 
 -- behind lines that spell this, the next one may stand there, and is one command or some plays too many
-abbrev pub IsOverNext : Built → Option Script → List (List ℕ) → Type 0
-IsOverNext table state [] = ⊥
-IsOverNext table state (l ∷ ls) = (item : Item) × IsLineText table item l × (may_stand state item ≡ true) × (has_room state item ≡ false)
+abbrev pub IsOverNext : Option Script → List (List ℕ) → Type 0
+IsOverNext state [] = ⊥
+IsOverNext state (l ∷ ls) = (item : Item) × IsLineText item l × (may_stand state item ≡ true) × (has_room state item ≡ false)
 
 -- The line with this number, counted from 1, is the first bad one. Where no line tells the nodes, it is the one behind the last.
-pub record IsBadLine (table : Built) (lines : List (List ℕ)) (n : ℕ) : Type 0 where
+pub record IsBadLine (lines : List (List ℕ)) (n : ℕ) : Type 0 where
   pub front : List (List ℕ)
   pub rest : List (List ℕ)
   pub whole : lines ≡ front ++ rest
   pub state : Option Script
-  pub led : Leads table None front state
-  pub bad : IsBadNext table state rest
+  pub led : Leads None front state
+  pub bad : IsBadNext state rest
   pub number : n ≡ length front + 1
 
 -- there is a line that has no room, and all lines in front of it are good
-pub record IsTooMany (table : Built) (lines : List (List ℕ)) : Type 0 where
+pub record IsTooMany (lines : List (List ℕ)) : Type 0 where
   pub front : List (List ℕ)
   pub rest : List (List ℕ)
   pub whole : lines ≡ front ++ rest
   pub state : Option Script
-  pub led : Leads table None front state
-  pub over : IsOverNext table state rest
+  pub led : Leads None front state
+  pub over : IsOverNext state rest

@@ -19,16 +19,14 @@ use Rattle.plain_cat.specs.declared.script.Line.{Line}
 use Rattle.plain_cat.specs.declared.script.Script.{Script}
 use Rattle.plain_cat.specs.InForm.{is_within, is_dir_name, is_text}
 use Rattle.run_script.specs.Lines.{parts, words_of}
-use Rattle.run_script.specs.Table.{is_on}
 use Rattle.run_script.specs.Grammar.{main_dir, lost_dir, is_skipped}
 use Rattle.run_script.specs.Spelling.{may_stand, has_room, with_item}
 use Rattle.run_script.specs.declared.fault.LineFault.{LineFault}
 use Rattle.run_script.specs.declared.fault.LineFault.TheVariants as line_fault
 use Rattle.run_script.specs.declared.fault.ScriptFault.{ScriptFault}
 use Rattle.run_script.specs.declared.fault.ScriptFault.TheVariants as script_fault
-use Rattle.run_script.specs.declared.built.Built.{Built}
-use Rattle.run_script.specs.declared.built.Kind.{Kind}
-use Rattle.run_script.specs.declared.built.Kind.TheVariants as kind
+use Rattle.run_script.specs.declared.kinds.Kind.{Kind}
+use Rattle.run_script.specs.declared.kinds.Kind.TheVariants as kind
 use Rattle.run_script.specs.declared.operands.EntryText.{EntryText}
 use Rattle.run_script.specs.declared.items.Run.{Run}
 use Rattle.run_script.specs.declared.items.Item.{Item}
@@ -195,13 +193,13 @@ named_kind w = if bytes_eq w (codes "LOOKUP") then Some kind.Lookup else (if byt
     if bytes_eq w (codes "TRUNC") then Some kind.Trunc else (if bytes_eq w (codes "DELETE") then Some kind.Delete else (
     if bytes_eq w (codes "RENAME") then Some kind.Rename else (open_kind w)))))))))
 
--- the command of a node, where its kind is on and has as many operands
-abbrev pub node_command : Built → List (List ℕ) → Option Kind → Option Line
-node_command table ws None = None
-node_command table ws (Some k) = if is_on table k && length ws == arity k + 2 then with2 (channel_of (get_or ws 0 [])) (command_of k ws) (λ node cmd. record { node = node; cmd = cmd }) else None
+-- the command of a node, where its kind has as many operands
+abbrev pub node_command : List (List ℕ) → Option Kind → Option Line
+node_command ws None = None
+node_command ws (Some k) = if length ws == arity k + 2 then with2 (channel_of (get_or ws 0 [])) (command_of k ws) (λ node cmd. record { node = node; cmd = cmd }) else None
 
-unfoldable pub line_of : Built → List (List ℕ) → Option Line
-line_of table ws = node_command table ws (named_kind (get_or ws 1 []))
+unfoldable pub line_of : List (List ℕ) → Option Line
+line_of ws = node_command ws (named_kind (get_or ws 1 []))
 
 -- a word of a schedule
 unfoldable pub run_of : List ℕ → Option Run
@@ -218,8 +216,8 @@ unfoldable pub moment_of : List ℕ → List ℕ → Option KillAt
 moment_of word digits = if bytes_eq word (codes "TURN") then with1 (number_of 10 1 1000000 digits) Turn else
     (if bytes_eq word (codes "WRITE") then with1 (number_of 10 1 1000000 digits) Write else None)
 
-unfoldable pub death_of : Built → List (List ℕ) → Option Kill
-death_of table ws = if table.kill && length ws == 4
+unfoldable pub death_of : List (List ℕ) → Option Kill
+death_of ws = if length ws == 4
     then with2 (number_of 10 1 8 (get_or ws 1 [])) (moment_of (get_or ws 2 []) (get_or ws 3 [])) (λ node at. record { node = node; at = at }) else None
 
 unfoldable pub nodes_of : List (List ℕ) → Option ℕ
@@ -229,14 +227,14 @@ unfoldable pub schedule_of : List (List ℕ) → Option (List Run)
 schedule_of ws = if leb 2 (length ws) then runs_of (drop 1 ws) else None
 
 -- what words say
-unfoldable pub said_of : Built → List (List ℕ) → Option Item
-said_of table ws = if bytes_eq (get_or ws 0 []) (codes "NODES") then with1 (nodes_of ws) Nodes else
+unfoldable pub said_of : List (List ℕ) → Option Item
+said_of ws = if bytes_eq (get_or ws 0 []) (codes "NODES") then with1 (nodes_of ws) Nodes else
     (if bytes_eq (get_or ws 0 []) (codes "SCHED") then with1 (schedule_of ws) Plays else
-    (if bytes_eq (get_or ws 0 []) (codes "KILL") then with1 (death_of table ws) Death else with1 (line_of table ws) Command))
+    (if bytes_eq (get_or ws 0 []) (codes "KILL") then with1 (death_of ws) Death else with1 (line_of ws) Command))
 
 -- what a line says
-unfoldable pub item_of : Built → List ℕ → Option Item
-item_of table bytes = if is_skipped bytes then Some Skipped else said_of table (words_of bytes)
+unfoldable pub item_of : List ℕ → Option Item
+item_of bytes = if is_skipped bytes then Some Skipped else said_of (words_of bytes)
 
 -- what lines spell with one more, or why not
 abbrev pub next_of : Option Script → Item → Result (Option Script) LineFault
@@ -246,8 +244,8 @@ abbrev pub taken : Option Script → Option Item → Result (Option Script) Line
 taken state None = Err line_fault.Bad
 taken state (Some item) = next_of state item
 
-unfoldable pub step_of : Built → Option Script → List ℕ → Result (Option Script) LineFault
-step_of table state bytes = taken state (item_of table bytes)
+unfoldable pub step_of : Option Script → List ℕ → Result (Option Script) LineFault
+step_of state bytes = taken state (item_of bytes)
 
 -- a call answers this, unless memory ran out
 abbrev pub Answers : {A : Type 0} → Result A LineFault → Result A LineFault → Type 0
@@ -268,9 +266,9 @@ read_on (Err line_fault.TooMany) number rest = Err script_fault.TooMany
 read_on (Err line_fault.NoMemory) number rest = Err script_fault.NoMemory
 
 -- what lines spell behind lines that spell this, or the first fault; the first of them has this number
-abbrev pub read_from : Built → Option Script → ℕ → List (List ℕ) → Result Script ScriptFault
-read_from table state number [] = at_end state number
-read_from table state number (l ∷ ls) = read_on (step_of table state l) number (λ next. read_from table next (number + 1) ls)
+abbrev pub read_from : Option Script → ℕ → List (List ℕ) → Result Script ScriptFault
+read_from state number [] = at_end state number
+read_from state number (l ∷ ls) = read_on (step_of state l) number (λ next. read_from next (number + 1) ls)
 
 -- a script is read as this says, unless memory ran out
 abbrev pub Reads : Result Script ScriptFault → Result Script ScriptFault → Type 0

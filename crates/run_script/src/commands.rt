@@ -2,9 +2,8 @@ ghost use Rattle.std.specs.Prelude.{◌≡◌, ◌<◌};
 ghost use Rattle.run_script.specs.Lines.{words_of};
 ghost use Rattle.run_script.specs.Steps.{Gives, command_of, line_of, operand};
 
-use crate::built::{Built, Kind};
 use crate::fault::LineFault;
-use crate::kinds::{arity, named_kind};
+use crate::kinds::{Kind, arity, named_kind};
 use crate::numbers::{read_channel, read_count, read_number, read_quota, read_register};
 use crate::operands::{read_dir_name, read_entry, read_mode, read_owner, read_ref, read_text};
 use crate::parts::{count_parts, part};
@@ -210,15 +209,15 @@ fn read_command(alloc: Global, kind: Kind, line: &[u8]) -> Result<LineCmd, LineF
     }
 }
 
-/// Reads a node with its command, where the program runs commands of this kind.
+/// Reads a node with its command, of the kind that its second word names.
 #[tactic(auto, unfolding(crate::specs::Steps::line_of))]
-pub fn read_node_command(alloc: Global, table: &Built, line: &[u8]) -> Result<Line, LineFault>
-    ensures { Gives (line_of table.now (words_of line.now)) result }
+pub fn read_node_command(alloc: Global, line: &[u8]) -> Result<Line, LineFault>
+    ensures { Gives (line_of (words_of line.now)) result }
 {
     let Some(kind) = named_kind(part(line, b' ', 1)) else {
         return Err(LineFault::Bad);
     };
-    if !table.is_on(kind) || count_parts(line, b' ') != arity(kind) + 2 {
+    if count_parts(line, b' ') != arity(kind) + 2 {
         return Err(LineFault::Bad);
     }
     let node = read_channel(part(line, b' ', 0))?;

@@ -2,7 +2,6 @@ ghost use Rattle.std.specs.Prelude.{◌≡◌};
 ghost use Rattle.run_script.specs.Lines.{words_of};
 ghost use Rattle.run_script.specs.Steps.{Gives, moment_of, death_of};
 
-use crate::built::Built;
 use crate::fault::LineFault;
 use crate::numbers::{read_channel, read_number};
 use crate::parts::{count_parts, part};
@@ -22,12 +21,12 @@ fn read_moment(word: &[u8], digits: &[u8]) -> Result<KillAt, LineFault>
     Err(LineFault::Bad)
 }
 
-/// Reads the death of a node, where the table has those.
+/// Reads the death of a node.
 #[tactic(auto, unfolding(crate::specs::Steps::death_of))]
-pub fn read_death(table: &Built, line: &[u8]) -> Result<Kill, LineFault>
-    ensures { Gives (death_of table.now (words_of line.now)) result }
+pub fn read_death(line: &[u8]) -> Result<Kill, LineFault>
+    ensures { Gives (death_of (words_of line.now)) result }
 {
-    if !table.kill || count_parts(line, b' ') != 4 {
+    if count_parts(line, b' ') != 4 {
         return Err(LineFault::Bad);
     }
     let node = read_channel(part(line, b' ', 1))?;

@@ -3,7 +3,6 @@ ghost use Rattle.run_script.specs.Grammar.{is_skipped};
 ghost use Rattle.run_script.specs.Lines.{words_of};
 ghost use Rattle.run_script.specs.Steps.{Gives, nodes_of, said_of, item_of};
 
-use crate::built::Built;
 use crate::commands::read_node_command;
 use crate::deaths::read_death;
 use crate::fault::LineFault;
@@ -105,8 +104,8 @@ fn read_nodes(line: &[u8]) -> Result<u8, LineFault>
 
 // Reads what the words of a line say.
 #[tactic(auto, unfolding(crate::specs::Steps::said_of))]
-fn read_words(alloc: Global, table: &Built, line: &[u8]) -> Result<Item, LineFault>
-    ensures { Gives (said_of table.now (words_of line.now)) result }
+fn read_words(alloc: Global, line: &[u8]) -> Result<Item, LineFault>
+    ensures { Gives (said_of (words_of line.now)) result }
 {
     let first = part(line, b' ', 0);
     if first == b"NODES".as_slice() {
@@ -116,18 +115,18 @@ fn read_words(alloc: Global, table: &Built, line: &[u8]) -> Result<Item, LineFau
         return Ok(Item::Plays(read_schedule(alloc, line)?));
     }
     if first == b"KILL".as_slice() {
-        return Ok(Item::Death(read_death(table, line)?));
+        return Ok(Item::Death(read_death(line)?));
     }
-    Ok(Item::Command(read_node_command(alloc, table, line)?))
+    Ok(Item::Command(read_node_command(alloc, line)?))
 }
 
 /// Reads a line.
 #[tactic(auto, unfolding(crate::specs::Steps::item_of))]
-pub fn read_item(alloc: Global, table: &Built, line: &[u8]) -> Result<Item, LineFault>
-    ensures { Gives (item_of table.now line.now) result }
+pub fn read_item(alloc: Global, line: &[u8]) -> Result<Item, LineFault>
+    ensures { Gives (item_of line.now) result }
 {
     if is_skipped(line) {
         return Ok(Item::Skipped);
     }
-    read_words(alloc, table, line)
+    read_words(alloc, line)
 }

@@ -1,7 +1,25 @@
 ghost use Rattle.std.specs.Prelude.{◌≡◌};
 ghost use Rattle.run_script.specs.Steps.{open_kind, named_kind, arity};
 
-use crate::built::Kind;
+/// The kinds of commands.
+#[derive(Clone, Copy, Debug, PartialEq)]
+pub enum Kind {
+    Lookup,
+    List,
+    Stat,
+    Create,
+    MkDir,
+    Extend,
+    Trunc,
+    Delete,
+    Rename,
+    OpenFile,
+    CloseFile,
+    ReadBlock,
+    WriteBlock,
+    QuotaSet,
+    QuotaShow,
+}
 
 /// The kind of command that a word names, of those on open files and quotas.
 #[tactic(auto, unfolding(crate::specs::Steps::open_kind))]

@@ -1,12 +1,10 @@
 //! Scripts: what every node does, in which order the first turns come, and which nodes die.
 //!
 //! [`read_script`] reads a script, or names the first line that is none. The grammar is `specs/Grammar.antt`, over
-//! lines of bytes; `specs/Spelling.antt` says what lines spell together, and which line is the first bad one. What a
-//! program does not run yet is a bad line for it: [`BUILT`] says what it runs. [`soak`] makes a script of its own: it is
-//! drawn from a number.
+//! lines of bytes; `specs/Spelling.antt` says what lines spell together, and which line is the first bad one. [`soak`]
+//! makes a script of its own: it is drawn from a number.
 #![tactic(auto)]
 
-mod built;
 mod commands;
 mod deaths;
 mod fault;
@@ -24,8 +22,7 @@ mod states;
 mod tests;
 mod theorems;
 
-pub use built::{BUILT, Built, Kind};
 pub use fault::ScriptFault;
-pub use reading::{read_script, read_with};
+pub use reading::read_script;
 pub use soaks::soak;
 pub use theorems::{a_text_says_one_thing, command_texts_read_back};

@@ -1,12 +1,10 @@
 ghost use Rattle.std.specs.Prelude.{◌≡◌, ◌⊎◌, ℕ, None, Ok, Err, IfOk};
 ghost use Rattle.plain_cat.specs.declared.script.Script.{Script};
 ghost use Rattle.run_script.specs.Lines.{lines_of};
-ghost use Rattle.run_script.specs.Table.{AreBuilt, run_so_far};
 ghost use Rattle.run_script.specs.Spelling.{SpellsScript, IsBadLine, IsTooMany};
 ghost use Rattle.run_script.specs.Steps.{Reads, read_from};
 ghost use Rattle.plain_cat.specs.InForm.{InForm};
 
-use crate::built::{BUILT, Built};
 use crate::fault::{LineFault, ScriptFault};
 use crate::lines::split_line;
 use crate::states::take_line;
@@ -14,14 +12,14 @@ use plain_cat::Script;
 use std::alloc::Global;
 
 // Reads a script line by line.
-fn read_lines(alloc: Global, table: &Built, bytes: &[u8]) -> Result<Script, ScriptFault>
-    ensures { Reads (read_from table.now None 1 (lines_of bytes.now)) result }
+fn read_lines(alloc: Global, bytes: &[u8]) -> Result<Script, ScriptFault>
+    ensures { Reads (read_from None 1 (lines_of bytes.now)) result }
 {
     let mut state = None;
     let mut number = 1u32;
     let mut rest = bytes;
     while let Some(split) = split_line(rest) {
-        match take_line(alloc, table, state, split.line) {
+        match take_line(alloc, state, split.line) {
             Ok(next) => state = next,
             Err(LineFault::Bad) => return Err(ScriptFault::BadLine(number)),
             Err(LineFault::TooMany) => return Err(ScriptFault::TooMany),
@@ -36,35 +34,20 @@ fn read_lines(alloc: Global, table: &Built, bytes: &[u8]) -> Result<Script, Scri
     state.ok_or(ScriptFault::BadLine(number))
 }
 
-/// Reads a script for a program that runs what the table says.
+/// Reads a script.
 ///
 /// The answer is the script that the lines spell, all of it, which is in form, or the first fault in the order of the
 /// lines: [`ScriptFault::BadLine`] with the number of the first line that says nothing which may stand there, or
 /// [`ScriptFault::TooMany`] where a line that is good makes too many commands or plays. Memory aside each comes exactly
 /// there.
-pub fn read_with(alloc: Global, table: &Built, bytes: &[u8]) -> Result<Script, ScriptFault>
-    ensures spelt { IfOk result (SpellsScript table.now (lines_of bytes.now)) }
-    ensures form { IfOk result InForm }
-    ensures built { IfOk result (λ s. AreBuilt table.now s.lines) }
-    ensures bad { (n : ℕ) → result ≡ Err (ScriptFault.BadLine n) → IsBadLine table.now (lines_of bytes.now) n }
-    ensures over { result ≡ Err ScriptFault.TooMany → IsTooMany table.now (lines_of bytes.now) }
-    ensures each_script { (s : Script) → SpellsScript table.now (lines_of bytes.now) s → (result ≡ Ok s) ⊎ (result ≡ Err ScriptFault.NoMemory) }
-    ensures each_bad { (n : ℕ) → IsBadLine table.now (lines_of bytes.now) n → (result ≡ Err (ScriptFault.BadLine n)) ⊎ (result ≡ Err ScriptFault.NoMemory) }
-    ensures each_over { IsTooMany table.now (lines_of bytes.now) → (result ≡ Err ScriptFault.TooMany) ⊎ (result ≡ Err ScriptFault.NoMemory) }
-{
-    read_lines(alloc, table, bytes)
-}
-
-/// Reads a script for the program as it stands: [`read_with`] of what it runs, [`BUILT`].
 pub fn read_script(alloc: Global, bytes: &[u8]) -> Result<Script, ScriptFault>
-    ensures spelt { IfOk result (SpellsScript run_so_far (lines_of bytes.now)) }
+    ensures spelt { IfOk result (SpellsScript (lines_of bytes.now)) }
     ensures form { IfOk result InForm }
-    ensures built { IfOk result (λ s. AreBuilt run_so_far s.lines) }
-    ensures bad { (n : ℕ) → result ≡ Err (ScriptFault.BadLine n) → IsBadLine run_so_far (lines_of bytes.now) n }
-    ensures over { result ≡ Err ScriptFault.TooMany → IsTooMany run_so_far (lines_of bytes.now) }
-    ensures each_script { (s : Script) → SpellsScript run_so_far (lines_of bytes.now) s → (result ≡ Ok s) ⊎ (result ≡ Err ScriptFault.NoMemory) }
-    ensures each_bad { (n : ℕ) → IsBadLine run_so_far (lines_of bytes.now) n → (result ≡ Err (ScriptFault.BadLine n)) ⊎ (result ≡ Err ScriptFault.NoMemory) }
-    ensures each_over { IsTooMany run_so_far (lines_of bytes.now) → (result ≡ Err ScriptFault.TooMany) ⊎ (result ≡ Err ScriptFault.NoMemory) }
+    ensures bad { (n : ℕ) → result ≡ Err (ScriptFault.BadLine n) → IsBadLine (lines_of bytes.now) n }
+    ensures over { result ≡ Err ScriptFault.TooMany → IsTooMany (lines_of bytes.now) }
+    ensures each_script { (s : Script) → SpellsScript (lines_of bytes.now) s → (result ≡ Ok s) ⊎ (result ≡ Err ScriptFault.NoMemory) }
+    ensures each_bad { (n : ℕ) → IsBadLine (lines_of bytes.now) n → (result ≡ Err (ScriptFault.BadLine n)) ⊎ (result ≡ Err ScriptFault.NoMemory) }
+    ensures each_over { IsTooMany (lines_of bytes.now) → (result ≡ Err ScriptFault.TooMany) ⊎ (result ≡ Err ScriptFault.NoMemory) }
 {
-    read_with(alloc, &BUILT, bytes)
+    read_lines(alloc, bytes)
 }

@@ -4,7 +4,6 @@ ghost use Rattle.run_script.specs.declared.items.Run.{Run};
 ghost use Rattle.run_script.specs.Spelling.{plays_of, is_killed};
 ghost use Rattle.run_script.specs.Steps.{Answers, next_of, step_of, with_some};
 
-use crate::built::Built;
 use crate::fault::LineFault;
 use crate::items::{Item, Run, Runs, read_item};
 use plain_cat::{Kill, Kills, Line, Lines, NoMemory, Plays, Script};
@@ -142,13 +141,12 @@ fn with_first(alloc: Global, item: Item) -> Result<Option<Script>, LineFault>
 #[tactic(auto, unfolding(crate::specs::Steps::step_of))]
 pub fn take_line(
     alloc: Global,
-    table: &Built,
     state: Option<Script>,
     line: &[u8],
 ) -> Result<Option<Script>, LineFault>
-    ensures { Answers (step_of table.now state line.now) result }
+    ensures { Answers (step_of state line.now) result }
 {
-    let item = read_item(alloc, table, line)?;
+    let item = read_item(alloc, line)?;
     match state {
         None => with_first(alloc, item),
         Some(script) => Ok(Some(with_later(script, item)?)),

@@ -3,29 +3,9 @@ use plain_cat::{Fid, FileRef, Kill, KillAt, LineCmd, Mode, NoMemory, Uic};
 use std::alloc::Global;
 use std::test::Fail;
 
-// A program that runs everything.
-const ALL: Built = Built {
-    lookup: true,
-    list: true,
-    stat: true,
-    create: true,
-    mkdir: true,
-    extend: true,
-    trunc: true,
-    delete: true,
-    rename: true,
-    open_file: true,
-    close_file: true,
-    read_block: true,
-    write_block: true,
-    quota_set: true,
-    quota_show: true,
-    kill: true,
-};
-
-// The fault of a script for a program that runs everything.
+// The fault of a script.
 fn fault(alloc: Global, text: &[u8]) -> Option<ScriptFault> {
-    match read_with(alloc, &ALL, text) {
+    match read_script(alloc, text) {
         Ok(_) => None,
         Err(fault) => Some(fault),
     }
@@ -138,7 +118,7 @@ fn keeps_each_limit(rt: HostRuntime) -> Result<(), Fail> {
 fn reads_what_lines_say(rt: HostRuntime) -> Result<(), Fail> {
     let text =
         b"# two nodes\n\nNODES 2\n1 CREATE R3 LOST A.DAT;7 12 [1,10]\nKILL 2 TURN 9\nSCHED 1*3 2\n2 OPEN 4 (13,2,0) PW\nSCHED 1";
-    let script = read_with(rt.alloc(), &ALL, text)?;
+    let script = read_script(rt.alloc(), text)?;
     assert_eq!(rt; script.nodes, 2);
     assert!(rt; script.plays.items() == [1, 1, 1, 2, 1].as_slice());
     let kill = Kill {
@@ -160,40 +140,6 @@ fn reads_what_lines_say(rt: HostRuntime) -> Result<(), Fail> {
     assert!(rt;
         matches!(&second.cmd, LineCmd::OpenFile { chan: 4, file: named, mode: Mode::PW } if *named == file)
     );
-    Ok(())
-}
-
-#[test]
-fn reads_all_that_is_on(rt: HostRuntime) -> Result<(), Fail> {
-    let lines = [
-        "1 LOOKUP R1 MFD A.B;1",
-        "1 LIST MFD",
-        "1 STAT R1",
-        "1 CREATE R1 MFD A.B;1 1 [1,4]",
-        "1 MKDIR R1 MFD A [1,4]",
-        "1 EXTEND R1 1",
-        "1 TRUNC R1 1",
-        "1 DELETE MFD A.B;1",
-        "1 RENAME MFD A.B;1 C.D;1",
-        "1 QUOTASET [1,4] 1 1",
-        "1 QUOTASHOW [1,4]",
-        "1 OPEN 1 R1 CR",
-        "1 CLOSE 1",
-        "1 READ 1 1",
-        "1 WRITE 1 1 A",
-        "KILL 1 TURN 1",
-    ];
-    let mut text = Vec::from_slice(rt.alloc(), b"NODES 1\n")?;
-    for (i, line) in lines.iter().enumerate() {
-        let mut alone = Vec::from_slice(rt.alloc(), b"NODES 1\n")?;
-        alone.extend_from_slice(line.as_bytes())?;
-        let taken = read_script(rt.alloc(), alone.as_slice()).is_ok();
-        assert_eq!(rt; taken, i < 15, "{line}");
-        text.extend_from_slice(line.as_bytes())?;
-        text.push(b'\n')?;
-    }
-    let script = read_with(rt.alloc(), &ALL, text.as_slice())?;
-    assert_eq!(rt; script.lines.items().len(), 15);
     Ok(())
 }
 

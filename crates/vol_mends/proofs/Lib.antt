@@ -3,3 +3,5 @@ pub mod Tests
 pub mod Telling
 pub mod WeakSteps
 pub mod SoundMends
+pub mod Singles
+pub mod AcceptedSteps

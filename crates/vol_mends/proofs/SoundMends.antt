@@ -26,11 +26,11 @@ use Rattle.vol_mends.specs.Weak.{shut, CanMend}
 use Rattle.vol_mends.specs.Mends.{SpeltMends, SoundCanMend}
 use Rattle.vol_mends.proofs.WeakSteps.{spelt_is_weak}
 
-same_entry : (n : ℕ) (e : DirEnt) → is_entry_of_system n e ≡ is_system_entry n e
+pub same_entry : (n : ℕ) (e : DirEnt) → is_entry_of_system n e ≡ is_system_entry n e
 unfolding is_entry_of_system is_system_entry
 same_entry n e = refl
 
-any_same : (n : ℕ) (es : List DirEnt) → list_any (is_entry_of_system n) es ≡ list_any (is_system_entry n) es
+pub any_same : (n : ℕ) (es : List DirEnt) → list_any (is_entry_of_system n) es ≡ list_any (is_system_entry n) es
 any_same n [] = refl
 any_same n (e ∷ es) = ap (λ b. b || list_any (is_entry_of_system n) es) (same_entry n e) ∙ ap (λ b. is_system_entry n e || b) (any_same n es)
 

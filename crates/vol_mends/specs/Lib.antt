@@ -1,2 +1,3 @@
 pub mod Weak
 pub mod Mends
+pub mod Accepted

@@ -6,7 +6,7 @@ use Rattle.clus_top.proofs.Reported.{stop_of_mounted, mount_stop, if_err}
 use Rattle.clus_top.proofs.run.run_mounted.Goals as goal
 
 pub mount-requires-clause-taken : goal.mount-requires-clause-taken
-mount-requires-clause-taken g c = only_built c.args.script.now c.requires.form c.requires.built
+mount-requires-clause-taken g c = only_built c.args.script.now c.requires.form
 
 pub returns-in-Ok-clause-end : goal.returns-in-Ok-clause-end
 returns-in-Ok-clause-end g c =

@@ -1,8 +1,7 @@
-use Rattle.run_script.specs.Table.{run_so_far}
 use Rattle.run_script.specs.Lines.{lines_of}
 use Rattle.clus_top.proofs.OneVerdict.{one_verdict}
 use Rattle.clus_top.proofs.theorems.one_status_is_due.Goals as goal
 
 pub returns : goal.returns
 returns c wanted bytes size bs fs found =
-    one_verdict wanted bytes size bs fs (c.a_text_says_one_thing.ensures run_so_far (lines_of bytes)) (c.findings_are_one_list.ensures bs) found
+    one_verdict wanted bytes size bs fs (c.a_text_says_one_thing.ensures (lines_of bytes)) (c.findings_are_one_list.ensures bs) found

@@ -1,7 +1,8 @@
-use Rattle.std.proofs.Common.{refl, ap, ◌∙◌, ◌++◌, ◌∷◌, []}
+use Rattle.std.proofs.lemmas.List.{map-append}
+use Rattle.std.proofs.Common.{map, refl, ap, ◌∙◌, ◌++◌, ◌∷◌, []}
 use Rattle.plain_cat.specs.declared.history.Entry.TheVariants.{Done}
 use Rattle.core_state.specs.declared.space.SpaceRun.{SpaceRun}
-use Rattle.core_state.specs.Worlds.{state_of, plain_of}
+use Rattle.core_state.specs.Worlds.{shown, state_of, plain_of}
 use Rattle.core_state.specs.Events.{given_back}
 use Rattle.core_state.proofs.Nodes.{told_at}
 use Rattle.core_state.specs.Channels.{closed_off}
@@ -41,6 +42,6 @@ close_off-requires g c =
 pub returns-clause-world : goal.returns-clause-world
 returns-clause-world g c x p cmd plan = answered_so (state_of g.O.Operation.cmd_is) c.args.core.now.nodes.items (plain_of g.O.Operation.cmd_is c.args.core.now) c.args.node c.index_mut.result.now c.end-cmd.new.node
     c.requires.node.from c.requires.node.to c.index_mut.ensures.value refl x p cmd plan c.end-cmd.result.cmd c.end-cmd.result.plan c.end-cmd.result.tried c.end-cmd.ensures.cmd c.end-cmd.ensures.plan c.end-cmd.ensures.tried c.end-cmd.ensures.state
-    c.close_off.new.locks c.append.new.self.items
+    c.close_off.new.locks (map shown c.append.new.self.items)
     (c.close_off.ensures ∙ ap (closed_off c.args.node c.end-cmd.result.had c.end-cmd.result.cmd c.reply_by.result.now) c.give_back.ensures ∙ (λ i. closed_off c.args.node (c.end-cmd.ensures.had i) c.end-cmd.result.cmd (c.reply_by.ensures i) (given_back c.args.core.now.geometry c.args.node ((c.items.ensures ∙ ap (λ (r : SpaceRun). r.writes) c.end-cmd.ensures.run) i ++ c.writes_by.ensures i) ((c.items-2.ensures ∙ c.end-cmd.ensures.asked) i) c.args.core.now.locks)))
-    (c.append.ensures.items ∙ ap (λ a. c.args.core.now.history.items ++ Done c.args.node c.end-cmd.result.cmd a ∷ []) c.into_reply-reply.ensures)
+    (ap (map shown) c.append.ensures.items ∙ map-append shown c.args.core.now.history.items (Done c.args.node c.end-cmd.result.cmd c.into_reply-reply.result ∷ []) ∙ ap (λ a. map shown c.args.core.now.history.items ++ Done c.args.node c.end-cmd.result.cmd a ∷ []) c.into_reply-reply.ensures)

@@ -1,7 +1,7 @@
-use Rattle.std.proofs.Common.{◌≡◌, refl, sym, ap, subst, ◌∙◌, rules}
+use Rattle.std.proofs.Common.{map, ◌≡◌, refl, sym, ap, subst, ◌∙◌, rules}
 use Rattle.plain_vol.specs.Own.{command_after}
 use Rattle.node_locks.specs.Held.{waits_at}
-use Rattle.core_state.specs.Worlds.{state_of, plain_of}
+use Rattle.core_state.specs.Worlds.{shown, state_of, plain_of}
 use Rattle.core_state.specs.Goods.{HasRoom}
 use Rattle.core_state.specs.Event as event
 use Rattle.core_state.specs.Events.{turned, leaving}
@@ -77,7 +77,7 @@ first-requires-clause-takes g c =
     let here = told_at (state_of g.O.Operation.cmd_is) c.args.core.now.nodes.items c.args.node c.index-at.result.now c.requires.node.from c.requires.node.to c.index-at.ensures in
     let node = c.requires.good.nodes c.args.node (state_of g.O.Operation.cmd_is c.index-at.result.now) here in
     let next = ap (command_after c.args.core.now.script c.args.node) (sym node.past) ∙ sym c.in_ok-cmd.ensures ∙ c.in-Some.is in
-    c.requires.takes c.args.node c.args.core.now.history.items c.in-Some.cmd next
+    c.requires.takes c.args.node (map shown c.args.core.now.history.items) c.in-Some.cmd next
 
 pub returns-in-None-clause-turn : goal.returns-in-None-clause-turn
 returns-in-None-clause-turn g c =

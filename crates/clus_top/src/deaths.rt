@@ -1,0 +1,823 @@
+//! Nodes that a script kills: each report, and what is found on the volume after it.
+
+use crate::faults::eleven;
+use crate::making::{Written, long, made};
+use crate::tests::{Exchange, answered, call, volume, zeros};
+use crate::tree::blocks_of;
+use blk_drive::MemImage;
+use plain_cat::NoMemory;
+use std::alloc::Global;
+use std::process::Abort;
+use std::test::Fail;
+
+// The image that a script leaves, which has this report, and in which this is found.
+fn left(
+    rt: &impl Abort,
+    alloc: Global,
+    image: MemImage,
+    script: &str,
+    report: &str,
+    found: &str,
+) -> Result<MemImage, NoMemory> {
+    let image = answered(rt, alloc, image, Exchange::run(script, 0, report))?;
+    let code = if found == "accepted\n" { 0 } else { 5 };
+    answered(rt, alloc, image, Exchange::analysis(code, found))
+}
+
+// The same of each row, a script, its report and what is found, on a fresh volume.
+fn all_left(rt: &impl Abort, alloc: Global, rows: &[(&str, &str, &str)]) -> Result<(), NoMemory> {
+    for (script, report, found) in rows {
+        left(rt, alloc, volume(alloc)?, script, report, found)?;
+    }
+    Ok(())
+}
+
+/// A node that dies before its directory write, which leaves a file in no directory, while another node waits for the directory; one
+/// that dies with sixteen clusters, so that another finds too few; two that die one after the other, as in the example of their name;
+/// and eight that die one after the other, each of which has a cluster, a number and a charge.
+const IN_COMMANDS: &[(&str, &str, &str)] = &[
+    (
+        "NODES 2\n\
+         KILL 1 WRITE 5\n\
+         1 CREATE R1 MFD A.TXT;0 10 [1,4]\n\
+         2 LOOKUP R1 MFD A.TXT;0\n\
+         2 CREATE R1 MFD B.TXT;0 4 [1,4]\n",
+        "1 N1 died at lost, leaked 0 clusters, 0 numbers\n\
+         2 N2 LOOKUP R1 (4,4,0) A.TXT;0 = refused NoSuchFile\n\
+         3 N2 CREATE R1 (4,4,0) B.TXT;0 4 [1,4] = (13,1,0) B.TXT;1\n\
+         end: 2 answered, 1 died, 227 free\n",
+        "lost 12\n",
+    ),
+    (
+        "NODES 2\n\
+         KILL 1 WRITE 3\n\
+         1 CREATE R1 MFD A.TXT;0 64 [1,4]\n\
+         2 CREATE R1 MFD B.TXT;0 308 [1,4]\n\
+         2 CREATE R2 MFD C.TXT;0 308 [1,4]\n\
+         2 CREATE R3 MFD D.TXT;0 244 [1,4]\n\
+         2 CREATE R4 MFD E.TXT;0 4 [1,4]\n",
+        "1 N1 died at nothing, leaked 16 clusters, 1 numbers\n\
+         2 N2 CREATE R1 (4,4,0) B.TXT;0 308 [1,4] = (13,1,0) B.TXT;1\n\
+         3 N2 CREATE R2 (4,4,0) C.TXT;0 308 [1,4] = (14,1,0) C.TXT;1\n\
+         4 N2 CREATE R3 (4,4,0) D.TXT;0 244 [1,4] = (15,1,0) D.TXT;1\n\
+         5 N2 CREATE R4 (4,4,0) E.TXT;0 4 [1,4] = refused DeviceFull\n\
+         end: 4 answered, 1 died, 0 free\n",
+        "leaked clusters 16\nleaked numbers 1\n",
+    ),
+    (
+        "# Nodes 1 and 3 die while they make files: a KILL comes in place of the write that it names, of node 1 that of the directory, of\n\
+         # node 3 that of the header. Node 2 waits for the directory behind each of them, and goes on when they are dead.\n\
+         NODES 3\n\
+         KILL 1 WRITE 5\n\
+         KILL 3 WRITE 4\n\
+         1 CREATE R1 MFD PLAN.TXT;0 10 [1,4]\n\
+         2 LOOKUP R1 MFD PLAN.TXT;0\n\
+         2 CREATE R2 MFD NOTE.TXT;0 4 [1,4]\n\
+         2 QUOTASHOW [1,4]\n\
+         3 CREATE R1 MFD TASK.TXT;0 4 [1,4]\n",
+        "1 N1 died at lost, leaked 0 clusters, 0 numbers\n\
+         2 N2 LOOKUP R1 (4,4,0) PLAN.TXT;0 = refused NoSuchFile\n\
+         3 N3 died at charged, leaked 1 clusters, 1 numbers\n\
+         4 N2 CREATE R2 (4,4,0) NOTE.TXT;0 4 [1,4] = (14,1,0) NOTE.TXT;1\n\
+         5 N2 QUOTASHOW [1,4] = usage 23 quota 1088 overdraft 0\n\
+         end: 3 answered, 2 died, 226 free\n",
+        "lost 12\nleaked clusters 1\nleaked numbers 1\nusage of [1,4]: has 23, should be 18\n",
+    ),
+    (
+        "NODES 8\n\
+         KILL 1 WRITE 4\nKILL 2 WRITE 4\nKILL 3 WRITE 4\nKILL 4 WRITE 4\n\
+         KILL 5 WRITE 4\nKILL 6 WRITE 4\nKILL 7 WRITE 4\nKILL 8 WRITE 4\n\
+         1 CREATE R1 MFD A.TXT;0 4 [1,4]\n2 CREATE R1 MFD A.TXT;0 4 [1,4]\n\
+         3 CREATE R1 MFD A.TXT;0 4 [1,4]\n4 CREATE R1 MFD A.TXT;0 4 [1,4]\n\
+         5 CREATE R1 MFD A.TXT;0 4 [1,4]\n6 CREATE R1 MFD A.TXT;0 4 [1,4]\n\
+         7 CREATE R1 MFD A.TXT;0 4 [1,4]\n8 CREATE R1 MFD A.TXT;0 4 [1,4]\n",
+        "1 N1 died at charged, leaked 1 clusters, 1 numbers\n\
+         2 N2 died at charged, leaked 1 clusters, 1 numbers\n\
+         3 N3 died at charged, leaked 1 clusters, 1 numbers\n\
+         4 N4 died at charged, leaked 1 clusters, 1 numbers\n\
+         5 N5 died at charged, leaked 1 clusters, 1 numbers\n\
+         6 N6 died at charged, leaked 1 clusters, 1 numbers\n\
+         7 N7 died at charged, leaked 1 clusters, 1 numbers\n\
+         8 N8 died at charged, leaked 1 clusters, 1 numbers\n\
+         end: 0 answered, 8 died, 223 free\n",
+        "leaked clusters 8\nleaked numbers 8\nusage of [1,4]: has 40, should be 0\n",
+    ),
+];
+
+#[test]
+fn nodes_die_in_their_commands(rt: HostRuntime) -> Result<(), Fail> {
+    all_left(&rt, rt.alloc(), IN_COMMANDS)?;
+    Ok(())
+}
+
+/// Deaths that leave nothing to find: before the first turn, of a node that waits and has another behind it, after the last answer, and
+/// between the ask and the answer of an OPEN; and kills that never come, since there is no such turn or write. A file that a dead node
+/// had open is open no more. Deleted before that death, it stays marked.
+const OF_NODES: &[(&str, &str, &str)] = &[
+    (
+        "NODES 2\n\
+         KILL 1 TURN 1\n\
+         1 CREATE R1 MFD A.TXT;0 4 [1,4]\n\
+         2 CREATE R1 MFD A.TXT;0 4 [1,4]\n",
+        "1 N1 died at idle, leaked 0 clusters, 0 numbers\n\
+         2 N2 CREATE R1 (4,4,0) A.TXT;0 4 [1,4] = (12,1,0) A.TXT;1\n\
+         end: 1 answered, 1 died, 230 free\n",
+        "accepted\n",
+    ),
+    (
+        "NODES 3\n\
+         KILL 2 TURN 3\n\
+         1 CREATE R1 MFD A.TXT;0 4 [1,4]\n\
+         2 CREATE R1 MFD A.TXT;0 4 [1,4]\n\
+         3 CREATE R1 MFD A.TXT;0 4 [1,4]\n",
+        "1 N2 died at nothing, leaked 0 clusters, 0 numbers\n\
+         2 N1 CREATE R1 (4,4,0) A.TXT;0 4 [1,4] = (12,1,0) A.TXT;1\n\
+         3 N3 CREATE R1 (4,4,0) A.TXT;0 4 [1,4] = (13,1,0) A.TXT;2\n\
+         end: 2 answered, 1 died, 229 free\n",
+        "accepted\n",
+    ),
+    (
+        "NODES 2\n\
+         SCHED 1*28 2*4 1\n\
+         KILL 1 TURN 29\n\
+         1 CREATE R1 MFD A.TXT;0 4 [1,4]\n\
+         1 OPEN 1 R1 EX\n\
+         2 OPEN 1 (12,1,0) PR\n\
+         2 OPEN 1 (12,1,0) PR\n",
+        "1 N1 CREATE R1 (4,4,0) A.TXT;0 4 [1,4] = (12,1,0) A.TXT;1\n\
+         2 N1 OPEN 1 (12,1,0) EX = open\n\
+         3 N2 OPEN 1 (12,1,0) PR = refused AccConflict\n\
+         4 N1 died at idle, leaked 0 clusters, 0 numbers\n\
+         5 N2 OPEN 1 (12,1,0) PR = open\n\
+         6 N2 CLOSE 1 = closed\n\
+         end: 5 answered, 1 died, 230 free\n",
+        "accepted\n",
+    ),
+    (
+        "NODES 2\n\
+         SCHED 1*28 2*40\n\
+         KILL 1 TURN 29\n\
+         1 CREATE R1 MFD A.TXT;0 4 [1,4]\n\
+         1 OPEN 1 R1 CR\n\
+         2 DELETE MFD A.TXT;0\n",
+        "1 N1 CREATE R1 (4,4,0) A.TXT;0 4 [1,4] = (12,1,0) A.TXT;1\n\
+         2 N1 OPEN 1 (12,1,0) CR = open\n\
+         3 N2 DELETE (4,4,0) A.TXT;0 = marked\n\
+         4 N1 died at idle, leaked 0 clusters, 0 numbers\n\
+         end: 3 answered, 1 died, 230 free\n",
+        "marked 12\n",
+    ),
+    (
+        "NODES 2\n\
+         SCHED 1*28\n\
+         KILL 1 TURN 28\n\
+         1 CREATE R1 MFD A.TXT;0 4 [1,4]\n\
+         1 OPEN 1 R1 EX\n\
+         2 OPEN 1 (12,1,0) EX\n",
+        "1 N1 CREATE R1 (4,4,0) A.TXT;0 4 [1,4] = (12,1,0) A.TXT;1\n\
+         2 N1 died at nothing, leaked 0 clusters, 0 numbers\n\
+         3 N2 OPEN 1 (12,1,0) EX = open\n\
+         4 N2 CLOSE 1 = closed\n\
+         end: 3 answered, 1 died, 230 free\n",
+        "accepted\n",
+    ),
+    (
+        "NODES 3\n\
+         KILL 1 WRITE 6\n\
+         KILL 2 TURN 2\n\
+         KILL 3 TURN 1\n\
+         1 CREATE R1 MFD A.TXT;0 4 [1,4]\n",
+        "1 N3 died at idle, leaked 0 clusters, 0 numbers\n\
+         2 N1 CREATE R1 (4,4,0) A.TXT;0 4 [1,4] = (12,1,0) A.TXT;1\n\
+         end: 1 answered, 1 died, 230 free\n",
+        "accepted\n",
+    ),
+];
+
+#[test]
+fn nodes_die_beside_their_commands(rt: HostRuntime) -> Result<(), Fail> {
+    all_left(&rt, rt.alloc(), OF_NODES)?;
+    Ok(())
+}
+
+/// A death of node 1 at each turn, or each write, from the first of these numbers to the last: its entry, the reply of node 2, the free
+/// clusters, and what is found.
+#[derive(Clone, Copy)]
+struct Death {
+    from: u32,
+    to: u32,
+    died: &'static str,
+    reply: &'static str,
+    free: u32,
+    found: &'static str,
+}
+
+const fn at(
+    from: u32,
+    to: u32,
+    died: &'static str,
+    reply: &'static str,
+    free: u32,
+    found: &'static str,
+) -> Death {
+    Death {
+        from,
+        to,
+        died,
+        reply,
+        free,
+        found,
+    }
+}
+
+/// The command of node 1, and the one of node 2, which waits for it, as a script and as the report has it; and whether the numbers of
+/// deaths count turns or writes.
+#[derive(Clone, Copy)]
+struct Scene {
+    by: &'static str,
+    line: &'static str,
+    other: &'static str,
+    entry: &'static str,
+}
+
+// Node 1 dies at this turn or write.
+fn dies_at(
+    rt: &impl Abort,
+    alloc: Global,
+    image: &MemImage,
+    scene: Scene,
+    k: u32,
+    row: Death,
+) -> Result<(), NoMemory> {
+    let Scene {
+        by,
+        line,
+        other,
+        entry,
+    } = scene;
+    let Death {
+        died,
+        reply,
+        free,
+        found,
+        ..
+    } = row;
+    let script = format!(in alloc; "NODES 2\nKILL 1 {by} {k}\n1 {line}\n2 {other}\n")?;
+    let deaths = format!(in alloc; "1 N1 died at {died}\n2 N2 {entry} = {reply}\n")?;
+    let lines = deaths.as_str();
+    let report = format!(in alloc; "{lines}end: 1 answered, 1 died, {free} free\n")?;
+    let image = MemImage::new(blocks_of(alloc, image)?, Vec::new(alloc));
+    left(rt, alloc, image, script.as_str(), report.as_str(), found)?;
+    Ok(())
+}
+
+// Each of these deaths.
+fn all_die(
+    rt: &impl Abort,
+    alloc: Global,
+    image: &MemImage,
+    scene: Scene,
+    rows: &[Death],
+) -> Result<(), NoMemory> {
+    for row in rows {
+        for k in row.from..row.to.saturating_add(1) {
+            dies_at(rt, alloc, image, scene, k, *row)?;
+        }
+    }
+    Ok(())
+}
+
+const NOT_THERE: &str = "refused NoSuchFile";
+
+const LOOKS: (&str, &str) = ("LOOKUP R1 MFD A.TXT;0", "LOOKUP R1 (4,4,0) A.TXT;0");
+
+// Turns 15 and 16 write the bitmaps, and 20 to 22 quota row, header and directory. The answer is turn 23.
+#[test]
+fn a_node_dies_at_each_turn(rt: HostRuntime) -> Result<(), Fail> {
+    let alloc = rt.alloc();
+    let charged = "leaked clusters 3\nleaked numbers 1\nusage of [1,4]: has 13, should be 0\n";
+    let rows = [
+        at(
+            1,
+            1,
+            "idle, leaked 0 clusters, 0 numbers",
+            NOT_THERE,
+            231,
+            "accepted\n",
+        ),
+        at(
+            2,
+            15,
+            "nothing, leaked 0 clusters, 0 numbers",
+            NOT_THERE,
+            231,
+            "accepted\n",
+        ),
+        at(
+            16,
+            16,
+            "nothing, leaked 0 clusters, 1 numbers",
+            NOT_THERE,
+            231,
+            "leaked numbers 1\n",
+        ),
+        at(
+            17,
+            20,
+            "nothing, leaked 3 clusters, 1 numbers",
+            NOT_THERE,
+            228,
+            "leaked clusters 3\nleaked numbers 1\n",
+        ),
+        at(
+            21,
+            21,
+            "charged, leaked 3 clusters, 1 numbers",
+            NOT_THERE,
+            228,
+            charged,
+        ),
+        at(
+            22,
+            22,
+            "lost, leaked 0 clusters, 0 numbers",
+            NOT_THERE,
+            228,
+            "lost 12\n",
+        ),
+        at(
+            23,
+            23,
+            "done, leaked 0 clusters, 0 numbers",
+            "(12,1,0) A.TXT;1",
+            228,
+            "accepted\n",
+        ),
+    ];
+    let scene = Scene {
+        by: "TURN",
+        line: "CREATE R1 MFD A.TXT;0 10 [1,4]",
+        other: LOOKS.0,
+        entry: LOOKS.1,
+    };
+    all_die(&rt, alloc, &volume(alloc)?, scene, &rows)?;
+    Ok(())
+}
+
+// The block of a directory comes behind the quota row, and the header behind its four blocks.
+#[test]
+fn a_node_dies_at_each_write_of_a_directory(rt: HostRuntime) -> Result<(), Fail> {
+    let alloc = rt.alloc();
+    let charged = "leaked clusters 1\nleaked numbers 1\nusage of [1,4]: has 5, should be 0\n";
+    let rows = [
+        at(
+            1,
+            1,
+            "nothing, leaked 0 clusters, 0 numbers",
+            NOT_THERE,
+            231,
+            "accepted\n",
+        ),
+        at(
+            2,
+            2,
+            "nothing, leaked 0 clusters, 1 numbers",
+            NOT_THERE,
+            231,
+            "leaked numbers 1\n",
+        ),
+        at(
+            3,
+            3,
+            "nothing, leaked 1 clusters, 1 numbers",
+            NOT_THERE,
+            230,
+            "leaked clusters 1\nleaked numbers 1\n",
+        ),
+        at(
+            4,
+            8,
+            "charged, leaked 1 clusters, 1 numbers",
+            NOT_THERE,
+            230,
+            charged,
+        ),
+        at(
+            9,
+            9,
+            "lost, leaked 0 clusters, 0 numbers",
+            NOT_THERE,
+            230,
+            "lost 12\n",
+        ),
+    ];
+    let scene = Scene {
+        by: "WRITE",
+        line: "MKDIR R1 MFD A [1,4]",
+        other: "LOOKUP R1 MFD A.DIR;0",
+        entry: "LOOKUP R1 (4,4,0) A.DIR;0",
+    };
+    all_die(&rt, alloc, &volume(alloc)?, scene, &rows)?;
+    Ok(())
+}
+
+// The fresh volume with A.TXT;1 (12,1), which has eight blocks.
+fn with_a_file(rt: &impl Abort, alloc: Global) -> Result<MemImage, NoMemory> {
+    let script = "NODES 1\n1 CREATE R1 MFD A.TXT;0 8 [1,4]\n";
+    let report = "1 N1 CREATE R1 (4,4,0) A.TXT;0 8 [1,4] = (12,1,0) A.TXT;1\n\
+        end: 1 answered, 0 died, 229 free\n";
+    made(rt, alloc, volume(alloc)?, script, report)
+}
+
+const WHOLE: &str = "file [1,4] 8 blocks mark 1 end 1,0";
+
+const CUT: &str = "file [1,4] 4 blocks mark 1 end 1,0";
+
+// An EXTEND writes the storage block, the quota row and the header; a TRUNC the header, the storage block and the quota row.
+#[test]
+fn a_node_dies_at_each_write_to_a_size(rt: HostRuntime) -> Result<(), Fail> {
+    let alloc = rt.alloc();
+    let image = with_a_file(&rt, alloc)?;
+    let grows = [
+        at(
+            1,
+            1,
+            "nothing, leaked 0 clusters, 0 numbers",
+            WHOLE,
+            229,
+            "accepted\n",
+        ),
+        at(
+            2,
+            2,
+            "nothing, leaked 1 clusters, 0 numbers",
+            WHOLE,
+            228,
+            "leaked clusters 1\n",
+        ),
+        at(
+            3,
+            3,
+            "charged, leaked 1 clusters, 0 numbers",
+            WHOLE,
+            228,
+            "leaked clusters 1\nusage of [1,4]: has 13, should be 9\n",
+        ),
+    ];
+    let cuts = [
+        at(
+            1,
+            1,
+            "nothing, leaked 0 clusters, 0 numbers",
+            WHOLE,
+            229,
+            "accepted\n",
+        ),
+        at(
+            2,
+            2,
+            "shortened, leaked 1 clusters, 0 numbers",
+            CUT,
+            229,
+            "leaked clusters 1\nusage of [1,4]: has 9, should be 5\n",
+        ),
+        at(
+            3,
+            3,
+            "shortened, leaked 0 clusters, 0 numbers",
+            CUT,
+            230,
+            "usage of [1,4]: has 9, should be 5\n",
+        ),
+    ];
+    let scene = Scene {
+        by: "WRITE",
+        line: "EXTEND (12,1,0) 4",
+        other: "STAT (12,1,0)",
+        entry: "STAT (12,1,0)",
+    };
+    all_die(&rt, alloc, &image, scene, &grows)?;
+    let line = "TRUNC (12,1,0) 4";
+    all_die(&rt, alloc, &image, Scene { line, ..scene }, &cuts)?;
+    Ok(())
+}
+
+// A DELETE writes the mark, the directory, the free slot, the storage block, the index block and the quota row; a RENAME writes the
+// directory twice.
+#[test]
+fn a_node_dies_at_each_write_of_an_entry(rt: HostRuntime) -> Result<(), Fail> {
+    let alloc = rt.alloc();
+    let image = with_a_file(&rt, alloc)?;
+    let found = "(12,1,0) A.TXT;1";
+    let paid = "usage of [1,4]: has 9, should be 0\n";
+    let goes = [
+        at(
+            1,
+            1,
+            "nothing, leaked 0 clusters, 0 numbers",
+            found,
+            229,
+            "accepted\n",
+        ),
+        at(
+            2,
+            2,
+            "marked, leaked 0 clusters, 0 numbers",
+            found,
+            229,
+            "marked 12\n",
+        ),
+        at(
+            3,
+            3,
+            "unlinked, leaked 0 clusters, 0 numbers",
+            NOT_THERE,
+            229,
+            "marked 12\n",
+        ),
+        at(
+            4,
+            4,
+            "freed, leaked 2 clusters, 1 numbers",
+            NOT_THERE,
+            229,
+            "leaked clusters 2\nleaked numbers 1\nusage of [1,4]: has 9, should be 0\n",
+        ),
+        at(
+            5,
+            5,
+            "freed, leaked 0 clusters, 1 numbers",
+            NOT_THERE,
+            231,
+            "leaked numbers 1\nusage of [1,4]: has 9, should be 0\n",
+        ),
+        at(
+            6,
+            6,
+            "freed, leaked 0 clusters, 0 numbers",
+            NOT_THERE,
+            231,
+            paid,
+        ),
+    ];
+    let moves = [
+        at(
+            1,
+            1,
+            "nothing, leaked 0 clusters, 0 numbers",
+            found,
+            229,
+            "accepted\n",
+        ),
+        at(
+            2,
+            2,
+            "both, leaked 0 clusters, 0 numbers",
+            found,
+            229,
+            "second entry B.TXT;1 in 4\n",
+        ),
+    ];
+    let scene = Scene {
+        by: "WRITE",
+        line: "DELETE MFD A.TXT;0",
+        other: LOOKS.0,
+        entry: LOOKS.1,
+    };
+    all_die(&rt, alloc, &image, scene, &goes)?;
+    let line = "RENAME MFD A.TXT;1 B.TXT;0";
+    all_die(&rt, alloc, &image, Scene { line, ..scene }, &moves)?;
+    Ok(())
+}
+
+/// Deaths at the writes of commands on a channel, where the file has eight blocks: at the second of the four by which a CLOSE frees a
+/// marked file, and at the header write of a WRITE behind the mark, whose blocks do not show without it.
+const ON_CHANNELS: &[(&str, &str, &str)] = &[
+    (
+        "NODES 1\n\
+         KILL 1 WRITE 4\n\
+         1 OPEN 1 (12,1,0) CR\n\
+         1 DELETE MFD A.TXT;0\n",
+        "1 N1 OPEN 1 (12,1,0) CR = open\n\
+         2 N1 DELETE (4,4,0) A.TXT;0 = marked\n\
+         3 N1 died at freed, leaked 2 clusters, 1 numbers\n\
+         end: 2 answered, 1 died, 229 free\n",
+        "leaked clusters 2\nleaked numbers 1\nusage of [1,4]: has 9, should be 0\n",
+    ),
+    (
+        "NODES 1\n\
+         KILL 1 WRITE 4\n\
+         1 OPEN 1 (12,1,0) PW\n\
+         1 WRITE 1 3 AB\n",
+        "1 N1 OPEN 1 (12,1,0) PW = open\n\
+         2 N1 died at nothing, leaked 0 clusters, 0 numbers\n\
+         end: 1 answered, 1 died, 229 free\n",
+        "accepted\n",
+    ),
+];
+
+#[test]
+fn a_node_dies_with_a_channel(rt: HostRuntime) -> Result<(), Fail> {
+    let alloc = rt.alloc();
+    for (script, report, found) in ON_CHANNELS {
+        let image = with_a_file(&rt, alloc)?;
+        left(&rt, alloc, image, script, report, found)?;
+    }
+    Ok(())
+}
+
+// The write of a quota row is turn 7, and the answer turn 8.
+#[test]
+fn a_node_dies_at_a_quota(rt: HostRuntime) -> Result<(), Fail> {
+    let alloc = rt.alloc();
+    let rows = [
+        at(
+            2,
+            7,
+            "nothing, leaked 0 clusters, 0 numbers",
+            "refused NoQuota",
+            231,
+            "accepted\n",
+        ),
+        at(
+            8,
+            8,
+            "done, leaked 0 clusters, 0 numbers",
+            "usage 0 quota 100 overdraft 0",
+            231,
+            "accepted\n",
+        ),
+    ];
+    let scene = Scene {
+        by: "TURN",
+        line: "QUOTASET [2,2] 100 0",
+        other: "QUOTASHOW [2,2]",
+        entry: "QUOTASHOW [2,2]",
+    };
+    all_die(&rt, alloc, &volume(alloc)?, scene, &rows)?;
+    Ok(())
+}
+
+// Behind the ask of a DELETE, which is turn 20, and before the free slot.
+#[test]
+fn a_node_dies_behind_an_ask(rt: HostRuntime) -> Result<(), Fail> {
+    let alloc = rt.alloc();
+    let image = with_a_file(&rt, alloc)?;
+    let rows = [
+        at(
+            19,
+            19,
+            "marked, leaked 0 clusters, 0 numbers",
+            "(12,1,0) A.TXT;1",
+            229,
+            "marked 12\n",
+        ),
+        at(
+            20,
+            21,
+            "unlinked, leaked 0 clusters, 0 numbers",
+            NOT_THERE,
+            229,
+            "marked 12\n",
+        ),
+        at(
+            22,
+            22,
+            "freed, leaked 2 clusters, 1 numbers",
+            NOT_THERE,
+            229,
+            "leaked clusters 2\nleaked numbers 1\nusage of [1,4]: has 9, should be 0\n",
+        ),
+        at(
+            25,
+            25,
+            "done, leaked 0 clusters, 0 numbers",
+            NOT_THERE,
+            231,
+            "accepted\n",
+        ),
+    ];
+    let scene = Scene {
+        by: "TURN",
+        line: "DELETE MFD A.TXT;0",
+        other: LOOKS.0,
+        entry: LOOKS.1,
+    };
+    all_die(&rt, alloc, &image, scene, &rows)?;
+    Ok(())
+}
+
+// One more look-up of node 2, for the file with the long name of number k, which it finds.
+fn push_look_up(
+    alloc: Global,
+    script: &mut String,
+    report: &mut String,
+    k: u32,
+) -> Result<(), NoMemory> {
+    let name = long(alloc, k)?;
+    let line = k.saturating_add(1);
+    let num = k.saturating_add(12);
+    script.push_str(format!(in alloc; "2 LOOKUP R1 (12,1,0) {name};0\n")?.as_str())?;
+    report.push_str(format!(in alloc;
+        "{line} N2 LOOKUP R1 (12,1,0) {name};0 = ({num},1,0) {name};1\n"
+    )?.as_str())
+}
+
+// A node dies between the writes of a directory of three blocks. Another node then finds every entry that was there.
+#[test]
+fn no_entry_is_missing(rt: HostRuntime) -> Result<(), Fail> {
+    let alloc = rt.alloc();
+    let image = eleven(&rt, alloc)?;
+    let name = long(alloc, 0)?;
+    let mut script = format!(in alloc;
+        "NODES 2\nKILL 1 WRITE 5\n1 CREATE R1 (12,1,0) {name};0 0 [1,4]\n"
+    )?;
+    let mut report = String::from_str(alloc, "1 N1 died at lost, leaked 0 clusters, 0 numbers\n")?;
+    for k in 1..12u32 {
+        push_look_up(alloc, &mut script, &mut report, k)?;
+    }
+    report.push_str("end: 11 answered, 1 died, 230 free\n")?;
+    let found = "doubles in 12\nlost 24\n";
+    left(&rt, alloc, image, script.as_str(), report.as_str(), found)?;
+    Ok(())
+}
+
+// A directory of so many files with long names, and Z.T behind them.
+fn with_a_last(rt: &impl Abort, alloc: Global, count: u32) -> Result<MemImage, NoMemory> {
+    let mut text = Written::new(alloc, "NODES 1\n")?;
+    text.push_directory(alloc, count)?;
+    let reply = format!(in alloc; "({},1,0) Z.T;1", count.saturating_add(13))?;
+    text.push(
+        alloc,
+        "CREATE R2",
+        ("R1", "(12,1,0)"),
+        "Z.T;0 0 [1,4]",
+        reply.as_str(),
+    )?;
+    text.close(alloc, 230)?;
+    text.made(rt, alloc, volume(alloc)?)
+}
+
+// The one node dies, and this is found.
+fn dies_alone(
+    rt: &impl Abort,
+    alloc: Global,
+    image: MemImage,
+    script: &str,
+    died: &str,
+    found: &str,
+) -> Result<(), NoMemory> {
+    let report = format!(in alloc;
+        "1 N1 died at {died}, leaked 0 clusters, 0 numbers\nend: 0 answered, 1 died, 230 free\n"
+    )?;
+    left(rt, alloc, image, script, report.as_str(), found)?;
+    Ok(())
+}
+
+// The removal of an entry moves Z.T from the second block to the first, and an insertion from the first to the second: in between it
+// stands in both.
+#[test]
+fn an_entry_stands_in_two_blocks(rt: HostRuntime) -> Result<(), Fail> {
+    let alloc = rt.alloc();
+    let name = long(alloc, 6)?;
+    let script = format!(in alloc; "NODES 1\nKILL 1 WRITE 4\n1 DELETE (12,1,0) {name};0\n")?;
+    let image = with_a_last(&rt, alloc, 6)?;
+    let found = "marked 18\ndoubles in 12\n";
+    dies_alone(&rt, alloc, image, script.as_str(), "unlinked", found)?;
+    let script = format!(in alloc;
+        "NODES 1\nKILL 1 WRITE 5\n1 CREATE R1 (12,1,0) {name};0 0 [1,4]\n"
+    )?;
+    let image = with_a_last(&rt, alloc, 5)?;
+    let found = "doubles in 12\nlost 19\n";
+    dies_alone(&rt, alloc, image, script.as_str(), "lost", found)?;
+    Ok(())
+}
+
+// A volume of 256 clusters of one block, whose directory of lost files has no room left.
+fn crowded(rt: &impl Abort, alloc: Global) -> Result<MemImage, NoMemory> {
+    let words = ["init", "1", "64", "SMALL"];
+    let image = call(alloc, &words, zeros(alloc, 256)?, "")?.image;
+    let lost = ("LOST", "(11,1,0)");
+    let mut text = Written::new(alloc, "NODES 1\n")?;
+    for k in 1..22u32 {
+        let rest = format!(in alloc; "G{k:05}.LST;0 0 [1,4]")?;
+        let reply = format!(in alloc; "({},1,0) G{k:05}.LST;1", k.saturating_add(11))?;
+        text.push(alloc, "CREATE R1", lost, rest.as_str(), reply.as_str())?;
+    }
+    let rest = "G00022.LST;0 0 [1,4]";
+    text.push(alloc, "CREATE R1", lost, rest, "refused DirFull")?;
+    text.close(alloc, 182)?;
+    text.made(rt, alloc, image)
+}
+
+// A lost file without a block needs no place there, so the volume can be mended.
+#[test]
+fn an_empty_file_is_lost(rt: HostRuntime) -> Result<(), Fail> {
+    let alloc = rt.alloc();
+    let script = "NODES 1\nKILL 1 WRITE 4\n1 CREATE R1 MFD A.TXT;0 0 [1,4]\n";
+    let report = "1 N1 died at lost, leaked 0 clusters, 0 numbers\n\
+        end: 0 answered, 1 died, 182 free\n";
+    let image = crowded(&rt, alloc)?;
+    left(&rt, alloc, image, script, report, "lost 33\n")?;
+    Ok(())
+}

@@ -1,0 +1,4 @@
+pub mod Listing
+pub mod Telling
+pub mod Ending
+pub mod Writing

@@ -1,0 +1,24 @@
+-- When a node is killed, by what it has counted.
+use Rattle.std.specs.Prelude.{◌==◌, ◌+◌, ◌&&◌, ℕ, Bool, Option, Some, None, length, nat_lt}
+use Rattle.plain_cat.specs.declared.script.KillAt.{KillAt}
+use Rattle.plain_cat.specs.declared.script.KillAt.TheVariants as kill
+use Rattle.plain_cat.specs.declared.script.Kill.{Kill}
+use Rattle.op_law.specs.declared.need.Plan.{Plan}
+use Rattle.core_state.specs.Worlds.{NodeState}
+use Rattle.core_state.specs.Asks.{writes_by}
+
+-- a node that is not over, does not wait and has a command makes a write next
+abbrev pub has_write_in : NodeState → Option Plan → Bool
+has_write_in s None = nat_lt s.run.made (length s.run.writes)
+has_write_in s (Some p) = nat_lt s.done (length (writes_by p.ask s.tried p.writes))
+
+abbrev pub has_write : NodeState → Bool
+has_write s = has_write_in s s.plan
+
+-- a kill comes in place of a turn of a node that has made so many turns and writes
+abbrev pub comes_by : KillAt → ℕ → ℕ → Bool → Bool
+comes_by (kill.Turn t) turns writes writing = turns + 1 == t
+comes_by (kill.Write k) turns writes writing = (writes + 1 == k) && writing
+
+abbrev pub kills_by : ℕ → ℕ → ℕ → Bool → Kill → Bool
+kills_by n turns writes writing k = (k.node == n) && comes_by k.at turns writes writing

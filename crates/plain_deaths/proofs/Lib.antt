@@ -1,0 +1,4 @@
+pub mod Lows
+pub mod Numbers
+pub mod Stages
+pub mod Closing
