@@ -6,7 +6,7 @@ use crate::tests::{Exchange, answered, call, volume, zeros};
 use crate::tree::blocks_of;
 use blk_drive::MemImage;
 use plain_cat::NoMemory;
-use std::alloc::Global;
+use std::alloc::{AllocError, Global};
 use std::process::Abort;
 use std::test::Fail;
 
@@ -20,7 +20,7 @@ fn left(
     found: &str,
 ) -> Result<MemImage, NoMemory> {
     let image = answered(rt, alloc, image, Exchange::run(script, 0, report))?;
-    let code = if found == "accepted\n" { 0 } else { 5 };
+    let code = if found == ACCEPTED { 0 } else { 5 };
     answered(rt, alloc, image, Exchange::analysis(code, found))
 }
 
@@ -66,7 +66,7 @@ const IN_COMMANDS: &[(&str, &str, &str)] = &[
     ),
     (
         "# Nodes 1 and 3 die while they make files: a KILL comes in place of the write that it names, of node 1 that of the directory, of\n\
-         # node 3 that of the header. Node 2 waits for the directory behind each of them, and goes on when they are dead.\n\
+         # node 3 that of the header. Node 2 waits for each of them to give the directory free, and goes on when they are dead.\n\
          NODES 3\n\
          KILL 1 WRITE 5\n\
          KILL 3 WRITE 4\n\
@@ -110,7 +110,7 @@ fn nodes_die_in_their_commands(rt: HostRuntime) -> Result<(), Fail> {
     Ok(())
 }
 
-/// Deaths that leave nothing to find: before the first turn, of a node that waits and has another behind it, after the last answer, and
+/// Deaths that leave nothing to find: before the first turn, of a node that waits and has another waiting after it, after the last answer, and
 /// between the ask and the answer of an OPEN; and kills that never come, since there is no such turn or write. A file that a dead node
 /// had open is open no more. Deleted before that death, it stays marked.
 const OF_NODES: &[(&str, &str, &str)] = &[
@@ -266,7 +266,11 @@ fn dies_at(
     let deaths = format!(in alloc; "1 N1 died at {died}\n2 N2 {entry} = {reply}\n")?;
     let lines = deaths.as_str();
     let report = format!(in alloc; "{lines}end: 1 answered, 1 died, {free} free\n")?;
-    let image = MemImage::new(blocks_of(alloc, image)?, Vec::new(alloc));
+    let blocks = blocks_of(alloc, image)?;
+    if blocks.len() != 1024 {
+        return Err(AllocError);
+    }
+    let image = MemImage::new(blocks, Vec::new(alloc));
     left(rt, alloc, image, script.as_str(), report.as_str(), found)?;
     Ok(())
 }
@@ -289,6 +293,10 @@ fn all_die(
 
 const NOT_THERE: &str = "refused NoSuchFile";
 
+const NOTHING: &str = "nothing, leaked 0 clusters, 0 numbers";
+
+const ACCEPTED: &str = "accepted\n";
+
 const LOOKS: (&str, &str) = ("LOOKUP R1 MFD A.TXT;0", "LOOKUP R1 (4,4,0) A.TXT;0");
 
 // Turns 15 and 16 write the bitmaps, and 20 to 22 quota row, header and directory. The answer is turn 23.
@@ -303,16 +311,9 @@ fn a_node_dies_at_each_turn(rt: HostRuntime) -> Result<(), Fail> {
             "idle, leaked 0 clusters, 0 numbers",
             NOT_THERE,
             231,
-            "accepted\n",
+            ACCEPTED,
         ),
-        at(
-            2,
-            15,
-            "nothing, leaked 0 clusters, 0 numbers",
-            NOT_THERE,
-            231,
-            "accepted\n",
-        ),
+        at(2, 15, NOTHING, NOT_THERE, 231, ACCEPTED),
         at(
             16,
             16,
@@ -351,7 +352,7 @@ fn a_node_dies_at_each_turn(rt: HostRuntime) -> Result<(), Fail> {
             "done, leaked 0 clusters, 0 numbers",
             "(12,1,0) A.TXT;1",
             228,
-            "accepted\n",
+            ACCEPTED,
         ),
     ];
     let scene = Scene {
@@ -364,20 +365,13 @@ fn a_node_dies_at_each_turn(rt: HostRuntime) -> Result<(), Fail> {
     Ok(())
 }
 
-// The block of a directory comes behind the quota row, and the header behind its four blocks.
+// The blocks of a directory come after the quota row, and the header after them.
 #[test]
 fn a_node_dies_at_each_write_of_a_directory(rt: HostRuntime) -> Result<(), Fail> {
     let alloc = rt.alloc();
     let charged = "leaked clusters 1\nleaked numbers 1\nusage of [1,4]: has 5, should be 0\n";
     let rows = [
-        at(
-            1,
-            1,
-            "nothing, leaked 0 clusters, 0 numbers",
-            NOT_THERE,
-            231,
-            "accepted\n",
-        ),
+        at(1, 1, NOTHING, NOT_THERE, 231, ACCEPTED),
         at(
             2,
             2,
@@ -439,14 +433,7 @@ fn a_node_dies_at_each_write_to_a_size(rt: HostRuntime) -> Result<(), Fail> {
     let alloc = rt.alloc();
     let image = with_a_file(&rt, alloc)?;
     let grows = [
-        at(
-            1,
-            1,
-            "nothing, leaked 0 clusters, 0 numbers",
-            WHOLE,
-            229,
-            "accepted\n",
-        ),
+        at(1, 1, NOTHING, WHOLE, 229, ACCEPTED),
         at(
             2,
             2,
@@ -465,14 +452,7 @@ fn a_node_dies_at_each_write_to_a_size(rt: HostRuntime) -> Result<(), Fail> {
         ),
     ];
     let cuts = [
-        at(
-            1,
-            1,
-            "nothing, leaked 0 clusters, 0 numbers",
-            WHOLE,
-            229,
-            "accepted\n",
-        ),
+        at(1, 1, NOTHING, WHOLE, 229, ACCEPTED),
         at(
             2,
             2,
@@ -511,14 +491,7 @@ fn a_node_dies_at_each_write_of_an_entry(rt: HostRuntime) -> Result<(), Fail> {
     let found = "(12,1,0) A.TXT;1";
     let paid = "usage of [1,4]: has 9, should be 0\n";
     let goes = [
-        at(
-            1,
-            1,
-            "nothing, leaked 0 clusters, 0 numbers",
-            found,
-            229,
-            "accepted\n",
-        ),
+        at(1, 1, NOTHING, found, 229, ACCEPTED),
         at(
             2,
             2,
@@ -561,14 +534,7 @@ fn a_node_dies_at_each_write_of_an_entry(rt: HostRuntime) -> Result<(), Fail> {
         ),
     ];
     let moves = [
-        at(
-            1,
-            1,
-            "nothing, leaked 0 clusters, 0 numbers",
-            found,
-            229,
-            "accepted\n",
-        ),
+        at(1, 1, NOTHING, found, 229, ACCEPTED),
         at(
             2,
             2,
@@ -591,7 +557,7 @@ fn a_node_dies_at_each_write_of_an_entry(rt: HostRuntime) -> Result<(), Fail> {
 }
 
 /// Deaths at the writes of commands on a channel, where the file has eight blocks: at the second of the four by which a CLOSE frees a
-/// marked file, and at the header write of a WRITE behind the mark, whose blocks do not show without it.
+/// marked file, and at the header write of a WRITE above the mark, whose blocks do not show without it.
 const ON_CHANNELS: &[(&str, &str, &str)] = &[
     (
         "NODES 1\n\
@@ -631,21 +597,14 @@ fn a_node_dies_with_a_channel(rt: HostRuntime) -> Result<(), Fail> {
 fn a_node_dies_at_a_quota(rt: HostRuntime) -> Result<(), Fail> {
     let alloc = rt.alloc();
     let rows = [
-        at(
-            2,
-            7,
-            "nothing, leaked 0 clusters, 0 numbers",
-            "refused NoQuota",
-            231,
-            "accepted\n",
-        ),
+        at(2, 7, NOTHING, "refused NoQuota", 231, ACCEPTED),
         at(
             8,
             8,
             "done, leaked 0 clusters, 0 numbers",
             "usage 0 quota 100 overdraft 0",
             231,
-            "accepted\n",
+            ACCEPTED,
         ),
     ];
     let scene = Scene {
@@ -658,9 +617,9 @@ fn a_node_dies_at_a_quota(rt: HostRuntime) -> Result<(), Fail> {
     Ok(())
 }
 
-// Behind the ask of a DELETE, which is turn 20, and before the free slot.
+// Before the removal of a DELETE; before and after its ask, which is turn 20; after the free slot; and before the answer.
 #[test]
-fn a_node_dies_behind_an_ask(rt: HostRuntime) -> Result<(), Fail> {
+fn a_node_dies_about_an_ask(rt: HostRuntime) -> Result<(), Fail> {
     let alloc = rt.alloc();
     let image = with_a_file(&rt, alloc)?;
     let rows = [
@@ -694,7 +653,7 @@ fn a_node_dies_behind_an_ask(rt: HostRuntime) -> Result<(), Fail> {
             "done, leaked 0 clusters, 0 numbers",
             NOT_THERE,
             231,
-            "accepted\n",
+            ACCEPTED,
         ),
     ];
     let scene = Scene {
@@ -742,7 +701,7 @@ fn no_entry_is_missing(rt: HostRuntime) -> Result<(), Fail> {
     Ok(())
 }
 
-// A directory of so many files with long names, and Z.T behind them.
+// A directory of so many files with long names, and Z.T after them.
 fn with_a_last(rt: &impl Abort, alloc: Global, count: u32) -> Result<MemImage, NoMemory> {
     let mut text = Written::new(alloc, "NODES 1\n")?;
     text.push_directory(alloc, count)?;

@@ -1,5 +1,5 @@
 -- The catalogue of blocks with no fatal finding, and that of an accepted volume.
-use Rattle.std.proofs.Common.{◌≡◌, ◌≤◌, ◌<◌, ◌+◌, ◌-◌, ◌/◌, ◌++◌, ◌∙◌, ◌⊎◌, inl, inr, ℕ, suc, Bool, true, false, cond, not, List, [], ◌∷◌, Option, Some, None, length, map, nat_lt, slice_get, refl, sym, ap, subst, arith}
+use Rattle.std.proofs.Common.{◌≡◌, ◌≤◌, ◌<◌, ◌+◌, ◌-◌, ◌/◌, ◌++◌, ◌∙◌, ◌⊎◌, inl, inr, ℕ, suc, Bool, true, false, cond, not, List, [], ◌∷◌, Option, Some, None, length, map, replicate, nat_lt, slice_get, refl, sym, ap, subst, arith}
 use Rattle.std.specs.Prelude.{◌==◌, ◌&&◌, ◌||◌, is_some, is_none, filter, Result, Ok, Err}
 use Rattle.std.specs.List.{Contains, list_any}
 use Rattle.std.proofs.lemmas.Bool.{and_parts, and_from, or_cases, eqb-true}
@@ -10,6 +10,7 @@ use Rattle.fx_home.specs.declared.home.HomeFault.{HomeFault}
 use Rattle.fx_home.specs.Homes.{home_read}
 use Rattle.fx_header.specs.declared.slot.Hdr.{Hdr}
 use Rattle.fx_quota.specs.declared.types.Row.{Row}
+use Rattle.fx_dir.specs.Directory.{directory}
 use Rattle.fx_dir.proofs.Order.{bytes_is}
 use Rattle.plain_cat.specs.declared.ids.Uic.{Uic}
 use Rattle.plain_cat.specs.declared.entries.DirEnt.{DirEnt}
@@ -34,10 +35,10 @@ use Rattle.vol_parts.specs.declared.finding.Finding.{Finding}
 use Rattle.vol_parts.specs.declared.finding.Finding.TheVariants as finding
 use Rattle.vol_parts.specs.Volumes.{Volume, volume, IsNumber, factor, head as head_of, most_clusters, fields, runs, body, active_rows}
 use Rattle.vol_parts.specs.Catalogues.{file_of, quota_row, slot_of, files_of, rows_sorted, catalogue}
-use Rattle.vol_parts.specs.Fatal.{stated_clusters, are_stated, is_system_header, is_system_file, is_too_large, is_rowless, is_marked_dir, NamesFile, Path, IsFatalIn}
+use Rattle.vol_parts.specs.Fatal.{stated_clusters, are_stated, is_system_header, is_system_file, is_too_large, is_cluster_run, has_dir_size, found_in, dir_test, dir_fault, is_rowless, is_marked_dir, NamesFile, Path, IsFatalIn}
 use Rattle.vol_parts.specs.Fatal.Path.{One as First, More as Next}
 use Rattle.vol_parts.specs.Warnings.{names_none, names_none_found, is_marked, warnings}
-use Rattle.vol_parts.specs.Findings.{home_at, IsFatalBy, Weak, AreWarningsBy, IsCatalogueBy, IsFirstFatal}
+use Rattle.vol_parts.specs.Findings.{CatOf, home_at, IsFatalBy, Weak, AreWarningsBy, IsCatalogueBy, IsFirstFatal}
 use Rattle.vol_faults.specs.CatFindings.{IsFatalOf}
 use Rattle.vol_faults.proofs.CatLemmas.{file-number, marked-number}
 use Rattle.vol_faults.proofs.LiftLemmas.{catalogue-numbers}
@@ -108,7 +109,7 @@ any_rows o (r ∷ rs) h = row_found o (quota_row r) (rows_sorted rs) (by_case (�
 
 -- ---- entries
 
-entry_place : (es : List DirEnt) (e : DirEnt) → Has es e → (k : ℕ) × (slice_get es k ≡ Some e)
+pub entry_place : (es : List DirEnt) (e : DirEnt) → Has es e → (k : ℕ) × (slice_get es k ≡ Some e)
 entry_place [] e h = absurd h
 entry_place (x ∷ xs) e (inl h) = (0, ap (λ (y : DirEnt). Some y) h)
 entry_place (x ∷ xs) e (inr h) = let r = entry_place xs e h in (suc r.0, r.1)
@@ -232,6 +233,26 @@ module _ (v : Volume) (weak : (f : Finding) → IsFatalIn v f → ⊥) (enough :
   closed n f at some =
       is_false f.marked (λ m. weak (finding.MarkedDir n) ((told_at n f at).0, ap is_marked_dir at ∙ and_from f.marked (has_entries (Some f)) m some))
 
+  -- a directory has no mark
+  no_mark : (n : ℕ) (f : File) → file_at c n ≡ Some f → f.dir ≡ true → f.mark ≡ 0
+  unfolding dir_fault
+  no_mark n f at dir =
+      let r = told_at n f at in
+      let t = r.1 in
+      let is : t.hdr.dir ≡ true = ap (λ (x : File). x.dir) t.is ∙ dir in
+      sym (ap (λ (x : File). x.mark) t.is) ∙ by_size r.0 t.hdr t.at is (has_dir_size (factor v) t.hdr (runs v n)) refl
+    where
+      by_size : IsNumber v n → (h : Hdr) → fields v n ≡ Some h → h.dir ≡ true → (b : Bool) → has_dir_size (factor v) h (runs v n) ≡ b → h.mark ≡ 0
+      by_size number h at is true e =
+          eqb-true h.mark 0 (and_parts (h.mark == 0) ((h.end == factor v + 1) && (h.byte == 0)) (and_parts (is_cluster_run (factor v) (runs v n)) ((h.mark == 0) && ((h.end == factor v + 1) && (h.byte == 0))) e).1).0
+      by_size number h at is false e =
+          absurd (weak (finding.DirSize n) (
+            number,
+            ap (dir_test v n) at
+                ∙ (ap (λ b. cond (not b) None (cond (has_dir_size (factor v) h (runs v n)) (found_in n (directory (body v n))) (Some (finding.DirSize n)))) is
+                ∙ ap (λ b. cond b (found_in n (directory (body v n))) (Some (finding.DirSize n))) e),
+          ))
+
   can_mend : CanMend c
   can_mend = record { systems = systems; owners = owners; sound = sound } where
     sound : (f : Finding) → IsFatalOf c f → ⊥
@@ -296,6 +317,25 @@ can_by : (bs : List Block) (c : Cat) (r : Result Home HomeFault) → home_read (
 can_by bs c (Err fault) e weak told = absurd told
 can_by bs c (Ok home) e weak told =
     subst (λ (x : Cat). CanMend x × AreKeyed x) (sym told) (can_mend (volume home bs) weak (many_files bs home e), keyed (volume home bs) weak (many_files bs home e))
+
+-- a directory that the blocks tell has no mark
+mark_by : (bs : List Block) (c : Cat) (r : Result Home HomeFault) → home_read (home_at bs) ≡ r → ((f : Finding) → IsFatalBy bs r f → ⊥) → IsCatalogueBy bs r c
+    → (n : ℕ) (f : File) → file_at c n ≡ Some f → f.dir ≡ true → f.mark ≡ 0
+mark_by bs c (Err fault) e weak told = absurd told
+mark_by bs c (Ok home) e weak told =
+    subst (λ (x : Cat). (n : ℕ) (f : File) → file_at x n ≡ Some f → f.dir ≡ true → f.mark ≡ 0) (sym told) (no_mark (volume home bs) weak (many_files bs home e))
+
+pub told_mark : (bs : List Block) (c : Cat) → CatOf bs c → (n : ℕ) (f : File) → file_at c n ≡ Some f → f.dir ≡ true → f.mark ≡ 0
+told_mark bs c h = mark_by bs c (home_read (home_at bs)) refl h.weak h.told
+
+-- the catalogue that blocks tell has nothing open
+shut_by : (bs : List Block) (c : Cat) (r : Result Home HomeFault) → IsCatalogueBy bs r c → c.opens ≡ replicate 64 None
+unfolding catalogue
+shut_by bs c (Err fault) told = absurd told
+shut_by bs c (Ok home) told = ap (λ (x : Cat). x.opens) told
+
+pub told_shut : (bs : List Block) (c : Cat) → CatOf bs c → c.opens ≡ replicate 64 None
+told_shut bs c h = shut_by bs c (home_read (home_at bs)) h.told
 
 pub weak_can_mend : WeakCanMend
 weak_can_mend bs c h = can_by bs c (home_read (home_at bs)) refl h.weak h.told

@@ -5,3 +5,5 @@ pub mod WeakSteps
 pub mod SoundMends
 pub mod Singles
 pub mod AcceptedSteps
+pub mod GoingSteps
+pub mod StartSteps

@@ -34,7 +34,7 @@ pub any_same : (n : ℕ) (es : List DirEnt) → list_any (is_entry_of_system n) 
 any_same n [] = refl
 any_same n (e ∷ es) = ap (λ b. b || list_any (is_entry_of_system n) es) (same_entry n e) ∙ ap (λ b. is_system_entry n e || b) (any_same n es)
 
-place_has : (es : List DirEnt) (k : ℕ) (e : DirEnt) → slice_get es k ≡ Some e → Has es e
+pub place_has : (es : List DirEnt) (k : ℕ) (e : DirEnt) → slice_get es k ≡ Some e → Has es e
 place_has [] k e h = absurd (cc h)
 place_has (x ∷ xs) zero e h = inl (cc h)
 place_has (x ∷ xs) (suc k) e h = inr (place_has xs k e h)
@@ -51,11 +51,11 @@ path : (c : Cat) (n m : ℕ) → Path c n m → NumberPath c n m
 path c n m (First l) = One (leads c n m l)
 path c n m (Next {k} p l) = More (path c n k p) (leads c k m l)
 
-marked : (o : Option File) → is_marked_dir o ≡ true → (f : File) × (o ≡ Some f) × (f.marked ≡ true) × (has_entries (Some f) ≡ true)
+pub marked : (o : Option File) → is_marked_dir o ≡ true → (f : File) × (o ≡ Some f) × (f.marked ≡ true) × (has_entries (Some f) ≡ true)
 marked None e = absurd (cc e)
 marked (Some f) e = let r = and_parts f.marked (has_entries (Some f)) e in (f, refl, r.0, r.1)
 
-clash : (b : Bool) → b ≡ true → b ≡ false → ⊥
+pub clash : (b : Bool) → b ≡ true → b ≡ false → ⊥
 clash b t f = let both : true ≡ false = sym t ∙ f in cc both
 
 open_too : (c : Cat) → IsSound c → (mended c ≡ None → ⊥) → CanMend c

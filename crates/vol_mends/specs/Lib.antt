@@ -1,3 +1,4 @@
 pub mod Weak
 pub mod Mends
 pub mod Accepted
+pub mod Going

@@ -1,0 +1,4 @@
+pub mod Told
+pub mod Replies
+pub mod Entries
+pub mod Going
