@@ -1,0 +1,12 @@
+//! The top call of `vmscheck`: whether a report is a legal history between two images of a volume.
+#![tactic(auto)]
+
+mod sameness;
+mod shutting;
+mod status;
+mod tell;
+mod top;
+mod volumes;
+
+pub use status::{CheckStatus, Checking};
+pub use top::check_log;

@@ -1,0 +1,118 @@
+//! The program: `vmscheck BEFORE AFTER REPORT`. It opens two images and a report, and judges whether the report is a legal history
+//! from the one volume to the other.
+#![tactic(auto)]
+
+ghost use Rattle.std.specs.Prelude.{◌≡◌, true};
+ghost use Rattle.std.specs.Fs.{new_options, with_read};
+ghost use Rattle.std.specs.Process.{exit_status};
+ghost use Rattle.log_check.specs.Codes.{status_code};
+
+use blk_drive::{FileImage, ImageDev, MemImage};
+use fx_text::{StdIn, StdOut, TextIn, TextOut, Word, write_all};
+use log_check::{CheckStatus, check_log};
+use plain_cat::NoMemory;
+use std::alloc::Global;
+use std::fs::{File, OpenOptions};
+use std::process::ExitCode;
+use std::rt::{Env, Files};
+use std::{env, fs, io};
+
+// The words of the command line behind the program's name. Words that are no text are none.
+fn line_of<R: Env + AllocGlobal>(rt: &R) -> Result<Vec<String>, NoMemory> {
+    let mut line = Vec::new(rt.alloc());
+    match env::args(rt) {
+        Ok(args) => {
+            for word in args.skip(1) {
+                line.push(word)?;
+            }
+        }
+        Err(e) if e.kind() == io::ErrorKind::OutOfMemory => return Err(NoMemory {}),
+        Err(_) => {}
+    }
+    Ok(line)
+}
+
+// How an image is opened: it is read, and never written.
+fn image_options() -> OpenOptions
+    ensures { result ≡ with_read new_options true }
+{
+    let mut options = File::options();
+    options.read(true);
+    options
+}
+
+// The image in a file, or one without a file where the file does not open.
+fn image_at<R: Files + AllocGlobal>(rt: &R, path: &str) -> Result<FileImage<R::File>, NoMemory> {
+    match image_options().open(rt, path) {
+        Ok(file) => FileImage::new(rt.alloc(), file),
+        Err(_) => Ok(FileImage::absent()),
+    }
+}
+
+// The number of a status.
+fn exit_code(status: &CheckStatus) -> ExitCode
+    ensures { exit_status result ≡ status_code status.now }
+{
+    ExitCode::from(status.code())
+}
+
+// Where memory runs out before the call: writes the text of that status, and answers its number.
+fn no_memory<O: TextOut>(out: &mut O) -> ExitCode
+    ensures { exit_status result ≡ status_code CheckStatus.NoMemory }
+{
+    let _ = write_all(out, b"no memory\n");
+    exit_code(&CheckStatus::NoMemory)
+}
+
+// Makes the call with standard output as its sink.
+fn called<R: Print + AllocGlobal, I: ImageDev, J: ImageDev, T: TextIn>(
+    rt: &R,
+    words: &[Word],
+    before: I,
+    after: J,
+    mut log: T,
+) -> ExitCode {
+    let mut out = StdOut::new(io::writer(rt));
+    let checking = check_log(rt.alloc(), words, before, after, &mut log, &mut out);
+    exit_code(&checking.status)
+}
+
+// Where the line has not three paths: the call has one word, which it refuses, and no images.
+fn refused<R: Files + Print + AllocGlobal>(rt: &R) -> Result<ExitCode, NoMemory> {
+    let alloc = rt.alloc();
+    let mut words = Vec::new(alloc);
+    words.push(Word::new(alloc, b"?")?)?;
+    let before = MemImage::new(Vec::new(alloc), Vec::new(alloc));
+    let after = MemImage::new(Vec::new(alloc), Vec::new(alloc));
+    Ok(called(
+        rt,
+        words.as_slice(),
+        before,
+        after,
+        StdIn::<R::File>::absent(),
+    ))
+}
+
+// Opens both images and the report, of which `-` is standard input, and makes the call.
+fn opened<R: Env + Files + Input + Print + AllocGlobal>(rt: &R) -> Result<ExitCode, NoMemory> {
+    let line = line_of(rt)?;
+    let [before, after, log] = line.as_slice() else {
+        return refused(rt);
+    };
+    let before = image_at(rt, before.as_str())?;
+    let after = image_at(rt, after.as_str())?;
+    if log.as_str() == "-" {
+        return Ok(called(rt, &[], before, after, StdIn::new(rt.reader())));
+    }
+    match fs::open(rt, log.as_str()) {
+        Ok(file) => Ok(called(rt, &[], before, after, StdIn::new(file))),
+        Err(_) => Ok(called(rt, &[], before, after, StdIn::<R::File>::absent())),
+    }
+}
+
+fn main(rt: HostRuntime) -> ExitCode {
+    match opened(&rt) {
+        Ok(code) => code,
+        Err(_) => no_memory(&mut StdOut::new(io::writer(&rt))),
+    }
+}
