@@ -1,2 +1,5 @@
 pub mod Accepting
 pub mod Ends
+pub mod OneStatus
+pub mod SameCats
+pub mod SomeStatus

@@ -11,7 +11,9 @@ use Rattle.plain_cat.specs.declared.cat.Cat.{Cat}
 use Rattle.plain_cat.specs.InForm.{is_eighth}
 use Rattle.vol_texts.specs.Reports.{line_text, newline}
 use Rattle.plain_vol.specs.Accounts.{Accounted}
-use Rattle.plain_vol.specs.Replaying.{MayLeak, dead}
+use Rattle.plain_vol.specs.Lookups.{free_clusters}
+use Rattle.plain_vol.specs.Replaying.{MayLeak, are_free, dead}
+use Rattle.plain_vol.proofs.Kept.{dead_keeps}
 use Rattle.plain_vol.specs.Checks.{is_node, is_quiet, IsLegal}
 use Rattle.log_words.specs.declared.drafts.Death.{Death}
 use Rattle.log_words.specs.Lines.{died_text}
@@ -98,3 +100,23 @@ untold_stops i c text line a told is unlike = record {
   loud : (is_quiet a.stage ≡ false) ⊎ (0 < a.numbers) → a.numbers ≡ 0 → is_quiet a.stage ≡ true → ⊥
   loud (inl f) zero quiet = both_ways (is_quiet a.stage) f quiet
   loud (inr some) zero quiet = omega (arith, some, zero)
+
+-- a death that is told whole, in a catalogue with so many free clusters
+pub told_nexts : (i : ℕ) (c : Cat) (text : List ℕ) (a : Death) (ns : Spared ℕ) (d : Cat) (line : List ℕ) → ns.items ≡ [] → is_told a ≡ true → is_eighth a.node ≡ true → a.clusters < 2 ^ 32
+    → Accounted c → a.clusters ≤ free_clusters c → d ≡ dead c a.node a.clusters []
+    → line ≡ line_text i (Died a.node a.stage a.clusters ns) → text ≡ line ++ drop (length line) text → length line ≤ length text → IsNext i c text d (length line) false true
+told_nexts i c text a ns d line none told node k accounted free is =
+    let e : d ≡ dead c a.node a.clusters ns.items = is ∙ ap (dead c a.node a.clusters) (sym none) in
+    let quiet = (and_parts (is_quiet a.stage) (a.numbers == 0) told).0 in
+    let unused : are_free c ns.items ≡ true = ap (are_free c) none in
+    entry_nexts i c text (Died a.node a.stage a.clusters ns) d true line (none, k) refl refl (node, quiet, (free, unused), e) (subst Accounted (sym is) (dead_keeps c a.node a.clusters [] accounted))
+
+-- one with more clusters than are free
+pub told_illegal : (i : ℕ) (c : Cat) (text : List ℕ) (a : Death) (ns : Spared ℕ) → ns.items ≡ [] → is_told a ≡ true → free_clusters c < a.clusters → IsDeathStep i c text a step.Stop
+told_illegal i c text a ns none told less =
+    told_steps i c text a ns step.Stop none told (illegal_stops i c text (Died a.node a.stage a.clusters ns) (λ d legal. let within : a.clusters ≤ free_clusters c = legal.2.0 in omega (arith, within, less)))
+
+-- one whose line does not begin the text
+pub told_stops : (i : ℕ) (c : Cat) (text : List ℕ) (a : Death) (ns : Spared ℕ) (line : List ℕ) → ns.items ≡ [] → is_told a ≡ true → line ≡ line_text i (Died a.node a.stage a.clusters ns)
+    → (BeginsWith text line → ⊥) → IsDeathStep i c text a step.Stop
+told_stops i c text a ns line none told is unlike = told_steps i c text a ns step.Stop none told (unlike_stops i c text (Died a.node a.stage a.clusters ns) line is unlike)

@@ -24,10 +24,9 @@ fn shown_or_first(cat: &Cat, reply: &[u8]) -> Option<u32>
     ensures pick { IsPick cat.now result }
     ensures shown { (r : Reply) (n : ℕ) (rest : List ℕ) → reply.now ≡ reply_text r ++ (10 ∷ rest) → shown_number r ≡ Some n → IsPick cat.now (Some n) → result ≡ Some n }
 {
-    let first = pick(cat)?;
     match shown_number(reply) {
         Some(n) if is_free_number(cat, n) => Some(n),
-        _ => Some(first),
+        _ => pick(cat),
     }
 }
 

@@ -6,9 +6,11 @@
 mod answers;
 mod deaths;
 mod judging;
+mod laws;
 mod steps;
 
 pub use judging::{Verdict, judge};
+pub use laws::a_report_has_one_verdict;
 pub use plain_cat::NoMemory;
 
 #[cfg(test)]

@@ -5,14 +5,13 @@ ghost use Rattle.plain_vol.specs.Accounts.{Accounted};
 ghost use Rattle.plain_cat.specs.declared.history.Entry.TheVariants as EntryOf;
 ghost use Rattle.log_words.specs.Commands.{IsSpeaking};
 ghost use Rattle.log_words.specs.Lines.{body_of, IsDrafted};
-ghost use Rattle.log_lines.specs.Histories.{IsWhole, is_answer, is_death};
-ghost use Rattle.log_lines.specs.Steps.{BeginsWith, IsEntryStep, IsAnswerStep, IsDeathStep, IsStep};
+ghost use Rattle.log_lines.specs.Steps.{BeginsWith, IsEntryStep, IsAnswerStep, is_told, IsDeathStep, IsStep};
 
 use crate::answers::choose;
 use crate::deaths::{death_line, is_told};
 use log_words::{Death, Draft, Given, body_of, draft_of, reply_of};
 use plain_cat::{Cat, Entry, Mended, NoMemory, NumberList};
-use plain_owned::outcome_on;
+use plain_owned::{died_on, outcome_on};
 use plain_vol::{Checked, check_reply};
 use std::alloc::Global;
 use vol_texts::push_line;
@@ -91,57 +90,54 @@ fn judge_answer(
     })
 }
 
-// Judges a line that is about a mending or a death that left nothing, as this entry.
-fn judge_entry(
+// Judges a line that tells a death whole.
+fn judge_told(
     alloc: Global,
-    cat: &Cat,
+    cat: Cat,
     i: usize,
     text: &[u8],
-    entry: &Entry,
-    died: bool,
+    death: Death,
 ) -> Result<Step, NoMemory>
-    requires cat { Accounted cat.now }
-    requires kind { is_answer entry.now ≡ false }
-    requires death { is_death entry.now ≡ died }
-    requires whole { IsWhole entry.now }
-    ensures { IfOk result (IsEntryStep i cat.now text.now entry.now) }
+    requires cat { Accounted cat }
+    requires node { is_eighth death.node ≡ true }
+    requires told { is_told death ≡ true }
+    ensures { IfOk result (IsDeathStep i cat text.now death) }
 {
-    let line = line_of(alloc, i, entry)?;
+    let entry = Entry::Died {
+        node: death.node,
+        stage: death.stage,
+        clusters: death.clusters,
+        numbers: NumberList::new(alloc),
+    };
+    let line = line_of(alloc, i, &entry)?;
     if !starts_so(text, line.as_slice()) {
         return Ok(Step::Stop);
     }
-    match check_reply(alloc, cat, entry)? {
-        Checked::Legal(after) => Ok(Step::Next {
+    match died_on(cat, death.node, death.clusters) {
+        Some(after) => Ok(Step::Next {
             after,
             used: line.len(),
             answered: false,
-            died,
+            died: true,
         }),
-        Checked::Illegal => Ok(Step::Stop),
+        None => Ok(Step::Stop),
     }
 }
 
 // Judges a line that is about a death.
 fn judge_death(
     alloc: Global,
-    cat: &Cat,
+    cat: Cat,
     i: usize,
     text: &[u8],
     death: Death,
 ) -> Result<Step, NoMemory>
-    requires cat { Accounted cat.now }
+    requires cat { Accounted cat }
     requires node { is_eighth death.node ≡ true }
-    ensures { IfOk result (IsDeathStep i cat.now text.now death) }
+    ensures { IfOk result (IsDeathStep i cat text.now death) }
 {
     if is_told(death) {
-        let entry = Entry::Died {
-            node: death.node,
-            stage: death.stage,
-            clusters: death.clusters,
-            numbers: NumberList::new(alloc),
-        };
-        let step = judge_entry(alloc, cat, i, text, &entry, true)?;
-        return Ok(step);
+        return judge_told(alloc, cat, i, text, death);
     }
     let line = death_line(alloc, i, death)?;
     if starts_so(text, line.as_slice()) {
@@ -161,7 +157,20 @@ fn judge_mending(
     requires { Accounted cat.now }
     ensures { IfOk result (IsEntryStep i cat.now text.now (EntryOf.Mended counts)) }
 {
-    judge_entry(alloc, cat, i, text, &Entry::Mended(counts), false)
+    let entry = Entry::Mended(counts);
+    let line = line_of(alloc, i, &entry)?;
+    if !starts_so(text, line.as_slice()) {
+        return Ok(Step::Stop);
+    }
+    match check_reply(alloc, cat, &entry)? {
+        Checked::Legal(after) => Ok(Step::Next {
+            after,
+            used: line.len(),
+            answered: false,
+            died: false,
+        }),
+        Checked::Illegal => Ok(Step::Stop),
+    }
 }
 
 // Judges a line that is about what its draft says.
@@ -182,7 +191,7 @@ fn judge_draft(
             Ok(answered)
         }
         Draft::Death(death) => {
-            let died = judge_death(alloc, &cat, i, text, death)?;
+            let died = judge_death(alloc, cat, i, text, death)?;
             Ok(died)
         }
         Draft::Mending(counts) => {

@@ -12,8 +12,8 @@ use Rattle.plain_cat.specs.declared.cat.Slot.TheVariants.{Used}
 use Rattle.plain_vol.specs.Lookups.{file_at}
 use Rattle.plain_vol.specs.Directories.{inserted}
 use Rattle.plain_vol.specs.Changes.{with_entries}
-use Rattle.plain_vol.specs.Mending.{is_lost_slot, lost, lost_name, with_lost_entry, enter, enter_all, enter_some, without_opens, with_lost}
-use Rattle.plain_mends.specs.Resuming.{MendsTo, stripped, AllStay}
+use Rattle.plain_vol.specs.Mending.{is_lost_slot, lost, lost_name, with_lost_entry, enter, enter_all, enter_some, without_opens, with_lost, stripped}
+use Rattle.plain_mends.specs.Resuming.{MendsTo, AllStay}
 use Rattle.plain_mends.specs.Waiting.{Settled, AreFull}
 use Rattle.plain_laws.proofs.Members.{Has, has_from, has_to, has_left, has_right, Distinct}
 use Rattle.plain_laws.proofs.Standing.{file_same, file_other}

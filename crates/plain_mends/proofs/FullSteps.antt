@@ -12,8 +12,8 @@ use Rattle.plain_vol.specs.declared.places.Place.{Place}
 use Rattle.plain_vol.specs.Lookups.{file_at}
 use Rattle.plain_vol.specs.Directories.{inserted}
 use Rattle.plain_vol.specs.Changes.{with_entries}
-use Rattle.plain_vol.specs.Mending.{places, is_own, is_first, stays, is_empty, is_named, is_lost_slot, numbers_from, lost, lost_name, lost_entry, with_lost_entry, enter, enter_all, enter_some, without_opens, with_lost}
-use Rattle.plain_mends.specs.Resuming.{MendsTo, stripped, AllStay}
+use Rattle.plain_vol.specs.Mending.{places, is_own, is_first, stays, is_empty, is_named, is_lost_slot, numbers_from, lost, lost_name, lost_entry, with_lost_entry, enter, enter_all, enter_some, without_opens, with_lost, stripped}
+use Rattle.plain_mends.specs.Resuming.{MendsTo, AllStay}
 use Rattle.plain_mends.specs.Waiting.{Settled}
 use Rattle.plain_vol.proofs.Standing.{some_if, some_map, stands_at}
 use Rattle.plain_laws.proofs.Members.{Has, filter_all, Distinct}

@@ -13,8 +13,8 @@ use Rattle.plain_cat.specs.declared.cat.Slot.TheVariants.{Used, Free}
 use Rattle.plain_vol.specs.declared.places.Place.{Place}
 use Rattle.plain_vol.specs.Lookups.{file_at}
 use Rattle.plain_vol.specs.Directories.{is_entry, without}
-use Rattle.plain_vol.specs.Mending.{entries_in, places_from, places, same_fid, same_place, is_own, is_first, stays, less_entries, each_from, without_opens, without_entries, with_lost}
-use Rattle.plain_mends.specs.Resuming.{MendsTo, stripped, AreKeyed, Goes, less_one, is_other}
+use Rattle.plain_vol.specs.Mending.{entries_in, places_from, places, same_fid, same_place, is_own, is_first, stays, less_entries, each_from, without_opens, without_entries, with_lost, stripped}
+use Rattle.plain_mends.specs.Resuming.{MendsTo, AreKeyed, Goes, less_one, is_other}
 use Rattle.plain_vol.proofs.Standing.{stands_at}
 use Rattle.plain_laws.proofs.Members.{Has, has_from, has_either, has_mapped, filter_all}
 use Rattle.plain_laws.proofs.Standing.{number_rises, set_same, set_other, file_same, file_other, Alive}

@@ -13,9 +13,9 @@ use Rattle.plain_vol.specs.declared.places.Place.{Place}
 use Rattle.plain_vol.specs.Lookups.{file_at}
 use Rattle.plain_vol.specs.Directories.{is_nil}
 use Rattle.plain_vol.specs.Changes.{with_entries}
-use Rattle.plain_vol.specs.Mending.{entries_in, places_from, places, same_fid, is_own, is_first, stays, each_from, without_opens, is_empty, is_named, is_lost_slot, lost, with_lost_entry, enter, enter_all, enter_some, with_lost, is_gone, gone_slot, with_sums, put_right}
+use Rattle.plain_vol.specs.Mending.{entries_in, places_from, places, same_fid, is_own, is_first, stays, each_from, without_opens, is_empty, is_named, is_lost_slot, lost, with_lost_entry, enter, enter_all, enter_some, with_lost, is_gone, gone_slot, with_sums, put_right, stripped}
 use Rattle.plain_laws.specs.Clearing.{HasOwnEntry}
-use Rattle.plain_mends.specs.Resuming.{MendsTo, stripped, AllStay, leaving}
+use Rattle.plain_mends.specs.Resuming.{MendsTo, AllStay, leaving}
 use Rattle.plain_mends.specs.Waiting.{Settled, AreFull}
 use Rattle.plain_vol.proofs.Standing.{stands_at}
 use Rattle.plain_laws.proofs.Members.{Has, has_from, has_to, has_filter}

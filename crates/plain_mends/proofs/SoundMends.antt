@@ -18,12 +18,11 @@ use Rattle.plain_vol.specs.Lookups.{file_at}
 use Rattle.plain_vol.specs.Directories.{inserted, is_nil}
 use Rattle.plain_vol.specs.Changes.{with_entries}
 use Rattle.plain_vol.specs.Answers.{has_entries}
-use Rattle.plain_vol.specs.Mending.{places, is_own, is_first, stays, without_opens, without_entries, is_named, lost, enter, enter_all, enter_some, with_lost, without_gone, without_leaks, summed_row, put_right, mended}
+use Rattle.plain_vol.specs.Mending.{places, is_own, is_first, stays, without_opens, without_entries, is_named, lost, enter, enter_all, enter_some, with_lost, without_gone, without_leaks, summed_row, put_right, mended, stripped}
 use Rattle.plain_vol.specs.Own.{next_command}
 use Rattle.plain_vol.specs.Replaying.{closed_channels, dead, Leads, ReplaysFrom, Replays}
 use Rattle.plain_mends.specs.Sound.{system_seq, is_system_entry, listed, entries_of, LeadsTo, NumberPath, IsSound}
 use Rattle.plain_mends.specs.Sound.NumberPath.{One, More}
-use Rattle.plain_mends.specs.Resuming.{stripped}
 use Rattle.plain_laws.proofs.Members.{Has, has_from, has_to, has_filter, has_kept, any_has, has_any}
 use Rattle.plain_laws.proofs.Standing.{number_rises, Alive}
 use Rattle.plain_laws.proofs.Places.{In, names_to}

@@ -9,15 +9,11 @@ use Rattle.plain_vol.specs.declared.places.Place.{Place}
 use Rattle.plain_vol.specs.Lookups.{file_at}
 use Rattle.plain_vol.specs.Directories.{is_entry, without}
 use Rattle.plain_vol.specs.Changes.{freed, with_entries}
-use Rattle.plain_vol.specs.Mending.{places, same_place, stays, without_opens, without_entries, mended}
+use Rattle.plain_vol.specs.Mending.{places, same_place, stays, without_opens, mended, stripped}
 
 -- mending ends with the catalogue d
 abbrev pub MendsTo : Cat → Cat → Type 0
 MendsTo c d = (m : Mended) × (mended c ≡ Some (d, m))
-
--- the catalogue after step 1 of mending: no channel has a file open, and the entries that do not stay are gone
-abbrev pub stripped : Cat → Cat
-stripped c = without_entries (without_opens c)
 
 -- each entry stays
 abbrev pub AllStay : Cat → Type 0

@@ -1,23 +1,29 @@
 ghost use Rattle.std.specs.Prelude.{◌≡◌, true, Option, IfOk};
 ghost use Rattle.plain_cat.specs.InForm.{in_form};
 ghost use Rattle.plain_vol.specs.Accounts.{Accounted};
-ghost use Rattle.plain_vol.specs.Answers.{told, outcome};
+ghost use Rattle.plain_vol.specs.Answers.{told, refused, outcome};
 
-use crate::readers;
-use plain_cat::{Cat, Cmd, NoMemory, Reply};
-use plain_vol::{Outcome, outcome_of};
+use crate::{channels, making, naming, quotas, readers, sizing};
+use plain_cat::{Cat, Cmd, NoMemory, Refusal, Reply};
+use plain_vol::Outcome;
 use std::alloc::Global;
 
 // A reply that leaves the catalogue.
-fn told(cat: Cat, reply: Reply) -> Outcome
+pub(crate) fn told(cat: Cat, reply: Reply) -> Outcome
     ensures { result ≡ told cat reply }
 {
     Outcome { reply, after: cat }
 }
 
+pub(crate) fn refused(cat: Cat, refusal: Refusal) -> Outcome
+    ensures { result ≡ refused cat refusal }
+{
+    told(cat, Reply::Refused(refusal))
+}
+
 /// What the command of a node of 1 to 8 is answered, and the catalogue after it, where `new` is the number that a new file
-/// takes, or none where none is free. The catalogue is handed over, and handed on where nothing changes. An error says that
-/// memory ran out, and then the catalogue is gone.
+/// takes, or none where none is free. The catalogue is handed over and changed where it stands. An error says that memory ran
+/// out, and then the catalogue is gone.
 #[tactic(auto, unfolding(plain_vol::specs::Answers::outcome, plain_cat::specs::InForm::in_form))]
 pub fn outcome_on(
     alloc: Global,
@@ -30,13 +36,60 @@ pub fn outcome_on(
     requires cmd { in_form cmd.now ≡ true }
     ensures { IfOk result (λ o. o ≡ outcome cat node cmd.now new) }
 {
-    let reply = match cmd {
-        Cmd::Lookup { dir, name, ver, .. } => readers::lookup(alloc, &cat, *dir, name, *ver)?,
-        Cmd::List { dir } => readers::list(alloc, &cat, *dir)?,
-        Cmd::Stat { file } => readers::stat(&cat, *file),
-        Cmd::ReadBlock { chan, vbn } => readers::read(&cat, node, *chan, *vbn),
-        Cmd::QuotaShow { owner } => readers::quota_show(&cat, *owner),
-        _ => return outcome_of(alloc, &cat, node, cmd, new),
-    };
-    Ok(told(cat, reply))
+    match cmd {
+        Cmd::Lookup { dir, name, ver, .. } => {
+            let reply = readers::lookup(alloc, &cat, *dir, name, *ver)?;
+            Ok(told(cat, reply))
+        }
+        Cmd::List { dir } => {
+            let reply = readers::list(alloc, &cat, *dir)?;
+            Ok(told(cat, reply))
+        }
+        Cmd::Stat { file } => {
+            let reply = readers::stat(&cat, *file);
+            Ok(told(cat, reply))
+        }
+        Cmd::Create {
+            dir,
+            name,
+            ver,
+            blocks,
+            owner,
+            ..
+        } => making::create(alloc, cat, *dir, name, *ver, *blocks, *owner, new),
+        Cmd::MkDir {
+            dir,
+            name,
+            owner,
+            ..
+        } => making::make_dir(alloc, cat, *dir, name, *owner, new),
+        Cmd::Extend { file, blocks } => sizing::extend(alloc, cat, *file, *blocks, new),
+        Cmd::Trunc { file, blocks } => sizing::trunc(alloc, cat, *file, *blocks),
+        Cmd::Delete { dir, name, ver } => naming::delete(alloc, cat, *dir, name, *ver),
+        Cmd::Rename {
+            dir,
+            name,
+            ver,
+            to,
+            to_ver,
+        } => naming::rename(alloc, cat, *dir, name, *ver, to, *to_ver),
+        Cmd::OpenFile { chan, file, mode } => {
+            Ok(channels::open_file(cat, node, *chan, *file, *mode))
+        }
+        Cmd::CloseFile { chan } => channels::close_file(alloc, cat, node, *chan),
+        Cmd::ReadBlock { chan, vbn } => {
+            let reply = readers::read(&cat, node, *chan, *vbn);
+            Ok(told(cat, reply))
+        }
+        Cmd::WriteBlock { chan, vbn, text } => {
+            channels::write(alloc, cat, node, *chan, *vbn, text)
+        }
+        Cmd::QuotaSet { owner, quota, over } => {
+            quotas::quota_set(alloc, cat, *owner, *quota, *over)
+        }
+        Cmd::QuotaShow { owner } => {
+            let reply = readers::quota_show(&cat, *owner);
+            Ok(told(cat, reply))
+        }
+    }
 }

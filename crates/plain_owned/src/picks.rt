@@ -1,18 +1,9 @@
-ghost use Rattle.std.specs.Prelude.{◌≡◌, ◌≤◌, option_copied, length};
-ghost use Rattle.plain_vol.specs.Lookups.{slot_at, is_leaked, is_free_number};
+ghost use Rattle.std.specs.Prelude.{◌≡◌, ◌≤◌, length};
+ghost use Rattle.plain_vol.specs.Lookups.{is_leaked, is_free_number};
 ghost use Rattle.plain_vol.specs.Answers.{IsPick};
 
+use crate::lookups::slot_at;
 use plain_cat::{Cat, Slot};
-
-// The slot of a number.
-fn slot_at(cat: &Cat, n: u32) -> Option<&Slot>
-    ensures { option_copied result ≡ slot_at cat.now n }
-{
-    if n == 0 {
-        return None;
-    }
-    cat.files.items().get(n as usize - 1)
-}
 
 fn is_leaked(cat: &Cat, n: u32) -> bool
     ensures { result ≡ is_leaked cat.now n }

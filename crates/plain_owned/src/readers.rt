@@ -1,11 +1,11 @@
 ghost use Rattle.std.specs.Prelude.{◌≡◌, ◌+◌, ◌*◌, ◌<◌, ◌^◌, IfOk};
 ghost use Rattle.vol_words.specs.Tables.{zeros};
 ghost use Rattle.plain_vol.specs.Accounts.{Accounted};
-ghost use Rattle.plain_vol.specs.Lookups.{channel_at, place};
 ghost use Rattle.plain_vol.specs.Changes.{blocks_of, block_of, is_past_mark};
 ghost use Rattle.plain_vol.specs.Answers.{told, refused, is_outside, lookup_outcome, list_outcome, stat_outcome, quota_show_outcome, read_outcome};
 
-use plain_cat::{Cat, Fid, File, Name, NoMemory, Open, Refusal, Reply, Uic};
+use crate::lookups::channel_at;
+use plain_cat::{Cat, Fid, File, Name, NoMemory, Refusal, Reply, Uic};
 use plain_vol::{file_at, live, look_up, row_of};
 use std::alloc::Global;
 use vol_words::{Block, zeros};
@@ -80,30 +80,13 @@ pub fn quota_show(cat: &Cat, owner: Uic) -> Reply
     }
 }
 
-// The place of a node's channel.
-fn place(node: u8, chan: u8) -> usize
-    ensures { result ≡ place node chan }
-{
-    8 * node.saturating_sub(1) as usize + chan.saturating_sub(1) as usize
-}
-
-// What a node's channel has open.
-fn channel_at(cat: &Cat, node: u8, chan: u8) -> Option<Open>
-    ensures { result ≡ channel_at cat.now node chan }
-{
-    match cat.opens.items().get(place(node, chan)) {
-        Some(open) => *open,
-        None => None,
-    }
-}
-
-fn is_outside(cat: &Cat, file: &File, vbn: u32) -> bool
+pub(crate) fn is_outside(cat: &Cat, file: &File, vbn: u32) -> bool
     ensures { result ≡ is_outside cat.now file.now vbn }
 {
     vbn == 0 || cat.factor as u64 * (file.clusters as u64) < vbn as u64
 }
 
-fn is_past_mark(file: &File, vbn: u32) -> bool
+pub(crate) fn is_past_mark(file: &File, vbn: u32) -> bool
     ensures { result ≡ is_past_mark file.now vbn }
 {
     file.mark != 0 && file.mark <= vbn

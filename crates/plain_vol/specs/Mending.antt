@@ -75,6 +75,10 @@ without_opens c = record c { opens = map (λ o. None) c.opens }
 abbrev pub without_entries : Cat → Cat
 without_entries c = record c { files = each_from (less_entries c) 1 c.files }
 
+-- the catalogue after step 1: no channel has a file open, and the entries that do not stay are gone
+abbrev pub stripped : Cat → Cat
+stripped c = without_entries (without_opens c)
+
 -- a file that nothing was written to, or a directory without entries
 abbrev pub is_empty : File → Bool
 is_empty f = (f.mark == 1) || (f.dir && is_nil f.entries)

@@ -2,8 +2,8 @@
 use Rattle.std.proofs.Common.{◌≡◌, ◌∙◌, ◌↔◌, ℕ, true, false, List, [], ◌∷◌, ◌++◌, Option, Some, None, refl, sym, ap, subst}
 use Rattle.std.specs.Prelude.{option_map, option_and_then}
 use Rattle.plain_cat.specs.declared.cat.Cat.{Cat}
-use Rattle.plain_vol.specs.Mending.{lost, enter, enter_all, enter_some, with_lost, mended_from, mended}
-use Rattle.vol_parts.specs.Fatal.{stripped, HasNoRoom}
+use Rattle.plain_vol.specs.Mending.{lost, enter, enter_all, enter_some, with_lost, mended_from, mended, stripped}
+use Rattle.vol_parts.specs.Fatal.{HasNoRoom}
 
 -- of these numbers n is the first for which there is no room, from the catalogue a on
 pub record StopsAt (ns : List ℕ) (a : Cat) (n : ℕ) : Type 0 where

@@ -9,9 +9,9 @@ use Rattle.plain_cat.specs.declared.cat.Slot.{Slot}
 use Rattle.plain_cat.specs.declared.cat.Slot.TheVariants.{Used, Free}
 use Rattle.plain_vol.specs.declared.places.Place.{Place}
 use Rattle.plain_vol.specs.Lookups.{slot_at, file_at}
-use Rattle.plain_vol.specs.Mending.{places, same_fid, system_names, is_own, stays, less_entries, is_lost, is_lost_slot, lost}
+use Rattle.plain_vol.specs.Mending.{places, same_fid, system_names, is_own, stays, less_entries, is_lost, is_lost_slot, lost, stripped}
 use Rattle.vol_parts.specs.Catalogues.{plain_entry}
-use Rattle.vol_parts.specs.Fatal.{is_system_entry, entries_of as entries_at, is_marked_dir, NamesFile, Path, stripped, HasNoRoom}
+use Rattle.vol_parts.specs.Fatal.{is_system_entry, entries_of as entries_at, is_marked_dir, NamesFile, Path, HasNoRoom}
 use Rattle.vol_parts.specs.Fatal.Path.{One, More}
 use Rattle.vol_fresh.specs.declared.layout.Layout.{Layout}
 use Rattle.vol_fresh.specs.Layouts.{main_entries, system_slot, fresh}

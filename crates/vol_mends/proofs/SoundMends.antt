@@ -9,8 +9,7 @@ use Rattle.plain_cat.specs.declared.cat.File.{File}
 use Rattle.plain_cat.specs.declared.cat.Open.{Open}
 use Rattle.plain_vol.specs.Lookups.{file_at}
 use Rattle.plain_vol.specs.Answers.{has_entries}
-use Rattle.plain_vol.specs.Mending.{with_lost, mended, mended_from}
-use Rattle.plain_mends.specs.Resuming.{stripped}
+use Rattle.plain_vol.specs.Mending.{with_lost, mended, mended_from, stripped}
 use Rattle.plain_mends.specs.Sound.{is_system_entry, entries_of, LeadsTo, NumberPath, IsSound}
 use Rattle.plain_mends.specs.Sound.NumberPath.{One, More}
 use Rattle.plain_laws.proofs.Members.{Has, has_to}

@@ -8,13 +8,13 @@ use Rattle.plain_vol.specs.declared.places.Place.{Place}
 use Rattle.plain_vol.specs.Lookups.{file_at}
 use Rattle.plain_vol.specs.Directories.{is_nil}
 use Rattle.plain_vol.specs.Answers.{has_entries}
-use Rattle.plain_vol.specs.Mending.{places, is_own, is_first, stays, without_opens}
+use Rattle.plain_vol.specs.Mending.{places, is_own, is_first, stays, without_opens, stripped}
 use Rattle.plain_laws.specs.Clearing.{HasOwnEntry, KeepsNames}
 use Rattle.plain_laws.proofs.Members.{Has, has_from, has_to, has_filter, any_has}
 use Rattle.plain_laws.proofs.Standing.{number_rises, Alive}
 use Rattle.plain_laws.proofs.Places.{in_from, in_to, first_is, first_one, first_to}
 use Rattle.plain_laws.proofs.Steps.{less_file, less_same, less_from, in_less, less_in_to, stays_parts, stays_from}
-use Rattle.plain_mends.specs.Resuming.{stripped, AllStay}
+use Rattle.plain_mends.specs.Resuming.{AllStay}
 use Rattle.plain_mends.specs.Waiting.{Settled, LostIsWritten}
 use Rattle.plain_mends.specs.Sound.{is_system_entry, entries_of, IsSystemFile}
 use Rattle.plain_mends.proofs.Standing.{stays_open, all_stay}

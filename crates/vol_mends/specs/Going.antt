@@ -6,8 +6,8 @@ use Rattle.plain_cat.specs.declared.cat.File.{File}
 use Rattle.plain_cat.specs.declared.cat.QuotaRow.{QuotaRow}
 use Rattle.plain_vol.specs.declared.places.Place.{Place}
 use Rattle.plain_vol.specs.Lookups.{file_at}
-use Rattle.plain_vol.specs.Mending.{lost, enter, is_gone}
-use Rattle.plain_mends.specs.Resuming.{MendsTo, stripped, AreKeyed, Goes, less_one, leaving, IsOfUsage}
+use Rattle.plain_vol.specs.Mending.{lost, enter, is_gone, stripped}
+use Rattle.plain_mends.specs.Resuming.{MendsTo, AreKeyed, Goes, less_one, leaving, IsOfUsage}
 use Rattle.plain_mends.specs.Waiting.{Settled, LostIsWritten, AreFull}
 use Rattle.vol_owners.specs.Owners.{Owners}
 use Rattle.vol_parts.specs.declared.geometry.Geometry.{Geometry}

@@ -18,7 +18,7 @@ use Rattle.plain_cat.specs.declared.cat.Cat.{Cat}
 use Rattle.plain_cat.specs.declared.cat.File.{File}
 use Rattle.plain_vol.specs.Lookups.{file_at, in_use}
 use Rattle.plain_vol.specs.Answers.{has_entries}
-use Rattle.plain_vol.specs.Mending.{is_own, without_opens, without_entries, lost, enter, enter_all}
+use Rattle.plain_vol.specs.Mending.{is_own, lost, enter, enter_all, stripped}
 use Rattle.vol_parts.specs.declared.finding.Finding.{Finding}
 use Rattle.vol_parts.specs.declared.finding.Finding.TheVariants as finding
 use Rattle.vol_parts.specs.Parts.{storage_blocks}
@@ -173,10 +173,6 @@ pub record NamesFile (c : Cat) (n m : ℕ) : Type 0 where
 pub data Path (c : Cat) (n : ℕ) : ℕ → Type 0 where
   One : {m : ℕ} → NamesFile c n m → Path c n m
   More : {k m : ℕ} → Path c n k → NamesFile c k m → Path c n m
-
--- the catalogue after the entries that do not stay are gone, as mending finds it when it enters lost files
-abbrev pub stripped : Cat → Cat
-stripped c = without_entries (without_opens c)
 
 -- this lost file, which is not empty, is the first for which there is no room in [SYSLOST], behind those before it
 pub record HasNoRoom (c : Cat) (n : ℕ) : Type 0 where

@@ -9,10 +9,10 @@ use Rattle.plain_cat.specs.declared.cat.File.{File}
 use Rattle.plain_cat.specs.declared.cat.Slot.TheVariants.{Used}
 use Rattle.plain_vol.specs.Lookups.{file_at}
 use Rattle.plain_vol.specs.Changes.{with_entries}
-use Rattle.plain_vol.specs.Mending.{without_opens, lost, with_lost_entry, enter, enter_all, enter_some, with_lost, mended_from, mended}
+use Rattle.plain_vol.specs.Mending.{without_opens, lost, with_lost_entry, enter, enter_all, enter_some, with_lost, mended_from, mended, stripped}
 use Rattle.plain_laws.proofs.Standing.{file_same, file_other}
 use Rattle.plain_laws.proofs.Steps.{less_file, less_at}
-use Rattle.vol_parts.specs.Fatal.{stripped, HasNoRoom}
+use Rattle.vol_parts.specs.Fatal.{HasNoRoom}
 use Rattle.vol_faults.proofs.RoomLemmas.{no-room-exact}
 use Rattle.vol_places.specs.Waiting.{staying, AreEntered, IsRoomless}
 use Rattle.vol_places.proofs.Stripping.{staying_shut}

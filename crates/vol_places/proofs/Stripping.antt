@@ -9,8 +9,7 @@ use Rattle.plain_cat.specs.declared.cat.File.{File}
 use Rattle.plain_cat.specs.declared.cat.Slot.{Slot}
 use Rattle.plain_cat.specs.declared.cat.Slot.TheVariants.{Used, Free}
 use Rattle.plain_vol.specs.declared.places.Place.{Place}
-use Rattle.plain_vol.specs.Mending.{entries_in, places_from, places, same_fid, stays, less_entries, each_from, without_opens, is_empty, is_named, is_lost_slot, numbers_from, lost}
-use Rattle.vol_parts.specs.Fatal.{stripped}
+use Rattle.plain_vol.specs.Mending.{entries_in, places_from, places, same_fid, stays, less_entries, each_from, without_opens, is_empty, is_named, is_lost_slot, numbers_from, lost, stripped}
 use Rattle.vol_places.specs.declared.places.Spot.{Spot}
 use Rattle.vol_places.specs.Places.{first_at, AreFirsts}
 use Rattle.vol_places.specs.Waiting.{staying, is_waiting}

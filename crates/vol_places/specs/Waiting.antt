@@ -5,8 +5,8 @@ use Rattle.plain_cat.specs.declared.cat.Cat.{Cat}
 use Rattle.plain_cat.specs.declared.cat.File.{File}
 use Rattle.plain_cat.specs.declared.cat.Slot.{Slot}
 use Rattle.plain_vol.specs.Lookups.{file_at}
-use Rattle.plain_vol.specs.Mending.{stays, less_entries, without_opens, is_lost_slot, enter_all}
-use Rattle.vol_parts.specs.Fatal.{stripped, HasNoRoom}
+use Rattle.plain_vol.specs.Mending.{stays, less_entries, without_opens, is_lost_slot, enter_all, stripped}
+use Rattle.vol_parts.specs.Fatal.{HasNoRoom}
 
 -- of these entries of the directory n, those that stay
 abbrev pub staying : Cat → ℕ → List DirEnt → List DirEnt

@@ -10,6 +10,7 @@ mod staying;
 pub use keeping::{all_firsts, is_lost, is_second};
 pub use places::{Spot, spots};
 pub use room::first_without_room;
+pub use staying::stays;
 
 #[cfg(test)]
 mod tests;

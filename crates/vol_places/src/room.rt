@@ -1,8 +1,7 @@
 //! The lost file for which [SYSLOST] has no room.
 
 ghost use Rattle.std.specs.Prelude.{◌≡◌, ◌≤◌, [], false, length, IfOk};
-ghost use Rattle.plain_vol.specs.Mending.{lost, places};
-ghost use Rattle.vol_parts.specs.Fatal.{stripped};
+ghost use Rattle.plain_vol.specs.Mending.{lost, places, stripped};
 ghost use Rattle.vol_faults.specs.CatFindings.{IsFirstIn};
 ghost use Rattle.vol_places.specs.Places.{AreFirsts};
 ghost use Rattle.vol_places.specs.Waiting.{AreEntered, IsRoomless};

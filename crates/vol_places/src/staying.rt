@@ -3,8 +3,7 @@
 ghost use Rattle.std.specs.Prelude.{◌≡◌, ◌≤◌, ◌-◌, ◌++◌, ◌∷◌, ◌&&◌, [], List, false, not, filter, is_none, length, map, slice_get, IfOk};
 ghost use Rattle.plain_vol.specs.declared.places.Place.{Place};
 ghost use Rattle.plain_vol.specs.Directories.{is_nil};
-ghost use Rattle.plain_vol.specs.Mending.{is_empty, lost, places, stays};
-ghost use Rattle.vol_parts.specs.Fatal.{stripped};
+ghost use Rattle.plain_vol.specs.Mending.{is_empty, lost, places, stays, stripped};
 ghost use Rattle.vol_places.specs.Places.{place_of, first_at, AreFirsts};
 ghost use Rattle.vol_places.specs.Waiting.{staying, is_waiting};
 
@@ -13,8 +12,9 @@ use crate::places::Spot;
 use plain_cat::{Cat, DirEnt, DirEnts, File, NoMemory, Slot};
 use std::alloc::Global;
 
-// Whether an entry stays: it names a live file, which keeps it.
-fn stays(cat: &Cat, firsts: &[Option<Spot<'_>>], spot: &Spot<'_>) -> bool
+/// Whether an entry stays once the volume is mended: it names a live file, which keeps it. `firsts` has the first entries of all
+/// files, as `all_firsts` gives them.
+pub fn stays(cat: &Cat, firsts: &[Option<Spot<'_>>], spot: &Spot<'_>) -> bool
     requires { AreFirsts cat.now (places cat.now) firsts.now }
     ensures { result ≡ stays cat.now (place_of spot.now) }
 {

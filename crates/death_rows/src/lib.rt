@@ -1,0 +1,32 @@
+//! Worked examples of deaths, as laws on values: what a stage leaves, what a death ends, whose commands a history has, and who is
+//! killed. The volume is the fresh one of `plain_rows`.
+#![tactic(auto)]
+
+ghost use Rattle.death_rows.specs.Deaths.{CreateIsCharged, CreateIsLost, RenameHasBoth, RefusedShowsNothing, DeathClosesAndLeaks, OwnByNodes, KilledByScript};
+
+/// Of a CREATE that stops, its stages show the charge, and then the file in no directory.
+pub fn a_create_stops()
+    ensures charged { CreateIsCharged }
+    ensures lost { CreateIsLost }
+{}
+
+/// Of a RENAME that stops between its writes both names show, and of one that is refused nothing.
+pub fn a_rename_stops()
+    ensures both { RenameHasBoth }
+    ensures refused { RefusedShowsNothing }
+{}
+
+/// A death ends the opens of its node, and leaks what it had outside files.
+pub fn a_death_closes_and_leaks()
+    ensures { DeathClosesAndLeaks }
+{}
+
+/// A dead node answers nothing more, and no node answers out of its order.
+pub fn nodes_give_their_own_commands()
+    ensures { OwnByNodes }
+{}
+
+/// A death without a kill is none of the script.
+pub fn nodes_die_where_killed()
+    ensures { KilledByScript }
+{}

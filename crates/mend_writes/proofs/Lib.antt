@@ -1,0 +1,16 @@
+pub mod Basics
+pub mod Telling
+pub mod Singles
+pub mod Turned
+pub mod Parting
+pub mod Moved
+pub mod Leading
+pub mod MovedSteps
+pub mod LostEntry
+pub mod Entering
+pub mod Leaving
+pub mod Bitmaps
+pub mod ClusterBits
+pub mod Summing
+pub mod Finished
+pub mod Seeing

@@ -1,0 +1,48 @@
+-- An entry has room in a directory whatever its file is.
+use Rattle.std.proofs.Common.{◌≡◌, ◌+◌, ◌∙◌, ℕ, zero, suc, Bool, true, false, cond, List, [], ◌∷◌, Option, Some, None, map, refl, sym, ap}
+use Rattle.std.specs.Prelude.{leb}
+use Rattle.vol_words.specs.Packing.{cost, unfilled, over}
+use Rattle.plain_cat.specs.declared.entries.DirEnt.{DirEnt}
+use Rattle.plain_vol.specs.Directories.{before, inserted, is_nil, fits, nowhere, entry}
+
+-- the entry of no file
+abbrev unnumbered : DirEnt → DirEnt
+unnumbered e = record e { fid = nowhere }
+
+abbrev name_of : DirEnt → List ℕ
+name_of e = e.name
+
+unfilled_alike : (last : Option (List ℕ)) (used : ℕ) (es : List DirEnt) → map unnumbered (unfilled name_of last used es) ≡ unfilled name_of last used (map unnumbered es)
+unfilled_alike last used [] = refl
+unfilled_alike last used (e ∷ es) = by_test (leb (used + cost last e.name) 510) (unfilled_alike (Some e.name) (used + cost last e.name) es) where
+  by_test : (t : Bool) → map unnumbered (unfilled name_of (Some e.name) (used + cost last e.name) es) ≡ unfilled name_of (Some e.name) (used + cost last e.name) (map unnumbered es)
+      → map unnumbered (cond t (unfilled name_of (Some e.name) (used + cost last e.name) es) (e ∷ es))
+      ≡ cond t (unfilled name_of (Some e.name) (used + cost last e.name) (map unnumbered es)) (unnumbered e ∷ map unnumbered es)
+  by_test true h = h
+  by_test false h = refl
+
+over_alike : (k : ℕ) (es : List DirEnt) → map unnumbered (over name_of k es) ≡ over name_of k (map unnumbered es)
+over_alike zero es = refl
+over_alike (suc k) es = over_alike k (unfilled name_of None 0 es) ∙ ap (over name_of k) (unfilled_alike None 0 es)
+
+nil_alike : (es : List DirEnt) → is_nil es ≡ is_nil (map unnumbered es)
+nil_alike [] = refl
+nil_alike (e ∷ es) = refl
+
+fits_alike : (k : ℕ) (es : List DirEnt) → fits k es ≡ fits k (map unnumbered es)
+unfolding fits
+fits_alike k es = nil_alike (over name_of k es) ∙ ap is_nil (over_alike k es)
+
+inserted_alike : (e : DirEnt) (es : List DirEnt) → map unnumbered (inserted e es) ≡ inserted (unnumbered e) (map unnumbered es)
+unfolding before
+inserted_alike e [] = refl
+inserted_alike e (x ∷ es) = by_test (before e x) (inserted_alike e es) where
+  by_test : (t : Bool) → map unnumbered (inserted e es) ≡ inserted (unnumbered e) (map unnumbered es)
+      → map unnumbered (cond t (e ∷ x ∷ es) (x ∷ inserted e es)) ≡ cond t (unnumbered e ∷ unnumbered x ∷ map unnumbered es) (unnumbered x ∷ inserted (unnumbered e) (map unnumbered es))
+  by_test true h = refl
+  by_test false h = ap (λ xs. unnumbered x ∷ xs) h
+
+pub room_alike : (k : ℕ) (e : DirEnt) (es : List DirEnt) → fits k (inserted e es) ≡ fits k (inserted (entry e.name e.ver nowhere) es)
+room_alike k e es =
+    let f : DirEnt = entry e.name e.ver nowhere in
+    fits_alike k (inserted e es) ∙ ap (fits k) (inserted_alike e es) ∙ sym (fits_alike k (inserted f es) ∙ ap (fits k) (inserted_alike f es))

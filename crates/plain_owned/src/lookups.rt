@@ -1,0 +1,71 @@
+ghost use Rattle.std.specs.Prelude.{◌≡◌, option_copied};
+ghost use Rattle.plain_vol.specs.Lookups.{slot_at, last_seq, channel_at, has_file, is_open, place, versions, entry_of};
+
+use plain_cat::{Cat, DirEnt, Name, Open, Slot};
+use plain_vol::{highest, with_version};
+
+// The slot of a number.
+pub(crate) fn slot_at(cat: &Cat, n: u32) -> Option<&Slot>
+    ensures { option_copied result ≡ slot_at cat.now n }
+{
+    if n == 0 {
+        return None;
+    }
+    cat.files.items().get(n as usize - 1)
+}
+
+// The last sequence of a number.
+pub(crate) fn last_seq(cat: &Cat, n: u32) -> u16
+    ensures { result ≡ last_seq (slot_at cat.now n) }
+{
+    match slot_at(cat, n) {
+        Some(Slot::Used(file)) => file.seq,
+        Some(Slot::Free(seq)) => *seq,
+        None => 0,
+    }
+}
+
+// The place of a node's channel.
+pub(crate) fn place(node: u8, chan: u8) -> usize
+    ensures { result ≡ place node chan }
+{
+    8 * node.saturating_sub(1) as usize + chan.saturating_sub(1) as usize
+}
+
+// What a node's channel has open.
+pub(crate) fn channel_at(cat: &Cat, node: u8, chan: u8) -> Option<Open>
+    ensures { result ≡ channel_at cat.now node chan }
+{
+    match cat.opens.items().get(place(node, chan)) {
+        Some(open) => *open,
+        None => None,
+    }
+}
+
+fn has_file(n: u32, held: Option<Open>) -> bool
+    ensures { result ≡ has_file n held }
+{
+    match held {
+        Some(open) => open.file == n,
+        None => false,
+    }
+}
+
+// Whether some channel has the file of this number open.
+pub(crate) fn is_open(cat: &Cat, n: u32) -> bool
+    ensures { result ≡ is_open cat.now n }
+{
+    cat.opens.items().iter().any(|held| has_file(n, *held))
+}
+
+// The entry that is looked for.
+pub(crate) fn entry_of<'a>(entries: &'a [DirEnt], name: &Name, ver: u16) -> Option<&'a DirEnt>
+    ensures { option_copied result ≡ entry_of (versions name.now entries.now) ver }
+{
+    let ver = if ver == 0 {
+        highest(entries, name)
+    } else {
+        ver
+    };
+    with_version(entries, name, ver)
+}

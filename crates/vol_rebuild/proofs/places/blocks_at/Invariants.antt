@@ -1,0 +1,6 @@
+use Rattle.std.proofs.Common.{◌≡◌, take}
+use Rattle.vol_owners.specs.Places.{blocks_at}
+use Rattle.vol_rebuild.proofs.places.blocks_at.Given as goal
+
+abbrev pub invariant-loop-l : goal.invariant-loop-l
+invariant-loop-l l = l.all.items ≡ blocks_at l.blocks (take l.l-index l.places)
