@@ -97,7 +97,7 @@ pub fn rebuild<I: ImageDev>(alloc: Global, m: &mut Mirror<I>) -> Result<Mended, 
 
     // A fatal finding is told, the first one, and nothing is written where there is one.
     ensures refused { (f : Finding) → result ≡ Err (RebuildFault.NotMendable f) → IsFirstFatal m.old.blocks f × (m.new ≡ m.old) }
-    ensures fatal { (f : Finding) → IsFatal m.old.blocks f → IsRefusal result }
+    ensures fatal { (f : Finding) → IsFatal m.old.blocks f → IsRefusal result × (m.new ≡ m.old) }
 
     // ImageFault comes only where the image's count rose.
     ensures later { I.faults m.old.image ≤ I.faults m.new.image }
