@@ -53,8 +53,11 @@ event_keeps w n s event.Leave p = record { orderly = p.orderly }
 event_keeps w n s (event.Lock name mode) p = record { orderly = p.orderly }
 event_keeps w n s (event.Look lbn) p = record { orderly = p.orderly }
 event_keeps w n s (event.Fetch lbn) p = record { orderly = p.orderly }
-event_keeps w n s event.SpaceLock p = record { orderly = p.orderly }
+event_keeps w n s (event.Claim q name mode) p = record { orderly = p.orderly }
 event_keeps w n s (event.SpaceLook clusters number lbn) p = record { orderly = p.orderly }
+event_keeps w n s event.LowerV p = record { orderly = p.orderly }
+event_keeps w n s event.LowerX p = record { orderly = p.orderly }
+event_keeps w n s event.Return p = record { orderly = p.orderly }
 event_keeps w n s event.SpaceEnd p = record { orderly = p.orderly }
 event_keeps w n s (event.SpaceWrite v) p = record { orderly = p.orderly }
 event_keeps w n s (event.Plan q) p = record { orderly = p.orderly }

@@ -3,6 +3,8 @@ pub mod Walked
 pub mod Answered
 pub mod MountedVolumes
 pub mod Reported
+pub mod Imaged
+pub mod Jobs
 pub mod Analyzed
 pub mod OneVerdict
 pub mod Pushed

@@ -12,8 +12,8 @@ use Rattle.vol_init.specs.declared.fault.InitFault.{InitFault}
 use Rattle.vol_init.specs.Refusals.{refusal}
 use Rattle.run_engine.specs.declared.status.Status.{Status}
 use Rattle.run_engine.specs.declared.status.Status.TheVariants as status
-use Rattle.clus_top.specs.Words.{Wanted, Run, Analyze, Init}
-use Rattle.clus_top.specs.Statuses.{IsTooLong, IsBad, IsOverfull, IsGood, IsRunDue, IsAnalysisDue, sized, IsPossible, IsInitDue, IsWordsDue}
+use Rattle.clus_top.specs.Words.{Wanted, Run, Soak, Analyze, Init}
+use Rattle.clus_top.specs.Statuses.{IsTooLong, IsBad, IsOverfull, IsGood, IsRunDue, IsSoakDue, IsAnalysisDue, sized, IsPossible, IsInitDue, IsWordsDue}
 use Rattle.clus_top.specs.Verdicts.{is_verdict, HasOneVerdict}
 
 -- a size is inside or outside, and not both
@@ -197,6 +197,58 @@ none_alone size bs list inside none status.NoMemory v h = absurd (false≢true v
 none_alone size bs list inside none status.Unfinished v h = absurd (false≢true v)
 none_alone size bs list inside none (status.BadInit x) v h = absurd h
 
+-- nor of a soak
+abbrev AloneInSoak : ℕ → ℕ → List Block → Status → Type 0
+AloneInSoak n size bs s = (other : Status) → is_verdict other ≡ true → IsSoakDue n size (Some bs) other → other ≡ s
+
+soak_outside : (n size : ℕ) (bs : List Block) → IsOutside size → AloneInSoak n size bs (status.BadSize size)
+soak_outside n size bs out status.Ok v h = absurd (outside size h.inside out)
+soak_outside n size bs out status.BadWords v h = absurd h
+soak_outside n size bs out status.ScriptFault v h = absurd h
+soak_outside n size bs out status.ScriptTooLong v h = absurd h
+soak_outside n size bs out (status.BadScript m) v h = absurd h
+soak_outside n size bs out status.TooMany v h = absurd h
+soak_outside n size bs out status.ImageFault v h = absurd (false≢true v)
+soak_outside n size bs out (status.BadSize m) v h = ap status.BadSize h.0
+soak_outside n size bs out (status.NotAccepted g) v h = absurd (outside size h.0 out)
+soak_outside n size bs out status.Findings v h = absurd h
+soak_outside n size bs out status.OutFault v h = absurd (false≢true v)
+soak_outside n size bs out status.NoMemory v h = absurd (false≢true v)
+soak_outside n size bs out status.Unfinished v h = absurd (false≢true v)
+soak_outside n size bs out (status.BadInit x) v h = absurd h
+
+soak_found : (n size : ℕ) (bs : List Block) (f : Finding) → OneList bs → IsInside size → IsFirstFound bs f → AloneInSoak n size bs (status.NotAccepted f)
+soak_found n size bs f list inside found status.Ok v h = absurd (unfound bs f list h.accepted found)
+soak_found n size bs f list inside found status.BadWords v h = absurd h
+soak_found n size bs f list inside found status.ScriptFault v h = absurd h
+soak_found n size bs f list inside found status.ScriptTooLong v h = absurd h
+soak_found n size bs f list inside found (status.BadScript m) v h = absurd h
+soak_found n size bs f list inside found status.TooMany v h = absurd h
+soak_found n size bs f list inside found status.ImageFault v h = absurd (false≢true v)
+soak_found n size bs f list inside found (status.BadSize m) v h = absurd (outside size inside h.1)
+soak_found n size bs f list inside found (status.NotAccepted g) v h = ap status.NotAccepted (same_first bs f g list found h.1)
+soak_found n size bs f list inside found status.Findings v h = absurd h
+soak_found n size bs f list inside found status.OutFault v h = absurd (false≢true v)
+soak_found n size bs f list inside found status.NoMemory v h = absurd (false≢true v)
+soak_found n size bs f list inside found status.Unfinished v h = absurd (false≢true v)
+soak_found n size bs f list inside found (status.BadInit x) v h = absurd h
+
+soak_good : (n size : ℕ) (bs : List Block) → OneList bs → IsInside size → Accepts bs → AloneInSoak n size bs status.Ok
+soak_good n size bs list inside none status.Ok v h = refl
+soak_good n size bs list inside none status.BadWords v h = absurd h
+soak_good n size bs list inside none status.ScriptFault v h = absurd h
+soak_good n size bs list inside none status.ScriptTooLong v h = absurd h
+soak_good n size bs list inside none (status.BadScript m) v h = absurd h
+soak_good n size bs list inside none status.TooMany v h = absurd h
+soak_good n size bs list inside none status.ImageFault v h = absurd (false≢true v)
+soak_good n size bs list inside none (status.BadSize m) v h = absurd (outside size inside h.1)
+soak_good n size bs list inside none (status.NotAccepted g) v h = absurd (unfound bs g list none h.1)
+soak_good n size bs list inside none status.Findings v h = absurd h
+soak_good n size bs list inside none status.OutFault v h = absurd (false≢true v)
+soak_good n size bs list inside none status.NoMemory v h = absurd (false≢true v)
+soak_good n size bs list inside none status.Unfinished v h = absurd (false≢true v)
+soak_good n size bs list inside none (status.BadInit x) v h = absurd h
+
 words_alone : (other : Status) → is_verdict other ≡ true → IsWordsDue other → other ≡ status.BadWords
 words_alone status.Ok v h = absurd h
 words_alone status.BadWords v h = refl
@@ -259,6 +311,24 @@ of_run bytes size bs fs one list found =
     elim (cases_lt 1048576 (length bytes)) [
       | inl long ↦ record { status = status.ScriptTooLong; verdict = refl; due = long; alone = alone_long bytes size bs long }
       | inr within ↦ of_script bytes size bs fs one list within found
+    ]
+
+of_mounted : (n : ℕ) (bytes : List ℕ) (size : ℕ) (bs : List Block) (fs : List Finding) → OneList bs → IsInside size → AreFindings bs fs → HasOneVerdict (Some (Soak n)) bytes size bs
+of_mounted n bytes size bs [] list inside none = record {
+  status = status.Ok;
+  verdict = refl;
+  due = record { inside = inside; accepted = none };
+  alone = soak_good n size bs list inside none;
+}
+of_mounted n bytes size bs (f ∷ fs) list inside found =
+    let first : IsFirstFound bs f = (fs, found) in
+    record { status = status.NotAccepted f; verdict = refl; due = (inside, first); alone = soak_found n size bs f list inside first }
+
+of_soak : (n : ℕ) (bytes : List ℕ) (size : ℕ) (bs : List Block) (fs : List Finding) → OneList bs → AreFindings bs fs → HasOneVerdict (Some (Soak n)) bytes size bs
+of_soak n bytes size bs fs list found =
+    elim (is_size size) [
+      | inr out ↦ record { status = status.BadSize size; verdict = refl; due = (refl, out); alone = soak_outside n size bs out }
+      | inl inside ↦ of_mounted n bytes size bs fs list inside found
     ]
 
 of_found : (bytes : List ℕ) (size : ℕ) (bs : List Block) (fs : List Finding) → OneList bs → IsInside size → AreFindings bs fs → HasOneVerdict (Some Analyze) bytes size bs
@@ -362,5 +432,6 @@ pub one_verdict : (wanted : Option Wanted) (bytes : List ℕ) (size : ℕ) (bs :
     → HasOneVerdict wanted bytes size bs
 one_verdict None bytes size bs fs one list found = record { status = status.BadWords; verdict = refl; due = tt; alone = words_alone }
 one_verdict (Some Run) bytes size bs fs one list found = of_run bytes size bs fs one list found
+one_verdict (Some (Soak n)) bytes size bs fs one list found = of_soak n bytes size bs fs list found
 one_verdict (Some Analyze) bytes size bs fs one list found = of_analysis bytes size bs fs list found
 one_verdict (Some (Init cluster files label)) bytes size bs fs one list found = of_init cluster files label bytes size bs

@@ -28,9 +28,11 @@ use Rattle.run_script.specs.Spelling.{SpellsScript}
 use Rattle.vol_analyze.specs.Judging.{IsFirstFound}
 use Rattle.clus_top.specs.declared.run.Stop.{Stop}
 use Rattle.clus_top.specs.declared.run.Stop.TheVariants as stop
+use Rattle.clus_top.specs.declared.run.Printed.{Printed}
+use Rattle.clus_top.specs.declared.run.Printed.TheVariants as printed
 use Rattle.run_engine.specs.declared.status.Status.{Status}
 use Rattle.run_engine.specs.declared.status.Status.TheVariants as status
-use Rattle.clus_top.specs.Runs.{is_mending, report_text, HasRun, LacksMemory, IsUnfinished}
+use Rattle.clus_top.specs.Runs.{IsScriptOf, IsSoakOf, is_mending, report_text, summary_text, HasRun, LacksMemory, IsUnfinished}
 use Rattle.vol_init.specs.declared.fault.InitFault.{InitFault}
 use Rattle.vol_init.specs.declared.fault.InitFault.TheVariants as fault
 use Rattle.vol_init.specs.Refusals.{refusal}
@@ -51,8 +53,13 @@ IsScriptEnd left before now status.TooMany = IfSome left IsOverfull
 IsScriptEnd left before now status.NoMemory = Unit {0}
 IsScriptEnd left before now s = ⊥
 
--- the report of a world that has run a script on the catalogue that blocks tell, in which nothing is found, and what it leaves there
-pub record IsReportIn (script : Script) (bs : List Block) (w : Plain) (text : List ℕ) : Type 0 where
+-- what is printed of a world whose history leads to a catalogue
+abbrev pub printed_text : Printed → Plain → Cat → List ℕ
+printed_text printed.Report w c = report_text w.history c
+printed_text (printed.Summary n) w c = summary_text n w c
+
+-- a world has run a script to its end on the catalogue that blocks tell, in which nothing is found, and this is what it leaves there
+pub record IsWholeIn (script : Script) (bs : List Block) (w : Plain) : Type 0 where
   pub opening : Cat
   pub after : Cat
   pub geometry : Geometry
@@ -62,7 +69,6 @@ pub record IsReportIn (script : Script) (bs : List Block) (w : Plain) (text : Li
   pub whole : Whole script w.history
   pub killed : Killed script w.history
   pub unmended : list_any is_mending w.history ≡ false
-  pub written : text ≡ report_text w.history after
   pub parts : IsGeometryBy bs (home_read (home_at bs)) geometry
   pub left : IsSpelt geometry w.blocks after
 
@@ -72,12 +78,13 @@ pub record IsDriveIn (script : Script) (bs : List Block) (told new : Option (Lis
   pub ran : HasRun script bs world
   pub image : new ≡ told_as told world.blocks
 
--- and the world has come to its end, with this report
-pub record IsEndIn (script : Script) (bs : List Block) (told new : Option (List Block)) (text : List ℕ) : Type 0 where
+-- and the world has come to its end, of which this text is printed
+pub record IsEndIn (what : Printed) (script : Script) (bs : List Block) (told new : Option (List Block)) (text : List ℕ) : Type 0 where
   pub drive : IsDriveIn script bs told new
   pub walked : IsRotatedIn (budget_of drive.ran.start) (played script.plays drive.ran.start) drive.world
   pub over : AllOver drive.world
-  pub report : IsReportIn script bs drive.world text
+  pub left : IsWholeIn script bs drive.world
+  pub written : text ≡ printed_text what drive.world left.after
 
 -- and so many turns are made that no more come, though a node is not over
 pub record IsSpentIn (script : Script) (bs : List Block) (told new : Option (List Block)) : Type 0 where
@@ -101,14 +108,14 @@ pub record IsCutShortIn (script : Script) (bs : List Block) (told new : Option (
   pub cut : IsCutIn script bs told new
   pub written : text ≡ cut_text cut.world.history
 
--- Why a script gave no report on the blocks of a volume, but for a write that failed, and what the image has then.
+-- Why a script came to no end on the blocks of a volume, but for a write that failed, and what the image has then.
 abbrev pub IsStopIn : Script → List Block → Option (List Block) → Option (List Block) → Status → Type 0
 IsStopIn script bs told new (status.NotAccepted f) = IsFirstFound bs f × (new ≡ told)
 IsStopIn script bs told new status.NoMemory = (new ≡ told) ⊎ IsLackingIn script bs told new
 IsStopIn script bs told new status.Unfinished = Accepts bs × IsSpentIn script bs told new
 IsStopIn script bs told new s = ⊥
 
--- why it gave none
+-- why it came to none
 abbrev pub IsStopBy : Script → List Block → Option (List Block) → Option (List Block) → ℕ → ℕ → Stop → Type 0
 IsStopBy script bs told new had has (stop.Cut text) = Rose had has × IsCutShortIn script bs told new text.items
 IsStopBy script bs told new had has stop.Bare = Rose had has × IsCutIn script bs told new
@@ -133,6 +140,21 @@ load_status load.ImageFault = status.ImageFault
 load_status (load.BadSize n) = status.BadSize n
 load_status load.NoMemory = status.NoMemory
 
+-- Why a script came to no end on an image, but for a write that failed, of the load or of the blocks, and what the image has then.
+abbrev pub IsImageEnd : Script → ℕ → Option (List Block) → Option (List Block) → ℕ → ℕ → Status → Type 0
+IsImageEnd script size told new had has status.ImageFault = Rose had has × (new ≡ told)
+IsImageEnd script size told new had has (status.BadSize n) = ((n ≡ size) × IsOutside size) × (new ≡ told)
+IsImageEnd script size told new had has (status.NotAccepted f) = (IsInside size × IfSome told (λ bs. IsFirstFound bs f)) × (new ≡ told)
+IsImageEnd script size told new had has status.NoMemory = (new ≡ told) ⊎ IfSome told (λ bs. IsLackingIn script bs told new)
+IsImageEnd script size told new had has status.Unfinished = IsAccepted size told × IfSome told (λ bs. IsSpentIn script bs told new)
+IsImageEnd script size told new had has s = ⊥
+
+-- why it came to none
+abbrev pub IsImageStop : Script → ℕ → Option (List Block) → Option (List Block) → ℕ → ℕ → Stop → Type 0
+IsImageStop script size told new had has (stop.Cut text) = Rose had has × IfSome told (λ bs. IsCutShortIn script bs told new text.items)
+IsImageStop script size told new had has stop.Bare = Rose had has × IfSome told (λ bs. IsCutIn script bs told new)
+IsImageStop script size told new had has (stop.By s) = IsImageEnd script size told new had has s
+
 -- why a run gave no report: of the script, of the load, or of the blocks
 abbrev pub IsRunEnd : Option (List ℕ) → ℕ → Option (List Block) → ℕ → ℕ → ℕ → ℕ → Status → Type 0
 IsRunEnd left size told read reading had has status.ScriptFault = Rose read reading
@@ -143,7 +165,7 @@ IsRunEnd left size told read reading had has status.ImageFault = IfSome left IsG
 IsRunEnd left size told read reading had has (status.BadSize n) = IfSome left IsGood × (n ≡ size) × IsOutside size
 IsRunEnd left size told read reading had has (status.NotAccepted f) = IfSome left IsGood × IsInside size × IfSome told (λ bs. IsFirstFound bs f)
 IsRunEnd left size told read reading had has status.NoMemory = Unit {0}
-IsRunEnd left size told read reading had has status.Unfinished = IfSome left IsGood × IsAccepted size told × IfSome left (λ bytes. IfSome told (IsUnfinished bytes))
+IsRunEnd left size told read reading had has status.Unfinished = IfSome left IsGood × IsAccepted size told × IfSome told (IsUnfinished (IsScriptOf left))
 IsRunEnd left size told read reading had has s = ⊥
 
 -- a run that a write cut short is one of a good script, and the image has counted a fault
@@ -152,16 +174,31 @@ IsRunStop left size told read reading had has (stop.Cut text) = IfSome left IsGo
 IsRunStop left size told read reading had has stop.Bare = IfSome left IsGood × Rose had has
 IsRunStop left size told read reading had has (stop.By s) = IsRunEnd left size told read reading had has s
 
--- what the image has with a status whose text says all, and with the text of a run that a write cut short
-abbrev pub IsQuietImage : Option (List ℕ) → Option (List Block) → Option (List Block) → Status → Type 0
-IsQuietImage left told new status.NoMemory = (new ≡ told) ⊎ IfSome told (λ bs. IsLackingDriveOf left bs new)
-IsQuietImage left told new status.Unfinished = IfSome told (λ bs. IsSpentDriveOf left bs new)
-IsQuietImage left told new s = new ≡ told
+-- why a soak gave no summary: of the load, or of the blocks
+abbrev pub IsSoakEnd : ℕ → ℕ → Option (List Block) → ℕ → ℕ → Status → Type 0
+IsSoakEnd n size told had has status.ImageFault = Rose had has
+IsSoakEnd n size told had has (status.BadSize k) = (k ≡ size) × IsOutside size
+IsSoakEnd n size told had has (status.NotAccepted f) = IsInside size × IfSome told (λ bs. IsFirstFound bs f)
+IsSoakEnd n size told had has status.NoMemory = Unit {0}
+IsSoakEnd n size told had has status.Unfinished = IsAccepted size told × IfSome told (IsUnfinished (IsSoakOf n))
+IsSoakEnd n size told had has s = ⊥
 
-abbrev pub IsStopImage : Option (List ℕ) → Option (List Block) → Option (List Block) → Stop → Type 0
-IsStopImage left told new (stop.Cut text) = IfSome told (λ bs. IsCutShort left bs new text.items)
-IsStopImage left told new stop.Bare = IfSome told (λ bs. IsCutShort left bs new (status_text status.ImageFault))
-IsStopImage left told new (stop.By s) = IsQuietImage left told new s
+-- and of one that a write cut short the image has counted a fault
+abbrev pub IsSoakStop : ℕ → ℕ → Option (List Block) → ℕ → ℕ → Stop → Type 0
+IsSoakStop n size told had has (stop.Cut text) = Rose had has
+IsSoakStop n size told had has stop.Bare = Rose had has
+IsSoakStop n size told had has (stop.By s) = IsSoakEnd n size told had has s
+
+-- what the image has with a status whose text says all, and with the text of a run that a write cut short
+abbrev pub IsQuietImage : (Script → Type 0) → Option (List Block) → Option (List Block) → Status → Type 0
+IsQuietImage IsGiven told new status.NoMemory = (new ≡ told) ⊎ IfSome told (λ bs. IsLackingDriveOf IsGiven bs new)
+IsQuietImage IsGiven told new status.Unfinished = IfSome told (λ bs. IsSpentDriveOf IsGiven bs new)
+IsQuietImage IsGiven told new s = new ≡ told
+
+abbrev pub IsStopImage : (Script → Type 0) → Option (List Block) → Option (List Block) → Stop → Type 0
+IsStopImage IsGiven told new (stop.Cut text) = IfSome told (λ bs. IsCutShort IsGiven bs new text.items)
+IsStopImage IsGiven told new stop.Bare = IfSome told (λ bs. IsCutShort IsGiven bs new (status_text status.ImageFault))
+IsStopImage IsGiven told new (stop.By s) = IsQuietImage IsGiven told new s
 
 -- these are the findings of the blocks
 abbrev pub AreFoundIn : List Finding → List Block → Type 0

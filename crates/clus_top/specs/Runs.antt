@@ -1,5 +1,5 @@
 -- What a run of a script answers on a volume.
-use Rattle.std.specs.Prelude.{◌≡◌, ◌⊎◌, ℕ, Bool, true, false, List, Option, Some}
+use Rattle.std.specs.Prelude.{◌≡◌, ◌⊎◌, ℕ, Bool, true, false, List, Option, Some, IfSome}
 use Rattle.std.specs.List.{list_any}
 use Rattle.vol_words.specs.Fields.{Block}
 use Rattle.fx_home.specs.Homes.{home_read}
@@ -15,12 +15,14 @@ use Rattle.vol_parts.specs.Findings.{home_at, Accepts, CatOf}
 use Rattle.vol_faults.specs.Free.{IsGeometryBy}
 use Rattle.run_script.specs.Lines.{lines_of}
 use Rattle.run_script.specs.Spelling.{SpellsScript}
+use Rattle.run_script.specs.Soaks.{soak_script}
 use Rattle.core_state.specs.Worlds.{Plain}
 use Rattle.core_state.specs.Goods.{Good}
 use Rattle.core_state.specs.Mounting.{IsMounted}
 use Rattle.run_engine.specs.Walks.{played, budget_of, IsPartOfWalk, IsRotatedIn, AllOver, IsSpent, IsNextIn, IsBeforeTaking}
 use Rattle.run_engine.specs.Ended.{IsSpelt}
 use Rattle.run_engine.specs.Reports.{report_bytes}
+use Rattle.run_engine.specs.Summaries.{summary_bytes}
 
 -- an entry is a mending
 unfoldable pub is_mending : Entry → Bool
@@ -28,23 +30,31 @@ is_mending (Done n c r) = false
 is_mending (Died n st k ns) = false
 is_mending (Mended m) = true
 
--- the report of a history that leads to a catalogue
-abbrev pub report_text : List Entry → Cat → List ℕ
-report_text h c = report_bytes h (free_clusters c)
+-- ---- which script a job runs
 
--- The text is the report of the history of a world: from the volume as it is mounted the script's plays and turns in rotation, at
--- most as many as a run makes, have led to it, and every node is over. In this history each node of the script gives each of its
--- commands once and in order, nodes die only where the script kills them, and nothing is mended; and it replays on one uncached
--- volume, which begins with the catalogue that the blocks tell, in which nothing is found. The image has the blocks of this world:
--- by the geometry of the volume they spell the catalogue to which the history leads, and nothing is outside at any node.
-pub record IsReport (bytes : List ℕ) (bs : List Block) (new : Option (List Block)) (text : List ℕ) : Type 0 where
+-- the one that a text spells, where the text is told
+abbrev pub IsScriptOf : Option (List ℕ) → Script → Type 0
+IsScriptOf left script = IfSome left (λ bytes. SpellsScript (lines_of bytes) script)
+
+-- the one that is drawn from a number
+abbrev pub IsSoakOf : ℕ → Script → Type 0
+IsSoakOf n script = script ≡ soak_script n
+
+-- ---- a run that has come to its end
+
+-- A world of a script that a job runs: from the volume as it is mounted the script's plays and turns in rotation, at most as many as a
+-- run makes, have led to it, and every node is over. In its history each node of the script gives each of its commands once and in
+-- order, nodes die only where the script kills them, and nothing is mended; and it replays on one uncached volume, which begins with
+-- the catalogue that the blocks tell, in which nothing is found. The image has the blocks of this world: by the geometry of the volume
+-- they spell the catalogue to which the history leads, and nothing is outside at any node.
+pub record HasRunToEnd (IsGiven : Script → Type 0) (bs : List Block) (new : Option (List Block)) : Type 0 where
   pub script : Script
   pub start : Plain
   pub world : Plain
   pub opening : Cat
   pub after : Cat
   pub geometry : Geometry
-  pub spelt : SpellsScript (lines_of bytes) script
+  pub given : IsGiven script
   pub accepted : Accepts bs
   pub mounted : IsMounted bs script start
   pub walked : IsRotatedIn (budget_of start) (played script.plays start) world
@@ -54,10 +64,30 @@ pub record IsReport (bytes : List ℕ) (bs : List Block) (new : Option (List Blo
   pub whole : Whole script world.history
   pub killed : Killed script world.history
   pub unmended : list_any is_mending world.history ≡ false
-  pub written : text ≡ report_text world.history after
   pub parts : IsGeometryBy bs (home_read (home_at bs)) geometry
   pub image : new ≡ Some world.blocks
   pub left : IsSpelt geometry world.blocks after
+
+-- the report of a history that leads to a catalogue
+abbrev pub report_text : List Entry → Cat → List ℕ
+report_text h c = report_bytes h (free_clusters c)
+
+-- The text is the report of the history of a world that has run the script to its end.
+pub record IsReport (IsGiven : Script → Type 0) (bs : List Block) (new : Option (List Block)) (text : List ℕ) : Type 0 where
+  pub ran : HasRunToEnd IsGiven bs new
+  pub written : text ≡ report_text ran.world.history ran.after
+
+-- the summary of a soak that has led to a world, whose history leads to a catalogue
+abbrev pub summary_text : ℕ → Plain → Cat → List ℕ
+summary_text n w c = summary_bytes n w (free_clusters c)
+
+-- The text is the summary of a world that has run soak n to its end: of its history, of what its nodes have read and found cached, and
+-- of the free clusters of the catalogue to which the history leads.
+pub record IsSummary (n : ℕ) (bs : List Block) (new : Option (List Block)) (text : List ℕ) : Type 0 where
+  pub ran : HasRunToEnd (IsSoakOf n) bs new
+  pub written : text ≡ summary_text n ran.world ran.after
+
+-- ---- a run as far as it came
 
 -- A world that has run a script on the volume of these blocks, as far as its nodes came: plays and turns have led to it from the
 -- volume as it is mounted, and it keeps the rules.
@@ -74,10 +104,10 @@ LacksMemory start plays w = IsBeforeTaking (IsNextIn start plays w) w ⊎ (AllOv
 
 -- A run that cannot end: on the volume as it is mounted, after the plays and as many turns in rotation as a run makes at most,
 -- a node is not over.
-pub record IsUnfinished (bytes : List ℕ) (bs : List Block) : Type 0 where
+pub record IsUnfinished (IsGiven : Script → Type 0) (bs : List Block) : Type 0 where
   pub script : Script
   pub start : Plain
   pub stopped : Plain
-  pub spelt : SpellsScript (lines_of bytes) script
+  pub given : IsGiven script
   pub mounted : IsMounted bs script start
   pub spent : IsSpent (budget_of start) (played script.plays start) stopped

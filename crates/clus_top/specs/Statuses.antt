@@ -20,10 +20,10 @@ use Rattle.vol_fresh.specs.Layouts.{total, reserved_clusters}
 use Rattle.vol_init.specs.declared.fault.InitFault.{InitFault}
 use Rattle.vol_init.specs.declared.fault.InitFault.TheVariants as fault
 use Rattle.vol_init.specs.Refusals.{refusal}
-use Rattle.clus_top.specs.Words.{Wanted, Run, Analyze, Init}
+use Rattle.clus_top.specs.Words.{Wanted, Run, Soak, Analyze, Init}
 use Rattle.run_engine.specs.Reports.{lines_bytes}
 use Rattle.plain_cat.specs.declared.history.Entry.{Entry}
-use Rattle.clus_top.specs.Runs.{IsReport, IsUnfinished}
+use Rattle.clus_top.specs.Runs.{IsScriptOf, IsSoakOf, IsReport, IsSummary, IsUnfinished}
 
 -- why an image is not formatted
 unfoldable pub init_fault_text : InitFault → List ℕ
@@ -106,8 +106,19 @@ IsRunDue left size told (status.NotAccepted f) = IfSome left IsGood × IsInside 
 IsRunDue left size told status.Findings = ⊥
 IsRunDue left size told status.OutFault = IfSome left IsGood × IsAccepted size told
 IsRunDue left size told status.NoMemory = Unit {0}
-IsRunDue left size told status.Unfinished = IfSome left IsGood × IsAccepted size told × IfSome left (λ bytes. IfSome told (IsUnfinished bytes))
+IsRunDue left size told status.Unfinished = IfSome left IsGood × IsAccepted size told × IfSome told (IsUnfinished (IsScriptOf left))
 IsRunDue left size told (status.BadInit f) = ⊥
+
+-- Of a soak, which reads no script. The order is image read, size, acceptance, output.
+abbrev pub IsSoakDue : ℕ → ℕ → Option (List Block) → Status → Type 0
+IsSoakDue n size told status.Ok = IsAccepted size told
+IsSoakDue n size told status.ImageFault = Unit {0}
+IsSoakDue n size told (status.BadSize k) = (k ≡ size) × IsOutside size
+IsSoakDue n size told (status.NotAccepted f) = IsInside size × IfSome told (λ bs. IsFirstFound bs f)
+IsSoakDue n size told status.OutFault = IsAccepted size told
+IsSoakDue n size told status.NoMemory = Unit {0}
+IsSoakDue n size told status.Unfinished = IsAccepted size told × IfSome told (IsUnfinished (IsSoakOf n))
+IsSoakDue n size told s = ⊥
 
 -- Of an analysis. The order is image read, size, findings, output.
 abbrev pub IsAnalysisDue : ℕ → Option (List Block) → Status → Type 0
@@ -149,14 +160,20 @@ IsWordsDue s = ⊥
 abbrev pub IsDue : Option Wanted → Option (List ℕ) → ℕ → Option (List Block) → Status → Type 0
 IsDue None left size told s = IsWordsDue s
 IsDue (Some Run) left size told s = IsRunDue left size told s
+IsDue (Some (Soak n)) left size told s = IsSoakDue n size told s
 IsDue (Some Analyze) left size told s = IsAnalysisDue size told s
 IsDue (Some (Init cluster files label)) left size told s = IsInitDue cluster files label size s
 
 -- ---- what is written
 
--- a text is the report on this script and these blocks, where both are told, and on those that the image has then
+-- a text is the report on this script, which the bytes spell where they are told, and on these blocks, where they are told, and on
+-- those that the image has then
 abbrev pub IsReportOn : Option (List ℕ) → Option (List Block) → Option (List Block) → List ℕ → Type 0
-IsReportOn left told new text = IfSome left (λ bytes. IfSome told (λ bs. IsReport bytes bs new text))
+IsReportOn left told new text = IfSome told (λ bs. IsReport (IsScriptOf left) bs new text)
+
+-- a text is the summary of this soak on these blocks, where they are told
+abbrev pub IsSummaryOn : ℕ → Option (List Block) → Option (List Block) → List ℕ → Type 0
+IsSummaryOn n told new text = IfSome told (λ bs. IsSummary n bs new text)
 
 -- what an analysis says of a volume in which nothing is found
 abbrev pub accepted_text : List ℕ
@@ -180,6 +197,7 @@ made_text label l = codes "volume " ++ (label ++ (codes ": " ++ room_text l))
 abbrev pub IsTextOf : Option Wanted → Option (List ℕ) → ℕ → Option (List Block) → Option (List Block) → List ℕ → Type 0
 IsTextOf None left size told new text = ⊥
 IsTextOf (Some Run) left size told new text = IsReportOn left told new text
+IsTextOf (Some (Soak n)) left size told new text = IsSummaryOn n told new text
 IsTextOf (Some Analyze) left size told new text = text ≡ accepted_text
 IsTextOf (Some (Init cluster files label)) left size told new text = text ≡ made_text label (sized cluster files size)
 

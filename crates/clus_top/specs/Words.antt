@@ -1,22 +1,29 @@
 -- What the words of a call ask for.
-use Rattle.std.specs.Prelude.{◌+◌, ◌*◌, ◌-◌, ◌&&◌, nat_le, ℕ, Bool, List, [], ◌∷◌, Option, Some, None, codes, if◌then◌else◌}
+use Rattle.std.specs.Prelude.{◌≤◌, ◌+◌, ◌*◌, ◌-◌, ◌&&◌, nat_le, ℕ, Bool, List, [], ◌∷◌, Option, Some, None, codes, if◌then◌else◌}
 use Rattle.std.specs.List.{list_all}
 use Rattle.std.specs.Str.{bytes_eq}
 use Rattle.clus_top.specs.declared.words.Job.{Job}
 use Rattle.clus_top.specs.declared.words.Job.TheVariants as job
 
--- a job: run the script, print what is found in the volume, or format the image with these blocks in a cluster, these file
--- numbers and this label
+-- a job: run the script, run the soak of this number, print what is found in the volume, or format the image with these blocks in a
+-- cluster, these file numbers and this label
 pub data Wanted : Type 0 where
   Run : Wanted
+  Soak : ℕ → Wanted
   Analyze : Wanted
   Init : ℕ → ℕ → List ℕ → Wanted
 
 -- what a job of the program is
 abbrev pub wanted : Job → Wanted
 wanted job.Run = Run
+wanted (job.Soak n) = Soak n
 wanted job.Analyze = Analyze
 wanted (job.Init cluster files label) = Init cluster files label.now
+
+-- the number of a soak is at most 256
+abbrev pub IsWithinLimits : Job → Type 0
+IsWithinLimits (job.Soak n) = n ≤ 256
+IsWithinLimits j = Unit {0}
 
 -- a decimal digit
 abbrev pub is_digit : ℕ → Bool
@@ -39,6 +46,18 @@ number word = if list_all is_digit word then value_of word else None
 unfoldable pub named : List ℕ → Option Wanted
 named word = if bytes_eq word (codes "run") then Some Run else if bytes_eq word (codes "analyze") then Some Analyze else None
 
+-- a soak has a number from 1 to 256
+abbrev pub is_soak : ℕ → Bool
+is_soak n = nat_le 1 n && nat_le n 256
+
+abbrev pub soak_of : Option ℕ → Option Wanted
+soak_of (Some n) = if is_soak n then Some (Soak n) else None
+soak_of None = None
+
+-- the words of a soak
+unfoldable pub soaked : List ℕ → List ℕ → Option Wanted
+soaked word count = if bytes_eq word (codes "soak") then soak_of (number count) else None
+
 -- a format, where its two numbers are numbers
 abbrev pub init_with : Option ℕ → Option ℕ → List ℕ → Option Wanted
 init_with (Some cluster) (Some files) label = Some (Init cluster files label)
@@ -53,5 +72,6 @@ formatted word cluster files label =
 -- what the words ask for, or none where they have no reading
 unfoldable pub wanted_by : List (List ℕ) → Option Wanted
 wanted_by (word ∷ []) = named word
+wanted_by (word ∷ count ∷ []) = soaked word count
 wanted_by (word ∷ cluster ∷ files ∷ label ∷ []) = formatted word cluster files label
 wanted_by words = None

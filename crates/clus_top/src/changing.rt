@@ -26,17 +26,17 @@ const CHANGED: &[(&str, &str)] = &[
          2 LIST MFD\n",
         "1 N1 QUOTASET [1,4] 100 10 = set\n\
          2 N2 MKDIR R1 (4,4,0) OLD [1,4] = (12,1,0) OLD.DIR;1\n\
-         3 N1 CREATE R1 (4,4,0) DRAFT.TXT;0 4 [1,4] = (13,1,0) DRAFT.TXT;1\n\
-         4 N2 CREATE R2 (12,1,0) NOTE.TXT;0 1 [1,4] = (14,1,0) NOTE.TXT;1\n\
-         5 N1 EXTEND (13,1,0) 8 = 12 blocks\n\
+         3 N1 CREATE R1 (4,4,0) DRAFT.TXT;0 4 [1,4] = (21,1,0) DRAFT.TXT;1\n\
+         4 N2 CREATE R2 (12,1,0) NOTE.TXT;0 1 [1,4] = (13,1,0) NOTE.TXT;1\n\
+         5 N1 EXTEND (21,1,0) 8 = 12 blocks\n\
          6 N2 DELETE (4,4,0) OLD.DIR;1 = refused DirNotEmpty\n\
-         7 N1 TRUNC (13,1,0) 5 = 8 blocks\n\
+         7 N1 TRUNC (21,1,0) 5 = 8 blocks\n\
          8 N1 RENAME (4,4,0) DRAFT.TXT;1 FINAL.TXT;0 = FINAL.TXT;1\n\
-         9 N1 STAT (13,1,0) = file [1,4] 8 blocks mark 1 end 1,0\n\
+         9 N1 STAT (21,1,0) = file [1,4] 8 blocks mark 1 end 1,0\n\
          10 N2 DELETE (12,1,0) NOTE.TXT;1 = deleted\n\
          11 N1 QUOTASHOW [1,4] = usage 14 quota 100 overdraft 10\n\
          12 N2 DELETE (4,4,0) OLD.DIR;1 = deleted\n\
-         13 N2 LIST (4,4,0) = 12 entries 000000.DIR;1 (4,4,0) BACKUP.SYS;1 (8,8,0) BADBLK.SYS;1 (3,3,0) BADLOG.SYS;1 (9,9,0) BITMAP.SYS;1 (2,2,0) CONTIN.SYS;1 (7,7,0) CORIMG.SYS;1 (5,5,0) FINAL.TXT;1 (13,1,0) INDEXF.SYS;1 (1,1,0) QUOTA.SYS;1 (10,1,0) SYSLOST.DIR;1 (11,1,0) VOLSET.SYS;1 (6,6,0)\n\
+         13 N2 LIST (4,4,0) = 12 entries 000000.DIR;1 (4,4,0) BACKUP.SYS;1 (8,8,0) BADBLK.SYS;1 (3,3,0) BADLOG.SYS;1 (9,9,0) BITMAP.SYS;1 (2,2,0) CONTIN.SYS;1 (7,7,0) CORIMG.SYS;1 (5,5,0) FINAL.TXT;1 (21,1,0) INDEXF.SYS;1 (1,1,0) QUOTA.SYS;1 (10,1,0) SYSLOST.DIR;1 (11,1,0) VOLSET.SYS;1 (6,6,0)\n\
          end: 13 answered, 0 died, 229 free\n",
     ),
     (
@@ -89,7 +89,7 @@ const CHANGED: &[(&str, &str)] = &[
     ),
     (
         "NODES 4\n\
-         SCHED 1*40 2*5 3*5 4*5\n\
+         SCHED 1*42 2*5 3*5 4*5\n\
          1 CREATE R1 MFD A.TXT;0 4 [1,4]\n\
          2 EXTEND (12,1,0) 4\n\
          3 RENAME MFD A.TXT;1 C.TXT;0\n\
@@ -158,7 +158,7 @@ const CHANGED: &[(&str, &str)] = &[
          2 DELETE MFD A.TXT;0\n\
          1 LOOKUP R2 MFD A.TXT;0\n",
         "1 N1 CREATE R1 (4,4,0) A.TXT;0 4 [1,4] = (12,1,0) A.TXT;1\n\
-         2 N2 CREATE R1 (4,4,0) B.TXT;0 4 [1,4] = (13,1,0) B.TXT;1\n\
+         2 N2 CREATE R1 (4,4,0) B.TXT;0 4 [1,4] = (21,1,0) B.TXT;1\n\
          3 N1 DELETE (4,4,0) B.TXT;0 = deleted\n\
          4 N2 DELETE (4,4,0) A.TXT;0 = deleted\n\
          5 N1 LOOKUP R2 (4,4,0) A.TXT;0 = refused NoSuchFile\n\
@@ -166,7 +166,7 @@ const CHANGED: &[(&str, &str)] = &[
     ),
     (
         "NODES 8\n\
-         SCHED 1*30\n\
+         SCHED 1*32\n\
          1 CREATE R1 MFD A.TXT;0 4 [1,4]\n\
          1 EXTEND R1 1\n\
          2 EXTEND (12,1,0) 5\n\

@@ -11,7 +11,7 @@ use std::process::Abort;
 use std::test::Fail;
 
 // The image that a script leaves, which has this report, and in which this is found.
-fn left(
+pub fn left(
     rt: &impl Abort,
     alloc: Global,
     image: MemImage,
@@ -25,7 +25,11 @@ fn left(
 }
 
 // The same of each row, a script, its report and what is found, on a fresh volume.
-fn all_left(rt: &impl Abort, alloc: Global, rows: &[(&str, &str, &str)]) -> Result<(), NoMemory> {
+pub fn all_left(
+    rt: &impl Abort,
+    alloc: Global,
+    rows: &[(&str, &str, &str)],
+) -> Result<(), NoMemory> {
     for (script, report, found) in rows {
         left(rt, alloc, volume(alloc)?, script, report, found)?;
     }
@@ -33,8 +37,8 @@ fn all_left(rt: &impl Abort, alloc: Global, rows: &[(&str, &str, &str)]) -> Resu
 }
 
 /// A node that dies before its directory write, which leaves a file in no directory, while another node waits for the directory; one
-/// that dies with sixteen clusters, so that another finds too few; two that die one after the other, as in the example of their name;
-/// and eight that die one after the other, each of which has a cluster, a number and a charge.
+/// that dies with 32 clusters, so that another finds too few; two that die one after the other, as in the example of their name; and
+/// eight of which six die one after the other, each with 17 clusters, numbers and a charge, so that no number is left for the others.
 const IN_COMMANDS: &[(&str, &str, &str)] = &[
     (
         "NODES 2\n\
@@ -42,11 +46,13 @@ const IN_COMMANDS: &[(&str, &str, &str)] = &[
          1 CREATE R1 MFD A.TXT;0 10 [1,4]\n\
          2 LOOKUP R1 MFD A.TXT;0\n\
          2 CREATE R1 MFD B.TXT;0 4 [1,4]\n",
-        "1 N1 died at lost, leaked 0 clusters, 0 numbers\n\
+        "1 N1 died at lost, leaked 16 clusters, 8 numbers\n\
          2 N2 LOOKUP R1 (4,4,0) A.TXT;0 = refused NoSuchFile\n\
-         3 N2 CREATE R1 (4,4,0) B.TXT;0 4 [1,4] = (13,1,0) B.TXT;1\n\
-         end: 2 answered, 1 died, 227 free\n",
-        "lost 12\n",
+         3 N2 CREATE R1 (4,4,0) B.TXT;0 4 [1,4] = (21,1,0) B.TXT;1\n\
+         end: 2 answered, 1 died, 211 free\n",
+        "lost 12\n\
+         leaked clusters 16\n\
+         leaked numbers 8\n",
     ),
     (
         "NODES 2\n\
@@ -54,15 +60,15 @@ const IN_COMMANDS: &[(&str, &str, &str)] = &[
          1 CREATE R1 MFD A.TXT;0 64 [1,4]\n\
          2 CREATE R1 MFD B.TXT;0 308 [1,4]\n\
          2 CREATE R2 MFD C.TXT;0 308 [1,4]\n\
-         2 CREATE R3 MFD D.TXT;0 244 [1,4]\n\
+         2 CREATE R3 MFD D.TXT;0 180 [1,4]\n\
          2 CREATE R4 MFD E.TXT;0 4 [1,4]\n",
-        "1 N1 died at nothing, leaked 16 clusters, 1 numbers\n\
-         2 N2 CREATE R1 (4,4,0) B.TXT;0 308 [1,4] = (13,1,0) B.TXT;1\n\
-         3 N2 CREATE R2 (4,4,0) C.TXT;0 308 [1,4] = (14,1,0) C.TXT;1\n\
-         4 N2 CREATE R3 (4,4,0) D.TXT;0 244 [1,4] = (15,1,0) D.TXT;1\n\
+        "1 N1 died at nothing, leaked 32 clusters, 9 numbers\n\
+         2 N2 CREATE R1 (4,4,0) B.TXT;0 308 [1,4] = (21,1,0) B.TXT;1\n\
+         3 N2 CREATE R2 (4,4,0) C.TXT;0 308 [1,4] = (22,1,0) C.TXT;1\n\
+         4 N2 CREATE R3 (4,4,0) D.TXT;0 180 [1,4] = (23,1,0) D.TXT;1\n\
          5 N2 CREATE R4 (4,4,0) E.TXT;0 4 [1,4] = refused DeviceFull\n\
          end: 4 answered, 1 died, 0 free\n",
-        "leaked clusters 16\nleaked numbers 1\n",
+        "leaked clusters 32\nleaked numbers 9\n",
     ),
     (
         "# Nodes 1 and 3 die while they make files: a KILL comes in place of the write that it names, of node 1 that of the directory, of\n\
@@ -75,13 +81,13 @@ const IN_COMMANDS: &[(&str, &str, &str)] = &[
          2 CREATE R2 MFD NOTE.TXT;0 4 [1,4]\n\
          2 QUOTASHOW [1,4]\n\
          3 CREATE R1 MFD TASK.TXT;0 4 [1,4]\n",
-        "1 N1 died at lost, leaked 0 clusters, 0 numbers\n\
+        "1 N1 died at lost, leaked 16 clusters, 8 numbers\n\
          2 N2 LOOKUP R1 (4,4,0) PLAN.TXT;0 = refused NoSuchFile\n\
-         3 N3 died at charged, leaked 1 clusters, 1 numbers\n\
-         4 N2 CREATE R2 (4,4,0) NOTE.TXT;0 4 [1,4] = (14,1,0) NOTE.TXT;1\n\
+         3 N3 died at charged, leaked 17 clusters, 9 numbers\n\
+         4 N2 CREATE R2 (4,4,0) NOTE.TXT;0 4 [1,4] = (30,1,0) NOTE.TXT;1\n\
          5 N2 QUOTASHOW [1,4] = usage 23 quota 1088 overdraft 0\n\
-         end: 3 answered, 2 died, 226 free\n",
-        "lost 12\nleaked clusters 1\nleaked numbers 1\nusage of [1,4]: has 23, should be 18\n",
+         end: 3 answered, 2 died, 194 free\n",
+        "lost 12\nleaked clusters 33\nleaked numbers 17\nusage of [1,4]: has 23, should be 18\n",
     ),
     (
         "NODES 8\n\
@@ -91,16 +97,16 @@ const IN_COMMANDS: &[(&str, &str, &str)] = &[
          3 CREATE R1 MFD A.TXT;0 4 [1,4]\n4 CREATE R1 MFD A.TXT;0 4 [1,4]\n\
          5 CREATE R1 MFD A.TXT;0 4 [1,4]\n6 CREATE R1 MFD A.TXT;0 4 [1,4]\n\
          7 CREATE R1 MFD A.TXT;0 4 [1,4]\n8 CREATE R1 MFD A.TXT;0 4 [1,4]\n",
-        "1 N1 died at charged, leaked 1 clusters, 1 numbers\n\
-         2 N2 died at charged, leaked 1 clusters, 1 numbers\n\
-         3 N3 died at charged, leaked 1 clusters, 1 numbers\n\
-         4 N4 died at charged, leaked 1 clusters, 1 numbers\n\
-         5 N5 died at charged, leaked 1 clusters, 1 numbers\n\
-         6 N6 died at charged, leaked 1 clusters, 1 numbers\n\
-         7 N7 died at charged, leaked 1 clusters, 1 numbers\n\
-         8 N8 died at charged, leaked 1 clusters, 1 numbers\n\
-         end: 0 answered, 8 died, 223 free\n",
-        "leaked clusters 8\nleaked numbers 8\nusage of [1,4]: has 40, should be 0\n",
+        "1 N1 died at charged, leaked 17 clusters, 9 numbers\n\
+         2 N2 died at charged, leaked 17 clusters, 9 numbers\n\
+         3 N3 died at charged, leaked 17 clusters, 9 numbers\n\
+         4 N4 died at charged, leaked 17 clusters, 9 numbers\n\
+         5 N5 died at charged, leaked 17 clusters, 9 numbers\n\
+         6 N6 died at charged, leaked 17 clusters, 8 numbers\n\
+         7 N7 CREATE R1 (4,4,0) A.TXT;0 4 [1,4] = refused IndexFull\n\
+         8 N8 CREATE R1 (4,4,0) A.TXT;0 4 [1,4] = refused IndexFull\n\
+         end: 2 answered, 6 died, 129 free\n",
+        "leaked clusters 102\nleaked numbers 53\nusage of [1,4]: has 30, should be 0\n",
     ),
 ];
 
@@ -110,9 +116,10 @@ fn nodes_die_in_their_commands(rt: HostRuntime) -> Result<(), Fail> {
     Ok(())
 }
 
-/// Deaths that leave nothing to find: before the first turn, of a node that waits and has another waiting after it, after the last answer, and
-/// between the ask and the answer of an OPEN; and kills that never come, since there is no such turn or write. A file that a dead node
-/// had open is open no more. Deleted before that death, it stays marked.
+/// Deaths before the first turn, and of a node that waits and has another waiting after it, which leave nothing to find; after the last
+/// answer, and between the ask and the answer of an OPEN, which leave the stock; and kills that never come, since there is no such turn
+/// or write: the seven writes of a creation are those of its file and of its stock. A file that a dead node had open is open no more.
+/// Deleted before that death, it stays marked.
 const OF_NODES: &[(&str, &str, &str)] = &[
     (
         "NODES 2\n\
@@ -138,8 +145,8 @@ const OF_NODES: &[(&str, &str, &str)] = &[
     ),
     (
         "NODES 2\n\
-         SCHED 1*28 2*4 1\n\
-         KILL 1 TURN 29\n\
+         SCHED 1*30 2*4 1\n\
+         KILL 1 TURN 31\n\
          1 CREATE R1 MFD A.TXT;0 4 [1,4]\n\
          1 OPEN 1 R1 EX\n\
          2 OPEN 1 (12,1,0) PR\n\
@@ -147,43 +154,47 @@ const OF_NODES: &[(&str, &str, &str)] = &[
         "1 N1 CREATE R1 (4,4,0) A.TXT;0 4 [1,4] = (12,1,0) A.TXT;1\n\
          2 N1 OPEN 1 (12,1,0) EX = open\n\
          3 N2 OPEN 1 (12,1,0) PR = refused AccConflict\n\
-         4 N1 died at idle, leaked 0 clusters, 0 numbers\n\
+         4 N1 died at idle, leaked 16 clusters, 8 numbers\n\
          5 N2 OPEN 1 (12,1,0) PR = open\n\
          6 N2 CLOSE 1 = closed\n\
-         end: 5 answered, 1 died, 230 free\n",
-        "accepted\n",
+         end: 5 answered, 1 died, 214 free\n",
+        "leaked clusters 16\n\
+         leaked numbers 8\n",
     ),
     (
         "NODES 2\n\
-         SCHED 1*28 2*40\n\
-         KILL 1 TURN 29\n\
+         SCHED 1*30 2*40\n\
+         KILL 1 TURN 31\n\
          1 CREATE R1 MFD A.TXT;0 4 [1,4]\n\
          1 OPEN 1 R1 CR\n\
          2 DELETE MFD A.TXT;0\n",
         "1 N1 CREATE R1 (4,4,0) A.TXT;0 4 [1,4] = (12,1,0) A.TXT;1\n\
          2 N1 OPEN 1 (12,1,0) CR = open\n\
          3 N2 DELETE (4,4,0) A.TXT;0 = marked\n\
-         4 N1 died at idle, leaked 0 clusters, 0 numbers\n\
-         end: 3 answered, 1 died, 230 free\n",
-        "marked 12\n",
+         4 N1 died at idle, leaked 16 clusters, 8 numbers\n\
+         end: 3 answered, 1 died, 214 free\n",
+        "marked 12\n\
+         leaked clusters 16\n\
+         leaked numbers 8\n",
     ),
     (
         "NODES 2\n\
-         SCHED 1*28\n\
-         KILL 1 TURN 28\n\
+         SCHED 1*30\n\
+         KILL 1 TURN 30\n\
          1 CREATE R1 MFD A.TXT;0 4 [1,4]\n\
          1 OPEN 1 R1 EX\n\
          2 OPEN 1 (12,1,0) EX\n",
         "1 N1 CREATE R1 (4,4,0) A.TXT;0 4 [1,4] = (12,1,0) A.TXT;1\n\
-         2 N1 died at nothing, leaked 0 clusters, 0 numbers\n\
+         2 N1 died at nothing, leaked 16 clusters, 8 numbers\n\
          3 N2 OPEN 1 (12,1,0) EX = open\n\
          4 N2 CLOSE 1 = closed\n\
-         end: 3 answered, 1 died, 230 free\n",
-        "accepted\n",
+         end: 3 answered, 1 died, 214 free\n",
+        "leaked clusters 16\n\
+         leaked numbers 8\n",
     ),
     (
         "NODES 3\n\
-         KILL 1 WRITE 6\n\
+         KILL 1 WRITE 8\n\
          KILL 2 TURN 2\n\
          KILL 3 TURN 1\n\
          1 CREATE R1 MFD A.TXT;0 4 [1,4]\n",
@@ -299,11 +310,11 @@ const ACCEPTED: &str = "accepted\n";
 
 const LOOKS: (&str, &str) = ("LOOKUP R1 MFD A.TXT;0", "LOOKUP R1 (4,4,0) A.TXT;0");
 
-// Turns 15 and 16 write the bitmaps, and 20 to 22 quota row, header and directory. The answer is turn 23.
+// Turns 16 and 17 write the bitmaps, and 22 to 24 quota row, header and directory. The answer is turn 25.
 #[test]
 fn a_node_dies_at_each_turn(rt: HostRuntime) -> Result<(), Fail> {
     let alloc = rt.alloc();
-    let charged = "leaked clusters 3\nleaked numbers 1\nusage of [1,4]: has 13, should be 0\n";
+    let charged = "leaked clusters 19\nleaked numbers 9\nusage of [1,4]: has 13, should be 0\n";
     let rows = [
         at(
             1,
@@ -313,46 +324,46 @@ fn a_node_dies_at_each_turn(rt: HostRuntime) -> Result<(), Fail> {
             231,
             ACCEPTED,
         ),
-        at(2, 15, NOTHING, NOT_THERE, 231, ACCEPTED),
-        at(
-            16,
-            16,
-            "nothing, leaked 0 clusters, 1 numbers",
-            NOT_THERE,
-            231,
-            "leaked numbers 1\n",
-        ),
+        at(2, 16, NOTHING, NOT_THERE, 231, ACCEPTED),
         at(
             17,
-            20,
-            "nothing, leaked 3 clusters, 1 numbers",
+            17,
+            "nothing, leaked 0 clusters, 9 numbers",
             NOT_THERE,
-            228,
-            "leaked clusters 3\nleaked numbers 1\n",
+            231,
+            "leaked numbers 9\n",
         ),
         at(
-            21,
-            21,
-            "charged, leaked 3 clusters, 1 numbers",
+            18,
+            22,
+            "nothing, leaked 19 clusters, 9 numbers",
             NOT_THERE,
-            228,
+            212,
+            "leaked clusters 19\nleaked numbers 9\n",
+        ),
+        at(
+            23,
+            23,
+            "charged, leaked 19 clusters, 9 numbers",
+            NOT_THERE,
+            212,
             charged,
         ),
         at(
-            22,
-            22,
-            "lost, leaked 0 clusters, 0 numbers",
+            24,
+            24,
+            "lost, leaked 16 clusters, 8 numbers",
             NOT_THERE,
-            228,
-            "lost 12\n",
+            212,
+            "lost 12\nleaked clusters 16\nleaked numbers 8\n",
         ),
         at(
-            23,
-            23,
-            "done, leaked 0 clusters, 0 numbers",
+            25,
+            25,
+            "done, leaked 16 clusters, 8 numbers",
             "(12,1,0) A.TXT;1",
-            228,
-            ACCEPTED,
+            212,
+            "leaked clusters 16\nleaked numbers 8\n",
         ),
     ];
     let scene = Scene {
@@ -369,40 +380,40 @@ fn a_node_dies_at_each_turn(rt: HostRuntime) -> Result<(), Fail> {
 #[test]
 fn a_node_dies_at_each_write_of_a_directory(rt: HostRuntime) -> Result<(), Fail> {
     let alloc = rt.alloc();
-    let charged = "leaked clusters 1\nleaked numbers 1\nusage of [1,4]: has 5, should be 0\n";
+    let charged = "leaked clusters 17\nleaked numbers 9\nusage of [1,4]: has 5, should be 0\n";
     let rows = [
         at(1, 1, NOTHING, NOT_THERE, 231, ACCEPTED),
         at(
             2,
             2,
-            "nothing, leaked 0 clusters, 1 numbers",
+            "nothing, leaked 0 clusters, 9 numbers",
             NOT_THERE,
             231,
-            "leaked numbers 1\n",
+            "leaked numbers 9\n",
         ),
         at(
             3,
             3,
-            "nothing, leaked 1 clusters, 1 numbers",
+            "nothing, leaked 17 clusters, 9 numbers",
             NOT_THERE,
-            230,
-            "leaked clusters 1\nleaked numbers 1\n",
+            214,
+            "leaked clusters 17\nleaked numbers 9\n",
         ),
         at(
             4,
             8,
-            "charged, leaked 1 clusters, 1 numbers",
+            "charged, leaked 17 clusters, 9 numbers",
             NOT_THERE,
-            230,
+            214,
             charged,
         ),
         at(
             9,
             9,
-            "lost, leaked 0 clusters, 0 numbers",
+            "lost, leaked 16 clusters, 8 numbers",
             NOT_THERE,
-            230,
-            "lost 12\n",
+            214,
+            "lost 12\nleaked clusters 16\nleaked numbers 8\n",
         ),
     ];
     let scene = Scene {
@@ -437,18 +448,18 @@ fn a_node_dies_at_each_write_to_a_size(rt: HostRuntime) -> Result<(), Fail> {
         at(
             2,
             2,
-            "nothing, leaked 1 clusters, 0 numbers",
+            "nothing, leaked 17 clusters, 0 numbers",
             WHOLE,
-            228,
-            "leaked clusters 1\n",
+            212,
+            "leaked clusters 17\n",
         ),
         at(
             3,
             3,
-            "charged, leaked 1 clusters, 0 numbers",
+            "charged, leaked 17 clusters, 0 numbers",
             WHOLE,
-            228,
-            "leaked clusters 1\nusage of [1,4]: has 13, should be 9\n",
+            212,
+            "leaked clusters 17\nusage of [1,4]: has 13, should be 9\n",
         ),
     ];
     let cuts = [
@@ -691,12 +702,12 @@ fn no_entry_is_missing(rt: HostRuntime) -> Result<(), Fail> {
     let mut script = format!(in alloc;
         "NODES 2\nKILL 1 WRITE 5\n1 CREATE R1 (12,1,0) {name};0 0 [1,4]\n"
     )?;
-    let mut report = String::from_str(alloc, "1 N1 died at lost, leaked 0 clusters, 0 numbers\n")?;
+    let mut report = String::from_str(alloc, "1 N1 died at lost, leaked 0 clusters, 8 numbers\n")?;
     for k in 1..12u32 {
         push_look_up(alloc, &mut script, &mut report, k)?;
     }
     report.push_str("end: 11 answered, 1 died, 230 free\n")?;
-    let found = "doubles in 12\nlost 24\n";
+    let found = "doubles in 12\nlost 24\nleaked numbers 8\n";
     left(&rt, alloc, image, script.as_str(), report.as_str(), found)?;
     Ok(())
 }
@@ -717,7 +728,7 @@ fn with_a_last(rt: &impl Abort, alloc: Global, count: u32) -> Result<MemImage, N
     text.made(rt, alloc, volume(alloc)?)
 }
 
-// The one node dies, and this is found.
+// The one node dies, with so many numbers, and this is found.
 fn dies_alone(
     rt: &impl Abort,
     alloc: Global,
@@ -727,7 +738,7 @@ fn dies_alone(
     found: &str,
 ) -> Result<(), NoMemory> {
     let report = format!(in alloc;
-        "1 N1 died at {died}, leaked 0 clusters, 0 numbers\nend: 0 answered, 1 died, 230 free\n"
+        "1 N1 died at {died} numbers\nend: 0 answered, 1 died, 230 free\n"
     )?;
     left(rt, alloc, image, script, report.as_str(), found)?;
     Ok(())
@@ -742,13 +753,15 @@ fn an_entry_stands_in_two_blocks(rt: HostRuntime) -> Result<(), Fail> {
     let script = format!(in alloc; "NODES 1\nKILL 1 WRITE 4\n1 DELETE (12,1,0) {name};0\n")?;
     let image = with_a_last(&rt, alloc, 6)?;
     let found = "marked 18\ndoubles in 12\n";
-    dies_alone(&rt, alloc, image, script.as_str(), "unlinked", found)?;
+    let died = "unlinked, leaked 0 clusters, 0";
+    dies_alone(&rt, alloc, image, script.as_str(), died, found)?;
     let script = format!(in alloc;
         "NODES 1\nKILL 1 WRITE 5\n1 CREATE R1 (12,1,0) {name};0 0 [1,4]\n"
     )?;
     let image = with_a_last(&rt, alloc, 5)?;
-    let found = "doubles in 12\nlost 19\n";
-    dies_alone(&rt, alloc, image, script.as_str(), "lost", found)?;
+    let found = "doubles in 12\nlost 19\nleaked numbers 8\n";
+    let died = "lost, leaked 0 clusters, 8";
+    dies_alone(&rt, alloc, image, script.as_str(), died, found)?;
     Ok(())
 }
 
@@ -774,9 +787,10 @@ fn crowded(rt: &impl Abort, alloc: Global) -> Result<MemImage, NoMemory> {
 fn an_empty_file_is_lost(rt: HostRuntime) -> Result<(), Fail> {
     let alloc = rt.alloc();
     let script = "NODES 1\nKILL 1 WRITE 4\n1 CREATE R1 MFD A.TXT;0 0 [1,4]\n";
-    let report = "1 N1 died at lost, leaked 0 clusters, 0 numbers\n\
+    let report = "1 N1 died at lost, leaked 0 clusters, 8 numbers\n\
         end: 0 answered, 1 died, 182 free\n";
     let image = crowded(&rt, alloc)?;
-    left(&rt, alloc, image, script, report, "lost 33\n")?;
+    let found = "lost 33\nleaked numbers 8\n";
+    left(&rt, alloc, image, script, report, found)?;
     Ok(())
 }

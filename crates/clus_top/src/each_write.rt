@@ -99,7 +99,9 @@ fn each_fails(
     Ok(())
 }
 
-/// Scripts on a fresh volume, and how many writes each makes: a file with blocks five, one without four, a directory nine.
+/// Scripts on a fresh volume, and how many writes each makes: a file with blocks five, one without four, a directory nine; a write
+/// less for each bitmap where the stock has what is wanted. A node that is over writes back its stock: the index block where it has
+/// numbers, and the storage block where it has clusters.
 const BY_ONE: &[(&str, u64)] = &[
     (
         "NODES 1\n1 LOOKUP R1 MFD A.TXT;0\n1 LIST MFD\n1 STAT R1\n",
@@ -107,15 +109,15 @@ const BY_ONE: &[(&str, u64)] = &[
     ),
     (
         "NODES 1\n1 CREATE R1 MFD A.TXT;0 10 [1,4]\n1 STAT R1\n1 CREATE R1 MFD A.TXT;0 0 [1,4]\n",
-        9,
+        10,
     ),
     (
         "NODES 1\n1 CREATE R1 MFD A.TXT;1 0 [1,4]\n1 CREATE R1 MFD A.TXT;1 0 [1,4]\n1 CREATE R1 MFD B.TXT;0 300 [1,4]\n",
-        9,
+        10,
     ),
     (
         "NODES 1\n1 CREATE R1 MFD A.TXT;0 300 [1,4]\n1 LIST MFD\n",
-        5,
+        7,
     ),
     (
         "NODES 1\n1 MKDIR R1 MFD A [1,4]\n1 CREATE R2 R1 A.TXT;0 10 [1,4]\n1 LIST R1\n",
@@ -123,7 +125,7 @@ const BY_ONE: &[(&str, u64)] = &[
     ),
     (
         "NODES 1\n1 MKDIR R1 LOST A [1,4]\n1 MKDIR R2 R1 B [1,4]\n1 CREATE R3 R2 A.TXT;0 4 [1,1]\n1 LIST R2\n",
-        23,
+        21,
     ),
 ];
 
@@ -131,22 +133,22 @@ const BY_ONE: &[(&str, u64)] = &[
 const BY_TWO: &[(&str, u64)] = &[
     (
         "NODES 2\n1 CREATE R1 MFD A.TXT;0 4 [1,4]\n2 CREATE R1 MFD A.TXT;0 4 [1,4]\n",
-        10,
+        14,
     ),
     (
         "NODES 2\nSCHED 2\n1 CREATE R1 MFD A.TXT;0 4 [1,4]\n2 CREATE R1 MFD A.TXT;0 4 [1,4]\n",
-        10,
+        14,
     ),
     (
         "NODES 2\nSCHED 1*3 2*7\n1 CREATE R1 MFD A.TXT;0 4 [1,4]\n2 CREATE R1 LOST A.TXT;0 4 [1,4]\n",
-        10,
+        14,
     ),
     (
-        "NODES 2\nSCHED 1*16 2*4\n1 CREATE R1 MFD A.TXT;0 4 [1,4]\n2 STAT (12,1,0)\n",
-        5,
+        "NODES 2\nSCHED 1*18 2*4\n1 CREATE R1 MFD A.TXT;0 4 [1,4]\n2 STAT (12,1,0)\n",
+        7,
     ),
     (
-        "NODES 2\nSCHED 1*27\n1 MKDIR R1 MFD NOTES [1,4]\n1 CREATE R2 R1 PLAN.TXT;0 3 [1,4]\n1 CREATE R2 R1 PLAN.TXT;0 3 [1,4]\n1 LIST R1\n\
+        "NODES 2\nSCHED 1*29\n1 MKDIR R1 MFD NOTES [1,4]\n1 CREATE R2 R1 PLAN.TXT;0 3 [1,4]\n1 CREATE R2 R1 PLAN.TXT;0 3 [1,4]\n1 LIST R1\n\
         2 LOOKUP R1 MFD NOTES.DIR;0\n2 CREATE R2 R1 TASK.TXT;0 10 [1,1]\n2 STAT R2\n2 LIST R1\n2 CREATE R3 R1 TASK.TXT;1 0 [1,4]\n",
         24,
     ),
@@ -160,30 +162,30 @@ const BY_SEVERAL: &[(&str, u64)] = &[
     ),
     (
         "NODES 4\nSCHED 4 1 3*9 2*9\n1 LIST LOST\n2 LIST LOST\n3 MKDIR R1 LOST A [1,4]\n4 LIST LOST\n",
-        9,
+        11,
     ),
     (
         "NODES 8\nSCHED 5*3 8 3 5\n\
         1 CREATE R1 MFD A.TXT;0 4 [1,4]\n2 MKDIR R1 MFD A [1,4]\n3 CREATE R1 LOST A.TXT;0 4 [1,4]\n4 LIST LOST\n\
         6 CREATE R1 MFD A.TXT;0 4 [1,1]\n7 LOOKUP R1 MFD A.DIR;0\n8 CREATE R1 MFD B.TXT;7 4 [1,4]\n",
-        29,
+        39,
     ),
 ];
 
-/// Scripts in which a file changes and goes: EXTEND and TRUNC of a file with clusters have three writes, RENAME two, DELETE six, and
-/// QUOTASET one.
+/// Scripts in which a file changes and goes: TRUNC of a file with clusters has three writes, and so has EXTEND where its node has no
+/// stock, two where it has; RENAME has two, DELETE six, and QUOTASET one.
 const BY_CHANGES: &[(&str, u64)] = &[
     (
         "NODES 1\n1 CREATE R1 MFD A.TXT;0 4 [1,4]\n1 EXTEND R1 4\n1 TRUNC R1 1\n1 RENAME MFD A.TXT;0 B.TXT;0\n1 DELETE MFD B.TXT;0\n",
-        19,
+        20,
     ),
     (
         "NODES 2\n1 CREATE R1 MFD A.TXT;0 4 [1,4]\n2 CREATE R1 MFD B.TXT;0 4 [1,4]\n1 DELETE MFD B.TXT;0\n2 RENAME MFD A.TXT;0 C.TXT;0\n",
-        18,
+        22,
     ),
     (
         "NODES 4\nSCHED 1*30\n1 CREATE R1 MFD A.TXT;0 4 [1,4]\n2 EXTEND (12,1,0) 5\n3 TRUNC (12,1,0) 8\n4 DELETE MFD A.TXT;0\n",
-        17,
+        20,
     ),
     ("NODES 8\n8 QUOTASET [2,2] 100 0\n7 QUOTASHOW [2,2]\n", 1),
 ];
@@ -193,11 +195,11 @@ const BY_CHANGES: &[(&str, u64)] = &[
 const BY_CHANNELS: &[(&str, u64)] = &[
     (
         "NODES 1\n1 CREATE R1 MFD A.TXT;0 8 [1,4]\n1 OPEN 1 R1 PW\n1 WRITE 1 1 A\n1 WRITE 1 4 B\n1 WRITE 1 2 C\n1 DELETE MFD A.TXT;0\n",
-        18,
+        20,
     ),
     (
-        "NODES 2\nSCHED 1*28 2*100\n1 CREATE R1 MFD B.DAT;0 4 [1,4]\n1 OPEN 1 R1 CW\n1 WRITE 1 1 HELLO\n1 CLOSE 1\n2 OPEN 1 (12,1,0) PR\n2 DELETE MFD B.DAT;0\n",
-        13,
+        "NODES 2\nSCHED 1*30 2*100\n1 CREATE R1 MFD B.DAT;0 4 [1,4]\n1 OPEN 1 R1 CW\n1 WRITE 1 1 HELLO\n1 CLOSE 1\n2 OPEN 1 (12,1,0) PR\n2 DELETE MFD B.DAT;0\n",
+        15,
     ),
 ];
 
@@ -247,8 +249,8 @@ fn each_write_fails_on_volumes_with_files(rt: HostRuntime) -> Result<(), Fail> {
     let found = tree_at(alloc, 104, 0xf8)?;
     let script =
         "NODES 2\n1 CREATE R1 (12,1,0) A.TXT;0 4 [1,1]\n2 CREATE R1 (12,1,0) B.DAT;0 0 [1,1]\n2 LIST (12,1,0)\n";
-    each_fails(&rt, alloc, &found, script, 11)?;
+    each_fails(&rt, alloc, &found, script, 14)?;
     let found = eleven(&rt, alloc)?;
-    each_fails(&rt, alloc, &found, before_them(alloc)?.as_str(), 6)?;
+    each_fails(&rt, alloc, &found, before_them(alloc)?.as_str(), 7)?;
     Ok(())
 }

@@ -86,7 +86,7 @@ fn stops(
     stops_behind(rt, alloc, image, script, "", rows)
 }
 
-// The second file's number is taken by the fifth write, and its owner charged by the sixth.
+// The first file's search puts the second file's number into the stock, with seven more. The fifth write charges the owner of the second.
 #[test]
 fn answers_before_a_fault_are_told(rt: HostRuntime) -> Result<(), Fail> {
     let alloc = rt.alloc();
@@ -94,35 +94,32 @@ fn answers_before_a_fault_are_told(rt: HostRuntime) -> Result<(), Fail> {
         "NODES 1\n1 CREATE R1 MFD A.TXT;0 0 [1,4]\n1 STAT R1\n1 CREATE R1 MFD B.TXT;0 0 [1,4]\n";
     let lines = "1 N1 CREATE R1 (4,4,0) A.TXT;0 0 [1,4] = (12,1,0) A.TXT;1\n\
         2 N1 STAT (12,1,0) = file [1,4] 0 blocks mark 1 end 1,0\n";
-    let rows = [stopped_at(6, false, "leaked numbers 1\n")];
+    let rows = [stopped_at(5, false, "leaked numbers 8\n")];
     stops_behind(&rt, alloc, &volume(alloc)?, script, lines, &rows)?;
     Ok(())
 }
 
-// Index bitmap, storage bitmap, quota row, header, directory.
+/// What is found where a node has only its stock outside files and bitmaps.
+const STOCK: &str = "leaked clusters 16\nleaked numbers 8\n";
+
+// Index bitmap, storage bitmap, quota row, header, directory. Three clusters and a number are wanted, and sixteen and eight more are
+// taken into the stock.
 #[test]
 fn a_file_is_made_in_stages(rt: HostRuntime) -> Result<(), Fail> {
     let alloc = rt.alloc();
     let script = "NODES 1\n1 CREATE R1 MFD A.TXT;0 10 [1,4]\n";
+    let charged = "leaked clusters 19\nleaked numbers 9\nusage of [1,4]: has 13, should be 0\n";
     let rows = [
         stopped_at(1, false, "accepted\n"),
-        stopped_at(1, true, "leaked numbers 1\n"),
-        stopped_at(2, false, "leaked numbers 1\n"),
-        stopped_at(2, true, "leaked clusters 3\nleaked numbers 1\n"),
-        stopped_at(3, false, "leaked clusters 3\nleaked numbers 1\n"),
-        stopped_at(
-            3,
-            true,
-            "leaked clusters 3\nleaked numbers 1\nusage of [1,4]: has 13, should be 0\n",
-        ),
-        stopped_at(
-            4,
-            false,
-            "leaked clusters 3\nleaked numbers 1\nusage of [1,4]: has 13, should be 0\n",
-        ),
-        stopped_at(4, true, "lost 12\n"),
-        stopped_at(5, false, "lost 12\n"),
-        stopped_at(5, true, "accepted\n"),
+        stopped_at(1, true, "leaked numbers 9\n"),
+        stopped_at(2, false, "leaked numbers 9\n"),
+        stopped_at(2, true, "leaked clusters 19\nleaked numbers 9\n"),
+        stopped_at(3, false, "leaked clusters 19\nleaked numbers 9\n"),
+        stopped_at(3, true, charged),
+        stopped_at(4, false, charged),
+        stopped_at(4, true, "lost 12\nleaked clusters 16\nleaked numbers 8\n"),
+        stopped_at(5, false, "lost 12\nleaked clusters 16\nleaked numbers 8\n"),
+        stopped_at(5, true, STOCK),
     ];
     stops(&rt, alloc, &volume(alloc)?, script, &rows)?;
     Ok(())
@@ -132,14 +129,14 @@ fn a_file_is_made_in_stages(rt: HostRuntime) -> Result<(), Fail> {
 #[test]
 fn a_directory_is_made_in_stages(rt: HostRuntime) -> Result<(), Fail> {
     let alloc = rt.alloc();
-    let charged = "leaked clusters 1\nleaked numbers 1\nusage of [1,4]: has 5, should be 0\n";
+    let charged = "leaked clusters 17\nleaked numbers 9\nusage of [1,4]: has 5, should be 0\n";
     let rows = [
-        stopped_at(3, false, "leaked clusters 1\nleaked numbers 1\n"),
+        stopped_at(3, false, "leaked clusters 17\nleaked numbers 9\n"),
         stopped_at(4, false, charged),
         stopped_at(7, true, charged),
-        stopped_at(8, true, "lost 12\n"),
-        stopped_at(9, false, "lost 12\n"),
-        stopped_at(9, true, "accepted\n"),
+        stopped_at(8, true, "lost 12\nleaked clusters 16\nleaked numbers 8\n"),
+        stopped_at(9, false, "lost 12\nleaked clusters 16\nleaked numbers 8\n"),
+        stopped_at(9, true, STOCK),
     ];
     let script = "NODES 1\n1 MKDIR R1 MFD A [1,4]\n";
     stops(&rt, alloc, &volume(alloc)?, script, &rows)?;
@@ -168,12 +165,12 @@ fn an_entry_comes_last_block_first(rt: HostRuntime) -> Result<(), Fail> {
     let image = eleven(&rt, alloc)?;
     let script = before_them(alloc)?;
     let rows = [
-        stopped_at(4, false, "lost 24\n"),
-        stopped_at(4, true, "doubles in 12\nlost 24\n"),
-        stopped_at(5, false, "doubles in 12\nlost 24\n"),
-        stopped_at(5, true, "doubles in 12\nlost 24\n"),
-        stopped_at(6, false, "doubles in 12\nlost 24\n"),
-        stopped_at(6, true, "accepted\n"),
+        stopped_at(4, false, "lost 24\nleaked numbers 8\n"),
+        stopped_at(4, true, "doubles in 12\nlost 24\nleaked numbers 8\n"),
+        stopped_at(5, false, "doubles in 12\nlost 24\nleaked numbers 8\n"),
+        stopped_at(5, true, "doubles in 12\nlost 24\nleaked numbers 8\n"),
+        stopped_at(6, false, "doubles in 12\nlost 24\nleaked numbers 8\n"),
+        stopped_at(6, true, "leaked numbers 8\n"),
     ];
     stops(&rt, alloc, &image, script.as_str(), &rows)?;
     Ok(())

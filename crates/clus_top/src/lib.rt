@@ -31,6 +31,10 @@ mod queues;
 #[cfg(test)]
 mod quotas;
 #[cfg(test)]
+mod soaks;
+#[cfg(test)]
+mod stocks;
+#[cfg(test)]
 mod tests;
 #[cfg(test)]
 mod tree;

@@ -418,6 +418,21 @@ impl Written {
         Ok(())
     }
 
+    /// A directory, and so many files of 77 blocks in it, behind which so many clusters are free.
+    pub fn push_many_blocks(
+        &mut self,
+        alloc: Global,
+        count: u32,
+        free: u32,
+    ) -> Result<(), NoMemory> {
+        self.push(alloc, "MKDIR R1", MFD, "D [1,4]", "(12,1,0) D.DIR;1")?;
+        for ver in 1..count.saturating_add(1) {
+            let num = ver.saturating_add(12);
+            self.push_version(alloc, IN_R1, "A.B;0 77 [1,4]", num, ver)?;
+        }
+        self.close(alloc, free)
+    }
+
     /// The image that the script leaves, which has the report.
     pub fn made(
         &self,
@@ -505,18 +520,9 @@ pub fn long(alloc: Global, k: u32) -> Result<String, NoMemory> {
 }
 
 // The volume of 8,192 clusters of one block.
-fn wide(alloc: Global) -> Result<MemImage, NoMemory> {
+pub fn wide(alloc: Global) -> Result<MemImage, NoMemory> {
     let words = ["init", "1", "128", "WIDE"];
     Ok(call(alloc, &words, zeros(alloc, 8192)?, "")?.image)
-}
-
-// A directory, and 52 files of 77 blocks in it.
-fn push_many_blocks(text: &mut Written, alloc: Global) -> Result<(), NoMemory> {
-    text.push(alloc, "MKDIR R1", MFD, "D [1,4]", "(12,1,0) D.DIR;1")?;
-    for ver in 1..53u32 {
-        text.push_version(alloc, IN_R1, "A.B;0 77 [1,4]", 12 + ver, ver)?;
-    }
-    text.close(alloc, 4048)
 }
 
 // A volume of 8,192 clusters, whose storage bitmap is LBN 134 and 135. The first free cluster is 139, which the directory takes;
@@ -524,7 +530,7 @@ fn push_many_blocks(text: &mut Written, alloc: Global) -> Result<(), NoMemory> {
 #[test]
 fn a_file_over_two_blocks_of_the_bitmap(rt: HostRuntime) -> Result<(), Fail> {
     let mut text = Written::new(rt.alloc(), "NODES 1\n")?;
-    push_many_blocks(&mut text, rt.alloc())?;
+    text.push_many_blocks(rt.alloc(), 52, 4048)?;
     let after = text.made(&rt, rt.alloc(), wide(rt.alloc())?)?;
     let parts = [
         bytes_at(68, 200, b"\x4c\x40\xe3\x0f\0\0"),

@@ -159,7 +159,7 @@ fn all_answered(
 const MAKING: &str =
     "# Two nodes make a directory and files in it, and list them. Node 1 has the first turns, in which it makes the directory.\n\
     NODES 2\n\
-    SCHED 1*27\n\
+    SCHED 1*29\n\
     1 MKDIR R1 MFD NOTES [1,4]\n\
     1 CREATE R2 R1 PLAN.TXT;0 3 [1,4]\n\
     1 CREATE R2 R1 PLAN.TXT;0 3 [1,4]\n\
@@ -170,14 +170,15 @@ const MAKING: &str =
     2 LIST R1\n\
     2 CREATE R3 R1 TASK.TXT;1 0 [1,4]\n";
 
+// Node 1 has the numbers 13 to 20 in its stock behind the directory, so that node 2 takes 21.
 const MAKING_REPORT: &str = "1 N1 MKDIR R1 (4,4,0) NOTES [1,4] = (12,1,0) NOTES.DIR;1\n\
     2 N2 LOOKUP R1 (4,4,0) NOTES.DIR;0 = (12,1,0) NOTES.DIR;1\n\
     3 N1 CREATE R2 (12,1,0) PLAN.TXT;0 3 [1,4] = (13,1,0) PLAN.TXT;1\n\
-    4 N2 CREATE R2 (12,1,0) TASK.TXT;0 10 [1,1] = (14,1,0) TASK.TXT;1\n\
-    5 N2 STAT (14,1,0) = file [1,1] 12 blocks mark 1 end 1,0\n\
-    6 N1 CREATE R2 (12,1,0) PLAN.TXT;0 3 [1,4] = (15,1,0) PLAN.TXT;2\n\
-    7 N2 LIST (12,1,0) = 3 entries PLAN.TXT;2 (15,1,0) PLAN.TXT;1 (13,1,0) TASK.TXT;1 (14,1,0)\n\
-    8 N1 LIST (12,1,0) = 3 entries PLAN.TXT;2 (15,1,0) PLAN.TXT;1 (13,1,0) TASK.TXT;1 (14,1,0)\n\
+    4 N2 CREATE R2 (12,1,0) TASK.TXT;0 10 [1,1] = (21,1,0) TASK.TXT;1\n\
+    5 N2 STAT (21,1,0) = file [1,1] 12 blocks mark 1 end 1,0\n\
+    6 N1 CREATE R2 (12,1,0) PLAN.TXT;0 3 [1,4] = (14,1,0) PLAN.TXT;2\n\
+    7 N2 LIST (12,1,0) = 3 entries PLAN.TXT;2 (14,1,0) PLAN.TXT;1 (13,1,0) TASK.TXT;1 (21,1,0)\n\
+    8 N1 LIST (12,1,0) = 3 entries PLAN.TXT;2 (14,1,0) PLAN.TXT;1 (13,1,0) TASK.TXT;1 (21,1,0)\n\
     9 N2 CREATE R3 (12,1,0) TASK.TXT;1 0 [1,4] = refused DupFile\n\
     end: 9 answered, 0 died, 225 free\n";
 
@@ -189,7 +190,7 @@ const LOOKING_BACK: &str = "# One node looks at what the script `making` has lef
     1 STAT R2\n";
 
 const LOOKING_BACK_REPORT: &str = "1 N1 LOOKUP R1 (4,4,0) NOTES.DIR;0 = (12,1,0) NOTES.DIR;1\n\
-    2 N1 LIST (12,1,0) = 3 entries PLAN.TXT;2 (15,1,0) PLAN.TXT;1 (13,1,0) TASK.TXT;1 (14,1,0)\n\
+    2 N1 LIST (12,1,0) = 3 entries PLAN.TXT;2 (14,1,0) PLAN.TXT;1 (13,1,0) TASK.TXT;1 (21,1,0)\n\
     3 N1 LOOKUP R2 (12,1,0) PLAN.TXT;1 = (13,1,0) PLAN.TXT;1\n\
     4 N1 STAT (13,1,0) = file [1,4] 4 blocks mark 1 end 1,0\n\
     end: 4 answered, 0 died, 225 free\n";

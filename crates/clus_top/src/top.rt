@@ -1,15 +1,16 @@
-ghost use Rattle.std.specs.Prelude.{◌≡◌, List, Option, Some, IfSome};
+ghost use Rattle.std.specs.Prelude.{◌≡◌, ◌≤◌, List, Option, Some, IfSome};
 ghost use Rattle.vol_words.specs.Faults.{Rose};
 ghost use Rattle.vol_words.specs.Fields.{Block};
 ghost use Rattle.clus_top.specs.Ends.{AreFoundIn, IsFoundEnd};
 ghost use Rattle.vol_init.specs.Refusals.{home_of};
-ghost use Rattle.clus_top.specs.Words.{Run, wanted_by};
+ghost use Rattle.clus_top.specs.Words.{Run, Soak, wanted_by};
+ghost use Rattle.clus_top.specs.Runs.{IsScriptOf, IsSoakOf};
 ghost use Rattle.clus_top.specs.Images.{IsFormatted, IsRunImage, IsImageAfter, IsRunFaultText, IsFaultTextOf};
-ghost use Rattle.clus_top.specs.Statuses.{IsRunDue, IsAnalysisDue, IsInitDue, IsDue, accepted_text, made_text, sized, IsTextOf, status_text, Writes};
+ghost use Rattle.clus_top.specs.Statuses.{IsRunDue, IsSoakDue, IsAnalysisDue, IsInitDue, IsDue, IsSummaryOn, accepted_text, made_text, sized, IsTextOf, status_text, Writes};
 
 use crate::analysis::{Analysis, analyze_image};
 use crate::format::{Format, init_image};
-use crate::run::{Ran, Stop, run_script};
+use crate::run::{Ran, Stop, run_script, run_soak};
 use crate::tell::{tell, tell_cut, tell_findings, tell_text};
 use crate::words::{Job, job_of};
 use blk_drive::ImageDev;
@@ -31,11 +32,33 @@ fn run<I: ImageDev, T: TextIn, O: TextOut>(
     ensures image_fault { result.status ≡ Status.ImageFault → Rose (I.faults image) (I.faults result.image) }
     ensures out_fault { result.status ≡ Status.OutFault → Rose (O.faults out.old) (O.faults out.new) }
     ensures written { Writes (IsTextOf (Some Run) (T.left script.old) (I.size image) (I.told image) (I.told result.image))
-        (IsRunFaultText (T.left script.old) (I.told image) (I.told result.image)) (I.told image)
+        (IsRunFaultText (IsScriptOf (T.left script.old)) (I.told image) (I.told result.image)) (I.told image)
         (O.written out.old) (O.written out.new) (O.faults out.old) (O.faults out.new) result.status }
-    ensures after { IsRunImage (T.left script.old) (I.told image) (I.told result.image) result.status }
+    ensures after { IsRunImage (IsScriptOf (T.left script.old)) (I.told image) (I.told result.image) result.status }
 {
     let Ran { outcome, image } = run_script(alloc, image, script);
+    let status = match outcome {
+        Ok(text) => tell_text(out, text.as_slice()),
+        Err(Stop::Cut(text)) => tell_cut(out, text.as_slice()),
+        Err(Stop::Bare) => tell(alloc, out, Status::ImageFault),
+        Err(Stop::By(status)) => tell(alloc, out, status),
+    };
+    Finished { status, image }
+}
+
+// The job `soak`.
+#[tactic(auto, using(crate::proofs::Spent::spent_lacks))]
+fn soak<I: ImageDev, O: TextOut>(alloc: Global, image: I, n: u32, out: &mut O) -> Finished<I>
+    requires { n ≤ 256 }
+    ensures due { IsSoakDue n (I.size image) (I.told image) result.status }
+    ensures image_fault { result.status ≡ Status.ImageFault → Rose (I.faults image) (I.faults result.image) }
+    ensures out_fault { result.status ≡ Status.OutFault → Rose (O.faults out.old) (O.faults out.new) }
+    ensures written { Writes (IsSummaryOn n (I.told image) (I.told result.image))
+        (IsRunFaultText (IsSoakOf n) (I.told image) (I.told result.image)) (I.told image)
+        (O.written out.old) (O.written out.new) (O.faults out.old) (O.faults out.new) result.status }
+    ensures after { IsRunImage (IsSoakOf n) (I.told image) (I.told result.image) result.status }
+{
+    let Ran { outcome, image } = run_soak(alloc, image, n);
     let status = match outcome {
         Ok(text) => tell_text(out, text.as_slice()),
         Err(Stop::Cut(text)) => tell_cut(out, text.as_slice()),
@@ -105,7 +128,9 @@ fn init<I: ImageDev, O: TextOut>(
 /// of any file and directory, by an identifier or a register. Its nodes, 1 to 8, first have a turn for each play of the schedule, and
 /// then turns in rotation from node 1 until each has given its commands, and has closed what it left open; a node that is done makes
 /// no turn. Where the script kills a node, it dies in place of that turn, and makes no other.
-/// `analyze` prints what is found in a volume. `init CLUSTER FILES LABEL` makes a volume with 1 to 16 blocks in a cluster, 32
+/// `soak N`, for N from 1 to 256, does the same with the script that is drawn from N, for 4 nodes and with 16 N commands, and prints one
+/// line: how many of them were carried out and how many refused, how many blocks the nodes read and how many they found in their caches,
+/// and the free clusters. `analyze` prints what is found in a volume. `init CLUSTER FILES LABEL` makes a volume with 1 to 16 blocks in a cluster, 32
 /// to 4,096 file numbers, and a label of 1 to 12 characters of A to Z, 0 to 9, `$`, `_` and `-`. Other words are `BadWords`.
 ///
 /// What is tested first is told: the words; of a run the script's bytes and then its lines; the image's bytes, and their number;
@@ -126,12 +151,13 @@ pub fn vmsclus<I: ImageDev, T: TextIn, O: TextOut>(
     ensures out_fault { result.status ≡ Status.OutFault → Rose (O.faults out.old) (O.faults out.new) }
 
     // With status 0 the job's text was written, with a fault of the sink first bytes of it, with findings these, and else the
-    // text of the status; in front of that of a write that failed in a run the lines of the answers before it, if they found memory.
+    // text of the status; in front of that of a write that failed in a run or a soak the lines of the answers before it, if they found
+    // memory.
     ensures written { Writes (IsTextOf (wanted_by words.now) (T.left script.old) (I.size image) (I.told image) (I.told result.image))
         (IsFaultTextOf (wanted_by words.now) (T.left script.old) (I.told image) (I.told result.image)) (I.told image)
         (O.written out.old) (O.written out.new) (O.faults out.old) (O.faults out.new) result.status }
 
-    // A run that has come to its end leaves the drive of its nodes, which spells the catalogue of the report. One that has not
+    // A run or a soak that has come to its end leaves the drive of its nodes, which spells the catalogue of the report. One that has not
     // leaves the drive as far as it came; where a write failed its block is the old one or the new one. A format leaves a new
     // volume; after a fault or want of memory there are the old blocks, or no home block that is read, or the new volume. Nothing
     // else changes the image's blocks.
@@ -139,6 +165,7 @@ pub fn vmsclus<I: ImageDev, T: TextIn, O: TextOut>(
 {
     match job_of(words) {
         Some(Job::Run) => run(alloc, image, script, out),
+        Some(Job::Soak(n)) => soak(alloc, image, n, out),
         Some(Job::Analyze) => analyze(alloc, image, out),
         Some(
             Job::Init {

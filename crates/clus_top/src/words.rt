@@ -1,6 +1,6 @@
-ghost use Rattle.std.specs.Prelude.{◌≡◌, ◌-◌, ◌≤◌, option_map};
+ghost use Rattle.std.specs.Prelude.{◌≡◌, ◌-◌, ◌≤◌, true, IfSome, option_map};
 ghost use Rattle.std.specs.List.{list_all};
-ghost use Rattle.clus_top.specs.Words.{wanted, is_digit, value_of, number, named, formatted, wanted_by};
+ghost use Rattle.clus_top.specs.Words.{wanted, is_soak, is_digit, value_of, number, named, soaked, formatted, wanted_by, IsWithinLimits};
 
 use fx_text::Word;
 
@@ -9,6 +9,9 @@ use fx_text::Word;
 pub enum Job<'a> {
     /// `run`: run the script.
     Run,
+
+    /// `soak N`: run the script that is drawn from this number, 1 to 256.
+    Soak(u32),
 
     /// `analyze`: print the findings.
     Analyze,
@@ -78,7 +81,8 @@ fn number(word: &[u8]) -> Option<u32>
 // The job of one word.
 #[tactic(auto, unfolding(crate::specs::Words::named))]
 fn named(word: &[u8]) -> Option<Job<'_>>
-    ensures { option_map wanted result ≡ named word.now }
+    ensures wanted { option_map wanted result ≡ named word.now }
+    ensures limits { IfSome result IsWithinLimits }
 {
     if word == b"run".as_slice() {
         return Some(Job::Run);
@@ -89,10 +93,32 @@ fn named(word: &[u8]) -> Option<Job<'_>>
     None
 }
 
+// Whether a soak has this number.
+fn is_soak(n: u32) -> bool
+    ensures value { result ≡ is_soak n }
+    ensures limit { result ≡ true → n ≤ 256 }
+{
+    1 <= n && n <= 256
+}
+
+// The soak that two words ask for.
+#[tactic(auto, unfolding(crate::specs::Words::soaked))]
+fn soaked<'a>(word: &[u8], count: &[u8]) -> Option<Job<'a>>
+    ensures wanted { option_map wanted result ≡ soaked word.now count.now }
+    ensures limits { IfSome result IsWithinLimits }
+{
+    if word != b"soak".as_slice() {
+        return None;
+    }
+    let n = number(count)?;
+    if is_soak(n) { Some(Job::Soak(n)) } else { None }
+}
+
 // The format that four words ask for.
 #[tactic(auto, unfolding(crate::specs::Words::formatted))]
 fn formatted<'a>(word: &[u8], cluster: &[u8], files: &[u8], label: &'a [u8]) -> Option<Job<'a>>
-    ensures { option_map wanted result ≡ formatted word.now cluster.now files.now label.now }
+    ensures wanted { option_map wanted result ≡ formatted word.now cluster.now files.now label.now }
+    ensures limits { IfSome result IsWithinLimits }
 {
     if word != b"init".as_slice() {
         return None;
@@ -107,10 +133,12 @@ fn formatted<'a>(word: &[u8], cluster: &[u8], files: &[u8], label: &'a [u8]) -> 
 /// The job that the words ask for, or none where they have no reading.
 #[tactic(auto, unfolding(crate::specs::Words::wanted_by))]
 pub fn job_of(words: &[Word]) -> Option<Job<'_>>
-    ensures { option_map wanted result ≡ wanted_by words.now }
+    ensures wanted { option_map wanted result ≡ wanted_by words.now }
+    ensures limits { IfSome result IsWithinLimits }
 {
     match words {
         [word] => named(word.bytes()),
+        [word, count] => soaked(word.bytes(), count.bytes()),
         [word, cluster, files, label] => formatted(
             word.bytes(),
             cluster.bytes(),

@@ -1,9 +1,8 @@
 -- A world of which a node dies is one.
-use Rattle.std.proofs.Common.{◌≡◌, ◌≤◌, ◌<◌, ◌+◌, ◌-◌, ◌++◌, ℕ, zero, suc, Bool, true, false, cond, List, [], ◌∷◌, Option, Some, None, length, map, slice_set, refl, sym, ap, subst, ◌∙◌, arith}
-use Rattle.std.specs.Prelude.{◌^◌, slice_index_or, is_some}
+use Rattle.std.proofs.Common.{◌≡◌, ◌≤◌, ◌<◌, ◌+◌, ◌-◌, ◌++◌, ℕ, Bool, true, false, cond, List, [], ◌∷◌, Option, Some, None, length, map, slice_set, refl, sym, ap, subst, ◌∙◌, arith}
+use Rattle.std.specs.Prelude.{slice_index_or, is_some}
 use Rattle.plain_cat.specs.declared.command.Cmd.{Cmd}
 use Rattle.plain_cat.specs.declared.history.Entry.{Entry}
-use Rattle.lock_db.specs.declared.resource.Resource.{Resource}
 use Rattle.lock_db.specs.Tables.{dropped}
 use Rattle.op_law.specs.declared.need.Plan.{Plan}
 use Rattle.core_state.specs.Worlds.{NodeState, Plain, node_at, set_node, shown}
@@ -16,7 +15,7 @@ use Rattle.core_state.proofs.Nodes.{told_at, told_set, length_node}
 use Rattle.core_state.proofs.Falling.{fewer_fallen, death_left}
 use Rattle.core_state.proofs.Dying.{few_lost, alive_by, in_script, dies_keep}
 use Rattle.core_step.proofs.Ready.{decided_set}
-use Rattle.core_death.specs.Lasts.{death_told, clusters_told, CanDie}
+use Rattle.core_death.specs.Lasts.{CanDie}
 use Rattle.core_death.proofs.Telling.{HasDone, clusters_is, death_is}
 
 -- ---- a node of a world can die
@@ -33,14 +32,10 @@ module _ (w : Plain) (good : Good w) (n : ℕ) (s : NodeState) (at : node_at w.n
     by_cmd (Some x) i = of_plan x s.plan e _ i.plan
 
   pub may_die : CanDie n s
-  may_die =
-      let store = (good.nodes n s at).store in
-      record {
-        told = death_is s has_done store.stock n;
-        few = subst (λ (k : ℕ). k < 4294967296) (clusters_is s has_done store.stock) (few_lost w good n s at on);
-        kept = store.kept;
-        back = store.back;
-      }
+  may_die = record {
+    told = death_is s has_done n;
+    few = subst (λ (k : ℕ). k < 4294967296) (clusters_is s has_done) (few_lost w good n s at on);
+  }
 
   -- it is one of those that live
   pub one_lives : 1 ≤ living w.history w.script.nodes

@@ -1,25 +1,25 @@
 -- What a node has outside, and its stage, are told by the last of its writes done.
 use Rattle.std.proofs.Common.{◌≡◌, ◌≤◌, ◌<◌, ◌==◌, ◌+◌, ◌-◌, ◌++◌, ◌||◌, ℕ, zero, suc, Bool, true, false, cond, List, [], ◌∷◌, Option, Some, None, length, map, take, slice_get, refl, sym, ap, ◌∙◌, arith}
 use Rattle.std.specs.List.{list_any}
-use Rattle.std.proofs.lemmas.List.{append-nil}
-use Rattle.plain_cat.specs.declared.command.Cmd.{Cmd}
 use Rattle.plain_cat.specs.declared.history.Stage.{Stage}
-use Rattle.plain_cat.specs.declared.history.Entry.{Entry}
 use Rattle.plain_cat.specs.declared.history.Entry.TheVariants.{Died}
 use Rattle.vol_owners.specs.Owners.{Things, nothing}
-use Rattle.vol_under.specs.UnderWay.{PlannedWrite, first_stage, stage_after, outs_after, together}
+use Rattle.vol_under.specs.UnderWay.{first_stage, stage_after, outs_after, together}
 use Rattle.op_law.specs.declared.need.Ask.{Ask}
 use Rattle.op_law.specs.declared.need.Plan.{Plan}
 use Rattle.op_law.specs.declared.need.PlanWrite.{PlanWrite}
 use Rattle.op_law.specs.declared.seen.Seen.{Seen}
 use Rattle.op_law.specs.Fits.{things}
 use Rattle.op_law.specs.Laws.{numbers_before, planned}
-use Rattle.node_space.specs.Taking.{out_of, out_after}
-use Rattle.core_state.specs.declared.space.SpaceRun.{SpaceRun}
-use Rattle.core_state.specs.Worlds.{Stock, empty_stock, NodeState}
+use Rattle.node_space.specs.Taking.{out_of}
+use Rattle.core_space.specs.declared.run.Phase.{Phase}
+use Rattle.core_space.specs.declared.run.Phase.TheVariants as phase
+use Rattle.core_space.specs.declared.run.SpaceRun.{SpaceRun}
+use Rattle.core_space.specs.Laws.{places_of, things_of, taken_with}
+use Rattle.core_state.specs.Worlds.{NodeState}
 use Rattle.core_state.specs.Asks.{writes_by, writes_now}
-use Rattle.core_state.specs.Searches.{things_of, stock_after}
-use Rattle.core_state.specs.Deaths.{writes_done, stage_now, things_in, outside_now, has_number, numbers_that, numbers_of, death_of}
+use Rattle.core_state.specs.Stocks.{things_in, things_held, taken_in, taken_now}
+use Rattle.core_state.specs.Deaths.{stage_now, outside_now, has_number, numbers_that, numbers_of, death_of}
 use Rattle.core_state.proofs.Turning.{taken_first}
 use Rattle.core_death.specs.Lasts.{last_of, last_in, stage_or, clusters_or, taken_by, clusters_by, is_number, is_this, number_or, number_by, stage_told, clusters_told, number_told, death_told}
 
@@ -87,24 +87,51 @@ outs_done tried k None t has = ap (outs_after t) (none_taken k)
 outs_done tried k (Some p) t has =
     let le = has p refl in ap (outs_after t) (writes_first p.ask tried p.writes k le) ∙ outs_last t p.writes k (writes_within p.ask tried p.writes k le)
 
--- ---- of a search
+-- ---- of the rules for space
 
-abbrev things_by : Option PlanWrite → Things
-things_by None = nothing
-things_by (Some w) = things w.clusters w.number
+abbrev things_taken : Phase → PlanWrite → Things
+things_taken phase.Fill w = things_of w.clusters w.numbers
+things_taken phase.Last w = things w.clusters w.number
+things_taken other w = nothing
 
-out_last : (ws : List PlanWrite) (k : ℕ) → things_of (out_after ws k) ≡ things_by (last_of ws k)
-out_last ws zero = refl
-out_last ws (suc k) = by_write (slice_get ws k) where
-  by_write : (o : Option PlanWrite) → things_of (out_of o) ≡ things_by o
-  by_write None = refl
-  by_write (Some w) = refl
+abbrev things_by : Phase → Option PlanWrite → Things
+things_by p None = nothing
+things_by p (Some w) = things_taken p w
 
-stock_taken : (run : SpaceRun) → stock_after run.writes run.made ≡ things_by (taken_by run)
+fill_last : (o : Option PlanWrite) → taken_with o ≡ things_by phase.Fill o
+fill_last None = refl
+fill_last (Some w) = refl
+
+search_last : (o : Option PlanWrite) → things_held (out_of o) ≡ things_by phase.Last o
+search_last None = refl
+search_last (Some w) = refl
+
+off_last : (o : Option PlanWrite) → nothing ≡ things_by phase.Off o
+off_last None = refl
+off_last (Some w) = refl
+
+drain_last : (o : Option PlanWrite) → nothing ≡ things_by phase.Drain o
+drain_last None = refl
+drain_last (Some w) = refl
+
+back_last : (o : Option PlanWrite) → nothing ≡ things_by phase.Back o
+back_last None = refl
+back_last (Some w) = refl
+
+taken_last : (p : Phase) (ws : List PlanWrite) (k : ℕ) → taken_in p ws k ≡ things_by p (last_of ws k)
+taken_last phase.Fill ws zero = refl
+taken_last phase.Fill ws (suc k) = fill_last (slice_get ws k)
+taken_last phase.Last ws zero = refl
+taken_last phase.Last ws (suc k) = search_last (slice_get ws k)
+taken_last phase.Off ws k = off_last (last_of ws k)
+taken_last phase.Drain ws k = drain_last (last_of ws k)
+taken_last phase.Back ws k = back_last (last_of ws k)
+
+stock_taken : (run : SpaceRun) → taken_now run ≡ things_by run.phase (taken_by run)
 stock_taken run = by_test (run.made == length run.writes) where
-  by_test : (b : Bool) → cond b nothing (things_of (out_after run.writes run.made)) ≡ things_by (cond b None (last_of run.writes run.made))
+  by_test : (b : Bool) → cond b nothing (taken_in run.phase run.writes run.made) ≡ things_by run.phase (cond b None (last_of run.writes run.made))
   by_test true = refl
-  by_test false = out_last run.writes run.made
+  by_test false = taken_last run.phase run.writes run.made
 
 -- ---- the clusters
 
@@ -124,9 +151,13 @@ clusters_own : (o : Option PlanWrite) (seen : Seen) → length (outs_or o (thing
 clusters_own None seen = ap (λ (qs : List ℕ). length qs) (clusters_things seen.clusters seen.number)
 clusters_own (Some w) seen = ap (λ (qs : List ℕ). length qs) (clusters_before w.numbers (things w.clusters w.number) ∙ clusters_things w.clusters w.number)
 
-clusters_searched : (o : Option PlanWrite) → length (things_by o).clusters ≡ clusters_by o
-clusters_searched None = refl
-clusters_searched (Some w) = ap (λ (qs : List ℕ). length qs) (clusters_things w.clusters w.number)
+clusters_searched : (p : Phase) (o : Option PlanWrite) → length (things_by p o).clusters ≡ clusters_by p o
+clusters_searched p None = refl
+clusters_searched phase.Fill (Some w) = refl
+clusters_searched phase.Last (Some w) = ap (λ (qs : List ℕ). length qs) (clusters_things w.clusters w.number)
+clusters_searched phase.Off (Some w) = refl
+clusters_searched phase.Drain (Some w) = refl
+clusters_searched phase.Back (Some w) = refl
 
 -- ---- the numbers
 
@@ -154,40 +185,48 @@ number_own : (o : Option PlanWrite) (seen : Seen) (n : ℕ) → has_number (outs
 number_own None seen n = number_things seen.clusters seen.number n
 number_own (Some w) seen n = number_before w.numbers (things w.clusters w.number) n ∙ ap (λ b. list_any (is_number n) w.numbers || b) (number_things w.clusters w.number n)
 
-number_searched : (o : Option PlanWrite) (n : ℕ) → has_number (things_by o) n ≡ number_by n o
-number_searched None n = refl
-number_searched (Some w) n = number_things w.clusters w.number n
+number_places : (ns : List ℕ) (n : ℕ) → list_any (λ i. i + 1 == n) (places_of ns) ≡ list_any (is_number n) ns
+number_places [] n = refl
+number_places (i ∷ ns) n = ap (λ b. is_number n i || b) (number_places ns n)
+
+number_searched : (p : Phase) (o : Option PlanWrite) (n : ℕ) → has_number (things_by p o) n ≡ number_by n p o
+number_searched p None n = refl
+number_searched phase.Fill (Some w) n = number_places w.numbers n
+number_searched phase.Last (Some w) n = number_things w.clusters w.number n
+number_searched phase.Off (Some w) n = refl
+number_searched phase.Drain (Some w) n = refl
+number_searched phase.Back (Some w) n = refl
 
 -- ---- of a node
 
-with_nothing : (t : Things) → together t nothing ≡ t
-with_nothing t = λ i. record { clusters = append-nil t.clusters i; numbers = append-nil t.numbers i }
-
-module _ (s : NodeState) (has : HasDone s.tried s.done s.plan) (stock : s.stock ≡ empty_stock) where
+module _ (s : NodeState) (has : HasDone s.tried s.done s.plan) where
   abbrev own : Things
   own = outs_or (last_in s.plan s.done) (things s.seen.clusters s.seen.number)
 
-  abbrev searched : Things
-  searched = things_by (taken_by s.run)
+  abbrev stocked : Things
+  stocked = things_in s.stock
 
-  pub outside_is : outside_now s ≡ together own searched
-  outside_is =
-      ap (λ (k : Stock). together (together (outs_after (things s.seen.clusters s.seen.number) (writes_done s)) (stock_after s.run.writes s.run.made)) (things_in k)) stock
-      ∙ with_nothing (together (outs_after (things s.seen.clusters s.seen.number) (writes_done s)) (stock_after s.run.writes s.run.made))
-      ∙ (λ i. together (outs_done s.tried s.done s.plan (things s.seen.clusters s.seen.number) has i) (stock_taken s.run i))
+  abbrev searched : Things
+  searched = things_by s.run.phase (taken_by s.run)
+
+  pub outside_is : outside_now s ≡ together own (together stocked searched)
+  outside_is = λ i. together (outs_done s.tried s.done s.plan (things s.seen.clusters s.seen.number) has i) (together stocked (stock_taken s.run i))
 
   pub stage_is : stage_now s ≡ stage_told s
   stage_is = stage_done s.tried s.done s.plan (first_stage s.cmd) has
 
   pub clusters_is : length (outside_now s).clusters ≡ clusters_told s
   clusters_is =
-      ap (λ (t : Things). length t.clusters) outside_is ∙ length_both own.clusters searched.clusters
-      ∙ (λ i. clusters_own (last_in s.plan s.done) s.seen i + clusters_searched (taken_by s.run) i)
+      ap (λ (t : Things). length t.clusters) outside_is ∙ length_both own.clusters (stocked.clusters ++ searched.clusters)
+      ∙ ap (λ k. length own.clusters + k) (length_both stocked.clusters searched.clusters)
+      ∙ (λ i. clusters_own (last_in s.plan s.done) s.seen i + (length s.stock.clusters + clusters_searched s.run.phase (taken_by s.run) i))
 
   number_is : (n : ℕ) → has_number (outside_now s) n ≡ number_told s n
   number_is n =
-      ap (λ t. has_number t n) outside_is ∙ any_both (λ i. i + 1 == n) own.numbers searched.numbers
-      ∙ (λ i. number_own (last_in s.plan s.done) s.seen n i || number_searched (taken_by s.run) n i)
+      ap (λ t. has_number t n) outside_is ∙ any_both (λ i. i + 1 == n) own.numbers (stocked.numbers ++ searched.numbers)
+      ∙ ap (λ b. has_number own n || b) (any_both (λ i. i + 1 == n) stocked.numbers searched.numbers)
+      ∙ (λ i. number_own (last_in s.plan s.done) s.seen n i || (number_places s.stock.numbers n i || number_searched s.run.phase (taken_by s.run) n i))
+      ∙ sym (or_three (number_or n (last_in s.plan s.done) s.seen) (list_any (is_number n) s.stock.numbers) (number_by n s.run.phase (taken_by s.run)))
 
   numbers_is : numbers_of (outside_now s) ≡ numbers_that (number_told s) 4096
   numbers_is = λ i. numbers_that (λ n. number_is n i) 4096

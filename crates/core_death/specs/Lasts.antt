@@ -1,7 +1,6 @@
 -- What a node has outside files and bitmaps, by the last of its writes done.
-use Rattle.std.specs.Prelude.{◌==◌, ◌+◌, ◌-◌, ◌++◌, ◌||◌, ◌≡◌, ◌<◌, ◌^◌, ℕ, zero, suc, Bool, false, List, [], ◌∷◌, Option, Some, None, slice_get, length, map, if◌then◌else◌}
+use Rattle.std.specs.Prelude.{◌==◌, ◌+◌, ◌-◌, ◌||◌, ◌≡◌, ◌<◌, ◌^◌, ℕ, zero, suc, Bool, false, List, Option, Some, None, slice_get, length, if◌then◌else◌}
 use Rattle.std.specs.List.{list_any}
-use Rattle.plain_cat.specs.declared.command.Cmd.{Cmd}
 use Rattle.plain_cat.specs.declared.history.Stage.{Stage}
 use Rattle.plain_cat.specs.declared.history.Entry.{Entry}
 use Rattle.plain_cat.specs.declared.history.Entry.TheVariants.{Died}
@@ -9,7 +8,9 @@ use Rattle.vol_under.specs.UnderWay.{first_stage}
 use Rattle.op_law.specs.declared.need.Plan.{Plan}
 use Rattle.op_law.specs.declared.need.PlanWrite.{PlanWrite}
 use Rattle.op_law.specs.declared.seen.Seen.{Seen}
-use Rattle.core_state.specs.declared.space.SpaceRun.{SpaceRun}
+use Rattle.core_space.specs.declared.run.Phase.{Phase}
+use Rattle.core_space.specs.declared.run.Phase.TheVariants as phase
+use Rattle.core_space.specs.declared.run.SpaceRun.{SpaceRun}
 use Rattle.core_state.specs.Worlds.{NodeState}
 use Rattle.core_state.specs.Deaths.{numbers_that, death_of}
 
@@ -32,13 +33,19 @@ abbrev pub clusters_or : Option PlanWrite → Seen → ℕ
 clusters_or None seen = length seen.clusters
 clusters_or (Some w) seen = length w.clusters
 
--- a search that is not through its writes has this outside
+-- the last of the writes of its rules for space that are made, where they are not all
 abbrev pub taken_by : SpaceRun → Option PlanWrite
 taken_by run = if run.made == length run.writes then None else last_of run.writes run.made
 
-abbrev pub clusters_by : Option PlanWrite → ℕ
-clusters_by None = 0
-clusters_by (Some w) = length w.clusters
+-- how many clusters are taken with this write, in this phase: a give-back takes nothing
+abbrev pub clusters_taken : Phase → PlanWrite → ℕ
+clusters_taken phase.Fill w = length w.clusters
+clusters_taken phase.Last w = length w.clusters
+clusters_taken other w = 0
+
+abbrev pub clusters_by : Phase → Option PlanWrite → ℕ
+clusters_by p None = 0
+clusters_by p (Some w) = clusters_taken p w
 
 -- a number is this one, where 0 counts as 1
 abbrev pub is_number : ℕ → ℕ → Bool
@@ -53,27 +60,32 @@ abbrev pub number_or : ℕ → Option PlanWrite → Seen → Bool
 number_or n None seen = is_this n seen.number
 number_or n (Some w) seen = list_any (is_number n) w.numbers || is_this n w.number
 
-abbrev pub number_by : ℕ → Option PlanWrite → Bool
-number_by n None = false
-number_by n (Some w) = is_this n w.number
+-- it is taken with this write, in this phase: a filling takes many, the search of all free space takes one
+abbrev pub number_taken : ℕ → Phase → PlanWrite → Bool
+number_taken n phase.Fill w = list_any (is_number n) w.numbers
+number_taken n phase.Last w = is_this n w.number
+number_taken n other w = false
+
+abbrev pub number_by : ℕ → Phase → Option PlanWrite → Bool
+number_by n p None = false
+number_by n p (Some w) = number_taken n p w
 
 -- of a node
 abbrev pub stage_told : NodeState → Stage
 stage_told s = stage_or (last_in s.plan s.done) (first_stage s.cmd)
 
+-- what its command has outside, its stock, and what its rules for space have taken
 abbrev pub clusters_told : NodeState → ℕ
-clusters_told s = clusters_or (last_in s.plan s.done) s.seen + clusters_by (taken_by s.run)
+clusters_told s = clusters_or (last_in s.plan s.done) s.seen + (length s.stock.clusters + clusters_by s.run.phase (taken_by s.run))
 
 abbrev pub number_told : NodeState → ℕ → Bool
-number_told s n = number_or n (last_in s.plan s.done) s.seen || number_by n (taken_by s.run)
+number_told s n = (number_or n (last_in s.plan s.done) s.seen || list_any (is_number n) s.stock.numbers) || number_by n s.run.phase (taken_by s.run)
 
 -- the entry of its death, as it is told
 abbrev pub death_told : ℕ → NodeState → Entry
 death_told n s = Died n (stage_told s) (clusters_told s) (record { items = numbers_that (number_told s) 4096; room = 0 })
 
--- it can be told so, and no lock outlives its commands
+-- it can be told so
 pub record CanDie (n : ℕ) (s : NodeState) : Type 0 where
   pub told : death_told n s ≡ death_of n s
   pub few : clusters_told s < 2 ^ 32
-  pub kept : s.kept ≡ []
-  pub back : s.back ≡ []

@@ -1,5 +1,5 @@
 -- When a node is killed, by what it has counted.
-use Rattle.std.specs.Prelude.{◌==◌, ◌+◌, ◌&&◌, ℕ, Bool, Option, Some, None, length, nat_lt}
+use Rattle.std.specs.Prelude.{◌==◌, ◌+◌, ◌&&◌, ℕ, Bool, true, false, Option, Some, None, length, nat_lt}
 use Rattle.plain_cat.specs.declared.script.KillAt.{KillAt}
 use Rattle.plain_cat.specs.declared.script.KillAt.TheVariants as kill
 use Rattle.plain_cat.specs.declared.script.Kill.{Kill}
@@ -7,13 +7,22 @@ use Rattle.op_law.specs.declared.need.Plan.{Plan}
 use Rattle.core_state.specs.Worlds.{NodeState}
 use Rattle.core_state.specs.Asks.{writes_by}
 
--- a node that is not over, does not wait and has a command makes a write next
+-- its rules for space have a write to make
+abbrev pub has_space_write : NodeState → Bool
+has_space_write s = nat_lt s.run.made (length s.run.writes)
+
+-- a node that is not over, does not wait, and gives no stock back makes a write next
 abbrev pub has_write_in : NodeState → Option Plan → Bool
-has_write_in s None = nat_lt s.run.made (length s.run.writes)
+has_write_in s None = has_space_write s
 has_write_in s (Some p) = nat_lt s.done (length (writes_by p.ask s.tried p.writes))
 
 abbrev pub has_write : NodeState → Bool
 has_write s = has_write_in s s.plan
+
+-- one that gives it back goes on with its rules for space
+abbrev pub has_next : Bool → NodeState → Bool
+has_next true s = has_space_write s
+has_next false s = has_write s
 
 -- a kill comes in place of a turn of a node that has made so many turns and writes
 abbrev pub comes_by : KillAt → ℕ → ℕ → Bool → Bool

@@ -8,14 +8,13 @@ ghost use Rattle.core_death.specs.Lasts.{clusters_told, death_told, CanDie};
 
 use crate::things::{clusters_now, list_numbers, stage_now};
 use blk_drive::ImageDev;
-use core_state::{Core, Node, Phase, World};
+use core_space::Phase;
+use core_state::{Core, Node, World};
 use op_law::Operation;
 use plain_cat::{Entry, NumberList};
 
-// A node has nothing any more, where no lock outlived its commands. It takes no memory.
+// A node has nothing any more. It takes no memory.
 fn bury<O: Operation>(node: &mut Node<O>)
-    requires kept { node.old.kept.items ≡ [] }
-    requires back { node.old.back.items ≡ [] }
     ensures { state_of O.cmd_is node.new ≡ gone (state_of O.cmd_is node.old) }
 {
     node.past.die();
@@ -30,11 +29,14 @@ fn bury<O: Operation>(node: &mut Node<O>)
     node.done = 0;
     node.tried = false;
     node.asked.clear();
+    node.kept.clear();
+    node.claims.clear();
     node.opens = [None; 8];
     node.run.phase = Phase::Off;
     node.run.looked.clear();
     node.run.writes.clear();
     node.run.made = 0;
+    node.run.ready.clear();
     node.stock.clear();
     node.cache.clear();
 }

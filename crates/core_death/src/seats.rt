@@ -9,13 +9,12 @@ ghost use Rattle.core_state.specs.Asks.{writes_by};
 ghost use Rattle.core_state.specs.Events.{is_write, next_event};
 ghost use Rattle.core_state.specs.Deaths.{is_due, after_step};
 ghost use Rattle.core_step.specs.Memory.{takes_none};
-ghost use Rattle.core_death.specs.Seats.{has_write, comes_by, kills_by};
+ghost use Rattle.core_death.specs.Seats.{has_space_write, has_write, has_next, comes_by, kills_by};
 
 use crate::killing::kill;
 use blk_drive::ImageDev;
 use core_state::{Node, World};
-use core_step::{TurnFault, turn};
-use node_locks::waits;
+use core_step::{TurnFault, gives_back, stands, turn};
 use op_law::{Operation, Plan};
 use plain_cat::{Kill, KillAt};
 use std::alloc::Global;
@@ -30,27 +29,46 @@ fn plan_writes(plan: &Plan, tried: bool) -> usize
     if tried || all <= at { all } else { at }
 }
 
-// Whether a node makes a write next that is not over, does not wait and has a command.
+// Whether the rules for space of a node have a write to make.
+fn has_space_write<O: Operation>(node: &Node<O>) -> bool
+    ensures { result ≡ has_space_write (state_of O.cmd_is node.now) }
+{
+    node.run.made < node.run.writes.items().len()
+}
+
+// Whether a node makes a write next that is not over, does not wait, and gives no stock back.
 fn has_write<O: Operation>(node: &Node<O>) -> bool
     ensures { result ≡ has_write (state_of O.cmd_is node.now) }
 {
     match &node.plan {
         Some(plan) => node.done < plan_writes(plan, node.tried),
-        None => node.run.made < node.run.writes.items().len(),
+        None => has_space_write(node),
     }
 }
 
-/// Whether the next event of a node is a write, of its plan or of its search for space. The nodes count from 1.
+// The same of one that gives stock back or not.
+fn has_next<O: Operation>(node: &Node<O>, gives: bool) -> bool
+    ensures { result ≡ has_next gives (state_of O.cmd_is node.now) }
+{
+    if gives {
+        has_space_write(node)
+    } else {
+        has_write(node)
+    }
+}
+
+/// Whether the next event of a node is a write, of its plan or by its rules for space. The nodes count from 1.
 pub fn next_is_write<I: ImageDev, O: Operation>(w: &World<I, O>, node: u8) -> bool
     requires { IsOfWorld w.now.world node }
     ensures { result ≡ is_write (next_event w.now.world node) }
 {
     w.keeps_the_rules();
     let at = &w.core.nodes[node as usize - 1];
-    if w.is_over(node) || waits(&w.core.locks, node, at.asked.items()) {
+    let gives = gives_back(&w.core, node);
+    if w.is_over(node) || stands(&w.core, node, gives) {
         return false;
     }
-    has_write(at)
+    has_next(at, gives)
 }
 
 // Whether a kill comes in place of a turn of a node that has made so many turns and writes.

@@ -6,7 +6,8 @@ ghost use Rattle.core_state.specs.Deaths.{numbers_that};
 ghost use Rattle.core_state.specs.Worlds.{state_of};
 ghost use Rattle.core_death.specs.Lasts.{last_of, last_in, stage_or, clusters_or, clusters_by, taken_by, is_number, is_this, number_or, number_by, stage_told, clusters_told, number_told};
 
-use core_state::{Node, SpaceRun};
+use core_space::{Phase, SpaceRun};
+use core_state::Node;
 use op_law::{Operation, Plan, PlanWrite, Seen};
 use plain_cat::{NumberList, Stage};
 
@@ -30,7 +31,7 @@ fn last_in(plan: &Option<Plan>, done: usize) -> Option<&PlanWrite>
     }
 }
 
-// What a search that is not through its writes has taken.
+// The last of the writes of rules for space that are made, where they are not all.
 fn taken_by(run: &SpaceRun) -> Option<&PlanWrite>
     ensures { option_copied result ≡ taken_by run.now }
 {
@@ -67,13 +68,14 @@ fn own_clusters(plan: &Option<Plan>, done: usize, seen: &Seen) -> usize
     }
 }
 
-// How many its search for space has taken.
+// How many its rules for space have taken.
 fn search_clusters(run: &SpaceRun) -> usize
-    ensures { result ≡ clusters_by (taken_by run.now) }
+    ensures { result ≡ clusters_by run.now.phase (taken_by run.now) }
 {
-    match taken_by(run) {
-        Some(write) => write.clusters.items().len(),
-        None => 0,
+    let Some(write) = taken_by(run) else { return 0 };
+    match run.phase {
+        Phase::Fill | Phase::Last => write.clusters.items().len(),
+        _ => 0,
     }
 }
 
@@ -82,7 +84,9 @@ pub(crate) fn clusters_now<O: Operation>(node: &Node<O>) -> u32
     requires { clusters_told (state_of O.cmd_is node.now) < 2 ^ 32 }
     ensures { result ≡ clusters_told (state_of O.cmd_is node.now) }
 {
-    (own_clusters(&node.plan, node.done, &node.seen) + search_clusters(&node.run)) as u32
+    let own = own_clusters(&node.plan, node.done, &node.seen);
+    let stock = node.stock.count() as usize;
+    (own + (stock + search_clusters(&node.run))) as u32
 }
 
 // Whether a number is this one, where 0 counts as 1.
@@ -118,13 +122,17 @@ fn own_number(n: u32, plan: &Option<Plan>, done: usize, seen: &Seen) -> bool
     }
 }
 
-// Whether its search for space has taken it.
+// Whether its rules for space have taken it.
 fn search_number(n: u32, run: &SpaceRun) -> bool
-    ensures { result ≡ number_by n (taken_by run.now) }
+    ensures { result ≡ number_by n run.now.phase (taken_by run.now) }
 {
-    match taken_by(run) {
-        Some(write) => is_this(n, write.number),
-        None => false,
+    let Some(write) = taken_by(run) else {
+        return false
+    };
+    match run.phase {
+        Phase::Fill => is_among(n, write.numbers.items()),
+        Phase::Last => is_this(n, write.number),
+        _ => false,
     }
 }
 
@@ -132,7 +140,9 @@ fn search_number(n: u32, run: &SpaceRun) -> bool
 fn has_number<O: Operation>(node: &Node<O>, n: u32) -> bool
     ensures { result ≡ number_told (state_of O.cmd_is node.now) n }
 {
-    own_number(n, &node.plan, node.done, &node.seen) || search_number(n, &node.run)
+    own_number(n, &node.plan, node.done, &node.seen)
+        || is_among(n, node.stock.numbers())
+        || search_number(n, &node.run)
 }
 
 /// The file numbers that a node has outside files and bitmaps, in rising order, in a list with room for all of a volume. It takes no

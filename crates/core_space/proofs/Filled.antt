@@ -1,5 +1,5 @@
 -- The writes of a filling, one after another.
-use Rattle.std.proofs.Common.{◌≡◌, ◌<◌, ◌≤◌, ◌+◌, ◌-◌, ◌*◌, ◌/◌, ◌%◌, ◌⊎◌, ◌&&◌, ◌||◌, ◌++◌, ℕ, zero, suc, Bool, true, false, List, [], ◌∷◌, Some, None, length, slice_get, refl, sym, ap, subst, ◌∙◌, inl, inr, arith, append-nil, append_assoc, cond, nat_le, nat_lt}
+use Rattle.std.proofs.Common.{◌≡◌, ◌<◌, ◌≤◌, ◌+◌, ◌-◌, ◌*◌, ◌/◌, ◌%◌, ◌⊎◌, ◌&&◌, ◌||◌, ◌++◌, ℕ, zero, suc, Bool, true, false, List, [], ◌∷◌, Option, Some, None, length, slice_get, refl, sym, ap, subst, ◌∙◌, inl, inr, arith, append-nil, append_assoc, cond, nat_le, nat_lt}
 use Rattle.std.specs.Prelude.{take, filter, map, not, min}
 use Rattle.std.specs.List.{range_with_len, zip}
 use Rattle.std.proofs.lemmas.Bool.Decides.{nat_tests}
@@ -334,7 +334,7 @@ first_lowest (suc n) (x ∷ xs) r p q (inr t) u away = elim u [
 ]
 
 -- the clusters that were taken by all of these writes, where these were taken before
-last_clusters : List ℕ → List PlanWrite → List ℕ
+pub last_clusters : List ℕ → List PlanWrite → List ℕ
 last_clusters before [] = before
 last_clusters before (w ∷ ws) = last_clusters w.clusters ws
 
@@ -343,7 +343,7 @@ unfolding last_clusters
 last_of w [] before = refl
 last_of w (v ∷ ws) before = last_of v ws w.clusters
 
-last_taken : (ws : List PlanWrite) → (taken_before ws (length ws)).clusters ≡ last_clusters [] ws
+pub last_taken : (ws : List PlanWrite) → (taken_before ws (length ws)).clusters ≡ last_clusters [] ws
 unfolding last_clusters
 last_taken [] = refl
 last_taken (w ∷ ws) = last_of w ws []
@@ -367,7 +367,7 @@ all_taken g wanted ns before k (b ∷ bs) =
 storage_taken : (g : Geometry) (count : ℕ) (ns : List ℕ) (bs : List Block) → last_clusters [] (storage_writes g count ns bs) ≡ take count (free_from g 0 bs)
 storage_taken g count ns bs = all_taken g count ns [] 0 bs ∙ ap (λ n. take n (free_from g 0 bs)) (let e : count - 0 ≡ count = omega arith in e)
 
-taken_by : (g : Geometry) (wanted : ℕ) (lacks : Bool) (bs : List Block) → last_clusters [] (fill_writes g wanted lacks bs) ≡ take (clusters_taken g wanted (storage_part lacks bs)) (free_from g 0 (storage_part lacks bs))
+pub taken_by : (g : Geometry) (wanted : ℕ) (lacks : Bool) (bs : List Block) → last_clusters [] (fill_writes g wanted lacks bs) ≡ take (clusters_taken g wanted (storage_part lacks bs)) (free_from g 0 (storage_part lacks bs))
 unfolding fill_writes last_clusters
 taken_by g wanted false bs = storage_taken g (clusters_taken g wanted bs) [] bs
 taken_by g wanted true [] = storage_taken g (clusters_taken g wanted []) [] []
@@ -380,3 +380,50 @@ takes_lowest g need held lacks bs ws h =
     let n = clusters_taken g (clusters_to_take need held) part in
     let e : (taken_before ws (length ws)).clusters ≡ take n (free_from g 0 part) = last_taken ws ∙ ap (λ (vs : List PlanWrite). last_clusters [] vs) f.1 ∙ taken_by g (clusters_to_take need held) lacks bs in
     subst (λ (xs : List ℕ). AreLowest xs (free_from g 0 part)) (sym e) (first_lowest n (free_from g 0 part) (rises_from g 0 part))
+
+-- ---- the numbers that a filling takes
+
+numbers_taken_within : (g : Geometry) (lacks : Bool) (bs : List Block) (n : ℕ) → Has (numbers_taken g lacks bs) n → (1 ≤ n) × (n ≤ g.files)
+numbers_taken_within g false bs n h = absurd h
+numbers_taken_within g true [] n h = absurd h
+numbers_taken_within g true (index ∷ bs) n h = let f = free_is g index n (has_taken 9 (free_numbers g index) n h) in (f.from, f.to)
+
+one_of_all : (ns : List ℕ) (ws : List PlanWrite) (k : ℕ) (w : PlanWrite) → slice_get (map (with_numbers ns) ws) k ≡ Some w → w.numbers ≡ ns
+one_of_all ns [] k w e = absurd (let f : None ≡ Some w = e in cc)
+one_of_all ns (v ∷ ws) zero w e = let f : Some (with_numbers ns v) ≡ Some w = e in let h : with_numbers ns v ≡ w = cc in ap (λ (x : PlanWrite). x.numbers) (sym h)
+one_of_all ns (v ∷ ws) (suc k) w e = one_of_all ns ws k w e
+
+-- each write says the numbers that are taken
+all_numbers : (g : Geometry) (wanted : ℕ) (lacks : Bool) (bs : List Block) (k : ℕ) (w : PlanWrite) → slice_get (fill_writes g wanted lacks bs) k ≡ Some w → w.numbers ≡ numbers_taken g lacks bs
+unfolding fill_writes
+all_numbers g wanted false bs k w e = one_of_all [] (cluster_writes g (clusters_taken g wanted bs) None [] 0 bs) k w e
+all_numbers g wanted true [] k w e = one_of_all [] (cluster_writes g (clusters_taken g wanted []) None [] 0 []) k w e
+all_numbers g wanted true (index ∷ bs) zero w e =
+    let f : Some (numbers_write g index (lowest_numbers g index)) ≡ Some w = e in
+    let h : numbers_write g index (lowest_numbers g index) ≡ w = cc in
+    ap (λ (x : PlanWrite). x.numbers) (sym h)
+all_numbers g wanted true (index ∷ bs) (suc k) w e = one_of_all (lowest_numbers g index) (cluster_writes g (clusters_taken g wanted bs) None [] 0 bs) k w e
+
+-- they are numbers of the volume
+pub numbers_within : (g : Geometry) (need held : ℕ) (lacks : Bool) (bs : List Block) (ws : List PlanWrite) (k : ℕ) (w : PlanWrite) → filled g need held lacks bs ≡ Some ws → slice_get ws k ≡ Some w → (n : ℕ) → Has w.numbers n → (1 ≤ n) × (n ≤ g.files)
+numbers_within g need held lacks bs ws k w h at n t =
+    let f = filled_is g need held lacks bs ws h in
+    let same : w.numbers ≡ numbers_taken g lacks bs = all_numbers g (clusters_to_take need held) lacks bs k w (ap (λ vs. slice_get vs k) (sym f.1) ∙ at) in
+    numbers_taken_within g lacks bs n (subst (λ (ns : List ℕ). Has ns n) same t)
+
+-- and the clusters are those of the volume
+clusters_before : (g : Geometry) (need held : ℕ) (lacks : Bool) (bs : List Block) (ws : List PlanWrite) → IsGeometry g → filled g need held lacks bs ≡ Some ws → (k : ℕ) (q : ℕ) → Has (taken_before ws k).clusters q → q < total_of g
+clusters_before g need held lacks bs ws is h zero q t = absurd t
+clusters_before g need held lacks bs ws is h (suc k) q t = by_write (clusters_before g need held lacks bs ws is h k) (slice_get ws k) refl t where
+  by_write : ((p : ℕ) → Has (taken_before ws k).clusters p → p < total_of g) → (o : Option PlanWrite) → slice_get ws k ≡ o → Has (taken_with o).clusters q → q < total_of g
+  by_write before None e i = absurd i
+  by_write before (Some w) e i = elim (writes_fill g need held lacks bs ws k w is h e).takes [
+    | inl a ↦ before q (subst (λ (cs : List ℕ). Has cs q) a.clusters i)
+    | inr a ↦ elim (has_parted (taken_before ws k).clusters a.taken q (subst (λ (cs : List ℕ). Has cs q) a.clusters i)) [
+      | inl b ↦ before q b
+      | inr b ↦ (a.free.inside q b).0
+    ]
+  ]
+
+pub clusters_within : (g : Geometry) (need held : ℕ) (lacks : Bool) (bs : List Block) (ws : List PlanWrite) (k : ℕ) (w : PlanWrite) → IsGeometry g → filled g need held lacks bs ≡ Some ws → slice_get ws k ≡ Some w → (q : ℕ) → Has w.clusters q → q < total_of g
+clusters_within g need held lacks bs ws k w is h at q t = clusters_before g need held lacks bs ws is h (suc k) q (subst (λ (o : Option PlanWrite). Has (taken_with o).clusters q) (sym at) t)

@@ -34,11 +34,11 @@ numbers_go_back g cs (m ∷ ns) looked n took base own c some s outs at =
     gives_numbers g n took (things_of cs (m ∷ ns)) (place_of g IndexBitmap) (places_of (m ∷ ns)) [] old (numbers_back g (m ∷ ns) looked).block base own c s outs
     (part_there g base own c s IndexBitmap tt) at (all_go (places_of (m ∷ ns))) tt (are_numbers_given g old m ns fit)
 
-covered_is : (k q : ℕ) → is_covered k q ≡ true → q / 4096 ≡ k
+pub covered_is : (k q : ℕ) → is_covered k q ≡ true → q / 4096 ≡ k
 covered_is k q e = grind (arith, nat_tests)
 
 -- what is outside at a node is of the volume
-outside_within : (g : Geometry) (n : ℕ) (took : Things) (cs ns : List ℕ) (base : List Block) (own : Owners) (c : Cat) (q : ℕ) → Spells g base own c → Outs n own took (things_of cs ns) → Has cs q → q < total_of g
+pub outside_within : (g : Geometry) (n : ℕ) (took : Things) (cs ns : List ℕ) (base : List Block) (own : Owners) (c : Cat) (q : ℕ) → Spells g base own c → Outs n own took (things_of cs ns) → Has cs q → q < total_of g
 outside_within g n took cs ns base own c q s outs t =
     let count = s.counts.clusters in
     let lt = slice_get_within own.clusters q _ ((outs.clusters.all q).1 (inr t)) in

@@ -3,3 +3,4 @@ pub mod Filled
 pub mod Given
 pub mod Refused
 pub mod Loops
+pub mod Merged

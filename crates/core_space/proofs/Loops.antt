@@ -26,7 +26,6 @@ use Rattle.node_space.proofs.Concluding.{at_most_16}
 use Rattle.node_space.proofs.Ranges.{filter_passed, filter_failed, find_here, find_on}
 use Rattle.node_space.proofs.Taken.{take_none, take_parts}
 use Rattle.core_space.specs.Filling.{clusters_to_take, storage_part, free_numbers, lowest_numbers, numbers_taken, clusters_taken, index_writes, storage_writes, fill_writes, suffices, filled}
-use Rattle.core_space.specs.Rule.{RoomBy}
 use Rattle.core_space.specs.Giving.{has_covered, is_seen, is_wanting, storage_range, clusters_place, give_place, clusters_back}
 
 -- ---- counting
@@ -222,29 +221,6 @@ none_to p (x ∷ xs) (suc i) d none lt e =
     let next : suc i + 1 ≡ suc (i + 1) = omega arith in
     ap (λ k. find p (take k (x ∷ xs))) next ∙ ap (λ b. cond b (Some x) (find p (take (i + 1) xs))) n.0 ∙ none_to p xs i d n.1 (omega arith) e
 
--- ---- a stock that holds nothing
-
-neither : (a b : Bool) → a || b ≡ false → (a ≡ false) × (b ≡ false)
-neither true b e = absurd (let f : true ≡ false = e in cc)
-neither false b e = (refl, e)
-
-is_nil : (xs : List ℕ) → nat_lt 0 (length xs) ≡ false → xs ≡ []
-is_nil [] e = refl
-is_nil (x ∷ xs) e = absurd (let none : length (x ∷ xs) ≤ 0 = grind (arith, nat_tests) in omega arith)
-
-none_wanting : (g : Geometry) (looked : List (ℕ × Block)) (ks : List ℕ) → find (is_wanting g [] looked) ks ≡ None
-none_wanting g looked [] = refl
-none_wanting g looked (k ∷ ks) = none_wanting g looked ks
-
-nowhere : (g : Geometry) (looked : List (ℕ × Block)) → give_place g [] [] looked ≡ None
-unfolding give_place
-nowhere g looked = ap (option_map (λ k. place_of g (Storage k))) (none_wanting g looked (storage_range g))
-
-pub empty_place : (g : Geometry) (cs ns : List ℕ) (looked : List (ℕ × Block)) → nat_lt 0 (length cs) || nat_lt 0 (length ns) ≡ false → None ≡ give_place g cs ns looked
-empty_place g cs ns looked e =
-    let n = neither (nat_lt 0 (length cs)) (nat_lt 0 (length ns)) e in
-    sym (ap (λ (xs : List ℕ). give_place g xs ns looked) (is_nil cs n.0) ∙ ap (λ (xs : List ℕ). give_place g [] xs looked) (is_nil ns n.1) ∙ nowhere g looked)
-
 -- ---- one more write of a give-back
 
 pub gives_more : (g : Geometry) (cs : List ℕ) (looked : List (ℕ × Block)) (first ws : List PlanWrite) (k : ℕ) → ws ≡ first ++ map (clusters_back g cs looked) (filter (has_covered cs) (range_with_len 0 k)) → has_covered cs k ≡ true
@@ -284,18 +260,3 @@ filled_some g need held lacks bs found free count first ws storage e s f n enoug
     ∙ ap (λ (xs : List Block). index_writes g lacks bs ++ storage_writes g count (numbers_taken g lacks bs) xs) s
     ∙ ap (λ m. index_writes g lacks bs ++ storage_writes g m (numbers_taken g lacks bs) (storage_part lacks bs)) (n ∙ ap (min (clusters_to_take need held)) here) in
     ap Some all ∙ sym (ap (λ t. cond t (Some (fill_writes g (clusters_to_take need held) lacks bs)) None) test)
-
--- ---- whatever the answer
-
-pub on_ok : {A E : Type 0} (r : Result A E) (P : Type 0) → P → OnOk r P
-on_ok (Ok a) P p = p
-on_ok (Err e) P p = tt
-
--- ---- room
-
-pub has_room : (g : Geometry) (wanted : ℕ) (lacks : Bool) (seen looked : List (ℕ × Block)) (stock : Stock) → seen ≡ looked → clusters_taken g wanted (storage_part lacks (blocks_of seen)) ≤ stock.cluster_room
-    → length (numbers_taken g lacks (blocks_of seen)) ≤ stock.number_room → RoomBy g wanted lacks (blocks_of looked) stock
-has_room g wanted lacks seen looked stock e few less = λ none. record {
-  clusters = subst (λ (l : List (ℕ × Block)). clusters_taken g wanted (storage_part lacks (blocks_of l)) ≤ stock.cluster_room) e few;
-  numbers = subst (λ (l : List (ℕ × Block)). length (numbers_taken g lacks (blocks_of l)) ≤ stock.number_room) e less;
-}

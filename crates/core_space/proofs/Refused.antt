@@ -191,7 +191,7 @@ storage_looked g bs true true l e h =
     let same : place_of g (Storage (length bs)) ≡ l = (let f : Some (place_of g (Storage (length bs))) ≡ Some l = h in cc) in
     subst (λ (k : ℕ). Has (places g 1 true) k) same (storage_in g (length bs) (is_below (length bs) (storage_blocks (total_of g)) e))
 
-fill_looked : (g : Geometry) (wanted : ℕ) (lacks : Bool) (bs : List Block) (l : ℕ) → fill_place g wanted lacks bs ≡ Some l → Has (places g 1 true) l
+pub fill_looked : (g : Geometry) (wanted : ℕ) (lacks : Bool) (bs : List Block) (l : ℕ) → fill_place g wanted lacks bs ≡ Some l → Has (places g 1 true) l
 fill_looked g wanted false bs l h = storage_looked g bs (nat_lt (length (free_from g 0 bs)) wanted) (nat_lt (length bs) (storage_blocks (total_of g))) l refl h
 fill_looked g wanted true [] l h = inl (let f : Some (place_of g IndexBitmap) ≡ Some l = h in cc)
 fill_looked g wanted true (index ∷ bs) l h = storage_looked g bs (nat_lt (length (free_from g 0 bs)) wanted) (nat_lt (length bs) (storage_blocks (total_of g))) l refl h
@@ -203,7 +203,7 @@ clusters_looked g cs looked (Some k) l e h =
     let t = (found_passes (is_wanting g cs looked) (storage_range g) k e).0 in
     inr (subst (λ (j : ℕ). Has (storage_places g 0 (storage_blocks (total_of g))) j) same (has_map (λ j. place_of g (Storage j)) (storage_range g) k t))
 
-give_looked : (g : Geometry) (cs ns : List ℕ) (looked : List (ℕ × Block)) (l : ℕ) → give_place g cs ns looked ≡ Some l → Has (places g 1 true) l
+pub give_looked : (g : Geometry) (cs ns : List ℕ) (looked : List (ℕ × Block)) (l : ℕ) → give_place g cs ns looked ≡ Some l → Has (places g 1 true) l
 unfolding give_place
 give_looked g cs ns looked l h = by_index (nat_lt 0 (length ns) && not (is_seen looked (place_of g IndexBitmap))) h where
   by_index : (b : Bool) → cond b (Some (place_of g IndexBitmap)) (clusters_place g cs looked) ≡ Some l → Has (places g 1 true) l

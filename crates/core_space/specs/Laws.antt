@@ -1,5 +1,5 @@
 -- The laws of the rules for space.
-use Rattle.std.specs.Prelude.{◌≡◌, ◌≤◌, ◌<◌, ◌-◌, ◌+◌, ◌⊎◌, ◌++◌, not, ℕ, zero, suc, Bool, true, List, [], Option, Some, None, length, map, filter, slice_get}
+use Rattle.std.specs.Prelude.{◌≡◌, ◌≤◌, ◌<◌, ◌-◌, ◌+◌, ◌⊎◌, ◌↔◌, ◌++◌, not, ℕ, zero, suc, Bool, true, List, [], Option, Some, None, length, map, filter, slice_get}
 use Rattle.vol_words.specs.Fields.{Block}
 use Rattle.lock_db.specs.declared.name.LockName.TheVariants.{V}
 use Rattle.plain_cat.specs.declared.history.Stage.TheVariants as stage
@@ -7,8 +7,8 @@ use Rattle.plain_cat.specs.declared.mode.Mode.TheVariants.{PW, EX}
 use Rattle.plain_cat.specs.declared.reply.Refusal.{Refusal}
 use Rattle.plain_cat.specs.declared.reply.Refusal.TheVariants.{DeviceFull}
 use Rattle.plain_cat.specs.declared.cat.Cat.{Cat}
-use Rattle.extent_cache.specs.Stock.{Stock, is_covered}
-use Rattle.vol_owners.specs.Lists.{Has}
+use Rattle.extent_cache.specs.Stock.{Stock, is_covered, merged}
+use Rattle.vol_owners.specs.Lists.{Has, Once}
 use Rattle.vol_owners.specs.Owners.{Owners, Things, nothing, Outs}
 use Rattle.vol_parts.specs.declared.geometry.Geometry.{Geometry}
 use Rattle.vol_parts.specs.declared.geometry.Part.TheVariants.{IndexBitmap, Storage}
@@ -93,6 +93,10 @@ WritesFill = (g : Geometry) (need held : ℕ) (lacks : Bool) (bs : List Block) (
 abbrev pub FillingsRefill : Type 0
 FillingsRefill = (g : Geometry) (seen : List (ℕ × Block)) (out : Things) (w : PlanWrite) (t : IsFilling g seen out w) (n : ℕ) (took stock : Things) (base : List Block) (own : Owners) (c : Cat) → Spells g base own c
     → Outs n own took (together stock out) → slice_get base w.lbn ≡ Some t.old → IsBitmap g w.lbn × Refills g n took (together stock (things_of w.clusters w.numbers)) w.lbn w.block base own c
+
+-- A stock that takes all of these, each once, has what it held and these, each once.
+abbrev pub StocksTakeAll : Type 0
+StocksTakeAll = (xs held : List ℕ) → Once (xs ++ held) → Once (merged xs held) × ((q : ℕ) → Has (merged xs held) q ↔ Has (xs ++ held) q)
 
 -- ---- how much a filling takes
 

@@ -3,7 +3,7 @@
 -- A command that needs clusters or a file number gets them from its node's stock. A stock that is not enough is filled from the
 -- bitmaps, under X in CR and V in PW. Where these have too little, the stock goes back, V and X are lowered, and X is asked for in
 -- EX: so every other node gives its stock back. Then, under X in EX and V in PW, all free space is searched for just the need.
-use Rattle.std.specs.Prelude.{◌≡◌, ◌≤◌, ◌⊎◌, ◌&&◌, ◌||◌, not, nat_lt, ℕ, Bool, true, false, List, [], Option, Some, None, length, slice_get, if◌then◌else◌}
+use Rattle.std.specs.Prelude.{◌≡◌, ◌&&◌, ◌||◌, not, nat_lt, ℕ, Bool, true, false, List, [], Option, Some, None, length, slice_get, if◌then◌else◌}
 use Rattle.vol_words.specs.Fields.{Block}
 use Rattle.lock_db.specs.declared.name.LockName.TheVariants.{X, V}
 use Rattle.plain_cat.specs.declared.mode.Mode.{Mode}
@@ -23,7 +23,7 @@ use Rattle.core_space.specs.declared.run.SpaceNeed.{SpaceNeed}
 use Rattle.core_space.specs.declared.event.SpaceEvent.{SpaceEvent}
 use Rattle.core_space.specs.declared.event.SpaceEvent.TheVariants as event
 use Rattle.core_space.specs.declared.event.Decision.{Decision}
-use Rattle.core_space.specs.Filling.{clusters_to_take, lacks_number, storage_part, fill_place, numbers_taken, clusters_taken, filled}
+use Rattle.core_space.specs.Filling.{clusters_to_take, lacks_number, fill_place, filled}
 use Rattle.core_space.specs.Giving.{give_place, give_writes}
 
 -- ---- how a node stands
@@ -36,7 +36,7 @@ pub record SpaceState : Type 0 where
   pub stock : Stock
 
 abbrev pub no_run : SpaceRun
-no_run = record { phase = Off; looked = []; writes = []; made = 0 }
+no_run = record { phase = Off; looked = []; writes = []; made = 0; ready = [] }
 
 -- X is held in CR or more: a node that holds it so may have a stock
 abbrev pub is_shared : Option Mode → Bool
@@ -142,11 +142,10 @@ has_any s = nat_lt 0 (length s.clusters) || nat_lt 0 (length s.numbers)
 abbrev pub is_due : SpaceLocks → Stock → Bool → Bool → Bool → Bool
 is_due locks stock wanted busy ended = (is_reader locks.x && (wanted && not busy)) || (ended && has_any stock)
 
--- Finding the event takes memory only where all writes are made, and blocks of the stock may have to be looked at, or all free space
--- is searched.
+-- Finding the event takes memory only where all writes are made, and all free space is searched.
 pub record TakesMemory (s : SpaceState) : Type 0 where
   pub made : slice_get s.run.writes s.run.made ≡ None
-  pub looks : (has_any s.stock ≡ true) ⊎ (s.run.phase ≡ Last)
+  pub searches : s.run.phase ≡ Last
 
 -- ---- what a look comes to
 
@@ -196,16 +195,3 @@ decision_in Back g looked stock need = gives Back g looked stock
 -- what the blocks looked at come to, the last one included
 abbrev pub space_decision : Geometry → SpaceRun → Stock → SpaceNeed → Decision
 space_decision g run stock need = decision_in run.phase g run.looked stock need
-
--- a stock has room for what a filling takes
-pub record HasRoomFor (cs ns : ℕ) (stock : Stock) : Type 0 where
-  pub clusters : cs ≤ stock.cluster_room
-  pub numbers : ns ≤ stock.number_room
-
--- where the stock takes so many clusters, and lacks a number or not
-abbrev pub RoomBy : Geometry → ℕ → Bool → List Block → Stock → Type 0
-RoomBy g wanted lacks bs stock = fill_place g wanted lacks bs ≡ None → HasRoomFor (clusters_taken g wanted (storage_part lacks bs)) (length (numbers_taken g lacks bs)) stock
-
--- where all is looked at that the filling of a stock looks at, there is room for all that it takes
-abbrev pub HasRoom : Geometry → List (ℕ × Block) → Stock → SpaceNeed → Stock → Type 0
-HasRoom g looked old need new = RoomBy g (clusters_to_take need.clusters (length old.clusters)) (lacks_number need.number old.numbers) (blocks_of looked) new

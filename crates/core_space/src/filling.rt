@@ -206,21 +206,17 @@ fn suffices(need: SpaceNeed, held: u32, lacks: bool, numbers: &[u32], free: u32)
     (!lacks || !numbers.is_empty()) && need.clusters.saturating_sub(held) <= free
 }
 
-// The writes that fill the stock, once all is looked at, with room in the stock for what they take. None comes exactly where
-// there is too little.
+// The writes that fill the stock, once all is looked at. None comes exactly where there is too little.
 pub(crate) fn fill(
     alloc: Global,
     geometry: &Geometry,
     need: SpaceNeed,
     looked: &[(u32, Block)],
-    stock: &mut Extents,
+    stock: &Extents,
 ) -> Result<Option<Writes>, NoMemory>
     requires geometry { IsGeometry geometry.now }
     requires need { need.clusters ≤ 65536 }
-    ensures writes { IfOk result (λ o. o ≡ filled geometry.now need.clusters (length stock.old.clusters) (lacks_number need.number stock.old.numbers) (blocks_of looked.now)) }
-    ensures same { Holds stock.old.clusters stock.old.numbers stock.old stock.new }
-    ensures clusters { OnOk result (clusters_taken geometry.now (clusters_to_take need.clusters (length stock.old.clusters)) (storage_part (lacks_number need.number stock.old.numbers) (blocks_of looked.now)) ≤ stock.new.cluster_room) }
-    ensures numbers { OnOk result (length (numbers_taken geometry.now (lacks_number need.number stock.old.numbers) (blocks_of looked.now)) ≤ stock.new.number_room) }
+    ensures { IfOk result (λ o. o ≡ filled geometry.now need.clusters (length stock.now.clusters) (lacks_number need.number stock.now.numbers) (blocks_of looked.now)) }
 {
     let held = stock.count();
     let lacks = lacks_number(need.number, stock);
@@ -229,7 +225,6 @@ pub(crate) fn fill(
     let numbers = numbers_taken(alloc, geometry, lacks, looked)?;
     let found = numbers.items();
     let count = clusters_to_take(need.clusters, held).min(free);
-    stock.make_room(alloc, count, found.len() as u32)?;
     if !suffices(need, held, lacks, found, free) {
         return Ok(None);
     }

@@ -1,6 +1,6 @@
 //! The laws, each a statement for every value that it speaks of.
 
-ghost use Rattle.core_space.specs.Laws.{LooksAtBitmaps, WritesFill, FillingsRefill, FillsEnough, TakesLowest, NumbersGoBack, ClustersGoBack, RefusedLast, DecidedLast, FullIsWhole};
+ghost use Rattle.core_space.specs.Laws.{LooksAtBitmaps, WritesFill, FillingsRefill, StocksTakeAll, FillsEnough, TakesLowest, NumbersGoBack, ClustersGoBack, RefusedLast, DecidedLast, FullIsWhole};
 
 /// Each block that the rules look at is a bitmap's.
 pub fn looks_at_bitmaps()
@@ -15,6 +15,11 @@ pub fn writes_fill()
 /// Where the block stands that was looked at, such a write takes what is free to the node's stock.
 pub fn fillings_refill()
     ensures { FillingsRefill }
+{}
+
+/// A stock that takes more has what it held and this, each once.
+pub fn stocks_take_all()
+    ensures { StocksTakeAll }
 {}
 
 /// With a filling the stock has what is needed, and at most 16 clusters and 8 numbers more.

@@ -1,19 +1,18 @@
 //! Which event comes next, and what a look comes to.
 
-ghost use Rattle.std.specs.Prelude.{◌≡◌, ◌≤◌, IfOk, OnOk, OnErr, None, true, length, slice_get};
-ghost use Rattle.extent_cache.specs.Stock.{Stock, IsStock, Holds};
+ghost use Rattle.std.specs.Prelude.{◌≡◌, ◌≤◌, IfOk, OnErr, None, length, slice_get};
+ghost use Rattle.extent_cache.specs.Stock.{Stock};
 ghost use Rattle.extent_cache.specs.Takings.{holds_enough};
 ghost use Rattle.vol_parts.specs.Parts.{IsGeometry};
 ghost use Rattle.node_space.specs.Answering.{answer, blocks_of};
-ghost use Rattle.core_space.specs.declared.run.Phase.TheVariants as phase;
 ghost use Rattle.core_space.specs.Giving.{give_place};
-ghost use Rattle.core_space.specs.Rule.{is_shared, has_any, TakesMemory, next_put, written_first, after_looks, by_search, fill_event, last_event, back_event, space_event, is_due, looks_on, gives, fills, HasRoom, search_by, space_decision};
+ghost use Rattle.core_space.specs.Rule.{is_shared, has_any, TakesMemory, next_put, written_first, after_looks, by_search, fill_event, last_event, back_event, space_event, is_due, looks_on, gives, fills, search_by, space_decision};
 
 use crate::event::{Decision, SpaceEvent};
 use crate::filling::{clusters_to_take, fill, fill_place, lacks_number};
 use crate::giving::{give_place, give_writes};
 use crate::run::{Phase, SpaceLocks, SpaceNeed, SpaceRun};
-use extent_cache::{Extents, Taken2};
+use extent_cache::Extents;
 use lock_db::LockName;
 use node_space::{Search, search};
 use op_law::Writes;
@@ -88,77 +87,45 @@ fn has_any(stock: &Extents) -> bool
     stock.count() > 0 || !stock.numbers().is_empty()
 }
 
-// All that it holds.
-fn all_held(alloc: Global, stock: &Extents) -> Result<Taken2, NoMemory>
-    ensures clusters { IfOk result (λ t. t.clusters ≡ stock.now.clusters) }
-    ensures numbers { IfOk result (λ t. t.numbers.items ≡ stock.now.numbers) }
-    ensures stock { IsStock stock.now }
-{
-    // (what every stock is, the contract of its count says)
-    let _count = stock.count();
-    stock.all(alloc)
-}
-
-// The next block to be looked at before a stock goes back. A stock that holds nothing needs no memory.
-fn next_give(
-    alloc: Global,
-    geometry: &Geometry,
-    run: &SpaceRun,
-    stock: &Extents,
-) -> Result<Option<u32>, NoMemory>
+// The next block to be looked at before a stock goes back.
+fn next_give(geometry: &Geometry, run: &SpaceRun, stock: &Extents) -> Option<u32>
     requires { IsGeometry geometry.now }
-    ensures place { IfOk result (λ o. o ≡ give_place geometry.now stock.now.clusters stock.now.numbers run.now.looked) }
-    ensures memory { OnErr result (has_any stock.now ≡ true) }
+    ensures { result ≡ give_place geometry.now stock.now.clusters stock.now.numbers run.now.looked }
 {
-    if !has_any(stock) {
-        return Ok(None);
-    }
-    let held = stock.all(alloc)?;
-    Ok(give_place(
+    give_place(
         geometry,
-        held.clusters.items(),
-        held.numbers.items(),
+        stock.clusters(),
+        stock.numbers(),
         run.looked.items(),
-    ))
+    )
 }
 
 // The next event where a stock goes back: a write, a look, or what comes behind these.
-fn give_event(
-    alloc: Global,
-    geometry: &Geometry,
-    run: &SpaceRun,
-    stock: &Extents,
-    last: SpaceEvent,
-) -> Result<SpaceEvent, NoMemory>
+fn give_event(geometry: &Geometry, run: &SpaceRun, stock: &Extents, last: SpaceEvent) -> SpaceEvent
     requires { IsGeometry geometry.now }
-    ensures event { IfOk result (λ e. e ≡ written_first run.now (after_looks (give_place geometry.now stock.now.clusters stock.now.numbers run.now.looked) last)) }
-    ensures made { OnErr result (slice_get run.now.writes run.now.made ≡ None) }
-    ensures some { OnErr result (has_any stock.now ≡ true) }
+    ensures { result ≡ written_first run.now (after_looks (give_place geometry.now stock.now.clusters stock.now.numbers run.now.looked) last) }
 {
     if let Some(put) = next_put(run) {
-        return Ok(put);
+        return put;
     }
-    let place = next_give(alloc, geometry, run, stock)?;
-    Ok(after_looks(place, last))
+    after_looks(next_give(geometry, run, stock), last)
 }
 
-// The next event where the stock goes back for good.
-fn back_event(
-    alloc: Global,
+/// The next event where the stock goes back for good, as another node wants it to, or as there is no command left. It takes no
+/// memory.
+pub fn back_next(
     geometry: &Geometry,
     locks: SpaceLocks,
     run: &SpaceRun,
     stock: &Extents,
-) -> Result<SpaceEvent, NoMemory>
+) -> SpaceEvent
     requires { IsGeometry geometry.now }
-    ensures event { IfOk result (λ e. e ≡ back_event (record { geometry = geometry.now; locks = locks; run = run.now; stock = stock.now })) }
-    ensures made { OnErr result (slice_get run.now.writes run.now.made ≡ None) }
-    ensures some { OnErr result (has_any stock.now ≡ true) }
+    ensures { result ≡ back_event (record { geometry = geometry.now; locks = locks; run = run.now; stock = stock.now }) }
 {
     if locks.v != Some(Mode::PW) {
-        return Ok(SpaceEvent::Ask(LockName::V, Mode::PW));
+        return SpaceEvent::Ask(LockName::V, Mode::PW);
     }
-    give_event(alloc, geometry, run, stock, SpaceEvent::Return)
+    give_event(geometry, run, stock, SpaceEvent::Return)
 }
 
 // What the search of all free space comes to.
@@ -219,8 +186,7 @@ fn holds_enough(stock: &Extents, need: SpaceNeed) -> bool
 /// The next event of a node's rules for space, by what its command needs (at most 65,536 clusters), the modes in which it holds X
 /// and V, what it has done by the rules, and its stock. In the phase `Back` the need is of no matter.
 ///
-/// It fails only where memory is refused, and takes memory for looks alone: none is taken where a write comes next, and none where
-/// the stock holds nothing, unless all free space is searched.
+/// It fails only where memory is refused, and takes memory only in the search of all free space, where no write comes next.
 pub fn space_next(
     alloc: Global,
     geometry: &Geometry,
@@ -237,9 +203,9 @@ pub fn space_next(
     match run.phase {
         Phase::Off if holds_enough(stock, need) => Ok(SpaceEvent::Enough),
         Phase::Off | Phase::Fill => Ok(fill_event(geometry, locks, run, stock, need)),
-        Phase::Drain => give_event(alloc, geometry, run, stock, SpaceEvent::LowerX),
+        Phase::Drain => Ok(give_event(geometry, run, stock, SpaceEvent::LowerX)),
         Phase::Last => last_event(alloc, geometry, locks, run, need),
-        Phase::Back => back_event(alloc, geometry, locks, run, stock),
+        Phase::Back => Ok(back_next(geometry, locks, run, stock)),
     }
 }
 
@@ -274,9 +240,10 @@ fn gives(
     requires { IsGeometry geometry.now }
     ensures { IfOk result (λ d. d ≡ gives phase geometry.now run.now.looked stock.now) }
 {
-    let held = all_held(alloc, stock)?;
-    let clusters = held.clusters.items();
-    let numbers = held.numbers.items();
+    // (what every stock is, the contract of its count says)
+    let _count = stock.count();
+    let clusters = stock.clusters();
+    let numbers = stock.numbers();
     if give_place(geometry, clusters, numbers, run.looked.items()).is_some() {
         return Ok(looks_on(alloc, phase));
     }
@@ -293,14 +260,12 @@ fn fills(
     alloc: Global,
     geometry: &Geometry,
     run: &SpaceRun,
-    stock: &mut Extents,
+    stock: &Extents,
     need: SpaceNeed,
 ) -> Result<Decision, NoMemory>
     requires geometry { IsGeometry geometry.now }
     requires need { need.clusters ≤ 65536 }
-    ensures decision { IfOk result (λ d. d ≡ fills geometry.now run.now.looked stock.old need) }
-    ensures same { Holds stock.old.clusters stock.old.numbers stock.old stock.new }
-    ensures room { OnOk result (HasRoom geometry.now run.now.looked stock.old need stock.new) }
+    ensures decision { IfOk result (λ d. d ≡ fills geometry.now run.now.looked stock.now need) }
 {
     let wanted = clusters_to_take(need.clusters, stock.count());
     let lacks = lacks_number(need.number, stock);
@@ -344,20 +309,17 @@ fn searches(
 }
 
 /// What a node's rules for space come to by the blocks that it has looked at, the last one included: the phase in which they go
-/// on, the writes that come next, in order, and why the need is refused. Where the stock is filled, it has room afterwards for
-/// what the writes take. What it holds stays, also where memory is refused, and that is the only cause of a failure.
+/// on, the writes that come next, in order, and why the need is refused. It fails only where memory is refused.
 pub fn space_writes(
     alloc: Global,
     geometry: &Geometry,
     run: &SpaceRun,
-    stock: &mut Extents,
+    stock: &Extents,
     need: SpaceNeed,
 ) -> Result<Decision, NoMemory>
     requires geometry { IsGeometry geometry.now }
     requires need { need.clusters ≤ 65536 }
-    ensures decision { IfOk result (λ d. d ≡ space_decision geometry.now run.now stock.old need) }
-    ensures same { Holds stock.old.clusters stock.old.numbers stock.old stock.new }
-    ensures room { OnOk result (run.now.phase ≡ phase.Fill → HasRoom geometry.now run.now.looked stock.old need stock.new) }
+    ensures decision { IfOk result (λ d. d ≡ space_decision geometry.now run.now stock.now need) }
 {
     match run.phase {
         Phase::Off => Ok(looks_on(alloc, Phase::Off)),

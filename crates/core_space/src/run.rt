@@ -2,7 +2,7 @@ ghost use Rattle.std.specs.Prelude.{◌≡◌};
 ghost use Rattle.core_space.specs.Rule.{no_run};
 
 use op_law::{SeenBlocks, Writes};
-use plain_cat::Mode;
+use plain_cat::{Clusters, Mode};
 use std::alloc::Global;
 
 /// How far a node has come by its rules for space.
@@ -35,6 +35,10 @@ pub struct SpaceRun {
     /// The writes that were decided on, and how many of them are made.
     pub writes: Writes,
     pub made: usize,
+
+    /// The clusters that the last of these gives to the command, in the search of all free space: they are listed before, so that
+    /// the write takes no memory.
+    pub ready: Clusters,
 }
 
 impl SpaceRun {
@@ -47,6 +51,7 @@ impl SpaceRun {
             looked: SeenBlocks::new(alloc),
             writes: Writes::new(alloc),
             made: 0,
+            ready: Clusters::new(alloc),
         }
     }
 }

@@ -1,16 +1,19 @@
 -- A node answers: the history has one entry more, and the locks go back.
 use Rattle.std.proofs.Common.{◌≡◌, ◌≢◌, ◌≤◌, ◌++◌, ℕ, zero, suc, Bool, true, false, List, [], ◌∷◌, Option, Some, None, length, map, take, slice_get, refl, sym, ap, subst, ◌∙◌, inl, inr, arith}
-use Rattle.std.specs.Prelude.{◌&&◌, ◌-◌, not, cond, is_some, replicate, slice_index_or}
+use Rattle.std.specs.Prelude.{◌&&◌, ◌||◌, ◌-◌, ◌⊎◌, not, cond, is_some, filter, nat_lt, replicate, slice_index_or}
+use Rattle.std.proofs.lemmas.Bool.{and_parts}
 use Rattle.std.proofs.lemmas.Bool.Decides.{nat_tests}
 use Rattle.std.proofs.lemmas.Option.{slice_get_within}
 use Rattle.vol_words.specs.Fields.{Block}
 use Rattle.lock_db.specs.declared.name.LockName.{LockName}
 use Rattle.lock_db.specs.declared.resource.Resource.{Resource}
-use Rattle.lock_db.specs.declared.name.LockName.TheVariants.{A}
+use Rattle.lock_db.specs.declared.name.LockName.TheVariants.{A, X, V}
+use Rattle.lock_db.specs.Names.{is_same}
+use Rattle.lock_db.proofs.Names.{is_same-same}
 use Rattle.lock_db.specs.Tables.{IsTable, resource_at, released}
 use Rattle.lock_db.proofs.Steps.{IsTable-released}
 use Rattle.plain_cat.specs.declared.mode.Mode.{Mode}
-use Rattle.plain_cat.specs.declared.mode.Mode.TheVariants.{PR, PW}
+use Rattle.plain_cat.specs.declared.mode.Mode.TheVariants.{NL, CR, PR, PW}
 use Rattle.plain_cat.specs.declared.command.Cmd.{Cmd}
 use Rattle.plain_cat.specs.declared.command.Cmd.TheVariants as command
 use Rattle.plain_cat.specs.declared.reply.Reply.{Reply}
@@ -34,39 +37,43 @@ use Rattle.plain_opens.proofs.Naming.{answer_names}
 use Rattle.plain_vol.proofs.Keeps.{accounts_kept}
 use Rattle.node_past.specs.Laws.{is_of}
 use Rattle.node_past.proofs.Growing.{past_grows, past_of_others, own_grows, replays_grow}
-use Rattle.node_locks.specs.Held.{system_of, names_of, HoldsItsLocks, AreHeld, waits_at, Row, without, with_rows}
-use Rattle.node_locks.specs.Sweeping.{all_given, without_all, all_taken_out, AreSwept}
+use Rattle.node_locks.specs.Held.{system_of, names_of, HoldsItsLocks, AreHeld, waits_at, Row, with_rows}
+use Rattle.node_locks.specs.Sweeping.{all_given}
 use Rattle.node_locks.specs.Sequences.{raised_block}
 use Rattle.vol_owners.specs.Lists.{Has, Once}
 use Rattle.node_locks.specs.Channels.{AllGoOn as RowsGoOn}
 use Rattle.node_locks.proofs.Channels.{channels_give}
-use Rattle.node_locks.proofs.Sweeping.{sweeping_holds, all_go}
 use Rattle.node_locks.proofs.Keeping.{rows_go_on}
 use Rattle.vol_owners.specs.Owners.{Things, nothing}
-use Rattle.vol_owners.proofs.Listing.{same_or_not}
 use Rattle.vol_owners.proofs.Writing.{stands_joined}
 use Rattle.vol_parts.specs.declared.geometry.Geometry.{Geometry}
 use Rattle.vol_under.specs.UnderWay.{PlannedWrite, UnderWay, outs_after, outs_at, together, resting, idle, changed}
 use Rattle.vol_under.specs.Guards.{guard_of}
 use Rattle.vol_under.specs.Under.{IsUnder}
 use Rattle.vol_under.proofs.Guarding.{wider_write}
-use Rattle.vol_under.proofs.Nodes.{changed_here, changed_else}
+use Rattle.vol_under.proofs.Nodes.{changed_here}
 use Rattle.vol_under.proofs.Steps.{nodes_alike}
 use Rattle.op_law.specs.declared.need.Need.TheVariants as need
 use Rattle.op_law.specs.declared.need.Plan.{Plan}
 use Rattle.op_law.specs.declared.need.PlanWrite.{PlanWrite}
 use Rattle.op_law.specs.Needs.{IsNext}
 use Rattle.op_law.specs.declared.seen.Chan.{Chan}
-use Rattle.op_law.specs.Knows.{wants_number, has_channel}
+use Rattle.op_law.specs.Knows.{has_channel}
 use Rattle.op_law.specs.Laws.{held_in, planned, under_way, IsRight}
-use Rattle.core_state.specs.Worlds.{NodeState, Plain, node_at, set_node, rows_of, rows_in, rows_at}
+use Rattle.core_state.specs.Worlds.{Stock, empty_stock, NodeState, Plain, node_at, set_node, rows_of, rows_in, rows_at}
 use Rattle.core_state.specs.Raises.{raise_of}
-use Rattle.core_state.specs.Asks.{writes_now, granted_ask, own_ask, knows_now}
+use Rattle.core_state.specs.Asks.{writes_now, granted_ask, knows_now}
 use Rattle.core_state.specs.Opens.{open_now, AreOpensLocked}
 use Rattle.core_state.specs.Channels.{names_in_form, opened, channel_seen, channel_now, let_go, closed_off, HasOpens}
-use Rattle.core_state.specs.Goods.{held_by, under_with, under_by, nodes_under, IsAt, IsNode, HasFewAnswers, Good}
-use Rattle.core_state.specs.Searches.{unwritten, stock_after, wanted_by, Spaces, Off, Looking, Taking, Taken, Refused}
-use Rattle.core_state.specs.Events.{given_back, all_writes, turned, answering, locks_after, answered_by}
+use Rattle.core_state.specs.Goods.{held_by, under_with, nodes_under, IsAt, IsNode, HasFewAnswers, Good}
+use Rattle.core_space.specs.declared.run.Phase.TheVariants as phase
+use Rattle.core_space.specs.declared.run.SpaceRun.{SpaceRun}
+use Rattle.core_space.specs.Rule.{no_run, has_any}
+use Rattle.core_space.specs.Laws.{things_of}
+use Rattle.core_state.specs.Stocks.{roomless, things_in, taken_now, stock_now, looked_now}
+use Rattle.core_state.specs.Stores.{IsKeptX, AreKept, HasNothing, IsStocked}
+use Rattle.core_state.specs.Searches.{Rules, Served, Given, Shared, Fills, Grabs, Filled, Drains, Alone, Looking, Taking, Taken, Refused, Spaces, Off, Back, Busy}
+use Rattle.core_state.specs.Events.{given_back, all_writes, turned, stays, staying, going, answering, locks_after, answered_by}
 use Rattle.plain_usages.specs.Usages.{AreNear}
 use Rattle.plain_usages.proofs.Stating.{answer_near, answer_small}
 use Rattle.core_state.specs.Fallen.{falls}
@@ -74,30 +81,34 @@ use Rattle.core_state.proofs.Falling.{answers_fell, answers_left}
 use Rattle.core_state.proofs.Numbers.{Keeps, answer_stays}
 use Rattle.core_state.proofs.Opens.{opens_given}
 use Rattle.core_state.proofs.Ends.{EndsSo}
-use Rattle.core_state.proofs.Channels.{IsOpenAt, open_at, channel_from, IsNodeNumber, opens_go_on, others_go_on, channels_go_on}
+use Rattle.core_state.proofs.Channels.{open_at, channel_from, IsNodeNumber, opens_go_on, others_go_on, channels_go_on}
 use Rattle.core_state.proofs.Switching.{locks_go_on}
 use Rattle.core_state.proofs.Commands.{names_channel}
 use Rattle.core_state.proofs.SmallBegun.{few_go_on}
-use Rattle.core_state.proofs.Nodes.{at_here, at_else, all_set}
-use Rattle.core_state.proofs.Driving.{wider, grants_keep, law_grows, reply_grows}
-use Rattle.core_state.proofs.Holding.{held_grows}
-use Rattle.core_state.proofs.Running.{are_sole}
-use Rattle.core_state.proofs.Taking.{answers_by}
+use Rattle.core_state.proofs.Nodes.{all_set}
+use Rattle.core_state.proofs.Driving.{law_grows, reply_grows}
+use Rattle.core_state.proofs.Holding.{in_held_is, is_in_held}
+use Rattle.core_state.proofs.Running.{are_sole, under_grown}
+use Rattle.core_state.proofs.Sweeps.{AreLetGo, has_filter, in_filter, lets_go, names_go}
+use Rattle.core_state.proofs.Rows.{own_rows}
+use Rattle.core_state.proofs.Backing.{none_in_stock}
+use Rattle.core_state.proofs.Taking.{changed_twice, widens, answers_by}
 use Rattle.core_state.proofs.SmallWorlds.{small_answered}
-use Rattle.core_state.proofs.Keeping.{rebuilt, held_set, LosesNothing, asked_once}
-use Rattle.core_state.proofs.Standing.{all_stock, no_stock}
-use Rattle.core_state.proofs.Turning.{under_command, here, writes_more}
+use Rattle.core_state.proofs.Keeping.{rebuilt, held_set, LosesNothing, kept_once, asked_once, claims_once, kept_apart, asked_apart}
+use Rattle.core_state.proofs.Standing.{all_taken, none_taken, back_taken}
+use Rattle.core_state.proofs.Turning.{under_command, here, space_now, writes_more}
 
 -- ---- all locks go back
 
 -- they go back by their names
-given_names : (g : Geometry) (n : ℕ) (ws : List PlanWrite) (ls : Row) (t : List Resource) → all_given n (λ name u. raised_block (raise_of g name ws) (resource_at name u)) (names_of ls) t ≡ given_back g n ws ls t
+pub given_names : (g : Geometry) (n : ℕ) (ws : List PlanWrite) (ls : Row) (t : List Resource) → all_given n (λ name u. raised_block (raise_of g name ws) (resource_at name u)) (names_of ls) t ≡ given_back g n ws ls t
 given_names g n ws [] t = refl
 given_names g n ws (l ∷ ls) t = given_names g n ws ls (released l.0 (system_of n) (raised_block (raise_of g l.0 ws) (resource_at l.0 t)) t)
 
-out_second : (names : List LockName) (kept ls : Row) (rest : List Row) → all_taken_out 1 names (kept ∷ (ls ∷ rest)) ≡ kept ∷ (without_all names ls ∷ rest)
-out_second [] kept ls rest = refl
-out_second (name ∷ names) kept ls rest = out_second names kept (without name ls) rest
+-- and those of two lists, one list behind the other
+given_both : (g : Geometry) (n : ℕ) (ws : List PlanWrite) (ls ks : Row) (t : List Resource) → given_back g n ws (ls ++ ks) t ≡ given_back g n ws ks (given_back g n ws ls t)
+given_both g n ws [] ks t = refl
+given_both g n ws (l ∷ ls) ks t = given_both g n ws ls ks (released l.0 (system_of n) (raised_block (raise_of g l.0 ws) (resource_at l.0 t)) t)
 
 -- ---- small steps
 
@@ -120,58 +131,6 @@ not_of n m x r ne = grind (arith, nat_tests)
 
 own_entry : (n : ℕ) (p : NodePast) (x : Cmd) (r : Reply) → after_entry n p (Done n x r) ≡ after_answer p x r
 own_entry n p x r = grind (arith, nat_tests)
-
--- ---- the drive behind the answer
-
--- the others' locks are theirs still, and some of them that waited may be granted
-module _ (g : Geometry) (d : Cat) (t after : List Resource) (nodes : List NodeState) (n : ℕ) (s r : NodeState) (drive : List Block) (at : node_at nodes n ≡ Some s) (rests : r.cmd ≡ None)
-    (grown : (m : ℕ) (q : NodeState) (k : LockName × Mode) → m ≢ n → node_at nodes m ≡ Some q → Has (held_by t m q) k → Has (held_by after m q) k) where
-  abbrev new : ℕ → UnderWay
-  new m = nodes_under after (set_node nodes n r) m
-
-  abbrev old : ℕ → UnderWay
-  old = changed (nodes_under t nodes) n (resting nothing)
-
-  new_here : new n ≡ resting nothing
-  new_here = ap (under_by after n) (at_here nodes n r s at) ∙ ap (under_with after n r) rests
-
-  new_else : (m : ℕ) → m ≢ n → new m ≡ under_by after m (node_at nodes m)
-  new_else m ne = ap (under_by after m) (at_else nodes n m r ne)
-
-  -- one of the others
-  record IsGrown (u v : UnderWay) : Type 0 where
-    read : (name : LockName) → Has u.read name → Has v.read name
-    write : (name : LockName) → Has u.write name → Has v.write name
-    else_same : record u { read = v.read; write = v.write } ≡ v
-
-  by_cmd : (m : ℕ) (q : NodeState) → m ≢ n → node_at nodes m ≡ Some q → (o : Option Cmd) → IsGrown (under_with t m q o) (under_with after m q o)
-  by_cmd m q ne e None = record { read = λ name h. h; write = λ name h. h; else_same = refl }
-  by_cmd m q ne e (Some x) = record {
-    read = λ name h. held_grows PR (held_by t m q) (held_by after m q) name (λ k h. grown m q k ne e h) h;
-    write = λ name h. held_grows PW (held_by t m q) (held_by after m q) name (λ k h. grown m q k ne e h) h;
-    else_same = refl;
-  }
-
-  by_node : (m : ℕ) → m ≢ n → (o : Option NodeState) → node_at nodes m ≡ o → IsGrown (under_by t m o) (under_by after m o)
-  by_node m ne None e = record { read = λ name h. h; write = λ name h. h; else_same = refl }
-  by_node m ne (Some q) e = by_cmd m q ne e q.cmd
-
-  is_grown : (m : ℕ) → IsGrown (old m) (new m)
-  is_grown m = elim (same_or_not m n) [ inl f ↦ self f | inr ne ↦ other ne ] where
-    self : m ≡ n → IsGrown (old m) (new m)
-    self f =
-        let a : old m ≡ resting nothing = ap old f ∙ changed_here (nodes_under t nodes) n (resting nothing) in
-        let b : new m ≡ resting nothing = ap new f ∙ new_here in
-        let rest : IsGrown (resting nothing) (resting nothing) = record { read = λ name h. h; write = λ name h. h; else_same = refl } in
-        subst (λ (v : UnderWay). IsGrown (old m) v) (sym b) (subst (λ (v : UnderWay). IsGrown v (resting nothing)) (sym a) rest)
-
-    other : m ≢ n → IsGrown (old m) (new m)
-    other ne = subst (λ (v : UnderWay). IsGrown (old m) v) (sym (new_else m ne))
-        (subst (λ (v : UnderWay). IsGrown v (under_by after m (node_at nodes m))) (sym (changed_else (nodes_under t nodes) n (resting nothing) m ne)) (by_node m ne (node_at nodes m) refl))
-
-  pub under_granted : IsUnder g d old drive → IsUnder g d (nodes_under after (set_node nodes n r)) drive
-  under_granted u = nodes_alike g d (wider old (λ m. (new m).read) (λ m. (new m).write)) (nodes_under after (set_node nodes n r)) drive (λ m. (is_grown m).else_same)
-      (grants_keep g d old drive (λ m. (new m).read) (λ m. (new m).write) u (λ m. (is_grown m).read) (λ m. (is_grown m).write))
 
 -- ---- a channel gives its lock back
 
@@ -228,15 +187,15 @@ node_number w good (suc k) s at = record { from = omega arith; to = (let lt = sl
 
 -- node n, whose command is at the end of the writes that it makes, answers with the reply that goes with them, by what is so of the
 -- catalogue
-module _ (w : Plain) (good : Good w) (n : ℕ) (s : NodeState) (at : node_at w.nodes n ≡ Some s) (x : Cmd) (cmd : s.cmd ≡ Some x) (free : waits_at w.locks n s.asked ≡ false)
+module _ (w : Plain) (good : Good w) (n : ℕ) (s : NodeState) (at : node_at w.nodes n ≡ Some s) (x : Cmd) (cmd : s.cmd ≡ Some x) (free : waits_at w.locks n s.asked ≡ false) (granted : waits_at w.locks n s.claims ≡ false)
     (p : Plan) (is : IsNext x s.seen (need.Ready p)) (ws : List PlanWrite) (made : writes_now s.tried s.plan ≡ ws) (last : slice_get ws s.done ≡ None) (part : s.done ≤ length ws) (r : Reply) (know : Cat → Bool)
     (law : IsRight n x s.seen.geometry ws (under_way x s.seen ws know) r) (known : know good.running.cat ≡ true) (ends : EndsSo x s.seen.channel (granted_ask s.tried s.plan) r) where
   abbrev entry : Entry
   entry = Done n x r
 
-  -- the locks once those of the command have gone back, and then that of its channel
+  -- the locks once those that go have gone back, and then that of its channel
   abbrev mid : List Resource
-  mid = given_back w.geometry n (all_writes s) s.asked w.locks
+  mid = given_back w.geometry n (all_writes s) (going s) w.locks
 
   abbrev after : List Resource
   after = locks_after w n s x r
@@ -257,10 +216,10 @@ module _ (w : Plain) (good : Good w) (n : ℕ) (s : NodeState) (at : node_at w.n
   whole = let le = at_end ws s.done last in let ge = part in let e = length_planned ws in omega arith
 
   abbrev left_seen : List (ℕ × Block)
-  left_seen = unwritten (take s.run.made s.run.writes) s.run.looked
+  left_seen = looked_now s.run
 
   abbrev stock : Things
-  stock = stock_after s.run.writes s.run.made
+  stock = stock_now s.stock s.run
 
   abbrev me : UnderWay
   me = record (under_way x s.seen ws (knows_now n x s.seen s.tried s.plan)) { read = held_in PR (held_by w.locks n s); write = held_in PW (held_by w.locks n s); seen = left_seen ++ s.seen.blocks; done = s.done; stock = stock }
@@ -268,21 +227,63 @@ module _ (w : Plain) (good : Good w) (n : ℕ) (s : NodeState) (at : node_at w.n
   here_now : nodes_under w.locks w.nodes n ≡ me
   here_now = here w good n s at x cmd free ∙ ap (λ vs. record me { plan = map planned vs }) made
 
-  -- a command that has decided is given all that its search has taken
-  no_stock_left : Spaces w.locks n x (own_ask s.tried s.plan) s.asked s.run s.seen → stock ≡ nothing
-  no_stock_left (Off h) = no_stock s.run.writes s.run.made h.writes h.made
-  no_stock_left (Looking h) = absurd (let f : need.Ready p ≡ need.Space (wanted_by x s.seen) (wants_number x) = sym is ∙ h.needs.next in cc)
-  no_stock_left (Taking h) = absurd (let f : need.Ready p ≡ need.Space (wanted_by x s.seen) (wants_number x) = sym is ∙ h.needs.next in cc)
-  no_stock_left (Taken h) = all_stock s.run.writes s.run.made h.all
-  no_stock_left (Refused h) = no_stock s.run.writes s.run.made h.writes h.made
+  -- a command that has decided was given all that its rules for space have taken
+  needs_none : (k : ℕ) (b : Bool) → IsNext x s.seen (need.Space k b) → ⊥
+  needs_none k b e = absurd (let f : need.Ready p ≡ need.Space k b = sym is ∙ e in cc)
+
+  settled_by : Rules x s.kept s.claims s.run s.stock s.seen → taken_now s.run ≡ nothing
+  settled_by (Served h) = absurd (needs_none _ _ h.needs.next)
+  settled_by (Given h) = ap taken_now h.run
+  settled_by (Shared h) = absurd (needs_none _ _ h.needs.next)
+  settled_by (Fills h) = absurd (needs_none _ _ h.filling.needs.next)
+  settled_by (Grabs h) = absurd (needs_none _ _ h.filling.needs.next)
+  settled_by (Filled h) = absurd (needs_none _ _ h.needs.next)
+  settled_by (Drains h) = absurd (needs_none _ _ h.needs.next)
+  settled_by (Alone h) = absurd (needs_none _ _ h.needs.next)
+  settled_by (Looking h) = absurd (needs_none _ _ h.needs.next)
+  settled_by (Taking h) = absurd (needs_none _ _ h.needs.next)
+  settled_by (Taken h) = all_taken s.run.phase s.run.writes s.run.made h.all
+  settled_by (Refused h) = none_taken s.run.phase s.run.writes s.run.made h.writes h.made
+
+  settled : Spaces (Some x) s.kept s.claims s.run s.stock s.seen → taken_now s.run ≡ nothing
+  settled (Off h) = ap taken_now h.run
+  settled (Back h) = back_taken s.run.phase s.run.writes s.run.made (inr h.back)
+  settled (Busy y e r) = let f : Some x ≡ Some y = e in let g : x ≡ y = cc in settled_by (subst (λ (z : Cmd). Rules z s.kept s.claims s.run s.stock s.seen) (sym g) r)
+
+  -- where all free space was searched, nothing is in its stock
+  empty_by : s.run.phase ≡ phase.Last → Rules x s.kept s.claims s.run s.stock s.seen → s.stock ≡ empty_stock
+  empty_by last (Served h) = absurd (needs_none _ _ h.needs.next)
+  empty_by last (Given h) = absurd (let f : phase.Fill ≡ phase.Last = sym (ap (λ (k : SpaceRun). k.phase) h.run) ∙ last in cc)
+  empty_by last (Shared h) = absurd (needs_none _ _ h.needs.next)
+  empty_by last (Fills h) = absurd (needs_none _ _ h.filling.needs.next)
+  empty_by last (Grabs h) = absurd (needs_none _ _ h.filling.needs.next)
+  empty_by last (Filled h) = absurd (needs_none _ _ h.needs.next)
+  empty_by last (Drains h) = absurd (needs_none _ _ h.needs.next)
+  empty_by last (Alone h) = absurd (needs_none _ _ h.needs.next)
+  empty_by last (Looking h) = absurd (needs_none _ _ h.needs.next)
+  empty_by last (Taking h) = absurd (needs_none _ _ h.needs.next)
+  empty_by last (Taken h) = h.found.claimed_so.empty
+  empty_by last (Refused h) = h.claimed_so.empty
+
+  empty_at_last : s.run.phase ≡ phase.Last → Spaces (Some x) s.kept s.claims s.run s.stock s.seen → s.stock ≡ empty_stock
+  empty_at_last last (Off h) = absurd (let f : phase.Off ≡ phase.Last = sym (ap (λ (k : SpaceRun). k.phase) h.run) ∙ last in cc)
+  empty_at_last last (Back h) = absurd (let f : phase.Back ≡ phase.Last = sym h.back ∙ last in cc)
+  empty_at_last last (Busy y e r) = let f : Some x ≡ Some y = e in let g : x ≡ y = cc in empty_by last (subst (λ (z : Cmd). Rules z s.kept s.claims s.run s.stock s.seen) (sym g) r)
+
+  -- what it has outside then
+  abbrev kept_stock : Things
+  kept_stock = stock_now s.stock no_run
+
+  stock_is : stock ≡ kept_stock
+  stock_is = ap (together (things_in s.stock)) (settled (space_now w good n s at x cmd free))
 
   left : outs_at s.done me ≡ nothing
   left = ap (λ k. outs_after me.took (take k me.plan)) whole ∙ ap (outs_after me.took) (taken_whole (map planned ws)) ∙ right.left
 
-  idle_now : idle me ≡ resting nothing
-  idle_now = ap (λ o. resting (together o stock)) left ∙ ap (λ o. resting (together nothing o)) (no_stock_left now.search)
+  idle_now : idle me ≡ resting kept_stock
+  idle_now = λ i. resting (together (left i) (stock_is i))
 
-  answered : (d : Cat) × Answer good.running.cat n x r d × IsUnder w.geometry d (changed (nodes_under w.locks w.nodes) n (resting nothing)) w.blocks
+  answered : (d : Cat) × Answer good.running.cat n x r d × IsUnder w.geometry d (changed (nodes_under w.locks w.nodes) n (resting kept_stock)) w.blocks
   answered =
       let a = answers_by w.geometry good.running.cat (nodes_under w.locks w.nodes) w.blocks n me here_now good.running.drive (are_sole w.locks w.nodes good.locked.0 good.locked.1) know
       (law_grows w.geometry n (under_way x s.seen ws know) (held_in PR (held_by w.locks n s)) (held_in PW (held_by w.locks n s)) left_seen s.done stock (writes_more w good n s at x cmd free) right.lawful)
@@ -292,22 +293,37 @@ module _ (w : Plain) (good : Good w) (n : ℕ) (s : NodeState) (at : node_at w.n
       (reply_grows w.geometry n (under_way x s.seen ws know) x r (held_in PR (held_by w.locks n s)) (held_in PW (held_by w.locks n s)) left_seen s.done stock (writes_more w good n s at x cmd free) right.reply) in
       (a.0, a.1, subst (λ (v : UnderWay). IsUnder w.geometry a.0 (changed (nodes_under w.locks w.nodes) n v) w.blocks) idle_now a.2)
 
-  once : Once (names_of s.asked)
-  once = let h : HoldsItsLocks w.locks n (rows_of s) = subst (λ (rs : List Row). HoldsItsLocks w.locks n rs) (ap rows_in at) (good.locked.1 n) in asked_once s (good.nodes n s at).store h.once
+  all_mine : HoldsItsLocks w.locks n (rows_of s)
+  all_mine = subst (λ (rs : List Row). HoldsItsLocks w.locks n rs) (ap rows_in at) (good.locked.1 n)
 
-  given : AreSwept n 1 (without_all (names_of s.asked) s.asked) (all_taken_out 1 (names_of s.asked) (rows_of s)) (rows_of s) (rows_at w.nodes) w.locks mid
-  given = subst (AreSwept n 1 (without_all (names_of s.asked) s.asked) (all_taken_out 1 (names_of s.asked) (rows_of s)) (rows_of s) (rows_at w.nodes) w.locks) (given_names w.geometry n (all_writes s) s.asked w.locks)
-      (sweeping_holds (λ name u. raised_block (raise_of w.geometry name (all_writes s)) (resource_at name u)) w.locks n 1 s.asked (names_of s.asked) (rows_of s) (rows_at w.nodes) good.locked.0 good.locked.1 (ap rows_in at) refl free once (λ name h. h)).1
+  abbrev gone : Row
+  gone = filter (λ l. not (stays s.stock l)) s.kept
 
-  -- its rows are empty then, and the other nodes lose nothing
-  emptied : all_taken_out 1 (names_of s.asked) (rows_of s) ≡ rows_of rested
-  emptied = out_second (names_of s.asked) s.kept s.asked (s.back ∷ []) ∙ ap (λ (ls : Row). s.kept ∷ (ls ∷ (s.back ∷ []))) (all_go s.asked once)
+  abbrev raises : LockName → List Resource → List ℕ
+  raises name u = raised_block (raise_of w.geometry name (all_writes s)) (resource_at name u)
 
+  mid_is : all_given n raises (names_of gone) (all_given n raises (names_of s.claims) (all_given n raises (names_of s.asked) w.locks)) ≡ mid
+  mid_is =
+      (λ i. all_given n raises (names_of gone) (all_given n raises (names_of s.claims) (given_names w.geometry n (all_writes s) s.asked w.locks i)))
+      ∙ (λ i. all_given n raises (names_of gone) (given_names w.geometry n (all_writes s) s.claims (given_back w.geometry n (all_writes s) s.asked w.locks) i))
+      ∙ given_names w.geometry n (all_writes s) gone (given_back w.geometry n (all_writes s) s.claims (given_back w.geometry n (all_writes s) s.asked w.locks))
+      ∙ sym (given_both w.geometry n (all_writes s) s.claims gone (given_back w.geometry n (all_writes s) s.asked w.locks))
+      ∙ sym (given_both w.geometry n (all_writes s) s.asked (s.claims ++ gone) w.locks)
+
+  given : AreLetGo w.locks n (staying s) (rows_at w.nodes) mid
+  given = subst (AreLetGo w.locks n (staying s) (rows_at w.nodes)) mid_is
+      (lets_go raises (stays s.stock) w.locks n (rows_at w.nodes) s.kept s.asked s.claims good.locked.0 good.locked.1 (ap rows_in at) mine.rests free granted (kept_once s all_mine.once) (asked_once s all_mine.once) (claims_once s all_mine.once))
+
+  once : Once (names_of (going s))
+  once = names_go raises (stays s.stock) w.locks n (rows_at w.nodes) s.kept s.asked s.claims good.locked.0 good.locked.1 (ap rows_in at) mine.rests free granted (kept_once s all_mine.once) (asked_once s all_mine.once) (claims_once s all_mine.once)
+      (λ name. kept_apart s name all_mine.once) (λ name. asked_apart s name all_mine.once)
+
+  -- its rows are empty then, but for what stays, and the other nodes lose nothing
   abbrev rows_then : ℕ → List Row
   rows_then = with_rows (rows_at w.nodes) n (rows_of rested)
 
   held_mid : AreHeld mid rows_then
-  held_mid = subst (λ (rs : List Row). AreHeld mid (with_rows (rows_at w.nodes) n rs)) emptied given.held
+  held_mid = given.held
 
   let_off : ClosesOff mid after rows_then
   let_off = closes_off n (channel_seen s.opens x) x r mid rows_then now.form given.table held_mid
@@ -315,8 +331,8 @@ module _ (w : Plain) (good : Good w) (n : ℕ) (s : NodeState) (at : node_at w.n
   others_rows : (m : ℕ) → m ≢ n → rows_then m ≡ rows_at w.nodes m
   others_rows m ne = grind (arith, nat_tests)
 
-  own_rows : rows_then n ≡ rows_of rested
-  own_rows = grind (arith, nat_tests)
+  rows_here : rows_then n ≡ rows_of rested
+  rows_here = own_rows (rows_at w.nodes) n (rows_of rested)
 
   others_go : (m : ℕ) (q : NodeState) → m ≢ n → node_at w.nodes m ≡ Some q → LosesNothing w.locks after m q
   others_go m q ne e ls i =
@@ -324,10 +340,66 @@ module _ (w : Plain) (good : Good w) (n : ℕ) (s : NodeState) (at : node_at w.n
       let second = let_off.goes_on.goes_on m ls (subst (λ (rs : List Row). Has rs ls) (sym (others_rows m ne ∙ ap rows_in e)) i) in
       record { waits = λ f. second.waits (first.waits f); holds = λ l h. second.holds l (first.holds l h) }
 
-  kept_rests_then : waits_at after n s.kept ≡ false
-  kept_rests_then =
-      let second = let_off.goes_on.goes_on n s.kept (subst (λ (rs : List Row). Has rs s.kept) (sym own_rows) (inl refl)) in
-      second.waits ((given.rest 0 s.kept (λ e. absurd (omega arith)) refl).waits ∙ mine.rests)
+  rests_then : waits_at after n (staying s) ≡ false
+  rests_then =
+      let second = let_off.goes_on.goes_on n (staying s) (subst (λ (rs : List Row). Has rs (staying s)) (sym rows_here) (inl refl)) in
+      second.waits given.rests
+
+  -- ---- what stays
+
+  kept_then : AreKept phase.Off (staying s)
+  kept_then l h = by_kept (mine.store.kept l its.0) where
+    its : Has s.kept l × (stays s.stock l ≡ true)
+    its = has_filter (stays s.stock) s.kept l h
+
+    tests : (is_same l.0 X ≡ true) × (has_any (roomless s.stock) ≡ true)
+    tests = and_parts (is_same l.0 X) (has_any (roomless s.stock)) its.1
+
+    is_x : l.0 ≡ X
+    is_x = is_same-same l.0 X tests.0
+
+    not_empty : s.stock ≡ empty_stock → ⊥
+    not_empty e = absurd (let f : true ≡ false = sym tests.1 ∙ ap (λ (k : Stock). has_any (roomless k)) e in cc)
+
+    by_kept : (l ≡ (V, NL)) ⊎ IsKeptX s.run.phase l → (l ≡ (V, NL)) ⊎ IsKeptX phase.Off l
+    by_kept (inl e) = absurd (let f : X ≡ V = sym is_x ∙ ap (λ (k : LockName × Mode). k.0) e in cc)
+    by_kept (inr e) = inr (e.0, elim e.1 [ inl f ↦ inl f | inr f ↦ absurd (not_empty (empty_at_last f (space_now w good n s at x cmd free))) ])
+
+  stocked_then : IsStocked rested
+  stocked_then = record { holds = elim (good.running.stocked n s at).holds [ inl none ↦ inl (nothing_then (none_in_stock s.stock s.run none.stock)) | inr h ↦ by_any (has_any (roomless s.stock)) refl h ] } where
+    no_list : (xs : List ℕ) → nat_lt 0 (length xs) ≡ false → xs ≡ []
+    no_list [] e = refl
+    no_list (y ∷ xs) e = absurd (let f : true ≡ false = sym (some (length xs)) ∙ e in cc) where
+      some : (k : ℕ) → nat_lt 0 (suc k) ≡ true
+      some k = grind (arith, nat_tests)
+
+    neither : (a b : Bool) → (a || b) ≡ false → (a ≡ false) × (b ≡ false)
+    neither true b e = absurd (let f : true ≡ false = e in cc)
+    neither false b e = (refl, e)
+
+    nothing_then : has_any (roomless s.stock) ≡ false → HasNothing rested
+    nothing_then e =
+        let tests = neither (nat_lt 0 (length s.stock.clusters)) (nat_lt 0 (length s.stock.numbers)) e in
+        record { given = refl; stock = λ i. together (things_of (no_list s.stock.clusters tests.0 i) (no_list s.stock.numbers tests.1 i)) nothing }
+
+    by_any : (b : Bool) → has_any (roomless s.stock) ≡ b → Has (held_in CR s.kept) X → HasNothing rested ⊎ Has (held_in CR (staying s)) X
+    by_any false e h = inl (nothing_then e)
+    by_any true e h =
+        let k = in_held_is CR s.kept X h in
+        inr (is_in_held CR (staying s) X (record { in_mode = k.in_mode; has = in_filter (stays s.stock) s.kept (X, k.in_mode) k.has e; strong = k.strong }))
+
+  -- ---- the drive
+
+  abbrev alone_now : UnderWay
+  alone_now = resting kept_stock
+
+  under_then : IsUnder w.geometry answered.0 (changed (nodes_under w.locks w.nodes) n (under_with after n rested rested.cmd)) w.blocks
+  under_then =
+      let read : List LockName = held_in PR (held_by after n rested) in
+      let write : List LockName = held_in PW (held_by after n rested) in
+      let b : UnderWay = record alone_now { read = read; write = write } in
+      let two = widens w.geometry answered.0 (changed (nodes_under w.locks w.nodes) n alone_now) w.blocks n alone_now (changed_here (nodes_under w.locks w.nodes) n alone_now) answered.2 read write (λ name h. absurd h) (λ name h. absurd h) in
+      nodes_alike w.geometry answered.0 (changed (changed (nodes_under w.locks w.nodes) n alone_now) n b) (changed (nodes_under w.locks w.nodes) n b) w.blocks (λ m. changed_twice (nodes_under w.locks w.nodes) n alone_now b m) two
 
   busy : s.cmd ≡ None → ⊥
   busy none = absurd (let f : Some x ≡ None = sym cmd ∙ none in cc)
@@ -357,7 +429,7 @@ module _ (w : Plain) (good : Good w) (n : ℕ) (s : NodeState) (at : node_at w.n
 
   opens_locked : AreOpensLocked after (open_now answered.0 (set_node w.nodes n rested))
   opens_locked = locks_go_on good.running.cat answered.0 w.nodes n s rested at refl x r mid given.table
-      (opens_given w.geometry n (all_writes s) s.asked w.locks (open_now good.running.cat w.nodes) good.locked.0 good.running.opens)
+      (opens_given w.geometry n (all_writes s) (going s) w.locks (open_now good.running.cat w.nodes) good.locked.0 good.running.opens)
       (answer_moved good.running.cat answered.0 n x r answered.1).opens good.running.named.places number now.form (good.running.opened n s at) ends_so
 
   -- what a close of an open channel answers
@@ -382,8 +454,8 @@ module _ (w : Plain) (good : Good w) (n : ℕ) (s : NodeState) (at : node_at w.n
       (record {
         cat = answered.0;
         replayed = replays_grow w.opening w.script w.history good.running.cat entry answered.0 good.running.replayed answered.1;
-        drive = under_granted w.geometry answered.0 w.locks after w.nodes n s rested w.blocks at refl
-            (λ m q k ne e h. rows_go_on w.locks after m (rows_of q) k (others_go m q ne e) h) answered.2;
+        drive = under_grown w.geometry answered.0 w.locks after w.nodes n s rested w.blocks at
+            (λ m q k ne e h. rows_go_on w.locks after m (rows_of q) k (others_go m q ne e) h) under_then;
         accounted = subst (λ (o : Outcome). Accounted o.after) answered.1.2 (accounts_kept good.running.cat n x answered.1.0 good.running.accounted answered.1.1);
         near = subst (AreNear answered.0) (sym (answers_fell w.history n x r)) (answer_near good.running.cat answered.0 n x r (falls w.history) good.running.near answered.1);
         sized = answer_small good.running.cat answered.0 n x r good.running.sized answered.1;
@@ -397,18 +469,19 @@ module _ (w : Plain) (good : Good w) (n : ℕ) (s : NodeState) (at : node_at w.n
       })
       (let_off.table, held_set after w.nodes n s rested at let_off.goes_on.held)
       (own_grows w.script w.history entry good.own (sym (ap (λ y. y.dead) mine.past) ∙ alive, now.next))
-      (small_answered w good.small n s rested at w.geometry (all_writes s) s.asked once (channel_seen s.opens x) x r w.blocks)
+      (small_answered w good.small n s rested at w.geometry (all_writes s) (going s) once (channel_seen s.opens x) x r w.blocks cmd refl)
       few_then
       (λ m ne. past_of_others m w.history entry (not_of n m x r ne))
-      others_go
+      others_go stocked_then
       (record {
         past = sym grows;
         geometry = mine.geometry;
         channels = λ on. channels_go_on s.past s.opens x (channel_seen s.opens x) (granted_ask s.tried s.plan) r ends_so (mine.channels alive);
         channel = refl;
-        store = mine.store;
-        rests = kept_rests_then;
-        command = record { locks = refl; blocks = refl; space = record { clusters = refl; number = refl; short = refl }; asked = refl; run = refl; plan = refl; done = refl };
+        store = record { kept = kept_then; cache = mine.store.cache };
+        rests = rests_then;
+        command = record { locks = refl; blocks = refl; space = record { clusters = refl; number = refl; short = refl }; asked = refl; plan = refl; done = refl };
+        space = Off (record { run = refl; claims = refl; space = record { clusters = refl; number = refl; short = refl } });
         over = λ o. absurd (busy (mine.over o).0.cmd);
         gone = λ o. absurd (let f : true ≡ false = sym o ∙ alive in cc);
       })

@@ -1,13 +1,11 @@
 -- What the channels of nodes have open, by the nodes and by the catalogue.
-use Rattle.std.proofs.Common.{◌≡◌, ◌≢◌, ◌≤◌, ◌<◌, ◌-◌, ◌+◌, ◌*◌, ◌&&◌, ◌==◌, ◌⊎◌, inl, inr, ℕ, zero, suc, Bool, true, false, cond, List, [], ◌∷◌, Option, Some, None, length, map, slice_get, slice_set, refl, sym, ap, subst, ◌∙◌, arith}
-use Rattle.std.specs.Prelude.{is_some, is_none, replicate, slice_index_or, not, nat_lt, nat_le, leb}
+use Rattle.std.proofs.Common.{◌≡◌, ◌≢◌, ◌≤◌, ◌<◌, ◌-◌, ◌&&◌, ◌==◌, ◌⊎◌, inl, inr, ℕ, zero, suc, Bool, true, false, cond, List, [], ◌∷◌, Option, Some, None, length, map, slice_get, slice_set, refl, sym, ap, subst, ◌∙◌, arith}
+use Rattle.std.specs.Prelude.{is_some, is_none, replicate, slice_index_or, nat_lt, leb}
 use Rattle.std.specs.List.{list_all}
 use Rattle.std.proofs.lemmas.Bool.{and_parts}
 use Rattle.std.proofs.lemmas.Bool.Decides.{nat_tests}
 use Rattle.plain_cat.specs.Modes.{rank}
 use Rattle.plain_cat.specs.InForm.{is_eighth}
-use Rattle.plain_cat.specs.declared.ids.Fid.{Fid}
-use Rattle.plain_cat.specs.declared.mode.Mode.{Mode}
 use Rattle.plain_cat.specs.declared.command.Cmd.{Cmd}
 use Rattle.plain_cat.specs.declared.command.Cmd.TheVariants as cmd
 use Rattle.plain_cat.specs.declared.reply.Reply.{Reply}
@@ -20,16 +18,16 @@ use Rattle.plain_vol.specs.Answers.{Answer}
 use Rattle.plain_vol.specs.Own.{NodePast, is_opened, opened_by, is_closed, closed_by, switched, channels_after}
 use Rattle.plain_opens.specs.Opens.{IsChannel, OpensNameFiles}
 use Rattle.plain_opens.specs.Opens.{is_plain_file as plain_file, has_open, is_open_as as open_as, is_held_open as held_open}
-use Rattle.plain_opens.specs.Moves.{switched_by, IsElsewhere, opens_after}
+use Rattle.plain_opens.specs.Moves.{switched_by, IsElsewhere}
 use Rattle.plain_opens.proofs.Having.{opened_by_answer}
-use Rattle.plain_opens.proofs.Keeping.{Apart, answer_apart, answer_keeps, opened_has, closed_has, others_stay, others_keep}
+use Rattle.plain_opens.proofs.Keeping.{answer_apart, answer_keeps, opened_has, closed_has, others_stay, others_keep}
 use Rattle.plain_opens.proofs.Naming.{all_held}
 use Rattle.op_law.specs.declared.need.Ask.{Ask}
 use Rattle.op_law.specs.declared.seen.Chan.{Chan}
 use Rattle.op_law.specs.Knows.{channel_of, has_channel, is_plain_file, goes_with, is_open_as, is_held_open}
-use Rattle.core_state.specs.Channels.{names_in_form, opened, channel_seen, opens_then, HasChannels, HasOpens}
+use Rattle.core_state.specs.Channels.{names_in_form, opened, channel_seen, opens_then, HasOpens}
 use Rattle.core_state.proofs.Opens.{none_open}
-use Rattle.core_state.proofs.Ends.{HasOpened, HasClosed, WasRefused, IsNoSwitch, EndsSo, Opened, Closed, Refused, NoSwitch}
+use Rattle.core_state.proofs.Ends.{EndsSo, Opened, Closed, Refused, NoSwitch}
 
 -- ---- the words of the catalogue's laws
 

@@ -1,6 +1,6 @@
 -- A channel that is closed holds the lock that it gives back.
 use Rattle.std.proofs.lemmas.Bool.Decides.{nat_tests}
-use Rattle.std.proofs.Common.{◌≡◌, ◌≤◌, ◌-◌, ◌==◌, ◌⊎◌, inl, inr, ℕ, Bool, true, false, cond, List, [], ◌∷◌, Option, Some, None, IsSome, is_some, refl, sym, ap, subst, ◌∙◌, arith}
+use Rattle.std.proofs.Common.{◌≡◌, ◌≤◌, ◌==◌, ℕ, Bool, true, false, cond, List, Option, Some, None, IsSome, is_some, refl, sym, ap, ◌∙◌, arith}
 use Rattle.lock_db.specs.declared.name.LockName.TheVariants.{A}
 use Rattle.lock_db.specs.declared.name.Owner.{Owner}
 use Rattle.lock_db.specs.declared.askers.Standing.TheVariants.{Granted}
@@ -8,7 +8,6 @@ use Rattle.lock_db.specs.declared.resource.Resource.{Resource}
 use Rattle.lock_db.specs.Queues.{lock_of}
 use Rattle.lock_db.specs.Tables.{resource_at}
 use Rattle.lock_db.specs.Laws.{stands_at}
-use Rattle.plain_cat.specs.declared.mode.Mode.{Mode}
 use Rattle.plain_cat.specs.declared.command.Cmd.{Cmd}
 use Rattle.plain_cat.specs.declared.command.Cmd.TheVariants as cmd
 use Rattle.plain_cat.specs.declared.cat.Cat.{Cat}
@@ -20,10 +19,10 @@ use Rattle.op_law.specs.declared.seen.Chan.{Chan}
 use Rattle.op_law.specs.Knows.{has_channel}
 use Rattle.core_state.specs.Worlds.{NodeState, Plain, node_at}
 use Rattle.core_state.specs.Asks.{granted_ask}
-use Rattle.core_state.specs.Opens.{open_of, open_asked, open_with, asked_in, asked_at, open_now, open_stands}
+use Rattle.core_state.specs.Opens.{open_of, open_asked, open_with, asked_in, open_now, open_stands}
 use Rattle.core_state.specs.Channels.{names_in_form, opened}
-use Rattle.core_state.specs.Goods.{IsAt, Good}
-use Rattle.core_state.specs.Events.{given_back, all_writes}
+use Rattle.core_state.specs.Goods.{Good}
+use Rattle.core_state.specs.Events.{given_back, all_writes, going}
 use Rattle.core_state.proofs.Opens.{opens_given, locked, stands_there}
 use Rattle.core_state.proofs.Channels.{IsOpenAt, open_at, channel_from, IsNodeNumber}
 use Rattle.core_state.proofs.Switching.{channel_test}
@@ -38,7 +37,7 @@ is_file_open o f e = λ i. record { file = e i; mode = o.mode }
 -- The channel of a node with a command, which has a file open by the node, has the lock of that file once those of the command have
 -- gone back.
 pub closing_lock : (w : Plain) (good : Good w) (n : ℕ) (s : NodeState) → node_at w.nodes n ≡ Some s → (chan : ℕ) → 1 ≤ chan → chan ≤ 8 → (p : Chan) → opened s.opens chan ≡ Some p
-    → IsSome (lock_of (record { node = n; part = chan }) (resource_at (A p.file.num) (given_back w.geometry n (all_writes s) s.asked w.locks)).askers)
+    → IsSome (lock_of (record { node = n; part = chan }) (resource_at (A p.file.num) (given_back w.geometry n (all_writes s) (going s) w.locks)).askers)
 closing_lock w good n s at chan low high p has = by_ask (granted_ask s.tried s.plan) refl where
   c : Cat
   c = good.running.cat
@@ -47,7 +46,7 @@ closing_lock w good n s at chan low high p has = by_ask (granted_ask s.tried s.p
   me = record { node = n; part = chan }
 
   t : List Resource
-  t = given_back w.geometry n (all_writes s) s.asked w.locks
+  t = given_back w.geometry n (all_writes s) (going s) w.locks
 
   number : IsNodeNumber n
   number = node_number w good n s at
@@ -59,7 +58,7 @@ closing_lock w good n s at chan low high p has = by_ask (granted_ask s.tried s.p
   of_me = ap (λ b. cond b (channel_at c n chan) None) (channel_test n chan number.from low high) ∙ there.at
 
   stands : (o : Option Ask) → granted_ask s.tried s.plan ≡ o → stands_at (A p.file.num) me t ≡ open_stands (A p.file.num) (open_with chan o (open_of c me))
-  stands o e = opens_given w.geometry n (all_writes s) s.asked w.locks (open_now c w.nodes) good.locked.0 good.running.opens (A p.file.num) me low
+  stands o e = opens_given w.geometry n (all_writes s) (going s) w.locks (open_now c w.nodes) good.locked.0 good.running.opens (A p.file.num) me low
       ∙ ap (λ a. open_stands (A p.file.num) (open_with chan a (open_of c me))) (ap asked_in at ∙ e)
 
   is_locked : (o : Open) → o.file ≡ p.file.num → (a : Option Ask) → granted_ask s.tried s.plan ≡ a → open_with chan a (open_of c me) ≡ Some o → IsSome (lock_of me (resource_at (A p.file.num) t).askers)
@@ -73,7 +72,7 @@ closing_lock w good n s at chan low high p has = by_ask (granted_ask s.tried s.p
     same_part : (k j : ℕ) → (k == j) ≡ true → k ≡ j
     same_part k j e = grind (arith, nat_tests)
 
-    by_part : (t : Bool) → (b.chan == chan) ≡ t → IsSome (lock_of me (resource_at (A p.file.num) (given_back w.geometry n (all_writes s) s.asked w.locks)).askers)
+    by_part : (t : Bool) → (b.chan == chan) ≡ t → IsSome (lock_of me (resource_at (A p.file.num) (given_back w.geometry n (all_writes s) (going s) w.locks)).askers)
     by_part true same =
         let file : b.file ≡ there.open_is.file = sym (asker_has_file w good n s b at e chan (same_part b.chan chan same) low there.open_is there.at) in
         is_locked (open_asked b) (file ∙ there.file) (Some b) e (ap (λ k. cond k (Some (open_asked b)) (open_of c me)) same)

@@ -1,26 +1,21 @@
 -- A node dies: the history has one entry more, all its locks are gone, and its opens are closed.
-use Rattle.std.proofs.Common.{◌≡◌, ◌≢◌, ◌≤◌, ◌<◌, ◌⊎◌, ◌==◌, ◌&&◌, ◌+◌, ◌-◌, ◌*◌, ◌++◌, ◌↔◌, ◌||◌, not, ℕ, zero, suc, Bool, true, false, cond, eqb, List, [], ◌∷◌, Option, Some, None, length, map, take, slice_get, refl, sym, ap, subst, ◌∙◌, inl, inr, arith}
+use Rattle.std.proofs.Common.{◌≡◌, ◌≢◌, ◌≤◌, ◌<◌, ◌⊎◌, ◌==◌, ◌+◌, ◌-◌, ◌*◌, ◌++◌, ◌↔◌, ◌||◌, ℕ, zero, suc, Bool, true, false, cond, eqb, List, [], ◌∷◌, Option, Some, None, length, map, take, slice_get, refl, sym, ap, subst, ◌∙◌, inl, inr, arith}
 use Rattle.std.specs.Prelude.{drop, filter, is_none, replicate, slice_index_or, nat_lt}
 use Rattle.std.specs.List.{list_any, range_with_len, sum_by}
-use Rattle.std.proofs.lemmas.Bool.{eqb-true, and_parts}
+use Rattle.std.proofs.lemmas.Bool.{and_parts}
 use Rattle.std.proofs.lemmas.Bool.Decides.{nat_tests}
 use Rattle.std.proofs.Math.Nat.{div-le_self}
-use Rattle.std.proofs.lemmas.List.{append-nil}
 use Rattle.std.proofs.lemmas.Option.{slice_get_within}
-use Rattle.plain_cat.specs.InForm.{InForm, is_eighth}
-use Rattle.plain_cat.specs.Spared.{Spared}
+use Rattle.plain_cat.specs.InForm.{is_eighth}
 use Rattle.plain_cat.specs.declared.command.Cmd.{Cmd}
 use Rattle.plain_cat.specs.declared.command.Cmd.TheVariants as cmd
 use Rattle.plain_cat.specs.declared.history.Stage.{Stage}
 use Rattle.plain_cat.specs.declared.history.Stage.TheVariants as stage
 use Rattle.plain_cat.specs.declared.history.Entry.{Entry}
-use Rattle.plain_cat.specs.declared.history.Entry.TheVariants.{Died}
 use Rattle.plain_cat.specs.declared.cat.Cat.{Cat}
 use Rattle.plain_cat.specs.declared.cat.Open.{Open}
 use Rattle.plain_vol.specs.Lookups.{joined, channel_at, place, clusters_in}
-use Rattle.plain_vol.specs.Own.{NodePast, past, after_entry, next_command}
-use Rattle.plain_vol.specs.Accounts.{Accounted}
-use Rattle.plain_vol.specs.Answers.{IsPick}
+use Rattle.plain_vol.specs.Own.{NodePast, past, next_command}
 use Rattle.plain_vol.specs.Stages.{staged}
 use Rattle.plain_vol.specs.Replaying.{dead, MayLeak}
 use Rattle.node_past.specs.Laws.{is_of}
@@ -29,7 +24,7 @@ use Rattle.plain_opens.specs.Opens.{IsChannel, OpensNameFiles}
 use Rattle.plain_opens.specs.Moves.{switched_by, switched_next, IsElsewhere}
 use Rattle.plain_opens.proofs.Keeping.{stage_keeps, dead_keeps}
 use Rattle.plain_opens.proofs.Naming.{stage_names, dead_names}
-use Rattle.plain_usages.specs.Usages.{AreNear, HasSmallFiles}
+use Rattle.plain_usages.specs.Usages.{AreNear}
 use Rattle.plain_usages.proofs.Stating.{stage_near, dead_near, stage_small, dead_small}
 use Rattle.plain_deaths.proofs.Closing.{own_closed, others_left}
 use Rattle.plain_deaths.proofs.Stages.{deaths_account, deaths_taken}
@@ -39,54 +34,49 @@ use Rattle.lock_db.specs.declared.name.Owner.{Owner}
 use Rattle.lock_db.specs.declared.resource.Resource.{Resource}
 use Rattle.lock_db.specs.declared.askers.Standing.TheVariants.{Granted}
 use Rattle.lock_db.specs.Names.{is_same}
-use Rattle.lock_db.specs.Tables.{IsTable, dropped, resource_at}
+use Rattle.lock_db.specs.Tables.{IsTable, dropped}
 use Rattle.lock_db.specs.Laws.{stands_at}
 use Rattle.lock_db.proofs.Steps.{IsTable-dropped}
 use Rattle.lock_deaths.proofs.Dropping.{granted_stays, nothing_comes, own_go, first_stays, second_stays}
-use Rattle.node_locks.specs.Held.{Row, waits_at}
+use Rattle.node_locks.specs.Held.{Row}
 use Rattle.node_locks.specs.HeldLaws.{IsLeftByDeath}
-use Rattle.node_locks.specs.Sequences.{first_sequence, second_sequence}
 use Rattle.node_locks.proofs.Dying.{dying_holds}
 use Rattle.node_locks.proofs.Keeping.{rows_go_on}
 use Rattle.vol_owners.specs.Lists.{Has}
 use Rattle.vol_owners.specs.Owners.{Owners, Things, nothing, Outs}
-use Rattle.vol_owners.proofs.Listing.{same_or_not, has_second}
-use Rattle.vol_parts.specs.declared.geometry.Geometry.{Geometry}
+use Rattle.vol_owners.proofs.Listing.{same_or_not}
 use Rattle.vol_spell.specs.Reading.{total_of}
-use Rattle.vol_under.specs.UnderWay.{PlannedWrite, UnderWay, first_stage, stage_after, stage_at, outs_after, outs_at, together, all_out, resting, idle, changed, AreSole, StandsAt}
+use Rattle.vol_under.specs.UnderWay.{UnderWay, first_stage, stage_after, stage_at, outs_after, together, all_out, resting, idle, changed, AreSole, StandsAt}
 use Rattle.vol_under.specs.Under.{IsUnder}
-use Rattle.vol_under.specs.Ending.{file_numbers, AreNumbersOf, Dies}
+use Rattle.vol_under.specs.Ending.{AreNumbersOf, Dies}
 use Rattle.vol_under.proofs.Endings.{death_keeps}
 use Rattle.vol_under.proofs.Steps.{stop_keeps}
 use Rattle.vol_under.proofs.Nodes.{changed_here}
-use Rattle.op_law.specs.declared.need.Ask.{Ask}
-use Rattle.op_law.specs.declared.need.Plan.{Plan}
 use Rattle.op_law.specs.declared.need.PlanWrite.{PlanWrite}
-use Rattle.op_law.specs.declared.seen.Seen.{Seen}
 use Rattle.op_law.specs.declared.seen.Chan.{Chan}
 use Rattle.op_law.specs.Fits.{things}
-use Rattle.op_law.specs.Knows.{has_channel, knows, is_granted}
+use Rattle.op_law.specs.Knows.{has_channel}
 use Rattle.op_law.specs.Laws.{planned}
-use Rattle.core_state.specs.Worlds.{Stock, empty_stock, NodeState, Plain, node_at, set_node, rows_of, rows_in, rows_at, course_of}
-use Rattle.core_state.specs.Asks.{writes_now, granted_by, granted_ask, known_with, knows_now}
+use Rattle.core_state.specs.Worlds.{NodeState, Plain, node_at, set_node, rows_of, rows_in, rows_at}
+use Rattle.core_state.specs.Asks.{writes_now}
 use Rattle.core_state.specs.Opens.{is_channel, open_of, open_with, asked_in, asked_at, open_now, open_stands, AreOpensLocked}
 use Rattle.core_state.specs.Channels.{names_in_form, opened, HasOpens}
-use Rattle.core_state.specs.Searches.{stock_after}
-use Rattle.core_state.specs.Goods.{held_by, under_with, nodes_under, IsAtPlan, IsIdle, IsUnderWay, IsAt, HasCommand, IsNode, HasFewAnswers, Good}
-use Rattle.core_state.specs.Small.{is_begun, has_command, AreSmall}
-use Rattle.core_state.specs.Fallen.{falls, fallen}
-use Rattle.core_state.specs.Events.{is_out, unseen, is_over}
-use Rattle.core_state.specs.Deaths.{writes_done, stage_now, things_in, outside_now, has_number, numbers_that, numbers_of, death_of, gone, died_by, died_at, died}
+use Rattle.core_state.specs.Stocks.{stock_now}
+use Rattle.core_state.specs.Searches.{Off}
+use Rattle.core_state.specs.Goods.{under_with, nodes_under, IsIdle, HasCommand, IsNode, HasFewAnswers, Good}
+use Rattle.core_state.specs.Small.{is_begun, has_command, owed, AreSmall}
+use Rattle.core_state.specs.Fallen.{falls}
+use Rattle.core_state.specs.Events.{is_out, is_over}
+use Rattle.core_state.specs.Deaths.{writes_done, stage_now, outside_now, has_number, numbers_that, numbers_of, death_of, gone, died_by, died_at, died}
 use Rattle.core_state.proofs.Falling.{death_fell, death_left, fewer_fallen}
 use Rattle.core_state.proofs.Nodes.{at_here, at_else, all_set}
 use Rattle.core_state.proofs.Channels.{as_open, channel_from, IsNodeNumber, channel_is}
-use Rattle.core_state.proofs.Running.{at_locks, under_here, are_sole}
+use Rattle.core_state.proofs.Running.{under_here, under_grown, are_sole}
 use Rattle.core_state.proofs.Keeping.{altered, rebuilt, held_set, LosesNothing}
 use Rattle.core_state.proofs.SmallCounts.{sum_more}
-use Rattle.core_state.proofs.SmallWorlds.{small_event, owed_is}
-use Rattle.core_state.proofs.Standing.{is_known}
-use Rattle.core_state.proofs.Answering.{under_granted, node_number}
-use Rattle.core_state.proofs.Trying.{still_granted}
+use Rattle.core_state.proofs.SmallWorlds.{small_event}
+use Rattle.core_state.proofs.Answering.{node_number}
+use Rattle.core_state.proofs.Midway.{all_known}
 
 -- ---- small steps
 
@@ -97,12 +87,12 @@ neither : (a b : Bool) → (a || b) ≡ false → (a ≡ false) × (b ≡ false)
 neither true b e = absurd (let f : true ≡ false = e in cc)
 neither false b e = (refl, e)
 
-both : (a b : Bool) → a ≡ true → b ≡ true → (a && b) ≡ true
-both a b e f = ap (λ k. k && b) e ∙ f
-
--- with nothing besides
-with_nothing : (t : Things) → together t nothing ≡ t
-with_nothing t = λ i. record { clusters = append-nil t.clusters i; numbers = append-nil t.numbers i }
+-- a node with a command owes three at least, and so four with its death
+owed_less : (s : NodeState) → 4 * one (has_command s) ≤ owed s + 4
+owed_less s = by_test (has_command s) where
+  by_test : (b : Bool) → 4 * one b ≤ owed s + 4
+  by_test true = omega arith
+  by_test false = omega arith
 
 -- ---- the numbers that are leaked
 
@@ -274,57 +264,32 @@ module _ (w : Plain) (good : Good w) (n : ℕ) (s : NodeState) (at : node_at w.n
 
   -- ---- what it knows
 
-  module _ (x : Cmd) (cmd_is : s.cmd ≡ Some x) where
-    now : IsAt w n s x
-    now = subst (HasCommand w n s) cmd_is mine.command
-
-    first_known : knows n x s.seen c ≡ true
-    first_known = is_known w good n s at x cmd_is now (stands ∙ ap (under_with w.locks n s) cmd_is)
-        (subst (λ (g : Geometry). IsUnder g c under w.blocks) (sym mine.geometry) good.running.drive)
-
-    plan_known : (o : Option Plan) → s.plan ≡ o → IsAtPlan x (waits_at w.locks n s.asked) s.seen s.done s.tried o → knows_now n x s.seen s.tried o c ≡ true
-    plan_known None e i = first_known
-    plan_known (Some p) e i = by_tried s.tried refl p.ask refl where
-      by_tried : (b : Bool) → s.tried ≡ b → (o : Option Ask) → p.ask ≡ o → known_with n (knows n x s.seen) (granted_by b o) c ≡ true
-      by_tried false t o a = first_known
-      by_tried true t None a = first_known
-      by_tried true t (Some a) is = both (knows n x s.seen c) (is_granted n a c) first_known (still_granted w good n s at x cmd_is i.1 p e a is t)
-
-    all_known : knows_now n x s.seen s.tried s.plan c ≡ true
-    all_known = plan_known s.plan refl now.plan
-
   known : (under n).knows c ≡ true
   known = subst (λ (v : UnderWay). v.knows c ≡ true) (sym stands) (by_cmd s.cmd refl) where
     by_cmd : (o : Option Cmd) → s.cmd ≡ o → (under_with w.locks n s o).knows c ≡ true
     by_cmd None e = refl
-    by_cmd (Some x) e = all_known x e
+    by_cmd (Some x) e = all_known w good n s at x e
 
   -- ---- where it stands
-
-  -- a node that has no command has nothing outside
-  abbrev idle_things : Seen → Bool → Option Plan → ℕ → List PlanWrite → ℕ → Things
-  idle_things seen tried plan done ws made = together (outs_after (things seen.clusters seen.number) (take done (map planned (writes_now tried plan)))) (stock_after ws made)
 
   none_taken : (k : ℕ) → take k (map planned (let ws : List PlanWrite = [] in ws)) ≡ []
   none_taken zero = refl
   none_taken (suc k) = refl
 
-  idle_out : IsIdle s.seen s.asked s.run s.plan s.done → idle_things s.seen s.tried s.plan s.done s.run.writes s.run.made ≡ nothing
+  -- a node that has no command has its stock outside
+  idle_out : IsIdle s.seen s.asked s.plan s.done → outside_now s ≡ together nothing (stock_now s.stock s.run)
   idle_out idle =
-      (λ i. together (outs_after (things (idle.space.clusters i) (idle.space.number i)) (take s.done (map planned (writes_now s.tried (idle.plan i))))) (stock_after (idle.run i).writes (idle.run i).made))
-      ∙ ap (λ ws. together (outs_after nothing ws) nothing) (none_taken s.done)
+      (λ i. together (outs_after (things (idle.space.clusters i) (idle.space.number i)) (take s.done (map planned (writes_now s.tried (idle.plan i))))) (stock_now s.stock s.run))
+      ∙ ap (λ ws. together (outs_after nothing ws) (stock_now s.stock s.run)) (none_taken s.done)
 
-  idle_stage : IsIdle s.seen s.asked s.run s.plan s.done → stage_after stage.Idle (take s.done (map planned (writes_now s.tried s.plan))) ≡ stage.Idle
+  idle_stage : IsIdle s.seen s.asked s.plan s.done → stage_after stage.Idle (take s.done (map planned (writes_now s.tried s.plan))) ≡ stage.Idle
   idle_stage idle = ap (λ o. stage_after stage.Idle (take s.done (map planned (writes_now s.tried o)))) idle.plan ∙ ap (stage_after stage.Idle) (none_taken s.done)
 
   out_is : all_out (under n) ≡ outside_now s
-  out_is = ap all_out stands ∙ by_cmd s.cmd refl mine.command ∙ sym stock_is where
-    stock_is : outside_now s ≡ idle_things s.seen s.tried s.plan s.done s.run.writes s.run.made
-    stock_is = ap (λ (k : Stock). together (idle_things s.seen s.tried s.plan s.done s.run.writes s.run.made) (things_in k)) mine.store.stock ∙ with_nothing (idle_things s.seen s.tried s.plan s.done s.run.writes s.run.made)
-
-    by_cmd : (o : Option Cmd) → s.cmd ≡ o → HasCommand w n s o → all_out (under_with w.locks n s o) ≡ idle_things s.seen s.tried s.plan s.done s.run.writes s.run.made
-    by_cmd None e idle = sym (idle_out idle)
-    by_cmd (Some x) e i = refl
+  out_is = ap all_out stands ∙ by_cmd s.cmd mine.command where
+    by_cmd : (o : Option Cmd) → HasCommand w n s o → all_out (under_with w.locks n s o) ≡ outside_now s
+    by_cmd None idle = sym (idle_out idle)
+    by_cmd (Some x) i = refl
 
   stage_is : stage_at (under n).done (under n) ≡ stage_now s
   stage_is = ap (λ (v : UnderWay). stage_at v.done v) stands ∙ by_cmd s.cmd mine.command where
@@ -508,7 +473,7 @@ module _ (w : Plain) (good : Good w) (n : ℕ) (s : NodeState) (at : node_at w.n
   small = small_event w good.small n s (gone s) at after w.blocks history 0 (one (is_begun entry))
       (λ name. let le = first_stays name n w.locks good.locked.0 in omega arith)
       (λ name. let le = second_stays name n w.locks good.locked.0 in omega arith)
-      (sum_more (λ e. one (is_begun e)) w.history entry) (let a = owed_is s in omega arith)
+      (sum_more (λ e. one (is_begun e)) w.history entry) (let a = owed_less s in omega arith)
 
   -- ---- the whole
 
@@ -517,7 +482,7 @@ module _ (w : Plain) (good : Good w) (n : ℕ) (s : NodeState) (at : node_at w.n
       (record {
         cat = d;
         replayed = replays_grow w.opening w.script w.history c entry d good.running.replayed (at_stage.0, x, at_stage.1, next_staged, may_leak, refl);
-        drive = under_granted w.geometry d w.locks after w.nodes n s (gone s) w.blocks at refl
+        drive = under_grown w.geometry d w.locks after w.nodes n s (gone s) w.blocks at
             (λ m q k ne e h. rows_go_on w.locks after m (rows_of q) k (others_go m q ne e) h) drive;
         accounted = deaths_account c x n s.cmd (stage_now s) at_stage.0 (falls w.history) lost leaked good.running.accounted good.running.sized good.running.named good.running.near fewer at_stage.1 at_stage.2;
         near = near;
@@ -535,16 +500,18 @@ module _ (w : Plain) (good : Good w) (n : ℕ) (s : NodeState) (at : node_at w.n
       (subst (HasFewAnswers w.script n) (sym grows) (good.few n))
       (λ m ne. past_of_others m w.history entry (not_of m ne))
       others_go
+      (record { holds = inl (record { given = refl; stock = refl }) })
       (record {
         past = ap (λ (p : NodePast). record p { dead = true }) mine.past ∙ sym grows;
         geometry = mine.geometry;
         channels = λ e. absurd (let f : true ≡ false = e in cc);
         channel = refl;
-        store = record { kept = refl; back = refl; stock = refl; cache = refl };
+        store = record { kept = λ l h. absurd h; cache = refl };
         rests = refl;
-        command = record { locks = refl; blocks = refl; space = record { clusters = refl; number = refl; short = refl }; asked = refl; run = refl; plan = refl; done = refl };
+        command = record { locks = refl; blocks = refl; space = record { clusters = refl; number = refl; short = refl }; asked = refl; plan = refl; done = refl };
+        space = Off (record { run = refl; claims = refl; space = record { clusters = refl; number = refl; short = refl } });
         over = λ o. absurd (let f : true ≡ false = sym o ∙ not_over in cc);
-        gone = λ o. record { cmd = refl; asked = refl; kept = refl; back = refl; stock = refl; cache = refl };
+        gone = λ o. record { cmd = refl; asked = refl; kept = refl; claims = refl; stock = refl; cache = refl };
       })
 
 -- a node that lives, of any world that keeps the rules

@@ -1,5 +1,5 @@
 -- How a command on a channel ends: with which ask and with which reply.
-use Rattle.std.proofs.Common.{◌≡◌, ◌⊎◌, ◌&&◌, ◌++◌, ℕ, Bool, true, false, cond, List, [], ◌∷◌, Option, Some, None, refl, sym, ap, subst, ◌∙◌, inl, inr}
+use Rattle.std.proofs.Common.{◌≡◌, ◌⊎◌, ℕ, Bool, true, false, cond, List, [], ◌∷◌, Option, Some, None, refl, sym, ap, subst, ◌∙◌, inl, inr}
 use Rattle.std.specs.Prelude.{option_map, map}
 use Rattle.vol_words.specs.Fields.{Block}
 use Rattle.fx_header.specs.declared.slot.Hdr.{Hdr}
@@ -18,10 +18,9 @@ use Rattle.plain_cat.specs.declared.reply.Refusal.TheVariants as refusal
 use Rattle.plain_vol.specs.Answers.{first_refusal, is_kept}
 use Rattle.plain_opens.specs.Moves.{switched_by}
 use Rattle.vol_parts.specs.declared.geometry.Geometry.{Geometry}
-use Rattle.vol_parts.specs.declared.geometry.Part.TheVariants.{Storage, IndexBitmap}
+use Rattle.vol_parts.specs.declared.geometry.Part.TheVariants.{Storage}
 use Rattle.vol_spell.specs.Reading.{header_place, quota_places}
 use Rattle.vol_spell.specs.Places.{place_of}
-use Rattle.op_law.specs.declared.need.Need.{Need}
 use Rattle.op_law.specs.declared.need.Need.TheVariants as need
 use Rattle.op_law.specs.declared.need.Plan.{Plan}
 use Rattle.op_law.specs.declared.need.PlanWrite.{PlanWrite}
@@ -33,8 +32,8 @@ use Rattle.op_law.specs.Needs.{events_of, IsNext}
 use Rattle.op_law.specs.Rows.{is_number, live_in, look_all, answers, refuses}
 use Rattle.op_law.specs.Refusing.{SeenFile, seen_file, used_in, if_file, unless_refused}
 use Rattle.op_law.specs.Writing.{asking_plan}
-use Rattle.op_law.specs.Freeing.{SeenSpace, blocks_for, all_clusters, through_space, freeing_writes}
-use Rattle.op_law.specs.Channels.{first_ask, open_in, open_on, open_events, close_ask, close_plan, close_in, close_on, close_events}
+use Rattle.op_law.specs.Freeing.{blocks_for, all_clusters, through_space, freeing_writes}
+use Rattle.op_law.specs.Channels.{first_ask, open_in, open_events, close_ask, close_plan, close_in, close_on, close_events}
 use Rattle.op_law.specs.Knows.{channel_of, asking_part, may_ask}
 
 -- ---- a plan of a command whose channel has this open

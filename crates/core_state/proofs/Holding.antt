@@ -5,6 +5,7 @@ use Rattle.std.proofs.lemmas.Bool.Decides.{nat_tests}
 use Rattle.lock_db.specs.declared.name.LockName.{LockName}
 use Rattle.plain_cat.specs.Modes.{rank}
 use Rattle.plain_cat.specs.declared.mode.Mode.{Mode}
+use Rattle.plain_cat.specs.declared.mode.Mode.TheVariants.{CR}
 use Rattle.vol_owners.specs.Lists.{Has}
 use Rattle.op_law.specs.Laws.{held_in}
 
@@ -63,3 +64,11 @@ named_there (l ∷ ls) name mode (inr h) = inr (named_there ls name mode h)
 -- a name that is held is one of the names
 pub held_named : (mode : Mode) (ls : List (LockName × Mode)) (name : LockName) → Has (held_in mode ls) name → Has (map (λ (k : LockName × Mode). k.0) ls) name
 held_named mode ls name h = let k = in_held_is mode ls name h in named_there ls name k.in_mode k.has
+
+-- more locks of CR or stronger, more names
+pub strong_grows : (mode : Mode) (xs ys : List (LockName × Mode)) (name : LockName) → rank CR ≤ rank mode → ((l : LockName × Mode) → rank CR ≤ rank l.1 → Has xs l → Has ys l) → Has (held_in mode xs) name → Has (held_in mode ys) name
+strong_grows mode xs ys name low more t =
+    let h = in_held_is mode xs name t in
+    let a : rank mode ≤ rank h.in_mode = h.strong in
+    let b : rank CR ≤ rank h.in_mode = omega arith in
+    is_in_held mode ys name (record { in_mode = h.in_mode; has = more (name, h.in_mode) b h.has; strong = h.strong })

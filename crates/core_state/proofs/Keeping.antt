@@ -1,11 +1,10 @@
 -- What an event of one node leaves of the invariant.
-use Rattle.std.proofs.Common.{◌≡◌, ◌≢◌, ◌++◌, ℕ, Bool, true, List, [], Option, Some, None, refl, sym, ap, subst, ◌∙◌, inl, inr, arith, false}
+use Rattle.std.proofs.Common.{◌≡◌, ◌≢◌, ◌⊎◌, ◌++◌, ℕ, Bool, true, List, [], ◌∷◌, Option, Some, None, refl, sym, ap, subst, ◌∙◌, inl, inr, arith, false}
 use Rattle.std.proofs.lemmas.Bool.Decides.{nat_tests}
 use Rattle.std.proofs.lemmas.List.{append-nil}
 use Rattle.vol_words.specs.Fields.{Block}
 use Rattle.lock_db.specs.declared.name.LockName.{LockName}
 use Rattle.lock_db.specs.declared.resource.Resource.{Resource}
-use Rattle.plain_cat.specs.declared.mode.Mode.{Mode}
 use Rattle.plain_cat.specs.declared.command.Cmd.{Cmd}
 use Rattle.plain_cat.specs.declared.cat.Cat.{Cat}
 use Rattle.node_cache.specs.Cached.{Cached}
@@ -14,64 +13,28 @@ use Rattle.plain_vol.specs.Replaying.{Replays}
 use Rattle.vol_under.specs.Under.{IsUnder}
 use Rattle.plain_cat.specs.declared.history.Entry.{Entry}
 use Rattle.plain_vol.specs.Own.{past, command_after, next_command, Own}
-use Rattle.lock_db.specs.declared.name.LockName.TheVariants.{V}
-use Rattle.plain_cat.specs.declared.mode.Mode.TheVariants.{PW}
-use Rattle.node_locks.specs.Held.{Row, joined, names_of, HoldsItsLocks, AreHeld, waits_at, held_locks, with_rows}
+use Rattle.node_locks.specs.Held.{Row, joined, names_of, HoldsItsLocks, AreHeld, waits_at, with_rows}
 use Rattle.node_locks.specs.HeldLaws.{GoesOn}
 use Rattle.vol_owners.specs.Lists.{Has, Once}
 use Rattle.vol_owners.proofs.Listing.{same_or_not}
 use Rattle.op_law.specs.declared.need.Plan.{Plan}
-use Rattle.op_law.specs.declared.need.Ask.{Ask}
-use Rattle.op_law.specs.declared.seen.Seen.{Seen}
-use Rattle.core_state.specs.declared.space.SpaceRun.{SpaceRun}
-use Rattle.core_state.specs.Worlds.{NodeState, Plain, node_at, set_node, rows_of, rows_in, rows_at}
-use Rattle.core_state.specs.Asks.{granted_ask, own_ask}
-use Rattle.core_state.specs.Searches.{Spaces, Off, Looking, Taking, Taken, Refused}
-use Rattle.core_state.specs.Stores.{HasStore}
+use Rattle.core_state.specs.Worlds.{Course, NodeState, Plain, node_at, set_node, rows_of, rows_in, rows_at}
+use Rattle.core_state.specs.Asks.{granted_ask}
+use Rattle.core_state.specs.Stores.{IsStocked}
 use Rattle.core_state.specs.Channels.{HasOpens}
 use Rattle.core_state.specs.Opens.{open_now, AreOpensLocked}
 use Rattle.core_state.specs.Small.{AreSmall}
 use Rattle.core_state.specs.Fallen.{falls, fallen}
 use Rattle.plain_usages.specs.Usages.{AreNear, HasSmallFiles}
-use Rattle.core_state.specs.Goods.{nodes_under, HasSystemNumbers, AreLocked, IsAtPlan, HasCommand, IsNode, HasFewAnswers, Good}
+use Rattle.core_state.specs.Goods.{nodes_under, HasSystemNumbers, AreLocked, IsAtPlan, HasCourse, HasCommand, IsNode, HasFewAnswers, Good}
 use Rattle.plain_opens.specs.Opens.{OpensNameFiles}
 use Rattle.core_state.proofs.Opens.{opens_same}
 use Rattle.core_state.proofs.Switching.{AsksAlike, now_alike}
-use Rattle.core_state.proofs.Holding.{held_grows}
 use Rattle.core_state.proofs.Nodes.{at_here, at_else, all_set, length_node}
 
 -- the world after an event: other locks, blocks, nodes and history
 abbrev pub altered : Plain → List Resource → List Block → List NodeState → List Entry → Plain
 altered w t bs ns h = record w { locks = t; blocks = bs; nodes = ns; history = h }
-
--- a search stands as it stood where its node holds what it held
-pub still_searches : (t u : List Resource) (n : ℕ) (x : Cmd) (ask : Option Ask) (asked : List (LockName × Mode)) (run : SpaceRun) (seen : Seen) → ((l : LockName × Mode) → Has (held_locks t n asked) l → Has (held_locks u n asked) l)
-    → Spaces t n x ask asked run seen → Spaces u n x ask asked run seen
-still_searches t u n x ask asked run seen holds (Off h) = Off h
-still_searches t u n x ask asked run seen holds (Looking h) = Looking h
-still_searches t u n x ask asked run seen holds (Taking h) = Taking (record {
-  found = record { claimed = h.found.claimed; enough = h.found.enough; above = h.found.above; holds = held_grows PW (held_locks t n asked) (held_locks u n asked) V holds h.found.holds };
-  needs = h.needs;
-  part = h.part;
-})
-still_searches t u n x ask asked run seen holds (Taken h) = Taken (record {
-  found = record { claimed = h.found.claimed; enough = h.found.enough; above = h.found.above; holds = held_grows PW (held_locks t n asked) (held_locks u n asked) V holds h.found.holds };
-  all = h.all;
-  clusters = h.clusters;
-  number = h.number;
-  short = h.short;
-})
-still_searches t u n x ask asked run seen holds (Refused h) = Refused (record {
-  claimed = h.claimed;
-  holds = held_grows PW (held_locks t n asked) (held_locks u n asked) V holds h.holds;
-  why = h.why;
-  too_little = h.too_little;
-  writes = h.writes;
-  made = h.made;
-  clusters = h.clusters;
-  number = h.number;
-  short = h.short;
-})
 
 -- a node loses nothing of its rows, and does not come to wait in one
 abbrev pub LosesNothing : List Resource → List Resource → ℕ → NodeState → Type 0
@@ -87,19 +50,71 @@ has_kept_row s = inl refl
 pub has_asked_row : (s : NodeState) → Has (rows_of s) s.asked
 has_asked_row s = inr (inl refl)
 
--- all of its locks are its command's
-asked_all : (s : NodeState) → HasStore s.kept s.back s.stock s.cache → joined (rows_of s) ≡ s.asked
-asked_all s store = (λ i. store.kept i ++ (s.asked ++ (store.back i ++ []))) ∙ append-nil s.asked
+-- a name that is in two lists is in one of them
+pub names_parted : (xs ys : Row) (name : LockName) → Has (names_of (xs ++ ys)) name → Has (names_of xs) name ⊎ Has (names_of ys) name
+names_parted [] ys name h = inr h
+names_parted (x ∷ xs) ys name (inl e) = inl (inl e)
+names_parted (x ∷ xs) ys name (inr h) = elim (names_parted xs ys name h) [ inl a ↦ inl (inr a) | inr b ↦ inr b ]
 
-pub asked_alone : (s : NodeState) → HasStore s.kept s.back s.stock s.cache → (name : LockName) → Has (names_of (joined (rows_of s))) name → Has (names_of s.asked) name
-asked_alone s store name h = subst (λ (ls : Row). Has (names_of ls) name) (asked_all s store) h
+names_first : (xs ys : Row) (name : LockName) → Has (names_of xs) name → Has (names_of (xs ++ ys)) name
+names_first [] ys name h = absurd h
+names_first (x ∷ xs) ys name (inl e) = inl e
+names_first (x ∷ xs) ys name (inr h) = inr (names_first xs ys name h)
 
--- each is named once
-pub asked_once : (s : NodeState) → HasStore s.kept s.back s.stock s.cache → Once (names_of (joined (rows_of s))) → Once (names_of s.asked)
-asked_once s store o = subst (λ (ls : Row). Once (names_of ls)) (asked_all s store) o
+names_second : (xs ys : Row) (name : LockName) → Has (names_of ys) name → Has (names_of (xs ++ ys)) name
+names_second [] ys name h = h
+names_second (x ∷ xs) ys name h = inr (names_second xs ys name h)
 
-pub asked_among : (s : NodeState) → HasStore s.kept s.back s.stock s.cache → (name : LockName) → Has (names_of s.asked) name → Has (names_of (joined (rows_of s))) name
-asked_among s store name h = subst (λ (ls : Row). Has (names_of ls) name) (sym (asked_all s store)) h
+-- in which row of a node a name is
+pub row_of_name : (s : NodeState) (name : LockName) → Has (names_of (joined (rows_of s))) name → Has (names_of s.kept) name ⊎ (Has (names_of s.asked) name ⊎ Has (names_of s.claims) name)
+row_of_name s name h = elim (names_parted s.kept (s.asked ++ (s.claims ++ [])) name h) [
+  | inl a ↦ inl a
+  | inr b ↦ elim (names_parted s.asked (s.claims ++ []) name b) [
+    | inl c ↦ inr (inl c)
+    | inr d ↦ inr (inr (subst (λ (ls : Row). Has (names_of ls) name) (append-nil s.claims) d))
+  ]
+]
+
+pub kept_named : (s : NodeState) (name : LockName) → Has (names_of s.kept) name → Has (names_of (joined (rows_of s))) name
+kept_named s name h = names_first s.kept (s.asked ++ (s.claims ++ [])) name h
+
+pub asked_named : (s : NodeState) (name : LockName) → Has (names_of s.asked) name → Has (names_of (joined (rows_of s))) name
+asked_named s name h = names_second s.kept (s.asked ++ (s.claims ++ [])) name (names_first s.asked (s.claims ++ []) name h)
+
+pub claims_named : (s : NodeState) (name : LockName) → Has (names_of s.claims) name → Has (names_of (joined (rows_of s))) name
+claims_named s name h = names_second s.kept (s.asked ++ (s.claims ++ [])) name (names_second s.asked (s.claims ++ []) name (names_first s.claims [] name h))
+
+-- what is named once in two lists is named once in each, and in one of them alone
+once_first : (xs ys : Row) → Once (names_of (xs ++ ys)) → Once (names_of xs)
+once_first [] ys o = tt
+once_first (x ∷ xs) ys o = ((λ h. o.0 (names_first xs ys x.0 h)), once_first xs ys o.1)
+
+once_second : (xs ys : Row) → Once (names_of (xs ++ ys)) → Once (names_of ys)
+once_second [] ys o = o
+once_second (x ∷ xs) ys o = once_second xs ys o.1
+
+once_apart : (xs ys : Row) (name : LockName) → Once (names_of (xs ++ ys)) → Has (names_of xs) name → Has (names_of ys) name → ⊥
+once_apart [] ys name o a b = a
+once_apart (x ∷ xs) ys name o (inl e) b = o.0 (names_second xs ys x.0 (subst (Has (names_of ys)) (sym e) b))
+once_apart (x ∷ xs) ys name o (inr a) b = once_apart xs ys name o.1 a b
+
+pub kept_once : (s : NodeState) → Once (names_of (joined (rows_of s))) → Once (names_of s.kept)
+kept_once s o = once_first s.kept (s.asked ++ (s.claims ++ [])) o
+
+pub asked_once : (s : NodeState) → Once (names_of (joined (rows_of s))) → Once (names_of s.asked)
+asked_once s o = once_first s.asked (s.claims ++ []) (once_second s.kept (s.asked ++ (s.claims ++ [])) o)
+
+pub claims_once : (s : NodeState) → Once (names_of (joined (rows_of s))) → Once (names_of s.claims)
+claims_once s o = once_first s.claims [] (once_second s.asked (s.claims ++ []) (once_second s.kept (s.asked ++ (s.claims ++ [])) o))
+
+pub kept_apart : (s : NodeState) (name : LockName) → Once (names_of (joined (rows_of s))) → Has (names_of s.kept) name → Has (names_of s.asked) name ⊎ Has (names_of s.claims) name → ⊥
+kept_apart s name o a b = once_apart s.kept (s.asked ++ (s.claims ++ [])) name o a (elim b [
+  | inl c ↦ names_first s.asked (s.claims ++ []) name c
+  | inr d ↦ names_second s.asked (s.claims ++ []) name (names_first s.claims [] name d)
+])
+
+pub asked_apart : (s : NodeState) (name : LockName) → Once (names_of (joined (rows_of s))) → Has (names_of s.asked) name → Has (names_of s.claims) name → ⊥
+asked_apart s name o a b = once_apart s.asked (s.claims ++ []) name (once_second s.kept (s.asked ++ (s.claims ++ [])) o) a (names_first s.claims [] name b)
 
 -- a node that has had no part in an event
 pub still_node : (w : Plain) (t : List Resource) (bs : List Block) (ns : List NodeState) (h : List Entry) (m : ℕ) (r : NodeState) → past m h ≡ past m w.history
@@ -112,6 +127,7 @@ still_node w t bs ns h m r same goes p = record {
   store = p.store;
   rests = (goes r.kept (has_kept_row r)).waits p.rests;
   command = by_cmd r.cmd p.command;
+  space = p.space;
   over = λ o. ((p.over o).0, next ∙ (p.over o).1);
   gone = p.gone;
 } where
@@ -132,7 +148,19 @@ still_node w t bs ns h m r same goes p = record {
 
   by_cmd : (o : Option Cmd) → HasCommand w m r o → HasCommand (altered w t bs ns h) m r o
   by_cmd None i = i
-  by_cmd (Some x) a = record { next = next ∙ a.next; form = a.form; lawful = a.lawful; seen = a.seen; own = a.own; plan = by_plan x r.plan a.plan; search = still_searches w.locks t m x (own_ask r.tried r.plan) r.asked r.run r.seen asked_goes.holds a.search; waits = λ e. a.waits (waited (waits_at w.locks m r.asked) (waits_at t m r.asked) asked_goes.waits e) }
+  by_cmd (Some x) a = record { next = next ∙ a.next; form = a.form; lawful = a.lawful; seen = a.seen; own = a.own; plan = by_plan x r.plan a.plan; same = a.same; waits = λ e. a.waits (waited (waits_at w.locks m r.asked) (waits_at t m r.asked) asked_goes.waits e) }
+
+-- a command that has come so far, where its node waits for none of its locks for which it did not wait
+pub course_stays : (next : Option Cmd) (t u : List Resource) (n : ℕ) (d : Course) → (waits_at t n d.asked ≡ false → waits_at u n d.asked ≡ false) → (o : Option Cmd) → HasCourse next t n d o → HasCourse next u n d o
+course_stays next t u n d goes None i = i
+course_stays next t u n d goes (Some x) a = record { next = a.next; form = a.form; lawful = a.lawful; seen = a.seen; own = a.own; plan = by_plan d.plan a.plan; same = a.same; waits = λ e. a.waits (waited (waits_at t n d.asked) (waits_at u n d.asked) goes e) } where
+  by_plan : (o : Option Plan) → IsAtPlan x (waits_at t n d.asked) d.seen d.done d.tried o → IsAtPlan x (waits_at u n d.asked) d.seen d.done d.tried o
+  by_plan None e = e
+  by_plan (Some q) e = (e.0, goes e.1, e.2)
+
+  waited : (before after : Bool) → (before ≡ false → after ≡ false) → after ≡ true → before ≡ true
+  waited true after stays e = refl
+  waited false after stays e = absurd (let f : true ≡ false = sym e ∙ stays refl in cc)
 
 -- what an event makes of the catalogue, of the drive, and of what the channels have open
 pub record IsDriven (w : Plain) (t : List Resource) (bs : List Block) (ns : List NodeState) (h : List Entry) : Type 0 where
@@ -170,8 +198,8 @@ pub rebuilt : (w : Plain) (good : Good w) → (n : ℕ) (s r : NodeState) → no
     → IsDriven w t bs (set_node w.nodes n r) h → AreLocked (altered w t bs (set_node w.nodes n r) h) → Own w.script h → AreSmall (altered w t bs (set_node w.nodes n r) h) → HasFewAnswers w.script n (past n h)
     → ((m : ℕ) → m ≢ n → past m h ≡ past m w.history)
     → ((m : ℕ) (q : NodeState) → m ≢ n → node_at w.nodes m ≡ Some q → LosesNothing w.locks t m q)
-    → IsNode (altered w t bs (set_node w.nodes n r) h) n r → Good (altered w t bs (set_node w.nodes n r) h)
-rebuilt w good n s r at t bs h driven locked own small few others goes node = record {
+    → IsStocked r → IsNode (altered w t bs (set_node w.nodes n r) h) n r → Good (altered w t bs (set_node w.nodes n r) h)
+rebuilt w good n s r at t bs h driven locked own small few others goes stocked node = record {
   counted = length_node w.nodes n r ∙ good.counted;
   running = record {
     cat = driven.cat;
@@ -185,7 +213,7 @@ rebuilt w good n s r at t bs h driven locked own small few others goes node = re
     named = driven.named;
     opens = driven.opens;
     opened = driven.opened;
-    stocked = λ m q e. record { holds = inl (nodes m q e).store.stock };
+    stocked = all_set w.nodes n s r at (λ m q. IsStocked q) stocked (λ m q ne e. good.running.stocked m q e);
     cached = λ m q c e has. absurd (subst (λ (cs : List Cached). Has cs c) (nodes m q e).store.cache has);
   };
   locked = locked;

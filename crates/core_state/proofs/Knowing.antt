@@ -1,12 +1,11 @@
 -- What a command takes for granted of the catalogue, part by part.
-use Rattle.std.proofs.Common.{◌≡◌, ◌≤◌, ◌&&◌, ℕ, Bool, true, false, List, [], ◌∷◌, Option, Some, None, refl, ap, ◌∙◌, arith}
+use Rattle.std.proofs.Common.{◌≡◌, ◌≤◌, ◌&&◌, ℕ, Bool, true, false, List, refl, ap, ◌∙◌, arith}
 use Rattle.std.specs.Prelude.{All, nat_le, if◌then◌else◌}
 use Rattle.std.specs.List.{list_all}
 use Rattle.std.proofs.lemmas.Bool.Decides.{nat_tests}
 use Rattle.std.proofs.lemmas.List.Sums.{list_all-from_AllPass}
 use Rattle.plain_cat.specs.declared.command.Cmd.{Cmd}
 use Rattle.plain_cat.specs.declared.cat.Cat.{Cat}
-use Rattle.plain_cat.specs.declared.cat.Open.{Open}
 use Rattle.plain_cat.specs.declared.cat.QuotaRow.{QuotaRow}
 use Rattle.plain_vol.specs.Accounts.{IsCharged, Accounted}
 use Rattle.op_law.specs.declared.seen.Seen.{Seen}

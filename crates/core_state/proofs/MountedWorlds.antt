@@ -31,6 +31,8 @@ use Rattle.core_state.specs.Worlds.{NodeState, Plain, node_at, rows_of, rows_in,
 use Rattle.core_state.specs.Asks.{granted_ask}
 use Rattle.core_state.specs.Opens.{open_of, open_with, asked_in, asked_at, open_now}
 use Rattle.core_state.specs.Goods.{HasSystemNumbers, HasOnly, under_by, nodes_under, IsNode, Good, IsAccepted, decided, IsWorld}
+use Rattle.core_state.specs.Searches.{Off}
+use Rattle.core_state.specs.Stores.{IsStocked}
 use Rattle.core_state.specs.Mounting.{at_rest, mounted}
 use Rattle.core_state.specs.Channels.{HasOpens}
 use Rattle.plain_opens.proofs.Naming.{closed_names}
@@ -119,9 +121,10 @@ module _ (bs : List Block) (s : Script) (c : Cat) (g : Geometry) (form : InForm 
     geometry = refl;
     channels = λ on. refl;
     channel = refl;
-    store = record { kept = refl; back = refl; stock = refl; cache = refl };
+    store = record { kept = λ l h. absurd h; cache = refl };
     rests = refl;
-    command = record { locks = refl; blocks = refl; space = record { clusters = refl; number = refl; short = refl }; asked = refl; run = refl; plan = refl; done = refl };
+    command = record { locks = refl; blocks = refl; space = record { clusters = refl; number = refl; short = refl }; asked = refl; plan = refl; done = refl };
+    space = Off (record { run = refl; claims = refl; space = record { clusters = refl; number = refl; short = refl } });
     over = λ o. absurd (let f : false ≡ true = o in cc);
     gone = λ o. absurd (let f : false ≡ true = o in cc);
   }
@@ -141,7 +144,7 @@ module _ (bs : List Block) (s : Script) (c : Cat) (g : Geometry) (form : InForm 
       named = closed_names c none_open;
       opens = opens_same [] (open_of c) (open_now c w.nodes) (λ owner low. ap (λ a. open_with owner.part a (open_of c owner)) (no_asks owner.node)) (opens_none c 64 none_open);
       opened = λ n r e. subst (λ (y : NodeState). HasOpens c n y.opens) (sym (at_rest_at s.nodes x n r e)) (none_opened c 64 n none_open);
-      stocked = λ n r e. record { holds = inl (ap (λ (y : NodeState). y.stock) (at_rest_at s.nodes x n r e)) };
+      stocked = λ n r e. subst IsStocked (sym (at_rest_at s.nodes x n r e)) (record { holds = inl (record { given = refl; stock = refl }) });
       cached = λ n r k e has. absurd (subst (λ (y : NodeState). Has y.cache k) (at_rest_at s.nodes x n r e) has);
     };
     locked = (record { ordered = refl; used = refl; settled_all = tt }, nothing_is_held (rows_at w.nodes) no_locks);

@@ -1,5 +1,5 @@
 -- The locks of who has a file open: what the calls of the lock manager leave of them, and which asks go.
-use Rattle.std.proofs.Common.{◌≡◌, ◌≢◌, ◌≤◌, ◌<◌, ◌+◌, ◌-◌, ◌*◌, ◌==◌, ◌&&◌, ◌||◌, ◌⊎◌, ℕ, zero, suc, Bool, true, false, cond, not, List, [], ◌∷◌, Option, Some, None, IsSome, find, option_map, slice_get, slice_set, refl, ap, sym, subst, ◌∙◌, inl, inr, arith}
+use Rattle.std.proofs.Common.{◌≡◌, ◌≢◌, ◌≤◌, ◌<◌, ◌+◌, ◌-◌, ◌*◌, ◌==◌, ◌&&◌, ◌||◌, ◌⊎◌, ℕ, zero, suc, Bool, true, false, cond, not, List, [], ◌∷◌, Option, Some, None, IsSome, find, option_map, option_and_then, slice_get, slice_set, refl, ap, sym, subst, ◌∙◌, inl, inr, arith}
 use Rattle.std.specs.Prelude.{nat_le, nat_lt, replicate, is_some}
 use Rattle.std.specs.List.{list_all, list_any}
 use Rattle.std.proofs.lemmas.Bool.Decides.{nat_tests}
@@ -7,7 +7,7 @@ use Rattle.vol_parts.specs.declared.geometry.Geometry.{Geometry}
 use Rattle.vol_owners.proofs.Listing.{same_or_not}
 use Rattle.vol_owners.proofs.Writing.{get-set_else}
 use Rattle.plain_cat.specs.declared.mode.Mode.{Mode}
-use Rattle.plain_cat.specs.declared.mode.Mode.TheVariants.{PR, CW}
+use Rattle.plain_cat.specs.declared.mode.Mode.TheVariants.{NL, PR, CW}
 use Rattle.plain_cat.specs.Modes.{compatible_modes}
 use Rattle.plain_cat.specs.declared.cat.Cat.{Cat}
 use Rattle.plain_cat.specs.declared.cat.Open.{Open}
@@ -23,11 +23,11 @@ use Rattle.lock_db.specs.declared.askers.Standing.TheVariants.{Granted, Converti
 use Rattle.lock_db.specs.declared.askers.Asker.{Asker}
 use Rattle.lock_db.specs.declared.resource.Resource.{Resource}
 use Rattle.lock_db.specs.Names.{is_same, same_owner}
-use Rattle.lock_db.specs.Queues.{held, waits, converts, is_queued, is_upward, is_waiting, is_converting, goes, goes_beside, with_standing, without, settled, standing_of, mode_of, lock_of}
-use Rattle.lock_db.specs.Resources.{goes_at_once, converts_at_once, conversion_writes, regranted, mode_held, converted_of, first_standing, released_of}
+use Rattle.lock_db.specs.Queues.{held, waits, converts, is_queued, is_upward, is_waiting, is_converting, goes, goes_beside, with_standing, without, settled, settled_mode, standing_of, mode_of, lock_of}
+use Rattle.lock_db.specs.Resources.{goes_at_once, converts_at_once, conversion_writes, written, regranted, queued_up, mode_held, converted_of, first_standing, released_of}
 use Rattle.lock_db.specs.Tables.{resource_at, all_together, stand_together, asked, converts_now, converted, released, IsTable}
 use Rattle.lock_db.specs.Laws.{stands_at}
-use Rattle.lock_db.proofs.Lists.{and-left, and-right, and-both, or-right, or-if_right, not-true, find-push_no, find-passes, find-filter, find-absent, list_any-none, list_all-find, list_all-every}
+use Rattle.lock_db.proofs.Lists.{and-left, and-right, and-both, or-right, not-true, find-push_no, find-passes, find-absent, list_any-none, list_all-find}
 use Rattle.lock_db.proofs.Names.{is_same-same}
 use Rattle.lock_db.proofs.Owners.{same_owner-refl, same_owner-same}
 use Rattle.lock_db.proofs.Together.{lets, goes-held, all_together-head, all_together-tail, all_together-filter, all_together-granted}
@@ -37,7 +37,8 @@ use Rattle.lock_db.proofs.Standings.{requests-stand, conversions-stand, releases
 use Rattle.lock_db.proofs.Steps.{IsSettled-at, IsTable-asked, IsTable-converted, IsTable-released, HasLock, HasLock-lock_of, lock-is, converts-goes}
 use Rattle.node_locks.specs.Held.{system_of}
 use Rattle.node_locks.specs.Sequences.{raised_block}
-use Rattle.node_locks.specs.Taking.{has_lock, taken, taken_now}
+use Rattle.node_locks.specs.Taking.{has_lock, taken, taken_now, MayTake}
+use Rattle.node_locks.proofs.Taking.{no-lock}
 use Rattle.node_locks.proofs.Served.{Served, settled-served, vacated-standing, without-other, with-other}
 use Rattle.node_locks.proofs.Nodes.{name_or_not}
 use Rattle.op_law.specs.declared.need.PlanWrite.{PlanWrite}
@@ -46,7 +47,7 @@ use Rattle.op_law.specs.Knows.{others_open}
 use Rattle.core_state.specs.Raises.{raise_of}
 use Rattle.core_state.specs.Opens.{is_channel, open_of, open_stands, AreOpensLocked}
 use Rattle.core_state.specs.Channels.{let_go}
-use Rattle.core_state.specs.Events.{given_back}
+use Rattle.core_state.specs.Events.{given_back, left_alone}
 
 -- ---- the calls of one owner, and how another stands
 
@@ -140,9 +141,75 @@ served_open name o before after (inr k) is = absurd (never_queued name o k.0 (sy
 pub opens_asked : (name : LockName) (n : ℕ) (mode : Mode) (t : List Resource) (having : Owner → Option Open) → AreOpensLocked t having → AreOpensLocked (asked name (system_of n) mode t) having
 opens_asked name n mode t having opens other owner le = asked_apart (system_of n) owner (apart n owner le) name other mode t ∙ opens other owner le
 
-opens_released : (name : LockName) (n : ℕ) (value : List ℕ) (t : List Resource) (having : Owner → Option Open) → IsTable t → AreOpensLocked t having → AreOpensLocked (released name (system_of n) value t) having
+pub opens_released : (name : LockName) (n : ℕ) (value : List ℕ) (t : List Resource) (having : Owner → Option Open) → IsTable t → AreOpensLocked t having → AreOpensLocked (released name (system_of n) value t) having
 opens_released name n value t having is opens other owner le =
     served_open other (having owner) (stands_at other owner t) (stands_at other owner (released name (system_of n) value t)) (released_apart (system_of n) owner (apart n owner le) name other value t is) (opens other owner le)
+
+-- ---- a lock of no file's opens is converted: nobody with an open stands there
+
+no_open : (name : LockName) → ((f : ℕ) → name ≢ A f) → (o : Option Open) → open_stands name o ≡ None
+no_open name far None = refl
+no_open name far (Some o) = by_name (is_same name (A o.file)) refl where
+  by_name : (b : Bool) → is_same name (A o.file) ≡ b → cond b (Some (Granted o.mode)) None ≡ None
+  by_name true e = absurd (far o.file (is_same-same name (A o.file) e))
+  by_name false e = refl
+
+served_none : (before after : Option Standing) → Served before after → before ≡ None → after ≡ None
+served_none before after (inl e) is = e ∙ is
+served_none before after (inr k) is = absurd (let f : Some k.0 ≡ None = sym k.1 ∙ is in cc)
+
+module _ (me owner : Owner) (far : same_owner me owner ≡ false) where
+  -- one that stands nowhere does not come to stand
+  converted_none : (name : LockName) (old mode : Mode) (value : List ℕ) (t : List Resource) → IsTable t → lock_of me (resource_at name t).askers ≡ Some old → mode ≢ CW → stands_at name owner t ≡ None → stands_at name owner (converted name me mode value t) ≡ None
+  converted_none name old mode value t is lock across none = by_now (converts_now name me mode t) refl where
+    r : Resource
+    r = resource_at name t
+
+    some : IsSome (lock_of me r.askers)
+    some = ap is_some lock
+
+    by_now : (b : Bool) → converts_now name me mode t ≡ b → stands_at name owner (converted name me mode value t) ≡ None
+    by_now true now = served_none (stands_at name owner t) (stands_at name owner (converted name me mode value t)) (converted_apart me owner far name name old mode value t is lock (λ p q. across q) now) none
+    by_now false now =
+        ap (λ (q : Resource). standing_of owner q.askers) (converted-at name me mode value t some)
+        ∙ ap (λ (b : Bool). standing_of owner (cond b (written (conversion_writes (mode_held me r) mode) value (regranted me mode r)) (queued_up me (mode_held me r) mode r)).askers) now
+        ∙ ap (option_map (λ (a : Asker). a.standing)) (find-push_no (λ (a : Asker). same_owner a.owner owner) (without me r.askers) (record { owner = me; standing = Converting (mode_held me r) mode }) far)
+        ∙ without-other me owner r.askers (not_mine me owner far) ∙ none
+
+pub opens_converted : (name : LockName) (n : ℕ) (old mode : Mode) (value : List ℕ) (t : List Resource) (having : Owner → Option Open) → IsTable t → ((f : ℕ) → name ≢ A f) → lock_of (system_of n) (resource_at name t).askers ≡ Some old → mode ≢ CW
+    → AreOpensLocked t having → AreOpensLocked (converted name (system_of n) mode value t) having
+opens_converted name n old mode value t having is far lock across opens other owner le = elim (name_or_not other name) [
+  | inl e ↦ subst (λ (x : LockName). stands_at x owner (converted name (system_of n) mode value t) ≡ open_stands x (having owner)) (sym e)
+      (converted_none (system_of n) owner (apart n owner le) name old mode value t is lock across (opens name owner le ∙ no_open name far (having owner)) ∙ sym (no_open name far (having owner)))
+  | inr ne ↦ ap (λ (r : Resource). standing_of owner r.askers) (converted-leaves name (system_of n) mode value t other ne) ∙ opens other owner le
+]
+
+granted_nl : (st : Standing) → settled_mode st ≡ Some NL → held st ≡ Some NL
+granted_nl st e = grind arith
+
+nl_lock : (name : LockName) (owner : Owner) (t : List Resource) → lock_of owner (resource_at name t).askers ≡ Some NL → has_lock name owner t ≡ true
+nl_lock name owner t e =
+    (elim (standing_of owner (resource_at name t).askers) as (λ o. option_and_then settled_mode o ≡ Some NL → is_some (option_and_then held o) ≡ true)
+    [ None ↦ λ g. cc | Some st ↦ λ g. rw (granted_nl st g) refl ]) e
+
+pub opens_taken : (name : LockName) (n : ℕ) (mode : Mode) (t : List Resource) (having : Owner → Option Open) → IsTable t → ((f : ℕ) → name ≢ A f) → MayTake name (system_of n) t → mode ≢ CW
+    → AreOpensLocked t having → AreOpensLocked (taken name (system_of n) mode t) having
+opens_taken name n mode t having is far (inl none) across opens =
+    subst (λ (b : Bool). AreOpensLocked (cond b (converted name (system_of n) mode (resource_at name t).value t) (asked name (system_of n) mode t)) having) (sym (no-lock name (system_of n) t none)) (opens_asked name n mode t having opens)
+opens_taken name n mode t having is far (inr lock) across opens =
+    subst (λ (b : Bool). AreOpensLocked (cond b (converted name (system_of n) mode (resource_at name t).value t) (asked name (system_of n) mode t)) having) (sym (nl_lock name (system_of n) t lock))
+    (opens_converted name n NL mode (resource_at name t).value t having is far lock across opens)
+
+-- each lock goes back with its own value block
+pub left_table : (n : ℕ) (ls : List (LockName × Mode)) (t : List Resource) → IsTable t → IsTable (left_alone n ls t)
+left_table n [] t is = is
+left_table n (l ∷ ls) t is = left_table n ls (released l.0 (system_of n) (resource_at l.0 t).value t) (IsTable-released l.0 (system_of n) (resource_at l.0 t).value t is)
+
+pub opens_left : (n : ℕ) (ls : List (LockName × Mode)) (t : List Resource) (having : Owner → Option Open) → IsTable t → AreOpensLocked t having → AreOpensLocked (left_alone n ls t) having
+opens_left n [] t having is opens = opens
+opens_left n (l ∷ ls) t having is opens =
+    let value : List ℕ = (resource_at l.0 t).value in
+    opens_left n ls (released l.0 (system_of n) value t) having (IsTable-released l.0 (system_of n) value t is) (opens_released l.0 n value t having is opens)
 
 pub given_table : (g : Geometry) (n : ℕ) (ws : List PlanWrite) (ls : List (LockName × Mode)) (t : List Resource) → IsTable t → IsTable (given_back g n ws ls t)
 given_table g n ws [] t is = is

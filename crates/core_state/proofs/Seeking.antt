@@ -28,7 +28,7 @@ use Rattle.node_space.proofs.Ways.{short_of}
 use Rattle.node_space.proofs.Looked.{places_lie, looked_grows}
 use Rattle.node_space.proofs.Apart.{writes_apart}
 use Rattle.node_space.proofs.Taken.{takes_all}
-use Rattle.core_state.specs.Searches.{rewrites, unwritten}
+use Rattle.core_state.specs.Stocks.{rewrites, unwritten}
 
 -- ---- blocks that stand
 
@@ -165,7 +165,7 @@ lbn_has (y ∷ ws) (suc k) w e = inr (lbn_has ws k w e)
 not_same : (a b : ℕ) → a ≢ b → (a == b) ≡ false
 not_same a b ne = grind (arith, nat_tests)
 
-once_at : (ws : List PlanWrite) (k : ℕ) (w : PlanWrite) → Once (map (λ w. w.lbn) ws) → slice_get ws k ≡ Some w → rewrites (take k ws) w.lbn ≡ false
+pub once_at : (ws : List PlanWrite) (k : ℕ) (w : PlanWrite) → Once (map (λ w. w.lbn) ws) → slice_get ws k ≡ Some w → rewrites (take k ws) w.lbn ≡ false
 once_at [] k w once e = absurd (let f : None ≡ Some w = e in cc)
 once_at (y ∷ ws) zero w once e = refl
 once_at (y ∷ ws) (suc k) w once e =
@@ -180,7 +180,7 @@ not_before g clusters number bs ws base own c k w e spelt at = once_at ws k w (w
 -- ---- how it begins and ends
 
 -- the need for space says that none of it is there
-space_wanted : (es : Events) (locks : List (LockName × Mode)) (blocks : List (ℕ × Block)) (space : Space) (k : ℕ) (b : Bool) → following es locks blocks space ≡ need.Space k b → has_space k b space ≡ false
+pub space_wanted : (es : Events) (locks : List (LockName × Mode)) (blocks : List (ℕ × Block)) (space : Space) (k : ℕ) (b : Bool) → following es locks blocks space ≡ need.Space k b → has_space k b space ≡ false
 space_wanted (Take name mode next) [] blocks space k b e = absurd (let f : need.Lock name mode ≡ need.Space k b = e in cc)
 space_wanted (Take name mode next) (l ∷ locks) blocks space k b e = space_wanted next locks blocks space k b e
 space_wanted (Look name lbn next) locks [] space k b e = absurd (let f : need.Block name lbn ≡ need.Space k b = e in cc)

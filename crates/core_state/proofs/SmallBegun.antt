@@ -24,7 +24,8 @@ use Rattle.plain_vol.specs.Replaying.{Leads, ReplaysFrom, Replays}
 use Rattle.node_past.specs.Laws.{is_of, has_line}
 use Rattle.node_past.proofs.Growing.{past_grows, own_grows}
 use Rattle.node_past.proofs.Strangers.{own_strangers}
-use Rattle.core_state.specs.Small.{is_idle, is_begun}
+use Rattle.core_state.specs.Small.{is_begun}
+use Rattle.core_state.specs.Fallen.{is_fall, falls}
 use Rattle.core_state.specs.Goods.{HasFewAnswers}
 use Rattle.core_state.proofs.Commands.{closes_one}
 
@@ -102,8 +103,19 @@ entries_of s n h own = let e = shown_all s n [] h own in let z : shown (past n [
 
 -- ---- each entry of a command is of a node that has a line
 
+-- no command was under way
+abbrev is_idle : Stage → Bool
+is_idle stage.Idle = true
+is_idle other = false
+
+-- an entry that ends a command
+abbrev is_command : Entry → Bool
+is_command (Done n x r) = true
+is_command (Died n stage clusters numbers) = not (is_idle stage)
+is_command (Mended m) = false
+
 abbrev HasLine : Script → Entry → Type 0
-HasLine s e = (is_begun e ≡ false) ⊎ (list_any (λ (l : Line). is_of l.node e) s.lines ≡ true)
+HasLine s e = (is_command e ≡ false) ⊎ (list_any (λ (l : Line). is_of l.node e) s.lines ≡ true)
 
 abbrev AllHaveLines : Script → List Entry → Type 0
 AllHaveLines s [] = Unit {0}
@@ -142,18 +154,18 @@ all_lines s h (e ∷ es) c d own next replays =
     (entry_line s h c replays.0 e own next.0 replays.1, all_lines s (h ++ e ∷ []) es replays.0 d (own_grows s h e own next.0) next.1 replays.2)
 
 -- so the entries of commands are among those of the nodes of all lines
-by_lines : (s : Script) (es : List Entry) → AllHaveLines s es → count_by is_begun es ≤ sum_by (λ (l : Line). count_by (is_of l.node) es) s.lines
+by_lines : (s : Script) (es : List Entry) → AllHaveLines s es → count_by is_command es ≤ sum_by (λ (l : Line). count_by (is_of l.node) es) s.lines
 by_lines s [] all = omega arith
 by_lines s (e ∷ es) all =
     let rest = by_lines s es all.1 in
-    let first : one (is_begun e) ≤ sum_by (λ (l : Line). one (is_of l.node e)) s.lines = by_line all.0 in
-    let a : count_by is_begun (e ∷ es) ≡ one (is_begun e) + count_by is_begun es = sum_by-cons (λ x. one (is_begun x)) e es in
+    let first : one (is_command e) ≤ sum_by (λ (l : Line). one (is_of l.node e)) s.lines = by_line all.0 in
+    let a : count_by is_command (e ∷ es) ≡ one (is_command e) + count_by is_command es = sum_by-cons (λ x. one (is_command x)) e es in
     let b : sum_by (λ (l : Line). count_by (is_of l.node) (e ∷ es)) s.lines ≡ sum_by (λ (l : Line). one (is_of l.node e)) s.lines + sum_by (λ (l : Line). count_by (is_of l.node) es) s.lines
     = sum_plus (λ (l : Line). one (is_of l.node e)) (λ (l : Line). count_by (is_of l.node) es) (λ (l : Line). count_by (is_of l.node) (e ∷ es)) (λ l. sum_by-cons (λ x. one (is_of l.node x)) e es) s.lines in
     omega arith where
-      by_line : HasLine s e → one (is_begun e) ≤ sum_by (λ (l : Line). one (is_of l.node e)) s.lines
-      by_line (inl none) = let z : one (is_begun e) ≡ 0 = ap one none in omega arith
-      by_line (inr some) = let le = any_counts (λ (l : Line). is_of l.node e) s.lines some in let m : one (is_begun e) ≤ 1 = at_most (is_begun e) in omega arith where
+      by_line : HasLine s e → one (is_command e) ≤ sum_by (λ (l : Line). one (is_of l.node e)) s.lines
+      by_line (inl none) = let z : one (is_command e) ≡ 0 = ap one none in omega arith
+      by_line (inr some) = let le = any_counts (λ (l : Line). is_of l.node e) s.lines some in let m : one (is_command e) ≤ 1 = at_most (is_command e) in omega arith where
         at_most : (b : Bool) → one b ≤ 1
         at_most true = omega arith
         at_most false = omega arith
@@ -235,12 +247,32 @@ few_go_on s n p x r eight next closes few = by_line (slice_get (lines_of n s.lin
 
 -- ---- the commands of a history
 
--- Where each node has no more answers than lines, and eight closes, a history of a script of 4,096 lines has few commands.
-pub few_begun : (s : Script) (h : List Entry) (c d : Cat) → Own s h → Replays c s h d → length s.lines ≤ 4096 → ((n : ℕ) → (past n h).answered ≤ length (lines_of n s.lines) + 8) → count_by is_begun h ≤ 4096 * 4105
+-- few of its entries end a command
+few_commands : (s : Script) (h : List Entry) (c d : Cat) → Own s h → Replays c s h d → length s.lines ≤ 4096 → ((n : ℕ) → (past n h).answered ≤ length (lines_of n s.lines) + 8) → count_by is_command h ≤ 4096 * 4105
 unfolding newborn
-few_begun s h c d own replays lines answers =
+few_commands s h c d own replays lines answers =
     let a = by_lines s h (all_lines s [] h c d tt own replays) in
     let b : sum_by (λ (l : Line). count_by (is_of l.node) h) s.lines ≤ length s.lines * 4105 = sum_at_most (λ (l : Line). count_by (is_of l.node) h) 4105 (λ l. each l.node) s.lines in
     omega arith where
       each : (n : ℕ) → count_by (is_of n) h ≤ 4105
       each n = let e = entries_of s n h own in let f = answers n in let g = few_lines n s.lines in omega arith
+
+-- an entry that ends a command is an answer, or else a death
+ends_one : (e : Entry) → one (is_begun e) ≤ one (is_command e) + one (is_fall e)
+ends_one (Done n x r) = omega arith
+ends_one (Died n stage clusters numbers) = omega arith
+ends_one (Mended m) = omega arith
+
+ends_all : (h : List Entry) → count_by is_begun h ≤ count_by is_command h + falls h
+ends_all [] = omega arith
+ends_all (e ∷ h) =
+    let rest = ends_all h in
+    let first = ends_one e in
+    let a : count_by is_begun (e ∷ h) ≡ one (is_begun e) + count_by is_begun h = sum_by-cons (λ x. one (is_begun x)) e h in
+    let b : count_by is_command (e ∷ h) ≡ one (is_command e) + count_by is_command h = sum_by-cons (λ x. one (is_command x)) e h in
+    let c : falls (e ∷ h) ≡ one (is_fall e) + falls h = sum_by-cons (λ x. one (is_fall x)) e h in
+    omega arith
+
+-- Where each node has no more answers than lines, and eight closes, a history of a script of 4,096 lines has few commands.
+pub few_begun : (s : Script) (h : List Entry) (c d : Cat) → Own s h → Replays c s h d → length s.lines ≤ 4096 → ((n : ℕ) → (past n h).answered ≤ length (lines_of n s.lines) + 8) → count_by is_begun h ≤ 4096 * 4105 + falls h
+few_begun s h c d own replays lines answers = let a = few_commands s h c d own replays lines answers in let b = ends_all h in omega arith

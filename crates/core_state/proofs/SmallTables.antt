@@ -1,6 +1,6 @@
 -- What the calls of the lock manager make of the sequences of value blocks: a request leaves each, and where locks go back no
 -- sequence is raised by more than two.
-use Rattle.std.proofs.Common.{◌≡◌, ◌≢◌, ◌≤◌, ◌<◌, ◌+◌, ◌-◌, ◌^◌, ℕ, Bool, true, false, List, [], ◌∷◌, Option, Some, None, cond, IsSome, refl, sym, ap, subst, ◌∙◌, inl, inr, arith}
+use Rattle.std.proofs.Common.{◌≡◌, ◌≢◌, ◌≤◌, ◌<◌, ◌+◌, ◌^◌, ℕ, Bool, true, false, List, [], ◌∷◌, Option, Some, None, cond, IsSome, refl, sym, ap, subst, ◌∙◌, inl, inr, arith}
 use Rattle.std.specs.Prelude.{◌⊎◌, replicate, MatchBool}
 use Rattle.std.specs.List.{list_any}
 use Rattle.plain_cat.specs.declared.mode.Mode.{Mode}
@@ -9,7 +9,7 @@ use Rattle.plain_cat.specs.declared.command.Cmd.TheVariants as cmd
 use Rattle.plain_cat.specs.declared.reply.Reply.{Reply}
 use Rattle.plain_vol.specs.Own.{is_closed}
 use Rattle.lock_db.specs.declared.name.LockName.{LockName}
-use Rattle.lock_db.specs.declared.name.LockName.TheVariants.{A}
+use Rattle.lock_db.specs.declared.name.LockName.TheVariants.{A, V}
 use Rattle.lock_db.specs.declared.name.Owner.{Owner}
 use Rattle.lock_db.specs.declared.resource.Resource.{Resource}
 use Rattle.lock_db.specs.Names.{is_same}
@@ -46,15 +46,26 @@ raised_little valid by sequence le = let r = rise_little valid by le in omega ar
 raised_fits : (valid : Bool) (by sequence : ℕ) → raised valid by sequence < 2 ^ 64
 raised_fits valid by sequence = omega arith
 
+-- and by one at most
+raised_once : (valid : Bool) (by sequence : ℕ) → by ≤ 1 → raised valid by sequence ≤ sequence + 1
+raised_once true by sequence le = omega arith
+raised_once false by sequence le = omega arith
+
+-- a raise of each sequence by one at most
+pub record IsRaiseByOne (raise : Raise) : Type 0 where
+  pub first : raise.first ≤ 1
+  pub second : raise.second ≤ 1
+
 -- a raise of each sequence by two at most
 pub record IsSmallRaise (raise : Raise) : Type 0 where
   pub first : raise.first ≤ 2
   pub second : raise.second ≤ 2
 
--- one of the two sequences of a value block: in zeros it is zero, and raised by two at most it grows by two at most
+-- one of the two sequences of a value block: in zeros it is zero, and raised by two or by one at most it grows by that at most
 pub record IsSequence (seq : List ℕ → ℕ) : Type 0 where
   pub zeros : seq (replicate 16 0) ≡ 0
   pub little : (raise : Raise) (r : Resource) → IsSmallRaise raise → seq (raised_block raise r) ≤ seq r.value + 2
+  pub by_one : (raise : Raise) (r : Resource) → IsRaiseByOne raise → seq (raised_block raise r) ≤ seq r.value + 1
 
 pub is_first : IsSequence first_sequence
 unfolding first_sequence
@@ -63,6 +74,9 @@ is_first = record {
   little = λ raise r small.
       let e = (sequences_read_back (raised r.valid raise.first (first_sequence r.value)) (raised r.valid raise.second (second_sequence r.value)) (raised_fits r.valid raise.first (first_sequence r.value)) (raised_fits r.valid raise.second (second_sequence r.value))).first_is in
       subst (λ (k : ℕ). k ≤ first_sequence r.value + 2) (sym e) (raised_little r.valid raise.first (first_sequence r.value) small.first);
+  by_one = λ raise r once.
+      let e = (sequences_read_back (raised r.valid raise.first (first_sequence r.value)) (raised r.valid raise.second (second_sequence r.value)) (raised_fits r.valid raise.first (first_sequence r.value)) (raised_fits r.valid raise.second (second_sequence r.value))).first_is in
+      subst (λ (k : ℕ). k ≤ first_sequence r.value + 1) (sym e) (raised_once r.valid raise.first (first_sequence r.value) once.first);
 }
 
 pub is_second : IsSequence second_sequence
@@ -72,6 +86,9 @@ is_second = record {
   little = λ raise r small.
       let e = (sequences_read_back (raised r.valid raise.first (first_sequence r.value)) (raised r.valid raise.second (second_sequence r.value)) (raised_fits r.valid raise.first (first_sequence r.value)) (raised_fits r.valid raise.second (second_sequence r.value))).second_is in
       subst (λ (k : ℕ). k ≤ second_sequence r.value + 2) (sym e) (raised_little r.valid raise.second (second_sequence r.value) small.second);
+  by_one = λ raise r once.
+      let e = (sequences_read_back (raised r.valid raise.first (first_sequence r.value)) (raised r.valid raise.second (second_sequence r.value)) (raised_fits r.valid raise.first (first_sequence r.value)) (raised_fits r.valid raise.second (second_sequence r.value))).second_is in
+      subst (λ (k : ℕ). k ≤ second_sequence r.value + 1) (sym e) (raised_once r.valid raise.second (second_sequence r.value) once.second);
 }
 
 -- what a command has written raises each by two at most
@@ -84,6 +101,23 @@ little_raise : (g : Geometry) (name : LockName) (ws : List PlanWrite) → IsSmal
 little_raise g name ws = record {
   first = raise_little (list_any (frees g name) ws) (list_any (writes_first g name) ws);
   second = raise_little (list_any (frees g name) ws) (list_any (writes_second g name) ws);
+}
+
+-- what is written under V frees no slot
+none_freed : (g : Geometry) (ws : List PlanWrite) → list_any (frees g V) ws ≡ false
+none_freed g [] = refl
+none_freed g (w ∷ ws) = none_freed g ws
+
+once_by : (freed wrote : Bool) → freed ≡ false → raise_by freed wrote ≤ 1
+once_by true wrote e = absurd (let f : true ≡ false = e in cc)
+once_by false true e = omega arith
+once_by false false e = omega arith
+
+-- so it raises each sequence of V by one at most
+by_one_raise : (g : Geometry) (ws : List PlanWrite) → IsRaiseByOne (raise_of g V ws)
+by_one_raise g ws = record {
+  first = once_by (list_any (frees g V) ws) (list_any (writes_first g V) ws) (none_freed g ws);
+  second = once_by (list_any (frees g V) ws) (list_any (writes_second g V) ws) (none_freed g ws);
 }
 
 -- two names are one or not
@@ -111,7 +145,7 @@ module _ (seq : List ℕ → ℕ) (is : IsSequence seq) where
   by_kept true old new h = ap seq h.bytes_are
   by_kept false old new h = ap seq h.bytes
 
-  converted_same : (name other : LockName) (owner : Owner) (mode : Mode) (t : List Resource) → IsSome (lock_of owner (resource_at name t).askers) → at other (converted name owner mode (resource_at name t).value t) ≡ at other t
+  pub converted_same : (name other : LockName) (owner : Owner) (mode : Mode) (t : List Resource) → IsSome (lock_of owner (resource_at name t).askers) → at other (converted name owner mode (resource_at name t).value t) ≡ at other t
   converted_same name other owner mode t some = elim (same_name other name) [
     | inl e ↦ subst (λ (x : LockName). at x (converted name owner mode (resource_at name t).value t) ≡ at x t) (sym e)
         (by_kept (conversion_writes (mode_held owner (resource_at name t)) mode) (resource_at name t) (resource_at name (converted name owner mode (resource_at name t).value t)) (conversions-write name owner mode (resource_at name t).value t some))
@@ -164,6 +198,37 @@ module _ (seq : List ℕ → ℕ) (is : IsSequence seq) where
     by_reply true = let_go_little n chan had other t
     by_reply false = omega arith
   closed_off_little n had y r other t = omega arith
+
+  -- one with its own value block raises nothing
+  by_own : (some writes : Bool) (old new : Resource) → MatchBool some (MatchBool writes (BlockIs old.value true new) (BlockStays old new)) (BlockIs (replicate 16 0) true new) → seq new.value ≤ seq old.value + 0
+  by_own true true old new h = let e : seq new.value ≡ seq old.value = ap seq h.bytes_are in omega arith
+  by_own true false old new h = let e : seq new.value ≡ seq old.value = ap seq h.bytes in omega arith
+  by_own false writes old new h = let e : seq new.value ≡ 0 = ap seq h.bytes_are ∙ is.zeros in omega arith
+
+  pub released_own : (name other : LockName) (owner : Owner) (t : List Resource) → at other (released name owner (resource_at name t).value t) ≤ at other t + 0
+  released_own name other owner t = elim (same_name other name) [
+    | inl e ↦ subst (λ (x : LockName). at x (released name owner (resource_at name t).value t) ≤ at x t + 0) (sym e)
+        (by_own (somebody (without owner (resource_at name t).askers)) (is_writing (mode_held owner (resource_at name t))) (resource_at name t) (resource_at name (released name owner (resource_at name t).value t)) (releases-write name owner (resource_at name t).value t))
+    | inr ne ↦ let e : at other (released name owner (resource_at name t).value t) ≡ at other t = released_else name other owner (resource_at name t).value t ne in omega arith
+  ]
+
+  -- ---- a lock that is lowered
+
+  by_raised : (writes : Bool) (value : List ℕ) (old new : Resource) → MatchBool writes (BlockIs value true new) (BlockStays old new) → seq value ≤ seq old.value + 1 → seq new.value ≤ seq old.value + 1
+  by_raised true value old new h le = subst (λ (v : List ℕ). seq v ≤ seq old.value + 1) (sym h.bytes_are) le
+  by_raised false value old new h le = let e : seq new.value ≡ seq old.value = ap seq h.bytes in omega arith
+
+  -- V is lowered
+  pub lowered_once : (g : Geometry) (ws : List PlanWrite) (other : LockName) (owner : Owner) (mode : Mode) (t : List Resource) → IsSome (lock_of owner (resource_at V t).askers)
+      → at other (converted V owner mode (raised_block (raise_of g V ws) (resource_at V t)) t) ≤ at other t + 1
+  lowered_once g ws other owner mode t some = elim (same_name other V) [
+    | inl e ↦ subst (λ (x : LockName). at x (converted V owner mode value_v t) ≤ at x t + 1) (sym e)
+        (by_raised (conversion_writes (mode_held owner (resource_at V t)) mode) value_v (resource_at V t) (resource_at V (converted V owner mode value_v t)) (conversions-write V owner mode value_v t some)
+        (is.by_one (raise_of g V ws) (resource_at V t) (by_one_raise g ws)))
+    | inr ne ↦ let e : at other (converted V owner mode value_v t) ≡ at other t = ap (λ (r : Resource). seq r.value) (converted-leaves V owner mode value_v t other ne) in omega arith
+  ] where
+    value_v : List ℕ
+    value_v = raised_block (raise_of g V ws) (resource_at V t)
 
   -- ---- locks that go back one after the other
 

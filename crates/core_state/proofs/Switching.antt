@@ -1,5 +1,5 @@
 -- What the owners of locks have open while commands are under way, and after an answer.
-use Rattle.std.proofs.Common.{◌≡◌, ◌≢◌, ◌≤◌, ◌<◌, ◌+◌, ◌-◌, ◌*◌, ◌==◌, ◌⊎◌, ℕ, Bool, true, false, cond, List, [], ◌∷◌, Option, Some, None, length, slice_get, slice_set, refl, sym, ap, subst, ◌∙◌, inl, inr, arith}
+use Rattle.std.proofs.Common.{◌≡◌, ◌≢◌, ◌≤◌, ◌<◌, ◌==◌, ◌⊎◌, ℕ, Bool, true, false, cond, List, Option, Some, None, length, slice_get, slice_set, refl, sym, ap, subst, ◌∙◌, inl, inr, arith}
 use Rattle.std.proofs.lemmas.Bool.{and_parts}
 use Rattle.std.proofs.lemmas.Bool.Decides.{nat_tests}
 use Rattle.lock_db.specs.declared.name.Owner.{Owner}
@@ -7,7 +7,6 @@ use Rattle.lock_db.specs.declared.resource.Resource.{Resource}
 use Rattle.lock_db.specs.Names.{same_owner}
 use Rattle.lock_db.specs.Tables.{IsTable}
 use Rattle.lock_db.proofs.Owners.{same_owner-refl, same_owner-same}
-use Rattle.lock_db.proofs.Lists.{and-both}
 use Rattle.plain_cat.specs.InForm.{is_eighth}
 use Rattle.plain_cat.specs.declared.command.Cmd.{Cmd}
 use Rattle.plain_cat.specs.declared.command.Cmd.TheVariants as cmd
@@ -19,7 +18,6 @@ use Rattle.plain_vol.specs.Own.{is_opened, is_closed}
 use Rattle.plain_opens.specs.Moves.{switched_by, opens_after}
 use Rattle.plain_opens.proofs.Moving.{kept_reply}
 use Rattle.plain_opens.proofs.Having.{same_place}
-use Rattle.node_locks.specs.Held.{system_of}
 use Rattle.vol_owners.proofs.Listing.{same_or_not}
 use Rattle.vol_owners.proofs.Writing.{get-set_here, get-set_else}
 use Rattle.op_law.specs.declared.need.Ask.{Ask}
@@ -33,7 +31,7 @@ use Rattle.core_state.specs.Channels.{names_in_form, channel_seen, let_go, close
 use Rattle.core_state.proofs.Nodes.{at_here, at_else}
 use Rattle.core_state.proofs.Opens.{apart, opens_same, opens_let_go, HasNoOther}
 use Rattle.core_state.proofs.Channels.{IsOpenAt, open_at, channel_from, IsNodeNumber}
-use Rattle.core_state.proofs.Ends.{HasOpened, HasClosed, EndsSo, Opened, Closed, Refused, NoSwitch}
+use Rattle.core_state.proofs.Ends.{EndsSo, Opened, Closed, Refused, NoSwitch}
 
 -- ---- a node that changes
 

@@ -91,7 +91,7 @@ module _ (g : Geometry) (c : Cat) (nodes : ℕ → UnderWay) (drive : List Block
 
 -- ---- a write of a search
 
-changed_twice : (nodes : ℕ → UnderWay) (n : ℕ) (a b : UnderWay) (m : ℕ) → changed (changed nodes n a) n b m ≡ changed nodes n b m
+pub changed_twice : (nodes : ℕ → UnderWay) (n : ℕ) (a b : UnderWay) (m : ℕ) → changed (changed nodes n a) n b m ≡ changed nodes n b m
 changed_twice nodes n a b m = elim (same_or_not m n) [
   | inl e ↦ ap (changed (changed nodes n a) n b) e ∙ changed_here (changed nodes n a) n b ∙ sym (ap (changed nodes n b) e ∙ changed_here nodes n b)
   | inr ne ↦ changed_else (changed nodes n a) n b m ne ∙ changed_else nodes n a m ne ∙ sym (changed_else nodes n b m ne)

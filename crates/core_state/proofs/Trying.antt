@@ -4,7 +4,7 @@ use Rattle.std.proofs.Common.{◌≡◌, ◌≢◌, ◌≤◌, ◌&&◌, ◌⊎�
 use Rattle.std.proofs.lemmas.Bool.{and_parts}
 use Rattle.std.proofs.lemmas.Bool.Decides.{nat_tests}
 use Rattle.lock_db.specs.declared.name.LockName.{LockName}
-use Rattle.lock_db.specs.declared.name.LockName.TheVariants.{S, A}
+use Rattle.lock_db.specs.declared.name.LockName.TheVariants.{S, A, X, V}
 use Rattle.lock_db.specs.declared.name.Owner.{Owner}
 use Rattle.lock_db.specs.declared.askers.Standing.TheVariants.{Granted}
 use Rattle.lock_db.specs.declared.resource.Resource.{Resource}
@@ -18,15 +18,15 @@ use Rattle.vol_words.specs.Fields.{Block}
 use Rattle.plain_cat.specs.Modes.{rank}
 use Rattle.plain_cat.specs.InForm.{is_eighth}
 use Rattle.plain_cat.specs.declared.mode.Mode.{Mode}
-use Rattle.plain_cat.specs.declared.mode.Mode.TheVariants.{CW, PR, PW, EX}
+use Rattle.plain_cat.specs.declared.mode.Mode.TheVariants.{CR, CW, PR, PW, EX}
 use Rattle.plain_cat.specs.declared.command.Cmd.{Cmd}
 use Rattle.plain_cat.specs.declared.command.Cmd.TheVariants as cmd
 use Rattle.plain_cat.specs.declared.cat.Cat.{Cat}
 use Rattle.plain_cat.specs.declared.cat.Open.{Open}
 use Rattle.plain_vol.specs.Lookups.{channel_at}
-use Rattle.node_locks.specs.Held.{system_of, Row, joined, names_of, HoldsItsLocks, AreHeld, waits_at}
+use Rattle.node_locks.specs.Held.{system_of, Row, joined, names_of, HoldsItsLocks, AreHeld, waits_at, all_held, without, with_rows}
 use Rattle.node_locks.specs.HeldLaws.{StandsStill, GoesOn as RowGoesOn}
-use Rattle.node_locks.specs.Taking.{has_lock, taken}
+use Rattle.node_locks.specs.Taking.{has_lock, taken, taken_now}
 use Rattle.node_locks.specs.Channels.{AllStill}
 use Rattle.node_locks.proofs.Channels.{channels_ask, channels_convert}
 use Rattle.node_locks.proofs.Keeping.{held_are_granted, rows_stand_still}
@@ -46,24 +46,28 @@ use Rattle.op_law.specs.Knows.{channel_of, asking_part, has_channel, knows, is_g
 use Rattle.op_law.specs.Laws.{held_in, planned, under_way, IsAsk, IsPlan}
 use Rattle.core_state.specs.Worlds.{NodeState, Plain, node_at, set_node, rows_of, rows_in, rows_at}
 use Rattle.core_state.specs.Asks.{writes_by, writes_now, granted_by, granted_ask, asker_of, own_of, own_ask, lock_of_ask, with_ask, known_with, knows_now}
-use Rattle.core_state.specs.Opens.{is_channel, open_of, open_asked, open_with, asked_in, asked_at, open_now, open_stands}
+use Rattle.core_state.specs.Opens.{is_channel, open_of, open_asked, open_with, asked_in, asked_at, open_now, open_stands, AreOpensLocked}
+use Rattle.core_state.specs.Stores.{AreKept}
 use Rattle.core_state.specs.Channels.{names_in_form, channel_seen, channel_now, HasOpens}
-use Rattle.core_state.specs.Searches.{unwritten, stock_after, Spaces}
+use Rattle.core_state.specs.Stocks.{stock_now, looked_now}
 use Rattle.core_state.specs.Goods.{under_with, nodes_under, IsAtPlan, IsAt, HasCommand, Good, held_by}
 use Rattle.core_state.specs.Events.{turned, asking, would_go, asked_by, by_end, happens}
 use Rattle.core_state.proofs.Nodes.{at_here, at_else, all_set}
-use Rattle.core_state.proofs.Holding.{held_grows}
-use Rattle.core_state.proofs.Opens.{IsPart, OthersStand, granted_goes, goes_exactly, asks_new, asks_up, HasNoOther, Taken, takes_new, takes_up, locked, no_lock, has_its, stands_there, none_elsewhere}
+use Rattle.core_state.proofs.Holding.{held_grows, strong_grows}
+use Rattle.core_state.proofs.Naming.{named_by, without_none}
+use Rattle.core_state.proofs.Opens.{opens_asked, IsPart, OthersStand, granted_goes, goes_exactly, asks_new, asks_up, HasNoOther, Taken, takes_new, takes_up, locked, no_lock, has_its, stands_there, none_elsewhere}
 use Rattle.core_state.proofs.Channels.{closed_at, open_at, channel_from, channel_known, IsNodeNumber}
 use Rattle.core_state.proofs.Ends.{HasShape, shape, AsksAs, EndsSo, ends_whole, ends_refused, AsksToOpen, AsksToClose, asks_by_channel}
 use Rattle.core_state.proofs.Switching.{AsksAlike, own_with, with_else, with_here, channel_test, far_part}
 use Rattle.core_state.proofs.Driving.{law_grows}
 use Rattle.core_state.proofs.Running.{all_asked, at_locks, under_here, under_now}
 use Rattle.core_state.proofs.Taking.{replans_wider}
-use Rattle.core_state.proofs.SmallWorlds.{small_taken}
-use Rattle.core_state.proofs.Keeping.{altered, still_searches, IsDriven, rebuilt, held_same, asked_alone, asked_among}
-use Rattle.core_state.proofs.Standing.{locks_within, IsAskOf, asks_open, ask_seen, asked_last}
-use Rattle.core_state.proofs.Turning.{my_sole, under_command, here, drive, back, known, is_node, writes_more, made_of, asks_wait, kept_rests, asked_then, taken_first, within_first}
+use Rattle.core_state.proofs.SmallWorlds.{owes_so, small_taken, lock_there as system_lock}
+use Rattle.core_state.proofs.Keeping.{altered, still_driven, IsDriven, rebuilt, held_set, held_same, row_of_name, kept_named}
+use Rattle.core_state.proofs.Rows.{IsAskedLast, asks_last}
+use Rattle.core_state.proofs.Beginning.{stays_stocked}
+use Rattle.core_state.proofs.Standing.{locks_within, IsAskOf, asks_open, asked_last, claims_are}
+use Rattle.core_state.proofs.Turning.{my_sole, under_command, here, drive, back, known, is_node, writes_more, made_of, space_now, stocked_now, goes_still as row_goes, taken_first, within_first}
 use Rattle.core_state.proofs.Answering.{node_number, answers_keep}
 
 both : (a b : Bool) → a ≡ true → b ≡ true → (a && b) ≡ true
@@ -154,7 +158,7 @@ module _ (w : Plain) (good : Good w) where
         let whole : IsPlan m y q.seen by.by by.by.ask = now.lawful.plans m q.seen by.by now.seen made.0 in
         let law : IsAsk y q.seen by.by b = (law_of m y q.seen by.by b whole by.ask).0 in
         let more : Has (held_in PW (held_by w.locks m q)) (S b.file)
-        = held_grows PW q.seen.locks (held_by w.locks m q) (S b.file) (λ l h. all_asked w.locks m q l made.1 (locks_within w.locks m y (own_ask q.tried q.plan) q.asked q.run q.seen now.search l h)) law.held in
+        = held_grows PW q.seen.locks (held_by w.locks m q) (S b.file) (λ l h. all_asked w.locks m q l made.1 (locks_within (own_ask q.tried q.plan) q.asked q.seen now.same l h)) law.held in
         let is : under_with w.locks m q (Some y) ≡ nodes_under w.locks w.nodes m = ap (under_with w.locks m q) (sym cmd) ∙ sym (under_here w.locks w.nodes m q at) in
         record {
           cmd = y;
@@ -281,11 +285,26 @@ module _ (w : Plain) (good : Good w) (n : ℕ) (s : NodeState) (at : node_at w.n
 
     by_cmd : (q : NodeState) → node_at w.nodes m ≡ Some q → Has (names_of q.asked) (A a.file) → (o : Option Cmd) → q.cmd ≡ o → HasCommand w m q o → ⊥
     by_cmd q e h None c i = absurd (subst (λ (ls : List (LockName × Mode)). Has (names_of ls) (A a.file)) i.asked h)
-    by_cmd q e h (Some y) c i = by_own q e (asks_open w.locks m y (own_ask q.tried q.plan) q.asked q.run q.seen i.search i.own a.file h)
+    by_cmd q e h (Some y) c i = by_own q e (asks_open y (own_ask q.tried q.plan) q.asked q.seen i.same i.own a.file h)
 
     by_node : (o : Option NodeState) → node_at w.nodes m ≡ o → Has (names_of (joined (rows_in o))) (A a.file) → ⊥
     by_node None e h = absurd h
-    by_node (Some q) e h = by_cmd q e (asked_alone q (good.nodes m q e).store (A a.file) h) q.cmd refl (good.nodes m q e).command
+    by_node (Some q) e h = elim (row_of_name q (A a.file) h) [
+      | inl k ↦ not_kept q (good.nodes m q e).store.kept k
+      | inr k ↦ elim k [
+        | inl i ↦ by_cmd q e i q.cmd refl (good.nodes m q e).command
+        | inr i ↦ not_claimed q e i
+      ]
+    ] where
+      not_kept : (q : NodeState) → AreKept q.run.phase q.kept → Has (names_of q.kept) (A a.file) → ⊥
+      not_kept q keeps k =
+          let l = named_by q.kept (A a.file) k in
+          elim (keeps (A a.file, l.0) l.1) [ inl f ↦ absurd (let z : A a.file ≡ V = ap (λ (y : LockName × Mode). y.0) f in cc) | inr f ↦ absurd (let z : A a.file ≡ X = f.0 in cc) ]
+
+      not_claimed : (q : NodeState) → node_at w.nodes m ≡ Some q → Has (names_of q.claims) (A a.file) → ⊥
+      not_claimed q e k =
+          let l = named_by q.claims (A a.file) k in
+          elim (claims_are q.cmd q.kept q.claims q.run q.stock q.seen (good.nodes m q e).space (A a.file, l.0) l.1) [ inl f ↦ absurd (let z : A a.file ≡ X = f in cc) | inr f ↦ absurd (let z : A a.file ≡ V = f in cc) ]
 
   pub nobody_asks : s.tried ≡ false → (m : ℕ) → stands_at (A a.file) (system_of m) w.locks ≡ None
   nobody_asks not_yet m = let h : HoldsItsLocks w.locks m (rows_at w.nodes m) = good.locked.1 m in h.no_other (A a.file) (rows_free m (inr not_yet))
@@ -386,7 +405,7 @@ module _ (w : Plain) (good : Good w) (n : ℕ) (s : NodeState) (at : node_at w.n
     by_system : a.chan ≡ 0 → stands_at (A a.file) me w.locks ≡ Some (Granted a.mode)
     by_system z =
         let is : own_ask s.tried s.plan ≡ Some a = ap own_of granted ∙ own_here a z in
-        let has : Has s.asked (lock_of_ask a) = asked_last w.locks n x (own_ask s.tried s.plan) s.asked s.run s.seen now.search a is in
+        let has : Has s.asked (lock_of_ask a) = asked_last (own_ask s.tried s.plan) s.asked s.seen now.same a is in
         let h : HoldsItsLocks w.locks n (rows_of s) = subst (λ (rs : List Row). HoldsItsLocks w.locks n rs) (ap rows_in at) (good.locked.1 n) in
         ap (λ k. stands_at (A a.file) (record { node = n; part = k }) w.locks) z ∙ (held_are_granted w.locks n (lock_of_ask a) (rows_of s) h).0 (all_asked w.locks n s (lock_of_ask a) free has)
 
@@ -401,7 +420,7 @@ module _ (w : Plain) (good : Good w) (n : ℕ) (s : NodeState) (at : node_at w.n
   know c = knows n x s.seen c && is_granted n a c
 
   abbrev left : List (ℕ × Block)
-  left = unwritten (take s.run.made s.run.writes) s.run.looked
+  left = looked_now s.run
 
   -- the writes so far are the first of all
   first_writes : s.tried ≡ false → writes_now s.tried s.plan ≡ take a.at p.writes
@@ -431,22 +450,19 @@ module _ (w : Plain) (good : Good w) (n : ℕ) (s : NodeState) (at : node_at w.n
   no_own_yet : s.tried ≡ false → own_ask s.tried s.plan ≡ None
   no_own_yet not_yet = (λ i. own_ask (not_yet i) (plan i))
 
-  search_stands : s.tried ≡ false → Spaces w.locks n x None s.asked s.run s.seen
-  search_stands not_yet = subst (λ (o : Option PlanAsk). Spaces w.locks n x o s.asked s.run s.seen) (no_own_yet not_yet) now.search
-
   -- the drive with the whole plan, whatever more the node holds then
   module _ (t : List Resource) (more_asked : List (LockName × Mode)) where
     abbrev r : NodeState
     r = turned (record s { asked = more_asked; tried = true })
 
-    wider_drive : s.tried ≡ false → is_granted n a cat ≡ true → ((l : LockName × Mode) → Has (held_by w.locks n s) l → Has (held_by t n r) l)
+    wider_drive : s.tried ≡ false → is_granted n a cat ≡ true → ((l : LockName × Mode) → rank CR ≤ rank l.1 → Has (held_by w.locks n s) l → Has (held_by t n r) l)
         → IsUnder w.geometry cat (changed (nodes_under w.locks w.nodes) n (under_with t n r r.cmd)) w.blocks
     wider_drive not_yet granted grows =
         let u : UnderWay = at_locks n s x (held_by w.locks n s) in
         let ls : Row = held_by t n r in
-        let stock = stock_after s.run.writes s.run.made in
+        let stock = stock_now s.stock s.run in
         let v = replans_wider s.seen.geometry cat (nodes_under w.locks w.nodes) w.blocks n u (here w good n s at x cmd free) (drive w good n s at x cmd free) know (map planned p.writes) (held_in PR ls) (held_in PW ls)
-        (λ name h. held_grows PR (held_by w.locks n s) ls name grows h) (λ name h. held_grows PW (held_by w.locks n s) ls name grows h)
+        (λ name h. strong_grows PR (held_by w.locks n s) ls name (omega arith) grows h) (λ name h. strong_grows PW (held_by w.locks n s) ls name (omega arith) grows h)
         (taken_first s.done a.at p.writes (first_part not_yet) ∙ ap (λ (ws : List PlanWrite). take s.done (map planned ws)) (sym (first_writes not_yet)))
         (within_first s.done a.at p.writes (first_part not_yet))
         (law_grows s.seen.geometry n (under_way x s.seen p.writes know) (held_in PR (held_by w.locks n s)) (held_in PW (held_by w.locks n s)) left s.done stock (writes_more w good n s at x cmd free) law.1.lawful)
@@ -459,33 +475,79 @@ module _ (w : Plain) (good : Good w) (n : ℕ) (s : NodeState) (at : node_at w.n
 
   -- ---- by the file system: its lock is the last of the command's
 
-  not_mine : s.tried ≡ false → Has (names_of s.asked) (A a.file) → ⊥
-  not_mine not_yet h = rows_free n (inr not_yet) (subst (λ (rs : List Row). Has (names_of (joined rs)) (A a.file)) (sym (ap rows_in at)) (asked_among s (good.nodes n s at).store (A a.file) h))
+  not_mine : s.tried ≡ false → Has (names_of (joined (rows_of s))) (A a.file) → ⊥
+  not_mine not_yet h = rows_free n (inr not_yet) (subst (λ (rs : List Row). Has (names_of (joined rs)) (A a.file)) (sym (ap rows_in at)) h)
+
+  -- with it its locks are those of its command, and that of its ask
+  asked_so : s.tried ≡ false → s.asked ≡ s.seen.locks
+  asked_so not_yet = now.same ∙ ap (with_ask s.seen.locks) (no_own_yet not_yet)
 
   system_keeps : s.tried ≡ false → a.chan ≡ 0 → would_go w.locks n a ≡ true → Good (altered w (taken (A a.file) me a.mode w.locks) w.blocks (set_node w.nodes n (turned (asking s a))) w.history)
-  system_keeps not_yet zero_chan goes =
-      let t : List Resource = asked (A a.file) (system_of n) a.mode w.locks in
-      let more : List (LockName × Mode) = s.asked ++ lock_of_ask a ∷ [] in
-      let q : NodeState = turned (record s { asked = more; tried = true }) in
-      let new : Has (names_of s.asked) (A a.file) → ⊥ = not_mine not_yet in
-      let none : stands_at (A a.file) (system_of n) w.locks ≡ None = nobody_asks not_yet n in
-      let no : has_lock (A a.file) (system_of n) w.locks ≡ false = no_lock (system_of n) (resource_at (A a.file) w.locks).askers none in
-      let me_is : me ≡ system_of n = λ i. record { node = n; part = zero_chan i } in
-      let table : taken (A a.file) me a.mode w.locks ≡ t = ap (λ o. taken (A a.file) o a.mode w.locks) me_is
-      ∙ ap (λ b. cond b (converted (A a.file) (system_of n) a.mode (resource_at (A a.file) w.locks).value w.locks) (asked (A a.file) (system_of n) a.mode w.locks)) no in
-      let go_now : goes_at_once (system_of n) a.mode (resource_at (A a.file) w.locks).askers ≡ true = ap (λ o. goes_at_once o a.mode (resource_at (A a.file) w.locks).askers) (sym me_is) ∙ goes_as_request not_yet ∙ goes in
-      let node_is : turned (asking s a) ≡ q = ap (λ o. turned (record s { asked = with_ask s.asked o; tried = true })) (own_here a zero_chan) in
-      let own_then : own_ask true s.plan ≡ Some a = ap own_of granted_then ∙ own_here a zero_chan in
-      let alike : AsksAlike (granted_ask s.tried s.plan) (granted_ask true s.plan)
-      = λ k o low. ap (λ y. open_with k y o) granted_then ∙ own_with a k o zero_chan low ∙ sym (λ i. open_with k (granted_ask (not_yet i) (plan i)) o) in
-      let all : Good (altered w t w.blocks (set_node w.nodes n q) w.history)
-      = asked_then w good n s at x cmd free (A a.file) a.mode new q alike refl refl refl (wider_drive t more not_yet (sym (asks_exactly not_yet) ∙ goes))
-      (λ grows. is_node w good n s at x cmd free t w.blocks q refl refl refl refl (kept_rests w good n s at x cmd free (A a.file) a.mode new) now.seen now.own
-      (subst (IsAtPlan x (waits_at t n q.asked) s.seen s.done true) (sym plan) (made.0, asks_wait w good n s at x cmd free (A a.file) a.mode new ∙ ap not go_now, all_made not_yet))
-      (subst (λ (o : Option PlanAsk). Spaces t n x o q.asked s.run s.seen) (sym own_then) (ask_seen w.locks t n x s.asked s.run s.seen a grows (search_stands not_yet)))
-      (λ e. absurd (let g : true ≡ false = sym e ∙ asks_wait w good n s at x cmd free (A a.file) a.mode new ∙ ap not go_now in cc))) in
-      subst (λ (u : List Resource). Good (altered w u w.blocks (set_node w.nodes n (turned (asking s a))) w.history)) (sym table)
-      (subst (λ (y : NodeState). Good (altered w t w.blocks (set_node w.nodes n y) w.history)) (sym node_is) all)
+  system_keeps not_yet zero_chan goes = subst (λ (u : List Resource). Good (altered w u w.blocks (set_node w.nodes n (turned (asking s a))) w.history)) (sym table)
+      (subst (λ (y : NodeState). Good (altered w t w.blocks (set_node w.nodes n y) w.history)) (sym node_is) all) where
+        t : List Resource
+        t = taken (A a.file) (system_of n) a.mode w.locks
+
+        more : List (LockName × Mode)
+        more = s.asked ++ lock_of_ask a ∷ []
+
+        q : NodeState
+        q = turned (record s { asked = more; tried = true })
+
+        new : Has (names_of (joined (rows_of s))) (A a.file) → ⊥
+        new = not_mine not_yet
+
+        bare : without (A a.file) s.kept ≡ s.kept
+        bare = without_none s.kept (A a.file) (λ h. new (kept_named s (A a.file) h))
+
+        it : IsAskedLast w.locks n (A a.file) a.mode (rows_at w.nodes) s.kept s.asked s.claims good.locked.0 good.locked.1 (ap rows_in at) (good.nodes n s at).rests (inl new)
+        it = asks_last w.locks n (A a.file) a.mode (rows_at w.nodes) s.kept s.asked s.claims good.locked.0 good.locked.1 (ap rows_in at) (good.nodes n s at).rests (inl new) free
+
+        me_is : me ≡ system_of n
+        me_is = λ i. record { node = n; part = zero_chan i }
+
+        table : taken (A a.file) me a.mode w.locks ≡ t
+        table = ap (λ o. taken (A a.file) o a.mode w.locks) me_is
+
+        asks_it : t ≡ asked (A a.file) (system_of n) a.mode w.locks
+        asks_it = ap (λ b. cond b (converted (A a.file) (system_of n) a.mode (resource_at (A a.file) w.locks).value w.locks) (asked (A a.file) (system_of n) a.mode w.locks))
+            (no_lock (system_of n) (resource_at (A a.file) w.locks).askers (nobody_asks not_yet n))
+
+        go_now : taken_now (A a.file) (system_of n) a.mode w.locks ≡ true
+        go_now = ap (λ o. taken_now (A a.file) o a.mode w.locks) (sym me_is) ∙ goes
+
+        node_is : turned (asking s a) ≡ q
+        node_is = ap (λ o. turned (record s { asked = with_ask s.asked o; tried = true })) (own_here a zero_chan)
+
+        own_then : own_ask true s.plan ≡ Some a
+        own_then = ap own_of granted_then ∙ own_here a zero_chan
+
+        alike : AsksAlike (granted_ask s.tried s.plan) (granted_ask true s.plan)
+        alike = λ k o low. ap (λ y. open_with k y o) granted_then ∙ own_with a k o zero_chan low ∙ sym (λ i. open_with k (granted_ask (not_yet i) (plan i)) o)
+
+        rows_then : Row → List Row
+        rows_then ls = ls ∷ (more ∷ (s.claims ∷ []))
+
+        free_then : waits_at t n more ≡ false
+        free_then = it.waits ∙ ap not go_now
+
+        under_then : IsUnder w.geometry cat (changed (nodes_under w.locks w.nodes) n (under_with t n q q.cmd)) w.blocks
+        under_then = wider_drive t more not_yet (sym (asks_exactly not_yet) ∙ goes) (λ l le h. subst (λ (ls : Row). Has (all_held t n (rows_then ls)) l) bare (it.took.strong l le h))
+
+        all : Good (altered w t w.blocks (set_node w.nodes n q) w.history)
+        all = rebuilt w good n s q at t w.blocks w.history
+            (still_driven w good n s q at t w.blocks alike refl
+            (under_now w.geometry cat w.locks t w.nodes n s q w.blocks at (λ m y ne e. rows_stand_still w.locks t m (rows_of y) (λ ls i. it.took.others m ls ne)) under_then)
+            (subst (λ (u : List Resource). AreOpensLocked u (open_now cat w.nodes)) (sym asks_it) (opens_asked (A a.file) n a.mode w.locks (open_now cat w.nodes) good.running.opens)))
+            (it.took.table, held_set t w.nodes n s q at (subst (λ (ls : Row). AreHeld t (with_rows (rows_at w.nodes) n (rows_then ls))) bare it.took.held)) good.own
+            (small_taken w good.small n s q at (A a.file) (system_of n) a.mode w.blocks (system_lock w.locks n (A a.file) it.took.may) (owes_so s q refl refl refl refl)) (good.few n) (λ m ne. refl)
+            (λ m y ne e ls i. row_goes w.locks t m ls (it.took.others m ls ne))
+            (stays_stocked s q refl refl (λ h. h) (stocked_now w good n s at x cmd free))
+            (is_node w good n s at x cmd free t w.blocks q refl refl refl refl (good.nodes n s at).store.kept (subst (λ (ls : Row). waits_at t n ls ≡ false) bare it.rests_then) now.seen now.own
+            (subst (IsAtPlan x (waits_at t n q.asked) s.seen s.done true) (sym plan) (made.0, free_then, all_made not_yet))
+            (ap (λ (ls : Row). ls ++ lock_of_ask a ∷ []) (asked_so not_yet) ∙ sym (ap (with_ask s.seen.locks) own_then))
+            (space_now w good n s at x cmd free)
+            (λ e. absurd (let g : true ≡ false = sym e ∙ free_then in cc)))
 
   -- ---- by a channel: its lock is none of the command's
 
@@ -562,7 +624,7 @@ module _ (w : Plain) (good : Good w) (n : ℕ) (s : NodeState) (at : node_at w.n
     mine_still ls = still.still n ls
 
     under_then : IsUnder w.geometry cat (changed (nodes_under w.locks w.nodes) n (under_with t n q q.cmd)) w.blocks
-    under_then = wider_drive t s.asked not_yet (sym (asks_exactly not_yet) ∙ goes) (λ l h. subst (λ (ls : Row). Has ls l) (sym holds_same) h)
+    under_then = wider_drive t s.asked not_yet (sym (asks_exactly not_yet) ∙ goes) (λ l le h. subst (λ (ls : Row). Has ls l) (sym holds_same) h)
 
     held_q : AreHeld t (rows_at (set_node w.nodes n q))
     held_q = held_same t w.nodes n s q at refl still.held
@@ -592,10 +654,12 @@ module _ (w : Plain) (good : Good w) (n : ℕ) (s : NodeState) (at : node_at w.n
     own_then = ap own_of granted_then ∙ own_else a ne
 
     all : Good (altered w t w.blocks (set_node w.nodes n q) w.history)
-    all = rebuilt w good n s q at t w.blocks w.history driven (took.table, held_q) good.own (small_taken w good.small n s q at (A a.file) me a.mode w.blocks lock_there) (good.few n) (λ m off. refl) (λ m y off e ls i. goes_still m ls)
-        (is_node w good n s at x cmd free t w.blocks q refl refl refl refl ((mine_still s.kept).waits ∙ (good.nodes n s at).rests) now.seen now.own
+    all = rebuilt w good n s q at t w.blocks w.history driven (took.table, held_q) good.own (small_taken w good.small n s q at (A a.file) me a.mode w.blocks lock_there (owes_so s q refl refl refl refl)) (good.few n) (λ m off. refl) (λ m y off e ls i. goes_still m ls)
+        (stays_stocked s q refl refl (λ h. h) (stocked_now w good n s at x cmd free))
+        (is_node w good n s at x cmd free t w.blocks q refl refl refl refl (good.nodes n s at).store.kept ((mine_still s.kept).waits ∙ (good.nodes n s at).rests) now.seen now.own
         (subst (IsAtPlan x (waits_at t n s.asked) s.seen s.done true) (sym plan) (made.0, waits_same, all_made not_yet))
-        (subst (λ (o : Option PlanAsk). Spaces t n x o s.asked s.run s.seen) (sym own_then) (still_searches w.locks t n x None s.asked s.run s.seen (goes_still n s.asked).holds (search_stands not_yet)))
+        (asked_so not_yet ∙ sym (ap (with_ask s.seen.locks) own_then))
+        (space_now w good n s at x cmd free)
         (λ e. absurd (let g : true ≡ false = sym e ∙ waits_same in cc)))
 
   asks_keep : s.tried ≡ false → would_go w.locks n a ≡ true → Good (altered w (taken (A a.file) me a.mode w.locks) w.blocks (set_node w.nodes n (turned (asking s a))) w.history)
@@ -606,32 +670,32 @@ module _ (w : Plain) (good : Good w) (n : ℕ) (s : NodeState) (at : node_at w.n
   no_grant_yet : s.tried ≡ false → granted_ask s.tried s.plan ≡ None
   no_grant_yet not_yet = λ i. granted_ask (not_yet i) (plan i)
 
-  pub ask_keeps : s.tried ≡ false → slice_get (take a.at p.writes) s.done ≡ None → Good (asked_by w n s x a (would_go w.locks n a))
-  ask_keeps not_yet last = by_goes (would_go w.locks n a) refl where
+  pub ask_keeps : waits_at w.locks n s.claims ≡ false → s.tried ≡ false → slice_get (take a.at p.writes) s.done ≡ None → Good (asked_by w n s x a (would_go w.locks n a))
+  ask_keeps granted_claims not_yet last = by_goes (would_go w.locks n a) refl where
     by_goes : (b : Bool) → would_go w.locks n a ≡ b → Good (asked_by w n s x a b)
     by_goes true goes = asks_keep not_yet goes
     by_goes false refused =
-        answers_keep w good n s at x cmd free p made.0 (take a.at p.writes) (first_writes not_yet) last (first_part not_yet) a.refused (λ c. knows n x s.seen c && not (is_granted n a c)) law.2
+        answers_keep w good n s at x cmd free granted_claims p made.0 (take a.at p.writes) (first_writes not_yet) last (first_part not_yet) a.refused (λ c. knows n x s.seen c && not (is_granted n a c)) law.2
         (both (knows n x s.seen cat) _ (known w good n s at x cmd free) (ap not (sym (asks_exactly not_yet) ∙ refused)))
         (subst (λ (o : Option PlanAsk). EndsSo x s.seen.channel o a.refused) (sym (no_grant_yet not_yet)) (ends_refused x s.seen.channel p a shape_is ask))
 
-  pub granted_keeps : s.tried ≡ true → slice_get p.writes s.done ≡ None → Good (happens w n s (by_end x p.reply true (Some a)))
-  granted_keeps done last =
+  pub granted_keeps : waits_at w.locks n s.claims ≡ false → s.tried ≡ true → slice_get p.writes s.done ≡ None → Good (happens w n s (by_end x p.reply true (Some a)))
+  granted_keeps granted_claims done last =
       let all : writes_by p.ask s.tried p.writes ≡ p.writes = (λ i. writes_by (ask i) (done i) p.writes) in
-      answers_keep w good n s at x cmd free p made.0 p.writes (ap (writes_now s.tried) plan ∙ all) last (subst (λ (ws : List PlanWrite). s.done ≤ length ws) all made.2) p.reply know law.1
+      answers_keep w good n s at x cmd free granted_claims p made.0 p.writes (ap (writes_now s.tried) plan ∙ all) last (subst (λ (ws : List PlanWrite). s.done ≤ length ws) all made.2) p.reply know law.1
       (both (knows n x s.seen cat) _ (known w good n s at x cmd free) (still_granted done))
       (subst (λ (o : Option PlanAsk). EndsSo x s.seen.channel o p.reply) (sym (λ i. granted_ask (done i) (plan i))) (ends_whole x s.seen.channel p shape_is asks))
 
 -- ---- what comes behind the writes of a plan keeps the invariant
 
-module _ (w : Plain) (good : Good w) (n : ℕ) (s : NodeState) (at : node_at w.nodes n ≡ Some s) (x : Cmd) (cmd : s.cmd ≡ Some x) (free : waits_at w.locks n s.asked ≡ false) (p : Plan) (plan : s.plan ≡ Some p) where
+module _ (w : Plain) (good : Good w) (n : ℕ) (s : NodeState) (at : node_at w.nodes n ≡ Some s) (x : Cmd) (cmd : s.cmd ≡ Some x) (free : waits_at w.locks n s.asked ≡ false) (granted_claims : waits_at w.locks n s.claims ≡ false) (p : Plan) (plan : s.plan ≡ Some p) where
   plain_keeps : p.ask ≡ None → slice_get p.writes s.done ≡ None → Good (happens w n s (by_end x p.reply s.tried None))
   plain_keeps ask last =
       let now : IsAt w n s x = under_command w good n s at x cmd free in
       let made : IsAtPlan x (waits_at w.locks n s.asked) s.seen s.done s.tried (Some p) = made_of w good n s at x cmd free p plan in
       let all : writes_by p.ask s.tried p.writes ≡ p.writes = ap (λ o. writes_by o s.tried p.writes) ask in
       let law : IsPlan n x s.seen p p.ask = now.lawful.plans n s.seen p now.seen made.0 in
-      answers_keep w good n s at x cmd free p made.0 p.writes (ap (writes_now s.tried) plan ∙ all) last (subst (λ (ws : List PlanWrite). s.done ≤ length ws) all made.2) p.reply (knows n x s.seen)
+      answers_keep w good n s at x cmd free granted_claims p made.0 p.writes (ap (writes_now s.tried) plan ∙ all) last (subst (λ (ws : List PlanWrite). s.done ≤ length ws) all made.2) p.reply (knows n x s.seen)
       (subst (IsPlan n x s.seen p) ask law) (known w good n s at x cmd free)
       (subst (λ (o : Option PlanAsk). EndsSo x s.seen.channel o p.reply) (ask ∙ sym (none_granted s.tried) ∙ sym (ap (granted_ask s.tried) plan)) (ends_whole x s.seen.channel p (shape x s.seen p made.0) (asks_as n x s.seen p law))) where
         none_granted : (b : Bool) → granted_by b p.ask ≡ None
@@ -642,5 +706,5 @@ module _ (w : Plain) (good : Good w) (n : ℕ) (s : NodeState) (at : node_at w.n
   ends_keep last = by_ask p.ask s.tried refl refl last where
     by_ask : (o : Option PlanAsk) (b : Bool) → p.ask ≡ o → s.tried ≡ b → slice_get (writes_by o b p.writes) s.done ≡ None → Good (happens w n s (by_end x p.reply b o))
     by_ask None b ask tried last = plain_keeps ask last
-    by_ask (Some a) true ask tried last = granted_keeps w good n s at x cmd free p plan a ask tried last
-    by_ask (Some a) false ask tried last = ask_keeps w good n s at x cmd free p plan a ask tried last
+    by_ask (Some a) true ask tried last = granted_keeps w good n s at x cmd free p plan a ask granted_claims tried last
+    by_ask (Some a) false ask tried last = ask_keeps w good n s at x cmd free p plan a ask granted_claims tried last

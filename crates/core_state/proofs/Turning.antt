@@ -1,26 +1,24 @@
--- The events that leave the history: each keeps the invariant.
-use Rattle.std.proofs.Common.{◌≡◌, ◌≤◌, ◌<◌, ◌+◌, ◌++◌, ◌&&◌, not, ℕ, zero, suc, Bool, true, false, cond, List, [], ◌∷◌, Option, Some, None, length, map, take, slice_get, slice_set, refl, sym, ap, subst, ◌∙◌, inl, inr, arith, ◌≢◌}
+-- The events of a command that leave the history: each keeps the invariant.
+use Rattle.std.proofs.Common.{◌≡◌, ◌≤◌, ◌<◌, ◌+◌, ◌++◌, ◌&&◌, ◌⊎◌, not, ℕ, zero, suc, Bool, true, false, List, [], ◌∷◌, Option, Some, None, length, map, take, slice_get, slice_set, refl, sym, ap, subst, ◌∙◌, inl, inr, arith, ◌≢◌}
 use Rattle.std.specs.Prelude.{slice_index_or}
 use Rattle.std.proofs.lemmas.Option.{slice_get_within}
 use Rattle.vol_words.specs.Fields.{Block}
 use Rattle.lock_db.specs.declared.name.LockName.{LockName}
+use Rattle.lock_db.specs.declared.name.LockName.TheVariants.{A, X, V}
 use Rattle.lock_db.specs.declared.resource.Resource.{Resource}
-use Rattle.lock_db.specs.Resources.{goes_at_once}
-use Rattle.lock_db.specs.Tables.{IsTable, resource_at, asked}
-use Rattle.lock_db.proofs.Steps.{IsTable-asked}
+use Rattle.plain_cat.specs.Modes.{rank}
 use Rattle.plain_cat.specs.declared.mode.Mode.{Mode}
-use Rattle.plain_cat.specs.declared.mode.Mode.TheVariants.{PR, PW}
+use Rattle.plain_cat.specs.declared.mode.Mode.TheVariants.{NL, CR, CW, PR, PW}
 use Rattle.plain_cat.specs.declared.command.Cmd.{Cmd}
 use Rattle.plain_cat.specs.declared.cat.Cat.{Cat}
-use Rattle.node_locks.specs.Held.{system_of, Row, names_of, HoldsItsLocks, AreHeld, waits_at, held_locks, all_held, put_in, with_rows}
-use Rattle.node_locks.specs.HeldLaws.{StandsStill, GoesOn as RowGoesOn, IsAskedFor}
-use Rattle.node_locks.proofs.Asking.{asking_holds}
-use Rattle.node_locks.proofs.Keeping.{all_are_held, rows_stand_still}
-use Rattle.node_locks.proofs.Growing.{asking_grows}
+use Rattle.node_locks.specs.Held.{system_of, Row, joined, names_of, HoldsItsLocks, waits_at}
+use Rattle.node_locks.specs.HeldLaws.{StandsStill, GoesOn as RowGoesOn}
+use Rattle.node_locks.specs.Taking.{taken}
+use Rattle.node_locks.proofs.Keeping.{rows_stand_still}
+use Rattle.node_locks.proofs.Nodes.{has_name_or_not}
 use Rattle.vol_owners.specs.Lists.{Has, Touches, StandsIn}
 use Rattle.vol_owners.specs.Owners.{Owners, Things, Outs}
 use Rattle.vol_owners.proofs.Writing.{touches_joined, stands_joined}
-use Rattle.vol_owners.proofs.Listing.{has_first}
 use Rattle.vol_parts.specs.declared.geometry.Geometry.{Geometry}
 use Rattle.vol_spell.specs.Spelling.{Spells}
 use Rattle.vol_under.specs.Guards.{guard_of, MayWrite, MayLook}
@@ -42,25 +40,28 @@ use Rattle.op_law.proofs.Going.{seen_goes_on}
 use Rattle.plain_vol.specs.Own.{NodePast}
 use Rattle.node_cache.specs.Cached.{Cached}
 use Rattle.op_law.specs.declared.seen.Chan.{Chan}
+use Rattle.core_space.specs.declared.run.Phase.TheVariants as phase
 use Rattle.core_state.specs.Channels.{channel_now, HasChannels}
-use Rattle.core_state.specs.Stores.{HasStore}
-use Rattle.core_state.specs.Worlds.{Stock, NodeState, Plain, node_at, set_node, rows_of, rows_in, rows_at}
-use Rattle.core_state.specs.Asks.{writes_by, writes_now, granted_ask, own_ask, knows_now}
-use Rattle.core_state.specs.Searches.{unwritten, stock_after, Spaces}
-use Rattle.core_state.specs.Waiting.{WaitsFor, ItsLock}
+use Rattle.core_state.specs.Stores.{AreKept, IsStocked}
+use Rattle.core_state.specs.Stocks.{looked_now, stock_now}
+use Rattle.core_state.specs.Worlds.{NodeState, Plain, node_at, set_node, rows_of, rows_in, rows_at}
+use Rattle.core_state.specs.Asks.{writes_by, writes_now, granted_by, granted_ask, own_of, own_ask, with_ask, knows_now}
+use Rattle.core_state.specs.Searches.{Spaces}
+use Rattle.core_state.specs.Waiting.{WaitsForLock}
 use Rattle.core_state.specs.Goods.{under_with, nodes_under, IsAtPlan, IsAt, HasCommand, IsNode, Good, held_by}
 use Rattle.core_state.specs.Events.{block_at, turned, locking, looking, planning, writing}
-use Rattle.core_state.proofs.Holding.{held_grows}
+use Rattle.core_state.proofs.Holding.{held_grows, strong_grows}
+use Rattle.core_state.proofs.Naming.{none_of, named_by, from_without, has_asked_without}
 use Rattle.core_state.proofs.Driving.{law_grows}
 use Rattle.core_state.proofs.Running.{all_asked, at_locks, under_now, under_here, are_sole}
 use Rattle.core_state.proofs.Taking.{its_outs, its_seen, its_guards, becomes, is_committed, decides, writes}
-use Rattle.core_state.proofs.SmallWorlds.{small_set, small_asked}
-use Rattle.core_state.proofs.Switching.{AsksAlike}
+use Rattle.core_state.proofs.SmallWorlds.{owes_so, small_set, small_taken, lock_there}
 use Rattle.core_state.specs.Opens.{open_with, open_now}
-use Rattle.core_state.proofs.Keeping.{altered, still_driven, rebuilt, held_set, held_same, loses_nothing, asked_alone}
-use Rattle.core_state.proofs.Beginning.{alone}
-use Rattle.core_state.proofs.Opens.{opens_asked}
-use Rattle.core_state.proofs.Standing.{locks_within, new_to_all, block_seen, comes_behind, lock_seen, is_known}
+use Rattle.core_state.proofs.Keeping.{altered, still_driven, rebuilt, held_set, held_same, loses_nothing, row_of_name}
+use Rattle.core_state.proofs.Beginning.{alone, stays_stocked, x_stays_without}
+use Rattle.core_state.proofs.Opens.{opens_taken}
+use Rattle.core_state.proofs.Rows.{asks_last}
+use Rattle.core_state.proofs.Standing.{calm, come_by, claims_are, locks_within, block_seen, comes_behind, lock_seen, is_known}
 
 -- a block that there is
 pub index_within : (bs : List Block) (l : ℕ) → l < length bs → slice_get bs l ≡ Some (slice_index_or bs l [])
@@ -69,13 +70,8 @@ index_within (b ∷ bs) zero lt = refl
 index_within (b ∷ bs) (suc l) lt = index_within bs l (omega arith)
 
 -- a row that stands still loses nothing
-goes_still : (t u : List Resource) (m : ℕ) (ls : Row) → StandsStill t u m ls → RowGoesOn t u m ls
+pub goes_still : (t u : List Resource) (m : ℕ) (ls : Row) → StandsStill t u m ls → RowGoesOn t u m ls
 goes_still t u m ls s = record { waits = λ e. s.waits ∙ e; holds = λ l h. subst (λ (ks : Row). Has ks l) (sym s.holds) h }
-
--- a lock stays, whether another is granted or not
-has_either : (ls : List (LockName × Mode)) (more l : LockName × Mode) → Has ls l → (b : Bool) → Has (cond b (ls ++ more ∷ []) ls) l
-has_either ls more l h true = has_first ls (more ∷ []) l h
-has_either ls more l h false = h
 
 -- a write of a plan, as it is planned
 pub planned_at : (ws : List PlanWrite) (k : ℕ) (v : PlanWrite) → slice_get ws k ≡ Some v → slice_get (map planned ws) k ≡ Some (planned v)
@@ -91,12 +87,12 @@ touches_first (suc k) (w ∷ ws) l (inl e) = inl e
 touches_first (suc k) (w ∷ ws) l (inr t) = inr (touches_first k ws l t)
 
 -- the writes of a plan that come before its ask are lawful by what is known without it
-first_lawful : (n : ℕ) (x : Cmd) (seen : Seen) (p : Plan) (o : Option PlanAsk) → IsPlan n x seen p o → IsLawful seen.geometry n (under_way x seen (writes_by o false p.writes) (knows n x seen))
+pub first_lawful : (n : ℕ) (x : Cmd) (seen : Seen) (p : Plan) (o : Option PlanAsk) → IsPlan n x seen p o → IsLawful seen.geometry n (under_way x seen (writes_by o false p.writes) (knows n x seen))
 first_lawful n x seen p None right = right.lawful
 first_lawful n x seen p (Some a) right = right.3
 
 -- and guarded, whether it is granted or not
-first_guarded : (n : ℕ) (x : Cmd) (seen : Seen) (p : Plan) (o : Option PlanAsk) → IsPlan n x seen p o → AreGuarded n (under_way x seen (writes_by o false p.writes) (knows n x seen)) seen.geometry
+pub first_guarded : (n : ℕ) (x : Cmd) (seen : Seen) (p : Plan) (o : Option PlanAsk) → IsPlan n x seen p o → AreGuarded n (under_way x seen (writes_by o false p.writes) (knows n x seen)) seen.geometry
 first_guarded n x seen p None right = right.guarded
 first_guarded n x seen p (Some a) right = λ base own c stock spelt known stands outs l t. by_granted base own c stock spelt known stands outs l t (is_granted n a c) refl where
   both : (b d : Bool) → b ≡ true → d ≡ true → (b && d) ≡ true
@@ -131,19 +127,16 @@ names_of_more (k ∷ ls) l P old new name (inr h) = names_of_more ls l P (λ m t
 pub record Rest : Type 0 where
   pub past : NodePast
   pub opens : List (Option Chan)
-  pub kept : List (LockName × Mode)
-  pub back : List (LockName × Mode)
-  pub stock : Stock
   pub cache : List Cached
   pub over : Bool
 
 abbrev pub rest_of : NodeState → Rest
-rest_of s = record { past = s.past; opens = s.opens; kept = s.kept; back = s.back; stock = s.stock; cache = s.cache; over = s.over }
+rest_of s = record { past = s.past; opens = s.opens; cache = s.cache; over = s.over }
 
 -- ---- an event of a node with a command
 
 module _ (w : Plain) (good : Good w) (n : ℕ) (s : NodeState) (at : node_at w.nodes n ≡ Some s) (x : Cmd) (cmd : s.cmd ≡ Some x) (free : waits_at w.locks n s.asked ≡ false) where
-  me : IsNode w n s
+  pub me : IsNode w n s
   me = good.nodes n s at
 
   pub my_sole : AreSole (nodes_under w.locks w.nodes)
@@ -152,9 +145,9 @@ module _ (w : Plain) (good : Good w) (n : ℕ) (s : NodeState) (at : node_at w.n
   pub under_command : IsAt w n s x
   under_command = subst (HasCommand w n s) cmd me.command
 
-  -- a node that waits for nothing holds all that it asked for
-  pub all_here : held_locks w.locks n s.asked ≡ s.asked
-  all_here = all_are_held w.locks n s.asked free
+  -- its rows of locks
+  pub mine : HoldsItsLocks w.locks n (rows_of s)
+  mine = subst (λ (rs : List Row). HoldsItsLocks w.locks n rs) (ap rows_in at) (good.locked.1 n)
 
   pub here : nodes_under w.locks w.nodes n ≡ at_locks n s x (held_by w.locks n s)
   here = under_here w.locks w.nodes n s at ∙ ap (under_with w.locks n s) cmd
@@ -183,29 +176,37 @@ module _ (w : Plain) (good : Good w) (n : ℕ) (s : NodeState) (at : node_at w.n
   pub seen_on : IsSeenOn n x s.seen drive.base drive.own good.running.cat
   seen_on = record {
     spelt = drive.spelt;
-    stands = ((stands_joined drive.base (unwritten (take s.run.made s.run.writes) s.run.looked) s.seen.blocks).0 seen_now).1;
-    stock = stock_after s.run.writes s.run.made;
+    stands = ((stands_joined drive.base (looked_now s.run) s.seen.blocks).0 seen_now).1;
+    stock = stock_now s.stock s.run;
     outs = outs_now;
     known = known;
   }
 
   -- it waits for nothing
-  pub no_wait : (seen : Seen) → waits_at w.locks n s.asked ≡ true → WaitsFor x s.asked seen
+  pub no_wait : (seen : Seen) → waits_at w.locks n s.asked ≡ true → WaitsForLock x s.asked seen
   no_wait seen e = absurd (let f : true ≡ false = sym e ∙ free in cc)
+
+  -- how it stands by its rules for space
+  pub space_now : Spaces (Some x) s.kept s.claims s.run s.stock s.seen
+  space_now = subst (λ (o : Option Cmd). Spaces o s.kept s.claims s.run s.stock s.seen) cmd me.space
+
+  pub stocked_now : IsStocked s
+  stocked_now = good.running.stocked n s at
 
   -- the node with another state, and the same command
   pub is_node : (t : List Resource) (bs : List Block) (r : NodeState) → rest_of r ≡ rest_of s → r.seen.geometry ≡ s.seen.geometry → r.seen.channel ≡ s.seen.channel
-      → r.cmd ≡ s.cmd → waits_at t n s.kept ≡ false → HasSeen x r.seen → ((name : LockName) → Has (names_of r.seen.locks) name → takes_lock x name ≡ true) → IsAtPlan x (waits_at t n r.asked) r.seen r.done r.tried r.plan
-      → Spaces t n x (own_ask r.tried r.plan) r.asked r.run r.seen → (waits_at t n r.asked ≡ true → WaitsFor x r.asked r.seen) → IsNode (altered w t bs (set_node w.nodes n r) w.history) n r
-  is_node t bs r same g c o rests seen own plan search waits = record {
+      → r.cmd ≡ s.cmd → AreKept r.run.phase r.kept → waits_at t n r.kept ≡ false → HasSeen x r.seen → ((name : LockName) → Has (names_of r.seen.locks) name → takes_lock x name ≡ true) → IsAtPlan x (waits_at t n r.asked) r.seen r.done r.tried r.plan
+      → r.asked ≡ with_ask r.seen.locks (own_ask r.tried r.plan) → Spaces (Some x) r.kept r.claims r.run r.stock r.seen → (waits_at t n r.asked ≡ true → WaitsForLock x r.asked r.seen) → IsNode (altered w t bs (set_node w.nodes n r) w.history) n r
+  is_node t bs r same g c o keeps rests seen own plan asks space waits = record {
     past = ap (λ (k : Rest). k.past) same ∙ me.past;
     geometry = g ∙ me.geometry;
     channels = subst (λ (k : Rest). HasChannels k.past k.opens) (sym same) me.channels;
     channel = c ∙ me.channel ∙ (λ i. channel_now (sym same i).opens (sym o i));
-    store = subst (λ (k : Rest). HasStore k.kept k.back k.stock k.cache) (sym same) me.store;
-    rests = subst (λ (k : Rest). waits_at t n k.kept ≡ false) (sym same) rests;
+    store = record { kept = keeps; cache = ap (λ (k : Rest). k.cache) same ∙ me.store.cache };
+    rests = rests;
     command = subst (HasCommand (altered w t bs (set_node w.nodes n r) w.history) n r) (sym (o ∙ cmd))
-        (record { next = under_command.next; form = under_command.form; lawful = under_command.lawful; seen = seen; own = own; plan = plan; search = search; waits = waits });
+        (record { next = under_command.next; form = under_command.form; lawful = under_command.lawful; seen = seen; own = own; plan = plan; same = asks; waits = waits });
+    space = subst (λ (k : Option Cmd). Spaces k r.kept r.claims r.run r.stock r.seen) (sym (o ∙ cmd)) space;
     over = λ e. absurd (busy (me.over (sym (ap (λ (k : Rest). k.over) same) ∙ e)).0.cmd);
     gone = λ e. absurd (busy (me.gone (sym (ap (λ (k : Rest). k.past.dead) same) ∙ e)).cmd);
   } where
@@ -222,19 +223,22 @@ module _ (w : Plain) (good : Good w) (n : ℕ) (s : NodeState) (at : node_at w.n
   pub not_yet : s.plan ≡ None → s.done ≡ 0
   not_yet no_plan = subst (IsAtPlan x (waits_at w.locks n s.asked) s.seen s.done s.tried) no_plan under_command.plan
 
-  -- its search stands without an ask, and so it will
-  pub search_now : s.plan ≡ None → Spaces w.locks n x None s.asked s.run s.seen
-  search_now no_plan = subst (λ (o : Option Plan). Spaces w.locks n x (own_ask s.tried o) s.asked s.run s.seen) no_plan under_command.search
+  pub plan_stays : (t : List Resource) (r : NodeState) → s.plan ≡ None → r.plan ≡ s.plan → r.done ≡ s.done → IsAtPlan x (waits_at t n r.asked) r.seen r.done r.tried r.plan
+  plan_stays t r no_plan p d = subst (IsAtPlan x (waits_at t n r.asked) r.seen r.done r.tried) (sym (p ∙ no_plan)) (d ∙ not_yet no_plan)
 
-  search_then : s.plan ≡ None → (t : List Resource) (asked : List (LockName × Mode)) (seen : Seen) → Spaces t n x None asked s.run seen → Spaces t n x (own_ask s.tried s.plan) asked s.run seen
-  search_then no_plan t asked seen h = subst (λ (o : Option Plan). Spaces t n x (own_ask s.tried o) asked s.run seen) (sym no_plan) h
+  -- without a plan it has asked for the locks of its command alone
+  pub asks_now : s.plan ≡ None → s.asked ≡ s.seen.locks
+  asks_now no_plan = under_command.same ∙ ap (λ (o : Option Plan). with_ask s.seen.locks (own_ask s.tried o)) no_plan
+
+  pub asks_then : (r : NodeState) → s.plan ≡ None → r.plan ≡ s.plan → r.asked ≡ r.seen.locks → r.asked ≡ with_ask r.seen.locks (own_ask r.tried r.plan)
+  asks_then r no_plan p e = e ∙ sym (ap (λ (o : Option Plan). with_ask r.seen.locks (own_ask r.tried o)) (p ∙ no_plan))
 
   pub no_writes_now : s.plan ≡ None → (at_locks n s x (held_by w.locks n s)).plan ≡ []
   no_writes_now no_plan = ap (λ o. map planned (writes_now s.tried o)) no_plan
 
   -- it holds the locks of its command
   holds_its : (l : LockName × Mode) → Has s.seen.locks l → Has (held_by w.locks n s) l
-  holds_its l h = all_asked w.locks n s l free (locks_within w.locks n x (own_ask s.tried s.plan) s.asked s.run s.seen under_command.search l h)
+  holds_its l h = all_asked w.locks n s l free (locks_within (own_ask s.tried s.plan) s.asked s.seen under_command.same l h)
 
   pub reads_more : (name : LockName) → Has (held_in PR s.seen.locks) name → Has (held_in PR (held_by w.locks n s)) name
   reads_more name h = held_grows PR s.seen.locks (held_by w.locks n s) name holds_its h
@@ -242,83 +246,98 @@ module _ (w : Plain) (good : Good w) (n : ℕ) (s : NodeState) (at : node_at w.n
   pub writes_more : (name : LockName) → Has (held_in PW s.seen.locks) name → Has (held_in PW (held_by w.locks n s)) name
   writes_more name h = held_grows PW s.seen.locks (held_by w.locks n s) name holds_its h
 
-  -- it asks for a lock on a name that it has none on
-  pub asks_new : (name : LockName) (mode : Mode) → (Has (names_of s.asked) name → ⊥) → IsAskedFor n 1 s.asked (name, mode) (rows_of s) (rows_at w.nodes) w.locks (asked name (system_of n) mode w.locks)
-  asks_new name mode new = asking_holds w.locks n 1 s.asked (name, mode) (rows_of s) (rows_at w.nodes) good.locked.1 (ap rows_in at) refl free (λ h. new (asked_alone s me.store name h))
+  -- ---- a lock
 
-  -- it waits for it where it is not granted at once
-  pub asks_wait : (name : LockName) (mode : Mode) → (Has (names_of s.asked) name → ⊥)
-      → waits_at (asked name (system_of n) mode w.locks) n (s.asked ++ (name, mode) ∷ []) ≡ not (goes_at_once (system_of n) mode (resource_at name w.locks).askers)
-  asks_wait name mode new = (asks_new name mode new).waits
+  -- a lock that it takes itself, and has not asked for, it has in NL or not at all
+  pub may_take : s.plan ≡ None → (s.run.phase ≡ phase.Back → ⊥) → (name : LockName) → takes_lock x name ≡ true → (Has (names_of s.seen.locks) name → ⊥) → (Has (names_of (joined (rows_of s))) name → ⊥) ⊎ Has s.kept (name, NL)
+  may_take no_plan calmly name own new = elim (has_name_or_not (names_of s.kept) name) [ inl h ↦ inr (in_kept h) | inr none ↦ inl (nowhere none) ] where
+    not_x : name ≡ X → ⊥
+    not_x e = absurd (let f : false ≡ true = sym (ap (takes_lock x) e) ∙ own in cc)
 
-  -- and for none of those that outlive its commands
-  pub kept_rests : (name : LockName) (mode : Mode) → (Has (names_of s.asked) name → ⊥) → waits_at (asked name (system_of n) mode w.locks) n s.kept ≡ false
-  kept_rests name mode new = ((asks_new name mode new).rest 0 s.kept (λ e. absurd (omega arith)) refl).waits ∙ me.rests
+    in_kept : Has (names_of s.kept) name → Has s.kept (name, NL)
+    in_kept h =
+        let k = named_by s.kept name h in
+        elim (me.store.kept (name, k.0) k.1) [
+          | inl e ↦
+              let f : (name, k.0) ≡ (name, NL) = ap (λ (l : LockName × Mode). (name, l.1)) e in
+              subst (Has s.kept) f k.1
+          | inr e ↦ absurd (not_x e.0)
+        ]
 
-  -- the world with the lock asked for, where the drive is under way with it
-  pub asked_then : (name : LockName) (mode : Mode) → (Has (names_of s.asked) name → ⊥) → (r : NodeState) → AsksAlike (granted_ask s.tried s.plan) (granted_ask r.tried r.plan) → r.opens ≡ s.opens → r.asked ≡ s.asked ++ (name, mode) ∷ [] → rows_of r ≡ put_in 1 (name, mode) (rows_of s)
-      → (((l : LockName × Mode) → Has (held_by w.locks n s) l → Has (held_by (asked name (system_of n) mode w.locks) n r) l)
-      → IsUnder w.geometry good.running.cat (changed (nodes_under w.locks w.nodes) n (under_with (asked name (system_of n) mode w.locks) n r r.cmd)) w.blocks)
-      → (((l : LockName × Mode) → Has (held_locks w.locks n s.asked) l → Has (held_locks (asked name (system_of n) mode w.locks) n r.asked) l) → IsNode (altered w (asked name (system_of n) mode w.locks) w.blocks (set_node w.nodes n r) w.history) n r)
-      → Good (altered w (asked name (system_of n) mode w.locks) w.blocks (set_node w.nodes n r) w.history)
-  asked_then name mode new r alike same_opens more rows under node =
-      let t : List Resource = asked name (system_of n) mode w.locks in
-      let mine : HoldsItsLocks w.locks n (rows_of s) = subst (λ (rs : List Row). HoldsItsLocks w.locks n rs) (ap rows_in at) (good.locked.1 n) in
-      let table : IsTable t = IsTable-asked name (system_of n) mode w.locks good.locked.0 (mine.no_other name (λ h. new (asked_alone s me.store name h))) in
-      let after = asks_new name mode new in
-      let held : AreHeld t (with_rows (rows_at w.nodes) n (rows_of r)) = subst (λ (rs : List Row). AreHeld t (with_rows (rows_at w.nodes) n rs)) (sym rows) after.held in
-      let all : (l : LockName × Mode) → Has (held_by w.locks n s) l → Has (held_by t n r) l = λ l h.
-      subst (λ (rs : List Row). Has (all_held t n rs) l) (sym rows) (asking_grows w.locks n 1 s.asked (name, mode) l (rows_of s) (rows_at w.nodes) good.locked.1 (ap rows_in at) refl free (λ k. new (asked_alone s me.store name k)) h) in
-      let grows : (l : LockName × Mode) → Has s.asked l → Has (held_locks t n r.asked) l = λ l h.
-      subst (λ (ls : List (LockName × Mode)). Has (held_locks t n ls) l) (sym more) (subst (λ (ls : List (LockName × Mode)). Has ls l) (sym after.last) (has_either s.asked (name, mode) l h (goes_at_once (system_of n) mode (resource_at name w.locks).askers))) in
-      let still : (m : ℕ) (q : NodeState) → m ≢ n → (ls : Row) → StandsStill w.locks t m ls = λ m q ne ls. after.others m ls ne in
-      rebuilt w good n s r at t w.blocks w.history
-      (still_driven w good n s r at t w.blocks alike same_opens
-      (under_now w.geometry good.running.cat w.locks t w.nodes n s r w.blocks at (λ m q ne e. rows_stand_still w.locks t m (rows_of q) (λ ls i. still m q ne ls)) (under all))
-      (opens_asked name n mode w.locks (open_now good.running.cat w.nodes) good.running.opens))
-      (table, held_set t w.nodes n s r at held) good.own (small_asked w good.small n s r at name mode w.blocks) (good.few n) (λ m ne. refl)
-      (λ m q ne e ls i. goes_still w.locks t m ls (still m q ne ls))
-      (node (λ l h. grows l (subst (λ (ls : List (LockName × Mode)). Has ls l) all_here h)))
+    not_claimed : Has (names_of s.claims) name → ⊥
+    not_claimed h =
+        let k = named_by s.claims name h in
+        elim (claims_are (Some x) s.kept s.claims s.run s.stock s.seen space_now (name, k.0) k.1) [
+          | inl e ↦ not_x e
+          | inr e ↦ elim (calm x s.kept s.claims s.run s.stock s.seen calmly space_now) [
+            | inl off ↦ none_of s.claims (name, k.0) off.claims k.1
+            | inr r ↦ absurd (
+                let c = come_by x s.kept s.claims s.run s.stock s.seen r in
+                let f : takes_lock x V ≡ true = sym (ap (takes_lock x) e) ∙ own in
+                let g : takes_lock x V ≡ false = ap not c.takes in
+                let z : true ≡ false = sym f ∙ g in
+                cc)
+          ]
+        ]
 
-  -- it does so before it decides
-  pub locked_keep : s.plan ≡ None → (name : LockName) (mode : Mode) → (Has (names_of s.asked) name → ⊥) → (r : NodeState) → AsksAlike (granted_ask s.tried s.plan) (granted_ask r.tried r.plan) → r.opens ≡ s.opens → r.asked ≡ s.asked ++ (name, mode) ∷ [] → rows_of r ≡ put_in 1 (name, mode) (rows_of s) → r.cmd ≡ Some x
-      → ((ls : List (LockName × Mode)) → at_locks n s x ls ≡ at_locks n r x ls)
-      → (((l : LockName × Mode) → Has (held_locks w.locks n s.asked) l → Has (held_locks (asked name (system_of n) mode w.locks) n r.asked) l) → IsNode (altered w (asked name (system_of n) mode w.locks) w.blocks (set_node w.nodes n r) w.history) n r)
-      → Good (altered w (asked name (system_of n) mode w.locks) w.blocks (set_node w.nodes n r) w.history)
-  locked_keep no_plan name mode new r asks same_opens more rows cmd_is alike node = asked_then name mode new r asks same_opens more rows under node where
-    t : List Resource
-    t = asked name (system_of n) mode w.locks
+    nowhere : (Has (names_of s.kept) name → ⊥) → Has (names_of (joined (rows_of s))) name → ⊥
+    nowhere none h = elim (row_of_name s name h) [
+      | inl a ↦ none a
+      | inr b ↦ elim b [
+        | inl c ↦ new (subst (λ (ls : Row). Has (names_of ls) name) (asks_now no_plan) c)
+        | inr d ↦ not_claimed d
+      ]
+    ]
 
-    under : ((l : LockName × Mode) → Has (held_by w.locks n s) l → Has (held_by t n r) l) → IsUnder w.geometry good.running.cat (changed (nodes_under w.locks w.nodes) n (under_with t n r r.cmd)) w.blocks
-    under grows =
-        let v : UnderWay = at_locks n s x (held_by t n r) in
-        let up = becomes s.seen.geometry good.running.cat (nodes_under w.locks w.nodes) w.blocks n (at_locks n s x (held_by w.locks n s)) here drive (no_writes_now no_plan) v (no_writes_now no_plan) (not_yet no_plan) outs_now seen_now
-        (λ l h. wider_look (held_in PR (held_by w.locks n s)) (held_in PR (held_by t n r)) (λ m k. held_grows PR (held_by w.locks n s) (held_by t n r) m grows k) (guard_of s.seen.geometry drive.own l) (guards_now l h)) in
-        let there : v ≡ under_with t n r r.cmd = alike (held_by t n r) ∙ ap (under_with t n r) (sym cmd_is) in
-        subst (λ (u : UnderWay). IsUnder w.geometry good.running.cat (changed (nodes_under w.locks w.nodes) n u) w.blocks) there (back v w.blocks up)
+  -- the locks of its command are on no file's opens
+  no_open_lock : (name : LockName) → takes_lock x name ≡ true → (f : ℕ) → name ≢ A f
+  no_open_lock name own f e = absurd (let g : false ≡ true = sym (ap (takes_lock x) e) ∙ own in cc)
+
+  not_cw : (mode : Mode) → Has (PR ∷ PW ∷ []) mode → mode ≢ CW
+  not_cw mode (inl e) f = absurd (let g : PR ≡ CW = e ∙ f in cc)
+  not_cw mode (inr (inl e)) f = absurd (let g : PW ≡ CW = e ∙ f in cc)
+  not_cw mode (inr (inr e)) f = absurd e
 
   -- a lock is asked for
-  pub locks_keep : s.plan ≡ None → (name : LockName) (mode : Mode) → IsNext x s.seen (need.Lock name mode)
-      → Good (altered w (asked name (system_of n) mode w.locks) w.blocks (set_node w.nodes n (turned (locking s name mode))) w.history)
-  locks_keep no_plan name mode is =
-      let t : List Resource = asked name (system_of n) mode w.locks in
+  pub locks_keep : s.plan ≡ None → (s.run.phase ≡ phase.Back → ⊥) → (name : LockName) (mode : Mode) → IsNext x s.seen (need.Lock name mode)
+      → Good (altered w (taken name (system_of n) mode w.locks) w.blocks (set_node w.nodes n (turned (locking s name mode))) w.history)
+  locks_keep no_plan calmly name mode is =
+      let t : List Resource = taken name (system_of n) mode w.locks in
       let r : NodeState = turned (locking s name mode) in
       let may = may_need (need.Lock name mode) is in
-      locked_keep no_plan name mode (new_to_all w.locks n x s.asked s.run s.seen (search_now no_plan) name may.own may.new) r (λ part o low. refl) refl refl refl cmd (λ ls. refl)
-      (λ grows. is_node t w.blocks r refl refl refl refl (kept_rests name mode (new_to_all w.locks n x s.asked s.run s.seen (search_now no_plan) name may.own may.new)) (goes.granted s.seen name mode under_command.seen is)
+      let it = asks_last w.locks n name mode (rows_at w.nodes) s.kept s.asked s.claims good.locked.0 good.locked.1 (ap rows_in at) me.rests (may_take no_plan calmly name may.own may.new) free in
+      let grows : (l : LockName × Mode) → rank CR ≤ rank l.1 → Has (held_by w.locks n s) l → Has (held_by t n r) l = it.took.strong in
+      let v : UnderWay = at_locks n s x (held_by t n r) in
+      let up = becomes s.seen.geometry good.running.cat (nodes_under w.locks w.nodes) w.blocks n (at_locks n s x (held_by w.locks n s)) here drive (no_writes_now no_plan) v (no_writes_now no_plan) (not_yet no_plan) outs_now seen_now
+      (λ l h. wider_look (held_in PR (held_by w.locks n s)) (held_in PR (held_by t n r)) (λ m k. strong_grows PR (held_by w.locks n s) (held_by t n r) m (omega arith) grows k) (guard_of s.seen.geometry drive.own l) (guards_now l h)) in
+      let there : v ≡ under_with t n r r.cmd = ap (under_with t n r) (sym cmd) in
+      let not_x : name ≢ X = λ e. absurd (let f : false ≡ true = sym (ap (takes_lock x) e) ∙ may.own in cc) in
+      let rest : (l : LockName × Mode) → Has r.kept l → Has s.kept l = λ l h. (from_without s.kept name l h).0 in
+      rebuilt w good n s r at t w.blocks w.history
+      (still_driven w good n s r at t w.blocks (λ part o low. refl) refl
+      (under_now w.geometry good.running.cat w.locks t w.nodes n s r w.blocks at (λ m q ne e. rows_stand_still w.locks t m (rows_of q) (λ ls i. it.took.others m ls ne))
+      (subst (λ (u : UnderWay). IsUnder w.geometry good.running.cat (changed (nodes_under w.locks w.nodes) n u) w.blocks) there (back v w.blocks up)))
+      (opens_taken name n mode w.locks (open_now good.running.cat w.nodes) good.locked.0 (no_open_lock name may.own) it.took.may (not_cw mode may.in_mode) good.running.opens))
+      (it.took.table, held_set t w.nodes n s r at it.took.held) good.own
+      (small_taken w good.small n s r at name (system_of n) mode w.blocks (lock_there w.locks n name it.took.may) (owes_so s r refl refl refl (has_asked_without X name s.kept not_x)))
+      (good.few n) (λ m ne. refl)
+      (λ m q ne e ls i. goes_still w.locks t m ls (it.took.others m ls ne))
+      (stays_stocked s r refl refl (x_stays_without s.kept name not_x) stocked_now)
+      (is_node t w.blocks r refl refl refl refl (λ l h. me.store.kept l (rest l h)) it.rests_then (goes.granted s.seen name mode under_command.seen is)
       (names_of_more s.seen.locks (name, mode) (λ m. takes_lock x m ≡ true) under_command.own may.own)
-      (subst (IsAtPlan x (waits_at t n r.asked) r.seen s.done s.tried) (sym no_plan) (not_yet no_plan))
-      (search_then no_plan t r.asked r.seen (lock_seen w.locks t n x s.asked s.run s.seen name mode (λ k b e. absurd (let f : need.Lock name mode ≡ need.Space k b = sym is ∙ e in cc)) (comes_behind x s.asked s.run s.seen name may.own may.new may.turn) grows (search_now no_plan)))
-      (λ e. ItsLock (record { name = name; mode = mode; before = s.seen; fits = under_command.seen; next = is; is = refl; last = record { front = s.asked; last = refl } })))
+      (plan_stays t r no_plan refl refl)
+      (asks_then r no_plan refl (ap (λ ls. ls ++ (name, mode) ∷ []) (asks_now no_plan)))
+      (lock_seen x s.kept s.claims s.run s.stock s.seen name mode calmly (λ k b e. absurd (let f : need.Lock name mode ≡ need.Space k b = sym is ∙ e in cc)) (λ c. comes_behind x s.seen name may.own may.new may.turn c) not_x space_now)
+      (λ e. record { name = name; mode = mode; before = s.seen; fits = under_command.seen; next = is; is = refl; last = record { front = s.asked; last = refl } }))
 
   -- a block is looked at
-  pub looks_keep : s.plan ≡ None → (lbn : ℕ) → HasSeen x (with_block lbn (block_at w.blocks lbn) s.seen) → ((k : ℕ) (b : Bool) → IsNext x s.seen (need.Space k b) → ⊥)
+  pub looks_keep : s.plan ≡ None → (s.run.phase ≡ phase.Back → ⊥) → (lbn : ℕ) → HasSeen x (with_block lbn (block_at w.blocks lbn) s.seen) → ((k : ℕ) (b : Bool) → IsNext x s.seen (need.Space k b) → ⊥)
       → MayLook (held_in PR s.seen.locks) (guard_of s.seen.geometry drive.own lbn) → lbn < length w.blocks
       → Good (altered w w.locks w.blocks (set_node w.nodes n (turned (looking s lbn (block_at w.blocks lbn)))) w.history)
-  looks_keep no_plan lbn seen never guarded within =
+  looks_keep no_plan calmly lbn seen never guarded within =
       let b : Block = block_at w.blocks lbn in
       let r : NodeState = turned (looking s lbn b) in
-      let left : List (ℕ × Block) = unwritten (take s.run.made s.run.writes) s.run.looked in
+      let left : List (ℕ × Block) = looked_now s.run in
       let may : MayLook (held_in PR (held_by w.locks n s)) (guard_of s.seen.geometry drive.own lbn) = wider_look (held_in PR s.seen.locks) (held_in PR (held_by w.locks n s)) reads_more (guard_of s.seen.geometry drive.own lbn) guarded in
       let stands : slice_get drive.base lbn ≡ Some b
       = sym (is_committed s.seen.geometry good.running.cat (nodes_under w.locks w.nodes) w.blocks n (at_locks n s x (held_by w.locks n s)) here drive my_sole (no_writes_now no_plan) lbn may) ∙ index_within w.blocks lbn within in
@@ -333,9 +352,11 @@ module _ (w : Plain) (good : Good w) (n : ℕ) (s : NodeState) (at : node_at w.n
         ]
       ]) in
       let there : at_locks n r x (held_by w.locks n s) ≡ under_with w.locks n r r.cmd = ap (under_with w.locks n r) (sym cmd) in
-      alone w good n s at r refl (λ part o low. refl) refl (subst (λ (u : UnderWay). IsUnder w.geometry good.running.cat (changed (nodes_under w.locks w.nodes) n u) w.blocks) there (back (at_locks n r x (held_by w.locks n s)) w.blocks v))
-      (is_node w.locks w.blocks r refl refl refl refl me.rests seen under_command.own (subst (IsAtPlan x (waits_at w.locks n s.asked) r.seen s.done s.tried) (sym no_plan) (not_yet no_plan))
-      (search_then no_plan w.locks s.asked r.seen (block_seen w.locks n x s.asked s.run s.seen lbn b never (search_now no_plan))) (no_wait r.seen))
+      alone w good n s at r refl (λ part o low. refl) refl (owes_so s r refl refl refl refl) (stays_stocked s r refl refl (λ h. h) stocked_now)
+      (subst (λ (u : UnderWay). IsUnder w.geometry good.running.cat (changed (nodes_under w.locks w.nodes) n u) w.blocks) there (back (at_locks n r x (held_by w.locks n s)) w.blocks v))
+      (is_node w.locks w.blocks r refl refl refl refl me.store.kept me.rests seen under_command.own (plan_stays w.locks r no_plan refl refl)
+      (asks_then r no_plan refl (asks_now no_plan))
+      (block_seen x s.kept s.claims s.run s.stock s.seen lbn b calmly never space_now) (no_wait r.seen))
 
   -- the plan is made
   pub plans_keep : s.plan ≡ None → (p : Plan) → IsNext x s.seen (need.Ready p) → Good (altered w w.locks w.blocks (set_node w.nodes n (turned (planning s p))) w.history)
@@ -345,15 +366,19 @@ module _ (w : Plain) (good : Good w) (n : ℕ) (s : NodeState) (at : node_at w.n
       let ws : List PlanWrite = writes_by p.ask false p.writes in
       let u : UnderWay = record (at_locks n s x (held_by w.locks n s)) { knows = knows n x s.seen } in
       let now : nodes_under w.locks w.nodes n ≡ u = here ∙ (λ i. record (at_locks n s x (held_by w.locks n s)) { knows = knows_now n x s.seen s.tried (no_plan i) }) in
-      let left : List (ℕ × Block) = unwritten (take s.run.made s.run.writes) s.run.looked in
+      let left : List (ℕ × Block) = looked_now s.run in
       let v = decides s.seen.geometry good.running.cat (nodes_under w.locks w.nodes) w.blocks n u now drive (no_writes_now no_plan) (not_yet no_plan) (map planned ws)
-      (law_grows s.seen.geometry n (under_way x s.seen ws (knows n x s.seen)) (held_in PR (held_by w.locks n s)) (held_in PW (held_by w.locks n s)) left s.done (stock_after s.run.writes s.run.made) writes_more (first_lawful n x s.seen p p.ask law))
+      (law_grows s.seen.geometry n (under_way x s.seen ws (knows n x s.seen)) (held_in PR (held_by w.locks n s)) (held_in PW (held_by w.locks n s)) left s.done (stock_now s.stock s.run) writes_more (first_lawful n x s.seen p p.ask law))
       (λ base own spelt stands outs l t. wider_write n (held_in PW s.seen.locks) (held_in PW (held_by w.locks n s)) writes_more (guard_of s.seen.geometry own l)
-      (first_guarded n x s.seen p p.ask law base own good.running.cat (stock_after s.run.writes s.run.made) spelt known ((stands_joined base left s.seen.blocks).0 stands).1 outs l t)) in
+      (first_guarded n x s.seen p p.ask law base own good.running.cat (stock_now s.stock s.run) spelt known ((stands_joined base left s.seen.blocks).0 stands).1 outs l t)) in
       let there : record u { plan = map planned ws } ≡ under_with w.locks n r r.cmd
       = (λ i. record (at_locks n r x (held_by w.locks n s)) { done = not_yet no_plan i }) ∙ ap (under_with w.locks n r) (sym cmd) in
-      alone w good n s at r refl (λ part o low. sym (ap (λ q. open_with part (granted_ask s.tried q) o) no_plan)) refl (subst (λ (u : UnderWay). IsUnder w.geometry good.running.cat (changed (nodes_under w.locks w.nodes) n u) w.blocks) there (back (record u { plan = map planned ws }) w.blocks v))
-      (is_node w.locks w.blocks r refl refl refl refl me.rests under_command.seen under_command.own (is, free, omega arith) (search_now no_plan) (no_wait s.seen))
+      alone w good n s at r refl (λ part o low. sym (ap (λ q. open_with part (granted_ask s.tried q) o) no_plan)) refl (owes_so s r refl refl refl refl) (stays_stocked s r refl refl (λ h. h) stocked_now)
+      (subst (λ (u : UnderWay). IsUnder w.geometry good.running.cat (changed (nodes_under w.locks w.nodes) n u) w.blocks) there (back (record u { plan = map planned ws }) w.blocks v))
+      (is_node w.locks w.blocks r refl refl refl refl me.store.kept me.rests under_command.seen under_command.own (is, free, omega arith)
+      (asks_now no_plan ∙ sym (ap (with_ask s.seen.locks) (none_granted p.ask))) space_now (no_wait s.seen)) where
+        none_granted : (o : Option PlanAsk) → own_of (granted_by false o) ≡ None
+        none_granted o = refl
 
   -- what it has decided on
   pub made_of : (p : Plan) → s.plan ≡ Some p → IsAtPlan x (waits_at w.locks n s.asked) s.seen s.done s.tried (Some p)
@@ -373,6 +398,8 @@ module _ (w : Plain) (good : Good w) (n : ℕ) (s : NodeState) (at : node_at w.n
       (still_driven w good n s r at w.locks bs (λ part o low. refl) refl
       (under_now w.geometry good.running.cat w.locks w.locks w.nodes n s r bs at (λ m q ne e. refl) (subst (λ (u : UnderWay). IsUnder w.geometry good.running.cat (changed (nodes_under w.locks w.nodes) n u) bs) there u))
       good.running.opens)
-      (good.locked.0, held_same w.locks w.nodes n s r at refl good.locked.1) good.own (small_set w good.small n s r at bs) (good.few n) (λ m ne. refl) (λ m q ne e. loses_nothing w.locks m q)
-      (is_node w.locks bs r refl refl refl refl me.rests under_command.seen under_command.own
-      (subst (IsAtPlan x (waits_at w.locks n s.asked) s.seen (s.done + 1) s.tried) (sym plan) (made.0, made.1, (let lt : s.done < length (writes_by p.ask s.tried p.writes) = slice_get_within (writes_by p.ask s.tried p.writes) s.done v next in omega arith))) under_command.search (no_wait s.seen))
+      (good.locked.0, held_same w.locks w.nodes n s r at refl good.locked.1) good.own (small_set w good.small n s r at bs (owes_so s r refl refl refl refl)) (good.few n) (λ m ne. refl) (λ m q ne e. loses_nothing w.locks m q)
+      (stays_stocked s r refl refl (λ h. h) stocked_now)
+      (is_node w.locks bs r refl refl refl refl me.store.kept me.rests under_command.seen under_command.own
+      (subst (IsAtPlan x (waits_at w.locks n s.asked) s.seen (s.done + 1) s.tried) (sym plan) (made.0, made.1, (let lt : s.done < length (writes_by p.ask s.tried p.writes) = slice_get_within (writes_by p.ask s.tried p.writes) s.done v next in omega arith)))
+      under_command.same space_now (no_wait s.seen))

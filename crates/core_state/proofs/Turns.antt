@@ -1,12 +1,9 @@
 -- Every turn keeps the invariant.
-use Rattle.std.proofs.Common.{◌≡◌, ◌<◌, ◌||◌, ℕ, Bool, true, false, cond, List, Option, Some, None, length, slice_get, refl, sym, ap, subst, ◌∙◌}
-use Rattle.lock_db.specs.declared.name.LockName.TheVariants.{V}
-use Rattle.lock_db.specs.declared.resource.Resource.{Resource}
-use Rattle.lock_db.specs.Tables.{asked}
-use Rattle.plain_cat.specs.declared.mode.Mode.TheVariants.{PR, PW}
+use Rattle.std.proofs.Common.{◌≡◌, ◌<◌, ◌&&◌, ◌||◌, not, ℕ, Bool, true, false, cond, List, Option, Some, None, length, slice_get, refl, sym, ap, subst, ◌∙◌, inl, inr}
+use Rattle.plain_cat.specs.declared.mode.Mode.TheVariants.{PR}
 use Rattle.plain_cat.specs.declared.command.Cmd.{Cmd}
 use Rattle.plain_vol.specs.Own.{next_command}
-use Rattle.node_locks.specs.Held.{system_of, waits_at}
+use Rattle.node_locks.specs.Held.{waits_at}
 use Rattle.vol_under.specs.Guards.{MayLook}
 use Rattle.vol_under.specs.UnderWay.{UnderWay, changed}
 use Rattle.vol_under.specs.Under.{IsUnder}
@@ -19,21 +16,23 @@ use Rattle.op_law.specs.declared.need.PlanWrite.{PlanWrite}
 use Rattle.op_law.specs.Needs.{need_of, IsNext}
 use Rattle.op_law.specs.Going.{IsLookAt}
 use Rattle.op_law.specs.Laws.{held_in, Lawful}
-use Rattle.node_space.specs.declared.outcome.Search.{Search as Outcome}
-use Rattle.node_space.specs.declared.outcome.Search.TheVariants as search
-use Rattle.node_space.specs.Answering.{answer, blocks_of}
-use Rattle.core_state.specs.Worlds.{NodeState, Plain, node_at, with_node, current, rows_of}
-use Rattle.core_state.specs.Asks.{writes_by, granted_ask}
-use Rattle.core_state.proofs.Switching.{AsksAlike}
-use Rattle.core_state.specs.Goods.{under_with, nodes_under, HasCommand, IsNode, Good}
+use Rattle.core_space.specs.declared.run.Phase.TheVariants as phase
+use Rattle.core_space.specs.Rule.{space_event}
+use Rattle.core_state.specs.Worlds.{NodeState, Plain, node_at, with_node, or_next, current}
+use Rattle.core_state.specs.Asks.{writes_by}
+use Rattle.core_state.specs.Searches.{wanted_by, numbered_by, IsOff, Spaces}
+use Rattle.core_state.specs.Goods.{under_with, nodes_under, IsNode, Good}
 use Rattle.core_state.specs.Event as event
-use Rattle.core_state.specs.Events.{has_asked, block_at, by_answer, by_writes, by_search, by_need, by_write, by_plan, by_command, is_out, event_of, event_now, prepared_by, prepared, readied_at, happens, happen_at, happen, after_turn, turned, leaving}
-use Rattle.core_state.proofs.Nodes.{at_here}
+use Rattle.core_state.specs.Events.{phase_begun, serves, serving, served_for, served_by, served, space_state, space_need, by_rule, by_need, by_write, by_plan, by_command, by_turn, is_out, gives_back_in, gives_back, stands, event_of, event_now, begun, prepared_by, is_held_up, prepared, readied_at, happens, happen_at, happen, after_turn, turned}
+use Rattle.core_state.proofs.Nodes.{at_here, set_node_twice, set_node_same}
 use Rattle.core_state.proofs.Running.{under_here}
-use Rattle.core_state.proofs.Keeping.{altered}
-use Rattle.core_state.proofs.Beginning.{alone, prepares_keep}
+use Rattle.core_state.proofs.SmallWorlds.{owes_same}
+use Rattle.core_state.proofs.Beginning.{alone, stays_stocked, begins}
+use Rattle.core_state.proofs.Standing.{at_rest_so}
 use Rattle.core_state.proofs.Turning.{under_command, drive, may_need, goes, locks_keep, looks_keep, plans_keep, writes_keep}
-use Rattle.core_state.proofs.Searching.{space_locks_keep, space_looks_keep, space_writes_keep}
+use Rattle.core_state.proofs.Serving.{serve_keeps}
+use Rattle.core_state.proofs.Rulings.{rules_keep, backs_keep}
+use Rattle.core_state.proofs.Leaving.{leaves_keep}
 use Rattle.core_state.proofs.Trying.{ends_keep}
 
 -- ---- a node that does nothing
@@ -42,14 +41,8 @@ module _ (w : Plain) (good : Good w) (n : ℕ) (s : NodeState) (at : node_at w.n
   mine : IsNode w n s
   mine = good.nodes n s at
 
-  alike : (r : NodeState) → rows_of r ≡ rows_of s → AsksAlike (granted_ask s.tried s.plan) (granted_ask r.tried r.plan) → r.opens ≡ s.opens → under_with w.locks n s s.cmd ≡ under_with w.locks n r r.cmd → IsNode (with_node w n r) n r → Good (with_node w n r)
-  alike r same asks opens under is = alone w good n s at r same asks opens drive is where
-    drive : IsUnder w.geometry good.running.cat (changed (nodes_under w.locks w.nodes) n (under_with w.locks n r r.cmd)) w.blocks
-    drive = subst (λ (v : UnderWay). IsUnder w.geometry good.running.cat (changed (nodes_under w.locks w.nodes) n v) w.blocks) (under_here w.locks w.nodes n s at ∙ under)
-        (nodes_alike w.geometry good.running.cat (nodes_under w.locks w.nodes) (changed (nodes_under w.locks w.nodes) n (nodes_under w.locks w.nodes n)) w.blocks (λ m. sym (each (λ (k : ℕ) (v : UnderWay). v ≡ nodes_under w.locks w.nodes k) (nodes_under w.locks w.nodes) n (nodes_under w.locks w.nodes n) refl (λ k ne. refl) m)) good.running.drive)
-
   turned_keeps : Good (with_node w n (turned s))
-  turned_keeps = alike (turned s) refl (λ part o low. refl) refl (by_cmd s.cmd) (record {
+  turned_keeps = alone w good n s at (turned s) refl (λ part o low. refl) refl (owes_same s (turned s) refl refl) (stays_stocked s (turned s) refl refl (λ h. h) (good.running.stocked n s at)) drive_then (record {
     past = mine.past;
     geometry = mine.geometry;
     channels = mine.channels;
@@ -57,70 +50,47 @@ module _ (w : Plain) (good : Good w) (n : ℕ) (s : NodeState) (at : node_at w.n
     store = mine.store;
     rests = mine.rests;
     command = mine.command;
+    space = mine.space;
     over = mine.over;
     gone = mine.gone;
   }) where
-    by_cmd : (o : Option Cmd) → under_with w.locks n s o ≡ under_with w.locks n (turned s) o
-    by_cmd None = refl
-    by_cmd (Some x) = refl
+    drive_then : IsUnder w.geometry good.running.cat (changed (nodes_under w.locks w.nodes) n (under_with w.locks n (turned s) s.cmd)) w.blocks
+    drive_then = subst (λ (v : UnderWay). IsUnder w.geometry good.running.cat (changed (nodes_under w.locks w.nodes) n v) w.blocks) (under_here w.locks w.nodes n s at)
+        (nodes_alike w.geometry good.running.cat (nodes_under w.locks w.nodes) (changed (nodes_under w.locks w.nodes) n (nodes_under w.locks w.nodes n)) w.blocks (λ m. sym (each (λ (k : ℕ) (v : UnderWay). v ≡ nodes_under w.locks w.nodes k) (nodes_under w.locks w.nodes) n (nodes_under w.locks w.nodes n) refl (λ k ne. refl) m)) good.running.drive)
 
-  leaves_keep : s.cmd ≡ None → next_command w.script n w.history ≡ None → Good (with_node w n (turned (leaving s)))
-  leaves_keep none over = alike (turned (leaving s)) refl (λ part o low. refl) refl (by_cmd s.cmd) (record {
-    past = mine.past;
-    geometry = mine.geometry;
-    channels = mine.channels;
-    channel = mine.channel;
-    store = mine.store;
-    rests = mine.rests;
-    command = mine.command;
-    over = λ o. (
-      record { cmd = none; asked = (subst (HasCommand w n s) none mine.command).asked; kept = mine.store.kept; back = mine.store.back; stock = mine.store.stock; cache = mine.store.cache },
-      over,
-    );
-    gone = mine.gone;
-  }) where
-    by_cmd : (o : Option Cmd) → under_with w.locks n s o ≡ under_with w.locks n (turned (leaving s)) o
-    by_cmd None = refl
-    by_cmd (Some x) = refl
+-- ---- a node with a command, which gives nothing back
 
--- ---- a node with a command
-
-module _ (w : Plain) (good : Good w) (n : ℕ) (s : NodeState) (at : node_at w.nodes n ≡ Some s) (x : Cmd) (cmd : s.cmd ≡ Some x) (free : waits_at w.locks n s.asked ≡ false) where
+module _ (w : Plain) (good : Good w) (n : ℕ) (s : NodeState) (at : node_at w.nodes n ≡ Some s) (on : is_out s ≡ false) (x : Cmd) (cmd : s.cmd ≡ Some x) (free : waits_at w.locks n s.asked ≡ false) (granted : waits_at w.locks n s.claims ≡ false) (calmly : s.run.phase ≡ phase.Back → ⊥) where
   within : (lbn : ℕ) → lbn < length (drive w good n s at x cmd free).base → lbn < length w.blocks
   within lbn lt = subst (λ (k : ℕ). lbn < k) (sym (drive w good n s at x cmd free).over.count) lt
 
-  search_keeps : s.plan ≡ None → (k : ℕ) (b : Bool) → IsNext x s.seen (need.Space k b) → Good (happens w n s (by_search s k b (has_asked V s.asked)))
-  search_keeps no_plan k b is = by_asked (has_asked V s.asked) refl where
-    answered : has_asked V s.asked ≡ true → slice_get s.run.writes s.run.made ≡ None → (o : Outcome) → answer s.seen.geometry k b (blocks_of s.run.looked) ≡ o → Good (happens w n s (by_answer k b o))
-    answered has none (search.Look lbn) e = space_looks_keep w good n s at x cmd free no_plan k b is has none lbn e
-    answered has none (search.Short r) e = turned_keeps w good n s at
-    answered has none (search.Take ws) e = turned_keeps w good n s at
-
-    taken : has_asked V s.asked ≡ true → (o : Option PlanWrite) → slice_get s.run.writes s.run.made ≡ o → Good (happens w n s (by_writes s k b o))
-    taken has (Some v) e = space_writes_keep w good n s at x cmd free no_plan v e
-    taken has None e = answered has e (answer s.seen.geometry k b (blocks_of s.run.looked)) refl
-
-    by_asked : (t : Bool) → has_asked V s.asked ≡ t → Good (happens w n s (by_search s k b t))
-    by_asked false e = space_locks_keep w good n s at x cmd free no_plan k b is e
-    by_asked true e = taken e (slice_get s.run.writes s.run.made) refl
+  space_keeps : s.plan ≡ None → IsNext x s.seen (need.Space (wanted_by x s.seen) (numbered_by x s.seen)) → (b : Bool) → serves s (wanted_by x s.seen) (numbered_by x s.seen) ≡ b
+      → Good (happens w n s (cond b event.SpaceEnd (by_rule s (phase_begun s.run.phase) (space_need (wanted_by x s.seen) (numbered_by x s.seen)) (space_event (space_state s) (space_need (wanted_by x s.seen) (numbered_by x s.seen))))))
+  space_keeps no_plan is true e = turned_keeps w good n s at
+  space_keeps no_plan is false e = rules_keep w good n s at on x cmd free no_plan granted is e calmly
 
   need_keeps : s.plan ≡ None → (next : Need) → IsNext x s.seen next → Good (happens w n s (by_need s next))
-  need_keeps no_plan (need.Lock name mode) is = locks_keep w good n s at x cmd free no_plan name mode is
+  need_keeps no_plan (need.Lock name mode) is = locks_keep w good n s at x cmd free no_plan calmly name mode is
   need_keeps no_plan (need.Block name lbn) is =
-      looks_keep w good n s at x cmd free no_plan lbn ((goes w good n s at x cmd free).looked s.seen lbn _ (under_command w good n s at x cmd free).seen (subst (IsLookAt lbn) (sym is) refl))
+      looks_keep w good n s at x cmd free no_plan calmly lbn ((goes w good n s at x cmd free).looked s.seen lbn _ (under_command w good n s at x cmd free).seen (subst (IsLookAt lbn) (sym is) refl))
       (λ k b e. absurd (let f : need.Block name lbn ≡ need.Space k b = sym is ∙ e in cc))
       (subst (MayLook (held_in PR s.seen.locks)) (sym (may_need w good n s at x cmd free (need.Block name lbn) is).guard) (may_need w good n s at x cmd free (need.Block name lbn) is).held)
       (within lbn (may_need w good n s at x cmd free (need.Block name lbn) is).within)
   need_keeps no_plan (need.Bare lbn) is =
-      looks_keep w good n s at x cmd free no_plan lbn ((goes w good n s at x cmd free).looked s.seen lbn _ (under_command w good n s at x cmd free).seen (subst (IsLookAt lbn) (sym is) refl))
+      looks_keep w good n s at x cmd free no_plan calmly lbn ((goes w good n s at x cmd free).looked s.seen lbn _ (under_command w good n s at x cmd free).seen (subst (IsLookAt lbn) (sym is) refl))
       (λ k b e. absurd (let f : need.Bare lbn ≡ need.Space k b = sym is ∙ e in cc))
       (may_need w good n s at x cmd free (need.Bare lbn) is).guard (within lbn (may_need w good n s at x cmd free (need.Bare lbn) is).within)
-  need_keeps no_plan (need.Space clusters number) is = search_keeps no_plan clusters number is
+  need_keeps no_plan (need.Space clusters number) is =
+      let may = may_need w good n s at x cmd free (need.Space clusters number) is in
+      let k : clusters ≡ wanted_by x s.seen = may.0.clusters_are in
+      let b : number ≡ numbered_by x s.seen = may.0.number_is in
+      subst (λ (nd : Need). Good (happens w n s (by_need s nd))) (λ i. need.Space (sym k i) (sym b i))
+      (space_keeps no_plan (is ∙ (λ i. need.Space (k i) (b i))) (serves s (wanted_by x s.seen) (numbered_by x s.seen)) refl)
   need_keeps no_plan (need.Ready p) is = plans_keep w good n s at x cmd free no_plan p is
 
   write_keeps : (p : Plan) → s.plan ≡ Some p → (o : Option PlanWrite) → slice_get (writes_by p.ask s.tried p.writes) s.done ≡ o → Good (happens w n s (by_write x p s.tried o))
   write_keeps p plan (Some v) next = writes_keep w good n s at x cmd free p plan v next
-  write_keeps p plan None last = ends_keep w good n s at x cmd free p plan last
+  write_keeps p plan None last = ends_keep w good n s at x cmd free granted p plan last
 
   pub plan_keeps : (o : Option Plan) → s.plan ≡ o → Good (happens w n s (by_plan x s o))
   plan_keeps None e = need_keeps e (need_of x s.seen) refl
@@ -128,31 +98,124 @@ module _ (w : Plain) (good : Good w) (n : ℕ) (s : NodeState) (at : node_at w.n
 
 -- ---- any node that has prepared for its event
 
+-- where no request of it stands, it waits for none of its rules for space, and for none of its command but where it gives its stock back
+not_standing : (a g b : Bool) → (a || (not g && b)) ≡ false → (a ≡ false) × (g ≡ false → b ≡ false)
+not_standing true g b e = absurd (let f : true ≡ false = e in cc)
+not_standing false true b e = (refl, λ f. absurd (let z : true ≡ false = f in cc))
+not_standing false false b e = (refl, λ f. e)
+
 module _ (w : Plain) (good : Good w) (n : ℕ) (s : NodeState) (at : node_at w.nodes n ≡ Some s) where
-  pub event_keeps : (is_out s ≡ false → waits_at w.locks n s.asked ≡ false → s.cmd ≡ None → next_command w.script n w.history ≡ None) → Good (happens w n s (event_of w n (Some s)))
+  pub event_keeps : (is_out s ≡ false → stands w n s ≡ false → gives_back w n s ≡ false → s.cmd ≡ None → next_command w.script n w.history ≡ None) → Good (happens w n s (event_of w n (Some s)))
   event_keeps ends = by_out (is_out s) refl where
-    by_cmd : is_out s ≡ false → waits_at w.locks n s.asked ≡ false → (o : Option Cmd) → s.cmd ≡ o → Good (happens w n s (by_command s o))
-    by_cmd on free None e = leaves_keep w good n s at e (ends on free e)
-    by_cmd on free (Some x) e = plan_keeps w good n s at x e free s.plan refl
+    calmly : gives_back w n s ≡ false → s.run.phase ≡ phase.Back → ⊥
+    calmly e f = absurd (let g : true ≡ false = sym (ap (gives_back_in w n s) f) ∙ e in cc)
 
-    by_waits : (t : Bool) → is_out s ≡ false → waits_at w.locks n s.asked ≡ t → Good (happens w n s (cond t event.Stand (by_command s s.cmd)))
+    by_cmd : is_out s ≡ false → stands w n s ≡ false → gives_back w n s ≡ false → (o : Option Cmd) → s.cmd ≡ o → Good (happens w n s (by_command s o))
+    by_cmd on still keeps_it None e = leaves_keep w good n s at on e (ends on still keeps_it e) keeps_it
+    by_cmd on still keeps_it (Some x) e =
+        let its = not_standing (waits_at w.locks n s.claims) (gives_back w n s) (waits_at w.locks n s.asked) still in
+        plan_keeps w good n s at on x e (its.1 keeps_it) its.0 (calmly keeps_it) s.plan refl
+
+    by_gives : (t : Bool) → is_out s ≡ false → stands w n s ≡ false → gives_back w n s ≡ t → Good (happens w n s (by_turn s t))
+    by_gives true on still e = backs_keep w good n s at on (not_standing (waits_at w.locks n s.claims) (gives_back w n s) (waits_at w.locks n s.asked) still).0 e
+    by_gives false on still e = by_cmd on still e s.cmd refl
+
+    by_waits : (t : Bool) → is_out s ≡ false → stands w n s ≡ t → Good (happens w n s (cond t event.Stand (by_turn s (gives_back w n s))))
     by_waits true on e = turned_keeps w good n s at
-    by_waits false on e = by_cmd on e s.cmd refl
+    by_waits false on e = by_gives (gives_back w n s) on e refl
 
-    by_out : (t : Bool) → is_out s ≡ t → Good (happens w n s (cond t event.Rest (cond (waits_at w.locks n s.asked) event.Stand (by_command s s.cmd))))
+    by_out : (t : Bool) → is_out s ≡ t → Good (happens w n s (cond t event.Rest (cond (stands w n s) event.Stand (by_turn s (gives_back w n s)))))
     by_out true e = turned_keeps w good n s at
-    by_out false e = by_waits (waits_at w.locks n s.asked) e refl
+    by_out false e = by_waits (stands w n s) e refl
+
+-- ---- what a node prepares
+
+-- with space or without, it has the command that it had
+served_cmd : (p : NodeState) (o : Option Cmd) (q : Option Plan) → (served_by p o q).cmd ≡ p.cmd
+served_cmd p None q = refl
+served_cmd p (Some x) (Some y) = refl
+served_cmd p (Some x) None = by_need_of (need_of x p.seen) where
+  by_test : (k : ℕ) (b t : Bool) → (cond t (serving p k b) p).cmd ≡ p.cmd
+  by_test k b true = refl
+  by_test k b false = refl
+
+  by_need_of : (nd : Need) → (served_for p nd).cmd ≡ p.cmd
+  by_need_of (need.Lock name mode) = refl
+  by_need_of (need.Block name lbn) = refl
+  by_need_of (need.Bare lbn) = refl
+  by_need_of (need.Space k b) = by_test k b (serves p k b)
+  by_need_of (need.Ready q) = refl
+
+module _ (w : Plain) (good : Good w) (n : ℕ) (p : NodeState) (at : node_at w.nodes n ≡ Some p) (free : waits_at w.locks n p.asked ≡ false) where
+  as_it_is : Good (with_node w n p)
+  as_it_is = subst (λ (ns : List NodeState). Good (record w { nodes = ns })) (sym (set_node_same w.nodes n p at)) good
+
+  serves_keep : (o : Option Cmd) (q : Option Plan) → p.cmd ≡ o → p.plan ≡ q → Good (with_node w n (served_by p o q))
+  serves_keep None q cmd plan = as_it_is
+  serves_keep (Some x) (Some y) cmd plan = as_it_is
+  serves_keep (Some x) None cmd plan = by_need_of (need_of x p.seen) refl where
+    by_test : (k : ℕ) (b : Bool) → IsNext x p.seen (need.Space k b) → (t : Bool) → serves p k b ≡ t → Good (with_node w n (cond t (serving p k b) p))
+    by_test k b is true e = serve_keeps w good n p at x cmd free plan k b is e
+    by_test k b is false e = as_it_is
+
+    by_need_of : (nd : Need) → IsNext x p.seen nd → Good (with_node w n (served_for p nd))
+    by_need_of (need.Lock name mode) is = as_it_is
+    by_need_of (need.Block name lbn) is = as_it_is
+    by_need_of (need.Bare lbn) is = as_it_is
+    by_need_of (need.Space k b) is = by_test k b is (serves p k b) refl
+    by_need_of (need.Ready q) is = as_it_is
+
+-- where it is held up by nothing
+not_held : (a b c : Bool) → (a || (b || c)) ≡ false → (a ≡ false) × (b ≡ false) × (c ≡ false)
+not_held true b c e = absurd (let f : true ≡ false = e in cc)
+not_held false true c e = absurd (let f : true ≡ false = e in cc)
+not_held false false c e = (refl, refl, e)
+
+module _ (w : Plain) (good : Good w) (n : ℕ) (s : NodeState) (at : node_at w.nodes n ≡ Some s) (lawful : (x : Cmd) → is_held_up w n s ≡ false → current w n s ≡ Some x → Lawful x) where
+  -- it begins its next command
+  begins_keep : is_held_up w n s ≡ false → (o k : Option Cmd) → s.cmd ≡ o → next_command w.script n w.history ≡ k → Good (with_node w n (prepared_by s o k))
+  begins_keep calm_now (Some x) k e f = subst (λ (ns : List NodeState). Good (record w { nodes = ns })) (sym (set_node_same w.nodes n s at)) good
+  begins_keep calm_now None None e f = subst (λ (ns : List NodeState). Good (record w { nodes = ns })) (sym (set_node_same w.nodes n s at)) good
+  begins_keep calm_now None (Some x) e f =
+      let its = not_held (is_out s) (gives_back w n s) (stands w n s) calm_now in
+      begins w good n s at x e its.0 (by_rest its.1) f (lawful x calm_now ((λ i. or_next (e i) (f i)))) where
+        by_rest : gives_back w n s ≡ false → IsOff s.claims s.run s.seen
+        by_rest keeps_it = elim (at_rest_so s.kept s.claims s.run s.stock s.seen (subst (λ (o : Option Cmd). Spaces o s.kept s.claims s.run s.stock s.seen) e (good.nodes n s at).space)) [
+          | inl h ↦ h
+          | inr h ↦ absurd (let z : true ≡ false = sym (ap (gives_back_in w n s) h.back) ∙ keeps_it in cc)
+        ]
+
+  same_asked : (o k : Option Cmd) → (prepared_by s o k).asked ≡ s.asked
+  same_asked (Some x) k = refl
+  same_asked None None = refl
+  same_asked None (Some x) = refl
+
+  -- and is given space from its stock
+  pub prepares_keep : Good (with_node w n (prepared w n s))
+  prepares_keep = by_held (is_held_up w n s) refl where
+    p : NodeState
+    p = prepared_by s s.cmd (next_command w.script n w.history)
+
+    by_held : (t : Bool) → is_held_up w n s ≡ t → Good (with_node w n (cond t s (served p)))
+    by_held true e = subst (λ (ns : List NodeState). Good (record w { nodes = ns })) (sym (set_node_same w.nodes n s at)) good
+    by_held false e =
+        let its = not_held (is_out s) (gives_back w n s) (stands w n s) e in
+        let free = (not_standing (waits_at w.locks n s.claims) (gives_back w n s) (waits_at w.locks n s.asked) its.2).1 its.1 in
+        let v : Plain = with_node w n p in
+        let one : Good v = begins_keep e s.cmd (next_command w.script n w.history) refl refl in
+        let two : Good (with_node v n (served p)) = serves_keep v one n p (at_here w.nodes n p s at) (ap (waits_at w.locks n) (same_asked s.cmd (next_command w.script n w.history)) ∙ free) p.cmd p.plan refl refl in
+        subst (λ (ns : List NodeState). Good (record w { nodes = ns })) (set_node_twice w.nodes n p (served p)) two
 
 -- a node that has prepared and has no command has none left
-ends_at : (w : Plain) (n : ℕ) (s : NodeState) (t : Bool) → (is_out s || waits_at w.locks n s.asked) ≡ t → (o : Option Cmd) → s.cmd ≡ o → (k : Option Cmd) → next_command w.script n w.history ≡ k
-    → is_out (cond t s (prepared_by s o k)) ≡ false → waits_at w.locks n (cond t s (prepared_by s o k)).asked ≡ false → (cond t s (prepared_by s o k)).cmd ≡ None → k ≡ None
-ends_at w n s true e o c k f on free none = absurd (let g : true ≡ false = sym e ∙ (λ i. on i || free i) in cc)
-ends_at w n s false e (Some x) c k f on free none = absurd (let g : Some x ≡ None = sym c ∙ none in cc)
-ends_at w n s false e None c None f on free none = refl
-ends_at w n s false e None c (Some x) f on free none = absurd (let g : Some x ≡ None = none in cc)
+ends_at : (w : Plain) (n : ℕ) (s : NodeState) (t : Bool) → is_held_up w n s ≡ t → (o : Option Cmd) → s.cmd ≡ o → (k : Option Cmd)
+    → is_out (cond t s (served (prepared_by s o k))) ≡ false → stands w n (cond t s (served (prepared_by s o k))) ≡ false → gives_back w n (cond t s (served (prepared_by s o k))) ≡ false → (cond t s (served (prepared_by s o k))).cmd ≡ None → k ≡ None
+ends_at w n s true e o c k on still keeps_it none = absurd (let g : true ≡ false = sym e ∙ (λ i. on i || (keeps_it i || still i)) in cc)
+ends_at w n s false e (Some x) c k on still keeps_it none = absurd (let g : Some x ≡ None = sym c ∙ sym (served_cmd s s.cmd s.plan) ∙ none in cc)
+ends_at w n s false e None c None on still keeps_it none = refl
+ends_at w n s false e None c (Some x) on still keeps_it none = absurd (let g : Some x ≡ None = sym (served_cmd (begun s x) (Some x) s.plan) ∙ none in cc)
 
 -- the turn of a node, whose command obeys the law where it goes on
-pub turn_keeps : (w : Plain) → Good w → (n : ℕ) → ((s : NodeState) (x : Cmd) → node_at w.nodes n ≡ Some s → is_out s ≡ false → waits_at w.locks n s.asked ≡ false → current w n s ≡ Some x → Lawful x) → Good (after_turn w n)
+pub turn_keeps : (w : Plain) → Good w → (n : ℕ) → ((s : NodeState) (x : Cmd) → node_at w.nodes n ≡ Some s → is_held_up w n s ≡ false → current w n s ≡ Some x → Lawful x) → Good (after_turn w n)
 turn_keeps w good n lawful = by_node (node_at w.nodes n) refl where
   at_once : (v : Plain) (o : Option NodeState) → node_at v.nodes n ≡ o → Good (happen_at v n o (event_of v n o)) → Good (happen v n (event_now v n))
   at_once v o e g = subst (λ (q : Option NodeState). Good (happen_at v n q (event_of v n q))) (sym e) g
@@ -163,5 +226,5 @@ turn_keeps w good n lawful = by_node (node_at w.nodes n) refl where
       let p : NodeState = prepared w n s in
       let v : Plain = with_node w n p in
       let there : node_at v.nodes n ≡ Some p = at_here w.nodes n p s e in
-      let good_then : Good v = prepares_keep w good n s e (λ x on free c. lawful s x e on free c) in
-      at_once v (Some p) there (event_keeps v good_then n p there (ends_at w n s (is_out s || waits_at w.locks n s.asked) refl s.cmd refl (next_command w.script n w.history) refl))
+      let good_then : Good v = prepares_keep w good n s e (λ x calm_now c. lawful s x e calm_now c) in
+      at_once v (Some p) there (event_keeps v good_then n p there (ends_at w n s (is_held_up w n s) refl s.cmd refl (next_command w.script n w.history)))

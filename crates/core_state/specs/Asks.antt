@@ -1,5 +1,7 @@
--- The ask of a plan: what a command writes, holds and knows by it.
+-- What is asked for: locks, and the ask of a plan, with what a command writes, holds and knows by it.
 use Rattle.std.specs.Prelude.{◌==◌, ◌&&◌, ◌++◌, take, ℕ, Bool, true, false, List, [], ◌∷◌, Option, Some, None, if◌then◌else◌}
+use Rattle.std.specs.List.{list_any}
+use Rattle.lock_db.specs.Names.{is_same}
 use Rattle.lock_db.specs.declared.name.LockName.{LockName}
 use Rattle.lock_db.specs.declared.name.Owner.{Owner}
 use Rattle.lock_db.specs.declared.name.LockName.TheVariants.{A}
@@ -12,6 +14,15 @@ use Rattle.op_law.specs.declared.need.Plan.{Plan}
 use Rattle.op_law.specs.declared.need.PlanWrite.{PlanWrite}
 use Rattle.op_law.specs.declared.seen.Seen.{Seen}
 use Rattle.op_law.specs.Knows.{knows, is_granted}
+
+-- a lock of this name is asked for
+abbrev pub has_asked : LockName → List (LockName × Mode) → Bool
+has_asked name locks = list_any (λ l. is_same l.0 name) locks
+
+-- the rules for space have asked for a lock
+abbrev pub is_claiming : List (LockName × Mode) → Bool
+is_claiming [] = false
+is_claiming (l ∷ ls) = true
 
 -- the writes of a plan that come before its ask, or all of them where it has none or it was granted
 abbrev pub writes_by : Option Ask → Bool → List PlanWrite → List PlanWrite

@@ -1,5 +1,5 @@
 -- The death of a node, and when a script kills it.
-use Rattle.std.specs.Prelude.{◌==◌, ◌+◌, ◌-◌, ◌++◌, ◌&&◌, not, take, ℕ, Bool, true, false, List, [], ◌∷◌, Option, Some, None, length, map, filter, replicate, if◌then◌else◌}
+use Rattle.std.specs.Prelude.{◌==◌, ◌+◌, ◌++◌, ◌&&◌, not, take, ℕ, Bool, true, false, List, [], ◌∷◌, Option, Some, None, length, map, filter, replicate, if◌then◌else◌}
 use Rattle.std.specs.List.{list_any, range_with_len}
 use Rattle.lock_db.specs.Tables.{dropped}
 use Rattle.plain_cat.specs.declared.history.Stage.{Stage}
@@ -12,10 +12,10 @@ use Rattle.vol_owners.specs.Owners.{Things}
 use Rattle.vol_under.specs.UnderWay.{PlannedWrite, first_stage, stage_after, outs_after, together}
 use Rattle.op_law.specs.Fits.{things}
 use Rattle.op_law.specs.Laws.{planned}
-use Rattle.core_state.specs.Runs.{no_run}
-use Rattle.core_state.specs.Worlds.{Stock, empty_stock, NodeState, Plain, node_at, with_node}
+use Rattle.core_space.specs.Rule.{no_run}
+use Rattle.core_state.specs.Worlds.{empty_stock, NodeState, Plain, node_at, with_node}
 use Rattle.core_state.specs.Asks.{writes_now}
-use Rattle.core_state.specs.Searches.{stock_after}
+use Rattle.core_state.specs.Stocks.{stock_now}
 use Rattle.core_state.specs.Event.{Event}
 use Rattle.core_state.specs.Events.{is_write, next_event, unseen, after_turn, is_over}
 
@@ -29,14 +29,10 @@ writes_done s = take s.done (map planned (writes_now s.tried s.plan))
 abbrev pub stage_now : NodeState → Stage
 stage_now s = stage_after (first_stage s.cmd) (writes_done s)
 
--- what is in a stock
-abbrev pub things_in : Stock → Things
-things_in stock = record { clusters = stock.clusters; numbers = map (λ n. n - 1) stock.numbers }
-
--- All that a node has outside files and bitmaps: what its command has behind the writes done, what its search for space has taken, and
--- its stock.
+-- All that a node has outside files and bitmaps: what its command has behind the writes done, and its stock with what its rules for
+-- space have taken.
 abbrev pub outside_now : NodeState → Things
-outside_now s = together (together (outs_after (things s.seen.clusters s.seen.number) (writes_done s)) (stock_after s.run.writes s.run.made)) (things_in s.stock)
+outside_now s = together (outs_after (things s.seen.clusters s.seen.number) (writes_done s)) (stock_now s.stock s.run)
 
 -- ---- a death
 
@@ -67,7 +63,7 @@ gone s = record s {
   tried = false;
   asked = [];
   kept = [];
-  back = [];
+  claims = [];
   opens = replicate 8 None;
   run = no_run;
   stock = empty_stock;

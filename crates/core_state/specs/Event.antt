@@ -4,6 +4,7 @@ use Rattle.lock_db.specs.declared.name.LockName.{LockName}
 use Rattle.plain_cat.specs.declared.mode.Mode.{Mode}
 use Rattle.plain_cat.specs.declared.command.Cmd.{Cmd}
 use Rattle.plain_cat.specs.declared.reply.Reply.{Reply}
+use Rattle.core_space.specs.declared.run.Phase.{Phase}
 use Rattle.op_law.specs.declared.need.Plan.{Plan as CmdPlan}
 use Rattle.op_law.specs.declared.need.PlanWrite.{PlanWrite}
 use Rattle.op_law.specs.declared.need.Ask.{Ask as PlanAsk}
@@ -22,14 +23,20 @@ pub data Event : Type 0 where
   Look : ℕ → Event
   -- its command looks at a file's own block
   Fetch : ℕ → Event
-  -- its command needs space, and it asks for the lock of the bitmaps
-  SpaceLock : Event
-  -- its search for so many clusters, and a number or none, looks at a block
+  -- by its rules for space, which go on in this phase, it asks for X or for V
+  Claim : Phase → LockName → Mode → Event
+  -- by its rules for space, for so many clusters and a number or none, it looks at a bitmap block
   SpaceLook : ℕ → Bool → ℕ → Event
-  -- its search has come to an end, which was taken over with its last look: so this does not come
-  SpaceEnd : Event
-  -- it makes the next write of its search
+  -- it makes the next write that its rules for space have decided on
   SpaceWrite : PlanWrite → Event
+  -- its stock is filled, and it lowers V
+  LowerV : Event
+  -- too little was found and its stock is given back: it lowers V and X, to have X in EX
+  LowerX : Event
+  -- its stock is given back for good: it lowers V, and gives X back
+  Return : Event
+  -- its rules for space have come to an end, which was taken over with their last look or before: so this does not come
+  SpaceEnd : Event
   -- its command decides on a plan
   Plan : CmdPlan → Event
   -- it makes the next write of its plan

@@ -1,20 +1,21 @@
 -- The event of a node's turn, and what it makes of the world.
-use Rattle.std.specs.Prelude.{◌==◌, ◌+◌, ◌-◌, ◌^◌, ◌++◌, ◌||◌, min, ℕ, Bool, true, false, List, [], ◌∷◌, Option, Some, None, slice_get, slice_set, slice_index_or, length, if◌then◌else◌}
-use Rattle.std.specs.List.{list_any}
+use Rattle.std.specs.Prelude.{◌==◌, ◌+◌, ◌-◌, ◌^◌, ◌++◌, ◌||◌, ◌&&◌, not, min, ℕ, Bool, true, false, List, [], ◌∷◌, Option, Some, None, is_none, filter, find, slice_get, slice_set, slice_index_or, length, if◌then◌else◌}
 use Rattle.vol_words.specs.Fields.{Block}
 use Rattle.lock_db.specs.declared.name.LockName.{LockName}
-use Rattle.lock_db.specs.declared.name.LockName.TheVariants.{A, V}
+use Rattle.lock_db.specs.declared.name.LockName.TheVariants.{A, X, V}
 use Rattle.lock_db.specs.declared.resource.Resource.{Resource}
 use Rattle.lock_db.specs.Names.{is_same}
-use Rattle.lock_db.specs.Tables.{resource_at, asked, released}
+use Rattle.lock_db.specs.Queues.{holds_up}
+use Rattle.lock_db.specs.Tables.{resource_at, converted, released}
 use Rattle.plain_cat.specs.declared.mode.Mode.{Mode}
-use Rattle.plain_cat.specs.declared.mode.Mode.TheVariants.{PW}
+use Rattle.plain_cat.specs.declared.mode.Mode.TheVariants.{NL}
 use Rattle.plain_cat.specs.declared.command.Cmd.{Cmd}
 use Rattle.plain_cat.specs.declared.reply.Reply.{Reply}
+use Rattle.plain_cat.specs.declared.reply.Refusal.{Refusal}
 use Rattle.plain_cat.specs.declared.history.Entry.TheVariants.{Done}
 use Rattle.plain_vol.specs.Own.{after_answer, next_command}
 use Rattle.vol_parts.specs.declared.geometry.Geometry.{Geometry}
-use Rattle.node_locks.specs.Held.{system_of, waits_at}
+use Rattle.node_locks.specs.Held.{system_of, waits_at, without}
 use Rattle.node_locks.specs.Taking.{taken, taken_now}
 use Rattle.node_locks.specs.Sequences.{raised_block}
 use Rattle.op_law.specs.declared.need.Need.{Need}
@@ -25,45 +26,89 @@ use Rattle.op_law.specs.declared.need.Ask.{Ask as PlanAsk}
 use Rattle.op_law.specs.declared.seen.Seen.{Seen}
 use Rattle.op_law.specs.Needs.{need_of}
 use Rattle.op_law.specs.Going.{with_lock, with_block, with_space}
-use Rattle.node_space.specs.declared.outcome.Search.{Search as Outcome}
-use Rattle.node_space.specs.declared.outcome.Search.TheVariants as search
-use Rattle.node_space.specs.Answering.{answer, blocks_of}
+use Rattle.extent_cache.specs.Takings.{holds_enough, lowest}
+use Rattle.node_space.specs.Taking.{out_after}
+use Rattle.core_space.specs.declared.run.Phase.{Phase}
+use Rattle.core_space.specs.declared.run.Phase.TheVariants as phase
+use Rattle.core_space.specs.declared.run.SpaceRun.{SpaceRun}
+use Rattle.core_space.specs.declared.run.SpaceLocks.{SpaceLocks}
+use Rattle.core_space.specs.declared.run.SpaceNeed.{SpaceNeed}
+use Rattle.core_space.specs.declared.event.SpaceEvent.{SpaceEvent}
+use Rattle.core_space.specs.declared.event.SpaceEvent.TheVariants as space
+use Rattle.core_space.specs.declared.event.Decision.{Decision}
+use Rattle.core_space.specs.Rule.{SpaceState, no_run, has_any, is_due, space_event, back_event, space_decision}
 use Rattle.core_state.specs.Event.{Event}
 use Rattle.core_state.specs.Event as event
-use Rattle.core_state.specs.declared.space.Phase.TheVariants as phase
-use Rattle.core_state.specs.declared.space.SpaceRun.{SpaceRun}
-use Rattle.core_state.specs.Runs.{no_run}
-use Rattle.core_state.specs.Worlds.{NodeState, Plain, node_at, with_node}
+use Rattle.core_state.specs.Worlds.{Stock, NodeState, Plain, node_at, with_node, current}
+use Rattle.core_state.specs.Stocks.{roomless, filled_by, without_lowest, left_by}
+use Rattle.core_state.specs.Searches.{begun_run}
 use Rattle.core_state.specs.Channels.{channel_seen, opens_then, closed_off}
-use Rattle.core_state.specs.Asks.{writes_by, writes_now, asker_of, own_of, with_ask}
+use Rattle.core_state.specs.Asks.{has_asked, is_claiming, writes_by, writes_now, asker_of, own_of, with_ask}
 use Rattle.core_state.specs.Raises.{raise_of}
 
 -- ---- which event comes
 
--- a lock of this name is asked for
-abbrev pub has_asked : LockName → List (LockName × Mode) → Bool
-has_asked name locks = list_any (λ l. is_same l.0 name) locks
+-- the mode in which one of these locks is on a name
+abbrev pub mode_of_lock : Option (LockName × Mode) → Option Mode
+mode_of_lock None = None
+mode_of_lock (Some l) = Some l.1
 
--- a search that looks on
-abbrev pub by_answer : ℕ → Bool → Outcome → Event
-by_answer clusters number (search.Look lbn) = event.SpaceLook clusters number lbn
-by_answer clusters number other = event.SpaceEnd
+abbrev pub mode_in : LockName → List (LockName × Mode) → Option Mode
+mode_in name locks = mode_of_lock (find (λ l. is_same l.0 name) locks)
 
--- the next write of the search, else its next look
-abbrev pub by_writes : NodeState → ℕ → Bool → Option PlanWrite → Event
-by_writes s clusters number (Some w) = event.SpaceWrite w
-by_writes s clusters number None = by_answer clusters number (answer s.seen.geometry clusters number (blocks_of s.run.looked))
+-- the modes in which it holds X and V by its rules for space, where it does not wait for the one that it has claimed
+abbrev pub space_locks : NodeState → SpaceLocks
+space_locks s = record { x = mode_in X (s.kept ++ s.claims); v = mode_in V (s.kept ++ s.claims) }
 
--- a search begins with the lock of the bitmaps
-abbrev pub by_search : NodeState → ℕ → Bool → Bool → Event
-by_search s clusters number false = event.SpaceLock
-by_search s clusters number true = by_writes s clusters number (slice_get s.run.writes s.run.made)
+-- the node as its rules for space see it
+abbrev pub space_state : NodeState → SpaceState
+space_state s = record { geometry = s.seen.geometry; locks = space_locks s; run = s.run; stock = roomless s.stock }
+
+-- the next write of its rules for space
+abbrev pub by_put : Option PlanWrite → Event
+by_put (Some w) = event.SpaceWrite w
+by_put None = event.SpaceEnd
+
+-- the event of its rules for space, which go on in this phase, for so many clusters and a number or none
+abbrev pub by_rule : NodeState → Phase → SpaceNeed → SpaceEvent → Event
+by_rule s p need space.Enough = event.SpaceEnd
+by_rule s p need (space.Ask name mode) = event.Claim p name mode
+by_rule s p need space.LowerX = event.LowerX
+by_rule s p need (space.Look lbn) = event.SpaceLook need.clusters need.number lbn
+by_rule s p need (space.Put lbn b) = by_put (slice_get s.run.writes s.run.made)
+by_rule s p need space.LowerV = event.LowerV
+by_rule s p need space.Return = event.Return
+by_rule s p need (space.Short r) = event.SpaceEnd
+
+-- the phase of a rule that has begun: of one that is not begun that in which the stock is filled
+abbrev pub phase_begun : Phase → Phase
+phase_begun phase.Off = phase.Fill
+phase_begun other = other
+
+-- a command may be given from the stock: its node has not claimed a lock of free space, and does not search all of it
+abbrev pub may_serve : Phase → Bool → Bool
+may_serve phase.Off claiming = not claiming
+may_serve phase.Fill claiming = not claiming
+may_serve other claiming = false
+
+-- and the stock is enough
+abbrev pub serves : NodeState → ℕ → Bool → Bool
+serves s clusters number = may_serve s.run.phase (is_claiming s.claims) && holds_enough clusters number (roomless s.stock)
+
+abbrev pub space_need : ℕ → Bool → SpaceNeed
+space_need clusters number = record { clusters = clusters; number = number }
+
+-- its command needs space, which its stock has not
+abbrev pub by_space : NodeState → ℕ → Bool → Event
+by_space s clusters number =
+    if serves s clusters number then event.SpaceEnd
+    else by_rule s (phase_begun s.run.phase) (space_need clusters number) (space_event (space_state s) (space_need clusters number))
 
 abbrev pub by_need : NodeState → Need → Event
 by_need s (need.Lock name mode) = event.Lock name mode
 by_need s (need.Block name lbn) = event.Look lbn
 by_need s (need.Bare lbn) = event.Fetch lbn
-by_need s (need.Space clusters number) = by_search s clusters number (has_asked V s.asked)
+by_need s (need.Space clusters number) = by_space s clusters number
 by_need s (need.Ready p) = event.Plan p
 
 -- behind the writes an ask that was not granted yet, or the answer
@@ -90,10 +135,49 @@ by_command s (Some x) = by_plan x s s.plan
 abbrev pub is_out : NodeState → Bool
 is_out s = s.over || s.past.dead
 
+-- ---- a give-back
+
+-- no command is left to a node
+abbrev pub is_ended : Plain → ℕ → NodeState → Bool
+is_ended w n s = is_none (current w n s)
+
+-- another node waits for X, which this one holds
+abbrev pub is_wanted : Plain → ℕ → Bool
+is_wanted w n = holds_up (system_of n) (resource_at X w.locks).askers
+
+-- Its stock is to go back, in this phase of its rules: they are not begun, and it is due. Its command is busy with V where it has
+-- asked for it; one that has come to its rules for space is in another phase.
+abbrev pub is_due_in : Plain → ℕ → NodeState → Phase → Bool
+is_due_in w n s phase.Off = is_due (space_locks s) (roomless s.stock) (is_wanted w n) (has_asked V s.asked) (is_ended w n s)
+is_due_in w n s other = false
+
+-- a give-back is under way, or due
+abbrev pub gives_back_in : Plain → ℕ → NodeState → Phase → Bool
+gives_back_in w n s phase.Back = true
+gives_back_in w n s other = is_due_in w n s other
+
+abbrev pub gives_back : Plain → ℕ → NodeState → Bool
+gives_back w n s = gives_back_in w n s s.run.phase
+
+-- the event of a give-back
+abbrev pub by_back : NodeState → Event
+by_back s = by_rule s phase.Back (space_need 0 false) (back_event (space_state s))
+
+-- ---- the first rule that applies
+
+-- its request stands in a queue still, for its rules for space, or else for its command
+abbrev pub stands : Plain → ℕ → NodeState → Bool
+stands w n s = waits_at w.locks n s.claims || (not (gives_back w n s) && waits_at w.locks n s.asked)
+
+-- the event of a node that is not out and does not wait
+abbrev pub by_turn : NodeState → Bool → Event
+by_turn s true = by_back s
+by_turn s false = by_command s s.cmd
+
 -- the first rule that applies to a node that has prepared for its event
 abbrev pub event_of : Plain → ℕ → Option NodeState → Event
 event_of w n None = event.Rest
-event_of w n (Some s) = if is_out s then event.Rest else if waits_at w.locks n s.asked then event.Stand else by_command s s.cmd
+event_of w n (Some s) = if is_out s then event.Rest else if stands w n s then event.Stand else by_turn s (gives_back w n s)
 
 abbrev pub event_now : Plain → ℕ → Event
 event_now w n = event_of w n (node_at w.nodes n)
@@ -110,10 +194,34 @@ prepared_by s (Some x) next = s
 prepared_by s None (Some x) = begun s x
 prepared_by s None None = s
 
--- What a node does before its event, and without an event of its own: it begins its next command, where it is not over, does not
--- wait, and has none.
+-- what a command was given from the stock: the lowest of it
+abbrev pub serving : NodeState → ℕ → Bool → NodeState
+serving s clusters number = record s {
+  seen = with_space (lowest clusters number (roomless s.stock)).clusters (lowest clusters number (roomless s.stock)).number None s.seen;
+  stock = without_lowest clusters number s.stock;
+  run = record s.run { phase = phase.Fill };
+}
+
+-- where its command needs space, and its stock is enough, it is given it
+abbrev pub served_for : NodeState → Need → NodeState
+served_for s (need.Space clusters number) = if serves s clusters number then serving s clusters number else s
+served_for s other = s
+
+abbrev pub served_by : NodeState → Option Cmd → Option Plan → NodeState
+served_by s (Some x) None = served_for s (need_of x s.seen)
+served_by s cmd plan = s
+
+abbrev pub served : NodeState → NodeState
+served s = served_by s s.cmd s.plan
+
+-- a node that is out, waits or gives its stock back prepares nothing
+abbrev pub is_held_up : Plain → ℕ → NodeState → Bool
+is_held_up w n s = is_out s || (gives_back w n s || stands w n s)
+
+-- What a node does before its event, and without an event of its own: it begins its next command, where it has none, and is given
+-- space from its stock, where it needs space and the stock is enough.
 abbrev pub prepared : Plain → ℕ → NodeState → NodeState
-prepared w n s = if is_out s || waits_at w.locks n s.asked then s else prepared_by s s.cmd (next_command w.script n w.history)
+prepared w n s = if is_held_up w n s then s else served (prepared_by s s.cmd (next_command w.script n w.history))
 
 abbrev pub readied_at : Plain → ℕ → Option NodeState → Plain
 readied_at w n None = w
@@ -144,6 +252,11 @@ abbrev pub given_back : Geometry → ℕ → List PlanWrite → List (LockName �
 given_back g n ws [] t = t
 given_back g n ws (l ∷ locks) t = given_back g n ws locks (released l.0 (system_of n) (raised_block (raise_of g l.0 ws) (resource_at l.0 t)) t)
 
+-- the locks given back with their value blocks left as they are
+abbrev pub left_alone : ℕ → List (LockName × Mode) → List Resource → List Resource
+left_alone n [] t = t
+left_alone n (l ∷ locks) t = left_alone n locks (released l.0 (system_of n) (resource_at l.0 t).value t)
+
 -- the writes of a node's search and those of its plan, where its ask was not granted those before it
 abbrev pub all_writes : NodeState → List PlanWrite
 all_writes s = s.run.writes ++ writes_now s.tried s.plan
@@ -160,50 +273,82 @@ abbrev pub turned : NodeState → NodeState
 turned s = record s { turns = one_more s.turns }
 
 abbrev pub locking : NodeState → LockName → Mode → NodeState
-locking s name mode = record s { asked = s.asked ++ (name, mode) ∷ []; seen = with_lock name mode s.seen }
+locking s name mode = record s { asked = s.asked ++ (name, mode) ∷ []; kept = without name s.kept; seen = with_lock name mode s.seen }
 
-abbrev pub space_locking : NodeState → NodeState
-space_locking s = record s { asked = s.asked ++ (V, PW) ∷ []; run = record s.run { phase = phase.Last } }
+-- X or V is claimed: X, which was claimed before it, is kept
+abbrev pub claiming : NodeState → Phase → LockName → Mode → NodeState
+claiming s p name mode = record s { kept = without name (s.kept ++ s.claims); claims = (name, mode) ∷ []; run = record s.run { phase = p } }
 
 abbrev pub looking : NodeState → ℕ → Block → NodeState
 looking s lbn b = record s { seen = with_block lbn b s.seen; reads = one_more s.reads }
 
--- what the command has seen once its search has come to this: why it was refused, where it was
-abbrev pub told_by : Outcome → Seen → Seen
-told_by (search.Short r) seen = with_space [] None (Some r) seen
-told_by other seen = seen
-
--- the writes that a search has decided on once it has come to this
-abbrev pub writes_found : Outcome → List PlanWrite → List PlanWrite
-writes_found (search.Take ws) old = ws
-writes_found other old = old
+-- what the command has seen once its rules for space have come to this: why it was refused, where it was
+abbrev pub told_by : Option Refusal → Seen → Seen
+told_by (Some r) seen = with_space [] None (Some r) seen
+told_by None seen = seen
 
 -- a block more is looked at
-abbrev pub looked_on : SpaceRun → ℕ → Block → List (ℕ × Block)
-looked_on run lbn b = run.looked ++ (lbn, b) ∷ []
+abbrev pub looked_on : SpaceRun → ℕ → Block → SpaceRun
+looked_on run lbn b = record run { looked = run.looked ++ (lbn, b) ∷ [] }
 
--- a look of the search, with what the search comes to by it
-abbrev pub space_looked : NodeState → ℕ → Block → Outcome → NodeState
-space_looked s lbn b o = record s {
-  seen = told_by o s.seen;
-  run = record s.run { looked = looked_on s.run lbn b; writes = writes_found o s.run.writes };
+-- the clusters that the last of these writes gives to the command, in the search of all free space
+abbrev pub ready_of : Phase → List PlanWrite → List ℕ
+ready_of phase.Last ws = (out_after ws (length ws)).clusters
+ready_of other ws = []
+
+-- they are listed until then
+abbrev pub ready_left : Phase → Bool → List ℕ → List ℕ
+ready_left phase.Last true clusters = []
+ready_left p last clusters = clusters
+
+-- a look by the rules for space, with what they come to by it
+abbrev pub space_looked : NodeState → List (ℕ × Block) → Decision → NodeState
+space_looked s looked d = record s {
+  seen = told_by d.short s.seen;
+  run = record { phase = d.phase; looked = looked; writes = d.writes; made = 0; ready = ready_of d.phase d.writes };
   reads = one_more s.reads;
 }
 
 abbrev pub space_looking : NodeState → ℕ → Bool → ℕ → Block → NodeState
-space_looking s clusters number lbn b = space_looked s lbn b (answer s.seen.geometry clusters number (blocks_of (looked_on s.run lbn b)))
+space_looking s clusters number lbn b =
+    space_looked s (looked_on s.run lbn b).looked (space_decision s.seen.geometry (looked_on s.run lbn b) (roomless s.stock) (space_need clusters number))
 
--- with the last write of the search the command is given what it has taken
-abbrev pub given_by : Bool → PlanWrite → Seen → Seen
-given_by true v seen = with_space v.clusters v.number None seen
-given_by false v seen = seen
+-- with its last write a search of all free space gives the command what it has taken
+abbrev pub given_by : Phase → Bool → PlanWrite → Seen → Seen
+given_by phase.Last true v seen = with_space v.clusters v.number None seen
+given_by p last v seen = seen
+
+-- With its last write a filling puts what it has taken into the stock. With each write of a give-back what it makes free leaves the
+-- stock.
+abbrev pub stocked_by : Phase → Bool → Geometry → PlanWrite → Stock → Stock
+stocked_by phase.Fill true g v stock = filled_by v stock
+stocked_by phase.Drain last g v stock = left_by g v.lbn stock
+stocked_by phase.Back last g v stock = left_by g v.lbn stock
+stocked_by p last g v stock = stock
+
+-- the next write is the last
+abbrev pub is_last : SpaceRun → Bool
+is_last run = run.made + 1 == length run.writes
 
 abbrev pub space_writing : NodeState → PlanWrite → NodeState
 space_writing s v = record s {
-  seen = given_by (s.run.made + 1 == length s.run.writes) v s.seen;
-  run = record s.run { made = s.run.made + 1 };
+  seen = given_by s.run.phase (is_last s.run) v s.seen;
+  stock = stocked_by s.run.phase (is_last s.run) s.seen.geometry v s.stock;
+  run = record s.run { made = s.run.made + 1; ready = ready_left s.run.phase (is_last s.run) s.run.ready };
   writes = one_more s.writes;
 }
+
+-- the stock is filled, and V lowered
+abbrev pub lowering : NodeState → NodeState
+lowering s = record s { kept = s.kept ++ (V, NL) ∷ []; claims = []; run = begun_run phase.Fill }
+
+-- V is lowered, and behind it X
+abbrev pub lowering_both : NodeState → NodeState
+lowering_both s = record s { kept = without X (s.kept ++ (V, NL) ∷ []) ++ (X, NL) ∷ []; claims = []; run = begun_run phase.Last }
+
+-- V is lowered, and X given back
+abbrev pub returning : NodeState → NodeState
+returning s = record s { kept = without X (s.kept ++ (V, NL) ∷ []); claims = []; run = no_run }
 
 abbrev pub planning : NodeState → Plan → NodeState
 planning s p = record s { plan = Some p; done = 0; tried = false }
@@ -215,6 +360,17 @@ asking s a = record s { asked = with_ask s.asked (own_of (Some a)); tried = true
 abbrev pub writing : NodeState → NodeState
 writing s = record s { done = s.done + 1; writes = one_more s.writes }
 
+-- a kept lock stays behind an answer: X, where the stock has something
+abbrev pub stays : Stock → LockName × Mode → Bool
+stays stock l = is_same l.0 X && has_any (roomless stock)
+
+-- the locks that stay, and those that go back: those of the command, that of the rules for space, and the kept ones that do not stay
+abbrev pub staying : NodeState → List (LockName × Mode)
+staying s = filter (stays s.stock) s.kept
+
+abbrev pub going : NodeState → List (LockName × Mode)
+going s = s.asked ++ (s.claims ++ filter (λ l. not (stays s.stock l)) s.kept)
+
 abbrev pub answering : NodeState → Cmd → Reply → NodeState
 answering s x r = record s {
   past = after_answer s.past x r;
@@ -224,17 +380,31 @@ answering s x r = record s {
   done = 0;
   tried = false;
   asked = [];
+  kept = staying s;
+  claims = [];
   opens = opens_then s.opens x r;
   run = no_run;
 }
 
+-- a node leaves with no lock
 abbrev pub leaving : NodeState → NodeState
-leaving s = record s { over = true }
+leaving s = record s { kept = []; over = true }
 
--- The locks after an answer: those of the command went back, and then that of its channel, where it was closed. A channel that
--- OPEN has opened keeps its lock.
+-- The locks after an answer: those that do not stay went back, and then that of its channel, where it was closed. A channel that OPEN
+-- has opened keeps its lock.
 abbrev pub locks_after : Plain → ℕ → NodeState → Cmd → Reply → List Resource
-locks_after w n s x r = closed_off n (channel_seen s.opens x) x r (given_back w.geometry n (all_writes s) s.asked w.locks)
+locks_after w n s x r = closed_off n (channel_seen s.opens x) x r (given_back w.geometry n (all_writes s) (going s) w.locks)
+
+-- after V is lowered from PW, its value block raised by the writes under it
+abbrev pub v_lowered : Plain → ℕ → NodeState → List Resource
+v_lowered w n s = converted V (system_of n) NL (raised_block (raise_of w.geometry V s.run.writes) (resource_at V w.locks)) w.locks
+
+-- after X is lowered, and after it is given back
+abbrev pub x_lowered : ℕ → List Resource → List Resource
+x_lowered n t = converted X (system_of n) NL (resource_at X t).value t
+
+abbrev pub x_returned : ℕ → List Resource → List Resource
+x_returned n t = released X (system_of n) (resource_at X t).value t
 
 -- node n, which stands as s, answers
 abbrev pub answered_by : Plain → ℕ → NodeState → Cmd → Reply → Plain
@@ -253,12 +423,15 @@ asked_by w n s x a false = answered_by w n s x a.refused
 abbrev pub happens : Plain → ℕ → NodeState → Event → Plain
 happens w n s event.Rest = with_node w n (turned s)
 happens w n s event.Stand = with_node w n (turned s)
-happens w n s event.Leave = with_node w n (turned (leaving s))
-happens w n s (event.Lock name mode) = with_node (record w { locks = asked name (system_of n) mode w.locks }) n (turned (locking s name mode))
+happens w n s event.Leave = with_node (record w { locks = left_alone n s.kept w.locks }) n (turned (leaving s))
+happens w n s (event.Lock name mode) = with_node (record w { locks = taken name (system_of n) mode w.locks }) n (turned (locking s name mode))
 happens w n s (event.Look lbn) = with_node w n (turned (looking s lbn (block_at w.blocks lbn)))
 happens w n s (event.Fetch lbn) = with_node w n (turned (looking s lbn (block_at w.blocks lbn)))
-happens w n s event.SpaceLock = with_node (record w { locks = asked V (system_of n) PW w.locks }) n (turned (space_locking s))
+happens w n s (event.Claim p name mode) = with_node (record w { locks = taken name (system_of n) mode w.locks }) n (turned (claiming s p name mode))
 happens w n s (event.SpaceLook clusters number lbn) = with_node w n (turned (space_looking s clusters number lbn (block_at w.blocks lbn)))
+happens w n s event.LowerV = with_node (record w { locks = v_lowered w n s }) n (turned (lowering s))
+happens w n s event.LowerX = with_node (record w { locks = x_lowered n (v_lowered w n s) }) n (turned (lowering_both s))
+happens w n s event.Return = with_node (record w { locks = x_returned n (v_lowered w n s) }) n (turned (returning s))
 happens w n s event.SpaceEnd = with_node w n (turned s)
 happens w n s (event.SpaceWrite v) = with_node (record w { blocks = slice_set w.blocks v.lbn v.block }) n (turned (space_writing s v))
 happens w n s (event.Plan p) = with_node w n (turned (planning s p))

@@ -1,5 +1,5 @@
 -- The invariant of a world, in parts.
-use Rattle.std.specs.Prelude.{◌≡◌, ◌≤◌, ◌⊎◌, ◌+◌, ◌++◌, take, ℕ, Bool, true, false, List, [], ◌∷◌, Option, Some, None, is_some, length, if◌then◌else◌}
+use Rattle.std.specs.Prelude.{◌≡◌, ◌≤◌, ◌⊎◌, ◌+◌, ◌++◌, ℕ, Bool, true, false, List, [], ◌∷◌, Option, Some, None, is_some, length, if◌then◌else◌}
 use Rattle.std.specs.List.{count_by}
 use Rattle.lock_db.specs.declared.name.LockName.{LockName}
 use Rattle.lock_db.specs.declared.resource.Resource.{Resource}
@@ -32,15 +32,14 @@ use Rattle.op_law.specs.Events.{space_of, HasNoSpace}
 use Rattle.op_law.specs.Needs.{IsNext}
 use Rattle.op_law.specs.Fits.{HasSeen}
 use Rattle.op_law.specs.Laws.{held_in, under_way, takes_lock, Lawful}
-use Rattle.core_state.specs.declared.space.SpaceRun.{SpaceRun}
-use Rattle.core_state.specs.Runs.{no_run}
 use Rattle.core_state.specs.Worlds.{Course, course_of, NodeState, Plain, node_at, rows_of, rows_at}
-use Rattle.core_state.specs.Asks.{writes_by, writes_now, own_ask, knows_now}
+use Rattle.core_state.specs.Asks.{writes_by, writes_now, own_ask, with_ask, knows_now}
 use Rattle.core_state.specs.Opens.{open_now, AreOpensLocked}
 use Rattle.core_state.specs.Channels.{names_in_form, channel_now, HasChannels, HasOpens}
 use Rattle.core_state.specs.Stores.{HasStore, IsGone, IsStocked, AreCached}
-use Rattle.core_state.specs.Searches.{unwritten, stock_after, Spaces}
-use Rattle.core_state.specs.Waiting.{WaitsFor}
+use Rattle.core_state.specs.Stocks.{stock_now, looked_now}
+use Rattle.core_state.specs.Searches.{Spaces}
+use Rattle.core_state.specs.Waiting.{WaitsForLock}
 use Rattle.core_state.specs.Small.{AreSmall}
 use Rattle.core_state.specs.Fallen.{falls, fallen, living}
 
@@ -50,16 +49,19 @@ use Rattle.core_state.specs.Fallen.{falls, fallen, living}
 abbrev pub held_by : List Resource → ℕ → NodeState → Row
 held_by t n s = all_held t n (rows_of s)
 
--- A node as the drive sees it: at rest, or with its command, the locks that are granted to it, what it has seen for the command
--- and looked at in its search for space, what the search has taken, and its writes, all or those before its ask.
+-- the command of a node as the drive sees it: what it knows, was given, and its writes, all or those before its ask
+abbrev pub command_under : ℕ → Seen → Bool → Option Plan → ℕ → Option Cmd → UnderWay
+command_under n seen tried plan done None = resting nothing
+command_under n seen tried plan done (Some x) = record (under_way x seen (writes_now tried plan) (knows_now n x seen tried plan)) { done = done }
+
+-- A node as the drive sees it: its command, the locks that are granted to it, what it has looked at by its rules for space and for the
+-- command, and its stock with what the rules have taken.
 abbrev pub under_with : List Resource → ℕ → NodeState → Option Cmd → UnderWay
-under_with t n s None = resting nothing
-under_with t n s (Some x) = record (under_way x s.seen (writes_now s.tried s.plan) (knows_now n x s.seen s.tried s.plan)) {
+under_with t n s o = record (command_under n s.seen s.tried s.plan s.done o) {
   read = held_in PR (held_by t n s);
   write = held_in PW (held_by t n s);
-  seen = unwritten (take s.run.made s.run.writes) s.run.looked ++ s.seen.blocks;
-  done = s.done;
-  stock = stock_after s.run.writes s.run.made;
+  seen = looked_now s.run ++ s.seen.blocks;
+  stock = stock_now s.stock s.run;
 }
 
 abbrev pub under_by : List Resource → ℕ → Option NodeState → UnderWay
@@ -91,7 +93,7 @@ pub record IsRunning (w : Plain) : Type 0 where
   pub named : OpensNameFiles cat
   pub opens : AreOpensLocked w.locks (open_now cat w.nodes)
   pub opened : (n : ℕ) (s : NodeState) → node_at w.nodes n ≡ Some s → HasOpens cat n s.opens
-  pub stocked : (n : ℕ) (s : NodeState) → node_at w.nodes n ≡ Some s → IsStocked w.locks n s
+  pub stocked : (n : ℕ) (s : NodeState) → node_at w.nodes n ≡ Some s → IsStocked s
   pub cached : AreCached w drive.own cat
 
 -- the lock table has for each node's file system the rows of locks that it has asked for
@@ -104,8 +106,8 @@ IsAtPlan x waits seen done tried None = done ≡ 0
 IsAtPlan x waits seen done tried (Some p) = IsNext x seen (need.Ready p) × (waits ≡ false) × (done ≤ length (writes_by p.ask tried p.writes))
 
 -- A command of node n under way, which has come so far, is its node's next one, by the lock table. Its channel is one of eight. It
--- obeys the law, what it has seen fits it, and its locks are such as it takes itself, besides that of its search for space and that
--- of an ask of its file system. Where it waits, it is for the last of them.
+-- obeys the law, what it has seen fits it, and its locks are such as it takes itself, and as the last that of an ask of its file
+-- system. Where it waits, it is for the last of them.
 pub record IsUnderWay (coming : Option Cmd) (t : List Resource) (n : ℕ) (d : Course) (x : Cmd) : Type 0 where
   pub next : coming ≡ Some x
   pub form : names_in_form x ≡ true
@@ -113,22 +115,21 @@ pub record IsUnderWay (coming : Option Cmd) (t : List Resource) (n : ℕ) (d : C
   pub seen : HasSeen x d.seen
   pub own : (name : LockName) → Has (names_of d.seen.locks) name → takes_lock x name ≡ true
   pub plan : IsAtPlan x (waits_at t n d.asked) d.seen d.done d.tried d.plan
-  pub search : Spaces t n x (own_ask d.tried d.plan) d.asked d.run d.seen
-  pub waits : waits_at t n d.asked ≡ true → WaitsFor x d.asked d.seen
+  pub same : d.asked ≡ with_ask d.seen.locks (own_ask d.tried d.plan)
+  pub waits : waits_at t n d.asked ≡ true → WaitsForLock x d.asked d.seen
 
 -- a node without a command has seen nothing, was given nothing, and has decided on nothing
-pub record IsIdle (seen : Seen) (own : List (LockName × Mode)) (rules : SpaceRun) (made : Option Plan) (writes : ℕ) : Type 0 where
+pub record IsIdle (seen : Seen) (own : List (LockName × Mode)) (made : Option Plan) (writes : ℕ) : Type 0 where
   pub locks : seen.locks ≡ []
   pub blocks : seen.blocks ≡ []
   pub space : HasNoSpace (space_of seen)
   pub asked : own ≡ []
-  pub run : rules ≡ no_run
   pub plan : made ≡ None
   pub done : writes ≡ 0
 
 -- a node stands so by its command
 abbrev pub HasCourse : Option Cmd → List Resource → ℕ → Course → Option Cmd → Type 0
-HasCourse next t n d None = IsIdle d.seen d.asked d.run d.plan d.done
+HasCourse next t n d None = IsIdle d.seen d.asked d.plan d.done
 HasCourse next t n d (Some x) = IsUnderWay next t n d x
 
 -- the same of node n of a world, which stands as s
@@ -139,18 +140,19 @@ abbrev pub HasCommand : Plain → ℕ → NodeState → Option Cmd → Type 0
 HasCommand w n s cmd = HasCourse (next_command w.script n w.history) w.locks n (course_of s) cmd
 
 -- A node has what the history says of its answers, its channels and its store are in order, it waits for none of the locks that
--- outlive its commands, and it stands as its command has left it. Once it has left or is dead, it has nothing; and it leaves only
--- where no command is left.
+-- it keeps, and it stands as its command and its rules for space have left it. Once it has left or is dead, it has nothing; and it
+-- leaves only where no command is left.
 pub record IsNode (w : Plain) (n : ℕ) (s : NodeState) : Type 0 where
   pub past : s.past ≡ past n w.history
   pub geometry : s.seen.geometry ≡ w.geometry
   pub channels : HasChannels s.past s.opens
   pub channel : s.seen.channel ≡ channel_now s.opens s.cmd
-  pub store : HasStore s.kept s.back s.stock s.cache
+  pub store : HasStore s.run.phase s.kept s.cache
   pub rests : waits_at w.locks n s.kept ≡ false
   pub command : HasCommand w n s s.cmd
-  pub over : s.over ≡ true → IsGone s.cmd s.asked s.kept s.back s.stock s.cache × (next_command w.script n w.history ≡ None)
-  pub gone : s.past.dead ≡ true → IsGone s.cmd s.asked s.kept s.back s.stock s.cache
+  pub space : Spaces s.cmd s.kept s.claims s.run s.stock s.seen
+  pub over : s.over ≡ true → IsGone s.cmd s.asked s.kept s.claims s.stock s.cache × (next_command w.script n w.history ≡ None)
+  pub gone : s.past.dead ≡ true → IsGone s.cmd s.asked s.kept s.claims s.stock s.cache
 
 -- each command that the script can come to is one of these
 abbrev pub HasOnly : (Cmd → Type 0) → Script → Type 0

@@ -1,6 +1,6 @@
-pub mod Runs
 pub mod Spare
 pub mod Worlds
+pub mod Stocks
 pub mod Images
 pub mod Raises
 pub mod Asks
@@ -16,3 +16,4 @@ pub mod Mounting
 pub mod Event
 pub mod Events
 pub mod Deaths
+pub mod Outside

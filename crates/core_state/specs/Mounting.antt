@@ -9,7 +9,7 @@ use Rattle.vol_parts.specs.Findings.{Accepts, CatOf}
 use Rattle.vol_analyze.specs.Judging.{IsFirstFound}
 use Rattle.core_state.specs.declared.mounting.MountFault.{MountFault}
 use Rattle.core_state.specs.declared.mounting.MountFault.TheVariants as fault
-use Rattle.core_state.specs.Runs.{no_run}
+use Rattle.core_space.specs.Rule.{no_run}
 use Rattle.core_state.specs.Worlds.{empty_stock, NodeState, Plain}
 
 abbrev pub at_rest : Geometry → NodeState
@@ -22,7 +22,7 @@ at_rest g = record {
   tried = false;
   asked = [];
   kept = [];
-  back = [];
+  claims = [];
   opens = replicate 8 None;
   run = no_run;
   stock = empty_stock;

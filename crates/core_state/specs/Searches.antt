@@ -1,131 +1,230 @@
--- How the search for space of a node's command stands.
-use Rattle.std.specs.Prelude.{◌≡◌, ◌<◌, ◌==◌, ◌++◌, not, ℕ, true, Bool, List, [], ◌∷◌, Option, None, Some, length, filter, if◌then◌else◌}
-use Rattle.std.specs.List.{list_any}
-use Rattle.vol_words.specs.Fields.{Block}
+-- How a node stands by its rules for space.
+use Rattle.std.specs.Prelude.{◌≡◌, ◌⊎◌, ◌<◌, ◌≤◌, ◌++◌, ℕ, true, false, Bool, [], ◌∷◌, Option, None, Some, is_some, length, map, drop}
 use Rattle.lock_db.specs.declared.name.LockName.{LockName}
-use Rattle.lock_db.specs.declared.name.LockName.TheVariants.{S, Q, V}
-use Rattle.lock_db.specs.declared.resource.Resource.{Resource}
+use Rattle.lock_db.specs.declared.name.LockName.TheVariants.{S, Q, X, V}
 use Rattle.plain_cat.specs.declared.mode.Mode.{Mode}
-use Rattle.plain_cat.specs.declared.mode.Mode.TheVariants.{PW}
+use Rattle.plain_cat.specs.declared.mode.Mode.TheVariants.{NL, CR, PW, EX}
 use Rattle.plain_cat.specs.declared.command.Cmd.{Cmd}
 use Rattle.plain_cat.specs.declared.reply.Refusal.{Refusal}
-use Rattle.node_locks.specs.Held.{held_locks}
-use Rattle.vol_owners.specs.Lists.{Has, Touches}
-use Rattle.vol_owners.specs.Owners.{Things, nothing}
+use Rattle.node_locks.specs.Held.{Row}
+use Rattle.vol_owners.specs.Lists.{Has, Once, Touches}
+use Rattle.vol_parts.specs.declared.geometry.Geometry.{Geometry}
 use Rattle.vol_under.specs.Keeping.{IsBitmap}
 use Rattle.op_law.specs.declared.need.Need.TheVariants as need
-use Rattle.op_law.specs.declared.need.PlanWrite.{PlanWrite}
 use Rattle.op_law.specs.declared.seen.Seen.{Seen}
-use Rattle.op_law.specs.Events.{space_of, HasNoSpace}
+use Rattle.op_law.specs.Events.{space_of, has_space, HasNoSpace}
 use Rattle.op_law.specs.Needs.{IsNext}
-use Rattle.op_law.specs.Fits.{things}
 use Rattle.op_law.specs.Knows.{wanted, takes_space, is_new_number}
 use Rattle.op_law.specs.Laws.{held_in}
-use Rattle.op_law.specs.Writing.{Held}
+use Rattle.extent_cache.specs.Takings.{holds_enough}
 use Rattle.node_space.specs.Searching.{Found, More, Short, Enough, found}
 use Rattle.node_space.specs.Taking.{looked, out_after}
 use Rattle.node_space.specs.Answering.{blocks_of}
-use Rattle.op_law.specs.declared.need.Ask.{Ask}
-use Rattle.core_state.specs.declared.space.Phase.TheVariants as phase
-use Rattle.core_state.specs.declared.space.SpaceRun.{SpaceRun}
-use Rattle.core_state.specs.Asks.{with_ask}
+use Rattle.core_space.specs.declared.run.Phase.{Phase}
+use Rattle.core_space.specs.declared.run.Phase.TheVariants as phase
+use Rattle.core_space.specs.declared.run.SpaceRun.{SpaceRun}
+use Rattle.core_space.specs.Filling.{clusters_to_take, lacks_number, fill_place, filled}
+use Rattle.core_space.specs.Giving.{give_place, give_writes}
+use Rattle.core_space.specs.Rule.{no_run}
+use Rattle.core_state.specs.Worlds.{Stock, empty_stock}
+use Rattle.core_state.specs.Stocks.{roomless}
 
--- ---- what it leaves of what it has looked at, and what it has outside
+-- a rule goes on in this phase, and has looked at nothing and written nothing
+abbrev pub begun_run : Phase → SpaceRun
+begun_run p = record { phase = p; looked = []; writes = []; made = 0; ready = [] }
 
--- one of these writes is to the block of this LBN
-abbrev pub rewrites : List PlanWrite → ℕ → Bool
-rewrites ws lbn = list_any (λ w. w.lbn == lbn) ws
+-- ---- what the command wants
 
--- of these blocks, those that the writes leave as they were
-abbrev pub unwritten : List PlanWrite → List (ℕ × Block) → List (ℕ × Block)
-unwritten ws looked = filter (λ b. not (rewrites ws b.0)) looked
-
-abbrev pub things_of : Held → Things
-things_of out = things out.clusters out.number
-
--- what the first of these writes have taken, so many of them, which is nothing where all are made: then the command has it
-abbrev pub stock_after : List PlanWrite → ℕ → Things
-stock_after ws taken = if taken == length ws then nothing else things_of (out_after ws taken)
-
--- ---- what it comes to
-
--- the clusters that a command with this seen wants
+-- the clusters that a command with this seen wants, and whether it wants a number
 abbrev pub wanted_by : Cmd → Seen → ℕ
 wanted_by x seen = (wanted seen x).clusters
 
--- what the search of a command has found in the blocks that it has looked at
-abbrev pub found_by : Cmd → Seen → SpaceRun → Found
-found_by x seen run = found seen.geometry (wanted_by x seen) (wanted seen x).number (blocks_of run.looked)
-
--- ---- how it stands
-
--- no search is begun, and the locks asked for are those of the command, and that of its ask where it was granted to the file system
-pub record HasNotSearched (ask : Option Ask) (asked : List (LockName × Mode)) (run : SpaceRun) (seen : Seen) : Type 0 where
-  pub off : run.phase ≡ phase.Off
-  pub same : asked ≡ with_ask seen.locks ask
-  pub looked : run.looked ≡ []
-  pub writes : run.writes ≡ []
-  pub made : run.made ≡ 0
-  pub space : HasNoSpace (space_of seen)
+abbrev pub numbered_by : Cmd → Seen → Bool
+numbered_by x seen = (wanted seen x).number
 
 -- the lock of the file of this number
 abbrev pub IsOfNumber : Option ℕ → LockName → Type 0
 IsOfNumber number (S n) = number ≡ Some n
 IsOfNumber number other = ⊥
 
--- The lock of the bitmaps is asked for among those of the command, behind Q in PW, and behind it comes no lock but that of the file
--- whose number was given. What was looked at are the first of the blocks that the search may look at.
-pub record HasClaimed (x : Cmd) (ask : Option Ask) (asked : List (LockName × Mode)) (run : SpaceRun) (seen : Seen) : Type 0 where
+-- A command has come to its rules for space: it holds Q in PW, and behind the locks that it held then comes none but that of the file
+-- whose number it was given.
+pub record HasCome (x : Cmd) (seen : Seen) : Type 0 where
   pub takes : takes_space x ≡ true
-  pub last : run.phase ≡ phase.Last
-  pub before : List (LockName × Mode)
-  pub after : List (LockName × Mode)
-  pub claims : asked ≡ with_ask (before ++ (V, PW) ∷ after) ask
+  pub before : Row
+  pub after : Row
   pub locks : seen.locks ≡ before ++ after
   pub quota : Has (held_in PW before) Q
   pub behind : (l : LockName × Mode) → Has after l → IsOfNumber seen.number l.0
-  pub in_order : run.looked ≡ looked seen.geometry (wanted_by x seen) (wanted seen x).number (blocks_of run.looked)
 
--- the command needs what it searches for, was given nothing yet, and has looked at no bitmap itself
+-- it needs what it wants, was given nothing yet, and has looked at no bitmap itself
 pub record NeedsSpace (x : Cmd) (seen : Seen) : Type 0 where
-  pub next : IsNext x seen (need.Space (wanted_by x seen) (wanted seen x).number)
+  pub come : HasCome x seen
+  pub next : IsNext x seen (need.Space (wanted_by x seen) (numbered_by x seen))
   pub none : HasNoSpace (space_of seen)
   pub apart : (l : ℕ) → Touches seen.blocks l → IsBitmap seen.geometry l → ⊥
 
+-- a stock holds what it wants
+abbrev pub is_enough : Cmd → Seen → Stock → Bool
+is_enough x seen stock = holds_enough (wanted_by x seen) (numbered_by x seen) (roomless stock)
+
+-- ---- without a lock of free space
+
+-- no rule is begun, and nothing was given
+pub record IsOff (claimed : Row) (rules : SpaceRun) (seen : Seen) : Type 0 where
+  pub run : rules ≡ no_run
+  pub claims : claimed ≡ []
+  pub space : HasNoSpace (space_of seen)
+
+-- the stock was filled, and is enough
+pub record IsServed (x : Cmd) (claimed : Row) (rules : SpaceRun) (stock : Stock) (seen : Seen) : Type 0 where
+  pub run : rules ≡ begun_run phase.Fill
+  pub claims : claimed ≡ []
+  pub needs : NeedsSpace x seen
+  pub enough : is_enough x seen stock ≡ true
+
+-- the command was given what it wants from the stock
+pub record IsGiven (x : Cmd) (claimed : Row) (rules : SpaceRun) (seen : Seen) : Type 0 where
+  pub run : rules ≡ begun_run phase.Fill
+  pub claims : claimed ≡ []
+  pub come : HasCome x seen
+  pub has : has_space (wanted_by x seen) (numbered_by x seen) (space_of seen) ≡ true
+  pub above : is_new_number seen.number ≡ true
+  pub short : seen.short ≡ None
+
+-- ---- filling
+
+-- X is asked for in CR, as the stock is not enough
+pub record AsksShared (x : Cmd) (claimed : Row) (rules : SpaceRun) (stock : Stock) (seen : Seen) : Type 0 where
+  pub run : rules ≡ begun_run phase.Fill
+  pub claims : claimed ≡ (X, CR) ∷ []
+  pub needs : NeedsSpace x seen
+  pub lacking : is_enough x seen stock ≡ false
+
+-- V is asked for, under X in CR; and the blocks looked at are the first of those that the filling may look at
+pub record IsFilling (x : Cmd) (kept claimed : Row) (run : SpaceRun) (lacks : Bool) (seen : Seen) : Type 0 where
+  pub fill : run.phase ≡ phase.Fill
+  pub shared : Has kept (X, CR)
+  pub claims : claimed ≡ (V, PW) ∷ []
+  pub needs : NeedsSpace x seen
+  pub in_order : run.looked ≡ looked seen.geometry 1 lacks (blocks_of run.looked)
+
+-- whether the command lacks a number
+abbrev pub lacks_by : Cmd → Seen → Stock → Bool
+lacks_by x seen stock = lacks_number (numbered_by x seen) stock.numbers
+
+-- one more block is to be looked at, as the stock is not enough
+pub record FillLooks (x : Cmd) (kept claimed : Row) (run : SpaceRun) (stock : Stock) (seen : Seen) : Type 0 where
+  pub filling : IsFilling x kept claimed run (lacks_by x seen stock) seen
+  pub lacking : is_enough x seen stock ≡ false
+  pub more : is_some (fill_place seen.geometry (clusters_to_take (wanted_by x seen) (length stock.clusters)) (lacks_by x seen stock) (blocks_of run.looked)) ≡ true
+  pub writes : run.writes ≡ []
+  pub made : run.made ≡ 0
+
+-- these writes fill the stock, and not all of them are made
+pub record FillWrites (x : Cmd) (kept claimed : Row) (run : SpaceRun) (stock : Stock) (seen : Seen) : Type 0 where
+  pub filling : IsFilling x kept claimed run (lacks_by x seen stock) seen
+  pub enough : filled seen.geometry (wanted_by x seen) (length stock.clusters) (lacks_by x seen stock) (blocks_of run.looked) ≡ Some run.writes
+  pub part : run.made < length run.writes
+
+-- all are made, and the stock is enough
+pub record HasFilled (x : Cmd) (kept claimed : Row) (run : SpaceRun) (stock : Stock) (seen : Seen) : Type 0 where
+  pub fill : run.phase ≡ phase.Fill
+  pub shared : Has kept (X, CR)
+  pub claims : claimed ≡ (V, PW) ∷ []
+  pub needs : NeedsSpace x seen
+  pub all : run.made ≡ length run.writes
+  pub enough : is_enough x seen stock ≡ true
+
+-- ---- giving back
+
+-- the next block that a give-back of this stock looks at
+abbrev pub next_back : Geometry → Stock → SpaceRun → Option ℕ
+next_back g stock run = give_place g stock.clusters stock.numbers run.looked
+
+-- What is left to be written makes all of the stock free, and what it writes was looked at; no two writes are to the same block.
+pub record IsWritingBack (g : Geometry) (stock : Stock) (run : SpaceRun) : Type 0 where
+  pub rest : drop run.made run.writes ≡ give_writes g stock.clusters stock.numbers run.looked
+  pub within : run.made ≤ length run.writes
+  pub all : next_back g stock run ≡ None
+  pub once : Once (map (λ w. w.lbn) run.writes)
+
+-- a give-back looks on, or writes
+pub data IsGoingBack (g : Geometry) (stock : Stock) (run : SpaceRun) : Type 0 where
+  LooksOn : is_some (next_back g stock run) ≡ true → run.writes ≡ [] → run.made ≡ 0 → IsGoingBack g stock run
+  WritesBack : IsWritingBack g stock run → IsGoingBack g stock run
+
+-- too little was found, and the stock goes back under X in CR and V in PW
+pub record IsDraining (x : Cmd) (kept claimed : Row) (run : SpaceRun) (stock : Stock) (seen : Seen) : Type 0 where
+  pub drain : run.phase ≡ phase.Drain
+  pub shared : Has kept (X, CR)
+  pub claims : claimed ≡ (V, PW) ∷ []
+  pub needs : NeedsSpace x seen
+  pub goes : IsGoingBack seen.geometry stock run
+
+-- the stock goes back for good, under X and V, while the command was given nothing and has looked at no bitmap
+pub record IsGivingBack (kept claimed : Row) (run : SpaceRun) (stock : Stock) (seen : Seen) : Type 0 where
+  pub back : run.phase ≡ phase.Back
+  pub shared : Has kept (X, CR)
+  pub claims : claimed ≡ (V, PW) ∷ []
+  pub space : HasNoSpace (space_of seen)
+  pub apart : (l : ℕ) → Touches seen.blocks l → IsBitmap seen.geometry l → ⊥
+  pub goes : IsGoingBack seen.geometry stock run
+
+-- ---- the search of all free space
+
+-- the stock was given back, and X, which was lowered to NL, is to be had in EX
+pub record AsksAlone (x : Cmd) (kept claimed : Row) (rules : SpaceRun) (stock : Stock) (seen : Seen) : Type 0 where
+  pub run : rules ≡ begun_run phase.Last
+  pub claims : ((claimed ≡ []) × Has kept (X, NL)) ⊎ (claimed ≡ (X, EX) ∷ [])
+  pub empty : stock ≡ empty_stock
+  pub needs : NeedsSpace x seen
+
+-- X is held in EX with no stock, and V is asked for. What was looked at are the first of the blocks that the search may look at.
+pub record HasClaimed (x : Cmd) (kept claimed : Row) (run : SpaceRun) (stock : Stock) (seen : Seen) : Type 0 where
+  pub last : run.phase ≡ phase.Last
+  pub alone : Has kept (X, EX)
+  pub claims : claimed ≡ (V, PW) ∷ []
+  pub empty : stock ≡ empty_stock
+  pub come : HasCome x seen
+  pub in_order : run.looked ≡ looked seen.geometry (wanted_by x seen) (numbered_by x seen) (blocks_of run.looked)
+
+-- what the search of a command has found in the blocks that it has looked at
+abbrev pub found_by : Cmd → Seen → SpaceRun → Found
+found_by x seen run = found seen.geometry (wanted_by x seen) (numbered_by x seen) (blocks_of run.looked)
+
 -- the search goes on to look
-pub record IsLooking (x : Cmd) (ask : Option Ask) (asked : List (LockName × Mode)) (run : SpaceRun) (seen : Seen) : Type 0 where
-  pub claimed : HasClaimed x ask asked run seen
+pub record IsLooking (x : Cmd) (kept claimed : Row) (run : SpaceRun) (stock : Stock) (seen : Seen) : Type 0 where
+  pub claimed_so : HasClaimed x kept claimed run stock seen
   pub needs : NeedsSpace x seen
   pub more : found_by x seen run ≡ More
   pub writes : run.writes ≡ []
   pub made : run.made ≡ 0
 
--- The search has found enough, and these writes take it, under the lock of the bitmaps; a number among it is above those of the
--- system files.
-pub record HasFound (t : List Resource) (n : ℕ) (x : Cmd) (ask : Option Ask) (asked : List (LockName × Mode)) (run : SpaceRun) (seen : Seen) : Type 0 where
-  pub claimed : HasClaimed x ask asked run seen
+-- The search has found enough, and these writes take it; a number among it is above those of the system files.
+pub record HasFound (x : Cmd) (kept claimed : Row) (run : SpaceRun) (stock : Stock) (seen : Seen) : Type 0 where
+  pub claimed_so : HasClaimed x kept claimed run stock seen
   pub enough : found_by x seen run ≡ Enough run.writes
   pub above : is_new_number (out_after run.writes (length run.writes)).number ≡ true
-  pub holds : Has (held_in PW (held_locks t n asked)) V
 
 -- and not all of the writes are made
-pub record IsTaking (t : List Resource) (n : ℕ) (x : Cmd) (ask : Option Ask) (asked : List (LockName × Mode)) (run : SpaceRun) (seen : Seen) : Type 0 where
-  pub found : HasFound t n x ask asked run seen
+pub record IsTaking (x : Cmd) (kept claimed : Row) (run : SpaceRun) (stock : Stock) (seen : Seen) : Type 0 where
+  pub found : HasFound x kept claimed run stock seen
   pub needs : NeedsSpace x seen
   pub part : run.made < length run.writes
+  pub ready : run.ready ≡ (out_after run.writes (length run.writes)).clusters
 
 -- or all are made, and the command was given what they take
-pub record HasTaken (t : List Resource) (n : ℕ) (x : Cmd) (ask : Option Ask) (asked : List (LockName × Mode)) (run : SpaceRun) (seen : Seen) : Type 0 where
-  pub found : HasFound t n x ask asked run seen
+pub record HasTaken (x : Cmd) (kept claimed : Row) (run : SpaceRun) (stock : Stock) (seen : Seen) : Type 0 where
+  pub found : HasFound x kept claimed run stock seen
   pub all : run.made ≡ length run.writes
   pub clusters : seen.clusters ≡ (out_after run.writes (length run.writes)).clusters
   pub number : seen.number ≡ (out_after run.writes (length run.writes)).number
   pub short : seen.short ≡ None
 
 -- the search has found too little, and the command was told why
-pub record IsRefused (t : List Resource) (n : ℕ) (x : Cmd) (ask : Option Ask) (asked : List (LockName × Mode)) (run : SpaceRun) (seen : Seen) : Type 0 where
-  pub claimed : HasClaimed x ask asked run seen
-  pub holds : Has (held_in PW (held_locks t n asked)) V
+pub record IsRefused (x : Cmd) (kept claimed : Row) (run : SpaceRun) (stock : Stock) (seen : Seen) : Type 0 where
+  pub claimed_so : HasClaimed x kept claimed run stock seen
   pub why : Refusal
   pub too_little : found_by x seen run ≡ Short why
   pub writes : run.writes ≡ []
@@ -134,11 +233,27 @@ pub record IsRefused (t : List Resource) (n : ℕ) (x : Cmd) (ask : Option Ask) 
   pub number : seen.number ≡ None
   pub short : seen.short ≡ Some why
 
--- How node n stands by its rules for space, for its command x, by the lock table, where the ask of its plan was granted or there was
--- none.
-pub data Spaces (t : List Resource) (n : ℕ) (x : Cmd) (ask : Option Ask) (asked : List (LockName × Mode)) (run : SpaceRun) (seen : Seen) : Type 0 where
-  Off : HasNotSearched ask asked run seen → Spaces t n x ask asked run seen
-  Looking : IsLooking x ask asked run seen → Spaces t n x ask asked run seen
-  Taking : IsTaking t n x ask asked run seen → Spaces t n x ask asked run seen
-  Taken : HasTaken t n x ask asked run seen → Spaces t n x ask asked run seen
-  Refused : IsRefused t n x ask asked run seen → Spaces t n x ask asked run seen
+-- ---- all of it
+
+-- How a node stands by the rules for space of its command, which has come to them. Of the locks this says what was claimed: whether
+-- that is granted, the lock table says; and what was looked at under V is seen under way, so that V is granted there.
+pub data Rules (x : Cmd) (kept claimed : Row) (run : SpaceRun) (stock : Stock) (seen : Seen) : Type 0 where
+  Served : IsServed x claimed run stock seen → Rules x kept claimed run stock seen
+  Given : IsGiven x claimed run seen → Rules x kept claimed run stock seen
+  Shared : AsksShared x claimed run stock seen → Rules x kept claimed run stock seen
+  Fills : FillLooks x kept claimed run stock seen → Rules x kept claimed run stock seen
+  Grabs : FillWrites x kept claimed run stock seen → Rules x kept claimed run stock seen
+  Filled : HasFilled x kept claimed run stock seen → Rules x kept claimed run stock seen
+  Drains : IsDraining x kept claimed run stock seen → Rules x kept claimed run stock seen
+  Alone : AsksAlone x kept claimed run stock seen → Rules x kept claimed run stock seen
+  Looking : IsLooking x kept claimed run stock seen → Rules x kept claimed run stock seen
+  Taking : IsTaking x kept claimed run stock seen → Rules x kept claimed run stock seen
+  Taken : HasTaken x kept claimed run stock seen → Rules x kept claimed run stock seen
+  Refused : IsRefused x kept claimed run stock seen → Rules x kept claimed run stock seen
+
+-- How a node stands by its rules for space, with its command or without one: no rule is begun, or it gives its stock back, or its command
+-- has come to them.
+pub data Spaces (cmd : Option Cmd) (kept claimed : Row) (run : SpaceRun) (stock : Stock) (seen : Seen) : Type 0 where
+  Off : IsOff claimed run seen → Spaces cmd kept claimed run stock seen
+  Back : IsGivingBack kept claimed run stock seen → Spaces cmd kept claimed run stock seen
+  Busy : (x : Cmd) → cmd ≡ Some x → Rules x kept claimed run stock seen → Spaces cmd kept claimed run stock seen

@@ -1,9 +1,7 @@
--- What a command waits for.
+-- What a command waits for: a lock of its own.
 use Rattle.std.specs.Prelude.{◌≡◌, ◌++◌, List, [], ◌∷◌}
 use Rattle.lock_db.specs.declared.name.LockName.{LockName}
-use Rattle.lock_db.specs.declared.name.LockName.TheVariants.{V}
 use Rattle.plain_cat.specs.declared.mode.Mode.{Mode}
-use Rattle.plain_cat.specs.declared.mode.Mode.TheVariants.{PW}
 use Rattle.plain_cat.specs.declared.command.Cmd.{Cmd}
 use Rattle.op_law.specs.declared.need.Need.TheVariants as need
 use Rattle.op_law.specs.declared.seen.Seen.{Seen}
@@ -25,8 +23,3 @@ pub record WaitsForLock (x : Cmd) (asked : List (LockName × Mode)) (seen : Seen
   pub next : IsNext x before (need.Lock name mode)
   pub is : seen ≡ with_lock name mode before
   pub last : IsLast asked name mode
-
--- A command that waits: for a lock of its own, or for that of the bitmaps, in which it searches for space.
-pub data WaitsFor (x : Cmd) (asked : List (LockName × Mode)) (seen : Seen) : Type 0 where
-  ItsLock : WaitsForLock x asked seen → WaitsFor x asked seen
-  SpaceLock : IsLast asked V PW → WaitsFor x asked seen

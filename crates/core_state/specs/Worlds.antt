@@ -15,7 +15,7 @@ use Rattle.vol_parts.specs.declared.geometry.Geometry.{Geometry}
 use Rattle.op_law.specs.declared.need.Plan.{Plan}
 use Rattle.op_law.specs.declared.seen.Seen.{Seen}
 use Rattle.op_law.specs.declared.seen.Chan.{Chan}
-use Rattle.core_state.specs.declared.space.SpaceRun.{SpaceRun}
+use Rattle.core_space.specs.declared.run.SpaceRun.{SpaceRun}
 use Rattle.core_state.specs.declared.node.Node.{Node}
 use Rattle.node_locks.specs.Held.{Row}
 use Rattle.core_state.specs.declared.cluster.Core.{Core}
@@ -39,12 +39,12 @@ pub record NodeState : Type 0 where
   pub plan : Option Plan
   pub done : ℕ
   pub tried : Bool
-  -- the locks that its file system has asked for, in order: those of the command, among them that of its search for space, and that of
-  -- its ask, where that is by the file system
+  -- the locks that its file system has asked for, in order: those of the command, and that of its ask, where that is by the file system
   pub asked : List (LockName × Mode)
-  -- the locks that outlive its commands, and those that it has asked for to give its stock back
+  -- the lock of the stocks, X, once it is held, and locks in NL
   pub kept : List (LockName × Mode)
-  pub back : List (LockName × Mode)
+  -- the lock that its rules for space have asked for last: X, or V
+  pub claims : List (LockName × Mode)
   -- what its eight channels have open
   pub opens : List (Option Chan)
   -- what it has done by its rules for space
@@ -61,17 +61,16 @@ pub record NodeState : Type 0 where
   pub hits : ℕ
 
 -- what a command has come to: what it has seen, what it has decided on, how many of the writes are done, whether its ask was granted,
--- the locks that were asked for, and what is done for it by the rules for space
+-- and the locks that were asked for
 pub record Course : Type 0 where
   pub seen : Seen
   pub plan : Option Plan
   pub done : ℕ
   pub tried : Bool
   pub asked : List (LockName × Mode)
-  pub run : SpaceRun
 
 abbrev pub course_of : NodeState → Course
-course_of s = record { seen = s.seen; plan = s.plan; done = s.done; tried = s.tried; asked = s.asked; run = s.run }
+course_of s = record { seen = s.seen; plan = s.plan; done = s.done; tried = s.tried; asked = s.asked }
 
 -- a world
 pub record Plain : Type 0 where
@@ -104,8 +103,8 @@ state_of cmd_is n = record {
   done = n.done;
   tried = n.tried;
   asked = n.asked;
-  kept = n.kept.items;
-  back = n.back.items;
+  kept = n.kept;
+  claims = n.claims;
   opens = n.opens;
   run = n.run;
   stock = record { clusters = n.stock.clusters; numbers = n.stock.numbers };
@@ -153,10 +152,9 @@ set_node nodes (suc k) s = slice_set nodes k s
 abbrev pub with_node : Plain → ℕ → NodeState → Plain
 with_node w n s = record w { nodes = set_node w.nodes n s }
 
--- the rows of locks that a node has asked for: those that outlive its commands, those of its command, and those by which it gives its
--- stock back
+-- the rows of locks that a node has asked for: those that it keeps, those of its command, and that of its rules for space
 abbrev pub rows_of : NodeState → List Row
-rows_of s = s.kept ∷ (s.asked ∷ (s.back ∷ []))
+rows_of s = s.kept ∷ (s.asked ∷ (s.claims ∷ []))
 
 abbrev pub rows_in : Option NodeState → List Row
 rows_in None = []

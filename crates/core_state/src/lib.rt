@@ -5,15 +5,16 @@ mod cluster;
 mod laws;
 mod mounting;
 mod node;
-mod space;
 mod spare;
 mod world;
 
 pub use cluster::Core;
-pub use laws::deaths_keep_the_rules;
+pub use core_space::{Phase, SpaceRun};
+pub use laws::{
+    deaths_keep_the_rules, shortage_is_of_all, stocks_are_locked, turns_keep_the_rules,
+};
 pub use mounting::{MountFault, MountRefused};
 pub use node::Node;
 pub use op_law::NoMemory;
-pub use space::{Phase, SpaceRun};
 pub use spare::SpareLists;
 pub use world::World;

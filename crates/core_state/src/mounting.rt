@@ -6,16 +6,16 @@ ghost use Rattle.core_state.specs.Mounting.{IsMounted, IsMountEnd, at_rest};
 
 use crate::cluster::Core;
 use crate::node::Node;
-use crate::space::SpaceRun;
 use crate::spare::SpareLists;
 use crate::world::World;
 use blk_drive::{ImageDev, Mirror};
 use blk_whole::blocks_are_whole;
+use core_space::{LastingLocks, SpaceRun};
 use extent_cache::Extents;
 use lock_db::LockDb;
 use node_cache::NodeCache;
 use node_past::Past;
-use op_law::{KeptLocks, NoMemory, Operation, Seen, SeenBlocks, SeenLocks};
+use op_law::{NoMemory, Operation, Seen, SeenBlocks, SeenLocks};
 use plain_cat::{Cat, Clusters, History, Script};
 use std::alloc::Global;
 use vol_analyze::{Finding, accepted};
@@ -60,8 +60,8 @@ fn resting<O: Operation>(alloc: Global, geometry: Geometry) -> Result<Node<O>, N
         done: 0,
         tried: false,
         asked: SeenLocks::new(alloc),
-        kept: KeptLocks::new(alloc),
-        back: KeptLocks::new(alloc),
+        kept: LastingLocks::new(alloc)?,
+        claims: LastingLocks::new(alloc)?,
         opens: [None; 8],
         run: SpaceRun::new(alloc),
         stock: Extents::new(alloc)?,

@@ -1,8 +1,8 @@
-use crate::space::SpaceRun;
+use core_space::{LastingLocks, SpaceRun};
 use extent_cache::Extents;
 use node_cache::NodeCache;
 use node_past::Past;
-use op_law::{Chan, KeptLocks, Operation, Plan, Seen, SeenLocks};
+use op_law::{Chan, Operation, Plan, Seen, SeenLocks};
 
 /// A node of the cluster.
 #[derive(Drop)]
@@ -23,13 +23,15 @@ pub struct Node<O: Operation> {
     pub done: usize,
     pub tried: bool,
 
-    /// The locks that its file system has asked for, in order: those of the command, among them that of its search for space, and
-    /// that of the ask of its plan, where that is by the file system. The last may still stand in a queue.
+    /// The locks that its file system has asked for, in order: those of the command, and that of the ask of its plan, where that is by
+    /// the file system. The last may still stand in a queue.
     pub asked: SeenLocks,
 
-    /// The locks that outlive its commands, and those that it has asked for to give its stock back: none so far.
-    pub kept: KeptLocks,
-    pub back: KeptLocks,
+    /// The lock of the nodes' stocks, X, once it is held, and locks in NL.
+    pub kept: LastingLocks,
+
+    /// The lock that its rules for space have asked for last, X or V. It may still stand in a queue.
+    pub claims: LastingLocks,
 
     /// What its eight channels have open.
     pub opens: [Option<Chan>; 8],
@@ -37,7 +39,7 @@ pub struct Node<O: Operation> {
     /// What it has done by its rules for space.
     pub run: SpaceRun,
 
-    /// The free clusters and file numbers that it keeps for its commands: none so far.
+    /// The free clusters and file numbers that it keeps for its commands.
     pub stock: Extents,
 
     /// The blocks that it keeps, each under the lock by which it was looked at: none so far.

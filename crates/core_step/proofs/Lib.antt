@@ -4,3 +4,12 @@ pub mod Begun
 pub mod Worlds
 pub mod Outcomes
 pub mod Lists
+pub mod SpaceStates
+pub mod Returning
+pub mod Places
+pub mod Doing
+pub mod Setting
+pub mod FromStock
+pub mod Ruled
+pub mod Wanting
+pub mod Due

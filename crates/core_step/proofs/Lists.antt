@@ -1,16 +1,21 @@
 -- What was added to a list and taken back.
-use Rattle.std.proofs.Common.{◌≡◌, ◌++◌, List, [], ◌∷◌, ℕ, Bool, true, false, cond, Option, Some, None, inl, inr, refl, sym, ap, ◌∙◌}
-use Rattle.std.specs.Prelude.{◌||◌, not, filter, option_to_list, IsNone}
+use Rattle.std.proofs.Common.{◌≡◌, ◌≤◌, ◌++◌, List, [], ◌∷◌, ℕ, Bool, true, false, cond, length, Option, Some, None, inl, inr, refl, sym, ap, subst, ◌∙◌, arith}
+use Rattle.std.specs.Prelude.{◌||◌, ◌&&◌, not, filter, find, option_to_list, IsNone, IsSome}
 use Rattle.lock_db.specs.declared.name.LockName.{LockName}
+use Rattle.lock_db.specs.declared.name.LockName.TheVariants.{X, V}
 use Rattle.lock_db.specs.declared.askers.Standing.{Standing}
 use Rattle.lock_db.specs.declared.resource.Resource.{Resource}
 use Rattle.lock_db.specs.Names.{is_same}
 use Rattle.lock_db.specs.Laws.{stands_at}
+use Rattle.lock_db.specs.Queues.{lock_of}
+use Rattle.lock_db.specs.Tables.{resource_at, converted}
+use Rattle.lock_db.proofs.Blocks.{converted-leaves}
 use Rattle.lock_db.proofs.Names.{is_same-refl, is_same-same}
 use Rattle.plain_cat.specs.declared.mode.Mode.{Mode}
+use Rattle.plain_cat.specs.declared.mode.Mode.TheVariants.{NL}
 use Rattle.vol_owners.specs.Lists.{Has}
 use Rattle.node_locks.specs.Held.{system_of, names_of, StandInOrder}
-use Rattle.core_state.specs.Events.{has_asked}
+use Rattle.core_state.specs.Asks.{has_asked}
 
 -- ---- the last item
 
@@ -65,3 +70,40 @@ stands_nowhere t n (l ∷ []) name (inr (inr s)) none (inl e) = stands_not t n l
 stands_nowhere t n (l ∷ []) name stand none (inr h) = h
 stands_nowhere t n (l ∷ (k ∷ ls)) name stand none (inl e) = stands_not t n l.0 name e stand.0 none
 stands_nowhere t n (l ∷ (k ∷ ls)) name stand none (inr h) = stands_nowhere t n (k ∷ ls) name stand.1 none h
+
+-- ---- the locks that a node keeps
+
+-- those that do not stay: all but X, where that stays
+abbrev pub but_stays : Bool → List (LockName × Mode) → List (LockName × Mode)
+but_stays stays ls = filter (λ l. not (is_same l.0 X && stays)) ls
+
+and_true : (a : Bool) → (a && true) ≡ a
+and_true true = refl
+and_true false = refl
+
+and_false : (a : Bool) → (a && false) ≡ false
+and_false true = refl
+and_false false = refl
+
+-- X alone stays, or no lock does
+pub only_x : (stays : Bool) (ls : List (LockName × Mode)) → stays ≡ true → filter (λ l. is_same l.0 X) ls ≡ filter (λ l. is_same l.0 X && stays) ls
+only_x stays ls e = ap (λ (p : LockName × Mode → Bool). filter p ls) (λ i l. (sym (and_true (is_same l.0 X)) ∙ ap (λ b. is_same l.0 X && b) (sym e)) i)
+
+none_left : (ls : List (LockName × Mode)) → [] ≡ filter (λ l. false) ls
+none_left [] = refl
+none_left (l ∷ ls) = none_left ls
+
+pub no_x : (stays : Bool) (ls : List (LockName × Mode)) → stays ≡ false → [] ≡ filter (λ l. is_same l.0 X && stays) ls
+no_x stays ls e = none_left ls ∙ ap (λ (p : LockName × Mode → Bool). filter p ls) (λ i l. (sym (and_false (is_same l.0 X)) ∙ ap (λ b. is_same l.0 X && b) (sym e)) i)
+
+-- a list without some of its items is no longer
+pub length_filter : {A : Type 0} (p : A → Bool) (xs : List A) → length (filter p xs) ≤ length xs
+length_filter p [] = omega arith
+length_filter p (x ∷ xs) = by_test (p x) (length_filter p xs) where
+  by_test : (b : Bool) → length (filter p xs) ≤ length xs → length (cond b (x ∷ filter p xs) (filter p xs)) ≤ length (x ∷ xs)
+  by_test true le = omega arith
+  by_test false le = omega arith
+
+-- X stands as it stood where V is lowered
+pub x_stands : (n : ℕ) (value : List ℕ) (t u : List Resource) → u ≡ converted V (system_of n) NL value t → IsSome (lock_of (system_of n) (resource_at X t).askers) → IsSome (lock_of (system_of n) (resource_at X u).askers)
+x_stands n value t u e some = subst (λ (r : Resource). IsSome (lock_of (system_of n) r.askers)) (sym (ap (resource_at X) e ∙ converted-leaves V (system_of n) NL value t X (λ f. absurd (let h : X ≡ V = f in cc)))) some

@@ -13,6 +13,7 @@ use Rattle.core_step.specs.declared.turns.Turn.{Turn}
 use Rattle.core_step.specs.declared.turns.TurnFault.{TurnFault}
 use Rattle.core_step.specs.declared.turns.TurnFault.TheVariants as fault
 use Rattle.core_step.specs.Memory.{takes_none}
+use Rattle.core_step.specs.Ready.{Makes}
 use Rattle.core_step.specs.Turns.{told}
 use Rattle.core_step.specs.Outcome.{IsTurn}
 
@@ -45,11 +46,6 @@ pub still_room : {w new : Plain} {spare spare' : ℕ} → new ≡ w → spare' �
 still_room {w} {new} {spare} {spare'} same is room = more_room same (omega arith) room
 
 -- ---- the event that is made
-
--- the next event of node n is k, and the node prepares nothing for it
-pub record Makes (w : Plain) (n : ℕ) (k : Event) : Type 0 where
-  pub event : next_event w n ≡ k
-  pub stays : readied w n ≡ w
 
 pub makes_as : {w : Plain} {n : ℕ} {j k : Event} → Makes w n j → j ≡ k → Makes w n k
 makes_as m e = record { event = m.event ∙ e; stays = m.stays }

@@ -1,6 +1,6 @@
 -- What is known of a node that goes on with its command.
 use Rattle.std.proofs.Common.{◌≡◌, ◌≤◌, ◌<◌, ◌+◌, ◌-◌, ◌++◌, ℕ, zero, suc, Bool, true, false, cond, List, [], ◌∷◌, Option, Some, None, length, map, slice_get, slice_set, refl, sym, ap, subst, ◌∙◌, inl, inr, arith}
-use Rattle.std.specs.Prelude.{◌==◌, slice_index_or, not, option_map, IfSome, IsSome, is_some}
+use Rattle.std.specs.Prelude.{◌==◌, ◌&&◌, ◌||◌, filter, slice_index_or, not, option_map, IfSome, IsSome, is_some}
 use Rattle.std.proofs.lemmas.Option.{slice_get_within}
 use Rattle.vol_words.specs.Fields.{Block}
 use Rattle.lock_db.specs.declared.name.LockName.{LockName}
@@ -10,8 +10,8 @@ use Rattle.lock_db.specs.declared.resource.Resource.{Resource}
 use Rattle.lock_db.specs.Queues.{standing_of}
 use Rattle.lock_db.specs.declared.resource.Asked.{Asked}
 use Rattle.lock_db.specs.declared.resource.Asked.TheVariants as locked_so
-use Rattle.lock_db.specs.Resources.{goes_at_once, asked_answer}
-use Rattle.lock_db.specs.Tables.{resource_at, asked, released}
+use Rattle.lock_db.specs.Resources.{asked_answer}
+use Rattle.lock_db.specs.Tables.{resource_at, released}
 use Rattle.plain_cat.specs.declared.mode.Mode.{Mode}
 use Rattle.plain_cat.specs.declared.mode.Mode.TheVariants.{CW, PW, EX}
 use Rattle.plain_cat.specs.declared.command.Cmd.{Cmd}
@@ -19,11 +19,10 @@ use Rattle.plain_cat.specs.declared.reply.Reply.{Reply}
 use Rattle.plain_cat.specs.declared.script.Script.{Script}
 use Rattle.plain_cat.specs.declared.cat.Cat.{Cat}
 use Rattle.node_locks.specs.Held.{system_of, Row, names_of, HoldsItsLocks, waits_at}
-use Rattle.node_locks.specs.Taking.{taken_now}
-use Rattle.node_locks.specs.Sweeping.{MayGiveAll as MayGiveNamed}
+use Rattle.node_locks.specs.Taking.{taken, taken_now, MayTake}
+use Rattle.node_locks.specs.Sweeping.{all_given, MayGiveAll as MayGiveNamed}
 use Rattle.node_locks.specs.Sequences.{raised_block}
 use Rattle.node_locks.proofs.Rows.{order-of}
-use Rattle.node_locks.proofs.Sweeping.{sweeping_holds}
 use Rattle.vol_owners.specs.Lists.{Has, Touches}
 use Rattle.vol_owners.specs.Owners.{Owners}
 use Rattle.vol_owners.specs.declared.owner.Owner.{Owner as Possessor}
@@ -47,45 +46,43 @@ use Rattle.op_law.specs.Needs.{need_of, IsNext}
 use Rattle.op_law.specs.Fits.{FitsSeen}
 use Rattle.op_law.specs.Laws.{planned}
 use Rattle.op_law.specs.Knows.{wants_number}
-use Rattle.node_space.specs.declared.outcome.Search.{Search as Outcome}
-use Rattle.node_space.specs.declared.outcome.Search.TheVariants as search
-use Rattle.node_space.specs.Answering.{answer, blocks_of}
-use Rattle.core_state.specs.Searches.{wanted_by}
+use Rattle.core_space.specs.declared.run.Phase.TheVariants as phase
 use Rattle.core_state.specs.Worlds.{NodeState, Plain, IsOfWorld, node_at, set_node, rows_of, rows_in, rows_at}
 use Rattle.core_state.specs.Raises.{raise_of}
-use Rattle.core_state.specs.Asks.{writes_by, reply_by, writes_now, asker_of}
+use Rattle.core_state.specs.Asks.{has_asked, writes_by, reply_by, writes_now, asker_of}
 use Rattle.core_state.specs.Fallen.{living}
 use Rattle.core_state.proofs.Falling.{answers_left}
 use Rattle.core_state.specs.Goods.{IsAt, IsNode, HasFewAnswers, Good, decided, HasRoom}
 use Rattle.core_state.specs.Event.{Event}
 use Rattle.core_state.specs.Event as event
-use Rattle.core_state.specs.Events.{has_asked, given_back, all_writes, by_answer, by_writes, by_search, space_locking, space_looking, space_writing, happens, happen, block_at, turned, locking, looking, planning, writing, asking, answering, would_go, asked_by, by_need, by_end, by_write, by_plan, by_command, event_of, event_now, next_event, readied, command_in, command_at, plan_in, plan_at, tried_in, tried_at}
+use Rattle.core_state.specs.Events.{given_back, all_writes, stays, going, happens, happen, block_at, turned, locking, looking, planning, writing, asking, answering, would_go, asked_by, by_need, by_end, by_write, by_plan, by_command, by_turn, gives_back_in, stands, is_held_up, event_of, event_now, next_event, readied, command_in, command_at, plan_in, plan_at, tried_in, tried_at}
 use Rattle.core_state.specs.Worlds.{state_of}
 use Rattle.core_state.specs.declared.node.Node.{Node}
 use Rattle.core_state.proofs.Nodes.{at_here, length_node, told_at}
-use Rattle.core_state.proofs.Keeping.{has_asked_row, asked_alone, asked_once}
-use Rattle.core_state.proofs.Standing.{new_to_all, asks_once, claim_asks}
-use Rattle.core_state.proofs.Searching.{there_now, is_taking, space_look_within, looks_on, still_looking}
-use Rattle.core_state.proofs.Turning.{under_command, drive, seen_on, may_need, here, planned_at, search_now, asks_wait}
+use Rattle.core_state.proofs.Keeping.{has_asked_row, kept_once, asked_once, claims_once}
+use Rattle.core_state.proofs.Rows.{asks_last}
+use Rattle.core_state.proofs.Answering.{given_names}
+use Rattle.core_state.proofs.Sweeps.{first_may, second_may, third_may}
+use Rattle.core_state.proofs.Turning.{under_command, drive, seen_on, may_need, may_take, asks_now, here, planned_at}
 use Rattle.core_state.proofs.Trying.{nobody_asks, StandsSo, stands_so, goes_as_request}
 use Rattle.core_state.proofs.Closing.{closing_lock, close_channel, form_now}
 use Rattle.core_state.proofs.SmallBegun.{answers_fit}
 use Rattle.core_state.proofs.Opens.{locked, no_lock, has_its}
 use Rattle.core_state.proofs.Preparing.{has_prepared, readied_same}
-use Rattle.core_step.specs.Giving.{MayGiveAll, MayLetGo, MayCloseOff, MayEnd}
+use Rattle.core_step.specs.Giving.{MayGiveAll, MayLeaveAll, MayLetGo, MayCloseOff, MayEnd}
 use Rattle.core_state.specs.Channels.{names_in_form, opened, channel_seen}
 use Rattle.op_law.specs.declared.seen.Chan.{Chan}
 use Rattle.plain_cat.specs.declared.command.Cmd.TheVariants as cmd
 use Rattle.core_step.specs.Asks.{going_ask, aim_of, GoesAsRequest, MayAsk}
 use Rattle.core_step.specs.declared.asks.Aim.{Aim}
-use Rattle.core_step.specs.Ready.{IsReady, IsSearching, SearchesAsNeeded}
+use Rattle.core_step.specs.Ready.{Makes, IsReady, IsSearching, SearchesAsNeeded}
 use Rattle.core_step.specs.Memory.{takes_none}
 use Rattle.core_step.specs.declared.turns.Turn.TheVariants as turn
 use Rattle.core_step.specs.declared.turns.Kind.TheVariants as kind
 use Rattle.core_step.specs.Turns.{is_queued_in, told}
 use Rattle.core_step.proofs.Steps.{happen_here, is_there}
 use Rattle.core_step.proofs.Lists.{unnamed, stands_nowhere}
-use Rattle.core_step.proofs.Outcomes.{Makes, makes_as}
+use Rattle.core_step.proofs.Outcomes.{makes_as}
 
 -- ---- what the operation of a node tells
 
@@ -124,6 +121,16 @@ module _ (g : Geometry) (bs : List Block) (own : Owners) (c : Cat) (s : Spells g
 may_each : (g : Geometry) (n : ℕ) (ws : List PlanWrite) (ls : Row) (t : List Resource) → MayGiveNamed n (λ name u. raised_block (raise_of g name ws) (resource_at name u)) (names_of ls) t → MayGiveAll g n ws ls t
 may_each g n ws [] t may = tt
 may_each g n ws (l ∷ ls) t may = (may.0, may_each g n ws ls (released l.0 (system_of n) (raised_block (raise_of g l.0 ws) (resource_at l.0 t)) t) may.1)
+
+-- and those behind them
+may_both : (g : Geometry) (n : ℕ) (ws : List PlanWrite) (ls ks : Row) (t : List Resource) → MayGiveAll g n ws ls t → MayGiveAll g n ws ks (given_back g n ws ls t) → MayGiveAll g n ws (ls ++ ks) t
+may_both g n ws [] ks t may more = more
+may_both g n ws (l ∷ ls) ks t may more = (may.0, may_both g n ws ls ks (released l.0 (system_of n) (raised_block (raise_of g l.0 ws) (resource_at l.0 t)) t) may.1 more)
+
+-- the same, where the value blocks stay
+pub may_leave_each : (n : ℕ) (ls : Row) (t : List Resource) → MayGiveNamed n (λ name u. (resource_at name u).value) (names_of ls) t → MayLeaveAll n ls t
+may_leave_each n [] t may = tt
+may_leave_each n (l ∷ ls) t may = (may.0, may_leave_each n ls (released l.0 (system_of n) (resource_at l.0 t).value t) may.1)
 
 -- ---- how many nodes have decided
 
@@ -223,14 +230,24 @@ module _ {w : Plain} (good : Good w) {n : ℕ} (r : IsReady w n) where
     on = seen_on w good n s r.at r.cmd r.has r.free;
   }
 
+  -- it stands nowhere
+  still : stands w n s ≡ false
+  still = λ i. r.granted i || (not (r.gives i) && r.free i)
+
+  pub calmly : s.run.phase ≡ phase.Back → ⊥
+  calmly f = absurd (let g : true ≡ false = sym (ap (gives_back_in w n s) f) ∙ r.gives in cc)
+
   -- it goes on, and prepares nothing for it
   pub event_is : Makes w n (by_plan r.cmd s s.plan)
   event_is = record {
-    event = ap (λ v. event_now v n) stays ∙ ap (event_of w n) r.at ∙ (λ i. cond (r.on i) event.Rest (cond (r.free i) event.Stand (by_command s (r.has i))));
+    event = ap (λ v. event_now v n) stays ∙ ap (event_of w n) r.at ∙ (λ i. cond (r.on i) event.Rest (cond (still i) event.Stand (by_turn s (r.gives i)))) ∙ ap (by_command s) r.has;
     stays = stays;
   } where
+    held : is_held_up w n s ≡ false
+    held = λ i. r.on i || (r.gives i || still i)
+
     stays : readied w n ≡ w
-    stays = readied_same w n s r.at (has_prepared w n s r.cmd r.has)
+    stays = readied_same w n s r.at (has_prepared w n s r.cmd held r.has ∙ r.served)
 
   pub has_plan : (o : Option Plan) → plan_at w n ≡ o → s.plan ≡ o
   has_plan o e = sym (ap plan_in r.at) ∙ e
@@ -288,37 +305,21 @@ module _ {w : Plain} (good : Good w) {n : ℕ} (r : IsReady w n) where
   has_rows : HoldsItsLocks w.locks n (rows_of s)
   has_rows = subst (λ (rs : List Row). HoldsItsLocks w.locks n rs) (ap rows_in r.at) (good.locked.1 n)
 
-  -- a lock on a name that it has none on can be asked for
-  may_request : (name : LockName) → (Has (names_of s.asked) name → ⊥) → standing_of (system_of n) (resource_at name w.locks).askers ≡ None
-  may_request name new = has_rows.no_other name (λ h. new (asked_alone s node.store name h))
-
-  -- and it stands in a queue where it was not granted at once
-  waits_more : (name : LockName) (mode : Mode) → (Has (names_of s.asked) name → ⊥)
-      → waits_at (asked name (system_of n) mode w.locks) n (s.asked ++ (name, mode) ∷ []) ≡ not (goes_at_once (system_of n) mode (resource_at name w.locks).askers)
-  waits_more name mode new = asks_wait w good n s r.at r.cmd r.has r.free name mode new
-
-  -- so it is of a lock that is needed
+  -- a lock that its command needs is new to it
   new_lock : plan_at w n ≡ None → (name : LockName) (mode : Mode) → IsNext r.cmd s.seen (need.Lock name mode) → Has (names_of s.asked) name → ⊥
-  new_lock none name mode is =
-      let may = may_need w good n s r.at r.cmd r.has r.free (need.Lock name mode) is in
-      new_to_all w.locks n r.cmd s.asked s.run s.seen (search_now w good n s r.at r.cmd r.has r.free (has_plan None none)) name may.own may.new
+  new_lock none name mode is h = (may_need w good n s r.at r.cmd r.has r.free (need.Lock name mode) is).new (subst (λ (ls : Row). Has (names_of ls) name) (asks_now w good n s r.at r.cmd r.has r.free (has_plan None none)) h)
 
-  pub may_lock : plan_at w n ≡ None → (name : LockName) (mode : Mode) → IsNext r.cmd s.seen (need.Lock name mode) → standing_of (system_of n) (resource_at name w.locks).askers ≡ None
-  may_lock none name mode is = may_request name (new_lock none name mode is)
+  -- so it may be taken, and stands in a queue where it is not granted at once
+  pub may_lock : plan_at w n ≡ None → (name : LockName) (mode : Mode) → IsNext r.cmd s.seen (need.Lock name mode) → MayTake name (system_of n) w.locks
+  may_lock none name mode is =
+      let may = may_need w good n s r.at r.cmd r.has r.free (need.Lock name mode) is in
+      (asks_last w.locks n name mode (rows_at w.nodes) s.kept s.asked s.claims good.locked.0 good.locked.1 (ap rows_in r.at) node.rests (may_take w good n s r.at r.cmd r.has r.free (has_plan None none) calmly name may.own may.new) r.free).took.may
 
   pub lock_waits : plan_at w n ≡ None → (name : LockName) (mode : Mode) → IsNext r.cmd s.seen (need.Lock name mode)
-      → waits_at (asked name (system_of n) mode w.locks) n (s.asked ++ (name, mode) ∷ []) ≡ not (goes_at_once (system_of n) mode (resource_at name w.locks).askers)
-  lock_waits none name mode is = waits_more name mode (new_lock none name mode is)
-
-  -- and of the lock of the bitmaps, where a search begins
-  new_space_lock : plan_at w n ≡ None → has_asked V s.asked ≡ false → Has (names_of s.asked) V → ⊥
-  new_space_lock no_plan none = (asks_once w.locks n r.cmd s.asked s.run s.seen (search_now w good n s r.at r.cmd r.has r.free (has_plan None no_plan)) none).1
-
-  pub may_lock_space : plan_at w n ≡ None → has_asked V s.asked ≡ false → standing_of (system_of n) (resource_at V w.locks).askers ≡ None
-  may_lock_space no_plan none = may_request V (new_space_lock no_plan none)
-
-  pub space_lock_waits : plan_at w n ≡ None → has_asked V s.asked ≡ false → waits_at (asked V (system_of n) PW w.locks) n (s.asked ++ (V, PW) ∷ []) ≡ not (goes_at_once (system_of n) PW (resource_at V w.locks).askers)
-  space_lock_waits no_plan none = waits_more V PW (new_space_lock no_plan none)
+      → waits_at (taken name (system_of n) mode w.locks) n (s.asked ++ (name, mode) ∷ []) ≡ not (taken_now name (system_of n) mode w.locks)
+  lock_waits none name mode is =
+      let may = may_need w good n s r.at r.cmd r.has r.free (need.Lock name mode) is in
+      (asks_last w.locks n name mode (rows_at w.nodes) s.kept s.asked s.claims good.locked.0 good.locked.1 (ap rows_in r.at) node.rests (may_take w good n s r.at r.cmd r.has r.free (has_plan None none) calmly name may.own may.new) r.free).waits
 
   -- it has not asked for that lock yet
   apart : (name : LockName) → (Has (names_of s.asked) name → ⊥) → (q : NodeState) → node_at w.nodes n ≡ Some q → has_asked name q.asked ≡ false
@@ -333,9 +334,6 @@ module _ {w : Plain} (good : Good w) {n : ℕ} (r : IsReady w n) where
       let f : Some s ≡ Some q = sym r.at ∙ at in
       let h : s ≡ q = cc in
       (apart name (new_lock none name mode is) q at, subst (λ (y : NodeState). has_asked name y.seen.locks ≡ false) h (unnamed s.seen.locks name may.new))
-
-  pub space_lock_apart : plan_at w n ≡ None → has_asked V s.asked ≡ false → (q : NodeState) → node_at w.nodes n ≡ Some q → has_asked V q.asked ≡ false
-  space_lock_apart no_plan none q at = apart V (new_space_lock no_plan none) q at
 
   pub ask_apart : (p : Plan) → s.plan ≡ Some p → (a : PlanAsk) → going_ask w.locks n s.tried p.ask ≡ Some a → (q : NodeState) → node_at w.nodes n ≡ Some q → has_asked (A a.file) q.asked ≡ false
   ask_apart p plan a going q at =
@@ -356,70 +354,6 @@ module _ {w : Plain} (good : Good w) {n : ℕ} (r : IsReady w n) where
   pub has_geometry : IsGeometry s.seen.geometry
   has_geometry = (drive w good n s r.at r.cmd r.has r.free).spelt.counts.geometry
 
-  -- a search that has writes to make makes the next one
-  pub event_space_write : plan_at w n ≡ None → (v : PlanWrite) → slice_get s.run.writes s.run.made ≡ Some v → Makes w n (event.SpaceWrite v)
-  event_space_write none v next =
-      let h = is_taking w good n s r.at r.cmd r.has r.free (has_plan None none) (slice_get_within s.run.writes s.run.made v next) in
-      makes_as (event_need none (need.Space (wanted_by r.cmd s.seen) (wants_number r.cmd)) h.needs.next)
-      (ap (by_search s (wanted_by r.cmd s.seen) (wants_number r.cmd)) (claim_asks r.cmd s.asked s.run s.seen h.found.claimed) ∙ ap (by_writes s (wanted_by r.cmd s.seen) (wants_number r.cmd)) next)
-
-  pub space_write_within : plan_at w n ≡ None → (v : PlanWrite) → slice_get s.run.writes s.run.made ≡ Some v → v.lbn < length w.blocks
-  space_write_within none v next =
-      let lt = slice_get_within s.run.writes s.run.made v next in
-      let h = is_taking w good n s r.at r.cmd r.has r.free (has_plan None none) lt in
-      slice_get_within w.blocks v.lbn _ (there_now w good n s r.at r.cmd r.has r.free (has_plan None none) h v next)
-
-  -- a search begins with the lock of the bitmaps, and then looks
-  pub event_space_lock : plan_at w n ≡ None → (k : ℕ) (b : Bool) → IsNext r.cmd s.seen (need.Space k b) → has_asked V s.asked ≡ false → Makes w n event.SpaceLock
-  event_space_lock none k b is asks = makes_as (event_need none (need.Space k b) is) (ap (by_search s k b) asks)
-
-  pub event_space_look : plan_at w n ≡ None → (k : ℕ) (b : Bool) → IsNext r.cmd s.seen (need.Space k b) → has_asked V s.asked ≡ true → length s.run.writes ≤ s.run.made → (lbn : ℕ) → answer s.seen.geometry k b (blocks_of s.run.looked) ≡ search.Look lbn
-      → Makes w n (event.SpaceLook k b lbn)
-  event_space_look none k b is asks over lbn e =
-      makes_as (event_need none (need.Space k b) is) (ap (by_search s k b) asks ∙ ap (by_writes s k b) (none_left s.run.writes s.run.made over) ∙ ap (by_answer k b) e) where
-        none_left : (ws : List PlanWrite) (k : ℕ) → length ws ≤ k → slice_get ws k ≡ None
-        none_left [] k le = refl
-        none_left (y ∷ ws) zero le = absurd (omega arith)
-        none_left (y ∷ ws) (suc k) le = none_left ws k (omega arith)
-
-  pub space_looks_within : plan_at w n ≡ None → (k : ℕ) (b : Bool) (lbn : ℕ) → answer s.seen.geometry k b (blocks_of s.run.looked) ≡ search.Look lbn → lbn < length w.blocks
-  space_looks_within none k b lbn e = space_look_within w good n s r.at r.cmd r.has r.free (has_plan None none) k b lbn e
-
-  -- what it searches for its command needs
-  pub searches_now : plan_at w n ≡ None → length s.run.writes ≤ s.run.made → (k : ℕ) (b : Bool) → IsSearching s r.cmd k b → IsNext r.cmd s.seen (need.Space k b)
-  searches_now none over k b h =
-      let wants = h.wants in
-      let some = λ (z : (wanted_by r.cmd s.seen ≡ 0) × (wants_number r.cmd ≡ false)). wants.some (sym wants.clusters_are ∙ z.0, sym wants.number_is ∙ z.1) in
-      let looks = still_looking w good n s r.at r.cmd r.has r.free (has_plan None none) wants.takes h.none some h.asked over in
-      looks.needs.next ∙ (λ i. need.Space (wants.clusters_are i) (wants.number_is i))
-
-  pub comes_to : plan_at w n ≡ None → (k : ℕ) (b : Bool) → IsNext r.cmd s.seen (need.Space k b) → has_asked V s.asked ≡ true → length s.run.writes ≤ s.run.made → (o : Outcome) → o ≡ answer s.seen.geometry k b (blocks_of s.run.looked)
-      → (lbn : ℕ) × (o ≡ search.Look lbn)
-  comes_to none k b is asks over o e = looks_on w good n s r.at r.cmd r.has r.free (has_plan None none) k b is asks over o e
-
-  -- before it has a plan each of its events may take memory
-  pub takes_some : plan_at w n ≡ None → takes_none w.locks n (next_event w n) ≡ false
-  takes_some none = ap (takes_none w.locks n) (event_need none (need_of r.cmd s.seen) refl).event ∙ by_next (need_of r.cmd s.seen) where
-    by_outcome : (k : ℕ) (b : Bool) (o : Outcome) → takes_none w.locks n (by_answer k b o) ≡ false
-    by_outcome k b (search.Look lbn) = refl
-    by_outcome k b (search.Short why) = refl
-    by_outcome k b (search.Take ws) = refl
-
-    by_left : (k : ℕ) (b : Bool) (o : Option PlanWrite) → takes_none w.locks n (by_writes s k b o) ≡ false
-    by_left k b (Some v) = refl
-    by_left k b None = by_outcome k b (answer s.seen.geometry k b (blocks_of s.run.looked))
-
-    by_asked : (k : ℕ) (b : Bool) (t : Bool) → takes_none w.locks n (by_search s k b t) ≡ false
-    by_asked k b false = refl
-    by_asked k b true = by_left k b (slice_get s.run.writes s.run.made)
-
-    by_next : (next : Need) → takes_none w.locks n (by_need s next) ≡ false
-    by_next (need.Lock name mode) = refl
-    by_next (need.Block name lbn) = refl
-    by_next (need.Bare lbn) = refl
-    by_next (need.Space k b) = by_asked k b (has_asked V s.asked)
-    by_next (need.Ready p) = refl
-
   -- the next write is to a block of the volume
   pub write_within : (p : Plan) → s.plan ≡ Some p → (v : PlanWrite) → slice_get (writes_by p.ask s.tried p.writes) s.done ≡ Some v → v.lbn < length w.blocks
   write_within p plan v next =
@@ -430,12 +364,36 @@ module _ {w : Plain} (good : Good w) {n : ℕ} (r : IsReady w n) where
       subst (λ (k : ℕ). v.lbn < k) (sym good.running.drive.over.count) (guard_within w.geometry good.running.drive.base good.running.drive.own good.running.cat good.running.drive.spelt n v.lbn _ (mine v.lbn touched))
 
   -- a channel that is closed has the lock that it gives back
-  closes_so : (x : Cmd) (a : Reply) → names_in_form x ≡ true → MayCloseOff n (channel_seen s.opens x) x a (given_back w.geometry n (all_writes s) s.asked w.locks)
+  closes_so : (x : Cmd) (a : Reply) → names_in_form x ≡ true → MayCloseOff n (channel_seen s.opens x) x a (given_back w.geometry n (all_writes s) (going s) w.locks)
   closes_so (cmd.CloseFile chan) a form = λ closed. by_open (opened s.opens chan) refl where
-    by_open : (o : Option Chan) → opened s.opens chan ≡ o → MayLetGo n chan o (given_back w.geometry n (all_writes s) s.asked w.locks)
+    by_open : (o : Option Chan) → opened s.opens chan ≡ o → MayLetGo n chan o (given_back w.geometry n (all_writes s) (going s) w.locks)
     by_open None e = tt
     by_open (Some p) e = let k = close_channel chan form in closing_lock w good n s r.at chan k.0 k.1 p e
   closes_so other a form = tt
+
+  -- its locks can go back
+  may_go : MayGiveAll w.geometry n (all_writes s) (going s) w.locks
+  may_go =
+      let g = w.geometry in
+      let ws = all_writes s in
+      let u = given_back g n ws s.asked w.locks in
+      may_both g n ws s.asked (s.claims ++ gone) w.locks (may_each g n ws s.asked w.locks first)
+      (may_both g n ws s.claims gone u (may_each g n ws s.claims u (subst (MayGiveNamed n raises (names_of s.claims)) (given_names g n ws s.asked w.locks) second))
+      (may_each g n ws gone (given_back g n ws s.claims u) (subst (MayGiveNamed n raises (names_of gone)) ((λ i. all_given n raises (names_of s.claims) (given_names g n ws s.asked w.locks i)) ∙ given_names g n ws s.claims u) third))) where
+        raises : LockName → List Resource → List ℕ
+        raises name t = raised_block (raise_of w.geometry name (all_writes s)) (resource_at name t)
+
+        gone : Row
+        gone = filter (λ l. not (stays s.stock l)) s.kept
+
+        first : MayGiveNamed n raises (names_of s.asked) w.locks
+        first = first_may raises (stays s.stock) w.locks n (rows_at w.nodes) s.kept s.asked s.claims good.locked.0 good.locked.1 (ap rows_in r.at) node.rests r.free r.granted (kept_once s has_rows.once) (asked_once s has_rows.once) (claims_once s has_rows.once)
+
+        second : MayGiveNamed n raises (names_of s.claims) (all_given n raises (names_of s.asked) w.locks)
+        second = second_may raises (stays s.stock) w.locks n (rows_at w.nodes) s.kept s.asked s.claims good.locked.0 good.locked.1 (ap rows_in r.at) node.rests r.free r.granted (kept_once s has_rows.once) (asked_once s has_rows.once) (claims_once s has_rows.once)
+
+        third : MayGiveNamed n raises (names_of gone) (all_given n raises (names_of s.claims) (all_given n raises (names_of s.asked) w.locks))
+        third = third_may raises (stays s.stock) w.locks n (rows_at w.nodes) s.kept s.asked s.claims good.locked.0 good.locked.1 (ap rows_in r.at) node.rests r.free r.granted (kept_once s has_rows.once) (asked_once s has_rows.once) (claims_once s has_rows.once)
 
   -- its command can end
   pub may_end : length w.script.lines ≤ 4096 → (p : Plan) → s.plan ≡ Some p → MayEnd w.geometry n s w.locks
@@ -443,9 +401,7 @@ module _ {w : Plain} (good : Good w) {n : ℕ} (r : IsReady w n) where
     cmd = ap is_some r.has;
     plan = ap is_some plan;
     few = answers_fit w.script n s.past few (subst (HasFewAnswers w.script n) (sym node.past) (good.few n));
-    gives = may_each w.geometry n (all_writes s) s.asked w.locks
-        (sweeping_holds (λ name u. raised_block (raise_of w.geometry name (all_writes s)) (resource_at name u)) w.locks n 1 s.asked (names_of s.asked) (rows_of s) (rows_at w.nodes) good.locked.0 good.locked.1 (ap rows_in r.at) refl r.free
-        (asked_once s node.store has_rows.once) (λ name h. h)).0;
+    gives = may_go;
     closes = λ x q has_cmd has_plan. closes_so x (reply_by q.ask s.tried q.reply) (form_now w good n s r.at x has_cmd r.free);
   }
 
@@ -456,6 +412,20 @@ same_room a b k le = omega arith
 
 from_counts : (d a b l x y : ℕ) → d + a ≡ b + x → (b + l) + x ≤ y + a → d + l ≤ y
 from_counts d a b l x y e le = omega arith
+
+-- an event that leaves the history, and the plan of its node
+module _ (w : Plain) (n : ℕ) (s : NodeState) (at : node_at w.nodes n ≡ Some s) where
+  pub kept_room : (e : Event) (q : NodeState) (spare : ℕ) → (happens w n s e).script ≡ w.script → (happens w n s e).nodes ≡ set_node w.nodes n q → living (happens w n s e).history w.script.nodes ≡ living w.history w.script.nodes → is_some q.plan ≡ is_some s.plan
+      → HasRoom w spare → (new : Plain) → new ≡ happen w n e → HasRoom new spare
+  kept_room e q spare script nodes live plan room new is = subst (λ (v : Plain). HasRoom v spare) (sym (is ∙ sym (happen_here w n s e at))) (record {
+    few = subst (λ (ns : List NodeState). length ns ≤ 8) (sym nodes) (subst (λ (k : ℕ). k ≤ 8) (sym (length_node w.nodes n q)) room.few);
+    lines = subst (λ (c : Script). length c.lines ≤ 4096) (sym script) room.lines;
+    places = subst (λ (c : Script). decided (happens w n s e).nodes + living (happens w n s e).history c.nodes ≤ spare) (sym script)
+        (subst (λ (k : ℕ). decided (happens w n s e).nodes + k ≤ spare) (sym live)
+        (subst (λ (ns : List NodeState). decided ns + living w.history w.script.nodes ≤ spare) (sym nodes)
+        (from_counts (decided (set_node w.nodes n q)) (cond (is_some s.plan) 1 0) (decided w.nodes) (living w.history w.script.nodes) (cond (is_some q.plan) 1 0) spare (decided_set w.nodes n s q at)
+        (subst (λ (t : Bool). (decided w.nodes + living w.history w.script.nodes) + cond t 1 0 ≤ spare + cond (is_some s.plan) 1 0) (sym plan) (same_room (decided w.nodes + living w.history w.script.nodes) spare (cond (is_some s.plan) 1 0) room.places)))));
+  })
 
 module _ {w : Plain} (good : Good w) {n : ℕ} (r : IsReady w n) where
   abbrev me : NodeState
@@ -486,15 +456,6 @@ module _ {w : Plain} (good : Good w) {n : ℕ} (r : IsReady w n) where
 
   pub lock_room : (name : LockName) (mode : Mode) (spare : ℕ) → HasRoom w spare → (new : Plain) → new ≡ happen w n (event.Lock name mode) → HasRoom new spare
   lock_room name mode spare room new is = room_after (event.Lock name mode) (turned (locking me name mode)) spare spare refl refl refl (same_room needed spare (weight me) room.places) room new is
-
-  pub space_lock_room : (spare : ℕ) → HasRoom w spare → (new : Plain) → new ≡ happen w n event.SpaceLock → HasRoom new spare
-  space_lock_room spare room new is = room_after event.SpaceLock (turned (space_locking me)) spare spare refl refl refl (same_room needed spare (weight me) room.places) room new is
-
-  pub space_look_room : (k : ℕ) (b : Bool) (lbn : ℕ) (spare : ℕ) → HasRoom w spare → (new : Plain) → new ≡ happen w n (event.SpaceLook k b lbn) → HasRoom new spare
-  space_look_room k b lbn spare room new is = room_after (event.SpaceLook k b lbn) (turned (space_looking me k b lbn (block_at w.blocks lbn))) spare spare refl refl refl (same_room needed spare (weight me) room.places) room new is
-
-  pub space_write_room : (v : PlanWrite) (spare : ℕ) → HasRoom w spare → (new : Plain) → new ≡ happen w n (event.SpaceWrite v) → HasRoom new spare
-  space_write_room v spare room new is = room_after (event.SpaceWrite v) (turned (space_writing me v)) spare spare refl refl refl (same_room needed spare (weight me) room.places) room new is
 
   pub look_room : (lbn : ℕ) (spare : ℕ) → HasRoom w spare → (new : Plain) → new ≡ happen w n (event.Look lbn) → HasRoom new spare
   look_room lbn spare room new is = room_after (event.Look lbn) (turned (looking me lbn (block_at w.blocks lbn))) spare spare refl refl refl (same_room needed spare (weight me) room.places) room new is
@@ -529,7 +490,7 @@ module _ {w : Plain} (good : Good w) {n : ℕ} (r : IsReady w n) where
       ap (λ o. cond (is_some o) (turn.Moved kind.Tried) turn.Answered) there
 
   -- what a request answers
-  pub lock_told : plan_at w n ≡ None → (name : LockName) (mode : Mode) → IsNext r.cmd me.seen (need.Lock name mode) → (t : Bool) → goes_at_once (system_of n) mode (resource_at name w.locks).askers ≡ t
+  pub lock_told : plan_at w n ≡ None → (name : LockName) (mode : Mode) → IsNext r.cmd me.seen (need.Lock name mode) → (t : Bool) → taken_now name (system_of n) mode w.locks ≡ t
       → (new : Plain) → new ≡ happen w n (event.Lock name mode) → told new n (event.Lock name mode) ≡ cond (not t) turn.Waiting (turn.Moved kind.Locked)
   lock_told none name mode is t goes new e =
       let q : NodeState = turned (locking me name mode) in
@@ -538,21 +499,9 @@ module _ {w : Plain} (good : Good w) {n : ℕ} (r : IsReady w n) where
       let queued : is_queued_in v n (node_at v.nodes n) ≡ not t = ap (is_queued_in v n) there ∙ lock_waits good r none name mode is ∙ ap not goes in
       ap (λ y. told y n (event.Lock name mode)) (e ∙ sym (happen_here w n me (event.Lock name mode) r.at)) ∙ ap (λ b. cond b turn.Waiting (turn.Moved kind.Locked)) queued
 
-  pub space_lock_told : plan_at w n ≡ None → has_asked V me.asked ≡ false → (t : Bool) → goes_at_once (system_of n) PW (resource_at V w.locks).askers ≡ t
-      → (new : Plain) → new ≡ happen w n event.SpaceLock → told new n event.SpaceLock ≡ cond (not t) turn.Waiting (turn.Moved kind.Locked)
-  space_lock_told no_plan none t goes new e =
-      let q : NodeState = turned (space_locking me) in
-      let v : Plain = happens w n me event.SpaceLock in
-      let there : node_at v.nodes n ≡ Some q = at_here w.nodes n q me r.at in
-      let queued : is_queued_in v n (node_at v.nodes n) ≡ not t = ap (is_queued_in v n) there ∙ space_lock_waits good r no_plan none ∙ ap not goes in
-      ap (λ y. told y n event.SpaceLock) (e ∙ sym (happen_here w n me event.SpaceLock r.at)) ∙ ap (λ b. cond b turn.Waiting (turn.Moved kind.Locked)) queued
-
   -- and what a write leaves of the drive
   pub write_leaves : (v : PlanWrite) → (happen w n (event.Write v)).blocks ≡ slice_set w.blocks v.lbn v.block
   write_leaves v = sym (ap (λ (y : Plain). y.blocks) (happen_here w n me (event.Write v) r.at))
-
-  pub space_write_leaves : (v : PlanWrite) → (happen w n (event.SpaceWrite v)).blocks ≡ slice_set w.blocks v.lbn v.block
-  space_write_leaves v = sym (ap (λ (y : Plain). y.blocks) (happen_here w n me (event.SpaceWrite v) r.at))
 
 -- ---- the item that tells the node
 
@@ -613,34 +562,8 @@ module _ {O : Type 0} {cmd_is : O → Cmd} {w : Plain} {n : ℕ} {r : IsReady w 
   pub op_need : (next : Need) → IfSome d.op (λ op. need_of (cmd_is op) d.seen ≡ next) → IsNext r.cmd r.state.seen next
   op_need next e = subst (λ (y : NodeState). need_of r.cmd y.seen ≡ next) tells (need_told cmd_is d.op r.cmd d.seen next op_is e)
 
-  pub item_asked : (b : Bool) → has_asked V d.asked ≡ b → has_asked V r.state.asked ≡ b
-  item_asked b e = ap (λ (y : NodeState). has_asked V y.asked) (sym tells) ∙ e
-
-  pub item_answer : (k : ℕ) (b : Bool) (o : Outcome) → o ≡ answer d.seen.geometry k b (blocks_of d.run.looked) → o ≡ answer r.state.seen.geometry k b (blocks_of r.state.run.looked)
-  item_answer k b o e = e ∙ ap (λ (y : NodeState). answer y.seen.geometry k b (blocks_of y.run.looked)) tells
-
   pub item_geometry : Good w → IsGeometry d.seen.geometry
   item_geometry good = subst (λ (y : NodeState). IsGeometry y.seen.geometry) (sym tells) (has_geometry good r)
-
-  pub item_searches : Good w → plan_at w n ≡ None → length r.state.run.writes ≤ r.state.run.made → SearchesAsNeeded (state_of cmd_is d)
-  item_searches good none over = subst (λ (y : NodeState). SearchesAsNeeded y) (sym tells) (λ x k b has h.
-      let f : Some r.cmd ≡ Some x = sym r.has ∙ has in
-      let i : r.cmd ≡ x = cc in
-      subst (λ (y : Cmd). IsNext y r.state.seen (need.Space k b)) i (searches_now good r none over k b (subst (λ (y : Cmd). IsSearching r.state y k b) (sym i) h)))
-
-  pub item_over : length d.run.writes ≤ d.run.made → (q : NodeState) → node_at w.nodes n ≡ Some q → length q.run.writes ≤ q.run.made
-  item_over le q at = subst (λ (y : NodeState). length y.run.writes ≤ y.run.made) (one_node q at) le
-
-  pub item_take : (ws : List PlanWrite) (v : PlanWrite) → ws ≡ d.run.writes → d.run.made < length ws → v ≡ slice_index_or ws d.run.made v → slice_get r.state.run.writes r.state.run.made ≡ Some v
-  item_take ws v same lt e = subst (λ (y : NodeState). slice_get y.run.writes y.run.made ≡ Some v) tells (ap (λ (vs : List PlanWrite). slice_get vs d.run.made) (sym same) ∙ some_at ws d.run.made v lt e)
-
-  pub item_need : (k : ℕ) (b : Bool) → IfSome d.op (λ op. need_of (cmd_is op) d.seen ≡ need.Space k b) → (q : NodeState) (y : Cmd) → node_at w.nodes n ≡ Some q → q.cmd ≡ Some y → IsNext y q.seen (need.Space k b)
-  item_need k b e q y at has =
-      let f : Some r.state ≡ Some q = sym r.at ∙ at in
-      let h : r.state ≡ q = cc in
-      let c : Some r.cmd ≡ Some y = sym r.has ∙ ap (λ (z : NodeState). z.cmd) h ∙ has in
-      let i : r.cmd ≡ y = cc in
-      subst (λ (z : Cmd). IsNext z q.seen (need.Space k b)) i (subst (λ (z : NodeState). IsNext r.cmd z.seen (need.Space k b)) h (op_need (need.Space k b) e))
 
   pub plan_now : (p : Plan) → d.plan ≡ Some p → r.state.plan ≡ Some p
   plan_now p e = sym (ap (λ y. y.plan) tells) ∙ e

@@ -5,10 +5,11 @@ use Rattle.std.proofs.lemmas.Bool.Decides.{nat_tests}
 use Rattle.std.proofs.lemmas.Option.{get_or_from_slice_get}
 use Rattle.vol_words.specs.Fields.{Block}
 use Rattle.lock_db.specs.declared.name.LockName.{LockName}
-use Rattle.lock_db.specs.declared.name.LockName.TheVariants.{V}
 use Rattle.lock_db.specs.declared.name.LockName.TheVariants as lock_name
-use Rattle.plain_cat.specs.declared.mode.Mode.TheVariants.{PW}
-use Rattle.lock_db.specs.Tables.{asked, tried}
+use Rattle.lock_db.specs.Tables.{resource_at, released}
+use Rattle.node_locks.specs.Sequences.{raised_block}
+use Rattle.core_space.specs.declared.run.Phase.{Phase}
+use Rattle.core_state.specs.Raises.{raise_of}
 use Rattle.plain_cat.specs.declared.mode.Mode.{Mode}
 use Rattle.plain_cat.specs.declared.command.Cmd.{Cmd}
 use Rattle.node_locks.specs.Held.{system_of}
@@ -19,12 +20,12 @@ use Rattle.op_law.specs.declared.need.Plan.{Plan}
 use Rattle.op_law.specs.declared.need.PlanWrite.{PlanWrite}
 use Rattle.op_law.specs.declared.need.Ask.{Ask as PlanAsk}
 use Rattle.core_state.specs.Worlds.{NodeState, Plain, node_at, set_node}
-use Rattle.core_state.specs.Asks.{writes_by, reply_by, writes_now, asker_of, own_of, with_ask}
+use Rattle.core_state.specs.Asks.{has_asked, reply_by, asker_of, own_of, with_ask}
 use Rattle.core_state.specs.Channels.{channel_seen, closed_off}
 use Rattle.node_locks.specs.Taking.{taken}
 use Rattle.core_state.specs.Event.{Event}
 use Rattle.core_state.specs.Event as event
-use Rattle.core_state.specs.Events.{has_asked, would_go, asked_by, happens, happen_at, happen, given_back, locks_after, turned, leaving, locking, space_locking, looking, space_looking, space_writing, planning, writing, asking, answering, command_in, command_at, plan_in, plan_at, tried_in, tried_at}
+use Rattle.core_state.specs.Events.{would_go, asked_by, happens, happen_at, happen, given_back, left_alone, v_lowered, x_lowered, x_returned, all_writes, going, turned, leaving, locking, claiming, lowering, lowering_both, returning, looking, space_looking, space_writing, planning, writing, asking, answering, command_in, command_at, plan_in, plan_at, tried_in, tried_at}
 use Rattle.vol_parts.specs.declared.geometry.Geometry.{Geometry}
 use Rattle.core_step.specs.Giving.{MayGiveAll, MayCloseOff}
 use Rattle.core_step.specs.Asks.{noted, unnoted}
@@ -62,15 +63,27 @@ module _ {A : Type 0} (f : A → NodeState) (xs : List A) (w : Plain) (n : ℕ) 
   pub stood : f d' ≡ turned (f d) → record w { nodes = after } ≡ happen w n event.Stand
   stood e = ap (λ ns. record w { nodes = ns }) (now (turned (f d)) e) ∙ happen_here w n (f d) event.Stand at
 
-  pub left : f d' ≡ turned (leaving (f d)) → record w { nodes = after } ≡ happen w n event.Leave
-  left e = ap (λ ns. record w { nodes = ns }) (now (turned (leaving (f d))) e) ∙ happen_here w n (f d) event.Leave at
+  -- the node changes with the lock table, and that is what the event makes of them
+  changed_so : (q : NodeState) (k : Event) (t u : List Resource) → happens w n (f d) k ≡ record w { locks = t; nodes = set_node w.nodes n q } → f d' ≡ q → u ≡ t → record w { locks = u; nodes = after } ≡ happen w n k
+  changed_so q k t u makes e locks = (λ i. record w { locks = locks i; nodes = now q e i }) ∙ sym makes ∙ happen_here w n (f d) k at
 
-  pub locked_so : (name : LockName) (mode : Mode) → f d' ≡ turned (locking (f d) name mode) → record w { locks = asked name (system_of n) mode w.locks; nodes = after } ≡ happen w n (event.Lock name mode)
-  locked_so name mode e =
-      ap (λ ns. record w { locks = asked name (system_of n) mode w.locks; nodes = ns }) (now (turned (locking (f d) name mode)) e) ∙ happen_here w n (f d) (event.Lock name mode) at
+  pub left : (u : List Resource) → u ≡ left_alone n (f d).kept w.locks → f d' ≡ turned (leaving (f d)) → record w { locks = u; nodes = after } ≡ happen w n event.Leave
+  left u locks e = changed_so (turned (leaving (f d))) event.Leave (left_alone n (f d).kept w.locks) u refl e locks
 
-  pub space_locked_so : f d' ≡ turned (space_locking (f d)) → record w { locks = asked V (system_of n) PW w.locks; nodes = after } ≡ happen w n event.SpaceLock
-  space_locked_so e = ap (λ ns. record w { locks = asked V (system_of n) PW w.locks; nodes = ns }) (now (turned (space_locking (f d))) e) ∙ happen_here w n (f d) event.SpaceLock at
+  pub locked_so : (name : LockName) (mode : Mode) (u : List Resource) → u ≡ taken name (system_of n) mode w.locks → f d' ≡ turned (locking (f d) name mode) → record w { locks = u; nodes = after } ≡ happen w n (event.Lock name mode)
+  locked_so name mode u locks e = changed_so (turned (locking (f d) name mode)) (event.Lock name mode) (taken name (system_of n) mode w.locks) u refl e locks
+
+  pub claimed_so : (p : Phase) (name : LockName) (mode : Mode) (u : List Resource) → u ≡ taken name (system_of n) mode w.locks → f d' ≡ turned (claiming (f d) p name mode) → record w { locks = u; nodes = after } ≡ happen w n (event.Claim p name mode)
+  claimed_so p name mode u locks e = changed_so (turned (claiming (f d) p name mode)) (event.Claim p name mode) (taken name (system_of n) mode w.locks) u refl e locks
+
+  pub lowered_so : (u : List Resource) → u ≡ v_lowered w n (f d) → f d' ≡ turned (lowering (f d)) → record w { locks = u; nodes = after } ≡ happen w n event.LowerV
+  lowered_so u locks e = changed_so (turned (lowering (f d))) event.LowerV (v_lowered w n (f d)) u refl e locks
+
+  pub drained_so : (u : List Resource) → u ≡ x_lowered n (v_lowered w n (f d)) → f d' ≡ turned (lowering_both (f d)) → record w { locks = u; nodes = after } ≡ happen w n event.LowerX
+  drained_so u locks e = changed_so (turned (lowering_both (f d))) event.LowerX (x_lowered n (v_lowered w n (f d))) u refl e locks
+
+  pub returned_so : (u : List Resource) → u ≡ x_returned n (v_lowered w n (f d)) → f d' ≡ turned (returning (f d)) → record w { locks = u; nodes = after } ≡ happen w n event.Return
+  returned_so u locks e = changed_so (turned (returning (f d))) event.Return (x_returned n (v_lowered w n (f d))) u refl e locks
 
   pub space_looked_so : (clusters : ℕ) (number : Bool) (lbn : ℕ) (b : Block) → slice_get w.blocks lbn ≡ Some b → f d' ≡ turned (space_looking (f d) clusters number lbn b) → record w { nodes = after } ≡ happen w n (event.SpaceLook clusters number lbn)
   space_looked_so clusters number lbn b there e =
@@ -102,7 +115,7 @@ module _ {A : Type 0} (f : A → NodeState) (xs : List A) (w : Plain) (n : ℕ) 
   wrote_so v bs b e = (λ i. record w { blocks = b i; nodes = now (turned (writing (f d))) e i }) ∙ happen_here w n (f d) (event.Write v) at
 
   pub answered_so : (x : Cmd) (p : Plan) → command_at w n ≡ Some x → plan_at w n ≡ Some p → (cmd : Cmd) (plan : Plan) (b : Bool) → (f d).cmd ≡ Some cmd → (f d).plan ≡ Some plan → b ≡ (f d).tried
-      → f d' ≡ turned (answering (f d) cmd (reply_by plan.ask b plan.reply)) → (t : List Resource) (h : List Entry) → t ≡ closed_off n (channel_seen (f d).opens cmd) cmd (reply_by plan.ask b plan.reply) (given_back w.geometry n ((f d).run.writes ++ writes_by plan.ask b plan.writes) (f d).asked w.locks)
+      → f d' ≡ turned (answering (f d) cmd (reply_by plan.ask b plan.reply)) → (t : List Resource) (h : List Entry) → t ≡ closed_off n (channel_seen (f d).opens cmd) cmd (reply_by plan.ask b plan.reply) (given_back w.geometry n (all_writes (f d)) (going (f d)) w.locks)
       → h ≡ w.history ++ Done n cmd (reply_by plan.ask b plan.reply) ∷ [] → record w { locks = t; nodes = after; history = h } ≡ happen w n (event.Answer x (reply_by p.ask (tried_at w n) p.reply))
   answered_so x p c q cmd plan b mine made tried e t h locks history =
       let first : Some cmd ≡ Some x = sym mine ∙ sym (ap command_in at) ∙ c in
@@ -110,9 +123,7 @@ module _ {A : Type 0} (f : A → NodeState) (xs : List A) (w : Plain) (n : ℕ) 
       let second : Some plan ≡ Some p = sym made ∙ sym (ap plan_in at) ∙ q in
       let same_plan : plan ≡ p = cc in
       let same_tried : b ≡ tried_at w n = tried ∙ sym (ap tried_in at) in
-      let ws : closed_off n (channel_seen (f d).opens cmd) cmd (reply_by plan.ask b plan.reply) (given_back w.geometry n ((f d).run.writes ++ writes_by plan.ask b plan.writes) (f d).asked w.locks) ≡ locks_after w n (f d) cmd (reply_by plan.ask b plan.reply)
-      = λ i. closed_off n (channel_seen (f d).opens cmd) cmd (reply_by plan.ask b plan.reply) (given_back w.geometry n ((f d).run.writes ++ writes_now (tried i) (sym made i)) (f d).asked w.locks) in
-      (λ i. record w { locks = (locks ∙ ws) i; nodes = now (turned (answering (f d) cmd (reply_by plan.ask b plan.reply))) e i; history = history i })
+      (λ i. record w { locks = locks i; nodes = now (turned (answering (f d) cmd (reply_by plan.ask b plan.reply))) e i; history = history i })
       ∙ happen_here w n (f d) (event.Answer cmd (reply_by plan.ask b plan.reply)) at ∙ (λ i. happen w n (event.Answer (same_cmd i) (reply_by (same_plan i).ask (same_tried i) (same_plan i).reply)))
 
 -- a node that is set to what tells the same
@@ -126,23 +137,31 @@ pub is_there : {A B : Type 0} (f : A → B) (o : Option A) → IsSome (option_ma
 is_there f None i = i
 is_there f (Some a) i = refl
 
--- the locks of a command that has ended can be given back, however they were come by
-pub may_give_now : (g : Geometry) (n : ℕ) (tried b : Bool) (made : Option Plan) (p : Plan) (takes : List PlanWrite) (locks : List (LockName × Mode)) (t : List Resource) (us ws : List PlanWrite) (ls : List (LockName × Mode)) → b ≡ tried → made ≡ Some p
-    → us ≡ takes → ws ≡ writes_by p.ask b p.writes → ls ≡ locks → MayGiveAll g n (takes ++ writes_now tried made) locks t → MayGiveAll g n (us ++ ws) ls t
-may_give_now g n tried b made p takes locks t us ws ls done m d e f may =
-    let same : takes ++ writes_now tried made ≡ us ++ ws = λ i. sym d i ++ ((λ j. writes_now (sym done j) (m j)) ∙ sym e) i in
-    subst (λ (ks : List (LockName × Mode)). MayGiveAll g n (us ++ ws) ks t) (sym f) (subst (λ (vs : List PlanWrite). MayGiveAll g n vs locks t) same may)
+-- ---- the locks that go back
 
--- and then that of its channel, whatever ended
+-- those of two rows, one after the other
+pub given_joined : (g : Geometry) (n : ℕ) (ws : List PlanWrite) (ls ks : List (LockName × Mode)) (t : List Resource) → given_back g n ws (ls ++ ks) t ≡ given_back g n ws ks (given_back g n ws ls t)
+given_joined g n ws [] ks t = refl
+given_joined g n ws (l ∷ ls) ks t = given_joined g n ws ls ks (released l.0 (system_of n) (raised_block (raise_of g l.0 ws) (resource_at l.0 t)) t)
+
+-- and where they may, so may those of each
+pub may_first : (g : Geometry) (n : ℕ) (ws : List PlanWrite) (ls ks : List (LockName × Mode)) (t : List Resource) → MayGiveAll g n ws (ls ++ ks) t → MayGiveAll g n ws ls t
+may_first g n ws [] ks t may = tt
+may_first g n ws (l ∷ ls) ks t may = (may.0, may_first g n ws ls ks (released l.0 (system_of n) (raised_block (raise_of g l.0 ws) (resource_at l.0 t)) t) may.1)
+
+pub may_second : (g : Geometry) (n : ℕ) (ws : List PlanWrite) (ls ks : List (LockName × Mode)) (t : List Resource) → MayGiveAll g n ws (ls ++ ks) t → MayGiveAll g n ws ks (given_back g n ws ls t)
+may_second g n ws [] ks t may = may
+may_second g n ws (l ∷ ls) ks t may = may_second g n ws ls ks (released l.0 (system_of n) (raised_block (raise_of g l.0 ws) (resource_at l.0 t)) t) may.1
+
+-- and then that of the channel, whatever ended
 pub may_close_now : (n : ℕ) (g : Geometry) (s : NodeState) (t u : List Resource) (x : Cmd) (p : Plan) (b : Bool) (had : Option Chan) (r : Reply) → s.cmd ≡ Some x → s.plan ≡ Some p → b ≡ s.tried → had ≡ channel_seen s.opens x → r ≡ reply_by p.ask b p.reply
-    → u ≡ given_back g n (s.run.writes ++ writes_by p.ask b p.writes) s.asked t
-    → ((y : Cmd) (q : Plan) → s.cmd ≡ Some y → s.plan ≡ Some q → MayCloseOff n (channel_seen s.opens y) y (reply_by q.ask s.tried q.reply) (given_back g n (s.run.writes ++ writes_now s.tried s.plan) s.asked t)) → MayCloseOff n had x r u
+    → u ≡ given_back g n (all_writes s) (going s) t
+    → ((y : Cmd) (q : Plan) → s.cmd ≡ Some y → s.plan ≡ Some q → MayCloseOff n (channel_seen s.opens y) y (reply_by q.ask s.tried q.reply) (given_back g n (all_writes s) (going s) t)) → MayCloseOff n had x r u
 may_close_now n g s t u x p b had r cmd plan done channel reply table may =
     let now = may x p cmd plan in
     let replies : reply_by p.ask s.tried p.reply ≡ r = sym (reply ∙ ap (λ k. reply_by p.ask k p.reply) done) in
-    let locks : given_back g n (s.run.writes ++ writes_now s.tried s.plan) s.asked t ≡ u = (λ i. given_back g n (s.run.writes ++ writes_now (sym done i) (plan i)) s.asked t) ∙ sym table in
-    subst (λ (ks : List Resource). MayCloseOff n had x r ks) locks (subst (λ (k : Reply). MayCloseOff n had x k (given_back g n (s.run.writes ++ writes_now s.tried s.plan) s.asked t)) replies
-    (subst (λ (o : Option Chan). MayCloseOff n o x (reply_by p.ask s.tried p.reply) (given_back g n (s.run.writes ++ writes_now s.tried s.plan) s.asked t)) (sym channel) now))
+    subst (λ (ks : List Resource). MayCloseOff n had x r ks) (sym table) (subst (λ (k : Reply). MayCloseOff n had x k (given_back g n (all_writes s) (going s) t)) replies
+    (subst (λ (o : Option Chan). MayCloseOff n o x (reply_by p.ask s.tried p.reply) (given_back g n (all_writes s) (going s) t)) (sym channel) now))
 
 -- the locks with that of an ask of the file system
 pub noted_so : (ls : List (LockName × Mode)) (a : PlanAsk) → noted ls a.chan (lock_name.A a.file) a.mode ≡ with_ask ls (own_of (Some a))

@@ -3,7 +3,6 @@ use Rattle.std.proofs.Common.{◌≡◌, ◌≤◌, ◌-◌, ℕ, Bool, true, fa
 use Rattle.std.specs.Prelude.{OnOk, OnErr}
 use Rattle.plain_cat.specs.declared.command.Cmd.{Cmd}
 use Rattle.plain_cat.specs.declared.script.Script.{Script}
-use Rattle.node_locks.specs.Held.{waits_at}
 use Rattle.op_law.specs.Laws.{Lawful}
 use Rattle.core_state.specs.Worlds.{NodeState, Plain, node_at, current}
 use Rattle.core_state.specs.Goods.{Good, HasOnly, HasRoom, HasLists, IsAccepted, IsWorld}
@@ -11,7 +10,7 @@ use Rattle.core_state.specs.Fallen.{living}
 use Rattle.core_state.proofs.Falling.{answers_left}
 use Rattle.core_state.specs.Event.{Event}
 use Rattle.core_state.specs.Event as event
-use Rattle.core_state.specs.Events.{would_go, asked_by, happens, happen_at, is_out, readied_at, readied, next_event, happen, after_turn}
+use Rattle.core_state.specs.Events.{would_go, asked_by, happens, happen_at, is_held_up, readied_at, readied, next_event, happen, after_turn}
 use Rattle.core_state.proofs.Turns.{turn_keeps}
 use Rattle.core_state.proofs.Openings.{accepted_after}
 
@@ -22,10 +21,13 @@ script_stays w n s event.Leave = refl
 script_stays w n s (event.Lock name mode) = refl
 script_stays w n s (event.Look lbn) = refl
 script_stays w n s (event.Fetch lbn) = refl
-script_stays w n s event.SpaceLock = refl
+script_stays w n s (event.Claim p name mode) = refl
 script_stays w n s (event.SpaceLook clusters number lbn) = refl
 script_stays w n s event.SpaceEnd = refl
 script_stays w n s (event.SpaceWrite v) = refl
+script_stays w n s event.LowerV = refl
+script_stays w n s event.LowerX = refl
+script_stays w n s event.Return = refl
 script_stays w n s (event.Plan p) = refl
 script_stays w n s (event.Write v) = refl
 script_stays w n s (event.Ask x a) = by_outcome (would_go w.locks n a) where
@@ -51,7 +53,7 @@ pub script_after : (w : Plain) (n : ℕ) → (after_turn w n).script ≡ w.scrip
 script_after w n = script_here (readied w n) n (next_event w n) ∙ script_readied w n
 
 pub world_kept : {T E : Type 0} (r : Result T E) (takes : Cmd → Type 0) (w new : Plain) (spare spare' : ℕ) (n : ℕ) → IsWorld takes w spare → OnOk r (new ≡ after_turn w n)
-    → OnOk r ((s : NodeState) (x : Cmd) → node_at w.nodes n ≡ Some s → is_out s ≡ false → waits_at w.locks n s.asked ≡ false → current w n s ≡ Some x → Lawful x)
+    → OnOk r ((s : NodeState) (x : Cmd) → node_at w.nodes n ≡ Some s → is_held_up w n s ≡ false → current w n s ≡ Some x → Lawful x)
     → OnErr r (new ≡ w) → HasRoom new spare' → IsWorld takes new spare'
 world_kept (Ok t) takes w new spare spare' n is moved lawful same room = record {
   good = subst (λ (v : Plain). Good v) (sym moved) (turn_keeps w is.good n lawful);

@@ -20,13 +20,18 @@ use Rattle.core_state.specs.Worlds.{NodeState}
 use Rattle.core_state.specs.Raises.{raise_of}
 use Rattle.core_state.specs.Asks.{reply_by}
 use Rattle.core_state.specs.Channels.{channel_seen}
-use Rattle.core_state.specs.Events.{all_writes, given_back}
+use Rattle.core_state.specs.Events.{all_writes, going, given_back}
 
 -- the file system of node n holds each of these locks as its turn comes
 abbrev pub MayGiveAll : Geometry → ℕ → List PlanWrite → List (LockName × Mode) → List Resource → Type 0
 MayGiveAll g n ws [] t = Unit {0}
 MayGiveAll g n ws (l ∷ locks) t =
     IsSome (lock_of (system_of n) (resource_at l.0 t).askers) × MayGiveAll g n ws locks (released l.0 (system_of n) (raised_block (raise_of g l.0 ws) (resource_at l.0 t)) t)
+
+-- the same, where the value blocks of the locks stay
+abbrev pub MayLeaveAll : ℕ → List (LockName × Mode) → List Resource → Type 0
+MayLeaveAll n [] t = Unit {0}
+MayLeaveAll n (l ∷ locks) t = IsSome (lock_of (system_of n) (resource_at l.0 t).askers) × MayLeaveAll n locks (released l.0 (system_of n) (resource_at l.0 t).value t)
 
 -- the channel of node n has the lock of what it had open
 abbrev pub MayLetGo : ℕ → ℕ → Option Chan → List Resource → Type 0
@@ -44,5 +49,5 @@ pub record MayEnd (g : Geometry) (n : ℕ) (s : NodeState) (t : List Resource) :
   pub cmd : IsSome s.cmd
   pub plan : IsSome s.plan
   pub few : s.past.answered < 4294967295
-  pub gives : MayGiveAll g n (all_writes s) s.asked t
-  pub closes : (x : Cmd) (p : Plan) → s.cmd ≡ Some x → s.plan ≡ Some p → MayCloseOff n (channel_seen s.opens x) x (reply_by p.ask s.tried p.reply) (given_back g n (all_writes s) s.asked t)
+  pub gives : MayGiveAll g n (all_writes s) (going s) t
+  pub closes : (x : Cmd) (p : Plan) → s.cmd ≡ Some x → s.plan ≡ Some p → MayCloseOff n (channel_seen s.opens x) x (reply_by p.ask s.tried p.reply) (given_back g n (all_writes s) (going s) t)

@@ -4,3 +4,5 @@ pub mod Giving
 pub mod Ready
 pub mod Memory
 pub mod Outcome
+pub mod Spaces
+pub mod Moving

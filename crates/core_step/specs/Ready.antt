@@ -1,25 +1,47 @@
 -- A node that goes on with its command.
-use Rattle.std.specs.Prelude.{◌≡◌, ◌≤◌, ℕ, Bool, true, false, Some, None, length}
-use Rattle.lock_db.specs.declared.name.LockName.TheVariants.{V}
+use Rattle.std.specs.Prelude.{◌≡◌, ◌≤◌, ℕ, Bool, true, false, Some, None}
 use Rattle.plain_cat.specs.declared.command.Cmd.{Cmd}
 use Rattle.plain_vol.specs.Own.{next_command}
-use Rattle.node_locks.specs.Held.{waits_at}
 use Rattle.vol_parts.specs.declared.geometry.Geometry.{Geometry}
+use Rattle.node_locks.specs.Held.{waits_at}
+use Rattle.op_law.specs.declared.need.Need.{Need}
 use Rattle.op_law.specs.declared.need.Need.TheVariants as need
 use Rattle.op_law.specs.Events.{space_of, HasNoSpace}
 use Rattle.op_law.specs.Needs.{IsNext}
 use Rattle.op_law.specs.Knows.{clusters_wanted, wants_number, takes_space}
+use Rattle.core_space.specs.declared.run.Phase.{Phase}
+use Rattle.core_space.specs.declared.run.Phase.TheVariants as phase
 use Rattle.core_state.specs.Worlds.{NodeState, Plain, node_at}
-use Rattle.core_state.specs.Events.{is_out, has_asked}
+use Rattle.core_state.specs.Event.{Event}
+use Rattle.core_state.specs.Events.{is_out, gives_back, serves, served, readied, next_event}
 
--- node n has begun a command, is not over, and waits for nothing
+-- the next event of node n is k, and the node prepares nothing for it
+pub record Makes (w : Plain) (n : ℕ) (k : Event) : Type 0 where
+  pub event : next_event w n ≡ k
+  pub stays : readied w n ≡ w
+
+-- node n has begun a command and goes on by it, and not by a give-back: it is not over, and waits for nothing
+pub record IsBegun (w : Plain) (n : ℕ) : Type 0 where
+  pub state : NodeState
+  pub at : node_at w.nodes n ≡ Some state
+  pub cmd : Cmd
+  pub has : state.cmd ≡ Some cmd
+  pub on : is_out state ≡ false
+  pub gives : gives_back w n state ≡ false
+  pub free : waits_at w.locks n state.asked ≡ false
+  pub granted : waits_at w.locks n state.claims ≡ false
+
+-- and its command was given what its stock has for it
 pub record IsReady (w : Plain) (n : ℕ) : Type 0 where
   pub state : NodeState
   pub at : node_at w.nodes n ≡ Some state
   pub cmd : Cmd
   pub has : state.cmd ≡ Some cmd
   pub on : is_out state ≡ false
+  pub gives : gives_back w n state ≡ false
   pub free : waits_at w.locks n state.asked ≡ false
+  pub granted : waits_at w.locks n state.claims ≡ false
+  pub served : served state ≡ state
 
 -- a node without the command that it has begun
 abbrev pub forgotten : NodeState → NodeState
@@ -31,16 +53,17 @@ pub record Begins (w : Plain) (n : ℕ) (x : Cmd) : Type 0 where
   pub at : node_at w.nodes n ≡ Some state
   pub idle : state.cmd ≡ None
   pub on : is_out state ≡ false
-  pub free : waits_at w.locks n state.asked ≡ false
+  pub gives : gives_back w n state ≡ false
+  pub granted : waits_at w.locks n state.claims ≡ false
   pub next : next_command w.script n w.history ≡ Some x
 
--- a node has made all writes that its search has decided on
-abbrev pub HasMadeAll : Plain → ℕ → Type 0
-HasMadeAll w n = (s : NodeState) → node_at w.nodes n ≡ Some s → length s.run.writes ≤ s.run.made
+-- the command of node n needs this next
+abbrev pub NeedsNow : Plain → ℕ → Need → Type 0
+NeedsNow w n next = (s : NodeState) (x : Cmd) → node_at w.nodes n ≡ Some s → s.cmd ≡ Some x → IsNext x s.seen next
 
--- its command needs so many clusters next, and a number or none
-abbrev pub NeedsNow : Plain → ℕ → ℕ → Bool → Type 0
-NeedsNow w n clusters number = (s : NodeState) (x : Cmd) → node_at w.nodes n ≡ Some s → s.cmd ≡ Some x → IsNext x s.seen (need.Space clusters number)
+-- where it needs space, its stock is not enough
+abbrev pub LacksSpace : Plain → ℕ → Need → Type 0
+LacksSpace w n next = (s : NodeState) (clusters : ℕ) (number : Bool) → node_at w.nodes n ≡ Some s → next ≡ need.Space clusters number → serves s clusters number ≡ false
 
 -- the command searches for so many clusters, and a number or none: for something
 pub record WantsSpace (g : Geometry) (x : Cmd) (clusters : ℕ) (number : Bool) : Type 0 where
@@ -49,12 +72,26 @@ pub record WantsSpace (g : Geometry) (x : Cmd) (clusters : ℕ) (number : Bool) 
   pub number_is : wants_number x ≡ number
   pub some : (clusters ≡ 0) × (number ≡ false) → ⊥
 
--- a search for that was begun, and has come to nothing yet
+-- the rules for space of a command are begun
+abbrev pub is_searching : Phase → Bool
+is_searching phase.Off = false
+is_searching phase.Back = false
+is_searching other = true
+
+-- they are for that, and have come to nothing yet
 pub record IsSearching (s : NodeState) (x : Cmd) (clusters : ℕ) (number : Bool) : Type 0 where
-  pub asked : has_asked V s.asked ≡ true
+  pub rules : is_searching s.run.phase ≡ true
   pub none : HasNoSpace (space_of s.seen)
   pub wants : WantsSpace s.seen.geometry x clusters number
 
 -- what a node searches for, its command needs
 abbrev pub SearchesAsNeeded : NodeState → Type 0
 SearchesAsNeeded s = (x : Cmd) (clusters : ℕ) (number : Bool) → s.cmd ≡ Some x → IsSearching s x clusters number → IsNext x s.seen (need.Space clusters number)
+
+-- it searches for nothing that a file can have
+abbrev pub IsNotSearching : NodeState → Type 0
+IsNotSearching s = (x : Cmd) (clusters : ℕ) (number : Bool) → s.cmd ≡ Some x → IsSearching s x clusters number → clusters ≤ 77 → ⊥
+
+-- the command of node n needs no space any more
+abbrev pub IsGivenAll : Plain → ℕ → Type 0
+IsGivenAll w n = (s : NodeState) (x : Cmd) (clusters : ℕ) (number : Bool) → node_at w.nodes n ≡ Some s → s.cmd ≡ Some x → IsNext x s.seen (need.Space clusters number) → ⊥

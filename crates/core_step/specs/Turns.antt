@@ -9,10 +9,15 @@ use Rattle.core_step.specs.declared.turns.Turn.{Turn}
 use Rattle.core_step.specs.declared.turns.Turn.TheVariants as turn
 use Rattle.core_step.specs.declared.turns.Kind.TheVariants as kind
 
--- whether the last lock that a node has asked for stands in a queue
+-- whether the last lock that a node's command has asked for stands in a queue
 abbrev pub is_queued_in : Plain → ℕ → Option NodeState → Bool
 is_queued_in w n None = false
 is_queued_in w n (Some s) = waits_at w.locks n s.asked
+
+-- whether the lock that it has claimed by its rules for space does
+abbrev pub is_claim_queued_in : Plain → ℕ → Option NodeState → Bool
+is_claim_queued_in w n None = false
+is_claim_queued_in w n (Some s) = waits_at w.locks n s.claims
 
 -- the answer after an event of node n that has led to this world
 abbrev pub told : Plain → ℕ → Event → Turn
@@ -22,8 +27,11 @@ told w n event.Leave = turn.Over
 told w n (event.Lock name mode) = if is_queued_in w n (node_at w.nodes n) then turn.Waiting else turn.Moved kind.Locked
 told w n (event.Look lbn) = turn.Moved kind.Looked
 told w n (event.Fetch lbn) = turn.Moved kind.Looked
-told w n event.SpaceLock = if is_queued_in w n (node_at w.nodes n) then turn.Waiting else turn.Moved kind.Locked
+told w n (event.Claim p name mode) = if is_claim_queued_in w n (node_at w.nodes n) then turn.Waiting else turn.Moved kind.Locked
 told w n (event.SpaceLook clusters number lbn) = turn.Moved kind.Looked
+told w n event.LowerV = turn.Moved kind.Lowered
+told w n event.LowerX = turn.Moved kind.Lowered
+told w n event.Return = turn.Moved kind.Returned
 told w n event.SpaceEnd = turn.Waiting
 told w n (event.SpaceWrite v) = turn.Moved kind.Wrote
 told w n (event.Plan p) = turn.Moved kind.Planned

@@ -10,20 +10,22 @@ ghost use Rattle.op_law.specs.declared.need.PlanWrite.{PlanWrite};
 ghost use Rattle.op_law.specs.declared.seen.Seen.{Seen};
 ghost use Rattle.core_state.specs.Worlds.{NodeState, IsOfWorld, state_of, plain_of, node_at};
 ghost use Rattle.core_state.specs.Event as event;
-ghost use Rattle.core_state.specs.Events.{happen, turned, writing, answering, unseen, command_at, plan_at, tried_at};
+ghost use Rattle.core_state.specs.Events.{happen, turned, writing, answering, unseen, all_writes, staying, going, given_back, command_at, plan_at, tried_at};
 ghost use Rattle.core_state.specs.Asks.{reply_by};
 ghost use Rattle.core_state.specs.Channels.{channel_seen};
-ghost use Rattle.core_step.specs.Giving.{MayEnd};
+ghost use Rattle.core_step.specs.Giving.{MayGiveAll, MayEnd};
 
 use crate::asks::{into_reply, reply_by, writes_by};
 use crate::channels::{channel_seen, close_off, open_and_close};
-use crate::giving::give_back;
+use crate::claims::begin_phase;
+use crate::giving::{give_back, give_back_but, has_any};
 use blk_drive::{ImageDev, ImageFault};
-use core_state::{Core, Node, SpaceRun};
+use core_space::Phase;
+use core_state::{Core, Node};
+use lock_db::{LockDb, LockName};
 use op_law::{Chan, Operation, Plan, Seen, SeenBlocks, SeenLocks};
 use plain_cat::{Clusters, Cmd, Entry};
 use std::alloc::Global;
-use std::mem;
 use vol_parts::Geometry;
 use vol_words::Block;
 
@@ -85,9 +87,18 @@ struct Ended {
     cmd: Cmd,
     plan: Plan,
     tried: bool,
-    asked: SeenLocks,
-    run: SpaceRun,
     had: Option<Chan>,
+}
+
+// Of the locks that a node keeps, those that do not stay are none of them any more.
+fn keep_staying<O: Operation>(node: &mut Node<O>)
+    ensures { state_of O.cmd_is node.new ≡ record (state_of O.cmd_is node.old) { kept = staying (state_of O.cmd_is node.old) } }
+{
+    if has_any(&node.stock) {
+        node.kept.keep_only(LockName::X);
+    } else {
+        node.kept.clear();
+    }
 }
 
 // A node's command ends with the reply of its plan, or of its ask where that was not granted. It takes no memory.
@@ -99,8 +110,6 @@ fn end<O: Operation>(alloc: Global, node: &mut Node<O>) -> Ended
     ensures cmd { option_map O.cmd_is node.old.op ≡ Some result.cmd }
     ensures plan { node.old.plan ≡ Some result.plan }
     ensures tried { result.tried ≡ node.old.tried }
-    ensures asked { result.asked ≡ node.old.asked }
-    ensures run { result.run ≡ node.old.run }
     ensures had { result.had ≡ channel_seen node.old.opens result.cmd }
     ensures state { state_of O.cmd_is node.new ≡ turned (answering (state_of O.cmd_is node.old) result.cmd (reply_by result.plan.ask result.tried result.plan.reply)) }
 {
@@ -115,21 +124,37 @@ fn end<O: Operation>(alloc: Global, node: &mut Node<O>) -> Ended
     node.seen = unseen(alloc, node.seen.geometry);
     node.done = 0;
     node.tried = false;
-    let asked = mem::replace(&mut node.asked, SeenLocks::new(alloc));
-    let run = mem::replace(&mut node.run, SpaceRun::new(alloc));
+    node.asked.clear();
+    node.claims.clear();
+    keep_staying(node);
+    begin_phase(&mut node.run, Phase::Off);
     node.turns = node.turns.saturating_add(1);
     Ended {
         cmd,
         plan,
         tried,
-        asked,
-        run,
         had,
     }
 }
 
+// All locks of a node that do not stay behind its answer go back.
+fn give_all<O: Operation>(g: &Geometry, node: u8, at: &Node<O>, locks: &mut LockDb)
+    requires geometry { IsGeometry g.now }
+    requires plan { IsSome at.now.plan }
+    requires may { MayGiveAll g.now node (all_writes (state_of O.cmd_is at.now)) (going (state_of O.cmd_is at.now)) locks.old }
+    ensures { locks.new ≡ given_back g.now node (all_writes (state_of O.cmd_is at.now)) (going (state_of O.cmd_is at.now)) locks.old }
+{
+    let Some(plan) = &at.plan else { unreachable!() };
+    let takes = at.run.writes.items();
+    let writes = writes_by(plan, at.tried);
+    give_back(g, node, takes, writes, at.asked.items(), locks);
+    give_back(g, node, takes, writes, at.claims.items(), locks);
+    let stays = has_any(&at.stock);
+    give_back_but(g, node, takes, writes, at.kept.items(), stays, locks);
+}
+
 /// A node answers, with the reply of its plan, or of its ask where that was not granted: its answer is the last of the history, and
-/// the locks of its command go back. OPEN keeps its channel's lock, and CLOSE gives it back. It takes no memory.
+/// its locks go back, but for X where it has a stock. OPEN keeps its channel's lock, and CLOSE gives it back. It takes no memory.
 pub(crate) fn answer<I: ImageDev, O: Operation>(alloc: Global, core: &mut Core<I, O>, node: u8)
     requires node { IsOfWorld (plain_of O.cmd_is core.old) node }
     requires geometry { IsGeometry core.old.geometry }
@@ -139,22 +164,14 @@ pub(crate) fn answer<I: ImageDev, O: Operation>(alloc: Global, core: &mut Core<I
     ensures mirror { core.new.mirror ≡ core.old.mirror }
     ensures room { core.new.history.room + 1 ≡ core.old.history.room }
 {
+    let at = &mut core.nodes[node as usize - 1];
+    give_all(&core.geometry, node, at, &mut core.locks);
     let Ended {
         cmd,
         plan,
         tried,
-        asked,
-        run,
         had,
-    } = end(alloc, &mut core.nodes[node as usize - 1]);
-    give_back(
-        &core.geometry,
-        node,
-        run.writes.items(),
-        writes_by(&plan, tried),
-        asked.items(),
-        &mut core.locks,
-    );
+    } = end(alloc, at);
     close_off(&mut core.locks, node, had, &cmd, reply_by(&plan, tried));
     let reply = into_reply(plan, tried);
     core.history.append(Entry::Done { node, cmd, reply });

@@ -1,23 +1,23 @@
 //! The events, each as a function on what a world is made of.
 
-ghost use Rattle.std.specs.Prelude.{true, false, ◌≡◌, ◌≤◌, ◌<◌, ◌++◌, [], ◌∷◌, Some, None, IfOk, OnOk, OnErr, length};
+ghost use Rattle.std.specs.Prelude.{true, false, ◌≡◌, ◌≤◌, ◌<◌, ◌++◌, [], ◌∷◌, Some, IfOk, OnOk, OnErr, length};
 ghost use Rattle.plain_cat.specs.declared.command.Cmd.{Cmd};
-ghost use Rattle.lock_db.specs.declared.name.LockName.TheVariants.{A, V};
-ghost use Rattle.plain_cat.specs.declared.mode.Mode.TheVariants.{PW};
-ghost use Rattle.lock_db.specs.Queues.{standing_of};
-ghost use Rattle.lock_db.specs.Resources.{asked_answer, goes_at_once};
-ghost use Rattle.lock_db.specs.Tables.{resource_at, asked};
+ghost use Rattle.lock_db.specs.declared.name.LockName.TheVariants.{A};
+ghost use Rattle.lock_db.specs.Resources.{asked_answer};
 ghost use Rattle.node_locks.specs.Held.{system_of};
-ghost use Rattle.node_locks.specs.Taking.{taken};
+ghost use Rattle.node_locks.specs.Taking.{taken, taken_now, MayTake};
 ghost use Rattle.op_law.specs.declared.need.Ask.{Ask as PlanAsk};
 ghost use Rattle.core_state.specs.Worlds.{NodeState, IsOfWorld, state_of, plain_of, node_at};
 ghost use Rattle.core_state.specs.Event as event;
-ghost use Rattle.core_state.specs.Events.{has_asked, happen, turned, leaving, locking, space_locking, looking, planning, one_more, would_go};
+ghost use Rattle.core_state.specs.Asks.{has_asked};
+ghost use Rattle.core_state.specs.Events.{happen, turned, leaving, locking, looking, planning, one_more, would_go};
 ghost use Rattle.core_step.specs.Asks.{aim_of, MayAsk, noted, unnoted};
+ghost use Rattle.core_step.specs.Giving.{MayLeaveAll};
 
 use crate::asks::Aim;
-use blk_drive::{ImageDev, ImageFault};
-use core_state::{Core, Node, Phase};
+use crate::giving::leave_all;
+use blk_drive::ImageDev;
+use core_state::{Core, Node};
 use lock_db::{Asked, LockDb, LockName, Owner};
 use op_law::{NoMemory, Operation, Plan, SeenLocks};
 use plain_cat::{Cmd, Mode};
@@ -49,22 +49,26 @@ pub(crate) fn stand<I: ImageDev, O: Operation>(core: &mut Core<I, O>, node: u8)
     count(&mut core.nodes[node as usize - 1]);
 }
 
-// A node leaves.
+// A node leaves, and has no lock.
 fn leave_node<O: Operation>(node: &mut Node<O>)
     ensures { state_of O.cmd_is node.new ≡ turned (leaving (state_of O.cmd_is node.old)) }
 {
+    node.kept.clear();
     node.over = true;
     count(node);
 }
 
-/// A node leaves the volume.
+/// A node leaves the volume, and gives back the locks that it keeps. It takes no memory.
 pub(crate) fn leave<I: ImageDev, O: Operation>(core: &mut Core<I, O>, node: u8)
-    requires { IsOfWorld (plain_of O.cmd_is core.old) node }
+    requires node { IsOfWorld (plain_of O.cmd_is core.old) node }
+    requires may { (s : NodeState) → node_at (plain_of O.cmd_is core.old).nodes node ≡ Some s → MayLeaveAll node s.kept core.old.locks }
     ensures world { plain_of O.cmd_is core.new ≡ happen (plain_of O.cmd_is core.old) node event.Leave }
     ensures mirror { core.new.mirror ≡ core.old.mirror }
     ensures room { core.new.history.room ≡ core.old.history.room }
 {
-    leave_node(&mut core.nodes[node as usize - 1]);
+    let at = &mut core.nodes[node as usize - 1];
+    leave_all(node, at.kept.items(), &mut core.locks);
+    leave_node(at);
 }
 
 // A node's file system asks for a lock, which is then the last of these. An error says that memory ran out, and nothing was asked.
@@ -76,14 +80,14 @@ fn request(
     name: LockName,
     mode: Mode,
 ) -> Result<Asked, NoMemory>
-    requires new { standing_of (system_of node) (resource_at name locks.old).askers ≡ None }
+    requires may { MayTake name (system_of node) locks.old }
     requires apart { has_asked name list.old ≡ false }
-    ensures ok { OnOk result ((locks.new ≡ asked name (system_of node) mode locks.old) × (list.new ≡ list.old ++ (name, mode) ∷ [])) }
-    ensures answer { IfOk result (λ a. a ≡ asked_answer (goes_at_once (system_of node) mode (resource_at name locks.old).askers)) }
+    ensures ok { OnOk result ((locks.new ≡ taken name (system_of node) mode locks.old) × (list.new ≡ list.old ++ (name, mode) ∷ [])) }
+    ensures answer { IfOk result (λ a. a ≡ asked_answer (taken_now name (system_of node) mode locks.old)) }
     ensures err { OnErr result ((locks.new ≡ locks.old) × (list.new ≡ list.old)) }
 {
     list.push((name, mode))?;
-    match locks.request(alloc, name, Owner { node, part: 0 }, mode) {
+    match node_locks::take(alloc, locks, node, name, mode) {
         Ok(asked) => Ok(asked),
         Err(fault) => {
             list.remove(name);
@@ -101,16 +105,17 @@ fn request_lock<O: Operation>(
     name: LockName,
     mode: Mode,
 ) -> Result<Asked, NoMemory>
-    requires new { standing_of (system_of node) (resource_at name locks.old).askers ≡ None }
+    requires may { MayTake name (system_of node) locks.old }
     requires apart { has_asked name at.old.asked ≡ false }
     requires unseen { has_asked name at.old.seen.locks ≡ false }
-    ensures ok { OnOk result ((locks.new ≡ asked name (system_of node) mode locks.old) × (state_of O.cmd_is at.new ≡ turned (locking (state_of O.cmd_is at.old) name mode))) }
-    ensures answer { IfOk result (λ a. a ≡ asked_answer (goes_at_once (system_of node) mode (resource_at name locks.old).askers)) }
+    ensures ok { OnOk result ((locks.new ≡ taken name (system_of node) mode locks.old) × (state_of O.cmd_is at.new ≡ turned (locking (state_of O.cmd_is at.old) name mode))) }
+    ensures answer { IfOk result (λ a. a ≡ asked_answer (taken_now name (system_of node) mode locks.old)) }
     ensures err { OnErr result ((locks.new ≡ locks.old) × (state_of O.cmd_is at.new ≡ state_of O.cmd_is at.old)) }
 {
     at.seen.locks.push((name, mode))?;
     match request(alloc, locks, node, &mut at.asked, name, mode) {
         Ok(asked) => {
+            at.kept.remove(name);
             count(at);
             Ok(asked)
         }
@@ -130,54 +135,16 @@ pub(crate) fn lock<I: ImageDev, O: Operation>(
     mode: Mode,
 ) -> Result<Asked, NoMemory>
     requires node { IsOfWorld (plain_of O.cmd_is core.old) node }
-    requires new { standing_of (system_of node) (resource_at name core.old.locks).askers ≡ None }
+    requires may { MayTake name (system_of node) core.old.locks }
     requires apart { (s : NodeState) → node_at (plain_of O.cmd_is core.old).nodes node ≡ Some s → (has_asked name s.asked ≡ false) × (has_asked name s.seen.locks ≡ false) }
     ensures world { OnOk result (plain_of O.cmd_is core.new ≡ happen (plain_of O.cmd_is core.old) node (event.Lock name mode)) }
-    ensures answer { IfOk result (λ a. a ≡ asked_answer (goes_at_once (system_of node) mode (resource_at name core.old.locks).askers)) }
+    ensures answer { IfOk result (λ a. a ≡ asked_answer (taken_now name (system_of node) mode core.old.locks)) }
     ensures same { OnErr result (plain_of O.cmd_is core.new ≡ plain_of O.cmd_is core.old) }
     ensures mirror { core.new.mirror ≡ core.old.mirror }
     ensures room { core.new.history.room ≡ core.old.history.room }
 {
     let at = &mut core.nodes[node as usize - 1];
     request_lock(alloc, &mut core.locks, node, at, name, mode)
-}
-
-// A node asks for the lock of the bitmaps. An error says that memory ran out, and nothing was asked.
-fn request_space_lock<O: Operation>(
-    alloc: Global,
-    locks: &mut LockDb,
-    node: u8,
-    at: &mut Node<O>,
-) -> Result<Asked, NoMemory>
-    requires new { standing_of (system_of node) (resource_at V locks.old).askers ≡ None }
-    requires apart { has_asked V at.old.asked ≡ false }
-    ensures ok { OnOk result ((locks.new ≡ asked V (system_of node) PW locks.old) × (state_of O.cmd_is at.new ≡ turned (space_locking (state_of O.cmd_is at.old)))) }
-    ensures answer { IfOk result (λ a. a ≡ asked_answer (goes_at_once (system_of node) PW (resource_at V locks.old).askers)) }
-    ensures err { OnErr result ((locks.new ≡ locks.old) × (state_of O.cmd_is at.new ≡ state_of O.cmd_is at.old)) }
-{
-    let asked = request(alloc, locks, node, &mut at.asked, LockName::V, Mode::PW)?;
-    at.run.phase = Phase::Last;
-    count(at);
-    Ok(asked)
-}
-
-/// A node asks for the lock of the bitmaps, for its search for space. An error says that memory ran out, and nothing was asked.
-pub(crate) fn space_lock<I: ImageDev, O: Operation>(
-    alloc: Global,
-    core: &mut Core<I, O>,
-    node: u8,
-) -> Result<Asked, NoMemory>
-    requires node { IsOfWorld (plain_of O.cmd_is core.old) node }
-    requires new { standing_of (system_of node) (resource_at V core.old.locks).askers ≡ None }
-    requires apart { (s : NodeState) → node_at (plain_of O.cmd_is core.old).nodes node ≡ Some s → has_asked V s.asked ≡ false }
-    ensures world { OnOk result (plain_of O.cmd_is core.new ≡ happen (plain_of O.cmd_is core.old) node event.SpaceLock) }
-    ensures answer { IfOk result (λ a. a ≡ asked_answer (goes_at_once (system_of node) PW (resource_at V core.old.locks).askers)) }
-    ensures same { OnErr result (plain_of O.cmd_is core.new ≡ plain_of O.cmd_is core.old) }
-    ensures mirror { core.new.mirror ≡ core.old.mirror }
-    ensures room { core.new.history.room ≡ core.old.history.room }
-{
-    let at = &mut core.nodes[node as usize - 1];
-    request_space_lock(alloc, &mut core.locks, node, at)
 }
 
 // An owner asks for a lock that would be granted at once: a new one, or the conversion of one that it has, whose value block stays. An

@@ -1,16 +1,15 @@
 //! What a node's command needs next.
 
-ghost use Rattle.std.specs.Prelude.{◌≡◌, ◌+◌, ◌-◌, ◌/◌, false, IfOk, IfSome, IsSome, IsTrue};
+ghost use Rattle.std.specs.Prelude.{◌≡◌, ◌+◌, ◌-◌, ◌/◌, false, IfOk, OnErr, IfSome, None, true, ◌≤◌, ◌<◌, ℕ, Bool, IsSome, IsTrue};
 ghost use Rattle.vol_parts.specs.Parts.{IsGeometry};
 ghost use Rattle.op_law.specs.Events.{HasNoSpace, space_of};
 ghost use Rattle.op_law.specs.Needs.{need_of};
 ghost use Rattle.op_law.specs.Fits.{FitsSeen};
 ghost use Rattle.core_state.specs.Worlds.{state_of};
-ghost use Rattle.core_step.specs.Ready.{WantsSpace, IsSearching, SearchesAsNeeded};
+ghost use Rattle.core_step.specs.Ready.{WantsSpace, IsSearching, IsNotSearching, SearchesAsNeeded};
 
-use crate::searches::has_asked;
+use core_space::Phase;
 use core_state::Node;
-use lock_db::LockName;
 use op_law::{Need, NoMemory, Operation, Seen};
 use plain_cat::Cmd;
 use std::alloc::Global;
@@ -19,7 +18,8 @@ use vol_parts::Geometry;
 // Blocks rounded up to clusters, where they are at most as many as a volume has.
 fn clusters_for(g: &Geometry, blocks: u32) -> Option<u32>
     requires { IsGeometry g.now }
-    ensures { IfSome result (λ k. k ≡ (blocks + (g.now.cluster - 1)) / g.now.cluster) }
+    ensures some { IfSome result (λ k. k ≡ (blocks + (g.now.cluster - 1)) / g.now.cluster) }
+    ensures none { result ≡ None → 65536 < blocks }
 {
     if 65536 < blocks {
         return None;
@@ -30,6 +30,7 @@ fn clusters_for(g: &Geometry, blocks: u32) -> Option<u32>
 // So many clusters, and a number or none, where that is something.
 fn something(clusters: u32, number: bool) -> Option<(u32, bool)>
     ensures same { IfSome result (λ wanted. wanted ≡ (clusters, number)) }
+    ensures none { result ≡ None → (clusters ≡ 0) × (number ≡ false) }
     ensures some { IfSome result (λ wanted. (clusters ≡ 0) × (number ≡ false) → ⊥) }
 {
     if clusters == 0 && !number {
@@ -41,7 +42,8 @@ fn something(clusters: u32, number: bool) -> Option<(u32, bool)>
 // What a command searches for, where it searches for space and that is within the volume.
 fn space_wanted(g: &Geometry, cmd: &Cmd) -> Option<(u32, bool)>
     requires { IsGeometry g.now }
-    ensures { IfSome result (λ wanted. WantsSpace g.now cmd.now wanted.0 wanted.1) }
+    ensures some { IfSome result (λ wanted. WantsSpace g.now cmd.now wanted.0 wanted.1) }
+    ensures none { result ≡ None → (k : ℕ) (b : Bool) → WantsSpace g.now cmd.now k b → k ≤ 77 → ⊥ }
 {
     match cmd {
         Cmd::Create { blocks, .. } => something(clusters_for(g, *blocks)?, true),
@@ -53,7 +55,8 @@ fn space_wanted(g: &Geometry, cmd: &Cmd) -> Option<(u32, bool)>
 
 // Whether a command was given no space, and none was refused.
 fn has_no_space(seen: &Seen) -> bool
-    ensures { IsTrue result → HasNoSpace (space_of seen.now) }
+    ensures some { IsTrue result → HasNoSpace (space_of seen.now) }
+    ensures none { result ≡ false → HasNoSpace (space_of seen.now) → ⊥ }
 {
     seen.clusters.items().is_empty() && seen.number.is_none() && seen.short.is_none()
 }
@@ -61,9 +64,11 @@ fn has_no_space(seen: &Seen) -> bool
 // What a node searches for for its command, where the search is begun and has come to nothing yet.
 fn searched_for<O: Operation>(node: &Node<O>, cmd: &Cmd) -> Option<(u32, bool)>
     requires { IsGeometry node.now.seen.geometry }
-    ensures { IfSome result (λ wanted. IsSearching (state_of O.cmd_is node.now) cmd.now wanted.0 wanted.1) }
+    ensures some { IfSome result (λ wanted. IsSearching (state_of O.cmd_is node.now) cmd.now wanted.0 wanted.1) }
+    ensures none { result ≡ None → (k : ℕ) (b : Bool) → IsSearching (state_of O.cmd_is node.now) cmd.now k b → k ≤ 77 → ⊥ }
 {
-    if !has_asked(node.asked.items(), LockName::V) || !has_no_space(&node.seen) {
+    let searches = matches!(node.run.phase, Phase::Fill | Phase::Drain | Phase::Last);
+    if !searches || !has_no_space(&node.seen) {
         return None;
     }
     space_wanted(&node.seen.geometry, cmd)
@@ -76,7 +81,8 @@ pub(crate) fn next_need<O: Operation>(alloc: Global, node: &Node<O>) -> Result<N
     requires fits { IfSome node.now.op (λ op. FitsSeen (O.cmd_is op) node.now.seen) }
     requires geometry { IsGeometry node.now.seen.geometry }
     requires searches { SearchesAsNeeded (state_of O.cmd_is node.now) }
-    ensures { IfOk result (λ need. IfSome node.now.op (λ op. need_of (O.cmd_is op) node.now.seen ≡ need)) }
+    ensures need { IfOk result (λ need. IfSome node.now.op (λ op. need_of (O.cmd_is op) node.now.seen ≡ need)) }
+    ensures memory { OnErr result (IsNotSearching (state_of O.cmd_is node.now)) }
 {
     let Some(op) = &node.op else { unreachable!() };
     if let Some((clusters, number)) = searched_for(node, op.cmd()) {

@@ -123,6 +123,18 @@ fn any_second(g: &Geometry, name: LockName, ws: &[PlanWrite]) -> bool
     false
 }
 
+/// By how much these writes raise the two sequences of a lock.
+pub(crate) fn raise_by_writes(g: &Geometry, name: LockName, ws: &[PlanWrite]) -> Raise
+    requires { IsGeometry g.now }
+    ensures { result ≡ raise_of g.now name ws.now }
+{
+    let freed = any_frees(g, name, ws);
+    Raise {
+        first: raise_by(freed, any_first(g, name, ws)),
+        second: raise_by(freed, any_second(g, name, ws)),
+    }
+}
+
 /// By how much these writes, those of a search and those of a plan, raise the two sequences of a lock.
 pub(crate) fn raise_of(g: &Geometry, name: LockName, takes: &[PlanWrite], ws: &[PlanWrite]) -> Raise
     requires { IsGeometry g.now }

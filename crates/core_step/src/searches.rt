@@ -1,23 +1,32 @@
-//! The search for space: its looks and its writes.
+//! The looks and writes of bitmaps by the rules for space.
 
-ghost use Rattle.std.specs.Prelude.{◌≡◌, ◌⊎◌, ◌<◌, ◌+◌, ◌++◌, [], ◌∷◌, Some, IfOk, OnOk, OnErr, length, slice_get, slice_set};
+ghost use Rattle.std.specs.Prelude.{◌≡◌, ◌==◌, ◌≤◌, ◌⊎◌, ◌<◌, ◌+◌, [], not, filter, if◌then◌else◌, Some, IfOk, OnOk, OnErr, IsSome, length, slice_get, slice_set};
 ghost use Rattle.vol_words.specs.Faults.{HasCause};
 ghost use Rattle.blk_drive.specs.Images.{told_set};
+ghost use Rattle.vol_parts.specs.declared.geometry.Part.TheVariants.{IndexBitmap};
 ghost use Rattle.vol_parts.specs.Parts.{IsGeometry};
+ghost use Rattle.vol_spell.specs.Places.{place_of};
 ghost use Rattle.op_law.specs.declared.need.PlanWrite.{PlanWrite};
+ghost use Rattle.core_space.specs.Rule.{space_decision};
 ghost use Rattle.core_state.specs.Worlds.{NodeState, IsOfWorld, state_of, plain_of, node_at};
 ghost use Rattle.core_state.specs.Event as event;
-ghost use Rattle.core_state.specs.Events.{has_asked, happen, turned, told_by, writes_found, space_looking, space_writing};
+ghost use Rattle.core_state.specs.Events.{happen, turned, told_by, ready_of, space_looked, space_looking, space_writing};
+ghost use Rattle.core_state.specs.Asks.{has_asked};
+ghost use Rattle.core_state.specs.Stocks.{has_bit_at};
+ghost use Rattle.core_step.specs.Spaces.{IsBitmapPlace, CanTake, taking, next_write};
 
 use crate::events::{count, count_read};
 use crate::raises::is_same;
 use blk_drive::{ImageDev, ImageFault};
+use core_space::{Decision, Phase, SpaceNeed, space_writes};
 use core_state::{Core, Node};
+use extent_cache::Extents;
 use lock_db::LockName;
-use node_space::{Search, search};
-use op_law::{NoMemory, Operation};
-use plain_cat::{Clusters, Mode};
+use op_law::{NoMemory, Operation, PlanWrite};
+use plain_cat::{Clusters, Mode, Refusal};
 use std::alloc::Global;
+use std::mem;
+use vol_parts::Geometry;
 use vol_words::Block;
 
 /// Whether a lock of this name is among these.
@@ -32,46 +41,79 @@ pub(crate) fn has_asked(locks: &[(LockName, Mode)], name: LockName) -> bool
     false
 }
 
-// What a search has come to is taken over: why it was refused, or its writes.
-fn take_over<O: Operation>(alloc: Global, node: &mut Node<O>, found: Search)
-    ensures { state_of O.cmd_is node.new ≡ record (state_of O.cmd_is node.old) { seen = told_by found node.old.seen; run = record node.old.run { writes = writes_found found node.old.run.writes } } }
+// The clusters that the last of these writes gives to the command.
+fn ready_of(alloc: Global, phase: Phase, writes: &[PlanWrite]) -> Result<Clusters, NoMemory>
+    ensures { IfOk result (λ l. l ≡ ready_of phase writes.now) }
 {
-    match found {
-        Search::Look(_) => {}
-        Search::Short(why) => {
-            node.seen.clusters = Clusters::new(alloc);
-            node.seen.number = None;
-            node.seen.short = Some(why);
-        }
-        Search::Take(writes) => node.run.writes = writes,
+    match (phase, writes.last()) {
+        (Phase::Last, Some(write)) => write.clusters.copy(alloc),
+        _ => Ok(Clusters::new(alloc)),
     }
 }
 
-// A node's search looks at a block more, and what it then comes to is taken over. An error says that memory ran out, and nothing
-// was looked at.
+// A need that was refused is told to the command.
+fn tell<O: Operation>(alloc: Global, node: &mut Node<O>, short: Option<Refusal>)
+    ensures { state_of O.cmd_is node.new ≡ record (state_of O.cmd_is node.old) { seen = told_by short node.old.seen } }
+{
+    if let Some(why) = short {
+        node.seen.clusters = Clusters::new(alloc);
+        node.seen.number = None;
+        node.seen.short = Some(why);
+    }
+}
+
+// What the rules for space have come to is taken over.
+fn take_over<O: Operation>(alloc: Global, node: &mut Node<O>, decision: Decision, ready: Clusters)
+    requires { ready ≡ ready_of decision.phase decision.writes }
+    ensures { state_of O.cmd_is node.new ≡ turned (space_looked (state_of O.cmd_is node.old) node.old.run.looked decision) }
+{
+    let Decision {
+        phase,
+        writes,
+        short,
+    } = decision;
+    node.run.phase = phase;
+    node.run.writes = writes;
+    node.run.made = 0;
+    node.run.ready = ready;
+    tell(alloc, node, short);
+    count_read(node);
+}
+
+// What the rules for space come to by what is looked at, and the clusters of the last of its writes.
+fn decide<O: Operation>(
+    alloc: Global,
+    node: &Node<O>,
+    need: SpaceNeed,
+) -> Result<(Decision, Clusters), NoMemory>
+    requires geometry { IsGeometry node.now.seen.geometry }
+    requires need { need.clusters ≤ 65536 }
+    ensures decision { IfOk result (λ d. d.0 ≡ space_decision node.now.seen.geometry node.now.run node.now.stock need) }
+    ensures ready { IfOk result (λ d. d.1 ≡ ready_of d.0.phase d.0.writes) }
+{
+    let decision = space_writes(alloc, &node.seen.geometry, &node.run, &node.stock, need)?;
+    let ready = ready_of(alloc, decision.phase, decision.writes.items())?;
+    Ok((decision, ready))
+}
+
+// A node looks at one bitmap block more by its rules for space, and what they then come to is taken over. An error says that memory
+// ran out, and nothing was looked at.
 fn look_on<O: Operation>(
     alloc: Global,
     node: &mut Node<O>,
-    clusters: u32,
-    number: bool,
+    need: SpaceNeed,
     lbn: u32,
     block: &Block,
 ) -> Result<(), NoMemory>
-    requires { IsGeometry node.old.seen.geometry }
-    ensures ok { OnOk result (state_of O.cmd_is node.new ≡ turned (space_looking (state_of O.cmd_is node.old) clusters number lbn block.now)) }
+    requires geometry { IsGeometry node.old.seen.geometry }
+    requires need { need.clusters ≤ 65536 }
+    ensures ok { OnOk result (state_of O.cmd_is node.new ≡ turned (space_looking (state_of O.cmd_is node.old) need.clusters need.number lbn block.now)) }
     ensures err { OnErr result (state_of O.cmd_is node.new ≡ state_of O.cmd_is node.old) }
 {
     node.run.looked.push((lbn, *block))?;
-    match search(
-        alloc,
-        &node.seen.geometry,
-        clusters,
-        number,
-        node.run.looked.items(),
-    ) {
-        Ok(found) => {
-            take_over(alloc, node, found);
-            count_read(node);
+    match decide(alloc, node, need) {
+        Ok((decision, ready)) => {
+            take_over(alloc, node, decision, ready);
             Ok(())
         }
         Err(fault) => {
@@ -81,70 +123,93 @@ fn look_on<O: Operation>(
     }
 }
 
-/// A node's search for so many clusters, and a number or none, looks at a block, and what it then comes to is taken over. An
-/// error says that memory ran out, and nothing was looked at.
+/// By its rules for space, for this need, a node looks at a bitmap block, and what they then come to is taken over. An error says
+/// that memory ran out, and nothing was looked at.
 pub(crate) fn space_look<I: ImageDev, O: Operation>(
     alloc: Global,
     core: &mut Core<I, O>,
     node: u8,
-    clusters: u32,
-    number: bool,
+    need: SpaceNeed,
     lbn: u32,
 ) -> Result<(), NoMemory>
     requires node { IsOfWorld (plain_of O.cmd_is core.old) node }
     requires geometry { (s : NodeState) → node_at (plain_of O.cmd_is core.old).nodes node ≡ Some s → IsGeometry s.seen.geometry }
+    requires need { need.clusters ≤ 65536 }
     requires within { lbn < length core.old.mirror.blocks }
-    ensures world { OnOk result (plain_of O.cmd_is core.new ≡ happen (plain_of O.cmd_is core.old) node (event.SpaceLook clusters number lbn)) }
+    ensures world { OnOk result (plain_of O.cmd_is core.new ≡ happen (plain_of O.cmd_is core.old) node (event.SpaceLook need.clusters need.number lbn)) }
     ensures same { OnErr result (plain_of O.cmd_is core.new ≡ plain_of O.cmd_is core.old) }
     ensures mirror { core.new.mirror ≡ core.old.mirror }
     ensures room { core.new.history.room ≡ core.old.history.room }
 {
     let block = *core.mirror.read(lbn);
-    look_on(
-        alloc,
-        &mut core.nodes[node as usize - 1],
-        clusters,
-        number,
-        lbn,
-        &block,
-    )
+    look_on(alloc, &mut core.nodes[node as usize - 1], need, lbn, &block)
 }
 
-// A node has made so many writes of its search, one more than before, and with the last one the command is given what was taken.
-fn keep_space_write<O: Operation>(
-    node: &mut Node<O>,
-    made: usize,
-    clusters: Clusters,
-    number: Option<u32>,
-)
-    requires { made ≡ node.old.run.made + 1 }
-    ensures { (v : PlanWrite) → v.clusters ≡ clusters → v.number ≡ number → state_of O.cmd_is node.new ≡ turned (space_writing (state_of O.cmd_is node.old) v) }
+// What a write of a give-back makes free leaves the stock: all file numbers, or the clusters that have their bits in that block.
+fn drop_at(g: &Geometry, lbn: u32, stock: &mut Extents)
+    requires geometry { IsGeometry g.now }
+    requires place { IsBitmapPlace g.now stock.old.clusters lbn }
+    ensures clusters { stock.new.clusters ≡ filter (λ c. not (has_bit_at g.now lbn c)) stock.old.clusters }
+    ensures numbers { stock.new.numbers ≡ (if place_of g.now IndexBitmap == lbn then [] else stock.old.numbers) }
 {
-    if made == node.run.writes.items().len() {
-        node.seen.clusters = clusters;
-        node.seen.number = number;
-        node.seen.short = None;
+    if lbn == 4 * g.cluster {
+        stock.give_back_one(None);
+    } else {
+        stock.give_back_one(Some(lbn - g.bitmap_lbn - 1));
     }
-    node.run.made = made;
+}
+
+// What the next write takes or makes free is taken over: with its last write a filling puts all that it has taken into the stock, and a
+// search of all free space gives it to the command. The answer is how many writes are made with it.
+fn keep_taken<O: Operation>(alloc: Global, node: &mut Node<O>) -> usize
+    requires next { node.old.run.made < length node.old.run.writes }
+    requires can { (v : PlanWrite) → slice_get node.old.run.writes node.old.run.made ≡ Some v → CanTake (state_of O.cmd_is node.old) v }
+    ensures made { result ≡ node.old.run.made + 1 }
+    ensures state { (v : PlanWrite) → slice_get node.old.run.writes node.old.run.made ≡ Some v → state_of O.cmd_is node.new ≡ taking (state_of O.cmd_is node.old) v }
+{
+    let writes = node.run.writes.items();
+    let w = &writes[node.run.made];
+    let made = node.run.made + 1;
+    let last = made == writes.len();
+    match node.run.phase {
+        Phase::Fill if last => node.stock.put_all(w.clusters.items(), w.numbers.items()),
+        Phase::Drain => drop_at(&node.seen.geometry, w.lbn, &mut node.stock),
+        Phase::Back => drop_at(&node.seen.geometry, w.lbn, &mut node.stock),
+        Phase::Last if last => {
+            node.seen.number = w.number;
+            node.seen.short = None;
+            node.seen.clusters = mem::replace(&mut node.run.ready, Clusters::new(alloc));
+        }
+        _ => {}
+    }
+    made
+}
+
+// A node has made the next write of its rules for space.
+fn keep_space_write<O: Operation>(alloc: Global, node: &mut Node<O>)
+    requires next { node.old.run.made < length node.old.run.writes }
+    requires can { (v : PlanWrite) → slice_get node.old.run.writes node.old.run.made ≡ Some v → CanTake (state_of O.cmd_is node.old) v }
+    ensures { (v : PlanWrite) → slice_get node.old.run.writes node.old.run.made ≡ Some v → state_of O.cmd_is node.new ≡ turned (space_writing (state_of O.cmd_is node.old) v) }
+{
+    node.run.made = keep_taken(alloc, node);
     node.writes = node.writes.saturating_add(1);
     count(node);
 }
 
-/// A node makes the next write of its search, of which it has made so many then, and has taken this with it. An error says that
-/// the image failed: in memory no block has changed, and the node stands before the write.
+/// A node makes the next write of its rules for space, which is of this block. It takes no memory. An error says that the image
+/// failed: in memory no block has changed, and the node stands before the write.
 pub(crate) fn space_write<I: ImageDev, O: Operation>(
+    alloc: Global,
     core: &mut Core<I, O>,
     node: u8,
     lbn: u32,
     block: &Block,
-    made: usize,
-    clusters: Clusters,
-    number: Option<u32>,
 ) -> Result<(), ImageFault>
     requires node { IsOfWorld (plain_of O.cmd_is core.old) node }
     requires within { lbn < length core.old.mirror.blocks }
-    requires more { (s : NodeState) → node_at (plain_of O.cmd_is core.old).nodes node ≡ Some s → made ≡ s.run.made + 1 }
-    ensures world { OnOk result ((v : PlanWrite) → v.lbn ≡ lbn → v.block ≡ block.now → v.clusters ≡ clusters → v.number ≡ number → plain_of O.cmd_is core.new ≡ happen (plain_of O.cmd_is core.old) node (event.SpaceWrite v)) }
+    requires next { IsSome (next_write (plain_of O.cmd_is core.old) node) }
+    requires can { (s : NodeState) (v : PlanWrite) → node_at (plain_of O.cmd_is core.old).nodes node ≡ Some s → slice_get s.run.writes s.run.made ≡ Some v → CanTake s v }
+    ensures world { OnOk result ((v : PlanWrite) → next_write (plain_of O.cmd_is core.old) node ≡ Some v → v.lbn ≡ lbn → v.block ≡ block.now → plain_of O.cmd_is core.new ≡ happen (plain_of O.cmd_is core.old) node (event.SpaceWrite v)) }
     ensures same { OnErr result (plain_of O.cmd_is core.new ≡ plain_of O.cmd_is core.old) }
     ensures cause { HasCause (I.faults core.old.mirror.image) (I.faults core.new.mirror.image) result }
     ensures blocks { OnOk result (core.new.mirror.blocks ≡ slice_set core.old.mirror.blocks lbn block.now) }
@@ -154,6 +219,6 @@ pub(crate) fn space_write<I: ImageDev, O: Operation>(
     ensures room { core.new.history.room ≡ core.old.history.room }
 {
     core.mirror.write(lbn, block)?;
-    keep_space_write(&mut core.nodes[node as usize - 1], made, clusters, number);
+    keep_space_write(alloc, &mut core.nodes[node as usize - 1]);
     Ok(())
 }

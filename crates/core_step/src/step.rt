@@ -1,16 +1,18 @@
 //! A turn: the event of the first rule that applies.
 
-ghost use Rattle.std.specs.Prelude.{◌≡◌, ◌≤◌, ◌⊎◌, true, false, Some, None, Err, IfOk, OnOk, OnErr, IfSome, IsSome};
+ghost use Rattle.std.specs.Prelude.{ℕ, ◌≡◌, ◌≤◌, ◌⊎◌, true, false, Some, None, Err, IfOk, OnOk, OnErr, IsSome};
 ghost use Rattle.vol_words.specs.Faults.{Rose};
+ghost use Rattle.vol_words.specs.Fields.{Block};
+ghost use Rattle.core_space.specs.declared.event.SpaceEvent.TheVariants as space;
 ghost use Rattle.plain_cat.specs.declared.command.Cmd.{Cmd};
-ghost use Rattle.plain_vol.specs.Own.{next_command};
-ghost use Rattle.node_locks.specs.Held.{waits_at};
+ghost use Rattle.op_law.specs.declared.need.Need.TheVariants as needed;
 ghost use Rattle.op_law.specs.Laws.{Lawful};
 ghost use Rattle.core_state.specs.Worlds.{NodeState, IsOfWorld, state_of, plain_of, node_at, current};
 ghost use Rattle.core_state.specs.Goods.{Good, HasOnly, HasRoom};
 ghost use Rattle.core_state.specs.Images.{IsTold, IsTorn, told_as};
-ghost use Rattle.core_state.specs.Events.{is_out, is_write, begun, next_event, plan_at, after_turn};
-ghost use Rattle.core_step.specs.Ready.{IsReady, Begins, HasMadeAll, NeedsNow, forgotten};
+ghost use Rattle.core_state.specs.Events.{is_out, is_write, begun, by_rule, serves, gives_back, stands, is_held_up, next_event, plan_at, after_turn};
+ghost use Rattle.core_step.specs.Ready.{Makes, IsBegun, IsReady, Begins, NeedsNow, LacksSpace, IsGivenAll, forgotten};
+ghost use Rattle.core_step.specs.Moving.{IsPut, CanMove};
 ghost use Rattle.core_step.specs.Memory.{takes_none};
 ghost use Rattle.core_step.specs.Outcome.{IsTurn, held_of};
 ghost use Rattle.core_step.specs.Turns.{told};
@@ -18,72 +20,114 @@ ghost use Rattle.core_step.specs.Turns.{told};
 use crate::answers::{answer, write};
 use crate::asks::{going_ask, writes_by};
 use crate::channels::channel_seen;
-use crate::events::{ask, fetch, leave, lock, look, plan, space_lock, stand};
+use crate::claims::{claim, lower_v, lower_x, return_x};
+use crate::events::{ask, fetch, leave, lock, look, plan, stand};
 use crate::needs::next_need;
-use crate::searches::{has_asked, space_look, space_write};
+use crate::searches::{space_look, space_write};
+use crate::serving::{serve, take_back};
+use crate::spaces::{back_event, gives_back, phase_begun, serves, space_event, stands};
 use crate::turns::{Kind, Turn, TurnFault};
 use blk_drive::ImageDev;
+use core_space::{Phase, SpaceEvent, SpaceNeed};
 use core_state::{Core, Node, World};
-use lock_db::{Asked, LockName};
-use node_locks::waits;
-use node_space::{Search, search};
-use op_law::{Need, Operation, Plan};
-use plain_cat::{Cmd, Mode};
+use lock_db::Asked;
+use op_law::{Need, Operation};
+use plain_cat::Cmd;
 use std::alloc::Global;
 
-// A command that needs space searches for it: it asks for the lock of the bitmaps, and then looks at one block after another.
-fn searching<I: ImageDev, O: Operation>(
+// The event of a node by its rules for space, which go on in this phase, for this need.
+fn by_rule<I: ImageDev, O: Operation>(
     alloc: Global,
     core: &mut Core<I, O>,
     node: u8,
-    clusters: u32,
-    number: bool,
+    phase: Phase,
+    need: SpaceNeed,
+    event: SpaceEvent,
+) -> Result<Turn, TurnFault>
+    requires good { Good (plain_of O.cmd_is core.old) }
+    requires node { IsOfWorld (plain_of O.cmd_is core.old) node }
+    requires need { need.clusters ≤ 65536 }
+    requires makes { (s : NodeState) → node_at (plain_of O.cmd_is core.old).nodes node ≡ Some s → Makes (plain_of O.cmd_is core.old) node (by_rule s phase need event) }
+    requires can { (s : NodeState) → node_at (plain_of O.cmd_is core.old).nodes node ≡ Some s → CanMove (plain_of O.cmd_is core.old) node s (by_rule s phase need event) }
+    requires puts { (s : NodeState) (lbn : ℕ) (b : Block) → node_at (plain_of O.cmd_is core.old).nodes node ≡ Some s → event ≡ space.Put lbn b → IsPut s lbn b }
+    requires room { HasRoom (plain_of O.cmd_is core.old) core.old.history.room }
+    ensures { IsTurn I.faults I.told node (held_of O.cmd_is core.old) (held_of O.cmd_is core.new) result }
+{
+    match event {
+        SpaceEvent::Ask(name, mode) => match claim(alloc, core, node, phase, name, mode)? {
+            Asked::Granted => Ok(Turn::Moved(Kind::Locked)),
+            Asked::Queued => Ok(Turn::Waiting),
+        },
+        SpaceEvent::Look(lbn) => {
+            space_look(alloc, core, node, need, lbn)?;
+            Ok(Turn::Moved(Kind::Looked))
+        }
+        SpaceEvent::Put { lbn, block } => {
+            space_write(alloc, core, node, lbn, &block)?;
+            Ok(Turn::Moved(Kind::Wrote))
+        }
+        SpaceEvent::LowerV => {
+            lower_v(core, node);
+            Ok(Turn::Moved(Kind::Lowered))
+        }
+        SpaceEvent::LowerX => {
+            lower_x(core, node);
+            Ok(Turn::Moved(Kind::Lowered))
+        }
+        SpaceEvent::Return => {
+            return_x(core, node);
+            Ok(Turn::Moved(Kind::Returned))
+        }
+        SpaceEvent::Enough => {
+            stand(core, node);
+            Ok(Turn::Waiting)
+        }
+        SpaceEvent::Short(_) => {
+            stand(core, node);
+            Ok(Turn::Waiting)
+        }
+    }
+}
+
+// A command needs space, which its stock has not: its rules for space go on.
+fn by_space<I: ImageDev, O: Operation>(
+    alloc: Global,
+    core: &mut Core<I, O>,
+    node: u8,
+    need: SpaceNeed,
 ) -> Result<Turn, TurnFault>
     requires good { Good (plain_of O.cmd_is core.old) }
     requires node { IsOfWorld (plain_of O.cmd_is core.old) node }
     requires ready { IsReady (plain_of O.cmd_is core.old) node }
     requires plan { plan_at (plain_of O.cmd_is core.old) node ≡ None }
-    requires made { HasMadeAll (plain_of O.cmd_is core.old) node }
-    requires needs { NeedsNow (plain_of O.cmd_is core.old) node clusters number }
+    requires needs { NeedsNow (plain_of O.cmd_is core.old) node (needed.Space need.clusters need.number) }
+    requires lacks { LacksSpace (plain_of O.cmd_is core.old) node (needed.Space need.clusters need.number) }
     requires room { HasRoom (plain_of O.cmd_is core.old) core.old.history.room }
     ensures { IsTurn I.faults I.told node (held_of O.cmd_is core.old) (held_of O.cmd_is core.new) result }
 {
     let at = &core.nodes[node as usize - 1];
-    if !has_asked(at.asked.items(), LockName::V) {
-        match space_lock(alloc, core, node)? {
-            Asked::Granted => return Ok(Turn::Moved(Kind::Locked)),
-            Asked::Queued => return Ok(Turn::Waiting),
-        }
-    }
-    let next = search(
-        alloc,
-        &at.seen.geometry,
-        clusters,
-        number,
-        at.run.looked.items(),
-    )?;
-    let Search::Look(lbn) = next else {
-        unreachable!()
-    };
-    space_look(alloc, core, node, clusters, number, lbn)?;
-    Ok(Turn::Moved(Kind::Looked))
+    let event = space_event(alloc, at, need)?;
+    let phase = phase_begun(at.run.phase);
+    by_rule(alloc, core, node, phase, need, event)
 }
 
-// A command that has not decided on a plan goes on by its next need.
-fn unplanned<I: ImageDev, O: Operation>(
+// A command that has not decided on a plan goes on by this need.
+fn by_need<I: ImageDev, O: Operation>(
     alloc: Global,
     core: &mut Core<I, O>,
     node: u8,
+    need: Need,
 ) -> Result<Turn, TurnFault>
     requires good { Good (plain_of O.cmd_is core.old) }
     requires node { IsOfWorld (plain_of O.cmd_is core.old) node }
     requires ready { IsReady (plain_of O.cmd_is core.old) node }
     requires plan { plan_at (plain_of O.cmd_is core.old) node ≡ None }
-    requires made { HasMadeAll (plain_of O.cmd_is core.old) node }
+    requires needs { NeedsNow (plain_of O.cmd_is core.old) node need }
+    requires lacks { LacksSpace (plain_of O.cmd_is core.old) node need }
     requires room { HasRoom (plain_of O.cmd_is core.old) core.old.history.room }
     ensures { IsTurn I.faults I.told node (held_of O.cmd_is core.old) (held_of O.cmd_is core.new) result }
 {
-    match next_need(alloc, &core.nodes[node as usize - 1])? {
+    match need {
         Need::Lock(name, mode) => match lock(alloc, core, node, name, mode)? {
             Asked::Granted => Ok(Turn::Moved(Kind::Locked)),
             Asked::Queued => Ok(Turn::Waiting),
@@ -96,11 +140,84 @@ fn unplanned<I: ImageDev, O: Operation>(
             fetch(core, node, lbn)?;
             Ok(Turn::Moved(Kind::Looked))
         }
-        Need::Space { clusters, number } => searching(alloc, core, node, clusters, number),
+        Need::Space { clusters, number } => {
+            by_space(alloc, core, node, SpaceNeed { clusters, number })
+        }
         Need::Ready(made) => {
             plan(core, node, made)?;
             Ok(Turn::Moved(Kind::Planned))
         }
+    }
+}
+
+// A command was given what it needs from the stock, and goes on by its next need.
+fn go_on_served<I: ImageDev, O: Operation>(
+    alloc: Global,
+    core: &mut Core<I, O>,
+    node: u8,
+) -> Result<Turn, TurnFault>
+    requires good { Good (plain_of O.cmd_is core.old) }
+    requires node { IsOfWorld (plain_of O.cmd_is core.old) node }
+    requires ready { IsReady (plain_of O.cmd_is core.old) node }
+    requires plan { plan_at (plain_of O.cmd_is core.old) node ≡ None }
+    requires given { IsGivenAll (plain_of O.cmd_is core.old) node }
+    requires room { HasRoom (plain_of O.cmd_is core.old) core.old.history.room }
+    ensures { IsTurn I.faults I.told node (held_of O.cmd_is core.old) (held_of O.cmd_is core.new) result }
+{
+    let need = next_need(alloc, &core.nodes[node as usize - 1])?;
+    by_need(alloc, core, node, need)
+}
+
+// A command needs this, and its stock is enough: it is given that, and goes on. After an error the stock has it again.
+fn by_stock<I: ImageDev, O: Operation>(
+    alloc: Global,
+    core: &mut Core<I, O>,
+    node: u8,
+    need: SpaceNeed,
+) -> Result<Turn, TurnFault>
+    requires good { Good (plain_of O.cmd_is core.old) }
+    requires node { IsOfWorld (plain_of O.cmd_is core.old) node }
+    requires begun { IsBegun (plain_of O.cmd_is core.old) node }
+    requires plan { plan_at (plain_of O.cmd_is core.old) node ≡ None }
+    requires needs { NeedsNow (plain_of O.cmd_is core.old) node (needed.Space need.clusters need.number) }
+    requires serves { (s : NodeState) → node_at (plain_of O.cmd_is core.old).nodes node ≡ Some s → serves s need.clusters need.number ≡ true }
+    requires room { HasRoom (plain_of O.cmd_is core.old) core.old.history.room }
+    ensures { IsTurn I.faults I.told node (held_of O.cmd_is core.old) (held_of O.cmd_is core.new) result }
+{
+    let before = serve(alloc, &mut core.nodes[node as usize - 1], need)?;
+    match go_on_served(alloc, core, node) {
+        Ok(turn) => Ok(turn),
+        Err(fault) => {
+            take_back(alloc, &mut core.nodes[node as usize - 1], before);
+            Err(fault)
+        }
+    }
+}
+
+// A command that has not decided on a plan goes on by its next need.
+fn unplanned<I: ImageDev, O: Operation>(
+    alloc: Global,
+    core: &mut Core<I, O>,
+    node: u8,
+) -> Result<Turn, TurnFault>
+    requires good { Good (plain_of O.cmd_is core.old) }
+    requires node { IsOfWorld (plain_of O.cmd_is core.old) node }
+    requires begun { IsBegun (plain_of O.cmd_is core.old) node }
+    requires plan { plan_at (plain_of O.cmd_is core.old) node ≡ None }
+    requires room { HasRoom (plain_of O.cmd_is core.old) core.old.history.room }
+    ensures { IsTurn I.faults I.told node (held_of O.cmd_is core.old) (held_of O.cmd_is core.new) result }
+{
+    let at = &core.nodes[node as usize - 1];
+    match next_need(alloc, at)? {
+        Need::Space { clusters, number } => {
+            let wanted = SpaceNeed { clusters, number };
+            if serves(at, wanted) {
+                by_stock(alloc, core, node, wanted)
+            } else {
+                by_need(alloc, core, node, Need::Space { clusters, number })
+            }
+        }
+        need => by_need(alloc, core, node, need),
     }
 }
 
@@ -136,7 +253,7 @@ fn planned<I: ImageDev, O: Operation>(
     Ok(Turn::Answered)
 }
 
-// A node goes on with its command: by its plan, by the next write of its search, or else by its next need.
+// A node goes on with its command: by its plan, or else by its next need.
 fn go_on<I: ImageDev, O: Operation>(
     alloc: Global,
     core: &mut Core<I, O>,
@@ -144,25 +261,15 @@ fn go_on<I: ImageDev, O: Operation>(
 ) -> Result<Turn, TurnFault>
     requires good { Good (plain_of O.cmd_is core.old) }
     requires node { IsOfWorld (plain_of O.cmd_is core.old) node }
-    requires ready { IsReady (plain_of O.cmd_is core.old) node }
+    requires begun { IsBegun (plain_of O.cmd_is core.old) node }
     requires room { HasRoom (plain_of O.cmd_is core.old) core.old.history.room }
     ensures { IsTurn I.faults I.told node (held_of O.cmd_is core.old) (held_of O.cmd_is core.new) result }
 {
-    let at = &core.nodes[node as usize - 1];
-    if at.plan.is_some() {
-        return planned(alloc, core, node);
+    if core.nodes[node as usize - 1].plan.is_some() {
+        planned(alloc, core, node)
+    } else {
+        unplanned(alloc, core, node)
     }
-    if at.run.made < at.run.writes.items().len() {
-        let w = &at.run.writes.items()[at.run.made];
-        let lbn = w.lbn;
-        let block = w.block;
-        let number = w.number;
-        let made = at.run.made + 1;
-        let clusters = w.clusters.copy(alloc)?;
-        space_write(core, node, lbn, &block, made, clusters, number)?;
-        return Ok(Turn::Moved(Kind::Wrote));
-    }
-    unplanned(alloc, core, node)
 }
 
 // A node begins a command, for which it has seen what its channel has open.
@@ -215,6 +322,54 @@ fn is_out<O: Operation>(node: &Node<O>) -> bool
     node.over || node.past.is_dead()
 }
 
+// A node gives its stock back.
+fn by_back<I: ImageDev, O: Operation>(
+    alloc: Global,
+    core: &mut Core<I, O>,
+    node: u8,
+) -> Result<Turn, TurnFault>
+    requires good { Good (plain_of O.cmd_is core.old) }
+    requires node { IsOfWorld (plain_of O.cmd_is core.old) node }
+    requires on { (s : NodeState) → node_at (plain_of O.cmd_is core.old).nodes node ≡ Some s → (is_out s ≡ false) × ((gives_back (plain_of O.cmd_is core.old) node s ≡ true) × (stands (plain_of O.cmd_is core.old) node s ≡ false)) }
+    requires room { HasRoom (plain_of O.cmd_is core.old) core.old.history.room }
+    ensures { IsTurn I.faults I.told node (held_of O.cmd_is core.old) (held_of O.cmd_is core.new) result }
+{
+    let event = back_event(&core.nodes[node as usize - 1]);
+    let need = SpaceNeed {
+        clusters: 0,
+        number: false,
+    };
+    by_rule(alloc, core, node, Phase::Back, need, event)
+}
+
+// A node goes on with its command, or begins its next one, or leaves.
+fn by_command<I: ImageDev, O: Operation>(
+    alloc: Global,
+    core: &mut Core<I, O>,
+    node: u8,
+) -> Result<Turn, TurnFault>
+    requires good { Good (plain_of O.cmd_is core.old) }
+    requires node { IsOfWorld (plain_of O.cmd_is core.old) node }
+    requires takes { HasOnly O.takes core.old.script }
+    requires on { (s : NodeState) → node_at (plain_of O.cmd_is core.old).nodes node ≡ Some s → (is_out s ≡ false) × ((gives_back (plain_of O.cmd_is core.old) node s ≡ false) × (stands (plain_of O.cmd_is core.old) node s ≡ false)) }
+    requires room { HasRoom (plain_of O.cmd_is core.old) core.old.history.room }
+    ensures turn { IsTurn I.faults I.told node (held_of O.cmd_is core.old) (held_of O.cmd_is core.new) result }
+    ensures lawful { OnOk result ((s : NodeState) (x : Cmd) → node_at (plain_of O.cmd_is core.old).nodes node ≡ Some s → current (plain_of O.cmd_is core.old) node s ≡ Some x → Lawful x) }
+{
+    let at = &core.nodes[node as usize - 1];
+    if at.op.is_some() {
+        return go_on(alloc, core, node);
+    }
+    if !at.past.has_next(&core.script, node) {
+        leave(core, node);
+        return Ok(Turn::Over);
+    }
+    let Some(cmd) = at.past.next(alloc, &core.script, node)? else {
+        unreachable!()
+    };
+    first(alloc, core, node, cmd)
+}
+
 // One turn of a node: the event of the first rule that applies. After an error what the world is made of is as before.
 fn step<I: ImageDev, O: Operation>(
     alloc: Global,
@@ -226,26 +381,21 @@ fn step<I: ImageDev, O: Operation>(
     requires node { IsOfWorld (plain_of O.cmd_is core.old) node }
     requires room { HasRoom (plain_of O.cmd_is core.old) core.old.history.room }
     ensures turn { IsTurn I.faults I.told node (held_of O.cmd_is core.old) (held_of O.cmd_is core.new) result }
-    ensures lawful { OnOk result ((s : NodeState) (x : Cmd) → node_at (plain_of O.cmd_is core.old).nodes node ≡ Some s → is_out s ≡ false → waits_at (plain_of O.cmd_is core.old).locks node s.asked ≡ false → current (plain_of O.cmd_is core.old) node s ≡ Some x → Lawful x) }
+    ensures lawful { OnOk result ((s : NodeState) (x : Cmd) → node_at (plain_of O.cmd_is core.old).nodes node ≡ Some s → is_held_up (plain_of O.cmd_is core.old) node s ≡ false → current (plain_of O.cmd_is core.old) node s ≡ Some x → Lawful x) }
 {
-    let at = &core.nodes[node as usize - 1];
-    if is_out(at) {
+    if is_out(&core.nodes[node as usize - 1]) {
         stand(core, node);
         return Ok(Turn::Over);
     }
-    if waits(&core.locks, node, at.asked.items()) {
+    let gives = gives_back(core, node);
+    if stands(core, node, gives) {
         stand(core, node);
         return Ok(Turn::Waiting);
     }
-    if at.op.is_some() {
-        return go_on(alloc, core, node);
-    }
-    match at.past.next(alloc, &core.script, node)? {
-        Some(cmd) => first(alloc, core, node, cmd),
-        None => {
-            leave(core, node);
-            Ok(Turn::Over)
-        }
+    if gives {
+        by_back(alloc, core, node)
+    } else {
+        by_command(alloc, core, node)
     }
 }
 

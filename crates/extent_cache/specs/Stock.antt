@@ -1,6 +1,6 @@
 -- A stock of free clusters and file numbers.
-use Rattle.std.specs.Prelude.{◌≡◌, ◌+◌, ◌-◌, ◌/◌, ◌≤◌, ◌<◌, ◌==◌, ◌&&◌, ◌++◌, nat_le, nat_lt, not, false, ℕ, Bool, List, [], All, filter, length, take, drop, Option, Some, None}
-use Rattle.std.specs.List.{range_with_len}
+use Rattle.std.specs.Prelude.{◌≡◌, ◌+◌, ◌-◌, ◌/◌, ◌≤◌, ◌<◌, ◌==◌, ◌&&◌, ◌++◌, nat_le, nat_lt, not, false, ℕ, Bool, List, [], ◌∷◌, All, filter, length, take, drop, Option, Some, None, if◌then◌else◌}
+use Rattle.std.specs.List.{range_with_len, list_any}
 use Rattle.std.specs.List.Sorted.{IsStrictlyIncreasing}
 
 -- the clusters and the file numbers that are held, and how many more of each go in without taking memory
@@ -31,6 +31,19 @@ AreNew from n held = All (λ x. is_among from n x ≡ false) held
 -- with the n from a first one on in their place: behind those below, and before those above
 abbrev pub put_in : ℕ → ℕ → List ℕ → List ℕ
 put_in from n held = filter (λ x. nat_lt x from) held ++ (range_with_len from n ++ filter (λ x. nat_le from x) held)
+
+-- whether a list holds a number
+abbrev pub holds : ℕ → List ℕ → Bool
+holds x xs = list_any (λ y. x == y) xs
+
+-- with one more number in its place, if it was not held
+abbrev pub with_one : ℕ → List ℕ → List ℕ
+with_one x held = if holds x held then held else put_in x 1 held
+
+-- with each of these numbers
+abbrev pub merged : List ℕ → List ℕ → List ℕ
+merged [] held = held
+merged (x ∷ xs) held = merged xs (with_one x held)
 
 -- those below a number stand before this place of a list, and the others from there on
 pub record IsPlace (from : ℕ) (xs : List ℕ) (place : ℕ) : Type 0 where

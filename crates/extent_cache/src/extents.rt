@@ -1,15 +1,22 @@
 //! The stock and its calls.
 
-ghost use Rattle.std.specs.Prelude.{◌≡◌, ◌+◌, ◌≤◌, ◌<◌, [], length, take, drop, IfOk, OnOk, OnErr, MatchOption, IfSome, IsTrue};
-ghost use Rattle.extent_cache.specs.Stock.{IsStock, AreNew, with_clusters, with_number, Holds, clusters_kept, numbers_kept};
+ghost use Rattle.std.specs.Prelude.{◌≡◌, ◌+◌, ◌≤◌, ◌<◌, [], length, take, drop, IfOk, OnOk, OnErr, MatchOption, IfSome, IsTrue, All};
+ghost use Rattle.extent_cache.specs.Stock.{IsStock, AreNew, with_clusters, with_number, Holds, merged, clusters_kept, numbers_kept};
 
-use crate::rising::{clusters_of, drop_covered, drop_first, numbers_of, put_in};
+use crate::rising::{
+    clusters_of, copied, drop_covered, drop_first, numbers_of, put_each, put_in, with_room,
+};
 use crate::taken::{Taken, Taken2};
 use plain_cat::NoMemory;
 use std::alloc::Global;
 use std::marker::Model;
 
-/// A stock of free clusters and file numbers, with spare room for more of each.
+/// How many clusters a volume has at most, and how many file numbers.
+const CLUSTERS: usize = 65_536;
+
+const NUMBERS: usize = 4_096;
+
+/// A stock of free clusters and file numbers, with room for all that a volume can have.
 #[derive(Drop)]
 pub struct Extents {
     clusters: Vec<u32>,
@@ -17,7 +24,7 @@ pub struct Extents {
 }
 
 impl Model for Extents {
-    ghost use Rattle.std.specs.Prelude.{◌-◌, vec_capacity, vec_len};
+    ghost use Rattle.std.specs.Prelude.{◌-◌, ◌≤◌, vec_capacity, vec_len};
     ghost use Rattle.extent_cache.specs.Stock.{Stock, RisesWithin};
 
     ghost Value = { Stock };
@@ -29,19 +36,19 @@ impl Model for Extents {
       number_room = vec_capacity e.numbers - vec_len e.numbers;
     } };
 
-    ghost invariant = { λ e. RisesWithin 0 65536 e.clusters.items × RisesWithin 1 4097 e.numbers.items };
+    ghost invariant = { λ e. RisesWithin 0 65536 e.clusters.items × (RisesWithin 1 4097 e.numbers.items × ((65536 ≤ vec_capacity e.clusters) × (4096 ≤ vec_capacity e.numbers))) };
 }
 
 impl Extents {
     ghost use Rattle.extent_cache.specs.Takings.{taken, numbers_left, holds_enough};
 
-    /// An empty stock. It fails only where memory is refused.
+    /// An empty stock, with room for all clusters and file numbers that a volume can have. It fails only where memory is refused.
     pub fn new(alloc: Global) -> Result<Extents, NoMemory>
         ensures { IfOk result (λ e. (e.clusters ≡ []) × (e.numbers ≡ [])) }
     {
         Ok(Extents {
-            clusters: Vec::new(alloc),
-            numbers: Vec::new(alloc),
+            clusters: with_room(alloc, CLUSTERS)?,
+            numbers: with_room(alloc, NUMBERS)?,
         })
     }
 
@@ -128,6 +135,31 @@ impl Extents {
         put_in(&mut self.numbers, n, 1);
     }
 
+    /// Puts in these clusters, all below 65,536, and these file numbers, from 1 to 4,096. Those that are held already stay as they
+    /// are. It takes no memory.
+    pub fn put_all(&mut self, clusters: &[u32], numbers: &[u32])
+        requires clusters { All (λ c. c < 65536) clusters.now }
+        requires numbers { All (λ n. (1 ≤ n) × (n ≤ 4096)) numbers.now }
+        ensures clusters { self.new.clusters ≡ merged clusters.now self.old.clusters }
+        ensures numbers { self.new.numbers ≡ merged numbers.now self.old.numbers }
+    {
+        put_each(&mut self.clusters, clusters, 0, CLUSTERS);
+        put_each(&mut self.numbers, numbers, 1, NUMBERS);
+    }
+
+    /// A stock of all but what `lowest` gives, where this one holds enough of it. This one keeps it.
+    pub fn rest(&self, alloc: Global, clusters: u32, number: bool) -> Result<Extents, NoMemory>
+        requires { IsTrue (holds_enough clusters number self.now) }
+        ensures clusters { IfOk result (λ e. e.clusters ≡ drop clusters self.now.clusters) }
+        ensures numbers { IfOk result (λ e. e.numbers ≡ numbers_left number self.now.numbers) }
+    {
+        let first = if number { 1 } else { 0 };
+        Ok(Extents {
+            clusters: copied(alloc, &self.clusters[clusters as usize..], CLUSTERS)?,
+            numbers: copied(alloc, &self.numbers[first..], NUMBERS)?,
+        })
+    }
+
     /// All that is held. The stock keeps it.
     pub fn all(&self, alloc: Global) -> Result<Taken2, NoMemory>
         ensures clusters { IfOk result (λ t. t.clusters ≡ self.now.clusters) }
@@ -156,6 +188,13 @@ impl Extents {
         ensures stock { IsStock self.now }
     {
         self.clusters.len() as u32
+    }
+
+    /// The clusters that are held, in rising order.
+    pub fn clusters(&self) -> &[u32]
+        ensures { result.now ≡ self.now.clusters }
+    {
+        &self.clusters
     }
 
     /// The file numbers that are held, in rising order.

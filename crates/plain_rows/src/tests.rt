@@ -1,10 +1,13 @@
-//! The worked examples: one node gives commands to a fresh volume, of which 231 clusters are free.
+//! The worked examples: nodes give commands to a fresh volume, of which 231 clusters are free.
 
 use replay::{block_of, replay_row};
 use std::test::Fail;
 
 mod channels;
+mod deaths;
 mod directories;
+mod histories;
+mod nodes;
 mod quotas;
 mod replay;
 mod sizes;
@@ -41,10 +44,11 @@ fn channels_are_served(rt: HostRuntime) -> Result<(), Fail> {
     )?;
     assert_eq!(rt; sum_of(&channels::ZEROS), 0);
     assert_eq!(rt; sum_of(&channels::FIVE), 298);
+    assert_eq!(rt; sum_of(&nodes::HELLO), 372);
     Ok(())
 }
 
-fn sum_of(front: &[u8; 4]) -> u32 {
+fn sum_of(front: &[u8; 5]) -> u32 {
     let mut sum = 0u32;
     for byte in block_of(front).iter() {
         sum = sum.wrapping_add(*byte as u32);

@@ -5,3 +5,4 @@ pub mod Ending
 pub mod Driving
 pub mod Stopping
 pub mod Showing
+pub mod Counting

@@ -8,6 +8,7 @@ use Rattle.plain_cat.specs.declared.history.Entry.TheVariants.{Done, Died, Mende
 use Rattle.vol_texts.specs.Reports.{entry_line, line_text, lines_from}
 use Rattle.core_state.specs.Worlds.{shown}
 use Rattle.run_engine.specs.Reports.{is_answer, is_death, lines_bytes}
+use Rattle.run_engine.specs.Summaries.{is_refused, is_carried_out}
 
 line_shown : (k : ℕ) (e : Entry) → line_text k (shown e) ≡ line_text k e
 unfolding entry_line
@@ -43,3 +44,21 @@ answers_shown es = sym (count_from is_answer answer_shown 0 es)
 
 pub deaths_shown : (es : List Entry) → count_by is_death es ≡ count_by is_death (map shown es)
 deaths_shown es = sym (count_from is_death death_shown 0 es)
+
+refused_shown_one : (e : Entry) → is_refused (shown e) ≡ is_refused e
+unfolding is_refused
+refused_shown_one (Done n x r) = refl
+refused_shown_one (Died n stage clusters numbers) = refl
+refused_shown_one (Mended m) = refl
+
+carried_out_shown_one : (e : Entry) → is_carried_out (shown e) ≡ is_carried_out e
+unfolding is_carried_out
+carried_out_shown_one (Done n x r) = refl
+carried_out_shown_one (Died n stage clusters numbers) = refl
+carried_out_shown_one (Mended m) = refl
+
+pub refused_shown : (es : List Entry) → count_by is_refused es ≡ count_by is_refused (map shown es)
+refused_shown es = sym (count_from is_refused refused_shown_one 0 es)
+
+pub carried_out_shown : (es : List Entry) → count_by is_carried_out es ≡ count_by is_carried_out (map shown es)
+carried_out_shown es = sym (count_from is_carried_out carried_out_shown_one 0 es)

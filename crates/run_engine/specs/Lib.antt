@@ -4,3 +4,4 @@ pub mod Ended
 pub mod Laws
 pub mod Faults
 pub mod Statuses
+pub mod Summaries

@@ -1,7 +1,8 @@
-//! A run of a script: the turns of its nodes on a world, the clusters that are free at its end, and the report of what was answered;
-//! and how a call of the program ends.
+//! A run of a script: the turns of its nodes on a world, the clusters that are free at its end, the report of what was answered, and
+//! the summary of a soak; and how a call of the program ends.
 #![tactic(auto)]
 
+mod counts;
 mod fault;
 mod free;
 mod laws;
@@ -9,6 +10,7 @@ mod reports;
 mod rotation;
 mod running;
 mod status;
+mod summaries;
 
 pub use fault::RunFault;
 pub use free::free_at_end;
@@ -16,6 +18,7 @@ pub use laws::{over_is_spelt, over_is_whole, turns_leave_the_rest};
 pub use reports::{report, report_lines};
 pub use running::run;
 pub use status::{Finished, Status};
+pub use summaries::summary;
 
 #[cfg(test)]
 mod sends;

@@ -1,4 +1,4 @@
-//! All operations that are built so far, as one.
+//! All operations of the file system, as one.
 #![tactic(auto)]
 
 mod set;

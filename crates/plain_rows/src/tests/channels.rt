@@ -9,11 +9,11 @@ use plain_cat::Refusal::{
 };
 
 // The first bytes of a block of zeros, and of blocks written as ONE and as FIVE.
-pub const ZEROS: [u8; 4] = [0, 0, 0, 0];
+pub const ZEROS: [u8; 5] = [0, 0, 0, 0, 0];
 
-const ONE: [u8; 4] = [0x4f, 0x4e, 0x45, 0];
+const ONE: [u8; 5] = [0x4f, 0x4e, 0x45, 0, 0];
 
-pub const FIVE: [u8; 4] = [0x46, 0x49, 0x56, 0x45];
+pub const FIVE: [u8; 5] = [0x46, 0x49, 0x56, 0x45, 0];
 
 pub const OPEN_FILE: [Step; 11] = [
     Step {
@@ -55,7 +55,7 @@ pub const OPEN_FILE: [Step; 11] = [
         answer: Bytes(FIVE),
         wrong: [
             Bytes(ZEROS),
-            Bytes([0x46, 0x49, 0x56, 0x46]),
+            Bytes([0x46, 0x49, 0x56, 0x46, 0]),
             Refused(EndOfFile),
         ],
     },

@@ -1,3 +1,6 @@
+ghost use Rattle.std.specs.Prelude.{IsTrue};
+ghost use Rattle.plain_vol.specs.Checks.{EntryInForm};
+
 use crate::fresh_catalogue;
 use plain_cat::{
     Cat, Cmd, DirEnt, DirEnts, Entry, Fid, Mode, Name, NoMemory, Refusal, Reply, Slot, Uic,
@@ -11,6 +14,9 @@ use vol_words::{Block, put_bytes, zeros};
 /// The main directory.
 pub const MFD: Fid = Fid { num: 4, seq: 4 };
 
+/// [SYSLOST].
+pub const LOST: Fid = Fid { num: 11, seq: 1 };
+
 /// The first file that is made on a fresh volume, in a replay.
 pub const FIRST: Fid = Fid { num: 12, seq: 1 };
 
@@ -21,9 +27,10 @@ pub const USER: Uic = Uic(65540);
 
 pub const STRANGER: Uic = Uic(131074);
 
-/// A command of node 1, on register 1 and channel 1, with texts for its names. The parts stand in the order of `Cmd`.
+/// A command, on register 1 and channel 1, with texts for its names. The parts stand in the order of `Cmd`.
 #[derive(Clone, Copy)]
 pub enum Command<'a> {
+    Lookup(Fid, &'a str, u16),
     List(Fid),
     Stat(Fid),
     Create(Fid, &'a str, u16, u32, Uic),
@@ -44,7 +51,7 @@ pub enum Command<'a> {
 pub type Item<'a> = (&'a str, u16, u32, u16);
 
 /// A reply, with texts for its names. `Found` has number and sequence, name and version; `Facts` whether it is a
-/// directory, owner, blocks, mark and the block of the end, whose byte is 0; `Bytes` the first four bytes, and zeros follow.
+/// directory, owner, blocks, mark and the block of the end, whose byte is 0; `Bytes` the first five bytes, and zeros follow.
 #[derive(Clone, Copy)]
 pub enum Answer<'a> {
     Found(u32, u16, &'a str, u16),
@@ -57,14 +64,14 @@ pub enum Answer<'a> {
     Renamed(&'a str, u16),
     Opened,
     Closed(bool),
-    Bytes([u8; 4]),
+    Bytes([u8; 5]),
     Written,
     QuotaKept,
     Usage(u32, u32, u32),
     Refused(Refusal),
 }
 
-/// A command, the reply that it has, and three that it has not.
+/// A command of node 1, the reply that it has, and three that it has not.
 #[derive(Clone, Copy)]
 pub struct Step<'a> {
     pub command: Command<'a>,
@@ -72,7 +79,8 @@ pub struct Step<'a> {
     pub wrong: [Answer<'a>; 3],
 }
 
-fn name_of(alloc: Global, text: &str) -> Result<Name, NoMemory> {
+/// The name of this text.
+pub fn name_of(alloc: Global, text: &str) -> Result<Name, NoMemory> {
     let mut name = Name::new(alloc);
     for byte in text.as_bytes() {
         name.push(*byte)?;
@@ -81,14 +89,21 @@ fn name_of(alloc: Global, text: &str) -> Result<Name, NoMemory> {
 }
 
 /// A block that begins with these bytes and is zero behind them.
-pub fn block_of(front: &[u8; 4]) -> Block {
+pub fn block_of(front: &[u8; 5]) -> Block {
     let mut b = zeros();
     put_bytes(&mut b, 0, front);
     b
 }
 
-fn cmd_of(alloc: Global, command: &Command) -> Result<Cmd, NoMemory> {
+/// The command as a value.
+pub fn cmd_of(alloc: Global, command: &Command) -> Result<Cmd, NoMemory> {
     Ok(match *command {
+        Command::Lookup(dir, name, ver) => Cmd::Lookup {
+            reg: 1,
+            dir,
+            name: name_of(alloc, name)?,
+            ver,
+        },
         Command::List(dir) => Cmd::List { dir },
         Command::Stat(file) => Cmd::Stat { file },
         Command::Create(dir, name, ver, blocks, owner) => Cmd::Create {
@@ -151,7 +166,8 @@ fn entries_of(alloc: Global, items: &[Item]) -> Result<DirEnts, NoMemory> {
     Ok(entries)
 }
 
-fn reply_of(alloc: Global, answer: &Answer) -> Result<Reply, NoMemory> {
+/// The reply as a value.
+pub fn reply_of(alloc: Global, answer: &Answer) -> Result<Reply, NoMemory> {
     Ok(match *answer {
         Answer::Found(num, seq, name, ver) => Reply::Found {
             fid: Fid { num, seq },
@@ -185,82 +201,95 @@ fn reply_of(alloc: Global, answer: &Answer) -> Result<Reply, NoMemory> {
     })
 }
 
+/// The entry of a node's command and its reply.
+pub fn answered(
+    alloc: Global,
+    node: u8,
+    command: &Command,
+    answer: &Answer,
+) -> Result<Entry, NoMemory> {
+    Ok(Entry::Done {
+        node,
+        cmd: cmd_of(alloc, command)?,
+        reply: reply_of(alloc, answer)?,
+    })
+}
+
+// Whether the command of an answer is in form.
+fn is_entry_in_form(e: &Entry) -> bool
+    ensures { IsTrue result → EntryInForm e.now }
+{
+    match e {
+        Entry::Done { cmd, .. } => is_in_form(cmd),
+        _ => true,
+    }
+}
+
 /// A volume, as far as its commands were given.
 #[derive(Drop)]
 pub struct Replay {
     row: &'static str,
-    cat: Cat,
+    pub cat: Cat,
     given: u32,
 }
 
 impl Replay {
     pub fn fresh(alloc: Global, row: &'static str) -> Result<Self, NoMemory> {
-        Ok(Replay {
-            row,
-            cat: fresh_catalogue(alloc)?,
-            given: 0,
-        })
+        Ok(Replay::of(row, fresh_catalogue(alloc)?))
     }
 
-    fn judged(&self, alloc: Global, command: &Command, answer: &Answer) -> Result<Checked, Fail> {
-        let cmd = cmd_of(alloc, command)?;
-        let reply = reply_of(alloc, answer)?;
-        if !is_in_form(&cmd) {
+    /// The same on another volume.
+    pub fn of(row: &'static str, cat: Cat) -> Self {
+        Replay { row, cat, given: 0 }
+    }
+
+    fn judged(&self, alloc: Global, e: &Entry) -> Result<Checked, Fail> {
+        if !is_entry_in_form(e) {
             return Err(Fail::new("a command is not in form"));
         }
         if !is_accounted(&self.cat) {
             return Err(Fail::new("the quotas are not in order"));
         }
-        let e = Entry::Done {
-            node: 1,
-            cmd,
-            reply,
-        };
-        Ok(check_reply(alloc, &self.cat, &e)?)
+        Ok(check_reply(alloc, &self.cat, e)?)
     }
 
-    fn illegal(
-        &self,
-        rt: &impl Abort,
-        alloc: Global,
-        command: &Command,
-        answer: &Answer,
-    ) -> Result<(), Fail> {
-        let judged = self.judged(alloc, command, answer)?;
+    /// The entry has to be illegal.
+    pub fn illegal(&self, rt: &impl Abort, alloc: Global, e: &Entry) -> Result<(), Fail> {
+        let judged = self.judged(alloc, e)?;
         let is_illegal = matches!(judged, Checked::Illegal);
         assert!(rt;
             is_illegal,
-            "{}: a wrong reply is legal at step {}",
+            "{}: a wrong entry is legal at step {}",
             self.row, self.given
         );
         Ok(())
     }
 
-    fn legal(
-        &mut self,
-        rt: &impl Abort,
-        alloc: Global,
-        command: &Command,
-        answer: &Answer,
-    ) -> Result<(), Fail> {
-        match self.judged(alloc, command, answer)? {
+    /// The entry has to be legal, and it happens.
+    pub fn legal(&mut self, rt: &impl Abort, alloc: Global, e: &Entry) -> Result<(), Fail> {
+        match self.judged(alloc, e)? {
             Checked::Legal(after) => self.cat = after,
             Checked::Illegal => assert!(rt;
                 false,
-                "{}: the reply is illegal at step {}",
+                "{}: the entry is illegal at step {}",
                 self.row, self.given
             ),
         }
         Ok(())
     }
 
+    /// The next step of the row.
+    pub fn count(&mut self) {
+        self.given = self.given.wrapping_add(1);
+    }
+
     /// Gives a command: the wrong replies are illegal, and the right one is legal.
     pub fn step(&mut self, rt: &impl Abort, alloc: Global, step: &Step) -> Result<(), Fail> {
-        self.given = self.given.wrapping_add(1);
+        self.count();
         for wrong in &step.wrong {
-            self.illegal(rt, alloc, &step.command, wrong)?;
+            self.illegal(rt, alloc, &answered(alloc, 1, &step.command, wrong)?)?;
         }
-        self.legal(rt, alloc, &step.command, &step.answer)
+        self.legal(rt, alloc, &answered(alloc, 1, &step.command, &step.answer)?)
     }
 
     /// Gives the commands of a row in turn.

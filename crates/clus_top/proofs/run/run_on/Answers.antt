@@ -7,10 +7,10 @@ use Rattle.clus_top.proofs.run.run_on.Goals as goal
 pub returns-in-Ok-clause-report : goal.returns-in-Ok-clause-report
 returns-in-Ok-clause-report g c =
     let image = told_well _ _ _ (c.run-ran.ensures.drive c.requires.told) (λ p. let e = sym c.in-Ok.is ∙ p in cc) in
-    if_ok c.report_of.result _ _
-    (λ text h. end_in c.args.w.now.world c.keeps_the_rules.ensures.good c.requires.mounted c.run-ran.new.w.world c.args.plays.now _ _ text.items c.requires.plays
+    if_ok c.text_of.result _ _
+    (λ text h. end_in c.args.w.now.world c.keeps_the_rules.ensures.good c.requires.mounted c.args.what c.run-ran.new.w.world c.args.plays.now _ _ text.items c.requires.plays
     c.in-Ok.ensures.ok.0 c.in-Ok.ensures.ok.1 c.keeps_the_rules-2.ensures.good c.run-ran.ensures.stays c.in-Ok.ensures.whole image h)
-    c.report_of.ensures.report
+    c.text_of.ensures.text
 
 pub returns-in-Ok-clause-end : goal.returns-in-Ok-clause-end
 returns-in-Ok-clause-end g c =
@@ -18,9 +18,9 @@ returns-in-Ok-clause-end g c =
     let image = told_well _ _ _ (c.run-ran.ensures.drive c.requires.told) (λ p. let e = sym c.in-Ok.is ∙ p in cc) in
     let lacking = lacking_in start c.keeps_the_rules.ensures.good c.requires.mounted c.run-ran.new.w.world c.args.plays.now (g.I.ImageDev.told c.args.w.now.image) (g.I.ImageDev.told c.run-ran.new.w.image) c.requires.plays
     (inr (c.in-Ok.ensures.ok.0.turns, c.in-Ok.ensures.ok.0.at)) c.keeps_the_rules-2.ensures.good image (inr (inl c.in-Ok.ensures.ok.1)) in
-    if_err c.report_of.result _ _
+    if_err c.text_of.result _ _
     (λ s e. subst (IsStopBy start.script start.blocks (g.I.ImageDev.told c.args.w.now.image) (g.I.ImageDev.told c.run-ran.new.w.image) (g.I.ImageDev.faults c.args.w.now.image) (g.I.ImageDev.faults c.run-ran.new.w.image)) (sym e) (inr lacking))
-    c.report_of.ensures.end
+    c.text_of.ensures.end
 
 pub returns-in-Err-clause-end : goal.returns-in-Err-clause-end
 returns-in-Err-clause-end g c =

@@ -1,53 +1,38 @@
-use Rattle.std.proofs.Common.{subst}
-use Rattle.clus_top.specs.Ends.{IsEndIn, IsStopBy}
-use Rattle.clus_top.proofs.Reported.{good, is_accepted, report_on, last_on, stop_image, volume_end, if_err, if_ok}
+use Rattle.clus_top.specs.Runs.{IsScriptOf}
+use Rattle.clus_top.proofs.Reported.{if_err, if_ok}
+use Rattle.clus_top.proofs.Jobs.{spells, good, report_on, last_on, run_stop, stop_image}
+use Rattle.clus_top.specs.declared.run.Printed.TheVariants as printed
 use Rattle.clus_top.proofs.run.run_script.Goals as goal
 
-pub returns-in-Ok-load-clause-passed : goal.returns-in-Ok-load-clause-passed
-returns-in-Ok-load-clause-passed g c =
-    if_ok c.run_mounted.result.outcome _ _
-    (λ text h. (
-      good (g.T.TextIn.left c.args.script.now) c.in-Ok.spelt c.in-Ok.ensures.spelt,
-      record {
-        inside = c.in-Ok-load.ensures.inside;
-        accepted = is_accepted (g.I.ImageDev.told c.args.image) _ _ c.in-Ok.spelt c.in-Ok-load.mirror.blocks text.items c.in-Ok-load.ensures.blocks h;
-      },
-    ))
-    c.run_mounted.ensures.report
+pub returns-in-Ok-clause-passed : goal.returns-in-Ok-clause-passed
+returns-in-Ok-clause-passed g c =
+    if_ok c.run_image.result.outcome _ _ (λ text h. (good (g.T.TextIn.left c.args.script.now) c.in-Ok.spelt c.in-Ok.ensures.spelt, h)) c.run_image.ensures.passed
 
-pub returns-in-Ok-load-clause-report : goal.returns-in-Ok-load-clause-report
-returns-in-Ok-load-clause-report g c =
-    let new = g.I.ImageDev.told c.run_mounted.result.image in
-    if_ok c.run_mounted.result.outcome _ _
-    (λ text h. report_on (g.T.TextIn.left c.args.script.now) (g.I.ImageDev.told c.args.image) new c.in-Ok.spelt c.in-Ok-load.mirror.blocks text.items c.in-Ok.ensures.spelt c.in-Ok-load.ensures.blocks
-    (subst (λ t. IsEndIn c.in-Ok.spelt c.in-Ok-load.mirror.blocks t new text.items) c.in-Ok-load.ensures.told h))
-    c.run_mounted.ensures.report
+pub returns-in-Ok-clause-report : goal.returns-in-Ok-clause-report
+returns-in-Ok-clause-report g c =
+    let left = g.T.TextIn.left c.args.script.now in
+    if_ok c.run_image.result.outcome _ _
+    (λ text h. report_on left c.in-Ok.spelt (g.I.ImageDev.told c.args.image) (g.I.ImageDev.told c.run_image.result.image) text.items (spells left c.in-Ok.spelt c.in-Ok.ensures.spelt) h)
+    c.run_image.ensures.report
 
-pub returns-in-Ok-load-clause-ended : goal.returns-in-Ok-load-clause-ended
-returns-in-Ok-load-clause-ended g c =
-    let new = g.I.ImageDev.told c.run_mounted.result.image in
-    if_ok c.run_mounted.result.outcome _ _
-    (λ text h. last_on (g.T.TextIn.left c.args.script.now) (g.I.ImageDev.told c.args.image) new c.in-Ok.spelt c.in-Ok-load.mirror.blocks text.items c.in-Ok.ensures.spelt c.in-Ok-load.ensures.blocks
-    (subst (λ t. IsEndIn c.in-Ok.spelt c.in-Ok-load.mirror.blocks t new text.items) c.in-Ok-load.ensures.told h))
-    c.run_mounted.ensures.report
+pub returns-in-Ok-clause-ended : goal.returns-in-Ok-clause-ended
+returns-in-Ok-clause-ended g c =
+    let left = g.T.TextIn.left c.args.script.now in
+    if_ok c.run_image.result.outcome _ _
+    (λ text h. last_on (IsScriptOf left) c.in-Ok.spelt (spells left c.in-Ok.spelt c.in-Ok.ensures.spelt) printed.Report (g.I.ImageDev.told c.args.image) (g.I.ImageDev.told c.run_image.result.image) text.items h)
+    c.run_image.ensures.report
 
-pub returns-in-Ok-load-clause-end : goal.returns-in-Ok-load-clause-end
-returns-in-Ok-load-clause-end g c =
-    let new = g.I.ImageDev.told c.run_mounted.result.image in
-    let has = g.I.ImageDev.faults c.run_mounted.result.image in
-    let had = g.I.ImageDev.faults c.in-Ok-load.mirror.image in
-    if_err c.run_mounted.result.outcome _ _
-    (λ s h. volume_end (g.T.TextIn.left c.args.script.now) (g.I.ImageDev.size c.args.image) (g.I.ImageDev.told c.args.image) new c.in-Ok.spelt c.in-Ok-load.mirror.blocks _ _ _ had has s
-    c.in-Ok.ensures.spelt c.in-Ok-load.ensures.inside c.in-Ok-load.ensures.blocks c.in-Ok-load.ensures.later
-    (subst (λ t. IsStopBy c.in-Ok.spelt c.in-Ok-load.mirror.blocks t new had has s) c.in-Ok-load.ensures.told h))
-    c.run_mounted.ensures.end
+pub returns-in-Ok-clause-end : goal.returns-in-Ok-clause-end
+returns-in-Ok-clause-end g c =
+    if_err c.run_image.result.outcome _ _
+    (λ s h. run_stop (g.T.TextIn.left c.args.script.now) c.in-Ok.spelt (g.I.ImageDev.size c.args.image) (g.I.ImageDev.told c.args.image) (g.I.ImageDev.told c.run_image.result.image) _ _
+    (g.I.ImageDev.faults c.args.image) (g.I.ImageDev.faults c.run_image.result.image) s c.in-Ok.ensures.spelt h)
+    c.run_image.ensures.end
 
-pub returns-in-Ok-load-clause-left : goal.returns-in-Ok-load-clause-left
-returns-in-Ok-load-clause-left g c =
-    let new = g.I.ImageDev.told c.run_mounted.result.image in
-    let has = g.I.ImageDev.faults c.run_mounted.result.image in
-    let had = g.I.ImageDev.faults c.in-Ok-load.mirror.image in
-    if_err c.run_mounted.result.outcome _ _
-    (λ s h. stop_image (g.T.TextIn.left c.args.script.now) (g.I.ImageDev.told c.args.image) new c.in-Ok.spelt c.in-Ok-load.mirror.blocks had has s c.in-Ok.ensures.spelt c.in-Ok-load.ensures.blocks
-    (subst (λ t. IsStopBy c.in-Ok.spelt c.in-Ok-load.mirror.blocks t new had has s) c.in-Ok-load.ensures.told h))
-    c.run_mounted.ensures.end
+pub returns-in-Ok-clause-left : goal.returns-in-Ok-clause-left
+returns-in-Ok-clause-left g c =
+    let left = g.T.TextIn.left c.args.script.now in
+    if_err c.run_image.result.outcome _ _
+    (λ s h. stop_image (IsScriptOf left) c.in-Ok.spelt (spells left c.in-Ok.spelt c.in-Ok.ensures.spelt) (g.I.ImageDev.size c.args.image) (g.I.ImageDev.told c.args.image) (g.I.ImageDev.told c.run_image.result.image)
+    (g.I.ImageDev.faults c.args.image) (g.I.ImageDev.faults c.run_image.result.image) s h)
+    c.run_image.ensures.end

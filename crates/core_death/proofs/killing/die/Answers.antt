@@ -1,6 +1,6 @@
-use Rattle.std.proofs.Common.{◌-◌, map, slice_set, sym, ap, ◌∙◌, refl, Some}
+use Rattle.std.proofs.Common.{◌-◌, map, slice_set, sym, ap, ◌∙◌, refl}
 use Rattle.lock_db.specs.Tables.{dropped}
-use Rattle.core_state.specs.Worlds.{NodeState, state_of, plain_of, shown}
+use Rattle.core_state.specs.Worlds.{state_of, plain_of, shown}
 use Rattle.core_state.specs.Deaths.{death_of}
 use Rattle.core_state.proofs.Nodes.{told_at}
 use Rattle.core_death.proofs.Ending.{died_so, same_state}
@@ -10,16 +10,6 @@ pub entry_of-entry-requires-clause-few : goal.entry_of-entry-requires-clause-few
 entry_of-entry-requires-clause-few g c =
     let f = state_of g.O.Operation.cmd_is in
     (c.requires.state (f c.index.result.now) (told_at f c.args.core.now.nodes.items c.args.node c.index.result.now c.requires.node.from c.requires.node.to c.index.ensures)).few
-
-pub bury-requires-clause-kept : goal.bury-requires-clause-kept
-bury-requires-clause-kept g c =
-    let f = state_of g.O.Operation.cmd_is in
-    (c.requires.state (f c.index_mut.result.now) (told_at f c.args.core.now.nodes.items c.args.node c.index_mut.result.now c.requires.node.from c.requires.node.to c.index_mut.ensures.value)).kept
-
-pub bury-requires-clause-back : goal.bury-requires-clause-back
-bury-requires-clause-back g c =
-    let f = state_of g.O.Operation.cmd_is in
-    (c.requires.state (f c.index_mut.result.now) (told_at f c.args.core.now.nodes.items c.args.node c.index_mut.result.now c.requires.node.from c.requires.node.to c.index_mut.ensures.value)).back
 
 pub returns-clause-world : goal.returns-clause-world
 returns-clause-world g c =

@@ -1,5 +1,5 @@
-use Rattle.std.proofs.Common.{sym, ap, ◌∙◌}
-use Rattle.core_state.specs.Worlds.{Held, plain_of}
+use Rattle.std.proofs.Common.{ap, ◌∙◌}
+use Rattle.core_state.specs.Worlds.{plain_of}
 use Rattle.core_state.specs.Events.{is_over}
 use Rattle.core_death.proofs.Ending.{dies_so, has_place, has_list, world_died, fewer_lists}
 use Rattle.core_death.proofs.killing.kill.Goals as goal

@@ -7,8 +7,8 @@ use Rattle.core_space.specs.Filling.{numbers_taken, filled}
 use Rattle.core_space.proofs.Loops.{filled_none, filled_some}
 use Rattle.core_space.proofs.filling.fill.Goals as goal
 
-pub returns-then-not-suffices-clause-writes : goal.returns-then-not-suffices-clause-writes
-returns-then-not-suffices-clause-writes c =
+pub returns-then-not-suffices : goal.returns-then-not-suffices
+returns-then-not-suffices c =
     let g = c.args.geometry.now in
     let bs : List Block = blocks_of c.args.looked.now in
     let need = c.args.need.clusters in
@@ -21,8 +21,8 @@ returns-then-not-suffices-clause-writes c =
     ∙ ap (λ (h : ℕ). filled g need h lacks bs) c.count-held.ensures.count
     ∙ ap (λ (l : Bool). filled g need (length c.args.stock.now.clusters) l bs) c.lacks_number-lacks.ensures
 
-pub returns-clause-writes : goal.returns-clause-writes
-returns-clause-writes c =
+pub returns : goal.returns
+returns c =
     let g = c.args.geometry.now in
     let bs : List Block = blocks_of c.args.looked.now in
     let need = c.args.need.clusters in

@@ -15,8 +15,7 @@ returns-clause-world g c =
     let f = state_of g.O.Operation.cmd_is in
     let node = c.index_mut-at.result.now in
     on_ok c.request_lock.result _ _ (λ e.
-    ap (λ t. record (plain_of g.O.Operation.cmd_is c.args.core.now) { locks = t; nodes = map f (slice_set c.args.core.now.nodes.items (c.args.node - 1) c.request_lock.new.at) }) e.0
-    ∙ locked_so f c.args.core.now.nodes.items (plain_of g.O.Operation.cmd_is c.args.core.now) c.args.node node c.request_lock.new.at c.requires.node.from c.requires.node.to c.index_mut-at.ensures.value refl c.args.name c.args.mode e.1) c.request_lock.ensures.ok
+    locked_so f c.args.core.now.nodes.items (plain_of g.O.Operation.cmd_is c.args.core.now) c.args.node node c.request_lock.new.at c.requires.node.from c.requires.node.to c.index_mut-at.ensures.value refl c.args.name c.args.mode c.request_lock.new.locks e.0 e.1) c.request_lock.ensures.ok
 
 pub returns-clause-same : goal.returns-clause-same
 returns-clause-same g c =

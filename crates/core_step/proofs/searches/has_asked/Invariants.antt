@@ -1,5 +1,5 @@
 use Rattle.std.proofs.Common.{◌≡◌, false, take}
-use Rattle.core_state.specs.Events.{has_asked}
+use Rattle.core_state.specs.Asks.{has_asked}
 use Rattle.core_step.proofs.searches.has_asked.Given as goal
 
 abbrev pub invariant-loop-other : goal.invariant-loop-other

@@ -1,13 +1,23 @@
-use Rattle.std.proofs.Common.{refl, sym, ◌∙◌, slice_set}
+use Rattle.std.proofs.Common.{refl, sym, ap, subst, ◌∙◌, slice_set}
+use Rattle.std.specs.Prelude.{IsSome}
 use Rattle.core_state.specs.Worlds.{state_of, plain_of}
 use Rattle.core_state.proofs.Nodes.{told_at}
+use Rattle.core_step.specs.Spaces.{write_of}
 use Rattle.core_step.proofs.Steps.{space_wrote_so}
+use Rattle.core_step.proofs.SpaceStates.{there_within}
 use Rattle.core_step.proofs.searches.space_write.Goals as goal
 
-pub keep_space_write-requires : goal.keep_space_write-requires
-keep_space_write-requires g c =
-    c.requires.more (state_of g.O.Operation.cmd_is c.index_mut.result.now) (told_at (state_of g.O.Operation.cmd_is) c.args.core.now.nodes.items c.args.node c.index_mut.result.now c.requires.node.from c.requires.node.to c.index_mut.ensures.value)
+pub keep_space_write-requires-clause-next : goal.keep_space_write-requires-clause-next
+keep_space_write-requires-clause-next g c =
+    let at = told_at (state_of g.O.Operation.cmd_is) c.args.core.now.nodes.items c.args.node c.index_mut.result.now c.requires.node.from c.requires.node.to c.index_mut.ensures.value in
+    there_within c.index_mut.result.now.run.writes c.index_mut.result.now.run.made (subst (λ o. IsSome o) (ap write_of at) c.requires.next)
+
+pub keep_space_write-requires-clause-can : goal.keep_space_write-requires-clause-can
+keep_space_write-requires-clause-can g c v next =
+    c.requires.can (state_of g.O.Operation.cmd_is c.index_mut.result.now) v (told_at (state_of g.O.Operation.cmd_is) c.args.core.now.nodes.items c.args.node c.index_mut.result.now c.requires.node.from c.requires.node.to c.index_mut.ensures.value) next
 
 pub returns-clause-world : goal.returns-clause-world
-returns-clause-world g c v lbn block clusters number = space_wrote_so (state_of g.O.Operation.cmd_is) c.args.core.now.nodes.items (plain_of g.O.Operation.cmd_is c.args.core.now) c.args.node c.index_mut.result.now c.keep_space_write.new.node
-    c.requires.node.from c.requires.node.to c.index_mut.ensures.value refl v c.write.new.self.blocks (c.in_ok-write.ensures.ok ∙ (λ i. slice_set c.args.core.now.mirror.blocks (sym lbn i) (sym block i))) (c.keep_space_write.ensures v clusters number)
+returns-clause-world g c v next lbn block =
+    let at = told_at (state_of g.O.Operation.cmd_is) c.args.core.now.nodes.items c.args.node c.index_mut.result.now c.requires.node.from c.requires.node.to c.index_mut.ensures.value in
+    space_wrote_so (state_of g.O.Operation.cmd_is) c.args.core.now.nodes.items (plain_of g.O.Operation.cmd_is c.args.core.now) c.args.node c.index_mut.result.now c.keep_space_write.new.node
+    c.requires.node.from c.requires.node.to c.index_mut.ensures.value refl v c.write.new.self.blocks (c.in_ok-write.ensures.ok ∙ (λ i. slice_set c.args.core.now.mirror.blocks (sym lbn i) (sym block i))) (c.keep_space_write.ensures v (sym (ap write_of at) ∙ next))

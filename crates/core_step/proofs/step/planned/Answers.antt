@@ -2,11 +2,10 @@ use Rattle.std.proofs.Common.{not, false, ◌+◌, ◌≡◌, refl, sym, ap, sub
 use Rattle.std.specs.Prelude.{is_some}
 use Rattle.lock_db.specs.declared.name.LockName.TheVariants.{A}
 use Rattle.core_state.specs.Worlds.{plain_of}
-use Rattle.core_state.specs.Asks.{reply_by}
+use Rattle.core_state.specs.Asks.{has_asked, reply_by}
 use Rattle.core_state.specs.Goods.{HasRoom}
 use Rattle.core_state.specs.Event as event
 use Rattle.core_state.specs.Events.{happen, tried_at}
-use Rattle.core_state.specs.Events.{has_asked}
 use Rattle.core_step.specs.Asks.{going_ask, MayAsk}
 use Rattle.core_step.specs.declared.asks.Aim.{Aim}
 use Rattle.core_step.specs.Memory.{takes_none}

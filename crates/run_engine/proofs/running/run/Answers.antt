@@ -1,7 +1,8 @@
-use Rattle.std.proofs.Common.{◌≡◌, ◌∙◌, ℕ, List, Err, sym, ap, subst}
+use Rattle.std.proofs.Common.{◌≡◌, ◌∙◌, ℕ, List, Err, sym, ap, subst, inl, inr}
 use Rattle.std.proofs.lemmas.Result.{err_from_is_err_and}
 use Rattle.run_engine.specs.declared.fault.RunFault.TheVariants as run
 use Rattle.run_engine.specs.Walks.{IsNextIn, IsBeforeWrite, IsBeforeTaking}
+use Rattle.run_engine.proofs.Driving.{told_well, told_on}
 use Rattle.run_engine.proofs.Staying.{played_stays, walk_stays}
 use Rattle.run_engine.proofs.Stopping.{image_fault, no_memory, by_play, by_turn, taking_by_play, taking_by_turn}
 use Rattle.run_engine.proofs.Ending.{over_is_whole}
@@ -54,3 +55,12 @@ returns-in_err-rotate-clause-memory g c e =
     let new = c.rotate.new.w.world in
     subst (λ (ns : List ℕ). IsBeforeTaking (IsNextIn old ns new) new) c.items.ensures
     (taking_by_turn old c.play_all.new.w.world c.items.result.now new c.in_ok-play_all.ensures.played (c.in_err-rotate.ensures.memory (ap Err (sym p.2 ∙ f))))
+
+pub returns-in_err-rotate-clause-drive : goal.returns-in_err-rotate-clause-drive
+returns-in_err-rotate-clause-drive g c t =
+    let p = err_from_is_err_and c.from_residual-in_err-rotate.result c.from_residual-in_err-rotate.ensures.1 in
+    let mid = told_well _ _ _ (c.in_ok-play_all.ensures.drive t) (λ q. cc) in
+    elim (told_on _ (g.I.ImageDev.told c.args.w.now.image) (g.I.ImageDev.told c.play_all.new.w.image) (g.I.ImageDev.told c.rotate.new.w.image) c.play_all.new.w.world.blocks c.rotate.new.w.world.blocks mid c.in_err-rotate.ensures.drive) [
+      | inl h ↦ inl h
+      | inr q ↦ inr (p.1 ∙ (ap Err p.2 ∙ q))
+    ]

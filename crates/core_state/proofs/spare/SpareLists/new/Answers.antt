@@ -1,4 +1,4 @@
-use Rattle.std.proofs.Common.{◌≡◌, ◌≤◌, ◌∙◌, arith}
+use Rattle.std.proofs.Common.{arith}
 use Rattle.core_state.proofs.Sparing.{none_made, one_more}
 use Rattle.core_state.proofs.spare.SpareLists.new.Goals as goal
 

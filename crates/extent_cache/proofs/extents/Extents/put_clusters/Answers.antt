@@ -4,7 +4,7 @@ use Rattle.extent_cache.proofs.extents.Extents.put_clusters.Goals as goal
 
 pub invariant_of-self : goal.invariant_of-self
 invariant_of-self c =
-    rw (c.put_in.ensures.items)
+    rw (c.put_in.ensures.items, c.put_in.ensures.capacity)
     (rises_within-put_in c.args.from c.args.n 0 65536 c.self.inside.clusters.items (omega arith) (omega arith) (rw (← c.self.view_is) at c.requires.new) c.self.invariant.0, c.self.invariant.1)
 
 pub returns : goal.returns

@@ -4,8 +4,8 @@ use Rattle.extent_cache.proofs.extents.Extents.put_number.Goals as goal
 
 pub invariant_of-self : goal.invariant_of-self
 invariant_of-self c =
-    rw (c.put_in.ensures.items)
-    (c.self.invariant.0, rises_within-put_in c.args.n 1 1 4097 c.self.inside.numbers.items c.requires.least (omega arith) (rw (← c.self.view_is) at c.requires.new) c.self.invariant.1)
+    rw (c.put_in.ensures.items, c.put_in.ensures.capacity)
+    (c.self.invariant.0, (rises_within-put_in c.args.n 1 1 4097 c.self.inside.numbers.items c.requires.least (omega arith) (rw (← c.self.view_is) at c.requires.new) c.self.invariant.1.0, c.self.invariant.1.1))
 
 pub returns : goal.returns
 returns c =

@@ -1,0 +1,118 @@
+-- A node claims a lock of free space: X, or V.
+use Rattle.std.proofs.Common.{◌≡◌, ◌≢◌, ◌≤◌, ◌⊎◌, ◌++◌, ℕ, true, false, List, [], ◌∷◌, Option, Some, refl, sym, ap, subst, ◌∙◌, arith}
+use Rattle.vol_words.specs.Fields.{Block}
+use Rattle.lock_db.specs.declared.name.LockName.{LockName}
+use Rattle.lock_db.specs.declared.name.LockName.TheVariants.{A, X}
+use Rattle.lock_db.specs.declared.resource.Resource.{Resource}
+use Rattle.plain_cat.specs.Modes.{rank}
+use Rattle.plain_cat.specs.declared.mode.Mode.{Mode}
+use Rattle.plain_cat.specs.declared.mode.Mode.TheVariants.{NL, CR, CW, PR, PW}
+use Rattle.plain_cat.specs.declared.command.Cmd.{Cmd}
+use Rattle.plain_vol.specs.Own.{next_command}
+use Rattle.node_locks.specs.Held.{system_of, Row, joined, names_of, HoldsItsLocks, waits_at, with_rows}
+use Rattle.node_locks.specs.Taking.{taken}
+use Rattle.node_locks.proofs.Keeping.{held_are_granted, rows_stand_still}
+use Rattle.vol_owners.specs.Lists.{Has}
+use Rattle.vol_under.specs.UnderWay.{UnderWay, changed}
+use Rattle.vol_under.specs.Under.{IsUnder}
+use Rattle.op_law.specs.Laws.{held_in}
+use Rattle.core_space.specs.declared.run.Phase.{Phase}
+use Rattle.core_state.specs.Worlds.{Course, course_of, NodeState, Plain, node_at, set_node, rows_of, rows_in, rows_at}
+use Rattle.core_state.specs.Channels.{channel_now, HasChannels}
+use Rattle.core_state.specs.Opens.{open_now}
+use Rattle.core_state.specs.Stores.{AreKept}
+use Rattle.core_state.specs.Stocks.{looked_now, stock_now}
+use Rattle.core_state.specs.Searches.{begun_run, Spaces}
+use Rattle.core_state.specs.Goods.{under_with, nodes_under, HasCourse, HasCommand, IsNode, Good, held_by}
+use Rattle.core_state.specs.Events.{is_out, turned, claiming}
+use Rattle.core_state.proofs.Holding.{strong_grows}
+use Rattle.core_state.proofs.Running.{at_any, under_now, under_here}
+use Rattle.core_state.proofs.Taking.{widens}
+use Rattle.core_state.proofs.SmallWorlds.{OwesLess, small_taken, lock_there}
+use Rattle.core_state.proofs.Keeping.{altered, still_driven, rebuilt, held_set, course_stays}
+use Rattle.core_state.proofs.Beginning.{neither, stays_stocked}
+use Rattle.core_state.proofs.Opens.{opens_taken}
+use Rattle.core_state.proofs.Rows.{IsFew, AreMoved, IsClaimed, claims_move, claims_it, rows_twice, own_rows}
+use Rattle.core_state.proofs.Turning.{goes_still, Rest, rest_of}
+
+-- ---- an event by the rules for space, which leaves the command as it is
+
+module _ (w : Plain) (good : Good w) (n : ℕ) (s : NodeState) (at : node_at w.nodes n ≡ Some s) (on : is_out s ≡ false) where
+  pub mine : HoldsItsLocks w.locks n (rows_of s)
+  mine = subst (λ (rs : List Row). HoldsItsLocks w.locks n rs) (ap rows_in at) (good.locked.1 n)
+
+  pub space_node : (t : List Resource) (bs : List Block) (r : NodeState) → rest_of r ≡ rest_of s → r.cmd ≡ s.cmd → course_of r ≡ course_of s → (waits_at w.locks n s.asked ≡ false → waits_at t n s.asked ≡ false)
+      → AreKept r.run.phase r.kept → waits_at t n r.kept ≡ false → Spaces s.cmd r.kept r.claims r.run r.stock r.seen → IsNode (altered w t bs (set_node w.nodes n r) w.history) n r
+  space_node t bs r same c course goes keeps rests space = record {
+    past = ap (λ (k : Rest). k.past) same ∙ me.past;
+    geometry = ap (λ (d : Course). d.seen.geometry) course ∙ me.geometry;
+    channels = subst (λ (k : Rest). HasChannels k.past k.opens) (sym same) me.channels;
+    channel = ap (λ (d : Course). d.seen.channel) course ∙ me.channel ∙ (λ i. channel_now (sym same i).opens (sym c i));
+    store = record { kept = keeps; cache = ap (λ (k : Rest). k.cache) same ∙ me.store.cache };
+    rests = rests;
+    command = subst (λ (o : Option Cmd). HasCommand (altered w t bs (set_node w.nodes n r) w.history) n r o) (sym c)
+        (subst (λ (d : Course). HasCourse (next_command w.script n w.history) t n d s.cmd) (sym course)
+        (course_stays (next_command w.script n w.history) w.locks t n (course_of s) goes s.cmd me.command));
+    space = subst (λ (o : Option Cmd). Spaces o r.kept r.claims r.run r.stock r.seen) (sym c) space;
+    over = λ e. absurd (let f : s.over ≡ true = sym (ap (λ (k : Rest). k.over) same) ∙ e in let g : true ≡ false = sym f ∙ (neither s.over s.past.dead on).0 in cc);
+    gone = λ e. absurd (let f : s.past.dead ≡ true = sym (ap (λ (k : Rest). k.past.dead) same) ∙ e in let g : true ≡ false = sym f ∙ (neither s.over s.past.dead on).1 in cc);
+  } where
+    me : IsNode w n s
+    me = good.nodes n s at
+
+  -- ---- a claim
+
+  module _ (p : Phase) (name : LockName) (mode : Mode) (few : IsFew s.claims) (free : waits_at w.locks n s.claims ≡ false) (q : Phase) (begun : s.run ≡ begun_run q) (far : (f : ℕ) → name ≢ A f) (not_cw : mode ≢ CW)
+      (new : (Has (names_of (joined ((s.kept ++ s.claims) ∷ (s.asked ∷ ([] ∷ []))))) name → ⊥) ⊎ Has (s.kept ++ s.claims) (name, NL)) where
+    abbrev t : List Resource
+    t = taken name (system_of n) mode w.locks
+
+    abbrev r : NodeState
+    r = turned (claiming s p name mode)
+
+    abbrev moved_rows : List Row
+    moved_rows = (s.kept ++ s.claims) ∷ (s.asked ∷ ([] ∷ []))
+
+    pub moved : AreMoved w.locks n (rows_at w.nodes) (s.kept ++ s.claims) s.asked
+    moved = claims_move w.locks n (rows_at w.nodes) s.kept s.asked s.claims good.locked.1 (ap rows_in at) (good.nodes n s at).rests free few
+
+    abbrev rows_then : ℕ → List Row
+    rows_then = with_rows (rows_at w.nodes) n moved_rows
+
+    pub claimed : IsClaimed w.locks n name mode rows_then (s.kept ++ s.claims) s.asked [] good.locked.0 moved.held (own_rows (rows_at w.nodes) n moved_rows) moved.rests new
+    claimed = claims_it w.locks n name mode rows_then (s.kept ++ s.claims) s.asked [] good.locked.0 moved.held (own_rows (rows_at w.nodes) n moved_rows) moved.rests new refl
+
+    strong : (l : LockName × Mode) → rank CR ≤ rank l.1 → Has (held_by w.locks n s) l → Has (held_by t n r) l
+    strong l le h =
+        let its : HoldsItsLocks w.locks n moved_rows = subst (λ (rs : List Row). HoldsItsLocks w.locks n rs) (own_rows (rows_at w.nodes) n moved_rows) (moved.held n) in
+        claimed.took.strong l le ((held_are_granted w.locks n l moved_rows its).1 ((held_are_granted w.locks n l (rows_of s) mine).0 h))
+
+    run_then : r.run ≡ begun_run p
+    run_then = λ i. record (begun i) { phase = p }
+
+    stock_same : stock_now s.stock r.run ≡ stock_now s.stock s.run
+    stock_same = ap (stock_now s.stock) run_then ∙ sym (ap (stock_now s.stock) begun)
+
+    looked_same : looked_now r.run ≡ looked_now s.run
+    looked_same = ap looked_now run_then ∙ sym (ap looked_now begun)
+
+    under_then : IsUnder w.geometry good.running.cat (changed (nodes_under w.locks w.nodes) n (under_with t n r r.cmd)) w.blocks
+    under_then =
+        let u : UnderWay = under_with w.locks n s s.cmd in
+        let v = widens w.geometry good.running.cat (nodes_under w.locks w.nodes) w.blocks n u (under_here w.locks w.nodes n s at) good.running.drive (held_in PR (held_by t n r)) (held_in PW (held_by t n r))
+        (λ m h. strong_grows PR (held_by w.locks n s) (held_by t n r) m (omega arith) strong h) (λ m h. strong_grows PW (held_by w.locks n s) (held_by t n r) m (omega arith) strong h) in
+        let there : record u { read = held_in PR (held_by t n r); write = held_in PW (held_by t n r) } ≡ under_with t n r r.cmd
+        = λ i. record (at_any n s s.cmd (held_by t n r)) { seen = sym looked_same i ++ s.seen.blocks; stock = sym stock_same i } in
+        subst (λ (k : UnderWay). IsUnder w.geometry good.running.cat (changed (nodes_under w.locks w.nodes) n k) w.blocks) there v
+
+    pub claim_keeps : AreKept p r.kept → (Has (held_in CR s.kept) X → Has (held_in CR r.kept) X) → OwesLess s r → Spaces s.cmd r.kept r.claims r.run s.stock s.seen
+        → Good (altered w t w.blocks (set_node w.nodes n r) w.history)
+    claim_keeps keeps x_stays owes space = rebuilt w good n s r at t w.blocks w.history
+        (still_driven w good n s r at t w.blocks (λ part o low. refl) refl
+        (under_now w.geometry good.running.cat w.locks t w.nodes n s r w.blocks at (λ m y ne e. rows_stand_still w.locks t m (rows_of y) (λ ls i. claimed.took.others m ls ne)) under_then)
+        (opens_taken name n mode w.locks (open_now good.running.cat w.nodes) good.locked.0 far claimed.took.may not_cw good.running.opens))
+        (claimed.took.table, held_set t w.nodes n s r at (rows_twice t (rows_at w.nodes) n moved_rows (rows_of r) claimed.took.held)) good.own
+        (small_taken w good.small n s r at name (system_of n) mode w.blocks (lock_there w.locks n name claimed.took.may) owes)
+        (good.few n) (λ m ne. refl) (λ m y ne e ls i. goes_still w.locks t m ls (claimed.took.others m ls ne))
+        (stays_stocked s r refl stock_same x_stays (good.running.stocked n s at))
+        (space_node t w.blocks r refl refl refl (λ e. claimed.asked_still.waits ∙ e) keeps claimed.rests_then space)

@@ -1,0 +1,23 @@
+-- What a command searches for is counted.
+use Rattle.std.proofs.Common.{◌≡◌, ◌≤◌, ◌<◌, ◌+◌, ◌-◌, ◌*◌, ◌/◌, ℕ, Bool, true, false, Result, Ok, Err, sym, ap, ◌∙◌, arith}
+use Rattle.std.specs.Prelude.{OnErr}
+use Rattle.plain_vol.proofs.Usages.{product_le}
+use Rattle.plain_cat.specs.declared.command.Cmd.{Cmd}
+use Rattle.vol_parts.specs.declared.geometry.Geometry.{Geometry}
+use Rattle.vol_parts.specs.Parts.{IsGeometry}
+use Rattle.op_law.specs.Knows.{clusters_wanted, wants_number}
+use Rattle.core_step.specs.Ready.{WantsSpace}
+
+-- a file of at most 77 clusters has no more blocks than a volume
+pub blocks_fit : (b c k : ℕ) → 1 ≤ c → c ≤ 16 → (b + (c - 1)) / c ≡ k → k ≤ 77 → 65536 < b → ⊥
+blocks_fit b c k from to e few many =
+    let p : c * ((b + (c - 1)) / c) ≤ 1232 = product_le c ((b + (c - 1)) / c) to (omega arith) in
+    absurd (omega arith)
+
+-- a command that wants no clusters and no number searches for nothing
+pub wants_none : (g : Geometry) (x : Cmd) (k : ℕ) (b : Bool) → WantsSpace g x k b → (clusters_wanted g.cluster x ≡ 0) × (wants_number x ≡ false) → ⊥
+wants_none g x k b w z = w.some (sym w.clusters_are ∙ z.0, sym w.number_is ∙ z.1)
+
+pub always_err : {A E : Type 0} (r : Result A E) (P : Type 0) → P → OnErr r P
+always_err (Ok a) P p = tt
+always_err (Err e) P p = p

@@ -1,0 +1,17 @@
+use Rattle.std.proofs.Common.{refl, ap, arith, ◌∙◌, ◌<◌, ◌≤◌, length}
+use Rattle.core_state.specs.Worlds.{state_of, plain_of}
+use Rattle.core_state.proofs.Nodes.{told_at}
+use Rattle.core_state.specs.Events.{x_returned}
+use Rattle.core_step.proofs.Steps.{returned_so}
+use Rattle.core_step.proofs.Lists.{x_stands}
+use Rattle.core_step.proofs.claims.return_x.Goals as goal
+
+pub return_stocks-requires : goal.return_stocks-requires
+return_stocks-requires g c = record { lock = x_stands c.args.node _ c.args.core.now.locks c.lower_bitmaps.new.locks c.lower_bitmaps.ensures c.requires.stocks }
+
+pub keep_returned-requires : goal.keep_returned-requires
+keep_returned-requires g c = let few = c.requires.few (state_of g.O.Operation.cmd_is c.index_mut-at.result.now) (told_at (state_of g.O.Operation.cmd_is) c.args.core.now.nodes.items c.args.node c.index_mut-at.result.now c.requires.node.from c.requires.node.to c.index_mut-at.ensures.value) in record { kept = omega (arith, few) }
+
+pub returns-clause-world : goal.returns-clause-world
+returns-clause-world g c = returned_so (state_of g.O.Operation.cmd_is) c.args.core.now.nodes.items (plain_of g.O.Operation.cmd_is c.args.core.now) c.args.node c.index_mut-at.result.now c.keep_returned.new.node c.requires.node.from c.requires.node.to c.index_mut-at.ensures.value refl
+    c.return_stocks.new.locks (c.return_stocks.ensures ∙ ap (x_returned c.args.node) c.lower_bitmaps.ensures) c.keep_returned.ensures
