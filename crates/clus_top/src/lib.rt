@@ -21,6 +21,8 @@ mod channels;
 #[cfg(test)]
 mod deaths;
 #[cfg(test)]
+mod each_death;
+#[cfg(test)]
 mod each_write;
 #[cfg(test)]
 mod faults;
