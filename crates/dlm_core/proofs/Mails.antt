@@ -1,5 +1,5 @@
 -- Lists of messages and of waiters: what stands in them about one owner and one name.
-use Rattle.std.proofs.Common.{◌≡◌, ◌==◌, ◌&&◌, ◌||◌, ◌++◌, ℕ, Bool, true, false, not, List, [], ◌∷◌, Some, map, filter, find, refl, arith, cond, ap, ◌∙◌, if◌then◌else◌}
+use Rattle.std.proofs.Common.{◌≡◌, ◌==◌, ◌&&◌, ◌||◌, ◌++◌, ℕ, Bool, true, false, not, List, [], ◌∷◌, Some, map, filter, find, refl, arith, cond, ap, subst, ◌∙◌, if◌then◌else◌}
 use Rattle.std.specs.List.{list_all}
 use Rattle.std.proofs.lemmas.List.{map-append}
 use Rattle.std.proofs.lemmas.List.Elements.{filter-append}
@@ -10,9 +10,10 @@ use Rattle.lock_db.proofs.Lists.{and-left, and-right, and-both, list_all-head, l
 use Rattle.lock_db.proofs.Owners.{same_owner-same}
 use Rattle.lock_db.proofs.Names.{is_same-same}
 use Rattle.dlm_core.specs.declared.messages.Message.{Message}
-use Rattle.dlm_core.specs.States.{master, is_between, past_first}
-use Rattle.dlm_core.specs.Steps.{is_grant, same_truth}
-use Rattle.dlm_core.specs.Lanes.{is_about, is_kind, letters_of, is_addressed}
+use Rattle.dlm_core.specs.declared.messages.Letter.{Letter}
+use Rattle.dlm_core.specs.declared.messages.Letter.TheVariants.{Ask, Drop, Grant, Claim}
+use Rattle.dlm_core.specs.States.{State, master, is_between, past_first}
+use Rattle.dlm_core.specs.Lanes.{is_about, has_kind, is_kind, letters_of, goes_between, is_addressed}
 
 pub letters-append : (g : Bool) (o : Owner) (x : LockName) (ms ns : List Message) → letters_of g o x (ms ++ ns) ≡ letters_of g o x ms ++ letters_of g o x ns
 letters-append g o x ms ns =
@@ -63,62 +64,60 @@ past-all p r (k ∷ ks) e =
     (elim (p k) as (λ b. list_all r (if b then ks else k ∷ past_first p ks) ≡ true)
     [ true ↦ list_all-tail r k ks e | false ↦ and-both (r k) (list_all r (past_first p ks)) (list_all-head r k ks e) (past-all p r ks (list_all-tail r k ks e)) ])
 
--- from which node a letter about an owner and a name comes, and to which it goes
-abbrev pub from_of : ℕ → Bool → Owner → LockName → ℕ
-from_of n true o x = master n x
-from_of n false o x = o.node
+-- from which node a letter about an owner and a name comes, and to which it goes, by the master of the name
+abbrev pub from_of : ℕ → Bool → Owner → ℕ
+from_of at true o = at
+from_of at false o = o.node
 
-abbrev pub to_of : ℕ → Bool → Owner → LockName → ℕ
-to_of n true o x = o.node
-to_of n false o x = master n x
+abbrev pub to_of : ℕ → Bool → Owner → ℕ
+to_of at true o = o.node
+to_of at false o = at
 
 pub kind-owner : (g : Bool) (o : Owner) (x : LockName) (m : Message) → is_kind g o x m ≡ true → m.owner ≡ o
-kind-owner g o x m e = same_owner-same m.owner o (and-left (same_owner m.owner o) (is_same m.name x) (and-right (same_truth g (is_grant m.letter)) (is_about o x m) e))
+kind-owner g o x m e = same_owner-same m.owner o (and-left (same_owner m.owner o) (is_same m.name x) (and-right (has_kind g m.letter) (is_about o x m) e))
 
 pub kind-name : (g : Bool) (o : Owner) (x : LockName) (m : Message) → is_kind g o x m ≡ true → m.name ≡ x
-kind-name g o x m e = is_same-same m.name x (and-right (same_owner m.owner o) (is_same m.name x) (and-right (same_truth g (is_grant m.letter)) (is_about o x m) e))
+kind-name g o x m e = is_same-same m.name x (and-right (same_owner m.owner o) (is_same m.name x) (and-right (has_kind g m.letter) (is_about o x m) e))
 
-same_truth-same : (g b : Bool) → same_truth g b ≡ true → b ≡ g
-same_truth-same true b e = e
-same_truth-same false true e = cc
-same_truth-same false false e = refl
+pub kind-has : (g : Bool) (o : Owner) (x : LockName) (m : Message) → is_kind g o x m ≡ true → has_kind g m.letter ≡ true
+kind-has g o x m e = and-left (has_kind g m.letter) (is_about o x m) e
 
-pub kind-grant : (g : Bool) (o : Owner) (x : LockName) (m : Message) → is_kind g o x m ≡ true → is_grant m.letter ≡ g
-kind-grant g o x m e = same_truth-same g (is_grant m.letter) (and-left (same_truth g (is_grant m.letter)) (is_about o x m) e)
+between-at : (at : ℕ) (l : Letter) (g : Bool) (o : Owner) (m : Message) → m.owner ≡ o → has_kind g l ≡ true → goes_between l at m ≡ true → is_between (from_of at g o) (to_of at g o) m ≡ true
+between-at at (Ask w) true o m e k h = cc
+between-at at (Ask w) false o m e k h = subst (λ (z : Owner). ((m.from == z.node) && (m.to == at)) ≡ true) e h
+between-at at Drop true o m e k h = cc
+between-at at Drop false o m e k h = subst (λ (z : Owner). ((m.from == z.node) && (m.to == at)) ≡ true) e h
+between-at at (Grant w v) true o m e k h = subst (λ (z : Owner). ((m.from == at) && (m.to == z.node)) ≡ true) e h
+between-at at (Grant w v) false o m e k h = cc
+between-at at (Claim d) true o m e k h = cc
+between-at at (Claim d) false o m e k h = cc
 
-addressed-at : (n : ℕ) (g : Bool) (o : Owner) (x : LockName) (from to : ℕ) (isg : Bool) → isg ≡ g
-    → (if isg then (from == master n x) && (to == o.node) else ((from == o.node) && (to == master n x))) ≡ true
-    → ((from == from_of n g o x) && (to == to_of n g o x)) ≡ true
-addressed-at n true o x from to isg e h = rw e at h
-addressed-at n false o x from to isg e h = rw e at h
-
-pub addressed-between : (n : ℕ) (g : Bool) (o : Owner) (x : LockName) (m : Message) → is_addressed n m ≡ true → is_kind g o x m ≡ true
-    → is_between (from_of n g o x) (to_of n g o x) m ≡ true
-addressed-between n g o x m a e =
-    let own = kind-owner g o x m e in
-    let named = kind-name g o x m e in
-    addressed-at n g o x m.from m.to (is_grant m.letter) (kind-grant g o x m e) (rw (own, named) at a)
+pub addressed-between : (s : State) (g : Bool) (o : Owner) (x : LockName) (m : Message) → is_addressed s m ≡ true → is_kind g o x m ≡ true
+    → is_between (from_of (master x s) g o) (to_of (master x s) g o) m ≡ true
+addressed-between s g o x m a e =
+    let k : goes_between m.letter (master x s) m ≡ true = subst (λ (z : LockName). goes_between m.letter (master z s) m ≡ true) (kind-name g o x m e) a in
+    between-at (master x s) m.letter g o m (kind-owner g o x m e) (kind-has g o x m e) k
 
 -- two messages from one node to another
 between-two : (from to f t : ℕ) (m k : Message) → is_between from to m ≡ true → is_between f t m ≡ true → is_between f t k ≡ true → is_between from to k ≡ true
 between-two from to f t m k a b c = grind arith
 
-lets-weaker : (n : ℕ) (g : Bool) (o : Owner) (x : LockName) (from to : ℕ) (m : Message) → is_addressed n m ≡ true → is_kind g o x m ≡ true → is_between from to m ≡ true
-    → (k : Message) → is_addressed n k ≡ true → (not (is_kind g o x k) || is_between from to k) ≡ true
-lets-weaker n g o x from to m a e p k b =
+lets-weaker : (s : State) (g : Bool) (o : Owner) (x : LockName) (from to : ℕ) (m : Message) → is_addressed s m ≡ true → is_kind g o x m ≡ true → is_between from to m ≡ true
+    → (k : Message) → is_addressed s k ≡ true → (not (is_kind g o x k) || is_between from to k) ≡ true
+lets-weaker s g o x from to m a e p k b =
     (elim (is_kind g o x k) as (λ c. is_kind g o x k ≡ c → (not c || is_between from to k) ≡ true) [
-      | true ↦ λ h. between-two from to (from_of n g o x) (to_of n g o x) m k p (addressed-between n g o x m a e) (addressed-between n g o x k b h)
+      | true ↦ λ h. between-two from to (from_of (master x s) g o) (to_of (master x s) g o) m k p (addressed-between s g o x m a e) (addressed-between s g o x k b h)
       | false ↦ λ h. refl
     ]) refl
 
 -- the first message of a pair is the first of its lane
-pub letters-first : (n : ℕ) (g : Bool) (o : Owner) (x : LockName) (from to : ℕ) (ms : List Message) (m : Message) → list_all (is_addressed n) ms ≡ true
+pub letters-first : (s : State) (g : Bool) (o : Owner) (x : LockName) (from to : ℕ) (ms : List Message) (m : Message) → list_all (is_addressed s) ms ≡ true
     → find (is_between from to) ms ≡ Some m → is_kind g o x m ≡ true → letters_of g o x ms ≡ m.letter ∷ letters_of g o x (past_first (is_between from to) ms)
-letters-first n g o x from to ms m a f e =
-    let mine = list_all-find (is_addressed n) (is_between from to) ms m a f in
+letters-first s g o x from to ms m a f e =
+    let mine = list_all-find (is_addressed s) (is_between from to) ms m a f in
     let p = find-passes (is_between from to) ms m f in
     ap (map (λ (k : Message). k.letter)) (past-here (is_between from to) (is_kind g o x) ms m f e
-    (list_all-weaker (is_addressed n) (λ k. not (is_kind g o x k) || is_between from to k) ms (λ k b. lets-weaker n g o x from to m mine e p k b) a))
+    (list_all-weaker (is_addressed s) (λ k. not (is_kind g o x k) || is_between from to k) ms (λ k b. lets-weaker s g o x from to m mine e p k b) a))
 
 pub letters-past : (g : Bool) (o : Owner) (x : LockName) (from to : ℕ) (ms : List Message) (m : Message)
     → find (is_between from to) ms ≡ Some m → is_kind g o x m ≡ false → letters_of g o x (past_first (is_between from to) ms) ≡ letters_of g o x ms

@@ -9,8 +9,8 @@ use Rattle.lock_db.specs.declared.askers.Standing.TheVariants.{Granted, Converti
 use Rattle.lock_db.specs.declared.askers.Asker.{Asker}
 use Rattle.lock_db.specs.declared.resource.Resource.{Resource}
 use Rattle.lock_db.specs.Names.{same_owner}
-use Rattle.lock_db.specs.Queues.{held, wanted, is_queued, standing_so, with_standing, without, one_grant, granted_upto, settled, standing_of, lock_of, settled_mode, is_writing}
-use Rattle.lock_db.specs.Resources.{goes_at_once, first_standing, converts_at_once, written, conversion_writes, regranted, queued_up, mode_held, converted_of, released_of}
+use Rattle.lock_db.specs.Queues.{held, wanted, is_queued, standing_so, with_standing, without, one_grant, granted_upto, settled, standing_of, lock_of, settled_mode, mode_of, is_writing, queues}
+use Rattle.lock_db.specs.Resources.{is_used, goes_at_once, first_standing, converts_at_once, written, conversion_writes, regranted, queued_up, mode_held, converted_of, released_of}
 use Rattle.lock_db.specs.Tables.{resource_at, asked, converted, released, all_together, IsTable, converts_now}
 use Rattle.lock_db.specs.Laws.{LeavesOthers}
 use Rattle.lock_db.proofs.Lists.{find-push_no, find-filter, list_all-every}
@@ -18,13 +18,13 @@ use Rattle.lock_db.proofs.Owners.{same_owner-same}
 use Rattle.lock_db.proofs.Together.{all_together-filter, all_together-granted}
 use Rattle.lock_db.proofs.Heads.{one_grant-some}
 use Rattle.lock_db.proofs.Order.{vacated}
-use Rattle.lock_db.proofs.Places.{written-askers}
+use Rattle.lock_db.proofs.Places.{written-askers, used-asked, used-converted}
 use Rattle.lock_db.proofs.Steps.{IsSettled-at, HasLock-lock_of, converts-goes, lock-is, IsTable-asked, IsTable-converted}
 use Rattle.lock_db.proofs.Blocks.{asked-at, converted-at, released-at, asked-leaves, converted-leaves}
 use Rattle.lock_db.proofs.Standings.{grants-serve, requests-stand, conversions-stand}
 use Rattle.dlm_core.specs.declared.messages.Message.{Message}
 use Rattle.dlm_core.specs.Modes.{is_across, is_lowering, lowers, crosses}
-use Rattle.dlm_core.specs.Steps.{stands_as, ask_made}
+use Rattle.dlm_core.specs.Steps.{stands_as, ask_fits, ask_made, drop_made}
 use Rattle.dlm_core.specs.Lanes.{queued_as}
 use Rattle.dlm_core.proofs.Modes.{lowering-not_up, across-not}
 
@@ -72,14 +72,14 @@ standing-none None e = refl
 standing-none (Some a) e = cc
 
 -- a settle serves those who wait
-settled-serves : (owner : Owner) (xs : List Asker) → all_together xs ≡ true → Served (standing_of owner xs) (standing_of owner (settled xs))
+pub settled-serves : (owner : Owner) (xs : List Asker) → all_together xs ≡ true → Served (standing_of owner xs) (standing_of owner (settled xs))
 settled-serves owner xs t =
     (elim (standing_of owner xs) as (λ o. standing_of owner xs ≡ o → Served o (standing_of owner (settled xs))) [
       | None ↦ λ e. inl (ap (option_map (λ (a : Asker). a.standing)) (granted_upto-none (length xs) owner xs (standing-none (find (owned owner) xs) e)))
       | Some s ↦ λ e. (elim (grants-serve xs owner s t e) [ inl r ↦ inl r | inr r ↦ inr (s, refl, r.0, r.1) ])
     ]) refl
 
-served-from : (a b c : Option Standing) → b ≡ a → Served b c → Served a c
+pub served-from : (a b c : Option Standing) → b ≡ a → Served b c → Served a c
 served-from a b c e s = rw (← e) s
 
 -- what an asker of another owner is behind a change of one owner's place
@@ -97,12 +97,15 @@ standing-without : (owner other : Owner) (xs : List Asker) → same_owner other 
 standing-without owner other xs n = ap (option_map (λ (a : Asker). a.standing)) (find-without owner other xs n)
 
 -- others at a request
+pub asked-other : (x : LockName) (p o : Owner) (mode : Mode) (t : List Resource) → same_owner o p ≡ false → standing_of p (resource_at x (asked x o mode t)).askers ≡ standing_of p (resource_at x t).askers
+asked-other x p o mode t n =
+    let xs : List Asker = (resource_at x t).askers in
+    ap (λ (r : Resource). standing_of p r.askers) (asked-at x o mode t)
+    ∙ ap (option_map (λ (a : Asker). a.standing)) (find-push_no (owned p) xs (record { owner = o; standing = first_standing (goes_at_once o mode xs) mode }) n)
+
 pub asked-serves : (x : LockName) (p o : Owner) (mode : Mode) (t : List Resource) → same_owner o p ≡ false
     → Served (standing_of p (resource_at x t).askers) (standing_of p (resource_at x (asked x o mode t)).askers)
-asked-serves x p o mode t n =
-    let xs : List Asker = (resource_at x t).askers in
-    inl (ap (λ (r : Resource). standing_of p r.askers) (asked-at x o mode t)
-    ∙ ap (option_map (λ (a : Asker). a.standing)) (find-push_no (owned p) xs (record { owner = o; standing = first_standing (goes_at_once o mode xs) mode }) n))
+asked-serves x p o mode t n = inl (asked-other x p o mode t n)
 
 -- others at a conversion
 pub converted-serves : (x : LockName) (p o : Owner) (old mode : Mode) (value : List ℕ) (t : List Resource) → IsTable t → same_owner o p ≡ false
@@ -130,7 +133,7 @@ converted-serves x p o old mode value t tab n l c =
 suc-not : (n : ℕ) → (suc n == 0) ≡ false
 suc-not n = grind arith
 
-vacated-askers : (p : Owner) (r : Resource) → standing_of p (vacated r).askers ≡ standing_of p r.askers
+pub vacated-askers : (p : Owner) (r : Resource) → standing_of p (vacated r).askers ≡ standing_of p r.askers
 vacated-askers p r =
     (elim r.askers as (λ xs. standing_of p (vacated (record r { askers = xs })).askers ≡ standing_of p xs) [ [] ↦ refl | a ∷ xs ↦ rw (suc-not (length xs)) refl ])
 
@@ -202,9 +205,53 @@ conversion-made m old mode t tab l c =
           (conversions-stand m.name m.owner old mode m.value t tab l n) (λ e. rw (lock-is m.owner r old l) (converts-lower m.owner old mode r.askers e));
     }
 
+-- who has a lock of which no conversion is queued, or none, does not wait
+pub idle-queues : (o : Owner) (xs : List Asker) (lock : Option Mode) → standing_of o xs ≡ stands_as lock → queues o xs ≡ false
+idle-queues o xs None e = rw e refl
+idle-queues o xs (Some m) e = rw e refl
+
+pub fits-so : (m : Message) (mode : Mode) (lock : Option Mode) (t : List Resource) → standing_of m.owner (resource_at m.name t).askers ≡ stands_as lock → crosses lock mode ≡ false → ask_fits m.owner m.name lock mode t ≡ true
+fits-so m mode lock t e c = rw (idle-queues m.owner (resource_at m.name t).askers lock e, c) refl
+
 pub ask-made : (m : Message) (mode : Mode) (lock : Option Mode) (t : List Resource) → IsTable t → standing_of m.owner (resource_at m.name t).askers ≡ stands_as lock → crosses lock mode ≡ false
-    → Made m mode lock t (ask_made m mode t)
-ask-made m mode None t tab e c = let k = can-mode None (standing_of m.owner (resource_at m.name t).askers) e in rw k (request-made m mode t tab e)
-ask-made m mode (Some old) t tab e c =
-    let k = can-mode (Some old) (standing_of m.owner (resource_at m.name t).askers) e in
-    rw k (conversion-made m old mode t tab (can-lock (Some old) (standing_of m.owner (resource_at m.name t).askers) e) c)
+    → Made m mode lock t (ask_made m lock mode t)
+ask-made m mode None t tab e c = rw (fits-so m mode None t e c) (request-made m mode t tab e)
+ask-made m mode (Some old) t tab e c = rw (fits-so m mode (Some old) t e c) (conversion-made m old mode t tab (can-lock (Some old) (standing_of m.owner (resource_at m.name t).askers) e) c)
+
+pub drop-is : (m : Message) (k : Mode) (t : List Resource) → standing_of m.owner (resource_at m.name t).askers ≡ stands_as (Some k) → drop_made m (Some k) t ≡ released m.name m.owner m.value t
+drop-is m k t e = rw (idle-queues m.owner (resource_at m.name t).askers (Some k) e) refl
+
+-- who asks stands there then
+queues-some : (o : Owner) (xs : List Asker) → queues o xs ≡ true → not (length xs == 0) ≡ true
+queues-some o [] e = cc
+queues-some o (a ∷ rest) e = ap not (suc-not (length rest))
+
+mode-some : (o : Owner) (xs : List Asker) (k : Mode) → mode_of o xs ≡ Some k → not (length xs == 0) ≡ true
+mode-some o [] k e = cc
+mode-some o (a ∷ rest) k e = ap not (suc-not (length rest))
+
+idle-lock : (o : Owner) (xs : List Asker) (k : Mode) → queues o xs ≡ false → mode_of o xs ≡ Some k → lock_of o xs ≡ Some k
+idle-lock o xs k q e =
+    (elim (standing_of o xs) as (λ f. unwrap_or (option_map is_queued f) false ≡ false → option_and_then held f ≡ Some k → option_and_then settled_mode f ≡ Some k) [
+      | None ↦ λ a b. cc
+      | Some (Granted m) ↦ λ a b. b
+      | Some (Converting m n) ↦ λ a b. cc
+      | Some (Waiting m) ↦ λ a b. cc
+    ]) q e
+
+used-made : (m : Message) (old : Option Mode) (mode : Mode) (t : List Resource) (q c : Bool) → queues m.owner (resource_at m.name t).askers ≡ q → crosses old mode ≡ c → mode_of m.owner (resource_at m.name t).askers ≡ old
+    → is_used (resource_at m.name (ask_made m old mode t)) ≡ true
+used-made m old mode t true c qe ce o = rw qe (queues-some m.owner (resource_at m.name t).askers qe)
+used-made m None mode t false true qe ce o = cc
+used-made m (Some k) mode t false true qe ce o = rw (qe, ce) (mode-some m.owner (resource_at m.name t).askers k o)
+used-made m None mode t false false qe ce o =
+    let is : ask_made m None mode t ≡ asked m.name m.owner mode t = rw qe refl in
+    ap is_used (ap (resource_at m.name) is ∙ asked-at m.name m.owner mode t) ∙ used-asked m.owner mode (resource_at m.name t)
+used-made m (Some k) mode t false false qe ce o =
+    let l : lock_of m.owner (resource_at m.name t).askers ≡ Some k = idle-lock m.owner (resource_at m.name t).askers k qe o in
+    let some : IsSome (lock_of m.owner (resource_at m.name t).askers) = rw l refl in
+    let is : ask_made m (Some k) mode t ≡ converted m.name m.owner mode m.value t = rw (qe, ce) refl in
+    ap is_used (ap (resource_at m.name) is ∙ converted-at m.name m.owner mode m.value t some) ∙ used-converted m.owner mode m.value (resource_at m.name t) some
+
+pub used_made : (m : Message) (old : Option Mode) (mode : Mode) (t : List Resource) → old ≡ mode_of m.owner (resource_at m.name t).askers → is_used (resource_at m.name (ask_made m old mode t)) ≡ true
+used_made m old mode t e = used-made m old mode t (queues m.owner (resource_at m.name t).askers) (crosses old mode) refl refl (sym e)

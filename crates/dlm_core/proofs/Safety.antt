@@ -1,5 +1,5 @@
 -- What two owners believe of one name goes together.
-use Rattle.std.proofs.Common.{◌≡◌, ◌≢◌, ◌||◌, true, false, List, [], ◌∷◌, Option, Some, None, find, refl, ap, sym, ◌∙◌, if◌then◌else◌, option_and_then, option_map}
+use Rattle.std.proofs.Common.{◌≡◌, ◌≢◌, ◌||◌, ℕ, true, false, List, [], ◌∷◌, Option, Some, None, find, refl, ap, sym, ◌∙◌, if◌then◌else◌, option_and_then, option_map}
 use Rattle.plain_cat.specs.declared.mode.Mode.{Mode}
 use Rattle.plain_cat.specs.Modes.{compatible_modes}
 use Rattle.lock_db.specs.declared.name.LockName.{LockName}
@@ -15,12 +15,12 @@ use Rattle.lock_db.proofs.Owners.{same_owner-same}
 use Rattle.lock_db.proofs.Together.{lets, goes-held}
 use Rattle.lock_db.proofs.Steps.{IsSettled-at}
 use Rattle.dlm_core.specs.declared.messages.Letter.{Letter}
-use Rattle.dlm_core.specs.declared.messages.Letter.TheVariants.{Ask, Drop, Grant}
+use Rattle.dlm_core.specs.declared.messages.Letter.TheVariants.{Ask, Drop, Grant, Claim}
 use Rattle.dlm_core.specs.declared.queue.Waiter.{Waiter}
 use Rattle.dlm_core.specs.Modes.{is_lowering}
-use Rattle.dlm_core.specs.States.{State, master, told_at, table_at, hold_at}
+use Rattle.dlm_core.specs.States.{State, home, recovery, told_at, table_at, hold_at}
 use Rattle.dlm_core.specs.Steps.{stands_as}
-use Rattle.dlm_core.specs.Lanes.{IsLane, lowered, raises, IsSound, BeliefsGoTogether}
+use Rattle.dlm_core.specs.Lanes.{IsLane, LaneOf, lowered, raises, IsSound, BeliefsGoTogether}
 use Rattle.dlm_core.specs.Lanes.IsLane.{Sends, Stands, Comes}
 use Rattle.dlm_core.proofs.Modes.{lowering-goes, raise-goes}
 
@@ -46,6 +46,7 @@ lowered-under (Some k) (Ask w ∷ ls) b e =
     [ true ↦ λ d g. under-lower k w b d (lowered-under (Some w) ls b g) | false ↦ λ d g. cc ]) refl e
 lowered-under (Some k) (Drop ∷ ls) b e = let u = lowered-under None ls b e in let n : None ≡ Some u.mode = u.has in cc
 lowered-under (Some k) (Grant w v ∷ ls) b e = cc
+lowered-under (Some k) (Claim d ∷ ls) b e = cc
 
 held-stands : (lock : Option Mode) → option_and_then held (stands_as lock) ≡ lock
 held-stands None = refl
@@ -81,12 +82,23 @@ granted-together a b m n xs t d e f =
       | false ↦ λ h z. ap (goes_beside m) (sym q.holds) ∙ z
     ]) refl k
 
-pub sound-safe : (s : State) → IsSound s → BeliefsGoTogether s
-sound-safe s i a b x m n d e f =
-    let xs : List Asker = (told_at x s).askers in
-    let u = lane-under a x (standing_of a xs) _ _ _ (hold_at a x s.holds).belief _ m (i.lanes a x) e in
-    let v = lane-under b x (standing_of b xs) _ _ _ (hold_at b x s.holds).belief _ n (i.lanes b x) f in
-    let g = granted-together a b u.mode v.mode xs (IsSettled-at x (table_at (master s.nodes x) s.tables) (i.tables_are (master s.nodes x))).together d u.has v.has in
-    let one : compatible_modes m v.mode ≡ true = u.under (Some v.mode) g in
+-- two modes of which each goes wherever its lock goes
+both-under : (m n : Mode) (g h : Option Mode) (u : IsUnder m g) (v : IsUnder n h) → compatible_modes u.mode v.mode ≡ true → compatible_modes m n ≡ true
+both-under m n g h u v c =
+    let one : compatible_modes m v.mode ≡ true = u.under (Some v.mode) c in
     let two : compatible_modes v.mode m ≡ true = compatible_modes-comm v.mode m ∙ one in
     compatible_modes-comm m n ∙ v.under (Some m) two
+
+name-safe : (r : Option ℕ) (s : State) (a b : Owner) (x : LockName) (m n : Mode) → IsSound s → a ≢ b → (hold_at a x s.holds).belief ≡ Some m → (hold_at b x s.holds).belief ≡ Some n → LaneOf r a x s → LaneOf r b x s → compatible_modes m n ≡ true
+name-safe None s a b x m n i d e f l k =
+    let xs : List Asker = (told_at x s).askers in
+    let u = lane-under a x (standing_of a xs) _ _ _ (hold_at a x s.holds).belief _ m l e in
+    let v = lane-under b x (standing_of b xs) _ _ _ (hold_at b x s.holds).belief _ n k f in
+    both-under m n _ _ u v (granted-together a b u.mode v.mode xs (IsSettled-at x (table_at (home s.nodes x) s.tables) (i.tables_are (home s.nodes x))).together d u.has v.has)
+name-safe (Some q) s a b x m n i d e f l k =
+    let u = lane-under a x (stands_as (hold_at a x s.claims).belief) _ _ _ (hold_at a x s.holds).belief _ m l.lane e in
+    let v = lane-under b x (stands_as (hold_at b x s.claims).belief) _ _ _ (hold_at b x s.holds).belief _ n k.lane f in
+    both-under m n _ _ u v (i.claimed_together a b x u.mode v.mode d (sym (held-stands (hold_at a x s.claims).belief) ∙ u.has) (sym (held-stands (hold_at b x s.claims).belief) ∙ v.has))
+
+pub sound-safe : (s : State) → IsSound s → BeliefsGoTogether s
+sound-safe s i a b x m n d e f = name-safe (recovery x s) s a b x m n i d e f (i.lanes a x) (i.lanes b x)

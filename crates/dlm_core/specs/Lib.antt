@@ -1,5 +1,9 @@
+pub mod Deaths
+pub mod Events
 pub mod Lanes
 pub mod Modes
+pub mod Recoveries
+pub mod Restored
 pub mod Runs
 pub mod States
 pub mod Steps

@@ -4,6 +4,8 @@ use Rattle.plain_cat.specs.declared.mode.Mode.{Mode}
 use Rattle.plain_cat.specs.declared.mode.Mode.TheVariants.{CW, PR}
 use Rattle.plain_cat.specs.Modes.{rank}
 use Rattle.lock_db.specs.Queues.{is_writing}
+use Rattle.dlm_core.specs.declared.messages.Letter.{Letter}
+use Rattle.dlm_core.specs.declared.messages.Letter.TheVariants.{Ask, Drop, Grant, Claim}
 
 -- CW and PR: neither goes wherever the other goes
 abbrev pub is_across : Mode → Mode → Bool
@@ -25,3 +27,11 @@ lowers (Some old) new = is_lowering old new
 abbrev pub crosses : Option Mode → Mode → Bool
 crosses None new = false
 crosses (Some old) new = is_across old new
+
+-- a call of an owner that has this lock writes the value block
+abbrev pub writes : Option Mode → Letter → Bool
+writes None l = false
+writes (Some old) (Ask new) = is_writing old && is_lowering old new
+writes (Some old) Drop = is_writing old
+writes (Some old) (Grant new valid) = false
+writes (Some old) (Claim node) = false

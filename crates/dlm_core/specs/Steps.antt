@@ -1,46 +1,82 @@
--- What each event makes of the state, and what it answers.
-use Rattle.std.specs.Prelude.{◌≡◌, ◌≤◌, length, IsSome, ◌&&◌, not, ℕ, ◌-◌, Bool, true, false, List, [], ◌∷◌, ◌++◌, Option, Some, None, filter, find, map, if◌then◌else◌, replicate, is_some, set}
+-- What a call makes of the node that sends it and of its master.
+use Rattle.std.specs.Prelude.{◌&&◌, ◌||◌, not, nat_lt, ℕ, ◌+◌, ◌-◌, Bool, true, false, List, [], ◌∷◌, ◌++◌, Option, Some, None, filter, map, if◌then◌else◌, replicate, is_some, set}
+use Rattle.std.specs.List.{list_any}
 use Rattle.plain_cat.specs.declared.mode.Mode.{Mode}
 use Rattle.lock_db.specs.declared.name.LockName.{LockName}
 use Rattle.lock_db.specs.declared.name.Owner.{Owner}
 use Rattle.lock_db.specs.declared.askers.Standing.{Standing}
 use Rattle.lock_db.specs.declared.askers.Standing.TheVariants.{Granted}
 use Rattle.lock_db.specs.declared.resource.Resource.{Resource}
-use Rattle.lock_db.specs.Names.{is_same}
+use Rattle.lock_db.specs.Names.{is_same, is_before}
 use Rattle.lock_db.specs.Queues.{queues, mode_of, standing_of}
 use Rattle.lock_db.specs.Tables.{resource_at, asked, converted, released}
 use Rattle.dlm_core.specs.declared.messages.Letter.{Letter}
-use Rattle.dlm_core.specs.declared.messages.Letter.TheVariants.{Ask, Drop, Grant}
+use Rattle.dlm_core.specs.declared.messages.Letter.TheVariants.{Ask, Drop, Grant, Claim}
 use Rattle.dlm_core.specs.declared.messages.Message.{Message}
 use Rattle.dlm_core.specs.declared.holds.Hold.{Hold}
+use Rattle.dlm_core.specs.declared.blocks.Block.{Block}
+use Rattle.dlm_core.specs.declared.blocks.Version.{Version}
 use Rattle.dlm_core.specs.declared.queue.Waiter.{Waiter}
-use Rattle.dlm_core.specs.declared.events.Event.{Event}
-use Rattle.dlm_core.specs.declared.events.Event.TheVariants as event
 use Rattle.dlm_core.specs.declared.events.Told.{Told}
 use Rattle.dlm_core.specs.declared.events.Told.TheVariants as told
-use Rattle.dlm_core.specs.Modes.{lowers, crosses}
-use Rattle.dlm_core.specs.States.{State, master, table_at, is_between, past_first, hold_at, noted, asked_hold}
+use Rattle.dlm_core.specs.Modes.{lowers, crosses, writes}
+use Rattle.dlm_core.specs.States.{State, home, master, table_at, told_at, put_before, in_turn, noted, asked_hold, block_at, noted_block, version_at, noted_version}
 
 -- a lock of which no conversion is queued, or none
 abbrev pub stands_as : Option Mode → Option Standing
 stands_as None = None
 stands_as (Some m) = Some (Granted m)
 
--- a grant, and not a call
+-- a grant
 abbrev pub is_grant : Letter → Bool
 is_grant (Ask mode) = false
 is_grant Drop = false
 is_grant (Grant mode valid) = true
+is_grant (Claim node) = false
 
--- a message to the master of a name
-abbrev pub call_to : ℕ → Owner → LockName → Letter → ℕ → Message
-call_to nodes owner name letter fill =
-    record { from = owner.node; to = master nodes name; owner = owner; name = name; letter = letter; value = replicate 16 fill }
+-- an ask or a drop
+abbrev pub is_call : Letter → Bool
+is_call (Ask mode) = true
+is_call Drop = true
+is_call (Grant mode valid) = false
+is_call (Claim node) = false
+
+-- The version of what a node writes: one more than that of the value block that it last read or wrote. There are 2 to the power
+-- of 64 versions, and the last one stays.
+abbrev pub next_version : ℕ → ℕ
+next_version v = if nat_lt v 18446744073709551615 then v + 1 else v
+
+-- the version that a call carries: 0, where it does not write
+abbrev pub version_of : Owner → LockName → Option Mode → Letter → State → ℕ
+version_of owner name old letter s =
+    if writes old letter then next_version (block_at owner.node name s.blocks).version else 0
+
+-- a message to the master of a name, from an owner that believes this lock
+abbrev pub call_to : Owner → LockName → Option Mode → Letter → ℕ → State → Message
+call_to owner name old letter fill s = record {
+  from = owner.node;
+  to = master name s;
+  owner = owner;
+  name = name;
+  letter = letter;
+  value = replicate 16 fill;
+  version = version_of owner name old letter s;
+}
+
+-- what the node has last read or written then
+abbrev pub blocks_after : Owner → LockName → Option Mode → Letter → ℕ → State → List Block
+blocks_after owner name old letter fill s =
+    if writes old letter
+    then noted_block (record { node = owner.node; name = name; value = replicate 16 fill; version = version_of owner name old letter s }) s.blocks
+    else s.blocks
 
 -- what an owner believes is noted, and its message is sent
-abbrev pub called : Hold → Letter → ℕ → State → State
-called h letter fill s =
-    record s { mail = s.mail ++ (call_to s.nodes h.owner h.name letter fill ∷ []); holds = noted h s.holds }
+abbrev pub called : Option Mode → Hold → Letter → ℕ → State → State
+called old h letter fill s = record s {
+  mail = s.mail ++ (call_to h.owner h.name old letter fill s ∷ []);
+  holds = noted h s.holds;
+  blocks = blocks_after h.owner h.name old letter fill s;
+}
 
 -- An owner asks. While it waits it may not. A lowering is believed at once, and anything else is waited for.
 abbrev pub ask_told : Hold → Mode → Told
@@ -48,7 +84,7 @@ ask_told h mode = if is_some h.wait then told.Busy else if crosses h.belief mode
 
 abbrev pub ask_after : Hold → Mode → ℕ → State → State
 ask_after h mode fill s =
-    if is_some h.wait then s else if crosses h.belief mode then s else called (asked_hold h mode) (Ask mode) fill s
+    if is_some h.wait then s else if crosses h.belief mode then s else called h.belief (asked_hold h mode) (Ask mode) fill s
 
 -- an owner gives up its lock: it believes at once that it has none
 abbrev pub drop_told : Hold → Told
@@ -56,104 +92,90 @@ drop_told h = if is_some h.wait then told.Busy else if is_some h.belief then tol
 
 abbrev pub drop_after : Hold → ℕ → State → State
 drop_after h fill s =
-    if is_some h.wait then s else if is_some h.belief then called (record h { belief = None }) Drop fill s else s
+    if is_some h.wait then s else if is_some h.belief then called h.belief (record h { belief = None }) Drop fill s else s
 
--- an ask on this name does not wait any more
-abbrev pub is_served : LockName → List Resource → Waiter → Bool
-is_served name t w = is_same w.name name && not (queues w.owner (resource_at name t).askers)
+-- an ask that waits at its master is not queued any more
+abbrev pub is_served : State → Waiter → Bool
+is_served s w = not (queues w.owner (told_at w.name s).askers)
 
--- the message of a grant, with the value block and its mark
-abbrev pub grant_of : ℕ → Resource → Waiter → Message
-grant_of from r w =
-    record { from = from; to = w.owner.node; owner = w.owner; name = w.name; letter = Grant w.mode r.valid; value = r.value }
-
--- whether two truth values are one
-abbrev pub same_truth : Bool → Bool → Bool
-same_truth true b = b
-same_truth false b = not b
-
--- the grants to those on a name that do not wait any more: of the conversions, or of the requests
-abbrev pub gets_grant : LockName → List Resource → Bool → Waiter → Bool
-gets_grant name t converts w = is_served name t w && same_truth converts w.converts
-
-abbrev pub grants_of : ℕ → LockName → List Resource → Bool → List Waiter → List Message
-grants_of from name t converts q = map (grant_of from (resource_at name t)) (filter (gets_grant name t converts) q)
-
--- those that still wait
-abbrev pub is_left : LockName → List Resource → Waiter → Bool
-is_left name t w = not (is_served name t w)
-
-abbrev pub left_of : LockName → List Resource → List Waiter → List Waiter
-left_of name t q = filter (is_left name t) q
-
--- A master has made a call on a name, which has left its table so: the grants are sent, conversions first, each in order of
--- asking.
-abbrev pub served : ℕ → LockName → List Resource → State → State
-served from name t s = record s {
-  tables = set s.tables (from - 1) t;
-  mail = s.mail ++ (grants_of from name t true s.queue ++ grants_of from name t false s.queue);
-  queue = left_of name t s.queue;
+-- the message of a grant, with the value block, its mark and its version
+abbrev pub grant_of : State → Waiter → Message
+grant_of s w = record {
+  from = master w.name s;
+  to = w.owner.node;
+  owner = w.owner;
+  name = w.name;
+  letter = Grant w.mode (told_at w.name s).valid;
+  value = (told_at w.name s).value;
+  version = version_at w.name s.versions;
 }
 
--- An ask that is taken: a conversion where the owner has a lock, else a request. Whoever asks for more than it has waits until it
--- is granted.
-abbrev pub ask_made : Message → Mode → List Resource → List Resource
-ask_made m mode t =
-    if is_some (mode_of m.owner (resource_at m.name t).askers) then converted m.name m.owner mode m.value t else asked m.name m.owner mode t
+-- grants to those that do not wait any more, in order of the queue
+abbrev pub grants_of : State → List Waiter → List Message
+grants_of s q = map (grant_of s) (filter (is_served s) q)
 
-abbrev pub put_last : Message → Mode → Option Mode → List Waiter → List Waiter
-put_last m mode old q =
-    if lowers old mode then q else q ++ (record { owner = m.owner; name = m.name; mode = mode; converts = is_some old } ∷ [])
+-- the tables have changed: the grants are sent
+abbrev pub served : State → State
+served s = record s { mail = s.mail ++ grants_of s s.queue; queue = filter (λ w. not (is_served s w)) s.queue }
 
-abbrev pub ask_taken : Message → Mode → List Resource → State → State
-ask_taken m mode t s =
-    served m.to m.name (ask_made m mode t) (record s { queue = put_last m mode (mode_of m.owner (resource_at m.name t).askers) s.queue })
+-- who stands in front of others: whose name comes first, and on one name a conversion in front of a request
+abbrev pub goes_before : Waiter → Waiter → Bool
+goes_before a b = is_before a.name b.name || (is_same a.name b.name && (a.converts && not b.converts))
 
--- the owner stands so that its master can take a call: it has a lock of which no conversion is queued, or none
-abbrev pub Fits : Option Mode → Letter → Type 0
-Fits lock (Ask mode) = crosses lock mode ≡ false
-Fits lock Drop = IsSome lock
-Fits lock (Grant mode valid) = Unit {0}
+-- An ask that is taken: a conversion where the owner has a lock, else a request. It is taken only where the owner does not wait, and
+-- a conversion only where it is not between CW and PR. Whoever asks for more than it has waits until it is granted.
+abbrev pub ask_fits : Owner → LockName → Option Mode → Mode → List Resource → Bool
+ask_fits owner name old mode t = not (queues owner (resource_at name t).askers) && not (crosses old mode)
 
-pub record CanTake (m : Message) (letter : Letter) (t : List Resource) : Type 0 where
-  pub lock : Option Mode
-  pub stands : standing_of m.owner (resource_at m.name t).askers ≡ stands_as lock
-  pub fits : Fits lock letter
+abbrev pub ask_made : Message → Option Mode → Mode → List Resource → List Resource
+ask_made m old mode t =
+    if ask_fits m.owner m.name old mode t
+    then (if is_some old then converted m.name m.owner mode m.value t else asked m.name m.owner mode t)
+    else t
 
--- the node that gets a message can take it
-pub record IsTakeable (m : Message) (s : State) : Type 0 where
-  pub node : (is_grant m.letter ≡ false) → 1 ≤ m.to
-  pub table : (is_grant m.letter ≡ false) → m.to ≤ length s.tables
-  pub owner : (is_grant m.letter ≡ false) → CanTake m m.letter (table_at m.to s.tables)
+abbrev pub put_last : Message → Option Mode → Mode → List Waiter → List Waiter
+put_last m old mode q =
+    if lowers old mode then q else put_before (goes_before (record { owner = m.owner; name = m.name; mode = mode; converts = is_some old })) (record { owner = m.owner; name = m.name; mode = mode; converts = is_some old }) q
 
--- what its first message makes of the node that gets it
-abbrev pub taken : Message → Letter → State → State
-taken m (Ask mode) s = ask_taken m mode (table_at m.to s.tables) s
-taken m Drop s = served m.to m.name (released m.name m.owner m.value (table_at m.to s.tables)) s
-taken m (Grant mode valid) s = record s { holds = noted (record { owner = m.owner; name = m.name; belief = Some mode; wait = None }) s.holds }
+-- a drop that is taken: a release, where the owner has a lock of which no conversion is queued
+abbrev pub drop_made : Message → Option Mode → List Resource → List Resource
+drop_made m old t =
+    if not (queues m.owner (resource_at m.name t).askers) && is_some old then released m.name m.owner m.value t else t
 
-abbrev pub taken_told : Message → Letter → Told
-taken_told m (Ask mode) = told.Done
-taken_told m Drop = told.Done
-taken_told m (Grant mode valid) = told.Granted m.owner m.name mode m.value valid
+-- somebody whose belief on a name is noted has a lock or a request at its master
+abbrev pub stands_there : LockName → List Resource → Hold → Bool
+stands_there name t h = is_same h.name name && is_some (standing_of h.owner (resource_at name t).askers)
 
--- the first message of a pair is delivered
-abbrev pub pass_told : Option Message → Told
-pass_told None = told.Nothing
-pass_told (Some m) = taken_told m m.letter
+-- The version of a name's value block after a call: that of the message, where it writes, and none, where the name is new.
+abbrev pub versions_after : Message → Option Mode → List Resource → List Hold → List Version → List Version
+versions_after m old t hs vs =
+    if writes old m.letter then noted_version m.name m.version vs
+    else if list_any (stands_there m.name t) hs then vs
+    else noted_version m.name 0 vs
 
-abbrev pub pass_after : ℕ → ℕ → Option Message → State → State
-pass_after from to None s = s
-pass_after from to (Some m) s = taken m m.letter (record s { mail = past_first (is_between from to) s.mail })
+-- the table of a home becomes another
+abbrev pub with_table : LockName → List Resource → State → State
+with_table name t s = record s { tables = set s.tables (home s.nodes name - 1) t }
 
--- what an event answers
-abbrev pub told_of : Event → State → Told
-told_of (event.Ask owner name mode fill) s = ask_told (hold_at owner name s.holds) mode
-told_of (event.Drop owner name fill) s = drop_told (hold_at owner name s.holds)
-told_of (event.Pass from to) s = pass_told (find (is_between from to) s.mail)
+-- the master of a name takes an ask or a drop
+abbrev pub taken_from : Message → Letter → Option Mode → List Resource → State → State
+taken_from m (Ask mode) old t s =
+    served (with_table m.name (ask_made m old mode t) (record s { queue = put_last m old mode s.queue; versions = versions_after m old t s.holds s.versions }))
+taken_from m Drop old t s =
+    served (with_table m.name (drop_made m old t) (record s { versions = versions_after m old t s.holds s.versions }))
+taken_from m (Grant mode valid) old t s = s
+taken_from m (Claim node) old t s = s
 
--- the state after it
-abbrev pub after : Event → State → State
-after (event.Ask owner name mode fill) s = ask_after (hold_at owner name s.holds) mode fill s
-after (event.Drop owner name fill) s = drop_after (hold_at owner name s.holds) fill s
-after (event.Pass from to) s = pass_after from to (find (is_between from to) s.mail) s
+abbrev pub taken : Message → State → State
+taken m s = taken_from m m.letter (mode_of m.owner (told_at m.name s).askers) (table_at (home s.nodes m.name) s.tables) s
+
+-- it takes several, one after the other
+abbrev pub taken_all : List Message → State → State
+taken_all ms s = in_turn taken ms s
+
+-- an owner gets a grant
+abbrev pub granted : Message → Mode → State → State
+granted m mode s = record s {
+  holds = noted (record { owner = m.owner; name = m.name; belief = Some mode; wait = None }) s.holds;
+  blocks = noted_block (record { node = m.owner.node; name = m.name; value = m.value; version = m.version }) s.blocks;
+}

@@ -1,27 +1,40 @@
-//! The nodes' tables, the messages that are on their way, and what owners believe: each event as a change of them.
+//! The state of all nodes, and what an owner's own event makes of it.
 
-ghost use Rattle.std.specs.Prelude.{◌≡◌, ◌≤◌, ◌+◌, ◌-◌, Some, None, [], length, OnOk, IfOk, find, replicate, get_or, set};
-ghost use Rattle.dlm_core.specs.States.{State, start, is_between, hold_at, asked_hold, table_at, noted};
-ghost use Rattle.dlm_core.specs.Steps.{called, ask_told, ask_after, drop_told, drop_after, served, ask_made, put_last, ask_taken, taken, taken_told, pass_told, pass_after, told_of, after, CanTake, IsTakeable};
-ghost use Rattle.dlm_core.specs.Lanes.{IsSound};
+ghost use Rattle.std.specs.Prelude.{◌≡◌, ◌≤◌, ◌+◌, ◌++◌, ◌∷◌, [], OnOk, IfOk, map, if◌then◌else◌, ◌==◌};
+ghost use Rattle.std.specs.List.{range_with_len, list_any};
+ghost use Rattle.dlm_core.specs.Modes.{writes};
+ghost use Rattle.dlm_core.specs.States.{State, IsShaped, start, own_home, home_at, home, lives, noted, noted_block};
+ghost use Rattle.dlm_core.specs.Steps.{version_of, call_to, blocks_after, called, ask_told, ask_after, drop_told, drop_after};
 
-use crate::events::{Event, Told};
-use crate::holds::{Hold, asked_hold, crosses, hold_at, lowers, note};
-use crate::masters::master;
-use crate::messages::{Letter, Message, take_first};
-use crate::queue::{Waiter, serve};
-use lock_db::{LockDb, LockName, Mode, NoMemory, Owner};
+use crate::blocks::{Block, Version, block_at, next_version, note_block};
+use crate::events::Told;
+use crate::holds::{Hold, asked_hold, crosses, note, writes};
+use crate::homes::{Awaited, Home};
+use crate::masters::home_of;
+use crate::messages::{Letter, Message};
+use crate::queue::Waiter;
+use crate::tables::{copy_tables, new_tables};
+use lock_db::{LockDb, LockName, Mode, NoMemory};
 use std::alloc::Global;
 use std::marker::Model;
 
 /// The whole state.
 #[derive(Drop)]
 pub(crate) struct Cluster {
-    nodes: u8,
-    tables: Vec<LockDb>,
-    mail: Vec<Message>,
-    queue: Vec<Waiter>,
-    holds: Vec<Hold>,
+    pub(crate) nodes: u8,
+    pub(crate) living: Vec<u8>,
+    pub(crate) homes: Vec<Home>,
+    pub(crate) tables: Vec<LockDb>,
+    pub(crate) versions: Vec<Version>,
+    pub(crate) mail: Vec<Message>,
+    pub(crate) queue: Vec<Waiter>,
+    pub(crate) holds: Vec<Hold>,
+    pub(crate) blocks: Vec<Block>,
+    pub(crate) recoveries: Vec<u8>,
+    pub(crate) awaited: Vec<Awaited>,
+    pub(crate) claims: Vec<Hold>,
+    pub(crate) claimed_blocks: Vec<Block>,
+    pub(crate) kept: Vec<Message>,
 }
 
 impl Model for Cluster {
@@ -31,77 +44,80 @@ impl Model for Cluster {
 
     ghost view = { λ c. record {
       nodes = c.nodes;
+      living = c.living.items;
+      homes = c.homes.items;
       tables = c.tables.items;
+      versions = c.versions.items;
       mail = c.mail.items;
       queue = c.queue.items;
       holds = c.holds.items;
+      blocks = c.blocks.items;
+      recoveries = c.recoveries.items;
+      awaited = c.awaited.items;
+      claims = c.claims.items;
+      claimed_blocks = c.claimed_blocks.items;
+      kept = c.kept.items;
     } };
 }
 
-/// As many tables as there are nodes.
-fn new_tables(alloc: Global, nodes: u8) -> Result<Vec<LockDb>, NoMemory>
-    ensures { IfOk result (λ t. t.items ≡ replicate nodes []) }
-{
-    let mut tables = Vec::new(alloc);
-    for _ in 0..nodes {
-        tables.push(LockDb::new(alloc)?)?;
-    }
-    Ok(tables)
-}
-
-fn copy_tables(alloc: Global, tables: &[LockDb]) -> Result<Vec<LockDb>, NoMemory>
-    ensures { IfOk result (λ t. t.items ≡ tables.now) }
+/// The numbers 1 to `nodes`.
+#[tactic(auto, using(crate::proofs::Placing::range_more))]
+fn numbers(alloc: Global, nodes: u8) -> Result<Vec<u8>, NoMemory>
+    ensures { IfOk result (λ n. n.items ≡ range_with_len 1 nodes) }
 {
     let mut all = Vec::new(alloc);
-    for t in tables {
-        all.push(t.copy(alloc)?)?;
+    for i in 0..nodes {
+        all.push(i + 1)?;
     }
     Ok(all)
 }
 
-/// The table takes an ask: a conversion where the owner has a lock, else a request.
-fn make_ask(alloc: Global, table: &mut LockDb, m: Message, mode: Mode) -> Result<(), NoMemory>
-    requires { CanTake m (Letter.Ask mode) table.old }
-    ensures { OnOk result (table.new ≡ ask_made m mode table.old) }
+/// Each home, its own master.
+fn own_homes(alloc: Global, nodes: &[u8]) -> Result<Vec<Home>, NoMemory>
+    ensures { IfOk result (λ h. h.items ≡ map own_home nodes.now) }
 {
-    if table.mode(m.name, m.owner).is_some() {
-        let _answer = table.convert(m.name, m.owner, mode, m.value);
-    } else {
-        let _answer = table.request(alloc, m.name, m.owner, mode)?;
-    }
-    Ok(())
-}
-
-/// Puts an ask for more than its owner has at the end of the queue.
-fn put_last(
-    queue: &mut Vec<Waiter>,
-    m: Message,
-    mode: Mode,
-    old: Option<Mode>,
-) -> Result<(), NoMemory>
-    ensures { OnOk result (queue.new.items ≡ put_last m mode old queue.old.items) }
-{
-    if !lowers(old, mode) {
-        queue.push(Waiter {
-            owner: m.owner,
-            name: m.name,
-            mode,
-            converts: old.is_some(),
+    let mut all = Vec::new(alloc);
+    for n in nodes {
+        all.push(Home {
+            master: *n,
+            recovers: None,
         })?;
     }
-    Ok(())
+    Ok(all)
+}
+
+fn is_among(node: u8, nodes: &[u8]) -> bool
+    ensures { result ≡ list_any (λ k. k == node) nodes.now }
+{
+    for k in nodes {
+        if *k == node {
+            return true;
+        }
+    }
+    false
 }
 
 impl Cluster {
     pub(crate) fn new(alloc: Global, nodes: u8) -> Result<Cluster, NoMemory>
         ensures { IfOk result (λ c. c ≡ start nodes) }
     {
+        let living = numbers(alloc, nodes)?;
+        let homes = own_homes(alloc, living.as_slice())?;
         Ok(Cluster {
             nodes,
+            living,
+            homes,
             tables: new_tables(alloc, nodes)?,
+            versions: Vec::new(alloc),
             mail: Vec::new(alloc),
             queue: Vec::new(alloc),
             holds: Vec::new(alloc),
+            blocks: Vec::new(alloc),
+            recoveries: Vec::new(alloc),
+            awaited: Vec::new(alloc),
+            claims: Vec::new(alloc),
+            claimed_blocks: Vec::new(alloc),
+            kept: Vec::new(alloc),
         })
     }
 
@@ -110,31 +126,116 @@ impl Cluster {
     {
         Ok(Cluster {
             nodes: self.nodes,
+            living: Vec::from_slice(alloc, self.living.as_slice())?,
+            homes: Vec::from_slice(alloc, self.homes.as_slice())?,
             tables: copy_tables(alloc, self.tables.as_slice())?,
+            versions: Vec::from_slice(alloc, self.versions.as_slice())?,
             mail: Vec::from_slice(alloc, self.mail.as_slice())?,
             queue: Vec::from_slice(alloc, self.queue.as_slice())?,
             holds: Vec::from_slice(alloc, self.holds.as_slice())?,
+            blocks: Vec::from_slice(alloc, self.blocks.as_slice())?,
+            recoveries: Vec::from_slice(alloc, self.recoveries.as_slice())?,
+            awaited: Vec::from_slice(alloc, self.awaited.as_slice())?,
+            claims: Vec::from_slice(alloc, self.claims.as_slice())?,
+            claimed_blocks: Vec::from_slice(alloc, self.claimed_blocks.as_slice())?,
+            kept: Vec::from_slice(alloc, self.kept.as_slice())?,
         })
     }
 
-    /// Notes what the owner believes from now on, and sends its call to the master of the name.
-    fn call(&mut self, hold: Hold, letter: Letter, fill: u8) -> Result<(), NoMemory>
-        requires { 1 ≤ self.old.nodes }
-        ensures { OnOk result (self.new ≡ called hold letter fill self.old) }
+    /// Whether a node lives.
+    pub(crate) fn lives(&self, node: u8) -> bool
+        ensures { result ≡ lives node self.now }
     {
-        note(&mut self.holds, hold)?;
-        self.mail.push(Message {
+        is_among(node, self.living.as_slice())
+    }
+
+    /// What stands of the home of a name.
+    pub(crate) fn home_of(&self, name: LockName) -> Home
+        requires { 1 ≤ self.now.nodes }
+        ensures { result ≡ home_at (home self.now.nodes name) self.now.homes }
+    {
+        home_of(self.homes.as_slice(), self.nodes, name)
+    }
+
+    fn version_of(&self, hold: Hold, old: Option<Mode>, letter: Letter) -> u64
+        ensures { result ≡ version_of hold.owner hold.name old letter self.now }
+    {
+        if writes(old, letter) {
+            next_version(block_at(self.blocks.as_slice(), hold.owner.node, hold.name).version)
+        } else {
+            0
+        }
+    }
+
+    /// The message to the master of a name, from an owner that believes a lock there.
+    fn call_to(&self, old: Option<Mode>, hold: Hold, letter: Letter, fill: u8) -> Message
+        requires { 1 ≤ self.now.nodes }
+        ensures { result ≡ call_to hold.owner hold.name old letter fill self.now }
+    {
+        let version = self.version_of(hold, old, letter);
+        let to = self.home_of(hold.name).master;
+        Message {
             from: hold.owner.node,
-            to: master(self.nodes, hold.name),
+            to,
             owner: hold.owner,
             name: hold.name,
             letter,
             value: [fill; 16],
-        })?;
+            version,
+        }
+    }
+
+    /// Notes what a node writes by a message, where it does.
+    fn note_write(&mut self, m: Message, old: Option<Mode>) -> Result<(), NoMemory>
+        ensures { OnOk result (self.new ≡ record self.old { blocks = if writes old m.letter then noted_block (record { node = m.owner.node; name = m.name; value = m.value; version = m.version }) self.old.blocks else self.old.blocks }) }
+    {
+        if writes(old, m.letter) {
+            let value = m.value;
+            note_block(
+                &mut self.blocks,
+                Block {
+                    node: m.owner.node,
+                    name: m.name,
+                    value,
+                    version: m.version,
+                },
+            )?;
+        }
         Ok(())
     }
 
-    fn ask(&mut self, hold: Hold, mode: Mode, fill: u8) -> Result<Told, NoMemory>
+    fn note_hold(&mut self, hold: Hold) -> Result<(), NoMemory>
+        ensures { OnOk result (self.new ≡ record self.old { holds = noted hold self.old.holds }) }
+    {
+        note(&mut self.holds, hold)
+    }
+
+    fn send(&mut self, m: Message) -> Result<(), NoMemory>
+        ensures { OnOk result (self.new ≡ record self.old { mail = self.old.mail ++ m ∷ [] }) }
+    {
+        self.mail.push(m)?;
+        Ok(())
+    }
+
+    /// Notes what the owner believes from now on, and sends its call to the master of the name.
+    fn call(
+        &mut self,
+        old: Option<Mode>,
+        hold: Hold,
+        letter: Letter,
+        fill: u8,
+    ) -> Result<(), NoMemory>
+        requires { 1 ≤ self.old.nodes }
+        ensures { OnOk result (self.new ≡ called old hold letter fill self.old) }
+    {
+        let m = self.call_to(old, hold, letter, fill);
+        self.note_write(m, old)?;
+        self.note_hold(hold)?;
+        self.send(m)?;
+        Ok(())
+    }
+
+    pub(crate) fn ask(&mut self, hold: Hold, mode: Mode, fill: u8) -> Result<Told, NoMemory>
         requires { 1 ≤ self.old.nodes }
         ensures after { OnOk result (self.new ≡ ask_after hold mode fill self.old) }
         ensures told { IfOk result (λ t. t ≡ ask_told hold mode) }
@@ -145,11 +246,11 @@ impl Cluster {
         if crosses(hold.belief, mode) {
             return Ok(Told::BadConvert);
         }
-        self.call(asked_hold(hold, mode), Letter::Ask(mode), fill)?;
+        self.call(hold.belief, asked_hold(hold, mode), Letter::Ask(mode), fill)?;
         Ok(Told::Done)
     }
 
-    fn drop_lock(&mut self, hold: Hold, fill: u8) -> Result<Told, NoMemory>
+    pub(crate) fn drop_lock(&mut self, hold: Hold, fill: u8) -> Result<Told, NoMemory>
         requires { 1 ≤ self.old.nodes }
         ensures after { OnOk result (self.new ≡ drop_after hold fill self.old) }
         ensures told { IfOk result (λ t. t ≡ drop_told hold) }
@@ -160,116 +261,11 @@ impl Cluster {
         if hold.belief.is_none() {
             return Ok(Told::NotHeld);
         }
-        let hold = Hold {
+        let left = Hold {
             belief: None,
             ..hold
         };
-        self.call(hold, Letter::Drop, fill)?;
+        self.call(hold.belief, left, Letter::Drop, fill)?;
         Ok(Told::Done)
-    }
-
-    /// The master of a name takes an ask.
-    fn take_ask(&mut self, alloc: Global, m: Message, mode: Mode) -> Result<(), NoMemory>
-        requires node { 1 ≤ m.to }
-        requires table { m.to ≤ length self.old.tables }
-        requires owner { CanTake m (Letter.Ask mode) (table_at m.to self.old.tables) }
-        ensures { OnOk result (self.new ≡ ask_taken m mode (table_at m.to self.old.tables) self.old) }
-    {
-        let table = &mut self.tables[m.to as usize - 1];
-        let old = table.mode(m.name, m.owner);
-        make_ask(alloc, table, m, mode)?;
-        put_last(&mut self.queue, m, mode, old)?;
-        serve(table, m.to, m.name, &mut self.queue, &mut self.mail)
-    }
-
-    /// The master of a name takes a drop.
-    fn take_drop(&mut self, m: Message) -> Result<(), NoMemory>
-        requires node { 1 ≤ m.to }
-        requires table { m.to ≤ length self.old.tables }
-        requires owner { CanTake m Letter.Drop (table_at m.to self.old.tables) }
-        ensures { OnOk result (self.new ≡ taken m Letter.Drop self.old) }
-    {
-        let table = &mut self.tables[m.to as usize - 1];
-        table.release(m.name, m.owner, m.value);
-        serve(table, m.to, m.name, &mut self.queue, &mut self.mail)
-    }
-
-    /// An owner gets a grant.
-    fn take_grant(&mut self, m: Message, mode: Mode) -> Result<(), NoMemory>
-        ensures { OnOk result (self.new
-            ≡ record self.old { holds = noted (record { owner = m.owner; name = m.name; belief = Some mode; wait = None }) self.old.holds }) }
-    {
-        note(
-            &mut self.holds,
-            Hold {
-                owner: m.owner,
-                name: m.name,
-                belief: Some(mode),
-                wait: None,
-            },
-        )
-    }
-
-    fn take(&mut self, alloc: Global, m: Message) -> Result<Told, NoMemory>
-        requires { IsTakeable m self.old }
-        ensures after { OnOk result (self.new ≡ taken m m.letter self.old) }
-        ensures told { IfOk result (λ t. t ≡ taken_told m m.letter) }
-    {
-        match m.letter {
-            Letter::Ask(mode) => {
-                self.take_ask(alloc, m, mode)?;
-                Ok(Told::Done)
-            }
-            Letter::Drop => {
-                self.take_drop(m)?;
-                Ok(Told::Done)
-            }
-            Letter::Grant(mode, valid) => {
-                self.take_grant(m, mode)?;
-                let value = m.value;
-                Ok(Told::Granted {
-                    owner: m.owner,
-                    name: m.name,
-                    mode,
-                    value,
-                    valid,
-                })
-            }
-        }
-    }
-
-    fn pass(&mut self, alloc: Global, from: u8, to: u8) -> Result<Told, NoMemory>
-        requires { IsSound self.old }
-        ensures after { OnOk result (self.new ≡ pass_after from to (find (is_between from to) self.old.mail) self.old) }
-        ensures told { IfOk result (λ t. t ≡ pass_told (find (is_between from to) self.old.mail)) }
-    {
-        match take_first(&mut self.mail, from, to) {
-            Some(m) => self.take(alloc, m),
-            None => Ok(Told::Nothing),
-        }
-    }
-
-    /// Plays an event.
-    pub(crate) fn act(&mut self, alloc: Global, event: Event) -> Result<Told, NoMemory>
-        requires { IsSound self.old }
-        ensures after { OnOk result (self.new ≡ after event self.old) }
-        ensures told { IfOk result (λ t. t ≡ told_of event self.old) }
-    {
-        match event {
-            Event::Ask {
-                owner,
-                name,
-                mode,
-                fill,
-            } => {
-                let hold = hold_at(&self.holds, owner, name);
-                self.ask(hold, mode, fill)
-            }
-            Event::Drop { owner, name, fill } => {
-                let hold = hold_at(&self.holds, owner, name);
-                self.drop_lock(hold, fill)
-            }
-            Event::Pass { from, to } => self.pass(alloc, from, to),
-        }
     }
 }

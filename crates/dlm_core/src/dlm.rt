@@ -2,7 +2,7 @@
 
 ghost use Rattle.std.specs.Prelude.{◌≡◌, ◌≤◌, OnErr, OnOk, IfOk};
 ghost use Rattle.dlm_core.specs.States.{start};
-ghost use Rattle.dlm_core.specs.Steps.{after, told_of};
+ghost use Rattle.dlm_core.specs.Events.{after, told_of};
 ghost use Rattle.dlm_core.specs.Lanes.{IsSound, BeliefsGoTogether};
 ghost use Rattle.dlm_core.specs.Runs.{GoesByCalls};
 
@@ -48,9 +48,8 @@ impl Dlm {
         })
     }
 
-    /// Plays an event, and answers as `Told` says. Where the event delivers an ask or a drop, the table of the master makes
-    /// the call that the message asks for, one that it may take, and all other tables stay; else all tables stay. The one
-    /// error is `NoMemory`, and after it nothing has changed.
+    /// Plays an event, and answers as `Told` says. The tables go by calls of the lock manager that they may take, by the
+    /// recovery of value blocks, and by what a death takes away. The one error is `NoMemory`, and after it nothing has changed.
     pub fn step(&mut self, alloc: Global, e: &Event) -> Result<Told, NoMemory>
         ensures after { OnOk result (self.new ≡ after e.now self.old) }
         ensures calls { OnOk result (GoesByCalls e.now self.old self.new) }

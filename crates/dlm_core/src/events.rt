@@ -1,8 +1,7 @@
 //! What happens to the core, and what it answers.
 //!
 //! The nodes of a core are 1 to n. An owner is a part of a node: part 0 is the node's file system, and 1 to 8 are its
-//! channels. No event is refused for a number outside these ranges: an owner of a node that is not there is served like
-//! any other.
+//! channels. A node outside that range does not live, and no part is refused.
 
 use lock_db::{LockName, Mode, Owner};
 
@@ -39,11 +38,18 @@ pub enum Event {
         /// The node that gets it, 1 to n.
         to: u8,
     },
+    /// A node dies. All messages from it and to it are lost.
+    Kill {
+        /// The node, 1 to n.
+        node: u8,
+    },
 }
 
-/// What a step answers: of what fits an event, the first in this order. The first four change nothing.
+/// What a step answers: of what fits an event, the first in this order. The first five change nothing.
 #[derive(Clone, Copy, Debug, PartialEq)]
 pub enum Told {
+    /// The event names a node that does not live.
+    Dead,
     /// An Ask or a Drop, and an earlier ask of the owner on this name is not granted yet.
     Busy,
     /// A Drop, and the owner, which does not wait, believes no lock there.
@@ -65,6 +71,6 @@ pub enum Told {
         /// Whether it was valid then.
         valid: bool,
     },
-    /// An Ask or a Drop whose message is sent, or a Pass that has delivered an ask or a drop to its master.
+    /// An Ask or a Drop whose message is sent, a Pass that has delivered an ask, a drop or a claim to a master, or a Kill.
     Done,
 }

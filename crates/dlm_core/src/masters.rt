@@ -1,8 +1,9 @@
-//! The master of each name.
+//! The home and the master of each name.
 
-ghost use Rattle.std.specs.Prelude.{◌≡◌, ◌≤◌, ◌<◌};
-ghost use Rattle.dlm_core.specs.States.{rank_of, master};
+ghost use Rattle.std.specs.Prelude.{◌≡◌, ◌≤◌, ◌<◌, ◌-◌, get_or, None};
+ghost use Rattle.dlm_core.specs.States.{rank_of, home, home_at};
 
+use crate::homes::Home;
 use lock_db::LockName;
 
 fn rank_of(name: LockName) -> u32
@@ -16,10 +17,25 @@ fn rank_of(name: LockName) -> u32
     }
 }
 
-/// The node that keeps the resource of a name.
-pub(crate) fn master(nodes: u8, name: LockName) -> u8
+/// The home of a name: the node that is its first master.
+pub(crate) fn home(nodes: u8, name: LockName) -> u8
     requires { 1 ≤ nodes }
-    ensures { result ≡ master nodes name }
+    ensures { result ≡ home nodes name }
 {
     1 + (rank_of(name) % nodes as u32) as u8
+}
+
+/// What stands of the home of a name.
+pub(crate) fn home_of(homes: &[Home], nodes: u8, name: LockName) -> Home
+    requires { 1 ≤ nodes }
+    ensures { result ≡ home_at (home nodes name) homes.now }
+{
+    let i = home(nodes, name) as usize - 1;
+    match homes.get(i) {
+        Some(h) => *h,
+        None => Home {
+            master: 0,
+            recovers: None,
+        },
+    }
 }

@@ -1,6 +1,7 @@
 //! Messages on their way.
 
-ghost use Rattle.std.specs.Prelude.{◌≡◌, find};
+ghost use Rattle.std.specs.Prelude.{◌≡◌, find, filter, not};
+ghost use Rattle.dlm_core.specs.Deaths.{is_lost};
 ghost use Rattle.dlm_core.specs.States.{is_between, past_first};
 
 use lock_db::{LockName, Mode, Owner};
@@ -14,6 +15,8 @@ pub enum Letter {
     Drop,
     /// From the master of a name: the owner has a lock in this mode, and this says whether the value block is valid.
     Grant(Mode, bool),
+    /// To the new master of the names of a dead node: what the sender had of these names when the node died.
+    Claim(u8),
 }
 
 /// A message.
@@ -23,14 +26,16 @@ pub struct Message {
     pub from: u8,
     /// The node that gets it.
     pub to: u8,
-    /// Whose lock it is about.
+    /// Whose lock it is about; of a claim part 0 of the node that sends it.
     pub owner: Owner,
-    /// The resource.
+    /// The resource; of a claim V, which says nothing.
     pub name: LockName,
     /// What it says.
     pub letter: Letter,
     /// The value block that is written, or that comes with the grant.
     pub value: [u8; 16],
+    /// The version of that value block; of a call that does not write 0.
+    pub version: u64,
 }
 
 fn is_between(m: &Message, from: u8, to: u8) -> bool
@@ -50,4 +55,11 @@ pub(crate) fn take_first(mail: &mut Vec<Message>, from: u8, to: u8) -> Option<Me
         }
     }
     None
+}
+
+/// Takes out the messages from a node that is dead, and those to it.
+pub(crate) fn lose(mail: &mut Vec<Message>, dead: u8)
+    ensures { mail.new.items ≡ filter (λ m. not (is_lost dead m)) mail.old.items }
+{
+    mail.retain(|m| !(m.from == dead || m.to == dead));
 }

@@ -1,11 +1,13 @@
 //! The asks that wait at their masters.
 
-ghost use Rattle.std.specs.Prelude.{◌≡◌, ◌++◌, OnOk, true, false};
-ghost use Rattle.lock_db.specs.Tables.{resource_at};
-ghost use Rattle.dlm_core.specs.Steps.{is_served, grant_of, gets_grant, grants_of, left_of};
+ghost use Rattle.std.specs.Prelude.{◌≡◌, ◌&&◌, OnOk, position, is_some};
+ghost use Rattle.lock_db.specs.Names.{is_before, is_same};
+ghost use Rattle.dlm_core.specs.States.{put_before};
+ghost use Rattle.dlm_core.specs.Steps.{goes_before, put_last};
 
-use crate::messages::{Letter, Message};
-use lock_db::{LockDb, LockName, Mode, NoMemory, Owner};
+use crate::holds::{is_before, lowers};
+use crate::messages::Message;
+use lock_db::{LockName, Mode, NoMemory, Owner};
 
 /// An ask that its master has taken and that is not granted yet.
 #[derive(Clone, Copy, Debug, PartialEq)]
@@ -20,81 +22,49 @@ pub struct Waiter {
     pub converts: bool,
 }
 
-/// Whether an ask on this name does not wait any more.
-fn is_served(table: &LockDb, name: LockName, waiter: Waiter) -> bool
-    ensures { result ≡ is_served name table.now waiter }
+/// Who stands in front of others: whose name comes first, and on one name a conversion in front of a request.
+fn goes_before(a: Waiter, b: Waiter) -> bool
+    ensures { result ≡ goes_before a b }
 {
-    waiter.name == name && !table.queued(name, waiter.owner)
+    is_before(a.name, b.name) || (a.name == b.name && a.converts && !b.converts)
 }
 
-/// The message of a grant, with the value block and its mark as they are now.
-fn grant_of(table: &LockDb, from: u8, name: LockName, waiter: Waiter) -> Message
-    ensures { result ≡ grant_of from (resource_at name table.now) waiter }
+fn place(queue: &[Waiter], waiter: Waiter) -> Option<usize>
+    ensures { result ≡ position (goes_before waiter) queue.now }
 {
-    let (value, valid) = table.value(name);
-    Message {
-        from,
-        to: waiter.owner.node,
-        owner: waiter.owner,
-        name: waiter.name,
-        letter: Letter::Grant(waiter.mode, valid),
-        value,
-    }
+    queue.iter().position(|k| goes_before(waiter, *k))
 }
 
-/// Whether an ask is a conversion, or whether it is a request, and does not wait any more.
-fn gets_grant(table: &LockDb, name: LockName, converts: bool, waiter: Waiter) -> bool
-    ensures { result ≡ gets_grant name table.now converts waiter }
+#[tactic(auto, using(crate::proofs::Placing::put_some, crate::proofs::Placing::put_none))]
+fn put(queue: &mut Vec<Waiter>, waiter: Waiter) -> Result<(), NoMemory>
+    ensures { OnOk result (queue.new.items ≡ put_before (goes_before waiter) waiter queue.old.items) }
 {
-    let kind = if converts {
-        waiter.converts
-    } else {
-        !waiter.converts
-    };
-    is_served(table, name, waiter) && kind
-}
-
-/// Sends the grants of those that do not wait any more: of the conversions, or of the requests.
-fn send_grants(
-    table: &LockDb,
-    from: u8,
-    name: LockName,
-    converts: bool,
-    queue: &[Waiter],
-    mail: &mut Vec<Message>,
-) -> Result<(), NoMemory>
-    ensures { OnOk result (mail.new.items ≡ mail.old.items ++ grants_of from name table.now converts queue.now) }
-{
-    for w in queue {
-        if gets_grant(table, name, converts, *w) {
-            mail.push(grant_of(table, from, name, *w))?;
-        }
+    match place(queue.as_slice(), waiter) {
+        Some(i) => queue.insert(i, waiter)?,
+        None => queue.push(waiter)?,
     }
     Ok(())
 }
 
-/// Takes those out of the queue that do not wait any more.
-fn retain_left(table: &LockDb, name: LockName, queue: &mut Vec<Waiter>)
-    ensures { queue.new.items ≡ left_of name table.now queue.old.items }
-{
-    queue.retain(|w| !is_served(table, name, *w));
-}
-
-/// Sends a grant to each ask on a name that does not wait any more: first the conversions and then the requests, each in
-/// order of asking.
-pub(crate) fn serve(
-    table: &LockDb,
-    from: u8,
-    name: LockName,
+/// Puts an ask for more than its owner has behind all that it does not go before.
+pub(crate) fn put_last(
     queue: &mut Vec<Waiter>,
-    mail: &mut Vec<Message>,
+    m: Message,
+    old: Option<Mode>,
+    mode: Mode,
 ) -> Result<(), NoMemory>
-    ensures mail { OnOk result (mail.new.items ≡ mail.old.items
-        ++ (grants_of from name table.now true queue.old.items ++ grants_of from name table.now false queue.old.items)) }
-    ensures queue { OnOk result (queue.new.items ≡ left_of name table.now queue.old.items) }
+    ensures { OnOk result (queue.new.items ≡ put_last m old mode queue.old.items) }
 {
-    send_grants(table, from, name, true, queue, mail)?;
-    send_grants(table, from, name, false, queue, mail)?;
-    retain_left(table, name, queue);
+    if !lowers(old, mode) {
+        put(
+            queue,
+            Waiter {
+                owner: m.owner,
+                name: m.name,
+                mode,
+                converts: old.is_some(),
+            },
+        )?;
+    }
     Ok(())
 }

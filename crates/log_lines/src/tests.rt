@@ -4,6 +4,8 @@ use plain_vol::{free_clusters, is_accounted};
 use std::alloc::Global;
 use std::test::Fail;
 
+mod ten_lines;
+
 /// What is expected of a report.
 #[derive(Clone, Copy, Debug, PartialEq)]
 enum Said {
@@ -14,17 +16,22 @@ enum Said {
     NoCatalogue,
 }
 
-// What is said of a report on a fresh volume with 231 free clusters.
-fn said_of(alloc: Global, text: &str) -> Result<Said, NoMemory> {
+// What is said of the bytes of a report on a fresh volume with 231 free clusters.
+fn said_of_bytes(alloc: Global, text: &[u8]) -> Result<Said, NoMemory> {
     let cat = fresh_catalogue(alloc)?;
     if !is_accounted(&cat) {
         return Ok(Said::NoCatalogue);
     }
-    Ok(match judge(alloc, cat, text.as_bytes())? {
+    Ok(match judge(alloc, cat, text)? {
         Verdict::Legal { entries, after } => Said::Legal(entries, free_clusters(&after)),
         Verdict::Unchecked(k) => Said::Unchecked(k),
         Verdict::Illegal(k) => Said::Illegal(k),
     })
+}
+
+// What is said of a report.
+fn said_of(alloc: Global, text: &str) -> Result<Said, NoMemory> {
+    said_of_bytes(alloc, text.as_bytes())
 }
 
 const FRONT: &str =

@@ -1,4 +1,4 @@
-use Rattle.dlm_core.proofs.Sound.{start-sound}
+use Rattle.dlm_core.proofs.Sending.{start-sound}
 use Rattle.dlm_core.proofs.dlm.Dlm.new.Goals as goal
 
 pub invariant_of-result : goal.invariant_of-result

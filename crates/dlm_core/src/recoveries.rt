@@ -1,0 +1,372 @@
+//! How the names of a dead node are recovered.
+
+ghost use Rattle.std.specs.Prelude.{◌≡◌, ◌≤◌, OnOk, IfOk, Some, None, true, filter, map, not, ◌==◌, if◌then◌else◌};
+ghost use Rattle.std.specs.List.{list_any};
+ghost use Rattle.lock_db.specs.Names.{is_same};
+ghost use Rattle.dlm_core.specs.States.{State, IsShaped, home_at, home, recovery, in_turn};
+ghost use Rattle.dlm_core.specs.Recoveries.{is_of_recovery, is_name_of, is_with, is_better, better, block_or, best_block, again, reclaimed_lock, reclaimed_one, reclaimed, asked_again, asked_again_one, all_asked_again, settled_home, closed, recovered_with, ended, is_open, ended_if, all_ended};
+
+use crate::blocks::{Block, note_version};
+use crate::cluster::Cluster;
+use crate::holds::Hold;
+use crate::homes::{Awaited, Home};
+use crate::masters::home;
+use crate::messages::{Letter, Message};
+use crate::queue::put_last;
+use crate::tables::make_again;
+use lock_db::{LockName, Mode, NoMemory};
+use std::alloc::Global;
+
+/// Whether a claimed value block is of a greater version than another, or of the same and of a lower node.
+fn is_better(a: Block, b: Block) -> bool
+    ensures { result ≡ is_better a b }
+{
+    a.version > b.version || (a.version == b.version && a.node < b.node)
+}
+
+fn better(block: Block, best: Option<Block>) -> Option<Block>
+    ensures { result ≡ better block best }
+{
+    match best {
+        Some(b) => {
+            if is_better(block, b) {
+                Some(block)
+            } else {
+                Some(b)
+            }
+        }
+        None => Some(block),
+    }
+}
+
+fn best_of(name: LockName, blocks: &[Block]) -> Option<Block>
+    ensures { result ≡ in_turn better (filter (λ b. is_same b.name name) blocks.now) None }
+{
+    let mut best = None;
+    for b in blocks {
+        if b.name == name {
+            best = better(*b, best);
+        }
+    }
+    best
+}
+
+/// The value block that is claimed for a name: zeros, where none is.
+fn best_block(name: LockName, blocks: &[Block]) -> Block
+    ensures { result ≡ best_block name blocks.now }
+{
+    best_of(name, blocks).unwrap_or(Block {
+        node: 0,
+        name,
+        value: [0; 16],
+        version: 0,
+    })
+}
+
+pub(crate) fn is_of_recovery(dead: u8, recovers: Option<u8>) -> bool
+    ensures { result ≡ is_of_recovery dead recovers }
+{
+    match recovers {
+        Some(k) => k == dead,
+        None => false,
+    }
+}
+
+fn settled_home(dead: u8, home: Home) -> Home
+    ensures { result ≡ settled_home dead home }
+{
+    if is_of_recovery(dead, home.recovers) {
+        Home {
+            master: home.master,
+            recovers: None,
+        }
+    } else {
+        home
+    }
+}
+
+/// The homes, of which those of a dead node are not being recovered any more.
+fn settled_homes(alloc: Global, dead: u8, homes: &[Home]) -> Result<Vec<Home>, NoMemory>
+    ensures { IfOk result (λ h. h.items ≡ map (settled_home dead) homes.now) }
+{
+    let mut all = Vec::new(alloc);
+    for h in homes {
+        all.push(settled_home(dead, *h))?;
+    }
+    Ok(all)
+}
+
+/// Takes a dead node out of those whose names are being recovered.
+fn forget(recoveries: &mut Vec<u8>, dead: u8)
+    ensures { recoveries.new.items ≡ filter (λ k. not (k == dead)) recoveries.old.items }
+{
+    recoveries.retain(|k| *k != dead);
+}
+
+/// Whether a claim is still on its way.
+fn is_open(dead: u8, awaited: &[Awaited]) -> bool
+    ensures { result ≡ is_open dead awaited.now }
+{
+    for w in awaited {
+        if w.dead == dead {
+            return true;
+        }
+    }
+    false
+}
+
+impl Cluster {
+    /// Whether a name is among those of a dead node that are being recovered, or whether it is not.
+    fn is_with(&self, own: bool, dead: u8, name: LockName) -> bool
+        requires { 1 ≤ self.now.nodes }
+        ensures { result ≡ is_with own dead self.now name }
+    {
+        let is = is_of_recovery(dead, self.home_of(name).recovers);
+        if own { is } else { !is }
+    }
+
+    fn claims_of(
+        &self,
+        alloc: Global,
+        own: bool,
+        dead: u8,
+        all: &[Hold],
+    ) -> Result<Vec<Hold>, NoMemory>
+        requires { 1 ≤ self.now.nodes }
+        ensures { IfOk result (λ v. v.items ≡ filter (λ h. is_with own dead self.now h.name) all.now) }
+    {
+        let mut some = Vec::new(alloc);
+        for h in all {
+            if self.is_with(own, dead, h.name) {
+                some.push(*h)?;
+            }
+        }
+        Ok(some)
+    }
+
+    fn blocks_of(
+        &self,
+        alloc: Global,
+        own: bool,
+        dead: u8,
+        all: &[Block],
+    ) -> Result<Vec<Block>, NoMemory>
+        requires { 1 ≤ self.now.nodes }
+        ensures { IfOk result (λ v. v.items ≡ filter (λ b. is_with own dead self.now b.name) all.now) }
+    {
+        let mut some = Vec::new(alloc);
+        for b in all {
+            if self.is_with(own, dead, b.name) {
+                some.push(*b)?;
+            }
+        }
+        Ok(some)
+    }
+
+    fn kept_of(
+        &self,
+        alloc: Global,
+        own: bool,
+        dead: u8,
+        all: &[Message],
+    ) -> Result<Vec<Message>, NoMemory>
+        requires { 1 ≤ self.now.nodes }
+        ensures { IfOk result (λ v. v.items ≡ filter (λ m. is_with own dead self.now m.name) all.now) }
+    {
+        let mut some = Vec::new(alloc);
+        for m in all {
+            if self.is_with(own, dead, m.name) {
+                some.push(*m)?;
+            }
+        }
+        Ok(some)
+    }
+
+    /// The names of a dead node are not being recovered any more.
+    #[tactic(auto, using(crate::proofs::Shapes::closed_shape))]
+    fn close(&mut self, alloc: Global, dead: u8) -> Result<(), NoMemory>
+        requires { IsShaped self.old }
+        ensures after { OnOk result (self.new ≡ closed dead self.old) }
+        ensures shape { OnOk result (IsShaped self.new) }
+    {
+        let claims = self.claims_of(alloc, false, dead, self.claims.as_slice())?;
+        let blocks = self.blocks_of(alloc, false, dead, self.claimed_blocks.as_slice())?;
+        let kept = self.kept_of(alloc, false, dead, self.kept.as_slice())?;
+        self.homes = settled_homes(alloc, dead, self.homes.as_slice())?;
+        self.claims = claims;
+        self.claimed_blocks = blocks;
+        self.kept = kept;
+        forget(&mut self.recoveries, dead);
+        Ok(())
+    }
+
+    /// A claimed ask, as a message that its owner sends once more, with the value block that is claimed for the name.
+    fn again(&self, hold: Hold, mode: Mode, block: Block) -> Message
+        requires { 1 ≤ self.now.nodes }
+        ensures { result ≡ again hold mode block self.now }
+    {
+        let value = block.value;
+        Message {
+            from: hold.owner.node,
+            to: self.home_of(hold.name).master,
+            owner: hold.owner,
+            name: hold.name,
+            letter: Letter::Ask(mode),
+            value,
+            version: block.version,
+        }
+    }
+
+    /// Grants a claimed lock.
+    #[tactic(auto, using(crate::proofs::Shapes::reclaimed_shape))]
+    fn reclaim(&mut self, alloc: Global, hold: Hold, block: Block) -> Result<(), NoMemory>
+        requires { IsShaped self.old }
+        ensures after { OnOk result (self.new ≡ reclaimed_lock hold hold.belief block self.old) }
+        ensures shape { OnOk result (IsShaped self.new) }
+    {
+        if let Some(mode) = hold.belief {
+            let m = self.again(hold, mode, block);
+            let old = self.mode_of(m);
+            let i = home(self.nodes, m.name) as usize - 1;
+            make_again(alloc, &mut self.tables[i], m, old, mode)?;
+            note_version(&mut self.versions, m.name, m.version)?;
+        }
+        Ok(())
+    }
+
+    fn reclaim_all(
+        &mut self,
+        alloc: Global,
+        blocks: &[Block],
+        holds: &[Hold],
+    ) -> Result<(), NoMemory>
+        requires { IsShaped self.old }
+        ensures after { OnOk result (self.new ≡ reclaimed blocks.now holds.now self.old) }
+        ensures shape { OnOk result (IsShaped self.new) }
+    {
+        for h in holds {
+            self.reclaim(alloc, *h, best_block(h.name, blocks))?;
+        }
+        Ok(())
+    }
+
+    /// Takes a claimed ask.
+    #[tactic(auto, using(crate::proofs::Shapes::asked_shape))]
+    fn ask_again(&mut self, alloc: Global, hold: Hold, block: Block) -> Result<(), NoMemory>
+        requires { IsShaped self.old }
+        ensures after { OnOk result (self.new ≡ asked_again hold hold.wait block self.old) }
+        ensures shape { OnOk result (IsShaped self.new) }
+    {
+        if let Some(mode) = hold.wait {
+            let m = self.again(hold, mode, block);
+            let old = self.mode_of(m);
+            let i = home(self.nodes, m.name) as usize - 1;
+            make_again(alloc, &mut self.tables[i], m, old, mode)?;
+            put_last(&mut self.queue, m, old, mode)?;
+            note_version(&mut self.versions, m.name, m.version)?;
+            self.serve(alloc)?;
+        }
+        Ok(())
+    }
+
+    fn ask_all_again(
+        &mut self,
+        alloc: Global,
+        blocks: &[Block],
+        holds: &[Hold],
+    ) -> Result<(), NoMemory>
+        requires { IsShaped self.old }
+        ensures after { OnOk result (self.new ≡ all_asked_again blocks.now holds.now self.old) }
+        ensures shape { OnOk result (IsShaped self.new) }
+    {
+        for h in holds {
+            self.ask_again(alloc, *h, best_block(h.name, blocks))?;
+        }
+        Ok(())
+    }
+
+    /// What is claimed of the names of a dead node.
+    fn own_claims(&self, alloc: Global, dead: u8) -> Result<Vec<Hold>, NoMemory>
+        requires { 1 ≤ self.now.nodes }
+        ensures { IfOk result (λ v. v.items ≡ filter (λ h. is_with true dead self.now h.name) self.now.claims) }
+    {
+        self.claims_of(alloc, true, dead, self.claims.as_slice())
+    }
+
+    fn own_blocks(&self, alloc: Global, dead: u8) -> Result<Vec<Block>, NoMemory>
+        requires { 1 ≤ self.now.nodes }
+        ensures { IfOk result (λ v. v.items ≡ filter (λ b. is_with true dead self.now b.name) self.now.claimed_blocks) }
+    {
+        self.blocks_of(alloc, true, dead, self.claimed_blocks.as_slice())
+    }
+
+    /// What is kept back of them.
+    fn own_kept(&self, alloc: Global, dead: u8) -> Result<Vec<Message>, NoMemory>
+        requires { 1 ≤ self.now.nodes }
+        ensures { IfOk result (λ v. v.items ≡ filter (λ m. is_with true dead self.now m.name) self.now.kept) }
+    {
+        self.kept_of(alloc, true, dead, self.kept.as_slice())
+    }
+
+    /// Grants the claimed locks, takes the claimed conversions and requests, name after name, and then what was kept back.
+    fn recover_with(
+        &mut self,
+        alloc: Global,
+        claims: &[Hold],
+        blocks: &[Block],
+        kept: &[Message],
+    ) -> Result<(), NoMemory>
+        requires { IsShaped self.old }
+        ensures after { OnOk result (self.new ≡ recovered_with claims.now blocks.now kept.now self.old) }
+        ensures shape { OnOk result (IsShaped self.new) }
+    {
+        self.reclaim_all(alloc, blocks, claims)?;
+        self.ask_all_again(alloc, blocks, claims)?;
+        self.take_all(alloc, kept)
+    }
+
+    /// Ends a recovery.
+    fn end(&mut self, alloc: Global, dead: u8) -> Result<(), NoMemory>
+        requires { IsShaped self.old }
+        ensures after { OnOk result (self.new ≡ ended dead self.old) }
+        ensures shape { OnOk result (IsShaped self.new) }
+    {
+        let claims = self.own_claims(alloc, dead)?;
+        let blocks = self.own_blocks(alloc, dead)?;
+        let kept = self.own_kept(alloc, dead)?;
+        self.close(alloc, dead)?;
+        self.recover_with(alloc, claims.as_slice(), blocks.as_slice(), kept.as_slice())
+    }
+
+    fn end_if(&mut self, alloc: Global, dead: u8) -> Result<(), NoMemory>
+        requires { IsShaped self.old }
+        ensures after { OnOk result (self.new ≡ ended_if dead self.old) }
+        ensures shape { OnOk result (IsShaped self.new) }
+    {
+        if is_open(dead, self.awaited.as_slice()) {
+            return Ok(());
+        }
+        self.end(alloc, dead)
+    }
+
+    fn end_each(&mut self, alloc: Global, recoveries: &[u8]) -> Result<(), NoMemory>
+        requires { IsShaped self.old }
+        ensures after { OnOk result (self.new ≡ all_ended recoveries.now self.old) }
+        ensures shape { OnOk result (IsShaped self.new) }
+    {
+        for dead in recoveries {
+            self.end_if(alloc, *dead)?;
+        }
+        Ok(())
+    }
+
+    /// Ends the recoveries for which no claim is on its way any more, in order of the deaths.
+    pub(crate) fn end_all(&mut self, alloc: Global) -> Result<(), NoMemory>
+        requires { IsShaped self.old }
+        ensures after { OnOk result (self.new ≡ all_ended self.old.recoveries self.old) }
+        ensures shape { OnOk result (IsShaped self.new) }
+    {
+        let recoveries = Vec::from_slice(alloc, self.recoveries.as_slice())?;
+        self.end_each(alloc, recoveries.as_slice())
+    }
+}

@@ -1,0 +1,4 @@
+pub mod Plays
+pub mod Printing
+pub mod Reading
+pub mod Statuses
