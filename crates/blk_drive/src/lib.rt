@@ -1,4 +1,17 @@
-//! The shared drive: images of a volume, block by block, and a mirror of an image in memory.
+//! The shared drive: an image of 64 to 65,536 blocks, and a copy of all of them in memory.
+//!
+//! `ImageDev` is the trait of an image, `MemImage` one in memory, `FileImage` one over a file. `Mirror` is the drive.
+//!
+//! ```text
+//! match Mirror::load(alloc, image) {
+//!     Ok(mut mirror) => mirror.write(lbn, &block),
+//!     Err(refused) => ..,  // refused.fault, refused.image
+//! }
+//! ```
+//!
+//! `load` gives the very blocks of the image, or the image back with the cause. `write` changes one block, on the image and then
+//! in memory. After a failed write memory is as before, and the image's block is whole, old or new. `ImageFault` comes only if
+//! the image's count of faults rose in that call, or is at its last value. What `FileImage` reads and writes is only tested.
 #![tactic(auto)]
 
 ghost use Rattle.std.specs.Prelude.{◌≡◌, ◌<◌, ◌⊎◌, ℕ, List, Option, Some, slice_get, IfOk, IfSome, OnOk, OnErr};

@@ -1,5 +1,15 @@
-//! What is written is a whole block: 512 bytes. The writers of the formats make such blocks, or make one of another; and blocks
-//! in memory are whole by their type.
+//! Laws: whatever the format crates write is a whole block, one of 512 bytes.
+//!
+//! Each law is the contract of a function that does nothing. `headers_are_whole` says it of new and changed headers,
+//! `rows_are_whole` of quota blocks, `directories_are_whole` of packed entries and of the writes of an insertion and a removal.
+//! The one call for use at run time turns the type of blocks into a clause:
+//!
+//! ```text
+//! blocks_are_whole(blocks);
+//! ```
+//!
+//! It changes nothing, and says that each block in memory is whole. The laws of writes (`vol_writes`, `mend_writes`) and the
+//! operations cite these, since the laws of volumes speak of whole blocks.
 #![tactic(auto)]
 
 ghost use Rattle.vol_words.specs.Fields.{IsWholeBlock, AreWholeBlocks};
@@ -13,7 +23,7 @@ fn block_is_whole(block: Block)
     ensures { IsWholeBlock block }
 {}
 
-/// Blocks in memory are whole. Their types say it, and this function tells it as a clause: there is nothing to do at run time.
+/// Blocks in memory are whole. Their types say it, and this function tells it as a clause. It changes nothing.
 pub fn blocks_are_whole(blocks: &[Block])
     ensures { AreWholeBlocks blocks.now }
 {

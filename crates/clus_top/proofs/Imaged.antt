@@ -18,7 +18,7 @@ pub of_told : (P : List Block → Type 0) (told : Option (List Block)) (blocks :
 of_told P None blocks same h = tt
 of_told P (Some bs) blocks same h = subst P same h
 
-rose_later : (had before now : ℕ) → had ≤ before → Rose before now → Rose had now
+pub rose_later : (had before now : ℕ) → had ≤ before → Rose before now → Rose had now
 rose_later had before now le rose = omega arith
 
 module _ (script : Script) (size : ℕ) (told new : Option (List Block)) (blocks : List Block) (same : IfSome told (λ bs. blocks ≡ bs)) where
@@ -28,7 +28,7 @@ module _ (script : Script) (size : ℕ) (told new : Option (List Block)) (blocks
   pub end_on : (what : Printed) (text : List ℕ) → IsEndIn what script blocks told new text → IfSome told (λ bs. IsEndIn what script bs told new text)
   end_on what text h = of_told (λ bs. IsEndIn what script bs told new text) told blocks same h
 
-  quiet_on : (first has : ℕ) (s : Status) → IsInside size → IsStopIn script blocks told new s → IsImageEnd script size told new first has s
+  pub quiet_on : (first has : ℕ) (s : Status) → IsInside size → IsStopIn script blocks told new s → IsImageEnd script size told new first has s
   quiet_on first has (status.NotAccepted f) inside end = ((inside, of_told (λ bs. IsFirstFound bs f) told blocks same end.0), end.1)
   quiet_on first has status.NoMemory inside (inl e) = inl e
   quiet_on first has status.NoMemory inside (inr d) = inr (of_told (λ bs. IsLackingIn script bs told new) told blocks same d)

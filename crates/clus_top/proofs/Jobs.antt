@@ -37,16 +37,16 @@ module _ (IsGiven : Script → Type 0) (script : Script) (given : IsGiven script
   cut_of : (bs : List Block) (new : Option (List Block)) → IsCutIn script bs (Some bs) new → IsCutOf IsGiven bs new
   cut_of bs new h = record { script = script; given = given; world = h.world; ran = h.ran; before = h.before }
 
-  short_on : (told new : Option (List Block)) (text : List ℕ) → IfSome told (λ bs. IsCutShortIn script bs told new text) → IfSome told (λ bs. IsCutShort IsGiven bs new text)
+  pub short_on : (told new : Option (List Block)) (text : List ℕ) → IfSome told (λ bs. IsCutShortIn script bs told new text) → IfSome told (λ bs. IsCutShort IsGiven bs new text)
   unfolding cut_of
   short_on None new text h = tt
   short_on (Some bs) new text h = record { cut = cut_of bs new h.cut; written = inl h.written }
 
-  bare_on : (told new : Option (List Block)) → IfSome told (λ bs. IsCutIn script bs told new) → IfSome told (λ bs. IsCutShort IsGiven bs new (status_text status.ImageFault))
+  pub bare_on : (told new : Option (List Block)) → IfSome told (λ bs. IsCutIn script bs told new) → IfSome told (λ bs. IsCutShort IsGiven bs new (status_text status.ImageFault))
   bare_on None new h = tt
   bare_on (Some bs) new h = record { cut = cut_of bs new h; written = inr refl }
 
-  quiet_image : (size : ℕ) (told new : Option (List Block)) (had has : ℕ) (s : Status) → IsImageEnd script size told new had has s → IsQuietImage IsGiven told new s
+  pub quiet_image : (size : ℕ) (told new : Option (List Block)) (had has : ℕ) (s : Status) → IsImageEnd script size told new had has s → IsQuietImage IsGiven told new s
   quiet_image size told new had has status.ImageFault end = end.1
   quiet_image size told new had has (status.BadSize n) end = end.1
   quiet_image size told new had has (status.NotAccepted f) end = end.1

@@ -4,7 +4,7 @@ use Rattle.std.proofs.lemmas.Bool.{false≢true, cases_lt}
 use Rattle.vol_words.specs.Fields.{Block}
 use Rattle.blk_drive.specs.Images.{IsInside, IsOutside}
 use Rattle.vol_parts.specs.declared.finding.Finding.{Finding}
-use Rattle.vol_parts.specs.Findings.{AreFindings, Accepts}
+use Rattle.vol_parts.specs.Findings.{Weak, AreFindings, Accepts, IsFirstFatal}
 use Rattle.run_script.specs.Lines.{lines_of}
 use Rattle.run_script.specs.Laws.{SayOneThing}
 use Rattle.vol_analyze.specs.Judging.{IsFirstFound}
@@ -12,9 +12,9 @@ use Rattle.vol_init.specs.declared.fault.InitFault.{InitFault}
 use Rattle.vol_init.specs.Refusals.{refusal}
 use Rattle.run_engine.specs.declared.status.Status.{Status}
 use Rattle.run_engine.specs.declared.status.Status.TheVariants as status
-use Rattle.clus_top.specs.Words.{Wanted, Run, Soak, Analyze, Init}
-use Rattle.clus_top.specs.Statuses.{IsTooLong, IsBad, IsOverfull, IsGood, IsRunDue, IsSoakDue, IsAnalysisDue, sized, IsPossible, IsInitDue, IsWordsDue}
-use Rattle.clus_top.specs.Verdicts.{is_verdict, HasOneVerdict}
+use Rattle.clus_top.specs.Words.{Wanted, Run, RunRebuild, Soak, Analyze, Rebuild, Init}
+use Rattle.clus_top.specs.Statuses.{IsTooLong, IsBad, IsOverfull, IsGood, IsRunDue, IsRunRebuildDue, IsSoakDue, IsAnalysisDue, IsRebuildDue, sized, IsPossible, IsInitDue, IsWordsDue}
+use Rattle.clus_top.specs.Verdicts.{is_verdict, is_mended_verdict, HasOneVerdict}
 
 -- a size is inside or outside, and not both
 is_size : (size : ℕ) → IsInside size ⊎ IsOutside size
@@ -64,6 +64,7 @@ alone_long bytes size bs long status.ImageFault v h = absurd (false≢true v)
 alone_long bytes size bs long (status.BadSize m) v h = absurd (too_long bytes long h.0.within)
 alone_long bytes size bs long (status.NotAccepted g) v h = absurd (too_long bytes long h.0.within)
 alone_long bytes size bs long status.Findings v h = absurd h
+alone_long bytes size bs long (status.NotMendable g) v h = absurd h
 alone_long bytes size bs long status.OutFault v h = absurd (false≢true v)
 alone_long bytes size bs long status.NoMemory v h = absurd (false≢true v)
 alone_long bytes size bs long status.Unfinished v h = absurd (false≢true v)
@@ -80,6 +81,7 @@ alone_bad bytes size bs n one bad status.ImageFault v h = absurd (false≢true v
 alone_bad bytes size bs n one bad (status.BadSize m) v h = absurd (one.good h.0.script n h.0.spelt bad.bad)
 alone_bad bytes size bs n one bad (status.NotAccepted g) v h = absurd (one.good h.0.script n h.0.spelt bad.bad)
 alone_bad bytes size bs n one bad status.Findings v h = absurd h
+alone_bad bytes size bs n one bad (status.NotMendable g) v h = absurd h
 alone_bad bytes size bs n one bad status.OutFault v h = absurd (false≢true v)
 alone_bad bytes size bs n one bad status.NoMemory v h = absurd (false≢true v)
 alone_bad bytes size bs n one bad status.Unfinished v h = absurd (false≢true v)
@@ -96,6 +98,7 @@ alone_over bytes size bs one over status.ImageFault v h = absurd (false≢true v
 alone_over bytes size bs one over (status.BadSize m) v h = absurd (one.within h.0.script h.0.spelt over.over)
 alone_over bytes size bs one over (status.NotAccepted g) v h = absurd (one.within h.0.script h.0.spelt over.over)
 alone_over bytes size bs one over status.Findings v h = absurd h
+alone_over bytes size bs one over (status.NotMendable g) v h = absurd h
 alone_over bytes size bs one over status.OutFault v h = absurd (false≢true v)
 alone_over bytes size bs one over status.NoMemory v h = absurd (false≢true v)
 alone_over bytes size bs one over status.Unfinished v h = absurd (false≢true v)
@@ -112,6 +115,7 @@ alone_size bytes size bs one good out status.ImageFault v h = absurd (false≢tr
 alone_size bytes size bs one good out (status.BadSize m) v h = ap status.BadSize h.1
 alone_size bytes size bs one good out (status.NotAccepted g) v h = absurd (outside size h.1 out)
 alone_size bytes size bs one good out status.Findings v h = absurd h
+alone_size bytes size bs one good out (status.NotMendable g) v h = absurd h
 alone_size bytes size bs one good out status.OutFault v h = absurd (false≢true v)
 alone_size bytes size bs one good out status.NoMemory v h = absurd (false≢true v)
 alone_size bytes size bs one good out status.Unfinished v h = absurd (false≢true v)
@@ -128,6 +132,7 @@ alone_found bytes size bs f one list good inside found status.ImageFault v h = a
 alone_found bytes size bs f one list good inside found (status.BadSize m) v h = absurd (outside size inside h.2)
 alone_found bytes size bs f one list good inside found (status.NotAccepted g) v h = ap status.NotAccepted (same_first bs f g list found h.2)
 alone_found bytes size bs f one list good inside found status.Findings v h = absurd h
+alone_found bytes size bs f one list good inside found (status.NotMendable g) v h = absurd h
 alone_found bytes size bs f one list good inside found status.OutFault v h = absurd (false≢true v)
 alone_found bytes size bs f one list good inside found status.NoMemory v h = absurd (false≢true v)
 alone_found bytes size bs f one list good inside found status.Unfinished v h = absurd (false≢true v)
@@ -144,6 +149,7 @@ alone_good bytes size bs one list good inside none status.ImageFault v h = absur
 alone_good bytes size bs one list good inside none (status.BadSize m) v h = absurd (outside size inside h.2)
 alone_good bytes size bs one list good inside none (status.NotAccepted g) v h = absurd (unfound bs g list none h.2)
 alone_good bytes size bs one list good inside none status.Findings v h = absurd h
+alone_good bytes size bs one list good inside none (status.NotMendable g) v h = absurd h
 alone_good bytes size bs one list good inside none status.OutFault v h = absurd (false≢true v)
 alone_good bytes size bs one list good inside none status.NoMemory v h = absurd (false≢true v)
 alone_good bytes size bs one list good inside none status.Unfinished v h = absurd (false≢true v)
@@ -160,6 +166,7 @@ size_alone size bs out status.ImageFault v h = absurd (false≢true v)
 size_alone size bs out (status.BadSize m) v h = ap status.BadSize h.0
 size_alone size bs out (status.NotAccepted g) v h = absurd h
 size_alone size bs out status.Findings v h = absurd (outside size h.0 out)
+size_alone size bs out (status.NotMendable g) v h = absurd h
 size_alone size bs out status.OutFault v h = absurd (false≢true v)
 size_alone size bs out status.NoMemory v h = absurd (false≢true v)
 size_alone size bs out status.Unfinished v h = absurd (false≢true v)
@@ -176,6 +183,7 @@ found_alone size bs f list inside found status.ImageFault v h = absurd (false≢
 found_alone size bs f list inside found (status.BadSize m) v h = absurd (outside size inside h.1)
 found_alone size bs f list inside found (status.NotAccepted g) v h = absurd h
 found_alone size bs f list inside found status.Findings v h = refl
+found_alone size bs f list inside found (status.NotMendable g) v h = absurd h
 found_alone size bs f list inside found status.OutFault v h = absurd (false≢true v)
 found_alone size bs f list inside found status.NoMemory v h = absurd (false≢true v)
 found_alone size bs f list inside found status.Unfinished v h = absurd (false≢true v)
@@ -192,6 +200,7 @@ none_alone size bs list inside none status.ImageFault v h = absurd (false≢true
 none_alone size bs list inside none (status.BadSize m) v h = absurd (outside size inside h.1)
 none_alone size bs list inside none (status.NotAccepted g) v h = absurd h
 none_alone size bs list inside none status.Findings v h = absurd (unfound bs h.1.first list none h.1.found)
+none_alone size bs list inside none (status.NotMendable g) v h = absurd h
 none_alone size bs list inside none status.OutFault v h = absurd (false≢true v)
 none_alone size bs list inside none status.NoMemory v h = absurd (false≢true v)
 none_alone size bs list inside none status.Unfinished v h = absurd (false≢true v)
@@ -212,6 +221,7 @@ soak_outside n size bs out status.ImageFault v h = absurd (false≢true v)
 soak_outside n size bs out (status.BadSize m) v h = ap status.BadSize h.0
 soak_outside n size bs out (status.NotAccepted g) v h = absurd (outside size h.0 out)
 soak_outside n size bs out status.Findings v h = absurd h
+soak_outside n size bs out (status.NotMendable g) v h = absurd h
 soak_outside n size bs out status.OutFault v h = absurd (false≢true v)
 soak_outside n size bs out status.NoMemory v h = absurd (false≢true v)
 soak_outside n size bs out status.Unfinished v h = absurd (false≢true v)
@@ -228,6 +238,7 @@ soak_found n size bs f list inside found status.ImageFault v h = absurd (false�
 soak_found n size bs f list inside found (status.BadSize m) v h = absurd (outside size inside h.1)
 soak_found n size bs f list inside found (status.NotAccepted g) v h = ap status.NotAccepted (same_first bs f g list found h.1)
 soak_found n size bs f list inside found status.Findings v h = absurd h
+soak_found n size bs f list inside found (status.NotMendable g) v h = absurd h
 soak_found n size bs f list inside found status.OutFault v h = absurd (false≢true v)
 soak_found n size bs f list inside found status.NoMemory v h = absurd (false≢true v)
 soak_found n size bs f list inside found status.Unfinished v h = absurd (false≢true v)
@@ -244,6 +255,7 @@ soak_good n size bs list inside none status.ImageFault v h = absurd (false≢tru
 soak_good n size bs list inside none (status.BadSize m) v h = absurd (outside size inside h.1)
 soak_good n size bs list inside none (status.NotAccepted g) v h = absurd (unfound bs g list none h.1)
 soak_good n size bs list inside none status.Findings v h = absurd h
+soak_good n size bs list inside none (status.NotMendable g) v h = absurd h
 soak_good n size bs list inside none status.OutFault v h = absurd (false≢true v)
 soak_good n size bs list inside none status.NoMemory v h = absurd (false≢true v)
 soak_good n size bs list inside none status.Unfinished v h = absurd (false≢true v)
@@ -260,6 +272,7 @@ words_alone status.ImageFault v h = absurd h
 words_alone (status.BadSize m) v h = absurd h
 words_alone (status.NotAccepted g) v h = absurd h
 words_alone status.Findings v h = absurd h
+words_alone (status.NotMendable g) v h = absurd h
 words_alone status.OutFault v h = absurd h
 words_alone status.NoMemory v h = absurd (false≢true v)
 words_alone status.Unfinished v h = absurd (false≢true v)
@@ -312,6 +325,22 @@ of_run bytes size bs fs one list found =
       | inl long ↦ record { status = status.ScriptTooLong; verdict = refl; due = long; alone = alone_long bytes size bs long }
       | inr within ↦ of_script bytes size bs fs one list within found
     ]
+
+-- of a run that is mended then the same one is due
+alone_mended : (bytes : List ℕ) (size : ℕ) (bs : List Block) (s : Status) → AloneInRun bytes size bs s → (other : Status) → is_mended_verdict other ≡ true
+    → IsRunRebuildDue (Some bytes) size (Some bs) other → other ≡ s
+alone_mended bytes size bs s alone (status.NotMendable g) v h = absurd (false≢true v)
+alone_mended bytes size bs s alone other v h = alone other v h
+
+of_mended : (bytes : List ℕ) (size : ℕ) (bs : List Block) (s : Status) → is_verdict s ≡ true → IsRunDue (Some bytes) size (Some bs) s → AloneInRun bytes size bs s
+    → HasOneVerdict (Some RunRebuild) bytes size bs
+of_mended bytes size bs (status.NotMendable f) v d alone = absurd d
+of_mended bytes size bs s v d alone = record { status = s; verdict = v; due = d; alone = alone_mended bytes size bs s alone }
+
+of_run_rebuild : (bytes : List ℕ) (size : ℕ) (bs : List Block) (fs : List Finding) → SayOneThing (lines_of bytes) → OneList bs → AreFindings bs fs → HasOneVerdict (Some RunRebuild) bytes size bs
+of_run_rebuild bytes size bs fs one list found =
+    let r = of_run bytes size bs fs one list found in
+    of_mended bytes size bs r.status r.verdict r.due r.alone
 
 of_mounted : (n : ℕ) (bytes : List ℕ) (size : ℕ) (bs : List Block) (fs : List Finding) → OneList bs → IsInside size → AreFindings bs fs → HasOneVerdict (Some (Soak n)) bytes size bs
 of_mounted n bytes size bs [] list inside none = record {
@@ -375,6 +404,7 @@ size_alone_in cluster files label size out status.ImageFault v h = absurd (false
 size_alone_in cluster files label size out (status.BadSize m) v h = ap status.BadSize h.0
 size_alone_in cluster files label size out (status.NotAccepted g) v h = absurd h
 size_alone_in cluster files label size out status.Findings v h = absurd h
+size_alone_in cluster files label size out (status.NotMendable g) v h = absurd h
 size_alone_in cluster files label size out status.OutFault v h = absurd (false≢true v)
 size_alone_in cluster files label size out status.NoMemory v h = absurd (false≢true v)
 size_alone_in cluster files label size out status.Unfinished v h = absurd (false≢true v)
@@ -391,6 +421,7 @@ refused_alone cluster files label size f inside is status.ImageFault v h = absur
 refused_alone cluster files label size f inside is (status.BadSize m) v h = absurd (outside size inside h.1)
 refused_alone cluster files label size f inside is (status.NotAccepted g) v h = absurd h
 refused_alone cluster files label size f inside is status.Findings v h = absurd h
+refused_alone cluster files label size f inside is (status.NotMendable g) v h = absurd h
 refused_alone cluster files label size f inside is status.OutFault v h = absurd (false≢true v)
 refused_alone cluster files label size f inside is status.NoMemory v h = absurd (false≢true v)
 refused_alone cluster files label size f inside is status.Unfinished v h = absurd (false≢true v)
@@ -407,6 +438,7 @@ possible_alone cluster files label size may status.ImageFault v h = absurd (fals
 possible_alone cluster files label size may (status.BadSize m) v h = absurd (outside size may.inside h.1)
 possible_alone cluster files label size may (status.NotAccepted g) v h = absurd h
 possible_alone cluster files label size may status.Findings v h = absurd h
+possible_alone cluster files label size may (status.NotMendable g) v h = absurd h
 possible_alone cluster files label size may status.OutFault v h = absurd (false≢true v)
 possible_alone cluster files label size may status.NoMemory v h = absurd (false≢true v)
 possible_alone cluster files label size may status.Unfinished v h = absurd (false≢true v)
@@ -428,10 +460,93 @@ of_init cluster files label bytes size bs =
       | inl inside ↦ of_format cluster files label bytes size bs (refusal (sized cluster files size) label) inside refl
     ]
 
+-- blocks have one first fatal finding
+same_fatal : (bs : List Block) (f g : Finding) → OneList bs → IsFirstFatal bs f → IsFirstFatal bs g → g ≡ f
+same_fatal bs f g one found other =
+    let e : g ∷ [] ≡ f ∷ [] = one (g ∷ []) (f ∷ []) (inl (g, other, refl)) (inl (f, found, refl)) in cc e
+
+-- nor of a mending
+abbrev AloneInRebuild : ℕ → List Block → Status → Type 0
+AloneInRebuild size bs s = (other : Status) → is_verdict other ≡ true → IsRebuildDue size (Some bs) other → other ≡ s
+
+rebuild_outside : (size : ℕ) (bs : List Block) → IsOutside size → AloneInRebuild size bs (status.BadSize size)
+rebuild_outside size bs out status.Ok v h = absurd (outside size h.inside out)
+rebuild_outside size bs out status.BadWords v h = absurd h
+rebuild_outside size bs out status.ScriptFault v h = absurd h
+rebuild_outside size bs out status.ScriptTooLong v h = absurd h
+rebuild_outside size bs out (status.BadScript m) v h = absurd h
+rebuild_outside size bs out status.TooMany v h = absurd h
+rebuild_outside size bs out status.ImageFault v h = absurd (false≢true v)
+rebuild_outside size bs out (status.BadSize m) v h = ap status.BadSize h.0
+rebuild_outside size bs out (status.NotAccepted g) v h = absurd h
+rebuild_outside size bs out status.Findings v h = absurd h
+rebuild_outside size bs out (status.NotMendable g) v h = absurd (outside size h.0 out)
+rebuild_outside size bs out status.OutFault v h = absurd (false≢true v)
+rebuild_outside size bs out status.NoMemory v h = absurd (false≢true v)
+rebuild_outside size bs out status.Unfinished v h = absurd h
+rebuild_outside size bs out (status.BadInit x) v h = absurd h
+
+rebuild_fatal : (size : ℕ) (bs : List Block) (f : Finding) → OneList bs → IsInside size → IsFirstFatal bs f → AloneInRebuild size bs (status.NotMendable f)
+rebuild_fatal size bs f list inside found status.Ok v h = absurd (h.weak f found.fatal)
+rebuild_fatal size bs f list inside found status.BadWords v h = absurd h
+rebuild_fatal size bs f list inside found status.ScriptFault v h = absurd h
+rebuild_fatal size bs f list inside found status.ScriptTooLong v h = absurd h
+rebuild_fatal size bs f list inside found (status.BadScript m) v h = absurd h
+rebuild_fatal size bs f list inside found status.TooMany v h = absurd h
+rebuild_fatal size bs f list inside found status.ImageFault v h = absurd (false≢true v)
+rebuild_fatal size bs f list inside found (status.BadSize m) v h = absurd (outside size inside h.1)
+rebuild_fatal size bs f list inside found (status.NotAccepted g) v h = absurd h
+rebuild_fatal size bs f list inside found status.Findings v h = absurd h
+rebuild_fatal size bs f list inside found (status.NotMendable g) v h = ap status.NotMendable (same_fatal bs f g list found h.1)
+rebuild_fatal size bs f list inside found status.OutFault v h = absurd (false≢true v)
+rebuild_fatal size bs f list inside found status.NoMemory v h = absurd (false≢true v)
+rebuild_fatal size bs f list inside found status.Unfinished v h = absurd h
+rebuild_fatal size bs f list inside found (status.BadInit x) v h = absurd h
+
+rebuild_weak : (size : ℕ) (bs : List Block) → IsInside size → Weak bs → AloneInRebuild size bs status.Ok
+rebuild_weak size bs inside weak status.Ok v h = refl
+rebuild_weak size bs inside weak status.BadWords v h = absurd h
+rebuild_weak size bs inside weak status.ScriptFault v h = absurd h
+rebuild_weak size bs inside weak status.ScriptTooLong v h = absurd h
+rebuild_weak size bs inside weak (status.BadScript m) v h = absurd h
+rebuild_weak size bs inside weak status.TooMany v h = absurd h
+rebuild_weak size bs inside weak status.ImageFault v h = absurd (false≢true v)
+rebuild_weak size bs inside weak (status.BadSize m) v h = absurd (outside size inside h.1)
+rebuild_weak size bs inside weak (status.NotAccepted g) v h = absurd h
+rebuild_weak size bs inside weak status.Findings v h = absurd h
+rebuild_weak size bs inside weak (status.NotMendable g) v h = absurd (weak g h.1.fatal)
+rebuild_weak size bs inside weak status.OutFault v h = absurd (false≢true v)
+rebuild_weak size bs inside weak status.NoMemory v h = absurd (false≢true v)
+rebuild_weak size bs inside weak status.Unfinished v h = absurd h
+rebuild_weak size bs inside weak (status.BadInit x) v h = absurd h
+
+of_blocks : (bytes : List ℕ) (size : ℕ) (bs : List Block) (fs : List Finding) → OneList bs → IsInside size → AreFindings bs fs → HasOneVerdict (Some Rebuild) bytes size bs
+of_blocks bytes size bs fs list inside (inl found) = record {
+  status = status.NotMendable found.0;
+  verdict = refl;
+  due = (inside, found.1);
+  alone = rebuild_fatal size bs found.0 list inside found.1;
+}
+of_blocks bytes size bs fs list inside (inr found) = record {
+  status = status.Ok;
+  verdict = refl;
+  due = record { inside = inside; weak = found.0 };
+  alone = rebuild_weak size bs inside found.0;
+}
+
+of_rebuild : (bytes : List ℕ) (size : ℕ) (bs : List Block) (fs : List Finding) → OneList bs → AreFindings bs fs → HasOneVerdict (Some Rebuild) bytes size bs
+of_rebuild bytes size bs fs list found =
+    elim (is_size size) [
+      | inr out ↦ record { status = status.BadSize size; verdict = refl; due = (refl, out); alone = rebuild_outside size bs out }
+      | inl inside ↦ of_blocks bytes size bs fs list inside found
+    ]
+
 pub one_verdict : (wanted : Option Wanted) (bytes : List ℕ) (size : ℕ) (bs : List Block) (fs : List Finding) → SayOneThing (lines_of bytes) → OneList bs → AreFindings bs fs
     → HasOneVerdict wanted bytes size bs
 one_verdict None bytes size bs fs one list found = record { status = status.BadWords; verdict = refl; due = tt; alone = words_alone }
 one_verdict (Some Run) bytes size bs fs one list found = of_run bytes size bs fs one list found
+one_verdict (Some RunRebuild) bytes size bs fs one list found = of_run_rebuild bytes size bs fs one list found
 one_verdict (Some (Soak n)) bytes size bs fs one list found = of_soak n bytes size bs fs list found
 one_verdict (Some Analyze) bytes size bs fs one list found = of_analysis bytes size bs fs list found
+one_verdict (Some Rebuild) bytes size bs fs one list found = of_rebuild bytes size bs fs list found
 one_verdict (Some (Init cluster files label)) bytes size bs fs one list found = of_init cluster files label bytes size bs

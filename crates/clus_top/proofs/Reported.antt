@@ -50,14 +50,14 @@ same_err r f k is other = cc
 
 module _ (start : Plain) (good : Good start) (m : IsMounted start.blocks start.script start) where
   -- the history of a volume that is just mounted is empty
-  answered : IsAnswered start
+  pub answered : IsAnswered start
   answered = subst IsAnswered (sym m.is) (record { orderly = (tt, refl) })
 
   -- a run on it
-  pub has_run : (new : Plain) (plays : List ℕ) → plays ≡ start.script.plays → IsPartOfWalk start plays new → Good new → HasRun start.script start.blocks new
+  unfoldable pub has_run : (new : Plain) (plays : List ℕ) → plays ≡ start.script.plays → IsPartOfWalk start plays new → Good new → HasRun start.script start.blocks new
   has_run new plays same part keeps = record { start = start; mounted = m; walked = subst (λ (ns : List ℕ). IsPartOfWalk start ns new) same part; good = keeps }
 
-  pub drive_in : (new : Plain) (plays : List ℕ) (told now : Option (List Block)) → plays ≡ start.script.plays → IsPartOfWalk start plays new → Good new → now ≡ told_as told new.blocks
+  unfoldable pub drive_in : (new : Plain) (plays : List ℕ) (told now : Option (List Block)) → plays ≡ start.script.plays → IsPartOfWalk start plays new → Good new → now ≡ told_as told new.blocks
       → IsDriveIn start.script start.blocks told now
   drive_in new plays told now same part keeps image = record { world = new; ran = has_run new plays same part keeps; image = image }
 
@@ -113,13 +113,13 @@ module _ (start : Plain) (good : Good start) (m : IsMounted start.blocks start.s
       subst (IsStopBy start.script start.blocks told now had has) (sym e) (spent_in new plays told now same (on_err r run.Unfinished (IsPartOfWalk start plays new) is part) keeps
       (told_well (r ≡ Err run.ImageFault) _ _ image (λ p. let f : run.Unfinished ≡ run.ImageFault = same_err r run.Unfinished run.ImageFault is p in cc)) (spent is))
 
-  led : (c d : Cat) (s : Script) (new : Plain) → s ≡ start.script → c ≡ start.opening → Replays c s new.history d → Replays m.opening start.script new.history d
+  pub led : (c d : Cat) (s : Script) (new : Plain) → s ≡ start.script → c ≡ start.opening → Replays c s new.history d → Replays m.opening start.script new.history d
   led c d s new script first h =
       let opening : start.opening ≡ m.opening = ap (λ (v : Plain). v.opening) m.is in
       subst (λ (x : Cat). Replays x start.script new.history d) (first ∙ opening) (subst (λ (t : Script). Replays c t new.history d) script h)
 
   -- the history of a world that has come to its end replays, and its drive spells the catalogue to which it leads
-  whole_in : (new : Plain) → Stays start new → IsAnswered new → Whole new.script new.history → (c : Cat) → HasEnded new c → IsWholeIn start.script start.blocks new
+  unfoldable pub whole_in : (new : Plain) → Stays start new → IsAnswered new → Whole new.script new.history → (c : Cat) → HasEnded new c → IsWholeIn start.script start.blocks new
   whole_in new stays orderly whole c end = record {
     opening = m.opening;
     after = c;
@@ -135,7 +135,7 @@ module _ (start : Plain) (good : Good start) (m : IsMounted start.blocks start.s
   }
 
   -- a run that has come to its end
-  pub end_in : (what : Printed) (new : Plain) (plays : List ℕ) (told now : Option (List Block)) (text : List ℕ) → plays ≡ start.script.plays → IsRotatedIn (budget_of start) (played plays start) new → AllOver new → Good new
+  unfoldable pub end_in : (what : Printed) (new : Plain) (plays : List ℕ) (told now : Option (List Block)) (text : List ℕ) → plays ≡ start.script.plays → IsRotatedIn (budget_of start) (played plays start) new → AllOver new → Good new
       → Stays start new → Whole new.script new.history → now ≡ told_as told new.blocks → (c : Cat) × HasEnded new c × (text ≡ printed_text what new c)
       → IsEndIn what start.script start.blocks told now text
   unfolding drive_in has_run whole_in

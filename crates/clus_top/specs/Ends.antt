@@ -21,7 +21,7 @@ use Rattle.run_engine.specs.Walks.{played, budget_of, AllOver, IsRotatedIn, IsSp
 use Rattle.run_engine.specs.Ended.{IsSpelt}
 use Rattle.vol_parts.specs.declared.finding.Finding.{Finding}
 use Rattle.vol_parts.specs.declared.geometry.Geometry.{Geometry}
-use Rattle.vol_parts.specs.Findings.{home_at, AreFindings, Accepts, CatOf}
+use Rattle.vol_parts.specs.Findings.{home_at, AreFindings, Accepts, CatOf, IsFirstFatal}
 use Rattle.vol_faults.specs.Free.{IsGeometryBy}
 use Rattle.run_script.specs.Lines.{lines_of}
 use Rattle.run_script.specs.Spelling.{SpellsScript}
@@ -36,6 +36,8 @@ use Rattle.clus_top.specs.Runs.{IsScriptOf, IsSoakOf, is_mending, report_text, s
 use Rattle.vol_init.specs.declared.fault.InitFault.{InitFault}
 use Rattle.vol_init.specs.declared.fault.InitFault.TheVariants as fault
 use Rattle.vol_init.specs.Refusals.{refusal}
+use Rattle.vol_rebuild.specs.declared.fault.RebuildFault.{RebuildFault}
+use Rattle.vol_rebuild.specs.declared.fault.RebuildFault.TheVariants as rebuild
 use Rattle.clus_top.specs.Statuses.{IsTooLong, IsBad, IsOverfull, IsGood, IsAccepted, sized, status_text, cut_text}
 use Rattle.clus_top.specs.Images.{IsLackingDriveOf, IsSpentDriveOf, IsCutShort}
 
@@ -236,3 +238,17 @@ IsInitEnd cluster files label size had has (status.BadSize n) = (n ≡ size) × 
 IsInitEnd cluster files label size had has (status.BadInit f) = IsInside size × (refusal (sized cluster files size) label ≡ Some f)
 IsInitEnd cluster files label size had has status.NoMemory = Unit {0}
 IsInitEnd cluster files label size had has s = ⊥
+
+-- the status of a mending that failed
+abbrev pub rebuild_status : RebuildFault → Status
+rebuild_status (rebuild.NotMendable f) = status.NotMendable f
+rebuild_status rebuild.ImageFault = status.ImageFault
+rebuild_status rebuild.NoMemory = status.NoMemory
+
+-- why an image was not mended
+abbrev pub IsRebuildEnd : ℕ → Option (List Block) → ℕ → ℕ → Status → Type 0
+IsRebuildEnd size told had has status.ImageFault = Rose had has
+IsRebuildEnd size told had has (status.BadSize n) = (n ≡ size) × IsOutside size
+IsRebuildEnd size told had has (status.NotMendable f) = IsInside size × IfSome told (λ bs. IsFirstFatal bs f)
+IsRebuildEnd size told had has status.NoMemory = Unit {0}
+IsRebuildEnd size told had has s = ⊥

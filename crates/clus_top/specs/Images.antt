@@ -9,9 +9,12 @@ use Rattle.run_engine.specs.declared.status.Status.TheVariants as status
 use Rattle.plain_cat.specs.declared.script.Script.{Script}
 use Rattle.core_state.specs.Worlds.{Plain}
 use Rattle.run_engine.specs.Walks.{played, budget_of, AllOver, IsSpent, IsNextIn, IsBeforeWrite}
-use Rattle.clus_top.specs.Words.{Wanted, Run, Soak, Analyze, Init}
+use Rattle.clus_top.specs.Words.{Wanted, Run, RunRebuild, Soak, Analyze, Rebuild, Init}
 use Rattle.clus_top.specs.Runs.{IsScriptOf, IsSoakOf, HasRun, LacksMemory}
-use Rattle.clus_top.specs.Statuses.{status_text, cut_text}
+use Rattle.vol_parts.specs.declared.finding.Finding.{Finding}
+use Rattle.clus_top.specs.Statuses.{status_text, cut_text, unmended_text, IsPlainText}
+use Rattle.clus_top.specs.Mendings.{IsMendedImage, IsStillToMend}
+use Rattle.clus_top.specs.MendedRuns.{HasRunAndMended, IsPartlyMended, IsUnmended}
 
 -- the image has a new volume
 abbrev pub IsImageMade : Home → List Block → Option (List Block) → Type 0
@@ -67,6 +70,26 @@ IsRunImage IsGiven told new status.NoMemory = (new ≡ told) ⊎ IfSome told (λ
 IsRunImage IsGiven told new status.ImageFault = (new ≡ told) ⊎ IfSome told (λ bs. IsCutOf IsGiven bs new)
 IsRunImage IsGiven told new s = new ≡ told
 
+-- After a run that is mended then: the mended volume; where it cannot be mended the drive of the run; after want of memory or a fault of
+-- the image also the drive of the run as far as the mending came, of which one block may be ahead, and which mends to the same.
+abbrev pub IsRunRebuildImage : (Script → Type 0) → Option (List Block) → Option (List Block) → Status → Type 0
+IsRunRebuildImage IsGiven told new status.Ok = IfSome told (λ bs. HasRunAndMended IsGiven bs new)
+IsRunRebuildImage IsGiven told new status.OutFault = IfSome told (λ bs. HasRunAndMended IsGiven bs new)
+IsRunRebuildImage IsGiven told new (status.NotMendable f) = IfSome told (λ bs. IsUnmended IsGiven bs new f)
+IsRunRebuildImage IsGiven told new status.Unfinished = IfSome told (λ bs. IsSpentDriveOf IsGiven bs new)
+IsRunRebuildImage IsGiven told new status.NoMemory = (new ≡ told) ⊎ IfSome told (λ bs. IsLackingDriveOf IsGiven bs new ⊎ IsPartlyMended IsGiven bs new)
+IsRunRebuildImage IsGiven told new status.ImageFault = (new ≡ told) ⊎ IfSome told (λ bs. IsCutOf IsGiven bs new ⊎ IsPartlyMended IsGiven bs new)
+IsRunRebuildImage IsGiven told new s = new ≡ told
+
+-- After a mending: the mended volume; after a fault or want of memory blocks that mend to the same as the old ones, and the old ones
+-- where they have a fatal finding; and else the old blocks.
+abbrev pub IsRebuildImage : Option (List Block) → Option (List Block) → Status → Type 0
+IsRebuildImage told new status.Ok = IfSome told (λ bs. IsMendedImage bs new)
+IsRebuildImage told new status.OutFault = IfSome told (λ bs. IsMendedImage bs new)
+IsRebuildImage told new status.ImageFault = (new ≡ told) ⊎ IfSome told (λ bs. IsStillToMend bs new)
+IsRebuildImage told new status.NoMemory = (new ≡ told) ⊎ IfSome told (λ bs. IsStillToMend bs new)
+IsRebuildImage told new s = new ≡ told
+
 -- ---- what is told of a fault of the image
 
 -- a run that a write cut short, with the lines of the answers before it, which may have found no memory
@@ -74,22 +97,45 @@ pub record IsCutShort (IsGiven : Script → Type 0) (bs : List Block) (new : Opt
   pub cut : IsCutOf IsGiven bs new
   pub written : (text ≡ cut_text cut.world.history) ⊎ (text ≡ status_text status.ImageFault)
 
+-- a run has come to its end, and a write of its mending failed: with the lines of its history, which may have found no memory
+pub record IsMendingCutShort (IsGiven : Script → Type 0) (bs : List Block) (new : Option (List Block)) (text : List ℕ) : Type 0 where
+  pub part : IsPartlyMended IsGiven bs new
+  pub written : (text ≡ cut_text part.ran.world.history) ⊎ (text ≡ status_text status.ImageFault)
+
+-- a run whose drive cannot be mended, with the lines of its history
+pub record IsUnmendedText (IsGiven : Script → Type 0) (bs : List Block) (new : Option (List Block)) (f : Finding) (text : List ℕ) : Type 0 where
+  pub unmended : IsUnmended IsGiven bs new f
+  pub written : text ≡ unmended_text unmended.ran.world.history f
+
 -- The text of a fault of the image: of a run that a write cut short the lines of the answers before it, if they found memory, and
 -- the text of the fault, and else that alone, and the image has its blocks.
-abbrev pub IsRunFaultText : (Script → Type 0) → Option (List Block) → Option (List Block) → List ℕ → Type 0
-IsRunFaultText IsGiven told new text = ((new ≡ told) × (text ≡ status_text status.ImageFault)) ⊎ IfSome told (λ bs. IsCutShort IsGiven bs new text)
+abbrev pub IsRunFaultText : (Script → Type 0) → Option (List Block) → Option (List Block) → Status → List ℕ → Type 0
+IsRunFaultText IsGiven told new status.ImageFault text = ((new ≡ told) × (text ≡ status_text status.ImageFault)) ⊎ IfSome told (λ bs. IsCutShort IsGiven bs new text)
+IsRunFaultText IsGiven told new s text = IsPlainText s text
 
-abbrev pub IsFaultTextOf : Option Wanted → Option (List ℕ) → Option (List Block) → Option (List Block) → List ℕ → Type 0
-IsFaultTextOf (Some Run) left told new text = IsRunFaultText (IsScriptOf left) told new text
-IsFaultTextOf (Some (Soak n)) left told new text = IsRunFaultText (IsSoakOf n) told new text
-IsFaultTextOf (Some Analyze) left told new text = text ≡ status_text status.ImageFault
-IsFaultTextOf (Some (Init cluster files label)) left told new text = text ≡ status_text status.ImageFault
-IsFaultTextOf None left told new text = text ≡ status_text status.ImageFault
+-- The same of a run that is mended then: a write of the mending may have failed too, and where it cannot be mended the lines of the
+-- history come before the text.
+abbrev pub IsMendedFaultText : (Script → Type 0) → Option (List Block) → Option (List Block) → Status → List ℕ → Type 0
+IsMendedFaultText IsGiven told new status.ImageFault text =
+    ((new ≡ told) × (text ≡ status_text status.ImageFault)) ⊎ IfSome told (λ bs. IsCutShort IsGiven bs new text ⊎ IsMendingCutShort IsGiven bs new text)
+IsMendedFaultText IsGiven told new (status.NotMendable f) text = IfSome told (λ bs. IsUnmendedText IsGiven bs new f text)
+IsMendedFaultText IsGiven told new s text = IsPlainText s text
 
--- After a job: a run, a soak and a format write to the image.
+abbrev pub IsFaultTextOf : Option Wanted → Option (List ℕ) → Option (List Block) → Option (List Block) → Status → List ℕ → Type 0
+IsFaultTextOf (Some Run) left told new s text = IsRunFaultText (IsScriptOf left) told new s text
+IsFaultTextOf (Some RunRebuild) left told new s text = IsMendedFaultText (IsScriptOf left) told new s text
+IsFaultTextOf (Some (Soak n)) left told new s text = IsRunFaultText (IsSoakOf n) told new s text
+IsFaultTextOf (Some Analyze) left told new s text = IsPlainText s text
+IsFaultTextOf (Some Rebuild) left told new s text = IsPlainText s text
+IsFaultTextOf (Some (Init cluster files label)) left told new s text = IsPlainText s text
+IsFaultTextOf None left told new s text = IsPlainText s text
+
+-- After a job: a run, a soak, a mending and a format write to the image.
 abbrev pub IsImageAfter : Option Wanted → Option (List ℕ) → Option (List Block) → Option (List Block) → Status → Type 0
 IsImageAfter (Some (Init cluster files label)) left told new s = IfSome told (λ old. IsFormatted (home_of cluster files label) old new s)
 IsImageAfter (Some Run) left told new s = IsRunImage (IsScriptOf left) told new s
+IsImageAfter (Some RunRebuild) left told new s = IsRunRebuildImage (IsScriptOf left) told new s
 IsImageAfter (Some (Soak n)) left told new s = IsRunImage (IsSoakOf n) told new s
 IsImageAfter (Some Analyze) left told new s = new ≡ told
+IsImageAfter (Some Rebuild) left told new s = IsRebuildImage told new s
 IsImageAfter None left told new s = new ≡ told

@@ -1,6 +1,9 @@
 pub mod Words
 pub mod Runs
+pub mod Mendings
+pub mod MendedRuns
 pub mod Statuses
 pub mod Images
 pub mod Ends
+pub mod Halts
 pub mod Verdicts

@@ -7,7 +7,7 @@ use Rattle.blk_drive.specs.Images.{IsInside, IsOutside}
 use Rattle.fx_text.specs.Streams.{AppendsStart}
 use Rattle.vol_texts.specs.Reports.{newline}
 use Rattle.vol_parts.specs.declared.finding.Finding.{Finding}
-use Rattle.vol_parts.specs.Findings.{AreFindings, Accepts}
+use Rattle.vol_parts.specs.Findings.{Weak, AreFindings, Accepts, IsFirstFatal}
 use Rattle.vol_analyze.specs.Texts.{finding_text}
 use Rattle.vol_analyze.specs.Judging.{IsFirstFound}
 use Rattle.plain_cat.specs.declared.script.Script.{Script}
@@ -20,10 +20,12 @@ use Rattle.vol_fresh.specs.Layouts.{total, reserved_clusters}
 use Rattle.vol_init.specs.declared.fault.InitFault.{InitFault}
 use Rattle.vol_init.specs.declared.fault.InitFault.TheVariants as fault
 use Rattle.vol_init.specs.Refusals.{refusal}
-use Rattle.clus_top.specs.Words.{Wanted, Run, Soak, Analyze, Init}
+use Rattle.clus_top.specs.Words.{Wanted, Run, RunRebuild, Soak, Analyze, Rebuild, Init}
 use Rattle.run_engine.specs.Reports.{lines_bytes}
 use Rattle.plain_cat.specs.declared.history.Entry.{Entry}
 use Rattle.clus_top.specs.Runs.{IsScriptOf, IsSoakOf, IsReport, IsSummary, IsUnfinished}
+use Rattle.clus_top.specs.Mendings.{IsMendingText}
+use Rattle.clus_top.specs.MendedRuns.{IsMendedReport, IsUnmendable}
 
 -- why an image is not formatted
 unfoldable pub init_fault_text : InitFault → List ℕ
@@ -46,6 +48,7 @@ status_text status.ImageFault = codes "image fault" ++ newline
 status_text (status.BadSize n) = codes "bad size " ++ (decimal n ++ newline)
 status_text (status.NotAccepted f) = codes "not accepted: " ++ (finding_text f ++ newline)
 status_text status.Findings = []
+status_text (status.NotMendable f) = codes "not mendable: " ++ (finding_text f ++ newline)
 status_text status.OutFault = []
 status_text status.NoMemory = codes "no memory" ++ newline
 status_text status.Unfinished = codes "unfinished" ++ newline
@@ -54,6 +57,10 @@ status_text (status.BadInit f) = init_fault_text f ++ newline
 -- the text of a run that a write of the image has cut short: the lines of the answers so far, and that of the fault
 abbrev pub cut_text : List Entry → List ℕ
 cut_text h = lines_bytes h ++ status_text status.ImageFault
+
+-- that of a run whose drive cannot be mended
+abbrev pub unmended_text : List Entry → Finding → List ℕ
+unmended_text h f = lines_bytes h ++ status_text (status.NotMendable f)
 
 -- ---- scripts
 
@@ -104,10 +111,16 @@ IsRunDue left size told status.ImageFault = IfSome left IsGood
 IsRunDue left size told (status.BadSize n) = IfSome left IsGood × (n ≡ size) × IsOutside size
 IsRunDue left size told (status.NotAccepted f) = IfSome left IsGood × IsInside size × IfSome told (λ bs. IsFirstFound bs f)
 IsRunDue left size told status.Findings = ⊥
+IsRunDue left size told (status.NotMendable f) = ⊥
 IsRunDue left size told status.OutFault = IfSome left IsGood × IsAccepted size told
 IsRunDue left size told status.NoMemory = Unit {0}
 IsRunDue left size told status.Unfinished = IfSome left IsGood × IsAccepted size told × IfSome told (IsUnfinished (IsScriptOf left))
 IsRunDue left size told (status.BadInit f) = ⊥
+
+-- Of a run that is mended then. The order is that of a run, and then whether its catalogue can be mended.
+abbrev pub IsRunRebuildDue : Option (List ℕ) → ℕ → Option (List Block) → Status → Type 0
+IsRunRebuildDue left size told (status.NotMendable f) = IfSome left IsGood × IsAccepted size told × IfSome told (λ bs. IsUnmendable (IsScriptOf left) bs f)
+IsRunRebuildDue left size told s = IsRunDue left size told s
 
 -- Of a soak, which reads no script. The order is image read, size, acceptance, output.
 abbrev pub IsSoakDue : ℕ → ℕ → Option (List Block) → Status → Type 0
@@ -129,6 +142,21 @@ IsAnalysisDue size told status.Findings = IsInside size × IfSome told HasFindin
 IsAnalysisDue size told status.OutFault = IsAccepted size told
 IsAnalysisDue size told status.NoMemory = Unit {0}
 IsAnalysisDue size told s = ⊥
+
+-- an image of a volume's size has no fatal finding
+pub record IsMendable (size : ℕ) (told : Option (List Block)) : Type 0 where
+  pub inside : IsInside size
+  pub weak : IfSome told Weak
+
+-- Of a mending. The order is image read, size, the fatal findings, writes, output.
+abbrev pub IsRebuildDue : ℕ → Option (List Block) → Status → Type 0
+IsRebuildDue size told status.Ok = IsMendable size told
+IsRebuildDue size told status.ImageFault = Unit {0}
+IsRebuildDue size told (status.BadSize n) = (n ≡ size) × IsOutside size
+IsRebuildDue size told (status.NotMendable f) = IsInside size × IfSome told (λ bs. IsFirstFatal bs f)
+IsRebuildDue size told status.OutFault = IsMendable size told
+IsRebuildDue size told status.NoMemory = Unit {0}
+IsRebuildDue size told s = ⊥
 
 -- the layout of a volume of so many blocks
 abbrev pub sized : ℕ → ℕ → ℕ → Layout
@@ -160,8 +188,10 @@ IsWordsDue s = ⊥
 abbrev pub IsDue : Option Wanted → Option (List ℕ) → ℕ → Option (List Block) → Status → Type 0
 IsDue None left size told s = IsWordsDue s
 IsDue (Some Run) left size told s = IsRunDue left size told s
+IsDue (Some RunRebuild) left size told s = IsRunRebuildDue left size told s
 IsDue (Some (Soak n)) left size told s = IsSoakDue n size told s
 IsDue (Some Analyze) left size told s = IsAnalysisDue size told s
+IsDue (Some Rebuild) left size told s = IsRebuildDue size told s
 IsDue (Some (Init cluster files label)) left size told s = IsInitDue cluster files label size s
 
 -- ---- what is written
@@ -170,6 +200,10 @@ IsDue (Some (Init cluster files label)) left size told s = IsInitDue cluster fil
 -- those that the image has then
 abbrev pub IsReportOn : Option (List ℕ) → Option (List Block) → Option (List Block) → List ℕ → Type 0
 IsReportOn left told new text = IfSome told (λ bs. IsReport (IsScriptOf left) bs new text)
+
+-- the same of a run that is mended then
+abbrev pub IsMendedReportOn : Option (List ℕ) → Option (List Block) → Option (List Block) → List ℕ → Type 0
+IsMendedReportOn left told new text = IfSome told (λ bs. IsMendedReport (IsScriptOf left) bs new text)
 
 -- a text is the summary of this soak on these blocks, where they are told
 abbrev pub IsSummaryOn : ℕ → Option (List Block) → Option (List Block) → List ℕ → Type 0
@@ -197,8 +231,10 @@ made_text label l = codes "volume " ++ (label ++ (codes ": " ++ room_text l))
 abbrev pub IsTextOf : Option Wanted → Option (List ℕ) → ℕ → Option (List Block) → Option (List Block) → List ℕ → Type 0
 IsTextOf None left size told new text = ⊥
 IsTextOf (Some Run) left size told new text = IsReportOn left told new text
+IsTextOf (Some RunRebuild) left size told new text = IsMendedReportOn left told new text
 IsTextOf (Some (Soak n)) left size told new text = IsSummaryOn n told new text
 IsTextOf (Some Analyze) left size told new text = text ≡ accepted_text
+IsTextOf (Some Rebuild) left size told new text = IfSome told (λ bs. IsMendingText bs new text)
 IsTextOf (Some (Init cluster files label)) left size told new text = text ≡ made_text label (sized cluster files size)
 
 -- the line of a finding
@@ -219,11 +255,16 @@ pub record IsFindingsText (text : List ℕ) (bs : List Block) : Type 0 where
 abbrev pub IsWritten : Option (List ℕ) → Option (List ℕ) → ℕ → ℕ → List ℕ → Type 0
 IsWritten old new before now text = Appends old new text ⊎ (Rose before now × AppendsStart old new text)
 
--- What was written at a status, where R is said of the text of status 0, and F of the text of a fault of the image: all of that
--- text, or first bytes of it where the sink fails; the findings; or the text of the status.
-abbrev pub Writes : (R F : List ℕ → Type 0) → Option (List Block) → Option (List ℕ) → Option (List ℕ) → ℕ → ℕ → Status → Type 0
+-- the text of a status alone
+abbrev pub IsPlainText : Status → List ℕ → Type 0
+IsPlainText s text = text ≡ status_text s
+
+-- What was written at a status, where R is said of the text of status 0, and F of the text of a fault of the image and of a volume that
+-- cannot be mended: all of that text, or first bytes of it where the sink fails; the findings; or the text of the status.
+abbrev pub Writes : (R : List ℕ → Type 0) → (F : Status → List ℕ → Type 0) → Option (List Block) → Option (List ℕ) → Option (List ℕ) → ℕ → ℕ → Status → Type 0
 Writes R F told old new before now status.Ok = (text : List ℕ) × R text × Appends old new text
 Writes R F told old new before now status.OutFault = (text : List ℕ) × R text × AppendsStart old new text
 Writes R F told old new before now status.Findings = (text : List ℕ) × IfSome told (IsFindingsText text) × IsWritten old new before now text
-Writes R F told old new before now status.ImageFault = (text : List ℕ) × F text × IsWritten old new before now text
+Writes R F told old new before now status.ImageFault = (text : List ℕ) × F status.ImageFault text × IsWritten old new before now text
+Writes R F told old new before now (status.NotMendable f) = (text : List ℕ) × F (status.NotMendable f) text × IsWritten old new before now text
 Writes R F told old new before now s = IsWritten old new before now (status_text s)

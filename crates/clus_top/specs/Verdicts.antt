@@ -3,7 +3,7 @@ use Rattle.std.specs.Prelude.{◌≡◌, ℕ, Bool, true, false, List, Option, S
 use Rattle.vol_words.specs.Fields.{Block}
 use Rattle.run_engine.specs.declared.status.Status.{Status}
 use Rattle.run_engine.specs.declared.status.Status.TheVariants as status
-use Rattle.clus_top.specs.Words.{Wanted}
+use Rattle.clus_top.specs.Words.{Wanted, RunRebuild}
 use Rattle.clus_top.specs.Statuses.{IsDue}
 
 -- a status that speaks of what came in alone: no fault, no want of memory, and no want of turns
@@ -15,9 +15,18 @@ is_verdict status.NoMemory = false
 is_verdict status.Unfinished = false
 is_verdict s = true
 
+-- Of a run that is mended then, also not the one that speaks of where the run has led: that the volume cannot be mended there.
+abbrev pub is_mended_verdict : Status → Bool
+is_mended_verdict (status.NotMendable f) = false
+is_mended_verdict s = is_verdict s
+
+abbrev pub is_verdict_of : Option Wanted → Status → Bool
+is_verdict_of (Some RunRebuild) s = is_mended_verdict s
+is_verdict_of wanted s = is_verdict s
+
 -- of a job, a script and blocks that are told one such status is due, and no other one
 pub record HasOneVerdict (wanted : Option Wanted) (bytes : List ℕ) (size : ℕ) (bs : List Block) : Type 0 where
   pub status : Status
-  pub verdict : is_verdict status ≡ true
+  pub verdict : is_verdict_of wanted status ≡ true
   pub due : IsDue wanted (Some bytes) size (Some bs) status
-  pub alone : (other : Status) → is_verdict other ≡ true → IsDue wanted (Some bytes) size (Some bs) other → other ≡ status
+  pub alone : (other : Status) → is_verdict_of wanted other ≡ true → IsDue wanted (Some bytes) size (Some bs) other → other ≡ status

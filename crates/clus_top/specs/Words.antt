@@ -5,19 +5,23 @@ use Rattle.std.specs.Str.{bytes_eq}
 use Rattle.clus_top.specs.declared.words.Job.{Job}
 use Rattle.clus_top.specs.declared.words.Job.TheVariants as job
 
--- a job: run the script, run the soak of this number, print what is found in the volume, or format the image with these blocks in a
--- cluster, these file numbers and this label
+-- a job: run the script, run it and mend the volume then, run the soak of this number, print what is found in the volume, mend it, or
+-- format the image with these blocks in a cluster, these file numbers and this label
 pub data Wanted : Type 0 where
   Run : Wanted
+  RunRebuild : Wanted
   Soak : ℕ → Wanted
   Analyze : Wanted
+  Rebuild : Wanted
   Init : ℕ → ℕ → List ℕ → Wanted
 
 -- what a job of the program is
 abbrev pub wanted : Job → Wanted
 wanted job.Run = Run
+wanted job.RunRebuild = RunRebuild
 wanted (job.Soak n) = Soak n
 wanted job.Analyze = Analyze
+wanted job.Rebuild = Rebuild
 wanted (job.Init cluster files label) = Init cluster files label.now
 
 -- the number of a soak is at most 256
@@ -44,7 +48,11 @@ number word = if list_all is_digit word then value_of word else None
 
 -- a job of one word
 unfoldable pub named : List ℕ → Option Wanted
-named word = if bytes_eq word (codes "run") then Some Run else if bytes_eq word (codes "analyze") then Some Analyze else None
+named word =
+    if bytes_eq word (codes "run") then Some Run
+    else if bytes_eq word (codes "analyze") then Some Analyze
+    else if bytes_eq word (codes "rebuild") then Some Rebuild
+    else None
 
 -- a soak has a number from 1 to 256
 abbrev pub is_soak : ℕ → Bool
@@ -57,6 +65,11 @@ soak_of None = None
 -- the words of a soak
 unfoldable pub soaked : List ℕ → List ℕ → Option Wanted
 soaked word count = if bytes_eq word (codes "soak") then soak_of (number count) else None
+
+-- the words of a run that is mended, or of a soak
+unfoldable pub paired : List ℕ → List ℕ → Option Wanted
+paired word more =
+    if bytes_eq word (codes "run") then (if bytes_eq more (codes "--rebuild") then Some RunRebuild else None) else soaked word more
 
 -- a format, where its two numbers are numbers
 abbrev pub init_with : Option ℕ → Option ℕ → List ℕ → Option Wanted
@@ -72,6 +85,6 @@ formatted word cluster files label =
 -- what the words ask for, or none where they have no reading
 unfoldable pub wanted_by : List (List ℕ) → Option Wanted
 wanted_by (word ∷ []) = named word
-wanted_by (word ∷ count ∷ []) = soaked word count
+wanted_by (word ∷ more ∷ []) = paired word more
 wanted_by (word ∷ cluster ∷ files ∷ label ∷ []) = formatted word cluster files label
 wanted_by words = None

@@ -713,7 +713,7 @@ fn no_entry_is_missing(rt: HostRuntime) -> Result<(), Fail> {
 }
 
 // A directory of so many files with long names, and Z.T after them.
-fn with_a_last(rt: &impl Abort, alloc: Global, count: u32) -> Result<MemImage, NoMemory> {
+pub fn with_a_last(rt: &impl Abort, alloc: Global, count: u32) -> Result<MemImage, NoMemory> {
     let mut text = Written::new(alloc, "NODES 1\n")?;
     text.push_directory(alloc, count)?;
     let reply = format!(in alloc; "({},1,0) Z.T;1", count.saturating_add(13))?;
@@ -766,7 +766,7 @@ fn an_entry_stands_in_two_blocks(rt: HostRuntime) -> Result<(), Fail> {
 }
 
 // A volume of 256 clusters of one block, whose directory of lost files has no room left.
-fn crowded(rt: &impl Abort, alloc: Global) -> Result<MemImage, NoMemory> {
+pub fn crowded(rt: &impl Abort, alloc: Global) -> Result<MemImage, NoMemory> {
     let words = ["init", "1", "64", "SMALL"];
     let image = call(alloc, &words, zeros(alloc, 256)?, "")?.image;
     let lost = ("LOST", "(11,1,0)");

@@ -1,9 +1,25 @@
 //! The top call: the program `vmsclus` over any image, script source and text sink.
+//!
+//! The words ask for a job: `run` runs a script on a volume, `run --rebuild` mends the volume then too, `soak` runs a script that is
+//! drawn from a number, `analyze` reports what is wrong with a volume, `rebuild` mends it, `init` makes one. `Finished` has the
+//! `Status` of the call, and the image.
+//!
+//! ```text
+//! let finished = vmsclus(alloc, words, image, &mut script, &mut out);
+//! ```
+//!
+//! Each status comes only under its condition (`due`), and of all inputs one is due, but for faults, want of memory,
+//! `Unfinished` and, of `run --rebuild`, `NotMendable` (`one_status_is_due`). With status 0 the report of a run is the answers of
+//! one uncached volume, taken one after the other, with the stages and leaks of deaths (`written`), and the image has the blocks
+//! to which they lead (`after`), mended by the report's last entry if the job is `run --rebuild`. With other statuses these two
+//! say what was written, and what the image has. A fault is reported only if its object's count of faults rose.
 #![tactic(auto)]
 
 mod analysis;
 mod format;
+mod rebuild;
 mod run;
+mod run_rebuild;
 mod script;
 mod tell;
 mod theorems;
@@ -32,6 +48,10 @@ mod making;
 mod queues;
 #[cfg(test)]
 mod quotas;
+#[cfg(test)]
+mod rebuilding;
+#[cfg(test)]
+mod run_rebuilding;
 #[cfg(test)]
 mod soaks;
 #[cfg(test)]

@@ -106,8 +106,8 @@ fn cut_by(lines: Result<Vec<u8>, NoMemory>) -> Stop
     }
 }
 
-// Why a run stopped before its end.
-fn stop_of<I: ImageDev>(alloc: Global, w: &World<I, XqpOp>, fault: RunFault) -> Stop
+/// Why a run stopped before its end.
+pub fn stop_of<I: ImageDev>(alloc: Global, w: &World<I, XqpOp>, fault: RunFault) -> Stop
     ensures { IsStopOf w.now.world fault result }
 {
     match fault {
@@ -141,8 +141,8 @@ fn run_on<I: ImageDev>(
     }
 }
 
-// Why a drive was not mounted.
-fn mount_status(fault: MountFault) -> Status
+/// Why a drive was not mounted.
+pub fn mount_status(fault: MountFault) -> Status
     ensures { result ≡ mount_status fault }
 {
     match fault {

@@ -43,6 +43,17 @@ fn not_accepted(alloc: Global, found: &Finding) -> Result<Vec<u8>, NoMemory>
     Ok(text)
 }
 
+/// The text of a volume that cannot be mended.
+#[tactic(auto, unfolding(crate::specs::Statuses::status_text))]
+pub fn not_mendable(alloc: Global, found: &Finding) -> Result<Vec<u8>, NoMemory>
+    ensures { IfOk result (λ text. text.items ≡ status_text (Status.NotMendable found.now)) }
+{
+    let mut text = Vec::new(alloc);
+    push_bytes(&mut text, b"not mendable: ")?;
+    push_line(alloc, &mut text, found)?;
+    Ok(text)
+}
+
 // Why an image was not formatted.
 #[tactic(auto, unfolding(crate::specs::Statuses::init_fault_text, crate::specs::Statuses::status_text))]
 fn init_text(fault: InitFault) -> &'static [u8]
@@ -67,6 +78,7 @@ fn status_text(alloc: Global, status: &Status) -> Result<Vec<u8>, NoMemory>
         Status::BadScript(n) => return numbered(alloc, b"bad line ", *n),
         Status::BadSize(n) => return numbered(alloc, b"bad size ", *n),
         Status::NotAccepted(found) => return not_accepted(alloc, found),
+        Status::NotMendable(found) => return not_mendable(alloc, found),
         Status::Ok | Status::Findings | Status::OutFault => b"",
         Status::BadWords => b"bad words\n",
         Status::ScriptFault => b"script fault\n",
@@ -150,6 +162,16 @@ pub fn tell_cut<O: TextOut>(out: &mut O, text: &[u8]) -> Status
 {
     write_text(out, text);
     Status::ImageFault
+}
+
+/// Writes the text of a run whose drive cannot be mended, and answers the status: that of this finding. A fault of the sink does not
+/// change it.
+pub fn tell_unmended<O: TextOut>(out: &mut O, text: &[u8], found: Finding) -> Status
+    ensures status { result ≡ Status.NotMendable found }
+    ensures text { IsWritten (O.written out.old) (O.written out.new) (O.faults out.old) (O.faults out.new) text.now }
+{
+    write_text(out, text);
+    Status::NotMendable(found)
 }
 
 /// Writes the text of status 0, and answers the status: 0, or a fault of the sink.

@@ -1,6 +1,6 @@
 ghost use Rattle.std.specs.Prelude.{◌≡◌, ◌-◌, ◌≤◌, true, IfSome, option_map};
 ghost use Rattle.std.specs.List.{list_all};
-ghost use Rattle.clus_top.specs.Words.{wanted, is_soak, is_digit, value_of, number, named, soaked, formatted, wanted_by, IsWithinLimits};
+ghost use Rattle.clus_top.specs.Words.{wanted, is_soak, is_digit, value_of, number, named, soaked, paired, formatted, wanted_by, IsWithinLimits};
 
 use fx_text::Word;
 
@@ -10,11 +10,17 @@ pub enum Job<'a> {
     /// `run`: run the script.
     Run,
 
+    /// `run --rebuild`: run the script, and mend the volume once the last node is over.
+    RunRebuild,
+
     /// `soak N`: run the script that is drawn from this number, 1 to 256.
     Soak(u32),
 
     /// `analyze`: print the findings.
     Analyze,
+
+    /// `rebuild`: mend the volume.
+    Rebuild,
 
     /// `init CLUSTER FILES LABEL`: format the image.
     Init {
@@ -90,6 +96,9 @@ fn named(word: &[u8]) -> Option<Job<'_>>
     if word == b"analyze".as_slice() {
         return Some(Job::Analyze);
     }
+    if word == b"rebuild".as_slice() {
+        return Some(Job::Rebuild);
+    }
     None
 }
 
@@ -112,6 +121,22 @@ fn soaked<'a>(word: &[u8], count: &[u8]) -> Option<Job<'a>>
     }
     let n = number(count)?;
     if is_soak(n) { Some(Job::Soak(n)) } else { None }
+}
+
+// The run with a mending, or the soak, that two words ask for.
+#[tactic(auto, unfolding(crate::specs::Words::paired))]
+fn paired<'a>(word: &[u8], more: &[u8]) -> Option<Job<'a>>
+    ensures wanted { option_map wanted result ≡ paired word.now more.now }
+    ensures limits { IfSome result IsWithinLimits }
+{
+    if word != b"run".as_slice() {
+        return soaked(word, more);
+    }
+    if more == b"--rebuild".as_slice() {
+        Some(Job::RunRebuild)
+    } else {
+        None
+    }
 }
 
 // The format that four words ask for.
@@ -138,7 +163,7 @@ pub fn job_of(words: &[Word]) -> Option<Job<'_>>
 {
     match words {
         [word] => named(word.bytes()),
-        [word, count] => soaked(word.bytes(), count.bytes()),
+        [word, more] => paired(word.bytes(), more.bytes()),
         [word, cluster, files, label] => formatted(
             word.bytes(),
             cluster.bytes(),

@@ -1,5 +1,16 @@
-//! The rules for space of one node: how its stock of free clusters and file numbers is filled from the bitmaps, given back to them,
-//! and how all free space is searched where no stock is left.
+//! The rules by which a node fills its stock of free clusters and file numbers, gives it back, and searches all free space if no
+//! stock is left.
+//!
+//! `SpaceRun` is how far a node has come by the rules (`Phase`), `SpaceEvent` what it does next, `Decision` what the blocks
+//! looked at come to.
+//!
+//! ```text
+//! let event = space_next(alloc, &geometry, locks, &run, &stock, need)?;
+//! ```
+//!
+//! `space_next` and `space_writes` give exactly the event and the writes of the definition. Laws: a filling leaves what is needed
+//! and at most 16 clusters and 8 numbers more (`fills_enough`), the lowest (`takes_lowest`); a need is refused only in the search
+//! of all free space, under X in EX and V in PW (`refused_last`). The core uses them.
 #![tactic(auto)]
 
 mod bits;

@@ -1,4 +1,16 @@
 //! The world of a cluster: a drive, a lock table, the nodes with their commands under way, and the history of their answers.
+//!
+//! A `World` is all of it, mounted for a script. A `Core` is what it is made of, a `Node` one node. Contracts see it as plain
+//! data.
+//!
+//! ```text
+//! let mounted = World::<I, XqpOp>::mount(alloc, mirror, script);  // or the drive back, with the cause
+//! ```
+//!
+//! `mount` gives exactly the world of an accepted volume with all nodes at rest, or the drive back, with the first finding or
+//! want of memory (`world`, `end`). At any time the history replays, in each node's own order, and the drive has the blocks to
+//! which it leads, with the writes done of each plan (`keeps_the_rules`). Laws: a turn and a death keep this
+//! (`turns_keep_the_rules`, `deaths_keep_the_rules`).
 #![tactic(auto)]
 
 mod cluster;

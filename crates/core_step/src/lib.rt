@@ -1,4 +1,17 @@
-//! The turns of the nodes: each makes one event.
+//! The turns of the nodes: each makes one event, that of the first rule that applies to the node.
+//!
+//! A `Turn` says what it made: a step of a `Kind`, an answer, or nothing, while a request waits or once the node is over.
+//!
+//! ```text
+//! match turn(alloc, &mut world, node)? {
+//!     Turn::Answered => ..,  // the last entry of the history
+//!     _ => ..,
+//! }
+//! ```
+//!
+//! The world is then exactly the one of the definition (`moved`), and after a fault as it was (`same`). `ImageFault` comes only
+//! in place of a write and if the image's count of faults rose (`before`, `cause`); the image has the blocks from before, or
+//! those that the turn would have left (`torn`). `NoMemory` never comes in place of a write of a plan or of an answer (`memory`).
 #![tactic(auto)]
 
 mod answers;

@@ -1,5 +1,12 @@
-//! Worked examples of deaths, as laws on values: what a stage leaves, what a death ends, whose commands a history has, and who is
-//! killed. The volume is the fresh one of `plain_rows`.
+//! Laws on values: worked examples of deaths, on the fresh volume of `plain_rows`. Each is the contract of a function that does
+//! nothing.
+//!
+//! `a_create_stops` shows what the stages `charged` and `lost` leave, `a_rename_stops` that both names are there at `both`.
+//! `a_death_closes_and_leaks` shows the end of an open and a leak. `nodes_give_their_own_commands` and `nodes_die_where_killed`
+//! show histories that the definitions refuse.
+//!
+//! No crate uses them. They show a reader what the definitions of deaths say in small cases, and a change that breaks a case is
+//! refused.
 #![tactic(auto)]
 
 ghost use Rattle.death_rows.specs.Deaths.{CreateIsCharged, CreateIsLost, RenameHasBoth, RefusedShowsNothing, DeathClosesAndLeaks, OwnByNodes, KilledByScript};

@@ -1,5 +1,16 @@
 //! A lock database that is distributed over nodes.
 //!
+//! A [`Dlm`] is the database of all nodes, an [`Event`] what happens to it, and [`Told`] what it answers.
+//!
+//! ```text
+//! let told = dlm.step(alloc, &Event::Pass { from: 1, to: 2 })?;
+//! ```
+//!
+//! Each step makes exactly the state of the definition (`after`), and after want of memory nothing has changed (`err`). At any
+//! time the modes that two owners of living nodes believe on one name are compatible (`safe`); it holds after every list of
+//! events (`laws::beliefs_go_together`). A grant that is delivered was sent by the event that gave the lock
+//! (`laws::grants_are_true`). The file system does not use this crate.
+//!
 //! Each resource has a master: the node that keeps its locks, its queues and its value block. An owner on any node calls it
 //! by messages, and acts on a new lock or a greater mode only when the message with the grant has come. The core is a plain
 //! value over events: no clock, no thread, no network. An event asks, drops, delivers the first message from one node to

@@ -1,6 +1,14 @@
 //! A node's stock: free clusters and file numbers that it has taken out of the bitmaps and not given to a file.
 //!
-//! The lowest of each go out first. What goes in was made room for before, so that it takes no memory.
+//! `Extents` is the stock, `Taken` what it gives for a file. The lowest of each go out first.
+//!
+//! ```text
+//! let taken = stock.take(alloc, 3, true)?;  // three clusters and a file number, or none if it holds too few
+//! ```
+//!
+//! `take` and `lowest` give exactly the lowest, and none if and only if the stock holds too few; after none or want of memory the
+//! stock is as before. `put_clusters`, `put_number` and `put_all` take no memory: room was made before. After a put the stock
+//! holds exactly what it held and what was put in (`laws::puts_are_exact`).
 #![tactic(auto)]
 
 mod extents;

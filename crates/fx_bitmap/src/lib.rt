@@ -1,4 +1,15 @@
 //! Bitmaps of a Files-11 ODS-2 volume: the 4,096 bits of a block, the lowest of each byte first.
+//!
+//! It has no types of its own: a block is `Block`, a bit a number below 4,096.
+//!
+//! ```text
+//! set_bits(&mut b, 25, 231);
+//! assert_eq!(rt; first_set_from(&b, 0), Some(25));
+//! ```
+//!
+//! `set_bits` and `clear_bits` put a run of bits, and leave each other bit as it was (`bits`). `first_set_from` gives the lowest
+//! set bit from there on, and none if and only if all are clear. Two blocks with the same bits are equal (`bits_tell_the_block`).
+//! No call takes memory.
 #![tactic(auto)]
 
 ghost use Rattle.std.specs.Prelude.{◌≡◌, ◌+◌, ◌≤◌, ◌<◌, ◌==◌, ◌≢◌, ℕ, true, false, if◌then◌else◌};

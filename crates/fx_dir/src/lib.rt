@@ -1,10 +1,16 @@
 //! Directories of Files-11 ODS-2, in this project's profile, read and written block by block.
 //!
-//! A block is a list of records and a word that ends them. A record has a name and versions of it, each with the file
-//! identifier that it stands for. [`read_dir`] reads the blocks of a directory, [`packed`] fills blocks with entries, and
-//! [`insert_moves`] and [`remove_moves`] give the writes, block by block, by which an entry comes or goes while the
-//! directory has its other entries at every moment, and [`pack_moves`] those by which entries that stand in two blocks
-//! come to stand in one.
+//! A block is a list of records and a word that ends them. A record has a name and versions of it, each with the file identifier
+//! that it stands for. [`read_dir`] reads the blocks of a directory, [`packed`] fills blocks with entries, and [`insert_moves`]
+//! and [`remove_moves`] give the writes, block by block, by which an entry comes or goes while the directory has its other
+//! entries at every moment, and [`pack_moves`] those by which entries that stand in two blocks come to stand in one.
+//!
+//! ```text
+//! let moves = insert_moves(alloc, blocks, &entry)?;  // none if the entries with the new one do not pack
+//! ```
+//!
+//! The reader gives exactly the entries, or exactly the first fault. After each write of an insertion but the last the blocks
+//! read as the old entries, and after the last with the new one (`Inserts`). What is packed reads back (`packed`: `read`).
 #![tactic(auto)]
 
 ghost use Rattle.std.specs.Prelude.{◌≡◌, IfOk};

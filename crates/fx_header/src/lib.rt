@@ -1,4 +1,17 @@
 //! File headers of Files-11 ODS-2 and their retrieval pointers, read and written exactly.
+//!
+//! A header slot is a `Slot`: free, with the last sequence number, or used, with the fields `Hdr`. A `Run` is a row of blocks. A
+//! `HeaderFault` is what can be wrong with a header.
+//!
+//! ```text
+//! let mut b = new_header(&fields, b"A.TXT;1", (4, 4));
+//! if set_runs(&mut b, &[Run { lbn: 50, count: 2 }]) { .. }
+//! ```
+//!
+//! `read_header` gives exactly what the slot says, or the first of seven faults. Each setter changes its field and the checksum
+//! alone (`written`), and a sound header then reads as before with that field changed (`reads`). `set_runs` answers false if and
+//! only if the pointers do not fit, and then changes nothing; otherwise the runs read back, adjacent ones merged. No call takes
+//! memory.
 #![tactic(auto)]
 
 mod flags;

@@ -24,7 +24,7 @@ pub struct Hdr {
     pub marked: bool,
     /// The blocks that are allocated to the file (HIBLK).
     pub blocks: u32,
-    /// One more than the highest virtual block written (HIGHWATER), or 0 where no mark is kept.
+    /// The virtual block from which on blocks count as not written (HIGHWATER), or 0 if no mark is kept.
     pub mark: u32,
     /// The virtual block that the end of file lies in (EFBLK), at most one more than `blocks`.
     pub end: u32,

@@ -175,7 +175,7 @@ pub fn clear_contig(b: &mut Block)
     set_sum(b);
 }
 
-/// Writes the mark: one more than the highest virtual block written, or 0 for none.
+/// Writes the mark: the virtual block from which on blocks count as not written, or 0 for none.
 #[tactic(auto, unfolding(crate::specs::Headers::with_mark))]
 pub fn set_mark(b: &mut Block, mark: u32)
     ensures written { b.new ≡ with_mark b.old mark }

@@ -1,4 +1,14 @@
 //! The quota file of a Files-11 ODS-2 volume: 16 rows in a block, each with the usage and the quota of one owner.
+//!
+//! A `Row` has the owner, and the usage, quota and overdraft in blocks. A row that is not active reads as none.
+//!
+//! ```text
+//! set_row(&mut b, 1, &row_of_owner);
+//! assert_eq!(rt; row(&b, 1), Some(row_of_owner));
+//! ```
+//!
+//! `set_row` and `clear_row` change one row, and each other row reads as before (`rows`). Exactly which bytes change is said too
+//! (`block`): other flags and reserved bytes stay. No call takes memory.
 #![tactic(auto)]
 
 ghost use Rattle.std.specs.Prelude.{◌≡◌, ◌<◌, Some, None};

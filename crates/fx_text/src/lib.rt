@@ -1,5 +1,16 @@
-//! Texts that come in and go out: words of the command line, sources and sinks of bytes, and the two calls that move a
-//! whole text.
+//! Texts that come in and go out: the script, the report, and the words of the command line.
+//!
+//! `TextIn` gives bytes and `TextOut` takes them. `MemIn` and `MemOut` are in memory, `StdIn` and `StdOut` are over readers and
+//! writers of std. A `Word` is a word of the command line.
+//!
+//! ```text
+//! let text = read_all(alloc, &mut source, 10_000)?;
+//! write_all(&mut sink, &text)?;
+//! ```
+//!
+//! `read_all` gives all that was left, up to the end of input; `TooLong` comes only if more than the limit was left. `write_all`
+//! has written all bytes after those that were there, or, after a fault, some first ones. A fault comes only if the count of
+//! faults of the source or the sink rose in that call, or is at its last value.
 #![tactic(auto)]
 
 ghost use Rattle.std.specs.Prelude.{◌<◌, ◌≤◌, ℕ, List, Option, length, IfOk};

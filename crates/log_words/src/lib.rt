@@ -1,6 +1,14 @@
-//! The words of a report's lines: which entry a line is about, read off its front. Nothing reads a reply, but for the number
-//! that the reply of a new file shows: whoever judges a line works the reply out, writes the line, and compares it byte by byte.
-//! So a reader here owes one thing: what was written as a line is read as its entry.
+//! The words of a report's lines: which entry a line is about, read off its front.
+//!
+//! A `Draft` is that entry: an answer (`Given`: a node and its command), a `Death` or a mending. No reply is read but the number
+//! that the reply of a new file shows; whoever judges a line works the reply out, writes the line anew, and compares.
+//!
+//! ```text
+//! let draft = draft_of(alloc, body_of(line))?;
+//! ```
+//!
+//! What was written as a line is read as its entry (`IsDrafted`); of other texts `draft_of` says nothing. `read_command` gives
+//! only a node and a command in form (`form`), and reads back each that is written (`back`). `log_lines` uses `draft_of`.
 #![tactic(auto)]
 
 mod commands;

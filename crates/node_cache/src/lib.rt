@@ -1,7 +1,16 @@
 //! A node's own cache of blocks that it has looked at under a lock.
 //!
-//! An entry is good for as long as the sequence in its lock's value block is the entry's. Who looks compares them: the
-//! cache keeps what it is given, finds it again, and lets the entry go that was not used for longest.
+//! An entry of a [`NodeCache`] is good for as long as the sequence in its lock's value block is the entry's. Who looks compares
+//! them: the cache keeps what it is given, finds it again, and lets the entry go that was not used for longest.
+//!
+//! ```text
+//! cache.keep(alloc, 5, LockName::V, 7, &block)?;  // LBN, lock, sequence, bytes
+//! let seen = cache.current(5, LockName::V, 7);
+//! ```
+//!
+//! `current` gives the bytes if and only if there is an entry for that block, lock and sequence (`block`). After each call there
+//! are at most 64 entries, and no block twice (`laws::caches_stay`). What was just kept is found (`laws::kept_is_found`). Whether
+//! a cached block is what the drive has is not said here.
 #![tactic(auto)]
 
 mod cache;

@@ -1,4 +1,15 @@
 //! READ and WRITE: the commands that move a virtual block of a file that a channel has open.
+//!
+//! `OpData` is either of them under way.
+//!
+//! ```text
+//! let op = OpData::of(cmd);
+//! let need = op.next(alloc, &seen)?;
+//! ```
+//!
+//! `next` gives exactly the next need: the file's lock, in PR or PW, its header, for a READ below the mark the block, and the
+//! plan. A WRITE past the mark writes zeros up to the block, then the block, then the header. Each READ with its block in form,
+//! and each WRITE with its block and text in form, obeys the law of a command (`read_obeys_the_law`, `write_obeys_the_law`).
 #![tactic(auto)]
 
 pub mod laws;

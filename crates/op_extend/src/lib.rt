@@ -1,4 +1,15 @@
 //! EXTEND and TRUNC: the commands that give a file more clusters, or fewer.
+//!
+//! `OpExtend` is either of them under way.
+//!
+//! ```text
+//! let op = OpExtend::of(cmd);
+//! let need = op.next(alloc, &seen)?;
+//! ```
+//!
+//! `next` gives exactly the next need: the file's lock in PW and its header, Q in PW and the quota blocks; then for EXTEND
+//! clusters, for TRUNC V in PW and the storage blocks of the clusters that go; and the plan. Each EXTEND and TRUNC whose number
+//! of blocks is in form obeys the law of a command, with whatever file (`extend_obeys_the_law`, `trunc_obeys_the_law`).
 #![tactic(auto)]
 
 mod cutting;

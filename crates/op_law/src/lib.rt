@@ -1,5 +1,15 @@
-//! What a command needs next, by what it has seen: a lock, a block, clusters and a file number, or nothing more, and then its
-//! plan. And the trait of an operation, which works that out.
+//! What a command needs next, by what it has seen, and the law that every command obeys.
+//!
+//! A `Need` is a lock, a block, clusters and a file number, or nothing more, and then a `Plan`: its writes, an ask or none, and
+//! the reply. `Seen` is what the command has seen so far. `Operation` is the trait of a command under way.
+//!
+//! ```text
+//! let Need::Ready(plan) = op.next(alloc, &seen)? else { .. };
+//! ```
+//!
+//! `next` gives exactly the next need of the definition (`IsNext`). `of` promises the law (`Lawful`): the command asks for locks
+//! in order; each write of its plan is to a block that a lock of it guards, or that it has outside files, and leads from stage to
+//! stage; the reply goes with the last; a refusal writes nothing. `seen_goes_on` is a law for the core.
 #![tactic(auto)]
 
 mod alone;

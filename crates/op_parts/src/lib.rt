@@ -1,5 +1,17 @@
-//! What the operations that change names, quotas and files have in common: a directory's names and what they refuse, the quota
-//! blocks and their rows, clusters, and the writes of a plan.
+//! The code that operations share: a directory's names, quota blocks and rows, clusters, and the writes of these in a plan.
+//!
+//! A `DirSeen` is a directory whose header and blocks were seen. `Names` is that, or what the command needs next.
+//!
+//! ```text
+//! match names_seen(alloc, &seen.geometry, dir, seen.all()) {
+//!     Names::Next(need) => Ok(need),
+//!     Names::All(d, rest) => ..,
+//! }
+//! ```
+//!
+//! What was seen is given exactly, or else exactly the next need, whatever the command looks at afterwards (`need`). Each `push_`
+//! call adds exactly the writes of its definition to the plan, as `push_insertion` those that enter an entry and `push_charge`
+//! that of a quota row; after want of memory nothing is said of the writes.
 #![tactic(auto)]
 
 mod clusters;

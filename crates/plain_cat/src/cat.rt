@@ -22,8 +22,8 @@ pub struct File {
     /// How many clusters it has. Times the cluster factor, these are its allocated blocks.
     pub clusters: u32,
 
-    /// The high-water mark: one more than the highest virtual block that was written. 0 is no mark, and then all blocks
-    /// count as written.
+    /// The high-water mark: blocks from this virtual block on count as not written, and read as zeros. 0 is no mark, and then
+    /// all blocks count as written.
     pub mark: u32,
 
     /// The virtual block of the end of file, which may be 0.

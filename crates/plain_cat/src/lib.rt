@@ -1,5 +1,17 @@
-//! The words of the plain volume: names and identifiers, commands and replies, scripts, histories, and the catalogue
-//! itself. They are plain data; what a command answers is said by `plain_vol`, which stands on this crate.
+//! The types of the plain volume: the catalogue, commands, replies, scripts and histories. They are plain data, without blocks,
+//! locks or caches.
+//!
+//! A `Cat` is the catalogue of a volume: its files, quota rows and open channels. A `Cmd` is a command, a `Reply` its answer, an
+//! `Entry` of a `History` an answer, a death or a mending. `plain_vol` says what a command answers.
+//!
+//! ```text
+//! let mut name = Name::new(alloc);
+//! name.push(b'A')?;
+//! ```
+//!
+//! Contracts see each list as the list of its items, and each call says exactly what is in it afterwards. After a `push` or an
+//! `insert` that had no memory the list is as before; an `append` uses room that was made before, and takes no memory.
+//! `compatible` is the table of lock modes.
 #![tactic(auto)]
 
 use std::alloc::AllocError;

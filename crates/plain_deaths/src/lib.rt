@@ -1,6 +1,11 @@
-//! Laws of what a node's death leaves of a volume's catalogue, proved of the definitions of the plain volume alone: each stands as
-//! the contract of a function that does nothing. The limits and the accounts stay in order, no number of a system file becomes free,
-//! and the node's channels alone are closed.
+//! Laws of what a node's death leaves of the catalogue, at any stage of its command. Each is the contract of a function that does
+//! nothing, proved of the definitions of the plain volume alone.
+//!
+//! `deaths_keep_accounts`: the limits and the quotas stay in order, if there were fewer than eight deaths before and files, opens
+//! and usages are as `plain_opens` and `plain_usages` leave them. `system_numbers_stay_taken`: no number of a system file becomes
+//! free. `deaths_close_channels`: the node's own channels have nothing open, and all others what they had.
+//!
+//! The core (`core_state`) uses them.
 #![tactic(auto)]
 
 mod laws;

@@ -1,6 +1,15 @@
-//! What a command is answered on a catalogue that is handed over, and that catalogue after it. It answers as `plain_vol` does, by
-//! the same definitions; but the catalogue is changed where it stands: what a command does not touch is not copied. Of a file that
-//! it changes the slot is made anew, and the slot of the directory whose entries change.
+//! What a command is answered on a catalogue that is handed over, and the catalogue after it. It answers by the definitions of
+//! `plain_vol`, but changes the catalogue in place, so that a large one is not copied for each command.
+//!
+//! `outcome_on` takes a `Cat` by value and gives an `Outcome`; `died_on` does the same for a death.
+//!
+//! ```text
+//! let outcome = outcome_on(alloc, cat, node, &cmd, number)?;  // number: what a new file takes, or none
+//! ```
+//!
+//! The result is exactly `outcome` of `plain_vol`. `died_on` gives exactly the catalogue after the death, without file numbers,
+//! and none if and only if fewer clusters are free than it leaks. `pick` gives a number that a new file may have, or none if
+//! there is none. After want of memory the catalogue is gone. `log_lines` uses it.
 #![tactic(auto)]
 
 mod changes;

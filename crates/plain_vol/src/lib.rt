@@ -1,6 +1,17 @@
-//! The plain volume: what each command answers on a catalogue, and what the catalogue is after it. It knows one command
-//! at a time, and no block, lock or cache. The definitions stand in `specs/`; the program here is the judge that they
-//! are checked with, written for clarity.
+//! The plain volume: what each command answers on a catalogue, and the catalogue after it. There is no block, lock or cache here,
+//! and one command at a time.
+//!
+//! The definitions are in `specs/`: `Answer`, the stages of a command that stops, `mended`, `Replays`. The program beside them is
+//! a judge that is written for clarity: `check_reply` gives `Checked`, and `outcome_of` gives `Outcome`.
+//!
+//! ```text
+//! let Checked::Legal(after) = check_reply(alloc, &cat, &entry)? else { .. };
+//! ```
+//!
+//! `Legal`, with the catalogue after it, comes if and only if the rules have the case (`exact`); a death at a later stage than
+//! `nothing` is always `Illegal`, since the entry does not contain the command. `outcome_of` is exactly the definition `outcome`.
+//! Laws: each command has an answer (`commands_are_answered`), and only one, but for the number of a new file
+//! (`answers_are_determined`).
 #![tactic(auto)]
 
 mod accounts;

@@ -6,3 +6,4 @@ pub mod Driving
 pub mod Stopping
 pub mod Showing
 pub mod Counting
+pub mod Rebuilding

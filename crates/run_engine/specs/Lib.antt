@@ -5,3 +5,4 @@ pub mod Laws
 pub mod Faults
 pub mod Statuses
 pub mod Summaries
+pub mod Mendings

@@ -15,6 +15,7 @@ status_code status.ImageFault = 4
 status_code (status.BadSize n) = 4
 status_code (status.NotAccepted f) = 5
 status_code status.Findings = 5
+status_code (status.NotMendable f) = 5
 status_code status.OutFault = 6
 status_code status.NoMemory = 7
 status_code status.Unfinished = 8

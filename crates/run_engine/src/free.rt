@@ -22,8 +22,8 @@ fn is_free(g: &Geometry, blocks: &[Block], q: u32) -> bool
     bit(&blocks[lbn], q % 4096)
 }
 
-// How many clusters the storage bitmap calls free.
-fn free_bits(g: &Geometry, blocks: &[Block]) -> u32
+/// How many clusters the storage bitmap calls free.
+pub(crate) fn free_bits(g: &Geometry, blocks: &[Block]) -> u32
     requires geometry { IsGeometry g.now }
     requires there { (q : ℕ) → q < total_of g.now → g.now.bitmap_lbn + 1 + q / 4096 < length blocks.now }
     ensures { result ≡ free_bits g.now blocks.now }

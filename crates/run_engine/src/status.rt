@@ -37,6 +37,9 @@ pub enum Status {
     /// Something is found in the volume. The findings are the text, which a failing sink cuts short.
     Findings,
 
+    /// The volume has a fatal finding, so it cannot be mended: this is the first one.
+    NotMendable(Finding),
+
     /// A write of the text of status 0 failed, and the sink has counted it.
     OutFault,
 
@@ -64,7 +67,7 @@ impl Status {
             Status::ScriptFault | Status::ScriptTooLong => 2,
             Status::BadScript(_) | Status::TooMany => 3,
             Status::ImageFault | Status::BadSize(_) => 4,
-            Status::NotAccepted(_) | Status::Findings => 5,
+            Status::NotAccepted(_) | Status::Findings | Status::NotMendable(_) => 5,
             Status::OutFault => 6,
             Status::NoMemory => 7,
             Status::Unfinished => 8,

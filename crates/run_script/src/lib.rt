@@ -1,8 +1,16 @@
 //! Scripts: what every node does, in which order the first turns come, and which nodes die.
 //!
-//! [`read_script`] reads a script, or names the first line that is none. The grammar is `specs/Grammar.antt`, over
-//! lines of bytes; `specs/Spelling.antt` says what lines spell together, and which line is the first bad one. [`soak`]
-//! makes a script of its own: it is drawn from a number.
+//! [`read_script`] reads a script, or names the first line that is none. The grammar is `specs/Grammar.antt`, over lines of
+//! bytes; `specs/Spelling.antt` says what lines spell together, and which line is the first bad one. [`soak`] makes a script of
+//! its own: it is drawn from a number. [`ScriptFault`] is why a script is not read.
+//!
+//! ```text
+//! let script = read_script(alloc, text)?;
+//! ```
+//!
+//! Ok comes with the script that the lines spell (`spelt`), `BadLine` with the first bad line (`bad`), `TooMany` if there are too
+//! many commands or plays (`over`), each exactly then, unless memory runs out. No text says two of these
+//! (`a_text_says_one_thing`), and the text of a command reads back (`command_texts_read_back`).
 #![tactic(auto)]
 
 mod commands;

@@ -1,5 +1,14 @@
-//! The program: `vmscheck BEFORE AFTER REPORT`. It opens two images and a report, and judges whether the report is a legal history
-//! from the one volume to the other.
+//! The program `vmscheck BEFORE AFTER REPORT`: it judges whether a report is a legal history from the one volume to the other.
+//!
+//! It opens two images, to be read and never written, and the report, of which `-` is standard input, and makes the call of
+//! `log_check`.
+//!
+//! ```text
+//! vmscheck before.img after.img report.txt
+//! ```
+//!
+//! It ends with the number of the status (`exit_code`). What it takes from the system no contract says; its stored run is one of
+//! wrong words.
 #![tactic(auto)]
 
 ghost use Rattle.std.specs.Prelude.{◌≡◌, true};

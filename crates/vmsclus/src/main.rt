@@ -1,4 +1,13 @@
-//! The program: `vmsclus IMAGE SCRIPT JOB`. It opens the image and the script, and hands the words of the job to the top call.
+//! The program `vmsclus IMAGE SCRIPT JOB`: a cluster of nodes on one volume.
+//!
+//! It opens the image and the script, of which `-` is standard input, and hands the words of the job to the top call. All code is
+//! in `clus_main`, and what the call promises is said in `clus_top`.
+//!
+//! ```text
+//! vmsclus volume.img making.script run
+//! ```
+//!
+//! The program itself promises nothing more: its stored run shows the report of that script, over real files.
 #![tactic(auto)]
 
 use std::process::ExitCode;

@@ -1,5 +1,13 @@
 //! The program: `vmsclus_dlm`. It reads a script of events from standard input, plays them on a distributed lock database, and prints
 //! what each did.
+//!
+//! Its script is a `StdIn` over standard input, its sink a `StdOut` over standard output, and `DlmStatus` says how it ended.
+//!
+//! ```text
+//! vmsclus_dlm < events.script
+//! ```
+//!
+//! It ends with the number of the status of `dlm_run` (`exit_code`). What it takes from the system no contract says.
 #![tactic(auto)]
 
 ghost use Rattle.std.specs.Prelude.{◌≡◌};

@@ -1,4 +1,12 @@
-//! The program once more, for a stored run of its own: a call of four words that ends with a status that is not 0.
+//! The program `vmsclus` once more, for a stored run of its own: a call that ends with a status that is not 0.
+//!
+//! All code is in `clus_main`.
+//!
+//! ```text
+//! vmsclus_init volume.img - init 4 64 KVol
+//! ```
+//!
+//! It promises nothing more. The stored run shows that the label `KVol` is refused with its text, `bad label`, and with number 9.
 #![tactic(auto)]
 
 use std::process::ExitCode;

@@ -1,4 +1,15 @@
-//! What is wrong with a volume: its findings, and how they are written.
+//! What is wrong with a volume: all its findings, and how they are written.
+//!
+//! `analyze` gives them all, `accepted` the catalogue of a volume in which nothing is found. The type is `Finding`.
+//!
+//! ```text
+//! let found = analyze(alloc, blocks)?;
+//! for f in found.as_slice() { push_finding(alloc, &mut out, f)?; }
+//! ```
+//!
+//! `analyze` gives exactly the findings (`AreFindings`): the first fatal one alone, if there is one, else all others, in order.
+//! So the list is empty if and only if the volume is accepted. One list alone is right (`findings_are_one_list`). `push_finding`
+//! appends exactly the text of a finding.
 #![tactic(auto)]
 
 mod analysis;

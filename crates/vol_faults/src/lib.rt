@@ -1,4 +1,15 @@
-//! The fatal findings of a volume, kind by kind: of each kind the first that holds.
+//! The fatal findings of a volume, kind by kind, and the catalogue of a volume without one.
+//!
+//! There is a call for each kind, such as `first_bad_header`, `first_shared_cluster` and `first_loop`. `read_whole` joins them.
+//! The types are those of `vol_parts`.
+//!
+//! ```text
+//! let read = read_whole(alloc, blocks)?;  // the catalogue, or the first fatal finding
+//! ```
+//!
+//! Each `first_` call gives the finding of its kind with the lowest number, and none if and only if none of that kind holds
+//! (`IsFirstOf`). `read_whole` gives the first of all, or the catalogue (`IsRead`); only room for lost files is left to
+//! `vol_places`. A law says that mending fails if and only if that room is lacking.
 #![tactic(auto)]
 
 mod bounds;

@@ -1,4 +1,15 @@
-//! A fresh volume: where its system files lie, what its blocks say, and that it is accepted.
+//! A fresh volume: where its system files are, what its blocks say, and that it is accepted.
+//!
+//! `Layout` has the cluster factor, the file numbers and the blocks of a volume, from which all places follow.
+//!
+//! ```text
+//! let layout = Layout { cluster: 4, files: 64, blocks: 1024 };
+//! let taken = layout.reserved_clusters();
+//! ```
+//!
+//! Each call gives exactly the place, count or header of the definition. Laws: a fresh volume is accepted, with the catalogue of
+//! a fresh volume (`fresh_volumes_are_accepted`); all but its system files is free (`fresh_volumes_have_room`). `vol_init` and
+//! the top call use this crate.
 #![tactic(auto)]
 
 mod laws;

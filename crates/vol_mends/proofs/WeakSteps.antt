@@ -22,6 +22,7 @@ use Rattle.plain_cat.specs.declared.cat.Slot.TheVariants.{Used, Free}
 use Rattle.plain_vol.specs.Lookups.{file_at, row_of, clusters_in}
 use Rattle.plain_vol.proofs.Standing.{stands_at}
 use Rattle.plain_laws.proofs.Standing.{file_from}
+use Rattle.plain_mends.specs.Sound.{IsSystemFile}
 use Rattle.vol_owners.specs.declared.owner.Owner.TheVariants.{InFile}
 use Rattle.vol_owners.specs.declared.owner.Owner.TheVariants as owner
 use Rattle.vol_owners.specs.Lists.{Has}
@@ -35,8 +36,8 @@ use Rattle.vol_parts.specs.declared.geometry.Geometry.{Geometry}
 use Rattle.vol_parts.specs.Parts.{storage_blocks}
 use Rattle.vol_parts.specs.Volumes.{Volume, volume, IsNumber, factor, total, head as head_of, used_slot, fields, runs, body, bitmap_lbn, is_free_cluster, is_used_number, is_in_files, active_rows}
 use Rattle.vol_parts.specs.Catalogues.{is_structure, file_of, catalogue}
-use Rattle.vol_parts.specs.Fatal.{is_system_directory, in_whole_clusters, stated_clusters, are_stated, is_system_header, is_system_file, scb_test, scb_fault, is_off_bounds, is_too_large, IsInRun, IsShared, is_cluster_run, has_dir_size, found_in, dir_test, dir_fault, has_two_rows, is_rowless, IsFatalIn}
-use Rattle.vol_parts.specs.Findings.{home_at, IsFatalBy, IsCatalogueBy}
+use Rattle.vol_parts.specs.Fatal.{is_system_directory, in_whole_clusters, stated_clusters, are_stated, is_system_header, is_system_file, scb_test, scb_fault, is_off_bounds, is_too_large, IsInRun, IsShared, is_cluster_run, has_dir_size, found_in, dir_test, dir_fault, has_two_rows, is_rowless, HasNoRoom, IsFatalIn}
+use Rattle.vol_parts.specs.Findings.{home_at, IsFatalBy, IsFatal, IsCatalogueBy}
 use Rattle.vol_faults.specs.CatFindings.{IsFatalOf}
 use Rattle.vol_spell.specs.Reading.{IsFileNumber, total_of, header_block, told_of, fields_told, runs_told, clusters_told, body_blocks, rows_told}
 use Rattle.vol_spell.specs.Spelling.{IsHomeOf, dir_found, Tells, Spells}
@@ -46,7 +47,7 @@ use Rattle.vol_spell.proofs.Told.{no_dir, no_directory}
 use Rattle.vol_spell.proofs.Picking.{any_place}
 use Rattle.vol_spell.proofs.Clusters.{of_run}
 use Rattle.vol_spell.proofs.Adds.{size_told}
-use Rattle.vol_mends.specs.Weak.{NoOuts, shut, CanMend, SpeltIsWeak}
+use Rattle.vol_mends.specs.Weak.{NoOuts, shut, SpeltIsWeak}
 use Rattle.vol_mends.proofs.Views.{v, v_head, v_fields, v_runs, v_body, v_bitmap, v_rows, v_total, v_cluster_bit, v_number_bit, system}
 use Rattle.vol_mends.proofs.Tests.{head_fault, head_number, TellsFile, tells_file, told_file, system_header, stated_one, whole_within, whole_at, one_place, cluster_run, once_counted, rows_any}
 use Rattle.vol_mends.proofs.Telling.{same_free, in_files, catalogue_is}
@@ -54,7 +55,15 @@ use Rattle.vol_mends.proofs.Telling.{same_free, in_files, catalogue_is}
 clash : (b : Bool) → b ≡ true → b ≡ false → ⊥
 clash b t f = let both : true ≡ false = sym t ∙ f in cc both
 
-module _ (label : List ℕ) (g : Geometry) (bs : List Block) (own : Owners) (c : Cat) (s : Spells g bs own c) (outs : NoOuts own) (may : CanMend (shut c)) where
+-- the system files of a catalogue are there
+abbrev pub HasSystems : Cat → Type 0
+HasSystems c = (n : ℕ) → 1 ≤ n → n ≤ 11 → (f : File) × (file_at c n ≡ Some f) × IsSystemFile n f
+
+-- each owner of a file has a quota row
+abbrev pub HasOwners : Cat → Type 0
+HasOwners c = (n : ℕ) (f : File) → file_at c n ≡ Some f → is_some (row_of f.owner c.quota) ≡ true
+
+module _ (label : List ℕ) (g : Geometry) (bs : List Block) (own : Owners) (c : Cat) (s : Spells g bs own c) (outs : NoOuts own) (systems : HasSystems c) (owners : HasOwners c) where
   abbrev w : Volume
   w = v label g bs own c s
 
@@ -154,7 +163,7 @@ module _ (label : List ℕ) (g : Geometry) (bs : List Block) (own : Owners) (c :
   system_file n from to =
       let files = s.counts.geometry.files_from in
       let is : IsFileNumber g n = record { from = from; to = omega (arith, to, files) } in
-      let m = may.systems n from to in
+      let m = systems n from to in
       let t = header_of n m.0 is m.1 in
       let dir : t.hdr.dir ≡ is_system_directory n = ap (λ (x : File). x.dir) t.is ∙ m.2.dir in
       and_from (is_system_header n (fields w n)) (are_stated w n (stated_clusters w n) (runs w n))
@@ -280,7 +289,7 @@ module _ (label : List ℕ) (g : Geometry) (bs : List Block) (own : Owners) (c :
     by_head None at none = let x : false ≡ true = ap (is_rowless (rows_told g bs)) (sym at ∙ sym (v_fields label g bs own c s n is)) ∙ none in cc x
     by_head (Some h) at none =
         let f : File = file_of g.cluster n h (body_blocks bs n (told_of g bs n)) in
-        let row : is_some (row_of f.owner c.quota) ≡ true = may.owners n f (file_there n h is at) in
+        let row : is_some (row_of f.owner c.quota) ≡ true = owners n f (file_there n h is at) in
         let any = rows_any f.owner (rows_told g bs) (ap (λ rs. is_some (row_of f.owner rs)) (sym s.rows.quota) ∙ row) in
         let lacks : not (list_any (λ (r : Row). r.uic == h.owner) (rows_told g bs)) ≡ true = ap (is_rowless (rows_told g bs)) (sym at ∙ sym (v_fields label g bs own c s n is)) ∙ none in
         let both : false ≡ true = ap not (sym any) ∙ lacks in
@@ -317,43 +326,62 @@ module _ (label : List ℕ) (g : Geometry) (bs : List Block) (own : Owners) (c :
   on_cat : (P : Cat → Type 0) → P (catalogue w) → P (shut c)
   on_cat P p = subst P (sym (catalogue_is label g bs own c s outs)) p
 
-  no_fatal : (f : Finding) → IsFatalIn w f → ⊥
-  no_fatal (finding.Home fault) e = e
-  no_fatal (finding.Header n fault) e = no_header n fault e.0 e.1
-  no_fatal (finding.WrongNumber n) e = e.1.2 (right_number n e.1.0 e.0 e.1.1)
-  no_fatal (finding.SystemFile n) e = clash (is_system_file w n) (system_file n e.0 e.1) e.2
-  no_fatal (finding.Scb fault) e = let both : None ≡ Some fault = sym control ∙ e in cc both
-  no_fatal (finding.Runs n) e = in_bounds n e.0 e.1
-  no_fatal (finding.Clusters n) e = not_large n e.0 e.1 e.2
-  no_fatal (finding.SharedCluster q) e = not_shared q e
-  no_fatal (finding.DirSize n) e = no_dir_fault n (finding.DirSize n) e.0 e.1
-  no_fatal (finding.DirRecord n) e = no_dir_fault n (finding.DirRecord n) e.0 e.1
-  no_fatal (finding.DirOrder n) e = no_dir_fault n (finding.DirOrder n) e.0 e.1
-  no_fatal (finding.DirClash n) e = no_dir_fault n (finding.DirClash n) e.0 e.1
-  no_fatal (finding.QuotaRow o) e = one_row o.0 e
-  no_fatal (finding.NoQuotaRow n) e = has_row n e.0 e.1
-  no_fatal (finding.FreeCluster q) e = no_free_cluster q e.0 e.1 e.2
-  no_fatal (finding.FreeNumber n) e = no_free_number n e.0 e.1 e.2
-  no_fatal (finding.SystemEntry n) e = may.sound (finding.SystemEntry n) (on_cat (λ x. IsFatalOf x (finding.SystemEntry n)) e)
-  no_fatal (finding.MarkedDir n) e = may.sound (finding.MarkedDir n) (on_cat (λ x. IsFatalOf x (finding.MarkedDir n)) e.1)
-  no_fatal (finding.DirLoop n) e = may.sound (finding.DirLoop n) (on_cat (λ x. IsFatalOf x (finding.DirLoop n)) e)
-  no_fatal (finding.NoRoom n) e = may.sound (finding.NoRoom n) (on_cat (λ x. IsFatalOf x (finding.NoRoom n)) e)
-  no_fatal f e = e
+  -- a fatal finding is one of the catalogue
+  found : (f : Finding) → IsFatalIn w f → IsFatalOf (shut c) f
+  found (finding.Home fault) e = e
+  found (finding.Header n fault) e = no_header n fault e.0 e.1
+  found (finding.WrongNumber n) e = e.1.2 (right_number n e.1.0 e.0 e.1.1)
+  found (finding.SystemFile n) e = clash (is_system_file w n) (system_file n e.0 e.1) e.2
+  found (finding.Scb fault) e = let both : None ≡ Some fault = sym control ∙ e in cc both
+  found (finding.Runs n) e = in_bounds n e.0 e.1
+  found (finding.Clusters n) e = not_large n e.0 e.1 e.2
+  found (finding.SharedCluster q) e = not_shared q e
+  found (finding.DirSize n) e = no_dir_fault n (finding.DirSize n) e.0 e.1
+  found (finding.DirRecord n) e = no_dir_fault n (finding.DirRecord n) e.0 e.1
+  found (finding.DirOrder n) e = no_dir_fault n (finding.DirOrder n) e.0 e.1
+  found (finding.DirClash n) e = no_dir_fault n (finding.DirClash n) e.0 e.1
+  found (finding.QuotaRow o) e = one_row o.0 e
+  found (finding.NoQuotaRow n) e = has_row n e.0 e.1
+  found (finding.FreeCluster q) e = no_free_cluster q e.0 e.1 e.2
+  found (finding.FreeNumber n) e = no_free_number n e.0 e.1 e.2
+  found (finding.SystemEntry n) e = on_cat (λ x. IsFatalOf x (finding.SystemEntry n)) e
+  found (finding.MarkedDir n) e = on_cat (λ x. IsFatalOf x (finding.MarkedDir n)) e.1
+  found (finding.DirLoop n) e = on_cat (λ x. IsFatalOf x (finding.DirLoop n)) e
+  found (finding.NoRoom n) e = on_cat (λ x. IsFatalOf x (finding.NoRoom n)) e
+  found f e = e
 
 -- ---- the home block
 
--- a home block that says the cluster factor and the file numbers
-by_home : (g : Geometry) (bs : List Block) (own : Owners) (c : Cat) → Spells g bs own c → NoOuts own → CanMend (shut c) → (r : Result Home HomeFault) → IsHomeOf g r
-    → ((f : Finding) → IsFatalBy bs r f → ⊥) × IsCatalogueBy bs r (shut c)
-by_home g bs own c s outs may (Err fault) h = absurd h
-by_home g bs own c s outs may (Ok home) h =
-    let label : List ℕ = home.label in
+-- what holds of the volume of a home block that says the cluster factor and the file numbers
+on_home : (g : Geometry) (home : Home) (P : Home → Type 0) → IsHomeOf g (Ok home) → P (record { cluster = g.cluster; files = g.files; label = home.label }) → P home
+on_home g home P h p =
     let same : record { cluster = g.cluster; files = g.files; label = home.label } ≡ home =
     ap (λ (k : ℕ). record { cluster = k; files = g.files; label = home.label }) (sym h.0) ∙ ap (λ (k : ℕ). record { cluster = home.cluster; files = k; label = home.label }) (sym h.1) in
-    let P : Home → Type 0 = λ x. ((f : Finding) → IsFatalIn (volume x bs) f → ⊥) × (shut c ≡ catalogue (volume x bs)) in
-    subst P same (no_fatal label g bs own c s outs may, catalogue_is label g bs own c s outs)
+    subst P same p
+
+-- the blocks tell the catalogue with nothing open
+pub tells_shut : (g : Geometry) (bs : List Block) (own : Owners) (c : Cat) → Spells g bs own c → NoOuts own → IsCatalogueBy bs (home_read (home_at bs)) (shut c)
+tells_shut g bs own c s outs = by_home (home_read (home_at bs)) s.structures.home where
+  by_home : (r : Result Home HomeFault) → IsHomeOf g r → IsCatalogueBy bs r (shut c)
+  by_home (Err fault) h = absurd h
+  by_home (Ok home) h = on_home g home (λ x. shut c ≡ catalogue (volume x bs)) h (catalogue_is home.label g bs own c s outs)
+
+-- where the system files are there, and each owner of a file has a quota row, the fatal findings are those of the catalogue
+pub spelt_findings : (g : Geometry) (bs : List Block) (own : Owners) (c : Cat) (f : Finding) → Spells g bs own c → NoOuts own → HasSystems c → HasOwners c → IsFatal bs f → IsFatalOf (shut c) f
+spelt_findings g bs own c f s outs systems owners e = by_home (home_read (home_at bs)) s.structures.home e where
+  by_home : (r : Result Home HomeFault) → IsHomeOf g r → IsFatalBy bs r f → IsFatalOf (shut c) f
+  by_home (Err fault) h k = absurd h
+  by_home (Ok home) h k = on_home g home (λ x. IsFatalIn (volume x bs) f → IsFatalOf (shut c) f) h (found home.label g bs own c s outs systems owners f) k
+
+-- and so is the one that there is no room for a lost file
+pub room_lacks : (g : Geometry) (bs : List Block) (own : Owners) (c : Cat) (n : ℕ) → Spells g bs own c → NoOuts own → HasNoRoom (shut c) n → IsFatal bs (finding.NoRoom n)
+room_lacks g bs own c n s outs lacks = by_home (home_read (home_at bs)) (tells_shut g bs own c s outs) where
+  by_home : (r : Result Home HomeFault) → IsCatalogueBy bs r (shut c) → IsFatalBy bs r (finding.NoRoom n)
+  by_home (Err fault) t = absurd t
+  by_home (Ok home) t = subst (λ (x : Cat). HasNoRoom x n) t lacks
 
 pub spelt_is_weak : SpeltIsWeak
-spelt_is_weak g bs own c s outs may =
-    let r = by_home g bs own c s outs may (home_read (home_at bs)) s.structures.home in
-    record { weak = r.0; told = r.1 }
+spelt_is_weak g bs own c s outs may = record {
+  weak = λ f e. may.sound f (spelt_findings g bs own c f s outs may.systems may.owners e);
+  told = tells_shut g bs own c s outs;
+}

@@ -1,5 +1,5 @@
 -- Blocks that mend to a catalogue.
-use Rattle.std.specs.Prelude.{◌≡◌, List, None}
+use Rattle.std.specs.Prelude.{◌≡◌, ℕ, List, None}
 use Rattle.vol_words.specs.Fields.{Block}
 use Rattle.plain_cat.specs.declared.cat.Cat.{Cat}
 use Rattle.plain_vol.specs.Mending.{mended}
@@ -7,7 +7,9 @@ use Rattle.plain_mends.specs.Resuming.{MendsTo}
 use Rattle.plain_mends.specs.Sound.{IsSound}
 use Rattle.vol_owners.specs.Owners.{Owners}
 use Rattle.vol_parts.specs.declared.geometry.Geometry.{Geometry}
-use Rattle.vol_parts.specs.Findings.{CatOf}
+use Rattle.vol_parts.specs.declared.finding.Finding.{Finding}
+use Rattle.vol_parts.specs.declared.finding.Finding.TheVariants.{NoRoom}
+use Rattle.vol_parts.specs.Findings.{IsFatal, CatOf}
 use Rattle.vol_spell.specs.Spelling.{Spells}
 use Rattle.vol_mends.specs.Weak.{NoOuts, shut, CanMend}
 
@@ -25,3 +27,12 @@ SpeltMends = (g : Geometry) (bs : List Block) (own : Owners) (c d : Cat) → Spe
 pub record SoundCanMend : Type 0 where
   pub open_too : (c : Cat) → IsSound c → (mended c ≡ None → ⊥) → CanMend c
   pub shut_too : (c : Cat) → IsSound c → (mended c ≡ None → ⊥) → CanMend (shut c)
+
+-- Blocks that spell a catalogue in order can be read: the one fatal finding that they may have is that there is no room for a lost file.
+pub record SoundIsReadable : Type 0 where
+  -- Mending gives up where it holds,
+  pub only : (g : Geometry) (bs : List Block) (own : Owners) (c : Cat) (f : Finding) → Spells g bs own c → NoOuts own → IsSound c → IsFatal bs f → (mended c ≡ None) × ((n : ℕ) × (f ≡ NoRoom n))
+  -- and it holds where mending gives up.
+  pub lacking : (g : Geometry) (bs : List Block) (own : Owners) (c : Cat) → Spells g bs own c → NoOuts own → IsSound c → mended c ≡ None → (n : ℕ) × IsFatal bs (NoRoom n)
+  -- Mending is the same with nothing open.
+  pub same : (c : Cat) → IsSound c → mended (shut c) ≡ mended c

@@ -1,5 +1,5 @@
 ghost use Rattle.vol_mends.specs.Weak.{SpeltIsWeak};
-ghost use Rattle.vol_mends.specs.Mends.{SpeltMends, SoundCanMend};
+ghost use Rattle.vol_mends.specs.Mends.{SpeltMends, SoundCanMend, SoundIsReadable};
 
 /// Where nobody holds anything outside, blocks that spell a catalogue that can be mended have no fatal finding, and the catalogue that
 /// is read of them is this one, with nothing open.
@@ -15,4 +15,10 @@ pub fn spelt_mends()
 /// A catalogue in order can be mended, unless `[SYSLOST]` lacks room for a lost file that is not empty.
 pub fn sound_can_mend()
     ensures { SoundCanMend }
+{}
+
+/// Blocks that spell a catalogue in order can be read: the one fatal finding that they may have is that `[SYSLOST]` lacks room for a
+/// lost file that is not empty, and they have it exactly where mending gives up.
+pub fn sound_is_readable()
+    ensures { SoundIsReadable }
 {}

@@ -1,4 +1,15 @@
-//! What the blocks of a volume spell: where its parts lie, the catalogue that they tell, and what can be wrong with them.
+//! What the blocks of a volume say: where its parts are, its files, and the catalogue. It also names what can be wrong with them.
+//!
+//! `Geometry` says where the fixed parts are, `Part` is one of them, and `Finding` is what is wrong with a volume. The
+//! definitions are in `specs/`; the calls read single parts by them.
+//!
+//! ```text
+//! let header = fields(&home, blocks, n);  // none if the number is not in use, or its header is not one
+//! ```
+//!
+//! Each call gives exactly what the definition says of the blocks: `guard` the part that a block is, `fields` a file's header,
+//! `body` its blocks, `read_catalogue` the catalogue. Some ask for what earlier findings exclude, such as runs outside the volume
+//! (`requires`).
 #![tactic(auto)]
 
 mod bodies;

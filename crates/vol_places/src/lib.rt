@@ -1,5 +1,15 @@
-//! The entry that each file keeps: the entries of a catalogue where they stand, the first of each file, found in one pass, and
-//! the lost file for which [SYSLOST] has no room.
+//! The entries of a catalogue with their places: which of them each file keeps, and which lost file has no room in [SYSLOST].
+//!
+//! A `Spot` is an entry with the number of its directory. `spots` lists all of them, and `all_firsts` gives for each file the
+//! first that names it.
+//!
+//! ```text
+//! let spots = spots(alloc, &cat)?;
+//! let firsts = all_firsts(alloc, &cat, spots.as_slice())?;
+//! ```
+//!
+//! Both are exactly the lists of the definitions. `stays`, `is_second` and `is_lost` then answer, by that table, exactly the
+//! questions of mending. `first_without_room` gives the first lost file without room, or that there is none (`IsFirstIn`).
 #![tactic(auto)]
 
 mod keeping;

@@ -1,4 +1,13 @@
-//! A small volume, for tests of the commands alone: no contract speaks of what is on it, and no program uses it.
+//! A small volume for the tests of commands: 64 blocks in clusters of two, with the system files, a directory and four files.
+//!
+//! `volume` gives its blocks, `name` a name of bytes, and `FIRST` and `SECOND` are the two blocks of its directory.
+//!
+//! ```text
+//! let mut blocks = volume();
+//! let entry = name(alloc, b"A.TXT")?;
+//! ```
+//!
+//! It promises nothing: no contract says what is on this volume, and no program uses it. The tests that use it compare.
 #![tactic(auto)]
 
 use fx_home::{Home, Scb, home_block, scb_block};

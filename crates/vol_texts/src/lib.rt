@@ -1,5 +1,15 @@
-//! How everything that a script or a report names is written: names, file identifiers, owners, modes, commands,
-//! replies, and the lines of a report. Each call appends a text to a vector; it fails only where memory ran out.
+//! How all that a script or a report names is written: names, file identifiers, owners, modes, commands, replies, and the lines
+//! of a report.
+//!
+//! There is a `push_` call for each, which appends its text to a vector of bytes. It has no types of its own.
+//!
+//! ```text
+//! push_command(alloc, &mut out, &cmd)?;
+//! push_reply(alloc, &mut out, &reply)?;
+//! ```
+//!
+//! Each call appends exactly the text of its definition in `specs/`, after the bytes that were there. The one error says that
+//! memory ran out.
 #![tactic(auto)]
 
 mod commands;

@@ -1,4 +1,16 @@
-//! Little-endian fields, checksums and lists of blocks: the words in which the format crates speak of a block.
+//! Blocks and their fields: 512 bytes, little-endian numbers at an offset, and checksums. All format crates read and write
+//! through these calls.
+//!
+//! `Block` is the one type. `names` says which texts are a `NAME.TYP`.
+//!
+//! ```text
+//! put_long(&mut b, 60, 0x0403_0201);
+//! set_sum(&mut b);
+//! ```
+//!
+//! A read gives exactly the bytes at its offset. A write puts exactly these bytes, and changes no other. `set_sum` makes the last
+//! word the sum of the first 255. Three laws say so in general: `fields_read_back`, `fields_stay_apart`, `sums_are_right`. No
+//! call takes memory.
 #![tactic(auto)]
 
 ghost use Rattle.std.specs.Prelude.{◌≡◌, ◌+◌, ◌≤◌, ◌<◌, ◌*◌, length};

@@ -1,0 +1,33 @@
+-- What a mending of a volume leaves, and what is printed of it.
+use Rattle.std.specs.Prelude.{◌≡◌, ◌++◌, ℕ, List, Option, Some}
+use Rattle.vol_words.specs.Fields.{Block}
+use Rattle.plain_cat.specs.declared.cat.Cat.{Cat}
+use Rattle.plain_cat.specs.declared.history.Mended.{Mended}
+use Rattle.vol_parts.specs.declared.finding.Finding.{Finding}
+use Rattle.vol_parts.specs.Findings.{IsFatal}
+use Rattle.vol_texts.specs.Reports.{newline, mended_text}
+use Rattle.vol_mends.specs.Mends.{Mends}
+use Rattle.vol_rebuild.specs.Rebuilt.{IsRebuilt}
+
+-- the image has an accepted volume, which tells the catalogue to which that of the old blocks is mended
+pub record IsMendedImage (bs : List Block) (new : Option (List Block)) : Type 0 where
+  pub blocks : List Block
+  pub done : Mended
+  pub image : new ≡ Some blocks
+  pub rebuilt : IsRebuilt bs blocks done
+
+-- what is printed of what was done
+abbrev pub mending_text : Mended → List ℕ
+mending_text done = mended_text done ++ newline
+
+-- a text tells what was done to these blocks
+pub record IsMendingText (bs : List Block) (new : Option (List Block)) (text : List ℕ) : Type 0 where
+  pub mended : IsMendedImage bs new
+  pub written : text ≡ mending_text mended.done
+
+-- The image has blocks that mend to the same as the old ones. Where these have a fatal finding, it has them.
+pub record IsStillToMend (bs : List Block) (new : Option (List Block)) : Type 0 where
+  pub blocks : List Block
+  pub image : new ≡ Some blocks
+  pub mends : (z : Cat) → Mends bs z → Mends blocks z
+  pub kept : (f : Finding) → IsFatal bs f → blocks ≡ bs

@@ -1,0 +1,10 @@
+pub mod Changes
+pub mod TakenTurn
+pub mod GivenTurn
+pub mod OpenedYard
+pub mod ClaimedNode
+pub mod SplitSeat
+pub mod Perches
+pub mod Numbers
+pub mod Following
+pub mod Acting

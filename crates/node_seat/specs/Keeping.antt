@@ -1,0 +1,66 @@
+-- What is kept of a world between two steps of seats, whatever their order.
+use Rattle.std.specs.Prelude.{◌≡◌, ◌≤◌, ◌⊎◌, ℕ, Bool, false, true, List, Option, Some, None, is_some, Result, Ok, Err}
+use Rattle.std.specs.List.{list_any}
+use Rattle.vol_words.specs.Fields.{Block}
+use Rattle.vol_words.specs.Faults.{Rose}
+use Rattle.plain_cat.specs.declared.history.Entry.{Entry}
+use Rattle.plain_cat.specs.declared.history.Entry.TheVariants.{Done, Died, Mended}
+use Rattle.plain_cat.specs.declared.script.Script.{Script}
+use Rattle.plain_vol.specs.Own.{Killed}
+use Rattle.core_state.specs.Worlds.{Plain, IsOfWorld}
+use Rattle.core_state.specs.Deaths.{is_due, after_step}
+use Rattle.core_state.specs.Events.{is_write, next_event}
+use Rattle.core_step.specs.declared.turns.TurnFault.{TurnFault}
+use Rattle.core_step.specs.declared.turns.TurnFault.TheVariants.{ImageFault}
+use Rattle.node_seat.specs.declared.views.Start.{Start}
+
+-- what a yard is opened with, where it takes this world, whose image has counted so many faults and tells this
+abbrev pub start_of : Plain → ℕ → Option (List Block) → Start
+start_of w faults told = record { opening = w.opening; geometry = w.geometry; script = w.script; count = faults; tells = is_some told }
+
+-- what an image tells whose blocks are these, if it tells any
+abbrev pub telling : Bool → List Block → Option (List Block)
+telling true bs = Some bs
+telling false bs = None
+
+-- an entry is a mending
+unfoldable pub is_mending : Entry → Bool
+is_mending (Done n c r) = false
+is_mending (Died n st k ns) = false
+is_mending (Mended m) = true
+
+-- nodes died only where the script kills them, and nothing was mended
+pub record IsOrderly (script : Script) (h : List Entry) : Type 0 where
+  pub killed : Killed script h
+  pub unmended : list_any is_mending h ≡ false
+
+-- The image is one block ahead of the drive, if it tells its blocks: the next event of a node of the world is a write, in place of
+-- which no death comes, and the image has the blocks as this write would leave them.
+pub record IsAhead (tells : Bool) (told : Option (List Block)) (w : Plain) : Type 0 where
+  pub node : ℕ
+  pub of_world : IsOfWorld w node
+  pub turn : is_due w node ≡ false
+  pub write : is_write (next_event w node) ≡ true
+  pub image : told ≡ telling tells (after_step w node).blocks
+
+-- The image has the drive's blocks, if it tells any. If a write of it has failed, it may be that block ahead.
+abbrev pub HasImage : Bool → Option (List Block) → Plain → Option TurnFault → Type 0
+HasImage tells told w (Some ImageFault) = (told ≡ telling tells w.blocks) ⊎ IsAhead tells told w
+HasImage tells told w other = told ≡ telling tells w.blocks
+
+-- A world with this stop mark is one of this start: the catalogue with which its history begins, the places of the volume's parts and
+-- its script are those, its nodes died only where the script kills them, nothing was mended, and its image has counted no fewer faults.
+-- It counted one since then if the mark says that the image failed.
+pub record IsKept (start : Start) (w : Plain) (faults : ℕ) (told : Option (List Block)) (mark : Option TurnFault) : Type 0 where
+  pub opening : w.opening ≡ start.opening
+  pub geometry : w.geometry ≡ start.geometry
+  pub script : w.script ≡ start.script
+  pub orderly : IsOrderly w.script w.history
+  pub later : start.count ≤ faults
+  pub cause : mark ≡ Some ImageFault → Rose start.count faults
+  pub image : HasImage start.tells told w mark
+
+-- the mark after an event
+abbrev pub mark_of : {A : Type 0} → Result A TurnFault → Option TurnFault
+mark_of (Ok a) = None
+mark_of (Err fault) = Some fault

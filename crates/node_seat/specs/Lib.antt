@@ -1,0 +1,4 @@
+pub mod Events
+pub mod Keeping
+pub mod Turns
+pub mod Yards

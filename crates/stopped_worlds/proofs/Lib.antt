@@ -1,0 +1,4 @@
+pub mod Matching
+pub mod Resting
+pub mod Halts
+pub mod Worlds

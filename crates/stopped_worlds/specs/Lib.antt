@@ -1,0 +1,3 @@
+pub mod Halting
+pub mod Mending
+pub mod Laws
