@@ -1,6 +1,7 @@
 //! Each command under deaths in place of each of its turns and each of its writes, while two other nodes are at work.
 
 use crate::making::made;
+use crate::rebuilding::each_fails;
 use crate::tests::{Exchange, answered, call, volume};
 use crate::tree::blocks_of;
 use blk_drive::MemImage;
@@ -153,7 +154,7 @@ fn check_found(
     image: MemImage,
     row: Row,
     (clusters, numbers): (u32, u32),
-) -> Result<(), NoMemory> {
+) -> Result<MemImage, NoMemory> {
     let mut text = String::from_str(alloc, row.found.0)?;
     if clusters != 0 {
         text.push_str(format!(in alloc; "leaked clusters {clusters}\n")?.as_str())?;
@@ -167,8 +168,7 @@ fn check_found(
     } else {
         Exchange::analysis(5, text.as_str())
     };
-    answered(rt, alloc, image, wanted)?;
-    Ok(())
+    answered(rt, alloc, image, wanted)
 }
 
 // The image again.
@@ -213,7 +213,10 @@ fn dies(
         check_others(rt, alloc, scene, row, report)?;
         check_end(rt, alloc, scene, row, (1, died.clusters), report)?;
         let leaked = (died.clusters, died.numbers);
-        check_found(rt, alloc, called.image, row, leaked)?;
+        let left = check_found(rt, alloc, called.image, row, leaked)?;
+        if kill.starts_with("KILL 1 WRITE") {
+            each_fails(rt, alloc, &left)?;
+        }
         return Ok(Some(place));
     }
     let Some(row) = rows.last() else {

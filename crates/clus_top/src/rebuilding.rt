@@ -425,8 +425,8 @@ fn is_stopped(
     Ok(true)
 }
 
-// Each write of a mending fails in turn, and there are some.
-fn each_fails(rt: &impl Abort, alloc: Global, image: &MemImage) -> Result<(), NoMemory> {
+// Each write of a mending fails in turn: how many there are, at most ten.
+pub fn each_fails(rt: &impl Abort, alloc: Global, image: &MemImage) -> Result<u64, NoMemory> {
     let end = mended(rt, alloc, unfailing(alloc, image)?, "rebuilt: ")?;
     let mut writes = 0u64;
     for write in 1..12u64 {
@@ -437,8 +437,8 @@ fn each_fails(rt: &impl Abort, alloc: Global, image: &MemImage) -> Result<(), No
             writes = write;
         }
     }
-    assert!(rt; writes > 0 && writes < 11, "{writes} writes");
-    Ok(())
+    assert!(rt; writes < 11, "{writes} writes");
+    Ok(writes)
 }
 
 #[test]
@@ -446,7 +446,8 @@ fn each_write_of_a_mending_fails(rt: HostRuntime) -> Result<(), Fail> {
     let alloc = rt.alloc();
     for (script, _) in DEATHS {
         let image = dead(&rt, alloc, with_a_file(&rt, alloc)?, script)?;
-        each_fails(&rt, alloc, &image)?;
+        let writes = each_fails(&rt, alloc, &image)?;
+        assert!(rt; writes > 0, "{script}");
     }
     Ok(())
 }
