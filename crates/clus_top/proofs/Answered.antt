@@ -51,10 +51,12 @@ event_keeps w n s event.Rest p = record { orderly = p.orderly }
 event_keeps w n s event.Stand p = record { orderly = p.orderly }
 event_keeps w n s event.Leave p = record { orderly = p.orderly }
 event_keeps w n s (event.Lock name mode) p = record { orderly = p.orderly }
-event_keeps w n s (event.Look lbn) p = record { orderly = p.orderly }
+event_keeps w n s (event.Look name lbn) p = record { orderly = p.orderly }
+event_keeps w n s (event.Use name lbn) p = record { orderly = p.orderly }
 event_keeps w n s (event.Fetch lbn) p = record { orderly = p.orderly }
 event_keeps w n s (event.Claim q name mode) p = record { orderly = p.orderly }
 event_keeps w n s (event.SpaceLook clusters number lbn) p = record { orderly = p.orderly }
+event_keeps w n s (event.SpaceUse clusters number lbn) p = record { orderly = p.orderly }
 event_keeps w n s event.LowerV p = record { orderly = p.orderly }
 event_keeps w n s event.LowerX p = record { orderly = p.orderly }
 event_keeps w n s event.Return p = record { orderly = p.orderly }

@@ -176,6 +176,7 @@ module _ (IsGiven : Script → Type 0) (script : Script) (given : IsGiven script
     accepted = o.run.left.accepted;
     mounted = o.run.drive.ran.mounted;
     walked = o.run.walked;
+    used = o.run.drive.ran.used;
     over = o.run.over;
     told = o.run.left.told;
     replayed = o.run.left.replayed;

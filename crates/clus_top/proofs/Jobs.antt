@@ -11,13 +11,14 @@ use Rattle.clus_top.specs.declared.run.Stop.TheVariants as stop
 use Rattle.clus_top.specs.declared.run.Printed.{Printed}
 use Rattle.clus_top.specs.declared.run.Printed.TheVariants as printed
 use Rattle.clus_top.specs.Ends.{SpellsWithin, IsDriveIn, IsEndIn, IsSpentIn, IsLackingIn, IsCutIn, IsCutShortIn, IsImageEnd, IsImageStop, IsRunEnd, IsRunStop, IsSoakEnd, IsSoakStop, IsQuietImage, IsStopImage}
+use Rattle.clus_top.proofs.Stopping.{run_stops, torn_stops}
 use Rattle.clus_top.specs.Images.{IsDriveOf, IsLastDriveOf, IsSpentDriveOf, IsLackingDriveOf, IsCutOf, IsCutShort}
 
 module _ (IsGiven : Script → Type 0) (script : Script) (given : IsGiven script) where
   -- ---- the drive of a run
 
   drive_of : (bs : List Block) (new : Option (List Block)) → IsDriveIn script bs (Some bs) new → IsDriveOf IsGiven bs new
-  drive_of bs new d = record { script = script; given = given; world = d.world; ran = d.ran; image = d.image }
+  drive_of bs new d = record { script = script; given = given; world = d.world; ran = d.ran; image = d.image; stop = run_stops script bs d.world d.ran }
 
   lacking_on : (told new : Option (List Block)) → IfSome told (λ bs. IsLackingIn script bs told new) → IfSome told (λ bs. IsLackingDriveOf IsGiven bs new)
   unfolding drive_of
@@ -35,7 +36,7 @@ module _ (IsGiven : Script → Type 0) (script : Script) (given : IsGiven script
   last_on what (Some bs) new text h = (drive_of bs new h.drive, h.over)
 
   cut_of : (bs : List Block) (new : Option (List Block)) → IsCutIn script bs (Some bs) new → IsCutOf IsGiven bs new
-  cut_of bs new h = record { script = script; given = given; world = h.world; ran = h.ran; before = h.before }
+  cut_of bs new h = record { script = script; given = given; world = h.world; ran = h.ran; before = h.before; torn = torn_stops script bs h.world new h.ran h.before }
 
   pub short_on : (told new : Option (List Block)) (text : List ℕ) → IfSome told (λ bs. IsCutShortIn script bs told new text) → IfSome told (λ bs. IsCutShort IsGiven bs new text)
   unfolding cut_of
@@ -75,6 +76,7 @@ module _ (IsGiven : Script → Type 0) (script : Script) (given : IsGiven script
     accepted = h.left.accepted;
     mounted = h.drive.ran.mounted;
     walked = h.walked;
+    used = h.drive.ran.used;
     over = h.over;
     told = h.left.told;
     replayed = h.left.replayed;

@@ -1,9 +1,11 @@
 pub mod Commands
 pub mod Walked
+pub mod Used
 pub mod Answered
 pub mod MountedVolumes
 pub mod Reported
 pub mod Imaged
+pub mod Stopping
 pub mod Jobs
 pub mod Analyzed
 pub mod OneVerdict

@@ -36,6 +36,7 @@ use Rattle.clus_top.specs.declared.run.Stop.TheVariants as stop
 use Rattle.clus_top.specs.declared.run.Printed.{Printed}
 use Rattle.clus_top.specs.Ends.{printed_text, IsWholeIn, IsDriveIn, IsEndIn, IsSpentIn, IsLackingIn, IsCutIn, IsStopIn, IsStopBy, IsStopOf, mount_status}
 use Rattle.clus_top.proofs.Walked.{over_walk}
+use Rattle.clus_top.proofs.Used.{walk_uses}
 use Rattle.clus_top.proofs.Answered.{IsAnswered, step_keeps}
 use Rattle.clus_top.proofs.MountedVolumes.{mounted_geometry}
 
@@ -55,7 +56,13 @@ module _ (start : Plain) (good : Good start) (m : IsMounted start.blocks start.s
 
   -- a run on it
   unfoldable pub has_run : (new : Plain) (plays : List ℕ) → plays ≡ start.script.plays → IsPartOfWalk start plays new → Good new → HasRun start.script start.blocks new
-  has_run new plays same part keeps = record { start = start; mounted = m; walked = subst (λ (ns : List ℕ). IsPartOfWalk start ns new) same part; good = keeps }
+  has_run new plays same part keeps = record {
+    start = start;
+    mounted = m;
+    walked = subst (λ (ns : List ℕ). IsPartOfWalk start ns new) same part;
+    used = walk_uses start good start.script.plays;
+    good = keeps;
+  }
 
   unfoldable pub drive_in : (new : Plain) (plays : List ℕ) (told now : Option (List Block)) → plays ≡ start.script.plays → IsPartOfWalk start plays new → Good new → now ≡ told_as told new.blocks
       → IsDriveIn start.script start.blocks told now

@@ -10,7 +10,7 @@ module _ (P : Plain → Type 0) (keeps : (w : Plain) (n : ℕ) → P w → P (af
   unfolding after_play
   over_play w n p = elim (is_over w n) as (λ t. P (cond t w (after_step w n))) [ true ↦ p | false ↦ keeps w n p ]
 
-  over_plays : (ns : List ℕ) (w : Plain) → P w → P (played ns w)
+  pub over_plays : (ns : List ℕ) (w : Plain) → P w → P (played ns w)
   over_plays [] w p = p
   over_plays (n ∷ ns) w p = over_plays ns (after_play w n) (over_play w n p)
 

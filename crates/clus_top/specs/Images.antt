@@ -9,6 +9,7 @@ use Rattle.run_engine.specs.declared.status.Status.TheVariants as status
 use Rattle.plain_cat.specs.declared.script.Script.{Script}
 use Rattle.core_state.specs.Worlds.{Plain}
 use Rattle.run_engine.specs.Walks.{played, budget_of, AllOver, IsSpent, IsNextIn, IsBeforeWrite}
+use Rattle.stopped_runs.specs.Stops.{CanStop, IsTornRun}
 use Rattle.clus_top.specs.Words.{Wanted, Run, RunRebuild, Soak, Analyze, Rebuild, Init}
 use Rattle.clus_top.specs.Runs.{IsScriptOf, IsSoakOf, HasRun, LacksMemory}
 use Rattle.vol_parts.specs.declared.finding.Finding.{Finding}
@@ -30,13 +31,15 @@ IsFormatted h old new status.ImageFault = IsLeft h old new
 IsFormatted h old new status.NoMemory = IsLeft h old new
 IsFormatted h old new s = new ≡ Some old
 
--- The image has the drive of a world that has run the script of its job on the volume of these blocks, as far as its nodes came.
+-- The image has the drive of a world that has run the script of its job on the volume of these blocks, as far as its nodes came. If it
+-- stops there it leaves a catalogue, as which the drive mends.
 pub record IsDriveOf (IsGiven : Script → Type 0) (bs : List Block) (new : Option (List Block)) : Type 0 where
   pub script : Script
   pub given : IsGiven script
   pub world : Plain
   pub ran : HasRun script bs world
   pub image : new ≡ Some world.blocks
+  pub stop : CanStop world
 
 -- and every node is over
 abbrev pub IsLastDriveOf : (Script → Type 0) → List Block → Option (List Block) → Type 0
@@ -51,13 +54,15 @@ abbrev pub IsLackingDriveOf : (Script → Type 0) → List Block → Option (Lis
 IsLackingDriveOf IsGiven bs new = (d : IsDriveOf IsGiven bs new) × LacksMemory d.ran.start d.script.plays d.world
 
 -- A world has run the script of its job on the volume of these blocks as far as to a write of the node whose turn it is. The image
--- has the drive of this world, or that which this one turn would have left: one block may be ahead, and no other differs.
+-- has the drive of this world, or that which this one turn would have left: one block may be ahead, and no other differs. Whichever it
+-- is, the image mends as the catalogue that the run leaves as it stops, with that write done if it landed.
 pub record IsCutOf (IsGiven : Script → Type 0) (bs : List Block) (new : Option (List Block)) : Type 0 where
   pub script : Script
   pub given : IsGiven script
   pub world : Plain
   pub ran : HasRun script bs world
   pub before : IsBeforeWrite (IsNextIn ran.start script.plays world) bs (Some bs) new world
+  pub torn : IsTornRun ran.start script.plays world before.node new
 
 -- After a run: the drive of its world, once every node is over or the turns are spent; after want of memory the old blocks, or
 -- the drive as far as to where the run lacked it; after a fault of the image the old blocks, or the drive as far as the run came but for the

@@ -19,7 +19,7 @@ use Rattle.run_script.specs.Soaks.{soak_script}
 use Rattle.core_state.specs.Worlds.{Plain}
 use Rattle.core_state.specs.Goods.{Good}
 use Rattle.core_state.specs.Mounting.{IsMounted}
-use Rattle.run_engine.specs.Walks.{played, budget_of, IsPartOfWalk, IsRotatedIn, AllOver, IsSpent, IsNextIn, IsBeforeTaking}
+use Rattle.run_engine.specs.Walks.{played, budget_of, IsPartOfWalk, WalkUsesTheDrives, IsRotatedIn, AllOver, IsSpent, IsNextIn, IsBeforeTaking}
 use Rattle.run_engine.specs.Ended.{IsSpelt}
 use Rattle.run_engine.specs.Reports.{report_bytes}
 use Rattle.run_engine.specs.Summaries.{summary_bytes}
@@ -46,7 +46,8 @@ IsSoakOf n script = script ≡ soak_script n
 -- run makes, have led to it, and every node is over. In its history each node of the script gives each of its commands once and in
 -- order, nodes die only where the script kills them, and nothing is mended; and it replays on one uncached volume, which begins with
 -- the catalogue that the blocks tell, in which nothing is found. The image has the blocks of this world: by the geometry of the volume
--- they spell the catalogue to which the history leads, and nothing is outside at any node.
+-- they spell the catalogue to which the history leads, and nothing is outside at any node. Each block that a turn of the run has used
+-- from a cache was the drive's.
 pub record HasRunToEnd (IsGiven : Script → Type 0) (bs : List Block) (new : Option (List Block)) : Type 0 where
   pub script : Script
   pub start : Plain
@@ -58,6 +59,7 @@ pub record HasRunToEnd (IsGiven : Script → Type 0) (bs : List Block) (new : Op
   pub accepted : Accepts bs
   pub mounted : IsMounted bs script start
   pub walked : IsRotatedIn (budget_of start) (played script.plays start) world
+  pub used : WalkUsesTheDrives start script.plays
   pub over : AllOver world
   pub told : CatOf bs opening
   pub replayed : Replays opening script world.history after
@@ -90,11 +92,12 @@ pub record IsSummary (n : ℕ) (bs : List Block) (new : Option (List Block)) (te
 -- ---- a run as far as it came
 
 -- A world that has run a script on the volume of these blocks, as far as its nodes came: plays and turns have led to it from the
--- volume as it is mounted, and it keeps the rules.
+-- volume as it is mounted, and it keeps the rules. Each block that a turn of the run has used from a cache was the drive's.
 pub record HasRun (script : Script) (bs : List Block) (w : Plain) : Type 0 where
   pub start : Plain
   pub mounted : IsMounted bs script start
   pub walked : IsPartOfWalk start script.plays w
+  pub used : WalkUsesTheDrives start script.plays
   pub good : Good w
 
 -- Where a run, which has come from the first world to the second, can lack memory: before an event that takes some, of the node whose

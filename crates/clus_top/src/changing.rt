@@ -6,7 +6,8 @@ use std::test::Fail;
 /// Scripts and their reports. The first is examples/changing. In the second a file grows to the most clusters that a header lists, and
 /// its entry gets other names and versions. In the third the overdraft counts for a file that grows. In the fourth four nodes change
 /// one file and its entry. In the fifth a file at its limit is cut and grows again; in the sixth a directory goes once it is empty; in
-/// the seventh each of two nodes deletes the other's file; in the eighth eight nodes extend and cut one file.
+/// the seventh each of two nodes deletes the other's file; in the eighth eight nodes extend and cut one file, and node 1, which has
+/// kept its lock, comes before those that wait for one.
 const CHANGED: &[(&str, &str)] = &[
     (
         "# Node 1 makes a file, which grows, is cut and gets another name. Node 2 makes a directory, which goes once it is empty.\n\
@@ -181,14 +182,14 @@ const CHANGED: &[(&str, &str)] = &[
         "1 N1 CREATE R1 (4,4,0) A.TXT;0 4 [1,4] = (12,1,0) A.TXT;1\n\
          2 N1 EXTEND (12,1,0) 1 = 8 blocks\n\
          3 N2 EXTEND (12,1,0) 5 = 16 blocks\n\
-         4 N3 EXTEND (12,1,0) 9 = 28 blocks\n\
-         5 N4 TRUNC (12,1,0) 8 = 8 blocks\n\
-         6 N5 EXTEND (12,1,0) 4 = 12 blocks\n\
-         7 N6 TRUNC (12,1,0) 1 = 4 blocks\n\
-         8 N7 EXTEND (12,1,0) 12 = 16 blocks\n\
-         9 N8 TRUNC (12,1,0) 6 = 8 blocks\n\
-         10 N1 STAT (12,1,0) = file [1,4] 8 blocks mark 1 end 1,0\n\
-         11 N1 QUOTASHOW [1,4] = usage 9 quota 1088 overdraft 0\n\
+         4 N1 STAT (12,1,0) = file [1,4] 16 blocks mark 1 end 1,0\n\
+         5 N1 QUOTASHOW [1,4] = usage 17 quota 1088 overdraft 0\n\
+         6 N3 EXTEND (12,1,0) 9 = 28 blocks\n\
+         7 N4 TRUNC (12,1,0) 8 = 8 blocks\n\
+         8 N5 EXTEND (12,1,0) 4 = 12 blocks\n\
+         9 N6 TRUNC (12,1,0) 1 = 4 blocks\n\
+         10 N7 EXTEND (12,1,0) 12 = 16 blocks\n\
+         11 N8 TRUNC (12,1,0) 6 = 8 blocks\n\
          end: 11 answered, 0 died, 229 free\n",
     ),
 ];

@@ -31,6 +31,8 @@ pub use theorems::one_status_is_due;
 pub use top::vmsclus;
 
 #[cfg(test)]
+mod caches;
+#[cfg(test)]
 mod changing;
 #[cfg(test)]
 mod channels;

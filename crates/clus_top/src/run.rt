@@ -245,3 +245,47 @@ pub fn run_soak<I: ImageDev>(alloc: Global, image: I, n: u32) -> Ran<I>
         },
     }
 }
+
+/// How many blocks a node has read, and how many it has found cached.
+#[cfg(test)]
+#[derive(Clone, Copy)]
+pub struct Counts {
+    pub reads: u64,
+    pub hits: u64,
+}
+
+// These counts of a node of a world.
+#[cfg(test)]
+fn counts_at<I: ImageDev>(w: &World<I, XqpOp>, node: u8) -> Option<Counts> {
+    w.keeps_the_rules();
+    if node == 0 || w.script().nodes < node {
+        return None;
+    }
+    Some(Counts {
+        reads: w.reads(node),
+        hits: w.hits(node),
+    })
+}
+
+/// These counts of a node, once the script that is read has run on the image.
+#[cfg(test)]
+pub fn counts_of<I: ImageDev, T: TextIn>(
+    alloc: Global,
+    image: I,
+    script: &mut T,
+    node: u8,
+) -> Option<Counts> {
+    let Ok(spelt) = script_of(alloc, script) else {
+        return None;
+    };
+    let Ok(mirror) = Mirror::load(alloc, image) else {
+        return None;
+    };
+    let Ok(mut world) = World::<I, XqpOp>::mount(alloc, mirror, &spelt) else {
+        return None;
+    };
+    match run_on(alloc, &mut world, &spelt.plays, Printed::Report) {
+        Ok(_) => counts_at(&world, node),
+        Err(_) => None,
+    }
+}

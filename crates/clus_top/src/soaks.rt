@@ -35,7 +35,7 @@ fn a_soak_has_a_number(rt: HostRuntime) -> Result<(), Fail> {
 }
 
 // The numbers of reads and hits are those of this order of turns.
-const FIRST_SUMMARY: &str = "soak 1: 8 answered, 8 refused, 98 reads, 0 hits, 189 free\n";
+const FIRST_SUMMARY: &str = "soak 1: 8 answered, 8 refused, 74 reads, 24 hits, 189 free\n";
 
 // The script of soak 1, and what a run of it says.
 const FIRST_SCRIPT: &str = "NODES 4\n\

@@ -2,6 +2,8 @@
 use Rattle.std.proofs.Common.{◌≡◌, ◌≤◌, ◌<◌, ◌⊎◌, ◌||◌, ℕ, zero, suc, Bool, true, false, cond, List, [], ◌∷◌, Option, Some, None, length, slice_get, refl, sym, ap, subst, ◌∙◌, inl, inr, arith}
 use Rattle.std.specs.Prelude.{◌&&◌, not, nat_lt}
 use Rattle.std.proofs.lemmas.Bool.Decides.{nat_tests}
+use Rattle.lock_db.specs.declared.name.LockName.{LockName}
+use Rattle.lock_db.specs.declared.name.LockName.TheVariants.{V}
 use Rattle.plain_cat.specs.declared.command.Cmd.{Cmd}
 use Rattle.plain_cat.specs.declared.reply.Reply.{Reply}
 use Rattle.plain_vol.specs.Own.{next_command}
@@ -28,7 +30,7 @@ use Rattle.core_state.specs.Searches.{wanted_by, numbered_by, NeedsSpace, Rules,
 use Rattle.core_state.specs.Goods.{HasCommand, IsNode, Good}
 use Rattle.core_state.specs.Event.{Event}
 use Rattle.core_state.specs.Event as event
-use Rattle.core_state.specs.Events.{space_need, space_state, phase_begun, may_serve, serves, by_rule, by_put, by_space, by_need, by_end, by_write, by_plan, by_command, by_back, by_turn, gives_back, gives_back_in, stands, event_of, event_now, is_out, is_over, is_over_in, serving, served_for, served_by, served, is_held_up, prepared, prepared_by, next_event, is_write}
+use Rattle.core_state.specs.Events.{space_need, space_state, phase_begun, may_serve, serves, by_rule, by_put, by_space, by_need, by_end, by_write, by_plan, by_command, by_back, by_turn, gives_back, gives_back_in, stands, event_of, event_now, is_out, is_over, is_over_in, serving, served_for, served_by, served, is_held_up, prepared, prepared_by, has_current, or_use, next_event, is_write}
 use Rattle.core_state.proofs.Nodes.{at_here}
 use Rattle.core_state.proofs.Preparing.{rests_prepared, has_prepared, readied_is, readied_same}
 use Rattle.core_state.proofs.Comes.{Moves, ClaimsX, ClaimsV, ClaimsBehind, ClaimsAlone, ClaimsLast, FillLook, DrainLook, LastLook, FillWrite, DrainWrite, LastWrite, Lowers, Drained, moves_so, BackMoves, BackClaims, BackLooks, BackWrites, Returns, back_moves_so}
@@ -104,10 +106,40 @@ no_turn : (s : NodeState) (gives : Bool) → s.plan ≡ None → slice_get s.run
 no_turn s true plan none = no_rule s phase.Back (space_need 0 false) (back_event (space_state s)) none
 no_turn s false plan none = no_command s s.cmd plan none
 
-no_event : (out held gives : Bool) (s : NodeState) → s.plan ≡ None → slice_get s.run.writes s.run.made ≡ None → is_write (cond out event.Rest (cond held event.Stand (by_turn s gives))) ≡ false
-no_event true held gives s plan none = refl
-no_event false true gives s plan none = refl
-no_event false false gives s plan none = no_turn s gives plan none
+-- no look is a write, whether it is a use of a cached block or not
+no_use : (b : Bool) (name : LockName) (lbn : ℕ) → is_write (cond b (event.Use name lbn) (event.Look name lbn)) ≡ false
+no_use true name lbn = refl
+no_use false name lbn = refl
+
+no_space_use : (b : Bool) (k : ℕ) (c : Bool) (lbn : ℕ) → is_write (cond b (event.SpaceUse k c lbn) (event.SpaceLook k c lbn)) ≡ false
+no_space_use true k c lbn = refl
+no_space_use false k c lbn = refl
+
+use_write : (w : Plain) (s : NodeState) (e : Event) → is_write (or_use w s e) ≡ is_write e
+use_write w s event.Rest = refl
+use_write w s event.Stand = refl
+use_write w s event.Leave = refl
+use_write w s (event.Lock name mode) = refl
+use_write w s (event.Look name lbn) = no_use (has_current w s name lbn) name lbn
+use_write w s (event.Use name lbn) = refl
+use_write w s (event.Fetch lbn) = refl
+use_write w s (event.Claim p name mode) = refl
+use_write w s (event.SpaceLook k c lbn) = no_space_use (has_current w s V lbn) k c lbn
+use_write w s (event.SpaceUse k c lbn) = refl
+use_write w s (event.SpaceWrite v) = refl
+use_write w s event.LowerV = refl
+use_write w s event.LowerX = refl
+use_write w s event.Return = refl
+use_write w s event.SpaceEnd = refl
+use_write w s (event.Plan p) = refl
+use_write w s (event.Write v) = refl
+use_write w s (event.Ask x a) = refl
+use_write w s (event.Answer x r) = refl
+
+no_event : (out held gives : Bool) (w : Plain) (s : NodeState) → s.plan ≡ None → slice_get s.run.writes s.run.made ≡ None → is_write (cond out event.Rest (cond held event.Stand (or_use w s (by_turn s gives)))) ≡ false
+no_event true held gives w s plan none = refl
+no_event false true gives w s plan none = refl
+no_event false false gives w s plan none = use_write w s (by_turn s gives) ∙ no_turn s gives plan none
 
 -- a node has decided on nothing, and its rules for space have nothing to write
 record IsQuiet (s : NodeState) : Type 0 where
@@ -202,7 +234,7 @@ module _ (w : Plain) (good : Good w) (n : ℕ) (s : NodeState) (at : node_at w.n
   -- ---- the event of the node
 
   abbrev by_tests : Bool → Bool → Bool → Event
-  by_tests out held gives = cond out event.Rest (cond held event.Stand (by_turn s gives))
+  by_tests out held gives = cond out event.Rest (cond held event.Stand (or_use w s (by_turn s gives)))
 
   event_same : prepared w n s ≡ s → next_event w n ≡ by_tests (is_out s) (stands w n s) (gives_back w n s)
   event_same is = ap (λ v. event_now v n) (readied_same w n s at is) ∙ ap (event_of w n) at
@@ -217,7 +249,7 @@ module _ (w : Plain) (good : Good w) (n : ℕ) (s : NodeState) (at : node_at w.n
       let quiet : IsQuiet r = prepared_quiet s (prepared_by s s.cmd (next_command w.script n w.history)) (is_held_up w n s) q (begun_quiet s s.cmd (next_command w.script n w.history) q) in
       ap (λ v. is_write (event_now v n)) (readied_is w n s r at refl)
       ∙ ap (λ o. is_write (event_of (with_node w n r) n o)) (at_here w.nodes n r s at)
-      ∙ no_event (is_out r) (stands (with_node w n r) n r) (gives_back (with_node w n r) n r) r quiet.plan quiet.none
+      ∙ no_event (is_out r) (stands (with_node w n r) n r) (gives_back (with_node w n r) n r) (with_node w n r) r quiet.plan quiet.none
 
   -- one that is over makes none
   pub over_writes : is_over w n ≡ true → false ≡ is_write (next_event w n)
@@ -245,6 +277,7 @@ module _ (w : Plain) (good : Good w) (n : ℕ) (s : NodeState) (at : node_at w.n
   giving_writes on still gives =
       let e : is_out s ≡ false = sym out_is ∙ on in
       back_write (by_back s) (back_moves_so w good n s at once e gives)
+      ∙ sym (use_write w s (by_back s))
       ∙ sym (ap is_write (event_same (rests_prepared w n s (given_so (is_out s) (gives_back w n s) (stands w n s) gives))) ∙ (λ i. is_write (by_tests (e i) (still i) (gives i))))
 
   -- ---- a node that goes on
@@ -256,8 +289,8 @@ module _ (w : Plain) (good : Good w) (n : ℕ) (s : NodeState) (at : node_at w.n
     held : is_held_up w n s ≡ false
     held = λ i. on i || (gives i || still i)
 
-    event_on : (x : Cmd) → s.cmd ≡ Some x → served s ≡ s → next_event w n ≡ by_plan x s s.plan
-    event_on x has same = event_same (has_prepared w n s x held has ∙ same) ∙ (λ i. by_tests (on i) (still i) (gives i)) ∙ ap (by_command s) has
+    event_on : (x : Cmd) → s.cmd ≡ Some x → served s ≡ s → next_event w n ≡ or_use w s (by_plan x s s.plan)
+    event_on x has same = event_same (has_prepared w n s x held has ∙ same) ∙ (λ i. by_tests (on i) (still i) (gives i)) ∙ ap (λ o. or_use w s (by_command s o)) has
 
     by_space_now : s.plan ≡ None → (x : Cmd) → s.cmd ≡ Some x → Asks x → has_space_write s ≡ is_write (next_event w n)
     by_space_now plan x has asks =
@@ -266,7 +299,8 @@ module _ (w : Plain) (good : Good w) (n : ℕ) (s : NodeState) (at : node_at w.n
         let wants : need_of x s.seen ≡ need.Space k b = asks.0.next in
         let same : served s ≡ s = (λ i. served_by s (has i) (plan i)) ∙ ap (served_for s) wants ∙ ap (λ t. cond t (serving s k b) s) asks.1 in
         moves_write x (by_space s k b) (moves_so w good n s at once x asks.0 asks.1 calmly (subst (λ (o : Option Cmd). Spaces o s.kept s.claims s.run s.stock s.seen) has me.space))
-        ∙ sym (ap is_write (event_on x has same ∙ ap (by_plan x s) plan ∙ ap (by_need s) wants))
+        ∙ sym (use_write w s (by_space s k b))
+        ∙ sym (ap is_write (event_on x has same ∙ ap (λ p. or_use w s (by_plan x s p)) plan ∙ ap (λ o. or_use w s (by_need s o)) wants))
 
     quiet_now : s.plan ≡ None → has_space_write s ≡ false → has_space_write s ≡ is_write (next_event w n)
     quiet_now plan none = none ∙ sym (quiet_writes (record { plan = plan; none = none_left s.run.writes s.run.made none }))
@@ -278,10 +312,12 @@ module _ (w : Plain) (good : Good w) (n : ℕ) (s : NodeState) (at : node_at w.n
     writes p = writes_by p.ask s.tried p.writes
 
     planned : (x : Cmd) → s.cmd ≡ Some x → (p : Plan) → s.plan ≡ Some p → has_write_in s (Some p) ≡ is_write (next_event w n)
-    planned x has p plan = by_left (slice_get (writes p) s.done) refl ∙ sym (ap is_write (event_on x has (λ i. served_by s (has i) (plan i)) ∙ ap (by_plan x s) plan)) where
-      by_left : (o : Option PlanWrite) → slice_get (writes p) s.done ≡ o → has_write_in s (Some p) ≡ is_write (by_write x p s.tried o)
-      by_left None e = nothing_left (writes p) s.done e ∙ sym (no_end x p.reply s.tried p.ask)
-      by_left (Some v) e = some_left (writes p) s.done v e
+    planned x has p plan = by_left (slice_get (writes p) s.done) refl
+        ∙ sym (use_write w s (by_plan x s (Some p)))
+        ∙ sym (ap is_write (event_on x has (λ i. served_by s (has i) (plan i)) ∙ ap (λ o. or_use w s (by_plan x s o)) plan)) where
+          by_left : (o : Option PlanWrite) → slice_get (writes p) s.done ≡ o → has_write_in s (Some p) ≡ is_write (by_write x p s.tried o)
+          by_left None e = nothing_left (writes p) s.done e ∙ sym (no_end x p.reply s.tried p.ask)
+          by_left (Some v) e = some_left (writes p) s.done v e
 
     by_cmd : (o : Option Cmd) → s.cmd ≡ o → HasCommand w n s o → (p : Plan) → s.plan ≡ Some p → has_write_in s (Some p) ≡ is_write (next_event w n)
     by_cmd (Some x) has i p plan = planned x has p plan

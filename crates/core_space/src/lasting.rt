@@ -2,8 +2,10 @@
 
 ghost use Rattle.std.specs.Prelude.{◌≡◌, ◌<◌, ◌++◌, [], ◌∷◌, not, length, filter, IfOk};
 ghost use Rattle.lock_db.specs.Names.{is_same};
+ghost use Rattle.core_space.specs.Lasting.{stays_by};
 
 use lock_db::LockName;
+use node_cache::NodeCache;
 use plain_cat::{Mode, NoMemory};
 use std::alloc::Global;
 use std::marker::Model;
@@ -37,11 +39,22 @@ fn is_other(lock: &(LockName, Mode), name: LockName) -> bool
     lock.0 != name
 }
 
-// Whether it has this one.
-fn is_this(lock: &(LockName, Mode), name: LockName) -> bool
-    ensures { result ≡ is_same lock.now.0 name }
+// Whether two names are one.
+fn is_one(a: LockName, b: LockName) -> bool
+    ensures { result ≡ is_same a b }
 {
-    lock.0 == name
+    a == b
+}
+
+// Whether it stays behind an answer: X does where the node has a stock, and any other where a cached block is under it.
+fn stays(lock: &(LockName, Mode), stocked: bool, cache: &NodeCache) -> bool
+    ensures { result ≡ stays_by stocked cache.now lock.now }
+{
+    if is_one(lock.0, LockName::X) {
+        stocked
+    } else {
+        cache.holds_under(lock.0)
+    }
 }
 
 impl LastingLocks {
@@ -69,11 +82,12 @@ impl LastingLocks {
         self.list.retain(|l| is_other(l, name));
     }
 
-    /// Removes all but the lock of this name.
-    pub fn keep_only(&mut self, name: LockName)
-        ensures { self.new ≡ filter (λ l. is_same l.0 name) self.old }
+    /// Removes the locks that do not stay behind an answer: X stays where the node has a stock, and any other where a cached block is
+    /// under it.
+    pub fn keep_staying(&mut self, stocked: bool, cache: &NodeCache)
+        ensures { self.new ≡ filter (stays_by stocked cache.now) self.old }
     {
-        self.list.retain(|l| is_this(l, name));
+        self.list.retain(|l| stays(l, stocked, cache));
     }
 
     /// Drops all locks.

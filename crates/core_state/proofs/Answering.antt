@@ -1,19 +1,15 @@
 -- A node answers: the history has one entry more, and the locks go back.
-use Rattle.std.proofs.Common.{◌≡◌, ◌≢◌, ◌≤◌, ◌++◌, ℕ, zero, suc, Bool, true, false, List, [], ◌∷◌, Option, Some, None, length, map, take, slice_get, refl, sym, ap, subst, ◌∙◌, inl, inr, arith}
-use Rattle.std.specs.Prelude.{◌&&◌, ◌||◌, ◌-◌, ◌⊎◌, not, cond, is_some, filter, nat_lt, replicate, slice_index_or}
-use Rattle.std.proofs.lemmas.Bool.{and_parts}
+use Rattle.std.proofs.Common.{◌≡◌, ◌≢◌, ◌≤◌, ◌+◌, ◌++◌, ℕ, zero, suc, Bool, true, false, List, [], ◌∷◌, Option, Some, None, length, map, take, slice_get, refl, sym, ap, subst, ◌∙◌, inl, inr, arith}
+use Rattle.std.specs.Prelude.{◌&&◌, ◌||◌, ◌-◌, ◌⊎◌, not, cond, is_some, nat_lt, replicate, slice_index_or}
 use Rattle.std.proofs.lemmas.Bool.Decides.{nat_tests}
 use Rattle.std.proofs.lemmas.Option.{slice_get_within}
 use Rattle.vol_words.specs.Fields.{Block}
 use Rattle.lock_db.specs.declared.name.LockName.{LockName}
 use Rattle.lock_db.specs.declared.resource.Resource.{Resource}
-use Rattle.lock_db.specs.declared.name.LockName.TheVariants.{A, X, V}
-use Rattle.lock_db.specs.Names.{is_same}
-use Rattle.lock_db.proofs.Names.{is_same-same}
+use Rattle.lock_db.specs.declared.name.LockName.TheVariants.{A, X}
 use Rattle.lock_db.specs.Tables.{IsTable, resource_at, released}
 use Rattle.lock_db.proofs.Steps.{IsTable-released}
-use Rattle.plain_cat.specs.declared.mode.Mode.{Mode}
-use Rattle.plain_cat.specs.declared.mode.Mode.TheVariants.{NL, CR, PR, PW}
+use Rattle.plain_cat.specs.declared.mode.Mode.TheVariants.{CR, PR, PW}
 use Rattle.plain_cat.specs.declared.command.Cmd.{Cmd}
 use Rattle.plain_cat.specs.declared.command.Cmd.TheVariants as command
 use Rattle.plain_cat.specs.declared.reply.Reply.{Reply}
@@ -39,26 +35,33 @@ use Rattle.node_past.specs.Laws.{is_of}
 use Rattle.node_past.proofs.Growing.{past_grows, past_of_others, own_grows, replays_grow}
 use Rattle.node_locks.specs.Held.{system_of, names_of, HoldsItsLocks, AreHeld, waits_at, Row, with_rows}
 use Rattle.node_locks.specs.Sweeping.{all_given}
-use Rattle.node_locks.specs.Sequences.{raised_block}
-use Rattle.vol_owners.specs.Lists.{Has, Once}
+use Rattle.node_locks.specs.PuttingBack.{Values, all_back}
+use Rattle.node_locks.specs.Sequences.{first_sequence, second_sequence, raised_block}
+use Rattle.vol_owners.specs.Lists.{Has, StandsIn, written}
+use Rattle.vol_owners.proofs.Listing.{has_first, has_second}
 use Rattle.node_locks.specs.Channels.{AllGoOn as RowsGoOn}
 use Rattle.node_locks.proofs.Channels.{channels_give}
 use Rattle.node_locks.proofs.Keeping.{rows_go_on}
-use Rattle.vol_owners.specs.Owners.{Things, nothing}
+use Rattle.vol_owners.specs.Owners.{Owners, Things, nothing, Outs}
 use Rattle.vol_owners.proofs.Writing.{stands_joined}
 use Rattle.vol_parts.specs.declared.geometry.Geometry.{Geometry}
-use Rattle.vol_under.specs.UnderWay.{PlannedWrite, UnderWay, outs_after, outs_at, together, resting, idle, changed}
+use Rattle.vol_spell.specs.Spelling.{Spells}
+use Rattle.vol_under.specs.UnderWay.{PlannedWrite, bare, UnderWay, writes_to, outs_after, outs_at, together, resting, idle, changed}
 use Rattle.vol_under.specs.Guards.{guard_of}
 use Rattle.vol_under.specs.Under.{IsUnder}
 use Rattle.vol_under.proofs.Guarding.{wider_write}
 use Rattle.vol_under.proofs.Nodes.{changed_here}
-use Rattle.vol_under.proofs.Steps.{nodes_alike}
+use Rattle.cache_laws.specs.Committed.{IsUnderOn, of_it}
+use Rattle.cache_laws.specs.Staying.{IsGuarded, IsFreedBy}
+use Rattle.cache_laws.proofs.Committed.{alike_on}
+use Rattle.cache_laws.proofs.Heads.{guarded_or_freed}
 use Rattle.op_law.specs.declared.need.Need.TheVariants as need
 use Rattle.op_law.specs.declared.need.Plan.{Plan}
 use Rattle.op_law.specs.declared.need.PlanWrite.{PlanWrite}
 use Rattle.op_law.specs.Needs.{IsNext}
 use Rattle.op_law.specs.declared.seen.Chan.{Chan}
 use Rattle.op_law.specs.Knows.{has_channel}
+use Rattle.op_law.specs.Fits.{things}
 use Rattle.op_law.specs.Laws.{held_in, planned, under_way, IsRight}
 use Rattle.core_state.specs.Worlds.{Stock, empty_stock, NodeState, Plain, node_at, set_node, rows_of, rows_in, rows_at}
 use Rattle.core_state.specs.Raises.{raise_of}
@@ -71,44 +74,45 @@ use Rattle.core_space.specs.declared.run.SpaceRun.{SpaceRun}
 use Rattle.core_space.specs.Rule.{no_run, has_any}
 use Rattle.core_space.specs.Laws.{things_of}
 use Rattle.core_state.specs.Stocks.{roomless, things_in, taken_now, stock_now, looked_now}
-use Rattle.core_state.specs.Stores.{IsKeptX, AreKept, HasNothing, IsStocked}
+use Rattle.core_state.specs.Caches.{keeps, raised_values, lowered_of}
+use Rattle.core_state.specs.Stores.{hold_writes, HasStore, HasNothing, IsStocked}
 use Rattle.core_state.specs.Searches.{Rules, Served, Given, Shared, Fills, Grabs, Filled, Drains, Alone, Looking, Taking, Taken, Refused, Spaces, Off, Back, Busy}
-use Rattle.core_state.specs.Events.{given_back, all_writes, turned, stays, staying, going, answering, locks_after, answered_by}
+use Rattle.core_state.specs.Events.{given_back, all_writes, turned, stays, staying, going, used_locks, answering, all_put_back, locks_after, answered_by}
 use Rattle.plain_usages.specs.Usages.{AreNear}
 use Rattle.plain_usages.proofs.Stating.{answer_near, answer_small}
 use Rattle.core_state.specs.Fallen.{falls}
 use Rattle.core_state.proofs.Falling.{answers_fell, answers_left}
-use Rattle.core_state.proofs.Numbers.{Keeps, answer_stays}
+use Rattle.core_state.proofs.Numbers.{Keeps as Numbers, answer_stays}
 use Rattle.core_state.proofs.Opens.{opens_given}
 use Rattle.core_state.proofs.Ends.{EndsSo}
 use Rattle.core_state.proofs.Channels.{open_at, channel_from, IsNodeNumber, opens_go_on, others_go_on, channels_go_on}
 use Rattle.core_state.proofs.Switching.{locks_go_on}
 use Rattle.core_state.proofs.Commands.{names_channel}
 use Rattle.core_state.proofs.SmallBegun.{few_go_on}
-use Rattle.core_state.proofs.Nodes.{all_set}
+use Rattle.core_state.proofs.Nodes.{at_here, all_set}
 use Rattle.core_state.proofs.Driving.{law_grows, reply_grows}
 use Rattle.core_state.proofs.Holding.{in_held_is, is_in_held}
 use Rattle.core_state.proofs.Running.{are_sole, under_grown}
-use Rattle.core_state.proofs.Sweeps.{AreLetGo, has_filter, in_filter, lets_go, names_go}
+use Rattle.core_state.proofs.Sweeps.{AreLetGo, in_filter, lets_go}
+use Rattle.core_state.proofs.PutBacks.{is_low, OpensStay, opens_back}
+use Rattle.core_state.proofs.CachedBacks.{used_once, used_apart, used_may, gone_once, gone_apart}
+use Rattle.core_state.proofs.KeptReplies.{kept_then, store_then}
+use Rattle.core_state.proofs.CachedReplies.{writes_then, cached_then}
 use Rattle.core_state.proofs.Rows.{own_rows}
 use Rattle.core_state.proofs.Backing.{none_in_stock}
-use Rattle.core_state.proofs.Taking.{changed_twice, widens, answers_by}
+use Rattle.core_state.proofs.Taking.{AnswersBy, its_outs, its_seen, changed_twice, widens, answers_by}
+use Rattle.core_state.proofs.SmallTables.{IsSequence, is_first, is_second, both_little}
 use Rattle.core_state.proofs.SmallWorlds.{small_answered}
-use Rattle.core_state.proofs.Keeping.{rebuilt, held_set, LosesNothing, kept_once, asked_once, claims_once, kept_apart, asked_apart}
-use Rattle.core_state.proofs.Standing.{all_taken, none_taken, back_taken}
-use Rattle.core_state.proofs.Turning.{under_command, here, space_now, writes_more}
+use Rattle.core_state.proofs.Keeping.{rebuilt, held_set, LosesNothing, kept_once}
+use Rattle.core_state.proofs.Standing.{calm, all_taken, none_taken, back_taken}
+use Rattle.core_state.proofs.Turning.{take_none, under_command, here, space_now, writes_more}
 
--- ---- all locks go back
+-- ---- locks that go back
 
 -- they go back by their names
-pub given_names : (g : Geometry) (n : ℕ) (ws : List PlanWrite) (ls : Row) (t : List Resource) → all_given n (λ name u. raised_block (raise_of g name ws) (resource_at name u)) (names_of ls) t ≡ given_back g n ws ls t
+given_names : (g : Geometry) (n : ℕ) (ws : List PlanWrite) (ls : Row) (t : List Resource) → all_given n (λ name u. raised_block (raise_of g name ws) (resource_at name u)) (names_of ls) t ≡ given_back g n ws ls t
 given_names g n ws [] t = refl
 given_names g n ws (l ∷ ls) t = given_names g n ws ls (released l.0 (system_of n) (raised_block (raise_of g l.0 ws) (resource_at l.0 t)) t)
-
--- and those of two lists, one list behind the other
-given_both : (g : Geometry) (n : ℕ) (ws : List PlanWrite) (ls ks : Row) (t : List Resource) → given_back g n ws (ls ++ ks) t ≡ given_back g n ws ks (given_back g n ws ls t)
-given_both g n ws [] ks t = refl
-given_both g n ws (l ∷ ls) ks t = given_both g n ws ls ks (released l.0 (system_of n) (raised_block (raise_of g l.0 ws) (resource_at l.0 t)) t)
 
 -- ---- small steps
 
@@ -121,9 +125,9 @@ length_planned : (ws : List PlanWrite) → length (map planned ws) ≡ length ws
 length_planned [] = refl
 length_planned (w ∷ ws) = ap suc (length_planned ws)
 
-taken_whole : (ws : List PlannedWrite) → take (length ws) ws ≡ ws
+taken_whole : {A : Type 0} (xs : List A) → take (length xs) xs ≡ xs
 taken_whole [] = refl
-taken_whole (w ∷ ws) = ap (λ vs. w ∷ vs) (taken_whole ws)
+taken_whole (x ∷ xs) = ap (λ ys. x ∷ ys) (taken_whole xs)
 
 -- an entry of node n is none of another
 not_of : (n m : ℕ) (x : Cmd) (r : Reply) → m ≢ n → is_of m (Done n x r) ≡ false
@@ -187,15 +191,15 @@ node_number w good (suc k) s at = record { from = omega arith; to = (let lt = sl
 
 -- node n, whose command is at the end of the writes that it makes, answers with the reply that goes with them, by what is so of the
 -- catalogue
-module _ (w : Plain) (good : Good w) (n : ℕ) (s : NodeState) (at : node_at w.nodes n ≡ Some s) (x : Cmd) (cmd : s.cmd ≡ Some x) (free : waits_at w.locks n s.asked ≡ false) (granted : waits_at w.locks n s.claims ≡ false)
+module _ (w : Plain) (good : Good w) (n : ℕ) (s : NodeState) (at : node_at w.nodes n ≡ Some s) (x : Cmd) (cmd : s.cmd ≡ Some x) (free : waits_at w.locks n s.asked ≡ false) (granted : waits_at w.locks n s.claims ≡ false) (calmly : s.run.phase ≡ phase.Back → ⊥)
     (p : Plan) (is : IsNext x s.seen (need.Ready p)) (ws : List PlanWrite) (made : writes_now s.tried s.plan ≡ ws) (last : slice_get ws s.done ≡ None) (part : s.done ≤ length ws) (r : Reply) (know : Cat → Bool)
     (law : IsRight n x s.seen.geometry ws (under_way x s.seen ws know) r) (known : know good.running.cat ≡ true) (ends : EndsSo x s.seen.channel (granted_ask s.tried s.plan) r) where
   abbrev entry : Entry
   entry = Done n x r
 
-  -- the locks once those that go have gone back, and then that of its channel
+  -- the locks once those of the command are put back and those that go have gone, and then that of its channel
   abbrev mid : List Resource
-  mid = given_back w.geometry n (all_writes s) (going s) w.locks
+  mid = all_put_back w n s
 
   abbrev after : List Resource
   after = locks_after w n s x r
@@ -214,6 +218,15 @@ module _ (w : Plain) (good : Good w) (n : ℕ) (s : NodeState) (at : node_at w.n
 
   whole : s.done ≡ length (map planned ws)
   whole = let le = at_end ws s.done last in let ge = part in let e = length_planned ws in omega arith
+
+  abbrev cat : Cat
+  cat = good.running.cat
+
+  abbrev base : List Block
+  base = good.running.drive.base
+
+  abbrev own : Owners
+  own = good.running.drive.own
 
   abbrev left_seen : List (ℕ × Block)
   left_seen = looked_now s.run
@@ -270,6 +283,37 @@ module _ (w : Plain) (good : Good w) (n : ℕ) (s : NodeState) (at : node_at w.n
   empty_at_last last (Back h) = absurd (let f : phase.Back ≡ phase.Last = sym h.back ∙ last in cc)
   empty_at_last last (Busy y e r) = let f : Some x ≡ Some y = e in let g : x ≡ y = cc in empty_by last (subst (λ (z : Cmd). Rules z s.kept s.claims s.run s.stock s.seen) (sym g) r)
 
+  -- its rules for space have made all of their writes
+  made_by : Rules x s.kept s.claims s.run s.stock s.seen → take s.run.made s.run.writes ≡ s.run.writes
+  made_by (Served h) = absurd (needs_none _ _ h.needs.next)
+  made_by (Given h) = subst (λ (k : SpaceRun). take k.made k.writes ≡ k.writes) (sym h.run) refl
+  made_by (Shared h) = absurd (needs_none _ _ h.needs.next)
+  made_by (Fills h) = absurd (needs_none _ _ h.filling.needs.next)
+  made_by (Grabs h) = absurd (needs_none _ _ h.filling.needs.next)
+  made_by (Filled h) = absurd (needs_none _ _ h.needs.next)
+  made_by (Drains h) = absurd (needs_none _ _ h.needs.next)
+  made_by (Alone h) = absurd (needs_none _ _ h.needs.next)
+  made_by (Looking h) = absurd (needs_none _ _ h.needs.next)
+  made_by (Taking h) = absurd (needs_none _ _ h.needs.next)
+  made_by (Taken h) = subst (λ (k : ℕ). take k s.run.writes ≡ s.run.writes) (sym h.all) (taken_whole s.run.writes)
+  made_by (Refused h) = ap (λ (vs : List PlanWrite). take s.run.made vs) h.writes ∙ take_none s.run.made ∙ sym h.writes
+
+  run_made : take s.run.made s.run.writes ≡ s.run.writes
+  run_made = elim (calm x s.kept s.claims s.run s.stock s.seen calmly (space_now w good n s at x cmd free)) [
+    | inl off ↦ subst (λ (k : SpaceRun). take k.made k.writes ≡ k.writes) (sym off.run) refl
+    | inr rules ↦ made_by rules
+  ]
+
+  -- so all writes are made under locks that it holds
+  all_made : hold_writes s ≡ all_writes s
+  all_made =
+      let a : s.done ≡ length ws = whole ∙ length_planned ws in
+      let b : take s.done (writes_now s.tried s.plan) ≡ writes_now s.tried s.plan = (λ i. take (a i) (made i)) ∙ taken_whole ws ∙ sym made in
+      λ i. run_made i ++ b i
+
+  in_hold : (v : PlanWrite) → Has ws v → Has (hold_writes s) v
+  in_hold v h = subst (λ (zs : List PlanWrite). Has zs v) (sym all_made) (has_second s.run.writes (writes_now s.tried s.plan) v (subst (λ (zs : List PlanWrite). Has zs v) (sym made) h))
+
   -- what it has outside then
   abbrev kept_stock : Things
   kept_stock = stock_now s.stock no_run
@@ -283,40 +327,53 @@ module _ (w : Plain) (good : Good w) (n : ℕ) (s : NodeState) (at : node_at w.n
   idle_now : idle me ≡ resting kept_stock
   idle_now = λ i. resting (together (left i) (stock_is i))
 
-  answered : (d : Cat) × Answer good.running.cat n x r d × IsUnder w.geometry d (changed (nodes_under w.locks w.nodes) n (resting kept_stock)) w.blocks
+  answered : AnswersBy w.geometry cat base (nodes_under w.locks w.nodes) w.blocks n me x r
   answered =
-      let a = answers_by w.geometry good.running.cat (nodes_under w.locks w.nodes) w.blocks n me here_now good.running.drive (are_sole w.locks w.nodes good.locked.0 good.locked.1) know
+      answers_by w.geometry cat (nodes_under w.locks w.nodes) w.blocks n me here_now good.running.drive (are_sole w.locks w.nodes good.locked.0 good.locked.1) know
       (law_grows w.geometry n (under_way x s.seen ws know) (held_in PR (held_by w.locks n s)) (held_in PW (held_by w.locks n s)) left_seen s.done stock (writes_more w good n s at x cmd free) right.lawful)
       (λ base own spelt stands outs l t. wider_write n (held_in PW s.seen.locks) (held_in PW (held_by w.locks n s)) (writes_more w good n s at x cmd free) (guard_of w.geometry own l)
-      (right.guarded base own good.running.cat stock spelt known ((stands_joined base left_seen s.seen.blocks).0 stands).1 outs l t))
+      (right.guarded base own cat stock spelt known ((stands_joined base left_seen s.seen.blocks).0 stands).1 outs l t))
       x r known whole
-      (reply_grows w.geometry n (under_way x s.seen ws know) x r (held_in PR (held_by w.locks n s)) (held_in PW (held_by w.locks n s)) left_seen s.done stock (writes_more w good n s at x cmd free) right.reply) in
-      (a.0, a.1, subst (λ (v : UnderWay). IsUnder w.geometry a.0 (changed (nodes_under w.locks w.nodes) n v) w.blocks) idle_now a.2)
+      (reply_grows w.geometry n (under_way x s.seen ws know) x r (held_in PR (held_by w.locks n s)) (held_in PW (held_by w.locks n s)) left_seen s.done stock (writes_more w good n s at x cmd free) right.reply)
+
+  abbrev cat_then : Cat
+  cat_then = answered.cat
+
+  abbrev new : Owners
+  new = answered.new
+
+  -- the committed blocks, with the writes of the command
+  abbrev committed : List Block
+  committed = written (writes_to me.done me) base
+
+  under_idle : IsUnderOn w.geometry cat_then committed new (changed (nodes_under w.locks w.nodes) n (resting kept_stock)) w.blocks
+  under_idle = subst (λ (v : UnderWay). IsUnderOn w.geometry cat_then committed new (changed (nodes_under w.locks w.nodes) n v) w.blocks) idle_now answered.under
+
+  -- a block that may be cached stays so, or its directory was freed
+  guarded : (name : LockName) (l : ℕ) → IsGuarded w.geometry own cat name l → IsGuarded w.geometry new cat_then name l ⊎ IsFreedBy w.geometry ws name
+  guarded name l = guarded_or_freed w.geometry base own new cat cat_then n (held_in PW s.seen.locks) ws name l good.running.drive.spelt spelt_then
+      (right.named base own cat stock good.running.drive.spelt known stands outs) (right.dirs base own cat stock good.running.drive.spelt known stands outs) where
+        spelt_then : Spells w.geometry (written (bare (map planned ws)) base) new cat_then
+        spelt_then = subst (λ (vs : List PlannedWrite). Spells w.geometry (written (bare vs) base) new cat_then) (ap (λ (k : ℕ). take k (map planned ws)) whole ∙ taken_whole (map planned ws)) under_idle.spelt
+
+        stands : StandsIn base s.seen.blocks
+        stands = ((stands_joined base left_seen s.seen.blocks).0 (its_seen w.geometry cat (nodes_under w.locks w.nodes) w.blocks n me here_now good.running.drive)).1
+
+        outs : Outs n own (things s.seen.clusters s.seen.number) stock
+        outs = its_outs w.geometry cat (nodes_under w.locks w.nodes) w.blocks n me here_now good.running.drive
 
   all_mine : HoldsItsLocks w.locks n (rows_of s)
   all_mine = subst (λ (rs : List Row). HoldsItsLocks w.locks n rs) (ap rows_in at) (good.locked.1 n)
 
-  abbrev gone : Row
-  gone = filter (λ l. not (stays s.stock l)) s.kept
+  abbrev values : Values
+  values = raised_values w.geometry (all_writes s)
 
   abbrev raises : LockName → List Resource → List ℕ
   raises name u = raised_block (raise_of w.geometry name (all_writes s)) (resource_at name u)
 
-  mid_is : all_given n raises (names_of gone) (all_given n raises (names_of s.claims) (all_given n raises (names_of s.asked) w.locks)) ≡ mid
-  mid_is =
-      (λ i. all_given n raises (names_of gone) (all_given n raises (names_of s.claims) (given_names w.geometry n (all_writes s) s.asked w.locks i)))
-      ∙ (λ i. all_given n raises (names_of gone) (given_names w.geometry n (all_writes s) s.claims (given_back w.geometry n (all_writes s) s.asked w.locks) i))
-      ∙ given_names w.geometry n (all_writes s) gone (given_back w.geometry n (all_writes s) s.claims (given_back w.geometry n (all_writes s) s.asked w.locks))
-      ∙ sym (given_both w.geometry n (all_writes s) s.claims gone (given_back w.geometry n (all_writes s) s.asked w.locks))
-      ∙ sym (given_both w.geometry n (all_writes s) s.asked (s.claims ++ gone) w.locks)
-
-  given : AreLetGo w.locks n (staying s) (rows_at w.nodes) mid
-  given = subst (AreLetGo w.locks n (staying s) (rows_at w.nodes)) mid_is
-      (lets_go raises (stays s.stock) w.locks n (rows_at w.nodes) s.kept s.asked s.claims good.locked.0 good.locked.1 (ap rows_in at) mine.rests free granted (kept_once s all_mine.once) (asked_once s all_mine.once) (claims_once s all_mine.once))
-
-  once : Once (names_of (going s))
-  once = names_go raises (stays s.stock) w.locks n (rows_at w.nodes) s.kept s.asked s.claims good.locked.0 good.locked.1 (ap rows_in at) mine.rests free granted (kept_once s all_mine.once) (asked_once s all_mine.once) (claims_once s all_mine.once)
-      (λ name. kept_apart s name all_mine.once) (λ name. asked_apart s name all_mine.once)
+  given : AreLetGo w.locks n (kept_then s) (rows_at w.nodes) mid
+  given = subst (AreLetGo w.locks n (kept_then s) (rows_at w.nodes)) (given_names w.geometry n (all_writes s) (going s) (all_back n (keeps s.cache) values (used_locks s) w.locks))
+      (lets_go (keeps s.cache) values raises (stays s) w.locks n (rows_at w.nodes) s.kept s.asked s.claims good.locked.0 good.locked.1 (ap rows_in at) mine.rests free granted (is_low s.cache) (kept_once s all_mine.once) (used_apart w good n s at free granted))
 
   -- its rows are empty then, but for what stays, and the other nodes lose nothing
   abbrev rows_then : ℕ → List Row
@@ -340,30 +397,25 @@ module _ (w : Plain) (good : Good w) (n : ℕ) (s : NodeState) (at : node_at w.n
       let second = let_off.goes_on.goes_on m ls (subst (λ (rs : List Row). Has rs ls) (sym (others_rows m ne ∙ ap rows_in e)) i) in
       record { waits = λ f. second.waits (first.waits f); holds = λ l h. second.holds l (first.holds l h) }
 
-  rests_then : waits_at after n (staying s) ≡ false
+  rests_then : waits_at after n (kept_then s) ≡ false
   rests_then =
-      let second = let_off.goes_on.goes_on n (staying s) (subst (λ (rs : List Row). Has rs (staying s)) (sym rows_here) (inl refl)) in
+      let second = let_off.goes_on.goes_on n (kept_then s) (subst (λ (rs : List Row). Has rs (kept_then s)) (sym rows_here) (inl refl)) in
       second.waits given.rests
 
   -- ---- what stays
 
-  kept_then : AreKept phase.Off (staying s)
-  kept_then l h = by_kept (mine.store.kept l its.0) where
-    its : Has s.kept l × (stays s.stock l ≡ true)
-    its = has_filter (stays s.stock) s.kept l h
+  held_then : AreHeld after (rows_at (set_node w.nodes n rested))
+  held_then = held_set after w.nodes n s rested at let_off.goes_on.held
 
-    tests : (is_same l.0 X ≡ true) × (has_any (roomless s.stock) ≡ true)
-    tests = and_parts (is_same l.0 X) (has_any (roomless s.stock)) its.1
+  -- with a stock the rules have not come to search all free space
+  not_last : has_any (roomless s.stock) ≡ true → s.run.phase ≡ phase.Last → ⊥
+  not_last some last =
+      absurd (let f : true ≡ false = sym some ∙ ap (λ (k : Stock). has_any (roomless k)) (empty_at_last last (space_now w good n s at x cmd free)) in cc)
 
-    is_x : l.0 ≡ X
-    is_x = is_same-same l.0 X tests.0
-
-    not_empty : s.stock ≡ empty_stock → ⊥
-    not_empty e = absurd (let f : true ≡ false = sym tests.1 ∙ ap (λ (k : Stock). has_any (roomless k)) e in cc)
-
-    by_kept : (l ≡ (V, NL)) ⊎ IsKeptX s.run.phase l → (l ≡ (V, NL)) ⊎ IsKeptX phase.Off l
-    by_kept (inl e) = absurd (let f : X ≡ V = sym is_x ∙ ap (λ (k : LockName × Mode). k.0) e in cc)
-    by_kept (inr e) = inr (e.0, elim e.1 [ inl f ↦ inl f | inr f ↦ absurd (not_empty (empty_at_last f (space_now w good n s at x cmd free))) ])
+  store_so : HasStore phase.Off (kept_then s) s.cache
+  store_so = store_then s mine.store not_last (kept_once rested held_mine.once) where
+    held_mine : HoldsItsLocks after n (rows_of rested)
+    held_mine = subst (λ (rs : List Row). HoldsItsLocks after n rs) (ap rows_in (at_here w.nodes n rested s at)) (held_then n)
 
   stocked_then : IsStocked rested
   stocked_then = record { holds = elim (good.running.stocked n s at).holds [ inl none ↦ inl (nothing_then (none_in_stock s.stock s.run none.stock)) | inr h ↦ by_any (has_any (roomless s.stock)) refl h ] } where
@@ -382,24 +434,25 @@ module _ (w : Plain) (good : Good w) (n : ℕ) (s : NodeState) (at : node_at w.n
         let tests = neither (nat_lt 0 (length s.stock.clusters)) (nat_lt 0 (length s.stock.numbers)) e in
         record { given = refl; stock = λ i. together (things_of (no_list s.stock.clusters tests.0 i) (no_list s.stock.numbers tests.1 i)) nothing }
 
-    by_any : (b : Bool) → has_any (roomless s.stock) ≡ b → Has (held_in CR s.kept) X → HasNothing rested ⊎ Has (held_in CR (staying s)) X
+    by_any : (b : Bool) → has_any (roomless s.stock) ≡ b → Has (held_in CR s.kept) X → HasNothing rested ⊎ Has (held_in CR (kept_then s)) X
     by_any false e h = inl (nothing_then e)
     by_any true e h =
         let k = in_held_is CR s.kept X h in
-        inr (is_in_held CR (staying s) X (record { in_mode = k.in_mode; has = in_filter (stays s.stock) s.kept (X, k.in_mode) k.has e; strong = k.strong }))
+        inr (is_in_held CR (kept_then s) X (record { in_mode = k.in_mode; has = has_first (staying s) (lowered_of s.cache (used_locks s)) (X, k.in_mode) (in_filter (stays s) s.kept (X, k.in_mode) k.has e); strong = k.strong }))
 
   -- ---- the drive
 
   abbrev alone_now : UnderWay
   alone_now = resting kept_stock
 
-  under_then : IsUnder w.geometry answered.0 (changed (nodes_under w.locks w.nodes) n (under_with after n rested rested.cmd)) w.blocks
+  under_then : IsUnderOn w.geometry cat_then committed new (changed (nodes_under w.locks w.nodes) n (under_with after n rested rested.cmd)) w.blocks
   under_then =
       let read : List LockName = held_in PR (held_by after n rested) in
       let write : List LockName = held_in PW (held_by after n rested) in
       let b : UnderWay = record alone_now { read = read; write = write } in
-      let two = widens w.geometry answered.0 (changed (nodes_under w.locks w.nodes) n alone_now) w.blocks n alone_now (changed_here (nodes_under w.locks w.nodes) n alone_now) answered.2 read write (λ name h. absurd h) (λ name h. absurd h) in
-      nodes_alike w.geometry answered.0 (changed (changed (nodes_under w.locks w.nodes) n alone_now) n b) (changed (nodes_under w.locks w.nodes) n b) w.blocks (λ m. changed_twice (nodes_under w.locks w.nodes) n alone_now b m) two
+      let one : IsUnder w.geometry cat_then (changed (nodes_under w.locks w.nodes) n alone_now) w.blocks = of_it w.geometry cat_then committed new (changed (nodes_under w.locks w.nodes) n alone_now) w.blocks under_idle in
+      let two = widens w.geometry cat_then (changed (nodes_under w.locks w.nodes) n alone_now) w.blocks n alone_now (changed_here (nodes_under w.locks w.nodes) n alone_now) one read write (λ name h. absurd h) (λ name h. absurd h) in
+      alike_on w.geometry cat_then committed new (changed (changed (nodes_under w.locks w.nodes) n alone_now) n b) (changed (nodes_under w.locks w.nodes) n b) w.blocks (λ m. changed_twice (nodes_under w.locks w.nodes) n alone_now b m) two
 
   busy : s.cmd ≡ None → ⊥
   busy none = absurd (let f : Some x ≡ None = sym cmd ∙ none in cc)
@@ -413,8 +466,8 @@ module _ (w : Plain) (good : Good w) (n : ℕ) (s : NodeState) (at : node_at w.n
   grows : past n (w.history ++ entry ∷ []) ≡ after_answer s.past x r
   grows = past_grows n w.history entry ∙ own_entry n (past n w.history) x r ∙ ap (λ y. after_answer y x r) (sym mine.past)
 
-  kept : Keeps good.running.cat answered.0
-  kept = answer_stays good.running.cat answered.0 n x r good.running.named answered.1
+  kept : Numbers good.running.cat cat_then
+  kept = answer_stays good.running.cat cat_then n x r good.running.named answered.answer
 
   -- ---- its channels
 
@@ -427,10 +480,13 @@ module _ (w : Plain) (good : Good w) (n : ℕ) (s : NodeState) (at : node_at w.n
   ends_so : EndsSo x (channel_seen s.opens x) (granted_ask s.tried s.plan) r
   ends_so = subst (λ (o : Option Chan). EndsSo x o (granted_ask s.tried s.plan) r) channel_is_so ends
 
-  opens_locked : AreOpensLocked after (open_now answered.0 (set_node w.nodes n rested))
-  opens_locked = locks_go_on good.running.cat answered.0 w.nodes n s rested at refl x r mid given.table
-      (opens_given w.geometry n (all_writes s) (going s) w.locks (open_now good.running.cat w.nodes) good.locked.0 good.running.opens)
-      (answer_moved good.running.cat answered.0 n x r answered.1).opens good.running.named.places number now.form (good.running.opened n s at) ends_so
+  opens_used : OpensStay n (keeps s.cache) values (used_locks s) (open_now good.running.cat w.nodes) w.locks
+  opens_used = opens_back n s.cache values (open_now good.running.cat w.nodes) mine.store.guarding (used_locks s) w.locks good.locked.0 (used_may w good n s at free granted) good.running.opens
+
+  opens_locked : AreOpensLocked after (open_now cat_then (set_node w.nodes n rested))
+  opens_locked = locks_go_on good.running.cat cat_then w.nodes n s rested at refl x r mid given.table
+      (opens_given w.geometry n (all_writes s) (going s) (all_back n (keeps s.cache) values (used_locks s) w.locks) (open_now good.running.cat w.nodes) opens_used.0 opens_used.1)
+      (answer_moved good.running.cat cat_then n x r answered.answer).opens good.running.named.places number now.form (good.running.opened n s at) ends_so
 
   -- what a close of an open channel answers
   close_is : (chan : ℕ) → x ≡ command.CloseFile chan → slice_get s.past.channels (chan - 1) ≡ Some true → is_closed r ≡ true
@@ -442,44 +498,53 @@ module _ (w : Plain) (good : Good w) (n : ℕ) (s : NodeState) (at : node_at w.n
         by_open None f some has = absurd (let g : false ≡ true = some in cc)
         by_open (Some p) f some has =
             let o = open_at good.running.cat n chan p has in
-            close_replies good.running.cat answered.0 n chan r o.open_is o.at (subst (λ (y : Cmd). Answer good.running.cat n y r answered.0) e answered.1)
+            close_replies good.running.cat cat_then n chan r o.open_is o.at (subst (λ (y : Cmd). Answer good.running.cat n y r cat_then) e answered.answer)
 
   few_then : HasFewAnswers w.script n (past n (w.history ++ entry ∷ []))
   few_then = subst (HasFewAnswers w.script n) (sym grows) (few_go_on w.script n s.past x r (ap (λ p. length p.channels) mine.past ∙ past_count n w.history) (ap (command_after w.script n) mine.past ∙ now.next) close_is
       (subst (HasFewAnswers w.script n) (sym mine.past) (good.few n)))
 
+  -- no sequence is raised by more than two
+  little : (seq : List ℕ → ℕ) → IsSequence seq → (name : LockName) → seq (resource_at name mid).value ≤ seq (resource_at name w.locks).value + 2
+  little seq is name = both_little seq is w.geometry n (all_writes s) (keeps s.cache) (used_locks s) (going s) w.locks (used_once w good n s at free granted) (gone_once w good n s at free granted) (used_may w good n s at free granted) (gone_apart w good n s at free granted) name
+
   pub answers_keep : Good (answered_by w n s x r)
   unfolding after_answer
   answers_keep = rebuilt w good n s rested at after w.blocks (w.history ++ entry ∷ [])
       (record {
-        cat = answered.0;
-        replayed = replays_grow w.opening w.script w.history good.running.cat entry answered.0 good.running.replayed answered.1;
-        drive = under_grown w.geometry answered.0 w.locks after w.nodes n s rested w.blocks at
+        cat = cat_then;
+        replayed = replays_grow w.opening w.script w.history good.running.cat entry cat_then good.running.replayed answered.answer;
+        base = committed;
+        own = new;
+        cached = cached_then w good n s at free granted x r (w.history ++ entry ∷ []) all_made let_off.table held_then others_go cat_then new ws in_hold guarded;
+        drive = under_grown w.geometry cat_then committed new w.locks after w.nodes n s rested w.blocks at
             (λ m q k ne e h. rows_go_on w.locks after m (rows_of q) k (others_go m q ne e) h) under_then;
-        accounted = subst (λ (o : Outcome). Accounted o.after) answered.1.2 (accounts_kept good.running.cat n x answered.1.0 good.running.accounted answered.1.1);
-        near = subst (AreNear answered.0) (sym (answers_fell w.history n x r)) (answer_near good.running.cat answered.0 n x r (falls w.history) good.running.near answered.1);
-        sized = answer_small good.running.cat answered.0 n x r good.running.sized answered.1;
+        accounted = subst (λ (o : Outcome). Accounted o.after) answered.answer.2 (accounts_kept good.running.cat n x answered.answer.0 good.running.accounted answered.answer.1);
+        near = subst (AreNear cat_then) (sym (answers_fell w.history n x r)) (answer_near good.running.cat cat_then n x r (falls w.history) good.running.near answered.answer);
+        sized = answer_small good.running.cat cat_then n x r good.running.sized answered.answer;
         fell = answers_fell w.history n x r ∙ good.running.fell ∙ sym (answers_left w.history n x r w.script.nodes);
         system = λ m le. kept m le (good.running.system m le);
-        named = answer_names good.running.cat answered.0 n x r (names_channel x now.form) good.running.named answered.1;
+        named = answer_names good.running.cat cat_then n x r (names_channel x now.form) good.running.named answered.answer;
         opens = opens_locked;
-        opened = all_set w.nodes n s rested at (λ m q. HasOpens answered.0 m q.opens)
-            (opens_go_on good.running.cat answered.0 n s.opens x r answered.1 number now.form good.running.named (good.running.opened n s at) (channel_seen s.opens x) (granted_ask s.tried s.plan) ends_so)
-            (λ m q ne e. others_go_on good.running.cat answered.0 n s.opens x r answered.1 number now.form good.running.named (good.running.opened n s at) m q.opens (node_number w good m q e) ne (good.running.opened m q e));
+        opened = all_set w.nodes n s rested at (λ m q. HasOpens cat_then m q.opens)
+            (opens_go_on good.running.cat cat_then n s.opens x r answered.answer number now.form good.running.named (good.running.opened n s at) (channel_seen s.opens x) (granted_ask s.tried s.plan) ends_so)
+            (λ m q ne e. others_go_on good.running.cat cat_then n s.opens x r answered.answer number now.form good.running.named (good.running.opened n s at) m q.opens (node_number w good m q e) ne (good.running.opened m q e));
       })
-      (let_off.table, held_set after w.nodes n s rested at let_off.goes_on.held)
+      (let_off.table, held_then)
       (own_grows w.script w.history entry good.own (sym (ap (λ y. y.dead) mine.past) ∙ alive, now.next))
-      (small_answered w good.small n s rested at w.geometry (all_writes s) (going s) once (channel_seen s.opens x) x r w.blocks cmd refl)
+      (small_answered w good.small n s rested at mid (little first_sequence is_first) (little second_sequence is_second) (channel_seen s.opens x) x r w.blocks cmd refl)
       few_then
       (λ m ne. past_of_others m w.history entry (not_of n m x r ne))
       others_go stocked_then
+      (writes_then w good n s at free granted x r (w.history ++ entry ∷ []) all_made let_off.table held_then others_go)
       (record {
         past = sym grows;
         geometry = mine.geometry;
         channels = λ on. channels_go_on s.past s.opens x (channel_seen s.opens x) (granted_ask s.tried s.plan) r ends_so (mine.channels alive);
         channel = refl;
-        store = record { kept = kept_then; cache = mine.store.cache };
+        store = store_so;
         rests = rests_then;
+        asks = λ e. absurd (let f : false ≡ true = e in cc);
         command = record { locks = refl; blocks = refl; space = record { clusters = refl; number = refl; short = refl }; asked = refl; plan = refl; done = refl };
         space = Off (record { run = refl; claims = refl; space = record { clusters = refl; number = refl; short = refl } });
         over = λ o. absurd (busy (mine.over o).0.cmd);

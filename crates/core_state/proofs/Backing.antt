@@ -46,6 +46,7 @@ use Rattle.core_state.proofs.Running.{held_among, under_here}
 use Rattle.core_state.proofs.Taking.{its_guards}
 use Rattle.core_state.proofs.SmallWorlds.{OwesLess, owes_same}
 use Rattle.core_state.proofs.Claiming.{claim_keeps}
+use Rattle.core_state.proofs.CachedLooks.{claimed_store}
 use Rattle.core_state.proofs.Claims.{keeps_on, x_in_cr, v_not_a, v_not_x, v_new, v_keeps, x_goes_on, no_claims, no_claims_kept}
 use Rattle.core_state.proofs.Givings.{give_none}
 
@@ -186,7 +187,7 @@ module _ (w : Plain) (good : Good w) (n : ℕ) (s : NodeState) (at : node_at w.n
 
     not_kept : (m : Mode) → Has s.kept (V, m) → rank PR ≤ rank m → ⊥
     not_kept m a strong = elim (me.store.kept (V, m) a) [
-      | inl e ↦ absurd (let f : rank m ≡ rank NL = ap (λ (y : LockName × Mode). rank y.1) e in omega arith)
+      | inl e ↦ absurd (let f : rank m ≡ rank NL = ap rank e.1 in omega (arith, f, strong))
       | inr e ↦ absurd (let f : V ≡ X = e.0 in cc)
     ]
 
@@ -202,7 +203,9 @@ module _ (w : Plain) (good : Good w) (n : ℕ) (s : NodeState) (at : node_at w.n
   pub back_claim_keeps : IsDue s → Good (altered w (taken V (system_of n) PW w.locks) w.blocks (set_node w.nodes n (turned (claiming s phase.Back V PW))) w.history)
   back_claim_keeps due = claim_keeps w good n s at on phase.Back V PW (inl due.off.claims) (ap (waits_at w.locks n) due.off.claims) phase.Off due.off.run v_not_a (λ e. absurd (let f : PW ≡ CW = e in cc))
       (v_new w good n s at on due.not_asked (no_claims w good n s at on due.off.claims))
-      (v_keeps w good n s at on phase.Back (keeps_on s.run.phase phase.Back s.kept (inl not_last) me.store.kept) (no_claims_kept w good n s at on phase.Back due.off.claims))
+      (λ e a. inl (inr refl))
+      (claimed_store s.run.phase phase.Back s.kept s.claims s.cache V me.store
+      (v_keeps w good n s at on phase.Back (keeps_on s.run.phase phase.Back s.kept (inl not_last) me.store.kept) (no_claims_kept w good n s at on phase.Back due.off.claims)) (no_claims w good n s at on due.off.claims))
       (x_goes_on w good n s at on) owes
       (Back (record {
         back = refl;
@@ -244,4 +247,5 @@ module _ (w : Plain) (good : Good w) (n : ℕ) (s : NodeState) (at : node_at w.n
               within = let le : length s.run.writes ≡ 0 = ap length writes in let m = made in omega arith;
               all = (λ i. give_place s.seen.geometry s.stock.clusters s.stock.numbers (looked i)) ∙ e;
               once = subst (λ (ws : List PlanWrite). Once (map (λ v. v.lbn) ws)) (sym writes) tt;
+              locks = λ v h. absurd (subst (λ (ws : List PlanWrite). Has ws v) writes h);
             })

@@ -6,6 +6,7 @@ use Rattle.plain_cat.specs.declared.cat.Cat.{Cat}
 use Rattle.vol_owners.specs.Lists.{Has, Once}
 use Rattle.vol_owners.specs.Owners.{Owners, Things, Outs}
 use Rattle.vol_parts.specs.declared.geometry.Geometry.{Geometry}
+use Rattle.lock_db.specs.declared.name.LockName.TheVariants.{V}
 use Rattle.vol_parts.specs.declared.geometry.Part.TheVariants.{IndexBitmap, Storage}
 use Rattle.vol_spell.specs.Reading.{total_of}
 use Rattle.vol_spell.specs.Places.{place_of}
@@ -19,7 +20,7 @@ use Rattle.core_space.specs.Laws.{things_of}
 use Rattle.core_space.proofs.Given.{numbers_go_back, clusters_go_back, outside_within}
 use Rattle.core_state.specs.Worlds.{Stock, empty_stock}
 use Rattle.core_state.specs.Stocks.{things_in, left_by}
-use Rattle.core_state.specs.Searches.{IsWritingBack, IsGoingBack, WritesBack}
+use Rattle.core_state.specs.Searches.{AreUnderV, IsWritingBack, IsGoingBack, WritesBack}
 use Rattle.core_state.proofs.Givings.{without_block, NumbersFirst, ClustersNext, give_step, give_nothing, AllSeen, all_seen, seen_has, covered_seen, less_seen, no_numbers_seen, numbers_leave, clusters_leave}
 
 -- the next write, and what comes behind it
@@ -36,6 +37,7 @@ drop_end (v ∷ ws) (suc k) e = drop_end ws k e
 
 -- a write of a give-back of this stock, by a node whose command was given this
 pub record IsBackWrite (g : Geometry) (n : ℕ) (took : Things) (cat : Cat) (stock : Stock) (run after : SpaceRun) (w : PlanWrite) : Type 0 where
+  pub lock : w.lock ≡ V
   pub old : Block
   pub among : Has run.looked (w.lbn, old)
   pub bitmap : IsBitmap g w.lbn
@@ -60,6 +62,7 @@ module _ (g : Geometry) (n : ℕ) (took : Things) (cat : Cat) (stock : Stock) (r
     within = (let lt : run.made < length run.writes = slice_get_within run.writes run.made w next in let e : length after.writes ≡ length run.writes = ap length same_writes in let m = made in omega arith);
     all = (λ i. give_place g (is i).clusters (is i).numbers (same_looked i)) ∙ none;
     once = subst (λ (ws : List PlanWrite). Once (map (λ v. v.lbn) ws)) (sym same_writes) back.once;
+    locks = subst AreUnderV (sym same_writes) back.locks;
   })
 
   by_numbers : NumbersFirst g stock.clusters stock.numbers run.looked w (drop (run.made + 1) run.writes) → IsBackWrite g n took cat stock run after w
@@ -67,6 +70,7 @@ module _ (g : Geometry) (n : ℕ) (took : Things) (cat : Cat) (stock : Stock) (r
       let place : w.lbn ≡ place_of g IndexBitmap = ap (λ (v : PlanWrite). v.lbn) h.is in
       let parts = are_parts g base own cat spelt in
       record {
+        lock = ap (λ (v : PlanWrite). v.lock) h.is;
         old = block_seen run.looked (place_of g IndexBitmap);
         among = subst (λ (l : ℕ). Has run.looked (l, block_seen run.looked (place_of g IndexBitmap))) (sym place) (seen_has run.looked (place_of g IndexBitmap) (seen.index h.some));
         bitmap = subst (IsBitmap g) (sym place) (inl (parts.there IndexBitmap tt));
@@ -84,6 +88,7 @@ module _ (g : Geometry) (n : ℕ) (took : Things) (cat : Cat) (stock : Stock) (r
       let place : w.lbn ≡ place_of g (Storage k) = ap (λ (v : PlanWrite). v.lbn) h.is in
       let parts = are_parts g base own cat spelt in
       record {
+        lock = ap (λ (v : PlanWrite). v.lock) h.is;
         old = block_seen run.looked (place_of g (Storage k));
         among = subst (λ (l : ℕ). Has run.looked (l, block_seen run.looked (place_of g (Storage k)))) (sym place) (seen_has run.looked (place_of g (Storage k)) (covered_seen g stock.clusters stock.numbers run.looked k seen h.inside h.covered));
         bitmap = subst (IsBitmap g) (sym place) (inr (k, parts.there (Storage k) h.inside));

@@ -1,5 +1,5 @@
 -- A node changes alone, and begins a command.
-use Rattle.std.proofs.Common.{◌≡◌, ◌≢◌, ◌≤◌, ◌+◌, ◌*◌, ◌||◌, ℕ, Bool, true, false, cond, List, [], Option, Some, None, is_some, map, refl, sym, ap, subst, ◌∙◌, inl, inr, arith}
+use Rattle.std.proofs.Common.{◌≡◌, ◌⊎◌, ◌≢◌, ◌≤◌, ◌+◌, ◌*◌, ◌||◌, ℕ, Bool, true, false, cond, List, [], Option, Some, None, is_some, map, refl, sym, ap, subst, ◌∙◌, inl, inr, arith}
 use Rattle.lock_db.specs.declared.name.LockName.{LockName}
 use Rattle.lock_db.specs.declared.name.LockName.TheVariants.{X}
 use Rattle.plain_cat.specs.declared.mode.Mode.{Mode}
@@ -10,8 +10,9 @@ use Rattle.node_locks.specs.Held.{names_of, AreHeld, waits_at, without}
 use Rattle.op_law.proofs.Going.{seen_goes_on}
 use Rattle.vol_owners.specs.Lists.{Has}
 use Rattle.vol_owners.specs.Owners.{Things, nothing, Outs}
-use Rattle.vol_under.specs.UnderWay.{UnderWay, changed}
-use Rattle.vol_under.specs.Under.{IsUnder}
+use Rattle.vol_under.specs.UnderWay.{UnderWay, changed, AreSole}
+use Rattle.cache_laws.specs.Committed.{IsUnderOn}
+use Rattle.node_cache.specs.Cached.{Cached}
 use Rattle.op_law.specs.Fits.{things}
 use Rattle.op_law.specs.Going.{GoesOn}
 use Rattle.op_law.specs.Laws.{held_in, planned, Lawful}
@@ -21,7 +22,7 @@ use Rattle.core_state.specs.Worlds.{NodeState, Plain, node_at, with_node, rows_o
 use Rattle.core_state.specs.Asks.{writes_now, granted_ask, own_ask, with_ask, is_claiming}
 use Rattle.core_state.specs.Stocks.{stock_now}
 use Rattle.core_state.specs.Searches.{IsOff, Off}
-use Rattle.core_state.specs.Stores.{IsStocked}
+use Rattle.core_state.specs.Stores.{IsStocked, hold_writes, IsCachedAt}
 use Rattle.core_state.specs.Small.{lent, owed_in, owed, has_command}
 use Rattle.core_state.specs.Goods.{under_with, nodes_under, IsAtPlan, IsIdle, HasCommand, IsNode, Good}
 use Rattle.core_state.specs.Events.{is_out, begun}
@@ -29,7 +30,8 @@ use Rattle.core_state.proofs.Commands.{next_names}
 use Rattle.core_state.proofs.Holding.{in_held_is, is_in_held}
 use Rattle.core_state.proofs.Naming.{stays_without}
 use Rattle.core_state.proofs.Switching.{AsksAlike}
-use Rattle.core_state.proofs.Running.{under_now, under_here}
+use Rattle.core_state.proofs.Running.{under_now, under_here, are_sole}
+use Rattle.core_state.proofs.CachedKinds.{quiet_cached, quiet_writes}
 use Rattle.core_state.proofs.Taking.{its_outs, its_seen, its_guards, becomes}
 use Rattle.core_state.proofs.SmallWorlds.{OwesLess, small_set}
 use Rattle.core_state.proofs.Keeping.{still_driven, rebuilt, held_same, loses_nothing}
@@ -64,17 +66,21 @@ module _ (w : Plain) (good : Good w) (n : ℕ) (s : NodeState) (at : node_at w.n
   pub held_at : AreHeld w.locks (rows_at w.nodes)
   held_at = good.locked.1
 
-  -- a change of the node alone
-  pub alone : (r : NodeState) → rows_of r ≡ rows_of s → AsksAlike (granted_ask s.tried s.plan) (granted_ask r.tried r.plan) → r.opens ≡ s.opens → OwesLess s r → IsStocked r → IsUnder w.geometry good.running.cat (changed (nodes_under w.locks w.nodes) n (under_with w.locks n r r.cmd)) w.blocks
-      → IsNode (with_node w n r) n r → Good (with_node w n r)
-  alone r same alike opens owes stocked drive is = rebuilt w good n s r at w.locks w.blocks w.history
-      (still_driven w good n s r at w.locks w.blocks alike opens (under_now w.geometry good.running.cat w.locks w.locks w.nodes n s r w.blocks at (λ m q ne e. refl) drive) good.running.opens)
-      (good.locked.0, held_same w.locks w.nodes n s r at same held_at) good.own (small_set w good.small n s r at w.blocks owes) (good.few n) (λ m ne. refl) (λ m q ne e. loses_nothing w.locks m q) stocked is
+  sole : AreSole (nodes_under w.locks w.nodes)
+  sole = are_sole w.locks w.nodes good.locked.0 good.locked.1
+
+  -- a change of the node alone, in which it writes nothing more
+  pub alone : (r : NodeState) → rows_of r ≡ rows_of s → AsksAlike (granted_ask s.tried s.plan) (granted_ask r.tried r.plan) → r.opens ≡ s.opens → OwesLess s r → IsStocked r → IsUnderOn w.geometry good.running.cat good.running.drive.base good.running.drive.own (changed (nodes_under w.locks w.nodes) n (under_with w.locks n r r.cmd)) w.blocks
+      → hold_writes r ≡ hold_writes s → ((e : Cached) → Has r.cache e → Has s.cache e ⊎ IsCachedAt (with_node w n r) good.running.drive.own good.running.cat n r e) → IsNode (with_node w n r) n r → Good (with_node w n r)
+  alone r same alike opens owes stocked drive wrote mine is = rebuilt w good n s r at w.locks w.blocks w.history
+      (still_driven w good n s r at w.locks w.blocks alike opens good.running.drive.base good.running.drive.own (under_now w.geometry good.running.cat good.running.drive.base good.running.drive.own w.locks w.locks w.nodes n s r w.blocks at (λ m q ne e. refl) drive) good.running.opens
+      (quiet_cached w sole good.writers n s r at same wrote good.running.drive.own good.running.cat good.running.cached mine))
+      (good.locked.0, held_same w.locks w.nodes n s r at same held_at) good.own (small_set w good.small n s r at w.blocks owes) (good.few n) (λ m ne. refl) (λ m q ne e. loses_nothing w.locks m q) stocked (quiet_writes w sole good.writers n s r at same wrote) is
 
   -- ---- begun
 
   begins_under : (x : Cmd) → s.cmd ≡ None → IsIdle s.seen s.asked s.plan s.done
-      → IsUnder w.geometry good.running.cat (changed (nodes_under w.locks w.nodes) n (under_with w.locks n (begun s x) (Some x))) w.blocks
+      → IsUnderOn w.geometry good.running.cat good.running.drive.base good.running.drive.own (changed (nodes_under w.locks w.nodes) n (under_with w.locks n (begun s x) (Some x))) w.blocks
   begins_under x none idle =
       let u : UnderWay = under_with w.locks n s None in
       let v : UnderWay = under_with w.locks n (begun s x) (Some x) in
@@ -100,13 +106,14 @@ module _ (w : Plain) (good : Good w) (n : ℕ) (s : NodeState) (at : node_at w.n
       let idle : IsIdle s.seen s.asked s.plan s.done = subst (HasCommand w n s) none node.command in
       let goes : GoesOn x = seen_goes_on x law.searches in
       let still = neither s.over s.past.dead on in
-      alone (begun s x) refl (λ part o low. refl) refl (begins_owe x none off.run) (stays_stocked s (begun s x) refl refl (λ h. h) (good.running.stocked n s at)) (begins_under x none idle) (record {
+      alone (begun s x) refl (λ part o low. refl) refl (begins_owe x none off.run) (stays_stocked s (begun s x) refl refl (λ h. h) (good.running.stocked n s at)) (begins_under x none idle) refl (λ e h. inl h) (record {
         past = node.past;
         geometry = node.geometry;
         channels = node.channels;
         channel = refl;
         store = node.store;
         rests = node.rests;
+        asks = λ e. absurd (let f : true ≡ false = sym e ∙ ap (waits_at w.locks n) idle.asked in cc);
         command = record {
           next = next;
           form = next_names w.script good.form n w.history x next;

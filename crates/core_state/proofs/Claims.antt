@@ -38,6 +38,7 @@ use Rattle.core_state.proofs.SmallWorlds.{OwesLess}
 use Rattle.core_state.proofs.Seeking.{first_more, wants_some, none_in_order}
 use Rattle.core_state.proofs.Turning.{under_command, drive, asks_now}
 use Rattle.core_state.proofs.Claiming.{mine, claim_keeps}
+use Rattle.core_state.proofs.CachedLooks.{claimed_store}
 use Rattle.core_state.proofs.Fillings.{fill_first}
 
 -- ---- what is kept
@@ -58,7 +59,7 @@ keeps_on q p ls which keeps l h = elim (keeps l h) [
 -- where X is kept and all free space is not searched, it is in CR
 pub x_in_cr : (p : Phase) (ls : Row) (m : Mode) → (p ≡ phase.Last → ⊥) → AreKept p ls → Has ls (X, m) → Has ls (X, CR)
 x_in_cr p ls m not_last keeps h = elim (keeps (X, m) h) [
-  | inl e ↦ absurd (let f : X ≡ V = ap (λ (l : LockName × Mode). l.0) e in cc)
+  | inl e ↦ absurd (let f : false ≡ true = e.0 in cc)
   | inr e ↦ elim e.1 [ inl f ↦ subst (λ (k : Mode). Has ls (X, k)) f h | inr f ↦ absurd (not_last f) ]
 ]
 
@@ -67,7 +68,7 @@ pub v_in_nl : (p : Phase) (ls : Row) → AreKept p ls → Has (names_of ls) V �
 v_in_nl p ls keeps h =
     let k = named_by ls V h in
     elim (keeps (V, k.0) k.1) [
-      | inl e ↦ subst (λ (l : LockName × Mode). Has ls l) e k.1
+      | inl e ↦ subst (λ (m : Mode). Has ls (V, m)) e.1 k.1
       | inr e ↦ absurd (let f : V ≡ X = e.0 in cc)
     ]
 
@@ -132,6 +133,10 @@ module _ (w : Plain) (good : Good w) (n : ℕ) (s : NodeState) (at : node_at w.n
   -- ---- for its command
 
   module _ (x : Cmd) (cmd : s.cmd ≡ Some x) (free : waits_at w.locks n s.asked ≡ false) (no_plan : s.plan ≡ None) where
+    -- it waits for nothing
+    asks_free : {A : Type 0} → waits_at w.locks n s.asked ≡ true → A
+    asks_free e = absurd (let f : true ≡ false = sym e ∙ free in cc)
+
     -- its command takes space, so it has not asked for V itself
     pub v_not_its : NeedsSpace x s.seen → Has (names_of s.asked) V → ⊥
     v_not_its needs h =
@@ -158,7 +163,9 @@ module _ (w : Plain) (good : Good w) (n : ℕ) (s : NodeState) (at : node_at w.n
           | inl a ↦ none (subst (λ (ls : Row). Has (names_of ls) X) bare a)
           | inr c ↦ x_not_its (subst (λ (ls : Row). Has (names_of ls) X) (append-nil s.asked) c)
         ]))
-        (λ l h. keeps_on s.run.phase phase.Fill s.kept (inl (off_not_last off.run)) me.store.kept l (subst (λ (ls : Row). Has ls l) bare (from_without (s.kept ++ s.claims) X l h).0))
+        asks_free
+        (claimed_store s.run.phase phase.Fill s.kept s.claims s.cache X me.store
+        (λ l h. keeps_on s.run.phase phase.Fill s.kept (inl (off_not_last off.run)) me.store.kept l (subst (λ (ls : Row). Has ls l) bare (from_without (s.kept ++ s.claims) X l h).0)) (no_claims off.claims))
         (λ h. absurd (none (named_in s.kept h)))
         (owes_no_more s r refl (omega arith))
         (Busy x cmd (Shared (record { run = λ i. record (off.run i) { phase = phase.Fill }; claims = refl; needs = needs; lacking = lacking }))) where
@@ -197,7 +204,8 @@ module _ (w : Plain) (good : Good w) (n : ℕ) (s : NodeState) (at : node_at w.n
         let now : owed r ≡ 4 = owed_at r x cmd in
         claim_keeps w good n s at on phase.Fill V PW (inl off.claims) (ap (waits_at w.locks n) off.claims) phase.Off off.run v_not_a (λ e. absurd (let f : PW ≡ CW = e in cc))
         (v_new (v_not_its needs) (no_claims off.claims))
-        (v_keeps phase.Fill (keeps_on s.run.phase phase.Fill s.kept (inl not_last) me.store.kept) (no_claims_kept phase.Fill off.claims))
+        asks_free
+        (claimed_store s.run.phase phase.Fill s.kept s.claims s.cache V me.store (v_keeps phase.Fill (keeps_on s.run.phase phase.Fill s.kept (inl not_last) me.store.kept) (no_claims_kept phase.Fill off.claims)) (no_claims off.claims))
         x_goes_on (owes_no_more s r refl (omega arith))
         (Busy x cmd (filling_so phase.Off off.run needs lacking (has_first s.kept s.claims (X, CR) shared))) where
           not_last : s.run.phase ≡ phase.Last → ⊥
@@ -211,7 +219,10 @@ module _ (w : Plain) (good : Good w) (n : ℕ) (s : NodeState) (at : node_at w.n
         let now : owed r ≡ 4 = owed_at r x cmd in
         claim_keeps w good n s at on phase.Fill V PW (inr ((X, CR), h.claims)) granted phase.Fill h.run v_not_a (λ e. absurd (let f : PW ≡ CW = e in cc))
         (v_new (v_not_its h.needs) (λ l k. ap (λ (y : LockName × Mode). y.0) (sym (one_of s.claims (X, CR) l h.claims k))))
+        asks_free
+        (claimed_store s.run.phase phase.Fill s.kept s.claims s.cache V me.store
         (v_keeps phase.Fill (keeps_on s.run.phase phase.Fill s.kept (inl not_last) me.store.kept) (λ l k. let e = sym (one_of s.claims (X, CR) l h.claims k) in (ap (λ (y : LockName × Mode). y.0) e, inl (ap (λ (y : LockName × Mode). y.1) e))))
+        (λ l k. ap (λ (y : LockName × Mode). y.0) (sym (one_of s.claims (X, CR) l h.claims k))))
         x_goes_on (owes_no_more s r refl (omega arith))
         (Busy x cmd (filling_so phase.Fill h.run h.needs h.lacking (has_second s.kept s.claims (X, CR) (subst (λ (ls : Row). Has ls (X, CR)) (sym h.claims) (inl refl))))) where
           not_last : s.run.phase ≡ phase.Last → ⊥
@@ -227,7 +238,9 @@ module _ (w : Plain) (good : Good w) (n : ℕ) (s : NodeState) (at : node_at w.n
         let now : owed r ≡ 3 = owed_at r x cmd in
         claim_keeps w good n s at on phase.Last X EX (inl none) (ap (waits_at w.locks n) none) phase.Last run x_not_a (λ e. absurd (let f : EX ≡ CW = e in cc))
         (inr (has_first s.kept s.claims (X, NL) has))
-        (λ l h. keeps_on s.run.phase phase.Last s.kept (inr refl) me.store.kept l (subst (λ (ls : Row). Has ls l) bare (from_without (s.kept ++ s.claims) X l h).0))
+        asks_free
+        (claimed_store s.run.phase phase.Last s.kept s.claims s.cache X me.store
+        (λ l h. keeps_on s.run.phase phase.Last s.kept (inr refl) me.store.kept l (subst (λ (ls : Row). Has ls l) bare (from_without (s.kept ++ s.claims) X l h).0)) (no_claims none))
         (λ h. absurd (weak s.kept (kept_once s (mine w good n s at on).once) has h))
         (owes_no_more s r refl (omega arith))
         (Busy x cmd (Alone (record { run = λ i. record (run i) { phase = phase.Last }; claims = inr refl; empty = empty; needs = needs }))) where
@@ -248,7 +261,10 @@ module _ (w : Plain) (good : Good w) (n : ℕ) (s : NodeState) (at : node_at w.n
         let now : owed r ≡ 3 = owed_at r x cmd in
         claim_keeps w good n s at on phase.Last V PW (inr ((X, EX), claims)) granted phase.Last run v_not_a (λ e. absurd (let f : PW ≡ CW = e in cc))
         (v_new (v_not_its needs) (λ l k. ap (λ (y : LockName × Mode). y.0) (sym (one_of s.claims (X, EX) l claims k))))
+        asks_free
+        (claimed_store s.run.phase phase.Last s.kept s.claims s.cache V me.store
         (v_keeps phase.Last (keeps_on s.run.phase phase.Last s.kept (inr refl) me.store.kept) (λ l k. let e = sym (one_of s.claims (X, EX) l claims k) in (ap (λ (y : LockName × Mode). y.0) e, inr refl)))
+        (λ l k. ap (λ (y : LockName × Mode). y.0) (sym (one_of s.claims (X, EX) l claims k))))
         x_goes_on (owes_no_more s r refl (omega arith))
         (Busy x cmd (Looking (record {
           claimed_so = record {

@@ -19,11 +19,10 @@ use Rattle.op_law.specs.declared.seen.Chan.{Chan}
 use Rattle.op_law.specs.Knows.{has_channel}
 use Rattle.core_state.specs.Worlds.{NodeState, Plain, node_at}
 use Rattle.core_state.specs.Asks.{granted_ask}
-use Rattle.core_state.specs.Opens.{open_of, open_asked, open_with, asked_in, open_now, open_stands}
+use Rattle.core_state.specs.Opens.{AreOpensLocked, open_of, open_asked, open_with, asked_in, open_now, open_stands}
 use Rattle.core_state.specs.Channels.{names_in_form, opened}
 use Rattle.core_state.specs.Goods.{Good}
-use Rattle.core_state.specs.Events.{given_back, all_writes, going}
-use Rattle.core_state.proofs.Opens.{opens_given, locked, stands_there}
+use Rattle.core_state.proofs.Opens.{locked, stands_there}
 use Rattle.core_state.proofs.Channels.{IsOpenAt, open_at, channel_from, IsNodeNumber}
 use Rattle.core_state.proofs.Switching.{channel_test}
 use Rattle.core_state.proofs.Turning.{under_command}
@@ -34,19 +33,16 @@ use Rattle.core_state.proofs.Trying.{asker_has_file}
 is_file_open : (o : Open) (f : ℕ) → o.file ≡ f → o ≡ record { file = f; mode = o.mode }
 is_file_open o f e = λ i. record { file = e i; mode = o.mode }
 
--- The channel of a node with a command, which has a file open by the node, has the lock of that file once those of the command have
--- gone back.
+-- The channel of a node, which has a file open by the node, has the lock of that file in each table that has those of all opens: so it is
+-- once the locks of the node's command were put back.
 pub closing_lock : (w : Plain) (good : Good w) (n : ℕ) (s : NodeState) → node_at w.nodes n ≡ Some s → (chan : ℕ) → 1 ≤ chan → chan ≤ 8 → (p : Chan) → opened s.opens chan ≡ Some p
-    → IsSome (lock_of (record { node = n; part = chan }) (resource_at (A p.file.num) (given_back w.geometry n (all_writes s) (going s) w.locks)).askers)
-closing_lock w good n s at chan low high p has = by_ask (granted_ask s.tried s.plan) refl where
+    → (t : List Resource) → AreOpensLocked t (open_now good.running.cat w.nodes) → IsSome (lock_of (record { node = n; part = chan }) (resource_at (A p.file.num) t).askers)
+closing_lock w good n s at chan low high p has t locked_so = by_ask (granted_ask s.tried s.plan) refl where
   c : Cat
   c = good.running.cat
 
   me : Owner
   me = record { node = n; part = chan }
-
-  t : List Resource
-  t = given_back w.geometry n (all_writes s) (going s) w.locks
 
   number : IsNodeNumber n
   number = node_number w good n s at
@@ -58,7 +54,7 @@ closing_lock w good n s at chan low high p has = by_ask (granted_ask s.tried s.p
   of_me = ap (λ b. cond b (channel_at c n chan) None) (channel_test n chan number.from low high) ∙ there.at
 
   stands : (o : Option Ask) → granted_ask s.tried s.plan ≡ o → stands_at (A p.file.num) me t ≡ open_stands (A p.file.num) (open_with chan o (open_of c me))
-  stands o e = opens_given w.geometry n (all_writes s) (going s) w.locks (open_now c w.nodes) good.locked.0 good.running.opens (A p.file.num) me low
+  stands o e = locked_so (A p.file.num) me low
       ∙ ap (λ a. open_stands (A p.file.num) (open_with chan a (open_of c me))) (ap asked_in at ∙ e)
 
   is_locked : (o : Open) → o.file ≡ p.file.num → (a : Option Ask) → granted_ask s.tried s.plan ≡ a → open_with chan a (open_of c me) ≡ Some o → IsSome (lock_of me (resource_at (A p.file.num) t).askers)
@@ -72,7 +68,7 @@ closing_lock w good n s at chan low high p has = by_ask (granted_ask s.tried s.p
     same_part : (k j : ℕ) → (k == j) ≡ true → k ≡ j
     same_part k j e = grind (arith, nat_tests)
 
-    by_part : (t : Bool) → (b.chan == chan) ≡ t → IsSome (lock_of me (resource_at (A p.file.num) (given_back w.geometry n (all_writes s) (going s) w.locks)).askers)
+    by_part : (k : Bool) → (b.chan == chan) ≡ k → IsSome (lock_of me (resource_at (A p.file.num) t).askers)
     by_part true same =
         let file : b.file ≡ there.open_is.file = sym (asker_has_file w good n s b at e chan (same_part b.chan chan same) low there.open_is there.at) in
         is_locked (open_asked b) (file ∙ there.file) (Some b) e (ap (λ k. cond k (Some (open_asked b)) (open_of c me)) same)

@@ -69,7 +69,7 @@ no_mode name ls none = elim (has_mode_or_not name ls) [ inl k ↦ absurd (none k
 -- V is kept in NL alone
 v_is_low : (p : Phase) (ls : Row) → AreKept p ls → (m : Mode) → mode_in V ls ≡ Some m → m ≡ NL
 v_is_low p ls keeps m e = elim (keeps (V, m) (mode_has ls V m e)) [
-  | inl f ↦ ap (λ (l : LockName × Mode). l.1) f
+  | inl f ↦ f.1
   | inr f ↦ absurd (let g : V ≡ X = f.0 in cc)
 ]
 

@@ -14,33 +14,17 @@ use Rattle.vol_under.specs.Guards.{guard_of, MayWrite, MayLook, IsCommandMove}
 use Rattle.vol_under.specs.UnderWay.{PlannedWrite, bare, UnderWay, writes_to, changed, AreSole}
 use Rattle.vol_under.specs.Under.{IsLawful, IsUnder}
 use Rattle.vol_under.specs.Answering.{IsReply}
-use Rattle.vol_under.proofs.Steps.{idle_lawful, held_stands}
+use Rattle.cache_laws.specs.Committed.{IsUnderOn, on_its_own}
+use Rattle.cache_laws.proofs.Committed.{quiet_on}
+use Rattle.vol_under.proofs.Steps.{held_stands}
 use Rattle.vol_under.proofs.Guarding.{wider_command, wider_write, wider_look}
-use Rattle.vol_under.proofs.Lying.{over_same}
-use Rattle.vol_under.proofs.Nodes.{each, done_alike, done_in, no_writes}
-
-none_done : (u : UnderWay) → u.plan ≡ [] → writes_to u.done u ≡ []
-none_done u e = ap (λ (ws : List PlannedWrite). bare (take u.done ws)) e ∙ take_none u.done where
-  take_none : (k : ℕ) → bare (take k (let ws : List PlannedWrite = [] in ws)) ≡ []
-  take_none zero = refl
-  take_none (suc k) = refl
+use Rattle.vol_under.proofs.Nodes.{done_in, no_writes}
 
 -- A node without a plan may become any other one without a plan that has as much outside, and that has seen blocks that stand as
--- they are committed and that its locks guard.
+-- they are committed and that its locks guard. The committed blocks and their owners stay.
 pub quiet_keeps : (g : Geometry) (c : Cat) (nodes : ℕ → UnderWay) (drive : List Block) (n : ℕ) (v : UnderWay) → (u : IsUnder g c nodes drive) → (nodes n).plan ≡ [] → v.plan ≡ [] → v.done ≡ 0
-    → Outs n u.own v.took v.stock → StandsIn u.base v.seen → ((l : ℕ) → Touches v.seen l → MayLook v.read (guard_of g u.own l)) → IsUnder g c (changed nodes n v) drive
-quiet_keeps g c nodes drive n v u no_plan none done outs stands guarded = record {
-  base = u.base;
-  own = u.own;
-  spelt = u.spelt;
-  over = over_same (λ m. writes_to (nodes m).done (nodes m)) (λ m. writes_to (changed nodes n v m).done (changed nodes n v m)) u.base drive u.over (done_alike nodes n v (none_done v none ∙ sym (none_done (nodes n) no_plan)));
-  within = each (λ m z. z.done ≤ length z.plan) nodes n v (subst (λ (k : ℕ). k ≤ length v.plan) (sym done) (omega arith)) (λ m ne. u.within m);
-  stands = each (λ m z. StandsIn u.base z.seen) nodes n v stands (λ m ne. u.stands m);
-  outs = each (λ m z. Outs m u.own z.took z.stock) nodes n v outs (λ m ne. u.outs m);
-  lawful = each (λ m z. IsLawful g m z) nodes n v (idle_lawful g n v none) (λ m ne. u.lawful m);
-  plan_guarded = each (λ m z. (k : ℕ) → Touches (bare z.plan) k → MayWrite m z.write (guard_of g u.own k)) nodes n v (λ k t. absurd (no_writes v k none t)) (λ m ne. u.plan_guarded m);
-  seen_guarded = each (λ m z. (k : ℕ) → Touches z.seen k → MayLook z.read (guard_of g u.own k)) nodes n v guarded (λ m ne. u.seen_guarded m);
-}
+    → Outs n u.own v.took v.stock → StandsIn u.base v.seen → ((l : ℕ) → Touches v.seen l → MayLook v.read (guard_of g u.own l)) → IsUnderOn g c u.base u.own (changed nodes n v) drive
+quiet_keeps g c nodes drive n v u no_plan none done outs stands guarded = quiet_on g c u.base u.own nodes drive n v (on_its_own g c nodes drive u) no_plan none done outs stands guarded
 
 -- a block of a node without a plan, at which it may look, is that which is committed
 pub looked_stands : (g : Geometry) (c : Cat) (nodes : ℕ → UnderWay) (drive : List Block) (n l : ℕ) → AreSole nodes → (u : IsUnder g c nodes drive) → (nodes n).plan ≡ [] → MayLook (nodes n).read (guard_of g u.own l)
@@ -66,7 +50,7 @@ reply_grows g n u x r read write more done stock wide law base own c out k spelt
     }
 
 -- a law stays the node's with more locks
-lawful_wider : (g : Geometry) (n : ℕ) (u : UnderWay) (read write : List LockName) → ((x : LockName) → Has u.write x → Has write x) → IsLawful g n u → IsLawful g n (record u { read = read; write = write })
+pub lawful_wider : (g : Geometry) (n : ℕ) (u : UnderWay) (read write : List LockName) → ((x : LockName) → Has u.write x → Has write x) → IsLawful g n u → IsLawful g n (record u { read = read; write = write })
 lawful_wider g n u read write more law base own c stock k spelt knows stands outs le =
     let h = law base own c stock k spelt knows stands outs le in
     record { new = h.new; cat = h.cat; stage = h.stage; spelt = h.spelt; moves = moves_grow (IsCommandMove n u.write) (IsCommandMove n write) (wider_command n u.write write more) own h.new h.moves; outs = h.outs }
@@ -76,12 +60,10 @@ abbrev pub wider : (ℕ → UnderWay) → (ℕ → List LockName) → (ℕ → L
 wider nodes read write n = record (nodes n) { read = read n; write = write n }
 
 -- locks are granted to any of the nodes
-pub grants_keep : (g : Geometry) (c : Cat) (nodes : ℕ → UnderWay) (drive : List Block) (read write : ℕ → List LockName) → IsUnder g c nodes drive
+pub grants_keep : (g : Geometry) (c : Cat) (nodes : ℕ → UnderWay) (drive : List Block) (read write : ℕ → List LockName) → (u : IsUnder g c nodes drive)
     → ((n : ℕ) (name : LockName) → Has (nodes n).read name → Has (read n) name) → ((n : ℕ) (name : LockName) → Has (nodes n).write name → Has (write n) name)
-    → IsUnder g c (wider nodes read write) drive
+    → IsUnderOn g c u.base u.own (wider nodes read write) drive
 grants_keep g c nodes drive read write u reads writes = record {
-  base = u.base;
-  own = u.own;
   spelt = u.spelt;
   over = u.over;
   within = u.within;

@@ -1,4 +1,5 @@
--- A node dies: the history has one entry more, all its locks are gone, and its opens are closed.
+-- A node dies: the history has one entry more, all its locks are gone, and its opens are closed. Of what the other nodes have cached,
+-- nothing is current any more under the locks that it held in PW.
 use Rattle.std.proofs.Common.{◌≡◌, ◌≢◌, ◌≤◌, ◌<◌, ◌⊎◌, ◌==◌, ◌+◌, ◌-◌, ◌*◌, ◌++◌, ◌↔◌, ◌||◌, ℕ, zero, suc, Bool, true, false, cond, eqb, List, [], ◌∷◌, Option, Some, None, length, map, take, slice_get, refl, sym, ap, subst, ◌∙◌, inl, inr, arith}
 use Rattle.std.specs.Prelude.{drop, filter, is_none, replicate, slice_index_or, nat_lt}
 use Rattle.std.specs.List.{list_any, range_with_len, sum_by}
@@ -38,31 +39,36 @@ use Rattle.lock_db.specs.Tables.{IsTable, dropped}
 use Rattle.lock_db.specs.Laws.{stands_at}
 use Rattle.lock_db.proofs.Steps.{IsTable-dropped}
 use Rattle.lock_deaths.proofs.Dropping.{granted_stays, nothing_comes, own_go, first_stays, second_stays}
-use Rattle.node_locks.specs.Held.{Row}
+use Rattle.node_cache.proofs.Entries.{cache-nil}
+use Rattle.node_locks.specs.Held.{Row, AreHeld}
 use Rattle.node_locks.specs.HeldLaws.{IsLeftByDeath}
 use Rattle.node_locks.proofs.Dying.{dying_holds}
 use Rattle.node_locks.proofs.Keeping.{rows_go_on}
-use Rattle.vol_owners.specs.Lists.{Has}
+use Rattle.vol_words.specs.Fields.{Block}
+use Rattle.vol_owners.specs.Lists.{Has, written}
 use Rattle.vol_owners.specs.Owners.{Owners, Things, nothing, Outs}
-use Rattle.vol_owners.proofs.Listing.{same_or_not}
+use Rattle.vol_owners.proofs.Listing.{same_or_not, has_second}
 use Rattle.vol_spell.specs.Reading.{total_of}
-use Rattle.vol_under.specs.UnderWay.{UnderWay, first_stage, stage_after, stage_at, outs_after, together, all_out, resting, idle, changed, AreSole, StandsAt}
-use Rattle.vol_under.specs.Under.{IsUnder}
-use Rattle.vol_under.specs.Ending.{AreNumbersOf, Dies}
-use Rattle.vol_under.proofs.Endings.{death_keeps}
-use Rattle.vol_under.proofs.Steps.{stop_keeps}
-use Rattle.vol_under.proofs.Nodes.{changed_here}
+use Rattle.vol_spell.specs.Spelling.{Spells}
+use Rattle.vol_under.specs.UnderWay.{PlannedWrite, bare, UnderWay, first_stage, writes_to, stage_after, stage_at, outs_after, together, all_out, resting, changed, AreSole, StandsAt}
+use Rattle.vol_under.specs.Ending.{AreNumbersOf}
 use Rattle.op_law.specs.declared.need.PlanWrite.{PlanWrite}
 use Rattle.op_law.specs.declared.seen.Chan.{Chan}
 use Rattle.op_law.specs.Fits.{things}
 use Rattle.op_law.specs.Knows.{has_channel}
-use Rattle.op_law.specs.Laws.{planned}
+use Rattle.op_law.specs.Laws.{held_in, planned}
+use Rattle.plain_cat.specs.declared.mode.Mode.TheVariants.{PW}
+use Rattle.cache_laws.specs.Staying.{IsGuarded, IsFreedBy}
+use Rattle.cache_laws.specs.Committed.{IsUnderOn, on_its_own}
+use Rattle.cache_laws.proofs.Guarded.{deaths_stay}
+use Rattle.cache_laws.proofs.Heads.{guarded_or_freed}
 use Rattle.core_state.specs.Worlds.{NodeState, Plain, node_at, set_node, rows_of, rows_in, rows_at}
 use Rattle.core_state.specs.Asks.{writes_now}
 use Rattle.core_state.specs.Opens.{is_channel, open_of, open_with, asked_in, asked_at, open_now, open_stands, AreOpensLocked}
 use Rattle.core_state.specs.Channels.{names_in_form, opened, HasOpens}
 use Rattle.core_state.specs.Stocks.{stock_now}
 use Rattle.core_state.specs.Searches.{Off}
+use Rattle.core_state.specs.Stores.{AreCached}
 use Rattle.core_state.specs.Goods.{under_with, nodes_under, IsIdle, HasCommand, IsNode, HasFewAnswers, Good}
 use Rattle.core_state.specs.Small.{is_begun, has_command, owed, AreSmall}
 use Rattle.core_state.specs.Fallen.{falls}
@@ -77,6 +83,11 @@ use Rattle.core_state.proofs.SmallCounts.{sum_more}
 use Rattle.core_state.proofs.SmallWorlds.{small_event}
 use Rattle.core_state.proofs.Answering.{node_number}
 use Rattle.core_state.proofs.Midway.{all_known}
+use Rattle.core_state.proofs.Leaking.{same_files, LeaksOn, Stops, stop_on, stopped_out, may_leak, death_on}
+use Rattle.core_state.proofs.Cached.{written_by}
+use Rattle.core_state.proofs.CachedTruth.{committed_truth}
+use Rattle.core_state.proofs.CachedDone.{take_planned, writes_made, made_named, made_leave}
+use Rattle.core_state.proofs.CachedDeaths.{death_writes, death_cached}
 
 -- ---- small steps
 
@@ -303,18 +314,29 @@ module _ (w : Plain) (good : Good w) (n : ℕ) (s : NodeState) (at : node_at w.n
     by_cmd None = refl
     by_cmd (Some x) = refl
 
-  -- what it has outside is of the volume
-  stopped : (d : Cat) × StandsAt c n (under n).cmd (stage_at (under n).done (under n)) d × IsUnder w.geometry d (changed under n (idle (under n))) w.blocks
-  stopped = stop_keeps w.geometry c under w.blocks n sole good.running.drive known
+  -- ---- the drive
 
+  abbrev base : List Block
+  base = good.running.drive.base
+
+  abbrev own : Owners
+  own = good.running.drive.own
+
+  drive_on : IsUnderOn w.geometry c base own under w.blocks
+  drive_on = on_its_own w.geometry c under w.blocks good.running.drive
+
+  -- what its writes done leave
+  law : Stops w.geometry c base own under n
+  law = stop_on w.geometry c base own under w.blocks n sole drive_on known
+
+  -- what it has outside is of the volume
   few_out : (i : ℕ) → Has (all_out (under n)).numbers i → i < 4096
   few_out i h =
-      let own : Owners = stopped.2.own in
-      let out : Outs n own nothing (all_out (under n)) = subst (λ (v : UnderWay). Outs n own v.took v.stock) (changed_here under n (idle (under n))) (stopped.2.outs n) in
+      let out : Outs n law.new nothing (all_out (under n)) = stopped_out w.geometry c base own under w.blocks n sole drive_on law in
       let there = (out.numbers.all i).1 (inr h) in
-      let lt : i < length own.numbers = slice_get_within own.numbers i _ there in
-      let counts = stopped.2.spelt.counts in
-      let count : length own.numbers ≡ w.geometry.files = counts.numbers in
+      let lt : i < length law.new.numbers = slice_get_within law.new.numbers i _ there in
+      let counts = law.spelt.counts in
+      let count : length law.new.numbers ≡ w.geometry.files = counts.numbers in
       let most = counts.geometry.files_to in
       omega arith
 
@@ -327,32 +349,36 @@ module _ (w : Plain) (good : Good w) (n : ℕ) (s : NodeState) (at : node_at w.n
   abbrev lost : ℕ
   lost = length (outside_now s).clusters
 
-  dies : Dies w.geometry c under w.blocks n leaked
-  dies = death_keeps w.geometry c under w.blocks n leaked sole good.running.drive known numbers_are_so
-
   -- the catalogue of its stage, and the one after its death
   abbrev x : Cat
-  x = dies.cat
+  x = law.cat
 
   abbrev d : Cat
   d = dead x n lost leaked
+
+  -- the committed blocks then
+  abbrev base_then : List Block
+  base_then = written (writes_to (under n).done (under n)) base
+
+  dies : LeaksOn w.geometry x base_then law.new under w.blocks n (all_out (under n)) leaked
+  dies = death_on w.geometry c base own under w.blocks n sole drive_on law leaked numbers_are_so
 
   count_is : length (all_out (under n)).clusters ≡ lost
   count_is = ap (λ (t : Things). length t.clusters) out_is
 
   at_stage : StandsAt c n s.cmd (stage_now s) x
-  at_stage = subst (λ (o : Option Cmd). StandsAt c n o (stage_now s) x) cmd_under (subst (λ (k : Stage). StandsAt c n (under n).cmd k x) stage_is dies.stage)
+  at_stage = subst (λ (o : Option Cmd). StandsAt c n o (stage_now s) x) cmd_under (subst (λ (k : Stage). StandsAt c n (under n).cmd k x) stage_is law.stage)
 
-  may_leak : MayLeak x lost leaked
-  may_leak = subst (λ (k : ℕ). MayLeak x k leaked) count_is dies.leaks
+  leak_is : MayLeak x lost leaked
+  leak_is = subst (λ (k : ℕ). MayLeak x k leaked) count_is (may_leak w.geometry c base own under w.blocks n sole drive_on law leaked numbers_are_so)
+
+  drive : IsUnderOn w.geometry d base_then dies.new (changed under n (resting nothing)) w.blocks
+  drive = subst (λ (k : ℕ). IsUnderOn w.geometry (dead x n k leaked) base_then dies.new (changed under n (resting nothing)) w.blocks) count_is dies.under
 
   -- they are fewer than 2 ^ 32
   pub few_lost : lost < 4294967296
-  few_lost = few_of lost (total_of w.geometry) w.geometry.blocks x.total x.reserved x.leaked (sum_by clusters_in (drop 11 x.files)) may_leak.0
-      (sym (total_dead x n (length (all_out (under n)).clusters) leaked) ∙ dies.under.spelt.constants.total) (div-le_self w.geometry.blocks w.geometry.cluster) dies.under.spelt.counts.geometry.blocks_to
-
-  drive : IsUnder w.geometry d (changed under n (resting nothing)) w.blocks
-  drive = subst (λ (k : ℕ). IsUnder w.geometry (dead x n k leaked) (changed under n (resting nothing)) w.blocks) count_is dies.under
+  few_lost = few_of lost (total_of w.geometry) w.geometry.blocks x.total x.reserved x.leaked (sum_by clusters_in (drop 11 x.files)) leak_is.0
+      (sym (total_dead x n lost leaked) ∙ drive.spelt.constants.total) (div-le_self w.geometry.blocks w.geometry.cluster) drive.spelt.counts.geometry.blocks_to
 
   -- ---- the history
 
@@ -475,14 +501,44 @@ module _ (w : Plain) (good : Good w) (n : ℕ) (s : NodeState) (at : node_at w.n
       (λ name. let le = second_stays name n w.locks good.locked.0 in omega arith)
       (sum_more (λ e. one (is_begun e)) w.history entry) (let a = owed_less s in omega arith)
 
+  -- ---- the cached blocks
+
+  held_then : AreHeld after (rows_at nodes)
+  held_then = held_set after w.nodes n s (gone s) at left.held
+
+  abbrev v : Plain
+  v = altered w after w.blocks nodes history
+
+  -- the writes that are done, as they are planned
+  made_is : base_then ≡ written (bare (map planned (writes_made w good n s at))) base
+  made_is = ap (λ (ws : List (ℕ × Block)). written ws base) (ap (λ (u : UnderWay). writes_to u.done u) stands ∙ by_cmd s.cmd mine.command) where
+    by_cmd : (o : Option Cmd) → HasCommand w n s o → writes_to (under_with w.locks n s o).done (under_with w.locks n s o) ≡ bare (map planned (take s.done (writes_now s.tried s.plan)))
+    by_cmd None idle = sym (λ i. bare (map planned (take (idle.done i) (writes_now s.tried (idle.plan i)))))
+    by_cmd (Some y) i = ap (λ (ps : List PlannedWrite). bare ps) (take_planned s.done (writes_now s.tried s.plan))
+
+  -- a block that may be cached stays so, and under its lock, unless a write under that has freed its directory
+  guarded_then : (name : LockName) (l : ℕ) → IsGuarded w.geometry own c name l → IsGuarded w.geometry dies.new d name l ⊎ IsFreedBy w.geometry (writes_made w good n s at) name
+  guarded_then name l is = elim (guarded_or_freed w.geometry base own law.new c x n (held_in PW s.seen.locks) (writes_made w good n s at) name l good.running.drive.spelt
+      (subst (λ (bs : List Block). Spells w.geometry bs law.new x) made_is law.spelt) (made_named w good n s at) (made_leave w good n s at) is) [
+        | inl h ↦ inl (deaths_stay w.geometry n law.new dies.new x d name l dies.moves (same_files x n lost leaked) h)
+        | inr freed ↦ inr freed
+      ]
+
+  cached_then : AreCached v dies.new d
+  cached_then = death_cached w good n s at history others_go held_then own dies.new c d good.running.cached
+      (λ e none t. committed_truth w v own dies.new c d s (writes_made w good n s at) e refl refl
+      (λ y h. has_second (take s.run.made s.run.writes) (writes_made w good n s at) y h) (let k : written_by w s e ≡ 0 = none in omega (arith, k)) (guarded_then e.lock e.lbn) t)
+
   -- ---- the whole
 
   pub death_good : Good (died_by w n s)
   death_good = rebuilt w good n s (gone s) at after w.blocks history
       (record {
         cat = d;
-        replayed = replays_grow w.opening w.script w.history c entry d good.running.replayed (at_stage.0, x, at_stage.1, next_staged, may_leak, refl);
-        drive = under_grown w.geometry d w.locks after w.nodes n s (gone s) w.blocks at
+        replayed = replays_grow w.opening w.script w.history c entry d good.running.replayed (at_stage.0, x, at_stage.1, next_staged, leak_is, refl);
+        base = base_then;
+        own = dies.new;
+        drive = under_grown w.geometry d base_then dies.new w.locks after w.nodes n s (gone s) w.blocks at
             (λ m q k ne e h. rows_go_on w.locks after m (rows_of q) k (others_go m q ne e) h) drive;
         accounted = deaths_account c x n s.cmd (stage_now s) at_stage.0 (falls w.history) lost leaked good.running.accounted good.running.sized good.running.named good.running.near fewer at_stage.1 at_stage.2;
         near = near;
@@ -493,21 +549,24 @@ module _ (w : Plain) (good : Good w) (n : ℕ) (s : NodeState) (at : node_at w.n
         named = named;
         opens = opens_locked;
         opened = all_set w.nodes n s (gone s) at (λ m q. HasOpens d m q.opens) (all_closed d n own_none) other_opens;
+        cached = cached_then;
       })
-      (IsTable-dropped n w.locks good.locked.0, held_set after w.nodes n s (gone s) at left.held)
+      (IsTable-dropped n w.locks good.locked.0, held_then)
       (own_grows w.script w.history entry good.own alive_by)
       small
       (subst (HasFewAnswers w.script n) (sym grows) (good.few n))
       (λ m ne. past_of_others m w.history entry (not_of m ne))
       others_go
       (record { holds = inl (record { given = refl; stock = refl }) })
+      (death_writes w good n s at history others_go held_then)
       (record {
         past = ap (λ (p : NodePast). record p { dead = true }) mine.past ∙ sym grows;
         geometry = mine.geometry;
         channels = λ e. absurd (let f : true ≡ false = e in cc);
         channel = refl;
-        store = record { kept = λ l h. absurd h; cache = refl };
+        store = record { kept = λ l h. absurd h; few = omega arith; cache = cache-nil; guarding = λ e h. absurd h };
         rests = refl;
+        asks = λ e. absurd (let f : false ≡ true = e in cc);
         command = record { locks = refl; blocks = refl; space = record { clusters = refl; number = refl; short = refl }; asked = refl; plan = refl; done = refl };
         space = Off (record { run = refl; claims = refl; space = record { clusters = refl; number = refl; short = refl } });
         over = λ o. absurd (let f : true ≡ false = sym o ∙ not_over in cc);

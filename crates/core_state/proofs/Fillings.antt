@@ -24,10 +24,11 @@ use Rattle.node_space.specs.Searching.{cluster_places, places, free_from, taken_
 use Rattle.node_space.proofs.Chosen.{LiesIn, has_taken_in}
 use Rattle.core_space.specs.Filling.{clusters_to_take, lacks_number, storage_part, storage_place, fill_place, lowest_numbers, numbers_taken, clusters_taken, fill_writes, filled}
 use Rattle.core_space.specs.Laws.{taken_with, taken_before, IsEnough}
-use Rattle.core_space.proofs.Filled.{filled_is, fills_enough, last_clusters, last_taken, taken_by}
+use Rattle.core_space.proofs.Filled.{filled_is, fills_enough, last_clusters, last_taken, taken_by, writes_fill}
 use Rattle.core_space.proofs.Merged.{not_held, put_in_has, put_in_once, stocks_take_all}
 use Rattle.core_state.specs.Worlds.{Stock}
 use Rattle.core_state.specs.Stocks.{roomless, filled_by}
+use Rattle.core_state.specs.Searches.{AreUnderV}
 
 abbrev lbns : List PlanWrite → List ℕ
 lbns ws = map (λ w. w.lbn) ws
@@ -196,6 +197,15 @@ get_has : (ws : List PlanWrite) (k : ℕ) (w : PlanWrite) → slice_get ws k ≡
 get_has [] k w e = absurd (let f : None ≡ Some w = e in cc)
 get_has (v ∷ ws) zero w e = inl (let f : Some v ≡ Some w = e in cc)
 get_has (v ∷ ws) (suc k) w e = inr (get_has ws k w e)
+
+has_get : (ws : List PlanWrite) (w : PlanWrite) → Has ws w → (k : ℕ) × (slice_get ws k ≡ Some w)
+has_get [] w h = absurd h
+has_get (v ∷ ws) w (inl e) = (0, ap Some e)
+has_get (v ∷ ws) w (inr h) = let r = has_get ws w h in (suc r.0, r.1)
+
+-- all writes of a filling are under V
+pub fill_under : (g : Geometry) (need held : ℕ) (lacks : Bool) (bs : List Block) (ws : List PlanWrite) → IsGeometry g → filled g need held lacks bs ≡ Some ws → AreUnderV ws
+fill_under g need held lacks bs ws is enough w h = let k = has_get ws w h in (writes_fill g need held lacks bs ws k.0 w is enough k.1).lock
 
 length_first : (k : ℕ) (xs : List ℕ) → k ≤ length xs → length (take k xs) ≡ k
 length_first zero xs le = refl

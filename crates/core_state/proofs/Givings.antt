@@ -4,10 +4,11 @@ use Rattle.std.specs.List.{range_with_len}
 use Rattle.std.proofs.lemmas.Bool.{and_parts}
 use Rattle.std.proofs.lemmas.Bool.Decides.{nat_tests}
 use Rattle.vol_words.specs.Fields.{Block}
+use Rattle.lock_db.specs.declared.name.LockName.TheVariants.{V}
 use Rattle.plain_cat.specs.declared.cat.Cat.{Cat}
 use Rattle.vol_owners.specs.Lists.{Has, Once}
 use Rattle.vol_owners.specs.Owners.{Owners}
-use Rattle.vol_owners.proofs.Listing.{filtered}
+use Rattle.vol_owners.proofs.Listing.{filtered, has_parted}
 use Rattle.vol_owners.proofs.Placing.{has_ranged}
 use Rattle.vol_parts.specs.declared.geometry.Geometry.{Geometry}
 use Rattle.vol_parts.specs.declared.geometry.Part.TheVariants.{IndexBitmap, Storage}
@@ -20,9 +21,10 @@ use Rattle.vol_spell.proofs.Parts.{are_parts}
 use Rattle.op_law.specs.declared.need.PlanWrite.{PlanWrite}
 use Rattle.op_law.specs.Freeing.{with_free}
 use Rattle.extent_cache.specs.Stock.{is_covered}
-use Rattle.core_space.specs.Giving.{is_seen, found_block, block_seen, has_covered, is_wanting, storage_range, clusters_place, give_place, numbers_back, clusters_back, give_writes}
+use Rattle.core_space.specs.Giving.{is_seen, found_block, block_seen, has_covered, is_wanting, storage_range, clusters_place, give_place, numbers_back, clusters_back, index_back, give_writes}
 use Rattle.core_state.specs.Worlds.{Stock}
 use Rattle.core_state.specs.Stocks.{has_bit_at, left_by}
+use Rattle.core_state.specs.Searches.{AreUnderV}
 
 abbrev pub lbns : List PlanWrite → List ℕ
 lbns ws = map (λ w. w.lbn) ws
@@ -393,6 +395,23 @@ not_there g cs looked base own c s t =
 pub give_once : (g : Geometry) (cs ns : List ℕ) (looked : List (ℕ × Block)) (base : List Block) (own : Owners) (c : Cat) → Spells g base own c → Once (map (λ w. w.lbn) (give_writes g cs ns looked))
 give_once g cs [] looked base own c s = storage_once g cs looked
 give_once g cs (n ∷ ns) looked base own c s = subst (λ (ws : List PlanWrite). Once (lbns ws)) (sym (give_more g cs n ns looked)) (not_there g cs looked base own c s, storage_once g cs looked)
+
+-- all of them are under V
+pub give_under : (g : Geometry) (cs ns : List ℕ) (looked : List (ℕ × Block)) → AreUnderV (give_writes g cs ns looked)
+unfolding give_writes
+give_under g cs ns looked w h = elim (has_parted (index_back g ns looked) (map (clusters_back g cs looked) (filter (has_covered cs) (storage_range g))) w h) [
+  | inl a ↦ of_index (nat_lt 0 (length ns)) a
+  | inr b ↦ of_blocks (filter (has_covered cs) (storage_range g)) b
+] where
+  of_index : (b : Bool) → Has (cond b (numbers_back g ns looked ∷ []) []) w → w.lock ≡ V
+  of_index true (inl e) = ap (λ (v : PlanWrite). v.lock) (sym e)
+  of_index true (inr f) = absurd f
+  of_index false f = absurd f
+
+  of_blocks : (ks : List ℕ) → Has (map (clusters_back g cs looked) ks) w → w.lock ≡ V
+  of_blocks [] f = absurd f
+  of_blocks (k ∷ ks) (inl e) = ap (λ (v : PlanWrite). v.lock) (sym e)
+  of_blocks (k ∷ ks) (inr f) = of_blocks ks f
 
 -- ---- what stays in the stock
 

@@ -1,6 +1,7 @@
 -- A write by the rules for space of a command: it keeps the invariant.
 use Rattle.std.proofs.Common.{◌≡◌, ◌≤◌, ◌<◌, ◌+◌, ◌++◌, ◌⊎◌, ◌==◌, ℕ, suc, Bool, true, false, List, [], ◌∷◌, Option, Some, None, is_some, length, map, take, slice_get, slice_set, refl, sym, ap, subst, ◌∙◌, inl, inr, arith}
 use Rattle.std.proofs.lemmas.Bool.Decides.{nat_tests}
+use Rattle.std.proofs.lemmas.Option.{slice_get_within}
 use Rattle.std.proofs.lemmas.List.{append-nil}
 use Rattle.vol_words.specs.Fields.{Block}
 use Rattle.lock_db.specs.declared.name.LockName.{LockName}
@@ -17,7 +18,8 @@ use Rattle.vol_owners.proofs.Writing.{touches_joined}
 use Rattle.vol_owners.proofs.Listing.{has_parted, has_first, has_second}
 use Rattle.vol_parts.specs.declared.geometry.Geometry.{Geometry}
 use Rattle.vol_spell.specs.Spelling.{Spells}
-use Rattle.vol_under.specs.Guards.{guard_of, MayLook}
+use Rattle.vol_under.specs.Guards.{Lock, guard_of, MayLook}
+use Rattle.vol_under.proofs.Guarding.{bitmap_guard}
 use Rattle.vol_under.specs.UnderWay.{UnderWay, together, changed}
 use Rattle.vol_under.specs.Under.{IsUnder}
 use Rattle.vol_under.specs.Keeping.{Refills, IsBitmap}
@@ -26,7 +28,7 @@ use Rattle.op_law.specs.declared.seen.Seen.{Seen}
 use Rattle.op_law.specs.Events.{has_number}
 use Rattle.op_law.specs.Fits.{things, HasSeen}
 use Rattle.op_law.specs.Knows.{clusters_wanted, wants_number}
-use Rattle.op_law.specs.Laws.{held_in, takes_lock}
+use Rattle.op_law.specs.Laws.{held_in, takes_lock, IsCacheable}
 use Rattle.op_law.specs.Writing.{Held, holding}
 use Rattle.node_space.specs.Taking.{looked, out_after, out_of, IsTaking as Takes}
 use Rattle.node_space.specs.Answering.{blocks_of}
@@ -39,12 +41,18 @@ use Rattle.core_space.specs.declared.run.SpaceRun.{SpaceRun}
 use Rattle.core_space.specs.Laws.{things_of, taken_with, taken_before, IsFilling as Fillings}
 use Rattle.core_space.proofs.Filled.{writes_fill, fillings_refill}
 use Rattle.core_state.specs.Worlds.{NodeState, Plain, node_at, set_node, rows_of}
-use Rattle.core_state.specs.Asks.{granted_ask, knows_now}
+use Rattle.core_state.specs.Asks.{granted_ask, knows_now, writes_now}
 use Rattle.core_state.specs.Stocks.{things_in, filled_by, left_by, things_held, taken_in, stock_now, looked_now, unwritten}
 use Rattle.core_state.specs.Searches.{wanted_by, numbered_by, lacks_by, NeedsSpace, FillWrites, IsWritingBack, IsDraining, HasClaimed, IsTaking, Rules, Grabs, Filled, Drains, Taking, Taken, Busy}
-use Rattle.core_state.specs.Stores.{IsStocked}
+use Rattle.core_state.specs.Stores.{guards_blocks, hold_writes, HasStore, IsStocked}
 use Rattle.core_state.specs.Goods.{under_with, nodes_under, IsAt, IsNode, Good, held_by}
-use Rattle.core_state.specs.Events.{one_more, turned, ready_left, given_by, stocked_by, is_last, space_writing}
+use Rattle.core_state.specs.Events.{one_more, turned, ready_left, given_by, stocked_by, is_last, space_writing, caching, cache_written}
+use Rattle.cache_laws.specs.Committed.{IsUnderOn}
+use Rattle.cache_laws.proofs.Guarded.{spaces_stay}
+use Rattle.node_cache.specs.Cached.{Cached}
+use Rattle.core_state.proofs.CachedPuts.{IsWriteOf, put_cached, put_writes}
+use Rattle.core_state.proofs.CachedLooks.{rewritten_store}
+use Rattle.core_state.proofs.CachedTakes.{goes_higher}
 use Rattle.core_state.proofs.Holding.{is_in_held}
 use Rattle.core_state.proofs.Running.{at_locks, under_now, claims_held}
 use Rattle.core_state.proofs.Taking.{is_committed, grabs}
@@ -53,9 +61,9 @@ use Rattle.core_state.proofs.Switching.{AsksAlike}
 use Rattle.core_state.proofs.SmallWorlds.{OwesLess, owes_same, small_set}
 use Rattle.core_state.proofs.Keeping.{altered, still_driven, rebuilt, held_same, loses_nothing}
 use Rattle.core_state.proofs.Standing.{all_taken, part_taken, back_taken, with_nothing}
-use Rattle.core_state.proofs.Turning.{my_sole, under_command, here, drive, back, outs_now, seen_now, guards_now, is_node, goes, not_yet, plan_stays, asks_now, asks_then, no_wait, no_writes_now, me}
+use Rattle.core_state.proofs.Turning.{my_sole, under_command, here, drive, back, outs_now, seen_now, guards_now, is_node, goes, not_yet, plan_stays, asks_now, asks_then, no_wait, no_writes_now, me, more_before, only_before, made_before}
 use Rattle.core_state.proofs.Serving.{no_number}
-use Rattle.core_state.proofs.Fillings.{fill_once, fill_last, filled_enough}
+use Rattle.core_state.proofs.Fillings.{fill_once, fill_last, filled_enough, fill_under}
 use Rattle.core_state.proofs.InStock.{is_once, in_stock}
 use Rattle.core_state.proofs.Backs.{IsBackWrite, back_write}
 
@@ -124,7 +132,7 @@ module _ (w : Plain) (good : Good w) (n : ℕ) (s : NodeState) (at : node_at w.n
 
   -- the node as the write leaves it, in this phase, where it is the last or not
   abbrev grabbed : Phase → Bool → NodeState
-  grabbed p last = turned (record s { seen = given_by p last v s.seen; stock = stocked_by p last g v s.stock; run = record s.run { made = t + 1; ready = ready_left p last s.run.ready }; writes = one_more s.writes })
+  grabbed p last = turned (record s { seen = given_by p last v s.seen; stock = stocked_by p last g v s.stock; run = record s.run { made = t + 1; ready = ready_left p last s.run.ready }; writes = one_more s.writes; cache = cache_written w s v })
 
   abbrev written : List Block
   written = slice_set w.blocks v.lbn v.block
@@ -163,33 +171,57 @@ module _ (w : Plain) (good : Good w) (n : ℕ) (s : NodeState) (at : node_at w.n
       | inr m ↦ needs.apart v.lbn m bitmap
     ]
 
-    written_so : (r : NodeState) → rows_of r ≡ rows_of s → AsksAlike (granted_ask s.tried s.plan) (granted_ask r.tried r.plan) → r.opens ≡ s.opens → OwesLess s r → IsStocked r → (know : Cat → Bool) (mid took stock : Things)
+    written_so : (r : NodeState) → v.lock ≡ V → r.cache ≡ cache_written w s v → hold_writes r ≡ take (t + 1) ws ++ take s.done (writes_now s.tried s.plan) → rows_of r ≡ rows_of s → AsksAlike (granted_ask s.tried s.plan) (granted_ask r.tried r.plan) → r.opens ≡ s.opens → OwesLess s r → IsStocked r → (know : Cat → Bool) (mid took stock : Things)
         → ((base : List Block) (own : Owners) → Spells g base own cat → Outs n own u.took u.stock → slice_get base v.lbn ≡ Some old → Refills g n u.took mid v.lbn v.block base own cat)
         → ((own : Owners) → Outs n own u.took mid → Outs n own took stock)
         → record u { seen = rest; knows = know; took = took; stock = stock } ≡ under_with w.locks n r r.cmd → IsNode (altered w w.locks written (set_node w.nodes n r) w.history) n r
         → GoodWith r
-    written_so r same asks opens owes stocked know mid took stock refill goes_to there node =
+    written_so r lock cache_is wrote same asks opens owes stocked know mid took stock refill goes_to there node =
         let drive_now = grabs g cat (nodes_under w.locks w.nodes) w.blocks n u (here w good n s at x cmd free) under (my_sole w good n s at x cmd free) (no_writes_now w good n s at x cmd free no_plan) (not_yet w good n s at x cmd free no_plan)
         v.lbn old v.block rest mid bitmap holds untouched
         (part_stands under.base u.seen rest some_left (seen_now w good n s at x cmd free))
         (λ k m. guards_now w good n s at x cmd free k (part_touches u.seen rest some_left k m)) there_now refill know took stock goes_to in
+        let at_geometry : IsUnderOn w.geometry cat (slice_set good.running.drive.base v.lbn v.block) drive_now.new (changed (nodes_under w.locks w.nodes) n (record u { seen = rest; knows = know; took = took; stock = stock })) written
+        = subst (λ (h : Geometry). IsUnderOn h cat (slice_set good.running.drive.base v.lbn v.block) drive_now.new (changed (nodes_under w.locks w.nodes) n (record u { seen = rest; knows = know; took = took; stock = stock })) written) (me w good n s at x cmd free).geometry drive_now.under in
+        let ys : List PlanWrite = take s.done (writes_now s.tried s.plan) in
+        let it : IsWriteOf w n s r good.running.drive.own v = record {
+          at = at;
+          rows = same;
+          more = λ y h. subst (λ (zs : List PlanWrite). Has zs y) (sym wrote) (more_before ws ys t y h);
+          only = λ y h. only_before ws ys t v y next (subst (λ (zs : List PlanWrite). Has zs y) wrote h);
+          made = subst (λ (zs : List PlanWrite). Has zs v) (sym wrote) (made_before ws ys t v next);
+          holds = subst (Has (held_in PW (held_by w.locks n s))) (sym lock) holds;
+          within = slice_get_within w.blocks v.lbn old there_now;
+          guards = inl (bitmap_guard w.geometry good.running.drive.own v.lbn (subst (λ (h : Geometry). IsBitmap h v.lbn) (me w good n s at x cmd free).geometry bitmap) ∙ ap (λ (y : LockName). Some (Lock y)) (sym lock));
+          goes_on = goes_higher w good v.lock v.lbn;
+          cache = cache_is;
+        } in
+        let stays : (name : LockName) (l : ℕ) → guard_of w.geometry good.running.drive.own l ≡ Some (Lock name) → IsCacheable w.geometry good.running.drive.own cat l → (guard_of w.geometry drive_now.new l ≡ Some (Lock name)) × IsCacheable w.geometry drive_now.new cat l
+        = λ name l a k. let z = spaces_stay w.geometry n good.running.drive.own drive_now.new cat cat name l drive_now.moves refl (record { guard = a; kind = k }) in (z.guard, z.kind) in
         rebuilt w good n s r at w.locks written w.history
-        (still_driven w good n s r at w.locks written asks opens
-        (under_now w.geometry cat w.locks w.locks w.nodes n s r written at (λ m q ne e. refl)
-        (subst (λ (k : UnderWay). IsUnder w.geometry cat (changed (nodes_under w.locks w.nodes) n k) written) there (back w good n s at x cmd free (record u { seen = rest; knows = know; took = took; stock = stock }) written drive_now)))
-        good.running.opens)
-        (good.locked.0, held_same w.locks w.nodes n s r at same good.locked.1) good.own (small_set w good.small n s r at written owes) (good.few n) (λ m ne. refl) (λ m q ne e. loses_nothing w.locks m q) stocked node
+        (still_driven w good n s r at w.locks written asks opens (slice_set good.running.drive.base v.lbn v.block) drive_now.new
+        (under_now w.geometry cat (slice_set good.running.drive.base v.lbn v.block) drive_now.new w.locks w.locks w.nodes n s r written at (λ m q ne e. refl)
+        (subst (λ (k : UnderWay). IsUnderOn w.geometry cat (slice_set good.running.drive.base v.lbn v.block) drive_now.new (changed (nodes_under w.locks w.nodes) n k) written) there at_geometry))
+        good.running.opens
+        (put_cached w (my_sole w good n s at x cmd free) good.writers n s r good.running.drive.own drive_now.new cat cat v it stays good.running.cached))
+        (good.locked.0, held_same w.locks w.nodes n s r at same good.locked.1) good.own (small_set w good.small n s r at written owes) (good.few n) (λ m ne. refl) (λ m q ne e. loses_nothing w.locks m q) stocked
+        (put_writes w (my_sole w good n s at x cmd free) good.writers n s r good.running.drive.own drive_now.new cat cat v it stays) node
 
   -- X is held in CR or more
   stocked_by_x : (r : NodeState) (m : Mode) → r.kept ≡ s.kept → Has s.kept (X, m) → rank CR ≤ rank m → IsStocked r
   stocked_by_x r m same h le = record { holds = inr (subst (λ (ls : Row). Has (held_in CR ls) X) (sym same) (is_in_held CR s.kept X (record { in_mode = m; has = h; strong = le }))) }
 
+  -- what it keeps, as the write leaves it
+  store_so : (p : Phase) (locks : Row) (es : List Cached) → v.lock ≡ V → p ≡ s.run.phase → locks ≡ s.kept → es ≡ cache_written w s v → HasStore p locks es
+  store_so p locks es lock ph kept cache = subst (λ (q : Phase). HasStore q locks es) (sym ph) (subst (λ (ls : Row). HasStore s.run.phase ls es) (sym kept) (subst (HasStore s.run.phase s.kept) (sym cache)
+      (rewritten_store w v s.run.phase s.kept s.cache (ap guards_blocks lock) (me w good n s at x cmd free).store)))
+
   -- where the command was given nothing, its node is as it was but for its stock and its run
-  node_so : (r : NodeState) → r.seen ≡ s.seen → r.asked ≡ s.asked → r.kept ≡ s.kept → r.plan ≡ s.plan → r.done ≡ s.done → r.cmd ≡ s.cmd → r.past ≡ s.past → r.opens ≡ s.opens → r.cache ≡ s.cache → r.over ≡ s.over → r.run.phase ≡ s.run.phase
+  node_so : (r : NodeState) → v.lock ≡ V → r.seen ≡ s.seen → r.asked ≡ s.asked → r.kept ≡ s.kept → r.plan ≡ s.plan → r.done ≡ s.done → r.cmd ≡ s.cmd → r.past ≡ s.past → r.opens ≡ s.opens → r.cache ≡ cache_written w s v → r.over ≡ s.over → r.run.phase ≡ s.run.phase
       → Rules x r.kept r.claims r.run r.stock r.seen → IsNode (altered w w.locks written (set_node w.nodes n r) w.history) n r
-  node_so r seen asked kept plan done same past opens cache over ph rules =
-      is_node w good n s at x cmd free w.locks written r (λ i. record { past = past i; opens = opens i; cache = cache i; over = over i }) (ap (λ (k : Seen). k.geometry) seen) (ap (λ (k : Seen). k.channel) seen) same
-      (λ l h. subst (λ (p : Phase). (l ≡ (V, NL)) ⊎ ((l.0 ≡ X) × ((l.1 ≡ CR) ⊎ (p ≡ phase.Last)))) (sym ph) ((me w good n s at x cmd free).store.kept l (subst (λ (ls : Row). Has ls l) kept h)))
+  node_so r lock seen asked kept plan done same past opens cache over ph rules =
+      is_node w good n s at x cmd free w.locks written r (λ i. record { past = past i; opens = opens i; over = over i }) (ap (λ (k : Seen). k.geometry) seen) (ap (λ (k : Seen). k.channel) seen) same
+      (store_so r.run.phase r.kept r.cache lock ph kept cache)
       (ap (waits_at w.locks n) kept ∙ (me w good n s at x cmd free).rests)
       (subst (HasSeen x) (sym seen) now.seen) (subst (λ (k : Seen). (name : LockName) → Has (names_of k.locks) name → takes_lock x name ≡ true) (sym seen) now.own)
       (plan_stays w good n s at x cmd free w.locks r no_plan plan done)
@@ -237,9 +269,9 @@ module _ (w : Plain) (good : Good w) (n : ℕ) (s : NodeState) (at : node_at w.n
         let stock_then : stock_now s.stock r.run ≡ mid = ap (together (things_in s.stock)) (part_taken s.run.phase ws (t + 1) part ∙ ap (λ p. taken_in p ws (t + 1)) h.filling.fill ∙ taken_next ws t v next) in
         let there : record u { seen = rest; stock = mid } ≡ under_with w.locks n r s.cmd
         = (λ i. record (at_locks n r x (held_by w.locks n s)) { stock = sym stock_then i }) ∙ ap (under_with w.locks n r) (sym cmd) in
-        written_so filling.old among once refilled.0 r refl (λ part o low. refl) refl (owes_same s r refl refl) (stocked_by_x r CR refl h.filling.shared (omega arith)) (knows_now n x s.seen s.tried s.plan) mid u.took mid
+        written_so filling.old among once refilled.0 r filling.lock refl refl refl (λ part o low. refl) refl (owes_same s r refl refl) (stocked_by_x r CR refl h.filling.shared (omega arith)) (knows_now n x s.seen s.tried s.plan) mid u.took mid
         (λ base own spelt outs stands. (refill base own spelt outs stands).1) (λ own o. o) there
-        (node_so r refl refl refl refl refl refl refl refl refl refl refl
+        (node_so r filling.lock refl refl refl refl refl refl refl refl refl refl refl
         (Grabs (record { filling = record { fill = h.filling.fill; shared = h.filling.shared; claims = h.filling.claims; needs = h.filling.needs; in_order = h.filling.in_order }; enough = h.enough; part = part })))
     filled_so true e =
         let r : NodeState = grabbed phase.Fill true in
@@ -249,20 +281,21 @@ module _ (w : Plain) (good : Good w) (n : ℕ) (s : NodeState) (at : node_at w.n
         let there : record u { seen = rest; stock = left_then } ≡ under_with w.locks n r s.cmd
         = (λ i. record (at_locks n r x (held_by w.locks n s)) { stock = sym stock_then i }) ∙ ap (under_with w.locks n r) (sym cmd) in
         let its = is_once n refilled.1.new v s.stock (subst (λ (k : Things). Outs n refilled.1.new k mid) none refilled.1.outs) in
-        written_so filling.old among once refilled.0 r refl (λ part o low. refl) refl (owes_same s r refl refl) (stocked_by_x r CR refl h.filling.shared (omega arith)) (knows_now n x s.seen s.tried s.plan) mid u.took left_then
+        written_so filling.old among once refilled.0 r filling.lock refl refl refl (λ part o low. refl) refl (owes_same s r refl refl) (stocked_by_x r CR refl h.filling.shared (omega arith)) (knows_now n x s.seen s.tried s.plan) mid u.took left_then
         (λ base own spelt outs stands. (refill base own spelt outs stands).1)
         (λ own o. subst (λ (k : Things). Outs n own k left_then) (sym none) (in_stock n own v s.stock (subst (λ (k : Things). Outs n own k mid) none o))) there
-        (node_so r refl refl refl refl refl refl refl refl refl refl refl
+        (node_so r filling.lock refl refl refl refl refl refl refl refl refl refl refl
         (Filled (record {
           fill = h.filling.fill;
           shared = h.filling.shared;
           claims = h.filling.claims;
           needs = h.filling.needs;
           all = all;
+          locks = fill_under g (wanted_by x s.seen) (length s.stock.clusters) lacks bs ws under.spelt.counts.geometry h.enough;
           enough = filled_enough g (wanted_by x s.seen) (numbered_by x s.seen) s.stock bs v (fill_last g (wanted_by x s.seen) (length s.stock.clusters) lacks bs ws t v h.enough next all) its.clusters its.numbers;
         })))
 
-    pub fill_write_keeps : GoodWith (turned (space_writing s v))
+    pub fill_write_keeps : GoodWith (turned (caching (cache_written w s v) (space_writing s v)))
     fill_write_keeps = subst (λ (p : Phase). GoodWith (grabbed p (is_last s.run))) (sym h.filling.fill) (filled_so (is_last s.run) refl)
 
   -- ---- while it goes back
@@ -282,12 +315,12 @@ module _ (w : Plain) (good : Good w) (n : ℕ) (s : NodeState) (at : node_at w.n
         let stock_then : stock_now (r last).stock (r last).run ≡ left_then = ap (together left_then) (back_taken s.run.phase ws (t + 1) (inl h.drain)) ∙ with_nothing left_then in
         let there : record u { seen = rest; stock = left_then } ≡ under_with w.locks n (r last) s.cmd
         = (λ i. record (at_locks n (r last) x (held_by w.locks n s)) { stock = sym stock_then i }) ∙ ap (under_with w.locks n (r last)) (sym cmd) in
-        written_so b.old b.among goes_back.once b.bitmap (r last) refl (λ part o low. refl) refl (owes_same s (r last) refl refl) (stocked_by_x (r last) CR refl h.shared (omega arith)) (knows_now n x s.seen s.tried s.plan) left_then u.took left_then
+        written_so b.old b.among goes_back.once b.bitmap (r last) b.lock refl refl refl (λ part o low. refl) refl (owes_same s (r last) refl refl) (stocked_by_x (r last) CR refl h.shared (omega arith)) (knows_now n x s.seen s.tried s.plan) left_then u.took left_then
         (λ base own spelt outs stands. b.refill base own spelt (subst (λ (k : Things). Outs n own u.took k) stock_so outs) stands) (λ own o. o) there
-        (node_so (r last) refl refl refl refl refl refl refl refl refl refl refl
+        (node_so (r last) b.lock refl refl refl refl refl refl refl refl refl refl refl
         (Drains (record { drain = h.drain; shared = h.shared; claims = h.claims; needs = h.needs; goes = b.goes })))
 
-    pub drain_write_keeps : GoodWith (turned (space_writing s v))
+    pub drain_write_keeps : GoodWith (turned (caching (cache_written w s v) (space_writing s v)))
     drain_write_keeps = subst (λ (p : Phase). GoodWith (grabbed p (is_last s.run))) (sym h.drain) (by_last (is_last s.run))
 
   -- ---- while all free space is searched
@@ -345,9 +378,9 @@ module _ (w : Plain) (good : Good w) (n : ℕ) (s : NodeState) (at : node_at w.n
         let stock_then : stock_now s.stock r.run ≡ gets = in_last (t + 1) part ∙ ap things_held out_now in
         let there : record u { seen = rest; stock = gets } ≡ under_with w.locks n r s.cmd
         = (λ i. record (at_locks n r x (held_by w.locks n s)) { stock = sym stock_then i }) ∙ ap (under_with w.locks n r) (sym cmd) in
-        written_so taking.old among_last once_last bitmap r refl (λ part o low. refl) refl (owes_same s r refl refl) (stocked_by_x r EX refl h.found.claimed_so.alone (omega arith)) (knows_now n x s.seen s.tried s.plan) gets u.took gets
+        written_so taking.old among_last once_last bitmap r taking.lock refl refl refl (λ part o low. refl) refl (owes_same s r refl refl) (stocked_by_x r EX refl h.found.claimed_so.alone (omega arith)) (knows_now n x s.seen s.tried s.plan) gets u.took gets
         (λ base own spelt outs stands. (refill_last base own spelt outs stands).1) (λ own o. o) there
-        (node_so r refl refl refl refl refl refl refl refl refl refl refl
+        (node_so r taking.lock refl refl refl refl refl refl refl refl refl refl refl
         (Taking (record { found = record { claimed_so = claimed_on r.run s.seen refl refl refl refl; enough = h.found.enough; above = h.found.above }; needs = h.needs; part = part; ready = h.ready })))
     taken_so true e =
         let r : NodeState = grabbed phase.Last true in
@@ -359,9 +392,9 @@ module _ (w : Plain) (good : Good w) (n : ℕ) (s : NodeState) (at : node_at w.n
         let all_so = takes_all g (wanted_by x s.seen) (numbered_by x s.seen) seen_bs ws h.found.enough in
         let count : length v.clusters ≡ wanted_by x s.seen = ap (λ (k : Held). length k.clusters) (sym out_last) ∙ all_so.clusters in
         let numbered : has_number (numbered_by x s.seen) v.number ≡ true = number_there (numbered_by x s.seen) v.number (ap (λ (k : Held). is_some k.number) (sym out_last) ∙ all_so.number) in
-        written_so taking.old among_last once_last bitmap r refl (λ part o low. refl) refl (owes_same s r refl refl) (stocked_by_x r EX refl h.found.claimed_so.alone (omega arith)) (knows_now n x r.seen s.tried s.plan) gets gets nothing
+        written_so taking.old among_last once_last bitmap r taking.lock refl refl refl (λ part o low. refl) refl (owes_same s r refl refl) (stocked_by_x r EX refl h.found.claimed_so.alone (omega arith)) (knows_now n x r.seen s.tried s.plan) gets gets nothing
         (λ base own spelt outs stands. (refill_last base own spelt outs stands).1) (λ own o. out_taken n own gets (subst (λ (k : Things). Outs n own k gets) none o)) there
-        (is_node w good n s at x cmd free w.locks written r refl refl refl refl (me w good n s at x cmd free).store.kept (me w good n s at x cmd free).rests
+        (is_node w good n s at x cmd free w.locks written r refl refl refl refl (store_so r.run.phase r.kept r.cache taking.lock refl refl refl) (me w good n s at x cmd free).rests
         ((goes w good n s at x cmd free).given s.seen (wanted_by x s.seen) (numbered_by x s.seen) v.clusters v.number now.seen h.needs.next count numbered) now.own (plan_stays w good n s at x cmd free w.locks r no_plan refl refl)
         (asks_then w good n s at x cmd free r no_plan refl (asks_now w good n s at x cmd free no_plan))
         (Busy x refl (Taken (record {
@@ -372,5 +405,5 @@ module _ (w : Plain) (good : Good w) (n : ℕ) (s : NodeState) (at : node_at w.n
           short = refl;
         }))) (no_wait w good n s at x cmd free r.seen))
 
-    pub last_write_keeps : GoodWith (turned (space_writing s v))
+    pub last_write_keeps : GoodWith (turned (caching (cache_written w s v) (space_writing s v)))
     last_write_keeps = subst (λ (p : Phase). GoodWith (grabbed p (is_last s.run))) (sym h.found.claimed_so.last) (taken_so (is_last s.run) refl)

@@ -7,10 +7,10 @@ use Rattle.lock_db.specs.declared.name.LockName.{LockName}
 use Rattle.lock_db.specs.declared.resource.Resource.{Resource}
 use Rattle.plain_cat.specs.declared.command.Cmd.{Cmd}
 use Rattle.plain_cat.specs.declared.cat.Cat.{Cat}
-use Rattle.node_cache.specs.Cached.{Cached}
 use Rattle.plain_vol.specs.Accounts.{Accounted}
 use Rattle.plain_vol.specs.Replaying.{Replays}
-use Rattle.vol_under.specs.Under.{IsUnder}
+use Rattle.vol_owners.specs.Owners.{Owners}
+use Rattle.cache_laws.specs.Committed.{IsUnderOn, of_it}
 use Rattle.plain_cat.specs.declared.history.Entry.{Entry}
 use Rattle.plain_vol.specs.Own.{past, command_after, next_command, Own}
 use Rattle.node_locks.specs.Held.{Row, joined, names_of, HoldsItsLocks, AreHeld, waits_at, with_rows}
@@ -20,7 +20,7 @@ use Rattle.vol_owners.proofs.Listing.{same_or_not}
 use Rattle.op_law.specs.declared.need.Plan.{Plan}
 use Rattle.core_state.specs.Worlds.{Course, NodeState, Plain, node_at, set_node, rows_of, rows_in, rows_at}
 use Rattle.core_state.specs.Asks.{granted_ask}
-use Rattle.core_state.specs.Stores.{IsStocked}
+use Rattle.core_state.specs.Stores.{IsStocked, AreCached, AreHeldWrites}
 use Rattle.core_state.specs.Channels.{HasOpens}
 use Rattle.core_state.specs.Opens.{open_now, AreOpensLocked}
 use Rattle.core_state.specs.Small.{AreSmall}
@@ -56,12 +56,12 @@ names_parted [] ys name h = inr h
 names_parted (x ∷ xs) ys name (inl e) = inl (inl e)
 names_parted (x ∷ xs) ys name (inr h) = elim (names_parted xs ys name h) [ inl a ↦ inl (inr a) | inr b ↦ inr b ]
 
-names_first : (xs ys : Row) (name : LockName) → Has (names_of xs) name → Has (names_of (xs ++ ys)) name
+pub names_first : (xs ys : Row) (name : LockName) → Has (names_of xs) name → Has (names_of (xs ++ ys)) name
 names_first [] ys name h = absurd h
 names_first (x ∷ xs) ys name (inl e) = inl e
 names_first (x ∷ xs) ys name (inr h) = inr (names_first xs ys name h)
 
-names_second : (xs ys : Row) (name : LockName) → Has (names_of ys) name → Has (names_of (xs ++ ys)) name
+pub names_second : (xs ys : Row) (name : LockName) → Has (names_of ys) name → Has (names_of (xs ++ ys)) name
 names_second [] ys name h = h
 names_second (x ∷ xs) ys name h = inr (names_second xs ys name h)
 
@@ -116,6 +116,11 @@ kept_apart s name o a b = once_apart s.kept (s.asked ++ (s.claims ++ [])) name o
 pub asked_apart : (s : NodeState) (name : LockName) → Once (names_of (joined (rows_of s))) → Has (names_of s.asked) name → Has (names_of s.claims) name → ⊥
 asked_apart s name o a b = once_apart s.asked (s.claims ++ []) name (once_second s.kept (s.asked ++ (s.claims ++ [])) o) a (names_first s.claims [] name b)
 
+-- who waits where it does not come to wait has waited before
+pub has_waited : (before after : Bool) → (before ≡ false → after ≡ false) → after ≡ true → before ≡ true
+has_waited true after stays e = refl
+has_waited false after stays e = absurd (let f : true ≡ false = sym e ∙ stays refl in cc)
+
 -- a node that has had no part in an event
 pub still_node : (w : Plain) (t : List Resource) (bs : List Block) (ns : List NodeState) (h : List Entry) (m : ℕ) (r : NodeState) → past m h ≡ past m w.history
     → LosesNothing w.locks t m r → IsNode w m r → IsNode (altered w t bs ns h) m r
@@ -126,6 +131,7 @@ still_node w t bs ns h m r same goes p = record {
   channel = p.channel;
   store = p.store;
   rests = (goes r.kept (has_kept_row r)).waits p.rests;
+  asks = λ e. p.asks (has_waited (waits_at w.locks m r.asked) (waits_at t m r.asked) asked_goes.waits e);
   command = by_cmd r.cmd p.command;
   space = p.space;
   over = λ o. ((p.over o).0, next ∙ (p.over o).1);
@@ -141,32 +147,25 @@ still_node w t bs ns h m r same goes p = record {
   by_plan x None e = e
   by_plan x (Some q) e = (e.0, asked_goes.waits e.1, e.2)
 
-  -- who waits has waited
-  waited : (before after : Bool) → (before ≡ false → after ≡ false) → after ≡ true → before ≡ true
-  waited true after stays e = refl
-  waited false after stays e = absurd (let f : true ≡ false = sym e ∙ stays refl in cc)
-
   by_cmd : (o : Option Cmd) → HasCommand w m r o → HasCommand (altered w t bs ns h) m r o
   by_cmd None i = i
-  by_cmd (Some x) a = record { next = next ∙ a.next; form = a.form; lawful = a.lawful; seen = a.seen; own = a.own; plan = by_plan x r.plan a.plan; same = a.same; waits = λ e. a.waits (waited (waits_at w.locks m r.asked) (waits_at t m r.asked) asked_goes.waits e) }
+  by_cmd (Some x) a = record { next = next ∙ a.next; form = a.form; lawful = a.lawful; seen = a.seen; own = a.own; plan = by_plan x r.plan a.plan; same = a.same; waits = λ e. a.waits (has_waited (waits_at w.locks m r.asked) (waits_at t m r.asked) asked_goes.waits e) }
 
 -- a command that has come so far, where its node waits for none of its locks for which it did not wait
 pub course_stays : (next : Option Cmd) (t u : List Resource) (n : ℕ) (d : Course) → (waits_at t n d.asked ≡ false → waits_at u n d.asked ≡ false) → (o : Option Cmd) → HasCourse next t n d o → HasCourse next u n d o
 course_stays next t u n d goes None i = i
-course_stays next t u n d goes (Some x) a = record { next = a.next; form = a.form; lawful = a.lawful; seen = a.seen; own = a.own; plan = by_plan d.plan a.plan; same = a.same; waits = λ e. a.waits (waited (waits_at t n d.asked) (waits_at u n d.asked) goes e) } where
+course_stays next t u n d goes (Some x) a = record { next = a.next; form = a.form; lawful = a.lawful; seen = a.seen; own = a.own; plan = by_plan d.plan a.plan; same = a.same; waits = λ e. a.waits (has_waited (waits_at t n d.asked) (waits_at u n d.asked) goes e) } where
   by_plan : (o : Option Plan) → IsAtPlan x (waits_at t n d.asked) d.seen d.done d.tried o → IsAtPlan x (waits_at u n d.asked) d.seen d.done d.tried o
   by_plan None e = e
   by_plan (Some q) e = (e.0, goes e.1, e.2)
 
-  waited : (before after : Bool) → (before ≡ false → after ≡ false) → after ≡ true → before ≡ true
-  waited true after stays e = refl
-  waited false after stays e = absurd (let f : true ≡ false = sym e ∙ stays refl in cc)
-
--- what an event makes of the catalogue, of the drive, and of what the channels have open
+-- what an event makes of the catalogue, of the drive, of what the channels have open, and of the cached blocks
 pub record IsDriven (w : Plain) (t : List Resource) (bs : List Block) (ns : List NodeState) (h : List Entry) : Type 0 where
   pub cat : Cat
   pub replayed : Replays w.opening w.script h cat
-  pub drive : IsUnder w.geometry cat (nodes_under t ns) bs
+  pub base : List Block
+  pub own : Owners
+  pub drive : IsUnderOn w.geometry cat base own (nodes_under t ns) bs
   pub accounted : Accounted cat
   pub near : AreNear cat (falls h)
   pub sized : HasSmallFiles cat
@@ -175,14 +174,19 @@ pub record IsDriven (w : Plain) (t : List Resource) (bs : List Block) (ns : List
   pub named : OpensNameFiles cat
   pub opens : AreOpensLocked t (open_now cat ns)
   pub opened : (m : ℕ) (q : NodeState) → node_at ns m ≡ Some q → HasOpens cat m q.opens
+  pub cached : AreCached (altered w t bs ns h) own cat
 
 -- an event that leaves the history, and what each channel has open
 pub still_driven : (w : Plain) (good : Good w) → (n : ℕ) (s r : NodeState) → node_at w.nodes n ≡ Some s → (t : List Resource) (bs : List Block) → AsksAlike (granted_ask s.tried s.plan) (granted_ask r.tried r.plan) → r.opens ≡ s.opens
-    → IsUnder w.geometry good.running.cat (nodes_under t (set_node w.nodes n r)) bs → AreOpensLocked t (open_now good.running.cat w.nodes) → IsDriven w t bs (set_node w.nodes n r) w.history
-still_driven w good n s r at t bs alike same drive opens = record {
+    → (base : List Block) (own : Owners) → IsUnderOn w.geometry good.running.cat base own (nodes_under t (set_node w.nodes n r)) bs → AreOpensLocked t (open_now good.running.cat w.nodes)
+    → AreCached (altered w t bs (set_node w.nodes n r) w.history) own good.running.cat → IsDriven w t bs (set_node w.nodes n r) w.history
+still_driven w good n s r at t bs alike same base own drive opens cached = record {
   cat = good.running.cat;
   replayed = good.running.replayed;
+  base = base;
+  own = own;
   drive = drive;
+  cached = cached;
   accounted = good.running.accounted;
   near = good.running.near;
   sized = good.running.sized;
@@ -198,13 +202,13 @@ pub rebuilt : (w : Plain) (good : Good w) → (n : ℕ) (s r : NodeState) → no
     → IsDriven w t bs (set_node w.nodes n r) h → AreLocked (altered w t bs (set_node w.nodes n r) h) → Own w.script h → AreSmall (altered w t bs (set_node w.nodes n r) h) → HasFewAnswers w.script n (past n h)
     → ((m : ℕ) → m ≢ n → past m h ≡ past m w.history)
     → ((m : ℕ) (q : NodeState) → m ≢ n → node_at w.nodes m ≡ Some q → LosesNothing w.locks t m q)
-    → IsStocked r → IsNode (altered w t bs (set_node w.nodes n r) h) n r → Good (altered w t bs (set_node w.nodes n r) h)
-rebuilt w good n s r at t bs h driven locked own small few others goes stocked node = record {
+    → IsStocked r → AreHeldWrites (altered w t bs (set_node w.nodes n r) h) → IsNode (altered w t bs (set_node w.nodes n r) h) n r → Good (altered w t bs (set_node w.nodes n r) h)
+rebuilt w good n s r at t bs h driven locked own small few others goes stocked writers node = record {
   counted = length_node w.nodes n r ∙ good.counted;
   running = record {
     cat = driven.cat;
     replayed = driven.replayed;
-    drive = driven.drive;
+    drive = of_it w.geometry driven.cat driven.base driven.own (nodes_under t (set_node w.nodes n r)) bs driven.drive;
     accounted = driven.accounted;
     near = driven.near;
     sized = driven.sized;
@@ -214,12 +218,13 @@ rebuilt w good n s r at t bs h driven locked own small few others goes stocked n
     opens = driven.opens;
     opened = driven.opened;
     stocked = all_set w.nodes n s r at (λ m q. IsStocked q) stocked (λ m q ne e. good.running.stocked m q e);
-    cached = λ m q c e has. absurd (subst (λ (cs : List Cached). Has cs c) (nodes m q e).store.cache has);
+    cached = driven.cached;
   };
   locked = locked;
   nodes = nodes;
   own = own;
   small = small;
+  writers = writers;
   form = good.form;
   few = few_all;
   strangers = strangers;

@@ -34,14 +34,16 @@ use Rattle.core_space.specs.declared.event.Decision.{Decision}
 use Rattle.core_space.specs.Filling.{clusters_to_take, fill_place, filled}
 use Rattle.core_space.specs.Giving.{give_place, give_writes}
 use Rattle.core_space.specs.Rule.{looks_on, decides, give_by, fill_or_give, fill_by, search_by, decision_in}
-use Rattle.core_state.specs.Worlds.{NodeState, Plain, node_at, with_node}
-use Rattle.core_state.specs.Asks.{is_claiming}
+use Rattle.core_state.specs.Worlds.{NodeState, Plain, node_at, with_node, rows_of}
+use Rattle.node_cache.specs.Cached.{Cached}
+use Rattle.cache_laws.specs.Committed.{IsUnderOn}
+use Rattle.core_state.specs.Asks.{is_claiming, writes_now}
 use Rattle.core_state.specs.Small.{lent, owed_in, owed}
 use Rattle.core_state.specs.Stocks.{roomless, things_in, unwritten, taken_in, taken_by, stock_now, looked_now}
 use Rattle.core_state.specs.Searches.{wanted_by, numbered_by, lacks_by, IsFilling, FillLooks, IsGoingBack, LooksOn, WritesBack, IsDraining, HasClaimed, IsLooking, Rules, Fills, Grabs, Drains, Looking, Taking, Refused, Busy}
-use Rattle.core_state.specs.Stores.{AreKept}
+use Rattle.core_state.specs.Stores.{AreKept, HasStore, IsCachedAt}
 use Rattle.core_state.specs.Goods.{under_with, nodes_under, IsAt, IsNode, Good, held_by}
-use Rattle.core_state.specs.Events.{block_at, turned, space_need, told_by, space_looked, space_looking}
+use Rattle.core_state.specs.Events.{turned, space_need, told_by, looked_on, space_decided, decision_on}
 use Rattle.core_state.proofs.Holding.{is_in_held, held_weaker}
 use Rattle.core_state.proofs.Running.{claims_held, at_locks}
 use Rattle.core_state.proofs.Taking.{becomes, is_committed}
@@ -49,11 +51,11 @@ use Rattle.core_state.proofs.SmallWorlds.{owes_same}
 use Rattle.core_state.proofs.Beginning.{alone, stays_stocked}
 use Rattle.core_state.proofs.Seeking.{part_stands, part_touches, all_left, left_of, next_in_order, wants_some, some_writes, refused_why}
 use Rattle.core_state.proofs.Standing.{none_taken}
-use Rattle.core_state.proofs.Turning.{index_within, my_sole, under_command, here, drive, back, outs_now, seen_now, guards_now, stocked_now, is_node, goes, not_yet, plan_stays, asks_now, asks_then, no_wait, no_writes_now, me}
+use Rattle.core_state.proofs.Turning.{take_none, my_sole, under_command, here, drive, back, outs_now, seen_now, guards_now, stocked_now, is_node, goes, not_yet, plan_stays, asks_now, asks_then, no_wait, no_writes_now, me}
 use Rattle.core_state.proofs.Serving.{no_number}
 use Rattle.core_state.proofs.Claims.{keeps_on, owed_at}
 use Rattle.core_state.proofs.Fillings.{fill_at, fill_some}
-use Rattle.core_state.proofs.Givings.{give_once}
+use Rattle.core_state.proofs.Givings.{give_once, give_under}
 
 -- before the first write nothing is taken
 pub taken_zero : (p : Phase) (ws : List PlanWrite) → taken_by p ws 0 ≡ nothing
@@ -68,6 +70,14 @@ taken_zero p ws = by_test (0 == length ws) p where
 
 some_is : (o : Option ℕ) (k : ℕ) → o ≡ Some k → is_some o ≡ true
 some_is o k e = ap is_some e
+
+-- a node whose rules for space have come to this by what they have looked at, with this cache and these counts
+abbrev pub come_so : NodeState → List (ℕ × Block) → Decision → List Cached → ℕ → ℕ → NodeState
+come_so s looks d es reads hits = turned (record (space_decided s looks d) { cache = es; reads = reads; hits = hits })
+
+-- by a look at one block more
+abbrev pub space_seen_so : NodeState → ℕ → Bool → ℕ → Block → List Cached → ℕ → ℕ → NodeState
+space_seen_so s k c lbn b es reads hits = come_so s (looked_on s.run lbn b).looked (decision_on s k c lbn b) es reads hits
 
 module _ (w : Plain) (good : Good w) (n : ℕ) (s : NodeState) (at : node_at w.nodes n ≡ Some s) (x : Cmd) (cmd : s.cmd ≡ Some x) (free : waits_at w.locks n s.asked ≡ false) (no_plan : s.plan ≡ None)
     (granted : waits_at w.locks n s.claims ≡ false) (claims : s.claims ≡ (V, PW) ∷ []) (no_writes : s.run.writes ≡ []) (not_made : s.run.made ≡ 0) where
@@ -92,12 +102,14 @@ module _ (w : Plain) (good : Good w) (n : ℕ) (s : NodeState) (at : node_at w.n
   pub holds : Has (held_in PW (held_by w.locks n s)) V
   holds = is_in_held PW (held_by w.locks n s) V (record { in_mode = PW; has = claims_held w.locks n s (V, PW) granted (subst (λ (ls : Row). Has ls (V, PW)) (sym claims) (inl refl)); strong = omega arith })
 
-  module _ (lbn : ℕ) (lies : (lbn < length under.base) × IsBitmap g lbn × (guard_of g under.own lbn ≡ Some (Lock V))) where
-    abbrev b : Block
-    b = block_at w.blocks lbn
-
+  -- it looks at this block, which the drive has, and its cache becomes this one
+  module _ (lbn : ℕ) (b : Block) (es : List Cached) (reads hits : ℕ) (lies : (lbn < length under.base) × IsBitmap g lbn × (guard_of g under.own lbn ≡ Some (Lock V))) (there_at : slice_get w.blocks lbn ≡ Some b)
+      (store : HasStore s.run.phase s.kept es) (entries : (r : NodeState) → rows_of r ≡ rows_of s → (e : Cached) → Has es e → Has s.cache e ⊎ IsCachedAt (with_node w n r) good.running.drive.own good.running.cat n r e) where
     abbrev more : List (ℕ × Block)
     more = s.run.looked ++ (lbn, b) ∷ []
+
+    abbrev come_as : Decision → NodeState
+    come_as d = come_so s more d es reads hits
 
     may : MayLook (held_in PR (held_by w.locks n s)) (guard_of g under.own lbn)
     may = subst (MayLook (held_in PR (held_by w.locks n s))) (sym lies.2) (held_weaker PW PR (held_by w.locks n s) V (omega arith) holds)
@@ -105,7 +117,7 @@ module _ (w : Plain) (good : Good w) (n : ℕ) (s : NodeState) (at : node_at w.n
     stands_here : slice_get under.base lbn ≡ Some b
     stands_here =
         sym (is_committed g cat (nodes_under w.locks w.nodes) w.blocks n u (here w good n s at x cmd free) under (my_sole w good n s at x cmd free) (no_writes_now w good n s at x cmd free no_plan) lbn may)
-        ∙ index_within w.blocks lbn (subst (λ (k : ℕ). lbn < k) (sym under.over.count) lies.0)
+        ∙ there_at
 
     old_stands : StandsIn under.base s.run.looked
     old_stands = part_stands under.base u.seen s.run.looked (λ y k. has_first left s.seen.blocks y (all_left s.run.writes s.run.made s.run.looked y no_writes k)) (seen_now w good n s at x cmd free)
@@ -129,16 +141,16 @@ module _ (w : Plain) (good : Good w) (n : ℕ) (s : NodeState) (at : node_at w.n
       | inr k ↦ guards_now w good n s at x cmd free l ((touches_joined left s.seen.blocks l).1 (inr k))
     ]
 
-    stock_so : (d : Decision) → stock_now s.stock (space_looked s more d).run ≡ stock_now s.stock s.run
+    stock_so : (d : Decision) → stock_now s.stock (come_as d).run ≡ stock_now s.stock s.run
     stock_so d = (λ i. together_with (taken_zero d.phase d.writes i)) ∙ sym (λ i. together_with (none_taken s.run.phase s.run.writes s.run.made no_writes not_made i)) where
       together_with : Things → Things
       together_with t = together (things_in s.stock) t
 
     -- the node as the look leaves it: where its rules have come to this, and it was given nothing
-    left_so : (d : Decision) → things (space_looked s more d).seen.clusters (space_looked s more d).seen.number ≡ things s.seen.clusters s.seen.number → (space_looked s more d).seen.blocks ≡ s.seen.blocks
-        → owed (turned (space_looked s more d)) ≡ owed s → IsNode (with_node w n (turned (space_looked s more d))) n (turned (space_looked s more d)) → Good (with_node w n (turned (space_looked s more d)))
+    left_so : (d : Decision) → things (come_as d).seen.clusters (come_as d).seen.number ≡ things s.seen.clusters s.seen.number → (come_as d).seen.blocks ≡ s.seen.blocks
+        → owed (come_as d) ≡ owed s → IsNode (with_node w n (come_as d)) n (come_as d) → Good (with_node w n (come_as d))
     left_so d took blocks owes node =
-        let r : NodeState = turned (space_looked s more d) in
+        let r : NodeState = come_as d in
         let v : UnderWay = at_locks n r x (held_by w.locks n s) in
         let seen_is : unwritten (take 0 d.writes) more ++ s.seen.blocks ≡ v.seen = ap (λ ss. unwritten (take 0 d.writes) more ++ ss) (sym blocks) in
         let outs : Outs n under.own v.took v.stock = subst (λ (k : Things). Outs n under.own v.took k) (sym (stock_so d)) (subst (λ (k : Things). Outs n under.own k (stock_now s.stock s.run)) (sym took) (outs_now w good n s at x cmd free)) in
@@ -147,15 +159,16 @@ module _ (w : Plain) (good : Good w) (n : ℕ) (s : NodeState) (at : node_at w.n
         (subst (λ (ss : List (ℕ × Block)). (l : ℕ) → Touches ss l → MayLook (held_in PR (held_by w.locks n s)) (guard_of g under.own l)) seen_is (all_guarded (take 0 d.writes))) in
         let there : v ≡ under_with w.locks n r r.cmd = ap (under_with w.locks n r) (sym cmd) in
         alone w good n s at r refl (λ part o low. refl) refl (owes_same s r owes refl) (stays_stocked s r took (stock_so d) (λ h. h) (stocked_now w good n s at x cmd free))
-        (subst (λ (k : UnderWay). IsUnder w.geometry cat (changed (nodes_under w.locks w.nodes) n k) w.blocks) there (back w good n s at x cmd free v w.blocks drive_now)) node
+        (subst (λ (k : UnderWay). IsUnderOn w.geometry cat good.running.drive.base good.running.drive.own (changed (nodes_under w.locks w.nodes) n k) w.blocks) there (back w good n s at x cmd free v w.blocks drive_now))
+        (ap (λ (ws : List PlanWrite). ws ++ take s.done (writes_now s.tried s.plan)) (sym (ap (λ (ws : List PlanWrite). take s.run.made ws) no_writes ∙ take_none s.run.made))) (entries r refl) node
 
     -- it goes on with what it needs
-    goes_so : (d : Decision) → d.short ≡ None → AreKept d.phase s.kept → owed (turned (space_looked s more d)) ≡ owed s → Rules x s.kept s.claims (space_looked s more d).run s.stock s.seen → Good (with_node w n (turned (space_looked s more d)))
+    goes_so : (d : Decision) → d.short ≡ None → AreKept d.phase s.kept → owed (come_as d) ≡ owed s → Rules x s.kept s.claims (come_as d).run s.stock s.seen → Good (with_node w n (come_as d))
     goes_so d none keeps owes rules =
-        let r : NodeState = turned (space_looked s more d) in
+        let r : NodeState = come_as d in
         let same : told_by d.short s.seen ≡ s.seen = ap (λ o. told_by o s.seen) none in
         left_so d (ap (λ (k : Seen). things k.clusters k.number) same) (ap (λ (k : Seen). k.blocks) same) owes
-        (is_node w good n s at x cmd free w.locks w.blocks r refl (ap (λ (k : Seen). k.geometry) same) (ap (λ (k : Seen). k.channel) same) refl keeps (me w good n s at x cmd free).rests
+        (is_node w good n s at x cmd free w.locks w.blocks r refl (ap (λ (k : Seen). k.geometry) same) (ap (λ (k : Seen). k.channel) same) refl (record { kept = keeps; few = store.few; cache = store.cache; guarding = store.guarding }) (me w good n s at x cmd free).rests
         (subst (λ (k : Seen). HasSeen x k) (sym same) now.seen) (subst (λ (k : Seen). (name : LockName) → Has (names_of k.locks) name → takes_lock x name ≡ true) (sym same) now.own)
         (plan_stays w good n s at x cmd free w.locks r no_plan refl refl)
         (asks_then w good n s at x cmd free r no_plan refl (asks_now w good n s at x cmd free no_plan ∙ ap (λ (k : Seen). k.locks) (sym same)))
@@ -165,9 +178,9 @@ module _ (w : Plain) (good : Good w) (n : ℕ) (s : NodeState) (at : node_at w.n
     -- ---- while the stock goes back
 
     -- by what is left to be looked at
-    back_so : (p : Phase) → AreKept p s.kept → ((d : Decision) → d.phase ≡ p → owed (turned (space_looked s more d)) ≡ owed s)
-        → ((d : Decision) → d.phase ≡ p → IsGoingBack g s.stock (space_looked s more d).run → Rules x s.kept s.claims (space_looked s more d).run s.stock s.seen)
-        → (o : Option ℕ) → give_place g s.stock.clusters s.stock.numbers more ≡ o → Good (with_node w n (turned (space_looked s more (give_by p g more (roomless s.stock) o))))
+    back_so : (p : Phase) → AreKept p s.kept → ((d : Decision) → d.phase ≡ p → owed (come_as d) ≡ owed s)
+        → ((d : Decision) → d.phase ≡ p → IsGoingBack g s.stock (come_as d).run → Rules x s.kept s.claims (come_as d).run s.stock s.seen)
+        → (o : Option ℕ) → give_place g s.stock.clusters s.stock.numbers more ≡ o → Good (with_node w n (come_as (give_by p g more (roomless s.stock) o)))
     back_so p keeps owes rules (Some l) e = goes_so (looks_on p) refl keeps (owes (looks_on p) refl) (rules (looks_on p) refl (LooksOn (some_is (give_place g s.stock.clusters s.stock.numbers more) l e) refl refl))
     back_so p keeps owes rules None e =
         let d : Decision = decides p (give_writes g s.stock.clusters s.stock.numbers more) in
@@ -176,25 +189,26 @@ module _ (w : Plain) (good : Good w) (n : ℕ) (s : NodeState) (at : node_at w.n
           within = omega arith;
           all = e;
           once = give_once g s.stock.clusters s.stock.numbers more under.base under.own cat under.spelt;
+          locks = give_under g s.stock.clusters s.stock.numbers more;
         })))
 
-    pub drain_look_keeps : IsDraining x s.kept s.claims s.run s.stock s.seen → (k : ℕ) (c : Bool) → Good (with_node w n (turned (space_looking s k c lbn b)))
-    drain_look_keeps h k c = subst (λ (p : Phase). Good (with_node w n (turned (space_looked s more (decision_in p g more (roomless s.stock) (space_need k c)))))) (sym h.drain)
+    pub drain_look_keeps : IsDraining x s.kept s.claims s.run s.stock s.seen → (k : ℕ) (c : Bool) → Good (with_node w n (space_seen_so s k c lbn b es reads hits))
+    drain_look_keeps h k c = subst (λ (p : Phase). Good (with_node w n (come_as (decision_in p g more (roomless s.stock) (space_need k c))))) (sym h.drain)
         (back_so phase.Drain (keeps_on s.run.phase phase.Drain s.kept (inl not_last) (me w good n s at x cmd free).store.kept) owes rules (give_place g s.stock.clusters s.stock.numbers more) refl) where
           not_last : s.run.phase ≡ phase.Last → ⊥
           not_last f = absurd (let z : phase.Drain ≡ phase.Last = sym h.drain ∙ f in cc)
 
-          owes : (d : Decision) → d.phase ≡ phase.Drain → owed (turned (space_looked s more d)) ≡ owed s
-          owes d e = owed_at (turned (space_looked s more d)) x cmd ∙ (λ i. owed_in (e i) (is_claiming s.claims) (lent s)) ∙ sym (owed_at s x cmd ∙ ap (λ p. owed_in p (is_claiming s.claims) (lent s)) h.drain)
+          owes : (d : Decision) → d.phase ≡ phase.Drain → owed (come_as d) ≡ owed s
+          owes d e = owed_at (come_as d) x cmd ∙ (λ i. owed_in (e i) (is_claiming s.claims) (lent s)) ∙ sym (owed_at s x cmd ∙ ap (λ p. owed_in p (is_claiming s.claims) (lent s)) h.drain)
 
-          rules : (d : Decision) → d.phase ≡ phase.Drain → IsGoingBack g s.stock (space_looked s more d).run → Rules x s.kept s.claims (space_looked s more d).run s.stock s.seen
+          rules : (d : Decision) → d.phase ≡ phase.Drain → IsGoingBack g s.stock (come_as d).run → Rules x s.kept s.claims (come_as d).run s.stock s.seen
           rules d e goes_back = Drains (record { drain = e; shared = h.shared; claims = h.claims; needs = h.needs; goes = goes_back })
 
     -- ---- while it is filled
 
     pub fill_look_keeps : FillLooks x s.kept s.claims s.run s.stock s.seen → fill_place g (clusters_to_take (wanted_by x s.seen) (length s.stock.clusters)) (lacks_by x s.seen s.stock) (blocks_of s.run.looked) ≡ Some lbn
-        → Good (with_node w n (turned (space_looking s (wanted_by x s.seen) (numbered_by x s.seen) lbn b)))
-    fill_look_keeps h next = subst (λ (p : Phase). Good (with_node w n (turned (space_looked s more (decision_in p g more (roomless s.stock) (space_need (wanted_by x s.seen) (numbered_by x s.seen))))))) (sym h.filling.fill)
+        → Good (with_node w n (space_seen_so s (wanted_by x s.seen) (numbered_by x s.seen) lbn b es reads hits))
+    fill_look_keeps h next = subst (λ (p : Phase). Good (with_node w n (come_as (decision_in p g more (roomless s.stock) (space_need (wanted_by x s.seen) (numbered_by x s.seen)))))) (sym h.filling.fill)
         (by_place (fill_place g wanted (lacks_by x s.seen s.stock) (blocks_of more)) refl) where
           wanted : ℕ
           wanted = clusters_to_take (wanted_by x s.seen) (length s.stock.clusters)
@@ -205,8 +219,8 @@ module _ (w : Plain) (good : Good w) (n : ℕ) (s : NodeState) (at : node_at w.n
           was : owed s ≡ 4
           was = owed_at s x cmd ∙ (λ i. owed_in (h.filling.fill i) (is_claiming (h.filling.claims i)) (lent s))
 
-          owes : (p : Phase) → (p ≡ phase.Fill) ⊎ (p ≡ phase.Drain) → (d : Decision) → d.phase ≡ p → owed (turned (space_looked s more d)) ≡ owed s
-          owes p which d e = owed_at (turned (space_looked s more d)) x cmd ∙ (λ i. owed_in (e i) (is_claiming (h.filling.claims i)) (lent s)) ∙ elim which [ inl f ↦ ap (λ q. owed_in q true (lent s)) f | inr f ↦ ap (λ q. owed_in q true (lent s)) f ] ∙ sym was
+          owes : (p : Phase) → (p ≡ phase.Fill) ⊎ (p ≡ phase.Drain) → (d : Decision) → d.phase ≡ p → owed (come_as d) ≡ owed s
+          owes p which d e = owed_at (come_as d) x cmd ∙ (λ i. owed_in (e i) (is_claiming (h.filling.claims i)) (lent s)) ∙ elim which [ inl f ↦ ap (λ q. owed_in q true (lent s)) f | inr f ↦ ap (λ q. owed_in q true (lent s)) f ] ∙ sym was
 
           keeps : (p : Phase) → AreKept p s.kept
           keeps p = keeps_on s.run.phase p s.kept (inl not_last) (me w good n s at x cmd free).store.kept
@@ -214,10 +228,10 @@ module _ (w : Plain) (good : Good w) (n : ℕ) (s : NodeState) (at : node_at w.n
           in_order : more ≡ looked g 1 (lacks_by x s.seen s.stock) (blocks_of more)
           in_order = next_in_order g 1 (lacks_by x s.seen s.stock) s.run.looked lbn b h.filling.in_order (fill_at g wanted (lacks_by x s.seen s.stock) (blocks_of s.run.looked) lbn next)
 
-          filling_on : (d : Decision) → d.phase ≡ phase.Fill → IsFilling x s.kept s.claims (space_looked s more d).run (lacks_by x s.seen s.stock) s.seen
+          filling_on : (d : Decision) → d.phase ≡ phase.Fill → IsFilling x s.kept s.claims (come_as d).run (lacks_by x s.seen s.stock) s.seen
           filling_on d e = record { fill = e; shared = h.filling.shared; claims = h.filling.claims; needs = h.filling.needs; in_order = in_order }
 
-          by_filled : (o : Option (List PlanWrite)) → filled g (wanted_by x s.seen) (length s.stock.clusters) (lacks_by x s.seen s.stock) (blocks_of more) ≡ o → Good (with_node w n (turned (space_looked s more (fill_or_give g more (roomless s.stock) o))))
+          by_filled : (o : Option (List PlanWrite)) → filled g (wanted_by x s.seen) (length s.stock.clusters) (lacks_by x s.seen s.stock) (blocks_of more) ≡ o → Good (with_node w n (come_as (fill_or_give g more (roomless s.stock) o)))
           by_filled (Some ws) e =
               let d : Decision = decides phase.Fill ws in
               goes_so d refl (keeps phase.Fill) (owes phase.Fill (inl refl) d refl) (Grabs (record {
@@ -226,10 +240,10 @@ module _ (w : Plain) (good : Good w) (n : ℕ) (s : NodeState) (at : node_at w.n
                 part = fill_some g (wanted_by x s.seen) (numbered_by x s.seen) s.stock (blocks_of more) ws h.lacking e;
               }))
           by_filled None e = back_so phase.Drain (keeps phase.Drain) (owes phase.Drain (inr refl)) rules (give_place g s.stock.clusters s.stock.numbers more) refl where
-            rules : (d : Decision) → d.phase ≡ phase.Drain → IsGoingBack g s.stock (space_looked s more d).run → Rules x s.kept s.claims (space_looked s more d).run s.stock s.seen
+            rules : (d : Decision) → d.phase ≡ phase.Drain → IsGoingBack g s.stock (come_as d).run → Rules x s.kept s.claims (come_as d).run s.stock s.seen
             rules d f goes_back = Drains (record { drain = f; shared = h.filling.shared; claims = h.filling.claims; needs = h.filling.needs; goes = goes_back })
 
-          by_place : (o : Option ℕ) → fill_place g wanted (lacks_by x s.seen s.stock) (blocks_of more) ≡ o → Good (with_node w n (turned (space_looked s more (fill_by g more (roomless s.stock) (space_need (wanted_by x s.seen) (numbered_by x s.seen)) o))))
+          by_place : (o : Option ℕ) → fill_place g wanted (lacks_by x s.seen s.stock) (blocks_of more) ≡ o → Good (with_node w n (come_as (fill_by g more (roomless s.stock) (space_need (wanted_by x s.seen) (numbered_by x s.seen)) o)))
           by_place (Some l) e =
               let d : Decision = looks_on phase.Fill in
               goes_so d refl (keeps phase.Fill) (owes phase.Fill (inl refl) d refl) (Fills (record {
@@ -247,16 +261,16 @@ module _ (w : Plain) (good : Good w) (n : ℕ) (s : NodeState) (at : node_at w.n
       in_order : more ≡ looked g (wanted_by x s.seen) (wants_number x) (blocks_of more)
       in_order = next_in_order g (wanted_by x s.seen) (wants_number x) s.run.looked lbn b h.claimed_so.in_order next
 
-      claimed_on : (d : Decision) → d.phase ≡ phase.Last → HasClaimed x s.kept s.claims (space_looked s more d).run s.stock s.seen
+      claimed_on : (d : Decision) → d.phase ≡ phase.Last → HasClaimed x s.kept s.claims (come_as d).run s.stock s.seen
       claimed_on d e = record { last = e; alone = h.claimed_so.alone; claims = h.claimed_so.claims; empty = h.claimed_so.empty; come = h.claimed_so.come; in_order = in_order }
 
-      last_owes : (d : Decision) → d.phase ≡ phase.Last → owed (turned (space_looked s more d)) ≡ owed s
-      last_owes d e = owed_at (turned (space_looked s more d)) x cmd ∙ (λ i. owed_in (e i) (is_claiming s.claims) (lent s)) ∙ sym (owed_at s x cmd ∙ ap (λ p. owed_in p (is_claiming s.claims) (lent s)) h.claimed_so.last)
+      last_owes : (d : Decision) → d.phase ≡ phase.Last → owed (come_as d) ≡ owed s
+      last_owes d e = owed_at (come_as d) x cmd ∙ (λ i. owed_in (e i) (is_claiming s.claims) (lent s)) ∙ sym (owed_at s x cmd ∙ ap (λ p. owed_in p (is_claiming s.claims) (lent s)) h.claimed_so.last)
 
       last_kept : AreKept phase.Last s.kept
       last_kept = keeps_on s.run.phase phase.Last s.kept (inr refl) (me w good n s at x cmd free).store.kept
 
-      by_found : (f : Found) → found g (wanted_by x s.seen) (wants_number x) (blocks_of more) ≡ f → (next_lbn : ℕ) → Good (with_node w n (turned (space_looked s more (search_by (answered next_lbn f)))))
+      by_found : (f : Found) → found g (wanted_by x s.seen) (wants_number x) (blocks_of more) ≡ f → (next_lbn : ℕ) → Good (with_node w n (come_as (search_by (answered next_lbn f))))
       by_found More e next_lbn =
           let d : Decision = looks_on phase.Last in
           goes_so d refl last_kept (last_owes d refl) (Looking (record { claimed_so = claimed_on d refl; needs = h.needs; more = e; writes = refl; made = refl }))
@@ -274,9 +288,9 @@ module _ (w : Plain) (good : Good w) (n : ℕ) (s : NodeState) (at : node_at w.n
           }))
       by_found (Short why) e next_lbn =
           let d : Decision = record { phase = phase.Last; writes = []; short = Some why } in
-          let r : NodeState = turned (space_looked s more d) in
+          let r : NodeState = come_as d in
           left_so d (sym (λ i. things (h.needs.none.clusters i) (h.needs.none.number i))) refl (last_owes d refl)
-          (is_node w good n s at x cmd free w.locks w.blocks r refl refl refl refl last_kept (me w good n s at x cmd free).rests
+          (is_node w good n s at x cmd free w.locks w.blocks r refl refl refl refl (record { kept = last_kept; few = store.few; cache = store.cache; guarding = store.guarding }) (me w good n s at x cmd free).rests
           ((goes w good n s at x cmd free).refused s.seen (wanted_by x s.seen) (wants_number x) why now.seen h.needs.next (refused_why g (wanted_by x s.seen) (wants_number x) (blocks_of more) why e))
           now.own (plan_stays w good n s at x cmd free w.locks r no_plan refl refl) (asks_then w good n s at x cmd free r no_plan refl (asks_now w good n s at x cmd free no_plan))
           (Busy x refl (Refused (record {
@@ -298,6 +312,6 @@ module _ (w : Plain) (good : Good w) (n : ℕ) (s : NodeState) (at : node_at w.n
           })))
           (no_wait w good n s at x cmd free r.seen))
 
-      pub last_look_keeps : Good (with_node w n (turned (space_looking s (wanted_by x s.seen) (wants_number x) lbn b)))
-      last_look_keeps = subst (λ (p : Phase). Good (with_node w n (turned (space_looked s more (decision_in p g more (roomless s.stock) (space_need (wanted_by x s.seen) (wants_number x))))))) (sym h.claimed_so.last)
+      pub last_look_keeps : Good (with_node w n (space_seen_so s (wanted_by x s.seen) (wants_number x) lbn b es reads hits))
+      last_look_keeps = subst (λ (p : Phase). Good (with_node w n (come_as (decision_in p g more (roomless s.stock) (space_need (wanted_by x s.seen) (wants_number x)))))) (sym h.claimed_so.last)
           (by_found (found g (wanted_by x s.seen) (wants_number x) (blocks_of more)) refl (slice_index_or (places g (wanted_by x s.seen) (wants_number x)) (length (blocks_of more)) 0))

@@ -20,14 +20,16 @@ use Rattle.vol_under.specs.Under.{IsLawful, IsUnder}
 use Rattle.vol_under.specs.Keeping.{Refills, IsBitmap}
 use Rattle.vol_under.proofs.Guarding.{bitmap_guard, wider_write}
 use Rattle.vol_under.proofs.Nodes.{each, changed_here, done_in}
-use Rattle.vol_under.proofs.Steps.{nodes_alike, idle_lawful}
+use Rattle.vol_under.proofs.Steps.{idle_lawful}
 use Rattle.op_law.specs.declared.need.Ask.{Ask}
 use Rattle.op_law.specs.declared.need.Plan.{Plan}
 use Rattle.op_law.specs.Fits.{things}
 use Rattle.op_law.specs.Knows.{knows, is_granted}
 use Rattle.op_law.specs.Laws.{held_in, planned, under_way, IsPlan}
 use Rattle.space_laws.specs.Planned.{IsPlanGuarded}
-use Rattle.space_laws.proofs.Planning.{look_keeps_with_plan, bits_keep_with_plan, forget_keeps, lower_keeps}
+use Rattle.space_laws.proofs.Planning.{forget_keeps, lower_keeps}
+use Rattle.cache_laws.specs.Committed.{IsUnderOn, on_its_own, of_it}
+use Rattle.cache_laws.proofs.Committed.{alike_on, look_on, bits_keep_on}
 use Rattle.core_state.specs.Worlds.{NodeState, Plain, node_at}
 use Rattle.core_state.specs.Asks.{writes_by, granted_by, own_ask, known_with, knows_now}
 use Rattle.core_state.specs.Stocks.{looked_now}
@@ -35,77 +37,93 @@ use Rattle.core_state.specs.Goods.{command_under, under_with, nodes_under, IsAtP
 use Rattle.core_state.proofs.Holding.{held_grows, held_named}
 use Rattle.core_state.proofs.Driving.{law_grows}
 use Rattle.core_state.proofs.Running.{all_asked, under_here}
-use Rattle.core_state.proofs.Taking.{its_outs, its_seen, still_sole, changed_twice}
+use Rattle.core_state.proofs.Taking.{BitsBy, GrabsBy, its_outs, its_seen, still_sole, changed_twice}
 use Rattle.core_state.proofs.Standing.{locks_within, is_known}
 use Rattle.core_state.proofs.Turning.{first_lawful, first_guarded}
 use Rattle.core_state.proofs.Trying.{still_granted}
 
+-- ---- laws of the rules for space, over committed blocks that are named
+
+forget_on : (g : Geometry) (c : Cat) (base : List Block) (own : Owners) (nodes : ℕ → UnderWay) (drive : List Block) (n : ℕ) (seen : List (ℕ × Block)) → IsUnderOn g c base own nodes drive
+    → ((b : ℕ × Block) → Has seen b → Has (nodes n).seen b) → IsLawful g n (record (nodes n) { seen = seen }) → IsUnderOn g c base own (changed nodes n (record (nodes n) { seen = seen })) drive
+unfolding forget_keeps
+forget_on g c base own nodes drive n seen u among law =
+    on_its_own g c (changed nodes n (record (nodes n) { seen = seen })) drive (forget_keeps g c nodes drive n seen (of_it g c base own nodes drive u) among law)
+
+lower_on : (g : Geometry) (c : Cat) (base : List Block) (own : Owners) (nodes : ℕ → UnderWay) (drive : List Block) (n : ℕ) (read write : List LockName) → IsUnderOn g c base own nodes drive
+    → ((name : LockName) → (name ≡ V → ⊥) → (name ≡ X → ⊥) → Has (nodes n).read name → Has read name) → ((name : LockName) → (name ≡ V → ⊥) → (name ≡ X → ⊥) → Has (nodes n).write name → Has write name)
+    → ((l : ℕ) → Touches (nodes n).seen l → IsBitmap g l → ⊥) → ((l : ℕ) → Touches (bare (nodes n).plan) l → IsBitmap g l → ⊥) → IsUnderOn g c base own (changed nodes n (record (nodes n) { read = read; write = write })) drive
+unfolding lower_keeps
+lower_on g c base own nodes drive n read write u reads writes unseen unplanned =
+    on_its_own g c (changed nodes n (record (nodes n) { read = read; write = write })) drive (lower_keeps g c nodes drive n read write (of_it g c base own nodes drive u) reads writes unseen unplanned)
+
 -- ---- a node that is known to stand as u
 
-module _ (g : Geometry) (c : Cat) (nodes : ℕ → UnderWay) (drive : List Block) (n : ℕ) (u : UnderWay) (is : nodes n ≡ u) (under : IsUnder g c nodes drive) where
-  looks_more : AreSole nodes → (l : ℕ) (b : Block) → (Touches (writes_to u.done u) l → ⊥) → slice_get drive l ≡ Some b
-      → ((base : List Block) (own : Owners) → Spells g base own c → StandsIn base u.seen → MayLook u.read (guard_of g own l)) → IsUnder g c (changed nodes n (record u { seen = (l, b) ∷ u.seen })) drive
+module _ (g : Geometry) (c : Cat) (base : List Block) (own : Owners) (nodes : ℕ → UnderWay) (drive : List Block) (n : ℕ) (u : UnderWay) (is : nodes n ≡ u) (under : IsUnderOn g c base own nodes drive) where
+  looks_more : AreSole nodes → (l : ℕ) (b : Block) → (Touches (writes_to u.done u) l → ⊥) → slice_get drive l ≡ Some b → MayLook u.read (guard_of g own l)
+      → IsUnderOn g c base own (changed nodes n (record u { seen = (l, b) ∷ u.seen })) drive
   looks_more sole l b untouched at may =
-      let P : UnderWay → Type 0 = λ v. (Touches (writes_to v.done v) l → ⊥) → ((base : List Block) (own : Owners) → Spells g base own c → StandsIn base v.seen → MayLook v.read (guard_of g own l)) → IsUnder g c (changed nodes n (record v { seen = (l, b) ∷ v.seen })) drive in
-      subst P is (λ t m. look_keeps_with_plan g c nodes drive n l b sole under t at m) untouched may
+      let P : UnderWay → Type 0 = λ v. (Touches (writes_to v.done v) l → ⊥) → MayLook v.read (guard_of g own l) → IsUnderOn g c base own (changed nodes n (record v { seen = (l, b) ∷ v.seen })) drive in
+      subst P is (λ t m. look_on g c base own nodes drive n l b sole under t at m) untouched may
 
-  forgets : (seen : List (ℕ × Block)) → ((b : ℕ × Block) → Has seen b → Has u.seen b) → IsLawful g n (record u { seen = seen }) → IsUnder g c (changed nodes n (record u { seen = seen })) drive
+  forgets : (seen : List (ℕ × Block)) → ((b : ℕ × Block) → Has seen b → Has u.seen b) → IsLawful g n (record u { seen = seen }) → IsUnderOn g c base own (changed nodes n (record u { seen = seen })) drive
   forgets seen among law =
-      let P : UnderWay → Type 0 = λ v. ((b : ℕ × Block) → Has seen b → Has v.seen b) → IsLawful g n (record v { seen = seen }) → IsUnder g c (changed nodes n (record v { seen = seen })) drive in
-      subst P is (λ a l. forget_keeps g c nodes drive n seen under a l) among law
+      let P : UnderWay → Type 0 = λ v. ((b : ℕ × Block) → Has seen b → Has v.seen b) → IsLawful g n (record v { seen = seen }) → IsUnderOn g c base own (changed nodes n (record v { seen = seen })) drive in
+      subst P is (λ a l. forget_on g c base own nodes drive n seen under a l) among law
 
   refills : AreSole nodes → (l : ℕ) (old b : Block) (stock : Things) → (Touches (writes_to u.done u) l → ⊥) → IsBitmap g l → Has u.write V → (Touches u.seen l → ⊥) → slice_get drive l ≡ Some old
-      → ((base : List Block) (own : Owners) → Spells g base own c → Outs n own u.took u.stock → slice_get base l ≡ Some old → Refills g n u.took stock l b base own c)
-      → IsPlanGuarded g c n (record u { stock = stock }) → IsUnder g c (changed nodes n (record u { stock = stock })) (slice_set drive l b)
+      → (slice_get base l ≡ Some old → Refills g n u.took stock l b base own c) → IsPlanGuarded g c n (record u { stock = stock }) → BitsBy g c base own nodes drive n u l b stock
   refills sole l old b stock untouched bitmap holds unseen at refill guarded =
-      let P : UnderWay → Type 0 = λ v. (Touches (writes_to v.done v) l → ⊥) → Has v.write V → (Touches v.seen l → ⊥)
-      → ((base : List Block) (own : Owners) → Spells g base own c → Outs n own v.took v.stock → slice_get base l ≡ Some old → Refills g n v.took stock l b base own c)
-      → IsPlanGuarded g c n (record v { stock = stock }) → IsUnder g c (changed nodes n (record v { stock = stock })) (slice_set drive l b) in
-      subst P is (λ t h s r k. bits_keep_with_plan g c nodes drive n l old b stock sole under t bitmap h s at r k) untouched holds unseen refill guarded
+      let P : UnderWay → Type 0 = λ v. (Touches (writes_to v.done v) l → ⊥) → Has v.write V → (Touches v.seen l → ⊥) → (slice_get base l ≡ Some old → Refills g n v.took stock l b base own c)
+      → IsPlanGuarded g c n (record v { stock = stock }) → BitsBy g c base own nodes drive n v l b stock in
+      subst P is (λ t h s r k. let z = bits_keep_on g c base own nodes drive n l old b stock sole under t bitmap h s at r k in record { new = z.new; moves = z.moves; under = z.under }) untouched holds unseen refill guarded
 
   lowers : (read write : List LockName) → ((name : LockName) → (name ≡ V → ⊥) → (name ≡ X → ⊥) → Has u.read name → Has read name) → ((name : LockName) → (name ≡ V → ⊥) → (name ≡ X → ⊥) → Has u.write name → Has write name)
-      → ((l : ℕ) → Touches u.seen l → IsBitmap g l → ⊥) → ((l : ℕ) → Touches (bare u.plan) l → IsBitmap g l → ⊥) → IsUnder g c (changed nodes n (record u { read = read; write = write })) drive
+      → ((l : ℕ) → Touches u.seen l → IsBitmap g l → ⊥) → ((l : ℕ) → Touches (bare u.plan) l → IsBitmap g l → ⊥) → IsUnderOn g c base own (changed nodes n (record u { read = read; write = write })) drive
   lowers read write reads writes unseen unplanned =
       let P : UnderWay → Type 0 = λ v. ((name : LockName) → (name ≡ V → ⊥) → (name ≡ X → ⊥) → Has v.read name → Has read name) → ((name : LockName) → (name ≡ V → ⊥) → (name ≡ X → ⊥) → Has v.write name → Has write name)
-      → ((l : ℕ) → Touches v.seen l → IsBitmap g l → ⊥) → ((l : ℕ) → Touches (bare v.plan) l → IsBitmap g l → ⊥) → IsUnder g c (changed nodes n (record v { read = read; write = write })) drive in
-      subst P is (λ r w s p. lower_keeps g c nodes drive n read write under r w s p) reads writes unseen unplanned
+      → ((l : ℕ) → Touches v.seen l → IsBitmap g l → ⊥) → ((l : ℕ) → Touches (bare v.plan) l → IsBitmap g l → ⊥) → IsUnderOn g c base own (changed nodes n (record v { read = read; write = write })) drive in
+      subst P is (λ r w s p. lower_on g c base own nodes drive n read write under r w s p) reads writes unseen unplanned
 
-twice : (g : Geometry) (c : Cat) (nodes : ℕ → UnderWay) (drive : List Block) (n : ℕ) (a b : UnderWay) → IsUnder g c (changed (changed nodes n a) n b) drive → IsUnder g c (changed nodes n b) drive
-twice g c nodes drive n a b u = nodes_alike g c (changed (changed nodes n a) n b) (changed nodes n b) drive (λ m. changed_twice nodes n a b m) u
+twice : (g : Geometry) (c : Cat) (base : List Block) (own : Owners) (nodes : ℕ → UnderWay) (drive : List Block) (n : ℕ) (a b : UnderWay) → IsUnderOn g c base own (changed (changed nodes n a) n b) drive → IsUnderOn g c base own (changed nodes n b) drive
+twice g c base own nodes drive n a b u = alike_on g c base own (changed (changed nodes n a) n b) (changed nodes n b) drive (λ m. changed_twice nodes n a b m) u
 
 -- ---- in two steps
 
 module _ (g : Geometry) (c : Cat) (nodes : ℕ → UnderWay) (drive : List Block) (n : ℕ) (u : UnderWay) (is : nodes n ≡ u) (under : IsUnder g c nodes drive) where
+  abbrev on : IsUnderOn g c under.base under.own nodes drive
+  on = on_its_own g c nodes drive under
+
   -- it looks at a block, and of what it has seen then these are left
-  pub looks : AreSole nodes → (l : ℕ) (b : Block) → (Touches (writes_to u.done u) l → ⊥) → slice_get drive l ≡ Some b
-      → ((base : List Block) (own : Owners) → Spells g base own c → StandsIn base u.seen → MayLook u.read (guard_of g own l))
-      → (seen : List (ℕ × Block)) → ((y : ℕ × Block) → Has seen y → Has ((l, b) ∷ u.seen) y) → IsLawful g n (record u { seen = seen }) → IsUnder g c (changed nodes n (record u { seen = seen })) drive
+  pub looks : AreSole nodes → (l : ℕ) (b : Block) → (Touches (writes_to u.done u) l → ⊥) → slice_get drive l ≡ Some b → MayLook u.read (guard_of g under.own l)
+      → (seen : List (ℕ × Block)) → ((y : ℕ × Block) → Has seen y → Has ((l, b) ∷ u.seen) y) → IsLawful g n (record u { seen = seen }) → IsUnderOn g c under.base under.own (changed nodes n (record u { seen = seen })) drive
   looks sole l b untouched at may seen among law =
       let a : UnderWay = record u { seen = (l, b) ∷ u.seen } in
-      twice g c nodes drive n a (record u { seen = seen })
-      (forgets g c (changed nodes n a) drive n a (changed_here nodes n a) (looks_more g c nodes drive n u is under sole l b untouched at may) seen among law)
+      twice g c under.base under.own nodes drive n a (record u { seen = seen })
+      (forgets g c under.base under.own (changed nodes n a) drive n a (changed_here nodes n a) (looks_more g c under.base under.own nodes drive n u is on sole l b untouched at may) seen among law)
 
   -- it writes to a bitmap: of what it has seen these are left, and of its stock this
   pub rewrites_it : AreSole nodes
       → (l : ℕ) (old b : Block) (stock : Things) (seen : List (ℕ × Block)) → ((y : ℕ × Block) → Has seen y → Has u.seen y) → IsLawful g n (record u { seen = seen })
       → (Touches (writes_to u.done u) l → ⊥) → IsBitmap g l → Has u.write V → (Touches seen l → ⊥) → slice_get drive l ≡ Some old
-      → ((base : List Block) (own : Owners) → Spells g base own c → Outs n own u.took u.stock → slice_get base l ≡ Some old → Refills g n u.took stock l b base own c)
-      → IsPlanGuarded g c n (record u { seen = seen; stock = stock }) → IsUnder g c (changed nodes n (record u { seen = seen; stock = stock })) (slice_set drive l b)
+      → (slice_get under.base l ≡ Some old → Refills g n u.took stock l b under.base under.own c)
+      → IsPlanGuarded g c n (record u { seen = seen; stock = stock }) → GrabsBy g c under.base under.own (changed nodes n (record u { seen = seen; stock = stock })) drive n l b
   rewrites_it sole l old b stock seen among law untouched bitmap holds unseen at refill guarded =
       let a : UnderWay = record u { seen = seen } in
       let same_read = each (λ m (v : UnderWay). v.read ≡ (nodes m).read) nodes n a (sym (ap (λ (v : UnderWay). v.read) is)) (λ m ne. refl) in
       let same_write = each (λ m (v : UnderWay). v.write ≡ (nodes m).write) nodes n a (sym (ap (λ (v : UnderWay). v.write) is)) (λ m ne. refl) in
-      twice g c nodes (slice_set drive l b) n a (record u { seen = seen; stock = stock })
-      (refills g c (changed nodes n a) drive n a (changed_here nodes n a) (forgets g c nodes drive n u is under seen among law) (still_sole nodes (changed nodes n a) same_read same_write sole) l old b stock untouched bitmap holds unseen at refill guarded)
+      let z = refills g c under.base under.own (changed nodes n a) drive n a (changed_here nodes n a) (forgets g c under.base under.own nodes drive n u is on seen among law) (still_sole nodes (changed nodes n a) same_read same_write sole)
+      l old b stock untouched bitmap holds unseen at refill guarded in
+      record { new = z.new; moves = z.moves; under = twice g c (slice_set under.base l b) z.new nodes (slice_set drive l b) n a (record u { seen = seen; stock = stock }) z.under }
 
   -- it lowers its locks of free space: of what it has seen these are left
   pub lowers_them : (seen : List (ℕ × Block)) → ((y : ℕ × Block) → Has seen y → Has u.seen y) → IsLawful g n (record u { seen = seen })
       → (read write : List LockName) → ((name : LockName) → (name ≡ V → ⊥) → (name ≡ X → ⊥) → Has u.read name → Has read name) → ((name : LockName) → (name ≡ V → ⊥) → (name ≡ X → ⊥) → Has u.write name → Has write name)
-      → ((l : ℕ) → Touches seen l → IsBitmap g l → ⊥) → ((l : ℕ) → Touches (bare u.plan) l → IsBitmap g l → ⊥) → IsUnder g c (changed nodes n (record u { seen = seen; read = read; write = write })) drive
+      → ((l : ℕ) → Touches seen l → IsBitmap g l → ⊥) → ((l : ℕ) → Touches (bare u.plan) l → IsBitmap g l → ⊥) → IsUnderOn g c under.base under.own (changed nodes n (record u { seen = seen; read = read; write = write })) drive
   lowers_them seen among law read write reads writes unseen unplanned =
       let a : UnderWay = record u { seen = seen } in
-      twice g c nodes drive n a (record u { seen = seen; read = read; write = write })
-      (lowers g c (changed nodes n a) drive n a (changed_here nodes n a) (forgets g c nodes drive n u is under seen among law) read write reads writes unseen unplanned)
+      twice g c under.base under.own nodes drive n a (record u { seen = seen; read = read; write = write })
+      (lowers g c under.base under.own (changed nodes n a) drive n a (changed_here nodes n a) (forgets g c under.base under.own nodes drive n u is on seen among law) read write reads writes unseen unplanned)
 
 -- ---- the plan of a node
 
@@ -201,8 +219,11 @@ module _ (w : Plain) (good : Good w) (n : ℕ) (s : NodeState) (at : node_at w.n
   here_so = under_here w.locks w.nodes n s at
 
   -- the drive, by the geometry that its command has seen
-  pub drive_so : IsUnder s.seen.geometry cat (nodes_under w.locks w.nodes) w.blocks
-  drive_so = subst (λ (g : Geometry). IsUnder g cat (nodes_under w.locks w.nodes) w.blocks) (sym me.geometry) good.running.drive
+  pub drive_so_on : IsUnderOn s.seen.geometry cat good.running.drive.base good.running.drive.own (nodes_under w.locks w.nodes) w.blocks
+  drive_so_on = subst (λ (g : Geometry). IsUnderOn g cat good.running.drive.base good.running.drive.own (nodes_under w.locks w.nodes) w.blocks) (sym me.geometry) (on_its_own w.geometry cat (nodes_under w.locks w.nodes) w.blocks good.running.drive)
+
+  abbrev pub drive_so : IsUnder s.seen.geometry good.running.cat (nodes_under w.locks w.nodes) w.blocks
+  drive_so = of_it s.seen.geometry good.running.cat good.running.drive.base good.running.drive.own (nodes_under w.locks w.nodes) w.blocks drive_so_on
 
   pub outs_so : Outs n drive_so.own u.took u.stock
   outs_so = its_outs s.seen.geometry cat (nodes_under w.locks w.nodes) w.blocks n u here_so drive_so

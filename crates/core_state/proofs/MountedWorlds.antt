@@ -32,7 +32,8 @@ use Rattle.core_state.specs.Asks.{granted_ask}
 use Rattle.core_state.specs.Opens.{open_of, open_with, asked_in, asked_at, open_now}
 use Rattle.core_state.specs.Goods.{HasSystemNumbers, HasOnly, under_by, nodes_under, IsNode, Good, IsAccepted, decided, IsWorld}
 use Rattle.core_state.specs.Searches.{Off}
-use Rattle.core_state.specs.Stores.{IsStocked}
+use Rattle.core_state.specs.Stores.{IsStocked, hold_writes}
+use Rattle.node_cache.proofs.Entries.{cache-nil}
 use Rattle.core_state.specs.Mounting.{at_rest, mounted}
 use Rattle.core_state.specs.Channels.{HasOpens}
 use Rattle.plain_opens.proofs.Naming.{closed_names}
@@ -121,8 +122,9 @@ module _ (bs : List Block) (s : Script) (c : Cat) (g : Geometry) (form : InForm 
     geometry = refl;
     channels = λ on. refl;
     channel = refl;
-    store = record { kept = λ l h. absurd h; cache = refl };
+    store = record { kept = λ l h. absurd h; few = omega arith; cache = cache-nil; guarding = λ e h. absurd h };
     rests = refl;
+    asks = λ e. absurd (let f : false ≡ true = e in cc);
     command = record { locks = refl; blocks = refl; space = record { clusters = refl; number = refl; short = refl }; asked = refl; plan = refl; done = refl };
     space = Off (record { run = refl; claims = refl; space = record { clusters = refl; number = refl; short = refl } });
     over = λ o. absurd (let f : false ≡ true = o in cc);
@@ -151,6 +153,7 @@ module _ (bs : List Block) (s : Script) (c : Cat) (g : Geometry) (form : InForm 
     nodes = λ n r e. subst (λ (y : NodeState). IsNode w n y) (sym (at_rest_at s.nodes x n r e)) (node n);
     own = tt;
     small = small_mounted bs s c g;
+    writers = λ n r v e has. absurd (subst (λ (y : NodeState). Has (hold_writes y) v) (at_rest_at s.nodes x n r e) has);
     form = form;
     few = λ n. few_newborn s n;
     strangers = λ n e. strangers_have_nothing s n [] (no_line s.lines s.nodes x n form.lines e) refl;

@@ -236,7 +236,7 @@ module _ (w : Plain) (good : Good w) (n : ℕ) (s : NodeState) (at : node_at w.n
 
       not_kept : Has s.kept (V, k.in_mode) → ⊥
       not_kept a = elim (my_node.store.kept (V, k.in_mode) a) [
-        | inl f ↦ absurd (let z : rank k.in_mode ≡ rank NL = ap (λ (l : LockName × Mode). rank l.1) f in let st = k.strong in omega arith)
+        | inl f ↦ absurd (let z : rank k.in_mode ≡ rank NL = ap rank f.1 in let st = k.strong in omega arith)
         | inr f ↦ absurd (let z : V ≡ X = f.0 in cc)
       ]
 

@@ -1,7 +1,9 @@
 -- A give-back looks at a block, and writes one, with its node's command under way or without one.
-use Rattle.std.proofs.Common.{◌≡◌, ◌<◌, ◌+◌, ◌++◌, ℕ, Bool, true, false, cond, List, [], ◌∷◌, Option, Some, None, is_some, length, take, slice_get, slice_set, refl, sym, ap, subst, ◌∙◌, inl, inr, arith}
+use Rattle.std.proofs.Common.{◌≡◌, ◌⊎◌, ◌<◌, ◌+◌, ◌++◌, ℕ, Bool, true, false, cond, List, [], ◌∷◌, Option, Some, None, is_some, length, take, slice_get, slice_set, refl, sym, ap, subst, ◌∙◌, inl, inr, arith}
 use Rattle.vol_words.specs.Fields.{Block}
+use Rattle.lock_db.specs.declared.name.LockName.{LockName}
 use Rattle.lock_db.specs.declared.name.LockName.TheVariants.{X, V}
+use Rattle.std.proofs.lemmas.Option.{slice_get_within}
 use Rattle.plain_cat.specs.declared.mode.Mode.TheVariants.{CR, PR, PW}
 use Rattle.plain_cat.specs.declared.cat.Cat.{Cat}
 use Rattle.node_locks.specs.Held.{Row, names_of, waits_at}
@@ -10,26 +12,30 @@ use Rattle.vol_owners.specs.Owners.{Owners, Things, Outs}
 use Rattle.vol_owners.proofs.Writing.{touches_joined, stands_joined}
 use Rattle.vol_owners.proofs.Listing.{has_parted, has_first, has_second}
 use Rattle.vol_parts.specs.declared.geometry.Geometry.{Geometry}
-use Rattle.vol_under.specs.Guards.{Guard, guard_of, MayLook}
+use Rattle.vol_under.specs.Guards.{Guard, Lock, guard_of, MayLook}
+use Rattle.cache_laws.specs.Committed.{IsUnderOn}
+use Rattle.cache_laws.proofs.Guarded.{spaces_stay}
+use Rattle.node_cache.specs.Cached.{Cached}
 use Rattle.vol_under.specs.UnderWay.{UnderWay, writes_to, together, changed, AreSole}
 use Rattle.vol_under.specs.Under.{IsUnder}
 use Rattle.vol_under.specs.Keeping.{IsBitmap}
 use Rattle.vol_under.proofs.Guarding.{bitmap_guard}
 use Rattle.vol_under.proofs.Steps.{held_stands}
 use Rattle.op_law.specs.declared.need.PlanWrite.{PlanWrite}
-use Rattle.op_law.specs.Laws.{held_in}
+use Rattle.op_law.specs.Laws.{held_in, IsCacheable}
 use Rattle.space_laws.specs.Planned.{IsPlanGuarded}
 use Rattle.core_space.specs.declared.run.Phase.{Phase}
 use Rattle.core_space.specs.declared.run.Phase.TheVariants as phase
 use Rattle.core_space.specs.Giving.{give_place, give_writes}
 use Rattle.core_space.specs.Rule.{decides, give_by, decision_in}
-use Rattle.core_state.specs.Worlds.{NodeState, Plain, node_at, set_node, with_node}
-use Rattle.core_state.specs.Asks.{is_claiming}
+use Rattle.core_state.specs.Worlds.{NodeState, Plain, node_at, set_node, with_node, rows_of}
+use Rattle.core_state.specs.Stores.{guards_blocks, HasStore, IsCachedAt}
+use Rattle.core_state.specs.Asks.{is_claiming, writes_now}
 use Rattle.core_state.specs.Small.{lent, owed_in, owed, has_command}
 use Rattle.core_state.specs.Stocks.{roomless, things_in, left_by, stock_now, looked_now, unwritten}
 use Rattle.core_state.specs.Searches.{IsWritingBack, IsGoingBack, LooksOn, WritesBack, IsGivingBack, Back}
 use Rattle.core_state.specs.Goods.{under_with, nodes_under, IsNode, Good, held_by}
-use Rattle.core_state.specs.Events.{block_at, is_out, one_more, turned, space_need, ready_left, given_by, stocked_by, is_last, space_looked, space_looking, space_writing}
+use Rattle.core_state.specs.Events.{is_out, one_more, turned, space_need, ready_left, given_by, stocked_by, is_last, space_writing, caching, cache_written}
 use Rattle.core_state.proofs.Holding.{is_in_held, held_weaker}
 use Rattle.core_state.proofs.Running.{at_any, under_now, claims_held, are_sole}
 use Rattle.core_state.proofs.Keeping.{altered, still_driven, rebuilt, held_same, loses_nothing, asked_apart}
@@ -37,11 +43,15 @@ use Rattle.core_state.proofs.SmallWorlds.{owes_same, small_set}
 use Rattle.core_state.proofs.Beginning.{alone, stays_stocked}
 use Rattle.core_state.proofs.Seeking.{stands_its, is_left, all_left, left_of, less_left, not_left, once_at}
 use Rattle.core_state.proofs.Standing.{back_taken, with_nothing}
-use Rattle.core_state.proofs.Turning.{index_within}
+use Rattle.core_state.proofs.Turning.{take_none, more_before, only_before, made_before}
+use Rattle.core_state.proofs.Taking.{GrabsBy}
+use Rattle.core_state.proofs.CachedPuts.{IsWriteOf, put_cached, put_writes}
+use Rattle.core_state.proofs.CachedLooks.{rewritten_store}
+use Rattle.core_state.proofs.CachedTakes.{goes_higher}
 use Rattle.core_state.proofs.Claiming.{mine, space_node}
 use Rattle.core_state.proofs.Claims.{keeps_on}
-use Rattle.core_state.proofs.Looks.{taken_zero}
-use Rattle.core_state.proofs.Givings.{give_once}
+use Rattle.core_state.proofs.Looks.{taken_zero, come_so, space_seen_so}
+use Rattle.core_state.proofs.Givings.{give_once, give_under}
 use Rattle.core_state.proofs.Backs.{IsBackWrite, back_write}
 use Rattle.core_state.proofs.Midway.{looks, rewrites_it, here_so, drive_so, outs_so, seen_so, law_so, wide_so, guard_held, not_done}
 
@@ -77,8 +87,8 @@ module _ (w : Plain) (good : Good w) (n : ℕ) (s : NodeState) (at : node_at w.n
   pub holds_v : Has (held_in PW (held_by w.locks n s)) V
   holds_v = is_in_held PW (held_by w.locks n s) V (record { in_mode = PW; has = claims_held w.locks n s (V, PW) granted (subst (λ (ls : Row). Has ls (V, PW)) (sym claims) (inl refl)); strong = omega arith })
 
-  pub back_drive : (v : UnderWay) (bs : List Block) → IsUnder g cat (changed (nodes_under w.locks w.nodes) n v) bs → IsUnder w.geometry cat (changed (nodes_under w.locks w.nodes) n v) bs
-  back_drive v bs h = subst (λ (k : Geometry). IsUnder k cat (changed (nodes_under w.locks w.nodes) n v) bs) me.geometry h
+  pub back_drive : (base : List Block) (own : Owners) (v : UnderWay) (bs : List Block) → IsUnderOn g cat base own (changed (nodes_under w.locks w.nodes) n v) bs → IsUnderOn w.geometry cat base own (changed (nodes_under w.locks w.nodes) n v) bs
+  back_drive base own v bs h = subst (λ (k : Geometry). IsUnderOn k cat base own (changed (nodes_under w.locks w.nodes) n v) bs) me.geometry h
 
   may_look : (own : Owners) (l : ℕ) → IsBitmap g l → MayLook (held_in PR (held_by w.locks n s)) (guard_of g own l)
   may_look own l bitmap =
@@ -94,19 +104,15 @@ module _ (w : Plain) (good : Good w) (n : ℕ) (s : NodeState) (at : node_at w.n
 
     -- ---- a look
 
-    module _ (no_writes : s.run.writes ≡ []) (lbn : ℕ) (within : lbn < length under.base) (bitmap : IsBitmap g lbn) where
-      abbrev b : Block
-      b = block_at w.blocks lbn
-
+    -- at this block, which the drive has, and its cache becomes this one
+    module _ (no_writes : s.run.writes ≡ []) (lbn : ℕ) (b : Block) (es : List Cached) (reads hits : ℕ) (bitmap : IsBitmap g lbn) (there_now : slice_get w.blocks lbn ≡ Some b)
+        (store : HasStore s.run.phase s.kept es) (entries : (r : NodeState) → rows_of r ≡ rows_of s → (e : Cached) → Has es e → Has s.cache e ⊎ IsCachedAt (with_node w n r) good.running.drive.own good.running.cat n r e) where
       abbrev more : List (ℕ × Block)
       more = s.run.looked ++ (lbn, b) ∷ []
 
       -- the node as the look leaves it, with these writes to come
       abbrev r : List PlanWrite → NodeState
-      r ws = turned (space_looked s more (decides phase.Back ws))
-
-      there_now : slice_get w.blocks lbn ≡ Some b
-      there_now = index_within w.blocks lbn (subst (λ (k : ℕ). lbn < k) (sym under.over.count) within)
+      r ws = come_so s more (decides phase.Back ws) es reads hits
 
       among : (ws : List PlanWrite) (y : ℕ × Block) → Has (unwritten (take 0 ws) more ++ s.seen.blocks) y → Has ((lbn, b) ∷ u.seen) y
       among ws y k = elim (has_parted (unwritten (take 0 ws) more) s.seen.blocks y k) [
@@ -126,25 +132,27 @@ module _ (w : Plain) (good : Good w) (n : ℕ) (s : NodeState) (at : node_at w.n
       looked_so : (ws : List PlanWrite) → IsGoingBack g s.stock (r ws).run → Good (with_node w n (r ws))
       looked_so ws goes =
           let new : List (ℕ × Block) = looked_now (r ws).run ++ s.seen.blocks in
-          let drive_now = looks g cat (nodes_under w.locks w.nodes) w.blocks n u (here_so w good n s at) under sole lbn b (not_done w good n s at not_its lbn bitmap) there_now (λ base own spelt stands. may_look own lbn bitmap)
+          let drive_now = looks g cat (nodes_under w.locks w.nodes) w.blocks n u (here_so w good n s at) under sole lbn b (not_done w good n s at not_its lbn bitmap) there_now (may_look under.own lbn bitmap)
           new (among ws) (law_so w good n s at (looked_now (r ws).run) u.read u.write u.stock (wide_so w good n s at)) in
           let there : record u { seen = new } ≡ under_with w.locks n (r ws) (r ws).cmd = λ i. record (at_any n s s.cmd (held_by w.locks n s)) { seen = new; stock = sym (stock_same ws) i } in
           alone w good n s at (r ws) refl (λ part o low. refl) refl (owes_same s (r ws) (owes ws) refl) (stays_stocked s (r ws) refl (stock_same ws) (λ k. k) (good.running.stocked n s at))
-          (subst (λ (k : UnderWay). IsUnder w.geometry cat (changed (nodes_under w.locks w.nodes) n k) w.blocks) there (back_drive (record u { seen = new }) w.blocks drive_now))
-          (space_node w good n s at on w.locks w.blocks (r ws) refl refl refl (λ e. e) (keeps_on s.run.phase phase.Back s.kept (inl not_last) me.store.kept) me.rests
+          (subst (λ (k : UnderWay). IsUnderOn w.geometry cat good.running.drive.base good.running.drive.own (changed (nodes_under w.locks w.nodes) n k) w.blocks) there (back_drive under.base under.own (record u { seen = new }) w.blocks drive_now))
+          (ap (λ (zs : List PlanWrite). zs ++ take s.done (writes_now s.tried s.plan)) (sym (ap (λ (zs : List PlanWrite). take s.run.made zs) no_writes ∙ take_none s.run.made))) (entries (r ws) refl)
+          (space_node w good n s at on w.locks w.blocks (r ws) refl refl refl (λ e. e) (λ e a. inl (inr refl)) (record { kept = keeps_on s.run.phase phase.Back s.kept (inl not_last) store.kept; few = store.few; cache = store.cache; guarding = store.guarding }) me.rests
           (Back (record { back = refl; shared = h.shared; claims = h.claims; space = h.space; apart = h.apart; goes = goes })))
 
-      by_place : (o : Option ℕ) → give_place g s.stock.clusters s.stock.numbers more ≡ o → Good (with_node w n (turned (space_looked s more (give_by phase.Back g more (roomless s.stock) o))))
+      by_place : (o : Option ℕ) → give_place g s.stock.clusters s.stock.numbers more ≡ o → Good (with_node w n (come_so s more (give_by phase.Back g more (roomless s.stock) o) es reads hits))
       by_place (Some l) e = looked_so [] (LooksOn (some_is (give_place g s.stock.clusters s.stock.numbers more) l e) refl refl)
       by_place None e = looked_so (give_writes g s.stock.clusters s.stock.numbers more) (WritesBack (record {
         rest = refl;
         within = omega arith;
         all = e;
         once = give_once g s.stock.clusters s.stock.numbers more under.base under.own cat under.spelt;
+        locks = give_under g s.stock.clusters s.stock.numbers more;
       }))
 
-      pub back_look_keeps : (k : ℕ) (c : Bool) → Good (with_node w n (turned (space_looking s k c lbn b)))
-      back_look_keeps k c = subst (λ (p : Phase). Good (with_node w n (turned (space_looked s more (decision_in p g more (roomless s.stock) (space_need k c)))))) (sym h.back)
+      pub back_look_keeps : (k : ℕ) (c : Bool) → Good (with_node w n (space_seen_so s k c lbn b es reads hits))
+      back_look_keeps k c = subst (λ (p : Phase). Good (with_node w n (come_so s more (decision_in p g more (roomless s.stock) (space_need k c)) es reads hits))) (sym h.back)
           (by_place (give_place g s.stock.clusters s.stock.numbers more) refl)
 
     -- ---- a write
@@ -163,20 +171,22 @@ module _ (w : Plain) (good : Good w) (n : ℕ) (s : NodeState) (at : node_at w.n
       written = slice_set w.blocks v.lbn v.block
 
       abbrev grabbed : Phase → Bool → NodeState
-      grabbed p last = turned (record s { seen = given_by p last v s.seen; stock = stocked_by p last g v s.stock; run = record s.run { made = t + 1; ready = ready_left p last s.run.ready }; writes = one_more s.writes })
+      grabbed p last = turned (record s { seen = given_by p last v s.seen; stock = stocked_by p last g v s.stock; run = record s.run { made = t + 1; ready = ready_left p last s.run.ready }; writes = one_more s.writes; cache = cache_written w s v })
 
       abbrev GoodWith : NodeState → Type 0
       GoodWith q = Good (altered w w.locks written (set_node w.nodes n q) w.history)
 
       written_so : (last : Bool) → GoodWith (grabbed phase.Back last)
       written_so last = rebuilt w good n s q at w.locks written w.history
-          (still_driven w good n s q at w.locks written (λ part o low. refl) refl
-          (under_now w.geometry cat w.locks w.locks w.nodes n s q written at (λ m y ne e. refl)
-          (subst (λ (k : UnderWay). IsUnder w.geometry cat (changed (nodes_under w.locks w.nodes) n k) written) there (back_drive (record u { seen = rest; stock = left_then }) written drive_now)))
-          good.running.opens)
+          (still_driven w good n s q at w.locks written (λ part o low. refl) refl (slice_set under.base v.lbn v.block) drive_now.new
+          (under_now w.geometry cat (slice_set under.base v.lbn v.block) drive_now.new w.locks w.locks w.nodes n s q written at (λ m y ne e. refl)
+          (subst (λ (k : UnderWay). IsUnderOn w.geometry cat (slice_set under.base v.lbn v.block) drive_now.new (changed (nodes_under w.locks w.nodes) n k) written) there (back_drive (slice_set under.base v.lbn v.block) drive_now.new (record u { seen = rest; stock = left_then }) written drive_now.under)))
+          good.running.opens
+          (put_cached w sole good.writers n s q under.own drive_now.new cat cat v it stays good.running.cached))
           (good.locked.0, held_same w.locks w.nodes n s q at refl good.locked.1) good.own (small_set w good.small n s q at written (owes_same s q refl refl)) (good.few n) (λ m ne. refl) (λ m y ne e. loses_nothing w.locks m y)
           (record { holds = inr (is_in_held CR s.kept X (record { in_mode = CR; has = h.shared; strong = omega arith })) })
-          (space_node w good n s at on w.locks written q refl refl refl (λ e. e) me.store.kept me.rests
+          (put_writes w sole good.writers n s q under.own drive_now.new cat cat v it stays)
+          (space_node w good n s at on w.locks written q refl refl refl (λ e. e) (λ e a. a) (rewritten_store w v s.run.phase s.kept s.cache (ap guards_blocks b.lock) me.store) me.rests
           (Back (record { back = h.back; shared = h.shared; claims = h.claims; space = h.space; apart = h.apart; goes = b.goes }))) where
             q : NodeState
             q = grabbed phase.Back last
@@ -215,10 +225,27 @@ module _ (w : Plain) (good : Good w) (n : ℕ) (s : NodeState) (at : node_at w.n
             guarded : IsPlanGuarded g cat n (record u { seen = rest; stock = left_then })
             guarded base own spelt stands outs l k = guard_held w good n s at base own left_then spelt ((stands_joined base (unwritten (take (t + 1) ws) s.run.looked) s.seen.blocks).0 stands).1 outs l k
 
-            drive_now : IsUnder g cat (changed (nodes_under w.locks w.nodes) n (record u { seen = rest; stock = left_then })) written
+            drive_now : GrabsBy g cat under.base under.own (changed (nodes_under w.locks w.nodes) n (record u { seen = rest; stock = left_then })) w.blocks n v.lbn v.block
             drive_now = rewrites_it g cat (nodes_under w.locks w.nodes) w.blocks n u (here_so w good n s at) under sole v.lbn b.old v.block left_then rest some_left
                 (law_so w good n s at (unwritten (take (t + 1) ws) s.run.looked) u.read u.write u.stock (wide_so w good n s at)) untouched b.bitmap holds_v not_seen there_now
-                (λ base own spelt outs stands. b.refill base own spelt (subst (λ (k : Things). Outs n own u.took k) stock_so outs) stands) guarded
+                (λ stands. b.refill under.base under.own under.spelt (subst (λ (k : Things). Outs n under.own u.took k) stock_so (outs_so w good n s at)) stands) guarded
+
+            it : IsWriteOf w n s q under.own v
+            it = record {
+              at = at;
+              rows = refl;
+              more = λ y k. more_before ws (take s.done (writes_now s.tried s.plan)) t y k;
+              only = λ y k. only_before ws (take s.done (writes_now s.tried s.plan)) t v y next k;
+              made = made_before ws (take s.done (writes_now s.tried s.plan)) t v next;
+              holds = subst (Has (held_in PW (held_by w.locks n s))) (sym b.lock) holds_v;
+              within = slice_get_within w.blocks v.lbn b.old there_now;
+              guards = inl (bitmap_guard w.geometry under.own v.lbn (subst (λ (k : Geometry). IsBitmap k v.lbn) me.geometry b.bitmap) ∙ ap (λ (y : LockName). Some (Lock y)) (sym b.lock));
+              goes_on = goes_higher w good v.lock v.lbn;
+              cache = refl;
+            }
+
+            stays : (name : LockName) (l : ℕ) → guard_of w.geometry under.own l ≡ Some (Lock name) → IsCacheable w.geometry under.own cat l → (guard_of w.geometry drive_now.new l ≡ Some (Lock name)) × IsCacheable w.geometry drive_now.new cat l
+            stays name l a k = let z = spaces_stay w.geometry n under.own drive_now.new cat cat name l drive_now.moves refl (record { guard = a; kind = k }) in (z.guard, z.kind)
 
             stock_then : stock_now q.stock q.run ≡ left_then
             stock_then = ap (together left_then) (back_taken s.run.phase ws (t + 1) (inr h.back)) ∙ with_nothing left_then
@@ -226,5 +253,5 @@ module _ (w : Plain) (good : Good w) (n : ℕ) (s : NodeState) (at : node_at w.n
             there : record u { seen = rest; stock = left_then } ≡ under_with w.locks n q q.cmd
             there = λ i. record (at_any n s s.cmd (held_by w.locks n s)) { seen = rest; stock = sym stock_then i }
 
-      pub back_write_keeps : GoodWith (turned (space_writing s v))
+      pub back_write_keeps : GoodWith (turned (caching (cache_written w s v) (space_writing s v)))
       back_write_keeps = subst (λ (p : Phase). GoodWith (grabbed p (is_last s.run))) (sym h.back) (written_so (is_last s.run))

@@ -38,11 +38,12 @@ use Rattle.core_space.proofs.Refused.{give_looked, fill_looked}
 use Rattle.core_state.specs.Worlds.{NodeState, Plain, node_at, rows_of}
 use Rattle.core_state.specs.Asks.{is_claiming}
 use Rattle.core_state.specs.Event.{Event}
+use Rattle.core_state.specs.Event as event
 use Rattle.core_state.specs.Stocks.{roomless}
 use Rattle.core_state.specs.Searches.{begun_run, wanted_by, numbered_by, NeedsSpace, IsOff, IsGoingBack, LooksOn, WritesBack, IsServed, IsGiven, AsksShared, FillLooks, FillWrites, HasFilled, IsDraining, IsGivingBack, AsksAlone, IsLooking, IsTaking, HasTaken, Rules, Served, Given, Shared, Fills, Grabs, Filled, Drains, Alone, Looking, Taking, Taken, Refused, Spaces, Off, Back, Busy}
 use Rattle.core_state.specs.Stores.{AreKept}
 use Rattle.core_state.specs.Goods.{nodes_under, IsNode, Good}
-use Rattle.core_state.specs.Events.{mode_in, space_state, is_out, by_put, by_rule, phase_begun, may_serve, serves, space_need, gives_back_in, gives_back, by_back, happens}
+use Rattle.core_state.specs.Events.{mode_in, space_state, is_out, by_put, by_rule, phase_begun, may_serve, serves, space_need, gives_back_in, gives_back, by_back, happens, or_use}
 use Rattle.core_state.proofs.Naming.{none_of, one_of, mode_is, mode_has}
 use Rattle.core_state.proofs.Keeping.{kept_once, claims_once, kept_apart}
 use Rattle.core_state.proofs.Sweeps.{once_names}
@@ -52,7 +53,8 @@ use Rattle.core_state.proofs.Serving.{needs_now}
 use Rattle.core_state.proofs.Claiming.{mine}
 use Rattle.core_state.proofs.Claims.{shared_keeps, fill_keeps, claimed_fill_keeps, alone_keeps, last_keeps}
 use Rattle.core_state.proofs.Fillings.{fill_over}
-use Rattle.core_state.proofs.Looks.{drain_look_keeps, fill_look_keeps, last_look_keeps}
+use Rattle.core_state.proofs.Looks.{space_seen_so, drain_look_keeps, fill_look_keeps, last_look_keeps}
+use Rattle.core_state.proofs.CachedTurns.{SeesIt, space_turn}
 use Rattle.core_state.proofs.Grabs.{fill_write_keeps, drain_write_keeps, last_write_keeps}
 use Rattle.core_state.proofs.Backing.{IsDue, due_is, back_claim_keeps}
 use Rattle.core_state.proofs.Midway.{drive_so}
@@ -117,7 +119,7 @@ not_writer ls none = by_mode (mode_in V ls) refl where
 -- V is kept in NL alone
 v_not_kept : (p : Phase) (ls : Row) → AreKept p ls → Has ls (V, PW) → ⊥
 v_not_kept p ls keeps h = elim (keeps (V, PW) h) [
-  | inl e ↦ absurd (let f : PW ≡ NL = ap (λ (l : LockName × Mode). l.1) e in cc)
+  | inl e ↦ absurd (let f : PW ≡ NL = e.1 in cc)
   | inr e ↦ absurd (let f : V ≡ X = e.0 in cc)
 ]
 
@@ -159,7 +161,7 @@ module _ (w : Plain) (good : Good w) (n : ℕ) (s : NodeState) (at : node_at w.n
   x_claim mode e m h f = absurd (let z : X ≡ V = ap (λ (l : LockName × Mode). l.0) (one_of s.claims (X, mode) m e h) ∙ f in cc)
 
   abbrev GoodBy : Event → Type 0
-  GoodBy e = Good (happens w n s e)
+  GoodBy e = Good (happens w n s (or_use w s e))
 
   -- ---- a command needs space
 
@@ -206,6 +208,11 @@ module _ (w : Plain) (good : Good w) (n : ℕ) (s : NodeState) (at : node_at w.n
       by_test true e = absurd (let f : true ≡ false = sym (λ i. may i && e i) ∙ not_served in cc)
       by_test false e = e
 
+    -- a look at a block of a bitmap
+    looks_by : s.claims ≡ (V, PW) ∷ [] → (lbn : ℕ) → (lbn < length under.base) × IsBitmap g lbn × (guard_of g under.own lbn ≡ Some (Lock V)) → SeesIt w good n s lbn (λ c es reads hits. space_seen_so s k b lbn c es reads hits)
+        → GoodBy (event.SpaceLook k b lbn)
+    looks_by claims lbn its sees = space_turn w good n s at granted claims k b lbn (subst (λ (j : ℕ). lbn < j) (sym under.over.count) its.0) (subst (λ (h : Geometry). IsBitmap h lbn) me.geometry its.1) sees
+
     lies : (lbn : ℕ) → Has (places g 1 true) lbn → (lbn < length under.base) × IsBitmap g lbn × (guard_of g under.own lbn ≡ Some (Lock V))
     lies lbn h = places_lie g 1 true lbn under.base under.own good.running.cat h under.spelt
 
@@ -237,7 +244,8 @@ module _ (w : Plain) (good : Good w) (n : ℕ) (s : NodeState) (at : node_at w.n
     fills_so h =
         let l = there_is (next_fill st nd) h.more in
         subst GoodBy (sym (fill_to h.filling.fill true true None (Some l.it) (ap is_shared (mode_kept X CR h.filling.shared)) (writer_now h.filling.claims) (none_at s.run.writes s.run.made h.writes) l.is))
-        (fill_look_keeps w good n s at x cmd free no_plan granted h.filling.claims h.writes h.made l.it (lies l.it (fill_looked g (clusters_to_take k (length s.stock.clusters)) (lacks_number b s.stock.numbers) (blocks_of s.run.looked) l.it l.is)) h l.is)
+        (let its = lies l.it (fill_looked g (clusters_to_take k (length s.stock.clusters)) (lacks_number b s.stock.numbers) (blocks_of s.run.looked) l.it l.is) in
+        looks_by h.filling.claims l.it its (λ c es reads hits there store entries. fill_look_keeps w good n s at x cmd free no_plan granted h.filling.claims h.writes h.made l.it c es reads hits its there store entries h l.is))
 
     grabs_so : FillWrites x s.kept s.claims s.run s.stock s.seen → GoodBy now_by
     grabs_so h =
@@ -255,7 +263,8 @@ module _ (w : Plain) (good : Good w) (n : ℕ) (s : NodeState) (at : node_at w.n
     drains_so h = by_goes h.goes where
       by_next : (o : Option ℕ) → next_give st ≡ o → slice_get s.run.writes s.run.made ≡ None → IsGoingBack g s.stock s.run → GoodBy now_by
       by_next (Some l) e none (LooksOn more writes made) = subst GoodBy (sym (drain_to h.drain None (Some l) none e))
-          (drain_look_keeps w good n s at x cmd free no_plan granted h.claims writes made l (lies l (give_looked g s.stock.clusters s.stock.numbers s.run.looked l e)) h k b)
+          (let its = lies l (give_looked g s.stock.clusters s.stock.numbers s.run.looked l e) in
+          looks_by h.claims l its (λ c es reads hits there store entries. drain_look_keeps w good n s at x cmd free no_plan granted h.claims writes made l c es reads hits its there store entries h k b))
       by_next (Some l) e none (WritesBack back) = absurd (let f : Some l ≡ None = sym e ∙ back.all in cc)
       by_next None e none goes = subst GoodBy (sym (drain_to h.drain None None none e)) (x_keeps w good n s at on granted h.claims none e (inl h.drain) goes h.shared x cmd h)
 
@@ -283,7 +292,8 @@ module _ (w : Plain) (good : Good w) (n : ℕ) (s : NodeState) (at : node_at w.n
         let looks : answer g k b bs ≡ search.Look lbn = ap (answered lbn) h.more in
         let next : slice_get (places g k b) (length bs) ≡ Some lbn = looks_in_order g k b bs lbn looks in
         subst GoodBy (sym (last_to h.claimed_so.last true true None (search.Look lbn) (ap is_exclusive (mode_kept X EX h.claimed_so.alone)) (writer_now h.claimed_so.claims) (none_at s.run.writes s.run.made h.writes) looks))
-        (last_look_keeps w good n s at x cmd free no_plan granted h.claimed_so.claims h.writes h.made lbn (next_lies g k b (length bs) lbn under.base under.own good.running.cat next under.spelt) h next)
+        (let its = next_lies g k b (length bs) lbn under.base under.own good.running.cat next under.spelt in
+        looks_by h.claimed_so.claims lbn its (λ c es reads hits there store entries. last_look_keeps w good n s at x cmd free no_plan granted h.claimed_so.claims h.writes h.made lbn c es reads hits its there store entries h next))
 
     taking_so : IsTaking x s.kept s.claims s.run s.stock s.seen → GoodBy now_by
     taking_so h =
@@ -351,7 +361,9 @@ module _ (w : Plain) (good : Good w) (n : ℕ) (s : NodeState) (at : node_at w.n
     by_next : (o : Option ℕ) → next_give st ≡ o → slice_get s.run.writes s.run.made ≡ None → IsGoingBack g s.stock s.run → GoodBy back_now
     by_next (Some l) e none (LooksOn more writes made) =
         let at_it = places_lie g 1 true l (drive_so w good n s at).base (drive_so w good n s at).own good.running.cat (give_looked g s.stock.clusters s.stock.numbers s.run.looked l e) (drive_so w good n s at).spelt in
-        subst GoodBy (sym (back_to true None (Some l) (writer_now h.claims) none e)) (back_look_keeps w good n s at on granted h.claims h writes l at_it.0 at_it.1 0 false)
+        subst GoodBy (sym (back_to true None (Some l) (writer_now h.claims) none e))
+        (space_turn w good n s at granted h.claims 0 false l (subst (λ (j : ℕ). l < j) (sym (drive_so w good n s at).over.count) at_it.0) (subst (λ (y : Geometry). IsBitmap y l) me.geometry at_it.1)
+        (λ c es reads hits there store entries. back_look_keeps w good n s at on granted h.claims h writes l c es reads hits at_it.1 there store entries 0 false))
     by_next (Some l) e none (WritesBack back) = absurd (let f : Some l ≡ None = sym e ∙ back.all in cc)
     by_next None e none goes = subst GoodBy (sym (back_to true None None (writer_now h.claims) none e)) (return_keeps w good n s at on granted h.claims none e (inr h.back) goes h.shared h)
 

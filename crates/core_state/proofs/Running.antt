@@ -14,11 +14,12 @@ use Rattle.node_locks.proofs.Standing.{held-asked}
 use Rattle.node_locks.proofs.Keeping.{all_are_held, writers_are_sole}
 use Rattle.vol_owners.specs.Lists.{Has}
 use Rattle.vol_owners.proofs.Listing.{same_or_not, has_parted, has_first, has_second}
+use Rattle.vol_owners.specs.Owners.{Owners}
 use Rattle.vol_parts.specs.declared.geometry.Geometry.{Geometry}
 use Rattle.vol_under.specs.UnderWay.{UnderWay, changed, AreSole}
-use Rattle.vol_under.specs.Under.{IsUnder}
 use Rattle.vol_under.proofs.Nodes.{each, changed_here, changed_else}
-use Rattle.vol_under.proofs.Steps.{nodes_alike}
+use Rattle.cache_laws.specs.Committed.{IsUnderOn, of_it}
+use Rattle.cache_laws.proofs.Committed.{alike_on}
 use Rattle.op_law.specs.Laws.{held_in}
 use Rattle.core_state.specs.Worlds.{NodeState, node_at, set_node, rows_in, rows_at}
 use Rattle.core_state.specs.Stocks.{looked_now, stock_now}
@@ -82,11 +83,11 @@ under_set t t' nodes n s r at held = each (λ m v. v ≡ nodes_under t' (set_nod
       others m ne = by_node m (node_at nodes m) ne refl ∙ ap (under_by t' m) (sym (at_else nodes n m r ne))
 
 -- the drive under way where node n is now r
-pub under_now : (g : Geometry) (c : Cat) (t t' : List Resource) (nodes : List NodeState) (n : ℕ) (s r : NodeState) (drive : List Block) → node_at nodes n ≡ Some s
+pub under_now : (g : Geometry) (c : Cat) (base : List Block) (own : Owners) (t t' : List Resource) (nodes : List NodeState) (n : ℕ) (s r : NodeState) (drive : List Block) → node_at nodes n ≡ Some s
     → ((m : ℕ) (q : NodeState) → m ≢ n → node_at nodes m ≡ Some q → held_by t' m q ≡ held_by t m q)
-    → IsUnder g c (changed (nodes_under t nodes) n (under_with t' n r r.cmd)) drive → IsUnder g c (nodes_under t' (set_node nodes n r)) drive
-under_now g c t t' nodes n s r drive at held u =
-    nodes_alike g c (changed (nodes_under t nodes) n (under_with t' n r r.cmd)) (nodes_under t' (set_node nodes n r)) drive (under_set t t' nodes n s r at held) u
+    → IsUnderOn g c base own (changed (nodes_under t nodes) n (under_with t' n r r.cmd)) drive → IsUnderOn g c base own (nodes_under t' (set_node nodes n r)) drive
+under_now g c base own t t' nodes n s r drive at held u =
+    alike_on g c base own (changed (nodes_under t nodes) n (under_with t' n r r.cmd)) (nodes_under t' (set_node nodes n r)) drive (under_set t t' nodes n s r at held) u
 
 -- one that was granted more locks
 record IsGrown (u v : UnderWay) : Type 0 where
@@ -95,7 +96,7 @@ record IsGrown (u v : UnderWay) : Type 0 where
   else_same : record u { read = v.read; write = v.write } ≡ v
 
 -- and where the others have lost nothing of what they held
-module _ (g : Geometry) (d : Cat) (t after : List Resource) (nodes : List NodeState) (n : ℕ) (s r : NodeState) (drive : List Block) (at : node_at nodes n ≡ Some s)
+module _ (g : Geometry) (d : Cat) (base : List Block) (own : Owners) (t after : List Resource) (nodes : List NodeState) (n : ℕ) (s r : NodeState) (drive : List Block) (at : node_at nodes n ≡ Some s)
     (grown : (m : ℕ) (q : NodeState) (k : LockName × Mode) → m ≢ n → node_at nodes m ≡ Some q → Has (held_by t m q) k → Has (held_by after m q) k) where
   abbrev mine : UnderWay
   mine = under_with after n r r.cmd
@@ -127,9 +128,9 @@ module _ (g : Geometry) (d : Cat) (t after : List Resource) (nodes : List NodeSt
     other ne = subst (λ (v : UnderWay). IsGrown (old m) v) (sym (ap (under_by after m) (at_else nodes n m r ne)))
         (subst (λ (v : UnderWay). IsGrown v (under_by after m (node_at nodes m))) (sym (changed_else (nodes_under t nodes) n mine m ne)) (by_node m ne (node_at nodes m) refl))
 
-  pub under_grown : IsUnder g d old drive → IsUnder g d (nodes_under after (set_node nodes n r)) drive
-  under_grown u = nodes_alike g d (wider old (λ m. (new m).read) (λ m. (new m).write)) (nodes_under after (set_node nodes n r)) drive (λ m. (is_grown m).else_same)
-      (grants_keep g d old drive (λ m. (new m).read) (λ m. (new m).write) u (λ m. (is_grown m).read) (λ m. (is_grown m).write))
+  pub under_grown : IsUnderOn g d base own old drive → IsUnderOn g d base own (nodes_under after (set_node nodes n r)) drive
+  under_grown u = alike_on g d base own (wider old (λ m. (new m).read) (λ m. (new m).write)) (nodes_under after (set_node nodes n r)) drive (λ m. (is_grown m).else_same)
+      (grants_keep g d old drive (λ m. (new m).read) (λ m. (new m).write) (of_it g d base own old drive u) (λ m. (is_grown m).read) (λ m. (is_grown m).write))
 
 -- how a node of the world is under way
 pub under_here : (t : List Resource) (nodes : List NodeState) (n : ℕ) (s : NodeState) → node_at nodes n ≡ Some s → nodes_under t nodes n ≡ under_with t n s s.cmd

@@ -21,6 +21,7 @@ use Rattle.vol_owners.proofs.Listing.{has_parted}
 use Rattle.vol_under.specs.Guards.{guard_of, MayLook}
 use Rattle.vol_under.specs.UnderWay.{UnderWay, together, changed}
 use Rattle.vol_under.specs.Under.{IsUnder}
+use Rattle.cache_laws.specs.Committed.{IsUnderOn}
 use Rattle.vol_under.proofs.Guarding.{bitmap_guard}
 use Rattle.vol_under.proofs.Leaking.{number_free}
 use Rattle.vol_under.proofs.Short.{out_alike}
@@ -42,7 +43,7 @@ use Rattle.core_state.specs.Asks.{is_claiming}
 use Rattle.core_state.specs.Small.{lent, owed_in, owed}
 use Rattle.core_state.specs.Stocks.{roomless, taken_now, stock_now, looked_now}
 use Rattle.core_state.specs.Searches.{begun_run, wanted_by, numbered_by, IsOfNumber, NeedsSpace, Rules, Served, Given, Shared, Fills, Grabs, Filled, Drains, Alone, Looking, Taking, Taken, Refused, Spaces, Busy}
-use Rattle.core_state.specs.Stores.{HasNothing, IsStocked}
+use Rattle.core_state.specs.Stores.{IsKeptLow, HasNothing, IsStocked}
 use Rattle.core_state.specs.Goods.{under_with, nodes_under, IsAt, Good, held_by}
 use Rattle.core_state.specs.Events.{may_serve, serves, serving}
 use Rattle.core_state.proofs.Holding.{in_held_is, named_there}
@@ -169,7 +170,7 @@ module _ (w : Plain) (good : Good w) (n : ℕ) (s : NodeState) (at : node_at w.n
       ] where
         not_kept : (m : Mode) → Has s.kept (V, m) → rank PR ≤ rank m → ⊥
         not_kept m a strong = elim ((me w good n s at x cmd free).store.kept (V, m) a) [
-          | inl e ↦ absurd (let f : rank m ≡ rank NL = ap (λ (l : LockName × Mode). rank l.1) e in omega arith)
+          | inl e ↦ absurd (let f : rank m ≡ rank NL = ap rank e.1 in omega (arith, f, strong))
           | inr e ↦ absurd (let f : V ≡ X = e.0 in cc)
         ]
 
@@ -266,13 +267,13 @@ module _ (w : Plain) (good : Good w) (n : ℕ) (s : NodeState) (at : node_at w.n
           let had : Has (things r.seen.clusters r.seen.number).numbers (m - 1) = subst (λ (o : Option ℕ). Has (things r.seen.clusters o).numbers (m - 1)) (sym e) (inl refl) in
           ap is_new_number e ∙ is_new m (number_free s.seen.geometry under.base under.own cat n (m - 1) under.spelt ((outs_then.numbers.all (m - 1)).1 (inl had)))
 
-    given_under : IsUnder w.geometry cat (changed (nodes_under w.locks w.nodes) n (under_with w.locks n r r.cmd)) w.blocks
+    given_under : IsUnderOn w.geometry cat good.running.drive.base good.running.drive.own (changed (nodes_under w.locks w.nodes) n (under_with w.locks n r r.cmd)) w.blocks
     given_under =
         let v : UnderWay = at_locks n r x (held_by w.locks n s) in
         let there : v ≡ under_with w.locks n r r.cmd = ap (under_with w.locks n r) (sym cmd) in
         let up = becomes s.seen.geometry cat (nodes_under w.locks w.nodes) w.blocks n (at_locks n s x (held_by w.locks n s)) (here w good n s at x cmd free) under (no_writes_now w good n s at x cmd free no_plan) v (no_writes_now w good n s at x cmd free no_plan) (not_yet w good n s at x cmd free no_plan)
         outs_then (seen_now w good n s at x cmd free) (guards_now w good n s at x cmd free) in
-        subst (λ (u : UnderWay). IsUnder w.geometry cat (changed (nodes_under w.locks w.nodes) n u) w.blocks) there (back w good n s at x cmd free v w.blocks up)
+        subst (λ (u : UnderWay). IsUnderOn w.geometry cat good.running.drive.base good.running.drive.own (changed (nodes_under w.locks w.nodes) n u) w.blocks) there (back w good n s at x cmd free v w.blocks up)
 
     nothing_left : stock_now s.stock s.run ≡ nothing → HasNothing r
     nothing_left e =
@@ -319,8 +320,8 @@ module _ (w : Plain) (good : Good w) (n : ℕ) (s : NodeState) (at : node_at w.n
     enough_now = (λ i. (length_taken k s.stock.clusters count i == k) && has_number b number) ∙ ap (λ t. t && has_number b number) (same_is k) ∙ some_number b s.stock.numbers enough.1
 
     pub serve_keeps : Good (with_node w n r)
-    serve_keeps = alone w good n s at r refl (λ part o low. refl) refl given_owes given_stocked given_under
-        (is_node w good n s at x cmd free w.locks w.blocks r refl refl refl refl kept_so (me w good n s at x cmd free).rests
+    serve_keeps = alone w good n s at r refl (λ part o low. refl) refl given_owes given_stocked given_under refl (λ e h. inl h)
+        (is_node w good n s at x cmd free w.locks w.blocks r refl refl refl refl (record { kept = kept_so; few = (me w good n s at x cmd free).store.few; cache = (me w good n s at x cmd free).store.cache; guarding = (me w good n s at x cmd free).store.guarding }) (me w good n s at x cmd free).rests
         ((goes w good n s at x cmd free).given s.seen k b (take k s.stock.clusters) number now.seen is (length_taken k s.stock.clusters count) (some_number b s.stock.numbers enough.1))
         now.own (plan_stays w good n s at x cmd free w.locks r no_plan refl refl)
         (asks_then w good n s at x cmd free r no_plan refl (asks_now w good n s at x cmd free no_plan))
@@ -333,7 +334,7 @@ module _ (w : Plain) (good : Good w) (n : ℕ) (s : NodeState) (at : node_at w.n
           short = refl;
         })))
         (no_wait w good n s at x cmd free r.seen)) where
-          kept_so : (l : LockName × Mode) → Has s.kept l → (l ≡ (V, NL)) ⊎ ((l.0 ≡ X) × ((l.1 ≡ CR) ⊎ (phase.Fill ≡ phase.Last)))
+          kept_so : (l : LockName × Mode) → Has s.kept l → IsKeptLow l ⊎ ((l.0 ≡ X) × ((l.1 ≡ CR) ⊎ (phase.Fill ≡ phase.Last)))
           kept_so l h = elim ((me w good n s at x cmd free).store.kept l h) [
             | inl e ↦ inl e
             | inr e ↦ inr (e.0, elim e.1 [ inl f ↦ inl f | inr f ↦ absurd (not_last served_so.in_phase f) ])

@@ -1,6 +1,6 @@
 -- What the calls of the lock manager make of the sequences of value blocks: a request leaves each, and where locks go back no
 -- sequence is raised by more than two.
-use Rattle.std.proofs.Common.{◌≡◌, ◌≢◌, ◌≤◌, ◌<◌, ◌+◌, ◌^◌, ℕ, Bool, true, false, List, [], ◌∷◌, Option, Some, None, cond, IsSome, refl, sym, ap, subst, ◌∙◌, inl, inr, arith}
+use Rattle.std.proofs.Common.{◌≡◌, ◌≢◌, ◌≤◌, ◌<◌, ◌+◌, ◌^◌, ℕ, Bool, true, false, List, [], ◌∷◌, Option, Some, None, cond, IsSome, is_some, refl, sym, ap, subst, ◌∙◌, inl, inr, arith}
 use Rattle.std.specs.Prelude.{◌⊎◌, replicate, MatchBool}
 use Rattle.std.specs.List.{list_any}
 use Rattle.plain_cat.specs.declared.mode.Mode.{Mode}
@@ -21,7 +21,9 @@ use Rattle.lock_db.proofs.Names.{is_same-refl, is_same-same}
 use Rattle.lock_db.proofs.Blocks.{requests-keep, conversions-write, releases-write, asked-leaves, converted-leaves, released-leaves}
 use Rattle.vol_owners.specs.Lists.{Has, Once}
 use Rattle.vol_parts.specs.declared.geometry.Geometry.{Geometry}
-use Rattle.node_locks.specs.Held.{system_of, names_of}
+use Rattle.node_locks.specs.Held.{Row, system_of, names_of}
+use Rattle.node_locks.specs.PuttingBack.{Keeps, put_back, all_back, MayPutBack}
+use Rattle.node_locks.proofs.Nodes.{has_name_or_not}
 use Rattle.node_locks.specs.Taking.{has_lock, taken}
 use Rattle.node_locks.specs.Sequences.{rise, raised, first_sequence, second_sequence, raised_block}
 use Rattle.node_locks.specs.declared.sequences.Raise.{Raise}
@@ -30,6 +32,7 @@ use Rattle.op_law.specs.declared.need.PlanWrite.{PlanWrite}
 use Rattle.op_law.specs.declared.seen.Chan.{Chan}
 use Rattle.core_state.specs.Channels.{let_go, closed_off}
 use Rattle.core_state.specs.Raises.{frees, writes_first, writes_second, raise_by, raise_of}
+use Rattle.core_state.specs.Caches.{raised_values}
 use Rattle.core_state.specs.Events.{given_back}
 
 -- ---- one sequence
@@ -97,7 +100,7 @@ raise_little true wrote = omega arith
 raise_little false true = omega arith
 raise_little false false = omega arith
 
-little_raise : (g : Geometry) (name : LockName) (ws : List PlanWrite) → IsSmallRaise (raise_of g name ws)
+pub little_raise : (g : Geometry) (name : LockName) (ws : List PlanWrite) → IsSmallRaise (raise_of g name ws)
 little_raise g name ws = record {
   first = raise_little (list_any (frees g name) ws) (list_any (writes_first g name) ws);
   second = raise_little (list_any (frees g name) ws) (list_any (writes_second g name) ws);
@@ -241,7 +244,7 @@ module _ (seq : List ℕ → ℕ) (is : IsSequence seq) where
     given_else (l ∷ ls) t name none =
         given_else ls (released l.0 (system_of n) (value l.0 t) t) name (λ h. none (inr h)) ∙ released_else l.0 name (system_of n) (value l.0 t) t (λ e. none (inl (sym e)))
 
-    pub given_little : (ls : List (LockName × Mode)) (t : List Resource) → Once (names_of ls) → (name : LockName) → at name (given_back g n ws ls t) ≤ at name t + 2
+    given_little : (ls : List (LockName × Mode)) (t : List Resource) → Once (names_of ls) → (name : LockName) → at name (given_back g n ws ls t) ≤ at name t + 2
     given_little [] t once name = omega arith
     given_little (l ∷ ls) t once name =
         let u : List Resource = released l.0 (system_of n) (value l.0 t) t in
@@ -257,3 +260,58 @@ module _ (seq : List ℕ → ℕ) (is : IsSequence seq) where
               let b : at name u ≡ at name t = released_else l.0 name (system_of n) (value l.0 t) t ne in
               omega arith
         ]
+
+    -- ---- locks that are put back: given back, or lowered
+
+    by_little : (writes : Bool) (bytes : List ℕ) (old new : Resource) → MatchBool writes (BlockIs bytes true new) (BlockStays old new) → seq bytes ≤ seq old.value + 2 → seq new.value ≤ seq old.value + 2
+    by_little true bytes old new h le = subst (λ (v : List ℕ). seq v ≤ seq old.value + 2) (sym h.bytes_are) le
+    by_little false bytes old new h le = let e : seq new.value ≡ seq old.value = ap seq h.bytes in omega arith
+
+    put_back_here : (l : LockName × Mode) (o : Option Mode) (t : List Resource) → lock_of (system_of n) (resource_at l.0 t).askers ≡ Some l.1 → at l.0 (put_back n (raised_values g ws l t) l o t) ≤ at l.0 t + 2
+    put_back_here l None t lock = released_here l.0 (system_of n) (raise_of g l.0 ws) t (little_raise g l.0 ws)
+    put_back_here l (Some low) t lock =
+        let r : Resource = resource_at l.0 t in
+        by_little (conversion_writes (mode_held (system_of n) r) low) (value l.0 t) r (resource_at l.0 (converted l.0 (system_of n) low (value l.0 t) t)) (conversions-write l.0 (system_of n) low (value l.0 t) t (ap is_some lock))
+        (is.little (raise_of g l.0 ws) r (little_raise g l.0 ws))
+
+    put_back_else : (l : LockName × Mode) (o : Option Mode) (t : List Resource) (other : LockName) → other ≢ l.0 → at other (put_back n (raised_values g ws l t) l o t) ≡ at other t
+    put_back_else l None t other ne = released_else l.0 other (system_of n) (value l.0 t) t ne
+    put_back_else l (Some low) t other ne = ap (λ (r : Resource). seq r.value) (converted-leaves l.0 (system_of n) low (value l.0 t) t other ne)
+
+    module _ (keeps : Keeps) where
+      back_else : (ls : Row) (t : List Resource) (name : LockName) → (Has (names_of ls) name → ⊥) → at name (all_back n keeps (raised_values g ws) ls t) ≡ at name t
+      back_else [] t name none = refl
+      back_else (l ∷ ls) t name none = back_else ls (put_back n (raised_values g ws l t) l (keeps l) t) name (λ h. none (inr h)) ∙ put_back_else l (keeps l) t name (λ e. none (inl (sym e)))
+
+      back_little : (ls : Row) (t : List Resource) → Once (names_of ls) → MayPutBack n keeps (raised_values g ws) ls t → (name : LockName) → at name (all_back n keeps (raised_values g ws) ls t) ≤ at name t + 2
+      back_little [] t once may name = omega arith
+      back_little (l ∷ ls) t once may name =
+          let u : List Resource = put_back n (raised_values g ws l t) l (keeps l) t in
+          elim (same_name name l.0) [
+            | inl e ↦
+                subst (λ (x : LockName). at x (all_back n keeps (raised_values g ws) ls u) ≤ at x t + 2) (sym e) (
+                let a : at l.0 (all_back n keeps (raised_values g ws) ls u) ≡ at l.0 u = back_else ls u l.0 once.0 in
+                let b : at l.0 u ≤ at l.0 t + 2 = put_back_here l (keeps l) t may.0 in
+                omega arith
+                )
+            | inr ne ↦
+                let a : at name (all_back n keeps (raised_values g ws) ls u) ≤ at name u + 2 = back_little ls u once.1 may.1 name in
+                let b : at name u ≡ at name t = put_back_else l (keeps l) t name ne in
+                omega arith
+          ]
+
+      -- and behind them others that are given back
+      pub both_little : (ls gone : Row) (t : List Resource) → Once (names_of ls) → Once (names_of gone) → MayPutBack n keeps (raised_values g ws) ls t → ((name : LockName) → Has (names_of gone) name → Has (names_of ls) name → ⊥)
+          → (name : LockName) → at name (given_back g n ws gone (all_back n keeps (raised_values g ws) ls t)) ≤ at name t + 2
+      both_little ls gone t once once_gone may apart name =
+          let u : List Resource = all_back n keeps (raised_values g ws) ls t in
+          elim (has_name_or_not (names_of gone) name) [
+            | inl h ↦
+                let a : at name (given_back g n ws gone u) ≤ at name u + 2 = given_little gone u once_gone name in
+                let b : at name u ≡ at name t = back_else ls t name (apart name h) in
+                omega arith
+            | inr none ↦
+                let a : at name (given_back g n ws gone u) ≡ at name u = given_else gone u name none in
+                let b : at name u ≤ at name t + 2 = back_little ls t once may name in
+                omega arith
+          ]

@@ -20,13 +20,11 @@ use Rattle.plain_cat.specs.declared.history.Entry.{Entry}
 use Rattle.plain_cat.specs.declared.history.Entry.TheVariants.{Done}
 use Rattle.plain_cat.specs.declared.script.Script.{Script}
 use Rattle.plain_cat.specs.declared.cat.Cat.{Cat}
-use Rattle.vol_owners.specs.Lists.{Once}
 use Rattle.vol_parts.specs.declared.geometry.Geometry.{Geometry}
-use Rattle.node_locks.specs.Held.{system_of, names_of}
+use Rattle.node_locks.specs.Held.{system_of}
 use Rattle.node_locks.specs.Taking.{has_lock, taken, MayTake}
 use Rattle.node_locks.proofs.Taking.{no-lock}
 use Rattle.node_locks.specs.Sequences.{first_sequence, second_sequence}
-use Rattle.op_law.specs.declared.need.PlanWrite.{PlanWrite}
 use Rattle.op_law.specs.declared.seen.Chan.{Chan}
 use Rattle.plain_vol.specs.Own.{past}
 use Rattle.core_state.specs.Worlds.{NodeState, Plain, node_at, set_node}
@@ -37,10 +35,9 @@ use Rattle.core_state.specs.Fallen.{falls, fallen}
 use Rattle.core_state.specs.Small.{is_begun, has_command, begun_count, lent, owed_in, owed, AreSmall, GoesOn, AllGoOn}
 use Rattle.core_state.specs.Channels.{closed_off}
 use Rattle.core_state.specs.Goods.{Good}
-use Rattle.core_state.specs.Events.{given_back}
 use Rattle.core_state.specs.Mounting.{at_rest, mounted}
 use Rattle.core_state.proofs.Keeping.{altered}
-use Rattle.core_state.proofs.SmallTables.{is_first, is_second, taken_same, closed_off_little, given_little}
+use Rattle.core_state.proofs.SmallTables.{is_first, is_second, taken_same, closed_off_little}
 use Rattle.core_state.proofs.SmallCounts.{sum_set, sum_more}
 use Rattle.core_state.proofs.SmallBegun.{few_so, few_begun}
 
@@ -130,13 +127,12 @@ small_taken w small n s r at name owner mode bs some owes = small_event w small 
     (λ other. let e = taken_same second_sequence is_second name other owner mode w.locks some in omega arith)
     (omega arith) (omega (arith, owes))
 
--- it answers, and gives back its locks, each on a name of its own, and then that of its channel
-pub small_answered : (w : Plain) → AreSmall w → (n : ℕ) (s r : NodeState) → node_at w.nodes n ≡ Some s → (g : Geometry) (ws : List PlanWrite) (ls : List (LockName × Mode)) → Once (names_of ls) → (had : Option Chan) (x : Cmd) (reply : Reply) (bs : List Block)
-    → s.cmd ≡ Some x → r.cmd ≡ None
-    → AreSmall (altered w (closed_off n had x reply (given_back g n ws ls w.locks)) bs (set_node w.nodes n r) (w.history ++ Done n x reply ∷ []))
-small_answered w small n s r at g ws ls once had x reply bs has none = small_event w small n s r at (closed_off n had x reply (given_back g n ws ls w.locks)) bs (w.history ++ Done n x reply ∷ []) 2 1
-    (λ other. let a = closed_off_little first_sequence is_first n had x reply other (given_back g n ws ls w.locks) in let b = given_little first_sequence is_first g n ws ls w.locks once other in omega arith)
-    (λ other. let a = closed_off_little second_sequence is_second n had x reply other (given_back g n ws ls w.locks) in let b = given_little second_sequence is_second g n ws ls w.locks once other in omega arith)
+-- it answers, and puts back its locks, which raises no sequence by more than two, and then that of its channel
+pub small_answered : (w : Plain) → AreSmall w → (n : ℕ) (s r : NodeState) → node_at w.nodes n ≡ Some s → (mid : List Resource)
+    → ((name : LockName) → first_sequence (resource_at name mid).value ≤ first_sequence (resource_at name w.locks).value + 2) → ((name : LockName) → second_sequence (resource_at name mid).value ≤ second_sequence (resource_at name w.locks).value + 2)
+    → (had : Option Chan) (x : Cmd) (reply : Reply) (bs : List Block) → s.cmd ≡ Some x → r.cmd ≡ None → AreSmall (altered w (closed_off n had x reply mid) bs (set_node w.nodes n r) (w.history ++ Done n x reply ∷ []))
+small_answered w small n s r at mid first second had x reply bs has none = small_event w small n s r at (closed_off n had x reply mid) bs (w.history ++ Done n x reply ∷ []) 2 1
+    (λ other. let a = closed_off_little first_sequence is_first n had x reply other mid in let b = first other in omega arith) (λ other. let a = closed_off_little second_sequence is_second n had x reply other mid in let b = second other in omega arith)
     (sum_more (λ e. one (is_begun e)) w.history (Done n x reply))
     (let a = owed_busy s x has in let b = owed_idle r none in let c : one (has_command s) ≡ 1 = ap (λ (o : Option Cmd). one (is_some o)) has in let d : one (has_command r) ≡ 0 = ap (λ (o : Option Cmd). one (is_some o)) none in omega arith)
 

@@ -7,20 +7,34 @@ use Rattle.plain_cat.specs.declared.command.Cmd.{Cmd}
 use Rattle.plain_cat.specs.declared.reply.Reply.{Reply}
 use Rattle.plain_cat.specs.declared.cat.Cat.{Cat}
 use Rattle.plain_vol.specs.Answers.{Answer}
-use Rattle.vol_owners.specs.Lists.{Has, Touches, StandsIn}
-use Rattle.vol_owners.specs.Owners.{Owners, Things, Outs}
+use Rattle.vol_owners.specs.Lists.{Has, Touches, StandsIn, written}
+use Rattle.vol_owners.specs.Owners.{Owners, OwnersMove, IsSpaceMove, Things, Outs}
 use Rattle.vol_owners.proofs.Listing.{same_or_not}
 use Rattle.vol_parts.specs.declared.geometry.Geometry.{Geometry}
 use Rattle.vol_spell.specs.Spelling.{Spells}
 use Rattle.vol_under.specs.Guards.{guard_of, MayWrite, MayLook}
-use Rattle.vol_under.specs.UnderWay.{PlannedWrite, bare, UnderWay, idle, changed, AreSole}
+use Rattle.vol_under.specs.UnderWay.{PlannedWrite, bare, UnderWay, writes_to, idle, changed, AreSole}
 use Rattle.vol_under.specs.Under.{IsLawful, IsUnder}
 use Rattle.vol_under.specs.Answering.{IsReply}
 use Rattle.vol_under.specs.Keeping.{Refills, IsBitmap}
-use Rattle.vol_under.proofs.Nodes.{each, changed_here, changed_else}
-use Rattle.vol_under.proofs.Steps.{nodes_alike, plan_keeps, grant_keeps, write_keeps, bits_keep}
-use Rattle.vol_under.proofs.Endings.{answer_keeps}
-use Rattle.core_state.proofs.Driving.{quiet_keeps, looked_stands}
+use Rattle.vol_under.proofs.Nodes.{each, changed_here, changed_else, done_in, no_writes}
+use Rattle.vol_under.proofs.Guarding.{wider_write, wider_look}
+use Rattle.cache_laws.specs.Committed.{IsUnderOn, on_its_own, of_it}
+use Rattle.cache_laws.proofs.Committed.{alike_on, write_on, plan_on, locks_on, answer_on, bits_keep_on}
+use Rattle.core_state.proofs.Driving.{quiet_keeps, looked_stands, lawful_wider}
+
+-- what a node's answer leaves: its writes are committed
+pub record AnswersBy (g : Geometry) (c : Cat) (base : List Block) (nodes : ℕ → UnderWay) (drive : List Block) (n : ℕ) (u : UnderWay) (x : Cmd) (r : Reply) : Type 0 where
+  pub cat : Cat
+  pub new : Owners
+  pub answer : Answer c n x r cat
+  pub under : IsUnderOn g cat (written (writes_to u.done u) base) new (changed nodes n (idle u)) drive
+
+-- what a write of a bitmap leaves: it is committed
+pub record BitsBy (g : Geometry) (c : Cat) (base : List Block) (own : Owners) (nodes : ℕ → UnderWay) (drive : List Block) (n : ℕ) (u : UnderWay) (l : ℕ) (b : Block) (stock : Things) : Type 0 where
+  pub new : Owners
+  pub moves : OwnersMove (IsSpaceMove n) own new
+  pub under : IsUnderOn g c (slice_set base l b) new (changed nodes n (record u { stock = stock })) (slice_set drive l b)
 
 module _ (g : Geometry) (c : Cat) (nodes : ℕ → UnderWay) (drive : List Block) (n : ℕ) (u : UnderWay) (is : nodes n ≡ u) (under : IsUnder g c nodes drive) where
   pub its_outs : Outs n under.own u.took u.stock
@@ -33,7 +47,7 @@ module _ (g : Geometry) (c : Cat) (nodes : ℕ → UnderWay) (drive : List Block
   its_guards = subst (λ (v : UnderWay). (l : ℕ) → Touches v.seen l → MayLook v.read (guard_of g under.own l)) is (under.seen_guarded n)
 
   -- without a plan it comes to stand otherwise
-  pub becomes : u.plan ≡ [] → (v : UnderWay) → v.plan ≡ [] → v.done ≡ 0 → Outs n under.own v.took v.stock → StandsIn under.base v.seen → ((l : ℕ) → Touches v.seen l → MayLook v.read (guard_of g under.own l)) → IsUnder g c (changed nodes n v) drive
+  pub becomes : u.plan ≡ [] → (v : UnderWay) → v.plan ≡ [] → v.done ≡ 0 → Outs n under.own v.took v.stock → StandsIn under.base v.seen → ((l : ℕ) → Touches v.seen l → MayLook v.read (guard_of g under.own l)) → IsUnderOn g c under.base under.own (changed nodes n v) drive
   becomes no_plan v none done outs stands guarded = quiet_keeps g c nodes drive n v under (ap (λ (z : UnderWay). z.plan) is ∙ no_plan) none done outs stands guarded
 
   -- what it may look at is committed
@@ -41,53 +55,60 @@ module _ (g : Geometry) (c : Cat) (nodes : ℕ → UnderWay) (drive : List Block
   is_committed sole no_plan l may =
       looked_stands g c nodes drive n l sole under (ap (λ (z : UnderWay). z.plan) is ∙ no_plan) (subst (λ (v : UnderWay). MayLook v.read (guard_of g under.own l)) (sym is) may)
 
+  abbrev on : IsUnderOn g c under.base under.own nodes drive
+  on = on_its_own g c nodes drive under
+
   -- What it knows and its plan become others, of which the writes that are made are the first too.
   pub replans : (know : Cat → Bool) (plan : List PlannedWrite) → take u.done plan ≡ take u.done u.plan → u.done ≤ length plan → IsLawful g n (record u { knows = know; plan = plan })
       → ((base : List Block) (own : Owners) → Spells g base own c → StandsIn base u.seen → Outs n own u.took u.stock → (l : ℕ) → Touches (bare plan) l → MayWrite n u.write (guard_of g own l))
-      → IsUnder g c (changed nodes n (record u { knows = know; plan = plan })) drive
+      → IsUnderOn g c under.base under.own (changed nodes n (record u { knows = know; plan = plan })) drive
   replans know plan same le law guarded =
-      let Q : UnderWay → Type 0 = λ v. IsUnder g c (changed nodes n (record v { knows = know; plan = plan; took = u.took; stock = u.stock })) drive in
-      let R : UnderWay → Type 0 = λ v. IsLawful g n (record v { knows = know; plan = plan; took = u.took; stock = u.stock }) in
-      subst Q is (plan_keeps g c nodes drive n know plan u.took u.stock under (subst (λ (v : UnderWay). take v.done plan ≡ take v.done v.plan) (sym is) same) (subst (λ (v : UnderWay). v.done ≤ length plan) (sym is) le) (subst R (sym is) law)
-      (λ own o. subst (λ (v : UnderWay). Outs n own v.took v.stock) is o)
-      (λ base own spelt stands o l t. subst (λ (v : UnderWay). MayWrite n v.write (guard_of g own l)) (sym is) (guarded base own spelt (subst (λ (v : UnderWay). StandsIn base v.seen) is stands) o l t)))
+      let P : UnderWay → Type 0 = λ v. take v.done plan ≡ take v.done v.plan → v.done ≤ length plan → IsLawful g n (record v { knows = know; plan = plan; took = u.took; stock = u.stock }) → Outs n under.own u.took u.stock
+      → ((l : ℕ) → Touches (bare plan) l → MayWrite n v.write (guard_of g under.own l)) → IsUnderOn g c under.base under.own (changed nodes n (record v { knows = know; plan = plan; took = u.took; stock = u.stock })) drive in
+      subst P is (λ a b d e f. plan_on g c under.base under.own nodes drive n know plan u.took u.stock on a b d e f) same le law its_outs (guarded under.base under.own under.spelt its_seen its_outs)
 
   -- it decides on writes
   pub decides : u.plan ≡ [] → u.done ≡ 0 → (plan : List PlannedWrite) → IsLawful g n (record u { plan = plan })
       → ((base : List Block) (own : Owners) → Spells g base own c → StandsIn base u.seen → Outs n own u.took u.stock → (l : ℕ) → Touches (bare plan) l → MayWrite n u.write (guard_of g own l))
-      → IsUnder g c (changed nodes n (record u { plan = plan })) drive
+      → IsUnderOn g c under.base under.own (changed nodes n (record u { plan = plan })) drive
   decides no_plan none_done plan law guarded = replans u.knows plan (subst (λ (k : ℕ). take k plan ≡ take k u.plan) (sym none_done) refl) (subst (λ (k : ℕ). k ≤ length plan) (sym none_done) (omega arith)) law guarded
 
   -- it is granted more locks
   pub widens : (read write : List LockName) → ((name : LockName) → Has u.read name → Has read name) → ((name : LockName) → Has u.write name → Has write name)
-      → IsUnder g c (changed nodes n (record u { read = read; write = write })) drive
+      → IsUnderOn g c under.base under.own (changed nodes n (record u { read = read; write = write })) drive
   widens read write reads writes =
-      let Q : UnderWay → Type 0 = λ v. IsUnder g c (changed nodes n (record v { read = read; write = write })) drive in
-      subst Q is (grant_keeps g c nodes drive n read write under (λ name h. reads name (subst (λ (v : UnderWay). Has v.read name) is h)) (λ name h. writes name (subst (λ (v : UnderWay). Has v.write name) is h)))
+      let P : UnderWay → Type 0 = λ v. ((name : LockName) → Has v.read name → Has read name) → ((name : LockName) → Has v.write name → Has write name) → IsLawful g n v
+      → ((l : ℕ) → Touches (bare v.plan) l → MayWrite n v.write (guard_of g under.own l)) → ((l : ℕ) → Touches v.seen l → MayLook v.read (guard_of g under.own l))
+      → IsUnderOn g c under.base under.own (changed nodes n (record v { read = read; write = write })) drive in
+      subst P is (λ a b law f h. locks_on g c under.base under.own nodes drive n read write on (lawful_wider g n (nodes n) read write b law)
+      (λ l t. wider_write n (nodes n).write write b (guard_of g under.own l) (f l t)) (λ l t. wider_look (nodes n).read read a (guard_of g under.own l) (h l t)))
+      reads writes (subst (λ (v : UnderWay). IsLawful g n v) is (under.lawful n))
+      (subst (λ (v : UnderWay). (l : ℕ) → Touches (bare v.plan) l → MayWrite n v.write (guard_of g under.own l)) is (under.plan_guarded n)) its_guards
 
   -- it makes the next write of its plan
-  pub writes : AreSole nodes → (v : PlannedWrite) → slice_get u.plan u.done ≡ Some v → IsUnder g c (changed nodes n (record u { done = u.done + 1 })) (slice_set drive v.lbn v.block)
+  pub writes : AreSole nodes → (v : PlannedWrite) → slice_get u.plan u.done ≡ Some v → IsUnderOn g c under.base under.own (changed nodes n (record u { done = u.done + 1 })) (slice_set drive v.lbn v.block)
   writes sole v at =
-      let P : UnderWay → Type 0 = λ q. IsUnder g c (changed nodes n (record q { done = q.done + 1 })) (slice_set drive v.lbn v.block) in
-      subst P is (write_keeps g c nodes drive n v sole under (subst (λ (q : UnderWay). slice_get q.plan q.done ≡ Some v) (sym is) at))
+      let P : UnderWay → Type 0 = λ q. slice_get q.plan q.done ≡ Some v → IsUnderOn g c under.base under.own (changed nodes n (record q { done = q.done + 1 })) (slice_set drive v.lbn v.block) in
+      subst P is (λ a. write_on g c under.base under.own nodes drive n v sole on a) at
 
   -- it answers
-  pub answers : AreSole nodes → (x : Cmd) (r : Reply) → u.knows c ≡ true → u.done ≡ length u.plan → IsReply g n u x r
-      → (d : Cat) × Answer c n x r d × IsUnder g d (changed nodes n (idle u)) drive
+  pub answers : AreSole nodes → (x : Cmd) (r : Reply) → u.knows c ≡ true → u.done ≡ length u.plan → IsReply g n u x r → AnswersBy g c under.base nodes drive n u x r
   answers sole x r known done reply =
-      let P : UnderWay → Type 0 = λ v. (d : Cat) × Answer c n x r d × IsUnder g d (changed nodes n (idle v)) drive in
-      subst P is (answer_keeps g c nodes drive n x r sole under (subst (λ (v : UnderWay). v.knows c ≡ true) (sym is) known)
-      (subst (λ (v : UnderWay). v.done ≡ length v.plan) (sym is) done) (subst (λ (v : UnderWay). IsReply g n v x r) (sym is) reply))
+      let P : UnderWay → Type 0 = λ v. v.knows c ≡ true → v.done ≡ length v.plan → IsReply g n v x r → AnswersBy g c under.base nodes drive n v x r in
+      subst P is (λ a b d. let h = answer_on g c under.base under.own nodes drive n x r sole on a b d in record { cat = h.cat; new = h.new; answer = h.answer; under = h.under }) known done reply
 
   -- it writes to a bitmap, at a block that it has not seen
   pub refills : AreSole nodes → u.plan ≡ [] → (l : ℕ) (old b : Block) (stock : Things) → IsBitmap g l → Has u.write V → (Touches u.seen l → ⊥) → slice_get drive l ≡ Some old
       → ((base : List Block) (own : Owners) → Spells g base own c → Outs n own u.took u.stock → slice_get base l ≡ Some old → Refills g n u.took stock l b base own c)
-      → IsUnder g c (changed nodes n (record u { stock = stock })) (slice_set drive l b)
+      → BitsBy g c under.base under.own nodes drive n u l b stock
   refills sole no_plan l old b stock bitmap holds unseen at refill =
       let P : UnderWay → Type 0 = λ v. v.plan ≡ [] → Has v.write V → (Touches v.seen l → ⊥)
       → ((base : List Block) (own : Owners) → Spells g base own c → Outs n own v.took v.stock → slice_get base l ≡ Some old → Refills g n v.took stock l b base own c)
-      → IsUnder g c (changed nodes n (record v { stock = stock })) (slice_set drive l b) in
-      subst P is (λ p h s r. bits_keep g c nodes drive n l old b stock sole under p bitmap h s at r) no_plan holds unseen refill
+      → BitsBy g c under.base under.own nodes drive n v l b stock in
+      subst P is (λ p h s r.
+      let k = bits_keep_on g c under.base under.own nodes drive n l old b stock sole on (λ t. no_writes (nodes n) l p (done_in (nodes n) l t)) bitmap h s at (r under.base under.own under.spelt (under.outs n))
+      (λ base own spelt stands outs j t. absurd (no_writes (nodes n) j p t)) in
+      record { new = k.new; moves = k.moves; under = k.under }) no_plan holds unseen refill
 
 -- ---- a write of a search
 
@@ -109,25 +130,36 @@ module _ (g : Geometry) (c : Cat) (nodes : ℕ → UnderWay) (drive : List Block
   pub replans_wider : (know : Cat → Bool) (plan : List PlannedWrite) (read write : List LockName) → ((name : LockName) → Has u.read name → Has read name) → ((name : LockName) → Has u.write name → Has write name)
       → take u.done plan ≡ take u.done u.plan → u.done ≤ length plan → IsLawful g n (record u { knows = know; plan = plan })
       → ((base : List Block) (own : Owners) → Spells g base own c → StandsIn base u.seen → Outs n own u.took u.stock → (l : ℕ) → Touches (bare plan) l → MayWrite n u.write (guard_of g own l))
-      → IsUnder g c (changed nodes n (record u { knows = know; plan = plan; read = read; write = write })) drive
+      → IsUnderOn g c under.base under.own (changed nodes n (record u { knows = know; plan = plan; read = read; write = write })) drive
   replans_wider know plan read write reads writes_too same le law guarded =
       let a : UnderWay = record u { knows = know; plan = plan } in
       let b : UnderWay = record u { knows = know; plan = plan; read = read; write = write } in
-      let two : IsUnder g c (changed (changed nodes n a) n b) drive
-      = widens g c (changed nodes n a) drive n a (changed_here nodes n a) (replans g c nodes drive n u is under know plan same le law guarded) read write reads writes_too in
-      nodes_alike g c (changed (changed nodes n a) n b) (changed nodes n b) drive (λ m. changed_twice nodes n a b m) two
+      let one : IsUnder g c (changed nodes n a) drive = of_it g c under.base under.own (changed nodes n a) drive (replans g c nodes drive n u is under know plan same le law guarded) in
+      let two : IsUnderOn g c under.base under.own (changed (changed nodes n a) n b) drive = widens g c (changed nodes n a) drive n a (changed_here nodes n a) one read write reads writes_too in
+      alike_on g c under.base under.own (changed (changed nodes n a) n b) (changed nodes n b) drive (λ m. changed_twice nodes n a b m) two
 
   -- it answers, by more than it knew when it decided
   pub answers_by : AreSole nodes → (know : Cat → Bool) → IsLawful g n (record u { knows = know })
       → ((base : List Block) (own : Owners) → Spells g base own c → StandsIn base u.seen → Outs n own u.took u.stock → (l : ℕ) → Touches (bare u.plan) l → MayWrite n u.write (guard_of g own l))
-      → (x : Cmd) (r : Reply) → know c ≡ true → u.done ≡ length u.plan → IsReply g n (record u { knows = know }) x r → (d : Cat) × Answer c n x r d × IsUnder g d (changed nodes n (idle u)) drive
+      → (x : Cmd) (r : Reply) → know c ≡ true → u.done ≡ length u.plan → IsReply g n (record u { knows = know }) x r → AnswersBy g c under.base nodes drive n u x r
   answers_by sole know law guarded x r known done reply =
       let a : UnderWay = record u { knows = know } in
-      let one : IsUnder g c (changed nodes n a) drive = replans g c nodes drive n u is under know u.plan refl (omega (arith, done)) law guarded in
+      let one : IsUnder g c (changed nodes n a) drive = of_it g c under.base under.own (changed nodes n a) drive (replans g c nodes drive n u is under know u.plan refl (omega (arith, done)) law guarded) in
       let same_read = each (λ m (v : UnderWay). v.read ≡ (nodes m).read) nodes n a (sym (ap (λ (v : UnderWay). v.read) is)) (λ m ne. refl) in
       let same_write = each (λ m (v : UnderWay). v.write ≡ (nodes m).write) nodes n a (sym (ap (λ (v : UnderWay). v.write) is)) (λ m ne. refl) in
       let two = answers g c (changed nodes n a) drive n a (changed_here nodes n a) one (still_sole nodes (changed nodes n a) same_read same_write sole) x r known done reply in
-      (two.0, two.1, nodes_alike g two.0 (changed (changed nodes n a) n (idle a)) (changed nodes n (idle u)) drive (λ m. changed_twice nodes n a (idle u) m) two.2)
+      record {
+        cat = two.cat;
+        new = two.new;
+        answer = two.answer;
+        under = alike_on g two.cat (written (writes_to u.done u) under.base) two.new (changed (changed nodes n a) n (idle a)) (changed nodes n (idle u)) drive (λ m. changed_twice nodes n a (idle u) m) two.under;
+      }
+
+-- what such a write leaves, where the nodes are these then
+pub record GrabsBy (g : Geometry) (c : Cat) (base : List Block) (own : Owners) (nodes : ℕ → UnderWay) (drive : List Block) (n l : ℕ) (b : Block) : Type 0 where
+  pub new : Owners
+  pub moves : OwnersMove (IsSpaceMove n) own new
+  pub under : IsUnderOn g c (slice_set base l b) new nodes (slice_set drive l b)
 
 -- Node n, which stands as u and has no plan, writes to a block of a bitmap that it has looked at: of what it has seen these
 -- remain, and what the write takes is its stock, or its command's.
@@ -135,21 +167,25 @@ pub grabs : (g : Geometry) (c : Cat) (nodes : ℕ → UnderWay) (drive : List Bl
     → (l : ℕ) (old b : Block) (rest : List (ℕ × Block)) (stock : Things) → IsBitmap g l → Has u.write V → (Touches rest l → ⊥) → StandsIn under.base rest → ((k : ℕ) → Touches rest k → MayLook u.read (guard_of g under.own k)) → slice_get drive l ≡ Some old
     → ((base : List Block) (own : Owners) → Spells g base own c → Outs n own u.took u.stock → slice_get base l ≡ Some old → Refills g n u.took stock l b base own c)
     → (knows : Cat → Bool) (took left : Things) → ((own : Owners) → Outs n own u.took stock → Outs n own took left)
-    → IsUnder g c (changed nodes n (record u { seen = rest; knows = knows; took = took; stock = left })) (slice_set drive l b)
+    → GrabsBy g c under.base under.own (changed nodes n (record u { seen = rest; knows = knows; took = took; stock = left })) drive n l b
 grabs g c nodes drive n u is under sole no_plan no_done l old b rest stock bitmap holds unseen stands guarded at refill knows took left goes =
     let a : UnderWay = record u { seen = rest } in
-    let one : IsUnder g c (changed nodes n a) drive = becomes g c nodes drive n u is under no_plan a no_plan no_done (its_outs g c nodes drive n u is under) stands guarded in
+    let one : IsUnder g c (changed nodes n a) drive = of_it g c under.base under.own (changed nodes n a) drive (becomes g c nodes drive n u is under no_plan a no_plan no_done (its_outs g c nodes drive n u is under) stands guarded) in
     let same_read = each (λ m (v : UnderWay). v.read ≡ (nodes m).read) nodes n a (sym (ap (λ (v : UnderWay). v.read) is)) (λ m ne. refl) in
     let same_write = each (λ m (v : UnderWay). v.write ≡ (nodes m).write) nodes n a (sym (ap (λ (v : UnderWay). v.write) is)) (λ m ne. refl) in
     let b1 : UnderWay = record u { seen = rest; stock = stock } in
-    let two : IsUnder g c (changed (changed nodes n a) n b1) (slice_set drive l b)
-    = refills g c (changed nodes n a) drive n a (changed_here nodes n a) one (still_sole nodes (changed nodes n a) same_read same_write sole) no_plan l old b stock bitmap holds unseen at refill in
+    let two = refills g c (changed nodes n a) drive n a (changed_here nodes n a) one (still_sole nodes (changed nodes n a) same_read same_write sole) no_plan l old b stock bitmap holds unseen at refill in
+    let moved : IsUnder g c (changed (changed nodes n a) n b1) (slice_set drive l b) = of_it g c (slice_set under.base l b) two.new (changed (changed nodes n a) n b1) (slice_set drive l b) two.under in
     let v : UnderWay = record u { seen = rest; knows = knows; took = took; stock = left } in
     let here = changed_here (changed nodes n a) n b1 in
-    let three : IsUnder g c (changed (changed (changed nodes n a) n b1) n v) (slice_set drive l b)
-    = becomes g c (changed (changed nodes n a) n b1) (slice_set drive l b) n b1 here two no_plan v no_plan no_done
-    (goes two.own (its_outs g c (changed (changed nodes n a) n b1) (slice_set drive l b) n b1 here two))
-    (its_seen g c (changed (changed nodes n a) n b1) (slice_set drive l b) n b1 here two)
-    (its_guards g c (changed (changed nodes n a) n b1) (slice_set drive l b) n b1 here two) in
-    nodes_alike g c (changed (changed (changed nodes n a) n b1) n v) (changed nodes n v) (slice_set drive l b)
-    (λ m. changed_twice (changed nodes n a) n b1 v m ∙ changed_twice nodes n a v m) three
+    let three : IsUnderOn g c (slice_set under.base l b) two.new (changed (changed (changed nodes n a) n b1) n v) (slice_set drive l b)
+    = becomes g c (changed (changed nodes n a) n b1) (slice_set drive l b) n b1 here moved no_plan v no_plan no_done
+    (goes two.new (its_outs g c (changed (changed nodes n a) n b1) (slice_set drive l b) n b1 here moved))
+    (its_seen g c (changed (changed nodes n a) n b1) (slice_set drive l b) n b1 here moved)
+    (its_guards g c (changed (changed nodes n a) n b1) (slice_set drive l b) n b1 here moved) in
+    record {
+      new = two.new;
+      moves = two.moves;
+      under = alike_on g c (slice_set under.base l b) two.new (changed (changed (changed nodes n a) n b1) n v) (changed nodes n v) (slice_set drive l b)
+          (λ m. changed_twice (changed nodes n a) n b1 v m ∙ changed_twice nodes n a v m) three;
+    }

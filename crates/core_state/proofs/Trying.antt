@@ -35,7 +35,7 @@ use Rattle.vol_owners.proofs.Listing.{same_or_not}
 use Rattle.vol_owners.proofs.Writing.{stands_joined}
 use Rattle.vol_under.specs.Guards.{guard_of}
 use Rattle.vol_under.specs.UnderWay.{UnderWay, changed}
-use Rattle.vol_under.specs.Under.{IsUnder}
+use Rattle.cache_laws.specs.Committed.{IsUnderOn}
 use Rattle.vol_under.proofs.Guarding.{wider_write}
 use Rattle.op_law.specs.declared.need.Ask.{Ask as PlanAsk}
 use Rattle.op_law.specs.declared.need.Plan.{Plan}
@@ -44,10 +44,11 @@ use Rattle.op_law.specs.declared.seen.Seen.{Seen}
 use Rattle.op_law.specs.declared.seen.Chan.{Chan}
 use Rattle.op_law.specs.Knows.{channel_of, asking_part, has_channel, knows, is_granted}
 use Rattle.op_law.specs.Laws.{held_in, planned, under_way, IsAsk, IsPlan}
+use Rattle.core_space.specs.declared.run.Phase.TheVariants as phase
 use Rattle.core_state.specs.Worlds.{NodeState, Plain, node_at, set_node, rows_of, rows_in, rows_at}
 use Rattle.core_state.specs.Asks.{writes_by, writes_now, granted_by, granted_ask, asker_of, own_of, own_ask, lock_of_ask, with_ask, known_with, knows_now}
 use Rattle.core_state.specs.Opens.{is_channel, open_of, open_asked, open_with, asked_in, asked_at, open_now, open_stands, AreOpensLocked}
-use Rattle.core_state.specs.Stores.{AreKept}
+use Rattle.core_state.specs.Stores.{AreKept, guards_blocks, hold_writes}
 use Rattle.core_state.specs.Channels.{names_in_form, channel_seen, channel_now, HasOpens}
 use Rattle.core_state.specs.Stocks.{stock_now, looked_now}
 use Rattle.core_state.specs.Goods.{under_with, nodes_under, IsAtPlan, IsAt, HasCommand, Good, held_by}
@@ -60,14 +61,15 @@ use Rattle.core_state.proofs.Channels.{closed_at, open_at, channel_from, channel
 use Rattle.core_state.proofs.Ends.{HasShape, shape, AsksAs, EndsSo, ends_whole, ends_refused, AsksToOpen, AsksToClose, asks_by_channel}
 use Rattle.core_state.proofs.Switching.{AsksAlike, own_with, with_else, with_here, channel_test, far_part}
 use Rattle.core_state.proofs.Driving.{law_grows}
-use Rattle.core_state.proofs.Running.{all_asked, at_locks, under_here, under_now}
+use Rattle.core_state.proofs.Running.{all_asked, at_locks, under_here, under_now, are_sole}
+use Rattle.core_state.proofs.CachedTakes.{taken_stays, taken_elsewhere, IsTakenIn, taken_writes, taken_cached}
 use Rattle.core_state.proofs.Taking.{replans_wider}
 use Rattle.core_state.proofs.SmallWorlds.{owes_so, small_taken, lock_there as system_lock}
 use Rattle.core_state.proofs.Keeping.{altered, still_driven, IsDriven, rebuilt, held_set, held_same, row_of_name, kept_named}
 use Rattle.core_state.proofs.Rows.{IsAskedLast, asks_last}
 use Rattle.core_state.proofs.Beginning.{stays_stocked}
 use Rattle.core_state.proofs.Standing.{locks_within, IsAskOf, asks_open, asked_last, claims_are}
-use Rattle.core_state.proofs.Turning.{my_sole, under_command, here, drive, back, known, is_node, writes_more, made_of, space_now, stocked_now, goes_still as row_goes, taken_first, within_first}
+use Rattle.core_state.proofs.Turning.{my_sole, under_command, here, drive, back, known, is_node, writes_more, made_of, space_now, stocked_now, goes_still as row_goes, taken_first, taken_first_of, within_first, named_still, guarding_of}
 use Rattle.core_state.proofs.Answering.{node_number, answers_keep}
 
 both : (a b : Bool) → a ≡ true → b ≡ true → (a && b) ≡ true
@@ -299,7 +301,7 @@ module _ (w : Plain) (good : Good w) (n : ℕ) (s : NodeState) (at : node_at w.n
       not_kept : (q : NodeState) → AreKept q.run.phase q.kept → Has (names_of q.kept) (A a.file) → ⊥
       not_kept q keeps k =
           let l = named_by q.kept (A a.file) k in
-          elim (keeps (A a.file, l.0) l.1) [ inl f ↦ absurd (let z : A a.file ≡ V = ap (λ (y : LockName × Mode). y.0) f in cc) | inr f ↦ absurd (let z : A a.file ≡ X = f.0 in cc) ]
+          elim (keeps (A a.file, l.0) l.1) [ inl f ↦ absurd (let z : false ≡ true = f.0 in cc) | inr f ↦ absurd (let z : A a.file ≡ X = f.0 in cc) ]
 
       not_claimed : (q : NodeState) → node_at w.nodes m ≡ Some q → Has (names_of q.claims) (A a.file) → ⊥
       not_claimed q e k =
@@ -450,13 +452,18 @@ module _ (w : Plain) (good : Good w) (n : ℕ) (s : NodeState) (at : node_at w.n
   no_own_yet : s.tried ≡ false → own_ask s.tried s.plan ≡ None
   no_own_yet not_yet = (λ i. own_ask (not_yet i) (plan i))
 
+  -- it has written what it had written
+  wrote : s.tried ≡ false → take s.run.made s.run.writes ++ take s.done (writes_now true s.plan) ≡ hold_writes s
+  wrote not_yet = ap (λ (zs : List PlanWrite). take s.run.made s.run.writes ++ zs)
+      (ap (λ (zs : List PlanWrite). take s.done zs) (sym all_writes_then) ∙ taken_first_of s.done a.at p.writes (first_part not_yet) ∙ ap (λ (zs : List PlanWrite). take s.done zs) (sym (first_writes not_yet)))
+
   -- the drive with the whole plan, whatever more the node holds then
   module _ (t : List Resource) (more_asked : List (LockName × Mode)) where
     abbrev r : NodeState
     r = turned (record s { asked = more_asked; tried = true })
 
     wider_drive : s.tried ≡ false → is_granted n a cat ≡ true → ((l : LockName × Mode) → rank CR ≤ rank l.1 → Has (held_by w.locks n s) l → Has (held_by t n r) l)
-        → IsUnder w.geometry cat (changed (nodes_under w.locks w.nodes) n (under_with t n r r.cmd)) w.blocks
+        → IsUnderOn w.geometry cat good.running.drive.base good.running.drive.own (changed (nodes_under w.locks w.nodes) n (under_with t n r r.cmd)) w.blocks
     wider_drive not_yet granted grows =
         let u : UnderWay = at_locks n s x (held_by w.locks n s) in
         let ls : Row = held_by t n r in
@@ -470,7 +477,7 @@ module _ (w : Plain) (good : Good w) (n : ℕ) (s : NodeState) (at : node_at w.n
         (law.1.guarded base own cat stock spelt (both (knows n x s.seen cat) _ (known w good n s at x cmd free) granted) ((stands_joined base left s.seen.blocks).0 stands).1 outs l h)) in
         let there : record u { knows = know; plan = map planned p.writes; read = held_in PR ls; write = held_in PW ls } ≡ under_with t n r r.cmd
         = (λ i. record (at_locks n r x ls) { knows = λ c. all_known_then c i; plan = map planned (all_writes_then i) }) ∙ ap (under_with t n r) (sym cmd) in
-        subst (λ (z : UnderWay). IsUnder w.geometry cat (changed (nodes_under w.locks w.nodes) n z) w.blocks) there
+        subst (λ (z : UnderWay). IsUnderOn w.geometry cat good.running.drive.base good.running.drive.own (changed (nodes_under w.locks w.nodes) n z) w.blocks) there
         (back w good n s at x cmd free (record u { knows = know; plan = map planned p.writes; read = held_in PR ls; write = held_in PW ls }) w.blocks v)
 
   -- ---- by the file system: its lock is the last of the command's
@@ -531,19 +538,35 @@ module _ (w : Plain) (good : Good w) (n : ℕ) (s : NodeState) (at : node_at w.n
         free_then : waits_at t n more ≡ false
         free_then = it.waits ∙ ap not go_now
 
-        under_then : IsUnder w.geometry cat (changed (nodes_under w.locks w.nodes) n (under_with t n q q.cmd)) w.blocks
+        takes : IsTakenIn w n s q t
+        takes = record {
+          at = at;
+          strong = λ l le h. subst (λ (ls : Row). Has (all_held t n (rows_then ls)) l) bare (it.took.strong l le h);
+          others = λ m y off e. rows_stand_still w.locks t m (rows_of y) (λ ls i. it.took.others m ls off);
+          stays = λ other guards. taken_stays n (A a.file) other a.mode w.locks it.took.may;
+          named = named_still s q (A a.file) a.mode (sym bare) refl refl;
+          same = wrote not_yet;
+          cache = refl;
+        }
+
+        held_then : AreHeld t (rows_at (set_node w.nodes n q))
+        held_then = held_set t w.nodes n s q at (subst (λ (ls : Row). AreHeld t (with_rows (rows_at w.nodes) n (rows_then ls))) bare it.took.held)
+
+        under_then : IsUnderOn w.geometry cat good.running.drive.base good.running.drive.own (changed (nodes_under w.locks w.nodes) n (under_with t n q q.cmd)) w.blocks
         under_then = wider_drive t more not_yet (sym (asks_exactly not_yet) ∙ goes) (λ l le h. subst (λ (ls : Row). Has (all_held t n (rows_then ls)) l) bare (it.took.strong l le h))
 
         all : Good (altered w t w.blocks (set_node w.nodes n q) w.history)
         all = rebuilt w good n s q at t w.blocks w.history
-            (still_driven w good n s q at t w.blocks alike refl
-            (under_now w.geometry cat w.locks t w.nodes n s q w.blocks at (λ m y ne e. rows_stand_still w.locks t m (rows_of y) (λ ls i. it.took.others m ls ne)) under_then)
-            (subst (λ (u : List Resource). AreOpensLocked u (open_now cat w.nodes)) (sym asks_it) (opens_asked (A a.file) n a.mode w.locks (open_now cat w.nodes) good.running.opens)))
-            (it.took.table, held_set t w.nodes n s q at (subst (λ (ls : Row). AreHeld t (with_rows (rows_at w.nodes) n (rows_then ls))) bare it.took.held)) good.own
+            (still_driven w good n s q at t w.blocks alike refl good.running.drive.base good.running.drive.own
+            (under_now w.geometry cat good.running.drive.base good.running.drive.own w.locks t w.nodes n s q w.blocks at (λ m y ne e. rows_stand_still w.locks t m (rows_of y) (λ ls i. it.took.others m ls ne)) under_then)
+            (subst (λ (u : List Resource). AreOpensLocked u (open_now cat w.nodes)) (sym asks_it) (opens_asked (A a.file) n a.mode w.locks (open_now cat w.nodes) good.running.opens))
+            (taken_cached w (my_sole w good n s at x cmd free) good.writers n s q t takes (are_sole t (set_node w.nodes n q) it.took.table held_then) (guarding_of w good) good.running.drive.own cat good.running.cached))
+            (it.took.table, held_then) good.own
             (small_taken w good.small n s q at (A a.file) (system_of n) a.mode w.blocks (system_lock w.locks n (A a.file) it.took.may) (owes_so s q refl refl refl refl)) (good.few n) (λ m ne. refl)
             (λ m y ne e ls i. row_goes w.locks t m ls (it.took.others m ls ne))
             (stays_stocked s q refl refl (λ h. h) (stocked_now w good n s at x cmd free))
-            (is_node w good n s at x cmd free t w.blocks q refl refl refl refl (good.nodes n s at).store.kept (subst (λ (ls : Row). waits_at t n ls ≡ false) bare it.rests_then) now.seen now.own
+            (taken_writes w (my_sole w good n s at x cmd free) good.writers n s q t takes)
+            (is_node w good n s at x cmd free t w.blocks q refl refl refl refl (good.nodes n s at).store (subst (λ (ls : Row). waits_at t n ls ≡ false) bare it.rests_then) now.seen now.own
             (subst (IsAtPlan x (waits_at t n q.asked) s.seen s.done true) (sym plan) (made.0, free_then, all_made not_yet))
             (ap (λ (ls : Row). ls ++ lock_of_ask a ∷ []) (asked_so not_yet) ∙ sym (ap (with_ask s.seen.locks) own_then))
             (space_now w good n s at x cmd free)
@@ -623,7 +646,18 @@ module _ (w : Plain) (good : Good w) (n : ℕ) (s : NodeState) (at : node_at w.n
     mine_still : (ls : Row) → StandsStill w.locks t n ls
     mine_still ls = still.still n ls
 
-    under_then : IsUnder w.geometry cat (changed (nodes_under w.locks w.nodes) n (under_with t n q q.cmd)) w.blocks
+    takes : IsTakenIn w n s q t
+    takes = record {
+      at = at;
+      strong = λ l le h. subst (λ (ls : Row). Has ls l) (sym holds_same) h;
+      others = λ m y off e. rows_stand_still w.locks t m (rows_of y) (λ ls i. still.still m ls);
+      stays = λ other guards. taken_elsewhere me (A a.file) other a.mode w.locks (λ e. absurd (let f : true ≡ false = sym guards ∙ ap guards_blocks e in cc));
+      named = λ other h. h;
+      same = wrote not_yet;
+      cache = refl;
+    }
+
+    under_then : IsUnderOn w.geometry cat good.running.drive.base good.running.drive.own (changed (nodes_under w.locks w.nodes) n (under_with t n q q.cmd)) w.blocks
     under_then = wider_drive t s.asked not_yet (sym (asks_exactly not_yet) ∙ goes) (λ l le h. subst (λ (ls : Row). Has ls l) (sym holds_same) h)
 
     held_q : AreHeld t (rows_at (set_node w.nodes n q))
@@ -636,7 +670,10 @@ module _ (w : Plain) (good : Good w) (n : ℕ) (s : NodeState) (at : node_at w.n
     driven = record {
       cat = cat;
       replayed = good.running.replayed;
-      drive = under_now w.geometry cat w.locks t w.nodes n s q w.blocks at (λ m y off e. rows_stand_still w.locks t m (rows_of y) (λ ls i. still.still m ls)) under_then;
+      base = good.running.drive.base;
+      own = good.running.drive.own;
+      drive = under_now w.geometry cat good.running.drive.base good.running.drive.own w.locks t w.nodes n s q w.blocks at (λ m y off e. rows_stand_still w.locks t m (rows_of y) (λ ls i. still.still m ls)) under_then;
+      cached = taken_cached w (my_sole w good n s at x cmd free) good.writers n s q t takes (are_sole t (set_node w.nodes n q) took.table held_q) (guarding_of w good) good.running.drive.own cat good.running.cached;
       accounted = good.running.accounted;
       near = good.running.near;
       sized = good.running.sized;
@@ -656,7 +693,8 @@ module _ (w : Plain) (good : Good w) (n : ℕ) (s : NodeState) (at : node_at w.n
     all : Good (altered w t w.blocks (set_node w.nodes n q) w.history)
     all = rebuilt w good n s q at t w.blocks w.history driven (took.table, held_q) good.own (small_taken w good.small n s q at (A a.file) me a.mode w.blocks lock_there (owes_so s q refl refl refl refl)) (good.few n) (λ m off. refl) (λ m y off e ls i. goes_still m ls)
         (stays_stocked s q refl refl (λ h. h) (stocked_now w good n s at x cmd free))
-        (is_node w good n s at x cmd free t w.blocks q refl refl refl refl (good.nodes n s at).store.kept ((mine_still s.kept).waits ∙ (good.nodes n s at).rests) now.seen now.own
+        (taken_writes w (my_sole w good n s at x cmd free) good.writers n s q t takes)
+        (is_node w good n s at x cmd free t w.blocks q refl refl refl refl (good.nodes n s at).store ((mine_still s.kept).waits ∙ (good.nodes n s at).rests) now.seen now.own
         (subst (IsAtPlan x (waits_at t n s.asked) s.seen s.done true) (sym plan) (made.0, waits_same, all_made not_yet))
         (asked_so not_yet ∙ sym (ap (with_ask s.seen.locks) own_then))
         (space_now w good n s at x cmd free)
@@ -670,32 +708,33 @@ module _ (w : Plain) (good : Good w) (n : ℕ) (s : NodeState) (at : node_at w.n
   no_grant_yet : s.tried ≡ false → granted_ask s.tried s.plan ≡ None
   no_grant_yet not_yet = λ i. granted_ask (not_yet i) (plan i)
 
-  pub ask_keeps : waits_at w.locks n s.claims ≡ false → s.tried ≡ false → slice_get (take a.at p.writes) s.done ≡ None → Good (asked_by w n s x a (would_go w.locks n a))
-  ask_keeps granted_claims not_yet last = by_goes (would_go w.locks n a) refl where
+  pub ask_keeps : waits_at w.locks n s.claims ≡ false → (s.run.phase ≡ phase.Back → ⊥) → s.tried ≡ false → slice_get (take a.at p.writes) s.done ≡ None → Good (asked_by w n s x a (would_go w.locks n a))
+  ask_keeps granted_claims calmly not_yet last = by_goes (would_go w.locks n a) refl where
     by_goes : (b : Bool) → would_go w.locks n a ≡ b → Good (asked_by w n s x a b)
     by_goes true goes = asks_keep not_yet goes
     by_goes false refused =
-        answers_keep w good n s at x cmd free granted_claims p made.0 (take a.at p.writes) (first_writes not_yet) last (first_part not_yet) a.refused (λ c. knows n x s.seen c && not (is_granted n a c)) law.2
+        answers_keep w good n s at x cmd free granted_claims calmly p made.0 (take a.at p.writes) (first_writes not_yet) last (first_part not_yet) a.refused (λ c. knows n x s.seen c && not (is_granted n a c)) law.2
         (both (knows n x s.seen cat) _ (known w good n s at x cmd free) (ap not (sym (asks_exactly not_yet) ∙ refused)))
         (subst (λ (o : Option PlanAsk). EndsSo x s.seen.channel o a.refused) (sym (no_grant_yet not_yet)) (ends_refused x s.seen.channel p a shape_is ask))
 
-  pub granted_keeps : waits_at w.locks n s.claims ≡ false → s.tried ≡ true → slice_get p.writes s.done ≡ None → Good (happens w n s (by_end x p.reply true (Some a)))
-  granted_keeps granted_claims done last =
+  pub granted_keeps : waits_at w.locks n s.claims ≡ false → (s.run.phase ≡ phase.Back → ⊥) → s.tried ≡ true → slice_get p.writes s.done ≡ None → Good (happens w n s (by_end x p.reply true (Some a)))
+  granted_keeps granted_claims calmly done last =
       let all : writes_by p.ask s.tried p.writes ≡ p.writes = (λ i. writes_by (ask i) (done i) p.writes) in
-      answers_keep w good n s at x cmd free granted_claims p made.0 p.writes (ap (writes_now s.tried) plan ∙ all) last (subst (λ (ws : List PlanWrite). s.done ≤ length ws) all made.2) p.reply know law.1
+      answers_keep w good n s at x cmd free granted_claims calmly p made.0 p.writes (ap (writes_now s.tried) plan ∙ all) last (subst (λ (ws : List PlanWrite). s.done ≤ length ws) all made.2) p.reply know law.1
       (both (knows n x s.seen cat) _ (known w good n s at x cmd free) (still_granted done))
       (subst (λ (o : Option PlanAsk). EndsSo x s.seen.channel o p.reply) (sym (λ i. granted_ask (done i) (plan i))) (ends_whole x s.seen.channel p shape_is asks))
 
 -- ---- what comes behind the writes of a plan keeps the invariant
 
-module _ (w : Plain) (good : Good w) (n : ℕ) (s : NodeState) (at : node_at w.nodes n ≡ Some s) (x : Cmd) (cmd : s.cmd ≡ Some x) (free : waits_at w.locks n s.asked ≡ false) (granted_claims : waits_at w.locks n s.claims ≡ false) (p : Plan) (plan : s.plan ≡ Some p) where
+module _ (w : Plain) (good : Good w) (n : ℕ) (s : NodeState) (at : node_at w.nodes n ≡ Some s) (x : Cmd) (cmd : s.cmd ≡ Some x) (free : waits_at w.locks n s.asked ≡ false) (granted_claims : waits_at w.locks n s.claims ≡ false) (calmly : s.run.phase ≡ phase.Back → ⊥)
+    (p : Plan) (plan : s.plan ≡ Some p) where
   plain_keeps : p.ask ≡ None → slice_get p.writes s.done ≡ None → Good (happens w n s (by_end x p.reply s.tried None))
   plain_keeps ask last =
       let now : IsAt w n s x = under_command w good n s at x cmd free in
       let made : IsAtPlan x (waits_at w.locks n s.asked) s.seen s.done s.tried (Some p) = made_of w good n s at x cmd free p plan in
       let all : writes_by p.ask s.tried p.writes ≡ p.writes = ap (λ o. writes_by o s.tried p.writes) ask in
       let law : IsPlan n x s.seen p p.ask = now.lawful.plans n s.seen p now.seen made.0 in
-      answers_keep w good n s at x cmd free granted_claims p made.0 p.writes (ap (writes_now s.tried) plan ∙ all) last (subst (λ (ws : List PlanWrite). s.done ≤ length ws) all made.2) p.reply (knows n x s.seen)
+      answers_keep w good n s at x cmd free granted_claims calmly p made.0 p.writes (ap (writes_now s.tried) plan ∙ all) last (subst (λ (ws : List PlanWrite). s.done ≤ length ws) all made.2) p.reply (knows n x s.seen)
       (subst (IsPlan n x s.seen p) ask law) (known w good n s at x cmd free)
       (subst (λ (o : Option PlanAsk). EndsSo x s.seen.channel o p.reply) (ask ∙ sym (none_granted s.tried) ∙ sym (ap (granted_ask s.tried) plan)) (ends_whole x s.seen.channel p (shape x s.seen p made.0) (asks_as n x s.seen p law))) where
         none_granted : (b : Bool) → granted_by b p.ask ≡ None
@@ -706,5 +745,5 @@ module _ (w : Plain) (good : Good w) (n : ℕ) (s : NodeState) (at : node_at w.n
   ends_keep last = by_ask p.ask s.tried refl refl last where
     by_ask : (o : Option PlanAsk) (b : Bool) → p.ask ≡ o → s.tried ≡ b → slice_get (writes_by o b p.writes) s.done ≡ None → Good (happens w n s (by_end x p.reply b o))
     by_ask None b ask tried last = plain_keeps ask last
-    by_ask (Some a) true ask tried last = granted_keeps w good n s at x cmd free p plan a ask granted_claims tried last
-    by_ask (Some a) false ask tried last = ask_keeps w good n s at x cmd free p plan a ask granted_claims tried last
+    by_ask (Some a) true ask tried last = granted_keeps w good n s at x cmd free p plan a ask granted_claims calmly tried last
+    by_ask (Some a) false ask tried last = ask_keeps w good n s at x cmd free p plan a ask granted_claims calmly tried last

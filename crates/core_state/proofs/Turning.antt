@@ -4,14 +4,14 @@ use Rattle.std.specs.Prelude.{slice_index_or}
 use Rattle.std.proofs.lemmas.Option.{slice_get_within}
 use Rattle.vol_words.specs.Fields.{Block}
 use Rattle.lock_db.specs.declared.name.LockName.{LockName}
-use Rattle.lock_db.specs.declared.name.LockName.TheVariants.{A, X, V}
+use Rattle.lock_db.specs.declared.name.LockName.TheVariants.{S, A, Q, X, V}
 use Rattle.lock_db.specs.declared.resource.Resource.{Resource}
 use Rattle.plain_cat.specs.Modes.{rank}
 use Rattle.plain_cat.specs.declared.mode.Mode.{Mode}
 use Rattle.plain_cat.specs.declared.mode.Mode.TheVariants.{NL, CR, CW, PR, PW}
 use Rattle.plain_cat.specs.declared.command.Cmd.{Cmd}
 use Rattle.plain_cat.specs.declared.cat.Cat.{Cat}
-use Rattle.node_locks.specs.Held.{system_of, Row, joined, names_of, HoldsItsLocks, waits_at}
+use Rattle.node_locks.specs.Held.{system_of, Row, joined, names_of, HoldsItsLocks, waits_at, without}
 use Rattle.node_locks.specs.HeldLaws.{StandsStill, GoesOn as RowGoesOn}
 use Rattle.node_locks.specs.Taking.{taken}
 use Rattle.node_locks.proofs.Keeping.{rows_stand_still}
@@ -19,9 +19,11 @@ use Rattle.node_locks.proofs.Nodes.{has_name_or_not}
 use Rattle.vol_owners.specs.Lists.{Has, Touches, StandsIn}
 use Rattle.vol_owners.specs.Owners.{Owners, Things, Outs}
 use Rattle.vol_owners.proofs.Writing.{touches_joined, stands_joined}
+use Rattle.vol_owners.proofs.Listing.{has_parted, has_first, has_second}
+use Rattle.cache_laws.specs.Committed.{IsUnderOn, on_its_own, of_it}
 use Rattle.vol_parts.specs.declared.geometry.Geometry.{Geometry}
 use Rattle.vol_spell.specs.Spelling.{Spells}
-use Rattle.vol_under.specs.Guards.{guard_of, MayWrite, MayLook}
+use Rattle.vol_under.specs.Guards.{Lock, guard_of, MayWrite, MayLook}
 use Rattle.vol_under.specs.UnderWay.{bare, UnderWay, changed, AreSole}
 use Rattle.vol_under.specs.Under.{IsLawful, IsUnder}
 use Rattle.vol_under.proofs.Guarding.{wider_look, wider_write}
@@ -35,29 +37,34 @@ use Rattle.op_law.specs.Needs.{IsNext}
 use Rattle.op_law.specs.Fits.{things, HasSeen, IsSeenOn}
 use Rattle.op_law.specs.Going.{GoesOn, with_block}
 use Rattle.op_law.specs.Knows.{knows, is_granted}
-use Rattle.op_law.specs.Laws.{held_in, planned, under_way, takes_lock, MayNeed, AreGuarded, IsPlan}
+use Rattle.op_law.specs.Laws.{held_in, planned, under_way, takes_lock, ComesInTurn, MayNeed, IsCacheable, IsNamed, AreGuarded, IsPlan}
 use Rattle.op_law.proofs.Going.{seen_goes_on}
 use Rattle.plain_vol.specs.Own.{NodePast}
 use Rattle.node_cache.specs.Cached.{Cached}
 use Rattle.op_law.specs.declared.seen.Chan.{Chan}
 use Rattle.core_space.specs.declared.run.Phase.TheVariants as phase
+use Rattle.core_space.specs.declared.run.SpaceRun.{SpaceRun}
 use Rattle.core_state.specs.Channels.{channel_now, HasChannels}
-use Rattle.core_state.specs.Stores.{AreKept, IsStocked}
+use Rattle.core_state.specs.Stores.{guards_blocks, HasStore, IsStocked, IsCachedAt}
 use Rattle.core_state.specs.Stocks.{looked_now, stock_now}
-use Rattle.core_state.specs.Worlds.{NodeState, Plain, node_at, set_node, rows_of, rows_in, rows_at}
+use Rattle.core_state.specs.Worlds.{NodeState, Plain, node_at, set_node, with_node, rows_of, rows_in, rows_at}
+use Rattle.core_state.specs.Event as event
 use Rattle.core_state.specs.Asks.{writes_by, writes_now, granted_by, granted_ask, own_of, own_ask, with_ask, knows_now}
-use Rattle.core_state.specs.Searches.{Spaces}
-use Rattle.core_state.specs.Waiting.{WaitsForLock}
+use Rattle.core_state.specs.Searches.{IsOfNumber, HasCome, Spaces, Off, Back, Busy}
+use Rattle.core_state.specs.Waiting.{WaitsForLock, AsksForNumber, WaitsAside}
 use Rattle.core_state.specs.Goods.{under_with, nodes_under, IsAtPlan, IsAt, HasCommand, IsNode, Good, held_by}
-use Rattle.core_state.specs.Events.{block_at, turned, locking, looking, planning, writing}
+use Rattle.core_state.specs.Events.{block_at, turned, locking, seeing, planning, caching, writing, cache_written, happens}
 use Rattle.core_state.proofs.Holding.{held_grows, strong_grows}
-use Rattle.core_state.proofs.Naming.{none_of, named_by, from_without, has_asked_without}
+use Rattle.core_state.proofs.Naming.{same_name, none_of, named_by, stays_without, has_asked_without}
 use Rattle.core_state.proofs.Driving.{law_grows}
 use Rattle.core_state.proofs.Running.{all_asked, at_locks, under_now, under_here, are_sole}
 use Rattle.core_state.proofs.Taking.{its_outs, its_seen, its_guards, becomes, is_committed, decides, writes}
 use Rattle.core_state.proofs.SmallWorlds.{owes_so, small_set, small_taken, lock_there}
 use Rattle.core_state.specs.Opens.{open_with, open_now}
-use Rattle.core_state.proofs.Keeping.{altered, still_driven, rebuilt, held_set, held_same, loses_nothing, row_of_name}
+use Rattle.core_state.proofs.Keeping.{altered, still_driven, rebuilt, held_set, held_same, loses_nothing, row_of_name, kept_named, asked_named, claims_named}
+use Rattle.core_state.proofs.CachedPuts.{IsWriteOf, put_cached, put_writes}
+use Rattle.core_state.proofs.CachedLooks.{rewritten_store, store_without}
+use Rattle.core_state.proofs.CachedTakes.{goes_higher, taken_stays, IsTakenIn, taken_writes, taken_cached}
 use Rattle.core_state.proofs.Beginning.{alone, stays_stocked, x_stays_without}
 use Rattle.core_state.proofs.Opens.{opens_taken}
 use Rattle.core_state.proofs.Rows.{asks_last}
@@ -110,6 +117,12 @@ taken_first (suc k) zero ws le = absurd (omega arith)
 taken_first (suc k) (suc m) [] le = refl
 taken_first (suc k) (suc m) (w ∷ ws) le = ap (λ vs. planned w ∷ vs) (taken_first k m ws (omega arith))
 
+pub taken_first_of : (k m : ℕ) (ws : List PlanWrite) → k ≤ length (take m ws) → take k ws ≡ take k (take m ws)
+taken_first_of zero m ws le = refl
+taken_first_of (suc k) zero ws le = absurd (omega arith)
+taken_first_of (suc k) (suc m) [] le = refl
+taken_first_of (suc k) (suc m) (w ∷ ws) le = ap (λ vs. w ∷ vs) (taken_first_of k m ws (omega arith))
+
 pub within_first : (k m : ℕ) (ws : List PlanWrite) → k ≤ length (take m ws) → k ≤ length (map planned ws)
 within_first zero m ws le = omega arith
 within_first (suc k) zero ws le = absurd (omega arith)
@@ -123,15 +136,112 @@ names_of_more [] l P old new name (inr h) = absurd h
 names_of_more (k ∷ ls) l P old new name (inl e) = old name (inl e)
 names_of_more (k ∷ ls) l P old new name (inr h) = names_of_more ls l P (λ m t. old m (inr t)) new name h
 
+-- a node that has seen a block more, with this cache and these counts
+abbrev pub seen_so : NodeState → ℕ → Block → List Cached → ℕ → ℕ → NodeState
+seen_so s lbn b es reads hits = turned (record (seeing s lbn b) { cache = es; reads = reads; hits = hits })
+
+-- the locks that cached blocks are under guard blocks
+pub guarding_of : (w : Plain) → Good w → (m : ℕ) (q : NodeState) (e : Cached) → node_at w.nodes m ≡ Some q → Has q.cache e → guards_blocks e.lock ≡ true
+guarding_of w good m q e at has = (good.nodes m q at).store.guarding e has
+
+-- of a list of nothing the first ones are none
+pub take_none : (k : ℕ) → take k (let ws : List PlanWrite = [] in ws) ≡ []
+take_none zero = refl
+take_none (suc k) = refl
+
+-- the first writes and one more
+next_count : (k : ℕ) → k + 1 ≡ suc k
+next_count k = omega arith
+
+more_first : (ws : List PlanWrite) (k : ℕ) (y : PlanWrite) → Has (take k ws) y → Has (take (suc k) ws) y
+more_first ws zero y h = absurd h
+more_first [] (suc k) y h = absurd h
+more_first (w ∷ ws) (suc k) y (inl e) = inl e
+more_first (w ∷ ws) (suc k) y (inr h) = inr (more_first ws k y h)
+
+only_first : (ws : List PlanWrite) (k : ℕ) (v y : PlanWrite) → slice_get ws k ≡ Some v → Has (take (suc k) ws) y → (v ≡ y) ⊎ Has (take k ws) y
+only_first [] k v y e h = absurd (let f : None ≡ Some v = e in cc)
+only_first (w ∷ ws) zero v y e (inl f) = inl (let g : Some w ≡ Some v = e in let i : w ≡ v = cc in sym i ∙ f)
+only_first (w ∷ ws) zero v y e (inr h) = absurd h
+only_first (w ∷ ws) (suc k) v y e (inl f) = inr (inl f)
+only_first (w ∷ ws) (suc k) v y e (inr h) = elim (only_first ws k v y e h) [ inl f ↦ inl f | inr g ↦ inr (inr g) ]
+
+made_first : (ws : List PlanWrite) (k : ℕ) (v : PlanWrite) → slice_get ws k ≡ Some v → Has (take (suc k) ws) v
+made_first [] k v e = absurd (let f : None ≡ Some v = e in cc)
+made_first (w ∷ ws) zero v e = inl (let g : Some w ≡ Some v = e in cc)
+made_first (w ∷ ws) (suc k) v e = inr (made_first ws k v e)
+
+-- the same, of a list between others
+more_of : (ws : List PlanWrite) (k : ℕ) (y : PlanWrite) → Has (take k ws) y → Has (take (k + 1) ws) y
+more_of ws k y h = subst (λ (j : ℕ). Has (take j ws) y) (sym (next_count k)) (more_first ws k y h)
+
+only_of : (ws : List PlanWrite) (k : ℕ) (v y : PlanWrite) → slice_get ws k ≡ Some v → Has (take (k + 1) ws) y → (v ≡ y) ⊎ Has (take k ws) y
+only_of ws k v y e h = only_first ws k v y e (subst (λ (j : ℕ). Has (take j ws) y) (next_count k) h)
+
+made_of_it : (ws : List PlanWrite) (k : ℕ) (v : PlanWrite) → slice_get ws k ≡ Some v → Has (take (k + 1) ws) v
+made_of_it ws k v e = subst (λ (j : ℕ). Has (take j ws) v) (sym (next_count k)) (made_first ws k v e)
+
+pub more_writes : (xs ws : List PlanWrite) (k : ℕ) (y : PlanWrite) → Has (xs ++ take k ws) y → Has (xs ++ take (k + 1) ws) y
+more_writes xs ws k y h = elim (has_parted xs (take k ws) y h) [
+  | inl a ↦ has_first xs (take (k + 1) ws) y a
+  | inr b ↦ has_second xs (take (k + 1) ws) y (more_of ws k y b)
+]
+
+pub only_writes : (xs ws : List PlanWrite) (k : ℕ) (v y : PlanWrite) → slice_get ws k ≡ Some v → Has (xs ++ take (k + 1) ws) y → (v ≡ y) ⊎ Has (xs ++ take k ws) y
+only_writes xs ws k v y e h = elim (has_parted xs (take (k + 1) ws) y h) [
+  | inl a ↦ inr (has_first xs (take k ws) y a)
+  | inr b ↦ elim (only_of ws k v y e b) [ inl f ↦ inl f | inr g ↦ inr (has_second xs (take k ws) y g) ]
+]
+
+pub made_write : (xs ws : List PlanWrite) (k : ℕ) (v : PlanWrite) → slice_get ws k ≡ Some v → Has (xs ++ take (k + 1) ws) v
+made_write xs ws k v e = has_second xs (take (k + 1) ws) v (made_of_it ws k v e)
+
+pub more_before : (ws ys : List PlanWrite) (k : ℕ) (y : PlanWrite) → Has (take k ws ++ ys) y → Has (take (k + 1) ws ++ ys) y
+more_before ws ys k y h = elim (has_parted (take k ws) ys y h) [
+  | inl a ↦ has_first (take (k + 1) ws) ys y (more_of ws k y a)
+  | inr b ↦ has_second (take (k + 1) ws) ys y b
+]
+
+pub only_before : (ws ys : List PlanWrite) (k : ℕ) (v y : PlanWrite) → slice_get ws k ≡ Some v → Has (take (k + 1) ws ++ ys) y → (v ≡ y) ⊎ Has (take k ws ++ ys) y
+only_before ws ys k v y e h = elim (has_parted (take (k + 1) ws) ys y h) [
+  | inl a ↦ elim (only_of ws k v y e a) [ inl f ↦ inl f | inr g ↦ inr (has_first (take k ws) ys y g) ]
+  | inr b ↦ inr (has_second (take k ws) ys y b)
+]
+
+pub made_before : (ws ys : List PlanWrite) (k : ℕ) (v : PlanWrite) → slice_get ws k ≡ Some v → Has (take (k + 1) ws ++ ys) v
+made_before ws ys k v e = has_first (take (k + 1) ws) ys v (made_of_it ws k v e)
+
+-- the names of a node's rows stay as it asks for a lock behind those of its command
+pub has_name : (ls : Row) (name : LockName) (mode : Mode) → Has ls (name, mode) → Has (names_of ls) name
+has_name [] name mode h = absurd h
+has_name (l ∷ ls) name mode (inl e) = inl (ap (λ (k : LockName × Mode). k.0) e)
+has_name (l ∷ ls) name mode (inr h) = inr (has_name ls name mode h)
+
+pub named_still : (s r : NodeState) (name : LockName) (mode : Mode) → r.kept ≡ without name s.kept → r.asked ≡ s.asked ++ (name, mode) ∷ [] → r.claims ≡ s.claims
+    → (other : LockName) → Has (names_of (joined (rows_of s))) other → Has (names_of (joined (rows_of r))) other
+named_still s r name mode kept asked claims other h = elim (row_of_name s other h) [
+  | inl a ↦ elim (same_name other name) [
+    | inl is ↦ asked_named r other (subst (λ (ls : Row). Has (names_of ls) other) (sym asked) (has_name (s.asked ++ (name, mode) ∷ []) other mode (has_second s.asked ((name, mode) ∷ []) (other, mode) (inl (ap (λ (k : LockName). (k, mode)) (sym is))))))
+    | inr ne ↦
+        let k = named_by s.kept other a in
+        kept_named r other (subst (λ (ls : Row). Has (names_of ls) other) (sym kept) (has_name (without name s.kept) other k.0 (stays_without s.kept name (other, k.0) k.1 ne)))
+  ]
+  | inr b ↦ elim b [
+    | inl c ↦
+        let k = named_by s.asked other c in
+        asked_named r other (subst (λ (ls : Row). Has (names_of ls) other) (sym asked) (has_name (s.asked ++ (name, mode) ∷ []) other k.0 (has_first s.asked ((name, mode) ∷ []) (other, k.0) k.1)))
+    | inr d ↦ claims_named r other (subst (λ (ls : Row). Has (names_of ls) other) (sym claims) d)
+  ]
+]
+
 -- what an event of a node's command leaves
 pub record Rest : Type 0 where
   pub past : NodePast
   pub opens : List (Option Chan)
-  pub cache : List Cached
   pub over : Bool
 
 abbrev pub rest_of : NodeState → Rest
-rest_of s = record { past = s.past; opens = s.opens; cache = s.cache; over = s.over }
+rest_of s = record { past = s.past; opens = s.opens; over = s.over }
 
 -- ---- an event of a node with a command
 
@@ -152,12 +262,23 @@ module _ (w : Plain) (good : Good w) (n : ℕ) (s : NodeState) (at : node_at w.n
   pub here : nodes_under w.locks w.nodes n ≡ at_locks n s x (held_by w.locks n s)
   here = under_here w.locks w.nodes n s at ∙ ap (under_with w.locks n s) cmd
 
-  -- the drive, by the geometry that the command has seen
-  pub drive : IsUnder s.seen.geometry good.running.cat (nodes_under w.locks w.nodes) w.blocks
-  drive = subst (λ (g : Geometry). IsUnder g good.running.cat (nodes_under w.locks w.nodes) w.blocks) (sym me.geometry) good.running.drive
+  abbrev base_now : List Block
+  base_now = good.running.drive.base
 
-  pub back : (v : UnderWay) (bs : List Block) → IsUnder s.seen.geometry good.running.cat (changed (nodes_under w.locks w.nodes) n v) bs → IsUnder w.geometry good.running.cat (changed (nodes_under w.locks w.nodes) n v) bs
-  back v bs u = subst (λ (g : Geometry). IsUnder g good.running.cat (changed (nodes_under w.locks w.nodes) n v) bs) me.geometry u
+  abbrev own_now : Owners
+  own_now = good.running.drive.own
+
+  -- the drive, by the geometry that the command has seen
+  pub drive_on : IsUnderOn s.seen.geometry good.running.cat good.running.drive.base good.running.drive.own (nodes_under w.locks w.nodes) w.blocks
+  drive_on = subst (λ (g : Geometry). IsUnderOn g good.running.cat good.running.drive.base good.running.drive.own (nodes_under w.locks w.nodes) w.blocks) (sym me.geometry)
+      (on_its_own w.geometry good.running.cat (nodes_under w.locks w.nodes) w.blocks good.running.drive)
+
+  abbrev pub drive : IsUnder s.seen.geometry good.running.cat (nodes_under w.locks w.nodes) w.blocks
+  drive = of_it s.seen.geometry good.running.cat good.running.drive.base good.running.drive.own (nodes_under w.locks w.nodes) w.blocks drive_on
+
+  pub back : (v : UnderWay) (bs : List Block) → IsUnderOn s.seen.geometry good.running.cat good.running.drive.base good.running.drive.own (changed (nodes_under w.locks w.nodes) n v) bs
+      → IsUnderOn w.geometry good.running.cat good.running.drive.base good.running.drive.own (changed (nodes_under w.locks w.nodes) n v) bs
+  back v bs u = subst (λ (g : Geometry). IsUnderOn g good.running.cat good.running.drive.base good.running.drive.own (changed (nodes_under w.locks w.nodes) n v) bs) me.geometry u
 
   pub outs_now : Outs n drive.own (at_locks n s x (held_by w.locks n s)).took (at_locks n s x (held_by w.locks n s)).stock
   outs_now = its_outs s.seen.geometry good.running.cat (nodes_under w.locks w.nodes) w.blocks n (at_locks n s x (held_by w.locks n s)) here drive
@@ -183,7 +304,7 @@ module _ (w : Plain) (good : Good w) (n : ℕ) (s : NodeState) (at : node_at w.n
   }
 
   -- it waits for nothing
-  pub no_wait : (seen : Seen) → waits_at w.locks n s.asked ≡ true → WaitsForLock x s.asked seen
+  pub no_wait : (seen : Seen) → {R : Type 0} → waits_at w.locks n s.asked ≡ true → R
   no_wait seen e = absurd (let f : true ≡ false = sym e ∙ free in cc)
 
   -- how it stands by its rules for space
@@ -195,17 +316,18 @@ module _ (w : Plain) (good : Good w) (n : ℕ) (s : NodeState) (at : node_at w.n
 
   -- the node with another state, and the same command
   pub is_node : (t : List Resource) (bs : List Block) (r : NodeState) → rest_of r ≡ rest_of s → r.seen.geometry ≡ s.seen.geometry → r.seen.channel ≡ s.seen.channel
-      → r.cmd ≡ s.cmd → AreKept r.run.phase r.kept → waits_at t n r.kept ≡ false → HasSeen x r.seen → ((name : LockName) → Has (names_of r.seen.locks) name → takes_lock x name ≡ true) → IsAtPlan x (waits_at t n r.asked) r.seen r.done r.tried r.plan
-      → r.asked ≡ with_ask r.seen.locks (own_ask r.tried r.plan) → Spaces (Some x) r.kept r.claims r.run r.stock r.seen → (waits_at t n r.asked ≡ true → WaitsForLock x r.asked r.seen) → IsNode (altered w t bs (set_node w.nodes n r) w.history) n r
+      → r.cmd ≡ s.cmd → HasStore r.run.phase r.kept r.cache → waits_at t n r.kept ≡ false → HasSeen x r.seen → ((name : LockName) → Has (names_of r.seen.locks) name → takes_lock x name ≡ true) → IsAtPlan x (waits_at t n r.asked) r.seen r.done r.tried r.plan
+      → r.asked ≡ with_ask r.seen.locks (own_ask r.tried r.plan) → Spaces (Some x) r.kept r.claims r.run r.stock r.seen → (waits_at t n r.asked ≡ true → WaitsForLock x r.asked r.seen × WaitsAside r.run.phase r.asked r.seen.number) → IsNode (altered w t bs (set_node w.nodes n r) w.history) n r
   is_node t bs r same g c o keeps rests seen own plan asks space waits = record {
     past = ap (λ (k : Rest). k.past) same ∙ me.past;
     geometry = g ∙ me.geometry;
     channels = subst (λ (k : Rest). HasChannels k.past k.opens) (sym same) me.channels;
     channel = c ∙ me.channel ∙ (λ i. channel_now (sym same i).opens (sym o i));
-    store = record { kept = keeps; cache = ap (λ (k : Rest). k.cache) same ∙ me.store.cache };
+    store = keeps;
     rests = rests;
+    asks = λ e. (waits e).1;
     command = subst (HasCommand (altered w t bs (set_node w.nodes n r) w.history) n r) (sym (o ∙ cmd))
-        (record { next = under_command.next; form = under_command.form; lawful = under_command.lawful; seen = seen; own = own; plan = plan; same = asks; waits = waits });
+        (record { next = under_command.next; form = under_command.form; lawful = under_command.lawful; seen = seen; own = own; plan = plan; same = asks; waits = λ e. (waits e).0 });
     space = subst (λ (k : Option Cmd). Spaces k r.kept r.claims r.run r.stock r.seen) (sym (o ∙ cmd)) space;
     over = λ e. absurd (busy (me.over (sym (ap (λ (k : Rest). k.over) same) ∙ e)).0.cmd);
     gone = λ e. absurd (busy (me.gone (sym (ap (λ (k : Rest). k.past.dead) same) ∙ e)).cmd);
@@ -259,8 +381,7 @@ module _ (w : Plain) (good : Good w) (n : ℕ) (s : NodeState) (at : node_at w.n
         let k = named_by s.kept name h in
         elim (me.store.kept (name, k.0) k.1) [
           | inl e ↦
-              let f : (name, k.0) ≡ (name, NL) = ap (λ (l : LockName × Mode). (name, l.1)) e in
-              subst (Has s.kept) f k.1
+              subst (λ (m : Mode). Has s.kept (name, m)) e.1 k.1
           | inr e ↦ absurd (not_x e.0)
         ]
 
@@ -298,6 +419,23 @@ module _ (w : Plain) (good : Good w) (n : ℕ) (s : NodeState) (at : node_at w.n
   not_cw mode (inr (inl e)) f = absurd (let g : PW ≡ CW = e ∙ f in cc)
   not_cw mode (inr (inr e)) f = absurd e
 
+  -- the lock that it asks for, while its rules for space are at work
+  for_number : (name : LockName) (mode : Mode) → IsOfNumber s.seen.number name → AsksForNumber (s.asked ++ (name, mode) ∷ []) s.seen.number
+  for_number (S k) mode e = record { file = k; mode = mode; given = e; last = record { front = s.asked; last = refl } }
+  for_number (A f) mode e = absurd e
+  for_number Q mode e = absurd e
+  for_number X mode e = absurd e
+  for_number V mode e = absurd e
+
+  aside_now : (name : LockName) (mode : Mode) → takes_lock x name ≡ true → (Has (names_of s.seen.locks) name → ⊥) → ComesInTurn s.seen.locks s.seen.number name → Spaces (Some x) s.kept s.claims s.run s.stock s.seen
+      → WaitsAside s.run.phase (s.asked ++ (name, mode) ∷ []) s.seen.number
+  aside_now name mode own new turn (Off h) = inl (inl (ap (λ (k : SpaceRun). k.phase) h.run))
+  aside_now name mode own new turn (Back h) = inl (inr h.back)
+  aside_now name mode own new turn (Busy y e r) =
+      let f : Some x ≡ Some y = e in
+      let z : x ≡ y = cc in
+      inr (for_number name mode (comes_behind x s.seen name own new turn (subst (λ (k : Cmd). HasCome k s.seen) (sym z) (come_by y s.kept s.claims s.run s.stock s.seen r))))
+
   -- a lock is asked for
   pub locks_keep : s.plan ≡ None → (s.run.phase ≡ phase.Back → ⊥) → (name : LockName) (mode : Mode) → IsNext x s.seen (need.Lock name mode)
       → Good (altered w (taken name (system_of n) mode w.locks) w.blocks (set_node w.nodes n (turned (locking s name mode))) w.history)
@@ -312,35 +450,45 @@ module _ (w : Plain) (good : Good w) (n : ℕ) (s : NodeState) (at : node_at w.n
       (λ l h. wider_look (held_in PR (held_by w.locks n s)) (held_in PR (held_by t n r)) (λ m k. strong_grows PR (held_by w.locks n s) (held_by t n r) m (omega arith) grows k) (guard_of s.seen.geometry drive.own l) (guards_now l h)) in
       let there : v ≡ under_with t n r r.cmd = ap (under_with t n r) (sym cmd) in
       let not_x : name ≢ X = λ e. absurd (let f : false ≡ true = sym (ap (takes_lock x) e) ∙ may.own in cc) in
-      let rest : (l : LockName × Mode) → Has r.kept l → Has s.kept l = λ l h. (from_without s.kept name l h).0 in
+      let takes : IsTakenIn w n s r t = record {
+        at = at;
+        strong = grows;
+        others = λ m q ne e. rows_stand_still w.locks t m (rows_of q) (λ ls i. it.took.others m ls ne);
+        stays = λ other guards. taken_stays n name other mode w.locks it.took.may;
+        named = named_still s r name mode refl refl refl;
+        same = refl;
+        cache = refl;
+      } in
       rebuilt w good n s r at t w.blocks w.history
-      (still_driven w good n s r at t w.blocks (λ part o low. refl) refl
-      (under_now w.geometry good.running.cat w.locks t w.nodes n s r w.blocks at (λ m q ne e. rows_stand_still w.locks t m (rows_of q) (λ ls i. it.took.others m ls ne))
-      (subst (λ (u : UnderWay). IsUnder w.geometry good.running.cat (changed (nodes_under w.locks w.nodes) n u) w.blocks) there (back v w.blocks up)))
-      (opens_taken name n mode w.locks (open_now good.running.cat w.nodes) good.locked.0 (no_open_lock name may.own) it.took.may (not_cw mode may.in_mode) good.running.opens))
+      (still_driven w good n s r at t w.blocks (λ part o low. refl) refl base_now own_now
+      (under_now w.geometry good.running.cat base_now own_now w.locks t w.nodes n s r w.blocks at (λ m q ne e. rows_stand_still w.locks t m (rows_of q) (λ ls i. it.took.others m ls ne))
+      (subst (λ (u : UnderWay). IsUnderOn w.geometry good.running.cat base_now own_now (changed (nodes_under w.locks w.nodes) n u) w.blocks) there (back v w.blocks up)))
+      (opens_taken name n mode w.locks (open_now good.running.cat w.nodes) good.locked.0 (no_open_lock name may.own) it.took.may (not_cw mode may.in_mode) good.running.opens)
+      (taken_cached w my_sole good.writers n s r t takes (are_sole t (set_node w.nodes n r) it.took.table (held_set t w.nodes n s r at it.took.held)) (guarding_of w good) own_now good.running.cat good.running.cached))
       (it.took.table, held_set t w.nodes n s r at it.took.held) good.own
       (small_taken w good.small n s r at name (system_of n) mode w.blocks (lock_there w.locks n name it.took.may) (owes_so s r refl refl refl (has_asked_without X name s.kept not_x)))
       (good.few n) (λ m ne. refl)
       (λ m q ne e ls i. goes_still w.locks t m ls (it.took.others m ls ne))
       (stays_stocked s r refl refl (x_stays_without s.kept name not_x) stocked_now)
-      (is_node t w.blocks r refl refl refl refl (λ l h. me.store.kept l (rest l h)) it.rests_then (goes.granted s.seen name mode under_command.seen is)
+      (taken_writes w my_sole good.writers n s r t takes)
+      (is_node t w.blocks r refl refl refl refl (store_without s.run.phase s.kept s.cache name me.store) it.rests_then (goes.granted s.seen name mode under_command.seen is)
       (names_of_more s.seen.locks (name, mode) (λ m. takes_lock x m ≡ true) under_command.own may.own)
       (plan_stays t r no_plan refl refl)
       (asks_then r no_plan refl (ap (λ ls. ls ++ (name, mode) ∷ []) (asks_now no_plan)))
       (lock_seen x s.kept s.claims s.run s.stock s.seen name mode calmly (λ k b e. absurd (let f : need.Lock name mode ≡ need.Space k b = sym is ∙ e in cc)) (λ c. comes_behind x s.seen name may.own may.new may.turn c) not_x space_now)
-      (λ e. record { name = name; mode = mode; before = s.seen; fits = under_command.seen; next = is; is = refl; last = record { front = s.asked; last = refl } }))
+      (λ e. (record { name = name; mode = mode; before = s.seen; fits = under_command.seen; next = is; is = refl; last = record { front = s.asked; last = refl } }, aside_now name mode may.own may.new may.turn space_now)))
 
-  -- a block is looked at
-  pub looks_keep : s.plan ≡ None → (s.run.phase ≡ phase.Back → ⊥) → (lbn : ℕ) → HasSeen x (with_block lbn (block_at w.blocks lbn) s.seen) → ((k : ℕ) (b : Bool) → IsNext x s.seen (need.Space k b) → ⊥)
-      → MayLook (held_in PR s.seen.locks) (guard_of s.seen.geometry drive.own lbn) → lbn < length w.blocks
-      → Good (altered w w.locks w.blocks (set_node w.nodes n (turned (looking s lbn (block_at w.blocks lbn)))) w.history)
-  looks_keep no_plan calmly lbn seen never guarded within =
-      let b : Block = block_at w.blocks lbn in
-      let r : NodeState = turned (looking s lbn b) in
+  -- a block is seen, on the drive or in the cache
+  pub sees_keep : s.plan ≡ None → (s.run.phase ≡ phase.Back → ⊥) → (lbn : ℕ) (b : Block) (es : List Cached) (reads hits : ℕ) → HasSeen x (with_block lbn b s.seen) → ((k : ℕ) (b : Bool) → IsNext x s.seen (need.Space k b) → ⊥)
+      → MayLook (held_in PR s.seen.locks) (guard_of s.seen.geometry drive.own lbn) → slice_get w.blocks lbn ≡ Some b
+      → HasStore s.run.phase s.kept es → ((e : Cached) → Has es e → Has s.cache e ⊎ IsCachedAt (with_node w n (seen_so s lbn b es reads hits)) own_now good.running.cat n (seen_so s lbn b es reads hits) e)
+      → Good (with_node w n (seen_so s lbn b es reads hits))
+  sees_keep no_plan calmly lbn b es reads hits seen never guarded there_at store entries =
+      let r : NodeState = seen_so s lbn b es reads hits in
       let left : List (ℕ × Block) = looked_now s.run in
       let may : MayLook (held_in PR (held_by w.locks n s)) (guard_of s.seen.geometry drive.own lbn) = wider_look (held_in PR s.seen.locks) (held_in PR (held_by w.locks n s)) reads_more (guard_of s.seen.geometry drive.own lbn) guarded in
       let stands : slice_get drive.base lbn ≡ Some b
-      = sym (is_committed s.seen.geometry good.running.cat (nodes_under w.locks w.nodes) w.blocks n (at_locks n s x (held_by w.locks n s)) here drive my_sole (no_writes_now no_plan) lbn may) ∙ index_within w.blocks lbn within in
+      = sym (is_committed s.seen.geometry good.running.cat (nodes_under w.locks w.nodes) w.blocks n (at_locks n s x (held_by w.locks n s)) here drive my_sole (no_writes_now no_plan) lbn may) ∙ there_at in
       let old = (stands_joined drive.base left s.seen.blocks).0 seen_now in
       let v = becomes s.seen.geometry good.running.cat (nodes_under w.locks w.nodes) w.blocks n (at_locks n s x (held_by w.locks n s)) here drive (no_writes_now no_plan) (at_locks n r x (held_by w.locks n s)) (no_writes_now no_plan) (not_yet no_plan) outs_now
       ((stands_joined drive.base left (s.seen.blocks ++ (lbn, b) ∷ [])).1 (old.0, (stands_joined drive.base s.seen.blocks ((lbn, b) ∷ [])).1 (old.1, (stands, tt))))
@@ -353,8 +501,9 @@ module _ (w : Plain) (good : Good w) (n : ℕ) (s : NodeState) (at : node_at w.n
       ]) in
       let there : at_locks n r x (held_by w.locks n s) ≡ under_with w.locks n r r.cmd = ap (under_with w.locks n r) (sym cmd) in
       alone w good n s at r refl (λ part o low. refl) refl (owes_so s r refl refl refl refl) (stays_stocked s r refl refl (λ h. h) stocked_now)
-      (subst (λ (u : UnderWay). IsUnder w.geometry good.running.cat (changed (nodes_under w.locks w.nodes) n u) w.blocks) there (back (at_locks n r x (held_by w.locks n s)) w.blocks v))
-      (is_node w.locks w.blocks r refl refl refl refl me.store.kept me.rests seen under_command.own (plan_stays w.locks r no_plan refl refl)
+      (subst (λ (u : UnderWay). IsUnderOn w.geometry good.running.cat base_now own_now (changed (nodes_under w.locks w.nodes) n u) w.blocks) there (back (at_locks n r x (held_by w.locks n s)) w.blocks v))
+      refl entries
+      (is_node w.locks w.blocks r refl refl refl refl store me.rests seen under_command.own (plan_stays w.locks r no_plan refl refl)
       (asks_then r no_plan refl (asks_now no_plan))
       (block_seen x s.kept s.claims s.run s.stock s.seen lbn b calmly never space_now) (no_wait r.seen))
 
@@ -374,8 +523,9 @@ module _ (w : Plain) (good : Good w) (n : ℕ) (s : NodeState) (at : node_at w.n
       let there : record u { plan = map planned ws } ≡ under_with w.locks n r r.cmd
       = (λ i. record (at_locks n r x (held_by w.locks n s)) { done = not_yet no_plan i }) ∙ ap (under_with w.locks n r) (sym cmd) in
       alone w good n s at r refl (λ part o low. sym (ap (λ q. open_with part (granted_ask s.tried q) o) no_plan)) refl (owes_so s r refl refl refl refl) (stays_stocked s r refl refl (λ h. h) stocked_now)
-      (subst (λ (u : UnderWay). IsUnder w.geometry good.running.cat (changed (nodes_under w.locks w.nodes) n u) w.blocks) there (back (record u { plan = map planned ws }) w.blocks v))
-      (is_node w.locks w.blocks r refl refl refl refl me.store.kept me.rests under_command.seen under_command.own (is, free, omega arith)
+      (subst (λ (u : UnderWay). IsUnderOn w.geometry good.running.cat base_now own_now (changed (nodes_under w.locks w.nodes) n u) w.blocks) there (back (record u { plan = map planned ws }) w.blocks v))
+      (ap (λ (ws : List PlanWrite). take s.run.made s.run.writes ++ ws) (sym (ap (λ (o : Option Plan). take s.done (writes_now s.tried o)) no_plan ∙ take_none s.done))) (λ e h. inl h)
+      (is_node w.locks w.blocks r refl refl refl refl me.store me.rests under_command.seen under_command.own (is, free, omega arith)
       (asks_now no_plan ∙ sym (ap (with_ask s.seen.locks) (none_granted p.ask))) space_now (no_wait s.seen)) where
         none_granted : (o : Option PlanAsk) → own_of (granted_by false o) ≡ None
         none_granted o = refl
@@ -384,22 +534,40 @@ module _ (w : Plain) (good : Good w) (n : ℕ) (s : NodeState) (at : node_at w.n
   pub made_of : (p : Plan) → s.plan ≡ Some p → IsAtPlan x (waits_at w.locks n s.asked) s.seen s.done s.tried (Some p)
   made_of p plan = subst (IsAtPlan x (waits_at w.locks n s.asked) s.seen s.done s.tried) plan under_command.plan
 
-  -- a block is written
-  pub writes_keep : (p : Plan) → s.plan ≡ Some p → (v : PlanWrite) → slice_get (writes_by p.ask s.tried p.writes) s.done ≡ Some v
-      → Good (altered w w.locks (slice_set w.blocks v.lbn v.block) (set_node w.nodes n (turned (writing s))) w.history)
-  writes_keep p plan v next =
-      let r : NodeState = turned (writing s) in
+  -- a block is written, under a lock that is held in PW
+  pub writes_keep : (p : Plan) → s.plan ≡ Some p → (v : PlanWrite) → slice_get (writes_by p.ask s.tried p.writes) s.done ≡ Some v → v.lbn < length w.blocks → IsNamed n (held_in PW (held_by w.locks n s)) v.lock (guard_of w.geometry own_now v.lbn)
+      → guards_blocks v.lock ≡ true → Good (happens w n s (event.Write v))
+  writes_keep p plan v next within named guards =
+      let es : List Cached = cache_written w s v in
+      let r : NodeState = turned (caching es (writing s)) in
       let bs : List Block = slice_set w.blocks v.lbn v.block in
       let made = made_of p plan in
+      let ws : List PlanWrite = writes_now s.tried s.plan in
+      let ws_at : slice_get ws s.done ≡ Some v = ap (λ o. slice_get (writes_now s.tried o) s.done) plan ∙ next in
       let planned_next : slice_get (map planned (writes_now s.tried s.plan)) s.done ≡ Some (planned v) = ap (λ o. slice_get (map planned (writes_now s.tried o)) s.done) plan ∙ planned_at (writes_by p.ask s.tried p.writes) s.done v next in
       let u = writes w.geometry good.running.cat (nodes_under w.locks w.nodes) w.blocks n (at_locks n s x (held_by w.locks n s)) here good.running.drive my_sole (planned v) planned_next in
       let there : at_locks n r x (held_by w.locks n s) ≡ under_with w.locks n r s.cmd = ap (under_with w.locks n r) (sym cmd) in
+      let it : IsWriteOf w n s r own_now v = record {
+        at = at;
+        rows = refl;
+        more = λ y h. more_writes (take s.run.made s.run.writes) ws s.done y h;
+        only = λ y h. only_writes (take s.run.made s.run.writes) ws s.done v y ws_at h;
+        made = made_write (take s.run.made s.run.writes) ws s.done v ws_at;
+        holds = named.held;
+        within = within;
+        guards = named.guards;
+        goes_on = goes_higher w good v.lock v.lbn;
+        cache = refl;
+      } in
+      let stays : (name : LockName) (l : ℕ) → guard_of w.geometry own_now l ≡ Some (Lock name) → IsCacheable w.geometry own_now good.running.cat l → (guard_of w.geometry own_now l ≡ Some (Lock name)) × IsCacheable w.geometry own_now good.running.cat l = λ name l g k. (g, k) in
       rebuilt w good n s r at w.locks bs w.history
-      (still_driven w good n s r at w.locks bs (λ part o low. refl) refl
-      (under_now w.geometry good.running.cat w.locks w.locks w.nodes n s r bs at (λ m q ne e. refl) (subst (λ (u : UnderWay). IsUnder w.geometry good.running.cat (changed (nodes_under w.locks w.nodes) n u) bs) there u))
-      good.running.opens)
+      (still_driven w good n s r at w.locks bs (λ part o low. refl) refl base_now own_now
+      (under_now w.geometry good.running.cat base_now own_now w.locks w.locks w.nodes n s r bs at (λ m q ne e. refl) (subst (λ (u : UnderWay). IsUnderOn w.geometry good.running.cat base_now own_now (changed (nodes_under w.locks w.nodes) n u) bs) there u))
+      good.running.opens
+      (put_cached w my_sole good.writers n s r own_now own_now good.running.cat good.running.cat v it stays good.running.cached))
       (good.locked.0, held_same w.locks w.nodes n s r at refl good.locked.1) good.own (small_set w good.small n s r at bs (owes_so s r refl refl refl refl)) (good.few n) (λ m ne. refl) (λ m q ne e. loses_nothing w.locks m q)
       (stays_stocked s r refl refl (λ h. h) stocked_now)
-      (is_node w.locks bs r refl refl refl refl me.store.kept me.rests under_command.seen under_command.own
+      (put_writes w my_sole good.writers n s r own_now own_now good.running.cat good.running.cat v it stays)
+      (is_node w.locks bs r refl refl refl refl (rewritten_store w v s.run.phase s.kept s.cache guards me.store) me.rests under_command.seen under_command.own
       (subst (IsAtPlan x (waits_at w.locks n s.asked) s.seen (s.done + 1) s.tried) (sym plan) (made.0, made.1, (let lt : s.done < length (writes_by p.ask s.tried p.writes) = slice_get_within (writes_by p.ask s.tried p.writes) s.done v next in omega arith)))
       under_command.same space_now (no_wait s.seen))

@@ -2,34 +2,40 @@
 use Rattle.std.proofs.Common.{◌≡◌, ◌<◌, ◌&&◌, ◌||◌, not, ℕ, Bool, true, false, cond, List, Option, Some, None, length, slice_get, refl, sym, ap, subst, ◌∙◌, inl, inr}
 use Rattle.plain_cat.specs.declared.mode.Mode.TheVariants.{PR}
 use Rattle.plain_cat.specs.declared.command.Cmd.{Cmd}
+use Rattle.plain_cat.specs.declared.reply.Reply.{Reply}
 use Rattle.plain_vol.specs.Own.{next_command}
 use Rattle.node_locks.specs.Held.{waits_at}
-use Rattle.vol_under.specs.Guards.{MayLook}
+use Rattle.vol_parts.specs.declared.geometry.Geometry.{Geometry}
+use Rattle.vol_under.specs.Guards.{Lock, guard_of, MayLook}
 use Rattle.vol_under.specs.UnderWay.{UnderWay, changed}
-use Rattle.vol_under.specs.Under.{IsUnder}
+use Rattle.cache_laws.specs.Committed.{IsUnderOn, on_its_own}
+use Rattle.cache_laws.proofs.Committed.{alike_on}
 use Rattle.vol_under.proofs.Nodes.{each}
-use Rattle.vol_under.proofs.Steps.{nodes_alike}
 use Rattle.op_law.specs.declared.need.Need.{Need}
 use Rattle.op_law.specs.declared.need.Need.TheVariants as need
+use Rattle.op_law.specs.declared.need.Ask.{Ask}
 use Rattle.op_law.specs.declared.need.Plan.{Plan}
 use Rattle.op_law.specs.declared.need.PlanWrite.{PlanWrite}
 use Rattle.op_law.specs.Needs.{need_of, IsNext}
 use Rattle.op_law.specs.Going.{IsLookAt}
-use Rattle.op_law.specs.Laws.{held_in, Lawful}
+use Rattle.op_law.specs.Laws.{held_in, IsCacheable, Lawful}
 use Rattle.core_space.specs.declared.run.Phase.TheVariants as phase
 use Rattle.core_space.specs.Rule.{space_event}
 use Rattle.core_state.specs.Worlds.{NodeState, Plain, node_at, with_node, or_next, current}
 use Rattle.core_state.specs.Asks.{writes_by}
 use Rattle.core_state.specs.Searches.{wanted_by, numbered_by, IsOff, Spaces}
 use Rattle.core_state.specs.Goods.{under_with, nodes_under, IsNode, Good}
+use Rattle.core_state.specs.Event.{Event}
 use Rattle.core_state.specs.Event as event
-use Rattle.core_state.specs.Events.{phase_begun, serves, serving, served_for, served_by, served, space_state, space_need, by_rule, by_need, by_write, by_plan, by_command, by_turn, is_out, gives_back_in, gives_back, stands, event_of, event_now, begun, prepared_by, is_held_up, prepared, readied_at, happens, happen_at, happen, after_turn, turned}
+use Rattle.core_state.specs.Events.{phase_begun, serves, serving, served_for, served_by, served, space_state, space_need, by_rule, by_need, by_write, by_end, by_plan, by_command, by_turn, is_out, gives_back_in, gives_back, stands, event_of, event_now, begun, prepared_by, is_held_up, prepared, readied_at, happens, happen_at, happen, after_turn, turned, or_use, one_more, block_at}
 use Rattle.core_state.proofs.Nodes.{at_here, set_node_twice, set_node_same}
 use Rattle.core_state.proofs.Running.{under_here}
 use Rattle.core_state.proofs.SmallWorlds.{owes_same}
 use Rattle.core_state.proofs.Beginning.{alone, stays_stocked, begins}
 use Rattle.core_state.proofs.Standing.{at_rest_so}
-use Rattle.core_state.proofs.Turning.{under_command, drive, may_need, goes, locks_keep, looks_keep, plans_keep, writes_keep}
+use Rattle.core_state.proofs.Turning.{under_command, drive, may_need, goes, reads_more, index_within, seen_so, locks_keep, sees_keep, plans_keep, writes_keep}
+use Rattle.core_state.proofs.CachedTurns.{look_turn}
+use Rattle.core_state.proofs.CachedPlans.{plan_within, plan_named, plan_guards}
 use Rattle.core_state.proofs.Serving.{serve_keeps}
 use Rattle.core_state.proofs.Rulings.{rules_keep, backs_keep}
 use Rattle.core_state.proofs.Leaving.{leaves_keep}
@@ -42,21 +48,28 @@ module _ (w : Plain) (good : Good w) (n : ℕ) (s : NodeState) (at : node_at w.n
   mine = good.nodes n s at
 
   turned_keeps : Good (with_node w n (turned s))
-  turned_keeps = alone w good n s at (turned s) refl (λ part o low. refl) refl (owes_same s (turned s) refl refl) (stays_stocked s (turned s) refl refl (λ h. h) (good.running.stocked n s at)) drive_then (record {
+  turned_keeps = alone w good n s at (turned s) refl (λ part o low. refl) refl (owes_same s (turned s) refl refl) (stays_stocked s (turned s) refl refl (λ h. h) (good.running.stocked n s at)) drive_then refl (λ e h. inl h) (record {
     past = mine.past;
     geometry = mine.geometry;
     channels = mine.channels;
     channel = mine.channel;
     store = mine.store;
     rests = mine.rests;
+    asks = mine.asks;
     command = mine.command;
     space = mine.space;
     over = mine.over;
     gone = mine.gone;
   }) where
-    drive_then : IsUnder w.geometry good.running.cat (changed (nodes_under w.locks w.nodes) n (under_with w.locks n (turned s) s.cmd)) w.blocks
-    drive_then = subst (λ (v : UnderWay). IsUnder w.geometry good.running.cat (changed (nodes_under w.locks w.nodes) n v) w.blocks) (under_here w.locks w.nodes n s at)
-        (nodes_alike w.geometry good.running.cat (nodes_under w.locks w.nodes) (changed (nodes_under w.locks w.nodes) n (nodes_under w.locks w.nodes n)) w.blocks (λ m. sym (each (λ (k : ℕ) (v : UnderWay). v ≡ nodes_under w.locks w.nodes k) (nodes_under w.locks w.nodes) n (nodes_under w.locks w.nodes n) refl (λ k ne. refl) m)) good.running.drive)
+    drive_then : IsUnderOn w.geometry good.running.cat good.running.drive.base good.running.drive.own (changed (nodes_under w.locks w.nodes) n (under_with w.locks n (turned s) s.cmd)) w.blocks
+    drive_then = subst (λ (v : UnderWay). IsUnderOn w.geometry good.running.cat good.running.drive.base good.running.drive.own (changed (nodes_under w.locks w.nodes) n v) w.blocks) (under_here w.locks w.nodes n s at)
+        (alike_on w.geometry good.running.cat good.running.drive.base good.running.drive.own (nodes_under w.locks w.nodes) (changed (nodes_under w.locks w.nodes) n (nodes_under w.locks w.nodes n)) w.blocks (λ m. sym (each (λ (k : ℕ) (v : UnderWay). v ≡ nodes_under w.locks w.nodes k) (nodes_under w.locks w.nodes) n (nodes_under w.locks w.nodes n) refl (λ k ne. refl) m)) (on_its_own w.geometry good.running.cat (nodes_under w.locks w.nodes) w.blocks good.running.drive))
+
+-- what comes behind the writes of a plan is no look
+no_look : (w : Plain) (s : NodeState) (x : Cmd) (r : Reply) (tried : Bool) (o : Option Ask) → or_use w s (by_end x r tried o) ≡ by_end x r tried o
+no_look w s x r tried None = refl
+no_look w s x r true (Some a) = refl
+no_look w s x r false (Some a) = refl
 
 -- ---- a node with a command, which gives nothing back
 
@@ -64,35 +77,44 @@ module _ (w : Plain) (good : Good w) (n : ℕ) (s : NodeState) (at : node_at w.n
   within : (lbn : ℕ) → lbn < length (drive w good n s at x cmd free).base → lbn < length w.blocks
   within lbn lt = subst (λ (k : ℕ). lbn < k) (sym (drive w good n s at x cmd free).over.count) lt
 
+  me_geometry : s.seen.geometry ≡ w.geometry
+  me_geometry = (good.nodes n s at).geometry
+
   space_keeps : s.plan ≡ None → IsNext x s.seen (need.Space (wanted_by x s.seen) (numbered_by x s.seen)) → (b : Bool) → serves s (wanted_by x s.seen) (numbered_by x s.seen) ≡ b
-      → Good (happens w n s (cond b event.SpaceEnd (by_rule s (phase_begun s.run.phase) (space_need (wanted_by x s.seen) (numbered_by x s.seen)) (space_event (space_state s) (space_need (wanted_by x s.seen) (numbered_by x s.seen))))))
+      → Good (happens w n s (or_use w s (cond b event.SpaceEnd (by_rule s (phase_begun s.run.phase) (space_need (wanted_by x s.seen) (numbered_by x s.seen)) (space_event (space_state s) (space_need (wanted_by x s.seen) (numbered_by x s.seen)))))))
   space_keeps no_plan is true e = turned_keeps w good n s at
   space_keeps no_plan is false e = rules_keep w good n s at on x cmd free no_plan granted is e calmly
 
-  need_keeps : s.plan ≡ None → (next : Need) → IsNext x s.seen next → Good (happens w n s (by_need s next))
+  need_keeps : s.plan ≡ None → (next : Need) → IsNext x s.seen next → Good (happens w n s (or_use w s (by_need s next)))
   need_keeps no_plan (need.Lock name mode) is = locks_keep w good n s at x cmd free no_plan calmly name mode is
   need_keeps no_plan (need.Block name lbn) is =
-      looks_keep w good n s at x cmd free no_plan calmly lbn ((goes w good n s at x cmd free).looked s.seen lbn _ (under_command w good n s at x cmd free).seen (subst (IsLookAt lbn) (sym is) refl))
-      (λ k b e. absurd (let f : need.Block name lbn ≡ need.Space k b = sym is ∙ e in cc))
-      (subst (MayLook (held_in PR s.seen.locks)) (sym (may_need w good n s at x cmd free (need.Block name lbn) is).guard) (may_need w good n s at x cmd free (need.Block name lbn) is).held)
-      (within lbn (may_need w good n s at x cmd free (need.Block name lbn) is).within)
+      let may = may_need w good n s at x cmd free (need.Block name lbn) is in
+      look_turn w good n s at name lbn (reads_more w good n s at x cmd free name may.held)
+      (subst (λ (g : Geometry). guard_of g good.running.drive.own lbn ≡ Some (Lock name)) me_geometry may.guard)
+      (subst (λ (g : Geometry). IsCacheable g good.running.drive.own good.running.cat lbn) me_geometry may.kind) (within lbn may.within)
+      (λ b es reads hits there store entries. sees_keep w good n s at x cmd free no_plan calmly lbn b es reads hits
+      ((goes w good n s at x cmd free).looked s.seen lbn b (under_command w good n s at x cmd free).seen (subst (IsLookAt lbn) (sym is) refl))
+      (λ k c e. absurd (let f : need.Block name lbn ≡ need.Space k c = sym is ∙ e in cc))
+      (subst (MayLook (held_in PR s.seen.locks)) (sym may.guard) may.held) there store (λ e h. entries (seen_so s lbn b es reads hits) refl e h))
   need_keeps no_plan (need.Bare lbn) is =
-      looks_keep w good n s at x cmd free no_plan calmly lbn ((goes w good n s at x cmd free).looked s.seen lbn _ (under_command w good n s at x cmd free).seen (subst (IsLookAt lbn) (sym is) refl))
+      let may = may_need w good n s at x cmd free (need.Bare lbn) is in
+      sees_keep w good n s at x cmd free no_plan calmly lbn (block_at w.blocks lbn) s.cache (one_more s.reads) s.hits
+      ((goes w good n s at x cmd free).looked s.seen lbn (block_at w.blocks lbn) (under_command w good n s at x cmd free).seen (subst (IsLookAt lbn) (sym is) refl))
       (λ k b e. absurd (let f : need.Bare lbn ≡ need.Space k b = sym is ∙ e in cc))
-      (may_need w good n s at x cmd free (need.Bare lbn) is).guard (within lbn (may_need w good n s at x cmd free (need.Bare lbn) is).within)
+      may.guard (index_within w.blocks lbn (within lbn may.within)) (good.nodes n s at).store (λ e h. inl h)
   need_keeps no_plan (need.Space clusters number) is =
       let may = may_need w good n s at x cmd free (need.Space clusters number) is in
       let k : clusters ≡ wanted_by x s.seen = may.0.clusters_are in
       let b : number ≡ numbered_by x s.seen = may.0.number_is in
-      subst (λ (nd : Need). Good (happens w n s (by_need s nd))) (λ i. need.Space (sym k i) (sym b i))
+      subst (λ (nd : Need). Good (happens w n s (or_use w s (by_need s nd)))) (λ i. need.Space (sym k i) (sym b i))
       (space_keeps no_plan (is ∙ (λ i. need.Space (k i) (b i))) (serves s (wanted_by x s.seen) (numbered_by x s.seen)) refl)
   need_keeps no_plan (need.Ready p) is = plans_keep w good n s at x cmd free no_plan p is
 
-  write_keeps : (p : Plan) → s.plan ≡ Some p → (o : Option PlanWrite) → slice_get (writes_by p.ask s.tried p.writes) s.done ≡ o → Good (happens w n s (by_write x p s.tried o))
-  write_keeps p plan (Some v) next = writes_keep w good n s at x cmd free p plan v next
-  write_keeps p plan None last = ends_keep w good n s at x cmd free granted p plan last
+  write_keeps : (p : Plan) → s.plan ≡ Some p → (o : Option PlanWrite) → slice_get (writes_by p.ask s.tried p.writes) s.done ≡ o → Good (happens w n s (or_use w s (by_write x p s.tried o)))
+  write_keeps p plan (Some v) next = writes_keep w good n s at x cmd free p plan v next (plan_within w good n s at x cmd free p plan v next) (plan_named w good n s at x cmd free p plan v next) (plan_guards w good n s at x cmd free p plan v next)
+  write_keeps p plan None last = subst (λ (e : Event). Good (happens w n s e)) (sym (no_look w s x p.reply s.tried p.ask)) (ends_keep w good n s at x cmd free granted calmly p plan last)
 
-  pub plan_keeps : (o : Option Plan) → s.plan ≡ o → Good (happens w n s (by_plan x s o))
+  pub plan_keeps : (o : Option Plan) → s.plan ≡ o → Good (happens w n s (or_use w s (by_plan x s o)))
   plan_keeps None e = need_keeps e (need_of x s.seen) refl
   plan_keeps (Some p) e = write_keeps p e (slice_get (writes_by p.ask s.tried p.writes) s.done) refl
 
@@ -110,21 +132,21 @@ module _ (w : Plain) (good : Good w) (n : ℕ) (s : NodeState) (at : node_at w.n
     calmly : gives_back w n s ≡ false → s.run.phase ≡ phase.Back → ⊥
     calmly e f = absurd (let g : true ≡ false = sym (ap (gives_back_in w n s) f) ∙ e in cc)
 
-    by_cmd : is_out s ≡ false → stands w n s ≡ false → gives_back w n s ≡ false → (o : Option Cmd) → s.cmd ≡ o → Good (happens w n s (by_command s o))
+    by_cmd : is_out s ≡ false → stands w n s ≡ false → gives_back w n s ≡ false → (o : Option Cmd) → s.cmd ≡ o → Good (happens w n s (or_use w s (by_command s o)))
     by_cmd on still keeps_it None e = leaves_keep w good n s at on e (ends on still keeps_it e) keeps_it
     by_cmd on still keeps_it (Some x) e =
         let its = not_standing (waits_at w.locks n s.claims) (gives_back w n s) (waits_at w.locks n s.asked) still in
         plan_keeps w good n s at on x e (its.1 keeps_it) its.0 (calmly keeps_it) s.plan refl
 
-    by_gives : (t : Bool) → is_out s ≡ false → stands w n s ≡ false → gives_back w n s ≡ t → Good (happens w n s (by_turn s t))
+    by_gives : (t : Bool) → is_out s ≡ false → stands w n s ≡ false → gives_back w n s ≡ t → Good (happens w n s (or_use w s (by_turn s t)))
     by_gives true on still e = backs_keep w good n s at on (not_standing (waits_at w.locks n s.claims) (gives_back w n s) (waits_at w.locks n s.asked) still).0 e
     by_gives false on still e = by_cmd on still e s.cmd refl
 
-    by_waits : (t : Bool) → is_out s ≡ false → stands w n s ≡ t → Good (happens w n s (cond t event.Stand (by_turn s (gives_back w n s))))
+    by_waits : (t : Bool) → is_out s ≡ false → stands w n s ≡ t → Good (happens w n s (cond t event.Stand (or_use w s (by_turn s (gives_back w n s)))))
     by_waits true on e = turned_keeps w good n s at
     by_waits false on e = by_gives (gives_back w n s) on e refl
 
-    by_out : (t : Bool) → is_out s ≡ t → Good (happens w n s (cond t event.Rest (cond (stands w n s) event.Stand (by_turn s (gives_back w n s)))))
+    by_out : (t : Bool) → is_out s ≡ t → Good (happens w n s (cond t event.Rest (cond (stands w n s) event.Stand (or_use w s (by_turn s (gives_back w n s))))))
     by_out true e = turned_keeps w good n s at
     by_out false e = by_waits (stands w n s) e refl
 

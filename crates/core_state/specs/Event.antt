@@ -19,14 +19,18 @@ pub data Event : Type 0 where
   Leave : Event
   -- its command asks for a lock
   Lock : LockName → Mode → Event
-  -- its command looks at a block that a lock guards
-  Look : ℕ → Event
+  -- its command looks at a block that the lock of this name guards, and reads it from the drive
+  Look : LockName → ℕ → Event
+  -- or it uses the block that the node has cached
+  Use : LockName → ℕ → Event
   -- its command looks at a file's own block
   Fetch : ℕ → Event
   -- by its rules for space, which go on in this phase, it asks for X or for V
   Claim : Phase → LockName → Mode → Event
-  -- by its rules for space, for so many clusters and a number or none, it looks at a bitmap block
+  -- by its rules for space, for so many clusters and a number or none, it looks at a bitmap block, and reads it from the drive
   SpaceLook : ℕ → Bool → ℕ → Event
+  -- or it uses the block that the node has cached
+  SpaceUse : ℕ → Bool → ℕ → Event
   -- it makes the next write that its rules for space have decided on
   SpaceWrite : PlanWrite → Event
   -- its stock is filled, and it lowers V

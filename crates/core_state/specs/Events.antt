@@ -1,5 +1,5 @@
 -- The event of a node's turn, and what it makes of the world.
-use Rattle.std.specs.Prelude.{◌==◌, ◌+◌, ◌-◌, ◌^◌, ◌++◌, ◌||◌, ◌&&◌, not, min, ℕ, Bool, true, false, List, [], ◌∷◌, Option, Some, None, is_none, filter, find, slice_get, slice_set, slice_index_or, length, if◌then◌else◌}
+use Rattle.std.specs.Prelude.{◌==◌, ◌+◌, ◌-◌, ◌^◌, ◌++◌, ◌||◌, ◌&&◌, not, min, ℕ, Bool, true, false, List, [], ◌∷◌, Option, Some, None, is_none, is_some, filter, find, slice_get, slice_set, slice_index_or, length, if◌then◌else◌}
 use Rattle.vol_words.specs.Fields.{Block}
 use Rattle.lock_db.specs.declared.name.LockName.{LockName}
 use Rattle.lock_db.specs.declared.name.LockName.TheVariants.{A, X, V}
@@ -36,6 +36,8 @@ use Rattle.core_space.specs.declared.run.SpaceNeed.{SpaceNeed}
 use Rattle.core_space.specs.declared.event.SpaceEvent.{SpaceEvent}
 use Rattle.core_space.specs.declared.event.SpaceEvent.TheVariants as space
 use Rattle.core_space.specs.declared.event.Decision.{Decision}
+use Rattle.node_cache.specs.Cached.{Cached, used}
+use Rattle.core_space.specs.Lasting.{stays_by}
 use Rattle.core_space.specs.Rule.{SpaceState, no_run, has_any, is_due, space_event, back_event, space_decision}
 use Rattle.core_state.specs.Event.{Event}
 use Rattle.core_state.specs.Event as event
@@ -45,6 +47,7 @@ use Rattle.core_state.specs.Searches.{begun_run}
 use Rattle.core_state.specs.Channels.{channel_seen, opens_then, closed_off}
 use Rattle.core_state.specs.Asks.{has_asked, is_claiming, writes_by, writes_now, asker_of, own_of, with_ask}
 use Rattle.core_state.specs.Raises.{raise_of}
+use Rattle.core_state.specs.Caches.{sequence_now, current_entry, kept_by_look, rewritten, put_back_all, lowered_of}
 
 -- ---- which event comes
 
@@ -106,7 +109,7 @@ by_space s clusters number =
 
 abbrev pub by_need : NodeState → Need → Event
 by_need s (need.Lock name mode) = event.Lock name mode
-by_need s (need.Block name lbn) = event.Look lbn
+by_need s (need.Block name lbn) = event.Look name lbn
 by_need s (need.Bare lbn) = event.Fetch lbn
 by_need s (need.Space clusters number) = by_space s clusters number
 by_need s (need.Ready p) = event.Plan p
@@ -169,6 +172,16 @@ by_back s = by_rule s phase.Back (space_need 0 false) (back_event (space_state s
 abbrev pub stands : Plain → ℕ → NodeState → Bool
 stands w n s = waits_at w.locks n s.claims || (not (gives_back w n s) && waits_at w.locks n s.asked)
 
+-- a current entry is cached of a block, under a lock
+abbrev pub has_current : Plain → NodeState → LockName → ℕ → Bool
+has_current w s name lbn = is_some (current_entry w.geometry w.locks name lbn s.cache)
+
+-- a look at a block of which the node has a current entry is a use of it
+abbrev pub or_use : Plain → NodeState → Event → Event
+or_use w s (event.Look name lbn) = if has_current w s name lbn then event.Use name lbn else event.Look name lbn
+or_use w s (event.SpaceLook clusters number lbn) = if has_current w s V lbn then event.SpaceUse clusters number lbn else event.SpaceLook clusters number lbn
+or_use w s other = other
+
 -- the event of a node that is not out and does not wait
 abbrev pub by_turn : NodeState → Bool → Event
 by_turn s true = by_back s
@@ -177,7 +190,7 @@ by_turn s false = by_command s s.cmd
 -- the first rule that applies to a node that has prepared for its event
 abbrev pub event_of : Plain → ℕ → Option NodeState → Event
 event_of w n None = event.Rest
-event_of w n (Some s) = if is_out s then event.Rest else if stands w n s then event.Stand else by_turn s (gives_back w n s)
+event_of w n (Some s) = if is_out s then event.Rest else if stands w n s then event.Stand else or_use w s (by_turn s (gives_back w n s))
 
 abbrev pub event_now : Plain → ℕ → Event
 event_now w n = event_of w n (node_at w.nodes n)
@@ -279,8 +292,45 @@ locking s name mode = record s { asked = s.asked ++ (name, mode) ∷ []; kept = 
 abbrev pub claiming : NodeState → Phase → LockName → Mode → NodeState
 claiming s p name mode = record s { kept = without name (s.kept ++ s.claims); claims = (name, mode) ∷ []; run = record s.run { phase = p } }
 
+-- a block was read from the drive, or found cached
+abbrev pub reading : NodeState → NodeState
+reading s = record s { reads = one_more s.reads }
+
+abbrev pub hitting : NodeState → NodeState
+hitting s = record s { hits = one_more s.hits }
+
+-- its cache has these entries now
+abbrev pub caching : List Cached → NodeState → NodeState
+caching es s = record s { cache = es }
+
+-- its command has seen a block
+abbrev pub seeing : NodeState → ℕ → Block → NodeState
+seeing s lbn b = record s { seen = with_block lbn b s.seen }
+
 abbrev pub looking : NodeState → ℕ → Block → NodeState
-looking s lbn b = record s { seen = with_block lbn b s.seen; reads = one_more s.reads }
+looking s lbn b = reading (seeing s lbn b)
+
+abbrev pub using : NodeState → ℕ → Block → NodeState
+using s lbn b = hitting (seeing s lbn b)
+
+-- the bytes of the current entry of a block, and the cache with that entry in front
+abbrev pub cached_block : Option Cached → Block
+cached_block None = []
+cached_block (Some e) = e.block
+
+abbrev pub block_used : Plain → NodeState → LockName → ℕ → Block
+block_used w s name lbn = cached_block (current_entry w.geometry w.locks name lbn s.cache)
+
+abbrev pub cache_used : Plain → NodeState → LockName → ℕ → List Cached
+cache_used w s name lbn = used lbn name (sequence_now w.geometry w.locks name lbn) s.cache
+
+-- the cache after a block was read from the drive
+abbrev pub cache_looked : Plain → ℕ → NodeState → LockName → ℕ → List Cached
+cache_looked w n s name lbn = kept_by_look w.geometry w.locks n name lbn (block_at w.blocks lbn) s.cache
+
+-- and after a write
+abbrev pub cache_written : Plain → NodeState → PlanWrite → List Cached
+cache_written w s v = rewritten w.geometry w.locks v s.cache
 
 -- what the command has seen once its rules for space have come to this: why it was refused, where it was
 abbrev pub told_by : Option Refusal → Seen → Seen
@@ -302,16 +352,24 @@ ready_left phase.Last true clusters = []
 ready_left p last clusters = clusters
 
 -- a look by the rules for space, with what they come to by it
-abbrev pub space_looked : NodeState → List (ℕ × Block) → Decision → NodeState
-space_looked s looked d = record s {
+abbrev pub space_decided : NodeState → List (ℕ × Block) → Decision → NodeState
+space_decided s looked d = record s {
   seen = told_by d.short s.seen;
   run = record { phase = d.phase; looked = looked; writes = d.writes; made = 0; ready = ready_of d.phase d.writes };
-  reads = one_more s.reads;
 }
 
+-- what they come to by this block
+abbrev pub decision_on : NodeState → ℕ → Bool → ℕ → Block → Decision
+decision_on s clusters number lbn b = space_decision s.seen.geometry (looked_on s.run lbn b) (roomless s.stock) (space_need clusters number)
+
+abbrev pub space_looked : NodeState → List (ℕ × Block) → Decision → NodeState
+space_looked s looked d = reading (space_decided s looked d)
+
 abbrev pub space_looking : NodeState → ℕ → Bool → ℕ → Block → NodeState
-space_looking s clusters number lbn b =
-    space_looked s (looked_on s.run lbn b).looked (space_decision s.seen.geometry (looked_on s.run lbn b) (roomless s.stock) (space_need clusters number))
+space_looking s clusters number lbn b = space_looked s (looked_on s.run lbn b).looked (decision_on s clusters number lbn b)
+
+abbrev pub space_using : NodeState → ℕ → Bool → ℕ → Block → NodeState
+space_using s clusters number lbn b = hitting (space_decided s (looked_on s.run lbn b).looked (decision_on s clusters number lbn b))
 
 -- with its last write a search of all free space gives the command what it has taken
 abbrev pub given_by : Phase → Bool → PlanWrite → Seen → Seen
@@ -360,16 +418,20 @@ asking s a = record s { asked = with_ask s.asked (own_of (Some a)); tried = true
 abbrev pub writing : NodeState → NodeState
 writing s = record s { done = s.done + 1; writes = one_more s.writes }
 
--- a kept lock stays behind an answer: X, where the stock has something
-abbrev pub stays : Stock → LockName × Mode → Bool
-stays stock l = is_same l.0 X && has_any (roomless stock)
+-- a kept lock stays behind an answer: X, where the stock has something, and any other where a cached block is under it
+abbrev pub stays : NodeState → LockName × Mode → Bool
+stays s l = stays_by (has_any (roomless s.stock)) s.cache l
 
--- the locks that stay, and those that go back: those of the command, that of the rules for space, and the kept ones that do not stay
+-- the kept locks that stay, and those that go back
 abbrev pub staying : NodeState → List (LockName × Mode)
-staying s = filter (stays s.stock) s.kept
+staying s = filter (stays s) s.kept
 
 abbrev pub going : NodeState → List (LockName × Mode)
-going s = s.asked ++ (s.claims ++ filter (λ l. not (stays s.stock l)) s.kept)
+going s = filter (λ l. not (stays s l)) s.kept
+
+-- the locks of the command, and that of its rules for space
+abbrev pub used_locks : NodeState → List (LockName × Mode)
+used_locks s = s.asked ++ s.claims
 
 abbrev pub answering : NodeState → Cmd → Reply → NodeState
 answering s x r = record s {
@@ -380,20 +442,24 @@ answering s x r = record s {
   done = 0;
   tried = false;
   asked = [];
-  kept = staying s;
+  kept = staying s ++ lowered_of s.cache (used_locks s);
   claims = [];
   opens = opens_then s.opens x r;
   run = no_run;
 }
 
--- a node leaves with no lock
+-- a node leaves with no lock and no cached block
 abbrev pub leaving : NodeState → NodeState
-leaving s = record s { kept = []; over = true }
+leaving s = record s { kept = []; cache = []; over = true }
 
--- The locks after an answer: those that do not stay went back, and then that of its channel, where it was closed. A channel that OPEN
--- has opened keeps its lock.
+-- the locks after those of the command are put back, and those that the node kept and that do not stay
+abbrev pub all_put_back : Plain → ℕ → NodeState → List Resource
+all_put_back w n s = given_back w.geometry n (all_writes s) (going s) (put_back_all w.geometry n (all_writes s) s.cache (used_locks s) w.locks)
+
+-- The locks after an answer: behind all of these goes that of its channel, where it was closed. A channel that OPEN has opened keeps
+-- its lock.
 abbrev pub locks_after : Plain → ℕ → NodeState → Cmd → Reply → List Resource
-locks_after w n s x r = closed_off n (channel_seen s.opens x) x r (given_back w.geometry n (all_writes s) (going s) w.locks)
+locks_after w n s x r = closed_off n (channel_seen s.opens x) x r (all_put_back w n s)
 
 -- after V is lowered from PW, its value block raised by the writes under it
 abbrev pub v_lowered : Plain → ℕ → NodeState → List Resource
@@ -425,17 +491,19 @@ happens w n s event.Rest = with_node w n (turned s)
 happens w n s event.Stand = with_node w n (turned s)
 happens w n s event.Leave = with_node (record w { locks = left_alone n s.kept w.locks }) n (turned (leaving s))
 happens w n s (event.Lock name mode) = with_node (record w { locks = taken name (system_of n) mode w.locks }) n (turned (locking s name mode))
-happens w n s (event.Look lbn) = with_node w n (turned (looking s lbn (block_at w.blocks lbn)))
+happens w n s (event.Look name lbn) = with_node w n (turned (caching (cache_looked w n s name lbn) (looking s lbn (block_at w.blocks lbn))))
+happens w n s (event.Use name lbn) = with_node w n (turned (caching (cache_used w s name lbn) (using s lbn (block_used w s name lbn))))
 happens w n s (event.Fetch lbn) = with_node w n (turned (looking s lbn (block_at w.blocks lbn)))
 happens w n s (event.Claim p name mode) = with_node (record w { locks = taken name (system_of n) mode w.locks }) n (turned (claiming s p name mode))
-happens w n s (event.SpaceLook clusters number lbn) = with_node w n (turned (space_looking s clusters number lbn (block_at w.blocks lbn)))
+happens w n s (event.SpaceLook clusters number lbn) = with_node w n (turned (caching (cache_looked w n s V lbn) (space_looking s clusters number lbn (block_at w.blocks lbn))))
+happens w n s (event.SpaceUse clusters number lbn) = with_node w n (turned (caching (cache_used w s V lbn) (space_using s clusters number lbn (block_used w s V lbn))))
 happens w n s event.LowerV = with_node (record w { locks = v_lowered w n s }) n (turned (lowering s))
 happens w n s event.LowerX = with_node (record w { locks = x_lowered n (v_lowered w n s) }) n (turned (lowering_both s))
 happens w n s event.Return = with_node (record w { locks = x_returned n (v_lowered w n s) }) n (turned (returning s))
 happens w n s event.SpaceEnd = with_node w n (turned s)
-happens w n s (event.SpaceWrite v) = with_node (record w { blocks = slice_set w.blocks v.lbn v.block }) n (turned (space_writing s v))
+happens w n s (event.SpaceWrite v) = with_node (record w { blocks = slice_set w.blocks v.lbn v.block }) n (turned (caching (cache_written w s v) (space_writing s v)))
 happens w n s (event.Plan p) = with_node w n (turned (planning s p))
-happens w n s (event.Write v) = with_node (record w { blocks = slice_set w.blocks v.lbn v.block }) n (turned (writing s))
+happens w n s (event.Write v) = with_node (record w { blocks = slice_set w.blocks v.lbn v.block }) n (turned (caching (cache_written w s v) (writing s)))
 happens w n s (event.Ask x a) = asked_by w n s x a (would_go w.locks n a)
 happens w n s (event.Answer x r) = answered_by w n s x r
 

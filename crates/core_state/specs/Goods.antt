@@ -36,10 +36,10 @@ use Rattle.core_state.specs.Worlds.{Course, course_of, NodeState, Plain, node_at
 use Rattle.core_state.specs.Asks.{writes_by, writes_now, own_ask, with_ask, knows_now}
 use Rattle.core_state.specs.Opens.{open_now, AreOpensLocked}
 use Rattle.core_state.specs.Channels.{names_in_form, channel_now, HasChannels, HasOpens}
-use Rattle.core_state.specs.Stores.{HasStore, IsGone, IsStocked, AreCached}
+use Rattle.core_state.specs.Stores.{HasStore, IsGone, IsStocked, AreCached, AreHeldWrites}
 use Rattle.core_state.specs.Stocks.{stock_now, looked_now}
 use Rattle.core_state.specs.Searches.{Spaces}
-use Rattle.core_state.specs.Waiting.{WaitsForLock}
+use Rattle.core_state.specs.Waiting.{WaitsForLock, WaitsAside}
 use Rattle.core_state.specs.Small.{AreSmall}
 use Rattle.core_state.specs.Fallen.{falls, fallen, living}
 
@@ -140,7 +140,7 @@ abbrev pub HasCommand : Plain → ℕ → NodeState → Option Cmd → Type 0
 HasCommand w n s cmd = HasCourse (next_command w.script n w.history) w.locks n (course_of s) cmd
 
 -- A node has what the history says of its answers, its channels and its store are in order, it waits for none of the locks that
--- it keeps, and it stands as its command and its rules for space have left it. Once it has left or is dead, it has nothing; and it
+-- it keeps, nor for those of its command where its rules for space are at work, and it stands as its command and these have left it. Once it has left or is dead, it has nothing; and it
 -- leaves only where no command is left.
 pub record IsNode (w : Plain) (n : ℕ) (s : NodeState) : Type 0 where
   pub past : s.past ≡ past n w.history
@@ -149,6 +149,7 @@ pub record IsNode (w : Plain) (n : ℕ) (s : NodeState) : Type 0 where
   pub channel : s.seen.channel ≡ channel_now s.opens s.cmd
   pub store : HasStore s.run.phase s.kept s.cache
   pub rests : waits_at w.locks n s.kept ≡ false
+  pub asks : waits_at w.locks n s.asked ≡ true → WaitsAside s.run.phase s.asked s.seen.number
   pub command : HasCommand w n s s.cmd
   pub space : Spaces s.cmd s.kept s.claims s.run s.stock s.seen
   pub over : s.over ≡ true → IsGone s.cmd s.asked s.kept s.claims s.stock s.cache × (next_command w.script n w.history ≡ None)
@@ -171,6 +172,7 @@ pub record Good (w : Plain) : Type 0 where
   pub nodes : (n : ℕ) (s : NodeState) → node_at w.nodes n ≡ Some s → IsNode w n s
   pub own : Own w.script w.history
   pub small : AreSmall w
+  pub writers : AreHeldWrites w
   pub form : InForm w.script
   pub few : (n : ℕ) → HasFewAnswers w.script n (past n w.history)
   -- the entries are of nodes of the world

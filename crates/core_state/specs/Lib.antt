@@ -3,6 +3,7 @@ pub mod Worlds
 pub mod Stocks
 pub mod Images
 pub mod Raises
+pub mod Caches
 pub mod Asks
 pub mod Opens
 pub mod Channels
@@ -17,3 +18,4 @@ pub mod Event
 pub mod Events
 pub mod Deaths
 pub mod Outside
+pub mod Uses

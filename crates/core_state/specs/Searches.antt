@@ -1,5 +1,5 @@
 -- How a node stands by its rules for space.
-use Rattle.std.specs.Prelude.{◌≡◌, ◌⊎◌, ◌<◌, ◌≤◌, ◌++◌, ℕ, true, false, Bool, [], ◌∷◌, Option, None, Some, is_some, length, map, drop}
+use Rattle.std.specs.Prelude.{◌≡◌, ◌⊎◌, ◌<◌, ◌≤◌, ◌++◌, ℕ, true, false, Bool, List, [], ◌∷◌, Option, None, Some, is_some, length, map, drop}
 use Rattle.lock_db.specs.declared.name.LockName.{LockName}
 use Rattle.lock_db.specs.declared.name.LockName.TheVariants.{S, Q, X, V}
 use Rattle.plain_cat.specs.declared.mode.Mode.{Mode}
@@ -11,6 +11,7 @@ use Rattle.vol_owners.specs.Lists.{Has, Once, Touches}
 use Rattle.vol_parts.specs.declared.geometry.Geometry.{Geometry}
 use Rattle.vol_under.specs.Keeping.{IsBitmap}
 use Rattle.op_law.specs.declared.need.Need.TheVariants as need
+use Rattle.op_law.specs.declared.need.PlanWrite.{PlanWrite}
 use Rattle.op_law.specs.declared.seen.Seen.{Seen}
 use Rattle.op_law.specs.Events.{space_of, has_space, HasNoSpace}
 use Rattle.op_law.specs.Needs.{IsNext}
@@ -127,13 +128,18 @@ pub record FillWrites (x : Cmd) (kept claimed : Row) (run : SpaceRun) (stock : S
   pub enough : filled seen.geometry (wanted_by x seen) (length stock.clusters) (lacks_by x seen stock) (blocks_of run.looked) ≡ Some run.writes
   pub part : run.made < length run.writes
 
--- all are made, and the stock is enough
+-- each of these writes is under V
+abbrev pub AreUnderV : List PlanWrite → Type 0
+AreUnderV ws = (w : PlanWrite) → Has ws w → w.lock ≡ V
+
+-- all are made, each under V, and the stock is enough
 pub record HasFilled (x : Cmd) (kept claimed : Row) (run : SpaceRun) (stock : Stock) (seen : Seen) : Type 0 where
   pub fill : run.phase ≡ phase.Fill
   pub shared : Has kept (X, CR)
   pub claims : claimed ≡ (V, PW) ∷ []
   pub needs : NeedsSpace x seen
   pub all : run.made ≡ length run.writes
+  pub locks : AreUnderV run.writes
   pub enough : is_enough x seen stock ≡ true
 
 -- ---- giving back
@@ -142,12 +148,14 @@ pub record HasFilled (x : Cmd) (kept claimed : Row) (run : SpaceRun) (stock : St
 abbrev pub next_back : Geometry → Stock → SpaceRun → Option ℕ
 next_back g stock run = give_place g stock.clusters stock.numbers run.looked
 
--- What is left to be written makes all of the stock free, and what it writes was looked at; no two writes are to the same block.
+-- What is left to be written makes all of the stock free, and what it writes was looked at; no two writes are to the same block, and
+-- each is under V.
 pub record IsWritingBack (g : Geometry) (stock : Stock) (run : SpaceRun) : Type 0 where
   pub rest : drop run.made run.writes ≡ give_writes g stock.clusters stock.numbers run.looked
   pub within : run.made ≤ length run.writes
   pub all : next_back g stock run ≡ None
   pub once : Once (map (λ w. w.lbn) run.writes)
+  pub locks : AreUnderV run.writes
 
 -- a give-back looks on, or writes
 pub data IsGoingBack (g : Geometry) (stock : Stock) (run : SpaceRun) : Type 0 where

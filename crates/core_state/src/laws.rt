@@ -1,13 +1,19 @@
 //! Laws of worlds, each as the contract of a function that does nothing.
 
-ghost use Rattle.std.specs.Prelude.{◌≡◌, ℕ, false, Some};
+ghost use Rattle.std.specs.Prelude.{◌≡◌, ℕ, false, Some, slice_get};
+ghost use Rattle.lock_db.specs.declared.name.LockName.{LockName};
+ghost use Rattle.node_cache.specs.Cached.{Cached};
+ghost use Rattle.plain_cat.specs.declared.mode.Mode.TheVariants.{PR};
+ghost use Rattle.vol_owners.specs.Lists.{Has};
 ghost use Rattle.plain_cat.specs.declared.command.Cmd.{Cmd};
 ghost use Rattle.plain_cat.specs.declared.reply.Refusal.{Refusal};
-ghost use Rattle.op_law.specs.Laws.{Lawful};
+ghost use Rattle.op_law.specs.Laws.{held_in, Lawful};
 ghost use Rattle.core_state.specs.Worlds.{NodeState, Plain, node_at, current};
-ghost use Rattle.core_state.specs.Goods.{Good};
+ghost use Rattle.core_state.specs.Caches.{current_entry};
+ghost use Rattle.core_state.specs.Goods.{Good, held_by};
 ghost use Rattle.core_state.specs.Events.{is_held_up, is_over, after_turn};
 ghost use Rattle.core_state.specs.Deaths.{died};
+ghost use Rattle.core_state.specs.Uses.{UsesTheDrives};
 ghost use Rattle.core_state.specs.Outside.{IsOutsideLocked, IsSoleOutside};
 
 /// A world keeps the rules where a node dies, whatever its command had come to: the history, with the death as its last entry, replays
@@ -34,4 +40,17 @@ pub fn stocks_are_locked()
 /// A command is refused for want of space only where its node holds X in EX and V in PW, and no other node has anything outside.
 pub fn shortage_is_of_all()
     ensures { (w : Plain) (n : ℕ) (s : NodeState) (r : Refusal) → Good w → node_at w.nodes n ≡ Some s → s.seen.short ≡ Some r → IsSoleOutside w n s }
+{}
+
+/// A cached block whose entry is current, of a node that holds its lock in PR or more, is the drive's: so is each that a turn uses.
+pub fn current_blocks_are_the_drives()
+    ensures { (w : Plain) (n : ℕ) (s : NodeState) (name : LockName) (lbn : ℕ) (e : Cached) → Good w → node_at w.nodes n ≡ Some s → Has (held_in PR (held_by w.locks n s)) name
+        → current_entry w.geometry w.locks name lbn s.cache ≡ Some e → slice_get w.blocks lbn ≡ Some e.block }
+{}
+
+/// Each block that a node uses from its cache in its next turn is the drive's, if its command obeys the law.
+pub fn used_blocks_are_the_drives()
+    ensures { (w : Plain) (n : ℕ) → Good w
+        → ((s : NodeState) (x : Cmd) → node_at w.nodes n ≡ Some s → is_held_up w n s ≡ false → current w n s ≡ Some x → Lawful x)
+        → UsesTheDrives w n }
 {}

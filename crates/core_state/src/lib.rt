@@ -10,7 +10,8 @@
 //! `mount` gives exactly the world of an accepted volume with all nodes at rest, or the drive back, with the first finding or
 //! want of memory (`world`, `end`). At any time the history replays, in each node's own order, and the drive has the blocks to
 //! which it leads, with the writes done of each plan (`keeps_the_rules`). Laws: a turn and a death keep this
-//! (`turns_keep_the_rules`, `deaths_keep_the_rules`).
+//! (`turns_keep_the_rules`, `deaths_keep_the_rules`), and a cached block that a turn uses is the drive's
+//! (`used_blocks_are_the_drives`).
 #![tactic(auto)]
 
 mod cluster;
@@ -23,7 +24,8 @@ mod world;
 pub use cluster::Core;
 pub use core_space::{Phase, SpaceRun};
 pub use laws::{
-    deaths_keep_the_rules, shortage_is_of_all, stocks_are_locked, turns_keep_the_rules,
+    current_blocks_are_the_drives, deaths_keep_the_rules, shortage_is_of_all, stocks_are_locked,
+    turns_keep_the_rules, used_blocks_are_the_drives,
 };
 pub use mounting::{MountFault, MountRefused};
 pub use node::Node;

@@ -42,7 +42,7 @@ pub struct Node<O: Operation> {
     /// The free clusters and file numbers that it keeps for its commands.
     pub stock: Extents,
 
-    /// The blocks that it keeps, each under the lock by which it was looked at: none so far.
+    /// The blocks that it keeps, each under the lock by which it was looked at.
     pub cache: NodeCache,
 
     /// Its script is done, and it has left the volume.

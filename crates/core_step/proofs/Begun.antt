@@ -25,7 +25,7 @@ use Rattle.core_state.specs.Searches.{IsOff, Spaces}
 use Rattle.core_state.specs.Goods.{HasCommand, IsNode, Good, HasRoom}
 use Rattle.core_state.specs.Event.{Event}
 use Rattle.core_state.specs.Event as event
-use Rattle.core_state.specs.Events.{mode_in, space_locks, space_state, space_need, phase_begun, by_rule, serves, serving, served_for, served_by, served, is_out, is_ended, is_wanted, is_due_in, gives_back_in, gives_back, stands, is_held_up, by_back, by_need, by_plan, by_command, by_turn, event_of, event_now, next_event, prepared, readied, begun, happen, happens, after_turn}
+use Rattle.core_state.specs.Events.{mode_in, space_locks, space_state, space_need, phase_begun, by_rule, serves, serving, served_for, served_by, served, is_out, is_ended, is_wanted, is_due_in, gives_back_in, gives_back, stands, is_held_up, by_back, by_need, by_plan, by_command, by_turn, event_of, event_now, next_event, prepared, readied, begun, or_use, happen, happens, after_turn}
 use Rattle.core_state.specs.declared.node.Node.{Node}
 use Rattle.core_state.proofs.Naming.{none_of}
 use Rattle.core_state.proofs.Nodes.{at_here, set_node_twice}
@@ -39,6 +39,7 @@ use Rattle.core_step.specs.Ready.{Makes, IsBegun, Begins, forgotten}
 use Rattle.core_step.specs.Giving.{MayLeaveAll}
 use Rattle.core_step.specs.Memory.{takes_none}
 use Rattle.core_state.proofs.Leaving.{leaves_may}
+use Rattle.core_step.proofs.Caching.{takes_or_use}
 use Rattle.core_step.proofs.Ready.{may_leave_each}
 use Rattle.core_step.proofs.Steps.{happen_here}
 use Rattle.core_step.proofs.Setting.{set_so, reset_so, set_room, reset_room}
@@ -55,18 +56,18 @@ module _ (w : Plain) (n : ℕ) (s : NodeState) (at : node_at w.nodes n ≡ Some 
   makes_now k same is = let stays : readied w n ≡ w = readied_same w n s at same in record { event = ap (λ v. event_now v n) stays ∙ ap (event_of w n) at ∙ is; stays = stays }
 
   pub rests : is_out s ≡ true → Makes w n event.Rest
-  rests out = makes_now event.Rest (rests_prepared w n s (ap (λ t. t || (gives_back w n s || stands w n s)) out)) (ap (λ t. cond t event.Rest (cond (stands w n s) event.Stand (by_turn s (gives_back w n s)))) out)
+  rests out = makes_now event.Rest (rests_prepared w n s (ap (λ t. t || (gives_back w n s || stands w n s)) out)) (ap (λ t. cond t event.Rest (cond (stands w n s) event.Stand (or_use w s (by_turn s (gives_back w n s))))) out)
 
   pub stands_still : is_out s ≡ false → stands w n s ≡ true → Makes w n event.Stand
-  stands_still on waits = makes_now event.Stand (rests_prepared w n s ((λ i. on i || (gives_back w n s || waits i)) ∙ or_true (gives_back w n s))) (λ i. cond (on i) event.Rest (cond (waits i) event.Stand (by_turn s (gives_back w n s))))
+  stands_still on waits = makes_now event.Stand (rests_prepared w n s ((λ i. on i || (gives_back w n s || waits i)) ∙ or_true (gives_back w n s))) (λ i. cond (on i) event.Rest (cond (waits i) event.Stand (or_use w s (by_turn s (gives_back w n s)))))
 
-  pub gives_so : is_out s ≡ false → stands w n s ≡ false → gives_back w n s ≡ true → Makes w n (by_back s)
-  gives_so on still gives = makes_now (by_back s) (rests_prepared w n s (λ i. on i || (gives i || stands w n s))) (λ i. cond (on i) event.Rest (cond (still i) event.Stand (by_turn s (gives i))))
+  pub gives_so : is_out s ≡ false → stands w n s ≡ false → gives_back w n s ≡ true → Makes w n (or_use w s (by_back s))
+  gives_so on still gives = makes_now (or_use w s (by_back s)) (rests_prepared w n s (λ i. on i || (gives i || stands w n s))) (λ i. cond (on i) event.Rest (cond (still i) event.Stand (or_use w s (by_turn s (gives i)))))
 
   pub leaves : is_out s ≡ false → stands w n s ≡ false → gives_back w n s ≡ false → s.cmd ≡ None → next_command w.script n w.history ≡ None → Makes w n event.Leave
   leaves on still keeps_it idle none =
       makes_now event.Leave (begins_prepared w n s None (λ i. on i || (keeps_it i || still i)) idle none ∙ ap (λ o. served_by s o s.plan) idle)
-      ((λ i. cond (on i) event.Rest (cond (still i) event.Stand (by_turn s (keeps_it i)))) ∙ ap (by_command s) idle)
+      ((λ i. cond (on i) event.Rest (cond (still i) event.Stand (or_use w s (by_turn s (keeps_it i))))) ∙ ap (λ o. or_use w s (by_command s o)) idle)
 
   -- a turn in which nothing happens is one of a node that is over
   pub rests_so : happen w n event.Stand ≡ happen w n event.Rest
@@ -201,13 +202,17 @@ module _ (w : Plain) (good : Good w) (n : ℕ) (x : Cmd) (b : Begins w n x) wher
 
   begun_event : EventBy (begun s x)
   begun_event =
-      (λ i. takes_none w.locks n (cond (b.on i) event.Rest (cond (b.granted i || (not (gives_begun i) && free i)) event.Stand (by_turn (begun s x) (gives_begun i)))))
-      ∙ ap (λ o. takes_none w.locks n (by_plan x (begun s x) o)) no_plan ∙ by_next (begun s x) (inl off_phase) refl refl (need_of x (begun s x).seen)
+      (λ i. takes_none w.locks n (cond (b.on i) event.Rest (cond (b.granted i || (not (gives_begun i) && free i)) event.Stand (or_use w1 (begun s x) (by_turn (begun s x) (gives_begun i))))))
+      ∙ ap (λ o. takes_none w.locks n (or_use w1 (begun s x) (by_plan x (begun s x) o))) no_plan
+      ∙ takes_or_use w.locks n w1 (begun s x) (by_need (begun s x) (need_of x (begun s x).seen)) ∙ by_next (begun s x) (inl off_phase) refl refl (need_of x (begun s x).seen)
 
   served_event : (k : ℕ) (c : Bool) → EventBy (serving (begun s x) k c)
   served_event k c =
-      (λ i. takes_none w.locks n (cond (b.on i) event.Rest (cond (b.granted i || free i) event.Stand (by_command (serving (begun s x) k c) (Some x)))))
-      ∙ ap (λ o. takes_none w.locks n (by_plan x (serving (begun s x) k c) o)) no_plan ∙ by_next (serving (begun s x) k c) (inr refl) refl refl (need_of x (serving (begun s x) k c).seen)
+      let q : NodeState = serving (begun s x) k c in
+      let v : Plain = with_node w n q in
+      (λ i. takes_none w.locks n (cond (b.on i) event.Rest (cond (b.granted i || free i) event.Stand (or_use v q (by_command q (Some x))))))
+      ∙ ap (λ o. takes_none w.locks n (or_use v q (by_plan x q o))) no_plan
+      ∙ takes_or_use w.locks n v q (by_need q (need_of x q.seen)) ∙ by_next (serving (begun s x) k c) (inr refl) refl refl (need_of x (serving (begun s x) k c).seen)
 
   by_test_event : (k : ℕ) (c : Bool) (t : Bool) → EventBy (cond t (serving (begun s x) k c) (begun s x))
   by_test_event k c true = served_event k c

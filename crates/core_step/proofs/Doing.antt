@@ -52,7 +52,6 @@ use Rattle.core_state.specs.Goods.{nodes_under, IsNode, Good, under_with}
 use Rattle.core_state.specs.Event.{Event}
 use Rattle.core_state.specs.Event as event
 use Rattle.core_state.specs.Events.{mode_in, is_out, is_last, serves, by_space, by_back, gives_back, gives_back_in}
-use Rattle.core_state.specs.Stores.{AreKept}
 use Rattle.core_state.specs.Stocks.{has_bit_at, things_in, stock_now}
 use Rattle.core_state.specs.Searches.{begun_run, wanted_by, numbered_by, lacks_by, NeedsSpace, IsOff, FillWrites, IsWritingBack, IsTaking, Rules, Served, Given, Shared, Fills, Grabs, Filled, Drains, Alone, Looking, Taking, Taken, Refused, Spaces}
 use Rattle.core_state.proofs.Naming.{one_of, named_by}
@@ -75,39 +74,13 @@ use Rattle.core_state.proofs.Rulings.{taken_not}
 use Rattle.core_state.proofs.Comes.{Moves, ClaimsX, ClaimsV, ClaimsBehind, ClaimsAlone, ClaimsLast, FillLook, DrainLook, LastLook, FillWrite, DrainWrite, LastWrite, Lowers, Drained, moves_so, BackMoves, BackClaims, BackLooks, BackWrites, Returns, back_moves_so}
 use Rattle.core_step.specs.Spaces.{IsBitmapPlace, Index, InStorage, CanTake}
 use Rattle.core_step.specs.Moving.{IsClaimable, IsNextWrite, CanMove}
+use Rattle.core_step.proofs.Few.{kept_few, few_length}
 
 -- ---- small steps
 
 all_by : {A : Type 0} (P : A → Type 0) (xs : List A) → ((x : A) → Has xs x → P x) → All P xs
 all_by P [] h = All-nil P
 all_by P (x ∷ xs) h = All-cons P x xs (h x (inl refl)) (all_by P xs (λ y t. h y (inr t)))
-
-few_length : (ls : Row) → IsFew ls → length ls ≤ 1
-few_length ls (inl e) = let f : length ls ≡ 0 = ap length e in omega arith
-few_length ls (inr k) = let f : length ls ≡ 1 = ap length k.1 in omega arith
-
--- a kept lock is that of X or of V
-is_x_or_v : (p : Phase) (ls : Row) → AreKept p ls → (l : LockName × Mode) → Has ls l → (l.0 ≡ V) ⊎ (l.0 ≡ X)
-is_x_or_v p ls keeps l h = elim (keeps l h) [ inl e ↦ inl (ap (λ (k : LockName × Mode). k.0) e) | inr e ↦ inr e.0 ]
-
-third_is : (a b c : LockName) → (a ≡ V) ⊎ (a ≡ X) → (b ≡ V) ⊎ (b ≡ X) → (c ≡ V) ⊎ (c ≡ X) → (b ≡ a) ⊎ ((c ≡ a) ⊎ (c ≡ b))
-third_is a b c (inl e) (inl f) g = inl (f ∙ sym e)
-third_is a b c (inr e) (inr f) g = inl (f ∙ sym e)
-third_is a b c (inl e) (inr f) (inl g) = inr (inl (g ∙ sym e))
-third_is a b c (inl e) (inr f) (inr g) = inr (inr (g ∙ sym f))
-third_is a b c (inr e) (inl f) (inl g) = inr (inr (g ∙ sym f))
-third_is a b c (inr e) (inl f) (inr g) = inr (inl (g ∙ sym e))
-
-few_kept : (p : Phase) (ls : Row) → AreKept p ls → Once (names_of ls) → length ls < 127
-few_kept p [] keeps once = omega arith
-few_kept p (a ∷ []) keeps once = omega arith
-few_kept p (a ∷ (b ∷ [])) keeps once = omega arith
-few_kept p (a ∷ (b ∷ (c ∷ ls))) keeps once =
-    let all : Row = a ∷ (b ∷ (c ∷ ls)) in
-    elim (third_is a.0 b.0 c.0 (is_x_or_v p all keeps a (inl refl)) (is_x_or_v p all keeps b (inr (inl refl))) (is_x_or_v p all keeps c (inr (inr (inl refl))))) [
-      | inl e ↦ absurd (once.0 (inl e))
-      | inr r ↦ elim r [ inl e ↦ absurd (once.0 (inr (inl e))) | inr e ↦ absurd (once.1.0 (inl e)) ]
-    ]
 
 -- ---- the blocks of the bitmaps
 
@@ -182,7 +155,7 @@ module _ (w : Plain) (good : Good w) (n : ℕ) (s : NodeState) (at : node_at w.n
   -- ---- by the event
 
   few_now : length s.kept < 127
-  few_now = few_kept s.run.phase s.kept me.store.kept (kept_once s once_now)
+  few_now = let few = kept_few s.kept (kept_once s once_now) me.store.few in omega (arith, few)
 
   volume_now : IsGeometry w.geometry
   volume_now = subst (λ (k : Geometry). IsGeometry k) me.geometry geometry_now

@@ -28,7 +28,7 @@ use Rattle.core_state.specs.Worlds.{NodeState, Plain, node_at, set_node, with_no
 use Rattle.core_state.specs.Goods.{IsAt, IsNode, Good}
 use Rattle.core_state.specs.Event.{Event}
 use Rattle.core_state.specs.Event as event
-use Rattle.core_state.specs.Events.{space_state, serves, serving, served_for, served_by, served, by_space, by_need, gives_back, gives_back_in, stands, is_held_up, plan_in, plan_at, event_now, next_event, readied, happen, after_turn}
+use Rattle.core_state.specs.Events.{space_state, serves, serving, served_for, served_by, served, by_space, by_need, gives_back, gives_back_in, stands, is_held_up, plan_in, plan_at, or_use, event_now, next_event, readied, happen, after_turn}
 use Rattle.core_state.specs.Searches.{begun_run, wanted_by, numbered_by, NeedsSpace, HasTaken, Rules, Served, Given, Shared, Fills, Grabs, Filled, Drains, Alone, Looking, Taking, Taken, Refused}
 use Rattle.core_state.proofs.Preparing.{has_prepared, readied_is}
 use Rattle.core_state.proofs.Seeking.{space_wanted, wants_some, wants_nothing, no_space}
@@ -41,6 +41,7 @@ use Rattle.core_state.specs.declared.node.Node.{Node}
 use Rattle.core_step.specs.Spaces.{unserved}
 use Rattle.core_step.specs.Moving.{CanMove}
 use Rattle.core_step.specs.Memory.{takes_none}
+use Rattle.core_step.proofs.Caching.{takes_or_use}
 use Rattle.core_step.proofs.Steps.{is_there}
 use Rattle.core_step.proofs.Ready.{need_told, fits_told, searched_told, event_is, event_need}
 use Rattle.core_step.proofs.Doing.{once_now, its_moves, can_move}
@@ -234,7 +235,7 @@ module _ {w : Plain} (good : Good w) {n : ℕ} (b : IsBegun w n) where
 
       -- and its event may take memory
       pub served_takes : takes_none w.locks n (next_event w n) ≡ false
-      served_takes = ap (takes_none w.locks n) (sym served_event ∙ (event_need good_served ready_served none_served (need_of x r.seen) refl).event) ∙ by_next (need_of x r.seen) refl where
+      served_takes = ap (takes_none w.locks n) (sym served_event ∙ (event_need good_served ready_served none_served (need_of x r.seen) refl).event) ∙ takes_or_use w.locks n v r (by_need r (need_of x r.seen)) ∙ by_next (need_of x r.seen) refl where
         by_next : (nd : Need) → IsNext x r.seen nd → takes_none w.locks n (by_need r nd) ≡ false
         by_next (need.Lock name mode) e = refl
         by_next (need.Block name lbn) e = refl
@@ -285,7 +286,7 @@ module _ {w : Plain} (good : Good w) {n : ℕ} (r : IsReady w n) (none : plan_at
   pub space_can : CanMove w n q (by_space q k c)
   space_can = subst (CanMove w n q) (sym same_space) (can_move w good n q r.at r.on r.granted r.cmd r.has r.free q_plan q_calmly is_wanted_so lacks_so)
 
-  pub space_makes : Makes w n (by_space q k c)
+  pub space_makes : Makes w n (or_use w q (by_space q k c))
   space_makes = event_need good r none (need.Space k c) is
 
   -- one that takes no memory comes in the midst of its rules alone
@@ -309,7 +310,7 @@ module _ {w : Plain} (good : Good w) {n : ℕ} (r : IsReady w n) (none : plan_at
 
   -- where it is not in the midst of them, it may take memory
   pub midst_takes : ((j : ℕ) (d : Bool) → IsSearching q r.cmd j d → j ≤ 77 → ⊥) → takes_none w.locks n (next_event w n) ≡ false
-  midst_takes not_so = ap (takes_none w.locks n) space_makes.event ∙ elim (midst (by_space q k c) q_moves) [
+  midst_takes not_so = ap (takes_none w.locks n) space_makes.event ∙ takes_or_use w.locks n w q (by_space q k c) ∙ elim (midst (by_space q k c) q_moves) [
     | inl e ↦ e
     | inr e ↦ absurd (not_so k c (record {
       rules = e;
@@ -340,7 +341,7 @@ module _ {w : Plain} (good : Good w) {n : ℕ} (r : IsReady w n) (none : plan_at
   last_takes t e (Drained h back l f) = absurd (let z : phase.Drain ≡ phase.Last = sym h.drain ∙ t.searches in cc)
 
   pub rule_takes : TakesMemory (space_state q) → takes_none w.locks n (next_event w n) ≡ false
-  rule_takes t = ap (takes_none w.locks n) space_makes.event ∙ last_takes t (by_space q k c) q_moves
+  rule_takes t = ap (takes_none w.locks n) space_makes.event ∙ takes_or_use w.locks n w q (by_space q k c) ∙ last_takes t (by_space q k c) q_moves
 
 -- ---- a node that has begun its command, whatever it needs
 
@@ -352,7 +353,7 @@ module _ {w : Plain} (good : Good w) {n : ℕ} (b : IsBegun w n) (none : plan_at
     lacks_none nd other q k c at e = absurd (other k c e)
 
     plain : (nd : Need) (e : need_of b.cmd b.state.seen ≡ nd) (other : (k : ℕ) (c : Bool) → nd ≡ need.Space k c → ⊥) → takes_none w.locks n (by_need b.state nd) ≡ false → takes_none w.locks n (next_event w n) ≡ false
-    plain nd e other t = ap (takes_none w.locks n) (event_need good (ready_unserved good b none nd e (lacks_none nd other)) none nd e).event ∙ t
+    plain nd e other t = ap (takes_none w.locks n) (event_need good (ready_unserved good b none nd e (lacks_none nd other)) none nd e).event ∙ takes_or_use w.locks n w b.state (by_need b.state nd) ∙ t
 
     by_serves : (k : ℕ) (c : Bool) → need_of b.cmd b.state.seen ≡ need.Space k c → (t : Bool) → serves b.state k c ≡ t → takes_none w.locks n (next_event w n) ≡ false
     by_serves k c e true f = served_takes good b none k c e f
@@ -380,7 +381,7 @@ pub given_takes : {w : Plain} (good : Good w) {n : ℕ} (r : IsReady w n) (none 
 given_takes {w} good {n} r none given = by_next (need_of r.cmd r.state.seen) refl where
   by_next : (nd : Need) → need_of r.cmd r.state.seen ≡ nd → takes_none w.locks n (next_event w n) ≡ false
   by_next (need.Lock name mode) e = ap (takes_none w.locks n) (event_need good r none (need.Lock name mode) e).event
-  by_next (need.Block name lbn) e = ap (takes_none w.locks n) (event_need good r none (need.Block name lbn) e).event
+  by_next (need.Block name lbn) e = ap (takes_none w.locks n) (event_need good r none (need.Block name lbn) e).event ∙ takes_or_use w.locks n w r.state (event.Look name lbn)
   by_next (need.Bare lbn) e = ap (takes_none w.locks n) (event_need good r none (need.Bare lbn) e).event
   by_next (need.Space k c) e = absurd (given r.state r.cmd k c r.at r.has e)
   by_next (need.Ready p) e = ap (takes_none w.locks n) (event_need good r none (need.Ready p) e).event

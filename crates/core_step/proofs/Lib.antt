@@ -13,3 +13,6 @@ pub mod FromStock
 pub mod Ruled
 pub mod Wanting
 pub mod Due
+pub mod Caching
+pub mod Few
+pub mod Ending

@@ -1,6 +1,6 @@
 -- What was added to a list and taken back.
 use Rattle.std.proofs.Common.{◌≡◌, ◌≤◌, ◌++◌, List, [], ◌∷◌, ℕ, Bool, true, false, cond, length, Option, Some, None, inl, inr, refl, sym, ap, subst, ◌∙◌, arith}
-use Rattle.std.specs.Prelude.{◌||◌, ◌&&◌, not, filter, find, option_to_list, IsNone, IsSome}
+use Rattle.std.specs.Prelude.{◌||◌, not, filter, option_to_list, IsNone, IsSome}
 use Rattle.lock_db.specs.declared.name.LockName.{LockName}
 use Rattle.lock_db.specs.declared.name.LockName.TheVariants.{X, V}
 use Rattle.lock_db.specs.declared.askers.Standing.{Standing}
@@ -70,31 +70,6 @@ stands_nowhere t n (l ∷ []) name (inr (inr s)) none (inl e) = stands_not t n l
 stands_nowhere t n (l ∷ []) name stand none (inr h) = h
 stands_nowhere t n (l ∷ (k ∷ ls)) name stand none (inl e) = stands_not t n l.0 name e stand.0 none
 stands_nowhere t n (l ∷ (k ∷ ls)) name stand none (inr h) = stands_nowhere t n (k ∷ ls) name stand.1 none h
-
--- ---- the locks that a node keeps
-
--- those that do not stay: all but X, where that stays
-abbrev pub but_stays : Bool → List (LockName × Mode) → List (LockName × Mode)
-but_stays stays ls = filter (λ l. not (is_same l.0 X && stays)) ls
-
-and_true : (a : Bool) → (a && true) ≡ a
-and_true true = refl
-and_true false = refl
-
-and_false : (a : Bool) → (a && false) ≡ false
-and_false true = refl
-and_false false = refl
-
--- X alone stays, or no lock does
-pub only_x : (stays : Bool) (ls : List (LockName × Mode)) → stays ≡ true → filter (λ l. is_same l.0 X) ls ≡ filter (λ l. is_same l.0 X && stays) ls
-only_x stays ls e = ap (λ (p : LockName × Mode → Bool). filter p ls) (λ i l. (sym (and_true (is_same l.0 X)) ∙ ap (λ b. is_same l.0 X && b) (sym e)) i)
-
-none_left : (ls : List (LockName × Mode)) → [] ≡ filter (λ l. false) ls
-none_left [] = refl
-none_left (l ∷ ls) = none_left ls
-
-pub no_x : (stays : Bool) (ls : List (LockName × Mode)) → stays ≡ false → [] ≡ filter (λ l. is_same l.0 X && stays) ls
-no_x stays ls e = none_left ls ∙ ap (λ (p : LockName × Mode → Bool). filter p ls) (λ i l. (sym (and_false (is_same l.0 X)) ∙ ap (λ b. is_same l.0 X && b) (sym e)) i)
 
 -- a list without some of its items is no longer
 pub length_filter : {A : Type 0} (p : A → Bool) (xs : List A) → length (filter p xs) ≤ length xs

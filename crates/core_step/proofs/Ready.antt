@@ -1,10 +1,8 @@
 -- What is known of a node that goes on with its command.
 use Rattle.std.proofs.Common.{◌≡◌, ◌≤◌, ◌<◌, ◌+◌, ◌-◌, ◌++◌, ℕ, zero, suc, Bool, true, false, cond, List, [], ◌∷◌, Option, Some, None, length, map, slice_get, slice_set, refl, sym, ap, subst, ◌∙◌, inl, inr, arith}
-use Rattle.std.specs.Prelude.{◌==◌, ◌&&◌, ◌||◌, filter, slice_index_or, not, option_map, IfSome, IsSome, is_some}
-use Rattle.std.proofs.lemmas.Option.{slice_get_within}
-use Rattle.vol_words.specs.Fields.{Block}
+use Rattle.std.specs.Prelude.{◌&&◌, ◌||◌, slice_index_or, not, option_map, IfSome, IsSome, is_some}
 use Rattle.lock_db.specs.declared.name.LockName.{LockName}
-use Rattle.lock_db.specs.declared.name.LockName.TheVariants.{A, V}
+use Rattle.lock_db.specs.declared.name.LockName.TheVariants.{A}
 use Rattle.lock_db.specs.declared.name.Owner.{Owner}
 use Rattle.lock_db.specs.declared.resource.Resource.{Resource}
 use Rattle.lock_db.specs.Queues.{standing_of}
@@ -13,27 +11,19 @@ use Rattle.lock_db.specs.declared.resource.Asked.TheVariants as locked_so
 use Rattle.lock_db.specs.Resources.{asked_answer}
 use Rattle.lock_db.specs.Tables.{resource_at, released}
 use Rattle.plain_cat.specs.declared.mode.Mode.{Mode}
-use Rattle.plain_cat.specs.declared.mode.Mode.TheVariants.{CW, PW, EX}
+use Rattle.plain_cat.specs.declared.mode.Mode.TheVariants.{CW, EX}
 use Rattle.plain_cat.specs.declared.command.Cmd.{Cmd}
 use Rattle.plain_cat.specs.declared.reply.Reply.{Reply}
 use Rattle.plain_cat.specs.declared.script.Script.{Script}
-use Rattle.plain_cat.specs.declared.cat.Cat.{Cat}
 use Rattle.node_locks.specs.Held.{system_of, Row, names_of, HoldsItsLocks, waits_at}
 use Rattle.node_locks.specs.Taking.{taken, taken_now, MayTake}
-use Rattle.node_locks.specs.Sweeping.{all_given, MayGiveAll as MayGiveNamed}
+use Rattle.node_locks.specs.Sweeping.{MayGiveAll as MayGiveNamed}
 use Rattle.node_locks.specs.Sequences.{raised_block}
 use Rattle.node_locks.proofs.Rows.{order-of}
 use Rattle.vol_owners.specs.Lists.{Has, Touches}
-use Rattle.vol_owners.specs.Owners.{Owners}
-use Rattle.vol_owners.specs.declared.owner.Owner.{Owner as Possessor}
 use Rattle.vol_parts.specs.declared.geometry.Geometry.{Geometry}
-use Rattle.vol_parts.specs.declared.geometry.Part.{Part}
-use Rattle.vol_parts.specs.Parts.{IsGeometry, part_of}
-use Rattle.vol_spell.specs.Reading.{owner_at}
-use Rattle.vol_spell.specs.Spelling.{Spells}
-use Rattle.vol_spell.proofs.Parts.{are_parts}
-use Rattle.vol_spell.proofs.Frames.{on_volume}
-use Rattle.vol_under.specs.Guards.{guard_by, guard_by_owner, guard_of, MayWrite}
+use Rattle.vol_parts.specs.Parts.{IsGeometry}
+use Rattle.vol_under.specs.Guards.{guard_of, MayWrite}
 use Rattle.vol_under.specs.UnderWay.{UnderWay, bare}
 use Rattle.vol_under.proofs.Nodes.{next_in}
 use Rattle.op_law.specs.declared.need.Need.{Need}
@@ -45,41 +35,34 @@ use Rattle.op_law.specs.declared.seen.Seen.{Seen}
 use Rattle.op_law.specs.Needs.{need_of, IsNext}
 use Rattle.op_law.specs.Fits.{FitsSeen}
 use Rattle.op_law.specs.Laws.{planned}
-use Rattle.op_law.specs.Knows.{wants_number}
 use Rattle.core_space.specs.declared.run.Phase.TheVariants as phase
 use Rattle.core_state.specs.Worlds.{NodeState, Plain, IsOfWorld, node_at, set_node, rows_of, rows_in, rows_at}
 use Rattle.core_state.specs.Raises.{raise_of}
 use Rattle.core_state.specs.Asks.{has_asked, writes_by, reply_by, writes_now, asker_of}
 use Rattle.core_state.specs.Fallen.{living}
 use Rattle.core_state.proofs.Falling.{answers_left}
-use Rattle.core_state.specs.Goods.{IsAt, IsNode, HasFewAnswers, Good, decided, HasRoom}
+use Rattle.core_state.specs.Goods.{IsAt, IsNode, Good, decided, HasRoom}
 use Rattle.core_state.specs.Event.{Event}
 use Rattle.core_state.specs.Event as event
-use Rattle.core_state.specs.Events.{given_back, all_writes, stays, going, happens, happen, block_at, turned, locking, looking, planning, writing, asking, answering, would_go, asked_by, by_need, by_end, by_write, by_plan, by_command, by_turn, gives_back_in, stands, is_held_up, event_of, event_now, next_event, readied, command_in, command_at, plan_in, plan_at, tried_in, tried_at}
+use Rattle.core_state.specs.Events.{happens, happen, block_at, block_used, cache_looked, cache_used, cache_written, turned, locking, caching, looking, using, planning, writing, asking, answering, would_go, asked_by, or_use, by_need, by_end, by_write, by_plan, by_command, by_turn, gives_back_in, stands, is_held_up, event_of, event_now, readied, command_in, command_at, plan_in, plan_at, tried_in, tried_at}
 use Rattle.core_state.specs.Worlds.{state_of}
 use Rattle.core_state.specs.declared.node.Node.{Node}
 use Rattle.core_state.proofs.Nodes.{at_here, length_node, told_at}
-use Rattle.core_state.proofs.Keeping.{has_asked_row, kept_once, asked_once, claims_once}
+use Rattle.core_state.proofs.Keeping.{has_asked_row}
 use Rattle.core_state.proofs.Rows.{asks_last}
-use Rattle.core_state.proofs.Answering.{given_names}
-use Rattle.core_state.proofs.Sweeps.{first_may, second_may, third_may}
+use Rattle.core_state.proofs.CachedPlans.{guard_within}
 use Rattle.core_state.proofs.Turning.{under_command, drive, seen_on, may_need, may_take, asks_now, here, planned_at}
 use Rattle.core_state.proofs.Trying.{nobody_asks, StandsSo, stands_so, goes_as_request}
-use Rattle.core_state.proofs.Closing.{closing_lock, close_channel, form_now}
-use Rattle.core_state.proofs.SmallBegun.{answers_fit}
 use Rattle.core_state.proofs.Opens.{locked, no_lock, has_its}
 use Rattle.core_state.proofs.Preparing.{has_prepared, readied_same}
-use Rattle.core_step.specs.Giving.{MayGiveAll, MayLeaveAll, MayLetGo, MayCloseOff, MayEnd}
-use Rattle.core_state.specs.Channels.{names_in_form, opened, channel_seen}
-use Rattle.op_law.specs.declared.seen.Chan.{Chan}
-use Rattle.plain_cat.specs.declared.command.Cmd.TheVariants as cmd
+use Rattle.core_step.specs.Giving.{MayGiveAll, MayLeaveAll}
 use Rattle.core_step.specs.Asks.{going_ask, aim_of, GoesAsRequest, MayAsk}
 use Rattle.core_step.specs.declared.asks.Aim.{Aim}
 use Rattle.core_step.specs.Ready.{Makes, IsReady, IsSearching, SearchesAsNeeded}
-use Rattle.core_step.specs.Memory.{takes_none}
 use Rattle.core_step.specs.declared.turns.Turn.TheVariants as turn
 use Rattle.core_step.specs.declared.turns.Kind.TheVariants as kind
 use Rattle.core_step.specs.Turns.{is_queued_in, told}
+use Rattle.core_step.proofs.Caching.{write_no_look}
 use Rattle.core_step.proofs.Steps.{happen_here, is_there}
 use Rattle.core_step.proofs.Lists.{unnamed, stands_nowhere}
 use Rattle.core_step.proofs.Outcomes.{makes_as}
@@ -103,29 +86,11 @@ searched_told cmd_is (Some op) s x k b cmd e asks is =
     let h : x ≡ cmd_is op = cc in
     subst (λ (y : Cmd). need_of y s.seen ≡ need.Space k b) h (asks x k b (cmd ∙ e) is)
 
--- ---- a block that is guarded is one of the volume's
-
-module _ (g : Geometry) (bs : List Block) (own : Owners) (c : Cat) (s : Spells g bs own c) where
-  guard_within : (node l : ℕ) (locks : List LockName) → MayWrite node locks (guard_of g own l) → l < length bs
-  guard_within node l locks may = by_part (part_of g l) refl may where
-    by_owner : (o : Option Possessor) → owner_at g own l ≡ o → MayWrite node locks (guard_by_owner o) → l < length bs
-    by_owner None e may = absurd may
-    by_owner (Some o) e may = on_volume g bs own c s l o e
-
-    by_part : (p : Option Part) → part_of g l ≡ p → MayWrite node locks (guard_by p (owner_at g own l)) → l < length bs
-    by_part (Some p) e may = on_volume g bs own c s l _ ((are_parts g bs own c s).owned l p e)
-    by_part None e may = by_owner (owner_at g own l) refl may
-
 -- ---- the locks can all be given back
 
-may_each : (g : Geometry) (n : ℕ) (ws : List PlanWrite) (ls : Row) (t : List Resource) → MayGiveNamed n (λ name u. raised_block (raise_of g name ws) (resource_at name u)) (names_of ls) t → MayGiveAll g n ws ls t
+pub may_each : (g : Geometry) (n : ℕ) (ws : List PlanWrite) (ls : Row) (t : List Resource) → MayGiveNamed n (λ name u. raised_block (raise_of g name ws) (resource_at name u)) (names_of ls) t → MayGiveAll g n ws ls t
 may_each g n ws [] t may = tt
 may_each g n ws (l ∷ ls) t may = (may.0, may_each g n ws ls (released l.0 (system_of n) (raised_block (raise_of g l.0 ws) (resource_at l.0 t)) t) may.1)
-
--- and those behind them
-may_both : (g : Geometry) (n : ℕ) (ws : List PlanWrite) (ls ks : Row) (t : List Resource) → MayGiveAll g n ws ls t → MayGiveAll g n ws ks (given_back g n ws ls t) → MayGiveAll g n ws (ls ++ ks) t
-may_both g n ws [] ks t may more = more
-may_both g n ws (l ∷ ls) ks t may more = (may.0, may_both g n ws ls ks (released l.0 (system_of n) (raised_block (raise_of g l.0 ws) (resource_at l.0 t)) t) may.1 more)
 
 -- the same, where the value blocks stay
 pub may_leave_each : (n : ℕ) (ls : Row) (t : List Resource) → MayGiveNamed n (λ name u. (resource_at name u).value) (names_of ls) t → MayLeaveAll n ls t
@@ -238,9 +203,9 @@ module _ {w : Plain} (good : Good w) {n : ℕ} (r : IsReady w n) where
   calmly f = absurd (let g : true ≡ false = sym (ap (gives_back_in w n s) f) ∙ r.gives in cc)
 
   -- it goes on, and prepares nothing for it
-  pub event_is : Makes w n (by_plan r.cmd s s.plan)
+  pub event_is : Makes w n (or_use w s (by_plan r.cmd s s.plan))
   event_is = record {
-    event = ap (λ v. event_now v n) stays ∙ ap (event_of w n) r.at ∙ (λ i. cond (r.on i) event.Rest (cond (still i) event.Stand (by_turn s (r.gives i)))) ∙ ap (by_command s) r.has;
+    event = ap (λ v. event_now v n) stays ∙ ap (event_of w n) r.at ∙ (λ i. cond (r.on i) event.Rest (cond (still i) event.Stand (or_use w s (by_turn s (r.gives i))))) ∙ ap (λ o. or_use w s (by_command s o)) r.has;
     stays = stays;
   } where
     held : is_held_up w n s ≡ false
@@ -252,11 +217,11 @@ module _ {w : Plain} (good : Good w) {n : ℕ} (r : IsReady w n) where
   pub has_plan : (o : Option Plan) → plan_at w n ≡ o → s.plan ≡ o
   has_plan o e = sym (ap plan_in r.at) ∙ e
 
-  pub event_need : plan_at w n ≡ None → (next : Need) → need_of r.cmd s.seen ≡ next → Makes w n (by_need s next)
-  event_need none next e = makes_as event_is (ap (by_plan r.cmd s) (has_plan None none) ∙ ap (by_need s) e)
+  pub event_need : plan_at w n ≡ None → (next : Need) → need_of r.cmd s.seen ≡ next → Makes w n (or_use w s (by_need s next))
+  event_need none next e = makes_as event_is (ap (λ o. or_use w s (by_plan r.cmd s o)) (has_plan None none) ∙ ap (λ nd. or_use w s (by_need s nd)) e)
 
   pub event_write : (p : Plan) → s.plan ≡ Some p → (o : Option PlanWrite) → slice_get (writes_by p.ask s.tried p.writes) s.done ≡ o → Makes w n (by_write r.cmd p s.tried o)
-  event_write p plan o e = makes_as event_is (ap (by_plan r.cmd s) plan ∙ ap (by_write r.cmd p s.tried) e)
+  event_write p plan o e = makes_as event_is (ap (λ q. or_use w s (by_plan r.cmd s q)) plan ∙ ap (λ v. or_use w s (by_write r.cmd p s.tried v)) e ∙ write_no_look w s r.cmd p s.tried o)
 
   -- where its ask would be granted, it makes it
   pub event_ask : (p : Plan) → s.plan ≡ Some p → slice_get (writes_by p.ask s.tried p.writes) s.done ≡ None → (a : PlanAsk) → going_ask w.locks n s.tried p.ask ≡ Some a → Makes w n (event.Ask r.cmd a)
@@ -350,9 +315,12 @@ module _ {w : Plain} (good : Good w) {n : ℕ} (r : IsReady w n) where
   pub fetch_within : (lbn : ℕ) → IsNext r.cmd s.seen (need.Bare lbn) → lbn < length w.blocks
   fetch_within lbn is = within lbn (may_need w good n s r.at r.cmd r.has r.free (need.Bare lbn) is).within
 
-  -- the geometry that it has seen is one of a volume
+  -- the geometry that it has seen is one of a volume, and that of the world
   pub has_geometry : IsGeometry s.seen.geometry
   has_geometry = (drive w good n s r.at r.cmd r.has r.free).spelt.counts.geometry
+
+  pub world_geometry : IsGeometry w.geometry
+  world_geometry = subst (λ (g : Geometry). IsGeometry g) node.geometry has_geometry
 
   -- the next write is to a block of the volume
   pub write_within : (p : Plan) → s.plan ≡ Some p → (v : PlanWrite) → slice_get (writes_by p.ask s.tried p.writes) s.done ≡ Some v → v.lbn < length w.blocks
@@ -362,48 +330,6 @@ module _ {w : Plain} (good : Good w) {n : ℕ} (r : IsReady w n) where
       let touched : Touches (bare (map planned (writes_now s.tried s.plan))) v.lbn = subst (λ (o : Option Plan). Touches (bare (map planned (writes_now s.tried o))) v.lbn) (sym plan) (next_in (map planned ws) s.done (planned v) (planned_at ws s.done v next)) in
       let mine = subst (λ (u : UnderWay). (l : ℕ) → Touches (bare u.plan) l → MayWrite n u.write (guard_of w.geometry good.running.drive.own l)) now (good.running.drive.plan_guarded n) in
       subst (λ (k : ℕ). v.lbn < k) (sym good.running.drive.over.count) (guard_within w.geometry good.running.drive.base good.running.drive.own good.running.cat good.running.drive.spelt n v.lbn _ (mine v.lbn touched))
-
-  -- a channel that is closed has the lock that it gives back
-  closes_so : (x : Cmd) (a : Reply) → names_in_form x ≡ true → MayCloseOff n (channel_seen s.opens x) x a (given_back w.geometry n (all_writes s) (going s) w.locks)
-  closes_so (cmd.CloseFile chan) a form = λ closed. by_open (opened s.opens chan) refl where
-    by_open : (o : Option Chan) → opened s.opens chan ≡ o → MayLetGo n chan o (given_back w.geometry n (all_writes s) (going s) w.locks)
-    by_open None e = tt
-    by_open (Some p) e = let k = close_channel chan form in closing_lock w good n s r.at chan k.0 k.1 p e
-  closes_so other a form = tt
-
-  -- its locks can go back
-  may_go : MayGiveAll w.geometry n (all_writes s) (going s) w.locks
-  may_go =
-      let g = w.geometry in
-      let ws = all_writes s in
-      let u = given_back g n ws s.asked w.locks in
-      may_both g n ws s.asked (s.claims ++ gone) w.locks (may_each g n ws s.asked w.locks first)
-      (may_both g n ws s.claims gone u (may_each g n ws s.claims u (subst (MayGiveNamed n raises (names_of s.claims)) (given_names g n ws s.asked w.locks) second))
-      (may_each g n ws gone (given_back g n ws s.claims u) (subst (MayGiveNamed n raises (names_of gone)) ((λ i. all_given n raises (names_of s.claims) (given_names g n ws s.asked w.locks i)) ∙ given_names g n ws s.claims u) third))) where
-        raises : LockName → List Resource → List ℕ
-        raises name t = raised_block (raise_of w.geometry name (all_writes s)) (resource_at name t)
-
-        gone : Row
-        gone = filter (λ l. not (stays s.stock l)) s.kept
-
-        first : MayGiveNamed n raises (names_of s.asked) w.locks
-        first = first_may raises (stays s.stock) w.locks n (rows_at w.nodes) s.kept s.asked s.claims good.locked.0 good.locked.1 (ap rows_in r.at) node.rests r.free r.granted (kept_once s has_rows.once) (asked_once s has_rows.once) (claims_once s has_rows.once)
-
-        second : MayGiveNamed n raises (names_of s.claims) (all_given n raises (names_of s.asked) w.locks)
-        second = second_may raises (stays s.stock) w.locks n (rows_at w.nodes) s.kept s.asked s.claims good.locked.0 good.locked.1 (ap rows_in r.at) node.rests r.free r.granted (kept_once s has_rows.once) (asked_once s has_rows.once) (claims_once s has_rows.once)
-
-        third : MayGiveNamed n raises (names_of gone) (all_given n raises (names_of s.claims) (all_given n raises (names_of s.asked) w.locks))
-        third = third_may raises (stays s.stock) w.locks n (rows_at w.nodes) s.kept s.asked s.claims good.locked.0 good.locked.1 (ap rows_in r.at) node.rests r.free r.granted (kept_once s has_rows.once) (asked_once s has_rows.once) (claims_once s has_rows.once)
-
-  -- its command can end
-  pub may_end : length w.script.lines ≤ 4096 → (p : Plan) → s.plan ≡ Some p → MayEnd w.geometry n s w.locks
-  may_end few p plan = record {
-    cmd = ap is_some r.has;
-    plan = ap is_some plan;
-    few = answers_fit w.script n s.past few (subst (HasFewAnswers w.script n) (sym node.past) (good.few n));
-    gives = may_go;
-    closes = λ x q has_cmd has_plan. closes_so x (reply_by q.ask s.tried q.reply) (form_now w good n s r.at x has_cmd r.free);
-  }
 
 -- ---- what its turn leaves
 
@@ -457,14 +383,19 @@ module _ {w : Plain} (good : Good w) {n : ℕ} (r : IsReady w n) where
   pub lock_room : (name : LockName) (mode : Mode) (spare : ℕ) → HasRoom w spare → (new : Plain) → new ≡ happen w n (event.Lock name mode) → HasRoom new spare
   lock_room name mode spare room new is = room_after (event.Lock name mode) (turned (locking me name mode)) spare spare refl refl refl (same_room needed spare (weight me) room.places) room new is
 
-  pub look_room : (lbn : ℕ) (spare : ℕ) → HasRoom w spare → (new : Plain) → new ≡ happen w n (event.Look lbn) → HasRoom new spare
-  look_room lbn spare room new is = room_after (event.Look lbn) (turned (looking me lbn (block_at w.blocks lbn))) spare spare refl refl refl (same_room needed spare (weight me) room.places) room new is
+  pub look_room : (name : LockName) (lbn : ℕ) (spare : ℕ) → HasRoom w spare → (new : Plain) → new ≡ happen w n (event.Look name lbn) → HasRoom new spare
+  look_room name lbn spare room new is =
+      room_after (event.Look name lbn) (turned (caching (cache_looked w n me name lbn) (looking me lbn (block_at w.blocks lbn)))) spare spare refl refl refl (same_room needed spare (weight me) room.places) room new is
+
+  pub use_room : (name : LockName) (lbn : ℕ) (spare : ℕ) → HasRoom w spare → (new : Plain) → new ≡ happen w n (event.Use name lbn) → HasRoom new spare
+  use_room name lbn spare room new is =
+      room_after (event.Use name lbn) (turned (caching (cache_used w me name lbn) (using me lbn (block_used w me name lbn)))) spare spare refl refl refl (same_room needed spare (weight me) room.places) room new is
 
   pub fetch_room : (lbn : ℕ) (spare : ℕ) → HasRoom w spare → (new : Plain) → new ≡ happen w n (event.Fetch lbn) → HasRoom new spare
   fetch_room lbn spare room new is = room_after (event.Fetch lbn) (turned (looking me lbn (block_at w.blocks lbn))) spare spare refl refl refl (same_room needed spare (weight me) room.places) room new is
 
   pub write_room : (v : PlanWrite) (spare : ℕ) → HasRoom w spare → (new : Plain) → new ≡ happen w n (event.Write v) → HasRoom new spare
-  write_room v spare room new is = room_after (event.Write v) (turned (writing me)) spare spare refl refl refl (same_room needed spare (weight me) room.places) room new is
+  write_room v spare room new is = room_after (event.Write v) (turned (caching (cache_written w me v) (writing me))) spare spare refl refl refl (same_room needed spare (weight me) room.places) room new is
 
   pub plan_room : (p : Plan) (spare spare' : ℕ) → me.plan ≡ None → 16 ≤ spare' → HasRoom w spare → (new : Plain) → new ≡ happen w n (event.Plan p) → HasRoom new spare'
   plan_room p spare spare' none wide room new is = subst (λ (v : Plain). HasRoom v spare') (sym (is ∙ sym (happen_here w n me (event.Plan p) r.at))) (record {
@@ -590,12 +521,6 @@ module _ {w : Plain} (good : Good w) {n : ℕ} (r : IsReady w n) where
 
   pub plan_is : (p : Plan) → r.state.plan ≡ Some p → plan_at w n ≡ Some p
   plan_is p e = ap plan_in r.at ∙ e
-
-  pub may_end_at : length w.script.lines ≤ 4096 → (p : Plan) → r.state.plan ≡ Some p → (s : NodeState) → node_at w.nodes n ≡ Some s → MayEnd w.geometry n s w.locks
-  may_end_at few p plan s at =
-      let f : Some r.state ≡ Some s = sym r.at ∙ at in
-      let h : r.state ≡ s = cc in
-      subst (λ (y : NodeState). MayEnd w.geometry n y w.locks) h (may_end good r few p plan)
 
   pub place_kept : (p : Plan) → r.state.plan ≡ Some p → (spare : ℕ) → HasRoom w spare → 0 < spare
   place_kept p plan spare room = let one = has_decided w.nodes n r.state r.at (ap is_some plan) in let le = room.places in omega arith

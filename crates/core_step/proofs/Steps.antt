@@ -6,10 +6,7 @@ use Rattle.std.proofs.lemmas.Option.{get_or_from_slice_get}
 use Rattle.vol_words.specs.Fields.{Block}
 use Rattle.lock_db.specs.declared.name.LockName.{LockName}
 use Rattle.lock_db.specs.declared.name.LockName.TheVariants as lock_name
-use Rattle.lock_db.specs.Tables.{resource_at, released}
-use Rattle.node_locks.specs.Sequences.{raised_block}
 use Rattle.core_space.specs.declared.run.Phase.{Phase}
-use Rattle.core_state.specs.Raises.{raise_of}
 use Rattle.plain_cat.specs.declared.mode.Mode.{Mode}
 use Rattle.plain_cat.specs.declared.command.Cmd.{Cmd}
 use Rattle.node_locks.specs.Held.{system_of}
@@ -17,17 +14,17 @@ use Rattle.lock_db.specs.declared.resource.Resource.{Resource}
 use Rattle.plain_cat.specs.declared.history.Entry.{Entry}
 use Rattle.plain_cat.specs.declared.history.Entry.TheVariants.{Done}
 use Rattle.op_law.specs.declared.need.Plan.{Plan}
-use Rattle.op_law.specs.declared.need.PlanWrite.{PlanWrite}
 use Rattle.op_law.specs.declared.need.Ask.{Ask as PlanAsk}
 use Rattle.core_state.specs.Worlds.{NodeState, Plain, node_at, set_node}
 use Rattle.core_state.specs.Asks.{has_asked, reply_by, asker_of, own_of, with_ask}
 use Rattle.core_state.specs.Channels.{channel_seen, closed_off}
 use Rattle.node_locks.specs.Taking.{taken}
+use Rattle.core_state.specs.Caches.{put_back_all}
 use Rattle.core_state.specs.Event.{Event}
 use Rattle.core_state.specs.Event as event
-use Rattle.core_state.specs.Events.{would_go, asked_by, happens, happen_at, happen, given_back, left_alone, v_lowered, x_lowered, x_returned, all_writes, going, turned, leaving, locking, claiming, lowering, lowering_both, returning, looking, space_looking, space_writing, planning, writing, asking, answering, command_in, command_at, plan_in, plan_at, tried_in, tried_at}
+use Rattle.core_state.specs.Events.{would_go, asked_by, happens, happen_at, happen, given_back, left_alone, v_lowered, x_lowered, x_returned, all_writes, going, used_locks, all_put_back, turned, leaving, locking, claiming, lowering, lowering_both, returning, looking, planning, asking, answering, command_in, command_at, plan_in, plan_at, tried_in, tried_at}
 use Rattle.vol_parts.specs.declared.geometry.Geometry.{Geometry}
-use Rattle.core_step.specs.Giving.{MayGiveAll, MayCloseOff}
+use Rattle.core_step.specs.Giving.{MayCloseOff}
 use Rattle.core_step.specs.Asks.{noted, unnoted}
 use Rattle.core_step.proofs.Lists.{removed}
 use Rattle.plain_cat.specs.declared.reply.Reply.{Reply}
@@ -85,21 +82,9 @@ module _ {A : Type 0} (f : A → NodeState) (xs : List A) (w : Plain) (n : ℕ) 
   pub returned_so : (u : List Resource) → u ≡ x_returned n (v_lowered w n (f d)) → f d' ≡ turned (returning (f d)) → record w { locks = u; nodes = after } ≡ happen w n event.Return
   returned_so u locks e = changed_so (turned (returning (f d))) event.Return (x_returned n (v_lowered w n (f d))) u refl e locks
 
-  pub space_looked_so : (clusters : ℕ) (number : Bool) (lbn : ℕ) (b : Block) → slice_get w.blocks lbn ≡ Some b → f d' ≡ turned (space_looking (f d) clusters number lbn b) → record w { nodes = after } ≡ happen w n (event.SpaceLook clusters number lbn)
-  space_looked_so clusters number lbn b there e =
-      let block : b ≡ slice_index_or w.blocks lbn [] = sym (get_or_from_slice_get w.blocks lbn b [] there) in
-      ap (λ ns. record w { nodes = ns }) (now (turned (space_looking (f d) clusters number lbn (slice_index_or w.blocks lbn []))) (e ∙ ap (λ y. turned (space_looking (f d) clusters number lbn y)) block))
-      ∙ happen_here w n (f d) (event.SpaceLook clusters number lbn) at
-
-  pub space_wrote_so : (v : PlanWrite) (bs : List Block) → bs ≡ slice_set w.blocks v.lbn v.block → f d' ≡ turned (space_writing (f d) v) → record w { blocks = bs; nodes = after } ≡ happen w n (event.SpaceWrite v)
-  space_wrote_so v bs b e = (λ i. record w { blocks = b i; nodes = now (turned (space_writing (f d) v)) e i }) ∙ happen_here w n (f d) (event.SpaceWrite v) at
-
   -- the node with the block of an LBN
   seen_now : (lbn : ℕ) (b : Block) → slice_get w.blocks lbn ≡ Some b → f d' ≡ turned (looking (f d) lbn b) → after ≡ set_node w.nodes n (turned (looking (f d) lbn (slice_index_or w.blocks lbn [])))
   seen_now lbn b there e = now (turned (looking (f d) lbn (slice_index_or w.blocks lbn []))) (e ∙ ap (λ y. turned (looking (f d) lbn y)) (sym (get_or_from_slice_get w.blocks lbn b [] there)))
-
-  pub looked_so : (lbn : ℕ) (b : Block) → slice_get w.blocks lbn ≡ Some b → f d' ≡ turned (looking (f d) lbn b) → record w { nodes = after } ≡ happen w n (event.Look lbn)
-  looked_so lbn b there e = ap (λ ns. record w { nodes = ns }) (seen_now lbn b there e) ∙ happen_here w n (f d) (event.Look lbn) at
 
   pub fetched_so : (lbn : ℕ) (b : Block) → slice_get w.blocks lbn ≡ Some b → f d' ≡ turned (looking (f d) lbn b) → record w { nodes = after } ≡ happen w n (event.Fetch lbn)
   fetched_so lbn b there e = ap (λ ns. record w { nodes = ns }) (seen_now lbn b there e) ∙ happen_here w n (f d) (event.Fetch lbn) at
@@ -111,11 +96,8 @@ module _ {A : Type 0} (f : A → NodeState) (xs : List A) (w : Plain) (n : ℕ) 
   asked_so x a goes e =
       ap (λ ns. record w { locks = taken (lock_name.A a.file) (asker_of n a) a.mode w.locks; nodes = ns }) (now (turned (asking (f d) a)) e) ∙ sym (ap (asked_by w n (f d) x a) goes) ∙ happen_here w n (f d) (event.Ask x a) at
 
-  pub wrote_so : (v : PlanWrite) (bs : List Block) → bs ≡ slice_set w.blocks v.lbn v.block → f d' ≡ turned (writing (f d)) → record w { blocks = bs; nodes = after } ≡ happen w n (event.Write v)
-  wrote_so v bs b e = (λ i. record w { blocks = b i; nodes = now (turned (writing (f d))) e i }) ∙ happen_here w n (f d) (event.Write v) at
-
   pub answered_so : (x : Cmd) (p : Plan) → command_at w n ≡ Some x → plan_at w n ≡ Some p → (cmd : Cmd) (plan : Plan) (b : Bool) → (f d).cmd ≡ Some cmd → (f d).plan ≡ Some plan → b ≡ (f d).tried
-      → f d' ≡ turned (answering (f d) cmd (reply_by plan.ask b plan.reply)) → (t : List Resource) (h : List Entry) → t ≡ closed_off n (channel_seen (f d).opens cmd) cmd (reply_by plan.ask b plan.reply) (given_back w.geometry n (all_writes (f d)) (going (f d)) w.locks)
+      → f d' ≡ turned (answering (f d) cmd (reply_by plan.ask b plan.reply)) → (t : List Resource) (h : List Entry) → t ≡ closed_off n (channel_seen (f d).opens cmd) cmd (reply_by plan.ask b plan.reply) (all_put_back w n (f d))
       → h ≡ w.history ++ Done n cmd (reply_by plan.ask b plan.reply) ∷ [] → record w { locks = t; nodes = after; history = h } ≡ happen w n (event.Answer x (reply_by p.ask (tried_at w n) p.reply))
   answered_so x p c q cmd plan b mine made tried e t h locks history =
       let first : Some cmd ≡ Some x = sym mine ∙ sym (ap command_in at) ∙ c in
@@ -139,29 +121,19 @@ is_there f (Some a) i = refl
 
 -- ---- the locks that go back
 
--- those of two rows, one after the other
-pub given_joined : (g : Geometry) (n : ℕ) (ws : List PlanWrite) (ls ks : List (LockName × Mode)) (t : List Resource) → given_back g n ws (ls ++ ks) t ≡ given_back g n ws ks (given_back g n ws ls t)
-given_joined g n ws [] ks t = refl
-given_joined g n ws (l ∷ ls) ks t = given_joined g n ws ls ks (released l.0 (system_of n) (raised_block (raise_of g l.0 ws) (resource_at l.0 t)) t)
-
--- and where they may, so may those of each
-pub may_first : (g : Geometry) (n : ℕ) (ws : List PlanWrite) (ls ks : List (LockName × Mode)) (t : List Resource) → MayGiveAll g n ws (ls ++ ks) t → MayGiveAll g n ws ls t
-may_first g n ws [] ks t may = tt
-may_first g n ws (l ∷ ls) ks t may = (may.0, may_first g n ws ls ks (released l.0 (system_of n) (raised_block (raise_of g l.0 ws) (resource_at l.0 t)) t) may.1)
-
-pub may_second : (g : Geometry) (n : ℕ) (ws : List PlanWrite) (ls ks : List (LockName × Mode)) (t : List Resource) → MayGiveAll g n ws (ls ++ ks) t → MayGiveAll g n ws ks (given_back g n ws ls t)
-may_second g n ws [] ks t may = may
-may_second g n ws (l ∷ ls) ks t may = may_second g n ws ls ks (released l.0 (system_of n) (raised_block (raise_of g l.0 ws) (resource_at l.0 t)) t) may.1
+-- the locks after those of its command are put back, and those that it kept and that do not stay
+abbrev last_back : Geometry → ℕ → NodeState → List Resource → List Resource
+last_back g n s t = given_back g n (all_writes s) (going s) (put_back_all g n (all_writes s) s.cache (used_locks s) t)
 
 -- and then that of the channel, whatever ended
 pub may_close_now : (n : ℕ) (g : Geometry) (s : NodeState) (t u : List Resource) (x : Cmd) (p : Plan) (b : Bool) (had : Option Chan) (r : Reply) → s.cmd ≡ Some x → s.plan ≡ Some p → b ≡ s.tried → had ≡ channel_seen s.opens x → r ≡ reply_by p.ask b p.reply
-    → u ≡ given_back g n (all_writes s) (going s) t
-    → ((y : Cmd) (q : Plan) → s.cmd ≡ Some y → s.plan ≡ Some q → MayCloseOff n (channel_seen s.opens y) y (reply_by q.ask s.tried q.reply) (given_back g n (all_writes s) (going s) t)) → MayCloseOff n had x r u
+    → u ≡ last_back g n s t
+    → ((y : Cmd) (q : Plan) → s.cmd ≡ Some y → s.plan ≡ Some q → MayCloseOff n (channel_seen s.opens y) y (reply_by q.ask s.tried q.reply) (last_back g n s t)) → MayCloseOff n had x r u
 may_close_now n g s t u x p b had r cmd plan done channel reply table may =
     let now = may x p cmd plan in
     let replies : reply_by p.ask s.tried p.reply ≡ r = sym (reply ∙ ap (λ k. reply_by p.ask k p.reply) done) in
-    subst (λ (ks : List Resource). MayCloseOff n had x r ks) (sym table) (subst (λ (k : Reply). MayCloseOff n had x k (given_back g n (all_writes s) (going s) t)) replies
-    (subst (λ (o : Option Chan). MayCloseOff n o x (reply_by p.ask s.tried p.reply) (given_back g n (all_writes s) (going s) t)) (sym channel) now))
+    subst (λ (ks : List Resource). MayCloseOff n had x r ks) (sym table) (subst (λ (k : Reply). MayCloseOff n had x k (last_back g n s t)) replies
+    (subst (λ (o : Option Chan). MayCloseOff n o x (reply_by p.ask s.tried p.reply) (last_back g n s t)) (sym channel) now))
 
 -- the locks with that of an ask of the file system
 pub noted_so : (ls : List (LockName × Mode)) (a : PlanAsk) → noted ls a.chan (lock_name.A a.file) a.mode ≡ with_ask ls (own_of (Some a))

@@ -11,7 +11,9 @@ use Rattle.core_state.proofs.Falling.{answers_left}
 use Rattle.core_state.specs.Event.{Event}
 use Rattle.core_state.specs.Event as event
 use Rattle.core_state.specs.Events.{would_go, asked_by, happens, happen_at, is_held_up, readied_at, readied, next_event, happen, after_turn}
+use Rattle.core_state.specs.Uses.{UsesTheDrives}
 use Rattle.core_state.proofs.Turns.{turn_keeps}
+use Rattle.core_state.proofs.Uses.{uses_right}
 use Rattle.core_state.proofs.Openings.{accepted_after}
 
 script_stays : (w : Plain) (n : ℕ) (s : NodeState) (e : Event) → (happens w n s e).script ≡ w.script
@@ -19,10 +21,12 @@ script_stays w n s event.Rest = refl
 script_stays w n s event.Stand = refl
 script_stays w n s event.Leave = refl
 script_stays w n s (event.Lock name mode) = refl
-script_stays w n s (event.Look lbn) = refl
+script_stays w n s (event.Look name lbn) = refl
+script_stays w n s (event.Use name lbn) = refl
 script_stays w n s (event.Fetch lbn) = refl
 script_stays w n s (event.Claim p name mode) = refl
 script_stays w n s (event.SpaceLook clusters number lbn) = refl
+script_stays w n s (event.SpaceUse clusters number lbn) = refl
 script_stays w n s event.SpaceEnd = refl
 script_stays w n s (event.SpaceWrite v) = refl
 script_stays w n s event.LowerV = refl
@@ -94,3 +98,9 @@ pub lists_kept : {T E : Type 0} (r : Result T E) (w new : Plain) (lists n : ℕ)
 lists_kept (Ok t) w new lists n has moved same =
     subst (λ (v : Plain). HasLists v lists) (sym moved) (subst (λ (k : ℕ). k ≤ lists) (sym (lives_here (readied w n) n (next_event w n) ∙ lives_readied w n)) has)
 lists_kept (Err e) w new lists n has moved same = subst (λ (v : Plain). HasLists v lists) (sym same) has
+
+-- a cached block that a turn uses is the drive's
+pub uses_kept : {T E : Type 0} (r : Result T E) (takes : Cmd → Type 0) (w v : Plain) (spare n : ℕ) → IsWorld takes w spare
+    → OnOk r ((s : NodeState) (x : Cmd) → node_at w.nodes n ≡ Some s → is_held_up w n s ≡ false → current w n s ≡ Some x → Lawful x) → w ≡ v → OnOk r (UsesTheDrives v n)
+uses_kept (Ok t) takes w v spare n is lawful same = subst (λ (y : Plain). UsesTheDrives y n) same (uses_right w is.good n lawful)
+uses_kept (Err e) takes w v spare n is lawful same = tt

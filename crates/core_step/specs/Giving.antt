@@ -1,5 +1,5 @@
 -- When the locks of a node can be given back one after the other.
-use Rattle.std.specs.Prelude.{◌≡◌, ◌<◌, List, [], ◌∷◌, ℕ, Bool, true, Option, Some, None, IsSome}
+use Rattle.std.specs.Prelude.{◌≡◌, ◌<◌, ◌≤◌, ◌+◌, List, [], ◌∷◌, ℕ, Bool, true, Option, Some, None, IsSome, length}
 use Rattle.lock_db.specs.declared.name.LockName.{LockName}
 use Rattle.lock_db.specs.declared.name.LockName.TheVariants.{A}
 use Rattle.lock_db.specs.declared.resource.Resource.{Resource}
@@ -12,6 +12,7 @@ use Rattle.plain_cat.specs.declared.reply.Reply.{Reply}
 use Rattle.plain_vol.specs.Own.{is_closed}
 use Rattle.vol_parts.specs.declared.geometry.Geometry.{Geometry}
 use Rattle.node_locks.specs.Held.{system_of}
+use Rattle.node_locks.specs.PuttingBack.{MayPutBack}
 use Rattle.node_locks.specs.Sequences.{raised_block}
 use Rattle.op_law.specs.declared.need.PlanWrite.{PlanWrite}
 use Rattle.op_law.specs.declared.need.Plan.{Plan}
@@ -20,7 +21,8 @@ use Rattle.core_state.specs.Worlds.{NodeState}
 use Rattle.core_state.specs.Raises.{raise_of}
 use Rattle.core_state.specs.Asks.{reply_by}
 use Rattle.core_state.specs.Channels.{channel_seen}
-use Rattle.core_state.specs.Events.{all_writes, going, given_back}
+use Rattle.core_state.specs.Caches.{keeps, raised_values, put_back_all}
+use Rattle.core_state.specs.Events.{all_writes, going, used_locks, given_back}
 
 -- the file system of node n holds each of these locks as its turn comes
 abbrev pub MayGiveAll : Geometry → ℕ → List PlanWrite → List (LockName × Mode) → List Resource → Type 0
@@ -28,7 +30,12 @@ MayGiveAll g n ws [] t = Unit {0}
 MayGiveAll g n ws (l ∷ locks) t =
     IsSome (lock_of (system_of n) (resource_at l.0 t).askers) × MayGiveAll g n ws locks (released l.0 (system_of n) (raised_block (raise_of g l.0 ws) (resource_at l.0 t)) t)
 
--- the same, where the value blocks of the locks stay
+-- node n, which stands as s, can put back the locks of its command, and give back those that it kept and that do not stay
+pub record MayPutAllBack (g : Geometry) (n : ℕ) (s : NodeState) (t : List Resource) : Type 0 where
+  pub puts : MayPutBack n (keeps s.cache) (raised_values g (all_writes s)) (used_locks s) t
+  pub gives : MayGiveAll g n (all_writes s) (going s) (put_back_all g n (all_writes s) s.cache (used_locks s) t)
+
+-- node n can give back all of these locks, where their value blocks stay
 abbrev pub MayLeaveAll : ℕ → List (LockName × Mode) → List Resource → Type 0
 MayLeaveAll n [] t = Unit {0}
 MayLeaveAll n (l ∷ locks) t = IsSome (lock_of (system_of n) (resource_at l.0 t).askers) × MayLeaveAll n locks (released l.0 (system_of n) (resource_at l.0 t).value t)
@@ -43,11 +50,13 @@ abbrev pub MayCloseOff : ℕ → Option Chan → Cmd → Reply → List Resource
 MayCloseOff n had (cmd.CloseFile chan) r t = is_closed r ≡ true → MayLetGo n chan had t
 MayCloseOff n had other r t = Unit {0}
 
--- A node's command can end: it has a command and a plan, its locks can be given back, and then that of its channel, and its answers can
--- be counted.
+-- A node's command can end: it has a command and a plan, there is room for the locks that it will keep, its locks can be put back, and then
+-- that of its channel, and its answers can be counted.
 pub record MayEnd (g : Geometry) (n : ℕ) (s : NodeState) (t : List Resource) : Type 0 where
   pub cmd : IsSome s.cmd
   pub plan : IsSome s.plan
   pub few : s.past.answered < 4294967295
-  pub gives : MayGiveAll g n (all_writes s) (going s) t
-  pub closes : (x : Cmd) (p : Plan) → s.cmd ≡ Some x → s.plan ≡ Some p → MayCloseOff n (channel_seen s.opens x) x (reply_by p.ask s.tried p.reply) (given_back g n (all_writes s) (going s) t)
+  pub room : length s.kept + (length s.asked + length s.claims) ≤ 128
+  pub gives : MayPutAllBack g n s t
+  pub closes : (x : Cmd) (p : Plan) → s.cmd ≡ Some x → s.plan ≡ Some p
+      → MayCloseOff n (channel_seen s.opens x) x (reply_by p.ask s.tried p.reply) (given_back g n (all_writes s) (going s) (put_back_all g n (all_writes s) s.cache (used_locks s) t))

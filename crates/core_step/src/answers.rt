@@ -1,6 +1,6 @@
 //! The writes of a plan, and the answer behind them.
 
-ghost use Rattle.std.specs.Prelude.{◌≡◌, ◌⊎◌, ◌<◌, ◌+◌, Some, OnOk, OnErr, IsSome, option_map, length, slice_set};
+ghost use Rattle.std.specs.Prelude.{◌≡◌, ◌⊎◌, ◌<◌, ◌≤◌, ◌+◌, ◌++◌, Some, OnOk, OnErr, IsSome, option_map, length, slice_set};
 ghost use Rattle.vol_words.specs.Faults.{HasCause};
 ghost use Rattle.blk_drive.specs.Images.{told_set};
 ghost use Rattle.vol_parts.specs.Parts.{IsGeometry};
@@ -10,21 +10,24 @@ ghost use Rattle.op_law.specs.declared.need.PlanWrite.{PlanWrite};
 ghost use Rattle.op_law.specs.declared.seen.Seen.{Seen};
 ghost use Rattle.core_state.specs.Worlds.{NodeState, IsOfWorld, state_of, plain_of, node_at};
 ghost use Rattle.core_state.specs.Event as event;
-ghost use Rattle.core_state.specs.Events.{happen, turned, writing, answering, unseen, all_writes, staying, going, given_back, command_at, plan_at, tried_at};
+ghost use Rattle.core_state.specs.Caches.{put_back_all, lowered_of};
+ghost use Rattle.core_state.specs.Events.{happen, turned, writing, answering, unseen, all_writes, staying, going, used_locks, given_back, command_at, plan_at, tried_at};
 ghost use Rattle.core_state.specs.Asks.{reply_by};
 ghost use Rattle.core_state.specs.Channels.{channel_seen};
-ghost use Rattle.core_step.specs.Giving.{MayGiveAll, MayEnd};
+ghost use Rattle.core_step.specs.Giving.{MayPutAllBack, MayEnd};
 
 use crate::asks::{into_reply, reply_by, writes_by};
+use crate::caches::rewrite;
 use crate::channels::{channel_seen, close_off, open_and_close};
 use crate::claims::begin_phase;
-use crate::giving::{give_back, give_back_but, has_any};
+use crate::giving::{give_back_going, has_any, put_back_all};
 use blk_drive::{ImageDev, ImageFault};
-use core_space::Phase;
+use core_space::{LastingLocks, Phase};
 use core_state::{Core, Node};
 use lock_db::{LockDb, LockName};
+use node_cache::NodeCache;
 use op_law::{Chan, Operation, Plan, Seen, SeenBlocks, SeenLocks};
-use plain_cat::{Clusters, Cmd, Entry};
+use plain_cat::{Clusters, Cmd, Entry, Mode};
 use std::alloc::Global;
 use vol_parts::Geometry;
 use vol_words::Block;
@@ -39,19 +42,22 @@ fn keep_write<O: Operation>(node: &mut Node<O>, done: usize)
     node.turns = node.turns.saturating_add(1);
 }
 
-/// A node makes a write, the next of its plan, and has done so many then. An error says that the image failed: in memory no block has changed, and the node
+/// A node makes a write under a lock, the next of its plan, and has done so many then. The entry that it has cached of the block is
+/// renewed. An error says that the image failed: in memory no block has changed, and the node
 /// stands before the write.
 pub(crate) fn write<I: ImageDev, O: Operation>(
     core: &mut Core<I, O>,
     node: u8,
+    name: LockName,
     lbn: u32,
     block: &Block,
     done: usize,
 ) -> Result<(), ImageFault>
     requires node { IsOfWorld (plain_of O.cmd_is core.old) node }
+    requires geometry { IsGeometry core.old.geometry }
     requires within { lbn < length core.old.mirror.blocks }
     requires more { (s : NodeState) → node_at (plain_of O.cmd_is core.old).nodes node ≡ Some s → done ≡ s.done + 1 }
-    ensures world { OnOk result ((v : PlanWrite) → v.lbn ≡ lbn → v.block ≡ block.now → plain_of O.cmd_is core.new ≡ happen (plain_of O.cmd_is core.old) node (event.Write v)) }
+    ensures world { OnOk result ((v : PlanWrite) → v.lock ≡ name → v.lbn ≡ lbn → v.block ≡ block.now → plain_of O.cmd_is core.new ≡ happen (plain_of O.cmd_is core.old) node (event.Write v)) }
     ensures same { OnErr result (plain_of O.cmd_is core.new ≡ plain_of O.cmd_is core.old) }
     ensures cause { HasCause (I.faults core.old.mirror.image) (I.faults core.new.mirror.image) result }
     ensures blocks { OnOk result (core.new.mirror.blocks ≡ slice_set core.old.mirror.blocks lbn block.now) }
@@ -61,7 +67,9 @@ pub(crate) fn write<I: ImageDev, O: Operation>(
     ensures room { core.new.history.room ≡ core.old.history.room }
 {
     core.mirror.write(lbn, block)?;
-    keep_write(&mut core.nodes[node as usize - 1], done);
+    let at = &mut core.nodes[node as usize - 1];
+    rewrite(&core.geometry, &core.locks, &mut at.cache, name, lbn, block);
+    keep_write(at, done);
     Ok(())
 }
 
@@ -90,15 +98,29 @@ struct Ended {
     had: Option<Chan>,
 }
 
-// Of the locks that a node keeps, those that do not stay are none of them any more.
-fn keep_staying<O: Operation>(node: &mut Node<O>)
-    ensures { state_of O.cmd_is node.new ≡ record (state_of O.cmd_is node.old) { kept = staying (state_of O.cmd_is node.old) } }
+// Of these locks, those under which a cached block is are kept in NL.
+fn keep_lowered(kept: &mut LastingLocks, cache: &NodeCache, held: &[(LockName, Mode)])
+    requires { length kept.old + length held.now ≤ 128 }
+    ensures { kept.new ≡ kept.old ++ lowered_of cache.now held.now }
 {
-    if has_any(&node.stock) {
-        node.kept.keep_only(LockName::X);
-    } else {
-        node.kept.clear();
+    for (name, _) in held {
+        if cache.holds_under(*name) {
+            kept.append((*name, Mode::NL));
+        }
     }
+}
+
+// Of the locks that a node keeps, those that stay are kept, and behind them, in NL, those of its command under which a cached block is.
+fn keep_staying<O: Operation>(node: &mut Node<O>)
+    requires { length node.old.kept + (length node.old.asked + length node.old.claims) ≤ 128 }
+    ensures { state_of O.cmd_is node.new ≡ record (state_of O.cmd_is node.old) {
+      kept = staying (state_of O.cmd_is node.old) ++ lowered_of node.old.cache (used_locks (state_of O.cmd_is node.old));
+    } }
+{
+    let stocked = has_any(&node.stock);
+    node.kept.keep_staying(stocked, &node.cache);
+    keep_lowered(&mut node.kept, &node.cache, node.asked.items());
+    keep_lowered(&mut node.kept, &node.cache, node.claims.items());
 }
 
 // A node's command ends with the reply of its plan, or of its ask where that was not granted. It takes no memory.
@@ -107,6 +129,7 @@ fn end<O: Operation>(alloc: Global, node: &mut Node<O>) -> Ended
     requires op { IsSome node.old.op }
     requires plan { IsSome node.old.plan }
     requires few { node.old.past.answered < 4294967295 }
+    requires room { length node.old.kept + (length node.old.asked + length node.old.claims) ≤ 128 }
     ensures cmd { option_map O.cmd_is node.old.op ≡ Some result.cmd }
     ensures plan { node.old.plan ≡ Some result.plan }
     ensures tried { result.tried ≡ node.old.tried }
@@ -124,9 +147,9 @@ fn end<O: Operation>(alloc: Global, node: &mut Node<O>) -> Ended
     node.seen = unseen(alloc, node.seen.geometry);
     node.done = 0;
     node.tried = false;
+    keep_staying(node);
     node.asked.clear();
     node.claims.clear();
-    keep_staying(node);
     begin_phase(&mut node.run, Phase::Off);
     node.turns = node.turns.saturating_add(1);
     Ended {
@@ -137,24 +160,36 @@ fn end<O: Operation>(alloc: Global, node: &mut Node<O>) -> Ended
     }
 }
 
-// All locks of a node that do not stay behind its answer go back.
+// The locks of a node are put back at its answer: those of its command are lowered to NL where a cached block is under them, or go
+// back, and those that it kept go back if they do not stay.
 fn give_all<O: Operation>(g: &Geometry, node: u8, at: &Node<O>, locks: &mut LockDb)
     requires geometry { IsGeometry g.now }
     requires plan { IsSome at.now.plan }
-    requires may { MayGiveAll g.now node (all_writes (state_of O.cmd_is at.now)) (going (state_of O.cmd_is at.now)) locks.old }
-    ensures { locks.new ≡ given_back g.now node (all_writes (state_of O.cmd_is at.now)) (going (state_of O.cmd_is at.now)) locks.old }
+    requires may { MayPutAllBack g.now node (state_of O.cmd_is at.now) locks.old }
+    ensures { locks.new ≡ given_back g.now node (all_writes (state_of O.cmd_is at.now)) (going (state_of O.cmd_is at.now))
+        (put_back_all g.now node (all_writes (state_of O.cmd_is at.now)) at.now.cache (used_locks (state_of O.cmd_is at.now)) locks.old) }
 {
     let Some(plan) = &at.plan else { unreachable!() };
     let takes = at.run.writes.items();
     let writes = writes_by(plan, at.tried);
-    give_back(g, node, takes, writes, at.asked.items(), locks);
-    give_back(g, node, takes, writes, at.claims.items(), locks);
-    let stays = has_any(&at.stock);
-    give_back_but(g, node, takes, writes, at.kept.items(), stays, locks);
+    put_back_all(g, node, takes, writes, &at.cache, at.asked.items(), locks);
+    put_back_all(g, node, takes, writes, &at.cache, at.claims.items(), locks);
+    let stocked = has_any(&at.stock);
+    give_back_going(
+        g,
+        node,
+        takes,
+        writes,
+        &at.cache,
+        stocked,
+        at.kept.items(),
+        locks,
+    );
 }
 
 /// A node answers, with the reply of its plan, or of its ask where that was not granted: its answer is the last of the history, and
-/// its locks go back, but for X where it has a stock. OPEN keeps its channel's lock, and CLOSE gives it back. It takes no memory.
+/// its locks go back, but for X where it has a stock, and for those under which a cached block is: these stay in NL. OPEN keeps its
+/// channel's lock, and CLOSE gives it back. It takes no memory.
 pub(crate) fn answer<I: ImageDev, O: Operation>(alloc: Global, core: &mut Core<I, O>, node: u8)
     requires node { IsOfWorld (plain_of O.cmd_is core.old) node }
     requires geometry { IsGeometry core.old.geometry }

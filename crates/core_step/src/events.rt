@@ -10,11 +10,15 @@ ghost use Rattle.op_law.specs.declared.need.Ask.{Ask as PlanAsk};
 ghost use Rattle.core_state.specs.Worlds.{NodeState, IsOfWorld, state_of, plain_of, node_at};
 ghost use Rattle.core_state.specs.Event as event;
 ghost use Rattle.core_state.specs.Asks.{has_asked};
-ghost use Rattle.core_state.specs.Events.{happen, turned, leaving, locking, looking, planning, one_more, would_go};
+ghost use Rattle.vol_parts.specs.Parts.{IsGeometry};
+ghost use Rattle.node_cache.specs.Cached.{used};
+ghost use Rattle.core_state.specs.Caches.{kept_with};
+ghost use Rattle.core_state.specs.Events.{happen, turned, leaving, locking, reading, hitting, caching, looking, using, block_used, planning, would_go};
 ghost use Rattle.core_step.specs.Asks.{aim_of, MayAsk, noted, unnoted};
 ghost use Rattle.core_step.specs.Giving.{MayLeaveAll};
 
 use crate::asks::Aim;
+use crate::caches::{keep, kept_sequence, sequence_now};
 use crate::giving::leave_all;
 use blk_drive::ImageDev;
 use core_state::{Core, Node};
@@ -33,9 +37,17 @@ pub(crate) fn count<O: Operation>(node: &mut Node<O>)
 
 /// One turn more, in which a block was read from the drive.
 pub(crate) fn count_read<O: Operation>(node: &mut Node<O>)
-    ensures { state_of O.cmd_is node.new ≡ turned (record (state_of O.cmd_is node.old) { reads = one_more node.old.reads }) }
+    ensures { state_of O.cmd_is node.new ≡ turned (reading (state_of O.cmd_is node.old)) }
 {
     node.reads = node.reads.saturating_add(1);
+    count(node);
+}
+
+/// One turn more, in which a block was found cached.
+pub(crate) fn count_hit<O: Operation>(node: &mut Node<O>)
+    ensures { state_of O.cmd_is node.new ≡ turned (hitting (state_of O.cmd_is node.old)) }
+{
+    node.hits = node.hits.saturating_add(1);
     count(node);
 }
 
@@ -49,16 +61,17 @@ pub(crate) fn stand<I: ImageDev, O: Operation>(core: &mut Core<I, O>, node: u8)
     count(&mut core.nodes[node as usize - 1]);
 }
 
-// A node leaves, and has no lock.
+// A node leaves, and has no lock and no cached block.
 fn leave_node<O: Operation>(node: &mut Node<O>)
     ensures { state_of O.cmd_is node.new ≡ turned (leaving (state_of O.cmd_is node.old)) }
 {
     node.kept.clear();
+    node.cache.clear();
     node.over = true;
     count(node);
 }
 
-/// A node leaves the volume, and gives back the locks that it keeps. It takes no memory.
+/// A node leaves the volume: its cache is emptied, and it gives back the locks that it keeps. It takes no memory.
 pub(crate) fn leave<I: ImageDev, O: Operation>(core: &mut Core<I, O>, node: u8)
     requires node { IsOfWorld (plain_of O.cmd_is core.old) node }
     requires may { (s : NodeState) → node_at (plain_of O.cmd_is core.old).nodes node ≡ Some s → MayLeaveAll node s.kept core.old.locks }
@@ -252,21 +265,96 @@ fn keep_block<O: Operation>(node: &mut Node<O>, lbn: u32, block: Block) -> Resul
     Ok(())
 }
 
-/// A node's command looks at a block. An error says that memory ran out, and nothing was looked at.
+// A node has looked at a block under a lock, which its cache keeps with this sequence, or not. A refusal of memory leaves it as it was.
+fn keep_looked<O: Operation>(
+    alloc: Global,
+    node: &mut Node<O>,
+    seq: Option<u64>,
+    name: LockName,
+    lbn: u32,
+    block: Block,
+) -> Result<(), NoMemory>
+    ensures ok { OnOk result (state_of O.cmd_is node.new ≡ turned (caching (kept_with seq lbn name block node.old.cache) (looking (state_of O.cmd_is node.old) lbn block))) }
+    ensures err { OnErr result (state_of O.cmd_is node.new ≡ state_of O.cmd_is node.old) }
+{
+    node.seen.blocks.push((lbn, block))?;
+    match keep(alloc, &mut node.cache, seq, lbn, name, &block) {
+        Ok(()) => {
+            count_read(node);
+            Ok(())
+        }
+        Err(fault) => {
+            let _block = node.seen.blocks.pop();
+            Err(fault)
+        }
+    }
+}
+
+/// A node's command looks at a block, which the lock of this name guards, and reads it from the drive. An error says that memory ran
+/// out, and nothing was looked at.
 pub(crate) fn look<I: ImageDev, O: Operation>(
+    alloc: Global,
     core: &mut Core<I, O>,
     node: u8,
+    name: LockName,
     lbn: u32,
 ) -> Result<(), NoMemory>
     requires node { IsOfWorld (plain_of O.cmd_is core.old) node }
+    requires geometry { IsGeometry core.old.geometry }
     requires within { lbn < length core.old.mirror.blocks }
-    ensures world { OnOk result (plain_of O.cmd_is core.new ≡ happen (plain_of O.cmd_is core.old) node (event.Look lbn)) }
+    ensures world { OnOk result (plain_of O.cmd_is core.new ≡ happen (plain_of O.cmd_is core.old) node (event.Look name lbn)) }
     ensures same { OnErr result (plain_of O.cmd_is core.new ≡ plain_of O.cmd_is core.old) }
     ensures mirror { core.new.mirror ≡ core.old.mirror }
     ensures room { core.new.history.room ≡ core.old.history.room }
 {
     let block = *core.mirror.read(lbn);
-    keep_block(&mut core.nodes[node as usize - 1], lbn, block)
+    let seq = kept_sequence(&core.geometry, &core.locks, node, name, lbn);
+    keep_looked(
+        alloc,
+        &mut core.nodes[node as usize - 1],
+        seq,
+        name,
+        lbn,
+        block,
+    )
+}
+
+// A node has used a cached block, which has this sequence. A refusal of memory leaves it as it was.
+fn keep_used<O: Operation>(
+    node: &mut Node<O>,
+    seq: u64,
+    name: LockName,
+    lbn: u32,
+    block: Block,
+) -> Result<(), NoMemory>
+    ensures ok { OnOk result (state_of O.cmd_is node.new ≡ turned (caching (used lbn name seq node.old.cache) (using (state_of O.cmd_is node.old) lbn block))) }
+    ensures err { OnErr result (state_of O.cmd_is node.new ≡ state_of O.cmd_is node.old) }
+{
+    node.seen.blocks.push((lbn, block))?;
+    node.cache.promote(lbn, name, seq);
+    count_hit(node);
+    Ok(())
+}
+
+/// A node's command uses a block that the node has cached under the lock of this name, and whose entry is current: it has these bytes.
+/// An error says that memory ran out, and nothing was used.
+pub(crate) fn use_block<I: ImageDev, O: Operation>(
+    core: &mut Core<I, O>,
+    node: u8,
+    name: LockName,
+    lbn: u32,
+    block: Block,
+) -> Result<(), NoMemory>
+    requires node { IsOfWorld (plain_of O.cmd_is core.old) node }
+    requires geometry { IsGeometry core.old.geometry }
+    requires current { (s : NodeState) → node_at (plain_of O.cmd_is core.old).nodes node ≡ Some s → block ≡ block_used (plain_of O.cmd_is core.old) s name lbn }
+    ensures world { OnOk result (plain_of O.cmd_is core.new ≡ happen (plain_of O.cmd_is core.old) node (event.Use name lbn)) }
+    ensures same { OnErr result (plain_of O.cmd_is core.new ≡ plain_of O.cmd_is core.old) }
+    ensures mirror { core.new.mirror ≡ core.old.mirror }
+    ensures room { core.new.history.room ≡ core.old.history.room }
+{
+    let seq = sequence_now(&core.geometry, &core.locks, name, lbn);
+    keep_used(&mut core.nodes[node as usize - 1], seq, name, lbn, block)
 }
 
 /// A node's command looks at a file's own block. An error says that memory ran out, and nothing was looked at.

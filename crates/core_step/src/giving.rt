@@ -1,8 +1,13 @@
 //! A node's locks go back.
 
-ghost use Rattle.std.specs.Prelude.{◌≡◌, ◌++◌, ◌&&◌, not, filter};
-ghost use Rattle.lock_db.specs.declared.name.LockName.TheVariants.{X};
-ghost use Rattle.lock_db.specs.Names.{is_same};
+ghost use Rattle.std.specs.Prelude.{◌≡◌, ◌++◌, not, filter, IsSome, if◌then◌else◌};
+ghost use Rattle.lock_db.specs.Queues.{lock_of};
+ghost use Rattle.lock_db.specs.Tables.{resource_at, converted, released};
+ghost use Rattle.node_locks.specs.Held.{system_of};
+ghost use Rattle.node_locks.specs.PuttingBack.{MayPutBack};
+ghost use Rattle.node_locks.specs.Sequences.{raised_block};
+ghost use Rattle.core_space.specs.Lasting.{stays_by};
+ghost use Rattle.core_state.specs.Caches.{keeps, raised_values, put_back_all};
 ghost use Rattle.vol_parts.specs.Parts.{IsGeometry};
 ghost use Rattle.core_space.specs.Rule.{has_any};
 ghost use Rattle.core_state.specs.Events.{given_back, left_alone};
@@ -11,7 +16,8 @@ ghost use Rattle.core_step.specs.Giving.{MayGiveAll, MayLeaveAll};
 use crate::raises::{is_same, raise_of};
 use extent_cache::Extents;
 use lock_db::{LockDb, LockName, Owner};
-use node_locks::release;
+use node_cache::NodeCache;
+use node_locks::{Raise, lower, release};
 use op_law::PlanWrite;
 use plain_cat::Mode;
 use vol_parts::Geometry;
@@ -23,42 +29,68 @@ pub(crate) fn has_any(stock: &Extents) -> bool
     stock.count() > 0 || !stock.numbers().is_empty()
 }
 
-/// Gives back the locks of a node, in order, each with its value block raised by the writes under it: those of its search, and
-/// those of its plan. It takes no memory.
-pub(crate) fn give_back(
+// Puts back one lock: it is lowered to NL where a cached block is under it, and else it goes back.
+fn put_back(locks: &mut LockDb, node: u8, name: LockName, cached: bool, raise: Raise)
+    requires { IsSome (lock_of (system_of node) (resource_at name locks.old).askers) }
+    ensures { locks.new ≡ (if cached then converted name (system_of node) Mode.NL (raised_block raise (resource_at name locks.old)) locks.old
+        else released name (system_of node) (raised_block raise (resource_at name locks.old)) locks.old) }
+{
+    if cached {
+        lower(locks, node, name, Mode::NL, raise);
+    } else {
+        release(locks, node, name, raise);
+    }
+}
+
+/// Puts back the locks of a node, in order: each is lowered to NL where a cached block is under it, or goes back, with its value block
+/// raised by the writes under it, those of its search and those of its plan. It takes no memory.
+pub(crate) fn put_back_all(
     g: &Geometry,
     node: u8,
     takes: &[PlanWrite],
     writes: &[PlanWrite],
+    cache: &NodeCache,
     held: &[(LockName, Mode)],
     locks: &mut LockDb,
 )
     requires geometry { IsGeometry g.now }
-    requires may { MayGiveAll g.now node (takes.now ++ writes.now) held.now locks.old }
-    ensures { locks.new ≡ given_back g.now node (takes.now ++ writes.now) held.now locks.old }
+    requires may { MayPutBack node (keeps cache.now) (raised_values g.now (takes.now ++ writes.now)) held.now locks.old }
+    ensures { locks.new ≡ put_back_all g.now node (takes.now ++ writes.now) cache.now held.now locks.old }
 {
     for (name, _) in held {
-        release(locks, node, *name, raise_of(g, *name, takes, writes));
+        let raise = raise_of(g, *name, takes, writes);
+        put_back(locks, node, *name, cache.holds_under(*name), raise);
     }
 }
 
-/// Gives back those of the locks that a node keeps, in order, that do not stay: X does, where its stock has anything. It takes no
-/// memory.
-pub(crate) fn give_back_but(
+// Whether a lock that a node keeps stays behind an answer: X does where it has a stock, and any other where a cached block is under it.
+fn stays(name: LockName, stocked: bool, cache: &NodeCache) -> bool
+    ensures { result ≡ stays_by stocked cache.now (name, Mode.NL) }
+{
+    if is_same(name, LockName::X) {
+        stocked
+    } else {
+        cache.holds_under(name)
+    }
+}
+
+/// Gives back those of the locks that a node keeps, in order, that do not stay behind an answer. It takes no memory.
+pub(crate) fn give_back_going(
     g: &Geometry,
     node: u8,
     takes: &[PlanWrite],
     writes: &[PlanWrite],
+    cache: &NodeCache,
+    stocked: bool,
     kept: &[(LockName, Mode)],
-    stays: bool,
     locks: &mut LockDb,
 )
     requires geometry { IsGeometry g.now }
-    requires may { MayGiveAll g.now node (takes.now ++ writes.now) (filter (λ l. not (is_same l.0 X && stays)) kept.now) locks.old }
-    ensures { locks.new ≡ given_back g.now node (takes.now ++ writes.now) (filter (λ l. not (is_same l.0 X && stays)) kept.now) locks.old }
+    requires may { MayGiveAll g.now node (takes.now ++ writes.now) (filter (λ l. not (stays_by stocked cache.now l)) kept.now) locks.old }
+    ensures { locks.new ≡ given_back g.now node (takes.now ++ writes.now) (filter (λ l. not (stays_by stocked cache.now l)) kept.now) locks.old }
 {
     for (name, _) in kept {
-        if !(is_same(*name, LockName::X) && stays) {
+        if !stays(*name, stocked, cache) {
             release(locks, node, *name, raise_of(g, *name, takes, writes));
         }
     }

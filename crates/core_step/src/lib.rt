@@ -12,10 +12,12 @@
 //! The world is then exactly the one of the definition (`moved`), and after a fault as it was (`same`). `ImageFault` comes only
 //! in place of a write and if the image's count of faults rose (`before`, `cause`); the image has the blocks from before, or
 //! those that the turn would have left (`torn`). `NoMemory` never comes in place of a write of a plan or of an answer (`memory`).
+//! A block that the turn uses from the node's cache is the drive's (`used`).
 #![tactic(auto)]
 
 mod answers;
 mod asks;
+mod caches;
 mod channels;
 mod claims;
 mod events;

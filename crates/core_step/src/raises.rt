@@ -28,8 +28,8 @@ pub(crate) fn is_same(a: LockName, b: LockName) -> bool
     }
 }
 
-// Whether a block is of the first part of what a lock guards.
-fn is_first_part(g: &Geometry, name: LockName, lbn: u32) -> bool
+/// Whether a block is of the first part of what a lock guards.
+pub(crate) fn is_first_part(g: &Geometry, name: LockName, lbn: u32) -> bool
     requires { IsGeometry g.now }
     ensures { result ≡ is_first_part g.now name lbn }
 {

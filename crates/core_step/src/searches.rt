@@ -10,12 +10,16 @@ ghost use Rattle.op_law.specs.declared.need.PlanWrite.{PlanWrite};
 ghost use Rattle.core_space.specs.Rule.{space_decision};
 ghost use Rattle.core_state.specs.Worlds.{NodeState, IsOfWorld, state_of, plain_of, node_at};
 ghost use Rattle.core_state.specs.Event as event;
-ghost use Rattle.core_state.specs.Events.{happen, turned, told_by, ready_of, space_looked, space_looking, space_writing};
+ghost use Rattle.lock_db.specs.declared.name.LockName.TheVariants.{V};
+ghost use Rattle.node_cache.specs.Cached.{used};
+ghost use Rattle.core_state.specs.Caches.{kept_with};
+ghost use Rattle.core_state.specs.Events.{happen, turned, caching, block_used, told_by, ready_of, space_decided, space_looking, space_using, space_writing};
 ghost use Rattle.core_state.specs.Asks.{has_asked};
 ghost use Rattle.core_state.specs.Stocks.{has_bit_at};
 ghost use Rattle.core_step.specs.Spaces.{IsBitmapPlace, CanTake, taking, next_write};
 
-use crate::events::{count, count_read};
+use crate::caches::{keep, kept_sequence, rewrite, sequence_now};
+use crate::events::{count, count_hit, count_read};
 use crate::raises::is_same;
 use blk_drive::{ImageDev, ImageFault};
 use core_space::{Decision, Phase, SpaceNeed, space_writes};
@@ -65,7 +69,7 @@ fn tell<O: Operation>(alloc: Global, node: &mut Node<O>, short: Option<Refusal>)
 // What the rules for space have come to is taken over.
 fn take_over<O: Operation>(alloc: Global, node: &mut Node<O>, decision: Decision, ready: Clusters)
     requires { ready ≡ ready_of decision.phase decision.writes }
-    ensures { state_of O.cmd_is node.new ≡ turned (space_looked (state_of O.cmd_is node.old) node.old.run.looked decision) }
+    ensures { state_of O.cmd_is node.new ≡ space_decided (state_of O.cmd_is node.old) node.old.run.looked decision }
 {
     let Decision {
         phase,
@@ -77,7 +81,6 @@ fn take_over<O: Operation>(alloc: Global, node: &mut Node<O>, decision: Decision
     node.run.made = 0;
     node.run.ready = ready;
     tell(alloc, node, short);
-    count_read(node);
 }
 
 // What the rules for space come to by what is looked at, and the clusters of the last of its writes.
@@ -96,24 +99,48 @@ fn decide<O: Operation>(
     Ok((decision, ready))
 }
 
-// A node looks at one bitmap block more by its rules for space, and what they then come to is taken over. An error says that memory
-// ran out, and nothing was looked at.
+// What the rules for space come to by what is looked at, and the cache keeps the last block of it with this sequence, or not. Where memory
+// is refused, the cache is as it was.
+fn decide_and_keep<O: Operation>(
+    alloc: Global,
+    node: &mut Node<O>,
+    need: SpaceNeed,
+    seq: Option<u64>,
+    lbn: u32,
+    block: &Block,
+) -> Result<(Decision, Clusters), NoMemory>
+    requires geometry { IsGeometry node.old.seen.geometry }
+    requires need { need.clusters ≤ 65536 }
+    ensures ok { OnOk result (state_of O.cmd_is node.new ≡ caching (kept_with seq lbn V block.now node.old.cache) (state_of O.cmd_is node.old)) }
+    ensures err { OnErr result (state_of O.cmd_is node.new ≡ state_of O.cmd_is node.old) }
+    ensures decision { IfOk result (λ d. d.0 ≡ space_decision node.old.seen.geometry node.old.run node.old.stock need) }
+    ensures ready { IfOk result (λ d. d.1 ≡ ready_of d.0.phase d.0.writes) }
+{
+    let decided = decide(alloc, node, need)?;
+    keep(alloc, &mut node.cache, seq, lbn, LockName::V, block)?;
+    Ok(decided)
+}
+
+// A node looks at one bitmap block more by its rules for space, which its cache keeps with this sequence, or not, and what they then come
+// to is taken over. An error says that memory ran out, and nothing was looked at.
 fn look_on<O: Operation>(
     alloc: Global,
     node: &mut Node<O>,
     need: SpaceNeed,
+    seq: Option<u64>,
     lbn: u32,
     block: &Block,
 ) -> Result<(), NoMemory>
     requires geometry { IsGeometry node.old.seen.geometry }
     requires need { need.clusters ≤ 65536 }
-    ensures ok { OnOk result (state_of O.cmd_is node.new ≡ turned (space_looking (state_of O.cmd_is node.old) need.clusters need.number lbn block.now)) }
+    ensures ok { OnOk result (state_of O.cmd_is node.new ≡ turned (caching (kept_with seq lbn V block.now node.old.cache) (space_looking (state_of O.cmd_is node.old) need.clusters need.number lbn block.now))) }
     ensures err { OnErr result (state_of O.cmd_is node.new ≡ state_of O.cmd_is node.old) }
 {
     node.run.looked.push((lbn, *block))?;
-    match decide(alloc, node, need) {
+    match decide_and_keep(alloc, node, need, seq, lbn, block) {
         Ok((decision, ready)) => {
             take_over(alloc, node, decision, ready);
+            count_read(node);
             Ok(())
         }
         Err(fault) => {
@@ -123,8 +150,37 @@ fn look_on<O: Operation>(
     }
 }
 
-/// By its rules for space, for this need, a node looks at a bitmap block, and what they then come to is taken over. An error says
-/// that memory ran out, and nothing was looked at.
+// The same with a cached block that is current, and has this sequence.
+fn use_on<O: Operation>(
+    alloc: Global,
+    node: &mut Node<O>,
+    need: SpaceNeed,
+    seq: u64,
+    lbn: u32,
+    block: &Block,
+) -> Result<(), NoMemory>
+    requires geometry { IsGeometry node.old.seen.geometry }
+    requires need { need.clusters ≤ 65536 }
+    ensures ok { OnOk result (state_of O.cmd_is node.new ≡ turned (caching (used lbn V seq node.old.cache) (space_using (state_of O.cmd_is node.old) need.clusters need.number lbn block.now))) }
+    ensures err { OnErr result (state_of O.cmd_is node.new ≡ state_of O.cmd_is node.old) }
+{
+    node.run.looked.push((lbn, *block))?;
+    match decide(alloc, node, need) {
+        Ok((decision, ready)) => {
+            take_over(alloc, node, decision, ready);
+            node.cache.promote(lbn, LockName::V, seq);
+            count_hit(node);
+            Ok(())
+        }
+        Err(fault) => {
+            let _block = node.run.looked.pop();
+            Err(fault)
+        }
+    }
+}
+
+/// By its rules for space, for this need, a node looks at a bitmap block and reads it from the drive, and what they then come to is taken
+/// over. An error says that memory ran out, and nothing was looked at.
 pub(crate) fn space_look<I: ImageDev, O: Operation>(
     alloc: Global,
     core: &mut Core<I, O>,
@@ -133,6 +189,7 @@ pub(crate) fn space_look<I: ImageDev, O: Operation>(
     lbn: u32,
 ) -> Result<(), NoMemory>
     requires node { IsOfWorld (plain_of O.cmd_is core.old) node }
+    requires volume { IsGeometry core.old.geometry }
     requires geometry { (s : NodeState) → node_at (plain_of O.cmd_is core.old).nodes node ≡ Some s → IsGeometry s.seen.geometry }
     requires need { need.clusters ≤ 65536 }
     requires within { lbn < length core.old.mirror.blocks }
@@ -142,7 +199,46 @@ pub(crate) fn space_look<I: ImageDev, O: Operation>(
     ensures room { core.new.history.room ≡ core.old.history.room }
 {
     let block = *core.mirror.read(lbn);
-    look_on(alloc, &mut core.nodes[node as usize - 1], need, lbn, &block)
+    let seq = kept_sequence(&core.geometry, &core.locks, node, LockName::V, lbn);
+    look_on(
+        alloc,
+        &mut core.nodes[node as usize - 1],
+        need,
+        seq,
+        lbn,
+        &block,
+    )
+}
+
+/// The same with a bitmap block that the node has cached, and whose entry is current: it has these bytes. An error says that memory ran
+/// out, and nothing was used.
+pub(crate) fn space_use<I: ImageDev, O: Operation>(
+    alloc: Global,
+    core: &mut Core<I, O>,
+    node: u8,
+    need: SpaceNeed,
+    lbn: u32,
+    block: &Block,
+) -> Result<(), NoMemory>
+    requires node { IsOfWorld (plain_of O.cmd_is core.old) node }
+    requires volume { IsGeometry core.old.geometry }
+    requires geometry { (s : NodeState) → node_at (plain_of O.cmd_is core.old).nodes node ≡ Some s → IsGeometry s.seen.geometry }
+    requires need { need.clusters ≤ 65536 }
+    requires current { (s : NodeState) → node_at (plain_of O.cmd_is core.old).nodes node ≡ Some s → block.now ≡ block_used (plain_of O.cmd_is core.old) s V lbn }
+    ensures world { OnOk result (plain_of O.cmd_is core.new ≡ happen (plain_of O.cmd_is core.old) node (event.SpaceUse need.clusters need.number lbn)) }
+    ensures same { OnErr result (plain_of O.cmd_is core.new ≡ plain_of O.cmd_is core.old) }
+    ensures mirror { core.new.mirror ≡ core.old.mirror }
+    ensures room { core.new.history.room ≡ core.old.history.room }
+{
+    let seq = sequence_now(&core.geometry, &core.locks, LockName::V, lbn);
+    use_on(
+        alloc,
+        &mut core.nodes[node as usize - 1],
+        need,
+        seq,
+        lbn,
+        block,
+    )
 }
 
 // What a write of a give-back makes free leaves the stock: all file numbers, or the clusters that have their bits in that block.
@@ -185,6 +281,14 @@ fn keep_taken<O: Operation>(alloc: Global, node: &mut Node<O>) -> usize
     made
 }
 
+// The lock under which the next write of a node's rules for space is made.
+fn next_lock<O: Operation>(node: &Node<O>) -> LockName
+    requires { node.now.run.made < length node.now.run.writes }
+    ensures { (v : PlanWrite) → slice_get node.now.run.writes node.now.run.made ≡ Some v → result ≡ v.lock }
+{
+    node.run.writes.items()[node.run.made].lock
+}
+
 // A node has made the next write of its rules for space.
 fn keep_space_write<O: Operation>(alloc: Global, node: &mut Node<O>)
     requires next { node.old.run.made < length node.old.run.writes }
@@ -196,7 +300,7 @@ fn keep_space_write<O: Operation>(alloc: Global, node: &mut Node<O>)
     count(node);
 }
 
-/// A node makes the next write of its rules for space, which is of this block. It takes no memory. An error says that the image
+/// A node makes the next write of its rules for space, which is of this block, and renews the entry that it has cached of it. It takes no memory. An error says that the image
 /// failed: in memory no block has changed, and the node stands before the write.
 pub(crate) fn space_write<I: ImageDev, O: Operation>(
     alloc: Global,
@@ -206,6 +310,7 @@ pub(crate) fn space_write<I: ImageDev, O: Operation>(
     block: &Block,
 ) -> Result<(), ImageFault>
     requires node { IsOfWorld (plain_of O.cmd_is core.old) node }
+    requires volume { IsGeometry core.old.geometry }
     requires within { lbn < length core.old.mirror.blocks }
     requires next { IsSome (next_write (plain_of O.cmd_is core.old) node) }
     requires can { (s : NodeState) (v : PlanWrite) → node_at (plain_of O.cmd_is core.old).nodes node ≡ Some s → slice_get s.run.writes s.run.made ≡ Some v → CanTake s v }
@@ -219,6 +324,9 @@ pub(crate) fn space_write<I: ImageDev, O: Operation>(
     ensures room { core.new.history.room ≡ core.old.history.room }
 {
     core.mirror.write(lbn, block)?;
-    keep_space_write(alloc, &mut core.nodes[node as usize - 1]);
+    let at = &mut core.nodes[node as usize - 1];
+    let name = next_lock(at);
+    rewrite(&core.geometry, &core.locks, &mut at.cache, name, lbn, block);
+    keep_space_write(alloc, at);
     Ok(())
 }

@@ -6,11 +6,13 @@ ghost use Rattle.vol_words.specs.Fields.{Block};
 ghost use Rattle.core_space.specs.declared.event.SpaceEvent.TheVariants as space;
 ghost use Rattle.plain_cat.specs.declared.command.Cmd.{Cmd};
 ghost use Rattle.op_law.specs.declared.need.Need.TheVariants as needed;
+ghost use Rattle.core_state.specs.Event as event;
 ghost use Rattle.op_law.specs.Laws.{Lawful};
 ghost use Rattle.core_state.specs.Worlds.{NodeState, IsOfWorld, state_of, plain_of, node_at, current};
 ghost use Rattle.core_state.specs.Goods.{Good, HasOnly, HasRoom};
 ghost use Rattle.core_state.specs.Images.{IsTold, IsTorn, told_as};
-ghost use Rattle.core_state.specs.Events.{is_out, is_write, begun, by_rule, serves, gives_back, stands, is_held_up, next_event, plan_at, after_turn};
+ghost use Rattle.core_state.specs.Uses.{UsesTheDrives};
+ghost use Rattle.core_state.specs.Events.{is_out, is_write, begun, by_rule, or_use, serves, gives_back, stands, is_held_up, next_event, plan_at, after_turn};
 ghost use Rattle.core_step.specs.Ready.{Makes, IsBegun, IsReady, Begins, NeedsNow, LacksSpace, IsGivenAll, forgotten};
 ghost use Rattle.core_step.specs.Moving.{IsPut, CanMove};
 ghost use Rattle.core_step.specs.Memory.{takes_none};
@@ -19,21 +21,48 @@ ghost use Rattle.core_step.specs.Turns.{told};
 
 use crate::answers::{answer, write};
 use crate::asks::{going_ask, writes_by};
+use crate::caches::current_block;
 use crate::channels::channel_seen;
 use crate::claims::{claim, lower_v, lower_x, return_x};
-use crate::events::{ask, fetch, leave, lock, look, plan, stand};
+use crate::events::{ask, fetch, leave, lock, look, plan, stand, use_block};
 use crate::needs::next_need;
-use crate::searches::{space_look, space_write};
+use crate::searches::{space_look, space_use, space_write};
 use crate::serving::{serve, take_back};
 use crate::spaces::{back_event, gives_back, phase_begun, serves, space_event, stands};
 use crate::turns::{Kind, Turn, TurnFault};
 use blk_drive::ImageDev;
 use core_space::{Phase, SpaceEvent, SpaceNeed};
 use core_state::{Core, Node, World};
-use lock_db::Asked;
+use lock_db::{Asked, LockName};
 use op_law::{Need, Operation};
 use plain_cat::Cmd;
 use std::alloc::Global;
+
+// By its rules for space, for this need, a node looks at a bitmap block: it uses the block that it has cached, if that is current, and
+// else reads it from the drive.
+fn by_space_look<I: ImageDev, O: Operation>(
+    alloc: Global,
+    core: &mut Core<I, O>,
+    node: u8,
+    need: SpaceNeed,
+    lbn: u32,
+) -> Result<Turn, TurnFault>
+    requires good { Good (plain_of O.cmd_is core.old) }
+    requires node { IsOfWorld (plain_of O.cmd_is core.old) node }
+    requires need { need.clusters ≤ 65536 }
+    requires makes { (s : NodeState) → node_at (plain_of O.cmd_is core.old).nodes node ≡ Some s → Makes (plain_of O.cmd_is core.old) node (or_use (plain_of O.cmd_is core.old) s (event.SpaceLook need.clusters need.number lbn)) }
+    requires can { (s : NodeState) → node_at (plain_of O.cmd_is core.old).nodes node ≡ Some s → CanMove (plain_of O.cmd_is core.old) node s (event.SpaceLook need.clusters need.number lbn) }
+    requires room { HasRoom (plain_of O.cmd_is core.old) core.old.history.room }
+    ensures { IsTurn I.faults I.told node (held_of O.cmd_is core.old) (held_of O.cmd_is core.new) result }
+{
+    let at = &core.nodes[node as usize - 1];
+    if let Some(block) = current_block(&core.geometry, &core.locks, &at.cache, LockName::V, lbn) {
+        space_use(alloc, core, node, need, lbn, &block)?;
+        return Ok(Turn::Moved(Kind::Used));
+    }
+    space_look(alloc, core, node, need, lbn)?;
+    Ok(Turn::Moved(Kind::Looked))
+}
 
 // The event of a node by its rules for space, which go on in this phase, for this need.
 fn by_rule<I: ImageDev, O: Operation>(
@@ -47,7 +76,7 @@ fn by_rule<I: ImageDev, O: Operation>(
     requires good { Good (plain_of O.cmd_is core.old) }
     requires node { IsOfWorld (plain_of O.cmd_is core.old) node }
     requires need { need.clusters ≤ 65536 }
-    requires makes { (s : NodeState) → node_at (plain_of O.cmd_is core.old).nodes node ≡ Some s → Makes (plain_of O.cmd_is core.old) node (by_rule s phase need event) }
+    requires makes { (s : NodeState) → node_at (plain_of O.cmd_is core.old).nodes node ≡ Some s → Makes (plain_of O.cmd_is core.old) node (or_use (plain_of O.cmd_is core.old) s (by_rule s phase need event)) }
     requires can { (s : NodeState) → node_at (plain_of O.cmd_is core.old).nodes node ≡ Some s → CanMove (plain_of O.cmd_is core.old) node s (by_rule s phase need event) }
     requires puts { (s : NodeState) (lbn : ℕ) (b : Block) → node_at (plain_of O.cmd_is core.old).nodes node ≡ Some s → event ≡ space.Put lbn b → IsPut s lbn b }
     requires room { HasRoom (plain_of O.cmd_is core.old) core.old.history.room }
@@ -58,10 +87,7 @@ fn by_rule<I: ImageDev, O: Operation>(
             Asked::Granted => Ok(Turn::Moved(Kind::Locked)),
             Asked::Queued => Ok(Turn::Waiting),
         },
-        SpaceEvent::Look(lbn) => {
-            space_look(alloc, core, node, need, lbn)?;
-            Ok(Turn::Moved(Kind::Looked))
-        }
+        SpaceEvent::Look(lbn) => by_space_look(alloc, core, node, need, lbn),
         SpaceEvent::Put { lbn, block } => {
             space_write(alloc, core, node, lbn, &block)?;
             Ok(Turn::Moved(Kind::Wrote))
@@ -111,6 +137,32 @@ fn by_space<I: ImageDev, O: Operation>(
     by_rule(alloc, core, node, phase, need, event)
 }
 
+// A command looks at a block that a lock guards: it uses the block that its node has cached, if that is current, and else reads it from
+// the drive.
+fn by_look<I: ImageDev, O: Operation>(
+    alloc: Global,
+    core: &mut Core<I, O>,
+    node: u8,
+    name: LockName,
+    lbn: u32,
+) -> Result<Turn, TurnFault>
+    requires good { Good (plain_of O.cmd_is core.old) }
+    requires node { IsOfWorld (plain_of O.cmd_is core.old) node }
+    requires ready { IsReady (plain_of O.cmd_is core.old) node }
+    requires plan { plan_at (plain_of O.cmd_is core.old) node ≡ None }
+    requires needs { NeedsNow (plain_of O.cmd_is core.old) node (needed.Block name lbn) }
+    requires room { HasRoom (plain_of O.cmd_is core.old) core.old.history.room }
+    ensures { IsTurn I.faults I.told node (held_of O.cmd_is core.old) (held_of O.cmd_is core.new) result }
+{
+    let at = &core.nodes[node as usize - 1];
+    if let Some(block) = current_block(&core.geometry, &core.locks, &at.cache, name, lbn) {
+        use_block(core, node, name, lbn, block)?;
+        return Ok(Turn::Moved(Kind::Used));
+    }
+    look(alloc, core, node, name, lbn)?;
+    Ok(Turn::Moved(Kind::Looked))
+}
+
 // A command that has not decided on a plan goes on by this need.
 fn by_need<I: ImageDev, O: Operation>(
     alloc: Global,
@@ -132,10 +184,7 @@ fn by_need<I: ImageDev, O: Operation>(
             Asked::Granted => Ok(Turn::Moved(Kind::Locked)),
             Asked::Queued => Ok(Turn::Waiting),
         },
-        Need::Block(_, lbn) => {
-            look(core, node, lbn)?;
-            Ok(Turn::Moved(Kind::Looked))
-        }
+        Need::Block(name, lbn) => by_look(alloc, core, node, name, lbn),
         Need::Bare(lbn) => {
             fetch(core, node, lbn)?;
             Ok(Turn::Moved(Kind::Looked))
@@ -239,10 +288,11 @@ fn planned<I: ImageDev, O: Operation>(
     let writes = writes_by(plan, at.tried);
     if at.done < writes.len() {
         let w = &writes[at.done];
+        let name = w.lock;
         let lbn = w.lbn;
         let block = w.block;
         let done = at.done + 1;
-        write(core, node, lbn, &block, done)?;
+        write(core, node, name, lbn, &block, done)?;
         return Ok(Turn::Moved(Kind::Wrote));
     }
     if let Some(aim) = going_ask(plan, at.tried, &core.locks, node) {
@@ -424,6 +474,9 @@ pub fn turn<I: ImageDev, O: Operation>(
         → IsTorn (I.told w.old.image) (I.told w.new.image) w.old.world.blocks (after_turn w.old.world node).blocks }
     ensures drive { IsTold (I.told w.old.image) w.old.world.blocks
         → (I.told w.new.image ≡ told_as (I.told w.old.image) w.new.world.blocks) ⊎ (result ≡ Err TurnFault.ImageFault) }
+
+    // A block that it uses from the node's cache is the drive's.
+    ensures used { OnOk result (UsesTheDrives w.old.world node) }
 {
     step(alloc, &mut w.core, node)
 }

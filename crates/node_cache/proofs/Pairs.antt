@@ -1,17 +1,17 @@
 -- The words on the map underneath, on entries.
-use Rattle.std.proofs.Common.{◌≡◌, ◌∙◌, ◌-◌, ◌≤◌, ◌==◌, ◌&&◌, ℕ, true, false, List, [], ◌∷◌, length, take, find, nat_eq, Option, Some, None, is_some, option_map, if◌then◌else◌, refl, sym, ap, arith}
+use Rattle.std.proofs.Common.{◌≡◌, ◌∙◌, ◌-◌, ◌≤◌, ◌==◌, ◌&&◌, ◌||◌, ℕ, Bool, true, false, List, [], ◌∷◌, length, take, find, nat_eq, nat_le, Option, Some, None, is_some, option_map, if◌then◌else◌, refl, sym, ap, arith}
 use Rattle.std.specs.Option.{option_map_or}
 use Rattle.std.specs.Map.{lookup, lookup_entry, remove_entry, set_value}
 use Rattle.lru.specs.LruCache.{promoted, put_entries, LruCache}
 use Rattle.node_cache.specs.declared.held.Held.{Held}
-use Rattle.node_cache.specs.Cached.{Cached, cached, IsCache, is_for, is_under, found, used, kept, replaced, without, moved_to_front}
+use Rattle.node_cache.specs.Cached.{Cached, cached, IsCache, is_for, is_under, is_since, found, used, kept, replaced, without, moved_to_front}
 use Rattle.node_cache.specs.Views.{entry_of, entries_of, renewed}
 use Rattle.vol_words.specs.Fields.{Block}
 use Rattle.lock_db.specs.declared.name.LockName.{LockName}
 use Rattle.lock_db.specs.Names.{is_same}
 use Rattle.lock_db.proofs.Names.{is_same-same}
 use Rattle.std.proofs.lemmas.List.{take_all}
-use Rattle.std.specs.List.{take-map}
+use Rattle.std.specs.List.{take-map, list_any}
 use Rattle.lru.proofs.Pairs.{lookup-lookup_entry}
 use Rattle.lru.proofs.CallerLemmas.{Contains-lookup_entry}
 use Rattle.node_cache.proofs.Entries.{first_out, AreApart, passed, NoneFor, apart-first, apart-rest, found-find, first_out-without, find-none, none-without, none-replaced, length-without, is_for-same}
@@ -162,3 +162,46 @@ find-under lock (p ∷ ps) = elim (is_same lock p.1.lock) as (λ b. option_map (
   | true ↦ refl
   | false ↦ find-under lock ps
 ]
+
+-- ---- an entry with a sequence or a later one
+
+none-since : (lbn : ℕ) (lock : LockName) (seq : ℕ) (es : List Cached) → NoneFor lbn es → list_any (is_since lbn lock seq) es ≡ false
+none-since lbn lock seq [] h = refl
+none-since lbn lock seq (e ∷ es) h = rw h.0 (none-since lbn lock seq es h.1)
+
+or-false : (b : Bool) → (b || false) ≡ b
+or-false true = refl
+or-false false = refl
+
+any-since : (lbn : ℕ) (lock : LockName) (seq : ℕ) (es : List Cached) → AreApart es → list_any (is_since lbn lock seq) es ≡ option_map_or (λ (e : Cached). is_under lock e && nat_le seq e.seq) (find (is_for lbn) es) false
+any-since lbn lock seq [] apart = refl
+any-since lbn lock seq (e ∷ es) apart = (elim (is_for lbn e) as (λ b. is_for lbn e ≡ b → list_any (is_since lbn lock seq) (e ∷ es) ≡ option_map_or (λ (x : Cached). is_under lock x && nat_le seq x.seq) (find (is_for lbn) (e ∷ es)) false) [
+  | true ↦ λ t. rw (t, none-since lbn lock seq es (apart-first lbn e es apart t)) (or-false (is_under lock e && nat_le seq e.seq))
+  | false ↦ λ t. rw t (any-since lbn lock seq es (apart-rest e es apart))
+]) refl
+
+since-held : (lock : LockName) (seq : ℕ) (o : Option Cached) → option_map_or (λ (e : Cached). is_under lock e && nat_le seq e.seq) o false ≡ option_map_or (λ (h : Held). is_same lock h.lock && nat_le seq h.seq) (option_map held_of o) false
+since-held lock seq None = refl
+since-held lock seq (Some e) = refl
+
+-- whether there is one, by what is held for the block
+pub is-since : (lbn : ℕ) (lock : LockName) (seq : ℕ) (ps : List (ℕ × Held)) → AreApart (entries_of ps)
+    → list_any (is_since lbn lock seq) (entries_of ps) ≡ option_map_or (λ (h : Held). is_same lock h.lock && nat_le seq h.seq) (lookup (nat_eq lbn) ps) false
+is-since lbn lock seq ps apart =
+    any-since lbn lock seq (entries_of ps) apart
+    ∙ since-held lock seq (find (is_for lbn) (entries_of ps))
+    ∙ ap (λ (o : Option Held). option_map_or (λ (h : Held). is_same lock h.lock && nat_le seq h.seq) o false) (sym (lookup-find lbn ps))
+
+-- where none is found, a use changes nothing
+pub unused : (lbn : ℕ) (lock : LockName) (seq : ℕ) (es : List Cached) → is_some (found lbn lock seq es) ≡ false → used lbn lock seq es ≡ es
+unused lbn lock seq es h = by_found (found lbn lock seq es) h where
+  by_found : (o : Option Cached) → is_some o ≡ false → option_map_or (λ e. moved_to_front e es) o es ≡ es
+  by_found None f = refl
+  by_found (Some e) f = absurd (let x : true ≡ false = f in cc)
+
+-- and where it is found in none, there are no bytes
+pub no-block : (lbn : ℕ) (lock : LockName) (seq : ℕ) (es : List Cached) → is_some (found lbn lock seq es) ≡ false → option_map (λ (e : Cached). e.block) (found lbn lock seq es) ≡ None
+no-block lbn lock seq es h = by_found (found lbn lock seq es) h where
+  by_found : (o : Option Cached) → is_some o ≡ false → option_map (λ (e : Cached). e.block) o ≡ None
+  by_found None f = refl
+  by_found (Some e) f = absurd (let x : true ≡ false = f in cc)

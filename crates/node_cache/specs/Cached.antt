@@ -1,5 +1,5 @@
 -- A node's cache, as a list of entries in order of use, the one that was used last in front.
-use Rattle.std.specs.Prelude.{◌≤◌, ◌==◌, ◌&&◌, nat_eq, not, ℕ, Bool, List, [], ◌∷◌, ◌++◌, length, map, take, filter, find, Option, if◌then◌else◌}
+use Rattle.std.specs.Prelude.{◌≤◌, ◌==◌, ◌&&◌, nat_eq, nat_le, not, ℕ, Bool, List, [], ◌∷◌, ◌++◌, length, map, take, filter, find, Option, if◌then◌else◌}
 use Rattle.std.specs.Option.{option_map_or}
 use Rattle.std.specs.List.{IsDistinct, list_any}
 use Rattle.vol_words.specs.Fields.{Block}
@@ -37,6 +37,10 @@ pub record IsCache (es : List Cached) : Type 0 where
 -- the entry of the block under this lock, where it has this sequence
 abbrev pub found : ℕ → LockName → ℕ → List Cached → Option Cached
 found lbn lock seq es = find (λ e. is_of lbn lock e && (seq == e.seq)) es
+
+-- an entry of the block, under this lock, with this sequence or a later one
+abbrev pub is_since : ℕ → LockName → ℕ → Cached → Bool
+is_since lbn lock seq e = is_of lbn lock e && nat_le seq e.seq
 
 -- all entries but that of the block
 abbrev pub without : ℕ → List Cached → List Cached

@@ -4,7 +4,7 @@ ghost use Rattle.std.specs.Prelude.{◌≡◌, [], find, is_some, option_map, op
 ghost use Rattle.std.specs.List.{list_any, IsDistinct};
 ghost use Rattle.std.specs.Borrow.{sem};
 ghost use Rattle.lock_db.specs.Names.{is_same};
-ghost use Rattle.node_cache.specs.Cached.{Cached, cached, IsCache, is_under, found, used, kept, replaced, without_lock, locks_of};
+ghost use Rattle.node_cache.specs.Cached.{Cached, cached, IsCache, is_under, is_since, found, used, kept, replaced, without_lock, locks_of};
 
 use crate::held::Held;
 use crate::locks::{is_one, join};
@@ -63,6 +63,39 @@ impl NodeCache {
         match self.cache.get(&lbn) {
             Some(held) => Some(&held.block),
             None => None,
+        }
+    }
+
+    /// A copy of the block's bytes, exactly where there is an entry for it under the lock and with the sequence.
+    pub fn block(&self, lbn: u32, lock: LockName, seq: u64) -> Option<Block>
+        ensures { result ≡ option_map (λ (e : Cached). e.block) (found lbn lock seq self.now) }
+    {
+        if !self.is_current(lbn, lock, seq) {
+            return None;
+        }
+        match self.cache.peek(&lbn) {
+            Some(held) => Some(held.bytes()),
+            None => None,
+        }
+    }
+
+    /// Brings the entry for the block under the lock and with the sequence to the front. Where there is none, nothing changes. It
+    /// takes no memory.
+    pub fn promote(&mut self, lbn: u32, lock: LockName, seq: u64)
+        ensures { self.new ≡ used lbn lock seq self.old }
+    {
+        if self.is_current(lbn, lock, seq) {
+            self.cache.promote(&lbn);
+        }
+    }
+
+    /// Whether there is an entry for the block under the lock, with the sequence or a later one.
+    pub fn holds_since(&self, lbn: u32, lock: LockName, seq: u64) -> bool
+        ensures { result ≡ list_any (is_since lbn lock seq) self.now }
+    {
+        match self.cache.peek(&lbn) {
+            Some(held) => held.is_since(lock, seq),
+            None => false,
         }
     }
 

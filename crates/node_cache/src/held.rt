@@ -13,7 +13,7 @@ pub(crate) struct Held {
 }
 
 impl Held {
-    ghost use Rattle.std.specs.Prelude.{◌≡◌, ◌==◌, ◌&&◌};
+    ghost use Rattle.std.specs.Prelude.{◌≡◌, ◌==◌, ◌&&◌, nat_le};
     ghost use Rattle.lock_db.specs.Names.{is_same};
     ghost use Rattle.node_cache.specs.Views.{renewed};
 
@@ -22,6 +22,20 @@ impl Held {
         ensures { result ≡ (is_same lock self.now.lock && (seq == self.now.seq)) }
     {
         is_one(lock, self.lock) && seq == self.seq
+    }
+
+    /// Whether it was looked at under the lock and has the sequence or a later one.
+    pub(crate) fn is_since(&self, lock: LockName, seq: u64) -> bool
+        ensures { result ≡ (is_same lock self.now.lock && nat_le seq self.now.seq) }
+    {
+        is_one(lock, self.lock) && seq <= self.seq
+    }
+
+    /// A copy of its bytes.
+    pub(crate) fn bytes(&self) -> Block
+        ensures { result ≡ self.now.block }
+    {
+        self.block
     }
 
     /// Gives it a new sequence and new bytes, where it was looked at under the lock.

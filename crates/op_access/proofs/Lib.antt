@@ -6,5 +6,5 @@ mod ClosePlans
 mod CloseBrief
 mod Looking
 mod Mapped
-mod Lawful
+pub mod Lawful
 mod OnChannel

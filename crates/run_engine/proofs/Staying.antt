@@ -24,10 +24,12 @@ event_stays w n s event.Rest = record { script = refl; opening = refl; geometry 
 event_stays w n s event.Stand = record { script = refl; opening = refl; geometry = refl; count = length_node w.nodes n _ }
 event_stays w n s event.Leave = record { script = refl; opening = refl; geometry = refl; count = length_node w.nodes n _ }
 event_stays w n s (event.Lock name mode) = record { script = refl; opening = refl; geometry = refl; count = length_node w.nodes n _ }
-event_stays w n s (event.Look lbn) = record { script = refl; opening = refl; geometry = refl; count = length_node w.nodes n _ }
+event_stays w n s (event.Look name lbn) = record { script = refl; opening = refl; geometry = refl; count = length_node w.nodes n _ }
+event_stays w n s (event.Use name lbn) = record { script = refl; opening = refl; geometry = refl; count = length_node w.nodes n _ }
 event_stays w n s (event.Fetch lbn) = record { script = refl; opening = refl; geometry = refl; count = length_node w.nodes n _ }
 event_stays w n s (event.Claim p name mode) = record { script = refl; opening = refl; geometry = refl; count = length_node w.nodes n _ }
 event_stays w n s (event.SpaceLook clusters number lbn) = record { script = refl; opening = refl; geometry = refl; count = length_node w.nodes n _ }
+event_stays w n s (event.SpaceUse clusters number lbn) = record { script = refl; opening = refl; geometry = refl; count = length_node w.nodes n _ }
 event_stays w n s event.LowerV = record { script = refl; opening = refl; geometry = refl; count = length_node w.nodes n _ }
 event_stays w n s event.LowerX = record { script = refl; opening = refl; geometry = refl; count = length_node w.nodes n _ }
 event_stays w n s event.Return = record { script = refl; opening = refl; geometry = refl; count = length_node w.nodes n _ }

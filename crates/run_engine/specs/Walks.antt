@@ -5,6 +5,7 @@ use Rattle.core_state.specs.Worlds.{Plain}
 use Rattle.core_state.specs.Images.{IsTold, IsTorn}
 use Rattle.core_state.specs.Deaths.{is_due, after_step}
 use Rattle.core_state.specs.Events.{is_over, is_write, next_event}
+use Rattle.core_state.specs.Uses.{UsesTheDrives}
 use Rattle.core_step.specs.Memory.{takes_none}
 
 -- ---- plays
@@ -78,6 +79,10 @@ Walk old plays new = IsRotated (played plays old) new
 -- a walk as far as it came: the first plays, or all of them and turns in rotation
 abbrev pub IsPartOfWalk : Plain → List ℕ → Plain → Type 0
 IsPartOfWalk old plays new = IsPlayed old plays new ⊎ Walk old plays new
+
+-- wherever this walk stops, a block that a node uses from its cache in its next turn is the drive's
+abbrev pub WalkUsesTheDrives : Plain → List ℕ → Type 0
+WalkUsesTheDrives old plays = (w : Plain) (n : ℕ) → IsPartOfWalk old plays w → UsesTheDrives w n
 
 -- every node is over
 abbrev pub AllOver : Plain → Type 0

@@ -39,7 +39,7 @@ lawful_seen g n u l b law base own c stock k spelt knows stands outs le =
     record { new = h.new; cat = h.cat; stage = h.stage; spelt = h.spelt; moves = h.moves; outs = h.outs }
 
 -- and where it holds other locks, but those of files all the same
-lawful_locks : (g : Geometry) (n : ℕ) (u : UnderWay) (read write : List LockName) → ((o : Option Owner) → IsCommandMove n u.write o → IsCommandMove n write o) → IsLawful g n u → IsLawful g n (record u { read = read; write = write })
+pub lawful_locks : (g : Geometry) (n : ℕ) (u : UnderWay) (read write : List LockName) → ((o : Option Owner) → IsCommandMove n u.write o → IsCommandMove n write o) → IsLawful g n u → IsLawful g n (record u { read = read; write = write })
 lawful_locks g n u read write wider law base own c stock k spelt knows stands outs le =
     let h = law base own c stock k spelt knows stands outs le in
     record { new = h.new; cat = h.cat; stage = h.stage; spelt = h.spelt; moves = moves_grow (IsCommandMove n u.write) (IsCommandMove n write) wider own h.new h.moves; outs = h.outs }
@@ -119,7 +119,7 @@ look_keeps_with_plan g c nodes drive n l b sole u untouched at guarded =
 
 -- ---- fewer blocks seen
 
-stands_fewer : (base : List Block) (all : List (ℕ × Block)) (ss : List (ℕ × Block)) → ((b : ℕ × Block) → Has ss b → Has all b) → StandsIn base all → StandsIn base ss
+pub stands_fewer : (base : List Block) (all : List (ℕ × Block)) (ss : List (ℕ × Block)) → ((b : ℕ × Block) → Has ss b → Has all b) → StandsIn base all → StandsIn base ss
 stands_fewer base all [] among s = tt
 stands_fewer base all (b ∷ ss) among s = (stood all (among b (inl refl)) s, stands_fewer base all ss (λ x t. among x (inr t)) s) where
   stood : (xs : List (ℕ × Block)) → Has xs b → StandsIn base xs → slice_get base b.0 ≡ Some b.1
@@ -137,10 +137,10 @@ has_touches [] b t = absurd t
 has_touches (x ∷ ss) b (inl e) = inl (ap (λ (y : ℕ × Block). y.0) e)
 has_touches (x ∷ ss) b (inr t) = inr (has_touches ss b t)
 
-touches_fewer : (all ss : List (ℕ × Block)) (l : ℕ) → ((b : ℕ × Block) → Has ss b → Has all b) → Touches ss l → Touches all l
+pub touches_fewer : (all ss : List (ℕ × Block)) (l : ℕ) → ((b : ℕ × Block) → Has ss b → Has all b) → Touches ss l → Touches all l
 touches_fewer all ss l among t = let h = touches_has ss l t in subst (λ (k : ℕ). Touches all k) h.2 (has_touches all h.0 (among h.0 h.1))
 
-pub forget_keeps : ForgetKeeps
+unfoldable pub forget_keeps : ForgetKeeps
 forget_keeps g c nodes drive n seen u among law =
     let fewer : UnderWay = record (nodes n) { seen = seen } in
     record {
@@ -169,7 +169,7 @@ file_stays old new i stays h = stays (S i) (λ e. absurd (cc)) (λ e. absurd (cc
 quota_stays : (old new : List LockName) → Stays old new → Has old Q → Has new Q
 quota_stays old new stays h = stays Q (λ e. absurd (cc)) (λ e. absurd (cc)) h
 
-moves_stay : (n : ℕ) (old new : List LockName) → Stays old new → (o : Option Owner) → IsCommandMove n old o → IsCommandMove n new o
+pub moves_stay : (n : ℕ) (old new : List LockName) → Stays old new → (o : Option Owner) → IsCommandMove n old o → IsCommandMove n new o
 moves_stay n old new stays None a = a
 moves_stay n old new stays (Some Free) a = a
 moves_stay n old new stays (Some (InFile i)) a = file_stays old new i stays a
@@ -187,7 +187,7 @@ write_by_owner n old new stays (Some (InFile i)) a = file_stays old new i stays 
 write_by_owner n old new stays (Some (Outside m)) a = a
 write_by_owner n old new stays (Some Leaked) a = a
 
-write_by : (n : ℕ) (old new : List LockName) (p : Option Part) (o : Option Owner) → Stays old new → IsOther p → MayWrite n old (guard_by p o) → MayWrite n new (guard_by p o)
+pub write_by : (n : ℕ) (old new : List LockName) (p : Option Part) (o : Option Owner) → Stays old new → IsOther p → MayWrite n old (guard_by p o) → MayWrite n new (guard_by p o)
 write_by n old new None o stays other a = write_by_owner n old new stays o a
 write_by n old new (Some (Header m)) o stays other a = file_stays old new m stays a
 write_by n old new (Some IndexBitmap) o stays other a = absurd (other.0 refl)
@@ -201,17 +201,17 @@ look_by_owner old new stays (Some (InFile i)) a = file_stays old new i stays a
 look_by_owner old new stays (Some (Outside m)) a = a
 look_by_owner old new stays (Some Leaked) a = a
 
-look_by : (old new : List LockName) (p : Option Part) (o : Option Owner) → Stays old new → IsOther p → MayLook old (guard_by p o) → MayLook new (guard_by p o)
+pub look_by : (old new : List LockName) (p : Option Part) (o : Option Owner) → Stays old new → IsOther p → MayLook old (guard_by p o) → MayLook new (guard_by p o)
 look_by old new None o stays other a = look_by_owner old new stays o a
 look_by old new (Some (Header m)) o stays other a = file_stays old new m stays a
 look_by old new (Some IndexBitmap) o stays other a = absurd (other.0 refl)
 look_by old new (Some (Storage k)) o stays other a = absurd (other.1 k refl)
 look_by old new (Some (Quota k)) o stays other a = quota_stays old new stays a
 
-is_other : (g : Geometry) (l : ℕ) → (IsBitmap g l → ⊥) → IsOther (part_of g l)
+pub is_other : (g : Geometry) (l : ℕ) → (IsBitmap g l → ⊥) → IsOther (part_of g l)
 is_other g l away = ((λ e. away (inl e)), (λ k e. away (inr (k, e))))
 
-pub lower_keeps : LowerKeeps
+unfoldable pub lower_keeps : LowerKeeps
 lower_keeps g c nodes drive n read write u reads writes unseen unplanned =
     let next : UnderWay = record (nodes n) { read = read; write = write } in
     record {

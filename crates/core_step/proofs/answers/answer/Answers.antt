@@ -1,8 +1,8 @@
 use Rattle.std.proofs.lemmas.List.{map-append}
-use Rattle.std.proofs.Common.{map, refl, sym, ap, ◌∙◌, ◌++◌, ◌∷◌, []}
+use Rattle.std.proofs.Common.{map, refl, ap, ◌∙◌, ◌++◌, ◌∷◌, []}
 use Rattle.plain_cat.specs.declared.history.Entry.TheVariants.{Done}
 use Rattle.core_state.specs.Worlds.{shown, state_of, plain_of}
-use Rattle.core_state.specs.Events.{all_writes, going, given_back}
+use Rattle.core_state.specs.Events.{all_put_back}
 use Rattle.core_state.proofs.Nodes.{told_at}
 use Rattle.core_state.specs.Channels.{closed_off}
 use Rattle.core_step.proofs.Steps.{is_there, may_close_now, answered_so}
@@ -29,6 +29,11 @@ end-cmd-requires-clause-few g c =
     let at = told_at (state_of g.O.Operation.cmd_is) c.args.core.now.nodes.items c.args.node c.index_mut-at.result.now c.requires.node.from c.requires.node.to c.index_mut-at.ensures.value in
     (c.requires.ends (state_of g.O.Operation.cmd_is c.index_mut-at.result.now) at).few
 
+pub end-cmd-requires-clause-room : goal.end-cmd-requires-clause-room
+end-cmd-requires-clause-room g c =
+    let at = told_at (state_of g.O.Operation.cmd_is) c.args.core.now.nodes.items c.args.node c.index_mut-at.result.now c.requires.node.from c.requires.node.to c.index_mut-at.ensures.value in
+    (c.requires.ends (state_of g.O.Operation.cmd_is c.index_mut-at.result.now) at).room
+
 pub close_off-requires : goal.close_off-requires
 close_off-requires g c =
     let f = state_of g.O.Operation.cmd_is in
@@ -43,5 +48,5 @@ returns-clause-world g c x p cmd plan =
     answered_so (state_of g.O.Operation.cmd_is) c.args.core.now.nodes.items (plain_of g.O.Operation.cmd_is c.args.core.now) c.args.node c.index_mut-at.result.now c.end-cmd.new.node
     c.requires.node.from c.requires.node.to c.index_mut-at.ensures.value refl x p cmd plan c.end-cmd.result.cmd c.end-cmd.result.plan c.end-cmd.result.tried c.end-cmd.ensures.cmd c.end-cmd.ensures.plan c.end-cmd.ensures.tried c.end-cmd.ensures.state
     c.close_off.new.locks (map shown c.append.new.self.items)
-    (c.close_off.ensures ∙ ap (closed_off c.args.node c.end-cmd.result.had c.end-cmd.result.cmd c.reply_by.result.now) c.give_all.ensures ∙ (λ i. closed_off c.args.node (c.end-cmd.ensures.had i) c.end-cmd.result.cmd (c.reply_by.ensures i) (given_back c.args.core.now.geometry c.args.node (all_writes s) (going s) c.args.core.now.locks)))
+    (c.close_off.ensures ∙ ap (closed_off c.args.node c.end-cmd.result.had c.end-cmd.result.cmd c.reply_by.result.now) c.give_all.ensures ∙ (λ i. closed_off c.args.node (c.end-cmd.ensures.had i) c.end-cmd.result.cmd (c.reply_by.ensures i) (all_put_back (plain_of g.O.Operation.cmd_is c.args.core.now) c.args.node s)))
     (ap (map shown) c.append.ensures.items ∙ map-append shown c.args.core.now.history.items (Done c.args.node c.end-cmd.result.cmd c.into_reply-reply.result ∷ []) ∙ ap (λ a. map shown c.args.core.now.history.items ++ Done c.args.node c.end-cmd.result.cmd a ∷ []) c.into_reply-reply.ensures)

@@ -1,16 +1,17 @@
-use Rattle.std.proofs.Common.{refl, ap, ◌∙◌, false}
+use Rattle.std.proofs.Common.{refl, ap, ◌∙◌, ◌++◌, false}
 use Rattle.std.specs.Prelude.{option_map}
 use Rattle.plain_vol.specs.Own.{after_answer}
 use Rattle.core_state.specs.Worlds.{NodeState, state_of}
+use Rattle.core_state.specs.Caches.{lowered_of}
 use Rattle.core_state.specs.Channels.{opens_then}
-use Rattle.core_state.specs.Events.{staying, one_more}
+use Rattle.core_state.specs.Events.{staying, used_locks, one_more}
 use Rattle.core_step.proofs.answers.end.Goals as goal
 
 pub returns-clause-state : goal.returns-clause-state
 returns-clause-state g c =
     let node = c.args.node.now in
     let s = state_of g.O.Operation.cmd_is node in
-    ap (λ (y : NodeState). record y { run = c.begin_phase.new.run; turns = c.saturating_add-node.result }) c.keep_staying.ensures
+    ap (λ (y : NodeState). record y { asked = c.clear.new.self; claims = c.clear-2.new.self; run = c.begin_phase.new.run; turns = c.saturating_add-node.result }) c.keep_staying.ensures
     ∙ (λ i. record {
       past = (c.answer.ensures ∙ ap (after_answer node.past c.into_cmd-cmd.result) c.reply_by.ensures) i;
       cmd = option_map g.O.Operation.cmd_is (c.take.ensures.after i);
@@ -19,7 +20,7 @@ returns-clause-state g c =
       done = 0;
       tried = false;
       asked = c.clear.ensures i;
-      kept = staying s;
+      kept = staying s ++ lowered_of s.cache (used_locks s);
       claims = c.clear-2.ensures i;
       opens = (c.open_and_close.ensures ∙ ap (opens_then node.opens c.into_cmd-cmd.result) c.reply_by-2.ensures) i;
       run = c.begin_phase.ensures i;

@@ -3,7 +3,7 @@ use Rattle.vol_parts.specs.Parts.{IsGeometry}
 use Rattle.core_space.specs.declared.run.Phase.TheVariants as phase
 use Rattle.core_state.specs.Worlds.{state_of, plain_of}
 use Rattle.core_space.specs.Rule.{back_event}
-use Rattle.core_state.specs.Events.{by_rule, space_need, space_state}
+use Rattle.core_state.specs.Events.{by_rule, or_use, space_need, space_state}
 use Rattle.core_state.proofs.Nodes.{told_at}
 use Rattle.core_step.specs.Moving.{CanMove}
 use Rattle.core_step.proofs.Begun.{gives_so, not_claimed}
@@ -25,7 +25,7 @@ by_rule-requires-clause-makes g c s at =
     let mine : state_of g.O.Operation.cmd_is c.index.result.now ≡ s = cc in
     let its = c.requires.on s at in
     makes_as (gives_so (plain_of g.O.Operation.cmd_is c.args.core.now) c.args.node s at its.0 its.1.1 its.1.0)
-    (ap (by_rule s phase.Back (space_need 0 false)) (sym (c.back_event-event.ensures ∙ ap (λ q. back_event (space_state q)) mine)))
+    (ap (λ e. or_use (plain_of g.O.Operation.cmd_is c.args.core.now) s (by_rule s phase.Back (space_need 0 false) e)) (sym (c.back_event-event.ensures ∙ ap (λ q. back_event (space_state q)) mine)))
 
 pub by_rule-requires-clause-can : goal.by_rule-requires-clause-can
 by_rule-requires-clause-can g c s at =

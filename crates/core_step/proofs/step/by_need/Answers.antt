@@ -5,7 +5,7 @@ use Rattle.core_state.specs.Goods.{HasRoom}
 use Rattle.core_step.specs.Memory.{takes_none}
 use Rattle.core_step.specs.Ready.{IsReady}
 use Rattle.op_law.specs.Needs.{IsNext}
-use Rattle.core_step.proofs.Ready.{event_need, has_plan, may_lock, lock_apart, look_within, fetch_within, lock_room, look_room, fetch_room, plan_room, lock_told, goes_granted, goes_queued}
+use Rattle.core_step.proofs.Ready.{event_need, has_plan, may_lock, lock_apart, fetch_within, lock_room, fetch_room, plan_room, lock_told, goes_granted, goes_queued}
 use Rattle.core_step.proofs.Outcomes.{quiet, lacking, still_room, more_room}
 use Rattle.core_step.proofs.step.by_need.Goals as goal
 
@@ -19,11 +19,6 @@ lock-requires-clause-apart g c =
     let is = c.requires.needs c.requires.ready.state c.requires.ready.cmd c.requires.ready.at c.requires.ready.has ∙ c.in-Lock.is in
     lock_apart c.requires.good c.requires.ready c.requires.plan c.in-Lock.name c.in-Lock.mode is
 
-pub look-requires-clause-within : goal.look-requires-clause-within
-look-requires-clause-within g c =
-    let is = c.requires.needs c.requires.ready.state c.requires.ready.cmd c.requires.ready.at c.requires.ready.has ∙ c.in-Block.is in
-    look_within c.requires.good c.requires.ready c.in-Block.field-0 c.in-Block.lbn is
-
 pub fetch-requires-clause-within : goal.fetch-requires-clause-within
 fetch-requires-clause-within g c =
     let is = c.requires.needs c.requires.ready.state c.requires.ready.cmd c.requires.ready.at c.requires.ready.has ∙ c.in-Bare.is in
@@ -33,11 +28,6 @@ pub returns-in_err-lock-in-Lock : goal.returns-in_err-lock-in-Lock
 returns-in_err-lock-in-Lock g c =
     let is = c.requires.needs c.requires.ready.state c.requires.ready.cmd c.requires.ready.at c.requires.ready.has ∙ c.in-Lock.is in
     lacking _ (search rules) c.in_err-lock-in-Lock.ensures.same (ap (takes_none c.args.core.now.locks c.args.node) (event_need c.requires.good c.requires.ready c.requires.plan (need.Lock c.in-Lock.name c.in-Lock.mode) is).event) (ap (λ m. m.image) c.in_err-lock-in-Lock.ensures.mirror) (still_room c.in_err-lock-in-Lock.ensures.same c.in_err-lock-in-Lock.ensures.room c.requires.room)
-
-pub returns-in_err-look-in-Block : goal.returns-in_err-look-in-Block
-returns-in_err-look-in-Block g c =
-    let is = c.requires.needs c.requires.ready.state c.requires.ready.cmd c.requires.ready.at c.requires.ready.has ∙ c.in-Block.is in
-    lacking _ (search rules) c.in_err-look-in-Block.ensures.same (ap (takes_none c.args.core.now.locks c.args.node) (event_need c.requires.good c.requires.ready c.requires.plan (need.Block c.in-Block.field-0 c.in-Block.lbn) is).event) (ap (λ m. m.image) c.in_err-look-in-Block.ensures.mirror) (still_room c.in_err-look-in-Block.ensures.same c.in_err-look-in-Block.ensures.room c.requires.room)
 
 pub returns-in_err-fetch-in-Bare : goal.returns-in_err-fetch-in-Bare
 returns-in_err-fetch-in-Bare g c =
@@ -67,13 +57,6 @@ returns-in-Queued g c =
     (ap (λ m. m.image) c.in_ok-lock-in-Lock.ensures.mirror) (ap (λ m. m.blocks) c.in_ok-lock-in-Lock.ensures.mirror)
     (subst (λ k. HasRoom (plain_of g.O.Operation.cmd_is c.lock.new.core) k) (sym c.in_ok-lock-in-Lock.ensures.room) (lock_room c.requires.good c.requires.ready c.in-Lock.name c.in-Lock.mode c.args.core.now.history.room c.requires.room (plain_of g.O.Operation.cmd_is c.lock.new.core) world))
 
-pub returns-in_ok-look-in-Block : goal.returns-in_ok-look-in-Block
-returns-in_ok-look-in-Block g c =
-    let is = c.requires.needs c.requires.ready.state c.requires.ready.cmd c.requires.ready.at c.requires.ready.has ∙ c.in-Block.is in
-    let world = c.in_ok-look-in-Block.ensures.world in
-    quiet _ (event_need c.requires.good c.requires.ready c.requires.plan (need.Block c.in-Block.field-0 c.in-Block.lbn) is) world refl (ap (λ m. m.image) c.in_ok-look-in-Block.ensures.mirror) (ap (λ m. m.blocks) c.in_ok-look-in-Block.ensures.mirror)
-    (subst (λ k. HasRoom (plain_of g.O.Operation.cmd_is c.look.new.core) k) (sym c.in_ok-look-in-Block.ensures.room) (look_room c.requires.good c.requires.ready c.in-Block.lbn c.args.core.now.history.room c.requires.room (plain_of g.O.Operation.cmd_is c.look.new.core) world))
-
 pub returns-in_ok-fetch-in-Bare : goal.returns-in_ok-fetch-in-Bare
 returns-in_ok-fetch-in-Bare g c =
     let is = c.requires.needs c.requires.ready.state c.requires.ready.cmd c.requires.ready.at c.requires.ready.has ∙ c.in-Bare.is in
@@ -87,6 +70,10 @@ returns-in_ok-plan-in-Ready g c =
     let world = c.in_ok-plan-in-Ready.ensures.world in
     quiet _ (event_need c.requires.good c.requires.ready c.requires.plan (need.Ready c.in-Ready.made) is) world refl (ap (λ m. m.image) c.in_ok-plan-in-Ready.ensures.mirror) (ap (λ m. m.blocks) c.in_ok-plan-in-Ready.ensures.mirror)
     (plan_room c.requires.good c.requires.ready c.in-Ready.made c.args.core.now.history.room c.plan.new.core.history.room (has_plan c.requires.good c.requires.ready None c.requires.plan) c.in_ok-plan-in-Ready.ensures.place c.requires.room (plain_of g.O.Operation.cmd_is c.plan.new.core) world)
+
+pub by_look-requires-clause-needs : goal.by_look-requires-clause-needs
+by_look-requires-clause-needs g c s x at has =
+    c.requires.needs s x at has ∙ c.in-Block.is
 
 pub by_space-requires-clause-needs : goal.by_space-requires-clause-needs
 by_space-requires-clause-needs g c s x at has =

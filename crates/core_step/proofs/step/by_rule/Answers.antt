@@ -3,8 +3,9 @@ use Rattle.std.specs.Prelude.{is_some}
 use Rattle.core_state.specs.Worlds.{state_of, plain_of}
 use Rattle.core_state.specs.Goods.{HasRoom}
 use Rattle.core_state.specs.Event as event
-use Rattle.core_state.specs.Events.{by_rule, by_put, block_at, turned, claiming, space_looking, space_writing, lowering, lowering_both, returning, happen}
+use Rattle.core_state.specs.Events.{by_rule, by_put, or_use, turned, claiming, caching, cache_written, space_writing, lowering, lowering_both, returning, happen}
 use Rattle.core_step.specs.Memory.{takes_none}
+use Rattle.core_step.specs.Moving.{CanMove}
 use Rattle.core_step.specs.Spaces.{write_of}
 use Rattle.core_step.proofs.Begun.{ends_so}
 use Rattle.core_step.proofs.Outcomes.{makes_as, quiet, wrote, lacking, failed, still_room}
@@ -30,14 +31,14 @@ pub returns-in_err-claim-in-Ask : goal.returns-in_err-claim-in-Ask
 returns-in_err-claim-in-Ask g c =
     let th = there_now (plain_of g.O.Operation.cmd_is c.args.core.now) c.args.node c.requires.node in
     let so = ap (by_rule th.state c.args.phase c.args.need) c.in-Ask.is in
-    let makes = makes_as (c.requires.makes th.state th.at) so in
+    let makes = makes_as (c.requires.makes th.state th.at) (ap (or_use (plain_of g.O.Operation.cmd_is c.args.core.now) th.state) so) in
     lacking _ (search rules) c.in_err-claim-in-Ask.ensures.same (ap (takes_none c.args.core.now.locks c.args.node) makes.event) (ap (λ m. m.image) c.in_err-claim-in-Ask.ensures.mirror) (still_room c.in_err-claim-in-Ask.ensures.same c.in_err-claim-in-Ask.ensures.room c.requires.room)
 
 pub returns-in-Granted : goal.returns-in-Granted
 returns-in-Granted g c =
     let th = there_now (plain_of g.O.Operation.cmd_is c.args.core.now) c.args.node c.requires.node in
     let so = ap (by_rule th.state c.args.phase c.args.need) c.in-Ask.is in
-    let makes = makes_as (c.requires.makes th.state th.at) so in
+    let makes = makes_as (c.requires.makes th.state th.at) (ap (or_use (plain_of g.O.Operation.cmd_is c.args.core.now) th.state) so) in
     let world = c.in_ok-claim-in-Ask.ensures.world in
     let its = (c.requires.can th.state th.at).claim c.args.phase c.in-Ask.name c.in-Ask.mode so in
     quiet _ makes world (claim_told (plain_of g.O.Operation.cmd_is c.args.core.now) c.args.node th.state th.at c.args.phase c.in-Ask.name c.in-Ask.mode its true (goes_granted _ c.in_ok-claim-in-Ask.field-0 c.in_ok-claim-in-Ask.ensures.answer c.in-Granted.is) (plain_of g.O.Operation.cmd_is c.claim.new.core) world)
@@ -48,38 +49,25 @@ pub returns-in-Queued : goal.returns-in-Queued
 returns-in-Queued g c =
     let th = there_now (plain_of g.O.Operation.cmd_is c.args.core.now) c.args.node c.requires.node in
     let so = ap (by_rule th.state c.args.phase c.args.need) c.in-Ask.is in
-    let makes = makes_as (c.requires.makes th.state th.at) so in
+    let makes = makes_as (c.requires.makes th.state th.at) (ap (or_use (plain_of g.O.Operation.cmd_is c.args.core.now) th.state) so) in
     let world = c.in_ok-claim-in-Ask.ensures.world in
     let its = (c.requires.can th.state th.at).claim c.args.phase c.in-Ask.name c.in-Ask.mode so in
     quiet _ makes world (claim_told (plain_of g.O.Operation.cmd_is c.args.core.now) c.args.node th.state th.at c.args.phase c.in-Ask.name c.in-Ask.mode its false (goes_queued _ c.in_ok-claim-in-Ask.field-0 c.in_ok-claim-in-Ask.ensures.answer c.in-Queued.is) (plain_of g.O.Operation.cmd_is c.claim.new.core) world)
     (ap (λ m. m.image) c.in_ok-claim-in-Ask.ensures.mirror) (ap (λ m. m.blocks) c.in_ok-claim-in-Ask.ensures.mirror)
     (subst (λ k. HasRoom (plain_of g.O.Operation.cmd_is c.claim.new.core) k) (sym c.in_ok-claim-in-Ask.ensures.room) (kept_room (plain_of g.O.Operation.cmd_is c.args.core.now) c.args.node th.state th.at (event.Claim c.args.phase c.in-Ask.name c.in-Ask.mode) (turned (claiming th.state c.args.phase c.in-Ask.name c.in-Ask.mode)) c.args.core.now.history.room refl refl refl refl c.requires.room (plain_of g.O.Operation.cmd_is c.claim.new.core) world))
 
-pub space_look-requires-clause-geometry : goal.space_look-requires-clause-geometry
-space_look-requires-clause-geometry g c s at =
-    (c.requires.can s at).geometry
+pub by_space_look-requires-clause-makes : goal.by_space_look-requires-clause-makes
+by_space_look-requires-clause-makes g c s at =
+    makes_as (c.requires.makes s at) (ap (λ e. or_use (plain_of g.O.Operation.cmd_is c.args.core.now) s (by_rule s c.args.phase c.args.need e)) c.in-Look.is)
 
-pub space_look-requires-clause-within : goal.space_look-requires-clause-within
-space_look-requires-clause-within g c =
-    let th = there_now (plain_of g.O.Operation.cmd_is c.args.core.now) c.args.node c.requires.node in
-    let so = ap (by_rule th.state c.args.phase c.args.need) c.in-Look.is in
-    (c.requires.can th.state th.at).look c.args.need.clusters c.args.need.number c.in-Look.lbn so
+pub by_space_look-requires-clause-can : goal.by_space_look-requires-clause-can
+by_space_look-requires-clause-can g c s at =
+    subst (CanMove (plain_of g.O.Operation.cmd_is c.args.core.now) c.args.node s) (ap (by_rule s c.args.phase c.args.need) c.in-Look.is) (c.requires.can s at)
 
-pub returns-in_err-space_look-in-Look : goal.returns-in_err-space_look-in-Look
-returns-in_err-space_look-in-Look g c =
+pub space_write-requires-clause-volume : goal.space_write-requires-clause-volume
+space_write-requires-clause-volume g c =
     let th = there_now (plain_of g.O.Operation.cmd_is c.args.core.now) c.args.node c.requires.node in
-    let so = ap (by_rule th.state c.args.phase c.args.need) c.in-Look.is in
-    let makes = makes_as (c.requires.makes th.state th.at) so in
-    lacking _ (search rules) c.in_err-space_look-in-Look.ensures.same (ap (takes_none c.args.core.now.locks c.args.node) makes.event) (ap (λ m. m.image) c.in_err-space_look-in-Look.ensures.mirror) (still_room c.in_err-space_look-in-Look.ensures.same c.in_err-space_look-in-Look.ensures.room c.requires.room)
-
-pub returns-in_ok-space_look-in-Look : goal.returns-in_ok-space_look-in-Look
-returns-in_ok-space_look-in-Look g c =
-    let th = there_now (plain_of g.O.Operation.cmd_is c.args.core.now) c.args.node c.requires.node in
-    let so = ap (by_rule th.state c.args.phase c.args.need) c.in-Look.is in
-    let makes = makes_as (c.requires.makes th.state th.at) so in
-    let world = c.in_ok-space_look-in-Look.ensures.world in
-    quiet _ makes world refl (ap (λ m. m.image) c.in_ok-space_look-in-Look.ensures.mirror) (ap (λ m. m.blocks) c.in_ok-space_look-in-Look.ensures.mirror)
-    (subst (λ k. HasRoom (plain_of g.O.Operation.cmd_is c.space_look.new.core) k) (sym c.in_ok-space_look-in-Look.ensures.room) (kept_room (plain_of g.O.Operation.cmd_is c.args.core.now) c.args.node th.state th.at (event.SpaceLook c.args.need.clusters c.args.need.number c.in-Look.lbn) (turned (space_looking th.state c.args.need.clusters c.args.need.number c.in-Look.lbn (block_at c.args.core.now.mirror.blocks c.in-Look.lbn))) c.args.core.now.history.room refl refl refl refl c.requires.room (plain_of g.O.Operation.cmd_is c.space_look.new.core) world))
+    (c.requires.can th.state th.at).volume
 
 pub space_write-requires-clause-within : goal.space_write-requires-clause-within
 space_write-requires-clause-within g c =
@@ -106,7 +94,7 @@ returns-in_err-space_write-in-Put g c =
     let th = there_now (plain_of g.O.Operation.cmd_is c.args.core.now) c.args.node c.requires.node in
     let put = c.requires.puts th.state c.in-Put.lbn c.in-Put.block th.at c.in-Put.is in
     let so = ap (by_rule th.state c.args.phase c.args.need) c.in-Put.is ∙ ap by_put put.next in
-    let makes = makes_as (c.requires.makes th.state th.at) so in
+    let makes = makes_as (c.requires.makes th.state th.at) (ap (or_use (plain_of g.O.Operation.cmd_is c.args.core.now) th.state) so) in
     let leaves = sym (ap (λ w. w.blocks) (happen_here (plain_of g.O.Operation.cmd_is c.args.core.now) c.args.node th.state (event.SpaceWrite put.write) th.at)) ∙ (λ i. slice_set c.args.core.now.mirror.blocks (put.to i) (put.block i)) in
     failed _ c.in-Put.lbn c.in-Put.block (search rules) makes c.in_err-space_write-in-Put.ensures.same refl leaves c.in_err-space_write-in-Put.ensures.cause.later c.in_err-space_write-in-Put.ensures.cause.failed c.in_err-space_write-in-Put.ensures.failed (still_room c.in_err-space_write-in-Put.ensures.same c.in_err-space_write-in-Put.ensures.room c.requires.room)
 
@@ -115,10 +103,10 @@ returns-in_ok-space_write-in-Put g c =
     let th = there_now (plain_of g.O.Operation.cmd_is c.args.core.now) c.args.node c.requires.node in
     let put = c.requires.puts th.state c.in-Put.lbn c.in-Put.block th.at c.in-Put.is in
     let so = ap (by_rule th.state c.args.phase c.args.need) c.in-Put.is ∙ ap by_put put.next in
-    let makes = makes_as (c.requires.makes th.state th.at) so in
+    let makes = makes_as (c.requires.makes th.state th.at) (ap (or_use (plain_of g.O.Operation.cmd_is c.args.core.now) th.state) so) in
     let world = c.in_ok-space_write-in-Put.ensures.world put.write (ap write_of th.at ∙ put.next) put.to put.block in
     wrote _ c.in-Put.lbn c.in-Put.block makes world refl c.in_ok-space_write-in-Put.ensures.cause.later c.in_ok-space_write-in-Put.ensures.image c.in_ok-space_write-in-Put.ensures.blocks
-    (subst (λ k. HasRoom (plain_of g.O.Operation.cmd_is c.space_write.new.core) k) (sym c.in_ok-space_write-in-Put.ensures.room) (kept_room (plain_of g.O.Operation.cmd_is c.args.core.now) c.args.node th.state th.at (event.SpaceWrite put.write) (turned (space_writing th.state put.write)) c.args.core.now.history.room refl refl refl refl c.requires.room (plain_of g.O.Operation.cmd_is c.space_write.new.core) world))
+    (subst (λ k. HasRoom (plain_of g.O.Operation.cmd_is c.space_write.new.core) k) (sym c.in_ok-space_write-in-Put.ensures.room) (kept_room (plain_of g.O.Operation.cmd_is c.args.core.now) c.args.node th.state th.at (event.SpaceWrite put.write) (turned (caching (cache_written (plain_of g.O.Operation.cmd_is c.args.core.now) th.state put.write) (space_writing th.state put.write))) c.args.core.now.history.room refl refl refl refl c.requires.room (plain_of g.O.Operation.cmd_is c.space_write.new.core) world))
 
 pub lower_v-requires-clause-lock : goal.lower_v-requires-clause-lock
 lower_v-requires-clause-lock g c =
@@ -134,7 +122,7 @@ pub returns-in-LowerV : goal.returns-in-LowerV
 returns-in-LowerV g c =
     let th = there_now (plain_of g.O.Operation.cmd_is c.args.core.now) c.args.node c.requires.node in
     let so = ap (by_rule th.state c.args.phase c.args.need) c.in-LowerV.is in
-    let makes = makes_as (c.requires.makes th.state th.at) so in
+    let makes = makes_as (c.requires.makes th.state th.at) (ap (or_use (plain_of g.O.Operation.cmd_is c.args.core.now) th.state) so) in
     let world = c.lower_v.ensures.world in
     quiet _ makes world refl (ap (λ m. m.image) c.lower_v.ensures.mirror) (ap (λ m. m.blocks) c.lower_v.ensures.mirror)
     (subst (λ k. HasRoom (plain_of g.O.Operation.cmd_is c.lower_v.new.core) k) (sym c.lower_v.ensures.room) (kept_room (plain_of g.O.Operation.cmd_is c.args.core.now) c.args.node th.state th.at event.LowerV (turned (lowering th.state)) c.args.core.now.history.room refl refl refl refl c.requires.room (plain_of g.O.Operation.cmd_is c.lower_v.new.core) world))
@@ -159,7 +147,7 @@ pub returns-in-LowerX : goal.returns-in-LowerX
 returns-in-LowerX g c =
     let th = there_now (plain_of g.O.Operation.cmd_is c.args.core.now) c.args.node c.requires.node in
     let so = ap (by_rule th.state c.args.phase c.args.need) c.in-LowerX.is in
-    let makes = makes_as (c.requires.makes th.state th.at) so in
+    let makes = makes_as (c.requires.makes th.state th.at) (ap (or_use (plain_of g.O.Operation.cmd_is c.args.core.now) th.state) so) in
     let world = c.lower_x.ensures.world in
     quiet _ makes world refl (ap (λ m. m.image) c.lower_x.ensures.mirror) (ap (λ m. m.blocks) c.lower_x.ensures.mirror)
     (subst (λ k. HasRoom (plain_of g.O.Operation.cmd_is c.lower_x.new.core) k) (sym c.lower_x.ensures.room) (kept_room (plain_of g.O.Operation.cmd_is c.args.core.now) c.args.node th.state th.at event.LowerX (turned (lowering_both th.state)) c.args.core.now.history.room refl refl refl refl c.requires.room (plain_of g.O.Operation.cmd_is c.lower_x.new.core) world))
@@ -184,7 +172,7 @@ pub returns-in-Return : goal.returns-in-Return
 returns-in-Return g c =
     let th = there_now (plain_of g.O.Operation.cmd_is c.args.core.now) c.args.node c.requires.node in
     let so = ap (by_rule th.state c.args.phase c.args.need) c.in-Return.is in
-    let makes = makes_as (c.requires.makes th.state th.at) so in
+    let makes = makes_as (c.requires.makes th.state th.at) (ap (or_use (plain_of g.O.Operation.cmd_is c.args.core.now) th.state) so) in
     let world = c.return_x.ensures.world in
     quiet _ makes world refl (ap (λ m. m.image) c.return_x.ensures.mirror) (ap (λ m. m.blocks) c.return_x.ensures.mirror)
     (subst (λ k. HasRoom (plain_of g.O.Operation.cmd_is c.return_x.new.core) k) (sym c.return_x.ensures.room) (kept_room (plain_of g.O.Operation.cmd_is c.args.core.now) c.args.node th.state th.at event.Return (turned (returning th.state)) c.args.core.now.history.room refl refl refl refl c.requires.room (plain_of g.O.Operation.cmd_is c.return_x.new.core) world))
@@ -193,7 +181,7 @@ pub returns-in-Enough : goal.returns-in-Enough
 returns-in-Enough g c =
     let th = there_now (plain_of g.O.Operation.cmd_is c.args.core.now) c.args.node c.requires.node in
     let so = ap (by_rule th.state c.args.phase c.args.need) c.in-Enough.is in
-    let makes = makes_as (c.requires.makes th.state th.at) so in
+    let makes = makes_as (c.requires.makes th.state th.at) (ap (or_use (plain_of g.O.Operation.cmd_is c.args.core.now) th.state) so) in
     let quiet_so = ends_so (plain_of g.O.Operation.cmd_is c.args.core.now) c.args.node th.state th.at in
     let world = c.stand.ensures.world ∙ quiet_so in
     quiet _ makes world refl (ap (λ m. m.image) c.stand.ensures.mirror) (ap (λ m. m.blocks) c.stand.ensures.mirror)
@@ -203,7 +191,7 @@ pub returns-in-Short : goal.returns-in-Short
 returns-in-Short g c =
     let th = there_now (plain_of g.O.Operation.cmd_is c.args.core.now) c.args.node c.requires.node in
     let so = ap (by_rule th.state c.args.phase c.args.need) c.in-Short.is in
-    let makes = makes_as (c.requires.makes th.state th.at) so in
+    let makes = makes_as (c.requires.makes th.state th.at) (ap (or_use (plain_of g.O.Operation.cmd_is c.args.core.now) th.state) so) in
     let quiet_so = ends_so (plain_of g.O.Operation.cmd_is c.args.core.now) c.args.node th.state th.at in
     let world = c.stand-in-Short.ensures.world ∙ quiet_so in
     quiet _ makes world refl (ap (λ m. m.image) c.stand-in-Short.ensures.mirror) (ap (λ m. m.blocks) c.stand-in-Short.ensures.mirror)

@@ -2,7 +2,7 @@ use Rattle.std.proofs.Common.{◌≡◌, ◌≤◌, ◌-◌, Some, false, cond, 
 use Rattle.core_space.specs.Rule.{space_event, TakesMemory}
 use Rattle.core_state.specs.Worlds.{state_of, plain_of}
 use Rattle.core_state.specs.Event as event
-use Rattle.core_state.specs.Events.{by_rule, by_space, phase_begun, space_need, space_state}
+use Rattle.core_state.specs.Events.{by_rule, by_space, or_use, phase_begun, space_need, space_state}
 use Rattle.core_step.specs.Ready.{Makes}
 use Rattle.core_step.specs.Moving.{CanMove}
 use Rattle.core_step.proofs.FromStock.{few_wanted, space_can, space_makes, rule_takes}
@@ -48,7 +48,7 @@ by_rule-requires-clause-makes g c s at =
     let found = c.in_ok-event.ensures.event in
     let begun = c.phase_begun-phase.ensures in
     let is_event = ap (λ q. by_space q c.args.need.clusters c.args.need.number) same ∙ ap (λ t. cond t event.SpaceEnd (by_rule s (phase_begun s.run.phase) c.args.need (space_event (space_state s) c.args.need))) (c.requires.lacks s c.args.need.clusters c.args.need.number at refl) ∙ (λ i. by_rule s (phase_begun (sym mine i).run.phase) c.args.need (space_event (space_state (sym mine i)) c.args.need)) ∙ (λ i. by_rule s (sym begun i) c.args.need (sym found i)) in
-    makes_as (space_makes c.requires.good c.requires.ready c.requires.plan c.args.need.clusters c.args.need.number is lacks) is_event
+    makes_as (space_makes c.requires.good c.requires.ready c.requires.plan c.args.need.clusters c.args.need.number is lacks) (λ i. or_use (plain_of g.O.Operation.cmd_is c.args.core.now) (same i) (is_event i))
 
 pub by_rule-requires-clause-can : goal.by_rule-requires-clause-can
 by_rule-requires-clause-can g c s at =

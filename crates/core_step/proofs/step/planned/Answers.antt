@@ -9,7 +9,8 @@ use Rattle.core_state.specs.Events.{happen, tried_at}
 use Rattle.core_step.specs.Asks.{going_ask, MayAsk}
 use Rattle.core_step.specs.declared.asks.Aim.{Aim}
 use Rattle.core_step.specs.Memory.{takes_none}
-use Rattle.core_step.proofs.Ready.{IsItem, item_of, tells, goes_as, same_aim, one_node, plan_now, next_now, last_now, item_aim, aimed, aims_none, going_is, no_plan_now, place_kept, event_write, event_ask, ends_as, ends_told, may_ask, ask_apart, write_within, write_leaves, may_end_at, command_is, plan_is, tried_is, write_room, ask_room, ask_told, answer_room}
+use Rattle.core_step.proofs.Ready.{IsItem, item_of, tells, goes_as, same_aim, one_node, plan_now, next_now, last_now, item_aim, aimed, aims_none, going_is, no_plan_now, place_kept, event_write, event_ask, ends_as, ends_told, may_ask, ask_apart, write_within, write_leaves, world_geometry, command_is, plan_is, tried_is, write_room, ask_room, ask_told, answer_room}
+use Rattle.core_step.proofs.Ending.{may_end_at}
 use Rattle.core_step.proofs.Outcomes.{quiet, wrote, lacking, failed, still_room}
 use Rattle.core_step.proofs.step.planned.Goals as goal
 
@@ -17,6 +18,9 @@ pub unreachable-requires : goal.unreachable-requires
 unreachable-requires g c =
     let it : IsItem g.O.Operation.cmd_is c.requires.ready c.index-at.result.now = item_of g.O.Operation.cmd_is c.args.core.now.nodes.items c.requires.ready c.index-at.result.now refl c.requires.node c.index-at.ensures in
     no_plan_now it c.in_default.is c.requires.plan
+
+pub write-requires-clause-geometry : goal.write-requires-clause-geometry
+write-requires-clause-geometry g c = world_geometry c.requires.good c.requires.ready
 
 pub write-requires-clause-within : goal.write-requires-clause-within
 write-requires-clause-within g c =
@@ -43,7 +47,7 @@ returns-then-at-writes g c =
     let it : IsItem g.O.Operation.cmd_is c.requires.ready c.index-at.result.now = item_of g.O.Operation.cmd_is c.args.core.now.nodes.items c.requires.ready c.index-at.result.now refl c.requires.node c.index-at.ensures in
     let plan = plan_now it c.in-Some.plan c.in-Some.is in
     let next = next_now it c.in-Some.plan c.writes_by-writes.result.now c.index-writes-at.result c.writes_by-writes.ensures c.if-at-writes.true c.index-writes-at.is in
-    let world = c.in_ok-write.ensures.world c.index-writes-at.result refl refl in
+    let world = c.in_ok-write.ensures.world c.index-writes-at.result refl refl refl in
     wrote _ _ _ (event_write c.requires.good c.requires.ready c.in-Some.plan plan (Some c.index-writes-at.result) next) world refl c.in_ok-write.ensures.cause.later c.in_ok-write.ensures.image c.in_ok-write.ensures.blocks
     (subst (λ k. HasRoom (plain_of g.O.Operation.cmd_is c.write.new.core) k) (sym c.in_ok-write.ensures.room) (write_room c.requires.good c.requires.ready c.index-writes-at.result c.args.core.now.history.room c.requires.room (plain_of g.O.Operation.cmd_is c.write.new.core) world))
 

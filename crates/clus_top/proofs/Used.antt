@@ -1,0 +1,41 @@
+-- In a run each cached block that a turn uses is the drive's.
+use Rattle.std.proofs.Common.{◌≡◌, ℕ, false, List, Option, Some, None, take, sym, ap, subst, inl, inr}
+use Rattle.plain_cat.specs.declared.command.Cmd.{Cmd}
+use Rattle.plain_vol.specs.Own.{next_command}
+use Rattle.op_law.specs.Laws.{Lawful}
+use Rattle.xqp_set.proofs.Every.{every_lawful}
+use Rattle.core_state.specs.Worlds.{NodeState, Plain, node_at, or_next, current}
+use Rattle.core_state.specs.Goods.{HasCommand, Good}
+use Rattle.core_state.specs.Deaths.{after_step}
+use Rattle.core_state.specs.Uses.{UsesTheDrives}
+use Rattle.core_state.proofs.Uses.{uses_right}
+use Rattle.stopped_worlds.specs.Laws.{GoesLawfully}
+use Rattle.stopped_worlds.proofs.Worlds.{steps_keep_the_rules}
+use Rattle.run_engine.specs.Walks.{IsPartOfWalk, WalkUsesTheDrives}
+use Rattle.clus_top.proofs.Commands.{only_built}
+use Rattle.clus_top.proofs.Walked.{over_plays, over_walk}
+
+-- a node's command is in form, as the script is, and so it obeys the law
+goes_lawfully : (w : Plain) → Good w → (n : ℕ) → GoesLawfully w n
+goes_lawfully w good n s x at calm e = by_cmd s.cmd (good.nodes n s at).command e where
+  by_cmd : (o : Option Cmd) → HasCommand w n s o → or_next o (next_command w.script n w.history) ≡ Some x → Lawful x
+  by_cmd None idle f = every_lawful x (only_built w.script good.form n w.history x f)
+  by_cmd (Some y) way f = subst Lawful (same y x f) way.lawful where
+    same : (a b : Cmd) → Some a ≡ Some b → a ≡ b
+    same a b g = ap (held a) g where
+      held : Cmd → Option Cmd → Cmd
+      held a None = a
+      held a (Some c) = c
+
+step_keeps : (w : Plain) (n : ℕ) → Good w → Good (after_step w n)
+step_keeps w n good = steps_keep_the_rules w n good (goes_lawfully w good n)
+
+-- wherever a run stops, the world keeps the rules
+walk_keeps : (start : Plain) → Good start → (plays : List ℕ) (w : Plain) → IsPartOfWalk start plays w → Good w
+walk_keeps start good plays w (inl p) = subst Good (sym p.1) (over_plays Good step_keeps (take p.0 plays) start good)
+walk_keeps start good plays w (inr walk) = over_walk Good step_keeps start plays w walk good
+
+pub walk_uses : (start : Plain) → Good start → (plays : List ℕ) → WalkUsesTheDrives start plays
+walk_uses start good plays w n part =
+    let keeps = walk_keeps start good plays w part in
+    uses_right w keeps n (goes_lawfully w keeps n)
