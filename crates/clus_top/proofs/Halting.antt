@@ -34,7 +34,7 @@ use Rattle.clus_top.specs.declared.run_rebuild.Halt.TheVariants as halt
 use Rattle.clus_top.specs.Runs.{IsScriptOf, HasRunToEnd, report_text}
 use Rattle.clus_top.specs.MendedRuns.{HasRunAndMended, IsMendedReport, IsPartlyMended, IsUnmended, IsUnmendable}
 use Rattle.clus_top.specs.Statuses.{IsAccepted, status_text, cut_text, unmended_text}
-use Rattle.clus_top.specs.Images.{IsSpentDriveOf, IsLackingDriveOf, IsCutOf, IsCutShort, IsMendingCutShort, IsUnmendedText}
+use Rattle.clus_top.specs.Images.{IsLackingDriveOf, IsCutOf, IsCutShort, IsMendingCutShort, IsUnmendedText}
 use Rattle.clus_top.specs.Ends.{SpellsWithin, IsEndIn, IsCutIn, IsCutShortIn, IsStopBy, IsRunEnd, IsQuietImage, mount_status}
 use Rattle.clus_top.specs.Halts.{halt_of, IsHaltOf, IsPartlyBy, IsMendedBy, IsUnmendedBy, IsHaltBy, IsOverIn, IsMendedIn, IsPartlyIn, IsMendingCutIn, IsUnmendedIn, IsHaltIn, IsImageHalt, IsRunHalt, IsQuietHalt, IsHaltImage}
 use Rattle.clus_top.proofs.Imaged.{of_told, rose_later, quiet_on}
@@ -279,12 +279,6 @@ run_halt left script size told new read reading had has (halt.By s) spelt given 
 run_halt left script size told new read reading had has (halt.By s) spelt given (inr end) = subst (IsRunEnd left size told read reading had has) (sym end.0) tt
 
 -- ---- at the top
-
--- a run whose turns are spent lacks memory where its text does
-pub spent_halts : (IsGiven : Script → Type 0) (told new : Option (List Block)) → IfSome told (λ bs. IsSpentDriveOf IsGiven bs new)
-    → IfSome told (λ bs. IsLackingDriveOf IsGiven bs new ⊎ IsPartlyMended IsGiven bs new)
-spent_halts IsGiven None new h = tt
-spent_halts IsGiven (Some bs) new h = inl (h.0, inr (inr h.1))
 
 -- the image of which the text of a fault tells
 pub cut_left : (IsGiven : Script → Type 0) (told new : Option (List Block)) (text : List ℕ) → IfSome told (λ bs. IsCutShort IsGiven bs new text ⊎ IsMendingCutShort IsGiven bs new text)

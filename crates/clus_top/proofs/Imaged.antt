@@ -11,7 +11,7 @@ use Rattle.run_engine.specs.declared.status.Status.TheVariants as status
 use Rattle.clus_top.specs.declared.run.Stop.{Stop}
 use Rattle.clus_top.specs.declared.run.Stop.TheVariants as stop
 use Rattle.clus_top.specs.declared.run.Printed.{Printed}
-use Rattle.clus_top.specs.Ends.{IsEndIn, IsSpentIn, IsLackingIn, IsCutIn, IsCutShortIn, IsStopIn, IsStopBy, IsImageEnd, IsImageStop}
+use Rattle.clus_top.specs.Ends.{IsEndIn, IsLackingIn, IsCutIn, IsCutShortIn, IsStopIn, IsStopBy, IsImageEnd, IsImageStop}
 
 -- what holds of blocks holds of the told ones that they are
 pub of_told : (P : List Block → Type 0) (told : Option (List Block)) (blocks : List Block) → IfSome told (λ bs. blocks ≡ bs) → P blocks → IfSome told P
@@ -32,8 +32,6 @@ module _ (script : Script) (size : ℕ) (told new : Option (List Block)) (blocks
   quiet_on first has (status.NotAccepted f) inside end = ((inside, of_told (λ bs. IsFirstFound bs f) told blocks same end.0), end.1)
   quiet_on first has status.NoMemory inside (inl e) = inl e
   quiet_on first has status.NoMemory inside (inr d) = inr (of_told (λ bs. IsLackingIn script bs told new) told blocks same d)
-  quiet_on first has status.Unfinished inside end =
-      (record { inside = inside; accepted = of_told Accepts told blocks same end.0 }, of_told (λ bs. IsSpentIn script bs told new) told blocks same end.1)
   quiet_on first has s inside end = absurd end
 
   -- why the blocks gave no end is why the image gave none

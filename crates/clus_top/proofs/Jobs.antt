@@ -4,15 +4,15 @@ use Rattle.vol_words.specs.Fields.{Block}
 use Rattle.plain_cat.specs.declared.script.Script.{Script}
 use Rattle.run_engine.specs.declared.status.Status.{Status}
 use Rattle.run_engine.specs.declared.status.Status.TheVariants as status
-use Rattle.clus_top.specs.Runs.{IsScriptOf, IsSoakOf, HasRunToEnd, IsReport, IsSummary, IsUnfinished}
+use Rattle.clus_top.specs.Runs.{IsScriptOf, IsSoakOf, HasRunToEnd, IsReport, IsSummary}
 use Rattle.clus_top.specs.Statuses.{IsGood, IsReportOn, IsSummaryOn, status_text}
 use Rattle.clus_top.specs.declared.run.Stop.{Stop}
 use Rattle.clus_top.specs.declared.run.Stop.TheVariants as stop
 use Rattle.clus_top.specs.declared.run.Printed.{Printed}
 use Rattle.clus_top.specs.declared.run.Printed.TheVariants as printed
-use Rattle.clus_top.specs.Ends.{SpellsWithin, IsDriveIn, IsEndIn, IsSpentIn, IsLackingIn, IsCutIn, IsCutShortIn, IsImageEnd, IsImageStop, IsRunEnd, IsRunStop, IsSoakEnd, IsSoakStop, IsQuietImage, IsStopImage}
+use Rattle.clus_top.specs.Ends.{SpellsWithin, IsDriveIn, IsEndIn, IsLackingIn, IsCutIn, IsCutShortIn, IsImageEnd, IsImageStop, IsRunEnd, IsRunStop, IsSoakEnd, IsSoakStop, IsQuietImage, IsStopImage}
 use Rattle.clus_top.proofs.Stopping.{run_stops, torn_stops}
-use Rattle.clus_top.specs.Images.{IsDriveOf, IsLastDriveOf, IsSpentDriveOf, IsLackingDriveOf, IsCutOf, IsCutShort}
+use Rattle.clus_top.specs.Images.{IsDriveOf, IsLastDriveOf, IsLackingDriveOf, IsCutOf, IsCutShort}
 
 module _ (IsGiven : Script → Type 0) (script : Script) (given : IsGiven script) where
   -- ---- the drive of a run
@@ -24,11 +24,6 @@ module _ (IsGiven : Script → Type 0) (script : Script) (given : IsGiven script
   unfolding drive_of
   lacking_on None new h = tt
   lacking_on (Some bs) new h = (drive_of bs new h.drive, h.lacks)
-
-  spent_on : (told new : Option (List Block)) → IfSome told (λ bs. IsSpentIn script bs told new) → IfSome told (λ bs. IsSpentDriveOf IsGiven bs new)
-  unfolding drive_of
-  spent_on None new h = tt
-  spent_on (Some bs) new h = (drive_of bs new h.drive, h.spent)
 
   pub last_on : (what : Printed) (told new : Option (List Block)) (text : List ℕ) → IfSome told (λ bs. IsEndIn what script bs told new text) → IfSome told (λ bs. IsLastDriveOf IsGiven bs new)
   unfolding drive_of
@@ -53,7 +48,6 @@ module _ (IsGiven : Script → Type 0) (script : Script) (given : IsGiven script
   quiet_image size told new had has (status.NotAccepted f) end = end.1
   quiet_image size told new had has status.NoMemory (inl e) = inl e
   quiet_image size told new had has status.NoMemory (inr d) = inr (lacking_on told new d)
-  quiet_image size told new had has status.Unfinished end = spent_on told new end.1
   quiet_image size told new had has s end = absurd end
 
   -- why the image gave no end says what it has
@@ -92,10 +86,6 @@ module _ (IsGiven : Script → Type 0) (script : Script) (given : IsGiven script
   unfolding ran_to_end
   reported bs new text h = record { ran = ran_to_end printed.Report bs new text h; written = h.written }
 
-  unfinished : (told new : Option (List Block)) → IfSome told (λ bs. IsSpentIn script bs told new) → IfSome told (IsUnfinished IsGiven)
-  unfinished None new h = tt
-  unfinished (Some bs) new h = record { script = script; start = h.drive.ran.start; stopped = h.drive.world; given = given; mounted = h.drive.ran.mounted; spent = h.spent }
-
 -- ---- a script that is read
 
 pub spells : (left : Option (List ℕ)) (script : Script) → IfSome left (SpellsWithin script) → IsScriptOf left script
@@ -119,8 +109,6 @@ run_end left script size told new read reading had has status.ImageFault spelt e
 run_end left script size told new read reading had has (status.BadSize n) spelt end = (good left script spelt, end.0.0, end.0.1)
 run_end left script size told new read reading had has (status.NotAccepted f) spelt end = (good left script spelt, end.0.0, end.0.1)
 run_end left script size told new read reading had has status.NoMemory spelt end = tt
-run_end left script size told new read reading had has status.Unfinished spelt end =
-    (good left script spelt, end.0, unfinished (IsScriptOf left) script (spells left script spelt) told new end.1)
 run_end left script size told new read reading had has s spelt end = absurd end
 
 pub run_stop : (left : Option (List ℕ)) (script : Script) (size : ℕ) (told new : Option (List Block)) (read reading had has : ℕ) (s : Stop) → IfSome left (SpellsWithin script)
@@ -144,7 +132,6 @@ soak_end n script size told new had has status.ImageFault given end = end.0
 soak_end n script size told new had has (status.BadSize k) given end = end.0
 soak_end n script size told new had has (status.NotAccepted f) given end = end.0
 soak_end n script size told new had has status.NoMemory given end = tt
-soak_end n script size told new had has status.Unfinished given end = (end.0, unfinished (IsSoakOf n) script given told new end.1)
 soak_end n script size told new had has s given end = absurd end
 
 pub soak_stop : (n : ℕ) (script : Script) (size : ℕ) (told new : Option (List Block)) (had has : ℕ) (s : Stop) → IsSoakOf n script

@@ -10,7 +10,6 @@ pub mod Jobs
 pub mod Analyzed
 pub mod OneVerdict
 pub mod Pushed
-pub mod Spent
 pub mod Mending
 pub mod Halting
 pub mod Told

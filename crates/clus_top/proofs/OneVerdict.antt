@@ -67,7 +67,6 @@ alone_long bytes size bs long status.Findings v h = absurd h
 alone_long bytes size bs long (status.NotMendable g) v h = absurd h
 alone_long bytes size bs long status.OutFault v h = absurd (false≢true v)
 alone_long bytes size bs long status.NoMemory v h = absurd (false≢true v)
-alone_long bytes size bs long status.Unfinished v h = absurd (false≢true v)
 alone_long bytes size bs long (status.BadInit x) v h = absurd h
 
 alone_bad : (bytes : List ℕ) (size : ℕ) (bs : List Block) (n : ℕ) → SayOneThing (lines_of bytes) → IsBad n bytes → AloneInRun bytes size bs (status.BadScript n)
@@ -84,7 +83,6 @@ alone_bad bytes size bs n one bad status.Findings v h = absurd h
 alone_bad bytes size bs n one bad (status.NotMendable g) v h = absurd h
 alone_bad bytes size bs n one bad status.OutFault v h = absurd (false≢true v)
 alone_bad bytes size bs n one bad status.NoMemory v h = absurd (false≢true v)
-alone_bad bytes size bs n one bad status.Unfinished v h = absurd (false≢true v)
 alone_bad bytes size bs n one bad (status.BadInit x) v h = absurd h
 
 alone_over : (bytes : List ℕ) (size : ℕ) (bs : List Block) → SayOneThing (lines_of bytes) → IsOverfull bytes → AloneInRun bytes size bs status.TooMany
@@ -101,7 +99,6 @@ alone_over bytes size bs one over status.Findings v h = absurd h
 alone_over bytes size bs one over (status.NotMendable g) v h = absurd h
 alone_over bytes size bs one over status.OutFault v h = absurd (false≢true v)
 alone_over bytes size bs one over status.NoMemory v h = absurd (false≢true v)
-alone_over bytes size bs one over status.Unfinished v h = absurd (false≢true v)
 alone_over bytes size bs one over (status.BadInit x) v h = absurd h
 
 alone_size : (bytes : List ℕ) (size : ℕ) (bs : List Block) → SayOneThing (lines_of bytes) → IsGood bytes → IsOutside size → AloneInRun bytes size bs (status.BadSize size)
@@ -118,7 +115,6 @@ alone_size bytes size bs one good out status.Findings v h = absurd h
 alone_size bytes size bs one good out (status.NotMendable g) v h = absurd h
 alone_size bytes size bs one good out status.OutFault v h = absurd (false≢true v)
 alone_size bytes size bs one good out status.NoMemory v h = absurd (false≢true v)
-alone_size bytes size bs one good out status.Unfinished v h = absurd (false≢true v)
 alone_size bytes size bs one good out (status.BadInit x) v h = absurd h
 
 alone_found : (bytes : List ℕ) (size : ℕ) (bs : List Block) (f : Finding) → SayOneThing (lines_of bytes) → OneList bs → IsGood bytes → IsInside size → IsFirstFound bs f → AloneInRun bytes size bs (status.NotAccepted f)
@@ -135,7 +131,6 @@ alone_found bytes size bs f one list good inside found status.Findings v h = abs
 alone_found bytes size bs f one list good inside found (status.NotMendable g) v h = absurd h
 alone_found bytes size bs f one list good inside found status.OutFault v h = absurd (false≢true v)
 alone_found bytes size bs f one list good inside found status.NoMemory v h = absurd (false≢true v)
-alone_found bytes size bs f one list good inside found status.Unfinished v h = absurd (false≢true v)
 alone_found bytes size bs f one list good inside found (status.BadInit x) v h = absurd h
 
 alone_good : (bytes : List ℕ) (size : ℕ) (bs : List Block) → SayOneThing (lines_of bytes) → OneList bs → IsGood bytes → IsInside size → Accepts bs → AloneInRun bytes size bs status.Ok
@@ -152,7 +147,6 @@ alone_good bytes size bs one list good inside none status.Findings v h = absurd 
 alone_good bytes size bs one list good inside none (status.NotMendable g) v h = absurd h
 alone_good bytes size bs one list good inside none status.OutFault v h = absurd (false≢true v)
 alone_good bytes size bs one list good inside none status.NoMemory v h = absurd (false≢true v)
-alone_good bytes size bs one list good inside none status.Unfinished v h = absurd (false≢true v)
 alone_good bytes size bs one list good inside none (status.BadInit x) v h = absurd h
 
 size_alone : (size : ℕ) (bs : List Block) → IsOutside size → AloneInAnalysis size bs (status.BadSize size)
@@ -169,7 +163,6 @@ size_alone size bs out status.Findings v h = absurd (outside size h.0 out)
 size_alone size bs out (status.NotMendable g) v h = absurd h
 size_alone size bs out status.OutFault v h = absurd (false≢true v)
 size_alone size bs out status.NoMemory v h = absurd (false≢true v)
-size_alone size bs out status.Unfinished v h = absurd (false≢true v)
 size_alone size bs out (status.BadInit x) v h = absurd h
 
 found_alone : (size : ℕ) (bs : List Block) (f : Finding) → OneList bs → IsInside size → IsFirstFound bs f → AloneInAnalysis size bs status.Findings
@@ -186,7 +179,6 @@ found_alone size bs f list inside found status.Findings v h = refl
 found_alone size bs f list inside found (status.NotMendable g) v h = absurd h
 found_alone size bs f list inside found status.OutFault v h = absurd (false≢true v)
 found_alone size bs f list inside found status.NoMemory v h = absurd (false≢true v)
-found_alone size bs f list inside found status.Unfinished v h = absurd (false≢true v)
 found_alone size bs f list inside found (status.BadInit x) v h = absurd h
 
 none_alone : (size : ℕ) (bs : List Block) → OneList bs → IsInside size → Accepts bs → AloneInAnalysis size bs status.Ok
@@ -203,7 +195,6 @@ none_alone size bs list inside none status.Findings v h = absurd (unfound bs h.1
 none_alone size bs list inside none (status.NotMendable g) v h = absurd h
 none_alone size bs list inside none status.OutFault v h = absurd (false≢true v)
 none_alone size bs list inside none status.NoMemory v h = absurd (false≢true v)
-none_alone size bs list inside none status.Unfinished v h = absurd (false≢true v)
 none_alone size bs list inside none (status.BadInit x) v h = absurd h
 
 -- nor of a soak
@@ -224,7 +215,6 @@ soak_outside n size bs out status.Findings v h = absurd h
 soak_outside n size bs out (status.NotMendable g) v h = absurd h
 soak_outside n size bs out status.OutFault v h = absurd (false≢true v)
 soak_outside n size bs out status.NoMemory v h = absurd (false≢true v)
-soak_outside n size bs out status.Unfinished v h = absurd (false≢true v)
 soak_outside n size bs out (status.BadInit x) v h = absurd h
 
 soak_found : (n size : ℕ) (bs : List Block) (f : Finding) → OneList bs → IsInside size → IsFirstFound bs f → AloneInSoak n size bs (status.NotAccepted f)
@@ -241,7 +231,6 @@ soak_found n size bs f list inside found status.Findings v h = absurd h
 soak_found n size bs f list inside found (status.NotMendable g) v h = absurd h
 soak_found n size bs f list inside found status.OutFault v h = absurd (false≢true v)
 soak_found n size bs f list inside found status.NoMemory v h = absurd (false≢true v)
-soak_found n size bs f list inside found status.Unfinished v h = absurd (false≢true v)
 soak_found n size bs f list inside found (status.BadInit x) v h = absurd h
 
 soak_good : (n size : ℕ) (bs : List Block) → OneList bs → IsInside size → Accepts bs → AloneInSoak n size bs status.Ok
@@ -258,7 +247,6 @@ soak_good n size bs list inside none status.Findings v h = absurd h
 soak_good n size bs list inside none (status.NotMendable g) v h = absurd h
 soak_good n size bs list inside none status.OutFault v h = absurd (false≢true v)
 soak_good n size bs list inside none status.NoMemory v h = absurd (false≢true v)
-soak_good n size bs list inside none status.Unfinished v h = absurd (false≢true v)
 soak_good n size bs list inside none (status.BadInit x) v h = absurd h
 
 words_alone : (other : Status) → is_verdict other ≡ true → IsWordsDue other → other ≡ status.BadWords
@@ -275,7 +263,6 @@ words_alone status.Findings v h = absurd h
 words_alone (status.NotMendable g) v h = absurd h
 words_alone status.OutFault v h = absurd h
 words_alone status.NoMemory v h = absurd (false≢true v)
-words_alone status.Unfinished v h = absurd (false≢true v)
 words_alone (status.BadInit x) v h = absurd h
 
 -- a good script, and an image of the right size
@@ -407,7 +394,6 @@ size_alone_in cluster files label size out status.Findings v h = absurd h
 size_alone_in cluster files label size out (status.NotMendable g) v h = absurd h
 size_alone_in cluster files label size out status.OutFault v h = absurd (false≢true v)
 size_alone_in cluster files label size out status.NoMemory v h = absurd (false≢true v)
-size_alone_in cluster files label size out status.Unfinished v h = absurd (false≢true v)
 size_alone_in cluster files label size out (status.BadInit g) v h = absurd (outside size h.0 out)
 
 refused_alone : (cluster files : ℕ) (label : List ℕ) (size : ℕ) (f : InitFault) → IsInside size → refusal (sized cluster files size) label ≡ Some f → AloneInInit cluster files label size (status.BadInit f)
@@ -424,7 +410,6 @@ refused_alone cluster files label size f inside is status.Findings v h = absurd 
 refused_alone cluster files label size f inside is (status.NotMendable g) v h = absurd h
 refused_alone cluster files label size f inside is status.OutFault v h = absurd (false≢true v)
 refused_alone cluster files label size f inside is status.NoMemory v h = absurd (false≢true v)
-refused_alone cluster files label size f inside is status.Unfinished v h = absurd (false≢true v)
 refused_alone cluster files label size f inside is (status.BadInit g) v h = ap status.BadInit (same_fault (refusal (sized cluster files size) label) f g is h.1)
 
 possible_alone : (cluster files : ℕ) (label : List ℕ) (size : ℕ) → IsPossible cluster files label size → AloneInInit cluster files label size status.Ok
@@ -441,7 +426,6 @@ possible_alone cluster files label size may status.Findings v h = absurd h
 possible_alone cluster files label size may (status.NotMendable g) v h = absurd h
 possible_alone cluster files label size may status.OutFault v h = absurd (false≢true v)
 possible_alone cluster files label size may status.NoMemory v h = absurd (false≢true v)
-possible_alone cluster files label size may status.Unfinished v h = absurd (false≢true v)
 possible_alone cluster files label size may (status.BadInit g) v h = absurd (no_fault (refusal (sized cluster files size) label) g may.possible h.1)
 
 -- what is refused is told, and else the image is formatted
@@ -483,7 +467,6 @@ rebuild_outside size bs out status.Findings v h = absurd h
 rebuild_outside size bs out (status.NotMendable g) v h = absurd (outside size h.0 out)
 rebuild_outside size bs out status.OutFault v h = absurd (false≢true v)
 rebuild_outside size bs out status.NoMemory v h = absurd (false≢true v)
-rebuild_outside size bs out status.Unfinished v h = absurd h
 rebuild_outside size bs out (status.BadInit x) v h = absurd h
 
 rebuild_fatal : (size : ℕ) (bs : List Block) (f : Finding) → OneList bs → IsInside size → IsFirstFatal bs f → AloneInRebuild size bs (status.NotMendable f)
@@ -500,7 +483,6 @@ rebuild_fatal size bs f list inside found status.Findings v h = absurd h
 rebuild_fatal size bs f list inside found (status.NotMendable g) v h = ap status.NotMendable (same_fatal bs f g list found h.1)
 rebuild_fatal size bs f list inside found status.OutFault v h = absurd (false≢true v)
 rebuild_fatal size bs f list inside found status.NoMemory v h = absurd (false≢true v)
-rebuild_fatal size bs f list inside found status.Unfinished v h = absurd h
 rebuild_fatal size bs f list inside found (status.BadInit x) v h = absurd h
 
 rebuild_weak : (size : ℕ) (bs : List Block) → IsInside size → Weak bs → AloneInRebuild size bs status.Ok
@@ -517,7 +499,6 @@ rebuild_weak size bs inside weak status.Findings v h = absurd h
 rebuild_weak size bs inside weak (status.NotMendable g) v h = absurd (weak g h.1.fatal)
 rebuild_weak size bs inside weak status.OutFault v h = absurd (false≢true v)
 rebuild_weak size bs inside weak status.NoMemory v h = absurd (false≢true v)
-rebuild_weak size bs inside weak status.Unfinished v h = absurd h
 rebuild_weak size bs inside weak (status.BadInit x) v h = absurd h
 
 of_blocks : (bytes : List ℕ) (size : ℕ) (bs : List Block) (fs : List Finding) → OneList bs → IsInside size → AreFindings bs fs → HasOneVerdict (Some Rebuild) bytes size bs

@@ -10,7 +10,6 @@ use Rattle.plain_vol.specs.Lookups.{free_clusters}
 use Rattle.plain_vol.specs.Own.{Whole, Killed}
 use Rattle.plain_vol.specs.Replaying.{Replays}
 use Rattle.vol_parts.specs.declared.geometry.Geometry.{Geometry}
-use Rattle.vol_parts.specs.Findings.{Accepts}
 use Rattle.vol_analyze.specs.Judging.{IsFirstFound}
 use Rattle.plain_cat.specs.InForm.{InForm, is_within}
 use Rattle.run_script.proofs.Pieces.{limits}
@@ -24,7 +23,7 @@ use Rattle.core_state.specs.declared.mounting.MountFault.{MountFault}
 use Rattle.core_state.specs.declared.mounting.MountFault.TheVariants as mount
 use Rattle.run_engine.specs.declared.fault.RunFault.{RunFault}
 use Rattle.run_engine.specs.declared.fault.RunFault.TheVariants as run
-use Rattle.run_engine.specs.Walks.{played, budget_of, IsPartOfWalk, IsRotatedIn, AllOver, IsSpent, IsNextIn, IsBeforeWrite, IsBeforeTaking, Stays}
+use Rattle.run_engine.specs.Walks.{played, budget_of, IsPartOfWalk, IsRotatedIn, AllOver, IsNextIn, IsBeforeWrite, IsBeforeTaking, Stays}
 use Rattle.run_engine.specs.Reports.{report_bytes}
 use Rattle.run_engine.specs.Ended.{IsSpelt, HasEnded}
 use Rattle.run_engine.proofs.Driving.{told_well}
@@ -34,7 +33,7 @@ use Rattle.clus_top.specs.Runs.{HasRun, LacksMemory}
 use Rattle.clus_top.specs.declared.run.Stop.{Stop}
 use Rattle.clus_top.specs.declared.run.Stop.TheVariants as stop
 use Rattle.clus_top.specs.declared.run.Printed.{Printed}
-use Rattle.clus_top.specs.Ends.{printed_text, IsWholeIn, IsDriveIn, IsEndIn, IsSpentIn, IsLackingIn, IsCutIn, IsStopIn, IsStopBy, IsStopOf, mount_status}
+use Rattle.clus_top.specs.Ends.{printed_text, IsWholeIn, IsDriveIn, IsEndIn, IsLackingIn, IsCutIn, IsStopIn, IsStopBy, IsStopOf, mount_status}
 use Rattle.clus_top.proofs.Walked.{over_walk}
 use Rattle.clus_top.proofs.Used.{walk_uses}
 use Rattle.clus_top.proofs.Answered.{IsAnswered, step_keeps}
@@ -68,18 +67,6 @@ module _ (start : Plain) (good : Good start) (m : IsMounted start.blocks start.s
       → IsDriveIn start.script start.blocks told now
   drive_in new plays told now same part keeps image = record { world = new; ran = has_run new plays same part keeps; image = image }
 
-  -- a run whose turns are spent
-  pub spent_in : (new : Plain) (plays : List ℕ) (told now : Option (List Block)) → plays ≡ start.script.plays → IsPartOfWalk start plays new → Good new → now ≡ told_as told new.blocks
-      → IsSpent (budget_of start) (played plays start) new → Accepts start.blocks × IsSpentIn start.script start.blocks told now
-  unfolding drive_in has_run
-  spent_in new plays told now same part keeps image spent = (
-    m.accepted,
-    record {
-      drive = drive_in new plays told now same part keeps image;
-      spent = subst (λ (ns : List ℕ). IsSpent (budget_of start) (played ns start) new) same spent;
-    },
-  )
-
   -- a run that lacks memory
   pub lacking_in : (new : Plain) (plays : List ℕ) (told now : Option (List Block)) → plays ≡ start.script.plays → IsPartOfWalk start plays new → Good new → now ≡ told_as told new.blocks
       → LacksMemory start plays new → IsLackingIn start.script start.blocks told now
@@ -102,23 +89,19 @@ module _ (start : Plain) (good : Good start) (m : IsMounted start.blocks start.s
   -- a run that stopped by this fault
   pub run_stop : {A : Type 0} (new : Plain) (plays : List ℕ) (told now : Option (List Block)) (had has : ℕ) (r : Result A RunFault) (f : RunFault) → r ≡ Err f
       → plays ≡ start.script.plays → OnErr r (IsPartOfWalk start plays new) → Good new
-      → (r ≡ Err run.Unfinished → IsSpent (budget_of start) (played plays start) new)
       → (r ≡ Err run.ImageFault → Rose had has) → (r ≡ Err run.ImageFault → IsBeforeWrite (IsNextIn start plays new) start.blocks told now new)
       → (r ≡ Err run.NoMemory → IsBeforeTaking (IsNextIn start plays new) new)
       → (now ≡ told_as told new.blocks) ⊎ (r ≡ Err run.ImageFault)
       → (s : Stop) → IsStopOf new f s → IsStopBy start.script start.blocks told now had has s
   unfolding cut_in
-  run_stop {A} new plays told now had has r run.ImageFault is same part keeps spent cause before taking image (stop.Cut text) written =
+  run_stop {A} new plays told now had has r run.ImageFault is same part keeps cause before taking image (stop.Cut text) written =
       (cause is, record { cut = cut_in new plays told now same (on_err r run.ImageFault (IsPartOfWalk start plays new) is part) keeps (before is); written = written })
-  run_stop {A} new plays told now had has r run.ImageFault is same part keeps spent cause before taking image stop.Bare none =
+  run_stop {A} new plays told now had has r run.ImageFault is same part keeps cause before taking image stop.Bare none =
       (cause is, cut_in new plays told now same (on_err r run.ImageFault (IsPartOfWalk start plays new) is part) keeps (before is))
-  run_stop {A} new plays told now had has r run.ImageFault is same part keeps spent cause before taking image (stop.By s) none = absurd none
-  run_stop {A} new plays told now had has r run.NoMemory is same part keeps spent cause before taking image s e =
+  run_stop {A} new plays told now had has r run.ImageFault is same part keeps cause before taking image (stop.By s) none = absurd none
+  run_stop {A} new plays told now had has r run.NoMemory is same part keeps cause before taking image s e =
       subst (IsStopBy start.script start.blocks told now had has) (sym e) (inr (lacking_in new plays told now same (on_err r run.NoMemory (IsPartOfWalk start plays new) is part) keeps
       (told_well (r ≡ Err run.ImageFault) _ _ image (λ p. let f : run.NoMemory ≡ run.ImageFault = same_err r run.NoMemory run.ImageFault is p in cc)) (inl (taking is))))
-  run_stop {A} new plays told now had has r run.Unfinished is same part keeps spent cause before taking image s e =
-      subst (IsStopBy start.script start.blocks told now had has) (sym e) (spent_in new plays told now same (on_err r run.Unfinished (IsPartOfWalk start plays new) is part) keeps
-      (told_well (r ≡ Err run.ImageFault) _ _ image (λ p. let f : run.Unfinished ≡ run.ImageFault = same_err r run.Unfinished run.ImageFault is p in cc)) (spent is))
 
   pub led : (c d : Cat) (s : Script) (new : Plain) → s ≡ start.script → c ≡ start.opening → Replays c s new.history d → Replays m.opening start.script new.history d
   led c d s new script first h =

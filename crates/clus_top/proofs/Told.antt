@@ -11,7 +11,7 @@ use Rattle.clus_top.specs.Statuses.{IsRunRebuildDue, status_text, IsWritten, Wri
 use Rattle.clus_top.specs.Images.{IsMendedFaultText, IsRunRebuildImage}
 use Rattle.clus_top.specs.Ends.{IsRunEnd}
 use Rattle.clus_top.specs.Halts.{IsRunHalt, IsQuietHalt, IsHaltImage, IsToldHalt}
-use Rattle.clus_top.proofs.Halting.{spent_halts, cut_left, unmended_left}
+use Rattle.clus_top.proofs.Halting.{cut_left, unmended_left}
 
 -- what is said of an error
 pub err_is : {A E : Type 0} (r : Result A E) (e : E) (P : E → Type 0) → r ≡ Err e → IfErr r P → P e
@@ -29,7 +29,6 @@ module _ (left : Option (List ℕ)) (size : ℕ) (told new : Option (List Block)
   due_by (status.BadSize n) h = h
   due_by (status.NotAccepted f) h = h
   due_by status.NoMemory h = tt
-  due_by status.Unfinished h = h
   due_by s h = absurd h
 
   pub due_told : (x : Halt) (r : Status) → IsRunHalt left size told read reading had has x → IsToldHalt old now before after x r → IsRunRebuildDue left size told r
@@ -83,7 +82,6 @@ module _ (left : Option (List ℕ)) (size : ℕ) (told new : Option (List Block)
     written_by (status.BadSize n) h i w = w
     written_by (status.NotAccepted f) h i w = w
     written_by status.NoMemory h i w = w
-    written_by status.Unfinished h i w = w
     written_by s h i w = absurd h
 
     pub written_told : (x : Halt) (r : Status) → IsRunHalt left size told read reading had has x → IsHaltImage IsGiven told new x → IsToldHalt old now before after x r
@@ -107,7 +105,6 @@ module _ (left : Option (List ℕ)) (size : ℕ) (told new : Option (List Block)
     after_by (status.BadSize n) h i = i
     after_by (status.NotAccepted f) h i = i
     after_by status.NoMemory h i = i
-    after_by status.Unfinished h i = i
     after_by s h i = absurd h
 
     lacking_by : (s : Status) → IsRunEnd left size told read reading had has s → IsQuietHalt IsGiven told new s → IsRunRebuildImage IsGiven told new status.NoMemory
@@ -119,7 +116,6 @@ module _ (left : Option (List ℕ)) (size : ℕ) (told new : Option (List Block)
     lacking_by (status.BadSize n) h i = inl i
     lacking_by (status.NotAccepted f) h i = inl i
     lacking_by status.NoMemory h i = i
-    lacking_by status.Unfinished h i = inr (spent_halts IsGiven told new i)
     lacking_by s h i = absurd h
 
     pub after_told : (x : Halt) (r : Status) → IsRunHalt left size told read reading had has x → IsHaltImage IsGiven told new x → IsToldHalt old now before after x r → IsRunRebuildImage IsGiven told new r

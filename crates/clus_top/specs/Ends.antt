@@ -17,7 +17,7 @@ use Rattle.core_state.specs.Worlds.{Plain}
 use Rattle.core_state.specs.Images.{told_as}
 use Rattle.run_engine.specs.declared.fault.RunFault.{RunFault}
 use Rattle.run_engine.specs.declared.fault.RunFault.TheVariants as run
-use Rattle.run_engine.specs.Walks.{played, budget_of, AllOver, IsRotatedIn, IsSpent, IsNextIn, IsBeforeWrite}
+use Rattle.run_engine.specs.Walks.{played, budget_of, AllOver, IsRotatedIn, IsNextIn, IsBeforeWrite}
 use Rattle.run_engine.specs.Ended.{IsSpelt}
 use Rattle.vol_parts.specs.declared.finding.Finding.{Finding}
 use Rattle.vol_parts.specs.declared.geometry.Geometry.{Geometry}
@@ -32,14 +32,14 @@ use Rattle.clus_top.specs.declared.run.Printed.{Printed}
 use Rattle.clus_top.specs.declared.run.Printed.TheVariants as printed
 use Rattle.run_engine.specs.declared.status.Status.{Status}
 use Rattle.run_engine.specs.declared.status.Status.TheVariants as status
-use Rattle.clus_top.specs.Runs.{IsScriptOf, IsSoakOf, is_mending, report_text, summary_text, HasRun, LacksMemory, IsUnfinished}
+use Rattle.clus_top.specs.Runs.{is_mending, report_text, summary_text, HasRun, LacksMemory}
 use Rattle.vol_init.specs.declared.fault.InitFault.{InitFault}
 use Rattle.vol_init.specs.declared.fault.InitFault.TheVariants as fault
 use Rattle.vol_init.specs.Refusals.{refusal}
 use Rattle.vol_rebuild.specs.declared.fault.RebuildFault.{RebuildFault}
 use Rattle.vol_rebuild.specs.declared.fault.RebuildFault.TheVariants as rebuild
-use Rattle.clus_top.specs.Statuses.{IsTooLong, IsBad, IsOverfull, IsGood, IsAccepted, sized, status_text, cut_text}
-use Rattle.clus_top.specs.Images.{IsLackingDriveOf, IsSpentDriveOf, IsCutShort}
+use Rattle.clus_top.specs.Statuses.{IsTooLong, IsBad, IsOverfull, IsGood, sized, status_text, cut_text}
+use Rattle.clus_top.specs.Images.{IsLackingDriveOf, IsCutShort}
 
 -- a text within its limit spells this script
 pub record SpellsWithin (script : Script) (bytes : List ℕ) : Type 0 where
@@ -88,11 +88,6 @@ pub record IsEndIn (what : Printed) (script : Script) (bs : List Block) (told ne
   pub left : IsWholeIn script bs drive.world
   pub written : text ≡ printed_text what drive.world left.after
 
--- and so many turns are made that no more come, though a node is not over
-pub record IsSpentIn (script : Script) (bs : List Block) (told new : Option (List Block)) : Type 0 where
-  pub drive : IsDriveIn script bs told new
-  pub spent : IsSpent (budget_of drive.ran.start) (played script.plays drive.ran.start) drive.world
-
 -- and it may lack memory there
 pub record IsLackingIn (script : Script) (bs : List Block) (told new : Option (List Block)) : Type 0 where
   pub drive : IsDriveIn script bs told new
@@ -114,7 +109,6 @@ pub record IsCutShortIn (script : Script) (bs : List Block) (told new : Option (
 abbrev pub IsStopIn : Script → List Block → Option (List Block) → Option (List Block) → Status → Type 0
 IsStopIn script bs told new (status.NotAccepted f) = IsFirstFound bs f × (new ≡ told)
 IsStopIn script bs told new status.NoMemory = (new ≡ told) ⊎ IsLackingIn script bs told new
-IsStopIn script bs told new status.Unfinished = Accepts bs × IsSpentIn script bs told new
 IsStopIn script bs told new s = ⊥
 
 -- why it came to none
@@ -129,7 +123,6 @@ IsStopOf w run.ImageFault (stop.Cut text) = text.items ≡ cut_text w.history
 IsStopOf w run.ImageFault stop.Bare = Unit {0}
 IsStopOf w run.ImageFault (stop.By s) = ⊥
 IsStopOf w run.NoMemory r = r ≡ stop.By status.NoMemory
-IsStopOf w run.Unfinished r = r ≡ stop.By status.Unfinished
 
 -- the status of a mount
 abbrev pub mount_status : MountFault → Status
@@ -148,7 +141,6 @@ IsImageEnd script size told new had has status.ImageFault = Rose had has × (new
 IsImageEnd script size told new had has (status.BadSize n) = ((n ≡ size) × IsOutside size) × (new ≡ told)
 IsImageEnd script size told new had has (status.NotAccepted f) = (IsInside size × IfSome told (λ bs. IsFirstFound bs f)) × (new ≡ told)
 IsImageEnd script size told new had has status.NoMemory = (new ≡ told) ⊎ IfSome told (λ bs. IsLackingIn script bs told new)
-IsImageEnd script size told new had has status.Unfinished = IsAccepted size told × IfSome told (λ bs. IsSpentIn script bs told new)
 IsImageEnd script size told new had has s = ⊥
 
 -- why it came to none
@@ -167,7 +159,6 @@ IsRunEnd left size told read reading had has status.ImageFault = IfSome left IsG
 IsRunEnd left size told read reading had has (status.BadSize n) = IfSome left IsGood × (n ≡ size) × IsOutside size
 IsRunEnd left size told read reading had has (status.NotAccepted f) = IfSome left IsGood × IsInside size × IfSome told (λ bs. IsFirstFound bs f)
 IsRunEnd left size told read reading had has status.NoMemory = Unit {0}
-IsRunEnd left size told read reading had has status.Unfinished = IfSome left IsGood × IsAccepted size told × IfSome told (IsUnfinished (IsScriptOf left))
 IsRunEnd left size told read reading had has s = ⊥
 
 -- a run that a write cut short is one of a good script, and the image has counted a fault
@@ -182,7 +173,6 @@ IsSoakEnd n size told had has status.ImageFault = Rose had has
 IsSoakEnd n size told had has (status.BadSize k) = (k ≡ size) × IsOutside size
 IsSoakEnd n size told had has (status.NotAccepted f) = IsInside size × IfSome told (λ bs. IsFirstFound bs f)
 IsSoakEnd n size told had has status.NoMemory = Unit {0}
-IsSoakEnd n size told had has status.Unfinished = IsAccepted size told × IfSome told (IsUnfinished (IsSoakOf n))
 IsSoakEnd n size told had has s = ⊥
 
 -- and of one that a write cut short the image has counted a fault
@@ -194,7 +184,6 @@ IsSoakStop n size told had has (stop.By s) = IsSoakEnd n size told had has s
 -- what the image has with a status whose text says all, and with the text of a run that a write cut short
 abbrev pub IsQuietImage : (Script → Type 0) → Option (List Block) → Option (List Block) → Status → Type 0
 IsQuietImage IsGiven told new status.NoMemory = (new ≡ told) ⊎ IfSome told (λ bs. IsLackingDriveOf IsGiven bs new)
-IsQuietImage IsGiven told new status.Unfinished = IfSome told (λ bs. IsSpentDriveOf IsGiven bs new)
 IsQuietImage IsGiven told new s = new ≡ told
 
 abbrev pub IsStopImage : (Script → Type 0) → Option (List Block) → Option (List Block) → Stop → Type 0

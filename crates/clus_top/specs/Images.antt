@@ -8,7 +8,7 @@ use Rattle.run_engine.specs.declared.status.Status.{Status}
 use Rattle.run_engine.specs.declared.status.Status.TheVariants as status
 use Rattle.plain_cat.specs.declared.script.Script.{Script}
 use Rattle.core_state.specs.Worlds.{Plain}
-use Rattle.run_engine.specs.Walks.{played, budget_of, AllOver, IsSpent, IsNextIn, IsBeforeWrite}
+use Rattle.run_engine.specs.Walks.{AllOver, IsNextIn, IsBeforeWrite}
 use Rattle.stopped_runs.specs.Stops.{CanStop, IsTornRun}
 use Rattle.clus_top.specs.Words.{Wanted, Run, RunRebuild, Soak, Analyze, Rebuild, Init}
 use Rattle.clus_top.specs.Runs.{IsScriptOf, IsSoakOf, HasRun, LacksMemory}
@@ -45,10 +45,6 @@ pub record IsDriveOf (IsGiven : Script → Type 0) (bs : List Block) (new : Opti
 abbrev pub IsLastDriveOf : (Script → Type 0) → List Block → Option (List Block) → Type 0
 IsLastDriveOf IsGiven bs new = (d : IsDriveOf IsGiven bs new) × AllOver d.world
 
--- and so many turns are made that no more come, though a node is not over
-abbrev pub IsSpentDriveOf : (Script → Type 0) → List Block → Option (List Block) → Type 0
-IsSpentDriveOf IsGiven bs new = (d : IsDriveOf IsGiven bs new) × IsSpent (budget_of d.ran.start) (played d.script.plays d.ran.start) d.world
-
 -- and it may lack memory there
 abbrev pub IsLackingDriveOf : (Script → Type 0) → List Block → Option (List Block) → Type 0
 IsLackingDriveOf IsGiven bs new = (d : IsDriveOf IsGiven bs new) × LacksMemory d.ran.start d.script.plays d.world
@@ -64,13 +60,12 @@ pub record IsCutOf (IsGiven : Script → Type 0) (bs : List Block) (new : Option
   pub before : IsBeforeWrite (IsNextIn ran.start script.plays world) bs (Some bs) new world
   pub torn : IsTornRun ran.start script.plays world before.node new
 
--- After a run: the drive of its world, once every node is over or the turns are spent; after want of memory the old blocks, or
+-- After a run: the drive of its world, once every node is over; after want of memory the old blocks, or
 -- the drive as far as to where the run lacked it; after a fault of the image the old blocks, or the drive as far as the run came but for the
 -- block of a write that failed; and else the old blocks.
 abbrev pub IsRunImage : (Script → Type 0) → Option (List Block) → Option (List Block) → Status → Type 0
 IsRunImage IsGiven told new status.Ok = IfSome told (λ bs. IsLastDriveOf IsGiven bs new)
 IsRunImage IsGiven told new status.OutFault = IfSome told (λ bs. IsLastDriveOf IsGiven bs new)
-IsRunImage IsGiven told new status.Unfinished = IfSome told (λ bs. IsSpentDriveOf IsGiven bs new)
 IsRunImage IsGiven told new status.NoMemory = (new ≡ told) ⊎ IfSome told (λ bs. IsLackingDriveOf IsGiven bs new)
 IsRunImage IsGiven told new status.ImageFault = (new ≡ told) ⊎ IfSome told (λ bs. IsCutOf IsGiven bs new)
 IsRunImage IsGiven told new s = new ≡ told
@@ -81,7 +76,6 @@ abbrev pub IsRunRebuildImage : (Script → Type 0) → Option (List Block) → O
 IsRunRebuildImage IsGiven told new status.Ok = IfSome told (λ bs. HasRunAndMended IsGiven bs new)
 IsRunRebuildImage IsGiven told new status.OutFault = IfSome told (λ bs. HasRunAndMended IsGiven bs new)
 IsRunRebuildImage IsGiven told new (status.NotMendable f) = IfSome told (λ bs. IsUnmended IsGiven bs new f)
-IsRunRebuildImage IsGiven told new status.Unfinished = IfSome told (λ bs. IsSpentDriveOf IsGiven bs new)
 IsRunRebuildImage IsGiven told new status.NoMemory = (new ≡ told) ⊎ IfSome told (λ bs. IsLackingDriveOf IsGiven bs new ⊎ IsPartlyMended IsGiven bs new)
 IsRunRebuildImage IsGiven told new status.ImageFault = (new ≡ told) ⊎ IfSome told (λ bs. IsCutOf IsGiven bs new ⊎ IsPartlyMended IsGiven bs new)
 IsRunRebuildImage IsGiven told new s = new ≡ told

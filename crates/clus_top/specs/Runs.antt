@@ -19,7 +19,7 @@ use Rattle.run_script.specs.Soaks.{soak_script}
 use Rattle.core_state.specs.Worlds.{Plain}
 use Rattle.core_state.specs.Goods.{Good}
 use Rattle.core_state.specs.Mounting.{IsMounted}
-use Rattle.run_engine.specs.Walks.{played, budget_of, IsPartOfWalk, WalkUsesTheDrives, IsRotatedIn, AllOver, IsSpent, IsNextIn, IsBeforeTaking}
+use Rattle.run_engine.specs.Walks.{played, budget_of, IsPartOfWalk, WalkUsesTheDrives, IsRotatedIn, AllOver, IsNextIn, IsBeforeTaking}
 use Rattle.run_engine.specs.Ended.{IsSpelt}
 use Rattle.run_engine.specs.Reports.{report_bytes}
 use Rattle.run_engine.specs.Summaries.{summary_bytes}
@@ -101,16 +101,6 @@ pub record HasRun (script : Script) (bs : List Block) (w : Plain) : Type 0 where
   pub good : Good w
 
 -- Where a run, which has come from the first world to the second, can lack memory: before an event that takes some, of the node whose
--- turn it is; for the report, once every node is over; and for the text, once the turns are spent.
+-- turn it is; and for the report, once every node is over.
 abbrev pub LacksMemory : Plain → List ℕ → Plain → Type 0
-LacksMemory start plays w = IsBeforeTaking (IsNextIn start plays w) w ⊎ (AllOver w ⊎ IsSpent (budget_of start) (played plays start) w)
-
--- A run that cannot end: on the volume as it is mounted, after the plays and as many turns in rotation as a run makes at most,
--- a node is not over.
-pub record IsUnfinished (IsGiven : Script → Type 0) (bs : List Block) : Type 0 where
-  pub script : Script
-  pub start : Plain
-  pub stopped : Plain
-  pub given : IsGiven script
-  pub mounted : IsMounted bs script start
-  pub spent : IsSpent (budget_of start) (played script.plays start) stopped
+LacksMemory start plays w = IsBeforeTaking (IsNextIn start plays w) w ⊎ AllOver w

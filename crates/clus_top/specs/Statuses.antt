@@ -23,7 +23,7 @@ use Rattle.vol_init.specs.Refusals.{refusal}
 use Rattle.clus_top.specs.Words.{Wanted, Run, RunRebuild, Soak, Analyze, Rebuild, Init}
 use Rattle.run_engine.specs.Reports.{lines_bytes}
 use Rattle.plain_cat.specs.declared.history.Entry.{Entry}
-use Rattle.clus_top.specs.Runs.{IsScriptOf, IsSoakOf, IsReport, IsSummary, IsUnfinished}
+use Rattle.clus_top.specs.Runs.{IsScriptOf, IsReport, IsSummary}
 use Rattle.clus_top.specs.Mendings.{IsMendingText}
 use Rattle.clus_top.specs.MendedRuns.{IsMendedReport, IsUnmendable}
 
@@ -51,7 +51,6 @@ status_text status.Findings = []
 status_text (status.NotMendable f) = codes "not mendable: " ++ (finding_text f ++ newline)
 status_text status.OutFault = []
 status_text status.NoMemory = codes "no memory" ++ newline
-status_text status.Unfinished = codes "unfinished" ++ newline
 status_text (status.BadInit f) = init_fault_text f ++ newline
 
 -- the text of a run that a write of the image has cut short: the lines of the answers so far, and that of the fault
@@ -114,7 +113,6 @@ IsRunDue left size told status.Findings = ⊥
 IsRunDue left size told (status.NotMendable f) = ⊥
 IsRunDue left size told status.OutFault = IfSome left IsGood × IsAccepted size told
 IsRunDue left size told status.NoMemory = Unit {0}
-IsRunDue left size told status.Unfinished = IfSome left IsGood × IsAccepted size told × IfSome told (IsUnfinished (IsScriptOf left))
 IsRunDue left size told (status.BadInit f) = ⊥
 
 -- Of a run that is mended then. The order is that of a run, and then whether its catalogue can be mended.
@@ -130,7 +128,6 @@ IsSoakDue n size told (status.BadSize k) = (k ≡ size) × IsOutside size
 IsSoakDue n size told (status.NotAccepted f) = IsInside size × IfSome told (λ bs. IsFirstFound bs f)
 IsSoakDue n size told status.OutFault = IsAccepted size told
 IsSoakDue n size told status.NoMemory = Unit {0}
-IsSoakDue n size told status.Unfinished = IsAccepted size told × IfSome told (IsUnfinished (IsSoakOf n))
 IsSoakDue n size told s = ⊥
 
 -- Of an analysis. The order is image read, size, findings, output.

@@ -6,13 +6,12 @@ use Rattle.run_engine.specs.declared.status.Status.TheVariants as status
 use Rattle.clus_top.specs.Words.{Wanted, RunRebuild}
 use Rattle.clus_top.specs.Statuses.{IsDue}
 
--- a status that speaks of what came in alone: no fault, no want of memory, and no want of turns
+-- a status that speaks of what came in alone: no fault and no want of memory
 abbrev pub is_verdict : Status → Bool
 is_verdict status.ScriptFault = false
 is_verdict status.ImageFault = false
 is_verdict status.OutFault = false
 is_verdict status.NoMemory = false
-is_verdict status.Unfinished = false
 is_verdict s = true
 
 -- Of a run that is mended then, also not the one that speaks of where the run has led: that the volume cannot be mended there.

@@ -8,8 +8,8 @@
 //! let finished = vmsclus(alloc, words, image, &mut script, &mut out);
 //! ```
 //!
-//! Each status comes only under its condition (`due`), and of all inputs one is due, but for faults, want of memory,
-//! `Unfinished` and, of `run --rebuild`, `NotMendable` (`one_status_is_due`). With status 0 the report of a run is the answers of
+//! Each status comes only under its condition (`due`), and of all inputs one is due, but for faults, want of memory
+//! and, of `run --rebuild`, `NotMendable` (`one_status_is_due`). With status 0 the report of a run is the answers of
 //! one uncached volume, taken one after the other, with the stages and leaks of deaths (`written`), and the image has the blocks
 //! to which they lead (`after`), mended by the report's last entry if the job is `run --rebuild`. With other statuses these two
 //! say what was written, and what the image has. A fault is reported only if its object's count of faults rose.
@@ -42,6 +42,8 @@ mod deaths;
 mod each_death;
 #[cfg(test)]
 mod each_write;
+#[cfg(test)]
+mod endings;
 #[cfg(test)]
 mod faults;
 #[cfg(test)]

@@ -113,7 +113,6 @@ pub fn stop_of<I: ImageDev>(alloc: Global, w: &World<I, XqpOp>, fault: RunFault)
     match fault {
         RunFault::ImageFault => cut_by(cut_text(alloc, w)),
         RunFault::NoMemory => Stop::By(Status::NoMemory),
-        RunFault::Unfinished => Stop::By(Status::Unfinished),
     }
 }
 

@@ -86,7 +86,6 @@ fn status_text(alloc: Global, status: &Status) -> Result<Vec<u8>, NoMemory>
         Status::TooMany => b"too many\n",
         Status::ImageFault => b"image fault\n",
         Status::NoMemory => b"no memory\n",
-        Status::Unfinished => b"unfinished\n",
         Status::BadInit(fault) => init_text(*fault),
     };
     Vec::from_slice(alloc, plain)

@@ -7,8 +7,8 @@ ghost use Rattle.vol_parts.specs.Findings.{AreFindings};
 ghost use Rattle.clus_top.specs.Words.{Wanted};
 ghost use Rattle.clus_top.specs.Verdicts.{HasOneVerdict};
 
-/// Of all jobs, scripts, sizes and blocks, whatever is found in these, one status is due, and only one, but for faults, want of memory and
-/// want of turns, and of a run that is mended then but for whether its volume can be mended.
+/// Of all jobs, scripts, sizes and blocks, whatever is found in these, one status is due, and only one, but for faults and want of
+/// memory, and of a run that is mended then but for whether its volume can be mended.
 pub fn one_status_is_due()
     ensures { (wanted : Option Wanted) (bytes : List ℕ) (size : ℕ) (bs : List Block) (fs : List Finding) → AreFindings bs fs → HasOneVerdict wanted bytes size bs }
 {

@@ -23,7 +23,6 @@ use std::alloc::Global;
 use vol_analyze::Finding;
 
 // The job `run`.
-#[tactic(auto, using(crate::proofs::Spent::spent_lacks))]
 fn run<I: ImageDev, T: TextIn, O: TextOut>(
     alloc: Global,
     image: I,
@@ -79,7 +78,6 @@ fn run_rebuild<I: ImageDev, T: TextIn, O: TextOut>(
 }
 
 // The job `soak`.
-#[tactic(auto, using(crate::proofs::Spent::spent_lacks))]
 fn soak<I: ImageDev, O: TextOut>(alloc: Global, image: I, n: u32, out: &mut O) -> Finished<I>
     requires { n ≤ 256 }
     ensures due { IsSoakDue n (I.size image) (I.told image) result.status }

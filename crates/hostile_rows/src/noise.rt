@@ -152,15 +152,15 @@ fn all_through(
     blocks: &[Block],
     numbers: &mut Numbers,
 ) -> Result<(usize, usize), NoMemory> {
-    let mut spoilt = 0;
-    let mut mended = 0;
+    let mut spoilt = 0usize;
+    let mut mended = 0usize;
     for _ in 0..CHANGED {
         let changed = with_a_change(alloc, blocks, numbers)?;
         let (accepted, mends) = through(rt, alloc, changed.as_slice())?;
         if !accepted {
-            spoilt += 1;
+            spoilt = spoilt.saturating_add(1);
             if mends {
-                mended += 1;
+                mended = mended.saturating_add(1);
             }
         }
     }

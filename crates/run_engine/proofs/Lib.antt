@@ -1,6 +1,7 @@
 pub mod Staying
 pub mod Playing
 pub mod Rotating
+pub mod Enough
 pub mod Ending
 pub mod Driving
 pub mod Stopping

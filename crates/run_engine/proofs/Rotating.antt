@@ -51,7 +51,7 @@ found_step w from k n more false alive f =
     let h : n ≡ from = cc in
     record { from = omega (arith, h); to = omega (arith, h); alive = ap (λ m. is_over w m) h ∙ alive }
 
-found_within : (w : Plain) (from k n : ℕ) → first_from w from k ≡ Some n → IsFound w from (from + k) n
+pub found_within : (w : Plain) (from k n : ℕ) → first_from w from k ≡ Some n → IsFound w from (from + k) n
 unfolding first_from
 found_within w from zero n e = absurd (let f : None ≡ Some n = e in cc)
 found_within w from (suc k) n e = found_step w from k n (found_within w (from + 1) k n) (is_over w from) refl e
@@ -65,7 +65,7 @@ none_step w from k n more true over f low high =
     ]
 none_step w from k n more false alive f low high = absurd (let g : Some from ≡ None = f in cc)
 
-none_within : (w : Plain) (from k n : ℕ) → first_from w from k ≡ None → from ≤ n → n < from + k → is_over w n ≡ true
+pub none_within : (w : Plain) (from k n : ℕ) → first_from w from k ≡ None → from ≤ n → n < from + k → is_over w n ≡ true
 unfolding first_from
 none_within w from zero n e low high = absurd (omega arith)
 none_within w from (suc k) n e low high = none_step w from k n (none_within w (from + 1) k n) (is_over w from) refl e low high
@@ -77,7 +77,7 @@ get_past [] k le = refl
 get_past (s ∷ nodes) zero le = absurd (omega arith)
 get_past (s ∷ nodes) (suc k) le = get_past nodes k (omega arith)
 
-past_over : (w : Plain) (n : ℕ) → length w.nodes < n → is_over w n ≡ true
+pub past_over : (w : Plain) (n : ℕ) → length w.nodes < n → is_over w n ≡ true
 past_over w zero lt = absurd (omega arith)
 past_over w (suc k) lt = ap is_over_in (get_past w.nodes k (omega arith))
 

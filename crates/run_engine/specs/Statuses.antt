@@ -18,5 +18,4 @@ status_code status.Findings = 5
 status_code (status.NotMendable f) = 5
 status_code status.OutFault = 6
 status_code status.NoMemory = 7
-status_code status.Unfinished = 8
 status_code (status.BadInit f) = 9

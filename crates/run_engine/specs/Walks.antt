@@ -92,12 +92,6 @@ AllOver w = (n : ℕ) → is_over w n ≡ true
 unfoldable pub budget_of : Plain → ℕ
 budget_of w = 2048 * length w.nodes * (length w.script.lines + length w.nodes)
 
--- so many turns in rotation are made, and a node is not over
-pub record IsSpent (budget : ℕ) (old new : Plain) : Type 0 where
-  pub spent : new ≡ rotated budget 1 old
-  pub node : ℕ
-  pub left : is_over new node ≡ false
-
 -- ---- whose turn comes
 
 -- after the first plays, that of the next play, where that node is not over

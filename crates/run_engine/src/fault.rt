@@ -8,9 +8,6 @@ pub enum RunFault {
 
     /// Memory ran out. The world stands before that turn.
     NoMemory,
-
-    /// All the turns that a run may make in rotation are made, and a node is not over.
-    Unfinished,
 }
 
 impl From<TurnFault> for RunFault {

@@ -10,8 +10,8 @@
 //!
 //! Ok comes once every node is over, with a history that has each command of each node (`ok`, `whole`). After a fault the world
 //! is as before the turn that failed (`err`), and the image too, but for the one write (`before`). `free_at_end` counts the free
-//! clusters of the catalogue to which the history leads and which the drive spells then. `Unfinished` comes only once the bound
-//! of turns is spent (`spent`). `report` and `summary` are exactly the texts of their definitions.
+//! clusters of the catalogue to which the history leads and which the drive spells then, and no run
+//! goes on for more turns than its bound. `report` and `summary` are exactly the texts of their definitions.
 //!
 //! `mend` mends the drive of a world that is over, as its catalogue is mended, and adds that to the history (`end`). After each
 //! answer the drive mends to what the catalogue mends to (`still`). `free_on_drive` counts the free clusters of a mended drive.

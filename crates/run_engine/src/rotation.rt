@@ -3,7 +3,7 @@ ghost use Rattle.vol_words.specs.Faults.{Rose};
 ghost use Rattle.core_state.specs.Worlds.{IsOfWorld};
 ghost use Rattle.core_state.specs.Images.{IsTold, told_as};
 ghost use Rattle.core_state.specs.Events.{is_over};
-ghost use Rattle.run_engine.specs.Walks.{first_from, next_from, AllOver, IsRotatedIn, IsSpent, IsNextTurn, IsBeforeWrite, IsBeforeTaking};
+ghost use Rattle.run_engine.specs.Walks.{first_from, next_from, AllOver, IsRotatedIn, budget_of, IsNextTurn, IsBeforeWrite, IsBeforeTaking};
 
 use crate::fault::RunFault;
 use blk_drive::ImageDev;
@@ -54,15 +54,15 @@ fn next_node<I: ImageDev, O: Operation>(w: &World<I, O>, from: u8) -> Option<u8>
     }
 }
 
-// Turns in rotation from node 1 until every node is over, at most as many as the budget.
+// Turns in rotation from node 1 until every node is over, which is so after as many as the budget at most.
 pub fn rotate<I: ImageDev, O: Operation>(
     alloc: Global,
     w: &mut World<I, O>,
     budget: u32,
 ) -> Result<(), RunFault>
+    requires { budget ≡ budget_of w.old.world }
     ensures turns { IsRotatedIn budget w.old.world w.new.world }
     ensures over { OnOk result (AllOver w.new.world) }
-    ensures spent { result ≡ Err RunFault.Unfinished → IsSpent budget w.old.world w.new.world }
     ensures later { I.faults w.old.image ≤ I.faults w.new.image }
     ensures cause { result ≡ Err RunFault.ImageFault → Rose (I.faults w.old.image) (I.faults w.new.image) }
     ensures before { result ≡ Err RunFault.ImageFault → IsBeforeWrite (IsNextTurn w.old.world w.new.world) w.old.world.blocks (I.told w.old.image) (I.told w.new.image) w.new.world }
@@ -70,18 +70,17 @@ pub fn rotate<I: ImageDev, O: Operation>(
     ensures drive { IsTold (I.told w.old.image) w.old.world.blocks
         → (I.told w.new.image ≡ told_as (I.told w.old.image) w.new.world.blocks) ⊎ (result ≡ Err RunFault.ImageFault) }
 {
+    w.keeps_the_rules();
     let mut from = 1u8;
     for _turns in 0..budget {
         match next_node(w, from) {
             Some(node) => {
                 seat_turn(alloc, w, node)?;
+                w.keeps_the_rules();
                 from = node + 1;
             }
             None => return Ok(()),
         }
     }
-    match next_node(w, from) {
-        Some(_) => Err(RunFault::Unfinished),
-        None => Ok(()),
-    }
+    Ok(())
 }

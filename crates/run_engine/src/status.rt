@@ -46,9 +46,6 @@ pub enum Status {
     /// Memory ran out.
     NoMemory,
 
-    /// After the plays and 2,048 × nodes × (commands + nodes) turns in rotation some node still has a command left.
-    Unfinished,
-
     /// The image was not formatted, by one of the first four refusals: the cluster factor, the file numbers or the label are
     /// outside their limits, or the image is too small.
     BadInit(InitFault),
@@ -57,7 +54,7 @@ pub enum Status {
 impl Status {
     ghost use Rattle.run_engine.specs.Statuses.{status_code};
 
-    /// The number with which the program ends: 0 to 9.
+    /// The number with which the program ends: 0 to 7, or 9.
     pub fn code(&self) -> u8
         ensures { result ≡ status_code self.now }
     {
@@ -70,7 +67,6 @@ impl Status {
             Status::NotAccepted(_) | Status::Findings | Status::NotMendable(_) => 5,
             Status::OutFault => 6,
             Status::NoMemory => 7,
-            Status::Unfinished => 8,
             Status::BadInit(_) => 9,
         }
     }

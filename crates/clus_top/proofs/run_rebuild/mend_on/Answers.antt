@@ -40,5 +40,5 @@ returns-in-Err-clause-halt g c =
     (subst (λ (i : g.row.I.Denot). IsStopBy c.args.w.world.script c.args.w.world.blocks told (g.I.ImageDev.told i) faults (g.I.ImageDev.faults i) c.stop_of-stop.result)
     (sym (c.into_image.ensures ∙ c.into_parts-history.ensures.image))
     (run_stop c.args.w.world c.keeps_the_rules.ensures.good c.requires.mounted c.run-ran.new.w.world c.args.plays.now _ _ _ _ c.run-ran.result c.in-Err.fault c.in-Err.is c.requires.plays
-    c.run-ran.ensures.err c.keeps_the_rules-2.ensures.good c.run-ran.ensures.spent c.run-ran.ensures.cause c.run-ran.ensures.before c.run-ran.ensures.memory (c.run-ran.ensures.drive c.requires.told)
+    c.run-ran.ensures.err c.keeps_the_rules-2.ensures.good c.run-ran.ensures.cause c.run-ran.ensures.before c.run-ran.ensures.memory (c.run-ran.ensures.drive c.requires.told)
     c.stop_of-stop.result c.stop_of-stop.ensures)))

@@ -6,6 +6,7 @@ use Rattle.run_engine.specs.Walks.{Stays}
 use Rattle.run_engine.proofs.Staying.{step_stays}
 use Rattle.run_engine.proofs.Driving.{told_same, told_on, told_well}
 use Rattle.run_engine.proofs.Rotating.{rotation_none, rotation_more}
+use Rattle.run_engine.proofs.Enough.{enough_at_first, enough_after, over_at_last}
 use Rattle.run_engine.proofs.rotation.rotate.Goals as goal
 
 pub loop-turns-init : goal.loop-turns-init
@@ -13,6 +14,8 @@ loop-turns-init g c = record {
   at = rotation_none (record { world = c.args.w.now.world; from = 1 });
   low = omega arith;
   high = omega arith;
+  good = c.keeps_the_rules.ensures.good;
+  enough = enough_at_first c.args.w.now.world c.args.budget c.requires c.keeps_the_rules.ensures.good c.keeps_the_rules.ensures.accepted;
   drive = λ told. told_same _ _ told;
   later = omega arith;
 }
@@ -25,6 +28,10 @@ loop-turns-preserved g c =
       at = rotation_more c.loop-turns._turns (record { world = c.args.w.now.world; from = 1 }) c.loop-turns.w.world c.loop-turns.from c.in-Some.node c.seat_turn.new.w.world c.loop-turns.invariant.at c.in-Some.ensures.next c.in_ok-seat_turn-in-Some.ensures.moved;
       low = omega arith;
       high = omega (arith, c.in-Some.ensures.of_world.to, stays.count);
+      good = c.keeps_the_rules-in-Some.ensures.good;
+      enough = enough_after c.args.budget c.loop-turns._turns c.loop-turns.w.world c.loop-turns.from c.in-Some.node c.seat_turn.new.w.world (omega arith)
+          c.loop-turns.invariant.low c.loop-turns.invariant.high c.in-Some.ensures.next c.in_ok-seat_turn-in-Some.ensures.moved
+          c.loop-turns.invariant.good c.keeps_the_rules-in-Some.ensures.good c.keeps_the_rules-in-Some.ensures.accepted c.loop-turns.invariant.enough;
       drive = λ told. told_well _ _ _ (told_on _ _ _ _ _ _ (c.loop-turns.invariant.drive told) c.in_ok-seat_turn-in-Some.ensures.drive) (λ p. cc);
       later = omega (arith, c.seat_turn.ensures.later, c.loop-turns.invariant.later);
     }
@@ -42,8 +49,8 @@ returns-in_err-seat_turn-in-Some-clause-drive g c = λ told.
 pub returns-in-None-clause-drive : goal.returns-in-None-clause-drive
 returns-in-None-clause-drive g c = λ told. inl (c.loop-turns.invariant.drive told)
 
-pub returns-in-Some-next_node-clause-drive : goal.returns-in-Some-next_node-clause-drive
-returns-in-Some-next_node-clause-drive g c = λ told. inl (c.loop-turns.invariant.drive told)
+pub returns-clause-drive : goal.returns-clause-drive
+returns-clause-drive g c = λ told. inl (c.loop-turns.invariant.drive told)
 
-pub returns-in-None-next_node-clause-drive : goal.returns-in-None-next_node-clause-drive
-returns-in-None-next_node-clause-drive g c = λ told. inl (c.loop-turns.invariant.drive told)
+pub returns-clause-over : goal.returns-clause-over
+returns-clause-over g c = over_at_last c.args.budget c.loop-turns._turns c.loop-turns.w.world c.loop-turns.from (omega arith) c.loop-turns.invariant.enough

@@ -1,5 +1,7 @@
-use Rattle.std.proofs.Common.{◌≡◌, ◌≤◌, ◌+◌, length}
+use Rattle.std.proofs.Common.{◌≡◌, ◌≤◌, ◌+◌, ◌-◌, length}
 use Rattle.core_state.specs.Images.{IsTold, told_as}
+use Rattle.core_state.specs.Goods.{Good}
+use Rattle.core_live.specs.Turns.{IsEnough}
 use Rattle.run_engine.specs.Walks.{rotation}
 use Rattle.run_engine.proofs.rotation.rotate.Given as goal
 
@@ -8,6 +10,8 @@ invariant-loop-turns g l = record {
   at : rotation l._turns (record { world = l.fn.w.world; from = 1 }) ≡ record { world = l.w.world; from = l.from };
   low : 1 ≤ l.from;
   high : l.from ≤ length l.w.world.nodes + 1;
+  good : Good l.w.world;
+  enough : IsEnough (l.fn.budget - l._turns) l.w.world l.from;
   drive : IsTold (g.I.ImageDev.told l.fn.w.image) l.fn.w.world.blocks → g.I.ImageDev.told l.w.image ≡ told_as (g.I.ImageDev.told l.fn.w.image) l.w.world.blocks;
   later : g.I.ImageDev.faults l.fn.w.image ≤ g.I.ImageDev.faults l.w.image;
 }

@@ -6,7 +6,12 @@ use Rattle.run_engine.proofs.Driving.{told_well, told_on}
 use Rattle.run_engine.proofs.Staying.{played_stays, walk_stays}
 use Rattle.run_engine.proofs.Stopping.{image_fault, no_memory, by_play, by_turn, taking_by_play, taking_by_turn}
 use Rattle.run_engine.proofs.Ending.{over_is_whole}
+use Rattle.run_engine.proofs.Enough.{budget_played}
 use Rattle.run_engine.proofs.running.run.Goals as goal
+
+pub rotate-requires : goal.rotate-requires
+rotate-requires g c =
+    c.budget_of-budget.ensures ∙ budget_played c.args.w.now.world c.play_all.new.w.world c.items.result.now c.in_ok-play_all.ensures.played
 
 pub returns-in_err-play_all-clause-stays : goal.returns-in_err-play_all-clause-stays
 returns-in_err-play_all-clause-stays g c = played_stays c.args.w.now.world c.items.result.now c.play_all.new.w.world c.in_err-play_all.ensures.part
