@@ -75,9 +75,9 @@ dir_stays X g own other c d name l n guard owner there = by_part (part_of g l) r
       let is : name ≡ S n = lock_is name (S n) (sym guard ∙ file_guarded g own l n e owner) in
       elim (there is) [
         | inl h ↦ inl (record {
-            guard = file_guarded g other l n e h.0 ∙ ap (λ x. Some (Lock x)) (sym is);
-            kind = OfDirectory n h.1.0 h.1.1 h.1.2 h.0;
-          })
+          guard = file_guarded g other l n e h.0 ∙ ap (λ x. Some (Lock x)) (sym is);
+          kind = OfDirectory n h.1.0 h.1.1 h.1.2 h.0;
+        })
         | inr x ↦ inr x
       ]
 

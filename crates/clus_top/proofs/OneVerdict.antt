@@ -14,7 +14,8 @@ use Rattle.run_engine.specs.declared.status.Status.{Status}
 use Rattle.run_engine.specs.declared.status.Status.TheVariants as status
 use Rattle.clus_top.specs.Words.{Wanted, Run, RunRebuild, Soak, Analyze, Rebuild, Init}
 use Rattle.clus_top.specs.Statuses.{IsTooLong, IsBad, IsOverfull, IsGood, IsRunDue, IsRunRebuildDue, IsSoakDue, IsAnalysisDue, IsRebuildDue, sized, IsPossible, IsInitDue, IsWordsDue}
-use Rattle.clus_top.specs.Verdicts.{is_verdict, is_mended_verdict, HasOneVerdict}
+use Rattle.clus_top.specs.Statuses.{IsDue}
+use Rattle.clus_top.specs.Verdicts.{is_verdict, is_mended_verdict, is_verdict_of, HasOneVerdict, RunsGood}
 
 -- a size is inside or outside, and not both
 is_size : (size : ℕ) → IsInside size ⊎ IsOutside size
@@ -531,3 +532,15 @@ one_verdict (Some (Soak n)) bytes size bs fs one list found = of_soak n bytes si
 one_verdict (Some Analyze) bytes size bs fs one list found = of_analysis bytes size bs fs list found
 one_verdict (Some Rebuild) bytes size bs fs one list found = of_rebuild bytes size bs fs list found
 one_verdict (Some (Init cluster files label)) bytes size bs fs one list found = of_init cluster files label bytes size bs
+
+-- ---- a good script on an accepted volume
+
+pub answered : (wanted : Option Wanted) (bytes : List ℕ) (size : ℕ) (bs : List Block) (s : Status) → SayOneThing (lines_of bytes) → OneList bs → RunsGood wanted bytes → IsInside size → Accepts bs
+    → is_verdict_of wanted s ≡ true → IsDue wanted (Some bytes) size (Some bs) s → s ≡ status.Ok
+answered None bytes size bs s one list good inside none v h = absurd good
+answered (Some Run) bytes size bs s one list good inside none v h = alone_good bytes size bs one list good inside none s v h
+answered (Some RunRebuild) bytes size bs s one list good inside none v h = alone_mended bytes size bs status.Ok (alone_good bytes size bs one list good inside none) s v h
+answered (Some (Soak n)) bytes size bs s one list good inside none v h = soak_good n size bs list inside none s v h
+answered (Some Analyze) bytes size bs s one list good inside none v h = absurd good
+answered (Some Rebuild) bytes size bs s one list good inside none v h = absurd good
+answered (Some (Init cluster files label)) bytes size bs s one list good inside none v h = absurd good

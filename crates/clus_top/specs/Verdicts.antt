@@ -1,10 +1,12 @@
 -- That of all statuses exactly one is due.
 use Rattle.std.specs.Prelude.{◌≡◌, ℕ, Bool, true, false, List, Option, Some}
 use Rattle.vol_words.specs.Fields.{Block}
+use Rattle.blk_drive.specs.Images.{IsInside}
+use Rattle.vol_parts.specs.Findings.{Accepts}
 use Rattle.run_engine.specs.declared.status.Status.{Status}
 use Rattle.run_engine.specs.declared.status.Status.TheVariants as status
-use Rattle.clus_top.specs.Words.{Wanted, RunRebuild}
-use Rattle.clus_top.specs.Statuses.{IsDue}
+use Rattle.clus_top.specs.Words.{Wanted, Run, RunRebuild, Soak}
+use Rattle.clus_top.specs.Statuses.{IsGood, IsDue}
 
 -- a status that speaks of what came in alone: no fault and no want of memory
 abbrev pub is_verdict : Status → Bool
@@ -29,3 +31,15 @@ pub record HasOneVerdict (wanted : Option Wanted) (bytes : List ℕ) (size : ℕ
   pub verdict : is_verdict_of wanted status ≡ true
   pub due : IsDue wanted (Some bytes) size (Some bs) status
   pub alone : (other : Status) → is_verdict_of wanted other ≡ true → IsDue wanted (Some bytes) size (Some bs) other → other ≡ status
+
+-- a job that runs a good script: that of the bytes, or one that is drawn
+abbrev pub RunsGood : Option Wanted → List ℕ → Type 0
+RunsGood (Some Run) bytes = IsGood bytes
+RunsGood (Some RunRebuild) bytes = IsGood bytes
+RunsGood (Some (Soak n)) bytes = Unit {0}
+RunsGood other bytes = ⊥
+
+-- on an accepted volume the one such status of such a job is Ok
+abbrev pub GoodRunsAreAnswered : Type 0
+GoodRunsAreAnswered = (wanted : Option Wanted) (bytes : List ℕ) (size : ℕ) (bs : List Block) (s : Status) → RunsGood wanted bytes → IsInside size → Accepts bs
+    → is_verdict_of wanted s ≡ true → IsDue wanted (Some bytes) size (Some bs) s → s ≡ status.Ok

@@ -72,7 +72,7 @@ fn crowd(
 #[test]
 fn eight_nodes_in_one_directory(rt: HostRuntime) -> Result<(), Fail> {
     let alloc = rt.alloc();
-    for seed in 0..5u32 {
+    for seed in 0..21u32 {
         crowd(
             &rt,
             alloc,

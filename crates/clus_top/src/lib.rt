@@ -9,10 +9,11 @@
 //! ```
 //!
 //! Each status comes only under its condition (`due`), and of all inputs one is due, but for faults, want of memory
-//! and, of `run --rebuild`, `NotMendable` (`one_status_is_due`). With status 0 the report of a run is the answers of
-//! one uncached volume, taken one after the other, with the stages and leaks of deaths (`written`), and the image has the blocks
-//! to which they lead (`after`), mended by the report's last entry if the job is `run --rebuild`. With other statuses these two
-//! say what was written, and what the image has. A fault is reported only if its object's count of faults rose.
+//! and, of `run --rebuild`, `NotMendable` (`one_status_is_due`); of a good script and an accepted volume it is `Ok`
+//! (`good_runs_are_answered`). With status 0 the report of a run is the answers of one uncached volume, taken one after the other,
+//! with the stages and leaks of deaths (`written`), and the image has the blocks to which they lead (`after`), mended by the
+//! report's last entry if the job is `run --rebuild`. With other statuses these two say what was written, and what the image has. A
+//! fault is reported only if its object's count of faults rose.
 #![tactic(auto)]
 
 mod analysis;
@@ -27,7 +28,7 @@ mod top;
 mod words;
 
 pub use run_engine::{Finished, Status};
-pub use theorems::one_status_is_due;
+pub use theorems::{good_runs_are_answered, one_status_is_due};
 pub use top::vmsclus;
 
 #[cfg(test)]

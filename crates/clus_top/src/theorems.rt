@@ -1,16 +1,25 @@
-//! A law of the statuses that no code runs: the contract of the function is a theorem.
+//! Laws of the statuses that no code runs: the contract of each function is a theorem.
 
 ghost use Rattle.std.specs.Prelude.{ℕ, List, Option};
 ghost use Rattle.vol_words.specs.Fields.{Block};
 ghost use Rattle.vol_parts.specs.declared.finding.Finding.{Finding};
 ghost use Rattle.vol_parts.specs.Findings.{AreFindings};
 ghost use Rattle.clus_top.specs.Words.{Wanted};
-ghost use Rattle.clus_top.specs.Verdicts.{HasOneVerdict};
+ghost use Rattle.clus_top.specs.Verdicts.{HasOneVerdict, GoodRunsAreAnswered};
 
 /// Of all jobs, scripts, sizes and blocks, whatever is found in these, one status is due, and only one, but for faults and want of
 /// memory, and of a run that is mended then but for whether its volume can be mended.
 pub fn one_status_is_due()
     ensures { (wanted : Option Wanted) (bytes : List ℕ) (size : ℕ) (bs : List Block) (fs : List Finding) → AreFindings bs fs → HasOneVerdict wanted bytes size bs }
+{
+    run_script::a_text_says_one_thing();
+    vol_analyze::findings_are_one_list();
+}
+
+/// A good script that is run on an accepted volume, and a soak on one, ends with status 0, unless a call of an object fails or memory
+/// runs out; or the volume of a run that is mended then cannot be mended.
+pub fn good_runs_are_answered()
+    ensures { GoodRunsAreAnswered }
 {
     run_script::a_text_says_one_thing();
     vol_analyze::findings_are_one_list();
