@@ -1,10 +1,9 @@
 -- The drive under way over committed blocks that are named.
-use Rattle.std.proofs.Common.{◌≡◌, ◌≢◌, ◌≤◌, ◌+◌, ℕ, zero, suc, List, [], ◌∷◌, Option, Some, None, length, take, slice_get, slice_set, refl, sym, ap, subst, ◌∙◌, inl, inr, arith}
+use Rattle.std.proofs.Common.{◌≡◌, ◌≢◌, ◌≤◌, ◌+◌, ℕ, zero, suc, List, [], ◌∷◌, Option, length, take, slice_get, slice_set, refl, sym, ap, subst, ◌∙◌, inl, inr, arith}
 use Rattle.std.proofs.lemmas.Option.{slice_get_within}
 use Rattle.vol_words.specs.Fields.{Block}
-use Rattle.lock_db.specs.declared.name.LockName.{LockName}
 use Rattle.plain_cat.specs.declared.cat.Cat.{Cat}
-use Rattle.vol_owners.specs.Lists.{Has, Touches, StandsIn, written}
+use Rattle.vol_owners.specs.Lists.{Touches, StandsIn, written}
 use Rattle.vol_owners.specs.Owners.{Owners, OwnersMove, IsSpaceMove, Things, Outs}
 use Rattle.vol_owners.proofs.Moving.{moves_grow}
 use Rattle.vol_owners.proofs.Writing.{stands_still}
@@ -12,13 +11,12 @@ use Rattle.vol_parts.specs.declared.geometry.Geometry.{Geometry}
 use Rattle.vol_under.specs.Guards.{Guard, guard_of, MayWrite, MayLook, IsCommandMove}
 use Rattle.vol_under.specs.UnderWay.{PlannedWrite, bare, UnderWay, writes_to, outs_at, idle, changed, AreSole}
 use Rattle.vol_under.specs.Under.{IsLawful}
-use Rattle.vol_under.specs.Keeping.{IsBitmap}
 use Rattle.vol_under.proofs.Guarding.{guard_stays, command_write, command_look, space_look, space_command, alone, unlooked, outs_stay, bitmap_guard}
 use Rattle.vol_under.proofs.Lying.{over_write, over_commit, over_base, over_same}
 use Rattle.vol_under.proofs.Nodes.{each, done_here, done_else, done_alike, writes_next, done_in, next_in, no_writes}
 use Rattle.vol_under.proofs.Steps.{idle_lawful, out_joined}
 use Rattle.vol_under.proofs.Endings.{opens_spelt}
-use Rattle.cache_laws.specs.Committed.{IsUnderOn, AlikeOn, WriteOn, LookOn, PlanOn, QuietOn, LocksOn, OpensOn, CommitOn, AnswersOn, AnswerOn, BitsOn, BitsKeepOn}
+use Rattle.cache_laws.specs.Committed.{IsUnderOn, AlikeOn, WriteOn, LookOn, PlanOn, QuietOn, LocksOn, OpensOn, CommitOn, AnswerOn, BitsKeepOn}
 
 -- ---- the laws of plans
 

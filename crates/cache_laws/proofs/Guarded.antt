@@ -1,8 +1,6 @@
 -- A block that may be cached stays under its lock.
-use Rattle.std.proofs.Common.{◌≡◌, ◌∙◌, ◌⊎◌, ◌/◌, ◌-◌, ◌==◌, ◌<◌, ◌≤◌, ℕ, Bool, true, false, List, Option, Some, None, Result, Ok, Err, slice_get, get_or, if◌then◌else◌, refl, sym, ap, subst, inl, inr, arith}
+use Rattle.std.proofs.Common.{◌≡◌, ◌∙◌, ◌⊎◌, ◌/◌, ◌-◌, ◌==◌, ℕ, Bool, true, false, List, Option, Some, None, Result, Ok, Err, slice_get, get_or, if◌then◌else◌, refl, sym, ap, subst, inl, inr, arith}
 use Rattle.vol_words.specs.Fields.{Block}
-use Rattle.fx_header.specs.declared.run.Run.{Run}
-use Rattle.fx_header.specs.declared.slot.Hdr.{Hdr}
 use Rattle.fx_header.specs.declared.slot.Slot.{Slot as Head}
 use Rattle.fx_header.specs.declared.slot.Slot.TheVariants as head
 use Rattle.fx_header.specs.declared.slot.HeaderFault.{HeaderFault}
@@ -16,7 +14,7 @@ use Rattle.plain_cat.specs.declared.cat.Slot.TheVariants as slot
 use Rattle.plain_laws.proofs.Standing.{stands_from}
 use Rattle.plain_vol.specs.Lookups.{file_in, slot_at, file_at}
 use Rattle.vol_owners.specs.declared.owner.Owner.{Owner}
-use Rattle.vol_owners.specs.declared.owner.Owner.TheVariants.{Free, InFile, Outside, Leaked}
+use Rattle.vol_owners.specs.declared.owner.Owner.TheVariants.{Free, InFile}
 use Rattle.vol_owners.specs.Lists.{Has}
 use Rattle.vol_owners.specs.Owners.{Owners, OwnersMove, IsSpaceMove, IsDeathMove}
 use Rattle.vol_parts.specs.declared.geometry.Geometry.{Geometry}
@@ -24,12 +22,12 @@ use Rattle.vol_parts.specs.declared.geometry.Part.{Part}
 use Rattle.vol_parts.specs.Parts.{part_of}
 use Rattle.vol_parts.specs.Volumes.{fields_in}
 use Rattle.vol_parts.specs.Catalogues.{file_of, slot_with}
-use Rattle.vol_spell.specs.Reading.{IsFileNumber, owner_at, header_block, fields_told, runs_told, clusters_of, clusters_told, told_of, body_blocks}
-use Rattle.vol_spell.specs.Spelling.{Tells, Spells}
+use Rattle.vol_spell.specs.Reading.{IsFileNumber, owner_at, header_block, fields_told, runs_told, clusters_of, told_of, body_blocks}
+use Rattle.vol_spell.specs.Spelling.{Spells}
 use Rattle.vol_spell.proofs.Parts.{slot_there, told}
-use Rattle.vol_under.specs.Guards.{Guard, Lock, guard_by_owner, guard_by, guard_of, lock_of_part}
+use Rattle.vol_under.specs.Guards.{Guard, Lock, guard_by, guard_of, lock_of_part}
 use Rattle.op_law.specs.Laws.{IsCacheable, Fixed, OfDirectory, is_dir_told, KeepsRuns, Freed, NoDir, Same}
-use Rattle.cache_laws.specs.Staying.{IsGuarded, HeadsStay, IsFreed, DirsStay, SpacesStay, DeathsStay}
+use Rattle.cache_laws.specs.Staying.{IsGuarded, IsFreed, DirsStay, SpacesStay, DeathsStay}
 
 -- ---- guards
 

@@ -1,5 +1,5 @@
 -- The headers after writes that leave the runs of directories.
-use Rattle.std.proofs.Common.{◌≡◌, ◌≢◌, ◌<◌, ◌≤◌, ◌⊎◌, ◌∙◌, ℕ, zero, suc, Bool, true, false, List, [], ◌∷◌, Option, Some, None, Result, Ok, Err, length, map, slice_get, slice_set, length-set, refl, sym, ap, subst, inl, inr, arith}
+use Rattle.std.proofs.Common.{◌≡◌, ◌<◌, ◌⊎◌, ◌∙◌, ℕ, zero, suc, Bool, true, false, List, [], ◌∷◌, Option, Some, None, Result, Ok, length, map, slice_get, slice_set, length-set, refl, sym, ap, subst, inl, inr, arith}
 use Rattle.std.specs.Prelude.{slice_index_or}
 use Rattle.std.proofs.lemmas.Option.{slice_get_within}
 use Rattle.vol_words.specs.Fields.{Block}
@@ -25,7 +25,7 @@ use Rattle.vol_under.specs.Guards.{Guard, Lock, Stock, guard_by, guard_of}
 use Rattle.vol_under.specs.UnderWay.{bare}
 use Rattle.op_law.specs.declared.need.PlanWrite.{PlanWrite}
 use Rattle.op_law.specs.Laws.{planned, AreNamed, is_dir_told, KeepsRuns, NoDir, Same, LeavesDirs}
-use Rattle.cache_laws.specs.Staying.{IsGuarded, HeadsStay, IsFreed, HeadsLeft, IsFreedBy, GuardedOrFreed}
+use Rattle.cache_laws.specs.Staying.{HeadsStay, IsFreed, HeadsLeft, IsFreedBy, GuardedOrFreed}
 use Rattle.cache_laws.proofs.Guarded.{dirs_stay}
 
 -- ---- a block after writes

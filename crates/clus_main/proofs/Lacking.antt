@@ -1,5 +1,5 @@
 -- Want of memory before the call: that status is due of all words, and the image has what it had.
-use Rattle.std.proofs.Common.{◌≡◌, ℕ, List, Option, Some, None, refl, inl}
+use Rattle.std.proofs.Common.{ℕ, List, Option, Some, None, refl, inl}
 use Rattle.vol_words.specs.Fields.{Block}
 use Rattle.run_engine.specs.declared.status.Status.TheVariants as status
 use Rattle.clus_top.specs.Words.{Wanted, Run, RunRebuild, Soak, Analyze, Rebuild, Init}

@@ -5,9 +5,10 @@ use Rattle.vol_words.specs.Faults.{Rose}
 use Rattle.run_engine.specs.declared.status.Status.{Status}
 use Rattle.run_engine.specs.declared.status.Status.TheVariants as ended
 use Rattle.run_engine.specs.Statuses.{status_code}
+use Rattle.run_top.specs.Statuses.{Writes}
 use Rattle.clus_top.specs.Words.{wanted_by}
 use Rattle.clus_top.specs.Images.{IsImageAfter, IsFaultTextOf}
-use Rattle.clus_top.specs.Statuses.{IsDue, IsTextOf, Writes}
+use Rattle.clus_top.specs.Statuses.{IsDue, IsTextOf}
 
 -- what a call finds: its words, the bytes of the script that are left, the image's size and its blocks, each where it is told, and how
 -- many calls of the script, the image and the sink had failed

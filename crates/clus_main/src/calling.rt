@@ -1,8 +1,8 @@
 ghost use Rattle.std.specs.Prelude.{◌≡◌, IfOk, map, string_bytes};
 ghost use Rattle.std.specs.Process.{exit_status};
-ghost use Rattle.clus_top.specs.Statuses.{IsWritten, status_text};
 ghost use Rattle.run_engine.specs.Statuses.{status_code};
 ghost use Rattle.clus_main.specs.Calls.{IsEnd};
+ghost use Rattle.run_top.specs.Statuses.{IsWritten, status_text};
 
 use blk_drive::ImageDev;
 use clus_top::{Status, vmsclus};
@@ -11,8 +11,8 @@ use plain_cat::NoMemory;
 use std::alloc::Global;
 use std::process::ExitCode;
 
-// The words of a command line as those of a call.
-fn words_of(alloc: Global, line: &[String]) -> Result<Vec<Word>, NoMemory>
+/// The words of a command line as those of a call.
+pub fn words_of(alloc: Global, line: &[String]) -> Result<Vec<Word>, NoMemory>
     ensures { IfOk result (λ words. words.items ≡ map string_bytes line.now) }
 {
     let mut words = Vec::new(alloc);
@@ -22,15 +22,15 @@ fn words_of(alloc: Global, line: &[String]) -> Result<Vec<Word>, NoMemory>
     Ok(words)
 }
 
-// The number of a status.
-fn exit_code(status: &Status) -> ExitCode
+/// The number of a status.
+pub fn exit_code(status: &Status) -> ExitCode
     ensures { exit_status result ≡ status_code status.now }
 {
     ExitCode::from(status.code())
 }
 
 /// Where memory runs out before the call: writes the text of that status, and answers its number.
-#[tactic(auto, unfolding(clus_top::specs::Statuses::status_text))]
+#[tactic(auto, unfolding(run_top::specs::Statuses::status_text))]
 pub fn no_memory<O: TextOut>(out: &mut O) -> ExitCode
     ensures number { exit_status result ≡ status_code Status.NoMemory }
     ensures text { IsWritten (O.written out.old) (O.written out.new) (O.faults out.old) (O.faults out.new) (status_text Status.NoMemory) }

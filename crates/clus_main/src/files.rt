@@ -10,8 +10,8 @@ use std::process::ExitCode;
 use std::rt::{Env, Files};
 use std::{env, fs, io};
 
-// The words of the command line behind the program's name. Words that are no text are none.
-fn line_of<R: Env + AllocGlobal>(rt: &R) -> Result<Vec<String>, NoMemory> {
+/// The words of the command line behind the program's name. Words that are no text are none.
+pub fn line_of<R: Env + AllocGlobal>(rt: &R) -> Result<Vec<String>, NoMemory> {
     let mut line = Vec::new(rt.alloc());
     match env::args(rt) {
         Ok(args) => {
@@ -34,8 +34,11 @@ fn image_options() -> OpenOptions
     options
 }
 
-// The image in a file, or one without a file where the file does not open.
-fn image_at<R: Files + AllocGlobal>(rt: &R, path: &str) -> Result<FileImage<R::File>, NoMemory> {
+/// The image in a file, or one without a file where the file does not open.
+pub fn image_at<R: Files + AllocGlobal>(
+    rt: &R,
+    path: &str,
+) -> Result<FileImage<R::File>, NoMemory> {
     match image_options().open(rt, path) {
         Ok(file) => FileImage::new(rt.alloc(), file),
         Err(_) => Ok(FileImage::absent()),

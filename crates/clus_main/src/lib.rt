@@ -1,7 +1,8 @@
 //! The program around the top call: it opens the image and the script, hands the words of the job on, and ends with the number of
 //! the status.
 //!
-//! It has no types of its own. `run` is the whole program, `exit_call` the part over any image, script and sink.
+//! It has no types of its own. `run` is the whole program, `exit_call` the part over any image, script and sink. The others are what the live
+//! program takes from it.
 //!
 //! ```text
 //! exit_call(rt.alloc(), job, image, &mut script, &mut out)
@@ -16,8 +17,8 @@
 mod calling;
 mod files;
 
-pub use calling::{exit_call, no_memory};
-pub use files::run;
+pub use calling::{exit_call, exit_code, no_memory, words_of};
+pub use files::{image_at, line_of, run};
 
 #[cfg(test)]
 mod tests;

@@ -9,13 +9,12 @@ use Rattle.plain_cat.specs.declared.script.Script.{Script}
 use Rattle.plain_cat.specs.declared.history.Stage.{Stage}
 use Rattle.plain_cat.specs.declared.history.Entry.{Entry}
 use Rattle.plain_cat.specs.declared.history.Entry.TheVariants.{Done, Died, Mended}
-use Rattle.plain_vol.specs.Own.{Killed}
+use Rattle.plain_vol.specs.Own.{Killed, is_mending}
 use Rattle.core_state.specs.Worlds.{NodeState, Plain, node_at}
 use Rattle.core_state.specs.Event.{Event}
 use Rattle.core_state.specs.Event as event
-use Rattle.core_state.specs.Deaths.{death_of, comes_at, kills, kills_at, is_due, died_at, died, after_step}
+use Rattle.core_state.specs.Deaths.{comes_at, kills, kills_at, is_due, died_at, died, after_step}
 use Rattle.core_state.specs.Events.{would_go, asked_by, readied_at, readied, next_event, happens, happen_at, after_turn, is_over}
-use Rattle.clus_top.specs.Runs.{is_mending}
 
 -- nodes die only where the script kills them, and nothing is mended
 abbrev IsOrderly : Script → List Entry → Type 0

@@ -1,25 +1,17 @@
 -- A run of a script on an image: what is said of the blocks of its drive is said of those that the image told.
-use Rattle.std.proofs.Common.{◌≡◌, ◌≤◌, ℕ, List, Option, Some, None, IfSome, subst, arith, inl, inr}
+use Rattle.std.proofs.Common.{◌≡◌, ◌≤◌, ℕ, List, Option, IfSome, inl, inr}
 use Rattle.vol_words.specs.Fields.{Block}
-use Rattle.vol_words.specs.Faults.{Rose}
 use Rattle.blk_drive.specs.Images.{IsInside}
 use Rattle.plain_cat.specs.declared.script.Script.{Script}
 use Rattle.vol_parts.specs.Findings.{Accepts}
 use Rattle.vol_analyze.specs.Judging.{IsFirstFound}
 use Rattle.run_engine.specs.declared.status.Status.{Status}
 use Rattle.run_engine.specs.declared.status.Status.TheVariants as status
-use Rattle.clus_top.specs.declared.run.Stop.{Stop}
-use Rattle.clus_top.specs.declared.run.Stop.TheVariants as stop
+use Rattle.run_top.specs.declared.stop.Stop.{Stop}
+use Rattle.run_top.specs.declared.stop.Stop.TheVariants as stop
+use Rattle.run_top.proofs.Given.{of_told, rose_later}
 use Rattle.clus_top.specs.declared.run.Printed.{Printed}
 use Rattle.clus_top.specs.Ends.{IsEndIn, IsLackingIn, IsCutIn, IsCutShortIn, IsStopIn, IsStopBy, IsImageEnd, IsImageStop}
-
--- what holds of blocks holds of the told ones that they are
-pub of_told : (P : List Block → Type 0) (told : Option (List Block)) (blocks : List Block) → IfSome told (λ bs. blocks ≡ bs) → P blocks → IfSome told P
-of_told P None blocks same h = tt
-of_told P (Some bs) blocks same h = subst P same h
-
-pub rose_later : (had before now : ℕ) → had ≤ before → Rose before now → Rose had now
-rose_later had before now le rose = omega arith
 
 module _ (script : Script) (size : ℕ) (told new : Option (List Block)) (blocks : List Block) (same : IfSome told (λ bs. blocks ≡ bs)) where
   pub accepted_on : (what : Printed) (text : List ℕ) → IsEndIn what script blocks told new text → IfSome told Accepts

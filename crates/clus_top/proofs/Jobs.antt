@@ -1,16 +1,19 @@
 -- A run of the script of a job: what is printed of it, and what the image has.
-use Rattle.std.proofs.Common.{◌≡◌, ℕ, List, Option, Some, None, IfSome, refl, inl, inr}
+use Rattle.std.proofs.Common.{ℕ, List, Option, Some, None, IfSome, refl, inl, inr}
 use Rattle.vol_words.specs.Fields.{Block}
 use Rattle.plain_cat.specs.declared.script.Script.{Script}
 use Rattle.run_engine.specs.declared.status.Status.{Status}
 use Rattle.run_engine.specs.declared.status.Status.TheVariants as status
-use Rattle.clus_top.specs.Runs.{IsScriptOf, IsSoakOf, HasRunToEnd, IsReport, IsSummary}
-use Rattle.clus_top.specs.Statuses.{IsGood, IsReportOn, IsSummaryOn, status_text}
-use Rattle.clus_top.specs.declared.run.Stop.{Stop}
-use Rattle.clus_top.specs.declared.run.Stop.TheVariants as stop
+use Rattle.run_top.specs.Scripts.{IsScriptOf, SpellsWithin}
+use Rattle.run_top.specs.Statuses.{status_text}
+use Rattle.run_top.proofs.Given.{good}
+use Rattle.clus_top.specs.Runs.{IsSoakOf, HasRunToEnd, IsReport}
+use Rattle.clus_top.specs.Statuses.{IsReportOn, IsSummaryOn}
+use Rattle.run_top.specs.declared.stop.Stop.{Stop}
+use Rattle.run_top.specs.declared.stop.Stop.TheVariants as stop
 use Rattle.clus_top.specs.declared.run.Printed.{Printed}
 use Rattle.clus_top.specs.declared.run.Printed.TheVariants as printed
-use Rattle.clus_top.specs.Ends.{SpellsWithin, IsDriveIn, IsEndIn, IsLackingIn, IsCutIn, IsCutShortIn, IsImageEnd, IsImageStop, IsRunEnd, IsRunStop, IsSoakEnd, IsSoakStop, IsQuietImage, IsStopImage}
+use Rattle.clus_top.specs.Ends.{IsDriveIn, IsEndIn, IsLackingIn, IsCutIn, IsCutShortIn, IsImageEnd, IsImageStop, IsRunEnd, IsRunStop, IsSoakEnd, IsSoakStop, IsQuietImage, IsStopImage}
 use Rattle.clus_top.proofs.Stopping.{run_stops, torn_stops}
 use Rattle.clus_top.specs.Images.{IsDriveOf, IsLastDriveOf, IsLackingDriveOf, IsCutOf, IsCutShort}
 
@@ -87,15 +90,6 @@ module _ (IsGiven : Script → Type 0) (script : Script) (given : IsGiven script
   reported bs new text h = record { ran = ran_to_end printed.Report bs new text h; written = h.written }
 
 -- ---- a script that is read
-
-pub spells : (left : Option (List ℕ)) (script : Script) → IfSome left (SpellsWithin script) → IsScriptOf left script
-spells None script h = tt
-spells (Some bytes) script h = h.spelt
-
--- a text that spells a script is good
-pub good : (left : Option (List ℕ)) (script : Script) → IfSome left (SpellsWithin script) → IfSome left IsGood
-good None script h = tt
-good (Some bytes) script h = record { within = h.within; script = script; spelt = h.spelt }
 
 pub report_on : (left : Option (List ℕ)) (script : Script) (told new : Option (List Block)) (text : List ℕ) → IsScriptOf left script
     → IfSome told (λ bs. IsEndIn printed.Report script bs told new text) → IsReportOn left told new text

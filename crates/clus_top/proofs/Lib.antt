@@ -1,8 +1,5 @@
-pub mod Commands
-pub mod Walked
 pub mod Used
 pub mod Answered
-pub mod MountedVolumes
 pub mod Reported
 pub mod Imaged
 pub mod Stopping

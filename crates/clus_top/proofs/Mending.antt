@@ -14,11 +14,12 @@ use Rattle.vol_rebuild.specs.Rebuilt.{IsRebuilt, IsRefusal}
 use Rattle.vol_rebuild.specs.Ways.{Shows, told_as, IsWay, IsAhead}
 use Rattle.run_engine.specs.declared.status.Status.{Status}
 use Rattle.run_engine.specs.declared.status.Status.TheVariants as status
-use Rattle.clus_top.specs.Ends.{load_status, rebuild_status, IsRebuildEnd}
+use Rattle.run_top.specs.Stops.{load_status}
+use Rattle.run_top.proofs.Given.{of_told, rose_later}
+use Rattle.clus_top.specs.Ends.{rebuild_status, IsRebuildEnd}
 use Rattle.clus_top.specs.Images.{IsRebuildImage}
 use Rattle.clus_top.specs.Mendings.{mending_text, IsMendedImage, IsMendingText, IsStillToMend}
 use Rattle.vol_rebuild.proofs.Stepping.{way_mends}
-use Rattle.clus_top.proofs.Imaged.{of_told, rose_later}
 
 -- the image of which a text tells
 pub image_told : (told new : Option (List Block)) (text : List ℕ) → IfSome told (λ bs. IsMendingText bs new text) → IfSome told (λ bs. IsMendedImage bs new)

@@ -1,20 +1,15 @@
 -- The report of a run is the report of a history that replays, and the image has what the run wrote.
-use Rattle.std.proofs.Common.{◌≡◌, ◌∙◌, ◌≤◌, ◌⊎◌, ℕ, true, List, Option, Some, None, Result, Ok, Err, IfOk, IfErr, IfSome, All, length, refl, sym, ap, subst, arith, inl, inr}
+use Rattle.std.proofs.Common.{◌≡◌, ◌∙◌, ◌⊎◌, ℕ, true, List, Option, Result, Err, All, length, refl, sym, ap, subst, arith, inl, inr}
 use Rattle.std.specs.Prelude.{slice_index_or, OnErr}
 use Rattle.vol_words.specs.Fields.{Block}
 use Rattle.vol_words.specs.Faults.{Rose}
-use Rattle.blk_drive.specs.Images.{IsInside}
 use Rattle.plain_cat.specs.declared.cat.Cat.{Cat}
 use Rattle.plain_cat.specs.declared.script.Script.{Script}
-use Rattle.plain_vol.specs.Lookups.{free_clusters}
 use Rattle.plain_vol.specs.Own.{Whole, Killed}
 use Rattle.plain_vol.specs.Replaying.{Replays}
 use Rattle.vol_parts.specs.declared.geometry.Geometry.{Geometry}
-use Rattle.vol_analyze.specs.Judging.{IsFirstFound}
 use Rattle.plain_cat.specs.InForm.{InForm, is_within}
 use Rattle.run_script.proofs.Pieces.{limits}
-use Rattle.run_script.specs.Lines.{lines_of}
-use Rattle.run_script.specs.Spelling.{SpellsScript}
 use Rattle.core_state.specs.Images.{told_as}
 use Rattle.core_state.specs.Worlds.{Plain, IsOfWorld}
 use Rattle.core_state.specs.Goods.{Good}
@@ -24,27 +19,19 @@ use Rattle.core_state.specs.declared.mounting.MountFault.TheVariants as mount
 use Rattle.run_engine.specs.declared.fault.RunFault.{RunFault}
 use Rattle.run_engine.specs.declared.fault.RunFault.TheVariants as run
 use Rattle.run_engine.specs.Walks.{played, budget_of, IsPartOfWalk, IsRotatedIn, AllOver, IsNextIn, IsBeforeWrite, IsBeforeTaking, Stays}
-use Rattle.run_engine.specs.Reports.{report_bytes}
 use Rattle.run_engine.specs.Ended.{IsSpelt, HasEnded}
 use Rattle.run_engine.proofs.Driving.{told_well}
-use Rattle.run_engine.specs.declared.status.Status.{Status}
-use Rattle.run_engine.specs.declared.status.Status.TheVariants as status
+use Rattle.run_top.specs.Stops.{IsStopOf, mount_status}
+use Rattle.run_top.proofs.Results.{on_err, same_err}
 use Rattle.clus_top.specs.Runs.{HasRun, LacksMemory}
-use Rattle.clus_top.specs.declared.run.Stop.{Stop}
-use Rattle.clus_top.specs.declared.run.Stop.TheVariants as stop
+use Rattle.run_top.specs.declared.stop.Stop.{Stop}
+use Rattle.run_top.specs.declared.stop.Stop.TheVariants as stop
 use Rattle.clus_top.specs.declared.run.Printed.{Printed}
-use Rattle.clus_top.specs.Ends.{printed_text, IsWholeIn, IsDriveIn, IsEndIn, IsLackingIn, IsCutIn, IsStopIn, IsStopBy, IsStopOf, mount_status}
-use Rattle.clus_top.proofs.Walked.{over_walk}
+use Rattle.clus_top.specs.Ends.{printed_text, IsWholeIn, IsDriveIn, IsEndIn, IsLackingIn, IsCutIn, IsStopIn, IsStopBy}
+use Rattle.run_top.proofs.Walked.{over_walk}
 use Rattle.clus_top.proofs.Used.{walk_uses}
 use Rattle.clus_top.proofs.Answered.{IsAnswered, step_keeps}
-use Rattle.clus_top.proofs.MountedVolumes.{mounted_geometry}
-
--- what is said of an error
-pub on_err : {A E : Type 0} (r : Result A E) (e : E) (P : Type 0) → r ≡ Err e → OnErr r P → P
-on_err r e P is h = subst (λ x. OnErr x P) is h
-
-pub same_err : {A E : Type 0} (r : Result A E) (f k : E) → r ≡ Err f → r ≡ Err k → f ≡ k
-same_err r f k is other = cc
+use Rattle.run_top.proofs.MountedVolumes.{mounted_geometry}
 
 -- ---- a run on a mounted volume
 
@@ -160,11 +147,3 @@ of_world w n count h = let l = limits 1 w.script.nodes n h in record { from = l.
 -- the plays of a script are of the nodes of its world
 pub plays_of_world : (w : Plain) → length w.nodes ≡ w.script.nodes → InForm w.script → All (IsOfWorld w) w.script.plays
 plays_of_world w count form = λ k d lt. of_world w (slice_index_or w.script.plays k d) count (form.plays k d lt)
-
-pub if_err : {A E : Type 0} (r : Result A E) (P Q : E → Type 0) → ((x : E) → P x → Q x) → IfErr r P → IfErr r Q
-if_err (Ok x) P Q f h = h
-if_err (Err e) P Q f h = f e h
-
-pub if_ok : {A E : Type 0} (r : Result A E) (P Q : A → Type 0) → ((x : A) → P x → Q x) → IfOk r P → IfOk r Q
-if_ok (Ok x) P Q f h = f x h
-if_ok (Err e) P Q f h = h

@@ -10,7 +10,7 @@ use Rattle.xqp_set.proofs.Every.{every_lawful}
 use Rattle.stopped_runs.specs.Stops.{CanStop, IsTornRun}
 use Rattle.stopped_runs.proofs.Stopping.{runs_can_stop, torn_runs_can_stop}
 use Rattle.clus_top.specs.Runs.{HasRun}
-use Rattle.clus_top.proofs.Commands.{only_built}
+use Rattle.run_top.proofs.Commands.{only_built}
 
 -- a volume that is mounted is accepted
 starts_accepted : (bs : List Block) (script : Script) (start : Plain) → IsMounted bs script start → IsAccepted start.opening

@@ -1,21 +1,19 @@
 -- A run whose drive is mended then: what its status, its text and its image say where it is not mended.
-use Rattle.std.proofs.Common.{◌≡◌, ◌∙◌, ◌⊎◌, ℕ, List, Option, Result, Err, IfErr, refl, sym, subst, inl, inr}
+use Rattle.std.proofs.Common.{◌≡◌, ◌∙◌, ◌⊎◌, ℕ, List, Option, refl, sym, subst, inl, inr}
 use Rattle.vol_words.specs.Fields.{Block}
 use Rattle.vol_words.specs.Faults.{Rose}
 use Rattle.plain_cat.specs.declared.script.Script.{Script}
 use Rattle.run_engine.specs.declared.status.Status.{Status}
 use Rattle.run_engine.specs.declared.status.Status.TheVariants as status
-use Rattle.clus_top.specs.declared.run_rebuild.Halt.{Halt}
-use Rattle.clus_top.specs.declared.run_rebuild.Halt.TheVariants as halt
-use Rattle.clus_top.specs.Statuses.{IsRunRebuildDue, status_text, IsWritten, Writes}
+use Rattle.run_top.specs.declared.mending.Halt.{Halt}
+use Rattle.run_top.specs.declared.mending.Halt.TheVariants as halt
+use Rattle.run_top.specs.Statuses.{status_text, IsWritten, Writes}
+use Rattle.run_top.specs.Halts.{IsToldHalt}
+use Rattle.clus_top.specs.Statuses.{IsRunRebuildDue}
 use Rattle.clus_top.specs.Images.{IsMendedFaultText, IsRunRebuildImage}
 use Rattle.clus_top.specs.Ends.{IsRunEnd}
-use Rattle.clus_top.specs.Halts.{IsRunHalt, IsQuietHalt, IsHaltImage, IsToldHalt}
+use Rattle.clus_top.specs.Halts.{IsRunHalt, IsQuietHalt, IsHaltImage}
 use Rattle.clus_top.proofs.Halting.{cut_left, unmended_left}
-
--- what is said of an error
-pub err_is : {A E : Type 0} (r : Result A E) (e : E) (P : E → Type 0) → r ≡ Err e → IfErr r P → P e
-err_is r e P is h = subst (λ x. IfErr x P) is h
 
 module _ (left : Option (List ℕ)) (size : ℕ) (told new : Option (List Block)) (read reading had has : ℕ) (old now : Option (List ℕ)) (before after : ℕ) where
   -- ---- the status

@@ -1,19 +1,18 @@
 -- In a run each cached block that a turn uses is the drive's.
-use Rattle.std.proofs.Common.{◌≡◌, ℕ, false, List, Option, Some, None, take, sym, ap, subst, inl, inr}
+use Rattle.std.proofs.Common.{◌≡◌, ℕ, List, Option, Some, None, ap, subst}
 use Rattle.plain_cat.specs.declared.command.Cmd.{Cmd}
 use Rattle.plain_vol.specs.Own.{next_command}
 use Rattle.op_law.specs.Laws.{Lawful}
 use Rattle.xqp_set.proofs.Every.{every_lawful}
-use Rattle.core_state.specs.Worlds.{NodeState, Plain, node_at, or_next, current}
+use Rattle.core_state.specs.Worlds.{Plain, or_next}
 use Rattle.core_state.specs.Goods.{HasCommand, Good}
 use Rattle.core_state.specs.Deaths.{after_step}
-use Rattle.core_state.specs.Uses.{UsesTheDrives}
 use Rattle.core_state.proofs.Uses.{uses_right}
 use Rattle.stopped_worlds.specs.Laws.{GoesLawfully}
 use Rattle.stopped_worlds.proofs.Worlds.{steps_keep_the_rules}
 use Rattle.run_engine.specs.Walks.{IsPartOfWalk, WalkUsesTheDrives}
-use Rattle.clus_top.proofs.Commands.{only_built}
-use Rattle.clus_top.proofs.Walked.{over_plays, over_walk}
+use Rattle.run_top.proofs.Commands.{only_built}
+use Rattle.run_top.proofs.Walked.{over_part}
 
 -- a node's command is in form, as the script is, and so it obeys the law
 goes_lawfully : (w : Plain) → Good w → (n : ℕ) → GoesLawfully w n
@@ -32,8 +31,7 @@ step_keeps w n good = steps_keep_the_rules w n good (goes_lawfully w good n)
 
 -- wherever a run stops, the world keeps the rules
 walk_keeps : (start : Plain) → Good start → (plays : List ℕ) (w : Plain) → IsPartOfWalk start plays w → Good w
-walk_keeps start good plays w (inl p) = subst Good (sym p.1) (over_plays Good step_keeps (take p.0 plays) start good)
-walk_keeps start good plays w (inr walk) = over_walk Good step_keeps start plays w walk good
+walk_keeps start good plays w part = over_part Good step_keeps start plays w part good
 
 pub walk_uses : (start : Plain) → Good start → (plays : List ℕ) → WalkUsesTheDrives start plays
 walk_uses start good plays w n part =

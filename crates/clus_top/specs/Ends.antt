@@ -1,59 +1,39 @@
 -- How the steps of a job end.
-use Rattle.std.specs.Prelude.{◌≡◌, ◌≤◌, ◌⊎◌, ℕ, false, List, [], ◌∷◌, Option, Some, IfSome, length}
+use Rattle.std.specs.Prelude.{◌≡◌, ◌⊎◌, ℕ, false, List, [], ◌∷◌, Option, Some, IfSome}
 use Rattle.std.specs.List.{list_any}
 use Rattle.vol_words.specs.Fields.{Block}
 use Rattle.vol_words.specs.Faults.{Rose}
 use Rattle.blk_drive.specs.Images.{IsInside, IsOutside}
-use Rattle.blk_drive.specs.declared.mirror.LoadFault.{LoadFault}
-use Rattle.blk_drive.specs.declared.mirror.LoadFault.TheVariants as load
 use Rattle.fx_home.specs.Homes.{home_read}
 use Rattle.plain_cat.specs.declared.cat.Cat.{Cat}
 use Rattle.plain_cat.specs.declared.script.Script.{Script}
-use Rattle.plain_vol.specs.Own.{Whole, Killed}
+use Rattle.plain_vol.specs.Own.{Whole, Killed, is_mending}
 use Rattle.plain_vol.specs.Replaying.{Replays}
-use Rattle.core_state.specs.declared.mounting.MountFault.{MountFault}
-use Rattle.core_state.specs.declared.mounting.MountFault.TheVariants as mount
 use Rattle.core_state.specs.Worlds.{Plain}
 use Rattle.core_state.specs.Images.{told_as}
-use Rattle.run_engine.specs.declared.fault.RunFault.{RunFault}
-use Rattle.run_engine.specs.declared.fault.RunFault.TheVariants as run
 use Rattle.run_engine.specs.Walks.{played, budget_of, AllOver, IsRotatedIn, IsNextIn, IsBeforeWrite}
 use Rattle.run_engine.specs.Ended.{IsSpelt}
 use Rattle.vol_parts.specs.declared.finding.Finding.{Finding}
 use Rattle.vol_parts.specs.declared.geometry.Geometry.{Geometry}
 use Rattle.vol_parts.specs.Findings.{home_at, AreFindings, Accepts, CatOf, IsFirstFatal}
 use Rattle.vol_faults.specs.Free.{IsGeometryBy}
-use Rattle.run_script.specs.Lines.{lines_of}
-use Rattle.run_script.specs.Spelling.{SpellsScript}
 use Rattle.vol_analyze.specs.Judging.{IsFirstFound}
-use Rattle.clus_top.specs.declared.run.Stop.{Stop}
-use Rattle.clus_top.specs.declared.run.Stop.TheVariants as stop
+use Rattle.run_top.specs.declared.stop.Stop.{Stop}
+use Rattle.run_top.specs.declared.stop.Stop.TheVariants as stop
+use Rattle.run_top.specs.Stops.{report_text}
+use Rattle.run_top.specs.Statuses.{IsTooLong, IsBad, IsOverfull, IsGood, status_text, cut_text}
 use Rattle.clus_top.specs.declared.run.Printed.{Printed}
 use Rattle.clus_top.specs.declared.run.Printed.TheVariants as printed
 use Rattle.run_engine.specs.declared.status.Status.{Status}
 use Rattle.run_engine.specs.declared.status.Status.TheVariants as status
-use Rattle.clus_top.specs.Runs.{is_mending, report_text, summary_text, HasRun, LacksMemory}
+use Rattle.clus_top.specs.Runs.{summary_text, HasRun, LacksMemory}
 use Rattle.vol_init.specs.declared.fault.InitFault.{InitFault}
 use Rattle.vol_init.specs.declared.fault.InitFault.TheVariants as fault
 use Rattle.vol_init.specs.Refusals.{refusal}
 use Rattle.vol_rebuild.specs.declared.fault.RebuildFault.{RebuildFault}
 use Rattle.vol_rebuild.specs.declared.fault.RebuildFault.TheVariants as rebuild
-use Rattle.clus_top.specs.Statuses.{IsTooLong, IsBad, IsOverfull, IsGood, sized, status_text, cut_text}
+use Rattle.clus_top.specs.Statuses.{sized}
 use Rattle.clus_top.specs.Images.{IsLackingDriveOf, IsCutShort}
-
--- a text within its limit spells this script
-pub record SpellsWithin (script : Script) (bytes : List ℕ) : Type 0 where
-  pub within : length bytes ≤ 1048576
-  pub spelt : SpellsScript (lines_of bytes) script
-
--- why a text gave no script
-abbrev pub IsScriptEnd : Option (List ℕ) → ℕ → ℕ → Status → Type 0
-IsScriptEnd left before now status.ScriptFault = Rose before now
-IsScriptEnd left before now status.ScriptTooLong = IfSome left IsTooLong
-IsScriptEnd left before now (status.BadScript n) = IfSome left (IsBad n)
-IsScriptEnd left before now status.TooMany = IfSome left IsOverfull
-IsScriptEnd left before now status.NoMemory = Unit {0}
-IsScriptEnd left before now s = ⊥
 
 -- what is printed of a world whose history leads to a catalogue
 abbrev pub printed_text : Printed → Plain → Cat → List ℕ
@@ -116,24 +96,6 @@ abbrev pub IsStopBy : Script → List Block → Option (List Block) → Option (
 IsStopBy script bs told new had has (stop.Cut text) = Rose had has × IsCutShortIn script bs told new text.items
 IsStopBy script bs told new had has stop.Bare = Rose had has × IsCutIn script bs told new
 IsStopBy script bs told new had has (stop.By s) = IsStopIn script bs told new s
-
--- how a run that stopped by a fault is told
-abbrev pub IsStopOf : Plain → RunFault → Stop → Type 0
-IsStopOf w run.ImageFault (stop.Cut text) = text.items ≡ cut_text w.history
-IsStopOf w run.ImageFault stop.Bare = Unit {0}
-IsStopOf w run.ImageFault (stop.By s) = ⊥
-IsStopOf w run.NoMemory r = r ≡ stop.By status.NoMemory
-
--- the status of a mount
-abbrev pub mount_status : MountFault → Status
-mount_status (mount.NotAccepted f) = status.NotAccepted f
-mount_status mount.NoMemory = status.NoMemory
-
--- the status of a load
-abbrev pub load_status : LoadFault → Status
-load_status load.ImageFault = status.ImageFault
-load_status (load.BadSize n) = status.BadSize n
-load_status load.NoMemory = status.NoMemory
 
 -- Why a script came to no end on an image, but for a write that failed, of the load or of the blocks, and what the image has then.
 abbrev pub IsImageEnd : Script → ℕ → Option (List Block) → Option (List Block) → ℕ → ℕ → Status → Type 0

@@ -9,11 +9,12 @@ use Rattle.run_engine.specs.declared.status.Status.TheVariants as status
 use Rattle.plain_cat.specs.declared.script.Script.{Script}
 use Rattle.core_state.specs.Worlds.{Plain}
 use Rattle.run_engine.specs.Walks.{AllOver, IsNextIn, IsBeforeWrite}
+use Rattle.run_top.specs.Scripts.{IsScriptOf}
+use Rattle.run_top.specs.Statuses.{status_text, cut_text, unmended_text, IsPlainText}
 use Rattle.stopped_runs.specs.Stops.{CanStop, IsTornRun}
 use Rattle.clus_top.specs.Words.{Wanted, Run, RunRebuild, Soak, Analyze, Rebuild, Init}
-use Rattle.clus_top.specs.Runs.{IsScriptOf, IsSoakOf, HasRun, LacksMemory}
+use Rattle.clus_top.specs.Runs.{IsSoakOf, HasRun, LacksMemory}
 use Rattle.vol_parts.specs.declared.finding.Finding.{Finding}
-use Rattle.clus_top.specs.Statuses.{status_text, cut_text, unmended_text, IsPlainText}
 use Rattle.clus_top.specs.Mendings.{IsMendedImage, IsStillToMend}
 use Rattle.clus_top.specs.MendedRuns.{HasRunAndMended, IsPartlyMended, IsUnmended}
 

@@ -1,40 +1,26 @@
 -- What a run of a script answers on a volume.
-use Rattle.std.specs.Prelude.{◌≡◌, ◌⊎◌, ℕ, Bool, true, false, List, Option, Some, IfSome}
+use Rattle.std.specs.Prelude.{◌≡◌, ◌⊎◌, ℕ, false, List, Option, Some}
 use Rattle.std.specs.List.{list_any}
 use Rattle.vol_words.specs.Fields.{Block}
 use Rattle.fx_home.specs.Homes.{home_read}
 use Rattle.plain_cat.specs.declared.script.Script.{Script}
-use Rattle.plain_cat.specs.declared.history.Entry.{Entry}
-use Rattle.plain_cat.specs.declared.history.Entry.TheVariants.{Done, Died, Mended}
 use Rattle.plain_cat.specs.declared.cat.Cat.{Cat}
 use Rattle.plain_vol.specs.Lookups.{free_clusters}
-use Rattle.plain_vol.specs.Own.{Whole, Killed}
+use Rattle.plain_vol.specs.Own.{Whole, Killed, is_mending}
 use Rattle.plain_vol.specs.Replaying.{Replays}
 use Rattle.vol_parts.specs.declared.geometry.Geometry.{Geometry}
 use Rattle.vol_parts.specs.Findings.{home_at, Accepts, CatOf}
 use Rattle.vol_faults.specs.Free.{IsGeometryBy}
-use Rattle.run_script.specs.Lines.{lines_of}
-use Rattle.run_script.specs.Spelling.{SpellsScript}
 use Rattle.run_script.specs.Soaks.{soak_script}
 use Rattle.core_state.specs.Worlds.{Plain}
 use Rattle.core_state.specs.Goods.{Good}
 use Rattle.core_state.specs.Mounting.{IsMounted}
 use Rattle.run_engine.specs.Walks.{played, budget_of, IsPartOfWalk, WalkUsesTheDrives, IsRotatedIn, AllOver, IsNextIn, IsBeforeTaking}
 use Rattle.run_engine.specs.Ended.{IsSpelt}
-use Rattle.run_engine.specs.Reports.{report_bytes}
 use Rattle.run_engine.specs.Summaries.{summary_bytes}
-
--- an entry is a mending
-unfoldable pub is_mending : Entry → Bool
-is_mending (Done n c r) = false
-is_mending (Died n st k ns) = false
-is_mending (Mended m) = true
+use Rattle.run_top.specs.Stops.{report_text}
 
 -- ---- which script a job runs
-
--- the one that a text spells, where the text is told
-abbrev pub IsScriptOf : Option (List ℕ) → Script → Type 0
-IsScriptOf left script = IfSome left (λ bytes. SpellsScript (lines_of bytes) script)
 
 -- the one that is drawn from a number
 abbrev pub IsSoakOf : ℕ → Script → Type 0
@@ -69,10 +55,6 @@ pub record HasRunToEnd (IsGiven : Script → Type 0) (bs : List Block) (new : Op
   pub parts : IsGeometryBy bs (home_read (home_at bs)) geometry
   pub image : new ≡ Some world.blocks
   pub left : IsSpelt geometry world.blocks after
-
--- the report of a history that leads to a catalogue
-abbrev pub report_text : List Entry → Cat → List ℕ
-report_text h c = report_bytes h (free_clusters c)
 
 -- The text is the report of the history of a world that has run the script to its end.
 pub record IsReport (IsGiven : Script → Type 0) (bs : List Block) (new : Option (List Block)) (text : List ℕ) : Type 0 where

@@ -1,87 +1,23 @@
 -- What the status of a call says of what came in, and what was written.
-use Rattle.std.specs.Prelude.{◌≡◌, ◌<◌, ◌≤◌, ◌⊎◌, ◌++◌, ◌-◌, ℕ, List, [], Option, Some, None, IfSome, codes, decimal, flat_map, length}
-use Rattle.std.specs.Io.KnownBytes.{Appends}
+use Rattle.std.specs.Prelude.{◌≡◌, ◌++◌, ◌-◌, ℕ, List, Option, Some, None, IfSome, codes, decimal}
 use Rattle.vol_words.specs.Fields.{Block}
-use Rattle.vol_words.specs.Faults.{Rose}
 use Rattle.blk_drive.specs.Images.{IsInside, IsOutside}
-use Rattle.fx_text.specs.Streams.{AppendsStart}
 use Rattle.vol_texts.specs.Reports.{newline}
 use Rattle.vol_parts.specs.declared.finding.Finding.{Finding}
-use Rattle.vol_parts.specs.Findings.{Weak, AreFindings, Accepts, IsFirstFatal}
-use Rattle.vol_analyze.specs.Texts.{finding_text}
+use Rattle.vol_parts.specs.Findings.{Weak, IsFirstFatal}
 use Rattle.vol_analyze.specs.Judging.{IsFirstFound}
-use Rattle.plain_cat.specs.declared.script.Script.{Script}
-use Rattle.run_script.specs.Lines.{lines_of}
-use Rattle.run_script.specs.Spelling.{SpellsScript, IsBadLine, IsTooMany}
 use Rattle.run_engine.specs.declared.status.Status.{Status}
 use Rattle.run_engine.specs.declared.status.Status.TheVariants as status
 use Rattle.vol_fresh.specs.declared.layout.Layout.{Layout}
 use Rattle.vol_fresh.specs.Layouts.{total, reserved_clusters}
-use Rattle.vol_init.specs.declared.fault.InitFault.{InitFault}
-use Rattle.vol_init.specs.declared.fault.InitFault.TheVariants as fault
 use Rattle.vol_init.specs.Refusals.{refusal}
+use Rattle.run_top.specs.Scripts.{IsScriptOf}
+use Rattle.run_top.specs.Statuses.{IsGood, IsAccepted, IsWordsDue}
+use Rattle.run_top.specs.Verdicts.{IsRunDue}
 use Rattle.clus_top.specs.Words.{Wanted, Run, RunRebuild, Soak, Analyze, Rebuild, Init}
-use Rattle.run_engine.specs.Reports.{lines_bytes}
-use Rattle.plain_cat.specs.declared.history.Entry.{Entry}
-use Rattle.clus_top.specs.Runs.{IsScriptOf, IsReport, IsSummary}
+use Rattle.clus_top.specs.Runs.{IsReport, IsSummary}
 use Rattle.clus_top.specs.Mendings.{IsMendingText}
 use Rattle.clus_top.specs.MendedRuns.{IsMendedReport, IsUnmendable}
-
--- why an image is not formatted
-unfoldable pub init_fault_text : InitFault → List ℕ
-init_fault_text fault.BadCluster = codes "bad cluster"
-init_fault_text fault.BadFiles = codes "bad files"
-init_fault_text fault.BadLabel = codes "bad label"
-init_fault_text fault.TooSmall = codes "too small"
-init_fault_text fault.NoMemory = codes "no memory"
-init_fault_text fault.ImageFault = codes "image fault"
-
--- the text of a status, but of 0, of 6 and of findings
-unfoldable pub status_text : Status → List ℕ
-status_text status.Ok = []
-status_text status.BadWords = codes "bad words" ++ newline
-status_text status.ScriptFault = codes "script fault" ++ newline
-status_text status.ScriptTooLong = codes "script too long" ++ newline
-status_text (status.BadScript n) = codes "bad line " ++ (decimal n ++ newline)
-status_text status.TooMany = codes "too many" ++ newline
-status_text status.ImageFault = codes "image fault" ++ newline
-status_text (status.BadSize n) = codes "bad size " ++ (decimal n ++ newline)
-status_text (status.NotAccepted f) = codes "not accepted: " ++ (finding_text f ++ newline)
-status_text status.Findings = []
-status_text (status.NotMendable f) = codes "not mendable: " ++ (finding_text f ++ newline)
-status_text status.OutFault = []
-status_text status.NoMemory = codes "no memory" ++ newline
-status_text (status.BadInit f) = init_fault_text f ++ newline
-
--- the text of a run that a write of the image has cut short: the lines of the answers so far, and that of the fault
-abbrev pub cut_text : List Entry → List ℕ
-cut_text h = lines_bytes h ++ status_text status.ImageFault
-
--- that of a run whose drive cannot be mended
-abbrev pub unmended_text : List Entry → Finding → List ℕ
-unmended_text h f = lines_bytes h ++ status_text (status.NotMendable f)
-
--- ---- scripts
-
--- a script has more bytes than are read
-abbrev pub IsTooLong : List ℕ → Type 0
-IsTooLong bytes = 1048576 < length bytes
-
--- a script has a first bad line, with this number
-pub record IsBad (n : ℕ) (bytes : List ℕ) : Type 0 where
-  pub within : length bytes ≤ 1048576
-  pub bad : IsBadLine (lines_of bytes) n
-
--- a script has one command or some plays too many, before any bad line
-pub record IsOverfull (bytes : List ℕ) : Type 0 where
-  pub within : length bytes ≤ 1048576
-  pub over : IsTooMany (lines_of bytes)
-
--- a script is read
-pub record IsGood (bytes : List ℕ) : Type 0 where
-  pub within : length bytes ≤ 1048576
-  pub script : Script
-  pub spelt : SpellsScript (lines_of bytes) script
 
 -- ---- volumes
 
@@ -90,30 +26,7 @@ pub record HasFindings (bs : List Block) : Type 0 where
   pub first : Finding
   pub found : IsFirstFound bs first
 
--- an image of a volume's size is accepted
-pub record IsAccepted (size : ℕ) (told : Option (List Block)) : Type 0 where
-  pub inside : IsInside size
-  pub accepted : IfSome told Accepts
-
 -- ---- when a status is due
-
--- Of a run. The order is script read, grammar, image read, size, acceptance, output; of a fault its own condition is that its
--- count rose.
-abbrev pub IsRunDue : Option (List ℕ) → ℕ → Option (List Block) → Status → Type 0
-IsRunDue left size told status.Ok = IfSome left IsGood × IsAccepted size told
-IsRunDue left size told status.BadWords = ⊥
-IsRunDue left size told status.ScriptFault = Unit {0}
-IsRunDue left size told status.ScriptTooLong = IfSome left IsTooLong
-IsRunDue left size told (status.BadScript n) = IfSome left (IsBad n)
-IsRunDue left size told status.TooMany = IfSome left IsOverfull
-IsRunDue left size told status.ImageFault = IfSome left IsGood
-IsRunDue left size told (status.BadSize n) = IfSome left IsGood × (n ≡ size) × IsOutside size
-IsRunDue left size told (status.NotAccepted f) = IfSome left IsGood × IsInside size × IfSome told (λ bs. IsFirstFound bs f)
-IsRunDue left size told status.Findings = ⊥
-IsRunDue left size told (status.NotMendable f) = ⊥
-IsRunDue left size told status.OutFault = IfSome left IsGood × IsAccepted size told
-IsRunDue left size told status.NoMemory = Unit {0}
-IsRunDue left size told (status.BadInit f) = ⊥
 
 -- Of a run that is mended then. The order is that of a run, and then whether its catalogue can be mended.
 abbrev pub IsRunRebuildDue : Option (List ℕ) → ℕ → Option (List Block) → Status → Type 0
@@ -174,12 +87,6 @@ IsInitDue cluster files label size status.OutFault = IsPossible cluster files la
 IsInitDue cluster files label size status.NoMemory = Unit {0}
 IsInitDue cluster files label size s = ⊥
 
--- where the words have no reading
-abbrev pub IsWordsDue : Status → Type 0
-IsWordsDue status.BadWords = Unit {0}
-IsWordsDue status.NoMemory = Unit {0}
-IsWordsDue s = ⊥
-
 -- What a status says of the job, of the script, of the image's size and of its blocks, each where it is told. The conditions of
 -- the statuses that are no fault and no want of memory exclude one another.
 abbrev pub IsDue : Option Wanted → Option (List ℕ) → ℕ → Option (List Block) → Status → Type 0
@@ -233,35 +140,3 @@ IsTextOf (Some (Soak n)) left size told new text = IsSummaryOn n told new text
 IsTextOf (Some Analyze) left size told new text = text ≡ accepted_text
 IsTextOf (Some Rebuild) left size told new text = IfSome told (λ bs. IsMendingText bs new text)
 IsTextOf (Some (Init cluster files label)) left size told new text = text ≡ made_text label (sized cluster files size)
-
--- the line of a finding
-abbrev pub finding_line : Finding → List ℕ
-finding_line f = finding_text f ++ newline
-
--- one line for each finding
-abbrev pub findings_text : List Finding → List ℕ
-findings_text fs = flat_map finding_line fs
-
--- a text is that of the findings of these blocks
-pub record IsFindingsText (text : List ℕ) (bs : List Block) : Type 0 where
-  pub findings : List Finding
-  pub found : AreFindings bs findings
-  pub written : text ≡ findings_text findings
-
--- all of a text was written, or first bytes of it where the sink's count rose
-abbrev pub IsWritten : Option (List ℕ) → Option (List ℕ) → ℕ → ℕ → List ℕ → Type 0
-IsWritten old new before now text = Appends old new text ⊎ (Rose before now × AppendsStart old new text)
-
--- the text of a status alone
-abbrev pub IsPlainText : Status → List ℕ → Type 0
-IsPlainText s text = text ≡ status_text s
-
--- What was written at a status, where R is said of the text of status 0, and F of the text of a fault of the image and of a volume that
--- cannot be mended: all of that text, or first bytes of it where the sink fails; the findings; or the text of the status.
-abbrev pub Writes : (R : List ℕ → Type 0) → (F : Status → List ℕ → Type 0) → Option (List Block) → Option (List ℕ) → Option (List ℕ) → ℕ → ℕ → Status → Type 0
-Writes R F told old new before now status.Ok = (text : List ℕ) × R text × Appends old new text
-Writes R F told old new before now status.OutFault = (text : List ℕ) × R text × AppendsStart old new text
-Writes R F told old new before now status.Findings = (text : List ℕ) × IfSome told (IsFindingsText text) × IsWritten old new before now text
-Writes R F told old new before now status.ImageFault = (text : List ℕ) × F status.ImageFault text × IsWritten old new before now text
-Writes R F told old new before now (status.NotMendable f) = (text : List ℕ) × F (status.NotMendable f) text × IsWritten old new before now text
-Writes R F told old new before now s = IsWritten old new before now (status_text s)

@@ -1,26 +1,16 @@
 -- That of all statuses exactly one is due.
-use Rattle.std.specs.Prelude.{◌≡◌, ℕ, Bool, true, false, List, Option, Some}
+use Rattle.std.specs.Prelude.{◌≡◌, ℕ, Bool, true, List, Option, Some}
 use Rattle.vol_words.specs.Fields.{Block}
 use Rattle.blk_drive.specs.Images.{IsInside}
 use Rattle.vol_parts.specs.Findings.{Accepts}
 use Rattle.run_engine.specs.declared.status.Status.{Status}
 use Rattle.run_engine.specs.declared.status.Status.TheVariants as status
 use Rattle.clus_top.specs.Words.{Wanted, Run, RunRebuild, Soak}
-use Rattle.clus_top.specs.Statuses.{IsGood, IsDue}
+use Rattle.run_top.specs.Statuses.{IsGood}
+use Rattle.run_top.specs.Verdicts.{is_verdict, is_mended_verdict}
+use Rattle.clus_top.specs.Statuses.{IsDue}
 
--- a status that speaks of what came in alone: no fault and no want of memory
-abbrev pub is_verdict : Status → Bool
-is_verdict status.ScriptFault = false
-is_verdict status.ImageFault = false
-is_verdict status.OutFault = false
-is_verdict status.NoMemory = false
-is_verdict s = true
-
--- Of a run that is mended then, also not the one that speaks of where the run has led: that the volume cannot be mended there.
-abbrev pub is_mended_verdict : Status → Bool
-is_mended_verdict (status.NotMendable f) = false
-is_mended_verdict s = is_verdict s
-
+-- of a job, a status that speaks of what came in alone; of a run that is mended then also not the one that speaks of where it has led
 abbrev pub is_verdict_of : Option Wanted → Status → Bool
 is_verdict_of (Some RunRebuild) s = is_mended_verdict s
 is_verdict_of wanted s = is_verdict s

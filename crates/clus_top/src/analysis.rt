@@ -1,10 +1,10 @@
-ghost use Rattle.std.specs.Prelude.{◌≡◌, ◌≤◌, IfOk, IfErr, IfSome, length};
+ghost use Rattle.std.specs.Prelude.{◌≡◌, IfOk, IfErr, IfSome, length};
 ghost use Rattle.blk_drive.specs.Images.{IsInside};
 ghost use Rattle.clus_top.specs.Ends.{IsLoadEnd, AreFoundIn};
 
-use crate::run::load_status;
 use blk_drive::{ImageDev, LoadRefused, Mirror};
 use run_engine::Status;
+use run_top::load_status;
 use std::alloc::Global;
 use vol_analyze::{Finding, analyze};
 use vol_words::Block;

@@ -5,10 +5,10 @@ ghost use Rattle.clus_top.specs.Statuses.{counted, room_text, made_text, sized, 
 ghost use Rattle.clus_top.specs.Ends.{init_status, IsInitEnd};
 ghost use Rattle.clus_top.specs.Images.{IsImageMade, IsFormatted};
 
-use crate::run::load_status;
 use blk_drive::{ImageDev, LoadRefused, Mirror};
 use plain_cat::NoMemory;
 use run_engine::Status;
+use run_top::load_status;
 use std::alloc::Global;
 use vol_fresh::Layout;
 use vol_init::{InitFault, init};

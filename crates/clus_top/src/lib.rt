@@ -21,8 +21,6 @@ mod format;
 mod rebuild;
 mod run;
 mod run_rebuild;
-mod script;
-mod tell;
 mod theorems;
 mod top;
 mod words;
@@ -30,40 +28,3 @@ mod words;
 pub use run_engine::{Finished, Status};
 pub use theorems::{good_runs_are_answered, one_status_is_due};
 pub use top::vmsclus;
-
-#[cfg(test)]
-mod caches;
-#[cfg(test)]
-mod changing;
-#[cfg(test)]
-mod channels;
-#[cfg(test)]
-mod deaths;
-#[cfg(test)]
-mod each_death;
-#[cfg(test)]
-mod each_write;
-#[cfg(test)]
-mod endings;
-#[cfg(test)]
-mod faults;
-#[cfg(test)]
-mod making;
-#[cfg(test)]
-mod queues;
-#[cfg(test)]
-mod quotas;
-#[cfg(test)]
-mod rebuilding;
-#[cfg(test)]
-mod run_rebuilding;
-#[cfg(test)]
-mod soaks;
-#[cfg(test)]
-mod stocks;
-#[cfg(test)]
-mod tests;
-#[cfg(test)]
-mod tree;
-#[cfg(test)]
-mod worked_lines;

@@ -7,10 +7,10 @@ ghost use Rattle.clus_top.specs.Images.{IsRebuildImage};
 ghost use Rattle.clus_top.specs.Mendings.{IsMendedImage, IsMendingText, mending_text};
 ghost use Rattle.clus_top.specs.Statuses.{IsMendable};
 
-use crate::run::load_status;
 use blk_drive::{ImageDev, LoadRefused, Mirror};
 use plain_cat::{Mended, NoMemory};
 use run_engine::Status;
+use run_top::load_status;
 use std::alloc::Global;
 use vol_rebuild::{RebuildFault, rebuild};
 use vol_texts::{push_bytes, push_mended};

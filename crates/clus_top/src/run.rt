@@ -1,27 +1,27 @@
-ghost use Rattle.std.specs.Prelude.{◌≡◌, ◌≤◌, IfOk, IfErr, IfSome, OnErr};
+ghost use Rattle.std.specs.Prelude.{◌≡◌, ◌≤◌, IfOk, IfErr, IfSome};
 ghost use Rattle.plain_cat.specs.declared.cat.Cat.{Cat};
 ghost use Rattle.plain_cat.specs.InForm.{InForm};
 ghost use Rattle.plain_vol.specs.Lookups.{free_clusters};
 ghost use Rattle.core_state.specs.Images.{IsTold};
 ghost use Rattle.core_state.specs.Mounting.{IsMounted};
 ghost use Rattle.run_engine.specs.Walks.{AllOver};
-ghost use Rattle.run_engine.specs.Reports.{report_bytes};
 ghost use Rattle.run_engine.specs.Summaries.{summary_bytes};
 ghost use Rattle.run_engine.specs.Ended.{HasEnded};
-ghost use Rattle.clus_top.specs.Runs.{IsScriptOf, IsSoakOf};
-ghost use Rattle.clus_top.specs.Statuses.{IsGood, IsAccepted, IsReportOn, IsSummaryOn, cut_text};
-ghost use Rattle.clus_top.specs.Ends.{printed_text, IsStopOf, IsStopBy, IsEndIn, IsImageStop, IsRunStop, IsSoakStop, IsStopImage, load_status, mount_status};
+ghost use Rattle.run_top.specs.Scripts.{IsScriptOf};
+ghost use Rattle.run_top.specs.Statuses.{IsGood, IsAccepted};
+ghost use Rattle.clus_top.specs.Runs.{IsSoakOf};
+ghost use Rattle.clus_top.specs.Statuses.{IsReportOn, IsSummaryOn};
+ghost use Rattle.clus_top.specs.Ends.{printed_text, IsStopBy, IsEndIn, IsImageStop, IsRunStop, IsSoakStop, IsStopImage};
 ghost use Rattle.clus_top.specs.Images.{IsLastDriveOf};
 
-use crate::script::script_of;
-use blk_drive::{ImageDev, LoadFault, LoadRefused, Mirror};
-use core_state::{MountFault, MountRefused, World};
+use blk_drive::{ImageDev, LoadRefused, Mirror};
+use core_state::{MountRefused, World};
 use fx_text::TextIn;
-use plain_cat::{NoMemory, Plays, Script};
-use run_engine::{RunFault, Status, free_at_end, report, report_lines, run, summary};
+use plain_cat::{Plays, Script};
+use run_engine::{Status, free_at_end, run, summary};
 use run_script::soak;
+use run_top::{Stop, load_status, mount_status, report_of, script_of, stop_of};
 use std::alloc::Global;
-use vol_texts::push_bytes;
 use xqp_set::XqpOp;
 
 /// What is printed of a run that has come to its end.
@@ -32,32 +32,6 @@ pub enum Printed {
 
     /// The summary of the soak of this number.
     Summary(u32),
-}
-
-/// Why a run came to no end.
-#[derive(Drop)]
-pub enum Stop {
-    /// A write of the image failed: the lines of the answers before it, and the text of that fault.
-    Cut(Vec<u8>),
-
-    /// A write of the image failed, and the lines of the answers before it found no memory.
-    Bare,
-
-    /// Another status, whose text says all.
-    By(Status),
-}
-
-// The report of a run that has ended.
-fn report_of<I: ImageDev>(alloc: Global, w: &World<I, XqpOp>) -> Result<Vec<u8>, Stop>
-    requires over { AllOver w.now.world }
-    ensures report { IfOk result (λ text. (c : Cat) × HasEnded w.now.world c × (text.items ≡ report_bytes w.now.world.history (free_clusters c))) }
-    ensures end { IfErr result (λ s. s ≡ Stop.By Status.NoMemory) }
-{
-    let free = free_at_end(w);
-    match report(alloc, w.history(), free) {
-        Ok(text) => Ok(text),
-        Err(_) => Err(Stop::By(Status::NoMemory)),
-    }
 }
 
 // The summary of a soak that has ended.
@@ -85,37 +59,6 @@ fn text_of<I: ImageDev>(alloc: Global, w: &World<I, XqpOp>, what: Printed) -> Re
     }
 }
 
-// The text of a run that a write of the image has cut short.
-#[tactic(auto, unfolding(crate::specs::Statuses::status_text))]
-fn cut_text<I: ImageDev>(alloc: Global, w: &World<I, XqpOp>) -> Result<Vec<u8>, NoMemory>
-    ensures { IfOk result (λ text. text.items ≡ cut_text w.now.world.history) }
-{
-    let mut text = report_lines(alloc, w.history())?;
-    push_bytes(&mut text, b"image fault\n")?;
-    Ok(text)
-}
-
-// How a write that failed is told: with the lines of the answers before it, if there are any.
-fn cut_by(lines: Result<Vec<u8>, NoMemory>) -> Stop
-    ensures with { IfOk lines (λ text. result ≡ Stop.Cut text) }
-    ensures without { OnErr lines (result ≡ Stop.Bare) }
-{
-    match lines {
-        Ok(text) => Stop::Cut(text),
-        Err(_) => Stop::Bare,
-    }
-}
-
-/// Why a run stopped before its end.
-pub fn stop_of<I: ImageDev>(alloc: Global, w: &World<I, XqpOp>, fault: RunFault) -> Stop
-    ensures { IsStopOf w.now.world fault result }
-{
-    match fault {
-        RunFault::ImageFault => cut_by(cut_text(alloc, w)),
-        RunFault::NoMemory => Stop::By(Status::NoMemory),
-    }
-}
-
 // Runs the script of a volume that is just mounted.
 fn run_on<I: ImageDev>(
     alloc: Global,
@@ -137,16 +80,6 @@ fn run_on<I: ImageDev>(
     match ran {
         Ok(()) => text_of(alloc, w, what),
         Err(fault) => Err(stop_of(alloc, w, fault)),
-    }
-}
-
-/// Why a drive was not mounted.
-pub fn mount_status(fault: MountFault) -> Status
-    ensures { result ≡ mount_status fault }
-{
-    match fault {
-        MountFault::NotAccepted(found) => Status::NotAccepted(found),
-        MountFault::NoMemory => Status::NoMemory,
     }
 }
 
@@ -179,17 +112,6 @@ fn run_mounted<I: ImageDev>(alloc: Global, m: Mirror<I>, script: &Script, what: 
 pub struct Ran<I: ImageDev> {
     pub outcome: Result<Vec<u8>, Stop>,
     pub image: I,
-}
-
-/// Why an image was not loaded.
-pub fn load_status(fault: LoadFault) -> Status
-    ensures { result ≡ load_status fault }
-{
-    match fault {
-        LoadFault::ImageFault => Status::ImageFault,
-        LoadFault::BadSize(n) => Status::BadSize(n),
-        LoadFault::NoMemory => Status::NoMemory,
-    }
 }
 
 // Runs a script on an image.
@@ -242,49 +164,5 @@ pub fn run_soak<I: ImageDev>(alloc: Global, image: I, n: u32) -> Ran<I>
             outcome: Err(Stop::By(Status::NoMemory)),
             image,
         },
-    }
-}
-
-/// How many blocks a node has read, and how many it has found cached.
-#[cfg(test)]
-#[derive(Clone, Copy)]
-pub struct Counts {
-    pub reads: u64,
-    pub hits: u64,
-}
-
-// These counts of a node of a world.
-#[cfg(test)]
-fn counts_at<I: ImageDev>(w: &World<I, XqpOp>, node: u8) -> Option<Counts> {
-    w.keeps_the_rules();
-    if node == 0 || w.script().nodes < node {
-        return None;
-    }
-    Some(Counts {
-        reads: w.reads(node),
-        hits: w.hits(node),
-    })
-}
-
-/// These counts of a node, once the script that is read has run on the image.
-#[cfg(test)]
-pub fn counts_of<I: ImageDev, T: TextIn>(
-    alloc: Global,
-    image: I,
-    script: &mut T,
-    node: u8,
-) -> Option<Counts> {
-    let Ok(spelt) = script_of(alloc, script) else {
-        return None;
-    };
-    let Ok(mirror) = Mirror::load(alloc, image) else {
-        return None;
-    };
-    let Ok(mut world) = World::<I, XqpOp>::mount(alloc, mirror, &spelt) else {
-        return None;
-    };
-    match run_on(alloc, &mut world, &spelt.plays, Printed::Report) {
-        Ok(_) => counts_at(&world, node),
-        Err(_) => None,
     }
 }

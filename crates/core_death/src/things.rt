@@ -1,10 +1,10 @@
 //! What a node has outside files and bitmaps, and the stage of its command.
 
-ghost use Rattle.std.specs.Prelude.{◌≡◌, ◌≤◌, ◌<◌, ◌+◌, ◌^◌, [], length, option_copied};
+ghost use Rattle.std.specs.Prelude.{◌≡◌, ◌≤◌, ◌<◌, ◌+◌, ◌^◌, [], option_copied};
 ghost use Rattle.std.specs.List.{list_any};
 ghost use Rattle.core_state.specs.Deaths.{numbers_that};
 ghost use Rattle.core_state.specs.Worlds.{state_of};
-ghost use Rattle.core_death.specs.Lasts.{last_of, last_in, stage_or, clusters_or, clusters_by, taken_by, is_number, is_this, number_or, number_by, stage_told, clusters_told, number_told};
+ghost use Rattle.core_death.specs.Lasts.{last_of, last_in, clusters_or, clusters_by, taken_by, is_number, is_this, number_or, number_by, stage_told, clusters_told, number_told};
 
 use core_space::{Phase, SpaceRun};
 use core_state::Node;

@@ -15,15 +15,14 @@ use Rattle.core_space.specs.declared.run.SpaceNeed.{SpaceNeed}
 use Rattle.core_space.specs.declared.event.SpaceEvent.{SpaceEvent}
 use Rattle.core_space.specs.declared.event.SpaceEvent.TheVariants as space
 use Rattle.core_space.specs.Rule.{back_event, space_event}
-use Rattle.core_state.specs.Worlds.{NodeState, Plain, node_at, set_node, with_node, or_next, current}
-use Rattle.core_state.specs.Goods.{IsIdle, IsAt, HasCommand, Good}
+use Rattle.core_state.specs.Worlds.{NodeState, Plain, node_at, with_node, or_next}
+use Rattle.core_state.specs.Goods.{IsAt, HasCommand, Good}
 use Rattle.core_state.specs.Event.{Event}
 use Rattle.core_state.specs.Event as event
-use Rattle.core_state.specs.Events.{by_put, by_rule, phase_begun, serves, serving, space_need, space_state, by_space, by_need, by_plan, by_command, by_turn, or_use, has_current, is_out, gives_back, stands, event_of, event_now, next_event, begun, prepared_by, served_for, served_by, served, is_held_up, prepared, readied, happen, happen_at, happens, after_turn, command_in, command_at}
+use Rattle.core_state.specs.Events.{by_put, by_rule, phase_begun, serves, serving, space_need, space_state, by_need, by_plan, by_command, by_turn, or_use, has_current, is_out, gives_back, stands, event_of, event_now, begun, prepared_by, served_for, served_by, served, is_held_up, prepared, happen, happen_at, happens, after_turn, command_in, command_at}
 use Rattle.core_state.proofs.Nodes.{at_here}
 use Rattle.core_state.proofs.Preparing.{readied_is}
 use Rattle.core_live.specs.Measure.{GoesLawfully}
-use Rattle.core_live.proofs.Turning.{stands_not}
 
 -- ---- events that end a command
 

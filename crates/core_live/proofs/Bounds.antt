@@ -1,18 +1,16 @@
 -- No command makes more than 1,900 events, and no close more than 127; and a command has its answer left.
-use Rattle.std.proofs.Common.{◌≡◌, ◌⊎◌, ◌≤◌, ◌<◌, ◌+◌, ◌-◌, ◌*◌, ◌++◌, not, min, ℕ, zero, suc, Bool, true, false, cond, List, [], ◌∷◌, Option, Some, None, IsSome, is_some, length, take, slice_get, refl, sym, ap, subst, ◌∙◌, inl, inr, arith}
+use Rattle.std.proofs.Common.{◌≡◌, ◌⊎◌, ◌≤◌, ◌<◌, ◌+◌, ◌-◌, min, ℕ, zero, suc, Bool, true, false, cond, List, [], ◌∷◌, Option, Some, None, length, take, slice_get, refl, sym, ap, subst, ◌∙◌, inl, inr, arith}
 use Rattle.std.specs.Prelude.{sum_by}
 use Rattle.std.proofs.lemmas.List.{length-append, length-take}
 use Rattle.std.proofs.lemmas.List.Sums.{sum_by-cons}
 use Rattle.std.specs.List.{count_by}
-use Rattle.lock_db.specs.declared.name.LockName.{LockName}
 use Rattle.lock_db.specs.declared.name.LockName.TheVariants.{V}
 use Rattle.lock_db.specs.Names.{is_same}
-use Rattle.plain_cat.specs.declared.mode.Mode.{Mode}
 use Rattle.plain_cat.specs.declared.command.Cmd.{Cmd}
 use Rattle.plain_cat.specs.declared.command.Cmd.TheVariants as cmd
 use Rattle.plain_cat.specs.declared.script.LineCmd.{LineCmd}
 use Rattle.plain_vol.specs.Mending.{is_true}
-use Rattle.plain_vol.specs.Own.{NodePast, past, lines_of, or_close, next_command}
+use Rattle.plain_vol.specs.Own.{NodePast, past, lines_of, or_close}
 use Rattle.vol_parts.specs.declared.geometry.Geometry.{Geometry}
 use Rattle.node_locks.specs.Held.{Row, waits_at}
 use Rattle.op_law.specs.declared.need.Need.TheVariants as need
@@ -27,11 +25,11 @@ use Rattle.core_space.specs.declared.run.SpaceRun.{SpaceRun}
 use Rattle.core_state.specs.Worlds.{Stock, NodeState, Plain, node_at}
 use Rattle.core_state.specs.Asks.{writes_by, own_ask, with_ask, lock_of_ask}
 use Rattle.core_state.specs.Searches.{Spaces, Off, Back, Busy}
-use Rattle.core_state.specs.Goods.{IsAtPlan, IsIdle, HasCommand, HasFewAnswers, IsNode, Good}
-use Rattle.core_state.proofs.Commands.{IsCloseOf, closes_one}
+use Rattle.core_state.specs.Goods.{IsAtPlan, IsIdle, HasCommand, HasFewAnswers, Good}
+use Rattle.core_state.proofs.Commands.{closes_one}
 use Rattle.core_state.proofs.Midway.{drive_so}
 use Rattle.core_state.proofs.Standing.{come_by}
-use Rattle.core_live.specs.Measure.{one_if, plan_steps, give_left, by_claim, rule_steps, steps_of, answers_left, rest_of}
+use Rattle.core_live.specs.Measure.{one_if, plan_steps, by_claim, rule_steps, steps_of, answers_left, rest_of}
 use Rattle.core_live.proofs.Standing.{me, now, seen_on}
 
 -- ---- the parts

@@ -1,5 +1,5 @@
 -- Each event of a node's command leaves less to be done.
-use Rattle.std.proofs.Common.{◌≡◌, ◌≢◌, ◌⊎◌, ◌≤◌, ◌<◌, ◌+◌, ◌-◌, ◌*◌, ◌++◌, ◌||◌, not, ℕ, Bool, true, false, cond, List, [], ◌∷◌, Option, Some, None, length, slice_get, refl, sym, ap, subst, ◌∙◌, inl, inr, arith}
+use Rattle.std.proofs.Common.{◌≡◌, ◌≢◌, ◌≤◌, ◌<◌, ◌+◌, ◌-◌, ◌++◌, ◌||◌, ℕ, Bool, true, false, cond, List, [], ◌∷◌, Option, Some, None, length, slice_get, refl, sym, ap, ◌∙◌, arith}
 use Rattle.std.proofs.lemmas.List.{length-append}
 use Rattle.vol_words.specs.Fields.{Block}
 use Rattle.lock_db.specs.declared.name.LockName.{LockName}
@@ -8,7 +8,6 @@ use Rattle.plain_cat.specs.declared.mode.Mode.{Mode}
 use Rattle.plain_cat.specs.declared.command.Cmd.{Cmd}
 use Rattle.plain_cat.specs.declared.reply.Reply.{Reply}
 use Rattle.plain_vol.specs.Own.{NodePast, lines_of, after_answer}
-use Rattle.vol_parts.specs.declared.geometry.Geometry.{Geometry}
 use Rattle.node_locks.specs.Held.{Row, waits_at, without}
 use Rattle.node_cache.specs.Cached.{Cached}
 use Rattle.op_law.specs.declared.need.Need.{Need}
@@ -26,10 +25,10 @@ use Rattle.core_state.specs.Caches.{lowered_of}
 use Rattle.core_state.specs.Event.{Event}
 use Rattle.core_state.specs.Event as event
 use Rattle.core_state.specs.Goods.{Good}
-use Rattle.core_state.specs.Events.{mode_in, is_out, turned, locking, planning, caching, writing, asking, leaving, answering, staying, used_locks, cache_looked, cache_used, cache_written, block_at, block_used, one_more, has_current, or_use, by_space, by_need, by_end, by_write, by_plan, would_go, answered_by, asked_by, happens}
+use Rattle.core_state.specs.Events.{is_out, turned, locking, planning, caching, writing, asking, leaving, answering, staying, used_locks, cache_looked, cache_used, cache_written, block_at, block_used, one_more, has_current, or_use, by_space, by_need, by_end, by_write, by_plan, would_go, answered_by, asked_by, happens}
 use Rattle.core_state.proofs.Keeping.{kept_once}
 use Rattle.core_state.proofs.Turning.{may_need, seen_so}
-use Rattle.core_live.specs.Measure.{one_if, plan_steps, steps_of, answers_left, rest_of, return_by, return_left, left_in, left_from, left}
+use Rattle.core_live.specs.Measure.{one_if, plan_steps, steps_of, answers_left, return_by, return_left, left_in, left_from, left}
 use Rattle.core_live.proofs.Standing.{mine}
 use Rattle.core_live.proofs.Sums.{node_less, alive_left, steps_on}
 use Rattle.core_live.proofs.Bounds.{answer_less, has_answer, room}

@@ -1,10 +1,8 @@
 -- Each turn of a node that does not only wait leaves less to be done.
-use Rattle.std.proofs.Common.{◌≡◌, ◌≢◌, ◌⊎◌, ◌≤◌, ◌<◌, ◌+◌, ◌-◌, ◌==◌, ◌&&◌, ◌||◌, not, min, nat_le, nat_lt, take, ℕ, zero, suc, Bool, true, false, cond, List, [], ◌∷◌, Option, Some, None, is_some, length, slice_get, slice_set, refl, sym, ap, subst, ◌∙◌, inl, inr, arith}
+use Rattle.std.proofs.Common.{◌≡◌, ◌⊎◌, ◌≤◌, ◌<◌, ◌+◌, ◌-◌, ◌==◌, ◌&&◌, ◌||◌, not, min, nat_le, nat_lt, take, ℕ, zero, suc, Bool, true, false, cond, List, [], ◌∷◌, Option, Some, None, length, slice_get, slice_set, refl, sym, ap, subst, ◌∙◌, inl, inr, arith}
 use Rattle.std.proofs.lemmas.Bool.Decides.{nat_tests}
 use Rattle.std.proofs.lemmas.List.{length-take-le}
-use Rattle.lock_db.specs.declared.name.LockName.{LockName}
 use Rattle.lock_db.specs.declared.name.LockName.TheVariants.{X}
-use Rattle.plain_cat.specs.declared.mode.Mode.{Mode}
 use Rattle.plain_cat.specs.declared.command.Cmd.{Cmd}
 use Rattle.plain_cat.specs.declared.script.Script.{Script}
 use Rattle.plain_vol.specs.Own.{NodePast, lines_of, next_command}
@@ -26,13 +24,13 @@ use Rattle.core_state.specs.Searches.{wanted_by, numbered_by, IsOff, Spaces, Off
 use Rattle.core_state.specs.Event.{Event, Stand}
 use Rattle.core_state.specs.Event as event
 use Rattle.core_state.specs.Goods.{Good}
-use Rattle.core_state.specs.Events.{mode_in, space_state, is_out, by_rule, by_space, by_need, by_command, by_turn, phase_begun, may_serve, serves, space_need, gives_back_in, gives_back, stands, turned, or_use, event_of, event_now, next_event, begun, prepared_by, serving, served_for, served_by, served, is_held_up, prepared, readied, happens, happen_at, happen, after_turn, is_over_in, is_over}
+use Rattle.core_state.specs.Events.{mode_in, space_state, is_out, by_rule, by_space, by_need, by_command, by_turn, phase_begun, may_serve, serves, space_need, gives_back_in, gives_back, stands, turned, or_use, event_of, event_now, next_event, prepared_by, serving, served_for, served_by, served, is_held_up, prepared, happens, happen_at, happen, after_turn, is_over_in}
 use Rattle.core_state.proofs.Nodes.{at_here, set_node_same, set_node_twice}
 use Rattle.core_state.proofs.Beginning.{begins}
 use Rattle.core_state.proofs.Preparing.{rests_prepared, readied_is}
 use Rattle.core_state.proofs.Turning.{may_need}
 use Rattle.core_state.proofs.Turns.{prepares_keep}
-use Rattle.core_live.specs.Measure.{by_claim, rule_steps, answers_left, return_by, return_left, steps_of, rest_of, left_in, left_from, left, GoesLawfully, TurnsLeaveLess}
+use Rattle.core_live.specs.Measure.{by_claim, rule_steps, answers_left, return_by, return_left, steps_of, rest_of, left_in, left_from, left, TurnsLeaveLess}
 use Rattle.core_live.proofs.Sums.{alive_left, same_some, none_some}
 use Rattle.core_live.proofs.Bounds.{without_steps}
 use Rattle.core_live.proofs.Commanding.{plan_falls, leave_falls}

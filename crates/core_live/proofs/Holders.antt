@@ -1,24 +1,20 @@
 -- Who waits for a lock waits for a node that is not over and holds that lock.
-use Rattle.std.proofs.Common.{◌≡◌, ◌≢◌, ◌==◌, ◌&&◌, ◌||◌, ◌≤◌, ◌<◌, ◌++◌, ◌⊎◌, not, ℕ, zero, suc, Bool, true, false, cond, List, [], ◌∷◌, Option, Some, None, Contains, find, option_map, option_and_then, refl, sym, ap, subst, ◌∙◌, inl, inr, arith}
+use Rattle.std.proofs.Common.{◌≡◌, ◌≢◌, ◌==◌, ◌&&◌, ◌||◌, ◌≤◌, ◌++◌, ◌⊎◌, not, ℕ, zero, suc, Bool, true, false, cond, List, [], ◌∷◌, Option, Some, None, Contains, find, option_map, option_and_then, refl, sym, ap, subst, ◌∙◌, inl, inr, arith}
 use Rattle.std.specs.List.{list_any}
 use Rattle.std.proofs.lemmas.Bool.Decides.{nat_tests}
 use Rattle.plain_cat.specs.Modes.{compatible_modes}
 use Rattle.plain_cat.specs.declared.mode.Mode.{Mode}
 use Rattle.plain_cat.specs.declared.mode.Mode.TheVariants.{NL}
-use Rattle.plain_cat.specs.declared.cat.Open.{Open}
 use Rattle.lock_db.specs.declared.name.LockName.{LockName}
 use Rattle.lock_db.specs.declared.name.LockName.TheVariants.{A}
 use Rattle.lock_db.specs.declared.name.Owner.{Owner}
-use Rattle.lock_db.specs.declared.askers.Standing.{Standing}
 use Rattle.lock_db.specs.declared.askers.Standing.TheVariants.{Granted}
 use Rattle.lock_db.specs.declared.askers.Asker.{Asker}
-use Rattle.lock_db.specs.declared.resource.Resource.{Resource}
-use Rattle.lock_db.specs.Names.{is_same, same_owner}
-use Rattle.lock_db.specs.Queues.{held, wanted, converts, waits, is_converting, is_waiting, is_queued, or_else, head_of, goes_beside, standing_of, mode_of, holds_up}
+use Rattle.lock_db.specs.Names.{same_owner}
+use Rattle.lock_db.specs.Queues.{held, wanted, converts, waits, is_converting, is_waiting, is_queued, or_else, head_of, goes_beside, mode_of, holds_up}
 use Rattle.lock_db.specs.Tables.{resource_at, all_together, IsSettled}
 use Rattle.lock_db.specs.Laws.{stands_at}
 use Rattle.lock_db.proofs.Lists.{find-passes, or-if_right}
-use Rattle.lock_db.proofs.Names.{is_same-same}
 use Rattle.lock_db.proofs.Owners.{same_owner-refl, same_owner-same}
 use Rattle.lock_db.proofs.Together.{all_together-tail}
 use Rattle.lock_db.proofs.Rules.{Contains-cases, Contains-first, all_together-once}
@@ -29,10 +25,11 @@ use Rattle.node_locks.specs.HeldLaws.{IsHeldUpAt}
 use Rattle.node_locks.proofs.Converting.{beside-nl}
 use Rattle.node_locks.proofs.Keeping.{held_are_granted, who_waits_is_held_up, holders_hold}
 use Rattle.core_state.specs.Worlds.{NodeState, Plain, node_at, rows_of, rows_in, rows_at}
-use Rattle.core_state.specs.Opens.{open_now, open_stands}
+use Rattle.core_state.specs.Opens.{open_now}
 use Rattle.core_state.specs.Stores.{IsGone}
 use Rattle.core_state.specs.Goods.{Good, held_by}
 use Rattle.core_state.specs.Events.{is_out}
+use Rattle.core_state.proofs.Opens.{no_open}
 
 -- ---- the askers of a resource
 
@@ -80,14 +77,6 @@ head_there xs a e = by_first (find is_converting xs) refl e where
       let same : b ≡ a = cc in
       let is : find is_converting xs ≡ Some a = f ∙ ap Some same in
       (find_contains is_converting xs a is, ap (λ t. t || waits a.standing) (find-passes is_converting xs a is))
-
--- no open has a lock on another name than that of who has a file open
-no_open : (name : LockName) → ((f : ℕ) → name ≢ A f) → (o : Option Open) → open_stands name o ≡ None
-no_open name far None = refl
-no_open name far (Some o) = by_test (is_same name (A o.file)) refl where
-  by_test : (b : Bool) → is_same name (A o.file) ≡ b → cond b (Some (Granted o.mode)) None ≡ None
-  by_test true e = absurd (far o.file (is_same-same name (A o.file) e))
-  by_test false e = refl
 
 same_number : (a b : ℕ) → (a == b) ≡ true → a ≡ b
 same_number a b e = grind (arith, nat_tests)

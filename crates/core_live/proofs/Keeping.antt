@@ -1,5 +1,5 @@
 -- The give-back to which a node may come, by the locks that it keeps.
-use Rattle.std.proofs.Common.{◌≡◌, ◌≢◌, ◌≤◌, ◌++◌, not, Bool, true, false, cond, [], ◌∷◌, Option, Some, None, filter, find, List, refl, sym, ap, subst, ◌∙◌, inl, inr, arith}
+use Rattle.std.proofs.Common.{◌≡◌, ◌≢◌, ◌≤◌, ◌++◌, not, Bool, true, false, cond, [], ◌∷◌, Option, Some, None, filter, find, List, refl, sym, ap, ◌∙◌, inl, inr, arith}
 use Rattle.lock_db.specs.declared.name.LockName.{LockName}
 use Rattle.lock_db.specs.declared.name.LockName.TheVariants.{X}
 use Rattle.lock_db.specs.Names.{is_same}
@@ -10,12 +10,12 @@ use Rattle.vol_owners.specs.Lists.{Has}
 use Rattle.vol_owners.proofs.Listing.{has_parted}
 use Rattle.vol_parts.specs.declared.geometry.Geometry.{Geometry}
 use Rattle.node_locks.specs.Held.{Row, names_of, without}
-use Rattle.node_locks.specs.PuttingBack.{kept_by, kept_of}
+use Rattle.node_locks.specs.PuttingBack.{kept_by}
 use Rattle.node_cache.specs.Cached.{Cached}
 use Rattle.core_space.specs.declared.run.Phase.{Phase}
 use Rattle.core_space.specs.declared.run.Phase.TheVariants as phase
 use Rattle.core_space.specs.declared.run.SpaceRun.{SpaceRun}
-use Rattle.core_space.specs.Rule.{is_reader, no_run}
+use Rattle.core_space.specs.Rule.{is_reader}
 use Rattle.vol_owners.specs.Lists.{Once}
 use Rattle.core_state.specs.Worlds.{Stock, NodeState}
 use Rattle.core_state.specs.Caches.{has_entry, keeps, lowered_of}

@@ -10,7 +10,7 @@ use Rattle.plain_mends.specs.Sound.{IsSound}
 use Rattle.plain_mends.proofs.SoundMends.{replay_sound}
 use Rattle.vol_mends.proofs.AcceptedSteps.{accepted_is_sound}
 use Rattle.vol_owners.specs.Lists.{Has}
-use Rattle.node_locks.specs.Held.{Row, names_of, waits_at, held_locks}
+use Rattle.node_locks.specs.Held.{Row, names_of, waits_at}
 use Rattle.node_locks.proofs.Standing.{held-asked}
 use Rattle.op_law.specs.Laws.{takes_lock}
 use Rattle.op_law.specs.Order.{IsBefore}
@@ -18,13 +18,14 @@ use Rattle.core_state.specs.Worlds.{NodeState, Plain, node_at, rows_of}
 use Rattle.core_state.specs.Goods.{Good, IsAccepted}
 use Rattle.core_state.specs.Events.{is_out, gives_back, stands, is_over_in, is_over}
 use Rattle.core_state.proofs.Naming.{one_of}
+use Rattle.core_state.proofs.Turning.{has_name}
 use Rattle.core_live.specs.Moving.{Moves, SomebodyMoves}
 use Rattle.core_live.proofs.Chains.{In, Here, There, somebody}
 use Rattle.core_live.proofs.Orders.{then, never}
 use Rattle.core_live.proofs.Turning.{moves_on}
 use Rattle.core_live.proofs.Holders.{IsHolder, holder}
-use Rattle.core_live.proofs.Standing.{last_same, stands_parts, ClaimsX, ClaimsV, Asks, asks, in_front, held_where}
-use Rattle.core_live.proofs.Sharing.{has_name, kept_x, claims_there, claims_move, asked_v_moves}
+use Rattle.core_live.proofs.Standing.{last_same, stands_parts, Asks, asks, in_front, held_where}
+use Rattle.core_live.proofs.Sharing.{kept_x, claims_there, claims_move, asked_v_moves}
 
 -- ---- the numbers of nodes
 

@@ -1,5 +1,5 @@
 -- The order of names is a strict one, where no chain of entries returns.
-use Rattle.std.proofs.Common.{◌≡◌, ◌<◌, ℕ, zero, suc, List, [], ◌∷◌, Some, None, Contains, slice_get, refl, sym, ap, subst, ◌∙◌, arith}
+use Rattle.std.proofs.Common.{◌≡◌, ℕ, zero, suc, List, [], ◌∷◌, Some, None, Contains, slice_get, refl, sym, subst, ◌∙◌, arith}
 use Rattle.lock_db.specs.declared.name.LockName.{LockName}
 use Rattle.lock_db.specs.declared.name.LockName.TheVariants.{S}
 use Rattle.plain_cat.specs.declared.entries.DirEnt.{DirEnt}
@@ -8,7 +8,7 @@ use Rattle.plain_mends.specs.Sound.{LeadsTo, IsSound}
 use Rattle.plain_mends.specs.Sound as sound
 use Rattle.vol_parts.specs.Fatal.{entries_of}
 use Rattle.vol_mends.proofs.SoundMends.{same_entry}
-use Rattle.op_law.specs.Order.{NamesNumber, NumberPath, One, More, level, IsBefore, Higher, Named}
+use Rattle.op_law.specs.Order.{NamesNumber, NumberPath, One, More, IsBefore, Higher, Named}
 
 get_contains : (es : List DirEnt) (k : ℕ) (e : DirEnt) → slice_get es k ≡ Some e → Contains es e
 get_contains [] k e at = absurd (let f : None ≡ Some e = at in cc)

@@ -3,14 +3,13 @@ use Rattle.std.proofs.Common.{◌≡◌, ◌≢◌, ◌≤◌, ◌<◌, ◌+◌,
 use Rattle.std.proofs.lemmas.Bool.{cases_lt}
 use Rattle.std.proofs.lemmas.Bool.Decides.{nat_tests}
 use native.Mathlib.Nat.{suc-mul}
-use Rattle.core_state.specs.Worlds.{NodeState, Plain, node_at, set_node, with_node}
+use Rattle.core_state.specs.Worlds.{NodeState, Plain, node_at, with_node}
 use Rattle.core_state.specs.Goods.{Good, IsAccepted}
-use Rattle.core_state.specs.Event.{Event, Stand}
+use Rattle.core_state.specs.Event.{Stand}
 use Rattle.core_state.specs.Events.{is_out, event_of, event_now, next_event, prepared, after_turn, is_over_in, is_over, turned, stands}
 use Rattle.core_state.specs.Deaths.{is_due, died, after_step}
 use Rattle.core_state.proofs.Nodes.{at_here, at_else}
 use Rattle.core_state.proofs.Preparing.{readied_is}
-use Rattle.core_live.specs.Moving.{Moves}
 use Rattle.core_live.specs.Measure.{left, Changes}
 use Rattle.core_live.specs.Turns.{AllOver, ahead, ComesNext, IsWithin, IsEnough, turns_of, TurnsAreEnough, StepsTakeOne, NoneIsLeft}
 use Rattle.core_live.proofs.Movers.{somebody_moves}
@@ -37,10 +36,10 @@ mul_over a b c lt = let e : suc a * c ≡ a * c + c = suc-mul a c in let h = mul
 
 -- ---- who comes before whom
 
-low_ahead : (count from m : ℕ) → m < from → ahead count from m ≡ (count + m) - from
+pub low_ahead : (count from m : ℕ) → m < from → ahead count from m ≡ (count + m) - from
 low_ahead count from m lt = let e : nat_lt m from ≡ true = grind (arith, nat_tests) in ap (λ b. cond b ((count + m) - from) (m - from)) e
 
-high_ahead : (count from m : ℕ) → from ≤ m → ahead count from m ≡ m - from
+pub high_ahead : (count from m : ℕ) → from ≤ m → ahead count from m ≡ m - from
 high_ahead count from m le = let e : nat_lt m from ≡ false = grind (arith, nat_tests) in ap (λ b. cond b ((count + m) - from) (m - from)) e
 
 few_ahead : (count from m : ℕ) → 1 ≤ from → from ≤ count + 1 → 1 ≤ m → m ≤ count → ahead count from m < count
@@ -82,7 +81,7 @@ nearer count from n m low top n_one n_last m_one m_last ne le =
 
 -- ---- who is a node
 
-get_past : (nodes : List NodeState) (k : ℕ) → length nodes ≤ k → slice_get nodes k ≡ None
+pub get_past : (nodes : List NodeState) (k : ℕ) → length nodes ≤ k → slice_get nodes k ≡ None
 get_past [] k le = refl
 get_past (s ∷ nodes) zero le = absurd (omega arith)
 get_past (s ∷ nodes) (suc k) le = get_past nodes k (omega arith)

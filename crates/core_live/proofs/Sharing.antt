@@ -6,38 +6,32 @@ use Rattle.plain_cat.specs.Modes.{rank}
 use Rattle.plain_cat.specs.declared.mode.Mode.{Mode}
 use Rattle.plain_cat.specs.declared.mode.Mode.TheVariants.{NL, CR, PW, EX}
 use Rattle.plain_cat.specs.declared.command.Cmd.{Cmd}
-use Rattle.vol_owners.specs.Lists.{Has, Once}
+use Rattle.vol_owners.specs.Lists.{Has}
 use Rattle.vol_owners.proofs.Listing.{has_parted}
 use Rattle.node_locks.specs.Held.{Row, names_of, waits_at, held_locks, all_held}
 use Rattle.node_locks.proofs.Standing.{held-asked}
 use Rattle.op_law.specs.Events.{space_of, HasNoSpace}
 use Rattle.op_law.specs.declared.need.Ask.{Ask}
 use Rattle.op_law.specs.Laws.{held_in, takes_lock, ComesInTurn}
-use Rattle.core_space.specs.declared.run.Phase.{Phase}
 use Rattle.core_space.specs.declared.run.Phase.TheVariants as phase
 use Rattle.core_space.specs.declared.run.SpaceRun.{SpaceRun}
 use Rattle.core_space.specs.Rule.{is_reader, is_due, has_any}
 use Rattle.core_state.specs.Worlds.{NodeState, Plain, node_at, rows_of, rows_in, rows_at}
 use Rattle.core_state.specs.Asks.{has_asked, own_ask, with_ask, lock_of_ask}
 use Rattle.core_state.specs.Stocks.{roomless}
-use Rattle.core_state.specs.Searches.{NeedsSpace, Rules, Spaces, Off, Back, Busy}
-use Rattle.core_state.specs.Goods.{HasCommand, IsAt, IsNode, Good, held_by}
-use Rattle.core_state.specs.Events.{mode_in, space_locks, is_out, is_ended, is_wanted, gives_back_in, gives_back, stands}
-use Rattle.core_state.proofs.Holding.{HasIn, in_held_is, held_named}
+use Rattle.core_state.specs.Searches.{Rules, Spaces, Off, Back, Busy}
+use Rattle.core_state.specs.Goods.{HasCommand, IsNode, Good, held_by}
+use Rattle.core_state.specs.Events.{mode_in, space_locks, is_ended, is_wanted, gives_back_in, gives_back, stands}
 use Rattle.core_state.proofs.Excluding.{exclusive_is_sole}
 use Rattle.core_state.proofs.Running.{kept_held}
 use Rattle.core_state.proofs.Naming.{one_of, mode_is, asked_is}
 use Rattle.core_state.proofs.Keeping.{kept_once, kept_apart, asked_apart}
 use Rattle.core_state.proofs.Standing.{come_by}
+use Rattle.core_state.proofs.Turning.{has_name}
 use Rattle.core_live.specs.Moving.{Moves}
 use Rattle.core_live.proofs.Turning.{moves_on}
 use Rattle.core_live.proofs.Holders.{IsHolder, holder}
-use Rattle.core_live.proofs.Standing.{stands_parts, at_work, ClaimsX, SharesX, HasX, ClaimsV, claims_so, me, mine, now, Asks, asks, in_front, front_held, quota_front, v_before, no_v_before, held_where, claims_free, not_needing, busy_quota, sole_quota}
-
-pub has_name : (ls : Row) (name : LockName) (mode : Mode) → Has ls (name, mode) → Has (names_of ls) name
-has_name [] name mode h = absurd h
-has_name (l ∷ ls) name mode (inl e) = inl (ap (λ (y : LockName × Mode). y.0) e)
-has_name (l ∷ ls) name mode (inr h) = inr (has_name ls name mode h)
+use Rattle.core_live.proofs.Standing.{stands_parts, ClaimsX, SharesX, HasX, ClaimsV, claims_so, me, mine, Asks, asks, in_front, quota_front, v_before, no_v_before, held_where, claims_free, not_needing, busy_quota, sole_quota}
 
 none_waits : (w : Plain) (n : ℕ) (ls : Row) → ls ≡ [] → waits_at w.locks n ls ≡ true → ⊥
 none_waits w n ls e h = absurd (let f : false ≡ true = sym (ap (waits_at w.locks n) e) ∙ h in cc)

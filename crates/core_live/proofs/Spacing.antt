@@ -1,15 +1,14 @@
 -- Each event of the rules for space leaves less to be done.
-use Rattle.std.proofs.Common.{◌≡◌, ◌≢◌, ◌⊎◌, ◌≤◌, ◌<◌, ◌+◌, ◌-◌, ◌++◌, ◌&&◌, ◌||◌, not, min, ℕ, zero, suc, Bool, true, false, cond, List, [], ◌∷◌, Option, Some, None, is_some, length, drop, slice_get, append-nil, refl, sym, ap, subst, ◌∙◌, inl, inr, arith}
+use Rattle.std.proofs.Common.{◌≡◌, ◌≤◌, ◌<◌, ◌+◌, ◌-◌, ◌++◌, ◌&&◌, min, ℕ, Bool, true, false, cond, List, [], ◌∷◌, Option, Some, None, is_some, length, drop, slice_get, refl, sym, ap, subst, ◌∙◌, inl, inr, arith}
 use Rattle.std.proofs.lemmas.List.{length-append, length-drop}
 use Rattle.std.specs.Prelude.{slice_index_or}
 use Rattle.vol_words.specs.Fields.{Block}
 use Rattle.lock_db.specs.declared.name.LockName.{LockName}
 use Rattle.lock_db.specs.declared.name.LockName.TheVariants.{X, V}
 use Rattle.plain_cat.specs.declared.mode.Mode.{Mode}
-use Rattle.plain_cat.specs.declared.mode.Mode.TheVariants.{NL, CR, CW, PR, PW, EX}
+use Rattle.plain_cat.specs.declared.mode.Mode.TheVariants.{NL, CR, PW, EX}
 use Rattle.plain_cat.specs.declared.command.Cmd.{Cmd}
 use Rattle.plain_cat.specs.declared.reply.Refusal.{Refusal}
-use Rattle.plain_vol.specs.Own.{lines_of}
 use Rattle.node_locks.specs.Held.{Row, names_of, HoldsItsLocks, waits_at, without}
 use Rattle.node_cache.specs.Cached.{Cached}
 use Rattle.vol_owners.specs.Lists.{Has, Once}
@@ -21,7 +20,6 @@ use Rattle.op_law.specs.declared.need.PlanWrite.{PlanWrite}
 use Rattle.op_law.specs.declared.seen.Seen.{Seen}
 use Rattle.op_law.specs.Events.{space_of, has_space, HasNoSpace}
 use Rattle.op_law.specs.Needs.{events_of, IsNext}
-use Rattle.op_law.specs.Knows.{takes_space}
 use Rattle.extent_cache.specs.Takings.{holds_enough}
 use Rattle.node_space.specs.declared.outcome.Search.{Search}
 use Rattle.node_space.specs.declared.outcome.Search.TheVariants as search
@@ -37,90 +35,36 @@ use Rattle.core_space.specs.declared.event.SpaceEvent.TheVariants as space
 use Rattle.core_space.specs.declared.event.Decision.{Decision}
 use Rattle.core_space.specs.Filling.{clusters_to_take, lacks_number, fill_place, filled}
 use Rattle.core_space.specs.Giving.{give_place, give_writes}
-use Rattle.core_space.specs.Rule.{SpaceState, is_shared, is_exclusive, is_writer, is_reader, no_run, put_of, after_writes, after_looks, next_fill, next_give, by_search, event_in, space_event, back_event, looks_on, decides, give_by, fill_or_give, fill_by, search_by, decision_in}
+use Rattle.core_space.specs.Rule.{SpaceState, is_shared, is_exclusive, is_writer, is_reader, no_run, put_of, after_writes, after_looks, next_fill, next_give, event_in, back_event, looks_on, decides, give_by, fill_or_give, fill_by, search_by, decision_in}
 use Rattle.core_state.specs.Worlds.{Stock, NodeState, Plain, node_at, set_node, rows_of}
 use Rattle.core_state.specs.Asks.{is_claiming}
 use Rattle.core_state.specs.Event.{Event}
 use Rattle.core_state.specs.Event as event
 use Rattle.core_state.specs.Stocks.{roomless}
-use Rattle.core_state.specs.Searches.{begun_run, wanted_by, numbered_by, lacks_by, found_by, NeedsSpace, IsOff, next_back, IsGoingBack, LooksOn, WritesBack, IsWritingBack, IsGivingBack, IsServed, IsGiven, AsksShared, IsFilling, FillLooks, FillWrites, HasFilled, IsDraining, AsksAlone, IsLooking, IsTaking, HasTaken, Rules, Served, Given, Shared, Fills, Grabs, Filled, Drains, Alone, Looking, Taking, Taken, Refused, Spaces, Off, Back, Busy}
-use Rattle.core_state.specs.Stores.{AreKept}
+use Rattle.core_state.specs.Searches.{begun_run, wanted_by, numbered_by, lacks_by, IsOff, IsGoingBack, LooksOn, WritesBack, IsWritingBack, IsGivingBack, IsServed, IsGiven, AsksShared, IsFilling, FillLooks, FillWrites, HasFilled, IsDraining, AsksAlone, IsLooking, IsTaking, HasTaken, Rules, Served, Given, Shared, Fills, Grabs, Filled, Drains, Alone, Looking, Taking, Taken, Refused, Spaces, Off, Back, Busy}
 use Rattle.core_state.specs.Goods.{IsNode, Good}
-use Rattle.core_state.specs.Events.{mode_in, space_state, is_out, by_put, by_rule, phase_begun, may_serve, serves, space_need, by_space, gives_back_in, gives_back, by_back, happens, or_use, has_current, one_more, block_at, block_used, cache_looked, cache_used, cache_written, turned, caching, claiming, lowering, lowering_both, returning, space_writing, told_by, given_by, stocked_by, is_last, ready_of, ready_left}
-use Rattle.core_state.proofs.Naming.{none_of, one_of, mode_is, mode_has, from_without}
+use Rattle.core_state.specs.Events.{mode_in, space_state, is_out, by_put, by_rule, phase_begun, may_serve, serves, space_need, gives_back_in, gives_back, by_back, happens, or_use, has_current, one_more, block_at, block_used, cache_looked, cache_used, cache_written, turned, caching, claiming, lowering, lowering_both, returning, space_writing, told_by, given_by, stocked_by, is_last, ready_of, ready_left}
+use Rattle.core_state.proofs.Naming.{none_of, one_of, mode_is, from_without}
 use Rattle.core_state.proofs.Keeping.{kept_once, claims_once, kept_apart}
 use Rattle.core_state.proofs.Sweeps.{once_names}
 use Rattle.core_state.proofs.Seeking.{no_space, wants_some, wants_nothing}
 use Rattle.core_state.proofs.Turning.{may_need, space_now}
 use Rattle.core_state.proofs.Fillings.{fill_over}
 use Rattle.core_state.proofs.Looks.{come_so, space_seen_so}
-use Rattle.core_state.proofs.Backing.{IsDue, due_is, off_so}
+use Rattle.core_state.proofs.Backing.{IsDue, due_is}
 use Rattle.core_state.proofs.Midway.{drive_so}
-use Rattle.core_live.specs.Measure.{plan_steps, looks_left, give_left_by, give_left, by_claim, rule_steps, return_by, return_left, steps_of, rest_of, left_in, left_from, left}
-use Rattle.core_live.proofs.Standing.{at_work, me, mine, now}
+use Rattle.core_state.proofs.Rulings.{fill_so, last_so, back_so, none_at, none_behind, some_at, there_is, not_writer, v_not_kept}
+use Rattle.core_live.specs.Measure.{plan_steps, looks_left, give_left_by, give_left, by_claim, rule_steps, return_by, return_left, steps_of, rest_of, left_from, left}
+use Rattle.core_live.proofs.Standing.{at_work, me, mine}
 use Rattle.core_live.proofs.Sums.{node_less, steps_on, steps_over, back_on}
 use Rattle.core_live.proofs.Bounds.{steps_few, room, line_left}
-use Rattle.core_live.proofs.Keeping.{mode_without, reader_has, has_reader, reads_left, none_left, not_back, no_more}
+use Rattle.core_live.proofs.Keeping.{reader_has, has_reader, reads_left, none_left, no_more}
 use Rattle.core_live.proofs.Counting.{looks_less, looks_few, back_few, looked_few, found_few, filled_few, writes_left, write_within, blocks_few}
 
 -- ---- the events, by what they ask of
 
-abbrev fill_so : Bool → Bool → Option PlanWrite → Option ℕ → SpaceEvent
-fill_so a b o l = cond (not a) (space.Ask X CR) (cond (not b) (space.Ask V PW) (after_writes (put_of o) (after_looks l space.LowerV)))
-
 abbrev drain_so : Option PlanWrite → Option ℕ → SpaceEvent
 drain_so o l = after_writes (put_of o) (after_looks l space.LowerX)
-
-abbrev last_so : Bool → Bool → Option PlanWrite → Search → SpaceEvent
-last_so a b o r = cond (not a) (space.Ask X EX) (cond (not b) (space.Ask V PW) (after_writes (put_of o) (by_search r)))
-
-abbrev back_so : Bool → Option PlanWrite → Option ℕ → SpaceEvent
-back_so b o l = cond (not b) (space.Ask V PW) (after_writes (put_of o) (after_looks l space.Return))
-
-none_at : (ws : List PlanWrite) (k : ℕ) → ws ≡ [] → slice_get ws k ≡ None
-none_at ws k e = ap (λ vs. slice_get vs k) e ∙ none k where
-  none : (k : ℕ) → slice_get (let vs : List PlanWrite = [] in vs) k ≡ None
-  none zero = refl
-  none (suc k) = refl
-
-none_behind : (ws : List PlanWrite) (k : ℕ) → length ws ≤ k → slice_get ws k ≡ None
-none_behind [] k le = none_at [] k refl
-none_behind (w ∷ ws) zero le = absurd (omega arith)
-none_behind (w ∷ ws) (suc k) le = none_behind ws k (omega arith)
-
-record IsAt (ws : List PlanWrite) (k : ℕ) : Type 0 where
-  write : PlanWrite
-  at : slice_get ws k ≡ Some write
-
-some_at : (ws : List PlanWrite) (k : ℕ) → k < length ws → IsAt ws k
-some_at [] k lt = absurd (omega arith)
-some_at (w ∷ ws) zero lt = record { write = w; at = refl }
-some_at (w ∷ ws) (suc k) lt = let r = some_at ws k (omega arith) in record { write = r.write; at = r.at }
-
-record IsThere (o : Option ℕ) : Type 0 where
-  it : ℕ
-  is : o ≡ Some it
-
-there_is : (o : Option ℕ) → is_some o ≡ true → IsThere o
-there_is None e = absurd (let f : false ≡ true = e in cc)
-there_is (Some k) e = record { it = k; is = refl }
-
-not_writer : (ls : Row) → (Has ls (V, PW) → ⊥) → is_writer (mode_in V ls) ≡ false
-not_writer ls none = by_mode (mode_in V ls) refl where
-  by_mode : (o : Option Mode) → mode_in V ls ≡ o → is_writer o ≡ false
-  by_mode None e = refl
-  by_mode (Some NL) e = refl
-  by_mode (Some CR) e = refl
-  by_mode (Some CW) e = refl
-  by_mode (Some PR) e = refl
-  by_mode (Some PW) e = absurd (none (mode_has ls V PW e))
-  by_mode (Some EX) e = refl
-
-v_not_kept : (p : Phase) (ls : Row) → AreKept p ls → Has ls (V, PW) → ⊥
-v_not_kept p ls keeps h = elim (keeps (V, PW) h) [
-  | inl e ↦ absurd (let f : PW ≡ NL = e.1 in cc)
-  | inr e ↦ absurd (let f : V ≡ X = e.0 in cc)
-]
 
 -- ---- small steps
 

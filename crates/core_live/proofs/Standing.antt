@@ -1,14 +1,14 @@
 -- What a node holds that waits for a lock of its command, or for what its rules for space have claimed.
-use Rattle.std.proofs.Common.{◌≡◌, ◌≢◌, ◌⊎◌, ◌≤◌, ◌<◌, ◌++◌, ◌||◌, ◌&&◌, not, ℕ, Bool, true, false, cond, List, [], ◌∷◌, Option, Some, None, map, append-nil, refl, sym, ap, subst, ◌∙◌, inl, inr, arith}
+use Rattle.std.proofs.Common.{◌≡◌, ◌≢◌, ◌⊎◌, ◌≤◌, ◌++◌, ◌||◌, ◌&&◌, not, ℕ, Bool, true, false, cond, List, [], ◌∷◌, Option, Some, None, append-nil, refl, sym, ap, subst, ◌∙◌, inl, inr, arith}
 use Rattle.lock_db.specs.declared.name.LockName.{LockName}
 use Rattle.lock_db.specs.declared.name.LockName.TheVariants.{S, A, Q, X, V}
 use Rattle.plain_cat.specs.Modes.{rank}
 use Rattle.plain_cat.specs.declared.mode.Mode.{Mode}
-use Rattle.plain_cat.specs.declared.mode.Mode.TheVariants.{NL, CR, PR, PW, EX}
+use Rattle.plain_cat.specs.declared.mode.Mode.TheVariants.{NL, CR, PW, EX}
 use Rattle.plain_cat.specs.declared.command.Cmd.{Cmd}
 use Rattle.plain_cat.specs.declared.cat.Cat.{Cat}
 use Rattle.vol_words.specs.Fields.{Block}
-use Rattle.vol_owners.specs.Lists.{Has, StandsIn}
+use Rattle.vol_owners.specs.Lists.{Has}
 use Rattle.vol_owners.specs.Owners.{Owners, Outs}
 use Rattle.vol_owners.proofs.Listing.{has_parted, has_first, has_second}
 use Rattle.vol_owners.proofs.Writing.{stands_joined}
@@ -16,11 +16,10 @@ use Rattle.node_locks.specs.Held.{Row, names_of, HoldsItsLocks, is_queued_at, wa
 use Rattle.node_locks.proofs.Keeping.{writers_are_sole}
 use Rattle.node_locks.proofs.Standing.{waits-push, held-push, held-asked}
 use Rattle.op_law.specs.declared.need.Need.TheVariants as need
-use Rattle.op_law.specs.declared.need.Ask.{Ask}
 use Rattle.op_law.specs.declared.need.Plan.{Plan}
 use Rattle.op_law.specs.declared.seen.Seen.{Seen}
 use Rattle.op_law.specs.Events.{space_of, HasNoSpace}
-use Rattle.op_law.specs.Fits.{things, HasSeen, IsSeenOn}
+use Rattle.op_law.specs.Fits.{HasSeen, IsSeenOn}
 use Rattle.op_law.specs.Laws.{held_in, takes_lock, ComesInTurn, IsNewLock}
 use Rattle.core_space.specs.declared.run.Phase.{Phase}
 use Rattle.core_space.specs.declared.run.Phase.TheVariants as phase
@@ -32,7 +31,6 @@ use Rattle.core_state.specs.Searches.{begun_run, HasCome, NeedsSpace, Rules, Ser
 use Rattle.core_state.specs.Waiting.{WaitsForLock, IsAside, AsksForNumber}
 use Rattle.core_state.specs.Goods.{under_with, IsAtPlan, IsAt, HasCommand, IsNode, Good, held_by}
 use Rattle.core_state.proofs.Holding.{HasIn, in_held_is, is_in_held, held_grows, held_named}
-use Rattle.core_state.proofs.Running.{all_asked}
 use Rattle.core_state.proofs.Standing.{come_by}
 use Rattle.core_state.proofs.Midway.{first_known, drive_so, outs_so, seen_so, wide_so}
 use Rattle.core_live.proofs.Behind.{quota_before}

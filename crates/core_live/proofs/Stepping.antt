@@ -1,5 +1,5 @@
 -- Each step of a node leaves less to be done: its turn, or the death in its place; and there is little at first.
-use Rattle.std.proofs.Common.{◌≡◌, ◌≢◌, ◌⊎◌, ◌≤◌, ◌<◌, ◌+◌, ◌-◌, ◌*◌, ◌==◌, ◌&&◌, ◌||◌, not, min, ℕ, zero, suc, Bool, true, false, cond, List, [], ◌∷◌, Option, Some, None, length, slice_get, refl, sym, ap, subst, ◌∙◌, inl, inr, arith}
+use Rattle.std.proofs.Common.{◌≡◌, ◌≢◌, ◌⊎◌, ◌≤◌, ◌<◌, ◌+◌, ◌-◌, ◌*◌, ◌==◌, ◌||◌, ℕ, zero, suc, Bool, true, false, cond, List, [], ◌∷◌, Option, Some, None, length, slice_get, refl, sym, ap, ◌∙◌, inl, inr, arith}
 use Rattle.std.proofs.lemmas.Bool.Decides.{nat_tests}
 use Rattle.plain_cat.specs.declared.command.Cmd.{Cmd}
 use Rattle.plain_cat.specs.declared.script.Line.{Line}
@@ -16,8 +16,8 @@ use Rattle.core_state.specs.Worlds.{Stock, NodeState, Plain, node_at, set_node, 
 use Rattle.core_state.specs.Goods.{Good}
 use Rattle.core_state.specs.Event.{Event, Stand}
 use Rattle.core_state.specs.Event as event
-use Rattle.core_state.specs.Events.{mode_in, is_out, stands, event_of, event_now, next_event, turned, prepared, happen, happen_at, happens, after_turn, is_over_in, is_over}
-use Rattle.core_state.specs.Deaths.{gone, died_by, died_at, died, is_due, after_step}
+use Rattle.core_state.specs.Events.{mode_in, is_out, stands, next_event, turned, after_turn, is_over_in, is_over}
+use Rattle.core_state.specs.Deaths.{gone, died_at, died, is_due}
 use Rattle.core_live.specs.Measure.{return_by, return_left, steps_of, answers_left, rest_of, left_in, left_from, left, Changes, StepsLeaveLess, StepsLeaveNoMore, SomeIsLeft, LittleIsLeft}
 use Rattle.core_live.proofs.Sums.{same_some, none_some, node_less, alive_left}
 use Rattle.core_live.proofs.Bounds.{without_steps, room}

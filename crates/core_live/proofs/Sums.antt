@@ -1,5 +1,5 @@
 -- What is left of one node, and of all.
-use Rattle.std.proofs.Common.{◌≡◌, ◌≤◌, ◌<◌, ◌+◌, ◌-◌, ◌*◌, ◌||◌, ℕ, zero, suc, Bool, true, false, cond, List, [], ◌∷◌, Option, Some, None, length, slice_get, slice_set, refl, sym, ap, subst, ◌∙◌, arith}
+use Rattle.std.proofs.Common.{◌≡◌, ◌≤◌, ◌<◌, ◌+◌, ◌-◌, ◌||◌, ℕ, zero, suc, false, cond, List, [], ◌∷◌, Option, Some, None, length, slice_get, slice_set, sym, ap, subst, ◌∙◌, arith}
 use Rattle.plain_cat.specs.declared.script.Script.{Script}
 use Rattle.plain_vol.specs.Own.{NodePast, lines_of}
 use Rattle.core_state.specs.Worlds.{NodeState, Plain, node_at, set_node}

@@ -1,5 +1,5 @@
 -- A node whose requests stand in no queue moves.
-use Rattle.std.proofs.Common.{◌≡◌, ◌≢◌, ◌&&◌, ◌||◌, not, ℕ, Bool, true, false, cond, Option, Some, None, slice_get, refl, sym, ap, ◌∙◌}
+use Rattle.std.proofs.Common.{◌≡◌, ◌&&◌, ◌||◌, not, ℕ, Bool, true, false, cond, Option, Some, None, slice_get, refl, sym, ap, ◌∙◌}
 use Rattle.plain_cat.specs.declared.command.Cmd.{Cmd}
 use Rattle.plain_cat.specs.declared.reply.Reply.{Reply}
 use Rattle.plain_vol.specs.Own.{next_command}
@@ -21,7 +21,7 @@ use Rattle.core_state.specs.Worlds.{NodeState, Plain, node_at, with_node}
 use Rattle.core_state.specs.Asks.{writes_by}
 use Rattle.core_state.specs.Event.{Event}
 use Rattle.core_state.specs.Event as event
-use Rattle.core_state.specs.Events.{by_put, by_rule, phase_begun, serves, space_need, space_state, by_space, by_need, by_end, by_write, by_plan, by_command, by_turn, or_use, has_current, is_out, gives_back, stands, event_of, event_now, next_event, begun, prepared_by, serving, served_for, served_by, served, is_held_up, prepared, readied, is_over_in}
+use Rattle.core_state.specs.Events.{by_put, by_rule, phase_begun, serves, space_need, space_state, by_space, by_need, by_end, by_write, by_plan, by_command, by_turn, or_use, has_current, is_out, gives_back, stands, event_of, event_now, next_event, begun, prepared_by, serving, served_for, served_by, served, is_held_up, prepared, is_over_in}
 use Rattle.core_state.proofs.Nodes.{at_here}
 use Rattle.core_state.proofs.Preparing.{rests_prepared, readied_is}
 use Rattle.core_live.specs.Moving.{Moves}

@@ -1,6 +1,6 @@
 -- What the loops over bits, blocks and numbers have worked out after each turn.
-use Rattle.std.proofs.Common.{◌≡◌, ◌<◌, ◌≤◌, ◌+◌, ◌-◌, ◌*◌, ◌/◌, ◌%◌, ◌&&◌, ◌||◌, ◌++◌, ℕ, zero, suc, Bool, true, false, List, [], ◌∷◌, Some, None, length, get_or, refl, sym, ap, subst, ◌∙◌, inl, arith, append-nil, append_assoc, length-append, cond, nat_le, nat_lt}
-use Rattle.std.specs.Prelude.{min, not, take, filter, find, map, option_map, slice_index_or, Result, Ok, Err, OnOk}
+use Rattle.std.proofs.Common.{◌≡◌, ◌<◌, ◌≤◌, ◌+◌, ◌-◌, ◌*◌, ◌/◌, ◌%◌, ◌&&◌, ◌||◌, ◌++◌, ℕ, zero, suc, Bool, true, false, List, [], ◌∷◌, Some, None, length, get_or, refl, sym, ap, ◌∙◌, inl, arith, append-nil, append_assoc, length-append, cond, nat_le, nat_lt}
+use Rattle.std.specs.Prelude.{min, not, take, filter, find, map, option_map, slice_index_or}
 use Rattle.std.specs.List.{range_with_len, All}
 use Rattle.std.proofs.lemmas.Bool.Decides.{nat_tests}
 use Rattle.std.proofs.lemmas.List.{take_more, length-take, length-map, take-map, map-append}
@@ -9,7 +9,6 @@ use Rattle.std.proofs.lemmas.List.Sums.{fold-append}
 use Rattle.vol_words.specs.Fields.{Block}
 use Rattle.fx_bitmap.specs.Bits.{bit_at, bits_put}
 use Rattle.plain_cat.specs.declared.reply.Refusal.TheVariants.{DeviceFull}
-use Rattle.extent_cache.specs.Stock.{Stock}
 use Rattle.vol_owners.specs.Lists.{Has}
 use Rattle.vol_parts.specs.declared.geometry.Geometry.{Geometry}
 use Rattle.vol_parts.specs.declared.geometry.Part.TheVariants.{Storage}
@@ -25,8 +24,8 @@ use Rattle.node_space.proofs.Chosen.{LiesIn, has_free}
 use Rattle.node_space.proofs.Concluding.{at_most_16}
 use Rattle.node_space.proofs.Ranges.{filter_passed, filter_failed, find_here, find_on}
 use Rattle.node_space.proofs.Taken.{take_none, take_parts}
-use Rattle.core_space.specs.Filling.{clusters_to_take, storage_part, free_numbers, lowest_numbers, numbers_taken, clusters_taken, index_writes, storage_writes, fill_writes, suffices, filled}
-use Rattle.core_space.specs.Giving.{has_covered, is_seen, is_wanting, storage_range, clusters_place, give_place, clusters_back}
+use Rattle.core_space.specs.Filling.{clusters_to_take, storage_part, free_numbers, lowest_numbers, numbers_taken, index_writes, storage_writes, fill_writes, suffices, filled}
+use Rattle.core_space.specs.Giving.{has_covered, is_seen, is_wanting, clusters_place, clusters_back}
 
 -- ---- counting
 

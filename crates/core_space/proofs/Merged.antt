@@ -1,11 +1,11 @@
 -- What a stock holds that has taken more.
-use Rattle.std.proofs.Common.{◌≡◌, ◌⊎◌, ◌==◌, ◌∙◌, ◌↔◌, ℕ, Bool, true, false, List, [], ◌∷◌, ◌++◌, refl, sym, ap, subst, inl, inr, arith, cond, nat_le, nat_lt}
+use Rattle.std.proofs.Common.{◌≡◌, ◌⊎◌, ◌==◌, ◌↔◌, ℕ, Bool, true, false, List, [], ◌∷◌, ◌++◌, refl, sym, ap, subst, inl, inr, arith, cond, nat_lt}
 use Rattle.std.specs.Prelude.{filter, not}
 use Rattle.std.proofs.lemmas.Bool.{or_from}
 use Rattle.std.proofs.lemmas.Bool.Decides.{nat_tests}
 use Rattle.extent_cache.specs.Stock.{holds, put_in, with_one, merged}
 use Rattle.extent_cache.proofs.RisingLists.{le-not_lt}
-use Rattle.vol_owners.specs.Lists.{Has, Once, AreApart, Parts}
+use Rattle.vol_owners.specs.Lists.{Has, Once, AreApart}
 use Rattle.vol_owners.proofs.Listing.{has_parted, has_first, has_second, once_in_a_row, once_first, once_second, once_apart, filtered}
 use Rattle.core_space.specs.Laws.{StocksTakeAll}
 

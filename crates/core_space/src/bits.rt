@@ -1,6 +1,6 @@
 //! What is free by the bits of a block, and blocks with other bits.
 
-ghost use Rattle.std.specs.Prelude.{◌≡◌, ◌<◌, ◌≤◌, ◌+◌, ◌-◌, ◌*◌, ◌/◌, IfOk, filter, take, length};
+ghost use Rattle.std.specs.Prelude.{◌≡◌, ◌<◌, ◌≤◌, ◌+◌, ◌-◌, ◌*◌, ◌/◌, IfOk, filter, length};
 ghost use Rattle.std.specs.List.{All};
 ghost use Rattle.extent_cache.specs.Stock.{is_covered};
 ghost use Rattle.vol_parts.specs.Parts.{IsGeometry, storage_blocks};

@@ -2,12 +2,11 @@
 
 ghost use Rattle.std.specs.Prelude.{◌≡◌, ◌≤◌, ◌+◌, ◌++◌, ◌&&◌, ◌||◌, not, nat_lt, nat_le, IfOk, OnOk, length, map};
 ghost use Rattle.std.specs.List.{All};
-ghost use Rattle.extent_cache.specs.Stock.{Holds};
 ghost use Rattle.vol_parts.specs.Parts.{IsGeometry};
 ghost use Rattle.op_law.specs.Writing.{with_numbers};
-ghost use Rattle.node_space.specs.Searching.{free_from, cluster_writes};
+ghost use Rattle.node_space.specs.Searching.{free_from};
 ghost use Rattle.node_space.specs.Answering.{blocks_of};
-ghost use Rattle.core_space.specs.Filling.{clusters_to_take, lacks_number, storage_part, storage_place, fill_place, numbers_taken, clusters_taken, numbers_write, index_writes, storage_writes, filled};
+ghost use Rattle.core_space.specs.Filling.{clusters_to_take, lacks_number, storage_part, storage_place, fill_place, numbers_taken, numbers_write, index_writes, storage_writes, filled};
 
 use crate::bits::{count_free, lowest_numbers, storage_blocks, with_used};
 use crate::run::SpaceNeed;

@@ -1,6 +1,6 @@
 //! A stock that is given back to the bitmaps.
 
-ghost use Rattle.std.specs.Prelude.{◌≡◌, ◌≤◌, ◌<◌, ◌++◌, IfOk, OnOk, length, map, filter};
+ghost use Rattle.std.specs.Prelude.{◌≡◌, ◌≤◌, ◌<◌, ◌++◌, IfOk, OnOk, map, filter};
 ghost use Rattle.std.specs.List.{All};
 ghost use Rattle.vol_parts.specs.Parts.{IsGeometry};
 ghost use Rattle.lock_db.specs.declared.name.LockName.TheVariants.{V};

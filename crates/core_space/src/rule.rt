@@ -1,6 +1,6 @@
 //! Which event comes next, and what a look comes to.
 
-ghost use Rattle.std.specs.Prelude.{◌≡◌, ◌≤◌, IfOk, OnErr, None, length, slice_get};
+ghost use Rattle.std.specs.Prelude.{◌≡◌, ◌≤◌, IfOk, OnErr, None, slice_get};
 ghost use Rattle.extent_cache.specs.Stock.{Stock};
 ghost use Rattle.extent_cache.specs.Takings.{holds_enough};
 ghost use Rattle.vol_parts.specs.Parts.{IsGeometry};

@@ -1,5 +1,5 @@
 -- A node changes alone, and begins a command.
-use Rattle.std.proofs.Common.{◌≡◌, ◌⊎◌, ◌≢◌, ◌≤◌, ◌+◌, ◌*◌, ◌||◌, ℕ, Bool, true, false, cond, List, [], Option, Some, None, is_some, map, refl, sym, ap, subst, ◌∙◌, inl, inr, arith}
+use Rattle.std.proofs.Common.{◌≡◌, ◌⊎◌, ◌≢◌, ◌≤◌, ◌+◌, ◌*◌, ℕ, Bool, true, false, cond, List, [], Option, Some, None, is_some, map, refl, sym, ap, subst, ◌∙◌, inl, inr, arith}
 use Rattle.lock_db.specs.declared.name.LockName.{LockName}
 use Rattle.lock_db.specs.declared.name.LockName.TheVariants.{X}
 use Rattle.plain_cat.specs.declared.mode.Mode.{Mode}
@@ -35,6 +35,7 @@ use Rattle.core_state.proofs.CachedKinds.{quiet_cached, quiet_writes}
 use Rattle.core_state.proofs.Taking.{its_outs, its_seen, its_guards, becomes}
 use Rattle.core_state.proofs.SmallWorlds.{OwesLess, small_set}
 use Rattle.core_state.proofs.Keeping.{still_driven, rebuilt, held_same, loses_nothing}
+use Rattle.core_state.proofs.Seeking.{neither}
 
 -- what holds of what a node has outside stays, where it was given the same, has the same in stock, and keeps X
 pub stays_stocked : (s r : NodeState) → things r.seen.clusters r.seen.number ≡ things s.seen.clusters s.seen.number → stock_now r.stock r.run ≡ stock_now s.stock s.run → (Has (held_in CR s.kept) X → Has (held_in CR r.kept) X) → IsStocked s → IsStocked r
@@ -50,11 +51,6 @@ pub x_stays_without : (ls : List (LockName × Mode)) (name : LockName) → name 
 x_stays_without ls name ne h =
     let k = in_held_is CR ls X h in
     is_in_held CR (without name ls) X (record { in_mode = k.in_mode; has = stays_without ls name (X, k.in_mode) k.has (λ e. ne (sym e)); strong = k.strong })
-
--- neither of two
-pub neither : (a b : Bool) → (a || b) ≡ false → (a ≡ false) × (b ≡ false)
-neither true b e = absurd (let f : true ≡ false = e in cc)
-neither false b e = (refl, e)
 
 -- ---- a node of a good world
 

@@ -1,19 +1,16 @@
 -- What an event of one node leaves of the cached blocks of all nodes, told of one entry.
-use Rattle.std.proofs.Common.{◌≡◌, ◌≢◌, ◌≤◌, ◌<◌, ◌+◌, ◌⊎◌, ◌∙◌, ℕ, zero, suc, Bool, true, false, List, Option, Some, None, refl, sym, ap, subst, inl, inr, arith}
+use Rattle.std.proofs.Common.{◌≡◌, ◌≢◌, ◌≤◌, ◌+◌, ◌⊎◌, ◌∙◌, ℕ, zero, suc, Bool, true, false, Option, Some, None, refl, sym, ap, subst, inl, inr, arith}
 use Rattle.std.specs.Prelude.{max}
-use Rattle.vol_words.specs.Fields.{Block}
 use Rattle.lock_db.specs.declared.name.LockName.{LockName}
 use Rattle.lock_db.specs.Tables.{resource_at}
 use Rattle.plain_cat.specs.declared.cat.Cat.{Cat}
 use Rattle.vol_owners.specs.Owners.{Owners}
-use Rattle.vol_parts.specs.declared.geometry.Geometry.{Geometry}
 use Rattle.node_locks.specs.Held.{joined, names_of}
 use Rattle.node_locks.specs.Sequences.{rise}
 use Rattle.node_cache.specs.Cached.{Cached}
 use Rattle.vol_owners.specs.Lists.{Has}
 use Rattle.vol_owners.proofs.Listing.{same_or_not}
 use Rattle.core_state.specs.Worlds.{NodeState, Plain, node_at, rows_of}
-use Rattle.core_state.specs.Caches.{sequence_now}
 use Rattle.core_state.specs.Stores.{hold_writes, part_raise, rise_now, IsWriter, HasWritten, IsUnwritten, IsTrue, now_of, IsCurrent, IsAhead, IsCachedAt}
 
 -- ---- rises

@@ -1,23 +1,22 @@
 -- The cached blocks of all nodes where a node puts back its locks: at its answer, or as it lowers V.
-use Rattle.std.proofs.Common.{◌≡◌, ◌≢◌, ◌≤◌, ◌+◌, ◌∙◌, ◌⊎◌, ℕ, zero, suc, Bool, true, false, cond, List, [], Option, Some, None, refl, sym, ap, subst, inl, inr, arith}
+use Rattle.std.proofs.Common.{◌≡◌, ◌≤◌, ℕ, Bool, true, false, cond, List, [], refl, ap, inl, inr, arith}
 use Rattle.vol_words.specs.Fields.{Block}
 use Rattle.lock_db.specs.declared.name.LockName.{LockName}
 use Rattle.lock_db.specs.declared.resource.Resource.{Resource}
 use Rattle.lock_db.specs.Tables.{resource_at}
 use Rattle.lock_db.specs.Laws.{BlockIs, BlockStays}
 use Rattle.plain_cat.specs.declared.history.Entry.{Entry}
-use Rattle.vol_owners.specs.Lists.{Has}
 use Rattle.vol_parts.specs.declared.geometry.Geometry.{Geometry}
-use Rattle.node_locks.specs.Sequences.{rise, first_sequence, second_sequence, raised_block}
+use Rattle.node_locks.specs.Sequences.{first_sequence, second_sequence, raised_block}
 use Rattle.node_cache.specs.Cached.{Cached}
 use Rattle.op_law.specs.declared.need.PlanWrite.{PlanWrite}
 use Rattle.core_state.specs.Worlds.{NodeState, Plain}
 use Rattle.core_state.specs.Raises.{is_first_part, raise_of}
-use Rattle.core_state.specs.Caches.{part_sequence, sequence_now}
+use Rattle.core_state.specs.Caches.{part_sequence}
 use Rattle.core_state.specs.Small.{GoesOn}
-use Rattle.core_state.specs.Stores.{hold_writes, part_raise, rise_now, IsWriter, now_of}
+use Rattle.core_state.specs.Stores.{hold_writes, part_raise, IsWriter}
 use Rattle.core_state.proofs.Keeping.{altered}
-use Rattle.core_state.proofs.Cached.{none_or_some, written_by, valid_at, Goes, Stays, Lowered}
+use Rattle.core_state.proofs.Cached.{none_or_some, written_by, Goes, Stays, Lowered}
 use Rattle.core_state.proofs.CachedTables.{part_is_raised}
 
 -- where nothing was written, no part is raised

@@ -42,7 +42,7 @@ use Rattle.core_state.proofs.PutBacks.{low_keeps, keeps_entry, keeps_none, stays
 
 -- ---- modes
 
-writes_pw : (m : Mode) → rank PW ≤ rank m → is_writing m ≡ true
+pub writes_pw : (m : Mode) → rank PW ≤ rank m → is_writing m ≡ true
 writes_pw NL le = absurd (omega (arith, le))
 writes_pw CR le = absurd (omega (arith, le))
 writes_pw CW le = absurd (omega (arith, le))
@@ -50,7 +50,7 @@ writes_pw PR le = absurd (omega (arith, le))
 writes_pw PW le = refl
 writes_pw EX le = refl
 
-pw_writes : (m : Mode) → is_writing m ≡ true → rank PW ≤ rank m
+pub pw_writes : (m : Mode) → is_writing m ≡ true → rank PW ≤ rank m
 pw_writes NL e = absurd (let f : false ≡ true = e in cc)
 pw_writes CR e = absurd (let f : false ≡ true = e in cc)
 pw_writes CW e = absurd (let f : false ≡ true = e in cc)

@@ -22,9 +22,8 @@ use Rattle.lock_db.proofs.Owners.{same_owner-refl, same_owner-same}
 use Rattle.lock_db.proofs.Rules.{Contains-cases, Contains-first, Contains-later}
 use Rattle.lock_db.proofs.Steps.{IsTable-dropped}
 use Rattle.lock_db.proofs.Blocks.{deaths-clear}
-use Rattle.plain_cat.specs.Modes.{rank}
 use Rattle.plain_cat.specs.declared.mode.Mode.{Mode}
-use Rattle.plain_cat.specs.declared.mode.Mode.TheVariants.{NL, CR, CW, PR, PW, EX}
+use Rattle.plain_cat.specs.declared.mode.Mode.TheVariants.{NL, PW}
 use Rattle.plain_cat.specs.declared.history.Entry.{Entry}
 use Rattle.plain_cat.specs.declared.cat.Cat.{Cat}
 use Rattle.plain_cat.specs.declared.cat.Open.{Open}
@@ -54,24 +53,9 @@ use Rattle.core_state.proofs.CachedEvents.{all_cached}
 use Rattle.core_state.proofs.CachedUses.{sole_writer}
 use Rattle.core_state.proofs.CachedAnswers.{none_raised}
 use Rattle.core_state.proofs.CachedOthers.{rows_stand}
+use Rattle.core_state.proofs.CachedBacks.{writes_pw, pw_writes}
 
 -- ---- who writes
-
-writes_from : (mode : Mode) → rank PW ≤ rank mode → is_writing mode ≡ true
-writes_from NL le = absurd (omega (arith, le))
-writes_from CR le = absurd (omega (arith, le))
-writes_from CW le = absurd (omega (arith, le))
-writes_from PR le = absurd (omega (arith, le))
-writes_from PW le = refl
-writes_from EX le = refl
-
-from_writes : (mode : Mode) → is_writing mode ≡ true → rank PW ≤ rank mode
-from_writes NL e = absurd (let f : false ≡ true = e in cc)
-from_writes CR e = absurd (let f : false ≡ true = e in cc)
-from_writes CW e = absurd (let f : false ≡ true = e in cc)
-from_writes PR e = absurd (let f : false ≡ true = e in cc)
-from_writes PW e = omega arith
-from_writes EX e = omega arith
 
 or_second : (a b : Bool) → b ≡ true → (a || b) ≡ true
 or_second true b e = refl
@@ -155,7 +139,7 @@ writer_holds t n name rows having table holds opens guards e = by_part h.asker.o
   by_part : (k : ℕ) → h.asker.owner.part ≡ k → Has (held_in PW (all_held t n rows)) name
   by_part zero part =
       let has : Has (all_held t n rows) (name, h.mode) = holders_hold t n name h.asker h.mode rows table holds h.there (owner_is h.asker.owner h.node part) h.holds not_low in
-      is_in_held PW (all_held t n rows) name (record { in_mode = h.mode; has = has; strong = from_writes h.mode h.writes })
+      is_in_held PW (all_held t n rows) name (record { in_mode = h.mode; has = has; strong = pw_writes h.mode h.writes })
   by_part (suc k) part =
       let none : stands_at name h.asker.owner t ≡ None = opens name h.asker.owner (omega (arith, part)) ∙ no_channel name (having h.asker.owner) guards in
       absurd (let f : true ≡ false = sym (there_stands (resource_at name t).askers h.asker h.there) ∙ ap is_some none in cc)
@@ -164,7 +148,7 @@ writer_holds t n name rows having table holds opens guards e = by_part h.asker.o
 pub holder_writes : (t : List Resource) (n : ℕ) (name : LockName) (rows : List Row) → HoldsItsLocks t n rows → Has (held_in PW (all_held t n rows)) name → list_any (is_writer_of n) (resource_at name t).askers ≡ true
 holder_writes t n name rows holds h =
     let k = in_held_is PW (all_held t n rows) name h in
-    system_writes n (resource_at name t).askers k.in_mode ((held_are_granted t n (name, k.in_mode) rows holds).0 k.has) (writes_from k.in_mode k.strong)
+    system_writes n (resource_at name t).askers k.in_mode ((held_are_granted t n (name, k.in_mode) rows holds).0 k.has) (writes_pw k.in_mode k.strong)
 
 -- ---- the value block
 

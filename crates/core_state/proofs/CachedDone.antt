@@ -1,6 +1,6 @@
 -- The writes of a plan that are done, on the committed blocks: each is under the lock that it names, and they leave the runs of
 -- directories.
-use Rattle.std.proofs.Common.{◌≡◌, ◌&&◌, ℕ, zero, suc, Bool, true, false, not, List, [], ◌∷◌, Option, Some, None, map, take, refl, ap, subst, inl, inr}
+use Rattle.std.proofs.Common.{◌≡◌, ◌&&◌, ℕ, zero, suc, Bool, true, false, not, List, [], ◌∷◌, Option, Some, None, map, take, refl, ap, subst}
 use Rattle.vol_words.specs.Fields.{Block}
 use Rattle.lock_db.specs.declared.name.LockName.{LockName}
 use Rattle.plain_cat.specs.declared.mode.Mode.TheVariants.{PW}
@@ -30,16 +30,10 @@ use Rattle.core_state.specs.Asks.{writes_by, writes_now}
 use Rattle.core_state.specs.Goods.{under_with, IsAtPlan, IsAt, HasCommand, IsNode, Good}
 use Rattle.core_state.proofs.Trying.{still_granted}
 use Rattle.core_state.proofs.Midway.{first_known, drive_so, outs_so, seen_so}
+use Rattle.core_state.proofs.Outside.{first_among}
 
 both : (a b : Bool) → a ≡ true → b ≡ true → (a && b) ≡ true
 both a b e f = (λ i. e i && f i)
-
--- the first ones are among all
-among_first : (k : ℕ) (ws : List PlanWrite) (v : PlanWrite) → Has (take k ws) v → Has ws v
-among_first zero ws v h = absurd h
-among_first (suc k) [] v h = absurd h
-among_first (suc k) (w ∷ ws) v (inl e) = inl e
-among_first (suc k) (w ∷ ws) v (inr h) = inr (among_first k ws v h)
 
 -- the first of the planned writes are the first writes, planned
 pub take_planned : (k : ℕ) (ws : List PlanWrite) → take k (map planned ws) ≡ map planned (take k ws)
@@ -107,7 +101,7 @@ module _ (w : Plain) (good : Good w) (n : ℕ) (s : NodeState) (at : node_at w.n
         law = subst (IsPlan n x s.seen p) ask whole
 
         by_granted : (c : Bool) → is_granted n a cat ≡ c → Sound v
-        by_granted true g = by_law p.writes p.reply (λ c. knows n x s.seen c && is_granted n a c) law.1 (both (knows n x s.seen cat) (is_granted n a cat) first g) v (among_first a.at p.writes v h)
+        by_granted true g = by_law p.writes p.reply (λ c. knows n x s.seen c && is_granted n a c) law.1 (both (knows n x s.seen cat) (is_granted n a cat) first g) v (first_among a.at p.writes v h)
         by_granted false g = by_law (take a.at p.writes) a.refused (λ c. knows n x s.seen c && not (is_granted n a c)) law.2 (both (knows n x s.seen cat) (not (is_granted n a cat)) first (ap not g)) v h
 
   -- the writes that are done, of a command or of none
@@ -117,8 +111,8 @@ module _ (w : Plain) (good : Good w) (n : ℕ) (s : NodeState) (at : node_at w.n
   sound : (v : PlanWrite) → Has writes_made v → Sound v
   sound v h = by_cmd s.cmd refl me.command where
     by_cmd : (o : Option Cmd) → s.cmd ≡ o → HasCommand w n s o → Sound v
-    by_cmd None e idle = absurd (subst (λ (o : Option Plan). Has (writes_now s.tried o) v) idle.plan (among_first s.done (writes_now s.tried s.plan) v h))
-    by_cmd (Some x) e i = by_plan x e s.plan refl i.plan v (among_first s.done (writes_now s.tried s.plan) v h)
+    by_cmd None e idle = absurd (subst (λ (o : Option Plan). Has (writes_now s.tried o) v) idle.plan (first_among s.done (writes_now s.tried s.plan) v h))
+    by_cmd (Some x) e i = by_plan x e s.plan refl i.plan v (first_among s.done (writes_now s.tried s.plan) v h)
 
   pub made_named : AreNamed n (held_in PW s.seen.locks) w.geometry own writes_made
   made_named v h = subst (λ (g : Geometry). IsNamed n (held_in PW s.seen.locks) v.lock (guard_of g own v.lbn)) me.geometry (sound v h).named

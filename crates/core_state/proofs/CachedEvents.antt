@@ -1,28 +1,21 @@
 -- The cached blocks of all nodes after an event of one: what it is enough to show, and the entries that a look and a write make.
-use Rattle.std.proofs.Common.{◌≡◌, ◌≢◌, ◌≤◌, ◌<◌, ◌+◌, ◌&&◌, ◌∙◌, ◌⊎◌, ℕ, zero, suc, Bool, true, false, cond, not, List, [], ◌∷◌, Option, Some, None, map, take, filter, find, slice_get, refl, sym, ap, subst, inl, inr, arith}
-use Rattle.std.specs.Prelude.{nat_le}
+use Rattle.std.proofs.Common.{◌≡◌, ◌≢◌, ◌≤◌, ◌+◌, ◌∙◌, ◌⊎◌, ℕ, zero, suc, Bool, true, false, cond, not, List, [], ◌∷◌, Option, Some, None, take, filter, find, refl, sym, ap, subst, inl, inr, arith}
 use Rattle.std.specs.Option.{option_map_or}
-use Rattle.std.specs.List.{list_any}
-use Rattle.std.proofs.lemmas.Bool.Decides.{nat_tests}
 use Rattle.vol_words.specs.Fields.{Block}
 use Rattle.lock_db.specs.declared.name.LockName.{LockName}
 use Rattle.lock_db.specs.Tables.{resource_at}
-use Rattle.lock_db.specs.Names.{is_same}
-use Rattle.lock_db.proofs.Names.{is_same-same}
 use Rattle.plain_cat.specs.declared.cat.Cat.{Cat}
 use Rattle.vol_owners.specs.Lists.{Has}
 use Rattle.vol_owners.specs.Owners.{Owners}
 use Rattle.vol_owners.proofs.Listing.{same_or_not}
-use Rattle.vol_under.specs.Guards.{Lock, Stock, guard_of}
 use Rattle.node_locks.specs.Held.{joined, names_of}
 use Rattle.node_locks.specs.Sequences.{rise}
-use Rattle.node_cache.specs.Cached.{Cached, cached, is_for, is_under, is_of, is_since, found, without, moved_to_front, used, kept, replaced}
+use Rattle.node_cache.specs.Cached.{Cached, cached, is_for, is_of, found, moved_to_front, used, kept, replaced}
 use Rattle.op_law.specs.declared.need.PlanWrite.{PlanWrite}
-use Rattle.op_law.specs.Laws.{IsCacheable}
 use Rattle.core_state.specs.Worlds.{NodeState, Plain, node_at, rows_of}
-use Rattle.core_state.specs.Caches.{sequence_now, next_sequence, kept_sequence, kept_with, least_sequence, rewritten}
-use Rattle.core_state.specs.Stores.{hold_writes, part_raise, rise_now, IsWriter, HasWritten, IsUnwritten, IsTrue, now_of, IsCurrent, IsAhead, IsCachedAt, AreCached}
-use Rattle.core_state.proofs.Cached.{none_or_some, same_state, rises_written, written_by, valid_at, Goes, Spoils, IsEventOf, other_stays, other_spoiled}
+use Rattle.core_state.specs.Caches.{sequence_now, next_sequence, least_sequence}
+use Rattle.core_state.specs.Stores.{hold_writes, part_raise, IsWriter, IsUnwritten, IsTrue, now_of, IsCachedAt, AreCached}
+use Rattle.core_state.proofs.Cached.{same_state, rises_written, written_by, valid_at, Goes, Spoils, IsEventOf, other_stays, other_spoiled}
 
 -- ---- all entries
 
@@ -68,7 +61,7 @@ pub has_kept : (new : Cached) (es : List Cached) (e : Cached) → Has (kept new 
 has_kept new es e (inl is) = inl is
 has_kept new es e (inr t) = inr (has_filtered (λ x. not (is_for new.lbn x)) es e (has_taken 63 (filter (λ x. not (is_for new.lbn x)) es) e t))
 
-some_entry : (a b : Cached) → Some a ≡ Some b → a ≡ b
+pub some_entry : (a b : Cached) → Some a ≡ Some b → a ≡ b
 some_entry a b g = ap entry_in g where
   entry_in : Option Cached → Cached
   entry_in None = a

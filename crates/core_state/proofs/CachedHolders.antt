@@ -1,5 +1,5 @@
 -- Who holds a lock in PW by the lock table is its node's file system.
-use Rattle.std.proofs.Common.{◌≡◌, ◌≢◌, ◌≤◌, ◌∙◌, ℕ, Bool, true, false, cond, List, [], ◌∷◌, Option, Some, None, Contains, find, option_map, option_and_then, refl, sym, ap, subst, arith}
+use Rattle.std.proofs.Common.{◌≡◌, ◌∙◌, ℕ, Bool, true, false, cond, List, [], ◌∷◌, Option, Some, None, Contains, find, option_map, option_and_then, refl, sym, ap, subst, arith}
 use Rattle.lock_db.specs.declared.name.LockName.{LockName}
 use Rattle.lock_db.specs.declared.name.Owner.{Owner}
 use Rattle.lock_db.specs.declared.askers.Asker.{Asker}
@@ -35,7 +35,7 @@ found_there owner (x ∷ xs) a e = by_test (same_owner x.owner owner) refl (foun
       (subst (Contains (x ∷ xs)) same (Contains-first x xs), ap (λ (y : Asker). y.owner) (sym same) ∙ same_owner-same x.owner owner t)
   by_test false t rest f = let h = rest f in (Contains-later x xs a h.0, h.1)
 
-pw_is : (o : Option Mode) → is_writer o ≡ true → o ≡ Some PW
+pub pw_is : (o : Option Mode) → is_writer o ≡ true → o ≡ Some PW
 pw_is None e = absurd (let f : false ≡ true = e in cc)
 pw_is (Some NL) e = absurd (let f : false ≡ true = e in cc)
 pw_is (Some CR) e = absurd (let f : false ≡ true = e in cc)

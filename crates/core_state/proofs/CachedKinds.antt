@@ -1,8 +1,6 @@
 -- The cached blocks of all nodes over kinds of events: those that leave the locks and the drive, and those that take a lock.
-use Rattle.std.proofs.Common.{◌≡◌, ◌≢◌, ◌≤◌, ◌+◌, ◌∙◌, ◌⊎◌, ℕ, Bool, true, false, List, Option, Some, None, refl, sym, ap, subst, inl, inr, arith}
+use Rattle.std.proofs.Common.{◌≡◌, ◌≤◌, ◌∙◌, ◌⊎◌, ℕ, List, Some, refl, sym, ap, subst, inl, inr, arith}
 use Rattle.lock_db.specs.declared.name.LockName.{LockName}
-use Rattle.lock_db.specs.declared.resource.Resource.{Resource}
-use Rattle.lock_db.specs.Tables.{resource_at}
 use Rattle.plain_cat.specs.declared.mode.Mode.TheVariants.{PW}
 use Rattle.plain_cat.specs.declared.cat.Cat.{Cat}
 use Rattle.vol_owners.specs.Lists.{Has}
@@ -13,14 +11,13 @@ use Rattle.node_locks.specs.Held.{Row, joined, names_of, all_held}
 use Rattle.node_cache.specs.Cached.{Cached}
 use Rattle.op_law.specs.declared.need.PlanWrite.{PlanWrite}
 use Rattle.op_law.specs.Laws.{held_in}
-use Rattle.core_state.specs.Worlds.{NodeState, Plain, node_at, set_node, with_node, rows_of}
-use Rattle.core_state.specs.Caches.{part_sequence}
+use Rattle.core_state.specs.Worlds.{NodeState, Plain, node_at, with_node, rows_of}
 use Rattle.core_state.specs.Goods.{nodes_under}
-use Rattle.core_state.specs.Stores.{hold_writes, part_raise, IsWriter, IsTrue, now_of, IsCachedAt, AreCached, AreHeldWrites}
+use Rattle.core_state.specs.Stores.{hold_writes, part_raise, IsWriter, IsTrue, IsCachedAt, AreCached, AreHeldWrites}
 use Rattle.core_state.proofs.Nodes.{at_here, at_else}
-use Rattle.core_state.proofs.Cached.{same_state, written_by, valid_at, Goes, Stays, IsEventOf, own_stays}
+use Rattle.core_state.proofs.Cached.{same_state, written_by, Goes, Stays, IsEventOf, own_stays}
 use Rattle.core_state.proofs.CachedWrites.{raises_under}
-use Rattle.core_state.proofs.CachedEvents.{IsLeftBy, all_cached}
+use Rattle.core_state.proofs.CachedEvents.{all_cached}
 use Rattle.core_state.proofs.CachedUses.{sole_writer}
 
 -- ---- an event that leaves the locks, the drive, and what its node has written

@@ -1,5 +1,5 @@
 -- The cache of a node after a look, a use and a write: what it is, and what its entries are.
-use Rattle.std.proofs.Common.{◌≡◌, ◌⊎◌, ◌≤◌, ◌+◌, ◌++◌, ◌∙◌, ℕ, Bool, true, false, List, [], ◌∷◌, Option, Some, None, slice_get, filter, length, not, cond, refl, sym, ap, subst, inl, inr, arith}
+use Rattle.std.proofs.Common.{◌≡◌, ◌⊎◌, ◌≤◌, ◌+◌, ◌++◌, ◌∙◌, ℕ, Bool, true, false, List, [], ◌∷◌, Option, Some, None, filter, length, not, cond, refl, sym, ap, subst, inl, inr, arith}
 use Rattle.std.specs.List.{list_any}
 use Rattle.vol_words.specs.Fields.{Block}
 use Rattle.lock_db.specs.declared.name.LockName.{LockName}
@@ -17,15 +17,15 @@ use Rattle.vol_parts.specs.declared.geometry.Part.{Part}
 use Rattle.vol_parts.specs.declared.geometry.Part.TheVariants.{Header, IndexBitmap, Storage, Quota}
 use Rattle.vol_parts.specs.Parts.{part_of}
 use Rattle.vol_spell.specs.Reading.{owner_at}
-use Rattle.vol_under.specs.Guards.{Guard, Lock, Stock, guard_by, guard_by_owner, guard_of}
-use Rattle.node_cache.specs.Cached.{Cached, cached, IsCache, is_since, found, used, kept, replaced}
+use Rattle.vol_under.specs.Guards.{Guard, Lock, Stock, guard_by, guard_of}
+use Rattle.node_cache.specs.Cached.{Cached, cached, IsCache, is_since, used, kept, replaced}
 use Rattle.node_cache.proofs.Entries.{cache-kept, cache-used, cache-replaced}
 use Rattle.node_locks.specs.Held.{joined, names_of, HoldsItsLocks, without}
 use Rattle.op_law.specs.declared.need.PlanWrite.{PlanWrite}
 use Rattle.core_space.specs.declared.run.Phase.{Phase}
 use Rattle.core_state.specs.Worlds.{NodeState, Plain, rows_of}
 use Rattle.core_state.specs.Caches.{sequence_now, next_sequence, kept_sequence, kept_with, kept_by_look, writes_at, least_sequence, rewritten}
-use Rattle.core_state.specs.Stores.{guards_blocks, AreKept, HasStore, IsWriter, IsTrue, IsCachedAt}
+use Rattle.core_state.specs.Stores.{guards_blocks, AreKept, HasStore, IsTrue, IsCachedAt}
 use Rattle.core_state.proofs.CachedEvents.{has_kept, has_used, has_replaced, kept_valid, kept_ahead}
 use Rattle.core_state.proofs.CachedHolders.{holds_to_write}
 use Rattle.core_state.proofs.Naming.{from_without}

@@ -1,5 +1,5 @@
 -- The value block of a lock that another node has, as a node gives back its locks with their value blocks as they are.
-use Rattle.std.proofs.Common.{◌≡◌, ◌≢◌, ◌⊎◌, ◌∙◌, ◌==◌, ℕ, Bool, true, false, cond, not, List, [], ◌∷◌, Option, Some, None, MatchBool, is_some, length, filter, find, refl, sym, ap, subst, inl, inr, arith}
+use Rattle.std.proofs.Common.{◌≡◌, ◌≢◌, ◌⊎◌, ◌∙◌, ℕ, Bool, true, false, cond, not, List, [], ◌∷◌, Some, None, is_some, find, refl, sym, ap, subst, inl, inr, arith}
 use Rattle.std.proofs.lemmas.Bool.Decides.{nat_tests}
 use Rattle.std.specs.Option.{option_map}
 use Rattle.lock_db.specs.declared.name.LockName.{LockName}
@@ -10,7 +10,7 @@ use Rattle.lock_db.specs.Names.{same_owner}
 use Rattle.lock_db.proofs.Owners.{same_owner-same}
 use Rattle.lock_db.specs.Queues.{is_writing, without, lock_of, standing_of}
 use Rattle.lock_db.specs.Tables.{resource_at, released}
-use Rattle.lock_db.specs.Laws.{stands_at, BlockIs, BlockStays, somebody}
+use Rattle.lock_db.specs.Laws.{stands_at, BlockStays, somebody}
 use Rattle.lock_db.proofs.Blocks.{released-leaves}
 use Rattle.plain_cat.specs.declared.mode.Mode.{Mode}
 use Rattle.vol_owners.specs.Lists.{Has, Once}

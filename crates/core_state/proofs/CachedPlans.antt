@@ -1,5 +1,5 @@
 -- The next write of a plan is under a lock that its node holds in PW, and that guards blocks.
-use Rattle.std.proofs.Common.{◌≡◌, ◌<◌, ◌&&◌, ◌∙◌, ℕ, zero, suc, Bool, true, false, not, List, [], ◌∷◌, Option, Some, None, length, map, take, slice_get, refl, sym, ap, subst, inl, inr}
+use Rattle.std.proofs.Common.{◌≡◌, ◌<◌, ◌&&◌, ℕ, Bool, true, false, not, List, Option, Some, None, length, map, slice_get, refl, sym, ap, subst}
 use Rattle.lock_db.specs.declared.name.LockName.{LockName}
 use Rattle.lock_db.specs.declared.name.LockName.TheVariants.{S, A, Q, X, V}
 use Rattle.plain_cat.specs.declared.mode.Mode.TheVariants.{PW}
@@ -32,7 +32,9 @@ use Rattle.core_state.specs.Asks.{writes_by, writes_now}
 use Rattle.core_state.specs.Goods.{IsAtPlan, Good, held_by}
 use Rattle.core_state.proofs.Holding.{held_named}
 use Rattle.core_state.proofs.Trying.{still_granted}
-use Rattle.core_state.proofs.Turning.{me, under_command, drive, here, outs_now, seen_on, known, writes_more, made_of, planned_at}
+use Rattle.core_state.proofs.Turning.{under_command, drive, here, outs_now, seen_on, known, writes_more, made_of, planned_at}
+use Rattle.core_state.proofs.Outside.{first_among}
+use Rattle.core_state.proofs.Fillings.{get_has}
 
 both : (a b : Bool) → a ≡ true → b ≡ true → (a && b) ≡ true
 both a b e f = (λ i. e i && f i)
@@ -51,18 +53,6 @@ module _ (g : Geometry) (bs : List Block) (own : Owners) (c : Cat) (s : Spells g
     by_part None e may = by_owner (owner_at g own l) refl may
 
 -- ---- small steps
-
--- the first ones are among all
-among_first : (k : ℕ) (ws : List PlanWrite) (v : PlanWrite) → Has (take k ws) v → Has ws v
-among_first zero ws v h = absurd h
-among_first (suc k) [] v h = absurd h
-among_first (suc k) (w ∷ ws) v (inl e) = inl e
-among_first (suc k) (w ∷ ws) v (inr h) = inr (among_first k ws v h)
-
-has_at : (ws : List PlanWrite) (k : ℕ) (v : PlanWrite) → slice_get ws k ≡ Some v → Has ws v
-has_at [] k v e = absurd (let f : None ≡ Some v = e in cc)
-has_at (w ∷ ws) zero v e = inl (let f : Some w ≡ Some v = e in cc)
-has_at (w ∷ ws) (suc k) v e = inr (has_at ws k v e)
 
 -- a lock that a command takes itself guards blocks
 own_guards : (x : Cmd) (name : LockName) → takes_lock x name ≡ true → guards_blocks name ≡ true
@@ -99,14 +89,14 @@ module _ (w : Plain) (good : Good w) (n : ℕ) (s : NodeState) (at : node_at w.n
     by_granted : (c : Bool) → is_granted n a good.running.cat ≡ c → Named v
     by_granted true e = law.1.named good.running.drive.base good.running.drive.own good.running.cat (stock_now s.stock s.run) (drive w good n s at x cmd free).spelt
         (both (knows n x s.seen good.running.cat) (is_granted n a good.running.cat) (known w good n s at x cmd free) e)
-        (seen_on w good n s at x cmd free).stands (outs_now w good n s at x cmd free) v (among_first a.at p.writes v h)
+        (seen_on w good n s at x cmd free).stands (outs_now w good n s at x cmd free) v (first_among a.at p.writes v h)
     by_granted false e = law.2.named good.running.drive.base good.running.drive.own good.running.cat (stock_now s.stock s.run) (drive w good n s at x cmd free).spelt
         (both (knows n x s.seen good.running.cat) (not (is_granted n a good.running.cat)) (known w good n s at x cmd free) (ap not e))
         (seen_on w good n s at x cmd free).stands (outs_now w good n s at x cmd free) v h
 
   module _ (v : PlanWrite) (next : slice_get (writes_by p.ask s.tried p.writes) s.done ≡ Some v) where
     its : Named v
-    its = named_by s.tried refl p.ask refl v (has_at (writes_by p.ask s.tried p.writes) s.done v next)
+    its = named_by s.tried refl p.ask refl v (get_has (writes_by p.ask s.tried p.writes) s.done v next)
 
     -- under a lock that the node holds
     pub plan_named : IsNamed n (held_in PW (held_by w.locks n s)) v.lock (guard_of w.geometry good.running.drive.own v.lbn)

@@ -1,5 +1,5 @@
 -- The cached blocks of all nodes over a write.
-use Rattle.std.proofs.Common.{◌≡◌, ◌≢◌, ◌≤◌, ◌<◌, ◌+◌, ◌&&◌, ◌||◌, ◌==◌, ◌∙◌, ◌⊎◌, ℕ, Bool, true, false, cond, List, [], ◌∷◌, Option, Some, None, length, slice_get, slice_set, refl, sym, ap, subst, inl, inr, arith}
+use Rattle.std.proofs.Common.{◌≡◌, ◌≢◌, ◌≤◌, ◌<◌, ◌+◌, ◌&&◌, ◌||◌, ◌==◌, ◌∙◌, ◌⊎◌, ℕ, Bool, true, false, cond, List, [], ◌∷◌, Option, Some, None, length, slice_set, refl, sym, ap, subst, inl, inr, arith}
 use Rattle.std.specs.Prelude.{nat_le}
 use Rattle.std.specs.List.{list_any}
 use Rattle.std.proofs.lemmas.Bool.Decides.{nat_tests}
@@ -27,7 +27,7 @@ use Rattle.core_state.proofs.Holding.{held_weaker}
 use Rattle.core_state.proofs.Nodes.{at_here, at_else}
 use Rattle.core_state.proofs.Cached.{same_state, written_by, valid_at, Goes, Stays, IsEventOf, own_stays}
 use Rattle.core_state.proofs.CachedWrites.{raises_under, write_raises, part_raise_more}
-use Rattle.core_state.proofs.CachedEvents.{IsLeftBy, all_cached, has_replaced, written_anew, since_is_true}
+use Rattle.core_state.proofs.CachedEvents.{all_cached, has_replaced, written_anew, since_is_true}
 use Rattle.core_state.proofs.CachedUses.{unwritten_read, sole_writer}
 
 -- ---- tests of entries

@@ -1,6 +1,6 @@
 -- What the locks that a node puts back at its answer leave of the value blocks: a lock that is lowered or given back from PW writes its
 -- block, raised by what was written under it, and all other blocks stay.
-use Rattle.std.proofs.Common.{◌≡◌, ◌≢◌, ◌≤◌, ◌<◌, ◌+◌, ◌^◌, ◌∙◌, ◌⊎◌, ℕ, Bool, true, false, cond, List, [], ◌∷◌, Option, Some, None, IsSome, MatchBool, refl, sym, ap, subst, inl, inr, arith}
+use Rattle.std.proofs.Common.{◌≡◌, ◌≢◌, ◌≤◌, ◌+◌, ◌∙◌, ◌⊎◌, ℕ, Bool, true, false, cond, List, [], ◌∷◌, Option, Some, None, IsSome, MatchBool, refl, sym, ap, subst, inl, inr}
 use Rattle.std.specs.Prelude.{is_some, replicate, unwrap_or}
 use Rattle.lock_db.specs.declared.name.LockName.{LockName}
 use Rattle.lock_db.specs.declared.resource.Resource.{Resource}
@@ -13,7 +13,6 @@ use Rattle.plain_cat.specs.declared.mode.Mode.{Mode}
 use Rattle.plain_cat.specs.declared.mode.Mode.TheVariants.{NL, CR, CW, PR, PW, EX}
 use Rattle.vol_owners.specs.Lists.{Has, Once}
 use Rattle.vol_parts.specs.declared.geometry.Geometry.{Geometry}
-use Rattle.node_locks.specs.declared.sequences.Raise.{Raise}
 use Rattle.node_locks.specs.Held.{Row, system_of, names_of}
 use Rattle.node_locks.specs.PuttingBack.{Keeps, Values, put_back, all_back, MayPutBack}
 use Rattle.node_locks.specs.Sequences.{HasSequences, rise, raised, first_sequence, second_sequence, raised_block}
@@ -23,6 +22,7 @@ use Rattle.core_state.specs.Raises.{is_first_part, raise_of}
 use Rattle.core_state.specs.Caches.{part_sequence, raised_values}
 use Rattle.core_state.specs.Small.{GoesOn}
 use Rattle.core_state.specs.Stores.{part_raise}
+use Rattle.core_state.proofs.SmallTables.{raised_fits}
 
 -- ---- one lock
 
@@ -121,9 +121,6 @@ pub by_its_resource : (g : Geometry) (ws : List PlanWrite) (l : LockName × Mode
 by_its_resource g ws l t u same = ap (λ r. raised_block (raise_of g l.0 ws) r) same
 
 -- ---- the sequence of a part
-
-raised_fits : (valid : Bool) (by sequence : ℕ) → raised valid by sequence < 2 ^ 64
-raised_fits valid by sequence = omega arith
 
 -- In a block that was raised by some writes the sequence of a part is higher by just so much, where it goes on.
 pub part_is_raised : (g : Geometry) (name : LockName) (lbn : ℕ) (ws : List PlanWrite) (old new : Resource) → GoesOn (first_sequence old.value) → GoesOn (second_sequence old.value) → BlockIs (raised_block (raise_of g name ws) old) true new

@@ -1,10 +1,9 @@
 -- The cached blocks of all nodes over an event in which a node takes a lock.
-use Rattle.std.proofs.Common.{◌≡◌, ◌≢◌, ◌≤◌, ◌+◌, ◌&&◌, ◌∙◌, ◌⊎◌, ℕ, Bool, true, false, cond, not, List, Option, Some, None, IsSome, MatchBool, refl, sym, ap, subst, inl, inr, arith}
+use Rattle.std.proofs.Common.{◌≡◌, ◌≢◌, ◌≤◌, ◌+◌, ◌∙◌, ℕ, Bool, true, false, cond, List, Option, Some, None, IsSome, MatchBool, refl, sym, ap, subst, inl, inr, arith}
 use Rattle.std.proofs.lemmas.Bool.Decides.{nat_tests}
 use Rattle.std.specs.Prelude.{is_some, unwrap_or}
 use Rattle.std.specs.Option.{option_and_then}
 use Rattle.lock_db.specs.declared.name.LockName.{LockName}
-use Rattle.lock_db.specs.declared.name.LockName.TheVariants.{S, Q, V}
 use Rattle.lock_db.specs.declared.name.Owner.{Owner}
 use Rattle.lock_db.specs.declared.resource.Resource.{Resource}
 use Rattle.lock_db.specs.Queues.{lock_of, standing_of, settled_mode}
@@ -20,7 +19,7 @@ use Rattle.vol_owners.specs.Lists.{Has}
 use Rattle.vol_owners.specs.Owners.{Owners}
 use Rattle.vol_owners.proofs.Listing.{same_or_not}
 use Rattle.vol_under.specs.UnderWay.{AreSole}
-use Rattle.node_locks.specs.Held.{Row, system_of, joined, names_of, all_held}
+use Rattle.node_locks.specs.Held.{Row, system_of, joined, names_of}
 use Rattle.node_locks.specs.Taking.{has_lock, taken, MayTake}
 use Rattle.node_cache.specs.Cached.{Cached}
 use Rattle.op_law.specs.declared.need.PlanWrite.{PlanWrite}
@@ -30,14 +29,14 @@ use Rattle.core_state.specs.Goods.{held_by, nodes_under, Good}
 use Rattle.core_state.specs.Small.{AllGoOn}
 use Rattle.core_state.specs.Raises.{is_first_part}
 use Rattle.node_locks.specs.Sequences.{first_sequence, second_sequence}
-use Rattle.core_state.specs.Caches.{part_sequence, sequence_now, next_sequence}
-use Rattle.core_state.specs.Stores.{guards_blocks, hold_writes, part_raise, IsWriter, IsTrue, AreCached, AreHeldWrites}
+use Rattle.core_state.specs.Caches.{sequence_now, next_sequence}
+use Rattle.core_state.specs.Stores.{guards_blocks, hold_writes, part_raise, IsWriter, AreCached, AreHeldWrites}
 use Rattle.core_state.proofs.Nodes.{at_here, at_else}
 use Rattle.core_state.proofs.Holding.{strong_grows}
 use Rattle.core_state.proofs.Naming.{same_name}
 use Rattle.core_state.proofs.Keeping.{altered}
 use Rattle.core_state.proofs.SmallWorlds.{lock_there, all_go_on}
-use Rattle.core_state.proofs.Cached.{same_state, written_by, valid_at, Goes, Stays, IsEventOf, own_stays}
+use Rattle.core_state.proofs.Cached.{same_state, written_by, Goes, Stays, IsEventOf, own_stays}
 use Rattle.core_state.proofs.CachedWrites.{raises_under}
 use Rattle.core_state.proofs.CachedEvents.{all_cached}
 use Rattle.core_state.proofs.CachedUses.{sole_writer}

@@ -1,9 +1,8 @@
 -- A look of a node at a block that may be cached: it reads the block from the drive, or uses the one that it has cached. Both keep the
 -- invariant, where the sight of the block does.
-use Rattle.std.proofs.Common.{◌≡◌, ◌⊎◌, ◌<◌, ◌+◌, ◌∙◌, ℕ, Bool, true, false, List, [], ◌∷◌, Option, Some, None, is_some, cond, length, slice_get, refl, sym, ap, subst, inl, inr, arith}
+use Rattle.std.proofs.Common.{◌≡◌, ◌⊎◌, ◌<◌, ◌∙◌, ℕ, Bool, false, List, [], ◌∷◌, Option, Some, None, is_some, cond, length, slice_get, refl, sym, ap, subst, inl, inr, arith}
 use Rattle.vol_words.specs.Fields.{Block}
 use Rattle.lock_db.specs.declared.name.LockName.{LockName}
-use Rattle.plain_cat.specs.declared.mode.Mode.{Mode}
 use Rattle.lock_db.specs.declared.name.LockName.TheVariants.{V}
 use Rattle.plain_cat.specs.declared.cat.Cat.{Cat}
 use Rattle.plain_cat.specs.declared.mode.Mode.TheVariants.{PR, PW}
@@ -15,11 +14,11 @@ use Rattle.vol_under.specs.Guards.{Lock, guard_of}
 use Rattle.vol_under.specs.Keeping.{IsBitmap}
 use Rattle.vol_under.proofs.Guarding.{bitmap_guard}
 use Rattle.node_locks.specs.Held.{Row, joined, names_of, HoldsItsLocks, waits_at}
-use Rattle.node_cache.specs.Cached.{Cached, cached}
+use Rattle.node_cache.specs.Cached.{Cached}
 use Rattle.op_law.specs.Laws.{held_in, IsCacheable, Fixed}
 use Rattle.core_state.specs.Worlds.{NodeState, Plain, node_at, with_node, rows_of, rows_in}
 use Rattle.core_state.specs.Caches.{current_entry, sequence_now}
-use Rattle.core_state.specs.Stores.{HasStore, IsTrue, IsCachedAt}
+use Rattle.core_state.specs.Stores.{HasStore, IsCachedAt}
 use Rattle.core_state.specs.Goods.{Good, held_by}
 use Rattle.core_state.specs.Event as event
 use Rattle.core_state.specs.Events.{one_more, block_at, cached_block, block_used, cache_used, cache_looked, happens, or_use}

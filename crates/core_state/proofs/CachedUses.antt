@@ -1,11 +1,11 @@
 -- A cached block that is used is the drive's.
-use Rattle.std.proofs.Common.{◌≡◌, ◌≢◌, ◌≤◌, ◌&&◌, ◌==◌, ◌∙◌, ℕ, Bool, true, false, cond, List, Option, Some, None, slice_get, refl, sym, ap, subst, arith}
+use Rattle.std.proofs.Common.{◌≡◌, ◌&&◌, ◌==◌, ◌∙◌, ℕ, Bool, true, false, cond, Some, None, slice_get, refl, sym, subst, arith}
 use Rattle.std.proofs.lemmas.Bool.Decides.{nat_tests}
 use Rattle.lock_db.specs.declared.name.LockName.{LockName}
 use Rattle.lock_db.specs.Tables.{resource_at}
 use Rattle.lock_db.specs.Names.{is_same}
 use Rattle.lock_db.proofs.Names.{is_same-same}
-use Rattle.plain_cat.specs.declared.mode.Mode.TheVariants.{PR, PW}
+use Rattle.plain_cat.specs.declared.mode.Mode.TheVariants.{PR}
 use Rattle.plain_cat.specs.declared.cat.Cat.{Cat}
 use Rattle.vol_owners.specs.Lists.{Has}
 use Rattle.vol_owners.specs.Owners.{Owners}
@@ -14,9 +14,8 @@ use Rattle.node_cache.specs.Cached.{Cached, is_for, is_under, is_of, found}
 use Rattle.op_law.specs.Laws.{held_in}
 use Rattle.core_state.specs.Worlds.{NodeState, Plain, node_at}
 use Rattle.core_state.specs.Caches.{sequence_now, current_entry}
-use Rattle.core_state.specs.Stores.{hold_writes, part_raise, IsWriter, HasWritten, IsUnwritten, IsTrue, IsCurrent, IsCachedAt, AreCached, AreHeldWrites}
+use Rattle.core_state.specs.Stores.{hold_writes, IsWriter, HasWritten, IsUnwritten, IsTrue, IsCurrent, AreCached, AreHeldWrites}
 use Rattle.core_state.specs.Goods.{held_by, under_by, nodes_under, Good}
-use Rattle.core_state.specs.Events.{has_current, block_used}
 use Rattle.core_state.proofs.Running.{are_sole}
 use Rattle.core_state.proofs.CachedWrites.{raises_under}
 use Rattle.core_state.proofs.CachedEvents.{has_found}
@@ -43,12 +42,6 @@ module _ (w : Plain) (sole : AreSole (nodes_under w.locks w.nodes)) (writes : Ar
   sole_writer n m s q name at there a b = sole.writers m n name (writes_there m q name there b) (writes_there n s name at a)
 
 -- ---- the entry that is found
-
-some_entry : (a b : Cached) → Some a ≡ Some b → a ≡ b
-some_entry a b g = ap entry_in g where
-  entry_in : Option Cached → Cached
-  entry_in None = a
-  entry_in (Some y) = y
 
 -- what a current entry is
 pub record IsCurrentEntry (w : Plain) (s : NodeState) (name : LockName) (lbn : ℕ) (e : Cached) : Type 0 where

@@ -16,8 +16,7 @@ use Rattle.plain_cat.specs.declared.cat.Open.{Open}
 use Rattle.plain_vol.specs.Lookups.{in_use, joined, place, channel_at}
 use Rattle.plain_vol.specs.Answers.{Answer}
 use Rattle.plain_vol.specs.Own.{NodePast, is_opened, opened_by, is_closed, closed_by, switched, channels_after}
-use Rattle.plain_opens.specs.Opens.{IsChannel, OpensNameFiles}
-use Rattle.plain_opens.specs.Opens.{is_plain_file as plain_file, has_open, is_open_as as open_as, is_held_open as held_open}
+use Rattle.plain_opens.specs.Opens.{IsChannel, OpensNameFiles, is_plain_file as plain_file, has_open, is_open_as as open_as, is_held_open as held_open}
 use Rattle.plain_opens.specs.Moves.{switched_by, IsElsewhere}
 use Rattle.plain_opens.proofs.Having.{opened_by_answer}
 use Rattle.plain_opens.proofs.Keeping.{answer_apart, answer_keeps, opened_has, closed_has, others_stay, others_keep}
@@ -111,7 +110,7 @@ channel_known c n opens (cmd.QuotaShow owner) form h = refl
 
 -- ---- where nothing is open
 
-none_there : (k j : ℕ) → slice_index_or (replicate k (let o : Option Chan = None in o)) j None ≡ None
+pub none_there : (k j : ℕ) → slice_index_or (replicate k (let o : Option Chan = None in o)) j None ≡ None
 none_there zero j = refl
 none_there (suc k) zero = refl
 none_there (suc k) (suc j) = none_there k j

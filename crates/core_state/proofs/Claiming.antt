@@ -35,7 +35,8 @@ use Rattle.core_state.proofs.SmallWorlds.{OwesLess, small_taken, lock_there}
 use Rattle.core_state.proofs.Keeping.{altered, still_driven, rebuilt, held_set, has_waited, course_stays, row_of_name, kept_named, asked_named, claims_named}
 use Rattle.core_state.proofs.Naming.{same_name, named_by, stays_without}
 use Rattle.core_state.proofs.CachedTakes.{taken_stays, IsTakenIn, taken_writes, taken_cached}
-use Rattle.core_state.proofs.Beginning.{neither, stays_stocked}
+use Rattle.core_state.proofs.Seeking.{neither}
+use Rattle.core_state.proofs.Beginning.{stays_stocked}
 use Rattle.core_state.proofs.Opens.{opens_taken}
 use Rattle.core_state.proofs.Rows.{IsFew, AreMoved, IsClaimed, claims_move, claims_it, rows_twice, own_rows}
 use Rattle.core_state.proofs.Turning.{goes_still, Rest, rest_of, has_name, guarding_of}

@@ -1,5 +1,5 @@
 -- The drive under way as a node without a plan changes, and as locks are granted.
-use Rattle.std.proofs.Common.{◌≡◌, ◌≤◌, ℕ, zero, suc, List, [], ◌++◌, length, take, slice_get, refl, sym, ap, subst, ◌∙◌, inr, arith}
+use Rattle.std.proofs.Common.{◌≡◌, ℕ, List, [], ◌++◌, slice_get, inr}
 use Rattle.vol_words.specs.Fields.{Block}
 use Rattle.lock_db.specs.declared.name.LockName.{LockName}
 use Rattle.plain_cat.specs.declared.command.Cmd.{Cmd}
@@ -10,8 +10,8 @@ use Rattle.vol_owners.specs.Owners.{Things, Outs}
 use Rattle.vol_owners.proofs.Writing.{stands_joined}
 use Rattle.vol_owners.proofs.Moving.{moves_grow}
 use Rattle.vol_parts.specs.declared.geometry.Geometry.{Geometry}
-use Rattle.vol_under.specs.Guards.{guard_of, MayWrite, MayLook, IsCommandMove}
-use Rattle.vol_under.specs.UnderWay.{PlannedWrite, bare, UnderWay, writes_to, changed, AreSole}
+use Rattle.vol_under.specs.Guards.{guard_of, MayLook, IsCommandMove}
+use Rattle.vol_under.specs.UnderWay.{UnderWay, changed, AreSole}
 use Rattle.vol_under.specs.Under.{IsLawful, IsUnder}
 use Rattle.vol_under.specs.Answering.{IsReply}
 use Rattle.cache_laws.specs.Committed.{IsUnderOn, on_its_own}

@@ -1,7 +1,7 @@
 -- A node dies: the history has one entry more, all its locks are gone, and its opens are closed. Of what the other nodes have cached,
 -- nothing is current any more under the locks that it held in PW.
 use Rattle.std.proofs.Common.{◌≡◌, ◌≢◌, ◌≤◌, ◌<◌, ◌⊎◌, ◌==◌, ◌+◌, ◌-◌, ◌*◌, ◌++◌, ◌↔◌, ◌||◌, ℕ, zero, suc, Bool, true, false, cond, eqb, List, [], ◌∷◌, Option, Some, None, length, map, take, slice_get, refl, sym, ap, subst, ◌∙◌, inl, inr, arith}
-use Rattle.std.specs.Prelude.{drop, filter, is_none, replicate, slice_index_or, nat_lt}
+use Rattle.std.specs.Prelude.{drop, filter, is_none, replicate, nat_lt}
 use Rattle.std.specs.List.{list_any, range_with_len, sum_by}
 use Rattle.std.proofs.lemmas.Bool.{and_parts}
 use Rattle.std.proofs.lemmas.Bool.Decides.{nat_tests}
@@ -76,7 +76,7 @@ use Rattle.core_state.specs.Events.{is_out, is_over}
 use Rattle.core_state.specs.Deaths.{writes_done, stage_now, outside_now, has_number, numbers_that, numbers_of, death_of, gone, died_by, died_at, died}
 use Rattle.core_state.proofs.Falling.{death_fell, death_left, fewer_fallen}
 use Rattle.core_state.proofs.Nodes.{at_here, at_else, all_set}
-use Rattle.core_state.proofs.Channels.{as_open, channel_from, IsNodeNumber, channel_is}
+use Rattle.core_state.proofs.Channels.{as_open, channel_from, IsNodeNumber, channel_is, none_there}
 use Rattle.core_state.proofs.Running.{under_here, under_grown, are_sole}
 use Rattle.core_state.proofs.Keeping.{altered, rebuilt, held_set, LosesNothing}
 use Rattle.core_state.proofs.SmallCounts.{sum_more}
@@ -88,15 +88,13 @@ use Rattle.core_state.proofs.Cached.{written_by}
 use Rattle.core_state.proofs.CachedTruth.{committed_truth}
 use Rattle.core_state.proofs.CachedDone.{take_planned, writes_made, made_named, made_leave}
 use Rattle.core_state.proofs.CachedDeaths.{death_writes, death_cached}
+use Rattle.core_state.proofs.Opens.{channel_parts}
+use Rattle.core_state.proofs.Seeking.{neither}
 
 -- ---- small steps
 
 abbrev one : Bool → ℕ
 one b = cond b 1 0
-
-neither : (a b : Bool) → (a || b) ≡ false → (a ≡ false) × (b ≡ false)
-neither true b e = absurd (let f : true ≡ false = e in cc)
-neither false b e = (refl, e)
 
 -- a node with a command owes three at least, and so four with its death
 owed_less : (s : NodeState) → 4 * one (has_command s) ≤ owed s + 4
@@ -179,11 +177,6 @@ switched_form (cmd.CloseFile chan) k form e =
     subst (λ (j : ℕ). (1 ≤ j) × (j ≤ 8)) f (channel_from chan form)
 switched_form other k form e = absurd (let f : None ≡ Some k = e in cc)
 
-none_there : (k j : ℕ) → slice_index_or (replicate k (let o : Option Chan = None in o)) j None ≡ None
-none_there zero j = refl
-none_there (suc k) zero = refl
-none_there (suc k) (suc j) = none_there k j
-
 -- a node whose channels have nothing open
 all_closed : (d : Cat) (n : ℕ) → ((chan : ℕ) → 1 ≤ chan → chan ≤ 8 → channel_at d n chan ≡ None) → HasOpens d n (replicate 8 None)
 all_closed d n none = record {
@@ -198,17 +191,6 @@ stands_on name n owner t (Some o) is far e = by_name (is_same name (A o.file)) e
   by_name : (b : Bool) → stands_at name owner t ≡ cond b (Some (Granted o.mode)) None → stands_at name owner (dropped n t) ≡ cond b (Some (Granted o.mode)) None
   by_name true f = granted_stays name n owner o.mode t is far f
   by_name false f = nothing_comes name n owner t is far f
-
-channel_parts : (owner : Owner) → is_channel owner ≡ true → (1 ≤ owner.node) × (1 ≤ owner.part) × (owner.part ≤ 8)
-channel_parts owner e = (one_of owner e, two_of owner e, three_of owner e) where
-  one_of : (o : Owner) → is_channel o ≡ true → 1 ≤ o.node
-  one_of o e = grind (arith, nat_tests)
-
-  two_of : (o : Owner) → is_channel o ≡ true → 1 ≤ o.part
-  two_of o e = grind (arith, nat_tests)
-
-  three_of : (o : Owner) → is_channel o ≡ true → o.part ≤ 8
-  three_of o e = grind (arith, nat_tests)
 
 -- a place behind all opens has nothing
 none_behind : (os : List (Option Open)) (i : ℕ) → length os ≤ i → joined (slice_get os i) ≡ None

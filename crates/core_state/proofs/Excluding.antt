@@ -1,5 +1,5 @@
 -- A lock that is held in EX is the only one on its name, but for those in NL.
-use Rattle.std.proofs.Common.{◌≡◌, ◌≢◌, ◌≤◌, ℕ, true, false, List, Some, refl, ap, sym, inl, inr, arith}
+use Rattle.std.proofs.Common.{◌≡◌, ◌≢◌, ◌≤◌, ℕ, true, false, List, ap, sym, inl, inr, arith}
 use Rattle.plain_cat.specs.declared.mode.Mode.{Mode}
 use Rattle.plain_cat.specs.declared.mode.Mode.TheVariants.{CR, EX}
 use Rattle.plain_cat.specs.Modes.{rank, compatible_modes}
@@ -18,9 +18,7 @@ use Rattle.vol_owners.proofs.Listing.{same_or_not}
 use Rattle.node_locks.specs.Held.{system_of, Row, IsGranted, AreHeld, all_held}
 use Rattle.node_locks.proofs.Keeping.{held_are_granted}
 use Rattle.node_locks.proofs.Nodes.{systems-apart}
-
-lock_granted : (t : List Resource) (n : ℕ) (name : LockName) (mode : Mode) → IsGranted t n (name, mode) → lock_of (system_of n) (resource_at name t).askers ≡ Some mode
-lock_granted t n name mode g = rw g refl
+use Rattle.core_state.proofs.Rows.{lock_granted}
 
 -- EX does not go with CR or more
 never_together : (b : Mode) → rank CR ≤ rank b → compatible_modes EX b ≡ true → ⊥

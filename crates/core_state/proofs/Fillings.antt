@@ -1,5 +1,5 @@
 -- What the writes of a filling, and those of a give-back, come to.
-use Rattle.std.proofs.Common.{◌≡◌, ◌≤◌, ◌<◌, ◌+◌, ◌-◌, ◌/◌, ◌*◌, ◌++◌, ◌&&◌, ◌||◌, not, ℕ, zero, suc, Bool, true, false, cond, List, [], ◌∷◌, Option, Some, None, is_some, filter, length, map, take, slice_get, nat_le, nat_lt, min, refl, sym, ap, subst, ◌∙◌, inl, inr, arith}
+use Rattle.std.proofs.Common.{◌≡◌, ◌≤◌, ◌<◌, ◌+◌, ◌-◌, ◌/◌, ◌++◌, ◌&&◌, ◌||◌, not, ℕ, zero, suc, Bool, true, false, cond, List, [], ◌∷◌, Option, Some, None, is_some, filter, length, map, slice_get, nat_le, nat_lt, min, refl, sym, ap, subst, ◌∙◌, inl, inr, arith}
 use Rattle.std.specs.List.{range_with_len}
 use Rattle.std.proofs.lemmas.Bool.{and_parts}
 use Rattle.std.proofs.lemmas.Bool.Decides.{nat_tests}
@@ -29,6 +29,8 @@ use Rattle.core_space.proofs.Merged.{not_held, put_in_has, put_in_once, stocks_t
 use Rattle.core_state.specs.Worlds.{Stock}
 use Rattle.core_state.specs.Stocks.{roomless, filled_by}
 use Rattle.core_state.specs.Searches.{AreUnderV}
+use Rattle.core_state.proofs.Seeking.{some_quotient}
+use Rattle.core_state.proofs.Serving.{length_taken}
 
 abbrev lbns : List PlanWrite → List ℕ
 lbns ws = map (λ w. w.lbn) ws
@@ -127,12 +129,6 @@ fill_at g wanted false bs l e = storage_at g wanted bs l e
 fill_at g wanted true [] l e = e
 fill_at g wanted true (index ∷ bs) l e = storage_at g wanted bs l e
 
-some_quotient : (b c q : ℕ) → b / c ≡ q → 1 ≤ c → c ≤ 16 → 64 ≤ b → 1 ≤ q
-some_quotient b c zero e from to many =
-    let none : c * (b / c) ≡ 0 = ap (λ (k : ℕ). c * k) e ∙ (let z : c * 0 ≡ 0 = omega arith in z) in
-    absurd (omega arith)
-some_quotient b c (suc q) e from to many = omega arith
-
 some_blocks : (t : ℕ) → 1 ≤ t → nat_lt 0 ((t + 4095) / 4096) ≡ true
 some_blocks t le = let a : 1 ≤ (t + 4095) / 4096 = omega arith in grind (arith, nat_tests)
 
@@ -193,7 +189,7 @@ fill_numbers g wanted true [] w h = with_numbers_is [] (cluster_writes g (cluste
 fill_numbers g wanted true (index ∷ bs) w (inl e) = ap (λ (x : PlanWrite). x.numbers) (sym e)
 fill_numbers g wanted true (index ∷ bs) w (inr h) = with_numbers_is (lowest_numbers g index) (cluster_writes g (clusters_taken g wanted bs) None [] 0 bs) w h
 
-get_has : (ws : List PlanWrite) (k : ℕ) (w : PlanWrite) → slice_get ws k ≡ Some w → Has ws w
+pub get_has : (ws : List PlanWrite) (k : ℕ) (w : PlanWrite) → slice_get ws k ≡ Some w → Has ws w
 get_has [] k w e = absurd (let f : None ≡ Some w = e in cc)
 get_has (v ∷ ws) zero w e = inl (let f : Some v ≡ Some w = e in cc)
 get_has (v ∷ ws) (suc k) w e = inr (get_has ws k w e)
@@ -207,11 +203,6 @@ has_get (v ∷ ws) w (inr h) = let r = has_get ws w h in (suc r.0, r.1)
 pub fill_under : (g : Geometry) (need held : ℕ) (lacks : Bool) (bs : List Block) (ws : List PlanWrite) → IsGeometry g → filled g need held lacks bs ≡ Some ws → AreUnderV ws
 fill_under g need held lacks bs ws is enough w h = let k = has_get ws w h in (writes_fill g need held lacks bs ws k.0 w is enough k.1).lock
 
-length_first : (k : ℕ) (xs : List ℕ) → k ≤ length xs → length (take k xs) ≡ k
-length_first zero xs le = refl
-length_first (suc k) [] le = absurd (omega arith)
-length_first (suc k) (x ∷ xs) le = ap suc (length_first k xs (omega arith))
-
 -- what the last write of a filling has taken
 pub record TakesSoMuch (g : Geometry) (need held : ℕ) (lacks : Bool) (bs : List Block) (w : PlanWrite) : Type 0 where
   pub clusters : need ≤ held + length w.clusters
@@ -221,7 +212,7 @@ taken_length : (g : Geometry) (need held : ℕ) (lacks : Bool) (bs : List Block)
 taken_length g need held lacks bs ws e =
     let n = clusters_taken g (clusters_to_take need held) (storage_part lacks bs) in
     ap (λ vs. length (last_clusters [] vs)) (filled_is g need held lacks bs ws e).1 ∙ ap length (taken_by g (clusters_to_take need held) lacks bs)
-    ∙ length_first n (free_from g 0 (storage_part lacks bs)) (smaller (clusters_to_take need held) (length (free_from g 0 (storage_part lacks bs)))) where
+    ∙ length_taken n (free_from g 0 (storage_part lacks bs)) (smaller (clusters_to_take need held) (length (free_from g 0 (storage_part lacks bs)))) where
       smaller : (a b : ℕ) → min a b ≤ b
       smaller a b = omega arith
 

@@ -25,6 +25,7 @@ use Rattle.core_space.specs.Giving.{is_seen, found_block, block_seen, has_covere
 use Rattle.core_state.specs.Worlds.{Stock}
 use Rattle.core_state.specs.Stocks.{has_bit_at, left_by}
 use Rattle.core_state.specs.Searches.{AreUnderV}
+use Rattle.core_state.proofs.Seeking.{not_same}
 
 abbrev pub lbns : List PlanWrite → List ℕ
 lbns ws = map (λ w. w.lbn) ws
@@ -418,15 +419,12 @@ give_under g cs ns looked w h = elim (has_parted (index_back g ns looked) (map (
 not_index : (g : Geometry) (base : List Block) (own : Owners) (c : Cat) (k : ℕ) → Spells g base own c → IsPart g (Storage k) → place_of g IndexBitmap ≡ place_of g (Storage k) → ⊥
 not_index g base own c k s inside e = let parts = are_parts g base own c s in absurd (let same : IndexBitmap ≡ Storage k = parts.apart IndexBitmap (Storage k) tt inside e in cc)
 
-differs : (a b : ℕ) → a ≢ b → (a == b) ≡ false
-differs a b ne = grind (arith, nat_tests)
-
 is_same_number : (a b : ℕ) → a ≡ b → (a == b) ≡ true
 is_same_number a b e = grind (arith, nat_tests)
 
 -- no cluster of the volume has its bit in the index-file bitmap
 pub differ_places : (g : Geometry) (base : List Block) (own : Owners) (c : Cat) (q : ℕ) → Spells g base own c → q / 4096 < storage_blocks (total_of g) → has_bit_at g (place_of g IndexBitmap) q ≡ false
-differ_places g base own c q s inside = differs (place_of g (Storage (q / 4096))) (place_of g IndexBitmap) (λ f. not_index g base own c (q / 4096) s inside (sym f))
+differ_places g base own c q s inside = not_same (place_of g (Storage (q / 4096))) (place_of g IndexBitmap) (λ f. not_index g base own c (q / 4096) s inside (sym f))
 
 -- with the write of the index-file bitmap the clusters stay
 pub numbers_leave : (g : Geometry) (base : List Block) (own : Owners) (c : Cat) (stock : Stock) (w : PlanWrite) → Spells g base own c → ((q : ℕ) → Has stock.clusters q → q < total_of g) → w.lbn ≡ place_of g IndexBitmap
@@ -434,7 +432,7 @@ pub numbers_leave : (g : Geometry) (base : List Block) (own : Owners) (c : Cat) 
 numbers_leave g base own c stock w s inside e =
     ap (λ l. left_by g l stock) e
     ∙ (λ i. record {
-      clusters = all_pass (λ q. not (has_bit_at g (place_of g IndexBitmap) q)) stock.clusters (λ q h. ap not (differs (place_of g (Storage (q / 4096))) (place_of g IndexBitmap) (λ f. not_index g base own c (q / 4096) s (in_bitmap q (total_of g) (inside q h)) (sym f)))) i;
+      clusters = all_pass (λ q. not (has_bit_at g (place_of g IndexBitmap) q)) stock.clusters (λ q h. ap not (not_same (place_of g (Storage (q / 4096))) (place_of g IndexBitmap) (λ f. not_index g base own c (q / 4096) s (in_bitmap q (total_of g) (inside q h)) (sym f)))) i;
       numbers = cond (is_same_number (place_of g IndexBitmap) (place_of g IndexBitmap) refl i) [] stock.numbers;
     }) where
       in_bitmap : (q total : ℕ) → q < total → q / 4096 < (total + 4095) / 4096
@@ -447,7 +445,7 @@ clusters_leave g base own c stock w k s inside e =
     ap (λ l. left_by g l stock) e
     ∙ (λ i. record {
       clusters = filter (λ q. not (same_block (g.bitmap_lbn + 1) (q / 4096) k i)) stock.clusters;
-      numbers = cond (differs (place_of g IndexBitmap) (place_of g (Storage k)) (λ f. not_index g base own c k s inside f) i) [] stock.numbers;
+      numbers = cond (not_same (place_of g IndexBitmap) (place_of g (Storage k)) (λ f. not_index g base own c k s inside f) i) [] stock.numbers;
     }) where
       same_block : (first a b : ℕ) → (first + a == first + b) ≡ (a == b)
       same_block first a b = grind (arith, nat_tests)

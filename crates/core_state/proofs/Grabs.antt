@@ -1,5 +1,5 @@
 -- A write by the rules for space of a command: it keeps the invariant.
-use Rattle.std.proofs.Common.{◌≡◌, ◌≤◌, ◌<◌, ◌+◌, ◌++◌, ◌⊎◌, ◌==◌, ℕ, suc, Bool, true, false, List, [], ◌∷◌, Option, Some, None, is_some, length, map, take, slice_get, slice_set, refl, sym, ap, subst, ◌∙◌, inl, inr, arith}
+use Rattle.std.proofs.Common.{◌≡◌, ◌≤◌, ◌<◌, ◌+◌, ◌++◌, ◌==◌, ℕ, suc, Bool, true, false, List, [], ◌∷◌, Option, Some, None, is_some, length, map, take, slice_get, slice_set, refl, sym, ap, subst, ◌∙◌, inl, inr, arith}
 use Rattle.std.proofs.lemmas.Bool.Decides.{nat_tests}
 use Rattle.std.proofs.lemmas.Option.{slice_get_within}
 use Rattle.std.proofs.lemmas.List.{append-nil}
@@ -8,7 +8,7 @@ use Rattle.lock_db.specs.declared.name.LockName.{LockName}
 use Rattle.lock_db.specs.declared.name.LockName.TheVariants.{X, V}
 use Rattle.plain_cat.specs.Modes.{rank}
 use Rattle.plain_cat.specs.declared.mode.Mode.{Mode}
-use Rattle.plain_cat.specs.declared.mode.Mode.TheVariants.{NL, CR, PR, PW, EX}
+use Rattle.plain_cat.specs.declared.mode.Mode.TheVariants.{CR, PR, PW, EX}
 use Rattle.plain_cat.specs.declared.command.Cmd.{Cmd}
 use Rattle.plain_cat.specs.declared.cat.Cat.{Cat}
 use Rattle.node_locks.specs.Held.{Row, names_of, waits_at}
@@ -61,7 +61,7 @@ use Rattle.core_state.proofs.Switching.{AsksAlike}
 use Rattle.core_state.proofs.SmallWorlds.{OwesLess, owes_same, small_set}
 use Rattle.core_state.proofs.Keeping.{altered, still_driven, rebuilt, held_same, loses_nothing}
 use Rattle.core_state.proofs.Standing.{all_taken, part_taken, back_taken, with_nothing}
-use Rattle.core_state.proofs.Turning.{my_sole, under_command, here, drive, back, outs_now, seen_now, guards_now, is_node, goes, not_yet, plan_stays, asks_now, asks_then, no_wait, no_writes_now, me, more_before, only_before, made_before}
+use Rattle.core_state.proofs.Turning.{my_sole, under_command, here, drive, outs_now, seen_now, guards_now, is_node, goes, not_yet, plan_stays, asks_now, asks_then, no_wait, no_writes_now, me, more_before, only_before, made_before}
 use Rattle.core_state.proofs.Serving.{no_number}
 use Rattle.core_state.proofs.Fillings.{fill_once, fill_last, filled_enough, fill_under}
 use Rattle.core_state.proofs.InStock.{is_once, in_stock}

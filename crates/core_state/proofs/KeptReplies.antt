@@ -26,7 +26,7 @@ use Rattle.core_state.proofs.PutBacks.{keeps_entry, entry_under, under_guards, s
 -- ---- at most as many locks as entries
 
 -- on a name there is one at most
-one_less : (name : LockName) (ls : Row) → Once (names_of ls) → length ls ≤ length (without name ls) + 1
+pub one_less : (name : LockName) (ls : Row) → Once (names_of ls) → length ls ≤ length (without name ls) + 1
 one_less name [] once = omega arith
 one_less name (l ∷ ls) once = by_test (is_same l.0 name) refl (one_less name ls once.1) where
   by_test : (b : Bool) → is_same l.0 name ≡ b → length ls ≤ length (without name ls) + 1 → length (l ∷ ls) ≤ length (cond (not b) (l ∷ without name ls) (without name ls)) + 1

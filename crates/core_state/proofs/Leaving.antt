@@ -49,7 +49,7 @@ use Rattle.core_state.proofs.Opens.{opens_left}
 use Rattle.core_state.proofs.Keeping.{altered, still_driven, rebuilt, held_set, LosesNothing, kept_once, course_stays}
 use Rattle.core_state.proofs.SmallTables.{IsSequence, is_first, is_second, released_own}
 use Rattle.core_state.proofs.SmallWorlds.{OwesLess, small_left}
-use Rattle.core_state.proofs.Beginning.{neither}
+use Rattle.core_state.proofs.Seeking.{neither}
 use Rattle.core_state.proofs.Sweeps.{out_first}
 use Rattle.core_state.proofs.Standing.{at_rest_so}
 use Rattle.core_state.proofs.Claiming.{mine}

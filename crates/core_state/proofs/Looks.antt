@@ -68,7 +68,7 @@ taken_zero p ws = by_test (0 == length ws) p where
   by_test false phase.Last = refl
   by_test false phase.Back = refl
 
-some_is : (o : Option ℕ) (k : ℕ) → o ≡ Some k → is_some o ≡ true
+pub some_is : (o : Option ℕ) (k : ℕ) → o ≡ Some k → is_some o ≡ true
 some_is o k e = ap is_some e
 
 -- a node whose rules for space have come to this by what they have looked at, with this cache and these counts

@@ -21,6 +21,8 @@ readied_stays : (w : Plain) (n : ℕ) (o : Option NodeState) → (readied_at w n
 readied_stays w n None = refl
 readied_stays w n (Some s) = refl
 
+pub opening_after : (w : Plain) (n : ℕ) → (after_turn w n).opening ≡ w.opening
+opening_after w n = happen_stays (readied w n) n (node_at (readied w n).nodes n) (event_now (readied w n) n) ∙ readied_stays w n (node_at w.nodes n)
+
 pub accepted_after : (w : Plain) (n : ℕ) → IsAccepted w.opening → IsAccepted (after_turn w n).opening
-accepted_after w n accepted =
-    subst IsAccepted (sym (happen_stays (readied w n) n (node_at (readied w n).nodes n) (event_now (readied w n) n) ∙ readied_stays w n (node_at w.nodes n))) accepted
+accepted_after w n accepted = subst IsAccepted (sym (opening_after w n)) accepted

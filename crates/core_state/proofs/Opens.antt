@@ -147,7 +147,7 @@ opens_released name n value t having is opens other owner le =
 
 -- ---- a lock of no file's opens is converted: nobody with an open stands there
 
-no_open : (name : LockName) → ((f : ℕ) → name ≢ A f) → (o : Option Open) → open_stands name o ≡ None
+pub no_open : (name : LockName) → ((f : ℕ) → name ≢ A f) → (o : Option Open) → open_stands name o ≡ None
 no_open name far None = refl
 no_open name far (Some o) = by_name (is_same name (A o.file)) refl where
   by_name : (b : Bool) → is_same name (A o.file) ≡ b → cond b (Some (Granted o.mode)) None ≡ None
@@ -454,7 +454,7 @@ no_conflict false b h = refl
 goes_by : (a b : Bool) → (a && not b) ≡ false → a ≡ true → b ≡ true
 goes_by a b e is = grind arith
 
-channel_parts : (owner : Owner) → is_channel owner ≡ true → (1 ≤ owner.node) × (1 ≤ owner.part) × (owner.part ≤ 8)
+pub channel_parts : (owner : Owner) → is_channel owner ≡ true → (1 ≤ owner.node) × (1 ≤ owner.part) × (owner.part ≤ 8)
 channel_parts owner e =
     let a = and-left (nat_le 1 owner.node) _ e in
     let b = and-right (nat_le 1 owner.node) _ e in

@@ -68,7 +68,7 @@ left_behind given (v ∷ ws) (suc k) = elim (left_behind (planned v).outs ws k) 
 ]
 
 -- the first writes are among all
-first_among : (k : ℕ) (ws : List PlanWrite) (v : PlanWrite) → Has (take k ws) v → Has ws v
+pub first_among : (k : ℕ) (ws : List PlanWrite) (v : PlanWrite) → Has (take k ws) v → Has ws v
 first_among zero ws v h = absurd h
 first_among (suc k) [] v h = absurd h
 first_among (suc k) (y ∷ ws) v (inl e) = inl e
@@ -168,7 +168,7 @@ module _ (w : Plain) (good : Good w) (n : ℕ) (s : NodeState) (at : node_at w.n
 -- ---- a shortage
 
 -- a search finds nothing short before it has looked
-none_wanted : (k : ℕ) (b : Bool) → has_space k b no_space ≡ true → (k ≡ 0) × (b ≡ false)
+pub none_wanted : (k : ℕ) (b : Bool) → has_space k b no_space ≡ true → (k ≡ 0) × (b ≡ false)
 none_wanted k true e = absurd (let t = and_parts (0 == k) (has_number true None) e in let f : false ≡ true = t.1 in cc)
 none_wanted k false e = let t = and_parts (0 == k) (has_number false None) e in (is_zero k t.0, refl) where
   is_zero : (k : ℕ) → (0 == k) ≡ true → k ≡ 0

@@ -1,5 +1,5 @@
 -- A give-back looks at a block, and writes one, with its node's command under way or without one.
-use Rattle.std.proofs.Common.{◌≡◌, ◌⊎◌, ◌<◌, ◌+◌, ◌++◌, ℕ, Bool, true, false, cond, List, [], ◌∷◌, Option, Some, None, is_some, length, take, slice_get, slice_set, refl, sym, ap, subst, ◌∙◌, inl, inr, arith}
+use Rattle.std.proofs.Common.{◌≡◌, ◌⊎◌, ◌+◌, ◌++◌, ℕ, Bool, false, cond, List, [], ◌∷◌, Option, Some, None, take, slice_get, slice_set, refl, sym, ap, subst, ◌∙◌, inl, inr, arith}
 use Rattle.vol_words.specs.Fields.{Block}
 use Rattle.lock_db.specs.declared.name.LockName.{LockName}
 use Rattle.lock_db.specs.declared.name.LockName.TheVariants.{X, V}
@@ -50,13 +50,10 @@ use Rattle.core_state.proofs.CachedLooks.{rewritten_store}
 use Rattle.core_state.proofs.CachedTakes.{goes_higher}
 use Rattle.core_state.proofs.Claiming.{mine, space_node}
 use Rattle.core_state.proofs.Claims.{keeps_on}
-use Rattle.core_state.proofs.Looks.{taken_zero, come_so, space_seen_so}
+use Rattle.core_state.proofs.Looks.{taken_zero, come_so, space_seen_so, some_is}
 use Rattle.core_state.proofs.Givings.{give_once, give_under}
 use Rattle.core_state.proofs.Backs.{IsBackWrite, back_write}
 use Rattle.core_state.proofs.Midway.{looks, rewrites_it, here_so, drive_so, outs_so, seen_so, law_so, wide_so, guard_held, not_done}
-
-pub some_is : (o : Option ℕ) (k : ℕ) → o ≡ Some k → is_some o ≡ true
-some_is o k e = ap is_some e
 
 module _ (w : Plain) (good : Good w) (n : ℕ) (s : NodeState) (at : node_at w.nodes n ≡ Some s) (on : is_out s ≡ false) (granted : waits_at w.locks n s.claims ≡ false) (claims : s.claims ≡ (V, PW) ∷ []) where
   abbrev cat : Cat

@@ -193,7 +193,7 @@ pub record AreLowered (t : List Resource) (n : ℕ) (own : List Row) (kept asked
   pub others : (m : ℕ) (ls : Row) → m ≢ n → Has (rows m) ls → GoesOn t after m ls
 
 -- two calls, one behind the other
-goes_twice : (t mid last : List Resource) (m : ℕ) (ls : Row) → GoesOn t mid m ls → GoesOn mid last m ls → GoesOn t last m ls
+pub goes_twice : (t mid last : List Resource) (m : ℕ) (ls : Row) → GoesOn t mid m ls → GoesOn mid last m ls → GoesOn t last m ls
 goes_twice t mid last m ls a b = record { waits = λ e. b.waits (a.waits e); holds = λ l h. b.holds l (a.holds l h) }
 
 still_twice : (t mid last : List Resource) (m : ℕ) (ls : Row) → StandsStill t mid m ls → StandsStill mid last m ls → StandsStill t last m ls

@@ -63,49 +63,49 @@ use Rattle.core_state.proofs.Lowering.{v_keeps, x_keeps, return_keeps}
 
 -- ---- the events, by what they ask of
 
-abbrev fill_so : Bool → Bool → Option PlanWrite → Option ℕ → SpaceEvent
+abbrev pub fill_so : Bool → Bool → Option PlanWrite → Option ℕ → SpaceEvent
 fill_so a b o l = cond (not a) (space.Ask X CR) (cond (not b) (space.Ask V PW) (after_writes (put_of o) (after_looks l space.LowerV)))
 
 abbrev drain_so : Option PlanWrite → Option ℕ → SpaceEvent
 drain_so o l = after_writes (put_of o) (after_looks l space.LowerX)
 
-abbrev last_so : Bool → Bool → Option PlanWrite → Search → SpaceEvent
+abbrev pub last_so : Bool → Bool → Option PlanWrite → Search → SpaceEvent
 last_so a b o r = cond (not a) (space.Ask X EX) (cond (not b) (space.Ask V PW) (after_writes (put_of o) (by_search r)))
 
-abbrev back_so : Bool → Option PlanWrite → Option ℕ → SpaceEvent
+abbrev pub back_so : Bool → Option PlanWrite → Option ℕ → SpaceEvent
 back_so b o l = cond (not b) (space.Ask V PW) (after_writes (put_of o) (after_looks l space.Return))
 
 -- ---- small steps
 
-none_at : (ws : List PlanWrite) (k : ℕ) → ws ≡ [] → slice_get ws k ≡ None
+pub none_at : (ws : List PlanWrite) (k : ℕ) → ws ≡ [] → slice_get ws k ≡ None
 none_at ws k e = ap (λ vs. slice_get vs k) e ∙ none k where
   none : (k : ℕ) → slice_get (let vs : List PlanWrite = [] in vs) k ≡ None
   none zero = refl
   none (suc k) = refl
 
-none_behind : (ws : List PlanWrite) (k : ℕ) → length ws ≤ k → slice_get ws k ≡ None
+pub none_behind : (ws : List PlanWrite) (k : ℕ) → length ws ≤ k → slice_get ws k ≡ None
 none_behind [] k le = none_at [] k refl
 none_behind (w ∷ ws) zero le = absurd (omega arith)
 none_behind (w ∷ ws) (suc k) le = none_behind ws k (omega arith)
 
-record IsAt (ws : List PlanWrite) (k : ℕ) : Type 0 where
-  write : PlanWrite
-  at : slice_get ws k ≡ Some write
+pub record IsAt (ws : List PlanWrite) (k : ℕ) : Type 0 where
+  pub write : PlanWrite
+  pub at : slice_get ws k ≡ Some write
 
-some_at : (ws : List PlanWrite) (k : ℕ) → k < length ws → IsAt ws k
+pub some_at : (ws : List PlanWrite) (k : ℕ) → k < length ws → IsAt ws k
 some_at [] k lt = absurd (omega arith)
 some_at (w ∷ ws) zero lt = record { write = w; at = refl }
 some_at (w ∷ ws) (suc k) lt = let r = some_at ws k (omega arith) in record { write = r.write; at = r.at }
 
-record IsThere (o : Option ℕ) : Type 0 where
-  it : ℕ
-  is : o ≡ Some it
+pub record IsThere (o : Option ℕ) : Type 0 where
+  pub it : ℕ
+  pub is : o ≡ Some it
 
-there_is : (o : Option ℕ) → is_some o ≡ true → IsThere o
+pub there_is : (o : Option ℕ) → is_some o ≡ true → IsThere o
 there_is None e = absurd (let f : false ≡ true = e in cc)
 there_is (Some k) e = record { it = k; is = refl }
 
-not_writer : (ls : Row) → (Has ls (V, PW) → ⊥) → is_writer (mode_in V ls) ≡ false
+pub not_writer : (ls : Row) → (Has ls (V, PW) → ⊥) → is_writer (mode_in V ls) ≡ false
 not_writer ls none = by_mode (mode_in V ls) refl where
   by_mode : (o : Option Mode) → mode_in V ls ≡ o → is_writer o ≡ false
   by_mode None e = refl
@@ -117,7 +117,7 @@ not_writer ls none = by_mode (mode_in V ls) refl where
   by_mode (Some EX) e = refl
 
 -- V is kept in NL alone
-v_not_kept : (p : Phase) (ls : Row) → AreKept p ls → Has ls (V, PW) → ⊥
+pub v_not_kept : (p : Phase) (ls : Row) → AreKept p ls → Has ls (V, PW) → ⊥
 v_not_kept p ls keeps h = elim (keeps (V, PW) h) [
   | inl e ↦ absurd (let f : PW ≡ NL = e.1 in cc)
   | inr e ↦ absurd (let f : V ≡ X = e.0 in cc)

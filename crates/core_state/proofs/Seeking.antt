@@ -94,22 +94,22 @@ none_rewritten ws k l e = ap (λ vs. rewrites (take k vs) l) e ∙ none k where
 pub all_left : (ws : List PlanWrite) (k : ℕ) (ss : List (ℕ × Block)) (x : ℕ × Block) → ws ≡ [] → Has ss x → Has (unwritten (take k ws) ss) x
 all_left ws k ss x e h = is_left (take k ws) ss x h (none_rewritten ws k x.0 e)
 
-first_none : (a b : Bool) → (a || b) ≡ false → (a ≡ false) × (b ≡ false)
-first_none true b e = absurd (let f : true ≡ false = e in cc)
-first_none false b e = (refl, e)
+pub neither : (a b : Bool) → (a || b) ≡ false → (a ≡ false) × (b ≡ false)
+neither true b e = absurd (let f : true ≡ false = e in cc)
+neither false b e = (refl, e)
 
 rewrites_next : (ws : List PlanWrite) (k l : ℕ) (w : PlanWrite) → slice_get ws k ≡ Some w → rewrites (take (suc k) ws) l ≡ false → (rewrites (take k ws) l ≡ false) × (w.lbn ≢ l)
 rewrites_next [] k l w at e = absurd (let f : None ≡ Some w = at in cc)
 rewrites_next (y ∷ ws) zero l w at e =
     let f : Some y ≡ Some w = at in
     let h : y ≡ w = cc in
-    let t : (y.lbn == l) ≡ false = (first_none (y.lbn == l) false e).0 in
+    let t : (y.lbn == l) ≡ false = (neither (y.lbn == l) false e).0 in
     let u : (w.lbn == l) ≡ false = ap (λ (z : PlanWrite). z.lbn == l) (sym h) ∙ t in
     (refl, other w.lbn l u) where
       other : (a b : ℕ) → (a == b) ≡ false → a ≢ b
       other a b e = grind (arith, nat_tests)
 rewrites_next (y ∷ ws) (suc k) l w at e =
-    let t = first_none (y.lbn == l) (rewrites (take (suc k) ws) l) e in
+    let t = neither (y.lbn == l) (rewrites (take (suc k) ws) l) e in
     let r = rewrites_next ws k l w at t.1 in
     (ap (λ b. b || rewrites (take k ws) l) t.0 ∙ r.0, r.1)
 
@@ -162,7 +162,7 @@ lbn_has [] k w e = absurd (let f : None ≡ Some w = e in cc)
 lbn_has (y ∷ ws) zero w e = inl (let f : Some y ≡ Some w = e in let h : y ≡ w = cc in ap (λ z. z.lbn) h)
 lbn_has (y ∷ ws) (suc k) w e = inr (lbn_has ws k w e)
 
-not_same : (a b : ℕ) → a ≢ b → (a == b) ≡ false
+pub not_same : (a b : ℕ) → a ≢ b → (a == b) ≡ false
 not_same a b ne = grind (arith, nat_tests)
 
 pub once_at : (ws : List PlanWrite) (k : ℕ) (w : PlanWrite) → Once (map (λ w. w.lbn) ws) → slice_get ws k ≡ Some w → rewrites (take k ws) w.lbn ≡ false
@@ -206,7 +206,7 @@ wants_some es locks blocks space k b none e =
     let same : space ≡ no_space = λ i. record { clusters = none.clusters i; number = none.number i; short = none.short i } in
     subst (λ (s : Space). has_space k b s ≡ false) same (space_wanted es locks blocks space k b e)
 
-some_quotient : (b c q : ℕ) → b / c ≡ q → 1 ≤ c → c ≤ 16 → 64 ≤ b → 1 ≤ q
+pub some_quotient : (b c q : ℕ) → b / c ≡ q → 1 ≤ c → c ≤ 16 → 64 ≤ b → 1 ≤ q
 some_quotient b c zero e from to many =
     let none : c * (b / c) ≡ 0 = ap (λ (k : ℕ). c * k) e ∙ (let z : c * 0 ≡ 0 = omega arith in z) in
     absurd (omega arith)

@@ -62,7 +62,7 @@ split_is zero cs = refl
 split_is (suc k) [] = refl
 split_is (suc k) (c ∷ cs) = ap (λ ds. c ∷ ds) (split_is k cs)
 
-length_taken : (k : ℕ) (cs : List ℕ) → k ≤ length cs → length (take k cs) ≡ k
+pub length_taken : (k : ℕ) (cs : List ℕ) → k ≤ length cs → length (take k cs) ≡ k
 length_taken zero cs le = refl
 length_taken (suc k) [] le = absurd (omega arith)
 length_taken (suc k) (c ∷ cs) le = ap suc (length_taken k cs (omega arith))

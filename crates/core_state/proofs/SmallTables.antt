@@ -46,7 +46,7 @@ rise_little false by le = omega arith
 raised_little : (valid : Bool) (by sequence : ℕ) → by ≤ 2 → raised valid by sequence ≤ sequence + 2
 raised_little valid by sequence le = let r = rise_little valid by le in omega arith
 
-raised_fits : (valid : Bool) (by sequence : ℕ) → raised valid by sequence < 2 ^ 64
+pub raised_fits : (valid : Bool) (by sequence : ℕ) → raised valid by sequence < 2 ^ 64
 raised_fits valid by sequence = omega arith
 
 -- and by one at most

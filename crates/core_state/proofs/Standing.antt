@@ -45,6 +45,7 @@ use Rattle.core_state.proofs.Naming.{none_of, one_of, stays_without}
 use Rattle.core_state.proofs.Excluding.{exclusive_is_sole}
 use Rattle.core_state.proofs.Running.{kept_held, at_locks}
 use Rattle.core_state.proofs.Seeking.{all_left, part_stands}
+use Rattle.core_state.proofs.Keeping.{names_first}
 
 -- ---- its locks
 
@@ -201,19 +202,14 @@ come_more x seen name mode c own = record {
   assoc [] ys zs = refl
   assoc (x ∷ xs) ys zs = ap (λ ws. x ∷ ws) (assoc xs ys zs)
 
-names_before : (before after : Row) (name : LockName) → Has (names_of before) name → Has (names_of (before ++ after)) name
-names_before [] after name h = absurd h
-names_before (k ∷ before) after name (inl e) = inl e
-names_before (k ∷ before) after name (inr h) = inr (names_before before after name h)
-
 -- behind its rules for space a command takes no lock but that of the file whose number it was given
 pub comes_behind : (x : Cmd) (seen : Seen) (name : LockName) → takes_lock x name ≡ true → (Has (names_of seen.locks) name → ⊥) → ComesInTurn seen.locks seen.number name → HasCome x seen → IsOfNumber seen.number name
 comes_behind x seen (S k) own new turn c = elim turn [
-  | inl none ↦ absurd (none (subst (λ (ls : Row). Has (names_of ls) Q) (sym c.locks) (names_before c.before c.after Q (held_named PW c.before Q c.quota))))
+  | inl none ↦ absurd (none (subst (λ (ls : Row). Has (names_of ls) Q) (sym c.locks) (names_first c.before c.after Q (held_named PW c.before Q c.quota))))
   | inr is ↦ is
 ]
 comes_behind x seen (A f) own new turn c = absurd (let e : false ≡ true = own in cc)
-comes_behind x seen Q own new turn c = absurd (new (subst (λ (ls : Row). Has (names_of ls) Q) (sym c.locks) (names_before c.before c.after Q (held_named PW c.before Q c.quota))))
+comes_behind x seen Q own new turn c = absurd (new (subst (λ (ls : Row). Has (names_of ls) Q) (sym c.locks) (names_first c.before c.after Q (held_named PW c.before Q c.quota))))
 comes_behind x seen X own new turn c = absurd (let e : false ≡ true = own in cc)
 comes_behind x seen V own new turn c = absurd (let e : false ≡ true = sym (ap not c.takes) ∙ own in cc)
 

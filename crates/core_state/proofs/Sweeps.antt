@@ -19,7 +19,7 @@ use Rattle.vol_owners.specs.Lists.{Has, Once}
 use Rattle.vol_owners.proofs.Listing.{same_or_not}
 use Rattle.core_state.proofs.Naming.{without_none}
 use Rattle.core_state.proofs.Keeping.{names_parted, names_first}
-use Rattle.core_state.proofs.Rows.{own_rows, rows_twice}
+use Rattle.core_state.proofs.Rows.{own_rows, rows_twice, goes_twice}
 
 -- ---- lists
 
@@ -105,7 +105,7 @@ without_apart (name ∷ names) ls apart = ap (without_all names) (without_none l
 -- ---- locks that are put back
 
 -- those of two rows go one row after the other
-back_both : (n : ℕ) (keeps : Keeps) (values : Values) (ls ks : Row) (t : List Resource) → all_back n keeps values (ls ++ ks) t ≡ all_back n keeps values ks (all_back n keeps values ls t)
+pub back_both : (n : ℕ) (keeps : Keeps) (values : Values) (ls ks : Row) (t : List Resource) → all_back n keeps values (ls ++ ks) t ≡ all_back n keeps values ks (all_back n keeps values ls t)
 back_both n keeps values [] ks t = refl
 back_both n keeps values (l ∷ ls) ks t = back_both n keeps values ls ks (put_back n (values l t) l (keeps l) t)
 
@@ -124,9 +124,6 @@ kept_names keeps (l ∷ ls) name h = by_mode (keeps l) (kept_names keeps ls name
 
 else_rows : (rows : ℕ → List Row) (n m : ℕ) (own : List Row) → m ≢ n → with_rows rows n own m ≡ rows m
 else_rows rows n m own ne = grind (arith, nat_tests)
-
-goes_over : (t mid last : List Resource) (m : ℕ) (ls : Row) → GoesOn t mid m ls → GoesOn mid last m ls → GoesOn t last m ls
-goes_over t mid last m ls a b = record { waits = λ e. b.waits (a.waits e); holds = λ l h. b.holds l (a.holds l h) }
 
 -- ---- all three rows
 
@@ -237,7 +234,7 @@ module _ (keeps : Keeps) (values : Values) (give : LockName → List Resource �
     others = λ m ls ne h.
         let h2 : Has (rows2 m) ls = subst (λ (rs : List Row). Has rs ls) (sym (else_rows rows n m own2 ne)) h in
         let h3 : Has (rows3 m) ls = subst (λ (rs : List Row). Has rs ls) (sym (else_rows rows n m own3 ne)) h in
-        goes_over t t1 t3 m ls (first.others m ls ne h) (goes_over t1 t2 t3 m ls (second.others m ls ne h2) (third.others m ls ne h3));
+        goes_twice t t1 t3 m ls (first.others m ls ne h) (goes_twice t1 t2 t3 m ls (second.others m ls ne h2) (third.others m ls ne h3));
   }
 
   pub lets_go : AreLetGo t n stay rows (all_given n give (names_of gone) (all_back n keeps values (asked ++ claims) t))

@@ -32,6 +32,7 @@ use Rattle.core_state.proofs.Nodes.{at_here, at_else}
 use Rattle.core_state.proofs.Opens.{apart, opens_same, opens_let_go, HasNoOther}
 use Rattle.core_state.proofs.Channels.{IsOpenAt, open_at, channel_from, IsNodeNumber}
 use Rattle.core_state.proofs.Ends.{EndsSo, Opened, Closed, Refused, NoSwitch}
+use Rattle.core_state.proofs.Seeking.{not_same}
 
 -- ---- a node that changes
 
@@ -53,9 +54,6 @@ now_alike c nodes n s r at alike owner low = elim (same_or_not owner.node n) [ i
       ap (λ a. open_with owner.part a (open_of c owner)) (ap (asked_at (set_node nodes n r)) e ∙ asked_here nodes n s r at)
       ∙ alike owner.part (open_of c owner) low
       ∙ sym (ap (λ a. open_with owner.part a (open_of c owner)) (ap (asked_at nodes) e ∙ ap asked_in at))
-
-not_same : (a b : ℕ) → a ≢ b → (a == b) ≡ false
-not_same a b ne = grind (arith, nat_tests)
 
 -- an ask of the file system is no channel's
 pub own_with : (a : Ask) (part : ℕ) (o : Option Open) → a.chan ≡ 0 → 1 ≤ part → open_with part (Some a) o ≡ o

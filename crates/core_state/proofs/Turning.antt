@@ -53,7 +53,7 @@ use Rattle.core_state.specs.Asks.{writes_by, writes_now, granted_by, granted_ask
 use Rattle.core_state.specs.Searches.{IsOfNumber, HasCome, Spaces, Off, Back, Busy}
 use Rattle.core_state.specs.Waiting.{WaitsForLock, AsksForNumber, WaitsAside}
 use Rattle.core_state.specs.Goods.{under_with, nodes_under, IsAtPlan, IsAt, HasCommand, IsNode, Good, held_by}
-use Rattle.core_state.specs.Events.{block_at, turned, locking, seeing, planning, caching, writing, cache_written, happens}
+use Rattle.core_state.specs.Events.{turned, locking, seeing, planning, caching, writing, cache_written, happens}
 use Rattle.core_state.proofs.Holding.{held_grows, strong_grows}
 use Rattle.core_state.proofs.Naming.{same_name, none_of, named_by, stays_without, has_asked_without}
 use Rattle.core_state.proofs.Driving.{law_grows}

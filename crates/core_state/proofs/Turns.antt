@@ -121,7 +121,7 @@ module _ (w : Plain) (good : Good w) (n : ℕ) (s : NodeState) (at : node_at w.n
 -- ---- any node that has prepared for its event
 
 -- where no request of it stands, it waits for none of its rules for space, and for none of its command but where it gives its stock back
-not_standing : (a g b : Bool) → (a || (not g && b)) ≡ false → (a ≡ false) × (g ≡ false → b ≡ false)
+pub not_standing : (a g b : Bool) → (a || (not g && b)) ≡ false → (a ≡ false) × (g ≡ false → b ≡ false)
 not_standing true g b e = absurd (let f : true ≡ false = e in cc)
 not_standing false true b e = (refl, λ f. absurd (let z : true ≡ false = f in cc))
 not_standing false false b e = (refl, λ f. e)

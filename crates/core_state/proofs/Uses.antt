@@ -1,12 +1,11 @@
 -- A block that a turn uses from a cache is the drive's: its node holds the lock under which the block is cached in PR or more.
-use Rattle.std.proofs.Common.{◌≡◌, ◌++◌, ◌&&◌, ◌||◌, not, ℕ, Bool, true, false, cond, List, ◌∷◌, Option, Some, None, is_some, slice_get, refl, sym, ap, subst, ◌∙◌, inl, inr, arith}
+use Rattle.std.proofs.Common.{◌≡◌, ◌++◌, not, ℕ, Bool, true, false, cond, Option, Some, None, is_some, slice_get, refl, sym, ap, subst, ◌∙◌, inl, inr, arith}
 use Rattle.lock_db.specs.declared.name.LockName.{LockName}
 use Rattle.lock_db.specs.declared.name.LockName.TheVariants.{X, V}
 use Rattle.plain_cat.specs.declared.mode.Mode.{Mode}
-use Rattle.plain_cat.specs.declared.mode.Mode.TheVariants.{NL, CR, CW, PR, PW, EX}
+use Rattle.plain_cat.specs.declared.mode.Mode.TheVariants.{NL, CR, PR, PW, EX}
 use Rattle.plain_cat.specs.declared.command.Cmd.{Cmd}
 use Rattle.plain_cat.specs.declared.reply.Reply.{Reply}
-use Rattle.plain_vol.specs.Own.{next_command}
 use Rattle.node_locks.specs.Held.{Row, waits_at}
 use Rattle.vol_owners.specs.Lists.{Has}
 use Rattle.vol_owners.proofs.Listing.{has_parted}
@@ -35,15 +34,15 @@ use Rattle.core_state.specs.Caches.{current_entry}
 use Rattle.core_state.specs.Goods.{held_by, Good}
 use Rattle.core_state.specs.Event.{Event}
 use Rattle.core_state.specs.Event as event
-use Rattle.core_state.specs.Events.{mode_in, space_state, is_out, by_put, by_rule, phase_begun, serves, space_need, by_space, by_need, by_write, by_end, by_plan, by_command, by_back, by_turn, gives_back, stands, has_current, or_use, event_of, is_held_up, prepared, readied_at, cached_block, block_used}
+use Rattle.core_state.specs.Events.{mode_in, space_state, is_out, by_put, by_rule, phase_begun, serves, space_need, by_need, by_write, by_end, by_plan, by_command, by_back, by_turn, gives_back, stands, has_current, or_use, event_of, is_held_up, prepared, readied_at, cached_block, block_used}
 use Rattle.core_state.specs.Uses.{used_in, IsDrives, UsesTheDrives}
 use Rattle.core_state.proofs.Naming.{mode_has}
-use Rattle.core_state.proofs.Nodes.{at_here}
 use Rattle.core_state.proofs.Holding.{is_in_held}
 use Rattle.core_state.proofs.Running.{claims_held}
 use Rattle.core_state.proofs.Turning.{may_need, reads_more}
 use Rattle.core_state.proofs.CachedUses.{current_is_drives}
-use Rattle.core_state.proofs.Turns.{prepares_keep}
+use Rattle.core_state.proofs.Turns.{prepares_keep, not_standing}
+use Rattle.core_state.proofs.CachedHolders.{pw_is}
 
 -- ---- which looks are under V
 
@@ -61,18 +60,9 @@ off_first : (t a b : Bool) (e : SpaceEvent) (lbn : ℕ) → cond t space.Enough 
 off_first true a b e lbn f = absurd (let z : space.Enough ≡ space.Look lbn = f in cc)
 off_first false a b e lbn f = asks_first a b CR e lbn f
 
-writes_in : (o : Option Mode) → is_writer o ≡ true → o ≡ Some PW
-writes_in None e = absurd (let f : false ≡ true = e in cc)
-writes_in (Some NL) e = absurd (let f : false ≡ true = e in cc)
-writes_in (Some CR) e = absurd (let f : false ≡ true = e in cc)
-writes_in (Some CW) e = absurd (let f : false ≡ true = e in cc)
-writes_in (Some PR) e = absurd (let f : false ≡ true = e in cc)
-writes_in (Some PW) e = refl
-writes_in (Some EX) e = absurd (let f : false ≡ true = e in cc)
-
 -- V is kept in NL alone, so it is claimed where it is held in PW
 claimed_writer : (p : Phase) (kept claims : Row) → AreKept p kept → is_writer (mode_in V (kept ++ claims)) ≡ true → Has claims (V, PW)
-claimed_writer p kept claims keeps e = elim (has_parted kept claims (V, PW) (mode_has (kept ++ claims) V PW (writes_in (mode_in V (kept ++ claims)) e))) [
+claimed_writer p kept claims keeps e = elim (has_parted kept claims (V, PW) (mode_has (kept ++ claims) V PW (pw_is (mode_in V (kept ++ claims)) e))) [
   | inl h ↦ absurd (elim (keeps (V, PW) h) [
     | inl low ↦ absurd (let f : PW ≡ NL = low.1 in cc)
     | inr x ↦ absurd (let f : V ≡ X = x.0 in cc)
@@ -202,12 +192,6 @@ module _ (w : Plain) (good : Good w) (n : ℕ) (s : NodeState) (at : node_at w.n
     plan_right (Some p) = write_right x p s.tried (slice_get (writes_by p.ask s.tried p.writes) s.done)
 
 -- ---- any node
-
--- where no request of it stands, it waits for none of its rules for space, and for none of its command but where it gives its stock back
-not_standing : (a g b : Bool) → (a || (not g && b)) ≡ false → (a ≡ false) × (g ≡ false → b ≡ false)
-not_standing true g b e = absurd (let f : true ≡ false = e in cc)
-not_standing false true b e = (refl, λ f. absurd (let z : true ≡ false = f in cc))
-not_standing false false b e = (refl, λ f. e)
 
 module _ (w : Plain) (good : Good w) (n : ℕ) (s : NodeState) (at : node_at w.nodes n ≡ Some s) where
   pub event_right : (u : LockName × ℕ) → used_in (event_of w n (Some s)) ≡ Some u → slice_get w.blocks u.1 ≡ Some (block_used w s u.0 u.1)

@@ -1,5 +1,5 @@
 -- What is known of a node that begins a command.
-use Rattle.std.proofs.Common.{◌≡◌, ◌≤◌, ◌-◌, ◌+◌, ◌++◌, ◌||◌, ◌⊎◌, ℕ, Bool, true, false, cond, List, Option, Some, None, Result, Ok, Err, length, map, slice_set, refl, sym, ap, subst, ◌∙◌, inl, inr, arith}
+use Rattle.std.proofs.Common.{◌≡◌, ◌≤◌, ◌-◌, ◌+◌, ◌++◌, ◌||◌, ◌⊎◌, ℕ, Bool, true, false, cond, List, Option, Some, None, Result, Ok, Err, length, map, slice_set, refl, sym, ap, subst, ◌∙◌, inl, inr}
 use Rattle.std.specs.Prelude.{◌&&◌, not, slice_index_or, option_map, is_some, is_none, OnOk}
 use Rattle.lock_db.specs.declared.name.LockName.TheVariants.{X, V}
 use Rattle.plain_cat.specs.declared.command.Cmd.{Cmd}
@@ -17,7 +17,7 @@ use Rattle.core_space.specs.declared.run.Phase.TheVariants as phase
 use Rattle.core_space.specs.declared.run.SpaceRun.{SpaceRun}
 use Rattle.core_space.specs.declared.event.SpaceEvent.TheVariants as space
 use Rattle.core_space.specs.Rule.{is_due, is_shared, is_writer, fill_event, event_in, space_event, next_fill, written_first, after_looks}
-use Rattle.core_state.specs.Worlds.{NodeState, Plain, node_at, set_node, with_node, current, or_next, state_of}
+use Rattle.core_state.specs.Worlds.{NodeState, Plain, node_at, with_node, current, or_next, state_of}
 use Rattle.core_state.specs.Asks.{has_asked}
 use Rattle.core_state.specs.Channels.{channel_now}
 use Rattle.core_state.specs.Stocks.{roomless}
@@ -25,7 +25,7 @@ use Rattle.core_state.specs.Searches.{IsOff, Spaces}
 use Rattle.core_state.specs.Goods.{HasCommand, IsNode, Good, HasRoom}
 use Rattle.core_state.specs.Event.{Event}
 use Rattle.core_state.specs.Event as event
-use Rattle.core_state.specs.Events.{mode_in, space_locks, space_state, space_need, phase_begun, by_rule, serves, serving, served_for, served_by, served, is_out, is_ended, is_wanted, is_due_in, gives_back_in, gives_back, stands, is_held_up, by_back, by_need, by_plan, by_command, by_turn, event_of, event_now, next_event, prepared, readied, begun, or_use, happen, happens, after_turn}
+use Rattle.core_state.specs.Events.{mode_in, space_locks, space_state, space_need, phase_begun, by_rule, serves, serving, served_for, served_by, served, is_out, is_ended, is_wanted, gives_back_in, gives_back, stands, is_held_up, by_back, by_need, by_plan, by_command, by_turn, event_of, event_now, next_event, prepared, readied, begun, or_use, happen, after_turn}
 use Rattle.core_state.specs.declared.node.Node.{Node}
 use Rattle.core_state.proofs.Naming.{none_of}
 use Rattle.core_state.proofs.Nodes.{at_here, set_node_twice}

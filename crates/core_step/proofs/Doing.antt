@@ -1,5 +1,5 @@
 -- What an event by the rules for space asks for is so.
-use Rattle.std.proofs.Common.{◌≡◌, ◌≢◌, ◌≤◌, ◌<◌, ◌+◌, ◌++◌, ◌/◌, ◌⊎◌, ℕ, zero, suc, Bool, true, false, List, [], ◌∷◌, Option, Some, None, is_some, length, slice_get, refl, sym, ap, subst, ◌∙◌, inl, inr, arith, append-nil}
+use Rattle.std.proofs.Common.{◌≡◌, ◌≢◌, ◌≤◌, ◌<◌, ◌+◌, ◌++◌, ◌/◌, ◌⊎◌, ℕ, Bool, true, false, List, [], ◌∷◌, Some, None, is_some, length, slice_get, refl, sym, ap, subst, ◌∙◌, inl, inr, arith, append-nil}
 use Rattle.std.specs.Prelude.{All, IsSome, drop}
 use Rattle.std.proofs.lemmas.List.Elements.{All-nil, All-cons}
 use Rattle.vol_words.specs.Fields.{Block}
@@ -13,14 +13,13 @@ use Rattle.plain_cat.specs.declared.command.Cmd.{Cmd}
 use Rattle.plain_cat.specs.declared.cat.Cat.{Cat}
 use Rattle.node_locks.specs.Held.{system_of, Row, names_of, joined, waits_at}
 use Rattle.node_locks.proofs.Keeping.{held_are_granted}
-use Rattle.node_locks.proofs.Nodes.{has_name_or_not}
 use Rattle.vol_owners.specs.Lists.{Has, Once}
 use Rattle.vol_owners.specs.Owners.{Owners, Things, Outs}
 use Rattle.vol_owners.proofs.Listing.{has_first}
 use Rattle.vol_parts.specs.declared.geometry.Geometry.{Geometry}
 use Rattle.vol_parts.specs.declared.geometry.Part.{Part}
 use Rattle.vol_parts.specs.declared.geometry.Part.TheVariants.{IndexBitmap, Storage}
-use Rattle.vol_parts.specs.Parts.{IsGeometry, storage_blocks, part_of}
+use Rattle.vol_parts.specs.Parts.{IsGeometry, part_of}
 use Rattle.vol_spell.specs.Reading.{total_of}
 use Rattle.vol_spell.specs.Places.{place_of, IsPart}
 use Rattle.vol_spell.specs.Spelling.{Spells}
@@ -35,7 +34,7 @@ use Rattle.op_law.specs.Events.{space_of, HasNoSpace}
 use Rattle.op_law.specs.Writing.{Held}
 use Rattle.node_space.specs.Searching.{places}
 use Rattle.node_space.specs.Taking.{out_after}
-use Rattle.node_space.specs.Answering.{answer, blocks_of}
+use Rattle.node_space.specs.Answering.{blocks_of}
 use Rattle.node_space.proofs.Ending.{looks_in_order}
 use Rattle.node_space.proofs.Looked.{places_lie}
 use Rattle.node_space.proofs.Writes.{writes_take}
@@ -47,13 +46,13 @@ use Rattle.core_space.specs.Rule.{is_shared}
 use Rattle.core_space.proofs.Refused.{give_looked, fill_looked}
 use Rattle.core_space.proofs.Filled.{writes_fill, numbers_within, clusters_within}
 use Rattle.core_space.proofs.Given.{outside_within}
-use Rattle.core_state.specs.Worlds.{Stock, NodeState, Plain, node_at, rows_of}
+use Rattle.core_state.specs.Worlds.{NodeState, Plain, node_at, rows_of}
 use Rattle.core_state.specs.Goods.{nodes_under, IsNode, Good, under_with}
 use Rattle.core_state.specs.Event.{Event}
 use Rattle.core_state.specs.Event as event
-use Rattle.core_state.specs.Events.{mode_in, is_out, is_last, serves, by_space, by_back, gives_back, gives_back_in}
+use Rattle.core_state.specs.Events.{mode_in, is_out, serves, by_space, by_back, gives_back}
 use Rattle.core_state.specs.Stocks.{has_bit_at, things_in, stock_now}
-use Rattle.core_state.specs.Searches.{begun_run, wanted_by, numbered_by, lacks_by, NeedsSpace, IsOff, FillWrites, IsWritingBack, IsTaking, Rules, Served, Given, Shared, Fills, Grabs, Filled, Drains, Alone, Looking, Taking, Taken, Refused, Spaces}
+use Rattle.core_state.specs.Searches.{begun_run, wanted_by, numbered_by, lacks_by, NeedsSpace, IsOff, FillWrites, IsWritingBack, IsTaking, Rules, Served, Given, Shared, Fills, Grabs, Filled, Drains, Alone, Looking, Taking, Taken, Refused}
 use Rattle.core_state.proofs.Naming.{one_of, named_by}
 use Rattle.core_state.proofs.Keeping.{kept_once, names_parted}
 use Rattle.core_state.proofs.Rows.{lock_granted, IsFew}
@@ -66,13 +65,12 @@ use Rattle.core_state.proofs.Claims.{x_in_cr, not_shared, x_not_a, v_not_a, v_ne
 use Rattle.core_state.proofs.Seeking.{next_lies}
 use Rattle.core_state.proofs.Givings.{NumbersFirst, ClustersNext, give_step, differ_places}
 use Rattle.core_state.proofs.Backs.{drop_at}
-use Rattle.core_state.proofs.Backing.{IsDue}
 use Rattle.core_state.proofs.Grabs.{out_next, all_there}
 use Rattle.core_state.proofs.Midway.{drive_so, outs_so}
 use Rattle.core_state.proofs.Lowering.{lock_v}
 use Rattle.core_state.proofs.Rulings.{taken_not}
 use Rattle.core_state.proofs.Comes.{Moves, ClaimsX, ClaimsV, ClaimsBehind, ClaimsAlone, ClaimsLast, FillLook, DrainLook, LastLook, FillWrite, DrainWrite, LastWrite, Lowers, Drained, moves_so, BackMoves, BackClaims, BackLooks, BackWrites, Returns, back_moves_so}
-use Rattle.core_step.specs.Spaces.{IsBitmapPlace, Index, InStorage, CanTake}
+use Rattle.core_step.specs.Spaces.{IsBitmapPlace, Index, InStorage}
 use Rattle.core_step.specs.Moving.{IsClaimable, IsNextWrite, CanMove}
 use Rattle.core_step.proofs.Few.{kept_few, few_length}
 

@@ -1,46 +1,38 @@
 -- A node's command can end: its locks can be put back, and there is room for those that it keeps then.
 use Rattle.std.proofs.Common.{◌≡◌, ◌≤◌, ◌+◌, ◌++◌, ℕ, Bool, true, false, cond, not, List, [], ◌∷◌, Option, Some, None, length, refl, sym, ap, subst, ◌∙◌, inl, inr, arith}
-use Rattle.std.specs.Prelude.{◌||◌, is_some}
-use Rattle.std.specs.List.{list_any}
+use Rattle.std.specs.Prelude.{is_some}
 use Rattle.std.proofs.lemmas.List.{append-nil}
 use Rattle.lock_db.specs.declared.name.LockName.{LockName}
-use Rattle.lock_db.specs.declared.name.LockName.TheVariants.{A}
-use Rattle.lock_db.specs.declared.name.Owner.{Owner}
 use Rattle.lock_db.specs.declared.resource.Resource.{Resource}
-use Rattle.lock_db.specs.Queues.{is_upward}
-use Rattle.lock_db.specs.Tables.{IsTable, resource_at, converted, released}
-use Rattle.lock_db.proofs.Names.{is_same-refl, is_same-same}
-use Rattle.lock_db.proofs.Steps.{IsTable-converted, IsTable-released}
+use Rattle.lock_db.specs.Tables.{resource_at}
+use Rattle.lock_db.proofs.Names.{is_same-refl}
 use Rattle.plain_cat.specs.declared.mode.Mode.{Mode}
-use Rattle.plain_cat.specs.declared.mode.Mode.TheVariants.{NL, CR, CW, PR, PW, EX}
-use Rattle.plain_cat.specs.declared.cat.Open.{Open}
 use Rattle.plain_cat.specs.declared.command.Cmd.{Cmd}
 use Rattle.plain_cat.specs.declared.command.Cmd.TheVariants as cmd
 use Rattle.plain_cat.specs.declared.reply.Reply.{Reply}
-use Rattle.vol_owners.specs.Lists.{Has, Once}
-use Rattle.node_locks.specs.Held.{Row, system_of, names_of, AreHeld, HoldsItsLocks, waits_at, without, with_rows}
+use Rattle.vol_owners.specs.Lists.{Once}
+use Rattle.node_locks.specs.Held.{Row, names_of, AreHeld, HoldsItsLocks, waits_at, without, with_rows}
 use Rattle.node_locks.specs.HeldLaws.{IsMoved}
-use Rattle.node_locks.specs.PuttingBack.{Values, put_back, all_back, kept_of, IsLow, MayPutBack, ArePutBack}
+use Rattle.node_locks.specs.PuttingBack.{Values, kept_of, MayPutBack, ArePutBack}
 use Rattle.node_locks.specs.Sequences.{raised_block}
 use Rattle.node_locks.specs.Sweeping.{MayGiveAll as MayGiveNamed}
 use Rattle.node_locks.proofs.Moving.{moving_holds}
 use Rattle.node_locks.proofs.PuttingBack.{putting_back_holds}
 use Rattle.node_locks.proofs.Sweeping.{sweeping_holds}
-use Rattle.node_cache.specs.Cached.{Cached, is_under}
 use Rattle.op_law.specs.declared.need.Plan.{Plan}
 use Rattle.op_law.specs.declared.seen.Chan.{Chan}
 use Rattle.core_state.specs.Worlds.{NodeState, Plain, node_at, rows_of, rows_in, rows_at}
 use Rattle.core_state.specs.Asks.{reply_by, own_ask}
-use Rattle.core_state.specs.Caches.{has_entry, keeps, raised_values, put_back_all}
+use Rattle.core_state.specs.Caches.{keeps, raised_values, put_back_all}
 use Rattle.core_state.specs.Channels.{names_in_form, opened, channel_seen}
 use Rattle.core_state.specs.Events.{all_writes, stays, going, used_locks, given_back}
 use Rattle.core_state.specs.Goods.{IsAt, IsNode, HasFewAnswers, Good}
 use Rattle.core_state.specs.Opens.{open_now, AreOpensLocked}
 use Rattle.core_state.specs.Raises.{raise_of}
-use Rattle.core_state.specs.Stores.{guards_blocks}
 use Rattle.core_state.proofs.Closing.{closing_lock, close_channel, form_now}
-use Rattle.core_state.proofs.Keeping.{kept_once}
-use Rattle.core_state.proofs.Opens.{opens_released, opens_converted, opens_given}
+use Rattle.core_state.proofs.Keeping.{kept_once, names_first}
+use Rattle.core_state.proofs.Opens.{opens_given}
+use Rattle.core_state.proofs.PutBacks.{is_low, opens_back}
 use Rattle.core_state.proofs.Rows.{IsFew, own_rows, rows_same}
 use Rattle.core_state.proofs.SmallBegun.{answers_fit}
 use Rattle.core_state.proofs.Sweeps.{filter_names, filter_once}
@@ -75,47 +67,7 @@ claims_join t n rows kept asked claims held is free granted (inr k) =
     subst (λ (c : Row). AreJoined t n rows kept (asked ++ c)) (sym k.1)
     (joins_one t n rows kept asked k.0 held (subst (λ (c : Row). rows n ≡ kept ∷ (asked ∷ (c ∷ []))) k.1 is) free (subst (λ (c : Row). waits_at t n c ≡ false) k.1 granted))
 
--- ---- what the locks that are put back leave of who has a file open
-
--- no mode is below NL
-to_nl : (m : Mode) → is_upward m NL ≡ false
-to_nl NL = refl
-to_nl CR = refl
-to_nl CW = refl
-to_nl PR = refl
-to_nl PW = refl
-to_nl EX = refl
-
--- a lock with a cached block under it guards blocks
-under_guards : (es : List Cached) → ((e : Cached) → Has es e → guards_blocks e.lock ≡ true) → (name : LockName) → has_entry es name ≡ true → guards_blocks name ≡ true
-under_guards [] guarding name h = absurd (let f : false ≡ true = h in cc)
-under_guards (e ∷ es) guarding name h = by_test (is_under name e) refl h (λ f. under_guards es (λ y t. guarding y (inr t)) name f) where
-  by_test : (b : Bool) → is_under name e ≡ b → (b || list_any (is_under name) es) ≡ true → (has_entry es name ≡ true → guards_blocks name ≡ true) → guards_blocks name ≡ true
-  by_test true same f rest = subst (λ (k : LockName). guards_blocks k ≡ true) (sym (is_same-same name e.lock same)) (guarding e (inl refl))
-  by_test false same f rest = rest f
-
-no_open : (name : LockName) → guards_blocks name ≡ true → (f : ℕ) → name ≡ A f → ⊥
-no_open name guards f e = absurd (let g : true ≡ false = sym guards ∙ ap guards_blocks e in cc)
-
-opens_back : (n : ℕ) (es : List Cached) (values : Values) (having : Owner → Option Open) → ((e : Cached) → Has es e → guards_blocks e.lock ≡ true) → (ls : Row) (t : List Resource) → IsTable t → MayPutBack n (keeps es) values ls t
-    → AreOpensLocked t having → AreOpensLocked (all_back n (keeps es) values ls t) having
-opens_back n es values having guarding [] t is may opens = opens
-opens_back n es values having guarding (l ∷ ls) t is may opens = by_test (has_entry es l.0) refl may.1 (λ u. opens_back n es values having guarding ls u) where
-  by_test : (b : Bool) → has_entry es l.0 ≡ b → MayPutBack n (keeps es) values ls (put_back n (values l t) l (cond b (Some NL) None) t)
-      → ((u : List Resource) → IsTable u → MayPutBack n (keeps es) values ls u → AreOpensLocked u having → AreOpensLocked (all_back n (keeps es) values ls u) having)
-      → AreOpensLocked (all_back n (keeps es) values ls (put_back n (values l t) l (cond b (Some NL) None) t)) having
-  by_test true e rest go =
-      go (converted l.0 (system_of n) NL (values l t) t) (IsTable-converted l.0 (system_of n) NL (values l t) t is (ap is_some may.0) (λ h f. absurd (let g : NL ≡ CW = f in cc))) rest
-      (opens_converted l.0 n l.1 NL (values l t) t having is (no_open l.0 (under_guards es guarding l.0 e)) may.0 (λ f. absurd (let g : NL ≡ CW = f in cc)) opens)
-  by_test false e rest go =
-      go (released l.0 (system_of n) (values l t) t) (IsTable-released l.0 (system_of n) (values l t) t is) rest (opens_released l.0 n (values l t) t having is opens)
-
 -- ---- the node
-
-names_more : (ls ks : Row) (name : LockName) → Has (names_of ls) name → Has (names_of (ls ++ ks)) name
-names_more [] ks name h = absurd h
-names_more (l ∷ ls) ks name (inl e) = inl e
-names_more (l ∷ ls) ks name (inr h) = inr (names_more ls ks name h)
 
 module _ {w : Plain} (good : Good w) {n : ℕ} (r : IsReady w n) where
   abbrev s : NodeState
@@ -151,14 +103,8 @@ module _ {w : Plain} (good : Good w) {n : ℕ} (r : IsReady w n) where
   abbrev after : ℕ → List Row
   after = with_rows before n (row ∷ ([] ∷ ([] ∷ [])))
 
-  low : (l : LockName × Mode) → IsLow l.1 (keeps s.cache l)
-  low l = by_test (has_entry s.cache l.0) where
-    by_test : (b : Bool) → IsLow l.1 (cond b (Some NL) None)
-    by_test true = (to_nl l.1, λ e f. absurd (let g : NL ≡ CW = f in cc))
-    by_test false = tt
-
   put_so : MayPutBack n (keeps s.cache) values (used_locks s) w.locks × ArePutBack n row ([] ∷ []) before w.locks u
-  put_so = putting_back_holds (keeps s.cache) values w.locks n s.kept (used_locks s) ([] ∷ []) before good.locked.0 joined_so.held (own_rows (rows_at w.nodes) n (s.kept ∷ (used_locks s ∷ ([] ∷ [])))) node.rests joined_so.free (λ l h. low l)
+  put_so = putting_back_holds (keeps s.cache) values w.locks n s.kept (used_locks s) ([] ∷ []) before good.locked.0 joined_so.held (own_rows (rows_at w.nodes) n (s.kept ∷ (used_locks s ∷ ([] ∷ [])))) node.rests joined_so.free (λ l h. is_low s.cache l)
 
   abbrev raises : LockName → List Resource → List ℕ
   raises name t = raised_block (raise_of w.geometry name (all_writes s)) (resource_at name t)
@@ -166,7 +112,7 @@ module _ {w : Plain} (good : Good w) {n : ℕ} (r : IsReady w n) where
   gives_so : MayGiveNamed n raises (names_of (going s)) u
   gives_so =
       (sweeping_holds raises u n 0 row (names_of (going s)) (row ∷ ([] ∷ ([] ∷ []))) after put_so.1.table put_so.1.held (own_rows before n (row ∷ ([] ∷ ([] ∷ [])))) refl put_so.1.own.waits
-      (filter_once (λ l. not (stays s l)) s.kept once) (λ name h. names_more s.kept (kept_of (keeps s.cache) (used_locks s)) name (filter_names (λ l. not (stays s l)) s.kept name h))).0
+      (filter_once (λ l. not (stays s l)) s.kept once) (λ name h. names_first s.kept (kept_of (keeps s.cache) (used_locks s)) name (filter_names (λ l. not (stays s l)) s.kept name h))).0
 
   may_put : MayPutAllBack w.geometry n s w.locks
   may_put = record { puts = put_so.0; gives = may_each w.geometry n (all_writes s) (going s) u gives_so }
@@ -178,7 +124,7 @@ module _ {w : Plain} (good : Good w) {n : ℕ} (r : IsReady w n) where
 
   opens_last : AreOpensLocked last (open_now good.running.cat w.nodes)
   opens_last = opens_given w.geometry n (all_writes s) (going s) u (open_now good.running.cat w.nodes) put_so.1.table
-      (opens_back n s.cache values (open_now good.running.cat w.nodes) node.store.guarding (used_locks s) w.locks good.locked.0 put_so.0 good.running.opens)
+      (opens_back n s.cache values (open_now good.running.cat w.nodes) node.store.guarding (used_locks s) w.locks good.locked.0 put_so.0 good.running.opens).1
 
   closes_so : (x : Cmd) (a : Reply) → names_in_form x ≡ true → MayCloseOff n (channel_seen s.opens x) x a last
   closes_so (cmd.CloseFile chan) a form = λ closed. by_open (opened s.opens chan) refl where

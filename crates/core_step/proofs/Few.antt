@@ -1,13 +1,12 @@
 -- How many locks a node has.
-use Rattle.std.proofs.Common.{◌≡◌, ◌≤◌, ◌+◌, ◌++◌, Bool, true, false, cond, not, [], ◌∷◌, Option, Some, None, length, refl, sym, ap, subst, inl, inr, arith}
+use Rattle.std.proofs.Common.{◌≡◌, ◌≤◌, ◌+◌, ◌++◌, not, [], ◌∷◌, Option, Some, None, length, ap, inl, inr, arith}
 use Rattle.lock_db.specs.declared.name.LockName.{LockName}
 use Rattle.lock_db.specs.declared.name.LockName.TheVariants.{X, V}
 use Rattle.lock_db.specs.Names.{is_same}
-use Rattle.lock_db.proofs.Names.{is_same-same}
 use Rattle.plain_cat.specs.declared.mode.Mode.{Mode}
 use Rattle.plain_cat.specs.declared.mode.Mode.TheVariants.{CR, PW, EX}
 use Rattle.plain_cat.specs.declared.command.Cmd.{Cmd}
-use Rattle.vol_owners.specs.Lists.{Has, Once}
+use Rattle.vol_owners.specs.Lists.{Once}
 use Rattle.node_locks.specs.Held.{Row, names_of, without}
 use Rattle.op_law.specs.declared.need.Ask.{Ask as PlanAsk}
 use Rattle.op_law.specs.declared.seen.Seen.{Seen}
@@ -15,19 +14,9 @@ use Rattle.core_space.specs.declared.run.SpaceRun.{SpaceRun}
 use Rattle.core_state.specs.Asks.{with_ask, lock_of_ask}
 use Rattle.core_state.specs.Searches.{Rules, Served, Given, Shared, Fills, Grabs, Filled, Drains, Alone, Looking, Taking, Taken, Refused, Spaces, Off, Back, Busy}
 use Rattle.core_state.specs.Worlds.{Stock}
-use Rattle.core_state.proofs.Naming.{without_none}
 use Rattle.core_state.proofs.Rows.{IsFew}
 use Rattle.core_state.proofs.Sweeps.{filter_once}
-
--- on a name there is one at most
-one_less : (name : LockName) (ls : Row) → Once (names_of ls) → length ls ≤ length (without name ls) + 1
-one_less name [] once = omega arith
-one_less name (l ∷ ls) once = by_test (is_same l.0 name) refl (one_less name ls once.1) where
-  by_test : (b : Bool) → is_same l.0 name ≡ b → length ls ≤ length (without name ls) + 1 → length (l ∷ ls) ≤ length (cond (not b) (l ∷ without name ls) (without name ls)) + 1
-  by_test true e le =
-      let same : length (without name ls) ≡ length ls = ap length (without_none ls name (λ h. once.0 (subst (Has (names_of ls)) (sym (is_same-same l.0 name e)) h))) in
-      omega (arith, same)
-  by_test false e le = omega (arith, le)
+use Rattle.core_state.proofs.KeptReplies.{one_less}
 
 -- besides X and V it keeps 64 at most
 pub kept_few : (ls : Row) → Once (names_of ls) → length (without X (without V ls)) ≤ 64 → length ls ≤ 66

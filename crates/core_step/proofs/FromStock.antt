@@ -1,65 +1,44 @@
 -- A node that has begun a command, and what it is given from the stock.
-use Rattle.std.proofs.Common.{◌≡◌, ◌≤◌, ◌-◌, ◌+◌, ◌++◌, ◌⊎◌, ℕ, zero, suc, Bool, true, false, cond, List, [], ◌∷◌, Option, Some, None, length, map, refl, sym, ap, subst, ◌∙◌, inl, inr, arith}
-use Rattle.std.specs.Prelude.{◌==◌, ◌&&◌, ◌||◌, not, is_some, option_map, IfSome, IsSome, slice_index_or}
-use Rattle.std.proofs.lemmas.Bool.Decides.{nat_tests}
-use Rattle.lock_db.specs.declared.resource.Resource.{Resource}
+use Rattle.std.proofs.Common.{◌≡◌, ◌≤◌, ◌⊎◌, ℕ, Bool, true, false, cond, Option, Some, None, length, refl, sym, ap, subst, ◌∙◌, inl, inr}
+use Rattle.std.specs.Prelude.{◌&&◌, ◌||◌, not, is_some, option_map, IfSome, IsSome}
 use Rattle.plain_cat.specs.declared.command.Cmd.{Cmd}
-use Rattle.plain_cat.specs.declared.mode.Mode.{Mode}
-use Rattle.node_locks.specs.Held.{waits_at}
 use Rattle.vol_parts.specs.Parts.{IsGeometry}
 use Rattle.op_law.specs.declared.need.Need.{Need}
 use Rattle.op_law.specs.declared.need.Need.TheVariants as need
 use Rattle.op_law.specs.declared.need.Plan.{Plan}
-use Rattle.op_law.specs.declared.need.PlanWrite.{PlanWrite}
-use Rattle.op_law.specs.declared.seen.Seen.{Seen}
-use Rattle.op_law.specs.Events.{Space, space_of, has_space, has_number, HasNoSpace}
+use Rattle.op_law.specs.Events.{Space, space_of, has_space, HasNoSpace}
 use Rattle.op_law.specs.Needs.{events_of, need_of, IsNext}
 use Rattle.op_law.specs.Fits.{FitsSeen}
-use Rattle.op_law.specs.Going.{with_space}
-use Rattle.op_law.specs.Knows.{wanted, wants_number}
+use Rattle.op_law.specs.Knows.{wanted}
 use Rattle.op_law.specs.Laws.{IsSearch}
 use Rattle.node_space.specs.Answering.{blocks_of}
 use Rattle.node_space.proofs.Taken.{takes_all}
-use Rattle.core_space.specs.declared.run.Phase.{Phase}
 use Rattle.core_space.specs.declared.run.Phase.TheVariants as phase
 use Rattle.core_space.specs.declared.run.SpaceRun.{SpaceRun}
 use Rattle.core_space.specs.Rule.{TakesMemory}
-use Rattle.core_state.specs.Worlds.{NodeState, Plain, node_at, set_node, with_node, state_of}
+use Rattle.core_state.specs.Worlds.{NodeState, Plain, node_at, with_node, state_of}
 use Rattle.core_state.specs.Goods.{IsAt, IsNode, Good}
 use Rattle.core_state.specs.Event.{Event}
 use Rattle.core_state.specs.Event as event
-use Rattle.core_state.specs.Events.{space_state, serves, serving, served_for, served_by, served, by_space, by_need, gives_back, gives_back_in, stands, is_held_up, plan_in, plan_at, or_use, event_now, next_event, readied, happen, after_turn}
-use Rattle.core_state.specs.Searches.{begun_run, wanted_by, numbered_by, NeedsSpace, HasTaken, Rules, Served, Given, Shared, Fills, Grabs, Filled, Drains, Alone, Looking, Taking, Taken, Refused}
+use Rattle.core_state.specs.Events.{space_state, serves, serving, served_for, served_by, served, by_space, by_need, gives_back_in, stands, is_held_up, plan_in, plan_at, or_use, event_now, next_event, readied, happen, after_turn}
+use Rattle.core_state.specs.Searches.{wanted_by, numbered_by, NeedsSpace, HasTaken, Rules, Served, Given, Shared, Fills, Grabs, Filled, Drains, Alone, Looking, Taking, Taken, Refused}
 use Rattle.core_state.proofs.Preparing.{has_prepared, readied_is}
 use Rattle.core_state.proofs.Seeking.{space_wanted, wants_some, wants_nothing, no_space}
 use Rattle.core_state.proofs.Serving.{so, enough_now, serve_keeps}
 use Rattle.core_state.proofs.Standing.{calm}
 use Rattle.core_state.proofs.Turning.{under_command, drive, seen_on, may_need, space_now}
 use Rattle.core_state.proofs.Comes.{Moves, ClaimsX, ClaimsV, ClaimsBehind, ClaimsAlone, ClaimsLast, FillLook, DrainLook, LastLook, FillWrite, DrainWrite, LastWrite, Lowers, Drained}
-use Rattle.core_step.specs.Ready.{Makes, IsBegun, IsReady, NeedsNow, LacksSpace, WantsSpace, IsSearching, IsNotSearching, is_searching, SearchesAsNeeded, IsGivenAll}
+use Rattle.core_step.specs.Ready.{Makes, IsBegun, IsReady, NeedsNow, LacksSpace, IsSearching, IsNotSearching, is_searching, SearchesAsNeeded, IsGivenAll}
 use Rattle.core_state.specs.declared.node.Node.{Node}
+use Rattle.core_state.proofs.Outside.{none_wanted}
 use Rattle.core_step.specs.Spaces.{unserved}
 use Rattle.core_step.specs.Moving.{CanMove}
 use Rattle.core_step.specs.Memory.{takes_none}
 use Rattle.core_step.proofs.Caching.{takes_or_use}
 use Rattle.core_step.proofs.Steps.{is_there}
-use Rattle.core_step.proofs.Ready.{need_told, fits_told, searched_told, event_is, event_need}
+use Rattle.core_step.proofs.Ready.{need_told, fits_told, event_is, event_need}
 use Rattle.core_step.proofs.Doing.{once_now, its_moves, can_move}
 use Rattle.core_step.proofs.Setting.{set_at}
-
--- a need that is nothing is had
-nothing_wanted : (k : ℕ) (b : Bool) → has_space k b no_space ≡ true → (k ≡ 0) × (b ≡ false)
-nothing_wanted k true e = absurd (no_number (0 == k) e) where
-  no_number : (t : Bool) → (t && false) ≡ true → ⊥
-  no_number true f = absurd (let g : false ≡ true = f in cc)
-  no_number false f = absurd (let g : false ≡ true = f in cc)
-nothing_wanted k false e = (is_none k (first (0 == k) e), refl) where
-  first : (t : Bool) → (t && true) ≡ true → t ≡ true
-  first true f = refl
-  first false f = f
-
-  is_none : (m : ℕ) → (0 == m) ≡ true → m ≡ 0
-  is_none m f = grind (arith, nat_tests)
 
 module _ {w : Plain} (good : Good w) {n : ℕ} (b : IsBegun w n) where
   abbrev s : NodeState
@@ -107,7 +86,7 @@ module _ {w : Plain} (good : Good w) {n : ℕ} (b : IsBegun w n) where
 
     given_not : (k : ℕ) (c : Bool) → IsSearching s x k c → has_space (wanted_by x s.seen) (numbered_by x s.seen) (space_of s.seen) ≡ true → ⊥
     given_not k c h e =
-        let z = nothing_wanted (wanted_by x s.seen) (numbered_by x s.seen) (ap (has_space (wanted_by x s.seen) (numbered_by x s.seen)) (sym (none_is k c h)) ∙ e) in
+        let z = none_wanted (wanted_by x s.seen) (numbered_by x s.seen) (ap (has_space (wanted_by x s.seen) (numbered_by x s.seen)) (sym (none_is k c h)) ∙ e) in
         h.wants.some (sym h.wants.clusters_are ∙ z.0, sym h.wants.number_is ∙ z.1)
 
     taken_not : (k : ℕ) (c : Bool) → IsSearching s x k c → HasTaken x s.kept s.claims s.run s.stock s.seen → ⊥

@@ -8,7 +8,7 @@ use Rattle.core_state.specs.Worlds.{Held, Plain}
 use Rattle.core_state.specs.Goods.{HasRoom}
 use Rattle.core_state.specs.Images.{IsTold, IsTorn, told_as}
 use Rattle.core_state.specs.Event.{Event}
-use Rattle.core_state.specs.Events.{happen, is_write, readied, next_event, after_turn}
+use Rattle.core_state.specs.Events.{happen, is_write, next_event, after_turn}
 use Rattle.core_step.specs.declared.turns.Turn.{Turn}
 use Rattle.core_step.specs.declared.turns.TurnFault.{TurnFault}
 use Rattle.core_step.specs.declared.turns.TurnFault.TheVariants as fault

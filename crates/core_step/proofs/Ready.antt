@@ -36,7 +36,7 @@ use Rattle.op_law.specs.Needs.{need_of, IsNext}
 use Rattle.op_law.specs.Fits.{FitsSeen}
 use Rattle.op_law.specs.Laws.{planned}
 use Rattle.core_space.specs.declared.run.Phase.TheVariants as phase
-use Rattle.core_state.specs.Worlds.{NodeState, Plain, IsOfWorld, node_at, set_node, rows_of, rows_in, rows_at}
+use Rattle.core_state.specs.Worlds.{NodeState, Plain, IsOfWorld, node_at, set_node, rows_of, rows_in, rows_at, state_of}
 use Rattle.core_state.specs.Raises.{raise_of}
 use Rattle.core_state.specs.Asks.{has_asked, writes_by, reply_by, writes_now, asker_of}
 use Rattle.core_state.specs.Fallen.{living}
@@ -45,7 +45,6 @@ use Rattle.core_state.specs.Goods.{IsAt, IsNode, Good, decided, HasRoom}
 use Rattle.core_state.specs.Event.{Event}
 use Rattle.core_state.specs.Event as event
 use Rattle.core_state.specs.Events.{happens, happen, block_at, block_used, cache_looked, cache_used, cache_written, turned, locking, caching, looking, using, planning, writing, asking, answering, would_go, asked_by, or_use, by_need, by_end, by_write, by_plan, by_command, by_turn, gives_back_in, stands, is_held_up, event_of, event_now, readied, command_in, command_at, plan_in, plan_at, tried_in, tried_at}
-use Rattle.core_state.specs.Worlds.{state_of}
 use Rattle.core_state.specs.declared.node.Node.{Node}
 use Rattle.core_state.proofs.Nodes.{at_here, length_node, told_at}
 use Rattle.core_state.proofs.Keeping.{has_asked_row}
@@ -66,6 +65,7 @@ use Rattle.core_step.proofs.Caching.{write_no_look}
 use Rattle.core_step.proofs.Steps.{happen_here, is_there}
 use Rattle.core_step.proofs.Lists.{unnamed, stands_nowhere}
 use Rattle.core_step.proofs.Outcomes.{makes_as}
+use Rattle.core_step.proofs.SpaceStates.{some_at}
 
 -- ---- what the operation of a node tells
 
@@ -440,11 +440,6 @@ none_at : {A : Type 0} (xs : List A) (k : ℕ) → length xs ≤ k → slice_get
 none_at [] k over = refl
 none_at (x ∷ xs) zero over = absurd (omega arith)
 none_at (x ∷ xs) (suc k) over = none_at xs k (omega arith)
-
-some_at : {A : Type 0} (xs : List A) (k : ℕ) (v : A) → k < length xs → v ≡ slice_index_or xs k v → slice_get xs k ≡ Some v
-some_at [] k v lt e = absurd (omega arith)
-some_at (x ∷ xs) zero v lt e = ap (λ y. Some y) (sym e)
-some_at (x ∷ xs) (suc k) v lt e = some_at xs k v (omega arith) e
 
 granted_goes : (t : Bool) → asked_answer t ≡ locked_so.Granted → t ≡ true
 granted_goes true e = refl

@@ -17,6 +17,7 @@ use Rattle.core_state.specs.Stocks.{roomless}
 use Rattle.core_state.specs.Asks.{writes_by, writes_now}
 use Rattle.core_state.specs.Caches.{has_entry, keeps, raised_values, put_back_all, lowered_of}
 use Rattle.core_state.specs.Events.{all_writes, staying, going, used_locks, given_back}
+use Rattle.core_state.proofs.Sweeps.{back_both}
 use Rattle.core_step.specs.Giving.{MayGiveAll, MayPutAllBack}
 use Rattle.core_step.proofs.Lists.{length_filter}
 
@@ -29,10 +30,6 @@ pub writes_are : (s : NodeState) (p : Plan) (takes ws : List PlanWrite) → s.pl
 writes_are s p takes ws plan e f = λ i. e i ++ (f ∙ ap (writes_now s.tried) (sym plan)) i
 
 -- ---- two rows, one after the other
-
-put_joined : (n : ℕ) (ke : Keeps) (va : Values) (ls ks : Row) (t : List Resource) → all_back n ke va (ls ++ ks) t ≡ all_back n ke va ks (all_back n ke va ls t)
-put_joined n ke va [] ks t = refl
-put_joined n ke va (l ∷ ls) ks t = put_joined n ke va ls ks (put_back n (va l t) l (ke l) t)
 
 put_first : (n : ℕ) (ke : Keeps) (va : Values) (ls ks : Row) (t : List Resource) → MayPutBack n ke va (ls ++ ks) t → MayPutBack n ke va ls t
 put_first n ke va [] ks t may = tt
@@ -106,7 +103,7 @@ module _ (g : Geometry) (n : ℕ) (s : NodeState) (t : List Resource) (ws : List
 
   used_back : (u v : List Resource) → u ≡ put_back_all g n ws s.cache ls t → v ≡ put_back_all g n ws s.cache ks u → v ≡ put
   used_back u v e f =
-      f ∙ ap (put_back_all g n ws s.cache ks) e ∙ sym (put_joined n (keeps s.cache) (raised_values g ws) ls ks t)
+      f ∙ ap (put_back_all g n ws s.cache ks) e ∙ sym (back_both n (keeps s.cache) (raised_values g ws) ls ks t)
       ∙ (λ i. put_back_all g n (same i) s.cache (used_are i) t)
 
   pub may_rest : (u v : List Resource) → u ≡ put_back_all g n ws s.cache ls t → v ≡ put_back_all g n ws s.cache ks u → MayGiveAll g n ws (going_of stocked s.cache ms) v

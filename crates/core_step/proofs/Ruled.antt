@@ -1,13 +1,13 @@
 -- The event of a node's rules for space, as it is found.
-use Rattle.std.proofs.Common.{◌≡◌, ℕ, Bool, true, false, cond, List, [], ◌∷◌, Option, Some, None, slice_get, refl, sym, ap, subst, ◌∙◌}
-use Rattle.std.specs.Prelude.{not, IsSome}
+use Rattle.std.proofs.Common.{◌≡◌, ℕ, Bool, true, false, cond, Option, Some, None, slice_get, refl, sym, ap, ◌∙◌}
+use Rattle.std.specs.Prelude.{not}
 use Rattle.vol_words.specs.Fields.{Block}
 use Rattle.lock_db.specs.declared.name.LockName.{LockName}
 use Rattle.lock_db.specs.declared.name.LockName.TheVariants.{X, V}
 use Rattle.plain_cat.specs.declared.mode.Mode.{Mode}
 use Rattle.plain_cat.specs.declared.mode.Mode.TheVariants.{CR, PW, EX}
-use Rattle.node_locks.specs.Held.{system_of, waits_at}
-use Rattle.node_locks.specs.Taking.{taken, taken_now}
+use Rattle.node_locks.specs.Held.{system_of}
+use Rattle.node_locks.specs.Taking.{taken_now}
 use Rattle.op_law.specs.declared.need.PlanWrite.{PlanWrite}
 use Rattle.extent_cache.specs.Takings.{holds_enough}
 use Rattle.node_space.specs.declared.outcome.Search.{Search}
@@ -19,7 +19,7 @@ use Rattle.core_space.specs.declared.run.SpaceNeed.{SpaceNeed}
 use Rattle.core_space.specs.declared.event.SpaceEvent.{SpaceEvent}
 use Rattle.core_space.specs.declared.event.SpaceEvent.TheVariants as space
 use Rattle.core_space.specs.Rule.{is_shared, is_exclusive, is_writer, put_of, after_writes, after_looks, next_fill, next_give, by_search, fill_event, event_in, space_event, back_event}
-use Rattle.core_state.specs.Worlds.{NodeState, Plain, node_at, set_node}
+use Rattle.core_state.specs.Worlds.{NodeState, Plain, node_at}
 use Rattle.core_state.specs.Event as event
 use Rattle.core_state.specs.Events.{space_state, turned, claiming, happens, happen}
 use Rattle.core_state.proofs.Nodes.{at_here}

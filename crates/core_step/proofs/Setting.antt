@@ -1,5 +1,5 @@
 -- A node that is set to another state, and set back.
-use Rattle.std.proofs.Common.{◌≡◌, ◌≤◌, ◌-◌, ◌+◌, ℕ, zero, suc, Bool, cond, List, [], ◌∷◌, Option, Some, None, length, map, slice_get, slice_set, refl, sym, ap, subst, ◌∙◌, arith}
+use Rattle.std.proofs.Common.{◌≡◌, ◌≤◌, ◌-◌, ◌+◌, ℕ, zero, suc, cond, List, [], ◌∷◌, Some, length, map, slice_get, slice_set, refl, sym, ap, subst, ◌∙◌, arith}
 use Rattle.std.specs.Prelude.{slice_index_or, is_some}
 use Rattle.core_state.specs.Worlds.{NodeState, Plain, IsOfWorld, node_at, set_node, with_node}
 use Rattle.core_state.specs.Fallen.{living}

@@ -1,6 +1,6 @@
 -- A node as its rules for space see it.
-use Rattle.std.proofs.Common.{◌≡◌, ◌<◌, ◌+◌, ◌++◌, ◌∙◌, ℕ, zero, suc, Bool, true, false, cond, List, [], ◌∷◌, Option, Some, None, length, slice_get, refl, sym, ap, arith}
-use Rattle.std.specs.Prelude.{◌==◌, find, slice_index_or, IsSome}
+use Rattle.std.proofs.Common.{◌≡◌, ◌<◌, ◌+◌, ◌++◌, ◌∙◌, ℕ, zero, suc, Bool, true, false, cond, List, [], ◌∷◌, Some, None, length, slice_get, refl, sym, ap, arith}
+use Rattle.std.specs.Prelude.{◌==◌, find, slice_index_or}
 use Rattle.std.proofs.lemmas.Bool.Decides.{nat_tests}
 use Rattle.lock_db.specs.declared.name.LockName.{LockName}
 use Rattle.lock_db.specs.Names.{is_same}
@@ -56,7 +56,7 @@ taking_by p last s v = record s {
 pub taking_so : (p : Phase) (last : Bool) (s : NodeState) (v : PlanWrite) → s.run.phase ≡ p → is_last s.run ≡ last → taking_by p last s v ≡ taking s v
 taking_so p last s v e f = λ i. taking_by (sym e i) (sym f i) s v
 
-some_at : {A : Type 0} (xs : List A) (k : ℕ) (v : A) → k < length xs → v ≡ slice_index_or xs k v → slice_get xs k ≡ Some v
+pub some_at : {A : Type 0} (xs : List A) (k : ℕ) (v : A) → k < length xs → v ≡ slice_index_or xs k v → slice_get xs k ≡ Some v
 some_at [] k v lt e = absurd (omega arith)
 some_at (x ∷ xs) zero v lt e = ap (λ y. Some y) (sym e)
 some_at (x ∷ xs) (suc k) v lt e = some_at xs k v (omega arith) e
@@ -64,11 +64,6 @@ some_at (x ∷ xs) (suc k) v lt e = some_at xs k v (omega arith) e
 -- an item at a place is the one that stands there
 pub item_is : {A : Type 0} (xs : List A) (k : ℕ) (x v : A) → k < length xs → x ≡ slice_index_or xs k x → slice_get xs k ≡ Some v → x ≡ v
 item_is xs k x v lt is at = let e : Some x ≡ Some v = sym (some_at xs k x lt is) ∙ at in cc
-
-pub there_within : {A : Type 0} (xs : List A) (k : ℕ) → IsSome (slice_get xs k) → k < length xs
-there_within [] k some = absurd (let f : false ≡ true = some in cc)
-there_within (x ∷ xs) zero some = omega arith
-there_within (x ∷ xs) (suc k) some = let rest = there_within xs k some in omega (arith, rest)
 
 -- the write that comes next, of these
 pub next_is : (ws items : List PlanWrite) (k : ℕ) (w : PlanWrite) → k < length ws → items ≡ ws → w ≡ slice_index_or items k w → slice_get ws k ≡ Some w

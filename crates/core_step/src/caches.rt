@@ -4,9 +4,8 @@ ghost use Rattle.std.specs.Prelude.{◌≡◌, is_some, OnOk, OnErr};
 ghost use Rattle.vol_words.specs.Fields.{Block};
 ghost use Rattle.vol_parts.specs.Parts.{IsGeometry};
 ghost use Rattle.lock_db.specs.Tables.{resource_at};
-ghost use Rattle.node_cache.specs.Cached.{used};
 ghost use Rattle.op_law.specs.declared.need.PlanWrite.{PlanWrite};
-ghost use Rattle.core_state.specs.Caches.{part_sequence, sequence_now, next_sequence, current_entry, writes_at, kept_sequence, kept_with, least_sequence, rewritten};
+ghost use Rattle.core_state.specs.Caches.{sequence_now, next_sequence, current_entry, writes_at, kept_sequence, kept_with, least_sequence, rewritten};
 ghost use Rattle.core_state.specs.Events.{cached_block};
 
 use crate::raises::is_first_part;

@@ -1,6 +1,6 @@
 //! By how much the sequences of a lock are raised as it is given back.
 
-ghost use Rattle.std.specs.Prelude.{◌≡◌, ◌≤◌, ◌++◌};
+ghost use Rattle.std.specs.Prelude.{◌≡◌, ◌++◌};
 ghost use Rattle.std.specs.List.{list_any};
 ghost use Rattle.lock_db.specs.Names.{is_same};
 ghost use Rattle.fx_header.specs.Headers.{header_read};

@@ -1,15 +1,14 @@
 //! The event of a node by its rules for space, and when its stock goes back.
 
-ghost use Rattle.std.specs.Prelude.{◌≡◌, ◌≤◌, ◌++◌, IfOk, OnErr, None, true, slice_get, is_none};
+ghost use Rattle.std.specs.Prelude.{◌≡◌, ◌≤◌, ◌++◌, IfOk, OnErr, None, true, is_none};
 ghost use Rattle.plain_vol.specs.Own.{command_after};
 ghost use Rattle.lock_db.specs.declared.name.LockName.TheVariants.{X, V};
 ghost use Rattle.vol_parts.specs.Parts.{IsGeometry};
-ghost use Rattle.node_locks.specs.Held.{waits_at};
 ghost use Rattle.core_space.specs.Rule.{space_event, back_event, TakesMemory};
 ghost use Rattle.core_state.specs.Worlds.{NodeState, IsOfWorld, state_of, plain_of, node_at, or_next};
 ghost use Rattle.core_state.specs.Goods.{Good};
-ghost use Rattle.core_state.specs.Asks.{has_asked, is_claiming};
-ghost use Rattle.core_state.specs.Events.{mode_in, space_locks, space_state, space_need, may_serve, serves, phase_begun, is_due_in, gives_back, stands};
+ghost use Rattle.core_state.specs.Asks.{has_asked};
+ghost use Rattle.core_state.specs.Events.{mode_in, space_locks, space_state, serves, phase_begun, is_due_in, gives_back, stands};
 ghost use Rattle.core_space.specs.declared.run.Phase.TheVariants.{Off};
 ghost use Rattle.extent_cache.specs.Takings.{holds_enough};
 

@@ -1,6 +1,6 @@
 //! The value blocks that nodes have read or written, and their versions.
 
-ghost use Rattle.std.specs.Prelude.{◌≡◌, OnOk, not, filter, find, unwrap_or, option_copied, ◌++◌, ◌∷◌, []};
+ghost use Rattle.std.specs.Prelude.{◌≡◌, OnOk, not, filter, find, unwrap_or};
 ghost use Rattle.lock_db.specs.Names.{is_same};
 ghost use Rattle.dlm_core.specs.States.{is_block_of, block_at, noted_block, version_at, noted_version};
 ghost use Rattle.dlm_core.specs.Steps.{next_version};

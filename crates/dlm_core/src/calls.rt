@@ -1,9 +1,9 @@
 //! What a master makes of an ask or a drop, and an owner of a grant.
 
-ghost use Rattle.std.specs.Prelude.{◌≡◌, ◌≤◌, ◌-◌, ◌++◌, Some, None, OnOk, IfOk, set, not, filter};
+ghost use Rattle.std.specs.Prelude.{◌≡◌, ◌-◌, Some, None, OnOk, IfOk, not, filter};
 ghost use Rattle.lock_db.specs.Queues.{mode_of};
-ghost use Rattle.dlm_core.specs.States.{State, IsShaped, home, table_at, told_at, noted, noted_block};
-ghost use Rattle.dlm_core.specs.Steps.{is_served, grant_of, grants_of, served, with_table, put_last, versions_after, ask_made, drop_made, taken_from, taken, taken_all, granted};
+ghost use Rattle.dlm_core.specs.States.{IsShaped, home, table_at, told_at};
+ghost use Rattle.dlm_core.specs.Steps.{is_served, grant_of, grants_of, served, put_last, versions_after, taken, taken_all, granted};
 
 use crate::blocks::{Block, note_block, note_version, version_at};
 use crate::cluster::Cluster;

@@ -3,8 +3,8 @@
 ghost use Rattle.std.specs.Prelude.{◌≡◌, ◌≤◌, ◌+◌, ◌++◌, ◌∷◌, [], OnOk, IfOk, map, if◌then◌else◌, ◌==◌};
 ghost use Rattle.std.specs.List.{range_with_len, list_any};
 ghost use Rattle.dlm_core.specs.Modes.{writes};
-ghost use Rattle.dlm_core.specs.States.{State, IsShaped, start, own_home, home_at, home, lives, noted, noted_block};
-ghost use Rattle.dlm_core.specs.Steps.{version_of, call_to, blocks_after, called, ask_told, ask_after, drop_told, drop_after};
+ghost use Rattle.dlm_core.specs.States.{State, start, own_home, home_at, home, lives, noted, noted_block};
+ghost use Rattle.dlm_core.specs.Steps.{version_of, call_to, called, ask_told, ask_after, drop_told, drop_after};
 
 use crate::blocks::{Block, Version, block_at, next_version, note_block};
 use crate::events::Told;

@@ -1,10 +1,9 @@
 //! What the death of a node makes of the others, and each event as a change of the state.
 
-ghost use Rattle.std.specs.Prelude.{◌≡◌, ◌≤◌, ◌&&◌, ◌++◌, ◌∷◌, [], OnOk, IfOk, Some, None, filter, map, find, not, length, ◌==◌};
-ghost use Rattle.std.specs.List.{list_any};
-ghost use Rattle.dlm_core.specs.States.{State, IsShaped, home_at, home, master, is_between, hold_at};
+ghost use Rattle.std.specs.Prelude.{◌≡◌, ◌≤◌, ◌&&◌, ◌++◌, ◌∷◌, [], OnOk, IfOk, Some, None, filter, map, find, not, ◌==◌};
+ghost use Rattle.dlm_core.specs.States.{IsShaped, home, master, is_between, hold_at};
 ghost use Rattle.dlm_core.specs.Recoveries.{is_of_recovery};
-ghost use Rattle.dlm_core.specs.Deaths.{lowest, without_dead, rehomed, was_master, goes_on, left_holds, left_blocks, left_awaited, buried, with_claimed, without_mail, rehomed_to, bereft, claim_from, with_claims, with_ended, killed};
+ghost use Rattle.dlm_core.specs.Deaths.{lowest, without_dead, rehomed, was_master, goes_on, left_holds, left_blocks, left_awaited, buried, with_claimed, without_mail, rehomed_to, bereft, claim_from, with_claims, killed};
 ghost use Rattle.dlm_core.specs.Events.{arrived, is_claimed, claimed, received, received_told, pass_told, pass_after, names_living, answer_of, played, told_of, after};
 
 use crate::blocks::Block;

@@ -1,12 +1,11 @@
 //! What owners believe.
 
-ghost use Rattle.std.specs.Prelude.{◌≡◌, OnOk, not, filter, find, position, unwrap_or, option_copied, is_some, ◌++◌, ◌∷◌, []};
+ghost use Rattle.std.specs.Prelude.{◌≡◌, OnOk, not, filter, find, position, unwrap_or, is_some};
 ghost use Rattle.dlm_core.specs.Modes.{is_across, is_lowering, lowers, crosses, writes};
 ghost use Rattle.dlm_core.specs.States.{is_at, hold_at, noted, asked_hold, put_before, is_lower, is_earlier_on, is_earlier};
-ghost use Rattle.lock_db.specs.Names.{is_before, is_same, order_of, same_owner};
+ghost use Rattle.lock_db.specs.Names.{is_before, order_of};
 ghost use Rattle.std.specs.declared.cmp.Ordering.{Ordering};
 ghost use Rattle.lock_db.specs.Queues.{is_writing};
-ghost use Rattle.plain_cat.specs.Modes.{rank};
 
 use crate::messages::Letter;
 use lock_db::{LockName, Mode, NoMemory, Owner};

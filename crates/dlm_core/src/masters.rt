@@ -1,6 +1,6 @@
 //! The home and the master of each name.
 
-ghost use Rattle.std.specs.Prelude.{◌≡◌, ◌≤◌, ◌<◌, ◌-◌, get_or, None};
+ghost use Rattle.std.specs.Prelude.{◌≡◌, ◌≤◌, ◌-◌, None};
 ghost use Rattle.dlm_core.specs.States.{rank_of, home, home_at};
 
 use crate::homes::Home;

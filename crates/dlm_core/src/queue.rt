@@ -1,7 +1,7 @@
 //! The asks that wait at their masters.
 
 ghost use Rattle.std.specs.Prelude.{◌≡◌, ◌&&◌, OnOk, position, is_some};
-ghost use Rattle.lock_db.specs.Names.{is_before, is_same};
+ghost use Rattle.lock_db.specs.Names.{is_before};
 ghost use Rattle.dlm_core.specs.States.{put_before};
 ghost use Rattle.dlm_core.specs.Steps.{goes_before, put_last};
 

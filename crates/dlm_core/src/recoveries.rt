@@ -1,10 +1,9 @@
 //! How the names of a dead node are recovered.
 
-ghost use Rattle.std.specs.Prelude.{◌≡◌, ◌≤◌, OnOk, IfOk, Some, None, true, filter, map, not, ◌==◌, if◌then◌else◌};
-ghost use Rattle.std.specs.List.{list_any};
+ghost use Rattle.std.specs.Prelude.{◌≡◌, ◌≤◌, OnOk, IfOk, Some, None, true, filter, map, not, ◌==◌};
 ghost use Rattle.lock_db.specs.Names.{is_same};
-ghost use Rattle.dlm_core.specs.States.{State, IsShaped, home_at, home, recovery, in_turn};
-ghost use Rattle.dlm_core.specs.Recoveries.{is_of_recovery, is_name_of, is_with, is_better, better, block_or, best_block, again, reclaimed_lock, reclaimed_one, reclaimed, asked_again, asked_again_one, all_asked_again, settled_home, closed, recovered_with, ended, is_open, ended_if, all_ended};
+ghost use Rattle.dlm_core.specs.States.{IsShaped, home, in_turn};
+ghost use Rattle.dlm_core.specs.Recoveries.{is_of_recovery, is_with, is_better, better, best_block, again, reclaimed_lock, reclaimed, asked_again, all_asked_again, settled_home, closed, recovered_with, ended, is_open, ended_if, all_ended};
 
 use crate::blocks::{Block, note_version};
 use crate::cluster::Cluster;

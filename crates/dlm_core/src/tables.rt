@@ -1,8 +1,8 @@
 //! The calls on one home's table.
 
-ghost use Rattle.std.specs.Prelude.{◌≡◌, ◌&&◌, not, length, replicate, [], OnOk, IfOk, is_some};
+ghost use Rattle.std.specs.Prelude.{◌≡◌, ◌&&◌, length, replicate, [], OnOk, IfOk, is_some};
 ghost use Rattle.std.specs.List.{list_any};
-ghost use Rattle.lock_db.specs.Queues.{mode_of, queues, standing_of};
+ghost use Rattle.lock_db.specs.Queues.{mode_of, standing_of};
 ghost use Rattle.lock_db.specs.Tables.{resource_at};
 ghost use Rattle.dlm_core.specs.Deaths.{bereft_table, bereft_tables};
 ghost use Rattle.dlm_core.specs.Recoveries.{made_again};

@@ -1,6 +1,6 @@
 //! Modes, names and owners as words.
 
-ghost use Rattle.std.specs.Prelude.{◌≡◌, ◌≤◌};
+ghost use Rattle.std.specs.Prelude.{◌≡◌};
 ghost use Rattle.run_script.specs.Steps.{behind};
 ghost use Rattle.dlm_run.specs.Reading.{mode_of, name_of, filed_of, owner_of, decimal_of};
 

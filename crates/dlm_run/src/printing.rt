@@ -1,8 +1,6 @@
 //! The lines that are printed.
 
-ghost use Rattle.std.specs.Prelude.{◌≡◌, ◌++◌, OnOk, codes, decimal, get_or};
-ghost use Rattle.vol_texts.specs.Names.{mode_text};
-ghost use Rattle.vol_texts.specs.Reports.{newline};
+ghost use Rattle.std.specs.Prelude.{◌≡◌, ◌++◌, OnOk};
 ghost use Rattle.dlm_run.specs.Printing.{name_text, mark_text, lock_text, granted_text, told_text, line_text};
 
 use dlm_core::{LockName, Mode, Owner, Told};

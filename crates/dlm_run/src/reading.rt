@@ -1,9 +1,8 @@
 //! Reading a script line by line.
 
-ghost use Rattle.std.specs.Prelude.{◌≡◌, ◌≤◌, ◌∷◌, ◌++◌, [], Option, Some, None, Ok, Err, Result, OnOk, IfOk, IfSome, leb, length, vec_len};
-ghost use Rattle.run_script.specs.Lines.{lines_of};
+ghost use Rattle.std.specs.Prelude.{◌≡◌, ◌∷◌, ◌++◌, [], Option, Some, None, Ok, Err, Result, OnOk};
 ghost use Rattle.run_script.specs.Grammar.{is_skipped};
-ghost use Rattle.dlm_run.specs.Reading.{Begun, with_event, with_nodes, line_taken, taken_line, ended_at, read_from, nothing_read, script_of, Agrees};
+ghost use Rattle.dlm_run.specs.Reading.{Begun, with_event, with_nodes, taken_line, ended_at, script_of, Agrees};
 
 use crate::events::{read_event, read_nodes};
 use crate::lines::split_line;

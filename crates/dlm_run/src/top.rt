@@ -1,13 +1,9 @@
 //! The top call.
 
-ghost use Rattle.std.specs.Prelude.{◌≡◌, ◌≤◌, ◌<◌, ◌⊎◌, ◌++◌, IfOk, IfErr, IfSome, OnErr, codes, decimal, length, vec_len};
-ghost use Rattle.std.specs.Io.KnownBytes.{Appends};
+ghost use Rattle.std.specs.Prelude.{◌≡◌, ◌<◌, ◌⊎◌, IfOk, IfErr};
 ghost use Rattle.vol_words.specs.Faults.{Rose};
-ghost use Rattle.fx_text.specs.Streams.{AppendsStart};
-ghost use Rattle.vol_texts.specs.Reports.{newline};
 ghost use Rattle.dlm_run.specs.Statuses.{status_text, fault_status, text_status, KeepsTheRules, IsPlayed, IsRefused, IsScript, IsDue, IsEnd, IsTold, IsWritten, Writes};
 ghost use Rattle.dlm_run.specs.Printing.{run_text};
-ghost use Rattle.dlm_run.specs.Reading.{Agrees, script_of};
 
 use crate::playing::play;
 use crate::reading::{ReadFault, read_script};

@@ -1,9 +1,8 @@
 //! The words of a line, and numbers.
 
-ghost use Rattle.std.specs.Prelude.{◌≡◌, ◌==◌, ◌&&◌, ◌≤◌, MatchOption, None, Some, length, codes, IfSome};
-ghost use Rattle.std.specs.Str.{bytes_eq};
-ghost use Rattle.run_script.specs.Lines.{parts, words_of};
-ghost use Rattle.run_script.specs.Steps.{part_of, behind, has_odd_start, number_of};
+ghost use Rattle.std.specs.Prelude.{◌≡◌, ◌==◌, ◌&&◌, ◌≤◌, MatchOption, None, Some, length, IfSome};
+ghost use Rattle.run_script.specs.Lines.{words_of};
+ghost use Rattle.run_script.specs.Steps.{behind, has_odd_start};
 ghost use Rattle.dlm_run.specs.Reading.{word_at, decimal_of, has_form};
 
 use std::str;

@@ -1,12 +1,11 @@
-ghost use Rattle.std.specs.Prelude.{◌≡◌, ◌<◌, ◌≤◌, ◌+◌, ◌^◌, suc, true, false, [], List, ℕ, Option, Some, None, Ok, option_map, map, slice_index_or, position, IfOk, IfSome, IsOk, length};
+ghost use Rattle.std.specs.Prelude.{◌≡◌, ◌<◌, ◌≤◌, ◌+◌, ◌^◌, true, false, Option, Some, None, Ok, option_map, map, position, IfOk, IfSome, IsOk, length};
 ghost use Rattle.std.specs.List.{position_or_len};
 ghost use Rattle.std.specs.Result.{ForOk};
 ghost use Rattle.std.specs.Str.{bytes_eq};
-ghost use Rattle.vol_words.specs.Packing.{size, pack, over};
 ghost use Rattle.fx_dir.specs.declared.RawEnt.{RawEnt};
 ghost use Rattle.fx_dir.specs.declared.Move.{Move};
 ghost use Rattle.fx_dir.specs.Lists.{Each};
-ghost use Rattle.fx_dir.specs.Entries.{before, has, rises, without};
+ghost use Rattle.fx_dir.specs.Entries.{before, has, without};
 ghost use Rattle.fx_dir.specs.Directory.{directory};
 ghost use Rattle.fx_dir.specs.Writing.{IsInForm, IsRanged, AreWritable};
 ghost use Rattle.fx_dir.specs.Moves.{rising, falling, less_last, place, inserted, as_new, insert_writes, insertion, Inserts, remove_writes, removal, key, Removes, repacking, Packs};

@@ -1,5 +1,5 @@
-ghost use Rattle.std.specs.Prelude.{◌≡◌, ◌<◌, ◌≤◌, ◌+◌, true, [], List, ℕ, Option, Some, None, option_map, Ok, map, IfOk, IfSome, length, drop};
-ghost use Rattle.vol_words.specs.Packing.{cost, size, filled, unfilled, pack, over};
+ghost use Rattle.std.specs.Prelude.{◌≡◌, ◌<◌, ◌≤◌, ◌+◌, true, List, Option, Some, None, option_map, Ok, map, IfOk, IfSome, length, drop};
+ghost use Rattle.vol_words.specs.Packing.{cost, filled, unfilled, pack, over};
 ghost use Rattle.fx_dir.specs.declared.RawEnt.{RawEnt};
 ghost use Rattle.fx_dir.specs.Lists.{Each};
 ghost use Rattle.fx_dir.specs.Entries.{rises, plain};

@@ -1,4 +1,4 @@
-ghost use Rattle.std.specs.Prelude.{◌≡◌, ◌≤◌, ◌++◌, List, Result, Ok, Err, Some, IfOk, true, length, take, drop};
+ghost use Rattle.std.specs.Prelude.{◌≡◌, ◌≤◌, ◌++◌, Result, Ok, Err, Some, IfOk, true, length, take, drop};
 ghost use Rattle.std.specs.List.{list_all};
 ghost use Rattle.fx_dir.specs.Entries.{before, rises};
 ghost use Rattle.fx_dir.specs.Lists.{Each};

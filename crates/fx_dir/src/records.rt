@@ -1,11 +1,10 @@
-ghost use Rattle.std.specs.Prelude.{◌≡◌, true, ◌+◌, ◌-◌, ◌*◌, ◌/◌, ◌≤◌, ◌<◌, ◌++◌, IfOk, IfSome, OnSome, option_map, length, take, drop};
+ghost use Rattle.std.specs.Prelude.{◌≡◌, true, ◌+◌, ◌-◌, ◌*◌, ◌/◌, ◌≤◌, ◌<◌, IfOk, IfSome, OnSome, option_map, length};
 ghost use Rattle.std.specs.Bool.{OnTrue};
-ghost use Rattle.vol_words.specs.Fields.{field};
 ghost use Rattle.fx_dir.specs.declared.RawEnt.{RawEnt};
 ghost use Rattle.fx_dir.specs.Lists.{Each};
 ghost use Rattle.fx_dir.specs.Entries.{rises};
 ghost use Rattle.fx_dir.specs.Writing.{IsInForm};
-ghost use Rattle.fx_dir.specs.Records.{record_length, head_length, name_in, is_end, is_whole, is_named, is_version, entry_in, versions_in, record_entries, records_in, block_entries};
+ghost use Rattle.fx_dir.specs.Records.{record_length, head_length, is_end, is_whole, is_named, is_version, entry_in, versions_in, record_entries, records_in, block_entries};
 
 use crate::entries::rises;
 use crate::{NoMemory, RawEnt, RawName};

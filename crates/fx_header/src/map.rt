@@ -1,4 +1,4 @@
-ghost use Rattle.std.specs.Prelude.{◌≡◌, ◌+◌, ◌-◌, ◌*◌, ◌≤◌, ◌<◌, IsTrue, nat_le, MatchOption, false, take, length};
+ghost use Rattle.std.specs.Prelude.{◌≡◌, ◌+◌, ◌-◌, ◌*◌, ◌≤◌, ◌<◌, IsTrue, nat_le, false, length};
 ghost use Rattle.fx_header.specs.declared.slot.Hdr.{Hdr};
 ghost use Rattle.fx_header.specs.declared.slot.Slot.TheVariants.{Used};
 ghost use Rattle.fx_header.specs.Headers.{has_offsets, map_area, runs_in, header_read, with_runs};

@@ -1,7 +1,7 @@
-ghost use Rattle.std.specs.Prelude.{◌≡◌, ◌+◌, ◌≤◌, ◌<◌, ◌^◌, IsTrue, IfOk};
+ghost use Rattle.std.specs.Prelude.{◌≡◌, ◌+◌, ◌≤◌, ◌<◌, IsTrue, IfOk};
 ghost use Rattle.vol_words.specs.Fields.{field};
 ghost use Rattle.fx_header.specs.Pointers.{blocks_in};
-ghost use Rattle.fx_header.specs.Headers.{high_first, number_of, has_flag, runs_in, is_free, has_sum, has_level, has_offsets, is_on_this_volume, is_alone, has_map, has_blocks, has_end, segment_of, link_of, link_seq_of, fields_of, header_read, HasRuns};
+ghost use Rattle.fx_header.specs.Headers.{high_first, number_of, runs_in, is_free, has_sum, has_level, has_offsets, is_on_this_volume, is_alone, has_map, has_blocks, has_end, link_of, fields_of, header_read, HasRuns};
 
 use crate::flags::FileFlags;
 use crate::pointers::{ends_whole, map_words, runs};

@@ -1,4 +1,4 @@
-ghost use Rattle.std.specs.Prelude.{◌≤◌, ◌+◌, length, IsTrue, ◌≡◌, false};
+ghost use Rattle.std.specs.Prelude.{◌≤◌, length, IsTrue, ◌≡◌, false};
 ghost use Rattle.fx_header.specs.Pointers.{AreRuns, blocks_in};
 
 use crate::{

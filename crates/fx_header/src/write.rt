@@ -1,4 +1,4 @@
-ghost use Rattle.std.specs.Prelude.{◌≡◌, ◌+◌, ◌-◌, ◌≤◌, ◌<◌, ◌^◌, ◌/◌, ◌%◌, ◌++◌, [], ◌∷◌, take, drop, length, true, IsTrue};
+ghost use Rattle.std.specs.Prelude.{◌≡◌, ◌+◌, ◌-◌, ◌≤◌, ◌<◌, ◌^◌, drop, length, true, IsTrue};
 ghost use Rattle.vol_words.specs.Fields.{put_field};
 ghost use Rattle.vol_words.specs.Tables.{laid};
 ghost use Rattle.fx_header.specs.declared.slot.Hdr.{Hdr};

@@ -1,7 +1,7 @@
 //! The two queues of a resource: who waits, who is served next, and when a mode goes with the locks of others.
 
-ghost use Rattle.std.specs.Prelude.{◌≡◌, Some, None, length, find, MatchBool};
-ghost use Rattle.std.specs.List.{list_all, list_any};
+ghost use Rattle.std.specs.Prelude.{◌≡◌, Some, None, find, MatchBool};
+ghost use Rattle.std.specs.List.{list_any};
 ghost use Rattle.lock_db.specs.Queues.{is_upward, is_writing, held, wanted, converts, waits, is_converting, is_waiting, goes_beside, goes, head_of, standing_so, with_standing, one_grant, settled, standing_of, mode_of, settled_mode, lock_of, is_queued, queues, holds_up};
 
 use crate::askers::{Asker, Standing};

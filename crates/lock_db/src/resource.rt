@@ -1,9 +1,9 @@
 //! The steps on one resource.
 
-ghost use Rattle.std.specs.Prelude.{◌≡◌, ◌≢◌, ◌<◌, IfOk, IfErr, OnOk, OnErr, IsSome, Some, None, [], ◌∷◌, ◌++◌, unwrap_or};
+ghost use Rattle.std.specs.Prelude.{◌≡◌, ◌<◌, IfOk, OnOk, OnErr, IsSome, unwrap_or};
 ghost use Rattle.std.specs.List.{list_any};
 ghost use Rattle.lock_db.specs.Queues.{goes, lock_of, is_upward};
-ghost use Rattle.lock_db.specs.Resources.{fresh, is_used, goes_at_once, first_standing, asked_of, asked_answer, tried_answer, converts_at_once, written, conversion_writes, mode_held, regranted, queued_up, converted_from, converted_of, try_converted_of, released_of, is_writer_of, dropped_of, recovered_of};
+ghost use Rattle.lock_db.specs.Resources.{fresh, is_used, goes_at_once, first_standing, asked_of, asked_answer, tried_answer, converts_at_once, written, mode_held, regranted, converted_of, try_converted_of, released_of, is_writer_of, dropped_of, recovered_of};
 
 use crate::askers::{Asker, Askers, Standing};
 use crate::name::{LockName, Owner};

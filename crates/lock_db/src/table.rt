@@ -1,11 +1,11 @@
 //! The steps on the table: the one on the resource of a name, in its place.
 
-ghost use Rattle.std.specs.Prelude.{◌≡◌, ◌≢◌, IfOk, OnOk, OnErr, IsSome, IsTrue, MatchResult, Some, None, Ok, Err, map, filter, find, take, drop, length, slice_index_or, option_copied, false, ◌<◌, ◌+◌, ◌++◌};
+ghost use Rattle.std.specs.Prelude.{◌≡◌, IfOk, OnOk, OnErr, IsSome, IsTrue, MatchResult, Some, None, Ok, Err, map, filter, find, take, drop, length, slice_index_or, option_copied, false, ◌<◌, ◌+◌, ◌++◌};
 ghost use Rattle.lock_db.specs.declared.resource.Resource.{Resource};
 ghost use Rattle.lock_db.specs.Names.{is_same};
 ghost use Rattle.lock_db.specs.Queues.{lock_of};
 ghost use Rattle.lock_db.specs.Resources.{is_used, goes_at_once, asked_answer, tried_answer, dropped_of};
-ghost use Rattle.lock_db.specs.Tables.{resource_at, kept, IsAt, IsGap, is_ordered, IsTable, asked, tried, converts_now, converted, try_converted, released, dropped, recovered};
+ghost use Rattle.lock_db.specs.Tables.{resource_at, kept, IsAt, IsGap, is_ordered, asked, tried, converts_now, converted, try_converted, released, dropped, recovered};
 
 use crate::askers::Asker;
 use crate::name::{LockName, Owner};

@@ -1,4 +1,4 @@
-ghost use Rattle.std.specs.Prelude.{◌≡◌, ◌≤◌, ◌<◌, ◌^◌, ◌+◌, ◌++◌, ◌↔◌, drop, length, IfOk, IsTrue};
+ghost use Rattle.std.specs.Prelude.{◌≡◌, ◌≤◌, ◌<◌, ◌^◌, ◌+◌, ◌↔◌, drop, length, IfOk, IsTrue};
 ghost use Rattle.plain_vol.specs.Lookups.{free_clusters};
 ghost use Rattle.plain_vol.specs.Accounts.{Accounted};
 ghost use Rattle.log_lines.specs.Histories.{closing_text};

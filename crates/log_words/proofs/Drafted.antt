@@ -1,5 +1,5 @@
 -- The line of an entry is read as that entry.
-use Rattle.std.proofs.Common.{◌≡◌, ◌∙◌, ◌+◌, ◌-◌, ◌≤◌, ◌<◌, ◌^◌, ◌++◌, ℕ, zero, suc, Bool, true, false, not, cond, List, [], ◌∷◌, Option, Some, None, length, take, drop, get_or, leb, eqb, refl, sym, ap, subst, arith, inl, inr, codes, append_assoc, length-append}
+use Rattle.std.proofs.Common.{◌≡◌, ◌∙◌, ◌+◌, ◌-◌, ◌<◌, ◌^◌, ◌++◌, ℕ, zero, suc, true, false, not, cond, List, [], ◌∷◌, Option, Some, None, length, take, drop, get_or, leb, eqb, refl, sym, ap, subst, arith, inl, inr, codes, append_assoc, length-append}
 use Rattle.std.specs.Prelude.{IfSome}
 use Rattle.std.specs.List.{list_all}
 use Rattle.std.specs.Fmt.{decimal}
@@ -12,22 +12,21 @@ use Rattle.plain_cat.specs.declared.command.Cmd.TheVariants as cmd
 use Rattle.plain_cat.specs.declared.history.Stage.{Stage}
 use Rattle.plain_cat.specs.declared.history.Stage.TheVariants as stage
 use Rattle.plain_cat.specs.declared.history.Mended.{Mended}
-use Rattle.plain_cat.specs.InForm.{is_within, is_eighth, in_form}
+use Rattle.plain_cat.specs.InForm.{is_eighth}
 use Rattle.vol_texts.specs.Names.{fid_text, uic_text, entry_text, mode_text}
 use Rattle.vol_texts.specs.Commands.{then_word, register_text, command_text}
-use Rattle.vol_texts.specs.Reports.{stage_text, leaks_text, entries_text, mended_text, node_text}
-use Rattle.run_script.specs.Steps.{part_of, number_of, with1, with4, with5}
-use Rattle.run_script.specs.Fixed.{has_sequence}
+use Rattle.vol_texts.specs.Reports.{stage_text, leaks_text, mended_text}
+use Rattle.run_script.specs.Steps.{part_of, number_of, with4, with5}
 use Rattle.run_script.specs.Fixed.{node_text as words_text}
-use Rattle.run_script.proofs.Pieces.{Lacks, Lacks-append, parts-at, number_lacks, limits, reads_back, reads_up_to, passing_lack, within, chosen, made4, no_none}
+use Rattle.run_script.proofs.Pieces.{Lacks, Lacks-append, parts-at, number_lacks, reads_back, reads_up_to, passing_lack, within, chosen, made4, no_none}
 use Rattle.run_script.proofs.Numerals.{number-sound}
 use Rattle.log_words.specs.declared.drafts.Death.{Death}
 use Rattle.log_words.specs.declared.commands.Given.{Given}
 use Rattle.log_words.specs.declared.lines.Draft.{Draft}
 use Rattle.log_words.specs.declared.lines.Draft.TheVariants as draft
 use Rattle.log_words.specs.Drafts.{behind_first, short_of, node_of, named_stage, death, death_of, counts, mending_of}
-use Rattle.log_words.specs.Commands.{IsSpeaking, given, ReadsCommand}
-use Rattle.log_words.specs.Lines.{body_of, words_of, reply_of, asked_text, died_text, AreShort, IsDraftInForm, IsDrafted}
+use Rattle.log_words.specs.Commands.{IsSpeaking, ReadsCommand}
+use Rattle.log_words.specs.Lines.{words_of, reply_of, asked_text, died_text, AreShort, IsDraftInForm, IsDrafted}
 use Rattle.log_words.proofs.Speaking.{command_whole, node_small}
 
 -- ---- parts

@@ -1,5 +1,5 @@
 -- The words of a node and its command are read as these.
-use Rattle.std.proofs.Common.{◌≡◌, ◌∙◌, ◌+◌, ◌≤◌, ◌<◌, ◌^◌, ◌++◌, ◌&&◌, ℕ, suc, Bool, true, false, cond, List, [], ◌∷◌, Option, Some, None, length, leb, eqb, refl, sym, ap, subst, arith, inl, inr, codes}
+use Rattle.std.proofs.Common.{◌≡◌, ◌∙◌, ◌+◌, ◌<◌, ◌++◌, ◌&&◌, ℕ, Bool, true, false, cond, List, [], ◌∷◌, Option, Some, None, leb, refl, sym, ap, subst, arith, inl, inr, codes}
 use Rattle.std.specs.Prelude.{IfSome}
 use Rattle.std.specs.Fmt.{decimal}
 use Rattle.std.proofs.lemmas.Bool.{and_from, le-leb}
@@ -7,11 +7,10 @@ use Rattle.std.proofs.lemmas.Fmt.{decimal_digit}
 use Rattle.vol_words.specs.Names.{is_character}
 use Rattle.plain_cat.specs.declared.command.Cmd.{Cmd}
 use Rattle.plain_cat.specs.declared.command.Cmd.TheVariants as cmd
-use Rattle.plain_cat.specs.declared.script.LineCmd.{LineCmd}
 use Rattle.plain_cat.specs.declared.script.LineCmd.TheVariants as line
 use Rattle.plain_cat.specs.declared.script.Line.{Line}
 use Rattle.plain_cat.specs.declared.script.Script.{Script}
-use Rattle.plain_cat.specs.InForm.{is_within, is_eighth, in_form}
+use Rattle.plain_cat.specs.InForm.{is_eighth, in_form}
 use Rattle.vol_texts.specs.Commands.{then_word, command_text}
 use Rattle.run_script.specs.Lines.{lines_of, onto_line, words_of}
 use Rattle.run_script.specs.Grammar.{IsLineText}

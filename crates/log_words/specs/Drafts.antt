@@ -1,11 +1,11 @@
 -- What the readers of numbers, deaths and mendings answer, as values of what they are given. That they read what is written is
 -- proved of these values.
-use Rattle.std.specs.Prelude.{◌==◌, ◌+◌, ℕ, Bool, true, false, List, [], ◌∷◌, Option, Some, None, codes, drop, length, if◌then◌else◌}
+use Rattle.std.specs.Prelude.{◌==◌, ◌+◌, ℕ, List, [], ◌∷◌, Option, Some, None, codes, drop, length, if◌then◌else◌}
 use Rattle.std.specs.Str.{bytes_eq}
 use Rattle.plain_cat.specs.declared.history.Stage.{Stage}
 use Rattle.plain_cat.specs.declared.history.Stage.TheVariants as stage
 use Rattle.plain_cat.specs.declared.history.Mended.{Mended}
-use Rattle.run_script.specs.Steps.{part_of, number_of, with1, with4, with5}
+use Rattle.run_script.specs.Steps.{part_of, number_of, with4, with5}
 use Rattle.log_words.specs.declared.drafts.Death.{Death}
 
 -- what stands behind the first of these bytes

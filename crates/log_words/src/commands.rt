@@ -1,7 +1,7 @@
 ghost use Rattle.std.specs.Prelude.{◌≡◌, ◌&&◌, leb, Some, IfOk, IfSome};
 ghost use Rattle.plain_cat.specs.declared.command.Cmd.{Cmd};
 ghost use Rattle.plain_cat.specs.InForm.{in_form, is_eighth};
-ghost use Rattle.run_script.specs.Fixed.{node_text, has_sequence};
+ghost use Rattle.run_script.specs.Fixed.{has_sequence};
 ghost use Rattle.plain_cat.specs.declared.script.Script.{Script};
 ghost use Rattle.run_script.specs.Lines.{lines_of};
 ghost use Rattle.run_script.specs.Spelling.{SpellsScript};

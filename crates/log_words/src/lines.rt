@@ -1,4 +1,4 @@
-ghost use Rattle.std.specs.Prelude.{◌≡◌, ◌+◌, IfOk, length};
+ghost use Rattle.std.specs.Prelude.{◌≡◌, ◌+◌, IfOk};
 ghost use Rattle.log_words.specs.Lines.{body_of, words_of, reply_of, shown_of, IsDrafted};
 
 use crate::commands::{Given, read_command};

@@ -1,5 +1,5 @@
 ghost use Rattle.std.specs.Prelude.{◌≡◌};
-ghost use Rattle.plain_vol.specs.Own.{is_opened, opened_by, is_closed, closed_by, switched, channels_after, close_from};
+ghost use Rattle.plain_vol.specs.Own.{opened_by, closed_by, switched, channels_after, close_from};
 
 use plain_cat::{Cmd, Reply};
 

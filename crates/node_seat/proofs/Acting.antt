@@ -79,10 +79,16 @@ module _ (start : Start) (old new : Plain) (f f' : ℕ) (told told' : Option (Li
     orderly = k.orderly;
     later = no_later;
     cause = λ e. grown start.count f f' k.later rose;
-    image = elim torn [
-      | inl d ↦ inl (told_on start.tells told told' old.blocks old.blocks k.image d)
-      | inr d ↦ inr (record { node = n; of_world = of_world; turn = due; write = write; image = told_on start.tells told told' old.blocks (after_step old n).blocks k.image d })
-    ];
+    image = record {
+      node = n;
+      of_world = of_world;
+      turn = due;
+      write = write;
+      image = elim torn [
+        | inl d ↦ inl (told_on start.tells told told' old.blocks old.blocks k.image d)
+        | inr d ↦ inr (told_on start.tells told told' old.blocks (after_step old n).blocks k.image d)
+      ];
+    };
   }
 
   pub acted : (r : Result Turn TurnFault) → OnOk r (new ≡ after_step old n) → OnErr r (new ≡ old) → OnErr r (is_due old n ≡ false) → (r ≡ Err ImageFault → Rose f f')

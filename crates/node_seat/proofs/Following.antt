@@ -9,14 +9,14 @@ use Rattle.plain_cat.specs.declared.script.Kill.{Kill}
 use Rattle.plain_cat.specs.declared.script.Script.{Script}
 use Rattle.plain_cat.specs.declared.history.Entry.{Entry}
 use Rattle.plain_cat.specs.declared.history.Entry.TheVariants.{Done}
-use Rattle.plain_vol.specs.Own.{IsKill}
+use Rattle.plain_vol.specs.Own.{IsKill, is_mending}
 use Rattle.node_past.proofs.Growing.{killed_grows}
 use Rattle.core_state.specs.Worlds.{NodeState, Plain, node_at}
 use Rattle.core_state.specs.Event.{Event}
 use Rattle.core_state.specs.Event as event
 use Rattle.core_state.specs.Deaths.{death_of, comes_at, kills, kills_at, is_due, died_at, died, after_step}
 use Rattle.core_state.specs.Events.{would_go, asked_by, answered_by, readied_at, readied, next_event, happens, happen_at, after_turn, is_over}
-use Rattle.node_seat.specs.Keeping.{IsOrderly, is_mending}
+use Rattle.node_seat.specs.Keeping.{IsOrderly}
 
 pub record Follows (old new : Plain) : Type 0 where
   pub script : new.script ≡ old.script

@@ -4,9 +4,8 @@ use Rattle.std.specs.List.{list_any}
 use Rattle.vol_words.specs.Fields.{Block}
 use Rattle.vol_words.specs.Faults.{Rose}
 use Rattle.plain_cat.specs.declared.history.Entry.{Entry}
-use Rattle.plain_cat.specs.declared.history.Entry.TheVariants.{Done, Died, Mended}
 use Rattle.plain_cat.specs.declared.script.Script.{Script}
-use Rattle.plain_vol.specs.Own.{Killed}
+use Rattle.plain_vol.specs.Own.{Killed, is_mending}
 use Rattle.core_state.specs.Worlds.{Plain, IsOfWorld}
 use Rattle.core_state.specs.Deaths.{is_due, after_step}
 use Rattle.core_state.specs.Events.{is_write, next_event}
@@ -23,29 +22,23 @@ abbrev pub telling : Bool → List Block → Option (List Block)
 telling true bs = Some bs
 telling false bs = None
 
--- an entry is a mending
-unfoldable pub is_mending : Entry → Bool
-is_mending (Done n c r) = false
-is_mending (Died n st k ns) = false
-is_mending (Mended m) = true
-
 -- nodes died only where the script kills them, and nothing was mended
 pub record IsOrderly (script : Script) (h : List Entry) : Type 0 where
   pub killed : Killed script h
   pub unmended : list_any is_mending h ≡ false
 
--- The image is one block ahead of the drive, if it tells its blocks: the next event of a node of the world is a write, in place of
--- which no death comes, and the image has the blocks as this write would leave them.
-pub record IsAhead (tells : Bool) (told : Option (List Block)) (w : Plain) : Type 0 where
+-- A write of the image failed, which is the next event of a node of the world, and in place of which no death comes. If the image tells
+-- its blocks, it has the drive's, or those that this write would leave: one block may be ahead.
+pub record IsAtFailedWrite (tells : Bool) (told : Option (List Block)) (w : Plain) : Type 0 where
   pub node : ℕ
   pub of_world : IsOfWorld w node
   pub turn : is_due w node ≡ false
   pub write : is_write (next_event w node) ≡ true
-  pub image : told ≡ telling tells (after_step w node).blocks
+  pub image : (told ≡ telling tells w.blocks) ⊎ (told ≡ telling tells (after_step w node).blocks)
 
--- The image has the drive's blocks, if it tells any. If a write of it has failed, it may be that block ahead.
+-- The image has the drive's blocks, if it tells any. If a write of it has failed, one block may be ahead.
 abbrev pub HasImage : Bool → Option (List Block) → Plain → Option TurnFault → Type 0
-HasImage tells told w (Some ImageFault) = (told ≡ telling tells w.blocks) ⊎ IsAhead tells told w
+HasImage tells told w (Some ImageFault) = IsAtFailedWrite tells told w
 HasImage tells told w other = told ≡ telling tells w.blocks
 
 -- A world with this stop mark is one of this start: the catalogue with which its history begins, the places of the volume's parts and

@@ -13,7 +13,7 @@ use Rattle.node_seat.specs.Keeping.{IsKept}
 abbrev pub IsKeptBy : {W : Type 0} → (W → Plain) → (W → ℕ) → (W → Option (List Block)) → Start → Parked W → Type 0
 IsKeptBy world faults told start p = IsKept start (world p.world) (faults p.world) (told p.world) p.stopped
 
--- a slot has one, of which this is kept
+-- the slot has a world that is kept
 abbrev pub Kept : {W : Type 0} → (W → Plain) → (W → ℕ) → (W → Option (List Block)) → Start → Option (Parked W) → Type 0
 Kept world faults told start None = ⊥
 Kept world faults told start (Some p) = IsKeptBy world faults told start p

@@ -6,6 +6,7 @@ ghost use Rattle.core_state.specs.Worlds.{IsOfWorld};
 ghost use Rattle.core_state.specs.Images.{IsTold, IsTorn, told_as};
 ghost use Rattle.core_state.specs.Events.{is_write, next_event};
 ghost use Rattle.core_state.specs.Deaths.{is_due, after_step};
+ghost use Rattle.core_state.specs.Uses.{UsesTheDrives};
 ghost use Rattle.core_step.specs.Memory.{takes_none};
 ghost use Rattle.node_seat.specs.Events.{told_of_step};
 
@@ -17,7 +18,8 @@ use op_law::Operation;
 use std::alloc::Global;
 
 /// The next event of a node: its turn, with that turn's answer, or the death by which the script replaces it, which answers Over. A
-/// death takes no memory and leaves the image as it is. The nodes count from 1.
+/// death takes no memory and leaves the image as it is. A block that the turn uses from the node's cache is the drive's. The nodes count
+/// from 1.
 pub fn seat_event<I: ImageDev, O: Operation>(
     alloc: Global,
     w: &mut World<I, O>,
@@ -36,6 +38,7 @@ pub fn seat_event<I: ImageDev, O: Operation>(
         → IsTorn (I.told w.old.image) (I.told w.new.image) w.old.world.blocks (after_step w.old.world node).blocks }
     ensures drive { IsTold (I.told w.old.image) w.old.world.blocks
         → (I.told w.new.image ≡ told_as (I.told w.old.image) w.new.world.blocks) ⊎ (result ≡ Err TurnFault.ImageFault) }
+    ensures used { OnOk result (is_due w.old.world node ≡ false → UsesTheDrives w.old.world node) }
 {
     if is_due(w, node) {
         kill(w, node);

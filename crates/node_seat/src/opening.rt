@@ -16,7 +16,7 @@ use std::alloc::{AllocError, Global};
 
 /// There was no memory for a yard. The world comes back.
 #[derive(Drop)]
-pub struct YardRefused<W: Acts> {
+pub struct YardRefusedOf<W: Acts> {
     pub world: W,
 }
 
@@ -102,7 +102,7 @@ fn filled<W: Acts>(table: TableOf<W>, mut own: OwnSeat<W>, world: W) -> YardOf<W
 pub fn open_yard<W: Acts>(
     alloc: Global,
     world: W,
-) -> Result<(YardOf<W>, Vec<SeatOf<W>>), YardRefused<W>>
+) -> Result<(YardOf<W>, Vec<SeatOf<W>>), YardRefusedOf<W>>
     requires orderly { IsOrderly (W.world world).script (W.world world).history }
     requires told { IsTold (W.told world) (W.world world).blocks }
     ensures start { IfOk result (λ y. y.0.own.view.start ≡ start_of (W.world world) (W.faults world) (W.told world)) }
@@ -111,11 +111,11 @@ pub fn open_yard<W: Acts>(
     ensures back { IfErr result (λ r. r.world ≡ world) }
 {
     let Ok((table, mut own)) = new_table(alloc, &world) else {
-        return Err(YardRefused { world });
+        return Err(YardRefusedOf { world });
     };
     let nodes = world.nodes();
     let Ok(seats) = all_seats(alloc, &table, &mut own, nodes) else {
-        return Err(YardRefused { world });
+        return Err(YardRefusedOf { world });
     };
     Ok((filled(table, own, world), seats))
 }

@@ -1,6 +1,6 @@
 //! The seat of a node, and its steps.
 
-ghost use Rattle.std.specs.Prelude.{◌≡◌, ◌≤◌, ◌∷◌, [], true, false, Option, IfSome};
+ghost use Rattle.std.specs.Prelude.{◌≡◌, ◌≤◌, ◌∷◌, [], true, false, Option};
 ghost use Rattle.node_seat.specs.declared.parked.Parked.{Parked};
 ghost use Rattle.node_seat.specs.Turns.{without_turn};
 ghost use Rattle.node_seat.specs.Yards.{Kept};

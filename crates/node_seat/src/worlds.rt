@@ -1,9 +1,8 @@
 //! The world of a cluster makes the events of its nodes' seats.
 
-ghost use Rattle.std.specs.Prelude.{◌≡◌};
-
 use crate::acts::Acts;
 use crate::event::seat_event;
+use crate::opening::YardRefusedOf;
 use crate::parked::Parked;
 use crate::perch::YardOf;
 use crate::seat::SeatOf;
@@ -21,6 +20,9 @@ pub type NodeSeat<I, O> = SeatOf<World<I, O>>;
 
 /// The seats of its nodes, in order from node 1.
 pub type Seats<I, O> = Vec<NodeSeat<I, O>>;
+
+/// A yard with it that was not opened: there was no memory, and the world comes back.
+pub type YardRefused<I, O> = YardRefusedOf<World<I, O>>;
 
 /// The world that was taken out of it, with its stop mark.
 pub type ClosedYard<I, O> = Parked<World<I, O>>;

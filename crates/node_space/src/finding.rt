@@ -1,4 +1,4 @@
-ghost use Rattle.std.specs.Prelude.{◌≡◌, ◌≤◌, ◌+◌, IfOk, length};
+ghost use Rattle.std.specs.Prelude.{◌≡◌, ◌+◌, IfOk, length};
 ghost use Rattle.vol_parts.specs.Parts.{IsGeometry, storage_blocks};
 ghost use Rattle.vol_parts.specs.declared.geometry.Part.TheVariants.{Storage};
 ghost use Rattle.vol_spell.specs.Reading.{total_of};

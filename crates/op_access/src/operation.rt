@@ -1,4 +1,3 @@
-ghost use Rattle.std.specs.Prelude.{◌≡◌, IfOk};
 ghost use Rattle.op_access.specs.Kinds.{IsAccess};
 
 use crate::closing::close_next;

@@ -1,7 +1,6 @@
 -- The write of a block of a file that is no directory is a step.
-use Rattle.std.proofs.Common.{◌≡◌, ◌-◌, ◌∙◌, ℕ, Bool, false, List, Some, None, slice_set, sym, ap}
+use Rattle.std.proofs.Common.{◌≡◌, ◌-◌, ◌∙◌, ℕ, Bool, false, List, Some, slice_set, sym, ap}
 use Rattle.vol_words.specs.Fields.{Block}
-use Rattle.fx_header.specs.Headers.{header_read}
 use Rattle.plain_cat.specs.declared.cat.File.{File}
 use Rattle.plain_cat.specs.declared.cat.Slot.TheVariants as slot
 use Rattle.plain_vol.specs.Changes.{with_file}
@@ -21,7 +20,7 @@ use Rattle.op_law.specs.Laws.{planned}
 use Rattle.op_law.specs.Rows.{places_in}
 use Rattle.op_law.specs.SeenFiles.{file_place, file_write}
 use Rattle.op_files.specs.Files.{file_in}
-use Rattle.op_blocks.specs.BlockWrites.{blocks_in, showing, BlockSteps}
+use Rattle.op_blocks.specs.BlockWrites.{showing, BlockSteps}
 use Rattle.op_blocks.proofs.Places.{places, body, no_dir, body_place, shows}
 
 pub block_steps : (end : End) → BlockSteps end

@@ -1,6 +1,5 @@
 -- A file that is there and no directory: its blocks, where they stand, and what guards them.
-use Rattle.std.proofs.Common.{◌≡◌, ◌≤◌, ◌<◌, ◌-◌, ◌*◌, ◌∙◌, ℕ, Bool, false, cond, List, [], Some, None, length, slice_get, slice_set, sym, ap, subst, arith}
-use Rattle.std.specs.Prelude.{Ok}
+use Rattle.std.proofs.Common.{◌≡◌, ◌≤◌, ◌-◌, ◌*◌, ◌∙◌, ℕ, false, cond, List, [], Some, None, length, slice_get, slice_set, sym, ap, arith}
 use Rattle.std.proofs.lemmas.Option.{slice_get-get_or}
 use Rattle.vol_words.specs.Fields.{Block}
 use Rattle.fx_header.specs.declared.run.Run.{Run}
@@ -25,7 +24,7 @@ use Rattle.op_law.specs.Writing.{clusters_seen}
 use Rattle.op_law.proofs.Telling.{reads_runs, blocks_said}
 use Rattle.op_files.specs.Files.{file_in, IsFileThere}
 use Rattle.op_files.proofs.HeadFiles.{file_is, sized, counted, places_are, not_structure}
-use Rattle.op_blocks.specs.BlockWrites.{blocks_in, HasBlock, showing}
+use Rattle.op_blocks.specs.BlockWrites.{blocks_in, showing}
 use Rattle.op_blocks.proofs.Shown.{flat_told, flat_shows}
 
 module _ (g : Geometry) (bs : List Block) (own : Owners) (x : Cat) (n : ℕ) (h : Hdr) (f : File) (s : Spells g bs own x) (there : IsFileThere g x bs n h f) where

@@ -1,28 +1,22 @@
 -- What guards the writes of a virtual block, the runs of directories, and what they leave outside.
-use Rattle.std.proofs.Common.{◌≡◌, ◌≤◌, ◌<◌, ◌+◌, ◌-◌, ◌*◌, ◌++◌, ◌∙◌, inl, inr, ℕ, zero, suc, Bool, true, false, cond, List, [], ◌∷◌, Some, None, map, refl, sym, ap, subst, arith}
-use Rattle.std.specs.Prelude.{◌==◌, ◌&&◌, not, nat_le}
+use Rattle.std.proofs.Common.{◌≡◌, ◌≤◌, ◌<◌, ◌+◌, ◌-◌, ◌*◌, ◌++◌, ◌∙◌, inl, inr, ℕ, zero, suc, Bool, true, false, cond, [], ◌∷◌, Some, None, map, refl, sym, ap, subst, arith}
+use Rattle.std.specs.Prelude.{nat_le}
 use Rattle.std.specs.List.{range_with_len}
 use Rattle.std.proofs.lemmas.Bool.Decides.{nat_tests}
 use Rattle.vol_words.specs.Fields.{Block}
 use Rattle.vol_words.specs.Tables.{zeros}
-use Rattle.fx_header.specs.declared.slot.Hdr.{Hdr}
 use Rattle.fx_header.specs.Headers.{header_read}
-use Rattle.lock_db.specs.declared.name.LockName.{LockName}
 use Rattle.lock_db.specs.declared.name.LockName.TheVariants.{S}
 use Rattle.plain_cat.specs.declared.history.Stage.{Stage}
 use Rattle.plain_cat.specs.declared.history.Stage.TheVariants as stage
-use Rattle.plain_cat.specs.declared.cat.Cat.{Cat}
-use Rattle.plain_cat.specs.declared.cat.File.{File}
 use Rattle.plain_vol.specs.Changes.{is_past_mark}
 use Rattle.vol_owners.specs.Lists.{Has}
-use Rattle.vol_owners.specs.Owners.{Owners}
 use Rattle.vol_owners.proofs.Listing.{has_parted}
 use Rattle.vol_parts.specs.declared.geometry.Geometry.{Geometry}
 use Rattle.vol_parts.specs.declared.geometry.Part.TheVariants.{Header}
 use Rattle.vol_parts.specs.Parts.{part_of}
 use Rattle.vol_parts.specs.Volumes.{fields_in}
 use Rattle.vol_spell.specs.Reading.{header_block}
-use Rattle.vol_spell.specs.Spelling.{Spells}
 use Rattle.vol_under.specs.Guards.{guard_of}
 use Rattle.op_law.specs.declared.need.PlanWrite.{PlanWrite}
 use Rattle.op_law.specs.Channels.{zero_writes, last_header, block_writes}
@@ -32,7 +26,7 @@ use Rattle.op_law.specs.SeenFiles.{file_place, file_write}
 use Rattle.op_law.proofs.Naming.{under_lock}
 use Rattle.op_files.specs.Files.{file_in}
 use Rattle.op_files.proofs.HeadSteps.{head_guards, head_leaves}
-use Rattle.op_blocks.specs.BlockWrites.{HasBlock, WriteGuards, WriteLeaves}
+use Rattle.op_blocks.specs.BlockWrites.{WriteGuards, WriteLeaves}
 use Rattle.op_blocks.proofs.Places.{file, no_dir, lies, guard}
 
 -- ---- each of the writes

@@ -1,5 +1,5 @@
 -- The writes of a virtual block are steps: zeros from the mark on, the block, and the header behind it.
-use Rattle.std.proofs.Common.{◌≡◌, ◌≤◌, ◌<◌, ◌+◌, ◌-◌, ◌*◌, ◌++◌, ◌∙◌, ℕ, Bool, true, false, cond, List, [], ◌∷◌, length, map, take, slice_set, refl, sym, ap, subst, arith}
+use Rattle.std.proofs.Common.{◌≡◌, ◌≤◌, ◌+◌, ◌-◌, ◌*◌, ◌++◌, ◌∙◌, ℕ, Bool, true, false, cond, List, [], ◌∷◌, length, map, take, slice_set, refl, sym, ap, subst, arith}
 use Rattle.std.specs.Prelude.{◌==◌, ◌&&◌, not, nat_le, replicate}
 use Rattle.std.specs.List.{range_with_len}
 use Rattle.std.proofs.lemmas.Bool.Decides.{nat_tests}
@@ -16,7 +16,7 @@ use Rattle.vol_owners.specs.Lists.{Has, written}
 use Rattle.vol_owners.specs.Owners.{Owners}
 use Rattle.vol_owners.proofs.Placing.{length-blocks_at}
 use Rattle.vol_parts.specs.declared.geometry.Geometry.{Geometry}
-use Rattle.vol_parts.specs.Catalogues.{is_structure, written_blocks, file_of}
+use Rattle.vol_parts.specs.Catalogues.{written_blocks, file_of}
 use Rattle.vol_spell.specs.Reading.{header_block}
 use Rattle.vol_spell.specs.Spelling.{Spells}
 use Rattle.vol_under.specs.Chains.{End}

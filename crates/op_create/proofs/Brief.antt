@@ -21,10 +21,8 @@ use Rattle.vol_parts.specs.Parts.{IsGeometry}
 use Rattle.vol_spell.specs.Reading.{header_block}
 use Rattle.vol_spell.specs.Spelling.{Spells}
 use Rattle.op_law.specs.declared.need.PlanWrite.{PlanWrite}
-use Rattle.op_law.specs.declared.seen.Seen.{Seen}
 use Rattle.op_law.specs.Events.{Events, Find, Space, space_of, has_space}
 use Rattle.op_law.specs.Needs.{events_of}
-use Rattle.op_law.specs.Fits.{IsSeenOn}
 use Rattle.op_law.specs.Bounds.{most_locks, most_looks, most_writes}
 use Rattle.op_law.specs.Refusing.{if_space}
 use Rattle.op_law.specs.Writing.{holding, empty_handed, write_at, header_write}

@@ -1,11 +1,11 @@
 //! A new file: what is said of it, and the block of its header.
 
-ghost use Rattle.std.specs.Prelude.{◌≡◌, ◌≤◌, ◌<◌, ◌+◌, ◌*◌, ◌^◌, ℕ, List, None, length, IfOk};
+ghost use Rattle.std.specs.Prelude.{◌≡◌, ◌≤◌, ◌<◌, ◌+◌, ◌*◌, None, length, IfOk};
 ghost use Rattle.plain_cat.specs.declared.ids.Fid.{Fid};
 ghost use Rattle.plain_vol.specs.Changes.{next_seq, new_file, new_dir};
 ghost use Rattle.vol_parts.specs.Parts.{IsGeometry};
 ghost use Rattle.vol_spell.specs.Reading.{IsFileNumber};
-ghost use Rattle.op_law.specs.Entering.{NewEntry, fields_for, text_of, new_header, slot_seq, numbered};
+ghost use Rattle.op_law.specs.Entering.{fields_for, text_of, new_header, slot_seq, numbered};
 ghost use Rattle.fx_header.specs.Headers.{header_read};
 ghost use Rattle.op_parts.specs.Given.{IsOfVolume};
 ghost use Rattle.op_create.specs.Files.{file_made, entry_made, IsSound};

@@ -1,4 +1,3 @@
-ghost use Rattle.std.specs.Prelude.{◌≡◌, Some, IfOk};
 ghost use Rattle.op_create.specs.Kinds.{IsMake};
 
 use crate::entering::{create_next, mkdir_next};

@@ -1,7 +1,7 @@
 //! What a command that makes a file needs between its directory and its plan: the quota blocks, clusters and a number, and that
 //! number's slot.
 
-ghost use Rattle.std.specs.Prelude.{◌≡◌, ◌≤◌, ℕ, List, length, IfOk};
+ghost use Rattle.std.specs.Prelude.{◌≡◌, ◌≤◌, ℕ, List, IfOk};
 ghost use Rattle.vol_words.specs.Fields.{Block};
 ghost use Rattle.plain_vol.specs.Answers.{first_refusal};
 ghost use Rattle.vol_parts.specs.Parts.{IsGeometry};

@@ -1,6 +1,6 @@
 -- How much READ and WRITE need and write.
-use Rattle.std.proofs.Common.{◌≡◌, ◌≤◌, ◌<◌, ◌+◌, ◌-◌, ◌*◌, ◌/◌, ◌++◌, ◌∙◌, ℕ, Bool, true, false, cond, List, [], ◌∷◌, Option, Some, None, length, map, refl, sym, ap, subst, arith, length-append}
-use Rattle.std.specs.Prelude.{◌==◌, ◌&&◌, ◌||◌, nat_lt, nat_le, not, option_map}
+use Rattle.std.proofs.Common.{◌≡◌, ◌≤◌, ◌+◌, ◌-◌, ◌*◌, ◌/◌, ◌++◌, ℕ, Bool, true, false, cond, List, [], ◌∷◌, Option, Some, None, length, map, refl, arith, length-append}
+use Rattle.std.specs.Prelude.{◌==◌, ◌||◌, nat_lt, nat_le, option_map}
 use Rattle.std.specs.List.{range_with_len}
 use Rattle.std.proofs.Math.Nat.{mul-le-mul_right}
 use Rattle.std.proofs.lemmas.Bool.Decides.{nat_tests}
@@ -9,14 +9,12 @@ use Rattle.vol_words.specs.Fields.{Block}
 use Rattle.vol_words.specs.Tables.{zeros}
 use Rattle.fx_header.specs.declared.slot.Hdr.{Hdr}
 use Rattle.fx_header.specs.Headers.{header_read}
-use Rattle.plain_cat.specs.declared.mode.Mode.{Mode}
 use Rattle.plain_cat.specs.declared.mode.Mode.TheVariants.{PR, PW}
 use Rattle.plain_cat.specs.declared.command.Cmd.TheVariants as cmd
 use Rattle.plain_cat.specs.declared.history.Stage.TheVariants as stage
 use Rattle.plain_cat.specs.declared.reply.Refusal.TheVariants as refusal
 use Rattle.plain_cat.specs.declared.reply.Reply.TheVariants as reply
 use Rattle.plain_cat.specs.declared.cat.Cat.{Cat}
-use Rattle.plain_cat.specs.declared.cat.File.{File}
 use Rattle.plain_vol.specs.Lookups.{channel_at}
 use Rattle.plain_vol.specs.Changes.{is_past_mark, text_block}
 use Rattle.plain_vol.specs.Answers.{is_reading}
@@ -25,11 +23,9 @@ use Rattle.vol_parts.specs.declared.geometry.Geometry.{Geometry}
 use Rattle.vol_parts.specs.Volumes.{most_clusters}
 use Rattle.vol_spell.specs.Reading.{IsFileNumber, header_block}
 use Rattle.vol_spell.specs.Spelling.{Spells}
-use Rattle.op_law.specs.declared.seen.Seen.{Seen}
 use Rattle.op_law.specs.declared.seen.Chan.{Chan}
 use Rattle.op_law.specs.Channels.{is_outside_file, within, read_in, read_on, read_events, zero_writes, last_header, block_writes, write_in, write_on, write_events}
-use Rattle.op_law.specs.Events.{Events, Space, space_of, Fetch}
-use Rattle.op_law.specs.Fits.{IsSeenOn}
+use Rattle.op_law.specs.Events.{Space, space_of, Fetch}
 use Rattle.op_law.specs.Knows.{has_channel}
 use Rattle.op_law.specs.Needs.{events_of}
 use Rattle.op_law.specs.Refusing.{SeenFile, seen_file, used_in, if_file, through_open}

@@ -1,19 +1,15 @@
 -- What a READ or a WRITE has seen fits a volume: its first header.
-use Rattle.std.proofs.Common.{◌≡◌, ◌≤◌, ℕ, Bool, true, false, cond, List, Option, Some, None, sym, subst, arith}
-use Rattle.std.specs.Prelude.{length}
-use Rattle.std.proofs.lemmas.Bool.Decides.{nat_tests}
+use Rattle.std.proofs.Common.{◌≡◌, ℕ, Bool, true, false, cond, List, Option, Some, None, sym, subst}
 use Rattle.vol_words.specs.Fields.{Block}
-use Rattle.plain_cat.specs.InForm.{is_count, is_text}
 use Rattle.plain_cat.specs.declared.ids.Fid.{Fid}
 use Rattle.plain_cat.specs.declared.mode.Mode.TheVariants.{PR, PW}
 use Rattle.plain_cat.specs.declared.command.Cmd.{Cmd}
 use Rattle.plain_cat.specs.declared.command.Cmd.TheVariants as cmd
 use Rattle.plain_cat.specs.declared.reply.Refusal.TheVariants as refusal
 use Rattle.plain_vol.specs.Answers.{is_reading}
-use Rattle.vol_owners.specs.Lists.{StandsIn}
 use Rattle.op_law.specs.declared.seen.Seen.{Seen}
 use Rattle.op_law.specs.declared.seen.Chan.{Chan}
-use Rattle.op_law.specs.Channels.{within, read_in, read_on, read_events, write_in, write_on, write_events}
+use Rattle.op_law.specs.Channels.{within, read_on, read_events, write_in, write_on, write_events}
 use Rattle.op_law.specs.Events.{space_of, HasNoSpace, Follows}
 use Rattle.op_law.specs.Fits.{FitsSeen, FitsOn}
 use Rattle.op_law.specs.Needs.{events_of, stat_events}
@@ -22,8 +18,6 @@ use Rattle.op_law.specs.Refusing.{through_open}
 use Rattle.op_law.specs.Rows.{refuses}
 use Rattle.op_law.proofs.Heads.{through_inside}
 use Rattle.op_data.specs.Kinds.{MovesData}
-use Rattle.op_data.proofs.Channel.{both_hold}
-use Rattle.op_data.proofs.Texts.{text_few}
 
 module _ (x : Cmd) (seen : Seen) (f : FitsSeen x seen) where
   read_inside : (o : Option Chan) (vbn : ℕ) → Follows (read_on seen.geometry o vbn) seen.locks seen.blocks (space_of seen) (HasNoSpace (space_of seen)) → HeadIsInside seen.blocks

@@ -1,10 +1,7 @@
 -- The outcome of READ.
 use Rattle.std.proofs.Common.{◌≡◌, ◌∙◌, ℕ, Bool, true, false, cond, Option, Some, None, ap}
-use Rattle.std.specs.Prelude.{◌*◌, ◌==◌, ◌||◌, nat_lt, slice_index_or, ◌-◌}
 use Rattle.vol_words.specs.Fields.{Block}
-use Rattle.vol_words.specs.Tables.{zeros}
 use Rattle.plain_cat.specs.declared.mode.Mode.{Mode}
-use Rattle.plain_cat.specs.declared.command.Cmd.{Cmd}
 use Rattle.plain_cat.specs.declared.command.Cmd.TheVariants as cmd
 use Rattle.plain_cat.specs.declared.reply.Reply.{Reply}
 use Rattle.plain_cat.specs.declared.reply.Reply.TheVariants as reply
@@ -12,9 +9,8 @@ use Rattle.plain_cat.specs.declared.reply.Refusal.TheVariants as refusal
 use Rattle.plain_cat.specs.declared.cat.Cat.{Cat}
 use Rattle.plain_cat.specs.declared.cat.File.{File}
 use Rattle.plain_cat.specs.declared.cat.Open.{Open}
-use Rattle.plain_vol.specs.declared.outcome.Outcome.{Outcome}
 use Rattle.plain_vol.specs.Lookups.{file_at, channel_at}
-use Rattle.plain_vol.specs.Changes.{is_past_mark, block_of}
+use Rattle.plain_vol.specs.Changes.{block_of}
 use Rattle.plain_vol.specs.Answers.{refused, told, is_outside, read_of, read_open, read_outcome, outcome, Answer}
 use Rattle.plain_vol.proofs.LawSteps.{pick_exists}
 

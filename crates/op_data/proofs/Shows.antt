@@ -1,5 +1,5 @@
 -- The block that shows of a file below its mark, or where there is none, is the one that stands there.
-use Rattle.std.proofs.Common.{◌≡◌, ◌≤◌, ◌<◌, ◌-◌, ◌*◌, ◌∙◌, ℕ, zero, suc, Bool, true, false, cond, List, [], ◌∷◌, Option, Some, None, take, slice_get, refl, sym, ap, arith}
+use Rattle.std.proofs.Common.{◌≡◌, ◌≤◌, ◌<◌, ◌-◌, ◌∙◌, ℕ, zero, suc, Bool, true, false, cond, List, [], ◌∷◌, Some, take, slice_get, refl, sym, ap, arith}
 use Rattle.std.specs.Prelude.{◌==◌, ◌&&◌, not, nat_le, option_map, slice_index_or}
 use Rattle.std.proofs.lemmas.Bool.Decides.{nat_tests}
 use Rattle.std.proofs.lemmas.Option.{slice_get-map, get_or_from_slice_get}
@@ -15,7 +15,7 @@ use Rattle.vol_spell.specs.Reading.{header_block}
 use Rattle.vol_spell.specs.Spelling.{Spells}
 use Rattle.op_law.specs.Rows.{places_in}
 use Rattle.op_law.specs.SeenFiles.{file_place}
-use Rattle.op_files.specs.Files.{file_in, IsFileThere}
+use Rattle.op_files.specs.Files.{file_in}
 use Rattle.op_blocks.specs.BlockWrites.{blocks_in, HasBlock}
 use Rattle.op_blocks.proofs.Shown.{shown_by, flat_file, flat_told}
 use Rattle.op_blocks.proofs.Places.{plain, file, no_dir, place}

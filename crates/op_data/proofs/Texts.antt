@@ -1,9 +1,8 @@
 -- A text in form, as a block.
-use Rattle.std.proofs.Common.{◌≡◌, ◌≤◌, ◌<◌, ◌∙◌, ℕ, suc, zero, Bool, true, false, List, [], ◌∷◌, length, arith}
-use Rattle.std.specs.Prelude.{◌&&◌, ◌||◌, leb}
+use Rattle.std.proofs.Common.{◌≡◌, ◌≤◌, ◌<◌, ℕ, true, List, [], ◌∷◌, length, arith}
 use Rattle.std.specs.List.{list_all}
 use Rattle.std.proofs.lemmas.Bool.Decides.{nat_tests}
-use Rattle.vol_words.specs.Fields.{Block, IsBytes, IsWholeBlock}
+use Rattle.vol_words.specs.Fields.{IsBytes, IsWholeBlock}
 use Rattle.vol_words.specs.Tables.{zeros}
 use Rattle.blk_whole.proofs.Bytes.{bytes-none, bytes-cons}
 use Rattle.blk_whole.proofs.Fields.{whole_zeros, whole_put}

@@ -1,17 +1,15 @@
 -- The law of WRITE.
-use Rattle.std.proofs.Common.{◌≡◌, ◌∙◌, inl, inr, ℕ, Bool, true, false, cond, List, [], ◌∷◌, Option, Some, None, map, refl, sym, ap, subst}
-use Rattle.std.specs.Prelude.{◌≤◌, ◌&&◌, length}
-use Rattle.vol_words.specs.Fields.{Block, IsWholeBlock}
+use Rattle.std.proofs.Common.{◌≡◌, ◌∙◌, inl, inr, ℕ, Bool, true, false, cond, List, [], ◌∷◌, Option, Some, None, refl, sym, subst}
+use Rattle.vol_words.specs.Fields.{Block}
 use Rattle.fx_header.specs.declared.slot.Hdr.{Hdr}
 use Rattle.lock_db.specs.declared.name.LockName.{LockName}
 use Rattle.lock_db.specs.declared.name.LockName.TheVariants.{S}
 use Rattle.plain_cat.specs.InForm.{is_count, is_text}
 use Rattle.plain_cat.specs.declared.mode.Mode.{Mode}
-use Rattle.plain_cat.specs.declared.mode.Mode.TheVariants.{PR, PW}
+use Rattle.plain_cat.specs.declared.mode.Mode.TheVariants.{PW}
 use Rattle.plain_cat.specs.declared.command.Cmd.{Cmd}
 use Rattle.plain_cat.specs.declared.command.Cmd.TheVariants as cmd
 use Rattle.plain_cat.specs.declared.history.Stage.TheVariants as stage
-use Rattle.plain_cat.specs.declared.reply.Reply.{Reply}
 use Rattle.plain_cat.specs.declared.reply.Reply.TheVariants as reply
 use Rattle.plain_cat.specs.declared.reply.Refusal.{Refusal}
 use Rattle.plain_cat.specs.declared.reply.Refusal.TheVariants as refusal
@@ -20,12 +18,11 @@ use Rattle.plain_cat.specs.declared.cat.File.{File}
 use Rattle.plain_vol.specs.Lookups.{file_at, channel_at}
 use Rattle.plain_vol.specs.Changes.{with_file, text_block, written}
 use Rattle.plain_vol.specs.Answers.{is_outside, is_reading, Answer}
-use Rattle.vol_owners.specs.Lists.{Has}
 use Rattle.vol_owners.specs.Owners.{Owners, Things, nothing, Outs}
 use Rattle.vol_parts.specs.declared.geometry.Geometry.{Geometry}
 use Rattle.vol_spell.specs.Spelling.{Spells}
 use Rattle.vol_under.specs.Chains.{End, Replied}
-use Rattle.vol_under.specs.UnderWay.{StandsAt, stage_after, outs_after}
+use Rattle.vol_under.specs.UnderWay.{StandsAt}
 use Rattle.vol_under.proofs.Steps.{stands_first}
 use Rattle.op_law.specs.declared.need.Plan.{Plan}
 use Rattle.op_law.specs.declared.need.PlanWrite.{PlanWrite}
@@ -35,17 +32,17 @@ use Rattle.op_law.specs.Channels.{is_outside_file, within, block_writes, write_i
 use Rattle.op_law.specs.Events.{Events}
 use Rattle.op_law.specs.Fits.{things}
 use Rattle.op_law.specs.Knows.{has_channel, knows}
-use Rattle.op_law.specs.Laws.{held_in, planned, under_way, Lawful}
+use Rattle.op_law.specs.Laws.{planned, under_way, Lawful}
 use Rattle.op_law.specs.Needs.{events_of}
 use Rattle.op_law.specs.Refusing.{SeenFile, through_open}
 use Rattle.op_law.specs.Rows.{plain_plan, refuses}
 use Rattle.op_law.specs.Writing.{empty_handed, plan_of}
-use Rattle.op_law.proofs.Doing.{AreDone, IsDone, refusal_done}
+use Rattle.op_law.proofs.Doing.{IsDone, refusal_done}
 use Rattle.op_law.proofs.Spaceless.{spaceless_lawful}
 use Rattle.op_law.proofs.Walking.{ObeysBy}
 use Rattle.op_writes.specs.Chained.{Chain, StandsOn, StepsOf}
 use Rattle.op_files.specs.Files.{file_in, IsFileThere}
-use Rattle.op_blocks.specs.BlockWrites.{HasBlock, file_with}
+use Rattle.op_blocks.specs.BlockWrites.{HasBlock}
 use Rattle.op_blocks.proofs.WriteGuards.{each_write, write_guards, write_leaves}
 use Rattle.op_blocks.proofs.WriteSteps.{write_steps}
 use Rattle.op_data.specs.Kinds.{IsWrite}

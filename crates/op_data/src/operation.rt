@@ -1,4 +1,3 @@
-ghost use Rattle.std.specs.Prelude.{◌≡◌, IfOk};
 ghost use Rattle.op_data.specs.Kinds.{MovesData};
 
 use crate::reading::read_next;

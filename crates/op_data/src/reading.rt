@@ -3,7 +3,7 @@
 ghost use Rattle.std.specs.Prelude.{◌≡◌};
 ghost use Rattle.vol_parts.specs.Parts.{IsGeometry};
 ghost use Rattle.op_law.specs.Behind.{goes_on_by};
-ghost use Rattle.op_law.specs.Channels.{within, read_in, read_on, read_events};
+ghost use Rattle.op_law.specs.Channels.{within, read_in, read_events};
 ghost use Rattle.op_law.specs.Events.{next_of, space_of};
 ghost use Rattle.op_law.specs.Readable.{HeadIsInside};
 ghost use Rattle.op_data.specs.Seeing.{file_seen, IsReadable};

@@ -1,7 +1,7 @@
 //! The mark and the end of a file, and its header once a virtual block is written.
 
 ghost use Rattle.std.specs.Prelude.{◌≡◌, ◌<◌, ◌+◌, ◌^◌};
-ghost use Rattle.plain_vol.specs.Changes.{is_past_mark, ended, marked_up};
+ghost use Rattle.plain_vol.specs.Changes.{is_past_mark};
 ghost use Rattle.op_law.specs.Channels.{written_header};
 ghost use Rattle.op_data.specs.Seeing.{file_seen};
 

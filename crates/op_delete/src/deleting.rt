@@ -1,10 +1,6 @@
 //! What a DELETE needs next.
 
-ghost use Rattle.std.specs.Prelude.{◌≡◌, ◌≤◌, true, Some, length, IfOk};
-ghost use Rattle.std.specs.Result.{ForOk};
-ghost use Rattle.fx_dir.specs.Entries.{has};
-ghost use Rattle.fx_dir.specs.Directory.{directory};
-ghost use Rattle.fx_dir.specs.Moves.{key};
+ghost use Rattle.std.specs.Prelude.{◌≡◌, ◌≤◌, Some, length, IfOk};
 ghost use Rattle.plain_cat.specs.declared.command.Cmd.TheVariants as cmd;
 ghost use Rattle.op_law.specs.declared.need.Need.TheVariants as need;
 ghost use Rattle.plain_cat.specs.declared.history.Stage.TheVariants as stage;
@@ -16,7 +12,7 @@ ghost use Rattle.op_law.specs.Fits.{FitsSeen};
 ghost use Rattle.op_law.specs.Refusing.{if_entry};
 ghost use Rattle.op_law.specs.Writing.{plan_of};
 ghost use Rattle.op_law.specs.Moving.{entries_of, removal_writes};
-ghost use Rattle.op_law.specs.Behind.{goes_on_by, blocks_alone, FollowsBy};
+ghost use Rattle.op_law.specs.Behind.{goes_on_by, FollowsBy};
 ghost use Rattle.op_law.specs.Readable.{HeadIsInside};
 ghost use Rattle.op_law.specs.Freeing.{all_clusters, through_space};
 ghost use Rattle.op_law.specs.Removing.{delete_plan, delete_in, delete_events};

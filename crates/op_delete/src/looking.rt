@@ -1,6 +1,6 @@
 //! What a DELETE looks at before a file goes: a directory's own blocks, the quota blocks, and the bitmap blocks.
 
-ghost use Rattle.std.specs.Prelude.{◌≡◌, ◌≤◌, List, IfOk};
+ghost use Rattle.std.specs.Prelude.{◌≡◌, IfOk};
 ghost use Rattle.vol_words.specs.Fields.{Block};
 ghost use Rattle.vol_parts.specs.Parts.{IsGeometry};
 ghost use Rattle.op_law.specs.declared.need.Plan.{Plan};

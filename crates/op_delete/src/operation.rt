@@ -1,4 +1,3 @@
-ghost use Rattle.std.specs.Prelude.{◌≡◌, IfOk};
 ghost use Rattle.op_delete.specs.Kinds.{IsDelete};
 
 use crate::deleting::delete_next;

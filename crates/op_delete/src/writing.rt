@@ -1,6 +1,6 @@
 //! The writes of a DELETE: the mark, the removal of the entry, the free slot, and what becomes free.
 
-ghost use Rattle.std.specs.Prelude.{◌≡◌, ◌≤◌, ◌<◌, ◌*◌, ◌/◌, ◌++◌, [], ◌∷◌, None, true, length, IfOk, OnOk};
+ghost use Rattle.std.specs.Prelude.{◌≡◌, ◌≤◌, ◌<◌, ◌*◌, ◌/◌, ◌++◌, [], ◌∷◌, None, true, IfOk, OnOk};
 ghost use Rattle.std.specs.Result.{ForOk};
 ghost use Rattle.fx_dir.specs.Entries.{has};
 ghost use Rattle.fx_dir.specs.Directory.{directory};

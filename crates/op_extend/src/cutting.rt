@@ -7,7 +7,6 @@ ghost use Rattle.vol_parts.specs.Parts.{IsGeometry};
 ghost use Rattle.op_law.specs.Behind.{blocks_alone};
 ghost use Rattle.op_law.specs.Freeing.{blocks_for};
 ghost use Rattle.op_law.specs.Sizes.{lowered, cut_header, cut_clusters, cutting_writes};
-ghost use Rattle.op_law.specs.Writing.{clusters_seen};
 ghost use Rattle.op_extend.specs.Seeing.{file_seen, CanBeCut};
 
 use crate::runs::file_runs;

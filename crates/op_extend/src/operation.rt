@@ -1,4 +1,3 @@
-ghost use Rattle.std.specs.Prelude.{◌≡◌, IfOk};
 ghost use Rattle.op_extend.specs.Kinds.{ChangesSize};
 
 use crate::extending::extend_next;

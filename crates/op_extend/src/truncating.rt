@@ -6,7 +6,7 @@ ghost use Rattle.op_law.specs.Events.{Make, next_of, space_of};
 ghost use Rattle.op_law.specs.Rows.{live_in, refuses};
 ghost use Rattle.op_law.specs.Refusing.{seen_file, if_file};
 ghost use Rattle.op_law.specs.Freeing.{blocks_for, look_storage};
-ghost use Rattle.op_law.specs.Sizes.{size_shown, cut_clusters, cutting_writes, cut_to, keep_clusters, trunc_in, trunc_events};
+ghost use Rattle.op_law.specs.Sizes.{size_shown, cut_clusters, cutting_writes, cut_to, trunc_in, trunc_events};
 ghost use Rattle.op_law.specs.Writing.{plan_of};
 ghost use Rattle.op_law.specs.Behind.{goes_on_by, blocks_alone};
 ghost use Rattle.op_law.specs.Readable.{AreInside, HeadIsInside};

@@ -1,5 +1,5 @@
 -- The header of a file with its first clusters alone.
-use Rattle.std.proofs.Common.{◌≡◌, ◌∙◌, ◌≤◌, ◌<◌, ◌+◌, ◌-◌, ◌*◌, ◌/◌, ◌^◌, ◌++◌, ℕ, Bool, true, false, List, [], ◌∷◌, Some, None, length, take, drop, is_some, slice_get, refl, sym, ap, subst, inl, inr, arith, cond}
+use Rattle.std.proofs.Common.{◌≡◌, ◌∙◌, ◌≤◌, ◌<◌, ◌+◌, ◌-◌, ◌*◌, ◌/◌, ◌^◌, ◌++◌, ℕ, Bool, true, false, List, [], Some, length, take, drop, is_some, slice_get, refl, sym, ap, subst, inl, inr, arith, cond}
 use Rattle.std.specs.Prelude.{◌==◌, ◌↔◌, min, nat_lt, nat_le}
 use Rattle.std.proofs.Math.Nat.{mul-le-mul_left, mul-le-mul_right, mul-div_cancel_left}
 use Rattle.std.proofs.lemmas.Bool.Decides.{nat_tests}
@@ -10,7 +10,7 @@ use Rattle.fx_header.specs.Headers.{runs_in, with_runs, with_mark, with_end}
 use Rattle.plain_cat.specs.declared.cat.Cat.{Cat}
 use Rattle.plain_cat.specs.declared.cat.File.{File}
 use Rattle.plain_cat.specs.declared.cat.Slot.TheVariants as slot
-use Rattle.plain_vol.specs.Changes.{with_file, cut}
+use Rattle.plain_vol.specs.Changes.{cut}
 use Rattle.vol_owners.specs.declared.owner.Owner.TheVariants.{InFile}
 use Rattle.vol_owners.specs.Lists.{Has, Once}
 use Rattle.vol_owners.specs.Owners.{Owners, Things, nothing, Outs}
@@ -20,7 +20,7 @@ use Rattle.vol_owners.proofs.Placing.{spread_joined, blocks_joined, spread_place
 use Rattle.vol_parts.specs.declared.geometry.Geometry.{Geometry}
 use Rattle.vol_parts.specs.Volumes.{fields_in}
 use Rattle.vol_parts.specs.Catalogues.{is_structure, file_of}
-use Rattle.vol_spell.specs.Reading.{total_of, header_block}
+use Rattle.vol_spell.specs.Reading.{header_block}
 use Rattle.vol_spell.specs.Spelling.{dir_found}
 use Rattle.vol_spell.specs.Kinds.{IsHeaderFor}
 use Rattle.vol_under.specs.Chains.{End}
@@ -33,7 +33,7 @@ use Rattle.op_writes.specs.Chained.{Chain, StandsOn}
 use Rattle.op_files.specs.Files.{file_in, IsFileThere}
 use Rattle.op_files.specs.GoneWrites.{cut_write, CutSteps}
 use Rattle.op_files.proofs.HeadSteps.{head_steps}
-use Rattle.op_files.proofs.HeadFiles.{once, owned, within, sized, counted, all_seen, few, end_within, mark_within, byte_within, not_structure}
+use Rattle.op_files.proofs.HeadFiles.{once, owned, within, sized, counted, all_seen, few, byte_within, not_structure}
 use Rattle.op_files.proofs.HeadTold.{IsHeadWith, IsFileWith, head_for}
 use Rattle.op_files.proofs.Rerun.{with_clusters, rerun}
 use Rattle.op_files.proofs.Grown.{shown_by, remark, reend}

@@ -1,5 +1,5 @@
 -- The slot of a file that goes whole.
-use Rattle.std.proofs.Common.{◌≡◌, ◌∙◌, ◌≤◌, ◌<◌, ◌+◌, ◌-◌, ◌^◌, ℕ, List, [], ◌∷◌, Some, None, is_some, slice_get, slice_set, refl, sym, ap, subst, inl, inr, arith}
+use Rattle.std.proofs.Common.{◌≡◌, ◌∙◌, ◌<◌, ◌+◌, ◌-◌, ◌^◌, ℕ, List, [], ◌∷◌, Some, is_some, slice_get, slice_set, refl, sym, ap, subst, inl, inr, arith}
 use Rattle.std.specs.Prelude.{Ok}
 use Rattle.vol_words.specs.Fields.{Block, field}
 use Rattle.vol_words.proofs.Puts.{field-lt}
@@ -14,9 +14,7 @@ use Rattle.plain_cat.specs.declared.cat.Cat.{Cat}
 use Rattle.plain_cat.specs.declared.cat.File.{File}
 use Rattle.plain_cat.specs.declared.cat.Slot.TheVariants as slot
 use Rattle.plain_cat.specs.declared.history.Stage.TheVariants as stage
-use Rattle.plain_vol.specs.Changes.{with_slot, freed as without}
 use Rattle.vol_owners.specs.declared.owner.Owner.TheVariants.{InFile}
-use Rattle.vol_owners.specs.Lists.{Has, Once}
 use Rattle.vol_owners.specs.Owners.{Owners, Things, nothing, Outs}
 use Rattle.vol_parts.specs.declared.geometry.Geometry.{Geometry}
 use Rattle.vol_parts.specs.declared.geometry.Part.TheVariants.{Header}
@@ -30,7 +28,7 @@ use Rattle.vol_spell.proofs.Viewing.{told_set}
 use Rattle.vol_under.specs.Chains.{End}
 use Rattle.vol_under.specs.Filing.{brought_out, AreFiled, Gives}
 use Rattle.vol_under.proofs.Files.{file_gives}
-use Rattle.op_law.specs.Freeing.{rising, all_clusters}
+use Rattle.op_law.specs.Freeing.{rising}
 use Rattle.op_law.specs.Laws.{planned}
 use Rattle.op_law.specs.Writing.{empty_handed, clusters_seen}
 use Rattle.op_writes.specs.Chained.{Chain, StandsOn}

@@ -2,7 +2,6 @@
 use Rattle.std.proofs.Common.{◌≡◌, ◌∙◌, ◌≤◌, ◌<◌, ◌+◌, ◌*◌, ◌++◌, ℕ, Bool, true, false, List, Some, None, length, is_some, refl, sym, ap, subst, inl, inr, arith, cond, length-append, slice_get}
 use Rattle.std.specs.Prelude.{◌==◌, ◌↔◌}
 use Rattle.std.proofs.Math.Nat.{mul-le-mul_right}
-use Rattle.std.proofs.lemmas.Bool.Decides.{nat_tests}
 use Rattle.std.proofs.lemmas.Option.{slice_get_within}
 use Rattle.vol_words.specs.Fields.{Block}
 use Rattle.fx_header.specs.declared.slot.Hdr.{Hdr}
@@ -19,7 +18,7 @@ use Rattle.vol_owners.proofs.Listing.{has_parted, has_first, has_second, once_fi
 use Rattle.vol_owners.proofs.Placing.{spread_joined, blocks_joined}
 use Rattle.vol_parts.specs.declared.geometry.Geometry.{Geometry}
 use Rattle.vol_parts.specs.Volumes.{most_clusters, fields_in}
-use Rattle.vol_parts.specs.Catalogues.{is_structure, file_of}
+use Rattle.vol_parts.specs.Catalogues.{file_of}
 use Rattle.vol_spell.specs.Reading.{total_of, header_block}
 use Rattle.vol_spell.specs.Spelling.{dir_found}
 use Rattle.vol_spell.specs.Kinds.{IsHeaderFor}

@@ -1,23 +1,20 @@
 -- The header of a file whose clusters stay: marked for delete, or with other sizes.
-use Rattle.std.proofs.Common.{◌≡◌, ◌∙◌, ◌≤◌, ◌<◌, ◌+◌, ◌*◌, ◌^◌, ◌⊎◌, ℕ, Bool, true, false, List, [], ◌∷◌, Some, None, length, is_some, slice_get, refl, sym, ap, subst, arith, cond}
-use Rattle.std.specs.Prelude.{◌↔◌}
+use Rattle.std.proofs.Common.{◌≡◌, ◌∙◌, ◌≤◌, ◌<◌, ◌+◌, ◌*◌, ◌^◌, ℕ, Bool, true, false, List, Some, None, length, is_some, refl, sym, ap, subst, arith}
 use Rattle.std.proofs.Math.Nat.{mul-le-mul_right}
 use Rattle.vol_words.specs.Fields.{Block}
 use Rattle.fx_header.specs.declared.run.Run.{Run}
 use Rattle.fx_header.specs.declared.slot.Hdr.{Hdr}
-use Rattle.fx_header.specs.Headers.{runs_in, marked, with_mark, with_end}
+use Rattle.fx_header.specs.Headers.{runs_in, marked, with_mark}
 use Rattle.fx_header.proofs.SetterLemmas.{marked-reads}
 use Rattle.blk_whole.proofs.Headers.{whole_marked}
 use Rattle.plain_cat.specs.declared.cat.Cat.{Cat}
 use Rattle.plain_cat.specs.declared.cat.File.{File}
 use Rattle.plain_cat.specs.declared.cat.Slot.TheVariants as slot
-use Rattle.plain_vol.specs.Changes.{with_file}
-use Rattle.vol_owners.specs.declared.owner.Owner.TheVariants.{InFile}
 use Rattle.vol_owners.specs.Owners.{Owners, IsFileMove}
 use Rattle.vol_owners.specs.Places.{blocks_at, spread}
 use Rattle.vol_owners.proofs.Moving.{moves_compose}
 use Rattle.vol_parts.specs.declared.geometry.Geometry.{Geometry}
-use Rattle.vol_parts.specs.Volumes.{most_clusters, fields_in}
+use Rattle.vol_parts.specs.Volumes.{fields_in}
 use Rattle.vol_parts.specs.Catalogues.{file_of, written_blocks}
 use Rattle.vol_spell.specs.Reading.{header_block, clusters_of}
 use Rattle.vol_spell.specs.Spelling.{dir_found, AreWhole}
@@ -32,7 +29,7 @@ use Rattle.op_files.specs.MarkWrites.{marked_write, MarkedSteps, IsResized, size
 use Rattle.op_files.proofs.HeadRuns.{marked_runs}
 use Rattle.op_files.proofs.HeadSteps.{head_steps}
 use Rattle.op_files.proofs.HeadFiles.{head_whole, runs_whole, once, owned, number_is, sized, counted, places_are, few, dir_read, not_structure, file_is}
-use Rattle.op_files.proofs.HeadTold.{IsHeadWith, IsFileWith, head_for}
+use Rattle.op_files.proofs.HeadTold.{IsHeadWith, head_for}
 use Rattle.op_files.proofs.Grown.{remark, reend}
 
 module _ (k : Chain) (n : ℕ) (h : Hdr) (f : File) (x : Cat) (bs : List Block) (own : Owners) (on : StandsOn k empty_handed x bs own) (is : IsFileThere k.geometry x bs n h f) where

@@ -1,6 +1,6 @@
 //! A command alone on the blocks of a volume, where each of its needs is met at once.
 
-ghost use Rattle.std.specs.Prelude.{◌≡◌, ◌<◌, length, IfOk, OnOk};
+ghost use Rattle.std.specs.Prelude.{◌<◌, length, IfOk, OnOk};
 ghost use Rattle.vol_faults.specs.Conditions.{IsSize};
 ghost use Rattle.op_law.specs.Needs.{need_of, IsNext};
 ghost use Rattle.op_law.specs.Going.{IsLookAt};

@@ -1,6 +1,6 @@
 //! The events that commands have in common, each worked out.
 
-ghost use Rattle.std.specs.Prelude.{◌≡◌, ◌+◌, ◌≤◌, IfOk, IfSome, map, length, slice_get};
+ghost use Rattle.std.specs.Prelude.{◌≡◌, ◌+◌, IfOk, IfSome, map, length, slice_get};
 ghost use Rattle.std.specs.Str.{bytes_eq};
 ghost use Rattle.plain_vol.specs.Lookups.{versions};
 ghost use Rattle.vol_parts.specs.Catalogues.{plain_entry};

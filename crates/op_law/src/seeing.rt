@@ -4,7 +4,7 @@
 ghost use Rattle.std.specs.Prelude.{◌≡◌, ◌≤◌, ◌<◌, ◌+◌, ◌*◌, ℕ, List, length, slice_get};
 ghost use Rattle.vol_words.specs.Fields.{Block};
 ghost use Rattle.vol_parts.specs.Parts.{IsGeometry};
-ghost use Rattle.vol_spell.specs.Reading.{IsFileNumber, header_place};
+ghost use Rattle.vol_spell.specs.Reading.{header_place};
 ghost use Rattle.op_law.specs.Events.{Events, Take, Look, Space, following};
 ghost use Rattle.op_law.specs.Rows.{look_all, through_header, through_directory, in_directory, live_in};
 ghost use Rattle.op_law.specs.Readable.{AreInside, HeadIsInside};

@@ -1,7 +1,7 @@
 //! A third operation, for the tests: the OPEN of a file, which takes the file's lock in PW, looks at its header, and asks for the
 //! lock of who has the file open.
 
-ghost use Rattle.std.specs.Prelude.{◌≡◌, ◌||◌, nat_le, [], None, IfOk, if◌then◌else◌};
+ghost use Rattle.std.specs.Prelude.{◌≡◌, ◌||◌, nat_le, [], None, if◌then◌else◌};
 ghost use Rattle.vol_parts.specs.Parts.{IsGeometry};
 ghost use Rattle.op_law.specs.Events.{next_of};
 ghost use Rattle.op_law.specs.Rows.{refused};

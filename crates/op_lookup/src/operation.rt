@@ -1,4 +1,3 @@
-ghost use Rattle.std.specs.Prelude.{◌≡◌, Some, IfOk};
 ghost use Rattle.op_lookup.specs.Kinds.{IsLook};
 
 use crate::looks::{list_next, lookup_next, stat_next};

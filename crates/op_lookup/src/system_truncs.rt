@@ -1,7 +1,7 @@
 //! A second operation, for the tests: the TRUNC of a system file, which takes the file's lock in PW, looks at its header, and is
 //! refused.
 
-ghost use Rattle.std.specs.Prelude.{◌≡◌, ◌≤◌, ℕ, IfOk};
+ghost use Rattle.std.specs.Prelude.{◌≡◌, ◌≤◌, ℕ};
 ghost use Rattle.vol_parts.specs.Parts.{IsGeometry};
 ghost use Rattle.op_law.specs.Events.{next_of};
 ghost use Rattle.op_law.specs.Sizes.{trunc_events};

@@ -1,6 +1,6 @@
 //! A directory in which a name is to be entered: its lock in PW, its header and its blocks; and the refusals that it shows.
 
-ghost use Rattle.std.specs.Prelude.{◌≡◌, ℕ, false, IfOk, option_copied};
+ghost use Rattle.std.specs.Prelude.{◌≡◌, false, IfOk, option_copied};
 ghost use Rattle.plain_vol.specs.Lookups.{versions, entry_of};
 ghost use Rattle.plain_vol.specs.Directories.{new_version, is_last_version};
 ghost use Rattle.vol_parts.specs.Parts.{IsGeometry};

@@ -1,11 +1,10 @@
 //! The quota blocks: what they show, and the write of an owner's row.
 
-ghost use Rattle.std.specs.Prelude.{◌≡◌, ◌≤◌, ◌<◌, ◌*◌, ◌%◌, ◌++◌, [], ◌∷◌, List, Some, true, is_some, length, flat_map, slice_get, IfOk, IfSome, OnOk};
+ghost use Rattle.std.specs.Prelude.{◌≡◌, ◌≤◌, ◌<◌, ◌*◌, ◌%◌, ◌++◌, [], ◌∷◌, List, Some, true, is_some, length, slice_get, IfOk, IfSome, OnOk};
 ghost use Rattle.vol_words.specs.Fields.{Block};
 ghost use Rattle.fx_quota.specs.Rows.{row_in};
 ghost use Rattle.plain_cat.specs.declared.history.Stage.TheVariants as stage;
 ghost use Rattle.vol_parts.specs.Parts.{IsGeometry};
-ghost use Rattle.vol_parts.specs.Volumes.{rows_in};
 ghost use Rattle.vol_spell.specs.Reading.{quota_places};
 ghost use Rattle.op_law.specs.Events.{Events, Space, following};
 ghost use Rattle.op_law.specs.Writing.{holding, empty_handed};

@@ -1,4 +1,3 @@
-ghost use Rattle.std.specs.Prelude.{◌≡◌, Some, IfOk};
 ghost use Rattle.op_quota.specs.Kinds.{IsQuota};
 
 use crate::setting::quota_set_next;

@@ -1,4 +1,3 @@
-ghost use Rattle.std.specs.Prelude.{◌≡◌, Some, IfOk};
 ghost use Rattle.op_rename.specs.Kinds.{IsRename};
 
 use crate::renaming::rename_next;

@@ -1,4 +1,4 @@
-ghost use Rattle.std.specs.Prelude.{◌≡◌, ◌+◌, ℕ, length, filter};
+ghost use Rattle.std.specs.Prelude.{◌≡◌, ◌+◌, length, filter};
 ghost use Rattle.plain_cat.specs.declared.cat.Cat.{Cat};
 ghost use Rattle.plain_cat.specs.declared.cat.File.{File};
 ghost use Rattle.plain_vol.specs.declared.places.Place.{Place};

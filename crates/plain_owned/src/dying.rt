@@ -1,4 +1,4 @@
-ghost use Rattle.std.specs.Prelude.{◌≡◌, ◌≤◌, ◌+◌, ◌<◌, ◌^◌, [], IfSome, None};
+ghost use Rattle.std.specs.Prelude.{◌≡◌, ◌≤◌, ◌+◌, ◌<◌, [], IfSome, None};
 ghost use Rattle.plain_vol.specs.Lookups.{free_clusters};
 ghost use Rattle.plain_vol.specs.Replaying.{closed_channels, dead};
 

@@ -1,8 +1,8 @@
-ghost use Rattle.std.specs.Prelude.{◌≡◌, ◌+◌, ◌*◌, ◌<◌, ◌^◌, IfOk};
+ghost use Rattle.std.specs.Prelude.{◌≡◌, ◌*◌, ◌<◌, ◌^◌, IfOk};
 ghost use Rattle.vol_words.specs.Tables.{zeros};
 ghost use Rattle.plain_vol.specs.Accounts.{Accounted};
 ghost use Rattle.plain_vol.specs.Changes.{blocks_of, block_of, is_past_mark};
-ghost use Rattle.plain_vol.specs.Answers.{told, refused, is_outside, lookup_outcome, list_outcome, stat_outcome, quota_show_outcome, read_outcome};
+ghost use Rattle.plain_vol.specs.Answers.{told, is_outside, lookup_outcome, list_outcome, stat_outcome, quota_show_outcome, read_outcome};
 
 use crate::lookups::channel_at;
 use plain_cat::{Cat, Fid, File, Name, NoMemory, Refusal, Reply, Uic};

@@ -1,5 +1,5 @@
 -- Rows that follow the change of a slot.
-use Rattle.std.proofs.Common.{◌≡◌, ◌-◌, ◌+◌, ◌*◌, ◌≤◌, ◌<◌, ◌==◌, ◌⊎◌, inl, inr, ℕ, Bool, true, false, cond, List, ◌∷◌, Some, map, slice_get, slice_set, set, get_or, refl, sym, ap, subst, ◌∙◌, arith}
+use Rattle.std.proofs.Common.{◌≡◌, ◌-◌, ◌+◌, ◌≤◌, ◌==◌, inl, inr, ℕ, Bool, true, false, cond, List, Some, map, slice_get, slice_set, set, get_or, refl, sym, ap, subst, ◌∙◌, arith}
 use Rattle.std.specs.Prelude.{All}
 use Rattle.std.specs.List.{sum_by}
 use Rattle.std.proofs.lemmas.List.{map-id}
@@ -11,7 +11,7 @@ use Rattle.plain_cat.specs.declared.cat.Cat.{Cat}
 use Rattle.plain_cat.specs.declared.cat.Slot.{Slot}
 use Rattle.plain_cat.specs.declared.cat.QuotaRow.{QuotaRow}
 use Rattle.plain_vol.specs.Lookups.{clusters_in}
-use Rattle.plain_vol.specs.Changes.{cost, raised, lowered, with_slot, charged, discharged}
+use Rattle.plain_vol.specs.Changes.{raised, lowered, with_slot, charged, discharged}
 use Rattle.plain_vol.specs.Accounts.{share, charge}
 use Rattle.plain_opens.proofs.Lists.{same_or_other, set_else, set_there}
 

@@ -157,6 +157,12 @@ Own s h = OwnFrom s [] h
 abbrev pub Whole : Script → List Entry → Type 0
 Whole s h = Own s h × ((node : ℕ) → (past node h).dead ≡ false → next_command s node h ≡ None)
 
+-- an entry is a mending
+unfoldable pub is_mending : Entry → Bool
+is_mending (Done n c r) = false
+is_mending (Died n st k ns) = false
+is_mending (Mended m) = true
+
 -- the script has a kill for the node of a death
 abbrev pub IsKill : Script → Entry → Type 0
 IsKill s (Done node c r) = Unit {0}

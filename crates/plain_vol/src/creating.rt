@@ -1,10 +1,10 @@
 ghost use Rattle.std.specs.Prelude.{◌≡◌, ◌≤◌, ◌<◌, ◌+◌, ◌*◌, ◌^◌, Some, Option, IfOk, All};
 ghost use Rattle.plain_cat.specs.declared.cat.QuotaRow.{QuotaRow};
 ghost use Rattle.plain_vol.specs.Accounts.{Accounted};
-ghost use Rattle.plain_vol.specs.Lookups.{highest, versions};
-ghost use Rattle.plain_vol.specs.Directories.{fits, inserted, entry, nowhere, is_nil};
+ghost use Rattle.plain_vol.specs.Lookups.{highest};
+ghost use Rattle.plain_vol.specs.Directories.{fits, inserted, entry, nowhere};
 ghost use Rattle.plain_vol.specs.Changes.{cost, new_file, new_dir};
-ghost use Rattle.plain_vol.specs.Answers.{over_quota, first_refusal, room_checks, entered, made, shown, create_outcome, dir_name, mkdir_outcome};
+ghost use Rattle.plain_vol.specs.Answers.{over_quota, first_refusal, room_checks, made, create_outcome, dir_name, mkdir_outcome};
 
 use crate::answers::refused;
 use crate::outcome::Outcome;

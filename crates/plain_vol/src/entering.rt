@@ -1,8 +1,8 @@
-ghost use Rattle.std.specs.Prelude.{◌≡◌, ◌≤◌, ◌+◌, ◌++◌, ◌-◌, ◌<◌, ◌^◌, map, length, slice_get, if◌then◌else◌, IfOk, OnOk};
+ghost use Rattle.std.specs.Prelude.{◌≡◌, ◌≤◌, ◌+◌, ◌++◌, ◌-◌, ◌<◌, map, length, slice_get, IfOk, OnOk};
 ghost use Rattle.std.specs.List.{list_any};
 ghost use Rattle.plain_cat.specs.declared.entries.DirEnt.{DirEnt};
 ghost use Rattle.plain_vol.specs.declared.places.Place.{Place};
-ghost use Rattle.plain_vol.specs.Mending.{entries_in, places_from, places, same_fid, same_place, is_name_of, system_names, is_own, is_first, is_empty, is_named, is_lost, is_lost_slot, numbers_from, lost, digit, lost_name, with_lost_entry, enter, enter_all, enter_some};
+ghost use Rattle.plain_vol.specs.Mending.{entries_in, places, same_fid, same_place, is_name_of, system_names, is_own, is_first, is_empty, is_named, is_lost, is_lost_slot, lost, digit, lost_name, with_lost_entry, enter, enter_all, enter_some};
 
 use crate::packing::dir_fits;
 use crate::places::Place;

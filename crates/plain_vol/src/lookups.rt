@@ -1,5 +1,5 @@
 ghost use Rattle.std.specs.Prelude.{◌≡◌, ◌-◌, ◌+◌, ◌*◌, ◌≤◌, option_copied, drop, length};
-ghost use Rattle.std.specs.List.{sum_by, list_any};
+ghost use Rattle.std.specs.List.{sum_by};
 ghost use Rattle.plain_vol.specs.Lookups.{slot_at, file_at, last_seq, in_use, live, channel_at, has_file, is_open, row_of, clusters_in, free_clusters, is_leaked, is_free_number, place};
 ghost use Rattle.plain_vol.specs.Answers.{IsPick};
 

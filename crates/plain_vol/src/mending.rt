@@ -1,12 +1,12 @@
-ghost use Rattle.std.specs.Prelude.{false, ◌≡◌, ◌≤◌, ◌+◌, ◌*◌, ◌<◌, ◌^◌, map, filter, length, All, Option, None, Some, IfOk, IfSome, OnOk};
-ghost use Rattle.std.specs.List.{count_by, sum_by};
+ghost use Rattle.std.specs.Prelude.{false, ◌≡◌, ◌≤◌, ◌+◌, ◌*◌, ◌<◌, map, filter, length, All, Option, None, Some, IfOk, IfSome};
+ghost use Rattle.std.specs.List.{count_by};
 ghost use Rattle.plain_cat.specs.declared.entries.DirEnt.{DirEnt};
 ghost use Rattle.plain_cat.specs.declared.cat.Slot.{Slot};
 ghost use Rattle.plain_cat.specs.declared.cat.Open.{Open};
 ghost use Rattle.plain_vol.specs.declared.places.Place.{Place};
 ghost use Rattle.plain_vol.specs.Lookups.{clusters_in};
 ghost use Rattle.plain_vol.specs.Accounts.{Accounted};
-ghost use Rattle.plain_vol.specs.Mending.{places, stays, less_entries, each_from, without_opens, without_entries, with_lost, is_gone, gone_slot, without_gone, without_leaks, summed_row, with_sums, put_right, is_used, is_true, mended};
+ghost use Rattle.plain_vol.specs.Mending.{places, stays, less_entries, each_from, without_opens, without_entries, with_lost, is_gone, gone_slot, summed_row, put_right, is_used, is_true, mended};
 ghost use Rattle.plain_vol.specs.Mends.{MendsTo};
 
 use crate::accounts::charge;

@@ -1,4 +1,4 @@
-ghost use Rattle.std.specs.Prelude.{◌≡◌, ◌≤◌, ◌+◌, option_copied, None, length};
+ghost use Rattle.std.specs.Prelude.{◌≡◌, ◌+◌, option_copied, None, length};
 ghost use Rattle.vol_words.specs.Packing.{padded, cost, unfilled};
 ghost use Rattle.plain_cat.specs.declared.entries.DirEnt.{DirEnt};
 ghost use Rattle.plain_vol.specs.Directories.{fits};

@@ -1,7 +1,7 @@
 ghost use Rattle.std.specs.Prelude.{◌≡◌, ◌≤◌, ◌<◌, ◌+◌, ◌*◌, ◌^◌, ◌-◌, IfOk, All};
 ghost use Rattle.plain_cat.specs.declared.cat.QuotaRow.{QuotaRow};
 ghost use Rattle.plain_vol.specs.Accounts.{Accounted};
-ghost use Rattle.plain_vol.specs.Changes.{grown, cut, cost};
+ghost use Rattle.plain_vol.specs.Changes.{grown, cut};
 ghost use Rattle.plain_vol.specs.Answers.{over_draft, is_kept, extend_refusal, extended, extend_outcome, truncated, trunc_outcome};
 
 use crate::answers::refused;

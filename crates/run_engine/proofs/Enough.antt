@@ -1,14 +1,13 @@
 -- A run ends within its turns.
-use Rattle.std.proofs.Common.{◌≡◌, ◌≤◌, ◌<◌, ◌+◌, ◌-◌, ◌*◌, nat_lt, ℕ, zero, suc, Bool, true, false, cond, List, Option, Some, None, length, refl, sym, ap, subst, ◌∙◌, inl, inr, arith}
+use Rattle.std.proofs.Common.{◌≡◌, ◌≤◌, ◌<◌, ◌+◌, ◌-◌, ◌*◌, ℕ, zero, suc, Bool, true, false, cond, List, Option, Some, None, length, refl, sym, ap, subst, ◌∙◌, inl, inr, arith}
 use Rattle.std.proofs.lemmas.Bool.{cases_lt}
-use Rattle.std.proofs.lemmas.Bool.Decides.{nat_tests}
 use Rattle.std.proofs.Math.Nat.{mul_right_comm}
 use Rattle.core_state.specs.Worlds.{Plain}
 use Rattle.core_state.specs.Goods.{Good, IsAccepted}
 use Rattle.core_state.specs.Deaths.{after_step}
 use Rattle.core_state.specs.Events.{is_over}
 use Rattle.core_live.specs.Turns.{ahead, ComesNext, IsEnough, turns_of}
-use Rattle.core_live.proofs.Rounding.{turns_are_enough, steps_take_one, none_is_left}
+use Rattle.core_live.proofs.Rounding.{turns_are_enough, steps_take_one, none_is_left, low_ahead, high_ahead}
 use Rattle.run_engine.specs.Walks.{first_from, or_first, next_from, AllOver, budget_of, played, Stays}
 use Rattle.run_engine.proofs.Rotating.{found_within, none_within, past_over, next_alive}
 use Rattle.run_engine.proofs.Staying.{step_stays, plays_stay}
@@ -33,12 +32,6 @@ least w from zero n x e low high = absurd (let f : None ≡ Some n = e in cc)
 least w from (suc k) n x e low high = least_step w from k n x (least w (from + 1) k n x) (is_over w from) refl e low high
 
 -- ---- who comes before whom
-
-low_ahead : (count from m : ℕ) → m < from → ahead count from m ≡ (count + m) - from
-low_ahead count from m lt = let e : nat_lt m from ≡ true = grind (arith, nat_tests) in ap (λ b. cond b ((count + m) - from) (m - from)) e
-
-high_ahead : (count from m : ℕ) → from ≤ m → ahead count from m ≡ m - from
-high_ahead count from m le = let e : nat_lt m from ≡ false = grind (arith, nat_tests) in ap (λ b. cond b ((count + m) - from) (m - from)) e
 
 module _ (w : Plain) (from n m : ℕ) (low : 1 ≤ from) (top : from ≤ length w.nodes + 1) (alive : is_over w m ≡ false) where
   -- of those from a number on, the first is not behind it

@@ -1,10 +1,11 @@
 -- The node whose turn comes in rotation.
-use Rattle.std.proofs.Common.{◌≡◌, ◌≤◌, ◌<◌, ◌+◌, ◌-◌, ℕ, zero, suc, Bool, true, false, cond, List, [], ◌∷◌, Option, Some, None, IfSome, length, slice_get, refl, sym, ap, subst, ◌∙◌, inl, inr, arith}
+use Rattle.std.proofs.Common.{◌≡◌, ◌≤◌, ◌<◌, ◌+◌, ◌-◌, ℕ, zero, suc, Bool, true, false, cond, Option, Some, None, IfSome, length, refl, sym, ap, subst, ◌∙◌, inl, inr, arith}
 use Rattle.std.proofs.lemmas.Bool.{cases_lt}
-use Rattle.core_state.specs.Worlds.{NodeState, Plain, IsOfWorld}
+use Rattle.core_state.specs.Worlds.{Plain, IsOfWorld}
 use Rattle.core_state.specs.Deaths.{after_step}
 use Rattle.core_state.specs.Events.{is_over_in, is_over}
 use Rattle.run_engine.specs.Walks.{first_from, or_first, next_from, Rotation, with_turn, after_next, rotation, AllOver}
+use Rattle.core_live.proofs.Rounding.{get_past}
 
 -- ---- a search up to the last node, one number more
 
@@ -71,11 +72,6 @@ none_within w from zero n e low high = absurd (omega arith)
 none_within w from (suc k) n e low high = none_step w from k n (none_within w (from + 1) k n) (is_over w from) refl e low high
 
 -- ---- nodes that there are not
-
-get_past : (nodes : List NodeState) (k : ℕ) → length nodes ≤ k → slice_get nodes k ≡ None
-get_past [] k le = refl
-get_past (s ∷ nodes) zero le = absurd (omega arith)
-get_past (s ∷ nodes) (suc k) le = get_past nodes k (omega arith)
 
 pub past_over : (w : Plain) (n : ℕ) → length w.nodes < n → is_over w n ≡ true
 past_over w zero lt = absurd (omega arith)

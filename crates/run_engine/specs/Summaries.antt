@@ -1,5 +1,5 @@
 -- The summary of a soak.
-use Rattle.std.specs.Prelude.{◌++◌, not, ℕ, Bool, true, false, count_by, List, codes, decimal}
+use Rattle.std.specs.Prelude.{◌++◌, not, ℕ, Bool, false, count_by, List, codes, decimal}
 use Rattle.std.specs.List.{sum_by}
 use Rattle.plain_cat.specs.declared.history.Entry.{Entry}
 use Rattle.plain_cat.specs.declared.history.Entry.TheVariants.{Done, Died, Mended}

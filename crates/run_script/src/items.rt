@@ -1,4 +1,4 @@
-ghost use Rattle.std.specs.Prelude.{◌≡◌, ◌++◌, [], ◌∷◌, OnOk, OnErr};
+ghost use Rattle.std.specs.Prelude.{◌≡◌, ◌++◌, [], ◌∷◌, OnOk};
 ghost use Rattle.run_script.specs.Grammar.{is_skipped};
 ghost use Rattle.run_script.specs.Lines.{words_of};
 ghost use Rattle.run_script.specs.Steps.{Gives, nodes_of, said_of, item_of};

@@ -1,5 +1,5 @@
-ghost use Rattle.std.specs.Prelude.{◌≡◌, ◌≤◌, IfOk, MatchOption, None, Some};
-ghost use Rattle.plain_cat.specs.InForm.{is_dir_name, is_text, is_text_char};
+ghost use Rattle.std.specs.Prelude.{◌≡◌, IfOk, MatchOption, None, Some};
+ghost use Rattle.plain_cat.specs.InForm.{is_text_char};
 ghost use Rattle.std.specs.List.{list_all};
 ghost use Rattle.run_script.specs.Steps.{Gives, closed_of, fid_of, ref_of, entry_of, owner_of, mode_of, dir_name_of, text_of};
 

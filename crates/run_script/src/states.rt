@@ -1,4 +1,4 @@
-ghost use Rattle.std.specs.Prelude.{◌≡◌, ◌+◌, ◌≤◌, ◌++◌, None, Some, OnOk, length, replicate, leb};
+ghost use Rattle.std.specs.Prelude.{◌≡◌, ◌+◌, ◌++◌, None, Some, OnOk, length, replicate, leb};
 ghost use Rattle.std.specs.List.{list_all};
 ghost use Rattle.run_script.specs.declared.items.Run.{Run};
 ghost use Rattle.run_script.specs.Spelling.{plays_of, is_killed};

@@ -1,7 +1,6 @@
 -- A run can stop wherever it is, also where a write of it failed.
-use Rattle.std.proofs.Common.{◌≡◌, ◌∙◌, ◌+◌, ℕ, Bool, true, false, cond, List, Option, Some, None, slice_index_or, refl, sym, ap, subst, inl, inr}
+use Rattle.std.proofs.Common.{◌≡◌, ◌⊎◌, ◌∙◌, ◌+◌, ℕ, Bool, true, false, cond, List, Option, Some, None, slice_index_or, refl, sym, ap, subst, inl, inr}
 use Rattle.std.proofs.lemmas.Option.{slice_get_within, get_or_from_slice_get}
-use Rattle.vol_words.specs.Fields.{Block}
 use Rattle.plain_cat.specs.declared.command.Cmd.{Cmd}
 use Rattle.plain_vol.specs.Own.{next_command}
 use Rattle.op_law.specs.Laws.{Lawful}
@@ -12,14 +11,15 @@ use Rattle.core_state.specs.Event.{Event}
 use Rattle.core_state.specs.Event as event
 use Rattle.core_state.specs.Events.{is_write, next_event, happens, happen_at, readied, readied_at, after_turn, is_over}
 use Rattle.core_state.specs.Deaths.{is_due, died, after_step}
+use Rattle.core_state.proofs.Openings.{opening_after}
 use Rattle.stopped_worlds.specs.Laws.{GoesLawfully}
 use Rattle.stopped_worlds.proofs.Worlds.{stopped_worlds_mend, steps_keep_the_rules}
 use Rattle.run_engine.specs.Walks.{after_play, played, IsPartOfWalk, IsNextIn, Stays}
 use Rattle.run_engine.proofs.Playing.{play_more}
 use Rattle.run_engine.proofs.Rotating.{rotation_more}
 use Rattle.run_engine.proofs.Staying.{played_stays, walk_stays}
-use Rattle.stopped_runs.specs.Stops.{CanStop, IsTornRun}
-use Rattle.stopped_runs.specs.Laws.{RunsCanStop, TornRunsCanStop}
+use Rattle.stopped_runs.specs.Stops.{CanStop, IsTornWorld, IsTornRun}
+use Rattle.stopped_runs.specs.Laws.{RunsCanStop, TornWorldsCanStop, TornRunsCanStop}
 
 -- ---- a write answers nothing
 
@@ -42,10 +42,14 @@ step_answers w n alive is =
     ap (λ (b : Bool). (cond b (died w n) (after_turn w n)).history) alive
     ∙ (at_answers (readied w n) n (node_at (readied w n).nodes n) (next_event w n) is ∙ readied_answers w n (node_at w.nodes n))
 
+-- and the catalogue with which the history begins stays
+step_opening : (w : Plain) (n : ℕ) → is_due w n ≡ false → (after_step w n).opening ≡ w.opening
+step_opening w n alive = ap (λ (b : Bool). (cond b (died w n) (after_turn w n)).opening) alive ∙ opening_after w n
+
 -- ---- a node goes on with a command that obeys the law
 
 module _ (w : Plain) (n : ℕ) (good : Good w) (all : HasOnly Lawful w.script) where
-  goes_lawfully : GoesLawfully w n
+  pub goes_lawfully : GoesLawfully w n
   goes_lawfully s x at calm now = by s.cmd refl now where
     by : (o : Option Cmd) → s.cmd ≡ o → or_next o (next_command w.script n w.history) ≡ Some x → Lawful x
     by (Some y) e f =
@@ -75,38 +79,44 @@ part_stays start w plays (inr t) = walk_stays start (played plays start) w plays
 
 -- ---- it can stop
 
-pub runs_can_stop : RunsCanStop
-runs_can_stop start w plays accepted part good =
-    let r = stopped_worlds_mend w good (subst IsAccepted (sym (part_stays start w plays part).opening) accepted) in
+pub world_can_stop : (w : Plain) → Good w → IsAccepted w.opening → CanStop w
+world_can_stop w good accepted =
+    let r = stopped_worlds_mend w good accepted in
     record { left = r.0; halted = r.1; mends = r.2 }
 
+pub runs_can_stop : RunsCanStop
+runs_can_stop start w plays accepted part good = world_can_stop w good (subst IsAccepted (sym (part_stays start w plays part).opening) accepted)
+
+pub torn_worlds_can_stop : TornWorldsCanStop
+torn_worlds_can_stop w n bs new accepted lawful good alive is torn = by torn where
+  on : Plain
+  on = after_step w n
+
+  good_on : Good on
+  good_on = steps_keep_the_rules w n good (goes_lawfully w n good lawful)
+
+  by : IsTorn (Some bs) new w.blocks on.blocks → IsTornWorld w n new
+  by (inl e) = record { world = w; landed = inl refl; image = e; good = good; history = refl; stop = world_can_stop w good accepted }
+  by (inr e) = record {
+    world = on;
+    landed = inr refl;
+    image = e;
+    good = good_on;
+    history = step_answers w n alive is;
+    stop = world_can_stop on good_on (subst IsAccepted (sym (step_opening w n alive)) accepted);
+  }
+
 pub torn_runs_can_stop : TornRunsCanStop
-torn_runs_can_stop start w plays bs new accepted lawful part good before = by (before.image refl) where
+torn_runs_can_stop start w plays bs new accepted lawful part good before = by torn.landed where
   n : ℕ
   n = before.node
 
-  on : IsPartOfWalk start plays (after_step w n)
-  on = walks_on start w plays n before.next
+  opened : IsAccepted w.opening
+  opened = subst IsAccepted (sym (part_stays start w plays part).opening) accepted
 
-  good_on : Good (after_step w n)
-  good_on = steps_keep_the_rules w n good (goes_lawfully w n good lawful)
+  torn : IsTornWorld w n new
+  torn = torn_worlds_can_stop w n bs new opened lawful good before.turn before.write (before.image refl)
 
-  by : IsTorn (Some bs) new w.blocks (after_step w n).blocks → IsTornRun start plays w n new
-  by (inl e) = record {
-    world = w;
-    landed = inl refl;
-    image = e;
-    walked = part;
-    good = good;
-    history = refl;
-    stop = runs_can_stop start w plays accepted part good;
-  }
-  by (inr e) = record {
-    world = after_step w n;
-    landed = inr refl;
-    image = e;
-    walked = on;
-    good = good_on;
-    history = step_answers w n before.turn before.write;
-    stop = runs_can_stop start (after_step w n) plays accepted on good_on;
-  }
+  by : (torn.world ≡ w) ⊎ (torn.world ≡ after_step w n) → IsTornRun start plays w n new
+  by (inl e) = record { torn = torn; walked = subst (IsPartOfWalk start plays) (sym e) part }
+  by (inr e) = record { torn = torn; walked = subst (IsPartOfWalk start plays) (sym e) (walks_on start w plays n before.next) }

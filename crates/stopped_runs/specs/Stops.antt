@@ -16,13 +16,17 @@ pub record CanStop (w : Plain) : Type 0 where
   pub halted : IsHalted w left
   pub mends : MendsAs w.blocks left
 
--- A write of node n failed, in its turn in the world w of a walk. The image has the drive of a world of that walk: that of w, or, if the
+-- A write of node n failed, in its turn in the world w. The image has the drive of a world that keeps the rules: that of w, or, if the
 -- write landed, that of the one to which the turn leads. A write answers nothing, so this world has the history of w. It can stop there.
-pub record IsTornRun (start : Plain) (plays : List ℕ) (w : Plain) (n : ℕ) (new : Option (List Block)) : Type 0 where
+pub record IsTornWorld (w : Plain) (n : ℕ) (new : Option (List Block)) : Type 0 where
   pub world : Plain
   pub landed : (world ≡ w) ⊎ (world ≡ after_step w n)
   pub image : new ≡ Some world.blocks
-  pub walked : IsPartOfWalk start plays world
   pub good : Good world
   pub history : world.history ≡ w.history
   pub stop : CanStop world
+
+-- w is a world of a walk, and so is that one
+pub record IsTornRun (start : Plain) (plays : List ℕ) (w : Plain) (n : ℕ) (new : Option (List Block)) : Type 0 where
+  pub torn : IsTornWorld w n new
+  pub walked : IsPartOfWalk start plays torn.world

@@ -1,6 +1,6 @@
 //! The first finding of those that are not fatal. None is looked for behind it.
 
-ghost use Rattle.std.specs.Prelude.{◌≡◌, ◌≤◌, ◌++◌, map, length, slice_get, IfOk};
+ghost use Rattle.std.specs.Prelude.{◌≡◌, ◌≤◌, map, length, slice_get, IfOk};
 ghost use Rattle.fx_home.specs.Homes.{IsWithinLimits};
 ghost use Rattle.plain_vol.specs.Mending.{places};
 ghost use Rattle.vol_parts.specs.declared.finding.Finding.{Finding};

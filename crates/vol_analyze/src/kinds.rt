@@ -1,10 +1,10 @@
-ghost use Rattle.std.specs.Prelude.{◌≡◌, ◌≤◌, ◌*◌, ◌++◌, ◌<◌, ◌^◌, ℕ, map, filter, length, All, IfOk, OnOk};
+ghost use Rattle.std.specs.Prelude.{◌≡◌, ◌≤◌, ◌*◌, ◌++◌, ◌<◌, ℕ, map, length, All, IfOk, OnOk};
 ghost use Rattle.std.specs.List.{count_by};
 ghost use Rattle.plain_cat.specs.declared.cat.Slot.{Slot};
 ghost use Rattle.plain_vol.specs.Accounts.{share, charge};
 ghost use Rattle.plain_vol.specs.Lookups.{clusters_in};
 ghost use Rattle.plain_vol.specs.Mending.{places, is_true};
-ghost use Rattle.vol_parts.specs.Warnings.{is_marked, names_none, names_none_found, second_found, is_miscounted, usage_found};
+ghost use Rattle.vol_parts.specs.Warnings.{is_marked, names_none, names_none_found, second_found, usage_found};
 ghost use Rattle.vol_places.specs.Places.{place_of, AreFirsts};
 ghost use Rattle.vol_analyze.specs.Conditions.{HasFileSizes};
 ghost use Rattle.vol_analyze.specs.Kinds.{marked_of, nameless_of, seconds_of, lost_of, leaks_of, usages_of};

@@ -1,6 +1,6 @@
 //! Clusters in two runs, clusters that are free and in a file, and clusters that are neither.
 
-ghost use Rattle.std.specs.Prelude.{◌≡◌, ◌+◌, ◌/◌, ◌≤◌, ◌<◌, ◌&&◌, not, nat_le, length, slice_index};
+ghost use Rattle.std.specs.Prelude.{◌≡◌, ◌+◌, ◌/◌, ◌<◌, ◌&&◌, not, nat_le, length, slice_index};
 ghost use Rattle.std.specs.List.{count_by, range_with_len};
 ghost use Rattle.fx_home.specs.Homes.{IsWithinLimits};
 ghost use Rattle.vol_parts.specs.Catalogues.{is_outside_cluster};

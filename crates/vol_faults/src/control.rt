@@ -1,6 +1,6 @@
 //! The storage control block.
 
-ghost use Rattle.std.specs.Prelude.{◌≡◌, ◌<◌, length};
+ghost use Rattle.std.specs.Prelude.{◌≡◌, ◌<◌};
 ghost use Rattle.fx_home.specs.Homes.{IsWithinLimits};
 ghost use Rattle.vol_parts.specs.Fatal.{scb_fault};
 ghost use Rattle.vol_parts.specs.Firsts.{IsFirstOf};

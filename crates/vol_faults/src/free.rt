@@ -1,6 +1,6 @@
 //! Where the fixed parts of a volume lie that can be read, and how much of it is free.
 
-ghost use Rattle.std.specs.Prelude.{◌≡◌, ◌≤◌, length};
+ghost use Rattle.std.specs.Prelude.{◌≡◌, length};
 ghost use Rattle.fx_home.specs.Homes.{IsWithinLimits, home_read};
 ghost use Rattle.vol_parts.specs.Findings.{home_at, IsReadable};
 ghost use Rattle.vol_parts.specs.Parts.{IsGeometry};

@@ -1,7 +1,7 @@
 ghost use Rattle.std.specs.Prelude.{◌≡◌, ◌<◌, ◌≤◌, ◌+◌, ◌*◌};
 ghost use Rattle.vol_parts.specs.Fatal.{in_whole_clusters};
 ghost use Rattle.vol_parts.specs.Parts.{storage_blocks};
-ghost use Rattle.vol_fresh.specs.Layouts.{IsLayout, total, index_clusters, bitmap_clusters, clusters_of, first_cluster, reserved_clusters, blocks_of, header_of, whole_quota};
+ghost use Rattle.vol_fresh.specs.Layouts.{IsLayout, total, index_clusters, bitmap_clusters, clusters_of, first_cluster, reserved_clusters, header_of};
 
 use fx_header::Hdr;
 

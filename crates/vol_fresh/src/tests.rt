@@ -1,5 +1,3 @@
-ghost use Rattle.std.specs.Prelude.{◌≤◌};
-
 use crate::{Layout, text_of};
 
 /// The numbers of the system files, as they lie one behind the other.

@@ -1,5 +1,5 @@
 //! What a volume is made of, with all that needs memory.
-ghost use Rattle.std.specs.Prelude.{◌≡◌, ◌≤◌, ◌++◌, ◌-◌, [], List, ℕ, replicate, length, true, Ok, IfOk};
+ghost use Rattle.std.specs.Prelude.{◌≡◌, ◌≤◌, ◌-◌, length, true, Ok, IfOk};
 ghost use Rattle.vol_fresh.specs.Layouts.{IsLayout, reserved_clusters, total, main_entries};
 ghost use Rattle.fx_dir.specs.Directory.{directory, all_entries};
 ghost use Rattle.fx_dir.specs.Entries.{rises};

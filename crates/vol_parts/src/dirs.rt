@@ -1,4 +1,4 @@
-ghost use Rattle.std.specs.Prelude.{◌≡◌, ◌∷◌, [], ℕ, true, false, IfOk, MatchOption};
+ghost use Rattle.std.specs.Prelude.{◌≡◌, ◌∷◌, [], true, false, IfOk, MatchOption};
 ghost use Rattle.fx_header.specs.declared.run.Run.{Run};
 ghost use Rattle.fx_home.specs.Homes.{IsWithinLimits};
 ghost use Rattle.fx_dir.specs.Directory.{directory};

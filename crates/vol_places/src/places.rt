@@ -1,6 +1,5 @@
 ghost use Rattle.std.specs.Prelude.{◌≡◌, ◌≤◌, ◌++◌, length, map, IfOk, OnOk};
 ghost use Rattle.plain_cat.specs.declared.entries.DirEnt.{DirEnt};
-ghost use Rattle.plain_vol.specs.declared.places.Place.{Place};
 ghost use Rattle.plain_vol.specs.Mending.{places};
 ghost use Rattle.vol_places.specs.Places.{place_of};
 

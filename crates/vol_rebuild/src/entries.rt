@@ -1,9 +1,8 @@
 //! Step 1: the entries that do not stay are removed.
 
-ghost use Rattle.std.specs.Prelude.{◌≡◌, ◌≤◌, ◌<◌, ◌++◌, ◌-◌, Err, Some, List, map, length, slice_set, IfOk, OnOk};
+ghost use Rattle.std.specs.Prelude.{◌≡◌, ◌≤◌, ◌<◌, ◌-◌, Err, Some, map, length, IfOk, OnOk};
 ghost use Rattle.plain_cat.specs.declared.cat.File.{File};
 ghost use Rattle.plain_cat.specs.declared.cat.Slot.TheVariants.{Used};
-ghost use Rattle.plain_vol.specs.declared.places.Place.{Place};
 ghost use Rattle.plain_vol.specs.Directories.{without, is_entry};
 ghost use Rattle.plain_vol.specs.Mending.{places};
 ghost use Rattle.plain_mends.specs.Resuming.{Goes, less_one};

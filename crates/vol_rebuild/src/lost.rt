@@ -1,14 +1,12 @@
 //! Step 2: the files in no directory are entered in [SYSLOST].
 
-ghost use Rattle.std.specs.Prelude.{◌≡◌, ◌≤◌, ◌-◌, ◌+◌, Err, Some, [], true, false, length, slice_get, IfOk, OnOk};
+ghost use Rattle.std.specs.Prelude.{◌≡◌, ◌≤◌, ◌-◌, ◌+◌, Err, Some, [], true, false, length, slice_get, IfOk};
 ghost use Rattle.plain_cat.specs.declared.cat.Cat.{Cat};
 ghost use Rattle.plain_cat.specs.declared.cat.File.{File};
-ghost use Rattle.plain_cat.specs.declared.entries.DirEnt.{DirEnt};
 ghost use Rattle.plain_vol.specs.Changes.{with_entries};
 ghost use Rattle.plain_vol.specs.Lookups.{file_at};
 ghost use Rattle.plain_vol.specs.Mending.{places, is_empty, is_lost_slot, lost, enter, with_lost_entry};
 ghost use Rattle.plain_mends.specs.Waiting.{Settled, LostIsWritten};
-ghost use Rattle.vol_mends.specs.Going.{Change};
 ghost use Rattle.vol_places.specs.Places.{AreFirsts};
 ghost use Rattle.mend_writes.specs.Told.{IsTold};
 ghost use Rattle.vol_rebuild.specs.Places.{DirLeads};

@@ -3,7 +3,7 @@
 ghost use Rattle.std.specs.Prelude.{◌≡◌, ◌≤◌, ◌<◌, ◌+◌, ◌-◌, ◌^◌, Err, Some, [], true, false, length, slice_get, IfOk, OnOk};
 ghost use Rattle.plain_cat.specs.declared.cat.File.{File};
 ghost use Rattle.plain_vol.specs.Lookups.{file_at};
-ghost use Rattle.plain_vol.specs.Mending.{places, lost, is_gone};
+ghost use Rattle.plain_vol.specs.Mending.{places, lost};
 ghost use Rattle.plain_mends.specs.Resuming.{leaving};
 ghost use Rattle.plain_mends.specs.Waiting.{Settled, AreFull};
 ghost use Rattle.vol_places.specs.Places.{AreFirsts};

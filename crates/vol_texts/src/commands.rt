@@ -1,4 +1,4 @@
-ghost use Rattle.std.specs.Prelude.{◌≡◌, ◌++◌, ◌∷◌, [], OnOk, decimal};
+ghost use Rattle.std.specs.Prelude.{◌≡◌, ◌++◌, OnOk, decimal};
 ghost use Rattle.vol_texts.specs.Names.{fid_text, uic_text, entry_text, mode_text};
 ghost use Rattle.vol_texts.specs.Commands.{command_text, then_word, register_text};
 

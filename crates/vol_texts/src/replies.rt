@@ -1,6 +1,5 @@
-ghost use Rattle.std.specs.Prelude.{◌≡◌, ◌++◌, ◌+◌, ◌*◌, ◌≤◌, ◌∷◌, [], OnOk, decimal, take, sum, length};
+ghost use Rattle.std.specs.Prelude.{◌≡◌, ◌++◌, ◌+◌, ◌*◌, OnOk, sum};
 ghost use Rattle.std.specs.List.{flat_map};
-ghost use Rattle.vol_texts.specs.Commands.{then_word};
 ghost use Rattle.vol_texts.specs.Replies.{refusal_text, listed_text, kind_text, closed_text, hex_text, size_text, marks_text, facts_text, usage_text, reply_text};
 
 use crate::commands::{then_entry, then_fid, then_uic};

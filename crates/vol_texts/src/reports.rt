@@ -1,5 +1,5 @@
-ghost use Rattle.std.specs.Prelude.{◌≡◌, ◌++◌, ◌+◌, ◌∷◌, [], OnOk, decimal, length, take};
-ghost use Rattle.vol_texts.specs.Reports.{stage_text, leaks_text, entries_text, mended_text, node_text, entry_line, line_text, lines_from, lines_text, newline};
+ghost use Rattle.std.specs.Prelude.{◌≡◌, ◌++◌, ◌+◌, OnOk};
+ghost use Rattle.vol_texts.specs.Reports.{stage_text, leaks_text, entries_text, mended_text, node_text, entry_line, line_text, lines_text};
 
 use crate::commands::push_command;
 use crate::pieces::{NoMemory, push_bytes, push_count, push_number};

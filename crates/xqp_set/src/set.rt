@@ -1,5 +1,3 @@
-ghost use Rattle.std.specs.Prelude.{◌≡◌, IfOk};
-
 use op_access::OpAccess;
 use op_create::OpCreate;
 use op_data::OpData;

@@ -1,7 +1,6 @@
 use Rattle.std.proofs.Common.{◌≡◌, ◌∙◌, ℕ, List, subst}
 use Rattle.std.specs.Process.{exit_status}
 use Rattle.run_engine.specs.declared.status.Status.TheVariants as status
-use Rattle.clus_top.specs.Words.{wanted_by}
 use Rattle.clus_main.specs.Calls.{IsEnd}
 use Rattle.clus_main.proofs.Lacking.{lacking_due, lacking_image}
 use Rattle.clus_main.proofs.calling.exit_call.Goals as goal

@@ -1,6 +1,6 @@
 use Rattle.std.proofs.Common.{subst}
+use Rattle.run_top.proofs.Results.{if_err, if_ok}
 use Rattle.clus_top.specs.Ends.{IsEndIn, IsStopBy}
-use Rattle.clus_top.proofs.Reported.{if_err, if_ok}
 use Rattle.clus_top.proofs.Imaged.{accepted_on, end_on, stop_on}
 use Rattle.clus_top.proofs.run.run_image.Goals as goal
 

@@ -1,8 +1,9 @@
 use Rattle.std.proofs.Common.{◌∙◌, sym, ap, subst}
-use Rattle.clus_top.specs.declared.run.Stop.TheVariants as stop
+use Rattle.run_top.specs.declared.stop.Stop.TheVariants as stop
+use Rattle.run_top.proofs.Results.{if_err}
 use Rattle.clus_top.specs.Ends.{IsStopBy}
-use Rattle.clus_top.proofs.Commands.{only_built}
-use Rattle.clus_top.proofs.Reported.{stop_of_mounted, mount_stop, if_err}
+use Rattle.run_top.proofs.Commands.{only_built}
+use Rattle.clus_top.proofs.Reported.{stop_of_mounted, mount_stop}
 use Rattle.clus_top.proofs.run.run_mounted.Goals as goal
 
 pub mount-requires-clause-taken : goal.mount-requires-clause-taken

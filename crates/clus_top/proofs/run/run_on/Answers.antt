@@ -1,7 +1,8 @@
 use Rattle.std.proofs.Common.{◌∙◌, sym, subst, inr}
 use Rattle.run_engine.proofs.Driving.{told_well}
+use Rattle.run_top.proofs.Results.{if_err, if_ok}
 use Rattle.clus_top.specs.Ends.{IsStopBy}
-use Rattle.clus_top.proofs.Reported.{lacking_in, run_stop, end_in, if_err, if_ok}
+use Rattle.clus_top.proofs.Reported.{lacking_in, run_stop, end_in}
 use Rattle.clus_top.proofs.run.run_on.Goals as goal
 
 pub returns-in-Ok-clause-report : goal.returns-in-Ok-clause-report

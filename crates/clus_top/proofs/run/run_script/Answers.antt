@@ -1,6 +1,7 @@
-use Rattle.clus_top.specs.Runs.{IsScriptOf}
-use Rattle.clus_top.proofs.Reported.{if_err, if_ok}
-use Rattle.clus_top.proofs.Jobs.{spells, good, report_on, last_on, run_stop, stop_image}
+use Rattle.run_top.specs.Scripts.{IsScriptOf}
+use Rattle.run_top.proofs.Results.{if_err, if_ok}
+use Rattle.run_top.proofs.Given.{spells, good}
+use Rattle.clus_top.proofs.Jobs.{report_on, last_on, run_stop, stop_image}
 use Rattle.clus_top.specs.declared.run.Printed.TheVariants as printed
 use Rattle.clus_top.proofs.run.run_script.Goals as goal
 

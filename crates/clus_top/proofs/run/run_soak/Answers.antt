@@ -1,5 +1,5 @@
+use Rattle.run_top.proofs.Results.{if_err, if_ok}
 use Rattle.clus_top.specs.Runs.{IsSoakOf}
-use Rattle.clus_top.proofs.Reported.{if_err, if_ok}
 use Rattle.clus_top.proofs.Jobs.{summary_on, last_on, soak_stop, stop_image}
 use Rattle.clus_top.specs.declared.run.Printed.TheVariants as printed
 use Rattle.clus_top.proofs.run.run_soak.Goals as goal

@@ -1,8 +1,8 @@
 use Rattle.std.proofs.Common.{◌∙◌, sym, ap, subst}
-use Rattle.clus_top.specs.declared.run_rebuild.Halt.TheVariants as halt
+use Rattle.run_top.specs.declared.mending.Halt.TheVariants as halt
+use Rattle.run_top.proofs.Results.{if_err, if_ok}
 use Rattle.clus_top.specs.Halts.{IsMendedIn, IsHaltIn}
-use Rattle.clus_top.proofs.Commands.{only_built}
-use Rattle.clus_top.proofs.Reported.{if_err, if_ok}
+use Rattle.run_top.proofs.Commands.{only_built}
 use Rattle.clus_top.proofs.Halting.{mended_of_mounted, halt_of_mounted, mount_halt}
 use Rattle.clus_top.proofs.run_rebuild.mend_mounted.Goals as goal
 

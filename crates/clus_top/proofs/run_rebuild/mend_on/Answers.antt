@@ -1,10 +1,12 @@
 use Rattle.std.proofs.Common.{◌∙◌, ℕ, List, All, sym, subst}
 use Rattle.core_state.specs.Worlds.{IsOfWorld}
 use Rattle.run_engine.proofs.Driving.{told_well}
+use Rattle.run_top.proofs.Results.{if_err, if_ok}
+use Rattle.run_top.proofs.MendedDrives.{told_now}
 use Rattle.clus_top.specs.Ends.{IsStopBy}
 use Rattle.clus_top.specs.Halts.{IsHaltIn}
-use Rattle.clus_top.proofs.Reported.{plays_of_world, run_stop, if_err, if_ok}
-use Rattle.clus_top.proofs.Halting.{told_now, mended_in, halt_in, stop_halts}
+use Rattle.clus_top.proofs.Reported.{plays_of_world, run_stop}
+use Rattle.clus_top.proofs.Halting.{mended_in, halt_in, stop_halts}
 use Rattle.clus_top.proofs.run_rebuild.mend_on.Goals as goal
 
 pub run-ran-requires : goal.run-ran-requires

@@ -1,4 +1,4 @@
-use Rattle.std.proofs.Common.{refl, ap, arith, ◌∙◌, ◌<◌, ◌≤◌, length}
+use Rattle.std.proofs.Common.{refl, arith}
 use Rattle.core_state.specs.Worlds.{state_of, plain_of}
 use Rattle.core_state.proofs.Nodes.{told_at}
 use Rattle.core_step.proofs.Steps.{lowered_so}

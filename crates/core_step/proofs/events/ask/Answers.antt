@@ -1,4 +1,4 @@
-use Rattle.std.proofs.Common.{◌-◌, true, refl, sym, ap, map, slice_set, ◌∙◌}
+use Rattle.std.proofs.Common.{◌-◌, true, refl, ap, map, slice_set, ◌∙◌}
 use Rattle.lock_db.specs.declared.name.LockName.TheVariants.{A}
 use Rattle.node_locks.specs.Taking.{taken}
 use Rattle.core_state.specs.Worlds.{state_of, plain_of}

@@ -4,7 +4,7 @@ use Rattle.core_state.specs.Worlds.{state_of, plain_of}
 use Rattle.core_state.proofs.Nodes.{told_at}
 use Rattle.core_step.specs.Spaces.{write_of}
 use Rattle.core_step.proofs.Caching.{space_wrote_so, can_take_cached}
-use Rattle.core_step.proofs.SpaceStates.{there_within}
+use Rattle.core_state.proofs.SmallBegun.{there_within}
 use Rattle.core_step.proofs.searches.space_write.Goals as goal
 
 pub next_lock-name-requires : goal.next_lock-name-requires

@@ -1,4 +1,4 @@
-use Rattle.std.proofs.Common.{sym, ap, ◌∙◌, Some}
+use Rattle.std.proofs.Common.{sym, ◌∙◌, Some}
 use Rattle.core_step.proofs.SpaceStates.{mode_first, mode_second}
 use Rattle.core_step.proofs.spaces.mode_in_both.Goals as goal
 

@@ -1,4 +1,4 @@
-use Rattle.std.proofs.Common.{ap, ◌++◌, ◌∙◌}
+use Rattle.std.proofs.Common.{◌++◌, ◌∙◌}
 use Rattle.lock_db.specs.declared.name.LockName.TheVariants.{X, V}
 use Rattle.core_state.specs.Events.{mode_in}
 use Rattle.core_step.proofs.spaces.space_locks.Goals as goal

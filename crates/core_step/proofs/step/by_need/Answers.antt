@@ -1,10 +1,8 @@
-use Rattle.std.proofs.Common.{◌≡◌, Some, None, true, false, refl, sym, ap, subst, ◌∙◌, rules}
+use Rattle.std.proofs.Common.{None, true, false, refl, sym, ap, subst, ◌∙◌, rules}
 use Rattle.op_law.specs.declared.need.Need.TheVariants as need
 use Rattle.core_state.specs.Worlds.{plain_of}
 use Rattle.core_state.specs.Goods.{HasRoom}
 use Rattle.core_step.specs.Memory.{takes_none}
-use Rattle.core_step.specs.Ready.{IsReady}
-use Rattle.op_law.specs.Needs.{IsNext}
 use Rattle.core_step.proofs.Ready.{event_need, has_plan, may_lock, lock_apart, fetch_within, lock_room, fetch_room, plan_room, lock_told, goes_granted, goes_queued}
 use Rattle.core_step.proofs.Outcomes.{quiet, lacking, still_room, more_room}
 use Rattle.core_step.proofs.step.by_need.Goals as goal

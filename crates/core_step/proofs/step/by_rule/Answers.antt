@@ -1,16 +1,16 @@
-use Rattle.std.proofs.Common.{length, ◌≡◌, ◌≤◌, ◌<◌, true, false, Some, slice_set, refl, sym, ap, subst, ◌∙◌, rules, inl, inr, arith}
+use Rattle.std.proofs.Common.{length, ◌<◌, true, false, slice_set, refl, sym, ap, subst, ◌∙◌, rules, inl, inr, arith}
 use Rattle.std.specs.Prelude.{is_some}
-use Rattle.core_state.specs.Worlds.{state_of, plain_of}
+use Rattle.core_state.specs.Worlds.{plain_of}
 use Rattle.core_state.specs.Goods.{HasRoom}
 use Rattle.core_state.specs.Event as event
-use Rattle.core_state.specs.Events.{by_rule, by_put, or_use, turned, claiming, caching, cache_written, space_writing, lowering, lowering_both, returning, happen}
+use Rattle.core_state.specs.Events.{by_rule, by_put, or_use, turned, claiming, caching, cache_written, space_writing, lowering, lowering_both, returning}
 use Rattle.core_step.specs.Memory.{takes_none}
 use Rattle.core_step.specs.Moving.{CanMove}
 use Rattle.core_step.specs.Spaces.{write_of}
 use Rattle.core_step.proofs.Begun.{ends_so}
 use Rattle.core_step.proofs.Outcomes.{makes_as, quiet, wrote, lacking, failed, still_room}
 use Rattle.core_step.proofs.Ready.{kept_room, goes_granted, goes_queued}
-use Rattle.core_step.proofs.Ruled.{claim_told, put_write}
+use Rattle.core_step.proofs.Ruled.{claim_told}
 use Rattle.core_step.proofs.Setting.{there_now}
 use Rattle.core_step.proofs.Steps.{happen_here}
 use Rattle.core_step.proofs.step.by_rule.Goals as goal

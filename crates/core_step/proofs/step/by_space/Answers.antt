@@ -1,9 +1,8 @@
-use Rattle.std.proofs.Common.{◌≡◌, ◌≤◌, ◌-◌, Some, false, cond, refl, sym, ap, subst, ◌∙◌, rules, arith}
+use Rattle.std.proofs.Common.{◌≡◌, ◌-◌, Some, cond, refl, sym, ap, subst, ◌∙◌, rules, arith}
 use Rattle.core_space.specs.Rule.{space_event, TakesMemory}
 use Rattle.core_state.specs.Worlds.{state_of, plain_of}
 use Rattle.core_state.specs.Event as event
-use Rattle.core_state.specs.Events.{by_rule, by_space, or_use, phase_begun, space_need, space_state}
-use Rattle.core_step.specs.Ready.{Makes}
+use Rattle.core_state.specs.Events.{by_rule, by_space, or_use, phase_begun, space_state}
 use Rattle.core_step.specs.Moving.{CanMove}
 use Rattle.core_step.proofs.FromStock.{few_wanted, space_can, space_makes, rule_takes}
 use Rattle.core_step.proofs.Outcomes.{makes_as, lacking}

@@ -1,6 +1,6 @@
-use Rattle.std.proofs.Common.{◌-◌, refl, sym, ap, ◌∙◌, None}
+use Rattle.std.proofs.Common.{◌-◌, sym, ap, ◌∙◌}
 use Rattle.std.specs.Prelude.{is_some}
-use Rattle.core_state.specs.Worlds.{state_of, plain_of}
+use Rattle.core_state.specs.Worlds.{state_of}
 use Rattle.core_state.specs.Events.{plan_in}
 use Rattle.core_state.proofs.Nodes.{told_at}
 use Rattle.core_step.proofs.FromStock.{ready_planned}

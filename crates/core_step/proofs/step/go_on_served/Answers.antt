@@ -1,6 +1,6 @@
-use Rattle.std.proofs.Common.{◌≡◌, ◌-◌, Some, None, true, false, map, slice_set, refl, sym, ap, subst, ◌∙◌, rules}
+use Rattle.std.proofs.Common.{◌≡◌, ◌-◌, Some, refl, sym, ap, ◌∙◌, rules}
 use Rattle.op_law.specs.declared.need.Need.TheVariants as need
-use Rattle.core_state.specs.Worlds.{state_of, plain_of}
+use Rattle.core_state.specs.Worlds.{state_of}
 use Rattle.core_state.proofs.Nodes.{told_at}
 use Rattle.core_step.proofs.FromStock.{begun_of, given_takes, begun_op, begun_op_fits, begun_op_geometry, begun_op_searches, needs_it_now}
 use Rattle.core_step.proofs.Outcomes.{lacking}

@@ -1,8 +1,8 @@
-use Rattle.std.proofs.Common.{◌≡◌, ◌-◌, Some, None, true, false, map, slice_set, refl, sym, ap, subst, ◌∙◌, rules}
+use Rattle.std.proofs.Common.{◌≡◌, ◌-◌, true, refl, sym, subst, rules}
 use Rattle.op_law.specs.declared.need.Need.TheVariants as need
 use Rattle.std.specs.Prelude.{IfSome}
 use Rattle.op_law.specs.Needs.{need_of}
-use Rattle.core_state.specs.Worlds.{state_of, plain_of}
+use Rattle.core_state.specs.Worlds.{state_of}
 use Rattle.core_state.proofs.Nodes.{told_at}
 use Rattle.core_step.proofs.FromStock.{ready_unserved, begun_takes, begun_op, begun_op_fits, begun_op_geometry, begun_op_searches, begun_need, needs_it_now, serves_it, lacks_it, not_searching}
 use Rattle.core_step.proofs.Outcomes.{lacking}

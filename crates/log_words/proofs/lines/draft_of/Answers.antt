@@ -1,4 +1,4 @@
-use Rattle.std.proofs.Common.{◌≡◌, ℕ, List, Option, sym, subst}
+use Rattle.std.proofs.Common.{ℕ, List, Option, sym, subst}
 use Rattle.log_words.specs.declared.commands.Given.{Given}
 use Rattle.log_words.specs.Commands.{ReadsCommand}
 use Rattle.log_words.specs.Lines.{IsDrafted}

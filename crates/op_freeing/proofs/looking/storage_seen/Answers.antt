@@ -1,4 +1,4 @@
-use Rattle.std.proofs.Common.{rules, ◌≡◌, ◌∙◌, ◌<◌, [], None, ℕ, List, length, map, slice_get, All, sym, ap, subst}
+use Rattle.std.proofs.Common.{rules, ◌≡◌, ◌∙◌, ◌<◌, [], None, length, map, slice_get, All, sym, ap, subst}
 use Rattle.std.proofs.lemmas.List.{length-map}
 use Rattle.lock_db.specs.declared.name.LockName.TheVariants.{V}
 use Rattle.vol_parts.specs.declared.geometry.Part.TheVariants.{Storage}

@@ -1,4 +1,4 @@
-use Rattle.std.proofs.Common.{◌∙◌, sym, ap, arith}
+use Rattle.std.proofs.Common.{arith}
 use Rattle.run_engine.proofs.Counting.{one_more}
 use Rattle.run_engine.proofs.counts.all_hits.Goals as goal
 

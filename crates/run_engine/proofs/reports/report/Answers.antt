@@ -1,4 +1,4 @@
-use Rattle.std.proofs.Common.{◌≡◌, ◌++◌, ℕ, count_by, map, ap, ◌∙◌}
+use Rattle.std.proofs.Common.{◌≡◌, ◌++◌, count_by, map, ap, ◌∙◌}
 use Rattle.core_state.specs.Worlds.{shown}
 use Rattle.run_engine.specs.Reports.{is_answer, is_death, closing_text}
 use Rattle.run_engine.proofs.Showing.{answers_shown, deaths_shown}

@@ -1,0 +1,6 @@
+pub mod Rested
+pub mod Lived
+pub mod Imaged
+pub mod Jobs
+pub mod Told
+pub mod Answered

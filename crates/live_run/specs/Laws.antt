@@ -1,0 +1,33 @@
+-- Of all statuses of a live call exactly one is due, and a good script on an accepted volume is answered.
+use Rattle.std.specs.Prelude.{◌≡◌, ℕ, Bool, true, List, Option, Some}
+use Rattle.vol_words.specs.Fields.{Block}
+use Rattle.blk_drive.specs.Images.{IsInside}
+use Rattle.vol_parts.specs.declared.finding.Finding.{Finding}
+use Rattle.vol_parts.specs.Findings.{AreFindings, Accepts}
+use Rattle.run_engine.specs.declared.status.Status.{Status}
+use Rattle.run_engine.specs.declared.status.Status.TheVariants as status
+use Rattle.run_top.specs.Statuses.{IsGood}
+use Rattle.run_top.specs.Verdicts.{is_verdict, is_mended_verdict}
+use Rattle.live_run.specs.declared.words.Job.{Job}
+use Rattle.live_run.specs.declared.words.Job.TheVariants as job
+use Rattle.live_run.specs.Statuses.{IsDue}
+
+-- of a job, a status that speaks of what came in alone; with a mending also not the one that speaks of where the threads have led
+abbrev pub is_verdict_of : Option Job → Status → Bool
+is_verdict_of (Some job.LiveRebuild) s = is_mended_verdict s
+is_verdict_of what s = is_verdict s
+
+-- of a job, a script and blocks that are told one such status is due, and no other one, whatever the image has then
+pub record HasOneVerdict (what : Option Job) (bytes : List ℕ) (size : ℕ) (bs : List Block) : Type 0 where
+  pub status : Status
+  pub verdict : is_verdict_of what status ≡ true
+  pub due : (new : Option (List Block)) → IsDue what (Some bytes) size (Some bs) new status
+  pub alone : (new : Option (List Block)) (other : Status) → is_verdict_of what other ≡ true → IsDue what (Some bytes) size (Some bs) new other → other ≡ status
+
+abbrev pub OneLiveStatusIsDue : Type 0
+OneLiveStatusIsDue = (what : Option Job) (bytes : List ℕ) (size : ℕ) (bs : List Block) (fs : List Finding) → AreFindings bs fs → HasOneVerdict what bytes size bs
+
+-- on an accepted volume the one such status of a good script is Ok
+abbrev pub GoodLiveRunsAreAnswered : Type 0
+GoodLiveRunsAreAnswered = (what : Job) (bytes : List ℕ) (size : ℕ) (bs : List Block) (new : Option (List Block)) (s : Status) → IsGood bytes → IsInside size → Accepts bs
+    → is_verdict_of (Some what) s ≡ true → IsDue (Some what) (Some bytes) size (Some bs) new s → s ≡ status.Ok

@@ -1,0 +1,125 @@
+-- What the threads of a script leave on a volume, and a mending behind them.
+use Rattle.std.specs.Prelude.{◌≡◌, ◌⊎◌, ℕ, List, Option, IfSome, is_some}
+use Rattle.vol_words.specs.Fields.{Block}
+use Rattle.fx_home.specs.Homes.{home_read}
+use Rattle.plain_cat.specs.declared.cat.Cat.{Cat}
+use Rattle.plain_cat.specs.declared.script.Script.{Script}
+use Rattle.plain_vol.specs.Own.{Whole, Own}
+use Rattle.plain_vol.specs.Replaying.{Replays}
+use Rattle.vol_parts.specs.declared.finding.Finding.{Finding}
+use Rattle.vol_parts.specs.Findings.{home_at, Accepts, CatOf}
+use Rattle.vol_faults.specs.Free.{IsGeometryBy}
+use Rattle.core_state.specs.Worlds.{Plain}
+use Rattle.core_state.specs.Goods.{Good}
+use Rattle.core_state.specs.Images.{told_as}
+use Rattle.core_state.specs.Uses.{UsesTheDrives}
+use Rattle.run_engine.specs.Walks.{AllOver}
+use Rattle.run_engine.specs.Ended.{IsSpelt}
+use Rattle.run_engine.specs.declared.status.Status.TheVariants as status
+use Rattle.node_seat.specs.Keeping.{IsOrderly, IsAtFailedWrite}
+use Rattle.stopped_runs.specs.Stops.{CanStop, IsTornWorld}
+use Rattle.run_top.specs.Stops.{report_text}
+use Rattle.run_top.specs.Halts.{with_mending, IsPartlyBy, IsMendedBy, IsUnmendedBy}
+use Rattle.run_top.specs.Statuses.{cut_text, status_text}
+use Rattle.live_run.specs.declared.words.Job.{Job}
+use Rattle.live_run.specs.declared.words.Job.TheVariants as job
+
+-- A world of a script on the volume of these blocks, in which nothing is found. Its history begins with the catalogue that they tell, and
+-- the volume's parts are where the home block says. It keeps the rules of the core. Its history replays from that catalogue, and has
+-- of each node its commands in their order. Nodes died only where the script kills them, and nothing was mended. A block that the next
+-- turn of a node uses from the node's cache is the drive's. If the world stops there it leaves a catalogue, as which its drive mends.
+pub record IsWorldOf (script : Script) (bs : List Block) (w : Plain) : Type 0 where
+  pub accepted : Accepts bs
+  pub told : CatOf bs w.opening
+  pub parts : IsGeometryBy bs (home_read (home_at bs)) w.geometry
+  pub script_is : w.script ≡ script
+  pub good : Good w
+  pub cat : Cat
+  pub replayed : Replays w.opening script w.history cat
+  pub own : Own script w.history
+  pub orderly : IsOrderly script w.history
+  pub used : (n : ℕ) → UsesTheDrives w n
+  pub stop : CanStop w
+
+-- ---- the threads alone
+
+-- The end, with this text: every node of such a world is over, and its history is whole. The image has its drive, which spells the
+-- catalogue to which the history leads, with nothing outside at any node. The text is the report.
+pub record IsLiveEnd (script : Script) (bs : List Block) (told new : Option (List Block)) (text : List ℕ) : Type 0 where
+  pub world : Plain
+  pub live : IsWorldOf script bs world
+  pub over : AllOver world
+  pub whole : Whole script world.history
+  pub after : Cat
+  pub replayed : Replays world.opening script world.history after
+  pub left : IsSpelt world.geometry world.blocks after
+  pub image : new ≡ told_as told world.blocks
+  pub written : text ≡ report_text world.history after
+
+-- A write failed. The image has the drive of such a world, or, if that block landed, of the one after the write, which has the same
+-- answers; if it tells its blocks, they mend as the catalogue that this world leaves as it stops. The text is the lines of the answers so
+-- far, if they found memory, and that of the fault.
+pub record IsLiveCut (script : Script) (bs : List Block) (told new : Option (List Block)) (text : List ℕ) : Type 0 where
+  pub world : Plain
+  pub live : IsWorldOf script bs world
+  pub failed : IsAtFailedWrite (is_some told) new world
+  pub torn : IfSome told (λ bs. IsTornWorld world failed.node new)
+  pub written : (text ≡ cut_text world.history) ⊎ (text ≡ status_text status.ImageFault)
+
+-- the image has the drive of such a world
+pub record IsLiveDrive (script : Script) (bs : List Block) (told new : Option (List Block)) : Type 0 where
+  pub world : Plain
+  pub live : IsWorldOf script bs world
+  pub image : new ≡ told_as told world.blocks
+
+-- ---- a mending behind such an end
+
+-- the threads have come to their end, and would have this report
+pub record IsLiveOver (script : Script) (bs : List Block) (told : Option (List Block)) : Type 0 where
+  pub at_end : Option (List Block)
+  pub report : List ℕ
+  pub end : IsLiveEnd script bs told at_end report
+
+-- The drive of such an end is mended: the history has one entry more, the mending, and replays with it. The image has the mended volume,
+-- and the text is the report of that history.
+pub record IsLiveMended (script : Script) (bs : List Block) (told new : Option (List Block)) (text : List ℕ) : Type 0 where
+  pub over : IsLiveOver script bs told
+  pub mended : IsMendedBy over.end.world over.end.after told new text
+  pub replayed : Replays over.end.world.opening script (with_mending over.end.world.history mended.done) mended.mended.after
+
+-- The mending stopped on its way: what the image has mends to the same.
+pub record IsLivePartly (script : Script) (bs : List Block) (told new : Option (List Block)) : Type 0 where
+  pub over : IsLiveOver script bs told
+  pub part : IsPartlyBy over.end.after told new
+
+-- A write of the mending failed. The text is the lines of the history, if they found memory, and that of the fault.
+pub record IsLiveMendingCut (script : Script) (bs : List Block) (told new : Option (List Block)) (text : List ℕ) : Type 0 where
+  pub partly : IsLivePartly script bs told new
+  pub written : (text ≡ cut_text partly.over.end.world.history) ⊎ (text ≡ status_text status.ImageFault)
+
+-- The drive cannot be mended. The image has it, and the text is the lines of the history and that of the finding.
+pub record IsLiveUnmended (script : Script) (bs : List Block) (told new : Option (List Block)) (f : Finding) (text : List ℕ) : Type 0 where
+  pub over : IsLiveOver script bs told
+  pub unmended : IsUnmendedBy over.end.world over.end.after told new f text
+
+-- ---- of a job
+
+-- it came to its end, with this text
+abbrev pub IsEnd : Job → Script → List Block → Option (List Block) → Option (List Block) → List ℕ → Type 0
+IsEnd job.Live script bs told new text = IsLiveEnd script bs told new text
+IsEnd job.LiveRebuild script bs told new text = IsLiveMended script bs told new text
+
+-- a write of the image cut it short, with this text
+abbrev pub IsCut : Job → Script → List Block → Option (List Block) → Option (List Block) → List ℕ → Type 0
+IsCut job.Live script bs told new text = IsLiveCut script bs told new text
+IsCut job.LiveRebuild script bs told new text = IsLiveCut script bs told new text ⊎ IsLiveMendingCut script bs told new text
+
+-- what the image has then if memory was lacking
+abbrev pub IsLacking : Job → Script → List Block → Option (List Block) → Option (List Block) → Type 0
+IsLacking job.Live script bs told new = IsLiveDrive script bs told new
+IsLacking job.LiveRebuild script bs told new = IsLiveDrive script bs told new ⊎ IsLivePartly script bs told new
+
+-- the drive cannot be mended, by this finding and with this text
+abbrev pub IsUnmended : Job → Script → List Block → Option (List Block) → Option (List Block) → Finding → List ℕ → Type 0
+IsUnmended job.Live script bs told new f text = ⊥
+IsUnmended job.LiveRebuild script bs told new f text = IsLiveUnmended script bs told new f text

@@ -1,0 +1,30 @@
+//! The live top call: one thread for each node, over seats of a shared volume.
+//!
+//! `vmsclus_live` is the call, `Gate` what each thread calls before a step. `Finished` has the `Status` of the call, and the image.
+//!
+//! ```text
+//! let finished = vmsclus_live(rt, alloc, words, image, &mut script, &mut out, &OpenGate);
+//! ```
+//!
+//! Of what a script, the words and a volume say, and of what is written, it promises what `vmsclus` does (`due`, `written`, `after`), if it
+//! returns: with status 0 the report is that of a history that replays from the catalogue of the volume, whole. A good script on an accepted
+//! volume is answered (`good_live_runs_are_answered`). That several threads ran, and that they made the events, tests show.
+#![tactic(auto)]
+
+mod gate;
+mod live;
+mod rest;
+mod theorems;
+mod threads;
+mod top;
+mod words;
+
+pub use gate::{Gate, OpenGate};
+pub use run_engine::{Finished, Status};
+pub use theorems::{good_live_runs_are_answered, one_live_status_is_due};
+pub use top::vmsclus_live;
+
+#[cfg(test)]
+mod tests;
+#[cfg(test)]
+mod yard_tests;

@@ -1,0 +1,21 @@
+//! Laws of the statuses that no code runs: the contract of each function is a theorem.
+
+ghost use Rattle.live_run.specs.Laws.{OneLiveStatusIsDue, GoodLiveRunsAreAnswered};
+
+/// Of both jobs and of words without a reading, of all scripts, sizes and blocks, whatever is found in these, one status is due, and only
+/// one, but for faults and want of memory, and of a call that mends then but for whether its volume can be mended.
+pub fn one_live_status_is_due()
+    ensures { OneLiveStatusIsDue }
+{
+    run_script::a_text_says_one_thing();
+    vol_analyze::findings_are_one_list();
+}
+
+/// A good script that threads run on an accepted volume ends with status 0, unless a call of an object fails or memory runs out; or the
+/// volume, if it is mended then, cannot be mended. This is said of a call that returns.
+pub fn good_live_runs_are_answered()
+    ensures { GoodLiveRunsAreAnswered }
+{
+    run_script::a_text_says_one_thing();
+    vol_analyze::findings_are_one_list();
+}

@@ -1,0 +1,5 @@
+pub mod Statuses
+pub mod Scripts
+pub mod Stops
+pub mod Halts
+pub mod Verdicts

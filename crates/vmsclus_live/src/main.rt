@@ -1,0 +1,80 @@
+//! The program `vmsclus_live IMAGE SCRIPT JOB`: one thread for each node of a cluster on one volume.
+//!
+//! It opens the image and the script, of which `-` is standard input, and hands the words of the job, `live` or `live --rebuild`, to the
+//! live top call. What the call promises is said in `live_run`.
+//!
+//! ```text
+//! vmsclus_live volume.img nodes.script live
+//! ```
+//!
+//! The program itself promises nothing more: its stored run shows the report of that script, over real files.
+#![tactic(auto)]
+
+use blk_drive::{ImageDev, MemImage};
+use clus_main::{exit_code, image_at, line_of, no_memory, words_of};
+use fx_text::{StdIn, StdOut, TextIn};
+use live_run::{OpenGate, vmsclus_live};
+use plain_cat::NoMemory;
+use std::process::ExitCode;
+use std::rt::{Env, Files};
+use std::sync::Wait;
+use std::thread::Threads;
+use std::{fs, io};
+
+// Calls the live top call with standard output as its sink.
+fn called<R: Threads + Wait + Sync + Print + AllocGlobal, I: ImageDev + Send, T: TextIn>(
+    rt: &R,
+    job: &[String],
+    image: I,
+    mut script: T,
+) -> ExitCode {
+    let mut out = StdOut::new(io::writer(rt));
+    match words_of(rt.alloc(), job) {
+        Ok(words) => {
+            let finished = vmsclus_live(
+                rt,
+                rt.alloc(),
+                words.as_slice(),
+                image,
+                &mut script,
+                &mut out,
+                &OpenGate,
+            );
+            exit_code(&finished.status)
+        }
+        Err(_) => no_memory(&mut out),
+    }
+}
+
+// Opens image and script, of which `-` is standard input, and makes the call. With fewer than two words it has no words and no blocks.
+fn opened<R: Threads + Wait + Sync + Env + Files + Input + Print + AllocGlobal>(
+    rt: &R,
+) -> Result<ExitCode, NoMemory>
+where
+    R::File: Send,
+{
+    let line = line_of(rt)?;
+    match line.as_slice() {
+        [image, script, job @ ..] => {
+            let image = image_at(rt, image.as_str())?;
+            if script.as_str() == "-" {
+                return Ok(called(rt, job, image, StdIn::new(rt.reader())));
+            }
+            match fs::open(rt, script.as_str()) {
+                Ok(file) => Ok(called(rt, job, image, StdIn::new(file))),
+                Err(_) => Ok(called(rt, job, image, StdIn::<R::File>::absent())),
+            }
+        }
+        _ => {
+            let image = MemImage::new(Vec::new(rt.alloc()), Vec::new(rt.alloc()));
+            Ok(called(rt, &[], image, StdIn::<R::File>::absent()))
+        }
+    }
+}
+
+fn main(rt: HostRuntime) -> ExitCode {
+    match opened(&rt) {
+        Ok(code) => code,
+        Err(_) => no_memory(&mut StdOut::new(io::writer(&rt))),
+    }
+}
