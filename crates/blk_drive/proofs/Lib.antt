@@ -1,1 +1,2 @@
 mod Loads
+pub mod Sizes

@@ -2,7 +2,7 @@
 use Rattle.std.proofs.Common.{◌≡◌, ◌≤◌, ◌+◌, ℕ, List, [], ◌∷◌, ◌++◌, length, take, slice_get, Option, None, Some, IfSome, sym, ap, ◌∙◌, subst, arith, length-append}
 use Rattle.std.proofs.lemmas.List.{take_more}
 use Rattle.std.proofs.lemmas.Option.{slice_get_within, get_or_from_slice_get}
-use Rattle.vol_words.specs.Fields.{Block}
+use Rattle.base_words.specs.Fields.{Block}
 
 -- the first `lbn` blocks are read, the image has the blocks and the size that it had, and its count did not fall
 pub record HasLoaded (told told' : Option (List Block)) (size size' before now lbn : ℕ) (all : List Block) : Type 0 where

@@ -1,6 +1,6 @@
 -- What an image holds, and what a drive is.
 use Rattle.std.specs.Prelude.{◌≡◌, ◌≤◌, ◌<◌, ◌⊎◌, ℕ, List, length, slice_set, Option, Some, None}
-use Rattle.vol_words.specs.Fields.{Block}
+use Rattle.base_words.specs.Fields.{Block}
 
 -- where the blocks are told, there are so many
 abbrev pub HasSize : Option (List Block) → ℕ → Type 0

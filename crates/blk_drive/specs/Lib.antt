@@ -2,3 +2,4 @@ pub mod Files
 pub mod Images
 pub mod Loads
 pub mod Memory
+pub mod Telling

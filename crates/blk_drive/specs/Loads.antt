@@ -1,6 +1,6 @@
 -- What a load answers.
 use Rattle.std.specs.Prelude.{◌≡◌, ℕ, Result, Ok, Err}
-use Rattle.vol_words.specs.Faults.{Rose}
+use Rattle.base_words.specs.Faults.{Rose}
 use Rattle.blk_drive.specs.Images.{Drive, IsInside, IsOutside}
 use Rattle.blk_drive.specs.declared.mirror.LoadFault.{LoadFault}
 use Rattle.blk_drive.specs.declared.mirror.LoadFault.TheVariants.{ImageFault, BadSize, NoMemory}

@@ -1,9 +1,10 @@
 -- Images in memory, which fail at chosen calls, and what a contract sees of an image file.
-use Rattle.std.specs.Prelude.{◌+◌, ◌-◌, ◌^◌, ◌==◌, min, ℕ, List, Option, Bool, true, is_some, slice_set, if◌then◌else◌}
+use Rattle.std.specs.Prelude.{◌+◌, ◌-◌, ◌^◌, ◌==◌, ℕ, List, Option, Bool, true, is_some, slice_set, if◌then◌else◌}
 use Rattle.std.specs.List.{find}
 use Rattle.std.specs.Option.{option_map_or}
-use Rattle.vol_words.specs.Fields.{Block}
+use Rattle.base_words.specs.Fields.{Block}
 use Rattle.blk_drive.specs.declared.memory.Fail.{Fail}
+use Rattle.base_words.specs.Faults.{next}
 
 -- the blocks, the calls that fail, how many calls there were, and how many of them failed
 pub record Memory : Type 0 where
@@ -11,10 +12,6 @@ pub record Memory : Type 0 where
   pub failing : List Fail
   pub calls : ℕ
   pub faults : ℕ
-
--- one more, up to the last value of 64 bits
-abbrev pub next : ℕ → ℕ
-next n = min (n + 1) (2 ^ 64 - 1)
 
 -- how the call of this number fails, if it does
 abbrev pub failure_at : List Fail → ℕ → Option Fail

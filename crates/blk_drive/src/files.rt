@@ -2,15 +2,15 @@
 ghost use Rattle.std.specs.Prelude.{◌≡◌, ◌<◌, ◌≤◌, ◌+◌, ◌*◌, ◌^◌, ◌↔◌, false, slice_range, IfOk, IfSome, IsOk, IsTrue, None};
 ghost use Rattle.std.specs.Bool.{OnTrue};
 ghost use Rattle.std.specs.Io.KnownBytes.{Appends, Consumes};
-ghost use Rattle.vol_words.specs.Faults.{HasCause};
+ghost use Rattle.base_words.specs.Faults.{HasCause};
 ghost use Rattle.blk_drive.specs.Files.{place_in};
 
 use crate::{DevFault, ImageDev, NoMemory};
+use base_words::Block;
 use std::alloc::Global;
 use std::fs::OpenFile;
 use std::io::{Read, Seek, SeekFrom, Write};
 use std::marker::Model;
-use vol_words::Block;
 
 // The blocks of a piece that is read ahead: 1 MiB.
 const AHEAD: u32 = 2048;

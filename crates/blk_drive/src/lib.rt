@@ -12,11 +12,13 @@
 //! `load` gives the very blocks of the image, or the image back with the cause. `write` changes one block, on the image and then
 //! in memory. After a failed write memory is as before, and the image's block is whole, old or new. `ImageFault` comes only if
 //! the image's count of faults rose in that call, or is at its last value. What `FileImage` reads and writes is only tested.
+//!
+//! `vol_init` and `vol_rebuild` write through it, the core shares it, and the programs open images with it.
 #![tactic(auto)]
 
 ghost use Rattle.std.specs.Prelude.{◌≡◌, ◌<◌, ◌⊎◌, ℕ, List, Option, Some, slice_get, IfOk, IfSome, OnOk, OnErr};
-ghost use Rattle.vol_words.specs.Fields.{Block};
-ghost use Rattle.vol_words.specs.Faults.{HasCause};
+ghost use Rattle.base_words.specs.Fields.{Block};
+ghost use Rattle.base_words.specs.Faults.{HasCause};
 ghost use Rattle.blk_drive.specs.Images.{HasSize, told_set};
 
 mod files;
@@ -66,6 +68,3 @@ pub trait ImageDev: Drop {
 
     ghost counted: { (image : Self) → HasSize (told image) (size image) };
 }
-
-#[cfg(test)]
-mod tests;

@@ -1,12 +1,12 @@
 //! An image in memory, which fails at the calls that a list names.
 ghost use Rattle.std.specs.Prelude.{◌≡◌, ◌<◌, ◌≤◌, ◌^◌, ◌⊎◌, ◌↔◌, length, slice_get, Some, IfOk, OnOk, OnErr, OnSome, IsErr, IsSome, refl};
-ghost use Rattle.vol_words.specs.Faults.{HasCause, Rose};
+ghost use Rattle.base_words.specs.Faults.{HasCause, Rose};
 ghost use Rattle.blk_drive.specs.Images.{told_set};
 ghost use Rattle.blk_drive.specs.Memory.{failure_at, failure, called, written};
 
 use crate::{DevFault, ImageDev};
+use base_words::Block;
 use std::marker::Model;
-use vol_words::Block;
 
 /// A call that fails: its number, counted from 1, and whether a write that fails there is on the image all the same.
 #[derive(Clone, Copy, Debug)]

@@ -1,13 +1,13 @@
 //! The drive in memory: all blocks of an image, each write going to the image first.
 ghost use Rattle.std.specs.Prelude.{◌≡◌, ◌<◌, ◌≤◌, ◌⊎◌, length, vec_len, slice_get, slice_set, Some, IfOk, IfErr, IfSome, OnOk, OnErr};
-ghost use Rattle.vol_words.specs.Faults.{HasCause};
+ghost use Rattle.base_words.specs.Faults.{HasCause};
 ghost use Rattle.blk_drive.specs.Images.{IsInside, told_set};
 ghost use Rattle.blk_drive.specs.Loads.{image_of, HasLoadCause};
 
 use crate::{DevFault, ImageDev};
+use base_words::Block;
 use std::alloc::{AllocError, AllocFailed, Global};
 use std::marker::Model;
-use vol_words::Block;
 
 /// Memory ran out.
 pub type NoMemory = AllocError;

@@ -1,5 +1,5 @@
 -- A run adds answers to its history, and the deaths for which its script has kills; nothing is mended.
-use Rattle.std.proofs.Common.{◌≡◌, ◌==◌, ◌++◌, ◌&&◌, ◌||◌, not, ℕ, Bool, true, false, cond, List, [], ◌∷◌, Option, Some, None, refl, ap}
+use Rattle.std.proofs.Common.{◌≡◌, ◌==◌, ◌++◌, not, ℕ, Bool, true, false, cond, List, [], ◌∷◌, Option, Some, None, refl}
 use Rattle.std.specs.List.{list_any}
 use Rattle.plain_cat.specs.declared.command.Cmd.{Cmd}
 use Rattle.plain_cat.specs.declared.reply.Reply.{Reply}
@@ -9,12 +9,14 @@ use Rattle.plain_cat.specs.declared.script.Script.{Script}
 use Rattle.plain_cat.specs.declared.history.Stage.{Stage}
 use Rattle.plain_cat.specs.declared.history.Entry.{Entry}
 use Rattle.plain_cat.specs.declared.history.Entry.TheVariants.{Done, Died, Mended}
-use Rattle.plain_vol.specs.Own.{Killed, is_mending}
+use Rattle.plain_rules.specs.Own.{Killed, is_mending}
 use Rattle.core_state.specs.Worlds.{NodeState, Plain, node_at}
 use Rattle.core_state.specs.Event.{Event}
 use Rattle.core_state.specs.Event as event
-use Rattle.core_state.specs.Deaths.{comes_at, kills, kills_at, is_due, died_at, died, after_step}
+use Rattle.core_state.specs.Deaths.{kills, kills_at, is_due, died_at, died, after_step}
 use Rattle.core_state.specs.Events.{would_go, asked_by, readied_at, readied, next_event, happens, happen_at, after_turn, is_over}
+use Rattle.core_state.proofs.Kills.{any_kill}
+use Rattle.std.proofs.lemmas.Bool.{and_parts}
 
 -- nodes die only where the script kills them, and nothing is mended
 abbrev IsOrderly : Script → List Entry → Type 0
@@ -82,26 +84,6 @@ turn_keeps w n p = at_keeps (readied w n) n (node_at (readied w n).nodes n) (nex
 
 -- ---- a death comes where the script has a kill for the node
 
-first_part : (a b : Bool) → (a && b) ≡ true → a ≡ true
-first_part true b e = refl
-first_part false b e = e
-
-second_part : (a b : Bool) → (a && b) ≡ true → b ≡ true
-second_part true b e = e
-second_part false b e = absurd (let f : false ≡ true = e in cc)
-
-any_kill : (w : Plain) (n : ℕ) (s : NodeState) (ks : List Kill) → list_any (kills w n s) ks ≡ true → list_any (λ (k : Kill). k.node == n) ks ≡ true
-any_kill w n s [] e = e
-any_kill w n s (k ∷ ks) e = by_first (kills w n s k) refl e (any_kill w n s ks) where
-  either : (b : Bool) → list_any (λ (j : Kill). j.node == n) ks ≡ true → (b || list_any (λ (j : Kill). j.node == n) ks) ≡ true
-  either true h = refl
-  either false h = h
-
-  by_first : (b : Bool) → kills w n s k ≡ b → (b || list_any (kills w n s) ks) ≡ true → (list_any (kills w n s) ks ≡ true → list_any (λ (j : Kill). j.node == n) ks ≡ true)
-      → ((k.node == n) || list_any (λ (j : Kill). j.node == n) ks) ≡ true
-  by_first true f g more = ap (λ b. b || list_any (λ (j : Kill). j.node == n) ks) (first_part (k.node == n) (comes_at k.at s (next_event w n)) f)
-  by_first false f g more = either (k.node == n) (more g)
-
 died_keeps : (w : Plain) (n : ℕ) (o : Option NodeState) → kills_at w n o ≡ true → IsAnswered w → IsAnswered (died_at w n o)
 died_keeps w n None e p = p
 died_keeps w n (Some s) e p = record { orderly = dead_more w.script w.history n _ _ _ (any_kill w n s w.script.kills e) p.orderly }
@@ -109,5 +91,5 @@ died_keeps w n (Some s) e p = record { orderly = dead_more w.script w.history n 
 pub step_keeps : (w : Plain) (n : ℕ) → IsAnswered w → IsAnswered (after_step w n)
 step_keeps w n p = by_due (is_due w n) refl where
   by_due : (b : Bool) → is_due w n ≡ b → IsAnswered (cond b (died w n) (after_turn w n))
-  by_due true e = died_keeps w n (node_at w.nodes n) (second_part (not (is_over w n)) (kills_at w n (node_at w.nodes n)) e) p
+  by_due true e = died_keeps w n (node_at w.nodes n) (and_parts (not (is_over w n)) (kills_at w n (node_at w.nodes n)) e).1 p
   by_due false e = turn_keeps w n p

@@ -1,35 +1,36 @@
 -- A run whose drive is mended then: what is said of its steps is said of the whole.
 use Rattle.std.proofs.Common.{◌≡◌, ◌≤◌, ◌⊎◌, ℕ, List, Option, Some, None, IfSome, refl, sym, ap, subst, inl, inr}
-use Rattle.vol_words.specs.Fields.{Block}
+use Rattle.base_words.specs.Fields.{Block}
 use Rattle.blk_drive.specs.Images.{IsInside}
 use Rattle.plain_cat.specs.declared.cat.Cat.{Cat}
 use Rattle.plain_cat.specs.declared.script.Script.{Script}
 use Rattle.plain_cat.specs.declared.history.Entry.TheVariants as entry
-use Rattle.plain_vol.specs.Own.{Whole}
-use Rattle.node_past.proofs.Growing.{replays_grow}
+use Rattle.plain_rules.specs.Own.{Whole}
+use Rattle.plain_past.proofs.Growing.{replays_grow}
 use Rattle.vol_parts.specs.declared.finding.Finding.{Finding}
 use Rattle.vol_parts.specs.Findings.{Accepts}
 use Rattle.core_state.specs.Worlds.{Plain}
 use Rattle.core_state.specs.Goods.{Good}
-use Rattle.core_state.specs.Images.{told_as}
+use Rattle.blk_drive.specs.Telling.{told_as}
 use Rattle.core_state.specs.Mounting.{IsMounted, IsMountEnd}
 use Rattle.core_state.specs.declared.mounting.MountFault.{MountFault}
-use Rattle.run_engine.specs.Walks.{played, budget_of, IsRotatedIn, AllOver, Stays}
+use Rattle.run_engine.specs.Walks.{played, budget_of, IsRotatedIn, Stays}
+use Rattle.core_state.specs.Ends.{AllOver}
 use Rattle.run_engine.specs.Ended.{HasEnded}
 use Rattle.run_engine.specs.declared.status.Status.{Status}
 use Rattle.run_engine.specs.declared.status.Status.TheVariants as status
 use Rattle.run_engine.proofs.Ending.{over_is_spelt}
-use Rattle.run_top.specs.declared.stop.Stop.{Stop}
-use Rattle.run_top.specs.declared.stop.Stop.TheVariants as stop
-use Rattle.run_top.specs.Scripts.{IsScriptOf, SpellsWithin}
-use Rattle.run_top.specs.Stops.{report_text, mount_status}
-use Rattle.run_top.specs.Statuses.{IsAccepted, status_text}
-use Rattle.run_top.specs.Halts.{halt_of, IsPartlyBy, IsMendedBy, IsHaltBy}
-use Rattle.run_top.proofs.Given.{of_told, rose_later, good}
-use Rattle.run_top.proofs.MendedDrives.{retold}
-use Rattle.clus_top.specs.declared.run.Printed.TheVariants as printed
-use Rattle.run_top.specs.declared.mending.Halt.{Halt}
-use Rattle.run_top.specs.declared.mending.Halt.TheVariants as halt
+use Rattle.run_engine.specs.declared.stop.Stop.{Stop}
+use Rattle.run_engine.specs.declared.stop.Stop.TheVariants as stop
+use Rattle.run_engine.specs.Scripts.{IsScriptOf, SpellsWithin}
+use Rattle.run_engine.specs.Stops.{report_text, mount_status}
+use Rattle.run_engine.specs.Texts.{IsAccepted, status_text}
+use Rattle.run_engine.specs.Halts.{halt_of, IsPartlyBy, IsMendedBy, IsHaltBy}
+use Rattle.run_engine.proofs.Given.{of_told, rose_later, good}
+use Rattle.run_engine.proofs.MendedDrives.{retold}
+use Rattle.clus_top.specs.declared.run_job.Printed.TheVariants as printed
+use Rattle.run_engine.specs.declared.over_mending.Halt.{Halt}
+use Rattle.run_engine.specs.declared.over_mending.Halt.TheVariants as halt
 use Rattle.clus_top.specs.Runs.{HasRunToEnd}
 use Rattle.clus_top.specs.MendedRuns.{HasRunAndMended, IsMendedReport, IsPartlyMended, IsUnmended, IsUnmendable}
 use Rattle.clus_top.specs.Images.{IsLackingDriveOf, IsCutOf, IsCutShort, IsMendingCutShort, IsUnmendedText}

@@ -1,16 +1,16 @@
 -- A run of a script on an image: what is said of the blocks of its drive is said of those that the image told.
 use Rattle.std.proofs.Common.{◌≡◌, ◌≤◌, ℕ, List, Option, IfSome, inl, inr}
-use Rattle.vol_words.specs.Fields.{Block}
+use Rattle.base_words.specs.Fields.{Block}
 use Rattle.blk_drive.specs.Images.{IsInside}
 use Rattle.plain_cat.specs.declared.script.Script.{Script}
 use Rattle.vol_parts.specs.Findings.{Accepts}
 use Rattle.vol_analyze.specs.Judging.{IsFirstFound}
 use Rattle.run_engine.specs.declared.status.Status.{Status}
 use Rattle.run_engine.specs.declared.status.Status.TheVariants as status
-use Rattle.run_top.specs.declared.stop.Stop.{Stop}
-use Rattle.run_top.specs.declared.stop.Stop.TheVariants as stop
-use Rattle.run_top.proofs.Given.{of_told, rose_later}
-use Rattle.clus_top.specs.declared.run.Printed.{Printed}
+use Rattle.run_engine.specs.declared.stop.Stop.{Stop}
+use Rattle.run_engine.specs.declared.stop.Stop.TheVariants as stop
+use Rattle.run_engine.proofs.Given.{of_told, rose_later}
+use Rattle.clus_top.specs.declared.run_job.Printed.{Printed}
 use Rattle.clus_top.specs.Ends.{IsEndIn, IsLackingIn, IsCutIn, IsCutShortIn, IsStopIn, IsStopBy, IsImageEnd, IsImageStop}
 
 module _ (script : Script) (size : ℕ) (told new : Option (List Block)) (blocks : List Block) (same : IfSome told (λ bs. blocks ≡ bs)) where

@@ -1,18 +1,18 @@
 -- A run of the script of a job: what is printed of it, and what the image has.
 use Rattle.std.proofs.Common.{ℕ, List, Option, Some, None, IfSome, refl, inl, inr}
-use Rattle.vol_words.specs.Fields.{Block}
+use Rattle.base_words.specs.Fields.{Block}
 use Rattle.plain_cat.specs.declared.script.Script.{Script}
 use Rattle.run_engine.specs.declared.status.Status.{Status}
 use Rattle.run_engine.specs.declared.status.Status.TheVariants as status
-use Rattle.run_top.specs.Scripts.{IsScriptOf, SpellsWithin}
-use Rattle.run_top.specs.Statuses.{status_text}
-use Rattle.run_top.proofs.Given.{good}
+use Rattle.run_engine.specs.Scripts.{IsScriptOf, SpellsWithin}
+use Rattle.run_engine.specs.Texts.{status_text}
+use Rattle.run_engine.proofs.Given.{good}
 use Rattle.clus_top.specs.Runs.{IsSoakOf, HasRunToEnd, IsReport}
 use Rattle.clus_top.specs.Statuses.{IsReportOn, IsSummaryOn}
-use Rattle.run_top.specs.declared.stop.Stop.{Stop}
-use Rattle.run_top.specs.declared.stop.Stop.TheVariants as stop
-use Rattle.clus_top.specs.declared.run.Printed.{Printed}
-use Rattle.clus_top.specs.declared.run.Printed.TheVariants as printed
+use Rattle.run_engine.specs.declared.stop.Stop.{Stop}
+use Rattle.run_engine.specs.declared.stop.Stop.TheVariants as stop
+use Rattle.clus_top.specs.declared.run_job.Printed.{Printed}
+use Rattle.clus_top.specs.declared.run_job.Printed.TheVariants as printed
 use Rattle.clus_top.specs.Ends.{IsDriveIn, IsEndIn, IsLackingIn, IsCutIn, IsCutShortIn, IsImageEnd, IsImageStop, IsRunEnd, IsRunStop, IsSoakEnd, IsSoakStop, IsQuietImage, IsStopImage}
 use Rattle.clus_top.proofs.Stopping.{run_stops, torn_stops}
 use Rattle.clus_top.specs.Images.{IsDriveOf, IsLastDriveOf, IsLackingDriveOf, IsCutOf, IsCutShort}

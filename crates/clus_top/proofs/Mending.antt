@@ -1,7 +1,7 @@
 -- A mending of the volume of an image: what is said of the blocks in memory is said of those that the image told.
 use Rattle.std.proofs.Common.{◌≡◌, ◌≤◌, ◌⊎◌, ◌∙◌, ℕ, List, Option, Some, None, IfSome, Result, Ok, Err, slice_set, refl, sym, subst, inl, inr}
-use Rattle.vol_words.specs.Fields.{Block}
-use Rattle.vol_words.specs.Faults.{Rose}
+use Rattle.base_words.specs.Fields.{Block}
+use Rattle.base_words.specs.Faults.{Rose}
 use Rattle.blk_drive.specs.Images.{IsInside, IsOutside}
 use Rattle.blk_drive.specs.declared.mirror.LoadFault.{LoadFault}
 use Rattle.blk_drive.specs.declared.mirror.LoadFault.TheVariants as load
@@ -11,11 +11,13 @@ use Rattle.vol_parts.specs.Findings.{IsFatal, IsFirstFatal, Weak}
 use Rattle.vol_rebuild.specs.declared.fault.RebuildFault.{RebuildFault}
 use Rattle.vol_rebuild.specs.declared.fault.RebuildFault.TheVariants as rebuild
 use Rattle.vol_rebuild.specs.Rebuilt.{IsRebuilt, IsRefusal}
-use Rattle.vol_rebuild.specs.Ways.{Shows, told_as, IsWay, IsAhead}
+use Rattle.vol_rebuild.specs.Ways.{IsWay, IsAhead}
+use Rattle.blk_drive.specs.Telling.{IsTold as Shows}
+use Rattle.blk_drive.specs.Telling.{told_as}
 use Rattle.run_engine.specs.declared.status.Status.{Status}
 use Rattle.run_engine.specs.declared.status.Status.TheVariants as status
-use Rattle.run_top.specs.Stops.{load_status}
-use Rattle.run_top.proofs.Given.{of_told, rose_later}
+use Rattle.run_engine.specs.Stops.{load_status}
+use Rattle.run_engine.proofs.Given.{of_told, rose_later}
 use Rattle.clus_top.specs.Ends.{rebuild_status, IsRebuildEnd}
 use Rattle.clus_top.specs.Images.{IsRebuildImage}
 use Rattle.clus_top.specs.Mendings.{mending_text, IsMendedImage, IsMendingText, IsStillToMend}

@@ -1,7 +1,7 @@
 -- Of all statuses exactly one is due, but for faults and want of memory.
 use Rattle.std.proofs.Common.{◌≡◌, ℕ, true, List, [], ◌∷◌, Option, Some, None, refl, sym, ap, ◌∙◌, inl, inr}
 use Rattle.std.proofs.lemmas.Bool.{false≢true}
-use Rattle.vol_words.specs.Fields.{Block}
+use Rattle.base_words.specs.Fields.{Block}
 use Rattle.blk_drive.specs.Images.{IsInside, IsOutside}
 use Rattle.vol_parts.specs.declared.finding.Finding.{Finding}
 use Rattle.vol_parts.specs.Findings.{Weak, AreFindings, Accepts, IsFirstFatal}
@@ -12,8 +12,9 @@ use Rattle.vol_init.specs.declared.fault.InitFault.{InitFault}
 use Rattle.vol_init.specs.Refusals.{refusal}
 use Rattle.run_engine.specs.declared.status.Status.{Status}
 use Rattle.run_engine.specs.declared.status.Status.TheVariants as status
-use Rattle.run_top.specs.Verdicts.{is_verdict, is_mended_verdict, IsRunDue}
-use Rattle.run_top.proofs.Verdicts.{is_size, outside, OneList, unfound, same_first, AloneInRun, alone_good, words_alone, run_verdict}
+use Rattle.run_engine.specs.Verdicts.{is_verdict, is_mended_verdict, IsRunDue}
+use Rattle.blk_drive.proofs.Sizes.{is_size, outside}
+use Rattle.run_engine.proofs.Verdicts.{OneList, unfound, same_first, AloneInRun, alone_good, words_alone, run_verdict}
 use Rattle.clus_top.specs.Words.{Wanted, Run, RunRebuild, Soak, Analyze, Rebuild, Init}
 use Rattle.clus_top.specs.Statuses.{IsRunRebuildDue, IsSoakDue, IsAnalysisDue, IsRebuildDue, sized, IsPossible, IsInitDue, IsDue}
 use Rattle.clus_top.specs.Verdicts.{is_verdict_of, HasOneVerdict, RunsGood}

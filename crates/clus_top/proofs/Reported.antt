@@ -1,16 +1,16 @@
 -- The report of a run is the report of a history that replays, and the image has what the run wrote.
 use Rattle.std.proofs.Common.{◌≡◌, ◌∙◌, ◌⊎◌, ℕ, true, List, Option, Result, Err, All, length, refl, sym, ap, subst, arith, inl, inr}
 use Rattle.std.specs.Prelude.{slice_index_or, OnErr}
-use Rattle.vol_words.specs.Fields.{Block}
-use Rattle.vol_words.specs.Faults.{Rose}
+use Rattle.base_words.specs.Fields.{Block}
+use Rattle.base_words.specs.Faults.{Rose}
 use Rattle.plain_cat.specs.declared.cat.Cat.{Cat}
 use Rattle.plain_cat.specs.declared.script.Script.{Script}
-use Rattle.plain_vol.specs.Own.{Whole, Killed}
-use Rattle.plain_vol.specs.Replaying.{Replays}
+use Rattle.plain_rules.specs.Own.{Whole, Killed}
+use Rattle.plain_rules.specs.Replaying.{Replays}
 use Rattle.vol_parts.specs.declared.geometry.Geometry.{Geometry}
 use Rattle.plain_cat.specs.InForm.{InForm, is_within}
 use Rattle.run_script.proofs.Pieces.{limits}
-use Rattle.core_state.specs.Images.{told_as}
+use Rattle.blk_drive.specs.Telling.{told_as}
 use Rattle.core_state.specs.Worlds.{Plain, IsOfWorld}
 use Rattle.core_state.specs.Goods.{Good}
 use Rattle.core_state.specs.Mounting.{IsMounted, IsMountEnd}
@@ -18,20 +18,21 @@ use Rattle.core_state.specs.declared.mounting.MountFault.{MountFault}
 use Rattle.core_state.specs.declared.mounting.MountFault.TheVariants as mount
 use Rattle.run_engine.specs.declared.fault.RunFault.{RunFault}
 use Rattle.run_engine.specs.declared.fault.RunFault.TheVariants as run
-use Rattle.run_engine.specs.Walks.{played, budget_of, IsPartOfWalk, IsRotatedIn, AllOver, IsNextIn, IsBeforeWrite, IsBeforeTaking, Stays}
+use Rattle.run_engine.specs.Walks.{played, budget_of, IsPartOfWalk, IsRotatedIn, IsNextIn, IsBeforeWrite, IsBeforeTaking, Stays}
+use Rattle.core_state.specs.Ends.{AllOver}
 use Rattle.run_engine.specs.Ended.{IsSpelt, HasEnded}
 use Rattle.run_engine.proofs.Driving.{told_well}
-use Rattle.run_top.specs.Stops.{IsStopOf, mount_status}
-use Rattle.run_top.proofs.Results.{on_err, same_err}
+use Rattle.run_engine.specs.Stops.{IsStopOf, mount_status}
+use Rattle.run_engine.proofs.Results.{on_err, same_err}
 use Rattle.clus_top.specs.Runs.{HasRun, LacksMemory}
-use Rattle.run_top.specs.declared.stop.Stop.{Stop}
-use Rattle.run_top.specs.declared.stop.Stop.TheVariants as stop
-use Rattle.clus_top.specs.declared.run.Printed.{Printed}
+use Rattle.run_engine.specs.declared.stop.Stop.{Stop}
+use Rattle.run_engine.specs.declared.stop.Stop.TheVariants as stop
+use Rattle.clus_top.specs.declared.run_job.Printed.{Printed}
 use Rattle.clus_top.specs.Ends.{printed_text, IsWholeIn, IsDriveIn, IsEndIn, IsLackingIn, IsCutIn, IsStopIn, IsStopBy}
-use Rattle.run_top.proofs.Walked.{over_walk}
+use Rattle.run_engine.proofs.Walked.{over_walk}
 use Rattle.clus_top.proofs.Used.{walk_uses}
 use Rattle.clus_top.proofs.Answered.{IsAnswered, step_keeps}
-use Rattle.run_top.proofs.MountedVolumes.{mounted_geometry}
+use Rattle.run_engine.proofs.MountedVolumes.{mounted_geometry}
 
 -- ---- a run on a mounted volume
 

@@ -1,14 +1,15 @@
 -- A run whose drive is mended then: what its status, its text and its image say where it is not mended.
 use Rattle.std.proofs.Common.{◌≡◌, ◌∙◌, ◌⊎◌, ℕ, List, Option, refl, sym, subst, inl, inr}
-use Rattle.vol_words.specs.Fields.{Block}
-use Rattle.vol_words.specs.Faults.{Rose}
+use Rattle.base_words.specs.Fields.{Block}
+use Rattle.base_words.specs.Faults.{Rose}
 use Rattle.plain_cat.specs.declared.script.Script.{Script}
 use Rattle.run_engine.specs.declared.status.Status.{Status}
 use Rattle.run_engine.specs.declared.status.Status.TheVariants as status
-use Rattle.run_top.specs.declared.mending.Halt.{Halt}
-use Rattle.run_top.specs.declared.mending.Halt.TheVariants as halt
-use Rattle.run_top.specs.Statuses.{status_text, IsWritten, Writes}
-use Rattle.run_top.specs.Halts.{IsToldHalt}
+use Rattle.run_engine.specs.declared.over_mending.Halt.{Halt}
+use Rattle.run_engine.specs.declared.over_mending.Halt.TheVariants as halt
+use Rattle.run_engine.specs.Texts.{status_text, Writes}
+use Rattle.fx_text.specs.Written.{IsWritten}
+use Rattle.run_engine.specs.Halts.{IsToldHalt}
 use Rattle.clus_top.specs.Statuses.{IsRunRebuildDue}
 use Rattle.clus_top.specs.Images.{IsMendedFaultText, IsRunRebuildImage}
 use Rattle.clus_top.specs.Ends.{IsRunEnd}

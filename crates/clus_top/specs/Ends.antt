@@ -1,29 +1,30 @@
 -- How the steps of a job end.
 use Rattle.std.specs.Prelude.{◌≡◌, ◌⊎◌, ℕ, false, List, [], ◌∷◌, Option, Some, IfSome}
 use Rattle.std.specs.List.{list_any}
-use Rattle.vol_words.specs.Fields.{Block}
-use Rattle.vol_words.specs.Faults.{Rose}
+use Rattle.base_words.specs.Fields.{Block}
+use Rattle.base_words.specs.Faults.{Rose}
 use Rattle.blk_drive.specs.Images.{IsInside, IsOutside}
 use Rattle.fx_home.specs.Homes.{home_read}
 use Rattle.plain_cat.specs.declared.cat.Cat.{Cat}
 use Rattle.plain_cat.specs.declared.script.Script.{Script}
-use Rattle.plain_vol.specs.Own.{Whole, Killed, is_mending}
-use Rattle.plain_vol.specs.Replaying.{Replays}
+use Rattle.plain_rules.specs.Own.{Whole, Killed, is_mending}
+use Rattle.plain_rules.specs.Replaying.{Replays}
 use Rattle.core_state.specs.Worlds.{Plain}
-use Rattle.core_state.specs.Images.{told_as}
-use Rattle.run_engine.specs.Walks.{played, budget_of, AllOver, IsRotatedIn, IsNextIn, IsBeforeWrite}
+use Rattle.blk_drive.specs.Telling.{told_as}
+use Rattle.run_engine.specs.Walks.{played, budget_of, IsRotatedIn, IsNextIn, IsBeforeWrite}
+use Rattle.core_state.specs.Ends.{AllOver}
 use Rattle.run_engine.specs.Ended.{IsSpelt}
 use Rattle.vol_parts.specs.declared.finding.Finding.{Finding}
 use Rattle.vol_parts.specs.declared.geometry.Geometry.{Geometry}
 use Rattle.vol_parts.specs.Findings.{home_at, AreFindings, Accepts, CatOf, IsFirstFatal}
 use Rattle.vol_faults.specs.Free.{IsGeometryBy}
 use Rattle.vol_analyze.specs.Judging.{IsFirstFound}
-use Rattle.run_top.specs.declared.stop.Stop.{Stop}
-use Rattle.run_top.specs.declared.stop.Stop.TheVariants as stop
-use Rattle.run_top.specs.Stops.{report_text}
-use Rattle.run_top.specs.Statuses.{IsTooLong, IsBad, IsOverfull, IsGood, status_text, cut_text}
-use Rattle.clus_top.specs.declared.run.Printed.{Printed}
-use Rattle.clus_top.specs.declared.run.Printed.TheVariants as printed
+use Rattle.run_engine.specs.declared.stop.Stop.{Stop}
+use Rattle.run_engine.specs.declared.stop.Stop.TheVariants as stop
+use Rattle.run_engine.specs.Stops.{report_text}
+use Rattle.run_engine.specs.Texts.{IsTooLong, IsBad, IsOverfull, IsGood, status_text, cut_text}
+use Rattle.clus_top.specs.declared.run_job.Printed.{Printed}
+use Rattle.clus_top.specs.declared.run_job.Printed.TheVariants as printed
 use Rattle.run_engine.specs.declared.status.Status.{Status}
 use Rattle.run_engine.specs.declared.status.Status.TheVariants as status
 use Rattle.clus_top.specs.Runs.{summary_text, HasRun, LacksMemory}

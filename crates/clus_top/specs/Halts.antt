@@ -1,17 +1,17 @@
 -- How the steps of a run end whose drive is mended then.
 use Rattle.std.specs.Prelude.{◌≡◌, ◌⊎◌, ℕ, List, Option, IfSome}
-use Rattle.vol_words.specs.Fields.{Block}
-use Rattle.vol_words.specs.Faults.{Rose}
+use Rattle.base_words.specs.Fields.{Block}
+use Rattle.base_words.specs.Faults.{Rose}
 use Rattle.plain_cat.specs.declared.script.Script.{Script}
 use Rattle.vol_parts.specs.declared.finding.Finding.{Finding}
 use Rattle.run_engine.specs.declared.status.Status.{Status}
 use Rattle.run_engine.specs.declared.status.Status.TheVariants as status
-use Rattle.run_top.specs.Scripts.{IsScriptOf}
-use Rattle.run_top.specs.Halts.{IsPartlyBy, IsMendedBy, IsUnmendedBy}
-use Rattle.run_top.specs.Statuses.{IsGood, IsAccepted, status_text, cut_text}
-use Rattle.clus_top.specs.declared.run.Printed.TheVariants as printed
-use Rattle.run_top.specs.declared.mending.Halt.{Halt}
-use Rattle.run_top.specs.declared.mending.Halt.TheVariants as halt
+use Rattle.run_engine.specs.Scripts.{IsScriptOf}
+use Rattle.run_engine.specs.Halts.{IsPartlyBy, IsMendedBy, IsUnmendedBy}
+use Rattle.run_engine.specs.Texts.{IsGood, IsAccepted, status_text, cut_text}
+use Rattle.clus_top.specs.declared.run_job.Printed.TheVariants as printed
+use Rattle.run_engine.specs.declared.over_mending.Halt.{Halt}
+use Rattle.run_engine.specs.declared.over_mending.Halt.TheVariants as halt
 use Rattle.clus_top.specs.MendedRuns.{IsPartlyMended, IsUnmendable}
 use Rattle.clus_top.specs.Images.{IsLackingDriveOf, IsCutShort, IsMendingCutShort, IsUnmendedText}
 use Rattle.clus_top.specs.Ends.{IsEndIn, IsCutIn, IsCutShortIn, IsStopIn, IsImageEnd, IsRunEnd, IsQuietImage}

@@ -1,6 +1,6 @@
 -- What the image has after a job.
 use Rattle.std.specs.Prelude.{◌≡◌, ◌⊎◌, ℕ, List, Option, Some, None, IfSome}
-use Rattle.vol_words.specs.Fields.{Block}
+use Rattle.base_words.specs.Fields.{Block}
 use Rattle.fx_home.specs.declared.home.Home.{Home}
 use Rattle.vol_init.specs.Refusals.{home_of}
 use Rattle.vol_init.specs.Made.{IsMade, IsLeft}
@@ -8,10 +8,11 @@ use Rattle.run_engine.specs.declared.status.Status.{Status}
 use Rattle.run_engine.specs.declared.status.Status.TheVariants as status
 use Rattle.plain_cat.specs.declared.script.Script.{Script}
 use Rattle.core_state.specs.Worlds.{Plain}
-use Rattle.run_engine.specs.Walks.{AllOver, IsNextIn, IsBeforeWrite}
-use Rattle.run_top.specs.Scripts.{IsScriptOf}
-use Rattle.run_top.specs.Statuses.{status_text, cut_text, unmended_text, IsPlainText}
-use Rattle.stopped_runs.specs.Stops.{CanStop, IsTornRun}
+use Rattle.run_engine.specs.Walks.{IsNextIn, IsBeforeWrite}
+use Rattle.core_state.specs.Ends.{AllOver}
+use Rattle.run_engine.specs.Scripts.{IsScriptOf}
+use Rattle.run_engine.specs.Texts.{status_text, cut_text, unmended_text, IsPlainText}
+use Rattle.run_engine.specs.Torn.{CanStop, IsTornRun}
 use Rattle.clus_top.specs.Words.{Wanted, Run, RunRebuild, Soak, Analyze, Rebuild, Init}
 use Rattle.clus_top.specs.Runs.{IsSoakOf, HasRun, LacksMemory}
 use Rattle.vol_parts.specs.declared.finding.Finding.{Finding}

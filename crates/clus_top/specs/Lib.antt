@@ -1,9 +1,10 @@
-pub mod Words
-pub mod Runs
-pub mod Mendings
-pub mod MendedRuns
-pub mod Statuses
-pub mod Images
+pub mod Calls
 pub mod Ends
 pub mod Halts
+pub mod Images
+pub mod MendedRuns
+pub mod Mendings
+pub mod Runs
+pub mod Statuses
 pub mod Verdicts
+pub mod Words

@@ -1,14 +1,14 @@
 -- What a run leaves whose drive is mended once the last node is over.
 use Rattle.std.specs.Prelude.{◌≡◌, ℕ, List, Option, Some}
-use Rattle.vol_words.specs.Fields.{Block}
+use Rattle.base_words.specs.Fields.{Block}
 use Rattle.plain_cat.specs.declared.script.Script.{Script}
 use Rattle.plain_cat.specs.declared.history.Mended.{Mended}
-use Rattle.plain_vol.specs.Replaying.{Replays}
+use Rattle.plain_rules.specs.Replaying.{Replays}
 use Rattle.vol_parts.specs.declared.finding.Finding.{Finding}
-use Rattle.stopped_worlds.specs.Mending.{IsMended}
+use Rattle.run_engine.specs.Mending.{IsMended}
 use Rattle.run_engine.specs.Mendings.{StillMends, IsRoomless}
-use Rattle.run_top.specs.Stops.{report_text}
-use Rattle.run_top.specs.Halts.{with_mending}
+use Rattle.run_engine.specs.Stops.{report_text}
+use Rattle.run_engine.specs.Halts.{with_mending}
 use Rattle.clus_top.specs.Runs.{HasRunToEnd}
 
 -- A run has come to its end, and then its drive was mended. The history has one entry more, a mending, and replays with it. The image has

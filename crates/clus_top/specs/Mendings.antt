@@ -1,11 +1,11 @@
 -- What a mending of a volume leaves, and what is printed of it.
 use Rattle.std.specs.Prelude.{◌≡◌, ◌++◌, ℕ, List, Option, Some}
-use Rattle.vol_words.specs.Fields.{Block}
+use Rattle.base_words.specs.Fields.{Block}
 use Rattle.plain_cat.specs.declared.cat.Cat.{Cat}
 use Rattle.plain_cat.specs.declared.history.Mended.{Mended}
 use Rattle.vol_parts.specs.declared.finding.Finding.{Finding}
 use Rattle.vol_parts.specs.Findings.{IsFatal}
-use Rattle.vol_texts.specs.Reports.{newline, mended_text}
+use Rattle.plain_texts.specs.Reports.{newline, mended_text}
 use Rattle.vol_mends.specs.Mends.{Mends}
 use Rattle.vol_rebuild.specs.Rebuilt.{IsRebuilt}
 

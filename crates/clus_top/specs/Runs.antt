@@ -1,13 +1,13 @@
 -- What a run of a script answers on a volume.
 use Rattle.std.specs.Prelude.{◌≡◌, ◌⊎◌, ℕ, false, List, Option, Some}
 use Rattle.std.specs.List.{list_any}
-use Rattle.vol_words.specs.Fields.{Block}
+use Rattle.base_words.specs.Fields.{Block}
 use Rattle.fx_home.specs.Homes.{home_read}
 use Rattle.plain_cat.specs.declared.script.Script.{Script}
 use Rattle.plain_cat.specs.declared.cat.Cat.{Cat}
-use Rattle.plain_vol.specs.Lookups.{free_clusters}
-use Rattle.plain_vol.specs.Own.{Whole, Killed, is_mending}
-use Rattle.plain_vol.specs.Replaying.{Replays}
+use Rattle.plain_rules.specs.Lookups.{free_clusters}
+use Rattle.plain_rules.specs.Own.{Whole, Killed, is_mending}
+use Rattle.plain_rules.specs.Replaying.{Replays}
 use Rattle.vol_parts.specs.declared.geometry.Geometry.{Geometry}
 use Rattle.vol_parts.specs.Findings.{home_at, Accepts, CatOf}
 use Rattle.vol_faults.specs.Free.{IsGeometryBy}
@@ -15,10 +15,11 @@ use Rattle.run_script.specs.Soaks.{soak_script}
 use Rattle.core_state.specs.Worlds.{Plain}
 use Rattle.core_state.specs.Goods.{Good}
 use Rattle.core_state.specs.Mounting.{IsMounted}
-use Rattle.run_engine.specs.Walks.{played, budget_of, IsPartOfWalk, WalkUsesTheDrives, IsRotatedIn, AllOver, IsNextIn, IsBeforeTaking}
+use Rattle.run_engine.specs.Walks.{played, budget_of, IsPartOfWalk, WalkUsesTheDrives, IsRotatedIn, IsNextIn, IsBeforeTaking}
+use Rattle.core_state.specs.Ends.{AllOver}
 use Rattle.run_engine.specs.Ended.{IsSpelt}
 use Rattle.run_engine.specs.Summaries.{summary_bytes}
-use Rattle.run_top.specs.Stops.{report_text}
+use Rattle.run_engine.specs.Stops.{report_text}
 
 -- ---- which script a job runs
 

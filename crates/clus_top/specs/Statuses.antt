@@ -1,23 +1,24 @@
 -- What the status of a call says of what came in, and what was written.
-use Rattle.std.specs.Prelude.{◌≡◌, ◌++◌, ◌-◌, ℕ, List, Option, Some, None, IfSome, codes, decimal}
-use Rattle.vol_words.specs.Fields.{Block}
+use Rattle.std.specs.Prelude.{◌≡◌, ◌++◌, ◌-◌, ℕ, List, Option, Some, None, IfSome, codes}
+use Rattle.base_words.specs.Fields.{Block}
 use Rattle.blk_drive.specs.Images.{IsInside, IsOutside}
-use Rattle.vol_texts.specs.Reports.{newline}
+use Rattle.plain_texts.specs.Reports.{newline}
 use Rattle.vol_parts.specs.declared.finding.Finding.{Finding}
 use Rattle.vol_parts.specs.Findings.{Weak, IsFirstFatal}
 use Rattle.vol_analyze.specs.Judging.{IsFirstFound}
 use Rattle.run_engine.specs.declared.status.Status.{Status}
 use Rattle.run_engine.specs.declared.status.Status.TheVariants as status
-use Rattle.vol_fresh.specs.declared.layout.Layout.{Layout}
-use Rattle.vol_fresh.specs.Layouts.{total, reserved_clusters}
+use Rattle.vol_init.specs.declared.layout.Layout.{Layout}
+use Rattle.vol_init.specs.Layouts.{total, reserved_clusters}
 use Rattle.vol_init.specs.Refusals.{refusal}
-use Rattle.run_top.specs.Scripts.{IsScriptOf}
-use Rattle.run_top.specs.Statuses.{IsGood, IsAccepted, IsWordsDue}
-use Rattle.run_top.specs.Verdicts.{IsRunDue}
+use Rattle.run_engine.specs.Scripts.{IsScriptOf}
+use Rattle.run_engine.specs.Texts.{IsGood, IsAccepted, IsWordsDue}
+use Rattle.run_engine.specs.Verdicts.{IsRunDue}
 use Rattle.clus_top.specs.Words.{Wanted, Run, RunRebuild, Soak, Analyze, Rebuild, Init}
 use Rattle.clus_top.specs.Runs.{IsReport, IsSummary}
 use Rattle.clus_top.specs.Mendings.{IsMendingText}
 use Rattle.clus_top.specs.MendedRuns.{IsMendedReport, IsUnmendable}
+use Rattle.run_engine.specs.Summaries.{counted}
 
 -- ---- volumes
 
@@ -116,10 +117,6 @@ IsSummaryOn n told new text = IfSome told (λ bs. IsSummary n bs new text)
 -- what an analysis says of a volume in which nothing is found
 abbrev pub accepted_text : List ℕ
 accepted_text = codes "accepted" ++ newline
-
--- a number, and the words for what is counted
-unfoldable pub counted : ℕ → List ℕ → List ℕ
-counted n words = decimal n ++ words
 
 -- what a fresh volume has: all clusters but those of the system files are free, and all numbers but theirs
 unfoldable pub room_text : Layout → List ℕ

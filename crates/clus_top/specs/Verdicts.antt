@@ -1,13 +1,13 @@
 -- That of all statuses exactly one is due.
 use Rattle.std.specs.Prelude.{◌≡◌, ℕ, Bool, true, List, Option, Some}
-use Rattle.vol_words.specs.Fields.{Block}
+use Rattle.base_words.specs.Fields.{Block}
 use Rattle.blk_drive.specs.Images.{IsInside}
 use Rattle.vol_parts.specs.Findings.{Accepts}
 use Rattle.run_engine.specs.declared.status.Status.{Status}
 use Rattle.run_engine.specs.declared.status.Status.TheVariants as status
 use Rattle.clus_top.specs.Words.{Wanted, Run, RunRebuild, Soak}
-use Rattle.run_top.specs.Statuses.{IsGood}
-use Rattle.run_top.specs.Verdicts.{is_verdict, is_mended_verdict}
+use Rattle.run_engine.specs.Texts.{IsGood}
+use Rattle.run_engine.specs.Verdicts.{is_verdict, is_mended_verdict}
 use Rattle.clus_top.specs.Statuses.{IsDue}
 
 -- of a job, a status that speaks of what came in alone; of a run that is mended then also not the one that speaks of where it has led

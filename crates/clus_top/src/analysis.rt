@@ -2,12 +2,11 @@ ghost use Rattle.std.specs.Prelude.{◌≡◌, IfOk, IfErr, IfSome, length};
 ghost use Rattle.blk_drive.specs.Images.{IsInside};
 ghost use Rattle.clus_top.specs.Ends.{IsLoadEnd, AreFoundIn};
 
+use base_words::Block;
 use blk_drive::{ImageDev, LoadRefused, Mirror};
-use run_engine::Status;
-use run_top::load_status;
+use run_engine::{Status, load_status};
 use std::alloc::Global;
 use vol_analyze::{Finding, analyze};
-use vol_words::Block;
 
 /// The end of an analysis: what is found or a status, and the image.
 #[derive(Drop)]

@@ -1,18 +1,17 @@
 ghost use Rattle.std.specs.Prelude.{◌≡◌, ◌≤◌, ◌++◌, ◌-◌, length, OnOk, IfOk, IfErr, IfSome, Some};
-ghost use Rattle.vol_fresh.specs.Layouts.{IsLayout, reserved_clusters, total};
+ghost use Rattle.vol_init.specs.Layouts.{IsLayout, reserved_clusters, total};
 ghost use Rattle.vol_init.specs.Refusals.{home_of};
-ghost use Rattle.clus_top.specs.Statuses.{counted, room_text, made_text, sized, IsPossible};
+ghost use Rattle.clus_top.specs.Statuses.{room_text, made_text, sized, IsPossible};
+ghost use Rattle.run_engine.specs.Summaries.{counted};
 ghost use Rattle.clus_top.specs.Ends.{init_status, IsInitEnd};
 ghost use Rattle.clus_top.specs.Images.{IsImageMade, IsFormatted};
 
 use blk_drive::{ImageDev, LoadRefused, Mirror};
 use plain_cat::NoMemory;
-use run_engine::Status;
-use run_top::load_status;
+use plain_texts::{push_bytes, push_number};
+use run_engine::{Status, load_status};
 use std::alloc::Global;
-use vol_fresh::Layout;
-use vol_init::{InitFault, init};
-use vol_texts::{push_bytes, push_number};
+use vol_init::{InitFault, Layout, init};
 
 /// The end of a format: the text of status 0 or another status, and the image.
 #[derive(Drop)]
@@ -22,7 +21,7 @@ pub struct Format<I: ImageDev> {
 }
 
 // Appends a number, and the words for what is counted.
-#[tactic(auto, unfolding(crate::specs::Statuses::counted))]
+#[tactic(auto, unfolding(run_engine::specs::Summaries::counted))]
 fn push_counted(alloc: Global, out: &mut Vec<u8>, n: u32, words: &[u8]) -> Result<(), NoMemory>
     ensures { OnOk result (out.new.items ≡ out.old.items ++ counted n words.now) }
 {

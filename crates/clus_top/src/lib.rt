@@ -1,4 +1,4 @@
-//! The top call: the program `vmsclus` over any image, script source and text sink.
+//! The top call: the program `vmsclus` over any image, script source and text sink; and the program around it, which opens these.
 //!
 //! The words ask for a job: `run` runs a script on a volume, `run --rebuild` mends the volume then too, `soak` runs a script that is
 //! drawn from a number, `analyze` reports what is wrong with a volume, `rebuild` mends it, `init` makes one. `Finished` has the
@@ -6,6 +6,7 @@
 //!
 //! ```text
 //! let finished = vmsclus(alloc, words, image, &mut script, &mut out);
+//! exit_call(rt.alloc(), job, image, &mut script, &mut out)
 //! ```
 //!
 //! Each status comes only under its condition (`due`), and of all inputs one is due, but for faults, want of memory
@@ -14,17 +15,29 @@
 //! with the stages and leaks of deaths (`written`), and the image has the blocks to which they lead (`after`), mended by the
 //! report's last entry if the job is `run --rebuild`. With other statuses these two say what was written, and what the image has. A
 //! fault is reported only if its object's count of faults rose.
+//!
+//! `run` is the whole program. `exit_call` makes the top call with all of the words that it is given, in order, and answers the number
+//! of its status, for which what the top call says holds (`IsEnd`). If there is no memory for the words, the number is that of
+//! `NoMemory`. What `run` takes from the system, words and files, no contract says: stored runs show it, and tests over real files. How the
+//! image's file is opened, locked and synced is in `edge_files`: `analyze` opens it to be read, and every other job to be read and
+//! written.
+//!
+//! `vmsclus` and `vmsclus_init` call `run`; `vmsclus_live` takes the rest from it.
 #![tactic(auto)]
 
 mod analysis;
+mod calling;
+mod files;
 mod format;
 mod rebuild;
-mod run;
+mod run_job;
 mod run_rebuild;
 mod theorems;
 mod top;
 mod words;
 
+pub use calling::{exit_call, exit_code, no_memory, words_of};
+pub use files::run;
 pub use run_engine::{Finished, Status};
 pub use theorems::{good_runs_are_answered, one_status_is_due};
 pub use top::vmsclus;

@@ -1,7 +1,7 @@
 ghost use Rattle.std.specs.Prelude.{◌≡◌, IfErr, IfOk, IfSome, OnOk, length};
 ghost use Rattle.blk_drive.specs.Images.{IsInside};
 ghost use Rattle.vol_parts.specs.Findings.{Weak};
-ghost use Rattle.vol_rebuild.specs.Ways.{Shows};
+ghost use Rattle.blk_drive.specs.Telling.{IsTold as Shows};
 ghost use Rattle.clus_top.specs.Ends.{IsRebuildEnd, rebuild_status};
 ghost use Rattle.clus_top.specs.Images.{IsRebuildImage};
 ghost use Rattle.clus_top.specs.Mendings.{IsMendedImage, IsMendingText, mending_text};
@@ -9,11 +9,10 @@ ghost use Rattle.clus_top.specs.Statuses.{IsMendable};
 
 use blk_drive::{ImageDev, LoadRefused, Mirror};
 use plain_cat::{Mended, NoMemory};
-use run_engine::Status;
-use run_top::load_status;
+use plain_texts::{push_bytes, push_mended};
+use run_engine::{Status, load_status};
 use std::alloc::Global;
 use vol_rebuild::{RebuildFault, rebuild};
-use vol_texts::{push_bytes, push_mended};
 
 /// The end of a mending: the text of status 0 or another status, and the image.
 #[derive(Drop)]

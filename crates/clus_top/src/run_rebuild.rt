@@ -1,9 +1,9 @@
 ghost use Rattle.std.specs.Prelude.{◌≡◌, IfErr, IfOk, IfSome};
 ghost use Rattle.plain_cat.specs.InForm.{InForm};
-ghost use Rattle.core_state.specs.Images.{IsTold};
+ghost use Rattle.blk_drive.specs.Telling.{IsTold};
 ghost use Rattle.core_state.specs.Mounting.{IsMounted};
-ghost use Rattle.run_top.specs.Scripts.{IsScriptOf};
-ghost use Rattle.run_top.specs.Statuses.{IsAccepted, IsGood};
+ghost use Rattle.run_engine.specs.Scripts.{IsScriptOf};
+ghost use Rattle.run_engine.specs.Texts.{IsAccepted, IsGood};
 ghost use Rattle.clus_top.specs.Halts.{IsMendedIn, IsHaltIn, IsImageHalt, IsRunHalt, IsHaltImage};
 ghost use Rattle.clus_top.specs.MendedRuns.{HasRunAndMended};
 ghost use Rattle.clus_top.specs.Statuses.{IsMendedReportOn};
@@ -12,8 +12,9 @@ use blk_drive::{ImageDev, LoadRefused, Mirror};
 use core_state::{MountRefused, World};
 use fx_text::TextIn;
 use plain_cat::{Plays, Script};
-use run_engine::run;
-use run_top::{Halt, MendedRun, halt_of, load_status, mend_over, mount_status, script_of, stop_of};
+use run_engine::{
+    Halt, MendedRun, halt_of, load_status, mend_over, mount_status, run, script_of, stop_of,
+};
 use std::alloc::Global;
 use xqp_set::XqpOp;
 

@@ -1,7 +1,7 @@
 //! Laws of the statuses that no code runs: the contract of each function is a theorem.
 
 ghost use Rattle.std.specs.Prelude.{ℕ, List, Option};
-ghost use Rattle.vol_words.specs.Fields.{Block};
+ghost use Rattle.base_words.specs.Fields.{Block};
 ghost use Rattle.vol_parts.specs.declared.finding.Finding.{Finding};
 ghost use Rattle.vol_parts.specs.Findings.{AreFindings};
 ghost use Rattle.clus_top.specs.Words.{Wanted};

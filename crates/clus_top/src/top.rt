@@ -1,27 +1,28 @@
 ghost use Rattle.std.specs.Prelude.{◌≡◌, ◌≤◌, List, Option, Some, IfSome};
-ghost use Rattle.vol_words.specs.Faults.{Rose};
-ghost use Rattle.vol_words.specs.Fields.{Block};
-ghost use Rattle.run_top.specs.Scripts.{IsScriptOf};
-ghost use Rattle.run_top.specs.Statuses.{IsPlainText, Writes};
+ghost use Rattle.base_words.specs.Faults.{Rose};
+ghost use Rattle.base_words.specs.Fields.{Block};
+ghost use Rattle.run_engine.specs.Scripts.{IsScriptOf};
+ghost use Rattle.run_engine.specs.Texts.{IsPlainText, Writes};
 ghost use Rattle.clus_top.specs.Ends.{AreFoundIn, IsFoundEnd};
 ghost use Rattle.vol_init.specs.Refusals.{home_of};
 ghost use Rattle.clus_top.specs.Words.{Run, RunRebuild, Soak, wanted_by};
 ghost use Rattle.clus_top.specs.Runs.{IsSoakOf};
 ghost use Rattle.clus_top.specs.Images.{IsFormatted, IsRunImage, IsRunRebuildImage, IsRebuildImage, IsImageAfter, IsRunFaultText, IsMendedFaultText, IsFaultTextOf};
 ghost use Rattle.clus_top.specs.Mendings.{IsMendingText};
-ghost use Rattle.run_top.specs.Verdicts.{IsRunDue};
+ghost use Rattle.run_engine.specs.Verdicts.{IsRunDue};
 ghost use Rattle.clus_top.specs.Statuses.{IsRunRebuildDue, IsSoakDue, IsAnalysisDue, IsRebuildDue, IsInitDue, IsDue, IsSummaryOn, accepted_text, made_text, sized, IsTextOf};
 
 use crate::analysis::{Analysis, analyze_image};
 use crate::format::{Format, init_image};
 use crate::rebuild::{Rebuild, mend_image};
-use crate::run::{Ran, run_script, run_soak};
+use crate::run_job::{Ran, run_script, run_soak};
 use crate::run_rebuild::run_and_mend;
 use crate::words::{Job, job_of};
 use blk_drive::ImageDev;
 use fx_text::{TextIn, TextOut, Word};
-use run_engine::{Finished, Status};
-use run_top::{MendedRun, Stop, tell, tell_cut, tell_findings, tell_halt, tell_text};
+use run_engine::{
+    Finished, MendedRun, Status, Stop, tell, tell_cut, tell_findings, tell_halt, tell_text,
+};
 use std::alloc::Global;
 use vol_analyze::Finding;
 

@@ -3,7 +3,7 @@ use Rattle.std.proofs.Common.{◌≡◌, ◌≤◌, ◌<◌, ◌==◌, ◌+◌, 
 use Rattle.std.specs.List.{list_any}
 use Rattle.plain_cat.specs.declared.history.Stage.{Stage}
 use Rattle.plain_cat.specs.declared.history.Entry.TheVariants.{Died}
-use Rattle.vol_owners.specs.Owners.{Things, nothing}
+use Rattle.vol_spell.specs.Owners.{Things, nothing}
 use Rattle.vol_under.specs.UnderWay.{first_stage, stage_after, outs_after, together}
 use Rattle.op_law.specs.declared.need.Ask.{Ask}
 use Rattle.op_law.specs.declared.need.Plan.{Plan}
@@ -11,7 +11,7 @@ use Rattle.op_law.specs.declared.need.PlanWrite.{PlanWrite}
 use Rattle.op_law.specs.declared.seen.Seen.{Seen}
 use Rattle.op_law.specs.Fits.{things}
 use Rattle.op_law.specs.Laws.{numbers_before, planned}
-use Rattle.node_space.specs.Taking.{out_of}
+use Rattle.core_space.specs.Taking.{out_of}
 use Rattle.core_space.specs.declared.run.Phase.{Phase}
 use Rattle.core_space.specs.declared.run.Phase.TheVariants as phase
 use Rattle.core_space.specs.declared.run.SpaceRun.{SpaceRun}
@@ -22,6 +22,7 @@ use Rattle.core_state.specs.Stocks.{things_in, things_held, taken_in, taken_now}
 use Rattle.core_state.specs.Deaths.{stage_now, outside_now, has_number, numbers_that, numbers_of, death_of}
 use Rattle.core_state.proofs.Turning.{taken_first}
 use Rattle.core_death.specs.Lasts.{last_of, last_in, stage_or, clusters_or, taken_by, clusters_by, is_number, is_this, number_or, number_by, stage_told, clusters_told, number_told, death_told}
+use Rattle.base_words.proofs.Booleans.{or_false}
 
 -- ---- the last of the first writes
 
@@ -158,12 +159,6 @@ clusters_searched phase.Last (Some w) = ap (λ (qs : List ℕ). length qs) (clus
 clusters_searched phase.Off (Some w) = refl
 clusters_searched phase.Drain (Some w) = refl
 clusters_searched phase.Back (Some w) = refl
-
--- ---- the numbers
-
-or_false : (b : Bool) → (b || false) ≡ b
-or_false true = refl
-or_false false = refl
 
 or_three : (a b c : Bool) → ((a || b) || c) ≡ (a || (b || c))
 or_three true b c = refl

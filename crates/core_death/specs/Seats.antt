@@ -1,11 +1,16 @@
--- When a node is killed, by what it has counted.
-use Rattle.std.specs.Prelude.{◌==◌, ◌+◌, ◌&&◌, ℕ, Bool, true, false, Option, Some, None, length, nat_lt}
+-- When a node is killed, by what it has counted, and what its event answers.
+use Rattle.std.specs.Prelude.{◌==◌, ◌+◌, ◌&&◌, ℕ, Bool, true, false, Option, Some, None, length, nat_lt, if◌then◌else◌}
 use Rattle.plain_cat.specs.declared.script.KillAt.{KillAt}
 use Rattle.plain_cat.specs.declared.script.KillAt.TheVariants as kill
 use Rattle.plain_cat.specs.declared.script.Kill.{Kill}
 use Rattle.op_law.specs.declared.need.Plan.{Plan}
-use Rattle.core_state.specs.Worlds.{NodeState}
+use Rattle.core_state.specs.Worlds.{NodeState, Plain}
 use Rattle.core_state.specs.Asks.{writes_by}
+use Rattle.core_state.specs.Events.{next_event}
+use Rattle.core_state.specs.Deaths.{is_due}
+use Rattle.core_step.specs.Turns.{told}
+use Rattle.core_step.specs.declared.turns.Turn.{Turn}
+use Rattle.core_step.specs.declared.turns.Turn.TheVariants as turn
 
 -- its rules for space have a write to make
 abbrev pub has_space_write : NodeState → Bool
@@ -31,3 +36,7 @@ comes_by (kill.Write k) turns writes writing = (writes + 1 == k) && writing
 
 abbrev pub kills_by : ℕ → ℕ → ℕ → Bool → Kill → Bool
 kills_by n turns writes writing k = (k.node == n) && comes_by k.at turns writes writing
+
+-- the answer of its turn, or Over with its death
+abbrev pub told_of_step : Plain → Plain → ℕ → Turn
+told_of_step old new n = if is_due old n then turn.Over else told new n (next_event old n)

@@ -1,20 +1,23 @@
-//! The steps of nodes: a turn, or the death in its place.
+//! The events of nodes: a turn, or the death in its place.
 
-ghost use Rattle.std.specs.Prelude.{◌≡◌, ◌≤◌, ◌⊎◌, true, false, Err, OnOk, OnErr, length};
+ghost use Rattle.std.specs.Prelude.{◌≡◌, ◌≤◌, ◌⊎◌, true, false, Err, IfOk, OnOk, OnErr, length};
 ghost use Rattle.std.specs.List.{list_any};
-ghost use Rattle.vol_words.specs.Faults.{Rose};
+ghost use Rattle.base_words.specs.Faults.{Rose};
 ghost use Rattle.core_state.specs.Worlds.{IsOfWorld, state_of};
-ghost use Rattle.core_state.specs.Images.{IsTold, IsTorn, told_as};
+ghost use Rattle.core_state.specs.Images.{IsTorn};
+ghost use Rattle.blk_drive.specs.Telling.{IsTold};
+ghost use Rattle.blk_drive.specs.Telling.{told_as};
 ghost use Rattle.core_state.specs.Asks.{writes_by};
 ghost use Rattle.core_state.specs.Events.{is_write, next_event};
 ghost use Rattle.core_state.specs.Deaths.{is_due, after_step};
+ghost use Rattle.core_state.specs.Uses.{UsesTheDrives};
 ghost use Rattle.core_step.specs.Memory.{takes_none};
-ghost use Rattle.core_death.specs.Seats.{has_space_write, has_write, has_next, comes_by, kills_by};
+ghost use Rattle.core_death.specs.Seats.{has_space_write, has_write, has_next, comes_by, kills_by, told_of_step};
 
 use crate::killing::kill;
 use blk_drive::ImageDev;
 use core_state::{Node, World};
-use core_step::{TurnFault, gives_back, stands, turn};
+use core_step::{Turn, TurnFault, gives_back, stands, turn};
 use op_law::{Operation, Plan};
 use plain_cat::{Kill, KillAt};
 use std::alloc::Global;
@@ -98,15 +101,17 @@ pub fn is_due<I: ImageDev, O: Operation>(w: &World<I, O>, node: u8) -> bool
     !w.is_over(node) && comes_now(kills, node, w.turns(node), w.writes(node), writing)
 }
 
-/// The next step of a node: its turn, or the death by which the script replaces it. A death takes no memory and leaves the image as
-/// it is. The nodes count from 1.
-pub fn seat_turn<I: ImageDev, O: Operation>(
+/// The next event of a node: its turn, with that turn's answer, or the death by which the script replaces it, which answers Over. A
+/// death takes no memory and leaves the image as it is. A block that the turn uses from the node's cache is the drive's. The nodes count
+/// from 1.
+pub fn seat_event<I: ImageDev, O: Operation>(
     alloc: Global,
     w: &mut World<I, O>,
     node: u8,
-) -> Result<(), TurnFault>
+) -> Result<Turn, TurnFault>
     requires { IsOfWorld w.old.world node }
     ensures moved { OnOk result (w.new.world ≡ after_step w.old.world node) }
+    ensures answer { IfOk result (λ t. t ≡ told_of_step w.old.world w.new.world node) }
     ensures same { OnErr result (w.new.world ≡ w.old.world) }
     ensures turn { OnErr result (is_due w.old.world node ≡ false) }
     ensures memory { result ≡ Err TurnFault.NoMemory → takes_none w.old.world.locks node (next_event w.old.world node) ≡ false }
@@ -117,11 +122,11 @@ pub fn seat_turn<I: ImageDev, O: Operation>(
         → IsTorn (I.told w.old.image) (I.told w.new.image) w.old.world.blocks (after_step w.old.world node).blocks }
     ensures drive { IsTold (I.told w.old.image) w.old.world.blocks
         → (I.told w.new.image ≡ told_as (I.told w.old.image) w.new.world.blocks) ⊎ (result ≡ Err TurnFault.ImageFault) }
+    ensures used { OnOk result (is_due w.old.world node ≡ false → UsesTheDrives w.old.world node) }
 {
     if is_due(w, node) {
         kill(w, node);
-        return Ok(());
+        return Ok(Turn::Over);
     }
-    turn(alloc, w, node)?;
-    Ok(())
+    turn(alloc, w, node)
 }

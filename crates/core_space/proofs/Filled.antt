@@ -4,14 +4,14 @@ use Rattle.std.specs.Prelude.{take, filter, map, not, min}
 use Rattle.std.specs.List.{range_with_len, zip}
 use Rattle.std.proofs.lemmas.Bool.Decides.{nat_tests}
 use Rattle.std.proofs.lemmas.List.{length-take}
-use Rattle.vol_words.specs.Fields.{Block}
+use Rattle.base_words.specs.Fields.{Block}
 use Rattle.fx_bitmap.specs.Bits.{bit_at}
 use Rattle.plain_cat.specs.declared.cat.Cat.{Cat}
-use Rattle.plain_laws.proofs.Members.{has_filter, has_mapped}
-use Rattle.vol_owners.specs.Lists.{Has, Once}
-use Rattle.vol_owners.specs.Owners.{Owners, Things, nothing, Outs}
-use Rattle.vol_owners.proofs.Listing.{filtered, has_parted}
-use Rattle.vol_owners.proofs.Placing.{has_ranged}
+use Rattle.base_words.proofs.Listing.{has_filtered, has_mapped}
+use Rattle.base_words.specs.Lists.{Has, Once}
+use Rattle.vol_spell.specs.Owners.{Owners, Things, nothing, Outs}
+use Rattle.base_words.proofs.Listing.{filtered, has_parted}
+use Rattle.vol_spell.proofs.Placing.{has_ranged}
 use Rattle.vol_parts.specs.declared.geometry.Geometry.{Geometry}
 use Rattle.vol_parts.specs.declared.geometry.Part.TheVariants.{IndexBitmap, Storage}
 use Rattle.vol_parts.specs.Parts.{IsGeometry, storage_blocks, part_of}
@@ -26,14 +26,16 @@ use Rattle.vol_under.specs.Refilling.{AreTaken}
 use Rattle.vol_under.proofs.Refills.{takes_clusters, takes_numbers}
 use Rattle.op_law.specs.declared.need.PlanWrite.{PlanWrite}
 use Rattle.op_law.specs.Writing.{with_numbers}
-use Rattle.node_space.specs.Searching.{storage_places, clusters_in, free_in, free_from, with_taken, taken_in, cluster_write, cluster_writes}
-use Rattle.node_space.specs.Taking.{looked}
-use Rattle.node_space.proofs.Bits.{cleared, kept, set_before, whole_taken}
-use Rattle.node_space.proofs.Chosen.{LiesIn, has_free, has_taken, once_taken, has_taken_in, once_taken_in}
-use Rattle.node_space.proofs.Taken.{take_none, taken_parts}
+use Rattle.core_space.specs.Searching.{storage_places, clusters_in, free_in, free_from, with_taken, taken_in, cluster_write, cluster_writes}
+use Rattle.core_space.specs.Taking.{looked}
+use Rattle.core_space.proofs.BitRuns.{cleared, kept, set_before, whole_taken}
+use Rattle.core_space.proofs.Chosen.{LiesIn, has_free, has_taken, once_taken, has_taken_in, once_taken_in}
+use Rattle.core_space.proofs.Taken.{take_none, taken_parts, behind}
 use Rattle.core_space.specs.Filling.{clusters_to_take, storage_part, free_numbers, lowest_numbers, numbers_taken, clusters_taken, numbers_write, storage_writes, fill_writes, suffices, filled}
 use Rattle.core_space.specs.Laws.{places_of, things_of, taken_with, taken_before, TakesNumbersOf, TakesClustersOf, IsFilling, WritesFill, FillingsRefill, FillsEnough, AreLowest, TakesLowest}
 use Rattle.core_space.proofs.Setting.{are_numbers_taken}
+use Rattle.op_law.proofs.Asking.{not_so}
+use Rattle.base_words.proofs.Numbers.{same_cluster}
 
 -- ---- where a filling is decided
 
@@ -76,12 +78,7 @@ fills_enough g need held lacks bs ws h =
       few = few_numbers g lacks bs;
     }
 
--- ---- one write
-
-same_cluster : (k p q : ℕ) → p / 4096 ≡ k → q / 4096 ≡ k → p % 4096 ≡ q % 4096 → p ≡ q
-same_cluster k p q a b e = omega arith
-
-are_taken : (g : Geometry) (k : ℕ) (b : Block) (q : ℕ) (qs : List ℕ) → Once (q ∷ qs) → ((p : ℕ) → Has (q ∷ qs) p → LiesIn g k p × (bit_at b (p % 4096) ≡ true)) → AreTaken g k (q ∷ qs) b (with_taken b (q ∷ qs))
+pub are_taken : (g : Geometry) (k : ℕ) (b : Block) (q : ℕ) (qs : List ℕ) → Once (q ∷ qs) → ((p : ℕ) → Has (q ∷ qs) p → LiesIn g k p × (bit_at b (p % 4096) ≡ true)) → AreTaken g k (q ∷ qs) b (with_taken b (q ∷ qs))
 are_taken g k b q qs once free = record {
   whole = whole_taken qs q b;
   once = once;
@@ -103,17 +100,13 @@ pub record IsFreeNumber (g : Geometry) (b : Block) (n : ℕ) : Type 0 where
   pub to : n ≤ g.files
   pub clear : bit_at b (n - 1) ≡ false
 
-not_false : (b : Bool) → not b ≡ true → b ≡ false
-not_false true e = absurd (let f : false ≡ true = e in cc)
-not_false false e = refl
-
 free_is : (g : Geometry) (b : Block) (n : ℕ) → Has (free_numbers g b) n → IsFreeNumber g b n
 unfolding free_numbers
 free_is g b n t =
-    let h = has_filter (λ n. not (bit_at b (n - 1))) (range_with_len 1 g.files) n t in
+    let h = has_filtered (λ n. not (bit_at b (n - 1))) (range_with_len 1 g.files) n t in
     let r = has_ranged 1 g.files n h.0 in
     let hi : n < 1 + g.files = r.1 in
-    record { from = r.0; to = omega arith; clear = not_false (bit_at b (n - 1)) h.1 }
+    record { from = r.0; to = omega arith; clear = not_so (bit_at b (n - 1)) h.1 }
 
 once_free_numbers : (g : Geometry) (b : Block) → Once (free_numbers g b)
 unfolding free_numbers
@@ -292,7 +285,7 @@ rises_filter : (p : ℕ → Bool) (xs : List ℕ) → Rises xs → Rises (filter
 rises_filter p [] r = tt
 rises_filter p (x ∷ xs) r = by_test (p x) refl (rises_filter p xs r.1) where
   by_test : (b : Bool) → p x ≡ b → Rises (filter p xs) → Rises (filter p (x ∷ xs))
-  by_test true f ih = rw f ((λ y t. r.0 y (has_filter p xs y t).0), ih)
+  by_test true f ih = rw f ((λ y t. r.0 y (has_filtered p xs y t).0), ih)
   by_test false f ih = rw f ih
 
 rises_joined : (xs ys : List ℕ) → Rises xs → Rises ys → ((x y : ℕ) → Has xs x → Has ys y → x < y) → Rises (xs ++ ys)
@@ -301,14 +294,6 @@ rises_joined (x ∷ xs) ys r s lt = (
   (λ y t. elim (has_parted xs ys y t) [ inl u ↦ r.0 y u | inr u ↦ lt x y (inl refl) u ]),
   rises_joined xs ys r.1 s (λ a b t u. lt a b (inr t) u),
 )
-
-behind : (g : Geometry) (k : ℕ) (bs : List Block) (q : ℕ) → Has (free_from g k bs) q → k ≤ q / 4096
-unfolding free_from
-behind g k [] q t = absurd t
-behind g k (b ∷ bs) q t = elim (has_parted (free_in g k b) (free_from g (k + 1) bs) q t) [
-  | inl u ↦ let l = (has_free g k b q u).0 in let e = l.block in omega arith
-  | inr u ↦ let h = behind g (k + 1) bs q u in omega arith
-]
 
 rises_in : (g : Geometry) (k : ℕ) (b : Block) → Rises (free_in g k b)
 unfolding free_in

@@ -1,15 +1,13 @@
 -- What the loops over bits, blocks and numbers have worked out after each turn.
-use Rattle.std.proofs.Common.{◌≡◌, ◌<◌, ◌≤◌, ◌+◌, ◌-◌, ◌*◌, ◌/◌, ◌%◌, ◌&&◌, ◌||◌, ◌++◌, ℕ, zero, suc, Bool, true, false, List, [], ◌∷◌, Some, None, length, get_or, refl, sym, ap, ◌∙◌, inl, arith, append-nil, append_assoc, length-append, cond, nat_le, nat_lt}
+use Rattle.std.proofs.Common.{◌≡◌, ◌<◌, ◌≤◌, ◌+◌, ◌-◌, ◌*◌, ◌/◌, ◌%◌, ◌&&◌, ◌||◌, ◌++◌, ℕ, zero, suc, Bool, true, false, List, [], ◌∷◌, Some, None, length, get_or, refl, sym, ap, ◌∙◌, arith, append-nil, append_assoc, length-append, cond, nat_le, nat_lt}
 use Rattle.std.specs.Prelude.{min, not, take, filter, find, map, option_map, slice_index_or}
 use Rattle.std.specs.List.{range_with_len, All}
 use Rattle.std.proofs.lemmas.Bool.Decides.{nat_tests}
 use Rattle.std.proofs.lemmas.List.{take_more, length-take, length-map, take-map, map-append}
-use Rattle.std.proofs.lemmas.List.Elements.{All-append, filter_more}
-use Rattle.std.proofs.lemmas.List.Sums.{fold-append}
-use Rattle.vol_words.specs.Fields.{Block}
-use Rattle.fx_bitmap.specs.Bits.{bit_at, bits_put}
+use Rattle.std.proofs.lemmas.List.Elements.{All-append}
+use Rattle.base_words.specs.Fields.{Block}
+use Rattle.fx_bitmap.specs.Bits.{bit_at}
 use Rattle.plain_cat.specs.declared.reply.Refusal.TheVariants.{DeviceFull}
-use Rattle.vol_owners.specs.Lists.{Has}
 use Rattle.vol_parts.specs.declared.geometry.Geometry.{Geometry}
 use Rattle.vol_parts.specs.declared.geometry.Part.TheVariants.{Storage}
 use Rattle.vol_parts.specs.Parts.{IsGeometry, storage_blocks}
@@ -17,15 +15,15 @@ use Rattle.vol_spell.specs.Reading.{total_of}
 use Rattle.vol_spell.specs.Places.{place_of}
 use Rattle.op_law.specs.declared.need.PlanWrite.{PlanWrite}
 use Rattle.op_law.specs.Freeing.{with_free}
-use Rattle.node_space.specs.declared.outcome.Search.TheVariants as search
-use Rattle.node_space.specs.Searching.{More, Short, Enough, places, free_in, free_from, cluster_writes, found_clusters}
-use Rattle.node_space.specs.Answering.{answered, answer, blocks_of}
-use Rattle.node_space.proofs.Chosen.{LiesIn, has_free}
-use Rattle.node_space.proofs.Concluding.{at_most_16}
-use Rattle.node_space.proofs.Ranges.{filter_passed, filter_failed, find_here, find_on}
-use Rattle.node_space.proofs.Taken.{take_none, take_parts}
+use Rattle.core_space.specs.declared.outcome.Search.TheVariants as search
+use Rattle.core_space.specs.Searching.{More, Short, Enough, places, free_in, free_from, cluster_writes, found_clusters}
+use Rattle.core_space.specs.Answering.{answered, answer, blocks_of}
+use Rattle.core_space.proofs.Concluding.{at_most_16, free_first}
+use Rattle.core_space.proofs.Ranges.{filter_passed, filter_failed, find_here, find_on}
+use Rattle.core_space.proofs.Taken.{take_none, take_parts}
 use Rattle.core_space.specs.Filling.{clusters_to_take, storage_part, free_numbers, lowest_numbers, numbers_taken, index_writes, storage_writes, fill_writes, suffices, filled}
 use Rattle.core_space.specs.Giving.{has_covered, is_seen, is_wanting, clusters_place, clusters_back}
+use Rattle.core_space.proofs.Gathering.{free_more}
 
 -- ---- counting
 
@@ -47,16 +45,6 @@ pub counts_all : (g : Geometry) (k q : ℕ) (b : Block) → q - 4096 * k ≡ min
 unfolding free_in
 counts_all g k q b e = ap (λ n. length (filter (λ x. bit_at b (x % 4096)) (range_with_len (4096 * k) n))) e
 
--- ---- blocks in a row
-
-free_more : (g : Geometry) (k : ℕ) (bs : List Block) (b : Block) (i : ℕ) → i ≡ k + length bs → free_from g k (bs ++ b ∷ []) ≡ free_from g k bs ++ free_in g i b
-unfolding free_from
-free_more g k [] b i e =
-    let same : k ≡ i = omega arith in
-    append-nil (free_in g k b) ∙ ap (λ j. free_in g j b) same
-free_more g k (x ∷ bs) b i e =
-    ap (λ (xs : List ℕ). free_in g k x ++ xs) (free_more g (k + 1) bs b i (omega arith)) ∙ sym (append_assoc (free_in g k x) (free_from g (k + 1) bs) (free_in g i b))
-
 pub none_free : (g : Geometry) (k : ℕ) → 0 ≡ length (free_from g k [])
 unfolding free_from
 none_free g k = refl
@@ -69,26 +57,6 @@ frees_more g bs k b lt at =
     let place : k ≡ 0 + length (take k bs) = omega (arith, count) in
     let more = free_more g 0 (take k bs) b k place in
     sym (length-append (free_from g 0 (take k bs)) (free_in g k b)) ∙ sym (ap (λ (xs : List ℕ). length xs) more) ∙ sym (ap (λ (xs : List Block). length (free_from g 0 xs)) next)
-
-no_item : (xs : List ℕ) → ((x : ℕ) → Has xs x → ⊥) → xs ≡ []
-no_item [] none = refl
-no_item (x ∷ xs) none = absurd (none x (inl refl))
-
-behind_bitmap : (g : Geometry) (k q : ℕ) → storage_blocks (total_of g) ≤ k → LiesIn g k q → ⊥
-behind_bitmap g k q h l = let lt = l.inside in let e = l.block in let behind : (total_of g + 4095) / 4096 ≤ k = h in absurd (omega arith)
-
-free_none : (g : Geometry) (k : ℕ) (bs : List Block) → storage_blocks (total_of g) ≤ k → free_from g k bs ≡ []
-unfolding free_from
-free_none g k [] h = refl
-free_none g k (b ∷ bs) h =
-    ap (λ (xs : List ℕ). xs ++ free_from g (k + 1) bs) (no_item (free_in g k b) (λ q t. behind_bitmap g k q h (has_free g k b q t).0)) ∙ free_none g (k + 1) bs (omega arith)
-
-free_first : (g : Geometry) (k n : ℕ) (bs : List Block) → (n < length bs → storage_blocks (total_of g) ≤ k + n) → free_from g k (take n bs) ≡ free_from g k bs
-unfolding free_from
-free_first g k zero [] h = refl
-free_first g k zero (b ∷ bs) h = let behind = h (omega arith) in sym (free_none g k (b ∷ bs) (omega arith))
-free_first g k (suc n) [] h = refl
-free_first g k (suc n) (b ∷ bs) h = ap (λ (xs : List ℕ). free_in g k b ++ xs) (free_first g (k + 1) n bs (λ lt. let behind = h (omega arith) in omega arith))
 
 -- the first 16 blocks say all
 pub first_say_all : (g : Geometry) (looked : List (ℕ × Block)) (n : ℕ) → IsGeometry g → n ≡ min (length looked) 16 → length (free_from g 0 (blocks_of (take n looked))) ≡ length (free_from g 0 (blocks_of looked))
@@ -152,18 +120,6 @@ one_number_more ns n all from to = All-append IsNumber ns (n ∷ []) all single 
   single : All IsNumber (n ∷ [])
   single zero d lt = (from, to)
   single (suc k) d lt = absurd (let h : suc k < 1 = lt in omega arith)
-
--- ---- clusters that become free
-
-pub passes : (p : ℕ → Bool) (xs : List ℕ) (i : ℕ) → i < length xs → p (get_or xs i 0) ≡ true → filter p (take (i + 1) xs) ≡ filter p (take i xs) ++ get_or xs i 0 ∷ []
-passes p xs i lt e = filter_more p xs i 0 lt ∙ ap (λ (t : Bool). filter p (take i xs) ++ cond t (get_or xs i 0 ∷ []) []) e
-
-pub fails : (p : ℕ → Bool) (xs : List ℕ) (i : ℕ) → i < length xs → p (get_or xs i 0) ≡ false → filter p (take (i + 1) xs) ≡ filter p (take i xs)
-fails p xs i lt e = filter_more p xs i 0 lt ∙ ap (λ (t : Bool). filter p (take i xs) ++ cond t (get_or xs i 0 ∷ []) []) e ∙ append-nil (filter p (take i xs))
-
-pub freed_more : (b : Block) (qs : List ℕ) (q : ℕ) → with_free b (qs ++ q ∷ []) ≡ bits_put (with_free b qs) (q % 4096) 1 true
-unfolding with_free
-freed_more b qs q = fold-append (λ c p. bits_put c (p % 4096) 1 true) b qs (q ∷ [])
 
 pub none_freed : (b : Block) → b ≡ with_free b []
 unfolding with_free

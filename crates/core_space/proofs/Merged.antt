@@ -5,8 +5,8 @@ use Rattle.std.proofs.lemmas.Bool.{or_from}
 use Rattle.std.proofs.lemmas.Bool.Decides.{nat_tests}
 use Rattle.extent_cache.specs.Stock.{holds, put_in, with_one, merged}
 use Rattle.extent_cache.proofs.RisingLists.{le-not_lt}
-use Rattle.vol_owners.specs.Lists.{Has, Once, AreApart}
-use Rattle.vol_owners.proofs.Listing.{has_parted, has_first, has_second, once_in_a_row, once_first, once_second, once_apart, filtered}
+use Rattle.base_words.specs.Lists.{Has, Once, AreApart}
+use Rattle.base_words.proofs.Listing.{has_parted, has_first, has_second, once_in_a_row, once_first, once_second, once_apart, filtered}
 use Rattle.core_space.specs.Laws.{StocksTakeAll}
 
 -- ---- one number

@@ -2,9 +2,8 @@
 use Rattle.std.proofs.Common.{◌≡◌, ◌≤◌, ◌<◌, ◌&&◌, ℕ, zero, suc, Bool, true, false, List, [], ◌∷◌, Option, Some, None, length, slice_get, refl, ap, subst, inl, inr, arith, cond, nat_lt}
 use Rattle.std.specs.Prelude.{not, find, option_map}
 use Rattle.std.specs.List.{range_with_len}
-use Rattle.std.proofs.lemmas.Bool.Decides.{nat_tests}
 use Rattle.std.proofs.lemmas.List.FromFn.{length-map-range_with_len}
-use Rattle.vol_words.specs.Fields.{Block}
+use Rattle.base_words.specs.Fields.{Block}
 use Rattle.plain_cat.specs.declared.mode.Mode.{Mode}
 use Rattle.plain_cat.specs.declared.mode.Mode.TheVariants.{NL, CR, CW, PR, PW, EX}
 use Rattle.plain_cat.specs.declared.reply.Refusal.{Refusal}
@@ -12,23 +11,23 @@ use Rattle.plain_cat.specs.declared.reply.Refusal.TheVariants.{IndexFull, Device
 use Rattle.extent_cache.specs.Takings.{holds_enough}
 use Rattle.extent_cache.specs.Stock.{Stock}
 use Rattle.lock_db.specs.declared.name.LockName.TheVariants.{X, V}
-use Rattle.plain_laws.proofs.Members.{has_map}
-use Rattle.vol_owners.specs.Lists.{Has}
-use Rattle.vol_owners.proofs.Listing.{has_at}
-use Rattle.vol_owners.proofs.Placing.{ranged_has}
+use Rattle.base_words.proofs.Listing.{has_map}
+use Rattle.base_words.specs.Lists.{Has}
+use Rattle.base_words.proofs.Listing.{has_at}
+use Rattle.vol_spell.proofs.Placing.{ranged_has}
 use Rattle.vol_parts.specs.declared.geometry.Geometry.{Geometry}
 use Rattle.vol_parts.specs.declared.geometry.Part.TheVariants.{IndexBitmap, Storage}
 use Rattle.vol_parts.specs.Parts.{storage_blocks}
 use Rattle.vol_spell.specs.Reading.{total_of}
 use Rattle.vol_spell.specs.Places.{place_of}
 use Rattle.op_law.specs.declared.need.PlanWrite.{PlanWrite}
-use Rattle.node_space.specs.declared.outcome.Search.{Search}
-use Rattle.node_space.specs.declared.outcome.Search.TheVariants as search
-use Rattle.node_space.specs.Searching.{Found, More, Short, Enough, places, storage_places, cluster_places, free_number, free_from, number_write, found_number, found}
-use Rattle.node_space.specs.Answering.{answered, answer, blocks_of}
-use Rattle.node_space.proofs.Chosen.{found_passes}
-use Rattle.node_space.proofs.Ending.{looks_in_order}
-use Rattle.node_space.proofs.Ways.{short_of}
+use Rattle.core_space.specs.declared.outcome.Search.{Search}
+use Rattle.core_space.specs.declared.outcome.Search.TheVariants as search
+use Rattle.core_space.specs.Searching.{Found, More, Short, Enough, places, storage_places, cluster_places, free_number, free_from, number_write, found_number, found}
+use Rattle.core_space.specs.Answering.{answered, answer, blocks_of}
+use Rattle.core_space.proofs.Chosen.{found_passes}
+use Rattle.core_space.proofs.Ending.{looks_in_order}
+use Rattle.core_space.proofs.Ways.{short_of, is_below}
 use Rattle.core_space.specs.declared.run.Phase.TheVariants.{Off, Fill, Drain, Last, Back}
 use Rattle.core_space.specs.declared.run.Phase.{Phase}
 use Rattle.core_space.specs.declared.run.SpaceRun.{SpaceRun}
@@ -172,9 +171,6 @@ full_is_whole g clusters true (index ∷ bs) h = let le = whole_number g cluster
 
 storage_in : (g : Geometry) (k : ℕ) → k < storage_blocks (total_of g) → Has (places g 1 true) (place_of g (Storage k))
 storage_in g k lt = inr (has_map (λ j. place_of g (Storage j)) (range_with_len 0 (storage_blocks (total_of g))) k (ranged_has 0 (storage_blocks (total_of g)) k (omega arith) (omega arith)))
-
-is_below : (a b : ℕ) → nat_lt a b ≡ true → a < b
-is_below a b e = grind (arith, nat_tests)
 
 look_is : (o : Option ℕ) (e : SpaceEvent) (l : ℕ) → (e ≡ event.Look l → ⊥) → after_looks o e ≡ event.Look l → o ≡ Some l
 look_is (Some k) e l other h = ap Some (let f : event.Look k ≡ event.Look l = h in cc)

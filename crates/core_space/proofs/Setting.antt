@@ -2,18 +2,19 @@
 use Rattle.std.proofs.Common.{◌≡◌, ◌≢◌, ◌<◌, ◌≤◌, ◌-◌, ◌/◌, ◌%◌, ◌⊎◌, ℕ, Bool, true, false, List, [], ◌∷◌, refl, sym, ap, subst, ◌∙◌, inl, inr, arith}
 use Rattle.std.specs.Prelude.{◌↔◌}
 use Rattle.std.specs.List.{fold}
-use Rattle.vol_words.specs.Fields.{Block, IsWholeBlock}
+use Rattle.base_words.specs.Fields.{Block, IsWholeBlock}
 use Rattle.fx_bitmap.specs.Bits.{bit_at, bits_put}
-use Rattle.blk_whole.proofs.Tables.{whole_bits}
-use Rattle.plain_laws.proofs.Members.{has_map, has_mapped}
-use Rattle.vol_owners.specs.Lists.{Has, Once}
-use Rattle.vol_owners.proofs.Listing.{same_or_not, has_or_not}
+use Rattle.vol_parts.proofs.Tables.{whole_bits}
+use Rattle.base_words.proofs.Listing.{has_map, has_mapped}
+use Rattle.base_words.specs.Lists.{Has, Once}
+use Rattle.base_words.proofs.Listing.{same_or_not, has_or_not}
 use Rattle.vol_parts.specs.declared.geometry.Geometry.{Geometry}
 use Rattle.vol_under.specs.Refilling.{AreNumbersTaken, AreNumbersGiven, AreGiven, LieIn}
-use Rattle.node_space.proofs.Bits.{put_here, put_there}
+use Rattle.core_space.proofs.BitRuns.{put_here, put_there}
 use Rattle.core_space.specs.Filling.{with_used}
 use Rattle.op_law.specs.Freeing.{with_free, without_numbers}
 use Rattle.core_space.specs.Laws.{places_of}
+use Rattle.base_words.proofs.Numbers.{same_cluster}
 
 -- the block in which, for each of these, the bit at its place has a value
 abbrev put_all : (ℕ → ℕ) → Bool → Block → List ℕ → Block
@@ -89,12 +90,6 @@ are_numbers_given g b n ns fit = record {
     (λ f. inl (sym (others_stay (λ n. n - 1) false (n ∷ ns) b i lt (not_at (n ∷ ns) i away)) ∙ f)),
     (λ p. elim p [ inl f ↦ others_stay (λ n. n - 1) false (n ∷ ns) b i lt (not_at (n ∷ ns) i away) ∙ f | inr t ↦ absurd (away t) ]),
   )
-
--- ---- clusters that become free
-
--- a cluster is told by its block and its bit there
-same_cluster : (k p q : ℕ) → p / 4096 ≡ k → q / 4096 ≡ k → p % 4096 ≡ q % 4096 → p ≡ q
-same_cluster k p q a b e = omega arith
 
 pub are_given : (g : Geometry) (k : ℕ) (b : Block) (q : ℕ) (qs : List ℕ) → LieIn g k (q ∷ qs) → AreGiven g k (q ∷ qs) b (with_free b (q ∷ qs))
 unfolding with_free

@@ -1,7 +1,7 @@
 -- A stock that is not enough is filled from the bitmaps: what is taken there, and the writes that take it.
 use Rattle.std.specs.Prelude.{◌+◌, ◌-◌, ◌&&◌, ◌||◌, ◌++◌, not, min, nat_le, nat_lt, ℕ, Bool, true, false, List, [], ◌∷◌, Option, Some, None, length, map, filter, take, drop, if◌then◌else◌}
 use Rattle.std.specs.List.{range_with_len, fold}
-use Rattle.vol_words.specs.Fields.{Block}
+use Rattle.base_words.specs.Fields.{Block}
 use Rattle.fx_bitmap.specs.Bits.{bit_at, bits_put}
 use Rattle.lock_db.specs.declared.name.LockName.TheVariants.{V}
 use Rattle.plain_cat.specs.declared.history.Stage.TheVariants as stage
@@ -12,7 +12,7 @@ use Rattle.vol_spell.specs.Reading.{total_of}
 use Rattle.vol_spell.specs.Places.{place_of}
 use Rattle.op_law.specs.declared.need.PlanWrite.{PlanWrite}
 use Rattle.op_law.specs.Writing.{empty_handed, write_at, with_numbers}
-use Rattle.node_space.specs.Searching.{free_from, cluster_writes}
+use Rattle.core_space.specs.Searching.{free_from, cluster_writes}
 
 -- ---- how much it is to take
 

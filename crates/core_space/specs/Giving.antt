@@ -1,8 +1,8 @@
 -- A stock that is given back: the bitmap blocks in which its bits are, and the writes that make all of it free.
 use Rattle.std.specs.Prelude.{◌==◌, ◌&&◌, ◌++◌, not, nat_lt, ℕ, Bool, List, [], ◌∷◌, Option, Some, None, length, map, filter, find, option_map, if◌then◌else◌}
 use Rattle.std.specs.List.{range_with_len, list_any}
-use Rattle.vol_words.specs.Fields.{Block}
-use Rattle.vol_words.specs.Tables.{zeros}
+use Rattle.base_words.specs.Fields.{Block}
+use Rattle.base_words.specs.Tables.{zeros}
 use Rattle.lock_db.specs.declared.name.LockName.TheVariants.{V}
 use Rattle.plain_cat.specs.declared.history.Stage.TheVariants as stage
 use Rattle.extent_cache.specs.Stock.{is_covered}

@@ -1,6 +1,6 @@
 -- The laws of the rules for space.
 use Rattle.std.specs.Prelude.{◌≡◌, ◌≤◌, ◌<◌, ◌-◌, ◌+◌, ◌⊎◌, ◌↔◌, ◌++◌, not, ℕ, zero, suc, Bool, true, List, [], Option, Some, None, length, map, filter, slice_get}
-use Rattle.vol_words.specs.Fields.{Block}
+use Rattle.base_words.specs.Fields.{Block}
 use Rattle.lock_db.specs.declared.name.LockName.TheVariants.{V}
 use Rattle.plain_cat.specs.declared.history.Stage.TheVariants as stage
 use Rattle.plain_cat.specs.declared.mode.Mode.TheVariants.{PW, EX}
@@ -8,8 +8,8 @@ use Rattle.plain_cat.specs.declared.reply.Refusal.{Refusal}
 use Rattle.plain_cat.specs.declared.reply.Refusal.TheVariants.{DeviceFull}
 use Rattle.plain_cat.specs.declared.cat.Cat.{Cat}
 use Rattle.extent_cache.specs.Stock.{Stock, is_covered, merged}
-use Rattle.vol_owners.specs.Lists.{Has, Once}
-use Rattle.vol_owners.specs.Owners.{Owners, Things, nothing, Outs}
+use Rattle.base_words.specs.Lists.{Has, Once}
+use Rattle.vol_spell.specs.Owners.{Owners, Things, nothing, Outs}
 use Rattle.vol_parts.specs.declared.geometry.Geometry.{Geometry}
 use Rattle.vol_parts.specs.declared.geometry.Part.TheVariants.{IndexBitmap, Storage}
 use Rattle.vol_parts.specs.Parts.{IsGeometry}
@@ -19,9 +19,9 @@ use Rattle.vol_under.specs.UnderWay.{together}
 use Rattle.vol_under.specs.Keeping.{Refills, IsBitmap}
 use Rattle.vol_under.specs.Refilling.{AreTaken, AreNumbersTaken}
 use Rattle.op_law.specs.declared.need.PlanWrite.{PlanWrite}
-use Rattle.node_space.specs.Searching.{Short, places, free_from, found}
-use Rattle.node_space.specs.Answering.{blocks_of}
-use Rattle.node_space.specs.Taking.{looked}
+use Rattle.core_space.specs.Searching.{Short, places, free_from, found}
+use Rattle.core_space.specs.Answering.{blocks_of}
+use Rattle.core_space.specs.Taking.{looked}
 use Rattle.core_space.specs.declared.run.Phase.TheVariants.{Last}
 use Rattle.core_space.specs.declared.run.SpaceRun.{SpaceRun}
 use Rattle.core_space.specs.declared.run.SpaceNeed.{SpaceNeed}

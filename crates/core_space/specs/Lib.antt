@@ -1,5 +1,8 @@
+pub mod Answering
 pub mod Filling
 pub mod Giving
-pub mod Rule
-pub mod Laws
 pub mod Lasting
+pub mod Laws
+pub mod Rule
+pub mod Searching
+pub mod Taking

@@ -4,7 +4,7 @@
 -- bitmaps, under X in CR and V in PW. Where these have too little, the stock goes back, V and X are lowered, and X is asked for in
 -- EX: so every other node gives its stock back. Then, under X in EX and V in PW, all free space is searched for just the need.
 use Rattle.std.specs.Prelude.{◌≡◌, ◌&&◌, ◌||◌, not, nat_lt, ℕ, Bool, true, false, List, [], Option, Some, None, length, slice_get, if◌then◌else◌}
-use Rattle.vol_words.specs.Fields.{Block}
+use Rattle.base_words.specs.Fields.{Block}
 use Rattle.lock_db.specs.declared.name.LockName.TheVariants.{X, V}
 use Rattle.plain_cat.specs.declared.mode.Mode.{Mode}
 use Rattle.plain_cat.specs.declared.mode.Mode.TheVariants.{NL, CR, PW, EX}
@@ -12,9 +12,9 @@ use Rattle.extent_cache.specs.Stock.{Stock}
 use Rattle.extent_cache.specs.Takings.{holds_enough}
 use Rattle.vol_parts.specs.declared.geometry.Geometry.{Geometry}
 use Rattle.op_law.specs.declared.need.PlanWrite.{PlanWrite}
-use Rattle.node_space.specs.declared.outcome.Search.{Search}
-use Rattle.node_space.specs.declared.outcome.Search.TheVariants as search
-use Rattle.node_space.specs.Answering.{answer, blocks_of}
+use Rattle.core_space.specs.declared.outcome.Search.{Search}
+use Rattle.core_space.specs.declared.outcome.Search.TheVariants as search
+use Rattle.core_space.specs.Answering.{answer, blocks_of}
 use Rattle.core_space.specs.declared.run.Phase.{Phase}
 use Rattle.core_space.specs.declared.run.Phase.TheVariants.{Off, Fill, Drain, Last, Back}
 use Rattle.core_space.specs.declared.run.SpaceRun.{SpaceRun}

@@ -6,17 +6,17 @@ ghost use Rattle.extent_cache.specs.Stock.{is_covered};
 ghost use Rattle.vol_parts.specs.Parts.{IsGeometry, storage_blocks};
 ghost use Rattle.vol_spell.specs.Reading.{total_of};
 ghost use Rattle.op_law.specs.Freeing.{with_free, without_numbers};
-ghost use Rattle.node_space.specs.Searching.{free_in, free_from};
-ghost use Rattle.node_space.specs.Answering.{blocks_of};
+ghost use Rattle.core_space.specs.Searching.{free_in, free_from};
+ghost use Rattle.core_space.specs.Answering.{blocks_of};
 ghost use Rattle.core_space.specs.Filling.{lowest_numbers, with_used};
 ghost use Rattle.core_space.specs.Giving.{is_seen, block_seen, has_covered};
 
+use base_words::{Block, zeros};
 use fx_bitmap::{bit, clear_bits, set_bits};
 use op_law::Numbers;
 use plain_cat::NoMemory;
 use std::alloc::Global;
 use vol_parts::Geometry;
-use vol_words::{Block, zeros};
 
 /// How many clusters have their bits in a block of the storage bitmap.
 const CLUSTERS_PER_BLOCK: u32 = 4_096;

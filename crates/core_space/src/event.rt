@@ -1,8 +1,8 @@
 use crate::run::Phase;
+use base_words::Block;
 use lock_db::LockName;
 use op_law::Writes;
 use plain_cat::{Mode, Refusal};
-use vol_words::Block;
 
 /// The next event of a node's rules for space.
 #[derive(Clone, Copy)]

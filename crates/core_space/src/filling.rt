@@ -4,20 +4,20 @@ ghost use Rattle.std.specs.Prelude.{◌≡◌, ◌≤◌, ◌+◌, ◌++◌, ◌
 ghost use Rattle.std.specs.List.{All};
 ghost use Rattle.vol_parts.specs.Parts.{IsGeometry};
 ghost use Rattle.op_law.specs.Writing.{with_numbers};
-ghost use Rattle.node_space.specs.Searching.{free_from};
-ghost use Rattle.node_space.specs.Answering.{blocks_of};
+ghost use Rattle.core_space.specs.Searching.{free_from};
+ghost use Rattle.core_space.specs.Answering.{blocks_of};
 ghost use Rattle.core_space.specs.Filling.{clusters_to_take, lacks_number, storage_part, storage_place, fill_place, numbers_taken, numbers_write, index_writes, storage_writes, filled};
 
 use crate::bits::{count_free, lowest_numbers, storage_blocks, with_used};
 use crate::run::SpaceNeed;
+use crate::{Search, search};
+use base_words::Block;
 use extent_cache::Extents;
 use lock_db::LockName;
-use node_space::{Search, search};
 use op_law::{Numbers, PlanWrite, Writes};
 use plain_cat::{Clusters, NoMemory, Stage};
 use std::alloc::Global;
 use vol_parts::Geometry;
-use vol_words::Block;
 
 /// So many clusters are taken beyond the need.
 const SPARE: u32 = 16;

@@ -9,12 +9,12 @@ ghost use Rattle.op_law.specs.Writing.{empty_handed, write_at};
 ghost use Rattle.core_space.specs.Giving.{has_covered, storage_range, clusters_place, give_place, index_back, clusters_back, give_writes};
 
 use crate::bits::{block_seen, has_covered, is_seen, storage_blocks, with_free, without_numbers};
+use base_words::Block;
 use lock_db::LockName;
 use op_law::{Numbers, PlanWrite, Writes};
 use plain_cat::{Clusters, NoMemory, Stage};
 use std::alloc::Global;
 use vol_parts::Geometry;
-use vol_words::Block;
 
 // The first block of the storage bitmap that has bits of these clusters and was not looked at.
 fn clusters_place(geometry: &Geometry, clusters: &[u32], looked: &[(u32, Block)]) -> Option<u32>

@@ -4,7 +4,7 @@ ghost use Rattle.std.specs.Prelude.{◌≡◌, ◌≤◌, IfOk, OnErr, None, sli
 ghost use Rattle.extent_cache.specs.Stock.{Stock};
 ghost use Rattle.extent_cache.specs.Takings.{holds_enough};
 ghost use Rattle.vol_parts.specs.Parts.{IsGeometry};
-ghost use Rattle.node_space.specs.Answering.{answer, blocks_of};
+ghost use Rattle.core_space.specs.Answering.{answer, blocks_of};
 ghost use Rattle.core_space.specs.Giving.{give_place};
 ghost use Rattle.core_space.specs.Rule.{is_shared, has_any, TakesMemory, next_put, written_first, after_looks, by_search, fill_event, last_event, back_event, space_event, is_due, looks_on, gives, fills, search_by, space_decision};
 
@@ -12,9 +12,9 @@ use crate::event::{Decision, SpaceEvent};
 use crate::filling::{clusters_to_take, fill, fill_place, lacks_number};
 use crate::giving::{give_place, give_writes};
 use crate::run::{Phase, SpaceLocks, SpaceNeed, SpaceRun};
+use crate::{Search, search};
 use extent_cache::Extents;
 use lock_db::LockName;
-use node_space::{Search, search};
 use op_law::Writes;
 use plain_cat::{Mode, NoMemory};
 use std::alloc::Global;

@@ -3,7 +3,7 @@ use Rattle.std.proofs.Common.{◌≡◌, ◌≢◌, ◌≤◌, ◌+◌, ◌++◌
 use Rattle.std.specs.Prelude.{◌&&◌, ◌||◌, ◌-◌, ◌⊎◌, not, cond, is_some, nat_lt, replicate, slice_index_or}
 use Rattle.std.proofs.lemmas.Bool.Decides.{nat_tests}
 use Rattle.std.proofs.lemmas.Option.{slice_get_within}
-use Rattle.vol_words.specs.Fields.{Block}
+use Rattle.base_words.specs.Fields.{Block}
 use Rattle.lock_db.specs.declared.name.LockName.{LockName}
 use Rattle.lock_db.specs.declared.resource.Resource.{Resource}
 use Rattle.lock_db.specs.declared.name.LockName.TheVariants.{A, X}
@@ -21,29 +21,29 @@ use Rattle.plain_cat.specs.InForm.{is_eighth, InForm}
 use Rattle.plain_cat.specs.declared.history.Entry.{Entry}
 use Rattle.plain_cat.specs.declared.history.Entry.TheVariants.{Done}
 use Rattle.plain_cat.specs.declared.cat.Cat.{Cat}
-use Rattle.plain_vol.specs.declared.outcome.Outcome.{Outcome}
-use Rattle.plain_vol.specs.Accounts.{Accounted}
-use Rattle.plain_vol.specs.Lookups.{channel_at, file_at, is_open}
-use Rattle.plain_vol.specs.Changes.{with_channel}
-use Rattle.plain_vol.specs.Answers.{told, removed, closed, close_of, close_outcome, outcome, Answer}
-use Rattle.plain_vol.specs.Own.{NodePast, past, is_closed, after_answer, after_entry, command_after}
-use Rattle.plain_opens.proofs.Commanding.{past_count}
-use Rattle.plain_opens.proofs.Moving.{answer_moved}
-use Rattle.plain_opens.proofs.Naming.{answer_names}
-use Rattle.plain_vol.proofs.Keeps.{accounts_kept}
-use Rattle.node_past.specs.Laws.{is_of}
-use Rattle.node_past.proofs.Growing.{past_grows, past_of_others, own_grows, replays_grow}
+use Rattle.plain_rules.specs.declared.outcome.Outcome.{Outcome}
+use Rattle.plain_rules.specs.Accounts.{Accounted}
+use Rattle.plain_rules.specs.Lookups.{channel_at, file_at, is_open}
+use Rattle.plain_rules.specs.Changes.{with_channel}
+use Rattle.plain_rules.specs.Answers.{told, removed, closed, close_of, close_outcome, outcome, Answer}
+use Rattle.plain_rules.specs.Own.{NodePast, past, is_closed, after_answer, after_entry, command_after}
+use Rattle.plain_histories.proofs.Commanding.{past_count}
+use Rattle.plain_histories.proofs.Moving.{answer_moved}
+use Rattle.plain_histories.proofs.Naming.{answer_names}
+use Rattle.plain_rules.proofs.Keeps.{accounts_kept}
+use Rattle.plain_past.specs.Laws.{is_of}
+use Rattle.plain_past.proofs.Growing.{past_grows, past_of_others, own_grows, replays_grow}
 use Rattle.node_locks.specs.Held.{system_of, names_of, HoldsItsLocks, AreHeld, waits_at, Row, with_rows}
 use Rattle.node_locks.specs.Sweeping.{all_given}
 use Rattle.node_locks.specs.PuttingBack.{Values, all_back}
 use Rattle.node_locks.specs.Sequences.{first_sequence, second_sequence, raised_block}
-use Rattle.vol_owners.specs.Lists.{Has, StandsIn, written}
-use Rattle.vol_owners.proofs.Listing.{has_first, has_second}
+use Rattle.base_words.specs.Lists.{Has, StandsIn, written}
+use Rattle.base_words.proofs.Listing.{has_first, has_second}
 use Rattle.node_locks.specs.Channels.{AllGoOn as RowsGoOn}
 use Rattle.node_locks.proofs.Channels.{channels_give}
 use Rattle.node_locks.proofs.Keeping.{rows_go_on}
-use Rattle.vol_owners.specs.Owners.{Owners, Things, nothing, Outs}
-use Rattle.vol_owners.proofs.Writing.{stands_joined}
+use Rattle.vol_spell.specs.Owners.{Owners, Things, nothing, Outs}
+use Rattle.base_words.proofs.ListWrites.{stands_joined}
 use Rattle.vol_parts.specs.declared.geometry.Geometry.{Geometry}
 use Rattle.vol_spell.specs.Spelling.{Spells}
 use Rattle.vol_under.specs.UnderWay.{PlannedWrite, bare, UnderWay, writes_to, outs_after, outs_at, together, resting, idle, changed}
@@ -51,10 +51,10 @@ use Rattle.vol_under.specs.Guards.{guard_of}
 use Rattle.vol_under.specs.Under.{IsUnder}
 use Rattle.vol_under.proofs.Guarding.{wider_write}
 use Rattle.vol_under.proofs.Nodes.{changed_here}
-use Rattle.cache_laws.specs.Committed.{IsUnderOn, of_it}
-use Rattle.cache_laws.specs.Staying.{IsGuarded, IsFreedBy}
-use Rattle.cache_laws.proofs.Committed.{alike_on}
-use Rattle.cache_laws.proofs.Heads.{guarded_or_freed}
+use Rattle.core_cached.specs.Committed.{IsUnderOn, of_it}
+use Rattle.core_cached.specs.Staying.{IsGuarded, IsFreedBy}
+use Rattle.core_cached.proofs.Committed.{alike_on}
+use Rattle.core_cached.proofs.Heads.{guarded_or_freed}
 use Rattle.op_law.specs.declared.need.Need.TheVariants as need
 use Rattle.op_law.specs.declared.need.Plan.{Plan}
 use Rattle.op_law.specs.declared.need.PlanWrite.{PlanWrite}
@@ -78,8 +78,8 @@ use Rattle.core_state.specs.Caches.{keeps, raised_values, lowered_of}
 use Rattle.core_state.specs.Stores.{hold_writes, HasStore, HasNothing, IsStocked}
 use Rattle.core_state.specs.Searches.{Rules, Served, Given, Shared, Fills, Grabs, Filled, Drains, Alone, Looking, Taking, Taken, Refused, Spaces, Off, Back, Busy}
 use Rattle.core_state.specs.Events.{given_back, all_writes, turned, stays, staying, going, used_locks, answering, all_put_back, locks_after, answered_by}
-use Rattle.plain_usages.specs.Usages.{AreNear}
-use Rattle.plain_usages.proofs.Stating.{answer_near, answer_small}
+use Rattle.plain_histories.specs.Usages.{AreNear}
+use Rattle.plain_histories.proofs.Stating.{answer_near, answer_small}
 use Rattle.core_state.specs.Fallen.{falls}
 use Rattle.core_state.proofs.Falling.{answers_fell, answers_left}
 use Rattle.core_state.proofs.Numbers.{Keeps as Numbers, answer_stays}
@@ -98,7 +98,7 @@ use Rattle.core_state.proofs.PutBacks.{is_low, OpensStay, opens_back}
 use Rattle.core_state.proofs.CachedBacks.{used_once, used_apart, used_may, gone_once, gone_apart}
 use Rattle.core_state.proofs.KeptReplies.{kept_then, store_then}
 use Rattle.core_state.proofs.CachedReplies.{writes_then, cached_then}
-use Rattle.core_state.proofs.Rows.{own_rows}
+use Rattle.node_locks.proofs.Nodes.{rows_here as own_rows}
 use Rattle.core_state.proofs.Backing.{none_in_stock}
 use Rattle.core_state.proofs.Taking.{AnswersBy, its_outs, its_seen, changed_twice, widens, answers_by}
 use Rattle.core_state.proofs.SmallTables.{IsSequence, is_first, is_second, both_little}

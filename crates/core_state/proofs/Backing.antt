@@ -1,5 +1,5 @@
 -- A give-back begins: where it is due, and its claim of V.
-use Rattle.std.proofs.Common.{◌≡◌, ◌≤◌, ◌+◌, ◌⊎◌, ◌++◌, ◌||◌, ◌&&◌, not, ℕ, Bool, true, false, cond, List, [], ◌∷◌, Option, Some, None, is_some, length, map, drop, nat_lt, refl, sym, ap, subst, ◌∙◌, inl, inr, arith}
+use Rattle.std.proofs.Common.{◌≡◌, ◌≤◌, ◌+◌, ◌⊎◌, ◌++◌, ◌||◌, ◌&&◌, not, ℕ, true, false, cond, List, [], ◌∷◌, Option, Some, None, is_some, length, map, drop, nat_lt, refl, sym, ap, subst, ◌∙◌, inl, inr, arith}
 use Rattle.std.specs.Prelude.{is_none}
 use Rattle.std.proofs.lemmas.Bool.{and_parts}
 use Rattle.std.proofs.lemmas.List.{append-nil}
@@ -8,13 +8,13 @@ use Rattle.plain_cat.specs.Modes.{rank}
 use Rattle.plain_cat.specs.declared.mode.Mode.{Mode}
 use Rattle.plain_cat.specs.declared.mode.Mode.TheVariants.{NL, CR, CW, PR, PW, EX}
 use Rattle.plain_cat.specs.declared.command.Cmd.{Cmd}
-use Rattle.plain_vol.specs.Own.{next_command}
+use Rattle.plain_rules.specs.Own.{next_command}
 use Rattle.node_locks.specs.Held.{system_of, Row, names_of, waits_at}
 use Rattle.node_locks.specs.Taking.{taken}
-use Rattle.vol_owners.specs.Lists.{Has, Once, Touches}
-use Rattle.vol_owners.specs.Owners.{Things, nothing}
-use Rattle.vol_owners.proofs.Writing.{touches_joined}
-use Rattle.vol_owners.proofs.Listing.{has_first, has_parted}
+use Rattle.base_words.specs.Lists.{Has, Once, Touches}
+use Rattle.vol_spell.specs.Owners.{Things, nothing}
+use Rattle.base_words.proofs.ListWrites.{touches_joined}
+use Rattle.base_words.proofs.Listing.{has_first, has_parted}
 use Rattle.vol_parts.specs.declared.geometry.Geometry.{Geometry}
 use Rattle.vol_under.specs.Guards.{guard_of, MayLook}
 use Rattle.vol_under.specs.UnderWay.{UnderWay}
@@ -48,6 +48,8 @@ use Rattle.core_state.proofs.Claiming.{claim_keeps}
 use Rattle.core_state.proofs.CachedLooks.{claimed_store}
 use Rattle.core_state.proofs.Claims.{keeps_on, x_in_cr, v_not_a, v_not_x, v_new, v_keeps, x_goes_on, no_claims, no_claims_kept}
 use Rattle.core_state.proofs.Givings.{give_none}
+use Rattle.op_law.proofs.Asking.{not_so}
+use Rattle.plain_rules.proofs.Ordered.{or_cases}
 
 -- ---- where no rule is begun
 
@@ -81,12 +83,6 @@ off_so o kept claims run stock seen off (Off h) = h
 off_so o kept claims run stock seen off (Back h) = absurd (let f : phase.Off ≡ phase.Back = sym off ∙ h.back in cc)
 off_so o kept claims run stock seen off (Busy x e r) = absurd (not_begun x kept claims run stock seen off r)
 
--- ---- where a give-back is due
-
-either : (a b : Bool) → (a || b) ≡ true → (a ≡ true) ⊎ (b ≡ true)
-either true b e = inl refl
-either false b e = inr e
-
 reader_has : (ls : Row) (o : Option Mode) → mode_in X ls ≡ o → is_reader o ≡ true → Has ls (X, CR)
 reader_has ls None e t = absurd (let f : false ≡ true = t in cc)
 reader_has ls (Some NL) e t = absurd (let f : false ≡ true = t in cc)
@@ -95,10 +91,6 @@ reader_has ls (Some CW) e t = absurd (let f : false ≡ true = t in cc)
 reader_has ls (Some PR) e t = absurd (let f : false ≡ true = t in cc)
 reader_has ls (Some PW) e t = absurd (let f : false ≡ true = t in cc)
 reader_has ls (Some EX) e t = absurd (let f : false ≡ true = t in cc)
-
-not_true : (b : Bool) → not b ≡ true → b ≡ false
-not_true true e = absurd (let f : false ≡ true = e in cc)
-not_true false e = refl
 
 no_first : (xs ys : List ℕ) → xs ++ ys ≡ [] → xs ≡ []
 no_first [] ys f = refl
@@ -126,7 +118,7 @@ module _ (w : Plain) (good : Good w) (n : ℕ) (s : NodeState) (at : node_at w.n
   me = good.nodes n s at
 
   pub due_is : s.run.phase ≡ phase.Off → is_due_in w n s phase.Off ≡ true → IsDue s
-  due_is begun due = by_tests (either (is_reader (space_locks s).x && (is_wanted w n && not (has_asked V s.asked))) (is_ended w n s && has_any (roomless s.stock)) due) where
+  due_is begun due = by_tests (or_cases (is_reader (space_locks s).x && (is_wanted w n && not (has_asked V s.asked))) (is_ended w n s && has_any (roomless s.stock)) due) where
     off : IsOff s.claims s.run s.seen
     off = off_so s.cmd s.kept s.claims s.run s.stock s.seen begun me.space
 
@@ -155,7 +147,7 @@ module _ (w : Plain) (good : Good w) (n : ℕ) (s : NodeState) (at : node_at w.n
         record {
           off = off;
           shared = subst (λ (ls : Row). Has ls (X, CR)) bare (reader_has (s.kept ++ s.claims) (mode_in X (s.kept ++ s.claims)) refl a.0);
-          not_asked = not_asked s.asked V (not_true (has_asked V s.asked) b.1);
+          not_asked = not_asked s.asked V (not_so (has_asked V s.asked) b.1);
         }
     by_tests (inr e) =
         let a = and_parts (is_ended w n s) (has_any (roomless s.stock)) e in

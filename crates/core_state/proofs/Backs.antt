@@ -1,10 +1,10 @@
 -- A write of a give-back: what it makes free, and what is left then.
 use Rattle.std.proofs.Common.{◌≡◌, ◌<◌, ◌+◌, ◌⊎◌, ℕ, zero, suc, List, [], ◌∷◌, Some, None, length, map, drop, slice_get, refl, sym, ap, subst, ◌∙◌, inl, inr, arith}
 use Rattle.std.proofs.lemmas.Option.{slice_get_within}
-use Rattle.vol_words.specs.Fields.{Block}
+use Rattle.base_words.specs.Fields.{Block}
 use Rattle.plain_cat.specs.declared.cat.Cat.{Cat}
-use Rattle.vol_owners.specs.Lists.{Has, Once}
-use Rattle.vol_owners.specs.Owners.{Owners, Things, Outs}
+use Rattle.base_words.specs.Lists.{Has, Once}
+use Rattle.vol_spell.specs.Owners.{Owners, Things, Outs}
 use Rattle.vol_parts.specs.declared.geometry.Geometry.{Geometry}
 use Rattle.lock_db.specs.declared.name.LockName.TheVariants.{V}
 use Rattle.vol_parts.specs.declared.geometry.Part.TheVariants.{IndexBitmap, Storage}

@@ -5,13 +5,13 @@ use Rattle.lock_db.specs.declared.name.LockName.TheVariants.{X}
 use Rattle.plain_cat.specs.declared.mode.Mode.{Mode}
 use Rattle.plain_cat.specs.declared.mode.Mode.TheVariants.{CR}
 use Rattle.plain_cat.specs.declared.command.Cmd.{Cmd}
-use Rattle.plain_vol.specs.Own.{next_command}
+use Rattle.plain_rules.specs.Own.{next_command}
 use Rattle.node_locks.specs.Held.{names_of, AreHeld, waits_at, without}
 use Rattle.op_law.proofs.Going.{seen_goes_on}
-use Rattle.vol_owners.specs.Lists.{Has}
-use Rattle.vol_owners.specs.Owners.{Things, nothing, Outs}
+use Rattle.base_words.specs.Lists.{Has}
+use Rattle.vol_spell.specs.Owners.{Things, nothing, Outs}
 use Rattle.vol_under.specs.UnderWay.{UnderWay, changed, AreSole}
-use Rattle.cache_laws.specs.Committed.{IsUnderOn}
+use Rattle.core_cached.specs.Committed.{IsUnderOn}
 use Rattle.node_cache.specs.Cached.{Cached}
 use Rattle.op_law.specs.Fits.{things}
 use Rattle.op_law.specs.Going.{GoesOn}

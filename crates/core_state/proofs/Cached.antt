@@ -4,12 +4,12 @@ use Rattle.std.specs.Prelude.{max}
 use Rattle.lock_db.specs.declared.name.LockName.{LockName}
 use Rattle.lock_db.specs.Tables.{resource_at}
 use Rattle.plain_cat.specs.declared.cat.Cat.{Cat}
-use Rattle.vol_owners.specs.Owners.{Owners}
+use Rattle.vol_spell.specs.Owners.{Owners}
 use Rattle.node_locks.specs.Held.{joined, names_of}
 use Rattle.node_locks.specs.Sequences.{rise}
 use Rattle.node_cache.specs.Cached.{Cached}
-use Rattle.vol_owners.specs.Lists.{Has}
-use Rattle.vol_owners.proofs.Listing.{same_or_not}
+use Rattle.base_words.specs.Lists.{Has}
+use Rattle.base_words.proofs.Listing.{same_or_not}
 use Rattle.core_state.specs.Worlds.{NodeState, Plain, node_at, rows_of}
 use Rattle.core_state.specs.Stores.{hold_writes, part_raise, rise_now, IsWriter, HasWritten, IsUnwritten, IsTrue, now_of, IsCurrent, IsAhead, IsCachedAt}
 

@@ -15,9 +15,9 @@ use Rattle.plain_cat.specs.declared.mode.Mode.TheVariants.{NL, CR, CW, PR, PW, E
 use Rattle.plain_cat.specs.declared.command.Cmd.{Cmd}
 use Rattle.plain_cat.specs.declared.command.Cmd.TheVariants as command
 use Rattle.plain_cat.specs.declared.reply.Reply.{Reply}
-use Rattle.plain_vol.specs.Own.{is_closed}
-use Rattle.vol_owners.specs.Lists.{Has, Once}
-use Rattle.vol_owners.proofs.Listing.{has_parted}
+use Rattle.plain_rules.specs.Own.{is_closed}
+use Rattle.base_words.specs.Lists.{Has, Once}
+use Rattle.base_words.proofs.Listing.{has_parted}
 use Rattle.node_locks.specs.Held.{Row, system_of, joined, names_of, HoldsItsLocks, waits_at}
 use Rattle.node_locks.specs.PuttingBack.{Values, all_back, MayPutBack}
 use Rattle.node_locks.specs.Sequences.{raised_block}

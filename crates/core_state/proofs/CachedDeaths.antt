@@ -27,9 +27,9 @@ use Rattle.plain_cat.specs.declared.mode.Mode.TheVariants.{NL, PW}
 use Rattle.plain_cat.specs.declared.history.Entry.{Entry}
 use Rattle.plain_cat.specs.declared.cat.Cat.{Cat}
 use Rattle.plain_cat.specs.declared.cat.Open.{Open}
-use Rattle.vol_owners.specs.Lists.{Has}
-use Rattle.vol_owners.specs.Owners.{Owners}
-use Rattle.vol_owners.proofs.Listing.{same_or_not}
+use Rattle.base_words.specs.Lists.{Has}
+use Rattle.vol_spell.specs.Owners.{Owners}
+use Rattle.base_words.proofs.Listing.{same_or_not}
 use Rattle.vol_under.specs.UnderWay.{AreSole}
 use Rattle.node_locks.specs.Held.{Row, system_of, joined, names_of, HoldsItsLocks, AreHeld, all_held}
 use Rattle.node_locks.specs.Sequences.{first_sequence, second_sequence}
@@ -48,27 +48,14 @@ use Rattle.core_state.proofs.Holding.{is_in_held, in_held_is, held_grows}
 use Rattle.core_state.proofs.Running.{are_sole}
 use Rattle.core_state.proofs.Keeping.{altered, LosesNothing}
 use Rattle.core_state.proofs.Cached.{none_or_some, same_state, written_by, Goes, Stays, Spoils, IsEventOf}
-use Rattle.core_state.proofs.CachedWrites.{raises_under}
+use Rattle.core_state.proofs.CachedWrites.{raises_under, both_true}
 use Rattle.core_state.proofs.CachedEvents.{all_cached}
-use Rattle.core_state.proofs.CachedUses.{sole_writer}
+use Rattle.core_state.proofs.CachedUses.{sole_writer, same_nat}
 use Rattle.core_state.proofs.CachedAnswers.{none_raised}
 use Rattle.core_state.proofs.CachedOthers.{rows_stand}
 use Rattle.core_state.proofs.CachedBacks.{writes_pw, pw_writes}
-
--- ---- who writes
-
-or_second : (a b : Bool) → b ≡ true → (a || b) ≡ true
-or_second true b e = refl
-or_second false b e = e
-
-both_true : (a b : Bool) → a ≡ true → b ≡ true → (a && b) ≡ true
-both_true a b e f = (λ i. e i && f i)
-
-nat_same : (a b : ℕ) → a ≡ b → (a == b) ≡ true
-nat_same a b e = grind (arith, nat_tests)
-
-same_nat : (a b : ℕ) → (a == b) ≡ true → a ≡ b
-same_nat a b e = grind (arith, nat_tests)
+use Rattle.base_words.proofs.Booleans.{nat_same}
+use Rattle.plain_rules.proofs.Ordered.{or_right}
 
 -- a file system that has a lock in PW or EX is a writer of its node
 system_writes : (n : ℕ) (xs : List Asker) (mode : Mode) → standing_of (system_of n) xs ≡ Some (Granted mode) → is_writing mode ≡ true → list_any (is_writer_of n) xs ≡ true
@@ -79,7 +66,7 @@ system_writes n (x ∷ xs) mode e writes = by_test (same_owner x.owner (system_o
       let is : x.standing ≡ Granted mode = (let g : Some x.standing ≡ Some (Granted mode) = f in cc) in
       let node : (x.owner.node == n) ≡ true = nat_same x.owner.node n (ap (λ (o : Owner). o.node) (same_owner-same x.owner (system_of n) t)) in
       ap (λ b. b || list_any (is_writer_of n) xs) (both_true (x.owner.node == n) (is_writing_held (held x.standing)) node (ap (λ (k : Standing). is_writing_held (held k)) is ∙ writes))
-  by_test false t rest f = or_second (is_writer_of n x) (list_any (is_writer_of n) xs) (rest f)
+  by_test false t rest f = or_right (is_writer_of n x) (list_any (is_writer_of n) xs) (rest f)
 
 -- an asker of node n that has a lock in PW or EX
 record HasWriter (n : ℕ) (xs : List Asker) : Type 0 where

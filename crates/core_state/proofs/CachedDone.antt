@@ -1,16 +1,16 @@
 -- The writes of a plan that are done, on the committed blocks: each is under the lock that it names, and they leave the runs of
 -- directories.
 use Rattle.std.proofs.Common.{◌≡◌, ◌&&◌, ℕ, zero, suc, Bool, true, false, not, List, [], ◌∷◌, Option, Some, None, map, take, refl, ap, subst}
-use Rattle.vol_words.specs.Fields.{Block}
+use Rattle.base_words.specs.Fields.{Block}
 use Rattle.lock_db.specs.declared.name.LockName.{LockName}
 use Rattle.plain_cat.specs.declared.mode.Mode.TheVariants.{PW}
 use Rattle.plain_cat.specs.declared.command.Cmd.{Cmd}
 use Rattle.plain_cat.specs.declared.reply.Reply.{Reply}
 use Rattle.plain_cat.specs.declared.cat.Cat.{Cat}
 use Rattle.node_locks.specs.Held.{waits_at}
-use Rattle.vol_owners.specs.Lists.{Has, StandsIn}
-use Rattle.vol_owners.specs.Owners.{Owners, Outs}
-use Rattle.vol_owners.proofs.Writing.{stands_joined}
+use Rattle.base_words.specs.Lists.{Has, StandsIn}
+use Rattle.vol_spell.specs.Owners.{Owners, Outs}
+use Rattle.base_words.proofs.ListWrites.{stands_joined}
 use Rattle.vol_parts.specs.declared.geometry.Geometry.{Geometry}
 use Rattle.vol_parts.specs.declared.geometry.Part.TheVariants.{Header}
 use Rattle.vol_parts.specs.Parts.{part_of}
@@ -31,9 +31,7 @@ use Rattle.core_state.specs.Goods.{under_with, IsAtPlan, IsAt, HasCommand, IsNod
 use Rattle.core_state.proofs.Trying.{still_granted}
 use Rattle.core_state.proofs.Midway.{first_known, drive_so, outs_so, seen_so}
 use Rattle.core_state.proofs.Outside.{first_among}
-
-both : (a b : Bool) → a ≡ true → b ≡ true → (a && b) ≡ true
-both a b e f = (λ i. e i && f i)
+use Rattle.core_state.proofs.CachedWrites.{both_true}
 
 -- the first of the planned writes are the first writes, planned
 pub take_planned : (k : ℕ) (ws : List PlanWrite) → take k (map planned ws) ≡ map planned (take k ws)
@@ -95,14 +93,14 @@ module _ (w : Plain) (good : Good w) (n : ℕ) (s : NodeState) (at : node_at w.n
       by_tried b t None ask v h = by_law p.writes p.reply (knows n x s.seen) (subst (IsPlan n x s.seen p) ask whole) first v h
       by_tried true t (Some a) ask v h =
           let law : IsPlan n x s.seen p (Some a) = subst (IsPlan n x s.seen p) ask whole in
-          by_law p.writes p.reply (λ c. knows n x s.seen c && is_granted n a c) law.1 (both (knows n x s.seen cat) (is_granted n a cat) first (still_granted w good n s at x cmd_is i.1 p e a ask t)) v h
+          by_law p.writes p.reply (λ c. knows n x s.seen c && is_granted n a c) law.1 (both_true (knows n x s.seen cat) (is_granted n a cat) first (still_granted w good n s at x cmd_is i.1 p e a ask t)) v h
       by_tried false t (Some a) ask v h = by_granted (is_granted n a cat) refl where
         law : IsPlan n x s.seen p (Some a)
         law = subst (IsPlan n x s.seen p) ask whole
 
         by_granted : (c : Bool) → is_granted n a cat ≡ c → Sound v
-        by_granted true g = by_law p.writes p.reply (λ c. knows n x s.seen c && is_granted n a c) law.1 (both (knows n x s.seen cat) (is_granted n a cat) first g) v (first_among a.at p.writes v h)
-        by_granted false g = by_law (take a.at p.writes) a.refused (λ c. knows n x s.seen c && not (is_granted n a c)) law.2 (both (knows n x s.seen cat) (not (is_granted n a cat)) first (ap not g)) v h
+        by_granted true g = by_law p.writes p.reply (λ c. knows n x s.seen c && is_granted n a c) law.1 (both_true (knows n x s.seen cat) (is_granted n a cat) first g) v (first_among a.at p.writes v h)
+        by_granted false g = by_law (take a.at p.writes) a.refused (λ c. knows n x s.seen c && not (is_granted n a c)) law.2 (both_true (knows n x s.seen cat) (not (is_granted n a cat)) first (ap not g)) v h
 
   -- the writes that are done, of a command or of none
   abbrev pub writes_made : List PlanWrite

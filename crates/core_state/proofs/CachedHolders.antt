@@ -11,7 +11,7 @@ use Rattle.lock_db.proofs.Owners.{same_owner-same}
 use Rattle.lock_db.proofs.Rules.{Contains-first, Contains-later}
 use Rattle.plain_cat.specs.declared.mode.Mode.{Mode}
 use Rattle.plain_cat.specs.declared.mode.Mode.TheVariants.{NL, CR, CW, PR, PW, EX}
-use Rattle.vol_owners.specs.Lists.{Has}
+use Rattle.base_words.specs.Lists.{Has}
 use Rattle.node_locks.specs.Held.{Row, system_of, HoldsItsLocks, all_held}
 use Rattle.node_locks.proofs.Keeping.{holders_hold}
 use Rattle.op_law.specs.Laws.{held_in}

@@ -1,17 +1,17 @@
 -- The cache of a node after a look, a use and a write: what it is, and what its entries are.
 use Rattle.std.proofs.Common.{◌≡◌, ◌⊎◌, ◌≤◌, ◌+◌, ◌++◌, ◌∙◌, ℕ, Bool, true, false, List, [], ◌∷◌, Option, Some, None, filter, length, not, cond, refl, sym, ap, subst, inl, inr, arith}
 use Rattle.std.specs.List.{list_any}
-use Rattle.vol_words.specs.Fields.{Block}
+use Rattle.base_words.specs.Fields.{Block}
 use Rattle.lock_db.specs.declared.name.LockName.{LockName}
 use Rattle.lock_db.specs.declared.name.LockName.TheVariants.{S, Q, X, V}
 use Rattle.lock_db.specs.Names.{is_same}
 use Rattle.lock_db.specs.Tables.{resource_at, IsTable}
 use Rattle.plain_cat.specs.declared.cat.Cat.{Cat}
 use Rattle.plain_cat.specs.declared.mode.Mode.{Mode}
-use Rattle.vol_owners.specs.declared.owner.Owner.{Owner}
-use Rattle.vol_owners.specs.declared.owner.Owner.TheVariants.{Free, InFile, Outside, Leaked}
-use Rattle.vol_owners.specs.Lists.{Has}
-use Rattle.vol_owners.specs.Owners.{Owners}
+use Rattle.vol_spell.specs.declared.owner.Owner.{Owner}
+use Rattle.vol_spell.specs.declared.owner.Owner.TheVariants.{Free, InFile, Outside, Leaked}
+use Rattle.base_words.specs.Lists.{Has}
+use Rattle.vol_spell.specs.Owners.{Owners}
 use Rattle.vol_parts.specs.declared.geometry.Geometry.{Geometry}
 use Rattle.vol_parts.specs.declared.geometry.Part.{Part}
 use Rattle.vol_parts.specs.declared.geometry.Part.TheVariants.{Header, IndexBitmap, Storage, Quota}
@@ -29,15 +29,7 @@ use Rattle.core_state.specs.Stores.{guards_blocks, AreKept, HasStore, IsTrue, Is
 use Rattle.core_state.proofs.CachedEvents.{has_kept, has_used, has_replaced, kept_valid, kept_ahead}
 use Rattle.core_state.proofs.CachedHolders.{holds_to_write}
 use Rattle.core_state.proofs.Naming.{from_without}
-
--- ---- locks that guard blocks
-
-lock_name : (a b : LockName) → Some (Lock a) ≡ Some (Lock b) → a ≡ b
-lock_name a b e = ap name_in e where
-  name_in : Option Guard → LockName
-  name_in (Some (Lock y)) = y
-  name_in (Some (Stock m)) = a
-  name_in None = a
+use Rattle.core_cached.proofs.Heads.{guard_lock}
 
 no_guard : (name : LockName) → None ≡ Some (Lock name) → ⊥
 no_guard name e = absurd (cc)
@@ -53,13 +45,13 @@ stock_guard name n e = absurd (let f : true ≡ false = ap is_stock e in cc) whe
 pub guarding_name : (g : Geometry) (own : Owners) (lbn : ℕ) (name : LockName) → guard_of g own lbn ≡ Some (Lock name) → guards_blocks name ≡ true
 guarding_name g own lbn name e = by_part (part_of g lbn) (owner_at g own lbn) e where
   by_part : (p : Option Part) (o : Option Owner) → guard_by p o ≡ Some (Lock name) → guards_blocks name ≡ true
-  by_part (Some (Header n)) o f = ap guards_blocks (sym (lock_name (S n) name f))
-  by_part (Some IndexBitmap) o f = ap guards_blocks (sym (lock_name V name f))
-  by_part (Some (Storage k)) o f = ap guards_blocks (sym (lock_name V name f))
-  by_part (Some (Quota k)) o f = ap guards_blocks (sym (lock_name Q name f))
+  by_part (Some (Header n)) o f = ap guards_blocks (sym (guard_lock (S n) name f))
+  by_part (Some IndexBitmap) o f = ap guards_blocks (sym (guard_lock V name f))
+  by_part (Some (Storage k)) o f = ap guards_blocks (sym (guard_lock V name f))
+  by_part (Some (Quota k)) o f = ap guards_blocks (sym (guard_lock Q name f))
   by_part None None f = absurd (no_guard name f)
   by_part None (Some Free) f = absurd (no_guard name f)
-  by_part None (Some (InFile n)) f = ap guards_blocks (sym (lock_name (S n) name f))
+  by_part None (Some (InFile n)) f = ap guards_blocks (sym (guard_lock (S n) name f))
   by_part None (Some (Outside m)) f = absurd (stock_guard name m f)
   by_part None (Some Leaked) f = absurd (no_guard name f)
 

@@ -1,5 +1,5 @@
 -- The cached blocks of all nodes where a node lowers V, with its value block raised by what its rules for space have written.
-use Rattle.std.proofs.Common.{◌≡◌, ◌≢◌, ◌≤◌, ◌++◌, ◌∙◌, ℕ, Bool, true, false, not, List, [], Option, Some, None, length, take, refl, sym, ap, subst, inl, inr, arith}
+use Rattle.std.proofs.Common.{◌≡◌, ◌≢◌, ◌≤◌, ◌++◌, ◌∙◌, ℕ, true, false, not, List, [], Option, Some, None, length, take, refl, sym, ap, subst, inl, inr, arith}
 use Rattle.std.proofs.lemmas.Bool.Decides.{nat_tests}
 use Rattle.std.proofs.lemmas.List.{append-nil}
 use Rattle.std.proofs.lemmas.List.Elements.{filter-append}
@@ -13,9 +13,9 @@ use Rattle.plain_cat.specs.declared.mode.Mode.{Mode}
 use Rattle.plain_cat.specs.declared.mode.Mode.TheVariants.{PW}
 use Rattle.plain_cat.specs.declared.command.Cmd.{Cmd}
 use Rattle.plain_cat.specs.declared.cat.Cat.{Cat}
-use Rattle.vol_owners.specs.Lists.{Has}
-use Rattle.vol_owners.specs.Owners.{Owners}
-use Rattle.vol_owners.proofs.Listing.{same_or_not, has_parted, has_first, has_second}
+use Rattle.base_words.specs.Lists.{Has}
+use Rattle.vol_spell.specs.Owners.{Owners}
+use Rattle.base_words.proofs.Listing.{same_or_not, has_parted, has_first, has_second}
 use Rattle.vol_under.specs.UnderWay.{AreSole}
 use Rattle.node_locks.specs.Held.{Row, joined, names_of, without}
 use Rattle.node_locks.specs.Sequences.{raised_block}
@@ -26,7 +26,7 @@ use Rattle.op_law.specs.Laws.{held_in, takes_lock}
 use Rattle.core_space.specs.declared.run.Phase.{Phase}
 use Rattle.core_state.specs.Worlds.{NodeState, Plain, node_at, set_node, rows_of}
 use Rattle.core_state.specs.Asks.{writes_now}
-use Rattle.core_state.specs.Raises.{raise_by, raise_of}
+use Rattle.core_state.specs.Raises.{raise_of}
 use Rattle.core_state.specs.Caches.{part_sequence}
 use Rattle.core_state.specs.Searches.{AreUnderV}
 use Rattle.core_state.specs.Small.{AllGoOn}
@@ -44,14 +44,7 @@ use Rattle.core_state.proofs.CachedUses.{sole_writer}
 use Rattle.core_state.proofs.CachedAnswers.{Raised, back_goes}
 use Rattle.core_state.proofs.CachedDone.{writes_made, made_named}
 use Rattle.core_state.proofs.Midway.{locks_so}
-
--- ---- small steps
-
--- a part is raised by two at most
-raised_few : (freed wrote : Bool) → raise_by freed wrote ≤ 2
-raised_few true wrote = omega arith
-raised_few false true = omega arith
-raised_few false false = omega arith
+use Rattle.core_state.proofs.SmallTables.{raise_little}
 
 -- where nothing was written under a lock, its parts are not raised
 none_under : (w : Plain) (name : LockName) (lbn : ℕ) (ws : List PlanWrite) → ((x : PlanWrite) → Has ws x → x.lock ≡ name → ⊥) → part_raise w.geometry name lbn ws ≡ 0
@@ -174,7 +167,7 @@ module _ (w : Plain) (sole : AreSole (nodes_under w.locks w.nodes)) (writes : Ar
     block_v = subst (λ (k : Raise). BlockIs (raised_block k (resource_at V w.locks)) true (resource_at V t)) (sym raise_v) is.block
 
     on_v : (e : Cached) → e.lock ≡ V → Goes w v n s r e
-    on_v e lock = back_goes w n s r t w.blocks (set_node w.nodes n r) w.history e (go.first e.lock) (go.second e.lock) (raised_few _ _) (raised_few _ _) (raised_writer e)
+    on_v e lock = back_goes w n s r t w.blocks (set_node w.nodes n r) w.history e (go.first e.lock) (go.second e.lock) (raise_little _ _) (raise_little _ _) (raised_writer e)
         (none_under w e.lock e.lbn (hold_writes r) (λ x h under. (is.apart x (subst (λ (ws : List PlanWrite). Has ws x) is.left h)).not_v (under ∙ lock)))
         (Raised (subst (IsWriter w n s) (sym lock) is.writer) (subst (λ (k : LockName). BlockIs (raised_block (raise_of w.geometry k (hold_writes s)) (resource_at k w.locks)) true (resource_at k t)) (sym lock) block_v))
 

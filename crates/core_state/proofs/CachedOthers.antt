@@ -13,7 +13,7 @@ use Rattle.lock_db.specs.Tables.{resource_at, released}
 use Rattle.lock_db.specs.Laws.{stands_at, BlockStays, somebody}
 use Rattle.lock_db.proofs.Blocks.{released-leaves}
 use Rattle.plain_cat.specs.declared.mode.Mode.{Mode}
-use Rattle.vol_owners.specs.Lists.{Has, Once}
+use Rattle.base_words.specs.Lists.{Has, Once}
 use Rattle.std.specs.List.{AllByRecursion}
 use Rattle.node_locks.specs.Held.{Row, system_of, joined, names_of, IsGranted, IsWaiting, StandInOrder, HoldsItsLocks}
 use Rattle.node_locks.proofs.Standing.{stands-named}

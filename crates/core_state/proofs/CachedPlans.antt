@@ -5,11 +5,11 @@ use Rattle.lock_db.specs.declared.name.LockName.TheVariants.{S, A, Q, X, V}
 use Rattle.plain_cat.specs.declared.mode.Mode.TheVariants.{PW}
 use Rattle.plain_cat.specs.declared.command.Cmd.{Cmd}
 use Rattle.node_locks.specs.Held.{waits_at}
-use Rattle.vol_words.specs.Fields.{Block}
+use Rattle.base_words.specs.Fields.{Block}
 use Rattle.plain_cat.specs.declared.cat.Cat.{Cat}
-use Rattle.vol_owners.specs.declared.owner.Owner.{Owner as Possessor}
-use Rattle.vol_owners.specs.Lists.{Has, Touches}
-use Rattle.vol_owners.specs.Owners.{Owners}
+use Rattle.vol_spell.specs.declared.owner.Owner.{Owner as Possessor}
+use Rattle.base_words.specs.Lists.{Has, Touches}
+use Rattle.vol_spell.specs.Owners.{Owners}
 use Rattle.vol_parts.specs.declared.geometry.Part.{Part}
 use Rattle.vol_parts.specs.Parts.{part_of}
 use Rattle.vol_spell.specs.Reading.{owner_at}
@@ -35,9 +35,7 @@ use Rattle.core_state.proofs.Trying.{still_granted}
 use Rattle.core_state.proofs.Turning.{under_command, drive, here, outs_now, seen_on, known, writes_more, made_of, planned_at}
 use Rattle.core_state.proofs.Outside.{first_among}
 use Rattle.core_state.proofs.Fillings.{get_has}
-
-both : (a b : Bool) → a ≡ true → b ≡ true → (a && b) ≡ true
-both a b e f = (λ i. e i && f i)
+use Rattle.core_state.proofs.CachedWrites.{both_true}
 
 -- ---- a block that is guarded is one of the volume's
 
@@ -80,7 +78,7 @@ module _ (w : Plain) (good : Good w) (n : ℕ) (s : NodeState) (at : node_at w.n
   named_by true t (Some a) ask v h =
       let law : IsPlan n x s.seen p (Some a) = subst (IsPlan n x s.seen p) ask whole in
       law.1.named good.running.drive.base good.running.drive.own good.running.cat (stock_now s.stock s.run) (drive w good n s at x cmd free).spelt
-      (both (knows n x s.seen good.running.cat) (is_granted n a good.running.cat) (known w good n s at x cmd free) (still_granted w good n s at x cmd free p plan a ask t))
+      (both_true (knows n x s.seen good.running.cat) (is_granted n a good.running.cat) (known w good n s at x cmd free) (still_granted w good n s at x cmd free p plan a ask t))
       (seen_on w good n s at x cmd free).stands (outs_now w good n s at x cmd free) v h
   named_by false t (Some a) ask v h = by_granted (is_granted n a good.running.cat) refl where
     law : IsPlan n x s.seen p (Some a)
@@ -88,10 +86,10 @@ module _ (w : Plain) (good : Good w) (n : ℕ) (s : NodeState) (at : node_at w.n
 
     by_granted : (c : Bool) → is_granted n a good.running.cat ≡ c → Named v
     by_granted true e = law.1.named good.running.drive.base good.running.drive.own good.running.cat (stock_now s.stock s.run) (drive w good n s at x cmd free).spelt
-        (both (knows n x s.seen good.running.cat) (is_granted n a good.running.cat) (known w good n s at x cmd free) e)
+        (both_true (knows n x s.seen good.running.cat) (is_granted n a good.running.cat) (known w good n s at x cmd free) e)
         (seen_on w good n s at x cmd free).stands (outs_now w good n s at x cmd free) v (first_among a.at p.writes v h)
     by_granted false e = law.2.named good.running.drive.base good.running.drive.own good.running.cat (stock_now s.stock s.run) (drive w good n s at x cmd free).spelt
-        (both (knows n x s.seen good.running.cat) (not (is_granted n a good.running.cat)) (known w good n s at x cmd free) (ap not e))
+        (both_true (knows n x s.seen good.running.cat) (not (is_granted n a good.running.cat)) (known w good n s at x cmd free) (ap not e))
         (seen_on w good n s at x cmd free).stands (outs_now w good n s at x cmd free) v h
 
   module _ (v : PlanWrite) (next : slice_get (writes_by p.ask s.tried p.writes) s.done ≡ Some v) where

@@ -1,19 +1,18 @@
 -- The cached blocks of all nodes over a write.
-use Rattle.std.proofs.Common.{◌≡◌, ◌≢◌, ◌≤◌, ◌<◌, ◌+◌, ◌&&◌, ◌||◌, ◌==◌, ◌∙◌, ◌⊎◌, ℕ, Bool, true, false, cond, List, [], ◌∷◌, Option, Some, None, length, slice_set, refl, sym, ap, subst, inl, inr, arith}
+use Rattle.std.proofs.Common.{◌≡◌, ◌≢◌, ◌≤◌, ◌<◌, ◌+◌, ◌&&◌, ◌||◌, ◌==◌, ◌∙◌, ◌⊎◌, ℕ, Bool, true, false, cond, List, [], ◌∷◌, Some, length, slice_set, refl, sym, ap, subst, inl, inr, arith}
 use Rattle.std.specs.Prelude.{nat_le}
 use Rattle.std.specs.List.{list_any}
-use Rattle.std.proofs.lemmas.Bool.Decides.{nat_tests}
 use Rattle.lock_db.specs.declared.name.LockName.{LockName}
 use Rattle.lock_db.specs.Tables.{resource_at}
 use Rattle.lock_db.specs.Names.{is_same}
 use Rattle.lock_db.proofs.Names.{is_same-refl, is_same-same}
 use Rattle.plain_cat.specs.declared.mode.Mode.TheVariants.{PR, PW}
 use Rattle.plain_cat.specs.declared.cat.Cat.{Cat}
-use Rattle.vol_owners.specs.Lists.{Has}
-use Rattle.vol_owners.specs.Owners.{Owners}
-use Rattle.vol_owners.proofs.Listing.{same_or_not}
-use Rattle.vol_owners.proofs.Writing.{get-set_else, get-set_here}
-use Rattle.vol_under.specs.Guards.{Guard, Lock, Stock, guard_of}
+use Rattle.base_words.specs.Lists.{Has}
+use Rattle.vol_spell.specs.Owners.{Owners}
+use Rattle.base_words.proofs.Listing.{same_or_not}
+use Rattle.base_words.proofs.ListWrites.{get-set_else, get-set_here}
+use Rattle.vol_under.specs.Guards.{Lock, Stock, guard_of}
 use Rattle.vol_under.specs.UnderWay.{AreSole}
 use Rattle.node_locks.specs.Held.{Row, joined, names_of, all_held}
 use Rattle.node_cache.specs.Cached.{Cached, cached, is_for, is_under, is_of, is_since, replaced}
@@ -26,9 +25,13 @@ use Rattle.core_state.specs.Stores.{hold_writes, part_raise, IsWriter, IsUnwritt
 use Rattle.core_state.proofs.Holding.{held_weaker}
 use Rattle.core_state.proofs.Nodes.{at_here, at_else}
 use Rattle.core_state.proofs.Cached.{same_state, written_by, valid_at, Goes, Stays, IsEventOf, own_stays}
-use Rattle.core_state.proofs.CachedWrites.{raises_under, write_raises, part_raise_more}
+use Rattle.core_state.proofs.CachedWrites.{raises_under, write_raises, part_raise_more, both_true}
 use Rattle.core_state.proofs.CachedEvents.{all_cached, has_replaced, written_anew, since_is_true}
-use Rattle.core_state.proofs.CachedUses.{unwritten_read, sole_writer}
+use Rattle.core_state.proofs.CachedUses.{unwritten_read, sole_writer, same_nat}
+use Rattle.core_cached.proofs.Heads.{guard_lock, no_stock}
+use Rattle.core_space.proofs.Ways.{is_at_most}
+use Rattle.base_words.proofs.Booleans.{nat_same, at_most}
+use Rattle.op_law.proofs.Asking.{parted}
 
 -- ---- tests of entries
 
@@ -47,42 +50,9 @@ any_entry p (x ∷ es) t = by_test (p x) refl (any_entry p es) t where
   by_test true f rest g = (x, inl refl, f)
   by_test false f rest g = let h = rest g in (h.0, inr h.1, h.2)
 
-and_both : (a b : Bool) → (a && b) ≡ true → (a ≡ true) × (b ≡ true)
-and_both true b e = (refl, e)
-and_both false b e = absurd (let f : false ≡ true = e in cc)
-
-both_true : (a b : Bool) → a ≡ true → b ≡ true → (a && b) ≡ true
-both_true a b e f = (λ i. e i && f i)
-
-same_nat : (a b : ℕ) → (a == b) ≡ true → a ≡ b
-same_nat a b e = grind (arith, nat_tests)
-
-nat_same : (a b : ℕ) → a ≡ b → (a == b) ≡ true
-nat_same a b e = grind (arith, nat_tests)
-
-le_test : (a b : ℕ) → a ≤ b → nat_le a b ≡ true
-le_test a b e = grind (arith, nat_tests)
-
-test_le : (a b : ℕ) → nat_le a b ≡ true → a ≤ b
-test_le a b e = grind (arith, nat_tests)
-
 -- an entry of this block under this lock
 of_it : (x : PlanWrite) (e : Cached) → e.lbn ≡ x.lbn → e.lock ≡ x.lock → is_of x.lbn x.lock e ≡ true
 of_it x e lbn lock = both_true (is_for x.lbn e) (is_under x.lock e) (nat_same x.lbn e.lbn (sym lbn)) (subst (λ (y : LockName). is_same x.lock y ≡ true) (sym lock) (is_same-refl x.lock))
-
-guard_name : (a b : LockName) → Some (Lock a) ≡ Some (Lock b) → a ≡ b
-guard_name a b e = ap name_in e where
-  name_in : Option Guard → LockName
-  name_in (Some (Lock y)) = y
-  name_in (Some (Stock m)) = a
-  name_in None = a
-
-no_stock : (a : LockName) (n : ℕ) → Some (Lock a) ≡ Some (Stock n) → ⊥
-no_stock a n e = absurd (let f : true ≡ false = ap is_lock e in cc) where
-  is_lock : Option Guard → Bool
-  is_lock (Some (Lock y)) = true
-  is_lock (Some (Stock m)) = false
-  is_lock None = false
 
 -- ---- a write of node n, under a lock that it holds in PW
 
@@ -144,7 +114,7 @@ module _ (w : Plain) (sole : AreSole (nodes_under w.locks w.nodes)) (writes : Ar
   under_it e t lbn =
       let guard : guard_of w.geometry own x.lbn ≡ Some (Lock e.lock) = subst (λ (l : ℕ). guard_of w.geometry own l ≡ Some (Lock e.lock)) lbn t.guard in
       elim is.guards [
-        | inl g ↦ guard_name e.lock x.lock (sym guard ∙ g)
+        | inl g ↦ guard_lock e.lock x.lock (sym guard ∙ g)
         | inr g ↦ absurd (no_stock e.lock n (sym guard ∙ g))
       ]
 
@@ -211,15 +181,15 @@ module _ (w : Plain) (sole : AreSole (nodes_under w.locks w.nodes)) (writes : Ar
   made_anew all some =
       let k = any_entry (is_since x.lbn x.lock least) s.cache some in
       let e : Cached = k.0 in
-      let parts = and_both (is_of x.lbn x.lock e) (nat_le least e.seq) k.2 in
-      let names = and_both (is_for x.lbn e) (is_under x.lock e) parts.0 in
+      let parts = parted (is_of x.lbn x.lock e) (nat_le least e.seq) k.2 in
+      let names = parted (is_for x.lbn e) (is_under x.lock e) parts.0 in
       let lbn : e.lbn ≡ x.lbn = sym (same_nat x.lbn e.lbn names.0) in
       let lock : e.lock ≡ x.lock = sym (is_same-same x.lock e.lock names.1) in
       let old = all n s e is.at k.1 in
       let now_is : now_of w e ≡ now = (λ i. sequence_now w.geometry w.locks (lock i) (lbn i)) in
       let mark_is : valid_at w e ≡ (resource_at x.lock w.locks).valid = ap (λ (y : LockName). (resource_at y w.locks).valid) lock in
       let t : IsTrue w own c e = since_is_true w own c n s e old (ap next_sequence now_is ∙ is.goes_on ∙ ap (λ j. j + 1) (sym now_is)) (sole_here e lock)
-      (subst (λ (b : Bool). least_sequence b (now_of w e) ≤ e.seq) (sym mark_is) (subst (λ (j : ℕ). least_sequence (resource_at x.lock w.locks).valid j ≤ e.seq) (sym now_is) (test_le least e.seq parts.1))) in
+      (subst (λ (b : Bool). least_sequence b (now_of w e) ≤ e.seq) (sym mark_is) (subst (λ (j : ℕ). least_sequence (resource_at x.lock w.locks).valid j ≤ e.seq) (sym now_is) (is_at_most least e.seq parts.1))) in
       let place = stays e.lock e.lbn t.guard t.kind in
       written_anew v other d n r x (writer_on x.lock is.holds) (write_raises w.geometry (hold_writes r) x is.made) is.goes_on (subst (Has (names_of (joined (rows_of r)))) lock (held_on e old)) (record {
         block = get-set_here w.blocks x.lbn x.block is.within;
@@ -236,7 +206,7 @@ module _ (w : Plain) (sole : AreSole (nodes_under w.locks w.nodes)) (writes : Ar
           | inr h ↦ mine_stays all e h.0 (λ lbn lock le. absurd (let f : true ≡ false = sym (of_it x e lbn lock) ∙ h.1 in cc))
         ]
         by_any false none e has = mine_stays all e has
-            (λ lbn lock le. absurd (let f : true ≡ false = sym (entry_any (is_since x.lbn x.lock least) s.cache e has (both_true (is_of x.lbn x.lock e) (nat_le least e.seq) (of_it x e lbn lock) (le_test least e.seq le))) ∙ none in cc))
+            (λ lbn lock le. absurd (let f : true ≡ false = sym (entry_any (is_since x.lbn x.lock least) s.cache e has (both_true (is_of x.lbn x.lock e) (nat_le least e.seq) (of_it x e lbn lock) (at_most least e.seq le))) ∙ none in cc))
 
   pub put_writes : AreHeldWrites v
   put_writes m q y there has = elim (same_or_not m n) [

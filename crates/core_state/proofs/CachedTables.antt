@@ -11,7 +11,7 @@ use Rattle.lock_db.specs.Laws.{BlockIs, BlockStays, somebody}
 use Rattle.lock_db.proofs.Blocks.{conversions-write, releases-write, converted-leaves, released-leaves}
 use Rattle.plain_cat.specs.declared.mode.Mode.{Mode}
 use Rattle.plain_cat.specs.declared.mode.Mode.TheVariants.{NL, CR, CW, PR, PW, EX}
-use Rattle.vol_owners.specs.Lists.{Has, Once}
+use Rattle.base_words.specs.Lists.{Has, Once}
 use Rattle.vol_parts.specs.declared.geometry.Geometry.{Geometry}
 use Rattle.node_locks.specs.Held.{Row, system_of, names_of}
 use Rattle.node_locks.specs.PuttingBack.{Keeps, Values, put_back, all_back, MayPutBack}

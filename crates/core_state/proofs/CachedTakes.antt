@@ -15,9 +15,9 @@ use Rattle.plain_cat.specs.Modes.{rank}
 use Rattle.plain_cat.specs.declared.mode.Mode.{Mode}
 use Rattle.plain_cat.specs.declared.mode.Mode.TheVariants.{NL, CR, PW}
 use Rattle.plain_cat.specs.declared.cat.Cat.{Cat}
-use Rattle.vol_owners.specs.Lists.{Has}
-use Rattle.vol_owners.specs.Owners.{Owners}
-use Rattle.vol_owners.proofs.Listing.{same_or_not}
+use Rattle.base_words.specs.Lists.{Has}
+use Rattle.vol_spell.specs.Owners.{Owners}
+use Rattle.base_words.proofs.Listing.{same_or_not}
 use Rattle.vol_under.specs.UnderWay.{AreSole}
 use Rattle.node_locks.specs.Held.{Row, system_of, joined, names_of}
 use Rattle.node_locks.specs.Taking.{has_lock, taken, MayTake}

@@ -1,6 +1,5 @@
 -- Cached blocks stay true as writes are committed, unless one of these has freed the slot of the directory under the entry's lock.
-use Rattle.std.proofs.Common.{◌≡◌, ◌≤◌, ◌&&◌, ◌==◌, ◌∙◌, ◌⊎◌, ℕ, Bool, true, List, Ok, slice_get, refl, sym, ap, subst, inl, inr, arith}
-use Rattle.std.proofs.lemmas.Bool.Decides.{nat_tests}
+use Rattle.std.proofs.Common.{◌≡◌, ◌≤◌, ◌&&◌, ◌==◌, ◌∙◌, ◌⊎◌, ℕ, true, List, Ok, slice_get, refl, sym, ap, subst, inl, inr, arith}
 use Rattle.fx_header.specs.declared.slot.Slot.TheVariants as head
 use Rattle.fx_header.specs.Headers.{header_read}
 use Rattle.lock_db.specs.declared.name.LockName.{LockName}
@@ -8,23 +7,18 @@ use Rattle.lock_db.specs.declared.name.LockName.TheVariants.{S}
 use Rattle.lock_db.specs.Names.{is_same}
 use Rattle.lock_db.proofs.Names.{is_same-refl}
 use Rattle.plain_cat.specs.declared.cat.Cat.{Cat}
-use Rattle.vol_owners.specs.Lists.{Has}
-use Rattle.vol_owners.specs.Owners.{Owners}
+use Rattle.base_words.specs.Lists.{Has}
+use Rattle.vol_spell.specs.Owners.{Owners}
 use Rattle.vol_parts.specs.declared.geometry.Geometry.{Geometry}
 use Rattle.vol_spell.specs.Reading.{header_place}
 use Rattle.node_cache.specs.Cached.{Cached}
 use Rattle.op_law.specs.declared.need.PlanWrite.{PlanWrite}
-use Rattle.cache_laws.specs.Staying.{IsGuarded, IsFreedBy}
+use Rattle.core_cached.specs.Staying.{IsGuarded, IsFreedBy}
 use Rattle.core_state.specs.Worlds.{NodeState, Plain}
 use Rattle.core_state.specs.Raises.{is_first_part, is_under, is_free_head, writes_first, frees}
 use Rattle.core_state.specs.Stores.{hold_writes, part_raise, IsTrue}
-use Rattle.core_state.proofs.CachedWrites.{frees_raises}
-
-both_true : (a b : Bool) → a ≡ true → b ≡ true → (a && b) ≡ true
-both_true a b e f = (λ i. e i && f i)
-
-nat_same : (a b : ℕ) → a ≡ b → (a == b) ≡ true
-nat_same a b e = grind (arith, nat_tests)
+use Rattle.core_state.proofs.CachedWrites.{frees_raises, both_true}
+use Rattle.base_words.proofs.Booleans.{nat_same}
 
 -- a write that frees the slot of a file, under the lock of the file
 is_freeing : (g : Geometry) (n last : ℕ) (x : PlanWrite) → x.lock ≡ S n → x.lbn ≡ header_place g n → header_read x.block ≡ Ok (head.Free last) → frees g (S n) x ≡ true

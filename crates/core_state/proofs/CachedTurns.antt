@@ -1,13 +1,13 @@
 -- A look of a node at a block that may be cached: it reads the block from the drive, or uses the one that it has cached. Both keep the
 -- invariant, where the sight of the block does.
 use Rattle.std.proofs.Common.{◌≡◌, ◌⊎◌, ◌<◌, ◌∙◌, ℕ, Bool, false, List, [], ◌∷◌, Option, Some, None, is_some, cond, length, slice_get, refl, sym, ap, subst, inl, inr, arith}
-use Rattle.vol_words.specs.Fields.{Block}
+use Rattle.base_words.specs.Fields.{Block}
 use Rattle.lock_db.specs.declared.name.LockName.{LockName}
 use Rattle.lock_db.specs.declared.name.LockName.TheVariants.{V}
 use Rattle.plain_cat.specs.declared.cat.Cat.{Cat}
 use Rattle.plain_cat.specs.declared.mode.Mode.TheVariants.{PR, PW}
-use Rattle.vol_owners.specs.Lists.{Has}
-use Rattle.vol_owners.specs.Owners.{Owners}
+use Rattle.base_words.specs.Lists.{Has}
+use Rattle.vol_spell.specs.Owners.{Owners}
 use Rattle.vol_parts.specs.declared.geometry.Geometry.{Geometry}
 use Rattle.vol_parts.specs.declared.geometry.Part.TheVariants.{IndexBitmap, Storage}
 use Rattle.vol_under.specs.Guards.{Lock, guard_of}
@@ -21,7 +21,9 @@ use Rattle.core_state.specs.Caches.{current_entry, sequence_now}
 use Rattle.core_state.specs.Stores.{HasStore, IsCachedAt}
 use Rattle.core_state.specs.Goods.{Good, held_by}
 use Rattle.core_state.specs.Event as event
-use Rattle.core_state.specs.Events.{one_more, block_at, cached_block, block_used, cache_used, cache_looked, happens, or_use}
+use Rattle.core_state.specs.Events.{cached_block, block_used, cache_used, cache_looked, happens, or_use}
+use Rattle.base_words.specs.Faults.{next as one_more}
+use Rattle.base_words.specs.Fields.{block_at}
 use Rattle.core_state.proofs.Holding.{HasIn, in_held_is, is_in_held}
 use Rattle.core_state.proofs.Running.{held_among, claims_held}
 use Rattle.core_state.proofs.Turning.{index_within, has_name, seen_so}

@@ -7,8 +7,8 @@ use Rattle.lock_db.specs.Names.{is_same}
 use Rattle.lock_db.proofs.Names.{is_same-same}
 use Rattle.plain_cat.specs.declared.mode.Mode.TheVariants.{PR}
 use Rattle.plain_cat.specs.declared.cat.Cat.{Cat}
-use Rattle.vol_owners.specs.Lists.{Has}
-use Rattle.vol_owners.specs.Owners.{Owners}
+use Rattle.base_words.specs.Lists.{Has}
+use Rattle.vol_spell.specs.Owners.{Owners}
 use Rattle.vol_under.specs.UnderWay.{AreSole}
 use Rattle.node_cache.specs.Cached.{Cached, is_for, is_under, is_of, found}
 use Rattle.op_law.specs.Laws.{held_in}
@@ -19,6 +19,7 @@ use Rattle.core_state.specs.Goods.{held_by, under_by, nodes_under, Good}
 use Rattle.core_state.proofs.Running.{are_sole}
 use Rattle.core_state.proofs.CachedWrites.{raises_under}
 use Rattle.core_state.proofs.CachedEvents.{has_found}
+use Rattle.op_law.proofs.Asking.{parted}
 
 module _ (w : Plain) (sole : AreSole (nodes_under w.locks w.nodes)) (writes : AreHeldWrites w) where
   -- a node that holds a lock, among all nodes under way
@@ -51,11 +52,7 @@ pub record IsCurrentEntry (w : Plain) (s : NodeState) (name : LockName) (lbn : �
   pub lock_is : e.lock ≡ name
   pub seq_is : e.seq ≡ sequence_now w.geometry w.locks name lbn
 
-and_both : (a b : Bool) → (a && b) ≡ true → (a ≡ true) × (b ≡ true)
-and_both true b e = (refl, e)
-and_both false b e = absurd (let f : false ≡ true = e in cc)
-
-same_nat : (a b : ℕ) → (a == b) ≡ true → a ≡ b
+pub same_nat : (a b : ℕ) → (a == b) ≡ true → a ≡ b
 same_nat a b e = grind (arith, nat_tests)
 
 pub current_is : (w : Plain) (s : NodeState) (name : LockName) (lbn : ℕ) (e : Cached) → current_entry w.geometry w.locks name lbn s.cache ≡ Some e → IsCurrentEntry w s name lbn e
@@ -67,8 +64,8 @@ current_is w s name lbn e f = by_mark (resource_at name w.locks).valid refl f wh
   by_mark false mark g = absurd (let x : None ≡ Some e = g in cc)
   by_mark true mark g =
       let h = has_found (λ x. is_of lbn name x && (seq == x.seq)) s.cache e g in
-      let parts = and_both (is_of lbn name e) (seq == e.seq) h.1 in
-      let of = and_both (is_for lbn e) (is_under name e) parts.0 in
+      let parts = parted (is_of lbn name e) (seq == e.seq) h.1 in
+      let of = parted (is_for lbn e) (is_under name e) parts.0 in
       record {
         valid = mark;
         has = h.0;

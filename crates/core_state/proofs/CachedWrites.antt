@@ -5,27 +5,24 @@ use Rattle.lock_db.specs.declared.name.LockName.{LockName}
 use Rattle.lock_db.specs.declared.name.LockName.TheVariants.{S, A, Q, X, V}
 use Rattle.lock_db.specs.Names.{is_same}
 use Rattle.lock_db.proofs.Names.{is_same-same, is_same-refl}
-use Rattle.vol_owners.specs.Lists.{Has}
+use Rattle.base_words.specs.Lists.{Has}
 use Rattle.vol_parts.specs.declared.geometry.Geometry.{Geometry}
 use Rattle.node_locks.specs.declared.sequences.Raise.{Raise}
 use Rattle.op_law.specs.declared.need.PlanWrite.{PlanWrite}
 use Rattle.core_state.specs.Raises.{is_first_part, is_under, writes_first, writes_second, frees, raise_by, raise_of}
 use Rattle.core_state.specs.Stores.{part_raise}
+use Rattle.plain_rules.proofs.Ordered.{or_cases}
 
 -- ---- tests of lists
 
-and_first : (a b : Bool) → (a && b) ≡ true → a ≡ true
+pub and_first : (a b : Bool) → (a && b) ≡ true → a ≡ true
 and_first true b e = refl
 and_first false b e = absurd (let f : false ≡ true = e in cc)
-
-or_parts : (a b : Bool) → (a || b) ≡ true → (a ≡ true) ⊎ (b ≡ true)
-or_parts true b e = inl refl
-or_parts false b e = inr e
 
 -- one of a list passes
 any_one : (p : PlanWrite → Bool) (ws : List PlanWrite) → list_any p ws ≡ true → (w : PlanWrite) × Has ws w × (p w ≡ true)
 any_one p [] e = absurd (let f : false ≡ true = e in cc)
-any_one p (w ∷ ws) e = elim (or_parts (p w) (list_any p ws) e) [
+any_one p (w ∷ ws) e = elim (or_cases (p w) (list_any p ws) e) [
   | inl f ↦ (w, inl refl, f)
   | inr f ↦ let h = any_one p ws f in (h.0, inr h.1, h.2)
 ]
@@ -88,7 +85,7 @@ freed_raises : (freed wrote : Bool) → freed ≡ true → raise_by freed wrote 
 freed_raises true wrote e = refl
 freed_raises false wrote e = absurd (let f : false ≡ true = e in cc)
 
-both_true : (a b : Bool) → a ≡ true → b ≡ true → (a && b) ≡ true
+pub both_true : (a b : Bool) → a ≡ true → b ≡ true → (a && b) ≡ true
 both_true a b e f = (λ i. e i && f i)
 
 pub write_raises : (g : Geometry) (ws : List PlanWrite) (w : PlanWrite) → Has ws w → 1 ≤ part_raise g w.lock w.lbn ws

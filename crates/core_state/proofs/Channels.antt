@@ -13,20 +13,26 @@ use Rattle.plain_cat.specs.declared.reply.Reply.TheVariants as reply
 use Rattle.plain_cat.specs.declared.cat.Cat.{Cat}
 use Rattle.plain_cat.specs.declared.cat.File.{File}
 use Rattle.plain_cat.specs.declared.cat.Open.{Open}
-use Rattle.plain_vol.specs.Lookups.{in_use, joined, place, channel_at}
-use Rattle.plain_vol.specs.Answers.{Answer}
-use Rattle.plain_vol.specs.Own.{NodePast, is_opened, opened_by, is_closed, closed_by, switched, channels_after}
-use Rattle.plain_opens.specs.Opens.{IsChannel, OpensNameFiles, is_plain_file as plain_file, has_open, is_open_as as open_as, is_held_open as held_open}
-use Rattle.plain_opens.specs.Moves.{switched_by, IsElsewhere}
-use Rattle.plain_opens.proofs.Having.{opened_by_answer}
-use Rattle.plain_opens.proofs.Keeping.{answer_apart, answer_keeps, opened_has, closed_has, others_stay, others_keep}
-use Rattle.plain_opens.proofs.Naming.{all_held}
+use Rattle.plain_rules.specs.Lookups.{in_use, joined, place, channel_at}
+use Rattle.plain_rules.specs.Answers.{Answer}
+use Rattle.plain_rules.specs.Own.{NodePast, is_opened, opened_by, is_closed, closed_by, switched, channels_after}
+use Rattle.plain_histories.specs.Opens.{IsChannel, OpensNameFiles, has_open, is_open_as as open_as}
+use Rattle.plain_rules.specs.Opens.{is_plain_file as plain_file}
+use Rattle.plain_rules.specs.Opens.{is_held_open as held_open}
+use Rattle.plain_histories.specs.Moves.{switched_by, IsElsewhere}
+use Rattle.plain_histories.proofs.Having.{opened_by_answer}
+use Rattle.plain_histories.proofs.Keeping.{answer_apart, answer_keeps, opened_has, closed_has, others_stay, others_keep}
+use Rattle.plain_histories.proofs.Naming.{all_held}
 use Rattle.op_law.specs.declared.need.Ask.{Ask}
 use Rattle.op_law.specs.declared.seen.Chan.{Chan}
-use Rattle.op_law.specs.Knows.{channel_of, has_channel, is_plain_file, goes_with, is_open_as, is_held_open}
+use Rattle.op_law.specs.Knows.{channel_of, has_channel, is_open_as}
+use Rattle.plain_rules.specs.Opens.{is_plain_file}
+use Rattle.plain_rules.specs.Opens.{goes_with}
+use Rattle.plain_rules.specs.Opens.{is_held_open}
 use Rattle.core_state.specs.Channels.{names_in_form, opened, channel_seen, opens_then, HasOpens}
 use Rattle.core_state.proofs.Opens.{none_open}
 use Rattle.core_state.proofs.Ends.{EndsSo, Opened, Closed, Refused, NoSwitch}
+use Rattle.op_law.proofs.Opens.{none_is}
 
 -- ---- the words of the catalogue's laws
 
@@ -54,10 +60,6 @@ pub opens_hold : (c : Cat) → OpensNameFiles c → list_all is_held_open c.open
 opens_hold c named = all_same_held c.opens ∙ all_held c named
 
 -- ---- what a channel has open
-
-none_is : (o : Option Open) → is_none o ≡ true → o ≡ None
-none_is None e = refl
-none_is (Some o) e = absurd (let f : false ≡ true = e in cc)
 
 -- nothing
 pub closed_at : (c : Cat) (n chan : ℕ) → has_channel c n (Some chan) None ≡ true → channel_at c n chan ≡ None

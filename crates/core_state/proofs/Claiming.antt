@@ -1,6 +1,6 @@
 -- A node claims a lock of free space: X, or V.
 use Rattle.std.proofs.Common.{◌≡◌, ◌≢◌, ◌≤◌, ◌⊎◌, ◌++◌, ℕ, true, false, List, [], ◌∷◌, Option, Some, refl, sym, ap, subst, ◌∙◌, inl, inr, arith}
-use Rattle.vol_words.specs.Fields.{Block}
+use Rattle.base_words.specs.Fields.{Block}
 use Rattle.lock_db.specs.declared.name.LockName.{LockName}
 use Rattle.lock_db.specs.declared.name.LockName.TheVariants.{A, X}
 use Rattle.lock_db.specs.declared.resource.Resource.{Resource}
@@ -8,14 +8,14 @@ use Rattle.plain_cat.specs.Modes.{rank}
 use Rattle.plain_cat.specs.declared.mode.Mode.{Mode}
 use Rattle.plain_cat.specs.declared.mode.Mode.TheVariants.{NL, CR, CW, PR, PW}
 use Rattle.plain_cat.specs.declared.command.Cmd.{Cmd}
-use Rattle.plain_vol.specs.Own.{next_command}
+use Rattle.plain_rules.specs.Own.{next_command}
 use Rattle.node_locks.specs.Held.{system_of, Row, joined, names_of, HoldsItsLocks, AreHeld, waits_at, with_rows}
 use Rattle.node_locks.specs.Taking.{taken}
 use Rattle.node_locks.proofs.Keeping.{held_are_granted, rows_stand_still}
-use Rattle.vol_owners.specs.Lists.{Has}
-use Rattle.vol_owners.specs.Owners.{Owners}
-use Rattle.vol_owners.proofs.Listing.{has_first, has_second}
-use Rattle.cache_laws.specs.Committed.{IsUnderOn}
+use Rattle.base_words.specs.Lists.{Has}
+use Rattle.vol_spell.specs.Owners.{Owners}
+use Rattle.base_words.proofs.Listing.{has_first, has_second}
+use Rattle.core_cached.specs.Committed.{IsUnderOn}
 use Rattle.vol_under.specs.UnderWay.{UnderWay, changed, AreSole}
 use Rattle.op_law.specs.Laws.{held_in}
 use Rattle.core_space.specs.declared.run.Phase.{Phase}
@@ -38,7 +38,8 @@ use Rattle.core_state.proofs.CachedTakes.{taken_stays, IsTakenIn, taken_writes, 
 use Rattle.core_state.proofs.Seeking.{neither}
 use Rattle.core_state.proofs.Beginning.{stays_stocked}
 use Rattle.core_state.proofs.Opens.{opens_taken}
-use Rattle.core_state.proofs.Rows.{IsFew, AreMoved, IsClaimed, claims_move, claims_it, rows_twice, own_rows}
+use Rattle.core_state.proofs.Rows.{IsFew, AreMoved, IsClaimed, claims_move, claims_it, rows_twice}
+use Rattle.node_locks.proofs.Nodes.{rows_here as own_rows}
 use Rattle.core_state.proofs.Turning.{goes_still, Rest, rest_of, has_name, guarding_of}
 
 -- ---- an event by the rules for space, which leaves the command as it is

@@ -9,12 +9,12 @@ use Rattle.plain_cat.specs.declared.mode.Mode.TheVariants.{NL, CR, CW, PW, EX}
 use Rattle.plain_cat.specs.declared.command.Cmd.{Cmd}
 use Rattle.node_locks.specs.Held.{Row, joined, names_of, waits_at, without}
 use Rattle.node_locks.proofs.Nodes.{has_name_or_not}
-use Rattle.vol_owners.specs.Lists.{Has, Once}
-use Rattle.vol_owners.proofs.Listing.{has_first, has_second, has_parted}
+use Rattle.base_words.specs.Lists.{Has, Once}
+use Rattle.base_words.proofs.Listing.{has_first, has_second, has_parted}
 use Rattle.op_law.specs.Events.{space_of}
 use Rattle.op_law.specs.Needs.{events_of}
 use Rattle.op_law.specs.Laws.{held_in, takes_lock}
-use Rattle.node_space.specs.Answering.{blocks_of}
+use Rattle.core_space.specs.Answering.{blocks_of}
 use Rattle.core_space.specs.declared.run.Phase.{Phase}
 use Rattle.core_space.specs.declared.run.Phase.TheVariants as phase
 use Rattle.core_space.specs.declared.run.SpaceRun.{SpaceRun}
@@ -29,7 +29,7 @@ use Rattle.core_state.specs.Goods.{IsNode, Good}
 use Rattle.core_state.specs.Events.{mode_in, is_out, turned, claiming}
 use Rattle.node_locks.specs.Held.{system_of}
 use Rattle.node_locks.specs.Taking.{taken}
-use Rattle.node_space.specs.Searching.{found}
+use Rattle.core_space.specs.Searching.{found}
 use Rattle.core_state.proofs.Holding.{in_held_is, held_grows, held_named}
 use Rattle.core_state.proofs.Naming.{none_of, one_of, named_by, stays_without, from_without, mode_is, mode_has}
 use Rattle.core_state.proofs.Keeping.{altered, kept_once, names_parted}

@@ -12,7 +12,7 @@ use Rattle.plain_cat.specs.declared.command.Cmd.{Cmd}
 use Rattle.plain_cat.specs.declared.command.Cmd.TheVariants as cmd
 use Rattle.plain_cat.specs.declared.cat.Cat.{Cat}
 use Rattle.plain_cat.specs.declared.cat.Open.{Open}
-use Rattle.plain_vol.specs.Lookups.{channel_at}
+use Rattle.plain_rules.specs.Lookups.{channel_at}
 use Rattle.node_locks.specs.Held.{waits_at}
 use Rattle.op_law.specs.declared.need.Ask.{Ask}
 use Rattle.op_law.specs.declared.seen.Chan.{Chan}

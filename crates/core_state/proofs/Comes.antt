@@ -8,15 +8,15 @@ use Rattle.plain_cat.specs.declared.mode.Mode.{Mode}
 use Rattle.plain_cat.specs.declared.mode.Mode.TheVariants.{NL, CR, PW, EX}
 use Rattle.plain_cat.specs.declared.command.Cmd.{Cmd}
 use Rattle.node_locks.specs.Held.{Row, joined, names_of}
-use Rattle.vol_owners.specs.Lists.{Has, Once}
+use Rattle.base_words.specs.Lists.{Has, Once}
 use Rattle.op_law.specs.declared.need.PlanWrite.{PlanWrite}
 use Rattle.op_law.specs.Events.{Space, space_of, has_space, HasNoSpace}
 use Rattle.op_law.specs.Needs.{events_of}
 use Rattle.extent_cache.specs.Takings.{holds_enough}
-use Rattle.node_space.specs.declared.outcome.Search.TheVariants as search
-use Rattle.node_space.specs.Searching.{places}
-use Rattle.node_space.specs.Answering.{answered, answer, blocks_of}
-use Rattle.node_space.proofs.Taken.{takes_all}
+use Rattle.core_space.specs.declared.outcome.Search.TheVariants as search
+use Rattle.core_space.specs.Searching.{places}
+use Rattle.core_space.specs.Answering.{answered, answer, blocks_of}
+use Rattle.core_space.proofs.Taken.{takes_all}
 use Rattle.core_space.specs.declared.event.SpaceEvent.{SpaceEvent}
 use Rattle.core_space.specs.declared.event.SpaceEvent.TheVariants as space
 use Rattle.core_space.specs.declared.run.Phase.{Phase}

@@ -13,9 +13,9 @@ use Rattle.plain_cat.specs.declared.script.LineCmd.{LineCmd}
 use Rattle.plain_cat.specs.declared.script.LineCmd.TheVariants as line
 use Rattle.plain_cat.specs.declared.script.Line.{Line}
 use Rattle.plain_cat.specs.declared.script.Script.{Script}
-use Rattle.plain_vol.specs.Own.{past, filled, lines_of, close_from, or_close, next_command}
-use Rattle.plain_opens.proofs.Commanding.{past_count}
-use Rattle.plain_opens.specs.Moves.{has_channel_in_form}
+use Rattle.plain_rules.specs.Own.{past, filled, lines_of, close_from, or_close, next_command}
+use Rattle.plain_histories.proofs.Commanding.{past_count}
+use Rattle.plain_histories.specs.Moves.{has_channel_in_form}
 use Rattle.core_state.specs.Channels.{names_in_form}
 
 -- ---- a close is of one of them
@@ -48,7 +48,7 @@ eighth chan from to = grind (arith, nat_tests)
 
 -- ---- a line in form
 
-joins : (a b : Bool) → a ≡ true → b ≡ true → (a && b) ≡ true
+pub joins : (a b : Bool) → a ≡ true → b ≡ true → (a && b) ≡ true
 joins a b e f = ap (λ t. t && b) e ∙ f
 
 line_names : (g : List Fid) (l : LineCmd) → line_in_form l ≡ true → names_in_form (filled g l) ≡ true

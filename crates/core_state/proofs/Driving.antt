@@ -1,21 +1,21 @@
 -- The drive under way as a node without a plan changes, and as locks are granted.
 use Rattle.std.proofs.Common.{◌≡◌, ℕ, List, [], ◌++◌, slice_get, inr}
-use Rattle.vol_words.specs.Fields.{Block}
+use Rattle.base_words.specs.Fields.{Block}
 use Rattle.lock_db.specs.declared.name.LockName.{LockName}
 use Rattle.plain_cat.specs.declared.command.Cmd.{Cmd}
 use Rattle.plain_cat.specs.declared.reply.Reply.{Reply}
 use Rattle.plain_cat.specs.declared.cat.Cat.{Cat}
-use Rattle.vol_owners.specs.Lists.{Has, Touches, StandsIn}
-use Rattle.vol_owners.specs.Owners.{Things, Outs}
-use Rattle.vol_owners.proofs.Writing.{stands_joined}
-use Rattle.vol_owners.proofs.Moving.{moves_grow}
+use Rattle.base_words.specs.Lists.{Has, Touches, StandsIn}
+use Rattle.vol_spell.specs.Owners.{Things, Outs}
+use Rattle.base_words.proofs.ListWrites.{stands_joined}
+use Rattle.vol_spell.proofs.Moving.{moves_grow}
 use Rattle.vol_parts.specs.declared.geometry.Geometry.{Geometry}
 use Rattle.vol_under.specs.Guards.{guard_of, MayLook, IsCommandMove}
 use Rattle.vol_under.specs.UnderWay.{UnderWay, changed, AreSole}
 use Rattle.vol_under.specs.Under.{IsLawful, IsUnder}
 use Rattle.vol_under.specs.Answering.{IsReply}
-use Rattle.cache_laws.specs.Committed.{IsUnderOn, on_its_own}
-use Rattle.cache_laws.proofs.Committed.{quiet_on}
+use Rattle.core_cached.specs.Committed.{IsUnderOn, on_its_own}
+use Rattle.core_cached.proofs.Committed.{quiet_on}
 use Rattle.vol_under.proofs.Steps.{held_stands}
 use Rattle.vol_under.proofs.Guarding.{wider_command, wider_write, wider_look}
 use Rattle.vol_under.proofs.Nodes.{done_in, no_writes}

@@ -15,20 +15,20 @@ use Rattle.plain_cat.specs.declared.history.Stage.TheVariants as stage
 use Rattle.plain_cat.specs.declared.history.Entry.{Entry}
 use Rattle.plain_cat.specs.declared.cat.Cat.{Cat}
 use Rattle.plain_cat.specs.declared.cat.Open.{Open}
-use Rattle.plain_vol.specs.Lookups.{joined, channel_at, place, clusters_in}
-use Rattle.plain_vol.specs.Own.{NodePast, past, next_command}
-use Rattle.plain_vol.specs.Stages.{staged}
-use Rattle.plain_vol.specs.Replaying.{dead, MayLeak}
-use Rattle.node_past.specs.Laws.{is_of}
-use Rattle.node_past.proofs.Growing.{past_grows, past_of_others, own_grows, replays_grow}
-use Rattle.plain_opens.specs.Opens.{IsChannel, OpensNameFiles}
-use Rattle.plain_opens.specs.Moves.{switched_by, switched_next, IsElsewhere}
-use Rattle.plain_opens.proofs.Keeping.{stage_keeps, dead_keeps}
-use Rattle.plain_opens.proofs.Naming.{stage_names, dead_names}
-use Rattle.plain_usages.specs.Usages.{AreNear}
-use Rattle.plain_usages.proofs.Stating.{stage_near, dead_near, stage_small, dead_small}
-use Rattle.plain_deaths.proofs.Closing.{own_closed, others_left}
-use Rattle.plain_deaths.proofs.Stages.{deaths_account, deaths_taken}
+use Rattle.plain_rules.specs.Lookups.{joined, channel_at, place, clusters_in}
+use Rattle.plain_rules.specs.Own.{NodePast, past, next_command}
+use Rattle.plain_rules.specs.Stages.{staged}
+use Rattle.plain_rules.specs.Replaying.{dead, MayLeak}
+use Rattle.plain_past.specs.Laws.{is_of}
+use Rattle.plain_past.proofs.Growing.{past_grows, past_of_others, own_grows, replays_grow}
+use Rattle.plain_histories.specs.Opens.{IsChannel, OpensNameFiles}
+use Rattle.plain_histories.specs.Moves.{switched_by, switched_next, IsElsewhere}
+use Rattle.plain_histories.proofs.Keeping.{stage_keeps, dead_keeps}
+use Rattle.plain_histories.proofs.Naming.{stage_names, dead_names}
+use Rattle.plain_histories.specs.Usages.{AreNear}
+use Rattle.plain_histories.proofs.Stating.{stage_near, dead_near, stage_small, dead_small}
+use Rattle.plain_histories.proofs.Closing.{own_closed, others_left}
+use Rattle.plain_histories.proofs.DeathStages.{deaths_account, deaths_taken}
 use Rattle.lock_db.specs.declared.name.LockName.{LockName}
 use Rattle.lock_db.specs.declared.name.LockName.TheVariants.{A}
 use Rattle.lock_db.specs.declared.name.Owner.{Owner}
@@ -38,16 +38,16 @@ use Rattle.lock_db.specs.Names.{is_same}
 use Rattle.lock_db.specs.Tables.{IsTable, dropped}
 use Rattle.lock_db.specs.Laws.{stands_at}
 use Rattle.lock_db.proofs.Steps.{IsTable-dropped}
-use Rattle.lock_deaths.proofs.Dropping.{granted_stays, nothing_comes, own_go, first_stays, second_stays}
+use Rattle.node_locks.proofs.Dropping.{granted_stays, nothing_comes, own_go, first_stays, second_stays}
 use Rattle.node_cache.proofs.Entries.{cache-nil}
 use Rattle.node_locks.specs.Held.{Row, AreHeld}
 use Rattle.node_locks.specs.HeldLaws.{IsLeftByDeath}
 use Rattle.node_locks.proofs.Dying.{dying_holds}
 use Rattle.node_locks.proofs.Keeping.{rows_go_on}
-use Rattle.vol_words.specs.Fields.{Block}
-use Rattle.vol_owners.specs.Lists.{Has, written}
-use Rattle.vol_owners.specs.Owners.{Owners, Things, nothing, Outs}
-use Rattle.vol_owners.proofs.Listing.{same_or_not, has_second}
+use Rattle.base_words.specs.Fields.{Block}
+use Rattle.base_words.specs.Lists.{Has, written}
+use Rattle.vol_spell.specs.Owners.{Owners, Things, nothing, Outs}
+use Rattle.base_words.proofs.Listing.{same_or_not, has_second}
 use Rattle.vol_spell.specs.Reading.{total_of}
 use Rattle.vol_spell.specs.Spelling.{Spells}
 use Rattle.vol_under.specs.UnderWay.{PlannedWrite, bare, UnderWay, first_stage, writes_to, stage_after, stage_at, outs_after, together, all_out, resting, changed, AreSole, StandsAt}
@@ -58,10 +58,10 @@ use Rattle.op_law.specs.Fits.{things}
 use Rattle.op_law.specs.Knows.{has_channel}
 use Rattle.op_law.specs.Laws.{held_in, planned}
 use Rattle.plain_cat.specs.declared.mode.Mode.TheVariants.{PW}
-use Rattle.cache_laws.specs.Staying.{IsGuarded, IsFreedBy}
-use Rattle.cache_laws.specs.Committed.{IsUnderOn, on_its_own}
-use Rattle.cache_laws.proofs.Guarded.{deaths_stay}
-use Rattle.cache_laws.proofs.Heads.{guarded_or_freed}
+use Rattle.core_cached.specs.Staying.{IsGuarded, IsFreedBy}
+use Rattle.core_cached.specs.Committed.{IsUnderOn, on_its_own}
+use Rattle.core_cached.proofs.Guarded.{deaths_stay}
+use Rattle.core_cached.proofs.Heads.{guarded_or_freed}
 use Rattle.core_state.specs.Worlds.{NodeState, Plain, node_at, set_node, rows_of, rows_in, rows_at}
 use Rattle.core_state.specs.Asks.{writes_now}
 use Rattle.core_state.specs.Opens.{is_channel, open_of, open_with, asked_in, asked_at, open_now, open_stands, AreOpensLocked}

@@ -13,8 +13,8 @@ use Rattle.lock_db.proofs.Lists.{list_all-find, find-passes, or-right}
 use Rattle.lock_db.proofs.Owners.{same_owner-same}
 use Rattle.lock_db.proofs.Together.{lets, goes-held}
 use Rattle.lock_db.proofs.Steps.{IsSettled-at, HasLock, HasLock-lock_of}
-use Rattle.vol_owners.specs.Lists.{Has}
-use Rattle.vol_owners.proofs.Listing.{same_or_not}
+use Rattle.base_words.specs.Lists.{Has}
+use Rattle.base_words.proofs.Listing.{same_or_not}
 use Rattle.node_locks.specs.Held.{system_of, Row, IsGranted, AreHeld, all_held}
 use Rattle.node_locks.proofs.Keeping.{held_are_granted}
 use Rattle.node_locks.proofs.Nodes.{systems-apart}

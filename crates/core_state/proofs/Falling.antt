@@ -9,8 +9,8 @@ use Rattle.plain_cat.specs.declared.history.Stage.{Stage}
 use Rattle.plain_cat.specs.Spared.{Spared}
 use Rattle.plain_cat.specs.declared.history.Entry.{Entry}
 use Rattle.plain_cat.specs.declared.history.Entry.TheVariants.{Done, Died}
-use Rattle.plain_vol.specs.Own.{NodePast, newborn, past, after_answer, after_entry}
-use Rattle.node_past.proofs.Growing.{past_grows}
+use Rattle.plain_rules.specs.Own.{NodePast, newborn, past, after_answer, after_entry}
+use Rattle.plain_past.proofs.Growing.{past_grows}
 use Rattle.core_state.specs.Fallen.{is_fall, falls, fallen}
 use Rattle.core_state.proofs.SmallCounts.{sum_more}
 

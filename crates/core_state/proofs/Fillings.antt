@@ -4,11 +4,11 @@ use Rattle.std.specs.List.{range_with_len}
 use Rattle.std.proofs.lemmas.Bool.{and_parts}
 use Rattle.std.proofs.lemmas.Bool.Decides.{nat_tests}
 use Rattle.std.proofs.lemmas.List.Filters.{length-filter_both}
-use Rattle.vol_words.specs.Fields.{Block}
+use Rattle.base_words.specs.Fields.{Block}
 use Rattle.plain_cat.specs.declared.cat.Cat.{Cat}
-use Rattle.vol_owners.specs.Lists.{Has, Once, AreApart}
-use Rattle.vol_owners.specs.Owners.{Owners, Things}
-use Rattle.vol_owners.proofs.Listing.{has_first, has_second, once_in_a_row, once_first, once_second, once_apart}
+use Rattle.base_words.specs.Lists.{Has, Once, AreApart}
+use Rattle.vol_spell.specs.Owners.{Owners, Things}
+use Rattle.base_words.proofs.Listing.{has_first, has_second, once_in_a_row, once_first, once_second, once_apart}
 use Rattle.vol_parts.specs.declared.geometry.Geometry.{Geometry}
 use Rattle.vol_parts.specs.declared.geometry.Part.TheVariants.{IndexBitmap, Storage}
 use Rattle.vol_parts.specs.Parts.{IsGeometry, storage_blocks}
@@ -20,8 +20,8 @@ use Rattle.op_law.specs.declared.need.PlanWrite.{PlanWrite}
 use Rattle.op_law.specs.Writing.{with_numbers}
 use Rattle.extent_cache.specs.Stock.{put_in, with_one, merged}
 use Rattle.extent_cache.specs.Takings.{holds_enough}
-use Rattle.node_space.specs.Searching.{cluster_places, places, free_from, taken_in, cluster_write, cluster_writes}
-use Rattle.node_space.proofs.Chosen.{LiesIn, has_taken_in}
+use Rattle.core_space.specs.Searching.{cluster_places, places, free_from, taken_in, cluster_write, cluster_writes}
+use Rattle.core_space.proofs.Chosen.{LiesIn, has_taken_in}
 use Rattle.core_space.specs.Filling.{clusters_to_take, lacks_number, storage_part, storage_place, fill_place, lowest_numbers, numbers_taken, clusters_taken, fill_writes, filled}
 use Rattle.core_space.specs.Laws.{taken_with, taken_before, IsEnough}
 use Rattle.core_space.proofs.Filled.{filled_is, fills_enough, last_clusters, last_taken, taken_by, writes_fill}
@@ -31,9 +31,8 @@ use Rattle.core_state.specs.Stocks.{roomless, filled_by}
 use Rattle.core_state.specs.Searches.{AreUnderV}
 use Rattle.core_state.proofs.Seeking.{some_quotient}
 use Rattle.core_state.proofs.Serving.{length_taken}
-
-abbrev lbns : List PlanWrite → List ℕ
-lbns ws = map (λ w. w.lbn) ws
+use Rattle.core_space.proofs.Apart.{lbns}
+use Rattle.core_space.proofs.Ways.{is_below}
 
 -- ---- the writes of a filling are to blocks that lie apart
 
@@ -113,14 +112,11 @@ get_range f a zero k lt = absurd (omega arith)
 get_range f a (suc c) zero lt = ap (λ j. Some (f j)) (let e : a ≡ a + 0 = omega arith in e)
 get_range f a (suc c) (suc k) lt = get_range f (a + 1) c k (omega arith) ∙ ap (λ j. Some (f j)) (let e : a + 1 + k ≡ a + suc k = omega arith in e)
 
-is_less : (a b : ℕ) → nat_lt a b ≡ true → a < b
-is_less a b e = grind (arith, nat_tests)
-
 storage_at : (g : Geometry) (wanted : ℕ) (bs : List Block) (l : ℕ) → storage_place g wanted bs ≡ Some l → slice_get (cluster_places g 1) (length bs) ≡ Some l
 storage_at g wanted bs l e = by_test (nat_lt (length (free_from g 0 bs)) wanted && nat_lt (length bs) (storage_blocks (total_of g))) refl e where
   by_test : (b : Bool) → (nat_lt (length (free_from g 0 bs)) wanted && nat_lt (length bs) (storage_blocks (total_of g))) ≡ b → cond b (Some (place_of g (Storage (length bs)))) None ≡ Some l → slice_get (cluster_places g 1) (length bs) ≡ Some l
   by_test true t f =
-      let lt = is_less (length bs) (storage_blocks (total_of g)) (and_parts (nat_lt (length (free_from g 0 bs)) wanted) (nat_lt (length bs) (storage_blocks (total_of g))) t).1 in
+      let lt = is_below (length bs) (storage_blocks (total_of g)) (and_parts (nat_lt (length (free_from g 0 bs)) wanted) (nat_lt (length bs) (storage_blocks (total_of g))) t).1 in
       get_range (λ j. place_of g (Storage j)) 0 (storage_blocks (total_of g)) (length bs) lt ∙ ap (λ j. Some (place_of g (Storage j))) (let z : 0 + length bs ≡ length bs = omega arith in z) ∙ f
   by_test false t f = absurd (let h : None ≡ Some l = f in cc)
 

@@ -3,13 +3,13 @@ use Rattle.std.proofs.Common.{◌≡◌, ◌≢◌, ◌≤◌, ◌<◌, ◌+◌,
 use Rattle.std.specs.List.{range_with_len}
 use Rattle.std.proofs.lemmas.Bool.{and_parts}
 use Rattle.std.proofs.lemmas.Bool.Decides.{nat_tests}
-use Rattle.vol_words.specs.Fields.{Block}
+use Rattle.base_words.specs.Fields.{Block}
 use Rattle.lock_db.specs.declared.name.LockName.TheVariants.{V}
 use Rattle.plain_cat.specs.declared.cat.Cat.{Cat}
-use Rattle.vol_owners.specs.Lists.{Has, Once}
-use Rattle.vol_owners.specs.Owners.{Owners}
-use Rattle.vol_owners.proofs.Listing.{filtered, has_parted}
-use Rattle.vol_owners.proofs.Placing.{has_ranged}
+use Rattle.base_words.specs.Lists.{Has, Once}
+use Rattle.vol_spell.specs.Owners.{Owners}
+use Rattle.base_words.proofs.Listing.{filtered, has_parted}
+use Rattle.vol_spell.proofs.Placing.{has_ranged}
 use Rattle.vol_parts.specs.declared.geometry.Geometry.{Geometry}
 use Rattle.vol_parts.specs.declared.geometry.Part.TheVariants.{IndexBitmap, Storage}
 use Rattle.vol_parts.specs.Parts.{storage_blocks}
@@ -26,6 +26,7 @@ use Rattle.core_state.specs.Worlds.{Stock}
 use Rattle.core_state.specs.Stocks.{has_bit_at, left_by}
 use Rattle.core_state.specs.Searches.{AreUnderV}
 use Rattle.core_state.proofs.Seeking.{not_same}
+use Rattle.base_words.proofs.Booleans.{nat_same}
 
 abbrev pub lbns : List PlanWrite → List ℕ
 lbns ws = map (λ w. w.lbn) ws
@@ -419,9 +420,6 @@ give_under g cs ns looked w h = elim (has_parted (index_back g ns looked) (map (
 not_index : (g : Geometry) (base : List Block) (own : Owners) (c : Cat) (k : ℕ) → Spells g base own c → IsPart g (Storage k) → place_of g IndexBitmap ≡ place_of g (Storage k) → ⊥
 not_index g base own c k s inside e = let parts = are_parts g base own c s in absurd (let same : IndexBitmap ≡ Storage k = parts.apart IndexBitmap (Storage k) tt inside e in cc)
 
-is_same_number : (a b : ℕ) → a ≡ b → (a == b) ≡ true
-is_same_number a b e = grind (arith, nat_tests)
-
 -- no cluster of the volume has its bit in the index-file bitmap
 pub differ_places : (g : Geometry) (base : List Block) (own : Owners) (c : Cat) (q : ℕ) → Spells g base own c → q / 4096 < storage_blocks (total_of g) → has_bit_at g (place_of g IndexBitmap) q ≡ false
 differ_places g base own c q s inside = not_same (place_of g (Storage (q / 4096))) (place_of g IndexBitmap) (λ f. not_index g base own c (q / 4096) s inside (sym f))
@@ -433,7 +431,7 @@ numbers_leave g base own c stock w s inside e =
     ap (λ l. left_by g l stock) e
     ∙ (λ i. record {
       clusters = all_pass (λ q. not (has_bit_at g (place_of g IndexBitmap) q)) stock.clusters (λ q h. ap not (not_same (place_of g (Storage (q / 4096))) (place_of g IndexBitmap) (λ f. not_index g base own c (q / 4096) s (in_bitmap q (total_of g) (inside q h)) (sym f)))) i;
-      numbers = cond (is_same_number (place_of g IndexBitmap) (place_of g IndexBitmap) refl i) [] stock.numbers;
+      numbers = cond (nat_same (place_of g IndexBitmap) (place_of g IndexBitmap) refl i) [] stock.numbers;
     }) where
       in_bitmap : (q total : ℕ) → q < total → q / 4096 < (total + 4095) / 4096
       in_bitmap q total lt = omega arith

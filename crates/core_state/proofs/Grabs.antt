@@ -1,9 +1,9 @@
 -- A write by the rules for space of a command: it keeps the invariant.
-use Rattle.std.proofs.Common.{◌≡◌, ◌≤◌, ◌<◌, ◌+◌, ◌++◌, ◌==◌, ℕ, suc, Bool, true, false, List, [], ◌∷◌, Option, Some, None, is_some, length, map, take, slice_get, slice_set, refl, sym, ap, subst, ◌∙◌, inl, inr, arith}
+use Rattle.std.proofs.Common.{◌≡◌, ◌≤◌, ◌<◌, ◌+◌, ◌++◌, ◌==◌, ℕ, Bool, true, false, List, [], ◌∷◌, Option, Some, None, is_some, length, map, take, slice_get, slice_set, refl, sym, ap, subst, ◌∙◌, inl, inr, arith}
 use Rattle.std.proofs.lemmas.Bool.Decides.{nat_tests}
 use Rattle.std.proofs.lemmas.Option.{slice_get_within}
 use Rattle.std.proofs.lemmas.List.{append-nil}
-use Rattle.vol_words.specs.Fields.{Block}
+use Rattle.base_words.specs.Fields.{Block}
 use Rattle.lock_db.specs.declared.name.LockName.{LockName}
 use Rattle.lock_db.specs.declared.name.LockName.TheVariants.{X, V}
 use Rattle.plain_cat.specs.Modes.{rank}
@@ -12,10 +12,10 @@ use Rattle.plain_cat.specs.declared.mode.Mode.TheVariants.{CR, PR, PW, EX}
 use Rattle.plain_cat.specs.declared.command.Cmd.{Cmd}
 use Rattle.plain_cat.specs.declared.cat.Cat.{Cat}
 use Rattle.node_locks.specs.Held.{Row, names_of, waits_at}
-use Rattle.vol_owners.specs.Lists.{Has, Once, Touches}
-use Rattle.vol_owners.specs.Owners.{Owners, Things, nothing, Outs}
-use Rattle.vol_owners.proofs.Writing.{touches_joined}
-use Rattle.vol_owners.proofs.Listing.{has_parted, has_first, has_second}
+use Rattle.base_words.specs.Lists.{Has, Once, Touches}
+use Rattle.vol_spell.specs.Owners.{Owners, Things, nothing, Outs}
+use Rattle.base_words.proofs.ListWrites.{touches_joined}
+use Rattle.base_words.proofs.Listing.{has_parted, has_first, has_second}
 use Rattle.vol_parts.specs.declared.geometry.Geometry.{Geometry}
 use Rattle.vol_spell.specs.Spelling.{Spells}
 use Rattle.vol_under.specs.Guards.{Lock, guard_of, MayLook}
@@ -27,14 +27,15 @@ use Rattle.op_law.specs.declared.need.PlanWrite.{PlanWrite}
 use Rattle.op_law.specs.declared.seen.Seen.{Seen}
 use Rattle.op_law.specs.Events.{has_number}
 use Rattle.op_law.specs.Fits.{things, HasSeen}
-use Rattle.op_law.specs.Knows.{clusters_wanted, wants_number}
+use Rattle.op_law.specs.Knows.{clusters_wanted}
+use Rattle.plain_rules.specs.Laws.{makes_file as wants_number}
 use Rattle.op_law.specs.Laws.{held_in, takes_lock, IsCacheable}
 use Rattle.op_law.specs.Writing.{Held, holding}
-use Rattle.node_space.specs.Taking.{looked, out_after, out_of, IsTaking as Takes}
-use Rattle.node_space.specs.Answering.{blocks_of}
-use Rattle.node_space.proofs.Writes.{writes_take, takings_refill}
-use Rattle.node_space.proofs.Taken.{takes_all}
-use Rattle.node_space.proofs.Apart.{writes_apart}
+use Rattle.core_space.specs.Taking.{looked, out_after, out_of, IsTaking as Takes}
+use Rattle.core_space.specs.Answering.{blocks_of}
+use Rattle.core_space.proofs.Writes.{writes_take, takings_refill}
+use Rattle.core_space.proofs.Taken.{takes_all}
+use Rattle.core_space.proofs.Apart.{writes_apart}
 use Rattle.core_space.specs.declared.run.Phase.{Phase}
 use Rattle.core_space.specs.declared.run.Phase.TheVariants as phase
 use Rattle.core_space.specs.declared.run.SpaceRun.{SpaceRun}
@@ -46,9 +47,10 @@ use Rattle.core_state.specs.Stocks.{things_in, filled_by, left_by, things_held, 
 use Rattle.core_state.specs.Searches.{wanted_by, numbered_by, lacks_by, NeedsSpace, FillWrites, IsWritingBack, IsDraining, HasClaimed, IsTaking, Rules, Grabs, Filled, Drains, Taking, Taken, Busy}
 use Rattle.core_state.specs.Stores.{guards_blocks, hold_writes, HasStore, IsStocked}
 use Rattle.core_state.specs.Goods.{under_with, nodes_under, IsAt, IsNode, Good, held_by}
-use Rattle.core_state.specs.Events.{one_more, turned, ready_left, given_by, stocked_by, is_last, space_writing, caching, cache_written}
-use Rattle.cache_laws.specs.Committed.{IsUnderOn}
-use Rattle.cache_laws.proofs.Guarded.{spaces_stay}
+use Rattle.core_state.specs.Events.{turned, ready_left, given_by, stocked_by, is_last, space_writing, caching, cache_written}
+use Rattle.base_words.specs.Faults.{next as one_more}
+use Rattle.core_cached.specs.Committed.{IsUnderOn}
+use Rattle.core_cached.proofs.Guarded.{spaces_stay}
 use Rattle.node_cache.specs.Cached.{Cached}
 use Rattle.core_state.proofs.CachedPuts.{IsWriteOf, put_cached, put_writes}
 use Rattle.core_state.proofs.CachedLooks.{rewritten_store}
@@ -56,7 +58,7 @@ use Rattle.core_state.proofs.CachedTakes.{goes_higher}
 use Rattle.core_state.proofs.Holding.{is_in_held}
 use Rattle.core_state.proofs.Running.{at_locks, under_now, claims_held}
 use Rattle.core_state.proofs.Taking.{is_committed, grabs}
-use Rattle.core_state.proofs.Seeking.{touches_its, part_stands, stands_its, part_touches, is_left, less_left, not_left, once_at}
+use Rattle.core_state.proofs.Seeking.{touches_its, part_stands, stands_its, part_touches, is_left, less_left, not_left, once_at, one_more_is}
 use Rattle.core_state.proofs.Switching.{AsksAlike}
 use Rattle.core_state.proofs.SmallWorlds.{OwesLess, owes_same, small_set}
 use Rattle.core_state.proofs.Keeping.{altered, still_driven, rebuilt, held_same, loses_nothing}
@@ -74,17 +76,14 @@ number_there true o e = e
 number_there false None e = refl
 number_there false (Some n) e = absurd (let f : true ≡ false = e in cc)
 
-next_count : (k : ℕ) → k + 1 ≡ suc k
-next_count k = omega arith
-
 -- what is outside after one write more
 pub out_next : (ws : List PlanWrite) (k : ℕ) (w : PlanWrite) → slice_get ws k ≡ Some w → out_after ws (k + 1) ≡ holding w.clusters w.number
-out_next ws k w at = ap (out_after ws) (next_count k) ∙ ap (λ (o : Option PlanWrite). out_of_some o) at where
+out_next ws k w at = ap (out_after ws) (one_more_is k) ∙ ap (λ (o : Option PlanWrite). out_of_some o) at where
   out_of_some : Option PlanWrite → Held
   out_of_some o = out_of o
 
 taken_next : (ws : List PlanWrite) (k : ℕ) (w : PlanWrite) → slice_get ws k ≡ Some w → taken_before ws (k + 1) ≡ things_of w.clusters w.numbers
-taken_next ws k w at = ap (taken_before ws) (next_count k) ∙ ap taken_with at
+taken_next ws k w at = ap (taken_before ws) (one_more_is k) ∙ ap taken_with at
 
 -- what is stock is the command's
 out_taken : (n : ℕ) (own : Owners) (t : Things) → Outs n own nothing t → Outs n own t nothing

@@ -6,7 +6,7 @@ use Rattle.lock_db.specs.declared.name.LockName.{LockName}
 use Rattle.plain_cat.specs.Modes.{rank}
 use Rattle.plain_cat.specs.declared.mode.Mode.{Mode}
 use Rattle.plain_cat.specs.declared.mode.Mode.TheVariants.{CR}
-use Rattle.vol_owners.specs.Lists.{Has}
+use Rattle.base_words.specs.Lists.{Has}
 use Rattle.op_law.specs.Laws.{held_in}
 
 -- a lock on this name in this mode or a stronger one

@@ -1,9 +1,9 @@
 -- What a stock has outside, with all that a filling has taken.
 use Rattle.std.proofs.Common.{◌≡◌, ◌-◌, ◌++◌, ◌↔◌, ℕ, List, [], ◌∷◌, refl, sym, ap, subst, ◌∙◌, inl, inr}
 use Rattle.std.proofs.lemmas.List.{append-nil}
-use Rattle.vol_owners.specs.Lists.{Has, Once}
-use Rattle.vol_owners.specs.Owners.{Owners, nothing, Outs}
-use Rattle.vol_owners.proofs.Listing.{has_parted, has_first, has_second, once_in_a_row, once_first, once_second, once_apart}
+use Rattle.base_words.specs.Lists.{Has, Once}
+use Rattle.vol_spell.specs.Owners.{Owners, nothing, Outs}
+use Rattle.base_words.proofs.Listing.{has_parted, has_first, has_second, once_in_a_row, once_first, once_second, once_apart}
 use Rattle.vol_under.specs.UnderWay.{together}
 use Rattle.vol_under.proofs.Short.{out_alike}
 use Rattle.op_law.specs.declared.need.PlanWrite.{PlanWrite}

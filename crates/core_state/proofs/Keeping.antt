@@ -2,21 +2,21 @@
 use Rattle.std.proofs.Common.{◌≡◌, ◌≢◌, ◌⊎◌, ◌++◌, ℕ, Bool, true, List, [], ◌∷◌, Option, Some, None, refl, sym, ap, subst, ◌∙◌, inl, inr, arith, false}
 use Rattle.std.proofs.lemmas.Bool.Decides.{nat_tests}
 use Rattle.std.proofs.lemmas.List.{append-nil}
-use Rattle.vol_words.specs.Fields.{Block}
+use Rattle.base_words.specs.Fields.{Block}
 use Rattle.lock_db.specs.declared.name.LockName.{LockName}
 use Rattle.lock_db.specs.declared.resource.Resource.{Resource}
 use Rattle.plain_cat.specs.declared.command.Cmd.{Cmd}
 use Rattle.plain_cat.specs.declared.cat.Cat.{Cat}
-use Rattle.plain_vol.specs.Accounts.{Accounted}
-use Rattle.plain_vol.specs.Replaying.{Replays}
-use Rattle.vol_owners.specs.Owners.{Owners}
-use Rattle.cache_laws.specs.Committed.{IsUnderOn, of_it}
+use Rattle.plain_rules.specs.Accounts.{Accounted}
+use Rattle.plain_rules.specs.Replaying.{Replays}
+use Rattle.vol_spell.specs.Owners.{Owners}
+use Rattle.core_cached.specs.Committed.{IsUnderOn, of_it}
 use Rattle.plain_cat.specs.declared.history.Entry.{Entry}
-use Rattle.plain_vol.specs.Own.{past, command_after, next_command, Own}
+use Rattle.plain_rules.specs.Own.{past, command_after, next_command, Own}
 use Rattle.node_locks.specs.Held.{Row, joined, names_of, HoldsItsLocks, AreHeld, waits_at, with_rows}
 use Rattle.node_locks.specs.HeldLaws.{GoesOn}
-use Rattle.vol_owners.specs.Lists.{Has, Once}
-use Rattle.vol_owners.proofs.Listing.{same_or_not}
+use Rattle.base_words.specs.Lists.{Has, Once}
+use Rattle.base_words.proofs.Listing.{same_or_not}
 use Rattle.op_law.specs.declared.need.Plan.{Plan}
 use Rattle.core_state.specs.Worlds.{Course, NodeState, Plain, node_at, set_node, rows_of, rows_in, rows_at}
 use Rattle.core_state.specs.Asks.{granted_ask}
@@ -25,9 +25,9 @@ use Rattle.core_state.specs.Channels.{HasOpens}
 use Rattle.core_state.specs.Opens.{open_now, AreOpensLocked}
 use Rattle.core_state.specs.Small.{AreSmall}
 use Rattle.core_state.specs.Fallen.{falls, fallen}
-use Rattle.plain_usages.specs.Usages.{AreNear, HasSmallFiles}
+use Rattle.plain_histories.specs.Usages.{AreNear, HasSmallFiles}
 use Rattle.core_state.specs.Goods.{nodes_under, HasSystemNumbers, AreLocked, IsAtPlan, HasCourse, HasCommand, IsNode, HasFewAnswers, Good}
-use Rattle.plain_opens.specs.Opens.{OpensNameFiles}
+use Rattle.plain_histories.specs.Opens.{OpensNameFiles}
 use Rattle.core_state.proofs.Opens.{opens_same}
 use Rattle.core_state.proofs.Switching.{AsksAlike, now_alike}
 use Rattle.core_state.proofs.Nodes.{at_here, at_else, all_set, length_node}

@@ -6,8 +6,8 @@ use Rattle.lock_db.specs.Names.{is_same}
 use Rattle.lock_db.proofs.Names.{is_same-same}
 use Rattle.plain_cat.specs.declared.mode.Mode.{Mode}
 use Rattle.plain_cat.specs.declared.mode.Mode.TheVariants.{NL}
-use Rattle.vol_owners.specs.Lists.{Has, Once}
-use Rattle.vol_owners.proofs.Listing.{has_parted}
+use Rattle.base_words.specs.Lists.{Has, Once}
+use Rattle.base_words.proofs.Listing.{has_parted}
 use Rattle.node_locks.specs.Held.{Row, joined, names_of, without}
 use Rattle.node_cache.specs.Cached.{Cached}
 use Rattle.core_space.specs.declared.run.Phase.TheVariants as phase

@@ -1,20 +1,15 @@
 -- The drive under way as a node dies, over committed blocks that are named: its writes done are committed, and what it has outside is
 -- leaked.
-use Rattle.std.proofs.Common.{◌≡◌, ◌≤◌, ◌+◌, ℕ, Bool, true, List, [], length, map, refl, sym, ap, subst, ◌∙◌, inr, arith}
-use Rattle.std.specs.Prelude.{count_by}
-use Rattle.vol_words.specs.Fields.{Block}
+use Rattle.std.proofs.Common.{◌≡◌, ◌≤◌, ◌+◌, ℕ, Bool, true, List, [], length, refl, sym, ap, subst, ◌∙◌, inr, arith}
+use Rattle.base_words.specs.Fields.{Block}
 use Rattle.plain_cat.specs.declared.cat.Cat.{Cat}
-use Rattle.plain_vol.specs.Replaying.{closed_channels, flagged, dead, MayLeak}
-use Rattle.vol_owners.specs.declared.owner.Owner.TheVariants.{Outside, Leaked}
-use Rattle.vol_owners.specs.Lists.{Touches, StandsIn, written}
-use Rattle.vol_owners.specs.Owners.{Owners, OwnersMove, IsDeathMove, Things, nothing, Outs}
-use Rattle.vol_owners.specs.Hands.{handed, AreOf}
-use Rattle.vol_owners.specs.Counts.{is_same_owner}
-use Rattle.vol_owners.proofs.Handing.{handed_moves, outside_to_leaked}
+use Rattle.plain_rules.specs.Replaying.{flagged, dead, MayLeak}
+use Rattle.vol_spell.specs.declared.owner.Owner.TheVariants.{Outside, Leaked}
+use Rattle.base_words.specs.Lists.{Touches, StandsIn, written}
+use Rattle.vol_spell.specs.Owners.{Owners, OwnersMove, IsDeathMove, Things, nothing, Outs}
+use Rattle.vol_spell.specs.Hands.{handed, AreOf}
+use Rattle.vol_spell.proofs.Handing.{handed_moves, outside_to_leaked}
 use Rattle.vol_parts.specs.declared.geometry.Geometry.{Geometry}
-use Rattle.vol_spell.specs.Spelling.{Spells}
-use Rattle.vol_spell.specs.Kinds.{with_leaks}
-use Rattle.vol_spell.proofs.Keeping.{death_leaks}
 use Rattle.vol_under.specs.Guards.{guard_of, MayWrite, MayLook}
 use Rattle.vol_under.specs.UnderWay.{bare, UnderWay, writes_to, all_out, resting, idle, changed, AreSole}
 use Rattle.vol_under.specs.Under.{IsLawful, Leaves}
@@ -23,18 +18,10 @@ use Rattle.vol_under.proofs.Guarding.{guard_stays, death_write, death_look, outs
 use Rattle.vol_under.proofs.Lying.{over_same}
 use Rattle.vol_under.proofs.Nodes.{changed_here, each, done_alike}
 use Rattle.vol_under.proofs.Steps.{idle_lawful}
-use Rattle.vol_under.proofs.Endings.{opens_spelt, changed_again}
+use Rattle.vol_under.proofs.Endings.{changed_again, dead_spelt}
 use Rattle.vol_under.proofs.Leaking.{outside_may_leak, leaks_count, leaks_flagged, flagged_alike}
-use Rattle.cache_laws.specs.Committed.{IsUnderOn}
-use Rattle.cache_laws.proofs.Committed.{commit_on}
-
--- what leaks, by numbers
-dead_spelt : (g : Geometry) (bs : List Block) (own new : Owners) (c : Cat) (n k : ℕ) (ns : List ℕ) → Spells g bs own c → OwnersMove (IsDeathMove n) own new → count_by (is_same_owner Leaked) new.clusters ≡ c.leaked + k
-    → map (is_same_owner Leaked) new.numbers ≡ flagged c.leaked_numbers ns → Spells g bs new (dead c n k ns)
-unfolding dead
-dead_spelt g bs own new c n k ns s moves clusters numbers =
-    let e : with_leaks new c ≡ record c { leaked = c.leaked + k; leaked_numbers = flagged c.leaked_numbers ns } = λ i. record c { leaked = clusters i; leaked_numbers = numbers i } in
-    opens_spelt g bs new (record c { leaked = c.leaked + k; leaked_numbers = flagged c.leaked_numbers ns }) (closed_channels n 8 c.opens) (subst (λ (d : Cat). Spells g bs new d) e (death_leaks g bs own new c n s moves))
+use Rattle.core_cached.specs.Committed.{IsUnderOn}
+use Rattle.core_cached.proofs.Committed.{commit_on}
 
 -- a death leaves the files
 pub same_files : (c : Cat) (n k : ℕ) (ns : List ℕ) → (dead c n k ns).files ≡ c.files

@@ -2,7 +2,7 @@
 use Rattle.std.proofs.Common.{◌≡◌, ◌≢◌, ◌≤◌, ◌⊎◌, ◌+◌, ◌++◌, ◌&&◌, ◌||◌, not, ℕ, suc, Bool, true, false, cond, List, [], ◌∷◌, Option, Some, None, is_some, length, nat_lt, take, refl, sym, ap, subst, ◌∙◌, inl, inr, arith}
 use Rattle.std.specs.Prelude.{is_none}
 use Rattle.std.proofs.lemmas.Bool.Decides.{nat_tests}
-use Rattle.vol_words.specs.Fields.{Block}
+use Rattle.base_words.specs.Fields.{Block}
 use Rattle.lock_db.specs.declared.name.LockName.{LockName}
 use Rattle.lock_db.specs.declared.name.LockName.TheVariants.{V}
 use Rattle.lock_db.specs.declared.resource.Resource.{Resource}
@@ -14,7 +14,7 @@ use Rattle.plain_cat.specs.declared.mode.Mode.{Mode}
 use Rattle.plain_cat.specs.declared.mode.Mode.TheVariants.{NL, CR, PW}
 use Rattle.plain_cat.specs.declared.command.Cmd.{Cmd}
 use Rattle.plain_cat.specs.declared.cat.Cat.{Cat}
-use Rattle.plain_vol.specs.Own.{next_command}
+use Rattle.plain_rules.specs.Own.{next_command}
 use Rattle.node_locks.specs.Held.{system_of, Row, joined, names_of, HoldsItsLocks, AreHeld, waits_at, with_rows}
 use Rattle.node_locks.specs.Sweeping.{all_given, without_all, all_taken_out, AreSwept, MayGiveAll as MayGiveNamed}
 use Rattle.node_locks.proofs.Sweeping.{sweeping_holds, all_go}
@@ -22,10 +22,10 @@ use Rattle.node_locks.proofs.Keeping.{rows_go_on, may_change}
 use Rattle.node_cache.specs.Cached.{Cached}
 use Rattle.node_cache.proofs.Entries.{cache-nil}
 use Rattle.node_locks.specs.Sequences.{first_sequence, second_sequence}
-use Rattle.vol_owners.specs.Lists.{Has, Touches}
-use Rattle.vol_owners.specs.Owners.{Owners, nothing}
-use Rattle.vol_owners.proofs.Listing.{same_or_not, has_parted}
-use Rattle.cache_laws.specs.Committed.{IsUnderOn}
+use Rattle.base_words.specs.Lists.{Has, Touches}
+use Rattle.vol_spell.specs.Owners.{Owners, nothing}
+use Rattle.base_words.proofs.Listing.{same_or_not, has_parted}
+use Rattle.core_cached.specs.Committed.{IsUnderOn}
 use Rattle.vol_under.specs.UnderWay.{UnderWay, AreSole}
 use Rattle.op_law.specs.declared.need.PlanWrite.{PlanWrite}
 use Rattle.op_law.specs.Fits.{things}

@@ -75,3 +75,4 @@ pub mod Openings
 pub mod Accepting
 pub mod MountedWorlds
 pub mod Uses
+pub mod Kills

@@ -1,17 +1,17 @@
 -- A look by the rules for space of a command: it keeps the invariant, whatever the rules come to by it.
 use Rattle.std.proofs.Common.{◌≡◌, ◌<◌, ◌++◌, ◌⊎◌, ◌==◌, ℕ, Bool, true, false, cond, List, [], ◌∷◌, Option, Some, None, is_some, length, take, slice_get, refl, sym, ap, subst, ◌∙◌, inl, inr, arith}
 use Rattle.std.specs.Prelude.{slice_index_or}
-use Rattle.vol_words.specs.Fields.{Block}
+use Rattle.base_words.specs.Fields.{Block}
 use Rattle.lock_db.specs.declared.name.LockName.{LockName}
 use Rattle.lock_db.specs.declared.name.LockName.TheVariants.{V}
 use Rattle.plain_cat.specs.declared.mode.Mode.TheVariants.{PR, PW}
 use Rattle.plain_cat.specs.declared.command.Cmd.{Cmd}
 use Rattle.plain_cat.specs.declared.cat.Cat.{Cat}
 use Rattle.node_locks.specs.Held.{Row, names_of, waits_at}
-use Rattle.vol_owners.specs.Lists.{Has, Touches, StandsIn}
-use Rattle.vol_owners.specs.Owners.{Things, nothing, Outs}
-use Rattle.vol_owners.proofs.Writing.{touches_joined, stands_joined}
-use Rattle.vol_owners.proofs.Listing.{has_first}
+use Rattle.base_words.specs.Lists.{Has, Touches, StandsIn}
+use Rattle.vol_spell.specs.Owners.{Things, nothing, Outs}
+use Rattle.base_words.proofs.ListWrites.{touches_joined, stands_joined}
+use Rattle.base_words.proofs.Listing.{has_first}
 use Rattle.vol_parts.specs.declared.geometry.Geometry.{Geometry}
 use Rattle.vol_under.specs.Guards.{Lock, guard_of, MayLook}
 use Rattle.vol_under.specs.UnderWay.{UnderWay, together, changed}
@@ -22,12 +22,12 @@ use Rattle.op_law.specs.declared.seen.Seen.{Seen}
 use Rattle.op_law.specs.Events.{space_of}
 use Rattle.op_law.specs.Needs.{events_of}
 use Rattle.op_law.specs.Fits.{things, HasSeen}
-use Rattle.op_law.specs.Knows.{wants_number}
+use Rattle.plain_rules.specs.Laws.{makes_file as wants_number}
 use Rattle.op_law.specs.Laws.{held_in, takes_lock}
-use Rattle.node_space.specs.Searching.{Found, More, Short, Enough, places, found}
-use Rattle.node_space.specs.Taking.{looked}
-use Rattle.node_space.specs.Answering.{answered, blocks_of}
-use Rattle.node_space.proofs.Taken.{number_is_new}
+use Rattle.core_space.specs.Searching.{Found, More, Short, Enough, places, found}
+use Rattle.core_space.specs.Taking.{looked}
+use Rattle.core_space.specs.Answering.{answered, blocks_of}
+use Rattle.core_space.proofs.Taken.{number_is_new}
 use Rattle.core_space.specs.declared.run.Phase.{Phase}
 use Rattle.core_space.specs.declared.run.Phase.TheVariants as phase
 use Rattle.core_space.specs.declared.event.Decision.{Decision}
@@ -36,7 +36,7 @@ use Rattle.core_space.specs.Giving.{give_place, give_writes}
 use Rattle.core_space.specs.Rule.{looks_on, decides, give_by, fill_or_give, fill_by, search_by, decision_in}
 use Rattle.core_state.specs.Worlds.{NodeState, Plain, node_at, with_node, rows_of}
 use Rattle.node_cache.specs.Cached.{Cached}
-use Rattle.cache_laws.specs.Committed.{IsUnderOn}
+use Rattle.core_cached.specs.Committed.{IsUnderOn}
 use Rattle.core_state.specs.Asks.{is_claiming, writes_now}
 use Rattle.core_state.specs.Small.{lent, owed_in, owed}
 use Rattle.core_state.specs.Stocks.{roomless, things_in, unwritten, taken_in, taken_by, stock_now, looked_now}

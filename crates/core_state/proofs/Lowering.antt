@@ -4,7 +4,7 @@ use Rattle.std.proofs.lemmas.List.{append-nil}
 use Rattle.lock_db.specs.declared.name.LockName.{LockName}
 use Rattle.lock_db.specs.declared.name.LockName.TheVariants.{A, X, V}
 use Rattle.lock_db.specs.declared.resource.Resource.{Resource}
-use Rattle.vol_words.specs.Fields.{Block}
+use Rattle.base_words.specs.Fields.{Block}
 use Rattle.lock_db.specs.Queues.{lock_of}
 use Rattle.lock_db.specs.Laws.{BlockIs}
 use Rattle.lock_db.specs.Tables.{resource_at}
@@ -19,12 +19,12 @@ use Rattle.node_locks.specs.Sequences.{first_sequence, second_sequence}
 use Rattle.node_locks.proofs.Standing.{held-asked}
 use Rattle.node_locks.proofs.Keeping.{held_are_granted, rows_go_on}
 use Rattle.node_locks.specs.Sequences.{raised_block}
-use Rattle.vol_owners.specs.Lists.{Has, Touches}
-use Rattle.vol_owners.specs.Owners.{Owners, Things, nothing, Outs}
-use Rattle.vol_owners.proofs.Listing.{has_parted, has_first, has_second}
+use Rattle.base_words.specs.Lists.{Has, Touches}
+use Rattle.vol_spell.specs.Owners.{Owners, Things, nothing, Outs}
+use Rattle.base_words.proofs.Listing.{has_parted, has_first, has_second}
 use Rattle.vol_parts.specs.declared.geometry.Geometry.{Geometry}
 use Rattle.vol_under.specs.UnderWay.{UnderWay, together, changed, AreSole}
-use Rattle.cache_laws.specs.Committed.{IsUnderOn}
+use Rattle.core_cached.specs.Committed.{IsUnderOn}
 use Rattle.vol_under.specs.Keeping.{IsBitmap}
 use Rattle.op_law.specs.declared.need.PlanWrite.{PlanWrite}
 use Rattle.op_law.specs.Fits.{things}

@@ -1,7 +1,7 @@
 -- What a plan that is under way lets the rules for space do: its law and its guard are by what its command has seen, so the looks and
 -- the writes of a give-back leave them.
 use Rattle.std.proofs.Common.{◌≡◌, ◌++◌, ◌&&◌, ℕ, Bool, true, false, List, [], ◌∷◌, Option, Some, None, map, slice_get, slice_set, refl, sym, ap, subst, ◌∙◌}
-use Rattle.vol_words.specs.Fields.{Block}
+use Rattle.base_words.specs.Fields.{Block}
 use Rattle.lock_db.specs.declared.name.LockName.{LockName}
 use Rattle.lock_db.specs.declared.name.LockName.TheVariants.{X, V}
 use Rattle.plain_cat.specs.declared.mode.Mode.{Mode}
@@ -9,9 +9,9 @@ use Rattle.plain_cat.specs.declared.mode.Mode.TheVariants.{PW}
 use Rattle.plain_cat.specs.declared.command.Cmd.{Cmd}
 use Rattle.plain_cat.specs.declared.cat.Cat.{Cat}
 use Rattle.node_locks.specs.Held.{Row, names_of, waits_at}
-use Rattle.vol_owners.specs.Lists.{Has, Touches, StandsIn}
-use Rattle.vol_owners.specs.Owners.{Owners, Things, Outs}
-use Rattle.vol_owners.proofs.Writing.{stands_joined}
+use Rattle.base_words.specs.Lists.{Has, Touches, StandsIn}
+use Rattle.vol_spell.specs.Owners.{Owners, Things, Outs}
+use Rattle.base_words.proofs.ListWrites.{stands_joined}
 use Rattle.vol_parts.specs.declared.geometry.Geometry.{Geometry}
 use Rattle.vol_spell.specs.Spelling.{Spells}
 use Rattle.vol_under.specs.Guards.{guard_of, MayWrite, MayLook}
@@ -26,10 +26,10 @@ use Rattle.op_law.specs.declared.need.Plan.{Plan}
 use Rattle.op_law.specs.Fits.{things}
 use Rattle.op_law.specs.Knows.{knows, is_granted}
 use Rattle.op_law.specs.Laws.{held_in, planned, under_way, IsPlan}
-use Rattle.space_laws.specs.Planned.{IsPlanGuarded}
-use Rattle.space_laws.proofs.Planning.{forget_keeps, lower_keeps}
-use Rattle.cache_laws.specs.Committed.{IsUnderOn, on_its_own, of_it}
-use Rattle.cache_laws.proofs.Committed.{alike_on, look_on, bits_keep_on}
+use Rattle.vol_under.specs.Planned.{IsPlanGuarded}
+use Rattle.vol_under.proofs.Planning.{forget_keeps, lower_keeps}
+use Rattle.core_cached.specs.Committed.{IsUnderOn, on_its_own, of_it}
+use Rattle.core_cached.proofs.Committed.{alike_on, look_on, bits_keep_on}
 use Rattle.core_state.specs.Worlds.{NodeState, Plain, node_at}
 use Rattle.core_state.specs.Asks.{writes_by, granted_by, own_ask, known_with, knows_now}
 use Rattle.core_state.specs.Stocks.{looked_now}
@@ -40,7 +40,7 @@ use Rattle.core_state.proofs.Running.{all_asked, under_here}
 use Rattle.core_state.proofs.Taking.{BitsBy, GrabsBy, its_outs, its_seen, still_sole, changed_twice}
 use Rattle.core_state.proofs.Standing.{locks_within, is_known}
 use Rattle.core_state.proofs.Turning.{first_lawful, first_guarded}
-use Rattle.core_state.proofs.Trying.{still_granted}
+use Rattle.core_state.proofs.Trying.{still_granted, both}
 
 -- ---- laws of the rules for space, over committed blocks that are named
 
@@ -124,11 +124,6 @@ module _ (g : Geometry) (c : Cat) (nodes : ℕ → UnderWay) (drive : List Block
       let a : UnderWay = record u { seen = seen } in
       twice g c under.base under.own nodes drive n a (record u { seen = seen; read = read; write = write })
       (lowers g c under.base under.own (changed nodes n a) drive n a (changed_here nodes n a) (forgets g c under.base under.own nodes drive n u is on seen among law) read write reads writes unseen unplanned)
-
--- ---- the plan of a node
-
-both : (a b : Bool) → a ≡ true → b ≡ true → (a && b) ≡ true
-both a b e f = ap (λ k. k && b) e ∙ f
 
 module _ (w : Plain) (good : Good w) (n : ℕ) (s : NodeState) (at : node_at w.nodes n ≡ Some s) where
   abbrev cat : Cat

@@ -1,9 +1,9 @@
 -- A mounted world keeps the rules.
-use Rattle.std.proofs.Common.{◌≡◌, ◌≤◌, ◌+◌, ◌&&◌, ℕ, zero, suc, Bool, true, false, List, [], ◌∷◌, Option, Some, None, Result, Ok, length, slice_get, refl, sym, ap, subst, arith, inl}
+use Rattle.std.proofs.Common.{◌≡◌, ◌≤◌, ◌+◌, ◌&&◌, ℕ, zero, suc, true, false, List, [], ◌∷◌, Option, Some, None, Result, Ok, length, slice_get, refl, sym, ap, subst, arith, inl}
 use Rattle.std.specs.Prelude.{◌==◌, All, IsTrue, replicate}
 use Rattle.std.specs.List.{list_any}
 use Rattle.std.proofs.lemmas.Bool.Decides.{nat_tests}
-use Rattle.vol_words.specs.Fields.{Block, AreWholeBlocks}
+use Rattle.base_words.specs.Fields.{Block, AreWholeBlocks}
 use Rattle.fx_home.specs.declared.home.Home.{Home}
 use Rattle.fx_home.specs.declared.home.HomeFault.{HomeFault}
 use Rattle.fx_home.specs.Homes.{home_read}
@@ -11,9 +11,9 @@ use Rattle.plain_cat.specs.InForm.{InForm, is_within, line_in_form}
 use Rattle.plain_cat.specs.declared.script.Line.{Line}
 use Rattle.plain_cat.specs.declared.script.Script.{Script}
 use Rattle.plain_cat.specs.declared.cat.Cat.{Cat}
-use Rattle.plain_vol.specs.Accounts.{Accounted}
-use Rattle.plain_vol.specs.Own.{newborn}
-use Rattle.node_past.proofs.Strangers.{strangers_have_nothing}
+use Rattle.plain_rules.specs.Accounts.{Accounted}
+use Rattle.plain_rules.specs.Own.{newborn}
+use Rattle.plain_past.proofs.Strangers.{strangers_have_nothing}
 use Rattle.node_locks.specs.Held.{joined}
 use Rattle.node_locks.proofs.Dying.{nothing_is_held}
 use Rattle.vol_faults.specs.Free.{IsGeometryBy}
@@ -22,8 +22,8 @@ use Rattle.vol_parts.specs.Volumes.{volume, geometry_of}
 use Rattle.vol_parts.specs.declared.finding.Finding.{Finding}
 use Rattle.vol_parts.specs.Findings.{home_at, Accepts, CatOf}
 use Rattle.vol_analyze.specs.Judging.{IsJudged}
-use Rattle.vol_owners.specs.Lists.{Has}
-use Rattle.vol_owners.specs.Owners.{nothing}
+use Rattle.base_words.specs.Lists.{Has}
+use Rattle.vol_spell.specs.Owners.{nothing}
 use Rattle.vol_under.specs.UnderWay.{resting}
 use Rattle.vol_under.specs.Under.{IsUnder}
 use Rattle.vol_under.proofs.Steps.{mount_stands, nodes_alike}
@@ -36,14 +36,15 @@ use Rattle.core_state.specs.Stores.{IsStocked, hold_writes}
 use Rattle.node_cache.proofs.Entries.{cache-nil}
 use Rattle.core_state.specs.Mounting.{at_rest, mounted}
 use Rattle.core_state.specs.Channels.{HasOpens}
-use Rattle.plain_opens.proofs.Naming.{closed_names}
-use Rattle.plain_usages.specs.Usages.{AreNear, HasSmallFiles}
+use Rattle.plain_histories.proofs.Naming.{closed_names}
+use Rattle.plain_histories.specs.Usages.{AreNear, HasSmallFiles}
 use Rattle.core_state.proofs.Falling.{none_fallen}
 use Rattle.core_state.proofs.Opens.{opens_none, opens_same}
 use Rattle.core_state.proofs.SmallBegun.{few_newborn}
 use Rattle.core_state.proofs.SmallWorlds.{small_mounted}
 use Rattle.core_state.proofs.Channels.{none_opened}
 use Rattle.plain_cat.specs.declared.command.Cmd.{Cmd}
+use Rattle.op_law.proofs.OnlyLooking.{both_first}
 
 -- ---- lists of nodes at rest
 
@@ -78,13 +79,9 @@ within_at : (k : ℕ) (x : NodeState) (n m : ℕ) → node_at (replicate k x) n 
 within_at k x zero m none is = grind (arith, nat_tests)
 within_at k x (suc n) m none is = let le = none_behind k x n none in grind (arith, nat_tests)
 
-first_of_two : (a b : Bool) → (a && b) ≡ true → a ≡ true
-first_of_two true b e = refl
-first_of_two false b e = e
-
 no_line : (ls : List Line) (k : ℕ) (x : NodeState) (n : ℕ) → All (λ (l : Line). IsTrue (is_within 1 k l.node && line_in_form l.cmd)) ls → node_at (replicate k x) n ≡ None → list_any (λ (l : Line). l.node == n) ls ≡ false
 no_line [] k x n all none = refl
-no_line (l ∷ ls) k x n all none = by_first (within_at k x n l.node none (first_of_two (is_within 1 k l.node) (line_in_form l.cmd) (all 0 l (omega arith)))) (no_line ls k x n (λ i d lt. all (suc i) d (omega arith)) none) where
+no_line (l ∷ ls) k x n all none = by_first (within_at k x n l.node none (both_first (is_within 1 k l.node) (line_in_form l.cmd) (all 0 l (omega arith)))) (no_line ls k x n (λ i d lt. all (suc i) d (omega arith)) none) where
   by_first : (l.node == n) ≡ false → list_any (λ (l : Line). l.node == n) ls ≡ false → list_any (λ (l : Line). l.node == n) (l ∷ ls) ≡ false
   by_first a b = grind (arith, nat_tests)
 

@@ -4,7 +4,7 @@ use Rattle.lock_db.specs.declared.name.LockName.{LockName}
 use Rattle.lock_db.specs.Names.{is_same}
 use Rattle.lock_db.proofs.Names.{is_same-refl, is_same-same}
 use Rattle.plain_cat.specs.declared.mode.Mode.{Mode}
-use Rattle.vol_owners.specs.Lists.{Has, Once}
+use Rattle.base_words.specs.Lists.{Has, Once}
 use Rattle.node_locks.specs.Held.{Row, names_of, without}
 use Rattle.core_state.specs.Asks.{has_asked}
 use Rattle.core_state.specs.Events.{mode_of_lock, mode_in}

@@ -1,5 +1,5 @@
 -- No command makes the number of a system file free.
-use Rattle.std.proofs.Common.{◌≡◌, ◌≤◌, ◌<◌, ◌-◌, ◌*◌, ◌&&◌, ℕ, Bool, true, false, cond, List, [], ◌∷◌, Option, Some, None, slice_get, slice_set, zero, suc, refl, sym, ap, subst, ◌∙◌, arith}
+use Rattle.std.proofs.Common.{◌≡◌, ◌≤◌, ◌<◌, ◌-◌, ◌*◌, ◌&&◌, ℕ, Bool, true, false, cond, List, [], ◌∷◌, Option, Some, None, slice_get, refl, ap, subst, ◌∙◌, arith}
 use Rattle.std.specs.Prelude.{not, min, nat_le, is_some, ◌==◌}
 use Rattle.std.specs.List.{list_any}
 use Rattle.std.proofs.lemmas.Bool.Decides.{nat_tests}
@@ -15,15 +15,15 @@ use Rattle.plain_cat.specs.declared.mode.Mode.{Mode}
 use Rattle.plain_cat.specs.declared.cat.File.{File}
 use Rattle.plain_cat.specs.declared.cat.Open.{Open}
 use Rattle.plain_cat.specs.declared.cat.QuotaRow.{QuotaRow}
-use Rattle.plain_cat.specs.declared.cat.Slot.{Slot}
-use Rattle.plain_cat.specs.declared.cat.Slot.TheVariants.{Used, Free}
-use Rattle.plain_vol.specs.declared.outcome.Outcome.{Outcome}
-use Rattle.plain_vol.specs.Lookups.{joined as open_joined, file_at, channel_at, place, in_use, live, is_open, entry_of, versions, is_free_slot, is_leaked, is_free_number, row_of}
-use Rattle.plain_vol.specs.Directories.{inserted, without}
-use Rattle.plain_vol.specs.Changes.{in_clusters, cost, with_file, freed, with_entries, charged, discharged, grown, cut, written, with_channel}
-use Rattle.plain_vol.specs.Answers.{refused, unless, in_directory_file, entered, create_refusal, create_made, create_outcome, dir_name, mkdir_refusal, mkdir_made, mkdir_outcome, extend_of, extend_refusal, extend_outcome, trunc_of, trunc_outcome, with_entry, has_entries, unnamed, less_entry, delete_outcome, rename_refusal, rename_outcome, lookup_outcome, list_outcome, stat_of, stat_outcome, quota_set_of, quota_set_outcome, quota_shown, quota_show_outcome, removed, first_refusal, is_kept, conflicts, open_of, open_outcome, closed, close_of, close_outcome, is_outside, read_of, read_open, read_outcome, is_reading, write_of, write_open, write_outcome, outcome, Answer}
-use Rattle.vol_owners.proofs.Writing.{get-set_else}
-use Rattle.plain_opens.specs.Opens.{OpensNameFiles}
+use Rattle.plain_cat.specs.declared.cat.Slot.TheVariants.{Free}
+use Rattle.plain_rules.specs.declared.outcome.Outcome.{Outcome}
+use Rattle.plain_rules.specs.Lookups.{joined as open_joined, file_at, channel_at, place, in_use, live, is_open, entry_of, versions, is_free_slot, is_leaked, is_free_number, row_of}
+use Rattle.plain_rules.specs.Directories.{inserted, without}
+use Rattle.plain_rules.specs.Changes.{in_clusters, cost, with_file, freed, with_entries, charged, discharged, grown, cut, written, with_channel}
+use Rattle.plain_rules.specs.Answers.{refused, unless, in_directory_file, entered, create_refusal, create_made, create_outcome, dir_name, mkdir_refusal, mkdir_made, mkdir_outcome, extend_of, extend_refusal, extend_outcome, trunc_of, trunc_outcome, with_entry, has_entries, unnamed, less_entry, delete_outcome, rename_refusal, rename_outcome, lookup_outcome, list_outcome, stat_of, stat_outcome, quota_set_of, quota_set_outcome, quota_shown, quota_show_outcome, removed, first_refusal, is_kept, conflicts, open_of, open_outcome, closed, close_of, close_outcome, is_outside, read_of, read_open, read_outcome, is_reading, write_of, write_open, write_outcome, outcome, Answer}
+use Rattle.base_words.proofs.ListWrites.{get-set_else}
+use Rattle.plain_histories.specs.Opens.{OpensNameFiles}
+use Rattle.plain_histories.proofs.Numbers.{set_taken, above}
 
 -- no number of a system file that is not free in c is free in d
 abbrev pub Keeps : Cat → Cat → Type 0
@@ -32,36 +32,8 @@ Keeps c d = (n : ℕ) → n ≤ 11 → is_free_number c n ≡ false → is_free_
 joined : (c d e : Cat) → Keeps c d → Keeps d e → Keeps c e
 joined c d e s t = λ n le free. t n le (s n le free)
 
--- ---- a slot that is used
-
-set_free : (files : List Slot) (i j : ℕ) (f : File) → is_free_slot (slice_get files j) ≡ false → is_free_slot (slice_get (slice_set files i (Used f)) j) ≡ false
-set_free [] i j f e = e
-set_free (s ∷ files) zero zero f e = refl
-set_free (s ∷ files) zero (suc j) f e = e
-set_free (s ∷ files) (suc i) zero f e = e
-set_free (s ∷ files) (suc i) (suc j) f e = set_free files i j f e
-
-set_taken : (b leaked : Bool) (files : List Slot) (i j : ℕ) (f : File) → (is_free_slot (cond b None (slice_get files j)) && leaked) ≡ false
-    → (is_free_slot (cond b None (slice_get (slice_set files i (Used f)) j)) && leaked) ≡ false
-set_taken true leaked files i j f e = refl
-set_taken false leaked files i j f e = by_free (is_free_slot (slice_get files j)) refl where
-  by_free : (t : Bool) → is_free_slot (slice_get files j) ≡ t → (is_free_slot (slice_get (slice_set files i (Used f)) j) && leaked) ≡ false
-  by_free false g = ap (λ t. t && leaked) (set_free files i j f g)
-  by_free true g = by_leaked leaked (sym (ap (λ t. t && leaked) g) ∙ e) where
-    by_leaked : (l : Bool) → (true && l) ≡ false → (is_free_slot (slice_get (slice_set files i (Used f)) j) && l) ≡ false
-    by_leaked true h = absurd (let k : true ≡ false = h in cc)
-    by_leaked false h = by_last (is_free_slot (slice_get (slice_set files i (Used f)) j)) where
-      by_last : (t : Bool) → (t && false) ≡ false
-      by_last true = refl
-      by_last false = refl
-
 file_stays : (c : Cat) (k : ℕ) (f : File) → Keeps c (with_file c k f)
 file_stays c k f = λ n le e. set_taken (n == 0) (not (is_leaked c n)) c.files (k - 1) (n - 1) f e
-
-above : (k n : ℕ) → nat_le k 11 ≡ false → n ≤ 11 → k - 1 ≡ n - 1 → ⊥
-above k n e le same = let lt : 11 < k = later k e in omega arith where
-  later : (k : ℕ) → nat_le k 11 ≡ false → 11 < k
-  later k e = grind (arith, nat_tests)
 
 -- the number of a file that goes, which is no system file
 freed_stays : (c : Cat) (k : ℕ) (f : File) → nat_le k 11 ≡ false → Keeps c (freed c k f)

@@ -4,17 +4,17 @@ use Rattle.std.specs.Prelude.{nat_le, nat_lt, replicate, is_some}
 use Rattle.std.specs.List.{list_all, list_any}
 use Rattle.std.proofs.lemmas.Bool.Decides.{nat_tests}
 use Rattle.vol_parts.specs.declared.geometry.Geometry.{Geometry}
-use Rattle.vol_owners.proofs.Listing.{same_or_not}
-use Rattle.vol_owners.proofs.Writing.{get-set_else}
+use Rattle.base_words.proofs.Listing.{same_or_not}
+use Rattle.base_words.proofs.ListWrites.{get-set_else}
 use Rattle.plain_cat.specs.declared.mode.Mode.{Mode}
 use Rattle.plain_cat.specs.declared.mode.Mode.TheVariants.{NL, PR, CW}
 use Rattle.plain_cat.specs.Modes.{compatible_modes}
 use Rattle.plain_cat.specs.declared.cat.Cat.{Cat}
 use Rattle.plain_cat.specs.declared.cat.Open.{Open}
-use Rattle.plain_vol.specs.Lookups.{place, joined, channel_at}
-use Rattle.plain_vol.specs.Answers.{conflicts}
-use Rattle.plain_opens.proofs.Having.{same_place}
-use Rattle.plain_opens.proofs.Lists.{set_there}
+use Rattle.plain_rules.specs.Lookups.{place, joined, channel_at}
+use Rattle.plain_rules.specs.Answers.{conflicts}
+use Rattle.plain_histories.proofs.Having.{same_place, no_conflict, compatible_in}
+use Rattle.plain_histories.proofs.Lists.{set_there, any_none}
 use Rattle.lock_db.specs.declared.name.LockName.{LockName}
 use Rattle.lock_db.specs.declared.name.LockName.TheVariants.{A}
 use Rattle.lock_db.specs.declared.name.Owner.{Owner}
@@ -39,15 +39,17 @@ use Rattle.node_locks.specs.Held.{system_of}
 use Rattle.node_locks.specs.Sequences.{raised_block}
 use Rattle.node_locks.specs.Taking.{has_lock, taken, taken_now, MayTake}
 use Rattle.node_locks.proofs.Taking.{no-lock}
-use Rattle.node_locks.proofs.Served.{Served, settled-served, vacated-standing, without-other, with-other}
+use Rattle.node_locks.proofs.Served.{settled-served, vacated-standing, without-other, with-other}
+use Rattle.lock_db.proofs.Owners.{Served}
 use Rattle.node_locks.proofs.Nodes.{name_or_not}
 use Rattle.op_law.specs.declared.need.PlanWrite.{PlanWrite}
 use Rattle.op_law.specs.declared.seen.Chan.{Chan}
-use Rattle.op_law.specs.Knows.{others_open}
+use Rattle.plain_rules.specs.Opens.{others_open}
 use Rattle.core_state.specs.Raises.{raise_of}
 use Rattle.core_state.specs.Opens.{is_channel, open_of, open_stands, AreOpensLocked}
 use Rattle.core_state.specs.Channels.{let_go}
 use Rattle.core_state.specs.Events.{given_back, left_alone}
+use Rattle.base_words.proofs.Booleans.{at_most}
 
 -- ---- the calls of one owner, and how another stands
 
@@ -416,9 +418,6 @@ placed : (i : ℕ) → IsPlaced i
 placed zero = record { node = 1; part = 1; from = omega arith; low = omega arith; high = omega arith; at = refl }
 placed (suc i) = next_placed i (placed i)
 
-is_le : (a b : ℕ) → a ≤ b → nat_le a b ≡ true
-is_le a b e = grind (arith, nat_tests)
-
 -- ---- which modes go with what the other owners have open
 
 -- a mode goes with each open of a file of another owner
@@ -429,15 +428,6 @@ none_any : {X : Type 0} (p : X → Bool) (xs : List X) → ((i : ℕ) (x : X) �
 none_any p [] h = refl
 none_any p (x ∷ xs) h = ap (λ b. b || list_any p xs) (h 0 x refl) ∙ none_any p xs (λ i y e. h (suc i) y e)
 
-any_none : {X : Type 0} (p : X → Bool) (xs : List X) (i : ℕ) (x : X) → list_any p xs ≡ false → slice_get xs i ≡ Some x → p x ≡ false
-any_none p [] i x h e = absurd (let f : None ≡ Some x = e in cc)
-any_none p (y ∷ xs) zero x h e = let f : Some y ≡ Some x = e in let g : y ≡ x = cc in ap p (sym g) ∙ first (p y) (list_any p xs) h where
-  first : (a b : Bool) → (a || b) ≡ false → a ≡ false
-  first a b k = grind arith
-any_none p (y ∷ xs) (suc i) x h e = any_none p xs i x (second (p y) (list_any p xs) h) e where
-  second : (a b : Bool) → (a || b) ≡ false → b ≡ false
-  second a b k = grind arith
-
 -- a part of a node that asks: the file system or a channel
 pub record IsPart (n chan : ℕ) : Type 0 where
   pub from : 1 ≤ n
@@ -446,13 +436,6 @@ pub record IsPart (n chan : ℕ) : Type 0 where
 some_in : (x : Option (Option Open)) (o : Open) → joined x ≡ Some o → x ≡ Some (Some o)
 some_in None o e = absurd (let g : None ≡ Some o = e in cc)
 some_in (Some x) o e = ap Some e
-
-no_conflict : (a b : Bool) → (a ≡ true → b ≡ true) → (a && not b) ≡ false
-no_conflict true b h = ap not (h refl)
-no_conflict false b h = refl
-
-goes_by : (a b : Bool) → (a && not b) ≡ false → a ≡ true → b ≡ true
-goes_by a b e is = grind arith
 
 pub channel_parts : (owner : Owner) → is_channel owner ≡ true → (1 ≤ owner.node) × (1 ≤ owner.part) × (owner.part ≤ 8)
 channel_parts owner e =
@@ -481,7 +464,7 @@ module _ (c : Cat) (n chan f : ℕ) (mode : Mode) (part : IsPart n chan) where
 
       has : open_of c owner ≡ Some o
       has =
-          let is : is_channel owner ≡ true = and-both (nat_le 1 p.node) _ (is_le 1 p.node p.from) (and-both (nat_le 1 p.part) _ (is_le 1 p.part p.low) (is_le p.part 8 p.high)) in
+          let is : is_channel owner ≡ true = and-both (nat_le 1 p.node) _ (at_most 1 p.node p.from) (and-both (nat_le 1 p.part) _ (at_most 1 p.part p.low) (at_most p.part 8 p.high)) in
           ap (λ b. cond b (channel_at c p.node p.part) None) is ∙ ap (λ k. joined (slice_get c.opens k)) p.at ∙ ap joined e
 
     no_channel : (owner : Owner) → 1 ≤ owner.part → (chan == 0) ≡ true → same_owner owner asker ≡ false
@@ -514,8 +497,8 @@ module _ (c : Cat) (n chan f : ℕ) (mode : Mode) (part : IsPart n chan) where
   go_all : list_any (conflicts f mode) (others_open c n chan) ≡ false → AllGo c asker f mode
   go_all none owner o low far has file = by_channel (is_channel owner) refl has where
     by_part : is_channel owner ≡ true → slice_get c.opens (place owner.node owner.part) ≡ Some (Some o) → (b : Bool) → (chan == 0) ≡ b → compatible_modes mode o.mode ≡ true
-    by_part is there true e = goes_by (o.file == f) (compatible_modes mode o.mode) (any_none (conflicts f mode) c.opens (place owner.node owner.part) (Some o) (sym (ap (list_any (conflicts f mode)) (others_are true e)) ∙ none) there) file
-    by_part is there false e = goes_by (o.file == f) (compatible_modes mode o.mode)
+    by_part is there true e = compatible_in (o.file == f) (compatible_modes mode o.mode) (any_none (conflicts f mode) c.opens (place owner.node owner.part) (Some o) (sym (ap (list_any (conflicts f mode)) (others_are true e)) ∙ none) there) file
+    by_part is there false e = compatible_in (o.file == f) (compatible_modes mode o.mode)
         (any_none (conflicts f mode) (slice_set c.opens (place n chan) None) (place owner.node owner.part) (Some o) (sym (ap (list_any (conflicts f mode)) (others_are false e)) ∙ none) (get-set_else c.opens (place n chan) (place owner.node owner.part) None elsewhere ∙ there)) file where
           from_one : (k : ℕ) → (k == 0) ≡ false → 1 ≤ k
           from_one k e = grind (arith, nat_tests)

@@ -3,7 +3,7 @@ use Rattle.std.proofs.Common.{◌≡◌, ◌≤◌, ◌++◌, ◌⊎◌, ◌&&�
 use Rattle.std.proofs.lemmas.Bool.{and_parts}
 use Rattle.std.proofs.lemmas.Bool.Decides.{nat_tests}
 use Rattle.std.proofs.lemmas.List.{append-nil}
-use Rattle.vol_words.specs.Fields.{Block}
+use Rattle.base_words.specs.Fields.{Block}
 use Rattle.lock_db.specs.declared.name.LockName.{LockName}
 use Rattle.lock_db.specs.declared.name.LockName.TheVariants.{X, V}
 use Rattle.plain_cat.specs.Modes.{rank}
@@ -13,10 +13,10 @@ use Rattle.plain_cat.specs.declared.command.Cmd.{Cmd}
 use Rattle.plain_cat.specs.declared.reply.Refusal.{Refusal}
 use Rattle.plain_cat.specs.declared.cat.Cat.{Cat}
 use Rattle.node_locks.specs.Held.{Row, names_of, HoldsItsLocks, waits_at}
-use Rattle.vol_owners.specs.Lists.{Has, StandsIn}
-use Rattle.vol_owners.specs.Owners.{Things, nothing, Outs}
-use Rattle.vol_owners.proofs.Writing.{stands_joined}
-use Rattle.vol_owners.proofs.Listing.{has_parted, has_first}
+use Rattle.base_words.specs.Lists.{Has, StandsIn}
+use Rattle.vol_spell.specs.Owners.{Things, nothing, Outs}
+use Rattle.base_words.proofs.ListWrites.{stands_joined}
+use Rattle.base_words.proofs.Listing.{has_parted, has_first}
 use Rattle.vol_parts.specs.declared.geometry.Geometry.{Geometry}
 use Rattle.vol_parts.specs.Parts.{IsGeometry}
 use Rattle.vol_under.specs.Guards.{guard_of, MayLook}
@@ -29,9 +29,9 @@ use Rattle.op_law.specs.Events.{has_number, has_space}
 use Rattle.op_law.specs.Fits.{things}
 use Rattle.op_law.specs.Knows.{knows, is_granted}
 use Rattle.op_law.specs.Laws.{held_in, planned, KeepsOut, IsPlan}
-use Rattle.node_space.specs.Searching.{More, Short, Enough, places, found, found_clusters, free_from, cluster_writes}
-use Rattle.node_space.specs.Answering.{blocks_of}
-use Rattle.node_space.proofs.Looked.{places_lie}
+use Rattle.core_space.specs.Searching.{More, Short, Enough, places, found, found_clusters, free_from, cluster_writes}
+use Rattle.core_space.specs.Answering.{blocks_of}
+use Rattle.core_space.proofs.Looked.{places_lie}
 use Rattle.core_state.specs.Worlds.{NodeState, Plain, node_at, rows_of, rows_in}
 use Rattle.core_state.specs.Asks.{writes_by, writes_now}
 use Rattle.core_state.specs.Stocks.{stock_now, looked_now}
@@ -47,7 +47,7 @@ use Rattle.core_state.proofs.Taking.{its_guards}
 use Rattle.core_state.proofs.Keeping.{asked_apart}
 use Rattle.core_state.proofs.Seeking.{touches_its, all_left, no_space, first_more}
 use Rattle.core_state.proofs.Standing.{others_nothing}
-use Rattle.core_state.proofs.Trying.{still_granted}
+use Rattle.core_state.proofs.Trying.{still_granted, both}
 use Rattle.core_state.proofs.Midway.{first_known, here_so, drive_so, outs_so, seen_so, wide_so}
 
 -- ---- what is outside behind the writes of a plan
@@ -73,9 +73,6 @@ first_among zero ws v h = absurd h
 first_among (suc k) [] v h = absurd h
 first_among (suc k) (y ∷ ws) v (inl e) = inl e
 first_among (suc k) (y ∷ ws) v (inr h) = inr (first_among k ws v h)
-
-both : (a b : Bool) → a ≡ true → b ≡ true → (a && b) ≡ true
-both a b e f = ap (λ k. k && b) e ∙ f
 
 module _ (w : Plain) (good : Good w) (n : ℕ) (s : NodeState) (at : node_at w.nodes n ≡ Some s) where
   abbrev cat : Cat

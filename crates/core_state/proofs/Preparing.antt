@@ -1,7 +1,7 @@
 -- What a node has prepared before its event.
 use Rattle.std.proofs.Common.{◌≡◌, ℕ, true, false, cond, Option, Some, None, ap, ◌∙◌}
 use Rattle.plain_cat.specs.declared.command.Cmd.{Cmd}
-use Rattle.plain_vol.specs.Own.{next_command}
+use Rattle.plain_rules.specs.Own.{next_command}
 use Rattle.core_state.specs.Worlds.{NodeState, Plain, node_at, with_node}
 use Rattle.core_state.specs.Events.{is_held_up, served, prepared_by, prepared, readied_at, readied}
 use Rattle.core_state.proofs.Nodes.{set_node_same}

@@ -12,8 +12,8 @@ use Rattle.lock_db.proofs.Steps.{IsTable-converted, IsTable-released}
 use Rattle.plain_cat.specs.declared.mode.Mode.{Mode}
 use Rattle.plain_cat.specs.declared.mode.Mode.TheVariants.{NL, CW}
 use Rattle.plain_cat.specs.declared.cat.Open.{Open}
-use Rattle.vol_owners.specs.Lists.{Has, Once}
-use Rattle.vol_owners.proofs.Listing.{has_first, has_second}
+use Rattle.base_words.specs.Lists.{Has, Once}
+use Rattle.base_words.proofs.Listing.{has_first, has_second}
 use Rattle.vol_parts.specs.declared.geometry.Geometry.{Geometry}
 use Rattle.node_locks.specs.Held.{Row, system_of, names_of}
 use Rattle.node_locks.specs.PuttingBack.{Keeps, Values, put_back, all_back, kept_by, kept_of, IsLow, MayPutBack}
@@ -29,6 +29,7 @@ use Rattle.core_state.specs.Events.{given_back, stays}
 use Rattle.core_state.proofs.Holding.{named_there}
 use Rattle.core_state.proofs.Opens.{opens_released, opens_converted}
 use Rattle.core_state.proofs.CachedTables.{to_nl, put_back_leaves}
+use Rattle.plain_rules.proofs.Ordered.{or_right}
 
 -- ---- which are kept
 
@@ -52,16 +53,10 @@ keeps_entry es l e = ap (λ (b : Bool). cond b (Some NL) None) e
 pub keeps_none : (es : List Cached) (l : LockName × Mode) → has_entry es l.0 ≡ false → keeps es l ≡ None
 keeps_none es l e = ap (λ (b : Bool). cond b (Some NL) None) e
 
--- ---- the locks of entries
-
-or_second : (a b : Bool) → b ≡ true → (a || b) ≡ true
-or_second true b e = refl
-or_second false b e = e
-
 pub entry_under : (es : List Cached) (e : Cached) → Has es e → has_entry es e.lock ≡ true
 entry_under [] e h = absurd h
 entry_under (x ∷ es) e (inl is) = ap (λ (b : Bool). b || list_any (is_under e.lock) es) (subst (λ (y : Cached). is_under e.lock y ≡ true) (sym is) (is_same-refl e.lock))
-entry_under (x ∷ es) e (inr t) = or_second (is_under e.lock x) (has_entry es e.lock) (entry_under es e t)
+entry_under (x ∷ es) e (inr t) = or_right (is_under e.lock x) (has_entry es e.lock) (entry_under es e t)
 
 -- a lock with a cached block under it guards blocks
 pub under_guards : (es : List Cached) → ((e : Cached) → Has es e → guards_blocks e.lock ≡ true) → (name : LockName) → has_entry es name ≡ true → guards_blocks name ≡ true

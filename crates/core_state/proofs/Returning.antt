@@ -1,20 +1,20 @@
 -- A give-back looks at a block, and writes one, with its node's command under way or without one.
 use Rattle.std.proofs.Common.{◌≡◌, ◌⊎◌, ◌+◌, ◌++◌, ℕ, Bool, false, cond, List, [], ◌∷◌, Option, Some, None, take, slice_get, slice_set, refl, sym, ap, subst, ◌∙◌, inl, inr, arith}
-use Rattle.vol_words.specs.Fields.{Block}
+use Rattle.base_words.specs.Fields.{Block}
 use Rattle.lock_db.specs.declared.name.LockName.{LockName}
 use Rattle.lock_db.specs.declared.name.LockName.TheVariants.{X, V}
 use Rattle.std.proofs.lemmas.Option.{slice_get_within}
 use Rattle.plain_cat.specs.declared.mode.Mode.TheVariants.{CR, PR, PW}
 use Rattle.plain_cat.specs.declared.cat.Cat.{Cat}
 use Rattle.node_locks.specs.Held.{Row, names_of, waits_at}
-use Rattle.vol_owners.specs.Lists.{Has, Touches}
-use Rattle.vol_owners.specs.Owners.{Owners, Things, Outs}
-use Rattle.vol_owners.proofs.Writing.{touches_joined, stands_joined}
-use Rattle.vol_owners.proofs.Listing.{has_parted, has_first, has_second}
+use Rattle.base_words.specs.Lists.{Has, Touches}
+use Rattle.vol_spell.specs.Owners.{Owners, Things, Outs}
+use Rattle.base_words.proofs.ListWrites.{touches_joined, stands_joined}
+use Rattle.base_words.proofs.Listing.{has_parted, has_first, has_second}
 use Rattle.vol_parts.specs.declared.geometry.Geometry.{Geometry}
 use Rattle.vol_under.specs.Guards.{Guard, Lock, guard_of, MayLook}
-use Rattle.cache_laws.specs.Committed.{IsUnderOn}
-use Rattle.cache_laws.proofs.Guarded.{spaces_stay}
+use Rattle.core_cached.specs.Committed.{IsUnderOn}
+use Rattle.core_cached.proofs.Guarded.{spaces_stay}
 use Rattle.node_cache.specs.Cached.{Cached}
 use Rattle.vol_under.specs.UnderWay.{UnderWay, writes_to, together, changed, AreSole}
 use Rattle.vol_under.specs.Under.{IsUnder}
@@ -23,7 +23,7 @@ use Rattle.vol_under.proofs.Guarding.{bitmap_guard}
 use Rattle.vol_under.proofs.Steps.{held_stands}
 use Rattle.op_law.specs.declared.need.PlanWrite.{PlanWrite}
 use Rattle.op_law.specs.Laws.{held_in, IsCacheable}
-use Rattle.space_laws.specs.Planned.{IsPlanGuarded}
+use Rattle.vol_under.specs.Planned.{IsPlanGuarded}
 use Rattle.core_space.specs.declared.run.Phase.{Phase}
 use Rattle.core_space.specs.declared.run.Phase.TheVariants as phase
 use Rattle.core_space.specs.Giving.{give_place, give_writes}
@@ -35,7 +35,8 @@ use Rattle.core_state.specs.Small.{lent, owed_in, owed, has_command}
 use Rattle.core_state.specs.Stocks.{roomless, things_in, left_by, stock_now, looked_now, unwritten}
 use Rattle.core_state.specs.Searches.{IsWritingBack, IsGoingBack, LooksOn, WritesBack, IsGivingBack, Back}
 use Rattle.core_state.specs.Goods.{under_with, nodes_under, IsNode, Good, held_by}
-use Rattle.core_state.specs.Events.{is_out, one_more, turned, space_need, ready_left, given_by, stocked_by, is_last, space_writing, caching, cache_written}
+use Rattle.core_state.specs.Events.{is_out, turned, space_need, ready_left, given_by, stocked_by, is_last, space_writing, caching, cache_written}
+use Rattle.base_words.specs.Faults.{next as one_more}
 use Rattle.core_state.proofs.Holding.{is_in_held, held_weaker}
 use Rattle.core_state.proofs.Running.{at_any, under_now, claims_held, are_sole}
 use Rattle.core_state.proofs.Keeping.{altered, still_driven, rebuilt, held_same, loses_nothing, asked_apart}

@@ -14,8 +14,8 @@ use Rattle.lock_db.proofs.Steps.{IsTable-converted, IsTable-released}
 use Rattle.plain_cat.specs.Modes.{rank}
 use Rattle.plain_cat.specs.declared.mode.Mode.{Mode}
 use Rattle.plain_cat.specs.declared.mode.Mode.TheVariants.{NL, CR, CW, PR, PW}
-use Rattle.vol_owners.specs.Lists.{Has}
-use Rattle.vol_owners.proofs.Listing.{same_or_not, has_first}
+use Rattle.base_words.specs.Lists.{Has}
+use Rattle.base_words.proofs.Listing.{same_or_not, has_first}
 use Rattle.node_locks.specs.Held.{system_of, Row, joined, names_of, IsGranted, HoldsItsLocks, AreHeld, waits_at, held_locks, all_held, without, taken_out, put_in, with_rows}
 use Rattle.node_locks.specs.HeldLaws.{StandsStill, GoesOn, IsMoved, IsLowered, IsGivenBack}
 use Rattle.node_locks.specs.Taking.{has_lock, taken, taken_now, MayTake, IsTaken}
@@ -25,11 +25,7 @@ use Rattle.node_locks.proofs.Lowering.{lowering_holds}
 use Rattle.node_locks.proofs.Giving.{giving_holds}
 use Rattle.node_locks.proofs.Keeping.{all_are_held, held_are_granted, rest_goes_on}
 use Rattle.core_state.proofs.Naming.{same_name}
-
--- ---- rows of one node among those of all
-
-pub own_rows : (rows : ℕ → List Row) (n : ℕ) (own : List Row) → with_rows rows n own n ≡ own
-own_rows rows n own = grind (arith, nat_tests)
+use Rattle.node_locks.proofs.Nodes.{rows_here}
 
 other_rows : (rows : ℕ → List Row) (n : ℕ) (own : List Row) (m : ℕ) → m ≢ n → with_rows rows n own m ≡ rows m
 other_rows rows n own m ne = grind (arith, nat_tests)
@@ -39,14 +35,14 @@ pub rows_twice : (t : List Resource) (rows : ℕ → List Row) (n : ℕ) (a b : 
 rows_twice t rows n a b held m = subst (λ (rs : List Row). HoldsItsLocks t m rs) (same m) (held m) where
   same : (m : ℕ) → with_rows (with_rows rows n a) n b m ≡ with_rows rows n b m
   same m = elim (same_or_not m n) [
-    | inl e ↦ ap (with_rows (with_rows rows n a) n b) e ∙ own_rows (with_rows rows n a) n b ∙ sym (ap (with_rows rows n b) e ∙ own_rows rows n b)
+    | inl e ↦ ap (with_rows (with_rows rows n a) n b) e ∙ rows_here (with_rows rows n a) n b ∙ sym (ap (with_rows rows n b) e ∙ rows_here rows n b)
     | inr ne ↦ other_rows (with_rows rows n a) n b m ne ∙ other_rows rows n a m ne ∙ sym (other_rows rows n b m ne)
   ]
 
 -- rows that are what they are
 pub rows_same : (t : List Resource) (rows : ℕ → List Row) (n : ℕ) (own : List Row) → rows n ≡ own → AreHeld t rows → AreHeld t (with_rows rows n own)
 rows_same t rows n own is held m = elim (same_or_not m n) [
-  | inl e ↦ subst (λ (rs : List Row). HoldsItsLocks t m rs) (ap rows e ∙ is ∙ sym (ap (with_rows rows n own) e ∙ own_rows rows n own)) (held m)
+  | inl e ↦ subst (λ (rs : List Row). HoldsItsLocks t m rs) (ap rows e ∙ is ∙ sym (ap (with_rows rows n own) e ∙ rows_here rows n own)) (held m)
   | inr ne ↦ subst (λ (rs : List Row). HoldsItsLocks t m rs) (sym (other_rows rows n own m ne)) (held m)
 ]
 
@@ -133,7 +129,7 @@ module _ (t : List Resource) (n : ℕ) (name : LockName) (mode : Mode) (rows : �
 
   strong_by : (k : ℕ) → MayTake name (system_of n) t → AreHeld after (with_rows rows n (with_it k)) → (l : LockName × Mode) → rank CR ≤ rank l.1 → Has (all_held t n old) l → Has (all_held after n (with_it k)) l
   strong_by k may held_then l le h =
-      let its : HoldsItsLocks after n (with_it k) = subst (λ (rs : List Row). HoldsItsLocks after n rs) (own_rows rows n (with_it k)) (held_then n) in
+      let its : HoldsItsLocks after n (with_it k) = subst (λ (rs : List Row). HoldsItsLocks after n rs) (rows_here rows n (with_it k)) (held_then n) in
       (held_are_granted after n l (with_it k) its).1 (stays_granted name n mode t l may le ((held_are_granted t n l old mine).0 h))
 
   -- it is the last of the second row
@@ -253,7 +249,7 @@ module _ (t : List Resource) (n : ℕ) (value : List ℕ) (rows : ℕ → List R
       name_in (l ∷ ls) (inr h) = inr (name_in ls h)
 
     at_mid : rows_mid n ≡ kept_mid ∷ (asked ∷ ([] ∷ []))
-    at_mid = own_rows rows n (kept_mid ∷ (asked ∷ ([] ∷ [])))
+    at_mid = rows_here rows n (kept_mid ∷ (asked ∷ ([] ∷ [])))
 
     mine_mid : HoldsItsLocks mid n (kept_mid ∷ (asked ∷ ([] ∷ [])))
     mine_mid = subst (λ (rs : List Row). HoldsItsLocks mid n rs) at_mid (first.held n)

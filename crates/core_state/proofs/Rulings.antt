@@ -1,15 +1,15 @@
 -- The event of a node's rules for space, by how it stands: each keeps the invariant.
 use Rattle.std.proofs.Common.{◌≡◌, ◌≤◌, ◌<◌, ◌++◌, ◌&&◌, not, ℕ, zero, suc, Bool, true, false, cond, List, [], ◌∷◌, Option, Some, None, is_some, length, slice_get, refl, sym, ap, subst, ◌∙◌, inl, inr, arith}
 use Rattle.std.specs.Prelude.{slice_index_or}
-use Rattle.vol_words.specs.Fields.{Block}
+use Rattle.base_words.specs.Fields.{Block}
 use Rattle.lock_db.specs.declared.name.LockName.{LockName}
 use Rattle.lock_db.specs.declared.name.LockName.TheVariants.{X, V}
 use Rattle.plain_cat.specs.declared.mode.Mode.{Mode}
 use Rattle.plain_cat.specs.declared.mode.Mode.TheVariants.{NL, CR, CW, PR, PW, EX}
 use Rattle.plain_cat.specs.declared.command.Cmd.{Cmd}
 use Rattle.node_locks.specs.Held.{Row, names_of, HoldsItsLocks, waits_at}
-use Rattle.vol_owners.specs.Lists.{Has, Once}
-use Rattle.vol_owners.proofs.Listing.{has_parted, has_first, has_second}
+use Rattle.base_words.specs.Lists.{Has, Once}
+use Rattle.base_words.proofs.Listing.{has_parted, has_first, has_second}
 use Rattle.vol_parts.specs.declared.geometry.Geometry.{Geometry}
 use Rattle.vol_under.specs.Guards.{Lock, guard_of}
 use Rattle.vol_under.specs.Under.{IsUnder}
@@ -19,13 +19,13 @@ use Rattle.op_law.specs.declared.need.PlanWrite.{PlanWrite}
 use Rattle.op_law.specs.Events.{space_of, has_space, HasNoSpace}
 use Rattle.op_law.specs.Needs.{events_of, IsNext}
 use Rattle.extent_cache.specs.Takings.{holds_enough}
-use Rattle.node_space.specs.declared.outcome.Search.{Search}
-use Rattle.node_space.specs.declared.outcome.Search.TheVariants as search
-use Rattle.node_space.specs.Searching.{places}
-use Rattle.node_space.specs.Answering.{answered, answer, blocks_of}
-use Rattle.node_space.proofs.Ending.{looks_in_order}
-use Rattle.node_space.proofs.Looked.{places_lie}
-use Rattle.node_space.proofs.Taken.{takes_all}
+use Rattle.core_space.specs.declared.outcome.Search.{Search}
+use Rattle.core_space.specs.declared.outcome.Search.TheVariants as search
+use Rattle.core_space.specs.Searching.{places}
+use Rattle.core_space.specs.Answering.{answered, answer, blocks_of}
+use Rattle.core_space.proofs.Ending.{looks_in_order}
+use Rattle.core_space.proofs.Looked.{places_lie}
+use Rattle.core_space.proofs.Taken.{takes_all}
 use Rattle.core_space.specs.declared.run.Phase.{Phase}
 use Rattle.core_space.specs.declared.run.Phase.TheVariants as phase
 use Rattle.core_space.specs.declared.run.SpaceRun.{SpaceRun}
@@ -66,7 +66,7 @@ use Rattle.core_state.proofs.Lowering.{v_keeps, x_keeps, return_keeps}
 abbrev pub fill_so : Bool → Bool → Option PlanWrite → Option ℕ → SpaceEvent
 fill_so a b o l = cond (not a) (space.Ask X CR) (cond (not b) (space.Ask V PW) (after_writes (put_of o) (after_looks l space.LowerV)))
 
-abbrev drain_so : Option PlanWrite → Option ℕ → SpaceEvent
+abbrev pub drain_so : Option PlanWrite → Option ℕ → SpaceEvent
 drain_so o l = after_writes (put_of o) (after_looks l space.LowerX)
 
 abbrev pub last_so : Bool → Bool → Option PlanWrite → Search → SpaceEvent

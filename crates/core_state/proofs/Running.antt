@@ -1,6 +1,6 @@
 -- The nodes under way, as one of them changes.
 use Rattle.std.proofs.Common.{◌≡◌, ◌≢◌, ◌≤◌, ◌++◌, ℕ, false, List, [], ◌∷◌, Option, Some, None, refl, sym, ap, subst, ◌∙◌, inl, inr, arith}
-use Rattle.vol_words.specs.Fields.{Block}
+use Rattle.base_words.specs.Fields.{Block}
 use Rattle.lock_db.specs.declared.name.LockName.{LockName}
 use Rattle.lock_db.specs.declared.resource.Resource.{Resource}
 use Rattle.lock_db.specs.Tables.{IsTable}
@@ -12,14 +12,14 @@ use Rattle.plain_cat.specs.declared.cat.Cat.{Cat}
 use Rattle.node_locks.specs.Held.{Row, joined, AreHeld, waits_at, held_locks, all_held}
 use Rattle.node_locks.proofs.Standing.{held-asked}
 use Rattle.node_locks.proofs.Keeping.{all_are_held, writers_are_sole}
-use Rattle.vol_owners.specs.Lists.{Has}
-use Rattle.vol_owners.proofs.Listing.{same_or_not, has_parted, has_first, has_second}
-use Rattle.vol_owners.specs.Owners.{Owners}
+use Rattle.base_words.specs.Lists.{Has}
+use Rattle.base_words.proofs.Listing.{same_or_not, has_parted, has_first, has_second}
+use Rattle.vol_spell.specs.Owners.{Owners}
 use Rattle.vol_parts.specs.declared.geometry.Geometry.{Geometry}
 use Rattle.vol_under.specs.UnderWay.{UnderWay, changed, AreSole}
 use Rattle.vol_under.proofs.Nodes.{each, changed_here, changed_else}
-use Rattle.cache_laws.specs.Committed.{IsUnderOn, of_it}
-use Rattle.cache_laws.proofs.Committed.{alike_on}
+use Rattle.core_cached.specs.Committed.{IsUnderOn, of_it}
+use Rattle.core_cached.proofs.Committed.{alike_on}
 use Rattle.op_law.specs.Laws.{held_in}
 use Rattle.core_state.specs.Worlds.{NodeState, node_at, set_node, rows_in, rows_at}
 use Rattle.core_state.specs.Stocks.{looked_now, stock_now}

@@ -3,15 +3,15 @@ use Rattle.std.proofs.Common.{◌≡◌, ◌≢◌, ◌≤◌, ◌<◌, ◌+◌,
 use Rattle.std.specs.Prelude.{not, ◌==◌}
 use Rattle.std.specs.List.{zip}
 use Rattle.std.proofs.lemmas.Bool.Decides.{nat_tests}
-use Rattle.vol_words.specs.Fields.{Block}
+use Rattle.base_words.specs.Fields.{Block}
 use Rattle.lock_db.specs.declared.name.LockName.{LockName}
 use Rattle.lock_db.specs.declared.name.LockName.TheVariants.{V}
 use Rattle.plain_cat.specs.declared.mode.Mode.{Mode}
 use Rattle.plain_cat.specs.declared.reply.Refusal.{Refusal}
 use Rattle.plain_cat.specs.declared.reply.Refusal.TheVariants.{IndexFull, DeviceFull}
 use Rattle.plain_cat.specs.declared.cat.Cat.{Cat}
-use Rattle.vol_owners.specs.Lists.{Has, Once, Touches, StandsIn}
-use Rattle.vol_owners.specs.Owners.{Owners}
+use Rattle.base_words.specs.Lists.{Has, Once, Touches, StandsIn}
+use Rattle.vol_spell.specs.Owners.{Owners}
 use Rattle.vol_parts.specs.declared.geometry.Geometry.{Geometry}
 use Rattle.vol_parts.specs.Parts.{IsGeometry, storage_blocks}
 use Rattle.vol_spell.specs.Reading.{total_of}
@@ -21,14 +21,15 @@ use Rattle.vol_under.specs.Keeping.{IsBitmap}
 use Rattle.op_law.specs.declared.need.Need.TheVariants as need
 use Rattle.op_law.specs.declared.need.PlanWrite.{PlanWrite}
 use Rattle.op_law.specs.Events.{Events, Take, Look, Fetch, Find, Make, Space, has_space, HasNoSpace, following}
-use Rattle.node_space.specs.Searching.{More, Short, Enough, places, free_number, free_from, number_write, cluster_writes, found_clusters, found_number, found}
-use Rattle.node_space.specs.Taking.{looked}
-use Rattle.node_space.specs.Answering.{blocks_of}
-use Rattle.node_space.proofs.Ways.{short_of}
-use Rattle.node_space.proofs.Looked.{places_lie, looked_grows}
-use Rattle.node_space.proofs.Apart.{writes_apart}
-use Rattle.node_space.proofs.Taken.{takes_all}
+use Rattle.core_space.specs.Searching.{More, Short, Enough, places, free_number, free_from, number_write, cluster_writes, found_clusters, found_number, found}
+use Rattle.core_space.specs.Taking.{looked}
+use Rattle.core_space.specs.Answering.{blocks_of}
+use Rattle.core_space.proofs.Ways.{short_of}
+use Rattle.core_space.proofs.Looked.{places_lie, looked_grows}
+use Rattle.core_space.proofs.Apart.{writes_apart}
+use Rattle.core_space.proofs.Taken.{takes_all}
 use Rattle.core_state.specs.Stocks.{rewrites, unwritten}
+use Rattle.op_law.proofs.Asking.{not_so}
 
 -- ---- blocks that stand
 
@@ -61,17 +62,11 @@ stands_its bs ss l b stands h = stands_each bs ss stands (l, b) h
 pub part_touches : (all part : List (ℕ × Block)) → ((x : ℕ × Block) → Has part x → Has all x) → (l : ℕ) → Touches part l → Touches all l
 part_touches all part some l t = let r = touched part l t in touches_its all (l, r.0) (some (l, r.0) r.1)
 
--- ---- what the writes leave of them
-
-not_true : (b : Bool) → not b ≡ true → b ≡ false
-not_true true e = absurd (let f : false ≡ true = e in cc)
-not_true false e = refl
-
 pub left_of : (ws : List PlanWrite) (ss : List (ℕ × Block)) (x : ℕ × Block) → Has (unwritten ws ss) x → Has ss x × (rewrites ws x.0 ≡ false)
 left_of ws [] x h = absurd h
 left_of ws (s ∷ ss) x h = by_test (not (rewrites ws s.0)) refl h (λ t. left_of ws ss x t) where
   by_test : (b : Bool) → not (rewrites ws s.0) ≡ b → Has (cond b (s ∷ unwritten ws ss) (unwritten ws ss)) x → (Has (unwritten ws ss) x → Has ss x × (rewrites ws x.0 ≡ false)) → Has (s ∷ ss) x × (rewrites ws x.0 ≡ false)
-  by_test true e (inl f) rest = (inl f, subst (λ (y : ℕ × Block). rewrites ws y.0 ≡ false) f (not_true (rewrites ws s.0) e))
+  by_test true e (inl f) rest = (inl f, subst (λ (y : ℕ × Block). rewrites ws y.0 ≡ false) f (not_so (rewrites ws s.0) e))
   by_test true e (inr t) rest = let r = rest t in (inr r.0, r.1)
   by_test false e t rest = let r = rest t in (inr r.0, r.1)
 
@@ -113,7 +108,7 @@ rewrites_next (y ∷ ws) (suc k) l w at e =
     let r = rewrites_next ws k l w at t.1 in
     (ap (λ b. b || rewrites (take k ws) l) t.0 ∙ r.0, r.1)
 
-one_more_is : (k : ℕ) → k + 1 ≡ suc k
+pub one_more_is : (k : ℕ) → k + 1 ≡ suc k
 one_more_is k = omega arith
 
 -- one write more leaves no more, and not what it is to

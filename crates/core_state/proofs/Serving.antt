@@ -11,17 +11,17 @@ use Rattle.plain_cat.specs.declared.mode.Mode.{Mode}
 use Rattle.plain_cat.specs.declared.mode.Mode.TheVariants.{NL, CR, PR, PW}
 use Rattle.plain_cat.specs.declared.command.Cmd.{Cmd}
 use Rattle.plain_cat.specs.declared.cat.Cat.{Cat}
-use Rattle.plain_vol.specs.Lookups.{is_free_number}
+use Rattle.plain_rules.specs.Lookups.{is_free_number}
 use Rattle.node_locks.specs.Held.{Row, names_of, waits_at}
-use Rattle.vol_owners.specs.Lists.{Has, Once}
-use Rattle.vol_owners.specs.Owners.{Things, nothing, AreOut, Outs}
-use Rattle.vol_owners.specs.declared.owner.Owner.{Owner}
-use Rattle.vol_owners.proofs.Writing.{touches_joined}
-use Rattle.vol_owners.proofs.Listing.{has_parted}
+use Rattle.base_words.specs.Lists.{Has, Once}
+use Rattle.vol_spell.specs.Owners.{Things, nothing, AreOut, Outs}
+use Rattle.vol_spell.specs.declared.owner.Owner.{Owner}
+use Rattle.base_words.proofs.ListWrites.{touches_joined}
+use Rattle.base_words.proofs.Listing.{has_parted}
 use Rattle.vol_under.specs.Guards.{guard_of, MayLook}
 use Rattle.vol_under.specs.UnderWay.{UnderWay, together, changed}
 use Rattle.vol_under.specs.Under.{IsUnder}
-use Rattle.cache_laws.specs.Committed.{IsUnderOn}
+use Rattle.core_cached.specs.Committed.{IsUnderOn}
 use Rattle.vol_under.proofs.Guarding.{bitmap_guard}
 use Rattle.vol_under.proofs.Leaking.{number_free}
 use Rattle.vol_under.proofs.Short.{out_alike}

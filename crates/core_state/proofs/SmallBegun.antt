@@ -16,14 +16,14 @@ use Rattle.plain_cat.specs.declared.history.Entry.TheVariants.{Done, Died, Mende
 use Rattle.plain_cat.specs.declared.script.Line.{Line}
 use Rattle.plain_cat.specs.declared.script.LineCmd.{LineCmd}
 use Rattle.plain_cat.specs.declared.script.Script.{Script}
-use Rattle.plain_vol.specs.Stages.{staged}
+use Rattle.plain_rules.specs.Stages.{staged}
 use Rattle.plain_cat.specs.declared.command.Cmd.TheVariants as cmd
-use Rattle.plain_vol.specs.Mending.{is_true}
-use Rattle.plain_vol.specs.Own.{NodePast, newborn, past, after_answer, after_entry, is_opened, is_closed, switched, channels_after, lines_of, or_close, command_after, next_command, IsNext, OwnFrom, Own}
-use Rattle.plain_vol.specs.Replaying.{Leads, ReplaysFrom, Replays}
-use Rattle.node_past.specs.Laws.{is_of, has_line}
-use Rattle.node_past.proofs.Growing.{past_grows, own_grows}
-use Rattle.node_past.proofs.Strangers.{own_strangers}
+use Rattle.plain_rules.specs.Mending.{is_true}
+use Rattle.plain_rules.specs.Own.{NodePast, newborn, past, after_answer, after_entry, is_opened, is_closed, switched, channels_after, lines_of, or_close, command_after, next_command, IsNext, OwnFrom, Own}
+use Rattle.plain_rules.specs.Replaying.{Leads, ReplaysFrom, Replays}
+use Rattle.plain_past.specs.Laws.{is_of, has_line}
+use Rattle.plain_past.proofs.Growing.{past_grows, own_grows}
+use Rattle.plain_past.proofs.Strangers.{own_strangers}
 use Rattle.core_state.specs.Small.{is_begun}
 use Rattle.core_state.specs.Fallen.{is_fall, falls}
 use Rattle.core_state.specs.Goods.{HasFewAnswers}

@@ -7,19 +7,17 @@ use Rattle.plain_cat.specs.declared.mode.Mode.{Mode}
 use Rattle.plain_cat.specs.declared.command.Cmd.{Cmd}
 use Rattle.plain_cat.specs.declared.command.Cmd.TheVariants as cmd
 use Rattle.plain_cat.specs.declared.reply.Reply.{Reply}
-use Rattle.plain_vol.specs.Own.{is_closed}
+use Rattle.plain_rules.specs.Own.{is_closed}
 use Rattle.lock_db.specs.declared.name.LockName.{LockName}
 use Rattle.lock_db.specs.declared.name.LockName.TheVariants.{A, V}
 use Rattle.lock_db.specs.declared.name.Owner.{Owner}
 use Rattle.lock_db.specs.declared.resource.Resource.{Resource}
-use Rattle.lock_db.specs.Names.{is_same}
 use Rattle.lock_db.specs.Queues.{is_writing, without, lock_of}
 use Rattle.lock_db.specs.Resources.{mode_held, conversion_writes}
 use Rattle.lock_db.specs.Tables.{resource_at, asked, converted, released}
 use Rattle.lock_db.specs.Laws.{BlockStays, BlockIs, somebody}
-use Rattle.lock_db.proofs.Names.{is_same-refl, is_same-same}
 use Rattle.lock_db.proofs.Blocks.{requests-keep, conversions-write, releases-write, asked-leaves, converted-leaves, released-leaves}
-use Rattle.vol_owners.specs.Lists.{Has, Once}
+use Rattle.base_words.specs.Lists.{Has, Once}
 use Rattle.vol_parts.specs.declared.geometry.Geometry.{Geometry}
 use Rattle.node_locks.specs.Held.{Row, system_of, names_of}
 use Rattle.node_locks.specs.PuttingBack.{Keeps, put_back, all_back, MayPutBack}
@@ -34,6 +32,7 @@ use Rattle.core_state.specs.Channels.{let_go, closed_off}
 use Rattle.core_state.specs.Raises.{frees, writes_first, writes_second, raise_by, raise_of}
 use Rattle.core_state.specs.Caches.{raised_values}
 use Rattle.core_state.specs.Events.{given_back}
+use Rattle.core_state.proofs.Naming.{same_name}
 
 -- ---- one sequence
 
@@ -95,7 +94,7 @@ is_second = record {
 }
 
 -- what a command has written raises each by two at most
-raise_little : (freed wrote : Bool) → raise_by freed wrote ≤ 2
+pub raise_little : (freed wrote : Bool) → raise_by freed wrote ≤ 2
 raise_little true wrote = omega arith
 raise_little false true = omega arith
 raise_little false false = omega arith
@@ -122,13 +121,6 @@ by_one_raise g ws = record {
   first = once_by (list_any (frees g V) ws) (list_any (writes_first g V) ws) (none_freed g ws);
   second = once_by (list_any (frees g V) ws) (list_any (writes_second g V) ws) (none_freed g ws);
 }
-
--- two names are one or not
-pub same_name : (a b : LockName) → (a ≡ b) ⊎ (a ≢ b)
-same_name a b = by_test (is_same a b) refl where
-  by_test : (t : Bool) → is_same a b ≡ t → (a ≡ b) ⊎ (a ≢ b)
-  by_test true e = inl (is_same-same a b e)
-  by_test false e = inr (λ f. let g : is_same a a ≡ false = subst (λ (x : LockName). is_same a x ≡ false) (sym f) e in let h : true ≡ false = sym (is_same-refl a) ∙ g in absurd (cc))
 
 module _ (seq : List ℕ → ℕ) (is : IsSequence seq) where
   abbrev at : LockName → List Resource → ℕ

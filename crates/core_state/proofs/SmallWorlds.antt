@@ -5,7 +5,7 @@ use Rattle.std.specs.List.{sum_by, count_by, range_with_len}
 use Rattle.std.proofs.lemmas.Bool.Decides.{nat_tests}
 use Rattle.std.proofs.lemmas.List.FromFn.{length-range_with_len}
 use Rattle.std.proofs.lemmas.List.Sums.{sum_by-cons, count_by-le-length}
-use Rattle.vol_words.specs.Fields.{Block}
+use Rattle.base_words.specs.Fields.{Block}
 use Rattle.lock_db.specs.declared.name.LockName.{LockName}
 use Rattle.lock_db.specs.declared.name.LockName.TheVariants.{X}
 use Rattle.lock_db.specs.declared.name.Owner.{Owner}
@@ -26,7 +26,7 @@ use Rattle.node_locks.specs.Taking.{has_lock, taken, MayTake}
 use Rattle.node_locks.proofs.Taking.{no-lock}
 use Rattle.node_locks.specs.Sequences.{first_sequence, second_sequence}
 use Rattle.op_law.specs.declared.seen.Chan.{Chan}
-use Rattle.plain_vol.specs.Own.{past}
+use Rattle.plain_rules.specs.Own.{past}
 use Rattle.core_state.specs.Worlds.{NodeState, Plain, node_at, set_node}
 use Rattle.core_space.specs.declared.run.Phase.{Phase}
 use Rattle.core_space.specs.declared.run.Phase.TheVariants as phase

@@ -3,17 +3,17 @@ use Rattle.std.proofs.Common.{◌≡◌, ◌≢◌, ◌<◌, ◌++◌, ℕ, Bool
 use Rattle.std.specs.Prelude.{◌==◌, not}
 use Rattle.std.proofs.lemmas.Bool.Decides.{nat_tests}
 use Rattle.std.proofs.lemmas.List.{append-nil}
-use Rattle.vol_words.specs.Fields.{Block}
+use Rattle.base_words.specs.Fields.{Block}
 use Rattle.lock_db.specs.declared.name.LockName.{LockName}
 use Rattle.lock_db.specs.declared.name.LockName.TheVariants.{S, A, Q, X, V}
 use Rattle.plain_cat.specs.declared.mode.Mode.{Mode}
 use Rattle.plain_cat.specs.declared.mode.Mode.TheVariants.{CR, PW, EX}
 use Rattle.plain_cat.specs.declared.command.Cmd.{Cmd}
 use Rattle.node_locks.specs.Held.{Row, names_of, all_held, without}
-use Rattle.vol_owners.specs.Lists.{Has, StandsIn}
-use Rattle.vol_owners.specs.Owners.{Things, nothing, Outs}
-use Rattle.vol_owners.proofs.Writing.{stands_joined}
-use Rattle.vol_owners.proofs.Listing.{same_or_not, has_parted, has_first, has_second}
+use Rattle.base_words.specs.Lists.{Has, StandsIn}
+use Rattle.vol_spell.specs.Owners.{Things, nothing, Outs}
+use Rattle.base_words.proofs.ListWrites.{stands_joined}
+use Rattle.base_words.proofs.Listing.{same_or_not, has_parted, has_first, has_second}
 use Rattle.vol_under.specs.UnderWay.{UnderWay, together}
 use Rattle.vol_under.specs.Under.{IsUnder}
 use Rattle.op_law.specs.declared.need.Need.TheVariants as need
@@ -23,11 +23,12 @@ use Rattle.op_law.specs.declared.seen.Seen.{Seen}
 use Rattle.op_law.specs.Needs.{IsNext}
 use Rattle.op_law.specs.Fits.{things}
 use Rattle.op_law.specs.Going.{with_block, with_lock}
-use Rattle.op_law.specs.Knows.{channel_of, has_channel, wanted, wants_number, is_new_number, is_short, knows}
+use Rattle.op_law.specs.Knows.{channel_of, has_channel, wanted, is_new_number, is_short, knows}
+use Rattle.plain_rules.specs.Laws.{makes_file as wants_number}
 use Rattle.op_law.specs.Laws.{held_in, takes_lock, ComesInTurn}
-use Rattle.node_space.specs.Taking.{looked}
-use Rattle.node_space.specs.Answering.{blocks_of}
-use Rattle.node_space.proofs.Shortage.{shortage_is_exact, command_is_short}
+use Rattle.core_space.specs.Taking.{looked}
+use Rattle.core_space.specs.Answering.{blocks_of}
+use Rattle.core_space.proofs.Shortage.{shortage_is_exact, command_is_short}
 use Rattle.core_space.specs.declared.run.Phase.{Phase}
 use Rattle.core_space.specs.declared.run.Phase.TheVariants as phase
 use Rattle.core_space.specs.declared.run.SpaceRun.{SpaceRun}
@@ -46,6 +47,7 @@ use Rattle.core_state.proofs.Excluding.{exclusive_is_sole}
 use Rattle.core_state.proofs.Running.{kept_held, at_locks}
 use Rattle.core_state.proofs.Seeking.{all_left, part_stands}
 use Rattle.core_state.proofs.Keeping.{names_first}
+use Rattle.base_words.proofs.Booleans.{nat_same}
 
 -- ---- its locks
 
@@ -155,17 +157,12 @@ come_by x kept claims run stock seen (Taking h) = h.found.claimed_so.come
 come_by x kept claims run stock seen (Taken h) = h.found.claimed_so.come
 come_by x kept claims run stock seen (Refused h) = h.claimed_so.come
 
--- ---- what it has outside
-
-same_true : (a b : ℕ) → a ≡ b → (a == b) ≡ true
-same_true a b e = grind (arith, nat_tests)
-
 less_false : (a b : ℕ) → a < b → (a == b) ≡ false
 less_false a b lt = grind (arith, nat_tests)
 
 -- nothing where all writes are made
 pub all_taken : (p : Phase) (ws : List PlanWrite) (k : ℕ) → k ≡ length ws → taken_by p ws k ≡ nothing
-all_taken p ws k e = ap (λ t. cond t nothing (taken_in p ws k)) (same_true k (length ws) e)
+all_taken p ws k e = ap (λ t. cond t nothing (taken_in p ws k)) (nat_same k (length ws) e)
 
 pub part_taken : (p : Phase) (ws : List PlanWrite) (k : ℕ) → k < length ws → taken_by p ws k ≡ taken_in p ws k
 part_taken p ws k lt = ap (λ t. cond t nothing (taken_in p ws k)) (less_false k (length ws) lt)

@@ -15,11 +15,12 @@ use Rattle.node_locks.specs.PuttingBack.{Keeps, Values, put_back, all_back, kept
 use Rattle.node_locks.specs.Sweeping.{all_given, without_all, all_taken_out, AreSwept}
 use Rattle.node_locks.proofs.PuttingBack.{putting_back_holds}
 use Rattle.node_locks.proofs.Sweeping.{sweeping_holds}
-use Rattle.vol_owners.specs.Lists.{Has, Once}
-use Rattle.vol_owners.proofs.Listing.{same_or_not}
+use Rattle.base_words.specs.Lists.{Has, Once}
+use Rattle.base_words.proofs.Listing.{same_or_not}
 use Rattle.core_state.proofs.Naming.{without_none}
 use Rattle.core_state.proofs.Keeping.{names_parted, names_first}
-use Rattle.core_state.proofs.Rows.{own_rows, rows_twice, goes_twice}
+use Rattle.core_state.proofs.Rows.{rows_twice, goes_twice}
+use Rattle.node_locks.proofs.Nodes.{rows_here as own_rows}
 
 -- ---- lists
 

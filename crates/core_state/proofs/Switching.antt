@@ -13,13 +13,13 @@ use Rattle.plain_cat.specs.declared.command.Cmd.TheVariants as cmd
 use Rattle.plain_cat.specs.declared.reply.Reply.{Reply}
 use Rattle.plain_cat.specs.declared.cat.Cat.{Cat}
 use Rattle.plain_cat.specs.declared.cat.Open.{Open}
-use Rattle.plain_vol.specs.Lookups.{place, joined, channel_at}
-use Rattle.plain_vol.specs.Own.{is_opened, is_closed}
-use Rattle.plain_opens.specs.Moves.{switched_by, opens_after}
-use Rattle.plain_opens.proofs.Moving.{kept_reply}
-use Rattle.plain_opens.proofs.Having.{same_place}
-use Rattle.vol_owners.proofs.Listing.{same_or_not}
-use Rattle.vol_owners.proofs.Writing.{get-set_here, get-set_else}
+use Rattle.plain_rules.specs.Lookups.{place, joined, channel_at}
+use Rattle.plain_rules.specs.Own.{is_opened, is_closed}
+use Rattle.plain_histories.specs.Moves.{switched_by, opens_after}
+use Rattle.plain_histories.proofs.Moving.{kept_reply}
+use Rattle.plain_histories.proofs.Having.{same_place}
+use Rattle.base_words.proofs.Listing.{same_or_not}
+use Rattle.base_words.proofs.ListWrites.{get-set_here, get-set_else}
 use Rattle.op_law.specs.declared.need.Ask.{Ask}
 use Rattle.op_law.specs.declared.seen.Chan.{Chan}
 use Rattle.op_law.specs.Channels.{first_ask, close_ask}

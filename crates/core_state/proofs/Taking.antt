@@ -1,15 +1,15 @@
 -- The drive under way after an event of a node that is known to stand as u.
 use Rattle.std.proofs.Common.{◌≡◌, ◌≤◌, ◌+◌, ℕ, true, List, [], Some, Bool, length, take, slice_get, slice_set, refl, sym, ap, subst, ◌∙◌, inl, inr, arith}
-use Rattle.vol_words.specs.Fields.{Block}
+use Rattle.base_words.specs.Fields.{Block}
 use Rattle.lock_db.specs.declared.name.LockName.{LockName}
 use Rattle.lock_db.specs.declared.name.LockName.TheVariants.{V}
 use Rattle.plain_cat.specs.declared.command.Cmd.{Cmd}
 use Rattle.plain_cat.specs.declared.reply.Reply.{Reply}
 use Rattle.plain_cat.specs.declared.cat.Cat.{Cat}
-use Rattle.plain_vol.specs.Answers.{Answer}
-use Rattle.vol_owners.specs.Lists.{Has, Touches, StandsIn, written}
-use Rattle.vol_owners.specs.Owners.{Owners, OwnersMove, IsSpaceMove, Things, Outs}
-use Rattle.vol_owners.proofs.Listing.{same_or_not}
+use Rattle.plain_rules.specs.Answers.{Answer}
+use Rattle.base_words.specs.Lists.{Has, Touches, StandsIn, written}
+use Rattle.vol_spell.specs.Owners.{Owners, OwnersMove, IsSpaceMove, Things, Outs}
+use Rattle.base_words.proofs.Listing.{same_or_not}
 use Rattle.vol_parts.specs.declared.geometry.Geometry.{Geometry}
 use Rattle.vol_spell.specs.Spelling.{Spells}
 use Rattle.vol_under.specs.Guards.{guard_of, MayWrite, MayLook}
@@ -19,8 +19,8 @@ use Rattle.vol_under.specs.Answering.{IsReply}
 use Rattle.vol_under.specs.Keeping.{Refills, IsBitmap}
 use Rattle.vol_under.proofs.Nodes.{each, changed_here, changed_else, done_in, no_writes}
 use Rattle.vol_under.proofs.Guarding.{wider_write, wider_look}
-use Rattle.cache_laws.specs.Committed.{IsUnderOn, on_its_own, of_it}
-use Rattle.cache_laws.proofs.Committed.{alike_on, write_on, plan_on, locks_on, answer_on, bits_keep_on}
+use Rattle.core_cached.specs.Committed.{IsUnderOn, on_its_own, of_it}
+use Rattle.core_cached.proofs.Committed.{alike_on, write_on, plan_on, locks_on, answer_on, bits_keep_on}
 use Rattle.core_state.proofs.Driving.{quiet_keeps, looked_stands, lawful_wider}
 
 -- what a node's answer leaves: its writes are committed

@@ -14,7 +14,7 @@ use Rattle.lock_db.specs.Resources.{goes_at_once}
 use Rattle.lock_db.specs.Tables.{resource_at, asked, converts_now, converted}
 use Rattle.lock_db.specs.Laws.{stands_at}
 use Rattle.lock_db.proofs.Owners.{same_owner-refl}
-use Rattle.vol_words.specs.Fields.{Block}
+use Rattle.base_words.specs.Fields.{Block}
 use Rattle.plain_cat.specs.Modes.{rank}
 use Rattle.plain_cat.specs.InForm.{is_eighth}
 use Rattle.plain_cat.specs.declared.mode.Mode.{Mode}
@@ -23,19 +23,19 @@ use Rattle.plain_cat.specs.declared.command.Cmd.{Cmd}
 use Rattle.plain_cat.specs.declared.command.Cmd.TheVariants as cmd
 use Rattle.plain_cat.specs.declared.cat.Cat.{Cat}
 use Rattle.plain_cat.specs.declared.cat.Open.{Open}
-use Rattle.plain_vol.specs.Lookups.{channel_at}
+use Rattle.plain_rules.specs.Lookups.{channel_at}
 use Rattle.node_locks.specs.Held.{system_of, Row, joined, names_of, HoldsItsLocks, AreHeld, waits_at, all_held, without, with_rows}
 use Rattle.node_locks.specs.HeldLaws.{StandsStill, GoesOn as RowGoesOn}
 use Rattle.node_locks.specs.Taking.{has_lock, taken, taken_now}
 use Rattle.node_locks.specs.Channels.{AllStill}
 use Rattle.node_locks.proofs.Channels.{channels_ask, channels_convert}
 use Rattle.node_locks.proofs.Keeping.{held_are_granted, rows_stand_still}
-use Rattle.vol_owners.specs.Lists.{Has}
-use Rattle.vol_owners.proofs.Listing.{same_or_not}
-use Rattle.vol_owners.proofs.Writing.{stands_joined}
+use Rattle.base_words.specs.Lists.{Has}
+use Rattle.base_words.proofs.Listing.{same_or_not}
+use Rattle.base_words.proofs.ListWrites.{stands_joined}
 use Rattle.vol_under.specs.Guards.{guard_of}
 use Rattle.vol_under.specs.UnderWay.{UnderWay, changed}
-use Rattle.cache_laws.specs.Committed.{IsUnderOn}
+use Rattle.core_cached.specs.Committed.{IsUnderOn}
 use Rattle.vol_under.proofs.Guarding.{wider_write}
 use Rattle.op_law.specs.declared.need.Ask.{Ask as PlanAsk}
 use Rattle.op_law.specs.declared.need.Plan.{Plan}
@@ -72,7 +72,7 @@ use Rattle.core_state.proofs.Standing.{locks_within, IsAskOf, asks_open, asked_l
 use Rattle.core_state.proofs.Turning.{my_sole, under_command, here, drive, back, known, is_node, writes_more, made_of, space_now, stocked_now, goes_still as row_goes, taken_first, taken_first_of, within_first, named_still, guarding_of}
 use Rattle.core_state.proofs.Answering.{node_number, answers_keep}
 
-both : (a b : Bool) → a ≡ true → b ≡ true → (a && b) ≡ true
+pub both : (a b : Bool) → a ≡ true → b ≡ true → (a && b) ≡ true
 both a b e f = ap (λ k. k && b) e ∙ f
 
 -- a granted ask is one of a plan

@@ -2,7 +2,7 @@
 use Rattle.std.proofs.Common.{◌≡◌, ◌≤◌, ◌<◌, ◌+◌, ◌++◌, ◌&&◌, ◌⊎◌, not, ℕ, zero, suc, Bool, true, false, List, [], ◌∷◌, Option, Some, None, length, map, take, slice_get, slice_set, refl, sym, ap, subst, ◌∙◌, inl, inr, arith, ◌≢◌}
 use Rattle.std.specs.Prelude.{slice_index_or}
 use Rattle.std.proofs.lemmas.Option.{slice_get_within}
-use Rattle.vol_words.specs.Fields.{Block}
+use Rattle.base_words.specs.Fields.{Block}
 use Rattle.lock_db.specs.declared.name.LockName.{LockName}
 use Rattle.lock_db.specs.declared.name.LockName.TheVariants.{S, A, Q, X, V}
 use Rattle.lock_db.specs.declared.resource.Resource.{Resource}
@@ -16,11 +16,11 @@ use Rattle.node_locks.specs.HeldLaws.{StandsStill, GoesOn as RowGoesOn}
 use Rattle.node_locks.specs.Taking.{taken}
 use Rattle.node_locks.proofs.Keeping.{rows_stand_still}
 use Rattle.node_locks.proofs.Nodes.{has_name_or_not}
-use Rattle.vol_owners.specs.Lists.{Has, Touches, StandsIn}
-use Rattle.vol_owners.specs.Owners.{Owners, Things, Outs}
-use Rattle.vol_owners.proofs.Writing.{touches_joined, stands_joined}
-use Rattle.vol_owners.proofs.Listing.{has_parted, has_first, has_second}
-use Rattle.cache_laws.specs.Committed.{IsUnderOn, on_its_own, of_it}
+use Rattle.base_words.specs.Lists.{Has, Touches, StandsIn}
+use Rattle.vol_spell.specs.Owners.{Owners, Things, Outs}
+use Rattle.base_words.proofs.ListWrites.{touches_joined, stands_joined}
+use Rattle.base_words.proofs.Listing.{has_parted, has_first, has_second}
+use Rattle.core_cached.specs.Committed.{IsUnderOn, on_its_own, of_it}
 use Rattle.vol_parts.specs.declared.geometry.Geometry.{Geometry}
 use Rattle.vol_spell.specs.Spelling.{Spells}
 use Rattle.vol_under.specs.Guards.{Lock, guard_of, MayWrite, MayLook}
@@ -39,7 +39,7 @@ use Rattle.op_law.specs.Going.{GoesOn, with_block}
 use Rattle.op_law.specs.Knows.{knows, is_granted}
 use Rattle.op_law.specs.Laws.{held_in, planned, under_way, takes_lock, ComesInTurn, MayNeed, IsCacheable, IsNamed, AreGuarded, IsPlan}
 use Rattle.op_law.proofs.Going.{seen_goes_on}
-use Rattle.plain_vol.specs.Own.{NodePast}
+use Rattle.plain_rules.specs.Own.{NodePast}
 use Rattle.node_cache.specs.Cached.{Cached}
 use Rattle.op_law.specs.declared.seen.Chan.{Chan}
 use Rattle.core_space.specs.declared.run.Phase.TheVariants as phase
@@ -69,6 +69,7 @@ use Rattle.core_state.proofs.Beginning.{alone, stays_stocked, x_stays_without}
 use Rattle.core_state.proofs.Opens.{opens_taken}
 use Rattle.core_state.proofs.Rows.{asks_last}
 use Rattle.core_state.proofs.Standing.{calm, come_by, claims_are, locks_within, block_seen, comes_behind, lock_seen, is_known}
+use Rattle.core_state.proofs.Seeking.{one_more_is}
 
 -- a block that there is
 pub index_within : (bs : List Block) (l : ℕ) → l < length bs → slice_get bs l ≡ Some (slice_index_or bs l [])
@@ -149,10 +150,6 @@ pub take_none : (k : ℕ) → take k (let ws : List PlanWrite = [] in ws) ≡ []
 take_none zero = refl
 take_none (suc k) = refl
 
--- the first writes and one more
-next_count : (k : ℕ) → k + 1 ≡ suc k
-next_count k = omega arith
-
 more_first : (ws : List PlanWrite) (k : ℕ) (y : PlanWrite) → Has (take k ws) y → Has (take (suc k) ws) y
 more_first ws zero y h = absurd h
 more_first [] (suc k) y h = absurd h
@@ -173,13 +170,13 @@ made_first (w ∷ ws) (suc k) v e = inr (made_first ws k v e)
 
 -- the same, of a list between others
 more_of : (ws : List PlanWrite) (k : ℕ) (y : PlanWrite) → Has (take k ws) y → Has (take (k + 1) ws) y
-more_of ws k y h = subst (λ (j : ℕ). Has (take j ws) y) (sym (next_count k)) (more_first ws k y h)
+more_of ws k y h = subst (λ (j : ℕ). Has (take j ws) y) (sym (one_more_is k)) (more_first ws k y h)
 
 only_of : (ws : List PlanWrite) (k : ℕ) (v y : PlanWrite) → slice_get ws k ≡ Some v → Has (take (k + 1) ws) y → (v ≡ y) ⊎ Has (take k ws) y
-only_of ws k v y e h = only_first ws k v y e (subst (λ (j : ℕ). Has (take j ws) y) (next_count k) h)
+only_of ws k v y e h = only_first ws k v y e (subst (λ (j : ℕ). Has (take j ws) y) (one_more_is k) h)
 
 made_of_it : (ws : List PlanWrite) (k : ℕ) (v : PlanWrite) → slice_get ws k ≡ Some v → Has (take (k + 1) ws) v
-made_of_it ws k v e = subst (λ (j : ℕ). Has (take j ws) v) (sym (next_count k)) (made_first ws k v e)
+made_of_it ws k v e = subst (λ (j : ℕ). Has (take j ws) v) (sym (one_more_is k)) (made_first ws k v e)
 
 pub more_writes : (xs ws : List PlanWrite) (k : ℕ) (y : PlanWrite) → Has (xs ++ take k ws) y → Has (xs ++ take (k + 1) ws) y
 more_writes xs ws k y h = elim (has_parted xs (take k ws) y h) [

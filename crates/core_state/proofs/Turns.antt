@@ -3,13 +3,13 @@ use Rattle.std.proofs.Common.{◌≡◌, ◌<◌, ◌&&◌, ◌||◌, not, ℕ, 
 use Rattle.plain_cat.specs.declared.mode.Mode.TheVariants.{PR}
 use Rattle.plain_cat.specs.declared.command.Cmd.{Cmd}
 use Rattle.plain_cat.specs.declared.reply.Reply.{Reply}
-use Rattle.plain_vol.specs.Own.{next_command}
+use Rattle.plain_rules.specs.Own.{next_command}
 use Rattle.node_locks.specs.Held.{waits_at}
 use Rattle.vol_parts.specs.declared.geometry.Geometry.{Geometry}
 use Rattle.vol_under.specs.Guards.{Lock, guard_of, MayLook}
 use Rattle.vol_under.specs.UnderWay.{UnderWay, changed}
-use Rattle.cache_laws.specs.Committed.{IsUnderOn, on_its_own}
-use Rattle.cache_laws.proofs.Committed.{alike_on}
+use Rattle.core_cached.specs.Committed.{IsUnderOn, on_its_own}
+use Rattle.core_cached.proofs.Committed.{alike_on}
 use Rattle.vol_under.proofs.Nodes.{each}
 use Rattle.op_law.specs.declared.need.Need.{Need}
 use Rattle.op_law.specs.declared.need.Need.TheVariants as need
@@ -27,7 +27,9 @@ use Rattle.core_state.specs.Searches.{wanted_by, numbered_by, IsOff, Spaces}
 use Rattle.core_state.specs.Goods.{under_with, nodes_under, IsNode, Good}
 use Rattle.core_state.specs.Event.{Event}
 use Rattle.core_state.specs.Event as event
-use Rattle.core_state.specs.Events.{phase_begun, serves, serving, served_for, served_by, served, space_state, space_need, by_rule, by_need, by_write, by_end, by_plan, by_command, by_turn, is_out, gives_back_in, gives_back, stands, event_of, event_now, begun, prepared_by, is_held_up, prepared, readied_at, happens, happen_at, happen, after_turn, turned, or_use, one_more, block_at}
+use Rattle.core_state.specs.Events.{phase_begun, serves, serving, served_for, served_by, served, space_state, space_need, by_rule, by_need, by_write, by_end, by_plan, by_command, by_turn, is_out, gives_back_in, gives_back, stands, event_of, event_now, begun, prepared_by, is_held_up, prepared, readied_at, happens, happen_at, happen, after_turn, turned, or_use}
+use Rattle.base_words.specs.Faults.{next as one_more}
+use Rattle.base_words.specs.Fields.{block_at}
 use Rattle.core_state.proofs.Nodes.{at_here, set_node_twice, set_node_same}
 use Rattle.core_state.proofs.Running.{under_here}
 use Rattle.core_state.proofs.SmallWorlds.{owes_same}

@@ -7,8 +7,8 @@ use Rattle.plain_cat.specs.declared.mode.Mode.TheVariants.{NL, CR, PR, PW, EX}
 use Rattle.plain_cat.specs.declared.command.Cmd.{Cmd}
 use Rattle.plain_cat.specs.declared.reply.Reply.{Reply}
 use Rattle.node_locks.specs.Held.{Row, waits_at}
-use Rattle.vol_owners.specs.Lists.{Has}
-use Rattle.vol_owners.proofs.Listing.{has_parted}
+use Rattle.base_words.specs.Lists.{Has}
+use Rattle.base_words.proofs.Listing.{has_parted}
 use Rattle.op_law.specs.declared.need.Need.{Need}
 use Rattle.op_law.specs.declared.need.Need.TheVariants as need
 use Rattle.op_law.specs.declared.need.Ask.{Ask}
@@ -25,7 +25,7 @@ use Rattle.core_space.specs.declared.event.SpaceEvent.{SpaceEvent}
 use Rattle.core_space.specs.declared.event.SpaceEvent.TheVariants as space
 use Rattle.extent_cache.specs.Takings.{holds_enough}
 use Rattle.core_space.specs.Rule.{is_shared, is_exclusive, is_writer, written_first, after_looks, next_fill, next_give, by_search, event_in, space_event, back_event}
-use Rattle.node_space.specs.Answering.{answer, blocks_of}
+use Rattle.core_space.specs.Answering.{answer, blocks_of}
 use Rattle.core_state.specs.Worlds.{NodeState, Plain, node_at, with_node, current}
 use Rattle.core_state.specs.Searches.{begun_run, Served, Given, Shared, Fills, Grabs, Filled, Drains, Alone, Looking, Taking, Taken, Refused, Rules, Spaces, Off, Back, Busy}
 use Rattle.core_state.specs.Stores.{AreKept}

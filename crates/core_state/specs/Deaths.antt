@@ -8,7 +8,7 @@ use Rattle.plain_cat.specs.declared.history.Entry.TheVariants.{Died}
 use Rattle.plain_cat.specs.declared.script.KillAt.{KillAt}
 use Rattle.plain_cat.specs.declared.script.KillAt.TheVariants as kill
 use Rattle.plain_cat.specs.declared.script.Kill.{Kill}
-use Rattle.vol_owners.specs.Owners.{Things}
+use Rattle.vol_spell.specs.Owners.{Things}
 use Rattle.vol_under.specs.UnderWay.{PlannedWrite, first_stage, stage_after, outs_after, together}
 use Rattle.op_law.specs.Fits.{things}
 use Rattle.op_law.specs.Laws.{planned}

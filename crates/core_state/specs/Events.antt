@@ -1,6 +1,6 @@
 -- The event of a node's turn, and what it makes of the world.
-use Rattle.std.specs.Prelude.{◌==◌, ◌+◌, ◌-◌, ◌^◌, ◌++◌, ◌||◌, ◌&&◌, not, min, ℕ, Bool, true, false, List, [], ◌∷◌, Option, Some, None, is_none, is_some, filter, find, slice_get, slice_set, slice_index_or, length, if◌then◌else◌}
-use Rattle.vol_words.specs.Fields.{Block}
+use Rattle.std.specs.Prelude.{◌==◌, ◌+◌, ◌-◌, ◌^◌, ◌++◌, ◌||◌, ◌&&◌, not, ℕ, Bool, true, false, List, [], ◌∷◌, Option, Some, None, is_none, is_some, filter, find, slice_get, slice_set, length, if◌then◌else◌}
+use Rattle.base_words.specs.Fields.{Block, block_at}
 use Rattle.lock_db.specs.declared.name.LockName.{LockName}
 use Rattle.lock_db.specs.declared.name.LockName.TheVariants.{A, X, V}
 use Rattle.lock_db.specs.declared.resource.Resource.{Resource}
@@ -13,7 +13,7 @@ use Rattle.plain_cat.specs.declared.command.Cmd.{Cmd}
 use Rattle.plain_cat.specs.declared.reply.Reply.{Reply}
 use Rattle.plain_cat.specs.declared.reply.Refusal.{Refusal}
 use Rattle.plain_cat.specs.declared.history.Entry.TheVariants.{Done}
-use Rattle.plain_vol.specs.Own.{after_answer, next_command}
+use Rattle.plain_rules.specs.Own.{after_answer, next_command}
 use Rattle.vol_parts.specs.declared.geometry.Geometry.{Geometry}
 use Rattle.node_locks.specs.Held.{system_of, waits_at, without}
 use Rattle.node_locks.specs.Taking.{taken, taken_now}
@@ -27,7 +27,7 @@ use Rattle.op_law.specs.declared.seen.Seen.{Seen}
 use Rattle.op_law.specs.Needs.{need_of}
 use Rattle.op_law.specs.Going.{with_lock, with_block, with_space}
 use Rattle.extent_cache.specs.Takings.{holds_enough, lowest}
-use Rattle.node_space.specs.Taking.{out_after}
+use Rattle.core_space.specs.Taking.{out_after}
 use Rattle.core_space.specs.declared.run.Phase.{Phase}
 use Rattle.core_space.specs.declared.run.Phase.TheVariants as phase
 use Rattle.core_space.specs.declared.run.SpaceRun.{SpaceRun}
@@ -48,6 +48,7 @@ use Rattle.core_state.specs.Channels.{channel_seen, opens_then, closed_off}
 use Rattle.core_state.specs.Asks.{has_asked, is_claiming, writes_by, writes_now, asker_of, own_of, with_ask}
 use Rattle.core_state.specs.Raises.{raise_of}
 use Rattle.core_state.specs.Caches.{sequence_now, current_entry, kept_by_look, rewritten, put_back_all, lowered_of}
+use Rattle.base_words.specs.Faults.{next as one_more}
 
 -- ---- which event comes
 
@@ -254,12 +255,6 @@ is_write (event.Write w) = true
 is_write (event.SpaceWrite w) = true
 is_write other = false
 
--- ---- what an event makes of the world
-
--- one more, up to the last value of 64 bits
-abbrev pub one_more : ℕ → ℕ
-one_more n = min (n + 1) (2 ^ 64 - 1)
-
 -- the locks given back, in order, each with its value block raised by the writes under it
 abbrev pub given_back : Geometry → ℕ → List PlanWrite → List (LockName × Mode) → List Resource → List Resource
 given_back g n ws [] t = t
@@ -277,10 +272,6 @@ all_writes s = s.run.writes ++ writes_now s.tried s.plan
 -- nothing is seen yet
 abbrev pub unseen : Seen → Seen
 unseen seen = record { geometry = seen.geometry; channel = None; locks = []; blocks = []; clusters = []; number = None; short = None }
-
--- the block of an LBN
-abbrev pub block_at : List Block → ℕ → Block
-block_at bs lbn = slice_index_or bs lbn []
 
 abbrev pub turned : NodeState → NodeState
 turned s = record s { turns = one_more s.turns }

@@ -3,7 +3,7 @@ use Rattle.std.specs.Prelude.{◌-◌, ℕ, Bool, true, false, List}
 use Rattle.std.specs.List.{count_by, range_with_len}
 use Rattle.plain_cat.specs.declared.history.Entry.{Entry}
 use Rattle.plain_cat.specs.declared.history.Entry.TheVariants.{Done, Died, Mended}
-use Rattle.plain_vol.specs.Own.{past}
+use Rattle.plain_rules.specs.Own.{past}
 
 -- an entry is a death
 abbrev pub is_fall : Entry → Bool

@@ -10,19 +10,19 @@ use Rattle.plain_cat.specs.declared.command.Cmd.{Cmd}
 use Rattle.plain_cat.specs.declared.cat.Cat.{Cat}
 use Rattle.plain_cat.specs.declared.script.Script.{Script}
 use Rattle.plain_cat.specs.declared.history.Entry.{Entry}
-use Rattle.plain_vol.specs.Lookups.{is_free_number}
-use Rattle.plain_vol.specs.Accounts.{Accounted}
-use Rattle.plain_vol.specs.Mending.{is_true}
-use Rattle.plain_vol.specs.Own.{NodePast, past, lines_of, next_command, Own}
-use Rattle.plain_vol.specs.Replaying.{Replays}
-use Rattle.plain_opens.specs.Opens.{OpensNameFiles}
-use Rattle.plain_usages.specs.Usages.{AreNear, HasSmallFiles}
-use Rattle.vol_words.specs.Fields.{Block}
+use Rattle.plain_rules.specs.Lookups.{is_free_number}
+use Rattle.plain_rules.specs.Accounts.{Accounted}
+use Rattle.plain_rules.specs.Mending.{is_true}
+use Rattle.plain_rules.specs.Own.{NodePast, past, lines_of, next_command, Own}
+use Rattle.plain_rules.specs.Replaying.{Replays}
+use Rattle.plain_histories.specs.Opens.{OpensNameFiles}
+use Rattle.plain_histories.specs.Usages.{AreNear, HasSmallFiles}
+use Rattle.base_words.specs.Fields.{Block}
 use Rattle.vol_parts.specs.Findings.{Accepts, CatOf}
 use Rattle.lock_db.specs.Tables.{IsTable}
 use Rattle.node_locks.specs.Held.{Row, names_of, AreHeld, waits_at, all_held}
-use Rattle.vol_owners.specs.Lists.{Has}
-use Rattle.vol_owners.specs.Owners.{nothing}
+use Rattle.base_words.specs.Lists.{Has}
+use Rattle.vol_spell.specs.Owners.{nothing}
 use Rattle.vol_under.specs.UnderWay.{UnderWay, resting}
 use Rattle.vol_under.specs.Under.{IsUnder}
 use Rattle.op_law.specs.declared.need.Need.TheVariants as need

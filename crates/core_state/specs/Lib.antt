@@ -19,3 +19,4 @@ pub mod Events
 pub mod Deaths
 pub mod Outside
 pub mod Uses
+pub mod Ends

@@ -1,9 +1,9 @@
 -- A volume as it is mounted.
 use Rattle.std.specs.Prelude.{◌≡◌, List, [], None, false, replicate}
-use Rattle.vol_words.specs.Fields.{Block}
+use Rattle.base_words.specs.Fields.{Block}
 use Rattle.plain_cat.specs.declared.cat.Cat.{Cat}
 use Rattle.plain_cat.specs.declared.script.Script.{Script}
-use Rattle.plain_vol.specs.Own.{newborn}
+use Rattle.plain_rules.specs.Own.{newborn}
 use Rattle.vol_parts.specs.declared.geometry.Geometry.{Geometry}
 use Rattle.vol_parts.specs.Findings.{Accepts, CatOf}
 use Rattle.vol_analyze.specs.Judging.{IsFirstFound}

@@ -10,7 +10,7 @@ use Rattle.lock_db.specs.Names.{is_same}
 use Rattle.lock_db.specs.Laws.{stands_at}
 use Rattle.plain_cat.specs.declared.cat.Cat.{Cat}
 use Rattle.plain_cat.specs.declared.cat.Open.{Open}
-use Rattle.plain_vol.specs.Lookups.{channel_at}
+use Rattle.plain_rules.specs.Lookups.{channel_at}
 use Rattle.op_law.specs.declared.need.Ask.{Ask}
 use Rattle.core_state.specs.Worlds.{NodeState, node_at}
 use Rattle.core_state.specs.Asks.{granted_ask}

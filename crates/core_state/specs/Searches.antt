@@ -7,7 +7,7 @@ use Rattle.plain_cat.specs.declared.mode.Mode.TheVariants.{NL, CR, PW, EX}
 use Rattle.plain_cat.specs.declared.command.Cmd.{Cmd}
 use Rattle.plain_cat.specs.declared.reply.Refusal.{Refusal}
 use Rattle.node_locks.specs.Held.{Row}
-use Rattle.vol_owners.specs.Lists.{Has, Once, Touches}
+use Rattle.base_words.specs.Lists.{Has, Once, Touches}
 use Rattle.vol_parts.specs.declared.geometry.Geometry.{Geometry}
 use Rattle.vol_under.specs.Keeping.{IsBitmap}
 use Rattle.op_law.specs.declared.need.Need.TheVariants as need
@@ -18,9 +18,9 @@ use Rattle.op_law.specs.Needs.{IsNext}
 use Rattle.op_law.specs.Knows.{wanted, takes_space, is_new_number}
 use Rattle.op_law.specs.Laws.{held_in}
 use Rattle.extent_cache.specs.Takings.{holds_enough}
-use Rattle.node_space.specs.Searching.{Found, More, Short, Enough, found}
-use Rattle.node_space.specs.Taking.{looked, out_after}
-use Rattle.node_space.specs.Answering.{blocks_of}
+use Rattle.core_space.specs.Searching.{Found, More, Short, Enough, found}
+use Rattle.core_space.specs.Taking.{looked, out_after}
+use Rattle.core_space.specs.Answering.{blocks_of}
 use Rattle.core_space.specs.declared.run.Phase.{Phase}
 use Rattle.core_space.specs.declared.run.Phase.TheVariants as phase
 use Rattle.core_space.specs.declared.run.SpaceRun.{SpaceRun}

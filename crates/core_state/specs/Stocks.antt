@@ -1,8 +1,8 @@
 -- The stock of a node, and what it has taken by its rules for space.
 use Rattle.std.specs.Prelude.{◌==◌, ◌/◌, not, ℕ, Bool, List, [], filter, drop, length, take, if◌then◌else◌}
 use Rattle.std.specs.List.{list_any}
-use Rattle.vol_words.specs.Fields.{Block}
-use Rattle.vol_owners.specs.Owners.{Things, nothing}
+use Rattle.base_words.specs.Fields.{Block}
+use Rattle.vol_spell.specs.Owners.{Things, nothing}
 use Rattle.vol_parts.specs.declared.geometry.Geometry.{Geometry}
 use Rattle.vol_parts.specs.declared.geometry.Part.TheVariants.{IndexBitmap, Storage}
 use Rattle.vol_spell.specs.Places.{place_of}
@@ -13,7 +13,7 @@ use Rattle.op_law.specs.Writing.{Held}
 use Rattle.extent_cache.specs.Stock.{merged}
 use Rattle.extent_cache.specs.Stock as extents
 use Rattle.extent_cache.specs.Takings.{numbers_left}
-use Rattle.node_space.specs.Taking.{out_after}
+use Rattle.core_space.specs.Taking.{out_after}
 use Rattle.core_space.specs.declared.run.Phase.{Phase}
 use Rattle.core_space.specs.declared.run.Phase.TheVariants as phase
 use Rattle.core_space.specs.declared.run.SpaceRun.{SpaceRun}

@@ -1,6 +1,6 @@
 -- A world as plain data: a drive, a lock table, a history, and the nodes that run the script.
 use Rattle.std.specs.Prelude.{◌≤◌, ℕ, zero, suc, Bool, List, [], ◌∷◌, Option, Some, None, length, map, option_map, slice_get, slice_set}
-use Rattle.vol_words.specs.Fields.{Block}
+use Rattle.base_words.specs.Fields.{Block}
 use Rattle.lock_db.specs.declared.name.LockName.{LockName}
 use Rattle.node_cache.specs.Cached.{Cached}
 use Rattle.lock_db.specs.declared.resource.Resource.{Resource}
@@ -10,7 +10,7 @@ use Rattle.plain_cat.specs.declared.history.Entry.{Entry}
 use Rattle.plain_cat.specs.declared.history.Entry.TheVariants.{Died}
 use Rattle.plain_cat.specs.declared.script.Script.{Script}
 use Rattle.plain_cat.specs.declared.cat.Cat.{Cat}
-use Rattle.plain_vol.specs.Own.{NodePast, next_command}
+use Rattle.plain_rules.specs.Own.{NodePast, next_command}
 use Rattle.vol_parts.specs.declared.geometry.Geometry.{Geometry}
 use Rattle.op_law.specs.declared.need.Plan.{Plan}
 use Rattle.op_law.specs.declared.seen.Seen.{Seen}

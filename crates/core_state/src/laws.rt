@@ -4,7 +4,7 @@ ghost use Rattle.std.specs.Prelude.{◌≡◌, ℕ, false, Some, slice_get};
 ghost use Rattle.lock_db.specs.declared.name.LockName.{LockName};
 ghost use Rattle.node_cache.specs.Cached.{Cached};
 ghost use Rattle.plain_cat.specs.declared.mode.Mode.TheVariants.{PR};
-ghost use Rattle.vol_owners.specs.Lists.{Has};
+ghost use Rattle.base_words.specs.Lists.{Has};
 ghost use Rattle.plain_cat.specs.declared.command.Cmd.{Cmd};
 ghost use Rattle.plain_cat.specs.declared.reply.Refusal.{Refusal};
 ghost use Rattle.op_law.specs.Laws.{held_in, Lawful};

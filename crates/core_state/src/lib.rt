@@ -12,6 +12,8 @@
 //! which it leads, with the writes done of each plan (`keeps_the_rules`). Laws: a turn and a death keep this
 //! (`turns_keep_the_rules`, `deaths_keep_the_rules`), and a cached block that a turn uses is the drive's
 //! (`used_blocks_are_the_drives`).
+//!
+//! `core_step`, `core_death`, `core_ends` and the runs use it.
 #![tactic(auto)]
 
 mod cluster;

@@ -9,18 +9,17 @@ use crate::node::Node;
 use crate::spare::SpareLists;
 use crate::world::World;
 use blk_drive::{ImageDev, Mirror};
-use blk_whole::blocks_are_whole;
 use core_space::{LastingLocks, SpaceRun};
 use extent_cache::Extents;
 use lock_db::LockDb;
 use node_cache::NodeCache;
-use node_past::Past;
 use op_law::{NoMemory, Operation, Seen, SeenBlocks, SeenLocks};
 use plain_cat::{Cat, Clusters, History, Script};
+use plain_past::Past;
 use std::alloc::Global;
 use vol_analyze::{Finding, accepted};
 use vol_faults::geometry;
-use vol_parts::Geometry;
+use vol_parts::{Geometry, blocks_are_whole};
 
 /// Why a volume was not mounted.
 #[derive(Drop)]
@@ -40,7 +39,7 @@ pub struct MountRefused<I: ImageDev> {
 }
 
 // A node at rest.
-#[tactic(auto, unfolding(plain_vol::specs::Own::newborn))]
+#[tactic(auto, unfolding(plain_rules::specs::Own::newborn))]
 fn resting<O: Operation>(alloc: Global, geometry: Geometry) -> Result<Node<O>, NoMemory>
     ensures { IfOk result (λ node. state_of O.cmd_is node ≡ at_rest geometry) }
 {

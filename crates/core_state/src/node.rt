@@ -1,8 +1,8 @@
 use core_space::{LastingLocks, SpaceRun};
 use extent_cache::Extents;
 use node_cache::NodeCache;
-use node_past::Past;
 use op_law::{Chan, Operation, Plan, Seen, SeenLocks};
+use plain_past::Past;
 
 /// A node of the cluster.
 #[derive(Drop)]

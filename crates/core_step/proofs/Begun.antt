@@ -4,7 +4,7 @@ use Rattle.std.specs.Prelude.{◌&&◌, not, slice_index_or, option_map, is_some
 use Rattle.lock_db.specs.declared.name.LockName.TheVariants.{X, V}
 use Rattle.plain_cat.specs.declared.command.Cmd.{Cmd}
 use Rattle.plain_cat.specs.declared.mode.Mode.TheVariants.{CR, PW}
-use Rattle.plain_vol.specs.Own.{next_command}
+use Rattle.plain_rules.specs.Own.{next_command}
 use Rattle.node_locks.specs.Held.{waits_at}
 use Rattle.op_law.specs.declared.need.Need.{Need}
 use Rattle.op_law.specs.declared.need.Need.TheVariants as need

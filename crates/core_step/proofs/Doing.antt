@@ -2,7 +2,7 @@
 use Rattle.std.proofs.Common.{◌≡◌, ◌≢◌, ◌≤◌, ◌<◌, ◌+◌, ◌++◌, ◌/◌, ◌⊎◌, ℕ, Bool, true, false, List, [], ◌∷◌, Some, None, is_some, length, slice_get, refl, sym, ap, subst, ◌∙◌, inl, inr, arith, append-nil}
 use Rattle.std.specs.Prelude.{All, IsSome, drop}
 use Rattle.std.proofs.lemmas.List.Elements.{All-nil, All-cons}
-use Rattle.vol_words.specs.Fields.{Block}
+use Rattle.base_words.specs.Fields.{Block}
 use Rattle.lock_db.specs.declared.name.LockName.{LockName}
 use Rattle.lock_db.specs.declared.name.LockName.TheVariants.{A, X, V}
 use Rattle.lock_db.specs.Queues.{lock_of}
@@ -13,9 +13,9 @@ use Rattle.plain_cat.specs.declared.command.Cmd.{Cmd}
 use Rattle.plain_cat.specs.declared.cat.Cat.{Cat}
 use Rattle.node_locks.specs.Held.{system_of, Row, names_of, joined, waits_at}
 use Rattle.node_locks.proofs.Keeping.{held_are_granted}
-use Rattle.vol_owners.specs.Lists.{Has, Once}
-use Rattle.vol_owners.specs.Owners.{Owners, Things, Outs}
-use Rattle.vol_owners.proofs.Listing.{has_first}
+use Rattle.base_words.specs.Lists.{Has, Once}
+use Rattle.vol_spell.specs.Owners.{Owners, Things, Outs}
+use Rattle.base_words.proofs.Listing.{has_first}
 use Rattle.vol_parts.specs.declared.geometry.Geometry.{Geometry}
 use Rattle.vol_parts.specs.declared.geometry.Part.{Part}
 use Rattle.vol_parts.specs.declared.geometry.Part.TheVariants.{IndexBitmap, Storage}
@@ -32,12 +32,12 @@ use Rattle.op_law.specs.declared.need.PlanWrite.{PlanWrite}
 use Rattle.op_law.specs.Needs.{IsNext}
 use Rattle.op_law.specs.Events.{space_of, HasNoSpace}
 use Rattle.op_law.specs.Writing.{Held}
-use Rattle.node_space.specs.Searching.{places}
-use Rattle.node_space.specs.Taking.{out_after}
-use Rattle.node_space.specs.Answering.{blocks_of}
-use Rattle.node_space.proofs.Ending.{looks_in_order}
-use Rattle.node_space.proofs.Looked.{places_lie}
-use Rattle.node_space.proofs.Writes.{writes_take}
+use Rattle.core_space.specs.Searching.{places}
+use Rattle.core_space.specs.Taking.{out_after}
+use Rattle.core_space.specs.Answering.{blocks_of}
+use Rattle.core_space.proofs.Ending.{looks_in_order}
+use Rattle.core_space.proofs.Looked.{places_lie}
+use Rattle.core_space.proofs.Writes.{writes_take}
 use Rattle.core_space.specs.declared.run.Phase.{Phase}
 use Rattle.core_space.specs.declared.run.Phase.TheVariants as phase
 use Rattle.core_space.specs.declared.run.SpaceRun.{SpaceRun}

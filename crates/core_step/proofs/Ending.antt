@@ -10,7 +10,7 @@ use Rattle.plain_cat.specs.declared.mode.Mode.{Mode}
 use Rattle.plain_cat.specs.declared.command.Cmd.{Cmd}
 use Rattle.plain_cat.specs.declared.command.Cmd.TheVariants as cmd
 use Rattle.plain_cat.specs.declared.reply.Reply.{Reply}
-use Rattle.vol_owners.specs.Lists.{Once}
+use Rattle.base_words.specs.Lists.{Once}
 use Rattle.node_locks.specs.Held.{Row, names_of, AreHeld, HoldsItsLocks, waits_at, without, with_rows}
 use Rattle.node_locks.specs.HeldLaws.{IsMoved}
 use Rattle.node_locks.specs.PuttingBack.{Values, kept_of, MayPutBack, ArePutBack}
@@ -33,7 +33,8 @@ use Rattle.core_state.proofs.Closing.{closing_lock, close_channel, form_now}
 use Rattle.core_state.proofs.Keeping.{kept_once, names_first}
 use Rattle.core_state.proofs.Opens.{opens_given}
 use Rattle.core_state.proofs.PutBacks.{is_low, opens_back}
-use Rattle.core_state.proofs.Rows.{IsFew, own_rows, rows_same}
+use Rattle.core_state.proofs.Rows.{IsFew, rows_same}
+use Rattle.node_locks.proofs.Nodes.{rows_here as own_rows}
 use Rattle.core_state.proofs.SmallBegun.{answers_fit}
 use Rattle.core_state.proofs.Sweeps.{filter_names, filter_once}
 use Rattle.core_state.proofs.Turning.{under_command, drive, seen_on}

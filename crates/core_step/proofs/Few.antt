@@ -6,7 +6,7 @@ use Rattle.lock_db.specs.Names.{is_same}
 use Rattle.plain_cat.specs.declared.mode.Mode.{Mode}
 use Rattle.plain_cat.specs.declared.mode.Mode.TheVariants.{CR, PW, EX}
 use Rattle.plain_cat.specs.declared.command.Cmd.{Cmd}
-use Rattle.vol_owners.specs.Lists.{Once}
+use Rattle.base_words.specs.Lists.{Once}
 use Rattle.node_locks.specs.Held.{Row, names_of, without}
 use Rattle.op_law.specs.declared.need.Ask.{Ask as PlanAsk}
 use Rattle.op_law.specs.declared.seen.Seen.{Seen}

@@ -11,8 +11,8 @@ use Rattle.op_law.specs.Needs.{events_of, need_of, IsNext}
 use Rattle.op_law.specs.Fits.{FitsSeen}
 use Rattle.op_law.specs.Knows.{wanted}
 use Rattle.op_law.specs.Laws.{IsSearch}
-use Rattle.node_space.specs.Answering.{blocks_of}
-use Rattle.node_space.proofs.Taken.{takes_all}
+use Rattle.core_space.specs.Answering.{blocks_of}
+use Rattle.core_space.proofs.Taken.{takes_all}
 use Rattle.core_space.specs.declared.run.Phase.TheVariants as phase
 use Rattle.core_space.specs.declared.run.SpaceRun.{SpaceRun}
 use Rattle.core_space.specs.Rule.{TakesMemory}

@@ -13,7 +13,7 @@ use Rattle.lock_db.proofs.Blocks.{converted-leaves}
 use Rattle.lock_db.proofs.Names.{is_same-refl, is_same-same}
 use Rattle.plain_cat.specs.declared.mode.Mode.{Mode}
 use Rattle.plain_cat.specs.declared.mode.Mode.TheVariants.{NL}
-use Rattle.vol_owners.specs.Lists.{Has}
+use Rattle.base_words.specs.Lists.{Has}
 use Rattle.node_locks.specs.Held.{system_of, names_of, StandInOrder}
 use Rattle.core_state.specs.Asks.{has_asked}
 

@@ -1,12 +1,14 @@
 -- How a turn comes out: its event is made, memory runs out, or a write of the image fails.
 use Rattle.std.proofs.Common.{◌≡◌, ◌≤◌, ◌⊎◌, ℕ, true, false, List, Option, Some, None, Result, Ok, Err, slice_set, refl, sym, ap, subst, ◌∙◌, inl, inr, arith}
 use Rattle.std.specs.Result.{IsErrAnd}
-use Rattle.vol_words.specs.Fields.{Block}
-use Rattle.vol_words.specs.Faults.{Rose}
+use Rattle.base_words.specs.Fields.{Block}
+use Rattle.base_words.specs.Faults.{Rose}
 use Rattle.blk_drive.specs.Images.{told_set}
 use Rattle.core_state.specs.Worlds.{Held, Plain}
 use Rattle.core_state.specs.Goods.{HasRoom}
-use Rattle.core_state.specs.Images.{IsTold, IsTorn, told_as}
+use Rattle.core_state.specs.Images.{IsTorn}
+use Rattle.blk_drive.specs.Telling.{IsTold}
+use Rattle.blk_drive.specs.Telling.{told_as}
 use Rattle.core_state.specs.Event.{Event}
 use Rattle.core_state.specs.Events.{happen, is_write, next_event, after_turn}
 use Rattle.core_step.specs.declared.turns.Turn.{Turn}

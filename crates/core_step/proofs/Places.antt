@@ -2,7 +2,7 @@
 use Rattle.std.proofs.Common.{◌≡◌, ◌+◌, ◌/◌, ◌<◌, ◌≤◌, ◌-◌, ◌∙◌, ℕ, Bool, true, List, [], ◌∷◌, cond, inl, inr, refl, sym, ap, arith}
 use Rattle.std.specs.Prelude.{◌==◌, not, filter}
 use Rattle.std.proofs.lemmas.Bool.Decides.{nat_tests}
-use Rattle.vol_owners.specs.Lists.{Has}
+use Rattle.base_words.specs.Lists.{Has}
 use Rattle.vol_parts.specs.declared.geometry.Geometry.{Geometry}
 use Rattle.vol_parts.specs.declared.geometry.Part.TheVariants.{IndexBitmap, Storage}
 use Rattle.vol_spell.specs.Places.{place_of}

@@ -20,7 +20,7 @@ use Rattle.node_locks.specs.Taking.{taken, taken_now, MayTake}
 use Rattle.node_locks.specs.Sweeping.{MayGiveAll as MayGiveNamed}
 use Rattle.node_locks.specs.Sequences.{raised_block}
 use Rattle.node_locks.proofs.Rows.{order-of}
-use Rattle.vol_owners.specs.Lists.{Has, Touches}
+use Rattle.base_words.specs.Lists.{Has, Touches}
 use Rattle.vol_parts.specs.declared.geometry.Geometry.{Geometry}
 use Rattle.vol_parts.specs.Parts.{IsGeometry}
 use Rattle.vol_under.specs.Guards.{guard_of, MayWrite}
@@ -44,7 +44,8 @@ use Rattle.core_state.proofs.Falling.{answers_left}
 use Rattle.core_state.specs.Goods.{IsAt, IsNode, Good, decided, HasRoom}
 use Rattle.core_state.specs.Event.{Event}
 use Rattle.core_state.specs.Event as event
-use Rattle.core_state.specs.Events.{happens, happen, block_at, block_used, cache_looked, cache_used, cache_written, turned, locking, caching, looking, using, planning, writing, asking, answering, would_go, asked_by, or_use, by_need, by_end, by_write, by_plan, by_command, by_turn, gives_back_in, stands, is_held_up, event_of, event_now, readied, command_in, command_at, plan_in, plan_at, tried_in, tried_at}
+use Rattle.core_state.specs.Events.{happens, happen, block_used, cache_looked, cache_used, cache_written, turned, locking, caching, looking, using, planning, writing, asking, answering, would_go, asked_by, or_use, by_need, by_end, by_write, by_plan, by_command, by_turn, gives_back_in, stands, is_held_up, event_of, event_now, readied, command_in, command_at, plan_in, plan_at, tried_in, tried_at}
+use Rattle.base_words.specs.Fields.{block_at}
 use Rattle.core_state.specs.declared.node.Node.{Node}
 use Rattle.core_state.proofs.Nodes.{at_here, length_node, told_at}
 use Rattle.core_state.proofs.Keeping.{has_asked_row}

@@ -1,7 +1,7 @@
 -- The event of a node's rules for space, as it is found.
 use Rattle.std.proofs.Common.{◌≡◌, ℕ, Bool, true, false, cond, Option, Some, None, slice_get, refl, sym, ap, ◌∙◌}
 use Rattle.std.specs.Prelude.{not}
-use Rattle.vol_words.specs.Fields.{Block}
+use Rattle.base_words.specs.Fields.{Block}
 use Rattle.lock_db.specs.declared.name.LockName.{LockName}
 use Rattle.lock_db.specs.declared.name.LockName.TheVariants.{X, V}
 use Rattle.plain_cat.specs.declared.mode.Mode.{Mode}
@@ -10,9 +10,9 @@ use Rattle.node_locks.specs.Held.{system_of}
 use Rattle.node_locks.specs.Taking.{taken_now}
 use Rattle.op_law.specs.declared.need.PlanWrite.{PlanWrite}
 use Rattle.extent_cache.specs.Takings.{holds_enough}
-use Rattle.node_space.specs.declared.outcome.Search.{Search}
-use Rattle.node_space.specs.declared.outcome.Search.TheVariants as search
-use Rattle.node_space.specs.Answering.{answer, blocks_of}
+use Rattle.core_space.specs.declared.outcome.Search.{Search}
+use Rattle.core_space.specs.declared.outcome.Search.TheVariants as search
+use Rattle.core_space.specs.Answering.{answer, blocks_of}
 use Rattle.core_space.specs.declared.run.Phase.{Phase}
 use Rattle.core_space.specs.declared.run.Phase.TheVariants as phase
 use Rattle.core_space.specs.declared.run.SpaceNeed.{SpaceNeed}

@@ -1,10 +1,11 @@
 -- What a command searches for is counted.
 use Rattle.std.proofs.Common.{◌≡◌, ◌≤◌, ◌<◌, ◌+◌, ◌-◌, ◌*◌, ◌/◌, ℕ, Bool, false, Result, Ok, Err, sym, ◌∙◌, arith}
 use Rattle.std.specs.Prelude.{OnErr}
-use Rattle.plain_vol.proofs.Usages.{product_le}
+use Rattle.plain_rules.proofs.Usages.{product_le}
 use Rattle.plain_cat.specs.declared.command.Cmd.{Cmd}
 use Rattle.vol_parts.specs.declared.geometry.Geometry.{Geometry}
-use Rattle.op_law.specs.Knows.{clusters_wanted, wants_number}
+use Rattle.op_law.specs.Knows.{clusters_wanted}
+use Rattle.plain_rules.specs.Laws.{makes_file as wants_number}
 use Rattle.core_step.specs.Ready.{WantsSpace}
 
 -- a file of at most 77 clusters has no more blocks than a volume

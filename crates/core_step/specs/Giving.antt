@@ -9,7 +9,7 @@ use Rattle.plain_cat.specs.declared.mode.Mode.{Mode}
 use Rattle.plain_cat.specs.declared.command.Cmd.{Cmd}
 use Rattle.plain_cat.specs.declared.command.Cmd.TheVariants as cmd
 use Rattle.plain_cat.specs.declared.reply.Reply.{Reply}
-use Rattle.plain_vol.specs.Own.{is_closed}
+use Rattle.plain_rules.specs.Own.{is_closed}
 use Rattle.vol_parts.specs.declared.geometry.Geometry.{Geometry}
 use Rattle.node_locks.specs.Held.{system_of}
 use Rattle.node_locks.specs.PuttingBack.{MayPutBack}

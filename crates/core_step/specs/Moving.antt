@@ -1,6 +1,6 @@
 -- What an event by the rules for space asks for.
 use Rattle.std.specs.Prelude.{◌≡◌, ◌⊎◌, ◌≤◌, ◌<◌, not, ℕ, Bool, [], ◌∷◌, Some, IsSome, length, slice_get}
-use Rattle.vol_words.specs.Fields.{Block}
+use Rattle.base_words.specs.Fields.{Block}
 use Rattle.lock_db.specs.declared.name.LockName.{LockName}
 use Rattle.lock_db.specs.declared.name.LockName.TheVariants.{X, V}
 use Rattle.lock_db.specs.Queues.{lock_of}

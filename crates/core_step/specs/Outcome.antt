@@ -1,12 +1,14 @@
 -- What a turn comes to.
 use Rattle.std.specs.Prelude.{◌≡◌, ◌≤◌, ◌⊎◌, ℕ, true, false, List, Option, Result, Err, IfOk, OnOk, OnErr}
-use Rattle.vol_words.specs.Fields.{Block}
-use Rattle.vol_words.specs.Faults.{Rose}
+use Rattle.base_words.specs.Fields.{Block}
+use Rattle.base_words.specs.Faults.{Rose}
 use Rattle.plain_cat.specs.declared.command.Cmd.{Cmd}
 use Rattle.core_state.specs.declared.cluster.Core.{Core}
 use Rattle.core_state.specs.Worlds.{Held, plain_of}
 use Rattle.core_state.specs.Goods.{HasRoom}
-use Rattle.core_state.specs.Images.{IsTold, IsTorn, told_as}
+use Rattle.core_state.specs.Images.{IsTorn}
+use Rattle.blk_drive.specs.Telling.{IsTold}
+use Rattle.blk_drive.specs.Telling.{told_as}
 use Rattle.core_state.specs.Events.{is_write, next_event, after_turn}
 use Rattle.core_step.specs.declared.turns.Turn.{Turn}
 use Rattle.core_step.specs.declared.turns.TurnFault.{TurnFault}

@@ -1,7 +1,7 @@
 //! The writes of a plan, and the answer behind them.
 
 ghost use Rattle.std.specs.Prelude.{◌≡◌, ◌⊎◌, ◌<◌, ◌≤◌, ◌+◌, ◌++◌, Some, OnOk, OnErr, IsSome, option_map, length, slice_set};
-ghost use Rattle.vol_words.specs.Faults.{HasCause};
+ghost use Rattle.base_words.specs.Faults.{HasCause};
 ghost use Rattle.blk_drive.specs.Images.{told_set};
 ghost use Rattle.vol_parts.specs.Parts.{IsGeometry};
 ghost use Rattle.plain_cat.specs.declared.command.Cmd.{Cmd};
@@ -21,6 +21,7 @@ use crate::caches::rewrite;
 use crate::channels::{channel_seen, close_off, open_and_close};
 use crate::claims::begin_phase;
 use crate::giving::{give_back_going, has_any, put_back_all};
+use base_words::Block;
 use blk_drive::{ImageDev, ImageFault};
 use core_space::{LastingLocks, Phase};
 use core_state::{Core, Node};
@@ -30,7 +31,6 @@ use op_law::{Chan, Operation, Plan, Seen, SeenBlocks, SeenLocks};
 use plain_cat::{Clusters, Cmd, Entry, Mode};
 use std::alloc::Global;
 use vol_parts::Geometry;
-use vol_words::Block;
 
 // A node has made so many writes, one more than before.
 fn keep_write<O: Operation>(node: &mut Node<O>, done: usize)
@@ -124,7 +124,7 @@ fn keep_staying<O: Operation>(node: &mut Node<O>)
 }
 
 // A node's command ends with the reply of its plan, or of its ask where that was not granted. It takes no memory.
-#[tactic(auto, unfolding(plain_vol::specs::Own::after_answer))]
+#[tactic(auto, unfolding(plain_rules::specs::Own::after_answer))]
 fn end<O: Operation>(alloc: Global, node: &mut Node<O>) -> Ended
     requires op { IsSome node.old.op }
     requires plan { IsSome node.old.plan }

@@ -1,7 +1,7 @@
 //! A node's cached blocks: which are current, and what a look and a write make of them.
 
 ghost use Rattle.std.specs.Prelude.{◌≡◌, is_some, OnOk, OnErr};
-ghost use Rattle.vol_words.specs.Fields.{Block};
+ghost use Rattle.base_words.specs.Fields.{Block};
 ghost use Rattle.vol_parts.specs.Parts.{IsGeometry};
 ghost use Rattle.lock_db.specs.Tables.{resource_at};
 ghost use Rattle.op_law.specs.declared.need.PlanWrite.{PlanWrite};
@@ -9,13 +9,13 @@ ghost use Rattle.core_state.specs.Caches.{sequence_now, next_sequence, current_e
 ghost use Rattle.core_state.specs.Events.{cached_block};
 
 use crate::raises::is_first_part;
+use base_words::{Block, zeros};
 use lock_db::{LockDb, LockName, Mode, Owner};
 use node_cache::NodeCache;
 use node_locks::{first_sequence, second_sequence};
 use op_law::NoMemory;
 use std::alloc::Global;
 use vol_parts::Geometry;
-use vol_words::{Block, zeros};
 
 /// The sequence of the part to which a block belongs, in the value block of the lock that guards it.
 pub(crate) fn sequence_now(g: &Geometry, locks: &LockDb, name: LockName, lbn: u32) -> u64

@@ -20,13 +20,13 @@ ghost use Rattle.core_step.specs.Giving.{MayLeaveAll};
 use crate::asks::Aim;
 use crate::caches::{keep, kept_sequence, sequence_now};
 use crate::giving::leave_all;
+use base_words::Block;
 use blk_drive::ImageDev;
 use core_state::{Core, Node};
 use lock_db::{Asked, LockDb, LockName, Owner};
 use op_law::{NoMemory, Operation, Plan, SeenLocks};
 use plain_cat::{Cmd, Mode};
 use std::alloc::Global;
-use vol_words::Block;
 
 /// One turn more.
 pub(crate) fn count<O: Operation>(node: &mut Node<O>)

@@ -13,6 +13,8 @@
 //! in place of a write and if the image's count of faults rose (`before`, `cause`); the image has the blocks from before, or
 //! those that the turn would have left (`torn`). `NoMemory` never comes in place of a write of a plan or of an answer (`memory`).
 //! A block that the turn uses from the node's cache is the drive's (`used`).
+//!
+//! `core_death` and `node_seat` use it.
 #![tactic(auto)]
 
 mod answers;

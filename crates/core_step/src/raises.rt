@@ -7,12 +7,12 @@ ghost use Rattle.fx_header.specs.Headers.{header_read};
 ghost use Rattle.vol_parts.specs.Parts.{IsGeometry};
 ghost use Rattle.core_state.specs.Raises.{is_first_part, is_free_head, writes_first, writes_second, frees, raise_by, raise_of};
 
+use base_words::Block;
 use fx_header::{Slot, read_header};
 use lock_db::LockName;
 use node_locks::Raise;
 use op_law::PlanWrite;
 use vol_parts::Geometry;
-use vol_words::Block;
 
 /// Whether two names are the same.
 pub(crate) fn is_same(a: LockName, b: LockName) -> bool

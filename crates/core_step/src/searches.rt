@@ -1,7 +1,7 @@
 //! The looks and writes of bitmaps by the rules for space.
 
 ghost use Rattle.std.specs.Prelude.{◌≡◌, ◌==◌, ◌≤◌, ◌⊎◌, ◌<◌, ◌+◌, [], not, filter, if◌then◌else◌, Some, IfOk, OnOk, OnErr, IsSome, length, slice_get, slice_set};
-ghost use Rattle.vol_words.specs.Faults.{HasCause};
+ghost use Rattle.base_words.specs.Faults.{HasCause};
 ghost use Rattle.blk_drive.specs.Images.{told_set};
 ghost use Rattle.vol_parts.specs.declared.geometry.Part.TheVariants.{IndexBitmap};
 ghost use Rattle.vol_parts.specs.Parts.{IsGeometry};
@@ -21,6 +21,7 @@ ghost use Rattle.core_step.specs.Spaces.{IsBitmapPlace, CanTake, taking, next_wr
 use crate::caches::{keep, kept_sequence, rewrite, sequence_now};
 use crate::events::{count, count_hit, count_read};
 use crate::raises::is_same;
+use base_words::Block;
 use blk_drive::{ImageDev, ImageFault};
 use core_space::{Decision, Phase, SpaceNeed, space_writes};
 use core_state::{Core, Node};
@@ -31,7 +32,6 @@ use plain_cat::{Clusters, Mode, Refusal};
 use std::alloc::Global;
 use std::mem;
 use vol_parts::Geometry;
-use vol_words::Block;
 
 /// Whether a lock of this name is among these.
 pub(crate) fn has_asked(locks: &[(LockName, Mode)], name: LockName) -> bool

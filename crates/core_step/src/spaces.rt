@@ -1,7 +1,7 @@
 //! The event of a node by its rules for space, and when its stock goes back.
 
 ghost use Rattle.std.specs.Prelude.{◌≡◌, ◌≤◌, ◌++◌, IfOk, OnErr, None, true, is_none};
-ghost use Rattle.plain_vol.specs.Own.{command_after};
+ghost use Rattle.plain_rules.specs.Own.{command_after};
 ghost use Rattle.lock_db.specs.declared.name.LockName.TheVariants.{X, V};
 ghost use Rattle.vol_parts.specs.Parts.{IsGeometry};
 ghost use Rattle.core_space.specs.Rule.{space_event, back_event, TakesMemory};

@@ -1,8 +1,8 @@
 //! A turn: the event of the first rule that applies.
 
 ghost use Rattle.std.specs.Prelude.{ℕ, ◌≡◌, ◌≤◌, ◌⊎◌, true, false, Some, None, Err, IfOk, OnOk, OnErr, IsSome};
-ghost use Rattle.vol_words.specs.Faults.{Rose};
-ghost use Rattle.vol_words.specs.Fields.{Block};
+ghost use Rattle.base_words.specs.Faults.{Rose};
+ghost use Rattle.base_words.specs.Fields.{Block};
 ghost use Rattle.core_space.specs.declared.event.SpaceEvent.TheVariants as space;
 ghost use Rattle.plain_cat.specs.declared.command.Cmd.{Cmd};
 ghost use Rattle.op_law.specs.declared.need.Need.TheVariants as needed;
@@ -10,7 +10,9 @@ ghost use Rattle.core_state.specs.Event as event;
 ghost use Rattle.op_law.specs.Laws.{Lawful};
 ghost use Rattle.core_state.specs.Worlds.{NodeState, IsOfWorld, state_of, plain_of, node_at, current};
 ghost use Rattle.core_state.specs.Goods.{Good, HasOnly, HasRoom};
-ghost use Rattle.core_state.specs.Images.{IsTold, IsTorn, told_as};
+ghost use Rattle.core_state.specs.Images.{IsTorn};
+ghost use Rattle.blk_drive.specs.Telling.{IsTold};
+ghost use Rattle.blk_drive.specs.Telling.{told_as};
 ghost use Rattle.core_state.specs.Uses.{UsesTheDrives};
 ghost use Rattle.core_state.specs.Events.{is_out, is_write, begun, by_rule, or_use, serves, gives_back, stands, is_held_up, next_event, plan_at, after_turn};
 ghost use Rattle.core_step.specs.Ready.{Makes, IsBegun, IsReady, Begins, NeedsNow, LacksSpace, IsGivenAll, forgotten};

@@ -31,7 +31,7 @@ use Rattle.dlm_core.proofs.Tracing.{Each, each-weaker, each-filter, each-put, ea
 true-false : true ≡ false → ⊥
 true-false e = cc
 
-none-some : (o : Option ℕ) → is_some o ≡ false → o ≡ None
+pub none-some : (o : Option ℕ) → is_some o ≡ false → o ≡ None
 none-some None e = refl
 none-some (Some k) e = cc
 
@@ -159,7 +159,7 @@ drop-owed s e h fill f =
       ])
     ])
 
-call-only : (s : State) (m : Message) (b c : Bool) → is_call m.letter ≡ b → is_some (recovery m.name s) ≡ c → only_call s m ≡ (if b && not c then Some m else None)
+pub call-only : (s : State) (m : Message) (b c : Bool) → is_call m.letter ≡ b → is_some (recovery m.name s) ≡ c → only_call s m ≡ (if b && not c then Some m else None)
 call-only s m b c e f = rw (e, f) refl
 
 arrived-owed : (s : State) (from to : ℕ) (m : Message) → IsSound s → names_living (event.Pass from to) s ≡ true → find (is_between from to) s.mail ≡ Some m → is_call m.letter ≡ true

@@ -2,7 +2,7 @@
 use Rattle.std.proofs.Common.{◌≡◌, ◌≢◌, ◌==◌, ◌&&◌, ◌||◌, ◌++◌, ◌⊎◌, inl, inr, ℕ, zero, suc, ◌-◌, ◌<◌, Bool, true, false, not, List, [], ◌∷◌, Option, Some, None, is_some, map, filter, find, length, get_or, refl, arith, cond, ap, sym, subst, ◌∙◌, if◌then◌else◌, unwrap_or, option_map}
 use Rattle.std.specs.List.{list_all, list_any}
 use Rattle.std.proofs.lemmas.List.{append-nil, get_or-map}
-use Rattle.dlm_core.proofs.Shapes.{length-homes}
+use Rattle.dlm_core.proofs.Shapes.{length-homes, length-bereft}
 use Rattle.std.proofs.lemmas.Bool.Decides.{nat_tests}
 use Rattle.plain_cat.specs.declared.mode.Mode.{Mode}
 use Rattle.plain_cat.specs.Modes.{compatible_modes}
@@ -35,12 +35,15 @@ use Rattle.dlm_core.specs.Lanes.{is_kind, letters_of, is_of, waiters_of, IsLane,
 use Rattle.dlm_core.specs.Lanes.IsLane.{Sends, Stands, Comes}
 use Rattle.dlm_core.proofs.Mails.{letters-append, from_of, to_of, addressed-between}
 use Rattle.dlm_core.proofs.Beliefs.{at-owner, at-name, once-filter}
-use Rattle.dlm_core.proofs.Others.{Served, settled-serves, vacated-askers}
+use Rattle.dlm_core.proofs.Others.{settled-serves, vacated-askers}
+use Rattle.lock_db.proofs.Owners.{Served}
 use Rattle.dlm_core.proofs.Growing.{lane-served}
 use Rattle.dlm_core.proofs.Serving.{PreOf}
 use Rattle.dlm_core.proofs.Takes.{IsPre, served-sound, home-low, home-high, eq-of, ne-of}
 use Rattle.dlm_core.proofs.Safety.{sound-safe}
 use Rattle.dlm_core.proofs.Recovering.{all-ended-sound}
+use Rattle.dlm_core.proofs.Sending.{empty-table}
+use Rattle.dlm_core.proofs.Restoring.{nothing_of}
 
 true-false : true ≡ false → ⊥
 true-false e = cc
@@ -126,11 +129,6 @@ letters-go s d g o x ms e a = ap (map (λ (m : Message). m.letter)) (gone-where 
 kept-addressed : (s : State) → list_all (is_kept s) s.kept ≡ true → list_all (is_addressed s) s.kept ≡ true
 kept-addressed s e = list_all-weaker (is_kept s) (is_addressed s) s.kept (λ m k. and-right (is_call m.letter) (is_addressed s m) k) e
 
--- ---- the tables
-
-empty-table : IsTable []
-empty-table = record { ordered = refl; used = refl; settled_all = tt }
-
 bereft-table_is : (d : ℕ) (h : Home) (t : List Resource) → IsTable t → IsTable (bereft_table d h t)
 bereft-table_is d h t i = (elim (h.master == d) as (λ b. IsTable (if b then [] else dropped d t)) [ true ↦ empty-table | false ↦ IsTable-dropped d t i ])
 
@@ -139,11 +137,6 @@ tables-bereft d hs [] a i = empty-table
 tables-bereft d [] (t ∷ ts) a i = a i
 tables-bereft d (h ∷ hs) (t ∷ ts) a zero = bereft-table_is d h t (a 0)
 tables-bereft d (h ∷ hs) (t ∷ ts) a (suc i) = tables-bereft d hs ts (λ j. a (suc j)) i
-
-length-bereft : (d : ℕ) (hs : List Home) (ts : List (List Resource)) → length (bereft_tables d hs ts) ≡ length ts
-length-bereft d hs [] = refl
-length-bereft d [] (t ∷ ts) = refl
-length-bereft d (h ∷ hs) (t ∷ ts) = ap suc (length-bereft d hs ts)
 
 abbrev no_home : Home
 no_home = record { master = 0; recovers = None }
@@ -237,11 +230,6 @@ module _ (d : ℕ) (s : State) (i : IsSound s) where
   kept-left : list_all (is_kept (bereft d s)) (left_mail d s.kept) ≡ true
   kept-left = list_all-kept (is_kept s) (λ m. not (is_lost d m)) (is_kept (bereft d s)) s.kept
       (λ m e n. and-both (is_call m.letter) (is_addressed (bereft d s) m) (and-left (is_call m.letter) (is_addressed s m) e) (still-between m.letter m (and-right (is_call m.letter) (is_addressed s m) e) n)) i.kept_back
-
--- ---- what is believed and claimed
-
-abbrev nothing_of : Owner → LockName → Hold
-nothing_of o x = record { owner = o; name = x; belief = None; wait = None }
 
 abbrev from_found : Owner → LockName → Option Hold → Hold
 from_found o x f = unwrap_or f (nothing_of o x)

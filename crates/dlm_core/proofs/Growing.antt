@@ -15,7 +15,7 @@ use Rattle.dlm_core.specs.Steps.{stands_as}
 use Rattle.dlm_core.specs.Lanes.{IsLane, IsGrantOf, raises, queued_as, lowered, lowered_one, last_ask, MayWait}
 use Rattle.dlm_core.specs.Lanes.IsLane.{Sends, Stands, Comes}
 use Rattle.dlm_core.proofs.Modes.{raises-both}
-use Rattle.dlm_core.proofs.Others.{Served}
+use Rattle.lock_db.proofs.Owners.{Served}
 use Rattle.dlm_core.proofs.Serving.{Due}
 
 pub lowered-append : (t : Option Mode) (xs ys : List Letter) (u : Option Mode) → lowered t xs ≡ Some u → lowered t (xs ++ ys) ≡ lowered u ys

@@ -14,7 +14,7 @@ use Rattle.lock_db.specs.Resources.{is_used, goes_at_once, first_standing, conve
 use Rattle.lock_db.specs.Tables.{resource_at, asked, converted, released, all_together, IsTable, converts_now}
 use Rattle.lock_db.specs.Laws.{LeavesOthers}
 use Rattle.lock_db.proofs.Lists.{find-push_no, find-filter, list_all-every}
-use Rattle.lock_db.proofs.Owners.{same_owner-same}
+use Rattle.lock_db.proofs.Owners.{same_owner-same, owned, Served}
 use Rattle.lock_db.proofs.Together.{all_together-filter, all_together-granted}
 use Rattle.lock_db.proofs.Heads.{one_grant-some}
 use Rattle.lock_db.proofs.Order.{vacated}
@@ -27,14 +27,6 @@ use Rattle.dlm_core.specs.Modes.{is_across, is_lowering, lowers, crosses}
 use Rattle.dlm_core.specs.Steps.{stands_as, ask_fits, ask_made, drop_made}
 use Rattle.dlm_core.specs.Lanes.{queued_as}
 use Rattle.dlm_core.proofs.Modes.{lowering-not_up, across-not}
-
--- the asker of an owner
-abbrev pub owned : Owner → Asker → Bool
-owned owner a = same_owner a.owner owner
-
--- what a call may make of the standing of another owner: nothing, or a lock in the mode that it waits for
-abbrev pub Served : Option Standing → Option Standing → Type 0
-Served before after = (after ≡ before) ⊎ ((s : Standing) × (before ≡ Some s) × (is_queued s ≡ true) × (after ≡ Some (Granted (wanted s))))
 
 find-with : (owner other : Owner) (s : Standing) (xs : List Asker) → same_owner other owner ≡ false → find (owned owner) (with_standing other s xs) ≡ find (owned owner) xs
 find-with owner other s [] n = refl
@@ -188,7 +180,7 @@ own-converted true c old mode s e f = inl e
 own-converted false true old mode s e f = let k : false ≡ true = f refl in cc
 own-converted false false old mode s e f = inr (refl, e)
 
-some-mode : (a b : Mode) → Some a ≡ Some b → a ≡ b
+pub some-mode : (a b : Mode) → Some a ≡ Some b → a ≡ b
 some-mode a b e = cc
 
 conversion-made : (m : Message) (old mode : Mode) (t : List Resource) → IsTable t → lock_of m.owner (resource_at m.name t).askers ≡ Some old → is_across old mode ≡ false

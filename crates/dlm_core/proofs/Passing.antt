@@ -1,5 +1,5 @@
 -- The state stays sound when a message arrives.
-use Rattle.std.proofs.Common.{◌≡◌, ◌==◌, ◌++◌, inl, inr, ℕ, suc, Bool, true, false, not, List, [], ◌∷◌, Option, Some, None, is_some, find, length, append_assoc, refl, arith, ap, sym, subst, ◌∙◌, if◌then◌else◌}
+use Rattle.std.proofs.Common.{◌≡◌, ◌==◌, ◌++◌, inl, inr, ℕ, Bool, true, false, not, List, [], ◌∷◌, Option, Some, None, is_some, find, length, append_assoc, refl, ap, sym, subst, ◌∙◌, if◌then◌else◌}
 use Rattle.std.specs.List.{list_all}
 use Rattle.std.proofs.lemmas.List.{append-nil}
 use Rattle.plain_cat.specs.declared.mode.Mode.{Mode}
@@ -40,6 +40,7 @@ use Rattle.dlm_core.proofs.Growing.Head.{Raise, Lower, Leave}
 use Rattle.dlm_core.proofs.Serving.{PreLane}
 use Rattle.dlm_core.proofs.Takes.{Call, call-sound, served-sound}
 use Rattle.dlm_core.proofs.Sending.{not-about}
+use Rattle.lock_db.proofs.Places.{not-zero}
 
 about-itself : (m : Message) → is_about m.owner m.name m ≡ true
 about-itself m = rw (same_owner-refl m.owner, is_same-refl m.name) refl
@@ -50,7 +51,7 @@ kind-itself g m e = rw (e, about-itself m) refl
 kind-other : (g : Bool) (p : Owner) (y : LockName) (m : Message) → has_kind g m.letter ≡ false → is_kind g p y m ≡ false
 kind-other g p y m e = rw e refl
 
-call-no_grant : (l : Letter) → is_call l ≡ true → is_grant l ≡ false
+pub call-no_grant : (l : Letter) → is_call l ≡ true → is_grant l ≡ false
 call-no_grant (Ask w) e = refl
 call-no_grant Drop e = refl
 call-no_grant (Grant w v) e = cc
@@ -229,10 +230,6 @@ take-sound s from to m (Claim d) i f c n e = cc
 
 pub taken-sound : (s : State) (from to : ℕ) (m : Message) → IsSound s → find (is_between from to) s.mail ≡ Some m → is_call m.letter ≡ true → recovery m.name s ≡ None → IsSound (taken m (record s { mail = past_first (is_between from to) s.mail }))
 taken-sound s from to m i f c n = take-sound s from to m m.letter i f c n refl
-
--- somebody who stands there uses a name
-not-zero : (n : ℕ) → not (suc n == 0) ≡ true
-not-zero n = grind arith
 
 used-some : (o : Owner) (xs : List Asker) (st : Standing) → standing_of o xs ≡ Some st → not (length xs == 0) ≡ true
 used-some o [] st e = cc

@@ -1,5 +1,5 @@
 -- The state stays sound when a recovery ends.
-use Rattle.std.proofs.Common.{◌≡◌, ◌==◌, ◌&&◌, ◌||◌, ◌++◌, inr, ℕ, zero, suc, ◌-◌, Bool, true, false, not, List, [], ◌∷◌, Option, Some, None, is_some, map, filter, find, get_or, append_assoc, refl, arith, cond, ap, sym, subst, ◌∙◌, if◌then◌else◌, unwrap_or}
+use Rattle.std.proofs.Common.{◌≡◌, ◌==◌, ◌&&◌, ◌||◌, ◌++◌, inr, ℕ, zero, suc, ◌-◌, Bool, true, false, not, List, [], ◌∷◌, Option, Some, None, is_some, map, filter, find, get_or, append_assoc, refl, cond, ap, sym, subst, ◌∙◌, if◌then◌else◌, unwrap_or}
 use Rattle.std.specs.List.{list_all, list_any}
 use Rattle.std.proofs.lemmas.List.{append-nil}
 use Rattle.dlm_core.proofs.Shapes.{length-homes}
@@ -20,19 +20,20 @@ use Rattle.dlm_core.specs.declared.blocks.Block.{Block}
 use Rattle.dlm_core.specs.declared.blocks.Version.{Version}
 use Rattle.dlm_core.specs.declared.queue.Waiter.{Waiter}
 use Rattle.dlm_core.specs.States.{State, home, home_at, master, recovery, table_at, told_at, is_at, hold_at, is_between, past_first}
-use Rattle.dlm_core.specs.Steps.{is_grant, is_call, stands_as, grants_of, ask_made, put_last, drop_made, with_table, versions_after, taken_from, taken, taken_all}
+use Rattle.dlm_core.specs.Steps.{is_call, stands_as, grants_of, ask_made, put_last, drop_made, with_table, versions_after, taken_from, taken, taken_all}
 use Rattle.dlm_core.specs.Recoveries.{is_of_recovery, is_name_of, is_with, best_block, again, made_again, reclaimed_lock, reclaimed, asked_again, asked_again_one, all_asked_again, settled_home, closed, ended, is_open, ended_if, all_ended}
 use Rattle.dlm_core.specs.Lanes.{is_kind, letters_of, LaneOf, LaneAt, last_ask, standing_at, goes_between, is_addressed, is_kept, each_once, GoTogether, IsSound}
 use Rattle.dlm_core.proofs.Mails.{letters-append, letters-none, kind-name}
 use Rattle.dlm_core.proofs.Beliefs.{at-owner, at-name, once-filter}
 use Rattle.dlm_core.proofs.Takes.{Call, called_so, call-sound, served-sound}
-use Rattle.dlm_core.proofs.Passing.{call-first, ask-call, ask-stands, call-again, taken-sound}
+use Rattle.dlm_core.proofs.Passing.{call-first, ask-call, ask-stands, call-again, taken-sound, call-no_grant}
 use Rattle.dlm_core.specs.Runs.{Loss, IsCallStep, Leads}
 use Rattle.dlm_core.specs.Runs.IsStep.{Calls}
 use Rattle.dlm_core.proofs.Others.{can-mode}
 use Rattle.dlm_core.proofs.Tracing.{one-ask, leads-here, leads-then}
 use Rattle.dlm_core.specs.Restored.{has_lock}
-use Rattle.dlm_core.proofs.Restoring.{Restored, restore-none, restore-one, claim-none}
+use Rattle.dlm_core.proofs.Restoring.{Restored, restore-none, restore-one, claim-none, nothing_of}
+use Rattle.dlm_core.proofs.Serving.{eq-self}
 
 -- ---- the homes of a recovery that ends
 
@@ -110,9 +111,6 @@ asks-none o x bs at (h ∷ hs) e =
     letters-append false o x (asks_one h.wait (best_block h.name bs) (at h.name) h) (asks_of bs at hs)
     ∙ rw (asks-one-other o x h.wait (best_block h.name bs) (at h.name) h (or-false_left (is_at o x h) (list_any (is_at o x) hs) e)) (asks-none o x bs at hs (or-false_right (is_at o x h) (list_any (is_at o x) hs) e))
 
-abbrev nothing_of : Owner → LockName → Hold
-nothing_of o x = record { owner = o; name = x; belief = None; wait = None }
-
 asks-calls : (o : Owner) (x : LockName) (bs : List Block) (at : LockName → ℕ) (hs : List Hold) → each_once hs ≡ true → letters_of false o x (asks_of bs at hs) ≡ last_ask (hold_at o x hs).wait
 asks-calls o x bs at [] e = refl
 asks-calls o x bs at (h ∷ hs) e =
@@ -129,9 +127,6 @@ asks-calls o x bs at (h ∷ hs) e =
       | false ↦ λ a. more ∙ rw (asks-one-other o x h.wait b (at h.name) h a) (asks-calls o x bs at hs rest)
     ]) refl
 
-eq-self : (n : ℕ) → (n == n) ≡ true
-eq-self n = grind arith
-
 asks-one-addressed : (s : State) (w : Option Mode) (b : Block) (h : Hold) → list_all (is_addressed s) (asks_one w b (master h.name s) h) ≡ true
 asks-one-addressed s None b h = refl
 asks-one-addressed s (Some w) b h = and-both ((h.owner.node == h.owner.node) && (master h.name s == master h.name s)) true (and-both (h.owner.node == h.owner.node) (master h.name s == master h.name s) (eq-self h.owner.node) (eq-self (master h.name s))) refl
@@ -140,18 +135,11 @@ asks-addressed : (s : State) (bs : List Block) (hs : List Hold) → list_all (is
 asks-addressed s bs [] = refl
 asks-addressed s bs (h ∷ hs) = list_all-joined (is_addressed s) (asks_one h.wait (best_block h.name bs) (master h.name s) h) (asks_of bs (λ x. master x s) hs) (asks-one-addressed s h.wait (best_block h.name bs) h) (asks-addressed s bs hs)
 
--- calls hold no grant
-call-not_grant : (l : Letter) → is_call l ≡ true → is_grant l ≡ false
-call-not_grant (Ask w) e = refl
-call-not_grant Drop e = refl
-call-not_grant (Grant w v) e = cc
-call-not_grant (Claim d) e = cc
-
 kept-grants : (s : State) (o : Owner) (x : LockName) (ks : List Message) → list_all (is_kept s) ks ≡ true → letters_of true o x ks ≡ []
 kept-grants s o x [] e = refl
 kept-grants s o x (m ∷ ms) e =
     let c : is_call m.letter ≡ true = and-left (is_call m.letter) (is_addressed s m) (list_all-head (is_kept s) m ms e) in
-    let none : is_kind true o x m ≡ false = rw (call-not_grant m.letter c) refl in
+    let none : is_kind true o x m ≡ false = rw (call-no_grant m.letter c) refl in
     letters-append true o x (m ∷ []) ms ∙ rw (letters-none true o x m none) (kept-grants s o x ms (list_all-tail (is_kept s) m ms e))
 
 -- what a filter by names leaves of a lane
@@ -429,7 +417,7 @@ asked-homes : (w : Option Mode) (h : Hold) (b : Block) (z : State) → (asked_ag
 asked-homes None h b z = refl
 asked-homes (Some w) h b z = refl
 
-asked-nodes : (w : Option Mode) (h : Hold) (b : Block) (z : State) → (asked_again h w b z).nodes ≡ z.nodes
+pub asked-nodes : (w : Option Mode) (h : Hold) (b : Block) (z : State) → (asked_again h w b z).nodes ≡ z.nodes
 asked-nodes None h b z = refl
 asked-nodes (Some w) h b z = refl
 
@@ -437,7 +425,7 @@ all-asked-homes : (hs : List Hold) (bs : List Block) (z : State) → (all_asked_
 all-asked-homes [] bs z = refl
 all-asked-homes (h ∷ hs) bs z = all-asked-homes hs bs (asked_again_one bs h z) ∙ asked-homes h.wait h (best_block h.name bs) z
 
-all-asked-nodes : (hs : List Hold) (bs : List Block) (z : State) → (all_asked_again bs hs z).nodes ≡ z.nodes
+pub all-asked-nodes : (hs : List Hold) (bs : List Block) (z : State) → (all_asked_again bs hs z).nodes ≡ z.nodes
 all-asked-nodes [] bs z = refl
 all-asked-nodes (h ∷ hs) bs z = all-asked-nodes hs bs (asked_again_one bs h z) ∙ asked-nodes h.wait h (best_block h.name bs) z
 

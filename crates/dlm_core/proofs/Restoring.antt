@@ -30,7 +30,8 @@ use Rattle.dlm_core.specs.Recoveries.{made_again}
 use Rattle.dlm_core.specs.Lanes.{each_once, GoTogether}
 use Rattle.dlm_core.specs.Restored.{has_lock, IsRead}
 use Rattle.dlm_core.proofs.Beliefs.{at-owner, at-name, at-itself, at-turned}
-use Rattle.dlm_core.proofs.Others.{owned, can-mode, fits-so, asked-other}
+use Rattle.dlm_core.proofs.Others.{can-mode, fits-so, asked-other}
+use Rattle.lock_db.proofs.Owners.{owned}
 use Rattle.dlm_core.proofs.Takes.{home-low, home-high, tables-set, told-here, told-other, eq-of, ne-of, table-other}
 use Rattle.dlm_core.proofs.Passing.{used-by, askers-recovered}
 
@@ -66,7 +67,7 @@ none-before (k ∷ done) rest h e =
     any-part p (k ∷ done) rest h e = any-part p done rest h (or-false_right (p k) (list_any p (done ++ (h ∷ rest))) e)
 
 -- what is believed by what stands in the list so far
-abbrev nothing_of : Owner → LockName → Hold
+abbrev pub nothing_of : Owner → LockName → Hold
 nothing_of o x = record { owner = o; name = x; belief = None; wait = None }
 
 hold-none : (o : Owner) (x : LockName) (hs : List Hold) → list_any (is_at o x) hs ≡ false → hold_at o x hs ≡ nothing_of o x

@@ -23,15 +23,13 @@ use Rattle.dlm_core.specs.Steps.{stands_as}
 use Rattle.dlm_core.specs.Lanes.{IsLane, LaneOf, lowered, raises, IsSound, BeliefsGoTogether}
 use Rattle.dlm_core.specs.Lanes.IsLane.{Sends, Stands, Comes}
 use Rattle.dlm_core.proofs.Modes.{lowering-goes, raise-goes}
+use Rattle.dlm_core.proofs.Others.{some-mode}
 
 -- a mode that goes wherever another goes that is granted
 pub record IsUnder (b : Mode) (granted : Option Mode) : Type 0 where
   pub mode : Mode
   pub has : granted ≡ Some mode
   pub under : (h : Option Mode) → goes_beside mode h ≡ true → goes_beside b h ≡ true
-
-some-mode : (a b : Mode) → Some a ≡ Some b → a ≡ b
-some-mode a b e = cc
 
 under-lower : (k w b : Mode) → is_lowering k w ≡ true → IsUnder b (Some w) → IsUnder b (Some k)
 under-lower k w b l u =

@@ -41,7 +41,7 @@ start-lane n o x =
     let st : standing_at o x (start n) ≡ None = ap (λ (t : List Resource). standing_of o (resource_at x t).askers) (start-empty n (home n x - 1)) in
     Sends None [] st refl refl refl refl tt
 
-empty-table : IsTable []
+pub empty-table : IsTable []
 empty-table = record { ordered = refl; used = refl; settled_all = tt }
 
 pub start-sound : (n : ℕ) → 1 ≤ n → IsSound (start n)

@@ -146,7 +146,7 @@ served-lane (Some d) s p x l =
     record { lane = rw (calls-behind p x s s.mail s.queue) l.lane; no_grants = g; no_waiters = w }
 
 -- grants are addressed to their owners
-eq-self : (n : ℕ) → (n == n) ≡ true
+pub eq-self : (n : ℕ) → (n == n) ≡ true
 eq-self n = grind arith
 
 grants-addressed : (s : State) (ws : List Waiter) → list_all (is_addressed s) (map (grant_of s) ws) ≡ true

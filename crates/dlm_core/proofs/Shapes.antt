@@ -52,7 +52,7 @@ asked-from h (Some mode) b s i = record { some_node = i.some_node; each_has_one 
 pub asked_shape : (h : Hold) (b : Block) (s : State) → IsShaped s → IsShaped (asked_again h h.wait b s)
 asked_shape h b s i = asked-from h h.wait b s i
 
-length-bereft : (d : ℕ) (hs : List Home) (ts : List (List Resource)) → length (bereft_tables d hs ts) ≡ length ts
+pub length-bereft : (d : ℕ) (hs : List Home) (ts : List (List Resource)) → length (bereft_tables d hs ts) ≡ length ts
 length-bereft d hs [] = refl
 length-bereft d [] (t ∷ ts) = refl
 length-bereft d (h ∷ hs) (t ∷ ts) = ap suc (length-bereft d hs ts)

@@ -15,10 +15,7 @@ use Rattle.dlm_core.specs.Lanes.{LaneOf, IsSound}
 use Rattle.dlm_core.proofs.Sending.{ask-sound, drop-sound}
 use Rattle.dlm_core.proofs.Passing.{taken-sound, grant-sound, claim-sound, keep-sound}
 use Rattle.dlm_core.proofs.Dying.{killed-sound, with-ended-sound}
-
-none-some : (o : Option ℕ) → is_some o ≡ false → o ≡ None
-none-some None e = refl
-none-some (Some k) e = cc
+use Rattle.dlm_core.proofs.ByCalls.{none-some}
 
 arrived-sound : (s : State) (from to : ℕ) (m : Message) → IsSound s → find (is_between from to) s.mail ≡ Some m → is_call m.letter ≡ true → IsSound (arrived m (record s { mail = past_first (is_between from to) s.mail }))
 arrived-sound s from to m i f c =

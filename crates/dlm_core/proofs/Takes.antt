@@ -18,7 +18,7 @@ use Rattle.dlm_core.specs.declared.blocks.Version.{Version}
 use Rattle.dlm_core.specs.States.{State, home, home_at, recovery, table_at, hold_at, rank_of}
 use Rattle.dlm_core.specs.Steps.{served, with_table}
 use Rattle.dlm_core.specs.Lanes.{is_about, letters_of, waiters_of, IsLane, LaneOf, standing_at, is_addressed, is_kept, each_once, GoTogether, IsSound}
-use Rattle.dlm_core.proofs.Others.{Served}
+use Rattle.lock_db.proofs.Owners.{Served}
 use Rattle.dlm_core.proofs.Serving.{PreLane, PreOf, served-lane, served-addressed}
 use Rattle.dlm_core.proofs.Growing.{lane-served}
 

@@ -16,7 +16,7 @@ use Rattle.dlm_core.specs.declared.queue.Waiter.{Waiter}
 use Rattle.dlm_core.specs.declared.events.Event.TheVariants as event
 use Rattle.dlm_core.specs.States.{State, home, master, recovery, table_at, told_at}
 use Rattle.dlm_core.specs.Steps.{is_grant, is_call, ask_made, drop_made, put_last, with_table, versions_after, served, grants_of, taken_from, taken, taken_all}
-use Rattle.dlm_core.specs.Recoveries.{is_with, is_name_of, best_block, again, made_again, reclaimed_lock, reclaimed_one, reclaimed, asked_again, asked_again_one, all_asked_again, closed, ended, is_open, ended_if, all_ended}
+use Rattle.dlm_core.specs.Recoveries.{is_with, is_name_of, best_block, again, made_again, reclaimed_lock, reclaimed_one, reclaimed, asked_again, all_asked_again, closed, ended, is_open, ended_if, all_ended}
 use Rattle.dlm_core.specs.Deaths.{lowest, bereft, bereft_tables, is_lost, was_master, claim_from, with_claims, with_ended, killed}
 use Rattle.dlm_core.specs.Lanes.{IsSound}
 use Rattle.dlm_core.specs.Runs.{Loss, no_loss, loss_of, Leads, MakesCall, IsCallStep}
@@ -26,7 +26,7 @@ use Rattle.dlm_core.proofs.Passing.{First, call-first, head-ask, head-drop, can-
 use Rattle.dlm_core.proofs.Takes.{served-sound}
 use Rattle.dlm_core.proofs.Dying.{bereft-pre}
 use Rattle.dlm_core.proofs.Tracing.{Each, each-filter, each-stood, queue-waits, WaitsIn, Goes, goes-none, goes-join, goes-plain, serve-goes, ask-makes, drop-makes, put-asked, all-waited}
-use Rattle.dlm_core.proofs.Recovering.{front, find-front, none-some, is_open_call, asks_one, asks_of, with_tables, asked-next, one-taken, reclaim-all, restore-start, restored-sound, open-claims, open-kept, open-closed, recovery-asked, ended-sound, all-asked}
+use Rattle.dlm_core.proofs.Recovering.{front, find-front, none-some, is_open_call, asks_one, asks_of, with_tables, asked-next, one-taken, reclaim-all, restore-start, restored-sound, open-claims, open-kept, open-closed, recovery-asked, ended-sound, all-asked, asked-nodes, all-asked-nodes}
 
 -- ---- calls, one after the other
 
@@ -137,10 +137,6 @@ ask-goes (Some w) homes h hs bs ms z n i f =
     serve-goes homes z pre (Calls m call) refl (put-asked z.nodes z.tables pre.tables m old w z.queue refl call (queue-waits (front (m ∷ rest) z) i))
     (each-stood (front rest (served pre)) (rest ++ z.mail) (grants_of pre q) f.sound (sym (append_assoc rest z.mail (grants_of pre q))))
 
-asked-nodes : (w : Option Mode) (h : Hold) (b : Block) (z : State) → (asked_again h w b z).nodes ≡ z.nodes
-asked-nodes None h b z = refl
-asked-nodes (Some w) h b z = refl
-
 all-asked-goes : (n : ℕ) (homes : Loss) (hs : List Hold) (bs : List Block) (ms : List Message) (z : State) → z.nodes ≡ n → list_all (λ k. not (is_some (recovery k.name z))) hs ≡ true
     → IsSound (front (asks_of bs (λ x. master x z) hs ++ ms) z) → Goes n homes z (all_asked_again bs hs z)
 all-asked-goes n homes [] bs ms z e c i = goes-none n homes z z refl refl
@@ -152,10 +148,6 @@ all-asked-goes n homes (h ∷ hs) bs ms z e c i =
     let f : FurtherAsked bs hs ms y = asked-next (λ x. FurtherAsked bs hs ms x) h.wait h hs bs ms z o rest i (λ x t j. record { open_names = t; sound = j }) in
     let one : Goes n homes z y = subst (λ (k : ℕ). Goes k homes z y) e (ask-goes h.wait homes h hs bs ms z o i f) in
     goes-join n homes z y (all_asked_again bs hs y) one (all-asked-goes n homes hs bs ms y (asked-nodes h.wait h b z ∙ e) f.open_names f.sound)
-
-all-asked-nodes : (hs : List Hold) (bs : List Block) (z : State) → (all_asked_again bs hs z).nodes ≡ z.nodes
-all-asked-nodes [] bs z = refl
-all-asked-nodes (h ∷ hs) bs z = all-asked-nodes hs bs (asked_again_one bs h z) ∙ asked-nodes h.wait h (best_block h.name bs) z
 
 -- ---- a recovery
 

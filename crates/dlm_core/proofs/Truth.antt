@@ -15,24 +15,20 @@ use Rattle.dlm_core.specs.declared.events.Event.TheVariants as event
 use Rattle.dlm_core.specs.declared.events.Told.TheVariants as told
 use Rattle.dlm_core.specs.Modes.{crosses}
 use Rattle.dlm_core.specs.States.{State, recovery, hold_at, asked_hold, is_between, past_first, start}
-use Rattle.dlm_core.specs.Steps.{is_grant, is_call, call_to, called, ask_after, drop_after, taken, granted}
+use Rattle.dlm_core.specs.Steps.{is_call, call_to, called, ask_after, drop_after, taken, granted}
 use Rattle.dlm_core.specs.Deaths.{is_lost, with_ended}
 use Rattle.dlm_core.specs.Events.{arrived, is_claimed, received, received_told, pass_told, pass_after, names_living, answer_of, played, told_of, after}
 use Rattle.dlm_core.specs.Lanes.{IsSound}
-use Rattle.dlm_core.specs.Runs.{after_all, delivered, left_by, undelivered, only_call, call_in, may_recover, Loss, loss_of, no_loss, GoesByCalls, TablesGoByCalls, GivesBetween, GivesByCall, Gives, StaysOnItsWay, WasGiven, TellsTruly, GrantsAreTrue, AllGoTogether}
+use Rattle.dlm_core.specs.Runs.{after_all, delivered, left_by, undelivered, call_in, may_recover, Loss, loss_of, no_loss, GoesByCalls, TablesGoByCalls, GivesBetween, GivesByCall, Gives, StaysOnItsWay, WasGiven, TellsTruly, GrantsAreTrue, AllGoTogether}
 use Rattle.dlm_core.specs.Runs.GoesByCalls.{Stays, Calls, Recovers, Dies}
 use Rattle.dlm_core.proofs.Firsts.{past-none}
 use Rattle.dlm_core.proofs.Safety.{sound-safe}
 use Rattle.dlm_core.proofs.Sending.{start-sound}
-use Rattle.dlm_core.proofs.Passing.{call-first, claim-sound, taken-sound}
+use Rattle.dlm_core.proofs.Passing.{call-first, claim-sound, taken-sound, call-no_grant}
 use Rattle.dlm_core.proofs.Sound.{after-sound, awaited-sound}
 use Rattle.dlm_core.proofs.Tracing.{Each, each-append, each-weaker, each-both, each-contained, each-filter, Says, says-weaker, IsNew, Goes, goes-none, goes-plain}
 use Rattle.dlm_core.proofs.Trails.{take-goes, take-makes, with-ended-goes, killed-leads, killed-goes}
-use Rattle.dlm_core.proofs.ByCalls.{by-call}
-
-none-some : (o : Option ℕ) → is_some o ≡ false → o ≡ None
-none-some None e = refl
-none-some (Some k) e = cc
+use Rattle.dlm_core.proofs.ByCalls.{by-call, none-some, call-only}
 
 -- ---- the steps of each event
 
@@ -40,14 +36,8 @@ none-some (Some k) e = cc
 abbrev without : Event → State → State
 without e s = record s { mail = left_by e s }
 
-call-plain : (l : Letter) → is_call l ≡ true → is_grant l ≡ false
-call-plain (Ask w) e = refl
-call-plain Drop e = refl
-call-plain (Grant w v) e = cc
-call-plain (Claim d) e = cc
-
 called-goes : (loss : Loss) (s : State) (old : Option Mode) (h : Hold) (l : Letter) (fill : ℕ) → is_call l ≡ true → Goes s.nodes loss s (called old h l fill s)
-called-goes loss s old h l fill e = goes-plain s.nodes loss s (called old h l fill s) (call_to h.owner h.name old l fill s ∷ []) refl refl (call-plain l e, tt)
+called-goes loss s old h l fill e = goes-plain s.nodes loss s (called old h l fill s) (call_to h.owner h.name old l fill s ∷ []) refl refl (call-no_grant l e, tt)
 
 ask-goes : (loss : Loss) (s : State) (h : Hold) (mode : Mode) (fill : ℕ) → Goes s.nodes loss s (ask_after h mode fill s)
 ask-goes loss s h mode fill =
@@ -121,10 +111,6 @@ drop-stays h fill s =
       | true ↦ refl
       | false ↦ (elim (is_some h.belief) as (λ b. (if b then called h.belief (record h { belief = None }) Drop fill s else s).tables ≡ s.tables) [ true ↦ refl | false ↦ refl ])
     ])
-
--- what a delivery does, by the message
-call-only : (s : State) (m : Message) (b c : Bool) → is_call m.letter ≡ b → is_some (recovery m.name s) ≡ c → only_call s m ≡ (if b && not c then Some m else None)
-call-only s m b c e f = rw (e, f) refl
 
 arrived-calls : (s : State) (from to : ℕ) (m : Message) → IsSound s → names_living (event.Pass from to) s ≡ true → find (is_between from to) s.mail ≡ Some m → is_call m.letter ≡ true
     → GoesByCalls (event.Pass from to) s (arrived m (record s { mail = past_first (is_between from to) s.mail }))

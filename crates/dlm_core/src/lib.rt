@@ -16,6 +16,8 @@
 //! value over events: no clock, no thread, no network. An event asks, drops, delivers the first message from one node to
 //! another, or is the death of a node, so a list of events is an order of deliveries and deaths. When a master dies, the
 //! lowest living node takes over its names and recovers them from what the others claim.
+//!
+//! `dlm_run` uses it.
 #![tactic(auto)]
 
 mod blocks;
@@ -36,6 +38,3 @@ mod tables;
 pub use dlm::Dlm;
 pub use events::{Event, Told};
 pub use lock_db::{LockName, Mode, NoMemory, Owner};
-
-#[cfg(test)]
-mod tests;

@@ -4,8 +4,8 @@ use Rattle.plain_cat.specs.declared.mode.Mode.{Mode}
 use Rattle.lock_db.specs.declared.name.Owner.{Owner}
 use Rattle.lock_db.specs.declared.name.LockName.{LockName}
 use Rattle.lock_db.specs.declared.name.LockName.TheVariants.{S, A, Q, X, V}
-use Rattle.vol_texts.specs.Names.{mode_text}
-use Rattle.vol_texts.specs.Reports.{newline}
+use Rattle.plain_texts.specs.Names.{mode_text}
+use Rattle.plain_texts.specs.Reports.{newline}
 use Rattle.dlm_core.specs.declared.events.Event.{Event}
 use Rattle.dlm_core.specs.declared.events.Told.{Told}
 use Rattle.dlm_core.specs.declared.events.Told.TheVariants as told

@@ -7,7 +7,7 @@ use Rattle.lock_db.specs.declared.name.LockName.{LockName}
 use Rattle.lock_db.specs.declared.name.LockName.TheVariants.{S, A, Q, X, V}
 use Rattle.lock_db.specs.declared.name.Owner.{Owner}
 use Rattle.run_script.specs.Lines.{lines_of, words_of}
-use Rattle.run_script.specs.Steps.{part_of, number_of, behind}
+use Rattle.run_script.specs.Steps.{part_of, number_of, behind, with1, with2, with3, with4}
 use Rattle.run_script.specs.Grammar.{is_skipped}
 use Rattle.dlm_core.specs.declared.events.Event.{Event}
 use Rattle.dlm_core.specs.declared.events.Event.TheVariants as event
@@ -16,23 +16,6 @@ use Rattle.dlm_run.specs.declared.script.Fault.{Fault}
 use Rattle.dlm_run.specs.declared.script.Fault.TheVariants.{BadLine, TooMany}
 use Rattle.dlm_run.specs.declared.reading.ReadFault.{ReadFault}
 use Rattle.dlm_run.specs.declared.reading.ReadFault.TheVariants as read_fault
-
--- a value that is made of one value, of two, and so on, where each is there
-abbrev pub made1 : {A B : Type 0} → Option A → (A → B) → Option B
-made1 None f = None
-made1 (Some a) f = Some (f a)
-
-abbrev pub made2 : {A B C : Type 0} → Option A → Option B → (A → B → C) → Option C
-made2 None ob f = None
-made2 (Some a) ob f = made1 ob (f a)
-
-abbrev pub made3 : {A B C D : Type 0} → Option A → Option B → Option C → (A → B → C → D) → Option D
-made3 None ob oc f = None
-made3 (Some a) ob oc f = made2 ob oc (f a)
-
-abbrev pub made4 : {A B C D E : Type 0} → Option A → Option B → Option C → Option D → (A → B → C → D → E) → Option E
-made4 None ob oc od f = None
-made4 (Some a) ob oc od f = made3 ob oc od (f a)
 
 -- the word with this number, counted from 0
 abbrev pub word_at : ℕ → List ℕ → List ℕ
@@ -50,8 +33,8 @@ mode_of word =
 
 -- a name with a number, by what stands behind an S or behind an A
 abbrev pub filed_of : Option (List ℕ) → Option (List ℕ) → Option LockName
-filed_of (Some digits) a = made1 (decimal_of 1 4096 digits) S
-filed_of None (Some digits) = made1 (decimal_of 1 4096 digits) A
+filed_of (Some digits) a = with1 (decimal_of 1 4096 digits) S
+filed_of None (Some digits) = with1 (decimal_of 1 4096 digits) A
 filed_of None None = None
 
 -- the name of a resource
@@ -62,7 +45,7 @@ name_of word =
 
 -- an owner, by the node and the part
 unfoldable pub owner_of : ℕ → List ℕ → Option Owner
-owner_of nodes line = made2 (decimal_of 1 nodes (word_at 1 line)) (decimal_of 0 8 (word_at 2 line)) (λ node part. record { node = node; part = part })
+owner_of nodes line = with2 (decimal_of 1 nodes (word_at 1 line)) (decimal_of 0 8 (word_at 2 line)) (λ node part. record { node = node; part = part })
 
 -- a line of so many words of which the first is this one
 unfoldable pub has_form : ℕ → List ℕ → List ℕ → Bool
@@ -74,16 +57,16 @@ nodes_of line = if has_form 2 (codes "NODES") line then decimal_of 1 8 (word_at 
 
 -- an event on these nodes
 unfoldable pub ask_of : ℕ → List ℕ → Option Event
-ask_of nodes line = made4 (owner_of nodes line) (name_of (word_at 3 line)) (mode_of (word_at 4 line)) (decimal_of 0 255 (word_at 5 line)) event.Ask
+ask_of nodes line = with4 (owner_of nodes line) (name_of (word_at 3 line)) (mode_of (word_at 4 line)) (decimal_of 0 255 (word_at 5 line)) event.Ask
 
 unfoldable pub drop_of : ℕ → List ℕ → Option Event
-drop_of nodes line = made3 (owner_of nodes line) (name_of (word_at 3 line)) (decimal_of 0 255 (word_at 4 line)) event.Drop
+drop_of nodes line = with3 (owner_of nodes line) (name_of (word_at 3 line)) (decimal_of 0 255 (word_at 4 line)) event.Drop
 
 unfoldable pub pass_of : ℕ → List ℕ → Option Event
-pass_of nodes line = made2 (decimal_of 1 nodes (word_at 1 line)) (decimal_of 1 nodes (word_at 2 line)) event.Pass
+pass_of nodes line = with2 (decimal_of 1 nodes (word_at 1 line)) (decimal_of 1 nodes (word_at 2 line)) event.Pass
 
 unfoldable pub kill_of : ℕ → List ℕ → Option Event
-kill_of nodes line = made1 (decimal_of 1 nodes (word_at 1 line)) event.Kill
+kill_of nodes line = with1 (decimal_of 1 nodes (word_at 1 line)) event.Kill
 
 unfoldable pub event_of : ℕ → List ℕ → Option Event
 event_of nodes line =

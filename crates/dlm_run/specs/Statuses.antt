@@ -1,9 +1,9 @@
 -- How a run ends, and what is written.
 use Rattle.std.specs.Prelude.{◌≡◌, ◌<◌, ◌≤◌, ◌⊎◌, ◌++◌, ℕ, Bool, List, [], ◌∷◌, Option, IfSome, Ok, Err, codes, decimal, length, take}
 use Rattle.std.specs.Io.KnownBytes.{Appends}
-use Rattle.vol_words.specs.Faults.{Rose}
+use Rattle.base_words.specs.Faults.{Rose}
 use Rattle.fx_text.specs.Streams.{AppendsStart}
-use Rattle.vol_texts.specs.Reports.{newline}
+use Rattle.plain_texts.specs.Reports.{newline}
 use Rattle.dlm_core.specs.States.{start}
 use Rattle.dlm_core.specs.Lanes.{BeliefsGoTogether}
 use Rattle.plain_cat.specs.declared.mode.Mode.{Mode}
@@ -23,6 +23,7 @@ use Rattle.dlm_run.specs.declared.reading.ReadFault.TheVariants as read_fault
 use Rattle.fx_text.specs.declared.whole.TextFault.{TextFault}
 use Rattle.fx_text.specs.declared.whole.TextFault.TheVariants as text_fault
 use Rattle.dlm_run.specs.Printing.{run_text}
+use Rattle.fx_text.specs.Written.{IsWritten}
 
 -- the text of a status other than 0 and 6
 unfoldable pub status_text : DlmStatus → List ℕ
@@ -94,10 +95,6 @@ IsEnd left before now status.Ok = ⊥
 IsEnd left before now status.OutFault = ⊥
 IsEnd left before now status.ScriptFault = Rose before now
 IsEnd left before now s = IsDue left s
-
--- all of a text was written, or first bytes of it where the sink's count rose
-abbrev pub IsWritten : Option (List ℕ) → Option (List ℕ) → ℕ → ℕ → List ℕ → Type 0
-IsWritten old new before now text = Appends old new text ⊎ (Rose before now × AppendsStart old new text)
 
 -- how the lines of the events were written
 abbrev pub IsTold : Option (List ℕ) → Option (List ℕ) → ℕ → ℕ → List ℕ → DlmStatus → Type 0

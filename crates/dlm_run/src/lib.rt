@@ -13,18 +13,17 @@
 //! A script is lines that end with a line feed, which the last may lack. Empty lines and lines that begin with `#` are
 //! skipped. The first other line is `NODES n`, and each later one an event: `ASK node part name mode fill`,
 //! `DROP node part name fill`, `PASS from to` or `KILL node`.
+//!
+//! The program `vmsclus_dlm` calls it.
 #![tactic(auto)]
 
 mod events;
-mod lines;
 mod names;
 mod playing;
 mod printing;
 mod reading;
 mod script;
 mod status;
-#[cfg(test)]
-mod tests;
 mod top;
 mod words;
 

@@ -5,8 +5,8 @@ ghost use Rattle.dlm_run.specs.Printing.{name_text, mark_text, lock_text, grante
 
 use dlm_core::{LockName, Mode, Owner, Told};
 use plain_cat::NoMemory;
+use plain_texts::{push_bytes, push_count, push_mode, push_number};
 use std::alloc::Global;
-use vol_texts::{push_bytes, push_count, push_mode, push_number};
 
 fn push_name(alloc: Global, out: &mut Vec<u8>, name: LockName) -> Result<(), NoMemory>
     ensures { OnOk result (out.new.items ≡ out.old.items ++ name_text name) }

@@ -5,10 +5,10 @@ ghost use Rattle.run_script.specs.Grammar.{is_skipped};
 ghost use Rattle.dlm_run.specs.Reading.{Begun, with_event, with_nodes, taken_line, ended_at, script_of, Agrees};
 
 use crate::events::{read_event, read_nodes};
-use crate::lines::split_line;
 use crate::script::{Fault, Script};
 use dlm_core::Event;
 use plain_cat::NoMemory;
+use run_script::split_line;
 use std::alloc::Global;
 use std::marker::Model;
 

@@ -1,8 +1,9 @@
 //! The top call.
 
 ghost use Rattle.std.specs.Prelude.{◌≡◌, ◌<◌, ◌⊎◌, IfOk, IfErr};
-ghost use Rattle.vol_words.specs.Faults.{Rose};
-ghost use Rattle.dlm_run.specs.Statuses.{status_text, fault_status, text_status, KeepsTheRules, IsPlayed, IsRefused, IsScript, IsDue, IsEnd, IsTold, IsWritten, Writes};
+ghost use Rattle.base_words.specs.Faults.{Rose};
+ghost use Rattle.dlm_run.specs.Statuses.{status_text, fault_status, text_status, KeepsTheRules, IsPlayed, IsRefused, IsScript, IsDue, IsEnd, IsTold, Writes};
+ghost use Rattle.fx_text.specs.Written.{IsWritten};
 ghost use Rattle.dlm_run.specs.Printing.{run_text};
 
 use crate::playing::play;
@@ -12,8 +13,8 @@ use crate::status::DlmStatus;
 use dlm_core::laws;
 use fx_text::{TextFault, TextIn, TextOut, read_all, write_all};
 use plain_cat::NoMemory;
+use plain_texts::{push_bytes, push_number};
 use std::alloc::Global;
-use vol_texts::{push_bytes, push_number};
 
 /// The greatest number of bytes of a script.
 const SCRIPT_LIMIT: usize = 1_048_576;

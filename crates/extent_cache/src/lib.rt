@@ -9,6 +9,8 @@
 //! `take` and `lowest` give exactly the lowest, and none if and only if the stock holds too few; after none or want of memory the
 //! stock is as before. `put_clusters`, `put_number` and `put_all` take no memory: room was made before. After a put the stock
 //! holds exactly what it held and what was put in (`laws::puts_are_exact`).
+//!
+//! `core_space` and the core use it.
 #![tactic(auto)]
 
 mod extents;
@@ -19,6 +21,3 @@ mod taken;
 pub use extents::Extents;
 pub use plain_cat::{Clusters, NoMemory, NumberList};
 pub use taken::{Taken, Taken2};
-
-#[cfg(test)]
-mod tests;

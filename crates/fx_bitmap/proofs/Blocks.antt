@@ -3,7 +3,7 @@ use Rattle.std.proofs.Common.{◌≡◌, ◌≢◌, ◌∙◌, ◌+◌, ◌*◌,
 use Rattle.std.proofs.lemmas.Bool.{eq-eqb, ne_eqb, cases_eq}
 use Rattle.std.proofs.lemmas.Bool.Decides.{nat_tests}
 use Rattle.std.proofs.lemmas.List.FromFn.{get_or-map-range_with_len, fill_by_all}
-use Rattle.vol_words.specs.Fields.{IsBytes}
+use Rattle.base_words.specs.Fields.{IsBytes}
 use Rattle.fx_bitmap.specs.Bits.{byte_bit, bit_at, number_of, block_of}
 use Rattle.fx_bitmap.proofs.Bytes.{byte_bit-number_of, number_of-same}
 

@@ -1,7 +1,7 @@
 -- Bitmaps. A block has 4,096 bits: bit i is bit i % 8, from the lowest, of byte i / 8.
 use Rattle.std.specs.Prelude.{◌≡◌, ◌+◌, ◌*◌, ◌/◌, ◌%◌, ◌^◌, ◌≤◌, ◌<◌, ◌==◌, ◌&&◌, nat_le, nat_lt, ℕ, zero, suc, Bool, true, false, map, slice_index, length, if◌then◌else◌, Option, Some, None}
 use Rattle.std.specs.List.{range_with_len}
-use Rattle.vol_words.specs.Fields.{Block, IsBytes}
+use Rattle.base_words.specs.Fields.{Block, IsBytes}
 
 -- bit i of a byte
 abbrev pub byte_bit : ℕ → ℕ → Bool

@@ -10,13 +10,15 @@
 //! `set_bits` and `clear_bits` put a run of bits, and leave each other bit as it was (`bits`). `first_set_from` gives the lowest
 //! set bit from there on, and none if and only if all are clear. Two blocks with the same bits are equal (`bits_tell_the_block`).
 //! No call takes memory.
+//!
+//! `vol_parts`, the writes of commands (`op_freeing`, `core_space`) and mending use it.
 #![tactic(auto)]
 
 ghost use Rattle.std.specs.Prelude.{◌≡◌, ◌+◌, ◌≤◌, ◌<◌, ◌==◌, ◌≢◌, ℕ, true, false, if◌then◌else◌};
-ghost use Rattle.vol_words.specs.Fields.{IsBytes};
+ghost use Rattle.base_words.specs.Fields.{IsBytes};
 ghost use Rattle.fx_bitmap.specs.Bits.{byte_bit, bit_at, bits_put, ArePut, IsFirstSet, BitsTellTheBlock, count_set};
 
-use vol_words::Block;
+use base_words::Block;
 
 /// Whether bit `i` is set, 0 to 4,095.
 #[tactic(auto, using(std::proofs::lemmas::Nat::Bits::shr_and_one), unfolding(crate::specs::Bits::bit_at))]
@@ -103,6 +105,3 @@ fn with_bit(byte: u8, k: u32, value: bool) -> u8
         byte & !(1 << k)
     }
 }
-
-#[cfg(test)]
-mod tests;

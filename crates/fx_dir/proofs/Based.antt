@@ -3,8 +3,8 @@ use Rattle.std.proofs.Common.{◌≡◌, ◌∙◌, ◌+◌, ◌-◌, ◌*◌, �
 use Rattle.std.specs.Prelude.{option_and_then, slice_index}
 use Rattle.std.specs.Str.{bytes_eq}
 use Rattle.std.proofs.lemmas.List.{length-map}
-use Rattle.vol_words.specs.Fields.{Block}
-use Rattle.vol_words.specs.Packing.{padded, cost, size, over}
+use Rattle.base_words.specs.Fields.{Block}
+use Rattle.base_words.specs.Packing.{padded, cost, size, over}
 use Rattle.fx_dir.specs.declared.RawEnt.{RawEnt}
 use Rattle.fx_dir.specs.Lists.{Each, In}
 use Rattle.fx_dir.specs.Entries.{rises, plain}
@@ -19,6 +19,7 @@ use Rattle.fx_dir.proofs.Mixing.{pack-fits}
 use Rattle.fx_dir.proofs.Building.{map-own}
 use Rattle.fx_dir.proofs.Showing.{IsParsed, seen}
 use Rattle.fx_dir.proofs.Numbers.{leb_says, ltb_says}
+use Rattle.fx_dir.proofs.Written.{first-cost}
 
 -- ---- the entries of a block have room in it
 
@@ -30,17 +31,13 @@ cost-most (Some last) name = step (bytes_eq last name) where
   step true = omega arith
   step false = omega arith
 
-cost-none : (name : List ℕ) → cost None name ≡ 14 + padded name
-unfolding cost
-cost-none name = refl
-
 cost-same : (name : List ℕ) → cost (Some name) name ≡ 8
 unfolding cost
 cost-same name = rw (bytes_refl name) refl
 
 size-first : (last : Option (List ℕ)) (es : List RawEnt) → size name_of last es ≤ size name_of None es
 size-first last [] = omega arith
-size-first last (e ∷ es) = let h = cost-most last e.name in let k = cost-none e.name in omega arith
+size-first last (e ∷ es) = let h = cost-most last e.name in let k = first-cost e.name in omega arith
 
 size-append : (last : Option (List ℕ)) (xs ys : List RawEnt) → size name_of last (xs ++ ys) ≤ size name_of last xs + size name_of None ys
 size-append last [] ys = let h = size-first last ys in omega arith

@@ -1,7 +1,7 @@
 -- Blocks that are built of groups of entries.
 use Rattle.std.proofs.Common.{◌≡◌, ◌∙◌, ◌≤◌, Bool, true, false, ℕ, zero, suc, List, [], ◌∷◌, ◌++◌, Option, Some, None, unwrap_or, map, slice_index_or, refl, sym, ap, subst, arith, Ok, if◌then◌else◌}
 use Rattle.std.specs.Str.{bytes_eq}
-use Rattle.vol_words.specs.Packing.{size, filled, unfilled, pack, over}
+use Rattle.base_words.specs.Packing.{size, filled, unfilled, pack, over}
 use Rattle.fx_dir.specs.declared.RawEnt.{RawEnt}
 use Rattle.fx_dir.specs.Lists.{Each, In}
 use Rattle.fx_dir.specs.Entries.{rises, plain}

@@ -2,7 +2,7 @@
 use Rattle.std.proofs.Common.{◌≡◌, ◌∙◌, ◌==◌, ◌-◌, ◌≤◌, Bool, true, false, ℕ, zero, suc, List, [], ◌∷◌, ◌++◌, Some, map, length, slice_get, slice_set, refl, sym, ap, subst, arith, length-append, if◌then◌else◌}
 use Rattle.std.proofs.Math.ListN.{length-set}
 use Rattle.std.specs.Str.{bytes_eq}
-use Rattle.vol_words.specs.Fields.{Block}
+use Rattle.base_words.specs.Fields.{Block}
 use Rattle.fx_dir.specs.declared.Move.{Move}
 use Rattle.fx_dir.specs.Lists.{Each}
 use Rattle.fx_dir.specs.Moves.{written, rising, falling, less_last, AreChanges}

@@ -6,7 +6,7 @@ use Rattle.fx_dir.specs.declared.RawEnt.{RawEnt}
 use Rattle.fx_dir.specs.Lists.{Each}
 use Rattle.fx_dir.specs.Entries.{same, before, rises, has, fresh}
 use Rattle.fx_dir.proofs.Meeting.{met}
-use Rattle.fx_dir.proofs.Order.{same-self, before-other, and_cases, both}
+use Rattle.fx_dir.proofs.Order.{same-self, before-other, and_cases, both, no_or}
 
 pub all-left : {X : Type 0} (p : X → Bool) (z w : List X) → list_all p (z ++ w) ≡ true → list_all p z ≡ true
 all-left p [] w h = refl
@@ -86,13 +86,9 @@ pub rises-right : (z w : List RawEnt) → rises (z ++ w) ≡ true → rises w �
 rises-right [] w h = h
 rises-right (a ∷ z) w h = rises-right z w (and_cases _ _ h).1
 
-pub or-false : (a b : Bool) → a ≡ false → b ≡ false → (a || b) ≡ false
-or-false true b e f = e
-or-false false b e f = f
-
 each-or : (a : RawEnt) (z w : List RawEnt) → Each (λ e. same e a ≡ false) w → Each (λ e. has z e ≡ false) w → Each (λ e. has (a ∷ z) e ≡ false) w
 each-or a z [] n m = tt
-each-or a z (e ∷ w) n m = (or-false _ _ n.0 m.0, each-or a z w n.1 m.1)
+each-or a z (e ∷ w) n m = (no_or _ _ n.0 m.0, each-or a z w n.1 m.1)
 
 no-entry : (w : List RawEnt) → Each (λ e. has [] e ≡ false) w
 no-entry [] = tt

@@ -1,8 +1,8 @@
 -- What is read is in form.
 use Rattle.std.proofs.Common.{◌≡◌, ◌+◌, ◌-◌, ◌*◌, ◌/◌, ◌<◌, ◌≤◌, ◌&&◌, Bool, true, false, ℕ, zero, suc, List, [], ◌∷◌, ◌++◌, Option, Some, None, option_map, drop, get_or-drop, refl, sym, subst, arith, not, cond, if◌then◌else◌}
 use Rattle.std.specs.Prelude.{option_and_then, slice_index}
-use Rattle.vol_words.specs.Fields.{IsBytes, field}
-use Rattle.vol_words.specs.Names.{is_name}
+use Rattle.base_words.specs.Fields.{IsBytes, field}
+use Rattle.base_words.specs.Names.{is_name}
 use Rattle.fx_dir.specs.declared.RawEnt.{RawEnt}
 use Rattle.fx_dir.specs.Lists.{Each}
 use Rattle.fx_dir.specs.Entries.{has, fresh}

@@ -1,7 +1,7 @@
 -- Greedy packing ends each block at or after any other division of the same entries.
 use Rattle.std.proofs.Common.{◌≡◌, ◌≤◌, ◌+◌, not, Bool, true, false, ℕ, zero, suc, List, [], ◌∷◌, ◌++◌, Option, Some, None, filter, take, length, refl, sym, ap, subst, ◌∙◌, inl, inr, arith, cond, leb, append_assoc, append-nil, if◌then◌else◌}
 use Rattle.std.specs.Str.{bytes_eq}
-use Rattle.vol_words.specs.Packing.{padded, cost, size, filled, unfilled, pack, over}
+use Rattle.base_words.specs.Packing.{padded, cost, size, filled, unfilled, pack, over}
 use Rattle.fx_dir.specs.declared.RawEnt.{RawEnt}
 use Rattle.fx_dir.specs.Lists.{Each, joined}
 use Rattle.fx_dir.specs.Entries.{rises, has, fresh}

@@ -2,7 +2,7 @@
 use Rattle.std.proofs.Common.{◌≡◌, ◌≤◌, ◌<◌, ◌⊎◌, ◌||◌, not, Bool, true, false, ℕ, zero, suc, List, [], ◌∷◌, ◌++◌, Some, None, filter, map, length, slice_get, slice_set, slice_index_or, refl, sym, ap, subst, ◌∙◌, inl, inr, arith, cond, if◌then◌else◌}
 use Rattle.std.specs.List.{list_all}
 use Rattle.std.proofs.lemmas.List.Elements.{filter-append}
-use Rattle.vol_words.specs.Packing.{size, pack, over}
+use Rattle.base_words.specs.Packing.{size, pack, over}
 use Rattle.fx_dir.specs.declared.RawEnt.{RawEnt}
 use Rattle.fx_dir.specs.Lists.{Each, In, joined}
 use Rattle.fx_dir.specs.Entries.{same, before, rises, has, without}
@@ -11,7 +11,8 @@ use Rattle.fx_dir.specs.Moves.{place, inserted}
 use Rattle.fx_dir.proofs.Meeting.{Reads}
 use Rattle.fx_dir.proofs.Order.{and_cases, both, is_true_or, not_both, or_cases, or_left, or_right, same-self, same-both, before-total}
 use Rattle.fx_dir.proofs.Rising.{all-trans}
-use Rattle.fx_dir.proofs.Cover.{rises-right, later, or-false}
+use Rattle.fx_dir.proofs.Cover.{rises-right, later}
+use Rattle.fx_dir.proofs.Order.{no_or as or-false}
 use Rattle.fx_dir.proofs.Greedy.{size-filter, pack-room}
 use Rattle.fx_dir.proofs.Mixing.{parts-read, pack-joined}
 

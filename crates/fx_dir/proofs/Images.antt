@@ -1,7 +1,7 @@
 -- The blocks of a directory after each number of writes.
 use Rattle.std.proofs.Common.{◌≡◌, ◌==◌, ◌-◌, ◌≤◌, ◌<◌, ◌⊎◌, Bool, true, false, ℕ, zero, suc, List, [], ◌∷◌, ◌++◌, take, drop, length, slice_set, refl, sym, ap, subst, ◌∙◌, inl, inr, arith, if◌then◌else◌, append_assoc, length-append}
 use Rattle.std.specs.Str.{bytes_eq}
-use Rattle.vol_words.specs.Fields.{Block}
+use Rattle.base_words.specs.Fields.{Block}
 use Rattle.fx_dir.specs.declared.Move.{Move}
 use Rattle.fx_dir.specs.Moves.{written, rising, falling, less_last}
 use Rattle.fx_dir.proofs.Order.{eqb_eq, bytes_is}

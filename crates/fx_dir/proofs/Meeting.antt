@@ -1,6 +1,6 @@
 -- Directories as lists of lists of entries.
 use Rattle.std.proofs.Common.{◌≡◌, ◌≤◌, true, List, [], ◌∷◌, ◌++◌, None}
-use Rattle.vol_words.specs.Packing.{size}
+use Rattle.base_words.specs.Packing.{size}
 use Rattle.fx_dir.specs.declared.RawEnt.{RawEnt}
 use Rattle.fx_dir.specs.Lists.{Each, In}
 use Rattle.fx_dir.specs.Entries.{rises, fresh}

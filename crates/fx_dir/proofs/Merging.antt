@@ -9,7 +9,7 @@ use Rattle.fx_dir.specs.Directory.{one_more}
 use Rattle.fx_dir.specs.Moves.{on_entries}
 use Rattle.fx_dir.proofs.Order.{and_cases, both, is_true_or, not_both, same-self, same-both, before-other, before-total, before-trans, bytes_is, eqb_eq}
 use Rattle.fx_dir.proofs.Rising.{all-trans}
-use Rattle.fx_dir.proofs.Cover.{or-false}
+use Rattle.fx_dir.proofs.Order.{no_or as or-false}
 use Rattle.fx_dir.proofs.Groups.{all-filter}
 use Rattle.fx_dir.proofs.Mixing.{take-all}
 use Rattle.fx_dir.proofs.Steps.{drop-here}
@@ -75,7 +75,7 @@ fresh-nil : (fs : List RawEnt) → fresh [] fs ≡ fs
 fresh-nil [] = refl
 fresh-nil (f ∷ fs) = λ i. f ∷ fresh-nil fs i
 
-clash-nil : (fs : List RawEnt) → any_clash [] fs ≡ false
+pub clash-nil : (fs : List RawEnt) → any_clash [] fs ≡ false
 clash-nil [] = refl
 clash-nil (f ∷ fs) = clash-nil fs
 

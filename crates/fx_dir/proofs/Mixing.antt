@@ -1,6 +1,6 @@
 -- Blocks mixed of two directories with the same entries read as these entries.
 use Rattle.std.proofs.Common.{◌≡◌, ◌≤◌, true, ℕ, zero, suc, List, [], ◌∷◌, ◌++◌, None, take, drop, length, refl, sym, ap, subst, ◌∙◌, arith, append_assoc, append-nil}
-use Rattle.vol_words.specs.Packing.{size, pack, over}
+use Rattle.base_words.specs.Packing.{size, pack, over}
 use Rattle.fx_dir.specs.declared.RawEnt.{RawEnt}
 use Rattle.fx_dir.specs.Lists.{Each, In, joined}
 use Rattle.fx_dir.specs.Entries.{rises}

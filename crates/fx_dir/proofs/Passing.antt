@@ -2,8 +2,8 @@
 -- each block.
 use Rattle.std.proofs.Common.{◌≡◌, ◌≤◌, ◌+◌, ◌-◌, ◌<◌, false, ℕ, zero, suc, List, [], ◌∷◌, ◌++◌, map, take, drop, length, slice_set, refl, sym, ap, subst, ◌∙◌, arith, append_assoc, length-append}
 use Rattle.std.proofs.lemmas.List.{length-map}
-use Rattle.vol_words.specs.Fields.{Block}
-use Rattle.vol_words.specs.Packing.{pack, over}
+use Rattle.base_words.specs.Fields.{Block}
+use Rattle.base_words.specs.Packing.{pack, over}
 use Rattle.fx_dir.specs.declared.RawEnt.{RawEnt}
 use Rattle.fx_dir.specs.declared.Move.{Move}
 use Rattle.fx_dir.specs.Entries.{has, without}

@@ -1,8 +1,8 @@
 -- The law of a removal.
 use Rattle.std.proofs.Common.{◌≡◌, ◌∙◌, ◌+◌, ◌-◌, ◌<◌, ◌≤◌, true, false, ℕ, zero, suc, List, [], ◌∷◌, Some, Result, Ok, map, take, length, slice_get, slice_set, slice_index_or, refl, sym, ap, subst, arith, length-append}
 use Rattle.std.proofs.lemmas.List.{length-map}
-use Rattle.vol_words.specs.Fields.{Block}
-use Rattle.vol_words.specs.Packing.{pack, over}
+use Rattle.base_words.specs.Fields.{Block}
+use Rattle.base_words.specs.Packing.{pack, over}
 use Rattle.fx_dir.specs.declared.RawEnt.{RawEnt}
 use Rattle.fx_dir.specs.declared.Move.{Move}
 use Rattle.fx_dir.specs.declared.DirFault.{DirFault}

@@ -1,8 +1,8 @@
 -- The law of a packing.
 use Rattle.std.proofs.Common.{◌≡◌, ◌∙◌, true, ℕ, List, [], Ok, map, take, length, refl, sym, ap, subst, arith}
 use Rattle.std.proofs.lemmas.List.{length-map}
-use Rattle.vol_words.specs.Fields.{Block}
-use Rattle.vol_words.specs.Packing.{pack, over}
+use Rattle.base_words.specs.Fields.{Block}
+use Rattle.base_words.specs.Packing.{pack, over}
 use Rattle.fx_dir.specs.declared.RawEnt.{RawEnt}
 use Rattle.fx_dir.specs.declared.Move.{Move}
 use Rattle.fx_dir.specs.Lists.{Each, In}

@@ -1,7 +1,7 @@
 -- Blocks that read as entries have no fault for the reader.
 use Rattle.std.proofs.Common.{◌≡◌, ◌∙◌, ◌&&◌, not, Bool, true, false, ℕ, List, [], ◌∷◌, ◌++◌, Some, Result, Ok, map, refl, sym, ap, subst, inl, inr, eqb}
 use Rattle.std.specs.List.{list_any, list_all}
-use Rattle.vol_words.specs.Fields.{Block}
+use Rattle.base_words.specs.Fields.{Block}
 use Rattle.fx_dir.specs.declared.RawEnt.{RawEnt}
 use Rattle.fx_dir.specs.Lists.{Each, In}
 use Rattle.fx_dir.specs.Entries.{same, before, clash, rises, fresh, any_clash, plain}
@@ -9,7 +9,8 @@ use Rattle.fx_dir.specs.Records.{block_entries}
 use Rattle.fx_dir.specs.Directory.{read_on, one_more, and_then, next_vbn, directory, entries_at, plainly, dir_entries}
 use Rattle.fx_dir.proofs.Meeting.{met, Reads}
 use Rattle.fx_dir.proofs.Order.{not_both, and_cases, eqb_refl, same-self, same-both, before-other}
-use Rattle.fx_dir.proofs.Cover.{each-append, met-more, rises-left, or-false}
+use Rattle.fx_dir.proofs.Cover.{each-append, met-more, rises-left}
+use Rattle.fx_dir.proofs.Order.{no_or as or-false}
 use Rattle.fx_dir.proofs.Finding.{each-at, each-from, in-fresh, map-join}
 use Rattle.fx_dir.proofs.Views.{IsView, plain-view, same-view, rises-view, fresh-view}
 

@@ -1,7 +1,7 @@
 -- No entry of packed blocks stands in two.
 use Rattle.std.proofs.Common.{◌≡◌, ◌∙◌, ◌++◌, true, false, List, [], ◌∷◌, None, map, refl, sym, ap, subst}
 use Rattle.std.specs.List.{list_any}
-use Rattle.vol_words.specs.Packing.{pack, over}
+use Rattle.base_words.specs.Packing.{pack, over}
 use Rattle.fx_dir.specs.declared.RawEnt.{RawEnt}
 use Rattle.fx_dir.specs.Lists.{Each, joined}
 use Rattle.fx_dir.specs.Entries.{before, rises, has, plain}
@@ -9,7 +9,8 @@ use Rattle.fx_dir.specs.Directory.{entries_at}
 use Rattle.fx_dir.specs.Writing.{name_of, marked, block_of}
 use Rattle.fx_dir.specs.Laws.{has_double, SinglePacked}
 use Rattle.fx_dir.proofs.Order.{and_cases}
-use Rattle.fx_dir.proofs.Cover.{all-right, rises-left, rises-right, or-false}
+use Rattle.fx_dir.proofs.Cover.{all-right, rises-left, rises-right}
+use Rattle.fx_dir.proofs.Order.{no_or as or-false}
 use Rattle.fx_dir.proofs.Finding.{map-join}
 use Rattle.fx_dir.proofs.Greedy.{pack-parts}
 use Rattle.fx_dir.proofs.Views.{plain-view, rises-view, plain-marked}

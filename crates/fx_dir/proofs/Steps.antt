@@ -2,8 +2,8 @@
 use Rattle.std.proofs.Common.{◌≡◌, ◌∙◌, ◌+◌, ◌-◌, ◌≤◌, ◌<◌, ◌++◌, true, false, ℕ, zero, suc, List, [], ◌∷◌, Option, Some, None, option_map, slice_get, take, drop, length, get_or, drop-cons, length-drop, length-append, append_assoc, refl, sym, ap, subst, arith, map, eqb, leb}
 use Rattle.std.specs.List.{prefix_len, list_all}
 use Rattle.std.proofs.lemmas.List.{take_more}
-use Rattle.vol_words.specs.Names.{is_character, is_part, is_tail, is_name}
-use Rattle.vol_words.specs.Packing.{cost, filled, unfilled, pack, over}
+use Rattle.base_words.specs.Names.{is_character, is_part, is_tail, is_name}
+use Rattle.base_words.specs.Packing.{cost, filled, unfilled, pack, over}
 use Rattle.fx_dir.specs.declared.RawEnt.{RawEnt}
 use Rattle.fx_dir.specs.Lists.{Each}
 use Rattle.fx_dir.specs.Writing.{block_of, packed, if_fits, name_of, head_bytes, version_bytes, goes_on, last_name, following, record_bytes}

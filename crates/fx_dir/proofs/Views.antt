@@ -2,7 +2,7 @@
 use Rattle.std.proofs.Common.{◌≡◌, ◌∙◌, ◌+◌, ◌&&◌, ◌||◌, not, Bool, true, false, ℕ, zero, suc, List, [], ◌∷◌, ◌++◌, Option, Some, None, map, refl, sym, ap, subst, cond, leb, if◌then◌else◌}
 use Rattle.std.specs.List.{list_all}
 use Rattle.std.specs.Str.{bytes_eq}
-use Rattle.vol_words.specs.Packing.{cost, size, filled, unfilled, pack, over}
+use Rattle.base_words.specs.Packing.{cost, size, filled, unfilled, pack, over}
 use Rattle.fx_dir.specs.declared.RawEnt.{RawEnt}
 use Rattle.fx_dir.specs.Entries.{same, before, rises, has, fresh, plain}
 use Rattle.fx_dir.specs.Writing.{name_of, under, marked}

@@ -5,10 +5,10 @@ use Rattle.std.specs.Str.{bytes_eq}
 use Rattle.std.proofs.lemmas.List.Sums.{prefix_len-le-length}
 use Rattle.std.proofs.lemmas.List.{take_at, drop_at, length-replicate, drop-replicate}
 use Rattle.byteorder.specs.Numbers.{little_number-reads_back}
-use Rattle.vol_words.specs.Fields.{field, put}
-use Rattle.vol_words.specs.Tables.{zeros}
-use Rattle.vol_words.specs.Names.{is_name}
-use Rattle.vol_words.specs.Packing.{padded, cost, size}
+use Rattle.base_words.specs.Fields.{field, put}
+use Rattle.base_words.specs.Tables.{zeros}
+use Rattle.base_words.specs.Names.{is_name}
+use Rattle.base_words.specs.Packing.{padded, cost, size}
 use Rattle.fx_dir.specs.declared.RawEnt.{RawEnt}
 use Rattle.fx_dir.specs.Lists.{Each}
 use Rattle.fx_dir.specs.Entries.{rises}
@@ -295,7 +295,7 @@ one-more m e g rest tail small some room form ranged n forms rangeds h =
     let l = record_length-read e g tail (omega arith) in
     rw (end-read e g tail small, record-read e g tail (omega arith) some room form ranged n forms rangeds, l, drop-record e g tail, h) refl
 
-first-cost : (name : List ℕ) → cost None name ≡ 14 + padded name
+pub first-cost : (name : List ℕ) → cost None name ≡ 14 + padded name
 unfolding cost
 first-cost name = refl
 

@@ -1,6 +1,6 @@
 -- The entries of a directory, block by block, and the first fault.
 use Rattle.std.specs.Prelude.{◌≡◌, ◌+◌, min, ℕ, List, [], ◌∷◌, ◌++◌, Option, Some, None, unwrap_or, Result, Ok, Err, true, map, if◌then◌else◌}
-use Rattle.vol_words.specs.Fields.{Block}
+use Rattle.base_words.specs.Fields.{Block}
 use Rattle.fx_dir.specs.declared.RawEnt.{RawEnt}
 use Rattle.fx_dir.specs.declared.DirFault.{DirFault}
 use Rattle.fx_dir.specs.declared.DirFault.TheVariants.{BadRecord, BadOrder, Clash, NoMemory}

@@ -1,8 +1,8 @@
 -- What is written reads back, and what the greedy packing has to do with other ways to fill blocks.
 use Rattle.std.specs.Prelude.{◌≡◌, ◌≤◌, ◌||◌, Bool, true, false, ℕ, List, [], ◌∷◌, Some, None, Ok, length, map}
 use Rattle.std.specs.List.{list_any}
-use Rattle.vol_words.specs.Fields.{Block}
-use Rattle.vol_words.specs.Packing.{Fits, size, pack}
+use Rattle.base_words.specs.Fields.{Block}
+use Rattle.base_words.specs.Packing.{Fits, size, pack}
 use Rattle.fx_dir.specs.declared.RawEnt.{RawEnt}
 use Rattle.fx_dir.specs.Lists.{Each, joined}
 use Rattle.fx_dir.specs.Entries.{rises, has}

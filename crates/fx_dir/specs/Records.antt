@@ -3,8 +3,8 @@
 -- and its versions, 8 bytes each: the version (2), and the file identifier's number (2), sequence (2), relative volume
 -- number (1) and the number's high byte (1).
 use Rattle.std.specs.Prelude.{◌==◌, ◌+◌, ◌*◌, ◌-◌, ◌/◌, ◌%◌, ◌&&◌, ◌||◌, leb, ltb, Bool, ℕ, zero, suc, List, [], ◌∷◌, ◌++◌, Option, Some, None, option_map, option_and_then, length, take, drop, slice_index, if◌then◌else◌}
-use Rattle.vol_words.specs.Fields.{Block, field}
-use Rattle.vol_words.specs.Names.{is_name}
+use Rattle.base_words.specs.Fields.{Block, field}
+use Rattle.base_words.specs.Names.{is_name}
 use Rattle.fx_dir.specs.declared.RawEnt.{RawEnt}
 use Rattle.fx_dir.specs.Entries.{rises}
 

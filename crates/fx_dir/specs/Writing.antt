@@ -3,9 +3,9 @@ use Rattle.std.specs.Prelude.{◌≡◌, ◌+◌, ◌-◌, ◌*◌, ◌/◌, ◌
 use Rattle.std.specs.List.{prefix_len}
 use Rattle.std.specs.Str.{bytes_eq}
 use Rattle.byteorder.specs.Endian.{little_bytes}
-use Rattle.vol_words.specs.Fields.{Block}
-use Rattle.vol_words.specs.Names.{is_name}
-use Rattle.vol_words.specs.Packing.{padded, size, pack, over}
+use Rattle.base_words.specs.Fields.{Block}
+use Rattle.base_words.specs.Names.{is_name}
+use Rattle.base_words.specs.Packing.{padded, size, pack, over}
 use Rattle.fx_dir.specs.declared.RawEnt.{RawEnt}
 use Rattle.fx_dir.specs.Lists.{Each, In}
 

@@ -11,14 +11,16 @@
 //!
 //! The reader gives exactly the entries, or exactly the first fault. After each write of an insertion but the last the blocks
 //! read as the old entries, and after the last with the new one (`Inserts`). What is packed reads back (`packed`: `read`).
+//!
+//! `vol_parts`, the writes of commands (`op_steps`) and mending use it.
 #![tactic(auto)]
 
 ghost use Rattle.std.specs.Prelude.{◌≡◌, IfOk};
 
+use base_words::Block;
 use std::alloc::{AllocError, AllocFailed, Global};
 use std::marker::Model;
 use thiserror::Error;
-use vol_words::Block;
 
 mod entries;
 mod laws;
@@ -26,8 +28,6 @@ mod moves;
 mod packing;
 mod reading;
 mod records;
-#[cfg(test)]
-mod tests;
 mod writing;
 
 pub use laws::{

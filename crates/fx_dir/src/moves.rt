@@ -13,8 +13,8 @@ ghost use Rattle.fx_dir.specs.Moves.{rising, falling, less_last, place, inserted
 use crate::entries::has;
 use crate::packing::{Group, blocks_of, pack_into};
 use crate::{Move, NoMemory, RawEnt, RawName, read_dir};
+use base_words::Block;
 use std::alloc::{AllocError, Global};
-use vol_words::Block;
 
 /// Whether two blocks have the same bytes.
 fn are_equal(a: &Block, b: &Block) -> bool

@@ -1,5 +1,5 @@
 ghost use Rattle.std.specs.Prelude.{◌≡◌, ◌<◌, ◌≤◌, ◌+◌, true, List, Option, Some, None, option_map, Ok, map, IfOk, IfSome, length, drop};
-ghost use Rattle.vol_words.specs.Packing.{cost, filled, unfilled, pack, over};
+ghost use Rattle.base_words.specs.Packing.{cost, filled, unfilled, pack, over};
 ghost use Rattle.fx_dir.specs.declared.RawEnt.{RawEnt};
 ghost use Rattle.fx_dir.specs.Lists.{Each};
 ghost use Rattle.fx_dir.specs.Entries.{rises, plain};
@@ -8,9 +8,9 @@ ghost use Rattle.fx_dir.specs.Writing.{IsInForm, IsRanged, IsUniform, AreWritabl
 
 use crate::writing::block_of;
 use crate::{NoMemory, RawEnt};
+use base_words::Block;
 use std::alloc::Global;
 use std::marker::Model;
-use vol_words::Block;
 
 /// The entries of one block.
 #[derive(Drop)]
@@ -28,7 +28,7 @@ impl Model for Group {
 }
 
 /// The bytes of an entry behind those that are in a block already.
-#[tactic(auto, unfolding(vol_words::specs::Packing::cost))]
+#[tactic(auto, unfolding(base_words::specs::Packing::cost))]
 fn cost_of(block: &[RawEnt], e: &RawEnt) -> usize
     requires { length e.now.name < 256 }
     ensures value { result ≡ cost (last_name block.now) e.now.name }

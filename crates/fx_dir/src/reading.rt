@@ -8,8 +8,8 @@ ghost use Rattle.fx_dir.specs.Records.{block_entries};
 
 use crate::records::block_entries;
 use crate::{DirFault, NoMemory, RawEnt};
+use base_words::Block;
 use std::alloc::Global;
-use vol_words::Block;
 
 /// How many of the entries met are before all of a block, as the last and the first tell: all of them, mostly.
 fn passed(es: &[RawEnt], fs: &[RawEnt]) -> usize

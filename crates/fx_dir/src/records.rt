@@ -8,10 +8,10 @@ ghost use Rattle.fx_dir.specs.Records.{record_length, head_length, is_end, is_wh
 
 use crate::entries::rises;
 use crate::{NoMemory, RawEnt, RawName};
+use base_words::Block;
+use base_words::names::is_name;
 use byteorder::{ByteOrder, LittleEndian};
 use std::alloc::Global;
-use vol_words::Block;
-use vol_words::names::is_name;
 
 /// The word that ends the records of a block.
 const END: u16 = 65535;

@@ -1,12 +1,12 @@
 ghost use Rattle.std.specs.Prelude.{◌≡◌, ◌+◌, ◌*◌, ◌%◌, ◌≤◌, ◌<◌, ◌++◌, Some, None, IfOk, OnOk, length, replicate};
-ghost use Rattle.vol_words.specs.Packing.{padded, size};
+ghost use Rattle.base_words.specs.Packing.{padded, size};
 ghost use Rattle.fx_dir.specs.declared.RawEnt.{RawEnt};
 ghost use Rattle.fx_dir.specs.Lists.{Each};
 ghost use Rattle.fx_dir.specs.Writing.{IsInForm, name_of, head_bytes, version_bytes, goes_on, last_name, following, record_bytes, block_of};
 
 use crate::{NoMemory, RawEnt};
+use base_words::{Block, put_bytes, zeros};
 use std::alloc::Global;
-use vol_words::{Block, put_bytes, zeros};
 
 /// Whether the entry goes into the record of the last of those before it.
 #[tactic(auto, unfolding(crate::specs::Writing::goes_on))]

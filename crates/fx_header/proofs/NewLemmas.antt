@@ -4,10 +4,10 @@ use Rattle.std.specs.Prelude.{if◌then◌else◌}
 use Rattle.std.proofs.lemmas.Bool.{and_parts, leb-true, ne_eqb}
 use Rattle.std.proofs.lemmas.List.{length-replicate}
 use Rattle.byteorder.specs.Endian.{little_bytes}
-use Rattle.vol_words.specs.Fields.{field, put, put_field, summed}
-use Rattle.vol_words.specs.Tables.{zeros, Table, laid}
-use Rattle.vol_words.proofs.Puts.{length-put, length-put_field, length-summed, field-put_same, field-put_below, field-put_field_above}
-use Rattle.vol_words.proofs.Tables.{rises, row, length-zeros, rises-le, length-laid, field-laid}
+use Rattle.base_words.specs.Fields.{field, put, put_field, summed}
+use Rattle.base_words.specs.Tables.{zeros, Table, laid}
+use Rattle.base_words.proofs.Puts.{length-put, length-put_field, length-summed, field-put_same, field-put_below, field-put_field_above}
+use Rattle.base_words.proofs.Tables.{rises, row, length-zeros, rises-le, length-laid, field-laid}
 use Rattle.fx_header.specs.declared.slot.Hdr.{Hdr}
 use Rattle.fx_header.specs.declared.slot.Slot.TheVariants.{Free, Used}
 use Rattle.fx_header.specs.Pointers.{blocks_in}
@@ -136,7 +136,7 @@ unfolding zeros
 zero-high = refl
 
 -- the name is written behind the fields
-length-filled : (n : ℕ) (text : List ℕ) → length (filled n text) ≡ n
+pub length-filled : (n : ℕ) (text : List ℕ) → length (filled n text) ≡ n
 length-filled n text =
     omega (arith, length-append (take n text) (replicate (n - length text) 32), length-take n text, length-replicate {A = ℕ} (n - length text) 32)
 

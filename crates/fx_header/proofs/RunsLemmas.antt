@@ -2,15 +2,16 @@
 use Rattle.std.proofs.Common.{◌≡◌, ◌∙◌, ◌+◌, ◌*◌, ◌/◌, ◌^◌, ◌<◌, ◌≤◌, ℕ, List, length, drop, get_or, true, false, refl, sym, ap, arith, Ok}
 use Rattle.std.proofs.lemmas.Bool.{le-leb}
 use Rattle.std.proofs.lemmas.List.{get_or-drop}
-use Rattle.vol_words.specs.Fields.{field, put, put_field, summed}
-use Rattle.vol_words.specs.Tables.{laid}
-use Rattle.vol_words.proofs.Puts.{length-put, length-put_field, length-summed, field-put_same}
-use Rattle.vol_words.proofs.Ranges.{slice_range-put_same}
+use Rattle.base_words.specs.Fields.{field, put, put_field, summed}
+use Rattle.base_words.specs.Tables.{laid}
+use Rattle.base_words.proofs.Puts.{length-put, length-put_field, length-summed, field-put_same}
+use Rattle.base_words.proofs.Ranges.{slice_range-put_same}
 use Rattle.fx_header.specs.declared.run.Run.{Run}
 use Rattle.fx_header.specs.declared.slot.Hdr.{Hdr}
 use Rattle.fx_header.specs.declared.slot.Slot.TheVariants.{Used}
 use Rattle.fx_header.specs.Pointers.{AreRuns, merged, map_words, blocks_in, runs_of}
-use Rattle.fx_header.specs.Headers.{map_offset, access_offset, map_area, map_in_use, map_bytes, runs_in, blocks_of, is_free, has_sum, has_level, has_offsets, is_on_this_volume, is_alone, has_map, high_first_rows, header_read, with_runs}
+use Rattle.fx_header.specs.Headers.{map_offset, access_offset, map_area, map_in_use, map_bytes, runs_in, blocks_of, is_free, has_level, has_offsets, is_on_this_volume, is_alone, has_map, high_first_rows, header_read, with_runs}
+use Rattle.base_words.specs.Fields.{has_sum}
 use Rattle.fx_header.proofs.SpellLemmas.{runs_of-words, rest_of-words, even-words, blocks_in-merged}
 use Rattle.fx_header.proofs.SoundLemmas.{Sound, Same, areas-of, same-front, same-field, same-byte, same-within, same-range, same-put_below, same-field_below, same-field_above, same-summed, same-same, sum-true, blocks-true, ends-of, ends-true, sound-reads, reads-sound}
 use Rattle.fx_header.proofs.SetterLemmas.{Tells, tells-of, tells-fields, high-length, high-reads, high-below, high-above}

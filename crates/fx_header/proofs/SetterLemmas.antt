@@ -3,13 +3,14 @@ use Rattle.std.proofs.Common.{◌≡◌, ◌∙◌, ◌+◌, ◌-◌, ◌/◌, �
 use Rattle.std.proofs.lemmas.Nat.{or_lt, and_le_l, and_assoc, and_or_self, and_or_apart}
 use Rattle.byteorder.specs.Endian.{little_bytes}
 use Rattle.bitflags.specs.Sets.{without}
-use Rattle.vol_words.specs.Fields.{IsBytes, field, put_field, summed}
-use Rattle.vol_words.specs.Tables.{laid}
-use Rattle.vol_words.proofs.Puts.{length-put_field, length-summed, field-put_same, field-put_below, field-lt}
+use Rattle.base_words.specs.Fields.{IsBytes, field, put_field, summed}
+use Rattle.base_words.specs.Tables.{laid}
+use Rattle.base_words.proofs.Puts.{length-put_field, length-summed, field-put_same, field-put_below, field-lt}
 use Rattle.fx_header.specs.declared.slot.Hdr.{Hdr}
 use Rattle.fx_header.specs.declared.slot.Slot.TheVariants.{Used}
 use Rattle.fx_header.specs.Pointers.{blocks_in, runs_of}
-use Rattle.fx_header.specs.Headers.{number_of, high_first, has_flag, runs_in, blocks_of, end_of, byte_of, mark_of, segment_of, link_of, link_seq_of, fields_of, has_sum, high_first_rows, header_read, with_flags, marked, scattered, with_mark, with_end}
+use Rattle.fx_header.specs.Headers.{number_of, high_first, has_flag, runs_in, blocks_of, end_of, byte_of, mark_of, segment_of, link_of, link_seq_of, fields_of, high_first_rows, header_read, with_flags, marked, scattered, with_mark, with_end}
+use Rattle.base_words.specs.Fields.{has_sum}
 use Rattle.fx_header.proofs.SoundLemmas.{Sound, Same, same-front, same-field, same-byte, same-within, same-field_below, same-field_above, same-summed, same-same, sum-true, same-map, sound-reads, reads-sound, blocks-of, blocks-true, ends-of, ends-true}
 
 -- the fields of a header, one by one

@@ -4,15 +4,16 @@ use Rattle.std.specs.Prelude.{if◌then◌else◌}
 use Rattle.std.proofs.lemmas.List.{ext_get_or, get_or-take, get_or-drop}
 use Rattle.byteorder.specs.Endian.{little_bytes}
 use Rattle.byteorder.specs.Numbers.{length-bytes_low_first}
-use Rattle.vol_words.specs.Fields.{field, put, put_field, checksum, summed}
-use Rattle.vol_words.proofs.Puts.{field-same, get_or-put_below, get_or-put_above, get_or-summed_below, field-summed, checksum-summed}
+use Rattle.base_words.specs.Fields.{field, put, put_field, checksum, summed}
+use Rattle.base_words.proofs.Puts.{field-same, get_or-put_below, get_or-put_above, get_or-summed_below, field-summed, checksum-summed}
 use Rattle.fx_header.specs.declared.slot.Slot.{Slot}
 use Rattle.fx_header.specs.declared.slot.Slot.TheVariants.{Free, Used}
 use Rattle.fx_header.specs.declared.slot.Hdr.{Hdr}
 use Rattle.fx_header.specs.declared.slot.HeaderFault.{HeaderFault}
 use Rattle.std.proofs.lemmas.Bool.{and_parts, leb-true, le-leb, eqb-true, eq-eqb}
 use Rattle.fx_header.specs.Pointers.{blocks_in}
-use Rattle.fx_header.specs.Headers.{ident_offset, map_offset, access_offset, reserved_offset, map_area, map_in_use, map_bytes, runs_in, blocks_of, end_of, byte_of, mark_of, is_free, has_sum, has_level, has_offsets, is_on_this_volume, is_alone, has_map, has_blocks, has_end, fields_of, header_read}
+use Rattle.fx_header.specs.Headers.{ident_offset, map_offset, access_offset, reserved_offset, map_area, map_in_use, map_bytes, runs_in, blocks_of, end_of, byte_of, mark_of, is_free, has_level, has_offsets, is_on_this_volume, is_alone, has_map, has_blocks, has_end, fields_of, header_read}
+use Rattle.base_words.specs.Fields.{has_sum}
 
 -- all tests hold, and these are the fields
 pub record Sound (b : List ℕ) (h : Hdr) : Type 0 where

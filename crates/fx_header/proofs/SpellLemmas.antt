@@ -7,7 +7,7 @@ use Rattle.std.proofs.lemmas.List.Elements.{All-head, All-tail, All-cons}
 use Rattle.std.proofs.lemmas.List.Sums.{sum_by-cons}
 use Rattle.std.proofs.lemmas.Bool.{eq-eqb, ne_eqb, cases_eq, cases_lt, lt-ltb, le-ltb}
 use Rattle.byteorder.specs.Numbers.{little_number-reads_back}
-use Rattle.vol_words.specs.Fields.{field}
+use Rattle.base_words.specs.Fields.{field}
 use Rattle.fx_header.specs.declared.run.Run.{Run}
 use Rattle.fx_header.specs.Pointers.{format_of, pointer_size, run_from, pointer_run, before, runs_of, rest_of, joined, merged, word, long, first_word, pointer_to, pointer_bytes, map_words, IsRun, AreRuns, lbns_in, blocks_in}
 use Rattle.fx_header.proofs.PointerLemmas.{runs_of-whole, rest_of-whole, runs_of-nil, rest_of-nil}

@@ -1,8 +1,8 @@
 -- File headers: what each field of a header's block says, and the faults that a header can have.
 use Rattle.std.specs.Prelude.{◌≡◌, ◌≤◌, ◌+◌, ◌-◌, ◌*◌, ◌/◌, ◌%◌, ◌^◌, ◌==◌, ◌&&◌, not, nat_le, ℕ, List, [], ◌∷◌, ◌++◌, take, drop, replicate, length, slice_index, slice_range, Bool, Result, Ok, Err, if◌then◌else◌, bit_and, bit_or, IsTrue, ⊤}
 use Rattle.bitflags.specs.Sets.{without}
-use Rattle.vol_words.specs.Fields.{Block, field, put, put_field, checksum, summed}
-use Rattle.vol_words.specs.Tables.{Table, zeros, laid}
+use Rattle.base_words.specs.Fields.{Block, field, put, put_field, summed, has_sum}
+use Rattle.base_words.specs.Tables.{Table, zeros, laid}
 use Rattle.fx_header.specs.declared.run.Run.{Run}
 use Rattle.fx_header.specs.declared.slot.Slot.{Slot}
 use Rattle.fx_header.specs.declared.slot.Slot.TheVariants.{Free, Used}
@@ -79,10 +79,6 @@ has_flag b mask = bit_and (field b 52 4) mask == mask
 -- a slot is free where its file number is zero
 unfoldable pub is_free : Block → Bool
 is_free b = number_of b == 0
-
--- the last word is the sum of those in front of it
-unfoldable pub has_sum : Block → Bool
-has_sum b = field b 510 2 == checksum b 255
 
 -- the structure level, in the high byte of its word, is 2
 unfoldable pub has_level : Block → Bool

@@ -4,7 +4,7 @@ use Rattle.std.specs.Prelude.{◌≡◌, ◌<◌, ◌≤◌, ◌+◌, ◌-◌, �
 use Rattle.std.specs.List.{range_with_len}
 use Rattle.byteorder.specs.Endian.{little_bytes}
 use Rattle.std.specs.Borrow.{Bor}
-use Rattle.vol_words.specs.Fields.{field}
+use Rattle.base_words.specs.Fields.{field}
 use Rattle.fx_header.specs.declared.run.Run.{Run}
 
 -- the format of the pointer at the front of these bytes

@@ -12,6 +12,8 @@
 //! alone (`written`), and a sound header then reads as before with that field changed (`reads`). `set_runs` answers false if and
 //! only if the pointers do not fit, and then changes nothing; otherwise the runs read back, adjacent ones merged. No call takes
 //! memory.
+//!
+//! `vol_parts`, the writes of commands (`op_steps`, `op_create`) and mending use it.
 #![tactic(auto)]
 
 mod flags;
@@ -20,14 +22,12 @@ mod pointers;
 mod read;
 mod run;
 mod slot;
-#[cfg(test)]
-mod tests;
 mod write;
 
+pub use base_words::Block;
 pub use map::set_runs;
 pub use pointers::{RunIter, runs};
 pub use read::read_header;
 pub use run::Run;
 pub use slot::{Hdr, HeaderFault, Slot};
-pub use vol_words::Block;
 pub use write::{clear_contig, free_slot, new_header, set_end, set_mark, set_marked};

@@ -6,7 +6,7 @@ ghost use Rattle.fx_header.specs.Pointers.{IsRun, AreRuns, SplitsRun, Appended, 
 
 use crate::run::Run;
 use crate::write::{put_byte, put_high_first};
-use vol_words::{Block, put_bytes, set_sum, zeros};
+use base_words::{Block, put_bytes, set_sum, zeros};
 
 /// Takes the first run off a list, merged with the runs that are adjacent to it.
 fn split_run(runs: &[Run]) -> Option<(Run, &[Run])>

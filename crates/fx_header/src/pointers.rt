@@ -4,8 +4,8 @@ ghost use Rattle.fx_header.specs.Iter.{runs_left};
 ghost use Rattle.fx_header.specs.Pointers.{pointer_size, pointer_run, rest_of, SplitsPointer};
 
 use crate::run::Run;
+use base_words::Block;
 use byteorder::{ByteOrder, LittleEndian};
-use vol_words::Block;
 
 /// The bytes of the retrieval pointer at the front.
 fn size_of_pointer(p: &[u8]) -> usize

@@ -1,14 +1,15 @@
 ghost use Rattle.std.specs.Prelude.{◌≡◌, ◌+◌, ◌≤◌, ◌<◌, IsTrue, IfOk};
-ghost use Rattle.vol_words.specs.Fields.{field};
+ghost use Rattle.base_words.specs.Fields.{field};
 ghost use Rattle.fx_header.specs.Pointers.{blocks_in};
-ghost use Rattle.fx_header.specs.Headers.{high_first, number_of, runs_in, is_free, has_sum, has_level, has_offsets, is_on_this_volume, is_alone, has_map, has_blocks, has_end, link_of, fields_of, header_read, HasRuns};
+ghost use Rattle.fx_header.specs.Headers.{high_first, number_of, runs_in, is_free, has_level, has_offsets, is_on_this_volume, is_alone, has_map, has_blocks, has_end, link_of, fields_of, header_read, HasRuns};
+ghost use Rattle.base_words.specs.Fields.{has_sum};
 
 use crate::flags::FileFlags;
 use crate::pointers::{ends_whole, map_words, runs};
 use crate::slot::{Hdr, HeaderFault, Slot};
+use base_words::{Block, long_at, sum_of, word_at};
 use bitflags::Flags;
 use byteorder::{ByteOrder, LittleEndian};
-use vol_words::{Block, long_at, sum_of, word_at};
 
 /// The number of four bytes at the offset `o` whose high word stands first.
 fn high_first_at(b: &Block, o: usize) -> u32
@@ -39,7 +40,7 @@ fn is_free(b: &Block) -> bool
     number_at(b) == 0
 }
 
-#[tactic(auto, unfolding(crate::specs::Headers::has_sum))]
+#[tactic(auto, unfolding(base_words::specs::Fields::has_sum))]
 fn has_sum(b: &Block) -> bool
     ensures { result ≡ has_sum b.now }
 {

@@ -1,14 +1,14 @@
 ghost use Rattle.std.specs.Prelude.{◌≡◌, ◌+◌, ◌-◌, ◌≤◌, ◌<◌, ◌^◌, drop, length, true, IsTrue};
-ghost use Rattle.vol_words.specs.Fields.{put_field};
-ghost use Rattle.vol_words.specs.Tables.{laid};
+ghost use Rattle.base_words.specs.Fields.{put_field};
+ghost use Rattle.base_words.specs.Tables.{laid};
 ghost use Rattle.fx_header.specs.declared.slot.Hdr.{Hdr};
 ghost use Rattle.fx_header.specs.declared.slot.Slot.TheVariants.{Free, Used};
 ghost use Rattle.fx_header.specs.Headers.{filled, high_first_rows, id_rows, area_rows, size_rows, owner_rows, with_name, flags_of, header_bytes, freed, marked, scattered, with_mark, with_end, has_offsets, map_area, header_read, ReadsBack};
 
 use crate::flags::FileFlags;
 use crate::slot::Hdr;
+use base_words::{Block, long_at, put_bytes, put_long, put_word, set_sum, zeros};
 use bitflags::Flags;
-use vol_words::{Block, long_at, put_bytes, put_long, put_word, set_sum, zeros};
 
 /// Writes one byte, and changes no other.
 pub(crate) fn put_byte(b: &mut Block, o: usize, n: u8)

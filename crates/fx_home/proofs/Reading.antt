@@ -1,8 +1,9 @@
 -- What a home block that is read says.
 use Rattle.std.proofs.Common.{◌≡◌, List, ℕ, true, nat_le, Ok, refl}
 use Rattle.std.proofs.lemmas.Bool.{and_parts, leb-true}
-use Rattle.vol_words.specs.Fields.{field}
-use Rattle.fx_home.specs.Homes.{IsWithinLimits, has_format, has_level, has_sum1, has_sum2, has_cluster, has_files, has_layout, home_in, home_read}
+use Rattle.base_words.specs.Fields.{field}
+use Rattle.fx_home.specs.Homes.{IsWithinLimits, has_format, has_level, has_sum1, has_cluster, has_files, has_layout, home_in, home_read}
+use Rattle.base_words.specs.Fields.{has_sum as has_sum2}
 
 -- the tests of the cluster factor and of the number of files are the limits
 pub home_in-within : (b : List ℕ) → has_cluster b ≡ true → has_files b ≡ true → IsWithinLimits (home_in b)

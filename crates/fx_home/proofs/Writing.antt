@@ -1,15 +1,17 @@
 -- What is written reads back.
 use Rattle.std.proofs.Common.{◌≡◌, ◌∙◌, ◌*◌, ◌+◌, ◌≤◌, ◌<◌, ◌^◌, List, ℕ, length, slice_range, Ok, refl, sym, ap, arith, lit<, lit≤}
 use Rattle.std.proofs.lemmas.Bool.{and_from, le-leb, eq-eqb}
-use Rattle.vol_words.specs.Fields.{field, checksum, summed}
-use Rattle.vol_words.specs.Tables.{laid, zeros}
-use Rattle.vol_words.proofs.Puts.{field-put_same, checksum-lt, checksum-summed, field-summed}
-use Rattle.vol_words.proofs.Ranges.{slice_range-put_same}
-use Rattle.vol_words.proofs.Keeping.{Keeps, put-keeps, put_field-keeps, summed-keeps, keeps-keeps}
-use Rattle.vol_words.proofs.Tables.{length-zeros, length-laid, field-laid}
+use Rattle.base_words.specs.Fields.{field, checksum, summed}
+use Rattle.base_words.specs.Tables.{laid, zeros}
+use Rattle.base_words.proofs.Puts.{field-put_same, checksum-lt, checksum-summed, field-summed}
+use Rattle.base_words.proofs.Ranges.{slice_range-put_same}
+use Rattle.base_words.proofs.Keeping.{Keeps, put-keeps, put_field-keeps, summed-keeps, keeps-keeps}
+use Rattle.base_words.proofs.Tables.{length-zeros, length-laid, field-laid}
 use Rattle.fx_home.specs.declared.home.Home.{Home}
 use Rattle.fx_home.specs.declared.scb.Scb.{Scb}
-use Rattle.fx_home.specs.Homes.{IsWithinLimits, format_name, has_format, has_level, has_sum1, has_sum2, has_cluster, has_files, has_layout, home_in, home_read, home_table, with_sum1, with_label, with_format, home_bytes, has_scb_level, has_scb_sum, scb_read, scb_table, scb_bytes}
+use Rattle.fx_home.specs.Homes.{IsWithinLimits, format_name, has_format, has_level, has_sum1, has_cluster, has_files, has_layout, home_in, home_read, home_table, with_sum1, with_label, with_format, home_bytes, has_scb_level, scb_read, scb_table, scb_bytes}
+use Rattle.base_words.specs.Fields.{has_sum as has_scb_sum}
+use Rattle.base_words.specs.Fields.{has_sum as has_sum2}
 use Rattle.fx_home.proofs.Reading.{Passes, home_read-passes}
 
 sum1-keeps : (b : List ℕ) → length b ≡ 512 → Keeps 58 b (with_sum1 b)

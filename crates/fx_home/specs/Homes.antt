@@ -2,8 +2,8 @@
 -- front of the storage bitmap.
 use Rattle.std.specs.Prelude.{◌+◌, ◌*◌, ◌/◌, ◌≤◌, ◌==◌, ◌&&◌, not, nat_le, ℕ, List, [], ◌∷◌, codes, slice_range, if◌then◌else◌, Result, Ok, Err, Bool}
 use Rattle.std.specs.Str.{bytes_eq}
-use Rattle.vol_words.specs.Fields.{Block, field, put, put_field, checksum, summed}
-use Rattle.vol_words.specs.Tables.{Table, laid, zeros}
+use Rattle.base_words.specs.Fields.{Block, field, put, put_field, checksum, summed, has_sum, has_sum as has_scb_sum}
+use Rattle.base_words.specs.Tables.{Table, laid, zeros}
 use Rattle.fx_home.specs.declared.home.Home.{Home}
 use Rattle.fx_home.specs.declared.home.HomeFault.{HomeFault}
 use Rattle.fx_home.specs.declared.home.HomeFault.TheVariants.{BadFormat, BadLevel, BadSum1, BadSum2, BadCluster, BadFiles, BadLayout}
@@ -34,10 +34,6 @@ has_level b = field b 12 2 / 256 == 2
 unfoldable pub has_sum1 : Block → Bool
 has_sum1 b = field b 58 2 == checksum b 29
 
--- the second checksum is the sum of the 255 words in front of it: CHECKSUM2, 2 bytes at 510
-unfoldable pub has_sum2 : Block → Bool
-has_sum2 b = field b 510 2 == checksum b 255
-
 -- a cluster has 1 to 16 blocks: CLUSTER, 2 bytes at 14
 unfoldable pub has_cluster : Block → Bool
 has_cluster b = nat_le 1 (field b 14 2) && nat_le (field b 14 2) 16
@@ -63,7 +59,7 @@ home_read b =
     if not (has_format b) then Err BadFormat
     else if not (has_level b) then Err BadLevel
     else if not (has_sum1 b) then Err BadSum1
-    else if not (has_sum2 b) then Err BadSum2
+    else if not (has_sum b) then Err BadSum2
     else if not (has_cluster b) then Err BadCluster
     else if not (has_files b) then Err BadFiles
     else if not (has_layout b) then Err BadLayout
@@ -98,10 +94,6 @@ home_bytes h = summed (with_format (with_label h.label (with_sum1 (laid (home_ta
 -- the structure level of a storage control block is 2: STRUCLEV, 2 bytes at 0
 unfoldable pub has_scb_level : Block → Bool
 has_scb_level b = field b 0 2 / 256 == 2
-
--- the checksum of a storage control block is the sum of the 255 words in front of it: CHECKSUM, 2 bytes at 510
-unfoldable pub has_scb_sum : Block → Bool
-has_scb_sum b = field b 510 2 == checksum b 255
 
 -- A storage control block is read, or the first of its faults. The cluster factor has 2 bytes at 2, and the blocks of the
 -- volume 4 bytes at 4.

@@ -1,11 +1,12 @@
 //! The home block.
 
 ghost use Rattle.std.specs.Prelude.{◌≡◌, ◌+◌, ◌*◌, ◌≤◌, Ok, IfOk};
-ghost use Rattle.vol_words.specs.Tables.{laid};
-ghost use Rattle.fx_home.specs.Homes.{IsWithinLimits, has_format, has_level, has_sum1, has_sum2, has_cluster, has_files, has_layout, home_in, home_read, home_table, with_sum1, with_label, with_format, home_bytes};
+ghost use Rattle.base_words.specs.Tables.{laid};
+ghost use Rattle.fx_home.specs.Homes.{IsWithinLimits, has_format, has_level, has_sum1, has_cluster, has_files, has_layout, home_in, home_read, home_table, with_sum1, with_label, with_format, home_bytes};
+ghost use Rattle.base_words.specs.Fields.{has_sum as has_sum2};
 
+use base_words::{Block, long_at, put_bytes, put_long, put_word, set_sum, sum_of, word_at, zeros};
 use thiserror::Error;
-use vol_words::{Block, long_at, put_bytes, put_long, put_word, set_sum, sum_of, word_at, zeros};
 
 // Where the fields of a home block begin, in bytes.
 
@@ -156,7 +157,7 @@ fn has_sum1(b: &Block) -> bool
     word_at(b, CHECKSUM1) == sum_of(b, 29)
 }
 
-#[tactic(auto, unfolding(crate::specs::Homes::has_sum2))]
+#[tactic(auto, unfolding(base_words::specs::Fields::has_sum))]
 fn has_sum2(b: &Block) -> bool
     ensures { result ≡ has_sum2 b.now }
 {

@@ -10,6 +10,8 @@
 //!
 //! `read_home` and `read_scb` give exactly what the block says, or its first fault. `home_block` and `scb_block` write exactly
 //! the bytes of the format, and these read back. `slot_lbn` is the place of a file's header. No call takes memory.
+//!
+//! `vol_parts` and `vol_init` use it.
 #![tactic(auto)]
 
 mod home;
@@ -17,6 +19,3 @@ mod scb;
 
 pub use home::{Home, HomeFault, home_block, read_home, slot_lbn};
 pub use scb::{Scb, ScbFault, read_scb, scb_block};
-
-#[cfg(test)]
-mod tests;

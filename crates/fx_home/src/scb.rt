@@ -1,10 +1,11 @@
 //! The storage control block.
 
 ghost use Rattle.std.specs.Prelude.{◌≡◌, Ok};
-ghost use Rattle.fx_home.specs.Homes.{has_scb_level, has_scb_sum, scb_read, scb_bytes};
+ghost use Rattle.fx_home.specs.Homes.{has_scb_level, scb_read, scb_bytes};
+ghost use Rattle.base_words.specs.Fields.{has_sum as has_scb_sum};
 
+use base_words::{Block, long_at, put_long, put_word, set_sum, sum_of, word_at, zeros};
 use thiserror::Error;
-use vol_words::{Block, long_at, put_long, put_word, set_sum, sum_of, word_at, zeros};
 
 // Where the fields of a storage control block begin, in bytes.
 
@@ -83,7 +84,7 @@ fn has_scb_level(b: &Block) -> bool
     word_at(b, STRUCLEV) / 256 == 2
 }
 
-#[tactic(auto, unfolding(crate::specs::Homes::has_scb_sum))]
+#[tactic(auto, unfolding(base_words::specs::Fields::has_sum))]
 fn has_scb_sum(b: &Block) -> bool
     ensures { result ≡ has_scb_sum b.now }
 {

@@ -5,10 +5,10 @@ use Rattle.std.proofs.lemmas.Bool.{eq-eqb, ne_eqb, cases_lt, cases_eq}
 use Rattle.std.proofs.lemmas.Bool.Decides.{nat_tests}
 use Rattle.std.proofs.lemmas.Nat.{or_lt, and_le_r}
 use Rattle.std.proofs.lemmas.Nat.Bits.{bit_at_lowest, bit_at_set_same, bit_at_clear_same}
-use Rattle.vol_words.specs.Fields.{field}
-use Rattle.vol_words.specs.Tables.{Table, laid}
-use Rattle.vol_words.proofs.Puts.{field-put_same}
-use Rattle.vol_words.proofs.Tables.{rises, end_of, field-laid, field-laid_below, field-laid_above}
+use Rattle.base_words.specs.Fields.{field}
+use Rattle.base_words.specs.Tables.{Table, laid}
+use Rattle.base_words.proofs.Puts.{field-put_same}
+use Rattle.base_words.proofs.Tables.{rises, end_of, field-laid, field-laid_below, field-laid_above}
 use Rattle.fx_quota.specs.declared.types.Row.{Row}
 use Rattle.fx_quota.specs.Rows.{flags_at, row_at, row_table, row_put, row_cleared}
 
@@ -40,7 +40,7 @@ row_at-other b i j table l r within ne =
     ])
 
 -- the fields of a row stand in order
-row_table-rises : (i flags : ℕ) (r : Row) → i < 16 → rises (32 * i) (row_table (32 * i) flags r) ≡ true
+pub row_table-rises : (i flags : ℕ) (r : Row) → i < 16 → rises (32 * i) (row_table (32 * i) flags r) ≡ true
 row_table-rises i flags r h = grind (arith, nat_tests)
 
 -- what a row can hold

@@ -1,7 +1,7 @@
 -- The quota file: each of its blocks has 16 rows of 32 bytes.
 use Rattle.std.specs.Prelude.{◌≡◌, ◌+◌, ◌*◌, ◌%◌, ◌<◌, ◌==◌, ℕ, [], ◌∷◌, bit_and, bit_or, if◌then◌else◌, Option, Some, None}
-use Rattle.vol_words.specs.Fields.{Block, field, put_field}
-use Rattle.vol_words.specs.Tables.{Table, laid}
+use Rattle.base_words.specs.Fields.{Block, field, put_field}
+use Rattle.base_words.specs.Tables.{Table, laid}
 use Rattle.fx_quota.specs.declared.types.Row.{Row}
 
 -- where row i begins

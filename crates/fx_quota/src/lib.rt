@@ -9,6 +9,8 @@
 //!
 //! `set_row` and `clear_row` change one row, and each other row reads as before (`rows`). Exactly which bytes change is said too
 //! (`block`): other flags and reserved bytes stay. No call takes memory.
+//!
+//! `vol_parts`, the writes of commands (`op_steps`) and mending use it.
 #![tactic(auto)]
 
 ghost use Rattle.std.specs.Prelude.{◌≡◌, ◌<◌, Some, None};
@@ -16,8 +18,8 @@ ghost use Rattle.fx_quota.specs.Rows.{row_at, row_put, row_cleared, IsRowPut};
 
 mod types;
 
+use base_words::{Block, long_at, put_long};
 pub use types::Row;
-use vol_words::{Block, long_at, put_long};
 
 /// The bytes of a row: its fields, of 4 bytes each, and 12 reserved ones.
 const ROW_BYTES: usize = 32;
@@ -81,6 +83,3 @@ pub fn clear_row(b: &mut Block, i: u32)
     let flags = long_at(b, start);
     put_long(b, start, flags & !ACTIVE);
 }
-
-#[cfg(test)]
-mod tests;

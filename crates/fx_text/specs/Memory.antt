@@ -1,5 +1,5 @@
 -- Sources and sinks in memory, which fail at chosen calls.
-use Rattle.std.specs.Prelude.{◌+◌, ◌-◌, ◌^◌, min, ℕ, List}
+use Rattle.std.specs.Prelude.{◌+◌, ◌-◌, ◌^◌, ℕ, List}
 
 -- the bytes that are left, the calls that fail, how many calls there were, and how many of them failed
 pub record Source : Type 0 where
@@ -15,7 +15,3 @@ pub record Sink : Type 0 where
   pub failing : List ℕ
   pub calls : ℕ
   pub faults : ℕ
-
--- one more, up to the last value of 64 bits
-abbrev pub next : ℕ → ℕ
-next n = min (n + 1) (2 ^ 64 - 1)

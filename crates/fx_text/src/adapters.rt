@@ -1,7 +1,7 @@
 //! Sources and sinks over the readers and writers of std: files, standard input, standard output.
 ghost use Rattle.std.specs.Prelude.{◌≡◌, ◌<◌, ◌≤◌, length, Some, None, IfOk, IsErr, IsNone};
 ghost use Rattle.std.specs.Io.KnownBytes.{ReadConsumes, WriteAppends};
-ghost use Rattle.vol_words.specs.Faults.{HasCause};
+ghost use Rattle.base_words.specs.Faults.{HasCause};
 ghost use Rattle.fx_text.specs.Streams.{told_by};
 
 use crate::{OutFail, TextFail, TextIn, TextOut};

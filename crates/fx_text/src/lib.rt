@@ -11,11 +11,13 @@
 //! `read_all` gives all that was left, up to the end of input; `TooLong` comes only if more than the limit was left. `write_all`
 //! has written all bytes after those that were there, or, after a fault, some first ones. A fault comes only if the count of
 //! faults of the source or the sink rose in that call, or is at its last value.
+//!
+//! The top calls (`run_engine`, `clus_top`, `live_run`, `log_check`, `dlm_run`) read and write texts by it.
 #![tactic(auto)]
 
 ghost use Rattle.std.specs.Prelude.{◌<◌, ◌≤◌, ℕ, List, Option, length, IfOk};
 ghost use Rattle.std.specs.Io.KnownBytes.{ReadConsumes, WriteAppends};
-ghost use Rattle.vol_words.specs.Faults.{HasCause};
+ghost use Rattle.base_words.specs.Faults.{HasCause};
 
 mod adapters;
 mod memory;
@@ -66,6 +68,3 @@ pub trait TextOut: Drop {
         ensures bytes { WriteAppends (written self.old) (written self.new) result piece.now }
         ensures cause { HasCause (faults self.old) (faults self.new) result };
 }
-
-#[cfg(test)]
-mod tests;

@@ -1,8 +1,8 @@
 //! Sources and sinks in memory, which fail at the calls that a list names.
 ghost use Rattle.std.specs.Prelude.{◌≡◌, ◌-◌, ◌<◌, ◌≤◌, ◌⊎◌, ◌↔◌, [], min, length, Some, IfOk, IsErr, IsTrue, Contains};
 ghost use Rattle.std.specs.Io.KnownBytes.{ReadConsumes, WriteAppends};
-ghost use Rattle.vol_words.specs.Faults.{HasCause};
-ghost use Rattle.fx_text.specs.Memory.{next};
+ghost use Rattle.base_words.specs.Faults.{HasCause};
+ghost use Rattle.base_words.specs.Faults.{next};
 
 use crate::{NoMemory, OutFail, TextFail, TextIn, TextOut};
 use std::alloc::Global;

@@ -1,7 +1,7 @@
 //! A text as a whole: read to its end, or written to its end.
 ghost use Rattle.std.specs.Prelude.{◌≡◌, ◌<◌, ◌≤◌, length, vec_len, Err, IfOk, IfSome, OnOk, OnErr};
 ghost use Rattle.std.specs.Io.KnownBytes.{Appends, IsAtEnd};
-ghost use Rattle.vol_words.specs.Faults.{HasCause, Rose};
+ghost use Rattle.base_words.specs.Faults.{HasCause, Rose};
 ghost use Rattle.fx_text.specs.Streams.{IsRest, AppendsStart};
 
 use crate::{OutFail, TextFail, TextIn, TextOut};

@@ -1,7 +1,7 @@
 -- Of all statuses of a live call exactly one is due, but for faults and want of memory: that of a run.
 use Rattle.std.proofs.Common.{◌≡◌, ℕ, true, List, Option, Some, None, refl}
 use Rattle.std.proofs.lemmas.Bool.{false≢true}
-use Rattle.vol_words.specs.Fields.{Block}
+use Rattle.base_words.specs.Fields.{Block}
 use Rattle.blk_drive.specs.Images.{IsInside}
 use Rattle.vol_parts.specs.declared.finding.Finding.{Finding}
 use Rattle.vol_parts.specs.Findings.{AreFindings, Accepts}
@@ -9,9 +9,9 @@ use Rattle.run_script.specs.Lines.{lines_of}
 use Rattle.run_script.specs.Laws.{SayOneThing}
 use Rattle.run_engine.specs.declared.status.Status.{Status}
 use Rattle.run_engine.specs.declared.status.Status.TheVariants as status
-use Rattle.run_top.specs.Statuses.{IsGood}
-use Rattle.run_top.specs.Verdicts.{is_verdict, is_mended_verdict, IsRunDue}
-use Rattle.run_top.proofs.Verdicts.{OneList, AloneInRun, alone_good, words_alone, run_verdict}
+use Rattle.run_engine.specs.Texts.{IsGood}
+use Rattle.run_engine.specs.Verdicts.{is_verdict, is_mended_verdict, IsRunDue}
+use Rattle.run_engine.proofs.Verdicts.{OneList, AloneInRun, alone_good, words_alone, run_verdict}
 use Rattle.live_run.specs.declared.words.Job.{Job}
 use Rattle.live_run.specs.declared.words.Job.TheVariants as job
 use Rattle.live_run.specs.Statuses.{IsLiveDue, IsDue}

@@ -1,16 +1,16 @@
 -- A script on an image: what is said of the blocks of its drive is said of those that the image told.
 use Rattle.std.proofs.Common.{◌≡◌, ◌≤◌, ℕ, List, Option, IfSome, inl, inr}
-use Rattle.vol_words.specs.Fields.{Block}
+use Rattle.base_words.specs.Fields.{Block}
 use Rattle.blk_drive.specs.Images.{IsInside}
 use Rattle.plain_cat.specs.declared.script.Script.{Script}
 use Rattle.vol_parts.specs.Findings.{Accepts}
 use Rattle.vol_analyze.specs.Judging.{IsFirstFound}
 use Rattle.run_engine.specs.declared.status.Status.{Status}
 use Rattle.run_engine.specs.declared.status.Status.TheVariants as status
-use Rattle.run_top.specs.declared.mending.Halt.{Halt}
-use Rattle.run_top.specs.declared.mending.Halt.TheVariants as halt
-use Rattle.run_top.specs.Statuses.{status_text}
-use Rattle.run_top.proofs.Given.{of_told, rose_later}
+use Rattle.run_engine.specs.declared.over_mending.Halt.{Halt}
+use Rattle.run_engine.specs.declared.over_mending.Halt.TheVariants as halt
+use Rattle.run_engine.specs.Texts.{status_text}
+use Rattle.run_engine.proofs.Given.{of_told, rose_later}
 use Rattle.live_run.specs.declared.words.Job.{Job}
 use Rattle.live_run.specs.declared.words.Job.TheVariants as job
 use Rattle.live_run.specs.Lives.{IsEnd, IsCut, IsLacking, IsUnmended}

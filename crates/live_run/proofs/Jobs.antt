@@ -1,14 +1,14 @@
 -- A script that is read, on an image: what is printed of it, and what the image has.
 use Rattle.std.proofs.Common.{◌≡◌, ℕ, List, Option, Some, None, IfSome, inl, inr}
-use Rattle.vol_words.specs.Fields.{Block}
+use Rattle.base_words.specs.Fields.{Block}
 use Rattle.plain_cat.specs.declared.script.Script.{Script}
 use Rattle.run_engine.specs.declared.status.Status.{Status}
 use Rattle.run_engine.specs.declared.status.Status.TheVariants as status
-use Rattle.run_top.specs.declared.mending.Halt.{Halt}
-use Rattle.run_top.specs.declared.mending.Halt.TheVariants as halt
-use Rattle.run_top.specs.Scripts.{SpellsWithin, IsScriptEnd}
-use Rattle.run_top.specs.Statuses.{status_text}
-use Rattle.run_top.proofs.Given.{spells, good}
+use Rattle.run_engine.specs.declared.over_mending.Halt.{Halt}
+use Rattle.run_engine.specs.declared.over_mending.Halt.TheVariants as halt
+use Rattle.run_engine.specs.Scripts.{SpellsWithin, IsScriptEnd}
+use Rattle.run_engine.specs.Texts.{status_text}
+use Rattle.run_engine.proofs.Given.{spells, good}
 use Rattle.live_run.specs.declared.words.Job.{Job}
 use Rattle.live_run.specs.Lives.{IsEnd, IsCut, IsLacking, IsUnmended}
 use Rattle.live_run.specs.Statuses.{OnGiven, IsImageEnd, IsImageHalt, IsReportOn, IsRunEnd, IsRunHalt}

@@ -1,18 +1,19 @@
 -- What is kept of a mounted world says what the end of its threads is.
 use Rattle.std.proofs.Common.{◌≡◌, ◌∙◌, ◌⊎◌, ℕ, List, Option, Some, None, is_some, Result, Ok, Err, refl, sym, ap, subst, inl, inr}
 use Rattle.std.specs.Prelude.{OnOk, IfSome}
-use Rattle.vol_words.specs.Fields.{Block}
+use Rattle.base_words.specs.Fields.{Block}
 use Rattle.fx_home.specs.Homes.{home_read}
 use Rattle.plain_cat.specs.declared.cat.Cat.{Cat}
 use Rattle.plain_cat.specs.declared.script.Script.{Script}
 use Rattle.plain_cat.specs.declared.history.Entry.TheVariants as entry
-use Rattle.plain_vol.specs.Own.{Whole, Own}
-use Rattle.plain_vol.specs.Replaying.{Replays}
-use Rattle.node_past.proofs.Growing.{replays_grow}
+use Rattle.plain_rules.specs.Own.{Whole, Own}
+use Rattle.plain_rules.specs.Replaying.{Replays}
+use Rattle.plain_past.proofs.Growing.{replays_grow}
 use Rattle.vol_parts.specs.declared.geometry.Geometry.{Geometry}
 use Rattle.vol_parts.specs.Findings.{home_at, Accepts, CatOf}
 use Rattle.vol_faults.specs.Free.{IsGeometryBy}
-use Rattle.core_state.specs.Images.{IsTold, told_as}
+use Rattle.blk_drive.specs.Telling.{IsTold}
+use Rattle.blk_drive.specs.Telling.{told_as}
 use Rattle.core_state.specs.Worlds.{Plain}
 use Rattle.core_state.specs.Goods.{Good, HasOnly, IsAccepted}
 use Rattle.core_state.specs.Uses.{UsesTheDrives}
@@ -24,26 +25,28 @@ use Rattle.core_step.specs.declared.turns.TurnFault.{TurnFault}
 use Rattle.run_engine.specs.declared.fault.RunFault.{RunFault}
 use Rattle.run_engine.specs.declared.fault.RunFault.TheVariants as run
 use Rattle.run_engine.specs.declared.status.Status.TheVariants as status
-use Rattle.run_engine.specs.Walks.{AllOver}
+use Rattle.core_state.specs.Ends.{AllOver}
 use Rattle.run_engine.specs.Ended.{HasEnded}
 use Rattle.run_engine.proofs.Ending.{over_is_spelt}
 use Rattle.node_seat.specs.Keeping.{IsKept, IsOrderly, IsAtFailedWrite, start_of, telling}
 use Rattle.node_seat.proofs.Acting.{is_told}
 use Rattle.xqp_set.proofs.Every.{every_lawful}
 use Rattle.core_state.proofs.Uses.{uses_right}
-use Rattle.stopped_runs.specs.Stops.{IsTornWorld}
-use Rattle.stopped_runs.proofs.Stopping.{goes_lawfully, world_can_stop, torn_worlds_can_stop}
-use Rattle.run_top.proofs.Commands.{only_built}
-use Rattle.run_top.specs.declared.stop.Stop.{Stop}
-use Rattle.run_top.specs.declared.stop.Stop.TheVariants as stop
-use Rattle.run_top.specs.declared.mending.Halt.{Halt}
-use Rattle.run_top.specs.declared.mending.Halt.TheVariants as halt
-use Rattle.run_top.specs.Stops.{report_text, mount_status, IsStopOf}
-use Rattle.run_top.specs.Halts.{halt_of, IsPartlyBy, IsMendedBy, IsHaltBy}
-use Rattle.run_top.specs.Statuses.{cut_text, status_text}
-use Rattle.run_top.proofs.Given.{rose_later}
-use Rattle.run_top.proofs.MendedDrives.{retold}
-use Rattle.run_top.proofs.MountedVolumes.{mounted_geometry}
+use Rattle.run_engine.specs.Torn.{IsTornWorld}
+use Rattle.run_engine.proofs.StopsStopping.{goes_lawfully, world_can_stop, torn_worlds_can_stop}
+use Rattle.xqp_set.specs.Built.{IsBuilt}
+use Rattle.xqp_set.proofs.Forms.{filled_built, close_built}
+use Rattle.run_engine.proofs.Commands.{only_such}
+use Rattle.run_engine.specs.declared.stop.Stop.{Stop}
+use Rattle.run_engine.specs.declared.stop.Stop.TheVariants as stop
+use Rattle.run_engine.specs.declared.over_mending.Halt.{Halt}
+use Rattle.run_engine.specs.declared.over_mending.Halt.TheVariants as halt
+use Rattle.run_engine.specs.Stops.{report_text, mount_status, IsStopOf}
+use Rattle.run_engine.specs.Halts.{halt_of, IsPartlyBy, IsMendedBy, IsHaltBy}
+use Rattle.run_engine.specs.Texts.{cut_text, status_text}
+use Rattle.run_engine.proofs.Given.{rose_later}
+use Rattle.run_engine.proofs.MendedDrives.{retold}
+use Rattle.run_engine.proofs.MountedVolumes.{mounted_geometry}
 use Rattle.live_run.specs.declared.words.Job.{Job}
 use Rattle.live_run.specs.declared.words.Job.TheVariants as job
 use Rattle.live_run.specs.Rests.{run_mark, fault_mark}
@@ -57,7 +60,7 @@ tells_on (Some x) bs = refl
 -- ---- what holds of such a world besides
 
 lawful : (w : Plain) → Good w → HasOnly Lawful w.script
-lawful w good n h x e = every_lawful x (only_built w.script good.form n h x e)
+lawful w good n h x e = every_lawful x (only_such IsBuilt filled_built close_built w.script good.form n h x e)
 
 opened : (bs : List Block) (c : Cat) → Accepts bs → CatOf bs c → IsAccepted c
 opened bs c accepted told = (bs, accepted, told)

@@ -2,10 +2,11 @@
 use Rattle.std.proofs.Common.{◌≡◌, ◌≤◌, ◌⊎◌, ℕ, zero, suc, true, false, List, Option, Some, None, Result, Ok, Err, refl, sym, subst, ◌∙◌, inl, inr, arith}
 use Rattle.std.specs.Prelude.{OnOk, OnErr}
 use Rattle.std.proofs.lemmas.Option.{slice_get_within}
-use Rattle.vol_words.specs.Fields.{Block}
-use Rattle.vol_words.specs.Faults.{Rose}
+use Rattle.base_words.specs.Fields.{Block}
+use Rattle.base_words.specs.Faults.{Rose}
 use Rattle.plain_cat.specs.declared.script.Script.{Script}
-use Rattle.core_state.specs.Images.{IsTold, told_as}
+use Rattle.blk_drive.specs.Telling.{IsTold}
+use Rattle.blk_drive.specs.Telling.{told_as}
 use Rattle.core_state.specs.Worlds.{NodeState, Plain, IsOfWorld, node_at}
 use Rattle.core_state.specs.Events.{is_write, event_of, next_event, readied_at}
 use Rattle.core_state.specs.Deaths.{after_step}
@@ -13,12 +14,13 @@ use Rattle.core_step.specs.declared.turns.TurnFault.{TurnFault}
 use Rattle.core_step.specs.declared.turns.TurnFault.TheVariants as turn
 use Rattle.run_engine.specs.declared.fault.RunFault.{RunFault}
 use Rattle.run_engine.specs.declared.fault.RunFault.TheVariants as run
-use Rattle.run_engine.specs.Walks.{played, budget_of, IsPartOfWalk, IsRotatedIn, AllOver, IsNextIn, IsBeforeWrite, Stays}
+use Rattle.run_engine.specs.Walks.{played, budget_of, IsPartOfWalk, IsRotatedIn, IsNextIn, IsBeforeWrite, Stays}
+use Rattle.core_state.specs.Ends.{AllOver}
 use Rattle.node_seat.specs.declared.views.Start.{Start}
 use Rattle.node_seat.specs.Keeping.{IsKept, IsOrderly}
 use Rattle.node_seat.proofs.Following.{step_follows}
 use Rattle.node_seat.proofs.Acting.{told_on, is_told, grown}
-use Rattle.run_top.proofs.Walked.{over_part}
+use Rattle.run_engine.proofs.Walked.{over_part}
 use Rattle.live_run.specs.Rests.{run_mark, fault_mark}
 
 -- a fault of the threads is the fault of the run

@@ -1,14 +1,15 @@
 -- What the status, the text and the image of a live call say where it came to no report.
 use Rattle.std.proofs.Common.{◌≡◌, ◌∙◌, ◌⊎◌, ℕ, List, Option, Some, None, refl, sym, subst, inl, inr}
-use Rattle.vol_words.specs.Fields.{Block}
-use Rattle.vol_words.specs.Faults.{Rose}
+use Rattle.base_words.specs.Fields.{Block}
+use Rattle.base_words.specs.Faults.{Rose}
 use Rattle.plain_cat.specs.declared.script.Script.{Script}
 use Rattle.run_engine.specs.declared.status.Status.{Status}
 use Rattle.run_engine.specs.declared.status.Status.TheVariants as status
-use Rattle.run_top.specs.declared.mending.Halt.{Halt}
-use Rattle.run_top.specs.declared.mending.Halt.TheVariants as halt
-use Rattle.run_top.specs.Statuses.{status_text, IsWritten, Writes}
-use Rattle.run_top.specs.Halts.{IsToldHalt}
+use Rattle.run_engine.specs.declared.over_mending.Halt.{Halt}
+use Rattle.run_engine.specs.declared.over_mending.Halt.TheVariants as halt
+use Rattle.run_engine.specs.Texts.{status_text, Writes}
+use Rattle.fx_text.specs.Written.{IsWritten}
+use Rattle.run_engine.specs.Halts.{IsToldHalt}
 use Rattle.live_run.specs.declared.words.Job.{Job}
 use Rattle.live_run.specs.declared.words.Job.TheVariants as job
 use Rattle.live_run.specs.Lives.{IsEnd, IsCut, IsUnmended}

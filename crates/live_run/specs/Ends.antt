@@ -1,7 +1,7 @@
 -- How the steps of a live call end.
 use Rattle.std.specs.Prelude.{◌≡◌, ◌⊎◌, ℕ, List, Option, Result, Ok, Err}
-use Rattle.vol_words.specs.Fields.{Block}
-use Rattle.vol_words.specs.Faults.{Rose}
+use Rattle.base_words.specs.Fields.{Block}
+use Rattle.base_words.specs.Faults.{Rose}
 use Rattle.plain_cat.specs.declared.cat.Cat.{Cat}
 use Rattle.plain_cat.specs.declared.script.Script.{Script}
 use Rattle.vol_parts.specs.Findings.{Accepts}
@@ -11,12 +11,12 @@ use Rattle.run_engine.specs.Ended.{HasEnded}
 use Rattle.run_engine.specs.declared.fault.RunFault.{RunFault}
 use Rattle.run_engine.specs.declared.status.Status.{Status}
 use Rattle.run_engine.specs.declared.status.Status.TheVariants as status
-use Rattle.run_top.specs.declared.stop.Stop.{Stop}
-use Rattle.run_top.specs.declared.mending.Halt.{Halt}
-use Rattle.run_top.specs.declared.mending.Halt.TheVariants as halt
-use Rattle.run_top.specs.Stops.{report_text, IsStopOf}
-use Rattle.run_top.specs.Halts.{halt_of, IsMendedBy, IsHaltBy}
-use Rattle.run_top.specs.Statuses.{status_text}
+use Rattle.run_engine.specs.declared.stop.Stop.{Stop}
+use Rattle.run_engine.specs.declared.over_mending.Halt.{Halt}
+use Rattle.run_engine.specs.declared.over_mending.Halt.TheVariants as halt
+use Rattle.run_engine.specs.Stops.{report_text, IsStopOf}
+use Rattle.run_engine.specs.Halts.{halt_of, IsMendedBy, IsHaltBy}
+use Rattle.run_engine.specs.Texts.{status_text}
 use Rattle.live_run.specs.declared.words.Job.{Job}
 use Rattle.live_run.specs.declared.words.Job.TheVariants as job
 use Rattle.live_run.specs.Lives.{IsCut, IsLacking, IsUnmended}

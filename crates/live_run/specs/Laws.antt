@@ -1,13 +1,13 @@
 -- Of all statuses of a live call exactly one is due, and a good script on an accepted volume is answered.
 use Rattle.std.specs.Prelude.{◌≡◌, ℕ, Bool, true, List, Option, Some}
-use Rattle.vol_words.specs.Fields.{Block}
+use Rattle.base_words.specs.Fields.{Block}
 use Rattle.blk_drive.specs.Images.{IsInside}
 use Rattle.vol_parts.specs.declared.finding.Finding.{Finding}
 use Rattle.vol_parts.specs.Findings.{AreFindings, Accepts}
 use Rattle.run_engine.specs.declared.status.Status.{Status}
 use Rattle.run_engine.specs.declared.status.Status.TheVariants as status
-use Rattle.run_top.specs.Statuses.{IsGood}
-use Rattle.run_top.specs.Verdicts.{is_verdict, is_mended_verdict}
+use Rattle.run_engine.specs.Texts.{IsGood}
+use Rattle.run_engine.specs.Verdicts.{is_verdict, is_mended_verdict}
 use Rattle.live_run.specs.declared.words.Job.{Job}
 use Rattle.live_run.specs.declared.words.Job.TheVariants as job
 use Rattle.live_run.specs.Statuses.{IsDue}

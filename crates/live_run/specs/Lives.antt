@@ -1,26 +1,26 @@
 -- What the threads of a script leave on a volume, and a mending behind them.
 use Rattle.std.specs.Prelude.{◌≡◌, ◌⊎◌, ℕ, List, Option, IfSome, is_some}
-use Rattle.vol_words.specs.Fields.{Block}
+use Rattle.base_words.specs.Fields.{Block}
 use Rattle.fx_home.specs.Homes.{home_read}
 use Rattle.plain_cat.specs.declared.cat.Cat.{Cat}
 use Rattle.plain_cat.specs.declared.script.Script.{Script}
-use Rattle.plain_vol.specs.Own.{Whole, Own}
-use Rattle.plain_vol.specs.Replaying.{Replays}
+use Rattle.plain_rules.specs.Own.{Whole, Own}
+use Rattle.plain_rules.specs.Replaying.{Replays}
 use Rattle.vol_parts.specs.declared.finding.Finding.{Finding}
 use Rattle.vol_parts.specs.Findings.{home_at, Accepts, CatOf}
 use Rattle.vol_faults.specs.Free.{IsGeometryBy}
 use Rattle.core_state.specs.Worlds.{Plain}
 use Rattle.core_state.specs.Goods.{Good}
-use Rattle.core_state.specs.Images.{told_as}
+use Rattle.blk_drive.specs.Telling.{told_as}
 use Rattle.core_state.specs.Uses.{UsesTheDrives}
-use Rattle.run_engine.specs.Walks.{AllOver}
+use Rattle.core_state.specs.Ends.{AllOver}
 use Rattle.run_engine.specs.Ended.{IsSpelt}
 use Rattle.run_engine.specs.declared.status.Status.TheVariants as status
 use Rattle.node_seat.specs.Keeping.{IsOrderly, IsAtFailedWrite}
-use Rattle.stopped_runs.specs.Stops.{CanStop, IsTornWorld}
-use Rattle.run_top.specs.Stops.{report_text}
-use Rattle.run_top.specs.Halts.{with_mending, IsPartlyBy, IsMendedBy, IsUnmendedBy}
-use Rattle.run_top.specs.Statuses.{cut_text, status_text}
+use Rattle.run_engine.specs.Torn.{CanStop, IsTornWorld}
+use Rattle.run_engine.specs.Stops.{report_text}
+use Rattle.run_engine.specs.Halts.{with_mending, IsPartlyBy, IsMendedBy, IsUnmendedBy}
+use Rattle.run_engine.specs.Texts.{cut_text, status_text}
 use Rattle.live_run.specs.declared.words.Job.{Job}
 use Rattle.live_run.specs.declared.words.Job.TheVariants as job
 

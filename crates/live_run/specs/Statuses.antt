@@ -1,18 +1,18 @@
 -- What the status of a live call says of what came in, what was written, and what the image has.
 use Rattle.std.specs.Prelude.{◌≡◌, ◌⊎◌, ℕ, List, Option, Some, None, IfSome}
-use Rattle.vol_words.specs.Fields.{Block}
-use Rattle.vol_words.specs.Faults.{Rose}
+use Rattle.base_words.specs.Fields.{Block}
+use Rattle.base_words.specs.Faults.{Rose}
 use Rattle.blk_drive.specs.Images.{IsInside, IsOutside}
 use Rattle.plain_cat.specs.declared.script.Script.{Script}
 use Rattle.vol_parts.specs.declared.finding.Finding.{Finding}
 use Rattle.vol_analyze.specs.Judging.{IsFirstFound}
 use Rattle.run_engine.specs.declared.status.Status.{Status}
 use Rattle.run_engine.specs.declared.status.Status.TheVariants as status
-use Rattle.run_top.specs.Scripts.{IsScriptOf}
-use Rattle.run_top.specs.Statuses.{IsTooLong, IsBad, IsOverfull, IsGood, IsAccepted, IsWordsDue, IsPlainText, status_text}
-use Rattle.run_top.specs.Verdicts.{IsRunDue}
-use Rattle.run_top.specs.declared.mending.Halt.{Halt}
-use Rattle.run_top.specs.declared.mending.Halt.TheVariants as halt
+use Rattle.run_engine.specs.Scripts.{IsScriptOf}
+use Rattle.run_engine.specs.Texts.{IsTooLong, IsBad, IsOverfull, IsGood, IsAccepted, IsWordsDue, IsPlainText, status_text}
+use Rattle.run_engine.specs.Verdicts.{IsRunDue}
+use Rattle.run_engine.specs.declared.over_mending.Halt.{Halt}
+use Rattle.run_engine.specs.declared.over_mending.Halt.TheVariants as halt
 use Rattle.live_run.specs.declared.words.Job.{Job}
 use Rattle.live_run.specs.Lives.{IsEnd, IsCut, IsLacking, IsUnmended}
 

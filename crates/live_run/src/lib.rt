@@ -9,6 +9,8 @@
 //! Of what a script, the words and a volume say, and of what is written, it promises what `vmsclus` does (`due`, `written`, `after`), if it
 //! returns: with status 0 the report is that of a history that replays from the catalogue of the volume, whole. A good script on an accepted
 //! volume is answered (`good_live_runs_are_answered`). That several threads ran, and that they made the events, tests show.
+//!
+//! The program `vmsclus_live` calls it.
 #![tactic(auto)]
 
 mod gate;
@@ -24,7 +26,5 @@ pub use run_engine::{Finished, Status};
 pub use theorems::{good_live_runs_are_answered, one_live_status_is_due};
 pub use top::vmsclus_live;
 
-#[cfg(test)]
-mod tests;
 #[cfg(test)]
 mod yard_tests;

@@ -3,12 +3,12 @@
 ghost use Rattle.std.specs.Prelude.{◌≡◌, IfOk, IfErr, IfSome, OnOk};
 ghost use Rattle.plain_cat.specs.declared.cat.Cat.{Cat};
 ghost use Rattle.plain_cat.specs.InForm.{InForm};
-ghost use Rattle.core_state.specs.Images.{IsTold};
+ghost use Rattle.blk_drive.specs.Telling.{IsTold};
 ghost use Rattle.core_state.specs.Mounting.{IsMounted, IsMountEnd};
-ghost use Rattle.run_engine.specs.Walks.{AllOver};
+ghost use Rattle.core_state.specs.Ends.{AllOver};
 ghost use Rattle.run_engine.specs.Ended.{HasEnded};
-ghost use Rattle.run_top.specs.Statuses.{IsGood, IsAccepted};
-ghost use Rattle.run_top.specs.Stops.{report_text};
+ghost use Rattle.run_engine.specs.Texts.{IsGood, IsAccepted};
+ghost use Rattle.run_engine.specs.Stops.{report_text};
 ghost use Rattle.live_run.specs.Lives.{IsEnd};
 ghost use Rattle.live_run.specs.Ends.{IsHalt, IsHaltAfter, IsHaltOver, IsToldEnd, IsToldOver};
 ghost use Rattle.live_run.specs.Statuses.{IsImageHalt, IsReportOn, IsRunHalt};
@@ -22,9 +22,9 @@ use core_state::{MountRefused, World};
 use fx_text::TextIn;
 use op_law::Operation;
 use plain_cat::Script;
-use run_engine::{RunFault, Status};
-use run_top::{
-    Halt, MendedRun, halt_of, load_status, mend_over, mount_status, report_of, script_of, stop_of,
+use run_engine::{
+    Halt, MendedRun, RunFault, Status, halt_of, load_status, mend_over, mount_status, report_of,
+    script_of, stop_of,
 };
 use std::alloc::Global;
 use std::sync::Wait;

@@ -1,8 +1,8 @@
 //! What the threads have left.
 
 ghost use Rattle.std.specs.Prelude.{◌≡◌, OnOk};
-ghost use Rattle.plain_vol.specs.Own.{Whole};
-ghost use Rattle.run_engine.specs.Walks.{AllOver};
+ghost use Rattle.plain_rules.specs.Own.{Whole};
+ghost use Rattle.core_state.specs.Ends.{AllOver};
 ghost use Rattle.node_seat.specs.declared.views.Start.{Start};
 ghost use Rattle.node_seat.specs.Keeping.{IsKept};
 ghost use Rattle.live_run.specs.Rests.{run_mark};

@@ -1,7 +1,7 @@
 //! One thread for each node, with its seat.
 
 ghost use Rattle.std.specs.Prelude.{◌≡◌, IfOk, IfErr, All};
-ghost use Rattle.core_state.specs.Images.{IsTold};
+ghost use Rattle.blk_drive.specs.Telling.{IsTold};
 ghost use Rattle.node_seat.specs.Keeping.{IsOrderly, start_of};
 ghost use Rattle.node_seat.specs.Yards.{IsKeptBy};
 

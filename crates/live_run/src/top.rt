@@ -1,6 +1,6 @@
 ghost use Rattle.std.specs.Prelude.{◌≡◌};
-ghost use Rattle.vol_words.specs.Faults.{Rose};
-ghost use Rattle.run_top.specs.Statuses.{Writes};
+ghost use Rattle.base_words.specs.Faults.{Rose};
+ghost use Rattle.run_engine.specs.Texts.{Writes};
 ghost use Rattle.live_run.specs.Words.{job_of};
 ghost use Rattle.live_run.specs.Statuses.{IsDue, IsLiveDue, IsTextOf, IsReportOn, IsFaultTextOf, IsLiveFaultText, IsImageAfter, IsLiveImage};
 
@@ -9,8 +9,7 @@ use crate::live::live_script;
 use crate::words::{Job, job_of};
 use blk_drive::ImageDev;
 use fx_text::{TextIn, TextOut, Word};
-use run_engine::{Finished, Status};
-use run_top::{MendedRun, tell, tell_halt, tell_text};
+use run_engine::{Finished, MendedRun, Status, tell, tell_halt, tell_text};
 use std::alloc::Global;
 use std::sync::Wait;
 use std::thread::Threads;

@@ -1,13 +1,12 @@
 //! A yard without threads: its seats stepped in turn, and a seat that is never stepped.
 
 ghost use Rattle.std.specs.Prelude.{IfOk, Some};
-ghost use Rattle.core_state.specs.Images.{IsTold};
+ghost use Rattle.blk_drive.specs.Telling.{IsTold};
 ghost use Rattle.core_state.specs.Mounting.{IsMounted};
 
 use super::*;
 use crate::live::mounted;
 use crate::rest::finish;
-use crate::tests::fresh;
 use crate::threads::{Task, tasks_of};
 use blk_drive::{MemImage, Mirror};
 use core_state::World;
@@ -15,12 +14,25 @@ use core_step::Turn;
 use fx_text::MemIn;
 use node_seat::{Acts, close_yard, open_yard};
 use plain_cat::NoMemory;
-use run_top::{report_of, script_of};
+use run_engine::{report_of, script_of};
 use std::alloc::{AllocError, Global};
 use std::process::Abort;
 use std::sync::Wait;
 use std::test::Fail;
+use vol_init::init;
 use xqp_set::XqpOp;
+
+// A fresh volume of 1,024 blocks with clusters of 4 and 64 file numbers.
+fn fresh(alloc: Global) -> Result<MemImage, NoMemory> {
+    let zeros = MemImage::new(vec![in alloc; [0; 512]; 1024]?, Vec::new(alloc));
+    let Ok(mut mirror) = Mirror::load(alloc, zeros) else {
+        return Err(AllocError);
+    };
+    if init(alloc, &mut mirror, 4, 64, b"KVOL").is_err() {
+        return Err(AllocError);
+    }
+    Ok(mirror.into_image())
+}
 
 // The world of a script on a fresh volume as it is mounted.
 fn world_of(alloc: Global, script: &str) -> Result<World<MemImage, XqpOp>, NoMemory>

@@ -49,7 +49,7 @@ placed-insert name t i r g n u =
     let s = IsGap-stands name t i g in
     sym (s.new r n ∙ ap (λ ks. take i t ++ (ks ++ drop i t)) (kept-used r u))
 
-not-zero : (n : ℕ) → not (suc n == 0) ≡ true
+pub not-zero : (n : ℕ) → not (suc n == 0) ≡ true
 not-zero n = grind arith
 
 used-push : (xs : List Asker) (a : Asker) → not (length (xs ++ a ∷ []) == 0) ≡ true

@@ -129,7 +129,7 @@ no_conversions (suc k) xs e =
       | Some ys ↦ λ h. let g = one_grant-some xs ys h in no_conversions k ys (rw g.after (converting-granted g.head.owner (wanted g.head.standing) xs e))
     ]) refl
 
-some-same : (a b : Asker) → Some a ≡ Some b → a ≡ b
+pub some-same : (a b : Asker) → Some a ≡ Some b → a ≡ b
 some-same a b e = cc
 
 converting-not_waiting : (a : Asker) → is_converting a ≡ true → not (is_waiting a) ≡ true

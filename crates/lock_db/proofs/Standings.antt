@@ -20,7 +20,7 @@ use Rattle.lock_db.proofs.Order.{vacated}
 use Rattle.lock_db.proofs.Places.{written-askers}
 use Rattle.lock_db.proofs.Steps.{IsSettled-at, standing_of-none, HasLock-lock_of, converts-goes, lock-is}
 use Rattle.lock_db.proofs.Blocks.{asked-at, converted-at, released-at, dropped-at}
-use Rattle.lock_db.proofs.Rules.{own-find}
+use Rattle.lock_db.proofs.Rules.{own-find, some-same}
 
 -- the asker of an owner
 abbrev owned : Owner → Asker → Bool
@@ -44,9 +44,6 @@ head-find xs h e f =
 -- what grants make of an asker that is found: nothing, or a lock in the mode that it waits for
 abbrev Served : Owner → List Asker → Asker → Type 0
 Served owner ys a = (find (owned owner) ys ≡ Some a) ⊎ ((is_queued a.standing ≡ true) × (find (owned owner) ys ≡ Some (record a { standing = Granted (wanted a.standing) })))
-
-some-same : (a b : Asker) → Some a ≡ Some b → a ≡ b
-some-same a b e = cc
 
 same-head : (owner : Owner) (xs : List Asker) (a h : Asker) → find (owned owner) xs ≡ Some a → find (owned h.owner) xs ≡ Some h → same_owner a.owner h.owner ≡ true → a ≡ h
 same-head owner xs a h f g e =

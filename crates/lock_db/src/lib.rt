@@ -12,6 +12,8 @@
 //! At any time granted locks of one name are compatible, an owner has at most one lock or request there, and nothing waits that
 //! could be granted (`keeps_the_rules`). Laws say it of every such table: `laws::granted_locks_go_together`,
 //! `laws::a_head_is_held_up`, and `laws::conversions_go_first`.
+//!
+//! `node_locks` and the core use it, and `dlm_core` takes its rules.
 #![tactic(auto)]
 
 mod askers;
@@ -27,6 +29,3 @@ pub use db::LockDb;
 pub use name::{LockName, Owner};
 pub use plain_cat::{Mode, NoMemory, compatible};
 pub use resource::{Asked, Resource, Tried};
-
-#[cfg(test)]
-mod tests;

@@ -2,8 +2,8 @@
 use Rattle.std.proofs.Common.{◌≡◌, ◌≤◌, ◌⊎◌, ℕ, List, [], Option, Some, None, Result, Ok, Err, length, refl, sym, subst, inl, inr}
 use Rattle.std.specs.Prelude.{IfSome, IfErr}
 use Rattle.std.specs.Io.KnownBytes.{Appends}
-use Rattle.vol_words.specs.Fields.{Block}
-use Rattle.vol_words.specs.Faults.{Rose}
+use Rattle.base_words.specs.Fields.{Block}
+use Rattle.base_words.specs.Faults.{Rose}
 use Rattle.blk_drive.specs.Images.{IsInside, IsOutside}
 use Rattle.blk_drive.specs.Loads.{HasLoadCause}
 use Rattle.blk_drive.specs.declared.mirror.LoadFault.{LoadFault}
@@ -14,7 +14,8 @@ use Rattle.vol_parts.specs.Findings.{Accepts, CatOf}
 use Rattle.log_check.specs.declared.status.CheckStatus.{CheckStatus}
 use Rattle.log_check.specs.declared.status.CheckStatus.TheVariants as status
 use Rattle.log_check.specs.Checks.{IsEndFrom, IsEndOn, IsLegalOn, IsNotAccepted, IsNotMendable, IsNotLegal, load_status}
-use Rattle.log_check.specs.Statuses.{Given, given, IsRead, AreLoaded, IsTextEnd, IsCheckDue, IsEnd, IsWritten, Writes, status_text}
+use Rattle.log_check.specs.Statuses.{Given, given, IsRead, AreLoaded, IsTextEnd, IsCheckDue, IsEnd, Writes, status_text}
+use Rattle.fx_text.specs.Written.{IsWritten}
 
 -- ---- from catalogues to volumes
 

@@ -1,5 +1,14 @@
-pub mod Accepting
+pub mod Drafted
 pub mod Ends
+pub mod Entries
+pub mod Going
+pub mod OneLine
 pub mod OneStatus
+pub mod OneVerdict
+pub mod Plain
+pub mod Replies
 pub mod SameCats
 pub mod SomeStatus
+pub mod SomeVerdict
+pub mod Speaking
+pub mod Told

@@ -1,33 +1,30 @@
 -- Of all statuses one is due, but for faults and want of memory.
 use Rattle.std.proofs.Common.{◌≡◌, ◌∙◌, ◌≤◌, ◌<◌, ◌^◌, ℕ, true, List, [], ◌∷◌, Some, Result, Ok, Err, length, refl, sym, ap, subst, arith, inl, inr}
 use Rattle.std.proofs.lemmas.Bool.{false≢true}
-use Rattle.vol_words.specs.Fields.{Block, AreWholeBlocks}
+use Rattle.base_words.specs.Fields.{Block, AreWholeBlocks}
 use Rattle.fx_home.specs.declared.home.Home.{Home}
 use Rattle.fx_home.specs.declared.home.HomeFault.{HomeFault}
 use Rattle.fx_home.specs.Homes.{home_read}
-use Rattle.blk_drive.specs.Images.{IsInside, IsOutside}
+use Rattle.blk_drive.specs.Images.{IsInside}
 use Rattle.plain_cat.specs.declared.cat.Cat.{Cat}
-use Rattle.plain_vol.specs.Accounts.{Accounted}
+use Rattle.plain_rules.specs.Accounts.{Accounted}
 use Rattle.vol_parts.specs.declared.finding.Finding.{Finding}
 use Rattle.vol_parts.specs.Findings.{home_at, IsFirstFatal, AreFindings, Accepts, IsCatalogueBy, CatOf}
 use Rattle.vol_analyze.specs.Judging.{IsFirstFound}
-use Rattle.log_lines.specs.declared.judging.Verdict.TheVariants as verdict
-use Rattle.log_lines.specs.Histories.{IsUnchecked, IsIllegal}
-use Rattle.log_lines.specs.Verdicts.{OneVerdict}
+use Rattle.log_check.specs.declared.judging.Verdict.TheVariants as verdict
+use Rattle.log_check.specs.Histories.{IsUnchecked, IsIllegal}
+use Rattle.log_check.specs.Sayings.{OneVerdict}
 use Rattle.log_check.specs.declared.status.CheckStatus.{CheckStatus}
 use Rattle.log_check.specs.declared.status.CheckStatus.TheVariants as status
 use Rattle.log_check.specs.Checks.{shut, IsLegalBetween, LeadsElsewhere, LeadsTo, LeadsFrom}
 use Rattle.log_check.specs.Statuses.{Given, given, IsWrongSize, IsCheckDue}
 use Rattle.log_check.specs.Verdicts.{is_verdict, OneStatus}
-use Rattle.log_check.proofs.Accepting.{accepted_accounts}
+use Rattle.vol_analyze.proofs.Accepting.{accepted_accounts}
+use Rattle.blk_drive.proofs.Sizes.{outside}
 
 -- these blocks have one list of findings
 abbrev OneList : Type 0
 OneList = (bs : List Block) (fs gs : List Finding) → AreFindings bs fs → AreFindings bs gs → fs ≡ gs
-
-outside : (size : ℕ) → IsInside size → IsOutside size → ⊥
-outside size h (inl low) = omega (arith, h.low)
-outside size h (inr high) = omega (arith, h.high)
 
 cat_by : (bs : List Block) (r : Result Home HomeFault) (c d : Cat) → IsCatalogueBy bs r c → IsCatalogueBy bs r d → c ≡ d
 cat_by bs (Err fault) c d h k = absurd h

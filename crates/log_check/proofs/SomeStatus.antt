@@ -1,40 +1,29 @@
 -- Some status is due, whatever comes in.
-use Rattle.std.proofs.Common.{◌≡◌, ◌≤◌, ◌⊎◌, ℕ, true, List, [], ◌∷◌, Some, Result, Ok, Err, length, refl, sym, subst, arith, inl, inr}
+use Rattle.std.proofs.Common.{◌≡◌, ◌≤◌, ℕ, true, List, [], ◌∷◌, Some, Result, Ok, Err, length, refl, sym, subst, arith, inl, inr}
 use Rattle.std.proofs.lemmas.Bool.{cases_lt}
-use Rattle.vol_words.specs.Fields.{Block, AreWholeBlocks}
+use Rattle.base_words.specs.Fields.{Block, AreWholeBlocks}
 use Rattle.fx_home.specs.declared.home.Home.{Home}
 use Rattle.fx_home.specs.declared.home.HomeFault.{HomeFault}
 use Rattle.fx_home.specs.Homes.{home_read}
-use Rattle.blk_drive.specs.Images.{IsInside, IsOutside}
 use Rattle.plain_cat.specs.declared.cat.Cat.{Cat}
-use Rattle.plain_vol.specs.Accounts.{Accounted}
+use Rattle.plain_rules.specs.Accounts.{Accounted}
 use Rattle.vol_parts.specs.declared.finding.Finding.{Finding}
 use Rattle.vol_parts.specs.Volumes.{volume}
 use Rattle.vol_parts.specs.Catalogues.{catalogue}
 use Rattle.vol_parts.specs.Findings.{home_at, Weak, AreWarningsBy, AreFindings, Accepts, IsCatalogueBy, CatOf}
-use Rattle.log_lines.specs.declared.judging.Verdict.{Verdict}
-use Rattle.log_lines.specs.declared.judging.Verdict.TheVariants as verdict
-use Rattle.log_lines.specs.Steps.{IsVerdict}
-use Rattle.log_lines.specs.Verdicts.{SomeVerdict}
+use Rattle.log_check.specs.declared.judging.Verdict.{Verdict}
+use Rattle.log_check.specs.declared.judging.Verdict.TheVariants as verdict
+use Rattle.log_check.specs.Steps.{IsVerdict}
+use Rattle.log_check.specs.Sayings.{SomeVerdict}
 use Rattle.log_check.specs.declared.status.CheckStatus.{CheckStatus}
 use Rattle.log_check.specs.declared.status.CheckStatus.TheVariants as status
-use Rattle.log_lines.specs.Histories.{IsUnchecked, IsIllegal}
+use Rattle.log_check.specs.Histories.{IsUnchecked, IsIllegal}
 use Rattle.log_check.specs.Checks.{shut, IsLegalBetween, LeadsElsewhere, LeadsTo, LeadsFrom}
 use Rattle.log_check.specs.Statuses.{Given, given, IsRead, AreLoaded, IsCheckDue}
 use Rattle.log_check.specs.Verdicts.{is_verdict, SomeStatus}
-use Rattle.log_check.proofs.Accepting.{accepted_accounts}
+use Rattle.vol_analyze.proofs.Accepting.{accepted_accounts}
 use Rattle.log_check.proofs.SameCats.{cats}
-
--- a size is inside or outside
-is_size : (size : ℕ) → IsInside size ⊎ IsOutside size
-is_size size =
-    elim (cases_lt size 64) [
-      | inl low ↦ inr (inl low)
-      | inr low ↦ elim (cases_lt 65536 size) [
-        | inl high ↦ inr (inr high)
-        | inr high ↦ inl (record { low = low; high = high })
-      ]
-    ]
+use Rattle.blk_drive.proofs.Sizes.{is_size}
 
 -- blocks with nothing fatal tell a catalogue
 record Tells (bs : List Block) : Type 0 where

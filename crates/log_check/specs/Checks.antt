@@ -1,13 +1,13 @@
 -- What is said of a report between two volumes.
 use Rattle.std.specs.Prelude.{◌≡◌, ℕ, List, Option, None, map}
-use Rattle.vol_words.specs.Fields.{Block}
+use Rattle.base_words.specs.Fields.{Block}
 use Rattle.plain_cat.specs.declared.cat.Cat.{Cat}
 use Rattle.plain_cat.specs.declared.cat.Open.{Open}
 use Rattle.blk_drive.specs.declared.mirror.LoadFault.{LoadFault}
 use Rattle.blk_drive.specs.declared.mirror.LoadFault.TheVariants as load
 use Rattle.vol_parts.specs.Findings.{IsFirstFatal, Accepts, CatOf}
 use Rattle.vol_analyze.specs.Judging.{IsFirstFound}
-use Rattle.log_lines.specs.Histories.{IsReport, IsUnchecked, IsIllegal}
+use Rattle.log_check.specs.Histories.{IsReport, IsUnchecked, IsIllegal}
 use Rattle.log_check.specs.declared.status.CheckStatus.{CheckStatus}
 use Rattle.log_check.specs.declared.status.CheckStatus.TheVariants as status
 

@@ -1,4 +1,10 @@
-pub mod Codes
 pub mod Checks
+pub mod Codes
+pub mod Commands
+pub mod Drafts
+pub mod Histories
+pub mod Lines
+pub mod Sayings
 pub mod Statuses
+pub mod Steps
 pub mod Verdicts

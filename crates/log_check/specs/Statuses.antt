@@ -1,18 +1,19 @@
 -- What the status of a check says of what came in, and what was written.
 use Rattle.std.specs.Prelude.{◌≡◌, ◌<◌, ◌≤◌, ◌⊎◌, ◌++◌, ℕ, List, [], Option, IfSome, codes, decimal, length}
 use Rattle.std.specs.Io.KnownBytes.{Appends}
-use Rattle.vol_words.specs.Fields.{Block}
-use Rattle.vol_words.specs.Faults.{Rose}
+use Rattle.base_words.specs.Fields.{Block}
+use Rattle.base_words.specs.Faults.{Rose}
 use Rattle.blk_drive.specs.Images.{IsInside, IsOutside}
 use Rattle.fx_text.specs.Streams.{AppendsStart}
-use Rattle.vol_texts.specs.Reports.{newline}
+use Rattle.plain_texts.specs.Reports.{newline}
 use Rattle.vol_parts.specs.Findings.{IsFirstFatal, Accepts}
 use Rattle.vol_analyze.specs.Texts.{finding_text}
 use Rattle.vol_analyze.specs.Judging.{IsFirstFound}
-use Rattle.log_lines.specs.Histories.{IsUnchecked, IsIllegal}
+use Rattle.log_check.specs.Histories.{IsUnchecked, IsIllegal}
 use Rattle.log_check.specs.declared.status.CheckStatus.{CheckStatus}
 use Rattle.log_check.specs.declared.status.CheckStatus.TheVariants as status
 use Rattle.log_check.specs.Checks.{LeadsFrom, LeadsTo, IsLegalOn, LeadsAstray}
+use Rattle.fx_text.specs.Written.{IsWritten}
 
 -- ---- texts
 
@@ -107,12 +108,6 @@ IsEnd g read reading had has had_after has_after status.OutFault = ⊥
 IsEnd g read reading had has had_after has_after status.LogFault = (g.words ≡ []) × Rose read reading
 IsEnd g read reading had has had_after has_after status.ImageFault = IsRead g × (Rose had has ⊎ Rose had_after has_after)
 IsEnd g read reading had has had_after has_after s = IsCheckDue g s
-
--- ---- what is written
-
--- all of a text was written, or first bytes of it where the sink's count rose
-abbrev pub IsWritten : Option (List ℕ) → Option (List ℕ) → ℕ → ℕ → List ℕ → Type 0
-IsWritten old new before now text = Appends old new text ⊎ (Rose before now × AppendsStart old new text)
 
 -- With status 0 its text was written, with a fault of the sink first bytes of it, and else the text of the status.
 abbrev pub Writes : Given → Option (List ℕ) → Option (List ℕ) → ℕ → ℕ → CheckStatus → Type 0

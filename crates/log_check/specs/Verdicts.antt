@@ -1,6 +1,6 @@
 -- Of all statuses one is due, but for faults and want of memory.
 use Rattle.std.specs.Prelude.{◌≡◌, ℕ, Bool, true, false, List, Some, length}
-use Rattle.vol_words.specs.Fields.{Block, AreWholeBlocks}
+use Rattle.base_words.specs.Fields.{Block, AreWholeBlocks}
 use Rattle.vol_parts.specs.declared.finding.Finding.{Finding}
 use Rattle.vol_parts.specs.Findings.{AreFindings}
 use Rattle.log_check.specs.declared.status.CheckStatus.{CheckStatus}

@@ -8,6 +8,6 @@ pub fn one_status_is_due()
     ensures some { SomeStatus }
     ensures one { OneStatus }
 {
-    log_lines::a_report_has_one_verdict();
+    crate::a_report_has_one_verdict();
     vol_analyze::findings_are_one_list();
 }

@@ -1,17 +1,18 @@
 ghost use Rattle.std.specs.Prelude.{◌≡◌, ◌++◌, ◌⊎◌, IfOk, codes, decimal};
 ghost use Rattle.std.specs.Io.KnownBytes.{Appends};
-ghost use Rattle.vol_words.specs.Faults.{Rose};
+ghost use Rattle.base_words.specs.Faults.{Rose};
 ghost use Rattle.fx_text.specs.Streams.{AppendsStart};
-ghost use Rattle.vol_texts.specs.Reports.{newline};
+ghost use Rattle.plain_texts.specs.Reports.{newline};
 ghost use Rattle.vol_analyze.specs.Texts.{finding_text};
-ghost use Rattle.log_check.specs.Statuses.{status_text, numbered, IsWritten};
+ghost use Rattle.log_check.specs.Statuses.{status_text, numbered};
+ghost use Rattle.fx_text.specs.Written.{IsWritten};
 
 use crate::status::CheckStatus;
 use fx_text::{TextOut, write_all};
 use plain_cat::NoMemory;
+use plain_texts::{push_bytes, push_count, push_number};
 use std::alloc::Global;
 use vol_analyze::{Finding, push_finding};
-use vol_texts::{push_bytes, push_count, push_number};
 
 // A text with the number of a line.
 fn numbered(alloc: Global, front: &[u8], k: usize) -> Result<Vec<u8>, NoMemory>

@@ -1,6 +1,6 @@
 ghost use Rattle.std.specs.Prelude.{◌≡◌, ◌≤◌, ◌⊎◌, [], IfOk, IfErr, IfSome, vec_len};
-ghost use Rattle.vol_words.specs.Faults.{Rose};
-ghost use Rattle.plain_vol.specs.Accounts.{Accounted};
+ghost use Rattle.base_words.specs.Faults.{Rose};
+ghost use Rattle.plain_rules.specs.Accounts.{Accounted};
 ghost use Rattle.log_check.specs.Checks.{IsLegalBetween, LeadsTo, IsEndFrom, IsLegalOn, IsEndOn};
 ghost use Rattle.log_check.specs.Statuses.{given, IsTextEnd, IsCheckDue, IsEnd, Writes};
 

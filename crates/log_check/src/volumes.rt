@@ -1,20 +1,20 @@
 ghost use Rattle.std.specs.Prelude.{◌≡◌, IfOk, IfErr, length};
 ghost use Rattle.blk_drive.specs.Images.{IsInside};
-ghost use Rattle.plain_vol.specs.Accounts.{Accounted};
+ghost use Rattle.plain_rules.specs.Accounts.{Accounted};
 ghost use Rattle.vol_parts.specs.Findings.{Accepts, CatOf};
 ghost use Rattle.log_check.specs.Checks.{IsLegalBetween, IsNotLegal, IsNotAccepted, IsNotMendable, load_status};
 
 use crate::sameness::is_same_cat;
 use crate::shutting::shut;
 use crate::status::CheckStatus;
+use crate::{Verdict, judge};
+use base_words::Block;
 use blk_drive::LoadFault;
-use blk_whole::blocks_are_whole;
-use log_lines::{Verdict, judge};
 use plain_cat::Cat;
 use std::alloc::Global;
 use vol_analyze::accepted;
+use vol_parts::blocks_are_whole;
 use vol_spell::read_fully;
-use vol_words::Block;
 
 /// Why an image was not loaded.
 pub(crate) fn load_status(fault: LoadFault) -> CheckStatus

@@ -1,12 +1,12 @@
 -- The words on the map underneath, on entries.
-use Rattle.std.proofs.Common.{◌≡◌, ◌∙◌, ◌-◌, ◌≤◌, ◌==◌, ◌&&◌, ◌||◌, ℕ, Bool, true, false, List, [], ◌∷◌, length, take, find, nat_eq, nat_le, Option, Some, None, is_some, option_map, if◌then◌else◌, refl, sym, ap, arith}
+use Rattle.std.proofs.Common.{◌≡◌, ◌∙◌, ◌-◌, ◌≤◌, ◌==◌, ◌&&◌, ◌||◌, ℕ, true, false, List, [], ◌∷◌, length, take, find, nat_eq, nat_le, Option, Some, None, is_some, option_map, if◌then◌else◌, refl, sym, ap, arith}
 use Rattle.std.specs.Option.{option_map_or}
 use Rattle.std.specs.Map.{lookup, lookup_entry, remove_entry, set_value}
 use Rattle.lru.specs.LruCache.{promoted, put_entries, LruCache}
 use Rattle.node_cache.specs.declared.held.Held.{Held}
 use Rattle.node_cache.specs.Cached.{Cached, cached, IsCache, is_for, is_under, is_since, found, used, kept, replaced, without, moved_to_front}
 use Rattle.node_cache.specs.Views.{entry_of, entries_of, renewed}
-use Rattle.vol_words.specs.Fields.{Block}
+use Rattle.base_words.specs.Fields.{Block}
 use Rattle.lock_db.specs.declared.name.LockName.{LockName}
 use Rattle.lock_db.specs.Names.{is_same}
 use Rattle.lock_db.proofs.Names.{is_same-same}
@@ -15,6 +15,7 @@ use Rattle.std.specs.List.{take-map, list_any}
 use Rattle.lru.proofs.Pairs.{lookup-lookup_entry}
 use Rattle.lru.proofs.CallerLemmas.{Contains-lookup_entry}
 use Rattle.node_cache.proofs.Entries.{first_out, AreApart, passed, NoneFor, apart-first, apart-rest, found-find, first_out-without, find-none, none-without, none-replaced, length-without, is_for-same}
+use Rattle.base_words.proofs.Booleans.{or_false}
 
 pub find-lookup_entry : (lbn : ℕ) (ps : List (ℕ × Held)) → find (is_for lbn) (entries_of ps) ≡ option_map entry_of (lookup_entry (nat_eq lbn) ps)
 find-lookup_entry lbn [] = refl
@@ -169,14 +170,10 @@ none-since : (lbn : ℕ) (lock : LockName) (seq : ℕ) (es : List Cached) → No
 none-since lbn lock seq [] h = refl
 none-since lbn lock seq (e ∷ es) h = rw h.0 (none-since lbn lock seq es h.1)
 
-or-false : (b : Bool) → (b || false) ≡ b
-or-false true = refl
-or-false false = refl
-
 any-since : (lbn : ℕ) (lock : LockName) (seq : ℕ) (es : List Cached) → AreApart es → list_any (is_since lbn lock seq) es ≡ option_map_or (λ (e : Cached). is_under lock e && nat_le seq e.seq) (find (is_for lbn) es) false
 any-since lbn lock seq [] apart = refl
 any-since lbn lock seq (e ∷ es) apart = (elim (is_for lbn e) as (λ b. is_for lbn e ≡ b → list_any (is_since lbn lock seq) (e ∷ es) ≡ option_map_or (λ (x : Cached). is_under lock x && nat_le seq x.seq) (find (is_for lbn) (e ∷ es)) false) [
-  | true ↦ λ t. rw (t, none-since lbn lock seq es (apart-first lbn e es apart t)) (or-false (is_under lock e && nat_le seq e.seq))
+  | true ↦ λ t. rw (t, none-since lbn lock seq es (apart-first lbn e es apart t)) (or_false (is_under lock e && nat_le seq e.seq))
   | false ↦ λ t. rw t (any-since lbn lock seq es (apart-rest e es apart))
 ]) refl
 

@@ -1,6 +1,6 @@
 -- The entries that stand for the pairs of the map underneath.
 use Rattle.std.specs.Prelude.{ℕ, List, map, if◌then◌else◌}
-use Rattle.vol_words.specs.Fields.{Block}
+use Rattle.base_words.specs.Fields.{Block}
 use Rattle.lock_db.specs.declared.name.LockName.{LockName}
 use Rattle.lock_db.specs.Names.{is_same}
 use Rattle.node_cache.specs.Cached.{Cached}

@@ -8,12 +8,12 @@ ghost use Rattle.node_cache.specs.Cached.{Cached, cached, IsCache, is_under, is_
 
 use crate::held::Held;
 use crate::locks::{is_one, join};
+use base_words::Block;
 use lock_db::{LockName, NoMemory};
 use lru::LruCache;
 use std::alloc::Global;
 use std::marker::Model;
 use std::num::NonZeroUsize;
-use vol_words::Block;
 
 /// The most entries of a cache.
 const ENTRIES: usize = 64;

@@ -1,8 +1,8 @@
 //! What the map underneath holds for a block.
 
 use crate::locks::is_one;
+use base_words::Block;
 use lock_db::LockName;
-use vol_words::Block;
 
 /// What is held for a block.
 #[derive(Drop)]

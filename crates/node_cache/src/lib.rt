@@ -11,6 +11,8 @@
 //! `current` gives the bytes if and only if there is an entry for that block, lock and sequence (`block`). After each call there
 //! are at most 64 entries, and no block twice (`laws::caches_stay`). What was just kept is found (`laws::kept_is_found`). Whether
 //! a cached block is what the drive has is not said here.
+//!
+//! The core (`core_state`, `core_step`) uses it.
 #![tactic(auto)]
 
 mod cache;
@@ -18,9 +20,6 @@ mod held;
 pub mod laws;
 mod locks;
 
+pub use base_words::Block;
 pub use cache::NodeCache;
 pub use lock_db::{LockName, NoMemory};
-pub use vol_words::Block;
-
-#[cfg(test)]
-mod tests;

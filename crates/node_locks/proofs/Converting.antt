@@ -21,13 +21,14 @@ use Rattle.lock_db.proofs.Places.{written-askers}
 use Rattle.lock_db.proofs.Steps.{IsSettled-at, HasLock, HasLock-lock_of, lock-is}
 use Rattle.lock_db.proofs.Blocks.{converted-at, converted-leaves}
 use Rattle.lock_db.proofs.Standings.{conversions-stand}
-use Rattle.vol_owners.specs.Lists.{Has}
+use Rattle.base_words.specs.Lists.{Has}
 use Rattle.node_locks.specs.Held.{system_of, names_of, IsGranted, IsWaiting, HoldsItsLocks, is_queued_at, taken_out, put_in}
 use Rattle.node_locks.specs.HeldLaws.{ConvertingHolds}
 use Rattle.node_locks.proofs.Nodes.{each, name_or_not, systems-apart}
 use Rattle.node_locks.proofs.Standing.{StandsAlike, AllGranted, alike-comes, stands-still, granted-all, waits-push, held-push}
 use Rattle.node_locks.proofs.Asking.{held-new}
-use Rattle.node_locks.proofs.Served.{owned, without-other, with-other, systems-owned}
+use Rattle.node_locks.proofs.Served.{without-other, with-other, systems-owned}
+use Rattle.lock_db.proofs.Owners.{owned}
 use Rattle.node_locks.proofs.Rows.{AlikeBut, order-at, comes-holds}
 use Rattle.node_locks.proofs.Moving.{granted-in, has-name, left-held, goes-over, rest-still}
 

@@ -16,7 +16,9 @@ use Rattle.node_locks.specs.Held.{system_of, HoldsItsLocks, taken_out}
 use Rattle.node_locks.specs.HeldLaws.{GivingHolds}
 use Rattle.node_locks.proofs.Standing.{ComesTo, AllGranted, granted-all, comes-on}
 use Rattle.node_locks.proofs.Nodes.{each, name_or_not}
-use Rattle.node_locks.proofs.Served.{owned, vacated-standing, without-other, systems-owned, Served, settled-served, served-comes}
+use Rattle.node_locks.proofs.Served.{vacated-standing, without-other, systems-owned, settled-served, served-comes}
+use Rattle.lock_db.proofs.Owners.{owned}
+use Rattle.lock_db.proofs.Owners.{Served}
 use Rattle.node_locks.proofs.Rows.{AlikeBut, order-at, order-of, but-taken, but-later, but-gone, comes-holds}
 use Rattle.node_locks.proofs.Moving.{left-held, rest-still}
 

@@ -19,8 +19,8 @@ use Rattle.lock_db.proofs.Owners.{same_owner-refl, same_owner-same}
 use Rattle.lock_db.proofs.Together.{lets, goes-held, all_together-tail}
 use Rattle.lock_db.proofs.Rules.{Contains-cases, Contains-first, all_together-once, IsSettled-held_up}
 use Rattle.lock_db.proofs.Steps.{IsSettled-at, HasLock, HasLock-lock_of}
-use Rattle.vol_owners.specs.Lists.{Has}
-use Rattle.vol_owners.proofs.Listing.{same_or_not, has_parted, has_first, has_second}
+use Rattle.base_words.specs.Lists.{Has}
+use Rattle.base_words.proofs.Listing.{same_or_not, has_parted, has_first, has_second}
 use Rattle.node_locks.specs.Held.{system_of, Row, IsGranted, IsWaiting, StandInOrder, HoldsItsLocks, is_queued_at, held_locks, all_held, without}
 use Rattle.node_locks.specs.HeldLaws.{WritersAreSole, HeldAreGranted, RowsAreGranted, RowsStandStill, RowsGoOn, StandsStill, GoesOn, AllAreHeld, FirstGoes, RestGoesOn, MayAsk, MayChange, WhoWaitsIsHeldUp, HoldersHold}
 use Rattle.node_locks.proofs.Standing.{granted-all, granted-held, held-granted, held-asked, asked-granted, stands-named, waiting-last, waits-push, held-idle}

@@ -17,12 +17,13 @@ use Rattle.lock_db.proofs.Places.{written-askers}
 use Rattle.lock_db.proofs.Steps.{IsSettled-at, HasLock, HasLock-lock_of, lock-is, converts-goes}
 use Rattle.lock_db.proofs.Blocks.{converted-at}
 use Rattle.lock_db.proofs.Standings.{conversions-stand}
-use Rattle.vol_owners.specs.Lists.{Has}
+use Rattle.base_words.specs.Lists.{Has}
 use Rattle.node_locks.specs.Held.{system_of, names_of, IsGranted, HoldsItsLocks, taken_out, put_in}
 use Rattle.node_locks.specs.HeldLaws.{LoweringHolds}
 use Rattle.node_locks.proofs.Nodes.{each, name_or_not}
 use Rattle.node_locks.proofs.Standing.{ComesTo, AllGranted, comes-on, granted-all}
-use Rattle.node_locks.proofs.Served.{with-other, systems-owned, Served, settled-served, served-comes}
+use Rattle.node_locks.proofs.Served.{with-other, systems-owned, settled-served, served-comes}
+use Rattle.lock_db.proofs.Owners.{Served}
 use Rattle.node_locks.proofs.Rows.{AlikeBut, order-at, order-of, comes-holds}
 use Rattle.node_locks.proofs.Moving.{granted-in, has-name, is-held, left-held, to-granted, goes-over, rest-still, granted-push}
 use Rattle.node_locks.proofs.Converting.{converted-elsewhere}

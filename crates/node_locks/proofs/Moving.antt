@@ -3,7 +3,7 @@ use Rattle.std.proofs.Common.{◌≡◌, ◌≢◌, ◌⊎◌, ℕ, false, List,
 use Rattle.plain_cat.specs.declared.mode.Mode.{Mode}
 use Rattle.lock_db.specs.declared.name.LockName.{LockName}
 use Rattle.lock_db.specs.declared.resource.Resource.{Resource}
-use Rattle.vol_owners.specs.Lists.{Has}
+use Rattle.base_words.specs.Lists.{Has}
 use Rattle.node_locks.specs.Held.{Row, names_of, IsGranted, IsWaiting, HoldsItsLocks, waits_at, without, taken_out, put_in}
 use Rattle.node_locks.specs.HeldLaws.{StandsStill, IsHeld, MovingHolds}
 use Rattle.node_locks.proofs.Nodes.{each}

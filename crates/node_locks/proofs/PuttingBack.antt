@@ -8,8 +8,8 @@ use Rattle.lock_db.specs.declared.resource.Resource.{Resource}
 use Rattle.lock_db.specs.Queues.{is_upward, lock_of}
 use Rattle.lock_db.specs.Tables.{IsTable, resource_at, converted, released}
 use Rattle.lock_db.proofs.Steps.{IsTable-released, IsTable-converted}
-use Rattle.vol_owners.specs.Lists.{Has, Once}
-use Rattle.vol_owners.proofs.Listing.{once_first, once_second}
+use Rattle.base_words.specs.Lists.{Has, Once}
+use Rattle.base_words.proofs.Listing.{once_first, once_second}
 use Rattle.node_locks.specs.Held.{system_of, Row, names_of, IsGranted, HoldsItsLocks, AreHeld, waits_at, without, taken_out, put_in, with_rows}
 use Rattle.node_locks.specs.HeldLaws.{StandsStill, GoesOn, IsLowered, IsGivenBack}
 use Rattle.node_locks.specs.PuttingBack.{put_back, all_back, kept_by, kept_of, IsLow, ArePutBack, PuttingBackHolds}

@@ -8,8 +8,8 @@ use Rattle.lock_db.specs.declared.resource.Resource.{Resource}
 use Rattle.lock_db.specs.Names.{is_same}
 use Rattle.lock_db.specs.Laws.{stands_at}
 use Rattle.lock_db.proofs.Names.{is_same-refl, is_same-same}
-use Rattle.vol_owners.specs.Lists.{Has, Once, AreApart}
-use Rattle.vol_owners.proofs.Listing.{has_parted, has_first, has_second, once_in_a_row, once_first, once_second, once_apart}
+use Rattle.base_words.specs.Lists.{Has, Once, AreApart}
+use Rattle.base_words.proofs.Listing.{has_parted, has_first, has_second, once_in_a_row, once_first, once_second, once_apart}
 use Rattle.node_locks.specs.Held.{system_of, Row, joined, names_of, IsGranted, IsWaiting, StandInOrder, HoldsItsLocks, without, taken_out, put_in}
 use Rattle.node_locks.proofs.Standing.{AllGranted, AlikeAt, ComesTo, comes-in_order, named-first, in_order-rest, alike-in_order, in_order-push}
 

@@ -5,7 +5,7 @@ use Rattle.lock_db.specs.declared.name.LockName.{LockName}
 use Rattle.lock_db.specs.declared.resource.Resource.{Resource}
 use Rattle.lock_db.specs.Queues.{is_queued}
 use Rattle.lock_db.specs.Laws.{stands_at}
-use Rattle.vol_owners.specs.Lists.{Has}
+use Rattle.base_words.specs.Lists.{Has}
 use Rattle.node_locks.specs.Held.{system_of, names_of, IsGranted, IsWaiting, StandInOrder, is_queued_at, waits_at, held_locks}
 use Rattle.node_locks.specs.HeldLaws.{StandsStill, GoesOn}
 

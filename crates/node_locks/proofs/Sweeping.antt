@@ -5,7 +5,7 @@ use Rattle.lock_db.specs.declared.resource.Resource.{Resource}
 use Rattle.lock_db.specs.Queues.{lock_of}
 use Rattle.lock_db.specs.Tables.{resource_at, released}
 use Rattle.lock_db.proofs.Steps.{IsTable-released}
-use Rattle.vol_owners.specs.Lists.{Has}
+use Rattle.base_words.specs.Lists.{Has}
 use Rattle.node_locks.specs.Held.{system_of, Row, names_of, IsGranted, HoldsItsLocks, without, taken_out, with_rows}
 use Rattle.node_locks.specs.HeldLaws.{StandsStill, GoesOn, IsGivenBack}
 use Rattle.node_locks.specs.Sweeping.{all_given, without_all, all_taken_out, AreSwept, SweepingHolds, AllGo}

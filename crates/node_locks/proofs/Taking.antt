@@ -10,7 +10,7 @@ use Rattle.lock_db.specs.Queues.{held, settled_mode, standing_of, lock_of}
 use Rattle.lock_db.specs.Resources.{goes_at_once}
 use Rattle.lock_db.specs.Tables.{IsTable, resource_at, asked, converted, converts_now}
 use Rattle.lock_db.proofs.Steps.{IsTable-asked, IsTable-converted}
-use Rattle.vol_owners.specs.Lists.{Has}
+use Rattle.base_words.specs.Lists.{Has}
 use Rattle.node_locks.specs.Held.{system_of, Row, joined, names_of, IsGranted, HoldsItsLocks, AreHeld, waits_at, taken_out}
 use Rattle.node_locks.specs.HeldLaws.{IsAskedFor, IsConverted}
 use Rattle.node_locks.specs.Taking.{has_lock, taken, taken_now, IsTaken, TakingHolds, TakingKeeps}

@@ -9,7 +9,7 @@ use Rattle.lock_db.specs.declared.resource.Resource.{Resource}
 use Rattle.lock_db.specs.Queues.{standing_of, lock_of, held, wanted, goes_beside, head_of, is_upward}
 use Rattle.lock_db.specs.Resources.{goes_at_once}
 use Rattle.lock_db.specs.Tables.{IsTable, resource_at, asked, converts_now, converted, released, dropped}
-use Rattle.vol_owners.specs.Lists.{Has, Once}
+use Rattle.base_words.specs.Lists.{Has, Once}
 use Rattle.node_locks.specs.Held.{system_of, Row, joined, names_of, IsGranted, HoldsItsLocks, AreHeld, waits_at, held_locks, all_held, without, taken_out, put_in, with_rows}
 
 -- a row of node m stands as it stood

@@ -4,7 +4,7 @@ use Rattle.lock_db.specs.declared.name.LockName.{LockName}
 use Rattle.lock_db.specs.declared.resource.Resource.{Resource}
 use Rattle.lock_db.specs.Queues.{lock_of}
 use Rattle.lock_db.specs.Tables.{IsTable, resource_at, released}
-use Rattle.vol_owners.specs.Lists.{Has, Once}
+use Rattle.base_words.specs.Lists.{Has, Once}
 use Rattle.node_locks.specs.Held.{system_of, Row, names_of, AreHeld, waits_at, without, taken_out, with_rows}
 use Rattle.node_locks.specs.HeldLaws.{StandsStill, IsHeld, GoesOn}
 

@@ -1,10 +1,12 @@
 -- The event of a node, with its fault as the mark, keeps what is kept of a world.
 use Rattle.std.proofs.Common.{◌≡◌, ◌≤◌, ◌⊎◌, ℕ, Bool, true, false, List, Option, Some, None, Result, Ok, Err, sym, refl, ap, subst, ◌∙◌, inl, inr, arith}
 use Rattle.std.specs.Prelude.{OnOk, OnErr}
-use Rattle.vol_words.specs.Fields.{Block}
-use Rattle.vol_words.specs.Faults.{Rose}
+use Rattle.base_words.specs.Fields.{Block}
+use Rattle.base_words.specs.Faults.{Rose}
 use Rattle.plain_cat.specs.declared.script.Script.{Script}
-use Rattle.core_state.specs.Images.{IsTold, IsTorn, told_as}
+use Rattle.core_state.specs.Images.{IsTorn}
+use Rattle.blk_drive.specs.Telling.{IsTold}
+use Rattle.blk_drive.specs.Telling.{told_as}
 use Rattle.core_state.specs.Worlds.{Plain, IsOfWorld}
 use Rattle.core_state.specs.Deaths.{is_due, after_step}
 use Rattle.core_state.specs.Events.{is_write, next_event}
@@ -27,7 +29,7 @@ is_told false told bs h = subst (λ t. IsTold t bs) (sym h) tt
 pub grown : (count f f' : ℕ) → count ≤ f → Rose f f' → Rose count f'
 grown count f f' h r = omega arith
 
-none_marked : ◌≡◌ {A = Option TurnFault} None (Some ImageFault) → ⊥
+pub none_marked : ◌≡◌ {A = Option TurnFault} None (Some ImageFault) → ⊥
 none_marked e = cc
 
 other_fault : ◌≡◌ {A = Option TurnFault} (Some NoMemory) (Some ImageFault) → ⊥

@@ -1,22 +1,23 @@
 -- What a step of a node leaves as it was: the script, the opening catalogue, the places of the volume's parts; and that nodes die only
 -- where the script kills them, and nothing is mended.
-use Rattle.std.proofs.Common.{◌≡◌, ◌==◌, ◌&&◌, ◌||◌, ◌++◌, not, ℕ, Bool, true, false, cond, List, [], ◌∷◌, Option, Some, None, refl, sym, ap, subst, ◌∙◌}
+use Rattle.std.proofs.Common.{◌≡◌, ◌||◌, ◌++◌, not, ℕ, Bool, true, false, cond, List, [], ◌∷◌, Option, Some, None, refl, sym, ap, subst, ◌∙◌}
 use Rattle.std.specs.List.{list_any}
 use Rattle.std.proofs.lemmas.List.Folds.{list_any-append}
 use Rattle.plain_cat.specs.declared.command.Cmd.{Cmd}
 use Rattle.plain_cat.specs.declared.reply.Reply.{Reply}
-use Rattle.plain_cat.specs.declared.script.Kill.{Kill}
 use Rattle.plain_cat.specs.declared.script.Script.{Script}
 use Rattle.plain_cat.specs.declared.history.Entry.{Entry}
 use Rattle.plain_cat.specs.declared.history.Entry.TheVariants.{Done}
-use Rattle.plain_vol.specs.Own.{IsKill, is_mending}
-use Rattle.node_past.proofs.Growing.{killed_grows}
+use Rattle.plain_rules.specs.Own.{IsKill, is_mending}
+use Rattle.plain_past.proofs.Growing.{killed_grows}
 use Rattle.core_state.specs.Worlds.{NodeState, Plain, node_at}
 use Rattle.core_state.specs.Event.{Event}
 use Rattle.core_state.specs.Event as event
-use Rattle.core_state.specs.Deaths.{death_of, comes_at, kills, kills_at, is_due, died_at, died, after_step}
+use Rattle.core_state.specs.Deaths.{death_of, kills, kills_at, is_due, died_at, died, after_step}
 use Rattle.core_state.specs.Events.{would_go, asked_by, answered_by, readied_at, readied, next_event, happens, happen_at, after_turn, is_over}
 use Rattle.node_seat.specs.Keeping.{IsOrderly}
+use Rattle.core_state.proofs.Kills.{any_kill}
+use Rattle.std.proofs.lemmas.Bool.{and_parts}
 
 pub record Follows (old new : Plain) : Type 0 where
   pub script : new.script ≡ old.script
@@ -87,26 +88,6 @@ turn_follows w n = then_follows w (readied w n) (after_turn w n) (readied_follow
 
 -- ---- a death comes where the script has a kill for the node
 
-first_part : (a b : Bool) → (a && b) ≡ true → a ≡ true
-first_part true b e = refl
-first_part false b e = e
-
-second_part : (a b : Bool) → (a && b) ≡ true → b ≡ true
-second_part true b e = e
-second_part false b e = absurd (let f : false ≡ true = e in cc)
-
-any_kill : (w : Plain) (n : ℕ) (s : NodeState) (ks : List Kill) → list_any (kills w n s) ks ≡ true → list_any (λ (k : Kill). k.node == n) ks ≡ true
-any_kill w n s [] e = e
-any_kill w n s (k ∷ ks) e = by_first (kills w n s k) refl e (any_kill w n s ks) where
-  either : (b : Bool) → list_any (λ (j : Kill). j.node == n) ks ≡ true → (b || list_any (λ (j : Kill). j.node == n) ks) ≡ true
-  either true h = refl
-  either false h = h
-
-  by_first : (b : Bool) → kills w n s k ≡ b → (b || list_any (kills w n s) ks) ≡ true → (list_any (kills w n s) ks ≡ true → list_any (λ (j : Kill). j.node == n) ks ≡ true)
-      → ((k.node == n) || list_any (λ (j : Kill). j.node == n) ks) ≡ true
-  by_first true f g more = ap (λ b. b || list_any (λ (j : Kill). j.node == n) ks) (first_part (k.node == n) (comes_at k.at s (next_event w n)) f)
-  by_first false f g more = either (k.node == n) (more g)
-
 died_follows : (w : Plain) (n : ℕ) (o : Option NodeState) → kills_at w n o ≡ true → Follows w (died_at w n o)
 unfolding is_mending
 died_follows w n None e = as_before w w refl refl refl refl
@@ -115,5 +96,5 @@ died_follows w n (Some s) e = record { script = refl; opening = refl; geometry =
 pub step_follows : (w : Plain) (n : ℕ) → Follows w (after_step w n)
 step_follows w n = by_due (is_due w n) refl where
   by_due : (b : Bool) → is_due w n ≡ b → Follows w (cond b (died w n) (after_turn w n))
-  by_due true e = died_follows w n (node_at w.nodes n) (second_part (not (is_over w n)) (kills_at w n (node_at w.nodes n)) e)
+  by_due true e = died_follows w n (node_at w.nodes n) (and_parts (not (is_over w n)) (kills_at w n (node_at w.nodes n)) e).1
   by_due false e = turn_follows w n

@@ -1,11 +1,11 @@
 -- What is kept of a world between two steps of seats, whatever their order.
 use Rattle.std.specs.Prelude.{◌≡◌, ◌≤◌, ◌⊎◌, ℕ, Bool, false, true, List, Option, Some, None, is_some, Result, Ok, Err}
 use Rattle.std.specs.List.{list_any}
-use Rattle.vol_words.specs.Fields.{Block}
-use Rattle.vol_words.specs.Faults.{Rose}
+use Rattle.base_words.specs.Fields.{Block}
+use Rattle.base_words.specs.Faults.{Rose}
 use Rattle.plain_cat.specs.declared.history.Entry.{Entry}
 use Rattle.plain_cat.specs.declared.script.Script.{Script}
-use Rattle.plain_vol.specs.Own.{Killed, is_mending}
+use Rattle.plain_rules.specs.Own.{Killed, is_mending}
 use Rattle.core_state.specs.Worlds.{Plain, IsOfWorld}
 use Rattle.core_state.specs.Deaths.{is_due, after_step}
 use Rattle.core_state.specs.Events.{is_write, next_event}

@@ -2,7 +2,7 @@
 use Rattle.std.specs.Prelude.{◌≡◌, ℕ, Bool, true, false, List, Option, Some, None}
 use mathlib.Core.Option.{some}
 use lib.ListN.{get_elem?}
-use Rattle.vol_words.specs.Fields.{Block}
+use Rattle.base_words.specs.Fields.{Block}
 use Rattle.core_state.specs.Worlds.{Plain}
 use Rattle.node_seat.specs.declared.parked.Parked.{Parked}
 use Rattle.node_seat.specs.declared.views.Start.{Start}

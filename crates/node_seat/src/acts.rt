@@ -1,5 +1,5 @@
 ghost use Rattle.std.specs.Prelude.{◌≡◌, ◌≤◌, ℕ, List, Option, None, OnOk, OnErr, length};
-ghost use Rattle.vol_words.specs.Fields.{Block};
+ghost use Rattle.base_words.specs.Fields.{Block};
 ghost use Rattle.core_state.specs.Worlds.{Plain, IsOfWorld};
 ghost use Rattle.core_state.specs.Deaths.{after_step};
 ghost use Rattle.node_seat.specs.declared.views.Start.{Start};

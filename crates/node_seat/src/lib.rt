@@ -11,11 +11,12 @@
 //! Each event that a seat makes is exactly the step of its node (`act`: `moved`), and after a fault the world is as before. The world
 //! that `close_yard` gives is one that was kept since the yard was opened (`IsKeptBy`). If there is no memory the world comes back.
 //! That a seat ever gets its turn, and in which order seats do, no clause says.
+//!
+//! `live_run` gives each thread a seat.
 #![tactic(auto)]
 
 mod acts;
 mod closing;
-mod event;
 mod opening;
 mod parked;
 mod perch;
@@ -26,7 +27,7 @@ mod worlds;
 
 pub use acts::Acts;
 pub use closing::close_yard;
-pub use event::seat_event;
+pub use core_death::seat_event;
 pub use opening::{YardRefusedOf, open_yard};
 pub use parked::Parked;
 pub use perch::{Fresh, OwnPerch, YardOf};

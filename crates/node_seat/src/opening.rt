@@ -2,7 +2,7 @@
 
 ghost use Rattle.std.specs.Prelude.{◌≡◌, ◌≤◌, ◌<◌, ◌+◌, ℕ, [], true, false, IfOk, IfErr, All, map};
 ghost use Rattle.std.specs.List.{range_with_len};
-ghost use Rattle.core_state.specs.Images.{IsTold};
+ghost use Rattle.blk_drive.specs.Telling.{IsTold};
 ghost use Rattle.node_seat.specs.Keeping.{IsOrderly, start_of};
 
 use crate::acts::Acts;

@@ -1,12 +1,12 @@
 //! The world of a cluster makes the events of its nodes' seats.
 
 use crate::acts::Acts;
-use crate::event::seat_event;
 use crate::opening::YardRefusedOf;
 use crate::parked::Parked;
 use crate::perch::YardOf;
 use crate::seat::SeatOf;
 use blk_drive::ImageDev;
+use core_death::seat_event;
 use core_state::World;
 use core_step::{Turn, TurnFault};
 use op_law::Operation;

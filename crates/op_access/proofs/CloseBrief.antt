@@ -1,7 +1,7 @@
 -- How much a CLOSE needs and writes.
 use Rattle.std.proofs.Common.{◌≡◌, ◌≤◌, ℕ, Bool, true, false, cond, List, Option, Some, None, length, refl, sym, subst, arith}
 use Rattle.std.specs.Prelude.{option_map}
-use Rattle.vol_words.specs.Fields.{Block}
+use Rattle.base_words.specs.Fields.{Block}
 use Rattle.fx_header.specs.declared.slot.Hdr.{Hdr}
 use Rattle.lock_db.specs.declared.name.LockName.TheVariants.{S}
 use Rattle.plain_cat.specs.declared.mode.Mode.{Mode}
@@ -10,7 +10,7 @@ use Rattle.plain_cat.specs.declared.command.Cmd.TheVariants as cmd
 use Rattle.plain_cat.specs.declared.reply.Reply.TheVariants as reply
 use Rattle.plain_cat.specs.declared.reply.Refusal.TheVariants as refusal
 use Rattle.plain_cat.specs.declared.cat.Cat.{Cat}
-use Rattle.vol_owners.specs.Owners.{Owners}
+use Rattle.vol_spell.specs.Owners.{Owners}
 use Rattle.vol_parts.specs.declared.geometry.Geometry.{Geometry}
 use Rattle.vol_spell.specs.Reading.{header_place, header_block}
 use Rattle.vol_spell.specs.Spelling.{Spells}
@@ -24,7 +24,7 @@ use Rattle.op_law.specs.Refusing.{SeenFile, seen_file, used_in, if_file}
 use Rattle.op_law.specs.Rows.{is_number, answers, refuses}
 use Rattle.op_law.proofs.Brief.{BriefBy, Briefs}
 use Rattle.op_law.proofs.Counting.{number_brief, freeing_few}
-use Rattle.op_gone.proofs.Looks.{space_brief}
+use Rattle.op_freeing.proofs.Looks.{space_brief}
 
 -- the plan has these writes, whether it asks or not
 same_writes : (n chan : ℕ) (m : Mode) (ws : List PlanWrite) → (close_plan n chan m ws).writes ≡ ws

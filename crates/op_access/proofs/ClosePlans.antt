@@ -4,7 +4,7 @@ use Rattle.std.proofs.Common.{◌≡◌, ◌+◌, ◌*◌, ◌∙◌, inl, inr, 
 use Rattle.std.specs.Prelude.{not, Ok}
 use Rattle.std.specs.List.{list_all}
 use Rattle.std.proofs.lemmas.List.{length-map}
-use Rattle.vol_words.specs.Fields.{Block}
+use Rattle.base_words.specs.Fields.{Block}
 use Rattle.fx_header.specs.declared.slot.Hdr.{Hdr}
 use Rattle.fx_header.specs.declared.slot.Slot.TheVariants as head
 use Rattle.fx_header.specs.Headers.{header_read}
@@ -19,12 +19,12 @@ use Rattle.plain_cat.specs.declared.history.Stage.TheVariants as stage
 use Rattle.plain_cat.specs.declared.reply.Reply.TheVariants as reply
 use Rattle.plain_cat.specs.declared.cat.Cat.{Cat}
 use Rattle.plain_cat.specs.declared.cat.File.{File}
-use Rattle.plain_vol.specs.Lookups.{file_at, is_open}
-use Rattle.plain_vol.specs.Changes.{discharged, freed}
-use Rattle.plain_vol.specs.Answers.{removed, Answer}
-use Rattle.vol_owners.specs.Lists.{Has}
-use Rattle.vol_owners.specs.Owners.{Owners, Things, nothing, Outs}
-use Rattle.vol_owners.proofs.Placing.{length-blocks_at}
+use Rattle.plain_rules.specs.Lookups.{file_at, is_open}
+use Rattle.plain_rules.specs.Changes.{discharged, freed}
+use Rattle.plain_rules.specs.Answers.{removed, Answer}
+use Rattle.base_words.specs.Lists.{Has}
+use Rattle.vol_spell.specs.Owners.{Owners, Things, nothing, Outs}
+use Rattle.vol_spell.proofs.Placing.{length-blocks_at}
 use Rattle.vol_parts.specs.declared.geometry.Geometry.{Geometry}
 use Rattle.vol_parts.specs.declared.geometry.Part.TheVariants.{Storage}
 use Rattle.vol_parts.specs.Catalogues.{file_of}
@@ -42,18 +42,20 @@ use Rattle.op_law.specs.declared.seen.Chan.{Chan}
 use Rattle.op_law.specs.Channels.{close_ask, close_plan}
 use Rattle.op_law.specs.Fits.{things}
 use Rattle.op_law.specs.Freeing.{blocks_for, all_clusters}
-use Rattle.op_law.specs.Knows.{goes_with, is_granted, is_held_open, knows}
+use Rattle.op_law.specs.Knows.{is_granted, knows}
+use Rattle.plain_rules.specs.Opens.{goes_with}
+use Rattle.plain_rules.specs.Opens.{is_held_open}
 use Rattle.op_law.specs.Laws.{planned, under_way}
 use Rattle.op_law.specs.Writing.{empty_handed}
 use Rattle.op_law.proofs.Asking.{IsDoneBy}
 use Rattle.op_law.proofs.Doing.{AreDone}
 use Rattle.op_law.proofs.Telling.{file_blocks, file_told_at}
-use Rattle.op_writes.specs.Chained.{Chain, StandsOn}
-use Rattle.op_files.specs.Files.{file_in, IsFileThere}
+use Rattle.op_steps.specs.Chained.{Chain, StandsOn}
+use Rattle.op_steps.specs.Files.{file_in, IsFileThere}
 use Rattle.op_freeing.specs.BitmapWrites.{storage_places}
 use Rattle.op_freeing.proofs.Endings.{held_keeps_out}
-use Rattle.op_gone.specs.GoneWrites.{space_at, gone_writes, gone}
-use Rattle.op_gone.proofs.Steps.{gone_steps, gone_guards, gone_leaves, gone_ends}
+use Rattle.op_freeing.specs.GoneWrites.{space_at, gone_writes, gone}
+use Rattle.op_freeing.proofs.GoneSteps.{gone_steps, gone_guards, gone_leaves, gone_ends}
 use Rattle.op_access.proofs.Opens.{HasOpen, alone_is}
 use Rattle.op_access.proofs.CloseOutcomes.{shut, stays_answer, kept_answer, gone_answer, stands_freed, stands_gone}
 use Rattle.op_access.proofs.CloseWalks.{take_none}

@@ -2,7 +2,7 @@
 use Rattle.std.proofs.Common.{◌≡◌, ◌∙◌, inl, ℕ, Bool, true, false, cond, List, [], ◌∷◌, ◌++◌, Option, Some, None, map, length, take, refl, ap, arith}
 use Rattle.std.specs.Prelude.{option_map}
 use Rattle.std.proofs.lemmas.List.{length-map}
-use Rattle.vol_words.specs.Fields.{Block}
+use Rattle.base_words.specs.Fields.{Block}
 use Rattle.fx_header.specs.declared.slot.Hdr.{Hdr}
 use Rattle.lock_db.specs.declared.name.LockName.{LockName}
 use Rattle.lock_db.specs.declared.name.LockName.TheVariants.{S, Q, V}
@@ -13,8 +13,8 @@ use Rattle.plain_cat.specs.declared.command.Cmd.TheVariants as cmd
 use Rattle.plain_cat.specs.declared.reply.Reply.TheVariants as reply
 use Rattle.plain_cat.specs.declared.reply.Refusal.{Refusal}
 use Rattle.plain_cat.specs.declared.reply.Refusal.TheVariants as refusal
-use Rattle.vol_owners.specs.Lists.{Has}
-use Rattle.vol_owners.specs.Owners.{Things, nothing}
+use Rattle.base_words.specs.Lists.{Has}
+use Rattle.vol_spell.specs.Owners.{Things, nothing}
 use Rattle.vol_parts.specs.declared.geometry.Geometry.{Geometry}
 use Rattle.vol_parts.specs.declared.geometry.Part.TheVariants.{Storage, IndexBitmap}
 use Rattle.vol_spell.specs.Reading.{header_place, quota_places}
@@ -32,7 +32,7 @@ use Rattle.op_law.specs.Refusing.{SeenFile, seen_file, used_in, if_file}
 use Rattle.op_law.specs.Rows.{is_number, look_all, answers, refuses}
 use Rattle.op_law.proofs.Asking.{EveryEnd, IsShapedBy}
 use Rattle.op_law.proofs.Ends.{EndsBy, LeavesNothing, nothing_given}
-use Rattle.op_gone.proofs.Steps.{gone_ends}
+use Rattle.op_freeing.proofs.GoneSteps.{gone_ends}
 
 pub take_none : (ws : List PlanWrite) → take 0 ws ≡ []
 take_none [] = refl

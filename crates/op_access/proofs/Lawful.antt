@@ -1,9 +1,9 @@
 -- CLOSE obeys the law, and so does each command that the operation takes.
 use Rattle.std.proofs.Common.{◌≡◌, ◌∙◌, inl, inr, ℕ, Bool, true, false, cond, List, [], ◌∷◌, Option, Some, None, is_some, refl, sym, ap, subst, arith}
-use Rattle.std.specs.Prelude.{◌&&◌, is_none, option_map}
+use Rattle.std.specs.Prelude.{◌&&◌, option_map}
 use Rattle.std.specs.List.{list_all}
 use Rattle.std.proofs.lemmas.Bool.{and_parts}
-use Rattle.vol_words.specs.Fields.{Block}
+use Rattle.base_words.specs.Fields.{Block}
 use Rattle.fx_header.specs.declared.slot.Hdr.{Hdr}
 use Rattle.lock_db.specs.declared.name.LockName.{LockName}
 use Rattle.lock_db.specs.declared.name.LockName.TheVariants.{S}
@@ -16,9 +16,8 @@ use Rattle.plain_cat.specs.declared.reply.Reply.TheVariants as reply
 use Rattle.plain_cat.specs.declared.reply.Refusal.TheVariants as refusal
 use Rattle.plain_cat.specs.declared.cat.Cat.{Cat}
 use Rattle.plain_cat.specs.declared.cat.File.{File}
-use Rattle.plain_cat.specs.declared.cat.Open.{Open}
-use Rattle.plain_vol.specs.Lookups.{in_use, channel_at}
-use Rattle.vol_owners.specs.Owners.{Owners, Things, nothing, Outs}
+use Rattle.plain_rules.specs.Lookups.{in_use, channel_at}
+use Rattle.vol_spell.specs.Owners.{Owners, Things, nothing, Outs}
 use Rattle.vol_parts.specs.declared.geometry.Geometry.{Geometry}
 use Rattle.vol_parts.specs.Catalogues.{file_of}
 use Rattle.vol_spell.specs.Reading.{IsFileNumber, header_block}
@@ -27,10 +26,11 @@ use Rattle.op_law.specs.declared.need.Plan.{Plan}
 use Rattle.op_law.specs.declared.seen.Seen.{Seen}
 use Rattle.op_law.specs.declared.seen.Chan.{Chan}
 use Rattle.op_law.specs.Channels.{close_plan, close_in, close_on, close_events}
-use Rattle.op_law.specs.Events.{Events, Take, Look, Fetch, Find, Make, space_of, HasNoSpace, HasNoSearch, SearchesOnce}
+use Rattle.op_law.specs.Events.{Events, Make, space_of, HasNoSpace}
 use Rattle.op_law.specs.Fits.{HasSeen, things}
 use Rattle.op_law.specs.Freeing.{through_space, freeing_writes}
-use Rattle.op_law.specs.Knows.{has_channel, is_held_open, is_new_number, is_short, usages_fit, opens_hold, wanted, knows}
+use Rattle.op_law.specs.Knows.{has_channel, is_new_number, is_short, usages_fit, opens_hold, wanted, knows}
+use Rattle.plain_rules.specs.Opens.{is_held_open}
 use Rattle.op_law.specs.Laws.{Lawful}
 use Rattle.op_law.specs.Needs.{events_of}
 use Rattle.op_law.specs.Order.{level, Higher}
@@ -42,9 +42,9 @@ use Rattle.op_law.proofs.Ends.{nothing_given}
 use Rattle.op_law.proofs.Telling.{file_blocks, file_told_at}
 use Rattle.op_law.proofs.Through.{header_obeys}
 use Rattle.op_law.proofs.Walking.{ObeysBy, kept}
-use Rattle.op_files.specs.Files.{file_in}
-use Rattle.op_gone.proofs.Looks.{space_obeys}
-use Rattle.op_gone.proofs.Uses.{used_reads, used_is, not_used}
+use Rattle.op_steps.specs.Files.{file_in}
+use Rattle.op_freeing.proofs.Looks.{space_obeys}
+use Rattle.op_steps.proofs.Uses.{used_reads, used_is, not_used}
 use Rattle.op_access.specs.Kinds.{IsClose, IsAccess}
 use Rattle.op_access.proofs.Opens.{HasOpen, has_open}
 use Rattle.op_access.proofs.OpenLaw.{open_lawful}
@@ -52,18 +52,8 @@ use Rattle.op_access.proofs.CloseOutcomes.{refuses_answer}
 use Rattle.op_access.proofs.CloseWalks.{no_search, shaped, ends}
 use Rattle.op_access.proofs.ClosePlans.{stays_done, plan_done}
 use Rattle.op_access.proofs.CloseBrief.{close_brief}
-
--- where nothing is searched for, it is at most once
-once : (es : Events) → HasNoSearch es → SearchesOnce es
-once (Take lock mode next) none = once next none
-once (Look lock lbn next) none = λ b. once (next b) (none b)
-once (Fetch lbn next) none = λ b. once (next b) (none b)
-once (Find clusters number next) none = absurd none
-once (Make plan) none = tt
-
-none_there : (o : Option Open) → is_none o ≡ true → o ≡ None
-none_there None e = refl
-none_there (Some o) e = absurd (let f : false ≡ true = e in cc)
+use Rattle.op_law.proofs.Spaceless.{once}
+use Rattle.op_law.proofs.Opens.{none_is}
 
 module _ (chan : ℕ) (is : is_eighth chan ≡ true) where
   abbrev x : Cmd
@@ -116,7 +106,7 @@ module _ (chan : ℕ) (is : is_eighth chan ≡ true) where
 
     on_channel : (channel : Option Chan) → has_channel c node (Some chan) channel ≡ true → O (close_on seen.geometry channel chan) []
     on_channel None free =
-        refusal_done x node seen bs own c stock s (subst (λ t. Outs node own t stock) (sym given) outs) refusal.NotOpen (refuses_answer c node chan (none_there (channel_at c node chan) free)) []
+        refusal_done x node seen bs own c stock s (subst (λ t. Outs node own t stock) (sym given) outs) refusal.NotOpen (refuses_answer c node chan (none_is (channel_at c node chan) free)) []
     on_channel (Some p) open_so = on_open p (has_open c node chan p open_so)
 
     obeys : has_channel c node (Some chan) seen.channel ≡ true → O (events_of seen.geometry seen.channel (cmd.CloseFile chan)) []

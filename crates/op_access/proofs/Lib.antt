@@ -5,6 +5,4 @@ mod CloseWalks
 mod ClosePlans
 mod CloseBrief
 mod Looking
-mod Mapped
 pub mod Lawful
-mod OnChannel

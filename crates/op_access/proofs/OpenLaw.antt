@@ -1,9 +1,9 @@
 -- The law of OPEN.
 use Rattle.std.proofs.Common.{◌≡◌, ◌∙◌, inl, inr, ℕ, zero, suc, Bool, true, false, cond, List, [], ◌∷◌, Option, Some, None, slice_get, refl, sym, ap, arith}
-use Rattle.std.specs.Prelude.{◌==◌, ◌&&◌, ◌||◌, not, nat_le, is_some, is_none, option_map, slice_set, if◌then◌else◌}
+use Rattle.std.specs.Prelude.{◌==◌, ◌&&◌, ◌||◌, not, nat_le, is_some, option_map, slice_set, if◌then◌else◌}
 use Rattle.std.specs.List.{list_any}
 use Rattle.std.proofs.lemmas.Bool.{and_parts}
-use Rattle.vol_words.specs.Fields.{Block}
+use Rattle.base_words.specs.Fields.{Block}
 use Rattle.fx_header.specs.declared.slot.Hdr.{Hdr}
 use Rattle.lock_db.specs.declared.name.LockName.{LockName}
 use Rattle.lock_db.specs.declared.name.LockName.TheVariants.{S}
@@ -19,12 +19,12 @@ use Rattle.plain_cat.specs.declared.reply.Refusal.TheVariants as refusal
 use Rattle.plain_cat.specs.declared.cat.Cat.{Cat}
 use Rattle.plain_cat.specs.declared.cat.File.{File}
 use Rattle.plain_cat.specs.declared.cat.Open.{Open}
-use Rattle.plain_vol.specs.declared.outcome.Outcome.{Outcome}
-use Rattle.plain_vol.specs.Lookups.{live, place, joined, channel_at}
-use Rattle.plain_vol.specs.Changes.{with_channel}
-use Rattle.plain_vol.specs.Answers.{told, refused, unless, first_refusal, is_kept, conflicts, open_of, open_outcome, outcome}
-use Rattle.plain_vol.proofs.LawSteps.{pick_exists}
-use Rattle.vol_owners.specs.Owners.{Owners, Things, Outs}
+use Rattle.plain_rules.specs.declared.outcome.Outcome.{Outcome}
+use Rattle.plain_rules.specs.Lookups.{live, place, joined, channel_at}
+use Rattle.plain_rules.specs.Changes.{with_channel}
+use Rattle.plain_rules.specs.Answers.{told, refused, unless, first_refusal, is_kept, conflicts, open_of, open_outcome, outcome}
+use Rattle.plain_rules.proofs.LawSteps.{pick_exists}
+use Rattle.vol_spell.specs.Owners.{Owners, Things, Outs}
 use Rattle.vol_parts.specs.declared.geometry.Geometry.{Geometry}
 use Rattle.vol_spell.specs.Reading.{IsFileNumber, header_place}
 use Rattle.vol_spell.specs.Spelling.{Spells}
@@ -35,7 +35,8 @@ use Rattle.op_law.specs.declared.need.Plan.{Plan}
 use Rattle.op_law.specs.declared.seen.Seen.{Seen}
 use Rattle.op_law.specs.declared.seen.Chan.{Chan}
 use Rattle.op_law.specs.Events.{Events, Take, Look, Make, Space, space_of, HasNoSpace, SearchesOnce, following}
-use Rattle.op_law.specs.Knows.{has_channel, is_open_as, others_open, is_granted, is_new_number, wanted, is_short, usages_fit, opens_hold, knows}
+use Rattle.op_law.specs.Knows.{has_channel, is_open_as, is_granted, is_new_number, wanted, is_short, usages_fit, opens_hold, knows}
+use Rattle.plain_rules.specs.Opens.{others_open}
 use Rattle.op_law.specs.Needs.{events_of}
 use Rattle.op_law.specs.Rows.{refused as refused_need, refuses, is_number, live_in, through_header}
 use Rattle.op_law.specs.Refusing.{seen_file, if_file, unless_refused}
@@ -52,6 +53,7 @@ use Rattle.op_law.proofs.Ends.{EndsBy, nothing_given}
 use Rattle.op_law.proofs.Doing.{AreDone}
 use Rattle.op_law.proofs.Asking.{EveryEnd, IsShapedBy, IsDoneBy, asks_lawful}
 use Rattle.op_access.specs.Kinds.{IsOpen}
+use Rattle.op_law.proofs.Opens.{none_is}
 
 -- ---- what holds of its events where it holds of each refusal, and of the plan that asks
 
@@ -204,13 +206,10 @@ module _ (node : ℕ) (seen : Seen) (bs : List Block) (own : Owners) (c : Cat) (
   obeys_on : (channel : Option Chan) → has_channel c node (Some chan) channel ≡ true → ObeysBy x g bs own c seen P (open_on g channel chan file mode) []
   obeys_on (Some p) has = refused_so refusal.ChanBusy (busy p has) []
   obeys_on None has =
-      let free : channel_at c node chan ≡ None = none_there (channel_at c node chan) has in
+      let free : channel_at c node chan ≡ None = none_is (channel_at c node chan) has in
       header_obeys x g bs own c s seen P file [] (λ t. t) (inl (λ t. t)) (λ other t. absurd t) PW (inr (inl refl)) _
       (λ out. refused_so refusal.NoSuchFile (of_file free None (not_live g bs own c s file out)) [])
-      (λ is. at_header free is (live_in file.seq hb) refl) where
-        none_there : (o : Option Open) → is_none o ≡ true → o ≡ None
-        none_there None e = refl
-        none_there (Some o) e = absurd (let f : false ≡ true = e in cc)
+      (λ is. at_header free is (live_in file.seq hb) refl)
 
 -- ---- the law
 

@@ -1,21 +1,26 @@
 -- What a channel has open, and what the others have once it is closed.
 use Rattle.std.proofs.Common.{◌≡◌, ◌<◌, ◌∙◌, ℕ, zero, suc, Bool, true, false, cond, List, [], ◌∷◌, Option, Some, None, slice_set, refl, sym, ap, arith}
-use Rattle.std.specs.Prelude.{◌==◌, ◌&&◌, ◌||◌, not, nat_lt, leb}
+use Rattle.std.specs.Prelude.{◌==◌, ◌&&◌, not, nat_lt, leb}
 use Rattle.std.specs.List.{list_any, list_all}
 use Rattle.std.proofs.lemmas.Bool.{and_parts}
 use Rattle.std.proofs.lemmas.Bool.Decides.{nat_tests}
 use Rattle.plain_cat.specs.InForm.{is_eighth}
-use Rattle.plain_cat.specs.Modes.{rank, compatible_modes}
+use Rattle.plain_cat.specs.Modes.{rank}
 use Rattle.plain_cat.specs.declared.mode.Mode.{Mode}
 use Rattle.plain_cat.specs.declared.mode.Mode.TheVariants.{NL, CR, CW, PR, PW, EX}
 use Rattle.plain_cat.specs.declared.cat.Cat.{Cat}
 use Rattle.plain_cat.specs.declared.cat.File.{File}
 use Rattle.plain_cat.specs.declared.cat.Open.{Open}
-use Rattle.plain_vol.specs.Lookups.{in_use, channel_at, place, has_file, is_open}
-use Rattle.plain_vol.specs.Changes.{with_channel}
-use Rattle.plain_vol.specs.Answers.{conflicts}
+use Rattle.plain_rules.specs.Lookups.{in_use, channel_at, place, is_open}
+use Rattle.plain_rules.specs.Changes.{with_channel}
+use Rattle.plain_rules.specs.Answers.{conflicts}
 use Rattle.op_law.specs.declared.seen.Chan.{Chan}
-use Rattle.op_law.specs.Knows.{is_plain_file, others_open, goes_with, is_open_as, is_held_open}
+use Rattle.op_law.specs.Knows.{is_open_as}
+use Rattle.plain_rules.specs.Opens.{is_plain_file}
+use Rattle.plain_rules.specs.Opens.{others_open}
+use Rattle.plain_rules.specs.Opens.{goes_with}
+use Rattle.plain_rules.specs.Opens.{is_held_open}
+use Rattle.op_law.proofs.Opens.{any_conflicts}
 
 -- ---- modes
 
@@ -70,28 +75,6 @@ module _ (c : Cat) (node chan : ℕ) (p : Chan) where
   has_open = by_open (channel_at c node chan) refl
 
 -- ---- whether an ask is granted
-
--- a lock in EX conflicts with each open that is not in NL
-ex_conflicts : (n : ℕ) (o : Option Open) → is_held_open o ≡ true → conflicts n EX o ≡ has_file n o
-ex_conflicts n None held = refl
-ex_conflicts n (Some o) held = by_mode o.mode held where
-  by_file : (t : Bool) → (t && true) ≡ t
-  by_file true = refl
-  by_file false = refl
-
-  by_mode : (m : Mode) → nat_lt 0 (rank m) ≡ true → ((o.file == n) && not (compatible_modes EX m)) ≡ (o.file == n)
-  by_mode NL held = absurd (let f : false ≡ true = held in cc)
-  by_mode CR held = by_file (o.file == n)
-  by_mode CW held = by_file (o.file == n)
-  by_mode PR held = by_file (o.file == n)
-  by_mode PW held = by_file (o.file == n)
-  by_mode EX held = by_file (o.file == n)
-
-any_conflicts : (n : ℕ) (os : List (Option Open)) → list_all is_held_open os ≡ true → list_any (conflicts n EX) os ≡ list_any (has_file n) os
-any_conflicts n [] held = refl
-any_conflicts n (o ∷ os) held =
-    let a = and_parts (is_held_open o) (list_all is_held_open os) held in
-    ap (λ b. b || list_any (conflicts n EX) os) (ex_conflicts n o a.0) ∙ ap (λ b. has_file n o || b) (any_conflicts n os a.1)
 
 -- one that is closed is in no mode
 held_less : (os : List (Option Open)) (k : ℕ) → list_all is_held_open os ≡ true → list_all is_held_open (slice_set os k None) ≡ true

@@ -13,19 +13,20 @@ ghost use Rattle.op_law.specs.Readable.{AreInside, HeadIsInside};
 ghost use Rattle.op_law.specs.Freeing.{all_clusters, freeing_writes};
 ghost use Rattle.op_law.specs.Channels.{close_plan, close_in, close_events};
 ghost use Rattle.op_law.specs.Fits.{FitsSeen};
-ghost use Rattle.op_gone.specs.Seeing.{file_seen, IsReadable};
-ghost use Rattle.op_gone.specs.Looking.{space_seen, IsWhole};
+ghost use Rattle.op_steps.specs.Seeing.{file_seen, IsReadable};
+ghost use Rattle.op_freeing.specs.Looking.{space_seen, IsWhole};
 ghost use Rattle.op_access.specs.Asks.{ask_by};
 
-use op_gone::{FileSeen, Space, SpaceSeen, all_clusters, file_used, push_gone, space_seen};
+use base_words::Block;
+use op_freeing::{Space, SpaceSeen, all_clusters, push_gone, space_seen};
 use op_law::{
     Ask, Chan, Looked, Need, NoMemory, Plan, Rest, Seen, Writes, answered, header_seen, is_number,
     refused,
 };
+use op_steps::{FileSeen, file_used};
 use plain_cat::{Clusters, Mode, Refusal, Reply};
 use std::alloc::Global;
 use vol_parts::Geometry;
-use vol_words::Block;
 
 // The ask whether no other channel has this file open, unless the mode of this one says so: nothing goes with EX.
 fn ask_by(file: u32, chan: u8, mode: Mode) -> Option<Ask>

@@ -12,15 +12,13 @@
 //! the bitmaps, and the plan. The plan of OPEN asks for the lock of who has the file open, in its mode: the reply is `Opened`, or
 //! AccConflict if the ask is refused. Each OPEN, and each CLOSE of a channel in form, obeys the law of a command
 //! (`open_obeys_the_law`, `close_obeys_the_law`).
+//!
+//! `xqp_set` joins it to the other commands.
 #![tactic(auto)]
 
 mod closing;
 pub mod laws;
-#[cfg(test)]
-mod on_channel;
 mod opening;
 mod operation;
-#[cfg(test)]
-mod tests;
 
 pub use operation::OpAccess;

@@ -4,8 +4,8 @@ use Rattle.std.specs.List.{range_with_len}
 use Rattle.std.proofs.lemmas.List.{take_more, map-append}
 use Rattle.std.proofs.lemmas.Grind.{flat_map-append}
 use Rattle.std.proofs.lemmas.List.{append-nil}
-use Rattle.vol_owners.specs.Lists.{Has}
-use Rattle.vol_owners.specs.Places.{spread}
+use Rattle.base_words.specs.Lists.{Has}
+use Rattle.vol_spell.specs.Spread.{spread}
 use Rattle.vol_parts.specs.declared.geometry.Geometry.{Geometry}
 use Rattle.vol_parts.proofs.Ranges.{range-more}
 use Rattle.vol_spell.specs.Reading.{total_of}

@@ -2,9 +2,9 @@
 use Rattle.std.proofs.Common.{◌≡◌, ◌+◌, ◌∙◌, ◌++◌, ◌&&◌, ℕ, suc, Bool, true, false, cond, List, [], ◌∷◌, length, drop, refl, ap, arith}
 use Rattle.std.specs.Prelude.{leb}
 use Rattle.std.specs.List.{list_all, prefix_len}
-use Rattle.vol_words.specs.Names.{is_character, is_part, is_tail, is_name}
+use Rattle.base_words.specs.Names.{is_character, is_part, is_tail, is_name}
 use Rattle.plain_cat.specs.InForm.{is_dir_name}
-use Rattle.plain_vol.specs.Answers.{dir_name}
+use Rattle.plain_rules.specs.Answers.{dir_name}
 
 pub and_left : (a b : Bool) → (a && b) ≡ true → a ≡ true
 and_left true b e = refl

@@ -1,22 +1,23 @@
 -- What a command that makes a file has outside after its writes: nothing. And the last write of a plan is the insertion's.
 use Rattle.std.proofs.Common.{◌≡◌, ◌<◌, ◌-◌, ℕ, Bool, true, false, cond, List, [], ◌∷◌, ◌++◌, Option, Some, None, map, length, sym, ap, inl, inr}
 use Rattle.std.specs.Prelude.{◌==◌, ◌&&◌}
-use Rattle.vol_words.specs.Fields.{Block}
+use Rattle.base_words.specs.Fields.{Block}
 use Rattle.fx_dir.specs.Writing.{block_of}
 use Rattle.lock_db.specs.declared.name.LockName.{LockName}
 use Rattle.lock_db.specs.declared.name.LockName.TheVariants.{S}
 use Rattle.plain_cat.specs.declared.command.Cmd.{Cmd}
 use Rattle.plain_cat.specs.declared.history.Stage.{Stage}
 use Rattle.plain_cat.specs.declared.history.Stage.TheVariants as stage
-use Rattle.vol_owners.specs.Owners.{Things, nothing}
-use Rattle.vol_owners.specs.Places.{spread}
+use Rattle.vol_spell.specs.Owners.{Things, nothing}
+use Rattle.vol_spell.specs.Spread.{spread}
 use Rattle.vol_parts.specs.declared.geometry.Geometry.{Geometry}
 use Rattle.vol_under.specs.UnderWay.{stage_after, outs_after}
 use Rattle.op_law.specs.declared.seen.Chan.{Chan}
 use Rattle.op_law.specs.Events.{Space, has_space, HasNoSpace, IsGiven}
 use Rattle.op_law.specs.declared.need.PlanWrite.{PlanWrite}
 use Rattle.op_law.specs.Writing.{holding, header_write, empty_handed, write_at}
-use Rattle.op_law.specs.Quotas.{owner_write, changed_write, row_place, is_row_of, row_charged}
+use Rattle.op_law.specs.Quotas.{owner_write, changed_write, row_place, row_charged}
+use Rattle.vol_spell.specs.Rows.{is_row_of}
 use Rattle.op_law.specs.Moving.{SeenDir, insertion_moves, insertion_writes}
 use Rattle.op_law.specs.Entering.{NewEntry, cost_of, numbered, entry_for, new_header, body_writes, making_writes}
 use Rattle.op_law.specs.Needs.{events_of}

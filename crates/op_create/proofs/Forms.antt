@@ -1,28 +1,32 @@
 -- What commands that make a file make, where the entries of the directory refuse nothing.
-use Rattle.std.proofs.Common.{◌≡◌, ◌≤◌, ◌<◌, ◌+◌, ◌^◌, ◌∙◌, inl, inr, ℕ, Bool, true, false, cond, List, [], ◌∷◌, ◌++◌, None, length, drop, refl, sym, ap, arith}
-use Rattle.std.specs.Prelude.{◌==◌, ◌&&◌, not, leb, nat_le}
+use Rattle.std.proofs.Common.{◌≡◌, ◌≤◌, ◌<◌, ◌+◌, ◌^◌, ◌∙◌, inl, inr, ℕ, true, false, cond, List, [], ◌∷◌, ◌++◌, None, length, drop, refl, sym, ap, arith}
+use Rattle.std.specs.Prelude.{◌&&◌, leb}
 use Rattle.std.specs.List.{list_all, prefix_len}
 use Rattle.std.proofs.lemmas.Bool.{and_parts, leb-true}
 use Rattle.std.proofs.lemmas.Bool.Decides.{nat_tests}
-use Rattle.vol_words.specs.Names.{is_character, is_part, is_tail, is_name}
+use Rattle.base_words.specs.Names.{is_character, is_part, is_tail, is_name}
 use Rattle.plain_cat.specs.InForm.{is_dir_name, is_version, is_count, is_owner}
 use Rattle.plain_cat.specs.declared.entries.DirEnt.{DirEnt}
 use Rattle.plain_cat.specs.declared.command.Cmd.{Cmd}
 use Rattle.plain_cat.specs.declared.command.Cmd.TheVariants as cmd
 use Rattle.plain_cat.specs.declared.cat.File.{File}
-use Rattle.plain_vol.specs.Lookups.{versions, highest}
-use Rattle.plain_vol.specs.Directories.{inserted, is_nil, fits, nowhere, entry, new_version, is_last_version, is_taken}
-use Rattle.plain_vol.specs.Changes.{new_file}
-use Rattle.plain_vol.specs.Answers.{first_refusal, dir_name}
+use Rattle.plain_rules.specs.Lookups.{versions}
+use Rattle.plain_rules.specs.Directories.{inserted, is_nil, fits, nowhere, entry, new_version, is_taken}
+use Rattle.plain_rules.specs.Changes.{new_file}
+use Rattle.plain_rules.specs.Answers.{first_refusal, dir_name}
 use Rattle.vol_parts.specs.declared.geometry.Geometry.{Geometry}
-use Rattle.op_law.specs.Knows.{takes_space, clusters_wanted, wants_number}
+use Rattle.op_law.specs.Knows.{takes_space, clusters_wanted}
+use Rattle.plain_rules.specs.Laws.{makes_file as wants_number}
 use Rattle.op_law.specs.Writing.{clusters_for}
 use Rattle.op_law.specs.Moving.{is_full}
 use Rattle.op_law.specs.Entering.{create_refusals, mkdir_refusals}
-use Rattle.op_writes.specs.FileWrites.{IsNewFile}
+use Rattle.op_steps.specs.FileWrites.{IsNewFile}
 use Rattle.op_law.proofs.Refusals.{passed}
 use Rattle.op_create.specs.Kinds.{IsMake}
 use Rattle.op_create.proofs.Makers.{Maker, maker}
+use Rattle.op_law.proofs.Versions.{version_from, version_to}
+use Rattle.base_words.proofs.Listing.{behind_front}
+use Rattle.base_words.proofs.Booleans.{not_false}
 
 -- ---- the name of a new directory
 
@@ -32,10 +36,6 @@ all_front [] tail e = refl
 all_front (a ∷ text) tail e =
     let parts = and_parts (is_character a) (list_all is_character text) e in
     ap (λ t. cond t (1 + prefix_len is_character (text ++ 46 ∷ tail)) 0) parts.0 ∙ (let h = all_front text tail parts.1 in omega arith)
-
-behind_front : (text tail : List ℕ) → drop (length text) (text ++ tail) ≡ tail
-behind_front [] tail = refl
-behind_front (a ∷ text) tail = behind_front text tail
 
 dir_named : (name : List ℕ) → is_dir_name name ≡ true → is_name (dir_name name) ≡ true
 unfolding is_name is_part is_character
@@ -60,22 +60,6 @@ pub record IsInOrder (g : Geometry) (m : Maker) (es : List DirEnt) : Type 0 wher
 
 owner_low : (n : ℕ) → leb n 1073741823 ≡ true → n < 2 ^ 32
 owner_low n e = let h = leb-true n 1073741823 e in omega arith
-
-not_false : (t : Bool) → not t ≡ false → t ≡ true
-not_false true e = refl
-not_false false e = absurd (cc)
-
-version_from : (ver : ℕ) (es : List DirEnt) → 1 ≤ new_version ver es
-version_from ver es = by_test (ver == 0) refl where
-  by_test : (t : Bool) → (ver == 0) ≡ t → 1 ≤ cond t (highest es + 1) ver
-  by_test true e = omega arith
-  by_test false e = grind (arith, nat_tests)
-
-version_to : (ver : ℕ) (es : List DirEnt) → ver ≤ 32767 → is_last_version ver es ≡ false → new_version ver es ≤ 32767
-version_to ver es to last = by_test (ver == 0) last where
-  by_test : (t : Bool) → (t && nat_le 32767 (highest es)) ≡ false → cond t (highest es + 1) ver ≤ 32767
-  by_test true e = grind (arith, nat_tests)
-  by_test false e = to
 
 none_taken : (es : List DirEnt) → is_nil es ≡ true → is_taken 1 es ≡ false
 none_taken [] e = refl

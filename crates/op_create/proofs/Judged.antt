@@ -1,6 +1,6 @@
 -- What comes next behind refusals of which none holds.
 use Rattle.std.proofs.Common.{◌≡◌, ◌∙◌, ℕ, List, Option, None, ap}
-use Rattle.vol_words.specs.Fields.{Block}
+use Rattle.base_words.specs.Fields.{Block}
 use Rattle.plain_cat.specs.declared.ids.Fid.{Fid}
 use Rattle.plain_cat.specs.declared.ids.Uic.{Uic}
 use Rattle.plain_cat.specs.declared.reply.Refusal.{Refusal}
@@ -13,7 +13,7 @@ use Rattle.op_law.specs.Writing.{clusters_for}
 use Rattle.op_law.specs.Moving.{SeenDir, through_names}
 use Rattle.op_law.specs.Entering.{NewEntry, numbered, made_of, making_events, create_in, create_events, mkdir_in, mkdir_events}
 use Rattle.op_law.specs.Behind.{goes_on_by, HasFirst}
-use Rattle.plain_vol.specs.Answers.{dir_name}
+use Rattle.plain_rules.specs.Answers.{dir_name}
 use Rattle.op_create.specs.declared.slots.Place.{Place}
 use Rattle.op_create.specs.Given.{through_place, behind_place}
 

@@ -1,6 +1,6 @@
 -- The law of CREATE and MKDIR.
 use Rattle.std.proofs.Common.{◌≡◌, ◌≤◌, ◌∙◌, ℕ, List, [], ◌∷◌, Option, Some, None, length, sym, ap, subst}
-use Rattle.vol_words.specs.Fields.{Block}
+use Rattle.base_words.specs.Fields.{Block}
 use Rattle.fx_header.specs.declared.slot.Hdr.{Hdr}
 use Rattle.fx_header.specs.Headers.{header_read}
 use Rattle.lock_db.specs.declared.name.LockName.{LockName}
@@ -15,11 +15,11 @@ use Rattle.plain_cat.specs.declared.reply.Refusal.{Refusal}
 use Rattle.plain_cat.specs.declared.cat.Cat.{Cat}
 use Rattle.plain_cat.specs.declared.cat.File.{File}
 use Rattle.plain_cat.specs.declared.reply.Refusal.TheVariants as refusal
-use Rattle.plain_vol.specs.Lookups.{free_clusters}
-use Rattle.plain_vol.specs.Changes.{next_seq}
-use Rattle.plain_vol.specs.Answers.{first_refusal, shown, Answer}
-use Rattle.vol_owners.specs.Owners.{Owners, Things, nothing, Outs}
-use Rattle.vol_owners.specs.Places.{blocks_at}
+use Rattle.plain_rules.specs.Lookups.{free_clusters}
+use Rattle.plain_rules.specs.Changes.{next_seq}
+use Rattle.plain_rules.specs.Answers.{first_refusal, shown, Answer}
+use Rattle.vol_spell.specs.Owners.{Owners, Things, nothing, Outs}
+use Rattle.vol_spell.specs.Spread.{blocks_at}
 use Rattle.vol_parts.specs.declared.geometry.Geometry.{Geometry}
 use Rattle.vol_spell.specs.Reading.{header_block, quota_places}
 use Rattle.vol_spell.specs.Spelling.{Spells}
@@ -35,7 +35,7 @@ use Rattle.op_law.specs.Entering.{NewEntry, numbered, entry_for, making_writes, 
 use Rattle.op_law.specs.Laws.{held_in, KeepsOut, Lawful}
 use Rattle.op_law.proofs.Walking.{ObeysBy}
 use Rattle.op_law.proofs.Through.{file_told, listed_blocks, IsListed}
-use Rattle.op_writes.specs.EntryWrites.{dir_in}
+use Rattle.op_steps.specs.EntryWrites.{dir_in}
 use Rattle.op_law.proofs.Doing.{busy, IsDone, refusal_done, does_lawful}
 use Rattle.op_create.specs.Kinds.{IsMake}
 use Rattle.op_create.proofs.Makers.{Maker, to_make, maker, events_are}

@@ -7,10 +7,10 @@ use Rattle.plain_cat.specs.declared.command.Cmd.{Cmd}
 use Rattle.plain_cat.specs.declared.command.Cmd.TheVariants as cmd
 use Rattle.plain_cat.specs.declared.reply.Refusal.{Refusal}
 use Rattle.plain_cat.specs.declared.cat.File.{File}
-use Rattle.plain_vol.specs.Lookups.{versions}
-use Rattle.plain_vol.specs.Directories.{new_version}
-use Rattle.plain_vol.specs.Changes.{new_file, new_dir}
-use Rattle.plain_vol.specs.Answers.{first_refusal, dir_name}
+use Rattle.plain_rules.specs.Lookups.{versions}
+use Rattle.plain_rules.specs.Directories.{new_version}
+use Rattle.plain_rules.specs.Changes.{new_file, new_dir}
+use Rattle.plain_rules.specs.Answers.{first_refusal, dir_name}
 use Rattle.vol_parts.specs.declared.geometry.Geometry.{Geometry}
 use Rattle.op_law.specs.declared.seen.Chan.{Chan}
 use Rattle.op_law.specs.Events.{Events}

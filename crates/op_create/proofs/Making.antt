@@ -1,7 +1,7 @@
 -- The writes of a new file as a chain of steps, and what guards them.
 use Rattle.std.proofs.Common.{◌≡◌, ◌≤◌, ◌<◌, ◌-◌, ◌+◌, ◌∙◌, inl, inr, ℕ, false, List, [], ◌∷◌, ◌++◌, Some, None, length, append_assoc, refl, sym, subst, arith}
 use Rattle.std.proofs.lemmas.List.{append-nil}
-use Rattle.vol_words.specs.Fields.{Block}
+use Rattle.base_words.specs.Fields.{Block}
 use Rattle.fx_header.specs.declared.slot.Hdr.{Hdr}
 use Rattle.lock_db.specs.declared.name.LockName.TheVariants.{S, Q}
 use Rattle.plain_cat.specs.declared.command.Cmd.{Cmd}
@@ -9,12 +9,12 @@ use Rattle.plain_cat.specs.declared.history.Stage.TheVariants as stage
 use Rattle.plain_cat.specs.declared.cat.Cat.{Cat}
 use Rattle.plain_cat.specs.declared.cat.File.{File}
 use Rattle.plain_cat.specs.declared.cat.QuotaRow.{QuotaRow}
-use Rattle.plain_vol.specs.Lookups.{file_at, live, row_of, free_clusters}
-use Rattle.plain_vol.specs.Directories.{nowhere}
-use Rattle.plain_vol.specs.Changes.{new_fid, charged}
-use Rattle.plain_vol.specs.Answers.{first_refusal, over_quota}
-use Rattle.vol_owners.specs.Owners.{Owners, Things, nothing, Outs}
-use Rattle.vol_owners.specs.Places.{blocks_at}
+use Rattle.plain_rules.specs.Lookups.{file_at, live, row_of, free_clusters}
+use Rattle.plain_rules.specs.Directories.{nowhere}
+use Rattle.plain_rules.specs.Changes.{new_fid, charged}
+use Rattle.plain_rules.specs.Answers.{first_refusal, over_quota}
+use Rattle.vol_spell.specs.Owners.{Owners, Things, nothing, Outs}
+use Rattle.vol_spell.specs.Spread.{blocks_at}
 use Rattle.vol_parts.specs.declared.geometry.Geometry.{Geometry}
 use Rattle.vol_spell.specs.Reading.{quota_places}
 use Rattle.vol_spell.specs.Spelling.{Spells}
@@ -30,18 +30,18 @@ use Rattle.op_law.specs.Moving.{SeenDir, insertion_moves, insertion_writes}
 use Rattle.op_law.specs.Entering.{NewEntry, cost_of, new_header, body_writes, entry_for, making_writes, quota_refusals}
 use Rattle.op_law.proofs.Through.{file_told, IsListed}
 use Rattle.op_law.proofs.Naming.{both_named, both_leave, no_header_leaves}
-use Rattle.op_writes.specs.Chained.{Chain, StepsOf, after_writes, StandsOn, FilesStay}
-use Rattle.vol_writes.specs.Rows.{IsInRange, row_for}
-use Rattle.op_writes.specs.FileWrites.{CanBeMade, file_writes}
-use Rattle.vol_writes.specs.Entries.{CanBeEntered}
-use Rattle.op_writes.specs.EntryWrites.{dir_in}
-use Rattle.op_writes.proofs.RowSteps.{row_steps, row_guards, row_no_header}
-use Rattle.op_writes.proofs.FileSteps.{same_on, file_steps}
-use Rattle.op_writes.proofs.FileGuards.{file_guards, file_leaves}
-use Rattle.op_writes.proofs.EntrySteps.{entry_steps, entry_moved, entry_guards, entry_no_header}
-use Rattle.op_writes.proofs.RowRanges.{charged_in}
-use Rattle.op_writes.proofs.EntryRooms.{room_alike}
-use Rattle.op_writes.proofs.Chaining.{live_at, other_slot, same_dir}
+use Rattle.op_steps.specs.Chained.{Chain, StepsOf, after_writes, StandsOn, FilesStay}
+use Rattle.vol_spell.specs.Rows.{IsInRange, row_for}
+use Rattle.op_steps.specs.FileWrites.{CanBeMade, file_writes}
+use Rattle.vol_spell.specs.Entries.{CanBeEntered}
+use Rattle.op_steps.specs.EntryWrites.{dir_in}
+use Rattle.op_steps.proofs.RowSteps.{row_steps, row_guards, row_no_header}
+use Rattle.op_steps.proofs.FileSteps.{same_on, file_steps}
+use Rattle.op_steps.proofs.FileGuards.{file_guards, file_leaves}
+use Rattle.op_steps.proofs.EntrySteps.{entry_steps, entry_moved, entry_guards, entry_no_header}
+use Rattle.op_steps.proofs.RowRanges.{charged_in}
+use Rattle.plain_rules.proofs.Rooms.{room_of_any}
+use Rattle.op_steps.proofs.Chaining.{live_at, other_slot, same_dir}
 use Rattle.op_law.proofs.Refusals.{passed}
 use Rattle.op_law.proofs.Spaces.{not_live_number, IsSpace}
 use Rattle.op_create.specs.Kinds.{IsMake}
@@ -148,7 +148,7 @@ module _ (x : Cmd) (is : IsMake x) (node : ℕ) (g : Geometry) (bs : List Block)
         num = omega arith;
         seq = sequence_within g bs own c s n space.number;
         new = form.new;
-        room = room_alike g.cluster m.name (m.ver d.entries) (new_fid c n) nowhere d.entries ∙ form.room;
+        room = room_of_any g.cluster m.name (m.ver d.entries) (new_fid c n) nowhere d.entries ∙ form.room;
       }
 
   enters : CanBeEntered g c m.dir.num d (entry_for n made)

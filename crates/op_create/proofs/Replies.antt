@@ -12,14 +12,14 @@ use Rattle.plain_cat.specs.declared.reply.Refusal.{Refusal}
 use Rattle.plain_cat.specs.declared.reply.Refusal.TheVariants as refusal
 use Rattle.plain_cat.specs.declared.cat.Cat.{Cat}
 use Rattle.plain_cat.specs.declared.cat.File.{File}
-use Rattle.plain_vol.specs.declared.outcome.Outcome.{Outcome}
-use Rattle.plain_vol.specs.Lookups.{live, free_clusters, is_free_number}
-use Rattle.plain_vol.specs.Directories.{inserted, entry}
-use Rattle.plain_vol.specs.Changes.{new_fid, charged, with_file, with_entries}
-use Rattle.plain_vol.specs.Answers.{refused, first_refusal, unless, in_directory_file, shown, made, create_outcome, create_refusal, mkdir_outcome, mkdir_refusal, outcome, IsPick, Answer}
-use Rattle.plain_vol.specs.Stages.{making_stage, create_stage, mkdir_stage, command_stage, stage_of, staged}
-use Rattle.plain_vol.proofs.Picks.{free_is_pick}
-use Rattle.plain_vol.proofs.LawSteps.{pick_exists}
+use Rattle.plain_rules.specs.declared.outcome.Outcome.{Outcome}
+use Rattle.plain_rules.specs.Lookups.{live, free_clusters, is_free_number}
+use Rattle.plain_rules.specs.Directories.{inserted, entry}
+use Rattle.plain_rules.specs.Changes.{new_fid, charged, with_file, with_entries}
+use Rattle.plain_rules.specs.Answers.{refused, first_refusal, unless, in_directory_file, shown, made, create_outcome, create_refusal, mkdir_outcome, mkdir_refusal, outcome, IsPick, Answer}
+use Rattle.plain_rules.specs.Stages.{making_stage, create_stage, mkdir_stage, command_stage, stage_of, staged}
+use Rattle.plain_rules.proofs.Picks.{free_is_pick}
+use Rattle.plain_rules.proofs.LawSteps.{pick_exists}
 use Rattle.vol_parts.specs.declared.geometry.Geometry.{Geometry}
 use Rattle.vol_under.specs.UnderWay.{StandsAt}
 use Rattle.op_law.specs.Moving.{is_full}
@@ -29,6 +29,7 @@ use Rattle.op_create.specs.Kinds.{IsMake}
 use Rattle.op_create.proofs.Makers.{Maker, to_make, maker}
 use Rattle.op_create.proofs.Forms.{file_of_seq}
 use Rattle.op_law.proofs.Spaces.{IsShort}
+use Rattle.vol_parts.proofs.Factors.{with_factor}
 
 -- ---- the outcome
 
@@ -62,10 +63,6 @@ checks g c m d new = m.refusals d.entries ++ (quota_refusals g (to_make m d.entr
 
 abbrev in_dir : Geometry → Cat → Maker → Option ℕ → File → Outcome
 in_dir g c m new d = unless c (first_refusal (checks g c m d new)) (made_or_none c m d new)
-
--- a geometry with another cluster factor
-abbrev with_factor : Geometry → ℕ → Geometry
-with_factor g w = record g { cluster = w }
 
 outcome_by : (g : Geometry) (c : Cat) (node : ℕ) (x : Cmd) (is : IsMake x) (new : Option ℕ)
     → outcome c node x new ≡ in_directory_file c (live c (maker (with_factor g c.factor) x is).dir) (in_dir (with_factor g c.factor) c (maker (with_factor g c.factor) x is) new)

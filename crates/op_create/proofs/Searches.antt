@@ -1,7 +1,7 @@
 -- What holds of the events of a command that makes a file where it holds at their ends: it searches for space once, a refusal
 -- writes nothing, and nothing is asked.
 use Rattle.std.proofs.Common.{ℕ, true, List, Option, Some, None, refl, sym, subst}
-use Rattle.vol_words.specs.Fields.{Block}
+use Rattle.base_words.specs.Fields.{Block}
 use Rattle.lock_db.specs.declared.name.LockName.{LockName}
 use Rattle.lock_db.specs.declared.name.LockName.TheVariants.{Q}
 use Rattle.plain_cat.specs.declared.mode.Mode.{Mode}
@@ -9,7 +9,7 @@ use Rattle.plain_cat.specs.declared.mode.Mode.TheVariants.{PW}
 use Rattle.plain_cat.specs.declared.command.Cmd.{Cmd}
 use Rattle.plain_cat.specs.declared.reply.Refusal.{Refusal}
 use Rattle.plain_cat.specs.declared.reply.Refusal.TheVariants as refusal
-use Rattle.plain_vol.specs.Answers.{first_refusal}
+use Rattle.plain_rules.specs.Answers.{first_refusal}
 use Rattle.vol_parts.specs.declared.geometry.Geometry.{Geometry}
 use Rattle.vol_spell.specs.Reading.{quota_places}
 use Rattle.op_law.specs.declared.seen.Chan.{Chan}

@@ -3,18 +3,19 @@ use Rattle.std.proofs.Common.{◌≡◌, ◌<◌, ◌+◌, ◌^◌, ◌∙◌, �
 use Rattle.std.specs.Prelude.{◌==◌, not, Result, Ok, Err}
 use Rattle.std.proofs.lemmas.Bool.Decides.{nat_tests}
 use Rattle.std.proofs.lemmas.Option.{slice_get-get_or}
-use Rattle.vol_words.specs.Fields.{Block, IsBytes, field}
-use Rattle.vol_words.proofs.Puts.{field-lt}
+use Rattle.base_words.specs.Fields.{Block, IsBytes, field}
+use Rattle.base_words.proofs.Puts.{field-lt}
 use Rattle.fx_header.specs.declared.slot.Hdr.{Hdr}
 use Rattle.fx_header.specs.declared.slot.Slot.{Slot as Head}
 use Rattle.fx_header.specs.declared.slot.Slot.TheVariants as head
 use Rattle.fx_header.specs.declared.slot.HeaderFault.{HeaderFault}
 use Rattle.fx_header.specs.declared.slot.HeaderFault.TheVariants.{BadSum, BadLevel, BadOffsets, BadRvn, BadExtension, BadMap, BadEnd}
-use Rattle.fx_header.specs.Headers.{is_free, has_sum, has_level, has_offsets, is_on_this_volume, is_alone, has_map, has_blocks, has_end, header_read, fields_of}
+use Rattle.fx_header.specs.Headers.{is_free, has_level, has_offsets, is_on_this_volume, is_alone, has_map, has_blocks, has_end, header_read, fields_of}
+use Rattle.base_words.specs.Fields.{has_sum}
 use Rattle.plain_cat.specs.declared.cat.Cat.{Cat}
-use Rattle.plain_vol.specs.Lookups.{last_seq}
-use Rattle.plain_vol.specs.Changes.{next_seq, new_fid}
-use Rattle.vol_owners.specs.Owners.{Owners}
+use Rattle.plain_rules.specs.Lookups.{last_seq}
+use Rattle.plain_rules.specs.Changes.{next_seq, new_fid}
+use Rattle.vol_spell.specs.Owners.{Owners}
 use Rattle.vol_parts.specs.declared.geometry.Geometry.{Geometry}
 use Rattle.vol_parts.specs.Catalogues.{slot_with}
 use Rattle.vol_spell.specs.Reading.{IsFileNumber, header_place, header_block}

@@ -2,7 +2,7 @@
 use Rattle.std.proofs.Common.{◌≡◌, inl, inr, ℕ, Bool, true, false, List, [], ◌∷◌, Option, Some, None, length, refl, sym, ap, subst, arith}
 use Rattle.std.specs.Prelude.{◌==◌, ◌&&◌, is_some, if◌then◌else◌}
 use Rattle.std.proofs.lemmas.Bool.Decides.{nat_tests}
-use Rattle.vol_words.specs.Fields.{Block}
+use Rattle.base_words.specs.Fields.{Block}
 use Rattle.fx_header.specs.declared.slot.Hdr.{Hdr}
 use Rattle.lock_db.specs.declared.name.LockName.{LockName}
 use Rattle.lock_db.specs.declared.name.LockName.TheVariants.{S, Q}
@@ -15,11 +15,11 @@ use Rattle.plain_cat.specs.declared.reply.Refusal.{Refusal}
 use Rattle.plain_cat.specs.declared.reply.Refusal.TheVariants as refusal
 use Rattle.plain_cat.specs.declared.cat.Cat.{Cat}
 use Rattle.plain_cat.specs.declared.cat.QuotaRow.{QuotaRow}
-use Rattle.plain_vol.specs.Lookups.{live}
-use Rattle.plain_vol.specs.Answers.{first_refusal, shown}
-use Rattle.vol_owners.specs.Lists.{Has}
-use Rattle.vol_owners.specs.Owners.{Owners, Things, Outs}
-use Rattle.vol_owners.specs.Places.{blocks_at}
+use Rattle.plain_rules.specs.Lookups.{live}
+use Rattle.plain_rules.specs.Answers.{first_refusal, shown}
+use Rattle.base_words.specs.Lists.{Has}
+use Rattle.vol_spell.specs.Owners.{Owners, Things, Outs}
+use Rattle.vol_spell.specs.Spread.{blocks_at}
 use Rattle.vol_parts.specs.declared.geometry.Geometry.{Geometry}
 use Rattle.vol_spell.specs.Reading.{header_block, quota_places}
 use Rattle.vol_spell.specs.Spelling.{Spells}
@@ -37,8 +37,8 @@ use Rattle.op_law.specs.Fits.{things}
 use Rattle.op_law.specs.Order.{level, IsBefore, Higher}
 use Rattle.op_law.proofs.Walking.{ObeysBy}
 use Rattle.op_law.proofs.Through.{file_told, IsListed, number_obeys, quota_obeys, directory_obeys}
-use Rattle.op_writes.specs.EntryWrites.{dir_in}
-use Rattle.op_writes.proofs.Chaining.{live_at}
+use Rattle.op_steps.specs.EntryWrites.{dir_in}
+use Rattle.op_steps.proofs.Chaining.{live_at}
 use Rattle.op_create.specs.Kinds.{IsMake}
 use Rattle.op_create.proofs.Makers.{Maker, to_make, maker_events, maker}
 use Rattle.op_create.proofs.Forms.{in_order, is_wanted}

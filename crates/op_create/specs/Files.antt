@@ -1,9 +1,9 @@
 -- A new file, and what makes sure that it can be written.
 use Rattle.std.specs.Prelude.{◌≡◌, ◌≤◌, ◌+◌, ◌*◌, true, false, []}
-use Rattle.vol_words.specs.Names.{is_name}
+use Rattle.base_words.specs.Names.{is_name}
 use Rattle.plain_cat.specs.declared.cat.File.{File}
-use Rattle.plain_vol.specs.Lookups.{versions}
-use Rattle.plain_vol.specs.Directories.{is_taken}
+use Rattle.plain_rules.specs.Lookups.{versions}
+use Rattle.plain_rules.specs.Directories.{is_taken}
 use Rattle.vol_parts.specs.declared.geometry.Geometry.{Geometry}
 use Rattle.op_law.specs.Entering.{NewEntry}
 use Rattle.op_law.specs.Moving.{SeenDir, entries_of}

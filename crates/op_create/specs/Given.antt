@@ -1,14 +1,14 @@
 -- What a command that makes a file is given: clusters and a number, and the slot of that number.
 use Rattle.std.specs.Prelude.{◌≡◌, ◌≤◌, ◌+◌, ◌*◌, ℕ, Bool, true, List, [], ◌∷◌, Some, is_none, length}
-use Rattle.vol_words.specs.Fields.{Block}
+use Rattle.base_words.specs.Fields.{Block}
 use Rattle.lock_db.specs.declared.name.LockName.TheVariants.{S}
 use Rattle.plain_cat.specs.declared.ids.Uic.{Uic}
 use Rattle.plain_cat.specs.declared.mode.Mode.TheVariants.{PW}
 use Rattle.plain_cat.specs.declared.reply.Refusal.{Refusal}
 use Rattle.plain_cat.specs.declared.reply.Refusal.TheVariants as refusal
 use Rattle.plain_cat.specs.declared.cat.QuotaRow.{QuotaRow}
-use Rattle.plain_vol.specs.Lookups.{row_of}
-use Rattle.plain_vol.specs.Answers.{first_refusal, over_quota}
+use Rattle.plain_rules.specs.Lookups.{row_of}
+use Rattle.plain_rules.specs.Answers.{first_refusal, over_quota}
 use Rattle.vol_parts.specs.declared.geometry.Geometry.{Geometry}
 use Rattle.vol_spell.specs.Reading.{IsFileNumber, header_place}
 use Rattle.op_law.specs.declared.need.Need.{Need}

@@ -1,6 +1,6 @@
 -- The commands that make a file.
 use Rattle.std.specs.Prelude.{◌≡◌, ◌&&◌, true}
-use Rattle.vol_words.specs.Names.{is_name}
+use Rattle.base_words.specs.Names.{is_name}
 use Rattle.plain_cat.specs.InForm.{is_dir_name, is_version, is_count, is_owner}
 use Rattle.plain_cat.specs.declared.command.Cmd.{Cmd}
 use Rattle.plain_cat.specs.declared.command.Cmd.TheVariants.{Create, MkDir}

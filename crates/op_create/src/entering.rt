@@ -2,8 +2,8 @@
 
 ghost use Rattle.std.specs.Prelude.{◌≡◌, ◌≤◌, true, None, length, IfOk, IsTrue};
 ghost use Rattle.plain_cat.specs.InForm.{is_dir_name};
-ghost use Rattle.plain_vol.specs.Answers.{first_refusal};
-ghost use Rattle.vol_words.specs.Names.{is_name};
+ghost use Rattle.plain_rules.specs.Answers.{first_refusal};
+ghost use Rattle.base_words.specs.Names.{is_name};
 ghost use Rattle.vol_parts.specs.Parts.{IsGeometry};
 ghost use Rattle.vol_spell.specs.Reading.{IsFileNumber};
 ghost use Rattle.op_law.specs.Events.{next_of, space_of};
@@ -11,21 +11,21 @@ ghost use Rattle.op_law.specs.Moving.{entries_of};
 ghost use Rattle.op_law.specs.Entering.{made_of, create_refusals, create_in, create_events, mkdir_refusals, mkdir_in, mkdir_events};
 ghost use Rattle.op_law.specs.Behind.{goes_on_by, blocks_alone, FollowsBy, HasFirst};
 ghost use Rattle.op_law.specs.Readable.{HeadIsInside};
-ghost use Rattle.op_parts.specs.Names.{dir_seen, IsReadable};
-ghost use Rattle.op_parts.specs.Given.{IsOfVolume};
+ghost use Rattle.op_steps.specs.Names.{dir_seen, IsReadable};
+ghost use Rattle.op_steps.specs.Given.{IsOfVolume};
 ghost use Rattle.op_create.specs.Files.{entry_made, IsSound, IsNewIn};
 
 use crate::files::{NewFile, new_dir, new_file, numbered};
 use crate::judging::{create_refusal, mkdir_refusal};
 use crate::slots::{Place, place_seen};
 use crate::writing::{entry_for, making_writes};
+use base_words::Block;
 use lock_db::LockName;
 use op_law::{Need, NoMemory, Plan, Rest, Seen, entries_seen, refused};
-use op_parts::{DirSeen, Names, clusters_for, names_seen, new_version};
+use op_steps::{DirSeen, Names, clusters_for, names_seen, new_version};
 use plain_cat::{Fid, Mode, Name, Reply, Uic};
-use plain_vol::dir_name;
+use plain_rules::dir_name;
 use std::alloc::Global;
-use vol_words::Block;
 
 // The plan, with the sequence that the slot gives.
 fn made(

@@ -2,21 +2,22 @@
 
 ghost use Rattle.std.specs.Prelude.{◌≡◌, ◌≤◌, ◌<◌, ◌+◌, ◌*◌, None, length, IfOk};
 ghost use Rattle.plain_cat.specs.declared.ids.Fid.{Fid};
-ghost use Rattle.plain_vol.specs.Changes.{next_seq, new_file, new_dir};
+ghost use Rattle.plain_rules.specs.Changes.{next_seq, new_file, new_dir};
 ghost use Rattle.vol_parts.specs.Parts.{IsGeometry};
 ghost use Rattle.vol_spell.specs.Reading.{IsFileNumber};
-ghost use Rattle.op_law.specs.Entering.{fields_for, text_of, new_header, slot_seq, numbered};
+ghost use Rattle.op_law.specs.Entering.{fields_for, new_header, slot_seq, numbered};
+ghost use Rattle.plain_cat.specs.Names.{text_of};
 ghost use Rattle.fx_header.specs.Headers.{header_read};
-ghost use Rattle.op_parts.specs.Given.{IsOfVolume};
+ghost use Rattle.op_steps.specs.Given.{IsOfVolume};
 ghost use Rattle.op_create.specs.Files.{file_made, entry_made, IsSound};
 
+use base_words::Block;
 use fx_header::{Hdr, Slot, new_header, read_header, set_runs};
 use op_law::NoMemory;
-use op_parts::runs_for;
+use op_steps::runs_for;
 use plain_cat::{Clusters, Fid, Name, Uic};
 use std::alloc::Global;
 use vol_parts::Geometry;
-use vol_words::Block;
 
 /// A file that is to be made. Nothing is written in it.
 #[derive(Clone, Copy)]

@@ -1,13 +1,13 @@
 //! What a directory refuses: a file, or a directory, that is to be entered there.
 
 ghost use Rattle.std.specs.Prelude.{◌≡◌, IfOk};
-ghost use Rattle.plain_vol.specs.Answers.{first_refusal};
+ghost use Rattle.plain_rules.specs.Answers.{first_refusal};
 ghost use Rattle.op_law.specs.Entering.{create_refusals, mkdir_refusals};
 
 use op_law::NoMemory;
-use op_parts::{is_full, new_version};
+use op_steps::{is_full, new_version};
 use plain_cat::{DirEnts, Name, Refusal};
-use plain_vol::{has_name, highest, with_version};
+use plain_rules::{has_name, highest, with_version};
 use std::alloc::Global;
 use vol_parts::Geometry;
 

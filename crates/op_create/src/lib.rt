@@ -10,6 +10,8 @@
 //! `next` gives exactly the next need: the directory's lock in PW, its header and blocks, Q in PW and the quota blocks, clusters
 //! and a file number, the lock of that number and its slot, and the plan. Each CREATE and MKDIR in form obeys the law of a
 //! command, with whatever directory (`create_obeys_the_law`).
+//!
+//! `xqp_set` joins it to the other commands.
 #![tactic(auto)]
 
 mod entering;
@@ -18,11 +20,7 @@ mod judging;
 pub mod laws;
 mod numbers;
 mod operation;
-#[cfg(test)]
-mod plan_tests;
 mod slots;
-#[cfg(test)]
-mod tests;
 mod writing;
 
 pub use numbers::{Given, number_given};

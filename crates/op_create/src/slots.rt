@@ -2,27 +2,27 @@
 //! number's slot.
 
 ghost use Rattle.std.specs.Prelude.{◌≡◌, ◌≤◌, ℕ, List, IfOk};
-ghost use Rattle.vol_words.specs.Fields.{Block};
-ghost use Rattle.plain_vol.specs.Answers.{first_refusal};
+ghost use Rattle.base_words.specs.Fields.{Block};
+ghost use Rattle.plain_rules.specs.Answers.{first_refusal};
 ghost use Rattle.vol_parts.specs.Parts.{IsGeometry};
 ghost use Rattle.vol_spell.specs.Reading.{IsFileNumber};
 ghost use Rattle.op_law.specs.Events.{Events, Space, following, space_of};
 ghost use Rattle.op_law.specs.Quotas.{rows_seen};
 ghost use Rattle.op_law.specs.Behind.{goes_on_by, blocks_alone};
 ghost use Rattle.op_create.specs.Given.{charge_refusals, through_slot, through_place, behind_place, IsSlotOf, IsPlace};
-ghost use Rattle.op_parts.specs.Given.{IsOfVolume};
+ghost use Rattle.op_steps.specs.Given.{IsOfVolume};
 
 use crate::numbers::{Given, number_given};
+use base_words::Block;
 use lock_db::LockName;
 use op_law::{
     Granted, Listed, Looked, Need, NoMemory, Rest, Seen, block_seen, header_lbn, lock_seen, refused,
 };
-use op_parts::{cost_of, quota_seen, rows_seen};
+use op_steps::{cost_of, quota_seen, rows_seen};
 use plain_cat::{Mode, Refusal, Uic};
-use plain_vol::{over_quota, row_of};
+use plain_rules::{over_quota, row_of};
 use std::alloc::Global;
 use vol_parts::Geometry;
-use vol_words::Block;
 
 /// The place of a new file, where all is seen that comes before the plan.
 #[derive(Drop)]

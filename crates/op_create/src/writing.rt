@@ -10,19 +10,19 @@ ghost use Rattle.vol_spell.specs.Reading.{IsFileNumber};
 ghost use Rattle.op_law.specs.Writing.{holding, empty_handed, write_at, header_write};
 ghost use Rattle.op_law.specs.Entering.{body_writes, new_header, entry_for, making_writes};
 ghost use Rattle.op_law.specs.Behind.{blocks_alone};
-ghost use Rattle.op_parts.specs.Names.{dir_seen, IsReadable};
-ghost use Rattle.op_parts.specs.Given.{IsOfVolume};
+ghost use Rattle.op_steps.specs.Names.{dir_seen, IsReadable};
+ghost use Rattle.op_steps.specs.Given.{IsOfVolume};
 ghost use Rattle.op_create.specs.Files.{file_made, entry_made, IsSound, IsNewIn};
 
 use crate::files::{NewFile, header_block};
+use base_words::Block;
 use fx_dir::packed;
 use lock_db::LockName;
 use op_law::{NoMemory, Numbers, PlanWrite, Writes};
-use op_parts::{DirSeen, cost_of, push_charge, push_header, push_insertion};
+use op_steps::{DirSeen, cost_of, push_charge, push_header, push_insertion};
 use plain_cat::{Clusters, DirEnt, Fid, Stage};
 use std::alloc::Global;
 use vol_parts::Geometry;
-use vol_words::Block;
 
 // ---- a file
 

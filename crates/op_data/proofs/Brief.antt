@@ -5,8 +5,8 @@ use Rattle.std.specs.List.{range_with_len}
 use Rattle.std.proofs.Math.Nat.{mul-le-mul_right}
 use Rattle.std.proofs.lemmas.Bool.Decides.{nat_tests}
 use Rattle.std.proofs.lemmas.List.FromFn.{length-map-range_with_len}
-use Rattle.vol_words.specs.Fields.{Block}
-use Rattle.vol_words.specs.Tables.{zeros}
+use Rattle.base_words.specs.Fields.{Block}
+use Rattle.base_words.specs.Tables.{zeros}
 use Rattle.fx_header.specs.declared.slot.Hdr.{Hdr}
 use Rattle.fx_header.specs.Headers.{header_read}
 use Rattle.plain_cat.specs.declared.mode.Mode.TheVariants.{PR, PW}
@@ -15,10 +15,10 @@ use Rattle.plain_cat.specs.declared.history.Stage.TheVariants as stage
 use Rattle.plain_cat.specs.declared.reply.Refusal.TheVariants as refusal
 use Rattle.plain_cat.specs.declared.reply.Reply.TheVariants as reply
 use Rattle.plain_cat.specs.declared.cat.Cat.{Cat}
-use Rattle.plain_vol.specs.Lookups.{channel_at}
-use Rattle.plain_vol.specs.Changes.{is_past_mark, text_block}
-use Rattle.plain_vol.specs.Answers.{is_reading}
-use Rattle.vol_owners.specs.Owners.{Owners}
+use Rattle.plain_rules.specs.Lookups.{channel_at}
+use Rattle.plain_rules.specs.Changes.{is_past_mark, text_block}
+use Rattle.plain_rules.specs.Answers.{is_reading}
+use Rattle.vol_spell.specs.Owners.{Owners}
 use Rattle.vol_parts.specs.declared.geometry.Geometry.{Geometry}
 use Rattle.vol_parts.specs.Volumes.{most_clusters}
 use Rattle.vol_spell.specs.Reading.{IsFileNumber, header_block}
@@ -34,7 +34,7 @@ use Rattle.op_law.specs.SeenFiles.{file_place, file_write}
 use Rattle.op_law.proofs.Brief.{BriefBy, Briefs}
 use Rattle.op_law.proofs.Counting.{header_brief, few_clusters}
 use Rattle.op_data.proofs.Channel.{HasOpen, both_hold, open_as}
-use Rattle.op_data.proofs.Uses.{used_reads}
+use Rattle.op_steps.proofs.Uses.{used_reads}
 
 -- ---- the writes
 

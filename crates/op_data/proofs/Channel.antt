@@ -1,6 +1,6 @@
 -- What a channel has open, by what the command knows.
 use Rattle.std.proofs.Common.{◌≡◌, ◌∙◌, ◌<◌, ℕ, Bool, true, false, Option, Some, None, sym, refl, ap, arith}
-use Rattle.std.specs.Prelude.{◌==◌, ◌&&◌, ◌||◌, not, nat_lt, is_none}
+use Rattle.std.specs.Prelude.{◌==◌, ◌&&◌, ◌||◌, not, nat_lt}
 use Rattle.std.proofs.lemmas.Bool.Decides.{nat_tests}
 use Rattle.plain_cat.specs.Modes.{rank}
 use Rattle.plain_cat.specs.declared.mode.Mode.{Mode}
@@ -8,10 +8,12 @@ use Rattle.plain_cat.specs.declared.mode.Mode.TheVariants.{NL, CR, CW, PR, PW, E
 use Rattle.plain_cat.specs.declared.cat.Cat.{Cat}
 use Rattle.plain_cat.specs.declared.cat.File.{File}
 use Rattle.plain_cat.specs.declared.cat.Open.{Open}
-use Rattle.plain_vol.specs.Lookups.{in_use, channel_at}
-use Rattle.plain_vol.specs.Answers.{is_reading}
+use Rattle.plain_rules.specs.Lookups.{in_use, channel_at}
+use Rattle.plain_rules.specs.Answers.{is_reading}
 use Rattle.op_law.specs.declared.seen.Chan.{Chan}
-use Rattle.op_law.specs.Knows.{goes_with, is_plain_file, is_open_as}
+use Rattle.op_law.specs.Knows.{is_open_as}
+use Rattle.plain_rules.specs.Opens.{goes_with}
+use Rattle.plain_rules.specs.Opens.{is_plain_file}
 
 -- The channel has the file of this number open, in a mode that reads alone exactly where the one that was seen does; and the file is
 -- in use, no system file and no directory.
@@ -27,11 +29,6 @@ pub record HasOpen (c : Cat) (node chan : ℕ) (p : Chan) : Type 0 where
 pub both_hold : (a b : Bool) → (a && b) ≡ true → (a ≡ true) × (b ≡ true)
 both_hold true b e = (refl, e)
 both_hold false b e = absurd (let f : false ≡ true = e in cc)
-
--- nothing is open where it is none
-pub none_open : (o : Option Open) → is_none o ≡ true → o ≡ None
-none_open None e = refl
-none_open (Some o) e = absurd (let f : false ≡ true = e in cc)
 
 -- a mode reads alone by its rank
 by_rank : (m : Mode) → is_reading m ≡ (rank m == 1) || (rank m == 3)

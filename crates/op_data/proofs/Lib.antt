@@ -1,4 +1,3 @@
-pub mod Uses
 pub mod Channel
 pub mod Shows
 pub mod OpenWalk

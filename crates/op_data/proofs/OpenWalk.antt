@@ -1,7 +1,7 @@
 -- A file that a channel has open, behind its lock and its header.
 use Rattle.std.proofs.Common.{◌≡◌, ◌∙◌, ℕ, Bool, true, false, cond, List, [], ◌∷◌, Option, Some, None, inl, refl, sym, ap}
 use Rattle.std.specs.Prelude.{◌==◌, option_map}
-use Rattle.vol_words.specs.Fields.{Block}
+use Rattle.base_words.specs.Fields.{Block}
 use Rattle.fx_header.specs.declared.slot.Hdr.{Hdr}
 use Rattle.fx_header.specs.declared.slot.Slot.TheVariants as head
 use Rattle.fx_header.specs.Headers.{header_read}
@@ -13,9 +13,9 @@ use Rattle.plain_cat.specs.declared.command.Cmd.{Cmd}
 use Rattle.plain_cat.specs.declared.reply.Refusal.TheVariants as refusal
 use Rattle.plain_cat.specs.declared.cat.Cat.{Cat}
 use Rattle.plain_cat.specs.declared.cat.File.{File}
-use Rattle.plain_vol.specs.Lookups.{file_at, of_seq}
-use Rattle.vol_owners.specs.Lists.{Has}
-use Rattle.vol_owners.specs.Owners.{Owners}
+use Rattle.plain_rules.specs.Lookups.{file_at, of_seq}
+use Rattle.base_words.specs.Lists.{Has}
+use Rattle.vol_spell.specs.Owners.{Owners}
 use Rattle.vol_parts.specs.declared.geometry.Geometry.{Geometry}
 use Rattle.vol_parts.specs.Catalogues.{file_of}
 use Rattle.vol_spell.specs.Reading.{IsFileNumber, header_block}
@@ -29,9 +29,9 @@ use Rattle.op_law.specs.Rows.{is_number, refuses}
 use Rattle.op_law.proofs.Telling.{file_blocks}
 use Rattle.op_law.proofs.Through.{header_obeys}
 use Rattle.op_law.proofs.Walking.{ObeysBy}
-use Rattle.op_files.specs.Files.{file_in, IsFileThere}
+use Rattle.op_steps.specs.Files.{file_in, IsFileThere}
 use Rattle.op_data.proofs.Channel.{HasOpen}
-use Rattle.op_data.proofs.Uses.{used_reads, used_is, not_used}
+use Rattle.op_steps.proofs.Uses.{used_reads, used_is, not_used}
 
 -- a file in use is the one that stands under its number
 stands_in_use : (seq : ℕ) (o : Option File) (f : File) → of_seq seq o ≡ Some f → o ≡ Some f

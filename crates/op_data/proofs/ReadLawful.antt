@@ -2,8 +2,8 @@
 use Rattle.std.proofs.Common.{◌≡◌, ◌≤◌, ◌*◌, ◌∙◌, inl, ℕ, Bool, true, false, cond, List, [], ◌∷◌, Option, Some, None, refl, sym, ap, subst, arith}
 use Rattle.std.specs.Prelude.{◌==◌, ◌||◌, ◌-◌, nat_lt, slice_index_or}
 use Rattle.std.proofs.lemmas.Bool.Decides.{nat_tests}
-use Rattle.vol_words.specs.Fields.{Block}
-use Rattle.vol_words.specs.Tables.{zeros}
+use Rattle.base_words.specs.Fields.{Block}
+use Rattle.base_words.specs.Tables.{zeros}
 use Rattle.fx_header.specs.declared.slot.Hdr.{Hdr}
 use Rattle.lock_db.specs.declared.name.LockName.{LockName}
 use Rattle.lock_db.specs.declared.name.LockName.TheVariants.{S}
@@ -16,10 +16,10 @@ use Rattle.plain_cat.specs.declared.reply.Reply.TheVariants as reply
 use Rattle.plain_cat.specs.declared.reply.Refusal.TheVariants as refusal
 use Rattle.plain_cat.specs.declared.cat.Cat.{Cat}
 use Rattle.plain_cat.specs.declared.cat.File.{File}
-use Rattle.plain_vol.specs.Lookups.{file_at, channel_at}
-use Rattle.plain_vol.specs.Changes.{is_past_mark, block_of}
-use Rattle.plain_vol.specs.Answers.{is_outside, Answer}
-use Rattle.vol_owners.specs.Owners.{Owners, Things, nothing, Outs}
+use Rattle.plain_rules.specs.Lookups.{file_at, channel_at}
+use Rattle.plain_rules.specs.Changes.{is_past_mark, block_of}
+use Rattle.plain_rules.specs.Answers.{is_outside, Answer}
+use Rattle.vol_spell.specs.Owners.{Owners, Things, nothing, Outs}
 use Rattle.vol_parts.specs.declared.geometry.Geometry.{Geometry}
 use Rattle.vol_parts.specs.Catalogues.{file_of}
 use Rattle.vol_spell.specs.Spelling.{Spells}
@@ -40,16 +40,18 @@ use Rattle.op_law.specs.SeenFiles.{file_place}
 use Rattle.op_law.proofs.Doing.{IsDone}
 use Rattle.op_law.proofs.Spaceless.{spaceless_lawful}
 use Rattle.op_law.proofs.Walking.{ObeysBy}
-use Rattle.op_files.specs.Files.{file_in, IsFileThere}
-use Rattle.op_blocks.specs.BlockWrites.{blocks_in, HasBlock}
-use Rattle.op_blocks.proofs.Places.{file, guard, lies}
+use Rattle.op_steps.specs.Files.{file_in, IsFileThere}
+use Rattle.op_steps.specs.BlockWrites.{HasBlock}
+use Rattle.vol_spell.specs.Entries.{blocks_of as blocks_in}
+use Rattle.op_steps.proofs.Places.{file, guard, lies}
 use Rattle.op_data.specs.Kinds.{IsRead}
-use Rattle.op_data.proofs.Channel.{HasOpen, both_hold, none_open, open_as}
+use Rattle.op_data.proofs.Channel.{HasOpen, both_hold, open_as}
 use Rattle.op_data.proofs.Shows.{block_shows}
 use Rattle.op_data.proofs.OpenWalk.{open_file, open_obeys}
 use Rattle.op_data.proofs.Walks.{read_no_search, read_shaped, read_end}
 use Rattle.op_data.proofs.Brief.{read_brief}
 use Rattle.op_data.proofs.ReadReplies.{read_closed, read_outside, read_bytes}
+use Rattle.op_law.proofs.Opens.{none_is}
 
 -- a virtual block is one of the file's blocks, by the blocks as by the catalogue
 pub same_outside : (g : Geometry) (bs : List Block) (own : Owners) (c : Cat) (n : ℕ) (h : Hdr) (f : File) (vbn : ℕ) → Spells g bs own c → IsFileThere g c bs n h f → is_outside c f vbn ≡ is_outside_file g (file_in g bs n h).file vbn
@@ -131,7 +133,7 @@ module _ (chan vbn : ℕ) (node : ℕ) (seen : Seen) (bs : List Block) (own : Ow
     by_outside false e = by_past e (is_past_mark sf.file vbn) refl
 
   by_channel : (o : Option Chan) → has_channel c node (Some chan) o ≡ true → O (read_on seen.geometry o vbn) []
-  by_channel None e = unchanged (reply.Refused refusal.NotOpen) (read_closed c node chan vbn (none_open (channel_at c node chan) e)) []
+  by_channel None e = unchanged (reply.Refused refusal.NotOpen) (read_closed c node chan vbn (none_is (channel_at c node chan) e)) []
   by_channel (Some p) e =
       let opened = open_as c node chan p (channel_at c node chan) refl e in
       open_obeys g bs own c s node chan p opened x seen Done PR (inl refl) (within g vbn (read_in vbn)) (λ h there. by_outside p opened h there (is_outside_file g (file_in g bs p.file.num h).file vbn) refl)

@@ -1,6 +1,6 @@
 -- The outcome of READ.
 use Rattle.std.proofs.Common.{◌≡◌, ◌∙◌, ℕ, Bool, true, false, cond, Option, Some, None, ap}
-use Rattle.vol_words.specs.Fields.{Block}
+use Rattle.base_words.specs.Fields.{Block}
 use Rattle.plain_cat.specs.declared.mode.Mode.{Mode}
 use Rattle.plain_cat.specs.declared.command.Cmd.TheVariants as cmd
 use Rattle.plain_cat.specs.declared.reply.Reply.{Reply}
@@ -9,10 +9,10 @@ use Rattle.plain_cat.specs.declared.reply.Refusal.TheVariants as refusal
 use Rattle.plain_cat.specs.declared.cat.Cat.{Cat}
 use Rattle.plain_cat.specs.declared.cat.File.{File}
 use Rattle.plain_cat.specs.declared.cat.Open.{Open}
-use Rattle.plain_vol.specs.Lookups.{file_at, channel_at}
-use Rattle.plain_vol.specs.Changes.{block_of}
-use Rattle.plain_vol.specs.Answers.{refused, told, is_outside, read_of, read_open, read_outcome, outcome, Answer}
-use Rattle.plain_vol.proofs.LawSteps.{pick_exists}
+use Rattle.plain_rules.specs.Lookups.{file_at, channel_at}
+use Rattle.plain_rules.specs.Changes.{block_of}
+use Rattle.plain_rules.specs.Answers.{refused, told, is_outside, read_of, read_open, read_outcome, outcome, Answer}
+use Rattle.plain_rules.proofs.LawSteps.{pick_exists}
 
 module _ (c : Cat) (node chan vbn : ℕ) where
   answers_by : (r : Reply) → ((new : Option ℕ) → outcome c node (cmd.ReadBlock chan vbn) new ≡ record { reply = r; after = c }) → Answer c node (cmd.ReadBlock chan vbn) r c

@@ -3,22 +3,23 @@ use Rattle.std.proofs.Common.{◌≡◌, ◌≤◌, ◌<◌, ◌-◌, ◌∙◌,
 use Rattle.std.specs.Prelude.{◌==◌, ◌&&◌, not, nat_le, option_map, slice_index_or}
 use Rattle.std.proofs.lemmas.Bool.Decides.{nat_tests}
 use Rattle.std.proofs.lemmas.Option.{slice_get-map, get_or_from_slice_get}
-use Rattle.vol_words.specs.Fields.{Block}
-use Rattle.vol_words.specs.Tables.{zeros}
+use Rattle.base_words.specs.Fields.{Block}
+use Rattle.base_words.specs.Tables.{zeros}
 use Rattle.fx_header.specs.declared.slot.Hdr.{Hdr}
 use Rattle.plain_cat.specs.declared.cat.Cat.{Cat}
 use Rattle.plain_cat.specs.declared.cat.File.{File}
-use Rattle.plain_vol.specs.Changes.{is_past_mark, block_of}
-use Rattle.vol_owners.specs.Owners.{Owners}
+use Rattle.plain_rules.specs.Changes.{is_past_mark, block_of}
+use Rattle.vol_spell.specs.Owners.{Owners}
 use Rattle.vol_parts.specs.declared.geometry.Geometry.{Geometry}
 use Rattle.vol_spell.specs.Reading.{header_block}
 use Rattle.vol_spell.specs.Spelling.{Spells}
-use Rattle.op_law.specs.Rows.{places_in}
+use Rattle.vol_spell.specs.Entries.{places_in}
 use Rattle.op_law.specs.SeenFiles.{file_place}
-use Rattle.op_files.specs.Files.{file_in}
-use Rattle.op_blocks.specs.BlockWrites.{blocks_in, HasBlock}
-use Rattle.op_blocks.proofs.Shown.{shown_by, flat_file, flat_told}
-use Rattle.op_blocks.proofs.Places.{plain, file, no_dir, place}
+use Rattle.op_steps.specs.Files.{file_in}
+use Rattle.op_steps.specs.BlockWrites.{HasBlock}
+use Rattle.vol_spell.specs.Entries.{blocks_of as blocks_in}
+use Rattle.op_steps.proofs.Shown.{shown_by, flat_file, flat_told}
+use Rattle.op_steps.proofs.Places.{plain, file, no_dir, place}
 
 get_taken : {A : Type 0} (k i : ℕ) (xs : List A) → i < k → slice_get (take k xs) i ≡ slice_get xs i
 get_taken zero i xs lt = absurd (omega arith)

@@ -2,12 +2,12 @@
 use Rattle.std.proofs.Common.{◌≡◌, ◌≤◌, ◌<◌, ℕ, true, List, [], ◌∷◌, length, arith}
 use Rattle.std.specs.List.{list_all}
 use Rattle.std.proofs.lemmas.Bool.Decides.{nat_tests}
-use Rattle.vol_words.specs.Fields.{IsBytes, IsWholeBlock}
-use Rattle.vol_words.specs.Tables.{zeros}
-use Rattle.blk_whole.proofs.Bytes.{bytes-none, bytes-cons}
-use Rattle.blk_whole.proofs.Fields.{whole_zeros, whole_put}
+use Rattle.base_words.specs.Fields.{IsBytes, IsWholeBlock}
+use Rattle.base_words.specs.Tables.{zeros}
+use Rattle.vol_parts.proofs.Bytes.{bytes-none, bytes-cons}
+use Rattle.vol_parts.proofs.WholeFields.{whole_zeros, whole_put}
 use Rattle.plain_cat.specs.InForm.{is_within, is_text_char, is_text}
-use Rattle.plain_vol.specs.Changes.{text_block}
+use Rattle.plain_rules.specs.Changes.{text_block}
 use Rattle.op_data.proofs.Channel.{both_hold}
 
 -- it has at most 16 bytes

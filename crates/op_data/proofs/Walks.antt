@@ -2,8 +2,8 @@
 -- is asked, and nothing is left outside.
 use Rattle.std.proofs.Common.{◌≡◌, ◌++◌, ℕ, Bool, true, false, cond, List, [], ◌∷◌, Option, Some, None, map, refl}
 use Rattle.std.specs.Prelude.{option_map, nat_le}
-use Rattle.vol_words.specs.Fields.{Block}
-use Rattle.vol_words.specs.Tables.{zeros}
+use Rattle.base_words.specs.Fields.{Block}
+use Rattle.base_words.specs.Tables.{zeros}
 use Rattle.fx_header.specs.declared.slot.Hdr.{Hdr}
 use Rattle.lock_db.specs.declared.name.LockName.{LockName}
 use Rattle.plain_cat.specs.declared.mode.Mode.{Mode}
@@ -14,9 +14,9 @@ use Rattle.plain_cat.specs.declared.history.Stage.TheVariants as stage
 use Rattle.plain_cat.specs.declared.reply.Reply.TheVariants as reply
 use Rattle.plain_cat.specs.declared.reply.Refusal.{Refusal}
 use Rattle.plain_cat.specs.declared.reply.Refusal.TheVariants as refusal
-use Rattle.plain_vol.specs.Changes.{is_past_mark, text_block}
-use Rattle.plain_vol.specs.Answers.{is_reading}
-use Rattle.vol_owners.specs.Owners.{Things, nothing}
+use Rattle.plain_rules.specs.Changes.{is_past_mark, text_block}
+use Rattle.plain_rules.specs.Answers.{is_reading}
+use Rattle.vol_spell.specs.Owners.{Things, nothing}
 use Rattle.vol_parts.specs.declared.geometry.Geometry.{Geometry}
 use Rattle.vol_under.specs.UnderWay.{stage_after, outs_after}
 use Rattle.op_law.specs.declared.seen.Chan.{Chan}

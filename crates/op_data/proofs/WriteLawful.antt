@@ -1,6 +1,6 @@
 -- The law of WRITE.
 use Rattle.std.proofs.Common.{◌≡◌, ◌∙◌, inl, inr, ℕ, Bool, true, false, cond, List, [], ◌∷◌, Option, Some, None, refl, sym, subst}
-use Rattle.vol_words.specs.Fields.{Block}
+use Rattle.base_words.specs.Fields.{Block}
 use Rattle.fx_header.specs.declared.slot.Hdr.{Hdr}
 use Rattle.lock_db.specs.declared.name.LockName.{LockName}
 use Rattle.lock_db.specs.declared.name.LockName.TheVariants.{S}
@@ -15,10 +15,10 @@ use Rattle.plain_cat.specs.declared.reply.Refusal.{Refusal}
 use Rattle.plain_cat.specs.declared.reply.Refusal.TheVariants as refusal
 use Rattle.plain_cat.specs.declared.cat.Cat.{Cat}
 use Rattle.plain_cat.specs.declared.cat.File.{File}
-use Rattle.plain_vol.specs.Lookups.{file_at, channel_at}
-use Rattle.plain_vol.specs.Changes.{with_file, text_block, written}
-use Rattle.plain_vol.specs.Answers.{is_outside, is_reading, Answer}
-use Rattle.vol_owners.specs.Owners.{Owners, Things, nothing, Outs}
+use Rattle.plain_rules.specs.Lookups.{file_at, channel_at}
+use Rattle.plain_rules.specs.Changes.{with_file, text_block, written}
+use Rattle.plain_rules.specs.Answers.{is_outside, is_reading, Answer}
+use Rattle.vol_spell.specs.Owners.{Owners, Things, nothing, Outs}
 use Rattle.vol_parts.specs.declared.geometry.Geometry.{Geometry}
 use Rattle.vol_spell.specs.Spelling.{Spells}
 use Rattle.vol_under.specs.Chains.{End, Replied}
@@ -40,19 +40,20 @@ use Rattle.op_law.specs.Writing.{empty_handed, plan_of}
 use Rattle.op_law.proofs.Doing.{IsDone, refusal_done}
 use Rattle.op_law.proofs.Spaceless.{spaceless_lawful}
 use Rattle.op_law.proofs.Walking.{ObeysBy}
-use Rattle.op_writes.specs.Chained.{Chain, StandsOn, StepsOf}
-use Rattle.op_files.specs.Files.{file_in, IsFileThere}
-use Rattle.op_blocks.specs.BlockWrites.{HasBlock}
-use Rattle.op_blocks.proofs.WriteGuards.{each_write, write_guards, write_leaves}
-use Rattle.op_blocks.proofs.WriteSteps.{write_steps}
+use Rattle.op_steps.specs.Chained.{Chain, StandsOn, StepsOf}
+use Rattle.op_steps.specs.Files.{file_in, IsFileThere}
+use Rattle.op_steps.specs.BlockWrites.{HasBlock}
+use Rattle.op_steps.proofs.WriteGuards.{each_write, write_guards, write_leaves}
+use Rattle.op_steps.proofs.WriteSteps.{write_steps}
 use Rattle.op_data.specs.Kinds.{IsWrite}
-use Rattle.op_data.proofs.Channel.{HasOpen, both_hold, none_open, open_as}
+use Rattle.op_data.proofs.Channel.{HasOpen, both_hold, open_as}
 use Rattle.op_data.proofs.OpenWalk.{open_file, open_obeys}
 use Rattle.op_data.proofs.Texts.{whole_text}
 use Rattle.op_data.proofs.Walks.{write_no_search, write_shaped, write_end, write_outs, write_stage}
 use Rattle.op_data.proofs.Brief.{write_brief}
 use Rattle.op_data.proofs.ReadLawful.{same_outside, has_block}
 use Rattle.op_data.proofs.WriteReplies.{write_closed, write_reading, write_outside, write_answer, stands_data, stands_written}
+use Rattle.op_law.proofs.Opens.{none_is}
 
 module _ (chan vbn : ℕ) (text : List ℕ) (form : is_text text ≡ true) (node : ℕ) (seen : Seen) (bs : List Block) (own : Owners) (c : Cat) (stock : Things) (s : Spells seen.geometry bs own c)
     (given : things seen.clusters seen.number ≡ nothing) (outs : Outs node own nothing stock) where
@@ -155,7 +156,7 @@ module _ (chan vbn : ℕ) (text : List ℕ) (form : is_text text ≡ true) (node
       (λ h there. by_outside p opened e h there (is_outside_file g (file_in g bs p.file.num h).file vbn) refl)
 
   by_channel : (o : Option Chan) → has_channel c node (Some chan) o ≡ true → O (write_on seen.geometry o vbn text) []
-  by_channel None e = no refusal.NotOpen (write_closed c node chan vbn text (none_open (channel_at c node chan) e)) []
+  by_channel None e = no refusal.NotOpen (write_closed c node chan vbn text (none_is (channel_at c node chan) e)) []
   by_channel (Some p) e = by_reading p (open_as c node chan p (channel_at c node chan) refl e) (is_reading p.mode) refl
 
   -- on these blocks the command needs what it may, and its plan is done

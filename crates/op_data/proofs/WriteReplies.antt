@@ -12,12 +12,12 @@ use Rattle.plain_cat.specs.declared.reply.Refusal.TheVariants as refusal
 use Rattle.plain_cat.specs.declared.cat.Cat.{Cat}
 use Rattle.plain_cat.specs.declared.cat.File.{File}
 use Rattle.plain_cat.specs.declared.cat.Open.{Open}
-use Rattle.plain_vol.specs.declared.outcome.Outcome.{Outcome}
-use Rattle.plain_vol.specs.Lookups.{file_at, channel_at}
-use Rattle.plain_vol.specs.Changes.{with_file, is_past_mark, text_block, with_block, written}
-use Rattle.plain_vol.specs.Answers.{refused, told, is_outside, is_reading, write_of, write_open, write_outcome, outcome, Answer}
-use Rattle.plain_vol.specs.Stages.{only_if, writing_stage, write_stage, command_stage, stage_of, staged}
-use Rattle.plain_vol.proofs.LawSteps.{pick_exists}
+use Rattle.plain_rules.specs.declared.outcome.Outcome.{Outcome}
+use Rattle.plain_rules.specs.Lookups.{file_at, channel_at}
+use Rattle.plain_rules.specs.Changes.{with_file, is_past_mark, text_block, with_block, written}
+use Rattle.plain_rules.specs.Answers.{refused, told, is_outside, is_reading, write_of, write_open, write_outcome, outcome, Answer}
+use Rattle.plain_rules.specs.Stages.{only_if, writing_stage, write_stage, command_stage, stage_of, staged}
+use Rattle.plain_rules.proofs.LawSteps.{pick_exists}
 use Rattle.vol_under.specs.UnderWay.{StandsAt}
 
 module _ (c : Cat) (node chan vbn : ℕ) (text : List ℕ) where

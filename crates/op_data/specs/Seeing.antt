@@ -4,20 +4,10 @@ use Rattle.vol_parts.specs.declared.geometry.Geometry.{Geometry}
 use Rattle.op_law.specs.declared.need.Need.{Need}
 use Rattle.op_law.specs.Behind.{goes_on_by}
 use Rattle.op_law.specs.Events.{Events, Space}
-use Rattle.op_law.specs.Readable.{HasMap, AreInside}
-use Rattle.op_law.specs.Refusing.{SeenFile, seen_file}
-use Rattle.op_data.specs.declared.seeing.FileSeen.{FileSeen}
+use Rattle.op_law.specs.Refusing.{SeenFile}
+use Rattle.op_steps.specs.Seeing.{file_seen, IsReadable}
 use Rattle.op_data.specs.declared.seeing.Opened.{Opened}
 use Rattle.op_data.specs.declared.seeing.Opened.TheVariants as opened
-
--- the file as the row of events has it
-abbrev pub file_seen : Geometry → FileSeen → SeenFile
-file_seen g f = seen_file g f.num f.head.now f.fields
-
--- the runs of its header can be read, and end at or before LBN 65,536
-pub record IsReadable (f : FileSeen) : Type 0 where
-  pub map : HasMap f.head.now
-  pub inside : AreInside f.head.now
 
 -- behind the header of a file that is in use
 abbrev pub behind_open : Geometry → (SeenFile → Events) → Space → Opened → Need

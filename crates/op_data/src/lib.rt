@@ -10,6 +10,8 @@
 //! `next` gives exactly the next need: the file's lock, in PR or PW, its header, for a READ below the mark the block, and the
 //! plan. A WRITE past the mark writes zeros up to the block, then the block, then the header. Each READ with its block in form,
 //! and each WRITE with its block and text in form, obeys the law of a command (`read_obeys_the_law`, `write_obeys_the_law`).
+//!
+//! `xqp_set` joins it to the other commands.
 #![tactic(auto)]
 
 pub mod laws;
@@ -17,9 +19,6 @@ mod operation;
 mod reading;
 mod seeing;
 mod sizing;
-#[cfg(test)]
-mod tests;
 mod writing;
 
 pub use operation::OpData;
-pub use seeing::FileSeen;

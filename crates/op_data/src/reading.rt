@@ -6,14 +6,15 @@ ghost use Rattle.op_law.specs.Behind.{goes_on_by};
 ghost use Rattle.op_law.specs.Channels.{within, read_in, read_events};
 ghost use Rattle.op_law.specs.Events.{next_of, space_of};
 ghost use Rattle.op_law.specs.Readable.{HeadIsInside};
-ghost use Rattle.op_data.specs.Seeing.{file_seen, IsReadable};
+ghost use Rattle.op_steps.specs.Seeing.{file_seen, IsReadable};
 
-use crate::seeing::{FileSeen, Opened, bare_seen, file_place, is_outside, open_seen};
+use crate::seeing::{Opened, bare_seen, file_place, is_outside, open_seen};
 use crate::sizing::is_past_mark;
+use base_words::zeros;
 use op_law::{Chan, Looked, Need, Rest, Seen, answered, refused};
+use op_steps::FileSeen;
 use plain_cat::{Mode, Refusal, Reply};
 use std::alloc::Global;
-use vol_words::zeros;
 
 // Behind the header of the file, which has the block.
 fn read_in(alloc: Global, seen: &Seen, f: &FileSeen<'_>, vbn: u32, rest: Rest<'_>) -> Need

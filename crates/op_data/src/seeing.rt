@@ -1,7 +1,7 @@
 //! The file that a channel has open: its number and its header.
 
-ghost use Rattle.std.specs.Prelude.{◌≡◌, option_map, IfSome};
-ghost use Rattle.vol_words.specs.Fields.{Block};
+ghost use Rattle.std.specs.Prelude.{◌≡◌, option_map};
+ghost use Rattle.base_words.specs.Fields.{Block};
 ghost use Rattle.vol_parts.specs.Parts.{IsGeometry};
 ghost use Rattle.vol_parts.specs.declared.geometry.Geometry.{Geometry as Volume};
 ghost use Rattle.plain_cat.specs.declared.reply.Refusal.TheVariants as refusal;
@@ -11,27 +11,16 @@ ghost use Rattle.op_law.specs.Refusing.{SeenFile, seen_file, used_in, if_file, t
 ghost use Rattle.op_law.specs.SeenFiles.{file_place};
 ghost use Rattle.op_law.specs.Channels.{is_outside_file};
 ghost use Rattle.op_law.specs.Behind.{behind_block};
-ghost use Rattle.op_law.specs.Readable.{HasMap, AreInside, HeadIsInside};
-ghost use Rattle.op_data.specs.Seeing.{file_seen, behind_open, ShowsFile, IsReadable};
+ghost use Rattle.op_law.specs.Readable.{AreInside, HeadIsInside};
+ghost use Rattle.op_steps.specs.Seeing.{file_seen, IsReadable};
+ghost use Rattle.op_data.specs.Seeing.{behind_open, ShowsFile};
 
-use fx_header::{Hdr, Slot, read_header};
+use base_words::Block;
 use op_law::{Looked, Need, Rest, header_seen, is_number, place_in, refused};
+use op_steps::{FileSeen, file_used};
 use plain_cat::{Fid, Mode, Refusal};
 use std::alloc::Global;
 use vol_parts::Geometry;
-use vol_words::Block;
-
-/// A file in use whose header was seen. It may be marked for delete.
-#[derive(Clone, Copy)]
-pub struct FileSeen<'a> {
-    pub num: u32,
-
-    /// The block of its header.
-    pub head: &'a Block,
-
-    /// The fields that the header tells.
-    pub fields: Hdr,
-}
 
 /// The file that a channel has open, where its header is seen.
 #[derive(Drop)]
@@ -43,18 +32,6 @@ pub(crate) enum Opened<'a> {
     Next(Need),
 }
 
-// The header of the file in use of this sequence, by its block, or none where the slot has none.
-fn used_in(b: &Block, seq: u16) -> Option<Hdr>
-    ensures header { result ≡ used_in seq b.now }
-    ensures map { IfSome result (λ h. HasMap b.now) }
-{
-    match read_header(b) {
-        Ok(Slot::Used(h)) => if h.seq == seq { Some(h) } else { None },
-        Ok(Slot::Free(_)) => None,
-        Err(_) => None,
-    }
-}
-
 // The file of a header.
 fn file_in<'a>(alloc: Global, file: Fid, head: &'a Block, rest: Rest<'a>) -> Opened<'a>
     requires inside { AreInside head.now }
@@ -62,15 +39,8 @@ fn file_in<'a>(alloc: Global, file: Fid, head: &'a Block, rest: Rest<'a>) -> Ope
     ensures need { (g : Volume) (next : SeenFile → Events) (space : Space)
         → following (if_file (refuses refusal.EndOfFile) next (option_map (seen_file g file.num head.now) (used_in file.seq head.now))) rest.entry.locks.now rest.entry.blocks.now space ≡ behind_open g next space result }
 {
-    match used_in(head, file.seq) {
-        Some(fields) => Opened::File(
-            FileSeen {
-                num: file.num,
-                head,
-                fields,
-            },
-            rest,
-        ),
+    match file_used(file, head) {
+        Some(f) => Opened::File(f, rest),
         None => Opened::Next(refused(alloc, Refusal::EndOfFile)),
     }
 }

@@ -1,14 +1,14 @@
 //! The mark and the end of a file, and its header once a virtual block is written.
 
 ghost use Rattle.std.specs.Prelude.{◌≡◌, ◌<◌, ◌+◌, ◌^◌};
-ghost use Rattle.plain_vol.specs.Changes.{is_past_mark};
+ghost use Rattle.plain_rules.specs.Changes.{is_past_mark};
 ghost use Rattle.op_law.specs.Channels.{written_header};
-ghost use Rattle.op_data.specs.Seeing.{file_seen};
+ghost use Rattle.op_steps.specs.Seeing.{file_seen};
 
-use crate::seeing::FileSeen;
+use base_words::Block;
 use fx_header::{set_end, set_mark};
+use op_steps::FileSeen;
 use vol_parts::Geometry;
-use vol_words::Block;
 
 /// Whether a virtual block lies at or above the mark.
 pub(crate) fn is_past_mark(g: &Geometry, f: &FileSeen<'_>, vbn: u32) -> bool

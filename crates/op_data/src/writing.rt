@@ -1,25 +1,25 @@
 //! What WRITE needs next, and its writes.
 
 ghost use Rattle.std.specs.Prelude.{◌≡◌, ◌≤◌, ◌<◌, ◌+◌, ◌++◌, ◌∷◌, [], Some, length, IfOk, OnOk};
-ghost use Rattle.plain_vol.specs.Answers.{is_reading};
-ghost use Rattle.plain_vol.specs.Changes.{text_block};
+ghost use Rattle.plain_rules.specs.Answers.{is_reading};
+ghost use Rattle.plain_rules.specs.Changes.{text_block};
 ghost use Rattle.vol_parts.specs.Parts.{IsGeometry};
 ghost use Rattle.op_law.specs.Behind.{goes_on_by};
 ghost use Rattle.op_law.specs.Channels.{within, zero_writes, last_header, block_writes, write_in, write_on, write_events};
 ghost use Rattle.op_law.specs.Events.{next_of, space_of};
 ghost use Rattle.op_law.specs.Readable.{HeadIsInside};
 ghost use Rattle.op_law.specs.SeenFiles.{file_write};
-ghost use Rattle.op_data.specs.Seeing.{file_seen, IsReadable};
+ghost use Rattle.op_steps.specs.Seeing.{file_seen, IsReadable};
 
-use crate::seeing::{FileSeen, Opened, file_place, is_outside, open_seen};
+use crate::seeing::{Opened, file_place, is_outside, open_seen};
 use crate::sizing::{is_past_mark, written_header};
+use base_words::{Block, put_bytes, zeros};
 use lock_db::LockName;
 use op_law::{Chan, Need, NoMemory, Numbers, Plan, PlanWrite, Rest, Seen, Writes, refused};
-use op_parts::push_header;
+use op_steps::{FileSeen, push_header};
 use plain_cat::{Clusters, Mode, Name, Refusal, Reply, Stage};
 use std::alloc::Global;
 use vol_parts::Geometry;
-use vol_words::{Block, put_bytes, zeros};
 
 // Whether a mode is one in which a file is read alone.
 fn is_reading(mode: Mode) -> bool

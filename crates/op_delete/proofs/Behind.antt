@@ -2,7 +2,7 @@
 -- what comes behind a directory for any row of events; so a row is taken that carries its blocks to its plan.
 use Rattle.std.proofs.Common.{◌≡◌, ◌≤◌, ◌∙◌, ℕ, Bool, true, false, cond, List, [], ◌∷◌, Option, Some, None, length, map, slice_get, refl, sym, ap, subst, arith}
 use Rattle.std.specs.Prelude.{◌==◌, nat_le, option_map}
-use Rattle.vol_words.specs.Fields.{Block}
+use Rattle.base_words.specs.Fields.{Block}
 use Rattle.fx_header.specs.declared.slot.Hdr.{Hdr}
 use Rattle.fx_header.specs.Headers.{header_read}
 use Rattle.lock_db.specs.declared.name.LockName.{LockName}
@@ -18,9 +18,9 @@ use Rattle.plain_cat.specs.declared.reply.Reply.TheVariants as reply
 use Rattle.plain_cat.specs.declared.reply.Refusal.{Refusal}
 use Rattle.plain_cat.specs.declared.reply.Refusal.TheVariants as refusal
 use Rattle.plain_cat.specs.declared.cat.Cat.{Cat}
-use Rattle.plain_vol.specs.Lookups.{versions, entry_of}
-use Rattle.vol_owners.specs.Lists.{StandsIn}
-use Rattle.vol_owners.specs.Owners.{Owners}
+use Rattle.plain_rules.specs.Lookups.{versions, entry_of}
+use Rattle.base_words.specs.Lists.{StandsIn}
+use Rattle.vol_spell.specs.Owners.{Owners}
 use Rattle.vol_parts.specs.declared.geometry.Geometry.{Geometry}
 use Rattle.vol_spell.specs.Reading.{IsFileNumber, header_place, header_block}
 use Rattle.vol_spell.specs.Spelling.{Spells}
@@ -35,7 +35,8 @@ use Rattle.op_law.specs.Readable.{AreInside, HeadIsInside}
 use Rattle.op_law.specs.Refusing.{seen_file, used_in, if_file, if_entry}
 use Rattle.op_law.specs.Freeing.{through_space}
 use Rattle.op_law.specs.Removing.{under_lock, entry_removed, if_empty, delete_plan, delete_in}
-use Rattle.op_law.specs.Rows.{plain_plan, is_number, refuses, live_in, places_in, look_all, in_directory}
+use Rattle.op_law.specs.Rows.{plain_plan, is_number, refuses, live_in, look_all, in_directory}
+use Rattle.vol_spell.specs.Entries.{places_in}
 use Rattle.op_law.specs.Writing.{plan_of, write_at, empty_handed}
 use Rattle.op_law.proofs.Counting.{few_places}
 use Rattle.op_law.proofs.Heads.{header_is, header_inside, through_inside}

@@ -2,7 +2,7 @@
 use Rattle.std.proofs.Common.{◌≡◌, ◌≤◌, ◌-◌, ℕ, Bool, true, false, cond, List, [], ◌∷◌, ◌++◌, Option, Some, None, length, map, refl, sym, subst, arith, length-append}
 use Rattle.std.specs.Prelude.{◌==◌, nat_le, option_map, Ok}
 use Rattle.std.proofs.lemmas.List.{length-map}
-use Rattle.vol_words.specs.Fields.{Block}
+use Rattle.base_words.specs.Fields.{Block}
 use Rattle.fx_header.specs.declared.slot.Hdr.{Hdr}
 use Rattle.fx_header.specs.declared.slot.Slot.TheVariants as head
 use Rattle.fx_header.specs.Headers.{header_read, marked}
@@ -14,9 +14,9 @@ use Rattle.plain_cat.specs.declared.command.Cmd.TheVariants as cmd
 use Rattle.plain_cat.specs.declared.history.Stage.TheVariants as stage
 use Rattle.plain_cat.specs.declared.reply.Refusal.TheVariants as refusal
 use Rattle.plain_cat.specs.declared.cat.Cat.{Cat}
-use Rattle.plain_vol.specs.Lookups.{versions, entry_of}
-use Rattle.plain_vol.specs.Directories.{is_nil}
-use Rattle.vol_owners.specs.Owners.{Owners}
+use Rattle.plain_rules.specs.Lookups.{versions, entry_of}
+use Rattle.plain_rules.specs.Directories.{is_nil}
+use Rattle.vol_spell.specs.Owners.{Owners}
 use Rattle.vol_parts.specs.declared.geometry.Geometry.{Geometry}
 use Rattle.vol_parts.specs.declared.geometry.Part.TheVariants.{Storage}
 use Rattle.vol_spell.specs.Reading.{IsFileNumber, header_place, header_block}
@@ -25,7 +25,8 @@ use Rattle.vol_spell.specs.Spelling.{Spells}
 use Rattle.op_law.specs.declared.seen.Seen.{Seen}
 use Rattle.op_law.specs.Events.{Events, Take, Look, Make, Space, space_of}
 use Rattle.op_law.specs.Needs.{events_of}
-use Rattle.op_law.specs.Rows.{refuses, is_number, places_in, look_all, entries_seen}
+use Rattle.op_law.specs.Rows.{refuses, is_number, look_all, entries_seen}
+use Rattle.vol_spell.specs.Entries.{places_in}
 use Rattle.op_law.specs.Refusing.{SeenFile, seen_file, used_in, if_file, if_entry}
 use Rattle.op_law.specs.Writing.{empty_handed, header_write}
 use Rattle.op_law.specs.Moving.{SeenDir, entries_of, removal_writes}
@@ -35,7 +36,7 @@ use Rattle.op_law.proofs.Brief.{BriefBy, Briefs}
 use Rattle.op_law.proofs.Heads.{header_is}
 use Rattle.op_law.proofs.Telling.{number_is}
 use Rattle.op_law.proofs.Counting.{few_places, all_brief, quota_brief, number_brief, directory_brief, removal_few, bitmap_few, freeing_few}
-use Rattle.op_delete.proofs.Uses.{used_reads}
+use Rattle.op_steps.proofs.Uses.{used_reads}
 use Rattle.op_delete.proofs.Walks.{behind, events_are}
 
 mark_few : (g : Geometry) (f : SeenFile) → length (marking_writes g f) ≤ 1

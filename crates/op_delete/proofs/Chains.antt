@@ -3,7 +3,7 @@ use Rattle.std.proofs.Common.{◌≡◌, ◌<◌, ◌∙◌, ℕ, Bool, true, fa
 use Rattle.std.specs.Prelude.{nat_le, Ok}
 use Rattle.std.proofs.lemmas.Bool.Decides.{nat_tests}
 use Rattle.std.proofs.lemmas.List.{append-nil}
-use Rattle.vol_words.specs.Fields.{Block, IsWholeBlock}
+use Rattle.base_words.specs.Fields.{Block, IsWholeBlock}
 use Rattle.fx_header.specs.declared.run.Run.{Run}
 use Rattle.fx_header.specs.declared.slot.Hdr.{Hdr}
 use Rattle.fx_header.specs.declared.slot.Slot.TheVariants as head
@@ -19,12 +19,12 @@ use Rattle.plain_cat.specs.declared.history.Stage.TheVariants as stage
 use Rattle.plain_cat.specs.declared.cat.Cat.{Cat}
 use Rattle.plain_cat.specs.declared.cat.File.{File}
 use Rattle.plain_cat.specs.declared.cat.Slot.TheVariants as slot
-use Rattle.plain_vol.specs.Lookups.{file_at, in_use, versions, entry_of}
-use Rattle.plain_vol.specs.Directories.{without}
-use Rattle.plain_vol.specs.Changes.{with_file, with_entries}
-use Rattle.plain_vol.specs.Answers.{has_entries}
-use Rattle.vol_owners.specs.Lists.{Has}
-use Rattle.vol_owners.specs.Owners.{Owners, Things, nothing, Outs}
+use Rattle.plain_rules.specs.Lookups.{file_at, in_use, versions, entry_of}
+use Rattle.plain_rules.specs.Directories.{without}
+use Rattle.plain_rules.specs.Changes.{with_file, with_entries}
+use Rattle.plain_rules.specs.Answers.{has_entries}
+use Rattle.base_words.specs.Lists.{Has}
+use Rattle.vol_spell.specs.Owners.{Owners, Things, nothing, Outs}
 use Rattle.vol_parts.specs.declared.geometry.Geometry.{Geometry}
 use Rattle.vol_spell.specs.Reading.{IsFileNumber, header_block, clusters_of}
 use Rattle.vol_spell.specs.Spelling.{Spells}
@@ -38,19 +38,20 @@ use Rattle.op_law.specs.Moving.{SeenDir, removal_writes}
 use Rattle.op_law.specs.Removing.{unnaming_writes}
 use Rattle.op_law.proofs.Telling.{file_told_at}
 use Rattle.op_law.proofs.Through.{file_told, IsListed}
-use Rattle.op_writes.specs.Chained.{Chain, StepsOf, after_writes, StandsOn}
-use Rattle.op_writes.specs.EntryWrites.{dir_in}
-use Rattle.vol_writes.specs.Entries.{CanBeRemoved}
-use Rattle.op_writes.proofs.Chaining.{live_at, other_slot, same_dir}
-use Rattle.vol_writes.proofs.RemovalLists.{found_there}
-use Rattle.op_writes.proofs.RemovalSteps.{removal_steps}
-use Rattle.op_files.specs.Files.{file_in, IsFileThere}
-use Rattle.op_files.specs.HeadWrites.{IsHeadWritten}
-use Rattle.op_files.specs.MarkWrites.{marked_write}
-use Rattle.op_files.proofs.HeadFiles.{head_whole}
-use Rattle.op_files.proofs.HeadRuns.{marked_runs}
-use Rattle.op_files.proofs.Kept.{marked_steps}
-use Rattle.op_delete.proofs.Slots.{slots_apart, slot_same, file_there}
+use Rattle.op_steps.specs.Chained.{Chain, StepsOf, after_writes, StandsOn}
+use Rattle.op_steps.specs.EntryWrites.{dir_in}
+use Rattle.vol_spell.specs.Entries.{CanBeRemoved}
+use Rattle.op_steps.proofs.Chaining.{live_at, other_slot, same_dir}
+use Rattle.vol_spell.proofs.RemovalLists.{found_there}
+use Rattle.op_steps.proofs.RemovalSteps.{removal_steps}
+use Rattle.op_steps.specs.Files.{file_in, IsFileThere}
+use Rattle.op_steps.specs.HeadWrites.{IsHeadWritten}
+use Rattle.op_steps.specs.MarkWrites.{marked_write}
+use Rattle.op_steps.proofs.HeadFiles.{head_whole}
+use Rattle.op_steps.proofs.HeadRuns.{marked_runs}
+use Rattle.op_steps.proofs.Kept.{marked_steps}
+use Rattle.op_delete.proofs.Slots.{slots_apart, slot_same}
+use Rattle.op_steps.proofs.Slots.{file_there}
 use Rattle.op_delete.proofs.Outcomes.{less, unlinked, stands_removed, stands_marked, stands_unlinked}
 
 module _ (node : ℕ) (g : Geometry) (bs : List Block) (own : Owners) (c : Cat) (s : Spells g bs own c) (stock : Things) (outs : Outs node own nothing stock)

@@ -1,10 +1,10 @@
 -- A directory's own blocks, behind which a lock was seen: they show no entry.
 use Rattle.std.proofs.Common.{◌≡◌, ℕ, Bool, true, false, cond, List, [], refl}
-use Rattle.vol_words.specs.Fields.{Block}
+use Rattle.base_words.specs.Fields.{Block}
 use Rattle.lock_db.specs.declared.name.LockName.{LockName}
 use Rattle.plain_cat.specs.declared.mode.Mode.{Mode}
 use Rattle.plain_cat.specs.declared.reply.Refusal.TheVariants as refusal
-use Rattle.plain_vol.specs.Directories.{is_nil}
+use Rattle.plain_rules.specs.Directories.{is_nil}
 use Rattle.op_law.specs.Events.{Events, Space, following, Follows}
 use Rattle.op_law.specs.Rows.{refuses, entries_seen}
 use Rattle.op_delete.specs.Looking.{without_entries}

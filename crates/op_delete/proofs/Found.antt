@@ -2,17 +2,17 @@
 use Rattle.std.proofs.Common.{◌≡◌, ◌∙◌, ℕ, true, false, cond, List, Option, Some, ap, subst}
 use Rattle.std.specs.Prelude.{nat_le}
 use Rattle.std.specs.Result.{ForOk}
-use Rattle.vol_words.specs.Fields.{Block}
+use Rattle.base_words.specs.Fields.{Block}
 use Rattle.fx_dir.specs.Entries.{has}
 use Rattle.fx_dir.specs.Directory.{directory}
 use Rattle.fx_dir.specs.Moves.{key}
 use Rattle.plain_cat.specs.declared.entries.DirEnt.{DirEnt}
 use Rattle.plain_cat.specs.declared.reply.Refusal.TheVariants as refusal
-use Rattle.plain_vol.specs.Lookups.{versions, entry_of}
-use Rattle.plain_vol.specs.Directories.{is_taken}
+use Rattle.plain_rules.specs.Lookups.{versions, entry_of}
+use Rattle.plain_rules.specs.Directories.{is_taken}
 use Rattle.vol_parts.specs.declared.geometry.Geometry.{Geometry}
 use Rattle.vol_parts.specs.Catalogues.{plain_entries}
-use Rattle.vol_writes.proofs.RemovalLists.{found_there, is_there}
+use Rattle.vol_spell.proofs.RemovalLists.{found_there, is_there}
 use Rattle.op_law.specs.Moving.{SeenDir}
 use Rattle.op_law.specs.Refusing.{if_entry}
 use Rattle.op_law.specs.Removing.{delete_in}

@@ -6,7 +6,7 @@ use Rattle.std.proofs.lemmas.Bool.{and_parts}
 use Rattle.std.proofs.lemmas.Bool.Decides.{nat_tests}
 use Rattle.std.proofs.lemmas.List.{length-map}
 use Rattle.std.proofs.lemmas.Option.{get_or_from_slice_get}
-use Rattle.vol_words.specs.Fields.{Block}
+use Rattle.base_words.specs.Fields.{Block}
 use Rattle.fx_header.specs.declared.slot.Hdr.{Hdr}
 use Rattle.fx_header.specs.declared.slot.Slot.TheVariants as head
 use Rattle.fx_header.specs.Headers.{header_read}
@@ -25,13 +25,13 @@ use Rattle.plain_cat.specs.declared.reply.Refusal.{Refusal}
 use Rattle.plain_cat.specs.declared.reply.Refusal.TheVariants as refusal
 use Rattle.plain_cat.specs.declared.cat.Cat.{Cat}
 use Rattle.plain_cat.specs.declared.cat.File.{File}
-use Rattle.plain_vol.specs.Lookups.{file_at, in_use, versions, entry_of, is_open}
-use Rattle.plain_vol.specs.Directories.{is_nil}
-use Rattle.plain_vol.specs.Answers.{has_entries, Answer}
-use Rattle.vol_owners.specs.Lists.{Has}
-use Rattle.vol_owners.specs.Owners.{Owners, Things, nothing, Outs}
-use Rattle.vol_owners.specs.Places.{blocks_at}
-use Rattle.vol_owners.proofs.Placing.{length-blocks_at}
+use Rattle.plain_rules.specs.Lookups.{file_at, in_use, versions, entry_of, is_open}
+use Rattle.plain_rules.specs.Directories.{is_nil}
+use Rattle.plain_rules.specs.Answers.{has_entries, Answer}
+use Rattle.base_words.specs.Lists.{Has}
+use Rattle.vol_spell.specs.Owners.{Owners, Things, nothing, Outs}
+use Rattle.vol_spell.specs.Spread.{blocks_at}
+use Rattle.vol_spell.proofs.Placing.{length-blocks_at}
 use Rattle.vol_parts.specs.declared.geometry.Geometry.{Geometry}
 use Rattle.vol_parts.specs.declared.geometry.Part.{Part}
 use Rattle.vol_parts.specs.declared.geometry.Part.TheVariants.{Storage, IndexBitmap}
@@ -39,20 +39,22 @@ use Rattle.vol_parts.specs.Catalogues.{plain_entries}
 use Rattle.vol_spell.specs.Reading.{IsFileNumber, header_place, header_block, runs_told}
 use Rattle.vol_spell.specs.Places.{place_of, IsPart, file_of_part}
 use Rattle.vol_spell.specs.Spelling.{Spells}
-use Rattle.vol_owners.specs.declared.owner.Owner.TheVariants.{InFile}
+use Rattle.vol_spell.specs.declared.owner.Owner.TheVariants.{InFile}
 use Rattle.vol_spell.proofs.Parts.{part_there, part_owned}
 use Rattle.vol_spell.proofs.Frames.{on_volume}
 use Rattle.vol_under.specs.Guards.{Lock, guard_of}
 use Rattle.op_law.specs.declared.need.Plan.{Plan}
 use Rattle.op_law.specs.declared.need.PlanWrite.{PlanWrite}
 use Rattle.op_law.specs.declared.seen.Seen.{Seen}
-use Rattle.op_law.specs.Events.{Events, Take, Look, Fetch, Find, Make, space_of, HasNoSpace, HasNoSearch, SearchesOnce}
+use Rattle.op_law.specs.Events.{Events, Take, Look, Make, space_of, HasNoSpace}
 use Rattle.op_law.specs.Needs.{events_of}
 use Rattle.op_law.specs.Fits.{HasSeen, things}
-use Rattle.op_law.specs.Knows.{knows, is_granted, is_held_open, is_new_number, is_short, usages_fit, opens_hold, wanted}
+use Rattle.op_law.specs.Knows.{knows, is_granted, is_new_number, is_short, usages_fit, opens_hold, wanted}
+use Rattle.plain_rules.specs.Opens.{is_held_open}
 use Rattle.op_law.specs.Laws.{held_in, Fixed, IsLockedLook, Lawful}
 use Rattle.op_law.specs.Order.{IsBefore, Higher, level}
-use Rattle.op_law.specs.Rows.{plain_plan, refuses, is_number, places_in, look_all, entries_seen}
+use Rattle.op_law.specs.Rows.{plain_plan, refuses, is_number, look_all, entries_seen}
+use Rattle.vol_spell.specs.Entries.{places_in}
 use Rattle.op_law.specs.Refusing.{SeenFile, seen_file, used_in, if_file, if_entry}
 use Rattle.op_law.specs.Moving.{SeenDir, entries_of}
 use Rattle.op_law.specs.Freeing.{SeenSpace, blocks_for, all_clusters, through_space, freeing_writes}
@@ -66,18 +68,21 @@ use Rattle.op_law.proofs.Ordering.{entry_behind}
 use Rattle.op_law.proofs.Ends.{nothing_given}
 use Rattle.op_law.proofs.Doing.{AreDone, refusal_done}
 use Rattle.op_law.proofs.Asking.{IsDoneBy, asks_lawful}
-use Rattle.op_writes.specs.EntryWrites.{dir_in}
-use Rattle.op_writes.proofs.Chaining.{live_at}
-use Rattle.op_files.specs.Files.{file_in}
+use Rattle.op_steps.specs.EntryWrites.{dir_in}
+use Rattle.op_steps.proofs.Chaining.{live_at}
+use Rattle.op_steps.specs.Files.{file_in}
 use Rattle.op_freeing.proofs.Filters.{mapped}
 use Rattle.op_freeing.proofs.Named.{guarded, for_part}
 use Rattle.op_delete.specs.Kinds.{IsDelete}
-use Rattle.op_delete.proofs.Slots.{first_writes, any_conflicts}
+use Rattle.op_delete.proofs.Slots.{first_writes}
 use Rattle.op_delete.proofs.Outcomes.{refuses_none, refuses_plain, refuses_missing, refuses_kept, refuses_full}
 use Rattle.op_delete.proofs.Plans.{lone_done, refused_done, granted_done, space}
-use Rattle.op_delete.proofs.Uses.{used_reads, used_is, not_used}
+use Rattle.op_steps.proofs.Uses.{used_reads, used_is, not_used}
 use Rattle.op_delete.proofs.Walks.{behind, events_are, no_search, shaped, ends, whole_outs}
 use Rattle.op_delete.proofs.Brief.{delete_brief}
+use Rattle.op_law.proofs.Spaceless.{once}
+use Rattle.op_law.proofs.Opens.{any_conflicts}
+use Rattle.base_words.proofs.Booleans.{not_false}
 
 -- an entry that was found is one
 some_entries : (name : List ℕ) (ver : ℕ) (es : List DirEnt) (e : DirEnt) → entry_of (versions name es) ver ≡ Some e → is_nil es ≡ false
@@ -87,18 +92,6 @@ some_entries name ver (y ∷ es) e found = refl
 not_true : (t : Bool) → not t ≡ true → t ≡ false
 not_true true e = absurd (cc)
 not_true false e = refl
-
-not_false : (t : Bool) → not t ≡ false → t ≡ true
-not_false true e = refl
-not_false false e = absurd (cc)
-
--- where nothing is searched for, it is at most once
-once : (es : Events) → HasNoSearch es → SearchesOnce es
-once (Take lock mode next) none = once next none
-once (Look lock lbn next) none = λ b. once (next b) (none b)
-once (Fetch lbn next) none = λ b. once (next b) (none b)
-once (Find clusters number next) none = absurd none
-once (Make plan) none = tt
 
 module _ (dir : Fid) (name : List ℕ) (ver : ℕ) where
   abbrev x : Cmd

@@ -2,14 +2,11 @@ pub mod Slots
 pub mod Outcomes
 pub mod Chains
 pub mod Plans
-pub mod Uses
 pub mod Walks
 pub mod Brief
 pub mod Lawful
 pub mod Locked
-pub mod Mapped
 pub mod Found
-pub mod Few
 pub mod Behind
 pub mod Told
 pub mod Empty

@@ -1,7 +1,7 @@
 -- The header of a number whose lock is not the directory's is behind a lock of its own; else the lock is held.
 use Rattle.std.proofs.Common.{◌≡◌, ℕ, true, false, cond, List, ap}
 use Rattle.std.specs.Prelude.{◌==◌}
-use Rattle.vol_words.specs.Fields.{Block}
+use Rattle.base_words.specs.Fields.{Block}
 use Rattle.lock_db.specs.declared.name.LockName.{LockName}
 use Rattle.lock_db.specs.declared.name.LockName.TheVariants.{S}
 use Rattle.plain_cat.specs.declared.mode.Mode.{Mode}

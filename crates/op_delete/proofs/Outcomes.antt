@@ -13,12 +13,12 @@ use Rattle.plain_cat.specs.declared.reply.Refusal.{Refusal}
 use Rattle.plain_cat.specs.declared.reply.Refusal.TheVariants as refusal
 use Rattle.plain_cat.specs.declared.cat.Cat.{Cat}
 use Rattle.plain_cat.specs.declared.cat.File.{File}
-use Rattle.plain_vol.specs.declared.outcome.Outcome.{Outcome}
-use Rattle.plain_vol.specs.Lookups.{in_use, live, versions, entry_of, is_open}
-use Rattle.plain_vol.specs.Changes.{with_file, freed}
-use Rattle.plain_vol.specs.Answers.{told, refused, in_directory_file, with_entry, has_entries, unnamed, less_entry, removed, delete_outcome, outcome, Answer}
-use Rattle.plain_vol.specs.Stages.{only_if, entry_stage, unnaming_stage, delete_stage, command_stage, stage_of, staged}
-use Rattle.plain_vol.proofs.LawSteps.{pick_exists}
+use Rattle.plain_rules.specs.declared.outcome.Outcome.{Outcome}
+use Rattle.plain_rules.specs.Lookups.{in_use, live, versions, entry_of, is_open}
+use Rattle.plain_rules.specs.Changes.{with_file, freed}
+use Rattle.plain_rules.specs.Answers.{told, refused, in_directory_file, with_entry, has_entries, unnamed, less_entry, removed, delete_outcome, outcome, Answer}
+use Rattle.plain_rules.specs.Stages.{only_if, entry_stage, unnaming_stage, delete_stage, command_stage, stage_of, staged}
+use Rattle.plain_rules.proofs.LawSteps.{pick_exists}
 use Rattle.vol_under.specs.UnderWay.{StandsAt}
 
 module _ (c : Cat) (node : ℕ) (dir : Fid) (name : List ℕ) (ver : ℕ) where

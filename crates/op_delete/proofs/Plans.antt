@@ -2,8 +2,8 @@
 use Rattle.std.proofs.Common.{◌≡◌, ◌<◌, ◌+◌, ◌*◌, ◌^◌, ◌∙◌, inl, inr, ℕ, Bool, true, false, cond, List, [], ◌∷◌, ◌++◌, Some, None, map, take, length, refl, sym, ap, subst, arith}
 use Rattle.std.specs.Prelude.{nat_le, Ok}
 use Rattle.std.proofs.lemmas.List.{append-nil}
-use Rattle.vol_words.specs.Fields.{Block, IsWholeBlock, field}
-use Rattle.vol_words.proofs.Puts.{field-lt}
+use Rattle.base_words.specs.Fields.{Block, IsWholeBlock, field}
+use Rattle.base_words.proofs.Puts.{field-lt}
 use Rattle.fx_header.specs.declared.slot.Hdr.{Hdr}
 use Rattle.fx_header.specs.declared.slot.Slot.TheVariants as head
 use Rattle.fx_header.specs.Headers.{header_read, marked, freed as freed_block}
@@ -25,12 +25,12 @@ use Rattle.plain_cat.specs.declared.reply.Reply.TheVariants as reply
 use Rattle.plain_cat.specs.declared.cat.Cat.{Cat}
 use Rattle.plain_cat.specs.declared.cat.File.{File}
 use Rattle.plain_cat.specs.declared.cat.Slot.TheVariants as slot
-use Rattle.plain_vol.specs.Lookups.{in_use, versions, entry_of, is_open}
-use Rattle.plain_vol.specs.Changes.{discharged, freed}
-use Rattle.plain_vol.specs.Answers.{has_entries}
-use Rattle.vol_owners.specs.Lists.{Has}
-use Rattle.vol_owners.specs.Owners.{Owners, Things, nothing, Outs}
-use Rattle.vol_owners.specs.Places.{blocks_at}
+use Rattle.plain_rules.specs.Lookups.{in_use, versions, entry_of, is_open}
+use Rattle.plain_rules.specs.Changes.{discharged, freed}
+use Rattle.plain_rules.specs.Answers.{has_entries}
+use Rattle.base_words.specs.Lists.{Has}
+use Rattle.vol_spell.specs.Owners.{Owners, Things, nothing, Outs}
+use Rattle.vol_spell.specs.Spread.{blocks_at}
 use Rattle.vol_parts.specs.declared.geometry.Geometry.{Geometry}
 use Rattle.vol_parts.specs.Volumes.{fields_in}
 use Rattle.vol_spell.specs.Reading.{IsFileNumber, header_block, quota_places}
@@ -53,17 +53,17 @@ use Rattle.op_law.proofs.Naming.{both_named, both_leave, no_header_leaves}
 use Rattle.op_law.proofs.Ends.{outs_behind, stage_behind}
 use Rattle.op_law.proofs.RemovalEnds.{removal_outs, removal_stage, removal_leaves_nothing, nothing_kept}
 use Rattle.op_law.proofs.Doing.{AreDone}
-use Rattle.op_writes.specs.Chained.{Chain, StepsOf, after_writes, StandsOn}
-use Rattle.vol_writes.specs.Entries.{CanBeRemoved}
-use Rattle.op_writes.proofs.RemovalSteps.{removal_guards, removal_no_header, removal_moved}
-use Rattle.op_files.specs.Files.{file_in}
-use Rattle.op_files.specs.HeadWrites.{IsHeadWritten}
-use Rattle.op_files.specs.MarkWrites.{marked_write}
-use Rattle.op_files.specs.GoneWrites.{freed_write}
-use Rattle.op_files.proofs.HeadFiles.{head_whole}
-use Rattle.op_files.proofs.HeadRuns.{marked_runs}
-use Rattle.op_files.proofs.HeadSteps.{head_guards, head_leaves}
-use Rattle.op_files.proofs.Freed.{freed_steps}
+use Rattle.op_steps.specs.Chained.{Chain, StepsOf, after_writes, StandsOn}
+use Rattle.vol_spell.specs.Entries.{CanBeRemoved}
+use Rattle.op_steps.proofs.RemovalSteps.{removal_guards, removal_no_header, removal_moved}
+use Rattle.op_steps.specs.Files.{file_in}
+use Rattle.op_steps.specs.HeadWrites.{IsHeadWritten}
+use Rattle.op_steps.specs.MarkWrites.{marked_write}
+use Rattle.op_steps.specs.GoneWrites.{freed_write}
+use Rattle.op_steps.proofs.HeadFiles.{head_whole}
+use Rattle.op_steps.proofs.HeadRuns.{marked_runs}
+use Rattle.op_steps.proofs.HeadSteps.{head_guards, head_leaves}
+use Rattle.op_steps.proofs.Freed.{freed_steps}
 use Rattle.op_freeing.specs.BitmapWrites.{brought, storage_seen, index_seen}
 use Rattle.op_freeing.specs.Standing.{AreUnder, AreBeside}
 use Rattle.op_freeing.specs.TailWrites.{tail_writes}
@@ -71,7 +71,7 @@ use Rattle.op_freeing.proofs.Named.{under_locks, under_joined}
 use Rattle.op_freeing.proofs.Steps.{after_both}
 use Rattle.op_freeing.proofs.Endings.{stage_both, held_keeps_out}
 use Rattle.op_freeing.proofs.Tails.{tail_steps, tail_stands, tail_guards, tail_no_header, tail_stage}
-use Rattle.op_delete.proofs.Slots.{slot_twice}
+use Rattle.op_steps.proofs.Slots.{slot_twice}
 use Rattle.op_delete.proofs.Outcomes.{less, unlinked, without_file, gone, removes_answer, stands_removed, marks_answer, deletes_answer, stands_unlinked, stands_freed, stands_gone}
 use Rattle.op_delete.proofs.Chains.{can, lone_steps, IsUnlinked, unnaming_steps}
 use Rattle.op_delete.proofs.Chains as chain

@@ -3,7 +3,7 @@ use Rattle.std.proofs.Common.{◌≡◌, ◌≤◌, ◌-◌, ◌∙◌, ℕ, Boo
 use Rattle.std.specs.Prelude.{◌==◌, nat_le, option_map}
 use Rattle.std.proofs.lemmas.Bool.Decides.{nat_tests}
 use Rattle.std.proofs.lemmas.List.{take_all}
-use Rattle.vol_words.specs.Fields.{Block}
+use Rattle.base_words.specs.Fields.{Block}
 use Rattle.fx_header.specs.declared.slot.Hdr.{Hdr}
 use Rattle.lock_db.specs.declared.name.LockName.{LockName}
 use Rattle.lock_db.specs.declared.name.LockName.TheVariants.{S, A, Q, X, V}
@@ -13,7 +13,7 @@ use Rattle.plain_cat.specs.declared.entries.DirEnt.{DirEnt}
 use Rattle.plain_cat.specs.declared.history.Stage.TheVariants as stage
 use Rattle.plain_cat.specs.declared.reply.Reply.TheVariants as reply
 use Rattle.plain_cat.specs.declared.reply.Refusal.TheVariants as refusal
-use Rattle.plain_vol.specs.Directories.{is_nil}
+use Rattle.plain_rules.specs.Directories.{is_nil}
 use Rattle.vol_parts.specs.declared.geometry.Geometry.{Geometry}
 use Rattle.vol_spell.specs.Reading.{header_place}
 use Rattle.op_law.specs.declared.need.Need.TheVariants as need
@@ -21,7 +21,8 @@ use Rattle.op_law.specs.declared.need.Plan.{Plan}
 use Rattle.op_law.specs.declared.seeing.Rest.{Rest}
 use Rattle.op_law.specs.Events.{Events, Take, Look, Make, Space, HasNoSpace, following, Follows}
 use Rattle.op_law.specs.Behind.{goes_on_by, first_seen, FollowsBy}
-use Rattle.op_law.specs.Rows.{is_number, refuses, look_all, places_in, entries_seen, plain_plan}
+use Rattle.op_law.specs.Rows.{is_number, refuses, look_all, entries_seen, plain_plan}
+use Rattle.vol_spell.specs.Entries.{places_in}
 use Rattle.op_law.specs.Refusing.{SeenFile, seen_file, used_in, if_file, if_entry}
 use Rattle.op_law.specs.Writing.{plan_of}
 use Rattle.op_law.specs.Moving.{SeenDir, removal_writes}

@@ -3,7 +3,7 @@ use Rattle.std.proofs.Common.{◌≡◌, ◌+◌, ◌*◌, ◌∙◌, inl, inr, 
 use Rattle.std.specs.Prelude.{◌==◌, nat_le, option_map}
 use Rattle.std.proofs.lemmas.Bool.Decides.{nat_tests}
 use Rattle.std.proofs.lemmas.List.{length-map, length-append}
-use Rattle.vol_words.specs.Fields.{Block}
+use Rattle.base_words.specs.Fields.{Block}
 use Rattle.fx_header.specs.declared.slot.Hdr.{Hdr}
 use Rattle.fx_header.specs.Headers.{marked}
 use Rattle.lock_db.specs.declared.name.LockName.{LockName}
@@ -17,10 +17,10 @@ use Rattle.plain_cat.specs.declared.command.Cmd.TheVariants as cmd
 use Rattle.plain_cat.specs.declared.history.Stage.TheVariants as stage
 use Rattle.plain_cat.specs.declared.reply.Refusal.{Refusal}
 use Rattle.plain_cat.specs.declared.reply.Refusal.TheVariants as refusal
-use Rattle.plain_vol.specs.Lookups.{versions, entry_of}
-use Rattle.plain_vol.specs.Directories.{is_nil}
-use Rattle.vol_owners.specs.Lists.{Has}
-use Rattle.vol_owners.specs.Owners.{Things, nothing}
+use Rattle.plain_rules.specs.Lookups.{versions, entry_of}
+use Rattle.plain_rules.specs.Directories.{is_nil}
+use Rattle.base_words.specs.Lists.{Has}
+use Rattle.vol_spell.specs.Owners.{Things, nothing}
 use Rattle.vol_parts.specs.declared.geometry.Geometry.{Geometry}
 use Rattle.vol_parts.specs.declared.geometry.Part.TheVariants.{Storage, IndexBitmap}
 use Rattle.vol_spell.specs.Reading.{header_place, quota_places}
@@ -32,7 +32,8 @@ use Rattle.op_law.specs.Events.{Events, Take, Look, Make, Space, HasNoSpace, Has
 use Rattle.op_law.specs.Fits.{things}
 use Rattle.op_law.specs.Laws.{planned, held_in}
 use Rattle.op_law.specs.Needs.{events_of}
-use Rattle.op_law.specs.Rows.{is_number, live_in, places_in, look_all, refuses, in_directory, entries_seen}
+use Rattle.op_law.specs.Rows.{is_number, live_in, look_all, refuses, in_directory, entries_seen}
+use Rattle.vol_spell.specs.Entries.{places_in}
 use Rattle.op_law.specs.Refusing.{SeenFile, seen_file, used_in, if_file, if_entry}
 use Rattle.op_law.specs.Writing.{empty_handed, header_write}
 use Rattle.op_law.specs.Moving.{SeenDir, entries_of, through_names, removal_writes}

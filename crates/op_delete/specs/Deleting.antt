@@ -16,8 +16,8 @@ use Rattle.op_law.specs.Moving.{SeenDir}
 use Rattle.op_law.specs.Freeing.{through_space}
 use Rattle.op_law.specs.Removing.{if_empty, delete_plan}
 use Rattle.op_law.specs.Behind.{blocks_alone}
-use Rattle.op_parts.specs.declared.names.DirSeen.{DirSeen}
-use Rattle.op_parts.specs.Names.{IsReadable}
+use Rattle.op_steps.specs.declared.names.DirSeen.{DirSeen}
+use Rattle.op_steps.specs.Names.{IsReadable}
 
 -- the directory can be read, has at most 16 blocks, and has the entry
 pub record CanGo (d : DirSeen) (e : DirEnt) : Type 0 where

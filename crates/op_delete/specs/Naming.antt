@@ -1,6 +1,6 @@
 -- The file that an entry names, told by what was seen behind the directory.
 use Rattle.std.specs.Prelude.{◌≡◌, ◌≤◌, ℕ, List, [], ◌∷◌, Option, Some, None, IfSome, length, option_map}
-use Rattle.vol_words.specs.Fields.{Block}
+use Rattle.base_words.specs.Fields.{Block}
 use Rattle.lock_db.specs.declared.name.LockName.{LockName}
 use Rattle.lock_db.specs.declared.name.LockName.TheVariants.{S}
 use Rattle.plain_cat.specs.declared.mode.Mode.{Mode}
@@ -13,10 +13,10 @@ use Rattle.op_law.specs.Moving.{SeenDir}
 use Rattle.op_law.specs.Refusing.{SeenFile, seen_file, used_in, if_file, if_entry}
 use Rattle.op_law.specs.Removing.{delete_in}
 use Rattle.op_law.specs.Behind.{goes_on_by, first_seen, FollowsBy}
-use Rattle.op_delete.specs.declared.seeing.FileSeen.{FileSeen}
+use Rattle.op_steps.specs.declared.seeing.FileSeen.{FileSeen}
 use Rattle.op_delete.specs.declared.naming.Told.{Told}
 use Rattle.op_delete.specs.declared.naming.Told.TheVariants as told
-use Rattle.op_delete.specs.Seeing.{file_seen, IsReadable}
+use Rattle.op_steps.specs.Seeing.{file_seen, IsReadable}
 use Rattle.op_delete.specs.Deleting.{file_goes}
 
 -- behind the header of a number: what comes next, where the file of this sequence is in use there, or else this plan

@@ -1,31 +1,15 @@
--- A file as the command has seen it, in order to delete it.
-use Rattle.std.specs.Prelude.{◌≡◌, ◌≤◌, ℕ, Some, length}
+-- The file that an entry names, as the command has seen it.
+use Rattle.std.specs.Prelude.{◌≤◌, ℕ}
 use Rattle.vol_parts.specs.declared.geometry.Geometry.{Geometry}
-use Rattle.vol_spell.specs.Reading.{fields_told}
 use Rattle.op_law.specs.declared.need.Need.{Need}
 use Rattle.op_law.specs.declared.need.Need.TheVariants as need
 use Rattle.op_law.specs.declared.need.Plan.{Plan}
 use Rattle.op_law.specs.Events.{Events, Space}
-use Rattle.op_law.specs.Rows.{places_in}
-use Rattle.op_law.specs.Refusing.{SeenFile, seen_file}
+use Rattle.op_law.specs.Refusing.{SeenFile}
 use Rattle.op_law.specs.Behind.{goes_on_by, FollowsBy}
-use Rattle.op_law.specs.Readable.{HasMap, AreInside}
-use Rattle.op_delete.specs.declared.seeing.FileSeen.{FileSeen}
+use Rattle.op_steps.specs.Seeing.{file_seen, IsReadable}
 use Rattle.op_delete.specs.declared.seeing.Named.{Named}
 use Rattle.op_delete.specs.declared.seeing.Named.TheVariants as named
-
--- the file as the row of events has it
-abbrev pub file_seen : Geometry → FileSeen → SeenFile
-file_seen g f = seen_file g f.num f.head.now f.fields
-
--- its fields are those that its header tells; the runs can be read, and end at or before LBN 65,536; and it has as many blocks as its header says, which are at
--- most 512 runs of 65,536
-pub record IsReadable (f : FileSeen) : Type 0 where
-  pub reads : fields_told f.head.now ≡ Some f.fields
-  pub map : HasMap f.head.now
-  pub inside : AreInside f.head.now
-  pub count : length (places_in f.head.now) ≡ f.fields.blocks
-  pub few : f.fields.blocks ≤ 33554432
 
 -- behind the header of the file that an entry names: its plan, where no such file is in use
 abbrev pub behind_named : Geometry → Plan → (SeenFile → Events) → Space → Named → Need

@@ -5,7 +5,7 @@ ghost use Rattle.plain_cat.specs.declared.command.Cmd.TheVariants as cmd;
 ghost use Rattle.op_law.specs.declared.need.Need.TheVariants as need;
 ghost use Rattle.plain_cat.specs.declared.history.Stage.TheVariants as stage;
 ghost use Rattle.plain_cat.specs.declared.reply.Reply.TheVariants as reply;
-ghost use Rattle.plain_vol.specs.Lookups.{versions, entry_of};
+ghost use Rattle.plain_rules.specs.Lookups.{versions, entry_of};
 ghost use Rattle.vol_parts.specs.Parts.{IsGeometry};
 ghost use Rattle.op_law.specs.Events.{Make, Space as Given, next_of};
 ghost use Rattle.op_law.specs.Fits.{FitsSeen};
@@ -16,18 +16,19 @@ ghost use Rattle.op_law.specs.Behind.{goes_on_by, FollowsBy};
 ghost use Rattle.op_law.specs.Readable.{HeadIsInside};
 ghost use Rattle.op_law.specs.Freeing.{all_clusters, through_space};
 ghost use Rattle.op_law.specs.Removing.{delete_plan, delete_in, delete_events};
-ghost use Rattle.op_parts.specs.Names.{dir_seen, IsReadable as IsDirReadable};
-ghost use Rattle.op_delete.specs.Seeing.{file_seen, IsReadable};
-ghost use Rattle.op_delete.specs.Looking.{space_seen, IsWhole};
+ghost use Rattle.op_steps.specs.Names.{dir_seen, IsReadable as IsDirReadable};
+ghost use Rattle.op_steps.specs.Seeing.{file_seen, IsReadable};
+ghost use Rattle.op_freeing.specs.Looking.{space_seen, IsWhole};
 ghost use Rattle.op_delete.specs.Deleting.{plan_by, file_goes, CanGo};
 ghost use Rattle.op_delete.specs.Naming.{LockIsOf};
 
-use crate::looking::{Empty, Space, SpaceSeen, empty_seen, space_seen};
+use crate::looking::{Empty, empty_seen};
 use crate::naming::{Told, file_told};
-use crate::seeing::{FileSeen, Named, named_seen};
-use crate::writing::{push_freed, push_removed, push_unnaming};
+use crate::seeing::{Named, named_seen};
+use crate::writing::{push_removed, push_unnaming};
+use op_freeing::{Space, SpaceSeen, all_clusters, push_gone, space_seen};
 use op_law::{Ask, Need, NoMemory, Plan, Rest, Seen, Writes, entries_seen, refused};
-use op_parts::{DirSeen, Names, entry_found, names_seen};
+use op_steps::{DirSeen, FileSeen, Names, entry_found, names_seen};
 use plain_cat::{Clusters, DirEnt, Fid, Mode, Name, Refusal, Reply, Stage};
 use std::alloc::Global;
 use vol_parts::Geometry;
@@ -67,7 +68,7 @@ fn deleted(
     let mut writes = Writes::new(alloc);
     push_unnaming(alloc, &mut writes, g, d, e, f)?;
     let at = writes.items().len() as u32;
-    push_freed(alloc, &mut writes, g, f, clusters, space)?;
+    push_gone(alloc, &mut writes, g, f, clusters, space)?;
     Ok(Plan {
         writes,
         ask: Some(Ask {
@@ -127,9 +128,10 @@ fn space_looked(
     ensures { IfOk result (λ need. (given : Given) → goes_on_by (through_space g.now (file_seen g.now f.now)
         (λ s. Make (plan_by (λ e. delete_plan g.now (dir_seen d.now) e (file_seen g.now f.now) s) (entry_of (versions name.now (entries_of (dir_seen d.now))) ver)))) rest.entry given ≡ need) }
 {
-    match space_seen(alloc, g, f, rest)? {
+    let clusters = all_clusters(alloc, g, f)?;
+    match space_seen(alloc, g, &clusters, rest)? {
         Space::Next(need) => Ok(need),
-        Space::All(space, clusters) => { deleted_by(alloc, g, d, name, ver, f, &clusters, &space) }
+        Space::All(space) => deleted_by(alloc, g, d, name, ver, f, &clusters, &space),
     }
 }
 

@@ -10,19 +10,16 @@
 //! `next` gives exactly the next need: the directory and the file, each under its lock in PW, Q and the quota blocks, V and the
 //! bitmaps, and the plan. The plan asks who has the file open: if nobody has, the file goes; if not, it stays, marked for delete.
 //! Each DELETE obeys the law of a command (`delete_obeys_the_law`).
+//!
+//! `xqp_set` joins it to the other commands.
 #![tactic(auto)]
 
-mod clusters;
 mod deleting;
 pub mod laws;
 mod looking;
 mod naming;
 mod operation;
 mod seeing;
-#[cfg(test)]
-mod tests;
 mod writing;
 
-pub use looking::SpaceSeen;
 pub use operation::OpDelete;
-pub use seeing::FileSeen;

@@ -12,13 +12,12 @@ ghost use Rattle.op_law.specs.Refusing.{SeenFile, if_entry};
 ghost use Rattle.op_law.specs.Removing.{delete_in};
 ghost use Rattle.op_law.specs.Behind.{FollowsBy};
 ghost use Rattle.op_law.specs.Readable.{HeadIsInside};
-ghost use Rattle.op_parts.specs.Names.{dir_seen};
+ghost use Rattle.op_steps.specs.Names.{dir_seen};
 ghost use Rattle.op_delete.specs.Naming.{if_used, file_locked, LockIsOf, IsFirstFile, IsPassed, IsTold, TellsFile};
 
-use crate::seeing::{FileSeen, fields_told};
 use lock_db::LockName;
 use op_law::{Need, Rest, header_lbn};
-use op_parts::DirSeen;
+use op_steps::{DirSeen, FileSeen, fields_told};
 use plain_cat::Mode;
 use vol_parts::Geometry;
 

@@ -1,37 +1,23 @@
 //! The file that an entry names, where one is in use: its number and its header.
 
-ghost use Rattle.std.specs.Prelude.{◌≡◌, ◌≤◌, length, option_map, Some, IfSome};
-ghost use Rattle.vol_words.specs.Fields.{Block};
+ghost use Rattle.std.specs.Prelude.{◌≡◌, ◌≤◌, option_map};
+ghost use Rattle.base_words.specs.Fields.{Block};
 ghost use Rattle.vol_parts.specs.Parts.{IsGeometry};
 ghost use Rattle.vol_parts.specs.declared.geometry.Geometry.{Geometry as Volume};
-ghost use Rattle.vol_spell.specs.Reading.{fields_told};
 ghost use Rattle.op_law.specs.declared.need.Plan.{Plan};
 ghost use Rattle.op_law.specs.Events.{Events, Make, Space, following};
-ghost use Rattle.op_law.specs.Rows.{places_in};
 ghost use Rattle.op_law.specs.Refusing.{SeenFile, seen_file, used_in, if_file};
 ghost use Rattle.op_law.specs.Removing.{under_lock, through_named};
 ghost use Rattle.op_law.specs.Behind.{behind_block, FollowsBy, FollowsBlock, IsHeadOf};
-ghost use Rattle.op_law.specs.Readable.{HasMap, AreInside, HeadIsInside};
+ghost use Rattle.op_law.specs.Readable.{AreInside, HeadIsInside};
 ghost use Rattle.op_delete.specs.Seeing.{behind_named, FollowsNamed, ShowsFile};
 
-use fx_header::{Hdr, Slot, read_header};
+use base_words::Block;
 use lock_db::LockName;
 use op_law::{Granted, Looked, Need, Rest, block_seen, header_lbn, is_number, lock_seen};
+use op_steps::{FileSeen, file_used};
 use plain_cat::{Fid, Mode};
 use vol_parts::Geometry;
-use vol_words::Block;
-
-/// A file in use whose header was seen. It may be marked for delete.
-#[derive(Clone, Copy)]
-pub struct FileSeen<'a> {
-    pub num: u32,
-
-    /// The block of its header.
-    pub head: &'a Block,
-
-    /// The fields that the header tells.
-    pub fields: Hdr,
-}
 
 /// The file that an entry names, where its header is seen.
 #[derive(Drop)]
@@ -44,31 +30,6 @@ pub(crate) enum Named<'a> {
 
     /// The header is not seen yet: what the command needs next.
     Next(Need),
-}
-
-/// The header of the file in use in a slot, by its block, or none where the slot has none.
-pub(crate) fn fields_told(b: &Block) -> Option<Hdr>
-    ensures header { result ≡ fields_told b.now }
-    ensures map { IfSome result (λ h. HasMap b.now) }
-    ensures count { IfSome result (λ h. length (places_in b.now) ≡ h.blocks) }
-    ensures few { IfSome result (λ h. AreInside b.now → h.blocks ≤ 33554432) }
-{
-    match read_header(b) {
-        Ok(Slot::Used(h)) => Some(h),
-        Ok(Slot::Free(_)) => None,
-        Err(_) => None,
-    }
-}
-
-// The same of the file in use of this sequence.
-fn used_in(b: &Block, seq: u16) -> Option<Hdr>
-    ensures header { result ≡ used_in seq b.now }
-    ensures told { IfSome result (λ h. fields_told b.now ≡ Some h) }
-    ensures map { IfSome result (λ h. HasMap b.now) }
-    ensures count { IfSome result (λ h. length (places_in b.now) ≡ h.blocks) }
-{
-    let h = fields_told(b)?;
-    if h.seq == seq { Some(h) } else { None }
 }
 
 // The header of a number under its lock in PW. Where the lock is that of the directory it is held already.
@@ -98,15 +59,8 @@ fn file_in<'a>(fid: Fid, head: &'a Block, rest: Rest<'a>) -> Named<'a>
     ensures follows { (g : Volume) (plan : Plan) (next : SeenFile → Events) (space : Space)
         → FollowsBy (if_file (Make plan) next (option_map (seen_file g fid.num head.now) (used_in fid.seq head.now))) rest.entry space → FollowsNamed g next space result }
 {
-    match used_in(head, fid.seq) {
-        Some(fields) => Named::File(
-            FileSeen {
-                num: fid.num,
-                head,
-                fields,
-            },
-            rest,
-        ),
+    match file_used(fid, head) {
+        Some(f) => Named::File(f, rest),
         None => Named::Nothing,
     }
 }

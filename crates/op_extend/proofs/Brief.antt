@@ -1,15 +1,15 @@
 -- How much EXTEND needs and writes.
 use Rattle.std.proofs.Common.{◌≤◌, ◌*◌, ℕ, List, [], ◌∷◌, Option, Some, None, length, arith, length-append}
 use Rattle.std.specs.Prelude.{false}
-use Rattle.vol_words.specs.Fields.{Block}
+use Rattle.base_words.specs.Fields.{Block}
 use Rattle.plain_cat.specs.declared.ids.Fid.{Fid}
 use Rattle.plain_cat.specs.declared.mode.Mode.TheVariants.{PW}
 use Rattle.plain_cat.specs.declared.command.Cmd.TheVariants as cmd
 use Rattle.plain_cat.specs.declared.history.Stage.TheVariants as stage
 use Rattle.plain_cat.specs.declared.reply.Refusal.{Refusal}
 use Rattle.plain_cat.specs.declared.cat.Cat.{Cat}
-use Rattle.plain_vol.specs.Answers.{first_refusal}
-use Rattle.vol_owners.specs.Owners.{Owners}
+use Rattle.plain_rules.specs.Answers.{first_refusal}
+use Rattle.vol_spell.specs.Owners.{Owners}
 use Rattle.vol_parts.specs.declared.geometry.Geometry.{Geometry}
 use Rattle.vol_spell.specs.Reading.{header_block}
 use Rattle.vol_spell.specs.Spelling.{Spells}

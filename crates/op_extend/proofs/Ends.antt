@@ -2,13 +2,13 @@
 use Rattle.std.proofs.Common.{◌≡◌, ℕ, Bool, true, false, List, [], ◌∷◌, Option, Some, None, length, map, refl, sym, ap, inl, inr, arith}
 use Rattle.std.specs.Prelude.{◌==◌, ◌&&◌, ◌*◌, is_none}
 use Rattle.std.proofs.lemmas.Bool.Decides.{nat_tests}
-use Rattle.vol_words.specs.Fields.{Block}
+use Rattle.base_words.specs.Fields.{Block}
 use Rattle.lock_db.specs.declared.name.LockName.{LockName}
 use Rattle.plain_cat.specs.declared.ids.Fid.{Fid}
 use Rattle.plain_cat.specs.declared.command.Cmd.TheVariants as cmd
 use Rattle.plain_cat.specs.declared.history.Stage.{Stage}
 use Rattle.plain_cat.specs.declared.history.Stage.TheVariants as stage
-use Rattle.vol_owners.specs.Owners.{Things, nothing}
+use Rattle.vol_spell.specs.Owners.{Things, nothing}
 use Rattle.vol_parts.specs.declared.geometry.Geometry.{Geometry}
 use Rattle.vol_under.specs.UnderWay.{stage_after, outs_after}
 use Rattle.op_law.specs.declared.seen.Chan.{Chan}
@@ -17,7 +17,8 @@ use Rattle.op_law.specs.Events.{Space, has_space, HasNoSpace, IsGiven}
 use Rattle.op_law.specs.Fits.{things}
 use Rattle.op_law.specs.Laws.{planned, KeepsOut}
 use Rattle.op_law.specs.Needs.{events_of}
-use Rattle.op_law.specs.Quotas.{owner_write, changed_write, row_place, is_row_of, row_charged}
+use Rattle.op_law.specs.Quotas.{owner_write, changed_write, row_place, row_charged}
+use Rattle.vol_spell.specs.Rows.{is_row_of}
 use Rattle.op_law.specs.Refusing.{SeenFile}
 use Rattle.op_law.specs.Sizes.{grown_header, growing_writes}
 use Rattle.op_law.specs.Writing.{holding, empty_handed, header_write}

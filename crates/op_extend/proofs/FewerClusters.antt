@@ -4,7 +4,7 @@ use Rattle.std.specs.Prelude.{min, nat_le, nat_lt, Ok}
 use Rattle.std.proofs.Math.Nat.{mul-div_cancel, mul-le-mul_right}
 use Rattle.std.proofs.lemmas.List.{take-map, drop-map}
 use Rattle.std.proofs.lemmas.Bool.Decides.{nat_tests}
-use Rattle.vol_words.specs.Fields.{Block, IsWholeBlock}
+use Rattle.base_words.specs.Fields.{Block, IsWholeBlock}
 use Rattle.fx_header.specs.declared.run.Run.{Run}
 use Rattle.fx_header.specs.declared.slot.Hdr.{Hdr}
 use Rattle.fx_header.specs.declared.slot.Slot.TheVariants.{Used}
@@ -12,18 +12,19 @@ use Rattle.fx_header.specs.Headers.{map_area, has_offsets, header_read, with_end
 use Rattle.fx_header.specs.Pointers.{AreRuns, blocks_in, map_words}
 use Rattle.fx_header.proofs.SetterLemmas.{end-reads, mark-reads, tells-of}
 use Rattle.fx_header.proofs.SoundLemmas.{areas-of, ends-of, reads-sound}
-use Rattle.blk_whole.proofs.Headers.{whole_end}
-use Rattle.vol_owners.specs.Lists.{Has}
-use Rattle.vol_owners.proofs.Listing.{has_first}
+use Rattle.vol_parts.proofs.WholeHeaders.{whole_end}
+use Rattle.base_words.specs.Lists.{Has}
+use Rattle.base_words.proofs.Listing.{has_first}
 use Rattle.vol_parts.specs.declared.geometry.Geometry.{Geometry}
 use Rattle.vol_parts.specs.Parts.{IsGeometry}
 use Rattle.vol_spell.specs.Reading.{total_of}
 use Rattle.op_law.specs.Sizes.{lowered}
 use Rattle.op_law.specs.Writing.{runs_for, clusters_seen}
-use Rattle.op_writes.proofs.FileRuns.{are_runs_for, short_words}
-use Rattle.op_parts.proofs.Clustered.{few_blocks}
-use Rattle.op_extend.specs.declared.seeing.FileSeen.{FileSeen}
-use Rattle.op_extend.specs.Seeing.{file_seen, CanBeCut}
+use Rattle.op_steps.proofs.FileRuns.{are_runs_for, short_words}
+use Rattle.op_steps.proofs.Clustered.{few_blocks}
+use Rattle.op_steps.specs.declared.seeing.FileSeen.{FileSeen}
+use Rattle.op_steps.specs.Seeing.{file_seen}
+use Rattle.op_extend.specs.Seeing.{CanBeCut}
 
 -- the runs of the first clusters, and of those behind them
 pub taken : (g : Geometry) (k : ℕ) (qs : List ℕ) → take k (runs_for g qs) ≡ runs_for g (take k qs)

@@ -9,17 +9,17 @@ use Rattle.fx_header.specs.declared.run.Run.{Run}
 use Rattle.fx_header.specs.Headers.{map_area}
 use Rattle.fx_header.specs.Pointers.{AreRuns, blocks_in, map_words}
 use Rattle.fx_header.proofs.SoundLemmas.{areas-of}
-use Rattle.vol_owners.specs.Lists.{Has}
-use Rattle.vol_owners.proofs.Listing.{has_parted}
+use Rattle.base_words.specs.Lists.{Has}
+use Rattle.base_words.proofs.Listing.{has_parted}
 use Rattle.vol_parts.specs.declared.geometry.Geometry.{Geometry}
 use Rattle.vol_parts.specs.Parts.{IsGeometry}
 use Rattle.vol_parts.proofs.Ranges.{range-more}
 use Rattle.vol_spell.specs.Reading.{total_of, clusters_of}
 use Rattle.op_law.specs.Writing.{runs_for, clusters_seen}
-use Rattle.op_writes.proofs.FileRuns.{are_runs_for, short_words}
-use Rattle.op_parts.proofs.Clustered.{few_blocks}
-use Rattle.op_parts.specs.Given.{IsOfVolume}
-use Rattle.op_extend.specs.declared.seeing.FileSeen.{FileSeen}
+use Rattle.op_steps.proofs.FileRuns.{are_runs_for, short_words}
+use Rattle.op_steps.proofs.Clustered.{few_blocks}
+use Rattle.op_steps.specs.Given.{IsOfVolume}
+use Rattle.op_steps.specs.declared.seeing.FileSeen.{FileSeen}
 use Rattle.op_extend.specs.Seeing.{IsReadable}
 
 -- the runs of clusters in a row

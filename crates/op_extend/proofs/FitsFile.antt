@@ -1,7 +1,7 @@
 -- What an EXTEND or a TRUNC has seen fits a volume: its first header.
 use Rattle.std.proofs.Common.{◌≡◌, Bool, true, false, cond, List, [], ◌∷◌, Option, Some, None, ℕ, slice_get, refl, sym, ap, subst}
 use Rattle.std.specs.Prelude.{Ok}
-use Rattle.vol_words.specs.Fields.{Block}
+use Rattle.base_words.specs.Fields.{Block}
 use Rattle.fx_header.specs.declared.slot.Hdr.{Hdr}
 use Rattle.fx_header.specs.declared.slot.Slot.TheVariants.{Used}
 use Rattle.fx_header.specs.Headers.{header_read}
@@ -13,8 +13,8 @@ use Rattle.plain_cat.specs.declared.command.Cmd.{Cmd}
 use Rattle.plain_cat.specs.declared.command.Cmd.TheVariants as cmd
 use Rattle.plain_cat.specs.declared.cat.Cat.{Cat}
 use Rattle.plain_cat.specs.declared.reply.Refusal.TheVariants as refusal
-use Rattle.vol_owners.specs.Lists.{StandsIn}
-use Rattle.vol_owners.specs.Owners.{Owners}
+use Rattle.base_words.specs.Lists.{StandsIn}
+use Rattle.vol_spell.specs.Owners.{Owners}
 use Rattle.vol_parts.specs.declared.geometry.Geometry.{Geometry}
 use Rattle.vol_spell.specs.Reading.{IsFileNumber, header_place}
 use Rattle.vol_spell.specs.Spelling.{Spells}
@@ -28,7 +28,7 @@ use Rattle.op_law.specs.Rows.{is_number, refuses, through_header}
 use Rattle.op_law.specs.Sizes.{extend_events, trunc_events}
 use Rattle.op_law.proofs.Heads.{header_is, through_inside}
 use Rattle.op_law.proofs.Telling.{number_is}
-use Rattle.op_files.proofs.HeadFiles.{within, counted, few}
+use Rattle.op_steps.proofs.HeadFiles.{within, counted, few}
 use Rattle.op_extend.specs.Kinds.{ChangesSize}
 use Rattle.op_extend.specs.Seeing.{IsSized, HeadIsSized}
 

@@ -3,7 +3,7 @@ use Rattle.std.proofs.Common.{◌≡◌, ◌≤◌, ◌<◌, ◌+◌, ◌*◌, �
 use Rattle.std.specs.Prelude.{Ok, ◌||◌, nat_le}
 use Rattle.std.specs.List.{list_all}
 use Rattle.std.proofs.lemmas.Bool.Decides.{nat_tests}
-use Rattle.vol_words.specs.Fields.{Block}
+use Rattle.base_words.specs.Fields.{Block}
 use Rattle.fx_header.specs.declared.slot.Hdr.{Hdr}
 use Rattle.fx_header.specs.declared.slot.Slot.TheVariants as head
 use Rattle.fx_header.specs.Headers.{header_read}
@@ -14,11 +14,11 @@ use Rattle.plain_cat.specs.declared.history.Stage.TheVariants as stage
 use Rattle.plain_cat.specs.declared.cat.Cat.{Cat}
 use Rattle.plain_cat.specs.declared.cat.File.{File}
 use Rattle.plain_cat.specs.declared.cat.QuotaRow.{QuotaRow}
-use Rattle.plain_vol.specs.Lookups.{live, row_of, free_clusters}
-use Rattle.plain_vol.specs.Changes.{with_file, grown}
-use Rattle.plain_vol.specs.Answers.{first_refusal}
-use Rattle.vol_owners.specs.Owners.{Owners, Things, nothing, Outs}
-use Rattle.vol_owners.specs.Places.{blocks_at}
+use Rattle.plain_rules.specs.Lookups.{live, row_of, free_clusters}
+use Rattle.plain_rules.specs.Changes.{with_file, grown}
+use Rattle.plain_rules.specs.Answers.{first_refusal}
+use Rattle.vol_spell.specs.Owners.{Owners, Things, nothing, Outs}
+use Rattle.vol_spell.specs.Spread.{blocks_at}
 use Rattle.vol_parts.specs.declared.geometry.Geometry.{Geometry}
 use Rattle.vol_spell.specs.Reading.{IsFileNumber, header_block, quota_places}
 use Rattle.vol_spell.specs.Spelling.{Spells}
@@ -38,14 +38,14 @@ use Rattle.op_law.proofs.Naming.{both_named, both_leave, no_header_leaves}
 use Rattle.op_law.proofs.Refusals.{passed}
 use Rattle.op_law.proofs.Telling.{live_reads}
 use Rattle.op_law.proofs.Through.{file_told}
-use Rattle.op_writes.specs.Chained.{Chain, StepsOf, after_writes, StandsOn, FilesStay}
-use Rattle.vol_writes.specs.Rows.{IsInRange, row_for}
-use Rattle.op_writes.proofs.RowSteps.{row_steps, row_guards, row_no_header}
-use Rattle.op_writes.proofs.Chaining.{live_at}
-use Rattle.op_files.specs.Files.{file_in, IsFileThere}
-use Rattle.op_files.specs.GrownWrites.{grown_write}
-use Rattle.op_files.proofs.HeadSteps.{head_guards, head_leaves}
-use Rattle.op_files.proofs.GrownSteps.{grown_steps}
+use Rattle.op_steps.specs.Chained.{Chain, StepsOf, after_writes, StandsOn, FilesStay}
+use Rattle.vol_spell.specs.Rows.{IsInRange, row_for}
+use Rattle.op_steps.proofs.RowSteps.{row_steps, row_guards, row_no_header}
+use Rattle.op_steps.proofs.Chaining.{live_at}
+use Rattle.op_steps.specs.Files.{file_in, IsFileThere}
+use Rattle.op_steps.specs.GrownWrites.{grown_write}
+use Rattle.op_steps.proofs.HeadSteps.{head_guards, head_leaves}
+use Rattle.op_steps.proofs.GrownSteps.{grown_steps}
 use Rattle.op_extend.proofs.Ranges.{drawn_in}
 use Rattle.op_extend.proofs.Replies.{head_checks, draft_checks, charged_for, after_for, stands_charged, stands_done}
 

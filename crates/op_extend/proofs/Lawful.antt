@@ -3,7 +3,7 @@ use Rattle.std.proofs.Common.{◌≡◌, ◌≤◌, ◌+◌, ℕ, true, List, []
 use Rattle.std.specs.Prelude.{◌&&◌}
 use Rattle.std.specs.List.{list_all}
 use Rattle.std.proofs.lemmas.Bool.{and_parts}
-use Rattle.vol_words.specs.Fields.{Block}
+use Rattle.base_words.specs.Fields.{Block}
 use Rattle.fx_header.specs.declared.slot.Hdr.{Hdr}
 use Rattle.lock_db.specs.declared.name.LockName.{LockName}
 use Rattle.lock_db.specs.declared.name.LockName.TheVariants.{S, Q}
@@ -18,10 +18,10 @@ use Rattle.plain_cat.specs.declared.reply.Refusal.{Refusal}
 use Rattle.plain_cat.specs.declared.reply.Refusal.TheVariants as refusal
 use Rattle.plain_cat.specs.declared.cat.Cat.{Cat}
 use Rattle.plain_cat.specs.declared.cat.File.{File}
-use Rattle.plain_vol.specs.Lookups.{free_clusters}
-use Rattle.plain_vol.specs.Answers.{first_refusal, Answer}
-use Rattle.vol_owners.specs.Owners.{Owners, Things, nothing, Outs}
-use Rattle.vol_owners.specs.Places.{blocks_at}
+use Rattle.plain_rules.specs.Lookups.{free_clusters}
+use Rattle.plain_rules.specs.Answers.{first_refusal, Answer}
+use Rattle.vol_spell.specs.Owners.{Owners, Things, nothing, Outs}
+use Rattle.vol_spell.specs.Spread.{blocks_at}
 use Rattle.vol_parts.specs.declared.geometry.Geometry.{Geometry}
 use Rattle.vol_spell.specs.Reading.{quota_places}
 use Rattle.vol_spell.specs.Spelling.{Spells}
@@ -41,7 +41,7 @@ use Rattle.op_law.proofs.Doing.{busy, IsDone, refusal_done, does_lawful}
 use Rattle.op_law.proofs.Spaces.{known_space}
 use Rattle.op_law.proofs.Through.{file_told}
 use Rattle.op_law.proofs.Walking.{ObeysBy}
-use Rattle.op_files.specs.Files.{file_in}
+use Rattle.op_steps.specs.Files.{file_in}
 use Rattle.op_extend.specs.Kinds.{IsExtend}
 use Rattle.op_extend.proofs.Searches.{extend_once, extend_shaped}
 use Rattle.op_extend.proofs.Ends.{growing_outs, growing_stage, growing_kept, extend_end}

@@ -5,24 +5,24 @@ use Rattle.std.specs.List.{list_all}
 use Rattle.std.proofs.Math.Nat.{mul-le-mul_left, mul-le-mul_right, div-mul-le_self}
 use Rattle.std.proofs.lemmas.Bool.{and_parts, leb-true}
 use Rattle.std.proofs.lemmas.List.Sums.{sum_by-cons}
-use Rattle.vol_words.specs.Fields.{Block}
+use Rattle.base_words.specs.Fields.{Block}
 use Rattle.plain_cat.specs.declared.ids.Uic.{Uic}
 use Rattle.plain_cat.specs.declared.cat.Cat.{Cat}
 use Rattle.plain_cat.specs.declared.cat.Slot.{Slot}
 use Rattle.plain_cat.specs.declared.cat.Slot.TheVariants.{Used, Free}
 use Rattle.plain_cat.specs.declared.cat.QuotaRow.{QuotaRow}
-use Rattle.plain_vol.specs.Lookups.{clusters_in, row_of}
-use Rattle.plain_vol.specs.Changes.{cost}
-use Rattle.plain_vol.specs.Accounts.{share, charge}
-use Rattle.vol_owners.specs.Owners.{Owners}
+use Rattle.plain_rules.specs.Lookups.{clusters_in, row_of}
+use Rattle.plain_rules.specs.Changes.{cost}
+use Rattle.plain_rules.specs.Accounts.{share, charge}
+use Rattle.vol_spell.specs.Owners.{Owners}
 use Rattle.vol_parts.specs.declared.geometry.Geometry.{Geometry}
 use Rattle.vol_spell.specs.Reading.{total_of}
 use Rattle.vol_spell.specs.Spelling.{Spells}
 use Rattle.vol_spell.proofs.Adds.{adds}
 use Rattle.op_law.specs.Knows.{is_charged}
 use Rattle.op_law.specs.Quotas.{row_charged}
-use Rattle.vol_writes.specs.Rows.{IsInRange, row_for}
-use Rattle.vol_writes.proofs.RowRanges.{rows_in_range}
+use Rattle.vol_spell.specs.Rows.{IsInRange, row_for}
+use Rattle.vol_spell.proofs.RowRanges.{rows_in_range}
 
 -- ---- what the files of an owner cost
 

@@ -12,12 +12,12 @@ use Rattle.plain_cat.specs.declared.reply.Refusal.{Refusal}
 use Rattle.plain_cat.specs.declared.reply.Refusal.TheVariants as refusal
 use Rattle.plain_cat.specs.declared.cat.Cat.{Cat}
 use Rattle.plain_cat.specs.declared.cat.File.{File}
-use Rattle.plain_vol.specs.declared.outcome.Outcome.{Outcome}
-use Rattle.plain_vol.specs.Lookups.{live, row_of, free_clusters}
-use Rattle.plain_vol.specs.Changes.{charged, with_file, grown}
-use Rattle.plain_vol.specs.Answers.{refused, first_refusal, unless, is_kept, over_draft, extend_refusal, extend_of, extend_outcome, outcome, Answer}
-use Rattle.plain_vol.specs.Stages.{extend_stage, command_stage, stage_of, staged}
-use Rattle.plain_vol.proofs.LawSteps.{pick_exists}
+use Rattle.plain_rules.specs.declared.outcome.Outcome.{Outcome}
+use Rattle.plain_rules.specs.Lookups.{live, row_of, free_clusters}
+use Rattle.plain_rules.specs.Changes.{charged, with_file, grown}
+use Rattle.plain_rules.specs.Answers.{refused, first_refusal, unless, is_kept, over_draft, extend_refusal, extend_of, extend_outcome, outcome, Answer}
+use Rattle.plain_rules.specs.Stages.{extend_stage, command_stage, stage_of, staged}
+use Rattle.plain_rules.proofs.LawSteps.{pick_exists}
 use Rattle.vol_parts.specs.declared.geometry.Geometry.{Geometry}
 use Rattle.vol_under.specs.UnderWay.{StandsAt}
 use Rattle.op_law.specs.Sizes.{size_shown}

@@ -2,7 +2,7 @@
 use Rattle.std.proofs.Common.{◌≡◌, ◌≤◌, ◌+◌, ◌-◌, ◌*◌, ◌/◌, ◌∙◌, inl, inr, ℕ, zero, suc, Bool, true, false, cond, List, [], ◌∷◌, Option, Some, None, length, map, take, is_some, refl, sym, ap, subst, arith, length-take}
 use Rattle.std.specs.Prelude.{◌==◌, ◌||◌, min, nat_lt, option_map, Ok}
 use Rattle.std.proofs.lemmas.Bool.Decides.{nat_tests}
-use Rattle.vol_words.specs.Fields.{Block}
+use Rattle.base_words.specs.Fields.{Block}
 use Rattle.fx_header.specs.declared.slot.Hdr.{Hdr}
 use Rattle.fx_header.specs.declared.slot.Slot.TheVariants as head
 use Rattle.fx_header.specs.Headers.{header_read}
@@ -19,12 +19,12 @@ use Rattle.plain_cat.specs.declared.reply.Refusal.{Refusal}
 use Rattle.plain_cat.specs.declared.reply.Refusal.TheVariants as refusal
 use Rattle.plain_cat.specs.declared.cat.Cat.{Cat}
 use Rattle.plain_cat.specs.declared.cat.File.{File}
-use Rattle.plain_vol.specs.Lookups.{live, file_at}
-use Rattle.plain_vol.specs.Changes.{cut}
-use Rattle.plain_vol.specs.Answers.{is_kept, Answer}
-use Rattle.vol_owners.specs.declared.owner.Owner.TheVariants.{InFile}
-use Rattle.vol_owners.specs.Lists.{Has}
-use Rattle.vol_owners.specs.Owners.{Owners, Things, nothing, Outs}
+use Rattle.plain_rules.specs.Lookups.{live, file_at}
+use Rattle.plain_rules.specs.Changes.{cut}
+use Rattle.plain_rules.specs.Answers.{is_kept, Answer}
+use Rattle.vol_spell.specs.declared.owner.Owner.TheVariants.{InFile}
+use Rattle.base_words.specs.Lists.{Has}
+use Rattle.vol_spell.specs.Owners.{Owners, Things, nothing, Outs}
 use Rattle.vol_parts.specs.declared.geometry.Geometry.{Geometry}
 use Rattle.vol_parts.specs.declared.geometry.Part.{Part}
 use Rattle.vol_parts.specs.declared.geometry.Part.TheVariants.{Storage}
@@ -53,9 +53,9 @@ use Rattle.op_law.proofs.Spaceless.{spaceless_lawful}
 use Rattle.op_law.proofs.Telling.{live_is, not_live, live_reads}
 use Rattle.op_law.proofs.Through.{file_told, header_obeys, quota_obeys, all_obeys}
 use Rattle.op_law.proofs.Walking.{ObeysBy}
-use Rattle.op_writes.proofs.Chaining.{live_at}
-use Rattle.op_files.specs.Files.{file_in}
-use Rattle.op_files.proofs.HeadFiles.{sized, counted, mark_within, end_within, file_is, shown, length-shown}
+use Rattle.op_steps.proofs.Chaining.{live_at}
+use Rattle.op_steps.specs.Files.{file_in}
+use Rattle.op_steps.proofs.HeadFiles.{sized, counted, mark_within, end_within, file_is, shown, length-shown}
 use Rattle.op_freeing.proofs.Filters.{mapped}
 use Rattle.op_freeing.proofs.Named.{guarded, for_part}
 use Rattle.op_extend.specs.Kinds.{IsTrunc}

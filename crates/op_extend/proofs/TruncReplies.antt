@@ -1,5 +1,5 @@
 -- The outcome of TRUNC: its refusals, the file that stays, and the file that is cut; and the stages on the way.
-use Rattle.std.proofs.Common.{◌≡◌, ◌≤◌, ◌<◌, ◌∙◌, ℕ, zero, suc, Bool, true, false, cond, List, [], ◌∷◌, Option, Some, None, map, slice_get, slice_set, refl, sym, ap, arith}
+use Rattle.std.proofs.Common.{◌≡◌, ◌≤◌, ◌<◌, ◌∙◌, ℕ, Bool, true, false, cond, List, [], ◌∷◌, Option, Some, None, map, refl, ap, arith}
 use Rattle.std.specs.Prelude.{◌*◌, ◌+◌, ◌-◌, ◌/◌, ◌==◌, min, nat_lt}
 use Rattle.std.proofs.lemmas.Bool.Decides.{nat_tests}
 use Rattle.plain_cat.specs.declared.ids.Fid.{Fid}
@@ -16,17 +16,18 @@ use Rattle.plain_cat.specs.declared.cat.Cat.{Cat}
 use Rattle.plain_cat.specs.declared.cat.File.{File}
 use Rattle.plain_cat.specs.declared.cat.Slot.TheVariants as slot
 use Rattle.plain_cat.specs.declared.cat.QuotaRow.{QuotaRow}
-use Rattle.plain_vol.specs.declared.outcome.Outcome.{Outcome}
-use Rattle.plain_vol.specs.Lookups.{live, file_at}
-use Rattle.plain_vol.specs.Changes.{discharged, lowered, with_file, cut}
-use Rattle.plain_vol.specs.Answers.{refused, is_kept, trunc_of, trunc_outcome, outcome, Answer}
-use Rattle.plain_vol.specs.Stages.{only_if, trunc_stage, command_stage, stage_of, staged}
-use Rattle.plain_vol.proofs.LawSteps.{pick_exists}
-use Rattle.plain_vol.proofs.Standing.{stands_at}
+use Rattle.plain_rules.specs.declared.outcome.Outcome.{Outcome}
+use Rattle.plain_rules.specs.Lookups.{live, file_at}
+use Rattle.plain_rules.specs.Changes.{discharged, lowered, with_file, cut}
+use Rattle.plain_rules.specs.Answers.{refused, is_kept, trunc_of, trunc_outcome, outcome, Answer}
+use Rattle.plain_rules.specs.Stages.{only_if, trunc_stage, command_stage, stage_of, staged}
+use Rattle.plain_rules.proofs.LawSteps.{pick_exists}
+use Rattle.plain_rules.proofs.Standing.{stands_at}
 use Rattle.vol_parts.specs.declared.geometry.Geometry.{Geometry}
 use Rattle.vol_under.specs.UnderWay.{StandsAt}
 use Rattle.op_law.specs.Sizes.{size_shown}
 use Rattle.op_law.specs.Writing.{clusters_for}
+use Rattle.base_words.proofs.Listing.{set_same}
 
 -- ---- a cut to all clusters changes nothing
 
@@ -39,11 +40,6 @@ same_row owner r = by_test (r.owner.0 == owner.0) where
 same_rows : (owner : Uic) (rs : List QuotaRow) → map (lowered owner 0) rs ≡ rs
 same_rows owner [] = refl
 same_rows owner (r ∷ rs) = ap (λ q. q ∷ map (lowered owner 0) rs) (same_row owner r) ∙ ap (λ qs. r ∷ qs) (same_rows owner rs)
-
-set_same : {A : Type 0} (xs : List A) (k : ℕ) (a : A) → slice_get xs k ≡ Some a → slice_set xs k a ≡ xs
-set_same [] k a at = refl
-set_same (x ∷ xs) zero a at = let e : x ≡ a = cc in ap (λ y. y ∷ xs) (sym e)
-set_same (x ∷ xs) (suc k) a at = ap (λ ys. x ∷ ys) (set_same xs k a at)
 
 -- a file that is written where it stands already, and an owner who is charged with nothing less
 pub nothing_changed : (c : Cat) (n : ℕ) (owner : Uic) (f : File) → file_at c n ≡ Some f → with_file (discharged c owner 0) n f ≡ c

@@ -3,7 +3,7 @@ use Rattle.std.proofs.Common.{◌≡◌, ◌<◌, ◌-◌, ◌*◌, ◌∙◌, i
 use Rattle.std.specs.Prelude.{◌||◌, nat_le, nat_lt, Ok}
 use Rattle.std.proofs.lemmas.Bool.Decides.{nat_tests}
 use Rattle.std.proofs.lemmas.List.{append-nil, length-map}
-use Rattle.vol_words.specs.Fields.{Block}
+use Rattle.base_words.specs.Fields.{Block}
 use Rattle.fx_header.specs.declared.slot.Hdr.{Hdr}
 use Rattle.fx_header.specs.declared.slot.Slot.TheVariants as head
 use Rattle.fx_header.specs.Headers.{header_read}
@@ -17,12 +17,12 @@ use Rattle.plain_cat.specs.declared.command.Cmd.TheVariants as cmd
 use Rattle.plain_cat.specs.declared.history.Stage.TheVariants as stage
 use Rattle.plain_cat.specs.declared.cat.Cat.{Cat}
 use Rattle.plain_cat.specs.declared.cat.File.{File}
-use Rattle.plain_vol.specs.Changes.{discharged}
-use Rattle.plain_vol.specs.Answers.{is_kept}
-use Rattle.vol_owners.specs.Lists.{Has}
-use Rattle.vol_owners.specs.Owners.{Owners, Things, nothing, Outs}
-use Rattle.vol_owners.specs.Places.{blocks_at}
-use Rattle.vol_owners.proofs.Placing.{length-blocks_at}
+use Rattle.plain_rules.specs.Changes.{discharged}
+use Rattle.plain_rules.specs.Answers.{is_kept}
+use Rattle.base_words.specs.Lists.{Has}
+use Rattle.vol_spell.specs.Owners.{Owners, Things, nothing, Outs}
+use Rattle.vol_spell.specs.Spread.{blocks_at}
+use Rattle.vol_spell.proofs.Placing.{length-blocks_at}
 use Rattle.vol_parts.specs.declared.geometry.Geometry.{Geometry}
 use Rattle.vol_parts.specs.declared.geometry.Part.TheVariants.{Storage}
 use Rattle.vol_parts.specs.Volumes.{fields_in}
@@ -44,13 +44,13 @@ use Rattle.op_law.proofs.Doing.{AreDone}
 use Rattle.op_law.proofs.Naming.{both_named, both_leave, no_header_leaves}
 use Rattle.op_law.proofs.Telling.{live_reads}
 use Rattle.op_law.proofs.Through.{file_told}
-use Rattle.op_writes.specs.Chained.{Chain, StepsOf, after_writes, StandsOn}
-use Rattle.op_writes.proofs.Chaining.{live_at}
-use Rattle.op_files.specs.Files.{file_in, IsFileThere}
-use Rattle.op_files.specs.HeadWrites.{IsHeadWritten}
-use Rattle.op_files.specs.GoneWrites.{cut_write}
-use Rattle.op_files.proofs.HeadSteps.{head_guards, head_leaves}
-use Rattle.op_files.proofs.Cut.{cut_steps}
+use Rattle.op_steps.specs.Chained.{Chain, StepsOf, after_writes, StandsOn}
+use Rattle.op_steps.proofs.Chaining.{live_at}
+use Rattle.op_steps.specs.Files.{file_in, IsFileThere}
+use Rattle.op_steps.specs.HeadWrites.{IsHeadWritten}
+use Rattle.op_steps.specs.GoneWrites.{cut_write}
+use Rattle.op_steps.proofs.HeadSteps.{head_guards, head_leaves}
+use Rattle.op_steps.proofs.Cut.{cut_steps}
 use Rattle.op_freeing.specs.BitmapWrites.{storage_seen}
 use Rattle.op_freeing.specs.Standing.{AreUnder, AreBeside}
 use Rattle.op_freeing.specs.TailWrites.{tail_writes}

@@ -2,7 +2,7 @@
 use Rattle.std.proofs.Common.{◌≡◌, ◌≤◌, ◌+◌, ◌*◌, ◌∙◌, inl, inr, ℕ, true, false, List, [], ◌∷◌, Option, Some, None, length, refl, sym, ap, subst, arith}
 use Rattle.std.specs.Prelude.{nat_lt, is_some, option_map, if◌then◌else◌}
 use Rattle.std.proofs.lemmas.Bool.Decides.{nat_tests}
-use Rattle.vol_words.specs.Fields.{Block}
+use Rattle.base_words.specs.Fields.{Block}
 use Rattle.fx_header.specs.declared.slot.Hdr.{Hdr}
 use Rattle.lock_db.specs.declared.name.LockName.{LockName}
 use Rattle.lock_db.specs.declared.name.LockName.TheVariants.{S, Q}
@@ -16,11 +16,11 @@ use Rattle.plain_cat.specs.declared.reply.Refusal.{Refusal}
 use Rattle.plain_cat.specs.declared.reply.Refusal.TheVariants as refusal
 use Rattle.plain_cat.specs.declared.cat.Cat.{Cat}
 use Rattle.plain_cat.specs.declared.cat.QuotaRow.{QuotaRow}
-use Rattle.plain_vol.specs.Lookups.{live, row_of, free_clusters}
-use Rattle.plain_vol.specs.Answers.{first_refusal, over_draft}
-use Rattle.vol_owners.specs.Lists.{Has}
-use Rattle.vol_owners.specs.Owners.{Owners, Things, Outs}
-use Rattle.vol_owners.specs.Places.{blocks_at}
+use Rattle.plain_rules.specs.Lookups.{live, row_of, free_clusters}
+use Rattle.plain_rules.specs.Answers.{first_refusal, over_draft}
+use Rattle.base_words.specs.Lists.{Has}
+use Rattle.vol_spell.specs.Owners.{Owners, Things, Outs}
+use Rattle.vol_spell.specs.Spread.{blocks_at}
 use Rattle.vol_parts.specs.declared.geometry.Geometry.{Geometry}
 use Rattle.vol_spell.specs.Reading.{IsFileNumber, header_block, quota_places}
 use Rattle.vol_spell.specs.Spelling.{Spells}
@@ -41,8 +41,8 @@ use Rattle.op_law.proofs.Spaces.{clusters_given, clusters_refused, IsKnown}
 use Rattle.op_law.proofs.Telling.{live_is, not_live}
 use Rattle.op_law.proofs.Through.{file_told, header_obeys, quota_obeys}
 use Rattle.op_law.proofs.Walking.{ObeysBy}
-use Rattle.op_writes.proofs.Chaining.{live_at}
-use Rattle.op_files.specs.Files.{file_in}
+use Rattle.op_steps.proofs.Chaining.{live_at}
+use Rattle.op_steps.specs.Files.{file_in}
 use Rattle.op_extend.proofs.Ends.{only_clusters}
 use Rattle.op_extend.proofs.Growing.{IsLive}
 use Rattle.op_extend.proofs.Replies.{head_checks, draft_checks}

@@ -1,21 +1,16 @@
 -- A file as the command has seen it, in order to change its header.
 use Rattle.std.specs.Prelude.{◌≡◌, ◌≤◌, ◌<◌, ◌/◌, ℕ, List, [], ◌∷◌, length, Ok}
-use Rattle.vol_words.specs.Fields.{Block}
+use Rattle.base_words.specs.Fields.{Block}
 use Rattle.fx_header.specs.declared.slot.Hdr.{Hdr}
 use Rattle.fx_header.specs.declared.slot.Slot.TheVariants.{Used}
 use Rattle.fx_header.specs.Headers.{header_read}
-use Rattle.vol_owners.specs.Lists.{Has}
+use Rattle.base_words.specs.Lists.{Has}
 use Rattle.vol_parts.specs.declared.geometry.Geometry.{Geometry}
 use Rattle.vol_parts.specs.Volumes.{most_clusters}
 use Rattle.vol_spell.specs.Reading.{total_of}
 use Rattle.op_law.specs.Readable.{HasMap, AreInside}
-use Rattle.op_law.specs.Refusing.{SeenFile, seen_file}
 use Rattle.op_law.specs.Writing.{clusters_seen}
-use Rattle.op_extend.specs.declared.seeing.FileSeen.{FileSeen}
-
--- the file as the row of events has it
-abbrev pub file_seen : Geometry → FileSeen → SeenFile
-file_seen g f = seen_file g f.num f.head.now f.fields
+use Rattle.op_steps.specs.declared.seeing.FileSeen.{FileSeen}
 
 -- a header of number n with these fields has the clusters of its blocks, all of the volume; above the system files not more than
 -- a header lists

@@ -1,24 +1,24 @@
 //! The writes of TRUNC: the header with fewer clusters, those that go become free, and the owner is charged less.
 
 ghost use Rattle.std.specs.Prelude.{◌≡◌, ◌≤◌, ◌<◌, ◌*◌, ◌/◌, length, map, take, drop, IfOk};
-ghost use Rattle.vol_words.specs.Fields.{IsWholeBlock};
+ghost use Rattle.base_words.specs.Fields.{IsWholeBlock};
 ghost use Rattle.fx_header.specs.declared.run.Run.{Run};
 ghost use Rattle.vol_parts.specs.Parts.{IsGeometry};
 ghost use Rattle.op_law.specs.Behind.{blocks_alone};
 ghost use Rattle.op_law.specs.Freeing.{blocks_for};
 ghost use Rattle.op_law.specs.Sizes.{lowered, cut_header, cut_clusters, cutting_writes};
-ghost use Rattle.op_extend.specs.Seeing.{file_seen, CanBeCut};
+ghost use Rattle.op_steps.specs.Seeing.{file_seen};
+ghost use Rattle.op_extend.specs.Seeing.{CanBeCut};
 
 use crate::runs::file_runs;
-use crate::seeing::FileSeen;
+use base_words::Block;
 use fx_header::{Run, set_end, set_mark, set_runs};
 use op_freeing::{push_storage, rising};
 use op_law::{NoMemory, Numbers, Writes};
-use op_parts::{push_discharge, push_header};
+use op_steps::{FileSeen, push_discharge, push_header};
 use plain_cat::{Clusters, Stage, Uic};
 use std::alloc::Global;
 use vol_parts::Geometry;
-use vol_words::Block;
 
 // The first cluster of each of these runs.
 fn first_clusters(alloc: Global, g: &Geometry, runs: &[Run]) -> Result<Vec<u32>, NoMemory>

@@ -1,7 +1,7 @@
 //! What EXTEND needs next.
 
 ghost use Rattle.std.specs.Prelude.{◌≡◌, ◌≤◌, ◌+◌, ◌/◌, option_map, None, length, IfOk};
-ghost use Rattle.plain_vol.specs.Answers.{first_refusal, over_draft};
+ghost use Rattle.plain_rules.specs.Answers.{first_refusal, over_draft};
 ghost use Rattle.vol_parts.specs.Parts.{IsGeometry};
 ghost use Rattle.op_law.specs.Events.{next_of, space_of};
 ghost use Rattle.op_law.specs.Rows.{live_in, refuses};
@@ -10,25 +10,25 @@ ghost use Rattle.op_law.specs.Sizes.{grown_by, growing_refusals, draft_refusals,
 ghost use Rattle.op_law.specs.Behind.{goes_on_by, blocks_alone};
 ghost use Rattle.op_law.specs.Readable.{AreInside, HeadIsInside};
 ghost use Rattle.plain_cat.specs.declared.reply.Refusal.TheVariants as refusal;
-ghost use Rattle.op_parts.specs.Given.{IsOfVolume};
-ghost use Rattle.op_extend.specs.Seeing.{file_seen, IsSized, HeadIsSized, IsReadable};
+ghost use Rattle.op_steps.specs.Given.{IsOfVolume};
+ghost use Rattle.op_steps.specs.Seeing.{file_seen};
+ghost use Rattle.op_extend.specs.Seeing.{IsSized, HeadIsSized, IsReadable};
 ghost use Rattle.fx_header.specs.Headers.{header_read};
 ghost use Rattle.fx_header.specs.declared.slot.Hdr.{Hdr};
 ghost use Rattle.fx_header.specs.declared.slot.Slot.TheVariants.{Used};
 ghost use Rattle.std.specs.Prelude.{Ok};
 
 use crate::given::{Given, clusters_given};
-use crate::seeing::FileSeen;
 use crate::writing::growing_writes;
+use base_words::Block;
 use op_law::{
     Listed, Looked, Need, NoMemory, Plan, Rest, Seen, header_seen, is_number, live_in, refused,
 };
-use op_parts::{clusters_for, quota_seen, rows_seen};
+use op_steps::{FileSeen, clusters_for, quota_seen, rows_seen};
 use plain_cat::{Fid, Mode, QuotaRow, Refusal, Reply, Uic};
-use plain_vol::row_of;
+use plain_rules::row_of;
 use std::alloc::Global;
 use vol_parts::Geometry;
-use vol_words::Block;
 
 // Whether the usage of a row and these blocks exceed the quota and the overdraft.
 fn over_draft(row: Option<QuotaRow>, k: u32) -> bool

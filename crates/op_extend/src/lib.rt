@@ -10,6 +10,8 @@
 //! `next` gives exactly the next need: the file's lock in PW and its header, Q in PW and the quota blocks; then for EXTEND
 //! clusters, for TRUNC V in PW and the storage blocks of the clusters that go; and the plan. Each EXTEND and TRUNC whose number
 //! of blocks is in form obeys the law of a command, with whatever file (`extend_obeys_the_law`, `trunc_obeys_the_law`).
+//!
+//! `xqp_set` joins it to the other commands.
 #![tactic(auto)]
 
 mod cutting;
@@ -18,12 +20,8 @@ mod given;
 pub mod laws;
 mod operation;
 mod runs;
-mod seeing;
-#[cfg(test)]
-mod tests;
 mod truncating;
 mod writing;
 
 pub use operation::OpExtend;
 pub use runs::file_runs;
-pub use seeing::FileSeen;

@@ -6,11 +6,11 @@ ghost use Rattle.vol_parts.specs.Parts.{IsGeometry};
 ghost use Rattle.op_law.specs.Readable.{HasMap, AreInside};
 ghost use Rattle.op_law.specs.Writing.{clusters_seen, runs_for};
 
+use base_words::Block;
 use fx_header::{Run, runs};
 use op_law::NoMemory;
 use std::alloc::Global;
 use vol_parts::Geometry;
-use vol_words::Block;
 
 // Adds a run for each cluster of a run. A refusal of memory says nothing of the runs.
 fn push_clusters(all: &mut Vec<Run>, g: &Geometry, run: Run) -> Result<(), NoMemory>

@@ -12,24 +12,24 @@ ghost use Rattle.op_law.specs.Behind.{goes_on_by, blocks_alone};
 ghost use Rattle.op_law.specs.Readable.{AreInside, HeadIsInside};
 ghost use Rattle.op_law.specs.declared.need.Need.TheVariants as need;
 ghost use Rattle.plain_cat.specs.declared.reply.Refusal.TheVariants as refusal;
-ghost use Rattle.op_extend.specs.Seeing.{file_seen, IsSized, HeadIsSized, IsReadable, CanBeCut};
+ghost use Rattle.op_steps.specs.Seeing.{file_seen};
+ghost use Rattle.op_extend.specs.Seeing.{IsSized, HeadIsSized, IsReadable, CanBeCut};
 ghost use Rattle.fx_header.specs.Headers.{header_read};
 ghost use Rattle.fx_header.specs.declared.slot.Hdr.{Hdr};
 ghost use Rattle.fx_header.specs.declared.slot.Slot.TheVariants.{Used};
 
 use crate::cutting::{clusters_behind, cutting_writes};
-use crate::seeing::FileSeen;
+use base_words::Block;
 use lock_db::LockName;
 use op_freeing::storage_seen;
 use op_law::{
     Granted, Listed, Looked, Need, NoMemory, Plan, Rest, Seen, answered, header_seen, is_number,
     live_in, lock_seen, refused,
 };
-use op_parts::{clusters_for, quota_seen};
+use op_steps::{FileSeen, clusters_for, quota_seen};
 use plain_cat::{Clusters, Fid, Mode, Refusal, Reply};
 use std::alloc::Global;
 use vol_parts::Geometry;
-use vol_words::Block;
 
 // The reply that shows all blocks of so many clusters.
 fn size_shown(g: &Geometry, clusters: u32) -> Reply

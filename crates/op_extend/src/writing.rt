@@ -5,18 +5,18 @@ ghost use Rattle.vol_parts.specs.Parts.{IsGeometry};
 ghost use Rattle.op_law.specs.Behind.{blocks_alone};
 ghost use Rattle.op_law.specs.Sizes.{grown_mark, grown_header, growing_writes};
 ghost use Rattle.op_law.specs.Writing.{runs_for, clusters_seen};
-ghost use Rattle.op_parts.specs.Given.{IsOfVolume};
-ghost use Rattle.op_extend.specs.Seeing.{file_seen, IsReadable};
+ghost use Rattle.op_steps.specs.Given.{IsOfVolume};
+ghost use Rattle.op_steps.specs.Seeing.{file_seen};
+ghost use Rattle.op_extend.specs.Seeing.{IsReadable};
 
 use crate::runs::file_runs;
-use crate::seeing::FileSeen;
+use base_words::Block;
 use fx_header::{Run, clear_contig, set_mark, set_runs};
 use op_law::{NoMemory, Writes};
-use op_parts::{push_charge, push_header, runs_for};
+use op_steps::{FileSeen, push_charge, push_header, runs_for};
 use plain_cat::{Clusters, Stage, Uic};
 use std::alloc::Global;
 use vol_parts::Geometry;
-use vol_words::Block;
 
 // The mark of a file that gets more blocks: where it had none, the blocks that it has stay written.
 fn grown_mark(g: &Geometry, f: &FileSeen<'_>) -> u32

@@ -2,27 +2,23 @@
 use Rattle.std.proofs.Common.{◌≡◌, ◌≢◌, ◌<◌, ℕ, Bool, true, false, List, [], ◌∷◌, refl, ap, subst, ◌∙◌, inl, inr, arith, if◌then◌else◌}
 use Rattle.std.specs.List.{fold}
 use Rattle.std.proofs.lemmas.Bool.Decides.{nat_tests}
-use Rattle.vol_words.specs.Fields.{Block, IsWholeBlock}
+use Rattle.base_words.specs.Fields.{Block, IsWholeBlock}
 use Rattle.fx_bitmap.specs.Bits.{bit_at, is_among, bits_put}
-use Rattle.fx_bitmap.proofs.Blocks.{bit_at-block_of}
-use Rattle.blk_whole.proofs.Tables.{whole_bits}
-use Rattle.vol_owners.specs.Lists.{Has}
-use Rattle.vol_owners.proofs.Listing.{same_or_not}
-
-put_at : (b : Block) (from n i : ℕ) (value : Bool) → i < 4096 → bit_at (bits_put b from n value) i ≡ (if is_among from n i then value else bit_at b i)
-unfolding bits_put
-put_at b from n i value h = bit_at-block_of (λ j. if is_among from n j then value else bit_at b j) i h
+use Rattle.vol_parts.proofs.Tables.{whole_bits}
+use Rattle.base_words.specs.Lists.{Has}
+use Rattle.base_words.proofs.Listing.{same_or_not}
+use Rattle.fx_bitmap.proofs.BitRuns.{bits_put_at}
 
 -- one bit that was put, and the others
 put_here : (b : Block) (i : ℕ) (value : Bool) → i < 4096 → bit_at (bits_put b i 1 value) i ≡ value
 put_here b i value h =
     let here : is_among i 1 i ≡ true = grind (arith, nat_tests) in
-    put_at b i 1 i value h ∙ ap (λ (t : Bool). if t then value else bit_at b i) here
+    bits_put_at b i 1 i value h ∙ ap (λ (t : Bool). if t then value else bit_at b i) here
 
 put_there : (b : Block) (i j : ℕ) (value : Bool) → j < 4096 → j ≢ i → bit_at (bits_put b i 1 value) j ≡ bit_at b j
 put_there b i j value h ne =
     let there : is_among i 1 j ≡ false = grind (arith, nat_tests) in
-    put_at b i 1 j value h ∙ ap (λ (t : Bool). if t then value else bit_at b j) there
+    bits_put_at b i 1 j value h ∙ ap (λ (t : Bool). if t then value else bit_at b j) there
 
 -- the bits at the places of these are put to a value, one after another
 module _ (value : Bool) (place : ℕ → ℕ) where

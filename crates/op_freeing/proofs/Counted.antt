@@ -1,7 +1,7 @@
 -- How many blocks were looked at: as many as were to be. A row of events that carries its blocks to its plan shows it.
 use Rattle.std.proofs.Common.{◌≡◌, ◌∙◌, ◌<◌, ◌+◌, ℕ, Bool, true, false, List, [], ◌∷◌, length, map, All, sym, ap, arith}
 use Rattle.std.proofs.lemmas.List.{length-map, get_or_default}
-use Rattle.vol_words.specs.Fields.{Block}
+use Rattle.base_words.specs.Fields.{Block}
 use Rattle.lock_db.specs.declared.name.LockName.{LockName}
 use Rattle.lock_db.specs.declared.name.LockName.TheVariants.{V}
 use Rattle.plain_cat.specs.declared.mode.Mode.{Mode}

@@ -4,12 +4,12 @@ use Rattle.std.specs.Prelude.{◌==◌, slice_index_or, filter}
 use Rattle.std.specs.List.{range_with_len, list_any}
 use Rattle.std.proofs.lemmas.Bool.{eq-eqb}
 use Rattle.std.proofs.lemmas.Bool.Decides.{nat_tests}
-use Rattle.vol_words.specs.Fields.{Block}
+use Rattle.base_words.specs.Fields.{Block}
 use Rattle.fx_bitmap.specs.Bits.{bit_at}
 use Rattle.plain_cat.specs.declared.history.Stage.{Stage}
-use Rattle.vol_owners.specs.Lists.{Has}
-use Rattle.vol_owners.specs.Owners.{Things, nothing}
-use Rattle.vol_owners.proofs.Placing.{has_ranged, ranged_has, blocks_kept, index-set_here, length-blocks_at}
+use Rattle.base_words.specs.Lists.{Has}
+use Rattle.vol_spell.specs.Owners.{Things, nothing}
+use Rattle.vol_spell.proofs.Placing.{has_ranged, ranged_has, blocks_kept, index-set_here, length-blocks_at}
 use Rattle.vol_parts.specs.declared.geometry.Geometry.{Geometry}
 use Rattle.vol_parts.specs.declared.geometry.Part.TheVariants.{Storage}
 use Rattle.vol_spell.specs.Reading.{total_of, cluster_bit}
@@ -18,9 +18,11 @@ use Rattle.vol_under.specs.UnderWay.{bare, stage_after, outs_after}
 use Rattle.op_law.specs.declared.need.PlanWrite.{PlanWrite}
 use Rattle.op_law.specs.Laws.{planned}
 use Rattle.op_law.specs.Freeing.{rising, lies_in, behind, blocks_for, with_free, storage_writes, index_write, freeing_tail}
-use Rattle.op_writes.specs.Chained.{after_writes}
+use Rattle.op_steps.specs.Chained.{after_writes}
 use Rattle.op_freeing.specs.BitmapWrites.{AreClusters, RisingClusters, storage_places, storage_seen, brought, ClustersFree, HeldKeepsOut, FreeingEndsSo}
-use Rattle.op_freeing.proofs.Filters.{passed, let_through, any_has, has_any, Rise, ranged_rise, rise_once, has_mapped, length_mapped}
+use Rattle.op_freeing.proofs.Filters.{any_has, has_any, Rise, ranged_rise, rise_once, has_mapped, length_mapped}
+use Rattle.base_words.proofs.Listing.{has_passed as passed}
+use Rattle.base_words.proofs.Listing.{has_filtered as let_through}
 use Rattle.op_freeing.proofs.Bits.{is_put}
 use Rattle.op_freeing.proofs.Turns.{AreBlocks, AreLeft, blocks_are, all_left, blocks_next, left_next, none_left, brought_is, place_apart, places_for, HaveStorage}
 use Rattle.op_freeing.proofs.Named.{of_storage, touched_by}

@@ -2,26 +2,9 @@
 use Rattle.std.proofs.Common.{◌≡◌, ◌∙◌, ◌<◌, ◌+◌, ℕ, zero, suc, Bool, true, false, List, [], ◌∷◌, length, map, refl, sym, ap, inl, inr, arith}
 use Rattle.std.specs.Prelude.{filter}
 use Rattle.std.specs.List.{range_with_len, list_any}
-use Rattle.vol_owners.specs.Lists.{Has, Once}
-use Rattle.vol_owners.proofs.Placing.{has_ranged}
-
--- an item that passes a test is in what it lets through
-pub passed : {A : Type 0} (p : A → Bool) (xs : List A) (x : A) → Has xs x → p x ≡ true → Has (filter p xs) x
-passed p [] x t e = t
-passed {A} p (y ∷ xs) x t e = by_test (p y) refl (λ u. passed p xs x u e) where
-  by_test : (b : Bool) → p y ≡ b → (Has xs x → Has (filter p xs) x) → Has (filter p (y ∷ xs)) x
-  by_test true f ih = rw f (elim t [ inl same ↦ inl same | inr u ↦ inr (ih u) ])
-  by_test false f ih = rw f (elim t [ inl same ↦ absurd (let g : true ≡ false = sym e ∙ ap p (sym same) ∙ f in cc) | inr u ↦ ih u ])
-
--- what a test lets through is in the list, and passes
-pub let_through : {A : Type 0} (p : A → Bool) (xs : List A) (x : A) → Has (filter p xs) x → Has xs x × (p x ≡ true)
-let_through p [] x t = absurd t
-let_through p (y ∷ xs) x t = by_test (p y) refl (λ u. let_through p xs x u) t where
-  by_test : (b : Bool) → p y ≡ b → (Has (filter p xs) x → Has xs x × (p x ≡ true)) → Has (filter p (y ∷ xs)) x → Has (y ∷ xs) x × (p x ≡ true)
-  by_test true f ih t =
-      let u : Has (y ∷ filter p xs) x = rw f at t in
-      elim u [ inl same ↦ (inl same, ap p (sym same) ∙ f) | inr v ↦ let r = ih v in (inr r.0, r.1) ]
-  by_test false f ih t = let u : Has (filter p xs) x = rw f at t in let r = ih u in (inr r.0, r.1)
+use Rattle.base_words.specs.Lists.{Has, Once}
+use Rattle.vol_spell.proofs.Placing.{has_ranged}
+use Rattle.base_words.proofs.Listing.{has_filtered}
 
 -- some item passes
 pub any_has : {A : Type 0} (p : A → Bool) (xs : List A) → list_any p xs ≡ true → (x : A) × Has xs x × (p x ≡ true)
@@ -47,7 +30,7 @@ pub ranged_rise : (p : ℕ → Bool) (a n : ℕ) → Rise (filter p (range_with_
 ranged_rise p a zero = tt
 ranged_rise p a (suc n) = by_test (p a) refl (ranged_rise p (a + 1) n) where
   by_test : (b : Bool) → p a ≡ b → Rise (filter p (range_with_len (a + 1) n)) → Rise (filter p (range_with_len a (suc n)))
-  by_test true f ih = rw f ((λ j t. let h = (has_ranged (a + 1) n j (let_through p (range_with_len (a + 1) n) j t).0).0 in omega arith), ih)
+  by_test true f ih = rw f ((λ j t. let h = (has_ranged (a + 1) n j (has_filtered p (range_with_len (a + 1) n) j t).0).0 in omega arith), ih)
   by_test false f ih = rw f ih
 
 pub rise_once : (ks : List ℕ) → Rise ks → Once ks

@@ -1,19 +1,16 @@
 -- The blocks that are written have the bits of what becomes free.
 use Rattle.std.proofs.Common.{◌≡◌, ◌<◌, ◌≤◌, ◌-◌, ◌/◌, ◌%◌, ℕ, true, false, List, map, sym, ap, subst, ◌∙◌, inl, inr, arith}
-use Rattle.vol_words.specs.Fields.{Block, IsWholeBlock}
+use Rattle.base_words.specs.Fields.{Block, IsWholeBlock}
 use Rattle.fx_bitmap.specs.Bits.{bit_at}
-use Rattle.vol_owners.specs.Lists.{Has}
-use Rattle.vol_owners.proofs.Listing.{has_or_not}
+use Rattle.base_words.specs.Lists.{Has}
+use Rattle.base_words.proofs.Listing.{has_or_not}
 use Rattle.vol_parts.specs.declared.geometry.Geometry.{Geometry}
 use Rattle.vol_spell.specs.Reading.{total_of}
 use Rattle.vol_under.specs.Refilling.{AreGiven, AreNumbersGiven}
 use Rattle.op_law.specs.Freeing.{with_free, without_numbers}
 use Rattle.op_freeing.proofs.Bits.{stays, is_put, kept, whole_put}
 use Rattle.op_freeing.proofs.Filters.{mapped, has_mapped}
-
--- a cluster is told by its block and its bit there
-same_cluster : (k p q : ℕ) → p / 4096 ≡ k → q / 4096 ≡ k → p % 4096 ≡ q % 4096 → p ≡ q
-same_cluster k p q a b e = omega arith
+use Rattle.base_words.proofs.Numbers.{same_cluster}
 
 abbrev bit_of : ℕ → ℕ
 bit_of q = q % 4096

@@ -1,16 +1,16 @@
 -- The locks that the writes are under, and the blocks that they touch.
 use Rattle.std.proofs.Common.{◌≡◌, ◌<◌, ◌≤◌, ◌+◌, ◌-◌, ℕ, List, [], ◌∷◌, Option, Some, None, map, take, drop, refl, sym, ap, ◌∙◌, inl, inr, arith}
 use Rattle.std.specs.List.{range_with_len, list_any}
-use Rattle.vol_words.specs.Fields.{Block}
+use Rattle.base_words.specs.Fields.{Block}
 use Rattle.fx_dir.specs.declared.Move.{Move}
 use Rattle.fx_quota.specs.declared.types.Row.{Row}
 use Rattle.lock_db.specs.declared.name.LockName.TheVariants.{S, Q, V}
 use Rattle.plain_cat.specs.declared.history.Stage.{Stage}
 use Rattle.plain_cat.specs.declared.cat.Cat.{Cat}
-use Rattle.vol_owners.specs.Lists.{Has, Touches}
-use Rattle.vol_owners.specs.Owners.{Owners}
-use Rattle.vol_owners.proofs.Listing.{has_parted, has_first, has_second}
-use Rattle.vol_owners.proofs.Placing.{has_ranged}
+use Rattle.base_words.specs.Lists.{Has, Touches}
+use Rattle.vol_spell.specs.Owners.{Owners}
+use Rattle.base_words.proofs.Listing.{has_parted, has_first, has_second}
+use Rattle.vol_spell.proofs.Placing.{has_ranged}
 use Rattle.vol_parts.specs.declared.geometry.Geometry.{Geometry}
 use Rattle.vol_parts.specs.declared.geometry.Part.{Part}
 use Rattle.vol_parts.specs.declared.geometry.Part.TheVariants.{Header, IndexBitmap, Storage, Quota}
@@ -26,13 +26,15 @@ use Rattle.vol_under.specs.UnderWay.{bare}
 use Rattle.op_law.specs.declared.need.PlanWrite.{PlanWrite}
 use Rattle.op_law.specs.Laws.{planned}
 use Rattle.op_law.specs.Writing.{Held}
-use Rattle.op_law.specs.Quotas.{changed_write, owner_write, row_place, is_row_of}
+use Rattle.op_law.specs.Quotas.{changed_write, owner_write, row_place}
+use Rattle.vol_spell.specs.Rows.{is_row_of}
 use Rattle.op_law.specs.Moving.{SeenDir, move_write, moves_at, insertion_moves, insertion_writes, removal_writes}
 use Rattle.op_law.specs.Freeing.{lies_in, blocks_for, storage_writes, index_write, freeing_tail}
 use Rattle.op_law.proofs.Naming.{both_named, under_lock, TouchesNoHeader}
 use Rattle.op_freeing.specs.BitmapWrites.{FreeingGuards}
 use Rattle.op_freeing.specs.Standing.{AreUnder, UnderLocks, UnderJoined, Guarded}
-use Rattle.op_freeing.proofs.Filters.{let_through, mapped}
+use Rattle.op_freeing.proofs.Filters.{mapped}
+use Rattle.base_words.proofs.Listing.{has_filtered as let_through}
 
 -- ---- the writes of the bitmaps
 

@@ -2,16 +2,16 @@
 use Rattle.std.proofs.Common.{◌≡◌, ◌-◌, ℕ, List, [], ◌∷◌, ◌++◌, Some, map, slice_get, refl, sym, ap, subst, ◌∙◌, inl, inr, arith, append_assoc}
 use Rattle.std.proofs.lemmas.List.{map-append}
 use Rattle.std.proofs.lemmas.Option.{slice_get-get_or, slice_get_within}
-use Rattle.vol_words.specs.Fields.{Block}
+use Rattle.base_words.specs.Fields.{Block}
 use Rattle.lock_db.specs.declared.name.LockName.TheVariants.{S, V}
 use Rattle.plain_cat.specs.declared.history.Stage.{Stage}
 use Rattle.plain_cat.specs.declared.cat.Cat.{Cat}
-use Rattle.vol_owners.specs.declared.owner.Owner.TheVariants.{InFile, Outside}
-use Rattle.vol_owners.specs.Lists.{Has, Parts, Touches, written}
-use Rattle.vol_owners.specs.Owners.{Owners, Things, nothing, Outs}
-use Rattle.vol_owners.proofs.Listing.{once_first}
-use Rattle.vol_owners.proofs.Writing.{get-written_else, written_joined}
-use Rattle.vol_owners.proofs.Handing.{out_swaps}
+use Rattle.vol_spell.specs.declared.owner.Owner.TheVariants.{InFile, Outside}
+use Rattle.base_words.specs.Lists.{Has, Touches, written}
+use Rattle.vol_spell.specs.Owners.{Owners, Things, nothing, Outs}
+use Rattle.base_words.proofs.Listing.{once_first}
+use Rattle.base_words.proofs.ListWrites.{get-written_else, written_joined}
+use Rattle.vol_spell.proofs.Handing.{whole as all_of_it}
 use Rattle.vol_parts.specs.declared.geometry.Geometry.{Geometry}
 use Rattle.vol_parts.specs.declared.geometry.Part.TheVariants.{IndexBitmap, Storage}
 use Rattle.vol_spell.specs.Places.{place_of}
@@ -21,12 +21,12 @@ use Rattle.vol_spell.proofs.Parts.{are_parts, part_there, part_owned}
 use Rattle.vol_under.specs.UnderWay.{PlannedWrite, bare}
 use Rattle.vol_under.specs.Chains.{End, Steps}
 use Rattle.vol_under.proofs.Refills.{gives_numbers}
-use Rattle.vol_under.proofs.Frees.{refill_step, free_series}
+use Rattle.vol_under.proofs.Frees.{refill_step, free_series, swapped}
 use Rattle.op_law.specs.declared.need.PlanWrite.{PlanWrite}
 use Rattle.op_law.specs.Laws.{planned}
 use Rattle.op_law.specs.Writing.{write_at, empty_handed}
 use Rattle.op_law.specs.Freeing.{blocks_for, storage_writes, without_numbers, index_write}
-use Rattle.op_writes.specs.Chained.{Chain, StepsOf, StageOf, after_writes, StandsOn, FilesStay}
+use Rattle.op_steps.specs.Chained.{Chain, StepsOf, StageOf, after_writes, StandsOn, FilesStay}
 use Rattle.op_freeing.specs.BitmapWrites.{AreClusters, brought, storage_seen, index_seen, StorageFrees, storage_freed, bitmaps_freed, FreeingSteps}
 use Rattle.op_freeing.proofs.Given.{numbers_given}
 use Rattle.op_freeing.proofs.Turns.{HaveStorage, blocks_are, all_left, frees}
@@ -53,13 +53,6 @@ are_clusters g bs own c node qs ns stock s outs = record {
       omega arith;
   once = once_first qs stock.clusters outs.clusters.once;
 }
-
-swapped : (n : ℕ) (own : Owners) (a b : Things) → Outs n own a b → Outs n own b a
-swapped n own a b h = record { clusters = out_swaps n own.clusters a.clusters b.clusters h.clusters; numbers = out_swaps n own.numbers a.numbers b.numbers h.numbers }
-
--- the whole of a list is a part, with nothing left
-all_of_it : (xs : List ℕ) → Parts xs xs []
-all_of_it xs = record { each = λ x t. inl t; part_in = λ x t. t; rest_in = λ x t. absurd t; apart = λ x t u. u }
 
 -- the index-file bitmap is none of the blocks of the storage bitmap
 index_apart : (g : Geometry) (st : Stage) (qs ns : List ℕ) (seen bs : List Block) (own : Owners) (c : Cat) → Spells g bs own c

@@ -1,20 +1,20 @@
 -- Blocks that a lock guards stand after writes under other locks.
 use Rattle.std.proofs.Common.{◌≡◌, ℕ, List, [], ◌∷◌, Some, map, sym, ap, subst, ◌∙◌, inl, inr}
 use Rattle.std.specs.Prelude.{slice_index_or}
-use Rattle.vol_words.specs.Fields.{Block}
+use Rattle.base_words.specs.Fields.{Block}
 use Rattle.lock_db.specs.declared.name.LockName.{LockName}
 use Rattle.lock_db.specs.declared.name.LockName.TheVariants.{S}
-use Rattle.vol_owners.specs.Lists.{Has}
-use Rattle.vol_owners.specs.Owners.{Owners}
-use Rattle.vol_owners.proofs.Writing.{get-written_else, stands_still}
-use Rattle.vol_owners.proofs.Placing.{blocks_kept}
+use Rattle.base_words.specs.Lists.{Has}
+use Rattle.vol_spell.specs.Owners.{Owners}
+use Rattle.base_words.proofs.ListWrites.{get-written_else, stands_still}
+use Rattle.vol_spell.proofs.Placing.{blocks_kept}
 use Rattle.vol_parts.specs.declared.geometry.Geometry.{Geometry}
 use Rattle.vol_spell.specs.Reading.{header_place, header_block, header_tells, told_of, body_places, body_blocks}
 use Rattle.vol_under.specs.Guards.{Lock, Stock, guard_of}
 use Rattle.vol_under.specs.UnderWay.{bare}
 use Rattle.op_law.specs.declared.need.PlanWrite.{PlanWrite}
 use Rattle.op_law.specs.Laws.{planned}
-use Rattle.op_writes.specs.Chained.{TouchedBy, after_writes}
+use Rattle.op_steps.specs.Chained.{TouchedBy, after_writes}
 use Rattle.op_freeing.specs.Standing.{AreBeside, OtherLocksStand, OtherFilesStand}
 use Rattle.op_freeing.proofs.Named.{touched_by, guarded}
 

@@ -1,18 +1,18 @@
 -- The row of the owner as a step, and all writes of the tail.
 use Rattle.std.proofs.Common.{◌≡◌, ◌-◌, ℕ, List, [], ◌∷◌, ◌++◌, Option, Some, None, map, refl, sym, ap, subst, ◌∙◌, inl, inr, append_assoc}
 use Rattle.std.specs.Prelude.{flat_map, slice_index_or}
-use Rattle.vol_words.specs.Fields.{Block}
+use Rattle.base_words.specs.Fields.{Block}
 use Rattle.fx_quota.specs.declared.types.Row.{Row}
 use Rattle.lock_db.specs.declared.name.LockName.TheVariants.{S, Q, V}
 use Rattle.plain_cat.specs.declared.ids.Uic.{Uic}
 use Rattle.plain_cat.specs.declared.history.Stage.{Stage}
 use Rattle.plain_cat.specs.declared.cat.Cat.{Cat}
 use Rattle.plain_cat.specs.declared.cat.QuotaRow.{QuotaRow}
-use Rattle.plain_vol.specs.Changes.{discharged}
-use Rattle.vol_owners.specs.Lists.{Has}
-use Rattle.vol_owners.specs.Owners.{Owners, Things, nothing}
-use Rattle.vol_owners.specs.Places.{blocks_at}
-use Rattle.vol_owners.proofs.Listing.{has_parted}
+use Rattle.plain_rules.specs.Changes.{discharged}
+use Rattle.base_words.specs.Lists.{Has}
+use Rattle.vol_spell.specs.Owners.{Owners, Things, nothing}
+use Rattle.vol_spell.specs.Spread.{blocks_at}
+use Rattle.base_words.proofs.Listing.{has_parted}
 use Rattle.vol_parts.specs.declared.geometry.Geometry.{Geometry}
 use Rattle.vol_parts.specs.declared.geometry.Part.TheVariants.{IndexBitmap}
 use Rattle.vol_parts.specs.Volumes.{rows_in}
@@ -26,14 +26,15 @@ use Rattle.vol_under.specs.Chains.{End}
 use Rattle.op_law.specs.declared.need.PlanWrite.{PlanWrite}
 use Rattle.op_law.specs.Laws.{planned}
 use Rattle.op_law.specs.Writing.{empty_handed}
-use Rattle.op_law.specs.Quotas.{changed_write, owner_write, row_place, is_row_of, row_discharged}
+use Rattle.op_law.specs.Quotas.{changed_write, owner_write, row_place, row_discharged}
+use Rattle.vol_spell.specs.Rows.{is_row_of}
 use Rattle.op_law.specs.Freeing.{freeing_tail}
 use Rattle.op_law.proofs.Naming.{both_named, TouchesNoHeader}
-use Rattle.op_writes.specs.Chained.{Chain, StepsOf, StageOf, after_writes, StandsOn, FilesStay}
-use Rattle.vol_writes.specs.Rows.{IsRowChange}
-use Rattle.vol_writes.proofs.RowOrder.{quota_changed, unchanged, sorted-changed}
-use Rattle.op_writes.proofs.RowPlaces.{no_row}
-use Rattle.op_writes.proofs.RowSteps.{row_steps, row_guards, row_no_header}
+use Rattle.op_steps.specs.Chained.{Chain, StepsOf, StageOf, after_writes, StandsOn, FilesStay}
+use Rattle.vol_spell.specs.Rows.{IsRowChange}
+use Rattle.vol_spell.proofs.RowOrder.{quota_changed, unchanged, sorted-changed}
+use Rattle.op_steps.proofs.RowPlaces.{no_row}
+use Rattle.op_steps.proofs.RowSteps.{row_steps, row_guards, row_no_header}
 use Rattle.op_freeing.specs.BitmapWrites.{storage_places, storage_seen, index_seen, brought, bitmaps_freed}
 use Rattle.op_freeing.specs.TailWrites.{row_freed, DischargeSteps, tail_writes, TailSteps, TailGuards, TailStage, TailStands, TailEnds}
 use Rattle.op_freeing.proofs.Named.{guarded, freeing_guards, freeing_no_header, under_locks, under_joined}

@@ -5,13 +5,13 @@ use Rattle.std.specs.List.{range_with_len, list_any}
 use Rattle.std.proofs.lemmas.Option.{slice_get-get_or}
 use Rattle.std.proofs.lemmas.Bool.{eq-eqb}
 use Rattle.std.proofs.lemmas.Bool.Decides.{nat_tests}
-use Rattle.vol_words.specs.Fields.{Block, AreWholeBlocks}
+use Rattle.base_words.specs.Fields.{Block, AreWholeBlocks}
 use Rattle.plain_cat.specs.declared.history.Stage.{Stage}
-use Rattle.vol_owners.specs.Lists.{Has, Once, Parts}
-use Rattle.vol_owners.specs.Owners.{Things}
-use Rattle.vol_owners.specs.Places.{blocks_at}
-use Rattle.vol_owners.proofs.Listing.{filtered}
-use Rattle.vol_owners.proofs.Placing.{has_ranged, ranged_has, blocks_stay}
+use Rattle.base_words.specs.Lists.{Has, Once, Parts}
+use Rattle.vol_spell.specs.Owners.{Things}
+use Rattle.vol_spell.specs.Spread.{blocks_at}
+use Rattle.base_words.proofs.Listing.{filtered}
+use Rattle.vol_spell.proofs.Placing.{has_ranged, ranged_has, blocks_stay}
 use Rattle.vol_parts.specs.declared.geometry.Geometry.{Geometry}
 use Rattle.vol_parts.specs.declared.geometry.Part.TheVariants.{Storage}
 use Rattle.vol_parts.specs.Parts.{storage_blocks, part_of}
@@ -23,7 +23,9 @@ use Rattle.op_law.specs.Fits.{things}
 use Rattle.op_law.specs.Laws.{numbers_before, planned}
 use Rattle.op_law.specs.Freeing.{lies_in, behind, blocks_for, with_free, storage_write, storage_writes}
 use Rattle.op_freeing.specs.BitmapWrites.{brought}
-use Rattle.op_freeing.proofs.Filters.{passed, let_through, has_any, Rise, ranged_rise}
+use Rattle.op_freeing.proofs.Filters.{has_any, Rise, ranged_rise}
+use Rattle.base_words.proofs.Listing.{has_passed as passed}
+use Rattle.base_words.proofs.Listing.{has_filtered as let_through}
 use Rattle.op_freeing.proofs.Given.{are_given}
 
 -- ---- blocks and clusters

@@ -1,13 +1,13 @@
 -- The writes of the bitmaps that make clusters and file numbers of a command free.
 use Rattle.std.specs.Prelude.{◌≡◌, ◌<◌, ◌-◌, ◌++◌, ◌↔◌, ℕ, true, List, [], None, length, map, slice_index_or}
-use Rattle.vol_words.specs.Fields.{Block}
+use Rattle.base_words.specs.Fields.{Block}
 use Rattle.lock_db.specs.declared.name.LockName.{LockName}
 use Rattle.lock_db.specs.declared.name.LockName.TheVariants.{V}
 use Rattle.plain_cat.specs.declared.history.Stage.{Stage}
 use Rattle.plain_cat.specs.declared.cat.Cat.{Cat}
-use Rattle.vol_owners.specs.Lists.{Has, Once}
-use Rattle.vol_owners.specs.Owners.{Owners, Things, nothing, Outs}
-use Rattle.vol_owners.specs.Places.{blocks_at}
+use Rattle.base_words.specs.Lists.{Has, Once}
+use Rattle.vol_spell.specs.Owners.{Owners, Things, nothing, Outs}
+use Rattle.vol_spell.specs.Spread.{blocks_at}
 use Rattle.vol_parts.specs.declared.geometry.Geometry.{Geometry}
 use Rattle.vol_parts.specs.declared.geometry.Part.TheVariants.{IndexBitmap, Storage}
 use Rattle.vol_spell.specs.Reading.{total_of, cluster_bit}
@@ -19,7 +19,7 @@ use Rattle.vol_under.specs.Freeing.{FreesInTurn}
 use Rattle.op_law.specs.declared.need.PlanWrite.{PlanWrite}
 use Rattle.op_law.specs.Laws.{planned, AreNamed, KeepsOut}
 use Rattle.op_law.specs.Freeing.{rising, blocks_for, storage_writes, freeing_tail}
-use Rattle.op_writes.specs.Chained.{Chain, StepsOf, StageOf, after_writes, StandsOn, FilesStay}
+use Rattle.op_steps.specs.Chained.{Chain, StepsOf, StageOf, after_writes, StandsOn, FilesStay}
 
 -- ---- what becomes free, and where its bits stand
 

@@ -1,4 +1,6 @@
 pub mod BitmapWrites
+pub mod GoneWrites
+pub mod Looked
+pub mod Looking
 pub mod Standing
 pub mod TailWrites
-pub mod Looked

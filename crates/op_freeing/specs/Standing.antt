@@ -1,6 +1,6 @@
 -- Blocks that stand as they were seen, since none of the writes before touches them: these are under other locks.
 use Rattle.std.specs.Prelude.{◌≡◌, ◌++◌, ℕ, List, [], ◌∷◌, Some, slice_get}
-use Rattle.vol_words.specs.Fields.{Block}
+use Rattle.base_words.specs.Fields.{Block}
 use Rattle.fx_quota.specs.declared.types.Row.{Row}
 use Rattle.lock_db.specs.declared.name.LockName.{LockName}
 use Rattle.lock_db.specs.declared.name.LockName.TheVariants.{S, Q, V}
@@ -8,9 +8,9 @@ use Rattle.plain_cat.specs.declared.ids.Uic.{Uic}
 use Rattle.plain_cat.specs.declared.entries.DirEnt.{DirEnt}
 use Rattle.plain_cat.specs.declared.history.Stage.{Stage}
 use Rattle.plain_cat.specs.declared.cat.Cat.{Cat}
-use Rattle.vol_owners.specs.Lists.{Has, Touches, StandsIn}
-use Rattle.vol_owners.specs.Owners.{Owners}
-use Rattle.vol_owners.specs.Places.{blocks_at}
+use Rattle.base_words.specs.Lists.{Has, Touches, StandsIn}
+use Rattle.vol_spell.specs.Owners.{Owners}
+use Rattle.vol_spell.specs.Spread.{blocks_at}
 use Rattle.vol_parts.specs.declared.geometry.Geometry.{Geometry}
 use Rattle.vol_parts.specs.declared.geometry.Part.TheVariants.{IndexBitmap}
 use Rattle.vol_spell.specs.Reading.{IsFileNumber, header_place, told_of, body_places, quota_places}
@@ -24,7 +24,7 @@ use Rattle.op_law.specs.Writing.{Held, header_write}
 use Rattle.op_law.specs.Quotas.{owner_write}
 use Rattle.op_law.specs.Freeing.{freeing_tail}
 use Rattle.op_law.specs.Moving.{SeenDir, insertion_writes, removal_writes}
-use Rattle.op_writes.specs.Chained.{TouchedBy, after_writes}
+use Rattle.op_steps.specs.Chained.{TouchedBy, after_writes}
 use Rattle.op_freeing.specs.BitmapWrites.{storage_places}
 
 -- ---- which locks writes are under

@@ -1,15 +1,15 @@
 -- The last writes of a command that makes something free: the bitmaps, and the row of the owner, who is charged less.
 use Rattle.std.specs.Prelude.{◌≡◌, ◌++◌, ℕ, List, length, map}
-use Rattle.vol_words.specs.Fields.{Block}
+use Rattle.base_words.specs.Fields.{Block}
 use Rattle.lock_db.specs.declared.name.LockName.{LockName}
 use Rattle.lock_db.specs.declared.name.LockName.TheVariants.{Q, V}
 use Rattle.plain_cat.specs.declared.ids.Uic.{Uic}
 use Rattle.plain_cat.specs.declared.history.Stage.{Stage}
 use Rattle.plain_cat.specs.declared.cat.Cat.{Cat}
-use Rattle.plain_vol.specs.Changes.{discharged}
-use Rattle.vol_owners.specs.Lists.{Has}
-use Rattle.vol_owners.specs.Owners.{Owners, nothing, Outs}
-use Rattle.vol_owners.specs.Places.{blocks_at}
+use Rattle.plain_rules.specs.Changes.{discharged}
+use Rattle.base_words.specs.Lists.{Has}
+use Rattle.vol_spell.specs.Owners.{Owners, nothing, Outs}
+use Rattle.vol_spell.specs.Spread.{blocks_at}
 use Rattle.vol_parts.specs.declared.geometry.Geometry.{Geometry}
 use Rattle.vol_spell.specs.Reading.{quota_places}
 use Rattle.vol_spell.specs.Spelling.{Spells}
@@ -20,7 +20,7 @@ use Rattle.op_law.specs.Laws.{planned, AreNamed}
 use Rattle.op_law.specs.Writing.{empty_handed}
 use Rattle.op_law.specs.Quotas.{owner_write, row_discharged}
 use Rattle.op_law.specs.Freeing.{blocks_for, freeing_tail}
-use Rattle.op_writes.specs.Chained.{Chain, StepsOf, StageOf, after_writes, StandsOn, FilesStay}
+use Rattle.op_steps.specs.Chained.{Chain, StepsOf, StageOf, after_writes, StandsOn, FilesStay}
 use Rattle.op_freeing.specs.BitmapWrites.{AreClusters, brought, bitmaps_freed}
 use Rattle.op_freeing.specs.Standing.{AreBeside}
 

@@ -1,23 +1,35 @@
-//! What becomes free: clusters in the storage bitmap, numbers in the index-file bitmap, and blocks in the quota row of their
-//! owner. These are the last writes of a plan that takes something from a file.
+//! What becomes free: clusters in the storage bitmap, numbers in the index-file bitmap, blocks in the quota row of their owner, and
+//! a file that goes whole with all of these. These are the last writes of a plan that takes something from a file.
 //!
-//! It has no types of its own, but laws and a few calls.
+//! `SpaceSeen` is the quota and bitmap blocks that are written then.
 //!
 //! ```text
-//! push_freeing(alloc, &mut writes, &geometry, stage, &clusters, &numbers, storage, &index)?;
+//! match space_seen(alloc, &geometry, &clusters, rest)? {
+//!     Space::All(space) => push_gone(alloc, &mut writes, &geometry, &file, &clusters, &space)?,
+//!     Space::Next(need) => ..,
+//! }
 //! ```
 //!
 //! `push_freeing` adds exactly the writes of both bitmaps; `blocks_for` gives exactly the bitmap blocks that are to be looked at.
-//! Laws: these writes are steps (`freeing_steps`), with the quota row too (`tail_steps`), each under V or Q (`tail_guards`);
-//! after them nothing is outside (`tail_ends`). Other files stay as they were seen (`other_files_stand`). `op_extend`,
-//! `op_delete` and `op_gone` use them.
+//! `push_gone` adds exactly the writes of a file that goes, `all_clusters` gives exactly its clusters.
+//!
+//! Laws: the bitmap writes are steps of a plan (`freeing_steps`), with the quota row too (`tail_steps`), each under V or Q
+//! (`tail_guards`); after them nothing is outside (`tail_ends`), and other files stay as they were seen (`other_files_stand`).
+//! `gone_laws` say the same of the file that goes whole (`gone_steps`, `gone_guards`, `gone_ends`).
+//!
+//! EXTEND, TRUNC, DELETE and CLOSE use it (`op_extend`, `op_delete`, `op_access`).
 #![tactic(auto)]
 
 mod bitmaps;
+mod clusters;
+pub mod gone_laws;
+mod gone_looking;
 pub mod laws;
 mod looking;
-#[cfg(test)]
-mod tests;
+mod writing;
 
 pub use bitmaps::{blocks_for, push_freeing, push_index, push_storage, rising};
+pub use clusters::all_clusters;
+pub use gone_looking::{Space, SpaceSeen, space_seen};
 pub use looking::storage_seen;
+pub use writing::push_gone;

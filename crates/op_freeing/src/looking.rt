@@ -2,7 +2,7 @@
 
 ghost use Rattle.std.specs.Prelude.{◌≡◌, ◌<◌, List, length, map, slice_get, IfOk};
 ghost use Rattle.std.specs.List.{All};
-ghost use Rattle.vol_words.specs.Fields.{Block};
+ghost use Rattle.base_words.specs.Fields.{Block};
 ghost use Rattle.vol_parts.specs.declared.geometry.Part.TheVariants.{Storage};
 ghost use Rattle.vol_parts.specs.Parts.{IsGeometry};
 ghost use Rattle.vol_spell.specs.Places.{place_of};

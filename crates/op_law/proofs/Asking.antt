@@ -2,7 +2,7 @@
 use Rattle.std.proofs.Common.{◌≡◌, ◌≤◌, ◌∙◌, ℕ, zero, suc, Bool, true, false, cond, List, [], ◌∷◌, ◌++◌, Option, Some, None, map, length, take, append_assoc, refl, sym, ap, subst, arith}
 use Rattle.std.specs.Prelude.{◌&&◌, not, MatchBool}
 use Rattle.std.proofs.lemmas.List.{append-nil}
-use Rattle.vol_words.specs.Fields.{Block}
+use Rattle.base_words.specs.Fields.{Block}
 use Rattle.lock_db.specs.declared.name.LockName.{LockName}
 use Rattle.lock_db.specs.declared.name.LockName.TheVariants.{S}
 use Rattle.plain_cat.specs.declared.mode.Mode.{Mode}
@@ -11,8 +11,8 @@ use Rattle.plain_cat.specs.declared.command.Cmd.{Cmd}
 use Rattle.plain_cat.specs.declared.history.Stage.TheVariants as stage
 use Rattle.plain_cat.specs.declared.reply.Refusal.{Refusal}
 use Rattle.plain_cat.specs.declared.cat.Cat.{Cat}
-use Rattle.vol_owners.specs.Lists.{Has, StandsIn, written}
-use Rattle.vol_owners.specs.Owners.{Owners, Things, Outs}
+use Rattle.base_words.specs.Lists.{Has, StandsIn, written}
+use Rattle.vol_spell.specs.Owners.{Owners, Things, Outs}
 use Rattle.vol_parts.specs.declared.geometry.Geometry.{Geometry}
 use Rattle.vol_spell.specs.Spelling.{Spells}
 use Rattle.vol_under.specs.UnderWay.{PlannedWrite, StandsAt, bare, stage_after, outs_after}
@@ -119,14 +119,14 @@ same_first (suc k) zero ws le = absurd (omega arith)
 same_first (suc k) (suc m) [] le = refl
 same_first (suc k) (suc m) (w ∷ ws) le = ap (λ us. planned w ∷ us) (same_first k m ws (omega arith))
 
-both : (a b : Bool) → a ≡ true → b ≡ true → (a && b) ≡ true
+pub both : (a b : Bool) → a ≡ true → b ≡ true → (a && b) ≡ true
 both a b p q = subst (λ t. (t && b) ≡ true) (sym p) q
 
-parted : (a b : Bool) → (a && b) ≡ true → (a ≡ true) × (b ≡ true)
+pub parted : (a b : Bool) → (a && b) ≡ true → (a ≡ true) × (b ≡ true)
 parted true b e = (refl, e)
 parted false b e = absurd (let f : false ≡ true = e in cc)
 
-not_so : (b : Bool) → not b ≡ true → b ≡ false
+pub not_so : (b : Bool) → not b ≡ true → b ≡ false
 not_so true e = absurd (let f : false ≡ true = e in cc)
 not_so false e = refl
 

@@ -5,12 +5,11 @@ use Rattle.std.specs.Prelude.{◌==◌, ◌&&◌, not, option_map, slice_index_o
 use Rattle.std.specs.Str.{bytes_eq}
 use Rattle.std.specs.List.{list_any, range_with_len}
 use Rattle.std.proofs.lemmas.Bool.{and_parts}
-use Rattle.std.proofs.lemmas.Bool.Decides.{nat_tests}
 use Rattle.std.proofs.Math.Nat.{div-le_self}
-use Rattle.std.proofs.lemmas.List.{append-nil, length-map}
+use Rattle.std.proofs.lemmas.List.{length-map}
 use Rattle.std.proofs.lemmas.List.FromFn.{length-range_with_len}
-use Rattle.vol_words.specs.Fields.{Block}
-use Rattle.vol_words.specs.Packing.{unfilled, pack, over}
+use Rattle.base_words.specs.Fields.{Block}
+use Rattle.base_words.specs.Packing.{unfilled, pack, over}
 use Rattle.fx_dir.specs.declared.RawEnt.{RawEnt}
 use Rattle.fx_dir.specs.declared.Move.{Move}
 use Rattle.fx_dir.specs.declared.DirFault.{DirFault}
@@ -36,8 +35,8 @@ use Rattle.plain_cat.specs.declared.reply.Reply.{Reply}
 use Rattle.plain_cat.specs.declared.reply.Refusal.{Refusal}
 use Rattle.plain_cat.specs.declared.reply.Refusal.TheVariants as refusal
 use Rattle.plain_cat.specs.declared.cat.Cat.{Cat}
-use Rattle.vol_owners.specs.Owners.{Owners}
-use Rattle.vol_owners.proofs.Placing.{spread_places}
+use Rattle.vol_spell.specs.Owners.{Owners}
+use Rattle.vol_spell.proofs.Placing.{spread_places}
 use Rattle.vol_parts.specs.declared.finding.Finding.TheVariants as finding
 use Rattle.vol_parts.specs.declared.geometry.Geometry.{Geometry}
 use Rattle.vol_parts.specs.Volumes.{most_clusters, fields_in, runs_with}
@@ -48,24 +47,19 @@ use Rattle.vol_spell.specs.Spelling.{dir_found, Spells}
 use Rattle.vol_spell.proofs.Parts.{told}
 use Rattle.vol_spell.proofs.Runs.{lbns_spread}
 use Rattle.op_law.specs.Events.{Events, Take, Look, Space}
-use Rattle.op_law.specs.Rows.{answers, refuses, is_number, live_in, places_in, look_all, through_header, in_directory, through_directory}
+use Rattle.op_law.specs.Rows.{answers, refuses, is_number, live_in, look_all, through_header, in_directory, through_directory}
+use Rattle.vol_spell.specs.Entries.{places_in}
 use Rattle.op_law.specs.Refusing.{SeenFile, seen_file, if_file, unless_refused, through_live}
 use Rattle.op_law.specs.Writing.{Held, empty_handed}
-use Rattle.op_law.specs.Quotas.{row_place, is_row_of, changed_write, row_discharged, owner_write, through_quota}
-use Rattle.op_law.specs.Moving.{SeenDir, moves_at, move_write, raw_entry, insertion_moves, insertion_writes, removal_writes}
+use Rattle.op_law.specs.Quotas.{row_place, changed_write, row_discharged, owner_write, through_quota}
+use Rattle.vol_spell.specs.Rows.{is_row_of}
+use Rattle.op_law.specs.Moving.{SeenDir, moves_at, move_write, insertion_moves, insertion_writes, removal_writes}
+use Rattle.vol_spell.specs.Entries.{raw_entry}
 use Rattle.op_law.specs.Freeing.{SeenSpace, lies_in, blocks_for, storage_writes, index_write, freeing_tail, freeing_writes, all_clusters}
 use Rattle.op_law.proofs.Heads.{header_is}
 use Rattle.op_law.proofs.Telling.{number_is, live_reads, reads_runs, blocks_said, quotient}
 use Rattle.op_law.proofs.Brief.{BriefBy, brief_more}
-
--- ---- the blocks of a directory, and the clusters of a file
-
-one_cluster : (factor : ℕ) (rs : List Run) → is_cluster_run factor rs ≡ true → length (lbns_in rs) ≡ factor
-one_cluster factor [] h = absurd (cc)
-one_cluster factor (r ∷ []) h =
-    let c : r.count ≡ factor = grind (arith, nat_tests) in
-    ap length (append-nil (range_with_len r.lbn r.count)) ∙ length-range_with_len r.lbn r.count ∙ c
-one_cluster factor (r ∷ q ∷ rs) h = absurd (cc)
+use Rattle.vol_spell.proofs.EntryDirs.{one_cluster}
 
 sized : (g : Geometry) (n : ℕ) (f : Hdr) (rs : List Run) (blocks : List Block) → f.dir ≡ true → dir_found g n (Some f) rs blocks ≡ None → has_dir_size g.cluster f rs ≡ true
 sized g n f rs blocks d h = by_size (has_dir_size g.cluster f rs) (ap (λ q. if not q then None else if has_dir_size g.cluster f rs then found_in n (directory blocks) else Some (finding.DirSize n)) (sym d) ∙ h) where
@@ -186,7 +180,7 @@ filter_few p (x ∷ xs) = by_test (p x) (filter_few p xs) where
   by_test false le = omega arith
 
 -- a volume has at most 65,536 clusters
-few_storage : (g : Geometry) → IsGeometry g → storage_blocks (total_of g) ≤ 16
+pub few_storage : (g : Geometry) → IsGeometry g → storage_blocks (total_of g) ≤ 16
 few_storage g geo =
     let top = geo.blocks_to in
     let low = geo.cluster_from in

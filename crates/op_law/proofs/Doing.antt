@@ -1,6 +1,6 @@
 -- The law of a command that writes, and asks for nothing.
 use Rattle.std.proofs.Common.{◌≡◌, ℕ, Bool, List, [], Option, Some, None, map, true, sym, subst}
-use Rattle.vol_words.specs.Fields.{Block}
+use Rattle.base_words.specs.Fields.{Block}
 use Rattle.lock_db.specs.declared.name.LockName.{LockName}
 use Rattle.plain_cat.specs.declared.mode.Mode.{Mode}
 use Rattle.plain_cat.specs.declared.mode.Mode.TheVariants.{PW}
@@ -9,9 +9,9 @@ use Rattle.plain_cat.specs.declared.reply.Reply.{Reply}
 use Rattle.plain_cat.specs.declared.reply.Reply.TheVariants as reply
 use Rattle.plain_cat.specs.declared.reply.Refusal.{Refusal}
 use Rattle.plain_cat.specs.declared.cat.Cat.{Cat}
-use Rattle.plain_vol.specs.Answers.{Answer}
-use Rattle.vol_owners.specs.Lists.{StandsIn}
-use Rattle.vol_owners.specs.Owners.{Owners, Things, nothing, Outs}
+use Rattle.plain_rules.specs.Answers.{Answer}
+use Rattle.base_words.specs.Lists.{StandsIn}
+use Rattle.vol_spell.specs.Owners.{Owners, Things, nothing, Outs}
 use Rattle.vol_parts.specs.declared.geometry.Geometry.{Geometry}
 use Rattle.vol_spell.specs.Spelling.{Spells}
 use Rattle.vol_under.specs.Chains.{Steps, Replied, IsChain}

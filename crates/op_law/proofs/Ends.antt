@@ -1,7 +1,7 @@
 -- What is outside after the writes of a plan, and the stage after them.
 use Rattle.std.proofs.Common.{◌≡◌, ◌∙◌, ◌<◌, ◌-◌, ℕ, zero, suc, Bool, true, false, cond, List, [], ◌∷◌, ◌++◌, Option, Some, None, map, length, take, drop, refl, sym, ap, subst, inl, inr, arith}
 use Rattle.std.specs.Prelude.{MatchBool}
-use Rattle.vol_words.specs.Fields.{Block}
+use Rattle.base_words.specs.Fields.{Block}
 use Rattle.fx_dir.specs.declared.Move.{Move}
 use Rattle.lock_db.specs.declared.name.LockName.{LockName}
 use Rattle.plain_cat.specs.declared.entries.DirEnt.{DirEnt}
@@ -9,8 +9,8 @@ use Rattle.plain_cat.specs.declared.mode.Mode.{Mode}
 use Rattle.plain_cat.specs.declared.history.Stage.{Stage}
 use Rattle.plain_cat.specs.declared.reply.Refusal.{Refusal}
 use Rattle.plain_cat.specs.declared.reply.Refusal.TheVariants as refusal
-use Rattle.vol_owners.specs.Owners.{Things, nothing}
-use Rattle.vol_owners.proofs.Listing.{has_parted}
+use Rattle.vol_spell.specs.Owners.{Things, nothing}
+use Rattle.base_words.proofs.Listing.{has_parted}
 use Rattle.vol_under.specs.UnderWay.{stage_after, outs_after}
 use Rattle.op_law.specs.declared.need.Need.TheVariants as need
 use Rattle.op_law.specs.declared.need.Plan.{Plan}

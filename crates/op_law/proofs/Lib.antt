@@ -10,7 +10,6 @@ pub mod Counting
 pub mod Through
 pub mod Replying
 pub mod OnlyLooking
-pub mod Meeting
 pub mod Ends
 pub mod Refusals
 pub mod Spaces
@@ -21,3 +20,5 @@ pub mod Ordering
 pub mod Versions
 pub mod RemovalEnds
 pub mod Spaceless
+pub mod Opens
+pub mod Freed

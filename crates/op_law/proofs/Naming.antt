@@ -1,10 +1,10 @@
 -- Writes under the locks that they name, and writes that leave the runs of directories.
 use Rattle.std.proofs.Common.{◌≡◌, ◌∙◌, inl, inr, ℕ, List, [], ◌∷◌, ◌++◌, Option, Some, map, refl, sym, ap, subst}
-use Rattle.vol_words.specs.Fields.{Block}
+use Rattle.base_words.specs.Fields.{Block}
 use Rattle.lock_db.specs.declared.name.LockName.{LockName}
-use Rattle.vol_owners.specs.Lists.{Has, Touches}
-use Rattle.vol_owners.specs.Owners.{Owners}
-use Rattle.vol_owners.proofs.Listing.{has_parted}
+use Rattle.base_words.specs.Lists.{Has, Touches}
+use Rattle.vol_spell.specs.Owners.{Owners}
+use Rattle.base_words.proofs.Listing.{has_parted}
 use Rattle.vol_parts.specs.declared.geometry.Geometry.{Geometry}
 use Rattle.vol_parts.specs.declared.geometry.Part.TheVariants.{Header}
 use Rattle.vol_parts.specs.Parts.{part_of}

@@ -1,14 +1,14 @@
 -- The law of a command that only looks.
 use Rattle.std.proofs.Common.{◌≡◌, ◌∙◌, ℕ, Bool, true, false, List, [], Option, None, map, refl, sym, ap, subst}
 use Rattle.std.specs.Prelude.{◌&&◌}
-use Rattle.vol_words.specs.Fields.{Block}
+use Rattle.base_words.specs.Fields.{Block}
 use Rattle.plain_cat.specs.declared.command.Cmd.{Cmd}
 use Rattle.plain_cat.specs.declared.reply.Reply.{Reply}
 use Rattle.plain_cat.specs.declared.reply.Reply.TheVariants as reply
 use Rattle.plain_cat.specs.declared.cat.Cat.{Cat}
-use Rattle.plain_vol.specs.Answers.{Answer}
-use Rattle.vol_owners.specs.Lists.{Has, Touches}
-use Rattle.vol_owners.specs.Owners.{Owners, nothing}
+use Rattle.plain_rules.specs.Answers.{Answer}
+use Rattle.base_words.specs.Lists.{Has, Touches}
+use Rattle.vol_spell.specs.Owners.{Owners, nothing}
 use Rattle.vol_parts.specs.declared.geometry.Geometry.{Geometry}
 use Rattle.vol_spell.specs.Spelling.{Spells}
 use Rattle.vol_under.specs.UnderWay.{bare, outs_after}
@@ -17,7 +17,7 @@ use Rattle.op_law.specs.declared.need.Plan.{Plan}
 use Rattle.op_law.specs.declared.need.Need.TheVariants as need
 use Rattle.op_law.specs.declared.seen.Seen.{Seen}
 use Rattle.op_law.specs.declared.seen.Chan.{Chan}
-use Rattle.op_law.specs.Events.{Events, Take, Look, Fetch, Find, Make, space_of, HasNoSpace, HasNoSearch, SearchesOnce}
+use Rattle.op_law.specs.Events.{space_of, HasNoSpace, HasNoSearch, SearchesOnce}
 use Rattle.op_law.specs.Needs.{events_of, IsNext}
 use Rattle.op_law.specs.Fits.{HasSeen}
 use Rattle.op_law.specs.Knows.{channel_of, has_channel, knows}
@@ -26,6 +26,7 @@ use Rattle.op_law.specs.Laws.{planned, under_way, IsRight, WritesNothing, IsPlan
 use Rattle.op_law.proofs.Replying.{looks_reply}
 use Rattle.op_law.proofs.Brief.{Briefs, briefs}
 use Rattle.op_law.proofs.Walking.{EveryPlan, every_plan, Obeys, kept, next_fine, may_need}
+use Rattle.op_law.proofs.Spaceless.{once as none_once}
 
 -- a plan that writes nothing and asks for nothing
 pub record IsPlain (p : Plan) : Type 0 where
@@ -43,14 +44,7 @@ pub record OnlyLooks (x : Cmd) : Type 0 where
   pub obeys : (g : Geometry) (channel : Option Chan) (seen : Seen) (bs : List Block) (own : Owners) (c : Cat) → Spells g bs own c → Obeys x g bs own c seen (IsAnswer x channel c) (events_of g channel x) []
   pub brief : Briefs x
 
-none_once : (es : Events) → HasNoSearch es → SearchesOnce es
-none_once (Take name mode next) none = none_once next none
-none_once (Look name lbn next) none = λ b. none_once (next b) (none b)
-none_once (Fetch lbn next) none = λ b. none_once (next b) (none b)
-none_once (Find clusters number next) none = absurd none
-none_once (Make plan) none = tt
-
-both_first : (a b : Bool) → (a && b) ≡ true → a ≡ true
+pub both_first : (a b : Bool) → (a && b) ≡ true → a ≡ true
 both_first true b e = refl
 both_first false b e = e
 

@@ -1,7 +1,7 @@
 -- Lists of refusals with their tests: the first that holds.
 use Rattle.std.proofs.Common.{◌≡◌, Bool, true, false, cond, List, [], ◌∷◌, ◌++◌, Some, None, refl}
 use Rattle.plain_cat.specs.declared.reply.Refusal.{Refusal}
-use Rattle.plain_vol.specs.Answers.{first_refusal}
+use Rattle.plain_rules.specs.Answers.{first_refusal}
 
 -- where none is refused, no test holds
 

@@ -1,7 +1,7 @@
 -- The reply of a command that writes nothing.
 use Rattle.std.proofs.Common.{◌≡◌, ◌∙◌, List, Option, inl, refl, sym, ap, subst, length}
-use Rattle.vol_owners.specs.declared.owner.Owner.{Owner}
-use Rattle.vol_owners.specs.Owners.{Moves}
+use Rattle.vol_spell.specs.declared.owner.Owner.{Owner}
+use Rattle.vol_spell.specs.Owners.{Moves}
 use Rattle.vol_under.specs.Guards.{IsCommandMove}
 use Rattle.vol_under.specs.Answering.{Replies}
 use Rattle.vol_under.proofs.Steps.{stands_first}

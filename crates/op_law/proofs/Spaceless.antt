@@ -1,11 +1,11 @@
 -- The law of a command that writes, searches for no space and asks for nothing. It was given nothing, so nothing is outside before
 -- its first write.
 use Rattle.std.proofs.Common.{◌≡◌, ℕ, true, List, [], Option, subst, sym}
-use Rattle.vol_words.specs.Fields.{Block}
+use Rattle.base_words.specs.Fields.{Block}
 use Rattle.plain_cat.specs.declared.command.Cmd.{Cmd}
 use Rattle.plain_cat.specs.declared.cat.Cat.{Cat}
-use Rattle.vol_owners.specs.Lists.{StandsIn}
-use Rattle.vol_owners.specs.Owners.{Owners, Things, nothing, Outs}
+use Rattle.base_words.specs.Lists.{StandsIn}
+use Rattle.vol_spell.specs.Owners.{Owners, Things, nothing, Outs}
 use Rattle.vol_parts.specs.declared.geometry.Geometry.{Geometry}
 use Rattle.vol_spell.specs.Spelling.{Spells}
 use Rattle.op_law.specs.declared.need.Need.{Need}
@@ -24,7 +24,7 @@ use Rattle.op_law.proofs.Ends.{LeavesNothing, EndsBy, left_by, nothing_given}
 use Rattle.op_law.proofs.Doing.{busy, IsShaped, IsDone, done_right}
 
 -- where nothing is searched for, it is at most once
-once : (es : Events) → HasNoSearch es → SearchesOnce es
+pub once : (es : Events) → HasNoSearch es → SearchesOnce es
 once (Take name mode next) none = once next none
 once (Look name lbn next) none = λ b. once (next b) (none b)
 once (Fetch lbn next) none = λ b. once (next b) (none b)

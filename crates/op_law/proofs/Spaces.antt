@@ -5,7 +5,7 @@ use Rattle.std.proofs.lemmas.Bool.{and_parts}
 use Rattle.std.proofs.lemmas.Bool.Decides.{nat_tests}
 use Rattle.std.proofs.lemmas.Option.{slice_get_within}
 use Rattle.std.proofs.Math.ListN.{length-append}
-use Rattle.vol_words.specs.Fields.{Block}
+use Rattle.base_words.specs.Fields.{Block}
 use Rattle.plain_cat.specs.declared.ids.Fid.{Fid}
 use Rattle.plain_cat.specs.declared.command.Cmd.{Cmd}
 use Rattle.plain_cat.specs.declared.reply.Refusal.{Refusal}
@@ -14,11 +14,11 @@ use Rattle.plain_cat.specs.declared.cat.Cat.{Cat}
 use Rattle.plain_cat.specs.declared.cat.File.{File}
 use Rattle.plain_cat.specs.declared.cat.Slot.{Slot}
 use Rattle.plain_cat.specs.declared.cat.Slot.TheVariants.{Used, Free}
-use Rattle.plain_vol.specs.Lookups.{slot_at, file_in, file_at, of_seq, unmarked, live, free_clusters, is_free_slot, is_leaked, is_free_number, has_free_number}
-use Rattle.plain_vol.specs.Answers.{IsPick}
-use Rattle.plain_vol.proofs.Picks.{number_of, pick_of}
-use Rattle.vol_owners.specs.declared.owner.Owner.TheVariants.{Outside}
-use Rattle.vol_owners.specs.Owners.{Owners, Things, Outs}
+use Rattle.plain_rules.specs.Lookups.{slot_at, file_in, file_at, of_seq, unmarked, live, free_clusters, is_free_slot, is_leaked, is_free_number, has_free_number}
+use Rattle.plain_rules.specs.Answers.{IsPick}
+use Rattle.plain_rules.proofs.Picks.{number_of, pick_of}
+use Rattle.vol_spell.specs.declared.owner.Owner.TheVariants.{Outside}
+use Rattle.vol_spell.specs.Owners.{Owners, Things, Outs}
 use Rattle.vol_parts.specs.declared.geometry.Geometry.{Geometry}
 use Rattle.vol_spell.specs.Reading.{IsFileNumber}
 use Rattle.vol_spell.specs.Spelling.{Spells}

@@ -1,11 +1,11 @@
 -- What a header tells of the catalogue that the blocks spell.
-use Rattle.std.proofs.Common.{◌≡◌, ◌≤◌, ◌<◌, ◌+◌, ◌-◌, ◌*◌, ◌/◌, ◌∙◌, ℕ, zero, suc, Bool, true, false, cond, List, Some, None, length, slice_get, refl, sym, ap, arith}
+use Rattle.std.proofs.Common.{◌≡◌, ◌≤◌, ◌<◌, ◌+◌, ◌-◌, ◌*◌, ◌/◌, ◌∙◌, ℕ, Bool, true, false, cond, List, Some, None, length, slice_get, refl, sym, ap, arith}
 use Rattle.std.specs.Prelude.{◌==◌, ◌&&◌, not, option_map, Result, Ok, Err}
 use Rattle.std.specs.List.{range_with_len}
 use Rattle.std.proofs.lemmas.Bool.Decides.{nat_tests}
 use Rattle.std.proofs.lemmas.Option.{slice_get-map, slice_get_past}
 use Rattle.std.proofs.lemmas.Nat.{div-mul-add}
-use Rattle.vol_words.specs.Fields.{Block}
+use Rattle.base_words.specs.Fields.{Block}
 use Rattle.fx_header.specs.declared.slot.Hdr.{Hdr}
 use Rattle.fx_header.specs.declared.slot.Slot.{Slot as Head}
 use Rattle.fx_header.specs.declared.slot.Slot.TheVariants as head
@@ -15,10 +15,10 @@ use Rattle.fx_header.specs.Pointers.{lbns_in}
 use Rattle.fx_header.proofs.SoundLemmas.{reads-sound, blocks-of}
 use Rattle.plain_cat.specs.declared.ids.Fid.{Fid}
 use Rattle.plain_cat.specs.declared.cat.Cat.{Cat}
-use Rattle.plain_vol.specs.Lookups.{slot_at, file_in, file_at, of_seq, unmarked, live}
-use Rattle.vol_owners.specs.Owners.{Owners}
-use Rattle.vol_owners.specs.Places.{blocks_at}
-use Rattle.vol_owners.proofs.Placing.{spread_places}
+use Rattle.plain_rules.specs.Lookups.{slot_at, file_in, file_at, of_seq, unmarked, live}
+use Rattle.vol_spell.specs.Owners.{Owners}
+use Rattle.vol_spell.specs.Spread.{blocks_at}
+use Rattle.vol_spell.proofs.Placing.{spread_places}
 use Rattle.vol_parts.specs.declared.geometry.Geometry.{Geometry}
 use Rattle.vol_parts.specs.Volumes.{fields_in, runs_with}
 use Rattle.vol_parts.specs.Catalogues.{slot_with, slot_of, files_of, file_of}
@@ -29,6 +29,7 @@ use Rattle.vol_spell.proofs.Parts.{told}
 use Rattle.vol_spell.proofs.Runs.{lbns_spread}
 use Rattle.vol_spell.proofs.Told.{told_by, slot_there_of}
 use Rattle.op_law.specs.Rows.{is_number, live_header, live_in}
+use Rattle.vol_spell.proofs.Viewing.{get_range}
 
 -- ---- the header of a live file
 
@@ -52,13 +53,6 @@ blocks_said b h e =
 
 pub quotient : (k w : ℕ) → 1 ≤ w → k * w / w ≡ k
 quotient k w low = ap (λ x. x / w) (let z : k * w ≡ k * w + 0 = omega arith in z) ∙ div-mul-add k w 0 (omega arith)
-
--- ---- the slot of a number
-
-ranged : (a n k : ℕ) → k < n → slice_get (range_with_len a n) k ≡ Some (a + k)
-ranged a zero k lt = absurd (omega arith)
-ranged a (suc n) zero lt = ap (λ x. Some x) (let e : a ≡ a + 0 = omega arith in e)
-ranged a (suc n) (suc k) lt = ranged (a + 1) n k (omega arith) ∙ ap (λ x. Some x) (let e : a + 1 + k ≡ a + suc k = omega arith in e)
 
 -- the live file that a slot with this header tells
 live_slot : (factor n seq : ℕ) (r : Result Head HeaderFault) (body : List Block)
@@ -96,7 +90,7 @@ module _ (g : Geometry) (bs : List Block) (own : Owners) (c : Cat) (s : Spells g
       let b = is.to in
       let e : 1 + (n - 1) ≡ n = omega arith in
       let lt : n - 1 < g.files = omega arith in
-      slice_get-map (slot_of (volume_of g bs)) (range_with_len 1 g.files) (n - 1) ∙ ap (option_map (slot_of (volume_of g bs))) (ranged 1 g.files (n - 1) lt ∙ ap (λ x. Some x) e)
+      slice_get-map (slot_of (volume_of g bs)) (range_with_len 1 g.files) (n - 1) ∙ ap (option_map (slot_of (volume_of g bs))) (get_range 1 g.files (n - 1) lt ∙ ap (λ x. Some x) e)
 
   -- the slot of a number, by its header
   pub slot_is : (n : ℕ) → IsFileNumber g n → slot_at c n ≡ Some (slot_with g.cluster n (header_read (header_block g bs n)) (file_blocks bs (header_block g bs n)))

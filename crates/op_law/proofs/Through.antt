@@ -2,7 +2,7 @@
 use Rattle.std.proofs.Common.{◌≡◌, ◌∙◌, ℕ, Bool, true, false, cond, List, [], ◌∷◌, Option, Some, None, refl, sym, ap, subst, inl, inr, arith}
 use Rattle.std.specs.Prelude.{◌+◌, ◌-◌, ◌<◌, ◌++◌, nat_le, map, filter, option_map, Ok}
 use Rattle.std.proofs.lemmas.Option.{get_or_from_slice_get}
-use Rattle.vol_words.specs.Fields.{Block}
+use Rattle.base_words.specs.Fields.{Block}
 use Rattle.fx_header.specs.declared.slot.Hdr.{Hdr}
 use Rattle.fx_header.specs.declared.slot.Slot.TheVariants as head
 use Rattle.fx_header.specs.Headers.{header_read}
@@ -19,12 +19,12 @@ use Rattle.plain_cat.specs.declared.reply.Reply.TheVariants as reply
 use Rattle.plain_cat.specs.declared.reply.Refusal.TheVariants as refusal
 use Rattle.plain_cat.specs.declared.cat.Cat.{Cat}
 use Rattle.plain_cat.specs.declared.cat.File.{File}
-use Rattle.plain_vol.specs.Lookups.{live}
-use Rattle.vol_owners.specs.declared.owner.Owner.TheVariants.{InFile}
-use Rattle.vol_owners.specs.Lists.{Has}
-use Rattle.vol_owners.specs.Owners.{Owners}
-use Rattle.vol_owners.specs.Places.{blocks_at}
-use Rattle.vol_owners.proofs.Placing.{has_ranged}
+use Rattle.plain_rules.specs.Lookups.{live}
+use Rattle.vol_spell.specs.declared.owner.Owner.TheVariants.{InFile}
+use Rattle.base_words.specs.Lists.{Has}
+use Rattle.vol_spell.specs.Owners.{Owners}
+use Rattle.vol_spell.specs.Spread.{blocks_at}
+use Rattle.vol_spell.proofs.Placing.{has_ranged}
 use Rattle.vol_parts.specs.declared.geometry.Geometry.{Geometry}
 use Rattle.vol_parts.specs.declared.geometry.Part.TheVariants.{Quota}
 use Rattle.vol_parts.specs.Catalogues.{plain_entries, file_of}
@@ -37,7 +37,8 @@ use Rattle.vol_under.specs.Guards.{guard_by}
 use Rattle.op_law.specs.declared.need.Plan.{Plan}
 use Rattle.op_law.specs.declared.seen.Seen.{Seen}
 use Rattle.op_law.specs.Events.{Events, Take, Look}
-use Rattle.op_law.specs.Rows.{plain_plan, refuses, is_number, live_in, places_in, look_all, through_header, in_directory, through_directory, entries_seen}
+use Rattle.op_law.specs.Rows.{plain_plan, refuses, is_number, live_in, look_all, through_header, in_directory, through_directory, entries_seen}
+use Rattle.vol_spell.specs.Entries.{places_in}
 use Rattle.op_law.specs.Quotas.{through_quota}
 use Rattle.op_law.specs.Order.{IsBefore}
 use Rattle.op_law.specs.Laws.{held_in, ComesInTurn, Fixed, IsLockedLook}

@@ -1,8 +1,11 @@
--- The entries of one name.
-use Rattle.std.proofs.Common.{◌≡◌, ◌∙◌, ℕ, Bool, true, false, cond, List, [], ◌∷◌, refl, ap}
+-- The entries of one name, and the version of a new one.
+use Rattle.std.proofs.Common.{◌≡◌, ◌≤◌, ◌+◌, ◌∙◌, ℕ, Bool, true, false, cond, List, [], ◌∷◌, refl, ap, arith}
+use Rattle.std.specs.Prelude.{◌==◌, ◌&&◌, nat_le}
 use Rattle.std.specs.Str.{bytes_eq}
+use Rattle.std.proofs.lemmas.Bool.Decides.{nat_tests}
 use Rattle.plain_cat.specs.declared.entries.DirEnt.{DirEnt}
-use Rattle.plain_vol.specs.Lookups.{versions}
+use Rattle.plain_rules.specs.Lookups.{versions, highest}
+use Rattle.plain_rules.specs.Directories.{new_version, is_last_version}
 
 -- they have that name
 pub versions_twice : (name : List ℕ) (es : List DirEnt) → versions name (versions name es) ≡ versions name es
@@ -12,3 +15,16 @@ versions_twice name (e ∷ es) = by_test (bytes_eq e.name name) refl (versions_t
       → versions name (cond t (e ∷ versions name es) (versions name es)) ≡ cond t (e ∷ versions name es) (versions name es)
   by_test true is more = ap (λ u. cond u (e ∷ versions name (versions name es)) (versions name (versions name es))) is ∙ ap (λ xs. e ∷ xs) more
   by_test false is more = more
+
+-- a new version is one that an entry may have
+pub version_from : (ver : ℕ) (es : List DirEnt) → 1 ≤ new_version ver es
+version_from ver es = by_test (ver == 0) refl where
+  by_test : (t : Bool) → (ver == 0) ≡ t → 1 ≤ cond t (highest es + 1) ver
+  by_test true e = omega arith
+  by_test false e = grind (arith, nat_tests)
+
+pub version_to : (ver : ℕ) (es : List DirEnt) → ver ≤ 32767 → is_last_version ver es ≡ false → new_version ver es ≤ 32767
+version_to ver es to last = by_test (ver == 0) last where
+  by_test : (t : Bool) → (t && nat_le 32767 (highest es)) ≡ false → cond t (highest es + 1) ver ≤ 32767
+  by_test true e = grind (arith, nat_tests)
+  by_test false e = to

@@ -1,6 +1,6 @@
 -- What comes next behind the first of what a command has seen.
 use Rattle.std.specs.Prelude.{◌≡◌, ◌≤◌, ℕ, List, [], ◌∷◌, Option, Some, None, map, length}
-use Rattle.vol_words.specs.Fields.{Block}
+use Rattle.base_words.specs.Fields.{Block}
 use Rattle.op_law.specs.declared.need.Need.{Need}
 use Rattle.op_law.specs.declared.seeing.Rest.{Rest}
 use Rattle.op_law.specs.declared.seeing.Granted.{Granted}

@@ -1,8 +1,8 @@
 -- The commands on channels: to open and close a file, and to read and write its blocks.
 use Rattle.std.specs.Prelude.{◌==◌, ◌||◌, ◌-◌, ◌*◌, ◌++◌, nat_lt, nat_le, ℕ, Bool, true, false, List, [], ◌∷◌, Option, Some, None, map, if◌then◌else◌}
 use Rattle.std.specs.List.{range_with_len}
-use Rattle.vol_words.specs.Fields.{Block}
-use Rattle.vol_words.specs.Tables.{zeros}
+use Rattle.base_words.specs.Fields.{Block}
+use Rattle.base_words.specs.Tables.{zeros}
 use Rattle.fx_header.specs.Headers.{with_mark, with_end}
 use Rattle.plain_cat.specs.declared.ids.Fid.{Fid}
 use Rattle.plain_cat.specs.declared.mode.Mode.{Mode}
@@ -11,8 +11,8 @@ use Rattle.plain_cat.specs.declared.history.Stage.TheVariants as stage
 use Rattle.plain_cat.specs.declared.reply.Reply.TheVariants as reply
 use Rattle.plain_cat.specs.declared.reply.Refusal.TheVariants as refusal
 use Rattle.plain_cat.specs.declared.cat.File.{File}
-use Rattle.plain_vol.specs.Changes.{is_past_mark, text_block, ended, marked_up}
-use Rattle.plain_vol.specs.Answers.{first_refusal, is_kept, is_reading}
+use Rattle.plain_rules.specs.Changes.{is_past_mark, text_block, ended, marked_up}
+use Rattle.plain_rules.specs.Answers.{first_refusal, is_kept, is_reading}
 use Rattle.vol_parts.specs.declared.geometry.Geometry.{Geometry}
 use Rattle.op_law.specs.declared.need.PlanWrite.{PlanWrite}
 use Rattle.op_law.specs.declared.need.Plan.{Plan}

@@ -1,6 +1,6 @@
 -- The commands that make a file and enter it in a directory.
-use Rattle.std.specs.Prelude.{◌+◌, ◌*◌, ◌++◌, not, nat_lt, ℕ, Bool, true, List, [], ◌∷◌, Some, is_none, Result, Ok, Err, map, codes, decimal, if◌then◌else◌}
-use Rattle.vol_words.specs.Fields.{Block}
+use Rattle.std.specs.Prelude.{◌+◌, ◌*◌, ◌++◌, not, nat_lt, ℕ, Bool, true, List, [], ◌∷◌, Some, is_none, Result, Ok, Err, map, if◌then◌else◌}
+use Rattle.base_words.specs.Fields.{Block}
 use Rattle.fx_dir.specs.Writing.{block_of}
 use Rattle.fx_header.specs.declared.slot.Hdr.{Hdr}
 use Rattle.fx_header.specs.declared.slot.Slot.{Slot}
@@ -17,11 +17,11 @@ use Rattle.plain_cat.specs.declared.reply.Refusal.{Refusal}
 use Rattle.plain_cat.specs.declared.reply.Refusal.TheVariants as refusal
 use Rattle.plain_cat.specs.declared.cat.File.{File}
 use Rattle.plain_cat.specs.declared.cat.QuotaRow.{QuotaRow}
-use Rattle.plain_vol.specs.Lookups.{versions, row_of}
-use Rattle.plain_vol.specs.Directories.{is_nil, entry, new_version, is_last_version, is_taken}
-use Rattle.plain_vol.specs.Changes.{next_seq, new_file, new_dir}
-use Rattle.plain_vol.specs.Answers.{first_refusal, over_quota, shown, dir_name}
-use Rattle.vol_owners.specs.Places.{spread}
+use Rattle.plain_rules.specs.Lookups.{versions, row_of}
+use Rattle.plain_rules.specs.Directories.{is_nil, entry, new_version, is_last_version, is_taken}
+use Rattle.plain_rules.specs.Changes.{next_seq, new_file, new_dir}
+use Rattle.plain_rules.specs.Answers.{first_refusal, over_quota, shown, dir_name}
+use Rattle.vol_spell.specs.Spread.{spread}
 use Rattle.vol_parts.specs.declared.geometry.Geometry.{Geometry}
 use Rattle.vol_spell.specs.Reading.{header_place}
 use Rattle.op_law.specs.declared.need.PlanWrite.{PlanWrite}
@@ -31,6 +31,7 @@ use Rattle.vol_parts.specs.Volumes.{most_clusters}
 use Rattle.op_law.specs.Writing.{holding, empty_handed, write_at, header_write, plan_of, clusters_for, runs_for}
 use Rattle.op_law.specs.Quotas.{through_quota, rows_seen, owner_write, row_charged}
 use Rattle.op_law.specs.Moving.{SeenDir, entries_of, through_names, is_full, insertion_writes}
+use Rattle.plain_cat.specs.Names.{text_of}
 
 -- what is to be made: the name and version of the entry, and the file, of which the sequence is still to come
 pub record NewEntry : Type 0 where
@@ -60,10 +61,6 @@ fields_for g n f = record {
   ext = 0;
   ext_seq = 0;
 }
-
--- what a new header has for the name of its file: NAME.TYP;v
-abbrev pub text_of : List ℕ → ℕ → List ℕ
-text_of name ver = name ++ (codes ";" ++ decimal ver)
 
 -- the header of a new file of these clusters under number n, which is entered in the directory `parent`
 unfoldable pub new_header : Geometry → Fid → ℕ → NewEntry → List ℕ → Block

@@ -1,7 +1,7 @@
 -- The events of a command in order: a lock, a look, the search for space, and at last the plan. What comes next may go by what
 -- a look has shown and by what the search has given.
 use Rattle.std.specs.Prelude.{◌≡◌, ◌==◌, ◌&&◌, ◌||◌, ℕ, Bool, true, false, List, [], ◌∷◌, Option, Some, None, is_none, is_some, length, if◌then◌else◌, MatchBool}
-use Rattle.vol_words.specs.Fields.{Block}
+use Rattle.base_words.specs.Fields.{Block}
 use Rattle.lock_db.specs.declared.name.LockName.{LockName}
 use Rattle.plain_cat.specs.declared.mode.Mode.{Mode}
 use Rattle.plain_cat.specs.declared.reply.Refusal.{Refusal}

@@ -1,10 +1,10 @@
 -- What 'seen fits the command' means.
 use Rattle.std.specs.Prelude.{◌≡◌, ◌-◌, ℕ, true, List, [], ◌∷◌, Option, Some, None}
-use Rattle.vol_words.specs.Fields.{Block}
+use Rattle.base_words.specs.Fields.{Block}
 use Rattle.plain_cat.specs.declared.command.Cmd.{Cmd}
 use Rattle.plain_cat.specs.declared.cat.Cat.{Cat}
-use Rattle.vol_owners.specs.Lists.{StandsIn}
-use Rattle.vol_owners.specs.Owners.{Owners, Things, Outs}
+use Rattle.base_words.specs.Lists.{StandsIn}
+use Rattle.vol_spell.specs.Owners.{Owners, Things, Outs}
 use Rattle.vol_spell.specs.Spelling.{Spells}
 use Rattle.op_law.specs.declared.need.Need.TheVariants as need
 use Rattle.op_law.specs.declared.need.Plan.{Plan}

@@ -1,7 +1,7 @@
 -- Clusters and file numbers that become free: the bitmap blocks that are looked at and written.
 use Rattle.std.specs.Prelude.{◌==◌, ◌+◌, ◌-◌, ◌*◌, ◌/◌, ◌%◌, ◌++◌, nat_lt, ℕ, Bool, true, false, List, [], ◌∷◌, None, map, filter}
 use Rattle.std.specs.List.{list_any, range_with_len, fold}
-use Rattle.vol_words.specs.Fields.{Block}
+use Rattle.base_words.specs.Fields.{Block}
 use Rattle.fx_bitmap.specs.Bits.{bits_put}
 use Rattle.fx_header.specs.Headers.{freed}
 use Rattle.lock_db.specs.declared.name.LockName.TheVariants.{V}

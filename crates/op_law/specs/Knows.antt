@@ -1,22 +1,21 @@
 -- What a command takes for granted of the catalogue besides the blocks that it has seen.
-use Rattle.std.specs.Prelude.{◌==◌, ◌&&◌, ◌+◌, ◌-◌, ◌/◌, not, nat_lt, nat_le, ℕ, Bool, true, false, List, Option, Some, None, is_none, slice_set, if◌then◌else◌}
-use Rattle.std.specs.List.{list_any, list_all}
+use Rattle.std.specs.Prelude.{◌==◌, ◌&&◌, ◌+◌, ◌-◌, ◌/◌, not, nat_lt, nat_le, ℕ, Bool, true, false, Option, Some, None, is_none, if◌then◌else◌}
+use Rattle.std.specs.List.{list_all}
 use Rattle.plain_cat.specs.Modes.{rank}
-use Rattle.plain_cat.specs.declared.mode.Mode.{Mode}
 use Rattle.plain_cat.specs.declared.command.Cmd.{Cmd}
 use Rattle.plain_cat.specs.declared.command.Cmd.TheVariants as cmd
 use Rattle.plain_cat.specs.declared.reply.Refusal.{Refusal}
 use Rattle.plain_cat.specs.declared.reply.Refusal.TheVariants as refusal
 use Rattle.plain_cat.specs.declared.cat.Cat.{Cat}
-use Rattle.plain_cat.specs.declared.cat.File.{File}
 use Rattle.plain_cat.specs.declared.cat.Open.{Open}
 use Rattle.plain_cat.specs.declared.cat.QuotaRow.{QuotaRow}
-use Rattle.plain_vol.specs.Lookups.{in_use, channel_at, place, free_clusters, has_free_number}
-use Rattle.plain_vol.specs.Accounts.{charge}
-use Rattle.plain_vol.specs.Answers.{conflicts}
+use Rattle.plain_rules.specs.Lookups.{in_use, channel_at, free_clusters, has_free_number}
+use Rattle.plain_rules.specs.Accounts.{charge}
 use Rattle.op_law.specs.declared.need.Ask.{Ask}
 use Rattle.op_law.specs.declared.seen.Seen.{Seen}
 use Rattle.op_law.specs.declared.seen.Chan.{Chan}
+use Rattle.plain_rules.specs.Opens.{is_plain_file, goes_with, is_held_open}
+use Rattle.plain_rules.specs.Laws.{makes_file}
 
 -- ---- the channel that a command names
 
@@ -32,18 +31,6 @@ abbrev pub asking_part : Option ℕ → ℕ
 asking_part None = 0
 asking_part (Some chan) = chan
 
-abbrev pub is_plain_file : Option File → Bool
-is_plain_file None = false
-is_plain_file (Some f) = not f.dir
-
--- what the other channels have open: all but this one of the node, where it is a channel
-abbrev pub others_open : Cat → ℕ → ℕ → List (Option Open)
-others_open c node chan = if chan == 0 then c.opens else slice_set c.opens (place node chan) None
-
--- a mode goes with all other opens of a file
-abbrev pub goes_with : Cat → ℕ → ℕ → ℕ → Mode → Bool
-goes_with c node chan file mode = not (list_any (conflicts file mode) (others_open c node chan))
-
 -- The channel has this file open in this mode, which goes with all other opens of it; and the file is in use, no directory and
 -- no system file.
 abbrev pub is_open_as : Cat → ℕ → ℕ → Chan → Option Open → Bool
@@ -56,11 +43,6 @@ abbrev pub has_channel : Cat → ℕ → Option ℕ → Option Chan → Bool
 has_channel c node None seen = true
 has_channel c node (Some chan) None = is_none (channel_at c node chan)
 has_channel c node (Some chan) (Some p) = is_open_as c node chan p (channel_at c node chan)
-
--- a channel with a file open has it so in CR or more
-abbrev pub is_held_open : Option Open → Bool
-is_held_open None = true
-is_held_open (Some o) = nat_lt 0 (rank o.mode)
 
 -- a command that may ask for the lock of who has a file open
 abbrev pub may_ask : Cmd → Bool
@@ -89,12 +71,6 @@ takes_space (cmd.MkDir reg dir name owner) = true
 takes_space (cmd.Extend file blocks) = true
 takes_space other = false
 
--- whether it searches for a number
-abbrev pub wants_number : Cmd → Bool
-wants_number (cmd.Create reg dir name ver blocks owner) = true
-wants_number (cmd.MkDir reg dir name owner) = true
-wants_number other = false
-
 -- the space that a command wants: so many clusters, and a number or none
 pub record Wanted : Type 0 where
   pub clusters : ℕ
@@ -102,7 +78,7 @@ pub record Wanted : Type 0 where
 
 -- what it wants, by what it has seen
 abbrev pub wanted : Seen → Cmd → Wanted
-wanted seen x = record { clusters = clusters_wanted seen.geometry.cluster x; number = wants_number x }
+wanted seen x = record { clusters = clusters_wanted seen.geometry.cluster x; number = makes_file x }
 
 -- Space was refused for its reason: a number was wanted and none is free, or else the clusters that are free are too few.
 abbrev pub is_short : Cat → Wanted → Option Refusal → Bool

@@ -16,7 +16,6 @@ pub mod Needs
 pub mod Knows
 pub mod Fits
 pub mod Bounds
-pub mod Alone
 pub mod Going
 pub mod Looking
 pub mod Order

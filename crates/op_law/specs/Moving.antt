@@ -1,7 +1,6 @@
 -- A directory as a command sees it, the writes that enter or remove an entry, and the command on names.
 use Rattle.std.specs.Prelude.{◌-◌, ◌++◌, not, ℕ, Bool, List, [], ◌∷◌, unwrap_or, length, take, drop, map}
-use Rattle.vol_words.specs.Fields.{Block}
-use Rattle.fx_dir.specs.declared.RawEnt.{RawEnt}
+use Rattle.base_words.specs.Fields.{Block}
 use Rattle.fx_dir.specs.declared.Move.{Move}
 use Rattle.fx_dir.specs.Moves.{written, insertion, removal, packing_writes}
 use Rattle.plain_cat.specs.declared.ids.Fid.{Fid}
@@ -12,15 +11,16 @@ use Rattle.plain_cat.specs.declared.history.Stage.TheVariants as stage
 use Rattle.plain_cat.specs.declared.reply.Reply.TheVariants as reply
 use Rattle.plain_cat.specs.declared.reply.Refusal.{Refusal}
 use Rattle.plain_cat.specs.declared.reply.Refusal.TheVariants as refusal
-use Rattle.plain_vol.specs.Lookups.{versions, entry_of}
-use Rattle.plain_vol.specs.Directories.{inserted, fits, entry, nowhere, new_version, is_last_version, is_taken}
-use Rattle.plain_vol.specs.Answers.{first_refusal}
+use Rattle.plain_rules.specs.Lookups.{versions, entry_of}
+use Rattle.plain_rules.specs.Directories.{inserted, fits, entry, nowhere, new_version, is_last_version, is_taken}
+use Rattle.plain_rules.specs.Answers.{first_refusal}
 use Rattle.vol_parts.specs.declared.geometry.Geometry.{Geometry}
 use Rattle.op_law.specs.declared.need.PlanWrite.{PlanWrite}
 use Rattle.op_law.specs.Events.{Events, Make}
 use Rattle.op_law.specs.Rows.{through_directory, entries_seen}
 use Rattle.op_law.specs.Refusing.{unless_refused, if_entry}
 use Rattle.op_law.specs.Writing.{body_write, plan_of}
+use Rattle.vol_spell.specs.Entries.{raw_entry}
 
 -- a directory as a command sees it: its identifier, the block of its header, and its blocks
 pub record SeenDir : Type 0 where
@@ -47,10 +47,6 @@ move_write d s m = body_write d.fid.num d.head m.vbn m.block s
 -- moves, of which the first k leave one stage and the others the next
 abbrev pub moves_at : SeenDir → Stage → Stage → ℕ → List Move → List PlanWrite
 moves_at d before after k ms = map (move_write d before) (take k ms) ++ map (move_write d after) (drop k ms)
-
--- an entry as a directory's blocks have it; its version limit and flags are those of a new name
-abbrev pub raw_entry : DirEnt → RawEnt
-raw_entry e = record { name = e.name; ver = e.ver; num = e.fid.num; seq = e.fid.seq; limit = 32767; flags = 0 }
 
 abbrev pub insertion_moves : SeenDir → DirEnt → List Move
 insertion_moves d e = unwrap_or (insertion d.blocks (raw_entry e)) []

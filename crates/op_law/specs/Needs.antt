@@ -8,7 +8,7 @@ use Rattle.plain_cat.specs.declared.command.Cmd.TheVariants as cmd
 use Rattle.plain_cat.specs.declared.reply.Reply.{Reply}
 use Rattle.plain_cat.specs.declared.reply.Reply.TheVariants as reply
 use Rattle.plain_cat.specs.declared.reply.Refusal.TheVariants as refusal
-use Rattle.plain_vol.specs.Lookups.{versions, entry_of, found}
+use Rattle.plain_rules.specs.Lookups.{versions, entry_of, found}
 use Rattle.vol_parts.specs.declared.geometry.Geometry.{Geometry}
 use Rattle.op_law.specs.declared.need.Need.{Need}
 use Rattle.op_law.specs.declared.seen.Seen.{Seen}

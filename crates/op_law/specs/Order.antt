@@ -4,8 +4,9 @@ use Rattle.lock_db.specs.declared.name.LockName.{LockName}
 use Rattle.lock_db.specs.declared.name.LockName.TheVariants.{S, A, Q, X, V}
 use Rattle.plain_cat.specs.declared.entries.DirEnt.{DirEnt}
 use Rattle.plain_cat.specs.declared.cat.Cat.{Cat}
-use Rattle.plain_vol.specs.Lookups.{file_at}
-use Rattle.vol_parts.specs.Fatal.{entries_of, is_system_entry}
+use Rattle.plain_rules.specs.Lookups.{file_at}
+use Rattle.plain_rules.specs.SystemFiles.{is_system_entry}
+use Rattle.plain_rules.specs.SystemFiles.{entries_of}
 
 -- an entry of directory n has the number m; the master file directory's own entry is left out
 pub record NamesNumber (c : Cat) (n m : ℕ) : Type 0 where

@@ -1,9 +1,9 @@
 -- The quota blocks: the rows that they tell, the write of one row, and the commands on quotas.
-use Rattle.std.specs.Prelude.{◌==◌, ◌+◌, ◌-◌, ◌*◌, ◌/◌, ◌%◌, ℕ, Bool, false, List, [], ◌∷◌, Option, Some, None, is_none, length, flat_map, slice_index_or}
+use Rattle.std.specs.Prelude.{◌==◌, ◌+◌, ◌-◌, ◌*◌, ◌/◌, ◌%◌, ℕ, Bool, List, [], ◌∷◌, Option, Some, None, is_none, length, flat_map}
 use Rattle.std.specs.List.{range_with_len, position}
-use Rattle.vol_words.specs.Fields.{Block}
+use Rattle.base_words.specs.Fields.{Block}
 use Rattle.fx_quota.specs.declared.types.Row.{Row}
-use Rattle.fx_quota.specs.Rows.{row_in, row_at, row_put}
+use Rattle.fx_quota.specs.Rows.{row_in, row_put}
 use Rattle.lock_db.specs.declared.name.LockName.TheVariants.{Q}
 use Rattle.plain_cat.specs.declared.ids.Uic.{Uic}
 use Rattle.plain_cat.specs.declared.mode.Mode.{Mode}
@@ -13,7 +13,7 @@ use Rattle.plain_cat.specs.declared.history.Stage.TheVariants as stage
 use Rattle.plain_cat.specs.declared.reply.Reply.TheVariants as reply
 use Rattle.plain_cat.specs.declared.reply.Refusal.TheVariants as refusal
 use Rattle.plain_cat.specs.declared.cat.QuotaRow.{QuotaRow}
-use Rattle.plain_vol.specs.Lookups.{row_of}
+use Rattle.plain_rules.specs.Lookups.{row_of}
 use Rattle.vol_parts.specs.declared.geometry.Geometry.{Geometry}
 use Rattle.vol_parts.specs.declared.geometry.Part.TheVariants.{Quota}
 use Rattle.vol_parts.specs.Volumes.{rows_in}
@@ -24,6 +24,7 @@ use Rattle.op_law.specs.declared.need.PlanWrite.{PlanWrite}
 use Rattle.op_law.specs.Events.{Events, Take, Make}
 use Rattle.op_law.specs.Rows.{answers, refuses, look_all}
 use Rattle.op_law.specs.Writing.{Held, empty_handed, write_at, plan_of}
+use Rattle.vol_spell.specs.Rows.{block_with, row_seen, is_row_of}
 
 -- Q in a mode, all quota blocks, and what comes next by them
 abbrev pub through_quota : Geometry → Mode → (List Block → Events) → Events
@@ -32,21 +33,6 @@ through_quota g mode next = Take Q mode (look_all Q (quota_places g) next)
 -- the active rows that these quota blocks tell, in order of owner
 abbrev pub rows_seen : List Block → List QuotaRow
 rows_seen qs = rows_sorted (flat_map rows_in qs)
-
--- ---- one row
-
--- the block of row j, which counts from 0 through all of these blocks
-abbrev pub block_with : List Block → ℕ → Block
-block_with qs j = slice_index_or qs (j / 16) []
-
--- row j, or none where it is not active
-abbrev pub row_seen : List Block → ℕ → Option Row
-row_seen qs j = row_at (block_with qs j) (j % 16)
-
--- a row is active and this owner's
-abbrev pub is_row_of : Uic → Option Row → Bool
-is_row_of owner None = false
-is_row_of owner (Some r) = r.uic == owner.0
 
 -- the first row that passes a test
 unfoldable pub row_place : (Option Row → Bool) → List Block → Option ℕ

@@ -1,6 +1,6 @@
 -- Headers whose runs can be read.
 use Rattle.std.specs.Prelude.{◌≡◌, ◌+◌, ◌≤◌, ℕ, List, [], ◌∷◌, All, IsTrue}
-use Rattle.vol_words.specs.Fields.{Block}
+use Rattle.base_words.specs.Fields.{Block}
 use Rattle.fx_header.specs.declared.run.Run.{Run}
 use Rattle.fx_header.specs.Headers.{has_offsets, has_map, runs_in}
 use Rattle.vol_spell.specs.Reading.{runs_told}

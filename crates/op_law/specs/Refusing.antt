@@ -1,6 +1,6 @@
 -- How a command goes on: where no refusal holds, where its file is there, where its entry is, where space was given.
 use Rattle.std.specs.Prelude.{◌==◌, nat_le, ℕ, List, [], Option, Some, None, option_map, if◌then◌else◌}
-use Rattle.vol_words.specs.Fields.{Block}
+use Rattle.base_words.specs.Fields.{Block}
 use Rattle.fx_header.specs.declared.slot.Hdr.{Hdr}
 use Rattle.plain_cat.specs.declared.ids.Fid.{Fid}
 use Rattle.plain_cat.specs.declared.mode.Mode.{Mode}

@@ -1,6 +1,6 @@
 -- The command that removes an entry, and its file once nobody has it open.
 use Rattle.std.specs.Prelude.{◌==◌, ◌++◌, ℕ, List, [], ◌∷◌, length, option_map, if◌then◌else◌}
-use Rattle.vol_words.specs.Fields.{Block}
+use Rattle.base_words.specs.Fields.{Block}
 use Rattle.fx_header.specs.Headers.{marked}
 use Rattle.lock_db.specs.declared.name.LockName.TheVariants.{S}
 use Rattle.plain_cat.specs.declared.ids.Fid.{Fid}
@@ -9,15 +9,16 @@ use Rattle.plain_cat.specs.declared.entries.DirEnt.{DirEnt}
 use Rattle.plain_cat.specs.declared.history.Stage.TheVariants as stage
 use Rattle.plain_cat.specs.declared.reply.Reply.TheVariants as reply
 use Rattle.plain_cat.specs.declared.reply.Refusal.TheVariants as refusal
-use Rattle.plain_vol.specs.Lookups.{versions, entry_of}
-use Rattle.plain_vol.specs.Directories.{is_nil}
+use Rattle.plain_rules.specs.Lookups.{versions, entry_of}
+use Rattle.plain_rules.specs.Directories.{is_nil}
 use Rattle.vol_parts.specs.declared.geometry.Geometry.{Geometry}
 use Rattle.vol_spell.specs.Reading.{header_place}
 use Rattle.op_law.specs.declared.need.PlanWrite.{PlanWrite}
 use Rattle.op_law.specs.declared.need.Plan.{Plan}
 use Rattle.op_law.specs.declared.need.Ask.{Ask}
 use Rattle.op_law.specs.Events.{Events, Take, Look, Make}
-use Rattle.op_law.specs.Rows.{refuses, is_number, look_all, places_in, entries_seen}
+use Rattle.op_law.specs.Rows.{refuses, is_number, look_all, entries_seen}
+use Rattle.vol_spell.specs.Entries.{places_in}
 use Rattle.op_law.specs.Refusing.{SeenFile, seen_file, used_in, if_file, if_entry}
 use Rattle.op_law.specs.Writing.{empty_handed, header_write, plan_of, asking_plan}
 use Rattle.op_law.specs.Moving.{SeenDir, entries_of, through_names, removal_writes}

@@ -1,13 +1,12 @@
 -- What commands have in common: a file's lock and its header, and the blocks of a directory.
 use Rattle.std.specs.Prelude.{◌==◌, ◌&&◌, not, nat_le, ℕ, Bool, List, [], ◌∷◌, Option, Some, None, Result, Ok, Err, if◌then◌else◌}
-use Rattle.vol_words.specs.Fields.{Block}
+use Rattle.base_words.specs.Fields.{Block}
 use Rattle.fx_dir.specs.Directory.{directory}
 use Rattle.fx_header.specs.declared.slot.Hdr.{Hdr}
 use Rattle.fx_header.specs.declared.slot.Slot.{Slot}
 use Rattle.fx_header.specs.declared.slot.Slot.TheVariants.{Free, Used}
 use Rattle.fx_header.specs.declared.slot.HeaderFault.{HeaderFault}
-use Rattle.fx_header.specs.Headers.{header_read, runs_in}
-use Rattle.fx_header.specs.Pointers.{lbns_in}
+use Rattle.fx_header.specs.Headers.{header_read}
 use Rattle.lock_db.specs.declared.name.LockName.{LockName}
 use Rattle.lock_db.specs.declared.name.LockName.TheVariants.{S}
 use Rattle.plain_cat.specs.declared.ids.Fid.{Fid}
@@ -24,6 +23,7 @@ use Rattle.op_law.specs.declared.need.Need.{Need}
 use Rattle.op_law.specs.declared.need.Need.TheVariants as need
 use Rattle.op_law.specs.declared.need.Plan.{Plan}
 use Rattle.op_law.specs.Events.{Events, Take, Look, Make}
+use Rattle.vol_spell.specs.Entries.{places_in}
 
 -- a plan that writes nothing and asks for nothing
 abbrev pub plain_plan : Reply → Plan
@@ -56,10 +56,6 @@ live_header seq (Err fault) = None
 -- the header of the live file of this sequence, by its block
 abbrev pub live_in : ℕ → Block → Option Hdr
 live_in seq b = live_header seq (header_read b)
-
--- where the blocks of the file of a header stand, in order
-abbrev pub places_in : Block → List ℕ
-places_in b = lbns_in (runs_in b)
 
 -- looks at all of these blocks, in order, and what comes next by them
 abbrev pub look_all : LockName → List ℕ → (List Block → Events) → Events

@@ -1,7 +1,7 @@
 -- A file as a command has seen it, opened: its clusters, where its blocks stand, and the writes to them. Nothing else reads the
 -- runs of a file's header; those of a directory are read where its blocks are.
 use Rattle.std.specs.Prelude.{ℕ, List, take}
-use Rattle.vol_words.specs.Fields.{Block}
+use Rattle.base_words.specs.Fields.{Block}
 use Rattle.plain_cat.specs.declared.history.Stage.{Stage}
 use Rattle.vol_parts.specs.declared.geometry.Geometry.{Geometry}
 use Rattle.op_law.specs.declared.need.PlanWrite.{PlanWrite}

@@ -1,6 +1,6 @@
 -- The commands that give a file more clusters, or fewer.
 use Rattle.std.specs.Prelude.{◌==◌, ◌-◌, ◌+◌, ◌*◌, ◌++◌, nat_lt, min, ℕ, Bool, false, List, [], ◌∷◌, None, take, drop, if◌then◌else◌}
-use Rattle.vol_words.specs.Fields.{Block}
+use Rattle.base_words.specs.Fields.{Block}
 use Rattle.fx_header.specs.Headers.{with_runs, with_mark, with_end, scattered}
 use Rattle.lock_db.specs.declared.name.LockName.TheVariants.{V}
 use Rattle.plain_cat.specs.declared.ids.Fid.{Fid}
@@ -11,8 +11,8 @@ use Rattle.plain_cat.specs.declared.reply.Reply.TheVariants as reply
 use Rattle.plain_cat.specs.declared.reply.Refusal.{Refusal}
 use Rattle.plain_cat.specs.declared.reply.Refusal.TheVariants as refusal
 use Rattle.plain_cat.specs.declared.cat.File.{File}
-use Rattle.plain_vol.specs.Lookups.{row_of}
-use Rattle.plain_vol.specs.Answers.{first_refusal, over_draft, is_kept}
+use Rattle.plain_rules.specs.Lookups.{row_of}
+use Rattle.plain_rules.specs.Answers.{first_refusal, over_draft, is_kept}
 use Rattle.vol_parts.specs.declared.geometry.Geometry.{Geometry}
 use Rattle.op_law.specs.declared.need.PlanWrite.{PlanWrite}
 use Rattle.op_law.specs.Events.{Events, Take, Find, Make}

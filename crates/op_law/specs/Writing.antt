@@ -1,6 +1,6 @@
 -- The writes of a plan: the lock that guards each, the stage after it, and what the command has outside then.
 use Rattle.std.specs.Prelude.{◌+◌, ◌-◌, ◌*◌, ◌/◌, ℕ, List, [], Option, Some, None, map, slice_index_or}
-use Rattle.vol_words.specs.Fields.{Block}
+use Rattle.base_words.specs.Fields.{Block}
 use Rattle.fx_header.specs.declared.run.Run.{Run}
 use Rattle.fx_header.specs.Headers.{runs_in}
 use Rattle.lock_db.specs.declared.name.LockName.{LockName}
@@ -12,7 +12,7 @@ use Rattle.vol_spell.specs.Reading.{header_place, clusters_of}
 use Rattle.op_law.specs.declared.need.Plan.{Plan}
 use Rattle.op_law.specs.declared.need.PlanWrite.{PlanWrite}
 use Rattle.op_law.specs.declared.need.Ask.{Ask}
-use Rattle.op_law.specs.Rows.{places_in}
+use Rattle.vol_spell.specs.Entries.{places_in}
 
 -- what a command has outside files and bitmaps: clusters, from 0, and a file number, from 1, or none
 pub record Held : Type 0 where

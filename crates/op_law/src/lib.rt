@@ -10,9 +10,10 @@
 //! `next` gives exactly the next need of the definition (`IsNext`). `of` promises the law (`Lawful`): the command asks for locks
 //! in order; each write of its plan is to a block that a lock of it guards, or that it has outside files, and leads from stage to
 //! stage; the reply goes with the last; a refusal writes nothing. `seen_goes_on` is a law for the core.
+//!
+//! The operations and the core stand on it.
 #![tactic(auto)]
 
-mod alone;
 mod laws;
 mod lists;
 mod need;
@@ -22,7 +23,6 @@ mod rows;
 mod seeing;
 mod seen;
 
-pub use alone::run_alone;
 pub use laws::{looks_reply, seen_goes_on};
 pub use lists::{KeptLocks, SeenBlocks, SeenLocks, Writes};
 pub use need::{Ask, Need, Plan, PlanWrite};

@@ -2,11 +2,11 @@ ghost use Rattle.std.specs.Prelude.{◌≡◌, ◌+◌, ◌<◌, ◌≤◌, ◌+
 ghost use Rattle.lock_db.specs.Names.{is_same};
 
 use crate::need::PlanWrite;
+use base_words::Block;
 use lock_db::LockName;
 use plain_cat::{Mode, NoMemory};
 use std::alloc::Global;
 use std::marker::Model;
-use vol_words::Block;
 
 /// The locks that were granted for a command, each with its mode, in order.
 #[derive(Drop)]
@@ -142,7 +142,7 @@ pub struct SeenBlocks {
 
 impl Model for SeenBlocks {
     ghost use Rattle.std.specs.Prelude.{List, ℕ};
-    ghost use Rattle.vol_words.specs.Fields.{Block};
+    ghost use Rattle.base_words.specs.Fields.{Block};
 
     ghost Value = { List (ℕ × Block) };
 

@@ -1,8 +1,8 @@
 use crate::lists::Writes;
 use crate::numbers::Numbers;
+use base_words::Block;
 use lock_db::LockName;
 use plain_cat::{Clusters, Mode, Reply, Stage};
-use vol_words::Block;
 
 /// What a command needs next.
 #[derive(Drop)]

@@ -2,20 +2,21 @@
 
 ghost use Rattle.std.specs.Prelude.{◌≡◌, ◌+◌, IfOk, IfSome, map, length, slice_get};
 ghost use Rattle.std.specs.Str.{bytes_eq};
-ghost use Rattle.plain_vol.specs.Lookups.{versions};
+ghost use Rattle.plain_rules.specs.Lookups.{versions};
 ghost use Rattle.vol_parts.specs.Catalogues.{plain_entry};
-ghost use Rattle.op_law.specs.Rows.{answered, refused, is_number, live_in, places_in, entries_seen};
+ghost use Rattle.op_law.specs.Rows.{answered, refused, is_number, live_in, entries_seen};
+ghost use Rattle.vol_spell.specs.Entries.{places_in};
 ghost use Rattle.op_law.specs.Behind.{blocks_alone};
 ghost use Rattle.op_law.specs.Readable.{HasMap, AreInside};
 
 use crate::lists::Writes;
 use crate::need::{Need, Plan};
+use base_words::Block;
 use fx_dir::{DirFault, RawEnt, read_dir};
 use fx_header::{Hdr, Slot, read_header, runs};
 use plain_cat::{Blocks, DirEnts, Fid, Name, NoMemory, Refusal, Reply};
 use std::alloc::{AllocError, Global};
 use vol_parts::{Geometry, plain_entry, read_entries};
-use vol_words::Block;
 
 /// Nothing more is needed, and nothing is written: the reply. It takes no memory.
 pub fn answered(alloc: Global, reply: Reply) -> Need

@@ -2,7 +2,7 @@
 //! what is behind it in what was seen, or what the command needs first.
 
 ghost use Rattle.std.specs.Prelude.{◌≡◌, ◌≤◌, ◌<◌, ◌+◌, ◌*◌, ℕ, List, length, slice_get};
-ghost use Rattle.vol_words.specs.Fields.{Block};
+ghost use Rattle.base_words.specs.Fields.{Block};
 ghost use Rattle.vol_parts.specs.Parts.{IsGeometry};
 ghost use Rattle.vol_spell.specs.Reading.{header_place};
 ghost use Rattle.op_law.specs.Events.{Events, Take, Look, Space, following};
@@ -12,11 +12,11 @@ ghost use Rattle.op_law.specs.Behind.{behind_lock, behind_block, behind_all, beh
 
 use crate::need::Need;
 use crate::rows::{is_number, live_in, place_in, refused};
+use base_words::Block;
 use lock_db::LockName;
 use plain_cat::{Fid, Mode, Refusal};
 use std::alloc::Global;
 use vol_parts::Geometry;
-use vol_words::Block;
 
 /// What was seen from an event of a command on.
 #[derive(Clone, Copy)]

@@ -1,7 +1,7 @@
 -- The law of LOOKUP, LIST and STAT.
 use Rattle.std.proofs.Common.{◌≡◌, ◌∙◌, inl, ℕ, Bool, true, false, cond, List, [], ◌∷◌, Option, Some, None, refl, ap, arith}
 use Rattle.std.specs.Prelude.{option_map, Ok}
-use Rattle.vol_words.specs.Fields.{Block}
+use Rattle.base_words.specs.Fields.{Block}
 use Rattle.fx_header.specs.declared.slot.Hdr.{Hdr}
 use Rattle.fx_header.specs.declared.slot.Slot.TheVariants as head
 use Rattle.fx_header.specs.Headers.{header_read}
@@ -16,11 +16,11 @@ use Rattle.plain_cat.specs.declared.reply.Reply.TheVariants as reply
 use Rattle.plain_cat.specs.declared.reply.Refusal.TheVariants as refusal
 use Rattle.plain_cat.specs.declared.cat.Cat.{Cat}
 use Rattle.plain_cat.specs.declared.cat.File.{File}
-use Rattle.plain_vol.specs.declared.outcome.Outcome.{Outcome}
-use Rattle.plain_vol.specs.Lookups.{live, versions, entry_of, found}
-use Rattle.plain_vol.specs.Answers.{told, in_directory_file, lookup_outcome, list_outcome, stat_of, stat_outcome, outcome}
-use Rattle.plain_vol.proofs.LawSteps.{pick_exists}
-use Rattle.vol_owners.specs.Owners.{Owners}
+use Rattle.plain_rules.specs.declared.outcome.Outcome.{Outcome}
+use Rattle.plain_rules.specs.Lookups.{live, versions, entry_of, found}
+use Rattle.plain_rules.specs.Answers.{told, in_directory_file, lookup_outcome, list_outcome, stat_of, stat_outcome, outcome}
+use Rattle.plain_rules.proofs.LawSteps.{pick_exists}
+use Rattle.vol_spell.specs.Owners.{Owners}
 use Rattle.vol_parts.specs.declared.geometry.Geometry.{Geometry}
 use Rattle.vol_spell.specs.Reading.{IsFileNumber}
 use Rattle.vol_spell.specs.Spelling.{Spells}

@@ -1,4 +1,2 @@
 pub mod Looking
 pub mod Lawful
-pub mod Truncs
-pub mod Opening

@@ -9,15 +9,11 @@
 //!
 //! `next` gives exactly the next need: the lock of the file or directory in PR, its header, the blocks of a directory, and a plan
 //! without a write. Each of these commands obeys the law of a command (`Operation::of`: `lawful`).
+//!
+//! `xqp_set` joins it to the other commands.
 #![tactic(auto)]
 
 mod looks;
-#[cfg(test)]
-mod opens;
 mod operation;
-#[cfg(test)]
-mod system_truncs;
-#[cfg(test)]
-mod tests;
 
 pub use operation::OpLookup;

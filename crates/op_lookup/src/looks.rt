@@ -12,7 +12,7 @@ use op_law::{
     live_in, refused, versions_seen,
 };
 use plain_cat::{Fid, Mode, Name, Refusal, Reply, Uic};
-use plain_vol::look_up;
+use plain_rules::look_up;
 use std::alloc::Global;
 
 // LOOKUP

@@ -3,7 +3,7 @@ use Rattle.std.proofs.Common.{◌≡◌, ◌<◌, ◌^◌, ◌∙◌, ◌%◌, i
 use Rattle.std.specs.Prelude.{◌&&◌, leb, is_none}
 use Rattle.std.proofs.lemmas.Bool.{and_parts}
 use Rattle.std.proofs.lemmas.Bool.Decides.{nat_tests}
-use Rattle.vol_words.specs.Fields.{Block}
+use Rattle.base_words.specs.Fields.{Block}
 use Rattle.fx_quota.specs.declared.types.Row.{Row}
 use Rattle.fx_quota.specs.Rows.{row_in}
 use Rattle.lock_db.specs.declared.name.LockName.{LockName}
@@ -19,13 +19,13 @@ use Rattle.plain_cat.specs.declared.reply.Reply.TheVariants as reply
 use Rattle.plain_cat.specs.declared.reply.Refusal.TheVariants as refusal
 use Rattle.plain_cat.specs.declared.cat.Cat.{Cat}
 use Rattle.plain_cat.specs.declared.cat.QuotaRow.{QuotaRow}
-use Rattle.plain_vol.specs.declared.outcome.Outcome.{Outcome}
-use Rattle.plain_vol.specs.Lookups.{row_of}
-use Rattle.plain_vol.specs.Answers.{told, refused, quota_set_of, quota_set_outcome, outcome, Answer}
-use Rattle.plain_vol.specs.Stages.{command_stage, stage_of, staged}
-use Rattle.plain_vol.proofs.LawSteps.{pick_exists}
-use Rattle.vol_owners.specs.Owners.{Owners, Things, nothing, Outs}
-use Rattle.vol_owners.specs.Places.{blocks_at}
+use Rattle.plain_rules.specs.declared.outcome.Outcome.{Outcome}
+use Rattle.plain_rules.specs.Lookups.{row_of}
+use Rattle.plain_rules.specs.Answers.{told, refused, quota_set_of, quota_set_outcome, outcome, Answer}
+use Rattle.plain_rules.specs.Stages.{command_stage, stage_of, staged}
+use Rattle.plain_rules.proofs.LawSteps.{pick_exists}
+use Rattle.vol_spell.specs.Owners.{Owners, Things, nothing, Outs}
+use Rattle.vol_spell.specs.Spread.{blocks_at}
 use Rattle.vol_parts.specs.declared.geometry.Geometry.{Geometry}
 use Rattle.vol_parts.specs.Catalogues.{quota_row}
 use Rattle.vol_spell.specs.Reading.{quota_places}
@@ -40,7 +40,9 @@ use Rattle.op_law.specs.Events.{Events, Space, space_of, HasNoSpace, HasNoSearch
 use Rattle.op_law.specs.Fits.{things}
 use Rattle.op_law.specs.Rows.{plain_plan}
 use Rattle.op_law.specs.Writing.{empty_handed, plan_of}
-use Rattle.op_law.specs.Quotas.{block_with, is_row_of, row_place, changed_write, owner_write, row_allowed, row_write, first_row, quota_set_in, quota_set_events}
+use Rattle.op_law.specs.Quotas.{row_place, changed_write, owner_write, row_allowed, row_write, first_row, quota_set_in, quota_set_events}
+use Rattle.vol_spell.specs.Rows.{block_with}
+use Rattle.vol_spell.specs.Rows.{is_row_of}
 use Rattle.op_law.specs.Needs.{events_of}
 use Rattle.op_law.specs.Laws.{planned, AreNamed, KeepsOut, Lawful}
 use Rattle.op_law.proofs.Walking.{EveryPlan, ObeysBy}
@@ -50,14 +52,14 @@ use Rattle.op_law.proofs.Counting.{quota_brief}
 use Rattle.op_law.proofs.Naming.{no_header_leaves, TouchesNoHeader}
 use Rattle.op_law.proofs.Ends.{EndsBy, nothing_given}
 use Rattle.op_law.proofs.Doing.{IsShaped, busy, IsDone, refusal_done}
-use Rattle.op_writes.specs.Chained.{Chain, StepsOf, StandsOn}
-use Rattle.vol_writes.specs.Rows.{IsInRange, row_for, with_changed, with_more}
-use Rattle.op_writes.specs.RowWrites.{row_writes}
-use Rattle.op_writes.specs.NewRows.{IsFirstFree}
-use Rattle.op_writes.proofs.RowSteps.{row_steps, row_guards, row_no_header}
-use Rattle.op_writes.proofs.RowRanges.{row_ranged}
-use Rattle.op_writes.proofs.RowNewPlaces.{owner_told, owner_untold, quota_full, quota_left}
-use Rattle.op_writes.proofs.RowNewSteps.{new_row_steps, new_row_guards, new_row_no_header}
+use Rattle.op_steps.specs.Chained.{Chain, StepsOf, StandsOn}
+use Rattle.vol_spell.specs.Rows.{IsInRange, row_for, with_changed, with_more}
+use Rattle.op_steps.specs.RowWrites.{row_writes}
+use Rattle.op_steps.specs.NewRows.{IsFirstFree}
+use Rattle.op_steps.proofs.RowSteps.{row_steps, row_guards, row_no_header}
+use Rattle.op_steps.proofs.RowRanges.{row_ranged}
+use Rattle.op_steps.proofs.RowNewPlaces.{owner_told, owner_untold, quota_full, quota_left}
+use Rattle.op_steps.proofs.RowNewSteps.{new_row_steps, new_row_guards, new_row_no_header}
 use Rattle.op_law.proofs.Spaceless.{spaceless_lawful}
 
 module _ (owner : Uic) (quota over : ℕ) where

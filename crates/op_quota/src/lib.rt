@@ -9,6 +9,8 @@
 //!
 //! `next` gives exactly the next need: Q in PW or PR, all quota blocks, and the plan, which writes one row for QUOTASET and none
 //! for QUOTASHOW. Each of them in form obeys the law of a command (`quota_obeys_the_law`).
+//!
+//! `xqp_set` joins it to the other commands.
 #![tactic(auto)]
 
 pub mod laws;
@@ -16,7 +18,5 @@ mod operation;
 mod rows;
 mod setting;
 mod showing;
-#[cfg(test)]
-mod tests;
 
 pub use operation::OpQuota;

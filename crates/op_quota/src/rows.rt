@@ -1,11 +1,12 @@
 //! The rows that are not active.
 
 ghost use Rattle.std.specs.Prelude.{◌≡◌, ◌≤◌, ◌<◌, ◌*◌, is_none, length, IfSome};
-ghost use Rattle.op_law.specs.Quotas.{row_seen, row_place};
+ghost use Rattle.op_law.specs.Quotas.{row_place};
+ghost use Rattle.vol_spell.specs.Rows.{row_seen};
 ghost use Rattle.op_law.specs.Behind.{blocks_alone};
 
+use base_words::Block;
 use fx_quota::row;
-use vol_words::Block;
 
 // Whether row j, which counts from 0 through all of these blocks, is not active.
 fn is_free(quota: &[(u32, Block)], j: u32) -> bool

@@ -7,17 +7,18 @@ ghost use Rattle.vol_parts.specs.Parts.{IsGeometry};
 ghost use Rattle.op_law.specs.declared.need.Need.TheVariants as need;
 ghost use Rattle.op_law.specs.Events.{next_of, space_of};
 ghost use Rattle.op_law.specs.Writing.{plan_of, empty_handed};
-ghost use Rattle.op_law.specs.Quotas.{is_row_of, row_place, row_write, quota_set_in, quota_set_events};
+ghost use Rattle.op_law.specs.Quotas.{row_place, row_write, quota_set_in, quota_set_events};
+ghost use Rattle.vol_spell.specs.Rows.{is_row_of};
 ghost use Rattle.op_law.specs.Behind.{goes_on_by, blocks_alone};
 
 use crate::rows::free_row;
+use base_words::Block;
 use fx_quota::Row;
 use op_law::{Listed, Need, NoMemory, Plan, Rest, Seen, Writes, refused};
-use op_parts::{owner_row, push_row, quota_seen, row_there};
+use op_steps::{owner_row, push_row, quota_seen, row_there};
 use plain_cat::{Clusters, Mode, Refusal, Reply, Stage, Uic};
 use std::alloc::Global;
 use vol_parts::Geometry;
-use vol_words::Block;
 
 // The plan that writes row j with these values.
 fn row_kept(

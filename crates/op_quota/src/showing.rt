@@ -6,9 +6,9 @@ ghost use Rattle.op_law.specs.Events.{next_of};
 ghost use Rattle.op_law.specs.Quotas.{quota_show_events};
 
 use op_law::{Listed, Need, NoMemory, Seen, answered, refused};
-use op_parts::{quota_seen, rows_seen};
+use op_steps::{quota_seen, rows_seen};
 use plain_cat::{Mode, Refusal, Reply, Uic};
-use plain_vol::row_of;
+use plain_rules::row_of;
 use std::alloc::Global;
 
 /// What a QUOTASHOW needs next. An error says that memory ran out.

@@ -1,8 +1,8 @@
 -- What the code of a RENAME looks at: an entry that was found, and the directory behind the insertion.
 use Rattle.std.proofs.Common.{◌≡◌, ◌≤◌, ◌<◌, ◌+◌, ◌-◌, ◌^◌, ◌∙◌, ℕ, zero, suc, Bool, true, false, cond, List, [], ◌∷◌, Some, None, Result, Ok, Err, length, map, take, get_or, slice_set, unwrap_or, refl, sym, ap, subst, inl, inr, arith}
 use Rattle.std.proofs.lemmas.Option.{slice_get-get_or}
-use Rattle.vol_words.specs.Fields.{Block, AreWholeBlocks}
-use Rattle.vol_words.specs.Packing.{pack, over}
+use Rattle.base_words.specs.Fields.{Block, AreWholeBlocks}
+use Rattle.base_words.specs.Packing.{pack, over}
 use Rattle.fx_dir.specs.declared.RawEnt.{RawEnt}
 use Rattle.fx_dir.specs.declared.Move.{Move}
 use Rattle.fx_dir.specs.declared.DirFault.{DirFault}
@@ -17,15 +17,15 @@ use Rattle.fx_dir.proofs.Views.{plain-view, has-view}
 use Rattle.fx_dir.proofs.Based.{long-from}
 use Rattle.fx_dir.proofs.Seeing.{inserted-each, as_new-form, as_new-ranged}
 use Rattle.fx_dir.proofs.Inserting.{inserts}
-use Rattle.blk_whole.proofs.Ranges.{read-sound}
+use Rattle.vol_parts.proofs.WholeRanges.{read-sound}
 use Rattle.plain_cat.specs.declared.entries.DirEnt.{DirEnt}
-use Rattle.plain_vol.specs.Lookups.{versions, entry_of}
-use Rattle.plain_vol.specs.Directories.{is_taken}
+use Rattle.plain_rules.specs.Lookups.{versions, entry_of}
+use Rattle.plain_rules.specs.Directories.{is_taken}
 use Rattle.vol_parts.specs.Catalogues.{plain_entries}
 use Rattle.op_law.specs.Rows.{entries_seen}
-use Rattle.op_law.specs.Moving.{raw_entry}
-use Rattle.vol_writes.proofs.EntryLists.{not_there}
-use Rattle.vol_writes.proofs.RemovalLists.{is_there, found_so}
+use Rattle.vol_spell.specs.Entries.{raw_entry}
+use Rattle.vol_spell.proofs.EntryLists.{not_there}
+use Rattle.vol_spell.proofs.RemovalLists.{is_there, found_so}
 
 -- ---- the entry that was found
 

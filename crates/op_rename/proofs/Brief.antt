@@ -1,7 +1,7 @@
 -- The events of a RENAME, and how much it needs and writes.
 use Rattle.std.proofs.Common.{◌≡◌, ◌≤◌, ℕ, Bool, true, false, cond, List, Option, Some, None, length, refl, sym, subst, arith, length-append}
 use Rattle.std.specs.Prelude.{nat_le}
-use Rattle.vol_words.specs.Fields.{Block}
+use Rattle.base_words.specs.Fields.{Block}
 use Rattle.fx_dir.proofs.Changing.{length-written}
 use Rattle.plain_cat.specs.declared.ids.Fid.{Fid}
 use Rattle.plain_cat.specs.declared.mode.Mode.TheVariants.{PW}
@@ -10,10 +10,10 @@ use Rattle.plain_cat.specs.declared.command.Cmd.TheVariants as cmd
 use Rattle.plain_cat.specs.declared.history.Stage.TheVariants as stage
 use Rattle.plain_cat.specs.declared.reply.Refusal.TheVariants as refusal
 use Rattle.plain_cat.specs.declared.cat.Cat.{Cat}
-use Rattle.plain_vol.specs.Lookups.{versions, entry_of}
-use Rattle.plain_vol.specs.Directories.{entry, new_version}
-use Rattle.plain_vol.specs.Answers.{first_refusal}
-use Rattle.vol_owners.specs.Owners.{Owners}
+use Rattle.plain_rules.specs.Lookups.{versions, entry_of}
+use Rattle.plain_rules.specs.Directories.{entry, new_version}
+use Rattle.plain_rules.specs.Answers.{first_refusal}
+use Rattle.vol_spell.specs.Owners.{Owners}
 use Rattle.vol_parts.specs.declared.geometry.Geometry.{Geometry}
 use Rattle.vol_spell.specs.Reading.{header_block}
 use Rattle.vol_spell.specs.Spelling.{Spells}

@@ -1,19 +1,19 @@
 -- The writes of a RENAME as a chain of steps, and what guards them.
-use Rattle.std.proofs.Common.{◌≡◌, ◌≤◌, ◌<◌, ◌+◌, ◌-◌, ◌^◌, ◌∙◌, inl, ℕ, zero, suc, Bool, true, false, cond, List, [], ◌∷◌, Some, None, length, map, slice_get, slice_set, refl, sym, ap, subst, arith}
-use Rattle.std.specs.Prelude.{◌==◌, ◌&&◌, not, nat_le}
+use Rattle.std.proofs.Common.{◌≡◌, ◌≤◌, ◌<◌, ◌-◌, ◌^◌, ◌∙◌, inl, ℕ, Bool, true, false, cond, List, [], ◌∷◌, Some, None, length, map, slice_get, slice_set, refl, sym, ap, subst, arith}
+use Rattle.std.specs.Prelude.{◌==◌, ◌&&◌, nat_le}
 use Rattle.std.proofs.lemmas.Bool.{and_parts, leb-true}
 use Rattle.std.proofs.lemmas.Bool.Decides.{nat_tests}
 use Rattle.std.proofs.lemmas.List.{append-nil}
 use Rattle.std.proofs.lemmas.Option.{slice_get_within}
-use Rattle.vol_words.specs.Fields.{Block}
-use Rattle.vol_words.specs.Names.{is_name}
+use Rattle.base_words.specs.Fields.{Block}
+use Rattle.base_words.specs.Names.{is_name}
 use Rattle.fx_header.specs.declared.slot.Hdr.{Hdr}
 use Rattle.fx_dir.specs.declared.RawEnt.{RawEnt}
 use Rattle.fx_dir.specs.Lists.{Each}
 use Rattle.fx_dir.specs.Writing.{IsInForm, IsRanged}
 use Rattle.fx_dir.specs.Moves.{removal, packing_writes}
 use Rattle.fx_dir.proofs.Based.{read-order}
-use Rattle.blk_whole.proofs.Ranges.{read-sound}
+use Rattle.vol_parts.proofs.WholeRanges.{read-sound}
 use Rattle.lock_db.specs.declared.name.LockName.{LockName}
 use Rattle.lock_db.specs.declared.name.LockName.TheVariants.{S}
 use Rattle.plain_cat.specs.InForm.{is_version}
@@ -27,13 +27,13 @@ use Rattle.plain_cat.specs.declared.cat.Cat.{Cat}
 use Rattle.plain_cat.specs.declared.cat.File.{File}
 use Rattle.plain_cat.specs.declared.cat.Slot.{Slot}
 use Rattle.plain_cat.specs.declared.cat.Slot.TheVariants as slot
-use Rattle.plain_vol.specs.Lookups.{file_at, file_in, versions, highest, entry_of}
-use Rattle.plain_vol.specs.Directories.{inserted, without, fits, nowhere, entry, new_version, is_last_version, is_taken}
-use Rattle.plain_vol.specs.Changes.{with_slot, with_entries}
-use Rattle.plain_vol.specs.Answers.{first_refusal}
-use Rattle.vol_owners.specs.Lists.{written}
-use Rattle.vol_owners.specs.Owners.{Owners, Things, nothing, Outs}
-use Rattle.vol_owners.proofs.Writing.{get-set_here}
+use Rattle.plain_rules.specs.Lookups.{file_at, file_in, versions, entry_of}
+use Rattle.plain_rules.specs.Directories.{inserted, without, fits, nowhere, entry, new_version, is_taken}
+use Rattle.plain_rules.specs.Changes.{with_slot, with_entries}
+use Rattle.plain_rules.specs.Answers.{first_refusal}
+use Rattle.base_words.specs.Lists.{written}
+use Rattle.vol_spell.specs.Owners.{Owners, Things, nothing, Outs}
+use Rattle.base_words.proofs.ListWrites.{get-set_here}
 use Rattle.vol_parts.specs.declared.geometry.Geometry.{Geometry}
 use Rattle.vol_parts.specs.Catalogues.{plain_entry}
 use Rattle.vol_spell.specs.Spelling.{Spells}
@@ -49,29 +49,25 @@ use Rattle.op_law.proofs.Naming.{both_named, both_leave, no_header_leaves}
 use Rattle.op_law.proofs.Refusals.{passed}
 use Rattle.op_law.proofs.Ends.{outs_behind, stage_behind}
 use Rattle.op_law.proofs.RemovalEnds.{removal_outs, removal_stage}
-use Rattle.op_writes.specs.Chained.{Chain, StepsOf, after_writes, StandsOn}
-use Rattle.vol_writes.specs.Entries.{blocks_of, CanBeEntered, CanBeRemoved}
-use Rattle.op_writes.specs.EntryWrites.{dir_in}
-use Rattle.op_writes.proofs.Chaining.{live_at}
-use Rattle.vol_writes.proofs.EntryDirs.{IsDirAt, dir_at, dir_lists, used_at}
-use Rattle.op_writes.proofs.EntryRooms.{room_alike}
-use Rattle.op_writes.proofs.EntrySteps.{entry_steps, entry_leaves, entry_guards, entry_no_header}
-use Rattle.vol_writes.proofs.RemovalLists.{found_there, found_so}
-use Rattle.op_writes.proofs.RemovalSteps.{removal_steps, removal_moved, removal_guards, removal_no_header}
+use Rattle.op_steps.specs.Chained.{Chain, StepsOf, after_writes, StandsOn}
+use Rattle.vol_spell.specs.Entries.{blocks_of, CanBeEntered, CanBeRemoved}
+use Rattle.op_steps.specs.EntryWrites.{dir_in}
+use Rattle.op_steps.proofs.Chaining.{live_at}
+use Rattle.vol_spell.proofs.EntryDirs.{IsDirAt, dir_at, dir_lists, used_at}
+use Rattle.plain_rules.proofs.Rooms.{room_of_any}
+use Rattle.op_steps.proofs.EntrySteps.{entry_steps, entry_leaves, entry_guards, entry_no_header}
+use Rattle.vol_spell.proofs.RemovalLists.{found_there, found_so}
+use Rattle.op_steps.proofs.RemovalSteps.{removal_steps, removal_moved, removal_guards, removal_no_header}
 use Rattle.op_rename.specs.Kinds.{IsRename}
 use Rattle.op_rename.proofs.Orders.{still_there, is_other, one_out_one_in}
 use Rattle.op_rename.proofs.Outcomes.{new_in, both_for, after_for, stands_both, stands_done}
-
--- ---- slots
-
-set_twice : {A : Type 0} (xs : List A) (k : ℕ) (a b : A) → slice_set (slice_set xs k a) k b ≡ slice_set xs k b
-set_twice [] k a b = refl
-set_twice (x ∷ xs) zero a b = refl
-set_twice (x ∷ xs) (suc k) a b = ap (λ ys. x ∷ ys) (set_twice xs k a b)
+use Rattle.op_law.proofs.Versions.{version_from, version_to}
+use Rattle.base_words.proofs.Booleans.{not_false}
+use Rattle.vol_spell.proofs.EntryMoves.{set_again}
 
 -- a directory whose entries change twice
 entries_twice : (c : Cat) (n : ℕ) (d : File) (es fs : List DirEnt) → with_entries (with_entries c n d es) n (record d { entries = es }) fs ≡ with_entries c n d fs
-entries_twice c n d es fs = ap (λ (ss : List Slot). record c { files = ss }) (set_twice c.files (n - 1) (slot.Used (record d { entries = es })) (slot.Used (record d { entries = fs })))
+entries_twice c n d es fs = ap (λ (ss : List Slot). record c { files = ss }) (set_again c.files (n - 1) (slot.Used (record d { entries = es })) (slot.Used (record d { entries = fs })))
 
 -- the file of a slot that was written
 file_there : (c : Cat) (n : ℕ) (d f : File) → 1 ≤ n → file_at c n ≡ Some d → file_at (with_slot c n (slot.Used f)) n ≡ Some f
@@ -79,24 +75,6 @@ file_there c n d f from at = by_zero (n == 0) refl where
   by_zero : (t : Bool) → (n == 0) ≡ t → file_in (cond t None (slice_get (slice_set c.files (n - 1) (slot.Used f)) (n - 1))) ≡ Some f
   by_zero true e = absurd (let z : n ≡ 0 = grind (arith, nat_tests) in omega arith)
   by_zero false e = ap file_in (get-set_here c.files (n - 1) (slot.Used f) (slice_get_within c.files (n - 1) (slot.Used d) (used_at c n d at)))
-
--- ---- versions and rooms
-
-version_from : (ver : ℕ) (es : List DirEnt) → 1 ≤ new_version ver es
-version_from ver es = by_test (ver == 0) refl where
-  by_test : (t : Bool) → (ver == 0) ≡ t → 1 ≤ cond t (highest es + 1) ver
-  by_test true e = omega arith
-  by_test false e = grind (arith, nat_tests)
-
-version_to : (ver : ℕ) (es : List DirEnt) → ver ≤ 32767 → is_last_version ver es ≡ false → new_version ver es ≤ 32767
-version_to ver es to last = by_test (ver == 0) last where
-  by_test : (t : Bool) → (t && nat_le 32767 (highest es)) ≡ false → cond t (highest es + 1) ver ≤ 32767
-  by_test true e = grind (arith, nat_tests)
-  by_test false e = to
-
-not_false : (t : Bool) → not t ≡ false → t ≡ true
-not_false true e = refl
-not_false false e = absurd (cc)
 
 -- a new name and version within the limits of the format, which is not there and has room
 pub record IsInOrder (g : Geometry) (to : List ℕ) (v : ℕ) (es : List DirEnt) : Type 0 where
@@ -201,7 +179,7 @@ module _ (node : ℕ) (g : Geometry) (bs : List Block) (own : Owners) (c : Cat) 
       num = numbered;
       seq = sequence;
       new = form.new;
-      room = room_alike g.cluster to (new_version to_ver (versions to d.entries)) e.fid nowhere d.entries ∙ form.room;
+      room = room_of_any g.cluster to (new_version to_ver (versions to d.entries)) e.fid nowhere d.entries ∙ form.room;
     }
 
     -- the directory with both entries

@@ -1,7 +1,7 @@
 -- RENAME obeys the law.
 use Rattle.std.proofs.Common.{◌≡◌, ◌∙◌, inl, inr, ℕ, Bool, true, false, cond, List, [], ◌∷◌, Option, Some, None, map, refl, sym, ap, subst}
 use Rattle.std.specs.Prelude.{nat_le}
-use Rattle.vol_words.specs.Fields.{Block}
+use Rattle.base_words.specs.Fields.{Block}
 use Rattle.fx_header.specs.declared.slot.Hdr.{Hdr}
 use Rattle.lock_db.specs.declared.name.LockName.{LockName}
 use Rattle.lock_db.specs.declared.name.LockName.TheVariants.{S}
@@ -17,10 +17,10 @@ use Rattle.plain_cat.specs.declared.reply.Refusal.{Refusal}
 use Rattle.plain_cat.specs.declared.reply.Refusal.TheVariants as refusal
 use Rattle.plain_cat.specs.declared.cat.Cat.{Cat}
 use Rattle.plain_cat.specs.declared.cat.File.{File}
-use Rattle.plain_vol.specs.Lookups.{versions, entry_of}
-use Rattle.plain_vol.specs.Directories.{entry, new_version}
-use Rattle.plain_vol.specs.Answers.{first_refusal, Answer}
-use Rattle.vol_owners.specs.Owners.{Owners, Things, nothing, Outs}
+use Rattle.plain_rules.specs.Lookups.{versions, entry_of}
+use Rattle.plain_rules.specs.Directories.{entry, new_version}
+use Rattle.plain_rules.specs.Answers.{first_refusal, Answer}
+use Rattle.vol_spell.specs.Owners.{Owners, Things, nothing, Outs}
 use Rattle.vol_parts.specs.declared.geometry.Geometry.{Geometry}
 use Rattle.vol_spell.specs.Spelling.{Spells}
 use Rattle.vol_under.specs.Chains.{Replied}
@@ -42,7 +42,7 @@ use Rattle.op_law.proofs.Doing.{busy, IsShaped, IsDone, refusal_done}
 use Rattle.op_law.proofs.Ends.{EndsBy, nothing_given}
 use Rattle.op_law.proofs.RemovalEnds.{LeaveNothing, both_leave_nothing, nothing_left, nothing_kept, insertion_leaves_nothing, removal_leaves_nothing}
 use Rattle.op_law.proofs.Spaceless.{spaceless_lawful}
-use Rattle.op_writes.specs.EntryWrites.{dir_in}
+use Rattle.op_steps.specs.EntryWrites.{dir_in}
 use Rattle.op_rename.specs.Kinds.{IsRename, rename_in}
 use Rattle.op_rename.proofs.Brief.{rename_events_are, rename_brief}
 use Rattle.op_rename.proofs.Outcomes.{after_for, refuses_none, refuses_plain, refuses_missing, refuses_kept, refuses_shown, renames_answer, stands_done}

@@ -8,12 +8,12 @@ use Rattle.fx_dir.specs.Entries.{same, before, rises, without as without_raw}
 use Rattle.fx_dir.specs.Moves.{inserted as inserted_raw, key}
 use Rattle.fx_dir.proofs.Order.{and_cases, both, before-trans, bytes_is, eqb_eq}
 use Rattle.plain_cat.specs.declared.entries.DirEnt.{DirEnt}
-use Rattle.plain_vol.specs.Lookups.{versions, first_with}
-use Rattle.plain_vol.specs.Directories.{before as listed_before, inserted, is_entry, without, is_taken}
+use Rattle.plain_rules.specs.Lookups.{versions, first_with}
+use Rattle.plain_rules.specs.Directories.{before as listed_before, inserted, is_entry, without, is_taken}
 use Rattle.vol_parts.specs.Catalogues.{plain_entry}
-use Rattle.op_law.specs.Moving.{raw_entry}
-use Rattle.vol_writes.proofs.EntryLists.{inserted_plain}
-use Rattle.vol_writes.proofs.RemovalLists.{same_alike, without_plain}
+use Rattle.vol_spell.specs.Entries.{raw_entry}
+use Rattle.vol_spell.proofs.EntryLists.{inserted_plain}
+use Rattle.vol_spell.proofs.RemovalLists.{same_alike, without_plain}
 
 -- ---- what is there stays where another is entered
 

@@ -12,20 +12,17 @@ use Rattle.plain_cat.specs.declared.reply.Refusal.{Refusal}
 use Rattle.plain_cat.specs.declared.reply.Refusal.TheVariants as refusal
 use Rattle.plain_cat.specs.declared.cat.Cat.{Cat}
 use Rattle.plain_cat.specs.declared.cat.File.{File}
-use Rattle.plain_vol.specs.declared.outcome.Outcome.{Outcome}
-use Rattle.plain_vol.specs.Lookups.{live, versions, entry_of}
-use Rattle.plain_vol.specs.Directories.{inserted, without, entry, new_version}
-use Rattle.plain_vol.specs.Changes.{with_entries}
-use Rattle.plain_vol.specs.Answers.{refused, first_refusal, unless, in_directory_file, with_entry, rename_refusal, renamed, rename_outcome, outcome, Answer}
-use Rattle.plain_vol.specs.Stages.{renaming_stage, rename_stage, command_stage, stage_of, staged}
-use Rattle.plain_vol.proofs.LawSteps.{pick_exists}
+use Rattle.plain_rules.specs.declared.outcome.Outcome.{Outcome}
+use Rattle.plain_rules.specs.Lookups.{live, versions, entry_of}
+use Rattle.plain_rules.specs.Directories.{inserted, without, entry, new_version}
+use Rattle.plain_rules.specs.Changes.{with_entries}
+use Rattle.plain_rules.specs.Answers.{refused, first_refusal, unless, in_directory_file, with_entry, rename_refusal, renamed, rename_outcome, outcome, Answer}
+use Rattle.plain_rules.specs.Stages.{renaming_stage, rename_stage, command_stage, stage_of, staged}
+use Rattle.plain_rules.proofs.LawSteps.{pick_exists}
 use Rattle.vol_parts.specs.declared.geometry.Geometry.{Geometry}
 use Rattle.vol_under.specs.UnderWay.{StandsAt}
 use Rattle.op_law.specs.Moving.{is_full, rename_refusals}
-
--- a geometry with another cluster factor
-abbrev with_factor : Geometry → ℕ → Geometry
-with_factor g w = record g { cluster = w }
+use Rattle.vol_parts.proofs.Factors.{with_factor}
 
 module _ (g : Geometry) (c : Cat) (factor : c.factor ≡ g.cluster) (node : ℕ) (dir : Fid) (name : List ℕ) (ver : ℕ) (to : List ℕ) (to_ver : ℕ) where
   abbrev x : Cmd

@@ -1,12 +1,12 @@
 -- The command that gives an entry another name and version.
 use Rattle.std.specs.Prelude.{◌≡◌, ◌&&◌, true, ℕ, List}
-use Rattle.vol_words.specs.Names.{is_name}
+use Rattle.base_words.specs.Names.{is_name}
 use Rattle.plain_cat.specs.InForm.{is_version}
 use Rattle.plain_cat.specs.declared.command.Cmd.{Cmd}
 use Rattle.plain_cat.specs.declared.command.Cmd.TheVariants.{Rename}
-use Rattle.plain_vol.specs.Lookups.{versions, entry_of}
-use Rattle.plain_vol.specs.Directories.{new_version}
-use Rattle.plain_vol.specs.Answers.{first_refusal}
+use Rattle.plain_rules.specs.Lookups.{versions, entry_of}
+use Rattle.plain_rules.specs.Directories.{new_version}
+use Rattle.plain_rules.specs.Answers.{first_refusal}
 use Rattle.vol_parts.specs.declared.geometry.Geometry.{Geometry}
 use Rattle.op_law.specs.Events.{Events}
 use Rattle.op_law.specs.Refusing.{unless_refused, if_entry}

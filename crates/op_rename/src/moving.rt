@@ -1,21 +1,22 @@
 //! The writes of a RENAME: the new name is entered, and then the old one is removed.
 
 ghost use Rattle.std.specs.Prelude.{◌≡◌, ◌<◌, ◌^◌, true, false, IfOk};
-ghost use Rattle.vol_words.specs.Fields.{AreWholeBlocks};
+ghost use Rattle.base_words.specs.Fields.{AreWholeBlocks};
 ghost use Rattle.fx_dir.specs.Writing.{IsInForm};
 ghost use Rattle.fx_dir.specs.Moves.{written};
-ghost use Rattle.plain_vol.specs.Lookups.{versions};
-ghost use Rattle.plain_vol.specs.Directories.{is_taken};
-ghost use Rattle.op_law.specs.Moving.{raw_entry, entries_of, rename_writes};
+ghost use Rattle.plain_rules.specs.Lookups.{versions};
+ghost use Rattle.plain_rules.specs.Directories.{is_taken};
+ghost use Rattle.op_law.specs.Moving.{entries_of, rename_writes};
+ghost use Rattle.vol_spell.specs.Entries.{raw_entry};
 ghost use Rattle.op_law.specs.Behind.{blocks_alone};
-ghost use Rattle.op_parts.specs.Names.{dir_seen, IsReadable};
+ghost use Rattle.op_steps.specs.Names.{dir_seen, IsReadable};
 
+use base_words::Block;
 use fx_dir::Move;
 use op_law::{NoMemory, Writes, blocks_of};
-use op_parts::{DirSeen, insertion_moves, push_moves, push_removal};
+use op_steps::{DirSeen, insertion_moves, push_moves, push_removal};
 use plain_cat::{Blocks, DirEnt, Stage};
 use std::alloc::Global;
-use vol_words::Block;
 
 // The blocks of a directory after moves.
 fn moved(alloc: Global, blocks: &[(u32, Block)], moves: &[Move]) -> Result<Blocks, NoMemory>

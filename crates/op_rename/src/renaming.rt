@@ -1,12 +1,12 @@
 //! What a RENAME needs next.
 
 ghost use Rattle.std.specs.Prelude.{◌≡◌, ◌≤◌, ◌<◌, ◌^◌, true, false, IfOk, OnOk};
-ghost use Rattle.vol_words.specs.Fields.{AreWholeBlocks};
-ghost use Rattle.vol_words.specs.Names.{is_name};
+ghost use Rattle.base_words.specs.Fields.{AreWholeBlocks};
+ghost use Rattle.base_words.specs.Names.{is_name};
 ghost use Rattle.plain_cat.specs.declared.reply.Reply.TheVariants as reply;
-ghost use Rattle.plain_vol.specs.Lookups.{versions};
-ghost use Rattle.plain_vol.specs.Directories.{entry, is_taken};
-ghost use Rattle.plain_vol.specs.Answers.{first_refusal};
+ghost use Rattle.plain_rules.specs.Lookups.{versions};
+ghost use Rattle.plain_rules.specs.Directories.{entry, is_taken};
+ghost use Rattle.plain_rules.specs.Answers.{first_refusal};
 ghost use Rattle.vol_parts.specs.Parts.{IsGeometry};
 ghost use Rattle.op_law.specs.declared.seeing.Rest.{Rest};
 ghost use Rattle.op_law.specs.Events.{Space, next_of};
@@ -14,17 +14,16 @@ ghost use Rattle.op_law.specs.Writing.{plan_of};
 ghost use Rattle.op_law.specs.Moving.{entries_of, rename_refusals, rename_writes, rename_events};
 ghost use Rattle.op_law.specs.Behind.{goes_on_by, blocks_alone};
 ghost use Rattle.op_law.specs.Readable.{HeadIsInside};
-ghost use Rattle.op_parts.specs.Names.{dir_seen, IsReadable};
+ghost use Rattle.op_steps.specs.Names.{dir_seen, IsReadable};
 ghost use Rattle.op_rename.specs.Kinds.{rename_in};
 
 use crate::moving::rename_writes;
-use blk_whole::blocks_are_whole;
 use op_law::{Need, NoMemory, Plan, Seen, blocks_of, entries_seen, refused};
-use op_parts::{DirSeen, Names, entry_found, is_full, names_seen, new_version};
+use op_steps::{DirSeen, Names, entry_found, is_full, names_seen, new_version};
 use plain_cat::{DirEnt, DirEnts, Fid, Name, Refusal, Reply};
-use plain_vol::{highest, with_version};
+use plain_rules::{highest, with_version};
 use std::alloc::Global;
-use vol_parts::Geometry;
+use vol_parts::{Geometry, blocks_are_whole};
 
 // Why an entry does not get this name and version, if it does not. An error says that memory ran out.
 fn rename_refusal(

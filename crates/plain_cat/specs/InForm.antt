@@ -1,7 +1,7 @@
 -- The limits of the numbers, names and texts of a command, a line and a script.
 use Rattle.std.specs.Prelude.{◌≤◌, ◌&&◌, ◌||◌, ℕ, Bool, true, false, List, All, IsTrue, length, map, leb, nat_eq}
 use Rattle.std.specs.List.{list_all, IsDistinct}
-use Rattle.vol_words.specs.Names.{is_part, is_name}
+use Rattle.base_words.specs.Names.{is_part, is_name}
 use Rattle.plain_cat.specs.declared.ids.Fid.{Fid}
 use Rattle.plain_cat.specs.declared.ids.Uic.{Uic}
 use Rattle.plain_cat.specs.declared.mode.Mode.{Mode}
@@ -34,7 +34,7 @@ is_dir_name bytes = leb 1 (length bytes) && is_part bytes
 abbrev pub is_text : List ℕ → Bool
 is_text bytes = is_within 1 16 (length bytes) && list_all is_text_char bytes
 
--- a register or a channel
+-- the number of a register, a channel or a node
 abbrev pub is_eighth : ℕ → Bool
 is_eighth n = is_within 1 8 n
 

@@ -1,3 +1,4 @@
 pub mod Modes
 pub mod Spared
 pub mod InForm
+pub mod Names

@@ -2,7 +2,7 @@
 //! locks or caches.
 //!
 //! A `Cat` is the catalogue of a volume: its files, quota rows and open channels. A `Cmd` is a command, a `Reply` its answer, an
-//! `Entry` of a `History` an answer, a death or a mending. `plain_vol` says what a command answers.
+//! `Entry` of a `History` an answer, a death or a mending. `plain_rules` says what a command answers.
 //!
 //! ```text
 //! let mut name = Name::new(alloc);
@@ -12,6 +12,8 @@
 //! Contracts see each list as the list of its items, and each call says exactly what is in it afterwards. After a `push` or an
 //! `insert` that had no memory the list is as before; an `append` uses room that was made before, and takes no memory.
 //! `compatible` is the table of lock modes.
+//!
+//! All crates above the formats use it.
 #![tactic(auto)]
 
 use std::alloc::AllocError;

@@ -13,11 +13,12 @@ use Rattle.plain_cat.specs.declared.cat.Slot.{Slot}
 use Rattle.plain_cat.specs.declared.cat.Slot.TheVariants.{Used, Free}
 use Rattle.plain_cat.specs.declared.cat.Open.{Open}
 use Rattle.plain_cat.specs.declared.cat.QuotaRow.{QuotaRow}
-use Rattle.plain_vol.specs.declared.places.Place.{Place}
-use Rattle.plain_vol.specs.Lookups.{file_at}
-use Rattle.plain_vol.specs.Mending.{places, is_own, is_first, stays, less_entries, each_from, without_opens, without_entries, is_empty, is_named, is_lost_slot, numbers_from, lost, enter_all, enter_some, with_lost, gone_slot, without_gone, without_leaks, summed_row, with_sums, is_used, is_true, counts, put_right, mended}
+use Rattle.plain_rules.specs.declared.places.Place.{Place}
+use Rattle.plain_rules.specs.Lookups.{file_at}
+use Rattle.plain_rules.specs.Mending.{places, is_own, is_first, stays, less_entries, each_from, without_opens, without_entries, is_empty, is_named, is_lost_slot, numbers_from, lost, enter_all, enter_some, with_lost, gone_slot, without_gone, without_leaks, summed_row, with_sums, is_used, is_true, counts, put_right, mended}
 use Rattle.plain_laws.specs.Clearing.{IsUnmarked, Cleared, AreNamed, KeepsNames, AreOwned, nothing_done}
-use Rattle.plain_laws.proofs.Members.{Has, filter_all}
+use Rattle.base_words.specs.Lists.{Has}
+use Rattle.base_words.proofs.Listing.{filter_all}
 use Rattle.plain_laws.proofs.Standing.{file_from, each_same, Alive}
 use Rattle.plain_laws.proofs.Places.{In, in_from, in_to, first_to, Names}
 use Rattle.plain_laws.proofs.Steps.{stays_from, kept_from, kept_to, mends_from}
@@ -69,12 +70,12 @@ less_none z h = each_same (less_entries z) 1 z.files keeps where
       let same = filter_all (λ e. stays z (record { dir = 1 + i; entry = e })) f.entries (λ e has. h (1 + i) f e stands has) in
       ap (λ (es : List DirEnt). Used (record f { entries = es })) same
 
-map_const : {X : Type 0} (y : X) (xs : List X) → All (λ x. x ≡ y) xs → map (λ (x : X). y) xs ≡ xs
+pub map_const : {X : Type 0} (y : X) (xs : List X) → All (λ x. x ≡ y) xs → map (λ (x : X). y) xs ≡ xs
 map_const y [] h = refl
 map_const {X} y (x ∷ xs) h =
     ap (λ (z : X). z ∷ map (λ (x : X). y) xs) (sym (All-head (λ x. x ≡ y) x xs h)) ∙ ap (λ zs. x ∷ zs) (map_const y xs (All-tail (λ x. x ≡ y) x xs h))
 
-map_same : {X : Type 0} (g : X → X) (xs : List X) → All (λ x. g x ≡ x) xs → map g xs ≡ xs
+pub map_same : {X : Type 0} (g : X → X) (xs : List X) → All (λ x. g x ≡ x) xs → map g xs ≡ xs
 map_same g [] h = refl
 map_same {X} g (x ∷ xs) h =
     ap (λ (z : X). z ∷ map g xs) (All-head (λ x. g x ≡ x) x xs h) ∙ ap (λ zs. x ∷ zs) (map_same g xs (All-tail (λ x. g x ≡ x) x xs h))
@@ -157,7 +158,7 @@ mended_is c a b d first second third =
     let whole : mended c ≡ Some (put_right b, counts c a b (put_right b)) = subst P (sym first) (λ h. rw h refl) second in
     whole ∙ ap (λ (x : Cat). Some (x, counts c a b x)) (sym third)
 
-none_true : (bs : List Bool) → All (λ b. b ≡ false) bs → count_by is_true bs ≡ 0
+pub none_true : (bs : List Bool) → All (λ b. b ≡ false) bs → count_by is_true bs ≡ 0
 none_true bs h =
     let few : count_by is_true bs ≤ length bs * 0 = sum_by-le (λ b. cond (is_true b) 1 0) 0 bs (λ k d lt. zero_if (get_or bs k d) (h k d lt)) in
     omega (arith, few) where

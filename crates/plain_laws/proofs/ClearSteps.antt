@@ -12,19 +12,20 @@ use Rattle.plain_cat.specs.declared.cat.Slot.{Slot}
 use Rattle.plain_cat.specs.declared.cat.Slot.TheVariants.{Used, Free}
 use Rattle.plain_cat.specs.declared.cat.Open.{Open}
 use Rattle.plain_cat.specs.declared.cat.QuotaRow.{QuotaRow}
-use Rattle.plain_vol.specs.declared.places.Place.{Place}
-use Rattle.plain_vol.specs.Lookups.{file_at}
-use Rattle.plain_vol.specs.Directories.{is_nil}
-use Rattle.plain_vol.specs.Accounts.{charge}
-use Rattle.plain_vol.specs.Mending.{places, is_own, is_first, each_from, without_opens, without_entries, is_empty, is_named, is_lost_slot, lost, with_lost, is_gone, gone_slot, without_gone, without_leaks, summed_row, put_right, mended}
+use Rattle.plain_rules.specs.declared.places.Place.{Place}
+use Rattle.plain_rules.specs.Lookups.{file_at}
+use Rattle.plain_rules.specs.Directories.{is_nil}
+use Rattle.plain_rules.specs.Accounts.{charge}
+use Rattle.plain_rules.specs.Mending.{places, is_own, is_first, each_from, without_opens, without_entries, is_empty, is_named, is_lost_slot, lost, with_lost, is_gone, gone_slot, without_gone, without_leaks, summed_row, put_right, mended}
 use Rattle.plain_laws.specs.Clearing.{IsUnmarked, Cleared, AreNamed, HasOwnEntry, KeepsNames}
-use Rattle.plain_vol.proofs.Standing.{stands_at}
-use Rattle.plain_laws.proofs.Members.{Has, has_from, has_to, has_left}
+use Rattle.plain_rules.proofs.Standing.{stands_at}
+use Rattle.base_words.specs.Lists.{Has}
+use Rattle.base_words.proofs.Listing.{has_from, has_to, has_first}
 use Rattle.plain_laws.proofs.Standing.{number_rises, Alive}
 use Rattle.plain_laws.proofs.Places.{In, in_from, in_to, Names, names_from, names_to}
 use Rattle.plain_laws.proofs.Steps.{Like, SameFiles, like_left, less_same, in_less, less_in_to, stays_from, Entered, entered_same, new_place, entered_in, entered_new, all_on, some_on, both_from, lost_on, kept_from, kept_to, mends_from, number_has}
 
-kept_opens : (a b : Cat) → with_lost a ≡ Some b → b.opens ≡ a.opens
+pub kept_opens : (a b : Cat) → with_lost a ≡ Some b → b.opens ≡ a.opens
 kept_opens a b h = lost_on (λ ns x. x.opens ≡ a.opens) (λ m ms x y e p. e.opens ∙ p) (λ m ms x p. p) a b h refl
 
 unmarked_if : (c : Cat) (n : ℕ) (b m : Bool) (f : File) → m || b ≡ false → m ≡ false
@@ -108,7 +109,7 @@ lost_named : (a b : Cat) (m : ℕ) (f : File) → with_lost a ≡ Some b → ((g
 lost_named a b m f h dir at has =
     let t = both_from a b h in
     let first : Ready a m fid [] t.middle =
-    all_on (Ready a m fid) step (lost a false) [] a t.middle t.first (λ n. refl, inr (has_left (lost a false) [] m has)) in
+    all_on (Ready a m fid) step (lost a false) [] a t.middle t.first (λ n. refl, inr (has_first (lost a false) [] m has)) in
     let named : Names t.middle fid = done t.middle first.1 in
     subst (λ (z : Cat). Names z fid) t.second
     (some_on (λ ns x. Names x fid) (λ k ms x y e n. entered_names x y k fid e n) (λ k ms x n. n) (lost a true) t.middle named) where
@@ -140,7 +141,7 @@ own_names c n f few at free (p, has, own, fid) =
       same = fid;
     }
 
-not_nil : (es : List DirEnt) (e : DirEnt) → Has es e → is_nil es ≡ false
+pub not_nil : (es : List DirEnt) (e : DirEnt) → Has es e → is_nil es ≡ false
 not_nil [] e h = absurd h
 not_nil (x ∷ xs) e h = refl
 

@@ -15,15 +15,15 @@ use Rattle.plain_cat.specs.declared.cat.Slot.{Slot}
 use Rattle.plain_cat.specs.declared.cat.Slot.TheVariants.{Used, Free}
 use Rattle.plain_cat.specs.declared.cat.Open.{Open}
 use Rattle.plain_cat.specs.declared.cat.QuotaRow.{QuotaRow}
-use Rattle.plain_vol.specs.declared.outcome.Outcome.{Outcome}
-use Rattle.plain_vol.specs.Lookups.{slot_at, last_seq, file_at, in_use, live, versions, entry_of, channel_at, row_of, clusters_in, free_clusters, is_free_number}
-use Rattle.plain_vol.specs.Directories.{inserted, without, entry, new_version}
-use Rattle.plain_vol.specs.Changes.{in_clusters, cost, with_slot, with_file, with_entries, charged, new_fid, new_file, new_dir, grown, cut, marked_up, written, with_channel}
-use Rattle.plain_vol.specs.Answers.{first_refusal, unless, in_directory_file, lookup_outcome, list_outcome, stat_of, stat_outcome, create_checks, create_refusal, create_made, create_outcome, dir_name, mkdir_checks, mkdir_refusal, mkdir_made, mkdir_outcome, extend_checks, extend_refusal, extend_of, extend_outcome, trunc_of, trunc_outcome, less_entry, entered, unnamed, with_entry, delete_outcome, rename_refusal, rename_outcome, open_of, open_outcome, closed, close_of, close_outcome, read_of, read_open, read_outcome, write_of, write_open, write_outcome, quota_set_of, quota_set_outcome, quota_shown, quota_show_outcome, outcome, IsPick}
+use Rattle.plain_rules.specs.declared.outcome.Outcome.{Outcome}
+use Rattle.plain_rules.specs.Lookups.{slot_at, last_seq, file_at, in_use, live, versions, entry_of, channel_at, row_of, clusters_in, free_clusters, is_free_number}
+use Rattle.plain_rules.specs.Directories.{inserted, without, entry, new_version}
+use Rattle.plain_rules.specs.Changes.{in_clusters, cost, with_slot, with_file, with_entries, charged, new_fid, new_file, new_dir, grown, cut, marked_up, written, with_channel}
+use Rattle.plain_rules.specs.Answers.{first_refusal, unless, in_directory_file, lookup_outcome, list_outcome, stat_of, stat_outcome, create_checks, create_refusal, create_made, create_outcome, dir_name, mkdir_checks, mkdir_refusal, mkdir_made, mkdir_outcome, extend_checks, extend_refusal, extend_of, extend_outcome, trunc_of, trunc_outcome, less_entry, entered, unnamed, with_entry, delete_outcome, rename_refusal, rename_outcome, open_of, open_outcome, closed, close_of, close_outcome, read_of, read_open, read_outcome, write_of, write_open, write_outcome, quota_set_of, quota_set_outcome, quota_shown, quota_show_outcome, outcome, IsPick}
 use Rattle.plain_laws.specs.Fitting.{Fits}
-use Rattle.plain_vol.proofs.Picks.{pick_is_free}
-use Rattle.plain_vol.proofs.Standing.{stands_at, stands_in_use, stands_live, stands_free}
-use Rattle.plain_vol.proofs.Kept.{get_set}
+use Rattle.plain_rules.proofs.Picks.{pick_is_free}
+use Rattle.plain_rules.proofs.Standing.{stands_at, stands_in_use, stands_live, stands_free}
+use Rattle.plain_rules.proofs.Kept.{get_set, passes, ended-clusters}
 
 -- one slot gets at most k clusters more
 sum_set : (xs : List Slot) (i j : ℕ) (old s : Slot) (k : ℕ) → slice_get xs i ≡ Some old → clusters_in s ≤ clusters_in old + k
@@ -93,10 +93,6 @@ fits_in c (Some d) next a h = fits_if d.dir (next d) _ (h d refl) a
 abbrev AreFalse : List (Bool × Refusal) → Type 0
 AreFalse [] = Unit {0}
 AreFalse (check ∷ checks) = (check.0 ≡ false) × AreFalse checks
-
-passes : (t : Bool) (r : Refusal) (o : Option Refusal) → cond t (Some r) o ≡ None → (t ≡ false) × (o ≡ None)
-passes true r o h = absurd (cc h)
-passes false r o h = (refl, h)
 
 are_false : (checks : List (Bool × Refusal)) → first_refusal checks ≡ None → AreFalse checks
 are_false [] h = tt
@@ -236,12 +232,8 @@ read_open_fits : (c : Cat) (o : Option Open) (vbn : ℕ) → Fits c → Fits (re
 read_open_fits c None vbn h = h
 read_open_fits c (Some o) vbn h = read_fits c (file_at c o.file) vbn h
 
-same_clusters : (b : Bool) (f g : File) → g.clusters ≡ f.clusters → (cond b g f).clusters ≡ f.clusters
-same_clusters true f g h = h
-same_clusters false f g h = refl
-
 written-clusters : (f : File) (vbn : ℕ) (text : List ℕ) → (written f vbn text).clusters ≡ f.clusters
-written-clusters f vbn text = same_clusters _ (marked_up f vbn) _ refl ∙ same_clusters _ f _ refl
+written-clusters f vbn text = ended-clusters _ (marked_up f vbn) _ refl ∙ ended-clusters _ f _ refl
 
 write_fits : (c : Cat) (n : ℕ) (f : Option File) (vbn : ℕ) (text : List ℕ) → Fits c → ((g : File) → f ≡ Some g → slice_get c.files (n - 1) ≡ Some (Used g))
     → Fits (write_of c n f vbn text).after

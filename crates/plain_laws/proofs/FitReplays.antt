@@ -13,15 +13,15 @@ use Rattle.plain_cat.specs.declared.cat.File.{File}
 use Rattle.plain_cat.specs.declared.cat.Slot.{Slot}
 use Rattle.plain_cat.specs.declared.cat.Slot.TheVariants.{Used, Free}
 use Rattle.plain_cat.specs.declared.script.Script.{Script}
-use Rattle.plain_vol.specs.declared.outcome.Outcome.{Outcome}
-use Rattle.plain_vol.specs.Lookups.{file_at, clusters_in}
-use Rattle.plain_vol.specs.Changes.{with_entries}
-use Rattle.plain_vol.specs.Answers.{Answer}
-use Rattle.plain_vol.specs.Mending.{less_entries, each_from, without_opens, without_entries, lost, with_lost_entry, enter, enter_all, enter_some, with_lost, gone_slot, put_right, counts, mended, mended_from}
-use Rattle.plain_vol.specs.Own.{next_command}
-use Rattle.plain_vol.specs.Replaying.{MayLeak, dead, Leads, ReplaysFrom, Replays}
+use Rattle.plain_rules.specs.declared.outcome.Outcome.{Outcome}
+use Rattle.plain_rules.specs.Lookups.{file_at, clusters_in}
+use Rattle.plain_rules.specs.Changes.{with_entries}
+use Rattle.plain_rules.specs.Answers.{Answer}
+use Rattle.plain_rules.specs.Mending.{less_entries, each_from, without_opens, without_entries, lost, with_lost_entry, enter, enter_all, enter_some, with_lost, gone_slot, put_right, counts, mended, mended_from}
+use Rattle.plain_rules.specs.Own.{next_command}
+use Rattle.plain_rules.specs.Replaying.{MayLeak, dead, Leads, ReplaysFrom, Replays}
 use Rattle.plain_laws.specs.Fitting.{Fits}
-use Rattle.plain_vol.proofs.Standing.{some_map, stands_at}
+use Rattle.plain_rules.proofs.Standing.{some_map, stands_at}
 use Rattle.plain_laws.proofs.FitAnswers.{entries_fit, outcome_fits}
 use Rattle.plain_laws.proofs.FitStages.{FitsIf, staged_fits}
 

@@ -12,15 +12,15 @@ use Rattle.plain_cat.specs.declared.history.Stage.TheVariants as stage
 use Rattle.plain_cat.specs.declared.cat.Cat.{Cat}
 use Rattle.plain_cat.specs.declared.cat.File.{File}
 use Rattle.plain_cat.specs.declared.cat.Slot.TheVariants.{Used, Free}
-use Rattle.plain_vol.specs.declared.outcome.Outcome.{Outcome}
-use Rattle.plain_vol.specs.Lookups.{file_at, in_use, live, versions, entry_of, channel_at, is_open, free_clusters}
-use Rattle.plain_vol.specs.Directories.{inserted, without, entry, new_version}
-use Rattle.plain_vol.specs.Changes.{in_clusters, with_file, freed, new_fid, new_file, new_dir, cut, is_past_mark, text_block, with_block, with_channel}
-use Rattle.plain_vol.specs.Answers.{unless, in_directory_file, create_refusal, create_made, create_outcome, dir_name, mkdir_refusal, mkdir_made, mkdir_outcome, less_entry, outcome, IsPick}
-use Rattle.plain_vol.specs.Stages.{is_refusal, only_if, making_stage, create_stage, mkdir_stage, extend_stage, trunc_stage, unnaming_stage, entry_stage, delete_stage, renaming_stage, rename_stage, closing_stage, close_stage, writing_stage, write_stage, quota_stage, command_stage, shown_stage, begun, staged}
+use Rattle.plain_rules.specs.declared.outcome.Outcome.{Outcome}
+use Rattle.plain_rules.specs.Lookups.{file_at, in_use, live, versions, entry_of, channel_at, is_open, free_clusters}
+use Rattle.plain_rules.specs.Directories.{inserted, without, entry, new_version}
+use Rattle.plain_rules.specs.Changes.{in_clusters, with_file, freed, new_fid, new_file, new_dir, cut, is_past_mark, text_block, with_block, with_channel}
+use Rattle.plain_rules.specs.Answers.{unless, in_directory_file, create_refusal, create_made, create_outcome, dir_name, mkdir_refusal, mkdir_made, mkdir_outcome, less_entry, outcome, IsPick}
+use Rattle.plain_rules.specs.Stages.{is_refusal, only_if, making_stage, create_stage, mkdir_stage, extend_stage, trunc_stage, unnaming_stage, entry_stage, delete_stage, renaming_stage, rename_stage, closing_stage, close_stage, writing_stage, write_stage, quota_stage, command_stage, shown_stage, begun, staged}
 use Rattle.plain_laws.specs.Fitting.{Fits}
-use Rattle.plain_vol.proofs.Picks.{pick_is_free}
-use Rattle.plain_vol.proofs.Standing.{stands_at, stands_in_use, stands_live}
+use Rattle.plain_rules.proofs.Picks.{pick_is_free}
+use Rattle.plain_rules.proofs.Standing.{stands_at, stands_in_use, stands_live}
 use Rattle.plain_laws.proofs.FitAnswers.{less_fits, holds_less, held_fits, entries_fit, create_room, mkdir_room, placed_fits, outcome_fits}
 
 -- a catalogue, where there is one, fits

@@ -2,7 +2,6 @@ pub mod RefusalSteps
 pub mod FitAnswers
 pub mod FitStages
 pub mod FitReplays
-pub mod Members
 pub mod Standing
 pub mod Places
 pub mod Steps

@@ -9,13 +9,15 @@ use Rattle.plain_cat.specs.declared.cat.Cat.{Cat}
 use Rattle.plain_cat.specs.declared.cat.File.{File}
 use Rattle.plain_cat.specs.declared.cat.Slot.{Slot}
 use Rattle.plain_cat.specs.declared.cat.Slot.TheVariants.{Used, Free}
-use Rattle.plain_vol.specs.declared.places.Place.{Place}
-use Rattle.plain_vol.specs.Lookups.{file_at}
-use Rattle.plain_vol.specs.Directories.{before, inserted}
-use Rattle.plain_vol.specs.Mending.{entries_in, places_from, places, same_fid, same_place, system_names, is_name_of, is_own, is_first, is_named}
-use Rattle.plain_vol.proofs.Standing.{stands_at}
-use Rattle.plain_laws.proofs.Members.{Has, has_left, has_right, has_either, has_map, has_mapped, any_has, has_any}
+use Rattle.plain_rules.specs.declared.places.Place.{Place}
+use Rattle.plain_rules.specs.Lookups.{file_at}
+use Rattle.plain_rules.specs.Directories.{before, inserted}
+use Rattle.plain_rules.specs.Mending.{entries_in, places_from, places, same_fid, same_place, system_names, is_name_of, is_own, is_first, is_named}
+use Rattle.plain_rules.proofs.Standing.{stands_at}
+use Rattle.base_words.specs.Lists.{Has}
+use Rattle.base_words.proofs.Listing.{has_first, has_second, has_parted, has_map, has_mapped, any_has, has_any}
 use Rattle.plain_laws.proofs.Standing.{number_rises, file_from}
+use Rattle.plain_rules.proofs.Placing.{placed}
 
 -- an entry stands in a directory
 pub record In (c : Cat) (p : Place) : Type 0 where
@@ -23,9 +25,6 @@ pub record In (c : Cat) (p : Place) : Type 0 where
   pub at : file_at c p.dir ≡ Some file
   pub dir : file.dir ≡ true
   pub entry : Has file.entries p.entry
-
-abbrev placed : ℕ → DirEnt → Place
-placed n e = record { dir = n; entry = e }
 
 entries_if : (b : Bool) (es : List DirEnt) (e : DirEnt) → Has (cond b es []) e → (b ≡ true) × Has es e
 entries_if true es e h = (refl, h)
@@ -50,7 +49,7 @@ record Within (n : ℕ) (ss : List Slot) (p : Place) : Type 0 where
 
 from_within : (n : ℕ) (ss : List Slot) (p : Place) → Has (places_from n ss) p → Within n ss p
 from_within n [] p h = absurd h
-from_within n (s ∷ ss) p h = by_case (has_either (map (placed n) (entries_in s)) (places_from (n + 1) ss) p h) (λ k. from_within (n + 1) ss p k) where
+from_within n (s ∷ ss) p h = by_case (has_parted (map (placed n) (entries_in s)) (places_from (n + 1) ss) p h) (λ k. from_within (n + 1) ss p k) where
   by_case : Has (map (placed n) (entries_in s)) p ⊎ Has (places_from (n + 1) ss) p → (Has (places_from (n + 1) ss) p → Within (n + 1) ss p) → Within n (s ∷ ss) p
   by_case (inl k) rest =
       let m = has_mapped (placed n) (entries_in s) p k in
@@ -76,11 +75,11 @@ to_within n (s ∷ ss) zero f e at dir h =
     let k : Has (entries_in (Used f)) e = if_entries f.dir f.entries e dir h in
     let l : Has (entries_in s) e = subst (λ (x : Slot). Has (entries_in x) e) (sym same) k in
     subst (λ (m : ℕ). Has (places_from n (s ∷ ss)) (placed m e)) here
-    (has_left (map (placed n) (entries_in s)) (places_from (n + 1) ss) (placed n e) (has_map (placed n) (entries_in s) e l))
+    (has_first (map (placed n) (entries_in s)) (places_from (n + 1) ss) (placed n e) (has_map (placed n) (entries_in s) e l))
 to_within n (s ∷ ss) (suc i) f e at dir h =
     let there : n + 1 + i ≡ n + suc i = omega arith in
     subst (λ (m : ℕ). Has (places_from n (s ∷ ss)) (placed m e)) there
-    (has_right (map (placed n) (entries_in s)) (places_from (n + 1) ss) (placed (n + 1 + i) e) (to_within (n + 1) ss i f e at dir h))
+    (has_second (map (placed n) (entries_in s)) (places_from (n + 1) ss) (placed (n + 1 + i) e) (to_within (n + 1) ss i f e at dir h))
 
 pub in_from : (c : Cat) (p : Place) → Has (places c) p → In c p
 in_from c p h =
@@ -175,7 +174,7 @@ first_to p (q ∷ qs) h one = decide (same_fid q.entry.fid p.entry.fid) refl h (
       let both : false ≡ true = e ∙ same_fid-refl q.entry.fid p.entry.fid (ap (λ (x : Place). x.entry.fid) k) in absurd (cc both)
   decide false e (inr k) rest = rest k
 
-name_of : (name : List ℕ) (o : Option (List ℕ)) → is_name_of name o ≡ true → o ≡ Some name
+pub name_of : (name : List ℕ) (o : Option (List ℕ)) → is_name_of name o ≡ true → o ≡ Some name
 name_of name None h = absurd (cc h)
 name_of name (Some own) h = ap Some (sym ((bytes_eq-Decides name own).0 h))
 

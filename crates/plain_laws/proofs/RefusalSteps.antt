@@ -13,12 +13,12 @@ use Rattle.plain_cat.specs.declared.cat.Cat.{Cat}
 use Rattle.plain_cat.specs.declared.cat.File.{File}
 use Rattle.plain_cat.specs.declared.cat.Open.{Open}
 use Rattle.plain_cat.specs.declared.cat.QuotaRow.{QuotaRow}
-use Rattle.plain_vol.specs.declared.outcome.Outcome.{Outcome}
-use Rattle.plain_vol.specs.Lookups.{file_at, in_use, live, versions, entry_of, channel_at, is_open, row_of}
-use Rattle.plain_vol.specs.Changes.{in_clusters, with_file, block_of, written, with_channel, with_row}
-use Rattle.plain_vol.specs.Directories.{new_version}
-use Rattle.plain_vol.specs.Stages.{is_refusal}
-use Rattle.plain_vol.specs.Answers.{told, refused, first_refusal, is_kept, extended, truncated, removed, renamed, conflicts, is_outside, is_reading, unless, in_directory_file, with_entry, lookup_outcome, list_outcome, stat_of, stat_outcome, create_refusal, create_made, create_outcome, dir_name, mkdir_refusal, mkdir_made, mkdir_outcome, extend_refusal, extend_of, extend_outcome, trunc_of, trunc_outcome, has_entries, less_entry, unnamed, delete_outcome, rename_refusal, rename_outcome, open_of, open_outcome, closed, close_of, close_outcome, read_of, read_open, read_outcome, write_of, write_open, write_outcome, quota_set_of, quota_set_outcome, quota_shown, quota_show_outcome, outcome}
+use Rattle.plain_rules.specs.declared.outcome.Outcome.{Outcome}
+use Rattle.plain_rules.specs.Lookups.{file_at, in_use, live, versions, entry_of, channel_at, is_open, row_of}
+use Rattle.plain_rules.specs.Changes.{in_clusters, with_file, block_of, written, with_channel, with_row}
+use Rattle.plain_rules.specs.Directories.{new_version}
+use Rattle.plain_rules.specs.Stages.{is_refusal}
+use Rattle.plain_rules.specs.Answers.{told, refused, first_refusal, is_kept, extended, truncated, removed, renamed, conflicts, is_outside, is_reading, unless, in_directory_file, with_entry, lookup_outcome, list_outcome, stat_of, stat_outcome, create_refusal, create_made, create_outcome, dir_name, mkdir_refusal, mkdir_made, mkdir_outcome, extend_refusal, extend_of, extend_outcome, trunc_of, trunc_outcome, has_entries, less_entry, unnamed, delete_outcome, rename_refusal, rename_outcome, open_of, open_outcome, closed, close_of, close_outcome, read_of, read_open, read_outcome, write_of, write_open, write_outcome, quota_set_of, quota_set_outcome, quota_shown, quota_show_outcome, outcome}
 use Rattle.plain_laws.specs.Refusing.{Refuses}
 
 -- an outcome leaves the catalogue, or is no refusal

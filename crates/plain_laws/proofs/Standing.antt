@@ -9,10 +9,10 @@ use Rattle.plain_cat.specs.declared.cat.Cat.{Cat}
 use Rattle.plain_cat.specs.declared.cat.File.{File}
 use Rattle.plain_cat.specs.declared.cat.Slot.{Slot}
 use Rattle.plain_cat.specs.declared.cat.Slot.TheVariants.{Used}
-use Rattle.plain_vol.specs.Lookups.{slot_at, file_in, file_at, of_seq, in_use, unmarked, live}
-use Rattle.plain_vol.specs.Changes.{with_slot}
-use Rattle.plain_vol.specs.Mending.{each_from}
-use Rattle.plain_vol.proofs.Standing.{stands_at}
+use Rattle.plain_rules.specs.Lookups.{slot_at, file_in, file_at, of_seq, in_use, unmarked, live}
+use Rattle.plain_rules.specs.Changes.{with_slot}
+use Rattle.plain_rules.specs.Mending.{each_from}
+use Rattle.plain_rules.proofs.Standing.{stands_at}
 
 -- 0 is no number
 pub number_rises : (c : Cat) (n : ℕ) (f : File) → file_at c n ≡ Some f → 0 < n

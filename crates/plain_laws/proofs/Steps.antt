@@ -9,13 +9,14 @@ use Rattle.plain_cat.specs.declared.cat.Cat.{Cat}
 use Rattle.plain_cat.specs.declared.cat.File.{File}
 use Rattle.plain_cat.specs.declared.cat.Slot.{Slot}
 use Rattle.plain_cat.specs.declared.cat.Slot.TheVariants.{Used, Free}
-use Rattle.plain_vol.specs.declared.places.Place.{Place}
-use Rattle.plain_vol.specs.Lookups.{slot_at, file_in, file_at, live}
-use Rattle.plain_vol.specs.Directories.{inserted}
-use Rattle.plain_vol.specs.Changes.{with_entries}
-use Rattle.plain_vol.specs.Mending.{places, is_own, is_first, stays, less_entries, without_opens, without_entries, numbers_from, lost, lost_entry, with_lost_entry, enter, enter_all, enter_some, with_lost, is_gone, gone_slot, without_gone, put_right, counts, mended, mended_from}
-use Rattle.plain_vol.proofs.Standing.{some_if, some_map, stands_at}
-use Rattle.plain_laws.proofs.Members.{Has, has_filter, has_kept}
+use Rattle.plain_rules.specs.declared.places.Place.{Place}
+use Rattle.plain_rules.specs.Lookups.{slot_at, file_in, file_at, live}
+use Rattle.plain_rules.specs.Directories.{inserted}
+use Rattle.plain_rules.specs.Changes.{with_entries}
+use Rattle.plain_rules.specs.Mending.{places, is_own, is_first, stays, less_entries, without_opens, without_entries, numbers_from, lost, lost_entry, with_lost_entry, enter, enter_all, enter_some, with_lost, is_gone, gone_slot, without_gone, put_right, counts, mended, mended_from}
+use Rattle.plain_rules.proofs.Standing.{some_if, some_map, stands_at}
+use Rattle.base_words.specs.Lists.{Has}
+use Rattle.base_words.proofs.Listing.{has_filtered, has_passed}
 use Rattle.plain_laws.proofs.Standing.{number_rises, stands_from, slot_each, file_same, file_other, Alive, alive_from, alive_to}
 use Rattle.plain_laws.proofs.Places.{In, inserted_has, has_inserted}
 
@@ -84,7 +85,7 @@ pub in_less : (c : Cat) (p : Place) → In (without_entries c) p → Stayed c p
 in_less c p i =
     let l = less_from c p.dir i.file i.at in
     let es : Has (less_file c p.dir l.file).entries p.entry = subst (λ (f : File). Has f.entries p.entry) (sym l.same) i.entry in
-    let r = has_filter (λ (e : DirEnt). stays c (record { dir = p.dir; entry = e })) l.file.entries p.entry es in
+    let r = has_filtered (λ (e : DirEnt). stays c (record { dir = p.dir; entry = e })) l.file.entries p.entry es in
     record {
       before = record { file = l.file; at = l.at; dir = ap (λ (f : File). f.dir) l.same ∙ i.dir; entry = r.0 };
       stays = r.1;
@@ -95,7 +96,7 @@ less_in_to c p i h = record {
   file = less_file c p.dir i.file;
   at = less_at c p.dir ∙ ap (λ o. option_map (less_file c p.dir) o) i.at;
   dir = i.dir;
-  entry = has_kept (λ (e : DirEnt). stays c (record { dir = p.dir; entry = e })) i.file.entries p.entry i.entry h;
+  entry = has_passed (λ (e : DirEnt). stays c (record { dir = p.dir; entry = e })) i.file.entries p.entry i.entry h;
 }
 
 -- what an entry that stays has

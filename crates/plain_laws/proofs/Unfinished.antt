@@ -7,12 +7,13 @@ use Rattle.plain_cat.specs.declared.cat.Cat.{Cat}
 use Rattle.plain_cat.specs.declared.cat.File.{File}
 use Rattle.plain_cat.specs.declared.cat.Slot.{Slot}
 use Rattle.plain_cat.specs.declared.cat.Slot.TheVariants.{Used, Free}
-use Rattle.plain_vol.specs.declared.places.Place.{Place}
-use Rattle.plain_vol.specs.Lookups.{file_at}
-use Rattle.plain_vol.specs.Directories.{inserted}
-use Rattle.plain_vol.specs.Mending.{places, is_own, is_first, stays, without_opens, without_entries, is_empty, is_named, is_lost_slot, numbers_from, lost, with_lost}
+use Rattle.plain_rules.specs.declared.places.Place.{Place}
+use Rattle.plain_rules.specs.Lookups.{file_at}
+use Rattle.plain_rules.specs.Directories.{inserted}
+use Rattle.plain_rules.specs.Mending.{places, is_own, is_first, stays, without_opens, without_entries, is_empty, is_named, is_lost_slot, numbers_from, lost, with_lost}
 use Rattle.plain_laws.specs.Clearing.{HasOwnEntry, KeepsNames, AreOwned}
-use Rattle.plain_laws.proofs.Members.{Has, has_from, has_either, has_filter, Distinct, distinct_join}
+use Rattle.base_words.specs.Lists.{Has, Once}
+use Rattle.base_words.proofs.Listing.{has_from, has_parted, has_filtered, once_in_a_row}
 use Rattle.plain_laws.proofs.Standing.{file_from, Alive}
 use Rattle.plain_laws.proofs.Places.{In, in_from, first_is, first_one, own_one, Names, names_to}
 use Rattle.plain_laws.proofs.Steps.{SameFiles, like_left, like_right, less_file, less_from, less_same, in_less, stays_parts, Entered, entered_same, new_place, in_entered, lost_on, has_number}
@@ -30,7 +31,7 @@ pub record Unfinished (ns : List ℕ) (x : Cat) : Type 0 where
   pub own : (p : Place) → In x p → p.entry.fid.num ≤ 11 → is_own p ≡ true
   pub alive : (p : Place) → In x p → Alive x p.entry.fid
   pub fresh : (m : ℕ) → Has ns m → IsLost x m
-  pub distinct : Distinct ns
+  pub distinct : Once ns
   pub placed : (n : ℕ) (f : File) (e : DirEnt) → file_at x n ≡ Some f → Has f.entries e → f.dir ≡ true
   pub directory : (f : File) → file_at x 11 ≡ Some f → f.dir ≡ true
 
@@ -56,7 +57,7 @@ skip m ms x u = record {
 }
 
 -- the number of the new entry
-new_number : (x y : Cat) (m : ℕ) (e : Entered x y m) (p : Place) → p ≡ new_place e.entry → p.entry.fid.num ≡ m
+pub new_number : (x y : Cat) (m : ℕ) (e : Entered x y m) (p : Place) → p ≡ new_place e.entry → p.entry.fid.num ≡ m
 new_number x y m e p is = ap (λ (z : Place). z.entry.fid.num) is ∙ ap (λ (z : Fid). z.num) e.fid
 
 step : (m : ℕ) (ms : List ℕ) (x y : Cat) → Entered x y m → Unfinished (m ∷ ms) x → Unfinished ms y
@@ -132,14 +133,14 @@ stays_in c p owned h = by_case (cases_Bool (nat_le p.entry.fid.num 11)) where
       in_from (without_opens c) p (first_is p (places (without_opens c)) (ap (λ b. cond b (is_own p) (is_first p (places (without_opens c)))) (sym high) ∙ parts.1))
 
 -- a file that is lost
-record LostFile (a : Cat) (empty : Bool) (m : ℕ) : Type 0 where
-  file : File
-  at : file_at a m ≡ Some file
-  free : file.marked ≡ false
-  missing : is_named a (record { num = m; seq = file.seq }) ≡ false
-  empties : cond empty (is_empty file) (not (is_empty file)) ≡ true
+pub record LostFile (a : Cat) (empty : Bool) (m : ℕ) : Type 0 where
+  pub file : File
+  pub at : file_at a m ≡ Some file
+  pub free : file.marked ≡ false
+  pub missing : is_named a (record { num = m; seq = file.seq }) ≡ false
+  pub empties : cond empty (is_empty file) (not (is_empty file)) ≡ true
 
-not_not : (b : Bool) → not b ≡ true → b ≡ false
+pub not_not : (b : Bool) → not b ≡ true → b ≡ false
 not_not true h = absurd (cc h)
 not_not false h = refl
 
@@ -157,15 +158,15 @@ lost_slot a empty m i (Used f) at number h =
       empties = p.1;
     }
 
-lost_file : (a : Cat) (empty : Bool) (m : ℕ) → Has (lost a empty) m → LostFile a empty m
+pub lost_file : (a : Cat) (empty : Bool) (m : ℕ) → Has (lost a empty) m → LostFile a empty m
 lost_file a empty m h =
     let r = has_number (is_lost_slot a empty) 1 a.files m h in lost_slot a empty m r.place r.slot r.at r.number r.passed
 
-same_file : (a : Cat) (m : ℕ) (f g : File) → file_at a m ≡ Some f → file_at a m ≡ Some g → f ≡ g
+pub same_file : (a : Cat) (m : ℕ) (f g : File) → file_at a m ≡ Some f → file_at a m ≡ Some g → f ≡ g
 same_file a m f g h k = let both : Some f ≡ Some g = sym h ∙ k in cc both
 
 -- a file is not empty and full
-apart : (a : Cat) (m : ℕ) → Has (lost a false) m → Has (lost a true) m → ⊥
+pub apart : (a : Cat) (m : ℕ) → Has (lost a false) m → Has (lost a true) m → ⊥
 apart a m h k =
     let f = lost_file a false m h in
     let g = lost_file a true m k in
@@ -174,13 +175,13 @@ apart a m h k =
     let both : true ≡ false = sym g.empties ∙ not_not (is_empty g.file) full in
     absurd (cc both)
 
-numbers_distinct : (passes : ℕ → Slot → Bool) (n : ℕ) (ss : List Slot) → Distinct (numbers_from passes n ss)
+pub numbers_distinct : (passes : ℕ → Slot → Bool) (n : ℕ) (ss : List Slot) → Once (numbers_from passes n ss)
 numbers_distinct passes n [] = tt
 numbers_distinct passes n (s ∷ ss) = either (passes n s) (numbers_distinct passes (n + 1) ss) where
   above : Has (numbers_from passes (n + 1) ss) n → ⊥
   above h = let r = has_number passes (n + 1) ss n h in let e = r.number in omega (arith, e)
 
-  either : (b : Bool) → Distinct (numbers_from passes (n + 1) ss) → Distinct (cond b (n ∷ numbers_from passes (n + 1) ss) (numbers_from passes (n + 1) ss))
+  either : (b : Bool) → Once (numbers_from passes (n + 1) ss) → Once (cond b (n ∷ numbers_from passes (n + 1) ss) (numbers_from passes (n + 1) ss))
   either true d = (above, d)
   either false d = d
 
@@ -222,8 +223,8 @@ begin c k owned = record {
   one = one;
   own = own;
   alive = living;
-  fresh = λ m has. fresh m (has_either (lost a false) (lost a true) m has);
-  distinct = distinct_join (lost a false) (lost a true) (numbers_distinct (is_lost_slot a false) 1 a.files) (numbers_distinct (is_lost_slot a true) 1 a.files) (apart a);
+  fresh = λ m has. fresh m (has_parted (lost a false) (lost a true) m has);
+  distinct = once_in_a_row (lost a false) (lost a true) (numbers_distinct (is_lost_slot a false) 1 a.files) (numbers_distinct (is_lost_slot a true) 1 a.files) (apart a);
   placed = placed;
   directory = lost_directory c k;
 } where
@@ -256,7 +257,7 @@ begin c k owned = record {
   placed n f e at has =
       let l = less_from (without_opens c) n f at in
       let es : Has (less_file (without_opens c) n l.file).entries e = subst (λ (z : File). Has z.entries e) (sym l.same) has in
-      let r = has_filter (λ (d : DirEnt). stays (without_opens c) (record { dir = n; entry = d })) l.file.entries e es in
+      let r = has_filtered (λ (d : DirEnt). stays (without_opens c) (record { dir = n; entry = d })) l.file.entries e es in
       let i = stays_in c (record { dir = n; entry = e }) owned r.1 in
       let same : l.file ≡ i.file = same_file (without_opens c) n l.file i.file l.at i.at in
       ap (λ (z : File). z.dir) (sym l.same) ∙ (ap (λ (z : File). z.dir) same ∙ i.dir)

@@ -9,10 +9,10 @@ use Rattle.plain_cat.specs.declared.cat.Slot.{Slot}
 use Rattle.plain_cat.specs.declared.cat.Slot.TheVariants.{Used, Free}
 use Rattle.plain_cat.specs.declared.cat.Open.{Open}
 use Rattle.plain_cat.specs.declared.cat.QuotaRow.{QuotaRow}
-use Rattle.plain_vol.specs.declared.places.Place.{Place}
-use Rattle.plain_vol.specs.Lookups.{file_at}
-use Rattle.plain_vol.specs.Accounts.{charge}
-use Rattle.plain_vol.specs.Mending.{places, is_own, is_named}
+use Rattle.plain_rules.specs.declared.places.Place.{Place}
+use Rattle.plain_rules.specs.Lookups.{file_at}
+use Rattle.plain_rules.specs.Accounts.{charge}
+use Rattle.plain_rules.specs.Mending.{places, is_own, is_named}
 
 -- a slot has no file that is marked for delete
 abbrev pub IsUnmarked : Slot → Type 0

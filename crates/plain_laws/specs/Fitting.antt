@@ -2,7 +2,7 @@
 use Rattle.std.specs.Prelude.{◌≤◌, ◌+◌, ℕ, drop}
 use Rattle.std.specs.List.{sum_by}
 use Rattle.plain_cat.specs.declared.cat.Cat.{Cat}
-use Rattle.plain_vol.specs.Lookups.{clusters_in}
+use Rattle.plain_rules.specs.Lookups.{clusters_in}
 
 -- the clusters that are not free: the reserved ones, the leaked ones, and those of the files above number 11
 abbrev pub taken : Cat → ℕ

@@ -1,7 +1,7 @@
 ghost use Rattle.std.specs.Prelude.{◌≡◌, Some};
 ghost use Rattle.plain_cat.specs.declared.history.Mended.{Mended};
 ghost use Rattle.plain_cat.specs.declared.cat.Cat.{Cat};
-ghost use Rattle.plain_vol.specs.Mending.{mended};
+ghost use Rattle.plain_rules.specs.Mending.{mended};
 ghost use Rattle.plain_laws.specs.Clearing.{Cleared, AreNamed, KeepsNames, AreOwned, nothing_done};
 
 /// After mending nobody uses the volume, nothing is leaked, no file is marked for delete, and each owner's usage is what its

@@ -4,9 +4,9 @@ ghost use Rattle.plain_cat.specs.declared.reply.Reply.{Reply};
 ghost use Rattle.plain_cat.specs.declared.history.Entry.{Entry};
 ghost use Rattle.plain_cat.specs.declared.script.Script.{Script};
 ghost use Rattle.plain_cat.specs.declared.cat.Cat.{Cat};
-ghost use Rattle.plain_vol.specs.Lookups.{free_clusters};
-ghost use Rattle.plain_vol.specs.Answers.{Answer};
-ghost use Rattle.plain_vol.specs.Replaying.{Leads, Replays};
+ghost use Rattle.plain_rules.specs.Lookups.{free_clusters};
+ghost use Rattle.plain_rules.specs.Answers.{Answer};
+ghost use Rattle.plain_rules.specs.Replaying.{Leads, Replays};
 ghost use Rattle.plain_laws.specs.Fitting.{taken, Fits};
 
 /// Where no more clusters are taken than the volume has, the free ones are all the others, and this stays so: after every

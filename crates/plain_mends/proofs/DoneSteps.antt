@@ -1,10 +1,7 @@
 -- Where nothing is left to mend, mending does nothing.
-use Rattle.std.proofs.Common.{◌≡◌, ◌&&◌, ◌||◌, ◌-◌, ◌+◌, ◌*◌, ◌≤◌, ◌∙◌, ℕ, Bool, true, false, cond, not, List, [], ◌∷◌, Some, length, map, get_or, slice_get, refl, sym, ap, subst, arith}
-use Rattle.std.specs.Prelude.{All}
+use Rattle.std.proofs.Common.{◌≡◌, ◌&&◌, ◌||◌, ◌-◌, ◌+◌, ◌*◌, ◌≤◌, ◌∙◌, ℕ, Bool, true, false, cond, not, List, [], ◌∷◌, Some, length, get_or, slice_get, refl, sym, ap, subst, arith}
 use Rattle.std.specs.List.{count_by}
 use Rattle.std.proofs.lemmas.Bool.{and_from}
-use Rattle.std.proofs.lemmas.List.Elements.{All-head, All-tail}
-use Rattle.std.proofs.lemmas.List.Sums.{sum_by-le}
 use Rattle.std.proofs.lemmas.Option.{slice_get_within, get_or_from_slice_get}
 use Rattle.plain_cat.specs.declared.history.Mended.{Mended}
 use Rattle.plain_cat.specs.declared.cat.Cat.{Cat}
@@ -12,32 +9,15 @@ use Rattle.plain_cat.specs.declared.cat.File.{File}
 use Rattle.plain_cat.specs.declared.cat.Slot.{Slot}
 use Rattle.plain_cat.specs.declared.cat.Slot.TheVariants.{Used, Free}
 use Rattle.plain_cat.specs.declared.cat.QuotaRow.{QuotaRow}
-use Rattle.plain_vol.specs.Lookups.{file_at}
-use Rattle.plain_vol.specs.Mending.{places, without_opens, is_empty, is_named, is_lost_slot, lost, with_lost, gone_slot, without_gone, without_leaks, summed_row, with_sums, is_used, is_true, put_right, counts, mended}
+use Rattle.plain_rules.specs.Lookups.{file_at}
+use Rattle.plain_rules.specs.Mending.{places, without_opens, is_empty, is_named, is_lost_slot, lost, with_lost, gone_slot, without_gone, without_leaks, summed_row, with_sums, is_used, is_true, put_right, counts, mended}
 use Rattle.plain_laws.specs.Clearing.{IsUnmarked, nothing_done}
 use Rattle.plain_mends.specs.Waiting.{IsDone}
-use Rattle.plain_laws.proofs.Members.{Has}
+use Rattle.base_words.specs.Lists.{Has}
 use Rattle.plain_laws.proofs.Standing.{file_from, each_same}
 use Rattle.plain_mends.proofs.Frames.{mended_by}
 use Rattle.plain_mends.proofs.SlotSteps.{lost_has, nobody_enters}
-
-map_const : {X : Type 0} (y : X) (xs : List X) → All (λ x. x ≡ y) xs → map (λ (x : X). y) xs ≡ xs
-map_const y [] h = refl
-map_const {X} y (x ∷ xs) h =
-    ap (λ (z : X). z ∷ map (λ (x : X). y) xs) (sym (All-head (λ x. x ≡ y) x xs h)) ∙ ap (λ zs. x ∷ zs) (map_const y xs (All-tail (λ x. x ≡ y) x xs h))
-
-map_same : {X : Type 0} (g : X → X) (xs : List X) → All (λ x. g x ≡ x) xs → map g xs ≡ xs
-map_same g [] h = refl
-map_same {X} g (x ∷ xs) h =
-    ap (λ (z : X). z ∷ map g xs) (All-head (λ x. g x ≡ x) x xs h) ∙ ap (λ zs. x ∷ zs) (map_same g xs (All-tail (λ x. g x ≡ x) x xs h))
-
-none_true : (bs : List Bool) → All (λ b. b ≡ false) bs → count_by is_true bs ≡ 0
-none_true bs h =
-    let few : count_by is_true bs ≤ length bs * 0 = sum_by-le (λ b. cond (is_true b) 1 0) 0 bs (λ k d lt. zero_if (get_or bs k d) (h k d lt)) in
-    omega (arith, few) where
-      zero_if : (b : Bool) → b ≡ false → cond (is_true b) 1 0 ≤ 0
-      zero_if true e = absurd (cc e)
-      zero_if false e = omega arith
+use Rattle.plain_laws.proofs.AgainSteps.{map_const, map_same, none_true}
 
 module _ (c : Cat) (done : IsDone c) where
   abbrev d : Cat

@@ -9,18 +9,20 @@ use Rattle.plain_cat.specs.declared.entries.DirEnt.{DirEnt}
 use Rattle.plain_cat.specs.declared.cat.Cat.{Cat}
 use Rattle.plain_cat.specs.declared.cat.File.{File}
 use Rattle.plain_cat.specs.declared.cat.Slot.TheVariants.{Used}
-use Rattle.plain_vol.specs.Lookups.{file_at}
-use Rattle.plain_vol.specs.Directories.{inserted}
-use Rattle.plain_vol.specs.Changes.{with_entries}
-use Rattle.plain_vol.specs.Mending.{is_lost_slot, lost, lost_name, with_lost_entry, enter, enter_all, enter_some, without_opens, with_lost, stripped}
+use Rattle.plain_rules.specs.Lookups.{file_at}
+use Rattle.plain_rules.specs.Directories.{inserted}
+use Rattle.plain_rules.specs.Changes.{with_entries}
+use Rattle.plain_rules.specs.Mending.{is_lost_slot, lost, lost_name, with_lost_entry, enter, enter_all, enter_some, without_opens, with_lost, stripped}
 use Rattle.plain_mends.specs.Resuming.{MendsTo, AllStay}
 use Rattle.plain_mends.specs.Waiting.{Settled, AreFull}
-use Rattle.plain_laws.proofs.Members.{Has, has_from, has_to, has_left, has_right, Distinct}
+use Rattle.base_words.specs.Lists.{Has, Once}
+use Rattle.base_words.proofs.Listing.{has_from, has_to, has_first, has_second}
 use Rattle.plain_laws.proofs.Standing.{file_same, file_other}
 use Rattle.plain_laws.proofs.Steps.{entered_by, has_number}
 use Rattle.plain_laws.proofs.Unfinished.{Unfinished}
 use Rattle.plain_mends.proofs.Frames.{ends_alike}
-use Rattle.plain_mends.proofs.Standing.{lost_file, numbers_distinct, is_lost_in, unfinished, step}
+use Rattle.plain_mends.proofs.Standing.{is_lost_in, unfinished, step}
+use Rattle.plain_laws.proofs.Unfinished.{lost_file, numbers_distinct}
 use Rattle.plain_mends.proofs.FullSteps.{Shape, shape_by, but, but_first, unfinished_stay, narrow, shut_enter, lost_left}
 use Rattle.plain_mends.proofs.Skipping.{still_full, names_differ}
 
@@ -28,7 +30,7 @@ has_mid : (ms : List ℕ) (n : ℕ) (ns : List ℕ) → Has (ms ++ n ∷ ns) n
 has_mid [] n ns = inl refl
 has_mid (m ∷ ms) n ns = inr (has_mid ms n ns)
 
-but_mid : (ms : List ℕ) (n : ℕ) (ns : List ℕ) → Distinct (ms ++ n ∷ ns) → but n (ms ++ n ∷ ns) ≡ ms ++ ns
+but_mid : (ms : List ℕ) (n : ℕ) (ns : List ℕ) → Once (ms ++ n ∷ ns) → but n (ms ++ n ∷ ns) ≡ ms ++ ns
 but_mid [] n ns d = but_first n ns d
 but_mid (m ∷ ms) n ns d = ap (λ b. cond b (m ∷ but n (ms ++ n ∷ ns)) (but n (ms ++ n ∷ ns))) (other (m == n) refl) ∙ ap (λ ks. m ∷ ks) (but_mid ms n ns d.1) where
   other : (b : Bool) → (m == n) ≡ b → not b ≡ true
@@ -36,7 +38,7 @@ but_mid (m ∷ ms) n ns d = ap (λ b. cond b (m ∷ but n (ms ++ n ∷ ns)) (but
   other false e = refl
 
 -- the first ones differ from the one behind them
-apart_mid : (ms : List ℕ) (n : ℕ) (ns : List ℕ) → Distinct (ms ++ n ∷ ns) → (m : ℕ) → Has ms m → m ≡ n → ⊥
+apart_mid : (ms : List ℕ) (n : ℕ) (ns : List ℕ) → Once (ms ++ n ∷ ns) → (m : ℕ) → Has ms m → m ≡ n → ⊥
 apart_mid [] n ns d m h e = absurd h
 apart_mid (k ∷ ms) n ns d m (inl h) e = d.0 (subst (λ (z : ℕ). Has (ms ++ n ∷ ns) z) (sym (h ∙ e)) (has_mid ms n ns))
 apart_mid (k ∷ ms) n ns d m (inr h) e = apart_mid ms n ns d.1 m h e
@@ -94,13 +96,13 @@ module _ (x y : Cat) (ms : List ℕ) (n : ℕ) (ns : List ℕ) (settled : Settle
   has_n : Has (lost x true) n
   has_n = subst (λ (ks : List ℕ). Has ks n) (sym waits) (has_mid ms n ns)
 
-  once : Distinct (ms ++ n ∷ ns)
-  once = subst (λ (ks : List ℕ). Distinct ks) waits (numbers_distinct (is_lost_slot x true) 1 x.files)
+  once : Once (ms ++ n ∷ ns)
+  once = subst (λ (ks : List ℕ). Once ks) waits (numbers_distinct (is_lost_slot x true) 1 x.files)
 
   stay_y : AllStay y
   stay_y =
       let all : Unfinished (lost x true) x =
-      narrow (lost x false ++ lost x true) (lost x true) x (unfinished x settled) (λ k h. has_right (lost x false) (lost x true) k h) (numbers_distinct (is_lost_slot x true) 1 x.files) in
+      narrow (lost x false ++ lost x true) (lost x true) x (unfinished x settled) (λ k h. has_second (lost x false) (lost x true) k h) (numbers_distinct (is_lost_slot x true) 1 x.files) in
       let u : Unfinished (ms ++ n ∷ ns) x = subst (λ (ks : List ℕ). Unfinished ks x) waits all in
       unfinished_stay (ms ++ ns) y (step ms n ns x y (entered_by x n y entered) u)
 
@@ -112,7 +114,7 @@ module _ (x y : Cat) (ms : List ℕ) (n : ℕ) (ns : List ℕ) (settled : Settle
 
   full_y : length x.files < 100000 → ((m : ℕ) → Has ms m → enter x m ≡ None) → (m : ℕ) → Has ms m → enter y m ≡ None
   full_y few full m h =
-      let has_m : Has (lost x true) m = subst (λ (ks : List ℕ). Has ks m) (sym waits) (has_left ms (n ∷ ns) m h) in
+      let has_m : Has (lost x true) m = subst (λ (ks : List ℕ). Has ks m) (sym waits) (has_first ms (n ∷ ns) m h) in
       let f = lost_file x true m has_m in
       let high = (is_lost_in x settled true m has_m).high in
       still_none x y n m f.file few entered (few_number x true n few has_n) (few_number x true m few has_m) (apart_mid ms n ns once m h) (λ e. omega (arith, e, high)) f.at (full m h)

@@ -4,9 +4,9 @@ use Rattle.std.specs.Prelude.{leb}
 use Rattle.std.specs.Str.{bytes_eq}
 use Rattle.std.proofs.lemmas.Bool.{leb-true, le-leb}
 use Rattle.std.proofs.lemmas.Slice.Eq.{bytes_eq-Decides}
-use Rattle.vol_words.specs.Packing.{padded, cost, unfilled, over}
+use Rattle.base_words.specs.Packing.{padded, cost, unfilled, over}
 use Rattle.plain_cat.specs.declared.entries.DirEnt.{DirEnt}
-use Rattle.plain_vol.specs.Directories.{before, inserted, is_nil, fits}
+use Rattle.plain_rules.specs.Directories.{before, inserted, is_nil, fits}
 
 -- the one list is the other without some of its items
 abbrev pub Among : {A : Type 0} → List A → List A → Type 0

@@ -11,10 +11,10 @@ use Rattle.plain_cat.specs.declared.cat.Slot.{Slot}
 use Rattle.plain_cat.specs.declared.cat.Slot.TheVariants.{Used, Free}
 use Rattle.plain_cat.specs.declared.cat.Open.{Open}
 use Rattle.plain_cat.specs.declared.cat.QuotaRow.{QuotaRow}
-use Rattle.plain_vol.specs.Lookups.{file_at}
-use Rattle.plain_vol.specs.Changes.{with_entries}
-use Rattle.plain_vol.specs.Accounts.{share, charge}
-use Rattle.plain_vol.specs.Mending.{stays, lost, with_lost_entry, enter, enter_all, enter_some, with_lost, without_gone, without_leaks, summed_row, put_right, counts, mended, mended_from, stripped}
+use Rattle.plain_rules.specs.Lookups.{file_at}
+use Rattle.plain_rules.specs.Changes.{with_entries}
+use Rattle.plain_rules.specs.Accounts.{share, charge}
+use Rattle.plain_rules.specs.Mending.{stays, lost, with_lost_entry, enter, enter_all, enter_some, with_lost, without_gone, without_leaks, summed_row, put_right, counts, mended, mended_from, stripped}
 use Rattle.plain_mends.specs.Resuming.{MendsTo, IsOfUsage}
 use Rattle.plain_laws.proofs.Steps.{mends_from}
 

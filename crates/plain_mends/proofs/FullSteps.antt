@@ -8,22 +8,24 @@ use Rattle.plain_cat.specs.declared.cat.Cat.{Cat}
 use Rattle.plain_cat.specs.declared.cat.File.{File}
 use Rattle.plain_cat.specs.declared.cat.Slot.{Slot}
 use Rattle.plain_cat.specs.declared.cat.Slot.TheVariants.{Used, Free}
-use Rattle.plain_vol.specs.declared.places.Place.{Place}
-use Rattle.plain_vol.specs.Lookups.{file_at}
-use Rattle.plain_vol.specs.Directories.{inserted}
-use Rattle.plain_vol.specs.Changes.{with_entries}
-use Rattle.plain_vol.specs.Mending.{places, is_own, is_first, stays, is_empty, is_named, is_lost_slot, numbers_from, lost, lost_name, lost_entry, with_lost_entry, enter, enter_all, enter_some, without_opens, with_lost, stripped}
+use Rattle.plain_rules.specs.declared.places.Place.{Place}
+use Rattle.plain_rules.specs.Lookups.{file_at}
+use Rattle.plain_rules.specs.Directories.{inserted}
+use Rattle.plain_rules.specs.Changes.{with_entries}
+use Rattle.plain_rules.specs.Mending.{places, is_own, is_first, stays, is_empty, is_named, is_lost_slot, numbers_from, lost, lost_name, lost_entry, with_lost_entry, enter, enter_all, enter_some, without_opens, with_lost, stripped}
 use Rattle.plain_mends.specs.Resuming.{MendsTo, AllStay}
 use Rattle.plain_mends.specs.Waiting.{Settled}
-use Rattle.plain_vol.proofs.Standing.{some_if, some_map, stands_at}
-use Rattle.plain_laws.proofs.Members.{Has, filter_all, Distinct}
+use Rattle.plain_rules.proofs.Standing.{some_if, some_map, stands_at}
+use Rattle.base_words.specs.Lists.{Has, Once}
+use Rattle.base_words.proofs.Listing.{filter_all}
 use Rattle.plain_laws.proofs.Standing.{file_from}
 use Rattle.plain_laws.proofs.Places.{In, in_from, in_to, first_to, Names, names_from, names_to}
 use Rattle.plain_laws.proofs.Steps.{Entered, entered_by, in_entered, entered_in, entered_new, new_place, stays_from}
 use Rattle.plain_laws.proofs.Unfinished.{IsLost, Unfinished}
 use Rattle.plain_mends.proofs.Frames.{ends_alike, beside, enter_beside}
 use Rattle.plain_mends.proofs.GoneSteps.{both_ways}
-use Rattle.plain_mends.proofs.Standing.{all_stay, apart, numbers_distinct, is_lost_in, directory_is, directory_named, unfinished, step}
+use Rattle.plain_mends.proofs.Standing.{all_stay, is_lost_in, directory_is, directory_named, unfinished, step}
+use Rattle.plain_laws.proofs.Unfinished.{apart, numbers_distinct}
 
 -- ---- what an entered file changes
 
@@ -176,7 +178,7 @@ module _ (x y : Cat) (n : ℕ) (entered : enter x n ≡ Some y) (lost_n : IsLost
 
 -- ---- the next full file
 
-pub but_first : (n : ℕ) (ns : List ℕ) → Distinct (n ∷ ns) → but n (n ∷ ns) ≡ ns
+pub but_first : (n : ℕ) (ns : List ℕ) → Once (n ∷ ns) → but n (n ∷ ns) ≡ ns
 but_first n ns d = ap (λ b. cond (not b) (n ∷ but n ns) (but n ns)) (eq-eqb n n refl) ∙ filter_all (λ k. not (k == n)) ns (λ k has. not_same k has (k == n) refl) where
   not_same : (k : ℕ) → Has ns k → (b : Bool) → (k == n) ≡ b → not b ≡ true
   not_same k has true e = absurd (d.0 (subst (Has ns) (eqb-true k n e) has))
@@ -207,7 +209,7 @@ unfinished_stay ns x u = all_stay x stays_on where
         sym (u.one p q within (in_from x q h) (sym same) (leb-false e.fid.num 11 high)))
 
 -- fewer files to be entered
-pub narrow : (ns ks : List ℕ) (x : Cat) → Unfinished ns x → ((k : ℕ) → Has ks k → Has ns k) → Distinct ks → Unfinished ks x
+pub narrow : (ns ks : List ℕ) (x : Cat) → Unfinished ns x → ((k : ℕ) → Has ks k → Has ns k) → Once ks → Unfinished ks x
 narrow ns ks x u among distinct = record {
   one = u.one;
   own = u.own;
@@ -237,8 +239,8 @@ module _ (x y : Cat) (n : ℕ) (ns : List ℕ) (settled : Settled x) (waits : lo
   has_n : Has (lost x false) n
   has_n = subst (λ (ks : List ℕ). Has ks n) (sym waits) (inl refl)
 
-  once : Distinct (n ∷ ns)
-  once = subst (λ (ks : List ℕ). Distinct ks) waits (numbers_distinct (is_lost_slot x false) 1 x.files)
+  once : Once (n ∷ ns)
+  once = subst (λ (ks : List ℕ). Once ks) waits (numbers_distinct (is_lost_slot x false) 1 x.files)
 
   stay_y : AllStay y
   stay_y =

@@ -10,13 +10,14 @@ use Rattle.plain_cat.specs.declared.cat.Cat.{Cat}
 use Rattle.plain_cat.specs.declared.cat.File.{File}
 use Rattle.plain_cat.specs.declared.cat.Slot.{Slot}
 use Rattle.plain_cat.specs.declared.cat.Slot.TheVariants.{Used, Free}
-use Rattle.plain_vol.specs.declared.places.Place.{Place}
-use Rattle.plain_vol.specs.Lookups.{file_at}
-use Rattle.plain_vol.specs.Directories.{is_entry, without}
-use Rattle.plain_vol.specs.Mending.{entries_in, places_from, places, same_fid, same_place, is_own, is_first, stays, less_entries, each_from, without_opens, without_entries, with_lost, stripped}
+use Rattle.plain_rules.specs.declared.places.Place.{Place}
+use Rattle.plain_rules.specs.Lookups.{file_at}
+use Rattle.plain_rules.specs.Directories.{is_entry, without}
+use Rattle.plain_rules.specs.Mending.{entries_in, places_from, places, same_fid, same_place, is_own, is_first, stays, less_entries, each_from, without_opens, without_entries, with_lost, stripped}
 use Rattle.plain_mends.specs.Resuming.{MendsTo, AreKeyed, Goes, less_one, is_other}
-use Rattle.plain_vol.proofs.Standing.{stands_at}
-use Rattle.plain_laws.proofs.Members.{Has, has_from, has_either, has_mapped, filter_all}
+use Rattle.plain_rules.proofs.Standing.{stands_at}
+use Rattle.base_words.specs.Lists.{Has}
+use Rattle.base_words.proofs.Listing.{has_from, has_parted, has_mapped, filter_all}
 use Rattle.plain_laws.proofs.Standing.{number_rises, set_same, set_other, file_same, file_other, Alive}
 use Rattle.plain_laws.proofs.Places.{in_to, fid_same, same_fid-refl, same_place-refl}
 use Rattle.plain_laws.proofs.Steps.{bare, SameFiles, like_right, stays_parts, stays_from}
@@ -120,7 +121,7 @@ at_has (y ∷ ys) x (suc i) e = inr (at_has ys x i e)
 -- a directory's entries come at its number or above
 number_from : (m : ℕ) (ss : List Slot) (r : Place) → Has (places_from m ss) r → m ≤ r.dir
 number_from m [] r h = absurd h
-number_from m (s ∷ ss) r h = by_case (has_either (map (λ (x : DirEnt). record { dir = m; entry = x }) (entries_in s)) (places_from (m + 1) ss) r h) (λ k. number_from (m + 1) ss r k) where
+number_from m (s ∷ ss) r h = by_case (has_parted (map (λ (x : DirEnt). record { dir = m; entry = x }) (entries_in s)) (places_from (m + 1) ss) r h) (λ k. number_from (m + 1) ss r k) where
   by_case : Has (map (λ (x : DirEnt). record { dir = m; entry = x }) (entries_in s)) r ⊎ Has (places_from (m + 1) ss) r → (Has (places_from (m + 1) ss) r → m + 1 ≤ r.dir) → m ≤ r.dir
   by_case (inl h) rest = let k = has_mapped (λ (x : DirEnt). record { dir = m; entry = x }) (entries_in s) r h in let e : m ≡ r.dir = ap (λ (q : Place). q.dir) k.2 in omega (arith, e)
   by_case (inr h) rest = let k = rest h in omega (arith, k)

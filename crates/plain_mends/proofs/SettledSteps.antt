@@ -3,12 +3,12 @@ use Rattle.std.proofs.Common.{◌≡◌, ◌⊎◌, inl, inr, ◌++◌, ◌∙�
 use Rattle.std.specs.List.{Contains}
 use Rattle.plain_cat.specs.declared.cat.Cat.{Cat}
 use Rattle.plain_cat.specs.declared.cat.File.{File}
-use Rattle.plain_vol.specs.declared.places.Place.{Place}
-use Rattle.plain_vol.specs.Lookups.{file_at}
-use Rattle.plain_vol.specs.Directories.{inserted}
-use Rattle.plain_vol.specs.Mending.{places, lost, enter}
+use Rattle.plain_rules.specs.declared.places.Place.{Place}
+use Rattle.plain_rules.specs.Lookups.{file_at}
+use Rattle.plain_rules.specs.Directories.{inserted}
+use Rattle.plain_rules.specs.Mending.{places, lost, enter}
 use Rattle.plain_laws.specs.Clearing.{HasOwnEntry, KeepsNames, AreOwned}
-use Rattle.plain_laws.proofs.Members.{has_from, has_to}
+use Rattle.base_words.proofs.Listing.{has_from, has_to}
 use Rattle.plain_laws.proofs.Places.{In, in_from, in_to}
 use Rattle.plain_laws.proofs.Steps.{like_left, Entered, entered_by, entered_same, new_place, in_entered, entered_in}
 use Rattle.plain_mends.specs.Waiting.{Settled, LostIsWritten}

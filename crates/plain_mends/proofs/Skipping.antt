@@ -2,13 +2,13 @@
 use Rattle.std.proofs.Common.{◌≡◌, ◌==◌, ◌&&◌, ◌||◌, ◌+◌, ◌*◌, ◌/◌, ◌%◌, ◌<◌, ◌⊎◌, inl, inr, ◌∙◌, ℕ, Bool, true, false, cond, List, [], ◌∷◌, Some, None, nat_le, nat_lt, refl, sym, ap, subst, arith}
 use Rattle.std.specs.Str.{bytes_eq}
 use Rattle.std.proofs.lemmas.Bool.{and_parts, and_from, or_cases}
-use Rattle.std.proofs.lemmas.Bool.Decides.{nat_tests}
 use Rattle.std.proofs.lemmas.Slice.Eq.{bytes_eq-Decides}
 use Rattle.plain_cat.specs.declared.entries.DirEnt.{DirEnt}
-use Rattle.plain_vol.specs.Lookups.{versions, highest}
-use Rattle.plain_vol.specs.Directories.{lower, before, inserted, fits, is_nil}
-use Rattle.plain_vol.specs.Mending.{digit, lost_name, lost_entry, if_room, with_lost_entry}
+use Rattle.plain_rules.specs.Lookups.{versions, highest}
+use Rattle.plain_rules.specs.Directories.{lower, before, inserted, fits, is_nil}
+use Rattle.plain_rules.specs.Mending.{digit, lost_name, lost_entry, if_room, with_lost_entry}
 use Rattle.plain_mends.proofs.Fewer.{Among, fewer_fit, among_same, among_inserted, nil_is}
+use Rattle.plain_rules.proofs.Ordered.{lt_trans, eq_is, eq_refl}
 
 -- ---- names tell the number
 
@@ -79,17 +79,6 @@ module _ (f e : DirEnt) (trans : (x : DirEnt) → before f e ≡ true → before
     by true false g n = refl
     by true true g n = let t = fits_still k es g in absurd (let u : cond (fits k (inserted f es)) (Some (inserted f es)) None ≡ None = n in let v : Some (inserted f es) ≡ None = ap (λ b. cond b (Some (inserted f es)) None) (sym t) ∙ u in cc v)
 
--- ---- the order of entries
-
-lt_trans : (x y z : ℕ) → nat_lt x y ≡ true → nat_lt y z ≡ true → nat_lt x z ≡ true
-lt_trans x y z e f = grind (arith, nat_tests)
-
-eq_is : (n m : ℕ) → (n == m) ≡ true → n ≡ m
-eq_is n m e = grind (arith, nat_tests)
-
-eq_refl : (n : ℕ) → (n == n) ≡ true
-eq_refl n = grind (arith, nat_tests)
-
 bytes_refl : (n : List ℕ) → bytes_eq n n ≡ true
 bytes_refl n = (bytes_eq-Decides n n).1 refl
 
@@ -100,7 +89,7 @@ or_left : (a b : Bool) → a ≡ true → a || b ≡ true
 or_left true b h = refl
 or_left false b h = absurd (cc h)
 
-or_right : (a b : Bool) → b ≡ true → a || b ≡ true
+pub or_right : (a b : Bool) → b ≡ true → a || b ≡ true
 or_right true b h = refl
 or_right false b h = h
 

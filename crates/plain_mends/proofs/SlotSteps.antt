@@ -9,28 +9,31 @@ use Rattle.plain_cat.specs.declared.cat.Cat.{Cat}
 use Rattle.plain_cat.specs.declared.cat.File.{File}
 use Rattle.plain_cat.specs.declared.cat.Slot.{Slot}
 use Rattle.plain_cat.specs.declared.cat.Slot.TheVariants.{Used, Free}
-use Rattle.plain_vol.specs.declared.places.Place.{Place}
-use Rattle.plain_vol.specs.Lookups.{file_at}
-use Rattle.plain_vol.specs.Directories.{is_nil}
-use Rattle.plain_vol.specs.Changes.{with_entries}
-use Rattle.plain_vol.specs.Mending.{entries_in, places_from, places, same_fid, is_own, is_first, stays, each_from, without_opens, is_empty, is_named, is_lost_slot, lost, with_lost_entry, enter, enter_all, enter_some, with_lost, is_gone, gone_slot, with_sums, put_right, stripped}
+use Rattle.plain_rules.specs.declared.places.Place.{Place}
+use Rattle.plain_rules.specs.Lookups.{file_at}
+use Rattle.plain_rules.specs.Directories.{is_nil}
+use Rattle.plain_rules.specs.Changes.{with_entries}
+use Rattle.plain_rules.specs.Mending.{entries_in, places_from, places, same_fid, is_own, is_first, stays, each_from, without_opens, is_empty, is_named, is_lost_slot, lost, with_lost_entry, enter, enter_all, enter_some, with_lost, is_gone, gone_slot, with_sums, put_right, stripped}
 use Rattle.plain_laws.specs.Clearing.{HasOwnEntry}
 use Rattle.plain_mends.specs.Resuming.{MendsTo, AllStay, leaving}
 use Rattle.plain_mends.specs.Waiting.{Settled, AreFull}
-use Rattle.plain_vol.proofs.Standing.{stands_at}
-use Rattle.plain_laws.proofs.Members.{Has, has_from, has_to, has_filter}
+use Rattle.plain_rules.proofs.Standing.{stands_at}
+use Rattle.base_words.specs.Lists.{Has}
+use Rattle.base_words.proofs.Listing.{has_from, has_to, has_filtered}
 use Rattle.plain_laws.proofs.Standing.{number_rises, set_same, set_other, file_other, Alive}
 use Rattle.plain_laws.proofs.Places.{In, in_to, Names, names_to}
 use Rattle.plain_laws.proofs.Steps.{stays_parts, stays_from, number_has}
 use Rattle.plain_mends.proofs.Frames.{ends_alike}
 use Rattle.plain_mends.proofs.GoneSteps.{each_alike}
-use Rattle.plain_mends.proofs.Standing.{all_stay, stays_each, same_file, own_names, unfinished}
+use Rattle.plain_mends.proofs.Standing.{all_stay, stays_each, own_names, unfinished}
+use Rattle.plain_laws.proofs.Unfinished.{same_file}
 use Rattle.plain_mends.proofs.FullSteps.{but, numbers_set, and_false}
 use Rattle.plain_mends.proofs.EmptySteps.{full_shut}
+use Rattle.plain_laws.proofs.ClearSteps.{not_nil}
 
 -- ---- lists
 
-places_set : (m : ℕ) (ss : List Slot) (i : ℕ) (s v : Slot) → slice_get ss i ≡ Some s → entries_in v ≡ entries_in s → places_from m (set ss i v) ≡ places_from m ss
+pub places_set : (m : ℕ) (ss : List Slot) (i : ℕ) (s v : Slot) → slice_get ss i ≡ Some s → entries_in v ≡ entries_in s → places_from m (set ss i v) ≡ places_from m ss
 places_set m [] i s v at h = absurd (cc at)
 places_set m (t ∷ ss) zero s v at h =
     let same : s ≡ t = let e : t ≡ s = cc at in sym e in
@@ -50,13 +53,7 @@ not_true : (b : Bool) → not b ≡ true → (b ≡ true → ⊥)
 not_true true h e = absurd (cc h)
 not_true false h e = absurd (cc e)
 
--- ---- files without entries
-
-not_nil : (es : List DirEnt) (e : DirEnt) → Has es e → is_nil es ≡ false
-not_nil [] e h = absurd h
-not_nil (x ∷ xs) e h = refl
-
-not_empty : (f : File) (e : DirEnt) → f.mark ≢ 1 → Has f.entries e → is_empty f ≡ false
+pub not_empty : (f : File) (e : DirEnt) → f.mark ≢ 1 → Has f.entries e → is_empty f ≡ false
 not_empty f e mark has =
     let first : (f.mark == 1) ≡ false = ne_eqb f.mark 1 mark in
     ap (λ b. b || (f.dir && is_nil f.entries)) first ∙ and_false f.dir (is_nil f.entries) (not_nil f.entries e has)
@@ -203,7 +200,7 @@ module _ (c : Cat) (n : ℕ) (f : File) (settled : Settled c) (none : lost c fal
 
   full_y : ((m : ℕ) → Has (lost c true) m → enter c m ≡ None) → (m : ℕ) → Has (lost y true) m → enter y m ≡ None
   full_y full m h =
-      let r = has_filter (λ k. not (k == n)) (lost c true) m (subst (λ (ks : List ℕ). Has ks m) (lost_y true) h) in
+      let r = has_filtered (λ k. not (k == n)) (lost c true) m (subst (λ (ks : List ℕ). Has ks m) (lost_y true) h) in
       enter_none c y m refl (file_y 11 (λ e. not_eleven (sym e))) (file_y m (λ e. not_true (m == n) r.1 (eq-eqb m n e))) (full m r.0)
 
   -- names and own entries are as before

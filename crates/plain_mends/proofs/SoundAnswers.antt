@@ -1,6 +1,6 @@
 -- Answers keep a catalogue in order.
 use Rattle.std.proofs.Common.{◌≡◌, ◌==◌, ◌&&◌, ◌-◌, ◌+◌, ◌*◌, ◌<◌, ◌≤◌, ◌⊎◌, inl, inr, ◌∙◌, ℕ, zero, suc, Bool, true, false, cond, not, min, List, [], ◌∷◌, Option, Some, None, length, map, slice_get, set, nat_le, nat_lt, refl, sym, ap, subst, arith}
-use Rattle.std.specs.Prelude.{is_some, is_none}
+use Rattle.std.specs.Prelude.{is_some}
 use Rattle.std.specs.List.{list_any}
 use Rattle.std.specs.Str.{bytes_eq}
 use Rattle.std.proofs.lemmas.Bool.{and_parts, cases_lt, eqb-true, eq-eqb}
@@ -23,20 +23,24 @@ use Rattle.plain_cat.specs.declared.cat.Slot.{Slot}
 use Rattle.plain_cat.specs.declared.cat.Slot.TheVariants.{Used, Free}
 use Rattle.plain_cat.specs.declared.cat.Open.{Open}
 use Rattle.plain_cat.specs.declared.cat.QuotaRow.{QuotaRow}
-use Rattle.plain_vol.specs.declared.outcome.Outcome.{Outcome}
-use Rattle.plain_vol.specs.Lookups.{slot_at, last_seq, file_at, of_seq, in_use, unmarked, live, versions, first_with, entry_of, highest, channel_at, is_open, row_of, is_free_number}
-use Rattle.plain_vol.specs.Directories.{inserted, is_entry, without, is_nil, fits, entry, nowhere, new_version, is_last_version, is_taken}
-use Rattle.plain_vol.specs.Changes.{in_clusters, cost, with_file, freed, raised, lowered, charged, discharged, new_fid, new_file, new_dir, grown, cut, block_of, is_past_mark, marked_up, written, with_channel, with_row, allowed}
-use Rattle.plain_vol.specs.Mending.{system_names, is_name_of, is_own}
-use Rattle.plain_vol.specs.Answers.{told, refused, first_refusal, unless, in_directory_file, lookup_outcome, list_outcome, stat_of, stat_outcome, create_checks, create_refusal, create_made, create_outcome, dir_name, mkdir_checks, mkdir_refusal, mkdir_made, mkdir_outcome, extend_checks, extend_refusal, extended, extend_of, extend_outcome, is_kept, truncated, trunc_of, trunc_outcome, removed, entered, with_entry, has_entries, unnamed, less_entry, delete_outcome, rename_refusal, rename_outcome, conflicts, open_of, open_outcome, closed, close_of, close_outcome, is_outside, read_of, read_open, read_outcome, is_reading, write_of, write_open, write_outcome, quota_set_of, quota_set_outcome, quota_shown, quota_show_outcome, outcome, IsPick, Answer}
-use Rattle.plain_mends.specs.Sound.{is_system_entry, HasOwnName, entries_of, IsSound}
-use Rattle.plain_vol.proofs.Picks.{pick_is_free}
-use Rattle.plain_vol.proofs.Standing.{stands_at, stands_free}
-use Rattle.plain_vol.proofs.Kept.{are_false}
-use Rattle.plain_laws.proofs.Members.{Has, has_to, has_filter, has_kept, any_has, has_any}
-use Rattle.plain_laws.proofs.Places.{inserted_has, has_inserted}
+use Rattle.plain_rules.specs.declared.outcome.Outcome.{Outcome}
+use Rattle.plain_rules.specs.Lookups.{slot_at, last_seq, file_at, of_seq, in_use, unmarked, live, versions, first_with, entry_of, highest, channel_at, is_open, row_of, is_free_number}
+use Rattle.plain_rules.specs.Directories.{inserted, is_entry, without, is_nil, fits, entry, nowhere, new_version, is_last_version, is_taken}
+use Rattle.plain_rules.specs.Changes.{in_clusters, cost, with_file, freed, raised, lowered, charged, discharged, new_fid, new_file, new_dir, grown, cut, block_of, is_past_mark, marked_up, written, with_channel, with_row, allowed}
+use Rattle.plain_rules.specs.Mending.{system_names, is_name_of, is_own}
+use Rattle.plain_rules.specs.Answers.{told, refused, first_refusal, unless, in_directory_file, lookup_outcome, list_outcome, stat_of, stat_outcome, create_checks, create_refusal, create_made, create_outcome, dir_name, mkdir_checks, mkdir_refusal, mkdir_made, mkdir_outcome, extend_checks, extend_refusal, extended, extend_of, extend_outcome, is_kept, truncated, trunc_of, trunc_outcome, removed, entered, with_entry, has_entries, unnamed, less_entry, delete_outcome, rename_refusal, rename_outcome, conflicts, open_of, open_outcome, closed, close_of, close_outcome, is_outside, read_of, read_open, read_outcome, is_reading, write_of, write_open, write_outcome, quota_set_of, quota_set_outcome, quota_shown, quota_show_outcome, outcome, IsPick, Answer}
+use Rattle.plain_mends.specs.Sound.{HasOwnName, IsSound}
+use Rattle.plain_rules.specs.SystemFiles.{is_system_entry}
+use Rattle.plain_rules.specs.SystemFiles.{entries_of}
+use Rattle.plain_rules.proofs.Picks.{pick_is_free}
+use Rattle.plain_rules.proofs.Standing.{stands_at, stands_free}
+use Rattle.plain_rules.proofs.Kept.{are_false}
+use Rattle.base_words.specs.Lists.{Has}
+use Rattle.base_words.proofs.Listing.{has_to, has_filtered, has_passed, any_has, has_any}
+use Rattle.plain_laws.proofs.Places.{inserted_has, has_inserted, name_of}
 use Rattle.plain_laws.proofs.Standing.{number_rises, file_from, file_other}
 use Rattle.plain_mends.proofs.SoundSteps.{Edge, Edit, edit_sound, slot_sound, beside_follows, no_way, listed_is}
+use Rattle.plain_rules.proofs.Keeps.{there as has_row}
 
 -- a catalogue in order is in order afterwards
 abbrev pub Keeps : Cat → Cat → Type 0
@@ -96,7 +100,7 @@ first_has ver (x ∷ xs) e h = by_case (x.ver == ver) h (λ k. first_has ver xs 
 
 pub entry_has : (name : List ℕ) (es : List DirEnt) (ver : ℕ) (e : DirEnt) → entry_of (versions name es) ver ≡ Some e → Has es e
 entry_has name es ver e h =
-    (has_filter (λ (x : DirEnt). bytes_eq x.name name) es e (first_has (cond (ver == 0) (highest (versions name es)) ver) (versions name es) e h)).0
+    (has_filtered (λ (x : DirEnt). bytes_eq x.name name) es e (first_has (cond (ver == 0) (highest (versions name es)) ver) (versions name es) e h)).0
 
 has_first : (ver : ℕ) (es : List DirEnt) (e : DirEnt) → Has es e → e.ver ≡ ver → is_some (first_with ver es) ≡ true
 has_first ver [] e h k = absurd h
@@ -109,7 +113,7 @@ has_first ver (x ∷ xs) e (inr h) k = by_case (x.ver == ver) (has_first ver xs 
 
 taken : (name : List ℕ) (ver : ℕ) (es : List DirEnt) (x : DirEnt) → Has es x → x.name ≡ name → x.ver ≡ ver → is_taken ver (versions name es) ≡ true
 taken name ver es x has names is =
-    has_first ver (versions name es) x (has_kept (λ (y : DirEnt). bytes_eq y.name name) es x has ((bytes_eq-Decides x.name name).1 names)) is
+    has_first ver (versions name es) x (has_passed (λ (y : DirEnt). bytes_eq y.name name) es x has ((bytes_eq-Decides x.name name).1 names)) is
 
 -- ---- rows
 
@@ -173,10 +177,6 @@ system_parts n e h =
     let b = and_parts (e.fid.num == n) (e.fid.seq == cond (nat_le n 9) n 1) a.1 in
     let number = eqb-true e.fid.num n b.0 in
     (own_name n e a.0 number, number)
-
-name_of : (name : List ℕ) (o : Option (List ℕ)) → is_name_of name o ≡ true → o ≡ Some name
-name_of name None h = absurd (cc h)
-name_of name (Some own) h = ap Some (sym ((bytes_eq-Decides name own).0 h))
 
 -- two entries with a system file's name
 one_name : (n : ℕ) (x e : DirEnt) → HasOwnName n x → HasOwnName n e → (x.name ≡ e.name) × (x.ver ≡ e.ver)
@@ -256,7 +256,7 @@ without_system c n d e h at has high here k from to any =
     let r = any_has (is_system_entry k) d.entries any in
     let p = system_parts k r.0 r.2 in
     has_any (is_system_entry k) (without e.name e.ver d.entries) r.0
-    (has_kept (λ (x : DirEnt). not (is_entry e.name e.ver x)) d.entries r.0 r.1 (kept r.0 p (is_entry e.name e.ver r.0) refl)) r.2
+    (has_passed (λ (x : DirEnt). not (is_entry e.name e.ver x)) d.entries r.0 r.1 (kept r.0 p (is_entry e.name e.ver r.0) refl)) r.2
   where
     kept : (x : DirEnt) → HasOwnName k x × (x.fid.num ≡ k) → (b : Bool) → is_entry e.name e.ver x ≡ b → not b ≡ true
     kept x p false is = refl
@@ -275,8 +275,8 @@ less_edit c n d e at free has high h = record {
   low = λ low. free;
   closed = λ some. free;
   own = λ here k from to any. without_system c n d e h at has high here k from to any;
-  named = λ here x k from to in_less. named_old c n d h at here x k from to (has_filter (λ (y : DirEnt). not (is_entry e.name e.ver y)) d.entries x in_less).0;
-  edges = λ x in_less. inl (x, (has_filter (λ (y : DirEnt). not (is_entry e.name e.ver y)) d.entries x in_less).0, refl, λ k. k);
+  named = λ here x k from to in_less. named_old c n d h at here x k from to (has_filtered (λ (y : DirEnt). not (is_entry e.name e.ver y)) d.entries x in_less).0;
+  edges = λ x in_less. inl (x, (has_filtered (λ (y : DirEnt). not (is_entry e.name e.ver y)) d.entries x in_less).0, refl, λ k. k);
 }
 
 -- a directory with one entry more, which has no system file's name
@@ -385,10 +385,6 @@ gone_sound c n f high h = removed_sound (discharged c f.owner (cost c f.clusters
 pub record MayCreate (c : Cat) (d : File) (name : List ℕ) (ver : ℕ) (owner : Uic) : Type 0 where
   pub untaken : is_taken ver (versions name d.entries) ≡ false
   pub row : is_some (row_of owner c.quota) ≡ true
-
-has_row : (o : Option QuotaRow) → is_none o ≡ false → is_some o ≡ true
-has_row None h = absurd (cc h)
-has_row (Some r) h = refl
 
 pub create_may : (c : Cat) (d : File) (name : List ℕ) (ver blocks : ℕ) (owner : Uic) (new : Option ℕ) → create_refusal c d name ver blocks owner new ≡ None
     → MayCreate c d name (new_version ver (versions name d.entries)) owner × (in_clusters c blocks ≤ 77)
@@ -529,7 +525,7 @@ rename_keeps c dir name ver to to_ver = in_keeps c (live c dir) _ (λ d at is. e
     let has = entry_has name d.entries ver e found in
     let new : DirEnt = entry to (new_version to_ver (versions to d.entries)) e.fid in
     edit_sound c dir.num d (record d { entries = inserted new (without e.name e.ver d.entries) }) p.0 (λ h.
-    more_edit c dir.num d new (without e.name e.ver d.entries) p.0 p.1 (λ x k. (has_filter (λ (y : DirEnt). not (is_entry e.name e.ver y)) d.entries x k).0)
+    more_edit c dir.num d new (without e.name e.ver d.entries) p.0 p.1 (λ x k. (has_filtered (λ (y : DirEnt). not (is_entry e.name e.ver y)) d.entries x k).0)
     (without_system c dir.num d e h p.0 has high) (fresh_name c dir.num d new h p.0 (rename_may c d to to_ver passed)) (renamed_edge c dir.num d e to (new_version to_ver (versions to d.entries)) has high) h))))
 
 open_keeps : (c : Cat) (n chan k : ℕ) (f : Option File) (mode : Mode) → Keeps c (open_of c n chan k f mode).after

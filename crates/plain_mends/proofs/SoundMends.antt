@@ -13,21 +13,26 @@ use Rattle.plain_cat.specs.declared.cat.Cat.{Cat}
 use Rattle.plain_cat.specs.declared.cat.File.{File}
 use Rattle.plain_cat.specs.declared.cat.Open.{Open}
 use Rattle.plain_cat.specs.declared.script.Script.{Script}
-use Rattle.plain_vol.specs.declared.places.Place.{Place}
-use Rattle.plain_vol.specs.Lookups.{file_at}
-use Rattle.plain_vol.specs.Directories.{inserted, is_nil}
-use Rattle.plain_vol.specs.Changes.{with_entries}
-use Rattle.plain_vol.specs.Answers.{has_entries}
-use Rattle.plain_vol.specs.Mending.{places, is_own, is_first, stays, without_opens, without_entries, is_named, lost, enter, enter_all, enter_some, with_lost, without_gone, without_leaks, summed_row, put_right, mended, stripped}
-use Rattle.plain_vol.specs.Own.{next_command}
-use Rattle.plain_vol.specs.Replaying.{closed_channels, dead, Leads, ReplaysFrom, Replays}
-use Rattle.plain_mends.specs.Sound.{system_seq, is_system_entry, listed, entries_of, LeadsTo, NumberPath, IsSound}
+use Rattle.plain_rules.specs.declared.places.Place.{Place}
+use Rattle.plain_rules.specs.Lookups.{file_at}
+use Rattle.plain_rules.specs.Directories.{inserted, is_nil}
+use Rattle.plain_rules.specs.Changes.{with_entries}
+use Rattle.plain_rules.specs.Answers.{has_entries}
+use Rattle.plain_rules.specs.Mending.{places, is_own, is_first, stays, without_opens, without_entries, is_named, lost, enter, enter_all, enter_some, with_lost, without_gone, without_leaks, summed_row, put_right, mended, stripped}
+use Rattle.plain_rules.specs.Own.{next_command}
+use Rattle.plain_rules.specs.Replaying.{closed_channels, dead, Leads, ReplaysFrom, Replays}
+use Rattle.plain_mends.specs.Sound.{LeadsTo, NumberPath, IsSound}
+use Rattle.plain_rules.specs.SystemFiles.{is_system_entry}
+use Rattle.plain_rules.specs.SystemFiles.{system_seq}
+use Rattle.plain_rules.specs.SystemFiles.{listed}
+use Rattle.plain_rules.specs.SystemFiles.{entries_of}
 use Rattle.plain_mends.specs.Sound.NumberPath.{One, More}
-use Rattle.plain_laws.proofs.Members.{Has, has_from, has_to, has_filter, has_kept, any_has, has_any}
+use Rattle.base_words.specs.Lists.{Has}
+use Rattle.base_words.proofs.Listing.{has_from, has_to, has_filtered, has_passed, any_has, has_any}
 use Rattle.plain_laws.proofs.Standing.{number_rises, Alive}
 use Rattle.plain_laws.proofs.Places.{In, names_to}
 use Rattle.plain_laws.proofs.Steps.{less_file, less_at, less_from, in_less, stays_parts, stays_from, entered_by, new_place, in_entered, both_from, kept_from, kept_to, mends_from}
-use Rattle.plain_mends.proofs.Standing.{lost_file}
+use Rattle.plain_laws.proofs.Unfinished.{lost_file}
 use Rattle.plain_mends.proofs.FullSteps.{Shape, shape_by}
 use Rattle.plain_mends.proofs.SoundSteps.{Comes, sound_on, same_comes, beside_follows, edit_sound, listed_is, if_listed, listed_if}
 use Rattle.plain_mends.proofs.SoundAnswers.{rows_map, is_unmarked, more_edit, answer_sound}
@@ -56,7 +61,7 @@ system_whole k e h =
     let b = and_parts (e.fid.num == k) (e.fid.seq == system_seq k) a.1 in
     (a.0, (eqb-true e.fid.num k b.0, eqb-true e.fid.seq (system_seq k) b.1))
 
-whole_system : (k : ℕ) (e : DirEnt) → is_own (record { dir = 4; entry = e }) ≡ true → e.fid.num ≡ k → e.fid.seq ≡ system_seq k → is_system_entry k e ≡ true
+pub whole_system : (k : ℕ) (e : DirEnt) → is_own (record { dir = 4; entry = e }) ≡ true → e.fid.num ≡ k → e.fid.seq ≡ system_seq k → is_system_entry k e ≡ true
 unfolding is_system_entry
 whole_system k e own number seq =
     and_from (is_own (record { dir = 4; entry = e })) ((e.fid.num == k) && (e.fid.seq == system_seq k)) own
@@ -89,7 +94,7 @@ less_sound c h = sound_on c a 0 (record {
 
   -- an entry that is left was there
   was : (n : ℕ) (f : File) (e : DirEnt) → Has (listed (Some (less_file c n f))) e → Has (listed (Some f)) e
-  was n f e has = let r = if_listed f.dir (less_file c n f).entries e has in listed_if f.dir f.entries e r.0 (has_filter (λ (x : DirEnt). stays c (record { dir = n; entry = x })) f.entries e r.1).0
+  was n f e has = let r = if_listed f.dir (less_file c n f).entries e has in listed_if f.dir f.entries e r.0 (has_filtered (λ (x : DirEnt). stays c (record { dir = n; entry = x })) f.entries e r.1).0
 
   some_left : (n : ℕ) (f : File) → has_entries (Some (less_file c n f)) ≡ true → has_entries (Some f) ≡ true
   some_left n f has = let r = and_parts f.dir (not (is_nil (less_file c n f).entries)) has in and_from f.dir (not (is_nil f.entries)) r.0 (full f.entries r.1) where
@@ -110,7 +115,7 @@ less_sound c h = sound_on c a 0 (record {
       let m = h.systems 4 (omega arith) (omega arith) in
       let r = any_has (is_system_entry k) (entries_of c 4) any in
       let mine : Has m.0.entries r.0 = subst (λ (es : List DirEnt). Has es r.0) (listed_is c 4 m.0 m.1 m.2.dir) r.1 in
-      let left : Has (less_file c 4 m.0).entries r.0 = has_kept (λ (x : DirEnt). stays c (record { dir = 4; entry = x })) m.0.entries r.0 mine (system_stays c k r.0 h from to r.2) in
+      let left : Has (less_file c 4 m.0).entries r.0 = has_passed (λ (x : DirEnt). stays c (record { dir = 4; entry = x })) m.0.entries r.0 mine (system_stays c k r.0 h from to r.2) in
       let there : Has (entries_of a 4) r.0 = subst (λ (o : Option File). Has (listed o) r.0) (sym (four m.0 m.1)) (listed_if m.0.dir (less_file c 4 m.0).entries r.0 m.2.dir left) in
       has_any (is_system_entry k) (entries_of a 4) r.0 there r.2
 
@@ -125,7 +130,7 @@ less_sound c h = sound_on c a 0 (record {
 abbrev Owned : Cat → Type 0
 Owned x = (p : Place) → In x p → p.entry.fid.num ≤ 11 → (p.dir ≡ 4) × (is_system_entry p.entry.fid.num p.entry ≡ true)
 
-dir_four : (p : Place) → is_own p ≡ true → p.dir ≡ 4
+pub dir_four : (p : Place) → is_own p ≡ true → p.dir ≡ 4
 unfolding is_own
 dir_four p h = eqb-true p.dir 4 (and_parts (p.dir == 4) _ h).0
 

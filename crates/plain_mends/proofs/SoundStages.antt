@@ -14,16 +14,17 @@ use Rattle.plain_cat.specs.declared.history.Stage.{Stage}
 use Rattle.plain_cat.specs.declared.history.Stage.TheVariants as stage
 use Rattle.plain_cat.specs.declared.cat.Cat.{Cat}
 use Rattle.plain_cat.specs.declared.cat.File.{File}
-use Rattle.plain_vol.specs.declared.outcome.Outcome.{Outcome}
-use Rattle.plain_vol.specs.Lookups.{file_at, in_use, live, versions, entry_of, channel_at, is_open, row_of, is_free_number}
-use Rattle.plain_vol.specs.Directories.{inserted, entry, new_version}
-use Rattle.plain_vol.specs.Changes.{in_clusters, cost, with_file, freed, with_entries, new_fid, new_file, new_dir, cut, is_past_mark, text_block, with_block, with_channel}
-use Rattle.plain_vol.specs.Answers.{refused, unless, in_directory_file, create_refusal, create_made, create_outcome, dir_name, mkdir_refusal, mkdir_made, mkdir_outcome, with_entry, has_entries, unnamed, less_entry, delete_outcome, rename_refusal, renamed, rename_outcome, outcome, IsPick}
-use Rattle.plain_vol.specs.Stages.{is_refusal, only_if, making_stage, create_stage, mkdir_stage, extend_stage, trunc_stage, unnaming_stage, entry_stage, delete_stage, renaming_stage, rename_stage, closing_stage, close_stage, writing_stage, write_stage, quota_stage, command_stage, shown_stage, begun, staged}
+use Rattle.plain_rules.specs.declared.outcome.Outcome.{Outcome}
+use Rattle.plain_rules.specs.Lookups.{file_at, in_use, live, versions, entry_of, channel_at, is_open, row_of, is_free_number}
+use Rattle.plain_rules.specs.Directories.{inserted, entry, new_version}
+use Rattle.plain_rules.specs.Changes.{in_clusters, cost, with_file, freed, with_entries, new_fid, new_file, new_dir, cut, is_past_mark, text_block, with_block, with_channel}
+use Rattle.plain_rules.specs.Answers.{refused, unless, in_directory_file, create_refusal, create_made, create_outcome, dir_name, mkdir_refusal, mkdir_made, mkdir_outcome, with_entry, has_entries, unnamed, less_entry, delete_outcome, rename_refusal, renamed, rename_outcome, outcome, IsPick}
+use Rattle.plain_rules.specs.Stages.{is_refusal, only_if, making_stage, create_stage, mkdir_stage, extend_stage, trunc_stage, unnaming_stage, entry_stage, delete_stage, renaming_stage, rename_stage, closing_stage, close_stage, writing_stage, write_stage, quota_stage, command_stage, shown_stage, begun, staged}
 use Rattle.plain_mends.specs.Sound.{IsSound}
-use Rattle.plain_vol.proofs.Picks.{pick_is_free}
+use Rattle.plain_rules.proofs.Picks.{pick_is_free}
 use Rattle.plain_mends.proofs.SoundSteps.{edit_sound}
 use Rattle.plain_mends.proofs.SoundAnswers.{used_part, live_parts, entry_has, charged_sound, channel_sound, placed_sound, removed_sound, create_may, mkdir_may, cut_sound, Loses, less_sound, unlinked_sound, mark_edit, more_edit, fresh_name, renamed_edge, rename_may, marked_high, data_sound, outcome_sound}
+use Rattle.base_words.proofs.Booleans.{above_from}
 
 -- a catalogue, where there is one, is in order
 abbrev pub SoundIf : Option Cat → Type 0
@@ -51,9 +52,6 @@ in_passed P c (Some d) next k h = by_dir d.dir refl h where
   by_dir true is e = k d refl is e
   by_dir false is e = absurd (let f : true ≡ false = e in cc f)
 
-above : (n : ℕ) → nat_le n 11 ≡ false → 11 < n
-above n e = grind (arith, nat_tests)
-
 entry_passed : (c : Cat) (o : Option DirEnt) (next : DirEnt → Outcome) (e : DirEnt) → o ≡ Some e → is_refusal (with_entry c o next).reply ≡ false
     → (11 < e.fid.num) × (is_refusal (next e).reply ≡ false)
 entry_passed c None next e at h = absurd (let f : true ≡ false = h in cc f)
@@ -62,7 +60,7 @@ entry_passed c (Some x) next e at h =
     subst (λ (y : DirEnt). (11 < y.fid.num) × (is_refusal (next y).reply ≡ false)) same (by_system (nat_le x.fid.num 11) refl h) where
       by_system : (b : Bool) → nat_le x.fid.num 11 ≡ b → is_refusal (cond b (refused c refusal.NoPriv) (next x)).reply ≡ false → (11 < x.fid.num) × (is_refusal (next x).reply ≡ false)
       by_system true is k = absurd (let f : true ≡ false = k in cc f)
-      by_system false is k = (above x.fid.num is, k)
+      by_system false is k = (above_from x.fid.num is, k)
 
 create_passed : (c : Cat) (dir : Fid) (name : List ℕ) (ver blocks : ℕ) (owner : Uic) (new : Option ℕ) → is_refusal (create_outcome c dir name ver blocks owner new).reply ≡ false
     → (is_some (row_of owner c.quota) ≡ true) × (in_clusters c blocks ≤ 77)

@@ -9,14 +9,18 @@ use Rattle.plain_cat.specs.declared.cat.Cat.{Cat}
 use Rattle.plain_cat.specs.declared.cat.File.{File}
 use Rattle.plain_cat.specs.declared.cat.Slot.{Slot}
 use Rattle.plain_cat.specs.declared.cat.Slot.TheVariants.{Used}
-use Rattle.plain_vol.specs.Lookups.{file_at, row_of}
-use Rattle.plain_vol.specs.Directories.{is_nil}
-use Rattle.plain_vol.specs.Changes.{with_slot, with_file}
-use Rattle.plain_vol.specs.Answers.{has_entries}
-use Rattle.plain_mends.specs.Sound.{IsSystemFile, is_system_entry, HasOwnName, listed, entries_of, LeadsTo, NumberPath, IsSound}
+use Rattle.plain_rules.specs.Lookups.{file_at, row_of}
+use Rattle.plain_rules.specs.Directories.{is_nil}
+use Rattle.plain_rules.specs.Changes.{with_slot, with_file}
+use Rattle.plain_rules.specs.Answers.{has_entries}
+use Rattle.plain_mends.specs.Sound.{IsSystemFile, HasOwnName, LeadsTo, NumberPath, IsSound}
+use Rattle.plain_rules.specs.SystemFiles.{is_system_entry}
+use Rattle.plain_rules.specs.SystemFiles.{listed}
+use Rattle.plain_rules.specs.SystemFiles.{entries_of}
 use Rattle.plain_mends.specs.Sound.NumberPath.{One, More}
-use Rattle.plain_vol.proofs.Standing.{stands_at}
-use Rattle.plain_laws.proofs.Members.{Has, has_from, has_to}
+use Rattle.plain_rules.proofs.Standing.{stands_at}
+use Rattle.base_words.specs.Lists.{Has}
+use Rattle.base_words.proofs.Listing.{has_from, has_to}
 use Rattle.plain_laws.proofs.Standing.{number_rises, file_same, file_other}
 
 -- what a file of the later catalogue is by the earlier one, where new chains begin at s

@@ -8,18 +8,19 @@ use Rattle.plain_cat.specs.declared.cat.Cat.{Cat}
 use Rattle.plain_cat.specs.declared.cat.File.{File}
 use Rattle.plain_cat.specs.declared.cat.Slot.{Slot}
 use Rattle.plain_cat.specs.declared.cat.Slot.TheVariants.{Used, Free}
-use Rattle.plain_vol.specs.declared.places.Place.{Place}
-use Rattle.plain_vol.specs.Lookups.{file_at}
-use Rattle.plain_vol.specs.Directories.{inserted}
-use Rattle.plain_vol.specs.Mending.{places, is_own, is_first, stays, without_opens, less_entries, is_empty, is_named, is_lost_slot, numbers_from, lost}
+use Rattle.plain_rules.specs.declared.places.Place.{Place}
+use Rattle.plain_rules.specs.Lookups.{file_at}
+use Rattle.plain_rules.specs.Directories.{inserted}
+use Rattle.plain_rules.specs.Mending.{places, is_own, is_first, stays, without_opens, less_entries, is_empty, is_named, is_lost_slot, numbers_from, lost}
 use Rattle.plain_laws.specs.Clearing.{HasOwnEntry}
 use Rattle.plain_mends.specs.Resuming.{AllStay}
 use Rattle.plain_mends.specs.Waiting.{Settled}
-use Rattle.plain_laws.proofs.Members.{Has, has_from, has_either, has_filter, filter_all, Distinct, distinct_join}
+use Rattle.base_words.specs.Lists.{Has, Once}
+use Rattle.base_words.proofs.Listing.{has_from, has_parted, has_filtered, filter_all, once_in_a_row}
 use Rattle.plain_laws.proofs.Standing.{file_from, each_same, Alive}
 use Rattle.plain_laws.proofs.Places.{In, in_from, first_is, first_one, own_one, Names, names_to}
 use Rattle.plain_laws.proofs.Steps.{SameFiles, like_left, like_right, less_file, less_at, stays_parts, Entered, entered_same, new_place, in_entered, has_number}
-use Rattle.plain_laws.proofs.Unfinished.{IsLost, Unfinished}
+use Rattle.plain_laws.proofs.Unfinished.{IsLost, Unfinished, new_number, not_not, LostFile, lost_file, same_file, apart, numbers_distinct}
 
 -- opens are no matter of what stays
 pub stays_open : (x : Cat) (p : Place) → stays (without_opens x) p ≡ stays x p
@@ -33,7 +34,7 @@ stays_each x all n f e at has =
     sym at ∙ (ap (λ (z : Cat). file_at z n) (sym all) ∙ (less_at (without_opens x) n ∙ ap (λ o. option_map (less_file (without_opens x) n) o) at)) in
     let same : f ≡ less_file (without_opens x) n f = cc there in
     let kept : Has (less_file (without_opens x) n f).entries e = subst (λ (z : File). Has z.entries e) same has in
-    let r = has_filter (λ (d : DirEnt). stays (without_opens x) (record { dir = n; entry = d })) f.entries e kept in
+    let r = has_filtered (λ (d : DirEnt). stays (without_opens x) (record { dir = n; entry = d })) f.entries e kept in
     sym (stays_open x (record { dir = n; entry = e })) ∙ r.1
 
 -- and the other way round
@@ -46,59 +47,6 @@ all_stay x each = ap (λ fs. record (without_opens x) { files = fs }) (each_same
       let file : file_at x (1 + i) ≡ Some f = file_from x (1 + i) f (omega arith) here in
       ap (λ es. Used (record f { entries = es })) (filter_all (λ e. stays (without_opens x) (record { dir = 1 + i; entry = e })) f.entries (λ e has.
       stays_open x (record { dir = 1 + i; entry = e }) ∙ each (1 + i) f e file has))
-
-pub same_file : (a : Cat) (m : ℕ) (f g : File) → file_at a m ≡ Some f → file_at a m ≡ Some g → f ≡ g
-same_file a m f g h k = let both : Some f ≡ Some g = sym h ∙ k in cc both
-
-not_not : (b : Bool) → not b ≡ true → b ≡ false
-not_not true h = absurd (cc h)
-not_not false h = refl
-
--- a file that is lost
-pub record LostFile (a : Cat) (empty : Bool) (m : ℕ) : Type 0 where
-  pub file : File
-  pub at : file_at a m ≡ Some file
-  pub free : file.marked ≡ false
-  pub missing : is_named a (record { num = m; seq = file.seq }) ≡ false
-  pub empties : cond empty (is_empty file) (not (is_empty file)) ≡ true
-
-lost_slot : (a : Cat) (empty : Bool) (m i : ℕ) (s : Slot) → slice_get a.files i ≡ Some s → m ≡ 1 + i → is_lost_slot a empty m s ≡ true → LostFile a empty m
-lost_slot a empty m i (Free q) at number h = absurd (cc h)
-lost_slot a empty m i (Used f) at number h =
-    let p = and_parts (not f.marked && not (is_named a (record { num = m; seq = f.seq }))) (cond empty (is_empty f) (not (is_empty f))) h in
-    let q = and_parts (not f.marked) (not (is_named a (record { num = m; seq = f.seq }))) p.0 in
-    let place : i ≡ m - 1 = omega (arith, number) in
-    record {
-      file = f;
-      at = file_from a m f (omega (arith, number)) (ap (λ k. slice_get a.files k) (sym place) ∙ at);
-      free = not_not f.marked q.0;
-      missing = not_not (is_named a (record { num = m; seq = f.seq })) q.1;
-      empties = p.1;
-    }
-
-pub lost_file : (a : Cat) (empty : Bool) (m : ℕ) → Has (lost a empty) m → LostFile a empty m
-lost_file a empty m h =
-    let r = has_number (is_lost_slot a empty) 1 a.files m h in lost_slot a empty m r.place r.slot r.at r.number r.passed
-
--- a file is not empty and full
-pub apart : (a : Cat) (m : ℕ) → Has (lost a false) m → Has (lost a true) m → ⊥
-apart a m h k =
-    let f = lost_file a false m h in
-    let g = lost_file a true m k in
-    let same : f.file ≡ g.file = same_file a m f.file g.file f.at g.at in
-    let full : not (is_empty g.file) ≡ true = ap (λ (z : File). not (is_empty z)) (sym same) ∙ f.empties in
-    let both : true ≡ false = sym g.empties ∙ not_not (is_empty g.file) full in
-    absurd (cc both)
-
-pub numbers_distinct : (passes : ℕ → Slot → Bool) (n : ℕ) (ss : List Slot) → Distinct (numbers_from passes n ss)
-numbers_distinct passes n [] = tt
-numbers_distinct passes n (s ∷ ss) = either (passes n s) (numbers_distinct passes (n + 1) ss) where
-  above : Has (numbers_from passes (n + 1) ss) n → ⊥
-  above h = let r = has_number passes (n + 1) ss n h in let e = r.number in omega (arith, e)
-
-  either : (b : Bool) → Distinct (numbers_from passes (n + 1) ss) → Distinct (cond b (n ∷ numbers_from passes (n + 1) ss) (numbers_from passes (n + 1) ss))
-  either true d = (above, d)
-  either false d = d
 
 -- a system file is named by its own entry
 pub own_names : (x : Cat) (n : ℕ) (f : File) → HasOwnEntry x n f → Names x (record { num = n; seq = f.seq })
@@ -175,8 +123,8 @@ module _ (x : Cat) (settled : Settled x) where
     one = λ p q i j same high. first_one p q (places x) same (first p i high) (first q j (subst (λ (z : Fid). 11 < z.num) same high));
     own = own;
     alive = living;
-    fresh = λ m has. fresh m (has_either (lost x false) (lost x true) m has);
-    distinct = distinct_join (lost x false) (lost x true) (numbers_distinct (is_lost_slot x false) 1 x.files) (numbers_distinct (is_lost_slot x true) 1 x.files) (apart x);
+    fresh = λ m has. fresh m (has_parted (lost x false) (lost x true) m has);
+    distinct = once_in_a_row (lost x false) (lost x true) (numbers_distinct (is_lost_slot x false) 1 x.files) (numbers_distinct (is_lost_slot x true) 1 x.files) (apart x);
     placed = λ n f e at has.
         let i = within (record { dir = n; entry = e }) (stays_each x settled.stay n f e at has) in
         ap (λ (z : File). z.dir) (same_file x n f i.file at i.at) ∙ i.dir;
@@ -187,10 +135,6 @@ alive_over : (x y : Cat) (fid : Fid) → SameFiles x y → Alive x fid → Alive
 alive_over x y fid same a =
     let l = like_right x y fid.num a.file same a.at in
     record { file = l.file; at = l.at; seq = ap (λ (z : File). z.seq) l.same ∙ a.seq; free = ap (λ (z : File). z.marked) l.same ∙ a.free }
-
--- the number of the new entry
-new_number : (x y : Cat) (m : ℕ) (e : Entered x y m) (p : Place) → p ≡ new_place e.entry → p.entry.fid.num ≡ m
-new_number x y m e p is = ap (λ (z : Place). z.entry.fid.num) is ∙ ap (λ (z : Fid). z.num) e.fid
 
 -- what holds on once one of the files is entered, wherever among them it stands
 pub step : (ls : List ℕ) (m : ℕ) (ms : List ℕ) (x y : Cat) → Entered x y m → Unfinished (ls ++ m ∷ ms) x → Unfinished (ls ++ ms) y
@@ -216,7 +160,7 @@ step ls m ms x y e u = record {
   at_m [] = inl refl
   at_m (z ∷ zs) = inr (at_m zs)
 
-  fewer : (ks : List ℕ) → Distinct (ks ++ m ∷ ms) → Distinct (ks ++ ms) × (Has (ks ++ ms) m → ⊥)
+  fewer : (ks : List ℕ) → Once (ks ++ m ∷ ms) → Once (ks ++ ms) × (Has (ks ++ ms) m → ⊥)
   fewer [] d = (d.1, d.0)
   fewer (z ∷ zs) d = let r = fewer zs d.1 in ((λ h. d.0 (wider zs z h), r.0), out r.1) where
     out : (Has (zs ++ ms) m → ⊥) → Has (z ∷ (zs ++ ms)) m → ⊥

@@ -5,11 +5,11 @@ use Rattle.plain_cat.specs.declared.history.Mended.{Mended}
 use Rattle.plain_cat.specs.declared.cat.Cat.{Cat}
 use Rattle.plain_cat.specs.declared.cat.File.{File}
 use Rattle.plain_cat.specs.declared.cat.QuotaRow.{QuotaRow}
-use Rattle.plain_vol.specs.declared.places.Place.{Place}
-use Rattle.plain_vol.specs.Lookups.{file_at}
-use Rattle.plain_vol.specs.Directories.{is_entry, without}
-use Rattle.plain_vol.specs.Changes.{freed, with_entries}
-use Rattle.plain_vol.specs.Mending.{places, same_place, stays, without_opens, mended, stripped}
+use Rattle.plain_rules.specs.declared.places.Place.{Place}
+use Rattle.plain_rules.specs.Lookups.{file_at}
+use Rattle.plain_rules.specs.Directories.{is_entry, without}
+use Rattle.plain_rules.specs.Changes.{freed, with_entries}
+use Rattle.plain_rules.specs.Mending.{places, same_place, stays, without_opens, mended, stripped}
 
 -- mending ends with the catalogue d
 abbrev pub MendsTo : Cat → Cat → Type 0

@@ -1,20 +1,13 @@
 -- Catalogues in order: what commands, deaths and mending keep, and what mending needs of an accepted volume.
-use Rattle.std.specs.Prelude.{◌≡◌, ◌==◌, ◌&&◌, ◌||◌, ◌≤◌, ◌<◌, nat_le, ℕ, Bool, true, false, List, [], Option, Some, None, length, is_some, if◌then◌else◌}
+use Rattle.std.specs.Prelude.{◌≡◌, ◌==◌, ◌&&◌, ◌||◌, ◌≤◌, ◌<◌, ℕ, true, false, [], Some, length, is_some, if◌then◌else◌}
 use Rattle.std.specs.List.{Contains, list_any}
 use Rattle.plain_cat.specs.declared.entries.DirEnt.{DirEnt}
 use Rattle.plain_cat.specs.declared.cat.Cat.{Cat}
 use Rattle.plain_cat.specs.declared.cat.File.{File}
-use Rattle.plain_vol.specs.Lookups.{file_at, row_of}
-use Rattle.plain_vol.specs.Answers.{has_entries}
-use Rattle.plain_vol.specs.Mending.{is_own}
-
--- the sequence of a system file's identifier: its own number up to 9, then 1
-abbrev pub system_seq : ℕ → ℕ
-system_seq n = if nat_le n 9 then n else 1
-
--- the master file directory and [SYSLOST]
-abbrev pub is_system_directory : ℕ → Bool
-is_system_directory n = (n == 4) || (n == 11)
+use Rattle.plain_rules.specs.Lookups.{file_at, row_of}
+use Rattle.plain_rules.specs.Answers.{has_entries}
+use Rattle.plain_rules.specs.Mending.{is_own}
+use Rattle.plain_rules.specs.SystemFiles.{system_seq, is_system_directory, entries_of, is_system_entry}
 
 -- the file of a system number has its sequence, is a directory where it should be, and is not marked for delete
 pub record IsSystemFile (n : ℕ) (f : File) : Type 0 where
@@ -22,21 +15,9 @@ pub record IsSystemFile (n : ℕ) (f : File) : Type 0 where
   pub dir : f.dir ≡ is_system_directory n
   pub unmarked : f.marked ≡ false
 
--- whether an entry of the master file directory is the own entry of system file n
-unfoldable pub is_system_entry : ℕ → DirEnt → Bool
-is_system_entry n e = is_own (record { dir = 4; entry = e }) && ((e.fid.num == n) && (e.fid.seq == system_seq n))
-
 -- an entry has the name and the version that system file n has in the master file directory
 abbrev pub HasOwnName : ℕ → DirEnt → Type 0
 HasOwnName n e = is_own (record { dir = 4; entry = record { name = e.name; ver = e.ver; fid = record { num = n; seq = 0 } } }) ≡ true
-
-abbrev pub listed : Option File → List DirEnt
-listed None = []
-listed (Some f) = if f.dir then f.entries else []
-
--- the entries of the directory of this number
-abbrev pub entries_of : Cat → ℕ → List DirEnt
-entries_of c n = listed (file_at c n)
 
 -- an entry of directory n has the number m, whether a file of that number is in use or not; the master file directory's own entry is
 -- left out

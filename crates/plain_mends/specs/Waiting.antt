@@ -4,9 +4,9 @@ use Rattle.std.specs.List.{Contains}
 use Rattle.plain_cat.specs.declared.cat.Cat.{Cat}
 use Rattle.plain_cat.specs.declared.cat.File.{File}
 use Rattle.plain_cat.specs.declared.cat.QuotaRow.{QuotaRow}
-use Rattle.plain_vol.specs.Lookups.{file_at}
-use Rattle.plain_vol.specs.Accounts.{charge}
-use Rattle.plain_vol.specs.Mending.{lost, enter}
+use Rattle.plain_rules.specs.Lookups.{file_at}
+use Rattle.plain_rules.specs.Accounts.{charge}
+use Rattle.plain_rules.specs.Mending.{lost, enter}
 use Rattle.plain_laws.specs.Clearing.{IsUnmarked, KeepsNames, AreOwned}
 use Rattle.plain_mends.specs.Resuming.{AllStay}
 

@@ -2,8 +2,8 @@ ghost use Rattle.std.specs.Prelude.{◌≡◌, ◌<◌, ◌++◌, ℕ, true, fal
 ghost use Rattle.std.specs.Str.{bytes_eq};
 ghost use Rattle.plain_cat.specs.declared.entries.DirEnt.{DirEnt};
 ghost use Rattle.plain_cat.specs.declared.cat.Cat.{Cat};
-ghost use Rattle.plain_vol.specs.Directories.{inserted, fits};
-ghost use Rattle.plain_vol.specs.Mending.{lost, lost_name, with_lost_entry, enter};
+ghost use Rattle.plain_rules.specs.Directories.{inserted, fits};
+ghost use Rattle.plain_rules.specs.Mending.{lost, lost_name, with_lost_entry, enter};
 ghost use Rattle.plain_mends.specs.Resuming.{MendsTo, AllStay};
 ghost use Rattle.plain_mends.specs.Waiting.{Settled, LostIsWritten, AreFull};
 

@@ -2,8 +2,8 @@ ghost use Rattle.std.specs.Prelude.{◌≡◌, ℕ, Bool, true, false, List, [],
 ghost use Rattle.plain_cat.specs.declared.cat.Cat.{Cat};
 ghost use Rattle.plain_cat.specs.declared.cat.File.{File};
 ghost use Rattle.plain_cat.specs.declared.cat.QuotaRow.{QuotaRow};
-ghost use Rattle.plain_vol.specs.Lookups.{file_at};
-ghost use Rattle.plain_vol.specs.Mending.{without_opens, lost, is_gone, mended};
+ghost use Rattle.plain_rules.specs.Lookups.{file_at};
+ghost use Rattle.plain_rules.specs.Mending.{without_opens, lost, is_gone, mended};
 ghost use Rattle.plain_laws.specs.Clearing.{nothing_done};
 ghost use Rattle.plain_mends.specs.Resuming.{MendsTo, AllStay, leaving, IsOfUsage};
 ghost use Rattle.plain_mends.specs.Waiting.{Settled, AreFull, IsDone};

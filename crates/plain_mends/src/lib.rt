@@ -6,7 +6,7 @@
 //! file that is entered in `[SYSLOST]`, `slot_goes` of a file that goes, `leaks_go` and `usage_goes` of leaks and usages.
 //! `nothing_left` says when nothing is left to mend, and `sound_stays` that a catalogue in order stays so along every history.
 //!
-//! `vol_mends`, `mend_writes` and `vol_rebuild` use them.
+//! `vol_mends` and `vol_rebuild` use them.
 #![tactic(auto)]
 
 mod entering;

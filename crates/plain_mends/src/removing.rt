@@ -1,8 +1,8 @@
 ghost use Rattle.std.specs.Prelude.{◌≡◌, ◌+◌, length, filter};
 ghost use Rattle.plain_cat.specs.declared.cat.Cat.{Cat};
 ghost use Rattle.plain_cat.specs.declared.cat.File.{File};
-ghost use Rattle.plain_vol.specs.declared.places.Place.{Place};
-ghost use Rattle.plain_vol.specs.Mending.{places, stays, stripped};
+ghost use Rattle.plain_rules.specs.declared.places.Place.{Place};
+ghost use Rattle.plain_rules.specs.Mending.{places, stays, stripped};
 ghost use Rattle.plain_mends.specs.Resuming.{MendsTo, AreKeyed, Goes, less_one, is_other};
 
 /// Mending ends the same once an entry that does not stay is gone. Which of all entries stay is as before, and so is the catalogue

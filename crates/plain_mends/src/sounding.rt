@@ -6,10 +6,10 @@ ghost use Rattle.plain_cat.specs.declared.history.Entry.{Entry};
 ghost use Rattle.plain_cat.specs.declared.history.Mended.{Mended};
 ghost use Rattle.plain_cat.specs.declared.script.Script.{Script};
 ghost use Rattle.plain_cat.specs.declared.cat.Cat.{Cat};
-ghost use Rattle.plain_vol.specs.Answers.{IsPick, Answer};
-ghost use Rattle.plain_vol.specs.Stages.{staged};
-ghost use Rattle.plain_vol.specs.Mending.{mended};
-ghost use Rattle.plain_vol.specs.Replaying.{dead, Leads, Replays};
+ghost use Rattle.plain_rules.specs.Answers.{IsPick, Answer};
+ghost use Rattle.plain_rules.specs.Stages.{staged};
+ghost use Rattle.plain_rules.specs.Mending.{mended};
+ghost use Rattle.plain_rules.specs.Replaying.{dead, Leads, Replays};
 ghost use Rattle.plain_mends.specs.Sound.{IsSound};
 
 /// A catalogue in order stays so: after each answer, at each stage of a command, after a death and a mending, and so along every

@@ -1,14 +1,2 @@
-pub mod Packs
-pub mod Usages
-pub mod Standing
-pub mod Picks
-pub mod Accounting
-pub mod Kept
-pub mod Keeps
-pub mod Choices
-pub mod Placing
-pub mod MendSteps
-pub mod LawSteps
-pub mod Ordered
-pub mod FormSteps
-pub mod FormEntries
+pub mod Closing
+pub mod Creating

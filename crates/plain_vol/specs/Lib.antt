@@ -1,13 +1,4 @@
-pub mod Lookups
-pub mod Directories
-pub mod Changes
-pub mod Accounts
-pub mod Answers
-pub mod Stages
-pub mod Mending
-pub mod Own
-pub mod Replaying
-pub mod Checks
+pub mod Judging
+pub mod Makings
 pub mod Mends
-pub mod Laws
-pub mod OneForm
+pub use Rattle.plain_rules.specs.Accounts

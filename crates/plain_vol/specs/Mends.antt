@@ -3,7 +3,7 @@ use Rattle.std.specs.Prelude.{◌≡◌, Option, Some, None}
 use Rattle.plain_cat.specs.declared.cat.Cat.{Cat}
 use Rattle.plain_cat.specs.declared.history.Mended.{Mended}
 use Rattle.plain_vol.specs.declared.mending.Repair.{Repair}
-use Rattle.plain_vol.specs.Mending.{mended}
+use Rattle.plain_rules.specs.Mending.{mended}
 
 abbrev pub counts_of : Repair → Mended
 counts_of w = record { entered = w.entered; removed = w.removed; gone = w.gone; clusters = w.clusters; numbers = w.numbers }

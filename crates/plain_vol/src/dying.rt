@@ -1,24 +1,26 @@
-ghost use Rattle.std.specs.Prelude.{◌≡◌, ◌+◌, ◌<◌, ◌^◌};
-ghost use Rattle.plain_vol.specs.Lookups.{is_free_number};
-ghost use Rattle.plain_vol.specs.Replaying.{closed_channels, flagged, are_free, dead};
+ghost use Rattle.std.specs.Prelude.{◌≡◌, ◌≤◌, ◌+◌, ◌<◌, ◌^◌, [], IfSome, None};
+ghost use Rattle.plain_rules.specs.Lookups.{free_clusters};
+ghost use Rattle.plain_rules.specs.Replaying.{closed_channels, flagged, are_free, dead};
 
-use crate::{changes, lookups};
+use crate::changes::set_channel;
+use crate::picks::is_free_number;
 use plain_cat::Cat;
+use plain_rules::free_clusters;
 
 // Whether each of these numbers is free.
 pub(crate) fn are_free(cat: &Cat, numbers: &[u32]) -> bool
     ensures { result ≡ are_free cat.now numbers.now }
 {
-    numbers.iter().all(|n| lookups::is_free_number(cat, *n))
+    numbers.iter().all(|n| is_free_number(cat, *n))
 }
 
 // Closes all channels of a node.
-#[tactic(auto, unfolding(crate::specs::Replaying::closed_channels))]
+#[tactic(auto, unfolding(plain_rules::specs::Replaying::closed_channels))]
 fn close_channels(cat: &mut Cat, node: u8)
     ensures { cat.new ≡ record cat.old { opens = closed_channels node 8 cat.old.opens } }
 {
     for chan in 0..8u8 {
-        changes::set_channel(cat, node, chan + 1, None);
+        set_channel(cat, node, chan + 1, None);
     }
 }
 
@@ -34,8 +36,8 @@ fn flag(cat: &mut Cat, numbers: &[u32])
     }
 }
 
-// A node is dead.
-#[tactic(auto, unfolding(crate::specs::Replaying::dead))]
+// A node is dead, and leaks these clusters and numbers.
+#[tactic(auto, unfolding(plain_rules::specs::Replaying::dead))]
 pub(crate) fn bury(cat: &mut Cat, node: u8, clusters: u32, numbers: &[u32])
     requires { cat.old.leaked + clusters < 2 ^ 32 }
     ensures { cat.new ≡ dead cat.old node clusters numbers.now }
@@ -43,4 +45,17 @@ pub(crate) fn bury(cat: &mut Cat, node: u8, clusters: u32, numbers: &[u32])
     close_channels(cat, node);
     cat.leaked += clusters;
     flag(cat, numbers);
+}
+
+/// The catalogue once a node is dead, which leaks so many clusters and no number; none where fewer clusters are free. Nothing is
+/// copied.
+pub fn died_on(mut cat: Cat, node: u8, clusters: u32) -> Option<Cat>
+    ensures some { IfSome result (λ d. (clusters ≤ free_clusters cat) × (d ≡ dead cat node clusters [])) }
+    ensures none { result ≡ None → free_clusters cat < clusters }
+{
+    if free_clusters(&cat) < clusters {
+        return None;
+    }
+    bury(&mut cat, node, clusters, &[]);
+    Some(cat)
 }

@@ -1,17 +1,21 @@
 ghost use Rattle.std.specs.Prelude.{◌≡◌, ◌≤◌, ◌↔◌, IsTrue, true, ℕ, Option, Some, IfOk, length};
 ghost use Rattle.plain_cat.specs.InForm.{in_form};
 ghost use Rattle.plain_cat.specs.declared.history.Entry.TheVariants.{Done, Died};
-ghost use Rattle.plain_vol.specs.Accounts.{Accounted};
-ghost use Rattle.plain_vol.specs.Answers.{IsPick};
-ghost use Rattle.plain_vol.specs.Checks.{shown_number, is_node, is_quiet, EntryInForm, IsChecked, KeepsAccounts};
+ghost use Rattle.plain_rules.specs.Accounts.{Accounted};
+ghost use Rattle.plain_rules.specs.Answers.{IsPick, outcome};
+ghost use Rattle.plain_rules.specs.Checks.{shown_number, is_quiet, EntryInForm};
+ghost use Rattle.plain_cat.specs.InForm.{is_eighth as is_node};
+ghost use Rattle.plain_vol.specs.Judging.{IsChecked, KeepsAccounts};
 ghost use Rattle.plain_vol.specs.Mends.{counts_of};
 
 use crate::checking::Checked;
+use crate::dying::{are_free, bury};
 use crate::mending::{Repair, mend};
-use crate::outcomes::outcome;
+use crate::outcomes::outcome_on;
+use crate::picks::{is_free_number, pick};
 use crate::sameness::is_same_reply;
-use crate::{dying, lookups};
 use plain_cat::{Cat, Cmd, Entry, Mended, NoMemory, NumberList, Reply, Stage};
+use plain_rules::{Outcome, free_clusters};
 use std::alloc::Global;
 
 fn shown_number(reply: &Reply) -> Option<u32>
@@ -29,9 +33,9 @@ fn choose(cat: &Cat, reply: &Reply) -> Option<u32>
     ensures pick { IsPick cat.now result }
     ensures shown { (n : ℕ) → shown_number reply.now ≡ Some n → IsPick cat.now (Some n) → result ≡ Some n }
 {
-    let first = lookups::pick(cat)?;
+    let first = pick(cat)?;
     match shown_number(reply) {
-        Some(n) if lookups::is_free_number(cat, n) => Some(n),
+        Some(n) if is_free_number(cat, n) => Some(n),
         _ => Some(first),
     }
 }
@@ -41,6 +45,22 @@ fn is_node(node: u8) -> bool
     ensures { result ≡ is_node node }
 {
     1 <= node && node <= 8
+}
+
+// What a command is answered on a copy of the catalogue.
+fn answered(
+    alloc: Global,
+    cat: &Cat,
+    node: u8,
+    cmd: &Cmd,
+    new: Option<u32>,
+) -> Result<Outcome, NoMemory>
+    requires cat { Accounted cat.now }
+    requires cmd { in_form cmd.now ≡ true }
+    ensures { IfOk result (λ o. o ≡ outcome cat.now node cmd.now new) }
+{
+    let copy = cat.copy(alloc)?;
+    outcome_on(alloc, copy, node, cmd, new)
 }
 
 // Whether the reply is the one of a node's command.
@@ -60,7 +80,7 @@ fn check_answer(
         return Ok(Checked::Illegal);
     }
     let new = choose(cat, reply);
-    let answer = outcome(alloc, cat, node, cmd, new)?;
+    let answer = answered(alloc, cat, node, cmd, new)?;
     if is_same_reply(&answer.reply, reply) {
         Ok(Checked::Legal(answer.after))
     } else {
@@ -89,13 +109,13 @@ fn check_death(
 {
     if !is_node(node)
         || !is_quiet(stage)
-        || lookups::free_clusters(cat) < clusters
-        || !dying::are_free(cat, numbers.items())
+        || free_clusters(cat) < clusters
+        || !are_free(cat, numbers.items())
     {
         return Ok(Checked::Illegal);
     }
     let mut after = cat.copy(alloc)?;
-    dying::bury(&mut after, node, clusters, numbers.items());
+    bury(&mut after, node, clusters, numbers.items());
     Ok(Checked::Legal(after))
 }
 

@@ -1,60 +1,49 @@
-//! The plain volume: what each command answers on a catalogue, and the catalogue after it. There is no block, lock or cache here,
-//! and one command at a time.
+//! The plain volume: what each command answers on a catalogue, and the catalogue after it, as a program. It follows the definitions
+//! of `plain_rules`, which it passes on with the types.
 //!
-//! The definitions are in `specs/`: `Answer`, the stages of a command that stops, `mended`, `Replays`. The program beside them is
-//! a judge that is written for clarity: `check_reply` gives `Checked`, and `outcome_of` gives `Outcome`.
+//! `check_reply` is the judge of an entry of a history, and gives `Checked`. `outcome_on` takes a `Cat` by value, changes it in place
+//! and gives an `Outcome`; `died_on` does the same for a death.
 //!
 //! ```text
 //! let Checked::Legal(after) = check_reply(alloc, &cat, &entry)? else { .. };
+//! let outcome = outcome_on(alloc, cat, node, &cmd, number)?;  // number: what a new file takes, or none
 //! ```
 //!
 //! `Legal`, with the catalogue after it, comes if and only if the rules have the case (`exact`); a death at a later stage than
-//! `nothing` is always `Illegal`, since the entry does not contain the command. `outcome_of` is exactly the definition `outcome`.
-//! Laws: each command has an answer (`commands_are_answered`), and only one, but for the number of a new file
-//! (`answers_are_determined`).
+//! `nothing` is always `Illegal`, since the entry does not contain the command. `outcome_on` is exactly `outcome` of `plain_rules`.
+//! `died_on` gives exactly the catalogue after the death, without file numbers, and none if and only if fewer clusters are free than
+//! it leaks. `pick` gives a number that a new file may have, or none if there is none. After want of memory `outcome_on`'s catalogue
+//! is gone. `log_check` uses these calls.
 #![tactic(auto)]
 
-mod accounts;
-mod answers;
 mod changes;
+mod channels;
 mod checking;
-mod creating;
-mod directories;
 mod dying;
 mod entering;
-mod forms;
+mod entries;
 mod judge;
-mod laws;
 mod lookups;
+mod making;
 mod mending;
 mod naming;
-mod opening;
-mod outcome;
 mod outcomes;
-mod packing;
-mod places;
+mod picks;
 mod quotas;
-mod reading;
+mod readers;
 mod sameness;
 mod sizing;
 
-pub use accounts::is_accounted;
-pub use changes::inserted;
 pub use checking::Checked;
-pub use creating::{dir_name, over_quota};
-pub use directories::{has_name, highest, look_up, with_version};
-pub use entering::{entries_in, is_own, with_lost_entry};
-pub use forms::is_in_form;
+pub use dying::died_on;
 pub use judge::check_reply;
-pub use laws::{
-    answers_are_determined, commands_are_answered, deaths_are_within, legal_entries_keep_the_form,
-};
-pub use lookups::{file_at, free_clusters, in_use, live, row_of};
-pub use outcome::Outcome;
-pub use outcomes::outcome as outcome_of;
-pub use packing::dir_fits;
+pub use outcomes::outcome_on;
+pub use picks::{is_free_number, pick};
 pub use plain_cat::{
     Blocks, Cat, Channels, Clusters, Cmd, DirEnt, DirEnts, Entry, Fid, File, FileRef, Files, Flags,
     History, Kill, KillAt, Kills, Line, LineCmd, Lines, Mended, Mode, Name, NoMemory, NumberList,
     Open, Plays, QuotaRow, QuotaRows, Refusal, Reply, Script, Slot, Stage, Uic, compatible,
+};
+pub use plain_rules::{
+    Outcome, dir_fits, file_at, free_clusters, in_use, is_accounted, is_in_form, live, look_up,
 };

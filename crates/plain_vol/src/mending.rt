@@ -3,28 +3,26 @@ ghost use Rattle.std.specs.List.{count_by};
 ghost use Rattle.plain_cat.specs.declared.entries.DirEnt.{DirEnt};
 ghost use Rattle.plain_cat.specs.declared.cat.Slot.{Slot};
 ghost use Rattle.plain_cat.specs.declared.cat.Open.{Open};
-ghost use Rattle.plain_vol.specs.declared.places.Place.{Place};
-ghost use Rattle.plain_vol.specs.Lookups.{clusters_in};
-ghost use Rattle.plain_vol.specs.Accounts.{Accounted};
-ghost use Rattle.plain_vol.specs.Mending.{places, stays, less_entries, each_from, without_opens, without_entries, with_lost, is_gone, gone_slot, summed_row, put_right, is_used, is_true, mended};
+ghost use Rattle.plain_rules.specs.declared.places.Place.{Place};
+ghost use Rattle.plain_rules.specs.Lookups.{clusters_in};
+ghost use Rattle.plain_rules.specs.Accounts.{Accounted};
+ghost use Rattle.plain_rules.specs.Mending.{places, stays, less_entries, each_from, without_opens, without_entries, with_lost, is_gone, gone_slot, summed_row, put_right, is_used, is_true, mended};
 ghost use Rattle.plain_vol.specs.Mends.{MendsTo};
 
-use crate::accounts::charge;
-use crate::entering::{enter_all, enter_some, is_first, is_named, is_own, lost, places};
-use crate::lookups;
-use crate::places::Place;
+use crate::entering::{enter_all, enter_some, is_first, is_named, lost, places};
 use plain_cat::{
     Cat, Channels, DirEnt, DirEnts, Fid, File, Files, Flags, NoMemory, QuotaRow, QuotaRows, Slot,
 };
+use plain_rules::{Place, charge, is_own, live};
 use std::alloc::Global;
 
 // Whether an entry stays.
-#[tactic(auto, unfolding(crate::specs::Mending::stays))]
+#[tactic(auto, unfolding(plain_rules::specs::Mending::stays))]
 fn stays(cat: &Cat, all: &[Place], dir: u32, e: &DirEnt) -> bool
     requires { all.now ≡ places cat.now }
     ensures { result ≡ stays cat.now (record { dir = dir; entry = e.now }) }
 {
-    lookups::live(cat, e.fid).is_some()
+    live(cat, e.fid).is_some()
         && (if e.fid.num <= 11 {
             is_own(dir, e)
         } else {
@@ -244,7 +242,7 @@ fn place_count(alloc: Global, cat: &Cat) -> Result<usize, NoMemory>
 }
 
 // The catalogue after mending, and what was done, or none where a lost file has no room.
-#[tactic(auto, unfolding(crate::specs::Mending::mended))]
+#[tactic(auto, unfolding(plain_rules::specs::Mending::mended))]
 pub(crate) fn mend(alloc: Global, cat: &Cat) -> Result<Option<Repair>, NoMemory>
     requires { Accounted cat.now }
     ensures value { IfOk result (λ o. MendsTo cat.now o) }

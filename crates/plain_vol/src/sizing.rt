@@ -1,15 +1,22 @@
-ghost use Rattle.std.specs.Prelude.{◌≡◌, ◌≤◌, ◌<◌, ◌+◌, ◌*◌, ◌^◌, ◌-◌, IfOk, All};
-ghost use Rattle.plain_cat.specs.declared.cat.QuotaRow.{QuotaRow};
-ghost use Rattle.plain_vol.specs.Accounts.{Accounted};
-ghost use Rattle.plain_vol.specs.Changes.{grown, cut};
-ghost use Rattle.plain_vol.specs.Answers.{over_draft, is_kept, extend_refusal, extended, extend_outcome, truncated, trunc_outcome};
+ghost use Rattle.std.specs.Prelude.{◌≡◌, ◌≤◌, ◌<◌, ◌+◌, ◌*◌, ◌^◌, ◌-◌, IfOk};
+ghost use Rattle.plain_rules.specs.Accounts.{Accounted};
+ghost use Rattle.plain_rules.specs.Changes.{blocks_of, grown, cut};
+ghost use Rattle.plain_rules.specs.Answers.{over_draft, is_kept, extend_outcome, trunc_outcome};
+ghost use Rattle.plain_vol.specs.Makings.{grown_in, cut_in};
 
-use crate::answers::refused;
-use crate::outcome::Outcome;
-use crate::reading::blocks_of;
-use crate::{changes, lookups};
+use crate::changes::{charge, discharge, in_clusters, set_slot};
+use crate::outcomes::refused;
 use plain_cat::{Cat, Fid, File, NoMemory, QuotaRow, Refusal, Reply, Slot};
+use plain_rules::{Outcome, free_clusters, live, row_of};
 use std::alloc::Global;
+
+/// A file of another size, how many blocks it has more or fewer than before, and how many it has.
+#[derive(Drop)]
+pub struct Sizing {
+    file: File,
+    change: u32,
+    size: u32,
+}
 
 fn over_draft(row: Option<QuotaRow>, k: u32) -> bool
     ensures { result ≡ over_draft row k }
@@ -27,6 +34,14 @@ pub(crate) fn is_kept(n: u32, file: &File) -> bool
     n <= 11 || file.dir
 }
 
+// The allocated blocks of a file.
+fn blocks_of(cat: &Cat, file: &File) -> u32
+    requires { blocks_of cat.now file.now < 2 ^ 32 }
+    ensures { result ≡ blocks_of cat.now file.now }
+{
+    cat.factor * file.clusters
+}
+
 // The file with k clusters more.
 fn grown(alloc: Global, cat: &Cat, file: &File, k: u32) -> Result<File, NoMemory>
     requires clusters { file.now.clusters + k < 2 ^ 32 }
@@ -41,54 +56,67 @@ fn grown(alloc: Global, cat: &Cat, file: &File, k: u32) -> Result<File, NoMemory
     Ok(larger)
 }
 
-fn extended(alloc: Global, cat: &Cat, n: u32, file: &File, k: u32) -> Result<Outcome, NoMemory>
-    requires usage { All (λ (r : QuotaRow). r.usage + cat.now.factor * k < 2 ^ 32) cat.now.quota }
-    requires blocks { cat.now.factor * (file.now.clusters + k) + 1 < 2 ^ 32 }
-    requires old { cat.now.factor * file.now.clusters + 1 < 2 ^ 32 }
-    requires more { cat.now.factor * k < 2 ^ 32 }
-    requires clusters { file.now.clusters + k < 2 ^ 32 }
-    ensures { IfOk result (λ o. o ≡ extended cat.now n file.now k) }
-{
-    let mut after = cat.copy(alloc)?;
-    changes::charge(alloc, &mut after, file.owner, cat.factor * k)?;
-    changes::set_slot(&mut after, n, Slot::Used(grown(alloc, cat, file, k)?));
-    Ok(Outcome {
-        reply: Reply::Size(cat.factor * (file.clusters + k)),
-        after,
-    })
-}
-
-// EXTEND, which takes no number
-#[tactic(auto, unfolding(crate::specs::Answers::extend_outcome, crate::specs::Answers::extend_refusal))]
-pub(crate) fn extend(
+// The larger file of EXTEND, or why it does not grow.
+#[tactic(auto, unfolding(plain_rules::specs::Answers::extend_outcome, plain_rules::specs::Answers::extend_refusal))]
+fn larger(
     alloc: Global,
     cat: &Cat,
     fid: Fid,
     blocks: u32,
     new: Option<u32>,
-) -> Result<Outcome, NoMemory>
+) -> Result<Result<Sizing, Refusal>, NoMemory>
     requires cat { Accounted cat.now }
     requires blocks { blocks ≤ 65536 }
-    ensures { IfOk result (λ o. o ≡ extend_outcome cat.now fid blocks new) }
+    ensures grown { IfOk result (λ s. grown_in cat.now fid.num s ≡ extend_outcome cat.now fid blocks new) }
+    ensures small { IfOk result (λ s. IfOk s (λ s. s.change ≤ 1232)) }
 {
-    let Some(file) = lookups::live(cat, fid) else {
-        return refused(alloc, cat, Refusal::NoSuchFile);
+    let Some(file) = live(cat, fid) else {
+        return Ok(Err(Refusal::NoSuchFile));
     };
     if is_kept(fid.num, file) {
-        return refused(alloc, cat, Refusal::NoPriv);
+        return Ok(Err(Refusal::NoPriv));
     }
-    let k = changes::in_clusters(cat, blocks);
+    let k = in_clusters(cat, blocks);
     if 77 < file.clusters as u64 + k as u64 {
-        return refused(alloc, cat, Refusal::FileLimit);
+        return Ok(Err(Refusal::FileLimit));
     }
-    let row = lookups::row_of(cat.quota.items(), file.owner);
-    if over_draft(row, cat.factor * k) {
-        return refused(alloc, cat, Refusal::ExQuota);
+    if over_draft(row_of(cat.quota.items(), file.owner), cat.factor * k) {
+        return Ok(Err(Refusal::ExQuota));
     }
-    if lookups::free_clusters(cat) < k {
-        return refused(alloc, cat, Refusal::DeviceFull);
+    if free_clusters(cat) < k {
+        return Ok(Err(Refusal::DeviceFull));
     }
-    extended(alloc, cat, fid.num, file, k)
+    Ok(Ok(Sizing {
+        file: grown(alloc, cat, file, k)?,
+        change: cat.factor * k,
+        size: cat.factor * (file.clusters + k),
+    }))
+}
+
+// EXTEND, which takes no number
+pub(crate) fn extend(
+    alloc: Global,
+    mut cat: Cat,
+    fid: Fid,
+    blocks: u32,
+    new: Option<u32>,
+) -> Result<Outcome, NoMemory>
+    requires cat { Accounted cat }
+    requires blocks { blocks ≤ 65536 }
+    ensures { IfOk result (λ o. o ≡ extend_outcome cat fid blocks new) }
+{
+    let sizing = larger(alloc, &cat, fid, blocks, new)?;
+    match sizing {
+        Err(refusal) => Ok(refused(cat, refusal)),
+        Ok(sizing) => {
+            charge(alloc, &mut cat, sizing.file.owner, sizing.change)?;
+            set_slot(&mut cat, fid.num, Slot::Used(sizing.file));
+            Ok(Outcome {
+                reply: Reply::Size(sizing.size),
+                after: cat,
+            })
+        }
+    }
 }
 
 // The file cut to k clusters.
@@ -111,39 +139,58 @@ fn cut(alloc: Global, cat: &Cat, file: &File, k: u32) -> Result<File, NoMemory>
     })
 }
 
-fn truncated(alloc: Global, cat: &Cat, n: u32, file: &File, k: u32) -> Result<Outcome, NoMemory>
+// How many blocks a file has fewer with k clusters.
+fn blocks_less(cat: &Cat, file: &File, k: u32) -> u32
     requires kept { k ≤ file.now.clusters }
-    requires blocks { cat.now.factor * k + 1 < 2 ^ 32 }
     requires gone { cat.now.factor * (file.now.clusters - k) < 2 ^ 32 }
-    ensures { IfOk result (λ o. o ≡ truncated cat.now n file.now k) }
+    ensures { result ≡ cat.now.factor * (file.now.clusters - k) }
 {
-    let mut after = cat.copy(alloc)?;
-    changes::discharge(
-        alloc,
-        &mut after,
-        file.owner,
-        cat.factor * (file.clusters - k),
-    )?;
-    changes::set_slot(&mut after, n, Slot::Used(cut(alloc, cat, file, k)?));
-    Ok(Outcome {
-        reply: Reply::Size(cat.factor * k),
-        after,
-    })
+    cat.factor * (file.clusters - k)
+}
+
+// The smaller file of TRUNC, or why it is not cut.
+#[tactic(auto, unfolding(plain_rules::specs::Answers::trunc_outcome))]
+fn smaller(
+    alloc: Global,
+    cat: &Cat,
+    fid: Fid,
+    blocks: u32,
+) -> Result<Result<Sizing, Refusal>, NoMemory>
+    requires cat { Accounted cat.now }
+    requires blocks { blocks ≤ 65536 }
+    ensures { IfOk result (λ s. cut_in cat.now fid.num s ≡ trunc_outcome cat.now fid blocks) }
+{
+    let Some(file) = live(cat, fid) else {
+        return Ok(Err(Refusal::NoSuchFile));
+    };
+    if is_kept(fid.num, file) {
+        return Ok(Err(Refusal::NoPriv));
+    }
+    let k = file.clusters.min(in_clusters(cat, blocks));
+    let change = blocks_less(cat, file, k);
+    Ok(Ok(Sizing {
+        file: cut(alloc, cat, file, k)?,
+        change,
+        size: cat.factor * k,
+    }))
 }
 
 // TRUNC
-#[tactic(auto, unfolding(crate::specs::Answers::trunc_outcome))]
-pub(crate) fn trunc(alloc: Global, cat: &Cat, fid: Fid, blocks: u32) -> Result<Outcome, NoMemory>
-    requires cat { Accounted cat.now }
+pub(crate) fn trunc(alloc: Global, mut cat: Cat, fid: Fid, blocks: u32) -> Result<Outcome, NoMemory>
+    requires cat { Accounted cat }
     requires blocks { blocks ≤ 65536 }
-    ensures { IfOk result (λ o. o ≡ trunc_outcome cat.now fid blocks) }
+    ensures { IfOk result (λ o. o ≡ trunc_outcome cat fid blocks) }
 {
-    let Some(file) = lookups::live(cat, fid) else {
-        return refused(alloc, cat, Refusal::NoSuchFile);
-    };
-    if is_kept(fid.num, file) {
-        return refused(alloc, cat, Refusal::NoPriv);
+    let sizing = smaller(alloc, &cat, fid, blocks)?;
+    match sizing {
+        Err(refusal) => Ok(refused(cat, refusal)),
+        Ok(sizing) => {
+            discharge(alloc, &mut cat, sizing.file.owner, sizing.change)?;
+            set_slot(&mut cat, fid.num, Slot::Used(sizing.file));
+            Ok(Outcome {
+                reply: Reply::Size(sizing.size),
+                after: cat,
+            })
+        }
     }
-    let k = file.clusters.min(changes::in_clusters(cat, blocks));
-    truncated(alloc, cat, fid.num, file, k)
 }

@@ -1,7 +1,9 @@
 -- What the image tells over turns.
 use Rattle.std.proofs.Common.{◌≡◌, ◌⊎◌, List, Option, Some, None, refl, sym, ap, subst, ◌∙◌, inl, inr}
-use Rattle.vol_words.specs.Fields.{Block}
-use Rattle.core_state.specs.Images.{IsTold, IsTorn, told_as}
+use Rattle.base_words.specs.Fields.{Block}
+use Rattle.core_state.specs.Images.{IsTorn}
+use Rattle.blk_drive.specs.Telling.{IsTold}
+use Rattle.blk_drive.specs.Telling.{told_as}
 
 -- it tells what it told, where its blocks are the same
 pub told_same : (t : Option (List Block)) (bs : List Block) → IsTold t bs → t ≡ told_as t bs

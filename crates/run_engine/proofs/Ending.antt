@@ -1,11 +1,11 @@
 -- Once every node is over, the history is whole, and the drive spells the catalogue to which it leads.
 use Rattle.std.proofs.Common.{◌≡◌, ◌<◌, ◌+◌, ◌/◌, ℕ, List, length, subst, arith}
-use Rattle.vol_words.specs.Fields.{Block}
+use Rattle.base_words.specs.Fields.{Block}
 use Rattle.plain_cat.specs.declared.cat.Cat.{Cat}
-use Rattle.plain_vol.specs.Lookups.{free_clusters}
-use Rattle.plain_vol.specs.Own.{Whole}
-use Rattle.vol_owners.specs.declared.owner.Owner.TheVariants.{InFile}
-use Rattle.vol_owners.specs.Owners.{Owners, nothing}
+use Rattle.plain_rules.specs.Lookups.{free_clusters}
+use Rattle.plain_rules.specs.Own.{Whole}
+use Rattle.vol_spell.specs.declared.owner.Owner.TheVariants.{InFile}
+use Rattle.vol_spell.specs.Owners.{Owners, nothing}
 use Rattle.vol_parts.specs.declared.geometry.Geometry.{Geometry}
 use Rattle.vol_parts.specs.declared.geometry.Part.TheVariants.{Storage}
 use Rattle.vol_parts.specs.Parts.{storage_blocks}
@@ -17,8 +17,8 @@ use Rattle.vol_under.specs.UnderWay.{resting}
 use Rattle.vol_under.proofs.Short.{free_by_bits}
 use Rattle.core_state.specs.Worlds.{Plain}
 use Rattle.core_state.specs.Goods.{nodes_under, Good}
-use Rattle.stopped_worlds.proofs.Resting.{none_left, all_rest, drive_left}
-use Rattle.run_engine.specs.Walks.{AllOver}
+use Rattle.run_engine.proofs.Resting.{none_left, all_rest, drive_left}
+use Rattle.core_state.specs.Ends.{AllOver}
 use Rattle.run_engine.specs.Ended.{free_bits, HasEnded}
 
 pub over_is_whole : (w : Plain) → Good w → AllOver w → Whole w.script w.history

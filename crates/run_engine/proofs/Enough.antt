@@ -6,9 +6,10 @@ use Rattle.core_state.specs.Worlds.{Plain}
 use Rattle.core_state.specs.Goods.{Good, IsAccepted}
 use Rattle.core_state.specs.Deaths.{after_step}
 use Rattle.core_state.specs.Events.{is_over}
-use Rattle.core_live.specs.Turns.{ahead, ComesNext, IsEnough, turns_of}
-use Rattle.core_live.proofs.Rounding.{turns_are_enough, steps_take_one, none_is_left, low_ahead, high_ahead}
-use Rattle.run_engine.specs.Walks.{first_from, or_first, next_from, AllOver, budget_of, played, Stays}
+use Rattle.core_ends.specs.Turns.{ahead, ComesNext, IsEnough, turns_of}
+use Rattle.core_ends.proofs.Rounding.{turns_are_enough, steps_take_one, none_is_left, low_ahead, high_ahead}
+use Rattle.run_engine.specs.Walks.{first_from, or_first, next_from, budget_of, played, Stays}
+use Rattle.core_state.specs.Ends.{AllOver}
 use Rattle.run_engine.proofs.Rotating.{found_within, none_within, past_over, next_alive}
 use Rattle.run_engine.proofs.Staying.{step_stays, plays_stay}
 

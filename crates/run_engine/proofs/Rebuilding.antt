@@ -1,6 +1,6 @@
 -- The mending of the drive of a world that is over, and the clusters that are free then.
 use Rattle.std.proofs.Common.{◌≡◌, ◌∙◌, ◌++◌, ◌⊎◌, ◌<◌, ◌+◌, ◌/◌, ℕ, List, [], ◌∷◌, Option, Some, None, Result, Ok, Err, length, map, slice_set, refl, sym, ap, subst, inl, inr}
-use Rattle.vol_words.specs.Fields.{Block, AreWholeBlocks}
+use Rattle.base_words.specs.Fields.{Block, AreWholeBlocks}
 use Rattle.fx_home.specs.declared.home.Home.{Home}
 use Rattle.fx_home.specs.declared.home.HomeFault.{HomeFault}
 use Rattle.fx_home.specs.Homes.{home_read}
@@ -8,7 +8,7 @@ use Rattle.plain_cat.specs.declared.cat.Cat.{Cat}
 use Rattle.plain_cat.specs.declared.history.Entry.{Entry}
 use Rattle.plain_cat.specs.declared.history.Entry.TheVariants as entry
 use Rattle.plain_cat.specs.declared.history.Mended.{Mended}
-use Rattle.plain_vol.specs.Lookups.{free_clusters}
+use Rattle.plain_rules.specs.Lookups.{free_clusters}
 use Rattle.vol_parts.specs.declared.finding.Finding.{Finding}
 use Rattle.vol_parts.specs.declared.geometry.Geometry.{Geometry}
 use Rattle.vol_parts.specs.declared.finding.Finding.TheVariants as finding
@@ -19,17 +19,20 @@ use Rattle.vol_faults.specs.Conditions.{IsSize}
 use Rattle.vol_faults.specs.Free.{IsGeometryBy}
 use Rattle.vol_spell.specs.Reading.{total_of}
 use Rattle.vol_under.proofs.Short.{free_by_bits}
-use Rattle.mend_writes.proofs.Telling.{owned}
+use Rattle.vol_mends.proofs.WriteTold.{owned}
 use Rattle.vol_rebuild.specs.declared.fault.RebuildFault.{RebuildFault}
 use Rattle.vol_rebuild.specs.declared.fault.RebuildFault.TheVariants as fault
 use Rattle.vol_rebuild.specs.Rebuilt.{IsRebuilt}
-use Rattle.vol_rebuild.specs.Ways.{Shows, told_as as told_way, IsWay, IsAhead}
+use Rattle.vol_rebuild.specs.Ways.{IsWay, IsAhead}
+use Rattle.blk_drive.specs.Telling.{IsTold as Shows}
+use Rattle.blk_drive.specs.Telling.{told_as as told_way}
 use Rattle.vol_rebuild.proofs.Stepping.{way_mends}
 use Rattle.core_state.specs.Worlds.{Plain, shown}
-use Rattle.core_state.specs.Images.{IsTold, told_as}
+use Rattle.blk_drive.specs.Telling.{IsTold}
+use Rattle.blk_drive.specs.Telling.{told_as}
 use Rattle.core_state.specs.Goods.{IsAccepted}
-use Rattle.stopped_worlds.specs.Mending.{MendsAs}
-use Rattle.stopped_worlds.proofs.Worlds.{over_worlds_mend}
+use Rattle.run_engine.specs.Mending.{MendsAs}
+use Rattle.run_engine.proofs.Worlds.{over_worlds_mend}
 use Rattle.run_engine.specs.Ended.{free_bits, HasEnded}
 use Rattle.run_engine.specs.Mendings.{StillMends, IsMendEnd, IsMendImage}
 use Rattle.run_engine.proofs.Ending.{bit_there}

@@ -4,8 +4,9 @@ use Rattle.std.proofs.lemmas.Bool.{cases_lt}
 use Rattle.core_state.specs.Worlds.{Plain, IsOfWorld}
 use Rattle.core_state.specs.Deaths.{after_step}
 use Rattle.core_state.specs.Events.{is_over_in, is_over}
-use Rattle.run_engine.specs.Walks.{first_from, or_first, next_from, Rotation, with_turn, after_next, rotation, AllOver}
-use Rattle.core_live.proofs.Rounding.{get_past}
+use Rattle.run_engine.specs.Walks.{first_from, or_first, next_from, Rotation, with_turn, after_next, rotation}
+use Rattle.core_state.specs.Ends.{AllOver}
+use Rattle.core_ends.proofs.Rounding.{get_past}
 
 -- ---- a search up to the last node, one number more
 

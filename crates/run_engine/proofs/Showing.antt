@@ -4,7 +4,7 @@ use Rattle.std.specs.Prelude.{count_by}
 use Rattle.std.specs.List.{fold}
 use Rattle.plain_cat.specs.declared.history.Entry.{Entry}
 use Rattle.plain_cat.specs.declared.history.Entry.TheVariants.{Done, Died, Mended}
-use Rattle.vol_texts.specs.Reports.{entry_line, line_text, lines_from}
+use Rattle.plain_texts.specs.Reports.{entry_line, line_text, lines_from}
 use Rattle.core_state.specs.Worlds.{shown}
 use Rattle.run_engine.specs.Reports.{is_answer, is_death, lines_bytes}
 use Rattle.run_engine.specs.Summaries.{is_refused, is_carried_out}

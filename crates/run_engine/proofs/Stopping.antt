@@ -1,7 +1,8 @@
 -- The turn whose write failed, or that lacked memory, in a run.
 use Rattle.std.proofs.Common.{◌≡◌, ◌⊎◌, ℕ, List, Option, refl, subst, inl, inr}
-use Rattle.vol_words.specs.Fields.{Block}
-use Rattle.core_state.specs.Images.{IsTold, told_as}
+use Rattle.base_words.specs.Fields.{Block}
+use Rattle.blk_drive.specs.Telling.{IsTold}
+use Rattle.blk_drive.specs.Telling.{told_as}
 use Rattle.core_state.specs.Worlds.{Plain}
 use Rattle.core_state.specs.Deaths.{after_step}
 use Rattle.core_step.specs.declared.turns.TurnFault.{TurnFault}

@@ -1,10 +1,10 @@
 -- The end of a run: the catalogue to which its history leads, and what the drive has then.
 use Rattle.std.specs.Prelude.{ℕ, List}
 use Rattle.std.specs.List.{count_by, range_with_len}
-use Rattle.vol_words.specs.Fields.{Block}
+use Rattle.base_words.specs.Fields.{Block}
 use Rattle.plain_cat.specs.declared.cat.Cat.{Cat}
-use Rattle.plain_vol.specs.Replaying.{Replays}
-use Rattle.vol_owners.specs.Owners.{Owners, nothing, Outs}
+use Rattle.plain_rules.specs.Replaying.{Replays}
+use Rattle.vol_spell.specs.Owners.{Owners, nothing, Outs}
 use Rattle.vol_parts.specs.declared.geometry.Geometry.{Geometry}
 use Rattle.vol_spell.specs.Reading.{total_of, cluster_bit}
 use Rattle.vol_spell.specs.Spelling.{Spells}

@@ -1,11 +1,12 @@
 -- Laws of walks.
-use Rattle.plain_vol.specs.Own.{Whole}
+use Rattle.plain_rules.specs.Own.{Whole}
 use Rattle.std.specs.Prelude.{ℕ}
 use Rattle.plain_cat.specs.declared.cat.Cat.{Cat}
 use Rattle.core_state.specs.Worlds.{Plain}
 use Rattle.core_state.specs.Goods.{Good}
 use Rattle.core_state.specs.Deaths.{after_step}
-use Rattle.run_engine.specs.Walks.{AllOver, Stays}
+use Rattle.run_engine.specs.Walks.{Stays}
+use Rattle.core_state.specs.Ends.{AllOver}
 use Rattle.run_engine.specs.Ended.{HasEnded}
 
 -- once every node is over, each has given each of its commands

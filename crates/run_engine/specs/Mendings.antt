@@ -1,11 +1,11 @@
 -- The end of a run whose drive is mended.
 use Rattle.std.specs.Prelude.{◌≡◌, ◌++◌, ℕ, List, [], ◌∷◌, Option, Some, None}
-use Rattle.vol_words.specs.Fields.{Block}
+use Rattle.base_words.specs.Fields.{Block}
 use Rattle.plain_cat.specs.declared.cat.Cat.{Cat}
 use Rattle.plain_cat.specs.declared.history.Entry.{Entry}
 use Rattle.plain_cat.specs.declared.history.Entry.TheVariants as entry
 use Rattle.plain_cat.specs.declared.history.Mended.{Mended}
-use Rattle.plain_vol.specs.Mending.{mended}
+use Rattle.plain_rules.specs.Mending.{mended}
 use Rattle.plain_mends.specs.Resuming.{MendsTo}
 use Rattle.vol_parts.specs.declared.finding.Finding.{Finding}
 use Rattle.vol_parts.specs.declared.finding.Finding.TheVariants as finding
@@ -14,8 +14,8 @@ use Rattle.vol_mends.specs.Mends.{Mends}
 use Rattle.vol_rebuild.specs.declared.fault.RebuildFault.{RebuildFault}
 use Rattle.vol_rebuild.specs.declared.fault.RebuildFault.TheVariants as fault
 use Rattle.core_state.specs.Worlds.{Plain}
-use Rattle.core_state.specs.Images.{told_as}
-use Rattle.stopped_worlds.specs.Mending.{IsMended}
+use Rattle.blk_drive.specs.Telling.{told_as}
+use Rattle.run_engine.specs.Mending.{IsMended}
 
 -- the blocks mend to what the catalogue mends to
 abbrev pub StillMends : Cat → List Block → Type 0

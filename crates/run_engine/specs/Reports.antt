@@ -2,7 +2,7 @@
 use Rattle.std.specs.Prelude.{◌++◌, ℕ, Bool, true, false, count_by, List, codes, decimal}
 use Rattle.plain_cat.specs.declared.history.Entry.{Entry}
 use Rattle.plain_cat.specs.declared.history.Entry.TheVariants.{Done, Died, Mended}
-use Rattle.vol_texts.specs.Reports.{lines_text, newline}
+use Rattle.plain_texts.specs.Reports.{lines_text, newline}
 
 -- an entry is an answer
 unfoldable pub is_answer : Entry → Bool

@@ -3,8 +3,8 @@ use Rattle.std.specs.Prelude.{◌++◌, not, ℕ, Bool, false, count_by, List, c
 use Rattle.std.specs.List.{sum_by}
 use Rattle.plain_cat.specs.declared.history.Entry.{Entry}
 use Rattle.plain_cat.specs.declared.history.Entry.TheVariants.{Done, Died, Mended}
-use Rattle.plain_vol.specs.Stages.{is_refusal}
-use Rattle.vol_texts.specs.Reports.{newline}
+use Rattle.plain_rules.specs.Stages.{is_refusal}
+use Rattle.plain_texts.specs.Reports.{newline}
 use Rattle.core_state.specs.Worlds.{NodeState, Plain}
 
 -- an answer that refuses its command

@@ -1,8 +1,9 @@
 -- The walk of a world: first the plays of a schedule, and then turns in rotation.
 use Rattle.std.specs.Prelude.{◌≡◌, ◌≤◌, ◌+◌, ◌-◌, ◌*◌, ◌⊎◌, ℕ, zero, suc, true, false, List, [], ◌∷◌, Option, Some, None, length, slice_get, take, if◌then◌else◌}
-use Rattle.vol_words.specs.Fields.{Block}
+use Rattle.base_words.specs.Fields.{Block}
 use Rattle.core_state.specs.Worlds.{Plain}
-use Rattle.core_state.specs.Images.{IsTold, IsTorn}
+use Rattle.core_state.specs.Images.{IsTorn}
+use Rattle.blk_drive.specs.Telling.{IsTold}
 use Rattle.core_state.specs.Deaths.{is_due, after_step}
 use Rattle.core_state.specs.Events.{is_over, is_write, next_event}
 use Rattle.core_state.specs.Uses.{UsesTheDrives}
@@ -83,10 +84,6 @@ IsPartOfWalk old plays new = IsPlayed old plays new ⊎ Walk old plays new
 -- wherever this walk stops, a block that a node uses from its cache in its next turn is the drive's
 abbrev pub WalkUsesTheDrives : Plain → List ℕ → Type 0
 WalkUsesTheDrives old plays = (w : Plain) (n : ℕ) → IsPartOfWalk old plays w → UsesTheDrives w n
-
--- every node is over
-abbrev pub AllOver : Plain → Type 0
-AllOver w = (n : ℕ) → is_over w n ≡ true
 
 -- for how many turns in rotation a run goes on at most
 unfoldable pub budget_of : Plain → ℕ

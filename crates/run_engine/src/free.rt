@@ -1,17 +1,17 @@
 ghost use Rattle.std.specs.Prelude.{◌≡◌, ◌+◌, ◌/◌, ◌<◌, ℕ, length};
 ghost use Rattle.plain_cat.specs.declared.cat.Cat.{Cat};
-ghost use Rattle.plain_vol.specs.Lookups.{free_clusters};
+ghost use Rattle.plain_rules.specs.Lookups.{free_clusters};
 ghost use Rattle.vol_parts.specs.Parts.{IsGeometry};
 ghost use Rattle.vol_spell.specs.Reading.{total_of, cluster_bit};
-ghost use Rattle.run_engine.specs.Walks.{AllOver};
+ghost use Rattle.core_state.specs.Ends.{AllOver};
 ghost use Rattle.run_engine.specs.Ended.{free_bits, HasEnded};
 
+use base_words::Block;
 use blk_drive::ImageDev;
 use core_state::World;
 use fx_bitmap::bit;
 use op_law::Operation;
 use vol_parts::Geometry;
-use vol_words::Block;
 
 // Whether the storage bitmap calls a cluster free.
 fn is_free(g: &Geometry, blocks: &[Block], q: u32) -> bool

@@ -1,24 +1,24 @@
 ghost use Rattle.std.specs.Prelude.{◌≡◌, ◌≤◌, Some, length, map};
-ghost use Rattle.vol_words.specs.Faults.{Rose};
-ghost use Rattle.vol_words.specs.Fields.{AreWholeBlocks};
+ghost use Rattle.base_words.specs.Faults.{Rose};
+ghost use Rattle.base_words.specs.Fields.{AreWholeBlocks};
 ghost use Rattle.plain_cat.specs.declared.cat.Cat.{Cat};
-ghost use Rattle.plain_vol.specs.Lookups.{free_clusters};
+ghost use Rattle.plain_rules.specs.Lookups.{free_clusters};
 ghost use Rattle.vol_parts.specs.Findings.{Weak, CatOf};
 ghost use Rattle.vol_faults.specs.Conditions.{IsSize};
 ghost use Rattle.core_state.specs.Worlds.{shown};
-ghost use Rattle.core_state.specs.Images.{IsTold};
-ghost use Rattle.run_engine.specs.Walks.{AllOver};
+ghost use Rattle.blk_drive.specs.Telling.{IsTold};
+ghost use Rattle.core_state.specs.Ends.{AllOver};
 ghost use Rattle.run_engine.specs.Ended.{HasEnded};
 ghost use Rattle.run_engine.specs.Mendings.{StillMends, IsMendEnd, IsMendImage};
 
 use crate::free::free_bits;
 use blk_drive::{ImageDev, Mirror};
-use blk_whole::blocks_are_whole;
 use core_state::World;
 use op_law::Operation;
 use plain_cat::{Entry, History};
 use std::alloc::Global;
 use vol_faults::geometry;
+use vol_parts::blocks_are_whole;
 use vol_rebuild::{RebuildFault, rebuild};
 
 /// The end of a run whose drive was to be mended.

@@ -3,8 +3,8 @@ ghost use Rattle.core_state.specs.Worlds.{shown};
 ghost use Rattle.run_engine.specs.Reports.{is_answer, is_death, counts_text, closing_text, lines_bytes, report_bytes};
 
 use plain_cat::{Entry, History, NoMemory};
+use plain_texts::{push_bytes, push_count, push_lines, push_number};
 use std::alloc::Global;
-use vol_texts::{push_bytes, push_count, push_lines, push_number};
 
 // Whether an entry is an answer, or a death.
 #[tactic(auto, unfolding(crate::specs::Reports::is_answer))]

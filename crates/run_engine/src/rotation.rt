@@ -1,18 +1,20 @@
 ghost use Rattle.std.specs.Prelude.{◌≡◌, ◌⊎◌, ◌+◌, ◌-◌, ◌≤◌, Some, None, Ok, Err, IfSome, OnOk, length, false};
-ghost use Rattle.vol_words.specs.Faults.{Rose};
+ghost use Rattle.base_words.specs.Faults.{Rose};
 ghost use Rattle.core_state.specs.Worlds.{IsOfWorld};
-ghost use Rattle.core_state.specs.Images.{IsTold, told_as};
+ghost use Rattle.blk_drive.specs.Telling.{IsTold};
+ghost use Rattle.blk_drive.specs.Telling.{told_as};
 ghost use Rattle.core_state.specs.Events.{is_over};
-ghost use Rattle.run_engine.specs.Walks.{first_from, next_from, AllOver, IsRotatedIn, budget_of, IsNextTurn, IsBeforeWrite, IsBeforeTaking};
+ghost use Rattle.run_engine.specs.Walks.{first_from, next_from, IsRotatedIn, budget_of, IsNextTurn, IsBeforeWrite, IsBeforeTaking};
+ghost use Rattle.core_state.specs.Ends.{AllOver};
 
 use crate::fault::RunFault;
 use blk_drive::ImageDev;
-use core_death::seat_turn;
+use core_death::seat_event;
 use core_state::World;
 use op_law::Operation;
 use std::alloc::Global;
 
-// The number of nodes.
+/// The number of nodes.
 pub fn nodes_of<I: ImageDev, O: Operation>(w: &World<I, O>) -> u8
     ensures count { result ≡ length w.now.world.nodes }
     ensures few { result ≤ 8 }
@@ -54,7 +56,7 @@ fn next_node<I: ImageDev, O: Operation>(w: &World<I, O>, from: u8) -> Option<u8>
     }
 }
 
-// Turns in rotation from node 1 until every node is over, which is so after as many as the budget at most.
+/// Turns in rotation from node 1 until every node is over, which is so after as many as the budget at most.
 pub fn rotate<I: ImageDev, O: Operation>(
     alloc: Global,
     w: &mut World<I, O>,
@@ -75,7 +77,7 @@ pub fn rotate<I: ImageDev, O: Operation>(
     for _turns in 0..budget {
         match next_node(w, from) {
             Some(node) => {
-                seat_turn(alloc, w, node)?;
+                seat_event(alloc, w, node)?;
                 w.keeps_the_rules();
                 from = node + 1;
             }

@@ -1,17 +1,20 @@
 ghost use Rattle.std.specs.Prelude.{◌≡◌, ◌≤◌, ◌⊎◌, true, false, Err, OnOk, OnErr, All};
-ghost use Rattle.vol_words.specs.Faults.{Rose};
-ghost use Rattle.plain_vol.specs.Own.{Whole};
+ghost use Rattle.base_words.specs.Faults.{Rose};
+ghost use Rattle.plain_rules.specs.Own.{Whole};
 ghost use Rattle.core_state.specs.Worlds.{IsOfWorld};
-ghost use Rattle.core_state.specs.Images.{IsTold, IsTorn, told_as};
+ghost use Rattle.core_state.specs.Images.{IsTorn};
+ghost use Rattle.blk_drive.specs.Telling.{IsTold};
+ghost use Rattle.blk_drive.specs.Telling.{told_as};
 ghost use Rattle.core_state.specs.Deaths.{is_due, after_step};
 ghost use Rattle.core_state.specs.Events.{is_over, is_write, next_event};
 ghost use Rattle.core_step.specs.Memory.{takes_none};
-ghost use Rattle.run_engine.specs.Walks.{after_play, played, IsPartOfWalk, IsPlayed, IsRotatedIn, AllOver, IsNextPlay, IsNextIn, IsBeforeWrite, IsBeforeTaking, Stays, budget_of};
+ghost use Rattle.run_engine.specs.Walks.{after_play, played, IsPartOfWalk, IsPlayed, IsRotatedIn, IsNextPlay, IsNextIn, IsBeforeWrite, IsBeforeTaking, Stays, budget_of};
+ghost use Rattle.core_state.specs.Ends.{AllOver};
 
 use crate::fault::RunFault;
 use crate::rotation::{nodes_of, rotate};
 use blk_drive::ImageDev;
-use core_death::seat_turn;
+use core_death::seat_event;
 use core_state::World;
 use core_step::TurnFault;
 use op_law::Operation;
@@ -51,7 +54,7 @@ fn play<I: ImageDev, O: Operation>(
         → (I.told w.new.image ≡ told_as (I.told w.old.image) w.new.world.blocks) ⊎ (result ≡ Err TurnFault.ImageFault) }
 {
     if !w.is_over(node) {
-        seat_turn(alloc, w, node)?;
+        seat_event(alloc, w, node)?;
     }
     Ok(())
 }

@@ -1,5 +1,5 @@
 ghost use Rattle.std.specs.Prelude.{◌≡◌, ◌++◌, IfOk, OnOk, count_by};
-ghost use Rattle.plain_vol.specs.Stages.{is_refusal};
+ghost use Rattle.plain_rules.specs.Stages.{is_refusal};
 ghost use Rattle.run_engine.specs.Summaries.{is_refused, is_carried_out, counted, outcomes_text, blocks_text, soak_text, summary_bytes};
 
 use crate::counts::{all_hits, all_reads};
@@ -7,8 +7,8 @@ use blk_drive::ImageDev;
 use core_state::World;
 use op_law::Operation;
 use plain_cat::{Entry, NoMemory, Reply};
+use plain_texts::push_bytes;
 use std::alloc::Global;
-use vol_texts::push_bytes;
 
 // Whether a reply refuses its command.
 fn is_refusal(reply: &Reply) -> bool

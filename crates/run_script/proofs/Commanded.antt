@@ -2,7 +2,7 @@
 use Rattle.std.proofs.Common.{◌≡◌, ◌∙◌, ◌+◌, ◌&&◌, ◌==◌, ℕ, true, List, [], ◌∷◌, Option, Some, None, length, get_or, refl, sym, ap, subst, cond, inl, inr, codes}
 use Rattle.std.specs.Fmt.{decimal}
 use Rattle.std.proofs.lemmas.Bool.{and_parts, and_from, eqb-true, eq-eqb}
-use Rattle.vol_words.specs.Names.{is_name}
+use Rattle.base_words.specs.Names.{is_name}
 use Rattle.plain_cat.specs.declared.ids.Uic.{Uic}
 use Rattle.plain_cat.specs.declared.mode.Mode.{Mode}
 use Rattle.plain_cat.specs.declared.script.FileRef.{FileRef}
@@ -10,8 +10,9 @@ use Rattle.plain_cat.specs.declared.script.LineCmd.{LineCmd}
 use Rattle.plain_cat.specs.declared.script.LineCmd.TheVariants as line
 use Rattle.plain_cat.specs.declared.script.Line.{Line}
 use Rattle.plain_cat.specs.InForm.{is_within, is_eighth, is_file_ref, is_owner, is_version, is_count, is_quota, is_open_mode, is_dir_name, is_text, line_in_form}
-use Rattle.vol_texts.specs.Names.{uic_text, entry_text, mode_text}
-use Rattle.vol_texts.specs.Commands.{register_text}
+use Rattle.plain_texts.specs.Names.{uic_text, mode_text}
+use Rattle.plain_cat.specs.Names.{text_of as entry_text}
+use Rattle.plain_texts.specs.Commands.{register_text}
 use Rattle.run_script.specs.Grammar.{IsRefText, IsCommandText, IsNodeCommand}
 use Rattle.run_script.specs.declared.kinds.Kind.{Kind}
 use Rattle.run_script.specs.declared.kinds.Kind.TheVariants as kind

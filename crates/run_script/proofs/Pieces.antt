@@ -8,7 +8,7 @@ use Rattle.std.proofs.lemmas.List.Splits.{slice_split-cons_yes, slice_split-cons
 use Rattle.std.proofs.lemmas.Slice.Eq.{bytes_eq-Decides}
 use Rattle.std.proofs.lemmas.Str.Parse.{digit_from_value}
 use Rattle.std.specs.Fmt.{digits}
-use Rattle.vol_words.specs.Names.{is_character, is_part, is_tail, is_name}
+use Rattle.base_words.specs.Names.{is_character, is_part, is_tail, is_name}
 use Rattle.plain_cat.specs.InForm.{is_within}
 use Rattle.run_script.specs.Lines.{parts}
 use Rattle.run_script.specs.Steps.{number_of, behind, with1, with2, with3, with4, with5}

@@ -4,7 +4,7 @@ use Rattle.std.specs.Fmt.{decimal}
 use Rattle.std.specs.List.{list_all}
 use Rattle.std.proofs.lemmas.Bool.{and_parts, leb-true, ne_eqb}
 use Rattle.std.proofs.lemmas.Fmt.{decimal_digit}
-use Rattle.vol_words.specs.Names.{is_character, is_part, is_name}
+use Rattle.base_words.specs.Names.{is_character, is_part, is_name}
 use Rattle.plain_cat.specs.declared.ids.Fid.{Fid}
 use Rattle.plain_cat.specs.declared.ids.Uic.{Uic}
 use Rattle.plain_cat.specs.declared.mode.Mode.{Mode}
@@ -12,28 +12,26 @@ use Rattle.plain_cat.specs.declared.mode.Mode.TheVariants.{NL, CR, CW, PR, PW, E
 use Rattle.plain_cat.specs.declared.command.Cmd.{Cmd}
 use Rattle.plain_cat.specs.declared.command.Cmd.TheVariants as cmd
 use Rattle.plain_cat.specs.InForm.{is_within, is_eighth, is_fid, is_owner, is_version, is_count, is_quota, is_open_mode, is_dir_name, is_text, is_text_char, in_form, line_in_form}
-use Rattle.vol_texts.specs.Names.{fid_text, uic_text, entry_text, mode_text}
-use Rattle.vol_texts.specs.Commands.{then_word, register_text, command_text}
+use Rattle.plain_texts.specs.Names.{fid_text, uic_text, mode_text}
+use Rattle.plain_cat.specs.Names.{text_of as entry_text}
+use Rattle.plain_texts.specs.Commands.{then_word, register_text, command_text}
 use Rattle.run_script.specs.Lines.{words_of}
 use Rattle.run_script.specs.Grammar.{IsCommandText, IsLineText, is_skipped}
 use Rattle.run_script.specs.Fixed.{fixed_line, node_text, has_sequence}
 use Rattle.run_script.specs.Laws.{ReadsBack}
 use Rattle.run_script.specs.declared.items.Item.TheVariants.{Command}
 use Rattle.run_script.proofs.Pieces.{Lacks, parts-none, parts-at, Lacks-append, number_lacks, passing_lack, part_lacks, name_lacks, limits, same_some}
-use Rattle.run_script.proofs.Said.{item-back}
+use Rattle.run_script.proofs.Said.{item-back, node_small}
 
 -- no operand has a space
 number_is_word : (n : ℕ) → n < 2 ^ 64 → Lacks 32 (decimal n)
 number_is_word n small = number_lacks 32 10 n (inl refl) small (inl (omega arith))
 
-eighth_small : (n : ℕ) → is_eighth n ≡ true → n < 2 ^ 64
-eighth_small n h = let l = limits 1 8 n h in omega (arith, l)
-
 reg_is_word : (reg : ℕ) → is_eighth reg ≡ true → Lacks 32 (register_text reg)
-reg_is_word reg h = (refl, number_is_word reg (eighth_small reg h))
+reg_is_word reg h = (refl, number_is_word reg (node_small reg h))
 
 chan_is_word : (n : ℕ) → is_eighth n ≡ true → Lacks 32 (decimal n)
-chan_is_word n h = number_is_word n (eighth_small n h)
+chan_is_word n h = number_is_word n (node_small n h)
 
 count_is_word : (n : ℕ) → is_count n ≡ true → Lacks 32 (decimal n)
 count_is_word n h = let l = leb-true n 65536 h in number_is_word n (omega (arith, l))

@@ -28,7 +28,7 @@ run_of-parts : (word : List ℕ) → run_of word ≡ run_from (parts 42 word) wo
 unfolding run_of
 run_of-parts word = refl
 
-node_small : (n : ℕ) → is_eighth n ≡ true → n < 2 ^ 64
+pub node_small : (n : ℕ) → is_eighth n ≡ true → n < 2 ^ 64
 node_small n h = let l = limits 1 8 n h in omega (arith, l)
 
 count_small : (n : ℕ) → is_within 1 65536 n ≡ true → n < 2 ^ 64

@@ -5,7 +5,7 @@ use Rattle.std.specs.List.{range_with_len, list_all, IsDistinct}
 use Rattle.std.proofs.lemmas.Bool.{le-leb, cases_lt, and_from, and_parts}
 use Rattle.std.proofs.lemmas.List.FromFn.{map-range_with_len_more, length-map-range_with_len}
 use Rattle.std.proofs.lemmas.List.Elements.{All-map}
-use Rattle.vol_words.specs.Names.{is_name, is_part, is_character}
+use Rattle.base_words.specs.Names.{is_name, is_part, is_character}
 use Rattle.plain_cat.specs.declared.script.LineCmd.{LineCmd}
 use Rattle.plain_cat.specs.declared.script.LineCmd.TheVariants as line
 use Rattle.plain_cat.specs.declared.script.FileRef.TheVariants.{Reg}

@@ -6,7 +6,7 @@ use Rattle.std.specs.Str.{bytes_eq}
 use Rattle.std.proofs.lemmas.Option.{option_and_then_some}
 use Rattle.std.proofs.lemmas.Bool.{and_parts, leb-true, le-leb, eqb-true}
 use Rattle.std.proofs.lemmas.Slice.Eq.{bytes_eq-Decides}
-use Rattle.vol_words.specs.Names.{is_character, is_name}
+use Rattle.base_words.specs.Names.{is_character, is_name}
 use Rattle.plain_cat.specs.declared.ids.Fid.{Fid}
 use Rattle.plain_cat.specs.declared.ids.Uic.{Uic}
 use Rattle.plain_cat.specs.declared.mode.Mode.{Mode}
@@ -14,10 +14,12 @@ use Rattle.plain_cat.specs.declared.mode.Mode.TheVariants.{NL, CR, CW, PR, PW, E
 use Rattle.plain_cat.specs.declared.script.FileRef.{FileRef}
 use Rattle.plain_cat.specs.declared.script.FileRef.TheVariants.{Fixed, Reg}
 use Rattle.plain_cat.specs.InForm.{is_within, is_eighth, is_fid, is_file_ref, is_owner, is_version, is_count, is_quota, is_open_mode, is_dir_name, is_text}
-use Rattle.vol_texts.specs.Names.{octal, fid_text, uic_text, entry_text, mode_text}
-use Rattle.vol_texts.specs.Commands.{register_text}
+use Rattle.plain_texts.specs.Names.{octal, fid_text, uic_text, mode_text}
+use Rattle.plain_cat.specs.Names.{text_of as entry_text}
+use Rattle.plain_texts.specs.Commands.{register_text}
 use Rattle.run_script.specs.Lines.{parts}
-use Rattle.run_script.specs.Grammar.{IsRefText, main_dir, lost_dir}
+use Rattle.run_script.specs.Grammar.{IsRefText, lost_dir}
+use Rattle.plain_cat.specs.Names.{main_dir}
 use Rattle.run_script.specs.declared.operands.EntryText.{EntryText}
 use Rattle.run_script.specs.Steps.{number_of, behind, closed_of, register_of, fid_of, named_ref, ref_of, entry_of, owner_of, mode_of, dir_name_of, text_of, count_of, channel_of, quota_of, with1, with2, part_of}
 use Rattle.run_script.proofs.Numerals.{number-back, number-sound}

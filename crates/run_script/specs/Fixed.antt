@@ -5,7 +5,7 @@ use Rattle.plain_cat.specs.declared.command.Cmd.TheVariants as cmd
 use Rattle.plain_cat.specs.declared.script.FileRef.TheVariants.{Fixed}
 use Rattle.plain_cat.specs.declared.script.LineCmd.{LineCmd}
 use Rattle.plain_cat.specs.declared.script.LineCmd.TheVariants as line
-use Rattle.vol_texts.specs.Commands.{then_word, command_text}
+use Rattle.plain_texts.specs.Commands.{then_word, command_text}
 
 -- its identifiers stand for themselves
 abbrev pub fixed_line : Cmd → LineCmd

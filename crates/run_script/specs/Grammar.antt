@@ -10,16 +10,13 @@ use Rattle.plain_cat.specs.declared.script.KillAt.TheVariants.{Turn, Write}
 use Rattle.plain_cat.specs.declared.script.Kill.{Kill}
 use Rattle.plain_cat.specs.declared.script.Line.{Line}
 use Rattle.plain_cat.specs.InForm.{is_within, is_eighth, line_in_form, kill_count}
-use Rattle.vol_texts.specs.Names.{fid_text, uic_text, entry_text, mode_text}
-use Rattle.vol_texts.specs.Commands.{register_text}
+use Rattle.plain_texts.specs.Names.{fid_text, uic_text, mode_text}
+use Rattle.plain_cat.specs.Names.{text_of as entry_text, main_dir}
+use Rattle.plain_texts.specs.Commands.{register_text}
 use Rattle.run_script.specs.Lines.{words_of}
 use Rattle.run_script.specs.declared.items.Run.{Run}
 use Rattle.run_script.specs.declared.items.Item.{Item}
 use Rattle.run_script.specs.declared.items.Item.TheVariants.{Skipped, Nodes, Plays, Death, Command}
-
--- the main directory, which a script may call MFD
-abbrev pub main_dir : Fid
-main_dir = record { num = 4; seq = 4 }
 
 -- the directory of lost files, which it may call LOST
 abbrev pub lost_dir : Fid

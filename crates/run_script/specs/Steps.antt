@@ -3,7 +3,7 @@ use Rattle.std.specs.Prelude.{◌≡◌, ◌==◌, ◌&&◌, ◌||◌, ◌+◌, 
 use Rattle.std.specs.Fmt.{digits}
 use Rattle.std.specs.Str.{bytes_eq}
 use Rattle.std.specs.Str.Parse.{digits_value}
-use Rattle.vol_words.specs.Names.{is_name}
+use Rattle.base_words.specs.Names.{is_name}
 use Rattle.plain_cat.specs.declared.ids.Fid.{Fid}
 use Rattle.plain_cat.specs.declared.ids.Uic.{Uic}
 use Rattle.plain_cat.specs.declared.mode.Mode.{Mode}
@@ -19,7 +19,8 @@ use Rattle.plain_cat.specs.declared.script.Line.{Line}
 use Rattle.plain_cat.specs.declared.script.Script.{Script}
 use Rattle.plain_cat.specs.InForm.{is_within, is_dir_name, is_text}
 use Rattle.run_script.specs.Lines.{parts, words_of}
-use Rattle.run_script.specs.Grammar.{main_dir, lost_dir, is_skipped}
+use Rattle.run_script.specs.Grammar.{lost_dir, is_skipped}
+use Rattle.plain_cat.specs.Names.{main_dir}
 use Rattle.run_script.specs.Spelling.{may_stand, has_room, with_item}
 use Rattle.run_script.specs.declared.fault.LineFault.{LineFault}
 use Rattle.run_script.specs.declared.fault.LineFault.TheVariants as line_fault

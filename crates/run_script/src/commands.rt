@@ -1,4 +1,6 @@
-ghost use Rattle.std.specs.Prelude.{◌≡◌, ◌<◌};
+ghost use Rattle.std.specs.Prelude.{◌≡◌, ◌<◌, Some, IfOk, IfSome};
+ghost use Rattle.plain_cat.specs.declared.script.Line.{Line as NodeCommand};
+ghost use Rattle.run_script.specs.Grammar.{IsNodeCommand};
 ghost use Rattle.run_script.specs.Lines.{words_of};
 ghost use Rattle.run_script.specs.Steps.{Gives, command_of, line_of, operand};
 
@@ -7,7 +9,7 @@ use crate::kinds::{Kind, arity, named_kind};
 use crate::numbers::{read_channel, read_count, read_number, read_quota, read_register};
 use crate::operands::{read_dir_name, read_entry, read_mode, read_owner, read_ref, read_text};
 use crate::parts::{count_parts, part};
-use plain_cat::{Line, LineCmd};
+use plain_cat::{Line, LineCmd, NoMemory};
 use std::alloc::Global;
 
 // An operand of a line's command, counted from 0: they stand behind the node and the word of the command.
@@ -211,7 +213,7 @@ fn read_command(alloc: Global, kind: Kind, line: &[u8]) -> Result<LineCmd, LineF
 
 /// Reads a node with its command, of the kind that its second word names.
 #[tactic(auto, unfolding(crate::specs::Steps::line_of))]
-pub fn read_node_command(alloc: Global, line: &[u8]) -> Result<Line, LineFault>
+pub(crate) fn line_of(alloc: Global, line: &[u8]) -> Result<Line, LineFault>
     ensures { Gives (line_of (words_of line.now)) result }
 {
     let Some(kind) = named_kind(part(line, b' ', 1)) else {
@@ -223,4 +225,18 @@ pub fn read_node_command(alloc: Global, line: &[u8]) -> Result<Line, LineFault>
     let node = read_channel(part(line, b' ', 0))?;
     let cmd = read_command(alloc, kind, line)?;
     Ok(Line { node, cmd })
+}
+
+/// Reads a node with its command, as words of a line in a script tell them, or tells that the words are none. An error says that
+/// memory ran out.
+pub fn read_node_command(alloc: Global, words: &[u8]) -> Result<Option<Line>, NoMemory>
+    ensures said { IfOk result (λ o. IfSome o (λ l. IsNodeCommand l (words_of words.now))) }
+    ensures each { (l : NodeCommand) → IsNodeCommand l (words_of words.now) → IfOk result (λ o. o ≡ Some l) }
+{
+    match line_of(alloc, words) {
+        Ok(line) => Ok(Some(line)),
+        Err(LineFault::Bad) => Ok(None),
+        Err(LineFault::TooMany) => unreachable!(),
+        Err(LineFault::NoMemory) => Err(NoMemory {}),
+    }
 }

@@ -3,7 +3,7 @@ ghost use Rattle.run_script.specs.Grammar.{is_skipped};
 ghost use Rattle.run_script.specs.Lines.{words_of};
 ghost use Rattle.run_script.specs.Steps.{Gives, nodes_of, said_of, item_of};
 
-use crate::commands::read_node_command;
+use crate::commands::line_of;
 use crate::deaths::read_death;
 use crate::fault::LineFault;
 use crate::numbers::read_channel;
@@ -117,7 +117,7 @@ fn read_words(alloc: Global, line: &[u8]) -> Result<Item, LineFault>
     if first == b"KILL".as_slice() {
         return Ok(Item::Death(read_death(line)?));
     }
-    Ok(Item::Command(read_node_command(alloc, line)?))
+    Ok(Item::Command(line_of(alloc, line)?))
 }
 
 /// Reads a line.

@@ -2,7 +2,8 @@
 //!
 //! [`read_script`] reads a script, or names the first line that is none. The grammar is `specs/Grammar.antt`, over lines of
 //! bytes; `specs/Spelling.antt` says what lines spell together, and which line is the first bad one. [`soak`] makes a script of
-//! its own: it is drawn from a number. [`ScriptFault`] is why a script is not read.
+//! its own: it is drawn from a number. [`read_node_command`] reads one command behind its node. [`ScriptFault`] is why a script
+//! is not read.
 //!
 //! ```text
 //! let script = read_script(alloc, text)?;
@@ -11,6 +12,8 @@
 //! Ok comes with the script that the lines spell (`spelt`), `BadLine` with the first bad line (`bad`), `TooMany` if there are too
 //! many commands or plays (`over`), each exactly then, unless memory runs out. No text says two of these
 //! (`a_text_says_one_thing`), and the text of a command reads back (`command_texts_read_back`).
+//!
+//! `run_engine`, `log_check` and `dlm_run` read scripts by it.
 #![tactic(auto)]
 
 mod commands;
@@ -26,11 +29,12 @@ mod reading;
 mod runs;
 mod soaks;
 mod states;
-#[cfg(test)]
-mod tests;
 mod theorems;
 
+pub use commands::read_node_command;
 pub use fault::ScriptFault;
+pub use lines::{Split, split_line};
+pub use parts::part;
 pub use reading::read_script;
 pub use soaks::soak;
 pub use theorems::{a_text_says_one_thing, command_texts_read_back};

@@ -6,9 +6,9 @@ ghost use Rattle.run_script.specs.Steps.{Gives, closed_of, fid_of, ref_of, entry
 use crate::fault::LineFault;
 use crate::numbers::read_number;
 use crate::parts::{behind, count_parts, part};
+use base_words::names::{is_name, is_part};
 use plain_cat::{Fid, FileRef, Mode, Name, NoMemory, Uic};
 use std::alloc::Global;
-use vol_words::names::{is_name, is_part};
 
 // The identifiers that have names of their own.
 const MAIN: Fid = Fid { num: 4, seq: 4 };

@@ -3,8 +3,8 @@ ghost use Rattle.plain_cat.specs.InForm.{InForm};
 ghost use Rattle.run_script.specs.Soaks.{next_state, file_name, soak_command, soak_script};
 
 use plain_cat::{Fid, FileRef, Kills, Line, LineCmd, Lines, Name, NoMemory, Plays, Script, Uic};
+use plain_texts::{push_bytes, push_number};
 use std::alloc::Global;
-use vol_texts::{push_bytes, push_number};
 
 // The main directory.
 const MFD: FileRef = FileRef::Fixed(Fid { num: 4, seq: 4 });
@@ -113,6 +113,3 @@ pub fn soak(alloc: Global, n: u32) -> Result<Script, NoMemory>
         kills: Kills::new(alloc),
     })
 }
-
-#[cfg(test)]
-mod tests;

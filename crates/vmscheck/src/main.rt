@@ -1,7 +1,7 @@
 //! The program `vmscheck BEFORE AFTER REPORT`: it judges whether a report is a legal history from the one volume to the other.
 //!
-//! It opens two images, to be read and never written, and the report, of which `-` is standard input, and makes the call of
-//! `log_check`.
+//! It opens two images, to be read and never written, each under a shared lock, and the report, of which `-` is standard input, and makes
+//! the call of `log_check`.
 //!
 //! ```text
 //! vmscheck before.img after.img report.txt
@@ -11,52 +11,19 @@
 //! wrong words.
 #![tactic(auto)]
 
-ghost use Rattle.std.specs.Prelude.{◌≡◌, true};
-ghost use Rattle.std.specs.Fs.{new_options, with_read};
+ghost use Rattle.std.specs.Prelude.{◌≡◌};
 ghost use Rattle.std.specs.Process.{exit_status};
 ghost use Rattle.log_check.specs.Codes.{status_code};
 
-use blk_drive::{FileImage, ImageDev, MemImage};
+use blk_drive::{ImageDev, MemImage};
+use edge_files::{Access, LockFile, image_at, line_of};
 use fx_text::{StdIn, StdOut, TextIn, TextOut, Word, write_all};
 use log_check::{CheckStatus, check_log};
 use plain_cat::NoMemory;
 use std::alloc::Global;
-use std::fs::{File, OpenOptions};
 use std::process::ExitCode;
 use std::rt::{Env, Files};
-use std::{env, fs, io};
-
-// The words of the command line behind the program's name. Words that are no text are none.
-fn line_of<R: Env + AllocGlobal>(rt: &R) -> Result<Vec<String>, NoMemory> {
-    let mut line = Vec::new(rt.alloc());
-    match env::args(rt) {
-        Ok(args) => {
-            for word in args.skip(1) {
-                line.push(word)?;
-            }
-        }
-        Err(e) if e.kind() == io::ErrorKind::OutOfMemory => return Err(NoMemory {}),
-        Err(_) => {}
-    }
-    Ok(line)
-}
-
-// How an image is opened: it is read, and never written.
-fn image_options() -> OpenOptions
-    ensures { result ≡ with_read new_options true }
-{
-    let mut options = File::options();
-    options.read(true);
-    options
-}
-
-// The image in a file, or one without a file where the file does not open.
-fn image_at<R: Files + AllocGlobal>(rt: &R, path: &str) -> Result<FileImage<R::File>, NoMemory> {
-    match image_options().open(rt, path) {
-        Ok(file) => FileImage::new(rt.alloc(), file),
-        Err(_) => Ok(FileImage::absent()),
-    }
-}
+use std::{fs, io};
 
 // The number of a status.
 fn exit_code(status: &CheckStatus) -> ExitCode
@@ -103,13 +70,16 @@ fn refused<R: Files + Print + AllocGlobal>(rt: &R) -> Result<ExitCode, NoMemory>
 }
 
 // Opens both images and the report, of which `-` is standard input, and makes the call.
-fn opened<R: Env + Files + Input + Print + AllocGlobal>(rt: &R) -> Result<ExitCode, NoMemory> {
+fn opened<R: Env + Files + Input + Print + AllocGlobal>(rt: &R) -> Result<ExitCode, NoMemory>
+where
+    R::File: LockFile,
+{
     let line = line_of(rt)?;
     let [before, after, log] = line.as_slice() else {
         return refused(rt);
     };
-    let before = image_at(rt, before.as_str())?;
-    let after = image_at(rt, after.as_str())?;
+    let before = image_at(rt, before.as_str(), Access::Look)?.image;
+    let after = image_at(rt, after.as_str(), Access::Look)?.image;
     if log.as_str() == "-" {
         return Ok(called(rt, &[], before, after, StdIn::new(rt.reader())));
     }

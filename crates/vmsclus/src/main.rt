@@ -1,7 +1,7 @@
 //! The program `vmsclus IMAGE SCRIPT JOB`: a cluster of nodes on one volume.
 //!
 //! It opens the image and the script, of which `-` is standard input, and hands the words of the job to the top call. All code is
-//! in `clus_main`, and what the call promises is said in `clus_top`.
+//! in `clus_top`, and what the call promises is said in `clus_top`.
 //!
 //! ```text
 //! vmsclus volume.img making.script run
@@ -13,5 +13,5 @@
 use std::process::ExitCode;
 
 fn main(rt: HostRuntime) -> ExitCode {
-    clus_main::run(&rt)
+    clus_top::run(&rt)
 }

@@ -1,6 +1,6 @@
 //! The program `vmsclus` once more, for a stored run of its own: a call that ends with a status that is not 0.
 //!
-//! All code is in `clus_main`.
+//! All code is in `clus_top`.
 //!
 //! ```text
 //! vmsclus_init volume.img - init 4 64 KVol
@@ -12,5 +12,5 @@
 use std::process::ExitCode;
 
 fn main(rt: HostRuntime) -> ExitCode {
-    clus_main::run(&rt)
+    clus_top::run(&rt)
 }

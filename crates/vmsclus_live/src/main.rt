@@ -11,24 +11,30 @@
 #![tactic(auto)]
 
 use blk_drive::{ImageDev, MemImage};
-use clus_main::{exit_code, image_at, line_of, no_memory, words_of};
+use clus_top::{exit_code, no_memory, words_of};
+use edge_files::{Access, Held, LockFile, SafeOut, image_at, line_of};
 use fx_text::{StdIn, StdOut, TextIn};
 use live_run::{OpenGate, vmsclus_live};
 use plain_cat::NoMemory;
+use std::fs::OpenFile;
 use std::process::ExitCode;
 use std::rt::{Env, Files};
 use std::sync::Wait;
 use std::thread::Threads;
 use std::{fs, io};
 
-// Calls the live top call with standard output as its sink.
-fn called<R: Threads + Wait + Sync + Print + AllocGlobal, I: ImageDev + Send, T: TextIn>(
+// Calls the live top call with standard output as its sink, before which the image's file is synced where that is due.
+fn called<R, I: ImageDev + Send, F: OpenFile + Drop, T: TextIn>(
     rt: &R,
     job: &[String],
     image: I,
+    due: Option<F>,
     mut script: T,
-) -> ExitCode {
-    let mut out = StdOut::new(io::writer(rt));
+) -> ExitCode
+where
+    R: Threads + Wait + Sync + Print + AllocGlobal,
+{
+    let mut out = SafeOut::new(StdOut::new(io::writer(rt)), due);
     match words_of(rt.alloc(), job) {
         Ok(words) => {
             let finished = vmsclus_live(
@@ -51,23 +57,24 @@ fn opened<R: Threads + Wait + Sync + Env + Files + Input + Print + AllocGlobal>(
     rt: &R,
 ) -> Result<ExitCode, NoMemory>
 where
-    R::File: Send,
+    R::File: LockFile + Send,
 {
     let line = line_of(rt)?;
     match line.as_slice() {
         [image, script, job @ ..] => {
-            let image = image_at(rt, image.as_str())?;
+            let Held { image, due } = image_at(rt, image.as_str(), Access::Change)?;
             if script.as_str() == "-" {
-                return Ok(called(rt, job, image, StdIn::new(rt.reader())));
+                return Ok(called(rt, job, image, due, StdIn::new(rt.reader())));
             }
             match fs::open(rt, script.as_str()) {
-                Ok(file) => Ok(called(rt, job, image, StdIn::new(file))),
-                Err(_) => Ok(called(rt, job, image, StdIn::<R::File>::absent())),
+                Ok(file) => Ok(called(rt, job, image, due, StdIn::new(file))),
+                Err(_) => Ok(called(rt, job, image, due, StdIn::<R::File>::absent())),
             }
         }
         _ => {
             let image = MemImage::new(Vec::new(rt.alloc()), Vec::new(rt.alloc()));
-            Ok(called(rt, &[], image, StdIn::<R::File>::absent()))
+            let script = StdIn::<R::File>::absent();
+            Ok(called(rt, &[], image, None::<R::File>, script))
         }
     }
 }

@@ -10,7 +10,7 @@ use Rattle.fx_dir.proofs.Meeting.{met}
 use Rattle.fx_dir.proofs.Order.{same-self, same-both}
 use Rattle.fx_dir.proofs.Cover.{has-append}
 use Rattle.fx_dir.proofs.Finding.{neither}
-use Rattle.vol_parts.specs.Warnings.{has_double}
+use Rattle.fx_dir.specs.Laws.{has_double}
 
 -- some of these entries are among those met
 abbrev pub crosses : List RawEnt → List RawEnt → Bool

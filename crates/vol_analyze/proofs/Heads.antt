@@ -2,8 +2,8 @@
 use Rattle.std.proofs.Common.{◌≡◌, ◌∙◌, ◌++◌, ℕ, List, [], ◌∷◌, Option, Some, None, Result, Ok, Err, refl, sym, ap, subst, append_assoc, inr}
 use Rattle.std.specs.Prelude.{slice_get, filter, IfOk}
 use Rattle.fx_home.specs.Homes.{home_read}
-use Rattle.vol_words.specs.Fields.{Block}
-use Rattle.plain_vol.specs.Mending.{places}
+use Rattle.base_words.specs.Fields.{Block}
+use Rattle.plain_rules.specs.Mending.{places}
 use Rattle.plain_cat.specs.declared.cat.Cat.{Cat}
 use Rattle.vol_parts.specs.declared.finding.Finding.{Finding}
 use Rattle.vol_parts.specs.Findings.{home_at, AreWarningsBy, Accepts, CatOf}

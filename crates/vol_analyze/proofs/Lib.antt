@@ -1,3 +1,4 @@
+pub mod Accepting
 pub mod Doubled
 pub mod Reading
 pub mod Told

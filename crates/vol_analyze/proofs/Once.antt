@@ -2,7 +2,7 @@
 use Rattle.std.proofs.Common.{◌≡◌, ◌∙◌, ◌||◌, ◌&&◌, ℕ, true, List, [], ◌∷◌, Option, Some, None, Result, Ok, Err, refl, sym, ap, inl, inr, arith}
 use Rattle.std.proofs.lemmas.Bool.Decides.{nat_tests}
 use Rattle.std.specs.Prelude.{◌==◌, nat_lt, nat_le, option_map, if◌then◌else◌}
-use Rattle.vol_words.specs.Fields.{Block}
+use Rattle.base_words.specs.Fields.{Block}
 use Rattle.fx_home.specs.declared.home.Home.{Home}
 use Rattle.fx_home.specs.declared.home.HomeFault.{HomeFault}
 use Rattle.fx_home.specs.Homes.{home_read}

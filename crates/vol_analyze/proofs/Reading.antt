@@ -3,7 +3,7 @@ use Rattle.std.proofs.Common.{◌⊎◌, inl, inr, ◌≡◌, ◌≤◌, ◌<◌
 use Rattle.std.proofs.lemmas.Bool.{false≢true, lt-ltb, le-ltb, cases_lt}
 use Rattle.std.proofs.lemmas.List.{length-map}
 use Rattle.std.specs.Prelude.{nat_lt, if◌then◌else◌}
-use Rattle.vol_words.specs.Fields.{Block}
+use Rattle.base_words.specs.Fields.{Block}
 use Rattle.fx_dir.specs.declared.RawEnt.{RawEnt}
 use Rattle.fx_dir.specs.declared.DirFault.{DirFault}
 use Rattle.fx_dir.specs.declared.DirFault.TheVariants.{BadRecord, BadOrder, Clash, NoMemory}
@@ -24,12 +24,11 @@ use Rattle.vol_parts.specs.Volumes.{Volume, factor, head as head_of, fields_in, 
 use Rattle.vol_parts.specs.Catalogues.{plain_entry, plain_entries, slot_with, slot_of}
 use Rattle.vol_parts.specs.declared.finding.Finding.TheVariants as finding
 use Rattle.vol_parts.specs.Fatal.{found_in, has_dir_size, dir_fault}
-use Rattle.vol_parts.specs.Warnings.{has_double, is_double_dir, has_doubles}
+use Rattle.vol_parts.specs.Warnings.{is_double_dir, has_doubles}
+use Rattle.fx_dir.specs.Laws.{has_double}
 use Rattle.vol_analyze.proofs.Doubled.{fresh-clean, none-crosses, doubled_is}
-
-none-clashes : (fs : List RawEnt) → any_clash [] fs ≡ false
-none-clashes [] = refl
-none-clashes (f ∷ fs) = none-clashes fs
+use Rattle.fx_dir.proofs.Merging.{clash-nil}
+use Rattle.vol_spell.proofs.EntryLists.{never_memory}
 
 abbrev whole : Option (List RawEnt) → Result (List RawEnt) DirFault
 whole None = Err (BadRecord 1)
@@ -40,7 +39,7 @@ read_one b None k = refl
 read_one b (Some fs) k =
     let e : fresh [] fs ≡ fs = fresh-clean [] fs (none-crosses fs) in
     let r : rises fs ≡ true = block-rises b fs (sym k) in
-    let n : any_clash [] fs ≡ false = none-clashes fs in
+    let n : any_clash [] fs ≡ false = clash-nil fs in
     rw (e, r, n) refl
 
 one-is : (b : Block) → directory (b ∷ []) ≡ whole (block_entries b)
@@ -60,21 +59,6 @@ single_ok b fs h = ap length (at_ok b (block_entries b) fs refl (sym (one-is b) 
 
 pub single_err : (b : Block) (fault : DirFault) → directory (b ∷ []) ≡ Err fault → 0 ≡ length (entries_at b)
 single_err b fault h = ap length (sym (at_err b (block_entries b) fault refl (sym (one-is b) ∙ h)))
-
-never_more : (vbn : ℕ) (es : List RawEnt) (bs : List Block) (o : Option (List RawEnt))
-    → ((fs : List RawEnt) → read_on (next_vbn vbn) fs bs ≡ Err NoMemory → ⊥)
-    → and_then (one_more vbn es o) (λ fs. read_on (next_vbn vbn) fs bs) ≡ Err NoMemory → ⊥
-never_more vbn es bs None ih h = cc
-never_more vbn es bs (Some fs) ih h = go (rises (es ++ fresh es fs)) (any_clash es fs) h where
-  go : (q r : Bool) → and_then (if q then (if r then Err Clash else Ok (es ++ fresh es fs)) else Err BadOrder) (λ fs. read_on (next_vbn vbn) fs bs) ≡ Err NoMemory → ⊥
-  go false r h = cc
-  go true true h = cc
-  go true false h = ih (es ++ fresh es fs) h
-
--- memory is no matter of the blocks
-never_memory : (vbn : ℕ) (es : List RawEnt) (bs : List Block) → read_on vbn es bs ≡ Err NoMemory → ⊥
-never_memory vbn es [] h = cc
-never_memory vbn es (b ∷ bs) h = never_more vbn es bs (block_entries b) (λ fs. never_memory (next_vbn vbn) fs bs) h
 
 -- a directory has doubles where its blocks have more entries than it has
 entries_of : (n : ℕ) (bs : List Block) (o : Result (List RawEnt) DirFault) → o ≡ directory bs → found_in n o ≡ None

@@ -1,7 +1,7 @@
 -- What the findings that are not fatal ask of a volume, since they are told where no fatal finding holds.
 use Rattle.std.specs.Prelude.{◌≡◌, ◌≤◌, ◌*◌, ℕ, None, All}
 use Rattle.plain_cat.specs.declared.cat.Cat.{Cat}
-use Rattle.plain_vol.specs.Lookups.{clusters_in}
+use Rattle.plain_rules.specs.Lookups.{clusters_in}
 use Rattle.vol_parts.specs.Volumes.{Volume, IsNumber}
 use Rattle.vol_parts.specs.Fatal.{dir_fault}
 

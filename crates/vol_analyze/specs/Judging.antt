@@ -1,6 +1,6 @@
 -- What is told of a volume that has to be accepted.
 use Rattle.std.specs.Prelude.{◌≡◌, List, ◌∷◌, Option, Result, Ok, Err, slice_get}
-use Rattle.vol_words.specs.Fields.{Block}
+use Rattle.base_words.specs.Fields.{Block}
 use Rattle.fx_home.specs.declared.home.Home.{Home}
 use Rattle.fx_home.specs.declared.home.HomeFault.{HomeFault}
 use Rattle.plain_cat.specs.declared.cat.Cat.{Cat}

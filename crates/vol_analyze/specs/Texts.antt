@@ -7,7 +7,8 @@ use Rattle.fx_home.specs.declared.scb.ScbFault.TheVariants as scb
 use Rattle.fx_header.specs.declared.slot.HeaderFault.{HeaderFault}
 use Rattle.fx_header.specs.declared.slot.HeaderFault.TheVariants as header
 use Rattle.plain_cat.specs.declared.ids.Uic.{Uic}
-use Rattle.vol_texts.specs.Names.{uic_text, entry_text}
+use Rattle.plain_texts.specs.Names.{uic_text}
+use Rattle.plain_cat.specs.Names.{text_of as entry_text}
 use Rattle.vol_parts.specs.declared.finding.Finding.{Finding}
 use Rattle.vol_parts.specs.declared.finding.Finding.TheVariants as finding
 

@@ -8,13 +8,12 @@ ghost use Rattle.vol_analyze.specs.Judging.{IsFirstWarning, IsJudged};
 
 use crate::firsts::first_warning;
 use crate::warnings::all_warnings;
-use blk_whole::blocks_are_whole;
+use base_words::Block;
 use fx_home::read_home;
 use plain_cat::{Cat, NoMemory};
 use std::alloc::Global;
-use vol_parts::Finding;
+use vol_parts::{Finding, blocks_are_whole};
 use vol_spell::read_fully;
-use vol_words::Block;
 
 // The findings that are not fatal, where the blocks tell this catalogue.
 fn warnings_of(alloc: Global, blocks: &[Block], cat: &Cat) -> Result<Vec<Finding>, NoMemory>

@@ -9,12 +9,12 @@ ghost use Rattle.vol_parts.specs.Conditions.{HasRunsInside, HasAllRunsInside};
 ghost use Rattle.vol_parts.specs.Warnings.{has_doubles};
 ghost use Rattle.vol_analyze.specs.Conditions.{HasSoundDirectories};
 
+use base_words::Block;
 use fx_dir::{DirFault, read_dir};
 use fx_home::Home;
 use plain_cat::{Cat, NoMemory, Slot};
 use std::alloc::{AllocError, Global};
 use vol_parts::body;
-use vol_words::Block;
 
 // How many entries a block has; none where it is no list of records.
 #[tactic(auto, using(crate::proofs::Reading::single_ok, crate::proofs::Reading::single_err))]
@@ -30,8 +30,8 @@ fn entry_count(alloc: Global, b: &Block) -> Result<usize, NoMemory>
     }
 }
 
-// Whether the blocks have more than so many entries.
-fn have_more(alloc: Global, blocks: &[Block], n: usize) -> Result<bool, NoMemory>
+/// Whether the blocks of a directory have more than so many entries. A block that is no list of records has none.
+pub fn have_more(alloc: Global, blocks: &[Block], n: usize) -> Result<bool, NoMemory>
     ensures { IfOk result (λ more. more ≡ nat_lt n (length (joined (map entries_at blocks.now)))) }
 {
     let mut left = n;

@@ -2,25 +2,25 @@
 
 ghost use Rattle.std.specs.Prelude.{◌≡◌, ◌≤◌, map, length, slice_get, IfOk};
 ghost use Rattle.fx_home.specs.Homes.{IsWithinLimits};
-ghost use Rattle.plain_vol.specs.Mending.{places};
+ghost use Rattle.plain_rules.specs.Mending.{places};
 ghost use Rattle.vol_parts.specs.declared.finding.Finding.{Finding};
 ghost use Rattle.vol_parts.specs.Volumes.{volume};
 ghost use Rattle.vol_parts.specs.Catalogues.{catalogue};
 ghost use Rattle.vol_parts.specs.Conditions.{HasAllRunsInside};
 ghost use Rattle.vol_parts.specs.Warnings.{warnings};
-ghost use Rattle.vol_places.specs.Places.{place_of, AreFirsts};
+ghost use Rattle.vol_faults.specs.Places.{place_of, AreFirsts};
 ghost use Rattle.vol_analyze.specs.Conditions.{HasFileSizes, HasSoundDirectories};
 ghost use Rattle.vol_analyze.specs.Kinds.{marked_of, nameless_of, seconds_of, early_of, late_of};
 
 use crate::doubles::doubles;
 use crate::kinds::{nameless, names_none, push_leaks, push_lost, push_marked, push_usages, second};
 use crate::warnings::push_doubles;
+use base_words::Block;
 use fx_home::Home;
 use plain_cat::{Cat, NoMemory};
 use std::alloc::Global;
+use vol_faults::{Spot, all_firsts, is_second, spots};
 use vol_parts::Finding;
-use vol_places::{Spot, all_firsts, is_second, spots};
-use vol_words::Block;
 
 // The first of these.
 fn first_of(mut found: Vec<Finding>) -> Option<Finding>

@@ -1,19 +1,18 @@
-ghost use Rattle.std.specs.Prelude.{◌≡◌, ◌≤◌, ◌*◌, ◌++◌, ◌<◌, ℕ, map, length, All, IfOk, OnOk};
+ghost use Rattle.std.specs.Prelude.{◌≡◌, ◌≤◌, ◌++◌, ◌<◌, ℕ, map, length, IfOk, OnOk};
 ghost use Rattle.std.specs.List.{count_by};
 ghost use Rattle.plain_cat.specs.declared.cat.Slot.{Slot};
-ghost use Rattle.plain_vol.specs.Accounts.{share, charge};
-ghost use Rattle.plain_vol.specs.Lookups.{clusters_in};
-ghost use Rattle.plain_vol.specs.Mending.{places, is_true};
+ghost use Rattle.plain_rules.specs.Accounts.{charge};
+ghost use Rattle.plain_rules.specs.Mending.{places, is_true};
 ghost use Rattle.vol_parts.specs.Warnings.{is_marked, names_none, names_none_found, second_found, usage_found};
-ghost use Rattle.vol_places.specs.Places.{place_of, AreFirsts};
+ghost use Rattle.vol_faults.specs.Places.{place_of, AreFirsts};
 ghost use Rattle.vol_analyze.specs.Conditions.{HasFileSizes};
 ghost use Rattle.vol_analyze.specs.Kinds.{marked_of, nameless_of, seconds_of, lost_of, leaks_of, usages_of};
 
-use plain_cat::{Cat, NoMemory, QuotaRow, Slot, Uic};
-use plain_vol::in_use;
+use plain_cat::{Cat, NoMemory, QuotaRow, Slot};
+use plain_rules::{charge, in_use};
 use std::alloc::Global;
+use vol_faults::{Spot, is_lost, is_second};
 use vol_parts::Finding;
-use vol_places::{Spot, is_lost, is_second};
 
 fn is_marked(slot: &Slot) -> bool
     ensures { (n : ℕ) → result ≡ is_marked n slot.now }
@@ -147,31 +146,6 @@ pub(crate) fn push_leaks(out: &mut Vec<Finding>, cat: &Cat) -> Result<(), NoMemo
         out.push(Finding::LeakedNumbers(numbers))?;
     }
     Ok(())
-}
-
-// What a slot's file costs an owner.
-fn share(cat: &Cat, owner: Uic, slot: &Slot) -> u32
-    requires { cat.now.factor * clusters_in slot.now ≤ 65536 }
-    ensures value { result ≡ share cat.now owner slot.now }
-    ensures bound { result ≤ 65537 }
-{
-    match slot {
-        Slot::Used(file) if owner.0 == file.owner.0 => cat.factor * file.clusters + 1,
-        _ => 0,
-    }
-}
-
-// What all files of an owner cost.
-fn charge(cat: &Cat, owner: Uic) -> u32
-    requires numbers { length cat.now.files ≤ 4096 }
-    requires sizes { All (λ (s : Slot). cat.now.factor * clusters_in s ≤ 65536) cat.now.files }
-    ensures { result ≡ charge cat.now owner }
-{
-    let mut sum = 0;
-    for slot in cat.files.items() {
-        sum += share(cat, owner, slot);
-    }
-    sum
 }
 
 fn usage(cat: &Cat, row: &QuotaRow, should: u32) -> Finding

@@ -1,7 +1,7 @@
 //! A law of findings.
 
 ghost use Rattle.std.specs.Prelude.{◌≡◌, List};
-ghost use Rattle.vol_words.specs.Fields.{Block};
+ghost use Rattle.base_words.specs.Fields.{Block};
 ghost use Rattle.vol_parts.specs.declared.finding.Finding.{Finding};
 ghost use Rattle.vol_parts.specs.Findings.{AreFindings};
 

@@ -9,7 +9,9 @@
 //!
 //! `analyze` gives exactly the findings (`AreFindings`): the first fatal one alone, if there is one, else all others, in order.
 //! So the list is empty if and only if the volume is accepted. One list alone is right (`findings_are_one_list`). `push_finding`
-//! appends exactly the text of a finding.
+//! appends exactly the text of a finding. `have_more` tells whether blocks of a directory have more than so many entries.
+//!
+//! The core (`core_state`), the top calls, `vol_rebuild` and `log_check` use it.
 #![tactic(auto)]
 
 mod analysis;
@@ -21,13 +23,9 @@ mod texts;
 mod warnings;
 
 pub use analysis::{accepted, analyze};
+pub use doubles::have_more;
 pub use laws::findings_are_one_list;
+pub use plain_texts::NoMemory;
 pub use texts::push_finding;
 pub use vol_parts::Finding;
-pub use vol_texts::NoMemory;
 pub use warnings::all_warnings;
-
-#[cfg(test)]
-mod tests;
-#[cfg(test)]
-mod volume_tests;

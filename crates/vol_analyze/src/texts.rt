@@ -4,9 +4,9 @@ ghost use Rattle.vol_analyze.specs.Texts.{home_fault_text, header_fault_text, sc
 use fx_header::HeaderFault;
 use fx_home::{HomeFault, ScbFault};
 use plain_cat::{Name, Uic};
+use plain_texts::{NoMemory, push_bytes, push_entry, push_number, push_uic};
 use std::alloc::Global;
 use vol_parts::Finding;
-use vol_texts::{NoMemory, push_bytes, push_entry, push_number, push_uic};
 
 // Appends a fault of the home block by its name.
 #[tactic(auto, unfolding(crate::specs::Texts::home_fault_text))]

@@ -9,12 +9,12 @@ ghost use Rattle.vol_analyze.specs.Kinds.{findings_with};
 
 use crate::doubles::doubles;
 use crate::kinds::{push_leaks, push_lost, push_marked, push_nameless, push_seconds, push_usages};
+use base_words::Block;
 use fx_home::Home;
 use plain_cat::{Cat, NoMemory};
 use std::alloc::Global;
+use vol_faults::{all_firsts, spots};
 use vol_parts::Finding;
-use vol_places::{all_firsts, spots};
-use vol_words::Block;
 
 // Adds directories that have doubles.
 pub(crate) fn push_doubles(out: &mut Vec<Finding>, doubles: &[u32]) -> Result<(), NoMemory>

@@ -6,7 +6,7 @@ use Rattle.std.specs.Prelude.{◌==◌, ◌-◌, slice_get, if◌then◌else◌}
 use Rattle.plain_cat.specs.declared.cat.Cat.{Cat}
 use Rattle.plain_cat.specs.declared.cat.File.{File}
 use Rattle.plain_cat.specs.declared.cat.Slot.{Slot}
-use Rattle.plain_vol.specs.Lookups.{file_at, file_in, slot_at}
+use Rattle.plain_rules.specs.Lookups.{file_at, file_in, slot_at}
 use Rattle.vol_parts.specs.Fatal.{is_marked_dir}
 
 file-slot : (o : Option Slot) (f : File) → file_in o ≡ Some f → (s : Slot) × (o ≡ Some s)

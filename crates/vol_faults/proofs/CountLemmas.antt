@@ -2,13 +2,14 @@
 use Rattle.std.proofs.Common.{◌≡◌, ◌∙◌, ◌+◌, ◌-◌, ◌*◌, ◌/◌, ◌%◌, ◌<◌, ◌≤◌, ℕ, zero, suc, Bool, true, false, cond, List, [], ◌∷◌, ◌++◌, min, refl, ap, arith, add-zero, ⊎_elim}
 use Rattle.std.specs.Prelude.{◌&&◌, nat_le, nat_lt, if◌then◌else◌}
 use Rattle.std.specs.List.{count_by, sum_by, list_any, range_with_len}
-use Rattle.std.proofs.lemmas.Bool.{and_parts, or_parts, not-false, leb-true, eqb-true, lt-ltb, le-ltb, le-leb, lt-leb, cases_lt}
+use Rattle.std.proofs.lemmas.Bool.{and_parts, or_parts, not-false, leb-true, eqb-true}
 use Rattle.std.proofs.lemmas.List.Sums.{sum_by-cons, sum_by_push}
-use Rattle.std.proofs.Math.Nat.{mul-le-mul_left, mul-div_cancel_left, div-le_of_le-mul}
+use Rattle.std.proofs.Math.Nat.{mul-div_cancel_left, div-le_of_le-mul}
 use Rattle.fx_header.specs.declared.run.Run.{Run}
 use Rattle.vol_parts.specs.Volumes.{Volume, factor, total, is_in_run}
 use Rattle.vol_parts.specs.Fatal.{is_off_bounds}
 use Rattle.vol_faults.specs.Counts.{times_in}
+use Rattle.base_words.proofs.Numbers.{from-first, to-last}
 
 -- a range with one more number
 pub range_more : (a k : ℕ) → range_with_len a (suc k) ≡ range_with_len a k ++ (a + k) ∷ []
@@ -17,22 +18,6 @@ range_more a (suc k) =
     let rest = range_more (a + 1) k in
     let same : a + 1 + k ≡ a + suc k = omega arith in
     ap (λ (xs : List ℕ). a ∷ xs) (rest ∙ rw same refl)
-
--- ---- clusters of a run
-
--- a cluster is at or behind the first cluster of a run
-from-first : (f a q : ℕ) → 1 ≤ f → nat_lt (f * a) (f * (q + 1)) ≡ nat_le a q
-from-first f a q some =
-    ⊎_elim (λ (h : q < a). let m : f * (q + 1) ≤ f * a = mul-le-mul_left f (omega arith) in rw (le-ltb (f * a) (f * (q + 1)) m, lt-leb a q h) refl)
-    (λ (h : a ≤ q). let m : f * a ≤ f * q = mul-le-mul_left f h in rw (lt-ltb (f * a) (f * (q + 1)) (omega arith), le-leb a q h) refl)
-    (cases_lt q a)
-
--- a cluster is before the end of a run
-to-last : (f b q : ℕ) → 1 ≤ f → nat_lt (f * q) (f * b) ≡ nat_lt q b
-to-last f b q some =
-    ⊎_elim (λ (h : q < b). let m : f * (q + 1) ≤ f * b = mul-le-mul_left f (omega arith) in rw (lt-ltb (f * q) (f * b) (omega arith), lt-ltb q b h) refl)
-    (λ (h : b ≤ q). let m : f * b ≤ f * q = mul-le-mul_left f h in rw (le-ltb (f * q) (f * b) m, le-ltb q b h) refl)
-    (cases_lt q b)
 
 -- the clusters of a run that is not off, in front of runs that are not
 pub record IsNext (v : Volume) (r : Run) (rs : List Run) : Type 0 where

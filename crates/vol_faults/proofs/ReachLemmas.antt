@@ -9,8 +9,10 @@ use Rattle.std.proofs.lemmas.List.Folds.{list_any_at, list_any_more}
 use Rattle.plain_cat.specs.declared.entries.DirEnt.{DirEnt}
 use Rattle.plain_cat.specs.declared.cat.Cat.{Cat}
 use Rattle.plain_cat.specs.declared.cat.File.{File}
-use Rattle.plain_vol.specs.Lookups.{of_seq, file_at}
-use Rattle.vol_parts.specs.Fatal.{is_system_entry, entries_of, NamesFile, Path}
+use Rattle.plain_rules.specs.Lookups.{of_seq, file_at}
+use Rattle.vol_parts.specs.Fatal.{NamesFile, Path}
+use Rattle.plain_rules.specs.SystemFiles.{is_system_entry}
+use Rattle.plain_rules.specs.SystemFiles.{entries_of}
 use Rattle.vol_parts.specs.Fatal.Path.{One, More}
 use Rattle.vol_faults.specs.Reaching.{is_step, is_step_to, leads}
 use Rattle.vol_faults.specs.Walking.{leads_among}

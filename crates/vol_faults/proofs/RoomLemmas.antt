@@ -2,7 +2,7 @@
 use Rattle.std.proofs.Common.{◌≡◌, ◌∙◌, ◌↔◌, ℕ, true, false, List, [], ◌∷◌, ◌++◌, Option, Some, None, refl, sym, ap, subst}
 use Rattle.std.specs.Prelude.{option_map, option_and_then}
 use Rattle.plain_cat.specs.declared.cat.Cat.{Cat}
-use Rattle.plain_vol.specs.Mending.{lost, enter, enter_all, enter_some, with_lost, mended_from, mended, stripped}
+use Rattle.plain_rules.specs.Mending.{lost, enter, enter_all, enter_some, with_lost, mended_from, mended, stripped}
 use Rattle.vol_parts.specs.Fatal.{HasNoRoom}
 
 -- of these numbers n is the first for which there is no room, from the catalogue a on
@@ -21,7 +21,7 @@ entered-on : (ns : List ℕ) (o : Option Cat) (b : Cat) → option_and_then (ent
 entered-on ns None b e = absurd (cc)
 entered-on ns (Some a) b e = (a, refl, e)
 
-same-some : (a b : Cat) → Some a ≡ Some b → a ≡ b
+pub same-some : (a b : Cat) → Some a ≡ Some b → a ≡ b
 same-some a b e = cc
 
 -- two stops among the same numbers are one

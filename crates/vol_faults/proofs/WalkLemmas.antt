@@ -12,7 +12,8 @@ use Rattle.std.proofs.Math.Nat.{add-mul}
 use Rattle.std.proofs.lemmas.Option.{slice_get_within, get_or_from_slice_get}
 use Rattle.plain_cat.specs.declared.entries.DirEnt.{DirEnt}
 use Rattle.plain_cat.specs.declared.cat.Cat.{Cat}
-use Rattle.vol_parts.specs.Fatal.{entries_of, Path}
+use Rattle.vol_parts.specs.Fatal.{Path}
+use Rattle.plain_rules.specs.SystemFiles.{entries_of}
 use Rattle.vol_parts.specs.Fatal.Path.{One}
 use Rattle.vol_faults.specs.Reaching.{is_step, leads, waits}
 use Rattle.vol_faults.specs.Walking.{number_at, begin_at, place_of, looked_at, is_new, new_numbers, IsNoHigher, IsOnLoop, IsMet, IsWay, IsWalk, IsPushed, IsLowered, IsJoined, IsBack, IsGone, IsAtEnd, IsAlong, IsOneMore, AreKept, IsLonger, IsLooked, IsShortened, IsFurther, AreClosed, AreLowered, IsShorter, IsLowestOnLoop, left_to_do}
@@ -21,6 +22,7 @@ use Rattle.vol_faults.specs.declared.loops.Place.TheVariants.{New, At, Closed}
 use Rattle.vol_faults.specs.declared.loops.Walk.{Walk}
 use Rattle.vol_faults.proofs.ReachLemmas.{leads-names, path-number, step-number, any-place, step-goes}
 use Rattle.vol_faults.proofs.WayLemmas.{way-pushed, way-joined, way-lowered, way-looked, way-closed, way-loop, path-on, IsCut}
+use Rattle.base_words.proofs.Booleans.{or_false}
 
 -- ---- a walk that has not begun
 
@@ -380,11 +382,7 @@ waits-more : (ns : List ℕ) (i n m : ℕ) (t : Bool) → i < length ns → n �
 waits-more ns i n m t inside is e =
     list_any_more (λ x. x == m) ns i n inside ∙ (ap (λ (x : ℕ). waits (take i ns) m || (x == m)) (sym is) ∙ ap (λ (b : Bool). waits (take i ns) m || b) e)
 
-or-none : (b : Bool) → (b || false) ≡ b
-or-none true = refl
-or-none false = refl
-
-or-all : (b : Bool) → (b || true) ≡ true
+pub or-all : (b : Bool) → (b || true) ≡ true
 or-all true = refl
 or-all false = refl
 
@@ -392,7 +390,7 @@ waits-same : (ns : List ℕ) (i n : ℕ) → i < length ns → n ≡ get_or ns i
 waits-same ns i n inside is = waits-more ns i n n true inside is (eq-eqb n n refl) ∙ or-all (waits (take i ns) n)
 
 waits-other : (ns : List ℕ) (i n m : ℕ) → i < length ns → n ≡ get_or ns i n → n ≢ m → waits (take (i + 1) ns) m ≡ waits (take i ns) m
-waits-other ns i n m inside is ne = waits-more ns i n m false inside is (ne_eqb n m ne) ∙ or-none (waits (take i ns) m)
+waits-other ns i n m inside is ne = waits-more ns i n m false inside is (ne_eqb n m ne) ∙ or_false (waits (take i ns) m)
 
 pub closed-none : (ps : List Place) → AreClosed [] ps ps
 closed-none ps = record { long = refl; closed = λ n e. absurd (cc); same = λ n e. refl; few = omega arith }

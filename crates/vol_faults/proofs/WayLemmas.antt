@@ -1,18 +1,20 @@
 -- The way along chains of entries: what each step keeps.
-use Rattle.std.proofs.Common.{◌≡◌, ◌∙◌, ◌≢◌, ◌+◌, ◌<◌, ◌≤◌, ◌-◌, ℕ, Bool, true, false, length, get_or, Option, Some, refl, sym, ap, subst, take, arith, inl, inr, ⊎_elim, below_more}
+use Rattle.std.proofs.Common.{◌≡◌, ◌∙◌, ◌≢◌, ◌+◌, ◌<◌, ◌≤◌, ◌-◌, ℕ, true, false, length, get_or, Option, Some, refl, sym, ap, subst, take, arith, inl, inr, ⊎_elim, below_more}
 use Rattle.std.specs.Prelude.{◌&&◌, ◌||◌, ◌==◌, ◌⊎◌, slice_get}
 use Rattle.std.proofs.lemmas.Bool.{and_parts, cases_lt, cases_eq, eqb-true}
 use Rattle.std.proofs.lemmas.List.{take_all}
 use Rattle.std.proofs.lemmas.Option.{slice_get_within, get_or_from_slice_get}
 use Rattle.plain_cat.specs.declared.entries.DirEnt.{DirEnt}
 use Rattle.plain_cat.specs.declared.cat.Cat.{Cat}
-use Rattle.vol_parts.specs.Fatal.{entries_of, Path}
+use Rattle.vol_parts.specs.Fatal.{Path}
+use Rattle.plain_rules.specs.SystemFiles.{entries_of}
 use Rattle.vol_parts.specs.Fatal.Path.{One, More}
 use Rattle.vol_faults.specs.Reaching.{is_step, leads}
 use Rattle.vol_faults.specs.Walking.{leads_among, IsNoHigher, IsOnLoop, IsMet, IsWay}
 use Rattle.vol_faults.specs.declared.loops.Place.{Place}
 use Rattle.vol_faults.specs.declared.loops.Place.TheVariants.{New, At, Closed}
 use Rattle.vol_faults.proofs.ReachLemmas.{names-leads, more-leads}
+use Rattle.plain_rules.proofs.Ordered.{or_cases}
 
 -- ---- chains
 
@@ -143,10 +145,6 @@ way-lowered c size at begin place looked low low1 h kept loop = record {
 same-place : (i j : ℕ) (p : Place) → p ≡ At i → p ≡ At j → i ≡ j
 same-place i j p e f = cc
 
-or-one : (a b : Bool) → (a || b) ≡ true → (a ≡ true) ⊎ (b ≡ true)
-or-one true b e = inl refl
-or-one false b e = inr e
-
 pub way-looked : (c : Cat) (size k : ℕ) (at begin : ℕ → ℕ) (place : ℕ → Place) (looked looked1 : ℕ → ℕ) (low : Option ℕ) (n : ℕ) (e : DirEnt) → IsWay c size at begin place looked low
     → k < size → at k ≡ n → slice_get (entries_of c n) (looked n) ≡ Some e → looked1 n ≡ looked n + 1 → ((m : ℕ) → m ≢ n → looked1 m ≡ looked m)
     → (is_step c n e ≡ true → IsMet at begin low k (place e.fid.num)) → IsWay c size at begin place looked1 low
@@ -173,7 +171,7 @@ way-looked c size k at begin place looked looked1 low n e h inside is there one 
           let w = and_parts (is_step c n e) (e.fid.num == m) x in
           let to : e.fid.num ≡ m = eqb-true e.fid.num m w.1 in
           rw (at-k, sym to) (goes w.0))
-          (or-one (leads_among c n (take (looked n) (entries_of c n)) m) (is_step c n e && (e.fid.num == m))
+          (or_cases (leads_among c n (take (looked n) (entries_of c n)) m) (is_step c n e && (e.fid.num == m))
           (sym (more-leads c n (looked n) m e (entries_of c n) (is_step c n e) within entry refl) ∙ led-n)))
           (λ (other : at i ≢ n). h.met i m l (rw (others (at i) other) at led))
           (cases_eq (at i) n);

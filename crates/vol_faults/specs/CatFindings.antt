@@ -3,10 +3,12 @@
 use Rattle.std.specs.Prelude.{◌≡◌, ◌≤◌, ℕ, true, false, Option, Some, None}
 use Rattle.std.specs.List.{list_any}
 use Rattle.plain_cat.specs.declared.cat.Cat.{Cat}
-use Rattle.plain_vol.specs.Lookups.{file_at}
+use Rattle.plain_rules.specs.Lookups.{file_at}
 use Rattle.vol_parts.specs.declared.finding.Finding.{Finding}
 use Rattle.vol_parts.specs.declared.finding.Finding.TheVariants as finding
-use Rattle.vol_parts.specs.Fatal.{is_system_entry, entries_of, is_marked_dir, Path, HasNoRoom}
+use Rattle.vol_parts.specs.Fatal.{is_marked_dir, Path, HasNoRoom}
+use Rattle.plain_rules.specs.SystemFiles.{is_system_entry}
+use Rattle.plain_rules.specs.SystemFiles.{entries_of}
 use Rattle.vol_parts.specs.Findings.{rank, subject}
 
 -- a fatal finding of these kinds holds of a catalogue

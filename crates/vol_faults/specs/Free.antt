@@ -1,7 +1,7 @@
 -- Where the fixed parts of a volume lie that can be read, and how much of it is free.
 use Rattle.std.specs.Prelude.{◌≡◌, not, ℕ, Bool, List, Result, Ok, Err}
 use Rattle.std.specs.List.{count_by, range_with_len}
-use Rattle.vol_words.specs.Fields.{Block}
+use Rattle.base_words.specs.Fields.{Block}
 use Rattle.fx_home.specs.declared.home.Home.{Home}
 use Rattle.fx_home.specs.declared.home.HomeFault.{HomeFault}
 use Rattle.vol_parts.specs.declared.geometry.Geometry.{Geometry}

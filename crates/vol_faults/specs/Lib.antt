@@ -2,6 +2,8 @@ pub mod CatFindings
 pub mod Conditions
 pub mod Counts
 pub mod Free
+pub mod Places
 pub mod Reaching
-pub mod Whole
+pub mod Waiting
 pub mod Walking
+pub mod Whole

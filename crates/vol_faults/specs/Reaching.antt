@@ -3,8 +3,9 @@ use Rattle.std.specs.Prelude.{◌==◌, ◌&&◌, not, ℕ, Bool, List, is_some}
 use Rattle.std.specs.List.{list_any}
 use Rattle.plain_cat.specs.declared.entries.DirEnt.{DirEnt}
 use Rattle.plain_cat.specs.declared.cat.Cat.{Cat}
-use Rattle.plain_vol.specs.Lookups.{in_use}
-use Rattle.vol_parts.specs.Fatal.{is_system_entry, entries_of}
+use Rattle.plain_rules.specs.Lookups.{in_use}
+use Rattle.plain_rules.specs.SystemFiles.{is_system_entry}
+use Rattle.plain_rules.specs.SystemFiles.{entries_of}
 
 -- an entry of directory n names a file in use, and is not the master file directory's own
 unfoldable pub is_step : Cat → ℕ → DirEnt → Bool

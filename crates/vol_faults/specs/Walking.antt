@@ -3,7 +3,8 @@ use Rattle.std.specs.Prelude.{◌≡◌, ◌≢◌, ◌⊎◌, ◌<◌, ◌≤�
 use Rattle.std.specs.List.{list_any, count_by}
 use Rattle.plain_cat.specs.declared.entries.DirEnt.{DirEnt}
 use Rattle.plain_cat.specs.declared.cat.Cat.{Cat}
-use Rattle.vol_parts.specs.Fatal.{entries_of, Path}
+use Rattle.vol_parts.specs.Fatal.{Path}
+use Rattle.plain_rules.specs.SystemFiles.{entries_of}
 use Rattle.vol_faults.specs.Reaching.{is_step, is_step_to, leads, waits}
 use Rattle.vol_faults.specs.declared.loops.Place.{Place}
 use Rattle.vol_faults.specs.declared.loops.Place.TheVariants.{New, At, Closed}

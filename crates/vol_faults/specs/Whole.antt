@@ -1,6 +1,6 @@
 -- What is read of a volume: its catalogue, or the first fatal finding.
 use Rattle.std.specs.Prelude.{◌≡◌, ◌<◌, ℕ, true, List, Option, Some, None, Result, Ok, Err}
-use Rattle.vol_words.specs.Fields.{Block}
+use Rattle.base_words.specs.Fields.{Block}
 use Rattle.fx_home.specs.Homes.{home_read}
 use Rattle.plain_cat.specs.declared.cat.Cat.{Cat}
 use Rattle.vol_parts.specs.declared.finding.Finding.{Finding}

@@ -12,10 +12,10 @@ ghost use Rattle.vol_parts.specs.Volumes.{volume, IsNumber, fields};
 ghost use Rattle.vol_faults.specs.Conditions.{has_run_off};
 
 use crate::sizes::whole;
+use base_words::Block;
 use fx_header::Run;
 use fx_home::Home;
 use vol_parts::{FileRuns, Finding, fields, file_runs};
-use vol_words::Block;
 
 /// Whether a run is no whole clusters of the volume. It may lie anywhere in 32 bits.
 #[tactic(auto, unfolding(vol_parts::specs::Fatal::is_off_bounds))]

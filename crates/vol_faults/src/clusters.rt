@@ -12,9 +12,9 @@ ghost use Rattle.vol_faults.specs.Conditions.{IsSize, HasSystemFiles};
 ghost use Rattle.vol_faults.specs.Counts.{AreCounts, times};
 
 use crate::sizes::total;
+use base_words::Block;
 use fx_home::Home;
 use vol_parts::{Finding, first_lbn, is_free_cluster};
-use vol_words::Block;
 
 fn lowest_shared(home: &Home, blocks: &[Block], counts: &[u8]) -> Option<u32>
     requires limits { IsWithinLimits home.now }

@@ -7,9 +7,9 @@ ghost use Rattle.vol_parts.specs.Firsts.{IsFirstOf};
 ghost use Rattle.vol_parts.specs.Volumes.{volume};
 ghost use Rattle.vol_faults.specs.Conditions.{HasSystemFiles};
 
+use base_words::Block;
 use fx_home::{Home, ScbFault, read_scb};
 use vol_parts::{Finding, first_lbn};
-use vol_words::Block;
 
 #[tactic(auto, unfolding(vol_parts::specs::Fatal::scb_fault))]
 fn scb_fault(home: &Home, blocks: &[Block]) -> Option<ScbFault>

@@ -10,11 +10,11 @@ ghost use Rattle.vol_parts.specs.Volumes.{volume, IsNumber, factor, total, is_in
 ghost use Rattle.vol_faults.specs.Counts.{AreCounts, times_in};
 
 use crate::sizes::total;
+use base_words::Block;
 use fx_home::Home;
 use plain_cat::NoMemory;
 use std::alloc::Global;
 use vol_parts::{FileRuns, file_runs};
-use vol_words::Block;
 
 /// Adds one to the counts of the clusters from `from` on and before `to`. A count stays at 2.
 fn count_clusters_between(counts: &mut [u8], from: usize, to: usize)

@@ -2,13 +2,15 @@
 
 ghost use Rattle.std.specs.Prelude.{◌≡◌, ◌≤◌, not, length};
 ghost use Rattle.std.specs.List.{list_any};
-ghost use Rattle.plain_vol.specs.Lookups.{file_at};
-ghost use Rattle.vol_parts.specs.Fatal.{is_system_entry, entries_of, is_marked_dir};
+ghost use Rattle.plain_rules.specs.Lookups.{file_at};
+ghost use Rattle.vol_parts.specs.Fatal.{is_marked_dir};
+ghost use Rattle.plain_rules.specs.SystemFiles.{is_system_entry};
+ghost use Rattle.plain_rules.specs.SystemFiles.{entries_of};
 ghost use Rattle.vol_parts.specs.Lowest.{IsLowest};
 ghost use Rattle.vol_faults.specs.CatFindings.{IsFirstIn};
 
 use plain_cat::{Cat, DirEnt};
-use plain_vol::{file_at, is_own};
+use plain_rules::{file_at, is_own};
 use vol_parts::Finding;
 
 /// The entries of the directory of a number, of which a number that is no directory's has none.
@@ -23,7 +25,7 @@ pub(crate) fn entries_of(cat: &Cat, n: u32) -> &[DirEnt]
 
 /// Whether an entry of the master file directory is the one that it has of this system file: its name, version 1, and its
 /// identifier, whose sequence is the number up to 9 and then 1.
-#[tactic(auto, unfolding(vol_parts::specs::Fatal::is_system_entry))]
+#[tactic(auto, unfolding(plain_rules::specs::SystemFiles::is_system_entry))]
 pub(crate) fn is_system_entry(n: u32, e: &DirEnt) -> bool
     ensures { result ≡ is_system_entry n e.now }
 {

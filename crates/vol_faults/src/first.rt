@@ -18,13 +18,13 @@ use crate::headers::first_bad_header;
 use crate::loops::first_loop;
 use crate::numbers::first_free_number;
 use crate::systems::first_bad_system_file;
+use base_words::Block;
 use fx_home::{Home, read_home};
 use plain_cat::{Cat, NoMemory};
 use std::alloc::Global;
 use vol_parts::{
     Finding, active_rows, first_bad_directory, first_double_row, first_rowless_file, read_catalogue,
 };
-use vol_words::Block;
 
 /// The first of headers, system files, the control block, runs, and sizes of files.
 fn first_of_files(home: &Home, blocks: &[Block]) -> Option<Finding>

@@ -9,9 +9,9 @@ ghost use Rattle.vol_faults.specs.Conditions.{IsSize, HasHeads, HasSystemFiles};
 ghost use Rattle.vol_faults.specs.Free.{free_clusters, free_numbers, IsGeometryBy, AreFreeBy};
 
 use crate::sizes::total;
+use base_words::Block;
 use fx_home::{Home, read_home};
 use vol_parts::{Geometry, first_lbn, is_free_cluster, is_used_number};
-use vol_words::Block;
 
 /// How many clusters the storage bitmap calls free.
 fn free_clusters(home: &Home, blocks: &[Block]) -> u32

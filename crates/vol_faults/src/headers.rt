@@ -7,10 +7,10 @@ ghost use Rattle.vol_parts.specs.Lowest.{IsLowest};
 ghost use Rattle.vol_parts.specs.Volumes.{volume, IsNumber};
 ghost use Rattle.vol_faults.specs.Conditions.{is_bad_header, HasHeads};
 
+use base_words::Block;
 use fx_header::Slot;
 use fx_home::Home;
 use vol_parts::{Finding, head};
-use vol_words::Block;
 
 /// Whether the header of a number has a fault, or is that of another number.
 #[tactic(auto, unfolding(crate::specs::Conditions::is_bad_header))]

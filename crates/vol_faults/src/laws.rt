@@ -2,7 +2,7 @@
 
 ghost use Rattle.std.specs.Prelude.{◌≡◌, ◌≤◌, ◌↔◌, ℕ, Option, None};
 ghost use Rattle.plain_cat.specs.declared.cat.Cat.{Cat};
-ghost use Rattle.plain_vol.specs.Mending.{mended};
+ghost use Rattle.plain_rules.specs.Mending.{mended};
 ghost use Rattle.vol_parts.specs.declared.finding.Finding.{Finding};
 ghost use Rattle.vol_parts.specs.Catalogues.{catalogue};
 ghost use Rattle.vol_parts.specs.Fatal.{HasNoRoom};

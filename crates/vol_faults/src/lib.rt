@@ -1,15 +1,19 @@
 //! The fatal findings of a volume, kind by kind, and the catalogue of a volume without one.
 //!
 //! There is a call for each kind, such as `first_bad_header`, `first_shared_cluster` and `first_loop`. `read_whole` joins them.
-//! The types are those of `vol_parts`.
+//! A `Spot` is an entry with the number of its directory. The other types are those of `vol_parts`.
 //!
 //! ```text
 //! let read = read_whole(alloc, blocks)?;  // the catalogue, or the first fatal finding
 //! ```
 //!
 //! Each `first_` call gives the finding of its kind with the lowest number, and none if and only if none of that kind holds
-//! (`IsFirstOf`). `read_whole` gives the first of all, or the catalogue (`IsRead`); only room for lost files is left to
-//! `vol_places`. A law says that mending fails if and only if that room is lacking.
+//! (`IsFirstOf`). `read_whole` gives the first of all but one, or the catalogue (`IsRead`). That one, a lost file without room in
+//! [SYSLOST], is found on the catalogue: `spots` lists all entries with their places, `all_firsts` gives for each file the first that
+//! names it, `stays`, `is_second` and `is_lost` answer by that table exactly the questions of mending, and `first_without_room` gives
+//! the first such file (`IsFirstIn`). A law says that mending fails if and only if that room is lacking.
+//!
+//! `vol_spell` reads volumes by it, `vol_analyze` lists findings, `vol_rebuild` mends.
 #![tactic(auto)]
 
 mod bounds;
@@ -20,10 +24,14 @@ mod entries;
 mod first;
 mod free;
 mod headers;
+mod keeping;
 mod laws;
 mod loops;
 mod numbers;
+mod places;
+mod room;
 mod sizes;
+mod staying;
 mod systems;
 
 pub use bounds::{first_large_file, first_run_off};
@@ -34,14 +42,11 @@ pub use entries::{first_marked_dir, first_missing_entry};
 pub use first::read_whole;
 pub use free::{free_counts, geometry};
 pub use headers::first_bad_header;
+pub use keeping::{all_firsts, is_lost, is_second};
 pub use laws::{catalogues_tell_volumes, room_is_lacking_where_mending_gives_up};
 pub use loops::first_loop;
 pub use numbers::first_free_number;
+pub use places::{Spot, spots};
+pub use room::first_without_room;
+pub use staying::stays;
 pub use systems::first_bad_system_file;
-
-#[cfg(test)]
-mod cat_tests;
-#[cfg(test)]
-mod first_tests;
-#[cfg(test)]
-mod tests;

@@ -5,8 +5,8 @@
 //! shows a loop: from that number on the way is one, and stays together until all its entries were looked at.
 
 ghost use Rattle.std.specs.Prelude.{◌≡◌, ◌+◌, ◌-◌, ◌^◌, ◌<◌, ◌≤◌, [], ℕ, IfOk, OnOk, All, true, false, length, is_some, slice_get, Some};
-ghost use Rattle.plain_vol.specs.Lookups.{in_use};
-ghost use Rattle.vol_parts.specs.Fatal.{entries_of};
+ghost use Rattle.plain_rules.specs.Lookups.{in_use};
+ghost use Rattle.plain_rules.specs.SystemFiles.{entries_of};
 ghost use Rattle.vol_faults.specs.CatFindings.{IsFirstIn};
 ghost use Rattle.vol_faults.specs.Reaching.{is_step};
 ghost use Rattle.vol_faults.specs.declared.loops.Place.{Place};
@@ -14,7 +14,7 @@ ghost use Rattle.vol_faults.specs.Walking.{begin_at, place_of, looked_at, is_new
 
 use crate::entries::{entries_of, is_system_entry};
 use plain_cat::{Cat, DirEnt, Fid, NoMemory};
-use plain_vol::file_at;
+use plain_rules::file_at;
 use std::alloc::Global;
 use vol_parts::Finding;
 

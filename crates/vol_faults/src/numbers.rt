@@ -7,9 +7,9 @@ ghost use Rattle.vol_parts.specs.Lowest.{IsLowest};
 ghost use Rattle.vol_parts.specs.Volumes.{volume, IsNumber};
 ghost use Rattle.vol_faults.specs.Conditions.{HasHeads, is_free_in_use};
 
+use base_words::Block;
 use fx_home::Home;
 use vol_parts::{Finding, fields, is_used_number};
-use vol_words::Block;
 
 /// Whether the index-file bitmap says that a number is free, and a file has it.
 #[tactic(auto, unfolding(crate::specs::Conditions::is_free_in_use))]

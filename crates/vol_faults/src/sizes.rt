@@ -4,8 +4,8 @@ ghost use Rattle.std.specs.Prelude.{◌≡◌, ◌*◌, ◌≤◌, length};
 ghost use Rattle.fx_home.specs.Homes.{IsWithinLimits};
 ghost use Rattle.vol_parts.specs.Volumes.{volume, factor, total};
 
+use base_words::Block;
 use fx_home::Home;
-use vol_words::Block;
 
 /// The whole clusters of a volume.
 pub(crate) fn total(home: &Home, blocks: &[Block]) -> usize

@@ -10,10 +10,10 @@ ghost use Rattle.vol_parts.specs.Volumes.{volume, runs};
 ghost use Rattle.vol_faults.specs.Conditions.{IsSize, HasSystemFiles};
 
 use crate::sizes::{total, whole};
+use base_words::Block;
 use fx_header::{Hdr, Run};
 use fx_home::Home;
 use vol_parts::{FileRuns, Finding, fields, file_runs};
-use vol_words::Block;
 
 /// How many clusters so many blocks take.
 fn in_whole_clusters(cluster: usize, blocks: usize) -> usize

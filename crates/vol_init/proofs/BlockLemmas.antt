@@ -2,7 +2,7 @@
 use Rattle.std.proofs.Common.{◌≡◌, ◌+◌, ◌<◌, ◌≤◌, ℕ, zero, suc, List, [], ◌∷◌, length, map, flat_map, slice_get, Some, refl, ap, arith, append-nil}
 use Rattle.std.specs.List.{range_with_len}
 use Rattle.std.proofs.lemmas.Option.{same_Some}
-use Rattle.vol_words.specs.Fields.{Block}
+use Rattle.base_words.specs.Fields.{Block}
 use Rattle.fx_quota.specs.declared.types.Row.{Row}
 use Rattle.fx_header.specs.declared.run.Run.{Run}
 use Rattle.vol_parts.specs.Volumes.{Volume, block_at, rows_in, runs, body}

@@ -1,9 +1,9 @@
 -- The entries of the master file directory are in order and in form.
 use Rattle.std.proofs.Common.{◌≡◌, ◌<◌, ◌≤◌, ◌^◌, ℕ, zero, suc, List, [], ◌∷◌, map, Option, Some, None, true, codes, refl, sym, ap, ◌∙◌, arith}
 use Rattle.std.proofs.lemmas.Bool.Decides.{nat_tests}
-use Rattle.vol_words.specs.Fields.{Block}
-use Rattle.vol_words.specs.Packing.{cost, unfilled, pack, over}
-use Rattle.vol_words.specs.Names.{is_name, is_part, is_character}
+use Rattle.base_words.specs.Fields.{Block}
+use Rattle.base_words.specs.Packing.{cost, unfilled, pack, over}
+use Rattle.base_words.specs.Names.{is_name, is_part, is_character}
 use Rattle.fx_dir.specs.declared.RawEnt.{RawEnt}
 use Rattle.fx_dir.specs.Lists.{Each, joined}
 use Rattle.fx_dir.specs.Directory.{entries_at, all_entries}
@@ -15,8 +15,8 @@ use Rattle.fx_dir.proofs.Mixing.{pack-joined, pack-reads}
 use Rattle.fx_dir.proofs.Views.{own-view}
 use Rattle.fx_dir.proofs.Showing.{seen}
 use Rattle.fx_dir.proofs.Building.{map-own, keeps-uniform, pack-seen}
-use Rattle.vol_parts.specs.Fatal.{system_seq}
-use Rattle.vol_fresh.specs.Layouts.{main_entry, main_entries}
+use Rattle.plain_rules.specs.SystemFiles.{system_seq}
+use Rattle.vol_init.specs.Layouts.{main_entry, main_entries}
 
 pub main-rises : rises main_entries ≡ true
 unfolding main_entries before

@@ -5,8 +5,8 @@ use Rattle.std.specs.List.{range_with_len}
 use Rattle.std.proofs.lemmas.Bool.{lt-ltb, ne_eqb, le-ltb, lt-leb, and_right}
 use Rattle.vol_init.specs.Made.{IsClear}
 use Rattle.std.proofs.lemmas.Bool.Decides.{nat_tests}
-use Rattle.vol_words.specs.Fields.{Block}
-use Rattle.vol_words.specs.Tables.{zeros}
+use Rattle.base_words.specs.Fields.{Block}
+use Rattle.base_words.specs.Tables.{zeros}
 use Rattle.fx_home.specs.Homes.{scb_read}
 use Rattle.fx_header.specs.declared.slot.Slot.{Slot}
 use Rattle.fx_header.specs.declared.slot.Slot.TheVariants.{Used}
@@ -18,10 +18,10 @@ use Rattle.fx_dir.specs.Entries.{rises}
 use Rattle.vol_parts.specs.Parts.{storage_blocks}
 use Rattle.vol_parts.specs.Volumes.{Volume, header_lbn, header_at, block_at, head, fields, fields_in, runs, first_lbn, bitmap_lbn, body, rows_in, active_rows, is_used_number, is_free_cluster}
 use Rattle.vol_parts.proofs.Sizes.{runs-used}
-use Rattle.vol_fresh.specs.declared.layout.Layout.{Layout}
-use Rattle.vol_fresh.specs.Layouts.{IsLayout, total, reserved_clusters, clusters_of, header_of, runs_of, main_entries, quota_rows}
-use Rattle.vol_fresh.specs.Fresh.{IsFresh, layout_of}
-use Rattle.vol_fresh.proofs.Doubles.{ordered_once}
+use Rattle.vol_init.specs.declared.layout.Layout.{Layout}
+use Rattle.vol_init.specs.Layouts.{IsLayout, total, reserved_clusters, clusters_of, header_of, runs_of, main_entries, quota_rows}
+use Rattle.vol_init.specs.Fresh.{IsFresh, layout_of}
+use Rattle.vol_init.proofs.Doubles.{ordered_once}
 use Rattle.vol_parts.specs.Warnings.{has_doubles}
 use Rattle.vol_init.proofs.EntryLemmas.{main-rises}
 use Rattle.vol_init.specs.declared.part.Part.{Part}

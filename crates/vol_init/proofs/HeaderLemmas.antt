@@ -3,13 +3,13 @@ use Rattle.std.proofs.Common.{◌≡◌, ◌∙◌, ◌+◌, ◌-◌, ◌*◌, �
 use Rattle.std.specs.Prelude.{if◌then◌else◌}
 use Rattle.std.proofs.lemmas.Bool.{cases_eq, ne_eqb, eq-eqb, le-leb}
 use Rattle.std.proofs.Math.Nat.{mul-le-mul_left}
-use Rattle.vol_words.specs.Fields.{Block}
+use Rattle.base_words.specs.Fields.{Block}
 use Rattle.fx_header.specs.declared.run.Run.{Run}
 use Rattle.fx_header.specs.declared.slot.Slot.TheVariants.{Used}
 use Rattle.fx_header.specs.Headers.{header_read, runs_in, map_area, with_runs, ReadsBack}
 use Rattle.fx_header.specs.Pointers.{AreRuns, IsRun, merged, map_words, pointer_bytes, first_word, word, long, blocks_in}
-use Rattle.vol_fresh.specs.declared.layout.Layout.{Layout}
-use Rattle.vol_fresh.specs.Layouts.{IsLayout, total, reserved_clusters, clusters_of, first_cluster, blocks_of, header_of, runs_of}
+use Rattle.vol_init.specs.declared.layout.Layout.{Layout}
+use Rattle.vol_init.specs.Layouts.{IsLayout, total, reserved_clusters, clusters_of, first_cluster, blocks_of, header_of, runs_of}
 use Rattle.vol_init.specs.Parts.{first_block}
 use Rattle.vol_init.proofs.PlaceLemmas.{Places, places}
 

@@ -4,21 +4,22 @@ use Rattle.std.specs.Prelude.{slice_set, Result, IsErr, OnErr}
 use Rattle.std.proofs.Math.ListN.{set, length-set}
 use Rattle.std.proofs.lemmas.Bool.{cases_lt}
 use Rattle.std.proofs.lemmas.Option.{get_or_from_slice_get, slice_get-get_or}
-use Rattle.vol_words.specs.Fields.{Block}
-use Rattle.vol_words.specs.Tables.{zeros}
+use Rattle.base_words.specs.Fields.{Block}
+use Rattle.base_words.specs.Tables.{zeros}
 use Rattle.blk_drive.specs.Images.{told_set}
 use Rattle.fx_home.specs.declared.home.Home.{Home}
 use Rattle.fx_home.specs.Homes.{home_read, home_bytes}
 use Rattle.vol_parts.specs.Findings.{home_at, Accepts, CatOf}
 use Rattle.vol_parts.specs.Volumes.{volume}
-use Rattle.vol_fresh.specs.declared.layout.Layout.{Layout}
-use Rattle.vol_fresh.specs.Layouts.{fresh as fresh_of}
-use Rattle.vol_fresh.specs.Fresh.{layout_of}
-use Rattle.vol_fresh.proofs.Accepted.{accepts_fresh, tells_fresh}
+use Rattle.vol_init.specs.declared.layout.Layout.{Layout}
+use Rattle.vol_init.specs.Layouts.{fresh as fresh_of}
+use Rattle.vol_init.specs.Fresh.{layout_of}
+use Rattle.vol_init.proofs.Accepted.{accepts_fresh, tells_fresh}
 use Rattle.vol_init.specs.Refusals.{layout_for, home_of}
 use Rattle.vol_init.specs.declared.part.Part.{Part}
 use Rattle.vol_init.specs.declared.plan.Plan.{Plan}
-use Rattle.vol_init.specs.Parts.{block_in, part_of, Says}
+use Rattle.vol_init.specs.Parts.{part_of, Says}
+use Rattle.base_words.specs.Fields.{block_at as block_in}
 use Rattle.vol_init.specs.Plans.{IsPlan, SaysAt, IsAt, ArePut, told_at}
 use Rattle.vol_init.specs.Made.{IsMade, IsLeft}
 use Rattle.vol_init.proofs.ZeroLemmas.{zeros-home}

@@ -4,8 +4,8 @@ use Rattle.std.proofs.lemmas.Bool.{ne_eqb, eq-eqb, and_from, and_left, and_right
 use Rattle.std.proofs.Math.Nat.{mul-le-mul_left}
 use Rattle.vol_parts.specs.Parts.{storage_blocks, is_among}
 use Rattle.vol_parts.specs.Fatal.{in_whole_clusters}
-use Rattle.vol_fresh.specs.declared.layout.Layout.{Layout}
-use Rattle.vol_fresh.specs.Layouts.{IsLayout, total, reserved_clusters, index_clusters, bitmap_clusters, clusters_of, first_cluster}
+use Rattle.vol_init.specs.declared.layout.Layout.{Layout}
+use Rattle.vol_init.specs.Layouts.{IsLayout, total, reserved_clusters, index_clusters, bitmap_clusters, clusters_of, first_cluster}
 use Rattle.vol_init.specs.declared.part.Part.TheVariants.{HomeCopy, HeaderCopy, Numbers, Header, Control, Storage, Main, Lost, Quota}
 use Rattle.vol_init.specs.Parts.{first_block, part_of}
 

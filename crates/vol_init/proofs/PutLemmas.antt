@@ -1,9 +1,9 @@
 -- One part more is written.
 use Rattle.std.proofs.Common.{◌≡◌, ◌≢◌, ◌∙◌, ◌+◌, ◌<◌, ℕ, List, refl, sym, subst, inl, inr, arith}
 use Rattle.std.proofs.lemmas.Bool.{cases_lt}
-use Rattle.vol_words.specs.Fields.{Block}
+use Rattle.base_words.specs.Fields.{Block}
 use Rattle.vol_init.specs.declared.plan.Plan.{Plan}
-use Rattle.vol_init.specs.Parts.{block_in}
+use Rattle.base_words.specs.Fields.{block_at as block_in}
 use Rattle.vol_init.specs.Plans.{IsAt, ArePut}
 
 pub none-put : (p : Plan) (bs : List Block) → ArePut p 2 bs bs

@@ -2,7 +2,7 @@
 use Rattle.std.proofs.Common.{◌≡◌, ℕ, Bool, true, false, List, Option, Some, None, refl, subst}
 use Rattle.std.specs.Prelude.{if◌then◌else◌, not}
 use Rattle.std.proofs.lemmas.Option.{same_Some}
-use Rattle.vol_fresh.specs.declared.layout.Layout.{Layout}
+use Rattle.vol_init.specs.declared.layout.Layout.{Layout}
 use Rattle.vol_init.specs.declared.fault.InitFault.{InitFault}
 use Rattle.vol_init.specs.declared.fault.InitFault.TheVariants.{BadCluster, BadFiles, BadLabel, TooSmall}
 use Rattle.vol_init.specs.Refusals.{is_cluster, are_files, is_label, is_too_small, refusal, HasInitCause}

@@ -5,8 +5,8 @@ use Rattle.std.specs.List.{range_with_len, filter_map}
 use Rattle.std.proofs.lemmas.List.{get_or-replicate}
 use Rattle.std.proofs.lemmas.Bool.Decides.{nat_tests}
 use Rattle.std.proofs.Math.Nat.{div-le_self}
-use Rattle.vol_words.specs.Fields.{Block, word_sum, checksum, summed}
-use Rattle.vol_words.specs.Tables.{zeros}
+use Rattle.base_words.specs.Fields.{Block, word_sum, checksum, summed}
+use Rattle.base_words.specs.Tables.{zeros}
 use Rattle.fx_home.specs.declared.home.HomeFault.TheVariants.{BadFormat}
 use Rattle.fx_home.specs.Homes.{home_read, has_format}
 use Rattle.fx_header.specs.Headers.{freed}

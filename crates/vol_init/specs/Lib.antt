@@ -1,4 +1,6 @@
-pub mod Refusals
+pub mod Fresh
+pub mod Layouts
+pub mod Made
 pub mod Parts
 pub mod Plans
-pub mod Made
+pub mod Refusals

@@ -1,14 +1,15 @@
 -- What making a volume leaves.
 use Rattle.std.specs.Prelude.{◌≡◌, ◌≢◌, false, ◌*◌, ◌+◌, ◌<◌, ◌≤◌, ◌⊎◌, ℕ, List, Option, Some, None, Ok, length, IsErr}
-use Rattle.vol_words.specs.Fields.{Block}
-use Rattle.vol_words.specs.Tables.{zeros}
+use Rattle.base_words.specs.Fields.{Block}
+use Rattle.base_words.specs.Tables.{zeros}
 use Rattle.fx_home.specs.declared.home.Home.{Home}
 use Rattle.fx_home.specs.Homes.{home_read, home_bytes}
 use Rattle.vol_parts.specs.Parts.{storage_blocks}
 use Rattle.vol_parts.specs.Volumes.{Volume, volume, total, is_free_cluster, is_used_number}
 use Rattle.vol_parts.specs.Findings.{home_at}
-use Rattle.vol_fresh.specs.Fresh.{IsFresh, layout_of}
-use Rattle.vol_init.specs.Parts.{block_in, part_of, first_block, home_copy_bytes, header_block, control_block, quota_block}
+use Rattle.vol_init.specs.Fresh.{IsFresh, layout_of}
+use Rattle.vol_init.specs.Parts.{part_of, first_block, home_copy_bytes, header_block, control_block, quota_block}
+use Rattle.base_words.specs.Fields.{block_at as block_in}
 
 -- the bits past the last cluster and past the last number are clear
 pub record IsClear (v : Volume) : Type 0 where

@@ -1,8 +1,8 @@
 -- Which blocks of a volume are written when it is made, and what each of them says.
-use Rattle.std.specs.Prelude.{◌≡◌, ◌≤◌, ◌<◌, ◌+◌, ◌*◌, ◌-◌, ◌==◌, ◌&&◌, nat_le, nat_lt, ℕ, Bool, List, [], Option, Some, None, Ok, slice_get, slice_index_or, if◌then◌else◌}
-use Rattle.vol_words.specs.Fields.{Block, put_field, summed}
+use Rattle.std.specs.Prelude.{◌≡◌, ◌≤◌, ◌<◌, ◌+◌, ◌*◌, ◌-◌, ◌==◌, ◌&&◌, nat_le, nat_lt, ℕ, Bool, List, [], Option, Some, None, Ok, slice_get, if◌then◌else◌}
+use Rattle.base_words.specs.Fields.{Block, put_field, summed}
 use Rattle.fx_home.specs.declared.home.Home.{Home}
-use Rattle.vol_words.specs.Tables.{zeros}
+use Rattle.base_words.specs.Tables.{zeros}
 use Rattle.fx_home.specs.Homes.{home_bytes, with_sum1, scb_read, scb_bytes}
 use Rattle.fx_header.specs.declared.slot.Slot.TheVariants.{Used, Free}
 use Rattle.fx_header.specs.Headers.{header_read, runs_in, header_bytes, with_runs, freed}
@@ -10,14 +10,10 @@ use Rattle.fx_bitmap.specs.Bits.{bit_at}
 use Rattle.fx_quota.specs.Rows.{row_put}
 use Rattle.vol_parts.specs.Parts.{storage_blocks, is_among}
 use Rattle.vol_parts.specs.Volumes.{rows_in}
-use Rattle.vol_fresh.specs.declared.layout.Layout.{Layout}
-use Rattle.vol_fresh.specs.Layouts.{total, reserved_clusters, first_cluster, header_of, text_of, runs_of, system_row, user_row, quota_rows}
+use Rattle.vol_init.specs.declared.layout.Layout.{Layout}
+use Rattle.vol_init.specs.Layouts.{total, reserved_clusters, first_cluster, header_of, text_of, runs_of, system_row, user_row, quota_rows}
 use Rattle.vol_init.specs.declared.part.Part.{Part}
 use Rattle.vol_init.specs.declared.part.Part.TheVariants.{HomeCopy, HeaderCopy, Numbers, Header, Control, Storage, Main, Lost, Quota}
-
--- the block of an LBN
-abbrev pub block_in : List Block → ℕ → Block
-block_in bs lbn = slice_index_or bs lbn []
 
 -- the first block of the system file of a number, where it has one
 abbrev pub first_block : Layout → ℕ → ℕ

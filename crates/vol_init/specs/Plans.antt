@@ -1,13 +1,14 @@
 -- What a volume is made of, and the blocks that are written for it so far.
 use Rattle.std.specs.Prelude.{◌≡◌, ◌≤◌, ◌<◌, ℕ, List, [], Option, Some, None, Ok, length, slice_get}
-use Rattle.vol_words.specs.Fields.{Block}
+use Rattle.base_words.specs.Fields.{Block}
 use Rattle.fx_dir.specs.Directory.{directory, all_entries}
-use Rattle.vol_fresh.specs.declared.layout.Layout.{Layout}
-use Rattle.vol_fresh.specs.Layouts.{IsLayout, reserved_clusters, total, main_entries}
+use Rattle.vol_init.specs.declared.layout.Layout.{Layout}
+use Rattle.vol_init.specs.Layouts.{IsLayout, reserved_clusters, total, main_entries}
 use Rattle.vol_init.specs.declared.part.Part.{Part}
 use Rattle.vol_init.specs.declared.plan.Plan.{Plan}
 use Rattle.vol_init.specs.Refusals.{home_of}
-use Rattle.vol_init.specs.Parts.{block_in, part_of, Says}
+use Rattle.vol_init.specs.Parts.{part_of, Says}
+use Rattle.base_words.specs.Fields.{block_at as block_in}
 
 -- The system files have room, the home block is that of the layout, and the two directories have one cluster each and the
 -- entries of a fresh volume: those of the system files, and none.

@@ -1,11 +1,11 @@
 -- Of which parameters a volume is made, and why of others it is not.
 use Rattle.std.specs.Prelude.{◌≡◌, ◌-◌, ◌&&◌, ◌++◌, not, nat_le, nat_lt, ℕ, Bool, List, length, replicate, Option, Some, None, if◌then◌else◌}
-use Rattle.vol_words.specs.Faults.{Rose}
-use Rattle.vol_words.specs.Fields.{Block}
-use Rattle.vol_words.specs.Names.{is_part}
+use Rattle.base_words.specs.Faults.{Rose}
+use Rattle.base_words.specs.Fields.{Block}
+use Rattle.base_words.specs.Names.{is_part}
 use Rattle.fx_home.specs.declared.home.Home.{Home}
-use Rattle.vol_fresh.specs.declared.layout.Layout.{Layout}
-use Rattle.vol_fresh.specs.Layouts.{reserved_clusters, total}
+use Rattle.vol_init.specs.declared.layout.Layout.{Layout}
+use Rattle.vol_init.specs.Layouts.{reserved_clusters, total}
 use Rattle.vol_init.specs.declared.fault.InitFault.{InitFault}
 use Rattle.vol_init.specs.declared.fault.InitFault.TheVariants.{BadCluster, BadFiles, BadLabel, TooSmall, NoMemory, ImageFault}
 

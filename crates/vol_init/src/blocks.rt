@@ -5,18 +5,18 @@ ghost use Rattle.fx_header.specs.declared.slot.Slot.TheVariants.{Used};
 ghost use Rattle.fx_header.specs.Headers.{header_read, runs_in, has_offsets, map_area, header_bytes, with_runs, ReadsBack};
 ghost use Rattle.fx_bitmap.specs.Bits.{bit_at};
 ghost use Rattle.vol_parts.specs.Volumes.{rows_in};
-ghost use Rattle.vol_fresh.specs.Layouts.{IsLayout, reserved_clusters, total, header_of, text_of, runs_of, quota_rows};
+ghost use Rattle.vol_init.specs.Layouts.{IsLayout, reserved_clusters, total, header_of, text_of, runs_of, quota_rows};
 ghost use Rattle.vol_init.specs.Parts.{home_copy_bytes, header_block, quota_block, is_free, IsInside, Says};
 ghost use Rattle.vol_init.specs.Plans.{IsPlan};
 
 use crate::part::Part;
 use crate::plan::Plan;
+use crate::{Layout, SYSTEM_OWNER, USER_OWNER, text_of};
+use base_words::{Block, put_long, put_word, set_sum, sum_of, zeros};
 use fx_bitmap::set_bits;
 use fx_header::{Run, free_slot, new_header, set_runs};
 use fx_home::{Home, Scb, home_block, scb_block};
 use fx_quota::{Row, set_row};
-use vol_fresh::{Layout, SYSTEM_OWNER, USER_OWNER, text_of};
-use vol_words::{Block, put_long, put_word, set_sum, sum_of, zeros};
 
 /// Where the LBN of a home block stands in it, in bytes.
 const HOMELBN: usize = 0;
@@ -56,7 +56,7 @@ fn bare_header(layout: &Layout, n: u32) -> Block
 }
 
 /// Writes the runs of a system file into its header.
-#[tactic(auto, unfolding(vol_fresh::specs::Layouts::runs_of))]
+#[tactic(auto, unfolding(crate::specs::Layouts::runs_of))]
 fn put_runs(b: &mut Block, layout: &Layout, n: u32)
     requires layout { IsLayout layout.now }
     requires room { reserved_clusters layout.now ≤ total layout.now }
@@ -121,7 +121,7 @@ fn storage_block(layout: &Layout, k: u32) -> Block
 }
 
 /// A block of QUOTA.SYS, the first of which has the rows.
-#[tactic(auto, unfolding(vol_fresh::specs::Layouts::quota_rows, crate::specs::Parts::quota_block))]
+#[tactic(auto, unfolding(crate::specs::Layouts::quota_rows, crate::specs::Parts::quota_block))]
 fn quota_block(layout: &Layout, k: u32) -> Block
     requires { IsLayout layout.now }
     ensures written { result ≡ quota_block layout.now k }

@@ -1,14 +1,14 @@
 //! Why a volume is not made.
 ghost use Rattle.std.specs.Prelude.{◌≡◌, ◌≤◌, false, length, IfNone};
 ghost use Rattle.std.specs.Bool.{OnTrue};
-ghost use Rattle.vol_fresh.specs.Layouts.{IsLayout, reserved_clusters, total};
+ghost use Rattle.vol_init.specs.Layouts.{IsLayout, reserved_clusters, total};
 ghost use Rattle.vol_init.specs.Refusals.{is_cluster, are_files, is_label, is_too_small, refusal};
 
+use crate::Layout;
+use base_words::names::is_part;
 use blk_drive::ImageFault as WriteFault;
 use std::alloc::AllocError;
 use thiserror::Error;
-use vol_fresh::Layout;
-use vol_words::names::is_part;
 
 /// Why a volume was not made. Of the first four the first in this order is told.
 #[derive(Debug, Clone, Copy, PartialEq, Error)]

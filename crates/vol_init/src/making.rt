@@ -1,24 +1,24 @@
 //! Writing a volume.
 ghost use Rattle.std.specs.Prelude.{◌≡◌, ◌≢◌, ◌<◌, ◌≤◌, ℕ, length, Some, None, Err, IfSome, IfErr, OnOk, OnErr};
-ghost use Rattle.vol_words.specs.Faults.{HasCause};
+ghost use Rattle.base_words.specs.Faults.{HasCause};
 ghost use Rattle.vol_parts.specs.Findings.{Accepts, CatOf};
-ghost use Rattle.vol_fresh.specs.Layouts.{fresh};
+ghost use Rattle.vol_init.specs.Layouts.{fresh};
 ghost use Rattle.vol_init.specs.Refusals.{refusal, layout_for, home_of, HasInitCause};
-ghost use Rattle.vol_init.specs.Parts.{block_in, part_of};
+ghost use Rattle.vol_init.specs.Parts.{part_of};
+ghost use Rattle.base_words.specs.Fields.{block_at as block_in};
 ghost use Rattle.vol_init.specs.Plans.{IsPlan, IsAt, ArePut, told_at};
 ghost use Rattle.vol_init.specs.Made.{IsMade, IsLeft};
 ghost use Rattle.vol_init.specs.declared.fault.InitFault.TheVariants.{NoMemory};
 
-use crate::InitFault;
 use crate::blocks::block_of;
 use crate::fault::refusal;
 use crate::part::part_of;
 use crate::plan::Plan;
+use crate::{InitFault, Layout};
+use base_words::zeros;
 use blk_drive::{ImageDev, ImageFault, Mirror};
 use fx_home::home_block;
 use std::alloc::Global;
-use vol_fresh::Layout;
-use vol_words::zeros;
 
 /// Writes the part that a block is, if it is one.
 fn put_part<I: ImageDev>(m: &mut Mirror<I>, plan: &Plan, lbn: u32) -> Result<(), ImageFault>

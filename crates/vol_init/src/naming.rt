@@ -1,6 +1,6 @@
 //! The entries that the master file directory has of the system files.
 ghost use Rattle.std.specs.Prelude.{◌≡◌, ◌≤◌, ◌++◌, [], ◌∷◌, IfOk};
-ghost use Rattle.vol_fresh.specs.Layouts.{main_entry, main_entries};
+ghost use Rattle.vol_init.specs.Layouts.{main_entry, main_entries};
 
 use fx_dir::{NoMemory, RawEnt, RawName};
 use std::alloc::Global;

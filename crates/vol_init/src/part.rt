@@ -1,11 +1,11 @@
 //! Which of the blocks that are written a block is.
 ghost use Rattle.std.specs.Prelude.{◌≡◌, ◌≤◌, ◌<◌, ◌+◌, IfSome};
 ghost use Rattle.std.specs.Bool.{OnTrue};
-ghost use Rattle.vol_fresh.specs.Layouts.{IsLayout};
+ghost use Rattle.vol_init.specs.Layouts.{IsLayout};
 ghost use Rattle.vol_parts.specs.Parts.{is_among};
 ghost use Rattle.vol_init.specs.Parts.{first_block, part_of, IsInside};
 
-use vol_fresh::Layout;
+use crate::Layout;
 
 /// A part of a fresh volume, behind the home block.
 #[derive(Clone, Copy, Debug, PartialEq)]

@@ -1,20 +1,20 @@
 //! What a volume is made of, with all that needs memory.
 ghost use Rattle.std.specs.Prelude.{◌≡◌, ◌≤◌, ◌-◌, length, true, Ok, IfOk};
-ghost use Rattle.vol_fresh.specs.Layouts.{IsLayout, reserved_clusters, total, main_entries};
+ghost use Rattle.vol_init.specs.Layouts.{IsLayout, reserved_clusters, total, main_entries};
 ghost use Rattle.fx_dir.specs.Directory.{directory, all_entries};
 ghost use Rattle.fx_dir.specs.Entries.{rises};
 ghost use Rattle.fx_dir.specs.Lists.{Each};
 ghost use Rattle.fx_dir.specs.Writing.{IsInForm, IsRanged, IsUniform, name_of};
-ghost use Rattle.vol_words.specs.Packing.{Fits};
+ghost use Rattle.base_words.specs.Packing.{Fits};
 ghost use Rattle.vol_init.specs.Refusals.{full_label};
 ghost use Rattle.vol_init.specs.Plans.{IsPlan, IsOf};
 
+use crate::Layout;
 use crate::naming::main_entries;
+use base_words::Block;
 use fx_dir::{NoMemory, RawEnt, packed};
 use fx_home::Home;
 use std::alloc::Global;
-use vol_fresh::Layout;
-use vol_words::Block;
 
 /// What a volume is made of.
 #[derive(Drop)]

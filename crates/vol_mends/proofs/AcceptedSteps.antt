@@ -4,7 +4,7 @@ use Rattle.std.specs.Prelude.{◌==◌, ◌&&◌, ◌||◌, is_some, is_none, fi
 use Rattle.std.specs.List.{Contains, list_any}
 use Rattle.std.proofs.lemmas.Bool.{and_parts, and_from, or_cases, eqb-true}
 use Rattle.std.proofs.lemmas.Bool.Decides.{nat_tests}
-use Rattle.vol_words.specs.Fields.{Block}
+use Rattle.base_words.specs.Fields.{Block}
 use Rattle.fx_home.specs.declared.home.Home.{Home}
 use Rattle.fx_home.specs.declared.home.HomeFault.{HomeFault}
 use Rattle.fx_home.specs.Homes.{home_read}
@@ -19,17 +19,23 @@ use Rattle.plain_cat.specs.declared.cat.File.{File}
 use Rattle.plain_cat.specs.declared.cat.Slot.{Slot}
 use Rattle.plain_cat.specs.declared.cat.Slot.TheVariants.{Used}
 use Rattle.plain_cat.specs.declared.cat.QuotaRow.{QuotaRow}
-use Rattle.plain_vol.specs.declared.places.Place.{Place}
-use Rattle.plain_vol.specs.Lookups.{file_at, in_use, row_of}
-use Rattle.plain_vol.specs.Answers.{has_entries}
-use Rattle.plain_vol.specs.Changes.{with_row}
-use Rattle.plain_vol.specs.Mending.{entries_in, numbers_from, places, system_names, is_name_of, is_own}
-use Rattle.plain_vol.proofs.Standing.{stands_at}
-use Rattle.plain_laws.proofs.Members.{Has, has_from, has_map, has_kept, any_has}
+use Rattle.plain_rules.specs.declared.places.Place.{Place}
+use Rattle.plain_rules.specs.Lookups.{file_at, in_use, row_of}
+use Rattle.plain_rules.specs.Answers.{has_entries}
+use Rattle.plain_rules.specs.Changes.{with_row}
+use Rattle.plain_rules.specs.Mending.{entries_in, numbers_from, places, system_names, is_name_of, is_own}
+use Rattle.plain_rules.proofs.Standing.{stands_at}
+use Rattle.base_words.specs.Lists.{Has}
+use Rattle.base_words.proofs.Listing.{has_from, has_map, has_passed, any_has}
 use Rattle.plain_laws.proofs.Places.{in_to}
 use Rattle.plain_laws.proofs.Standing.{file_from}
 use Rattle.plain_mends.specs.Resuming.{AreKeyed}
-use Rattle.plain_mends.specs.Sound.{system_seq, is_system_directory, is_system_entry, HasOwnName, listed, entries_of, IsSystemFile, LeadsTo, NumberPath, IsSound}
+use Rattle.plain_mends.specs.Sound.{HasOwnName, IsSystemFile, LeadsTo, NumberPath, IsSound}
+use Rattle.plain_rules.specs.SystemFiles.{is_system_entry}
+use Rattle.plain_rules.specs.SystemFiles.{system_seq}
+use Rattle.plain_rules.specs.SystemFiles.{is_system_directory}
+use Rattle.plain_rules.specs.SystemFiles.{listed}
+use Rattle.plain_rules.specs.SystemFiles.{entries_of}
 use Rattle.plain_mends.specs.Sound.NumberPath.{One, More}
 use Rattle.vol_parts.specs.declared.finding.Finding.{Finding}
 use Rattle.vol_parts.specs.declared.finding.Finding.TheVariants as finding
@@ -47,16 +53,8 @@ use Rattle.vol_spell.proofs.Picking.{get_along, along_get}
 use Rattle.vol_mends.specs.Weak.{CanMend}
 use Rattle.vol_mends.specs.Accepted.{WeakCanMend, AcceptedIsSound}
 use Rattle.vol_mends.proofs.Tests.{TellsFile, tells_file, told_file}
-use Rattle.vol_mends.proofs.SoundMends.{same_entry, any_same}
 use Rattle.vol_mends.proofs.Singles.{placed, Single, place_made, single_keyed, single_one, single_slot, single_slots}
-
-is_true : (b : Bool) → (b ≡ false → ⊥) → b ≡ true
-is_true true h = refl
-is_true false h = absurd (h refl)
-
-is_false : (b : Bool) → (b ≡ true → ⊥) → b ≡ false
-is_false true h = absurd (h refl)
-is_false false h = refl
+use Rattle.vol_mends.proofs.Telling.{is_true, is_false}
 
 not_false : (b : Bool) → not b ≡ false → b ≡ true
 not_false true e = refl
@@ -204,7 +202,7 @@ module _ (v : Volume) (weak : (f : Finding) → IsFatalIn v f → ⊥) (enough :
       subst (λ (o : Uic). is_some (row_of o (rows_sorted (active_rows v))) ≡ true) (ap (λ (x : File). x.owner) t.is) (any_rows (record { 0 = t.hdr.owner }) (active_rows v) any)
 
   entries : (n : ℕ) → 1 ≤ n → n ≤ 11 → list_any (is_system_entry n) (entries_of c 4) ≡ true
-  entries n from to = is_true (list_any (is_system_entry n) (entries_of c 4)) (λ e. weak (finding.SystemEntry n) (from, to, any_same n (entries_of c 4) ∙ e))
+  entries n from to = is_true (list_any (is_system_entry n) (entries_of c 4)) (λ e. weak (finding.SystemEntry n) (from, to, e))
 
   single : Single (places c)
   unfolding catalogue files_of slot_of
@@ -272,7 +270,7 @@ module _ (v : Volume) (weak : (f : Finding) → IsFatalIn v f → ⊥) (enough :
     names n m l =
         let there = has_from (entries_of c n) l.entry l.there in
         let k = entry_place (entries_of c n) l.entry there in
-        record { place = k.0; entry = l.entry; there = k.1; used = named_all (placed n l.entry) (entry_in c n l.entry there); names = l.names; other = λ four. same_entry 4 l.entry ∙ l.other four }
+        record { place = k.0; entry = l.entry; there = k.1; used = named_all (placed n l.entry) (entry_in c n l.entry there); names = l.names; other = l.other }
 
     path : (n m : ℕ) → NumberPath c n m → Path c n m
     path n m (One l) = First (names n m l)
@@ -305,7 +303,7 @@ no_names_none v e p h =
     by_case none (Some f) at = refl
     by_case none None at =
         let passes : names_none (catalogue v) p ≡ true = ap (λ (o : Option File). is_none o) at in
-        let stands = has_map names_none_found (filter (names_none (catalogue v)) (places (catalogue v))) p (has_kept (names_none (catalogue v)) (places (catalogue v)) p h passes) in
+        let stands = has_map names_none_found (filter (names_none (catalogue v)) (places (catalogue v))) p (has_passed (names_none (catalogue v)) (places (catalogue v)) p h passes) in
         absurd (subst (λ (fs : List Finding). Has fs (names_none_found p)) (sym none) stands)
 
 -- ---- by the home block

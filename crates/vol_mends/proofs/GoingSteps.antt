@@ -3,7 +3,7 @@ use Rattle.std.proofs.Common.{◌≡◌, ◌==◌, ◌&&◌, ◌||◌, ◌<◌, 
 use Rattle.std.specs.Prelude.{is_some}
 use Rattle.std.specs.List.{list_any}
 use Rattle.std.proofs.lemmas.Bool.{and_parts, and_from, cases_eq, cases_lt, eqb-true, eq-eqb, le-leb}
-use Rattle.vol_words.specs.Fields.{Block}
+use Rattle.base_words.specs.Fields.{Block}
 use Rattle.plain_cat.specs.declared.ids.Fid.{Fid}
 use Rattle.plain_cat.specs.declared.ids.Uic.{Uic}
 use Rattle.plain_cat.specs.declared.entries.DirEnt.{DirEnt}
@@ -14,17 +14,22 @@ use Rattle.plain_cat.specs.declared.cat.Slot.{Slot}
 use Rattle.plain_cat.specs.declared.cat.Slot.TheVariants.{Used, Free}
 use Rattle.plain_cat.specs.declared.cat.Open.{Open}
 use Rattle.plain_cat.specs.declared.cat.QuotaRow.{QuotaRow}
-use Rattle.plain_vol.specs.declared.places.Place.{Place}
-use Rattle.plain_vol.specs.Lookups.{file_at, in_use, of_seq, row_of}
-use Rattle.plain_vol.specs.Directories.{inserted, is_entry, without, is_nil}
-use Rattle.plain_vol.specs.Answers.{has_entries}
-use Rattle.plain_vol.specs.Mending.{places, is_own, is_first, stays, is_named, same_place, enter, is_gone, mended}
-use Rattle.plain_laws.proofs.Members.{Has, has_from, has_filter, has_kept, any_has, has_any}
+use Rattle.plain_rules.specs.declared.places.Place.{Place}
+use Rattle.plain_rules.specs.Lookups.{file_at, in_use, of_seq, row_of}
+use Rattle.plain_rules.specs.Directories.{inserted, is_entry, without, is_nil}
+use Rattle.plain_rules.specs.Answers.{has_entries}
+use Rattle.plain_rules.specs.Mending.{places, is_own, is_first, stays, is_named, same_place, enter, is_gone, mended}
+use Rattle.base_words.specs.Lists.{Has}
+use Rattle.base_words.proofs.Listing.{has_from, has_filtered, has_passed, any_has, has_any}
 use Rattle.plain_laws.proofs.Standing.{number_rises, file_same, file_other, Alive}
 use Rattle.plain_laws.proofs.Places.{In, in_to, names_to}
 use Rattle.plain_laws.proofs.Steps.{stays_parts, stays_from}
 use Rattle.plain_mends.specs.Resuming.{MendsTo, AllStay, AreKeyed, Goes, less_one, leaving}
-use Rattle.plain_mends.specs.Sound.{system_seq, is_system_entry, listed, entries_of, IsSystemFile}
+use Rattle.plain_mends.specs.Sound.{IsSystemFile}
+use Rattle.plain_rules.specs.SystemFiles.{is_system_entry}
+use Rattle.plain_rules.specs.SystemFiles.{system_seq}
+use Rattle.plain_rules.specs.SystemFiles.{listed}
+use Rattle.plain_rules.specs.SystemFiles.{entries_of}
 use Rattle.plain_mends.proofs.Standing.{stays_each}
 use Rattle.plain_mends.proofs.GoneSteps.{entry_ends}
 use Rattle.plain_mends.proofs.FullSteps.{Shape, shape_by, full_ends, full_stays}
@@ -33,11 +38,12 @@ use Rattle.plain_mends.proofs.SlotSteps.{slot_ends}
 use Rattle.plain_mends.proofs.Frames.{leaks_end, usage_end}
 use Rattle.plain_mends.proofs.SoundSteps.{if_listed, listed_if, at_after}
 use Rattle.plain_mends.proofs.SoundAnswers.{rows_map}
-use Rattle.vol_owners.specs.Owners.{Owners}
+use Rattle.vol_spell.specs.Owners.{Owners}
 use Rattle.vol_parts.specs.declared.finding.Finding.{Finding}
 use Rattle.vol_parts.specs.declared.finding.Finding.TheVariants as finding
 use Rattle.vol_parts.specs.declared.geometry.Geometry.{Geometry}
-use Rattle.vol_parts.specs.Fatal.{is_system_entry as is_entry_of_system, is_marked_dir, NamesFile, Path}
+use Rattle.vol_parts.specs.Fatal.{is_marked_dir, NamesFile, Path}
+use Rattle.plain_rules.specs.SystemFiles.{is_system_entry as is_entry_of_system}
 use Rattle.vol_parts.specs.Fatal.Path.{One, More}
 use Rattle.vol_parts.specs.Findings.{CatOf}
 use Rattle.vol_faults.specs.CatFindings.{IsFatalOf}
@@ -47,9 +53,12 @@ use Rattle.vol_mends.specs.Weak.{NoOuts, shut, CanMend}
 use Rattle.vol_mends.specs.Mends.{Mends}
 use Rattle.vol_mends.specs.Going.{Change, GoesOn, ChangeMends}
 use Rattle.vol_mends.specs.Going.Change.{Removed, EnteredFull, EnteredEmpty, Freed, Leaked, Summed}
-use Rattle.vol_mends.proofs.SoundMends.{same_entry, any_same, place_has, marked, clash}
+use Rattle.vol_mends.proofs.SoundMends.{place_has, marked}
+use Rattle.vol_mends.proofs.Basics.{clash}
 use Rattle.vol_mends.proofs.WeakSteps.{spelt_is_weak}
 use Rattle.vol_mends.proofs.AcceptedSteps.{entry_place}
+use Rattle.plain_mends.proofs.SoundMends.{whole_system, dir_four}
+use Rattle.vol_mends.proofs.Telling.{is_true}
 
 -- ---- what a catalogue that can be mended has
 
@@ -60,20 +69,10 @@ system_whole k e h =
     let b = and_parts (e.fid.num == k) (e.fid.seq == system_seq k) a.1 in
     (a.0, (eqb-true e.fid.num k b.0, eqb-true e.fid.seq (system_seq k) b.1))
 
-whole_system : (k : ℕ) (e : DirEnt) → is_own (record { dir = 4; entry = e }) ≡ true → e.fid.num ≡ k → e.fid.seq ≡ system_seq k → is_system_entry k e ≡ true
-unfolding is_system_entry
-whole_system k e own number seq =
-    and_from (is_own (record { dir = 4; entry = e })) ((e.fid.num == k) && (e.fid.seq == system_seq k)) own
-    (and_from (e.fid.num == k) (e.fid.seq == system_seq k) (eq-eqb e.fid.num k number) (eq-eqb e.fid.seq (system_seq k) seq))
-
-is_true : (b : Bool) → (b ≡ false → ⊥) → b ≡ true
-is_true true h = refl
-is_true false h = absurd (h refl)
-
 -- each system file has its own entry
 pub entries : (c : Cat) → CanMend c → (n : ℕ) → 1 ≤ n → n ≤ 11 → list_any (is_system_entry n) (entries_of c 4) ≡ true
 entries c h n from to =
-    is_true (list_any (is_system_entry n) (entries_of c 4)) (λ e. h.sound (finding.SystemEntry n) (from, to, any_same n (entries_of c 4) ∙ e))
+    is_true (list_any (is_system_entry n) (entries_of c 4)) (λ e. h.sound (finding.SystemEntry n) (from, to, e))
 
 -- which stays
 pub system_stays : (c : Cat) (k : ℕ) (e : DirEnt) → CanMend c → 1 ≤ k → k ≤ 11 → is_system_entry k e ≡ true → stays c (record { dir = 4; entry = e }) ≡ true
@@ -193,7 +192,7 @@ module _ (c d : Cat) (less : Lessens c d) where
         has_any (is_system_entry k) (entries_of d 4) r.0 (less.own k r.0 from to r.1 r.2) r.2
 
     sound : (f : Finding) → IsFatalOf d f → ⊥
-    sound (finding.SystemEntry n) e = clash (list_any (is_system_entry n) (entries_of d 4)) (own n e.0 e.1) (sym (any_same n (entries_of d 4)) ∙ e.2)
+    sound (finding.SystemEntry n) e = clash (list_any (is_system_entry n) (entries_of d 4)) (own n e.0 e.1) e.2
     sound (finding.MarkedDir n) e =
         let m = marked (file_at d n) e in
         let r = less.files n m.0 m.1 in
@@ -228,7 +227,7 @@ module _ (c : Cat) (p : Place) (f : File) (keyed : AreKeyed c) (goes : Goes c p 
   rises = number_rises c p.dir f goes.at
 
   g_less : IsLess f g
-  g_less = record { seq = refl; owner = refl; dir = refl; marked = refl; few = λ e has. (has_filter (λ (x : DirEnt). not (is_entry p.entry.name p.entry.ver x)) f.entries e has).0 }
+  g_less = record { seq = refl; owner = refl; dir = refl; marked = refl; few = λ e has. (has_filtered (λ (x : DirEnt). not (is_entry p.entry.name p.entry.ver x)) f.entries e has).0 }
 
   one_has : {X : Type 0} (xs : List X) (x : X) → Has xs x → (i : ℕ) × (slice_get xs i ≡ Some x)
   one_has [] x k = absurd k
@@ -285,7 +284,7 @@ module _ (c : Cat) (p : Place) (f : File) (keyed : AreKeyed c) (goes : Goes c p 
     own k e from to has is (inr other) = subst (λ (o : Option File). Has (listed o) e) (sym (file_other c p.dir 4 (Used g) rises other)) has
     own k e from to has is (inl here) =
         let t = if_listed f.dir f.entries e (subst (λ (o : Option File). Has (listed o) e) (ap (λ z. file_at c z) here ∙ goes.at) has) in
-        let left : Has g.entries e = has_kept (λ (x : DirEnt). not (is_entry p.entry.name p.entry.ver x)) f.entries e t.1 (kept k e from to (sym here) t.1 is) in
+        let left : Has g.entries e = has_passed (λ (x : DirEnt). not (is_entry p.entry.name p.entry.ver x)) f.entries e t.1 (kept k e from to (sym here) t.1 is) in
         subst (λ (o : Option File). Has (listed o) e) (sym (ap (λ z. file_at d z) here ∙ after)) (listed_if g.dir g.entries e t.0 left)
 
 -- ---- a slot is free
@@ -317,12 +316,6 @@ module _ (c : Cat) (n : ℕ) (f : File) (at : file_at c n ≡ Some f) (gone : is
     files k x (inl (here, is)) = absurd (cc is)
     files k x (inr (other, there)) = (x, there, same_less x)
 
--- ---- a file is entered
-
-own_four : (p : Place) → is_own p ≡ true → p.dir ≡ 4
-unfolding is_own
-own_four p h = eqb-true p.dir 4 (and_parts (p.dir == 4) _ h).0
-
 -- where each entry stays, nothing leads to a system file but its own entry
 module _ (y : Cat) (stay : AllStay y) (systems : (n : ℕ) → 1 ≤ n → n ≤ 11 → (f : File) × (file_at y n ≡ Some f) × IsSystemFile n f) where
   from_four : (k m : ℕ) → 1 ≤ m → m ≤ 11 → (l : NamesFile y k m) → (k ≡ 4) × (is_system_entry m l.entry ≡ true)
@@ -333,7 +326,7 @@ module _ (y : Cat) (stay : AllStay y) (systems : (n : ℕ) → 1 ≤ n → n ≤
       let number = l.names in
       let low : nat_le l.entry.fid.num 11 ≡ true = le-leb l.entry.fid.num 11 (omega (arith, number, to)) in
       let own : is_own p ≡ true = ap (λ b. cond b (is_own p) (is_first p (places y))) (sym low) ∙ w.1 in
-      let four : k ≡ 4 = own_four p own in
+      let four : k ≡ 4 = dir_four p own in
       let mine : is_own (record { dir = 4; entry = l.entry }) ≡ true = subst (λ (n : ℕ). is_own (record { dir = n; entry = l.entry }) ≡ true) four own in
       let s = systems m from to in
       let both : Some s.0 ≡ Some w.0.file = sym s.1 ∙ (ap (λ n. file_at y n) (sym number) ∙ w.0.at) in
@@ -342,7 +335,7 @@ module _ (y : Cat) (stay : AllStay y) (systems : (n : ℕ) → 1 ≤ n → n ≤
       (four, whole_system m l.entry mine number seq)
 
   no_edge : (k : ℕ) → NamesFile y k 4 → ⊥
-  no_edge k l = let r = from_four k 4 (omega arith) (omega arith) l in clash (is_system_entry 4 l.entry) r.1 (sym (same_entry 4 l.entry) ∙ l.other r.0)
+  no_edge k l = let r = from_four k 4 (omega arith) (omega arith) l in clash (is_system_entry 4 l.entry) r.1 (l.other r.0)
 
   to_four : (k : ℕ) → Path y k 4 → ⊥
   to_four k (One l) = no_edge k l

@@ -4,7 +4,7 @@ use Rattle.std.specs.Prelude.{◌==◌, ◌&&◌, Result, Ok, Err}
 use Rattle.std.specs.List.{list_all}
 use Rattle.std.specs.Str.{bytes_eq}
 use Rattle.std.proofs.lemmas.Bool.{and_parts, and_from, eq-eqb, eqb-true}
-use Rattle.vol_words.specs.Fields.{Block}
+use Rattle.base_words.specs.Fields.{Block}
 use Rattle.fx_header.specs.declared.slot.Slot.{Slot as Head}
 use Rattle.fx_header.specs.declared.slot.Slot.TheVariants as head
 use Rattle.fx_header.specs.declared.slot.HeaderFault.{HeaderFault}
@@ -16,9 +16,10 @@ use Rattle.fx_dir.proofs.Order.{bytes_refl, bytes_is, before-other}
 use Rattle.fx_dir.proofs.Finding.{reads_set}
 use Rattle.plain_cat.specs.declared.entries.DirEnt.{DirEnt}
 use Rattle.plain_cat.specs.declared.cat.Slot.{Slot}
-use Rattle.plain_vol.specs.declared.places.Place.{Place}
-use Rattle.plain_vol.specs.Mending.{entries_in, places_from, same_place}
-use Rattle.plain_laws.proofs.Members.{Has, has_either, has_mapped}
+use Rattle.plain_rules.specs.declared.places.Place.{Place}
+use Rattle.plain_rules.specs.Mending.{entries_in, places_from, same_place}
+use Rattle.base_words.specs.Lists.{Has}
+use Rattle.base_words.proofs.Listing.{has_parted, has_mapped}
 use Rattle.vol_parts.specs.Catalogues.{plain_entry, plain_entries, slot_with}
 
 abbrev pub placed : ℕ → DirEnt → Place
@@ -77,7 +78,7 @@ single_join : (xs ys : List Place) → Single xs → Single ys → ((p q : Place
 single_join [] ys a b apart = b
 single_join (x ∷ xs) ys a b apart = (first, single_join xs ys a.1 b (λ p q h k. apart p q (inr h) k)) where
   first : (q : Place) → Has (xs ++ ys) q → same_place x q ≡ true → ⊥
-  first q h one = by_case (has_either xs ys q h) where
+  first q h one = by_case (has_parted xs ys q h) where
     by_case : Has xs q ⊎ Has ys q → ⊥
     by_case (inl k) = a.0 q k one
     by_case (inr k) = apart x q (inl refl) k one
@@ -124,7 +125,7 @@ single_slot m k n (Err fault) blocks = tt
 
 number_from : (m : ℕ) (ss : List Slot) (r : Place) → Has (places_from m ss) r → m ≤ r.dir
 number_from m [] r h = absurd h
-number_from m (s ∷ ss) r h = by_case (has_either (map (placed m) (entries_in s)) (places_from (m + 1) ss) r h) (λ k. number_from (m + 1) ss r k) where
+number_from m (s ∷ ss) r h = by_case (has_parted (map (placed m) (entries_in s)) (places_from (m + 1) ss) r h) (λ k. number_from (m + 1) ss r k) where
   by_case : Has (map (placed m) (entries_in s)) r ⊎ Has (places_from (m + 1) ss) r → (Has (places_from (m + 1) ss) r → m + 1 ≤ r.dir) → m ≤ r.dir
   by_case (inl k) rest = let t = has_mapped (placed m) (entries_in s) r k in let e : m ≡ r.dir = ap (λ (q : Place). q.dir) t.2 in omega (arith, e)
   by_case (inr k) rest = let e = rest k in omega (arith, e)

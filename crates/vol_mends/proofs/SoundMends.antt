@@ -1,23 +1,26 @@
 -- A catalogue in order can be mended.
-use Rattle.std.proofs.Common.{◌≡◌, ◌||◌, ◌∙◌, inl, inr, ℕ, zero, suc, Bool, true, false, List, [], ◌∷◌, Option, Some, None, length, map, replicate, slice_get, refl, sym, ap, arith}
+use Rattle.std.proofs.Common.{◌≡◌, ◌||◌, ◌∙◌, inl, inr, ℕ, zero, suc, true, List, [], ◌∷◌, Option, Some, None, length, map, replicate, slice_get, refl, sym, ap, arith}
 use Rattle.std.specs.List.{list_any}
 use Rattle.std.proofs.lemmas.Bool.{and_parts}
-use Rattle.vol_words.specs.Fields.{Block}
+use Rattle.base_words.specs.Fields.{Block}
 use Rattle.plain_cat.specs.declared.entries.DirEnt.{DirEnt}
 use Rattle.plain_cat.specs.declared.cat.Cat.{Cat}
 use Rattle.plain_cat.specs.declared.cat.File.{File}
 use Rattle.plain_cat.specs.declared.cat.Open.{Open}
-use Rattle.plain_vol.specs.Lookups.{file_at}
-use Rattle.plain_vol.specs.Answers.{has_entries}
-use Rattle.plain_vol.specs.Mending.{without_opens, without_entries, with_lost, mended, mended_from}
-use Rattle.plain_mends.specs.Sound.{is_system_entry, entries_of, LeadsTo, NumberPath, IsSound}
+use Rattle.plain_rules.specs.Lookups.{file_at}
+use Rattle.plain_rules.specs.Answers.{has_entries}
+use Rattle.plain_rules.specs.Mending.{without_opens, without_entries, with_lost, mended, mended_from}
+use Rattle.plain_mends.specs.Sound.{LeadsTo, NumberPath, IsSound}
+use Rattle.plain_rules.specs.SystemFiles.{is_system_entry}
+use Rattle.plain_rules.specs.SystemFiles.{entries_of}
 use Rattle.plain_mends.specs.Sound.NumberPath.{One, More}
-use Rattle.plain_laws.proofs.Members.{Has, has_to}
+use Rattle.base_words.specs.Lists.{Has}
+use Rattle.base_words.proofs.Listing.{has_to}
 use Rattle.plain_mends.proofs.SoundSteps.{beside_follows}
-use Rattle.vol_owners.specs.Owners.{Owners}
+use Rattle.vol_spell.specs.Owners.{Owners}
 use Rattle.vol_parts.specs.declared.finding.Finding.{Finding}
 use Rattle.vol_parts.specs.declared.finding.Finding.TheVariants as finding
-use Rattle.vol_parts.specs.Fatal.{is_system_entry as is_entry_of_system, is_marked_dir, NamesFile, Path}
+use Rattle.vol_parts.specs.Fatal.{is_marked_dir, NamesFile, Path}
 use Rattle.vol_parts.specs.Fatal.Path.{One as First, More as Next}
 use Rattle.vol_parts.specs.declared.geometry.Geometry.{Geometry}
 use Rattle.vol_parts.specs.Findings.{IsFatal}
@@ -27,14 +30,7 @@ use Rattle.vol_spell.specs.Spelling.{Spells}
 use Rattle.vol_mends.specs.Weak.{NoOuts, shut, CanMend}
 use Rattle.vol_mends.specs.Mends.{SpeltMends, SoundCanMend, SoundIsReadable}
 use Rattle.vol_mends.proofs.WeakSteps.{spelt_findings, room_lacks, spelt_is_weak}
-
-pub same_entry : (n : ℕ) (e : DirEnt) → is_entry_of_system n e ≡ is_system_entry n e
-unfolding is_entry_of_system is_system_entry
-same_entry n e = refl
-
-pub any_same : (n : ℕ) (es : List DirEnt) → list_any (is_entry_of_system n) es ≡ list_any (is_system_entry n) es
-any_same n [] = refl
-any_same n (e ∷ es) = ap (λ b. b || list_any (is_entry_of_system n) es) (same_entry n e) ∙ ap (λ b. is_system_entry n e || b) (any_same n es)
+use Rattle.vol_mends.proofs.Basics.{clash}
 
 pub place_has : (es : List DirEnt) (k : ℕ) (e : DirEnt) → slice_get es k ≡ Some e → Has es e
 place_has [] k e h = absurd (cc h)
@@ -46,7 +42,7 @@ leads c n m l = record {
   entry = l.entry;
   there = has_to (entries_of c n) l.entry (place_has (entries_of c n) l.place l.entry l.there);
   names = l.names;
-  other = λ four. sym (same_entry 4 l.entry) ∙ l.other four;
+  other = l.other;
 }
 
 path : (c : Cat) (n m : ℕ) → Path c n m → NumberPath c n m
@@ -57,12 +53,9 @@ pub marked : (o : Option File) → is_marked_dir o ≡ true → (f : File) × (o
 marked None e = absurd (cc e)
 marked (Some f) e = let r = and_parts f.marked (has_entries (Some f)) e in (f, refl, r.0, r.1)
 
-pub clash : (b : Bool) → b ≡ true → b ≡ false → ⊥
-clash b t f = let both : true ≡ false = sym t ∙ f in cc both
-
 -- a fatal finding of a catalogue in order says that there is no room for a lost file, and mending gives up then
 sound_finding : (c : Cat) → IsSound c → (f : Finding) → IsFatalOf c f → (mended c ≡ None) × ((n : ℕ) × (f ≡ finding.NoRoom n))
-sound_finding c h (finding.SystemEntry n) e = absurd (clash (list_any (is_system_entry n) (entries_of c 4)) (h.entries n e.0 e.1) (sym (any_same n (entries_of c 4)) ∙ e.2))
+sound_finding c h (finding.SystemEntry n) e = absurd (clash (list_any (is_system_entry n) (entries_of c 4)) (h.entries n e.0 e.1) e.2)
 sound_finding c h (finding.MarkedDir n) e = let r = marked (file_at c n) e in absurd (clash r.0.marked r.2 (h.closed n r.0 r.1 r.3))
 sound_finding c h (finding.DirLoop n) e = absurd (h.ordered n (path c n n e))
 sound_finding c h (finding.NoRoom n) e = ((no-room-exact c).0 (n, e), (n, refl))

@@ -1,22 +1,25 @@
 -- Once the entries that do not stay are gone, the catalogue of blocks with no fatal finding is as the entering of lost files needs it.
-use Rattle.std.proofs.Common.{◌≡◌, ◌≤◌, ◌⊎◌, inl, inr, ◌∙◌, ℕ, Bool, true, false, cond, not, List, [], ◌∷◌, Some, nat_le, refl, sym, ap, subst, arith}
+use Rattle.std.proofs.Common.{◌≡◌, ◌≤◌, ◌⊎◌, inl, inr, ◌∙◌, ℕ, true, false, cond, not, List, [], ◌∷◌, Some, nat_le, refl, sym, ap, subst, arith}
 use Rattle.std.proofs.lemmas.Bool.{cases_Bool, and_from}
 use Rattle.plain_cat.specs.declared.entries.DirEnt.{DirEnt}
 use Rattle.plain_cat.specs.declared.cat.Cat.{Cat}
 use Rattle.plain_cat.specs.declared.cat.File.{File}
-use Rattle.plain_vol.specs.declared.places.Place.{Place}
-use Rattle.plain_vol.specs.Lookups.{file_at}
-use Rattle.plain_vol.specs.Directories.{is_nil}
-use Rattle.plain_vol.specs.Answers.{has_entries}
-use Rattle.plain_vol.specs.Mending.{places, is_own, is_first, stays, without_opens, stripped}
+use Rattle.plain_rules.specs.declared.places.Place.{Place}
+use Rattle.plain_rules.specs.Lookups.{file_at}
+use Rattle.plain_rules.specs.Directories.{is_nil}
+use Rattle.plain_rules.specs.Answers.{has_entries}
+use Rattle.plain_rules.specs.Mending.{places, is_own, is_first, stays, without_opens, stripped}
 use Rattle.plain_laws.specs.Clearing.{HasOwnEntry, KeepsNames}
-use Rattle.plain_laws.proofs.Members.{Has, has_from, has_to, has_filter, any_has}
+use Rattle.base_words.specs.Lists.{Has}
+use Rattle.base_words.proofs.Listing.{has_from, has_to, has_filtered, any_has}
 use Rattle.plain_laws.proofs.Standing.{number_rises, Alive}
 use Rattle.plain_laws.proofs.Places.{in_from, in_to, first_is, first_one, first_to}
 use Rattle.plain_laws.proofs.Steps.{less_file, less_same, less_from, in_less, less_in_to, stays_parts, stays_from}
 use Rattle.plain_mends.specs.Resuming.{AllStay}
 use Rattle.plain_mends.specs.Waiting.{Settled, LostIsWritten}
-use Rattle.plain_mends.specs.Sound.{is_system_entry, entries_of, IsSystemFile}
+use Rattle.plain_mends.specs.Sound.{IsSystemFile}
+use Rattle.plain_rules.specs.SystemFiles.{is_system_entry}
+use Rattle.plain_rules.specs.SystemFiles.{entries_of}
 use Rattle.plain_mends.proofs.Standing.{stays_open, all_stay}
 use Rattle.plain_mends.proofs.GoneSteps.{alive_over}
 use Rattle.vol_parts.specs.declared.finding.Finding.TheVariants as finding
@@ -25,14 +28,11 @@ use Rattle.vol_mends.specs.Weak.{CanMend}
 use Rattle.vol_mends.specs.Going.{WriteMends, StartIsSettled}
 use Rattle.vol_mends.proofs.AcceptedSteps.{told_mark, told_shut, weak_can_mend}
 use Rattle.vol_mends.proofs.GoingSteps.{system_whole, entries, system_stays, in_of, change_mends}
+use Rattle.vol_mends.proofs.Telling.{is_false}
 
 some_entry : (es : List DirEnt) (e : DirEnt) → Has es e → not (is_nil es) ≡ true
 some_entry [] e h = absurd h
 some_entry (x ∷ xs) e h = refl
-
-not_true : (b : Bool) → (b ≡ true → ⊥) → b ≡ false
-not_true true h = absurd (h refl)
-not_true false h = refl
 
 module _ (c : Cat) (h : CanMend c) (no_mark : (n : ℕ) (f : File) → file_at c n ≡ Some f → f.dir ≡ true → f.mark ≡ 0) where
   -- the catalogue with nothing open, and after the first step of mending
@@ -69,7 +69,7 @@ module _ (c : Cat) (h : CanMend c) (no_mark : (n : ℕ) (f : File) → file_at c
   stay = all_stay x (λ n f e at has.
       let l = less_from b n f at in
       let es : Has (less_file b n l.file).entries e = subst (λ (g : File). Has g.entries e) (sym l.same) has in
-      stays_on (record { dir = n; entry = e }) (has_filter (λ (d : DirEnt). stays b (record { dir = n; entry = d })) l.file.entries e es).1)
+      stays_on (record { dir = n; entry = e }) (has_filtered (λ (d : DirEnt). stays b (record { dir = n; entry = d })) l.file.entries e es).1)
 
   -- a directory with an entry
   was : (p : Place) (f : File) → Has (places x) p → file_at x p.dir ≡ Some f
@@ -90,7 +90,7 @@ module _ (c : Cat) (h : CanMend c) (no_mark : (n : ℕ) (f : File) → file_at c
   unmarked : (p : Place) (f : File) → Has (places x) p → file_at x p.dir ≡ Some f → f.marked ≡ false
   unmarked p f has at =
       let (g, there, dir, entry, marked, mark) = was p f has at in
-      marked ∙ not_true g.marked (λ yes.
+      marked ∙ is_false g.marked (λ yes.
       h.sound (finding.MarkedDir p.dir) (ap is_marked_dir there ∙ and_from g.marked (has_entries (Some g)) yes (and_from g.dir (not (is_nil g.entries)) dir (some_entry g.entries p.entry entry))))
 
   written : (p : Place) (f : File) → Has (places x) p → file_at x p.dir ≡ Some f → f.mark ≡ 1 → ⊥

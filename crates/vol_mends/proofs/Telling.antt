@@ -5,18 +5,18 @@ use Rattle.std.specs.List.{range_with_len, list_any}
 use Rattle.std.proofs.lemmas.List.FromFn.{length-range_with_len}
 use Rattle.std.proofs.lemmas.Option.{slice_get_within}
 use Rattle.std.proofs.lemmas.Bool.{eqb-true, eq-eqb}
-use Rattle.vol_words.specs.Fields.{Block}
+use Rattle.base_words.specs.Fields.{Block}
 use Rattle.plain_cat.specs.declared.cat.Cat.{Cat}
 use Rattle.plain_cat.specs.declared.cat.Slot.{Slot}
 use Rattle.plain_cat.specs.declared.cat.QuotaRow.{QuotaRow}
-use Rattle.plain_vol.specs.Lookups.{clusters_in}
-use Rattle.vol_owners.specs.declared.owner.Owner.{Owner}
-use Rattle.vol_owners.specs.declared.owner.Owner.TheVariants.{Free, InFile, Outside, Leaked}
-use Rattle.vol_owners.specs.Lists.{Has}
-use Rattle.vol_owners.specs.Owners.{Owners}
-use Rattle.vol_owners.specs.Counts.{is_same_owner}
-use Rattle.vol_owners.proofs.Listing.{has_at}
-use Rattle.vol_owners.proofs.Placing.{has_ranged, ranged_has, length-blocks_at}
+use Rattle.plain_rules.specs.Lookups.{clusters_in}
+use Rattle.vol_spell.specs.declared.owner.Owner.{Owner}
+use Rattle.vol_spell.specs.declared.owner.Owner.TheVariants.{Free, InFile, Outside, Leaked}
+use Rattle.base_words.specs.Lists.{Has}
+use Rattle.vol_spell.specs.Owners.{Owners}
+use Rattle.vol_spell.specs.Counts.{is_same_owner}
+use Rattle.base_words.proofs.Listing.{has_at}
+use Rattle.vol_spell.proofs.Placing.{has_ranged, ranged_has, length-blocks_at}
 use Rattle.vol_parts.specs.declared.geometry.Geometry.{Geometry}
 use Rattle.vol_parts.specs.Volumes.{Volume, total, numbers, told as told_in, is_slot_of, is_in_slots, runs, body, is_in_run, is_in_file, is_in_files, is_free_cluster, is_used_number, active_rows}
 use Rattle.vol_parts.specs.Catalogues.{rows_sorted, is_outside_cluster, is_outside_number, catalogue}
@@ -39,11 +39,11 @@ same_free (InFile n) e = absurd (cc e)
 same_free (Outside n) e = absurd (cc e)
 same_free Leaked e = absurd (cc e)
 
-is_true : (b : Bool) → (b ≡ false → ⊥) → b ≡ true
+pub is_true : (b : Bool) → (b ≡ false → ⊥) → b ≡ true
 is_true true h = refl
 is_true false h = absurd (h refl)
 
-is_false : (b : Bool) → (b ≡ true → ⊥) → b ≡ false
+pub is_false : (b : Bool) → (b ≡ true → ⊥) → b ≡ false
 is_false true h = absurd (h refl)
 is_false false h = refl
 

@@ -4,7 +4,7 @@ use Rattle.std.specs.Prelude.{◌==◌, ◌&&◌, ◌||◌, is_some, Result, Ok,
 use Rattle.std.specs.List.{range_with_len, list_any}
 use Rattle.std.proofs.lemmas.Bool.{and_from, eq-eqb, eqb-true, le-leb}
 use Rattle.std.proofs.lemmas.List.Sums.{sum_by-cons}
-use Rattle.vol_words.specs.Fields.{Block}
+use Rattle.base_words.specs.Fields.{Block}
 use Rattle.fx_header.specs.declared.run.Run.{Run}
 use Rattle.fx_header.specs.declared.slot.Hdr.{Hdr}
 use Rattle.fx_header.specs.declared.slot.Slot.{Slot as Head}
@@ -15,18 +15,20 @@ use Rattle.plain_cat.specs.declared.ids.Uic.{Uic}
 use Rattle.plain_cat.specs.declared.cat.File.{File}
 use Rattle.plain_cat.specs.declared.cat.Slot.TheVariants.{Used}
 use Rattle.plain_cat.specs.declared.cat.QuotaRow.{QuotaRow}
-use Rattle.plain_vol.specs.Lookups.{row_of}
-use Rattle.plain_vol.specs.Changes.{with_row}
+use Rattle.plain_rules.specs.Lookups.{row_of}
+use Rattle.plain_rules.specs.Changes.{with_row}
 use Rattle.plain_mends.specs.Sound.{IsSystemFile}
-use Rattle.vol_owners.specs.Lists.{Has, Once}
-use Rattle.vol_owners.proofs.Listing.{once_second, once_apart}
+use Rattle.base_words.specs.Lists.{Has, Once}
+use Rattle.base_words.proofs.Listing.{once_second, once_apart}
 use Rattle.vol_parts.specs.declared.geometry.Geometry.{Geometry}
 use Rattle.vol_parts.specs.Volumes.{Volume, factor, total, fields_in, is_in_run}
 use Rattle.vol_parts.specs.Catalogues.{slot_with, file_of, quota_row, rows_sorted}
-use Rattle.vol_parts.specs.Fatal.{is_system_directory, is_system_header, are_stated, is_off_bounds, is_cluster_run}
+use Rattle.vol_parts.specs.Fatal.{is_system_header, are_stated, is_off_bounds, is_cluster_run}
+use Rattle.plain_rules.specs.SystemFiles.{is_system_directory}
 use Rattle.vol_spell.specs.Reading.{clusters_of}
 use Rattle.vol_spell.specs.Spelling.{IsHead, IsWhole, AreWhole}
 use Rattle.vol_spell.proofs.Clusters.{run_has, of_run}
+use Rattle.plain_mends.proofs.Skipping.{or_right}
 
 -- ---- headers
 
@@ -141,10 +143,6 @@ once_counted u (r ∷ rs) once = by_first (r.uic == u) refl (sum_by-cons (λ (x 
   by_first false e sum few =
       let all : count_by (λ (x : Row). x.uic == u) (r ∷ rs) ≡ 0 + count_by (λ (x : Row). x.uic == u) rs = sum ∙ ap (λ b. cond b 1 0 + count_by (λ (x : Row). x.uic == u) rs) e in
       omega (arith, all, few)
-
-or_right : (a b : Bool) → b ≡ true → a || b ≡ true
-or_right true b h = refl
-or_right false b h = h
 
 row_in : (o : Uic) (row : QuotaRow) (rs : List QuotaRow) → is_some (row_of o (with_row row rs)) ≡ true → ((row.owner.0 == o.0) ≡ true) ⊎ (is_some (row_of o rs) ≡ true)
 row_in o row [] h = new (row.owner.0 == o.0) refl h where

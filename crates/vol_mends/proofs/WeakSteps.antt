@@ -3,7 +3,7 @@ use Rattle.std.proofs.Common.{◌≡◌, ◌≢◌, ◌<◌, ◌≤◌, ◌+◌,
 use Rattle.std.specs.Prelude.{◌==◌, ◌||◌, is_some, Result, Ok, Err, count_by, slice_index_or}
 use Rattle.std.specs.List.{list_any}
 use Rattle.std.proofs.lemmas.Bool.{and_parts, and_from, eq-eqb, eqb-true, leb-true, ltb-true}
-use Rattle.vol_words.specs.Fields.{Block}
+use Rattle.base_words.specs.Fields.{Block}
 use Rattle.fx_home.specs.declared.home.Home.{Home}
 use Rattle.fx_home.specs.declared.home.HomeFault.{HomeFault}
 use Rattle.fx_home.specs.declared.scb.ScbFault.TheVariants.{BadCluster, BadSize}
@@ -19,24 +19,25 @@ use Rattle.plain_cat.specs.declared.cat.Cat.{Cat}
 use Rattle.plain_cat.specs.declared.cat.File.{File}
 use Rattle.plain_cat.specs.declared.cat.Slot.{Slot}
 use Rattle.plain_cat.specs.declared.cat.Slot.TheVariants.{Used, Free}
-use Rattle.plain_vol.specs.Lookups.{file_at, row_of, clusters_in}
-use Rattle.plain_vol.proofs.Standing.{stands_at}
+use Rattle.plain_rules.specs.Lookups.{file_at, row_of, clusters_in}
+use Rattle.plain_rules.proofs.Standing.{stands_at}
 use Rattle.plain_laws.proofs.Standing.{file_from}
 use Rattle.plain_mends.specs.Sound.{IsSystemFile}
-use Rattle.vol_owners.specs.declared.owner.Owner.TheVariants.{InFile}
-use Rattle.vol_owners.specs.declared.owner.Owner.TheVariants as owner
-use Rattle.vol_owners.specs.Lists.{Has}
-use Rattle.vol_owners.specs.Owners.{Owners}
-use Rattle.vol_owners.specs.Counts.{is_same_owner}
-use Rattle.vol_owners.specs.Places.{blocks_at}
-use Rattle.vol_owners.proofs.Listing.{same_or_not}
+use Rattle.vol_spell.specs.declared.owner.Owner.TheVariants.{InFile}
+use Rattle.vol_spell.specs.declared.owner.Owner.TheVariants as owner
+use Rattle.base_words.specs.Lists.{Has}
+use Rattle.vol_spell.specs.Owners.{Owners}
+use Rattle.vol_spell.specs.Counts.{is_same_owner}
+use Rattle.vol_spell.specs.Spread.{blocks_at}
+use Rattle.base_words.proofs.Listing.{same_or_not}
 use Rattle.vol_parts.specs.declared.finding.Finding.{Finding}
 use Rattle.vol_parts.specs.declared.finding.Finding.TheVariants as finding
 use Rattle.vol_parts.specs.declared.geometry.Geometry.{Geometry}
 use Rattle.vol_parts.specs.Parts.{storage_blocks}
 use Rattle.vol_parts.specs.Volumes.{Volume, volume, IsNumber, factor, total, head as head_of, used_slot, fields, runs, body, bitmap_lbn, is_free_cluster, is_used_number, is_in_files, active_rows}
 use Rattle.vol_parts.specs.Catalogues.{is_structure, file_of, catalogue}
-use Rattle.vol_parts.specs.Fatal.{is_system_directory, in_whole_clusters, stated_clusters, are_stated, is_system_header, is_system_file, scb_test, scb_fault, is_off_bounds, is_too_large, IsInRun, IsShared, is_cluster_run, has_dir_size, found_in, dir_test, dir_fault, has_two_rows, is_rowless, HasNoRoom, IsFatalIn}
+use Rattle.vol_parts.specs.Fatal.{in_whole_clusters, stated_clusters, are_stated, is_system_header, is_system_file, scb_test, scb_fault, is_off_bounds, is_too_large, IsInRun, IsShared, is_cluster_run, has_dir_size, found_in, dir_test, dir_fault, has_two_rows, is_rowless, HasNoRoom, IsFatalIn}
+use Rattle.plain_rules.specs.SystemFiles.{is_system_directory}
 use Rattle.vol_parts.specs.Findings.{home_at, IsFatalBy, IsFatal, IsCatalogueBy}
 use Rattle.vol_faults.specs.CatFindings.{IsFatalOf}
 use Rattle.vol_spell.specs.Reading.{IsFileNumber, total_of, header_block, told_of, fields_told, runs_told, clusters_told, body_blocks, rows_told}

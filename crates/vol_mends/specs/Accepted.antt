@@ -1,6 +1,6 @@
 -- What the catalogue of blocks with no fatal finding has, and that of an accepted volume.
 use Rattle.std.specs.Prelude.{List}
-use Rattle.vol_words.specs.Fields.{Block}
+use Rattle.base_words.specs.Fields.{Block}
 use Rattle.plain_cat.specs.declared.cat.Cat.{Cat}
 use Rattle.plain_mends.specs.Resuming.{AreKeyed}
 use Rattle.plain_mends.specs.Sound.{IsSound}

@@ -1,15 +1,15 @@
 -- The small changes that mending makes, one by one: a catalogue that can be mended can be mended after each of them.
 use Rattle.std.specs.Prelude.{◌≡◌, ◌<◌, ◌++◌, ℕ, Bool, true, false, List, [], ◌∷◌, Some, None, map, length, replicate}
-use Rattle.vol_words.specs.Fields.{Block}
+use Rattle.base_words.specs.Fields.{Block}
 use Rattle.plain_cat.specs.declared.cat.Cat.{Cat}
 use Rattle.plain_cat.specs.declared.cat.File.{File}
 use Rattle.plain_cat.specs.declared.cat.QuotaRow.{QuotaRow}
-use Rattle.plain_vol.specs.declared.places.Place.{Place}
-use Rattle.plain_vol.specs.Lookups.{file_at}
-use Rattle.plain_vol.specs.Mending.{lost, enter, is_gone, stripped}
+use Rattle.plain_rules.specs.declared.places.Place.{Place}
+use Rattle.plain_rules.specs.Lookups.{file_at}
+use Rattle.plain_rules.specs.Mending.{lost, enter, is_gone, stripped}
 use Rattle.plain_mends.specs.Resuming.{MendsTo, AreKeyed, Goes, less_one, leaving, IsOfUsage}
 use Rattle.plain_mends.specs.Waiting.{Settled, LostIsWritten, AreFull}
-use Rattle.vol_owners.specs.Owners.{Owners}
+use Rattle.vol_spell.specs.Owners.{Owners}
 use Rattle.vol_parts.specs.declared.geometry.Geometry.{Geometry}
 use Rattle.vol_parts.specs.Findings.{CatOf}
 use Rattle.vol_spell.specs.Spelling.{Spells}

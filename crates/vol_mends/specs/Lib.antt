@@ -1,4 +1,11 @@
-pub mod Weak
-pub mod Mends
 pub mod Accepted
+pub mod Bits
+pub mod Done
 pub mod Going
+pub mod Mends
+pub mod Moving
+pub mod Rows
+pub mod Seen
+pub mod Slots
+pub mod Told
+pub mod Weak

@@ -1,11 +1,11 @@
 -- Blocks that mend to a catalogue.
 use Rattle.std.specs.Prelude.{◌≡◌, ℕ, List, None}
-use Rattle.vol_words.specs.Fields.{Block}
+use Rattle.base_words.specs.Fields.{Block}
 use Rattle.plain_cat.specs.declared.cat.Cat.{Cat}
-use Rattle.plain_vol.specs.Mending.{mended}
+use Rattle.plain_rules.specs.Mending.{mended}
 use Rattle.plain_mends.specs.Resuming.{MendsTo}
 use Rattle.plain_mends.specs.Sound.{IsSound}
-use Rattle.vol_owners.specs.Owners.{Owners}
+use Rattle.vol_spell.specs.Owners.{Owners}
 use Rattle.vol_parts.specs.declared.geometry.Geometry.{Geometry}
 use Rattle.vol_parts.specs.declared.finding.Finding.{Finding}
 use Rattle.vol_parts.specs.declared.finding.Finding.TheVariants.{NoRoom}

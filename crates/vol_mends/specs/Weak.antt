@@ -1,11 +1,11 @@
 -- Blocks that spell a catalogue that can be mended.
 use Rattle.std.specs.Prelude.{◌≡◌, ◌≤◌, ℕ, true, List, Some, None, is_some, replicate}
-use Rattle.vol_words.specs.Fields.{Block}
+use Rattle.base_words.specs.Fields.{Block}
 use Rattle.plain_cat.specs.declared.cat.Cat.{Cat}
 use Rattle.plain_cat.specs.declared.cat.File.{File}
-use Rattle.plain_vol.specs.Lookups.{file_at, row_of}
+use Rattle.plain_rules.specs.Lookups.{file_at, row_of}
 use Rattle.plain_mends.specs.Sound.{IsSystemFile}
-use Rattle.vol_owners.specs.Owners.{Owners, Outs, nothing}
+use Rattle.vol_spell.specs.Owners.{Owners, Outs, nothing}
 use Rattle.vol_parts.specs.declared.geometry.Geometry.{Geometry}
 use Rattle.vol_parts.specs.declared.finding.Finding.{Finding}
 use Rattle.vol_parts.specs.Findings.{CatOf}

@@ -4,7 +4,7 @@ use Rattle.std.specs.List.{range_with_len, list_any}
 use Rattle.std.proofs.lemmas.List.{map-append}
 use Rattle.std.proofs.lemmas.Bool.{and_parts, or_parts, leb-true, not-false}
 use Rattle.std.proofs.Math.Nat.{mul-div-le}
-use Rattle.vol_words.specs.Fields.{Block}
+use Rattle.base_words.specs.Fields.{Block}
 use Rattle.fx_header.specs.declared.run.Run.{Run}
 use Rattle.fx_header.specs.Pointers.{lbns_in}
 use Rattle.vol_parts.specs.Volumes.{Volume, factor, total, block_at, runs, body}

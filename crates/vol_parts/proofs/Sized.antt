@@ -2,7 +2,7 @@
 use Rattle.std.proofs.Common.{◌≡◌, ℕ, List, Some, true, refl}
 use Rattle.fx_header.specs.declared.slot.Hdr.{Hdr}
 use Rattle.fx_dir.specs.Directory.{directory}
-use Rattle.vol_words.specs.Fields.{Block}
+use Rattle.base_words.specs.Fields.{Block}
 use Rattle.vol_parts.specs.Volumes.{Volume, factor, fields, runs, body}
 use Rattle.vol_parts.specs.Fatal.{has_dir_size, found_in, dir_fault}
 

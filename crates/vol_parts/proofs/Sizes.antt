@@ -7,7 +7,7 @@ use Rattle.std.proofs.lemmas.List.FromFn.{length-range_with_len, get_or-range_wi
 use Rattle.std.proofs.lemmas.List.Elements.{All-from_get_or, All-map}
 use Rattle.std.proofs.lemmas.List.Sums.{sum_by-cons, sum_by-le}
 use Rattle.std.proofs.Math.Nat.{div-le_self}
-use Rattle.vol_words.specs.Fields.{Block}
+use Rattle.base_words.specs.Fields.{Block}
 use Rattle.fx_header.specs.declared.run.Run.{Run}
 use Rattle.fx_header.specs.declared.slot.Slot.{Slot}
 use Rattle.fx_header.specs.declared.slot.Slot.TheVariants.{Free, Used}
@@ -18,7 +18,7 @@ use Rattle.fx_header.specs.Headers.{runs_in, fields_of}
 use Rattle.fx_header.proofs.SoundLemmas.{Sound, blocks-of}
 use Rattle.fx_header.proofs.PointerLemmas.{length-runs_in}
 use Rattle.plain_cat.specs.declared.cat.Slot.{Slot as Told}
-use Rattle.plain_vol.specs.Lookups.{clusters_in}
+use Rattle.plain_rules.specs.Lookups.{clusters_in}
 use Rattle.vol_parts.specs.Catalogues.{slot_with, slot_of, files_of}
 use Rattle.vol_parts.specs.Conditions.{HasRunsInside, HasAllRunsInside}
 use Rattle.vol_parts.specs.Volumes.{Volume, factor, block_at, head, header_lbn, header_at, fields_in, fields, runs, body}

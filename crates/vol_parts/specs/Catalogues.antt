@@ -1,7 +1,7 @@
 -- The catalogue that the blocks of a volume tell.
 use Rattle.std.specs.Prelude.{◌*◌, ◌-◌, ◌/◌, ◌==◌, ◌&&◌, ◌||◌, not, ℕ, Bool, List, [], ◌∷◌, None, Result, Ok, Err, length, map, take, replicate, if◌then◌else◌}
 use Rattle.std.specs.List.{range_with_len, count_by, sum_by}
-use Rattle.vol_words.specs.Fields.{Block}
+use Rattle.base_words.specs.Fields.{Block}
 use Rattle.fx_header.specs.declared.slot.Hdr.{Hdr}
 use Rattle.fx_header.specs.declared.slot.Slot.{Slot as Head}
 use Rattle.fx_header.specs.declared.slot.Slot.TheVariants as head
@@ -16,8 +16,8 @@ use Rattle.plain_cat.specs.declared.cat.File.{File}
 use Rattle.plain_cat.specs.declared.cat.Slot.{Slot}
 use Rattle.plain_cat.specs.declared.cat.Slot.TheVariants.{Used, Free}
 use Rattle.plain_cat.specs.declared.cat.QuotaRow.{QuotaRow}
-use Rattle.plain_vol.specs.Lookups.{clusters_in}
-use Rattle.plain_vol.specs.Changes.{with_row}
+use Rattle.plain_rules.specs.Lookups.{clusters_in}
+use Rattle.plain_rules.specs.Changes.{with_row}
 use Rattle.vol_parts.specs.Volumes.{Volume, factor, total, numbers, head as head_of, body, is_in_files, is_in_slots, is_free_cluster, is_used_number, active_rows}
 
 -- an entry without the version limit and the flags of its record

@@ -16,24 +16,15 @@ use Rattle.fx_quota.specs.declared.types.Row.{Row}
 use Rattle.plain_cat.specs.declared.entries.DirEnt.{DirEnt}
 use Rattle.plain_cat.specs.declared.cat.Cat.{Cat}
 use Rattle.plain_cat.specs.declared.cat.File.{File}
-use Rattle.plain_vol.specs.Lookups.{file_at, in_use}
-use Rattle.plain_vol.specs.Answers.{has_entries}
-use Rattle.plain_vol.specs.Mending.{is_own, lost, enter, enter_all, stripped}
+use Rattle.plain_rules.specs.Lookups.{file_at, in_use}
+use Rattle.plain_rules.specs.Answers.{has_entries}
+use Rattle.plain_rules.specs.Mending.{lost, enter, enter_all, stripped}
 use Rattle.vol_parts.specs.declared.finding.Finding.{Finding}
 use Rattle.vol_parts.specs.declared.finding.Finding.TheVariants as finding
 use Rattle.vol_parts.specs.Parts.{storage_blocks}
 use Rattle.vol_parts.specs.Volumes.{Volume, IsNumber, factor, total, block_at, head as head_of, used_slot, fields, most_clusters, runs, is_in_run, is_in_files, bitmap_lbn, is_free_cluster, is_used_number, body, active_rows}
 use Rattle.vol_parts.specs.Catalogues.{catalogue}
-
--- ---- system files
-
--- the sequence of a system file's identifier: its own number up to 9, then 1
-abbrev pub system_seq : ℕ → ℕ
-system_seq n = if nat_le n 9 then n else 1
-
--- the master file directory and [SYSLOST]
-abbrev pub is_system_directory : ℕ → Bool
-is_system_directory n = (n == 4) || (n == 11)
+use Rattle.plain_rules.specs.SystemFiles.{system_seq, is_system_directory, entries_of, is_system_entry}
 
 -- so many blocks take so many clusters
 abbrev pub in_whole_clusters : ℕ → ℕ → ℕ
@@ -140,20 +131,6 @@ has_two_rows rs uic = nat_le 2 (count_by (λ r. r.uic == uic) rs)
 abbrev pub is_rowless : List Row → Option Hdr → Bool
 is_rowless rs None = false
 is_rowless rs (Some f) = not (list_any (λ r. r.uic == f.owner) rs)
-
--- ---- entries
-
--- the entry that the master file directory has of a system file: its name, version 1 and its identifier
-unfoldable pub is_system_entry : ℕ → DirEnt → Bool
-is_system_entry n e = is_own (record { dir = 4; entry = e }) && ((e.fid.num == n) && (e.fid.seq == system_seq n))
-
-abbrev pub listed : Option File → List DirEnt
-listed None = []
-listed (Some f) = if f.dir then f.entries else []
-
--- the entries of the directory of this number
-abbrev pub entries_of : Cat → ℕ → List DirEnt
-entries_of c n = listed (file_at c n)
 
 -- a directory that is marked for delete, with entries
 abbrev pub is_marked_dir : Option File → Bool

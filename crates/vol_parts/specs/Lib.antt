@@ -1,10 +1,11 @@
-pub mod Parts
-pub mod Volumes
 pub mod Catalogues
+pub mod Conditions
 pub mod Fatal
-pub mod Warnings
 pub mod Findings
-pub mod Lowest
 pub mod Firsts
 pub mod Iter
-pub mod Conditions
+pub mod Laws
+pub mod Lowest
+pub mod Parts
+pub mod Volumes
+pub mod Warnings

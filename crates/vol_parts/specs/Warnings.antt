@@ -1,24 +1,22 @@
 -- What mending puts right: the findings of a volume that has no fatal one.
 use Rattle.std.specs.Prelude.{◌==◌, ◌&&◌, ◌||◌, not, ℕ, Bool, false, List, [], ◌∷◌, ◌++◌, Option, Some, None, is_none, map, filter, if◌then◌else◌}
-use Rattle.std.specs.List.{list_any, count_by}
-use Rattle.vol_words.specs.Fields.{Block}
+use Rattle.std.specs.List.{count_by}
+use Rattle.base_words.specs.Fields.{Block}
 use Rattle.fx_header.specs.declared.slot.Hdr.{Hdr}
-use Rattle.fx_dir.specs.declared.RawEnt.{RawEnt}
-use Rattle.fx_dir.specs.Lists.{joined}
-use Rattle.fx_dir.specs.Entries.{has}
 use Rattle.fx_dir.specs.Directory.{entries_at}
 use Rattle.plain_cat.specs.declared.cat.Cat.{Cat}
 use Rattle.plain_cat.specs.declared.cat.Slot.{Slot}
 use Rattle.plain_cat.specs.declared.cat.Slot.TheVariants.{Used, Free}
 use Rattle.plain_cat.specs.declared.cat.QuotaRow.{QuotaRow}
-use Rattle.plain_vol.specs.declared.places.Place.{Place}
-use Rattle.plain_vol.specs.Lookups.{in_use, live}
-use Rattle.plain_vol.specs.Accounts.{charge}
-use Rattle.plain_vol.specs.Mending.{places, stays, is_lost, numbers_from, is_true}
+use Rattle.plain_rules.specs.declared.places.Place.{Place}
+use Rattle.plain_rules.specs.Lookups.{in_use, live}
+use Rattle.plain_rules.specs.Accounts.{charge}
+use Rattle.plain_rules.specs.Mending.{places, stays, is_lost, numbers_from, is_true}
 use Rattle.vol_parts.specs.declared.finding.Finding.{Finding}
 use Rattle.vol_parts.specs.declared.finding.Finding.TheVariants as finding
 use Rattle.vol_parts.specs.Volumes.{Volume, numbers, fields, body}
 use Rattle.vol_parts.specs.Catalogues.{catalogue}
+use Rattle.fx_dir.specs.Laws.{has_double}
 
 -- a file that is marked for delete
 abbrev pub is_marked : ℕ → Slot → Bool
@@ -38,11 +36,6 @@ names_none_found p = finding.NamesNone p.entry.name p.entry.ver p.dir
 
 abbrev pub second_found : Place → Finding
 second_found p = finding.Second p.entry.name p.entry.ver p.dir
-
--- an entry of one of these blocks stands in a later one too
-abbrev pub has_double : List (List RawEnt) → Bool
-has_double [] = false
-has_double (es ∷ ess) = list_any (has (joined ess)) es || has_double ess
 
 abbrev pub is_double_dir : Option Hdr → List Block → Bool
 is_double_dir None blocks = false

@@ -5,12 +5,12 @@ ghost use Rattle.vol_parts.specs.Iter.{file_runs_left};
 ghost use Rattle.vol_parts.specs.Conditions.{HasRunsInside};
 
 use crate::heads::head;
+use base_words::Block;
 use fx_bitmap::bit;
 use fx_header::{Hdr, Run, RunIter, Slot, runs};
 use fx_home::{Home, slot_lbn};
 use plain_cat::{Blocks, NoMemory};
 use std::alloc::Global;
-use vol_words::Block;
 
 /// The fields of the header of a file number, or none where the number is not in use or its header is not one.
 pub fn fields(home: &Home, blocks: &[Block], n: u32) -> Option<Hdr>

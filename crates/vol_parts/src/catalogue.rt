@@ -2,7 +2,7 @@ ghost use Rattle.std.specs.Prelude.{◌≡◌, ◌+◌, ◌*◌, ◌^◌, ◌≤
 ghost use Rattle.std.specs.List.{range_with_len, sum_by, count_by};
 ghost use Rattle.fx_home.specs.Homes.{IsWithinLimits};
 ghost use Rattle.fx_dir.specs.Directory.{directory};
-ghost use Rattle.plain_vol.specs.Lookups.{clusters_in};
+ghost use Rattle.plain_rules.specs.Lookups.{clusters_in};
 ghost use Rattle.vol_parts.specs.Volumes.{volume, IsNumber, numbers, total, body};
 ghost use Rattle.vol_parts.specs.Catalogues.{plain_entry, plain_entries, is_structure, written_blocks, file_of, slot_of, files_of, is_outside_cluster, is_outside_number, catalogue};
 ghost use Rattle.vol_parts.specs.Conditions.{HasRunsInside, HasAllRunsInside};
@@ -10,6 +10,7 @@ ghost use Rattle.vol_parts.specs.Conditions.{HasRunsInside, HasAllRunsInside};
 use crate::bodies::{body, fields, is_used_number};
 use crate::heads::head;
 use crate::rows::{active_rows, sorted_rows};
+use base_words::Block;
 use fx_dir::{DirFault, RawEnt, read_dir};
 use fx_header::{Hdr, Slot as Head};
 use fx_home::Home;
@@ -17,7 +18,6 @@ use plain_cat::{
     Blocks, Cat, Channels, DirEnt, DirEnts, Fid, File, Files, Flags, Name, NoMemory, Slot, Uic,
 };
 use std::alloc::{AllocError, Global};
-use vol_words::Block;
 
 // A name of these bytes.
 fn plain_name(alloc: Global, bytes: &[u8]) -> Result<Name, NoMemory>

@@ -9,12 +9,12 @@ ghost use Rattle.vol_parts.specs.Conditions.{HasRunsInside, HasAllRunsInside, Is
 
 use crate::bodies::{fields, file_runs, run_blocks};
 use crate::finding::Finding;
+use base_words::Block;
 use fx_dir::{DirFault, read_dir};
 use fx_header::{Hdr, Run};
 use fx_home::Home;
 use plain_cat::NoMemory;
 use std::alloc::{AllocError, Global};
-use vol_words::Block;
 
 // The run of a file that has one run.
 fn only_run(home: &Home, blocks: &[Block], n: u32) -> Option<Run>

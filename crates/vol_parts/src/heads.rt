@@ -2,9 +2,9 @@ ghost use Rattle.std.specs.Prelude.{◌≡◌};
 ghost use Rattle.fx_home.specs.Homes.{IsWithinLimits};
 ghost use Rattle.vol_parts.specs.Volumes.{volume, IsNumber, head};
 
+use base_words::Block;
 use fx_header::{HeaderFault, Slot, read_header};
 use fx_home::{Home, slot_lbn};
-use vol_words::Block;
 
 /// What the header slot of a file number says. The sum of one beyond the last block is wrong.
 #[tactic(auto, unfolding(crate::specs::Volumes::head))]

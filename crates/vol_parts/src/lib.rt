@@ -9,7 +9,9 @@
 //!
 //! Each call gives exactly what the definition says of the blocks: `guard` the part that a block is, `fields` a file's header,
 //! `body` its blocks, `read_catalogue` the catalogue. Some ask for what earlier findings exclude, such as runs outside the volume
-//! (`requires`).
+//! (`requires`). Laws (`whole`): whatever the format crates write is a whole block, one of 512 bytes.
+//!
+//! All crates of volumes, commands and the core use it.
 #![tactic(auto)]
 
 mod bodies;
@@ -19,8 +21,7 @@ mod finding;
 mod geometry;
 mod heads;
 mod rows;
-#[cfg(test)]
-mod tests;
+pub mod whole;
 
 pub use bodies::{FileRuns, body, fields, file_runs, first_lbn, is_free_cluster, is_used_number};
 pub use catalogue::{files, plain_entry, read_catalogue, read_entries, slot};
@@ -29,3 +30,4 @@ pub use finding::Finding;
 pub use geometry::{Geometry, Part, guard};
 pub use heads::head;
 pub use rows::{active_rows, first_double_row, first_rowless_file, push_rows, sorted_rows};
+pub use whole::blocks_are_whole;

@@ -5,7 +5,7 @@ use Rattle.std.proofs.lemmas.List.Recursion.{is_count_by}
 use Rattle.plain_cat.specs.declared.cat.File.{File}
 use Rattle.plain_cat.specs.declared.cat.Slot.{Slot}
 use Rattle.plain_cat.specs.declared.cat.Slot.TheVariants.{Used, Free}
-use Rattle.plain_vol.specs.Mending.{is_used}
+use Rattle.plain_rules.specs.Mending.{is_used}
 
 abbrev used_of : List Slot → ℕ
 used_of [] = 0

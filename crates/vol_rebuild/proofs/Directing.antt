@@ -3,7 +3,7 @@ use Rattle.std.proofs.Common.{◌≡◌, ◌≤◌, ◌<◌, ◌-◌, ◌&&◌, 
 use Rattle.std.specs.Prelude.{option_map}
 use Rattle.std.specs.Result.{IsOk, ForOk}
 use Rattle.std.proofs.lemmas.Bool.{and_parts, leb-true}
-use Rattle.vol_words.specs.Fields.{Block}
+use Rattle.base_words.specs.Fields.{Block}
 use Rattle.fx_dir.specs.declared.RawEnt.{RawEnt}
 use Rattle.fx_dir.specs.declared.DirFault.{DirFault}
 use Rattle.fx_dir.specs.declared.Move.{Move}
@@ -14,23 +14,23 @@ use Rattle.fx_dir.specs.Writing.{IsInForm}
 use Rattle.plain_cat.specs.declared.entries.DirEnt.{DirEnt}
 use Rattle.plain_cat.specs.declared.cat.Cat.{Cat}
 use Rattle.plain_cat.specs.declared.cat.File.{File}
-use Rattle.plain_vol.specs.declared.places.Place.{Place}
-use Rattle.plain_vol.specs.Lookups.{file_at, versions}
-use Rattle.plain_vol.specs.Directories.{inserted, fits, is_taken}
-use Rattle.plain_vol.specs.Changes.{with_entries}
-use Rattle.plain_vol.specs.Mending.{enter, lost_entry, if_room, with_lost_entry}
+use Rattle.plain_rules.specs.declared.places.Place.{Place}
+use Rattle.plain_rules.specs.Lookups.{file_at, versions}
+use Rattle.plain_rules.specs.Directories.{inserted, fits, is_taken}
+use Rattle.plain_rules.specs.Changes.{with_entries}
+use Rattle.plain_rules.specs.Mending.{enter, lost_entry, if_room, with_lost_entry}
 use Rattle.plain_mends.specs.Resuming.{Goes, less_one}
-use Rattle.plain_laws.proofs.Members.{has_from}
-use Rattle.vol_owners.specs.Places.{blocks_at}
+use Rattle.base_words.proofs.Listing.{has_from}
+use Rattle.vol_spell.specs.Spread.{blocks_at}
 use Rattle.vol_parts.specs.declared.geometry.Geometry.{Geometry}
 use Rattle.vol_spell.specs.Reading.{header_block}
 use Rattle.vol_mends.proofs.AcceptedSteps.{weak_can_mend}
-use Rattle.vol_writes.specs.Entries.{places_in, blocks_of, raw_entry}
-use Rattle.mend_writes.specs.Told.{IsTold}
-use Rattle.mend_writes.specs.Moving.{HasDir, DirTold, CanEnter}
-use Rattle.mend_writes.proofs.Moved.{dir_is_read}
-use Rattle.mend_writes.proofs.MovedSteps.{dir_is_packed, taken, entry_goes}
-use Rattle.mend_writes.proofs.Entering.{enter_is, lost_is_entered}
+use Rattle.vol_spell.specs.Entries.{places_in, blocks_of, raw_entry}
+use Rattle.vol_mends.specs.Told.{IsTold}
+use Rattle.vol_mends.specs.Moving.{HasDir, DirTold, CanEnter}
+use Rattle.vol_mends.proofs.Moved.{dir_is_read}
+use Rattle.vol_mends.proofs.MovedSteps.{dir_is_packed, taken, entry_goes}
+use Rattle.vol_mends.proofs.Entering.{enter_is, lost_is_entered}
 use Rattle.vol_rebuild.specs.Places.{places_told, IsThere, DirLeads}
 use Rattle.vol_rebuild.specs.Steps.{CanEnterOne}
 use Rattle.vol_rebuild.proofs.Reading.{in_geometry, there}

@@ -2,7 +2,7 @@
 use Rattle.std.proofs.Common.{◌≡◌, ◌<◌, ◌+◌, ◌-◌, ◌∙◌, ℕ, false, List, Some, None, Ok, length, map, get_or, slice_get, refl, sym, ap, arith}
 use Rattle.std.specs.Prelude.{nat_lt}
 use Rattle.std.proofs.lemmas.Option.{slice_get-get_or}
-use Rattle.vol_words.specs.Fields.{Block}
+use Rattle.base_words.specs.Fields.{Block}
 use Rattle.fx_home.specs.declared.home.Home.{Home}
 use Rattle.fx_home.specs.Homes.{home_read}
 use Rattle.fx_dir.specs.Lists.{joined}
@@ -11,8 +11,8 @@ use Rattle.plain_cat.specs.declared.cat.Cat.{Cat}
 use Rattle.plain_cat.specs.declared.cat.File.{File}
 use Rattle.plain_cat.specs.declared.cat.Slot.{Slot}
 use Rattle.plain_cat.specs.declared.cat.Slot.TheVariants.{Used, Free}
-use Rattle.plain_vol.specs.Lookups.{file_at}
-use Rattle.plain_vol.proofs.Standing.{stands_at}
+use Rattle.plain_rules.specs.Lookups.{file_at}
+use Rattle.plain_rules.proofs.Standing.{stands_at}
 use Rattle.plain_laws.proofs.Standing.{file_from}
 use Rattle.vol_parts.specs.declared.geometry.Geometry.{Geometry}
 use Rattle.vol_parts.specs.Volumes.{Volume, volume, IsNumber}
@@ -23,11 +23,11 @@ use Rattle.vol_spell.proofs.Accepted.{catalogue_is_spelt}
 use Rattle.vol_analyze.proofs.Told.{told_slot}
 use Rattle.vol_analyze.proofs.Weakly.{weak-volume, cat-told, directories-sound}
 use Rattle.vol_analyze.proofs.Reading.{doubles_dir, doubles_file, doubles_free}
-use Rattle.vol_writes.specs.Entries.{blocks_of}
-use Rattle.mend_writes.specs.Told.{IsTold, IsSingle}
-use Rattle.mend_writes.specs.Moving.{HasDir}
-use Rattle.mend_writes.specs.Seen.{IsSeen}
-use Rattle.mend_writes.proofs.Seeing.{volume_is_seen}
+use Rattle.vol_spell.specs.Entries.{blocks_of}
+use Rattle.vol_mends.specs.Told.{IsTold, IsSingle}
+use Rattle.vol_mends.specs.Moving.{HasDir}
+use Rattle.vol_mends.specs.Seen.{IsSeen}
+use Rattle.vol_mends.proofs.Seeing.{volume_is_seen}
 use Rattle.vol_rebuild.proofs.Reading.{slots, number}
 
 module _ (g : Geometry) (bs : List Block) (c : Cat) (t : IsTold g bs c) where

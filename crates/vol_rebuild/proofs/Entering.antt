@@ -7,10 +7,10 @@ use Rattle.plain_cat.specs.declared.cat.Cat.{Cat}
 use Rattle.plain_cat.specs.declared.cat.Slot.{Slot}
 use Rattle.plain_cat.specs.declared.cat.Slot.TheVariants.{Used}
 use Rattle.plain_cat.specs.declared.cat.Open.{Open}
-use Rattle.plain_vol.specs.declared.places.Place.{Place}
-use Rattle.plain_vol.specs.Directories.{before, inserted}
-use Rattle.plain_vol.specs.Mending.{entries_in, places_from, places, without_opens, stripped, lost, enter, enter_all, enter_some, with_lost, mended, mended_from}
-use Rattle.plain_vol.proofs.Standing.{stands_at}
+use Rattle.plain_rules.specs.declared.places.Place.{Place}
+use Rattle.plain_rules.specs.Directories.{before, inserted}
+use Rattle.plain_rules.specs.Mending.{entries_in, places_from, places, without_opens, stripped, lost, enter, enter_all, enter_some, with_lost, mended, mended_from}
+use Rattle.plain_rules.proofs.Standing.{stands_at}
 use Rattle.plain_mends.specs.Resuming.{AllStay, MendsTo}
 use Rattle.plain_mends.specs.Waiting.{Settled}
 use Rattle.plain_mends.proofs.FullSteps.{shape_by}

@@ -2,18 +2,18 @@
 use Rattle.std.proofs.Common.{◌≡◌, ◌∙◌, Bool, true, false, List, [], ◌∷◌, Some, All, map, refl, sym, ap, arith}
 use Rattle.std.specs.List.{count_by}
 use Rattle.std.proofs.lemmas.List.Elements.{All-nil, All-cons}
-use Rattle.vol_words.specs.Fields.{Block}
+use Rattle.base_words.specs.Fields.{Block}
 use Rattle.plain_cat.specs.declared.history.Mended.{Mended}
 use Rattle.plain_cat.specs.declared.cat.Cat.{Cat}
 use Rattle.plain_cat.specs.declared.cat.Slot.{Slot}
 use Rattle.plain_cat.specs.declared.cat.QuotaRow.{QuotaRow}
-use Rattle.plain_vol.specs.Accounts.{charge}
-use Rattle.plain_vol.specs.Mending.{stays, without_opens, is_true, counts, put_right, mended, without_leaks}
+use Rattle.plain_rules.specs.Accounts.{charge}
+use Rattle.plain_rules.specs.Mending.{stays, without_opens, is_true, counts, put_right, mended, without_leaks}
 use Rattle.plain_mends.specs.Resuming.{AllStay, MendsTo}
 use Rattle.plain_mends.specs.Waiting.{IsDone}
 use Rattle.plain_mends.proofs.Frames.{mended_by}
 use Rattle.vol_parts.specs.declared.geometry.Geometry.{Geometry}
-use Rattle.mend_writes.specs.Told.{IsTold}
+use Rattle.vol_mends.specs.Told.{IsTold}
 use Rattle.vol_rebuild.specs.Leaving.{gone_numbers}
 use Rattle.vol_rebuild.specs.Steps.{AreSingles, IsStripped, AreEntered, AreFreed, IsTidy, AreSummed}
 use Rattle.vol_rebuild.specs.Ways.{IsWay}
@@ -21,7 +21,7 @@ use Rattle.vol_rebuild.specs.Rebuilt.{IsRebuilt}
 use Rattle.vol_rebuild.proofs.Stepping.{way_mends}
 use Rattle.vol_rebuild.proofs.Reading.{ends_at}
 use Rattle.vol_rebuild.proofs.Going.{none_lost, unmarked_left}
-use Rattle.mend_writes.proofs.Finished.{done_is_accepted}
+use Rattle.vol_mends.proofs.Finished.{done_is_accepted}
 
 some_same : {X : Type 0} {x y : X} → Some x ≡ Some y → x ≡ y
 some_same e = cc e

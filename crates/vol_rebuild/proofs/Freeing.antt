@@ -1,17 +1,17 @@
 -- The slot of a file that becomes free.
 use Rattle.std.proofs.Common.{◌≡◌, ◌<◌, ◌+◌, ◌∙◌, true, false, ℕ, List, [], ◌∷◌, Some, Ok, length, drop, get_or, sym, ap, subst, arith}
-use Rattle.vol_words.specs.Fields.{Block, IsWholeBlock}
+use Rattle.base_words.specs.Fields.{Block, IsWholeBlock}
 use Rattle.fx_header.specs.declared.slot.Slot.TheVariants.{Free}
 use Rattle.fx_header.specs.Headers.{header_read}
 use Rattle.plain_cat.specs.declared.cat.Cat.{Cat}
 use Rattle.plain_cat.specs.declared.cat.File.{File}
-use Rattle.plain_vol.specs.Lookups.{file_at}
-use Rattle.plain_vol.specs.Mending.{is_gone, lost}
+use Rattle.plain_rules.specs.Lookups.{file_at}
+use Rattle.plain_rules.specs.Mending.{is_gone, lost}
 use Rattle.plain_mends.specs.Resuming.{leaving}
 use Rattle.plain_mends.specs.Waiting.{Settled, AreFull}
 use Rattle.vol_parts.specs.declared.geometry.Geometry.{Geometry}
-use Rattle.mend_writes.specs.Told.{IsTold}
-use Rattle.mend_writes.specs.Slots.{CanBeFreed}
+use Rattle.vol_mends.specs.Told.{IsTold}
+use Rattle.vol_mends.specs.Slots.{CanBeFreed}
 use Rattle.vol_rebuild.specs.Leaving.{gone_numbers}
 use Rattle.vol_rebuild.specs.Steps.{IsGone, used_count}
 use Rattle.vol_rebuild.proofs.Going.{first_gone, gone_next, used_fewer, settled_on, none_on, full_on}

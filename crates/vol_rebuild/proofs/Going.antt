@@ -1,7 +1,7 @@
 -- The files that go, one after another.
-use Rattle.std.proofs.Common.{◌≡◌, ◌≢◌, ◌==◌, ◌&&◌, ◌||◌, ◌-◌, ◌+◌, ◌<◌, inl, ◌++◌, ◌∙◌, ℕ, zero, suc, Bool, true, false, cond, not, List, [], ◌∷◌, Some, All, map, slice_get, set, refl, sym, ap, subst, arith}
+use Rattle.std.proofs.Common.{◌≡◌, ◌≢◌, ◌==◌, ◌&&◌, ◌||◌, ◌-◌, ◌+◌, ◌<◌, inl, ◌++◌, ◌∙◌, ℕ, Bool, true, false, cond, not, List, [], ◌∷◌, Some, All, slice_get, refl, sym, ap, subst, arith}
 use Rattle.std.specs.List.{list_any}
-use Rattle.std.proofs.lemmas.Bool.{and_from, eqb-true, eq-eqb, ne_eqb}
+use Rattle.std.proofs.lemmas.Bool.{and_from, eqb-true, eq-eqb}
 use Rattle.std.proofs.lemmas.List.Elements.{All-nil, All-cons}
 use Rattle.plain_cat.specs.declared.ids.Fid.{Fid}
 use Rattle.plain_cat.specs.declared.entries.DirEnt.{DirEnt}
@@ -9,39 +9,23 @@ use Rattle.plain_cat.specs.declared.cat.Cat.{Cat}
 use Rattle.plain_cat.specs.declared.cat.File.{File}
 use Rattle.plain_cat.specs.declared.cat.Slot.{Slot}
 use Rattle.plain_cat.specs.declared.cat.Slot.TheVariants.{Used, Free}
-use Rattle.plain_vol.specs.declared.places.Place.{Place}
-use Rattle.plain_vol.specs.Directories.{is_nil}
-use Rattle.plain_vol.specs.Mending.{entries_in, places_from, places, same_fid, is_empty, is_named, is_lost_slot, numbers_from, lost}
+use Rattle.plain_rules.specs.declared.places.Place.{Place}
+use Rattle.plain_rules.specs.Mending.{entries_in, places, same_fid, is_empty, is_named, is_lost_slot, numbers_from, lost}
 use Rattle.plain_laws.specs.Clearing.{IsUnmarked}
 use Rattle.plain_mends.specs.Resuming.{leaving}
 use Rattle.plain_mends.specs.Waiting.{Settled, AreFull}
-use Rattle.plain_vol.proofs.Standing.{stands_at}
-use Rattle.plain_laws.proofs.Members.{Has, has_to, Distinct}
+use Rattle.plain_rules.proofs.Standing.{stands_at}
+use Rattle.base_words.specs.Lists.{Has, Once}
+use Rattle.base_words.proofs.Listing.{has_to}
 use Rattle.plain_laws.proofs.Standing.{number_rises, file_from}
 use Rattle.plain_laws.proofs.Places.{in_to}
 use Rattle.plain_laws.proofs.Steps.{Passes, has_number}
-use Rattle.plain_mends.proofs.Standing.{numbers_distinct}
+use Rattle.plain_laws.proofs.Unfinished.{numbers_distinct}
 use Rattle.plain_mends.proofs.FullSteps.{but, but_first, numbers_set, and_false}
-use Rattle.plain_mends.proofs.SlotSteps.{lost_has, slot_settled, slot_none, slot_full}
+use Rattle.plain_mends.proofs.SlotSteps.{lost_has, slot_settled, slot_none, slot_full, places_set, not_empty}
 use Rattle.vol_rebuild.specs.Leaving.{is_gone_slot, gone_numbers}
 use Rattle.vol_rebuild.specs.Steps.{IsGone, used_count}
 use Rattle.vol_rebuild.proofs.Counting.{used_less}
-
-places_set : (m : ℕ) (ss : List Slot) (i : ℕ) (s v : Slot) → slice_get ss i ≡ Some s → entries_in v ≡ entries_in s → places_from m (set ss i v) ≡ places_from m ss
-places_set m [] i s v at h = absurd (cc at)
-places_set m (t ∷ ss) zero s v at h =
-    let same : s ≡ t = let e : t ≡ s = cc at in sym e in
-    ap (λ es. map (λ (e : DirEnt). record { dir = m; entry = e }) es ++ places_from (m + 1) ss) (h ∙ ap entries_in same)
-places_set m (t ∷ ss) (suc i) s v at h = ap (λ ps. map (λ (e : DirEnt). record { dir = m; entry = e }) (entries_in t) ++ ps) (places_set (m + 1) ss i s v at h)
-
-not_nil : (es : List DirEnt) (e : DirEnt) → Has es e → is_nil es ≡ false
-not_nil [] e h = absurd h
-not_nil (x ∷ xs) e h = refl
-
-not_empty : (f : File) (e : DirEnt) → f.mark ≢ 1 → Has f.entries e → is_empty f ≡ false
-not_empty f e mark has =
-    let first : (f.mark == 1) ≡ false = ne_eqb f.mark 1 mark in
-    ap (λ b. b || (f.dir && is_nil f.entries)) first ∙ and_false f.dir (is_nil f.entries) (not_nil f.entries e has)
 
 -- the first of the files that go
 pub first_gone : (c : Cat) (n : ℕ) (ns : List ℕ) → Settled c → lost c false ≡ [] → AreFull c (lost c true) → gone_numbers c ≡ n ∷ ns → IsGone c n
@@ -128,7 +112,7 @@ module _ (c : Cat) (n : ℕ) (h : IsGone c n) where
 
   -- once its slot is free, the others are left
   pub gone_next : (ns : List ℕ) → gone_numbers c ≡ n ∷ ns → gone_numbers y ≡ ns
-  gone_next ns e = gone_y ∙ (ap (but n) e ∙ but_first n ns (subst (λ (ks : List ℕ). Distinct ks) e (numbers_distinct (is_gone_slot c) 1 c.files)))
+  gone_next ns e = gone_y ∙ (ap (but n) e ∙ but_first n ns (subst (λ (ks : List ℕ). Once ks) e (numbers_distinct (is_gone_slot c) 1 c.files)))
 
   pub used_fewer : used_count y + 1 ≡ used_count c
   used_fewer = used_less c.files (n - 1) f f.seq stands

@@ -2,19 +2,19 @@
 use Rattle.std.proofs.Common.{◌≡◌, ◌<◌, ◌-◌, ◌∙◌, ℕ, true, false, List, Some, None, length, refl, sym, ap, subst, arith}
 use Rattle.std.specs.Prelude.{option_map, option_and_then}
 use Rattle.std.proofs.lemmas.Option.{slice_get_within}
-use Rattle.vol_words.specs.Fields.{Block}
+use Rattle.base_words.specs.Fields.{Block}
 use Rattle.fx_dir.specs.declared.Move.{Move}
 use Rattle.plain_cat.specs.declared.entries.DirEnt.{DirEnt}
 use Rattle.plain_cat.specs.declared.cat.Cat.{Cat}
 use Rattle.plain_cat.specs.declared.cat.File.{File}
 use Rattle.plain_cat.specs.declared.cat.Slot.TheVariants.{Used}
-use Rattle.plain_vol.specs.Lookups.{file_at}
-use Rattle.plain_vol.specs.Changes.{with_entries}
-use Rattle.plain_vol.specs.Mending.{enter, with_lost_entry}
-use Rattle.plain_vol.proofs.Standing.{stands_at}
+use Rattle.plain_rules.specs.Lookups.{file_at}
+use Rattle.plain_rules.specs.Changes.{with_entries}
+use Rattle.plain_rules.specs.Mending.{enter, with_lost_entry}
+use Rattle.plain_rules.proofs.Standing.{stands_at}
 use Rattle.vol_parts.specs.declared.geometry.Geometry.{Geometry}
-use Rattle.mend_writes.specs.Told.{IsTold, KeepsSingles}
-use Rattle.mend_writes.proofs.Entering.{enter_is}
+use Rattle.vol_mends.specs.Told.{IsTold, KeepsSingles}
+use Rattle.vol_mends.proofs.Entering.{enter_is}
 use Rattle.vol_rebuild.specs.Places.{written_at, DirLeads}
 use Rattle.vol_rebuild.specs.Steps.{IsEntered}
 

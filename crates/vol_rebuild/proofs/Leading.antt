@@ -4,22 +4,22 @@ use Rattle.std.specs.Prelude.{is_some}
 use Rattle.std.specs.Str.{bytes_eq}
 use Rattle.std.proofs.lemmas.Bool.{cases_lt, eq-eqb, cases_eq}
 use Rattle.std.proofs.lemmas.Slice.Eq.{bytes_eq-Decides}
-use Rattle.vol_words.specs.Fields.{Block}
+use Rattle.base_words.specs.Fields.{Block}
 use Rattle.fx_header.specs.Pointers.{lbns_in}
 use Rattle.fx_dir.specs.declared.Move.{Move}
 use Rattle.plain_cat.specs.declared.entries.DirEnt.{DirEnt}
 use Rattle.plain_cat.specs.declared.cat.Cat.{Cat}
 use Rattle.plain_cat.specs.declared.cat.File.{File}
-use Rattle.plain_vol.specs.Lookups.{file_at, versions, first_with}
-use Rattle.plain_vol.specs.Directories.{is_taken}
-use Rattle.plain_laws.proofs.Members.{Has}
+use Rattle.plain_rules.specs.Lookups.{file_at, versions, first_with}
+use Rattle.plain_rules.specs.Directories.{is_taken}
+use Rattle.base_words.specs.Lists.{Has}
 use Rattle.vol_parts.specs.declared.geometry.Geometry.{Geometry}
 use Rattle.vol_parts.specs.Volumes.{runs_with}
 use Rattle.vol_spell.specs.Reading.{IsFileNumber, header_block}
 use Rattle.vol_mends.specs.Mends.{Mends}
-use Rattle.vol_writes.specs.Entries.{places_in, after_moves}
-use Rattle.mend_writes.specs.Told.{IsTold, IsSingle, KeepsSingles}
-use Rattle.mend_writes.specs.Moving.{MovesLead}
+use Rattle.vol_spell.specs.Entries.{places_in, after_moves}
+use Rattle.vol_mends.specs.Told.{IsTold, IsSingle, KeepsSingles}
+use Rattle.vol_mends.specs.Moving.{MovesLead}
 use Rattle.vol_rebuild.specs.Places.{written_at, places_told, DirLeads}
 use Rattle.vol_rebuild.proofs.Reading.{header_of}
 

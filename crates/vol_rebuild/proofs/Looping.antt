@@ -2,17 +2,18 @@
 use Rattle.std.proofs.Common.{◌≡◌, ◌≤◌, ◌<◌, ◌+◌, ◌++◌, ◌∙◌, ◌⊎◌, inl, inr, zero, suc, ℕ, Bool, true, false, cond, List, [], ◌∷◌, Option, Some, None, length, drop, get_or, append_assoc, drop-cons, refl, sym, ap, subst, arith}
 use Rattle.std.specs.Prelude.{option_map, option_and_then, unwrap_or}
 use Rattle.std.specs.List.{Contains}
-use Rattle.vol_words.specs.Fields.{Block}
+use Rattle.base_words.specs.Fields.{Block}
 use Rattle.plain_cat.specs.declared.cat.Cat.{Cat}
-use Rattle.plain_vol.specs.Mending.{places, lost, enter, enter_all, enter_some, with_lost}
-use Rattle.plain_laws.proofs.Members.{Has, has_from, has_to, has_either}
+use Rattle.plain_rules.specs.Mending.{places, lost, enter, enter_all, enter_some, with_lost}
+use Rattle.base_words.specs.Lists.{Has}
+use Rattle.base_words.proofs.Listing.{has_from, has_to, has_parted}
 use Rattle.plain_mends.specs.Waiting.{Settled, LostIsWritten, AreFull}
 use Rattle.plain_mends.proofs.FullSteps.{full_left, empties_left}
 use Rattle.plain_mends.proofs.EmptySteps.{none_left, others_left, still_without}
 use Rattle.plain_mends.proofs.SettledSteps.{full_settled, empty_settled}
 use Rattle.vol_mends.specs.Going.{EnteredFull, EnteredEmpty}
 use Rattle.vol_parts.specs.declared.geometry.Geometry.{Geometry}
-use Rattle.mend_writes.specs.Told.{IsTold}
+use Rattle.vol_mends.specs.Told.{IsTold}
 use Rattle.vol_rebuild.specs.Steps.{used_count, CanEnterOne, EntersOne, AreSkipped}
 use Rattle.vol_rebuild.proofs.Reading.{few_files, shut, ends_at}
 use Rattle.vol_rebuild.proofs.Entering.{entered_more, entered_files, finds_room}
@@ -68,7 +69,7 @@ pub record EmptyOn (c d : Cat) (n : ℕ) (ns : List ℕ) : Type 0 where
   pub files : used_count d ≡ used_count c
 
 full_more : (c : Cat) (ms : List ℕ) (n : ℕ) → AreFull c ms → enter c n ≡ None → AreFull c (ms ++ n ∷ [])
-full_more c ms n full e m has = by_place (has_either ms (n ∷ []) m (has_from (ms ++ n ∷ []) m has)) where
+full_more c ms n full e m has = by_place (has_parted ms (n ∷ []) m (has_from (ms ++ n ∷ []) m has)) where
   by_place : Has ms m ⊎ Has (n ∷ []) m → enter c m ≡ None
   by_place (inl h) = full m (has_to ms m h)
   by_place (inr (inl same)) = ap (enter c) (sym same) ∙ e

@@ -6,20 +6,20 @@ use Rattle.std.proofs.lemmas.List.Elements.{All-nil, All-cons}
 use Rattle.std.proofs.lemmas.List.Sums.{count_by-le-length}
 use Rattle.std.proofs.Math.Nat.{div-le_self}
 use Rattle.std.proofs.lemmas.Option.{slice_get_within}
-use Rattle.vol_words.specs.Fields.{Block}
+use Rattle.base_words.specs.Fields.{Block}
 use Rattle.fx_header.specs.Headers.{header_read}
 use Rattle.fx_dir.specs.Directory.{directory}
 use Rattle.plain_cat.specs.declared.cat.Cat.{Cat}
 use Rattle.plain_cat.specs.declared.cat.File.{File}
 use Rattle.plain_cat.specs.declared.cat.Slot.TheVariants.{Used, Free}
-use Rattle.plain_vol.specs.Lookups.{file_at}
-use Rattle.plain_vol.specs.Mending.{mended}
-use Rattle.plain_vol.proofs.Standing.{stands_at}
+use Rattle.plain_rules.specs.Lookups.{file_at}
+use Rattle.plain_rules.specs.Mending.{mended}
+use Rattle.plain_rules.proofs.Standing.{stands_at}
 use Rattle.plain_laws.proofs.Standing.{number_rises}
 use Rattle.plain_mends.specs.Resuming.{MendsTo, AreKeyed}
-use Rattle.vol_owners.specs.declared.owner.Owner.TheVariants.{Leaked, InFile}
-use Rattle.vol_owners.specs.Lists.{Has}
-use Rattle.vol_owners.specs.Counts.{is_same_owner}
+use Rattle.vol_spell.specs.declared.owner.Owner.TheVariants.{Leaked, InFile}
+use Rattle.base_words.specs.Lists.{Has}
+use Rattle.vol_spell.specs.Counts.{is_same_owner}
 use Rattle.vol_parts.specs.declared.geometry.Geometry.{Geometry}
 use Rattle.vol_parts.specs.declared.geometry.Part.TheVariants.{Header}
 use Rattle.vol_parts.specs.declared.finding.Finding.TheVariants as finding
@@ -35,8 +35,8 @@ use Rattle.vol_mends.proofs.Tests.{TellsFile, tells_file}
 use Rattle.vol_mends.proofs.AcceptedSteps.{weak_can_mend, told_shut}
 use Rattle.vol_analyze.specs.Conditions.{HasFileSizes}
 use Rattle.vol_analyze.proofs.Weakly.{file-sizes}
-use Rattle.mend_writes.specs.Told.{IsTold}
-use Rattle.mend_writes.proofs.Telling.{owned}
+use Rattle.vol_mends.specs.Told.{IsTold}
+use Rattle.vol_mends.proofs.WriteTold.{owned}
 use Rattle.vol_rebuild.specs.Places.{places_told, IsThere}
 
 all_has : {A : Type 0} (P : A → Type 0) (xs : List A) → ((x : A) → Has xs x → P x) → All P xs

@@ -7,12 +7,13 @@ use Rattle.std.proofs.lemmas.Slice.Eq.{bytes_eq-Decides}
 use Rattle.plain_cat.specs.declared.entries.DirEnt.{DirEnt}
 use Rattle.plain_cat.specs.declared.cat.Cat.{Cat}
 use Rattle.plain_cat.specs.declared.cat.File.{File}
-use Rattle.plain_vol.specs.declared.places.Place.{Place}
-use Rattle.plain_vol.specs.Lookups.{file_at}
-use Rattle.plain_vol.specs.Directories.{is_entry}
-use Rattle.plain_vol.specs.Mending.{places, stays}
+use Rattle.plain_rules.specs.declared.places.Place.{Place}
+use Rattle.plain_rules.specs.Lookups.{file_at}
+use Rattle.plain_rules.specs.Directories.{is_entry}
+use Rattle.plain_rules.specs.Mending.{places, stays}
 use Rattle.plain_mends.specs.Resuming.{AreKeyed, AllStay, Goes, less_one, is_other}
-use Rattle.plain_laws.proofs.Members.{Has, has_to, has_filter, has_kept}
+use Rattle.base_words.specs.Lists.{Has}
+use Rattle.base_words.proofs.Listing.{has_to, has_filtered, has_passed}
 use Rattle.plain_laws.proofs.Places.{in_from, in_to}
 use Rattle.plain_mends.proofs.GoneSteps.{filter_alike, entry_stays, entry_others, entry_fewer}
 use Rattle.plain_mends.proofs.Standing.{all_stay}
@@ -30,7 +31,7 @@ not_other p =
 pub first_goes : (c : Cat) (p : Place) (ps : List Place) → leavers c ≡ p ∷ ps → (d : File) × Goes c p d
 first_goes c p ps e =
     let there : Has (leavers c) p = subst (λ (xs : List Place). Has xs p) (sym e) (inl refl) in
-    let r = has_filter (λ (q : Place). not (stays c q)) (places c) p there in
+    let r = has_filtered (λ (q : Place). not (stays c q)) (places c) p there in
     let i = in_from c p r.0 in
     (i.file, record { at = i.at; dir = i.dir; entry = has_to i.file.entries p.entry i.entry; goes = not_true (stays c p) r.1 })
   where
@@ -73,7 +74,7 @@ none_leaves c none plain = all_stay c (λ n f e at has. by_dir n f e at has (cas
   by_stay : (p : Place) → Has (places c) p → (b : Bool) → stays c p ≡ b → stays c p ≡ true
   by_stay p has true s = s
   by_stay p has false s =
-      let left : Has (leavers c) p = has_kept (λ (q : Place). not (stays c q)) (places c) p has (ap not s) in
+      let left : Has (leavers c) p = has_passed (λ (q : Place). not (stays c q)) (places c) p has (ap not s) in
       absurd (subst (λ (xs : List Place). Has xs p) none left)
 
   by_dir : (n : ℕ) (f : File) (e : DirEnt) → file_at c n ≡ Some f → Has f.entries e → (f.dir ≡ true) ⊎ (f.dir ≡ false) → stays c (record { dir = n; entry = e }) ≡ true

@@ -2,7 +2,7 @@
 use Rattle.std.proofs.Common.{◌≡◌, ◌==◌, ◌≤◌, ◌<◌, ◌+◌, ◌/◌, ◌%◌, ◌∙◌, ◌⊎◌, inl, inr, ℕ, not, List, Ok, length, sym, ap, subst, arith}
 use Rattle.std.specs.Prelude.{slice_index, slice_set}
 use Rattle.std.proofs.lemmas.Bool.{cases_lt}
-use Rattle.vol_words.specs.Fields.{Block, IsWholeBlock}
+use Rattle.base_words.specs.Fields.{Block, IsWholeBlock}
 use Rattle.fx_home.specs.declared.home.Home.{Home}
 use Rattle.fx_home.specs.Homes.{home_read}
 use Rattle.fx_bitmap.specs.Bits.{bit_at}
@@ -15,10 +15,10 @@ use Rattle.vol_parts.specs.Findings.{home_at}
 use Rattle.vol_faults.specs.Counts.{AreCounts}
 use Rattle.vol_spell.specs.Reading.{total_of}
 use Rattle.vol_spell.specs.Places.{place_of}
-use Rattle.mend_writes.specs.Told.{IsTold, LeadsTo}
-use Rattle.mend_writes.specs.Bits.{AreSpaceBits, SpaceIsSet}
-use Rattle.mend_writes.proofs.ClusterBits.{clusters_are_set}
-use Rattle.mend_writes.proofs.Seeing.{volume_is_seen}
+use Rattle.vol_mends.specs.Told.{IsTold, LeadsTo}
+use Rattle.vol_mends.specs.Bits.{AreSpaceBits, SpaceIsSet}
+use Rattle.vol_mends.proofs.ClusterBits.{clusters_are_set}
+use Rattle.vol_mends.proofs.Seeing.{volume_is_seen}
 use Rattle.vol_rebuild.specs.Space.{IsCounted, IsSpaceSet}
 use Rattle.vol_rebuild.proofs.Setting.{none_counted}
 

@@ -3,18 +3,20 @@ use Rattle.std.proofs.Common.{◌≡◌, ◌≤◌, ◌⊎◌, ◌++◌, ◌-◌
 use Rattle.std.specs.Prelude.{slice_index_or}
 use Rattle.std.proofs.lemmas.Bool.{cases_lt}
 use Rattle.std.proofs.lemmas.Option.{slice_get-get_or}
-use Rattle.vol_words.specs.Fields.{Block}
-use Rattle.vol_words.specs.Faults.{Rose}
+use Rattle.base_words.specs.Fields.{Block}
+use Rattle.base_words.specs.Faults.{Rose}
 use Rattle.fx_dir.specs.declared.Move.{Move}
 use Rattle.blk_drive.specs.Images.{told_set}
 use Rattle.plain_cat.specs.declared.cat.Cat.{Cat}
-use Rattle.vol_owners.specs.Lists.{written}
-use Rattle.vol_owners.proofs.Writing.{written_joined}
+use Rattle.base_words.specs.Lists.{written}
+use Rattle.base_words.proofs.ListWrites.{written_joined}
 use Rattle.vol_mends.specs.Mends.{Mends}
 use Rattle.vol_rebuild.specs.declared.fault.StepFault.{StepFault}
 use Rattle.vol_rebuild.specs.declared.fault.StepFault.TheVariants.{ImageFault, NoMemory}
 use Rattle.vol_rebuild.specs.Places.{moved_at, written_at}
-use Rattle.vol_rebuild.specs.Ways.{Shows, told_as, IsWay, IsAhead, IsStep}
+use Rattle.vol_rebuild.specs.Ways.{IsWay, IsAhead, IsStep}
+use Rattle.blk_drive.specs.Telling.{IsTold as Shows}
+use Rattle.blk_drive.specs.Telling.{told_as}
 
 -- ---- ways
 

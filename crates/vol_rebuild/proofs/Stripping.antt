@@ -2,15 +2,15 @@
 use Rattle.std.proofs.Common.{◌≡◌, ◌<◌, ◌≤◌, ◌+◌, ◌-◌, ◌∙◌, zero, suc, ℕ, List, [], ◌∷◌, length, map, drop, get_or, refl, sym, ap, arith, drop-cons}
 use Rattle.plain_cat.specs.declared.cat.Cat.{Cat}
 use Rattle.plain_cat.specs.declared.cat.File.{File}
-use Rattle.plain_vol.specs.declared.places.Place.{Place}
-use Rattle.plain_vol.specs.Mending.{places, stripped}
-use Rattle.plain_vol.proofs.Standing.{stands_at}
-use Rattle.plain_vol.specs.Directories.{without}
+use Rattle.plain_rules.specs.declared.places.Place.{Place}
+use Rattle.plain_rules.specs.Mending.{places, stripped}
+use Rattle.plain_rules.proofs.Standing.{stands_at}
+use Rattle.plain_rules.specs.Directories.{without}
 use Rattle.plain_mends.specs.Resuming.{Goes, less_one}
 use Rattle.plain_mends.proofs.GoneSteps.{entry_first, entry_fewer}
-use Rattle.vol_words.specs.Fields.{Block}
+use Rattle.base_words.specs.Fields.{Block}
 use Rattle.vol_parts.specs.declared.geometry.Geometry.{Geometry}
-use Rattle.mend_writes.specs.Told.{IsTold}
+use Rattle.vol_mends.specs.Told.{IsTold}
 use Rattle.vol_rebuild.specs.declared.entries.Leaver.{Leaver}
 use Rattle.vol_rebuild.specs.Leaving.{leavers, place_from}
 use Rattle.vol_rebuild.specs.Steps.{used_count}

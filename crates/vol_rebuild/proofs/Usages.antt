@@ -3,21 +3,21 @@ use Rattle.std.proofs.Common.{◌≡◌, ◌≢◌, ◌≤◌, ◌<◌, ◌+◌,
 use Rattle.std.specs.Prelude.{slice_get, slice_set, slice_index_or}
 use Rattle.std.proofs.lemmas.Bool.{cases_lt}
 use Rattle.std.proofs.lemmas.List.Elements.{All-nil, All-cons}
-use Rattle.vol_words.specs.Fields.{Block, IsWholeBlock}
+use Rattle.base_words.specs.Fields.{Block, IsWholeBlock}
 use Rattle.fx_quota.specs.declared.types.Row.{Row}
 use Rattle.plain_cat.specs.declared.cat.Cat.{Cat}
 use Rattle.plain_cat.specs.declared.cat.Slot.{Slot}
 use Rattle.plain_cat.specs.declared.cat.QuotaRow.{QuotaRow}
-use Rattle.plain_vol.specs.Lookups.{clusters_in}
+use Rattle.plain_rules.specs.Lookups.{clusters_in}
 use Rattle.plain_mends.proofs.Frames.{charge_same}
 use Rattle.vol_parts.specs.declared.geometry.Geometry.{Geometry}
 use Rattle.vol_parts.specs.declared.geometry.Part.TheVariants.{Quota}
 use Rattle.vol_parts.specs.Volumes.{rows_in}
 use Rattle.vol_spell.specs.Places.{place_of}
 use Rattle.vol_analyze.specs.Conditions.{HasFileSizes}
-use Rattle.mend_writes.specs.Told.{IsTold, LeadsTo, KeepsSingles}
-use Rattle.mend_writes.specs.Rows.{sum_of, summed, quota_block, AreSums, UsageIsSet}
-use Rattle.mend_writes.proofs.Summing.{rows_are_summed}
+use Rattle.vol_mends.specs.Told.{IsTold, LeadsTo, KeepsSingles}
+use Rattle.vol_mends.specs.Rows.{sum_of, summed, quota_block, AreSums, UsageIsSet}
+use Rattle.vol_mends.proofs.Summing.{rows_are_summed}
 use Rattle.vol_rebuild.specs.Steps.{IsOfFiles, AreSummed}
 use Rattle.vol_rebuild.specs.Sums.{AreRight, IsQuotaSet}
 use Rattle.vol_rebuild.proofs.Reading.{few_files, sizes}

@@ -3,8 +3,8 @@ use Rattle.std.specs.Prelude.{not, ℕ, Bool, false, List, filter}
 use Rattle.plain_cat.specs.declared.cat.Cat.{Cat}
 use Rattle.plain_cat.specs.declared.cat.Slot.{Slot}
 use Rattle.plain_cat.specs.declared.cat.Slot.TheVariants.{Used, Free}
-use Rattle.plain_vol.specs.declared.places.Place.{Place}
-use Rattle.plain_vol.specs.Mending.{places, stays, is_gone, numbers_from}
+use Rattle.plain_rules.specs.declared.places.Place.{Place}
+use Rattle.plain_rules.specs.Mending.{places, stays, is_gone, numbers_from}
 use Rattle.vol_rebuild.specs.declared.entries.Leaver.{Leaver}
 
 -- of these entries, those that do not stay

@@ -1,14 +1,14 @@
 -- Where the blocks of a directory stand, and its moves as writes.
 use Rattle.std.specs.Prelude.{◌<◌, ◌-◌, ℕ, List, All, length, map, take, slice_index_or}
-use Rattle.vol_words.specs.Fields.{Block}
+use Rattle.base_words.specs.Fields.{Block}
 use Rattle.fx_header.specs.Pointers.{lbns_in}
 use Rattle.fx_dir.specs.declared.Move.{Move}
 use Rattle.plain_cat.specs.declared.cat.Cat.{Cat}
-use Rattle.vol_owners.specs.Lists.{written}
+use Rattle.base_words.specs.Lists.{written}
 use Rattle.vol_parts.specs.declared.geometry.Geometry.{Geometry}
 use Rattle.vol_spell.specs.Reading.{header_block, header_place, runs_told}
 use Rattle.vol_mends.specs.Mends.{Mends}
-use Rattle.mend_writes.specs.Told.{IsTold, IsSingle, KeepsSingles}
+use Rattle.vol_mends.specs.Told.{IsTold, IsSingle, KeepsSingles}
 
 -- moves as writes of blocks at these places
 abbrev pub moved_at : List ℕ → List Move → List (ℕ × Block)

@@ -1,9 +1,9 @@
 -- What mending leaves.
 use Rattle.std.specs.Prelude.{◌≡◌, List, Result, Ok, Err, Some}
-use Rattle.vol_words.specs.Fields.{Block}
+use Rattle.base_words.specs.Fields.{Block}
 use Rattle.plain_cat.specs.declared.cat.Cat.{Cat}
 use Rattle.plain_cat.specs.declared.history.Mended.{Mended}
-use Rattle.plain_vol.specs.Mending.{mended}
+use Rattle.plain_rules.specs.Mending.{mended}
 use Rattle.vol_parts.specs.Findings.{Accepts, CatOf}
 use Rattle.vol_rebuild.specs.declared.fault.RebuildFault.{RebuildFault}
 use Rattle.vol_rebuild.specs.declared.fault.RebuildFault.TheVariants.{NotMendable, ImageFault, NoMemory}

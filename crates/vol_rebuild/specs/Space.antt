@@ -1,6 +1,6 @@
 -- The storage bitmap while it is written block by block.
 use Rattle.std.specs.Prelude.{◌≡◌, ◌≢◌, ◌<◌, ◌/◌, ◌==◌, not, ℕ, List, Ok, length, slice_index}
-use Rattle.vol_words.specs.Fields.{Block}
+use Rattle.base_words.specs.Fields.{Block}
 use Rattle.fx_home.specs.declared.home.Home.{Home}
 use Rattle.fx_home.specs.Homes.{home_read}
 use Rattle.plain_cat.specs.declared.cat.Cat.{Cat}
@@ -8,7 +8,7 @@ use Rattle.vol_parts.specs.declared.geometry.Geometry.{Geometry}
 use Rattle.vol_parts.specs.Volumes.{volume, is_in_files, is_free_cluster}
 use Rattle.vol_parts.specs.Findings.{home_at}
 use Rattle.vol_spell.specs.Reading.{total_of}
-use Rattle.mend_writes.specs.Told.{IsTold, KeepsSingles}
+use Rattle.vol_mends.specs.Told.{IsTold, KeepsSingles}
 
 -- the blocks tell the catalogue but for what is leaked, and the counts say which clusters no file has
 pub record IsCounted (g : Geometry) (home : Home) (counts : List ℕ) (bs : List Block) (c : Cat) : Type 0 where

@@ -1,18 +1,18 @@
 -- What each step of mending leaves, where it ends well. Each begins with blocks of a geometry that tell a catalogue.
 use Rattle.std.specs.Prelude.{◌≡◌, ◌≤◌, ◌+◌, ◌++◌, ℕ, Bool, true, false, List, [], All, Some, None, length}
 use Rattle.std.specs.List.{count_by}
-use Rattle.vol_words.specs.Fields.{Block}
+use Rattle.base_words.specs.Fields.{Block}
 use Rattle.plain_cat.specs.declared.cat.Cat.{Cat}
 use Rattle.plain_cat.specs.declared.cat.File.{File}
 use Rattle.plain_cat.specs.declared.cat.QuotaRow.{QuotaRow}
-use Rattle.plain_vol.specs.Accounts.{charge}
-use Rattle.plain_vol.specs.Lookups.{file_at}
-use Rattle.plain_vol.specs.Mending.{places, stripped, lost, enter, enter_all, enter_some, with_lost, is_used, is_gone, without_leaks}
+use Rattle.plain_rules.specs.Accounts.{charge}
+use Rattle.plain_rules.specs.Lookups.{file_at}
+use Rattle.plain_rules.specs.Mending.{places, stripped, lost, enter, enter_all, enter_some, with_lost, is_used, is_gone, without_leaks}
 use Rattle.plain_mends.specs.Waiting.{Settled, LostIsWritten, AreFull}
 use Rattle.vol_mends.specs.Going.{Change}
 use Rattle.vol_parts.specs.declared.geometry.Geometry.{Geometry}
 use Rattle.vol_spell.specs.Reading.{IsFileNumber}
-use Rattle.mend_writes.specs.Told.{IsTold, IsSingle, KeepsSingles}
+use Rattle.vol_mends.specs.Told.{IsTold, IsSingle, KeepsSingles}
 use Rattle.vol_rebuild.specs.Leaving.{gone_numbers}
 
 -- how many files there are

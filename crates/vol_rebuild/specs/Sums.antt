@@ -1,12 +1,12 @@
 -- The quota blocks while they are written one by one.
 use Rattle.std.specs.Prelude.{◌≡◌, ◌≢◌, ℕ, List, All}
-use Rattle.vol_words.specs.Fields.{Block}
+use Rattle.base_words.specs.Fields.{Block}
 use Rattle.plain_cat.specs.declared.cat.Cat.{Cat}
 use Rattle.plain_cat.specs.declared.cat.QuotaRow.{QuotaRow}
 use Rattle.vol_parts.specs.declared.geometry.Geometry.{Geometry}
 use Rattle.vol_parts.specs.Volumes.{rows_in}
-use Rattle.mend_writes.specs.Told.{IsTold, KeepsSingles}
-use Rattle.mend_writes.specs.Rows.{sum_of, quota_block}
+use Rattle.vol_mends.specs.Told.{IsTold, KeepsSingles}
+use Rattle.vol_mends.specs.Rows.{sum_of, quota_block}
 
 -- the rows of quota block k have the usages that the files of c cost
 abbrev pub AreRight : Geometry → List Block → Cat → ℕ → Type 0

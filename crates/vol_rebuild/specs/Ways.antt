@@ -1,19 +1,11 @@
 -- What mending does to a drive, whatever it answers: the writes that it makes, and what the image has.
-use Rattle.std.specs.Prelude.{◌≡◌, ◌≤◌, ◌⊎◌, ℕ, List, Option, Some, None, IfSome, take, slice_set}
-use Rattle.vol_words.specs.Fields.{Block}
-use Rattle.vol_words.specs.Faults.{Rose}
+use Rattle.std.specs.Prelude.{◌≡◌, ◌≤◌, ◌⊎◌, ℕ, List, Option, take, slice_set}
+use Rattle.base_words.specs.Fields.{Block}
+use Rattle.base_words.specs.Faults.{Rose}
 use Rattle.plain_cat.specs.declared.cat.Cat.{Cat}
-use Rattle.vol_owners.specs.Lists.{written}
+use Rattle.base_words.specs.Lists.{written}
 use Rattle.vol_mends.specs.Mends.{Mends}
-
--- where an image tells its blocks, they are these
-abbrev pub Shows : Option (List Block) → List Block → Type 0
-Shows told bs = IfSome told (λ x. bs ≡ x)
-
--- these blocks, where an image tells its blocks
-abbrev pub told_as : Option (List Block) → List Block → Option (List Block)
-told_as None bs = None
-told_as (Some told) bs = Some bs
+use Rattle.blk_drive.specs.Telling.{IsTold, told_as}
 
 -- writes lead from the old blocks to the new ones, and after each number of them the blocks mend to the same
 pub record IsWay (old new : List Block) : Type 0 where
@@ -34,4 +26,4 @@ pub record IsStep (old new : List Block) (told now : Option (List Block)) (befor
   pub way : IsWay old new
   pub later : before ≤ after
   pub cause : Failed → Rose before after
-  pub image : Shows told old → (now ≡ told_as told new) ⊎ (Failed × IsAhead told now old new)
+  pub image : IsTold told old → (now ≡ told_as told new) ⊎ (Failed × IsAhead told now old new)

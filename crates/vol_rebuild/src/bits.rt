@@ -3,18 +3,19 @@
 ghost use Rattle.std.specs.Prelude.{◌≡◌, ◌≤◌, ◌<◌, ◌-◌, ◌/◌, ◌%◌, ◌==◌, ℕ, Err, length, is_some, slice_index, if◌then◌else◌, IfOk, OnOk};
 ghost use Rattle.fx_bitmap.specs.Bits.{bit_at};
 ghost use Rattle.plain_cat.specs.declared.cat.Cat.{Cat};
-ghost use Rattle.plain_vol.specs.Lookups.{file_at};
+ghost use Rattle.plain_rules.specs.Lookups.{file_at};
 ghost use Rattle.vol_parts.specs.declared.geometry.Geometry.{Geometry};
 ghost use Rattle.vol_parts.specs.Parts.{IsGeometry, storage_blocks};
 ghost use Rattle.vol_spell.specs.Reading.{total_of};
-ghost use Rattle.mend_writes.specs.Told.{IsTold, KeepsSingles};
-ghost use Rattle.mend_writes.specs.Bits.{numbers_left};
+ghost use Rattle.vol_mends.specs.Told.{IsTold, KeepsSingles};
+ghost use Rattle.vol_mends.specs.Bits.{numbers_left};
 ghost use Rattle.vol_rebuild.specs.Steps.{IsTidy};
 ghost use Rattle.vol_rebuild.specs.Space.{IsCounted, IsSpaceSet, IsSpaceTidy};
 ghost use Rattle.vol_rebuild.specs.Ways.{IsStep};
 
 use crate::fault::StepFault;
 use crate::making::{block_is_whole, make_other};
+use base_words::Block;
 use blk_drive::{ImageDev, Mirror};
 use fx_bitmap::{clear_bits, set_bits};
 use fx_home::{Home, read_home};
@@ -22,7 +23,6 @@ use plain_cat::{Cat, NoMemory, Slot};
 use std::alloc::{AllocError, Global};
 use vol_faults::count_clusters;
 use vol_parts::Geometry;
-use vol_words::Block;
 
 // Sets a bit, or clears it.
 fn put_bit(b: &mut Block, i: u32, value: bool)

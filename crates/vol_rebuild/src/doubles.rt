@@ -1,12 +1,10 @@
 //! Step 1: the entries that stand in two blocks are packed away.
 
-ghost use Rattle.std.specs.Prelude.{◌≡◌, Err, Some, true, length, map, nat_lt, IfOk, OnOk};
-ghost use Rattle.fx_dir.specs.Lists.{joined};
-ghost use Rattle.fx_dir.specs.Directory.{entries_at};
-ghost use Rattle.plain_vol.specs.Lookups.{file_at};
+ghost use Rattle.std.specs.Prelude.{◌≡◌, Err, IfOk, OnOk};
+ghost use Rattle.plain_rules.specs.Lookups.{file_at};
 ghost use Rattle.vol_spell.specs.Reading.{IsFileNumber};
-ghost use Rattle.mend_writes.specs.Told.{IsTold, IsSingle, KeepsSingles};
-ghost use Rattle.mend_writes.specs.Moving.{HasDir};
+ghost use Rattle.vol_mends.specs.Told.{IsTold, IsSingle, KeepsSingles};
+ghost use Rattle.vol_mends.specs.Moving.{HasDir};
 ghost use Rattle.vol_rebuild.specs.Places.{DirLeads};
 ghost use Rattle.vol_rebuild.specs.Steps.{AreSingles};
 ghost use Rattle.vol_rebuild.specs.Ways.{IsStep};
@@ -14,42 +12,14 @@ ghost use Rattle.vol_rebuild.specs.Ways.{IsStep};
 use crate::fault::StepFault;
 use crate::making::make_moves;
 use crate::places::{Moves, body};
+use base_words::Block;
 use blk_drive::{ImageDev, Mirror};
-use fx_dir::{DirFault, pack_moves, read_dir};
+use fx_dir::pack_moves;
 use plain_cat::{Cat, File, NoMemory};
-use plain_vol::file_at;
-use std::alloc::{AllocError, Global};
+use plain_rules::file_at;
+use std::alloc::Global;
+use vol_analyze::have_more;
 use vol_parts::Geometry;
-use vol_words::Block;
-
-// How many entries a block has; none where it is no list of records.
-#[tactic(auto, using(vol_analyze::proofs::Reading::single_ok, vol_analyze::proofs::Reading::single_err))]
-fn entry_count(alloc: Global, b: &Block) -> Result<usize, NoMemory>
-    ensures { IfOk result (λ k. k ≡ length (entries_at b.now)) }
-{
-    match read_dir(alloc, &[*b]) {
-        Ok(found) => Ok(found.len()),
-        Err(DirFault::NoMemory) => Err(AllocError),
-        Err(DirFault::BadRecord(_)) => Ok(0),
-        Err(DirFault::BadOrder) => Ok(0),
-        Err(DirFault::Clash) => Ok(0),
-    }
-}
-
-// Whether the blocks have more than so many entries.
-fn have_more(alloc: Global, blocks: &[Block], n: usize) -> Result<bool, NoMemory>
-    ensures { IfOk result (λ more. more ≡ nat_lt n (length (joined (map entries_at blocks.now)))) }
-{
-    let mut left = n;
-    for b in blocks {
-        let count = entry_count(alloc, b)?;
-        if left < count {
-            return Ok(true);
-        }
-        left -= count;
-    }
-    Ok(false)
-}
 
 // The moves by which the entries of a directory that stand in two of its blocks are packed away: none where there are none.
 fn packing(

@@ -3,11 +3,11 @@
 ghost use Rattle.std.specs.Prelude.{◌≡◌, ◌≤◌, ◌<◌, ◌-◌, Err, Some, map, length, IfOk, OnOk};
 ghost use Rattle.plain_cat.specs.declared.cat.File.{File};
 ghost use Rattle.plain_cat.specs.declared.cat.Slot.TheVariants.{Used};
-ghost use Rattle.plain_vol.specs.Directories.{without, is_entry};
-ghost use Rattle.plain_vol.specs.Mending.{places};
+ghost use Rattle.plain_rules.specs.Directories.{without, is_entry};
+ghost use Rattle.plain_rules.specs.Mending.{places};
 ghost use Rattle.plain_mends.specs.Resuming.{Goes, less_one};
-ghost use Rattle.vol_places.specs.Places.{place_of, AreFirsts};
-ghost use Rattle.mend_writes.specs.Told.{IsTold};
+ghost use Rattle.vol_faults.specs.Places.{place_of, AreFirsts};
+ghost use Rattle.vol_mends.specs.Told.{IsTold};
 ghost use Rattle.vol_rebuild.specs.Leaving.{leavers_of, leavers, place_from};
 ghost use Rattle.vol_rebuild.specs.Places.{DirLeads};
 ghost use Rattle.vol_rebuild.specs.Steps.{IsStripped};
@@ -16,14 +16,14 @@ ghost use Rattle.vol_rebuild.specs.Ways.{IsStep};
 use crate::fault::StepFault;
 use crate::making::make_moves;
 use crate::places::{Moves, body};
+use base_words::Block;
 use blk_drive::{ImageDev, Mirror};
 use fx_dir::remove_moves;
 use plain_cat::{Cat, DirEnt, DirEnts, File, Name, NoMemory, Slot};
-use plain_vol::file_at;
+use plain_rules::file_at;
 use std::alloc::Global;
+use vol_faults::{Spot, all_firsts, spots, stays};
 use vol_parts::Geometry;
-use vol_places::{Spot, all_firsts, spots, stays};
-use vol_words::Block;
 
 // An entry that goes, and the number of its directory.
 #[derive(Drop)]
@@ -64,7 +64,7 @@ fn leavers(alloc: Global, cat: &Cat) -> Result<Vec<Leaver>, NoMemory>
     leavers_of(alloc, cat, firsts.as_slice(), spots.as_slice())
 }
 
-#[tactic(auto, unfolding(plain_vol::specs::Directories::is_entry))]
+#[tactic(auto, unfolding(plain_rules::specs::Directories::is_entry))]
 fn is_entry(e: &DirEnt, name: &Name, ver: u16) -> bool
     ensures { result ≡ is_entry name.now ver e.now }
 {

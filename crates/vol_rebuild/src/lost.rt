@@ -3,12 +3,12 @@
 ghost use Rattle.std.specs.Prelude.{◌≡◌, ◌≤◌, ◌-◌, ◌+◌, Err, Some, [], true, false, length, slice_get, IfOk};
 ghost use Rattle.plain_cat.specs.declared.cat.Cat.{Cat};
 ghost use Rattle.plain_cat.specs.declared.cat.File.{File};
-ghost use Rattle.plain_vol.specs.Changes.{with_entries};
-ghost use Rattle.plain_vol.specs.Lookups.{file_at};
-ghost use Rattle.plain_vol.specs.Mending.{places, is_empty, is_lost_slot, lost, enter, with_lost_entry};
+ghost use Rattle.plain_rules.specs.Changes.{with_entries};
+ghost use Rattle.plain_rules.specs.Lookups.{file_at};
+ghost use Rattle.plain_rules.specs.Mending.{places, is_empty, is_lost_slot, lost, enter, with_lost_entry};
 ghost use Rattle.plain_mends.specs.Waiting.{Settled, LostIsWritten};
-ghost use Rattle.vol_places.specs.Places.{AreFirsts};
-ghost use Rattle.mend_writes.specs.Told.{IsTold};
+ghost use Rattle.vol_faults.specs.Places.{AreFirsts};
+ghost use Rattle.vol_mends.specs.Told.{IsTold};
 ghost use Rattle.vol_rebuild.specs.Places.{DirLeads};
 ghost use Rattle.vol_rebuild.specs.Steps.{IsEntered, AreEntered, AreEnteredFull, AreEnteredEmpty, CanEnterOne};
 ghost use Rattle.vol_rebuild.specs.Ways.{IsStep};
@@ -18,14 +18,14 @@ use crate::fault::StepFault;
 use crate::making::make_moves;
 use crate::names::lost_entry;
 use crate::places::{Moves, body};
+use base_words::Block;
 use blk_drive::{ImageDev, Mirror};
 use fx_dir::insert_moves;
 use plain_cat::{Cat, DirEnts, File, NoMemory, Slot};
-use plain_vol::{file_at, with_lost_entry};
+use plain_rules::{file_at, with_lost_entry};
 use std::alloc::{AllocError, Global};
+use vol_faults::{Spot, all_firsts, is_lost, spots};
 use vol_parts::Geometry;
-use vol_places::{Spot, all_firsts, is_lost, spots};
-use vol_words::Block;
 
 // The number of [SYSLOST].
 const LOST: u32 = 11;

@@ -2,7 +2,7 @@
 
 ghost use Rattle.std.specs.Prelude.{◌≡◌, ◌<◌, ◌-◌, ℕ, Err, All, length, take, slice_set, slice_index_or, OnOk};
 ghost use Rattle.std.specs.Str.{bytes_eq};
-ghost use Rattle.vol_words.specs.Fields.{IsWholeBlock};
+ghost use Rattle.base_words.specs.Fields.{IsWholeBlock};
 ghost use Rattle.plain_cat.specs.declared.cat.Cat.{Cat};
 ghost use Rattle.vol_faults.specs.Conditions.{IsSize};
 ghost use Rattle.vol_mends.specs.Mends.{Mends};
@@ -10,9 +10,9 @@ ghost use Rattle.vol_rebuild.specs.Places.{written_at};
 ghost use Rattle.vol_rebuild.specs.Ways.{IsStep};
 
 use crate::fault::StepFault;
+use base_words::Block;
 use blk_drive::{ImageDev, Mirror};
 use fx_dir::Move;
-use vol_words::Block;
 
 // A block in memory is whole. Its type says it, and this function tells it as a clause: there is nothing to do at run time.
 pub(crate) fn block_is_whole(block: Block)

@@ -2,16 +2,18 @@
 
 ghost use Rattle.std.specs.Prelude.{◌≡◌, ◌≤◌, ◌⊎◌, Err, Ok, length, IfOk};
 ghost use Rattle.std.specs.List.{count_by};
-ghost use Rattle.vol_words.specs.Fields.{AreWholeBlocks};
-ghost use Rattle.vol_words.specs.Faults.{Rose};
+ghost use Rattle.base_words.specs.Fields.{AreWholeBlocks};
+ghost use Rattle.base_words.specs.Faults.{Rose};
 ghost use Rattle.plain_cat.specs.declared.cat.Cat.{Cat};
-ghost use Rattle.plain_vol.specs.Mending.{is_true};
+ghost use Rattle.plain_rules.specs.Mending.{is_true};
 ghost use Rattle.vol_parts.specs.declared.finding.Finding.{Finding};
 ghost use Rattle.vol_parts.specs.Findings.{IsFatal, IsFirstFatal};
 ghost use Rattle.vol_parts.specs.Parts.{IsGeometry};
 ghost use Rattle.vol_faults.specs.Conditions.{IsSize};
-ghost use Rattle.mend_writes.specs.Told.{IsTold};
-ghost use Rattle.vol_rebuild.specs.Ways.{IsWay, IsStep, IsAhead, Shows, told_as};
+ghost use Rattle.vol_mends.specs.Told.{IsTold};
+ghost use Rattle.vol_rebuild.specs.Ways.{IsWay, IsStep, IsAhead};
+ghost use Rattle.blk_drive.specs.Telling.{IsTold as Shows};
+ghost use Rattle.blk_drive.specs.Telling.{told_as};
 ghost use Rattle.vol_rebuild.specs.Rebuilt.{IsRebuilt, IsRefusal};
 
 use crate::bits::set_all_bits;
@@ -22,10 +24,9 @@ use crate::lost::enter_lost;
 use crate::rows::set_usages;
 use crate::slots::free_slots;
 use blk_drive::{ImageDev, Mirror};
-use blk_whole::blocks_are_whole;
 use plain_cat::{Cat, Mended};
 use std::alloc::Global;
-use vol_parts::Geometry;
+use vol_parts::{Geometry, blocks_are_whole};
 use vol_spell::{geometry, read_fully};
 
 // A drive has as many blocks as a volume may have, and they are whole. Its type says it, and this function tells it as clauses.

@@ -2,16 +2,16 @@
 
 ghost use Rattle.std.specs.Prelude.{◌≡◌, ◌<◌, ◌++◌, ◌+◌, All, length, IfOk, OnOk};
 ghost use Rattle.std.specs.List.{range_with_len};
-ghost use Rattle.vol_owners.specs.Places.{blocks_at};
+ghost use Rattle.vol_spell.specs.Spread.{blocks_at};
 ghost use Rattle.vol_spell.specs.Reading.{header_block};
 ghost use Rattle.vol_rebuild.specs.Places.{places_told, IsThere};
 
+use base_words::Block;
 use fx_dir::Move;
 use fx_header::{Run, Slot, read_header, runs};
 use plain_cat::NoMemory;
 use std::alloc::Global;
 use vol_parts::Geometry;
-use vol_words::Block;
 
 // The blocks of a directory, and the LBN of each.
 #[derive(Drop)]

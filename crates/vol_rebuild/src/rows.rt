@@ -1,52 +1,25 @@
 //! Step 5: the usages of the quota rows become what the owners' files cost.
 
-ghost use Rattle.std.specs.Prelude.{◌≡◌, ◌≤◌, ◌<◌, ◌*◌, ◌==◌, ℕ, Err, All, length, map, option_map, if◌then◌else◌, OnOk};
+ghost use Rattle.std.specs.Prelude.{◌≡◌, ◌≤◌, ◌<◌, ◌==◌, ℕ, Err, length, map, option_map, if◌then◌else◌, OnOk};
 ghost use Rattle.fx_quota.specs.Rows.{row_at};
 ghost use Rattle.plain_cat.specs.declared.cat.Cat.{Cat};
-ghost use Rattle.plain_cat.specs.declared.cat.Slot.{Slot};
-ghost use Rattle.plain_vol.specs.Accounts.{share, charge};
-ghost use Rattle.plain_vol.specs.Lookups.{clusters_in};
 ghost use Rattle.vol_parts.specs.Parts.{IsGeometry};
 ghost use Rattle.vol_parts.specs.Volumes.{rows_in};
 ghost use Rattle.vol_analyze.specs.Conditions.{HasFileSizes};
-ghost use Rattle.mend_writes.specs.Told.{IsTold};
-ghost use Rattle.mend_writes.specs.Rows.{summed};
+ghost use Rattle.vol_mends.specs.Told.{IsTold};
+ghost use Rattle.vol_mends.specs.Rows.{summed};
 ghost use Rattle.vol_rebuild.specs.Steps.{IsOfFiles, AreSummed};
 ghost use Rattle.vol_rebuild.specs.Sums.{IsQuotaSet};
 ghost use Rattle.vol_rebuild.specs.Ways.{IsStep};
 
 use crate::fault::StepFault;
 use crate::making::{block_is_whole, make_other};
+use base_words::Block;
 use blk_drive::{ImageDev, Mirror};
 use fx_quota::{row, set_row};
-use plain_cat::{Cat, Slot, Uic};
+use plain_cat::{Cat, Uic};
+use plain_rules::charge;
 use vol_parts::Geometry;
-use vol_words::Block;
-
-// What a slot's file costs an owner.
-fn share(cat: &Cat, owner: Uic, slot: &Slot) -> u32
-    requires { cat.now.factor * clusters_in slot.now ≤ 65536 }
-    ensures value { result ≡ share cat.now owner slot.now }
-    ensures bound { result ≤ 65537 }
-{
-    match slot {
-        Slot::Used(file) if owner.0 == file.owner.0 => cat.factor * file.clusters + 1,
-        _ => 0,
-    }
-}
-
-// What all files of an owner cost.
-fn charge(cat: &Cat, owner: Uic) -> u32
-    requires numbers { length cat.now.files ≤ 4096 }
-    requires sizes { All (λ (s : Slot). cat.now.factor * clusters_in s ≤ 65536) cat.now.files }
-    ensures { result ≡ charge cat.now owner }
-{
-    let mut sum = 0;
-    for slot in cat.files.items() {
-        sum += share(cat, owner, slot);
-    }
-    sum
-}
 
 // Puts right the usage of a row, if the row is active.
 fn put_usage(cat: &Cat, b: &mut Block, i: u32)

@@ -2,12 +2,12 @@
 
 ghost use Rattle.std.specs.Prelude.{◌≡◌, ◌≤◌, ◌<◌, ◌+◌, ◌-◌, ◌^◌, Err, Some, [], true, false, length, slice_get, IfOk, OnOk};
 ghost use Rattle.plain_cat.specs.declared.cat.File.{File};
-ghost use Rattle.plain_vol.specs.Lookups.{file_at};
-ghost use Rattle.plain_vol.specs.Mending.{places, lost};
+ghost use Rattle.plain_rules.specs.Lookups.{file_at};
+ghost use Rattle.plain_rules.specs.Mending.{places, lost};
 ghost use Rattle.plain_mends.specs.Resuming.{leaving};
 ghost use Rattle.plain_mends.specs.Waiting.{Settled, AreFull};
-ghost use Rattle.vol_places.specs.Places.{AreFirsts};
-ghost use Rattle.mend_writes.specs.Told.{IsTold, KeepsSingles};
+ghost use Rattle.vol_faults.specs.Places.{AreFirsts};
+ghost use Rattle.vol_mends.specs.Told.{IsTold, KeepsSingles};
 ghost use Rattle.vol_rebuild.specs.Leaving.{is_gone_slot, gone_numbers};
 ghost use Rattle.vol_rebuild.specs.Steps.{IsGone, AreFreed};
 ghost use Rattle.vol_rebuild.specs.Ways.{IsStep};
@@ -17,10 +17,10 @@ use crate::making::{block_is_whole, make};
 use blk_drive::{ImageDev, Mirror};
 use fx_header::free_slot;
 use plain_cat::{Cat, NoMemory, Slot};
-use plain_vol::file_at;
+use plain_rules::file_at;
 use std::alloc::Global;
+use vol_faults::{Spot, all_firsts, is_lost, spots};
 use vol_parts::Geometry;
-use vol_places::{Spot, all_firsts, is_lost, spots};
 
 // Whether a slot's file is marked for delete, or in no directory.
 fn is_gone_slot(cat: &Cat, firsts: &[Option<Spot<'_>>], n: u32, slot: &Slot) -> bool

@@ -6,14 +6,15 @@ use Rattle.std.proofs.Math.Nat.{mul-div-le}
 use Rattle.std.proofs.lemmas.Bool.Decides.{nat_tests}
 use Rattle.std.proofs.lemmas.Bool.{and_parts, ltb-true, leb-true, eqb-true, eq-eqb, le-leb}
 use Rattle.std.proofs.lemmas.List.FromFn.{length-range_with_len, length-map-range_with_len}
-use Rattle.vol_words.specs.Fields.{Block, AreWholeBlocks}
+use Rattle.base_words.specs.Fields.{Block, AreWholeBlocks}
 use Rattle.fx_home.specs.declared.home.Home.{Home}
 use Rattle.fx_home.specs.declared.home.HomeFault.{HomeFault}
 use Rattle.fx_home.specs.declared.home.HomeFault.TheVariants.{BadFormat, BadLevel, BadSum1, BadSum2, BadCluster, BadFiles, BadLayout}
 use Rattle.fx_home.specs.declared.scb.Scb.{Scb}
 use Rattle.fx_home.specs.declared.scb.ScbFault.TheVariants as scb
 use Rattle.fx_home.specs.declared.scb.ScbFault.{ScbFault}
-use Rattle.fx_home.specs.Homes.{IsWithinLimits, has_format, has_level, has_sum1, has_sum2, has_cluster, has_files, has_layout, home_in, home_read, scb_read}
+use Rattle.fx_home.specs.Homes.{IsWithinLimits, has_format, has_level, has_sum1, has_cluster, has_files, has_layout, home_in, home_read, scb_read}
+use Rattle.base_words.specs.Fields.{has_sum as has_sum2}
 use Rattle.fx_home.proofs.Reading.{home_in-within}
 use Rattle.fx_header.specs.declared.run.Run.{Run}
 use Rattle.fx_header.specs.declared.slot.Hdr.{Hdr}
@@ -30,22 +31,23 @@ use Rattle.fx_dir.specs.Directory.{directory}
 use Rattle.fx_quota.specs.declared.types.Row.{Row}
 use Rattle.plain_cat.specs.declared.cat.Cat.{Cat}
 use Rattle.plain_cat.specs.declared.cat.Slot.{Slot}
-use Rattle.plain_vol.specs.Lookups.{clusters_in}
-use Rattle.vol_owners.specs.declared.owner.Owner.{Owner}
-use Rattle.vol_owners.specs.declared.owner.Owner.TheVariants.{Free, InFile, Outside, Leaked}
-use Rattle.vol_owners.specs.Lists.{Has, Once}
-use Rattle.vol_owners.specs.Owners.{Outs, nothing}
-use Rattle.vol_owners.specs.Counts.{is_same_owner}
-use Rattle.vol_owners.specs.Places.{blocks_at}
-use Rattle.vol_owners.proofs.Listing.{same_or_not, has_at}
-use Rattle.vol_owners.proofs.Placing.{has_ranged, ranged_has, length-blocks_at}
+use Rattle.plain_rules.specs.Lookups.{clusters_in}
+use Rattle.vol_spell.specs.declared.owner.Owner.{Owner}
+use Rattle.vol_spell.specs.declared.owner.Owner.TheVariants.{Free, InFile, Outside, Leaked}
+use Rattle.base_words.specs.Lists.{Has, Once}
+use Rattle.vol_spell.specs.Owners.{Outs, nothing}
+use Rattle.vol_spell.specs.Counts.{is_same_owner}
+use Rattle.vol_spell.specs.Spread.{blocks_at}
+use Rattle.base_words.proofs.Listing.{same_or_not, has_at}
+use Rattle.vol_spell.proofs.Placing.{has_ranged, ranged_has, length-blocks_at}
 use Rattle.vol_parts.specs.declared.finding.Finding.{Finding}
 use Rattle.vol_parts.specs.declared.finding.Finding.TheVariants as finding
 use Rattle.vol_parts.specs.declared.geometry.Geometry.{Geometry}
 use Rattle.vol_parts.specs.Parts.{IsGeometry, storage_blocks}
 use Rattle.vol_parts.specs.Volumes.{Volume, volume, factor, total, numbers, IsNumber, block_at, header_lbn, head as head_of, fields_in, fields, most_clusters, Told, told as told_in, is_slot_of, is_in_slots, runs, body, is_in_run, is_in_file, is_in_files, first_lbn, bitmap_lbn, quota_lbn, geometry_of, is_free_cluster, is_used_number, active_rows}
 use Rattle.vol_parts.specs.Catalogues.{is_structure, slot_with, slot_of, files_of, rows_sorted, is_outside_cluster, is_outside_number, catalogue}
-use Rattle.vol_parts.specs.Fatal.{is_system_header, is_system_directory, stated_clusters, are_stated, is_system_file, in_whole_clusters, scb_test, scb_fault, is_off_bounds, is_too_large, IsInRun, IsShared, has_dir_size, found_in, dir_test, dir_fault, IsFatalIn, has_two_rows}
+use Rattle.vol_parts.specs.Fatal.{is_system_header, stated_clusters, are_stated, is_system_file, in_whole_clusters, scb_test, scb_fault, is_off_bounds, is_too_large, IsInRun, IsShared, has_dir_size, found_in, dir_test, dir_fault, IsFatalIn, has_two_rows}
+use Rattle.plain_rules.specs.SystemFiles.{is_system_directory}
 use Rattle.vol_parts.specs.Findings.{home_at, IsFatalBy, IsCatalogueBy}
 use Rattle.vol_spell.specs.Reading.{IsFileNumber, total_of, header_block, told_of, fields_told, runs_told, clusters_of, clusters_told, body_blocks, cluster_bit, number_bit, quota_places, rows_told}
 use Rattle.vol_spell.specs.Spelling.{IsHomeOf, IsHead, IsWhole, AreWhole, dir_found, size_in, Tells, IsStructure, run_for, HasStructures, Spells}

@@ -5,9 +5,9 @@ use Rattle.std.specs.List.{range_with_len}
 use Rattle.std.proofs.lemmas.Bool.{and_parts, lt-ltb, ltb-true}
 use Rattle.std.proofs.lemmas.Bool.Decides.{nat_tests}
 use Rattle.fx_header.specs.declared.run.Run.{Run}
-use Rattle.vol_owners.specs.Lists.{Has, Once}
-use Rattle.vol_owners.proofs.Listing.{has_parted, has_first, has_second, once_in_a_row}
-use Rattle.vol_owners.proofs.Placing.{has_ranged, ranged_has}
+use Rattle.base_words.specs.Lists.{Has, Once}
+use Rattle.base_words.proofs.Listing.{has_parted, has_first, has_second, once_in_a_row}
+use Rattle.vol_spell.proofs.Placing.{has_ranged, ranged_has}
 use Rattle.vol_parts.specs.declared.geometry.Geometry.{Geometry}
 use Rattle.vol_parts.specs.Volumes.{is_in_run}
 use Rattle.vol_spell.specs.Reading.{clusters_of, total_of}

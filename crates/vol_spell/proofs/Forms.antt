@@ -1,11 +1,11 @@
 -- The catalogue that blocks spell has its one form.
-use Rattle.std.proofs.Common.{◌≡◌, ◌==◌, ◌&&◌, ◌+◌, ◌-◌, ◌∙◌, inl, inr, ℕ, Bool, true, false, cond, List, [], ◌∷◌, Option, Some, None, length, map, get_or, slice_get, nat_lt, refl, sym, ap, subst, arith}
+use Rattle.std.proofs.Common.{◌≡◌, ◌==◌, ◌&&◌, ◌+◌, ◌-◌, ◌∙◌, inl, inr, ℕ, Bool, true, false, cond, List, [], ◌∷◌, Some, None, length, map, get_or, slice_get, nat_lt, refl, sym, ap, subst, arith}
 use Rattle.std.specs.Prelude.{Result, Ok, Err}
 use Rattle.std.specs.List.{list_all}
 use Rattle.std.proofs.lemmas.Bool.Decides.{nat_tests}
 use Rattle.std.proofs.lemmas.List.{length-map}
 use Rattle.std.proofs.lemmas.Option.{slice_get-get_or}
-use Rattle.vol_words.specs.Fields.{Block}
+use Rattle.base_words.specs.Fields.{Block}
 use Rattle.fx_home.specs.declared.home.Home.{Home}
 use Rattle.fx_home.specs.declared.home.HomeFault.{HomeFault}
 use Rattle.fx_home.specs.Homes.{home_read}
@@ -22,14 +22,14 @@ use Rattle.fx_quota.specs.declared.types.Row.{Row}
 use Rattle.plain_cat.specs.declared.ids.Uic.{Uic}
 use Rattle.plain_cat.specs.declared.cat.Cat.{Cat}
 use Rattle.plain_cat.specs.declared.cat.QuotaRow.{QuotaRow}
-use Rattle.plain_vol.specs.Lookups.{row_of}
-use Rattle.plain_vol.specs.Directories.{lower, before}
-use Rattle.plain_vol.specs.Changes.{with_row}
-use Rattle.plain_vol.specs.OneForm.{rises, owners_rise, HasOrder}
-use Rattle.plain_vol.proofs.Ordered.{rows_with}
-use Rattle.vol_owners.specs.declared.owner.Owner.TheVariants.{Leaked}
-use Rattle.vol_owners.specs.Lists.{Has, Once}
-use Rattle.vol_owners.specs.Counts.{is_same_owner}
+use Rattle.plain_rules.specs.Lookups.{row_of}
+use Rattle.plain_rules.specs.Directories.{lower, before}
+use Rattle.plain_rules.specs.Changes.{with_row}
+use Rattle.plain_rules.specs.OneForm.{rises, owners_rise, HasOrder}
+use Rattle.plain_rules.proofs.Ordered.{rows_with, none_either}
+use Rattle.vol_spell.specs.declared.owner.Owner.TheVariants.{Leaked}
+use Rattle.base_words.specs.Lists.{Has, Once}
+use Rattle.vol_spell.specs.Counts.{is_same_owner}
 use Rattle.vol_parts.specs.Catalogues.{plain_entry, plain_entries, entries_in, slot_with, quota_row, rows_sorted, catalogue}
 use Rattle.vol_parts.specs.Findings.{home_at, IsCatalogueBy}
 use Rattle.vol_spell.specs.Reading.{IsFileNumber, told_of, body_blocks, rows_told}
@@ -71,12 +71,6 @@ slot_order : (factor n : ℕ) (h : Result Head HeaderFault) (blocks : List Block
 slot_order factor n (Ok (head.Used f)) blocks = in_order f blocks
 slot_order factor n (Ok (head.Free seq)) blocks = tt
 slot_order factor n (Err fault) blocks = tt
-
--- ---- rows
-
-none_either : (b : Bool) (r : QuotaRow) (o : Option QuotaRow) → cond b (Some r) o ≡ None → (b ≡ false) × (o ≡ None)
-none_either true r o h = absurd (cc h)
-none_either false r o h = (refl, h)
 
 none_with : (owner : Uic) (row : QuotaRow) (rows : List QuotaRow) → (row.owner.0 == owner.0) ≡ false → row_of owner rows ≡ None → row_of owner (with_row row rows) ≡ None
 none_with owner row [] other none = ap (λ t. cond t (Some row) None) other

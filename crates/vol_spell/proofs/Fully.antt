@@ -1,6 +1,6 @@
 -- The lost file without room comes behind the other fatal findings.
 use Rattle.std.proofs.Common.{◌≡◌, ◌∙◌, ◌≤◌, Some, None, Result, Ok, Err, List, length, refl, sym, ap, subst, arith}
-use Rattle.vol_words.specs.Fields.{Block}
+use Rattle.base_words.specs.Fields.{Block}
 use Rattle.fx_home.specs.declared.home.Home.{Home}
 use Rattle.fx_home.specs.declared.home.HomeFault.{HomeFault}
 use Rattle.fx_home.specs.Homes.{home_read}

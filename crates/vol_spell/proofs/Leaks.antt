@@ -2,10 +2,10 @@
 use Rattle.std.proofs.Common.{◌≡◌, ◌≢◌, ◌+◌, ℕ, suc, Bool, false, List, [], ◌∷◌, Option, Some, None, length, map, slice_get, refl, sym, ap, subst, ◌∙◌, inl, inr, arith, cond}
 use Rattle.std.specs.Prelude.{count_by}
 use Rattle.std.proofs.lemmas.List.Sums.{sum_by-cons}
-use Rattle.vol_owners.specs.declared.owner.Owner.{Owner}
-use Rattle.vol_owners.specs.declared.owner.Owner.TheVariants.{Free, InFile, Outside, Leaked}
-use Rattle.vol_owners.specs.Owners.{Moves}
-use Rattle.vol_owners.specs.Counts.{is_same_owner}
+use Rattle.vol_spell.specs.declared.owner.Owner.{Owner}
+use Rattle.vol_spell.specs.declared.owner.Owner.TheVariants.{Free, InFile, Outside, Leaked}
+use Rattle.vol_spell.specs.Owners.{Moves}
+use Rattle.vol_spell.specs.Counts.{is_same_owner}
 
 abbrev flag_of : Option Owner → Bool
 flag_of None = false

@@ -2,12 +2,12 @@
 use Rattle.std.proofs.Common.{◌≡◌, ◌<◌, ◌-◌, ℕ, Bool, true, false, not, List, Some, slice_get, get_or, refl, sym, ap, ◌∙◌, arith}
 use Rattle.std.specs.Prelude.{◌↔◌}
 use Rattle.std.proofs.lemmas.Option.{slice_get-get_or}
-use Rattle.vol_words.specs.Fields.{Block}
+use Rattle.base_words.specs.Fields.{Block}
 use Rattle.plain_cat.specs.declared.cat.Cat.{Cat}
-use Rattle.vol_owners.specs.declared.owner.Owner.{Owner}
-use Rattle.vol_owners.specs.declared.owner.Owner.TheVariants.{Free, InFile, Outside, Leaked}
-use Rattle.vol_owners.specs.Owners.{Owners}
-use Rattle.vol_owners.specs.Counts.{is_same_owner}
+use Rattle.vol_spell.specs.declared.owner.Owner.{Owner}
+use Rattle.vol_spell.specs.declared.owner.Owner.TheVariants.{Free, InFile, Outside, Leaked}
+use Rattle.vol_spell.specs.Owners.{Owners}
+use Rattle.vol_spell.specs.Counts.{is_same_owner}
 use Rattle.vol_parts.specs.declared.geometry.Geometry.{Geometry}
 use Rattle.vol_spell.specs.Reading.{IsFileNumber, total_of, cluster_bit, number_bit}
 use Rattle.vol_spell.specs.Spelling.{Spells}

@@ -1,12 +1,12 @@
 -- The greedy packing looks at the names alone.
 use Rattle.std.proofs.Common.{◌≡◌, ◌∙◌, ◌+◌, ℕ, zero, suc, Bool, true, false, cond, List, [], ◌∷◌, Option, Some, None, map, refl, sym, ap}
 use Rattle.std.specs.Prelude.{leb, is_some}
-use Rattle.vol_words.specs.Fields.{Block}
-use Rattle.vol_words.specs.Packing.{cost, unfilled, over}
+use Rattle.base_words.specs.Fields.{Block}
+use Rattle.base_words.specs.Packing.{cost, unfilled, over}
 use Rattle.fx_dir.specs.declared.RawEnt.{RawEnt}
 use Rattle.fx_dir.specs.Writing.{name_of, if_fits}
 use Rattle.plain_cat.specs.declared.entries.DirEnt.{DirEnt}
-use Rattle.plain_vol.specs.Directories.{is_nil, fits}
+use Rattle.plain_rules.specs.Directories.{is_nil, fits}
 use Rattle.vol_parts.specs.Catalogues.{plain_entry}
 use Rattle.vol_spell.specs.Packing.{PackingFits}
 

@@ -3,10 +3,10 @@ use Rattle.std.proofs.Common.{◌≡◌, ◌<◌, ◌≤◌, ◌+◌, ◌*◌, �
 use Rattle.std.specs.List.{range_with_len}
 use Rattle.fx_header.specs.declared.run.Run.{Run}
 use Rattle.fx_header.specs.Pointers.{lbns_in}
-use Rattle.vol_owners.specs.Lists.{Has, Once}
-use Rattle.vol_owners.specs.Places.{spread}
-use Rattle.vol_owners.proofs.Placing.{spread_joined, spread_in, spread_once, ranged_has}
-use Rattle.vol_owners.proofs.Listing.{has_first}
+use Rattle.base_words.specs.Lists.{Has, Once}
+use Rattle.vol_spell.specs.Spread.{spread}
+use Rattle.vol_spell.proofs.Placing.{spread_joined, spread_in, spread_once, ranged_has}
+use Rattle.base_words.proofs.Listing.{has_first}
 use Rattle.vol_parts.specs.declared.geometry.Geometry.{Geometry}
 use Rattle.vol_parts.specs.Volumes.{Told}
 use Rattle.vol_spell.specs.Reading.{clusters_of, clusters_told}
@@ -31,7 +31,7 @@ range_spread f q (suc k) =
     ap (λ x. range_with_len (q * f) x) e ∙ range_joined (q * f) f (k * f)
     ∙ ap (λ xs. range_with_len (q * f) f ++ xs) (ap (λ x. range_with_len x (k * f)) h ∙ range_spread f (q + 1) k)
 
-whole : (x f : ℕ) → 1 ≤ f → x % f ≡ 0 → x ≡ x / f * f
+pub whole : (x f : ℕ) → 1 ≤ f → x % f ≡ 0 → x ≡ x / f * f
 whole x f low e = omega arith
 
 -- the blocks of runs are those of their clusters

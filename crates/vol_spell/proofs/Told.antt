@@ -1,12 +1,12 @@
 -- What the blocks spell is what they tell as a volume.
 use Rattle.std.proofs.Common.{◌≡◌, ◌<◌, ◌+◌, ◌-◌, ◌/◌, ◌%◌, ℕ, zero, suc, Bool, true, false, List, [], ◌∷◌, Some, length, map, slice_get, refl, sym, ap, subst, ◌∙◌, arith, cond, append-nil, ◌⊎◌, inl, inr, take}
-use Rattle.vol_owners.proofs.Listing.{same_or_not}
+use Rattle.base_words.proofs.Listing.{same_or_not}
 use Rattle.fx_dir.specs.Directory.{directory}
 use Rattle.std.proofs.lemmas.Bool.Decides.{nat_tests}
 use Rattle.std.specs.Prelude.{◌==◌, ◌&&◌, ◌||◌, not, Result, Ok, Err, flat_map, slice_index_or}
 use Rattle.std.specs.List.{range_with_len}
 use Rattle.std.proofs.lemmas.Bool.{and_parts, lt-ltb}
-use Rattle.vol_words.specs.Fields.{Block}
+use Rattle.base_words.specs.Fields.{Block}
 use Rattle.fx_header.specs.declared.run.Run.{Run}
 use Rattle.fx_header.specs.declared.slot.Hdr.{Hdr}
 use Rattle.fx_header.specs.declared.slot.Slot.{Slot as Head}
@@ -17,14 +17,16 @@ use Rattle.fx_header.specs.Pointers.{lbns_in}
 use Rattle.fx_bitmap.specs.Bits.{bit_at}
 use Rattle.plain_cat.specs.declared.cat.Cat.{Cat}
 use Rattle.plain_cat.specs.declared.cat.Slot.TheVariants as slot
-use Rattle.vol_owners.specs.declared.owner.Owner.TheVariants.{InFile}
-use Rattle.vol_owners.specs.Owners.{Owners}
-use Rattle.vol_owners.specs.Places.{blocks_at}
+use Rattle.vol_spell.specs.declared.owner.Owner.TheVariants.{InFile}
+use Rattle.vol_spell.specs.Owners.{Owners}
+use Rattle.vol_spell.specs.Spread.{blocks_at}
 use Rattle.vol_parts.specs.declared.geometry.Geometry.{Geometry}
 use Rattle.vol_parts.specs.declared.geometry.Part.TheVariants.{Header}
 use Rattle.vol_parts.specs.Volumes.{Volume, factor, header_lbn, header_at, head as head_of, fields_in, runs_with, told_by as told_by_head, told as told_in, runs, body, first_lbn, bitmap_lbn, quota_lbn, geometry_of, is_free_cluster, is_used_number, rows_in, active_rows}
 use Rattle.vol_parts.specs.Catalogues.{is_structure, slot_with, slot_of, files_of, rows_sorted, written_blocks, entries_in, plain_entries}
-use Rattle.vol_parts.specs.Fatal.{is_system_header, system_seq, is_system_directory}
+use Rattle.vol_parts.specs.Fatal.{is_system_header}
+use Rattle.plain_rules.specs.SystemFiles.{system_seq}
+use Rattle.plain_rules.specs.SystemFiles.{is_system_directory}
 use Rattle.vol_spell.specs.Reading.{IsFileNumber, volume_of, header_place, header_block, header_tells, told_of, fields_told, runs_told, body_blocks, number_bit, quota_places, rows_told}
 use Rattle.vol_spell.specs.Spelling.{Spells}
 use Rattle.vol_spell.specs.Telling.{IsToldBy, VolumeTells}

@@ -2,15 +2,15 @@
 use Rattle.std.proofs.Common.{◌≡◌, ◌≢◌, ℕ, List, Some, slice_set, sym, ap, subst, ◌∙◌, get_or-set_other, [], ◌<◌, ◌+◌, ◌-◌, ◌*◌, ◌/◌, ◌%◌, zero, suc, length, slice_get, arith}
 use Rattle.vol_spell.proofs.Clusters.{once_range}
 use Rattle.vol_spell.proofs.Keeping.{new_body_away}
-use Rattle.vol_owners.specs.declared.owner.Owner.TheVariants.{InFile, Outside}
+use Rattle.vol_spell.specs.declared.owner.Owner.TheVariants.{InFile, Outside}
 use Rattle.fx_bitmap.specs.Bits.{bit_at}
 use Rattle.std.specs.List.{range_with_len}
 use Rattle.std.specs.Prelude.{slice_index_or}
 use Rattle.vol_parts.specs.Parts.{part_of}
-use Rattle.vol_words.specs.Fields.{Block}
-use Rattle.vol_owners.specs.Lists.{Has}
-use Rattle.vol_owners.proofs.Listing.{has_at}
-use Rattle.vol_owners.proofs.Placing.{blocks_stay, blocks_set, index-set_here}
+use Rattle.base_words.specs.Fields.{Block}
+use Rattle.base_words.specs.Lists.{Has}
+use Rattle.base_words.proofs.Listing.{has_at}
+use Rattle.vol_spell.proofs.Placing.{blocks_stay, blocks_set, index-set_here}
 use Rattle.vol_parts.specs.declared.geometry.Geometry.{Geometry}
 use Rattle.vol_parts.specs.declared.geometry.Part.TheVariants.{Header, IndexBitmap, Storage, Quota}
 use Rattle.vol_spell.specs.Reading.{IsFileNumber, header_place, header_tells, told_of, body_places, body_blocks, owner_at, quota_places}
@@ -82,7 +82,7 @@ index_set g bs own c l b s part n =
     let len : l < length bs = on_volume g bs own c s l (InFile 1) (part_owner g bs own c s l IndexBitmap part) in
     ap (λ x. bit_at x (n - 1)) (ap (λ j. slice_index_or (slice_set bs l b) j []) place ∙ index-set_here bs l b len)
 
-get_range : (a n k : ℕ) → k < n → slice_get (range_with_len a n) k ≡ Some (a + k)
+pub get_range : (a n k : ℕ) → k < n → slice_get (range_with_len a n) k ≡ Some (a + k)
 get_range a zero k lt = absurd (omega arith)
 get_range a (suc n) zero lt = ap (λ x. Some x) (let e : a ≡ a + 0 = omega arith in e)
 get_range a (suc n) (suc k) lt = get_range (a + 1) n k (omega arith) ∙ ap (λ x. Some x) (let e : a + 1 + k ≡ a + suc k = omega arith in e)

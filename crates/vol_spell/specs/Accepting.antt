@@ -2,13 +2,13 @@
 -- spells its catalogue with them.
 use Rattle.std.specs.Prelude.{◌≡◌, ◌≤◌, not, ℕ, List, Option, Some, None, Ok, length, map, if◌then◌else◌}
 use Rattle.std.specs.List.{range_with_len, find}
-use Rattle.vol_words.specs.Fields.{Block, AreWholeBlocks}
+use Rattle.base_words.specs.Fields.{Block, AreWholeBlocks}
 use Rattle.fx_home.specs.declared.home.Home.{Home}
 use Rattle.fx_home.specs.Homes.{home_read}
 use Rattle.plain_cat.specs.declared.cat.Cat.{Cat}
-use Rattle.vol_owners.specs.declared.owner.Owner.{Owner}
-use Rattle.vol_owners.specs.declared.owner.Owner.TheVariants.{Free, InFile, Leaked}
-use Rattle.vol_owners.specs.Owners.{Owners, Outs, nothing}
+use Rattle.vol_spell.specs.declared.owner.Owner.{Owner}
+use Rattle.vol_spell.specs.declared.owner.Owner.TheVariants.{Free, InFile, Leaked}
+use Rattle.vol_spell.specs.Owners.{Owners, Outs, nothing}
 use Rattle.vol_parts.specs.Volumes.{Volume, volume, total, numbers, is_slot_of, is_in_file, is_free_cluster, is_used_number, geometry_of}
 use Rattle.vol_parts.specs.Findings.{home_at, CatOf}
 use Rattle.vol_spell.specs.Spelling.{Spells}

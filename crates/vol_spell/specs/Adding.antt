@@ -1,12 +1,12 @@
 -- All clusters are free by their bits, outside at a node, leaked, or a file's.
 use Rattle.std.specs.Prelude.{◌≡◌, ◌+◌, Bool, true, false, List, count_by, sum_by}
-use Rattle.vol_words.specs.Fields.{Block}
+use Rattle.base_words.specs.Fields.{Block}
 use Rattle.plain_cat.specs.declared.cat.Cat.{Cat}
-use Rattle.plain_vol.specs.Lookups.{clusters_in, free_clusters}
-use Rattle.vol_owners.specs.declared.owner.Owner.{Owner}
-use Rattle.vol_owners.specs.declared.owner.Owner.TheVariants.{Free, InFile, Outside, Leaked}
-use Rattle.vol_owners.specs.Owners.{Owners}
-use Rattle.vol_owners.specs.Counts.{is_same_owner}
+use Rattle.plain_rules.specs.Lookups.{clusters_in, free_clusters}
+use Rattle.vol_spell.specs.declared.owner.Owner.{Owner}
+use Rattle.vol_spell.specs.declared.owner.Owner.TheVariants.{Free, InFile, Outside, Leaked}
+use Rattle.vol_spell.specs.Owners.{Owners}
+use Rattle.vol_spell.specs.Counts.{is_same_owner}
 use Rattle.vol_parts.specs.declared.geometry.Geometry.{Geometry}
 use Rattle.vol_spell.specs.Reading.{total_of}
 use Rattle.vol_spell.specs.Spelling.{Spells}

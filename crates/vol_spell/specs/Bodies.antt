@@ -1,9 +1,9 @@
 -- Where the blocks of files lie.
 use Rattle.std.specs.Prelude.{◌≡◌, ◌<◌, ℕ, false, List, Some, None, length}
-use Rattle.vol_words.specs.Fields.{Block}
-use Rattle.vol_owners.specs.declared.owner.Owner.TheVariants.{InFile}
-use Rattle.vol_owners.specs.Lists.{Has, Once}
-use Rattle.vol_owners.specs.Owners.{Owners}
+use Rattle.base_words.specs.Fields.{Block}
+use Rattle.vol_spell.specs.declared.owner.Owner.TheVariants.{InFile}
+use Rattle.base_words.specs.Lists.{Has, Once}
+use Rattle.vol_spell.specs.Owners.{Owners}
 use Rattle.vol_parts.specs.declared.geometry.Geometry.{Geometry}
 use Rattle.vol_parts.specs.Parts.{part_of}
 use Rattle.vol_parts.specs.Catalogues.{is_structure}

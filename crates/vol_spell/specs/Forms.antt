@@ -1,9 +1,9 @@
 -- The catalogue that is read of a volume has its one form.
 use Rattle.std.specs.Prelude.{◌≡◌, ◌≤◌, List, length}
-use Rattle.vol_words.specs.Fields.{Block, AreWholeBlocks}
+use Rattle.base_words.specs.Fields.{Block, AreWholeBlocks}
 use Rattle.plain_cat.specs.declared.cat.Cat.{Cat}
-use Rattle.plain_vol.specs.OneForm.{HasOneForm}
-use Rattle.vol_owners.specs.Owners.{Owners}
+use Rattle.plain_rules.specs.OneForm.{HasOneForm}
+use Rattle.vol_spell.specs.Owners.{Owners}
 use Rattle.vol_parts.specs.declared.geometry.Geometry.{Geometry}
 use Rattle.vol_parts.specs.Findings.{CatOf}
 use Rattle.vol_spell.specs.Spelling.{Spells}

@@ -1,15 +1,15 @@
 -- The kinds of writes, and the death of a node. Each takes blocks that spell a catalogue to blocks that spell one, whatever the
 -- whole block that is written, if it reads as the kind says.
 use Rattle.std.specs.Prelude.{◌≡◌, ◌≤◌, ◌<◌, ◌-◌, ◌↔◌, ℕ, true, false, List, Some, None, map, count_by, slice_get, slice_set}
-use Rattle.vol_words.specs.Fields.{Block, IsWholeBlock}
+use Rattle.base_words.specs.Fields.{Block, IsWholeBlock}
 use Rattle.plain_cat.specs.declared.cat.Cat.{Cat}
 use Rattle.plain_cat.specs.declared.cat.Slot.{Slot}
-use Rattle.plain_vol.specs.Lookups.{clusters_in}
-use Rattle.plain_vol.specs.Changes.{with_slot}
-use Rattle.vol_owners.specs.declared.owner.Owner.TheVariants.{Free, Outside, Leaked}
-use Rattle.vol_owners.specs.Lists.{Once}
-use Rattle.vol_owners.specs.Owners.{Owners, Moves, OwnersMove, IsFileMove, IsSpaceMove, IsDeathMove}
-use Rattle.vol_owners.specs.Counts.{is_same_owner}
+use Rattle.plain_rules.specs.Lookups.{clusters_in}
+use Rattle.plain_rules.specs.Changes.{with_slot}
+use Rattle.vol_spell.specs.declared.owner.Owner.TheVariants.{Free, Outside, Leaked}
+use Rattle.base_words.specs.Lists.{Once}
+use Rattle.vol_spell.specs.Owners.{Owners, Moves, OwnersMove, IsFileMove, IsSpaceMove, IsDeathMove}
+use Rattle.vol_spell.specs.Counts.{is_same_owner}
 use Rattle.vol_parts.specs.declared.geometry.Geometry.{Geometry}
 use Rattle.vol_parts.specs.declared.geometry.Part.TheVariants.{IndexBitmap, Storage, Quota}
 use Rattle.vol_parts.specs.Parts.{part_of}

@@ -2,7 +2,7 @@
 use Rattle.std.specs.Prelude.{◌≡◌, ℕ, List, is_some, map}
 use Rattle.fx_dir.specs.declared.RawEnt.{RawEnt}
 use Rattle.fx_dir.specs.Writing.{packed}
-use Rattle.plain_vol.specs.Directories.{fits}
+use Rattle.plain_rules.specs.Directories.{fits}
 use Rattle.vol_parts.specs.Catalogues.{plain_entry}
 
 -- k blocks can be written of these entries exactly where the catalogue's entries fit in k blocks

@@ -1,6 +1,6 @@
 -- Blocks that spell a catalogue, with one owner for each cluster and each file number.
 use Rattle.std.specs.Prelude.{◌≡◌, ◌≤◌, ◌<◌, ◌+◌, ◌*◌, ◌-◌, ◌%◌, ◌↔◌, not, ℕ, true, false, List, [], ◌∷◌, Option, Some, None, Result, Ok, Err, length, map, take, count_by, sum_by, slice_get, slice_index_or, if◌then◌else◌}
-use Rattle.vol_words.specs.Fields.{Block, AreWholeBlocks}
+use Rattle.base_words.specs.Fields.{Block, AreWholeBlocks}
 use Rattle.fx_home.specs.declared.home.Home.{Home}
 use Rattle.fx_home.specs.declared.home.HomeFault.{HomeFault}
 use Rattle.fx_home.specs.Homes.{home_read, scb_read}
@@ -13,11 +13,11 @@ use Rattle.fx_header.specs.Pointers.{blocks_in}
 use Rattle.fx_dir.specs.Directory.{directory}
 use Rattle.plain_cat.specs.declared.cat.Cat.{Cat}
 use Rattle.plain_cat.specs.declared.cat.Slot.{Slot}
-use Rattle.plain_vol.specs.Lookups.{clusters_in}
-use Rattle.vol_owners.specs.declared.owner.Owner.TheVariants.{Free, InFile, Leaked}
-use Rattle.vol_owners.specs.Lists.{Has, Once}
-use Rattle.vol_owners.specs.Owners.{Owners}
-use Rattle.vol_owners.specs.Counts.{is_same_owner}
+use Rattle.plain_rules.specs.Lookups.{clusters_in}
+use Rattle.vol_spell.specs.declared.owner.Owner.TheVariants.{Free, InFile, Leaked}
+use Rattle.base_words.specs.Lists.{Has, Once}
+use Rattle.vol_spell.specs.Owners.{Owners}
+use Rattle.vol_spell.specs.Counts.{is_same_owner}
 use Rattle.vol_parts.specs.declared.finding.Finding.{Finding}
 use Rattle.vol_parts.specs.declared.finding.Finding.TheVariants as finding
 use Rattle.vol_parts.specs.declared.geometry.Geometry.{Geometry}

@@ -1,11 +1,11 @@
 -- What the blocks spell is what they tell as a volume.
 use Rattle.std.specs.Prelude.{◌≡◌, ℕ, List}
-use Rattle.vol_words.specs.Fields.{Block}
+use Rattle.base_words.specs.Fields.{Block}
 use Rattle.fx_header.specs.Headers.{header_read}
 use Rattle.fx_header.specs.Pointers.{lbns_in}
 use Rattle.plain_cat.specs.declared.cat.Cat.{Cat}
-use Rattle.vol_owners.specs.Owners.{Owners}
-use Rattle.vol_owners.specs.Places.{blocks_at}
+use Rattle.vol_spell.specs.Owners.{Owners}
+use Rattle.vol_spell.specs.Spread.{blocks_at}
 use Rattle.vol_parts.specs.declared.geometry.Geometry.{Geometry}
 use Rattle.vol_parts.specs.Volumes.{head, told, runs, body, geometry_of, is_free_cluster, is_used_number, active_rows}
 use Rattle.vol_parts.specs.Catalogues.{files_of, rows_sorted}

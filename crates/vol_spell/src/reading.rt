@@ -4,12 +4,11 @@ ghost use Rattle.std.specs.Prelude.{length, IfOk};
 ghost use Rattle.vol_faults.specs.Conditions.{IsSize};
 ghost use Rattle.vol_spell.specs.Fully.{IsReadFully, IsCatOrNone};
 
+use base_words::Block;
 use plain_cat::{Cat, NoMemory};
 use std::alloc::Global;
-use vol_faults::read_whole;
+use vol_faults::{first_without_room, read_whole};
 use vol_parts::Finding;
-use vol_places::first_without_room;
-use vol_words::Block;
 
 /// What the blocks of a volume tell, of which there are 64 to 65,536: their catalogue where no fatal finding holds, else the
 /// first fatal finding. An error says that memory ran out.

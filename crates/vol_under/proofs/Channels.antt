@@ -13,11 +13,11 @@ use Rattle.plain_cat.specs.declared.cat.Cat.{Cat}
 use Rattle.plain_cat.specs.declared.cat.File.{File}
 use Rattle.plain_cat.specs.declared.cat.Open.{Open}
 use Rattle.plain_cat.specs.declared.cat.QuotaRow.{QuotaRow}
-use Rattle.plain_vol.specs.declared.outcome.Outcome.{Outcome}
-use Rattle.plain_vol.specs.Lookups.{place, file_at, in_use, live, versions, entry_of, channel_at, row_of}
-use Rattle.plain_vol.specs.Changes.{with_channel}
-use Rattle.plain_vol.specs.Answers.{unless, in_directory_file, with_entry, create_refusal, create_made, create_outcome, dir_name, mkdir_refusal, mkdir_made, mkdir_outcome, extend_of, extend_outcome, trunc_of, trunc_outcome, less_entry, unnamed, delete_outcome, rename_refusal, rename_outcome, closed, close_of, close_outcome, write_of, write_open, write_outcome, quota_set_of, quota_set_outcome, outcome}
-use Rattle.plain_vol.specs.Stages.{is_refusal, only_if, making_stage, create_stage, mkdir_stage, extend_stage, trunc_stage, entry_stage, delete_stage, renaming_stage, rename_stage, closing_stage, close_stage, writing_stage, write_stage, quota_stage, command_stage, shown_stage, staged}
+use Rattle.plain_rules.specs.declared.outcome.Outcome.{Outcome}
+use Rattle.plain_rules.specs.Lookups.{place, file_at, in_use, live, versions, entry_of, channel_at, row_of}
+use Rattle.plain_rules.specs.Changes.{with_channel}
+use Rattle.plain_rules.specs.Answers.{unless, in_directory_file, with_entry, create_refusal, create_made, create_outcome, dir_name, mkdir_refusal, mkdir_made, mkdir_outcome, extend_of, extend_outcome, trunc_of, trunc_outcome, less_entry, unnamed, delete_outcome, rename_refusal, rename_outcome, closed, close_of, close_outcome, write_of, write_open, write_outcome, quota_set_of, quota_set_outcome, outcome}
+use Rattle.plain_rules.specs.Stages.{is_refusal, only_if, making_stage, create_stage, mkdir_stage, extend_stage, trunc_stage, entry_stage, delete_stage, renaming_stage, rename_stage, closing_stage, close_stage, writing_stage, write_stage, quota_stage, command_stage, shown_stage, staged}
 use Rattle.vol_under.specs.Opens.{KeepsOpens, StagesKeepOpens}
 
 -- an outcome, or a stage, that leaves these channels as they are

@@ -1,16 +1,16 @@
 -- What channels that open and close, and deaths, leave of the drive under way.
 use Rattle.std.proofs.Common.{◌≡◌, ◌≤◌, ◌+◌, ◌==◌, ℕ, Bool, true, false, List, [], Option, length, map, refl, sym, ap, subst, ◌∙◌, inr, arith, cond}
 use Rattle.std.specs.Prelude.{count_by}
-use Rattle.vol_words.specs.Fields.{Block}
+use Rattle.base_words.specs.Fields.{Block}
 use Rattle.plain_cat.specs.declared.cat.Cat.{Cat}
 use Rattle.plain_cat.specs.declared.cat.Open.{Open}
-use Rattle.plain_vol.specs.Replaying.{closed_channels, flagged, dead}
-use Rattle.vol_owners.specs.declared.owner.Owner.TheVariants.{Outside, Leaked}
-use Rattle.vol_owners.specs.Lists.{Touches, StandsIn}
-use Rattle.vol_owners.specs.Owners.{Owners, OwnersMove, IsDeathMove, nothing, Outs}
-use Rattle.vol_owners.specs.Hands.{handed, AreOf}
-use Rattle.vol_owners.specs.Counts.{is_same_owner}
-use Rattle.vol_owners.proofs.Handing.{handed_moves, outside_to_leaked}
+use Rattle.plain_rules.specs.Replaying.{closed_channels, flagged, dead}
+use Rattle.vol_spell.specs.declared.owner.Owner.TheVariants.{Outside, Leaked}
+use Rattle.base_words.specs.Lists.{Touches, StandsIn}
+use Rattle.vol_spell.specs.Owners.{Owners, OwnersMove, IsDeathMove, nothing, Outs}
+use Rattle.vol_spell.specs.Hands.{handed, AreOf}
+use Rattle.vol_spell.specs.Counts.{is_same_owner}
+use Rattle.vol_spell.proofs.Handing.{handed_moves, outside_to_leaked}
 use Rattle.vol_parts.specs.declared.geometry.Geometry.{Geometry}
 use Rattle.vol_spell.specs.Spelling.{Spells}
 use Rattle.vol_spell.specs.Kinds.{with_leaks}
@@ -52,7 +52,7 @@ opens_keep g c nodes drive opens u = record {
 }
 
 -- what leaks, by numbers
-dead_spelt : (g : Geometry) (bs : List Block) (own new : Owners) (c : Cat) (n k : ℕ) (ns : List ℕ) → Spells g bs own c → OwnersMove (IsDeathMove n) own new → count_by (is_same_owner Leaked) new.clusters ≡ c.leaked + k
+pub dead_spelt : (g : Geometry) (bs : List Block) (own new : Owners) (c : Cat) (n k : ℕ) (ns : List ℕ) → Spells g bs own c → OwnersMove (IsDeathMove n) own new → count_by (is_same_owner Leaked) new.clusters ≡ c.leaked + k
     → map (is_same_owner Leaked) new.numbers ≡ flagged c.leaked_numbers ns → Spells g bs new (dead c n k ns)
 unfolding dead
 dead_spelt g bs own new c n k ns s moves clusters numbers =

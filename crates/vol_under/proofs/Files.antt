@@ -1,10 +1,10 @@
 -- What goes into a file, or out of it.
 use Rattle.std.proofs.Common.{ℕ, List, refl, inl}
-use Rattle.vol_owners.specs.declared.owner.Owner.{Owner}
-use Rattle.vol_owners.specs.declared.owner.Owner.TheVariants.{InFile, Outside}
-use Rattle.vol_owners.specs.Owners.{IsFileMove, AreOut}
-use Rattle.vol_owners.specs.Hands.{AreOf, AreHanded, handed}
-use Rattle.vol_owners.proofs.Handing.{handed_moves, are_handed, outside_to_file, file_to_outside}
+use Rattle.vol_spell.specs.declared.owner.Owner.{Owner}
+use Rattle.vol_spell.specs.declared.owner.Owner.TheVariants.{InFile, Outside}
+use Rattle.vol_spell.specs.Owners.{IsFileMove, AreOut}
+use Rattle.vol_spell.specs.Hands.{AreOf, AreHanded, handed}
+use Rattle.vol_spell.proofs.Handing.{handed_moves, are_handed, outside_to_file, file_to_outside}
 use Rattle.vol_under.specs.Filing.{FileTakes, FileGives}
 
 were_out : (n : ℕ) (xs : List Owner) (took stock : List ℕ) → AreOut n xs took stock → AreOf took (Outside n) xs

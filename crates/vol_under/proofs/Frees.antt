@@ -1,9 +1,9 @@
 -- Writes in turn to blocks outside, and to the storage bitmap.
 use Rattle.std.proofs.Common.{ℕ, List, [], ◌∷◌, slice_set, refl, sym, subst, inl, inr}
 use Rattle.plain_cat.specs.declared.history.Stage.{Stage}
-use Rattle.vol_owners.specs.Owners.{Owners, IsSpaceMove, Things, Outs}
-use Rattle.vol_owners.proofs.Moving.{moves_grow}
-use Rattle.vol_owners.proofs.Handing.{out_swaps}
+use Rattle.vol_spell.specs.Owners.{Owners, IsSpaceMove, Things, Outs}
+use Rattle.vol_spell.proofs.Moving.{moves_grow}
+use Rattle.vol_spell.proofs.Handing.{out_swaps}
 use Rattle.vol_under.specs.Guards.{IsCommandMove}
 use Rattle.vol_under.specs.UnderWay.{StandsAt}
 use Rattle.vol_under.specs.Chains.{End}
@@ -21,7 +21,7 @@ outside_series end g n cmd locks c x stock o s (v ∷ vs) ws bs own spelt at out
     let step = (step_kinds g n cmd locks c stock).outside v bs own x spelt h.whole h.owner stage out in
     (own, x, step, outside_series end g n cmd locks c x stock o s vs ws (slice_set bs v.lbn v.block) own step.spelt at outs (λ w t. all w (inr t)) rest)
 
-swapped : (n : ℕ) (own : Owners) (a b : Things) → Outs n own a b → Outs n own b a
+pub swapped : (n : ℕ) (own : Owners) (a b : Things) → Outs n own a b → Outs n own b a
 swapped n own a b h = record { clusters = out_swaps n own.clusters a.clusters b.clusters h.clusters; numbers = out_swaps n own.numbers a.numbers b.numbers h.numbers }
 
 -- what the space rule would do with the stock, a command may do with what it took

@@ -1,16 +1,16 @@
 -- Writes in turn to the blocks of one file.
-use Rattle.std.proofs.Common.{◌≡◌, ◌-◌, ◌++◌, ℕ, zero, suc, List, [], ◌∷◌, Option, Some, None, length, slice_get, slice_set, get_or, refl, sym, ap, subst, ◌∙◌, arith}
+use Rattle.std.proofs.Common.{◌≡◌, ◌-◌, ◌++◌, ℕ, List, [], ◌∷◌, Option, Some, None, length, slice_get, slice_set, get_or, refl, sym, ap, subst, ◌∙◌, arith}
 use Rattle.std.proofs.lemmas.Option.{slice_get-get_or}
-use Rattle.vol_words.specs.Fields.{Block, IsWholeBlock}
+use Rattle.base_words.specs.Fields.{Block, IsWholeBlock}
 use Rattle.lock_db.specs.declared.name.LockName.{LockName}
 use Rattle.plain_cat.specs.declared.command.Cmd.{Cmd}
 use Rattle.plain_cat.specs.declared.cat.Cat.{Cat}
 use Rattle.plain_cat.specs.declared.cat.Slot.{Slot}
 use Rattle.plain_cat.specs.declared.cat.Slot.TheVariants as slot
-use Rattle.plain_vol.specs.Changes.{with_slot}
-use Rattle.vol_owners.specs.Lists.{written}
-use Rattle.vol_owners.specs.Owners.{Owners, Things, Outs}
-use Rattle.vol_owners.proofs.Writing.{set-get}
+use Rattle.plain_rules.specs.Changes.{with_slot}
+use Rattle.base_words.specs.Lists.{written}
+use Rattle.vol_spell.specs.Owners.{Owners, Things, Outs}
+use Rattle.base_words.proofs.ListWrites.{set-get}
 use Rattle.vol_parts.specs.declared.geometry.Geometry.{Geometry}
 use Rattle.vol_parts.specs.Volumes.{fields_in, Told}
 use Rattle.vol_spell.specs.Reading.{IsFileNumber, told_of, body_places, body_blocks}
@@ -22,12 +22,7 @@ use Rattle.vol_under.specs.UnderWay.{PlannedWrite, bare, StandsAt}
 use Rattle.vol_under.specs.Chains.{End, Steps}
 use Rattle.vol_under.specs.Series.{slot_told, plan_of, body_after, BodyMoves, BodySeries}
 use Rattle.vol_under.proofs.Reach.{step_kinds}
-
--- the second item that is set at a place is the one that stays
-set_again : {A : Type 0} (xs : List A) (k : ℕ) (a b : A) → slice_set (slice_set xs k a) k b ≡ slice_set xs k b
-set_again [] k a b = refl
-set_again (x ∷ xs) zero a b = refl
-set_again (x ∷ xs) (suc k) a b = ap (λ ys. x ∷ ys) (set_again xs k a b)
+use Rattle.vol_spell.proofs.EntryMoves.{set_again}
 
 slot_again : (x : Cat) (i : ℕ) (s t : Slot) → with_slot (with_slot x i s) i t ≡ with_slot x i t
 slot_again x i s t = ap (λ (fs : List Slot). record x { files = fs }) (set_again x.files (i - 1) s t)

@@ -6,7 +6,7 @@ use Rattle.std.proofs.lemmas.Bool.Decides.{nat_tests}
 use Rattle.std.proofs.lemmas.List.{map-set}
 use Rattle.std.proofs.lemmas.List.Sums.{sum_by-cons}
 use Rattle.std.proofs.lemmas.Option.{slice_get_within, slice_get-get_or, slice_get-map}
-use Rattle.vol_words.specs.Fields.{Block}
+use Rattle.base_words.specs.Fields.{Block}
 use Rattle.fx_header.specs.declared.slot.Slot.{Slot as Head}
 use Rattle.fx_header.specs.declared.slot.Slot.TheVariants as head
 use Rattle.fx_header.specs.declared.slot.HeaderFault.{HeaderFault}
@@ -14,17 +14,17 @@ use Rattle.fx_header.specs.Headers.{header_read}
 use Rattle.plain_cat.specs.declared.cat.Cat.{Cat}
 use Rattle.plain_cat.specs.declared.cat.Slot.{Slot}
 use Rattle.plain_cat.specs.declared.cat.Slot.TheVariants as slot
-use Rattle.plain_vol.specs.Lookups.{is_free_slot, is_set, is_free_number, free_clusters}
-use Rattle.plain_vol.specs.Replaying.{flagged}
-use Rattle.vol_owners.specs.declared.owner.Owner.{Owner}
-use Rattle.vol_owners.specs.declared.owner.Owner.TheVariants.{Free, InFile, Outside, Leaked}
-use Rattle.vol_owners.specs.Lists.{Has, Once, written, Touches}
-use Rattle.vol_owners.specs.Owners.{Owners}
-use Rattle.vol_owners.specs.Hands.{handed, AreOf}
-use Rattle.vol_owners.specs.Counts.{is_same_owner}
-use Rattle.vol_owners.proofs.Listing.{has_parted}
-use Rattle.vol_owners.proofs.Writing.{touches_or_not, touched_alike, get-written_else, length-written}
-use Rattle.vol_owners.proofs.Counting.{handing_counts, out_counts}
+use Rattle.plain_rules.specs.Lookups.{is_free_slot, is_set, is_free_number, free_clusters}
+use Rattle.plain_rules.specs.Replaying.{flagged}
+use Rattle.vol_spell.specs.declared.owner.Owner.{Owner}
+use Rattle.vol_spell.specs.declared.owner.Owner.TheVariants.{Free, InFile, Outside, Leaked}
+use Rattle.base_words.specs.Lists.{Has, Once, written, Touches}
+use Rattle.vol_spell.specs.Owners.{Owners}
+use Rattle.vol_spell.specs.Hands.{handed, AreOf}
+use Rattle.vol_spell.specs.Counts.{is_same_owner}
+use Rattle.base_words.proofs.Listing.{has_parted}
+use Rattle.base_words.proofs.ListWrites.{touches_or_not, touched_alike, get-written_else, length-written}
+use Rattle.vol_spell.proofs.Counting.{handing_counts, out_counts}
 use Rattle.vol_parts.specs.declared.geometry.Geometry.{Geometry}
 use Rattle.vol_parts.specs.Volumes.{fields_in}
 use Rattle.vol_parts.specs.Catalogues.{slot_with}

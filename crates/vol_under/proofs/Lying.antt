@@ -1,9 +1,9 @@
 -- Writes done that lie over committed blocks.
 use Rattle.std.proofs.Common.{◌≡◌, ◌≢◌, ◌⊎◌, ℕ, List, [], ◌∷◌, ◌++◌, length, slice_get, slice_set, refl, sym, ap, subst, ◌∙◌, inl, inr, length-set}
-use Rattle.vol_words.specs.Fields.{Block}
-use Rattle.vol_owners.specs.Lists.{written, Touches}
-use Rattle.vol_owners.proofs.Listing.{same_or_not}
-use Rattle.vol_owners.proofs.Writing.{get-set_else, get-written_else, length-written, written_joined, touches_joined, touched_alike, touches_or_not}
+use Rattle.base_words.specs.Fields.{Block}
+use Rattle.base_words.specs.Lists.{written, Touches}
+use Rattle.base_words.proofs.Listing.{same_or_not}
+use Rattle.base_words.proofs.ListWrites.{get-set_else, get-written_else, length-written, written_joined, touches_joined, touched_alike, touches_or_not}
 use Rattle.vol_under.specs.Under.{IsOver}
 
 on_list : (a b : List (ℕ × Block)) (l : ℕ) → a ≡ b → Touches a l → Touches b l

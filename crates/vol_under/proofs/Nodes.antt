@@ -1,8 +1,8 @@
 -- Nodes that change, and their plans.
 use Rattle.std.proofs.Common.{◌≡◌, ◌≢◌, ◌+◌, ℕ, zero, suc, List, [], ◌∷◌, ◌++◌, Some, None, slice_get, take, refl, sym, ap, subst, inl, inr, arith}
 use Rattle.std.proofs.lemmas.Bool.Decides.{nat_tests}
-use Rattle.vol_owners.specs.Lists.{Touches}
-use Rattle.vol_owners.proofs.Listing.{same_or_not}
+use Rattle.base_words.specs.Lists.{Touches}
+use Rattle.base_words.proofs.Listing.{same_or_not}
 use Rattle.vol_under.specs.UnderWay.{PlannedWrite, bare, UnderWay, writes_to, changed}
 
 pub changed_here : (nodes : ℕ → UnderWay) (n : ℕ) (u : UnderWay) → changed nodes n u n ≡ u

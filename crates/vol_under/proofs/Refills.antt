@@ -2,17 +2,17 @@
 use Rattle.std.proofs.Common.{◌≡◌, ◌≢◌, ◌<◌, ◌+◌, ◌-◌, ◌*◌, ◌/◌, ◌%◌, ◌⊎◌, ℕ, true, false, List, [], Some, slice_get, slice_set, refl, sym, ap, ◌∙◌, inl, inr, arith}
 use Rattle.std.specs.Prelude.{◌↔◌, slice_index_or}
 use Rattle.std.proofs.lemmas.Option.{get_or_from_slice_get}
-use Rattle.vol_words.specs.Fields.{Block}
+use Rattle.base_words.specs.Fields.{Block}
 use Rattle.fx_bitmap.specs.Bits.{bit_at}
 use Rattle.plain_cat.specs.declared.cat.Cat.{Cat}
-use Rattle.vol_owners.specs.declared.owner.Owner.{Owner}
-use Rattle.vol_owners.specs.declared.owner.Owner.TheVariants.{Free, Outside}
-use Rattle.vol_owners.specs.Lists.{Once, Parts}
-use Rattle.vol_owners.specs.Owners.{Owners, Moves, IsSpaceMove, AreOut}
-use Rattle.vol_owners.specs.Hands.{handed, AreOf}
-use Rattle.vol_owners.proofs.Listing.{same_or_not}
-use Rattle.vol_owners.proofs.Moving.{still}
-use Rattle.vol_owners.proofs.Handing.{handed_moves, are_handed, out_swaps, outside_to_free, free_to_stock}
+use Rattle.vol_spell.specs.declared.owner.Owner.{Owner}
+use Rattle.vol_spell.specs.declared.owner.Owner.TheVariants.{Free, Outside}
+use Rattle.base_words.specs.Lists.{Once, Parts}
+use Rattle.vol_spell.specs.Owners.{Owners, Moves, IsSpaceMove, AreOut}
+use Rattle.vol_spell.specs.Hands.{handed, AreOf}
+use Rattle.base_words.proofs.Listing.{same_or_not}
+use Rattle.vol_spell.proofs.Moving.{still}
+use Rattle.vol_spell.proofs.Handing.{handed_moves, are_handed, out_swaps, outside_to_free, free_to_stock}
 use Rattle.vol_parts.specs.declared.geometry.Geometry.{Geometry}
 use Rattle.vol_parts.specs.declared.geometry.Part.TheVariants.{IndexBitmap, Storage}
 use Rattle.vol_parts.specs.Parts.{part_of}

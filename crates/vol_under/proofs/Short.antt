@@ -5,7 +5,7 @@ use Rattle.std.specs.List.{range_with_len}
 use Rattle.std.proofs.lemmas.Bool.Decides.{nat_tests}
 use Rattle.std.proofs.lemmas.List.Sums.{sum_by-cons}
 use Rattle.std.proofs.lemmas.Option.{slice_get_within, slice_get-map}
-use Rattle.vol_words.specs.Fields.{Block}
+use Rattle.base_words.specs.Fields.{Block}
 use Rattle.fx_header.specs.declared.slot.Slot.{Slot as Head}
 use Rattle.fx_header.specs.declared.slot.Slot.TheVariants as head
 use Rattle.fx_header.specs.declared.slot.HeaderFault.{HeaderFault}
@@ -13,13 +13,13 @@ use Rattle.fx_header.specs.Headers.{header_read}
 use Rattle.plain_cat.specs.declared.cat.Cat.{Cat}
 use Rattle.plain_cat.specs.declared.cat.Slot.{Slot}
 use Rattle.plain_cat.specs.declared.cat.Slot.TheVariants as slot
-use Rattle.plain_vol.specs.Lookups.{slot_at, last_seq, is_free_slot, is_set, is_leaked, is_free_number, free_clusters}
-use Rattle.plain_vol.proofs.Standing.{stands_free}
-use Rattle.vol_owners.specs.declared.owner.Owner.{Owner}
-use Rattle.vol_owners.specs.declared.owner.Owner.TheVariants.{Free, InFile, Outside, Leaked}
-use Rattle.vol_owners.specs.Owners.{Owners, nothing, Outs}
-use Rattle.vol_owners.specs.Counts.{is_same_owner}
-use Rattle.vol_owners.proofs.Listing.{has_parted, has_first, has_second}
+use Rattle.plain_rules.specs.Lookups.{slot_at, last_seq, is_free_slot, is_set, is_leaked, is_free_number, free_clusters}
+use Rattle.plain_rules.proofs.Standing.{stands_free, first_true}
+use Rattle.vol_spell.specs.declared.owner.Owner.{Owner}
+use Rattle.vol_spell.specs.declared.owner.Owner.TheVariants.{Free, InFile, Outside, Leaked}
+use Rattle.vol_spell.specs.Owners.{Owners, nothing, Outs}
+use Rattle.vol_spell.specs.Counts.{is_same_owner}
+use Rattle.base_words.proofs.Listing.{has_parted, has_first, has_second}
 use Rattle.vol_parts.specs.declared.geometry.Geometry.{Geometry}
 use Rattle.vol_parts.specs.Volumes.{fields_in}
 use Rattle.vol_parts.specs.Catalogues.{slot_with}
@@ -68,10 +68,6 @@ used_slot : (n factor : ℕ) (r : Result Head HeaderFault) (blocks : List Block)
 used_slot n factor (Ok (head.Used f)) blocks s used e = ap (λ (x : Slot). is_free_slot (Some x)) (sym e)
 used_slot n factor (Ok (head.Free seq)) blocks s used e = absurd (let h : false ≡ true = used in cc)
 used_slot n factor (Err fault) blocks s used e = absurd (let h : false ≡ true = used in cc)
-
-first_true : (a b : Bool) → a && b ≡ true → a ≡ true
-first_true true b h = refl
-first_true false b h = h
 
 second_false : (a b : Bool) → a && not b ≡ true → b ≡ false
 second_false true true h = let f : false ≡ true = h in absurd (cc)

@@ -1,18 +1,18 @@
 -- What each event leaves of the drive under way.
 use Rattle.std.proofs.Common.{◌≡◌, ◌≢◌, ◌≤◌, ◌+◌, ℕ, zero, suc, List, [], ◌∷◌, Option, Some, None, length, slice_get, slice_set, refl, sym, ap, subst, ◌∙◌, inl, inr, arith}
 use Rattle.std.proofs.lemmas.Option.{slice_get_within}
-use Rattle.vol_words.specs.Fields.{Block}
+use Rattle.base_words.specs.Fields.{Block}
 use Rattle.lock_db.specs.declared.name.LockName.{LockName}
 use Rattle.plain_cat.specs.declared.command.Cmd.{Cmd}
 use Rattle.plain_cat.specs.declared.cat.Cat.{Cat}
-use Rattle.plain_vol.specs.Stages.{staged}
-use Rattle.plain_vol.proofs.LawSteps.{pick_exists}
-use Rattle.vol_owners.specs.declared.owner.Owner.{Owner}
-use Rattle.vol_owners.specs.Lists.{Has, written, Touches, StandsIn}
-use Rattle.vol_owners.specs.Owners.{Owners, OwnersMove, IsSpaceMove, Things, nothing, Outs}
-use Rattle.vol_owners.proofs.Moving.{still, moves_grow}
-use Rattle.vol_owners.proofs.Handing.{out_regroups}
-use Rattle.vol_owners.proofs.Writing.{stands_still}
+use Rattle.plain_rules.specs.Stages.{staged}
+use Rattle.plain_rules.proofs.LawSteps.{pick_exists}
+use Rattle.vol_spell.specs.declared.owner.Owner.{Owner}
+use Rattle.base_words.specs.Lists.{Has, written, Touches, StandsIn}
+use Rattle.vol_spell.specs.Owners.{Owners, OwnersMove, IsSpaceMove, Things, nothing, Outs}
+use Rattle.vol_spell.proofs.Moving.{still, moves_grow}
+use Rattle.vol_spell.proofs.Handing.{out_regroups}
+use Rattle.base_words.proofs.ListWrites.{stands_still}
 use Rattle.vol_parts.specs.declared.geometry.Geometry.{Geometry}
 use Rattle.vol_parts.specs.Volumes.{volume, geometry_of}
 use Rattle.vol_spell.specs.Accepting.{owners_told}
@@ -21,9 +21,10 @@ use Rattle.vol_under.specs.Guards.{Guard, guard_of, MayWrite, MayLook, IsCommand
 use Rattle.vol_under.specs.UnderWay.{bare, UnderWay, first_stage, writes_to, outs_at, together, resting, idle, changed, AreSole, StandsAt}
 use Rattle.vol_under.specs.Under.{IsLawful, IsUnder}
 use Rattle.vol_under.specs.Keeping.{IdleLawful, RestStands, MountStands, NodesAlike, WriteKeeps, CommitKeeps, StopKeeps, BitsKeep, HeldStands, LookKeeps, PlanKeeps, GrantKeeps, ReadyKeeps}
-use Rattle.vol_under.proofs.Guarding.{guard_stays, command_write, command_look, space_look, space_command, wider_command, wider_write, wider_look, alone, unlooked, outs_stay, bitmap_guard}
+use Rattle.vol_under.proofs.Guarding.{guard_stays, space_look, space_command, wider_command, wider_write, wider_look, alone, unlooked, outs_stay, bitmap_guard}
 use Rattle.vol_under.proofs.Lying.{over_write, over_commit, over_base, over_same, over_none}
 use Rattle.vol_under.proofs.Nodes.{each, done_here, done_else, done_alike, writes_next, done_in, next_in, no_writes}
+use Rattle.vol_under.proofs.Planning.{others_write, others_look, stands_else}
 
 -- a command stands at its first stage where the catalogue is as it was
 pub stands_first : (c : Cat) (n : ℕ) (cmd : Option Cmd) → StandsAt c n cmd (first_stage cmd) c
@@ -107,15 +108,6 @@ write_keeps g c nodes drive n w sole u next =
       seen_guarded = each (λ m v. (l : ℕ) → Touches v.seen l → MayLook v.read (guard_of g u.own l)) nodes n more (u.seen_guarded n) (λ m ne. u.seen_guarded m);
     }
 
--- what node n moves as a command leaves the guards of the other nodes
-others_write : (g : Geometry) (nodes : ℕ → UnderWay) (own new : Owners) (n m l : ℕ) → AreSole nodes → OwnersMove (IsCommandMove n (nodes n).write) own new → m ≢ n → MayWrite m (nodes m).write (guard_of g own l) → MayWrite m (nodes m).write (guard_of g new l)
-others_write g nodes own new n m l sole moves ne h =
-    guard_stays (IsCommandMove n (nodes n).write) (λ x. MayWrite m (nodes m).write x) g own new l (command_write n m (nodes n).write (nodes m).write ne (λ x s t. ne (sym (sole.writers n m x s t)))) moves h
-
-others_look : (g : Geometry) (nodes : ℕ → UnderWay) (own new : Owners) (n m l : ℕ) → AreSole nodes → OwnersMove (IsCommandMove n (nodes n).write) own new → m ≢ n → MayLook (nodes m).read (guard_of g own l) → MayLook (nodes m).read (guard_of g new l)
-others_look g nodes own new n m l sole moves ne h =
-    guard_stays (IsCommandMove n (nodes n).write) (λ x. MayLook (nodes m).read x) g own new l (command_look n (nodes n).write (nodes m).read (λ x s t. ne (sym (sole.readers n m x s t)))) moves h
-
 pub commit_keeps : CommitKeeps
 commit_keeps g c nodes drive n sole u law =
     let rest : UnderWay = idle (nodes n) in
@@ -141,9 +133,6 @@ pub stop_keeps : StopKeeps
 stop_keeps g c nodes drive n sole u knows =
     let law = u.lawful n u.base u.own c (nodes n).stock (nodes n).done u.spelt knows (u.stands n) (u.outs n) (u.within n) in
     (law.cat, law.stage, commit_keeps g c nodes drive n sole u law)
-
-stands_else : (base : List Block) (l : ℕ) (b : Block) (ss : List (ℕ × Block)) → (Touches ss l → ⊥) → StandsIn base ss → StandsIn (slice_set base l b) ss
-stands_else base l b ss away s = stands_still ((l, b) ∷ []) base ss (λ k t u. away (elim t [ inl e ↦ subst (λ (j : ℕ). Touches ss j) (sym e) u | inr f ↦ absurd f ])) s
 
 pub bits_keep : BitsKeep
 bits_keep g c nodes drive n l old b stock sole u no_plan bitmap holds unseen at refill =

@@ -1,11 +1,11 @@
 -- Nodes that stop in turn.
 use Rattle.std.proofs.Common.{◌≡◌, ◌≢◌, ◌⊎◌, ℕ, List, [], ◌∷◌, refl, sym, ap, subst, ◌∙◌, inl, inr}
-use Rattle.vol_words.specs.Fields.{Block}
+use Rattle.base_words.specs.Fields.{Block}
 use Rattle.lock_db.specs.declared.name.LockName.{LockName}
 use Rattle.plain_cat.specs.declared.cat.Cat.{Cat}
-use Rattle.vol_owners.specs.Lists.{Has, Once, Touches}
-use Rattle.vol_owners.specs.Owners.{Owners, Things, nothing, Outs}
-use Rattle.vol_owners.proofs.Listing.{has_or_not}
+use Rattle.base_words.specs.Lists.{Has, Once, Touches}
+use Rattle.vol_spell.specs.Owners.{Owners, Things, nothing, Outs}
+use Rattle.base_words.proofs.Listing.{has_or_not}
 use Rattle.vol_parts.specs.declared.geometry.Geometry.{Geometry}
 use Rattle.vol_spell.specs.Spelling.{Spells}
 use Rattle.vol_under.specs.UnderWay.{UnderWay, writes_to, stage_at, outs_at, together, all_out, resting, idle, changed, AreSole, StandsAt}

@@ -1,6 +1,6 @@
 -- Plans as chains of writes: each takes blocks that spell one stage to blocks that spell the next.
 use Rattle.std.specs.Prelude.{◌≡◌, ◌≤◌, ◌<◌, ◌-◌, ◌↔◌, ℕ, true, false, List, [], ◌∷◌, Option, Some, length, map, take, slice_get, slice_set}
-use Rattle.vol_words.specs.Fields.{Block, IsWholeBlock}
+use Rattle.base_words.specs.Fields.{Block, IsWholeBlock}
 use Rattle.lock_db.specs.declared.name.LockName.{LockName}
 use Rattle.lock_db.specs.declared.name.LockName.TheVariants.{S}
 use Rattle.plain_cat.specs.declared.command.Cmd.{Cmd}
@@ -9,11 +9,11 @@ use Rattle.plain_cat.specs.declared.reply.Reply.{Reply}
 use Rattle.plain_cat.specs.declared.cat.Cat.{Cat}
 use Rattle.plain_cat.specs.declared.cat.Open.{Open}
 use Rattle.plain_cat.specs.declared.cat.Slot.{Slot}
-use Rattle.plain_vol.specs.Answers.{Answer}
-use Rattle.plain_vol.specs.Changes.{with_slot}
-use Rattle.vol_owners.specs.declared.owner.Owner.TheVariants.{Free, Outside}
-use Rattle.vol_owners.specs.Lists.{Has, Once, written, StandsIn}
-use Rattle.vol_owners.specs.Owners.{Owners, Moves, OwnersMove, IsSpaceMove, Things, Outs}
+use Rattle.plain_rules.specs.Answers.{Answer}
+use Rattle.plain_rules.specs.Changes.{with_slot}
+use Rattle.vol_spell.specs.declared.owner.Owner.TheVariants.{Free, Outside}
+use Rattle.base_words.specs.Lists.{Has, Once, written, StandsIn}
+use Rattle.vol_spell.specs.Owners.{Owners, Moves, OwnersMove, IsSpaceMove, Things, Outs}
 use Rattle.vol_parts.specs.declared.geometry.Geometry.{Geometry}
 use Rattle.vol_parts.specs.declared.geometry.Part.TheVariants.{IndexBitmap, Storage, Quota}
 use Rattle.vol_parts.specs.Parts.{part_of}

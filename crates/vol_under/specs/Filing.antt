@@ -1,9 +1,9 @@
 -- What goes into a file, or out of it, with a new header.
 use Rattle.std.specs.Prelude.{◌≡◌, ◌⊎◌, ◌↔◌, ℕ, Some, slice_get}
-use Rattle.vol_owners.specs.declared.owner.Owner.TheVariants.{InFile, Outside}
-use Rattle.vol_owners.specs.Lists.{Has, Once}
-use Rattle.vol_owners.specs.Owners.{Owners, OwnersMove, IsFileMove, Things, nothing, Outs}
-use Rattle.vol_owners.specs.Hands.{handed, AreOf}
+use Rattle.vol_spell.specs.declared.owner.Owner.TheVariants.{InFile, Outside}
+use Rattle.base_words.specs.Lists.{Has, Once}
+use Rattle.vol_spell.specs.Owners.{Owners, OwnersMove, IsFileMove, Things, nothing, Outs}
+use Rattle.vol_spell.specs.Hands.{handed, AreOf}
 use Rattle.vol_under.specs.UnderWay.{together}
 
 -- the owners after these things went into file i

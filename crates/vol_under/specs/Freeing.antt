@@ -1,13 +1,13 @@
 -- Writes in turn to blocks that a node has outside, and to the storage bitmap where clusters of a command become free.
 use Rattle.std.specs.Prelude.{◌≡◌, ◌++◌, ℕ, List, [], ◌∷◌, Option, Some, slice_get, slice_set}
-use Rattle.vol_words.specs.Fields.{Block, IsWholeBlock}
+use Rattle.base_words.specs.Fields.{Block, IsWholeBlock}
 use Rattle.lock_db.specs.declared.name.LockName.{LockName}
 use Rattle.plain_cat.specs.declared.command.Cmd.{Cmd}
 use Rattle.plain_cat.specs.declared.history.Stage.{Stage}
 use Rattle.plain_cat.specs.declared.cat.Cat.{Cat}
-use Rattle.vol_owners.specs.declared.owner.Owner.TheVariants.{Outside}
-use Rattle.vol_owners.specs.Lists.{Has, Once, Parts, written}
-use Rattle.vol_owners.specs.Owners.{Owners, Things, Outs}
+use Rattle.vol_spell.specs.declared.owner.Owner.TheVariants.{Outside}
+use Rattle.base_words.specs.Lists.{Has, Once, Parts, written}
+use Rattle.vol_spell.specs.Owners.{Owners, Things, Outs}
 use Rattle.vol_parts.specs.declared.geometry.Geometry.{Geometry}
 use Rattle.vol_parts.specs.declared.geometry.Part.TheVariants.{Storage}
 use Rattle.vol_parts.specs.Parts.{part_of}

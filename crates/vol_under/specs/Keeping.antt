@@ -1,14 +1,14 @@
 -- What each event leaves of the drive under way.
 use Rattle.std.specs.Prelude.{◌≡◌, ◌≤◌, ◌+◌, ◌⊎◌, ℕ, Bool, true, List, [], ◌∷◌, Option, Some, Ok, length, take, slice_get, slice_set}
-use Rattle.vol_words.specs.Fields.{Block, AreWholeBlocks}
+use Rattle.base_words.specs.Fields.{Block, AreWholeBlocks}
 use Rattle.fx_home.specs.declared.home.Home.{Home}
 use Rattle.fx_home.specs.Homes.{home_read}
 use Rattle.lock_db.specs.declared.name.LockName.{LockName}
 use Rattle.lock_db.specs.declared.name.LockName.TheVariants.{V}
 use Rattle.plain_cat.specs.declared.command.Cmd.{Cmd}
 use Rattle.plain_cat.specs.declared.cat.Cat.{Cat}
-use Rattle.vol_owners.specs.Lists.{Has, Touches, StandsIn}
-use Rattle.vol_owners.specs.Owners.{Owners, OwnersMove, IsSpaceMove, Things, nothing, Outs}
+use Rattle.base_words.specs.Lists.{Has, Touches, StandsIn}
+use Rattle.vol_spell.specs.Owners.{Owners, OwnersMove, IsSpaceMove, Things, nothing, Outs}
 use Rattle.vol_parts.specs.declared.geometry.Geometry.{Geometry}
 use Rattle.vol_parts.specs.declared.geometry.Part.TheVariants.{IndexBitmap, Storage}
 use Rattle.vol_parts.specs.Parts.{part_of}

@@ -4,7 +4,7 @@ use Rattle.plain_cat.specs.declared.command.Cmd.{Cmd}
 use Rattle.plain_cat.specs.declared.command.Cmd.TheVariants as cmd
 use Rattle.plain_cat.specs.declared.history.Stage.{Stage}
 use Rattle.plain_cat.specs.declared.cat.Cat.{Cat}
-use Rattle.plain_vol.specs.Lookups.{place}
+use Rattle.plain_rules.specs.Lookups.{place}
 use Rattle.vol_under.specs.UnderWay.{StandsAt}
 
 -- all channels have open what they had, or the command is a CLOSE of this channel, which has nothing open any more

@@ -1,10 +1,10 @@
 -- The bitmap writes of the space rule: what is free goes to a node's stock, or what is of the stock becomes free.
 use Rattle.std.specs.Prelude.{◌≡◌, ◌<◌, ◌/◌, ◌%◌, ◌⊎◌, ◌↔◌, ◌++◌, ℕ, true, false, List, Some, slice_get}
-use Rattle.vol_words.specs.Fields.{Block, IsWholeBlock}
+use Rattle.base_words.specs.Fields.{Block, IsWholeBlock}
 use Rattle.fx_bitmap.specs.Bits.{bit_at}
 use Rattle.plain_cat.specs.declared.cat.Cat.{Cat}
-use Rattle.vol_owners.specs.Lists.{Has, Once, Parts}
-use Rattle.vol_owners.specs.Owners.{Owners, Things, Outs}
+use Rattle.base_words.specs.Lists.{Has, Once, Parts}
+use Rattle.vol_spell.specs.Owners.{Owners, Things, Outs}
 use Rattle.vol_parts.specs.declared.geometry.Geometry.{Geometry}
 use Rattle.vol_parts.specs.declared.geometry.Part.TheVariants.{IndexBitmap, Storage}
 use Rattle.vol_parts.specs.Parts.{part_of}

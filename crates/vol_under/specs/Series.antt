@@ -1,13 +1,13 @@
 -- Writes in turn to the blocks of one file, as the insertion of an entry into a directory, or its removal.
 use Rattle.std.specs.Prelude.{◌≡◌, ◌++◌, ℕ, List, [], ◌∷◌, Option, Some, None, map, slice_get, slice_set}
-use Rattle.vol_words.specs.Fields.{Block, IsWholeBlock}
+use Rattle.base_words.specs.Fields.{Block, IsWholeBlock}
 use Rattle.lock_db.specs.declared.name.LockName.{LockName}
 use Rattle.plain_cat.specs.declared.command.Cmd.{Cmd}
 use Rattle.plain_cat.specs.declared.cat.Cat.{Cat}
 use Rattle.plain_cat.specs.declared.cat.Slot.{Slot}
-use Rattle.plain_vol.specs.Changes.{with_slot}
-use Rattle.vol_owners.specs.Lists.{written}
-use Rattle.vol_owners.specs.Owners.{Owners, Things, Outs}
+use Rattle.plain_rules.specs.Changes.{with_slot}
+use Rattle.base_words.specs.Lists.{written}
+use Rattle.vol_spell.specs.Owners.{Owners, Things, Outs}
 use Rattle.vol_parts.specs.declared.geometry.Geometry.{Geometry}
 use Rattle.vol_parts.specs.Volumes.{fields_in, Told}
 use Rattle.vol_parts.specs.Catalogues.{slot_with}

@@ -1,12 +1,12 @@
 -- What is free by the catalogue is free by the bits, where nothing is outside at any node.
 use Rattle.std.specs.Prelude.{◌≡◌, ◌↔◌, ◌++◌, ℕ, true, false, List, count_by}
 use Rattle.std.specs.List.{range_with_len}
-use Rattle.vol_words.specs.Fields.{Block}
+use Rattle.base_words.specs.Fields.{Block}
 use Rattle.plain_cat.specs.declared.cat.Cat.{Cat}
-use Rattle.plain_vol.specs.Lookups.{free_clusters, is_free_number}
-use Rattle.vol_owners.specs.declared.owner.Owner.{Owner}
-use Rattle.vol_owners.specs.Lists.{Has, Once}
-use Rattle.vol_owners.specs.Owners.{Owners, nothing, AreOut, Outs}
+use Rattle.plain_rules.specs.Lookups.{free_clusters, is_free_number}
+use Rattle.vol_spell.specs.declared.owner.Owner.{Owner}
+use Rattle.base_words.specs.Lists.{Has, Once}
+use Rattle.vol_spell.specs.Owners.{Owners, nothing, AreOut, Outs}
 use Rattle.vol_parts.specs.declared.geometry.Geometry.{Geometry}
 use Rattle.vol_spell.specs.Reading.{IsFileNumber, total_of, cluster_bit, number_bit}
 use Rattle.vol_spell.specs.Spelling.{Spells}

@@ -1,10 +1,10 @@
 -- The drive of a world with commands under way: the committed blocks, which spell the catalogue of the history, and over them
 -- the writes done of each command under way.
 use Rattle.std.specs.Prelude.{◌≡◌, ◌≤◌, ℕ, true, List, length, slice_get}
-use Rattle.vol_words.specs.Fields.{Block}
+use Rattle.base_words.specs.Fields.{Block}
 use Rattle.plain_cat.specs.declared.cat.Cat.{Cat}
-use Rattle.vol_owners.specs.Lists.{written, Touches, StandsIn}
-use Rattle.vol_owners.specs.Owners.{Owners, OwnersMove, Things, Outs}
+use Rattle.base_words.specs.Lists.{written, Touches, StandsIn}
+use Rattle.vol_spell.specs.Owners.{Owners, OwnersMove, Things, Outs}
 use Rattle.vol_parts.specs.declared.geometry.Geometry.{Geometry}
 use Rattle.vol_spell.specs.Spelling.{Spells}
 use Rattle.vol_under.specs.Guards.{guard_of, MayWrite, MayLook, IsCommandMove}

@@ -4,7 +4,7 @@ ghost use Rattle.std.specs.Prelude.{ℕ, List, Option};
 ghost use Rattle.lock_db.specs.declared.name.LockName.{LockName};
 ghost use Rattle.plain_cat.specs.declared.command.Cmd.{Cmd};
 ghost use Rattle.plain_cat.specs.declared.cat.Cat.{Cat};
-ghost use Rattle.vol_owners.specs.Owners.{Things};
+ghost use Rattle.vol_spell.specs.Owners.{Things};
 ghost use Rattle.vol_parts.specs.declared.geometry.Geometry.{Geometry};
 ghost use Rattle.vol_under.specs.Keeping.{IdleLawful, RestStands, MountStands, NodesAlike, WriteKeeps, CommitKeeps, StopKeeps, BitsKeep, HeldStands, LookKeeps, PlanKeeps, GrantKeeps, ReadyKeeps};
 ghost use Rattle.vol_under.specs.Ending.{OpensKeep, OutsideMayLeak, LeakKeeps, DeathKeeps};

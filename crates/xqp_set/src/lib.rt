@@ -10,11 +10,11 @@
 //! It takes each command whose numbers, names and texts are in form (`IsBuilt`). `next` gives exactly the next need of that
 //! command, and `of` promises the law of a command (`lawful`): each of the fifteen obeys it (`laws::commands_obey_the_law`). The
 //! top call runs the core with it.
+//!
+//! The top calls (`clus_top`, `live_run`) run worlds of it.
 #![tactic(auto)]
 
 pub mod laws;
 mod set;
-#[cfg(test)]
-mod tests;
 
 pub use set::XqpOp;

@@ -1,5 +1,5 @@
 use Rattle.std.proofs.Common.{◌≡◌, ◌<◌, ◌&&◌, ℕ, length, nat_le, nat_lt, List, Bool, if◌then◌else◌}
-use Rattle.vol_words.specs.Fields.{IsBytes}
+use Rattle.base_words.specs.Fields.{IsBytes}
 use Rattle.fx_bitmap.specs.Bits.{bit_at}
 use Rattle.fx_bitmap.proofs.put_bits.Given as goal
 

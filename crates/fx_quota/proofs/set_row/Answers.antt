@@ -1,6 +1,6 @@
 use Rattle.std.proofs.Common.{◌≡◌, ◌∙◌, ap, rules, ◌*◌}
 use Rattle.fx_quota.specs.Rows.{row_at, row_put}
-use Rattle.vol_words.proofs.Puts.{field-lt}
+use Rattle.base_words.proofs.Puts.{field-lt}
 use Rattle.fx_quota.proofs.Reading.{Fits, row_at-put}
 use Rattle.fx_quota.proofs.set_row.Goals as goal
 

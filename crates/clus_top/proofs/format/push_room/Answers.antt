@@ -1,5 +1,6 @@
 use Rattle.std.proofs.Common.{◌∙◌, ◌++◌, ℕ, ap, codes}
-use Rattle.clus_top.specs.Statuses.{counted, room_text}
+use Rattle.clus_top.specs.Statuses.{room_text}
+use Rattle.run_engine.specs.Summaries.{counted}
 use Rattle.clus_top.proofs.Pushed.{three_pushed}
 use Rattle.clus_top.proofs.format.push_room.Goals as goal
 

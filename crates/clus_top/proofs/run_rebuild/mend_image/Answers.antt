@@ -1,5 +1,5 @@
 use Rattle.std.proofs.Common.{subst}
-use Rattle.run_top.proofs.Results.{if_err, if_ok}
+use Rattle.run_engine.proofs.Results.{if_err, if_ok}
 use Rattle.clus_top.specs.Halts.{IsMendedIn, IsHaltIn}
 use Rattle.clus_top.proofs.Halting.{passed_on, mended_on, halt_on}
 use Rattle.clus_top.proofs.run_rebuild.mend_image.Goals as goal

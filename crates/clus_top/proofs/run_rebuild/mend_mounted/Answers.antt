@@ -1,13 +1,15 @@
 use Rattle.std.proofs.Common.{◌∙◌, sym, ap, subst}
-use Rattle.run_top.specs.declared.mending.Halt.TheVariants as halt
-use Rattle.run_top.proofs.Results.{if_err, if_ok}
+use Rattle.run_engine.specs.declared.over_mending.Halt.TheVariants as halt
+use Rattle.run_engine.proofs.Results.{if_err, if_ok}
 use Rattle.clus_top.specs.Halts.{IsMendedIn, IsHaltIn}
-use Rattle.run_top.proofs.Commands.{only_built}
+use Rattle.xqp_set.specs.Built.{IsBuilt}
+use Rattle.xqp_set.proofs.Forms.{filled_built, close_built}
+use Rattle.run_engine.proofs.Commands.{only_such}
 use Rattle.clus_top.proofs.Halting.{mended_of_mounted, halt_of_mounted, mount_halt}
 use Rattle.clus_top.proofs.run_rebuild.mend_mounted.Goals as goal
 
 pub mount-requires-clause-taken : goal.mount-requires-clause-taken
-mount-requires-clause-taken g c = only_built c.args.script.now c.requires.form
+mount-requires-clause-taken g c = only_such IsBuilt filled_built close_built c.args.script.now c.requires.form
 
 pub returns-in-Ok-clause-report : goal.returns-in-Ok-clause-report
 returns-in-Ok-clause-report g c =

@@ -1,8 +1,8 @@
 use Rattle.std.proofs.Common.{◌∙◌, ℕ, List, All, sym, subst}
 use Rattle.core_state.specs.Worlds.{IsOfWorld}
 use Rattle.run_engine.proofs.Driving.{told_well}
-use Rattle.run_top.proofs.Results.{if_err, if_ok}
-use Rattle.run_top.proofs.MendedDrives.{told_now}
+use Rattle.run_engine.proofs.Results.{if_err, if_ok}
+use Rattle.run_engine.proofs.MendedDrives.{told_now}
 use Rattle.clus_top.specs.Ends.{IsStopBy}
 use Rattle.clus_top.specs.Halts.{IsHaltIn}
 use Rattle.clus_top.proofs.Reported.{plays_of_world, run_stop}

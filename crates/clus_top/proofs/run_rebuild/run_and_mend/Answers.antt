@@ -1,6 +1,6 @@
-use Rattle.run_top.specs.Scripts.{IsScriptOf}
-use Rattle.run_top.proofs.Results.{if_err, if_ok}
-use Rattle.run_top.proofs.Given.{spells, good}
+use Rattle.run_engine.specs.Scripts.{IsScriptOf}
+use Rattle.run_engine.proofs.Results.{if_err, if_ok}
+use Rattle.run_engine.proofs.Given.{spells, good}
 use Rattle.clus_top.proofs.Halting.{report_of, both_on, halt_image, run_halt}
 use Rattle.clus_top.proofs.run_rebuild.run_and_mend.Goals as goal
 

@@ -1,8 +1,8 @@
 use Rattle.std.proofs.Common.{Some}
-use Rattle.run_top.specs.Scripts.{IsScriptOf}
+use Rattle.run_engine.specs.Scripts.{IsScriptOf}
 use Rattle.clus_top.specs.Statuses.{IsTextOf}
 use Rattle.clus_top.specs.Words.{RunRebuild}
-use Rattle.run_top.proofs.Results.{err_is}
+use Rattle.run_engine.proofs.Results.{err_is}
 use Rattle.clus_top.proofs.Told.{due_told, script_told, image_told, out_told, written_told, after_told}
 use Rattle.clus_top.proofs.top.run_rebuild.Goals as goal
 

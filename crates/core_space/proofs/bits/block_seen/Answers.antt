@@ -4,9 +4,6 @@ use Rattle.core_space.specs.Giving.{found_block}
 use Rattle.core_space.proofs.Loops.{found_at, none_to}
 use Rattle.core_space.proofs.bits.block_seen.Goals as goal
 
-is_it : (a b : ℕ) → a ≡ b → (a == b) ≡ true
-is_it a b e = grind (arith, nat_tests)
-
 pub returns-then-seen-lbn : goal.returns-then-seen-lbn
 returns-then-seen-lbn c =
     sym (ap found_block (found_at (λ b. b.0 == c.args.lbn) c.args.looked.now c.loop-seen.seen-index (0, []) c.loop-seen.invariant c.loop-seen-test.true

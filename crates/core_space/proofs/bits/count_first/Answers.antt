@@ -1,8 +1,8 @@
 use Rattle.std.proofs.Common.{◌≡◌, ◌∙◌, ◌<◌, ◌+◌, ℕ, [], length, take, get_or, ap, arith}
 use Rattle.std.proofs.lemmas.List.{get_or-map, length-map}
-use Rattle.vol_words.specs.Fields.{Block}
-use Rattle.node_space.specs.Searching.{free_in, free_from}
-use Rattle.node_space.specs.Answering.{blocks_of}
+use Rattle.base_words.specs.Fields.{Block}
+use Rattle.core_space.specs.Searching.{free_in, free_from}
+use Rattle.core_space.specs.Answering.{blocks_of}
 use Rattle.core_space.proofs.Loops.{none_free, frees_more}
 use Rattle.core_space.proofs.bits.count_first.Goals as goal
 

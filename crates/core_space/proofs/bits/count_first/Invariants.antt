@@ -1,6 +1,6 @@
 use Rattle.std.proofs.Common.{◌≡◌, ◌≤◌, ◌*◌, take, length}
-use Rattle.node_space.specs.Searching.{free_from}
-use Rattle.node_space.specs.Answering.{blocks_of}
+use Rattle.core_space.specs.Searching.{free_from}
+use Rattle.core_space.specs.Answering.{blocks_of}
 use Rattle.core_space.proofs.bits.count_first.Given as goal
 
 abbrev pub invariant-loop-k : goal.invariant-loop-k

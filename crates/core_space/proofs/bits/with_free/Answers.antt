@@ -1,10 +1,13 @@
 use Rattle.std.proofs.Common.{◌∙◌, ◌%◌, true, filter, take, get_or, sym, ap, arith}
 use Rattle.std.proofs.lemmas.Bool.Decides.{nat_tests}
-use Rattle.vol_words.specs.Fields.{Block}
+use Rattle.base_words.specs.Fields.{Block}
 use Rattle.fx_bitmap.specs.Bits.{bits_put}
 use Rattle.extent_cache.specs.Stock.{is_covered}
 use Rattle.op_law.specs.Freeing.{with_free}
-use Rattle.core_space.proofs.Loops.{passes, fails, freed_more, none_freed}
+use Rattle.core_space.proofs.Loops.{none_freed}
+use Rattle.base_words.proofs.Listing.{passes}
+use Rattle.base_words.proofs.Listing.{fails}
+use Rattle.op_law.proofs.Freed.{freed_more}
 use Rattle.core_space.proofs.bits.with_free.Goals as goal
 use Rattle.core_space.proofs.bits.with_free.Goals.{then-q-k, else-q-k}
 

@@ -2,9 +2,9 @@ use Rattle.std.proofs.Common.{◌≡◌, ◌∙◌, ◌++◌, [], None, List, sy
 use Rattle.std.specs.Prelude.{OnOk, map}
 use Rattle.op_law.specs.declared.need.PlanWrite.{PlanWrite}
 use Rattle.op_law.specs.Writing.{with_numbers}
-use Rattle.node_space.specs.declared.outcome.Search.TheVariants as search
-use Rattle.node_space.specs.Searching.{cluster_writes}
-use Rattle.node_space.specs.Answering.{blocks_of}
+use Rattle.core_space.specs.declared.outcome.Search.TheVariants as search
+use Rattle.core_space.specs.Searching.{cluster_writes}
+use Rattle.core_space.specs.Answering.{blocks_of}
 use Rattle.core_space.proofs.Loops.{there_are}
 use Rattle.core_space.proofs.filling.add_clusters.Goals as goal
 

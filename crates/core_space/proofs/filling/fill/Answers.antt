@@ -1,8 +1,8 @@
 use Rattle.std.proofs.Common.{◌≡◌, ◌∙◌, ℕ, Bool, List, length, sym, ap}
 use Rattle.std.specs.Prelude.{min}
-use Rattle.vol_words.specs.Fields.{Block}
-use Rattle.node_space.specs.Searching.{free_from}
-use Rattle.node_space.specs.Answering.{blocks_of}
+use Rattle.base_words.specs.Fields.{Block}
+use Rattle.core_space.specs.Searching.{free_from}
+use Rattle.core_space.specs.Answering.{blocks_of}
 use Rattle.core_space.specs.Filling.{numbers_taken, filled}
 use Rattle.core_space.proofs.Loops.{filled_none, filled_some}
 use Rattle.core_space.proofs.filling.fill.Goals as goal

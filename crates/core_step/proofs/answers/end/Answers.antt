@@ -1,10 +1,11 @@
 use Rattle.std.proofs.Common.{refl, ap, ◌∙◌, ◌++◌, false}
 use Rattle.std.specs.Prelude.{option_map}
-use Rattle.plain_vol.specs.Own.{after_answer}
+use Rattle.plain_rules.specs.Own.{after_answer}
 use Rattle.core_state.specs.Worlds.{NodeState, state_of}
 use Rattle.core_state.specs.Caches.{lowered_of}
 use Rattle.core_state.specs.Channels.{opens_then}
-use Rattle.core_state.specs.Events.{staying, used_locks, one_more}
+use Rattle.core_state.specs.Events.{staying, used_locks}
+use Rattle.base_words.specs.Faults.{next as one_more}
 use Rattle.core_step.proofs.answers.end.Goals as goal
 
 pub returns-clause-state : goal.returns-clause-state

@@ -1,7 +1,7 @@
 use Rattle.std.proofs.Common.{◌≡◌, ◌-◌, Some, sym, ap, ◌∙◌}
 use Rattle.std.specs.Prelude.{is_none}
 use Rattle.lock_db.specs.declared.name.LockName.TheVariants.{V}
-use Rattle.plain_vol.specs.Own.{command_after}
+use Rattle.plain_rules.specs.Own.{command_after}
 use Rattle.core_space.specs.Rule.{is_due}
 use Rattle.core_state.specs.Worlds.{state_of, or_next}
 use Rattle.core_state.specs.Asks.{has_asked}

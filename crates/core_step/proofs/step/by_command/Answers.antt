@@ -1,6 +1,6 @@
 use Rattle.std.proofs.Common.{map, ◌≡◌, ◌-◌, Some, refl, sym, ap, subst, ◌∙◌, rules}
 use Rattle.std.specs.Prelude.{is_some}
-use Rattle.plain_vol.specs.Own.{command_after}
+use Rattle.plain_rules.specs.Own.{command_after}
 use Rattle.core_state.specs.Worlds.{shown, state_of, plain_of}
 use Rattle.core_state.specs.Goods.{HasRoom}
 use Rattle.core_state.specs.Event as event

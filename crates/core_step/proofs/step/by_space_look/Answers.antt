@@ -4,7 +4,8 @@ use Rattle.lock_db.specs.declared.name.LockName.TheVariants.{V}
 use Rattle.core_state.specs.Worlds.{NodeState, state_of, plain_of}
 use Rattle.core_state.specs.Goods.{HasRoom}
 use Rattle.core_state.specs.Event as event
-use Rattle.core_state.specs.Events.{block_at, block_used, cache_looked, cache_used, turned, caching, space_looking, space_using}
+use Rattle.core_state.specs.Events.{block_used, cache_looked, cache_used, turned, caching, space_looking, space_using}
+use Rattle.base_words.specs.Fields.{block_at}
 use Rattle.core_state.proofs.Nodes.{told_at}
 use Rattle.core_step.specs.Memory.{takes_none}
 use Rattle.core_step.proofs.Caching.{space_used_now, space_looked_now}

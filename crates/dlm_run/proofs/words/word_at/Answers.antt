@@ -1,17 +1,9 @@
-use Rattle.std.proofs.Common.{◌≡◌, ◌∙◌, ℕ, List, [], Option, Some, None, slice_get, get_or, unwrap_or, refl, ap, rules, tests, eqb}
-use Rattle.std.specs.Option.{option_map}
-use Rattle.std.proofs.lemmas.Option.{unwrap_or-slice_get}
+use Rattle.std.proofs.Common.{◌≡◌, ◌∙◌, ℕ, [], unwrap_or, refl, rules, tests, eqb}
 use Rattle.std.proofs.lemmas.Iterator.Consumers.{nth_from_yields_List}
 use Rattle.std.proofs.lemmas.Iterator.Splits.{YieldsList-from_slice_split}
 use Rattle.run_script.specs.Lines.{parts}
 use Rattle.dlm_run.proofs.words.word_at.Goals as goal
-
-viewed : {A : Type 0} (v : A → List ℕ) (r : Option A) (d : A) → v d ≡ [] → v (unwrap_or r d) ≡ unwrap_or (option_map v r) []
-viewed v None d h = h
-viewed v (Some x) d h = refl
-
-unwrapped : {A : Type 0} (v : A → List ℕ) (r : Option A) (d x : A) (all : List (List ℕ)) (n : ℕ) → option_map v r ≡ slice_get all n → x ≡ unwrap_or r d → v d ≡ [] → v x ≡ get_or all n []
-unwrapped v r d x all n is e h = ap v e ∙ viewed v r d h ∙ ap (λ o. unwrap_or o []) is ∙ unwrap_or-slice_get all n []
+use Rattle.base_words.proofs.Listing.{unwrapped}
 
 pub returns : goal.returns
 returns c =

@@ -1,5 +1,5 @@
 use Rattle.std.proofs.Common.{◌≡◌, ◌∙◌, [], length, sym, ap, subst, arith, drop_of_length-le}
-use Rattle.vol_words.specs.Packing.{pack, over}
+use Rattle.base_words.specs.Packing.{pack, over}
 use Rattle.fx_dir.specs.Lists.{Each}
 use Rattle.fx_dir.specs.Moves.{inserted, as_new, insert_writes}
 use Rattle.fx_dir.specs.Writing.{IsInForm, IsRanged, AreWritable, name_of}

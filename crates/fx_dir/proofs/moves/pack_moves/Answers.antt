@@ -1,6 +1,6 @@
 use Rattle.std.proofs.Common.{◌≡◌, ◌∙◌, [], map, length, sym, ap, subst}
 use Rattle.std.proofs.lemmas.Result.{IfOk-weaker}
-use Rattle.vol_words.specs.Packing.{pack, over}
+use Rattle.base_words.specs.Packing.{pack, over}
 use Rattle.fx_dir.specs.Lists.{Each, joined}
 use Rattle.fx_dir.specs.Moves.{rising}
 use Rattle.fx_dir.specs.Writing.{IsRanged, AreWritable, name_of, block_of}

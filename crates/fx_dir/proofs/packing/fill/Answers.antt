@@ -1,5 +1,5 @@
 use Rattle.std.proofs.Common.{◌∙◌, ◌≡◌, ◌++◌, ◌∷◌, [], sym, ap, subst, arith}
-use Rattle.vol_words.specs.Packing.{cost}
+use Rattle.base_words.specs.Packing.{cost}
 use Rattle.fx_dir.specs.declared.RawEnt.{RawEnt}
 use Rattle.fx_dir.specs.Lists.{Each}
 use Rattle.fx_dir.specs.Writing.{IsInForm, IsRanged, last_name}

@@ -1,5 +1,5 @@
 use Rattle.std.proofs.Common.{◌≡◌, ◌≤◌, ◌-◌, ◌++◌, None, length, drop}
-use Rattle.vol_words.specs.Packing.{filled, unfilled}
+use Rattle.base_words.specs.Packing.{filled, unfilled}
 use Rattle.fx_dir.specs.Lists.{Each}
 use Rattle.fx_dir.specs.Writing.{IsRanged, name_of, last_name}
 use Rattle.fx_dir.proofs.packing.fill.Given as goal

@@ -1,5 +1,5 @@
 use Rattle.std.proofs.Common.{◌≡◌, ◌≤◌, ◌+◌, ◌++◌, ℕ, length, drop}
-use Rattle.vol_words.specs.Packing.{pack, over}
+use Rattle.base_words.specs.Packing.{pack, over}
 use Rattle.fx_dir.specs.Lists.{Each}
 use Rattle.fx_dir.specs.Writing.{IsRanged, name_of}
 use Rattle.fx_dir.proofs.packing.pack_into.Given as goal

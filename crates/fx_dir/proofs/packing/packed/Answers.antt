@@ -1,5 +1,5 @@
 use Rattle.std.proofs.Common.{◌≡◌, ◌∙◌, [], map, sym, ap, subst, arith, drop_of_length-le}
-use Rattle.vol_words.specs.Packing.{over}
+use Rattle.base_words.specs.Packing.{over}
 use Rattle.fx_dir.specs.Lists.{Each, joined}
 use Rattle.fx_dir.specs.Directory.{directory, dir_entries}
 use Rattle.fx_dir.specs.Writing.{IsRanged, AreWritable, name_of, block_of}

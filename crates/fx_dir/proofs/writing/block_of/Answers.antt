@@ -1,5 +1,5 @@
 use Rattle.std.proofs.Common.{◌≡◌, ◌∙◌, ◌++◌, [], ◌∷◌, None, ap, arith}
-use Rattle.vol_words.specs.Fields.{put}
+use Rattle.base_words.specs.Fields.{put}
 use Rattle.fx_dir.specs.Writing.{record_bytes}
 use Rattle.fx_dir.proofs.Written.{block-written, text-fits}
 use Rattle.fx_dir.proofs.writing.block_of.Goals as goal

@@ -1,5 +1,5 @@
 use Rattle.std.proofs.Common.{◌∙◌, ap, arith}
-use Rattle.vol_words.specs.Fields.{summed, put_field}
+use Rattle.base_words.specs.Fields.{summed, put_field}
 use Rattle.fx_header.specs.Headers.{freed, header_read}
 use Rattle.fx_header.proofs.NewLemmas.{freed-reads}
 use Rattle.fx_header.proofs.write.free_slot.Goals as goal

@@ -1,5 +1,5 @@
 use Rattle.std.proofs.Common.{◌∙◌, ap, arith}
-use Rattle.vol_words.specs.Fields.{summed, put_field}
+use Rattle.base_words.specs.Fields.{summed, put_field}
 use Rattle.fx_header.specs.Headers.{with_end, header_read}
 use Rattle.fx_header.proofs.SetterLemmas.{end-reads}
 use Rattle.fx_header.proofs.write.set_end.Goals as goal

@@ -1,5 +1,5 @@
 use Rattle.std.proofs.Common.{◌∙◌, ap, arith}
-use Rattle.vol_words.specs.Fields.{summed}
+use Rattle.base_words.specs.Fields.{summed}
 use Rattle.fx_header.specs.Headers.{with_mark, header_read}
 use Rattle.fx_header.proofs.SetterLemmas.{mark-reads}
 use Rattle.fx_header.proofs.write.set_mark.Goals as goal

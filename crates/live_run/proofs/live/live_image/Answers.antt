@@ -1,7 +1,7 @@
 use Rattle.std.proofs.Common.{subst}
 use Rattle.live_run.specs.Lives.{IsEnd}
 use Rattle.live_run.specs.Ends.{IsHalt}
-use Rattle.run_top.proofs.Results.{if_err, if_ok}
+use Rattle.run_engine.proofs.Results.{if_err, if_ok}
 use Rattle.live_run.proofs.Imaged.{accepted_on, end_on, halt_on}
 use Rattle.live_run.proofs.live.live_image.Goals as goal
 

@@ -1,9 +1,9 @@
 use Rattle.std.proofs.Common.{◌∙◌, sym, ap, subst}
-use Rattle.run_top.specs.declared.mending.Halt.TheVariants as halt
+use Rattle.run_engine.specs.declared.over_mending.Halt.TheVariants as halt
 use Rattle.live_run.specs.Lives.{IsEnd}
 use Rattle.live_run.specs.Ends.{IsHalt}
 use Rattle.live_run.proofs.Lived.{end_of_mounted, halt_of_mounted, mount_halt}
-use Rattle.run_top.proofs.Results.{if_err, if_ok}
+use Rattle.run_engine.proofs.Results.{if_err, if_ok}
 use Rattle.live_run.proofs.live.live_mounted.Goals as goal
 
 pub returns-in-Ok-clause-ended : goal.returns-in-Ok-clause-ended

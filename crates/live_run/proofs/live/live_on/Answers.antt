@@ -1,5 +1,5 @@
 use Rattle.live_run.proofs.Lived.{told_ok, ended_by, halted_by}
-use Rattle.run_top.proofs.Results.{if_err, if_ok}
+use Rattle.run_engine.proofs.Results.{if_err, if_ok}
 use Rattle.node_seat.specs.Keeping.{start_of}
 use Rattle.live_run.proofs.live.live_on.Goals as goal
 

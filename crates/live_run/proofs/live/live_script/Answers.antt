@@ -1,6 +1,6 @@
 use Rattle.std.proofs.Common.{refl}
-use Rattle.run_top.proofs.Results.{if_err, if_ok}
-use Rattle.run_top.proofs.Given.{good}
+use Rattle.run_engine.proofs.Results.{if_err, if_ok}
+use Rattle.run_engine.proofs.Given.{good}
 use Rattle.live_run.proofs.Jobs.{report_on, run_halt, script_end}
 use Rattle.live_run.proofs.live.live_script.Goals as goal
 

@@ -1,5 +1,5 @@
 use Rattle.std.proofs.Common.{ap}
-use Rattle.run_top.proofs.Results.{if_err, if_ok}
+use Rattle.run_engine.proofs.Results.{if_err, if_ok}
 use Rattle.live_run.proofs.live.report_over.Goals as goal
 
 pub returns-clause-told : goal.returns-clause-told

@@ -1,6 +1,6 @@
 use Rattle.std.proofs.Common.{IfErr, sym, subst}
 use Rattle.live_run.specs.Ends.{IsHaltAfter}
-use Rattle.run_top.proofs.Results.{if_err}
+use Rattle.run_engine.proofs.Results.{if_err}
 use Rattle.live_run.proofs.live.told_end.Goals as goal
 
 pub returns-in-Ok-clause-halt : goal.returns-in-Ok-clause-halt

@@ -1,5 +1,5 @@
 use Rattle.live_run.specs.Statuses.{IsReportOn}
-use Rattle.run_top.proofs.Results.{err_is}
+use Rattle.run_engine.proofs.Results.{err_is}
 use Rattle.live_run.proofs.Told.{due_told, script_told, image_told, out_told, written_told, after_told}
 use Rattle.live_run.proofs.top.live.Goals as goal
 

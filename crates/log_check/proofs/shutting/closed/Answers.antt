@@ -1,6 +1,6 @@
 use Rattle.std.proofs.Common.{◌∙◌, ◌∷◌, [], ◌++◌, List, Option, None, ap, sym}
 use Rattle.plain_cat.specs.declared.cat.Open.{Open}
-use Rattle.plain_vol.proofs.MendSteps.{same_more}
+use Rattle.plain_rules.proofs.MendSteps.{same_more}
 use Rattle.log_check.proofs.shutting.closed.Goals as goal
 
 pub loop-held-preserved : goal.loop-held-preserved

@@ -1,6 +1,6 @@
 use Rattle.std.proofs.Common.{subst}
 use Rattle.vol_analyze.specs.Judging.{IsJudged}
-use Rattle.log_check.proofs.Accepting.{accepted_accounts}
+use Rattle.vol_analyze.proofs.Accepting.{accepted_accounts}
 use Rattle.log_check.proofs.volumes.cat_before.Goals as goal
 
 pub returns-in-Ok-Ok-clause-accounted : goal.returns-in-Ok-Ok-clause-accounted

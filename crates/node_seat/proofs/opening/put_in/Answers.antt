@@ -1,10 +1,8 @@
 use Rattle.std.proofs.Common.{◌≡◌, ℕ, sym, ap, subst, refl, ◌∙◌, false, Some, None, List, arith}
 use Rattle.std.specs.Prelude.{Option, is_some}
-use Rattle.vol_words.specs.Fields.{Block}
-use Rattle.core_state.specs.Images.{IsTold}
+use Rattle.base_words.specs.Fields.{Block}
+use Rattle.blk_drive.specs.Telling.{IsTold}
 use Rattle.core_state.specs.Worlds.{Plain}
-use Rattle.core_step.specs.declared.turns.TurnFault.{TurnFault}
-use Rattle.core_step.specs.declared.turns.TurnFault.TheVariants.{ImageFault}
 use Rattle.atomic_table.specs.Table.{Me}
 use Rattle.node_seat.specs.declared.parked.Parked.{Parked}
 use Rattle.node_seat.specs.declared.views.Start.{Start}
@@ -12,9 +10,7 @@ use Rattle.node_seat.specs.declared.views.SeatView.{SeatView}
 use Rattle.node_seat.specs.Keeping.{IsKept, IsOrderly, start_of, telling}
 use Rattle.node_seat.specs.Yards.{Kept}
 use Rattle.node_seat.proofs.opening.put_in.Goals as goal
-
-none_marked : ◌≡◌ {A = Option TurnFault} None (Some ImageFault) → ⊥
-none_marked e = cc
+use Rattle.node_seat.proofs.Acting.{none_marked}
 
 told_so : (w : Plain) (told : Option (List Block)) → IsTold told w.blocks → told ≡ telling (is_some told) w.blocks
 told_so w None h = refl

@@ -5,7 +5,7 @@ use Rattle.op_law.specs.Events.{Space as Given, next_of}
 use Rattle.op_law.specs.Readable.{HeadIsInside}
 use Rattle.std.specs.Prelude.{Some}
 use Rattle.op_access.proofs.Looking.{close_inside, shows_next}
-use Rattle.op_access.proofs.Mapped.{mapped}
+use Rattle.op_steps.proofs.Mapped.{mapped}
 use Rattle.op_access.proofs.closing.close_next.Goals as goal
 
 pub open_looked-requires-clause-inside : goal.open_looked-requires-clause-inside

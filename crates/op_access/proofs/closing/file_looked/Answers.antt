@@ -6,8 +6,8 @@ use Rattle.op_law.specs.Channels.{close_plan}
 use Rattle.op_law.specs.Events.{Events, Make, following}
 use Rattle.op_law.specs.Freeing.{SeenSpace, through_space, freeing_writes}
 use Rattle.op_law.specs.Rows.{answers}
-use Rattle.op_gone.specs.Seeing.{file_seen}
-use Rattle.op_gone.specs.Looking.{behind_space}
+use Rattle.op_steps.specs.Seeing.{file_seen}
+use Rattle.op_freeing.specs.Looking.{behind_space}
 use Rattle.op_access.proofs.closing.file_looked.Goals as goal
 
 pub returns-in-Next : goal.returns-in-Next

@@ -1,14 +1,14 @@
 use Rattle.std.proofs.Common.{◌≡◌, ◌∙◌, ap, sym, subst}
 use Rattle.std.specs.Prelude.{IfOk}
-use Rattle.plain_vol.specs.Lookups.{versions}
-use Rattle.plain_vol.specs.Directories.{new_version}
-use Rattle.plain_vol.specs.Changes.{new_file}
-use Rattle.plain_vol.specs.Answers.{first_refusal}
+use Rattle.plain_rules.specs.Lookups.{versions}
+use Rattle.plain_rules.specs.Directories.{new_version}
+use Rattle.plain_rules.specs.Changes.{new_file}
+use Rattle.plain_rules.specs.Answers.{first_refusal}
 use Rattle.op_law.specs.Events.{space_of}
 use Rattle.op_law.specs.Moving.{entries_of}
 use Rattle.op_law.specs.Entering.{NewEntry, numbered, made_of, create_refusals}
 use Rattle.op_law.specs.Behind.{goes_on_by, blocks_alone}
-use Rattle.op_parts.specs.Names.{dir_seen}
+use Rattle.op_steps.specs.Names.{dir_seen}
 use Rattle.op_create.specs.Files.{entry_made}
 use Rattle.op_create.specs.Given.{behind_place}
 use Rattle.op_create.proofs.Judged.{made_at, place_next}

@@ -4,8 +4,8 @@ use Rattle.op_law.specs.Writing.{clusters_for}
 use Rattle.op_law.specs.Moving.{SeenDir}
 use Rattle.op_law.specs.Entering.{create_in}
 use Rattle.op_law.specs.Behind.{FollowsBy}
-use Rattle.op_parts.specs.Names.{dir_seen}
-use Rattle.op_parts.proofs.Followed.{first_names}
+use Rattle.op_steps.specs.Names.{dir_seen}
+use Rattle.op_steps.proofs.Followed.{first_names}
 use Rattle.op_create.proofs.Judged.{create_first}
 use Rattle.op_create.proofs.entering.create_next.Goals as goal
 

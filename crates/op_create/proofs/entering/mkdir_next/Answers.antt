@@ -1,13 +1,13 @@
 use Rattle.std.proofs.Common.{◌∙◌, ap, arith, subst, sym}
-use Rattle.plain_vol.specs.Answers.{dir_name}
+use Rattle.plain_rules.specs.Answers.{dir_name}
 use Rattle.op_law.specs.Events.{space_of}
 use Rattle.op_law.specs.Moving.{SeenDir}
 use Rattle.op_law.specs.Entering.{mkdir_in}
 use Rattle.op_law.specs.Behind.{FollowsBy}
-use Rattle.op_parts.specs.Names.{dir_seen}
-use Rattle.op_parts.proofs.Followed.{first_names}
+use Rattle.op_steps.specs.Names.{dir_seen}
+use Rattle.op_steps.proofs.Followed.{first_names}
 use Rattle.op_create.proofs.Judged.{mkdir_first}
-use Rattle.vol_words.specs.Names.{is_name}
+use Rattle.base_words.specs.Names.{is_name}
 use Rattle.op_create.proofs.DirNames.{dir_name_is}
 use Rattle.op_create.proofs.entering.mkdir_next.Goals as goal
 

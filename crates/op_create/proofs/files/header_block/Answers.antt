@@ -4,9 +4,9 @@ use Rattle.fx_header.specs.Pointers.{AreRuns, blocks_in, map_words}
 use Rattle.fx_header.specs.Headers.{header_bytes, with_runs, map_area}
 use Rattle.op_law.specs.Writing.{runs_for}
 use Rattle.op_law.specs.Entering.{new_header, fields_for}
-use Rattle.op_writes.proofs.FileRuns.{are_runs_for}
+use Rattle.op_steps.proofs.FileRuns.{are_runs_for}
 use Rattle.op_create.specs.Files.{file_made}
-use Rattle.op_parts.proofs.Clustered.{few_blocks, few_words}
+use Rattle.op_steps.proofs.Clustered.{few_blocks, few_words}
 use Rattle.op_create.proofs.files.header_block.Goals as goal
 
 pub set_runs-requires-clause-runs : goal.set_runs-requires-clause-runs

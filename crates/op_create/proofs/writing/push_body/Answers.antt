@@ -1,6 +1,6 @@
 use Rattle.std.proofs.Common.{subst, get_or}
-use Rattle.vol_owners.specs.Lists.{Has}
-use Rattle.op_parts.proofs.Clustered.{listed}
+use Rattle.base_words.specs.Lists.{Has}
+use Rattle.op_steps.proofs.Clustered.{listed}
 use Rattle.op_create.proofs.Clustered.{one}
 use Rattle.op_create.proofs.writing.push_body.Goals as goal
 

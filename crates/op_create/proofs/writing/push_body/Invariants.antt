@@ -1,7 +1,7 @@
 use Rattle.std.proofs.Common.{◌≡◌, ◌++◌, Some, map, take}
 use Rattle.lock_db.specs.declared.name.LockName.TheVariants.{S}
 use Rattle.plain_cat.specs.declared.history.Stage.TheVariants as stage
-use Rattle.vol_owners.specs.Places.{spread}
+use Rattle.vol_spell.specs.Spread.{spread}
 use Rattle.op_law.specs.Writing.{holding, write_at}
 use Rattle.op_create.proofs.writing.push_body.Given as goal
 

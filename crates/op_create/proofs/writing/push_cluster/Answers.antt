@@ -2,7 +2,7 @@ use Rattle.std.proofs.Common.{◌∙◌, ◌+◌, ◌*◌, ◌++◌, [], ◌∷�
 use Rattle.lock_db.specs.declared.name.LockName.TheVariants.{S}
 use Rattle.plain_cat.specs.declared.history.Stage.TheVariants as stage
 use Rattle.op_law.specs.Writing.{holding, write_at}
-use Rattle.op_parts.proofs.Clustered.{cluster_ends}
+use Rattle.op_steps.proofs.Clustered.{cluster_ends}
 use Rattle.op_create.proofs.Clustered.{more_places}
 use Rattle.op_create.proofs.writing.push_cluster.Goals as goal
 

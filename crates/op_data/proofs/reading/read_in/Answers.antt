@@ -1,12 +1,12 @@
 use Rattle.std.proofs.Common.{rules, ◌≡◌, ◌∙◌, false, cond, ap, sym}
-use Rattle.vol_words.specs.Fields.{Block}
-use Rattle.vol_words.specs.Tables.{zeros}
+use Rattle.base_words.specs.Fields.{Block}
+use Rattle.base_words.specs.Tables.{zeros}
 use Rattle.plain_cat.specs.declared.reply.Reply.TheVariants as reply
-use Rattle.plain_vol.specs.Changes.{is_past_mark}
+use Rattle.plain_rules.specs.Changes.{is_past_mark}
 use Rattle.op_law.specs.Events.{Events, Fetch, space_of, following}
 use Rattle.op_law.specs.Rows.{answers}
 use Rattle.op_law.specs.SeenFiles.{file_place}
-use Rattle.op_data.specs.Seeing.{file_seen}
+use Rattle.op_steps.specs.Seeing.{file_seen}
 use Rattle.op_data.proofs.reading.read_in.Goals as goal
 
 pub returns-in-Next : goal.returns-in-Next

@@ -1,6 +1,6 @@
 use Rattle.std.proofs.Common.{◌∙◌, unwrap_or, slice_index_or, ap}
 use Rattle.std.proofs.lemmas.Option.{unwrap_or-slice_get}
-use Rattle.op_law.specs.Rows.{places_in}
+use Rattle.vol_spell.specs.Entries.{places_in}
 use Rattle.op_data.proofs.seeing.file_place.Goals as goal
 
 pub returns : goal.returns

@@ -1,12 +1,12 @@
 use Rattle.std.proofs.Common.{◌≡◌, ◌∙◌, ◌+◌, ◌-◌, ◌++◌, [], ◌∷◌, ℕ, map, ap, sym, arith, append_assoc}
 use Rattle.std.specs.List.{range_with_len}
 use Rattle.std.proofs.lemmas.List.FromFn.{map-range_with_len_more}
-use Rattle.vol_words.specs.Fields.{Block}
-use Rattle.vol_words.specs.Tables.{zeros}
+use Rattle.base_words.specs.Fields.{Block}
+use Rattle.base_words.specs.Tables.{zeros}
 use Rattle.plain_cat.specs.declared.history.Stage.TheVariants as stage
 use Rattle.op_law.specs.declared.need.PlanWrite.{PlanWrite}
 use Rattle.op_law.specs.SeenFiles.{file_write}
-use Rattle.op_data.specs.Seeing.{file_seen}
+use Rattle.op_steps.specs.Seeing.{file_seen}
 use Rattle.op_data.proofs.writing.push_zeros.Goals as goal
 
 pub loop-v-preserved : goal.loop-v-preserved

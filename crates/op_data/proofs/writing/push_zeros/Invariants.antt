@@ -1,10 +1,10 @@
 use Rattle.std.proofs.Common.{◌≡◌, ◌≤◌, ◌-◌, ◌++◌, ℕ, List, map}
 use Rattle.std.specs.List.{range_with_len}
-use Rattle.vol_words.specs.Tables.{zeros}
+use Rattle.base_words.specs.Tables.{zeros}
 use Rattle.plain_cat.specs.declared.history.Stage.TheVariants as stage
 use Rattle.op_law.specs.declared.need.PlanWrite.{PlanWrite}
 use Rattle.op_law.specs.SeenFiles.{file_write}
-use Rattle.op_data.specs.Seeing.{file_seen}
+use Rattle.op_steps.specs.Seeing.{file_seen}
 use Rattle.op_data.proofs.writing.push_zeros.Given as goal
 
 -- these writes are added to the old ones, and they are not more than there will be

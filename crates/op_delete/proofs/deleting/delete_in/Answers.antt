@@ -1,17 +1,17 @@
 use Rattle.std.proofs.Common.{◌≡◌, ◌∙◌, Some, ap, sym, subst}
 use Rattle.plain_cat.specs.declared.history.Stage.TheVariants as stage
 use Rattle.plain_cat.specs.declared.reply.Reply.TheVariants as reply
-use Rattle.plain_vol.specs.Lookups.{versions, entry_of}
+use Rattle.plain_rules.specs.Lookups.{versions, entry_of}
 use Rattle.op_law.specs.declared.need.Plan.{Plan}
 use Rattle.op_law.specs.Events.{Space as Given}
 use Rattle.op_law.specs.Behind.{goes_on_by, FollowsBy}
 use Rattle.op_law.specs.Moving.{entries_of, removal_writes}
 use Rattle.op_law.specs.Removing.{delete_in}
 use Rattle.op_law.specs.Writing.{plan_of}
-use Rattle.op_parts.specs.Names.{dir_seen}
-use Rattle.op_delete.specs.Seeing.{file_seen}
+use Rattle.op_steps.specs.Names.{dir_seen}
+use Rattle.op_steps.specs.Seeing.{file_seen}
 use Rattle.op_delete.specs.Deleting.{file_goes}
-use Rattle.op_delete.proofs.Mapped.{mapped}
+use Rattle.op_steps.proofs.Mapped.{mapped}
 use Rattle.op_delete.proofs.deleting.delete_in.Goals as goal
 
 pub returns-in-File : goal.returns-in-File

@@ -1,18 +1,18 @@
 use Rattle.std.proofs.Common.{◌≡◌, ◌∙◌, ℕ, sym, subst, arith}
 use Rattle.std.proofs.lemmas.List.{length-map}
-use Rattle.vol_words.specs.Fields.{Block}
-use Rattle.plain_vol.specs.Lookups.{versions, entry_of}
+use Rattle.base_words.specs.Fields.{Block}
+use Rattle.plain_rules.specs.Lookups.{versions, entry_of}
 use Rattle.op_law.specs.Events.{Events, Space, space_of, next_of, HasNoSpace, following}
 use Rattle.op_law.specs.Behind.{goes_on_by, FollowsBy}
 use Rattle.op_law.specs.Moving.{SeenDir, entries_of, through_names}
 use Rattle.op_law.specs.Readable.{HeadIsInside}
 use Rattle.op_law.specs.Removing.{delete_events}
-use Rattle.op_parts.specs.Names.{dir_seen}
-use Rattle.op_parts.proofs.Followed.{first_names}
+use Rattle.op_steps.specs.Names.{dir_seen}
+use Rattle.op_steps.proofs.Followed.{first_names}
 use Rattle.op_delete.proofs.Walks.{behind}
 use Rattle.op_delete.proofs.Behind.{order, first_inside, dir_few, behind_inside}
 use Rattle.op_delete.proofs.Told.{lock_so}
-use Rattle.op_delete.proofs.Mapped.{mapped}
+use Rattle.op_steps.proofs.Mapped.{mapped}
 use Rattle.op_delete.proofs.deleting.delete_next.Goals as goal
 
 pub names_seen-requires-clause-inside : goal.names_seen-requires-clause-inside

@@ -1,11 +1,11 @@
 use Rattle.std.proofs.Common.{◌≡◌, ◌≤◌, ◌∙◌, ◌++◌, ℕ, List, length, ap, arith}
 use Rattle.std.proofs.lemmas.List.{length-map}
-use Rattle.vol_words.specs.Fields.{Block}
+use Rattle.base_words.specs.Fields.{Block}
 use Rattle.op_law.specs.declared.need.PlanWrite.{PlanWrite}
 use Rattle.op_law.specs.Removing.{unnaming_writes}
 use Rattle.op_law.specs.Behind.{blocks_alone}
-use Rattle.op_parts.specs.Names.{dir_seen}
-use Rattle.op_delete.specs.Seeing.{file_seen}
+use Rattle.op_steps.specs.Names.{dir_seen}
+use Rattle.op_steps.specs.Seeing.{file_seen}
 use Rattle.op_delete.proofs.Brief.{first_few}
 use Rattle.op_delete.proofs.deleting.deleted.Goals as goal
 

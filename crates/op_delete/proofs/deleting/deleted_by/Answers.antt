@@ -1,13 +1,13 @@
 use Rattle.std.proofs.Common.{◌∙◌, Option, ap, sym}
 use Rattle.plain_cat.specs.declared.entries.DirEnt.{DirEnt}
-use Rattle.plain_vol.specs.Lookups.{versions, entry_of}
+use Rattle.plain_rules.specs.Lookups.{versions, entry_of}
 use Rattle.op_law.specs.declared.need.Need.TheVariants as need
 use Rattle.op_law.specs.declared.need.Plan.{Plan}
 use Rattle.op_law.specs.Behind.{blocks_alone}
 use Rattle.op_law.specs.Removing.{delete_plan}
-use Rattle.op_parts.specs.Names.{dir_seen}
-use Rattle.op_delete.specs.Seeing.{file_seen}
-use Rattle.op_delete.specs.Looking.{space_seen}
+use Rattle.op_steps.specs.Names.{dir_seen}
+use Rattle.op_steps.specs.Seeing.{file_seen}
+use Rattle.op_freeing.specs.Looking.{space_seen}
 use Rattle.op_delete.specs.Deleting.{plan_by}
 use Rattle.op_delete.proofs.Found.{found_so}
 use Rattle.op_delete.proofs.deleting.deleted_by.Goals as goal

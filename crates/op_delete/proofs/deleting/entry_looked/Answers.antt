@@ -1,14 +1,14 @@
 use Rattle.std.proofs.Common.{rules, ◌≡◌, ◌∙◌, false, ap, sym, subst}
 use Rattle.std.specs.Prelude.{nat_le}
-use Rattle.plain_vol.specs.Lookups.{versions, entry_of}
+use Rattle.plain_rules.specs.Lookups.{versions, entry_of}
 use Rattle.op_law.specs.Events.{Space as Given}
 use Rattle.op_law.specs.Behind.{goes_on_by, blocks_alone, FollowsBy}
 use Rattle.op_law.specs.Moving.{entries_of}
 use Rattle.op_law.specs.Refusing.{if_entry}
 use Rattle.op_law.specs.Removing.{delete_in}
-use Rattle.op_parts.specs.Names.{dir_seen}
+use Rattle.op_steps.specs.Names.{dir_seen}
 use Rattle.op_delete.proofs.Found.{found_so, behind_entry}
-use Rattle.op_delete.proofs.Mapped.{mapped}
+use Rattle.op_steps.proofs.Mapped.{mapped}
 use Rattle.op_delete.proofs.deleting.entry_looked.Goals as goal
 
 pub delete_in-requires-clause-entry : goal.delete_in-requires-clause-entry

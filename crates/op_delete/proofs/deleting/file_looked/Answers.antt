@@ -1,15 +1,15 @@
 use Rattle.std.proofs.Common.{◌≡◌, ◌∙◌, ap}
-use Rattle.plain_vol.specs.Lookups.{versions, entry_of}
+use Rattle.plain_rules.specs.Lookups.{versions, entry_of}
 use Rattle.op_law.specs.Events.{Events, Make, Space as Given}
 use Rattle.op_law.specs.Behind.{goes_on_by, FollowsBy}
 use Rattle.op_law.specs.Freeing.{through_space}
 use Rattle.op_law.specs.Moving.{entries_of}
 use Rattle.op_law.specs.Removing.{if_empty, delete_plan}
-use Rattle.op_parts.specs.Names.{dir_seen}
-use Rattle.op_delete.specs.Seeing.{file_seen}
+use Rattle.op_steps.specs.Names.{dir_seen}
+use Rattle.op_steps.specs.Seeing.{file_seen}
 use Rattle.op_delete.specs.Deleting.{plan_by}
 use Rattle.op_delete.specs.Looking.{behind_empty}
-use Rattle.op_delete.proofs.Mapped.{mapped}
+use Rattle.op_steps.proofs.Mapped.{mapped}
 use Rattle.op_delete.proofs.deleting.file_looked.Goals as goal
 
 pub returns-in-Next : goal.returns-in-Next

@@ -1,5 +1,5 @@
 use Rattle.std.proofs.Common.{refl, sym}
-use Rattle.op_parts.specs.Names.{dir_seen}
+use Rattle.op_steps.specs.Names.{dir_seen}
 use Rattle.op_delete.proofs.Told.{lock_told, header_told}
 use Rattle.op_delete.proofs.naming.file_told.Goals as goal
 

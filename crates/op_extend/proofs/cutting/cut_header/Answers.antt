@@ -3,10 +3,10 @@ use Rattle.std.specs.Prelude.{nat_le}
 use Rattle.fx_header.specs.declared.run.Run.{Run}
 use Rattle.fx_header.specs.Pointers.{AreRuns, blocks_in, map_words}
 use Rattle.fx_header.specs.Headers.{map_area, has_offsets, with_runs}
-use Rattle.vol_words.specs.Fields.{Block}
+use Rattle.base_words.specs.Fields.{Block}
 use Rattle.op_law.specs.Sizes.{lowered, cut_header}
 use Rattle.op_law.specs.Writing.{runs_for, clusters_seen}
-use Rattle.op_extend.specs.Seeing.{file_seen}
+use Rattle.op_steps.specs.Seeing.{file_seen}
 use Rattle.op_extend.proofs.FileClusters.{all_seen}
 use Rattle.op_extend.proofs.FewerClusters.{front_runs, front_blocks, front_offsets, front_fits, taken}
 use Rattle.op_extend.proofs.cutting.cut_header.Goals as goal

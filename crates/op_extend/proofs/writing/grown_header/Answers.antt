@@ -4,7 +4,7 @@ use Rattle.fx_header.specs.Pointers.{AreRuns, blocks_in, map_words}
 use Rattle.fx_header.specs.Headers.{map_area, with_runs, with_mark, scattered}
 use Rattle.op_law.specs.Sizes.{grown_mark, grown_header}
 use Rattle.op_law.specs.Writing.{runs_for}
-use Rattle.op_extend.specs.Seeing.{file_seen}
+use Rattle.op_steps.specs.Seeing.{file_seen}
 use Rattle.op_extend.proofs.FileClusters.{are_runs, blocks_few, words_fit, all_seen}
 use Rattle.op_extend.proofs.writing.grown_header.Goals as goal
 

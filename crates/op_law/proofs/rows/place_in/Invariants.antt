@@ -1,7 +1,7 @@
 use Rattle.std.proofs.Common.{◌≡◌, All, slice_get}
 use Rattle.fx_header.specs.Iter.{runs_left}
 use Rattle.fx_header.specs.Pointers.{lbns_in}
-use Rattle.op_law.specs.Rows.{places_in}
+use Rattle.vol_spell.specs.Entries.{places_in}
 use Rattle.op_law.specs.Readable.{EndsInside}
 use Rattle.op_law.proofs.rows.place_in.Given as goal
 

@@ -1,5 +1,5 @@
 use Rattle.std.proofs.Common.{◌≡◌, map, take}
-use Rattle.plain_vol.specs.Lookups.{versions}
+use Rattle.plain_rules.specs.Lookups.{versions}
 use Rattle.vol_parts.specs.Catalogues.{plain_entry}
 use Rattle.op_law.proofs.rows.plain_versions.Given as goal
 

@@ -1,9 +1,10 @@
 use Rattle.std.proofs.Common.{◌≡◌, ◌∙◌, ◌*◌, length, sym, arith}
 use Rattle.std.specs.Prelude.{is_none}
 use Rattle.std.proofs.lemmas.List.{length-map}
-use Rattle.op_law.specs.Quotas.{row_seen, row_place}
+use Rattle.op_law.specs.Quotas.{row_place}
+use Rattle.vol_spell.specs.Rows.{row_seen}
 use Rattle.op_law.specs.Behind.{blocks_alone}
-use Rattle.op_parts.proofs.Charges.{first_place, no_place}
+use Rattle.op_steps.proofs.Charges.{first_place, no_place}
 use Rattle.op_quota.proofs.rows.free_row.Goals as goal
 
 pub returns-then-is_free-clause-place : goal.returns-then-is_free-clause-place

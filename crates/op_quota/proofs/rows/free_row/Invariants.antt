@@ -1,6 +1,6 @@
 use Rattle.std.proofs.Common.{◌≡◌, ◌<◌, ℕ, false}
 use Rattle.std.specs.Prelude.{is_none}
-use Rattle.op_law.specs.Quotas.{row_seen}
+use Rattle.vol_spell.specs.Rows.{row_seen}
 use Rattle.op_law.specs.Behind.{blocks_alone}
 use Rattle.op_quota.proofs.rows.free_row.Given as goal
 

@@ -1,12 +1,12 @@
 use Rattle.std.proofs.Common.{◌≡◌, ◌∙◌, ℕ, length, ap, sym, arith}
 use Rattle.std.proofs.lemmas.List.{length-map}
-use Rattle.vol_words.specs.Fields.{Block}
+use Rattle.base_words.specs.Fields.{Block}
 use Rattle.fx_dir.specs.Directory.{directory}
 use Rattle.fx_dir.specs.Moves.{written}
 use Rattle.fx_dir.proofs.Changing.{length-written}
 use Rattle.op_law.specs.Moving.{insertion_moves}
 use Rattle.op_law.specs.Behind.{blocks_alone}
-use Rattle.op_parts.specs.Names.{dir_seen}
+use Rattle.op_steps.specs.Names.{dir_seen}
 use Rattle.op_rename.proofs.Behind.{there_behind}
 use Rattle.op_rename.proofs.moving.rename_writes.Goals as goal
 

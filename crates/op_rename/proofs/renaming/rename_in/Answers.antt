@@ -1,8 +1,8 @@
 use Rattle.std.proofs.Common.{◌∙◌, ap, sym}
-use Rattle.plain_vol.specs.Lookups.{versions, entry_of}
+use Rattle.plain_rules.specs.Lookups.{versions, entry_of}
 use Rattle.op_law.specs.Rows.{entries_seen}
 use Rattle.op_law.specs.Behind.{blocks_alone}
-use Rattle.vol_writes.proofs.RemovalLists.{found_there}
+use Rattle.vol_spell.proofs.RemovalLists.{found_there}
 use Rattle.op_rename.proofs.Behind.{found_number, found_sequence}
 use Rattle.op_rename.proofs.renaming.rename_in.Goals as goal
 

@@ -1,5 +1,5 @@
 use Rattle.std.proofs.Common.{◌≡◌}
-use Rattle.plain_vol.specs.Replaying.{closed_channels}
+use Rattle.plain_rules.specs.Replaying.{closed_channels}
 use Rattle.plain_vol.proofs.dying.close_channels.Given as goal
 
 abbrev pub invariant-loop-chan : goal.invariant-loop-chan

@@ -1,5 +1,5 @@
 use Rattle.std.proofs.Common.{◌≡◌, drop}
-use Rattle.plain_vol.specs.Replaying.{flagged}
+use Rattle.plain_rules.specs.Replaying.{flagged}
 use Rattle.plain_vol.proofs.dying.flag.Given as goal
 
 abbrev pub invariant-loop-n : goal.invariant-loop-n

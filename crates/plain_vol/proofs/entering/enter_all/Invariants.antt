@@ -1,5 +1,5 @@
 use Rattle.std.proofs.Common.{◌≡◌, drop}
-use Rattle.plain_vol.specs.Mending.{enter_all}
+use Rattle.plain_rules.specs.Mending.{enter_all}
 use Rattle.plain_vol.proofs.entering.enter_all.Given as goal
 
 abbrev pub invariant-loop-n : goal.invariant-loop-n

@@ -1,6 +1,6 @@
 use Rattle.std.proofs.Common.{◌≡◌, drop}
-use Rattle.plain_vol.specs.declared.places.Place.{Place}
-use Rattle.plain_vol.specs.Mending.{is_first}
+use Rattle.plain_rules.specs.declared.places.Place.{Place}
+use Rattle.plain_rules.specs.Mending.{is_first}
 use Rattle.plain_vol.proofs.entering.is_first.Given as goal
 
 abbrev pub invariant-loop-p : goal.invariant-loop-p

@@ -1,4 +1,4 @@
-use Rattle.plain_vol.proofs.Placing.{places_push}
+use Rattle.plain_rules.proofs.Placing.{places_push}
 use Rattle.plain_vol.proofs.entering.places.Goals as goal
 
 pub loop-i-preserved : goal.loop-i-preserved

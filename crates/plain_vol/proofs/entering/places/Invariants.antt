@@ -1,5 +1,5 @@
 use Rattle.std.proofs.Common.{◌≡◌, ◌++◌, ◌+◌, drop}
-use Rattle.plain_vol.specs.Mending.{places_from}
+use Rattle.plain_rules.specs.Mending.{places_from}
 use Rattle.plain_vol.proofs.entering.places.Given as goal
 
 abbrev pub invariant-loop-i : goal.invariant-loop-i

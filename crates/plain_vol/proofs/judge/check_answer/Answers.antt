@@ -1,8 +1,8 @@
 use Rattle.std.proofs.Common.{◌∙◌, sym, ap, subst}
-use Rattle.plain_vol.specs.declared.outcome.Outcome.{Outcome}
-use Rattle.plain_vol.specs.Accounts.{Accounted}
-use Rattle.plain_vol.proofs.Keeps.{accounts_kept}
-use Rattle.plain_vol.proofs.Choices.{no_answer}
+use Rattle.plain_rules.specs.declared.outcome.Outcome.{Outcome}
+use Rattle.plain_rules.specs.Accounts.{Accounted}
+use Rattle.plain_rules.proofs.Keeps.{accounts_kept}
+use Rattle.plain_rules.proofs.Choices.{no_answer}
 use Rattle.plain_vol.proofs.judge.check_answer.Goals as goal
 
 pub returns-then-is_same_reply-clause-keeps : goal.returns-then-is_same_reply-clause-keeps

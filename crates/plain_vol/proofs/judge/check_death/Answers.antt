@@ -1,6 +1,6 @@
 use Rattle.std.proofs.Common.{sym, subst}
-use Rattle.plain_vol.specs.Accounts.{Accounted}
-use Rattle.plain_vol.proofs.Kept.{dead_keeps}
+use Rattle.plain_rules.specs.Accounts.{Accounted}
+use Rattle.plain_rules.proofs.Kept.{dead_keeps}
 use Rattle.plain_vol.proofs.judge.check_death.Goals as goal
 
 pub returns-clause-keeps : goal.returns-clause-keeps

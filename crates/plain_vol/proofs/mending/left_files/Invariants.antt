@@ -1,5 +1,5 @@
 use Rattle.std.proofs.Common.{◌≡◌, ◌++◌, ◌+◌, drop}
-use Rattle.plain_vol.specs.Mending.{each_from, gone_slot}
+use Rattle.plain_rules.specs.Mending.{each_from, gone_slot}
 use Rattle.plain_vol.proofs.mending.left_files.Given as goal
 
 abbrev pub invariant-loop-i : goal.invariant-loop-i

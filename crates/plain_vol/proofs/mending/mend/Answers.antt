@@ -1,9 +1,9 @@
 use Rattle.std.proofs.Common.{◌≡◌, ◌∙◌, ◌-◌, Some, length, sym, ap, subst, arith}
 use Rattle.std.specs.List.{count_by}
 use Rattle.plain_cat.specs.declared.history.Mended.{Mended}
-use Rattle.plain_vol.specs.Accounts.{Accounted}
-use Rattle.plain_vol.specs.Mending.{places, is_used, counts}
-use Rattle.plain_vol.proofs.MendSteps.{cleared_keeps, lost_keeps, right_keeps, mended_is}
+use Rattle.plain_rules.specs.Accounts.{Accounted}
+use Rattle.plain_rules.specs.Mending.{places, is_used, counts}
+use Rattle.plain_rules.proofs.MendSteps.{cleared_keeps, lost_keeps, right_keeps, mended_is}
 use Rattle.plain_vol.proofs.mending.mend.Goals as goal
 
 pub place_count-requires-2 : goal.place_count-requires-2

@@ -1,5 +1,5 @@
 use Rattle.std.proofs.Common.{◌∙◌, ◌∷◌, [], ◌++◌, List, Bool, false, ap, sym}
-use Rattle.plain_vol.proofs.MendSteps.{same_more}
+use Rattle.plain_rules.proofs.MendSteps.{same_more}
 use Rattle.plain_vol.proofs.mending.no_flags.Goals as goal
 
 pub loop-flag-preserved : goal.loop-flag-preserved

@@ -1,8 +1,8 @@
 use Rattle.std.proofs.Common.{◌≤◌, ◌*◌, List, length, sym, subst}
 use Rattle.std.specs.Prelude.{All}
 use Rattle.plain_cat.specs.declared.cat.Slot.{Slot}
-use Rattle.plain_vol.specs.Lookups.{clusters_in}
-use Rattle.plain_vol.proofs.MendSteps.{gone_numbers, gone_sizes}
+use Rattle.plain_rules.specs.Lookups.{clusters_in}
+use Rattle.plain_rules.proofs.MendSteps.{gone_numbers, gone_sizes}
 use Rattle.plain_vol.proofs.mending.put_right.Goals as goal
 
 pub summed-requires-clause-numbers : goal.summed-requires-clause-numbers

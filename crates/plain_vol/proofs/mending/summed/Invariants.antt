@@ -1,5 +1,5 @@
 use Rattle.std.proofs.Common.{◌≡◌, map, take}
-use Rattle.plain_vol.specs.Mending.{summed_row}
+use Rattle.plain_rules.specs.Mending.{summed_row}
 use Rattle.plain_vol.proofs.mending.summed.Given as goal
 
 abbrev pub invariant-loop-row : goal.invariant-loop-row

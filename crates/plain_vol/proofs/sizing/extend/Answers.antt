@@ -1,8 +1,12 @@
-use Rattle.std.proofs.Common.{◌≤◌, arith}
-use Rattle.plain_vol.proofs.Usages.{growth_room}
+use Rattle.std.proofs.Common.{◌≤◌, Result, arith, subst}
+use Rattle.std.specs.Prelude.{IfOk}
+use Rattle.plain_cat.specs.declared.reply.Refusal.{Refusal}
+use Rattle.plain_rules.proofs.Usages.{usage_room}
+use Rattle.plain_vol.specs.declared.sizing.Sizing.{Sizing}
 use Rattle.plain_vol.proofs.sizing.extend.Goals as goal
 
-pub extended-requires-clause-usage : goal.extended-requires-clause-usage
-extended-requires-clause-usage c =
-    let h : c.in_clusters-k.result ≤ 77 = omega (arith, c.if-file-k-gt77.false) in
-    growth_room c.args.cat.now c.in_clusters-k.result c.requires.cat h
+pub charge-requires : goal.charge-requires
+charge-requires c =
+    let P : Result Sizing Refusal → Type 0 = λ o. IfOk o (λ (s : Sizing). s.change ≤ 1232) in
+    let small : c.in-Ok.sizing.change ≤ 1232 = subst P c.in-Ok.is c.in_ok-sizing.ensures.small in
+    usage_room c.args.cat c.in-Ok.sizing.change c.requires.cat (omega (arith, small))

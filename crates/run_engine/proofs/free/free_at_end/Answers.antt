@@ -1,5 +1,5 @@
 use Rattle.std.proofs.Common.{◌<◌, ◌+◌, ◌/◌, ℕ, List, length, sym, ap, subst, ◌∙◌}
-use Rattle.vol_words.specs.Fields.{Block}
+use Rattle.base_words.specs.Fields.{Block}
 use Rattle.vol_parts.specs.declared.geometry.Geometry.{Geometry}
 use Rattle.vol_parts.specs.Parts.{IsGeometry}
 use Rattle.vol_spell.specs.Reading.{total_of}

@@ -1,6 +1,6 @@
 use Rattle.std.proofs.Common.{◌≡◌, ◌∙◌, List, Option, Some, ap, subst}
-use Rattle.vol_words.specs.Fields.{Block}
-use Rattle.core_state.specs.Images.{told_as}
+use Rattle.base_words.specs.Fields.{Block}
+use Rattle.blk_drive.specs.Telling.{told_as}
 use Rattle.run_engine.specs.Mendings.{IsMendImage}
 use Rattle.core_state.specs.Worlds.{shown}
 use Rattle.std.specs.Prelude.{map}

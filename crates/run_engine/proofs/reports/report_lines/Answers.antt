@@ -1,5 +1,5 @@
 use Rattle.std.proofs.Common.{◌++◌, ◌∙◌}
-use Rattle.vol_texts.specs.Reports.{lines_text}
+use Rattle.plain_texts.specs.Reports.{lines_text}
 use Rattle.run_engine.proofs.Showing.{lines_shown}
 use Rattle.run_engine.proofs.reports.report_lines.Goals as goal
 

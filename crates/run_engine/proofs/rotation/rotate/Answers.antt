@@ -22,26 +22,26 @@ loop-turns-init g c = record {
 
 pub loop-turns-preserved : goal.loop-turns-preserved
 loop-turns-preserved g c =
-    let stays : Stays c.loop-turns.w.world c.seat_turn.new.w.world =
-    subst (λ v. Stays c.loop-turns.w.world v) (sym c.in_ok-seat_turn-in-Some.ensures.moved) (step_stays c.loop-turns.w.world c.in-Some.node) in
+    let stays : Stays c.loop-turns.w.world c.seat_event.new.w.world =
+    subst (λ v. Stays c.loop-turns.w.world v) (sym c.in_ok-seat_event-in-Some.ensures.moved) (step_stays c.loop-turns.w.world c.in-Some.node) in
     record {
-      at = rotation_more c.loop-turns._turns (record { world = c.args.w.now.world; from = 1 }) c.loop-turns.w.world c.loop-turns.from c.in-Some.node c.seat_turn.new.w.world c.loop-turns.invariant.at c.in-Some.ensures.next c.in_ok-seat_turn-in-Some.ensures.moved;
+      at = rotation_more c.loop-turns._turns (record { world = c.args.w.now.world; from = 1 }) c.loop-turns.w.world c.loop-turns.from c.in-Some.node c.seat_event.new.w.world c.loop-turns.invariant.at c.in-Some.ensures.next c.in_ok-seat_event-in-Some.ensures.moved;
       low = omega arith;
       high = omega (arith, c.in-Some.ensures.of_world.to, stays.count);
       good = c.keeps_the_rules-in-Some.ensures.good;
-      enough = enough_after c.args.budget c.loop-turns._turns c.loop-turns.w.world c.loop-turns.from c.in-Some.node c.seat_turn.new.w.world (omega arith)
-          c.loop-turns.invariant.low c.loop-turns.invariant.high c.in-Some.ensures.next c.in_ok-seat_turn-in-Some.ensures.moved
+      enough = enough_after c.args.budget c.loop-turns._turns c.loop-turns.w.world c.loop-turns.from c.in-Some.node c.seat_event.new.w.world (omega arith)
+          c.loop-turns.invariant.low c.loop-turns.invariant.high c.in-Some.ensures.next c.in_ok-seat_event-in-Some.ensures.moved
           c.loop-turns.invariant.good c.keeps_the_rules-in-Some.ensures.good c.keeps_the_rules-in-Some.ensures.accepted c.loop-turns.invariant.enough;
-      drive = λ told. told_well _ _ _ (told_on _ _ _ _ _ _ (c.loop-turns.invariant.drive told) c.in_ok-seat_turn-in-Some.ensures.drive) (λ p. cc);
-      later = omega (arith, c.seat_turn.ensures.later, c.loop-turns.invariant.later);
+      drive = λ told. told_well _ _ _ (told_on _ _ _ _ _ _ (c.loop-turns.invariant.drive told) c.in_ok-seat_event-in-Some.ensures.drive) (λ p. cc);
+      later = omega (arith, c.seat_event.ensures.later, c.loop-turns.invariant.later);
     }
 
-pub returns-in_err-seat_turn-in-Some-clause-drive : goal.returns-in_err-seat_turn-in-Some-clause-drive
-returns-in_err-seat_turn-in-Some-clause-drive g c = λ told.
-    elim (told_on _ _ _ _ _ _ (c.loop-turns.invariant.drive told) c.in_err-seat_turn-in-Some.ensures.drive) [
+pub returns-in_err-seat_event-in-Some-clause-drive : goal.returns-in_err-seat_event-in-Some-clause-drive
+returns-in_err-seat_event-in-Some-clause-drive g c = λ told.
+    elim (told_on _ _ _ _ _ _ (c.loop-turns.invariant.drive told) c.in_err-seat_event-in-Some.ensures.drive) [
       | inl e ↦ inl e
       | inr q ↦
-          let same : c.in_err-seat_turn-in-Some.field-0.0 ≡ turn.ImageFault = cc in
+          let same : c.in_err-seat_event-in-Some.field-0.0 ≡ turn.ImageFault = cc in
           let p = err_from_is_err_and c.from_residual.result c.from_residual.ensures.1 in
           inr (p.1 ∙ ap Err (p.2 ∙ ap run_fault same))
     ]

@@ -1,7 +1,8 @@
 use Rattle.std.proofs.Common.{◌≡◌, ◌≤◌, ◌+◌, ◌-◌, length}
-use Rattle.core_state.specs.Images.{IsTold, told_as}
+use Rattle.blk_drive.specs.Telling.{IsTold}
+use Rattle.blk_drive.specs.Telling.{told_as}
 use Rattle.core_state.specs.Goods.{Good}
-use Rattle.core_live.specs.Turns.{IsEnough}
+use Rattle.core_ends.specs.Turns.{IsEnough}
 use Rattle.run_engine.specs.Walks.{rotation}
 use Rattle.run_engine.proofs.rotation.rotate.Given as goal
 

@@ -1,5 +1,6 @@
 use Rattle.std.proofs.Common.{◌≡◌, ◌≤◌, take}
-use Rattle.core_state.specs.Images.{IsTold, told_as}
+use Rattle.blk_drive.specs.Telling.{IsTold}
+use Rattle.blk_drive.specs.Telling.{told_as}
 use Rattle.run_engine.specs.Walks.{played}
 use Rattle.run_engine.proofs.running.play_all.Given as goal
 

@@ -1,6 +1,6 @@
 use Rattle.std.proofs.Common.{◌≡◌, ◌∙◌, Bool, List, length, map, sym, ap, subst}
 use Rattle.std.specs.Prelude.{nat_lt, IfOk}
-use Rattle.vol_words.specs.Fields.{Block}
+use Rattle.base_words.specs.Fields.{Block}
 use Rattle.fx_dir.specs.Lists.{joined}
 use Rattle.fx_dir.specs.Directory.{entries_at}
 use Rattle.plain_cat.specs.declared.entries.DirEnt.{DirEnt}

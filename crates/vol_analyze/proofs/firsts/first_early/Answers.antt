@@ -1,7 +1,7 @@
 use Rattle.std.proofs.Common.{◌∙◌, ◌++◌, Some, map, sym, ap}
 use Rattle.std.specs.Prelude.{slice_get}
-use Rattle.plain_vol.specs.Mending.{places}
-use Rattle.vol_places.specs.Places.{place_of}
+use Rattle.plain_rules.specs.Mending.{places}
+use Rattle.vol_faults.specs.Places.{place_of}
 use Rattle.vol_analyze.specs.Kinds.{marked_of, nameless_of, seconds_of}
 use Rattle.vol_analyze.proofs.Heads.{first_left, first_right}
 use Rattle.vol_analyze.proofs.firsts.first_early.Goals as goal

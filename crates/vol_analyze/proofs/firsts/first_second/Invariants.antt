@@ -1,6 +1,6 @@
 use Rattle.std.proofs.Common.{◌≡◌, drop, map}
 use Rattle.std.specs.Prelude.{slice_get}
-use Rattle.vol_places.specs.Places.{place_of}
+use Rattle.vol_faults.specs.Places.{place_of}
 use Rattle.vol_analyze.specs.Kinds.{seconds_of}
 use Rattle.vol_analyze.proofs.firsts.first_second.Given as goal
 

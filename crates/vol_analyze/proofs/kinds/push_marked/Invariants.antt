@@ -1,5 +1,5 @@
 use Rattle.std.proofs.Common.{◌≡◌, ◌++◌, ◌+◌, drop, map}
-use Rattle.plain_vol.specs.Mending.{numbers_from}
+use Rattle.plain_rules.specs.Mending.{numbers_from}
 use Rattle.vol_parts.specs.declared.finding.Finding.TheVariants as finding
 use Rattle.vol_parts.specs.Warnings.{is_marked}
 use Rattle.vol_analyze.specs.Kinds.{marked_of}

@@ -1,5 +1,5 @@
 use Rattle.std.proofs.Common.{◌≡◌, ◌++◌, drop, map}
-use Rattle.vol_places.specs.Places.{place_of}
+use Rattle.vol_faults.specs.Places.{place_of}
 use Rattle.vol_analyze.specs.Kinds.{seconds_of}
 use Rattle.vol_analyze.proofs.kinds.push_seconds.Given as goal
 

@@ -1,5 +1,5 @@
 use Rattle.std.proofs.Common.{◌≡◌, ◌<◌, ◌≤◌, ℕ, false}
-use Rattle.plain_vol.specs.Lookups.{file_at}
+use Rattle.plain_rules.specs.Lookups.{file_at}
 use Rattle.vol_parts.specs.Fatal.{is_marked_dir}
 use Rattle.vol_faults.proofs.entries.lowest_marked_dir.Given as goal
 

@@ -1,6 +1,7 @@
 use Rattle.std.proofs.Common.{◌≡◌, ◌<◌, ◌≤◌, ℕ, true}
 use Rattle.std.specs.List.{list_any}
-use Rattle.vol_parts.specs.Fatal.{is_system_entry, entries_of}
+use Rattle.plain_rules.specs.SystemFiles.{is_system_entry}
+use Rattle.plain_rules.specs.SystemFiles.{entries_of}
 use Rattle.vol_faults.proofs.entries.lowest_missing_entry.Given as goal
 
 abbrev pub invariant-loop-n : goal.invariant-loop-n

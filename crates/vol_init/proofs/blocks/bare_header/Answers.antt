@@ -1,5 +1,5 @@
 use Rattle.std.proofs.Common.{refl, arith}
-use Rattle.vol_fresh.specs.Layouts.{header_of}
+use Rattle.vol_init.specs.Layouts.{header_of}
 use Rattle.vol_init.proofs.HeaderLemmas.{few-blocks}
 use Rattle.vol_init.proofs.blocks.bare_header.Goals as goal
 

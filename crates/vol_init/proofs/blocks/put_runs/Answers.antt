@@ -1,7 +1,7 @@
 use Rattle.std.proofs.Common.{◌≡◌, ◌*◌, ◌≤◌, [], ◌∷◌, refl, subst, arith}
 use Rattle.fx_header.specs.declared.run.Run.{Run}
 use Rattle.fx_header.specs.Pointers.{AreRuns}
-use Rattle.vol_fresh.specs.Layouts.{clusters_of}
+use Rattle.vol_init.specs.Layouts.{clusters_of}
 use Rattle.vol_init.specs.Parts.{first_block}
 use Rattle.vol_init.proofs.HeaderLemmas.{few-blocks, fit-one, run-written}
 use Rattle.vol_init.proofs.blocks.put_runs.Goals as goal

@@ -2,7 +2,7 @@ use Rattle.std.proofs.Common.{◌∙◌, ◌+◌, ◌*◌, ap, refl, arith}
 use Rattle.std.proofs.lemmas.Bool.{eq-eqb, ne_eqb}
 use Rattle.fx_quota.specs.declared.types.Row.{Row}
 use Rattle.vol_parts.specs.Volumes.{rows_in}
-use Rattle.vol_fresh.specs.Layouts.{quota_rows}
+use Rattle.vol_init.specs.Layouts.{quota_rows}
 use Rattle.vol_init.proofs.ZeroLemmas.{zeros-rows, rows-put}
 use Rattle.vol_init.proofs.blocks.quota_block.Goals as goal
 

@@ -1,5 +1,5 @@
 use Rattle.std.proofs.Common.{◌*◌, arith}
-use Rattle.vol_fresh.specs.Layouts.{reserved_clusters, total}
+use Rattle.vol_init.specs.Layouts.{reserved_clusters, total}
 use Rattle.vol_init.proofs.ZeroLemmas.{range-put, range-none}
 use Rattle.vol_init.proofs.blocks.storage_block.Goals as goal
 

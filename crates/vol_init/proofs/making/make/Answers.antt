@@ -1,7 +1,7 @@
 use Rattle.std.proofs.Common.{◌∙◌, ◌<◌, List, length, ap, sym, subst, arith}
 use Rattle.std.specs.Prelude.{slice_set}
 use Rattle.std.proofs.lemmas.Result.{on_ok_weaker, on_err_weaker}
-use Rattle.vol_words.specs.Fields.{Block}
+use Rattle.base_words.specs.Fields.{Block}
 use Rattle.vol_init.specs.Made.{IsMade}
 use Rattle.vol_init.proofs.MadeLemmas.{made, left-first, left-cleared, left-last, told-cleared, still-cleared, always}
 use Rattle.vol_init.proofs.making.make.Goals as goal

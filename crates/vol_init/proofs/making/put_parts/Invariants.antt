@@ -1,5 +1,5 @@
 use Rattle.std.proofs.Common.{◌≡◌, ◌<◌, ◌≤◌, ℕ, Some, length}
-use Rattle.vol_init.specs.Parts.{block_in}
+use Rattle.base_words.specs.Fields.{block_at as block_in}
 use Rattle.vol_init.specs.Plans.{ArePut, told_at}
 use Rattle.vol_init.proofs.making.put_parts.Given as goal
 

@@ -1,5 +1,5 @@
 use Rattle.std.proofs.Common.{refl}
-use Rattle.vol_fresh.specs.Layouts.{main_entries}
+use Rattle.vol_init.specs.Layouts.{main_entries}
 use Rattle.vol_init.proofs.naming.main_entries.Goals as goal
 
 pub returns : goal.returns

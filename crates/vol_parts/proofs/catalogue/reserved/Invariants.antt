@@ -1,6 +1,6 @@
 use Rattle.std.proofs.Common.{◌≡◌, take}
 use Rattle.std.specs.List.{sum_by}
-use Rattle.plain_vol.specs.Lookups.{clusters_in}
+use Rattle.plain_rules.specs.Lookups.{clusters_in}
 use Rattle.vol_parts.proofs.catalogue.reserved.Given as goal
 
 abbrev pub invariant-loop-slot : goal.invariant-loop-slot

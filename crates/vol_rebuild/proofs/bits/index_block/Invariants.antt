@@ -1,7 +1,7 @@
 use Rattle.std.proofs.Common.{◌≡◌, ◌+◌, ◌<◌, ℕ}
 use Rattle.std.specs.Prelude.{is_some}
 use Rattle.fx_bitmap.specs.Bits.{bit_at}
-use Rattle.plain_vol.specs.Lookups.{file_at}
+use Rattle.plain_rules.specs.Lookups.{file_at}
 use Rattle.vol_rebuild.proofs.bits.index_block.Given as goal
 
 abbrev pub invariant-loop-i : goal.invariant-loop-i

@@ -1,9 +1,9 @@
 use Rattle.std.proofs.Common.{List, sym, subst, arith}
 use Rattle.std.proofs.lemmas.Result.{on_ok_weaker}
-use Rattle.vol_words.specs.Fields.{Block}
-use Rattle.mend_writes.specs.Told.{IsTold, KeepsSingles}
-use Rattle.mend_writes.specs.Bits.{AreFileBits, numbers_left}
-use Rattle.mend_writes.proofs.Bitmaps.{numbers_are_set}
+use Rattle.base_words.specs.Fields.{Block}
+use Rattle.vol_mends.specs.Told.{IsTold, KeepsSingles}
+use Rattle.vol_mends.specs.Bits.{AreFileBits, numbers_left}
+use Rattle.vol_mends.proofs.Bitmaps.{numbers_are_set}
 use Rattle.vol_rebuild.proofs.Reading.{few_files, slots}
 use Rattle.vol_rebuild.proofs.bits.set_index.Goals as goal
 

@@ -1,8 +1,8 @@
 use Rattle.std.proofs.Common.{ℕ, List, refl, sym, subst, arith}
 use Rattle.std.proofs.lemmas.Result.{err_from_is_err_and}
 use Rattle.plain_cat.specs.declared.cat.Cat.{Cat}
-use Rattle.vol_words.specs.Fields.{Block}
-use Rattle.mend_writes.specs.Told.{IsTold}
+use Rattle.base_words.specs.Fields.{Block}
+use Rattle.vol_mends.specs.Told.{IsTold}
 use Rattle.vol_rebuild.specs.Space.{IsCounted, IsSpaceSet}
 use Rattle.vol_rebuild.proofs.Stepping.{step_none, next_well, next_out, ends_well}
 use Rattle.vol_rebuild.proofs.Spacing.{set_more, none_leaked}

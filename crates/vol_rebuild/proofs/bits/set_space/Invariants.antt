@@ -3,7 +3,7 @@ use Rattle.std.specs.Prelude.{slice_index}
 use Rattle.plain_cat.specs.declared.cat.Cat.{Cat}
 use Rattle.vol_parts.specs.Volumes.{volume, is_free_cluster}
 use Rattle.vol_spell.specs.Reading.{total_of}
-use Rattle.mend_writes.specs.Told.{IsTold, KeepsSingles}
+use Rattle.vol_mends.specs.Told.{IsTold, KeepsSingles}
 use Rattle.vol_rebuild.specs.Space.{IsCounted}
 use Rattle.vol_rebuild.specs.Ways.{IsStep}
 use Rattle.vol_rebuild.proofs.bits.set_space.Given as goal

@@ -1,6 +1,6 @@
 use Rattle.std.proofs.Common.{List, sym, subst}
 use Rattle.std.proofs.lemmas.Result.{on_ok_weaker}
-use Rattle.vol_words.specs.Fields.{Block}
+use Rattle.base_words.specs.Fields.{Block}
 use Rattle.vol_rebuild.specs.Space.{IsSpaceSet}
 use Rattle.vol_rebuild.proofs.Spacing.{space_leads, space_set, storage_on}
 use Rattle.vol_rebuild.proofs.bits.set_storage.Goals as goal

@@ -1,7 +1,7 @@
 use Rattle.std.proofs.Common.{◌≡◌, ◌≤◌, ◌<◌, ◌+◌, ◌⊎◌, inl, inr, ℕ, refl, sym, subst, arith}
 use Rattle.std.proofs.lemmas.Bool.{cases_lt}
 use Rattle.std.proofs.lemmas.Result.{err_from_is_err_and}
-use Rattle.mend_writes.specs.Told.{IsSingle}
+use Rattle.vol_mends.specs.Told.{IsSingle}
 use Rattle.vol_rebuild.proofs.Reading.{in_geometry}
 use Rattle.vol_rebuild.proofs.Stepping.{next_well, next_out}
 use Rattle.vol_rebuild.proofs.doubles.pack_doubles.Goals as goal

@@ -1,5 +1,5 @@
 use Rattle.std.proofs.Common.{◌≤◌, ◌<◌, ℕ}
-use Rattle.mend_writes.specs.Told.{IsTold, IsSingle}
+use Rattle.vol_mends.specs.Told.{IsTold, IsSingle}
 use Rattle.vol_rebuild.specs.Ways.{IsStep}
 use Rattle.vol_rebuild.proofs.doubles.pack_doubles.Given as goal
 

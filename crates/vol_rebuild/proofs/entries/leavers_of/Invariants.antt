@@ -1,5 +1,5 @@
 use Rattle.std.proofs.Common.{◌≡◌, map, take}
-use Rattle.vol_places.specs.Places.{place_of}
+use Rattle.vol_faults.specs.Places.{place_of}
 use Rattle.vol_rebuild.specs.Leaving.{leavers_of, place_from}
 use Rattle.vol_rebuild.proofs.entries.leavers_of.Given as goal
 

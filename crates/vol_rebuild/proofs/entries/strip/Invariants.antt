@@ -1,6 +1,6 @@
 use Rattle.std.proofs.Common.{◌≡◌, ◌+◌, length, map, drop}
-use Rattle.plain_vol.specs.Mending.{places, stripped}
-use Rattle.mend_writes.specs.Told.{IsTold}
+use Rattle.plain_rules.specs.Mending.{places, stripped}
+use Rattle.vol_mends.specs.Told.{IsTold}
 use Rattle.vol_rebuild.specs.Leaving.{leavers, place_from}
 use Rattle.vol_rebuild.specs.Steps.{used_count}
 use Rattle.vol_rebuild.specs.Ways.{IsStep}

@@ -1,5 +1,5 @@
 use Rattle.std.proofs.Common.{◌≡◌, take}
-use Rattle.plain_vol.specs.Directories.{without}
+use Rattle.plain_rules.specs.Directories.{without}
 use Rattle.vol_rebuild.proofs.entries.without.Given as goal
 
 abbrev pub invariant-loop-e : goal.invariant-loop-e

@@ -2,10 +2,10 @@ use Rattle.std.proofs.Common.{◌∙◌, ℕ, List, sym, ap, subst}
 use Rattle.std.specs.Prelude.{slice_set}
 use Rattle.std.specs.Option.{option_copied}
 use Rattle.std.proofs.lemmas.Result.{err_from_is_err_and}
-use Rattle.vol_words.specs.Fields.{Block}
+use Rattle.base_words.specs.Fields.{Block}
 use Rattle.fx_dir.specs.declared.Move.{Move}
 use Rattle.plain_cat.specs.declared.cat.Slot.{Slot}
-use Rattle.plain_vol.specs.Changes.{with_entries}
+use Rattle.plain_rules.specs.Changes.{with_entries}
 use Rattle.vol_rebuild.specs.Places.{written_at, DirLeads}
 use Rattle.vol_rebuild.proofs.Stepping.{lacking}
 use Rattle.vol_rebuild.proofs.Lacking.{lacks_lost, lacks_file, lacks_room, has_room, lost_slot}

@@ -1,7 +1,7 @@
 use Rattle.std.proofs.Common.{◌≡◌, ◌≤◌, ◌+◌, ◌∙◌, cond, ℕ, refl, sym, ap, subst, arith}
 use Rattle.std.proofs.lemmas.Result.{err_from_is_err_and}
 use Rattle.std.specs.Prelude.{slice_index_or, List}
-use Rattle.plain_vol.specs.Mending.{enter_some}
+use Rattle.plain_rules.specs.Mending.{enter_some}
 use Rattle.vol_rebuild.specs.Steps.{AreSkipped}
 use Rattle.vol_rebuild.proofs.Stepping.{next_well, next_out}
 use Rattle.vol_rebuild.proofs.Looping.{can_empty, either_on, rest_at}

@@ -1,7 +1,7 @@
 use Rattle.std.proofs.Common.{◌≡◌, ◌+◌, ◌∙◌, true, false, refl, sym, ap, arith}
 use Rattle.std.proofs.lemmas.Result.{err_from_is_err_and}
 use Rattle.std.specs.Prelude.{slice_index_or}
-use Rattle.plain_vol.specs.Mending.{enter_all}
+use Rattle.plain_rules.specs.Mending.{enter_all}
 use Rattle.vol_rebuild.proofs.Stepping.{next_well, next_out}
 use Rattle.vol_rebuild.proofs.Looping.{can_full, full_on, rest_at}
 use Rattle.vol_rebuild.proofs.lost.enter_full.Goals as goal

@@ -1,7 +1,7 @@
 use Rattle.std.proofs.Common.{◌≡◌, ◌+◌, true, false, drop, length}
-use Rattle.plain_vol.specs.Mending.{places, lost, enter_all}
+use Rattle.plain_rules.specs.Mending.{places, lost, enter_all}
 use Rattle.plain_mends.specs.Waiting.{Settled, LostIsWritten}
-use Rattle.mend_writes.specs.Told.{IsTold, KeepsSingles}
+use Rattle.vol_mends.specs.Told.{IsTold, KeepsSingles}
 use Rattle.vol_rebuild.specs.Steps.{used_count}
 use Rattle.vol_rebuild.specs.Ways.{IsStep}
 use Rattle.vol_rebuild.proofs.lost.enter_full.Given as goal

@@ -1,15 +1,15 @@
 use Rattle.std.proofs.Common.{◌≡◌, ◌<◌, ◌∙◌, ℕ, false, List, Some, length, sym, ap, subst, arith}
 use Rattle.std.specs.Result.{IsOk, ForOk}
-use Rattle.vol_words.specs.Fields.{Block}
+use Rattle.base_words.specs.Fields.{Block}
 use Rattle.fx_dir.specs.declared.RawEnt.{RawEnt}
 use Rattle.fx_dir.specs.Entries.{has}
 use Rattle.fx_dir.specs.Directory.{directory}
 use Rattle.fx_dir.specs.Moves.{insertion}
 use Rattle.fx_dir.specs.Writing.{IsInForm}
 use Rattle.plain_cat.specs.declared.entries.DirEnt.{DirEnt}
-use Rattle.plain_vol.specs.Lookups.{versions, highest}
-use Rattle.plain_vol.specs.Mending.{with_lost_entry, lost_entry, lost_name}
-use Rattle.vol_writes.specs.Entries.{raw_entry}
+use Rattle.plain_rules.specs.Lookups.{versions, highest}
+use Rattle.plain_rules.specs.Mending.{with_lost_entry, lost_entry, lost_name}
+use Rattle.vol_spell.specs.Entries.{raw_entry}
 use Rattle.vol_rebuild.proofs.Directing.{dir_there, numbered, reads, version_room, lost_dir, in_form, is_new, insertion_leads}
 use Rattle.vol_rebuild.proofs.lost.insertion.Goals as goal
 

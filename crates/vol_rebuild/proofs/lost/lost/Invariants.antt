@@ -1,5 +1,5 @@
 use Rattle.std.proofs.Common.{◌≡◌, ◌≤◌, ◌++◌, ◌+◌, drop, length}
-use Rattle.plain_vol.specs.Mending.{is_lost_slot, numbers_from}
+use Rattle.plain_rules.specs.Mending.{is_lost_slot, numbers_from}
 use Rattle.vol_rebuild.proofs.lost.lost.Given as goal
 
 abbrev pub invariant-loop-i : goal.invariant-loop-i

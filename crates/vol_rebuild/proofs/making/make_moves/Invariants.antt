@@ -1,6 +1,7 @@
 use Rattle.std.proofs.Common.{◌≡◌, ◌≤◌, take}
 use Rattle.vol_rebuild.specs.Places.{written_at}
-use Rattle.vol_rebuild.specs.Ways.{Shows, told_as}
+use Rattle.blk_drive.specs.Telling.{IsTold as Shows}
+use Rattle.blk_drive.specs.Telling.{told_as}
 use Rattle.vol_rebuild.proofs.making.make_moves.Given as goal
 
 abbrev pub invariant-loop-next : goal.invariant-loop-next

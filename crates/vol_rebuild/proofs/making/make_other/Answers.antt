@@ -1,7 +1,7 @@
 use Rattle.std.proofs.Common.{◌≡◌, ◌∙◌, Some, sym, ap}
 use Rattle.std.proofs.lemmas.Slice.Eq.{bytes_eq-Decides}
-use Rattle.vol_words.specs.Fields.{Block}
-use Rattle.vol_owners.proofs.Writing.{set-get}
+use Rattle.base_words.specs.Fields.{Block}
+use Rattle.base_words.proofs.ListWrites.{set-get}
 use Rattle.vol_rebuild.proofs.Stepping.{step_none}
 use Rattle.vol_rebuild.proofs.making.make_other.Goals as goal
 

@@ -1,6 +1,6 @@
 use Rattle.std.proofs.Common.{◌≡◌, ◌≤◌, take}
 use Rattle.std.specs.List.{count_by}
-use Rattle.plain_vol.specs.Mending.{is_true}
+use Rattle.plain_rules.specs.Mending.{is_true}
 use Rattle.vol_rebuild.proofs.mending.leaked_numbers.Given as goal
 
 abbrev pub invariant-loop-leaked : goal.invariant-loop-leaked

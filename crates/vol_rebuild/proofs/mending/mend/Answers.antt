@@ -1,7 +1,7 @@
 use Rattle.std.proofs.Common.{refl, sym, subst}
 use Rattle.std.proofs.lemmas.Result.{err_from_is_err_and}
 use Rattle.plain_cat.specs.declared.cat.Cat.{Cat}
-use Rattle.plain_vol.specs.Mending.{without_leaks}
+use Rattle.plain_rules.specs.Mending.{without_leaks}
 use Rattle.plain_mends.specs.Waiting.{Settled, LostIsWritten}
 use Rattle.vol_mends.proofs.StartSteps.{start_is_settled}
 use Rattle.vol_rebuild.specs.Steps.{IsOfFiles}

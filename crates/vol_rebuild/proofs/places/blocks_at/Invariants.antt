@@ -1,5 +1,5 @@
 use Rattle.std.proofs.Common.{◌≡◌, take}
-use Rattle.vol_owners.specs.Places.{blocks_at}
+use Rattle.vol_spell.specs.Spread.{blocks_at}
 use Rattle.vol_rebuild.proofs.places.blocks_at.Given as goal
 
 abbrev pub invariant-loop-l : goal.invariant-loop-l

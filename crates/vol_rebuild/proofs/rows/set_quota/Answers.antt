@@ -1,7 +1,7 @@
 use Rattle.std.proofs.Common.{List, sym, subst}
 use Rattle.std.proofs.lemmas.Result.{on_ok_weaker}
-use Rattle.vol_words.specs.Fields.{Block}
-use Rattle.mend_writes.proofs.Summing.{rows_are_summed}
+use Rattle.base_words.specs.Fields.{Block}
+use Rattle.vol_mends.proofs.Summing.{rows_are_summed}
 use Rattle.vol_rebuild.specs.Sums.{IsQuotaSet}
 use Rattle.vol_rebuild.proofs.Usages.{few_of, sizes_of, quota_leads, quota_set, rows_seen}
 use Rattle.vol_rebuild.proofs.rows.set_quota.Goals as goal

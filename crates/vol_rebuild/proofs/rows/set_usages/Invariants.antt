@@ -1,7 +1,7 @@
 use Rattle.std.proofs.Common.{◌<◌, ℕ, List}
 use Rattle.plain_cat.specs.declared.cat.Cat.{Cat}
 use Rattle.plain_cat.specs.declared.cat.QuotaRow.{QuotaRow}
-use Rattle.mend_writes.specs.Told.{IsTold, KeepsSingles}
+use Rattle.vol_mends.specs.Told.{IsTold, KeepsSingles}
 use Rattle.vol_rebuild.specs.Steps.{IsOfFiles}
 use Rattle.vol_rebuild.specs.Sums.{AreRight}
 use Rattle.vol_rebuild.specs.Ways.{IsStep}

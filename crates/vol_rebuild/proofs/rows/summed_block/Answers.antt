@@ -1,5 +1,5 @@
 use Rattle.std.proofs.Common.{arith}
-use Rattle.mend_writes.specs.Rows.{summed}
+use Rattle.vol_mends.specs.Rows.{summed}
 use Rattle.vol_rebuild.proofs.Setting.{rows_all}
 use Rattle.vol_rebuild.proofs.rows.summed_block.Goals as goal
 

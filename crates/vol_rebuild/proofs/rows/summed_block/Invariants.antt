@@ -1,7 +1,7 @@
 use Rattle.std.proofs.Common.{◌≡◌, ◌≤◌, ◌<◌, ℕ}
 use Rattle.std.specs.Prelude.{option_map}
 use Rattle.fx_quota.specs.Rows.{row_at}
-use Rattle.mend_writes.specs.Rows.{summed}
+use Rattle.vol_mends.specs.Rows.{summed}
 use Rattle.vol_rebuild.proofs.rows.summed_block.Given as goal
 
 abbrev pub invariant-loop-i : goal.invariant-loop-i

@@ -1,10 +1,10 @@
 use Rattle.std.proofs.Common.{◌∙◌, List, sym, ap, subst, arith}
 use Rattle.std.specs.Option.{option_copied}
-use Rattle.vol_words.specs.Fields.{Block}
+use Rattle.base_words.specs.Fields.{Block}
 use Rattle.plain_cat.specs.declared.cat.Cat.{Cat}
 use Rattle.plain_mends.specs.Resuming.{leaving}
-use Rattle.mend_writes.specs.Told.{IsTold, KeepsSingles}
-use Rattle.mend_writes.proofs.Leaving.{slot_is_freed}
+use Rattle.vol_mends.specs.Told.{IsTold, KeepsSingles}
+use Rattle.vol_mends.proofs.Leaving.{slot_is_freed}
 use Rattle.vol_rebuild.proofs.Reading.{in_geometry, number, flags}
 use Rattle.vol_rebuild.proofs.Freeing.{can_free, leaks_fit}
 use Rattle.vol_rebuild.proofs.slots.free.Goals as goal

@@ -1,7 +1,7 @@
 use Rattle.std.proofs.Common.{◌≡◌, ◌+◌, [], true, false, drop}
-use Rattle.plain_vol.specs.Mending.{lost}
+use Rattle.plain_rules.specs.Mending.{lost}
 use Rattle.plain_mends.specs.Waiting.{Settled, AreFull}
-use Rattle.mend_writes.specs.Told.{IsTold, KeepsSingles}
+use Rattle.vol_mends.specs.Told.{IsTold, KeepsSingles}
 use Rattle.vol_rebuild.specs.Leaving.{gone_numbers}
 use Rattle.vol_rebuild.specs.Steps.{used_count}
 use Rattle.vol_rebuild.specs.Ways.{IsStep}

@@ -1,5 +1,5 @@
 use Rattle.std.proofs.Common.{◌≡◌, ◌≤◌, ◌++◌, ◌+◌, drop, length}
-use Rattle.plain_vol.specs.Mending.{numbers_from}
+use Rattle.plain_rules.specs.Mending.{numbers_from}
 use Rattle.vol_rebuild.specs.Leaving.{is_gone_slot}
 use Rattle.vol_rebuild.proofs.slots.gone_of.Given as goal
 

@@ -1,11 +1,12 @@
 use Rattle.std.proofs.Common.{◌≤◌, ℕ, map, ap, sym, subst, arith}
 use Rattle.core_state.specs.Worlds.{shown}
-use Rattle.vol_words.specs.Fields.{AreWholeBlocks}
+use Rattle.base_words.specs.Fields.{AreWholeBlocks}
 use Rattle.fx_home.specs.Homes.{home_read}
 use Rattle.vol_faults.specs.Free.{IsGeometryBy}
 use Rattle.vol_parts.specs.Findings.{home_at}
 use Rattle.core_state.specs.Goods.{IsWorld}
-use Rattle.core_state.proofs.Accepting.{accepted_accounts, accepted_near, accepted_sized, accepted_system, told_opens}
+use Rattle.vol_analyze.proofs.Accepting.{accepted_accounts}
+use Rattle.core_state.proofs.Accepting.{accepted_near, accepted_sized, accepted_system, told_opens}
 use Rattle.core_state.proofs.MountedWorlds.{judged, mounts, world_mounted}
 use Rattle.core_state.proofs.world.World.mount.Goals as goal
 

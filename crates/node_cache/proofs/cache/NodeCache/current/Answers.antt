@@ -1,5 +1,5 @@
 use Rattle.std.proofs.Common.{◌∙◌, Option, option_map, ap, sym, refl}
-use Rattle.vol_words.specs.Fields.{Block}
+use Rattle.base_words.specs.Fields.{Block}
 use Rattle.node_cache.specs.declared.held.Held.{Held}
 use Rattle.node_cache.specs.Views.{entries_of}
 use Rattle.node_cache.proofs.Entries.{cache-used}

@@ -1,5 +1,5 @@
 use Rattle.std.proofs.Common.{rules}
-use Rattle.op_parts.proofs.OfVolume.{fits_volume}
+use Rattle.op_steps.proofs.OfVolume.{fits_volume}
 use Rattle.op_create.proofs.OfVolume.{fits_inside}
 use Rattle.op_create.proofs.operation.OpCreateOperation.next.Goals as goal
 

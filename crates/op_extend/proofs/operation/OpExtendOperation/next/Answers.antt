@@ -1,5 +1,5 @@
 use Rattle.std.proofs.Common.{rules}
-use Rattle.op_parts.proofs.OfVolume.{fits_volume}
+use Rattle.op_steps.proofs.OfVolume.{fits_volume}
 use Rattle.op_extend.proofs.FitsFile.{fits_inside, fits_sized, fits_cut}
 use Rattle.op_extend.proofs.operation.OpExtendOperation.next.Goals as goal
 

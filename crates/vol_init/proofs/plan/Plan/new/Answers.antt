@@ -3,7 +3,7 @@ use Rattle.fx_dir.specs.declared.RawEnt.{RawEnt}
 use Rattle.fx_dir.specs.Entries.{rises}
 use Rattle.fx_dir.specs.Lists.{Each}
 use Rattle.fx_dir.specs.Writing.{IsInForm, IsRanged, IsUniform, name_of}
-use Rattle.vol_words.specs.Packing.{over}
+use Rattle.base_words.specs.Packing.{over}
 use Rattle.vol_init.proofs.EntryLemmas.{main-rises, main-form, main-ranged, main-uniform, main-fits, none-over}
 use Rattle.vol_init.proofs.plan.Plan.new.Goals as goal
 

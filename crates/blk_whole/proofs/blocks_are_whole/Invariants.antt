@@ -1,7 +1,0 @@
-use Rattle.std.proofs.Common.{◌≡◌, ◌<◌, ℕ, Some, slice_get}
-use Rattle.vol_words.specs.Fields.{Block, IsWholeBlock}
-use Rattle.blk_whole.proofs.blocks_are_whole.Given as goal
-
--- those in front of the loop are whole
-abbrev pub invariant-loop-block : goal.invariant-loop-block
-invariant-loop-block l = (k : ℕ) (b : Block) → k < l.block-index → slice_get l.blocks k ≡ Some b → IsWholeBlock b

@@ -1,3 +1,0 @@
-pub mod Guarded
-pub mod Committed
-pub mod Heads

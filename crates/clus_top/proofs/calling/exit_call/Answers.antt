@@ -1,0 +1,45 @@
+use Rattle.std.proofs.Common.{◌≡◌, ◌∙◌, ℕ, List, subst}
+use Rattle.std.specs.Process.{exit_status}
+use Rattle.run_engine.specs.declared.status.Status.TheVariants as status
+use Rattle.clus_top.specs.Calls.{IsEnd}
+use Rattle.clus_top.proofs.Lacking.{lacking_due, lacking_image}
+use Rattle.clus_top.proofs.calling.exit_call.Goals as goal
+
+pub returns-in-Ok : goal.returns-in-Ok
+returns-in-Ok g c =
+    let P : List (List ℕ) → Type 0 = λ words. IsEnd (record {
+      words = words;
+      left = g.T.TextIn.left c.args.script.now;
+      size = g.I.ImageDev.size c.args.image;
+      told = g.I.ImageDev.told c.args.image;
+      written = g.O.TextOut.written c.args.out.now;
+      script_faults = g.T.TextIn.faults c.args.script.now;
+      image_faults = g.I.ImageDev.faults c.args.image;
+      out_faults = g.O.TextOut.faults c.args.out.now;
+    }) (g.O.TextOut.written c.vmsclus-finished.new.out) (g.T.TextIn.faults c.vmsclus-finished.new.script) (g.O.TextOut.faults c.vmsclus-finished.new.out) (exit_status c.exit_code.result) in
+    subst P (c.as_slice.ensures.value ∙ c.in-Ok.ensures) (record {
+      status = c.vmsclus-finished.result.status;
+      number_is = c.exit_code.ensures;
+      due = c.vmsclus-finished.ensures.due;
+      script_fault = c.vmsclus-finished.ensures.script_fault;
+      out_fault = c.vmsclus-finished.ensures.out_fault;
+      image = g.I.ImageDev.told c.vmsclus-finished.result.image;
+      image_faults = g.I.ImageDev.faults c.vmsclus-finished.result.image;
+      image_fault = c.vmsclus-finished.ensures.image_fault;
+      text = c.vmsclus-finished.ensures.written;
+      after = c.vmsclus-finished.ensures.after;
+    })
+
+pub returns-in-Err : goal.returns-in-Err
+returns-in-Err g c = record {
+  status = status.NoMemory;
+  number_is = c.no_memory.ensures.number;
+  due = lacking_due _ _ _ _;
+  script_fault = λ e. absurd (let f : status.NoMemory ≡ status.ScriptFault = e in cc);
+  out_fault = λ e. absurd (let f : status.NoMemory ≡ status.OutFault = e in cc);
+  image = g.I.ImageDev.told c.args.image;
+  image_faults = g.I.ImageDev.faults c.args.image;
+  image_fault = λ e. absurd (let f : status.NoMemory ≡ status.ImageFault = e in cc);
+  text = c.no_memory.ensures.text;
+  after = lacking_image _ _ _;
+}

@@ -1,0 +1,3 @@
+pub mod Committed
+pub mod Guarded
+pub mod Heads

@@ -1,5 +1,0 @@
-use Rattle.core_live.proofs.Stepping.{little_is_left}
-use Rattle.core_live.proofs.laws.little_is_left.Goals as goal
-
-pub returns : goal.returns
-returns _ = little_is_left

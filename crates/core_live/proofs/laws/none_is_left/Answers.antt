@@ -1,5 +1,0 @@
-use Rattle.core_live.proofs.Rounding.{none_is_left}
-use Rattle.core_live.proofs.laws.none_is_left.Goals as goal
-
-pub returns : goal.returns
-returns _ = none_is_left

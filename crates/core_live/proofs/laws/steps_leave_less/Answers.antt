@@ -1,5 +1,0 @@
-use Rattle.core_live.proofs.Stepping.{steps_leave_less}
-use Rattle.core_live.proofs.laws.steps_leave_less.Goals as goal
-
-pub returns : goal.returns
-returns _ = steps_leave_less

@@ -1,5 +1,0 @@
-use Rattle.core_live.proofs.Rounding.{steps_take_one}
-use Rattle.core_live.proofs.laws.steps_take_one.Goals as goal
-
-pub returns : goal.returns
-returns _ = steps_take_one

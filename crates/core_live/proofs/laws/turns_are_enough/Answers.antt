@@ -1,5 +1,0 @@
-use Rattle.core_live.proofs.Rounding.{turns_are_enough}
-use Rattle.core_live.proofs.laws.turns_are_enough.Goals as goal
-
-pub returns : goal.returns
-returns _ = turns_are_enough

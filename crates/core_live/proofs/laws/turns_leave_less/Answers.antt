@@ -1,5 +1,0 @@
-use Rattle.core_live.proofs.Falling.{turns_leave_less}
-use Rattle.core_live.proofs.laws.turns_leave_less.Goals as goal
-
-pub returns : goal.returns
-returns _ = turns_leave_less

@@ -1,5 +1,0 @@
-use Rattle.lock_db.proofs.Steps.{IsTable-dropped}
-use Rattle.lock_deaths.proofs.laws.deaths_keep_the_table.Goals as goal
-
-pub returns : goal.returns
-returns _ = IsTable-dropped

@@ -1,5 +1,0 @@
-use Rattle.lock_deaths.proofs.Dropping.{granted_stays, nothing_comes, own_go}
-use Rattle.lock_deaths.proofs.laws.deaths_leave_other_owners.Goals as goal
-
-pub returns : goal.returns
-returns _ = record { granted = granted_stays; nothing = nothing_comes; own = own_go }

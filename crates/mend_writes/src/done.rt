@@ -1,6 +1,0 @@
-ghost use Rattle.mend_writes.specs.Done.{DoneIsAccepted};
-
-/// Where nothing is left to mend and no entry stands in two blocks, the volume is accepted, and mends to the catalogue that it tells.
-pub fn done_is_accepted()
-    ensures { DoneIsAccepted }
-{}

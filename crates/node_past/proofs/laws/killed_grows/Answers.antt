@@ -1,5 +1,0 @@
-use Rattle.node_past.proofs.Growing.{killed_grows}
-use Rattle.node_past.proofs.laws.killed_grows.Goals as goal
-
-pub returns : goal.returns
-returns c = killed_grows

@@ -1,5 +1,0 @@
-use Rattle.node_past.proofs.Growing.{own_grows}
-use Rattle.node_past.proofs.laws.own_grows.Goals as goal
-
-pub returns : goal.returns
-returns c = own_grows

@@ -1,5 +1,0 @@
-use Rattle.node_past.proofs.Growing.{past_grows}
-use Rattle.node_past.proofs.laws.past_grows.Goals as goal
-
-pub returns : goal.returns
-returns c = past_grows

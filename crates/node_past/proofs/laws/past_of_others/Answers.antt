@@ -1,5 +1,0 @@
-use Rattle.node_past.proofs.Growing.{past_of_others}
-use Rattle.node_past.proofs.laws.past_of_others.Goals as goal
-
-pub returns : goal.returns
-returns c = past_of_others

@@ -1,5 +1,0 @@
-use Rattle.node_past.proofs.Growing.{replays_grow}
-use Rattle.node_past.proofs.laws.replays_grow.Goals as goal
-
-pub returns : goal.returns
-returns c = replays_grow

@@ -1,5 +1,0 @@
-use Rattle.node_space.proofs.Ending.{looks_in_order}
-use Rattle.node_space.proofs.laws.looks_in_order.Goals as goal
-
-pub returns : goal.returns
-returns c = looks_in_order

@@ -1,5 +1,0 @@
-use Rattle.node_space.proofs.Taken.{number_is_free}
-use Rattle.node_space.proofs.laws.number_is_free.Goals as goal
-
-pub returns : goal.returns
-returns c = number_is_free

@@ -1,6 +1,0 @@
-use Rattle.node_space.specs.Answering.{blocks_of}
-use Rattle.node_space.proofs.Gathering.{Gathered}
-use Rattle.node_space.proofs.taking.take_clusters.Given as goal
-
-abbrev pub invariant-loop-k : goal.invariant-loop-k
-invariant-loop-k l = Gathered l.geometry l.wanted l.number (blocks_of l.storage) l.fn.writes l.taken l.writes l.k

@@ -1,9 +1,0 @@
-pub mod Lists
-pub mod Shown
-pub mod Slots
-pub mod Places
-pub mod BlockSteps
-pub mod Zeros
-pub mod Sizes
-pub mod WriteSteps
-pub mod WriteGuards

@@ -1,6 +1,0 @@
-use Rattle.vol_under.specs.Chains.{anywhere}
-use Rattle.op_files.proofs.Cut.{cut_steps}
-use Rattle.op_files.proofs.laws.cut_steps.Goals as goal
-
-pub returns : goal.returns
-returns c = cut_steps anywhere

@@ -1,6 +1,0 @@
-use Rattle.vol_under.specs.Chains.{anywhere}
-use Rattle.op_files.proofs.Freed.{freed_steps}
-use Rattle.op_files.proofs.laws.freed_steps.Goals as goal
-
-pub returns : goal.returns
-returns c = freed_steps anywhere

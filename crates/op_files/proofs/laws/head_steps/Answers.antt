@@ -1,6 +1,0 @@
-use Rattle.vol_under.specs.Chains.{anywhere}
-use Rattle.op_files.proofs.HeadSteps.{head_steps}
-use Rattle.op_files.proofs.laws.head_steps.Goals as goal
-
-pub returns : goal.returns
-returns c = head_steps anywhere

@@ -1,0 +1,56 @@
+//! The clusters of a file.
+
+ghost use Rattle.std.specs.Prelude.{◌≡◌, ◌≤◌, ◌+◌, ◌/◌, ◌++◌, IfOk, OnOk};
+ghost use Rattle.std.specs.List.{range_with_len};
+ghost use Rattle.vol_parts.specs.Parts.{IsGeometry};
+ghost use Rattle.op_law.specs.Writing.{clusters_seen};
+ghost use Rattle.op_law.specs.Freeing.{all_clusters};
+ghost use Rattle.op_law.specs.Readable.{HasMap, AreInside};
+ghost use Rattle.op_steps.specs.Seeing.{file_seen, IsReadable};
+
+use crate::rising;
+use base_words::Block;
+use fx_header::{Run, runs};
+use op_law::NoMemory;
+use op_steps::FileSeen;
+use plain_cat::Clusters;
+use std::alloc::Global;
+use vol_parts::Geometry;
+
+// Adds the clusters of a run. A refusal of memory says nothing of the clusters.
+fn push_clusters(all: &mut Vec<u32>, g: &Geometry, run: Run) -> Result<(), NoMemory>
+    requires geometry { IsGeometry g.now }
+    requires ends { run.lbn + run.count ≤ 65536 }
+    ensures { OnOk result (all.new.items ≡ all.old.items ++ range_with_len (run.lbn / g.now.cluster) (run.count / g.now.cluster)) }
+{
+    let first = run.lbn / g.cluster;
+    for i in 0..run.count / g.cluster {
+        all.push(first + i)?;
+    }
+    Ok(())
+}
+
+// The clusters of the runs of a header, in order.
+fn clusters_seen(alloc: Global, g: &Geometry, head: &Block) -> Result<Vec<u32>, NoMemory>
+    requires geometry { IsGeometry g.now }
+    requires map { HasMap head.now }
+    requires inside { AreInside head.now }
+    ensures { IfOk result (λ qs. qs.items ≡ clusters_seen g.now head.now) }
+{
+    let mut all = Vec::new(alloc);
+    for run in runs(head) {
+        push_clusters(&mut all, g, run)?;
+    }
+    Ok(all)
+}
+
+/// The clusters of a file, rising: as many as it has blocks for. An error says that memory ran out.
+pub fn all_clusters(alloc: Global, g: &Geometry, f: &FileSeen<'_>) -> Result<Clusters, NoMemory>
+    requires geometry { IsGeometry g.now }
+    requires readable { IsReadable f.now }
+    ensures { IfOk result (λ qs. qs ≡ all_clusters g.now (file_seen g.now f.now)) }
+{
+    let all = clusters_seen(alloc, g, f.head)?;
+    let count = ((f.fields.blocks / g.cluster) as usize).min(all.len());
+    rising(alloc, g, &all.as_slice()[..count])
+}

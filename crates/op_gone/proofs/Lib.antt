@@ -1,5 +1,0 @@
-pub mod Steps
-pub mod Looks
-pub mod Uses
-mod Mapped
-mod Few

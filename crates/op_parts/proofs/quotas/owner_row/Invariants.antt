@@ -1,7 +1,0 @@
-use Rattle.std.proofs.Common.{◌≡◌, ◌<◌, ℕ, false}
-use Rattle.op_law.specs.Quotas.{row_seen, is_row_of}
-use Rattle.op_law.specs.Behind.{blocks_alone}
-use Rattle.op_parts.proofs.quotas.owner_row.Given as goal
-
-abbrev pub invariant-loop-j : goal.invariant-loop-j
-invariant-loop-j l = (k : ℕ) → k < l.j → is_row_of l.owner (row_seen (blocks_alone l.quota) k) ≡ false

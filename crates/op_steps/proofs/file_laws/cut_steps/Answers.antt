@@ -1,0 +1,6 @@
+use Rattle.vol_under.specs.Chains.{anywhere}
+use Rattle.op_steps.proofs.Cut.{cut_steps}
+use Rattle.op_steps.proofs.file_laws.cut_steps.Goals as goal
+
+pub returns : goal.returns
+returns c = cut_steps anywhere

@@ -1,0 +1,15 @@
+pub mod BlockWrites
+pub mod Chained
+pub mod EntryWrites
+pub mod FileWrites
+pub mod Files
+pub mod Given
+pub mod GoneWrites
+pub mod GrownWrites
+pub mod HeadWrites
+pub mod MarkWrites
+pub mod Names
+pub mod NewRows
+pub mod RemovalWrites
+pub mod RowWrites
+pub mod Seeing

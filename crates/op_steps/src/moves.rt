@@ -1,0 +1,158 @@
+//! The writes that enter an entry into a directory, and those that remove one.
+
+ghost use Rattle.std.specs.Prelude.{◌≡◌, ◌<◌, ◌++◌, ◌^◌, true, false, is_ok, length, IfOk, OnOk};
+ghost use Rattle.std.specs.Result.{ForOk};
+ghost use Rattle.fx_dir.specs.Writing.{IsInForm};
+ghost use Rattle.fx_dir.specs.Entries.{has};
+ghost use Rattle.fx_dir.specs.Directory.{directory};
+ghost use Rattle.fx_dir.specs.Moves.{key};
+ghost use Rattle.plain_rules.specs.Lookups.{versions};
+ghost use Rattle.plain_rules.specs.Directories.{is_taken};
+ghost use Rattle.op_law.specs.Moving.{entries_of, move_write, moves_at, insertion_moves, insertion_writes, removal_writes};
+ghost use Rattle.vol_spell.specs.Entries.{raw_entry};
+ghost use Rattle.op_steps.specs.Names.{dir_seen, IsReadable};
+
+use crate::names::DirSeen;
+use fx_dir::{DirFault, Move, RawEnt, RawName, insert_moves, pack_moves, read_dir, remove_moves};
+use lock_db::LockName;
+use op_law::{NoMemory, Numbers, PlanWrite, Writes, blocks_of, place_in};
+use plain_cat::{Blocks, Clusters, DirEnt, Stage};
+use std::alloc::{AllocError, Global};
+
+// An entry as a directory's blocks have it.
+fn raw_entry(alloc: Global, e: &DirEnt) -> Result<RawEnt, NoMemory>
+    ensures { IfOk result (λ raw. raw ≡ raw_entry e.now) }
+{
+    Ok(RawEnt {
+        name: RawName::new(alloc, e.name.items())?,
+        ver: e.ver,
+        num: e.fid.num,
+        seq: e.fid.seq,
+        limit: 32767,
+        flags: 0,
+    })
+}
+
+/// Whether blocks are read as a directory. An error says that memory ran out.
+pub fn is_directory(alloc: Global, blocks: &Blocks) -> Result<bool, NoMemory>
+    ensures { IfOk result (λ b. b ≡ is_ok (directory blocks.now)) }
+{
+    match read_dir(alloc, blocks.items()) {
+        Ok(_) => Ok(true),
+        Err(DirFault::NoMemory) => Err(AllocError),
+        Err(DirFault::BadRecord(_)) => Ok(false),
+        Err(DirFault::BadOrder) => Ok(false),
+        Err(DirFault::Clash) => Ok(false),
+    }
+}
+
+/// The moves that enter an entry: none where the blocks are no directory, or have no room for it. An error says that memory ran out.
+pub fn insertion_moves(alloc: Global, d: &DirSeen<'_>, e: &DirEnt) -> Result<Vec<Move>, NoMemory>
+    requires readable { IsReadable d.now }
+    requires form { IsInForm (raw_entry e.now) }
+    requires new { is_taken e.now.ver (versions e.now.name (entries_of (dir_seen d.now))) ≡ false }
+    ensures { IfOk result (λ ms. ms.items ≡ insertion_moves (dir_seen d.now) e.now) }
+{
+    let blocks = blocks_of(alloc, d.blocks)?;
+    if !is_directory(alloc, &blocks)? {
+        return Ok(Vec::new(alloc));
+    }
+    match insert_moves(alloc, blocks.items(), &raw_entry(alloc, e)?)? {
+        Some(moves) => Ok(moves),
+        None => Ok(Vec::new(alloc)),
+    }
+}
+
+// The write of a move.
+fn move_write(alloc: Global, d: &DirSeen<'_>, m: &Move, stage: Stage) -> PlanWrite
+    requires { IsReadable d.now }
+    ensures { result ≡ move_write (dir_seen d.now) stage m.now }
+{
+    let at = m.vbn.saturating_sub(1) as usize;
+    let clusters = Clusters::new(alloc);
+    let numbers = Numbers::new(alloc);
+    PlanWrite {
+        lock: LockName::S(d.fid.num),
+        lbn: place_in(d.head, at).unwrap_or(0),
+        block: m.block,
+        stage,
+        clusters,
+        numbers,
+        number: None,
+    }
+}
+
+/// Adds the writes of moves in a directory, of which so many leave the stage `before`, and those behind them `after`. A refusal of
+/// memory says nothing of the writes.
+pub fn push_moves(
+    alloc: Global,
+    writes: &mut Writes,
+    d: &DirSeen<'_>,
+    moves: &[Move],
+    first: usize,
+    before: Stage,
+    after: Stage,
+) -> Result<(), NoMemory>
+    requires { IsReadable d.now }
+    ensures { OnOk result (writes.new ≡ writes.old ++ moves_at (dir_seen d.now) before after first moves.now) }
+{
+    for (i, m) in moves.iter().enumerate() {
+        let stage = if i < first { before } else { after };
+        writes.push(move_write(alloc, d, m, stage))?;
+    }
+    Ok(())
+}
+
+/// Adds the writes that enter an entry, of which the last leaves the stage `after`, and those in front of it `before`. A refusal
+/// of memory says nothing of the writes.
+#[tactic(auto, unfolding(op_law::specs::Moving::insertion_writes))]
+pub fn push_insertion(
+    alloc: Global,
+    writes: &mut Writes,
+    d: &DirSeen<'_>,
+    e: &DirEnt,
+    before: Stage,
+    after: Stage,
+) -> Result<(), NoMemory>
+    requires readable { IsReadable d.now }
+    requires form { IsInForm (raw_entry e.now) }
+    requires new { is_taken e.now.ver (versions e.now.name (entries_of (dir_seen d.now))) ≡ false }
+    ensures { OnOk result (writes.new ≡ writes.old ++ insertion_writes (dir_seen d.now) e.now before after) }
+{
+    let moves = insertion_moves(alloc, d, e)?;
+    let last = moves.len().saturating_sub(1);
+    push_moves(alloc, writes, d, moves.as_slice(), last, before, after)
+}
+
+/// Adds the writes that remove an entry from a directory with these blocks. Those that pack its entries leave the stage `before`,
+/// and the others `after`. There is none where the blocks are no directory. A refusal of memory says nothing of the writes.
+#[tactic(auto, unfolding(op_law::specs::Moving::removal_writes))]
+pub fn push_removal(
+    alloc: Global,
+    writes: &mut Writes,
+    d: &DirSeen<'_>,
+    blocks: &Blocks,
+    e: &DirEnt,
+    before: Stage,
+    after: Stage,
+) -> Result<(), NoMemory>
+    requires readable { IsReadable d.now }
+    requires few { length blocks.now < 2 ^ 32 }
+    requires there { ForOk (directory blocks.now) (λ es. has es (key e.now.name e.now.ver) ≡ true) }
+    ensures { OnOk result (writes.new ≡ writes.old ++ removal_writes (record (dir_seen d.now) { blocks = blocks.now }) e.now before after) }
+{
+    if !is_directory(alloc, blocks)? {
+        return Ok(());
+    }
+    let packing = pack_moves(alloc, blocks.items())?;
+    let moves = remove_moves(alloc, blocks.items(), e.name.items(), e.ver)?;
+    push_moves(
+        alloc,
+        writes,
+        d,
+        moves.as_slice(),
+        packing.len(),
+        before,
+        after,
+    )
+}

@@ -1,6 +1,0 @@
-use Rattle.op_writes.proofs.EntrySteps.{entry_steps}
-use Rattle.vol_under.specs.Chains.{anywhere}
-use Rattle.op_writes.proofs.laws.entry_steps.Goals as goal
-
-pub returns : goal.returns
-returns c = entry_steps anywhere

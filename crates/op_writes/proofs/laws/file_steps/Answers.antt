@@ -1,6 +1,0 @@
-use Rattle.vol_under.specs.Chains.{anywhere}
-use Rattle.op_writes.proofs.FileSteps.{file_steps}
-use Rattle.op_writes.proofs.laws.file_steps.Goals as goal
-
-pub returns : goal.returns
-returns c = file_steps anywhere

@@ -1,5 +1,0 @@
-use Rattle.op_writes.proofs.RowNewSteps.{new_row_guards}
-use Rattle.op_writes.proofs.laws.new_row_guards.Goals as goal
-
-pub returns : goal.returns
-returns c = new_row_guards

@@ -1,6 +1,0 @@
-use Rattle.vol_under.specs.Chains.{anywhere}
-use Rattle.op_writes.proofs.RowNewSteps.{new_row_steps}
-use Rattle.op_writes.proofs.laws.new_row_steps.Goals as goal
-
-pub returns : goal.returns
-returns c = new_row_steps anywhere

@@ -1,5 +1,0 @@
-use Rattle.op_writes.proofs.RemovalSteps.{removal_guards}
-use Rattle.op_writes.proofs.laws.removal_guards.Goals as goal
-
-pub returns : goal.returns
-returns c = removal_guards

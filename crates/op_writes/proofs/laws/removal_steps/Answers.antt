@@ -1,6 +1,0 @@
-use Rattle.op_writes.proofs.RemovalSteps.{removal_steps}
-use Rattle.vol_under.specs.Chains.{anywhere}
-use Rattle.op_writes.proofs.laws.removal_steps.Goals as goal
-
-pub returns : goal.returns
-returns c = removal_steps anywhere

@@ -1,6 +1,0 @@
-use Rattle.vol_under.specs.Chains.{anywhere}
-use Rattle.op_writes.proofs.RowSteps.{row_steps}
-use Rattle.op_writes.proofs.laws.row_steps.Goals as goal
-
-pub returns : goal.returns
-returns c = row_steps anywhere

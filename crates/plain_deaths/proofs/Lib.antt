@@ -1,4 +1,0 @@
-pub mod Lows
-pub mod Numbers
-pub mod Stages
-pub mod Closing

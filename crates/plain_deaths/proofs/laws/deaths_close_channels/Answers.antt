@@ -1,5 +1,0 @@
-use Rattle.plain_deaths.proofs.Closing.{own_closed, others_left}
-use Rattle.plain_deaths.proofs.laws.deaths_close_channels.Goals as goal
-
-pub returns : goal.returns
-returns _ = record { own = own_closed; others = others_left }

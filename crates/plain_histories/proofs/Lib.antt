@@ -1,0 +1,17 @@
+pub mod Closing
+pub mod Commanding
+pub mod DeathStages
+pub mod Files
+pub mod Having
+pub mod Keeping
+pub mod Lists
+pub mod Lows
+pub mod Moving
+pub mod Naming
+pub mod Near
+pub mod Numbers
+pub mod Replaying
+pub mod Rows
+pub mod Stages
+pub mod Staging
+pub mod Stating

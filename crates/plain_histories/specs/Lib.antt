@@ -1,0 +1,4 @@
+pub mod Moves
+pub mod Opens
+pub mod Pasts
+pub mod Usages

@@ -1,9 +1,0 @@
-pub mod Lists
-pub mod Files
-pub mod Moving
-pub mod Staging
-pub mod Having
-pub mod Keeping
-pub mod Naming
-pub mod Commanding
-pub mod Replaying

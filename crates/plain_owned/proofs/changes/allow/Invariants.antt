@@ -1,6 +1,0 @@
-use Rattle.std.proofs.Common.{◌≡◌, map, take}
-use Rattle.plain_vol.specs.Changes.{allowed}
-use Rattle.plain_owned.proofs.changes.allow.Given as goal
-
-abbrev pub invariant-loop-row : goal.invariant-loop-row
-invariant-loop-row l = l.rows ≡ map (allowed l.owner l.quota l.over) (take l.row-index l.row-items)

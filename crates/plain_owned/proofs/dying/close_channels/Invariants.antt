@@ -1,6 +1,0 @@
-use Rattle.std.proofs.Common.{◌≡◌}
-use Rattle.plain_vol.specs.Replaying.{closed_channels}
-use Rattle.plain_owned.proofs.dying.close_channels.Given as goal
-
-abbrev pub invariant-loop-chan : goal.invariant-loop-chan
-invariant-loop-chan l = l.cat ≡ record l.fn.cat { opens = closed_channels l.node l.chan l.fn.cat.opens }

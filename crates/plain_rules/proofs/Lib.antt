@@ -1,0 +1,15 @@
+pub mod Accounting
+pub mod Choices
+pub mod FormEntries
+pub mod FormSteps
+pub mod Keeps
+pub mod Kept
+pub mod LawSteps
+pub mod MendSteps
+pub mod Ordered
+pub mod Packs
+pub mod Picks
+pub mod Placing
+pub mod Standing
+pub mod Usages
+pub mod Rooms

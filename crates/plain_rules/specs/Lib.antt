@@ -1,0 +1,14 @@
+pub mod Accounts
+pub mod Answers
+pub mod Changes
+pub mod Checks
+pub mod Directories
+pub mod Laws
+pub mod Lookups
+pub mod Mending
+pub mod OneForm
+pub mod Own
+pub mod Replaying
+pub mod Stages
+pub mod Opens
+pub mod SystemFiles

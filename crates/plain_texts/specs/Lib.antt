@@ -1,0 +1,4 @@
+pub mod Commands
+pub mod Names
+pub mod Replies
+pub mod Reports

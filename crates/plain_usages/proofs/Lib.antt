@@ -1,4 +1,0 @@
-pub mod Rows
-pub mod Near
-pub mod Stages
-pub mod Stating

@@ -1,7 +1,0 @@
-use Rattle.std.proofs.Common.{◌≡◌, ◌-◌, take}
-use Rattle.std.specs.List.{sum_by}
-use Rattle.plain_vol.specs.Lookups.{clusters_in}
-use Rattle.plain_vol.proofs.lookups.less_clusters.Given as goal
-
-abbrev pub invariant-loop-slot : goal.invariant-loop-slot
-invariant-loop-slot l = l.free ≡ l.all - sum_by clusters_in (take l.slot-index l.slots)

@@ -1,0 +1,3 @@
+pub mod Meeting
+mod OnChannel
+mod Forms

@@ -1,0 +1,33 @@
+//! Worked rows of the top call: what runs of scripts print and leave. The crate has tests alone.
+//!
+//! The rows are data, and `rows_calls` goes through them. What a row cannot say stands in `caches`, `endings` and `soaks`.
+//!
+//! ```text
+//! Row { on: On::Fresh, first: &[], each: &[&[Step::Made(script, report)]] }
+//! ```
+//!
+//! It promises nothing: its tests compare numbers, texts and blocks.
+#![tactic(auto)]
+
+#[cfg(test)]
+mod answers;
+#[cfg(test)]
+mod caches;
+#[cfg(test)]
+mod changing;
+#[cfg(test)]
+mod channels;
+#[cfg(test)]
+mod endings;
+#[cfg(test)]
+mod faults;
+#[cfg(test)]
+mod making;
+#[cfg(test)]
+mod queues;
+#[cfg(test)]
+mod quotas;
+#[cfg(test)]
+mod soaks;
+#[cfg(test)]
+mod tree;

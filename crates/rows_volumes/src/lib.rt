@@ -1,0 +1,21 @@
+//! Worked rows of what is found on volumes: parts, fatal findings and warnings, on blocks and on catalogues. The crate has tests alone.
+//!
+//! Over `vol_parts`, `vol_faults` and `vol_analyze`.
+//!
+//! It promises nothing: its tests compare findings and their texts.
+#![tactic(auto)]
+
+#[cfg(test)]
+mod analyses;
+#[cfg(test)]
+mod catalogues;
+#[cfg(test)]
+mod faults;
+#[cfg(test)]
+mod findings;
+#[cfg(test)]
+mod firsts;
+#[cfg(test)]
+mod parts;
+#[cfg(test)]
+mod places;

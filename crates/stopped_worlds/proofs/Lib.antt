@@ -1,4 +1,0 @@
-pub mod Matching
-pub mod Resting
-pub mod Halts
-pub mod Worlds

@@ -1,3 +1,0 @@
-pub mod Halting
-pub mod Mending
-pub mod Laws

@@ -1,5 +1,0 @@
-use Rattle.vol_fresh.proofs.Accepted.{accepts_fresh, tells_fresh}
-use Rattle.vol_fresh.proofs.laws.fresh_volumes_are_accepted.Goals as goal
-
-pub returns : goal.returns
-returns c = record { accepted = accepts_fresh; catalogue = tells_fresh }

@@ -1,5 +1,0 @@
-use Rattle.vol_fresh.proofs.Room.{clusters_free, numbers_free}
-use Rattle.vol_fresh.proofs.laws.fresh_volumes_have_room.Goals as goal
-
-pub returns : goal.returns
-returns c = record { clusters = clusters_free; numbers = numbers_free }

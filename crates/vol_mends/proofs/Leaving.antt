@@ -1,0 +1,190 @@
+-- A slot that becomes free.
+use Rattle.std.proofs.Common.{◌≡◌, ◌≢◌, ◌∙◌, ◌<◌, ◌≤◌, ◌+◌, ◌-◌, ℕ, true, false, not, List, [], Some, Ok, length, map, slice_get, slice_set, refl, sym, ap, subst, arith, ◌⊎◌, inl, inr}
+use Rattle.std.specs.Prelude.{◌==◌, ◌||◌, count_by, is_some}
+use Rattle.std.proofs.lemmas.Bool.{eq-eqb, and_from}
+use Rattle.base_words.specs.Fields.{Block}
+use Rattle.fx_header.specs.declared.slot.Slot.TheVariants as head
+use Rattle.fx_header.specs.Headers.{header_read}
+use Rattle.plain_cat.specs.declared.ids.Fid.{Fid}
+use Rattle.plain_cat.specs.declared.cat.Cat.{Cat}
+use Rattle.plain_cat.specs.declared.cat.File.{File}
+use Rattle.plain_cat.specs.declared.cat.Slot.TheVariants as slot
+use Rattle.plain_rules.specs.declared.places.Place.{Place}
+use Rattle.plain_rules.specs.Changes.{with_slot}
+use Rattle.plain_rules.specs.Mending.{places, same_fid, is_named}
+use Rattle.plain_mends.specs.Resuming.{leaving}
+use Rattle.base_words.proofs.Listing.{has_from, has_any}
+use Rattle.plain_laws.proofs.Standing.{number_rises}
+use Rattle.vol_spell.specs.declared.owner.Owner.TheVariants.{InFile, Outside, Leaked}
+use Rattle.vol_spell.specs.Owners.{Owners}
+use Rattle.vol_spell.specs.Counts.{is_same_owner}
+use Rattle.vol_spell.proofs.Counting.{counts_list}
+use Rattle.base_words.proofs.Listing.{same_or_not}
+use Rattle.vol_parts.specs.declared.geometry.Geometry.{Geometry}
+use Rattle.vol_parts.specs.declared.geometry.Part.TheVariants.{Header}
+use Rattle.vol_parts.specs.Volumes.{Told, told_by, fields_in}
+use Rattle.vol_parts.specs.Warnings.{is_double_dir}
+use Rattle.vol_spell.specs.Reading.{IsFileNumber, header_place, header_block, told_of, clusters_told, body_blocks}
+use Rattle.vol_spell.specs.Spelling.{Tells, Spells}
+use Rattle.vol_spell.specs.Kinds.{IsHeaderFor, with_leaks}
+use Rattle.vol_spell.proofs.Adds.{size_told}
+use Rattle.vol_spell.proofs.Parts.{part_owned, part_there, in_use, own_number}
+use Rattle.vol_spell.proofs.Frames.{on_volume}
+use Rattle.vol_spell.proofs.Viewing.{told_set, parts_stay}
+use Rattle.vol_spell.proofs.Keeping.{header_write, death_leaks}
+use Rattle.vol_mends.specs.Going.{Change, Freed}
+use Rattle.vol_mends.proofs.Tests.{tells_file}
+use Rattle.vol_mends.proofs.AcceptedSteps.{weak_can_mend}
+use Rattle.vol_spell.proofs.EntryDirs.{used_at}
+use Rattle.vol_mends.specs.Told.{LeadsTo, IsSingle, KeepsSingles}
+use Rattle.vol_mends.specs.Slots.{CanBeFreed, SlotIsFreed}
+use Rattle.vol_mends.proofs.Basics.{clash, lower_or}
+use Rattle.vol_mends.proofs.WriteTold.{Owned, owned, changed, home_left}
+use Rattle.vol_mends.proofs.OneWrite.{doubles_told, single_same}
+use Rattle.vol_mends.proofs.Moved.{file_number}
+use Rattle.vol_mends.proofs.Parting.{parted, to_node, to_leaks, nothing_left, leaks_out, leaks_count, flags_set}
+use Rattle.vol_parts.proofs.Structures.{not_structure}
+
+one_fid : (a b : Fid) → a ≡ b → same_fid a b ≡ true
+unfolding same_fid
+one_fid a b e = and_from (a.num == b.num) (a.seq == b.seq) (eq-eqb a.num b.num (ap (λ (x : Fid). x.num) e)) (eq-eqb a.seq b.seq (ap (λ (x : Fid). x.seq) e))
+
+module _ (g : Geometry) (bs : List Block) (c : Cat) (n : ℕ) (f : File) (b : Block) (can : CanBeFreed g bs c n f b) where
+  abbrev o : Owned g bs c
+  o = owned g bs c can.told
+
+  abbrev l : ℕ
+  l = header_place g n
+
+  abbrev new : List Block
+  new = slice_set bs (header_place g n) b
+
+  number : IsFileNumber g n
+  number = file_number g bs o.own c o.spells n f can.file
+
+  -- it is no system file, which would be named
+  above : 11 < n
+  above = by (lower_or n 11) where
+    by : (n ≤ 11) ⊎ (11 < n) → 11 < n
+    by (inr lt) = lt
+    by (inl le) =
+        let rises = number_rises c n f can.file in
+        let s = (weak_can_mend bs c can.told.cat).0.systems n (omega (arith, rises)) le in
+        let both : Some s.0 ≡ Some f = sym s.1 ∙ can.file in
+        let same : s.0 ≡ f = cc both in
+        let unmarked : f.marked ≡ false = ap (λ (x : File). x.marked) (sym same) ∙ s.2.unmarked in
+        let own = can.settled.owned n f le can.file unmarked in
+        let fid : Fid = record { num = n; seq = f.seq } in
+        let named : is_named c (record { num = n; seq = f.seq }) ≡ true = has_any (λ (p : Place). same_fid p.entry.fid fid) (places c) own.0 (has_from (places c) own.0 own.1) (one_fid own.0.entry.fid fid own.3) in
+        let stays : f.marked || not (is_named c (record { num = n; seq = f.seq })) ≡ false = ap (λ t. t || not (is_named c (record { num = n; seq = f.seq }))) unmarked ∙ ap not named in
+        absurd (clash _ can.gone stays)
+
+  on : header_place g n < length bs
+  on = on_volume g bs o.own c o.spells (header_place g n) (InFile 1) (part_owned g bs o.own c o.spells (Header n) number)
+
+  -- what is told of the file, before and after
+  tells : Tells g o.own n (told_of g bs n) (body_blocks bs n (told_of g bs n)) (slot.Used f)
+  tells = o.spells.files n (slot.Used f) number (used_at c n f can.file)
+
+  abbrev nobody : Told
+  nobody = told_by n (Ok (head.Free f.seq)) b
+
+  told_now : told_of g new n ≡ nobody
+  told_now = told_set g bs n b on ∙ ap (λ r. told_by n r b) can.free
+
+  abbrev mid : Owners
+  mid = parted n (Outside 0) o.own
+
+  abbrev left : Owners
+  left = parted n Leaked o.own
+
+  tells_now : Tells g mid n nobody (body_blocks bs n nobody) (slot.Free f.seq)
+  tells_now = record {
+    reads = tt;
+    whole = tt;
+    once = tt;
+    runs = λ q. ((λ t. absurd t), (λ e. absurd (nothing_left n (Outside 0) o.own.clusters q (λ k. cc k) e)));
+    few = λ high. omega arith;
+    slots = λ m. ((λ t. absurd t), (λ u. absurd (nothing_left n (Outside 0) o.own.numbers (m - 1) (λ k. cc k) u.1)));
+    size = refl;
+    dir = refl;
+    slot = refl;
+  }
+
+  header_for : IsHeaderFor g bs 0 n n o.own mid c b (slot.Free f.seq)
+  header_for = record {
+    whole = can.whole;
+    number = number;
+    own_slot = refl;
+    plain = not_structure n above;
+    moves = to_node n o.own;
+    tells = subst (λ (z : Told). Tells g mid n z (body_blocks bs n z) (slot.Free f.seq)) (sym told_now) tells_now;
+    reserved = λ old low at. let high = above in absurd (omega (arith, low, high));
+  }
+
+  written : Spells g new mid (with_slot c n (slot.Free f.seq))
+  written = header_write g bs o.own mid c 0 n n b (slot.Free f.seq) o.spells header_for
+
+  leaked : Spells g new left (with_leaks left (with_slot c n (slot.Free f.seq)))
+  leaked = death_leaks g new mid left (with_slot c n (slot.Free f.seq)) 0 written (to_leaks n o.own)
+
+  -- ---- the catalogue
+
+  clusters_of_file : count_by (is_same_owner (InFile n)) o.own.clusters ≡ f.clusters
+  clusters_of_file =
+      counts_list (InFile n) (clusters_told g (told_of g bs n)) o.own.clusters tells.once tells.runs
+      ∙ sym (size_told g o.own n (told_of g bs n) (body_blocks bs n (told_of g bs n)) (slot.Used f) o.spells.counts.geometry.cluster_from tells)
+
+  clusters_left : count_by (is_same_owner Leaked) left.clusters ≡ c.leaked + f.clusters
+  clusters_left =
+      let all = leaks_count n o.own.clusters in
+      let were = o.spells.owners.leaked in
+      let mine = clusters_of_file in
+      omega (arith, all, were, mine)
+
+  in_number : slice_get o.own.numbers (n - 1) ≡ Some (InFile n)
+  in_number =
+      let file = tells_file g.cluster n (header_read (header_block g bs n)) (body_blocks bs n (told_of g bs n)) f tells.slot in
+      (in_use g bs o.own c o.spells n number).0 (ap is_some file.at)
+
+  one_number : (q : ℕ) → slice_get o.own.numbers q ≡ Some (InFile n) → q ≡ n - 1
+  one_number q e = let same = own_number g bs o.own c o.spells q n e in omega (arith, same)
+
+  numbers_left : map (is_same_owner Leaked) left.numbers ≡ slice_set c.leaked_numbers (n - 1) true
+  numbers_left = flags_set n 0 o.own.numbers (n - 1) in_number one_number ∙ ap (λ ns. slice_set ns (n - 1) true) (sym o.spells.owners.leaked_numbers)
+
+  cat_is : with_leaks left (with_slot c n (slot.Free f.seq)) ≡ leaving c n f
+  cat_is =
+      let k = clusters_left in
+      let ns = numbers_left in
+      λ i. record (with_slot c n (slot.Free f.seq)) { leaked = k i; leaked_numbers = ns i }
+
+  home_apart : 1 ≢ header_place g n
+  home_apart e = let low = o.spells.counts.geometry.cluster_from in omega (arith, e, low)
+
+  change : Change c (leaving c n f)
+  change = Freed n f can.settled can.entered can.full can.file can.gone
+
+  spelt : Spells g new left (leaving c n f)
+  spelt = subst (λ (x : Cat). Spells g new left x) cat_is leaked
+
+  slot_leads : LeadsTo g bs c (leaving c n f) new
+  slot_leads = changed g bs new left c (leaving c n f) can.told change spelt (leaks_out n o.own o.outs) (home_left bs (header_place g n) b home_apart)
+
+  -- ---- directories
+
+  none_here : IsSingle g new n
+  none_here =
+      doubles_told [] g new left (leaving c n f) spelt n number
+      ∙ ap (λ (d : Told). is_double_dir (fields_in d.head) (body_blocks new n (told_of g new n))) told_now
+
+  slot_singles : KeepsSingles g bs new
+  slot_singles i is single = by (same_or_not i n) where
+    by : (i ≡ n) ⊎ (i ≢ n) → IsSingle g new i
+    by (inl same) = subst (λ k. IsSingle g new k) (sym same) none_here
+    by (inr other) =
+        single_same g bs new o.own left c (leaving c n f) o.spells spelt i is
+        (parts_stay g bs o.own c i (header_place g n) (Header n) b o.spells is (part_there g bs o.own c o.spells (Header n) number) (λ e. other (let k : n ≡ i = cc e in sym k))) single
+
+pub slot_is_freed : SlotIsFreed
+slot_is_freed = record { leads = slot_leads; singles = slot_singles; within = on }

@@ -1,5 +1,0 @@
-use Rattle.vol_owners.proofs.Handing.{free_to_stock}
-use Rattle.vol_owners.proofs.laws.free_to_stock.Goals as goal
-
-pub returns : goal.returns
-returns c = free_to_stock

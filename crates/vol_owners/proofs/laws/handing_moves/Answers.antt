@@ -1,6 +1,0 @@
-use Rattle.std.proofs.Common.{IsTrue}
-use Rattle.vol_owners.proofs.Handing.{handing_moves}
-use Rattle.vol_owners.proofs.laws.handing_moves.Goals as goal
-
-pub returns : goal.returns
-returns c p = handing_moves (λ o. IsTrue (p o))

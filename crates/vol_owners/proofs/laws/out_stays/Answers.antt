@@ -1,6 +1,0 @@
-use Rattle.std.proofs.Common.{IsTrue}
-use Rattle.vol_owners.proofs.Moving.{out_stays}
-use Rattle.vol_owners.proofs.laws.out_stays.Goals as goal
-
-pub returns : goal.returns
-returns c p = out_stays (λ o. IsTrue (p o))

@@ -1,5 +1,0 @@
-use Rattle.vol_owners.proofs.Handing.{outside_to_file}
-use Rattle.vol_owners.proofs.laws.outside_to_file.Goals as goal
-
-pub returns : goal.returns
-returns c = outside_to_file

@@ -1,8 +1,0 @@
-use Rattle.std.proofs.Common.{List, subst}
-use Rattle.std.specs.Prelude.{IfOk}
-use Rattle.plain_vol.specs.declared.places.Place.{Place}
-use Rattle.vol_places.specs.Places.{AreFirsts}
-use Rattle.vol_places.proofs.keeping.all_firsts.Goals as goal
-
-pub returns : goal.returns
-returns c = subst (λ (ps : List Place). IfOk c.firsts.result (λ v. AreFirsts c.args.cat.now ps v.items)) c.requires c.firsts.ensures

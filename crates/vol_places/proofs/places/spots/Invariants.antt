@@ -1,7 +1,0 @@
-use Rattle.std.proofs.Common.{◌≡◌, ◌++◌, ◌+◌, map, drop}
-use Rattle.plain_vol.specs.Mending.{places_from}
-use Rattle.vol_places.specs.Places.{place_of}
-use Rattle.vol_places.proofs.places.spots.Given as goal
-
-abbrev pub invariant-loop-i : goal.invariant-loop-i
-invariant-loop-i l = map place_of l.all.items ++ places_from (l.i + 1) (drop l.i l.cat.files) ≡ places_from 1 l.cat.files

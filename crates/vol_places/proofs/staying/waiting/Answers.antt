@@ -1,7 +1,0 @@
-use Rattle.std.proofs.Common.{arith}
-use Rattle.std.proofs.lemmas.Grind.{common_steps}
-use Rattle.vol_places.proofs.Stripping.{waiting_is}
-use Rattle.vol_places.proofs.staying.waiting.Goals as goal
-
-pub returns : goal.returns
-returns c = grind (arith, common_steps, waiting_is c.args.cat.now)

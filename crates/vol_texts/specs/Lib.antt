@@ -1,4 +1,0 @@
-pub mod Names
-pub mod Commands
-pub mod Replies
-pub mod Reports

@@ -1,6 +1,0 @@
-use Rattle.std.proofs.Common.{◌≡◌}
-use Rattle.vol_words.specs.Fields.{checksum}
-use Rattle.vol_words.proofs.sum_of.Given as goal
-
-abbrev pub invariant-loop-k : goal.invariant-loop-k
-invariant-loop-k l = l.sum ≡ checksum l.b l.k

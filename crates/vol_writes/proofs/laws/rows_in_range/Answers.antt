@@ -1,5 +1,0 @@
-use Rattle.vol_writes.proofs.RowRanges.{rows_in_range}
-use Rattle.vol_writes.proofs.laws.rows_in_range.Goals as goal
-
-pub returns : goal.returns
-returns c = rows_in_range
