@@ -100,7 +100,7 @@ fn blocks_of<I: ImageDev>(alloc: Global, image: &mut I) -> Result<Vec<Block>, Lo
     for lbn in 0..size {
         let mut block = [0; 512];
         image.read_block(lbn, &mut block)?;
-        all.push(block)?;
+        all.extend_from_slice(&[block])?;
     }
     Ok(all)
 }

@@ -38,7 +38,7 @@ use Rattle.clus_top.specs.Ends.{IsEndIn, IsCutIn, IsCutShortIn, IsStopBy, IsRunE
 use Rattle.clus_top.specs.Halts.{IsOverIn, IsMendedIn, IsPartlyIn, IsMendingCutIn, IsUnmendedIn, IsHaltIn, IsImageHalt, IsRunHalt, IsQuietHalt, IsHaltImage}
 use Rattle.clus_top.proofs.Imaged.{quiet_on}
 use Rattle.clus_top.proofs.Reported.{has_run, drive_in, whole_in, end_in, mount_stop}
-use Rattle.clus_top.proofs.Jobs.{run_stop, short_on, bare_on, quiet_image}
+use Rattle.clus_top.proofs.Jobs.{run_stop, short_on, cut_on, quiet_image}
 
 rest : {A B : Type 0} → A × B → B
 rest p = p.1
@@ -56,7 +56,7 @@ module _ (start : Plain) (keeps : Good start) (m : IsMounted start.blocks start.
   over_in : IsOverIn start.script start.blocks told
   over_in = record { before = now; report = report_text new.history left.0; run = run_in }
 
-  partly_in : (final : Option (List Block)) → IsPartlyBy left.0 now final → IsPartlyBy left.0 told final
+  partly_in : (final : Option (List Block)) → IsPartlyBy new left.0 now final → IsPartlyBy new left.0 told final
   partly_in final p = record { blocks = p.blocks; image = retold told now final new.blocks p.blocks image p.image; still = p.still }
 
   pub mended_in : (final : Option (List Block)) (text : List ℕ) → ((c : Cat) → HasEnded new c → IsMendedBy new c now final text) → IsMendedIn start.script start.blocks told final text
@@ -69,7 +69,7 @@ module _ (start : Plain) (keeps : Good start) (m : IsMounted start.blocks start.
       → IsHaltIn start.script start.blocks told final had has x
   unfolding over_in run_in end_in drive_in has_run whole_in
   halt_in final had mid has (halt.Cut text) le h = let r = h left.0 left.1 in (rose_later had mid has le r.0, inr ((over_in, partly_in final r.1), r.2))
-  halt_in final had mid has halt.Bare le h = let r = h left.0 left.1 in (rose_later had mid has le r.0, inr (over_in, partly_in final r.1))
+  halt_in final had mid has halt.NoLines le h = let r = h left.0 left.1 in (rose_later had mid has le r.0, inr (over_in, partly_in final r.1))
   halt_in final had mid has (halt.Unmended text f) le h =
       let r = h left.0 left.1 in
       (over_in, record { image = retold told now final new.blocks new.blocks image r.image; roomless = r.roomless; written = r.written })
@@ -78,7 +78,7 @@ module _ (start : Plain) (keeps : Good start) (m : IsMounted start.blocks start.
 -- why a run came to no end
 pub stop_halts : (script : Script) (bs : List Block) (told new : Option (List Block)) (had has : ℕ) (s : Stop) → IsStopBy script bs told new had has s → IsHaltIn script bs told new had has (halt_of s)
 stop_halts script bs told new had has (stop.Cut text) end = (end.0, inl end.1)
-stop_halts script bs told new had has stop.Bare end = (end.0, inl end.1)
+stop_halts script bs told new had has stop.NoLines end = (end.0, inl end.1)
 stop_halts script bs told new had has (stop.By s) end = inl end
 
 -- ---- what is said of a mounted volume is said of its blocks
@@ -107,7 +107,7 @@ module _ (script : Script) (size : ℕ) (told new : Option (List Block)) (blocks
   pub halt_on : (first had has : ℕ) (x : Halt) → IsInside size → first ≤ had → IsHaltIn script blocks told new had has x → IsImageHalt script size told new first has x
   halt_on first had has (halt.Cut text) inside later end =
       (rose_later first had has later end.0, of_told (λ bs. IsCutShortIn script bs told new text.items ⊎ IsMendingCutIn script bs told new text.items) told blocks same end.1)
-  halt_on first had has halt.Bare inside later end = (rose_later first had has later end.0, of_told (λ bs. IsCutIn script bs told new ⊎ IsPartlyIn script bs told new) told blocks same end.1)
+  halt_on first had has halt.NoLines inside later end = (rose_later first had has later end.0, of_told (λ bs. IsCutIn script bs told new ⊎ IsPartlyIn script bs told new) told blocks same end.1)
   halt_on first had has (halt.Unmended text f) inside later end =
       (record { inside = inside; accepted = of_told Accepts told blocks same end.0.run.left.accepted }, of_told (λ bs. IsUnmendedIn script bs told new f text.items) told blocks same end)
   halt_on first had has (halt.By s) inside later (inl end) = inl (quiet_on script size told new blocks same first has s inside end)
@@ -123,19 +123,19 @@ module _ (IsGiven : Script → Type 0) (script : Script) (given : IsGiven script
     world = o.run.drive.world;
     opening = o.run.left.opening;
     after = o.run.left.after;
-    geometry = o.run.left.geometry;
     given = given;
     accepted = o.run.left.accepted;
     mounted = o.run.drive.ran.mounted;
     walked = o.run.walked;
     used = o.run.drive.ran.used;
+    stop = o.run.drive.ran.stop;
     over = o.run.over;
     told = o.run.left.told;
     replayed = o.run.left.replayed;
     whole = o.run.left.whole;
     killed = o.run.left.killed;
     unmended = o.run.left.unmended;
-    parts = o.run.left.parts;
+    parts = o.run.drive.ran.parts;
     image = image;
     left = o.run.left.left;
   }
@@ -171,22 +171,19 @@ module _ (IsGiven : Script → Type 0) (script : Script) (given : IsGiven script
 
   cut_behind : (bs : List Block) (new : Option (List Block)) (text : List ℕ) → IsMendingCutIn script bs (Some bs) new text → IsMendingCutShort IsGiven bs new text
   unfolding partly_of ran_of
-  cut_behind bs new text p = record { part = partly_of bs new p.0; written = inl p.1 }
+  cut_behind bs new text p = record { part = partly_of bs new p.0; written = p.1 }
 
-  bare_behind : (bs : List Block) (new : Option (List Block)) → IsPartlyIn script bs (Some bs) new → IsMendingCutShort IsGiven bs new (status_text status.ImageFault)
-  bare_behind bs new p = record { part = partly_of bs new p; written = inr refl }
-
-  cut_on : (told new : Option (List Block)) (text : List ℕ) → IfSome told (λ bs. IsCutShortIn script bs told new text ⊎ IsMendingCutIn script bs told new text)
+  short_or_behind : (told new : Option (List Block)) (text : List ℕ) → IfSome told (λ bs. IsCutShortIn script bs told new text ⊎ IsMendingCutIn script bs told new text)
       → IfSome told (λ bs. IsCutShort IsGiven bs new text ⊎ IsMendingCutShort IsGiven bs new text)
-  cut_on None new text h = tt
-  cut_on (Some bs) new text (inl h) = inl (short_on IsGiven script given (Some bs) new text h)
-  cut_on (Some bs) new text (inr h) = inr (cut_behind bs new text h)
+  short_or_behind None new text h = tt
+  short_or_behind (Some bs) new text (inl h) = inl (short_on IsGiven script given (Some bs) new text h)
+  short_or_behind (Some bs) new text (inr h) = inr (cut_behind bs new text h)
 
-  uncut_on : (told new : Option (List Block)) → IfSome told (λ bs. IsCutIn script bs told new ⊎ IsPartlyIn script bs told new)
-      → IfSome told (λ bs. IsCutShort IsGiven bs new (status_text status.ImageFault) ⊎ IsMendingCutShort IsGiven bs new (status_text status.ImageFault))
-  uncut_on None new h = tt
-  uncut_on (Some bs) new (inl h) = inl (bare_on IsGiven script given (Some bs) new h)
-  uncut_on (Some bs) new (inr h) = inr (bare_behind bs new h)
+  cut_or_partly : (told new : Option (List Block)) → IfSome told (λ bs. IsCutIn script bs told new ⊎ IsPartlyIn script bs told new)
+      → IfSome told (λ bs. IsCutOf IsGiven bs new ⊎ IsPartlyMended IsGiven bs new)
+  cut_or_partly None new h = tt
+  cut_or_partly (Some bs) new (inl h) = inl (cut_on IsGiven script given (Some bs) new h)
+  cut_or_partly (Some bs) new (inr h) = inr (partly_of bs new h)
 
   unmended_on : (told new : Option (List Block)) (f : Finding) (text : List ℕ) → IfSome told (λ bs. IsUnmendedIn script bs told new f text) → IfSome told (λ bs. IsUnmendedText IsGiven bs new f text)
   unmended_on None new f text h = tt
@@ -207,8 +204,8 @@ module _ (IsGiven : Script → Type 0) (script : Script) (given : IsGiven script
 
   -- why the image gave no mended end says what it has
   pub halt_image : (size : ℕ) (told new : Option (List Block)) (had has : ℕ) (x : Halt) → IsImageHalt script size told new had has x → IsHaltImage IsGiven told new x
-  halt_image size told new had has (halt.Cut text) end = cut_on told new text.items end.1
-  halt_image size told new had has halt.Bare end = uncut_on told new end.1
+  halt_image size told new had has (halt.Cut text) end = short_or_behind told new text.items end.1
+  halt_image size told new had has halt.NoLines end = cut_or_partly told new end.1
   halt_image size told new had has (halt.Unmended text f) end = unmended_on told new f text.items end.1
   halt_image size told new had has (halt.By s) (inl end) = quiet_halt told new s (quiet_image IsGiven script given size told new had has s end)
   halt_image size told new had has (halt.By s) (inr end) = subst (IsQuietHalt IsGiven told new) (sym end.0) (inr (partly_on told new end.1))
@@ -224,13 +221,25 @@ module _ (IsGiven : Script → Type 0) (script : Script) (given : IsGiven script
 pub run_halt : (left : Option (List ℕ)) (script : Script) (size : ℕ) (told new : Option (List Block)) (read reading had has : ℕ) (x : Halt) → IfSome left (SpellsWithin script) → IsScriptOf left script
     → IsImageHalt script size told new had has x → IsRunHalt left size told read reading had has x
 run_halt left script size told new read reading had has (halt.Cut text) spelt given end = (good left script spelt, end.0)
-run_halt left script size told new read reading had has halt.Bare spelt given end = (good left script spelt, end.0)
+run_halt left script size told new read reading had has halt.NoLines spelt given end = (good left script spelt, end.0)
 run_halt left script size told new read reading had has (halt.Unmended text f) spelt given end =
     (good left script spelt, end.0, none_mends (IsScriptOf left) script given told new f text.items end.1)
 run_halt left script size told new read reading had has (halt.By s) spelt given (inl end) = run_stop left script size told new read reading had has (stop.By s) spelt end
 run_halt left script size told new read reading had has (halt.By s) spelt given (inr end) = subst (IsRunEnd left size told read reading had has) (sym end.0) tt
 
 -- ---- at the top
+
+-- the image where the lines of a run that was cut short found no memory, and where a run or a mending lacked it
+pub lacking_left : (IsGiven : Script → Type 0) (told new : Option (List Block)) → IfSome told (λ bs. IsLackingDriveOf IsGiven bs new ⊎ IsPartlyMended IsGiven bs new)
+    → IfSome told (λ bs. IsLackingDriveOf IsGiven bs new ⊎ (IsCutOf IsGiven bs new ⊎ IsPartlyMended IsGiven bs new))
+lacking_left IsGiven None new h = tt
+lacking_left IsGiven (Some bs) new (inl h) = inl h
+lacking_left IsGiven (Some bs) new (inr h) = inr (inr h)
+
+pub unlined_left : (IsGiven : Script → Type 0) (told new : Option (List Block)) → IfSome told (λ bs. IsCutOf IsGiven bs new ⊎ IsPartlyMended IsGiven bs new)
+    → IfSome told (λ bs. IsLackingDriveOf IsGiven bs new ⊎ (IsCutOf IsGiven bs new ⊎ IsPartlyMended IsGiven bs new))
+unlined_left IsGiven None new h = tt
+unlined_left IsGiven (Some bs) new h = inr h
 
 -- the image of which the text of a fault tells
 pub cut_left : (IsGiven : Script → Type 0) (told new : Option (List Block)) (text : List ℕ) → IfSome told (λ bs. IsCutShort IsGiven bs new text ⊎ IsMendingCutShort IsGiven bs new text)

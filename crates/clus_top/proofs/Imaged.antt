@@ -29,5 +29,5 @@ module _ (script : Script) (size : ℕ) (told new : Option (List Block)) (blocks
   -- why the blocks gave no end is why the image gave none
   pub stop_on : (first had has : ℕ) (s : Stop) → IsInside size → first ≤ had → IsStopBy script blocks told new had has s → IsImageStop script size told new first has s
   stop_on first had has (stop.Cut text) inside later end = (rose_later first had has later end.0, of_told (λ bs. IsCutShortIn script bs told new text.items) told blocks same end.1)
-  stop_on first had has stop.Bare inside later end = (rose_later first had has later end.0, of_told (λ bs. IsCutIn script bs told new) told blocks same end.1)
+  stop_on first had has stop.NoLines inside later end = (rose_later first had has later end.0, of_told (λ bs. IsCutIn script bs told new) told blocks same end.1)
   stop_on first had has (stop.By s) inside later end = quiet_on first has s inside end

@@ -5,7 +5,6 @@ use Rattle.plain_cat.specs.declared.script.Script.{Script}
 use Rattle.run_engine.specs.declared.status.Status.{Status}
 use Rattle.run_engine.specs.declared.status.Status.TheVariants as status
 use Rattle.run_engine.specs.Scripts.{IsScriptOf, SpellsWithin}
-use Rattle.run_engine.specs.Texts.{status_text}
 use Rattle.run_engine.proofs.Given.{good}
 use Rattle.clus_top.specs.Runs.{IsSoakOf, HasRunToEnd, IsReport}
 use Rattle.clus_top.specs.Statuses.{IsReportOn, IsSummaryOn}
@@ -14,14 +13,14 @@ use Rattle.run_engine.specs.declared.stop.Stop.TheVariants as stop
 use Rattle.clus_top.specs.declared.run_job.Printed.{Printed}
 use Rattle.clus_top.specs.declared.run_job.Printed.TheVariants as printed
 use Rattle.clus_top.specs.Ends.{IsDriveIn, IsEndIn, IsLackingIn, IsCutIn, IsCutShortIn, IsImageEnd, IsImageStop, IsRunEnd, IsRunStop, IsSoakEnd, IsSoakStop, IsQuietImage, IsStopImage}
-use Rattle.clus_top.proofs.Stopping.{run_stops, torn_stops}
+use Rattle.clus_top.proofs.Stopping.{torn_stops}
 use Rattle.clus_top.specs.Images.{IsDriveOf, IsLastDriveOf, IsLackingDriveOf, IsCutOf, IsCutShort}
 
 module _ (IsGiven : Script → Type 0) (script : Script) (given : IsGiven script) where
   -- ---- the drive of a run
 
   drive_of : (bs : List Block) (new : Option (List Block)) → IsDriveIn script bs (Some bs) new → IsDriveOf IsGiven bs new
-  drive_of bs new d = record { script = script; given = given; world = d.world; ran = d.ran; image = d.image; stop = run_stops script bs d.world d.ran }
+  drive_of bs new d = record { script = script; given = given; world = d.world; ran = d.ran; image = d.image }
 
   lacking_on : (told new : Option (List Block)) → IfSome told (λ bs. IsLackingIn script bs told new) → IfSome told (λ bs. IsLackingDriveOf IsGiven bs new)
   unfolding drive_of
@@ -39,11 +38,11 @@ module _ (IsGiven : Script → Type 0) (script : Script) (given : IsGiven script
   pub short_on : (told new : Option (List Block)) (text : List ℕ) → IfSome told (λ bs. IsCutShortIn script bs told new text) → IfSome told (λ bs. IsCutShort IsGiven bs new text)
   unfolding cut_of
   short_on None new text h = tt
-  short_on (Some bs) new text h = record { cut = cut_of bs new h.cut; written = inl h.written }
+  short_on (Some bs) new text h = record { cut = cut_of bs new h.cut; written = h.written }
 
-  pub bare_on : (told new : Option (List Block)) → IfSome told (λ bs. IsCutIn script bs told new) → IfSome told (λ bs. IsCutShort IsGiven bs new (status_text status.ImageFault))
-  bare_on None new h = tt
-  bare_on (Some bs) new h = record { cut = cut_of bs new h; written = inr refl }
+  pub cut_on : (told new : Option (List Block)) → IfSome told (λ bs. IsCutIn script bs told new) → IfSome told (λ bs. IsCutOf IsGiven bs new)
+  cut_on None new h = tt
+  cut_on (Some bs) new h = cut_of bs new h
 
   pub quiet_image : (size : ℕ) (told new : Option (List Block)) (had has : ℕ) (s : Status) → IsImageEnd script size told new had has s → IsQuietImage IsGiven told new s
   quiet_image size told new had has status.ImageFault end = end.1
@@ -56,7 +55,7 @@ module _ (IsGiven : Script → Type 0) (script : Script) (given : IsGiven script
   -- why the image gave no end says what it has
   pub stop_image : (size : ℕ) (told new : Option (List Block)) (had has : ℕ) (s : Stop) → IsImageStop script size told new had has s → IsStopImage IsGiven told new s
   stop_image size told new had has (stop.Cut text) end = short_on told new text.items end.1
-  stop_image size told new had has stop.Bare end = bare_on told new end.1
+  stop_image size told new had has stop.NoLines end = cut_on told new end.1
   stop_image size told new had has (stop.By s) end = quiet_image size told new had has s end
 
   -- ---- what is printed of a run
@@ -68,19 +67,19 @@ module _ (IsGiven : Script → Type 0) (script : Script) (given : IsGiven script
     world = h.drive.world;
     opening = h.left.opening;
     after = h.left.after;
-    geometry = h.left.geometry;
     given = given;
     accepted = h.left.accepted;
     mounted = h.drive.ran.mounted;
     walked = h.walked;
     used = h.drive.ran.used;
+    stop = h.drive.ran.stop;
     over = h.over;
     told = h.left.told;
     replayed = h.left.replayed;
     whole = h.left.whole;
     killed = h.left.killed;
     unmended = h.left.unmended;
-    parts = h.left.parts;
+    parts = h.drive.ran.parts;
     image = h.drive.image;
     left = h.left.left;
   }
@@ -108,7 +107,7 @@ run_end left script size told new read reading had has s spelt end = absurd end
 pub run_stop : (left : Option (List ℕ)) (script : Script) (size : ℕ) (told new : Option (List Block)) (read reading had has : ℕ) (s : Stop) → IfSome left (SpellsWithin script)
     → IsImageStop script size told new had has s → IsRunStop left size told read reading had has s
 run_stop left script size told new read reading had has (stop.Cut text) spelt end = (good left script spelt, end.0)
-run_stop left script size told new read reading had has stop.Bare spelt end = (good left script spelt, end.0)
+run_stop left script size told new read reading had has stop.NoLines spelt end = (good left script spelt, end.0)
 run_stop left script size told new read reading had has (stop.By s) spelt end = run_end left script size told new read reading had has s spelt end
 
 -- ---- a script that is drawn
@@ -131,5 +130,5 @@ soak_end n script size told new had has s given end = absurd end
 pub soak_stop : (n : ℕ) (script : Script) (size : ℕ) (told new : Option (List Block)) (had has : ℕ) (s : Stop) → IsSoakOf n script
     → IsImageStop script size told new had has s → IsSoakStop n size told had has s
 soak_stop n script size told new had has (stop.Cut text) given end = end.0
-soak_stop n script size told new had has stop.Bare given end = end.0
+soak_stop n script size told new had has stop.NoLines given end = end.0
 soak_stop n script size told new had has (stop.By s) given end = soak_end n script size told new had has s given end

@@ -5,6 +5,7 @@ pub mod Imaged
 pub mod Jobs
 pub mod Lacking
 pub mod Mending
+pub mod OneAnswer
 pub mod OneVerdict
 pub mod Pushed
 pub mod Reported

@@ -30,7 +30,9 @@ use Rattle.run_engine.specs.declared.stop.Stop.TheVariants as stop
 use Rattle.clus_top.specs.declared.run_job.Printed.{Printed}
 use Rattle.clus_top.specs.Ends.{printed_text, IsWholeIn, IsDriveIn, IsEndIn, IsLackingIn, IsCutIn, IsStopIn, IsStopBy}
 use Rattle.run_engine.proofs.Walked.{over_walk}
-use Rattle.clus_top.proofs.Used.{walk_uses}
+use Rattle.clus_top.proofs.Used.{walk_keeps, walk_uses}
+use Rattle.clus_top.proofs.Stopping.{starts_accepted}
+use Rattle.run_engine.proofs.StopsStopping.{runs_can_stop}
 use Rattle.clus_top.proofs.Answered.{IsAnswered, step_keeps}
 use Rattle.run_engine.proofs.MountedVolumes.{mounted_geometry}
 
@@ -46,8 +48,10 @@ module _ (start : Plain) (good : Good start) (m : IsMounted start.blocks start.s
   has_run new plays same part keeps = record {
     start = start;
     mounted = m;
+    parts = mounted_geometry start.blocks start.script start good m;
     walked = subst (λ (ns : List ℕ). IsPartOfWalk start ns new) same part;
     used = walk_uses start good start.script.plays;
+    stop = λ w walked. runs_can_stop start w start.script.plays (starts_accepted start.blocks start.script start m) walked (walk_keeps start good start.script.plays w walked);
     good = keeps;
   }
 
@@ -84,7 +88,7 @@ module _ (start : Plain) (good : Good start) (m : IsMounted start.blocks start.s
   unfolding cut_in
   run_stop {A} new plays told now had has r run.ImageFault is same part keeps cause before taking image (stop.Cut text) written =
       (cause is, record { cut = cut_in new plays told now same (on_err r run.ImageFault (IsPartOfWalk start plays new) is part) keeps (before is); written = written })
-  run_stop {A} new plays told now had has r run.ImageFault is same part keeps cause before taking image stop.Bare none =
+  run_stop {A} new plays told now had has r run.ImageFault is same part keeps cause before taking image stop.NoLines none =
       (cause is, cut_in new plays told now same (on_err r run.ImageFault (IsPartOfWalk start plays new) is part) keeps (before is))
   run_stop {A} new plays told now had has r run.ImageFault is same part keeps cause before taking image (stop.By s) none = absurd none
   run_stop {A} new plays told now had has r run.NoMemory is same part keeps cause before taking image s e =
@@ -97,18 +101,16 @@ module _ (start : Plain) (good : Good start) (m : IsMounted start.blocks start.s
       subst (λ (x : Cat). Replays x start.script new.history d) (first ∙ opening) (subst (λ (t : Script). Replays c t new.history d) script h)
 
   -- the history of a world that has come to its end replays, and its drive spells the catalogue to which it leads
-  unfoldable pub whole_in : (new : Plain) → Stays start new → IsAnswered new → Whole new.script new.history → (c : Cat) → HasEnded new c → IsWholeIn start.script start.blocks new
+  unfoldable pub whole_in : (new : Plain) → Stays start new → IsAnswered new → Whole new.script new.history → (c : Cat) → HasEnded new c → IsWholeIn start.script start.blocks start.geometry new
   whole_in new stays orderly whole c end = record {
     opening = m.opening;
     after = c;
-    geometry = start.geometry;
     accepted = m.accepted;
     told = m.told;
     replayed = led new.opening c new.script new stays.script stays.opening end.replayed;
     whole = subst (λ (s : Script). Whole s new.history) stays.script whole;
     killed = subst (λ (s : Script). Killed s new.history) stays.script orderly.orderly.0;
     unmended = orderly.orderly.1;
-    parts = mounted_geometry start.blocks start.script start good m;
     left = subst (λ (g : Geometry). IsSpelt g new.blocks c) stays.geometry end.drive;
   }
 

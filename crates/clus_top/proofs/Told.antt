@@ -14,7 +14,7 @@ use Rattle.clus_top.specs.Statuses.{IsRunRebuildDue}
 use Rattle.clus_top.specs.Images.{IsMendedFaultText, IsRunRebuildImage}
 use Rattle.clus_top.specs.Ends.{IsRunEnd}
 use Rattle.clus_top.specs.Halts.{IsRunHalt, IsQuietHalt, IsHaltImage}
-use Rattle.clus_top.proofs.Halting.{cut_left, unmended_left}
+use Rattle.clus_top.proofs.Halting.{cut_left, lacking_left, unlined_left, unmended_left}
 
 module _ (left : Option (List ℕ)) (size : ℕ) (told new : Option (List Block)) (read reading had has : ℕ) (old now : Option (List ℕ)) (before after : ℕ) where
   -- ---- the status
@@ -32,7 +32,7 @@ module _ (left : Option (List ℕ)) (size : ℕ) (told new : Option (List Block)
 
   pub due_told : (x : Halt) (r : Status) → IsRunHalt left size told read reading had has x → IsToldHalt old now before after x r → IsRunRebuildDue left size told r
   due_told (halt.Cut text) r h t = subst (IsRunRebuildDue left size told) (sym t.0) h.0
-  due_told halt.Bare r h t = subst (IsRunRebuildDue left size told) (sym t.0) h.0
+  due_told halt.NoLines r h t = subst (IsRunRebuildDue left size told) (sym t.0) tt
   due_told (halt.Unmended text f) r h t = subst (IsRunRebuildDue left size told) (sym t.0) h
   due_told (halt.By s) r h t = by t.0 where
     by : (r ≡ s) ⊎ (r ≡ status.NoMemory) → IsRunRebuildDue left size told r
@@ -43,7 +43,7 @@ module _ (left : Option (List ℕ)) (size : ℕ) (told new : Option (List Block)
 
   pub script_told : (x : Halt) (r : Status) → IsRunHalt left size told read reading had has x → IsToldHalt old now before after x r → r ≡ status.ScriptFault → Rose read reading
   script_told (halt.Cut text) r h t q = absurd (let e : status.ImageFault ≡ status.ScriptFault = sym t.0 ∙ q in cc e)
-  script_told halt.Bare r h t q = absurd (let e : status.ImageFault ≡ status.ScriptFault = sym t.0 ∙ q in cc e)
+  script_told halt.NoLines r h t q = absurd (let e : status.NoMemory ≡ status.ScriptFault = sym t.0 ∙ q in cc e)
   script_told (halt.Unmended text f) r h t q = absurd (let e : status.NotMendable f ≡ status.ScriptFault = sym t.0 ∙ q in cc e)
   script_told (halt.By s) r h t q = by t.0 where
     by : (r ≡ s) ⊎ (r ≡ status.NoMemory) → Rose read reading
@@ -52,7 +52,7 @@ module _ (left : Option (List ℕ)) (size : ℕ) (told new : Option (List Block)
 
   pub image_told : (x : Halt) (r : Status) → IsRunHalt left size told read reading had has x → IsToldHalt old now before after x r → r ≡ status.ImageFault → Rose had has
   image_told (halt.Cut text) r h t q = h.1
-  image_told halt.Bare r h t q = h.1
+  image_told halt.NoLines r h t q = h.1
   image_told (halt.Unmended text f) r h t q = absurd (let e : status.NotMendable f ≡ status.ImageFault = sym t.0 ∙ q in cc e)
   image_told (halt.By s) r h t q = by t.0 where
     by : (r ≡ s) ⊎ (r ≡ status.NoMemory) → Rose had has
@@ -61,7 +61,7 @@ module _ (left : Option (List ℕ)) (size : ℕ) (told new : Option (List Block)
 
   pub out_told : (x : Halt) (r : Status) → IsRunHalt left size told read reading had has x → IsToldHalt old now before after x r → r ≡ status.OutFault → Rose before after
   out_told (halt.Cut text) r h t q = absurd (let e : status.ImageFault ≡ status.OutFault = sym t.0 ∙ q in cc e)
-  out_told halt.Bare r h t q = absurd (let e : status.ImageFault ≡ status.OutFault = sym t.0 ∙ q in cc e)
+  out_told halt.NoLines r h t q = absurd (let e : status.NoMemory ≡ status.OutFault = sym t.0 ∙ q in cc e)
   out_told (halt.Unmended text f) r h t q = absurd (let e : status.NotMendable f ≡ status.OutFault = sym t.0 ∙ q in cc e)
   out_told (halt.By s) r h t q = by t.0 where
     by : (r ≡ s) ⊎ (r ≡ status.NoMemory) → Rose before after
@@ -86,7 +86,7 @@ module _ (left : Option (List ℕ)) (size : ℕ) (told new : Option (List Block)
     pub written_told : (x : Halt) (r : Status) → IsRunHalt left size told read reading had has x → IsHaltImage IsGiven told new x → IsToldHalt old now before after x r
         → Writes R (IsMendedFaultText IsGiven told new) told old now before after r
     written_told (halt.Cut text) r h i t = subst (Writes R (IsMendedFaultText IsGiven told new) told old now before after) (sym t.0) (text.items, inr i, t.1)
-    written_told halt.Bare r h i t = subst (Writes R (IsMendedFaultText IsGiven told new) told old now before after) (sym t.0) (status_text status.ImageFault, inr i, t.1)
+    written_told halt.NoLines r h i t = subst (Writes R (IsMendedFaultText IsGiven told new) told old now before after) (sym t.0) t.1
     written_told (halt.Unmended text f) r h i t = subst (Writes R (IsMendedFaultText IsGiven told new) told old now before after) (sym t.0) (text.items, i, t.1)
     written_told (halt.By s) r h i t = by t.0 where
       by : (r ≡ s) ⊎ (r ≡ status.NoMemory) → Writes R (IsMendedFaultText IsGiven told new) told old now before after r
@@ -103,7 +103,8 @@ module _ (left : Option (List ℕ)) (size : ℕ) (told new : Option (List Block)
     after_by status.ImageFault h i = inl i
     after_by (status.BadSize n) h i = i
     after_by (status.NotAccepted f) h i = i
-    after_by status.NoMemory h i = i
+    after_by status.NoMemory h (inl e) = inl e
+    after_by status.NoMemory h (inr i) = inr (lacking_left IsGiven told new i)
     after_by s h i = absurd h
 
     lacking_by : (s : Status) → IsRunEnd left size told read reading had has s → IsQuietHalt IsGiven told new s → IsRunRebuildImage IsGiven told new status.NoMemory
@@ -114,12 +115,13 @@ module _ (left : Option (List ℕ)) (size : ℕ) (told new : Option (List Block)
     lacking_by status.ImageFault h i = inl i
     lacking_by (status.BadSize n) h i = inl i
     lacking_by (status.NotAccepted f) h i = inl i
-    lacking_by status.NoMemory h i = i
+    lacking_by status.NoMemory h (inl e) = inl e
+    lacking_by status.NoMemory h (inr i) = inr (lacking_left IsGiven told new i)
     lacking_by s h i = absurd h
 
     pub after_told : (x : Halt) (r : Status) → IsRunHalt left size told read reading had has x → IsHaltImage IsGiven told new x → IsToldHalt old now before after x r → IsRunRebuildImage IsGiven told new r
     after_told (halt.Cut text) r h i t = subst (IsRunRebuildImage IsGiven told new) (sym t.0) (inr (cut_left IsGiven told new text.items i))
-    after_told halt.Bare r h i t = subst (IsRunRebuildImage IsGiven told new) (sym t.0) (inr (cut_left IsGiven told new (status_text status.ImageFault) i))
+    after_told halt.NoLines r h i t = subst (IsRunRebuildImage IsGiven told new) (sym t.0) (inr (unlined_left IsGiven told new i))
     after_told (halt.Unmended text f) r h i t = subst (IsRunRebuildImage IsGiven told new) (sym t.0) (unmended_left IsGiven told new f text.items i)
     after_told (halt.By s) r h i t = by t.0 where
       by : (r ≡ s) ⊎ (r ≡ status.NoMemory) → IsRunRebuildImage IsGiven told new r

@@ -32,7 +32,7 @@ step_keeps : (w : Plain) (n : ℕ) → Good w → Good (after_step w n)
 step_keeps w n good = steps_keep_the_rules w n good (goes_lawfully w good n)
 
 -- wherever a run stops, the world keeps the rules
-walk_keeps : (start : Plain) → Good start → (plays : List ℕ) (w : Plain) → IsPartOfWalk start plays w → Good w
+pub walk_keeps : (start : Plain) → Good start → (plays : List ℕ) (w : Plain) → IsPartOfWalk start plays w → Good w
 walk_keeps start good plays w part = over_part Good step_keeps start plays w part good
 
 pub walk_uses : (start : Plain) → Good start → (plays : List ℕ) → WalkUsesTheDrives start plays

@@ -2,6 +2,7 @@
 use Rattle.std.specs.Prelude.{◌≡◌, ℕ, List, Option}
 use Rattle.base_words.specs.Fields.{Block}
 use Rattle.base_words.specs.Faults.{Rose}
+use Rattle.run_engine.specs.Calls.{Given}
 use Rattle.run_engine.specs.declared.status.Status.{Status}
 use Rattle.run_engine.specs.declared.status.Status.TheVariants as ended
 use Rattle.run_engine.specs.Statuses.{status_code}
@@ -10,28 +11,14 @@ use Rattle.clus_top.specs.Words.{wanted_by}
 use Rattle.clus_top.specs.Images.{IsImageAfter, IsFaultTextOf}
 use Rattle.clus_top.specs.Statuses.{IsDue, IsTextOf}
 
--- what a call finds: its words, the bytes of the script that are left, the image's size and its blocks, each where it is told, and how
--- many calls of the script, the image and the sink had failed
-pub record Given : Type 0 where
-  pub words : List (List ℕ)
-  pub left : Option (List ℕ)
-  pub size : ℕ
-  pub told : Option (List Block)
-  pub written : Option (List ℕ)
-  pub script_faults : ℕ
-  pub image_faults : ℕ
-  pub out_faults : ℕ
-
 -- A call ends with a status, and the number is that of the status. The status is due, its text is written, and the image has what the
 -- status says, each as the top call has it.
-pub record IsEnd (g : Given) (written : Option (List ℕ)) (script_faults out_faults number : ℕ) : Type 0 where
+pub record IsEnd (g : Given) (written : Option (List ℕ)) (image : Option (List Block)) (script_faults image_faults out_faults number : ℕ) : Type 0 where
   pub status : Status
   pub number_is : number ≡ status_code status
   pub due : IsDue (wanted_by g.words) g.left g.size g.told status
   pub script_fault : status ≡ ended.ScriptFault → Rose g.script_faults script_faults
-  pub out_fault : status ≡ ended.OutFault → Rose g.out_faults out_faults
-  pub image : Option (List Block)
-  pub image_faults : ℕ
   pub image_fault : status ≡ ended.ImageFault → Rose g.image_faults image_faults
+  pub out_fault : status ≡ ended.OutFault → Rose g.out_faults out_faults
   pub text : Writes (IsTextOf (wanted_by g.words) g.left g.size g.told image) (IsFaultTextOf (wanted_by g.words) g.left g.told image) g.told g.written written g.out_faults out_faults status
   pub after : IsImageAfter (wanted_by g.words) g.left g.told image status

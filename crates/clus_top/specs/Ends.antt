@@ -4,7 +4,6 @@ use Rattle.std.specs.List.{list_any}
 use Rattle.base_words.specs.Fields.{Block}
 use Rattle.base_words.specs.Faults.{Rose}
 use Rattle.blk_drive.specs.Images.{IsInside, IsOutside}
-use Rattle.fx_home.specs.Homes.{home_read}
 use Rattle.plain_cat.specs.declared.cat.Cat.{Cat}
 use Rattle.plain_cat.specs.declared.script.Script.{Script}
 use Rattle.plain_rules.specs.Own.{Whole, Killed, is_mending}
@@ -16,8 +15,7 @@ use Rattle.core_state.specs.Ends.{AllOver}
 use Rattle.run_engine.specs.Ended.{IsSpelt}
 use Rattle.vol_parts.specs.declared.finding.Finding.{Finding}
 use Rattle.vol_parts.specs.declared.geometry.Geometry.{Geometry}
-use Rattle.vol_parts.specs.Findings.{home_at, AreFindings, Accepts, CatOf, IsFirstFatal}
-use Rattle.vol_faults.specs.Free.{IsGeometryBy}
+use Rattle.vol_parts.specs.Findings.{AreFindings, Accepts, CatOf, IsFirstFatal}
 use Rattle.vol_analyze.specs.Judging.{IsFirstFound}
 use Rattle.run_engine.specs.declared.stop.Stop.{Stop}
 use Rattle.run_engine.specs.declared.stop.Stop.TheVariants as stop
@@ -34,26 +32,25 @@ use Rattle.vol_init.specs.Refusals.{refusal}
 use Rattle.vol_rebuild.specs.declared.fault.RebuildFault.{RebuildFault}
 use Rattle.vol_rebuild.specs.declared.fault.RebuildFault.TheVariants as rebuild
 use Rattle.clus_top.specs.Statuses.{sized}
-use Rattle.clus_top.specs.Images.{IsLackingDriveOf, IsCutShort}
+use Rattle.clus_top.specs.Images.{IsLackingDriveOf, IsCutOf, IsCutShort}
 
 -- what is printed of a world whose history leads to a catalogue
 abbrev pub printed_text : Printed → Plain → Cat → List ℕ
 printed_text printed.Report w c = report_text w.history c
 printed_text (printed.Summary n) w c = summary_text n w c
 
--- a world has run a script to its end on the catalogue that blocks tell, in which nothing is found, and this is what it leaves there
-pub record IsWholeIn (script : Script) (bs : List Block) (w : Plain) : Type 0 where
+-- a world has run a script to its end on the catalogue that blocks tell, in which nothing is found, and this is what it leaves there, with
+-- the volume's parts at these places
+pub record IsWholeIn (script : Script) (bs : List Block) (g : Geometry) (w : Plain) : Type 0 where
   pub opening : Cat
   pub after : Cat
-  pub geometry : Geometry
   pub accepted : Accepts bs
   pub told : CatOf bs opening
   pub replayed : Replays opening script w.history after
   pub whole : Whole script w.history
   pub killed : Killed script w.history
   pub unmended : list_any is_mending w.history ≡ false
-  pub parts : IsGeometryBy bs (home_read (home_at bs)) geometry
-  pub left : IsSpelt geometry w.blocks after
+  pub left : IsSpelt g w.blocks after
 
 -- the image has the drive of a world that has run a script, where it told these blocks before
 pub record IsDriveIn (script : Script) (bs : List Block) (told new : Option (List Block)) : Type 0 where
@@ -66,7 +63,7 @@ pub record IsEndIn (what : Printed) (script : Script) (bs : List Block) (told ne
   pub drive : IsDriveIn script bs told new
   pub walked : IsRotatedIn (budget_of drive.ran.start) (played script.plays drive.ran.start) drive.world
   pub over : AllOver drive.world
-  pub left : IsWholeIn script bs drive.world
+  pub left : IsWholeIn script bs drive.ran.start.geometry drive.world
   pub written : text ≡ printed_text what drive.world left.after
 
 -- and it may lack memory there
@@ -95,7 +92,7 @@ IsStopIn script bs told new s = ⊥
 -- why it came to none
 abbrev pub IsStopBy : Script → List Block → Option (List Block) → Option (List Block) → ℕ → ℕ → Stop → Type 0
 IsStopBy script bs told new had has (stop.Cut text) = Rose had has × IsCutShortIn script bs told new text.items
-IsStopBy script bs told new had has stop.Bare = Rose had has × IsCutIn script bs told new
+IsStopBy script bs told new had has stop.NoLines = Rose had has × IsCutIn script bs told new
 IsStopBy script bs told new had has (stop.By s) = IsStopIn script bs told new s
 
 -- Why a script came to no end on an image, but for a write that failed, of the load or of the blocks, and what the image has then.
@@ -109,7 +106,7 @@ IsImageEnd script size told new had has s = ⊥
 -- why it came to none
 abbrev pub IsImageStop : Script → ℕ → Option (List Block) → Option (List Block) → ℕ → ℕ → Stop → Type 0
 IsImageStop script size told new had has (stop.Cut text) = Rose had has × IfSome told (λ bs. IsCutShortIn script bs told new text.items)
-IsImageStop script size told new had has stop.Bare = Rose had has × IfSome told (λ bs. IsCutIn script bs told new)
+IsImageStop script size told new had has stop.NoLines = Rose had has × IfSome told (λ bs. IsCutIn script bs told new)
 IsImageStop script size told new had has (stop.By s) = IsImageEnd script size told new had has s
 
 -- why a run gave no report: of the script, of the load, or of the blocks
@@ -127,7 +124,7 @@ IsRunEnd left size told read reading had has s = ⊥
 -- a run that a write cut short is one of a good script, and the image has counted a fault
 abbrev pub IsRunStop : Option (List ℕ) → ℕ → Option (List Block) → ℕ → ℕ → ℕ → ℕ → Stop → Type 0
 IsRunStop left size told read reading had has (stop.Cut text) = IfSome left IsGood × Rose had has
-IsRunStop left size told read reading had has stop.Bare = IfSome left IsGood × Rose had has
+IsRunStop left size told read reading had has stop.NoLines = IfSome left IsGood × Rose had has
 IsRunStop left size told read reading had has (stop.By s) = IsRunEnd left size told read reading had has s
 
 -- why a soak gave no summary: of the load, or of the blocks
@@ -141,7 +138,7 @@ IsSoakEnd n size told had has s = ⊥
 -- and of one that a write cut short the image has counted a fault
 abbrev pub IsSoakStop : ℕ → ℕ → Option (List Block) → ℕ → ℕ → Stop → Type 0
 IsSoakStop n size told had has (stop.Cut text) = Rose had has
-IsSoakStop n size told had has stop.Bare = Rose had has
+IsSoakStop n size told had has stop.NoLines = Rose had has
 IsSoakStop n size told had has (stop.By s) = IsSoakEnd n size told had has s
 
 -- what the image has with a status whose text says all, and with the text of a run that a write cut short
@@ -151,7 +148,7 @@ IsQuietImage IsGiven told new s = new ≡ told
 
 abbrev pub IsStopImage : (Script → Type 0) → Option (List Block) → Option (List Block) → Stop → Type 0
 IsStopImage IsGiven told new (stop.Cut text) = IfSome told (λ bs. IsCutShort IsGiven bs new text.items)
-IsStopImage IsGiven told new stop.Bare = IfSome told (λ bs. IsCutShort IsGiven bs new (status_text status.ImageFault))
+IsStopImage IsGiven told new stop.NoLines = IfSome told (λ bs. IsCutOf IsGiven bs new)
 IsStopImage IsGiven told new (stop.By s) = IsQuietImage IsGiven told new s
 
 -- these are the findings of the blocks

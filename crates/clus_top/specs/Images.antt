@@ -12,7 +12,7 @@ use Rattle.run_engine.specs.Walks.{IsNextIn, IsBeforeWrite}
 use Rattle.core_state.specs.Ends.{AllOver}
 use Rattle.run_engine.specs.Scripts.{IsScriptOf}
 use Rattle.run_engine.specs.Texts.{status_text, cut_text, unmended_text, IsPlainText}
-use Rattle.run_engine.specs.Torn.{CanStop, IsTornRun}
+use Rattle.run_engine.specs.Torn.{IsTornRun}
 use Rattle.clus_top.specs.Words.{Wanted, Run, RunRebuild, Soak, Analyze, Rebuild, Init}
 use Rattle.clus_top.specs.Runs.{IsSoakOf, HasRun, LacksMemory}
 use Rattle.vol_parts.specs.declared.finding.Finding.{Finding}
@@ -33,15 +33,13 @@ IsFormatted h old new status.ImageFault = IsLeft h old new
 IsFormatted h old new status.NoMemory = IsLeft h old new
 IsFormatted h old new s = new ≡ Some old
 
--- The image has the drive of a world that has run the script of its job on the volume of these blocks, as far as its nodes came. If it
--- stops there it leaves a catalogue, as which the drive mends.
+-- The image has the drive of a world that has run the script of its job on the volume of these blocks, as far as its nodes came.
 pub record IsDriveOf (IsGiven : Script → Type 0) (bs : List Block) (new : Option (List Block)) : Type 0 where
   pub script : Script
   pub given : IsGiven script
   pub world : Plain
   pub ran : HasRun script bs world
   pub image : new ≡ Some world.blocks
-  pub stop : CanStop world
 
 -- and every node is over
 abbrev pub IsLastDriveOf : (Script → Type 0) → List Block → Option (List Block) → Type 0
@@ -62,13 +60,13 @@ pub record IsCutOf (IsGiven : Script → Type 0) (bs : List Block) (new : Option
   pub before : IsBeforeWrite (IsNextIn ran.start script.plays world) bs (Some bs) new world
   pub torn : IsTornRun ran.start script.plays world before.node new
 
--- After a run: the drive of its world, once every node is over; after want of memory the old blocks, or
--- the drive as far as to where the run lacked it; after a fault of the image the old blocks, or the drive as far as the run came but for the
--- block of a write that failed; and else the old blocks.
+-- After a run: the drive of its world, once every node is over; after a fault of the image the old blocks, or the drive as far as the run
+-- came but for the block of a write that failed; after want of memory the old blocks, or the drive as far as to where the run lacked it, or
+-- what a write that failed left, if the lines of the answers before it found no memory; and else the old blocks.
 abbrev pub IsRunImage : (Script → Type 0) → Option (List Block) → Option (List Block) → Status → Type 0
 IsRunImage IsGiven told new status.Ok = IfSome told (λ bs. IsLastDriveOf IsGiven bs new)
 IsRunImage IsGiven told new status.OutFault = IfSome told (λ bs. IsLastDriveOf IsGiven bs new)
-IsRunImage IsGiven told new status.NoMemory = (new ≡ told) ⊎ IfSome told (λ bs. IsLackingDriveOf IsGiven bs new)
+IsRunImage IsGiven told new status.NoMemory = (new ≡ told) ⊎ IfSome told (λ bs. IsLackingDriveOf IsGiven bs new ⊎ IsCutOf IsGiven bs new)
 IsRunImage IsGiven told new status.ImageFault = (new ≡ told) ⊎ IfSome told (λ bs. IsCutOf IsGiven bs new)
 IsRunImage IsGiven told new s = new ≡ told
 
@@ -78,7 +76,7 @@ abbrev pub IsRunRebuildImage : (Script → Type 0) → Option (List Block) → O
 IsRunRebuildImage IsGiven told new status.Ok = IfSome told (λ bs. HasRunAndMended IsGiven bs new)
 IsRunRebuildImage IsGiven told new status.OutFault = IfSome told (λ bs. HasRunAndMended IsGiven bs new)
 IsRunRebuildImage IsGiven told new (status.NotMendable f) = IfSome told (λ bs. IsUnmended IsGiven bs new f)
-IsRunRebuildImage IsGiven told new status.NoMemory = (new ≡ told) ⊎ IfSome told (λ bs. IsLackingDriveOf IsGiven bs new ⊎ IsPartlyMended IsGiven bs new)
+IsRunRebuildImage IsGiven told new status.NoMemory = (new ≡ told) ⊎ IfSome told (λ bs. IsLackingDriveOf IsGiven bs new ⊎ (IsCutOf IsGiven bs new ⊎ IsPartlyMended IsGiven bs new))
 IsRunRebuildImage IsGiven told new status.ImageFault = (new ≡ told) ⊎ IfSome told (λ bs. IsCutOf IsGiven bs new ⊎ IsPartlyMended IsGiven bs new)
 IsRunRebuildImage IsGiven told new s = new ≡ told
 
@@ -93,23 +91,23 @@ IsRebuildImage told new s = new ≡ told
 
 -- ---- what is told of a fault of the image
 
--- a run that a write cut short, with the lines of the answers before it, which may have found no memory
+-- a run that a write cut short, with the lines of the answers before it
 pub record IsCutShort (IsGiven : Script → Type 0) (bs : List Block) (new : Option (List Block)) (text : List ℕ) : Type 0 where
   pub cut : IsCutOf IsGiven bs new
-  pub written : (text ≡ cut_text cut.world.history) ⊎ (text ≡ status_text status.ImageFault)
+  pub written : text ≡ cut_text cut.world.history
 
--- a run has come to its end, and a write of its mending failed: with the lines of its history, which may have found no memory
+-- a run has come to its end, and a write of its mending failed: with the lines of its history
 pub record IsMendingCutShort (IsGiven : Script → Type 0) (bs : List Block) (new : Option (List Block)) (text : List ℕ) : Type 0 where
   pub part : IsPartlyMended IsGiven bs new
-  pub written : (text ≡ cut_text part.ran.world.history) ⊎ (text ≡ status_text status.ImageFault)
+  pub written : text ≡ cut_text part.ran.world.history
 
 -- a run whose drive cannot be mended, with the lines of its history
 pub record IsUnmendedText (IsGiven : Script → Type 0) (bs : List Block) (new : Option (List Block)) (f : Finding) (text : List ℕ) : Type 0 where
   pub unmended : IsUnmended IsGiven bs new f
   pub written : text ≡ unmended_text unmended.ran.world.history f
 
--- The text of a fault of the image: of a run that a write cut short the lines of the answers before it, if they found memory, and
--- the text of the fault, and else that alone, and the image has its blocks.
+-- The text of a fault of the image: of a run that a write cut short the lines of the answers before it, and the text of the fault; and else
+-- that alone, and the image has its blocks.
 abbrev pub IsRunFaultText : (Script → Type 0) → Option (List Block) → Option (List Block) → Status → List ℕ → Type 0
 IsRunFaultText IsGiven told new status.ImageFault text = ((new ≡ told) × (text ≡ status_text status.ImageFault)) ⊎ IfSome told (λ bs. IsCutShort IsGiven bs new text)
 IsRunFaultText IsGiven told new s text = IsPlainText s text

@@ -27,13 +27,14 @@ pub record IsMendedReport (IsGiven : Script → Type 0) (bs : List Block) (new :
   pub both : HasRunAndMended IsGiven bs new
   pub written : text ≡ report_text (with_mending both.ran.world.history both.done) both.mended.after
 
--- A run has come to its end, and the image has blocks that mend to what the catalogue of the run mends to: a mending has begun, or not.
+-- A run has come to its end, and the image has blocks that mend to what the catalogue of the run mends to: a mending has begun, or not. If that
+-- catalogue cannot be mended, it has the drive of the run.
 pub record IsPartlyMended (IsGiven : Script → Type 0) (bs : List Block) (new : Option (List Block)) : Type 0 where
   pub before : Option (List Block)
   pub ran : HasRunToEnd IsGiven bs before
   pub blocks : List Block
   pub image : new ≡ Some blocks
-  pub still : StillMends ran.after blocks
+  pub still : StillMends ran.after ran.world.blocks blocks
 
 -- A run has come to its end, and its catalogue cannot be mended: [SYSLOST] lacks room for a lost file. The image has the drive of the
 -- run, of which this is the first fatal finding.

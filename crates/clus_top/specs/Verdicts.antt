@@ -1,8 +1,9 @@
 -- That of all statuses exactly one is due.
-use Rattle.std.specs.Prelude.{◌≡◌, ℕ, Bool, true, List, Option, Some}
+use Rattle.std.specs.Prelude.{◌≡◌, ℕ, Bool, true, List, Option, Some, IfSome}
 use Rattle.base_words.specs.Fields.{Block}
 use Rattle.blk_drive.specs.Images.{IsInside}
-use Rattle.vol_parts.specs.Findings.{Accepts}
+use Rattle.vol_parts.specs.declared.finding.Finding.{Finding}
+use Rattle.vol_parts.specs.Findings.{AreFindings, Accepts}
 use Rattle.run_engine.specs.declared.status.Status.{Status}
 use Rattle.run_engine.specs.declared.status.Status.TheVariants as status
 use Rattle.clus_top.specs.Words.{Wanted, Run, RunRebuild, Soak}
@@ -33,3 +34,21 @@ RunsGood other bytes = ⊥
 abbrev pub GoodRunsAreAnswered : Type 0
 GoodRunsAreAnswered = (wanted : Option Wanted) (bytes : List ℕ) (size : ℕ) (bs : List Block) (s : Status) → RunsGood wanted bytes → IsInside size → Accepts bs
     → is_verdict_of wanted s ≡ true → IsDue wanted (Some bytes) size (Some bs) s → s ≡ status.Ok
+
+-- ---- of one call
+
+-- where script and blocks are told, no other such status is due than that of the call
+abbrev pub IsAlone : Option Wanted → Option (List ℕ) → ℕ → Option (List Block) → Status → Type 0
+IsAlone wanted left size told s = IfSome left (λ bytes. IfSome told (λ bs. (fs : List Finding) → AreFindings bs fs → is_verdict_of wanted s ≡ true
+    → (other : Status) → is_verdict_of wanted other ≡ true → IsDue wanted (Some bytes) size (Some bs) other → other ≡ s))
+
+-- a job that runs a good script, where it is told, or one that is drawn
+abbrev pub RunsGoodOf : Option Wanted → Option (List ℕ) → Type 0
+RunsGoodOf (Some Run) (Some bytes) = IsGood bytes
+RunsGoodOf (Some RunRebuild) (Some bytes) = IsGood bytes
+RunsGoodOf (Some (Soak n)) left = Unit {0}
+RunsGoodOf other left = ⊥
+
+-- on an accepted volume such a status of such a call is Ok
+abbrev pub AnswersGood : Option Wanted → Option (List ℕ) → ℕ → Option (List Block) → Status → Type 0
+AnswersGood wanted left size told s = IfSome told (λ bs. RunsGoodOf wanted left → IsInside size → Accepts bs → is_verdict_of wanted s ≡ true → s ≡ status.Ok)

@@ -1,8 +1,9 @@
-use crate::calling::{exit_call, no_memory};
+use crate::calling::exit_call;
 use blk_drive::{ImageDev, MemImage};
 use edge_files::{Access, Held, LockFile, SafeOut, image_at, line_of};
 use fx_text::{StdIn, StdOut, TextIn};
 use plain_cat::NoMemory;
+use run_engine::{Called, no_memory};
 use std::fs::OpenFile;
 use std::process::ExitCode;
 use std::rt::{Env, Files};
@@ -16,7 +17,8 @@ fn access_of(job: &[String]) -> Access {
     }
 }
 
-// Calls the top call with standard output as its sink, before which the image's file is synced where that is due.
+// Calls the top call with standard output as its sink, before which the image's file is synced where that is due. Behind the call nothing is
+// done with the image but to let it go.
 fn called<R: Print + AllocGlobal, I: ImageDev, F: OpenFile + Drop, T: TextIn>(
     rt: &R,
     job: &[String],
@@ -25,7 +27,8 @@ fn called<R: Print + AllocGlobal, I: ImageDev, F: OpenFile + Drop, T: TextIn>(
     mut script: T,
 ) -> ExitCode {
     let mut out = SafeOut::new(StdOut::new(io::writer(rt)), due);
-    exit_call(rt.alloc(), job, image, &mut script, &mut out)
+    let Called { code, image: _ } = exit_call(rt.alloc(), job, image, &mut script, &mut out);
+    code
 }
 
 // Opens image and script, of which `-` is standard input, and makes the call. With fewer than two words it has no words and no blocks.

@@ -17,7 +17,7 @@
 //! fault is reported only if its object's count of faults rose.
 //!
 //! `run` is the whole program. `exit_call` makes the top call with all of the words that it is given, in order, and answers the number
-//! of its status, for which what the top call says holds (`IsEnd`). If there is no memory for the words, the number is that of
+//! of its status and the image, for which what the top call says holds (`IsEnd`). If there is no memory for the words, the number is that of
 //! `NoMemory`. What `run` takes from the system, words and files, no contract says: stored runs show it, and tests over real files. How the
 //! image's file is opened, locked and synced is in `edge_files`: `analyze` opens it to be read, and every other job to be read and
 //! written.
@@ -36,8 +36,8 @@ mod theorems;
 mod top;
 mod words;
 
-pub use calling::{exit_call, exit_code, no_memory, words_of};
+pub use calling::exit_call;
 pub use files::run;
-pub use run_engine::{Finished, Status};
+pub use run_engine::{Called, Finished, Status, exit_code, no_memory, words_of};
 pub use theorems::{good_runs_are_answered, one_status_is_due};
 pub use top::vmsclus;

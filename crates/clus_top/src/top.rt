@@ -10,6 +10,7 @@ ghost use Rattle.clus_top.specs.Runs.{IsSoakOf};
 ghost use Rattle.clus_top.specs.Images.{IsFormatted, IsRunImage, IsRunRebuildImage, IsRebuildImage, IsImageAfter, IsRunFaultText, IsMendedFaultText, IsFaultTextOf};
 ghost use Rattle.clus_top.specs.Mendings.{IsMendingText};
 ghost use Rattle.run_engine.specs.Verdicts.{IsRunDue};
+ghost use Rattle.clus_top.specs.Verdicts.{IsAlone, AnswersGood};
 ghost use Rattle.clus_top.specs.Statuses.{IsRunRebuildDue, IsSoakDue, IsAnalysisDue, IsRebuildDue, IsInitDue, IsDue, IsSummaryOn, accepted_text, made_text, sized, IsTextOf};
 
 use crate::analysis::{Analysis, analyze_image};
@@ -17,6 +18,7 @@ use crate::format::{Format, init_image};
 use crate::rebuild::{Rebuild, mend_image};
 use crate::run_job::{Ran, run_script, run_soak};
 use crate::run_rebuild::run_and_mend;
+use crate::theorems::{good_runs_are_answered, one_status_is_due};
 use crate::words::{Job, job_of};
 use blk_drive::ImageDev;
 use fx_text::{TextIn, TextOut, Word};
@@ -46,7 +48,7 @@ fn run<I: ImageDev, T: TextIn, O: TextOut>(
     let status = match outcome {
         Ok(text) => tell_text(out, text.as_slice()),
         Err(Stop::Cut(text)) => tell_cut(out, text.as_slice()),
-        Err(Stop::Bare) => tell(alloc, out, Status::ImageFault),
+        Err(Stop::NoLines) => tell(alloc, out, Status::NoMemory),
         Err(Stop::By(status)) => tell(alloc, out, status),
     };
     Finished { status, image }
@@ -96,7 +98,7 @@ fn soak<I: ImageDev, O: TextOut>(alloc: Global, image: I, n: u32, out: &mut O) -
     let status = match outcome {
         Ok(text) => tell_text(out, text.as_slice()),
         Err(Stop::Cut(text)) => tell_cut(out, text.as_slice()),
-        Err(Stop::Bare) => tell(alloc, out, Status::ImageFault),
+        Err(Stop::NoLines) => tell(alloc, out, Status::NoMemory),
         Err(Stop::By(status)) => tell(alloc, out, status),
     };
     Finished { status, image }
@@ -173,6 +175,43 @@ fn init<I: ImageDev, O: TextOut>(
     Finished { status, image }
 }
 
+// Does the job of the words.
+fn done<I: ImageDev, T: TextIn, O: TextOut>(
+    alloc: Global,
+    words: &[Word],
+    image: I,
+    script: &mut T,
+    out: &mut O,
+) -> Finished<I>
+    ensures due { IsDue (wanted_by words.now) (T.left script.old) (I.size image) (I.told image) result.status }
+    ensures script_fault { result.status ≡ Status.ScriptFault → Rose (T.faults script.old) (T.faults script.new) }
+    ensures image_fault { result.status ≡ Status.ImageFault → Rose (I.faults image) (I.faults result.image) }
+    ensures out_fault { result.status ≡ Status.OutFault → Rose (O.faults out.old) (O.faults out.new) }
+    ensures written { Writes (IsTextOf (wanted_by words.now) (T.left script.old) (I.size image) (I.told image) (I.told result.image))
+        (IsFaultTextOf (wanted_by words.now) (T.left script.old) (I.told image) (I.told result.image)) (I.told image)
+        (O.written out.old) (O.written out.new) (O.faults out.old) (O.faults out.new) result.status }
+    ensures after { IsImageAfter (wanted_by words.now) (T.left script.old) (I.told image) (I.told result.image) result.status }
+{
+    match job_of(words) {
+        Some(Job::Run) => run(alloc, image, script, out),
+        Some(Job::RunRebuild) => run_rebuild(alloc, image, script, out),
+        Some(Job::Soak(n)) => soak(alloc, image, n, out),
+        Some(Job::Analyze) => analyze(alloc, image, out),
+        Some(Job::Rebuild) => rebuild(alloc, image, out),
+        Some(
+            Job::Init {
+                cluster,
+                files,
+                label,
+            },
+        ) => init(alloc, image, cluster, files, label, out),
+        None => Finished {
+            status: tell(alloc, out, Status::BadWords),
+            image,
+        },
+    }
+}
+
 /// Does the job that the words ask for, prints its text, and gives the image back.
 ///
 /// `run` reads a script of at most 1,048,576 bytes and runs it on a volume in which nothing is found. Its commands are all fifteen,
@@ -204,8 +243,8 @@ pub fn vmsclus<I: ImageDev, T: TextIn, O: TextOut>(
     ensures out_fault { result.status ≡ Status.OutFault → Rose (O.faults out.old) (O.faults out.new) }
 
     // With status 0 the job's text was written, with a fault of the sink first bytes of it, with findings these, and else the
-    // text of the status; in front of that of a write that failed in a run or a soak the lines of the answers before it, if they found
-    // memory, and so in front of that of a run whose volume cannot be mended.
+    // text of the status; in front of that of a write that failed in a run or a soak the lines of the answers before it, and so in front of
+    // that of a run whose volume cannot be mended.
     ensures written { Writes (IsTextOf (wanted_by words.now) (T.left script.old) (I.size image) (I.told image) (I.told result.image))
         (IsFaultTextOf (wanted_by words.now) (T.left script.old) (I.told image) (I.told result.image)) (I.told image)
         (O.written out.old) (O.written out.new) (O.faults out.old) (O.faults out.new) result.status }
@@ -216,23 +255,15 @@ pub fn vmsclus<I: ImageDev, T: TextIn, O: TextOut>(
     // these have a fatal finding they are the old ones. A run that is mended then leaves what a mending leaves of the drive of its nodes. A format leaves a new volume; after a fault or want of memory there are the old
     // blocks, or no home block that is read, or the new volume. Nothing else changes the image's blocks.
     ensures after { IsImageAfter (wanted_by words.now) (T.left script.old) (I.told image) (I.told result.image) result.status }
+
+    // Of the statuses but faults, want of memory and, of a run that is mended then, `NotMendable`, no other one is due than that of the call.
+    ensures alone { IsAlone (wanted_by words.now) (T.left script.old) (I.size image) (I.told image) result.status }
+
+    // A good script on an accepted volume is answered: with status 0, unless a call of an object fails or memory runs out, or the volume of a
+    // run that is mended then cannot be mended.
+    ensures answered { AnswersGood (wanted_by words.now) (T.left script.old) (I.size image) (I.told image) result.status }
 {
-    match job_of(words) {
-        Some(Job::Run) => run(alloc, image, script, out),
-        Some(Job::RunRebuild) => run_rebuild(alloc, image, script, out),
-        Some(Job::Soak(n)) => soak(alloc, image, n, out),
-        Some(Job::Analyze) => analyze(alloc, image, out),
-        Some(Job::Rebuild) => rebuild(alloc, image, out),
-        Some(
-            Job::Init {
-                cluster,
-                files,
-                label,
-            },
-        ) => init(alloc, image, cluster, files, label, out),
-        None => Finished {
-            status: tell(alloc, out, Status::BadWords),
-            image,
-        },
-    }
+    one_status_is_due();
+    good_runs_are_answered();
+    done(alloc, words, image, script, out)
 }

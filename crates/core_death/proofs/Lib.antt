@@ -2,3 +2,4 @@ pub mod Listing
 pub mod Telling
 pub mod Ending
 pub mod Writing
+pub mod Naming

@@ -34,8 +34,11 @@ abbrev pub comes_by : KillAt → ℕ → ℕ → Bool → Bool
 comes_by (kill.Turn t) turns writes writing = turns + 1 == t
 comes_by (kill.Write k) turns writes writing = (writes + 1 == k) && writing
 
+abbrev pub is_of : ℕ → Kill → Bool
+is_of n k = k.node == n
+
 abbrev pub kills_by : ℕ → ℕ → ℕ → Bool → Kill → Bool
-kills_by n turns writes writing k = (k.node == n) && comes_by k.at turns writes writing
+kills_by n turns writes writing k = is_of n k && comes_by k.at turns writes writing
 
 -- the answer of its turn, or Over with its death
 abbrev pub told_of_step : Plain → Plain → ℕ → Turn

@@ -12,7 +12,7 @@ ghost use Rattle.core_state.specs.Events.{is_write, next_event};
 ghost use Rattle.core_state.specs.Deaths.{is_due, after_step};
 ghost use Rattle.core_state.specs.Uses.{UsesTheDrives};
 ghost use Rattle.core_step.specs.Memory.{takes_none};
-ghost use Rattle.core_death.specs.Seats.{has_space_write, has_write, has_next, comes_by, kills_by, told_of_step};
+ghost use Rattle.core_death.specs.Seats.{has_space_write, has_write, has_next, comes_by, is_of, kills_by, told_of_step};
 
 use crate::killing::kill;
 use blk_drive::ImageDev;
@@ -91,13 +91,23 @@ fn comes_now(kills: &[Kill], node: u8, turns: u64, writes: u64, writing: bool) -
     kills.iter().any(|kill| kill.node == node && comes_at(kill.at, turns, writes, writing))
 }
 
+// Whether one of these kills is of the node.
+fn is_named(kills: &[Kill], node: u8) -> bool
+    ensures { result ≡ list_any (is_of node) kills.now }
+{
+    kills.iter().any(|kill| kill.node == node)
+}
+
 /// Whether the script kills a node in place of its next turn. The nodes count from 1.
 pub fn is_due<I: ImageDev, O: Operation>(w: &World<I, O>, node: u8) -> bool
     requires { IsOfWorld w.now.world node }
     ensures { result ≡ is_due w.now.world node }
 {
-    let writing = next_is_write(w, node);
     let kills = w.script().kills.items();
+    if !is_named(kills, node) {
+        return false;
+    }
+    let writing = next_is_write(w, node);
     !w.is_over(node) && comes_now(kills, node, w.turns(node), w.writes(node), writing)
 }
 

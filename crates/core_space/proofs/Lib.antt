@@ -10,10 +10,12 @@ pub mod Given
 pub mod Looked
 pub mod Loops
 pub mod Merged
+pub mod Modes
 pub mod Ranges
 pub mod Refused
 pub mod Setting
 pub mod Shortage
+pub mod Staying
 pub mod Taken
 pub mod Ways
 pub mod Writes

@@ -34,7 +34,7 @@ mod taking;
 
 pub use event::{Decision, SpaceEvent};
 pub use finding::search;
-pub use lasting::LastingLocks;
+pub use lasting::{LastingLocks, stays_behind};
 pub use laws::{
     clusters_go_back, decided_last, fillings_refill, fills_enough, full_is_whole, looks_at_bitmaps,
     numbers_go_back, refused_last, stocks_take_all, takes_lowest, writes_fill,

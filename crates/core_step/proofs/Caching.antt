@@ -1,6 +1,6 @@
 -- What a world is after a look at a block that may be cached, and after a write.
 use Rattle.std.proofs.Common.{◌≡◌, ◌≤◌, ◌-◌, ℕ, Bool, true, false, Option, Some, None, cond, List, [], length, map, slice_get, slice_set, refl, sym, ap, ◌∙◌}
-use Rattle.std.specs.Prelude.{slice_index_or}
+use Rattle.std.specs.Prelude.{is_some, IsSome, slice_index_or}
 use Rattle.std.proofs.lemmas.Option.{get_or_from_slice_get}
 use Rattle.base_words.specs.Fields.{Block}
 use Rattle.lock_db.specs.declared.name.LockName.{LockName}
@@ -36,6 +36,11 @@ space_used_now w s k b lbn e = ap (λ (t : Bool). cond t (event.SpaceUse k b lbn
 
 pub space_looked_now : (w : Plain) (s : NodeState) (k : ℕ) (b : Bool) (lbn : ℕ) → has_current w s V lbn ≡ false → or_use w s (event.SpaceLook k b lbn) ≡ event.SpaceLook k b lbn
 space_looked_now w s k b lbn e = ap (λ (t : Bool). cond t (event.SpaceUse k b lbn) (event.SpaceLook k b lbn)) e
+
+-- an entry that is current is found
+pub current_found : (v : Bool) (o : Option Cached) → is_some (cond v o None) ≡ true → IsSome o
+current_found true o e = e
+current_found false o e = absurd (let f : false ≡ true = e in cc)
 
 -- a use takes memory as a look does
 pub takes_or_use : (t : List Resource) (n : ℕ) (w : Plain) (s : NodeState) (e : Event) → takes_none t n (or_use w s e) ≡ takes_none t n e

@@ -6,7 +6,7 @@ use Rattle.vol_parts.specs.Parts.{IsGeometry}
 use Rattle.op_law.specs.declared.need.Need.{Need}
 use Rattle.op_law.specs.declared.need.Need.TheVariants as need
 use Rattle.op_law.specs.declared.need.Plan.{Plan}
-use Rattle.op_law.specs.Events.{Space, space_of, has_space, HasNoSpace}
+use Rattle.op_law.specs.Events.{space_of, has_space, HasNoSpace}
 use Rattle.op_law.specs.Needs.{events_of, need_of, IsNext}
 use Rattle.op_law.specs.Fits.{FitsSeen}
 use Rattle.op_law.specs.Knows.{wanted}

@@ -1,6 +1,7 @@
 -- A node as its rules for space see it.
-use Rattle.std.proofs.Common.{◌≡◌, ◌<◌, ◌+◌, ◌++◌, ◌∙◌, ℕ, zero, suc, Bool, true, false, cond, List, [], ◌∷◌, Some, None, length, slice_get, refl, sym, ap, arith}
-use Rattle.std.specs.Prelude.{◌==◌, find, slice_index_or}
+use Rattle.std.proofs.Common.{◌≡◌, ◌<◌, ◌+◌, ◌++◌, ◌∙◌, ℕ, zero, suc, Bool, true, false, cond, List, [], ◌∷◌, Some, length, slice_get, refl, sym, ap, arith}
+use Rattle.std.specs.Prelude.{◌==◌, find, slice_index_or, if◌then◌else◌}
+use Rattle.std.specs.Option.{option_or}
 use Rattle.std.proofs.lemmas.Bool.Decides.{nat_tests}
 use Rattle.lock_db.specs.declared.name.LockName.{LockName}
 use Rattle.lock_db.specs.Names.{is_same}
@@ -13,6 +14,7 @@ use Rattle.core_space.specs.declared.run.SpaceRun.{SpaceRun}
 use Rattle.core_space.specs.declared.run.SpaceLocks.{SpaceLocks}
 use Rattle.core_space.specs.declared.run.SpaceNeed.{SpaceNeed}
 use Rattle.core_space.specs.Rule.{event_in}
+use Rattle.core_space.specs.Lasting.{mode_on}
 use Rattle.op_law.specs.declared.need.PlanWrite.{PlanWrite}
 use Rattle.core_state.specs.Worlds.{NodeState}
 use Rattle.core_state.specs.Events.{mode_of_lock, mode_in, given_by, stocked_by, ready_left, is_last}
@@ -20,19 +22,20 @@ use Rattle.core_step.specs.Spaces.{taking}
 
 -- ---- the mode of a lock in two rows
 
-pub mode_first : (name : LockName) (ls ks : List (LockName × Mode)) (m : Mode) → mode_in name ls ≡ Some m → mode_in name (ls ++ ks) ≡ Some m
-mode_first name [] ks m e = absurd (let f : None ≡ Some m = e in cc)
-mode_first name (l ∷ ls) ks m e = by_test (is_same l.0 name) e (mode_first name ls ks m) where
-  by_test : (b : Bool) → mode_of_lock (cond b (Some l) (find (λ k. is_same k.0 name) ls)) ≡ Some m → (mode_in name ls ≡ Some m → mode_in name (ls ++ ks) ≡ Some m) → mode_of_lock (cond b (Some l) (find (λ k. is_same k.0 name) (ls ++ ks))) ≡ Some m
-  by_test true f rest = f
-  by_test false f rest = rest f
+mode_one : (n : LockName) (ls : List (LockName × Mode)) → mode_on n ls ≡ mode_in n ls
+mode_one n [] = refl
+mode_one n (l ∷ ls) = elim (is_same l.0 n) as (λ b. (if b then Some l.1 else mode_on n ls) ≡ mode_of_lock (cond b (Some l) (find (λ k. is_same k.0 n) ls))) [
+  | true ↦ refl
+  | false ↦ mode_one n ls
+]
 
-pub mode_second : (name : LockName) (ls ks : List (LockName × Mode)) → mode_in name ls ≡ None → mode_in name ks ≡ mode_in name (ls ++ ks)
-mode_second name [] ks e = refl
-mode_second name (l ∷ ls) ks e = by_test (is_same l.0 name) e (mode_second name ls ks) where
-  by_test : (b : Bool) → mode_of_lock (cond b (Some l) (find (λ k. is_same k.0 name) ls)) ≡ None → (mode_in name ls ≡ None → mode_in name ks ≡ mode_in name (ls ++ ks)) → mode_in name ks ≡ mode_of_lock (cond b (Some l) (find (λ k. is_same k.0 name) (ls ++ ks)))
-  by_test true f rest = absurd (let g : Some l.1 ≡ None = f in cc)
-  by_test false f rest = rest f
+-- that in the first row, or else in the second
+pub mode_both : (n : LockName) (ls ks : List (LockName × Mode)) → option_or (mode_on n ls) (mode_on n ks) ≡ mode_in n (ls ++ ks)
+mode_both n [] ks = mode_one n ks
+mode_both n (l ∷ ls) ks = elim (is_same l.0 n) as (λ b. option_or (if b then Some l.1 else mode_on n ls) (mode_on n ks) ≡ mode_of_lock (cond b (Some l) (find (λ k. is_same k.0 n) (ls ++ ks)))) [
+  | true ↦ refl
+  | false ↦ mode_both n ls ks
+]
 
 -- ---- how much room a stock has is no matter
 

@@ -6,3 +6,4 @@ pub mod Memory
 pub mod Outcome
 pub mod Spaces
 pub mod Moving
+pub mod Using

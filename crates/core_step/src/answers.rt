@@ -27,7 +27,7 @@ use core_space::{LastingLocks, Phase};
 use core_state::{Core, Node};
 use lock_db::{LockDb, LockName};
 use node_cache::NodeCache;
-use op_law::{Chan, Operation, Plan, Seen, SeenBlocks, SeenLocks};
+use op_law::{Chan, Operation, Plan, Seen};
 use plain_cat::{Clusters, Cmd, Entry, Mode};
 use std::alloc::Global;
 use vol_parts::Geometry;
@@ -73,20 +73,16 @@ pub(crate) fn write<I: ImageDev, O: Operation>(
     Ok(())
 }
 
-// Nothing is seen yet.
-fn unseen(alloc: Global, geometry: Geometry) -> Seen
-    ensures geometry { result.geometry ≡ geometry }
-    ensures rest { (old : Seen) → old.geometry ≡ geometry → result ≡ unseen old }
+// What was seen for a command is away. The lists keep their memory for the next one.
+fn put_away(alloc: Global, seen: &mut Seen)
+    ensures { seen.new ≡ unseen seen.old }
 {
-    Seen {
-        geometry,
-        channel: None,
-        locks: SeenLocks::new(alloc),
-        blocks: SeenBlocks::new(alloc),
-        clusters: Clusters::new(alloc),
-        number: None,
-        short: None,
-    }
+    seen.channel = None;
+    seen.locks.clear();
+    seen.blocks.clear();
+    seen.clusters = Clusters::new(alloc);
+    seen.number = None;
+    seen.short = None;
 }
 
 // What a command leaves behind as it ends, and what its channel had open.
@@ -144,7 +140,7 @@ fn end<O: Operation>(alloc: Global, node: &mut Node<O>) -> Ended
     node.past.answer(&cmd, reply_by(&plan, tried));
     let had = channel_seen(&node.opens, &cmd);
     open_and_close(&mut node.opens, &cmd, reply_by(&plan, tried));
-    node.seen = unseen(alloc, node.seen.geometry);
+    put_away(alloc, &mut node.seen);
     node.done = 0;
     node.tried = false;
     keep_staying(node);

@@ -1,15 +1,17 @@
 //! A node's cached blocks: which are current, and what a look and a write make of them.
 
-ghost use Rattle.std.specs.Prelude.{◌≡◌, is_some, OnOk, OnErr};
+ghost use Rattle.std.specs.Prelude.{◌≡◌, is_some, OnOk, OnErr, if◌then◌else◌};
 ghost use Rattle.base_words.specs.Fields.{Block};
 ghost use Rattle.vol_parts.specs.Parts.{IsGeometry};
 ghost use Rattle.lock_db.specs.Tables.{resource_at};
 ghost use Rattle.op_law.specs.declared.need.PlanWrite.{PlanWrite};
+ghost use Rattle.node_locks.specs.Sequences.{first_sequence, second_sequence};
+ghost use Rattle.core_state.specs.Raises.{is_first_part};
 ghost use Rattle.core_state.specs.Caches.{sequence_now, next_sequence, current_entry, writes_at, kept_sequence, kept_with, least_sequence, rewritten};
 ghost use Rattle.core_state.specs.Events.{cached_block};
 
 use crate::raises::is_first_part;
-use base_words::{Block, zeros};
+use base_words::Block;
 use lock_db::{LockDb, LockName, Mode, Owner};
 use node_cache::NodeCache;
 use node_locks::{first_sequence, second_sequence};
@@ -17,25 +19,16 @@ use op_law::NoMemory;
 use std::alloc::Global;
 use vol_parts::Geometry;
 
-/// The sequence of the part to which a block belongs, in the value block of the lock that guards it.
-pub(crate) fn sequence_now(g: &Geometry, locks: &LockDb, name: LockName, lbn: u32) -> u64
+// The sequence of the part to which a block belongs, in this value block.
+fn part_sequence(g: &Geometry, name: LockName, lbn: u32, value: &[u8; 16]) -> u64
     requires { IsGeometry g.now }
-    ensures { result ≡ sequence_now g.now locks.now name lbn }
+    ensures { result ≡ (if is_first_part g.now name lbn then first_sequence value.now else second_sequence value.now) }
 {
-    let (value, _) = locks.value(name);
     if is_first_part(g, name, lbn) {
-        first_sequence(&value)
+        first_sequence(value)
     } else {
-        second_sequence(&value)
+        second_sequence(value)
     }
-}
-
-// Whether the value block of a lock is valid.
-fn is_valid(locks: &LockDb, name: LockName) -> bool
-    ensures { result ≡ (resource_at name locks.now).valid }
-{
-    let (_, valid) = locks.value(name);
-    valid
 }
 
 // One higher.
@@ -57,10 +50,11 @@ pub(crate) fn current_block(
     ensures some { is_some result ≡ is_some (current_entry g.now locks.now name lbn cache.now) }
     ensures block { (b : Block) → result ≡ Some b → b ≡ cached_block (current_entry g.now locks.now name lbn cache.now) }
 {
-    if !is_valid(locks, name) {
+    let (value, valid) = locks.value(name);
+    if !valid {
         return None;
     }
-    cache.block(lbn, name, sequence_now(g, locks, name, lbn))
+    cache.block(lbn, name, part_sequence(g, name, lbn, &value))
 }
 
 // Whether the file system of a node holds a lock in PW.
@@ -81,8 +75,9 @@ pub(crate) fn kept_sequence(
     requires { IsGeometry g.now }
     ensures { result ≡ kept_sequence (resource_at name locks.now).valid (writes_at node (resource_at name locks.now)) (sequence_now g.now locks.now name lbn) }
 {
-    let seq = sequence_now(g, locks, name, lbn);
-    if is_valid(locks, name) {
+    let (value, valid) = locks.value(name);
+    let seq = part_sequence(g, name, lbn, &value);
+    if valid {
         Some(seq)
     } else if writes_at(locks, node, name) {
         Some(next_sequence(seq))
@@ -128,8 +123,9 @@ pub(crate) fn rewrite(
     requires { IsGeometry g.now }
     ensures { (w : PlanWrite) → w.lock ≡ name → w.lbn ≡ lbn → w.block ≡ block.now → cache.new ≡ rewritten g.now locks.now w cache.old }
 {
-    let seq = sequence_now(g, locks, name, lbn);
-    let least = least_sequence(is_valid(locks, name), seq);
+    let (value, valid) = locks.value(name);
+    let seq = part_sequence(g, name, lbn, &value);
+    let least = least_sequence(valid, seq);
     if cache.holds_since(lbn, name, least) {
         cache.replace(lbn, name, next_sequence(seq), block);
     }

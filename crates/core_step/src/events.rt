@@ -1,6 +1,6 @@
 //! The events, each as a function on what a world is made of.
 
-ghost use Rattle.std.specs.Prelude.{true, false, ◌≡◌, ◌≤◌, ◌<◌, ◌++◌, [], ◌∷◌, Some, IfOk, OnOk, OnErr, length};
+ghost use Rattle.std.specs.Prelude.{ℕ, true, false, ◌≡◌, ◌≤◌, ◌<◌, ◌++◌, [], ◌∷◌, Some, IfOk, OnOk, OnErr, IsSome, length};
 ghost use Rattle.plain_cat.specs.declared.command.Cmd.{Cmd};
 ghost use Rattle.lock_db.specs.declared.name.LockName.TheVariants.{A};
 ghost use Rattle.lock_db.specs.Resources.{asked_answer};
@@ -11,14 +11,16 @@ ghost use Rattle.core_state.specs.Worlds.{NodeState, IsOfWorld, state_of, plain_
 ghost use Rattle.core_state.specs.Event as event;
 ghost use Rattle.core_state.specs.Asks.{has_asked};
 ghost use Rattle.vol_parts.specs.Parts.{IsGeometry};
-ghost use Rattle.node_cache.specs.Cached.{used};
+ghost use Rattle.lock_db.specs.declared.name.LockName.{LockName};
+ghost use Rattle.node_cache.specs.Cached.{found, used};
 ghost use Rattle.core_state.specs.Caches.{kept_with};
-ghost use Rattle.core_state.specs.Events.{happen, turned, leaving, locking, reading, hitting, caching, looking, using, block_used, planning, would_go};
+ghost use Rattle.core_state.specs.Events.{happen, turned, leaving, locking, reading, hitting, caching, looking, using, planning, would_go};
 ghost use Rattle.core_step.specs.Asks.{aim_of, MayAsk, noted, unnoted};
 ghost use Rattle.core_step.specs.Giving.{MayLeaveAll};
+ghost use Rattle.core_step.specs.Using.{IsCurrent};
 
 use crate::asks::Aim;
-use crate::caches::{keep, kept_sequence, sequence_now};
+use crate::caches::{keep, kept_sequence};
 use crate::giving::leave_all;
 use base_words::Block;
 use blk_drive::ImageDev;
@@ -319,42 +321,32 @@ pub(crate) fn look<I: ImageDev, O: Operation>(
     )
 }
 
-// A node has used a cached block, which has this sequence. A refusal of memory leaves it as it was.
-fn keep_used<O: Operation>(
-    node: &mut Node<O>,
-    seq: u64,
-    name: LockName,
-    lbn: u32,
-    block: Block,
-) -> Result<(), NoMemory>
-    ensures ok { OnOk result (state_of O.cmd_is node.new ≡ turned (caching (used lbn name seq node.old.cache) (using (state_of O.cmd_is node.old) lbn block))) }
+// A node has used a cached block. A refusal of memory leaves it as it was.
+fn keep_used<O: Operation>(node: &mut Node<O>, lbn: u32, block: &Block) -> Result<(), NoMemory>
+    ensures ok { OnOk result ((name : LockName) (seq : ℕ) → IsSome (found lbn name seq node.old.cache) → state_of O.cmd_is node.new ≡ turned (caching (used lbn name seq node.old.cache) (using (state_of O.cmd_is node.old) lbn block.now))) }
     ensures err { OnErr result (state_of O.cmd_is node.new ≡ state_of O.cmd_is node.old) }
 {
-    node.seen.blocks.push((lbn, block))?;
-    node.cache.promote(lbn, name, seq);
+    node.seen.blocks.push((lbn, *block))?;
+    node.cache.to_front(lbn);
     count_hit(node);
     Ok(())
 }
 
-/// A node's command uses a block that the node has cached under the lock of this name, and whose entry is current: it has these bytes.
+/// A node's command uses a block that the node has cached under some lock, and whose entry is current: it has these bytes.
 /// An error says that memory ran out, and nothing was used.
 pub(crate) fn use_block<I: ImageDev, O: Operation>(
     core: &mut Core<I, O>,
     node: u8,
-    name: LockName,
     lbn: u32,
-    block: Block,
+    block: &Block,
 ) -> Result<(), NoMemory>
     requires node { IsOfWorld (plain_of O.cmd_is core.old) node }
-    requires geometry { IsGeometry core.old.geometry }
-    requires current { (s : NodeState) → node_at (plain_of O.cmd_is core.old).nodes node ≡ Some s → block ≡ block_used (plain_of O.cmd_is core.old) s name lbn }
-    ensures world { OnOk result (plain_of O.cmd_is core.new ≡ happen (plain_of O.cmd_is core.old) node (event.Use name lbn)) }
+    ensures world { OnOk result ((name : LockName) → IsCurrent (plain_of O.cmd_is core.old) node name lbn block.now → plain_of O.cmd_is core.new ≡ happen (plain_of O.cmd_is core.old) node (event.Use name lbn)) }
     ensures same { OnErr result (plain_of O.cmd_is core.new ≡ plain_of O.cmd_is core.old) }
     ensures mirror { core.new.mirror ≡ core.old.mirror }
     ensures room { core.new.history.room ≡ core.old.history.room }
 {
-    let seq = sequence_now(&core.geometry, &core.locks, name, lbn);
-    keep_used(&mut core.nodes[node as usize - 1], seq, name, lbn, block)
+    keep_used(&mut core.nodes[node as usize - 1], lbn, block)
 }
 
 /// A node's command looks at a file's own block. An error says that memory ran out, and nothing was looked at.

@@ -1,11 +1,12 @@
 //! A node's locks go back.
 
-ghost use Rattle.std.specs.Prelude.{◌≡◌, ◌++◌, not, filter, IsSome, if◌then◌else◌};
+ghost use Rattle.std.specs.Prelude.{◌≡◌, List, ◌++◌, not, map, filter, IsSome, if◌then◌else◌};
 ghost use Rattle.lock_db.specs.Queues.{lock_of};
 ghost use Rattle.lock_db.specs.Tables.{resource_at, converted, released};
 ghost use Rattle.node_locks.specs.Held.{system_of};
 ghost use Rattle.node_locks.specs.PuttingBack.{MayPutBack};
 ghost use Rattle.node_locks.specs.Sequences.{raised_block};
+ghost use Rattle.node_cache.specs.Cached.{Cached};
 ghost use Rattle.core_space.specs.Lasting.{stays_by};
 ghost use Rattle.core_state.specs.Caches.{keeps, raised_values, put_back_all};
 ghost use Rattle.vol_parts.specs.Parts.{IsGeometry};
@@ -13,10 +14,11 @@ ghost use Rattle.core_space.specs.Rule.{has_any};
 ghost use Rattle.core_state.specs.Events.{given_back, left_alone};
 ghost use Rattle.core_step.specs.Giving.{MayGiveAll, MayLeaveAll};
 
-use crate::raises::{is_same, raise_of};
+use crate::raises::raise_of;
+use core_space::stays_behind;
 use extent_cache::Extents;
 use lock_db::{LockDb, LockName, Owner};
-use node_cache::NodeCache;
+use node_cache::{LockWalk, NodeCache};
 use node_locks::{Raise, lower, release};
 use op_law::PlanWrite;
 use plain_cat::Mode;
@@ -63,15 +65,13 @@ pub(crate) fn put_back_all(
     }
 }
 
-// Whether a lock that a node keeps stays behind an answer: X does where it has a stock, and any other where a cached block is under it.
-fn stays(name: LockName, stocked: bool, cache: &NodeCache) -> bool
-    ensures { result ≡ stays_by stocked cache.now (name, Mode.NL) }
+// Whether a lock that a node keeps stays behind an answer: X does where it has a stock, and any other where a walk through the locks of
+// its cache meets it.
+fn stays(name: LockName, stocked: bool, walk: &mut LockWalk) -> bool
+    ensures stays { (es : List Cached) → walk.old ≡ map (λ (e : Cached). e.lock) es → result ≡ stays_by stocked es (name, Mode.NL) }
+    ensures same { walk.new ≡ walk.old }
 {
-    if is_same(name, LockName::X) {
-        stocked
-    } else {
-        cache.holds_under(name)
-    }
+    stays_behind(name, stocked, walk)
 }
 
 /// Gives back those of the locks that a node keeps, in order, that do not stay behind an answer. It takes no memory.
@@ -89,8 +89,9 @@ pub(crate) fn give_back_going(
     requires may { MayGiveAll g.now node (takes.now ++ writes.now) (filter (λ l. not (stays_by stocked cache.now l)) kept.now) locks.old }
     ensures { locks.new ≡ given_back g.now node (takes.now ++ writes.now) (filter (λ l. not (stays_by stocked cache.now l)) kept.now) locks.old }
 {
+    let mut walk = cache.walk();
     for (name, _) in kept {
-        if !stays(*name, stocked, cache) {
+        if !stays(*name, stocked, &mut walk) {
             release(locks, node, *name, raise_of(g, *name, takes, writes));
         }
     }

@@ -1,6 +1,6 @@
 //! The looks and writes of bitmaps by the rules for space.
 
-ghost use Rattle.std.specs.Prelude.{◌≡◌, ◌==◌, ◌≤◌, ◌⊎◌, ◌<◌, ◌+◌, [], not, filter, if◌then◌else◌, Some, IfOk, OnOk, OnErr, IsSome, length, slice_get, slice_set};
+ghost use Rattle.std.specs.Prelude.{ℕ, ◌≡◌, ◌==◌, ◌≤◌, ◌⊎◌, ◌<◌, ◌+◌, [], not, filter, if◌then◌else◌, Some, IfOk, OnOk, OnErr, IsSome, length, slice_get, slice_set};
 ghost use Rattle.base_words.specs.Faults.{HasCause};
 ghost use Rattle.blk_drive.specs.Images.{told_set};
 ghost use Rattle.vol_parts.specs.declared.geometry.Part.TheVariants.{IndexBitmap};
@@ -11,14 +11,15 @@ ghost use Rattle.core_space.specs.Rule.{space_decision};
 ghost use Rattle.core_state.specs.Worlds.{NodeState, IsOfWorld, state_of, plain_of, node_at};
 ghost use Rattle.core_state.specs.Event as event;
 ghost use Rattle.lock_db.specs.declared.name.LockName.TheVariants.{V};
-ghost use Rattle.node_cache.specs.Cached.{used};
+ghost use Rattle.node_cache.specs.Cached.{found, used};
 ghost use Rattle.core_state.specs.Caches.{kept_with};
-ghost use Rattle.core_state.specs.Events.{happen, turned, caching, block_used, told_by, ready_of, space_decided, space_looking, space_using, space_writing};
+ghost use Rattle.core_state.specs.Events.{happen, turned, caching, told_by, ready_of, space_decided, space_looking, space_using, space_writing};
 ghost use Rattle.core_state.specs.Asks.{has_asked};
 ghost use Rattle.core_state.specs.Stocks.{has_bit_at};
 ghost use Rattle.core_step.specs.Spaces.{IsBitmapPlace, CanTake, taking, next_write};
+ghost use Rattle.core_step.specs.Using.{IsCurrent};
 
-use crate::caches::{keep, kept_sequence, rewrite, sequence_now};
+use crate::caches::{keep, kept_sequence, rewrite};
 use crate::events::{count, count_hit, count_read};
 use crate::raises::is_same;
 use base_words::Block;
@@ -150,25 +151,24 @@ fn look_on<O: Operation>(
     }
 }
 
-// The same with a cached block that is current, and has this sequence.
+// The same with a cached block that is current.
 fn use_on<O: Operation>(
     alloc: Global,
     node: &mut Node<O>,
     need: SpaceNeed,
-    seq: u64,
     lbn: u32,
     block: &Block,
 ) -> Result<(), NoMemory>
     requires geometry { IsGeometry node.old.seen.geometry }
     requires need { need.clusters ≤ 65536 }
-    ensures ok { OnOk result (state_of O.cmd_is node.new ≡ turned (caching (used lbn V seq node.old.cache) (space_using (state_of O.cmd_is node.old) need.clusters need.number lbn block.now))) }
+    ensures ok { OnOk result ((seq : ℕ) → IsSome (found lbn V seq node.old.cache) → state_of O.cmd_is node.new ≡ turned (caching (used lbn V seq node.old.cache) (space_using (state_of O.cmd_is node.old) need.clusters need.number lbn block.now))) }
     ensures err { OnErr result (state_of O.cmd_is node.new ≡ state_of O.cmd_is node.old) }
 {
     node.run.looked.push((lbn, *block))?;
     match decide(alloc, node, need) {
         Ok((decision, ready)) => {
             take_over(alloc, node, decision, ready);
-            node.cache.promote(lbn, LockName::V, seq);
+            node.cache.to_front(lbn);
             count_hit(node);
             Ok(())
         }
@@ -224,21 +224,12 @@ pub(crate) fn space_use<I: ImageDev, O: Operation>(
     requires volume { IsGeometry core.old.geometry }
     requires geometry { (s : NodeState) → node_at (plain_of O.cmd_is core.old).nodes node ≡ Some s → IsGeometry s.seen.geometry }
     requires need { need.clusters ≤ 65536 }
-    requires current { (s : NodeState) → node_at (plain_of O.cmd_is core.old).nodes node ≡ Some s → block.now ≡ block_used (plain_of O.cmd_is core.old) s V lbn }
-    ensures world { OnOk result (plain_of O.cmd_is core.new ≡ happen (plain_of O.cmd_is core.old) node (event.SpaceUse need.clusters need.number lbn)) }
+    ensures world { OnOk result (IsCurrent (plain_of O.cmd_is core.old) node V lbn block.now → plain_of O.cmd_is core.new ≡ happen (plain_of O.cmd_is core.old) node (event.SpaceUse need.clusters need.number lbn)) }
     ensures same { OnErr result (plain_of O.cmd_is core.new ≡ plain_of O.cmd_is core.old) }
     ensures mirror { core.new.mirror ≡ core.old.mirror }
     ensures room { core.new.history.room ≡ core.old.history.room }
 {
-    let seq = sequence_now(&core.geometry, &core.locks, LockName::V, lbn);
-    use_on(
-        alloc,
-        &mut core.nodes[node as usize - 1],
-        need,
-        seq,
-        lbn,
-        block,
-    )
+    use_on(alloc, &mut core.nodes[node as usize - 1], need, lbn, block)
 }
 
 // What a write of a give-back makes free leaves the stock: all file numbers, or the clusters that have their bits in that block.

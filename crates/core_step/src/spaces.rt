@@ -1,62 +1,39 @@
 //! The event of a node by its rules for space, and when its stock goes back.
 
-ghost use Rattle.std.specs.Prelude.{◌≡◌, ◌≤◌, ◌++◌, IfOk, OnErr, None, true, is_none};
+ghost use Rattle.std.specs.Prelude.{◌≡◌, ◌≤◌, ◌&&◌, IfOk, OnErr, None, true, is_none};
 ghost use Rattle.plain_rules.specs.Own.{command_after};
 ghost use Rattle.lock_db.specs.declared.name.LockName.TheVariants.{X, V};
 ghost use Rattle.vol_parts.specs.Parts.{IsGeometry};
-ghost use Rattle.core_space.specs.Rule.{space_event, back_event, TakesMemory};
+ghost use Rattle.lock_db.specs.Queues.{holds_up};
+ghost use Rattle.lock_db.specs.Tables.{resource_at};
+ghost use Rattle.node_locks.specs.Held.{system_of};
+ghost use Rattle.core_space.specs.Rule.{space_event, back_event, is_reader, TakesMemory};
 ghost use Rattle.core_state.specs.Worlds.{NodeState, IsOfWorld, state_of, plain_of, node_at, or_next};
 ghost use Rattle.core_state.specs.Goods.{Good};
 ghost use Rattle.core_state.specs.Asks.{has_asked};
-ghost use Rattle.core_state.specs.Events.{mode_in, space_locks, space_state, serves, phase_begun, is_due_in, gives_back, stands};
+ghost use Rattle.core_state.specs.Events.{space_locks, space_state, serves, phase_begun, is_due_in, gives_back, stands};
 ghost use Rattle.core_space.specs.declared.run.Phase.TheVariants.{Off};
 ghost use Rattle.extent_cache.specs.Takings.{holds_enough};
 
-use crate::raises::is_same;
+use crate::giving::has_any;
 use crate::searches::has_asked;
 use blk_drive::ImageDev;
 use core_space::{Phase, SpaceEvent, SpaceLocks, SpaceNeed, back_next, is_due, space_next};
 use core_state::{Core, Node};
 use extent_cache::Extents;
-use lock_db::LockName;
+use lock_db::{LockDb, LockName};
 use node_locks::waits;
 use op_law::{NoMemory, Operation};
 use plain_cat::{Mode, Script};
 use std::alloc::Global;
 
-// The mode in which one of these locks is on a name.
-fn mode_in(name: LockName, locks: &[(LockName, Mode)]) -> Option<Mode>
-    ensures { result ≡ mode_in name locks.now }
-{
-    match locks.iter().find(|l| is_same(l.0, name)) {
-        Some(lock) => Some(lock.1),
-        None => None,
-    }
-}
-
-// The same of these locks and those behind them.
-fn mode_in_both(
-    name: LockName,
-    kept: &[(LockName, Mode)],
-    claims: &[(LockName, Mode)],
-) -> Option<Mode>
-    ensures { result ≡ mode_in name (kept.now ++ claims.now) }
-{
-    match mode_in(name, kept) {
-        Some(mode) => Some(mode),
-        None => mode_in(name, claims),
-    }
-}
-
 // The modes in which a node holds X and V by its rules for space.
 fn space_locks<O: Operation>(node: &Node<O>) -> SpaceLocks
     ensures { result ≡ space_locks (state_of O.cmd_is node.now) }
 {
-    let kept = node.kept.items();
-    let claims = node.claims.items();
     SpaceLocks {
-        x: mode_in_both(LockName::X, kept, claims),
-        v: mode_in_both(LockName::V, kept, claims),
+        x: node.kept.x().or(node.claims.x()),
+        v: node.kept.v().or(node.claims.v()),
     }
 }
 
@@ -120,6 +97,13 @@ pub(crate) fn serves<O: Operation>(node: &Node<O>, need: SpaceNeed) -> bool
     may && holds_enough(&node.stock, need)
 }
 
+// Whether a lock is held in CR.
+fn is_reader(mode: Option<Mode>) -> bool
+    ensures { result ≡ is_reader mode }
+{
+    mode == Some(Mode::CR)
+}
+
 // Whether no command is left to a node.
 fn is_ended<O: Operation>(at: &Node<O>, script: &Script, node: u8) -> bool
     ensures { result ≡ is_none (or_next (state_of O.cmd_is at.now).cmd (command_after script.now node at.now.past)) }
@@ -130,6 +114,27 @@ fn is_ended<O: Operation>(at: &Node<O>, script: &Script, node: u8) -> bool
     }
 }
 
+// Whether another node waits for X, where it matters: where this node may have to give its stock back.
+fn is_wanted(shares: bool, locks: &LockDb, node: u8) -> bool
+    ensures { result ≡ (shares && holds_up (system_of node) (resource_at X locks.now).askers) }
+{
+    shares && locks.blocking(node, LockName::X)
+}
+
+// Whether a node's command holds or awaits V, where it matters.
+fn is_busy(wanted: bool, asked: &[(LockName, Mode)]) -> bool
+    ensures { result ≡ (wanted && has_asked V asked.now) }
+{
+    wanted && has_asked(asked, LockName::V)
+}
+
+// Whether no command is left to a node, where it matters: where it has a stock.
+fn is_through<O: Operation>(stocked: bool, at: &Node<O>, script: &Script, node: u8) -> bool
+    ensures { result ≡ (stocked && is_none (or_next (state_of O.cmd_is at.now).cmd (command_after script.now node at.now.past))) }
+{
+    stocked && is_ended(at, script, node)
+}
+
 // Whether a node's stock is to go back, whose rules for space are not begun.
 fn is_due_now<I: ImageDev, O: Operation>(core: &Core<I, O>, node: u8) -> bool
     requires good { Good (plain_of O.cmd_is core.now) }
@@ -137,10 +142,11 @@ fn is_due_now<I: ImageDev, O: Operation>(core: &Core<I, O>, node: u8) -> bool
     ensures { (s : NodeState) → node_at (plain_of O.cmd_is core.now).nodes node ≡ Some s → result ≡ is_due_in (plain_of O.cmd_is core.now) node s Off }
 {
     let at = &core.nodes[node as usize - 1];
-    let wanted = core.locks.blocking(node, LockName::X);
-    let busy = has_asked(at.asked.items(), LockName::V);
-    let ended = is_ended(at, &core.script, node);
-    is_due(space_locks(at), &at.stock, wanted, busy, ended)
+    let locks = space_locks(at);
+    let wanted = is_wanted(is_reader(locks.x), &core.locks, node);
+    let busy = is_busy(wanted, at.asked.items());
+    let ended = is_through(has_any(&at.stock), at, &core.script, node);
+    is_due(locks, &at.stock, wanted, busy, ended)
 }
 
 /// Whether a node's give-back is under way, or due. It takes no memory.

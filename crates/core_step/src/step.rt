@@ -158,7 +158,7 @@ fn by_look<I: ImageDev, O: Operation>(
 {
     let at = &core.nodes[node as usize - 1];
     if let Some(block) = current_block(&core.geometry, &core.locks, &at.cache, name, lbn) {
-        use_block(core, node, name, lbn, block)?;
+        use_block(core, node, lbn, &block)?;
         return Ok(Turn::Moved(Kind::Used));
     }
     look(alloc, core, node, name, lbn)?;

@@ -6,7 +6,7 @@ use Rattle.fx_dir.specs.declared.RawEnt.{RawEnt}
 use Rattle.fx_dir.specs.Lists.{Each, In}
 use Rattle.fx_dir.specs.Entries.{rises, plain}
 use Rattle.fx_dir.specs.Directory.{entries_at, directory, dir_entries}
-use Rattle.fx_dir.specs.Writing.{IsInForm, IsRanged, IsUniform, AreWritable, name_of, under, marked, block_of}
+use Rattle.fx_dir.specs.Writing.{IsInForm, IsRanged, IsUniform, name_of, under, marked, block_of}
 use Rattle.fx_dir.proofs.Meeting.{Reads, Sound}
 use Rattle.fx_dir.proofs.Order.{bytes_is}
 use Rattle.fx_dir.proofs.Cover.{each-left, each-right, rises-left}
@@ -121,6 +121,3 @@ packed-keeps k es o r s u =
     pack-seen (λ e. e) own-view k es r s (keeps-uniform es (pack name_of k es) u reads.no_clash) ∙ ap (pack name_of k) (map-own es) in
     let shown = shows (λ e. e) own-view (map block_of (pack name_of k es)) es (blocks-parsed (pack name_of k es) (pack-writable k es r s)) (subst (λ (t : List (List RawEnt)). Reads es t) (sym seen_as) reads) in
     shown.1 ∙ ap Ok (sym (map-own shown.0) ∙ shown.2)
-
-pub pack-writables : (k : ℕ) (es : List RawEnt) → Each IsInForm es → AreWritable (pack name_of k es)
-pack-writables k es f = record { form = pack-each IsInForm k es f; room = pack-room k es }

@@ -45,7 +45,8 @@ versions-form head (suc n) bytes es m h r = go (is_version bytes) refl (versions
       let e : entry_in head bytes ∷ fs ≡ es = cc in
       subst (λ (t : List RawEnt). Each IsInForm t) e (version-form head bytes (sym k) m h, ih fs (sym l))
 
-named : (bytes : List ℕ) → is_named bytes ≡ true → is_name (name_in bytes) ≡ true
+-- a record that is named has a name
+pub named : (bytes : List ℕ) → is_named bytes ≡ true → is_name (name_in bytes) ≡ true
 unfolding is_named
 named bytes t = (and_cases _ _ t).0
 

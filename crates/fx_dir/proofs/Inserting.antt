@@ -1,5 +1,5 @@
 -- The law of an insertion.
-use Rattle.std.proofs.Common.{◌≡◌, ◌∙◌, ◌-◌, ◌<◌, true, false, ℕ, suc, List, [], ◌∷◌, ◌++◌, Some, None, Result, Ok, map, take, drop, length, length-drop, slice_get, slice_set, slice_index_or, refl, sym, ap, subst, arith}
+use Rattle.std.proofs.Common.{◌≡◌, ◌∙◌, ◌-◌, ◌<◌, true, false, ℕ, suc, List, [], ◌++◌, Some, Result, Ok, map, take, length, slice_get, slice_set, slice_index_or, refl, sym, ap, subst, arith}
 use Rattle.std.proofs.lemmas.List.{length-map}
 use Rattle.base_words.specs.Fields.{Block}
 use Rattle.base_words.specs.Packing.{pack, over}
@@ -9,8 +9,8 @@ use Rattle.fx_dir.specs.declared.DirFault.{DirFault}
 use Rattle.fx_dir.specs.Lists.{Each, In, joined}
 use Rattle.fx_dir.specs.Entries.{rises, has, without, plain}
 use Rattle.fx_dir.specs.Directory.{directory, plainly, all_entries}
-use Rattle.fx_dir.specs.Writing.{if_fits, IsUniform, name_of, block_of}
-use Rattle.fx_dir.specs.Moves.{written, rising, falling, less_last, place, inserted, as_new, insert_writes, insertion, insertion_on, packed_as, AreChanges, Inserts, on_entries}
+use Rattle.fx_dir.specs.Writing.{IsUniform, name_of, block_of}
+use Rattle.fx_dir.specs.Moves.{written, rising, falling, less_last, place, inserted, as_new, insert_writes, packed_as, AreChanges, Inserts, on_entries}
 use Rattle.fx_dir.proofs.Order.{not_both}
 use Rattle.fx_dir.proofs.Meeting.{Reads, Sound}
 use Rattle.fx_dir.proofs.Cover.{each-append, each-imp}
@@ -199,15 +199,3 @@ inserts old fs e ws long read absent fits sound all-sound is =
 -- the entry is in a block of its packing
 pub insert-there : (k : ℕ) (fs : List RawEnt) (e : RawEnt) → over name_of k (inserted e fs) ≡ [] → place e (pack name_of k (inserted e fs)) < length (pack name_of k (inserted e fs))
 insert-there k fs e fits = place-within e _ (subst (λ (t : List RawEnt). has t e ≡ true) (sym (pack-joined k (inserted e fs) fits)) (has-inserted e fs))
-
--- there is no insertion where the entries with the new one do not pack
-pub insertion-none : (old : List Block) (fs all : List RawEnt) (e : RawEnt) (n : ℕ) → directory old ≡ Ok fs → all ≡ inserted (as_new fs e) fs → n < length all → drop n all ≡ over name_of (length old) all → insertion old e ≡ None
-insertion-none old fs all e n read is few left =
-    ap (insertion_on old e) read ∙ ap (λ (o : List RawEnt). if_fits o (insert_writes old (pack name_of (length old) fs) (as_new fs e) (pack name_of (length old) (inserted (as_new fs e) fs)))) (sym left2) ∙ rest (drop n all) (omega (arith, length-drop n all))
-  where
-    left2 : drop n all ≡ over name_of (length old) (inserted (as_new fs e) fs)
-    left2 = left ∙ ap (over name_of (length old)) is
-
-    rest : (d : List RawEnt) → 0 < length d → if_fits d (insert_writes old (pack name_of (length old) fs) (as_new fs e) (pack name_of (length old) (inserted (as_new fs e) fs))) ≡ None
-    rest [] h = absurd (omega arith)
-    rest (x ∷ d) h = refl

@@ -12,7 +12,11 @@ pub mod Showing
 pub mod Written
 pub mod Building
 pub mod Steps
+pub mod Naming
+pub mod Placing
+pub mod Filling
 pub mod Forming
+pub mod Appending
 pub mod Groups
 pub mod Images
 pub mod Passing
@@ -25,3 +29,4 @@ pub mod Moving
 pub mod Merging
 pub mod Repacking
 pub mod Single
+pub mod Wanted

@@ -6,8 +6,8 @@ use Rattle.std.proofs.lemmas.List.Sums.{prefix_len-le-length}
 use Rattle.std.specs.Str.{bytes_eq}
 use Rattle.fx_dir.specs.declared.RawEnt.{RawEnt}
 use Rattle.fx_dir.specs.declared.Move.{Move}
-use Rattle.fx_dir.specs.Entries.{before, has}
-use Rattle.fx_dir.specs.Moves.{less_last, place, inserted, as_new}
+use Rattle.fx_dir.specs.Entries.{before}
+use Rattle.fx_dir.specs.Moves.{less_last, inserted, as_new}
 use Rattle.fx_dir.proofs.Numbers.{eqb_yes, eqb_no, ltb_no}
 
 pub less_last-push : (j : ℕ) (ws : List Move) (w : Move) → less_last j (ws ++ w ∷ []) ≡ (if w.vbn == j then ws else ws ++ w ∷ [])
@@ -22,13 +22,6 @@ pub less_last-keeps : (j : ℕ) (ws all : List Move) (w : Move) → all ≡ ws +
 less_last-keeps j ws all w e h = ap (less_last j) e ∙ less_last-push j ws w ∙ rw (eqb_no w.vbn j h) refl
 
 -- ---- positions
-
-pub place-position : (e : RawEnt) (gs : List (List RawEnt)) → position_or_len (λ g. has g e) gs ≡ place e gs
-place-position e [] = refl
-place-position e (g ∷ gs) = step (has g e) (place-position e gs) where
-  step : (q : Bool) → position_or_len (λ g. has g e) gs ≡ place e gs → cond (not q) (1 + position_or_len (λ g. has g e) gs) 0 ≡ (if q then 0 else suc (place e gs))
-  step true h = refl
-  step false h = omega arith
 
 pub position_or_len-le : {X : Type 0} (p : X → Bool) (xs : List X) → position_or_len p xs ≤ length xs
 position_or_len-le p xs = prefix_len-le-length (λ x. not (p x)) xs

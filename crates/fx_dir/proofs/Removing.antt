@@ -1,5 +1,5 @@
 -- The law of a removal.
-use Rattle.std.proofs.Common.{◌≡◌, ◌∙◌, ◌+◌, ◌-◌, ◌<◌, ◌≤◌, true, false, ℕ, zero, suc, List, [], ◌∷◌, Some, Result, Ok, map, take, length, slice_get, slice_set, slice_index_or, refl, sym, ap, subst, arith, length-append}
+use Rattle.std.proofs.Common.{◌≡◌, ◌∙◌, ◌-◌, ◌<◌, ◌≤◌, true, false, ℕ, suc, List, [], ◌∷◌, Some, Result, Ok, map, take, length, slice_get, slice_set, slice_index_or, refl, sym, ap, subst, arith, length-append}
 use Rattle.std.proofs.lemmas.List.{length-map}
 use Rattle.base_words.specs.Fields.{Block}
 use Rattle.base_words.specs.Packing.{pack, over}
@@ -213,21 +213,3 @@ removes old fs e ws long read there sound key is =
 -- the entry is in a block of the packing
 pub remove-there : (k : ℕ) (fs : List RawEnt) (e : RawEnt) → over name_of k fs ≡ [] → has fs e ≡ true → place e (pack name_of k fs) < length (pack name_of k fs)
 remove-there k fs e fits there = place-within e _ (subst (λ (t : List RawEnt). has t e ≡ true) (sym (pack-joined k fs fits)) there)
-
--- the block of a group without the entry
-pub decided-block : (gs : List (List RawEnt)) (e : RawEnt) (bs : List Block) (i : ℕ) (b : Block) → bs ≡ map block_of (map (without e) gs) → i < length gs → b ≡ slice_index_or bs i b → b ≡ block_of (without e (slice_index_or gs i []))
-decided-block gs e bs i b h l k = k ∙ ap (λ (t : List Block). slice_index_or t i b) h ∙ at-index gs i l where
-  at-index : (gs : List (List RawEnt)) (i : ℕ) → i < length gs → slice_index_or (map block_of (map (without e) gs)) i b ≡ block_of (without e (slice_index_or gs i []))
-  at-index [] i l = absurd (omega arith)
-  at-index (g ∷ gs) zero l = refl
-  at-index (g ∷ gs) (suc i) l = at-index gs i (omega arith)
-
--- the write that decides
-abbrev pub decision : RawEnt → List (List RawEnt) → Move
-decision e left = record { vbn = suc (place e left); block = block_of (without e (slice_index_or left (place e left) [])) }
-
-pub decision-is : (e : RawEnt) (left : List (List RawEnt)) (i : ℕ) (b : Block) → i ≡ place e left → b ≡ block_of (without e (slice_index_or left i [])) → record { vbn = i + 1; block = b } ≡ decision e left
-decision-is e left i b h k =
-    let n : i + 1 ≡ suc (place e left) = omega arith in
-    let m : b ≡ block_of (without e (slice_index_or left (place e left) [])) = k ∙ ap (λ (j : ℕ). block_of (without e (slice_index_or left j []))) h in
-    λ j. record { vbn = n j; block = m j }

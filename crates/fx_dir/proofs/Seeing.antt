@@ -4,13 +4,13 @@ use Rattle.std.specs.Str.{bytes_eq}
 use Rattle.fx_dir.specs.declared.RawEnt.{RawEnt}
 use Rattle.fx_dir.specs.Lists.{Each, In}
 use Rattle.fx_dir.specs.Entries.{same, before, has, without, plain}
-use Rattle.fx_dir.specs.Writing.{IsInForm, IsRanged, IsUniform, AreWritable}
+use Rattle.fx_dir.specs.Writing.{IsInForm, IsRanged, IsUniform}
 use Rattle.fx_dir.specs.Moves.{inserted, as_new}
 use Rattle.fx_dir.proofs.Order.{bytes_is, bytes_refl, not_both}
 use Rattle.fx_dir.proofs.Greedy.{size-filter}
 use Rattle.fx_dir.proofs.Views.{IsView, plain-view, same-view, before-view, has-view}
 use Rattle.fx_dir.proofs.Building.{IsWritable}
-use Rattle.fx_dir.proofs.Groups.{rises-filter, without-room}
+use Rattle.fx_dir.proofs.Groups.{rises-filter}
 
 module _ (v : RawEnt → RawEnt) (view : IsView v) where
   pub inserted-view : (e : RawEnt) (es : List RawEnt) → map v (inserted e es) ≡ inserted (v e) (map v es)
@@ -154,7 +154,3 @@ as_new-uniform es e u = λ a b i j n. go a b (inserted-in (as_new es e) es a i) 
       let p = as_new-agrees es e a u i (sym name ∙ ap (λ (x : RawEnt). x.name) l ∙ sym n) in
       (sym p.0 ∙ ap (λ (x : RawEnt). x.limit) l, sym p.1 ∙ ap (λ (x : RawEnt). x.flags) l)
   go a b (inr i) (inr j) n = u a b i j n
-
--- a block can be written of each group without the entry
-pub withouts-writables : (e : RawEnt) (gs : List (List RawEnt)) → AreWritable gs → AreWritable (map (without e) gs)
-withouts-writables e gs w = record { form = withouts-each IsInForm e gs w.form; room = without-room e gs w.room }

@@ -1,14 +1,14 @@
 -- Steps of the loops that write and pack.
-use Rattle.std.proofs.Common.{◌≡◌, ◌∙◌, ◌+◌, ◌-◌, ◌≤◌, ◌<◌, ◌++◌, true, false, ℕ, zero, suc, List, [], ◌∷◌, Option, Some, None, option_map, slice_get, take, drop, length, get_or, drop-cons, length-drop, length-append, append_assoc, refl, sym, ap, subst, arith, map, eqb, leb}
+use Rattle.std.proofs.Common.{◌≡◌, ◌∙◌, ◌+◌, ◌-◌, ◌≤◌, ◌<◌, ◌++◌, true, ℕ, zero, suc, List, [], ◌∷◌, Option, Some, option_map, slice_get, take, drop, length, get_or, drop-cons, length-drop, length-append, append_assoc, refl, sym, ap, subst, arith, eqb, leb}
 use Rattle.std.specs.List.{prefix_len, list_all}
 use Rattle.std.proofs.lemmas.List.{take_more}
 use Rattle.base_words.specs.Names.{is_character, is_part, is_tail, is_name}
-use Rattle.base_words.specs.Packing.{cost, filled, unfilled, pack, over}
+use Rattle.base_words.specs.Packing.{cost, filled, unfilled}
 use Rattle.fx_dir.specs.declared.RawEnt.{RawEnt}
 use Rattle.fx_dir.specs.Lists.{Each}
-use Rattle.fx_dir.specs.Writing.{block_of, packed, if_fits, name_of, head_bytes, version_bytes, goes_on, last_name, following, record_bytes}
+use Rattle.fx_dir.specs.Writing.{name_of, last_name}
 use Rattle.fx_dir.proofs.Numbers.{leb_yes, leb_says}
-use Rattle.fx_dir.proofs.Order.{and_cases, bytes_refl}
+use Rattle.fx_dir.proofs.Order.{and_cases}
 
 -- a name has at most 79 characters
 pub name-short : (text : List ℕ) → is_name text ≡ true → length text ≤ 79
@@ -51,28 +51,6 @@ last-more es n e h k =
     let t : take (n + 1) es ≡ take n es ++ e ∷ [] = take_more es n e h ∙ λ i. take n es ++ sym k i ∷ [] in
     subst (λ (b : List RawEnt). last_name b ≡ Some e.name) (sym t) (last-push (take n es) e)
 
--- one entry more in the record in front
-pub record-goes_on : (all out more : List ℕ) (es : List RawEnt) (i : ℕ) (e : RawEnt) → i < length es → e ≡ get_or es i e → goes_on (last_name (take i es)) e ≡ true
-    → more ≡ out ++ version_bytes e → out ++ record_bytes (last_name (take i es)) (drop i es) ≡ all → more ++ record_bytes (last_name (take (i + 1) es)) (drop (i + 1) es) ≡ all
-record-goes_on all out more es i e l k g m h =
-    let rest = record_bytes (Some e.name) (drop (i + 1) es) in
-    let t : record_bytes (last_name (take i es)) (drop i es) ≡ version_bytes e ++ rest = ap (record_bytes (last_name (take i es))) (drop-here es i e l k) ∙ rw g refl in
-    ap (λ (n : Option (List ℕ)). more ++ record_bytes n (drop (i + 1) es)) (last-more es i e l k)
-    ∙ ap (λ (b : List ℕ). b ++ rest) m ∙ append_assoc out (version_bytes e) rest ∙ ap (λ (b : List ℕ). out ++ b) (sym t) ∙ h
-
--- and in a record of its own
-pub record-begins : (all out head more : List ℕ) (es : List RawEnt) (i n : ℕ) (e : RawEnt) → i < length es → e ≡ get_or es i e → goes_on (last_name (take i es)) e ≡ false
-    → n ≡ following e.name (drop i es) → head ≡ out ++ head_bytes e n → more ≡ head ++ version_bytes e
-    → out ++ record_bytes (last_name (take i es)) (drop i es) ≡ all → more ++ record_bytes (last_name (take (i + 1) es)) (drop (i + 1) es) ≡ all
-record-begins all out head more es i n e l k g c o m h =
-    let rest = record_bytes (Some e.name) (drop (i + 1) es) in
-    let count : n ≡ suc (following e.name (drop (i + 1) es)) = c ∙ ap (following e.name) (drop-here es i e l k) ∙ rw (bytes_refl e.name) (omega arith) in
-    let t : record_bytes (last_name (take i es)) (drop i es) ≡ head_bytes e n ++ (version_bytes e ++ rest) =
-    ap (record_bytes (last_name (take i es))) (drop-here es i e l k) ∙ rw (g, count) refl in
-    ap (λ (n : Option (List ℕ)). more ++ record_bytes n (drop (i + 1) es)) (last-more es i e l k)
-    ∙ ap (λ (b : List ℕ). b ++ rest) (m ∙ ap (λ (b : List ℕ). b ++ version_bytes e) o)
-    ∙ (simp append_assoc) ∙ ap (λ (b : List ℕ). out ++ b) (sym t) ∙ h
-
 pub filled-goes : (last : Option (List ℕ)) (used : ℕ) (e : RawEnt) (es : List RawEnt) → used + cost last e.name ≤ 510 → filled name_of last used (e ∷ es) ≡ e ∷ filled name_of (Some e.name) (used + cost last e.name) es
 filled-goes last used e es h = rw (leb_yes (used + cost last e.name) 510 h) refl
 
@@ -100,17 +78,3 @@ unfilled-step all list more_list used more n e es h k l m r i =
     i ∙ ap (λ (t : List RawEnt). unfilled name_of (last_name list) used t) (drop-here es n e h k) ∙ f in
     let b : all ≡ unfilled name_of (last_name (list ++ e ∷ [])) (used + more) (drop (n + 1) es) = rw (m, last-push list e) a in
     subst (λ (t : List RawEnt). all ≡ unfilled name_of (last_name t) (used + more) (drop (n + 1) es)) (sym l) b
-
--- one block more
-pub pack-step : (all blocks more_blocks : List (List RawEnt)) (b es rest : List RawEnt) (n : ℕ) → blocks ++ pack name_of (suc n) es ≡ all → more_blocks ≡ blocks ++ b ∷ [] → b ≡ filled name_of None 0 es → rest ≡ unfilled name_of None 0 es → more_blocks ++ pack name_of n rest ≡ all
-pack-step all blocks more_blocks b es rest n h l f u =
-    rw (l, u, f) (append_assoc blocks (filled name_of None 0 es ∷ []) (pack name_of n (unfilled name_of None 0 es)) ∙ h)
-
-pub over-step : (all es rest : List RawEnt) (n : ℕ) → over name_of (suc n) es ≡ all → rest ≡ unfilled name_of None 0 es → over name_of n rest ≡ all
-over-step all es rest n h u = rw u h
-
-pub packed-none : (k n : ℕ) (es : List RawEnt) → n < length es → drop n es ≡ over name_of k es → packed k es ≡ None
-packed-none k n es h e = go (drop n es) e (omega (arith, length-drop n es)) where
-  go : (d : List RawEnt) → d ≡ over name_of k es → 0 < length d → if_fits (over name_of k es) (map block_of (pack name_of k es)) ≡ None
-  go [] e h = absurd (omega arith)
-  go (x ∷ d) e h = subst (λ (t : List RawEnt). if_fits t (map block_of (pack name_of k es)) ≡ None) e refl

@@ -4,10 +4,6 @@ use Rattle.std.proofs.lemmas.List.{drop-drop}
 use Rattle.fx_dir.specs.declared.RawEnt.{RawEnt}
 use Rattle.fx_dir.specs.Records.{record_length, is_end, is_version, entry_in, versions_in, record_entries, records_in}
 
-pub begins : (o : Option (List RawEnt)) → o ≡ option_map (λ es. [] ++ es) o
-begins None = refl
-begins (Some es) = refl
-
 more-one : (xs : List RawEnt) (x : RawEnt) (o : Option (List RawEnt)) → option_map (λ es. xs ++ es) (option_map (λ es. x ∷ es) o) ≡ option_map (λ es. (xs ++ x ∷ []) ++ es) o
 more-one xs x None = refl
 more-one xs x (Some es) = ap Some (sym (append_assoc xs (x ∷ []) es))
@@ -33,9 +29,9 @@ versions-fail all list head bytes at k n a t h = h ∙ rw (← a, t) refl
 pub Left : Option (List RawEnt) → List RawEnt → List ℕ → Type 0
 Left all list bytes = (n : ℕ) × (length bytes ≤ n) × (all ≡ option_map (λ es. list ++ es) (records_in n bytes))
 
-pub records-begin : (b : List ℕ) → Left (records_in (length b) b) [] b
+pub records-begin : (list : List RawEnt) (b : List ℕ) → Left (option_map (λ es. list ++ es) (records_in (length b) b)) list b
 unfolding Left
-records-begin b = (length b, omega arith, begins (records_in (length b) b))
+records-begin list b = (length b, omega arith, refl)
 
 pub records-end : (all : Option (List RawEnt)) (list : List RawEnt) (bytes : List ℕ) → 2 ≤ length bytes → is_end bytes ≡ true → Left all list bytes → all ≡ Some list
 unfolding records_in Left

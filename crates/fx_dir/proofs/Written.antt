@@ -21,7 +21,7 @@ use Rattle.fx_dir.proofs.Order.{both, or_right, bytes_is}
 
 -- ---- a version
 
-length-version : (e : RawEnt) → length (version_bytes e) ≡ 8
+pub length-version : (e : RawEnt) → length (version_bytes e) ≡ 8
 unfolding version_bytes
 length-version e = refl
 
@@ -89,7 +89,7 @@ length-versions (e ∷ es) = omega (arith, length-append (version_bytes e) (vers
 
 -- ---- the head of a record
 
-length-head : (e : RawEnt) (n : ℕ) → length (head_bytes e n) ≡ 6 + padded e.name
+pub length-head : (e : RawEnt) (n : ℕ) → length (head_bytes e n) ≡ 6 + padded e.name
 unfolding head_bytes
 length-head e n = omega (arith, length-append e.name (replicate (length e.name % 2) 0), length-replicate {A = ℕ} (length e.name % 2) 0)
 
@@ -345,6 +345,3 @@ block-written text es t =
     let n : 512 - (0 + length text) ≡ 510 - length r = (let l : length text ≡ length r + 2 = ap length t ∙ length-append r (255 ∷ 255 ∷ []) in omega arith) in
     let d : drop {A = ℕ} (0 + length text) (replicate 512 0) ≡ replicate (510 - length r) 0 = drop-replicate {X = ℕ} (0 + length text) 512 0 ∙ ap (λ (k : ℕ). replicate {A = ℕ} k 0) n in
     rw (d, t) (append_assoc r (255 ∷ 255 ∷ []) (replicate (510 - length r) 0))
-
-pub text-fits : (text : List ℕ) (es : List RawEnt) → text ≡ record_bytes None es ++ (255 ∷ 255 ∷ []) → size name_of None es ≤ 510 → length text ≤ 512
-text-fits text es t room = omega (arith, ap length t, length-append (record_bytes None es) (255 ∷ 255 ∷ []), length-records None es)

@@ -3,5 +3,7 @@ pub mod Entries
 pub mod Records
 pub mod Directory
 pub mod Writing
+pub mod Pieces
 pub mod Moves
 pub mod Laws
+pub mod Wanted

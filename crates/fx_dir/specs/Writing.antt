@@ -5,9 +5,9 @@ use Rattle.std.specs.Str.{bytes_eq}
 use Rattle.byteorder.specs.Endian.{little_bytes}
 use Rattle.base_words.specs.Fields.{Block}
 use Rattle.base_words.specs.Names.{is_name}
-use Rattle.base_words.specs.Packing.{padded, size, pack, over}
+use Rattle.base_words.specs.Packing.{padded, pack, over}
 use Rattle.fx_dir.specs.declared.RawEnt.{RawEnt}
-use Rattle.fx_dir.specs.Lists.{Each, In}
+use Rattle.fx_dir.specs.Lists.{In}
 
 -- an entry within the limits of the format
 pub record IsInForm (e : RawEnt) : Type 0 where
@@ -75,11 +75,6 @@ marked None [] = []
 marked None (e ∷ es) = e ∷ marked (Some e) es
 marked (Some f) [] = []
 marked (Some f) (e ∷ es) = if bytes_eq f.name e.name then under f e ∷ marked (Some f) es else e ∷ marked (Some e) es
-
--- a block can be written of each of these groups of entries
-pub record AreWritable (gs : List (List RawEnt)) : Type 0 where
-  pub form : Each (λ g. Each IsInForm g) gs
-  pub room : Each (λ g. size name_of None g ≤ 510) gs
 
 -- it, where no entries are left over
 abbrev pub if_fits : {X : Type 0} → List RawEnt → X → Option X

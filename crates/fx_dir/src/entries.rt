@@ -1,4 +1,4 @@
-ghost use Rattle.std.specs.Prelude.{◌≡◌, true, IfOk, drop};
+ghost use Rattle.std.specs.Prelude.{◌≡◌, true, drop};
 ghost use Rattle.std.specs.Str.{bytes_eq};
 ghost use Rattle.std.specs.List.{list_all, zip};
 ghost use Rattle.std.specs.Ordering.{is_lt, is_eq};
@@ -6,25 +6,15 @@ ghost use Rattle.fx_dir.specs.declared.RawEnt.{RawEnt};
 ghost use Rattle.fx_dir.specs.Writing.{IsRanged};
 ghost use Rattle.fx_dir.specs.Entries.{same, clash, lower, before, rises, has};
 
-use crate::{NoMemory, RawEnt, RawName};
-use std::alloc::Global;
+use crate::RawEnt;
 use std::cmp::Ordering;
 
 impl RawEnt {
-    /// An entry equal to this one.
-    pub fn copy(&self, alloc: Global) -> Result<RawEnt, NoMemory>
-        ensures value { IfOk result (λ e. e ≡ self.now) }
-        ensures ranged { IfOk result IsRanged }
+    /// Nothing is done: the numbers of an entry are those of their types.
+    pub(crate) fn know_ranges(&self)
+        ensures { IsRanged self.now }
     {
-        let (seq, limit, flags) = (self.seq, self.limit, self.flags);
-        Ok(RawEnt {
-            name: RawName::new(alloc, self.name.bytes())?,
-            ver: self.ver,
-            num: self.num,
-            seq,
-            limit,
-            flags,
-        })
+        let (_seq, _limit, _flags) = (self.seq, self.limit, self.flags);
     }
 
     #[tactic(auto, unfolding(crate::specs::Entries::same))]

@@ -15,10 +15,10 @@
 //! `vol_parts`, the writes of commands (`op_steps`) and mending use it.
 #![tactic(auto)]
 
-ghost use Rattle.std.specs.Prelude.{◌≡◌, IfOk};
+ghost use Rattle.std.specs.Prelude.{◌≡◌, ◌≤◌, ◌-◌, ◌++◌, length, replicate};
 
 use base_words::Block;
-use std::alloc::{AllocError, AllocFailed, Global};
+use std::alloc::{AllocError, AllocFailed};
 use std::marker::Model;
 use thiserror::Error;
 
@@ -28,53 +28,80 @@ mod moves;
 mod packing;
 mod reading;
 mod records;
+mod searching;
 mod writing;
 
 pub use laws::{
     packed_blocks_have_no_doubles, packing_is_least, reading_gives_the_set,
     written_blocks_read_back,
 };
-pub use moves::{insert_moves, pack_moves, remove_moves};
+pub use moves::{Removal, insert_into, insert_moves, pack_moves, remove_from, remove_moves};
 pub use packing::packed;
 pub use reading::read_dir;
+pub use searching::find_in;
 
 /// No memory was to be had.
 pub type NoMemory = AllocError;
 
-/// The text of a name as a record has it, seen as its bytes.
-#[derive(Drop)]
+/// The text of a name as a record has it, at most 79 bytes, seen as its bytes.
+#[derive(Clone, Copy)]
 pub struct RawName {
-    bytes: Vec<u8>,
+    len: u8,
+    // Those of the text, and zeros behind them.
+    bytes: [u8; 79],
 }
 
 impl Model for RawName {
-    ghost use Rattle.std.specs.Prelude.{List, ℕ};
+    ghost use Rattle.std.specs.Prelude.{◌≡◌, ◌≤◌, ◌-◌, ◌++◌, List, ℕ, length, take, drop, replicate};
+    ghost use Rattle.std.proofs.Common.{◌∙◌, ap, sym, arith, take-append-drop, length-take-le};
 
     ghost Value = { List ℕ };
 
-    ghost view = { λ n. n.bytes.items };
+    ghost view = { λ n. take n.len n.bytes };
+
+    ghost invariant = { λ n. (n.len ≤ 79) × (length n.bytes ≡ 79) × (drop n.len n.bytes ≡ replicate (79 - n.len) 0) };
+
+    ghost inverse = { λ xs. record { len = length xs; bytes = xs ++ replicate (79 - length xs) 0 } };
+
+    ghost inverse_ok = { λ n h i. record {
+      len = length-take-le n.len n.bytes (omega (arith, h.0, h.1)) i;
+      bytes = (ap (λ k. take n.len n.bytes ++ replicate (79 - k) 0) (length-take-le n.len n.bytes (omega (arith, h.0, h.1)))
+          ∙ (ap (λ ds. take n.len n.bytes ++ ds) (sym h.2) ∙ take-append-drop n.len n.bytes)) i;
+    } };
 }
 
 impl RawName {
     /// The name of these bytes. They are not tested.
-    pub fn new(alloc: Global, bytes: &[u8]) -> Result<RawName, NoMemory>
-        ensures { IfOk result (λ n. n ≡ bytes.now) }
+    pub fn new(bytes: &[u8]) -> RawName
+        requires { length bytes.now ≤ 79 }
+        ensures { result ≡ bytes.now }
     {
-        Ok(RawName {
-            bytes: bytes.to_vec(alloc)?,
-        })
+        RawName {
+            len: bytes.len() as u8,
+            bytes: with_zeros(bytes),
+        }
     }
 
     /// The bytes, without padding.
     pub fn bytes(&self) -> &[u8]
         ensures { result.now ≡ self.now }
     {
-        self.bytes.as_slice()
+        &self.bytes[..self.len as usize]
     }
 }
 
+/// The bytes with zeros behind them.
+fn with_zeros(bytes: &[u8]) -> [u8; 79]
+    requires { length bytes.now ≤ 79 }
+    ensures { result ≡ bytes.now ++ replicate (79 - length bytes.now) 0 }
+{
+    let mut all = [0; 79];
+    all[..bytes.len()].copy_from_slice(bytes);
+    all
+}
+
 /// An entry of a directory, with the version limit and the flags of the record that holds it.
-#[derive(Drop)]
+#[derive(Clone, Copy)]
 pub struct RawEnt {
     /// `NAME.TYP`, of two parts of at most 39 characters.
     pub name: RawName,
@@ -88,6 +115,17 @@ pub struct RawEnt {
     pub limit: u16,
     /// The flags of the record.
     pub flags: u8,
+}
+
+/// What an entry says besides its name.
+#[derive(Clone, Copy, Debug, PartialEq)]
+pub struct Version {
+    /// The version, 1 to 32,767.
+    pub ver: u16,
+    /// The file's number, at most 16,777,215.
+    pub num: u32,
+    /// The file's sequence.
+    pub seq: u16,
 }
 
 /// A write to a block of a directory.

@@ -1,17 +1,15 @@
-ghost use Rattle.std.specs.Prelude.{◌≡◌, ◌<◌, ◌≤◌, ◌+◌, ◌^◌, true, false, Option, Some, None, Ok, option_map, map, position, IfOk, IfSome, IsOk, length};
+ghost use Rattle.std.specs.Prelude.{◌≡◌, ◌<◌, ◌≤◌, ◌^◌, true, false, option_map, position, IfOk, IfSome, IsOk, Ok, length};
 ghost use Rattle.std.specs.List.{position_or_len};
 ghost use Rattle.std.specs.Result.{ForOk};
 ghost use Rattle.std.specs.Str.{bytes_eq};
-ghost use Rattle.fx_dir.specs.declared.RawEnt.{RawEnt};
-ghost use Rattle.fx_dir.specs.declared.Move.{Move};
 ghost use Rattle.fx_dir.specs.Lists.{Each};
-ghost use Rattle.fx_dir.specs.Entries.{before, has, without};
+ghost use Rattle.fx_dir.specs.Entries.{before, has};
 ghost use Rattle.fx_dir.specs.Directory.{directory};
-ghost use Rattle.fx_dir.specs.Writing.{IsInForm, IsRanged, AreWritable};
-ghost use Rattle.fx_dir.specs.Moves.{rising, falling, less_last, place, inserted, as_new, insert_writes, insertion, Inserts, remove_writes, removal, key, Removes, repacking, Packs};
+ghost use Rattle.fx_dir.specs.Writing.{IsInForm};
+ghost use Rattle.fx_dir.specs.Moves.{rising, falling, less_last, inserted, as_new, insertion, Inserts, removal, key, Removes, repacking, packing_writes, Packs};
+ghost use Rattle.fx_dir.specs.Pieces.{insertion_by, removal_by};
 
-use crate::entries::has;
-use crate::packing::{Group, blocks_of, pack_into};
+use crate::packing::{Lacking, lacking_at, pack_into, without};
 use crate::{Move, NoMemory, RawEnt, RawName, read_dir};
 use base_words::Block;
 use std::alloc::{AllocError, Global};
@@ -72,17 +70,6 @@ fn drop_last(moves: &mut Vec<Move>, vbn: u32)
     }
 }
 
-fn copies(alloc: Global, es: &[RawEnt]) -> Result<Vec<RawEnt>, NoMemory>
-    ensures value { IfOk result (λ v. v.items ≡ es.now) }
-    ensures ranged { IfOk result (λ v. Each IsRanged v.items) }
-{
-    let mut list = Vec::new(alloc);
-    for e in es {
-        list.push(e.copy(alloc)?)?;
-    }
-    Ok(list)
-}
-
 /// The version limit and the flags of the first record of the name of `e`, and else those of a new record.
 fn marks_of(es: &[RawEnt], e: &RawEnt) -> (u16, u8)
     ensures limit { result.0 ≡ (as_new es.now e.now).limit }
@@ -97,20 +84,18 @@ fn marks_of(es: &[RawEnt], e: &RawEnt) -> (u16, u8)
 }
 
 /// The entry with the version limit and the flags of its name.
-fn as_new(alloc: Global, es: &[RawEnt], e: &RawEnt) -> Result<RawEnt, NoMemory>
-    ensures value { IfOk result (λ x. x ≡ as_new es.now e.now) }
-    ensures ranged { IfOk result IsRanged }
+fn as_new(es: &[RawEnt], e: &RawEnt) -> RawEnt
+    ensures { result ≡ as_new es.now e.now }
 {
     let (limit, flags) = marks_of(es, e);
-    let seq = e.seq;
-    Ok(RawEnt {
-        name: RawName::new(alloc, e.name.bytes())?,
+    RawEnt {
+        name: e.name,
         ver: e.ver,
         num: e.num,
-        seq,
+        seq: e.seq,
         limit,
         flags,
-    })
+    }
 }
 
 fn first_behind(es: &[RawEnt], e: &RawEnt) -> Option<usize>
@@ -129,50 +114,14 @@ fn spot_of(es: &[RawEnt], e: &RawEnt) -> usize
 
 /// The entries with one more in its place.
 fn inserted(alloc: Global, es: &[RawEnt], e: &RawEnt) -> Result<Vec<RawEnt>, NoMemory>
-    ensures value { IfOk result (λ v. v.items ≡ inserted e.now es.now) }
-    ensures ranged { IfOk result (λ v. Each IsRanged v.items) }
+    ensures { IfOk result (λ v. v.items ≡ inserted e.now es.now) }
 {
-    let mut list = copies(alloc, es)?;
-    list.insert(spot_of(es, e), e.copy(alloc)?)?;
+    let (front, back) = es.split_at(spot_of(es, e));
+    let mut list = Vec::with_capacity(alloc, es.len().saturating_add(1))?;
+    list.extend_from_slice(front)?;
+    list.push(*e)?;
+    list.extend_from_slice(back)?;
     Ok(list)
-}
-
-/// The entries of another name or version.
-fn without(alloc: Global, es: &[RawEnt], e: &RawEnt) -> Result<Vec<RawEnt>, NoMemory>
-    ensures { IfOk result (λ v. v.items ≡ without e.now es.now) }
-{
-    let mut list = Vec::new(alloc);
-    for x in es {
-        if !e.is_same(x) {
-            list.push(x.copy(alloc)?)?;
-        }
-    }
-    Ok(list)
-}
-
-fn each_without(alloc: Global, groups: &[Group], e: &RawEnt) -> Result<Vec<Group>, NoMemory>
-    ensures { IfOk result (λ v. v.items ≡ map (without e.now) groups.now) }
-{
-    let mut list = Vec::new(alloc);
-    for g in groups {
-        list.push(Group {
-            ents: without(alloc, g.ents.as_slice(), e)?,
-        })?;
-    }
-    Ok(list)
-}
-
-fn group_of(groups: &[Group], e: &RawEnt) -> Option<usize>
-    ensures { result ≡ position (λ g. has g e.now) groups.now }
-{
-    groups.iter().position(|g| has(g.ents.as_slice(), e))
-}
-
-/// How many of the blocks stand in front of the one that has an entry of this name and version.
-fn place_of(groups: &[Group], e: &RawEnt) -> usize
-    ensures { result ≡ place e.now groups.now }
-{
-    group_of(groups, e).unwrap_or(groups.len())
 }
 
 /// The entries of a directory without a fault.
@@ -187,37 +136,57 @@ fn entries(alloc: Global, old: &[Block]) -> Result<Vec<RawEnt>, NoMemory>
     }
 }
 
-/// The writes of an insertion that leads from the packing `left` of the old entries to the packing `new`.
+/// The writes of an insertion that leads from the packing `left` of the old entries to the packing `new`, of which one block
+/// has the new entry.
 fn insert_writes(
     alloc: Global,
     old: &[Block],
-    left: &[Group],
-    e: &RawEnt,
-    new: &[Group],
+    left: &[Block],
+    mut new: Vec<Block>,
+    lacking: &Lacking,
 ) -> Result<Vec<Move>, NoMemory>
     requires numbered { length old.now < 2 ^ 32 }
     requires left { length left.now ≡ length old.now }
-    requires new { length new.now ≡ length old.now }
-    requires left_writable { AreWritable left.now }
-    requires new_writable { AreWritable new.now }
-    requires there { place e.now new.now < length new.now }
-    ensures { IfOk result (λ v. v.items ≡ insert_writes old.now left.now e.now new.now) }
+    requires new { length new.items ≡ length old.now }
+    requires there { lacking.now.at < length new.items }
+    ensures { IfOk result (λ v. v.items ≡ insertion_by old.now left.now new.items lacking.now.at lacking.now.block) }
 {
-    let target = each_without(alloc, new, e)?;
-    let before = blocks_of(alloc, left)?;
-    let between = blocks_of(alloc, target.as_slice())?;
-    let after = blocks_of(alloc, new)?;
-    let at = place_of(new, e);
+    let at = lacking.at;
     let vbn = at as u32 + 1;
-    let mut moves = rising(alloc, old, before.as_slice())?;
-    let mut back = falling(alloc, before.as_slice(), between.as_slice())?;
+    let block = new[at];
+    new[at] = lacking.block;
+    let mut moves = rising(alloc, old, left)?;
+    let mut back = falling(alloc, left, new.as_slice())?;
     drop_last(&mut back, vbn);
     moves.append(&mut back)?;
-    moves.push(Move {
-        vbn,
-        block: after[at],
-    })?;
+    moves.push(Move { vbn, block })?;
     Ok(moves)
+}
+
+/// What [`insert_moves`] gives, where the entries of the directory are read already.
+pub fn insert_into(
+    alloc: Global,
+    old: &[Block],
+    es: &[RawEnt],
+    e: &RawEnt,
+) -> Result<Option<Vec<Move>>, NoMemory>
+    requires numbered { length old.now < 2 ^ 32 }
+    requires form { IsInForm e.now }
+    requires read { directory old.now ≡ Ok es.now }
+    requires forms { Each IsInForm es.now }
+    requires new { has es.now e.now ≡ false }
+    ensures moves { IfOk result (λ o. option_map (λ v. v.items) o ≡ insertion old.now e.now) }
+    ensures law { IfOk result (λ o. IfSome o (λ v. Inserts old.now e.now v.items)) }
+{
+    let new = as_new(es, e);
+    let all = inserted(alloc, es, &new)?;
+    let after = pack_into(alloc, all.as_slice(), old.len())?;
+    if after.left > 0 {
+        return Ok(None);
+    }
+    let before = pack_into(alloc, es, old.len())?;
+    let lacking = lacking_at(alloc, all.as_slice(), old.len(), &new)?;
+    Ok(Some(insert_writes(alloc, old, before.blocks.as_slice(), after.blocks, &lacking)?))
 }
 
 /// The writes that enter an entry into a directory, in their order, or none where the entries do not pack with it.
@@ -235,20 +204,7 @@ pub fn insert_moves(alloc: Global, old: &[Block], e: &RawEnt) -> Result<Option<V
     ensures law { IfOk result (λ o. IfSome o (λ v. Inserts old.now e.now v.items)) }
 {
     let es = entries(alloc, old)?;
-    let new = as_new(alloc, es.as_slice(), e)?;
-    let all = inserted(alloc, es.as_slice(), &new)?;
-    let after = pack_into(alloc, all.as_slice(), old.len())?;
-    if after.next < all.len() {
-        return Ok(None);
-    }
-    let before = pack_into(alloc, es.as_slice(), old.len())?;
-    Ok(Some(insert_writes(
-        alloc,
-        old,
-        before.list.as_slice(),
-        &new,
-        after.list.as_slice(),
-    )?))
+    insert_into(alloc, old, es.as_slice(), e)
 }
 
 /// The writes that pack the entries of a directory into its blocks, in their order.
@@ -264,39 +220,74 @@ pub fn pack_moves(alloc: Global, old: &[Block]) -> Result<Vec<Move>, NoMemory>
 {
     let es = entries(alloc, old)?;
     let packing = pack_into(alloc, es.as_slice(), old.len())?;
-    let blocks = blocks_of(alloc, packing.list.as_slice())?;
-    rising(alloc, old, blocks.as_slice())
+    rising(alloc, old, packing.blocks.as_slice())
+}
+
+/// The writes of a removal, and how many of them pack the entries, in front of the one that takes the entry out.
+#[derive(Drop)]
+pub struct Removal {
+    /// The writes, in their order.
+    pub moves: Vec<Move>,
+    /// As many as [`pack_moves`] gives.
+    pub packing: usize,
 }
 
 /// The writes of a removal that leads from the packing `left` of all entries to the packing `rest`.
 fn remove_writes(
     alloc: Global,
     old: &[Block],
-    left: &[Group],
-    e: &RawEnt,
-    rest: &[Group],
-) -> Result<Vec<Move>, NoMemory>
+    mut left: Vec<Block>,
+    lacking: &Lacking,
+    rest: &[Block],
+) -> Result<Removal, NoMemory>
     requires numbered { length old.now < 2 ^ 32 }
-    requires left { length left.now ≡ length old.now }
+    requires left { length left.items ≡ length old.now }
     requires rest { length rest.now ≡ length old.now }
-    requires left_writable { AreWritable left.now }
-    requires rest_writable { AreWritable rest.now }
-    requires there { place e.now left.now < length left.now }
-    ensures { IfOk result (λ v. v.items ≡ remove_writes old.now left.now e.now rest.now) }
+    requires there { lacking.now.at < length left.items }
+    ensures moves { IfOk result (λ r. r.moves.items ≡ removal_by old.now left.items lacking.now.at lacking.now.block rest.now) }
+    ensures packing { IfOk result (λ r. r.packing ≡ length (rising 1 old.now left.items)) }
 {
-    let lacking = each_without(alloc, left, e)?;
-    let whole = blocks_of(alloc, left)?;
-    let decided = blocks_of(alloc, lacking.as_slice())?;
-    let after = blocks_of(alloc, rest)?;
-    let at = place_of(left, e);
-    let mut moves = rising(alloc, old, whole.as_slice())?;
+    let mut moves = rising(alloc, old, left.as_slice())?;
+    let packing = moves.as_slice().len();
+    left[lacking.at] = lacking.block;
     moves.push(Move {
-        vbn: at as u32 + 1,
-        block: decided[at],
+        vbn: lacking.at as u32 + 1,
+        block: lacking.block,
     })?;
-    let mut more = rising(alloc, decided.as_slice(), after.as_slice())?;
+    let mut more = rising(alloc, left.as_slice(), rest)?;
     moves.append(&mut more)?;
-    Ok(moves)
+    Ok(Removal { moves, packing })
+}
+
+/// What [`remove_moves`] gives, where the entries of the directory are read already.
+pub fn remove_from(
+    alloc: Global,
+    old: &[Block],
+    es: &[RawEnt],
+    name: &[u8],
+    ver: u16,
+) -> Result<Removal, NoMemory>
+    requires numbered { length old.now < 2 ^ 32 }
+    requires read { directory old.now ≡ Ok es.now }
+    requires forms { Each IsInForm es.now }
+    requires there { has es.now (key name.now ver) ≡ true }
+    ensures moves { IfOk result (λ r. r.moves.items ≡ removal old.now name.now ver) }
+    ensures packing { IfOk result (λ r. r.packing ≡ packing_writes old.now) }
+    ensures law { IfOk result (λ r. Removes old.now (key name.now ver) r.moves.items) }
+{
+    let e = RawEnt {
+        name: RawName::new(name),
+        ver,
+        num: 0,
+        seq: 0,
+        limit: 0,
+        flags: 0,
+    };
+    let rest = without(alloc, es, &e)?;
+    let whole = pack_into(alloc, es, old.len())?;
+    let after = pack_into(alloc, rest.as_slice(), old.len())?;
+    let lacking = lacking_at(alloc, es, old.len(), &e)?;
+    remove_writes(alloc, old, whole.blocks, &lacking, after.blocks.as_slice())
 }
 
 /// The writes that take the entry of this name and version out of a directory, in their order.
@@ -315,23 +306,6 @@ pub fn remove_moves(
     ensures moves { IfOk result (λ v. v.items ≡ removal old.now name.now ver) }
     ensures law { IfOk result (λ v. Removes old.now (key name.now ver) v.items) }
 {
-    let e = RawEnt {
-        name: RawName::new(alloc, name)?,
-        ver,
-        num: 0,
-        seq: 0,
-        limit: 0,
-        flags: 0,
-    };
     let es = entries(alloc, old)?;
-    let rest = without(alloc, es.as_slice(), &e)?;
-    let before = pack_into(alloc, es.as_slice(), old.len())?;
-    let after = pack_into(alloc, rest.as_slice(), old.len())?;
-    remove_writes(
-        alloc,
-        old,
-        before.list.as_slice(),
-        &e,
-        after.list.as_slice(),
-    )
+    Ok(remove_from(alloc, old, es.as_slice(), name, ver)?.moves)
 }

@@ -1,31 +1,16 @@
-ghost use Rattle.std.specs.Prelude.{◌≡◌, ◌<◌, ◌≤◌, ◌+◌, true, List, Option, Some, None, option_map, Ok, map, IfOk, IfSome, length, drop};
+ghost use Rattle.std.specs.Prelude.{◌≡◌, ◌<◌, ◌≤◌, ◌+◌, true, None, option_map, Ok, map, IfOk, IfSome, length, take, drop, slice_index_or, []};
 ghost use Rattle.base_words.specs.Packing.{cost, filled, unfilled, pack, over};
-ghost use Rattle.fx_dir.specs.declared.RawEnt.{RawEnt};
 ghost use Rattle.fx_dir.specs.Lists.{Each};
-ghost use Rattle.fx_dir.specs.Entries.{rises, plain};
+ghost use Rattle.fx_dir.specs.Entries.{rises, plain, without};
 ghost use Rattle.fx_dir.specs.Directory.{directory, dir_entries};
-ghost use Rattle.fx_dir.specs.Writing.{IsInForm, IsRanged, IsUniform, AreWritable, name_of, last_name, block_of, packed};
+ghost use Rattle.fx_dir.specs.Writing.{IsInForm, IsRanged, IsUniform, name_of, last_name, block_of, packed};
+ghost use Rattle.fx_dir.specs.Moves.{place};
 
+use crate::entries::has;
 use crate::writing::block_of;
 use crate::{NoMemory, RawEnt};
 use base_words::Block;
 use std::alloc::Global;
-use std::marker::Model;
-
-/// The entries of one block.
-#[derive(Drop)]
-pub(crate) struct Group {
-    pub(crate) ents: Vec<RawEnt>,
-}
-
-impl Model for Group {
-    ghost use Rattle.std.specs.Prelude.{List};
-    ghost use Rattle.fx_dir.specs.declared.RawEnt.{RawEnt};
-
-    ghost Value = { List RawEnt };
-
-    ghost view = { λ g. g.ents.items };
-}
 
 /// The bytes of an entry behind those that are in a block already.
 #[tactic(auto, unfolding(base_words::specs::Packing::cost))]
@@ -43,80 +28,103 @@ fn cost_of(block: &[RawEnt], e: &RawEnt) -> usize
     14 + (name.len() + name.len() % 2)
 }
 
-/// The entries that go into one block, and the number of those before the first that does not.
-#[derive(Drop)]
-struct Filled {
-    group: Group,
-    next: usize,
-}
-
-/// Fills a block from this entry on.
-fn fill(alloc: Global, es: &[RawEnt], from: usize) -> Result<Filled, NoMemory>
-    requires form { Each IsInForm es.now }
-    requires within { from ≤ length es.now }
-    ensures group { IfOk result (λ r. r.group ≡ filled name_of None 0 (drop from es.now)) }
-    ensures ranged { IfOk result (λ r. Each IsRanged r.group) }
-    ensures next { IfOk result (λ r. drop r.next es.now ≡ unfilled name_of None 0 (drop from es.now)) }
-    ensures bound { IfOk result (λ r. r.next ≤ length es.now) }
+/// How many of the entries go into one block.
+fn fill(es: &[RawEnt]) -> usize
+    requires { Each IsInForm es.now }
+    ensures group { take result es.now ≡ filled name_of None 0 es.now }
+    ensures rest { drop result es.now ≡ unfilled name_of None 0 es.now }
+    ensures ranged { Each IsRanged (take result es.now) }
+    ensures bound { result ≤ length es.now }
 {
-    let mut ents = Vec::new(alloc);
     let mut used = 0usize;
-    let mut next = from;
-    while next < es.len() {
-        let e = &es[next];
-        let more = cost_of(ents.as_slice(), e);
+    let mut n = 0usize;
+    while n < es.len() {
+        let e = &es[n];
+        let more = cost_of(es.split_at(n).0, e);
         if used + more > 510 {
-            return Ok(Filled {
-                group: Group { ents },
-                next,
-            });
+            return n;
         }
-        ents.push(e.copy(alloc)?)?;
+        e.know_ranges();
         used += more;
-        next += 1;
+        n += 1;
     }
-    Ok(Filled {
-        group: Group { ents },
-        next,
-    })
+    n
 }
 
-/// The entries in each of some blocks, and the number of entries in front of the first that is in none.
+/// Blocks of packed entries, and the number of the entries that had no room.
 #[derive(Drop)]
-pub(crate) struct Groups {
-    pub(crate) list: Vec<Group>,
-    pub(crate) next: usize,
+pub(crate) struct Packing {
+    pub(crate) blocks: Vec<Block>,
+    pub(crate) left: usize,
 }
 
 /// The first `count` blocks of the packing.
-pub(crate) fn pack_into(alloc: Global, es: &[RawEnt], count: usize) -> Result<Groups, NoMemory>
+pub(crate) fn pack_into(alloc: Global, es: &[RawEnt], count: usize) -> Result<Packing, NoMemory>
     requires { Each IsInForm es.now }
-    ensures groups { IfOk result (λ r. r.list.items ≡ pack name_of count es.now) }
-    ensures ranged { IfOk result (λ r. Each (λ g. Each IsRanged g) r.list.items) }
-    ensures count { IfOk result (λ r. length r.list.items ≡ count) }
-    ensures next { IfOk result (λ r. drop r.next es.now ≡ over name_of count es.now) }
-    ensures bound { IfOk result (λ r. r.next ≤ length es.now) }
+    ensures blocks { IfOk result (λ r. r.blocks.items ≡ map block_of (pack name_of count es.now)) }
+    ensures ranged { IfOk result (λ _. Each (λ g. Each IsRanged g) (pack name_of count es.now)) }
+    ensures left { IfOk result (λ r. r.left ≡ length (over name_of count es.now)) }
 {
-    let mut list = Vec::new(alloc);
-    let mut next = 0usize;
+    let mut blocks = Vec::with_capacity(alloc, count)?;
+    let mut rest = es;
     for i in 0..count {
-        let part = fill(alloc, es, next)?;
-        list.push(part.group)?;
-        next = part.next;
+        let (group, more) = rest.split_at(fill(rest));
+        blocks.push(block_of(group))?;
+        rest = more;
     }
-    Ok(Groups { list, next })
+    Ok(Packing {
+        blocks,
+        left: rest.len(),
+    })
 }
 
-/// The blocks of these groups of entries.
-pub(crate) fn blocks_of(alloc: Global, groups: &[Group]) -> Result<Vec<Block>, NoMemory>
-    requires { AreWritable groups.now }
-    ensures { IfOk result (λ v. v.items ≡ map block_of groups.now) }
+/// The entries of another name or version.
+pub(crate) fn without(alloc: Global, es: &[RawEnt], e: &RawEnt) -> Result<Vec<RawEnt>, NoMemory>
+    ensures { IfOk result (λ v. v.items ≡ without e.now es.now) }
 {
-    let mut blocks = Vec::new(alloc);
-    for g in groups {
-        blocks.push(block_of(alloc, g.ents.as_slice())?)?;
+    let mut list = Vec::with_capacity(alloc, es.len())?;
+    for x in es {
+        if !e.is_same(x) {
+            list.push(*x)?;
+        }
     }
-    Ok(blocks)
+    Ok(list)
+}
+
+/// How many blocks of a packing stand in front of the one that has an entry, and this one without the entry.
+#[derive(Drop)]
+pub(crate) struct Lacking {
+    pub(crate) at: usize,
+    pub(crate) block: Block,
+}
+
+/// Where the entry of this name and version stands in the packing. Behind all, if nowhere.
+pub(crate) fn lacking_at(
+    alloc: Global,
+    es: &[RawEnt],
+    count: usize,
+    e: &RawEnt,
+) -> Result<Lacking, NoMemory>
+    requires { Each IsInForm es.now }
+    ensures at { IfOk result (λ r. r.at ≡ place e.now (pack name_of count es.now)) }
+    ensures block { IfOk result (λ r. r.block ≡ block_of (without e.now (slice_index_or (pack name_of count es.now) (place e.now (pack name_of count es.now)) []))) }
+{
+    let mut rest = es;
+    for i in 0..count {
+        let (group, more) = rest.split_at(fill(rest));
+        if has(group, e) {
+            let others = without(alloc, group, e)?;
+            return Ok(Lacking {
+                at: i,
+                block: block_of(others.as_slice()),
+            });
+        }
+        rest = more;
+    }
+    Ok(Lacking {
+        at: count,
+        block: block_of(&[]),
+    })
 }
 
 /// The blocks of a directory of `k` blocks with these entries, or none where they need more.
@@ -131,9 +139,9 @@ pub fn packed(alloc: Global, ents: &[RawEnt], k: u32) -> Result<Option<Vec<Block
     ensures kept { IfOk result (λ o. IfSome o (λ v. IsUniform ents.now → directory v.items ≡ Ok ents.now)) }
     ensures count { IfOk result (λ o. IfSome o (λ v. length v.items ≡ k)) }
 {
-    let groups = pack_into(alloc, ents, k as usize)?;
-    if groups.next < ents.len() {
+    let packing = pack_into(alloc, ents, k as usize)?;
+    if packing.left > 0 {
         return Ok(None);
     }
-    Ok(Some(blocks_of(alloc, groups.list.as_slice())?))
+    Ok(Some(packing.blocks))
 }

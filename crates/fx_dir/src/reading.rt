@@ -1,4 +1,4 @@
-ghost use Rattle.std.specs.Prelude.{◌≡◌, ◌≤◌, ◌++◌, Result, Ok, Err, Some, IfOk, true, length, take, drop};
+ghost use Rattle.std.specs.Prelude.{◌≡◌, ◌≤◌, ◌+◌, ◌++◌, Result, Ok, Err, Some, IfOk, OnOk, true, length, take, drop};
 ghost use Rattle.std.specs.List.{list_all};
 ghost use Rattle.fx_dir.specs.Entries.{before, rises};
 ghost use Rattle.fx_dir.specs.Lists.{Each};
@@ -6,7 +6,7 @@ ghost use Rattle.fx_dir.specs.Writing.{IsInForm};
 ghost use Rattle.fx_dir.specs.Directory.{Gives, directory, one_more};
 ghost use Rattle.fx_dir.specs.Records.{block_entries};
 
-use crate::records::block_entries;
+use crate::records::push_block;
 use crate::{DirFault, NoMemory, RawEnt};
 use base_words::Block;
 use std::alloc::Global;
@@ -56,37 +56,36 @@ fn count_met(es: &[RawEnt], fs: &[RawEnt]) -> Result<usize, DirFault>
     Ok(count)
 }
 
-/// The entries behind the first `n`.
-fn behind(mut es: Vec<RawEnt>, n: usize) -> Result<Vec<RawEnt>, NoMemory>
-    requires { n ≤ length es.items }
-    ensures { IfOk result (λ v. v.items ≡ drop n es.items) }
+/// Takes `n` of the entries out, from this place on: none, mostly.
+fn take_out(es: &mut Vec<RawEnt>, at: usize, n: usize) -> Result<(), NoMemory>
+    requires { at + n ≤ length es.old.items }
+    ensures { OnOk result (es.new.items ≡ take at es.old.items ++ drop (at + n) es.old.items) }
 {
     if n == 0 {
-        return Ok(es);
+        return Ok(());
     }
-    es.split_off(n)
+    let mut more = es.split_off(at + n)?;
+    es.truncate(at);
+    es.append(&mut more)
 }
 
-/// The entries met so far with those of one more block.
-fn one_more(
-    alloc: Global,
-    vbn: u32,
-    mut met: Vec<RawEnt>,
-    b: &Block,
-) -> Result<Vec<RawEnt>, DirFault>
-    requires form { Each IsInForm met.items }
-    requires order { rises met.items ≡ true }
-    ensures value { Gives (λ v. v.items) (one_more vbn met.items (block_entries b.now)) result }
-    ensures form { IfOk result (λ v. Each IsInForm v.items) }
-    ensures order { IfOk result (λ v. rises v.items ≡ true) }
+/// Adds the entries of one more block to those met so far.
+fn one_more(vbn: u32, met: &mut Vec<RawEnt>, b: &Block) -> Result<(), DirFault>
+    requires form { Each IsInForm met.old.items }
+    requires order { rises met.old.items ≡ true }
+    ensures value { Gives (λ _. met.new.items) (one_more vbn met.old.items (block_entries b.now)) result }
+    ensures form { OnOk result (Each IsInForm met.new.items) }
+    ensures order { OnOk result (rises met.new.items ≡ true) }
 {
-    let Some(found) = block_entries(alloc, b)? else {
+    let at = met.as_slice().len();
+    let whole = push_block(met, b)?;
+    if !whole {
         return Err(DirFault::BadRecord(vbn));
-    };
-    let count = count_met(met.as_slice(), found.as_slice())?;
-    let mut more = behind(found, count)?;
-    met.append(&mut more)?;
-    Ok(met)
+    }
+    let (before, found) = met.as_slice().split_at(at);
+    let count = count_met(before, found)?;
+    take_out(met, at, count)?;
+    Ok(())
 }
 
 /// The entries of a directory, from its blocks in order of VBN: each entry once, in order of name and falling version.
@@ -97,10 +96,10 @@ pub fn read_dir(alloc: Global, blocks: &[Block]) -> Result<Vec<RawEnt>, DirFault
     ensures order { IfOk result (λ v. rises v.items ≡ true) }
     ensures form { IfOk result (λ v. Each IsInForm v.items) }
 {
-    let mut met = Vec::new(alloc);
+    let mut met = Vec::with_capacity(alloc, blocks.len().saturating_mul(62))?;
     let mut vbn = 1u32;
     for b in blocks {
-        met = one_more(alloc, vbn, met, b)?;
+        one_more(vbn, &mut met, b)?;
         vbn = vbn.saturating_add(1);
     }
     Ok(met)

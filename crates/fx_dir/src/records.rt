@@ -1,23 +1,19 @@
-ghost use Rattle.std.specs.Prelude.{◌≡◌, true, ◌+◌, ◌-◌, ◌*◌, ◌/◌, ◌≤◌, ◌<◌, IfOk, IfSome, OnSome, option_map, length};
+ghost use Rattle.std.specs.Prelude.{◌≡◌, ◌+◌, ◌-◌, ◌*◌, ◌/◌, ◌≤◌, ◌<◌, IfOk, length};
 ghost use Rattle.std.specs.Bool.{OnTrue};
-ghost use Rattle.fx_dir.specs.declared.RawEnt.{RawEnt};
-ghost use Rattle.fx_dir.specs.Lists.{Each};
-ghost use Rattle.fx_dir.specs.Entries.{rises};
-ghost use Rattle.fx_dir.specs.Writing.{IsInForm};
-ghost use Rattle.fx_dir.specs.Records.{record_length, head_length, is_end, is_whole, is_named, is_version, entry_in, versions_in, record_entries, records_in, block_entries};
+ghost use Rattle.fx_dir.specs.Pieces.{if_whole, behind};
+ghost use Rattle.fx_dir.specs.Records.{record_length, head_length, name_in, is_end, is_whole, is_named, is_version, entry_in, versions_in, record_entries, records_in, block_entries};
 
 use crate::entries::rises;
 use crate::{NoMemory, RawEnt, RawName};
 use base_words::Block;
 use base_words::names::is_name;
 use byteorder::{ByteOrder, LittleEndian};
-use std::alloc::Global;
 
 /// The word that ends the records of a block.
 const END: u16 = 65535;
 
 /// The length of the record that begins here.
-fn record_length(bytes: &[u8]) -> usize
+pub(crate) fn record_length(bytes: &[u8]) -> usize
     requires { 2 ≤ length bytes.now }
     ensures value { result ≡ record_length bytes.now }
     ensures bound { result < 65538 }
@@ -26,7 +22,7 @@ fn record_length(bytes: &[u8]) -> usize
 }
 
 /// How much of it stands in front of its versions.
-fn head_length(bytes: &[u8]) -> usize
+pub(crate) fn head_length(bytes: &[u8]) -> usize
     requires { 6 ≤ length bytes.now }
     ensures value { result ≡ head_length bytes.now }
     ensures bound { result < 263 }
@@ -36,7 +32,7 @@ fn head_length(bytes: &[u8]) -> usize
 }
 
 #[tactic(auto, unfolding(crate::specs::Records::is_end))]
-fn is_end(bytes: &[u8]) -> bool
+pub(crate) fn is_end(bytes: &[u8]) -> bool
     requires { 2 ≤ length bytes.now }
     ensures { result ≡ is_end bytes.now }
 {
@@ -76,93 +72,91 @@ fn is_version(bytes: &[u8]) -> bool
     bytes[6] == 0 && 1 <= ver && ver <= 32767
 }
 
-/// The entry of a version, whose record begins with `head`.
+/// The entry of a version, whose record begins with `head` and has this name.
 #[tactic(auto, unfolding(crate::specs::Records::entry_in))]
-fn entry_in(alloc: Global, head: &[u8], bytes: &[u8]) -> Result<RawEnt, NoMemory>
-    requires head { head_length head.now ≤ length head.now }
+fn entry_in(name: &RawName, head: &[u8], bytes: &[u8]) -> RawEnt
+    requires head { 6 ≤ length head.now }
+    requires named { name.now ≡ name_in head.now }
     requires version { 8 ≤ length bytes.now }
-    ensures { IfOk result (λ e. e ≡ entry_in head.now bytes.now) }
+    ensures { result ≡ entry_in head.now bytes.now }
 {
-    let n = head[5] as usize;
-    Ok(RawEnt {
-        name: RawName::new(alloc, &head[6..6 + n])?,
+    RawEnt {
+        name: *name,
         ver: LittleEndian::read_u16(bytes),
         num: LittleEndian::read_u16(&bytes[2..]) as u32 + 65536 * bytes[7] as u32,
         seq: LittleEndian::read_u16(&bytes[4..]),
         limit: LittleEndian::read_u16(&head[2..]),
         flags: head[4],
-    })
+    }
 }
 
-/// The entries of `count` versions, or none where one is bad.
-fn versions_in(
-    alloc: Global,
+/// Appends the entries of `count` versions, and says whether none is bad.
+fn push_versions(
+    list: &mut Vec<RawEnt>,
     head: &[u8],
     count: usize,
     bytes: &[u8],
-) -> Result<Option<Vec<RawEnt>>, NoMemory>
+) -> Result<bool, NoMemory>
     requires head { head_length head.now ≤ length head.now }
+    requires named { length (name_in head.now) ≤ 79 }
     requires versions { 8 * count ≤ length bytes.now }
-    ensures { IfOk result (λ o. option_map (λ v. v.items) o ≡ versions_in head.now count bytes.now) }
+    ensures { IfOk result (λ whole. if_whole whole list.new.items ≡ behind list.old.items (versions_in head.now count bytes.now)) }
 {
-    let mut list = Vec::new(alloc);
+    let n = head[5] as usize;
+    let name = RawName::new(&head[6..6 + n]);
     for k in 0..count {
         let version = bytes.split_at(8 * k).1;
         if !is_version(version) {
-            return Ok(None);
+            return Ok(false);
         }
-        list.push(entry_in(alloc, head, version)?)?;
+        list.push(entry_in(&name, head, version))?;
     }
-    Ok(Some(list))
+    Ok(true)
 }
 
-/// The entries of the record that begins here, or none where there is no record.
+/// Appends the entries of the record that begins here, and says whether there is one.
 #[tactic(auto, unfolding(crate::specs::Records::record_entries))]
-fn record_entries(alloc: Global, bytes: &[u8]) -> Result<Option<Vec<RawEnt>>, NoMemory>
+fn push_record(list: &mut Vec<RawEnt>, bytes: &[u8]) -> Result<bool, NoMemory>
     requires { 2 ≤ length bytes.now }
-    ensures value { IfOk result (λ o. option_map (λ v. v.items) o ≡ record_entries bytes.now) }
-    ensures room { IfOk result (λ o. OnSome o (record_length bytes.now + 2 ≤ length bytes.now)) }
+    ensures value { IfOk result (λ whole. if_whole whole list.new.items ≡ behind list.old.items (record_entries bytes.now)) }
+    ensures room { IfOk result (λ whole. OnTrue whole (record_length bytes.now + 2 ≤ length bytes.now)) }
 {
     if !is_whole(bytes) || !is_named(bytes) {
-        return Ok(None);
+        return Ok(false);
     }
     let head = head_length(bytes);
-    versions_in(
-        alloc,
+    push_versions(
+        list,
         bytes,
         (record_length(bytes) - head) / 8,
         &bytes[head..],
     )
 }
 
-/// The entries of the records of a block, or none where one is bad.
-fn records_in(alloc: Global, b: &Block) -> Result<Option<Vec<RawEnt>>, NoMemory>
-    ensures { IfOk result (λ o. option_map (λ v. v.items) o ≡ records_in (length b.now) b.now) }
+/// Appends the entries of the records of a block, and says whether none is bad.
+fn push_records(list: &mut Vec<RawEnt>, b: &Block) -> Result<bool, NoMemory>
+    ensures { IfOk result (λ whole. if_whole whole list.new.items ≡ behind list.old.items (records_in (length b.now) b.now)) }
 {
-    let mut list = Vec::new(alloc);
     let mut rest: &[u8] = b;
     while !is_end(rest) {
-        let Some(mut more) = record_entries(alloc, rest)? else {
-            return Ok(None);
-        };
-        list.append(&mut more)?;
+        let whole = push_record(list, rest)?;
+        if !whole {
+            return Ok(false);
+        }
         rest = rest.split_at(record_length(rest)).1;
     }
-    Ok(Some(list))
+    Ok(true)
 }
 
-/// The entries of a block, or none where it is not a list of records in order.
+/// Appends the entries of a block, and says whether it is a list of records in order. What is appended else means nothing.
 #[tactic(auto, unfolding(crate::specs::Records::block_entries))]
-pub(crate) fn block_entries(alloc: Global, b: &Block) -> Result<Option<Vec<RawEnt>>, NoMemory>
-    ensures value { IfOk result (λ o. option_map (λ v. v.items) o ≡ block_entries b.now) }
-    ensures form { IfOk result (λ o. IfSome o (λ v. Each IsInForm v.items)) }
-    ensures order { IfOk result (λ o. IfSome o (λ v. rises v.items ≡ true)) }
+pub(crate) fn push_block(list: &mut Vec<RawEnt>, b: &Block) -> Result<bool, NoMemory>
+    ensures { IfOk result (λ whole. if_whole whole list.new.items ≡ behind list.old.items (block_entries b.now)) }
 {
-    let Some(list) = records_in(alloc, b)? else {
-        return Ok(None);
-    };
-    if !rises(list.as_slice()) {
-        return Ok(None);
+    let at = list.as_slice().len();
+    let whole = push_records(list, b)?;
+    if !whole {
+        return Ok(false);
     }
-    Ok(Some(list))
+    Ok(rises(list.as_slice().split_at(at).1))
 }

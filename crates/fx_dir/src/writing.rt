@@ -1,12 +1,13 @@
-ghost use Rattle.std.specs.Prelude.{◌≡◌, ◌+◌, ◌*◌, ◌%◌, ◌≤◌, ◌<◌, ◌++◌, Some, None, IfOk, OnOk, length, replicate};
+ghost use Rattle.std.specs.Prelude.{◌≡◌, ◌+◌, ◌≤◌, None, length};
+ghost use Rattle.base_words.specs.Fields.{put};
 ghost use Rattle.base_words.specs.Packing.{padded, size};
 ghost use Rattle.fx_dir.specs.declared.RawEnt.{RawEnt};
 ghost use Rattle.fx_dir.specs.Lists.{Each};
-ghost use Rattle.fx_dir.specs.Writing.{IsInForm, name_of, head_bytes, version_bytes, goes_on, last_name, following, record_bytes, block_of};
+ghost use Rattle.fx_dir.specs.Writing.{IsInForm, name_of, head_bytes, version_bytes, goes_on, last_name, following, block_of};
+ghost use Rattle.fx_dir.specs.Pieces.{entry_bytes};
 
-use crate::{NoMemory, RawEnt};
-use base_words::{Block, put_bytes, zeros};
-use std::alloc::Global;
+use crate::RawEnt;
+use base_words::{Block, put_bytes, put_word, zeros};
 
 /// Whether the entry goes into the record of the last of those before it.
 #[tactic(auto, unfolding(crate::specs::Writing::goes_on))]
@@ -27,74 +28,68 @@ fn following(name: &[u8], es: &[RawEnt]) -> usize
     es.iter().take_while(|e| name == e.name.bytes()).count()
 }
 
-/// The byte that makes a length even, if any.
-fn push_padding(out: &mut Vec<u8>, n: usize) -> Result<(), NoMemory>
-    ensures { OnOk result (out.new.items ≡ out.old.items ++ replicate (n % 2) 0) }
-{
-    if n % 2 == 1 {
-        out.push(0)?;
-    }
-    Ok(())
-}
-
-/// What a record of `count` versions has in front of them.
+/// Writes what a record of `count` versions has in front of them.
 #[tactic(auto, unfolding(crate::specs::Writing::head_bytes))]
-fn push_head(out: &mut Vec<u8>, e: &RawEnt, count: usize) -> Result<(), NoMemory>
-    requires named { length e.now.name < 256 }
-    requires fits { 4 + padded e.now.name + 8 * count < 65536 }
-    ensures { OnOk result (out.new.items ≡ out.old.items ++ head_bytes e.now count) }
+fn put_head(b: &mut Block, at: usize, e: &RawEnt, count: usize)
+    requires named { length e.now.name ≤ 79 }
+    requires few { count ≤ 64 }
+    requires room { at + (6 + padded e.now.name) ≤ 512 }
+    ensures { b.new ≡ put b.old at (head_bytes e.now count) }
 {
     let name = e.name.bytes();
-    let size = 4 + (name.len() + name.len() % 2) + 8 * count;
-    out.extend_from_slice(&(size as u16).to_le_bytes())?;
-    out.extend_from_slice(&e.limit.to_le_bytes())?;
-    out.push(e.flags)?;
-    out.push(name.len() as u8)?;
-    out.extend_from_slice(name)?;
-    push_padding(out, name.len())
+    let n = name.len();
+    let size = 4 + (n + n % 2) + 8 * count;
+    put_word(b, at, size as u16);
+    put_word(b, at + 2, e.limit);
+    put_bytes(b, at + 4, &[e.flags, n as u8]);
+    put_bytes(b, at + 6, name);
+    put_bytes(b, at + 6 + n, &[0][..n % 2]);
 }
 
-/// A version and its file identifier.
+/// Writes a version and its file identifier.
 #[tactic(auto, unfolding(crate::specs::Writing::version_bytes))]
-fn push_version(out: &mut Vec<u8>, e: &RawEnt) -> Result<(), NoMemory>
-    requires { e.now.num ≤ 16777215 }
-    ensures { OnOk result (out.new.items ≡ out.old.items ++ version_bytes e.now) }
+fn put_version(b: &mut Block, at: usize, e: &RawEnt)
+    requires numbered { e.now.num ≤ 16777215 }
+    requires room { at + 8 ≤ 512 }
+    ensures { b.new ≡ put b.old at (version_bytes e.now) }
 {
-    out.extend_from_slice(&e.ver.to_le_bytes())?;
-    out.extend_from_slice(&((e.num % 65536) as u16).to_le_bytes())?;
-    out.extend_from_slice(&e.seq.to_le_bytes())?;
-    out.push(0)?;
-    out.push((e.num / 65536) as u8)?;
-    Ok(())
+    put_word(b, at, e.ver);
+    put_word(b, at + 2, (e.num % 65536) as u16);
+    put_word(b, at + 4, e.seq);
+    put_bytes(b, at + 6, &[0, (e.num / 65536) as u8]);
 }
 
-/// The records of entries in order.
-fn record_bytes(alloc: Global, es: &[RawEnt]) -> Result<Vec<u8>, NoMemory>
-    requires form { Each IsInForm es.now }
-    requires room { size name_of None es.now ≤ 510 }
-    ensures { IfOk result (λ v. v.items ≡ record_bytes None es.now) }
+/// Writes an entry behind those in front of it, and gives the place behind it. `rest` begins with the entry.
+fn put_entry(b: &mut Block, at: usize, before: &[RawEnt], e: &RawEnt, rest: &[RawEnt]) -> usize
+    requires form { IsInForm e.now }
+    requires few { length rest.now ≤ 64 }
+    requires room { at + length (entry_bytes (last_name before.now) e.now (following e.now.name rest.now)) ≤ 510 }
+    ensures text { b.new ≡ put b.old at (entry_bytes (last_name before.now) e.now (following e.now.name rest.now)) }
+    ensures end { result ≡ at + length (entry_bytes (last_name before.now) e.now (following e.now.name rest.now)) }
 {
-    let mut out = Vec::new(alloc);
-    for (i, e) in es.iter().enumerate() {
-        let (before, rest) = es.split_at(i);
-        if !goes_on(before, e) {
-            push_head(&mut out, e, following(e.name.bytes(), rest))?;
-        }
-        push_version(&mut out, e)?;
+    if goes_on(before, e) {
+        put_version(b, at, e);
+        return at + 8;
     }
-    Ok(out)
+    let name = e.name.bytes();
+    let head = 6 + (name.len() + name.len() % 2);
+    put_head(b, at, e, following(name, rest));
+    put_version(b, at + head, e);
+    at + head + 8
 }
 
 /// The block of entries in order: their records, the word that ends them, and zeros.
-#[tactic(auto, unfolding(crate::specs::Writing::block_of))]
-pub(crate) fn block_of(alloc: Global, es: &[RawEnt]) -> Result<Block, NoMemory>
+pub(crate) fn block_of(es: &[RawEnt]) -> Block
     requires form { Each IsInForm es.now }
     requires room { size name_of None es.now ≤ 510 }
-    ensures { IfOk result (λ b. b ≡ block_of es.now) }
+    ensures { result ≡ block_of es.now }
 {
-    let mut text = record_bytes(alloc, es)?;
-    text.extend_from_slice(&[255, 255])?;
     let mut b = zeros();
-    put_bytes(&mut b, 0, text.as_slice());
-    Ok(b)
+    let mut at = 0usize;
+    for (i, e) in es.iter().enumerate() {
+        let (before, rest) = es.split_at(i);
+        at = put_entry(&mut b, at, before, e, rest);
+    }
+    put_bytes(&mut b, at, &[255, 255]);
+    b
 }

@@ -9,7 +9,6 @@ use Rattle.run_engine.specs.declared.status.Status.{Status}
 use Rattle.run_engine.specs.declared.status.Status.TheVariants as status
 use Rattle.run_engine.specs.declared.over_mending.Halt.{Halt}
 use Rattle.run_engine.specs.declared.over_mending.Halt.TheVariants as halt
-use Rattle.run_engine.specs.Texts.{status_text}
 use Rattle.run_engine.proofs.Given.{of_told, rose_later}
 use Rattle.live_run.specs.declared.words.Job.{Job}
 use Rattle.live_run.specs.declared.words.Job.TheVariants as job
@@ -37,7 +36,7 @@ module _ (what : Job) (script : Script) (size : ℕ) (told new : Option (List Bl
   -- why the blocks gave no end is why the image gave none
   pub halt_on : (first had has : ℕ) (x : Halt) → IsInside size → first ≤ had → IsHalt what script blocks told new had has x → IsImageHalt what script size told new first has x
   halt_on first had has (halt.Cut text) inside later end = (rose_later first had has later end.0, of_told (λ bs. IsCut what script bs told new text.items) told blocks same end.1)
-  halt_on first had has halt.Bare inside later end = (rose_later first had has later end.0, of_told (λ bs. IsCut what script bs told new (status_text status.ImageFault)) told blocks same end.1)
+  halt_on first had has halt.NoLines inside later end = (rose_later first had has later end.0, of_told (λ bs. (text : List ℕ) × IsCut what script bs told new text) told blocks same end.1)
   halt_on first had has (halt.Unmended text f) inside later end =
       (record { inside = inside; accepted = of_told Accepts told blocks same end.0 }, of_told (λ bs. IsUnmended what script bs told new f text.items) told blocks same end.1)
   halt_on first had has (halt.By s) inside later end = quiet_on first has s inside end

@@ -7,7 +7,6 @@ use Rattle.run_engine.specs.declared.status.Status.TheVariants as status
 use Rattle.run_engine.specs.declared.over_mending.Halt.{Halt}
 use Rattle.run_engine.specs.declared.over_mending.Halt.TheVariants as halt
 use Rattle.run_engine.specs.Scripts.{SpellsWithin, IsScriptEnd}
-use Rattle.run_engine.specs.Texts.{status_text}
 use Rattle.run_engine.proofs.Given.{spells, good}
 use Rattle.live_run.specs.declared.words.Job.{Job}
 use Rattle.live_run.specs.Lives.{IsEnd, IsCut, IsLacking, IsUnmended}
@@ -43,6 +42,6 @@ module _ (what : Job) (left : Option (List ℕ)) (script : Script) (spelt : IfSo
   -- why the image gave no end is why the call gave no report
   pub run_halt : (size : ℕ) (told new : Option (List Block)) (read reading had has : ℕ) (x : Halt) → IsImageHalt what script size told new had has x → IsRunHalt what left size told new read reading had has x
   run_halt size told new read reading had has (halt.Cut text) end = (good left script spelt, end.0, given_on (λ s bs. IsCut what s bs told new text.items) told end.1)
-  run_halt size told new read reading had has halt.Bare end = (good left script spelt, end.0, given_on (λ s bs. IsCut what s bs told new (status_text status.ImageFault)) told end.1)
+  run_halt size told new read reading had has halt.NoLines end = (good left script spelt, end.0, given_on (λ s bs. (text : List ℕ) × IsCut what s bs told new text) told end.1)
   run_halt size told new read reading had has (halt.Unmended text f) end = (good left script spelt, end.0, given_on (λ s bs. IsUnmended what s bs told new f text.items) told end.1)
   run_halt size told new read reading had has (halt.By s) end = run_end size told new read reading had has s end

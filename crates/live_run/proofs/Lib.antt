@@ -4,3 +4,4 @@ pub mod Imaged
 pub mod Jobs
 pub mod Told
 pub mod Answered
+pub mod OneAnswer

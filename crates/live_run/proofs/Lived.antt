@@ -1,17 +1,14 @@
 -- What is kept of a mounted world says what the end of its threads is.
-use Rattle.std.proofs.Common.{◌≡◌, ◌∙◌, ◌⊎◌, ℕ, List, Option, Some, None, is_some, Result, Ok, Err, refl, sym, ap, subst, inl, inr}
+use Rattle.std.proofs.Common.{◌≡◌, ◌∙◌, ◌⊎◌, ℕ, List, [], ◌∷◌, take, Option, Some, None, is_some, Result, Ok, Err, refl, sym, ap, subst, inl, inr}
 use Rattle.std.specs.Prelude.{OnOk, IfSome}
 use Rattle.base_words.specs.Fields.{Block}
-use Rattle.fx_home.specs.Homes.{home_read}
 use Rattle.plain_cat.specs.declared.cat.Cat.{Cat}
 use Rattle.plain_cat.specs.declared.script.Script.{Script}
 use Rattle.plain_cat.specs.declared.history.Entry.TheVariants as entry
 use Rattle.plain_rules.specs.Own.{Whole, Own}
 use Rattle.plain_rules.specs.Replaying.{Replays}
 use Rattle.plain_past.proofs.Growing.{replays_grow}
-use Rattle.vol_parts.specs.declared.geometry.Geometry.{Geometry}
-use Rattle.vol_parts.specs.Findings.{home_at, Accepts, CatOf}
-use Rattle.vol_faults.specs.Free.{IsGeometryBy}
+use Rattle.vol_parts.specs.Findings.{Accepts, CatOf}
 use Rattle.blk_drive.specs.Telling.{IsTold}
 use Rattle.blk_drive.specs.Telling.{told_as}
 use Rattle.core_state.specs.Worlds.{Plain}
@@ -32,7 +29,13 @@ use Rattle.node_seat.specs.Keeping.{IsKept, IsOrderly, IsAtFailedWrite, start_of
 use Rattle.node_seat.proofs.Acting.{is_told}
 use Rattle.xqp_set.proofs.Every.{every_lawful}
 use Rattle.core_state.proofs.Uses.{uses_right}
-use Rattle.run_engine.specs.Torn.{IsTornWorld}
+use Rattle.run_engine.specs.Torn.{CanStop, IsTornWorld}
+use Rattle.run_engine.proofs.Worlds.{steps_keep_the_rules}
+use Rattle.node_seat.specs.Steps.{stepped}
+use Rattle.node_seat.proofs.Following.{Follows}
+use Rattle.node_seat.proofs.Reaching.{steps_follow, reached_follows}
+use Rattle.core_state.specs.Deaths.{after_step}
+use Rattle.plain_cat.specs.declared.history.Entry.{Entry}
 use Rattle.run_engine.proofs.StopsStopping.{goes_lawfully, world_can_stop, torn_worlds_can_stop}
 use Rattle.xqp_set.specs.Built.{IsBuilt}
 use Rattle.xqp_set.proofs.Forms.{filled_built, close_built}
@@ -43,7 +46,7 @@ use Rattle.run_engine.specs.declared.over_mending.Halt.{Halt}
 use Rattle.run_engine.specs.declared.over_mending.Halt.TheVariants as halt
 use Rattle.run_engine.specs.Stops.{report_text, mount_status, IsStopOf}
 use Rattle.run_engine.specs.Halts.{halt_of, IsPartlyBy, IsMendedBy, IsHaltBy}
-use Rattle.run_engine.specs.Texts.{cut_text, status_text}
+use Rattle.run_engine.specs.Texts.{cut_text}
 use Rattle.run_engine.proofs.Given.{rose_later}
 use Rattle.run_engine.proofs.MendedDrives.{retold}
 use Rattle.run_engine.proofs.MountedVolumes.{mounted_geometry}
@@ -68,6 +71,11 @@ opened bs c accepted told = (bs, accepted, told)
 uses : (w : Plain) → Good w → (n : ℕ) → UsesTheDrives w n
 uses w good n = uses_right w good n (goes_lawfully w n good (lawful w good))
 
+-- the rules are kept by steps
+good_on : (ns : List ℕ) (w : Plain) → Good w → Good (stepped ns w)
+good_on [] w good = good
+good_on (n ∷ ns) w good = good_on ns (after_step w n) (steps_keep_the_rules w n good (goes_lawfully w n good (lawful w good)))
+
 torn_by : (script : Script) (bs : List Block) (w : Plain) (told new : Option (List Block)) → IsWorldOf script bs w → (f : IsAtFailedWrite (is_some told) new w) → IfSome told (λ xs. IsTornWorld w f.node new)
 torn_by script bs w None new live f = tt
 torn_by script bs w (Some xs) new live f =
@@ -81,27 +89,42 @@ cut_as job.Live script bs told new text c = c
 cut_as job.LiveRebuild script bs told new text c = inl c
 
 lacking_as : (what : Job) (script : Script) (bs : List Block) (told new : Option (List Block)) → IsLiveDrive script bs told new → IsLacking what script bs told new
-lacking_as job.Live script bs told new d = d
-lacking_as job.LiveRebuild script bs told new d = inl d
+lacking_as job.Live script bs told new d = inl d
+lacking_as job.LiveRebuild script bs told new d = inl (inl d)
 
 module _ (start : Plain) (good : Good start) (m : IsMounted start.blocks start.script start) (faults : ℕ) (told : Option (List Block)) where
+  -- no node has died, and nothing was mended
+  orderly_first : IsOrderly start.script start.history
+  orderly_first = subst (λ (h : List Entry). IsOrderly start.script h) (sym (ap (λ (v : Plain). v.history) m.is)) (record { killed = tt; unmended = refl })
+
+  -- a world behind it has the same opening, which is the catalogue that the blocks tell
+  told_on : (w : Plain) → Follows start w → CatOf start.blocks w.opening
+  told_on w follows = subst (λ (c : Cat). CatOf start.blocks c) (sym (follows.opening ∙ ap (λ (v : Plain). v.opening) m.is)) m.told
+
+  stop_on : (ns : List ℕ) → CanStop (stepped ns start)
+  stop_on ns =
+      let w = stepped ns start in
+      world_can_stop w (good_on ns start good) (opened start.blocks w.opening m.accepted (told_on w (steps_follow ns start)))
+
   module _ (w : Plain) (keeps : Good w) (f : ℕ) (new : Option (List Block)) (mark : Option TurnFault) (k : IsKept (start_of start faults told) w f new mark) where
-    told_here : CatOf start.blocks w.opening
-    told_here = subst (λ (c : Cat). CatOf start.blocks c) (sym (k.opening ∙ ap (λ (v : Plain). v.opening) m.is)) m.told
+    script_is : w.script ≡ start.script
+    script_is = (reached_follows start w k.reached).script
 
     pub live_of : IsWorldOf start.script start.blocks w
     live_of = record {
+      start = start;
       accepted = m.accepted;
-      told = told_here;
-      parts = subst (λ (g : Geometry). IsGeometryBy start.blocks (home_read (home_at start.blocks)) g) (sym k.geometry) (mounted_geometry start.blocks start.script start good m);
-      script_is = k.script;
+      mounted = m;
+      parts = mounted_geometry start.blocks start.script start good m;
+      reached = k.reached;
+      used = λ i n. uses (stepped (take i k.reached.nodes) start) (good_on (take i k.reached.nodes) start good) n;
+      stop = λ i. stop_on (take i k.reached.nodes);
+      told = told_on w (reached_follows start w k.reached);
       good = keeps;
       cat = keeps.running.cat;
-      replayed = subst (λ (s : Script). Replays w.opening s w.history keeps.running.cat) k.script keeps.running.replayed;
-      own = subst (λ (s : Script). Own s w.history) k.script keeps.own;
-      orderly = subst (λ (s : Script). IsOrderly s w.history) k.script k.orderly;
-      used = uses w keeps;
-      stop = world_can_stop w keeps (opened start.blocks w.opening m.accepted told_here);
+      replayed = subst (λ (s : Script). Replays w.opening s w.history keeps.running.cat) script_is keeps.running.replayed;
+      own = subst (λ (s : Script). Own s w.history) script_is keeps.own;
+      orderly = (reached_follows start w k.reached).orderly orderly_first;
     }
 
   drive_of : (w : Plain) → Good w → (f : ℕ) (new : Option (List Block)) (mark : Option TurnFault) → IsKept (start_of start faults told) w f new mark → new ≡ telling (is_some told) w.blocks
@@ -110,7 +133,7 @@ module _ (start : Plain) (good : Good start) (m : IsMounted start.blocks start.s
       record { world = w; live = live_of w keeps f new mark k; image = image ∙ tells_on told w.blocks }
 
   cut_of : (w : Plain) → Good w → (f : ℕ) (new : Option (List Block)) (text : List ℕ) → IsKept (start_of start faults told) w f new (fault_mark run.ImageFault)
-      → (text ≡ cut_text w.history) ⊎ (text ≡ status_text status.ImageFault) → IsLiveCut start.script start.blocks told new text
+      → text ≡ cut_text w.history → IsLiveCut start.script start.blocks told new text
   cut_of w keeps f new text k written =
       let live : IsWorldOf start.script start.blocks w = live_of w keeps f new (fault_mark run.ImageFault) k in
       record { world = w; live = live; failed = k.image; torn = torn_by start.script start.blocks w told new live k.image; written = written }
@@ -120,9 +143,9 @@ module _ (start : Plain) (good : Good start) (m : IsMounted start.blocks start.s
       → (s : Stop) → IsStopOf w r s → IsHalt what start.script start.blocks told new faults f (halt_of s)
   unfolding cut_of drive_of
   stop_by what w keeps f new run.ImageFault k (stop.Cut text) e =
-      (k.cause refl, cut_as what start.script start.blocks told new text.items (cut_of w keeps f new text.items k (inl e)))
-  stop_by what w keeps f new run.ImageFault k stop.Bare e =
-      (k.cause refl, cut_as what start.script start.blocks told new (status_text status.ImageFault) (cut_of w keeps f new (status_text status.ImageFault) k (inr refl)))
+      (k.cause refl, cut_as what start.script start.blocks told new text.items (cut_of w keeps f new text.items k e))
+  stop_by what w keeps f new run.ImageFault k stop.NoLines e =
+      (k.cause refl, (cut_text w.history, cut_as what start.script start.blocks told new (cut_text w.history) (cut_of w keeps f new (cut_text w.history) k refl)))
   stop_by what w keeps f new run.ImageFault k (stop.By s) e = absurd e
   stop_by what w keeps f new run.NoMemory k s e =
       subst (λ (x : Stop). IsHalt what start.script start.blocks told new faults f (halt_of x)) (sym e)
@@ -139,9 +162,9 @@ module _ (start : Plain) (good : Good start) (m : IsMounted start.blocks start.s
       world = w;
       live = live_of w keeps f now None k;
       over = over;
-      whole = subst (λ (s : Script). Whole s w.history) k.script whole;
+      whole = subst (λ (s : Script). Whole s w.history) (script_is w keeps f now None k) whole;
       after = c;
-      replayed = subst (λ (s : Script). Replays w.opening s w.history c) k.script end.replayed;
+      replayed = subst (λ (s : Script). Replays w.opening s w.history c) (script_is w keeps f now None k) end.replayed;
       left = end.drive;
       image = same ∙ image;
       written = written;
@@ -153,7 +176,7 @@ module _ (start : Plain) (good : Good start) (m : IsMounted start.blocks start.s
     over_of : IsLiveOver start.script start.blocks told
     over_of = record { at_end = now; report = report_text w.history ended.0; end = end_of now (report_text w.history ended.0) ended.0 ended.1 refl refl }
 
-    partly_of : (new : Option (List Block)) → IsPartlyBy ended.0 now new → IsLivePartly start.script start.blocks told new
+    partly_of : (new : Option (List Block)) → IsPartlyBy w ended.0 now new → IsLivePartly start.script start.blocks told new
     unfolding over_of end_of
     partly_of new p = record { over = over_of; part = record { blocks = p.blocks; image = retold told now new w.blocks p.blocks image p.image; still = p.still } }
 
@@ -163,7 +186,7 @@ module _ (start : Plain) (good : Good start) (m : IsMounted start.blocks start.s
       over = over_of;
       mended = record { blocks = r.blocks; done = r.done; image = retold told now new w.blocks r.blocks image r.image; mended = r.mended; written = r.written };
       replayed = replays_grow w.opening start.script w.history ended.0 (entry.Mended r.done) r.mended.after
-          (subst (λ (s : Script). Replays w.opening s w.history ended.0) k.script ended.1.replayed) r.mended.mends;
+          (subst (λ (s : Script). Replays w.opening s w.history ended.0) (script_is w keeps f now None k) ended.1.replayed) r.mended.mends;
     }
 
     pub end_over : (what : Job) (new : Option (List Block)) (text : List ℕ) → IsToldOver what w now new text → IsEnd what start.script start.blocks told new text
@@ -172,16 +195,16 @@ module _ (start : Plain) (good : Good start) (m : IsMounted start.blocks start.s
 
     mending_halts : (new : Option (List Block)) (has : ℕ) (x : Halt) → IsHaltBy w ended.0 now new f has x → IsHalt job.LiveRebuild start.script start.blocks told new faults has x
     unfolding partly_of over_of end_of
-    mending_halts new has (halt.Cut text) r = (rose_later faults f has k.later r.0, inr (record { partly = partly_of new r.1; written = inl r.2 }))
-    mending_halts new has halt.Bare r = (rose_later faults f has k.later r.0, inr (record { partly = partly_of new r.1; written = inr refl }))
+    mending_halts new has (halt.Cut text) r = (rose_later faults f has k.later r.0, inr (record { partly = partly_of new r.1; written = r.2 }))
+    mending_halts new has halt.NoLines r = (rose_later faults f has k.later r.0, (cut_text w.history, inr (record { partly = partly_of new r.1; written = refl })))
     mending_halts new has (halt.Unmended text g) r =
         (m.accepted, record { over = over_of; unmended = record { image = retold told now new w.blocks w.blocks image r.image; roomless = r.roomless; written = r.written } })
-    mending_halts new has (halt.By s) r = subst (IsQuiet job.LiveRebuild start.script start.blocks told new) (sym r.0) (inr (inr (partly_of new r.1)))
+    mending_halts new has (halt.By s) r = subst (IsQuiet job.LiveRebuild start.script start.blocks told new) (sym r.0) (inr (inl (inr (partly_of new r.1))))
 
     pub halt_over : (what : Job) (new : Option (List Block)) (has : ℕ) (x : Halt) → IsHaltOver what w now new f has x → IsHalt what start.script start.blocks told new faults has x
     halt_over job.Live new has x h =
         subst (IsHalt job.Live start.script start.blocks told new faults has) (sym h.1)
-        (inr (subst (λ (i : Option (List Block)). IsLiveDrive start.script start.blocks told i) (sym h.0) (drive_of w keeps f now None k k.image)))
+        (inr (inl (subst (λ (i : Option (List Block)). IsLiveDrive start.script start.blocks told i) (sym h.0) (drive_of w keeps f now None k k.image))))
     halt_over job.LiveRebuild new has x h = mending_halts new has x (h ended.0 ended.1)
 
   -- ---- by the end of the run after the threads

@@ -12,7 +12,7 @@ use Rattle.fx_text.specs.Written.{IsWritten}
 use Rattle.run_engine.specs.Halts.{IsToldHalt}
 use Rattle.live_run.specs.declared.words.Job.{Job}
 use Rattle.live_run.specs.declared.words.Job.TheVariants as job
-use Rattle.live_run.specs.Lives.{IsEnd, IsCut, IsUnmended}
+use Rattle.live_run.specs.Lives.{IsEnd, IsCut, IsLacking, IsUnmended}
 use Rattle.live_run.specs.Statuses.{OnGiven, IsReportOn, IsLiveFaultText, IsEndOn, IsLiveDue, IsLiveImage, IsRunEnd, IsRunHalt}
 
 -- what is said of a given script may be less
@@ -40,7 +40,7 @@ module _ (what : Job) (left : Option (List ℕ)) (size : ℕ) (told new : Option
 
   pub due_told : (x : Halt) (r : Status) → IsRunHalt what left size told new read reading had has x → IsToldHalt old now before after x r → IsLiveDue what left size told new r
   due_told (halt.Cut text) r h t = subst (IsLiveDue what left size told new) (sym t.0) h.0
-  due_told halt.Bare r h t = subst (IsLiveDue what left size told new) (sym t.0) h.0
+  due_told halt.NoLines r h t = subst (IsLiveDue what left size told new) (sym t.0) tt
   due_told (halt.Unmended text f) r h t =
       subst (IsLiveDue what left size told new) (sym t.0)
       (h.0, h.1, on_given left told (λ s bs. IsUnmended what s bs told new f text.items) (λ s bs. (u : List ℕ) × IsUnmended what s bs told new f u) (λ s bs u. (text.items, u)) h.2)
@@ -53,7 +53,7 @@ module _ (what : Job) (left : Option (List ℕ)) (size : ℕ) (told new : Option
 
   pub script_told : (x : Halt) (r : Status) → IsRunHalt what left size told new read reading had has x → IsToldHalt old now before after x r → r ≡ status.ScriptFault → Rose read reading
   script_told (halt.Cut text) r h t q = absurd (let e : status.ImageFault ≡ status.ScriptFault = sym t.0 ∙ q in cc e)
-  script_told halt.Bare r h t q = absurd (let e : status.ImageFault ≡ status.ScriptFault = sym t.0 ∙ q in cc e)
+  script_told halt.NoLines r h t q = absurd (let e : status.NoMemory ≡ status.ScriptFault = sym t.0 ∙ q in cc e)
   script_told (halt.Unmended text f) r h t q = absurd (let e : status.NotMendable f ≡ status.ScriptFault = sym t.0 ∙ q in cc e)
   script_told (halt.By s) r h t q = by t.0 where
     by : (r ≡ s) ⊎ (r ≡ status.NoMemory) → Rose read reading
@@ -62,7 +62,7 @@ module _ (what : Job) (left : Option (List ℕ)) (size : ℕ) (told new : Option
 
   pub image_told : (x : Halt) (r : Status) → IsRunHalt what left size told new read reading had has x → IsToldHalt old now before after x r → r ≡ status.ImageFault → Rose had has
   image_told (halt.Cut text) r h t q = h.1
-  image_told halt.Bare r h t q = h.1
+  image_told halt.NoLines r h t q = h.1
   image_told (halt.Unmended text f) r h t q = absurd (let e : status.NotMendable f ≡ status.ImageFault = sym t.0 ∙ q in cc e)
   image_told (halt.By s) r h t q = by t.0 where
     by : (r ≡ s) ⊎ (r ≡ status.NoMemory) → Rose had has
@@ -71,7 +71,7 @@ module _ (what : Job) (left : Option (List ℕ)) (size : ℕ) (told new : Option
 
   pub out_told : (x : Halt) (r : Status) → IsRunHalt what left size told new read reading had has x → IsToldHalt old now before after x r → r ≡ status.OutFault → Rose before after
   out_told (halt.Cut text) r h t q = absurd (let e : status.ImageFault ≡ status.OutFault = sym t.0 ∙ q in cc e)
-  out_told halt.Bare r h t q = absurd (let e : status.ImageFault ≡ status.OutFault = sym t.0 ∙ q in cc e)
+  out_told halt.NoLines r h t q = absurd (let e : status.NoMemory ≡ status.OutFault = sym t.0 ∙ q in cc e)
   out_told (halt.Unmended text f) r h t q = absurd (let e : status.NotMendable f ≡ status.OutFault = sym t.0 ∙ q in cc e)
   out_told (halt.By s) r h t q = by t.0 where
     by : (r ≡ s) ⊎ (r ≡ status.NoMemory) → Rose before after
@@ -96,7 +96,7 @@ module _ (what : Job) (left : Option (List ℕ)) (size : ℕ) (told new : Option
     pub written_told : (x : Halt) (r : Status) → IsRunHalt what left size told new read reading had has x → IsToldHalt old now before after x r
         → Writes R (IsLiveFaultText what left told new) told old now before after r
     written_told (halt.Cut text) r h t = subst (Writes R (IsLiveFaultText what left told new) told old now before after) (sym t.0) (text.items, inr h.2, t.1)
-    written_told halt.Bare r h t = subst (Writes R (IsLiveFaultText what left told new) told old now before after) (sym t.0) (status_text status.ImageFault, inr h.2, t.1)
+    written_told halt.NoLines r h t = subst (Writes R (IsLiveFaultText what left told new) told old now before after) (sym t.0) t.1
     written_told (halt.Unmended text f) r h t = subst (Writes R (IsLiveFaultText what left told new) told old now before after) (sym t.0) (text.items, h.2, t.1)
     written_told (halt.By s) r h t = by t.0 where
       by : (r ≡ s) ⊎ (r ≡ status.NoMemory) → Writes R (IsLiveFaultText what left told new) told old now before after r
@@ -132,7 +132,9 @@ module _ (what : Job) (left : Option (List ℕ)) (size : ℕ) (told new : Option
 
   pub after_told : (x : Halt) (r : Status) → IsRunHalt what left size told new read reading had has x → IsToldHalt old now before after x r → IsLiveImage what left told new r
   after_told (halt.Cut text) r h t = subst (IsLiveImage what left told new) (sym t.0) (cut_left text.items h.2)
-  after_told halt.Bare r h t = subst (IsLiveImage what left told new) (sym t.0) (cut_left (status_text status.ImageFault) h.2)
+  after_told halt.NoLines r h t =
+      subst (IsLiveImage what left told new) (sym t.0)
+      (inr (on_given left told (λ s bs. (text : List ℕ) × IsCut what s bs told new text) (λ s bs. IsLacking what s bs told new) (λ s bs c. inr c) h.2))
   after_told (halt.Unmended text f) r h t =
       subst (IsLiveImage what left told new) (sym t.0)
       (on_given left told (λ s bs. IsUnmended what s bs told new f text.items) (λ s bs. (u : List ℕ) × IsUnmended what s bs told new f u) (λ s bs u. (text.items, u)) h.2)

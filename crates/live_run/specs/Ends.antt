@@ -16,7 +16,6 @@ use Rattle.run_engine.specs.declared.over_mending.Halt.{Halt}
 use Rattle.run_engine.specs.declared.over_mending.Halt.TheVariants as halt
 use Rattle.run_engine.specs.Stops.{report_text, IsStopOf}
 use Rattle.run_engine.specs.Halts.{halt_of, IsMendedBy, IsHaltBy}
-use Rattle.run_engine.specs.Texts.{status_text}
 use Rattle.live_run.specs.declared.words.Job.{Job}
 use Rattle.live_run.specs.declared.words.Job.TheVariants as job
 use Rattle.live_run.specs.Lives.{IsCut, IsLacking, IsUnmended}
@@ -53,6 +52,6 @@ IsQuiet what script bs told new s = ⊥
 -- why there is none
 abbrev pub IsHalt : Job → Script → List Block → Option (List Block) → Option (List Block) → ℕ → ℕ → Halt → Type 0
 IsHalt what script bs told new had has (halt.Cut text) = Rose had has × IsCut what script bs told new text.items
-IsHalt what script bs told new had has halt.Bare = Rose had has × IsCut what script bs told new (status_text status.ImageFault)
+IsHalt what script bs told new had has halt.NoLines = Rose had has × ((text : List ℕ) × IsCut what script bs told new text)
 IsHalt what script bs told new had has (halt.Unmended text f) = Accepts bs × IsUnmended what script bs told new f text.items
 IsHalt what script bs told new had has (halt.By s) = IsQuiet what script bs told new s

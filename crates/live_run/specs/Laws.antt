@@ -1,5 +1,5 @@
 -- Of all statuses of a live call exactly one is due, and a good script on an accepted volume is answered.
-use Rattle.std.specs.Prelude.{◌≡◌, ℕ, Bool, true, List, Option, Some}
+use Rattle.std.specs.Prelude.{◌≡◌, ℕ, Bool, true, List, Option, Some, None, IfSome}
 use Rattle.base_words.specs.Fields.{Block}
 use Rattle.blk_drive.specs.Images.{IsInside}
 use Rattle.vol_parts.specs.declared.finding.Finding.{Finding}
@@ -31,3 +31,15 @@ OneLiveStatusIsDue = (what : Option Job) (bytes : List ℕ) (size : ℕ) (bs : L
 abbrev pub GoodLiveRunsAreAnswered : Type 0
 GoodLiveRunsAreAnswered = (what : Job) (bytes : List ℕ) (size : ℕ) (bs : List Block) (new : Option (List Block)) (s : Status) → IsGood bytes → IsInside size → Accepts bs
     → is_verdict_of (Some what) s ≡ true → IsDue (Some what) (Some bytes) size (Some bs) new s → s ≡ status.Ok
+
+-- ---- of one call
+
+-- where script and blocks are told, no other such status is due than that of the call
+abbrev pub IsAlone : Option Job → Option (List ℕ) → ℕ → Option (List Block) → Option (List Block) → Status → Type 0
+IsAlone what left size told new s = IfSome left (λ bytes. IfSome told (λ bs. (fs : List Finding) → AreFindings bs fs → is_verdict_of what s ≡ true
+    → (other : Status) → is_verdict_of what other ≡ true → IsDue what (Some bytes) size (Some bs) new other → other ≡ s))
+
+-- such a status of a good script on an accepted volume is Ok
+abbrev pub AnswersGood : Option Job → Option (List ℕ) → ℕ → Option (List Block) → Status → Type 0
+AnswersGood None left size told s = Unit {0}
+AnswersGood (Some what) left size told s = IfSome left (λ bytes. IfSome told (λ bs. IsGood bytes → IsInside size → Accepts bs → is_verdict_of (Some what) s ≡ true → s ≡ status.Ok))

@@ -4,3 +4,4 @@ pub mod Lives
 pub mod Ends
 pub mod Statuses
 pub mod Laws
+pub mod Calls

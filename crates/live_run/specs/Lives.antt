@@ -1,5 +1,5 @@
 -- What the threads of a script leave on a volume, and a mending behind them.
-use Rattle.std.specs.Prelude.{◌≡◌, ◌⊎◌, ℕ, List, Option, IfSome, is_some}
+use Rattle.std.specs.Prelude.{◌≡◌, ◌⊎◌, ℕ, List, take, Option, IfSome, is_some}
 use Rattle.base_words.specs.Fields.{Block}
 use Rattle.fx_home.specs.Homes.{home_read}
 use Rattle.plain_cat.specs.declared.cat.Cat.{Cat}
@@ -11,35 +11,49 @@ use Rattle.vol_parts.specs.Findings.{home_at, Accepts, CatOf}
 use Rattle.vol_faults.specs.Free.{IsGeometryBy}
 use Rattle.core_state.specs.Worlds.{Plain}
 use Rattle.core_state.specs.Goods.{Good}
+use Rattle.core_state.specs.Mounting.{IsMounted}
 use Rattle.blk_drive.specs.Telling.{told_as}
 use Rattle.core_state.specs.Uses.{UsesTheDrives}
 use Rattle.core_state.specs.Ends.{AllOver}
 use Rattle.run_engine.specs.Ended.{IsSpelt}
-use Rattle.run_engine.specs.declared.status.Status.TheVariants as status
+use Rattle.node_seat.specs.Steps.{stepped, IsReached}
 use Rattle.node_seat.specs.Keeping.{IsOrderly, IsAtFailedWrite}
 use Rattle.run_engine.specs.Torn.{CanStop, IsTornWorld}
 use Rattle.run_engine.specs.Stops.{report_text}
 use Rattle.run_engine.specs.Halts.{with_mending, IsPartlyBy, IsMendedBy, IsUnmendedBy}
-use Rattle.run_engine.specs.Texts.{cut_text, status_text}
+use Rattle.run_engine.specs.Texts.{cut_text}
 use Rattle.live_run.specs.declared.words.Job.{Job}
 use Rattle.live_run.specs.declared.words.Job.TheVariants as job
 
--- A world of a script on the volume of these blocks, in which nothing is found. Its history begins with the catalogue that they tell, and
--- the volume's parts are where the home block says. It keeps the rules of the core. Its history replays from that catalogue, and has
--- of each node its commands in their order. Nodes died only where the script kills them, and nothing was mended. A block that the next
--- turn of a node uses from the node's cache is the drive's. If the world stops there it leaves a catalogue, as which its drive mends.
+-- ---- the steps of the nodes
+
+-- wherever these steps are cut off, a block that a node uses from its cache in its next turn is the drive's
+abbrev pub StepsUseTheDrives : Plain → List ℕ → Type 0
+StepsUseTheDrives start ns = (k n : ℕ) → UsesTheDrives (stepped (take k ns) start) n
+
+-- wherever they are cut off, the world can stop: it leaves a catalogue, as which its drive mends
+abbrev pub StepsCanStop : Plain → List ℕ → Type 0
+StepsCanStop start ns = (k : ℕ) → CanStop (stepped (take k ns) start)
+
+-- A world of a script on the volume of these blocks, in which nothing is found. Steps of its nodes, in some order, have led to it from the
+-- volume as it is mounted, with its parts where the home block says: each step is the turn of its node, or the death that the script has
+-- in its place. Each block that a turn has used from a cache was the drive's, and each world on the way could stop. The world keeps the
+-- rules of the core. Its history begins with the catalogue that the blocks tell and replays from it, and has of each node its commands in
+-- their order. Nodes died only where the script kills them, and nothing was mended.
 pub record IsWorldOf (script : Script) (bs : List Block) (w : Plain) : Type 0 where
+  pub start : Plain
   pub accepted : Accepts bs
+  pub mounted : IsMounted bs script start
+  pub parts : IsGeometryBy bs (home_read (home_at bs)) start.geometry
+  pub reached : IsReached start w
+  pub used : StepsUseTheDrives start reached.nodes
+  pub stop : StepsCanStop start reached.nodes
   pub told : CatOf bs w.opening
-  pub parts : IsGeometryBy bs (home_read (home_at bs)) w.geometry
-  pub script_is : w.script ≡ script
   pub good : Good w
   pub cat : Cat
   pub replayed : Replays w.opening script w.history cat
   pub own : Own script w.history
   pub orderly : IsOrderly script w.history
-  pub used : (n : ℕ) → UsesTheDrives w n
-  pub stop : CanStop w
 
 -- ---- the threads alone
 
@@ -58,13 +72,13 @@ pub record IsLiveEnd (script : Script) (bs : List Block) (told new : Option (Lis
 
 -- A write failed. The image has the drive of such a world, or, if that block landed, of the one after the write, which has the same
 -- answers; if it tells its blocks, they mend as the catalogue that this world leaves as it stops. The text is the lines of the answers so
--- far, if they found memory, and that of the fault.
+-- far, and that of the fault.
 pub record IsLiveCut (script : Script) (bs : List Block) (told new : Option (List Block)) (text : List ℕ) : Type 0 where
   pub world : Plain
   pub live : IsWorldOf script bs world
   pub failed : IsAtFailedWrite (is_some told) new world
   pub torn : IfSome told (λ bs. IsTornWorld world failed.node new)
-  pub written : (text ≡ cut_text world.history) ⊎ (text ≡ status_text status.ImageFault)
+  pub written : text ≡ cut_text world.history
 
 -- the image has the drive of such a world
 pub record IsLiveDrive (script : Script) (bs : List Block) (told new : Option (List Block)) : Type 0 where
@@ -87,15 +101,15 @@ pub record IsLiveMended (script : Script) (bs : List Block) (told new : Option (
   pub mended : IsMendedBy over.end.world over.end.after told new text
   pub replayed : Replays over.end.world.opening script (with_mending over.end.world.history mended.done) mended.mended.after
 
--- The mending stopped on its way: what the image has mends to the same.
+-- The mending stopped on its way: what the image has mends to the same; if nothing can be mended, it has the drive.
 pub record IsLivePartly (script : Script) (bs : List Block) (told new : Option (List Block)) : Type 0 where
   pub over : IsLiveOver script bs told
-  pub part : IsPartlyBy over.end.after told new
+  pub part : IsPartlyBy over.end.world over.end.after told new
 
--- A write of the mending failed. The text is the lines of the history, if they found memory, and that of the fault.
+-- A write of the mending failed. The text is the lines of the history, and that of the fault.
 pub record IsLiveMendingCut (script : Script) (bs : List Block) (told new : Option (List Block)) (text : List ℕ) : Type 0 where
   pub partly : IsLivePartly script bs told new
-  pub written : (text ≡ cut_text partly.over.end.world.history) ⊎ (text ≡ status_text status.ImageFault)
+  pub written : text ≡ cut_text partly.over.end.world.history
 
 -- The drive cannot be mended. The image has it, and the text is the lines of the history and that of the finding.
 pub record IsLiveUnmended (script : Script) (bs : List Block) (told new : Option (List Block)) (f : Finding) (text : List ℕ) : Type 0 where
@@ -114,10 +128,14 @@ abbrev pub IsCut : Job → Script → List Block → Option (List Block) → Opt
 IsCut job.Live script bs told new text = IsLiveCut script bs told new text
 IsCut job.LiveRebuild script bs told new text = IsLiveCut script bs told new text ⊎ IsLiveMendingCut script bs told new text
 
--- what the image has then if memory was lacking
+-- what the image has as far as it came
+abbrev pub IsDriveOn : Job → Script → List Block → Option (List Block) → Option (List Block) → Type 0
+IsDriveOn job.Live script bs told new = IsLiveDrive script bs told new
+IsDriveOn job.LiveRebuild script bs told new = IsLiveDrive script bs told new ⊎ IsLivePartly script bs told new
+
+-- what it has if memory was lacking: for a step or for the report; or for the lines of the answers before a write that failed
 abbrev pub IsLacking : Job → Script → List Block → Option (List Block) → Option (List Block) → Type 0
-IsLacking job.Live script bs told new = IsLiveDrive script bs told new
-IsLacking job.LiveRebuild script bs told new = IsLiveDrive script bs told new ⊎ IsLivePartly script bs told new
+IsLacking what script bs told new = IsDriveOn what script bs told new ⊎ ((text : List ℕ) × IsCut what script bs told new text)
 
 -- the drive cannot be mended, by this finding and with this text
 abbrev pub IsUnmended : Job → Script → List Block → Option (List Block) → Option (List Block) → Finding → List ℕ → Type 0

@@ -29,7 +29,7 @@ IsImageEnd what script size told new had has s = ⊥
 -- why it came to none
 abbrev pub IsImageHalt : Job → Script → ℕ → Option (List Block) → Option (List Block) → ℕ → ℕ → Halt → Type 0
 IsImageHalt what script size told new had has (halt.Cut text) = Rose had has × IfSome told (λ bs. IsCut what script bs told new text.items)
-IsImageHalt what script size told new had has halt.Bare = Rose had has × IfSome told (λ bs. IsCut what script bs told new (status_text status.ImageFault))
+IsImageHalt what script size told new had has halt.NoLines = Rose had has × IfSome told (λ bs. (text : List ℕ) × IsCut what script bs told new text)
 IsImageHalt what script size told new had has (halt.Unmended text f) = IsAccepted size told × IfSome told (λ bs. IsUnmended what script bs told new f text.items)
 IsImageHalt what script size told new had has (halt.By s) = IsImageEnd what script size told new had has s
 
@@ -88,9 +88,9 @@ IsFaultTextOf None left told new s text = IsPlainText s text
 abbrev pub IsEndOn : Job → Option (List ℕ) → Option (List Block) → Option (List Block) → Type 0
 IsEndOn what left told new = OnGiven left told (λ script bs. (text : List ℕ) × IsEnd what script bs told new text)
 
--- After the call: what its end leaves; if the drive cannot be mended, that drive; after want of memory the old blocks, or the drive as far as
--- the call came, or one that mends to the same; after a fault of the image the old blocks, or what a write that failed has left. And else
--- the old blocks.
+-- After the call: what its end leaves; if the drive cannot be mended, that drive; after a fault of the image the old blocks, or what a write
+-- that failed has left; after want of memory the old blocks, or the drive as far as the call came, or one that mends to the same, or what a
+-- write that failed has left, if the lines of the answers before it found no memory. And else the old blocks.
 abbrev pub IsLiveImage : Job → Option (List ℕ) → Option (List Block) → Option (List Block) → Status → Type 0
 IsLiveImage what left told new status.Ok = IsEndOn what left told new
 IsLiveImage what left told new status.OutFault = IsEndOn what left told new
@@ -121,8 +121,8 @@ IsRunEnd what left size told new read reading had has s = ⊥
 abbrev pub IsRunHalt : Job → Option (List ℕ) → ℕ → Option (List Block) → Option (List Block) → ℕ → ℕ → ℕ → ℕ → Halt → Type 0
 IsRunHalt what left size told new read reading had has (halt.Cut text) =
     IfSome left IsGood × Rose had has × OnGiven left told (λ script bs. IsCut what script bs told new text.items)
-IsRunHalt what left size told new read reading had has halt.Bare =
-    IfSome left IsGood × Rose had has × OnGiven left told (λ script bs. IsCut what script bs told new (status_text status.ImageFault))
+IsRunHalt what left size told new read reading had has halt.NoLines =
+    IfSome left IsGood × Rose had has × OnGiven left told (λ script bs. (text : List ℕ) × IsCut what script bs told new text)
 IsRunHalt what left size told new read reading had has (halt.Unmended text f) =
     IfSome left IsGood × IsAccepted size told × OnGiven left told (λ script bs. IsUnmended what script bs told new f text.items)
 IsRunHalt what left size told new read reading had has (halt.By s) = IsRunEnd what left size told new read reading had has s

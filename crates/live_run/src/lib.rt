@@ -10,9 +10,13 @@
 //! returns: with status 0 the report is that of a history that replays from the catalogue of the volume, whole. A good script on an accepted
 //! volume is answered (`good_live_runs_are_answered`). That several threads ran, and that they made the events, tests show.
 //!
+//! `exit_call` makes the call with all of the words that it is given, in order, and answers the number of its status and the image, for which
+//! what the call says holds (`IsEnd`).
+//!
 //! The program `vmsclus_live` calls it.
 #![tactic(auto)]
 
+mod calling;
 mod gate;
 mod live;
 mod rest;
@@ -21,8 +25,9 @@ mod threads;
 mod top;
 mod words;
 
+pub use calling::exit_call;
 pub use gate::{Gate, OpenGate};
-pub use run_engine::{Finished, Status};
+pub use run_engine::{Called, Finished, Status, no_memory};
 pub use theorems::{good_live_runs_are_answered, one_live_status_is_due};
 pub use top::vmsclus_live;
 

@@ -2,7 +2,7 @@
 
 ghost use Rattle.std.specs.Prelude.{◌≡◌, IfOk, IfErr, All};
 ghost use Rattle.blk_drive.specs.Telling.{IsTold};
-ghost use Rattle.node_seat.specs.Keeping.{IsOrderly, start_of};
+ghost use Rattle.node_seat.specs.Keeping.{start_of};
 ghost use Rattle.node_seat.specs.Yards.{IsKeptBy};
 
 use crate::gate::Gate;
@@ -111,8 +111,7 @@ pub fn lived<R: Threads + Wait + Sync, W: Acts + Send, G: Gate + Sync>(
     world: W,
     gate: &G,
 ) -> Result<Parked<W>, YardRefusedOf<W>>
-    requires orderly { IsOrderly (W.world world).script (W.world world).history }
-    requires told { IsTold (W.told world) (W.world world).blocks }
+    requires { IsTold (W.told world) (W.world world).blocks }
     ensures kept { IfOk result (IsKeptBy W.world W.faults W.told (start_of (W.world world) (W.faults world) (W.told world))) }
     ensures back { IfErr result (λ r. r.world ≡ world) }
 {

@@ -166,10 +166,9 @@ passed-some lock seq (Some x) e h = (elim (is_under lock x && (seq == x.seq)) as
 pub found-some : (lbn : ℕ) (lock : LockName) (seq : ℕ) (es : List Cached) (e : Cached) → AreApart es → found lbn lock seq es ≡ Some e → find (is_for lbn) es ≡ Some e
 found-some lbn lock seq es e apart h = passed-some lock seq (find (is_for lbn) es) e (sym (found-find lbn lock seq es apart) ∙ h)
 
-used-at : (lbn : ℕ) (lock : LockName) (seq : ℕ) (es : List Cached) (o : Option Cached) → IsCache es → found lbn lock seq es ≡ o → IsCache (option_map_or (λ e. moved_to_front e es) o es)
-used-at lbn lock seq es None h at = h
-used-at lbn lock seq es (Some e) h at =
-    let first = found-some lbn lock seq es e h.apart at in
+-- the entry of a block in front
+pub cache-front : (lbn : ℕ) (e : Cached) (es : List Cached) → IsCache es → find (is_for lbn) es ≡ Some e → IsCache (moved_to_front e es)
+cache-front lbn e es h first =
     let same = is_for-same lbn e (find-first lbn es e first) in
     let there : is_some (find (is_for e.lbn) es) ≡ true = rw (same, first) refl in
     record {
@@ -178,6 +177,10 @@ used-at lbn lock seq es (Some e) h at =
           IsDistinct-cons nat_eq e.lbn (blocks_of (without e.lbn es)) (fresh-without e.lbn es)
           (apart-filter (λ x. not (is_for e.lbn x)) es h.apart);
     }
+
+used-at : (lbn : ℕ) (lock : LockName) (seq : ℕ) (es : List Cached) (o : Option Cached) → IsCache es → found lbn lock seq es ≡ o → IsCache (option_map_or (λ e. moved_to_front e es) o es)
+used-at lbn lock seq es None h at = h
+used-at lbn lock seq es (Some e) h at = cache-front lbn e es h (found-some lbn lock seq es e h.apart at)
 
 pub cache-used : (lbn : ℕ) (lock : LockName) (seq : ℕ) (es : List Cached) → IsCache es → IsCache (used lbn lock seq es)
 cache-used lbn lock seq es h = used-at lbn lock seq es (found lbn lock seq es) h refl

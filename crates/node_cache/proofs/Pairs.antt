@@ -1,5 +1,5 @@
 -- The words on the map underneath, on entries.
-use Rattle.std.proofs.Common.{◌≡◌, ◌∙◌, ◌-◌, ◌≤◌, ◌==◌, ◌&&◌, ◌||◌, ℕ, true, false, List, [], ◌∷◌, length, take, find, nat_eq, nat_le, Option, Some, None, is_some, option_map, if◌then◌else◌, refl, sym, ap, arith}
+use Rattle.std.proofs.Common.{◌≡◌, ◌∙◌, ◌-◌, ◌≤◌, ◌==◌, ◌&&◌, ℕ, true, false, List, [], ◌∷◌, length, take, find, nat_eq, nat_le, Option, Some, None, is_some, option_map, if◌then◌else◌, refl, sym, ap, arith}
 use Rattle.std.specs.Option.{option_map_or}
 use Rattle.std.specs.Map.{lookup, lookup_entry, remove_entry, set_value}
 use Rattle.lru.specs.LruCache.{promoted, put_entries, LruCache}
@@ -14,7 +14,7 @@ use Rattle.std.proofs.lemmas.List.{take_all}
 use Rattle.std.specs.List.{take-map, list_any}
 use Rattle.lru.proofs.Pairs.{lookup-lookup_entry}
 use Rattle.lru.proofs.CallerLemmas.{Contains-lookup_entry}
-use Rattle.node_cache.proofs.Entries.{first_out, AreApart, passed, NoneFor, apart-first, apart-rest, found-find, first_out-without, find-none, none-without, none-replaced, length-without, is_for-same}
+use Rattle.node_cache.proofs.Entries.{first_out, AreApart, passed, NoneFor, apart-first, apart-rest, found-find, first_out-without, find-none, none-without, none-replaced, length-without, is_for-same, cache-front}
 use Rattle.base_words.proofs.Booleans.{or_false}
 
 pub find-lookup_entry : (lbn : ℕ) (ps : List (ℕ × Held)) → find (is_for lbn) (entries_of ps) ≡ option_map entry_of (lookup_entry (nat_eq lbn) ps)
@@ -87,6 +87,17 @@ promoted-used lbn lock seq ps apart h =
     let q = lookup_entry (nat_eq lbn) ps in
     let f = found-find lbn lock seq (entries_of ps) apart ∙ ap (passed lock seq) (find-lookup_entry lbn ps) in
     promoted-at lbn lock seq ps apart q refl (ap is_some (sym f) ∙ h) ∙ ap (λ o. option_map_or (λ e. moved_to_front e (entries_of ps)) o (entries_of ps)) (sym f)
+
+front-at : (lbn : ℕ) (ps : List (ℕ × Held)) → IsCache (entries_of ps) → (q : Option (ℕ × Held)) → lookup_entry (nat_eq lbn) ps ≡ q → IsCache (entries_of (option_map_or (λ p. p ∷ remove_entry (nat_eq lbn) ps) q ps))
+front-at lbn ps is None at = is
+front-at lbn ps is (Some p) at =
+    let first = find-lookup_entry lbn ps ∙ ap (option_map entry_of) at in
+    let rest = rest-pair lbn ps is.apart ∙ ap (λ n. without n (entries_of ps)) (sym (key-pair lbn ps p at)) in
+    rw rest (cache-front lbn (entry_of p) (entries_of ps) is first)
+
+-- and a cache stays one, whichever pair is looked at
+pub promoted-cache : (lbn : ℕ) (ps : List (ℕ × Held)) → IsCache (entries_of ps) → IsCache (entries_of (promoted (nat_eq lbn) ps))
+promoted-cache lbn ps is = front-at lbn ps is (lookup_entry (nat_eq lbn) ps) refl
 
 block-at : (lock : LockName) (seq : ℕ) (q : Option (ℕ × Held)) → is_some (passed lock seq (option_map entry_of q)) ≡ true
     → option_map (λ (h : Held). h.block) (option_map (λ p. p.1) q) ≡ option_map (λ (e : Cached). e.block) (passed lock seq (option_map entry_of q))
@@ -202,3 +213,32 @@ no-block lbn lock seq es h = by_found (found lbn lock seq es) h where
   by_found : (o : Option Cached) → is_some o ≡ false → option_map (λ (e : Cached). e.block) o ≡ None
   by_found None f = refl
   by_found (Some e) f = absurd (let x : true ≡ false = f in cc)
+
+-- the bytes that a look finds, by what is held for the block
+abbrev looked : LockName → ℕ → Option Held → Option Block
+looked lock seq None = None
+looked lock seq (Some h) = if is_same lock h.lock && (seq == h.seq) then Some h.block else None
+
+looked-pair : (lock : LockName) (seq : ℕ) (q : Option (ℕ × Held)) → option_map (λ (e : Cached). e.block) (passed lock seq (option_map entry_of q)) ≡ looked lock seq (option_map (λ p. p.1) q)
+looked-pair lock seq None = refl
+looked-pair lock seq (Some p) = elim (is_same lock p.1.lock && (seq == p.1.seq)) as (λ b. option_map (λ (e : Cached). e.block) (if b then Some (entry_of p) else None) ≡ (if b then Some p.1.block else None)) [
+  | true ↦ refl
+  | false ↦ refl
+]
+
+looked_at : (lbn : ℕ) (lock : LockName) (seq : ℕ) (ps : List (ℕ × Held)) → AreApart (entries_of ps) → looked lock seq (lookup (nat_eq lbn) ps) ≡ option_map (λ (e : Cached). e.block) (found lbn lock seq (entries_of ps))
+looked_at lbn lock seq ps apart =
+    let f = found-find lbn lock seq (entries_of ps) apart ∙ ap (passed lock seq) (find-lookup_entry lbn ps) in
+    ap (looked lock seq) (sym (lookup-lookup_entry (nat_eq lbn) ps)) ∙ sym (looked-pair lock seq (lookup_entry (nat_eq lbn) ps)) ∙ ap (option_map (λ (e : Cached). e.block)) (sym f)
+
+-- where nothing is held for the block, or not what is looked for, or just that
+pub looked-none : (lbn : ℕ) (lock : LockName) (seq : ℕ) (ps : List (ℕ × Held)) → AreApart (entries_of ps) → lookup (nat_eq lbn) ps ≡ None → None ≡ option_map (λ (e : Cached). e.block) (found lbn lock seq (entries_of ps))
+looked-none lbn lock seq ps apart at = ap (looked lock seq) (sym at) ∙ looked_at lbn lock seq ps apart
+
+pub looked-other : (lbn : ℕ) (lock : LockName) (seq : ℕ) (ps : List (ℕ × Held)) (h : Held) → AreApart (entries_of ps) → lookup (nat_eq lbn) ps ≡ Some h → (is_same lock h.lock && (seq == h.seq)) ≡ false
+    → None ≡ option_map (λ (e : Cached). e.block) (found lbn lock seq (entries_of ps))
+looked-other lbn lock seq ps h apart at other = ap (λ b. if b then Some h.block else None) (sym other) ∙ ap (looked lock seq) (sym at) ∙ looked_at lbn lock seq ps apart
+
+pub looked-one : (lbn : ℕ) (lock : LockName) (seq : ℕ) (ps : List (ℕ × Held)) (h : Held) → AreApart (entries_of ps) → lookup (nat_eq lbn) ps ≡ Some h → (is_same lock h.lock && (seq == h.seq)) ≡ true
+    → Some h.block ≡ option_map (λ (e : Cached). e.block) (found lbn lock seq (entries_of ps))
+looked-one lbn lock seq ps h apart at one = ap (λ b. if b then Some h.block else None) (sym one) ∙ ap (looked lock seq) (sym at) ∙ looked_at lbn lock seq ps apart

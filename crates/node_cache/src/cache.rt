@@ -1,22 +1,21 @@
 //! The cache and its calls.
 
-ghost use Rattle.std.specs.Prelude.{◌≡◌, [], find, is_some, option_map, option_copied, IfOk, OnOk, OnErr};
+ghost use Rattle.std.specs.Prelude.{◌≡◌, ℕ, [], map, find, is_some, option_map, option_copied, IsSome, IfOk, OnOk, OnErr};
 ghost use Rattle.std.specs.List.{list_any, IsDistinct};
 ghost use Rattle.std.specs.Borrow.{sem};
+ghost use Rattle.lock_db.specs.declared.name.LockName.{LockName};
 ghost use Rattle.lock_db.specs.Names.{is_same};
 ghost use Rattle.node_cache.specs.Cached.{Cached, cached, IsCache, is_under, is_since, found, used, kept, replaced, without_lock, locks_of};
 
 use crate::held::Held;
 use crate::locks::{is_one, join};
+use crate::walk::{ENTRIES, LockWalk};
 use base_words::Block;
 use lock_db::{LockName, NoMemory};
 use lru::LruCache;
 use std::alloc::Global;
 use std::marker::Model;
 use std::num::NonZeroUsize;
-
-/// The most entries of a cache.
-const ENTRIES: usize = 64;
 
 /// A node's cache: at most 64 entries, in order of use.
 #[derive(Drop)]
@@ -66,17 +65,29 @@ impl NodeCache {
         }
     }
 
+    /// The block's bytes, exactly where there is an entry for it under the lock and with the sequence. All stay in their places.
+    pub fn peek(&self, lbn: u32, lock: LockName, seq: u64) -> Option<&Block>
+        ensures { option_copied result ≡ option_map (λ (e : Cached). e.block) (found lbn lock seq self.now) }
+    {
+        let held = self.cache.peek(&lbn)?;
+        if !held.is_current(lock, seq) {
+            return None;
+        }
+        Some(&held.block)
+    }
+
     /// A copy of the block's bytes, exactly where there is an entry for it under the lock and with the sequence.
     pub fn block(&self, lbn: u32, lock: LockName, seq: u64) -> Option<Block>
         ensures { result ≡ option_map (λ (e : Cached). e.block) (found lbn lock seq self.now) }
     {
-        if !self.is_current(lbn, lock, seq) {
-            return None;
-        }
-        match self.cache.peek(&lbn) {
-            Some(held) => Some(held.bytes()),
-            None => None,
-        }
+        Some(*self.peek(lbn, lock, seq)?)
+    }
+
+    /// Brings the entry for the block, under whatever lock and with whatever sequence it is, to the front. It takes no memory.
+    pub fn to_front(&mut self, lbn: u32)
+        ensures { (lock : LockName) (seq : ℕ) → IsSome (found lbn lock seq self.old) → self.new ≡ used lbn lock seq self.old }
+    {
+        self.cache.promote(&lbn);
     }
 
     /// Brings the entry for the block under the lock and with the sequence to the front. Where there is none, nothing changes. It
@@ -85,7 +96,7 @@ impl NodeCache {
         ensures { self.new ≡ used lbn lock seq self.old }
     {
         if self.is_current(lbn, lock, seq) {
-            self.cache.promote(&lbn);
+            self.to_front(lbn);
         }
     }
 
@@ -153,6 +164,17 @@ impl NodeCache {
         ensures cache { IsCache self.now }
     {
         self.first_under(lock).is_some()
+    }
+
+    /// A walk through the locks of the entries, which begins at the entry that was used longest ago. It takes no memory.
+    pub fn walk(&self) -> LockWalk
+        ensures { result ≡ map (λ (e : Cached). e.lock) self.now }
+    {
+        let mut walk = LockWalk::new();
+        for (_, held) in self.cache.iter() {
+            walk.append(held.lock);
+        }
+        walk
     }
 
     /// The locks of the entries, each once, by the order of their first entries.

@@ -31,13 +31,6 @@ impl Held {
         is_one(lock, self.lock) && seq <= self.seq
     }
 
-    /// A copy of its bytes.
-    pub(crate) fn bytes(&self) -> Block
-        ensures { result ≡ self.now.block }
-    {
-        self.block
-    }
-
     /// Gives it a new sequence and new bytes, where it was looked at under the lock.
     pub(crate) fn renew(&mut self, lock: LockName, seq: u64, b: &Block)
         ensures { self.new ≡ renewed lock seq b.now self.old }

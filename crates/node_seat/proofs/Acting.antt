@@ -3,7 +3,6 @@ use Rattle.std.proofs.Common.{◌≡◌, ◌≤◌, ◌⊎◌, ℕ, Bool, true, 
 use Rattle.std.specs.Prelude.{OnOk, OnErr}
 use Rattle.base_words.specs.Fields.{Block}
 use Rattle.base_words.specs.Faults.{Rose}
-use Rattle.plain_cat.specs.declared.script.Script.{Script}
 use Rattle.core_state.specs.Images.{IsTorn}
 use Rattle.blk_drive.specs.Telling.{IsTold}
 use Rattle.blk_drive.specs.Telling.{told_as}
@@ -14,8 +13,9 @@ use Rattle.core_step.specs.declared.turns.Turn.{Turn}
 use Rattle.core_step.specs.declared.turns.TurnFault.{TurnFault}
 use Rattle.core_step.specs.declared.turns.TurnFault.TheVariants.{ImageFault, NoMemory}
 use Rattle.node_seat.specs.declared.views.Start.{Start}
-use Rattle.node_seat.specs.Keeping.{IsKept, IsOrderly, telling, mark_of}
-use Rattle.node_seat.proofs.Following.{Follows, step_follows}
+use Rattle.node_seat.specs.Steps.{IsReached}
+use Rattle.node_seat.specs.Keeping.{IsKept, telling, mark_of}
+use Rattle.node_seat.proofs.Reaching.{reached_more}
 
 -- the image goes with the drive
 pub told_on : (tells : Bool) (told told' : Option (List Block)) (bs cs : List Block) → told ≡ telling tells bs → told' ≡ told_as told cs → told' ≡ telling tells cs
@@ -48,13 +48,8 @@ module _ (start : Start) (old new : Plain) (f f' : ℕ) (told told' : Option (Li
   -- an event that answers
   moved_on : (t : Turn) → new ≡ after_step old n → ((told' ≡ told_as told new.blocks) ⊎ (◌≡◌ {A = Result Turn TurnFault} (Ok t) (Err ImageFault))) → IsKept start new f' told' None
   moved_on t moved drive =
-      let s : Follows old new = subst (λ v. Follows old v) (sym moved) (step_follows old n) in
-      let P : Script → Type 0 = λ x. IsOrderly x new.history in
       record {
-        opening = s.opening ∙ k.opening;
-        geometry = s.geometry ∙ k.geometry;
-        script = s.script ∙ k.script;
-        orderly = subst P (sym s.script) (s.orderly k.orderly);
+        reached = subst (λ (v : Plain). IsReached start.world v) (sym moved) (reached_more start.world old n k.reached of_world);
         later = no_later;
         cause = λ e. absurd (none_marked e);
         image = elim drive [ inl d ↦ told_on start.tells told told' old.blocks new.blocks k.image d | inr d ↦ absurd (ok_err t d) ];
@@ -63,10 +58,7 @@ module _ (start : Start) (old new : Plain) (f f' : ℕ) (told told' : Option (Li
   -- one that fails for want of memory
   wanted : ((told' ≡ told_as told old.blocks) ⊎ (◌≡◌ {A = Result Turn TurnFault} (Err NoMemory) (Err ImageFault))) → IsKept start old f' told' (Some NoMemory)
   wanted drive = record {
-    opening = k.opening;
-    geometry = k.geometry;
-    script = k.script;
-    orderly = k.orderly;
+    reached = k.reached;
     later = no_later;
     cause = λ e. absurd (other_fault e);
     image = elim drive [ inl d ↦ told_on start.tells told told' old.blocks old.blocks k.image d | inr d ↦ absurd (no_err d) ];
@@ -75,10 +67,7 @@ module _ (start : Start) (old new : Plain) (f f' : ℕ) (told told' : Option (Li
   -- one whose write fails
   torn_off : is_due old n ≡ false → Rose f f' → is_write (next_event old n) ≡ true → IsTorn told told' old.blocks (after_step old n).blocks → IsKept start old f' told' (Some ImageFault)
   torn_off due rose write torn = record {
-    opening = k.opening;
-    geometry = k.geometry;
-    script = k.script;
-    orderly = k.orderly;
+    reached = k.reached;
     later = no_later;
     cause = λ e. grown start.count f f' k.later rose;
     image = record {

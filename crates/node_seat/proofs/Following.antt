@@ -36,7 +36,10 @@ one_more s h e kill plain o = record {
 as_before : (old new : Plain) → new.script ≡ old.script → new.opening ≡ old.opening → new.geometry ≡ old.geometry → new.history ≡ old.history → Follows old new
 as_before old new s o g h = record { script = s; opening = o; geometry = g; orderly = λ k. subst (λ (es : List Entry). IsOrderly old.script es) (sym h) k }
 
-then_follows : (a b c : Plain) → Follows a b → Follows b c → Follows a c
+pub stays_still : (w : Plain) → Follows w w
+stays_still w = as_before w w refl refl refl refl
+
+pub then_follows : (a b c : Plain) → Follows a b → Follows b c → Follows a c
 then_follows a b c p q = record {
   script = q.script ∙ p.script;
   opening = q.opening ∙ p.opening;

@@ -7,4 +7,5 @@ pub mod SplitSeat
 pub mod Perches
 pub mod Numbers
 pub mod Following
+pub mod Reaching
 pub mod Acting

@@ -12,10 +12,11 @@ use Rattle.core_state.specs.Events.{is_write, next_event}
 use Rattle.core_step.specs.declared.turns.TurnFault.{TurnFault}
 use Rattle.core_step.specs.declared.turns.TurnFault.TheVariants.{ImageFault}
 use Rattle.node_seat.specs.declared.views.Start.{Start}
+use Rattle.node_seat.specs.Steps.{IsReached}
 
 -- what a yard is opened with, where it takes this world, whose image has counted so many faults and tells this
 abbrev pub start_of : Plain → ℕ → Option (List Block) → Start
-start_of w faults told = record { opening = w.opening; geometry = w.geometry; script = w.script; count = faults; tells = is_some told }
+start_of w faults told = record { world = w; count = faults; tells = is_some told }
 
 -- what an image tells whose blocks are these, if it tells any
 abbrev pub telling : Bool → List Block → Option (List Block)
@@ -41,14 +42,10 @@ abbrev pub HasImage : Bool → Option (List Block) → Plain → Option TurnFaul
 HasImage tells told w (Some ImageFault) = IsAtFailedWrite tells told w
 HasImage tells told w other = told ≡ telling tells w.blocks
 
--- A world with this stop mark is one of this start: the catalogue with which its history begins, the places of the volume's parts and
--- its script are those, its nodes died only where the script kills them, nothing was mended, and its image has counted no fewer faults.
--- It counted one since then if the mark says that the image failed.
+-- A world with this stop mark is one of this start: steps of its nodes have led to it from the world with which the yard was opened, and its
+-- image has counted no fewer faults. It counted one since then if the mark says that the image failed.
 pub record IsKept (start : Start) (w : Plain) (faults : ℕ) (told : Option (List Block)) (mark : Option TurnFault) : Type 0 where
-  pub opening : w.opening ≡ start.opening
-  pub geometry : w.geometry ≡ start.geometry
-  pub script : w.script ≡ start.script
-  pub orderly : IsOrderly w.script w.history
+  pub reached : IsReached start.world w
   pub later : start.count ≤ faults
   pub cause : mark ≡ Some ImageFault → Rose start.count faults
   pub image : HasImage start.tells told w mark

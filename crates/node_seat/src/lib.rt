@@ -33,5 +33,5 @@ pub use parked::Parked;
 pub use perch::{Fresh, OwnPerch, YardOf};
 pub use seat::SeatOf;
 pub use turns::{OwnSeat, TableOf, Turns};
-pub use views::{SeatView, Start};
+pub use views::{PlainWorld, SeatView, Start};
 pub use worlds::{ClosedYard, NodeSeat, Seats, Yard, YardRefused};

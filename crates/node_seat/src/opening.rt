@@ -3,7 +3,7 @@
 ghost use Rattle.std.specs.Prelude.{◌≡◌, ◌≤◌, ◌<◌, ◌+◌, ℕ, [], true, false, IfOk, IfErr, All, map};
 ghost use Rattle.std.specs.List.{range_with_len};
 ghost use Rattle.blk_drive.specs.Telling.{IsTold};
-ghost use Rattle.node_seat.specs.Keeping.{IsOrderly, start_of};
+ghost use Rattle.node_seat.specs.Keeping.{start_of};
 
 use crate::acts::Acts;
 use crate::parked::Parked;
@@ -24,7 +24,7 @@ pub struct YardRefusedOf<W: Acts> {
 fn next_seat<W: Acts>(table: &TableOf<W>, own: &mut OwnSeat<W>, made: u8) -> SeatOf<W>
     requires table { (own.old.table_id ≡ table.now.shared.table_id) × (table.now.shared.table_id.words ≡ 2) }
     requires own { (own.old.me.0.number ≡ 9) × (own.old.me.0.splitting ≡ false) × (own.old.me.0.claims ≡ made) × (made < 8) }
-    requires more { made < own.old.me.0.start.script.nodes }
+    requires more { made < own.old.me.0.start.world.script.nodes }
     ensures table { (own.new.table_id ≡ own.old.table_id) × (own.new.id ≡ own.old.id) }
     ensures own { (own.new.me.0 ≡ record own.old.me.0 { claims = made + 1 }) × (own.new.me.1 ≡ own.old.me.1) }
     ensures seat { (result.seat.table_id ≡ own.old.table_id) × (result.number ≡ made + 1) }
@@ -46,7 +46,7 @@ fn all_seats<W: Acts>(
 ) -> Result<Vec<SeatOf<W>>, AllocError>
     requires table { (own.old.table_id ≡ table.now.shared.table_id) × (table.now.shared.table_id.words ≡ 2) }
     requires own { (own.old.me.0.number ≡ 9) × (own.old.me.0.splitting ≡ false) × (own.old.me.0.claims ≡ 0) }
-    requires nodes { (nodes ≤ 8) × (nodes ≤ own.old.me.0.start.script.nodes) }
+    requires nodes { (nodes ≤ 8) × (nodes ≤ own.old.me.0.start.world.script.nodes) }
     ensures table { (own.new.table_id ≡ own.old.table_id) × (own.new.id ≡ own.old.id) }
     ensures own { (claims : ℕ) × (own.new.me.0 ≡ record own.old.me.0 { claims = claims }) × (own.new.me.1 ≡ own.old.me.1) }
     ensures seats { IfOk result (λ seats. All (λ s. s.seat.table_id ≡ own.old.table_id) seats.items) }
@@ -64,7 +64,6 @@ fn put_in<W: Acts>(table: &TableOf<W>, own: &mut OwnSeat<W>, world: W)
     requires table { (own.old.table_id ≡ table.now.shared.table_id) × (table.now.shared.table_id.words ≡ 2) }
     requires own { (own.old.me.0.turn ≡ true) × (own.old.me.0.unopened ≡ true) × (own.old.me.1 ≡ []) }
     requires start { own.old.me.0.start ≡ start_of (W.world world) (W.faults world) (W.told world) }
-    requires orderly { IsOrderly (W.world world).script (W.world world).history }
     requires told { IsTold (W.told world) (W.world world).blocks }
     ensures table { (own.new.table_id ≡ own.old.table_id) × (own.new.id ≡ own.old.id) }
     ensures own { (own.new.me.0 ≡ record own.old.me.0 { turn = false; unopened = false }) × (own.new.me.1 ≡ []) }
@@ -86,7 +85,6 @@ fn filled<W: Acts>(table: TableOf<W>, mut own: OwnSeat<W>, world: W) -> YardOf<W
     requires table { (own.table_id ≡ table.shared.table_id) × (table.shared.table_id.words ≡ 2) }
     requires own { (own.me.0.number ≡ 9) × (own.me.0.splitting ≡ false) × (own.me.0.turn ≡ true) × (own.me.0.unopened ≡ true) × (own.me.1 ≡ []) }
     requires start { own.me.0.start ≡ start_of (W.world world) (W.faults world) (W.told world) }
-    requires orderly { IsOrderly (W.world world).script (W.world world).history }
     requires told { IsTold (W.told world) (W.world world).blocks }
     ensures table { result.table.shared.table_id ≡ table.shared.table_id }
     ensures start { result.own.view.start ≡ own.me.0.start }
@@ -96,15 +94,13 @@ fn filled<W: Acts>(table: TableOf<W>, mut own: OwnSeat<W>, world: W) -> YardOf<W
     YardOf { table, own }
 }
 
-/// Opens a yard with a world in which nodes died only where the script kills them and nothing was mended, and whose image has the drive's
-/// blocks, if it tells any: so it is as a world is mounted. The seats of its nodes come in order from node 1. If there is no memory for
-/// them, the world comes back.
+/// Opens a yard with a world whose image has the drive's blocks, if it tells any: so it is as a world is mounted. The seats of its nodes come
+/// in order from node 1. If there is no memory for them, the world comes back.
 pub fn open_yard<W: Acts>(
     alloc: Global,
     world: W,
 ) -> Result<(YardOf<W>, Vec<SeatOf<W>>), YardRefusedOf<W>>
-    requires orderly { IsOrderly (W.world world).script (W.world world).history }
-    requires told { IsTold (W.told world) (W.world world).blocks }
+    requires { IsTold (W.told world) (W.world world).blocks }
     ensures start { IfOk result (λ y. y.0.own.view.start ≡ start_of (W.world world) (W.faults world) (W.told world)) }
     ensures seats { IfOk result (λ y. All (λ s. s.seat.table_id ≡ y.0.table.shared.table_id) y.1.items) }
     ensures numbers { IfOk result (λ y. map (λ s. s.number) y.1.items ≡ range_with_len 1 (W.world world).script.nodes) }

@@ -21,7 +21,7 @@ pub struct SeatOf<W: Acts> {
     pub number: u8,
     pub seat: OwnSeat<W>,
     pub ghost idle: { (seat.me.1 ≡ []) × (seat.me.0.turn ≡ false) × (seat.me.0.unopened ≡ false) },
-    pub ghost node: { (seat.me.0.number ≡ number) × (1 ≤ number) × (number ≤ seat.me.0.start.script.nodes) },
+    pub ghost node: { (seat.me.0.number ≡ number) × (1 ≤ number) × (number ≤ seat.me.0.start.world.script.nodes) },
 }
 
 impl<W: Acts> SeatOf<W> {
@@ -57,7 +57,7 @@ fn step_as<R: Wait, W: Acts>(
     node: u8,
 ) -> Result<Turn, TurnFault>
     requires table { (seat.old.table_id ≡ table.now.shared.table_id) × (table.now.shared.table_id.words ≡ 2) }
-    requires node { (seat.old.me.0.number ≡ node) × (1 ≤ node) × (node ≤ seat.old.me.0.start.script.nodes) }
+    requires node { (seat.old.me.0.number ≡ node) × (1 ≤ node) × (node ≤ seat.old.me.0.start.world.script.nodes) }
     requires idle { (seat.old.me.1 ≡ []) × (seat.old.me.0.turn ≡ false) × (seat.old.me.0.unopened ≡ false) }
     ensures table { (seat.new.table_id ≡ seat.old.table_id) × (seat.new.id ≡ seat.old.id) }
     ensures same { (seat.new.me.0 ≡ seat.old.me.0) × (seat.new.me.1 ≡ []) }
@@ -79,7 +79,7 @@ fn one_event<W: Acts>(
     node: u8,
 ) -> Result<Turn, TurnFault>
     requires table { (seat.old.table_id ≡ table.now.shared.table_id) × (table.now.shared.table_id.words ≡ 2) }
-    requires node { (1 ≤ node) × (node ≤ seat.old.me.0.start.script.nodes) }
+    requires node { (1 ≤ node) × (node ≤ seat.old.me.0.start.world.script.nodes) }
     requires turn { (seat.old.me.0.turn ≡ true) × (seat.old.me.0.unopened ≡ false) }
     requires hand { (x : Option (Parked W)) × (seat.old.me.1 ≡ (0, x) ∷ []) × Kept W.world W.faults W.told seat.old.me.0.start x }
     ensures table { (seat.new.table_id ≡ seat.old.table_id) × (seat.new.id ≡ seat.old.id) }

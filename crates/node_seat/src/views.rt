@@ -1,13 +1,27 @@
-use plain_cat::{Cat, Script};
-use vol_parts::Geometry;
+//! What seats know, as plain data that stands in proofs alone.
 
-/// What a yard was opened with: the catalogue that the volume told as it was mounted, where its parts are, the script, how many faults the
-/// image had counted, and whether it tells its blocks. No value of it is made.
+use std::convert::Infallible;
+use std::marker::Model;
+
+/// A world as plain data. No value of it is made.
+#[derive(Drop)]
+pub struct PlainWorld {
+    never: Infallible,
+}
+
+impl Model for PlainWorld {
+    ghost use Rattle.core_state.specs.Worlds.{Plain};
+
+    ghost Value = { Plain };
+
+    ghost view = { λ w. elim w.never [ ] };
+}
+
+/// What a yard was opened with: the world, how many faults its image had counted, and whether the image tells its blocks. No value of it
+/// is made.
 #[derive(Drop)]
 pub struct Start {
-    pub opening: Cat,
-    pub geometry: Geometry,
-    pub script: Script,
+    pub world: PlainWorld,
     pub count: u64,
     pub tells: bool,
 }

@@ -10,19 +10,19 @@ ghost use Rattle.op_law.specs.Events.{next_of, space_of};
 ghost use Rattle.op_law.specs.Moving.{entries_of};
 ghost use Rattle.op_law.specs.Entering.{made_of, create_refusals, create_in, create_events, mkdir_refusals, mkdir_in, mkdir_events};
 ghost use Rattle.op_law.specs.Behind.{goes_on_by, blocks_alone, FollowsBy, HasFirst};
-ghost use Rattle.op_law.specs.Readable.{HeadIsInside};
+ghost use Rattle.op_law.specs.Readable.{HeadIsInside, HeadIsReadable, IsRead};
 ghost use Rattle.op_steps.specs.Names.{dir_seen, IsReadable};
 ghost use Rattle.op_steps.specs.Given.{IsOfVolume};
 ghost use Rattle.op_create.specs.Files.{entry_made, IsSound, IsNewIn};
 
 use crate::files::{NewFile, new_dir, new_file, numbered};
-use crate::judging::{create_refusal, mkdir_refusal};
+use crate::judging::{create_refusal, mkdir_refusal, version_after};
 use crate::slots::{Place, place_seen};
 use crate::writing::{entry_for, making_writes};
 use base_words::Block;
 use lock_db::LockName;
 use op_law::{Need, NoMemory, Plan, Rest, Seen, entries_seen, refused};
-use op_steps::{DirSeen, Names, clusters_for, names_seen, new_version};
+use op_steps::{DirSeen, Names, clusters_for, names_seen};
 use plain_cat::{Fid, Mode, Name, Reply, Uic};
 use plain_rules::dir_name;
 use std::alloc::Global;
@@ -72,6 +72,7 @@ fn create_judged(
 ) -> Result<Need, NoMemory>
     requires geometry { IsGeometry seen.now.geometry }
     requires readable { IsReadable d.now }
+    requires read { IsRead d.now.blocks.now }
     requires parent { d.now.fid.num ≤ 16777215 }
     requires name { is_name name.now ≡ true }
     requires version { ver ≤ 32767 }
@@ -82,8 +83,7 @@ fn create_judged(
     match place_seen(alloc, seen, owner, clusters, rest)? {
         Place::Next(need) => Ok(need),
         Place::Slot(quota, n, slot, last) => {
-            let entries = entries_seen(alloc, d.blocks)?;
-            let ver = new_version(&entries, name, ver);
+            let ver = version_after(d.blocks, name, ver);
             let f = new_file(name, ver, owner, clusters);
             made(alloc, seen, d, quota, &numbered(slot, &f), n, last)
         }
@@ -103,6 +103,7 @@ fn create_in(
 ) -> Result<Need, NoMemory>
     requires geometry { IsGeometry seen.now.geometry }
     requires readable { IsReadable d.now }
+    requires read { IsRead d.now.blocks.now }
     requires parent { d.now.fid.num ≤ 16777215 }
     requires name { is_name name.now ≡ true }
     requires version { ver ≤ 32767 }
@@ -135,6 +136,7 @@ pub(crate) fn create_next(
 ) -> Result<Need, NoMemory>
     requires geometry { IsGeometry seen.now.geometry }
     requires inside { HeadIsInside seen.now.blocks }
+    requires readable { HeadIsReadable dir seen.now.blocks }
     requires within { IsOfVolume seen.now.geometry seen.now.clusters seen.now.number }
     requires name { is_name name.now ≡ true }
     requires version { ver ≤ 32767 }

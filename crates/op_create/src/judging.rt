@@ -1,10 +1,16 @@
-//! What a directory refuses: a file, or a directory, that is to be entered there.
+//! What a directory refuses: a file, or a directory, that is to be entered there; and the version that a file gets there.
 
-ghost use Rattle.std.specs.Prelude.{◌≡◌, IfOk};
+ghost use Rattle.std.specs.Prelude.{◌≡◌, false, IfOk};
+ghost use Rattle.plain_rules.specs.Lookups.{versions};
+ghost use Rattle.plain_rules.specs.Directories.{new_version, is_last_version};
+ghost use Rattle.op_law.specs.Rows.{entries_seen};
+ghost use Rattle.op_law.specs.Behind.{blocks_alone};
+ghost use Rattle.op_law.specs.Readable.{IsRead};
 ghost use Rattle.plain_rules.specs.Answers.{first_refusal};
 ghost use Rattle.op_law.specs.Entering.{create_refusals, mkdir_refusals};
 
-use op_law::NoMemory;
+use base_words::Block;
+use op_law::{NoMemory, version_seen};
 use op_steps::{is_full, new_version};
 use plain_cat::{DirEnts, Name, Refusal};
 use plain_rules::{has_name, highest, with_version};
@@ -54,4 +60,19 @@ pub(crate) fn mkdir_refusal(
         return Ok(Some(Refusal::DirFull));
     }
     Ok(None)
+}
+
+/// The version of a new entry in a directory whose blocks were seen: one more than the highest, where it is 0. It takes no memory.
+pub(crate) fn version_after(seen: &[(u32, Block)], name: &Name, ver: u16) -> u16
+    requires read { IsRead seen.now }
+    requires last { is_last_version ver (versions name.now (entries_seen (blocks_alone seen.now))) ≡ false }
+    ensures { result ≡ new_version ver (versions name.now (entries_seen (blocks_alone seen.now))) }
+{
+    if ver != 0 {
+        return ver;
+    }
+    match version_seen(seen, name, 0) {
+        Some(v) => v.ver + 1,
+        None => 1,
+    }
 }

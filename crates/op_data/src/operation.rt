@@ -46,7 +46,7 @@ impl Operation for OpData {
     #[tactic(auto, unfolding(op_law::specs::Needs::events_of))]
     fn next(&self, alloc: Global, seen: &Seen) -> Result<Need, NoMemory> {
         match &self.cmd {
-            Cmd::ReadBlock { vbn, .. } => Ok(read_next(alloc, *vbn, seen)),
+            Cmd::ReadBlock { vbn, .. } => read_next(alloc, *vbn, seen),
             Cmd::WriteBlock { vbn, text, .. } => write_next(alloc, *vbn, text, seen),
             _ => unreachable!(),
         }

@@ -31,7 +31,7 @@ use Rattle.op_law.specs.declared.seen.Seen.{Seen}
 use Rattle.op_law.specs.Events.{Events, Take, Look, Make, Space, space_of, HasNoSpace, following, Follows}
 use Rattle.op_law.specs.Fits.{FitsSeen}
 use Rattle.op_law.specs.Moving.{SeenDir, entries_of, through_names, removal_writes}
-use Rattle.op_law.specs.Readable.{AreInside, HeadIsInside}
+use Rattle.op_law.specs.Readable.{AreInside, HeadIsInside, HeadIsReadable}
 use Rattle.op_law.specs.Refusing.{seen_file, used_in, if_file, if_entry}
 use Rattle.op_law.specs.Freeing.{through_space}
 use Rattle.op_law.specs.Removing.{under_lock, entry_removed, if_empty, delete_plan, delete_in}
@@ -39,6 +39,7 @@ use Rattle.op_law.specs.Rows.{plain_plan, is_number, refuses, live_in, look_all,
 use Rattle.vol_spell.specs.Entries.{places_in}
 use Rattle.op_law.specs.Writing.{plan_of, write_at, empty_handed}
 use Rattle.op_law.proofs.Counting.{few_places}
+use Rattle.op_law.proofs.Faultless.{through_readable}
 use Rattle.op_law.proofs.Heads.{header_is, header_inside, through_inside}
 use Rattle.op_law.proofs.Telling.{number_is, live_reads}
 use Rattle.op_delete.proofs.Walks.{behind, events_are}
@@ -180,6 +181,10 @@ module _ (dir : Fid) (name : List ℕ) (ver : ℕ) (seen : Seen) (f : FitsSeen (
 
   pub first_inside : HeadIsInside seen.blocks
   first_inside = through_inside g f.blocks f.own f.cat f.on.spelt dir _ _ seen.locks seen.blocks (space_of seen) _ f.on.stands order
+
+  -- the directory that was seen is read without a fault
+  pub first_readable : HeadIsReadable dir seen.blocks
+  first_readable = through_readable g f.blocks f.own f.cat f.on.spelt dir _ (space_of seen) _ _ seen.locks seen.blocks f.on.stands order
 
   pub blocks_few : (cs : List Block) → following (through_names g dir show) seen.locks seen.blocks (space_of seen) ≡ need.Ready (carry cs) → length cs ≤ 16
   blocks_few cs e =

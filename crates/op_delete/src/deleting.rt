@@ -13,7 +13,7 @@ ghost use Rattle.op_law.specs.Refusing.{if_entry};
 ghost use Rattle.op_law.specs.Writing.{plan_of};
 ghost use Rattle.op_law.specs.Moving.{entries_of, removal_writes};
 ghost use Rattle.op_law.specs.Behind.{goes_on_by, FollowsBy};
-ghost use Rattle.op_law.specs.Readable.{HeadIsInside};
+ghost use Rattle.op_law.specs.Readable.{HeadIsInside, IsRead};
 ghost use Rattle.op_law.specs.Freeing.{all_clusters, through_space};
 ghost use Rattle.op_law.specs.Removing.{delete_plan, delete_in, delete_events};
 ghost use Rattle.op_steps.specs.Names.{dir_seen, IsReadable as IsDirReadable};
@@ -27,8 +27,8 @@ use crate::naming::{Told, file_told};
 use crate::seeing::{Named, named_seen};
 use crate::writing::{push_removed, push_unnaming};
 use op_freeing::{Space, SpaceSeen, all_clusters, push_gone, space_seen};
-use op_law::{Ask, Need, NoMemory, Plan, Rest, Seen, Writes, entries_seen, refused};
-use op_steps::{DirSeen, FileSeen, Names, entry_found, names_seen};
+use op_law::{Ask, Need, NoMemory, Plan, Rest, Seen, Writes, entry_seen, refused};
+use op_steps::{DirSeen, FileSeen, Names, names_seen};
 use plain_cat::{Clusters, DirEnt, Fid, Mode, Name, Refusal, Reply, Stage};
 use std::alloc::Global;
 use vol_parts::Geometry;
@@ -95,6 +95,7 @@ fn deleted_by(
 ) -> Result<Need, NoMemory>
     requires geometry { IsGeometry g.now }
     requires dir { IsDirReadable d.now }
+    requires read { IsRead d.now.blocks.now }
     requires few { length d.now.blocks.now ≤ 16 }
     requires number { f.now.num ≤ g.now.files }
     requires readable { IsReadable f.now }
@@ -102,11 +103,10 @@ fn deleted_by(
     requires whole { IsWhole g.now clusters.now space.now }
     ensures { IfOk result (λ n. n ≡ need.Ready (plan_by (λ e. delete_plan g.now (dir_seen d.now) e (file_seen g.now f.now) (space_seen space.now)) (entry_of (versions name.now (entries_of (dir_seen d.now))) ver))) }
 {
-    let entries = entries_seen(alloc, d.blocks)?;
-    let Some(e) = entry_found(&entries, name, ver) else {
+    let Some(e) = entry_seen(alloc, d.blocks, name, ver)? else {
         return Ok(refused(alloc, Refusal::NoSuchFile));
     };
-    let plan = deleted(alloc, g, d, e, f, clusters, space)?;
+    let plan = deleted(alloc, g, d, &e, f, clusters, space)?;
     Ok(Need::Ready(plan))
 }
 
@@ -122,6 +122,7 @@ fn space_looked(
 ) -> Result<Need, NoMemory>
     requires geometry { IsGeometry g.now }
     requires dir { IsDirReadable d.now }
+    requires read { IsRead d.now.blocks.now }
     requires few { length d.now.blocks.now ≤ 16 }
     requires number { f.now.num ≤ g.now.files }
     requires readable { IsReadable f.now }
@@ -147,6 +148,7 @@ fn file_looked(
 ) -> Result<Need, NoMemory>
     requires geometry { IsGeometry g.now }
     requires dir { IsDirReadable d.now }
+    requires read { IsRead d.now.blocks.now }
     requires few { length d.now.blocks.now ≤ 16 }
     requires number { f.now.num ≤ g.now.files }
     requires readable { IsReadable f.now }
@@ -171,6 +173,7 @@ fn delete_in(
 ) -> Result<Need, NoMemory>
     requires geometry { IsGeometry g.now }
     requires entry { CanGo d.now e.now }
+    requires read { IsRead d.now.blocks.now }
     requires found { entry_of (versions name.now (entries_of (dir_seen d.now))) ver ≡ Some e.now }
     requires inside { HeadIsInside rest.blocks.now }
     ensures { IfOk result (λ need. (given : Given) → FollowsBy (delete_in g.now (dir_seen d.now) e.now) rest.entry given → goes_on_by (delete_in g.now (dir_seen d.now) e.now) rest.entry given ≡ need) }
@@ -196,19 +199,19 @@ fn entry_looked(
 ) -> Result<Need, NoMemory>
     requires geometry { IsGeometry g.now }
     requires readable { IsDirReadable d.now }
+    requires read { IsRead d.now.blocks.now }
     requires few { length d.now.blocks.now ≤ 16 }
     requires inside { HeadIsInside rest.blocks.now }
     ensures { IfOk result (λ need. (given : Given) → FollowsBy (if_entry (entry_of (versions name.now (entries_of (dir_seen d.now))) ver) (delete_in g.now (dir_seen d.now))) rest.entry given
         → goes_on_by (if_entry (entry_of (versions name.now (entries_of (dir_seen d.now))) ver) (delete_in g.now (dir_seen d.now))) rest.entry given ≡ need) }
 {
-    let entries = entries_seen(alloc, d.blocks)?;
-    let Some(e) = entry_found(&entries, name, ver) else {
+    let Some(e) = entry_seen(alloc, d.blocks, name, ver)? else {
         return Ok(refused(alloc, Refusal::NoSuchFile));
     };
     if e.fid.num <= 11 {
         return Ok(refused(alloc, Refusal::NoPriv));
     }
-    delete_in(alloc, g, d, name, ver, e, rest)
+    delete_in(alloc, g, d, name, ver, &e, rest)
 }
 
 // Behind the directory. Its entries are read where no more than the header of the file was seen behind it, and for the plan.
@@ -222,6 +225,7 @@ fn dir_looked(
 ) -> Result<Need, NoMemory>
     requires geometry { IsGeometry g.now }
     requires readable { IsDirReadable d.now }
+    requires read { IsRead d.now.blocks.now }
     requires few { length d.now.blocks.now ≤ 16 }
     requires number { d.now.fid.num ≤ g.now.files }
     requires locked { LockIsOf g.now rest.locks.now }

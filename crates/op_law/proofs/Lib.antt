@@ -2,6 +2,7 @@ pub mod Placing
 pub mod Telling
 pub mod Heads
 pub mod Looks
+pub mod Faultless
 pub mod Going
 pub mod Following
 pub mod Walking
@@ -18,6 +19,7 @@ pub mod Doing
 pub mod Asking
 pub mod Ordering
 pub mod Versions
+pub mod Wanted
 pub mod RemovalEnds
 pub mod Spaceless
 pub mod Opens

@@ -1,20 +1,10 @@
--- The entries of one name, and the version of a new one.
-use Rattle.std.proofs.Common.{◌≡◌, ◌≤◌, ◌+◌, ◌∙◌, ℕ, Bool, true, false, cond, List, [], ◌∷◌, refl, ap, arith}
+-- The version of a new entry.
+use Rattle.std.proofs.Common.{◌≡◌, ◌≤◌, ◌+◌, ℕ, Bool, true, false, cond, List, refl, arith}
 use Rattle.std.specs.Prelude.{◌==◌, ◌&&◌, nat_le}
-use Rattle.std.specs.Str.{bytes_eq}
 use Rattle.std.proofs.lemmas.Bool.Decides.{nat_tests}
 use Rattle.plain_cat.specs.declared.entries.DirEnt.{DirEnt}
-use Rattle.plain_rules.specs.Lookups.{versions, highest}
+use Rattle.plain_rules.specs.Lookups.{highest}
 use Rattle.plain_rules.specs.Directories.{new_version, is_last_version}
-
--- they have that name
-pub versions_twice : (name : List ℕ) (es : List DirEnt) → versions name (versions name es) ≡ versions name es
-versions_twice name [] = refl
-versions_twice name (e ∷ es) = by_test (bytes_eq e.name name) refl (versions_twice name es) where
-  by_test : (t : Bool) → bytes_eq e.name name ≡ t → versions name (versions name es) ≡ versions name es
-      → versions name (cond t (e ∷ versions name es) (versions name es)) ≡ cond t (e ∷ versions name es) (versions name es)
-  by_test true is more = ap (λ u. cond u (e ∷ versions name (versions name es)) (versions name (versions name es))) is ∙ ap (λ xs. e ∷ xs) more
-  by_test false is more = more
 
 -- a new version is one that an entry may have
 pub version_from : (ver : ℕ) (es : List DirEnt) → 1 ≤ new_version ver es

@@ -1,5 +1,5 @@
 -- What comes next behind the first of what a command has seen.
-use Rattle.std.specs.Prelude.{◌≡◌, ◌≤◌, ℕ, List, [], ◌∷◌, Option, Some, None, map, length}
+use Rattle.std.specs.Prelude.{◌≡◌, ◌≤◌, ℕ, List, [], ◌∷◌, Option, Some, None, map, length, take}
 use Rattle.base_words.specs.Fields.{Block}
 use Rattle.op_law.specs.declared.need.Need.{Need}
 use Rattle.op_law.specs.declared.seeing.Rest.{Rest}
@@ -62,6 +62,15 @@ FollowsAll next space (listed.Next need) = Unit {0}
 abbrev pub HasAtMost : ℕ → Listed → Type 0
 HasAtMost count (listed.All seen rest) = length seen.now ≤ count
 HasAtMost count (listed.Next need) = Unit {0}
+
+-- all places were seen, so none is the first that was not, and these are the first of the blocks that were seen
+pub record AreFirst (count : ℕ) (unseen : Option ℕ) (blocks seen : List (ℕ × Block)) : Type 0 where
+  pub none : unseen ≡ None
+  pub front : seen ≡ take count blocks
+
+abbrev pub ListsFirst : ℕ → Option ℕ → List (ℕ × Block) → Listed → Type 0
+ListsFirst count unseen blocks (listed.All seen rest) = AreFirst count unseen blocks seen.now
+ListsFirst count unseen blocks (listed.Next need) = Unit {0}
 
 -- behind the header of a directory and its blocks
 abbrev pub behind_directory : (Block → List Block → Events) → Space → Listing → Need

@@ -1,22 +1,22 @@
 //! The events that commands have in common, each worked out.
 
-ghost use Rattle.std.specs.Prelude.{◌≡◌, ◌+◌, IfOk, IfSome, map, length, slice_get};
-ghost use Rattle.std.specs.Str.{bytes_eq};
-ghost use Rattle.plain_rules.specs.Lookups.{versions};
-ghost use Rattle.vol_parts.specs.Catalogues.{plain_entry};
+ghost use Rattle.std.specs.Prelude.{◌≡◌, ◌+◌, IfOk, IfSome, option_map, map, length, slice_get};
+ghost use Rattle.fx_dir.specs.Directory.{all_entries};
+ghost use Rattle.fx_dir.specs.Wanted.{wanted_in, version_of};
+ghost use Rattle.plain_rules.specs.Lookups.{versions, entry_of};
 ghost use Rattle.op_law.specs.Rows.{answered, refused, is_number, live_in, entries_seen};
 ghost use Rattle.vol_spell.specs.Entries.{places_in};
 ghost use Rattle.op_law.specs.Behind.{blocks_alone};
-ghost use Rattle.op_law.specs.Readable.{HasMap, AreInside};
+ghost use Rattle.op_law.specs.Readable.{HasMap, AreInside, IsRead, version_told};
 
 use crate::lists::Writes;
 use crate::need::{Need, Plan};
 use base_words::Block;
-use fx_dir::{DirFault, RawEnt, read_dir};
+use fx_dir::{Version, find_in};
 use fx_header::{Hdr, Slot, read_header, runs};
-use plain_cat::{Blocks, DirEnts, Fid, Name, NoMemory, Refusal, Reply};
-use std::alloc::{AllocError, Global};
-use vol_parts::{Geometry, plain_entry, read_entries};
+use plain_cat::{Blocks, DirEnt, DirEnts, Fid, Name, NoMemory, Refusal, Reply};
+use std::alloc::Global;
+use vol_parts::{Geometry, read_entries};
 
 /// Nothing more is needed, and nothing is written: the reply. It takes no memory.
 pub fn answered(alloc: Global, reply: Reply) -> Need
@@ -90,26 +90,6 @@ pub fn blocks_of(alloc: Global, seen: &[(u32, Block)]) -> Result<Blocks, NoMemor
     Ok(blocks)
 }
 
-// Whether an entry has this name.
-fn is_named(e: &RawEnt, name: &Name) -> bool
-    ensures { result ≡ bytes_eq e.now.name name.now }
-{
-    e.name.bytes() == name.items()
-}
-
-// The entries of a name.
-fn plain_versions(alloc: Global, found: &[RawEnt], name: &Name) -> Result<DirEnts, NoMemory>
-    ensures { IfOk result (λ entries. entries ≡ versions name.now (map plain_entry found.now)) }
-{
-    let mut entries = DirEnts::new(alloc);
-    for e in found {
-        if is_named(e, name) {
-            entries.push(plain_entry(alloc, e)?)?;
-        }
-    }
-    Ok(entries)
-}
-
 /// The entries of a directory whose blocks were seen, in order; none where the blocks have a fault. An error says that memory
 /// ran out.
 pub fn entries_seen(alloc: Global, seen: &[(u32, Block)]) -> Result<DirEnts, NoMemory>
@@ -118,15 +98,47 @@ pub fn entries_seen(alloc: Global, seen: &[(u32, Block)]) -> Result<DirEnts, NoM
     read_entries(alloc, blocks_of(alloc, seen)?.items())
 }
 
-/// Those of them that have this name, by falling version. An error says that memory ran out.
-pub fn versions_seen(alloc: Global, seen: &[(u32, Block)], name: &Name) -> Result<DirEnts, NoMemory>
-    ensures { IfOk result (λ entries. entries ≡ versions name.now (entries_seen (blocks_alone seen.now))) }
+// The entry of this name and version in the first block that has one, without its name.
+fn first_found(seen: &[(u32, Block)], name: &[u8], ver: u16) -> Option<Version>
+    requires { IsRead seen.now }
+    ensures { result ≡ option_map version_of (wanted_in name.now ver (all_entries (blocks_alone seen.now))) }
 {
-    match read_dir(alloc, blocks_of(alloc, seen)?.items()) {
-        Ok(found) => plain_versions(alloc, found.as_slice(), name),
-        Err(DirFault::NoMemory) => Err(AllocError),
-        Err(DirFault::BadRecord(_)) => Ok(DirEnts::new(alloc)),
-        Err(DirFault::BadOrder) => Ok(DirEnts::new(alloc)),
-        Err(DirFault::Clash) => Ok(DirEnts::new(alloc)),
+    for (_, block) in seen {
+        if let Some(found) = find_in(block, name, ver) {
+            return Some(found);
+        }
     }
+    None
+}
+
+/// The entry of this name and version in a directory whose blocks were seen, without its name: the highest of the name where the
+/// version is 0. The blocks are read without a fault. It takes no memory.
+pub fn version_seen(seen: &[(u32, Block)], name: &Name, ver: u16) -> Option<Version>
+    requires { IsRead seen.now }
+    ensures { result ≡ option_map version_told (entry_of (versions name.now (entries_seen (blocks_alone seen.now))) ver) }
+{
+    first_found(seen, name.items(), ver)
+}
+
+/// The same with its name. An error says that memory ran out.
+pub fn entry_seen(
+    alloc: Global,
+    seen: &[(u32, Block)],
+    name: &Name,
+    ver: u16,
+) -> Result<Option<DirEnt>, NoMemory>
+    requires { IsRead seen.now }
+    ensures { IfOk result (λ o. o ≡ entry_of (versions name.now (entries_seen (blocks_alone seen.now))) ver) }
+{
+    let Some(v) = version_seen(seen, name, ver) else {
+        return Ok(None);
+    };
+    Ok(Some(DirEnt {
+        name: name.copy(alloc)?,
+        ver: v.ver,
+        fid: Fid {
+            num: v.num,
+            seq: v.seq,
+        },
+    }))
 }

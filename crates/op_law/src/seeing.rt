@@ -7,8 +7,8 @@ ghost use Rattle.vol_parts.specs.Parts.{IsGeometry};
 ghost use Rattle.vol_spell.specs.Reading.{header_place};
 ghost use Rattle.op_law.specs.Events.{Events, Take, Look, Space, following};
 ghost use Rattle.op_law.specs.Rows.{look_all, through_header, through_directory, in_directory, live_in};
-ghost use Rattle.op_law.specs.Readable.{AreInside, HeadIsInside};
-ghost use Rattle.op_law.specs.Behind.{behind_lock, behind_block, behind_all, behind_directory, FollowsBy, FollowsLock, FollowsBlock, FollowsAll, HasBlocks, HasAtMost, IsHeadOf};
+ghost use Rattle.op_law.specs.Readable.{AreInside, HeadIsInside, BodyIsRead, HeadIsReadable, ListedRead, ListsRead};
+ghost use Rattle.op_law.specs.Behind.{behind_lock, behind_block, behind_all, behind_directory, FollowsBy, FollowsLock, FollowsBlock, FollowsAll, HasBlocks, HasAtMost, ListsFirst, IsHeadOf};
 
 use crate::need::Need;
 use crate::rows::{is_number, live_in, place_in, refused};
@@ -110,6 +110,7 @@ pub fn blocks_seen<'a>(
     rest: Rest<'a>,
 ) -> Listed<'a>
     ensures few { HasAtMost count result }
+    ensures first { ListsFirst count unseen rest.entry.blocks.now result }
     ensures need { (places : List ℕ) (next : List Block → Events) (space : Space) → length places ≡ count → slice_get places (length rest.entry.blocks.now) ≡ unseen
         → following (look_all name places next) rest.entry.locks.now rest.entry.blocks.now space ≡ behind_all next space result }
     ensures follows { (places : List ℕ) (next : List Block → Events) (space : Space) → length places ≡ count → slice_get places (length rest.entry.blocks.now) ≡ unseen
@@ -162,7 +163,8 @@ pub fn header_seen<'a>(
 /// The blocks of a live directory with this header. It takes no memory.
 pub fn entries_looked<'a>(alloc: Global, dir: Fid, header: &Block, rest: Rest<'a>) -> Listed<'a>
     requires { AreInside header.now }
-    ensures { (next : List Block → Events) (space : Space) → following (in_directory dir header.now next (live_in dir.seq header.now)) rest.entry.locks.now rest.entry.blocks.now space ≡ behind_all next space result }
+    ensures read { BodyIsRead dir header.now rest.entry.blocks.now → ListedRead result }
+    ensures need { (next : List Block → Events) (space : Space) → following (in_directory dir header.now next (live_in dir.seq header.now)) rest.entry.locks.now rest.entry.blocks.now space ≡ behind_all next space result }
 {
     let Some(h) = live_in(header, dir.seq) else {
         return Listed::Next(refused(alloc, Refusal::NoSuchFile));
@@ -184,7 +186,8 @@ pub fn directory_seen<'a>(
 ) -> Listing<'a>
     requires geometry { IsGeometry g.now }
     requires inside { HeadIsInside rest.blocks.now }
-    ensures { (next : Block → List Block → Events) (space : Space) → following (through_directory g.now dir mode next) rest.entry.locks.now rest.entry.blocks.now space ≡ behind_directory next space result }
+    ensures read { HeadIsReadable dir rest.entry.blocks.now → ListsRead result }
+    ensures need { (next : Block → List Block → Events) (space : Space) → following (through_directory g.now dir mode next) rest.entry.locks.now rest.entry.blocks.now space ≡ behind_directory next space result }
 {
     match header_seen(alloc, g, dir, mode, rest) {
         Looked::Next(need) => Listing::Next(need),

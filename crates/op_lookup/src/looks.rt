@@ -2,21 +2,35 @@
 
 ghost use Rattle.std.specs.Prelude.{◌≡◌, IfOk};
 ghost use Rattle.vol_parts.specs.Parts.{IsGeometry};
-ghost use Rattle.op_law.specs.Readable.{HeadIsInside};
+ghost use Rattle.op_law.specs.Readable.{HeadIsInside, HeadIsReadable};
+ghost use Rattle.plain_rules.specs.Lookups.{found};
 ghost use Rattle.op_law.specs.Events.{next_of};
 ghost use Rattle.op_law.specs.Needs.{facts_of, lookup_events, list_events, stat_events};
 
 use fx_header::Hdr;
 use op_law::{
-    Listing, Looked, Need, NoMemory, Seen, answered, directory_seen, entries_seen, header_seen,
-    live_in, refused, versions_seen,
+    Listing, Looked, Need, NoMemory, Seen, answered, directory_seen, entries_seen, entry_seen,
+    header_seen, live_in, refused,
 };
-use plain_cat::{Fid, Mode, Name, Refusal, Reply, Uic};
-use plain_rules::look_up;
+use plain_cat::{DirEnt, Fid, Mode, Name, Refusal, Reply, Uic};
 use std::alloc::Global;
 
+// What a look-up answers.
+fn found(entry: Option<DirEnt>) -> Reply
+    ensures { result ≡ found entry }
+{
+    match entry {
+        Some(e) => Reply::Found {
+            fid: e.fid,
+            name: e.name,
+            ver: e.ver,
+        },
+        None => Reply::Refused(Refusal::NoSuchFile),
+    }
+}
+
 // LOOKUP
-#[tactic(auto, using(op_law::proofs::Versions::versions_twice), unfolding(op_law::specs::Needs::lookup_events))]
+#[tactic(auto, unfolding(op_law::specs::Needs::lookup_events))]
 pub(crate) fn lookup_next(
     alloc: Global,
     dir: Fid,
@@ -26,13 +40,14 @@ pub(crate) fn lookup_next(
 ) -> Result<Need, NoMemory>
     requires geometry { IsGeometry seen.now.geometry }
     requires inside { HeadIsInside seen.now.blocks }
+    requires readable { HeadIsReadable dir seen.now.blocks }
     ensures { IfOk result (λ need. need ≡ next_of (lookup_events seen.now.geometry dir name.now ver) seen.now) }
 {
     match directory_seen(alloc, &seen.geometry, dir, Mode::PR, seen.all()) {
         Listing::Next(need) => Ok(need),
         Listing::All(_, blocks, _) => {
-            let entries = versions_seen(alloc, blocks, name)?;
-            Ok(answered(alloc, look_up(alloc, &entries, name, ver)?))
+            let entry = entry_seen(alloc, blocks, name, ver)?;
+            Ok(answered(alloc, found(entry)))
         }
     }
 }

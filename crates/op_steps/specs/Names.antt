@@ -6,7 +6,7 @@ use Rattle.op_law.specs.declared.need.Need.{Need}
 use Rattle.op_law.specs.Events.{Events, Space}
 use Rattle.op_law.specs.Moving.{SeenDir}
 use Rattle.op_law.specs.Behind.{goes_on_by, blocks_alone, FollowsBy}
-use Rattle.op_law.specs.Readable.{HasMap, AreInside}
+use Rattle.op_law.specs.Readable.{HasMap, AreInside, IsRead}
 use Rattle.op_steps.specs.declared.names.DirSeen.{DirSeen}
 use Rattle.op_steps.specs.declared.names.Names.{Names}
 use Rattle.op_steps.specs.declared.names.Names.TheVariants as names
@@ -35,6 +35,11 @@ pub record IsReadable (d : DirSeen) : Type 0 where
 abbrev pub ShowsReadable : Names → Type 0
 ShowsReadable (names.All d rest) = IsReadable d
 ShowsReadable (names.Next need) = Unit {0}
+
+-- its blocks are read without a fault
+abbrev pub ShowsRead : Names → Type 0
+ShowsRead (names.All d rest) = IsRead d.blocks.now
+ShowsRead (names.Next need) = Unit {0}
 
 -- the directory that was seen is that of this identifier
 abbrev pub IsDirectory : Fid → Names → Type 0

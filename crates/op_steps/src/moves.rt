@@ -1,8 +1,9 @@
 //! The writes that enter an entry into a directory, and those that remove one.
 
-ghost use Rattle.std.specs.Prelude.{◌≡◌, ◌<◌, ◌++◌, ◌^◌, true, false, is_ok, length, IfOk, OnOk};
-ghost use Rattle.std.specs.Result.{ForOk};
+ghost use Rattle.std.specs.Prelude.{◌≡◌, ◌<◌, ◌++◌, ◌^◌, true, false, option_map, length, IfOk, IfSome, OnOk};
+ghost use Rattle.std.specs.Result.{ForOk, result_ok};
 ghost use Rattle.fx_dir.specs.Writing.{IsInForm};
+ghost use Rattle.fx_dir.specs.Lists.{Each};
 ghost use Rattle.fx_dir.specs.Entries.{has};
 ghost use Rattle.fx_dir.specs.Directory.{directory};
 ghost use Rattle.fx_dir.specs.Moves.{key};
@@ -13,36 +14,38 @@ ghost use Rattle.vol_spell.specs.Entries.{raw_entry};
 ghost use Rattle.op_steps.specs.Names.{dir_seen, IsReadable};
 
 use crate::names::DirSeen;
-use fx_dir::{DirFault, Move, RawEnt, RawName, insert_moves, pack_moves, read_dir, remove_moves};
+use fx_dir::{DirFault, Move, RawEnt, RawName, insert_into, read_dir, remove_from};
 use lock_db::LockName;
 use op_law::{NoMemory, Numbers, PlanWrite, Writes, blocks_of, place_in};
 use plain_cat::{Blocks, Clusters, DirEnt, Stage};
 use std::alloc::{AllocError, Global};
 
 // An entry as a directory's blocks have it.
-fn raw_entry(alloc: Global, e: &DirEnt) -> Result<RawEnt, NoMemory>
-    ensures { IfOk result (λ raw. raw ≡ raw_entry e.now) }
+fn raw_entry(e: &DirEnt) -> RawEnt
+    requires { IsInForm (raw_entry e.now) }
+    ensures { result ≡ raw_entry e.now }
 {
-    Ok(RawEnt {
-        name: RawName::new(alloc, e.name.items())?,
+    RawEnt {
+        name: RawName::new(e.name.items()),
         ver: e.ver,
         num: e.fid.num,
         seq: e.fid.seq,
         limit: 32767,
         flags: 0,
-    })
+    }
 }
 
-/// Whether blocks are read as a directory. An error says that memory ran out.
-pub fn is_directory(alloc: Global, blocks: &Blocks) -> Result<bool, NoMemory>
-    ensures { IfOk result (λ b. b ≡ is_ok (directory blocks.now)) }
+// The entries of blocks, or none where these are not read as a directory. An error says that memory ran out.
+fn entries_in(alloc: Global, blocks: &Blocks) -> Result<Option<Vec<RawEnt>>, NoMemory>
+    ensures read { IfOk result (λ o. option_map (λ es. es.items) o ≡ result_ok (directory blocks.now)) }
+    ensures form { IfOk result (λ o. IfSome o (λ es. Each IsInForm es.items)) }
 {
     match read_dir(alloc, blocks.items()) {
-        Ok(_) => Ok(true),
+        Ok(es) => Ok(Some(es)),
         Err(DirFault::NoMemory) => Err(AllocError),
-        Err(DirFault::BadRecord(_)) => Ok(false),
-        Err(DirFault::BadOrder) => Ok(false),
-        Err(DirFault::Clash) => Ok(false),
+        Err(DirFault::BadRecord(_)) => Ok(None),
+        Err(DirFault::BadOrder) => Ok(None),
+        Err(DirFault::Clash) => Ok(None),
     }
 }
 
@@ -54,10 +57,10 @@ pub fn insertion_moves(alloc: Global, d: &DirSeen<'_>, e: &DirEnt) -> Result<Vec
     ensures { IfOk result (λ ms. ms.items ≡ insertion_moves (dir_seen d.now) e.now) }
 {
     let blocks = blocks_of(alloc, d.blocks)?;
-    if !is_directory(alloc, &blocks)? {
+    let Some(es) = entries_in(alloc, &blocks)? else {
         return Ok(Vec::new(alloc));
-    }
-    match insert_moves(alloc, blocks.items(), &raw_entry(alloc, e)?)? {
+    };
+    match insert_into(alloc, blocks.items(), es.as_slice(), &raw_entry(e))? {
         Some(moves) => Ok(moves),
         None => Ok(Vec::new(alloc)),
     }
@@ -141,17 +144,16 @@ pub fn push_removal(
     requires there { ForOk (directory blocks.now) (λ es. has es (key e.now.name e.now.ver) ≡ true) }
     ensures { OnOk result (writes.new ≡ writes.old ++ removal_writes (record (dir_seen d.now) { blocks = blocks.now }) e.now before after) }
 {
-    if !is_directory(alloc, blocks)? {
+    let Some(es) = entries_in(alloc, blocks)? else {
         return Ok(());
-    }
-    let packing = pack_moves(alloc, blocks.items())?;
-    let moves = remove_moves(alloc, blocks.items(), e.name.items(), e.ver)?;
+    };
+    let removal = remove_from(alloc, blocks.items(), es.as_slice(), e.name.items(), e.ver)?;
     push_moves(
         alloc,
         writes,
         d,
-        moves.as_slice(),
-        packing.len(),
+        removal.moves.as_slice(),
+        removal.packing,
         before,
         after,
     )

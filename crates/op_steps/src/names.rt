@@ -7,9 +7,9 @@ ghost use Rattle.vol_parts.specs.Parts.{IsGeometry};
 ghost use Rattle.op_law.specs.Events.{Events, Space, following};
 ghost use Rattle.op_law.specs.Rows.{in_directory, live_in};
 ghost use Rattle.op_law.specs.Moving.{SeenDir, through_names, is_full};
-ghost use Rattle.op_law.specs.Readable.{AreInside, HeadIsInside};
+ghost use Rattle.op_law.specs.Readable.{AreInside, HeadIsInside, BodyIsRead, HeadIsReadable};
 ghost use Rattle.op_law.specs.Behind.{FollowsBy};
-ghost use Rattle.op_steps.specs.Names.{behind_names, FollowsNames, ShowsReadable, IsDirectory, IsNumbered};
+ghost use Rattle.op_steps.specs.Names.{behind_names, FollowsNames, ShowsReadable, ShowsRead, IsDirectory, IsNumbered};
 
 use base_words::Block;
 use lock_db::LockName;
@@ -48,6 +48,7 @@ pub enum Names<'a> {
 fn blocks_listed<'a>(alloc: Global, dir: Fid, head: &'a Block, rest: Rest<'a>) -> Names<'a>
     requires { AreInside head.now }
     ensures readable { ShowsReadable result }
+    ensures read { BodyIsRead dir head.now rest.entry.blocks.now → ShowsRead result }
     ensures of { IsDirectory dir result }
     ensures need { (next : SeenDir → Events) (space : Space) → following (in_directory dir head.now (λ bs. next (record { fid = dir; head = head.now; blocks = bs })) (live_in dir.seq head.now)) rest.entry.locks.now rest.entry.blocks.now space ≡ behind_names next space result }
     ensures follows { (next : SeenDir → Events) (space : Space) → FollowsBy (in_directory dir head.now (λ bs. next (record { fid = dir; head = head.now; blocks = bs })) (live_in dir.seq head.now)) rest.entry space → FollowsNames next space result }
@@ -77,6 +78,7 @@ pub fn names_seen<'a>(alloc: Global, g: &Geometry, dir: Fid, rest: Rest<'a>) -> 
     requires geometry { IsGeometry g.now }
     requires inside { HeadIsInside rest.blocks.now }
     ensures readable { ShowsReadable result }
+    ensures read { HeadIsReadable dir rest.entry.blocks.now → ShowsRead result }
     ensures number { IsNumbered g.now result }
     ensures need { (next : SeenDir → Events) (space : Space) → following (through_names g.now dir next) rest.entry.locks.now rest.entry.blocks.now space ≡ behind_names next space result }
     ensures follows { (next : SeenDir → Events) (space : Space) → FollowsBy (through_names g.now dir next) rest.entry space → FollowsNames next space result }

@@ -18,6 +18,7 @@
 
 use std::alloc::AllocError;
 
+mod byte_block;
 mod cat;
 mod command;
 mod entries;
@@ -26,10 +27,12 @@ mod ids;
 mod lists;
 mod mode;
 mod name;
+mod places;
 mod reply;
 mod script;
 mod tables;
 
+pub use byte_block::ByteBlock;
 pub use cat::{Cat, File, Open, QuotaRow, Slot};
 pub use command::Cmd;
 pub use entries::{DirEnt, DirEnts};

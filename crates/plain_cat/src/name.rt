@@ -2,14 +2,14 @@ ghost use Rattle.std.specs.Prelude.{◌≡◌, ◌↔◌, ◌++◌, [], ◌∷�
 ghost use Rattle.std.specs.Str.{bytes_eq};
 
 use crate::NoMemory;
+use smallvec::SmallVec;
 use std::alloc::Global;
 use std::marker::Model;
 
 /// A text in bytes. As the name of a directory entry it is `NAME.TYP`, with 0 to 39 characters on each side out of A
-/// to Z, 0 to 9, `$`, `_` and `-`.
-#[derive(Drop)]
+/// to Z, 0 to 9, `$`, `_` and `-`. Up to 22 bytes take no memory of their own.
 pub struct Name {
-    bytes: Vec<u8>,
+    bytes: SmallVec<u8, 22>,
 }
 
 impl Model for Name {
@@ -20,13 +20,19 @@ impl Model for Name {
     ghost view = { λ n. n.bytes.items };
 }
 
+impl Drop for Name {
+    fn drop(self) {
+        let Name { bytes: _ } = self;
+    }
+}
+
 impl Name {
     /// The empty text.
     pub fn new(alloc: Global) -> Self
         ensures { result ≡ [] }
     {
         Name {
-            bytes: Vec::new(alloc),
+            bytes: SmallVec::new(alloc),
         }
     }
 
@@ -51,7 +57,7 @@ impl Name {
         ensures { IfOk result (λ n. n ≡ self.now) }
     {
         Ok(Name {
-            bytes: Vec::from_slice(alloc, self.bytes.as_slice())?,
+            bytes: SmallVec::from_slice(alloc, self.bytes.as_slice())?,
         })
     }
 

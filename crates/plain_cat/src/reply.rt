@@ -1,6 +1,7 @@
 ghost use Rattle.std.specs.Prelude.{◌≡◌, IfOk};
 
 use crate::NoMemory;
+use crate::byte_block::ByteBlock;
 use crate::entries::DirEnts;
 use crate::ids::{Fid, Uic};
 use crate::name::Name;
@@ -111,7 +112,7 @@ pub enum Reply {
     },
 
     /// The bytes of a virtual block.
-    Bytes([u8; 512]),
+    Bytes(ByteBlock),
 
     /// The virtual block is written.
     Written,
@@ -167,7 +168,7 @@ impl Reply {
             },
             Reply::Opened => Reply::Opened,
             Reply::Closed { gone } => Reply::Closed { gone: *gone },
-            Reply::Bytes(bytes) => Reply::Bytes(*bytes),
+            Reply::Bytes(bytes) => Reply::Bytes(bytes.copy(alloc)?),
             Reply::Written => Reply::Written,
             Reply::QuotaKept => Reply::QuotaKept,
             Reply::Usage { usage, quota, over } => Reply::Usage {

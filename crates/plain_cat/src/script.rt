@@ -1,9 +1,12 @@
-ghost use Rattle.std.specs.Prelude.{◌≡◌, ◌++◌, [], ◌∷◌, OnOk, OnErr, IfOk};
+ghost use Rattle.std.specs.Prelude.{◌≡◌, ◌++◌, [], ◌∷◌, OnOk, OnErr, IfOk, option_copied, slice_get};
+ghost use Rattle.std.specs.Option.{option_map};
+ghost use Rattle.plain_cat.specs.OwnLines.{lines_of};
 
 use crate::NoMemory;
 use crate::ids::{Fid, Uic};
 use crate::mode::Mode;
 use crate::name::Name;
+use crate::places::{Places, note, place_at};
 use std::alloc::Global;
 use std::marker::Model;
 
@@ -223,19 +226,33 @@ pub struct Kill {
     pub at: KillAt,
 }
 
-/// The commands of a script, in order.
+/// The commands of a script, in order, and where those of each node stand.
 #[derive(Drop)]
 pub struct Lines {
     list: Vec<Line>,
+
+    // Of each node that has a line, from node 0.
+    places: Vec<Places>,
 }
 
 impl Model for Lines {
     ghost use Rattle.std.specs.Prelude.{List};
     ghost use Rattle.plain_cat.specs.declared.script.Line.{Line};
+    ghost use Rattle.plain_cat.specs.OwnLines.{ArePlaces};
 
     ghost Value = { List Line };
 
     ghost view = { λ l. l.list.items };
+
+    ghost invariant = { λ l. ArePlaces l.places.items l.list.items };
+}
+
+// The command of the line at a place, from 0.
+fn cmd_at(lines: &[Line], place: usize) -> Option<&LineCmd>
+    ensures { option_copied result ≡ option_map (λ l. l.cmd) (slice_get lines.now place) }
+{
+    let line = lines.get(place)?;
+    Some(&line.cmd)
 }
 
 impl Lines {
@@ -245,6 +262,7 @@ impl Lines {
     {
         Lines {
             list: Vec::new(alloc),
+            places: Vec::new(alloc),
         }
     }
 
@@ -253,7 +271,9 @@ impl Lines {
         ensures ok { OnOk result (self.new ≡ self.old ++ item ∷ []) }
         ensures err { OnErr result (self.new ≡ self.old) }
     {
-        self.list.push(item)?;
+        self.list.reserve(1)?;
+        note(&mut self.places, item.node, self.list.len())?;
+        self.list.push_reserved(item);
         Ok(())
     }
 
@@ -264,15 +284,22 @@ impl Lines {
         self.list.as_slice()
     }
 
+    /// The command of the node's line that so many of its lines come before. It looks at no other line.
+    pub fn own(&self, node: u8, before: u32) -> Option<&LineCmd>
+        ensures { option_copied result ≡ slice_get (lines_of node self.now) before }
+    {
+        cmd_at(&self.list, place_at(&self.places, node, before)?)
+    }
+
     /// The same list again.
     pub fn copy(&self, alloc: Global) -> Result<Self, NoMemory>
         ensures { IfOk result (λ l. l ≡ self.now) }
     {
-        let mut all = Vec::new(alloc);
+        let mut all = Lines::new(alloc);
         for x in self.list.as_slice() {
             all.push(x.copy(alloc)?)?;
         }
-        Ok(Lines { list: all })
+        Ok(all)
     }
 }
 

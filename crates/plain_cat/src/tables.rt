@@ -287,6 +287,15 @@ impl Blocks {
         Ok(())
     }
 
+    /// Adds blocks at the end, in order. A refusal of memory leaves the list as it was.
+    pub fn append(&mut self, blocks: &[[u8; 512]]) -> Result<(), NoMemory>
+        ensures ok { OnOk result (self.new ≡ self.old ++ blocks.now) }
+        ensures err { OnErr result (self.new ≡ self.old) }
+    {
+        self.list.extend_from_slice(blocks)?;
+        Ok(())
+    }
+
     /// The blocks, in order.
     pub fn items(&self) -> &[[u8; 512]]
         ensures { result.now ≡ self.now }

@@ -15,7 +15,6 @@
 mod channels;
 mod filling;
 mod laws;
-mod lines;
 mod past;
 mod registers;
 

@@ -1,7 +1,7 @@
 ghost use Rattle.std.specs.Prelude.{◌≡◌, ◌<◌, true, IfOk, is_some};
 ghost use Rattle.plain_rules.specs.Own.{newborn, after_answer, command_after};
 
-use crate::{channels, filling, lines, registers};
+use crate::{channels, filling, registers};
 use plain_cat::{Cmd, Fid, NoMemory, Reply, Script};
 use std::alloc::Global;
 use std::marker::Model;
@@ -82,7 +82,7 @@ impl Past {
     pub fn next(&self, alloc: Global, script: &Script, node: u8) -> Result<Option<Cmd>, NoMemory>
         ensures { IfOk result (λ o. o ≡ command_after script.now node self.now) }
     {
-        match lines::own_line(script.lines.items(), node, self.answered) {
+        match script.lines.own(node, self.answered) {
             Some(line) => Ok(Some(filling::filled(alloc, &self.registers, line)?)),
             None => Ok(channels::first_close(&self.channels)),
         }
@@ -92,7 +92,7 @@ impl Past {
     pub fn has_next(&self, script: &Script, node: u8) -> bool
         ensures { result ≡ is_some (command_after script.now node self.now) }
     {
-        lines::own_line(script.lines.items(), node, self.answered).is_some()
+        script.lines.own(node, self.answered).is_some()
             || channels::first_close(&self.channels).is_some()
     }
 }

@@ -7,13 +7,13 @@ use Rattle.plain_cat.specs.declared.reply.Reply.{Reply}
 use Rattle.plain_cat.specs.declared.reply.Reply.TheVariants as reply
 use Rattle.plain_cat.specs.declared.history.Entry.{Entry}
 use Rattle.plain_cat.specs.declared.history.Entry.TheVariants.{Done, Died, Mended}
-use Rattle.plain_cat.specs.declared.script.Line.{Line}
 use Rattle.plain_cat.specs.declared.script.LineCmd.{LineCmd}
 use Rattle.plain_cat.specs.declared.script.LineCmd.TheVariants as line
 use Rattle.plain_cat.specs.declared.script.FileRef.{FileRef}
 use Rattle.plain_cat.specs.declared.script.FileRef.TheVariants.{Fixed, Reg}
 use Rattle.plain_cat.specs.declared.script.Kill.{Kill}
 use Rattle.plain_cat.specs.declared.script.Script.{Script}
+pub use Rattle.plain_cat.specs.OwnLines.{lines_of}
 use Rattle.std.specs.List.{list_any}
 use Rattle.plain_rules.specs.Directories.{nowhere}
 
@@ -116,11 +116,6 @@ filled g (line.ReadBlock chan vbn) = cmd.ReadBlock chan vbn
 filled g (line.WriteBlock chan vbn text) = cmd.WriteBlock chan vbn text
 filled g (line.QuotaSet owner quota over) = cmd.QuotaSet owner quota over
 filled g (line.QuotaShow owner) = cmd.QuotaShow owner
-
--- the lines of a node
-abbrev pub lines_of : ℕ → List Line → List LineCmd
-lines_of node [] = []
-lines_of node (l ∷ ls) = if l.node == node then l.cmd ∷ lines_of node ls else lines_of node ls
 
 -- the close of the first channel that is open
 abbrev pub close_from : ℕ → List Bool → Option Cmd

@@ -1,6 +1,7 @@
 ghost use Rattle.std.specs.Prelude.{◌≡◌, ◌++◌, OnOk, OnErr, decimal};
 ghost use Rattle.plain_texts.specs.Names.{octal};
 
+use itoa::Buffer;
 use std::alloc::{AllocError, Global};
 
 /// Memory was refused.
@@ -15,19 +16,17 @@ pub fn push_bytes(out: &mut Vec<u8>, piece: &[u8]) -> Result<(), NoMemory>
 }
 
 /// Appends a number in decimal digits.
-pub fn push_number(alloc: Global, out: &mut Vec<u8>, n: u32) -> Result<(), NoMemory>
+pub fn push_number(_alloc: Global, out: &mut Vec<u8>, n: u32) -> Result<(), NoMemory>
     ensures { OnOk result (out.new.items ≡ out.old.items ++ decimal n) }
 {
-    let text = format!(in alloc; "{n}")?;
-    push_bytes(out, text.as_bytes())
+    push_bytes(out, Buffer::new().format(n).as_bytes())
 }
 
 /// Appends a count in decimal digits.
-pub fn push_count(alloc: Global, out: &mut Vec<u8>, n: usize) -> Result<(), NoMemory>
+pub fn push_count(_alloc: Global, out: &mut Vec<u8>, n: usize) -> Result<(), NoMemory>
     ensures { OnOk result (out.new.items ≡ out.old.items ++ decimal n) }
 {
-    let text = format!(in alloc; "{n}")?;
-    push_bytes(out, text.as_bytes())
+    push_bytes(out, Buffer::new().format(n).as_bytes())
 }
 
 /// Appends a number in octal digits.

@@ -1,4 +1,5 @@
-ghost use Rattle.std.specs.Prelude.{◌≡◌, ◌++◌, ◌+◌, ◌*◌, OnOk, sum};
+ghost use Rattle.std.specs.Prelude.{◌≡◌, ◌<◌, ◌++◌, ◌+◌, ◌*◌, OnOk, false, sum};
+ghost use Rattle.std.specs.Fmt.{digit_glyph};
 ghost use Rattle.std.specs.List.{flat_map};
 ghost use Rattle.plain_texts.specs.Replies.{refusal_text, listed_text, kind_text, closed_text, hex_text, size_text, marks_text, facts_text, usage_text, reply_text};
 
@@ -51,21 +52,27 @@ fn push_entries(alloc: Global, out: &mut Vec<u8>, entries: &[DirEnt]) -> Result<
     Ok(())
 }
 
+// The hexadecimal digit of a number below 16, in small letters.
+fn hex_digit(n: u8) -> u8
+    requires { n < 16 }
+    ensures { result ≡ digit_glyph false n }
+{
+    if n < 10 { b'0' + n } else { b'a' - 10 + n }
+}
+
 // Appends a byte in two hexadecimal digits.
-#[tactic(auto, using(crate::proofs::Hex::hex_is))]
-fn push_hex(alloc: Global, out: &mut Vec<u8>, byte: u8) -> Result<(), NoMemory>
+fn push_hex(out: &mut Vec<u8>, byte: u8) -> Result<(), NoMemory>
     ensures { OnOk result (out.new.items ≡ out.old.items ++ hex_text byte) }
 {
-    let text = format!(in alloc; "{byte:02x}")?;
-    push_bytes(out, text.as_bytes())
+    push_bytes(out, &[hex_digit(byte / 16), hex_digit(byte % 16)])
 }
 
 // Appends bytes in hexadecimal digits.
-fn push_dump(alloc: Global, out: &mut Vec<u8>, bytes: &[u8]) -> Result<(), NoMemory>
+fn push_dump(out: &mut Vec<u8>, bytes: &[u8]) -> Result<(), NoMemory>
     ensures { OnOk result (out.new.items ≡ out.old.items ++ flat_map hex_text bytes.now) }
 {
     for byte in bytes {
-        push_hex(alloc, out, *byte)?;
+        push_hex(out, *byte)?;
     }
     Ok(())
 }
@@ -209,8 +216,9 @@ pub fn push_reply(alloc: Global, out: &mut Vec<u8>, reply: &Reply) -> Result<(),
         Reply::Renamed { name, ver } => push_entry(alloc, out, name, *ver),
         Reply::Opened => push_bytes(out, b"open"),
         Reply::Closed { gone } => push_closed(out, *gone),
-        Reply::Bytes(block) => {
-            push_dump(alloc, out, &block[..16])?;
+        Reply::Bytes(bytes) => {
+            let block = bytes.block();
+            push_dump(out, &block[..16])?;
             push_bytes(out, b" sum ")?;
             push_number(alloc, out, byte_sum(block))
         }

@@ -78,7 +78,7 @@ pub fn outcome_on(
         }
         Cmd::CloseFile { chan } => channels::close_file(alloc, cat, node, *chan),
         Cmd::ReadBlock { chan, vbn } => {
-            let reply = readers::read(&cat, node, *chan, *vbn);
+            let reply = readers::read(alloc, &cat, node, *chan, *vbn)?;
             Ok(told(cat, reply))
         }
         Cmd::WriteBlock { chan, vbn, text } => {

@@ -6,7 +6,7 @@ ghost use Rattle.plain_rules.specs.Answers.{told, is_outside, lookup_outcome, li
 
 use crate::lookups::channel_at;
 use base_words::{Block, zeros};
-use plain_cat::{Cat, Fid, File, Name, NoMemory, Refusal, Reply, Uic};
+use plain_cat::{ByteBlock, Cat, Fid, File, Name, NoMemory, Refusal, Reply, Uic};
 use plain_rules::{file_at, live, look_up, row_of};
 use std::alloc::Global;
 
@@ -106,17 +106,17 @@ fn block_of(file: &File, vbn: u32) -> Block
 
 /// What READ is answered.
 #[tactic(auto, unfolding(plain_rules::specs::Answers::read_outcome))]
-pub fn read(cat: &Cat, node: u8, chan: u8, vbn: u32) -> Reply
-    ensures { told cat.now result ≡ read_outcome cat.now node chan vbn }
+pub fn read(alloc: Global, cat: &Cat, node: u8, chan: u8, vbn: u32) -> Result<Reply, NoMemory>
+    ensures { IfOk result (λ r. told cat.now r ≡ read_outcome cat.now node chan vbn) }
 {
     let Some(held) = channel_at(cat, node, chan) else {
-        return Reply::Refused(Refusal::NotOpen);
+        return Ok(Reply::Refused(Refusal::NotOpen));
     };
     let Some(file) = file_at(cat, held.file) else {
-        return Reply::Refused(Refusal::EndOfFile);
+        return Ok(Reply::Refused(Refusal::EndOfFile));
     };
     if is_outside(cat, file, vbn) {
-        return Reply::Refused(Refusal::EndOfFile);
+        return Ok(Reply::Refused(Refusal::EndOfFile));
     }
-    Reply::Bytes(block_of(file, vbn))
+    Ok(Reply::Bytes(ByteBlock::new(alloc, &block_of(file, vbn))?))
 }

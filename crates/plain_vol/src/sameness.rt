@@ -63,7 +63,7 @@ pub(crate) fn is_same_reply(a: &Reply, b: &Reply) -> bool
             && ver == v,
         (Reply::Opened, Reply::Opened) => true,
         (Reply::Closed { gone }, Reply::Closed { gone: g }) => gone == g,
-        (Reply::Bytes(bytes), Reply::Bytes(others)) => bytes == others,
+        (Reply::Bytes(bytes), Reply::Bytes(others)) => bytes.block() == others.block(),
         (Reply::Written, Reply::Written) => true,
         (Reply::QuotaKept, Reply::QuotaKept) => true,
         (

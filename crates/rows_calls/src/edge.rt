@@ -1,7 +1,7 @@
 //! The program around the top call, over a file that cannot be written.
 
 use blk_drive::FileImage;
-use clus_top::exit_call;
+use clus_top::{Called, exit_call};
 use fx_text::{MemIn, MemOut};
 use plain_cat::NoMemory;
 use std::alloc::Global;
@@ -26,7 +26,7 @@ fn check_call(rt: &impl Abort, alloc: Global, file: File, words: &str) -> Result
     let mut script = MemIn::new(Vec::new(alloc), Vec::new(alloc));
     let mut out = MemOut::new(alloc, 100, Vec::new(alloc))?;
     let image = FileImage::new(alloc, file)?;
-    let code = exit_call(alloc, line.as_slice(), image, &mut script, &mut out);
+    let Called { code, image: _ } = exit_call(alloc, line.as_slice(), image, &mut script, &mut out);
     assert!(rt; code == ExitCode::from(4), "{words}");
     assert!(rt; out.bytes() == b"image fault\n".as_slice(), "{words}");
     Ok(())

@@ -44,7 +44,13 @@ pub fn call_held<G: Read + Write + Seek + OpenFile + Drop, F: OpenFile + Drop>(
     let mut source = MemIn::new(Vec::from_slice(alloc, script.as_bytes())?, Vec::new(alloc));
     let sink = MemOut::new(alloc, 2000, Vec::new(alloc))?;
     let mut out = SafeOut::new(sink, due);
-    let code = exit_call(alloc, line.as_slice(), image, &mut source, &mut out);
+    let clus_top::Called { code, image: _ } = exit_call(
+        alloc,
+        line.as_slice(),
+        image,
+        &mut source,
+        &mut out,
+    );
     let sink = out.into_inner();
     let text = Vec::from_slice(alloc, sink.bytes())?;
     Ok(Called { code, text })

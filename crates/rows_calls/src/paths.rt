@@ -1,7 +1,7 @@
 //! What is no image, and what is no script.
 
 use crate::edge_calls::{call, call_held, check, make_volume, path_of};
-use clus_top::exit_call;
+use clus_top::{Called, exit_call};
 use edge_files::{Access, Held, image_at};
 use fx_text::{MemOut, StdIn};
 use std::fs;
@@ -77,7 +77,7 @@ fn a_script_that_is_a_folder_is_a_fault(rt: HostRuntime) -> Result<(), Fail> {
     let mut line = Vec::new(alloc);
     line.push("run".to_string(alloc)?)?;
     let image = image_at(&rt, path, Access::Change)?.image;
-    let code = exit_call(alloc, line.as_slice(), image, &mut source, &mut out);
+    let Called { code, image: _ } = exit_call(alloc, line.as_slice(), image, &mut source, &mut out);
     assert!(rt; code == ExitCode::from(2), "the number");
     assert!(rt; out.bytes() == b"script fault\n".as_slice(), "the text");
     fs::remove_dir(&rt, folder.as_str())?;

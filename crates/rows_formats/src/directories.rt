@@ -104,7 +104,10 @@ const IN_MAIN: [Wanted; 3] = [
 
 #[test]
 fn the_main_directory_is_read(rt: HostRuntime) -> Result<(), Fail> {
-    assert!(rt; reads_as(rt.alloc(), &[MAIN, b"\xff\xff"], &IN_MAIN)?);
+    assert!(rt;
+        reads_as(rt.alloc(), &[MAIN, b"\xff\xff"], &IN_MAIN)?,
+        "the entries of the main directory"
+    );
     Ok(())
 }
 
@@ -145,7 +148,10 @@ const IN_BOTH: [Wanted; 3] = [
 /// flags of its own.
 #[test]
 fn a_name_is_read_across_blocks(rt: HostRuntime) -> Result<(), Fail> {
-    assert!(rt; reads_as(rt.alloc(), &[NINE_AND_SEVEN, SEVEN_AND_THREE], &IN_BOTH)?);
+    assert!(rt;
+        reads_as(rt.alloc(), &[NINE_AND_SEVEN, SEVEN_AND_THREE], &IN_BOTH)?,
+        "versions 9, 7 and 3 of one name, over two blocks"
+    );
     Ok(())
 }
 
@@ -198,7 +204,10 @@ const BAD_BLOCKS: [&[u8]; 14] = [
 fn a_bad_block_is_named(rt: HostRuntime) {
     for bad in &BAD_BLOCKS {
         let found = count(rt.alloc(), &[*bad]);
-        assert!(rt; found == Err(DirFault::BadRecord(1)));
+        assert!(rt;
+            found == Err(DirFault::BadRecord(1)),
+            "block 1, which is no list of records in order, is named"
+        );
     }
 }
 
@@ -262,7 +271,10 @@ fn count(alloc: Global, texts: &[&[u8]]) -> Result<usize, DirFault> {
 fn the_first_fault_is_named(rt: HostRuntime) {
     for row in &ROWS {
         let found = count(rt.alloc(), row.blocks);
-        assert!(rt; found == row.found);
+        assert!(rt;
+            found == row.found,
+            "the count of entries, or the first fault"
+        );
     }
 }
 
@@ -323,12 +335,27 @@ fn four_blocks_have_room_for_twenty(rt: HostRuntime) -> Result<(), Fail> {
     let third = long_block(11, 15, false);
     let fourth = long_block(16, 20, false);
     let four = [first, second, third, fourth];
-    assert!(rt; read_dir(alloc, &four)?.len() == 20);
-    assert!(rt; packs_to(alloc, &four, 4, &four)?);
-    assert!(rt; !has_room(alloc, &four, 3)?);
+    assert!(rt;
+        read_dir(alloc, &four)?.len() == 20,
+        "four full blocks have twenty entries"
+    );
+    assert!(rt;
+        packs_to(alloc, &four, 4, &four)?,
+        "twenty entries are packed into the same four blocks"
+    );
+    assert!(rt;
+        !has_room(alloc, &four, 3)?,
+        "twenty entries have no room in three blocks"
+    );
     let five = [first, second, third, fourth, long_block(21, 21, false)];
-    assert!(rt; !has_room(alloc, &five, 4)?);
-    assert!(rt; has_room(alloc, &five, 5)?);
+    assert!(rt;
+        !has_room(alloc, &five, 4)?,
+        "21 entries have no room in four blocks"
+    );
+    assert!(rt;
+        has_room(alloc, &five, 5)?,
+        "21 entries have room in five blocks"
+    );
     Ok(())
 }
 
@@ -345,7 +372,8 @@ fn records_of_one_name_are_joined(rt: HostRuntime) -> Result<(), Fail> {
             &[block(two)],
             2,
             &[block(one), block(b"\xff\xff")]
-        )?
+        )?,
+        "two records of one name are packed as one"
     );
     Ok(())
 }
@@ -385,10 +413,10 @@ fn insertion(alloc: Global, old: &[Block; 4], e: &RawEnt) -> Result<Option<Vec<M
     Ok(insert_moves(alloc, old, e)?)
 }
 
-fn removal(alloc: Global, old: &[Block; 4], name: &[u8], ver: u16) -> Result<Vec<Move>, Fail> {
+fn removal(alloc: Global, old: &[Block; 4], name: RawName, ver: u16) -> Result<Vec<Move>, Fail> {
     let ents = read_dir(alloc, old)?;
     let e = RawEnt {
-        name: RawName::new(alloc, name)?,
+        name,
         ver,
         num: 0,
         seq: 0,
@@ -398,7 +426,7 @@ fn removal(alloc: Global, old: &[Block; 4], name: &[u8], ver: u16) -> Result<Vec
     if !has(ents.as_slice(), &e) {
         return Err(Fail::from("it is not there"));
     }
-    Ok(remove_moves(alloc, old, name, ver)?)
+    Ok(remove_moves(alloc, old, name.bytes(), ver)?)
 }
 
 fn are_moves(moves: &[Move], expected: &[Move]) -> bool {
@@ -425,7 +453,7 @@ fn inserts(alloc: Global, old: &[Block; 4], new: Block, by: &[Move]) -> Result<b
 /// Whether the last entry of `gone`, which is version 1, is removed by these moves.
 fn removes(alloc: Global, old: &[Block; 4], gone: Block, by: &[Move]) -> Result<bool, Fail> {
     let e = last_of(alloc, gone)?;
-    let moves = removal(alloc, old, e.name.bytes(), 1)?;
+    let moves = removal(alloc, old, e.name, 1)?;
     Ok(are_moves(moves.as_slice(), by))
 }
 
@@ -443,7 +471,10 @@ fn an_insertion_enters_its_entry_last(rt: HostRuntime) -> Result<(), Fail> {
         write(1, long_block(1, 5, false)),
         write(2, long_block(6, 6, true)),
     ];
-    assert!(rt; inserts(rt.alloc(), &old, long_block(6, 6, false), &expected)?);
+    assert!(rt;
+        inserts(rt.alloc(), &old, long_block(6, 6, false), &expected)?,
+        "the writes of an insertion, which enters its entry last"
+    );
     Ok(())
 }
 
@@ -462,7 +493,10 @@ fn a_removal_packs_after_it_decides(rt: HostRuntime) -> Result<(), Fail> {
         write(1, long_block(1, 5, true)),
         write(2, empty),
     ];
-    assert!(rt; removes(rt.alloc(), &old, long_block(6, 6, false), &expected)?);
+    assert!(rt;
+        removes(rt.alloc(), &old, long_block(6, 6, false), &expected)?,
+        "the writes of a removal, which packs after its entry is gone"
+    );
     Ok(())
 }
 
@@ -486,8 +520,14 @@ fn a_packing_leaves_no_entry_in_two_blocks(rt: HostRuntime) -> Result<(), Fail> 
     let first = long_block(1, 5, false);
     let second = long_block(6, 6, true);
     let by = [write(1, first), write(2, second), write(3, empty)];
-    assert!(rt; packs_by(rt.alloc(), &old, &by)?);
-    assert!(rt; packs_by(rt.alloc(), &[first, second, empty, empty], &[])?);
+    assert!(rt;
+        packs_by(rt.alloc(), &old, &by)?,
+        "the writes of a packing, which leave no entry in two blocks"
+    );
+    assert!(rt;
+        packs_by(rt.alloc(), &[first, second, empty, empty], &[])?,
+        "a packed directory is not written"
+    );
     Ok(())
 }
 
@@ -528,14 +568,20 @@ fn a_full_directory_takes_no_more(rt: HostRuntime) -> Result<(), Fail> {
         long_block(16, 20, false),
     ];
     let more = long_block(21, 21, false);
-    assert!(rt; is_refused(rt.alloc(), &old, more)?);
+    assert!(rt;
+        is_refused(rt.alloc(), &old, more)?,
+        "a full directory has no room for one entry more"
+    );
     let loose = [
         long_block(1, 3, false),
         long_block(3, 4, false),
         long_block(5, 5, false),
         block(b"\xff\xff"),
     ];
-    assert!(rt; inserts_at(rt.alloc(), &loose, more, &[1, 2, 3, 2])?);
+    assert!(rt;
+        inserts_at(rt.alloc(), &loose, more, &[1, 2, 3, 2])?,
+        "a directory that is not packed is packed before an insertion"
+    );
     Ok(())
 }
 
@@ -556,7 +602,13 @@ fn a_new_entry_has_the_marks_of_its_name(rt: HostRuntime) -> Result<(), Fail> {
         b"\x0e\x00\x05\x00\x01\x02A.\x01\x00\x01\x00\x01\x00\x00\x00\x0e\x00\xff\x7f\x00\x02B.\x02\x00\x02\x00\x01\x00\x00\x00\xff\xff";
     let version = b"\x0e\x00\x09\x00\x07\x02A.\x02\x00\x02\x00\x01\x00\x00\x00\xff\xff";
     let name = b"\x0e\x00\x09\x00\x07\x02B.\x02\x00\x02\x00\x01\x00\x00\x00\xff\xff";
-    assert!(rt; changes_to(rt.alloc(), one, version, two)?);
-    assert!(rt; changes_to(rt.alloc(), one, name, both)?);
+    assert!(rt;
+        changes_to(rt.alloc(), one, version, two)?,
+        "a new version has the limit and the flags of its name"
+    );
+    assert!(rt;
+        changes_to(rt.alloc(), one, name, both)?,
+        "a new name has the limit and the flags of a new record"
+    );
     Ok(())
 }

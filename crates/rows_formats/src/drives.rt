@@ -76,10 +76,16 @@ struct WriteStep {
 
 fn check_write(rt: &impl Abort, mirror: &mut Mirror<MemImage>, row: WriteStep) {
     let WriteStep { lbn, byte: b, .. } = row;
-    assert!(rt; lbn < mirror.size());
+    assert!(rt;
+        lbn < mirror.size(),
+        "block {lbn} is there before the write of {b}"
+    );
     let is_written = mirror.write(lbn, &[b; 512]).is_ok();
     assert_eq!(rt; is_written, row.is_written, "write of {b}");
-    assert!(rt; lbn < mirror.size());
+    assert!(rt;
+        lbn < mirror.size(),
+        "block {lbn} is there after the write of {b}"
+    );
     let is_in_memory = *mirror.read(lbn) == [row.in_memory; 512];
     assert!(rt; is_in_memory, "after the write of {b}");
 }
@@ -150,7 +156,10 @@ fn check_blocks(rt: &impl Abort, image: &mut FileImage<File>) {
 // What is written is read back through the file, in and out of the piece that was read ahead.
 fn check_writes(rt: &impl Abort, image: &mut FileImage<File>) {
     for lbn in [2, 2_047, 4_098] {
-        assert!(rt; write(image, lbn, &[0xee; 512]));
+        assert!(rt;
+            write(image, lbn, &[0xee; 512]),
+            "the write of block {lbn} is made"
+        );
         assert_eq!(rt; read(image, lbn), Some([0xee; 512]), "block {lbn}");
         let want = [((lbn - 1) % 251) as u8; 512];
         assert_eq!(rt; read(image, lbn - 1), Some(want), "before block {lbn}");
@@ -205,8 +214,14 @@ fn a_rest_that_is_no_block_is_left_out(rt: HostRuntime) -> Result<(), Failed> {
 // A file that is not open for writing is read, and each write of it fails.
 fn check_unwritable(rt: &impl Abort, image: &mut FileImage<File>) {
     assert_eq!(rt; read(image, 3), Some([5; 512]));
-    assert!(rt; !write(image, 3, &[6; 512]));
-    assert!(rt; !write(image, 3, &[6; 512]));
+    assert!(rt;
+        !write(image, 3, &[6; 512]),
+        "a write fails where the file is open for reading alone"
+    );
+    assert!(rt;
+        !write(image, 3, &[6; 512]),
+        "a second write fails there as well"
+    );
     assert_eq!(rt; read(image, 3), Some([5; 512]));
 }
 

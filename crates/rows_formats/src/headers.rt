@@ -240,7 +240,10 @@ fn a_header_reads_back_with_its_runs(rt: HostRuntime) -> Result<(), Fail> {
     if !are_runs(&given) {
         return Err("no runs".into());
     }
-    assert!(rt; set_runs(&mut b, &given));
+    assert!(rt;
+        set_runs(&mut b, &given),
+        "six runs have room in the map area"
+    );
     let words = [
         0xff, 0x40, 0x00, 0x00, 0x00, 0x81, 0x2c, 0x01, 0x00, 0x00, 0xff, 0xbf, 0xe8, 0x03, 0x00,
         0x00, 0x00, 0xc0, 0x00, 0x40, 0x20, 0x4e, 0x00, 0x00, 0x04, 0x40, 0x54, 0x00, 0x00, 0x00,
@@ -265,9 +268,18 @@ fn seventy_seven_clusters_have_room(rt: HostRuntime) -> Result<(), Fail> {
         return Err("no runs".into());
     }
     let empty = b;
-    assert!(rt; !set_runs(&mut b, &clusters));
-    assert!(rt; b == empty);
-    assert!(rt; set_runs(&mut b, fitting));
+    assert!(rt;
+        !set_runs(&mut b, &clusters),
+        "78 runs have no room in the map area"
+    );
+    assert!(rt;
+        b == empty,
+        "the header stays as it was where its runs have no room"
+    );
+    assert!(rt;
+        set_runs(&mut b, fitting),
+        "77 runs have room in the map area"
+    );
     assert_eq!(rt; b[58], 154);
     assert_eq!(rt; read_header(&b), Ok(Slot::Used(file(1232))));
     Ok(())

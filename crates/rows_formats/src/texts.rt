@@ -119,7 +119,10 @@ fn is_written_past(kind: ErrorKind) -> bool {
 #[test]
 fn writes_through_a_signal_alone(rt: HostRuntime) {
     // A signal has the same bytes written again. A full disk, a closed pipe and others end the text.
-    assert!(rt; is_written_past(ErrorKind::Interrupted));
+    assert!(rt;
+        is_written_past(ErrorKind::Interrupted),
+        "a write that a signal breaks off is made again"
+    );
     for kind in [
         ErrorKind::StorageFull,
         ErrorKind::BrokenPipe,
@@ -140,7 +143,7 @@ fn moves_a_file(rt: HostRuntime) -> Result<(), Fail> {
     let mut source = StdIn::new(File::open(&rt, path.as_path())?);
     let read = read_all(rt.alloc(), &mut source, 10_000);
     fs::remove_file(&rt, path.as_path())?;
-    assert!(rt; written.is_ok());
+    assert!(rt; written.is_ok(), "the text is written to the file");
     let all = read.map_err(|_| "unread")?;
     assert_eq!(rt; all.as_slice(), text.as_slice());
     Ok(())

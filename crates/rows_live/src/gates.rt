@@ -223,7 +223,10 @@ fn nothing_to_do(rt: HostRuntime) -> Result<(), Fail> {
     let before = volume(alloc)?;
     let called = call(&rt, alloc, "live", volume(alloc)?, "NODES 8\n", &OpenGate)?;
     check(&rt, &called, 0, "end: 0 answered, 0 died, 231 free\n");
-    assert!(&rt; called.image.all() == before.all());
+    assert!(&rt;
+        called.image.all() == before.all(),
+        "the image stays, byte for byte, where there is nothing to do"
+    );
     let refused = call(&rt, alloc, "live --mend", before, "NODES 8\n", &OpenGate)?;
     check(&rt, &refused, 1, "bad words\n");
     Ok(())
@@ -252,6 +255,23 @@ fn a_write_fails(rt: HostRuntime) -> Result<(), Fail> {
         &OpenGate,
     )?;
     check(&rt, &landed, 4, "image fault\n");
+    Ok(())
+}
+
+// The fifth write charges the owner of the second file. The answers before it are told, of a call that mends then too.
+#[test]
+fn a_write_fails_behind_answers(rt: HostRuntime) -> Result<(), Fail> {
+    let alloc = rt.alloc();
+    let script =
+        "NODES 1\n1 CREATE R1 MFD A.TXT;0 0 [1,4]\n1 STAT R1\n1 CREATE R1 MFD B.TXT;0 0 [1,4]\n";
+    let text = "1 N1 CREATE R1 (4,4,0) A.TXT;0 0 [1,4] = (12,1,0) A.TXT;1\n\
+        2 N1 STAT (12,1,0) = file [1,4] 0 blocks mark 1 end 1,0\n\
+        image fault\n";
+    for words in ["live", "live --rebuild"] {
+        let image = failing(alloc, 1030, false)?;
+        let called = call(&rt, alloc, words, image, script, &OpenGate)?;
+        check(&rt, &called, 4, text);
+    }
     Ok(())
 }
 

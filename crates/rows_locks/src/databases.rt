@@ -85,7 +85,10 @@ fn a_death_in_pw_clears_the_mark_until_a_writer_sets_it(rt: HostRuntime) -> Resu
         Tried::NotQueued
     );
     db.drop_node(1);
-    assert!(rt; db.mode(name, NODE1).is_none());
+    assert!(rt;
+        db.mode(name, NODE1).is_none(),
+        "node 1, which is dead, has no lock"
+    );
     assert_eq!(rt; db.mode(name, NODE2), Some(Mode::PR));
     assert_eq!(rt; db.value(name), ([3; 16], false));
 
@@ -146,15 +149,33 @@ fn a_conversion_waits_behind_another(rt: HostRuntime) -> Result<(), Fail> {
         ask(&rt, &mut db, name, Owner { node: 4, part: 0 }, Mode::NL)?,
         Asked::Queued
     );
-    assert!(rt; db.mode(name, NODE1) == Some(Mode::PR) && db.queued(name, NODE1));
-    assert!(rt; db.mode(name, NODE3) == Some(Mode::CR) && db.queued(name, NODE3));
+    assert!(rt;
+        db.mode(name, NODE1) == Some(Mode::PR) && db.queued(name, NODE1),
+        "node 1 has PR while its conversion to PW waits"
+    );
+    assert!(rt;
+        db.mode(name, NODE3) == Some(Mode::CR) && db.queued(name, NODE3),
+        "node 3 has CR while its conversion to PR waits"
+    );
     // Node 1 is granted PW beside CR; node 3 now waits for it to be lowered, and node 4 behind node 3.
     release(&mut db, name, NODE2, 0)?;
-    assert!(rt; db.mode(name, NODE1) == Some(Mode::PW) && !db.queued(name, NODE1));
-    assert!(rt; db.mode(name, NODE3) == Some(Mode::CR) && db.queued(name, NODE3));
-    assert!(rt; db.queued(name, Owner { node: 4, part: 0 }));
+    assert!(rt;
+        db.mode(name, NODE1) == Some(Mode::PW) && !db.queued(name, NODE1),
+        "node 1 is granted PW once node 2 has released"
+    );
+    assert!(rt;
+        db.mode(name, NODE3) == Some(Mode::CR) && db.queued(name, NODE3),
+        "node 3 has CR still, and its conversion to PR waits"
+    );
+    assert!(rt;
+        db.queued(name, Owner { node: 4, part: 0 }),
+        "node 4 waits behind the conversion of node 3"
+    );
     assert_eq!(rt; convert(&mut db, name, NODE1, Mode::CR, 6)?, Asked::Granted);
-    assert!(rt; db.mode(name, NODE3) == Some(Mode::PR) && !db.queued(name, NODE3));
+    assert!(rt;
+        db.mode(name, NODE3) == Some(Mode::PR) && !db.queued(name, NODE3),
+        "node 3 is granted PR once node 1 is lowered to CR"
+    );
     assert_eq!(rt; db.mode(name, Owner { node: 4, part: 0 }), Some(Mode::NL));
     assert_eq!(rt; db.value(name), ([6; 16], true));
     Ok(())
@@ -182,7 +203,10 @@ fn a_node_dies_with_a_lock_a_conversion_and_a_request(rt: HostRuntime) -> Result
     db.drop_node(1);
     for part in 1..4u8 {
         let gone = Owner { node: 1, part };
-        assert!(rt; db.mode(name, gone).is_none() && !db.queued(name, gone));
+        assert!(rt;
+            db.mode(name, gone).is_none() && !db.queued(name, gone),
+            "part {part} of node 1, which is dead, has no lock and no request"
+        );
     }
     assert_eq!(rt; db.mode(name, Owner { node: 2, part: 1 }), Some(Mode::PR));
     assert_eq!(rt; db.mode(name, Owner { node: 3, part: 1 }), Some(Mode::PR));
@@ -214,10 +238,19 @@ fn a_node_holds_up_the_requests_of_others_alone(rt: HostRuntime) -> Result<(), F
     let mut db = LockDb::new(rt.alloc())?;
     ask(&rt, &mut db, name, NODE1, Mode::CR)?;
     ask(&rt, &mut db, name, Owner { node: 1, part: 1 }, Mode::EX)?;
-    assert!(rt; !db.blocking(1, name));
+    assert!(rt;
+        !db.blocking(1, name),
+        "node 1 does not hold up a request of its own"
+    );
     ask(&rt, &mut db, name, NODE2, Mode::EX)?;
-    assert!(rt; db.blocking(1, name));
-    assert!(rt; !db.blocking(2, name) && !db.blocking(1, LockName::V));
+    assert!(rt;
+        db.blocking(1, name),
+        "node 1 holds up the request of node 2"
+    );
+    assert!(rt;
+        !db.blocking(2, name) && !db.blocking(1, LockName::V),
+        "neither node 2 nor a lock on another name holds up a request"
+    );
     if db.mode(name, NODE1) == Some(Mode::CR) && !db.queued(name, NODE1) {
         assert_eq!(rt; db.try_convert(name, NODE1, Mode::PR), Tried::Granted);
     }
@@ -242,7 +275,10 @@ fn a_recovery_writes_the_block_of_a_copy_alone(rt: HostRuntime) -> Result<(), Fa
         copy.recover(name, [4; 16]);
     }
     assert_eq!(rt; copy.value(name), ([4; 16], false));
-    assert!(rt; copy.queued(name, NODE2) && !copy.queued(name, NODE1));
+    assert!(rt;
+        copy.queued(name, NODE2) && !copy.queued(name, NODE1),
+        "in the copy node 2 waits, and node 1 does not"
+    );
     assert_eq!(rt; db.value(name), ([0; 16], true));
     Ok(())
 }

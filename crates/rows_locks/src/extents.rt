@@ -29,14 +29,20 @@ fn what_goes_in_stands_in_its_place(rt: HostRuntime) -> Result<(), Fail> {
 #[test]
 fn lowest_go_out_first(rt: HostRuntime) -> Result<(), Fail> {
     let mut stock = stocked(&rt)?;
-    assert!(rt; stock.take(rt.alloc(), 7, false)?.is_none());
+    assert!(rt;
+        stock.take(rt.alloc(), 7, false)?.is_none(),
+        "seven clusters are not taken from a stock of six"
+    );
     let taken: Taken = stock.take(rt.alloc(), 3, true)?.ok_or("it holds enough")?;
     assert_eq!(rt; taken.clusters.items(), [40, 41, 4094].as_slice());
     assert_eq!(rt; taken.number, Some(12));
     assert_eq!(rt; (stock.count(), stock.numbers()), (3, [14].as_slice()));
     let last: Taken = stock.take(rt.alloc(), 0, true)?.ok_or("it holds a number")?;
     assert_eq!(rt; (last.clusters.items().len(), last.number), (0, Some(14)));
-    assert!(rt; stock.take(rt.alloc(), 1, true)?.is_none());
+    assert!(rt;
+        stock.take(rt.alloc(), 1, true)?.is_none(),
+        "nothing is taken where no file number is left"
+    );
     assert_eq!(rt; stock.count(), 3);
     Ok(())
 }
@@ -44,8 +50,14 @@ fn lowest_go_out_first(rt: HostRuntime) -> Result<(), Fail> {
 #[test]
 fn lowest_are_told_and_then_dropped(rt: HostRuntime) -> Result<(), Fail> {
     let mut stock = stocked(&rt)?;
-    assert!(rt; stock.lowest(rt.alloc(), 6, false)?.is_some());
-    assert!(rt; stock.lowest(rt.alloc(), 7, false)?.is_none());
+    assert!(rt;
+        stock.lowest(rt.alloc(), 6, false)?.is_some(),
+        "six clusters are told from a stock of six"
+    );
+    assert!(rt;
+        stock.lowest(rt.alloc(), 7, false)?.is_none(),
+        "seven clusters are not told from a stock of six"
+    );
     let lowest: Taken = stock.lowest(rt.alloc(), 3, true)?.ok_or("it holds enough")?;
     assert_eq!(rt; lowest.clusters.items(), [40, 41, 4094].as_slice());
     assert_eq!(rt; lowest.number, Some(12));

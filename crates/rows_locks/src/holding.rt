@@ -48,7 +48,7 @@ fn write(db: &mut LockDb, name: LockName, node: u8, value: [u8; 16]) -> Result<(
 fn a_writer_waits_behind_readers(rt: HostRuntime) -> Result<(), Fail> {
     let name = LockName::S(12);
     let mut db = LockDb::new(rt.alloc())?;
-    assert!(rt; !waits(&db, 3, &[]));
+    assert!(rt; !waits(&db, 3, &[]), "a row without locks does not wait");
     assert_eq!(rt; ask(&rt, &mut db, name, 1, Mode::PR)?, Asked::Granted);
     assert_eq!(rt; ask(&rt, &mut db, name, 2, Mode::PR)?, Asked::Granted);
     assert_eq!(rt;
@@ -58,16 +58,25 @@ fn a_writer_waits_behind_readers(rt: HostRuntime) -> Result<(), Fail> {
     assert_eq!(rt; ask(&rt, &mut db, name, 3, Mode::PW)?, Asked::Queued);
     assert_eq!(rt; ask(&rt, &mut db, name, 4, Mode::PR)?, Asked::Queued);
     let writer = [(LockName::Q, Mode::PW), (name, Mode::PW)];
-    assert!(rt; waits(&db, 3, &writer) && !waits(&db, 2, &[(name, Mode::PR)]));
+    assert!(rt;
+        waits(&db, 3, &writer) && !waits(&db, 2, &[(name, Mode::PR)]),
+        "the writer waits, and a reader that is granted does not"
+    );
 
     give(&mut db, name, 1, ONE_TWO)?;
-    assert!(rt; waits(&db, 3, &writer));
+    assert!(rt; waits(&db, 3, &writer), "the writer waits for node 2 still");
     give(&mut db, name, 2, ONE_TWO)?;
-    assert!(rt; !waits(&db, 3, &writer) && waits(&db, 4, &[(name, Mode::PR)]));
+    assert!(rt;
+        !waits(&db, 3, &writer) && waits(&db, 4, &[(name, Mode::PR)]),
+        "the writer is served, and the reader behind it waits"
+    );
     // Readers raise nothing.
     assert_eq!(rt; db.value(name), ([0; 16], true));
     give(&mut db, name, 3, ONE_TWO)?;
-    assert!(rt; !waits(&db, 4, &[(name, Mode::PR)]));
+    assert!(rt;
+        !waits(&db, 4, &[(name, Mode::PR)]),
+        "the reader is served after the writer"
+    );
     assert_eq!(rt;
         db.value(name),
         ([1, 0, 0, 0, 0, 0, 0, 0, 2, 0, 0, 0, 0, 0, 0, 0], true)
@@ -112,7 +121,10 @@ fn a_block_that_is_not_valid_is_raised_by_one(rt: HostRuntime) -> Result<(), Fai
     ask(&rt, &mut db, name, 3, Mode::PW)?;
     ask(&rt, &mut db, name, 4, Mode::PR)?;
     db.drop_node(1);
-    assert!(rt; !waits(&db, 2, &[(name, Mode::PW)]));
+    assert!(rt;
+        !waits(&db, 2, &[(name, Mode::PW)]),
+        "node 2 is served once node 1 is dead"
+    );
     assert_eq!(rt; db.value(name), ([0; 16], false));
     give(&mut db, name, 2, NOTHING)?;
     assert_eq!(rt;
@@ -175,22 +187,34 @@ fn a_lock_that_is_kept_is_asked_for_by_a_conversion(rt: HostRuntime) -> Result<(
     // Node 1 converts from NL, and is served before node 3, which has asked before.
     assert_eq!(rt; take_on(&rt, &mut db, name, 1, Mode::PW)?, Asked::Queued);
     let row = [(name, Mode::PW)];
-    assert!(rt; waits(&db, 1, &row) && waits(&db, 3, &[(name, Mode::PR)]));
+    assert!(rt;
+        waits(&db, 1, &row) && waits(&db, 3, &[(name, Mode::PR)]),
+        "nodes 1 and 3 wait for node 2"
+    );
     // Another row of node 1 goes on meanwhile.
     assert_eq!(rt;
         take_on(&rt, &mut db, LockName::V, 1, Mode::PW)?,
         Asked::Granted
     );
-    assert!(rt; !waits(&db, 1, &[(LockName::V, Mode::PW)]));
+    assert!(rt;
+        !waits(&db, 1, &[(LockName::V, Mode::PW)]),
+        "another row of node 1 does not wait"
+    );
     lower_on(&mut db, LockName::V, 1, Mode::NL, NOTHING)?;
 
     lower_on(&mut db, name, 2, Mode::NL, ONE_TWO)?;
-    assert!(rt; !waits(&db, 1, &row) && waits(&db, 3, &[(name, Mode::PR)]));
+    assert!(rt;
+        !waits(&db, 1, &row) && waits(&db, 3, &[(name, Mode::PR)]),
+        "node 1 is served before node 3"
+    );
     assert_eq!(rt;
         db.value(name),
         ([2, 0, 0, 0, 0, 0, 0, 0, 4, 0, 0, 0, 0, 0, 0, 0], true)
     );
     lower_on(&mut db, name, 1, Mode::NL, NOTHING)?;
-    assert!(rt; !waits(&db, 3, &[(name, Mode::PR)]));
+    assert!(rt;
+        !waits(&db, 3, &[(name, Mode::PR)]),
+        "node 3 is served after node 1"
+    );
     Ok(())
 }

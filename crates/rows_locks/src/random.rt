@@ -190,7 +190,10 @@ fn is_safe(rt: &HostRuntime, start: u32) -> Result<bool, Fail> {
 #[test]
 fn random_lists_are_safe(rt: HostRuntime) -> Result<(), Fail> {
     for list in 0..LISTS {
-        assert!(rt; is_safe(&rt, list)?);
+        assert!(rt;
+            is_safe(&rt, list)?,
+            "list {list}: locks go together, and value blocks are whole"
+        );
     }
     Ok(())
 }

@@ -114,7 +114,10 @@ fn is_kvol(alloc: Global) -> Result<bool, NoMemory> {
 
 #[test]
 fn a_volume_has_known_bytes(rt: HostRuntime) -> Result<(), Fail> {
-    assert!(rt; is_kvol(rt.alloc())?);
+    assert!(rt;
+        is_kvol(rt.alloc())?,
+        "the volume KVOL is made with its known bytes"
+    );
     Ok(())
 }
 
@@ -224,7 +227,10 @@ const FULL: Made = Made {
 
 #[test]
 fn a_volume_is_refused_at_its_limits(rt: HostRuntime) -> Result<(), Fail> {
-    assert!(rt; is_small_drive(rt.alloc(), &REFUSED, &[TINY, FULL])?);
+    assert!(rt;
+        is_small_drive(rt.alloc(), &REFUSED, &[TINY, FULL])?,
+        "a small drive refuses what is past a limit, and takes what fits"
+    );
     Ok(())
 }
 
@@ -245,7 +251,10 @@ fn is_large(alloc: Global) -> Result<bool, NoMemory> {
 
 #[test]
 fn a_storage_bitmap_has_two_blocks(rt: HostRuntime) -> Result<(), Fail> {
-    assert!(rt; is_large(rt.alloc())?);
+    assert!(rt;
+        is_large(rt.alloc())?,
+        "a large volume has a storage bitmap of two blocks"
+    );
     Ok(())
 }
 

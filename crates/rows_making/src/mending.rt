@@ -109,10 +109,16 @@ fn is_put_right(alloc: Global, blocks: &[Block], done: Mended) -> Result<bool, N
 fn a_marked_file_goes(rt: HostRuntime) -> Result<(), Failed> {
     let alloc = rt.alloc();
     let mut b = volume();
-    assert!(rt; is_put_right(alloc, &b, counts(0, 0, 1, 0, 0))?);
+    assert!(rt;
+        is_put_right(alloc, &b, counts(0, 0, 1, 0, 0))?,
+        "the marked file goes, and nothing else is done"
+    );
     b[51] = block(b"\x12\x00\xff\x7f\x00\x05C.TXT\x00\x01\x00\x10\x00\x01\x00\x00\x00\xff\xff");
     b[23] = block(b"");
-    assert!(rt; is_put_right(alloc, &b, counts(0, 1, 1, 0, 1))?);
+    assert!(rt;
+        is_put_right(alloc, &b, counts(0, 1, 1, 0, 1))?,
+        "the marked file goes with its entry, and a leaked number is free again"
+    );
     Ok(())
 }
 
@@ -125,9 +131,18 @@ fn nothing_is_written_where_nothing_is_found(rt: HostRuntime) -> Result<(), Fail
         lands: true,
     };
     let again = outcome(alloc, sound.blocks.as_slice(), fail)?;
-    assert!(rt; again.answer.is_ok());
-    assert!(rt; again.blocks.as_slice() == sound.blocks.as_slice());
-    assert!(rt; is_mended(alloc, sound.blocks.as_slice(), counts(0, 0, 0, 0, 0))?);
+    assert!(rt;
+        again.answer.is_ok(),
+        "a volume in order is mended without a write"
+    );
+    assert!(rt;
+        again.blocks.as_slice() == sound.blocks.as_slice(),
+        "a volume in order has the same blocks after a mending"
+    );
+    assert!(rt;
+        is_mended(alloc, sound.blocks.as_slice(), counts(0, 0, 0, 0, 0))?,
+        "the counts of a mending are 0 where nothing is found"
+    );
     Ok(())
 }
 
@@ -151,7 +166,10 @@ fn a_fatal_finding_is_told(rt: HostRuntime) -> Result<(), Failed> {
     let alloc = rt.alloc();
     let mut b = volume();
     b[23] = b[21];
-    assert!(rt; is_refused(alloc, &b, 15)?);
+    assert!(rt;
+        is_refused(alloc, &b, 15)?,
+        "the wrong number in header 15 is told, and nothing is written"
+    );
     Ok(())
 }
 
@@ -174,9 +192,15 @@ fn put_empty(b: &mut [Block; 64]) {
 fn the_last_version_is_taken(rt: HostRuntime) -> Result<(), Failed> {
     let alloc = rt.alloc();
     let mut b = last_version();
-    assert!(rt; is_refused(alloc, &b, 13)?);
+    assert!(rt;
+        is_refused(alloc, &b, 13)?,
+        "file 13 has no room in [SYSLOST], and nothing is written"
+    );
     put_empty(&mut b);
-    assert!(rt; is_put_right(alloc, &b, counts(0, 0, 2, 0, 0))?);
+    assert!(rt;
+        is_put_right(alloc, &b, counts(0, 0, 2, 0, 0))?,
+        "file 13, which is empty, goes with the marked file"
+    );
     Ok(())
 }
 
@@ -221,7 +245,10 @@ fn full() -> [Block; 64] {
 #[test]
 fn the_last_room_is_for_what_was_written(rt: HostRuntime) -> Result<(), Failed> {
     let alloc = rt.alloc();
-    assert!(rt; is_put_right(alloc, &full(), counts(1, 0, 2, 0, 0))?);
+    assert!(rt;
+        is_put_right(alloc, &full(), counts(1, 0, 2, 0, 0))?,
+        "file 14 takes the last room in [SYSLOST], and the empty file 13 goes"
+    );
     Ok(())
 }
 
@@ -237,7 +264,10 @@ fn loose() -> [Block; 64] {
 #[test]
 fn a_lost_directory_leads_nowhere(rt: HostRuntime) -> Result<(), Failed> {
     let alloc = rt.alloc();
-    assert!(rt; is_put_right(alloc, &loose(), counts(3, 1, 1, 0, 0))?);
+    assert!(rt;
+        is_put_right(alloc, &loose(), counts(3, 1, 1, 0, 0))?,
+        "three lost files are entered, and a second entry goes"
+    );
     Ok(())
 }
 
@@ -259,7 +289,10 @@ fn thrice() -> [Block; 64] {
 #[test]
 fn second_entries_go(rt: HostRuntime) -> Result<(), Failed> {
     let alloc = rt.alloc();
-    assert!(rt; is_put_right(alloc, &thrice(), counts(0, 3, 1, 0, 0))?);
+    assert!(rt;
+        is_put_right(alloc, &thrice(), counts(0, 3, 1, 0, 0))?,
+        "each file keeps one entry, and three others go"
+    );
     Ok(())
 }
 
@@ -271,7 +304,10 @@ fn doubles_are_packed_away(rt: HostRuntime) -> Result<(), Failed> {
         b"\x12\x00\xff\x7f\x00\x05A.TXT\x00\x01\x00\x0e\x00\x01\x00\x00\x00\
         \x12\x00\xff\x7f\x00\x05B.DAT\x00\x01\x00\x0f\x00\x02\x00\x00\x00\xff\xff",
     );
-    assert!(rt; is_put_right(alloc, &b, counts(0, 0, 1, 0, 0))?);
+    assert!(rt;
+        is_put_right(alloc, &b, counts(0, 0, 1, 0, 0))?,
+        "an entry in two blocks is packed into one"
+    );
     Ok(())
 }
 
@@ -282,6 +318,9 @@ fn leaks_and_usages_are_put_right(rt: HostRuntime) -> Result<(), Failed> {
     b[43][3] = 0xd0;
     b[8][2] = 0x14;
     put_long(&mut b[46], 40, 1000);
-    assert!(rt; is_put_right(alloc, &b, counts(0, 0, 1, 2, 2))?);
+    assert!(rt;
+        is_put_right(alloc, &b, counts(0, 0, 1, 2, 2))?,
+        "two leaked clusters, two leaked numbers and a usage are put right"
+    );
     Ok(())
 }

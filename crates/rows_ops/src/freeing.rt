@@ -46,7 +46,10 @@ fn come_in_order(alloc: Global) -> Result<bool, NoMemory> {
 #[test]
 fn clusters_and_their_blocks_come_in_order(rt: HostRuntime) -> Result<(), Fail> {
     let in_order = come_in_order(rt.alloc())?;
-    assert!(&rt; in_order);
+    assert!(&rt;
+        in_order,
+        "clusters, and the blocks of their bits, come in rising order"
+    );
     Ok(())
 }
 
@@ -98,6 +101,9 @@ fn are_freed(alloc: Global) -> Result<bool, NoMemory> {
 #[test]
 fn a_file_that_goes_is_freed_in_both_bitmaps(rt: HostRuntime) -> Result<(), Fail> {
     let freed = are_freed(rt.alloc())?;
-    assert!(&rt; freed);
+    assert!(&rt;
+        freed,
+        "the writes that free the clusters and the number of a file"
+    );
     Ok(())
 }

@@ -141,9 +141,12 @@ fn a_refusal_sets_no_register(rt: HostRuntime) -> Result<(), Fail> {
     answer(alloc, &mut past, &script, 1, &refused)?;
     assert_eq!(rt; next_file(alloc, &past, &script, 1)?, Some(UNSET));
     answer(alloc, &mut past, &script, 1, &refused)?;
-    assert!(rt; !past.has_next(&script, 1));
+    assert!(rt;
+        !past.has_next(&script, 1),
+        "node 1 has no command after its two lines"
+    );
     past.die();
-    assert!(rt; past.is_dead());
+    assert!(rt; past.is_dead(), "node 1 is dead");
     Ok(())
 }
 
@@ -167,7 +170,10 @@ fn channels_are_closed_in_rising_order(rt: HostRuntime) -> Result<(), Fail> {
         assert_eq!(rt; next_close(alloc, &past, &script, 1)?, Some(chan));
         answer(alloc, &mut past, &script, 1, &Reply::Closed { gone: false })?;
     }
-    assert!(rt; past.next(alloc, &script, 1)?.is_none());
+    assert!(rt;
+        past.next(alloc, &script, 1)?.is_none(),
+        "no command is left once each channel is closed"
+    );
     Ok(())
 }
 
@@ -176,9 +182,15 @@ fn a_node_without_lines_has_no_command(rt: HostRuntime) -> Result<(), Fail> {
     let alloc = rt.alloc();
     let script = two_nodes(alloc)?;
     let past = Past::new();
-    assert!(rt; past.has_next(&script, 1));
-    assert!(rt; past.has_next(&script, 2));
-    assert!(rt; !past.has_next(&script, 3));
-    assert!(rt; past.next(alloc, &script, 3)?.is_none());
+    assert!(rt; past.has_next(&script, 1), "node 1 has a next command");
+    assert!(rt; past.has_next(&script, 2), "node 2 has a next command");
+    assert!(rt;
+        !past.has_next(&script, 3),
+        "node 3, which has no lines, has no next command"
+    );
+    assert!(rt;
+        past.next(alloc, &script, 3)?.is_none(),
+        "node 3, which has no lines, gives no command"
+    );
     Ok(())
 }

@@ -32,7 +32,8 @@ fn reads_lines(rt: HostRuntime) -> Result<(), Fail> {
     };
     assert!(rt;
         read_death(b"N2 died at data only, leaked 3 clusters, 8 numbers\n3 N1 ".as_slice())
-            == Some(death)
+            == Some(death),
+        "the death of node 2 at data only"
     );
     let counts = Mended {
         entered: 1,
@@ -42,7 +43,13 @@ fn reads_lines(rt: HostRuntime) -> Result<(), Fail> {
         numbers: 5,
     };
     let text = b"rebuilt: 1 entered, 2 entries removed, 3 files gone, 40 clusters, 5 numbers\n";
-    assert!(rt; read_mending(text.as_slice()) == Some(counts));
-    assert!(rt; shown_number(b"(12,1,0) A.TXT;1".as_slice()) == Some(12));
+    assert!(rt;
+        read_mending(text.as_slice()) == Some(counts),
+        "the counts of a mending"
+    );
+    assert!(rt;
+        shown_number(b"(12,1,0) A.TXT;1".as_slice()) == Some(12),
+        "the number of a file identifier"
+    );
     Ok(())
 }

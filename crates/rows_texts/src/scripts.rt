@@ -137,11 +137,13 @@ fn reads_what_lines_say(rt: HostRuntime) -> Result<(), Fail> {
     let lost = FileRef::Fixed(Fid { num: 11, seq: 1 });
     assert!(rt;
         matches!(&first.cmd, LineCmd::Create { reg: 3, dir, name, ver: 7, blocks: 12, owner: Uic(65_544) }
-        if *dir == lost && name.items() == b"A.DAT".as_slice())
+        if *dir == lost && name.items() == b"A.DAT".as_slice()),
+        "the first command creates A.DAT;7 in LOST"
     );
     let file = FileRef::Fixed(Fid { num: 13, seq: 2 });
     assert!(rt;
-        matches!(&second.cmd, LineCmd::OpenFile { chan: 4, file: named, mode: Mode::PW } if *named == file)
+        matches!(&second.cmd, LineCmd::OpenFile { chan: 4, file: named, mode: Mode::PW } if *named == file),
+        "the second command opens file 13 on channel 4 in PW"
     );
     Ok(())
 }
@@ -160,7 +162,10 @@ fn long_script(alloc: Global, count: usize, last: &[u8]) -> Result<Vec<u8>, NoMe
 fn stops_where_there_is_no_room(rt: HostRuntime) -> Result<(), Fail> {
     let alloc = rt.alloc();
     let most = long_script(alloc, 4096, b"")?;
-    assert!(rt; fault(alloc, most.as_slice()).is_none());
+    assert!(rt;
+        fault(alloc, most.as_slice()).is_none(),
+        "4096 commands have room"
+    );
     let more = long_script(alloc, 4097, b"bad")?;
     assert_eq!(rt; fault(alloc, more.as_slice()), Some(ScriptFault::TooMany));
     let bad = long_script(alloc, 4096, b"bad\n1 LIST MFD")?;
@@ -168,9 +173,13 @@ fn stops_where_there_is_no_room(rt: HostRuntime) -> Result<(), Fail> {
         fault(alloc, bad.as_slice()),
         Some(ScriptFault::BadLine(4098))
     );
-    assert!(rt; fault(alloc, b"NODES 1\nSCHED 1*65536").is_none());
     assert!(rt;
-        fault(alloc, b"NODES 1\nSCHED 1*65536\nSCHED 1\nbad") == Some(ScriptFault::TooMany)
+        fault(alloc, b"NODES 1\nSCHED 1*65536").is_none(),
+        "65536 plays have room"
+    );
+    assert!(rt;
+        fault(alloc, b"NODES 1\nSCHED 1*65536\nSCHED 1\nbad") == Some(ScriptFault::TooMany),
+        "one play more has no room, and is told before a bad line behind it"
     );
     assert_eq!(rt;
         fault(alloc, b"NODES 1\nSCHED 1*65536 1 bad"),

@@ -1,5 +1,6 @@
 use plain_cat::{
-    Cmd, DirEnt, DirEnts, Entry, Fid, Mended, Mode, Name, NumberList, Refusal, Reply, Stage, Uic,
+    ByteBlock, Cmd, DirEnt, DirEnts, Entry, Fid, Mended, Mode, Name, NumberList, Refusal, Reply,
+    Stage, Uic,
 };
 use plain_texts::{NoMemory, push_command, push_lines, push_reply};
 use std::alloc::Global;
@@ -200,7 +201,7 @@ fn replies(alloc: Global) -> Result<Vec<(Reply, &'static str)>, NoMemory> {
     all.push((Reply::Closed { gone: false }, "closed"))?;
     all.push((Reply::Closed { gone: true }, "closed and deleted"))?;
     all.push((
-        Reply::Bytes(hello()),
+        Reply::Bytes(ByteBlock::new(alloc, &hello())?),
         "48454c4c4f0000000000000000000000 sum 372",
     ))?;
     all.push((Reply::Written, "written"))?;

@@ -153,9 +153,18 @@ fn is_read(alloc: Global, blocks: &[Block; 64]) -> Result<bool, NoMemory> {
 fn sound_volumes_are_accepted(rt: HostRuntime) -> Result<(), Fail> {
     let alloc = rt.alloc();
     let b = sound();
-    assert!(rt; are_told(alloc, &b, b"")?);
-    assert!(rt; is_accepted(alloc, &b)?);
-    assert!(rt; is_read(alloc, &b)?);
+    assert!(rt;
+        are_told(alloc, &b, b"")?,
+        "nothing is found in a sound volume"
+    );
+    assert!(rt;
+        is_accepted(alloc, &b)?,
+        "a sound volume is accepted, and its catalogue has its sizes"
+    );
+    assert!(rt;
+        is_read(alloc, &b)?,
+        "a sound volume is read, with 32 files"
+    );
     Ok(())
 }
 
@@ -170,8 +179,14 @@ fn all_that_is_mended_is_found_in_order(rt: HostRuntime) -> Result<(), Fail> {
     let b = faulty();
     let text =
         "marked 13\nentry Z.TXT;1 in 4 names no file\nsecond entry Y.TXT;1 in 4\ndoubles in 4\nlost 14\nlost 15\nleaked clusters 3\nleaked numbers 2\nusage of [0,0]: has 61, should be 70\n";
-    assert!(rt; are_told(alloc, &b, text.as_bytes())?);
-    assert!(rt; is_refused(alloc, &b)?);
+    assert!(rt;
+        are_told(alloc, &b, text.as_bytes())?,
+        "all that can be mended is told, in order"
+    );
+    assert!(rt;
+        is_refused(alloc, &b)?,
+        "the volume is refused since file 13 is marked"
+    );
     Ok(())
 }
 
@@ -229,13 +244,19 @@ fn the_first_fatal_finding_is_told_alone(rt: HostRuntime) -> Result<(), Fail> {
     let alloc = rt.alloc();
     let mut b = faulty();
     b[48] = block(LAST);
-    assert!(rt; are_told(alloc, &b, b"no room for 15\n")?);
+    assert!(rt;
+        are_told(alloc, &b, b"no room for 15\n")?,
+        "file 15, which has no room in [SYSLOST], is told alone"
+    );
     for (lbn, at, byte, text) in &BEFORE {
         change(&mut b, *lbn, *at, *byte);
         assert!(rt; are_told(alloc, &b, text.as_bytes())?, "{text}");
     }
     put_thrice(&mut b);
-    assert!(rt; are_told(alloc, &b, b"clusters of 12\n")?);
+    assert!(rt;
+        are_told(alloc, &b, b"clusters of 12\n")?,
+        "the clusters of file 12, which are too many, are told alone"
+    );
     for (lbn, at, byte, text) in &BEHIND {
         change(&mut b, *lbn, *at, *byte);
         assert!(rt; are_told(alloc, &b, text.as_bytes())?, "{text}");
@@ -271,10 +292,19 @@ fn any_bytes_are_told_apart_from_a_volume(rt: HostRuntime) -> Result<(), Fail> {
     let alloc = rt.alloc();
     for seed in 1..5u32 {
         let mut b = noise(seed);
-        assert!(rt; are_told(alloc, &b, b"home: BadFormat\n")?);
+        assert!(rt;
+            are_told(alloc, &b, b"home: BadFormat\n")?,
+            "noise {seed} has no home block"
+        );
         b[1] = home_block(&SMALL);
-        assert!(rt; is_header_told(alloc, &b)?);
-        assert!(rt; is_no_volume(alloc, &b)?);
+        assert!(rt;
+            is_header_told(alloc, &b)?,
+            "noise {seed} with a home block: the header of file 1 is told"
+        );
+        assert!(rt;
+            is_no_volume(alloc, &b)?,
+            "noise {seed} with a home block: there is no volume to be read"
+        );
     }
     Ok(())
 }

@@ -242,13 +242,22 @@ fn entries_and_marked_directories(rt: HostRuntime) -> Result<(), Fail> {
         marked: true,
         named: &[],
     };
-    assert!(rt; finds_nothing(alloc, gone, EMPTY)?);
-    assert!(rt; finds_system_entry_10(alloc, 10)?);
+    assert!(rt;
+        finds_nothing(alloc, gone, EMPTY)?,
+        "nothing is found of a marked directory without entries"
+    );
+    assert!(rt;
+        finds_system_entry_10(alloc, 10)?,
+        "the entry of QUOTA.SYS with another sequence is told"
+    );
     let full = Directory {
         marked: true,
         named: &[Fid { num: 1, seq: 1 }],
     };
-    assert!(rt; finds_marked_directory_13(alloc, full)?);
+    assert!(rt;
+        finds_marked_directory_13(alloc, full)?,
+        "the marked directory 13, which has an entry, is told"
+    );
     Ok(())
 }
 
@@ -284,10 +293,25 @@ fn is_loop_at(alloc: Global, thirteen: &[Fid], number: u32) -> Result<bool, NoMe
 #[test]
 fn chains_that_lead_back(rt: HostRuntime) -> Result<(), Fail> {
     let alloc = rt.alloc();
-    assert!(rt; is_no_loop(alloc, &[])?);
-    assert!(rt; is_no_loop(alloc, &[OLD])?);
-    assert!(rt; is_loop_at(alloc, &[TWELVE], 12)?);
-    assert!(rt; is_loop_at(alloc, &[THIRTEEN], 13)?);
-    assert!(rt; is_loop_at(alloc, &[OLD, MAIN], 4)?);
+    assert!(rt;
+        is_no_loop(alloc, &[])?,
+        "a directory without entries makes no loop"
+    );
+    assert!(rt;
+        is_no_loop(alloc, &[OLD])?,
+        "an entry of an earlier file 12 makes no loop"
+    );
+    assert!(rt;
+        is_loop_at(alloc, &[TWELVE], 12)?,
+        "an entry of directory 12 makes a loop at 12"
+    );
+    assert!(rt;
+        is_loop_at(alloc, &[THIRTEEN], 13)?,
+        "an entry of directory 13 itself makes a loop at 13"
+    );
+    assert!(rt;
+        is_loop_at(alloc, &[OLD, MAIN], 4)?,
+        "an entry of the main directory makes a loop at 4"
+    );
     Ok(())
 }

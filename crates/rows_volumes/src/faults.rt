@@ -170,21 +170,34 @@ fn first_with(alloc: Global, lbn: usize, block: &Block) -> Result<(Told, u32), N
 #[test]
 fn first_findings_of_headers(rt: HostRuntime) -> Result<(), Fail> {
     let alloc = rt.alloc();
-    assert!(rt; matches!(first_told(alloc, &small())?, (Told::Nothing, 0)));
+    assert!(rt;
+        matches!(first_told(alloc, &small())?, (Told::Nothing, 0)),
+        "nothing is found in the sound volume"
+    );
     let mut changed = header(20, 1, 0, NO_RUN, NO_RUN);
     put_word(&mut changed, 12, 1);
     assert!(rt;
         matches!(
             first_with(alloc, 24, &changed)?,
             (Told::Header(20, HeaderFault::BadSum), _)
-        )
+        ),
+        "the bad sum of header 20 is told"
     );
     let other = header(21, 1, 0, NO_RUN, NO_RUN);
-    assert!(rt; matches!(first_with(alloc, 24, &other)?, (Told::WrongNumber(20), _)));
+    assert!(rt;
+        matches!(first_with(alloc, 24, &other)?, (Told::WrongNumber(20), _)),
+        "the wrong number in header 20 is told"
+    );
     let marked = header(5, 5, MARKED, NO_RUN, NO_RUN);
-    assert!(rt; matches!(first_with(alloc, 9, &marked)?, (Told::SystemFile(5), _)));
+    assert!(rt;
+        matches!(first_with(alloc, 9, &marked)?, (Told::SystemFile(5), _)),
+        "the mark of system file 5 is told"
+    );
     let short = header(1, 1, 0, (0, 36), NO_RUN);
-    assert!(rt; matches!(first_with(alloc, 5, &short)?, (Told::SystemFile(1), _)));
+    assert!(rt;
+        matches!(first_with(alloc, 5, &short)?, (Told::SystemFile(1), _)),
+        "the short run of system file 1 is told"
+    );
     let larger = scb_block(&Scb {
         cluster: 1,
         blocks: 65,
@@ -193,7 +206,8 @@ fn first_findings_of_headers(rt: HostRuntime) -> Result<(), Fail> {
         matches!(
             first_with(alloc, 37, &larger)?,
             (Told::Scb(ScbFault::BadSize), _)
-        )
+        ),
+        "the wrong size in the storage control block is told"
     );
     Ok(())
 }
@@ -220,29 +234,47 @@ fn first_findings_of_clusters(rt: HostRuntime) -> Result<(), Fail> {
         matches!(
             first_of_file(alloc, 0, (60, 5), NO_RUN)?,
             (Told::Runs(12), _)
-        )
+        ),
+        "the run of file 12 beyond the volume is told"
     );
     assert!(rt;
         matches!(
             first_of_file(alloc, 0, (0, 39), (0, 39))?,
             (Told::Clusters(12), _)
-        )
+        ),
+        "the 78 clusters of file 12 are told"
     );
     assert!(rt;
         matches!(
             first_of_file(alloc, MARKED, (41, 3), NO_RUN)?,
             (Told::SharedCluster(41), _)
-        )
+        ),
+        "cluster 41, which is in two runs, is told"
     );
     let mut b = with_runs(MARKED, (42, 1), (63, 1));
-    assert!(rt; matches!(first_told(alloc, &b)?, (Told::FreeCluster(42), _)));
+    assert!(rt;
+        matches!(first_told(alloc, &b)?, (Told::FreeCluster(42), _)),
+        "cluster 42 of file 12, free in the bitmap, is told"
+    );
     clear_bits(&mut b[38], 42, 1);
-    assert!(rt; matches!(first_told(alloc, &b)?, (Told::FreeCluster(63), _)));
+    assert!(rt;
+        matches!(first_told(alloc, &b)?, (Told::FreeCluster(63), _)),
+        "cluster 63 of file 12, free in the bitmap, is told"
+    );
     clear_bits(&mut b[38], 63, 1);
-    assert!(rt; matches!(first_told(alloc, &b)?, (Told::FreeNumber(12), _)));
+    assert!(rt;
+        matches!(first_told(alloc, &b)?, (Told::FreeNumber(12), _)),
+        "file number 12, free in the bitmap, is told"
+    );
     set_bits(&mut b[4], 11, 1);
-    assert!(rt; matches!(first_told(alloc, &b)?, (Told::Nothing, 0)));
+    assert!(rt;
+        matches!(first_told(alloc, &b)?, (Told::Nothing, 0)),
+        "nothing is found once the bitmaps are right"
+    );
     clear_bits(&mut b[38], 50, 3);
-    assert!(rt; matches!(first_told(alloc, &b)?, (Told::Nothing, 3)));
+    assert!(rt;
+        matches!(first_told(alloc, &b)?, (Told::Nothing, 3)),
+        "three clusters are neither free nor in a file"
+    );
     Ok(())
 }

@@ -76,7 +76,10 @@ fn is_read(alloc: Global, blocks: &[Block; 64]) -> Result<bool, NoMemory> {
 
 #[test]
 fn a_volume_is_read(rt: HostRuntime) -> Result<(), Fail> {
-    assert!(rt; is_read(rt.alloc(), &whole())?);
+    assert!(rt;
+        is_read(rt.alloc(), &whole())?,
+        "the whole volume is read, with its sizes and places"
+    );
     Ok(())
 }
 
@@ -86,16 +89,34 @@ fn one_byte_makes_a_finding(rt: HostRuntime) -> Result<(), Fail> {
     let alloc = rt.alloc();
     let mut b = whole();
     b[39][35] = b'Q';
-    assert!(rt; matches!(found(alloc, &b)?, Told::SystemEntry(8)));
+    assert!(rt;
+        matches!(found(alloc, &b)?, Told::SystemEntry(8)),
+        "the missing entry of system file 8 is told"
+    );
     b[4][0] = 0xfe;
-    assert!(rt; matches!(found(alloc, &b)?, Told::FreeNumber(1)));
+    assert!(rt;
+        matches!(found(alloc, &b)?, Told::FreeNumber(1)),
+        "file number 1, free in the bitmap, is told"
+    );
     b[38][5] = 0xfe;
-    assert!(rt; matches!(found(alloc, &b)?, Told::FreeCluster(41)));
+    assert!(rt;
+        matches!(found(alloc, &b)?, Told::FreeCluster(41)),
+        "cluster 41 of file 11, free in the bitmap, is told"
+    );
     b[40][4] = 1;
-    assert!(rt; matches!(found(alloc, &b)?, Told::NoQuotaRow(1)));
+    assert!(rt;
+        matches!(found(alloc, &b)?, Told::NoQuotaRow(1)),
+        "the missing quota row for the owner of file 1 is told"
+    );
     b[39][0] = 0x17;
-    assert!(rt; matches!(found(alloc, &b)?, Told::DirRecord(4)));
+    assert!(rt;
+        matches!(found(alloc, &b)?, Told::DirRecord(4)),
+        "the bad record of directory 4 is told"
+    );
     b[1][496] = b'd';
-    assert!(rt; matches!(found(alloc, &b)?, Told::Home(HomeFault::BadFormat)));
+    assert!(rt;
+        matches!(found(alloc, &b)?, Told::Home(HomeFault::BadFormat)),
+        "the bad format of the home block is told"
+    );
     Ok(())
 }

@@ -40,7 +40,10 @@ fn parts_are_read(rt: HostRuntime) -> Result<(), Fail> {
     blocks[16] = header(12, &[0, 0x40, 50, 0, 1, 0x40, 45, 0], 3);
     blocks[41][7] = 0x80;
     let blocks = blocks.as_slice();
-    assert!(rt; fields(&home, blocks, 13).is_none());
+    assert!(rt;
+        fields(&home, blocks, 13).is_none(),
+        "number 13, which is not in use, has no fields"
+    );
     let Some(f) = fields(&home, blocks, 12) else {
         return Err(Fail::from("number 12 is in use"));
     };
@@ -54,10 +57,19 @@ fn parts_are_read(rt: HostRuntime) -> Result<(), Fail> {
     if bitmap != 40 {
         return Err(Fail::from("BITMAP.SYS begins at LBN 40"));
     }
-    assert!(rt; is_free_cluster(&home, blocks, bitmap, 63));
-    assert!(rt; !is_free_cluster(&home, blocks, bitmap, 62));
-    assert!(rt; is_used_number(&home, blocks, 12));
-    assert!(rt; !is_used_number(&home, blocks, 11));
+    assert!(rt;
+        is_free_cluster(&home, blocks, bitmap, 63),
+        "cluster 63 is free"
+    );
+    assert!(rt;
+        !is_free_cluster(&home, blocks, bitmap, 62),
+        "cluster 62 is not free"
+    );
+    assert!(rt; is_used_number(&home, blocks, 12), "number 12 is in use");
+    assert!(rt;
+        !is_used_number(&home, blocks, 11),
+        "number 11 is not in use"
+    );
     Ok(())
 }
 

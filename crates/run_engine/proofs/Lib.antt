@@ -10,6 +10,7 @@ pub mod MendedDrives
 pub mod MountedVolumes
 pub mod Playing
 pub mod Rebuilding
+pub mod Releasing
 pub mod Resting
 pub mod Results
 pub mod Rotating

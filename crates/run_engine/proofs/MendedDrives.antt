@@ -20,14 +20,14 @@ use Rattle.run_engine.specs.Halts.{IsHaltOf, IsPartlyBy, IsMendedBy, IsUnmendedB
 use Rattle.run_engine.specs.declared.over_mending.Halt.{Halt}
 use Rattle.run_engine.specs.declared.over_mending.Halt.TheVariants as halt
 
-module _ (w : Plain) (c : Cat) (told now : Option (List Block)) (h : List Entry) (new : List Block) (still : StillMends c new) where
-  pub partly_by : (f : Option RebuildFault) → IsMendImage c told now new f → IsPartlyBy c told now
+module _ (w : Plain) (c : Cat) (told now : Option (List Block)) (h : List Entry) (new : List Block) (still : StillMends c w.blocks new) where
+  pub partly_by : (f : Option RebuildFault) → IsMendImage c w.blocks told now new f → IsPartlyBy w c told now
   partly_by None image = record { blocks = new; image = image; still = still }
   partly_by (Some (rebuild.NotMendable f)) image = record { blocks = new; image = image; still = still }
   partly_by (Some rebuild.ImageFault) image = record { blocks = image.0; image = image.1; still = image.2 }
   partly_by (Some rebuild.NoMemory) image = record { blocks = new; image = image; still = still }
 
-  pub mended_by : (text : List ℕ) → IsMendEnd w c h new None → IsMendImage c told now new None → ((x : Cat) → CatOf new x → text ≡ report_bytes h (free_clusters x)) → IsMendedBy w c told now text
+  pub mended_by : (text : List ℕ) → IsMendEnd w c h new None → IsMendImage c w.blocks told now new None → ((x : Cat) → CatOf new x → text ≡ report_bytes h (free_clusters x)) → IsMendedBy w c told now text
   mended_by text end image written = record {
     blocks = new;
     done = end.0;
@@ -36,13 +36,13 @@ module _ (w : Plain) (c : Cat) (told now : Option (List Block)) (h : List Entry)
     written = written end.1.after end.1.left ∙ ap (λ (es : List Entry). report_text es end.1.after) end.2;
   }
 
-  pub halt_by : (f : RebuildFault) (had has : ℕ) (x : Halt) → IsHaltOf h f x → IsMendEnd w c h new (Some f) → IsMendImage c told now new (Some f) → (Some f ≡ Some rebuild.ImageFault → Rose had has) → IsHaltBy w c told now had has x
+  pub halt_by : (f : RebuildFault) (had has : ℕ) (x : Halt) → IsHaltOf h f x → IsMendEnd w c h new (Some f) → IsMendImage c w.blocks told now new (Some f) → (Some f ≡ Some rebuild.ImageFault → Rose had has) → IsHaltBy w c told now had has x
   halt_by rebuild.ImageFault had has (halt.Cut text) told_so end image cause = (cause refl, partly_by (Some rebuild.ImageFault) image, told_so ∙ ap cut_text end)
-  halt_by rebuild.ImageFault had has halt.Bare told_so end image cause = (cause refl, partly_by (Some rebuild.ImageFault) image)
+  halt_by rebuild.ImageFault had has halt.NoLines told_so end image cause = (cause refl, partly_by (Some rebuild.ImageFault) image)
   halt_by rebuild.ImageFault had has (halt.Unmended text g) told_so end image cause = absurd told_so
   halt_by rebuild.ImageFault had has (halt.By s) told_so end image cause = absurd told_so
   halt_by (rebuild.NotMendable f) had has (halt.Cut text) told_so end image cause = absurd told_so
-  halt_by (rebuild.NotMendable f) had has halt.Bare told_so end image cause = absurd told_so
+  halt_by (rebuild.NotMendable f) had has halt.NoLines told_so end image cause = absurd told_so
   halt_by (rebuild.NotMendable f) had has (halt.Unmended text g) told_so end image cause =
       subst (λ (k : Finding). IsUnmendedBy w c told now k text.items) (sym told_so.1) (record {
         image = image ∙ ap (told_as told) end.1;

@@ -14,7 +14,7 @@ use Rattle.vol_parts.specs.declared.geometry.Geometry.{Geometry}
 use Rattle.vol_parts.specs.declared.finding.Finding.TheVariants as finding
 use Rattle.vol_parts.specs.Volumes.{volume}
 use Rattle.vol_parts.specs.Catalogues.{catalogue}
-use Rattle.vol_parts.specs.Findings.{home_at, IsFatalBy, IsFirstFatal, IsCatalogueBy, CatOf, Weak}
+use Rattle.vol_parts.specs.Findings.{home_at, IsFatal, IsFatalBy, IsFirstFatal, IsCatalogueBy, CatOf, Weak}
 use Rattle.vol_faults.specs.Conditions.{IsSize}
 use Rattle.vol_faults.specs.Free.{IsGeometryBy}
 use Rattle.vol_spell.specs.Reading.{total_of}
@@ -22,7 +22,8 @@ use Rattle.vol_under.proofs.Short.{free_by_bits}
 use Rattle.vol_mends.proofs.WriteTold.{owned}
 use Rattle.vol_rebuild.specs.declared.fault.RebuildFault.{RebuildFault}
 use Rattle.vol_rebuild.specs.declared.fault.RebuildFault.TheVariants as fault
-use Rattle.vol_rebuild.specs.Rebuilt.{IsRebuilt}
+use Rattle.vol_rebuild.specs.Rebuilt.{IsRebuilt, IsRefusal}
+use Rattle.plain_rules.specs.Mending.{mended}
 use Rattle.vol_rebuild.specs.Ways.{IsWay, IsAhead}
 use Rattle.blk_drive.specs.Telling.{IsTold as Shows}
 use Rattle.blk_drive.specs.Telling.{told_as as told_way}
@@ -58,11 +59,15 @@ module _ (w : Plain) (c : Cat) (old : List Block) (at : old ≡ w.blocks) (is : 
   m : MendsAs old c
   m = subst (λ (bs : List Block). MendsAs bs c) (sym at) is
 
-  pub none_mends : StillMends c old
-  none_mends d e = m.mends d e
+  pub none_mends : StillMends c w.blocks old
+  none_mends = record { mends = λ d e. m.mends d e; refused = λ none. at }
 
-  pub way_still : (new : List Block) → IsWay old new → StillMends c new
-  way_still new way d e = way_mends old new way d (m.mends d e)
+  -- if the catalogue cannot be mended, the mending is refused
+  is_refused : (r : Result Mended RebuildFault) (new : List Block) → ((f : Finding) → IsFatal old f → IsRefusal r × (new ≡ old)) → mended c ≡ None → IsRefusal r × (new ≡ old)
+  is_refused r new fatal none = let l = m.lacking none in fatal (finding.NoRoom l.0) l.1
+
+  pub way_still : (r : Result Mended RebuildFault) (new : List Block) → IsWay old new → ((f : Finding) → IsFatal old f → IsRefusal r × (new ≡ old)) → StillMends c w.blocks new
+  way_still r new way fatal = record { mends = λ d e. way_mends old new way d (m.mends d e); refused = λ none. (is_refused r new fatal none).1 ∙ at }
 
   -- a mending that came to its end
   pub end_well : (h : List Entry) (new : List Block) (done : Mended) → IsRebuilt old new done → h ≡ w.history ++ entry.Mended done ∷ [] → IsMendEnd w c h new None
@@ -79,19 +84,20 @@ module _ (w : Plain) (c : Cat) (old : List Block) (at : old ≡ w.blocks) (is : 
   end_by h new r fault.NoMemory err refused same = same
 
   -- what the image has then
-  ahead_still : (told now : Option (List Block)) (new : List Block) → IsAhead told now old new → IsMendImage c told now new (Some fault.ImageFault)
-  ahead_still told now new a =
+  ahead_still : (told now : Option (List Block)) (r : Result Mended RebuildFault) (new : List Block) → r ≡ Err fault.ImageFault → ((f : Finding) → IsFatal old f → IsRefusal r × (new ≡ old)) → IsAhead told now old new
+      → IsMendImage c w.blocks told now new (Some fault.ImageFault)
+  ahead_still told now r new err fatal a =
       let bs = slice_set new a.place a.block in
-      (bs, a.there ∙ same_told told bs, λ d e. a.mends d (m.mends d e))
+      (bs, a.there ∙ same_told told bs, record { mends = λ d e. a.mends d (m.mends d e); refused = λ none. absurd (let k : IsRefusal (Err fault.ImageFault) = subst IsRefusal err (is_refused r new fatal none).0 in k) })
 
-  pub image_by : (told now : Option (List Block)) (new : List Block) (r : Result Mended RebuildFault) (f : RebuildFault) → r ≡ Err f → IsWay old new
-      → (now ≡ told_way told new) ⊎ ((r ≡ Err fault.ImageFault) × IsAhead told now old new) → IsMendImage c told now new (Some f)
-  image_by told now new r fault.ImageFault err way (inl e) = (new, e ∙ same_told told new, way_still new way)
-  image_by told now new r fault.ImageFault err way (inr p) = ahead_still told now new p.1
-  image_by told now new r fault.NoMemory err way (inl e) = e ∙ same_told told new
-  image_by told now new r fault.NoMemory err way (inr p) = absurd (let k : Err fault.NoMemory ≡ Err fault.ImageFault = sym err ∙ p.0 in cc k)
-  image_by told now new r (fault.NotMendable g) err way (inl e) = e ∙ same_told told new
-  image_by told now new r (fault.NotMendable g) err way (inr p) = absurd (let k : Err (fault.NotMendable g) ≡ Err fault.ImageFault = sym err ∙ p.0 in cc k)
+  pub image_by : (told now : Option (List Block)) (new : List Block) (r : Result Mended RebuildFault) (f : RebuildFault) → r ≡ Err f → IsWay old new → ((g : Finding) → IsFatal old g → IsRefusal r × (new ≡ old))
+      → (now ≡ told_way told new) ⊎ ((r ≡ Err fault.ImageFault) × IsAhead told now old new) → IsMendImage c w.blocks told now new (Some f)
+  image_by told now new r fault.ImageFault err way fatal (inl e) = (new, e ∙ same_told told new, way_still r new way fatal)
+  image_by told now new r fault.ImageFault err way fatal (inr p) = ahead_still told now r new err fatal p.1
+  image_by told now new r fault.NoMemory err way fatal (inl e) = e ∙ same_told told new
+  image_by told now new r fault.NoMemory err way fatal (inr p) = absurd (let k : Err fault.NoMemory ≡ Err fault.ImageFault = sym err ∙ p.0 in cc k)
+  image_by told now new r (fault.NotMendable g) err way fatal (inl e) = e ∙ same_told told new
+  image_by told now new r (fault.NotMendable g) err way fatal (inr p) = absurd (let k : Err (fault.NotMendable g) ≡ Err fault.ImageFault = sym err ∙ p.0 in cc k)
 
 pub image_well : (told now : Option (List Block)) (old new : List Block) (r : Result Mended RebuildFault) (done : Mended) → r ≡ Ok done
     → (now ≡ told_way told new) ⊎ ((r ≡ Err fault.ImageFault) × IsAhead told now old new) → now ≡ told_as told new

@@ -30,26 +30,26 @@ with_mending h done = h ++ entry.Mended done ∷ []
 -- why a run came to no end is why it is not mended
 abbrev pub halt_of : Stop → Halt
 halt_of (stop.Cut text) = halt.Cut text
-halt_of stop.Bare = halt.Bare
+halt_of stop.NoLines = halt.NoLines
 halt_of (stop.By s) = halt.By s
 
 -- how it is told that a drive is not mended, behind a run with this history
 abbrev pub IsHaltOf : List Entry → RebuildFault → Halt → Type 0
 IsHaltOf h rebuild.ImageFault (halt.Cut text) = text.items ≡ cut_text h
-IsHaltOf h rebuild.ImageFault halt.Bare = Unit {0}
+IsHaltOf h rebuild.ImageFault halt.NoLines = Unit {0}
 IsHaltOf h rebuild.ImageFault (halt.Unmended text f) = ⊥
 IsHaltOf h rebuild.ImageFault (halt.By s) = ⊥
 IsHaltOf h (rebuild.NotMendable f) (halt.Cut text) = ⊥
-IsHaltOf h (rebuild.NotMendable f) halt.Bare = ⊥
+IsHaltOf h (rebuild.NotMendable f) halt.NoLines = ⊥
 IsHaltOf h (rebuild.NotMendable f) (halt.Unmended text g) = (text.items ≡ unmended_text h f) × (g ≡ f)
 IsHaltOf h (rebuild.NotMendable f) (halt.By s) = s ≡ status.NoMemory
 IsHaltOf h rebuild.NoMemory r = r ≡ halt.By status.NoMemory
 
--- the image has blocks that mend to the same
-pub record IsPartlyBy (c : Cat) (told new : Option (List Block)) : Type 0 where
+-- the image has blocks that mend to the same as the drive of the world, or, if that cannot be mended, its drive
+pub record IsPartlyBy (w : Plain) (c : Cat) (told new : Option (List Block)) : Type 0 where
   pub blocks : List Block
   pub image : new ≡ told_as told blocks
-  pub still : StillMends c blocks
+  pub still : StillMends c w.blocks blocks
 
 -- it has the mended volume, and this text is printed
 pub record IsMendedBy (w : Plain) (c : Cat) (told new : Option (List Block)) (text : List ℕ) : Type 0 where
@@ -67,14 +67,14 @@ pub record IsUnmendedBy (w : Plain) (c : Cat) (told new : Option (List Block)) (
 
 -- why the drive is not mended
 abbrev pub IsHaltBy : Plain → Cat → Option (List Block) → Option (List Block) → ℕ → ℕ → Halt → Type 0
-IsHaltBy w c told new had has (halt.Cut text) = Rose had has × IsPartlyBy c told new × (text.items ≡ cut_text w.history)
-IsHaltBy w c told new had has halt.Bare = Rose had has × IsPartlyBy c told new
+IsHaltBy w c told new had has (halt.Cut text) = Rose had has × IsPartlyBy w c told new × (text.items ≡ cut_text w.history)
+IsHaltBy w c told new had has halt.NoLines = Rose had has × IsPartlyBy w c told new
 IsHaltBy w c told new had has (halt.Unmended text f) = IsUnmendedBy w c told new f text.items
-IsHaltBy w c told new had has (halt.By s) = (s ≡ status.NoMemory) × IsPartlyBy c told new
+IsHaltBy w c told new had has (halt.By s) = (s ≡ status.NoMemory) × IsPartlyBy w c told new
 
 -- the status of a run that is not mended, and the text that was written
 abbrev pub IsToldHalt : Option (List ℕ) → Option (List ℕ) → ℕ → ℕ → Halt → Status → Type 0
 IsToldHalt old new before now (halt.Cut text) r = (r ≡ status.ImageFault) × IsWritten old new before now text.items
-IsToldHalt old new before now halt.Bare r = (r ≡ status.ImageFault) × IsWritten old new before now (status_text status.ImageFault)
+IsToldHalt old new before now halt.NoLines r = (r ≡ status.NoMemory) × IsWritten old new before now (status_text status.NoMemory)
 IsToldHalt old new before now (halt.Unmended text f) r = (r ≡ status.NotMendable f) × IsWritten old new before now text.items
 IsToldHalt old new before now (halt.By s) r = ((r ≡ s) ⊎ (r ≡ status.NoMemory)) × IsWritten old new before now (status_text r)

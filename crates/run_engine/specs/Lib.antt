@@ -1,3 +1,4 @@
+pub mod Calls
 pub mod Ended
 pub mod Faults
 pub mod Halting
@@ -16,3 +17,4 @@ pub mod Torn
 pub mod TornLaws
 pub mod Verdicts
 pub mod Walks
+pub mod Releases

@@ -17,9 +17,11 @@ use Rattle.core_state.specs.Worlds.{Plain}
 use Rattle.blk_drive.specs.Telling.{told_as}
 use Rattle.run_engine.specs.Mending.{IsMended}
 
--- the blocks mend to what the catalogue mends to
-abbrev pub StillMends : Cat → List Block → Type 0
-StillMends c bs = (d : Cat) → MendsTo c d → Mends bs d
+-- What a mending of the old blocks leaves wherever it stops: the new blocks mend to what the catalogue mends to. If it cannot be mended, they
+-- are the old ones.
+pub record StillMends (c : Cat) (old new : List Block) : Type 0 where
+  pub mends : (d : Cat) → MendsTo c d → Mends new d
+  pub refused : mended c ≡ None → new ≡ old
 
 -- The catalogue cannot be mended: [SYSLOST] lacks room for a lost file, and of the blocks that is the first fatal finding.
 pub record IsRoomless (c : Cat) (bs : List Block) (f : Finding) : Type 0 where
@@ -37,9 +39,9 @@ IsMendEnd w c h new (Some (fault.NotMendable f)) = IsRoomless c w.blocks f × (n
 IsMendEnd w c h new (Some fault.ImageFault) = h ≡ w.history
 IsMendEnd w c h new (Some fault.NoMemory) = h ≡ w.history
 
--- What the image tells then: the drive, and where a write failed blocks that mend to the same.
-abbrev pub IsMendImage : Cat → Option (List Block) → Option (List Block) → List Block → Option RebuildFault → Type 0
-IsMendImage c told now new None = now ≡ told_as told new
-IsMendImage c told now new (Some (fault.NotMendable f)) = now ≡ told_as told new
-IsMendImage c told now new (Some fault.ImageFault) = (bs : List Block) × (now ≡ told_as told bs) × StillMends c bs
-IsMendImage c told now new (Some fault.NoMemory) = now ≡ told_as told new
+-- What the image tells then: the drive, and where a write failed blocks that mend to the same as the old ones.
+abbrev pub IsMendImage : Cat → List Block → Option (List Block) → Option (List Block) → List Block → Option RebuildFault → Type 0
+IsMendImage c old told now new None = now ≡ told_as told new
+IsMendImage c old told now new (Some (fault.NotMendable f)) = now ≡ told_as told new
+IsMendImage c old told now new (Some fault.ImageFault) = (bs : List Block) × (now ≡ told_as told bs) × StillMends c old bs
+IsMendImage c old told now new (Some fault.NoMemory) = now ≡ told_as told new

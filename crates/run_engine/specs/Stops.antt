@@ -24,7 +24,7 @@ report_text h c = report_bytes h (free_clusters c)
 -- how a run that stopped by a fault is told
 abbrev pub IsStopOf : Plain → RunFault → Stop → Type 0
 IsStopOf w run.ImageFault (stop.Cut text) = text.items ≡ cut_text w.history
-IsStopOf w run.ImageFault stop.Bare = Unit {0}
+IsStopOf w run.ImageFault stop.NoLines = Unit {0}
 IsStopOf w run.ImageFault (stop.By s) = ⊥
 IsStopOf w run.NoMemory r = r ≡ stop.By status.NoMemory
 

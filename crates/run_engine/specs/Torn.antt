@@ -16,6 +16,10 @@ pub record CanStop (w : Plain) : Type 0 where
   pub halted : IsHalted w left
   pub mends : MendsAs w.blocks left
 
+-- wherever this walk stops, its world can stop
+abbrev pub WalkCanStop : Plain → List ℕ → Type 0
+WalkCanStop start plays = (w : Plain) → IsPartOfWalk start plays w → CanStop w
+
 -- A write of node n failed, in its turn in the world w. The image has the drive of a world that keeps the rules: that of w, or, if the
 -- write landed, that of the one to which the turn leads. A write answers nothing, so this world has the history of w. It can stop there.
 pub record IsTornWorld (w : Plain) (n : ℕ) (new : Option (List Block)) : Type 0 where

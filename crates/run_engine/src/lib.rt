@@ -2,7 +2,8 @@
 //! turns in rotation until every node is over, the mending of the drive, the report, and the texts and numbers of the statuses.
 //!
 //! `RunFault` is why a run stopped, `Stop` why it came to no end, `Halt` why it has no report, its mending included. `MendEnd` is what
-//! a mending left. `Status` is how a call ended, and `Finished` that with the image. Nothing here knows the words of one program.
+//! a mending left. `Status` is how a call ended, and `Finished` that with the image; `Called` has the number of the status in its place. Nothing here knows the
+//! words of one program.
 //!
 //! ```text
 //! let script = script_of(alloc, &mut source)?;
@@ -28,6 +29,7 @@
 //! The top calls (`clus_top`, `live_run`) use it.
 #![tactic(auto)]
 
+mod calls;
 mod counts;
 mod fault;
 mod free;
@@ -45,9 +47,10 @@ mod summaries;
 mod telling;
 mod world_laws;
 
+pub use calls::{Called, exit_code, no_memory, words_of};
 pub use fault::RunFault;
 pub use free::free_at_end;
-pub use laws::{over_is_spelt, over_is_whole, turns_leave_the_rest};
+pub use laws::{over_is_spelt, over_is_whole, turns_are_two_phase, turns_leave_the_rest};
 pub use mending::{MendEnd, free_on_drive, mend};
 pub use over_mending::{Halt, MendedRun, halt_of, mend_over, tell_halt};
 pub use reports::{report, report_lines};

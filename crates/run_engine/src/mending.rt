@@ -43,11 +43,11 @@ pub struct MendEnd<I: ImageDev> {
 pub fn mend<I: ImageDev, O: Operation>(alloc: Global, w: World<I, O>) -> MendEnd<I>
     requires { AllOver w.world }
     ensures end { (c : Cat) → HasEnded w.world c → IsMendEnd w.world c (map shown result.history.items) result.mirror.blocks result.fault }
-    ensures still { (c : Cat) → HasEnded w.world c → StillMends c result.mirror.blocks }
+    ensures still { (c : Cat) → HasEnded w.world c → StillMends c w.world.blocks result.mirror.blocks }
     ensures later { I.faults w.image ≤ I.faults result.mirror.image }
     ensures cause { result.fault ≡ Some RebuildFault.ImageFault → Rose (I.faults w.image) (I.faults result.mirror.image) }
     ensures image { IsTold (I.told w.image) w.world.blocks → (c : Cat) → HasEnded w.world c
-        → IsMendImage c (I.told w.image) (I.told result.mirror.image) result.mirror.blocks result.fault }
+        → IsMendImage c w.world.blocks (I.told w.image) (I.told result.mirror.image) result.mirror.blocks result.fault }
 {
     w.keeps_the_rules();
     let (mut history, mut mirror) = w.into_parts();

@@ -32,7 +32,7 @@ pub enum Halt {
     Cut(Vec<u8>),
 
     /// A write of the image failed, and the lines of the history found no memory.
-    Bare,
+    NoLines,
 
     /// The drive of the run cannot be mended: the lines of the history, and the text of this finding.
     Unmended(Vec<u8>, Finding),
@@ -54,7 +54,7 @@ pub fn halt_of(stop: Stop) -> Halt
 {
     match stop {
         Stop::Cut(text) => Halt::Cut(text),
-        Stop::Bare => Halt::Bare,
+        Stop::NoLines => Halt::NoLines,
         Stop::By(status) => Halt::By(status),
     }
 }
@@ -68,14 +68,14 @@ fn lines_and(alloc: Global, h: &History, text: &[u8]) -> Result<Vec<u8>, NoMemor
     Ok(lines)
 }
 
-// How a write of a mending that failed is told: with the lines of the history before it, if there are any.
+// How a write of a mending that failed is told: with the lines of the history before it, if they find memory.
 #[tactic(auto, unfolding(crate::specs::Texts::status_text))]
 fn cut_behind(alloc: Global, h: &History) -> Halt
     ensures { IsHaltOf (map shown h.now.items) RebuildFault.ImageFault result }
 {
     match lines_and(alloc, h, b"image fault\n") {
         Ok(text) => Halt::Cut(text),
-        Err(_) => Halt::Bare,
+        Err(_) => Halt::NoLines,
     }
 }
 
@@ -153,13 +153,14 @@ pub fn mend_over<I: ImageDev, O: Operation>(alloc: Global, w: World<I, O>) -> Me
     }
 }
 
-/// Writes why a run is not mended, and answers the status: want of memory where the text of another one finds none.
+/// Writes why a run is not mended, and answers the status: want of memory where the text of another one, or the lines in front of it, find
+/// none.
 pub fn tell_halt<O: TextOut>(alloc: Global, out: &mut O, halt: Halt) -> Status
     ensures { IsToldHalt (O.written out.old) (O.written out.new) (O.faults out.old) (O.faults out.new) halt result }
 {
     match halt {
         Halt::Cut(text) => tell_cut(out, text.as_slice()),
-        Halt::Bare => tell(alloc, out, Status::ImageFault),
+        Halt::NoLines => tell(alloc, out, Status::NoMemory),
         Halt::Unmended(text, found) => tell_unmended(out, text.as_slice(), found),
         Halt::By(status) => tell(alloc, out, status),
     }

@@ -22,7 +22,7 @@ pub enum Stop {
     Cut(Vec<u8>),
 
     /// A write of the image failed, and the lines of the answers before it found no memory.
-    Bare,
+    NoLines,
 
     /// Another status, whose text says all.
     By(Status),
@@ -51,14 +51,14 @@ fn cut_text<I: ImageDev, O: Operation>(alloc: Global, w: &World<I, O>) -> Result
     Ok(text)
 }
 
-// How a write that failed is told: with the lines of the answers before it, if there are any.
+// How a write that failed is told: with the lines of the answers before it, if they find memory.
 fn cut_by(lines: Result<Vec<u8>, NoMemory>) -> Stop
     ensures with { IfOk lines (λ text. result ≡ Stop.Cut text) }
-    ensures without { OnErr lines (result ≡ Stop.Bare) }
+    ensures without { OnErr lines (result ≡ Stop.NoLines) }
 {
     match lines {
         Ok(text) => Stop::Cut(text),
-        Err(_) => Stop::Bare,
+        Err(_) => Stop::NoLines,
     }
 }
 

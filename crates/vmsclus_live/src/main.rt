@@ -7,14 +7,14 @@
 //! vmsclus_live volume.img nodes.script live
 //! ```
 //!
-//! The program itself promises nothing more: its stored run shows the report of that script, over real files.
+//! The program itself promises nothing more: its stored run shows the report of that script, over real files. Image and script are those that
+//! the first two words name, and the call has all other words: that is `opened`, and the stored run.
 #![tactic(auto)]
 
 use blk_drive::{ImageDev, MemImage};
-use clus_top::{exit_code, no_memory, words_of};
 use edge_files::{Access, Held, LockFile, SafeOut, image_at, line_of};
 use fx_text::{StdIn, StdOut, TextIn};
-use live_run::{OpenGate, vmsclus_live};
+use live_run::{Called, OpenGate, exit_call, no_memory};
 use plain_cat::NoMemory;
 use std::fs::OpenFile;
 use std::process::ExitCode;
@@ -23,7 +23,8 @@ use std::sync::Wait;
 use std::thread::Threads;
 use std::{fs, io};
 
-// Calls the live top call with standard output as its sink, before which the image's file is synced where that is due.
+// Calls the live top call with standard output as its sink, before which the image's file is synced where that is due. Behind the call
+// nothing is done with the image but to let it go.
 fn called<R, I: ImageDev + Send, F: OpenFile + Drop, T: TextIn>(
     rt: &R,
     job: &[String],
@@ -35,21 +36,16 @@ where
     R: Threads + Wait + Sync + Print + AllocGlobal,
 {
     let mut out = SafeOut::new(StdOut::new(io::writer(rt)), due);
-    match words_of(rt.alloc(), job) {
-        Ok(words) => {
-            let finished = vmsclus_live(
-                rt,
-                rt.alloc(),
-                words.as_slice(),
-                image,
-                &mut script,
-                &mut out,
-                &OpenGate,
-            );
-            exit_code(&finished.status)
-        }
-        Err(_) => no_memory(&mut out),
-    }
+    let Called { code, image: _ } = exit_call(
+        rt,
+        rt.alloc(),
+        job,
+        image,
+        &mut script,
+        &mut out,
+        &OpenGate,
+    );
+    code
 }
 
 // Opens image and script, of which `-` is standard input, and makes the call. With fewer than two words it has no words and no blocks.

@@ -1,5 +1,5 @@
 //! The entries that the master file directory has of the system files.
-ghost use Rattle.std.specs.Prelude.{◌≡◌, ◌≤◌, ◌++◌, [], ◌∷◌, IfOk};
+ghost use Rattle.std.specs.Prelude.{◌≡◌, ◌≤◌, ◌++◌, [], ◌∷◌, IfOk, length};
 ghost use Rattle.vol_init.specs.Layouts.{main_entry, main_entries};
 
 use fx_dir::{NoMemory, RawEnt, RawName};
@@ -7,11 +7,12 @@ use std::alloc::Global;
 
 /// Appends the entry of a system file, whose number is 1 to 11.
 fn add_entry(alloc: Global, list: &mut Vec<RawEnt>, name: &[u8], n: u32) -> Result<(), NoMemory>
-    requires { n ≤ 11 }
+    requires short { length name.now ≤ 79 }
+    requires system { n ≤ 11 }
     ensures { IfOk result (λ _. list.new.items ≡ list.old.items ++ main_entry name.now n ∷ []) }
 {
     list.push(RawEnt {
-        name: RawName::new(alloc, name)?,
+        name: RawName::new(name),
         ver: 1,
         num: n,
         seq: if n <= 9 { n as u16 } else { 1 },

@@ -115,10 +115,7 @@ fn push_run(all: &mut Blocks, blocks: &[Block], run: Run) -> Result<(), NoMemory
     requires { run.lbn + run.count ≤ length blocks.now }
     ensures { OnOk result (all.new ≡ all.old ++ slice_range blocks.now run.lbn (run.lbn + run.count)) }
 {
-    for block in run_blocks(blocks, run) {
-        all.push(*block)?;
-    }
-    Ok(())
+    all.append(run_blocks(blocks, run))
 }
 
 /// The blocks of a file, in order of virtual block. Its runs lie inside the whole clusters. An error says that memory ran

@@ -24,7 +24,7 @@ pub(crate) fn lost_entry(
     let name = lost_name(alloc, n)?;
     let ver = highest(entries, &name) + 1;
     Ok(RawEnt {
-        name: RawName::new(alloc, name.items())?,
+        name: RawName::new(name.items()),
         ver,
         num: n,
         seq,

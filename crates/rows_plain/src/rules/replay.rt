@@ -4,7 +4,8 @@ ghost use Rattle.plain_rules.specs.Checks.{EntryInForm};
 use crate::fresh_catalogue;
 use base_words::{Block, put_bytes, zeros};
 use plain_cat::{
-    Cat, Cmd, DirEnt, DirEnts, Entry, Fid, Mode, Name, NoMemory, Refusal, Reply, Slot, Uic,
+    ByteBlock, Cat, Cmd, DirEnt, DirEnts, Entry, Fid, Mode, Name, NoMemory, Refusal, Reply, Slot,
+    Uic,
 };
 use plain_rules::{is_accounted, is_in_form};
 use plain_vol::{Checked, check_reply};
@@ -202,7 +203,7 @@ pub fn reply_of(alloc: Global, answer: &Answer) -> Result<Reply, NoMemory> {
         },
         Answer::Opened => Reply::Opened,
         Answer::Closed(gone) => Reply::Closed { gone },
-        Answer::Bytes(front) => Reply::Bytes(block_of(&front)),
+        Answer::Bytes(front) => Reply::Bytes(ByteBlock::new(alloc, &block_of(&front))?),
         Answer::Written => Reply::Written,
         Answer::QuotaKept => Reply::QuotaKept,
         Answer::Usage(usage, quota, over) => Reply::Usage { usage, quota, over },

@@ -16,15 +16,13 @@ returns-in-Ok g c =
       script_faults = g.T.TextIn.faults c.args.script.now;
       image_faults = g.I.ImageDev.faults c.args.image;
       out_faults = g.O.TextOut.faults c.args.out.now;
-    }) (g.O.TextOut.written c.vmsclus-finished.new.out) (g.T.TextIn.faults c.vmsclus-finished.new.script) (g.O.TextOut.faults c.vmsclus-finished.new.out) (exit_status c.exit_code.result) in
+    }) (g.O.TextOut.written c.vmsclus-finished.new.out) (g.I.ImageDev.told c.vmsclus-finished.result.image) (g.T.TextIn.faults c.vmsclus-finished.new.script) (g.I.ImageDev.faults c.vmsclus-finished.result.image) (g.O.TextOut.faults c.vmsclus-finished.new.out) (exit_status c.exit_code-code.result) in
     subst P (c.as_slice.ensures.value ∙ c.in-Ok.ensures) (record {
       status = c.vmsclus-finished.result.status;
-      number_is = c.exit_code.ensures;
+      number_is = c.exit_code-code.ensures;
       due = c.vmsclus-finished.ensures.due;
       script_fault = c.vmsclus-finished.ensures.script_fault;
       out_fault = c.vmsclus-finished.ensures.out_fault;
-      image = g.I.ImageDev.told c.vmsclus-finished.result.image;
-      image_faults = g.I.ImageDev.faults c.vmsclus-finished.result.image;
       image_fault = c.vmsclus-finished.ensures.image_fault;
       text = c.vmsclus-finished.ensures.written;
       after = c.vmsclus-finished.ensures.after;
@@ -33,13 +31,11 @@ returns-in-Ok g c =
 pub returns-in-Err : goal.returns-in-Err
 returns-in-Err g c = record {
   status = status.NoMemory;
-  number_is = c.no_memory.ensures.number;
+  number_is = c.no_memory-code.ensures.number;
   due = lacking_due _ _ _ _;
   script_fault = λ e. absurd (let f : status.NoMemory ≡ status.ScriptFault = e in cc);
   out_fault = λ e. absurd (let f : status.NoMemory ≡ status.OutFault = e in cc);
-  image = g.I.ImageDev.told c.args.image;
-  image_faults = g.I.ImageDev.faults c.args.image;
   image_fault = λ e. absurd (let f : status.NoMemory ≡ status.ImageFault = e in cc);
-  text = c.no_memory.ensures.text;
+  text = c.no_memory-code.ensures.text;
   after = lacking_image _ _ _;
 }

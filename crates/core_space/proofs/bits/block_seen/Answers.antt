@@ -1,4 +1,4 @@
-use Rattle.std.proofs.Common.{◌≡◌, ◌==◌, ℕ, [], true, sym, ap, arith}
+use Rattle.std.proofs.Common.{◌==◌, [], sym, ap, arith}
 use Rattle.std.proofs.lemmas.Bool.Decides.{nat_tests}
 use Rattle.core_space.specs.Giving.{found_block}
 use Rattle.core_space.proofs.Loops.{found_at, none_to}

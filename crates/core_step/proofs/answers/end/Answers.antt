@@ -1,4 +1,4 @@
-use Rattle.std.proofs.Common.{refl, ap, ◌∙◌, ◌++◌, false}
+use Rattle.std.proofs.Common.{ap, ◌∙◌, ◌++◌, false}
 use Rattle.std.specs.Prelude.{option_map}
 use Rattle.plain_rules.specs.Own.{after_answer}
 use Rattle.core_state.specs.Worlds.{NodeState, state_of}
@@ -16,7 +16,7 @@ returns-clause-state g c =
     ∙ (λ i. record {
       past = (c.answer.ensures ∙ ap (after_answer node.past c.into_cmd-cmd.result) c.reply_by.ensures) i;
       cmd = option_map g.O.Operation.cmd_is (c.take.ensures.after i);
-      seen = c.unseen.ensures.rest node.seen refl i;
+      seen = c.put_away.ensures i;
       plan = c.take-2.ensures.after i;
       done = 0;
       tried = false;

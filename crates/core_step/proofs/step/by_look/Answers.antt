@@ -1,4 +1,4 @@
-use Rattle.std.proofs.Common.{◌-◌, refl, sym, ap, subst, ◌∙◌, rules}
+use Rattle.std.proofs.Common.{refl, sym, ap, subst, ◌∙◌, rules}
 use Rattle.std.specs.Prelude.{is_some}
 use Rattle.core_state.specs.Worlds.{NodeState, plain_of}
 use Rattle.core_state.specs.Goods.{HasRoom}
@@ -12,14 +12,6 @@ use Rattle.core_step.proofs.step.by_look.Goals as goal
 
 pub current_block-requires : goal.current_block-requires
 current_block-requires g c = world_geometry c.requires.good c.requires.ready
-
-pub use_block-requires-clause-geometry : goal.use_block-requires-clause-geometry
-use_block-requires-clause-geometry g c = world_geometry c.requires.good c.requires.ready
-
-pub use_block-requires-clause-current : goal.use_block-requires-clause-current
-use_block-requires-clause-current g c s at =
-    let it : IsItem g.O.Operation.cmd_is c.requires.ready c.index-at.result.now = item_of g.O.Operation.cmd_is c.args.core.now.nodes.items c.requires.ready c.index-at.result.now refl c.requires.node c.index-at.ensures in
-    c.current_block.ensures.block c.in-Some.block c.in-Some.is ∙ ap (λ (q : NodeState). block_used (plain_of g.O.Operation.cmd_is c.args.core.now) q c.args.name c.args.lbn) (one_node it s at)
 
 pub returns-in_err-use_block : goal.returns-in_err-use_block
 returns-in_err-use_block g c =
@@ -35,7 +27,11 @@ returns-in-Some g c =
     let is = c.requires.needs c.requires.ready.state c.requires.ready.cmd c.requires.ready.at c.requires.ready.has in
     let cached = sym (ap (λ (q : NodeState). has_current (plain_of g.O.Operation.cmd_is c.args.core.now) q c.args.name c.args.lbn) (tells it)) ∙ sym c.current_block.ensures.some ∙ ap is_some c.in-Some.is in
     let makes = makes_as (event_need c.requires.good c.requires.ready c.requires.plan (need.Block c.args.name c.args.lbn) is) (used_now (plain_of g.O.Operation.cmd_is c.args.core.now) c.requires.ready.state c.args.name c.args.lbn cached) in
-    let world = c.in_ok-use_block.ensures.world in
+    let w = plain_of g.O.Operation.cmd_is c.args.core.now in
+    let world = c.in_ok-use_block.ensures.world c.args.name (λ s at. (
+      c.current_block.ensures.block c.in-Some.block c.in-Some.is ∙ ap (λ (q : NodeState). block_used w q c.args.name c.args.lbn) (one_node it s at),
+      sym (ap (λ (q : NodeState). has_current w q c.args.name c.args.lbn) (one_node it s at)) ∙ sym c.current_block.ensures.some ∙ ap is_some c.in-Some.is,
+    )) in
     quiet _ makes world refl (ap (λ m. m.image) c.in_ok-use_block.ensures.mirror) (ap (λ m. m.blocks) c.in_ok-use_block.ensures.mirror)
     (subst (λ k. HasRoom (plain_of g.O.Operation.cmd_is c.use_block.new.core) k) (sym c.in_ok-use_block.ensures.room) (use_room c.requires.good c.requires.ready c.args.name c.args.lbn c.args.core.now.history.room c.requires.room (plain_of g.O.Operation.cmd_is c.use_block.new.core) world))
 

@@ -1,10 +1,10 @@
-use Rattle.std.proofs.Common.{◌≡◌, ◌-◌, Some, refl, sym, ap, subst, ◌∙◌, rules}
+use Rattle.std.proofs.Common.{◌≡◌, Some, refl, sym, ap, subst, ◌∙◌, rules}
 use Rattle.std.specs.Prelude.{is_some}
 use Rattle.lock_db.specs.declared.name.LockName.TheVariants.{V}
 use Rattle.core_state.specs.Worlds.{NodeState, state_of, plain_of}
 use Rattle.core_state.specs.Goods.{HasRoom}
 use Rattle.core_state.specs.Event as event
-use Rattle.core_state.specs.Events.{block_used, cache_looked, cache_used, turned, caching, space_looking, space_using}
+use Rattle.core_state.specs.Events.{block_used, has_current, cache_looked, cache_used, turned, caching, space_looking, space_using}
 use Rattle.base_words.specs.Fields.{block_at}
 use Rattle.core_state.proofs.Nodes.{told_at}
 use Rattle.core_step.specs.Memory.{takes_none}
@@ -28,13 +28,6 @@ space_use-requires-clause-volume g c =
 pub space_use-requires-clause-geometry : goal.space_use-requires-clause-geometry
 space_use-requires-clause-geometry g c s at = (c.requires.can s at).geometry
 
-pub space_use-requires-clause-current : goal.space_use-requires-clause-current
-space_use-requires-clause-current g c s at =
-    let here = told_at (state_of g.O.Operation.cmd_is) c.args.core.now.nodes.items c.args.node c.index-at.result.now c.requires.node.from c.requires.node.to c.index-at.ensures in
-    let one : Some (state_of g.O.Operation.cmd_is c.index-at.result.now) ≡ Some s = sym here ∙ at in
-    let mine : state_of g.O.Operation.cmd_is c.index-at.result.now ≡ s = cc in
-    c.current_block.ensures.block c.in-Some.block c.in-Some.is ∙ ap (λ (q : NodeState). block_used (plain_of g.O.Operation.cmd_is c.args.core.now) q V c.args.lbn) mine
-
 pub returns-in_err-space_use : goal.returns-in_err-space_use
 returns-in_err-space_use g c =
     let here = told_at (state_of g.O.Operation.cmd_is) c.args.core.now.nodes.items c.args.node c.index-at.result.now c.requires.node.from c.requires.node.to c.index-at.ensures in
@@ -49,7 +42,13 @@ returns-in-Some g c =
     let s = state_of g.O.Operation.cmd_is c.index-at.result.now in
     let cached = sym c.current_block.ensures.some ∙ ap is_some c.in-Some.is in
     let makes = makes_as (c.requires.makes s here) (space_used_now (plain_of g.O.Operation.cmd_is c.args.core.now) s c.args.need.clusters c.args.need.number c.args.lbn cached) in
-    let world = c.in_ok-space_use.ensures.world in
+    let w = plain_of g.O.Operation.cmd_is c.args.core.now in
+    let world = c.in_ok-space_use.ensures.world (λ q at.
+    let one : Some s ≡ Some q = sym here ∙ at in
+    let mine : s ≡ q = cc in (
+      c.current_block.ensures.block c.in-Some.block c.in-Some.is ∙ ap (λ (p : NodeState). block_used w p V c.args.lbn) mine,
+      sym (ap (λ (p : NodeState). has_current w p V c.args.lbn) mine) ∙ sym c.current_block.ensures.some ∙ ap is_some c.in-Some.is,
+    )) in
     quiet _ makes world refl (ap (λ m. m.image) c.in_ok-space_use.ensures.mirror) (ap (λ m. m.blocks) c.in_ok-space_use.ensures.mirror)
     (subst (λ k. HasRoom (plain_of g.O.Operation.cmd_is c.space_use.new.core) k) (sym c.in_ok-space_use.ensures.room) (kept_room (plain_of g.O.Operation.cmd_is c.args.core.now) c.args.node s here (event.SpaceUse c.args.need.clusters c.args.need.number c.args.lbn) (turned (caching (cache_used (plain_of g.O.Operation.cmd_is c.args.core.now) s V c.args.lbn) (space_using s c.args.need.clusters c.args.need.number c.args.lbn (block_used (plain_of g.O.Operation.cmd_is c.args.core.now) s V c.args.lbn)))) c.args.core.now.history.room refl refl refl refl c.requires.room (plain_of g.O.Operation.cmd_is c.space_use.new.core) world))
 

@@ -1,5 +1,4 @@
 use Rattle.std.proofs.Common.{◌≡◌, ◌-◌, Some, map, slice_set, refl, sym, ap, subst, ◌∙◌, rules}
-use Rattle.op_law.specs.declared.need.Need.TheVariants as need
 use Rattle.core_state.specs.Worlds.{state_of, plain_of}
 use Rattle.core_state.proofs.Nodes.{told_at}
 use Rattle.core_state.specs.Goods.{Good, HasRoom}

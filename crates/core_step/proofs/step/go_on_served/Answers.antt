@@ -1,5 +1,4 @@
-use Rattle.std.proofs.Common.{◌≡◌, ◌-◌, Some, refl, sym, ap, ◌∙◌, rules}
-use Rattle.op_law.specs.declared.need.Need.TheVariants as need
+use Rattle.std.proofs.Common.{◌≡◌, Some, refl, sym, ap, ◌∙◌, rules}
 use Rattle.core_state.specs.Worlds.{state_of}
 use Rattle.core_state.proofs.Nodes.{told_at}
 use Rattle.core_step.proofs.FromStock.{begun_of, given_takes, begun_op, begun_op_fits, begun_op_geometry, begun_op_searches, needs_it_now}

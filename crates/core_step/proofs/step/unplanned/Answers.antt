@@ -1,4 +1,4 @@
-use Rattle.std.proofs.Common.{◌≡◌, ◌-◌, true, refl, sym, subst, rules}
+use Rattle.std.proofs.Common.{◌≡◌, true, refl, sym, subst, rules}
 use Rattle.op_law.specs.declared.need.Need.TheVariants as need
 use Rattle.std.specs.Prelude.{IfSome}
 use Rattle.op_law.specs.Needs.{need_of}

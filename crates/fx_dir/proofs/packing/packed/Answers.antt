@@ -1,32 +1,30 @@
-use Rattle.std.proofs.Common.{◌≡◌, ◌∙◌, [], map, sym, ap, subst, arith, drop_of_length-le}
+use Rattle.std.proofs.Common.{◌≡◌, ◌∙◌, [], length, sym, ap, refl}
 use Rattle.base_words.specs.Packing.{over}
-use Rattle.fx_dir.specs.Lists.{Each, joined}
 use Rattle.fx_dir.specs.Directory.{directory, dir_entries}
-use Rattle.fx_dir.specs.Writing.{IsRanged, AreWritable, name_of, block_of}
-use Rattle.fx_dir.proofs.Finding.{each-joined}
-use Rattle.fx_dir.proofs.Mixing.{pack-joined}
-use Rattle.fx_dir.proofs.Building.{pack-writables, packed-reads, packed-keeps}
-use Rattle.fx_dir.proofs.Steps.{packed-none}
+use Rattle.fx_dir.specs.Writing.{name_of}
+use Rattle.fx_dir.proofs.Building.{packed-reads, packed-keeps}
+use Rattle.fx_dir.proofs.Filling.{none-left, some-left, length-blocks, pack-ranged}
 use Rattle.fx_dir.proofs.packing.packed.Goals as goal
 
-pub returns-then-groups-ents-clause-packing : goal.returns-then-groups-ents-clause-packing
-returns-then-groups-ents-clause-packing c = sym (packed-none c.args.k c.in_ok-groups.groups.next c.args.ents.now (omega arith) c.in_ok-groups.ensures.next)
+pub returns-then-packing-gt0-clause-packing : goal.returns-then-packing-gt0-clause-packing
+returns-then-packing-gt0-clause-packing c = sym (some-left (over name_of c.args.k c.args.ents.now) c.in_ok-packing.packing.left _ c.in_ok-packing.ensures.left c.if-packing-gt0.true)
 
-pub blocks_of-requires : goal.blocks_of-requires
-blocks_of-requires c = subst AreWritable (sym (c.as_slice.ensures.value ∙ c.in_ok-groups.ensures.groups)) (pack-writables c.args.k c.args.ents.now c.requires.form)
+pub returns-clause-packing : goal.returns-clause-packing
+returns-clause-packing c =
+    let all : over name_of c.args.k c.args.ents.now ≡ [] = none-left _ c.in_ok-packing.packing.left c.in_ok-packing.ensures.left c.if-packing-gt0.false in
+    rw (all, c.in_ok-packing.ensures.blocks) refl
 
 pub returns-clause-read : goal.returns-clause-read
 returns-clause-read c =
     let es = c.args.ents.now in
-    let all : over name_of c.args.k es ≡ [] = sym c.in_ok-groups.ensures.next ∙ drop_of_length-le es (omega arith) in
-    let ranged : Each IsRanged es = subst (λ t. Each IsRanged t) (ap joined c.in_ok-groups.ensures.groups ∙ pack-joined c.args.k es all) (each-joined IsRanged c.in_ok-groups.groups.list.items c.in_ok-groups.ensures.ranged) in
-    let built = c.in_ok-blocks_of.ensures ∙ ap (map block_of) (c.as_slice.ensures.value ∙ c.in_ok-groups.ensures.groups) in
-    ap dir_entries built ∙ packed-reads c.args.k es all c.requires.order (record { form = c.requires.form; ranged = ranged })
+    let all : over name_of c.args.k es ≡ [] = none-left _ c.in_ok-packing.packing.left c.in_ok-packing.ensures.left c.if-packing-gt0.false in
+    ap dir_entries c.in_ok-packing.ensures.blocks ∙ packed-reads c.args.k es all c.requires.order (record { form = c.requires.form; ranged = pack-ranged c.args.k es all c.in_ok-packing.ensures.ranged })
 
 pub returns-clause-kept : goal.returns-clause-kept
 returns-clause-kept c = λ uniform.
     let es = c.args.ents.now in
-    let all : over name_of c.args.k es ≡ [] = sym c.in_ok-groups.ensures.next ∙ drop_of_length-le es (omega arith) in
-    let ranged : Each IsRanged es = subst (λ t. Each IsRanged t) (ap joined c.in_ok-groups.ensures.groups ∙ pack-joined c.args.k es all) (each-joined IsRanged c.in_ok-groups.groups.list.items c.in_ok-groups.ensures.ranged) in
-    let built = c.in_ok-blocks_of.ensures ∙ ap (map block_of) (c.as_slice.ensures.value ∙ c.in_ok-groups.ensures.groups) in
-    ap directory built ∙ packed-keeps c.args.k es all c.requires.order (record { form = c.requires.form; ranged = ranged }) uniform
+    let all : over name_of c.args.k es ≡ [] = none-left _ c.in_ok-packing.packing.left c.in_ok-packing.ensures.left c.if-packing-gt0.false in
+    ap directory c.in_ok-packing.ensures.blocks ∙ packed-keeps c.args.k es all c.requires.order (record { form = c.requires.form; ranged = pack-ranged c.args.k es all c.in_ok-packing.ensures.ranged }) uniform
+
+pub returns-clause-count : goal.returns-clause-count
+returns-clause-count c = ap length c.in_ok-packing.ensures.blocks ∙ length-blocks c.args.k c.args.ents.now

@@ -11,4 +11,4 @@ returns-in-None-clause-kept g c start k =
     let told = g.I.ImageDev.told c.args.closed.now.world.image in
     let now = subst (λ (m : Option TurnFault). IsKept start old f told m) c.in-None.is k in
     let e = c.run-in-None.ensures in
-    ran_kept start old c.run-in-None.new.w.world f (g.I.ImageDev.faults c.run-in-None.new.w.image) told (g.I.ImageDev.told c.run-in-None.new.w.image) now e.stays e.later _ c.run-in-None.result e.ok e.err e.cause e.before e.drive
+    ran_kept start old c.run-in-None.new.w.world f (g.I.ImageDev.faults c.run-in-None.new.w.image) told (g.I.ImageDev.told c.run-in-None.new.w.image) now e.later _ c.run-in-None.result e.ok e.err e.cause e.before e.drive

@@ -7,18 +7,19 @@ use Rattle.atomic_table.specs.Table.{Me}
 use Rattle.node_seat.specs.declared.parked.Parked.{Parked}
 use Rattle.node_seat.specs.declared.views.Start.{Start}
 use Rattle.node_seat.specs.declared.views.SeatView.{SeatView}
-use Rattle.node_seat.specs.Keeping.{IsKept, IsOrderly, start_of, telling}
+use Rattle.node_seat.specs.Keeping.{IsKept, start_of, telling}
 use Rattle.node_seat.specs.Yards.{Kept}
 use Rattle.node_seat.proofs.opening.put_in.Goals as goal
 use Rattle.node_seat.proofs.Acting.{none_marked}
+use Rattle.node_seat.proofs.Reaching.{reached_start}
 
 told_so : (w : Plain) (told : Option (List Block)) → IsTold told w.blocks → told ≡ telling (is_some told) w.blocks
 told_so w None h = refl
 told_so w (Some bs) h = ap Some (sym h)
 
 -- a world is kept by what it tells of itself
-kept_so : (w : Plain) (faults : ℕ) (told : Option (List Block)) → IsOrderly w.script w.history → IsTold told w.blocks → IsKept (start_of w faults told) w faults told None
-kept_so w faults told orderly image = record { opening = refl; geometry = refl; script = refl; orderly = orderly; later = omega arith; cause = λ e. absurd (none_marked e); image = told_so w told image }
+kept_so : (w : Plain) (faults : ℕ) (told : Option (List Block)) → IsTold told w.blocks → IsKept (start_of w faults told) w faults told None
+kept_so w faults told image = record { reached = reached_start w; later = omega arith; cause = λ e. absurd (none_marked e); image = told_so w told image }
 
 pub give_turn-requires-clause-hand : goal.give_turn-requires-clause-hand
 give_turn-requires-clause-hand g c =
@@ -31,5 +32,5 @@ give_turn-requires-clause-hand g c =
     let P : Start → Type 0 = λ s. kept s (Some p) in (
       Some p,
       ap (λ (m : Me (Option W) SeatView). m.1) c.exchange_world.ensures.same.2,
-      subst P (sym is) (kept_so (g.W.Acts.world c.args.world) (g.W.Acts.faults c.args.world) (g.W.Acts.told c.args.world) c.requires.orderly c.requires.told),
+      subst P (sym is) (kept_so (g.W.Acts.world c.args.world) (g.W.Acts.faults c.args.world) (g.W.Acts.told c.args.world) c.requires.told),
     )

@@ -23,8 +23,8 @@ returns-in-Next c =
     sym (place_next g d e (first_refusal (create_refusals g (entries_of d) c.args.name.now c.args.ver c.args.clusters)) c.args.rest (space_of seen) c.in_ok-need.field-0 c.requires.judged (c.in_ok-need.ensures.need (made_at g d e))
     ∙ ap (behind_place (made_at g d e) (space_of seen)) c.in-Next.is)
 
-pub returns-in_ok-entries-in-Slot : goal.returns-in_ok-entries-in-Slot
-returns-in_ok-entries-in-Slot c =
+pub returns-in-Slot : goal.returns-in-Slot
+returns-in-Slot c =
     let seen = c.args.seen.now in
     let g = seen.geometry in
     let d = dir_seen c.args.d.now in
@@ -33,7 +33,7 @@ returns-in_ok-entries-in-Slot c =
     let e : NewEntry = record { name = name; ver = new_version c.args.ver (versions name (entries_of d)); file = file } in
     let path = place_next g d e (first_refusal (create_refusals g (entries_of d) name c.args.ver c.args.clusters)) c.args.rest (space_of seen) c.in_ok-need.field-0 c.requires.judged (c.in_ok-need.ensures.need (made_at g d e))
     ∙ ap (behind_place (made_at g d e) (space_of seen)) c.in-Slot.is in
-    let version = c.new_version-ver.ensures ∙ ap (λ es. new_version c.args.ver (versions name es)) c.in_ok-entries-in-Slot.ensures in
+    let version = c.version_after-ver.ensures in
     let file_is : entry_made c.new_file-f.result ≡ e = c.new_file-f.ensures ∙ ap (λ v. record { name = name; ver = v; file = file }) version in
     let numbered_is : entry_made c.numbered.result ≡ numbered c.in-Slot.slot.now e = ap entry_made c.numbered.ensures ∙ ap (numbered c.in-Slot.slot.now) file_is in
     subst (λ x. IfOk c.made.result (λ need. need ≡ x))

@@ -1,4 +1,5 @@
 use Rattle.std.proofs.Common.{rules, ◌≡◌, ◌∙◌, false, cond, ap, sym}
+use Rattle.std.proofs.lemmas.Result.{IfOk-weaker}
 use Rattle.base_words.specs.Fields.{Block}
 use Rattle.base_words.specs.Tables.{zeros}
 use Rattle.plain_cat.specs.declared.reply.Reply.TheVariants as reply
@@ -26,8 +27,7 @@ returns-in-Seen c =
     let space = space_of c.args.seen.now in
     let next : Block → Events = λ b. answers (reply.Bytes b) in
     let below : is_past_mark f.file c.args.vbn ≡ false = search rules in
-    c.answered-in-Seen.ensures
-    ∙ sym (
+    IfOk-weaker c.read-in-Seen.result _ _ (λ need is. is ∙ sym (
     ap (λ t. following (cond t (answers (reply.Bytes zeros)) (Fetch (file_place f c.args.vbn) next)) c.args.rest.locks.now c.args.rest.blocks.now space) below
     ∙ ap (λ l. following (Fetch l next) c.args.rest.locks.now c.args.rest.blocks.now space) (sym c.file_place.ensures)
-    ∙ c.in-Seen.ensures next space)
+    ∙ c.in-Seen.ensures next space)) c.read-in-Seen.ensures

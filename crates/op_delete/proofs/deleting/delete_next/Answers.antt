@@ -5,12 +5,12 @@ use Rattle.plain_rules.specs.Lookups.{versions, entry_of}
 use Rattle.op_law.specs.Events.{Events, Space, space_of, next_of, HasNoSpace, following}
 use Rattle.op_law.specs.Behind.{goes_on_by, FollowsBy}
 use Rattle.op_law.specs.Moving.{SeenDir, entries_of, through_names}
-use Rattle.op_law.specs.Readable.{HeadIsInside}
+use Rattle.op_law.specs.Readable.{HeadIsInside, HeadIsReadable}
 use Rattle.op_law.specs.Removing.{delete_events}
 use Rattle.op_steps.specs.Names.{dir_seen}
 use Rattle.op_steps.proofs.Followed.{first_names}
 use Rattle.op_delete.proofs.Walks.{behind}
-use Rattle.op_delete.proofs.Behind.{order, first_inside, dir_few, behind_inside}
+use Rattle.op_delete.proofs.Behind.{order, first_inside, first_readable, dir_few, behind_inside}
 use Rattle.op_delete.proofs.Told.{lock_so}
 use Rattle.op_steps.proofs.Mapped.{mapped}
 use Rattle.op_delete.proofs.deleting.delete_next.Goals as goal
@@ -75,3 +75,7 @@ returns-in-All c =
     mapped _ _ (λ n. (given : Space) → FollowsBy (then d) rest given → goes_on_by (then d) rest given ≡ n) (λ n. n ≡ next_of (delete_events g dir name c.args.ver) seen) c.dir_looked.result
     (λ n h. sym ((λ i. following (through_names g dir then) (sym c.all.ensures.locks i) (sym c.all.ensures.blocks i) (space_of seen)) ∙ c.in-All.ensures.need then (space_of seen) ∙ h (space_of seen) follows))
     c.dir_looked.ensures
+
+pub dir_looked-requires-clause-read : goal.dir_looked-requires-clause-read
+dir_looked-requires-clause-read c =
+    c.in-All.ensures.read (subst (HeadIsReadable c.args.dir) (sym c.all.ensures.blocks) (first_readable c.args.dir c.args.name.now c.args.ver c.args.seen.now c.requires.fits))

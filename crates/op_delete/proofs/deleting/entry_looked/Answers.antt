@@ -14,25 +14,25 @@ use Rattle.op_delete.proofs.deleting.entry_looked.Goals as goal
 pub delete_in-requires-clause-entry : goal.delete_in-requires-clause-entry
 delete_in-requires-clause-entry c =
     let name = c.args.name.now in
-    let found = ap (λ es. entry_of (versions name es) c.args.ver) (sym c.in_ok-entries.ensures) ∙ sym c.in-Some.ensures in
+    let found = sym c.in_ok-e.ensures ∙ c.in-Some.is in
     record {
       readable = c.requires.readable;
       few = c.requires.few;
-      there = found_so (blocks_alone c.args.d.now.blocks.now) name c.args.ver c.in-Some.e.now found;
+      there = found_so (blocks_alone c.args.d.now.blocks.now) name c.args.ver c.in-Some.e found;
     }
 
 pub delete_in-requires-clause-found : goal.delete_in-requires-clause-found
-delete_in-requires-clause-found c = ap (λ es. entry_of (versions c.args.name.now es) c.args.ver) (sym c.in_ok-entries.ensures) ∙ sym c.in-Some.ensures
+delete_in-requires-clause-found c = sym c.in_ok-e.ensures ∙ c.in-Some.is
 
 pub returns : goal.returns
 returns c =
     let g = c.args.g.now in
     let d = dir_seen c.args.d.now in
-    let e = c.in-Some.e.now in
+    let e = c.in-Some.e in
     let name = c.args.name.now in
     let rest = c.args.rest in
     let o = entry_of (versions name (entries_of d)) c.args.ver in
-    let found = ap (λ es. entry_of (versions name es) c.args.ver) (sym c.in_ok-entries.ensures) ∙ sym c.in-Some.ensures in
+    let found = sym c.in_ok-e.ensures ∙ c.in-Some.is in
     let plain : nat_le e.fid.num 11 ≡ false = search rules in
     let is = behind_entry g d o e found plain in
     mapped _ _ (λ n. (given : Given) → FollowsBy (delete_in g d e) rest given → goes_on_by (delete_in g d e) rest given ≡ n)

@@ -22,7 +22,8 @@ returns-in-Ok-rebuild-clause-end g c = λ x h.
 
 pub returns-in-Ok-rebuild-clause-still : goal.returns-in-Ok-rebuild-clause-still
 returns-in-Ok-rebuild-clause-still g c = λ x h.
-    way_still c.args.w.world x c.into_parts-history.result.1.blocks c.into_parts-history.ensures.blocks (mends_now c.args.w.world x c.keeps_the_rules.ensures.accepted h) c.rebuild.new.m.blocks c.rebuild.ensures.way
+    way_still c.args.w.world x c.into_parts-history.result.1.blocks c.into_parts-history.ensures.blocks (mends_now c.args.w.world x c.keeps_the_rules.ensures.accepted h) c.rebuild.result c.rebuild.new.m.blocks c.rebuild.ensures.way
+    (λ f e. let k = c.rebuild.ensures.fatal f e in (k.0, ap (λ m. m.blocks) k.1))
 
 pub returns-in-Ok-rebuild-clause-image : goal.returns-in-Ok-rebuild-clause-image
 returns-in-Ok-rebuild-clause-image g c = λ told x h.
@@ -40,12 +41,14 @@ returns-in-Err-clause-end g c = λ x h.
 
 pub returns-in-Err-clause-still : goal.returns-in-Err-clause-still
 returns-in-Err-clause-still g c = λ x h.
-    way_still c.args.w.world x c.into_parts-history.result.1.blocks c.into_parts-history.ensures.blocks (mends_now c.args.w.world x c.keeps_the_rules.ensures.accepted h) c.rebuild.new.m.blocks c.rebuild.ensures.way
+    way_still c.args.w.world x c.into_parts-history.result.1.blocks c.into_parts-history.ensures.blocks (mends_now c.args.w.world x c.keeps_the_rules.ensures.accepted h) c.rebuild.result c.rebuild.new.m.blocks c.rebuild.ensures.way
+    (λ f e. let k = c.rebuild.ensures.fatal f e in (k.0, ap (λ m. m.blocks) k.1))
 
 pub returns-in-Err-clause-image : goal.returns-in-Err-clause-image
 returns-in-Err-clause-image g c = λ told x h.
     let same = ap (λ (i : g.row.I.Denot). g.I.ImageDev.told i) c.into_parts-history.ensures.image in
-    subst (λ (t : Option (List Block)). IsMendImage x t (g.I.ImageDev.told c.rebuild.new.m.image) c.rebuild.new.m.blocks (Some c.in-Err.fault)) same
+    subst (λ (t : Option (List Block)). IsMendImage x c.args.w.world.blocks t (g.I.ImageDev.told c.rebuild.new.m.image) c.rebuild.new.m.blocks (Some c.in-Err.fault)) same
     (image_by c.args.w.world x c.into_parts-history.result.1.blocks c.into_parts-history.ensures.blocks (mends_now c.args.w.world x c.keeps_the_rules.ensures.accepted h)
     _ _ c.rebuild.new.m.blocks c.rebuild.result c.in-Err.fault c.in-Err.is c.rebuild.ensures.way
+    (λ f e. let k = c.rebuild.ensures.fatal f e in (k.0, ap (λ m. m.blocks) k.1))
     (c.rebuild.ensures.image (shows_old _ _ c.into_parts-history.result.1.blocks c.args.w.world.blocks same c.into_parts-history.ensures.blocks told)))

@@ -23,7 +23,7 @@ returns-in-None-clause-report g c =
     (λ text written. λ x h.
     subst (λ (i : g.row.I.Denot). IsMendedBy w x told (g.I.ImageDev.told i) text.items) (sym c.into_image.ensures)
     (mended_by w x told now items new (c.mend-history.ensures.still x h) text.items
-    (subst (IsMendEnd w x items new) c.in-None.is (c.mend-history.ensures.end x h)) (subst (IsMendImage x told now new) c.in-None.is (c.mend-history.ensures.image c.requires.told x h)) written))
+    (subst (IsMendEnd w x items new) c.in-None.is (c.mend-history.ensures.end x h)) (subst (IsMendImage x w.blocks told now new) c.in-None.is (c.mend-history.ensures.image c.requires.told x h)) written))
     c.report_on-outcome.ensures.report
 
 pub returns-in-None-clause-halt : goal.returns-in-None-clause-halt
@@ -37,7 +37,7 @@ returns-in-None-clause-halt g c =
     (λ s e. λ x h.
     subst (λ q. IsHaltBy w x told (g.I.ImageDev.told c.into_image.result) (g.I.ImageDev.faults c.args.w.image) (g.I.ImageDev.faults c.into_image.result) q) (sym e) (
       refl,
-      subst (λ (i : g.row.I.Denot). IsPartlyBy x told (g.I.ImageDev.told i)) (sym c.into_image.ensures)
+      subst (λ (i : g.row.I.Denot). IsPartlyBy w x told (g.I.ImageDev.told i)) (sym c.into_image.ensures)
           (partly_by w x told now items new (c.mend-history.ensures.still x h) c.mend-history.result.fault (c.mend-history.ensures.image c.requires.told x h)),
     ))
     c.report_on-outcome.ensures.end
@@ -52,5 +52,5 @@ returns-clause-halt g c =
     λ x h.
     subst (λ (i : g.row.I.Denot). IsHaltBy w x told (g.I.ImageDev.told i) (g.I.ImageDev.faults c.args.w.image) (g.I.ImageDev.faults i) c.halt_behind-halt.result) (sym c.into_image-in-Some.ensures)
     (halt_by w x told now items new (c.mend-history.ensures.still x h) c.in-Some.fault _ _ c.halt_behind-halt.result c.halt_behind-halt.ensures
-    (subst (IsMendEnd w x items new) c.in-Some.is (c.mend-history.ensures.end x h)) (subst (IsMendImage x told now new) c.in-Some.is (c.mend-history.ensures.image c.requires.told x h))
+    (subst (IsMendEnd w x items new) c.in-Some.is (c.mend-history.ensures.end x h)) (subst (IsMendImage x w.blocks told now new) c.in-Some.is (c.mend-history.ensures.image c.requires.told x h))
     (λ e. c.mend-history.ensures.cause (c.in-Some.is ∙ e)))
