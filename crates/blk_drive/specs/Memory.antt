@@ -1,5 +1,5 @@
 -- Images in memory, which fail at chosen calls, and what a contract sees of an image file.
-use Rattle.std.specs.Prelude.{◌+◌, ◌-◌, ◌^◌, ◌==◌, ℕ, List, Option, Bool, true, is_some, slice_set, if◌then◌else◌}
+use Rattle.std.specs.Prelude.{◌==◌, ℕ, List, Option, Bool, true, is_some, slice_set, if◌then◌else◌}
 use Rattle.std.specs.List.{find}
 use Rattle.std.specs.Option.{option_map_or}
 use Rattle.base_words.specs.Fields.{Block}

@@ -1,5 +1,5 @@
 //! An image in a file, of which large pieces are read ahead.
-ghost use Rattle.std.specs.Prelude.{◌≡◌, ◌<◌, ◌≤◌, ◌+◌, ◌*◌, ◌^◌, ◌↔◌, false, slice_range, IfOk, IfSome, IsOk, IsTrue, None};
+ghost use Rattle.std.specs.Prelude.{◌≡◌, ◌<◌, ◌≤◌, ◌+◌, ◌++◌, ◌↔◌, false, slice_get, slice_range, vec_len, IfOk, IfSome, IsOk, IsTrue, None, Some};
 ghost use Rattle.std.specs.Bool.{OnTrue};
 ghost use Rattle.std.specs.Io.KnownBytes.{Appends, Consumes};
 ghost use Rattle.base_words.specs.Faults.{HasCause};
@@ -12,8 +12,11 @@ use std::fs::OpenFile;
 use std::io::{Read, Seek, SeekFrom, Write};
 use std::marker::Model;
 
-// The blocks of a piece that is read ahead: 1 MiB.
-const AHEAD: u32 = 2048;
+// The blocks of a piece that is read ahead: 128 KiB.
+const AHEAD: u32 = 256;
+
+// The blocks that are copied in one go.
+const AT_ONCE: u32 = 16;
 
 // Writes the whole block where the file stands. It is written only where all of it was taken.
 fn write_whole<W: Write>(file: &mut W, b: &Block) -> bool
@@ -33,47 +36,69 @@ fn read_whole<R: Read>(file: &mut R, piece: &mut [u8]) -> bool
 #[derive(Drop)]
 struct Opened<F: Drop> {
     file: F,
-    piece: Vec<u8>,
+    piece: Vec<Block>,
     first: u32,
     count: u32,
 }
 
 impl<F: Read + Write + Seek + Drop> Opened<F> {
     // Where the block lies in the piece, if it does.
-    fn place_of(&self, lbn: u32) -> Option<usize>
+    fn place_of(&self, lbn: u32) -> Option<u32>
         ensures place { result ≡ place_in self.now.first self.now.count lbn }
-        ensures bound { IfSome result (λ at. at ≤ 512 * 2 ^ 32) }
+        ensures inside { IfSome result (λ at. at < self.now.count) }
     {
         let index = lbn.checked_sub(self.first)?;
-        (index < self.count).then_some(index as usize * 512)
+        (index < self.count).then_some(index)
     }
 
     // Copies the block from the piece, if it lies there.
     fn copy(&self, lbn: u32, b: &mut Block) -> bool
         ensures { OnTrue result (IfSome (place_in self.now.first self.now.count lbn)
-            (λ at. b.new ≡ slice_range self.now.piece.items at (at + 512))) }
+            (λ at. slice_get self.now.piece.items at ≡ Some b.new)) }
     {
         let Some(at) = self.place_of(lbn) else {
             return false;
         };
-        let Some(block) = self.piece.as_slice().get(at..at + 512) else {
+        let Some(block) = self.piece.as_slice().get(at as usize) else {
             return false;
         };
-        b.copy_from_slice(block);
+        *b = *block;
         true
+    }
+
+    // Appends blocks from this one on that lie in the piece, so many at most and no more than are copied fast in one go, and gives how many
+    // there are.
+    fn append(&self, lbn: u32, most: u32, all: &mut Vec<Block>) -> u32
+        ensures few { result ≤ most }
+        ensures blocks { IfSome (place_in self.now.first self.now.count lbn)
+            (λ at. all.new.items ≡ all.old.items ++ slice_range self.now.piece.items at (at + result)) }
+        ensures count { vec_len all.new ≡ vec_len all.old + result }
+    {
+        let Some(at) = self.place_of(lbn) else {
+            return 0;
+        };
+        let count = (self.count - at).min(most).min(AT_ONCE);
+        let start = at as usize;
+        let Some(blocks) = self.piece.as_slice().get(start..start + count as usize) else {
+            return 0;
+        };
+        match all.extend_from_slice(blocks) {
+            Ok(()) => count,
+            Err(_) => 0,
+        }
     }
 
     // Reads a piece of so many blocks, from this one on.
     fn fetch(&mut self, lbn: u32, count: u32) -> bool {
         self.count = 0;
-        let Some(piece) = self.piece.as_mut_slice().get_mut(..count as usize * 512) else {
+        let Some(piece) = self.piece.as_mut_slice().get_mut(..count as usize) else {
             return false;
         };
         let is_read = self
             .file
             .seek(SeekFrom::Start(u64::from(lbn) * 512))
             .is_ok()
-            && read_whole(&mut self.file, piece);
+            && read_whole(&mut self.file, piece.as_flattened_mut());
         if is_read {
             self.first = lbn;
             self.count = count;
@@ -88,6 +113,39 @@ impl<F: Read + Write + Seek + Drop> Opened<F> {
         self.copy(lbn, b)
             || (self.fetch(lbn, AHEAD.min(size - lbn)) && self.copy(lbn, b))
             || (self.fetch(lbn, 1) && self.copy(lbn, b))
+    }
+
+    // Appends blocks from this one on, so many at most, from the piece or from the file, and gives how many there are: none where this one is
+    // not to be had.
+    fn append_some(&mut self, lbn: u32, size: u32, most: u32, all: &mut Vec<Block>) -> u32
+        requires { lbn < size }
+        ensures few { result ≤ most }
+        ensures count { vec_len all.new ≡ vec_len all.old + result }
+    {
+        let there = self.append(lbn, most, all);
+        if there > 0 {
+            return there;
+        }
+        if self.fetch(lbn, AHEAD.min(size - lbn)) || self.fetch(lbn, 1) {
+            return self.append(lbn, most, all);
+        }
+        0
+    }
+
+    // Appends so many blocks from this one on.
+    fn read_onto(&mut self, lbn: u32, size: u32, count: u32, all: &mut Vec<Block>) -> bool
+        requires { lbn + count ≤ size }
+        ensures { OnTrue result (vec_len all.new ≡ vec_len all.old + count) }
+    {
+        let mut read = 0;
+        while read < count {
+            let some = self.append_some(lbn + read, size, count - read, all);
+            if some == 0 {
+                return false;
+            }
+            read += some;
+        }
+        true
     }
 
     // Gives the piece up where it has the block.
@@ -153,7 +211,7 @@ impl<F: Read + Write + Seek + OpenFile + Drop> FileImage<F> {
         };
         let opened = Opened {
             file,
-            piece: vec![in alloc; 0; AHEAD as usize * 512]?,
+            piece: vec![in alloc; [0; 512]; AHEAD as usize]?,
             first: 0,
             count: 0,
         };
@@ -192,6 +250,17 @@ impl<F: Read + Write + Seek + OpenFile + Drop> ImageDev for FileImage<F> {
         let size = self.size;
         if let Some(opened) = &mut self.opened {
             if opened.read(lbn, size, b) {
+                return Ok(());
+            }
+        }
+        self.faults = self.faults.saturating_add(1);
+        Err(DevFault)
+    }
+
+    fn read_onto(&mut self, lbn: u32, count: u32, all: &mut Vec<Block>) -> Result<(), DevFault> {
+        let size = self.size;
+        if let Some(opened) = &mut self.opened {
+            if opened.read_onto(lbn, size, count, all) {
                 return Ok(());
             }
         }

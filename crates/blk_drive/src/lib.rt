@@ -16,7 +16,8 @@
 //! `vol_init` and `vol_rebuild` write through it, the core shares it, and the programs open images with it.
 #![tactic(auto)]
 
-ghost use Rattle.std.specs.Prelude.{◌≡◌, ◌<◌, ◌⊎◌, ℕ, List, Option, Some, slice_get, IfOk, IfSome, OnOk, OnErr};
+ghost use Rattle.std.specs.Prelude.{◌≡◌, ◌<◌, ◌≤◌, ◌+◌, ◌++◌, ◌⊎◌, ℕ, List, Option, Some, slice_get, slice_range, IfOk, IfSome, OnOk, OnErr, vec_len};
+ghost use Rattle.std.specs.Vec.{vec_capacity};
 ghost use Rattle.base_words.specs.Fields.{Block};
 ghost use Rattle.base_words.specs.Faults.{HasCause};
 ghost use Rattle.blk_drive.specs.Images.{HasSize, told_set};
@@ -25,6 +26,7 @@ mod files;
 mod memory;
 mod mirror;
 
+use base_words::Block;
 pub use files::FileImage;
 pub use memory::{Fail, MemImage};
 pub use mirror::{ImageFault, LoadFault, LoadRefused, Mirror, NoMemory};
@@ -54,6 +56,16 @@ pub trait ImageDev: Drop {
     fn read_block(&mut self, lbn: u32, b: &mut [u8; 512]) -> Result<(), DevFault>
         requires { lbn < size self.old }
         ensures block { OnOk result (IfSome (told self.old) (λ blocks. slice_get blocks lbn ≡ Some b.new)) }
+        ensures told { told self.new ≡ told self.old }
+        ensures size { size self.new ≡ size self.old }
+        ensures cause { HasCause (faults self.old) (faults self.new) result };
+
+    /// Reads so many blocks from `lbn` on, and appends them to the list, which has room for them. After a failed read it may have the first ones.
+    fn read_onto(&mut self, lbn: u32, count: u32, all: &mut Vec<Block>) -> Result<(), DevFault>
+        requires inside { lbn + count ≤ size self.old }
+        requires room { vec_len all.old + count ≤ vec_capacity all.old }
+        ensures blocks { OnOk result (IfSome (told self.old) (λ blocks. all.new.items ≡ all.old.items ++ slice_range blocks lbn (lbn + count))) }
+        ensures count { OnOk result (vec_len all.new ≡ vec_len all.old + count) }
         ensures told { told self.new ≡ told self.old }
         ensures size { size self.new ≡ size self.old }
         ensures cause { HasCause (faults self.old) (faults self.new) result };

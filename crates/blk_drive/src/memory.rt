@@ -125,6 +125,17 @@ impl ImageDev for MemImage {
         }
     }
 
+    fn read_onto(&mut self, lbn: u32, count: u32, all: &mut Vec<Block>) -> Result<(), DevFault> {
+        let from = lbn as usize;
+        for at in from..from + count as usize {
+            if self.next_failure().is_some() {
+                return Err(DevFault);
+            }
+            all.push_reserved(self.blocks[at]);
+        }
+        Ok(())
+    }
+
     fn write_block(&mut self, lbn: u32, b: &[u8; 512]) -> Result<(), DevFault>
         requires { lbn < length self.old.blocks }
         ensures ok { OnOk result (Some self.new.blocks ≡ told_set (Some self.old.blocks) lbn b.now) }

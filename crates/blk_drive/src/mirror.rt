@@ -97,11 +97,7 @@ fn blocks_of<I: ImageDev>(alloc: Global, image: &mut I) -> Result<Vec<Block>, Lo
         return Err(LoadFault::BadSize(size));
     }
     let mut all = Vec::with_capacity(alloc, size as usize)?;
-    for lbn in 0..size {
-        let mut block = [0; 512];
-        image.read_block(lbn, &mut block)?;
-        all.extend_from_slice(&[block])?;
-    }
+    image.read_onto(0, size, &mut all)?;
     Ok(all)
 }
 

@@ -28,7 +28,7 @@ use Rattle.dlm_core.proofs.Takes.{told-other}
 use Rattle.dlm_core.proofs.Passing.{First, call-first, ask-call, drop-call, taken-sound, head-drop, can-drop, CanDrop}
 use Rattle.dlm_core.proofs.Tracing.{Each, each-weaker, each-filter, each-put, each-stood, queue-waits, WaitsIn, Says, Stood}
 
-true-false : true ≡ false → ⊥
+pub true-false : true ≡ false → ⊥
 true-false e = cc
 
 pub none-some : (o : Option ℕ) → is_some o ≡ false → o ≡ None
@@ -61,8 +61,8 @@ sends-call s e next m l k c f = record { sent = m ∷ []; sends = f; given = λ 
 -- ---- a call
 
 -- who is not queued any more waits for the name of the call
-abbrev Passes : State → Message → State → Waiter → Type 0
-Passes s m z w = IsAskedFor s m w.owner w.name w.mode × (is_served z w ≡ true → w.name ≡ m.name)
+abbrev pub Passes : State → Message → State → Waiter → Type 0
+Passes s m z w = IsAskedFor s.nodes s.tables m w.owner w.name w.mode × (is_served z w ≡ true → w.name ≡ m.name)
 
 waiting-named : (s : State) (m : Message) (t : List Resource) (z : State) (w : Waiter) → 1 ≤ s.nodes → length s.tables ≡ s.nodes → LeavesOthers m.name (table_at (home s.nodes m.name) s.tables) t
     → z.nodes ≡ s.nodes → z.tables ≡ set s.tables (home s.nodes m.name - 1) t → WaitsIn s w → is_served z w ≡ true → w.name ≡ m.name
@@ -76,17 +76,17 @@ waiting-named s m t z w l h o en et q served1 =
           absurd (true-false (sym served1 ∙ not-served w.owner w.name z w q.standing refl refl st q.queued))
     ]) refl
 
-passes-old : (s : State) (m : Message) (t : List Resource) (z : State) (ws : List Waiter) → 1 ≤ s.nodes → length s.tables ≡ s.nodes → LeavesOthers m.name (table_at (home s.nodes m.name) s.tables) t
+pub passes-old : (s : State) (m : Message) (t : List Resource) (z : State) (ws : List Waiter) → 1 ≤ s.nodes → length s.tables ≡ s.nodes → LeavesOthers m.name (table_at (home s.nodes m.name) s.tables) t
     → z.nodes ≡ s.nodes → z.tables ≡ set s.tables (home s.nodes m.name - 1) t → Each (WaitsIn s) ws → Each (Passes s m z) ws
 passes-old s m t z ws l h o en et a = each-weaker (WaitsIn s) (Passes s m z) ws (λ w q. (Queues q, waiting-named s m t z w l h o en et q)) a
 
-passes-put : (s : State) (m : Message) (z : State) (old : Option Mode) (w : Mode) (ws : List Waiter) → m.letter ≡ Ask w → Each (Passes s m z) ws → Each (Passes s m z) (put_last m old w ws)
+pub passes-put : (s : State) (m : Message) (z : State) (old : Option Mode) (w : Mode) (ws : List Waiter) → m.letter ≡ Ask w → Each (Passes s m z) ws → Each (Passes s m z) (put_last m old w ws)
 passes-put s m z old w ws l a =
     let one : Waiter = record { owner = m.owner; name = m.name; mode = w; converts = is_some old } in
     (elim (lowers old w) as (λ b. Each (Passes s m z) (if b then ws else put_before (goes_before one) one ws)) [ true ↦ a | false ↦ each-put (Passes s m z) (goes_before one) one ws (Comes refl refl l, λ k. refl) a ])
 
 module _ {X : Type 0} where
-  each-passing : (p : X → Bool) (xs : List X) → Each (λ (x : X). p x ≡ true) (filter p xs)
+  pub each-passing : (p : X → Bool) (xs : List X) → Each (λ (x : X). p x ≡ true) (filter p xs)
   each-passing p [] = tt
   each-passing p (x ∷ xs) =
       (elim (p x) as (λ b. p x ≡ b → Each (λ (y : X). p y ≡ true) (cond b (x ∷ filter p xs) (filter p xs))) [ true ↦ λ e. (e, each-passing p xs) | false ↦ λ e. each-passing p xs ]) refl
@@ -213,28 +213,3 @@ nothing-sent e s n =
 pub event-owed : (e : Event) (s : State) → IsSound s → may_recover e s ≡ false → SentByCall s e
 event-owed e s i r =
     (elim (names_living e s) as (λ b. names_living e s ≡ b → SentByCall s e) [ true ↦ λ n. of-played e s n (played-owed e s i n r) | false ↦ λ n. nothing-sent e s n ]) refl
-
--- ---- the same for what else is known to be sent
-
-append-same : (xs ys zs : List Message) → xs ++ ys ≡ xs ++ zs → ys ≡ zs
-append-same [] ys zs e = e
-append-same (x ∷ xs) ys zs e = append-same xs ys zs (let k : xs ++ ys ≡ xs ++ zs = cc in k)
-
-says-if : (B : Type 0) (P : Mode → Bool → Type 0) (l : Letter) → (B → Says P l) → Says (λ w v. B → P w v) l
-says-if B P (Ask w) h = tt
-says-if B P Drop h = tt
-says-if B P (Grant w v) h = h
-says-if B P (Claim d) h = tt
-
-each-if : (b : Bool) (P : Message → Type 0) (ms : List Message) → (b ≡ false → Each P ms) → Each (λ (m : Message). b ≡ false → P m) ms
-each-if b P [] h = tt
-each-if b P (m ∷ ms) h = (λ e. (h e).0, each-if b P ms (λ e. (h e).1))
-
-pub by-call : (e : Event) (s : State) (sent : List Message) → IsSound s → (after e s).mail ≡ undelivered e s ++ sent
-    → Each (λ (m : Message). Says (λ w v. may_recover e s ≡ false → GivesByCall s e m w v) m.letter) sent
-by-call e s sent i sends =
-    let each : Each (λ (m : Message). may_recover e s ≡ false → IsOwed s e m) sent =
-    each-if (may_recover e s) (IsOwed s e) sent (λ r. let o = event-owed e s i r in
-    subst (λ (ms : List Message). Each (IsOwed s e) ms) (append-same (undelivered e s) o.sent sent (sym o.sends ∙ sends)) o.given) in
-    each-weaker (λ (m : Message). may_recover e s ≡ false → IsOwed s e m) (λ (m : Message). Says (λ w v. may_recover e s ≡ false → GivesByCall s e m w v) m.letter) sent
-    (λ m k. says-if (may_recover e s ≡ false) (λ w v. GivesByCall s e m w v) m.letter k) each

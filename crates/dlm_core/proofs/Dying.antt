@@ -196,16 +196,16 @@ module _ (d : ℕ) (s : State) (i : IsSound s) where
   stays-home : (x : LockName) → was_master d s x ≡ false → home_at (home s.nodes x) (bereft d s).homes ≡ home_at (home s.nodes x) s.homes
   stays-home x e = rehomed-at x ∙ rw e refl
 
-  recovery-lost : (x : LockName) → was_master d s x ≡ true → recovery x (bereft d s) ≡ Some d
+  pub recovery-lost : (x : LockName) → was_master d s x ≡ true → recovery x (bereft d s) ≡ Some d
   recovery-lost x e = ap (λ (h : Home). h.recovers) (rehomed-at x) ∙ rw e refl
 
-  recovery-stays : (x : LockName) → was_master d s x ≡ false → recovery x (bereft d s) ≡ recovery x s
+  pub recovery-stays : (x : LockName) → was_master d s x ≡ false → recovery x (bereft d s) ≡ recovery x s
   recovery-stays x e = ap (λ (h : Home). h.recovers) (stays-home x e)
 
   master-stays : (x : LockName) → was_master d s x ≡ false → master x (bereft d s) ≡ master x s
   master-stays x e = ap (λ (h : Home). h.master) (stays-home x e)
 
-  table-stays : (x : LockName) → was_master d s x ≡ false → table_at (home s.nodes x) (bereft d s).tables ≡ dropped d (table_at (home s.nodes x) s.tables)
+  pub table-stays : (x : LockName) → was_master d s x ≡ false → table_at (home s.nodes x) (bereft d s).tables ≡ dropped d (table_at (home s.nodes x) s.tables)
   table-stays x e =
       let a = place-in x in let b = i.each_has_master in let c = i.each_has_one in
       bereft-at d s.homes s.tables (home s.nodes x - 1) (b ∙ sym c) (omega (arith, a, b, c)) ∙ rw e refl

@@ -1,3 +1,4 @@
+pub mod Answering
 pub mod Beliefs
 pub mod Bodies
 pub mod ByCalls

@@ -1,5 +1,5 @@
 -- The state stays sound when a recovery ends.
-use Rattle.std.proofs.Common.{◌≡◌, ◌==◌, ◌&&◌, ◌||◌, ◌++◌, inr, ℕ, zero, suc, ◌-◌, Bool, true, false, not, List, [], ◌∷◌, Option, Some, None, is_some, map, filter, find, get_or, append_assoc, refl, cond, ap, sym, subst, ◌∙◌, if◌then◌else◌, unwrap_or}
+use Rattle.std.proofs.Common.{◌≡◌, ◌==◌, ◌&&◌, ◌||◌, ◌++◌, inl, Contains, ℕ, zero, suc, ◌-◌, Bool, true, false, not, List, [], ◌∷◌, Option, Some, None, is_some, map, filter, find, get_or, append_assoc, refl, cond, ap, sym, subst, ◌∙◌, if◌then◌else◌, unwrap_or}
 use Rattle.std.specs.List.{list_all, list_any}
 use Rattle.std.proofs.lemmas.List.{append-nil}
 use Rattle.dlm_core.proofs.Shapes.{length-homes}
@@ -27,10 +27,10 @@ use Rattle.dlm_core.proofs.Mails.{letters-append, letters-none, kind-name}
 use Rattle.dlm_core.proofs.Beliefs.{at-owner, at-name, once-filter}
 use Rattle.dlm_core.proofs.Takes.{Call, called_so, call-sound, served-sound}
 use Rattle.dlm_core.proofs.Passing.{call-first, ask-call, ask-stands, call-again, taken-sound, call-no_grant}
-use Rattle.dlm_core.specs.Runs.{Loss, IsCallStep, Leads}
-use Rattle.dlm_core.specs.Runs.IsStep.{Calls}
+use Rattle.dlm_core.specs.Runs.{IsDue, IsClaimOf, MakesCall, Leads}
+use Rattle.dlm_core.specs.Runs.IsStep.{Restores}
 use Rattle.dlm_core.proofs.Others.{can-mode}
-use Rattle.dlm_core.proofs.Tracing.{one-ask, leads-here, leads-then}
+use Rattle.dlm_core.proofs.Tracing.{Each, one-ask, leads-here, leads-then}
 use Rattle.dlm_core.specs.Restored.{has_lock}
 use Rattle.dlm_core.proofs.Restoring.{Restored, restore-none, restore-one, claim-none, nothing_of}
 use Rattle.dlm_core.proofs.Serving.{eq-self}
@@ -57,7 +57,7 @@ recovery-closed d x s = ap (λ (h : Home). h.recovers) (settled-at d s.homes (ho
 pub open-closed : (d : ℕ) (x : LockName) (s : State) → is_name_of d s x ≡ true → recovery x (closed d s) ≡ None
 open-closed d x s e = recovery-closed d x s ∙ rw e refl
 
-still-closed : (d : ℕ) (x : LockName) (s : State) → is_name_of d s x ≡ false → recovery x (closed d s) ≡ recovery x s
+pub still-closed : (d : ℕ) (x : LockName) (s : State) → is_name_of d s x ≡ false → recovery x (closed d s) ≡ recovery x s
 still-closed d x s e = recovery-closed d x s ∙ rw e refl
 
 -- a home that is being recovered after that was so before
@@ -322,12 +322,18 @@ restore-start d bs s i = record {
 abbrev pub with_tables : State → List (List Resource) → List Version → State
 with_tables c ts vs = record c { tables = ts; versions = vs }
 
+-- a claim was made of a name whose recovery ends, and of these value blocks the best is the best of all
+pub record IsClaimable (r : State) (bs : List Block) (h : Hold) : Type 0 where
+  pub made : Contains r.claims h
+  pub due : IsDue r h.name
+  pub block : (best_block h.name bs).value ≡ (best_block h.name r.claimed_blocks).value
+
 pub record Reclaims (d : ℕ) (bs : List Block) (s : State) (hs : List Hold) (ts : List (List Resource)) (vs : List Version) : Type 0 where
   pub tables : List (List Resource)
   pub versions : List Version
   pub is : reclaimed bs hs (with_tables (closed d s) ts vs) ≡ with_tables (closed d s) tables versions
   pub all : IsRestored d bs s tables
-  pub steps : (loss : Loss) → Leads s.nodes loss ts tables
+  pub steps : (r : State) → Each (IsClaimable r bs) hs → Leads s.nodes r ts tables
 
 abbrev pub Restoring1 : ℕ → List Block → State → List Hold → List (List Resource) → Type 0
 Restoring1 d bs s done ts = Restored (is_name_of d s) (vals_of bs) s.nodes (closed d s).homes s.tables done ts
@@ -339,7 +345,7 @@ reclaim-next : (be : Option Mode) (d : ℕ) (bs : List Block) (s : State) (done 
 reclaim-next None d bs s done rest h ts vs i e all m r next =
     let once : each_once (done ++ (h ∷ rest)) ≡ true = subst (λ (hs : List Hold). each_once hs ≡ true) all (once-filter (λ k. is_name_of d s k.name) s.claims i.claimed_once) in
     let n = next ts vs (restore-none (is_name_of d s) (vals_of bs) s.nodes (closed d s).homes s.tables done rest h ts once e r) in
-    record { tables = n.tables; versions = n.versions; is = ap (λ (be : Option Mode). reclaimed bs rest (reclaimed_lock h be (best_block h.name bs) (with_tables (closed d s) ts vs))) e ∙ n.is; all = n.all; steps = n.steps }
+    record { tables = n.tables; versions = n.versions; is = ap (λ (be : Option Mode). reclaimed bs rest (reclaimed_lock h be (best_block h.name bs) (with_tables (closed d s) ts vs))) e ∙ n.is; all = n.all; steps = λ p a. n.steps p a.1 }
 reclaim-next (Some b) d bs s done rest h ts vs i e all m r next =
     let once : each_once (done ++ (h ∷ rest)) ≡ true = subst (λ (hs : List Hold). each_once hs ≡ true) all (once-filter (λ k. is_name_of d s k.name) s.claims i.claimed_once) in
     let go : GoTogether (done ++ (h ∷ rest)) = subst (λ (hs : List Hold). GoTogether hs) all (together-filter (is_name_of d s) s.claims i.claimed_together) in
@@ -349,16 +355,17 @@ reclaim-next (Some b) d bs s done rest h ts vs i e all m r next =
     let t : List Resource = table_at (home s.nodes h.name) ts in
     let old : Option Mode = mode_of h.owner (resource_at h.name t).askers in
     let none = claim-none (is_name_of d s) (vals_of bs) s.nodes (closed d s).homes s.tables done rest h ts once m r in
-    let call : IsCallStep s.nodes k ts after.tables = record { table = ask_made k old b t; makes = one-ask k b t None old refl none refl (can-mode None (standing_of h.owner (resource_at h.name t).askers) none); becomes = inr refl } in
+    let makes : MakesCall k t (ask_made k old b t) = one-ask k b t None old refl none refl (can-mode None (standing_of h.owner (resource_at h.name t).askers) none) in
+    let is_claim : (p : State) → IsClaimable p bs h → IsClaimOf p k = λ p a. record { claim = h; made = a.made; of_owner = refl; on_name = refl; mode = b; asks = refl; claims = inl e; block = a.block } in
     let n = next after.tables after.versions
     (restore-one (is_name_of d s) (vals_of bs) s.nodes (closed d s).homes s.tables done rest h b (again h b (best_block h.name bs) z) ts i.some_node once go m e refl refl refl (open-closed d h.name s m) r) in
-    record { tables = n.tables; versions = n.versions; is = ap (λ (be : Option Mode). reclaimed bs rest (reclaimed_lock h be (best_block h.name bs) z)) e ∙ n.is; all = n.all; steps = λ homes. leads-then s.nodes homes ts after.tables n.tables (Calls k call) (n.steps homes) }
+    record { tables = n.tables; versions = n.versions; is = ap (λ (be : Option Mode). reclaimed bs rest (reclaimed_lock h be (best_block h.name bs) z)) e ∙ n.is; all = n.all; steps = λ p a. leads-then s.nodes p k ts after.tables n.tables (Restores (ask_made k old b t) a.0.due (is_claim p a.0) makes refl) (n.steps p a.1) }
 
 pub reclaim-all : (d : ℕ) (bs : List Block) (s : State) (rest done : List Hold) (ts : List (List Resource)) (vs : List Version) → IsSound s → claims_of d s ≡ done ++ rest → list_all (λ h. is_name_of d s h.name) rest ≡ true
     → Restoring1 d bs s done ts → Reclaims d bs s rest ts vs
 reclaim-all d bs s [] done ts vs i all m r =
     let e : done ≡ claims_of d s = sym (all ∙ append-nil done) in
-    record { tables = ts; versions = vs; is = refl; all = subst (λ (hs : List Hold). Restoring1 d bs s hs ts) e r; steps = λ homes. leads-here s.nodes homes ts ts refl }
+    record { tables = ts; versions = vs; is = refl; all = subst (λ (hs : List Hold). Restoring1 d bs s hs ts) e r; steps = λ p a. leads-here s.nodes p ts ts refl }
 reclaim-all d bs s (h ∷ rest) done ts vs i all m r =
     reclaim-next h.belief d bs s done rest h ts vs i refl all (list_all-head (λ (k : Hold). is_name_of d s k.name) h rest m) r
     (λ us ws n. reclaim-all d bs s rest (done ++ (h ∷ [])) us ws i (all ∙ sym (append_assoc done (h ∷ []) rest)) (list_all-tail (λ (k : Hold). is_name_of d s k.name) h rest m) n)

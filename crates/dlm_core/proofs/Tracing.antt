@@ -1,5 +1,5 @@
 -- By which steps the tables change, and which grants are sent then.
-use Rattle.std.proofs.Common.{◌≡◌, ◌++◌, ℕ, Bool, true, false, List, [], ◌∷◌, Option, Some, None, is_some, map, filter, refl, arith, ap, sym, subst, ◌∙◌, cond, if◌then◌else◌, append_assoc, Contains}
+use Rattle.std.proofs.Common.{◌≡◌, ◌++◌, ℕ, Bool, true, false, List, [], ◌∷◌, Option, Some, None, is_some, filter, refl, arith, ap, sym, subst, ◌∙◌, cond, if◌then◌else◌, append_assoc, Contains}
 use Rattle.std.proofs.lemmas.List.{append-nil}
 use Rattle.std.proofs.lemmas.List.Elements.{filter-append, Contains-append_right}
 use Rattle.plain_cat.specs.declared.mode.Mode.{Mode}
@@ -16,14 +16,13 @@ use Rattle.dlm_core.specs.declared.messages.Letter.{Letter}
 use Rattle.dlm_core.specs.declared.messages.Letter.TheVariants.{Ask, Drop, Grant, Claim}
 use Rattle.dlm_core.specs.declared.messages.Message.{Message}
 use Rattle.dlm_core.specs.declared.queue.Waiter.{Waiter}
-use Rattle.dlm_core.specs.Modes.{lowers, crosses}
-use Rattle.dlm_core.specs.States.{State, recovery, told_at, put_before}
-use Rattle.dlm_core.specs.Steps.{is_grant, stands_as, ask_made, put_last, goes_before, is_served, grant_of, grants_of, served}
+use Rattle.dlm_core.specs.Modes.{crosses}
+use Rattle.dlm_core.specs.States.{State, recovery, put_before}
+use Rattle.dlm_core.specs.Steps.{stands_as, ask_made}
 use Rattle.dlm_core.specs.Lanes.{IsLane, LaneOf, IsGrantOf, has_kind, letters_of, standing_at, IsSound, is_of, waiters_of, queued_as}
 use Rattle.dlm_core.specs.Lanes.IsLane.{Sends, Stands, Comes}
-use Rattle.dlm_core.specs.Runs.{Loss, MakesCall, IsCallStep, IsStep, AreSteps, Leads, Gave, Waits, Asks, GivesBetween}
+use Rattle.dlm_core.specs.Runs.{MakesCall, IsStep, AreSteps, Leads, Waits, GivesBetween}
 use Rattle.dlm_core.specs.Runs.MakesCall.{Requests, Converts, Releases}
-use Rattle.dlm_core.specs.Runs.Asks.{Waited, Came}
 use Rattle.dlm_core.proofs.Mails.{letters-append, letters-one}
 use Rattle.dlm_core.proofs.Others.{can-lock, fits-so}
 use Rattle.dlm_core.proofs.Passing.{kind-itself, CanAsk, CanDrop}
@@ -154,6 +153,11 @@ waits-of : (r : Option ℕ) (s : State) (w : Waiter) (xs ys : List Waiter) → w
 waits-of None s w xs ys e l = lane-waits s w _ _ (waiters_of w.owner w.name s.queue) xs ys _ _ e l
 waits-of (Some d) s w xs ys e l = absurd (not-no_waiter xs w ys (sym e ∙ l.no_waiters))
 
+-- the name of whoever waits at a master is not being recovered
+open-of : (r : Option ℕ) (s : State) (w : Waiter) (xs ys : List Waiter) → waiters_of w.owner w.name s.queue ≡ xs ++ (w ∷ ys) → LaneOf r w.owner w.name s → r ≡ None
+open-of None s w xs ys e l = refl
+open-of (Some d) s w xs ys e l = absurd (not-no_waiter xs w ys (sym e ∙ l.no_waiters))
+
 of-itself : (w : Waiter) → is_of w.owner w.name w ≡ true
 of-itself w = rw (same_owner-refl w.owner, is_same-refl w.name) refl
 
@@ -165,80 +169,66 @@ queue-waits s i =
     each-split (WaitsIn s) s.queue [] s.queue refl
     (λ xs ys w e. waits-of (recovery w.name s) s w (waiters_of w.owner w.name xs) (waiters_of w.owner w.name ys) (ap (waiters_of w.owner w.name) e ∙ waiter-at w xs ys) (i.lanes w.owner w.name))
 
+pub queue-open : (s : State) → IsSound s → Each (λ (w : Waiter). recovery w.name s ≡ None) s.queue
+queue-open s i =
+    each-split (λ (w : Waiter). recovery w.name s ≡ None) s.queue [] s.queue refl
+    (λ xs ys w e. open-of (recovery w.name s) s w (waiters_of w.owner w.name xs) (waiters_of w.owner w.name ys) (ap (waiters_of w.owner w.name) e ∙ waiter-at w xs ys) (i.lanes w.owner w.name))
+
 -- ---- steps
 
-pub leads-here : (n : ℕ) (hs : Loss) (a b : List (List Resource)) → b ≡ a → Leads n hs a b
-leads-here n hs a b e = record { stops = []; steps = e }
+pub leads-here : (n : ℕ) (r : State) (a b : List (List Resource)) → b ≡ a → Leads n r a b
+leads-here n r a b e = record { stops = []; steps = e }
 
-pub leads-then : (n : ℕ) (hs : Loss) (a b c : List (List Resource)) → IsStep n hs a b → Leads n hs b c → Leads n hs a c
-leads-then n hs a b c s l = record { stops = b ∷ l.stops; steps = (s, l.steps) }
+pub leads-then : (n : ℕ) (r : State) (m : Message) (a b c : List (List Resource)) → IsStep n r m a b → Leads n r b c → Leads n r a c
+leads-then n r m a b c s l = record { stops = b ∷ l.stops; steps = ((m, s), l.steps) }
 
-steps-join : (n : ℕ) (hs : Loss) (vs ws : List (List (List Resource))) (a b c : List (List Resource)) → AreSteps n hs a vs b → AreSteps n hs b ws c → AreSteps n hs a (vs ++ ws) c
-steps-join n hs [] ws a b c e l = subst (λ (z : List (List Resource)). AreSteps n hs z ws c) e l
-steps-join n hs (v ∷ vs) ws a b c k l = (k.0, steps-join n hs vs ws v b c k.1 l)
+steps-join : (n : ℕ) (r : State) (vs ws : List (List (List Resource))) (a b c : List (List Resource)) → AreSteps n r a vs b → AreSteps n r b ws c → AreSteps n r a (vs ++ ws) c
+steps-join n r [] ws a b c e l = subst (λ (z : List (List Resource)). AreSteps n r z ws c) e l
+steps-join n r (v ∷ vs) ws a b c k l = (k.0, steps-join n r vs ws v b c k.1 l)
 
-pub leads-join : (n : ℕ) (hs : Loss) (a b c : List (List Resource)) → Leads n hs a b → Leads n hs b c → Leads n hs a c
-leads-join n hs a b c k l = record { stops = k.stops ++ l.stops; steps = steps-join n hs k.stops l.stops a b c k.steps l.steps }
+pub leads-join : (n : ℕ) (r : State) (a b c : List (List Resource)) → Leads n r a b → Leads n r b c → Leads n r a c
+leads-join n r a b c k l = record { stops = k.stops ++ l.stops; steps = steps-join n r k.stops l.stops a b c k.steps l.steps }
 
-pub leads-one : (n : ℕ) (hs : Loss) (a b : List (List Resource)) → IsStep n hs a b → Leads n hs a b
-leads-one n hs a b s = leads-then n hs a b b s (leads-here n hs b b refl)
+pub leads-one : (n : ℕ) (r : State) (m : Message) (a b : List (List Resource)) → IsStep n r m a b → Leads n r a b
+leads-one n r m a b s = leads-then n r m a b b s (leads-here n r b b refl)
 
 -- a message that is sent between two tables, which is given if it is a grant
-abbrev pub IsNew : ℕ → Loss → List (List Resource) → List (List Resource) → Message → Type 0
-IsNew n hs a b m = Says (λ w v. GivesBetween n hs a b m w v) m.letter
+abbrev pub IsNew : ℕ → State → List (List Resource) → List (List Resource) → Message → Type 0
+IsNew n r a b m = Says (λ w v. GivesBetween n r a b m w v) m.letter
 
-new-wider : (n : ℕ) (hs : Loss) (a b c d : List (List Resource)) (m : Message) → Leads n hs a b → Leads n hs c d → IsNew n hs b c m → IsNew n hs a d m
-new-wider n hs a b c d m l r g =
-    says-weaker (λ w v. GivesBetween n hs b c m w v) (λ w v. GivesBetween n hs a d m w v) m.letter
-    (λ w v k. record { before = k.before; behind = k.behind; starts = leads-join n hs a b k.before l k.starts; step = k.step; ends = leads-join n hs k.behind c d k.ends r; asks = k.asks; gave = k.gave }) g
+new-wider : (n : ℕ) (r : State) (a b c d : List (List Resource)) (m : Message) → Leads n r a b → Leads n r c d → IsNew n r b c m → IsNew n r a d m
+new-wider n r a b c d m l t g =
+    says-weaker (λ w v. GivesBetween n r b c m w v) (λ w v. GivesBetween n r a d m w v) m.letter
+    (λ w v k. record {
+      before = k.before;
+      behind = k.behind;
+      call = k.call;
+      starts = leads-join n r a b k.before l k.starts;
+      step = k.step;
+      ends = leads-join n r k.behind c d k.ends t;
+      on_name = k.on_name;
+      asks = k.asks;
+      gave = k.gave;
+    }) g
 
--- from one state to another the tables go by steps, and the messages that are sent are given
-pub record Goes (n : ℕ) (hs : Loss) (s t : State) : Type 0 where
-  pub chain : Leads n hs s.tables t.tables
+-- from one state to another the tables go by steps of recoveries, and the messages that are sent are given
+pub record Goes (n : ℕ) (r : State) (s t : State) : Type 0 where
+  pub chain : Leads n r s.tables t.tables
   pub sent : List Message
   pub sends : t.mail ≡ s.mail ++ sent
-  pub given : Each (IsNew n hs s.tables t.tables) sent
+  pub given : Each (IsNew n r s.tables t.tables) sent
 
-pub goes-none : (n : ℕ) (hs : Loss) (s t : State) → t.tables ≡ s.tables → t.mail ≡ s.mail → Goes n hs s t
-goes-none n hs s t e f = record { chain = leads-here n hs s.tables t.tables e; sent = []; sends = f ∙ sym (append-nil s.mail); given = tt }
+pub goes-none : (n : ℕ) (r s t : State) → t.tables ≡ s.tables → t.mail ≡ s.mail → Goes n r s t
+goes-none n r s t e f = record { chain = leads-here n r s.tables t.tables e; sent = []; sends = f ∙ sym (append-nil s.mail); given = tt }
 
-pub goes-join : (n : ℕ) (hs : Loss) (a b c : State) → Goes n hs a b → Goes n hs b c → Goes n hs a c
-goes-join n hs a b c f g = record {
-  chain = leads-join n hs a.tables b.tables c.tables f.chain g.chain;
+pub goes-join : (n : ℕ) (r a b c : State) → Goes n r a b → Goes n r b c → Goes n r a c
+goes-join n r a b c f g = record {
+  chain = leads-join n r a.tables b.tables c.tables f.chain g.chain;
   sent = f.sent ++ g.sent;
   sends = g.sends ∙ ap (λ (ms : List Message). ms ++ g.sent) f.sends ∙ append_assoc a.mail f.sent g.sent;
-  given = each-append (IsNew n hs a.tables c.tables) f.sent g.sent
-      (each-weaker (IsNew n hs a.tables b.tables) (IsNew n hs a.tables c.tables) f.sent (λ m k. new-wider n hs a.tables a.tables b.tables c.tables m (leads-here n hs a.tables a.tables refl) g.chain k) f.given)
-      (each-weaker (IsNew n hs b.tables c.tables) (IsNew n hs a.tables c.tables) g.sent (λ m k. new-wider n hs a.tables b.tables c.tables c.tables m f.chain (leads-here n hs c.tables c.tables refl) k) g.given);
-}
-
--- messages that are no grants are sent
-pub goes-plain : (n : ℕ) (hs : Loss) (s t : State) (ms : List Message) → t.tables ≡ s.tables → t.mail ≡ s.mail ++ ms → Each (λ (m : Message). is_grant m.letter ≡ false) ms → Goes n hs s t
-goes-plain n hs s t ms e f h =
-    record { chain = leads-here n hs s.tables t.tables e; sent = ms; sends = f; given = each-weaker (λ (m : Message). is_grant m.letter ≡ false) (IsNew n hs s.tables t.tables) ms (λ m q. plain m m.letter q) h }
-  where
-    plain : (m : Message) (l : Letter) → is_grant l ≡ false → Says (λ w v. GivesBetween n hs s.tables t.tables m w v) l
-    plain m (Ask w) q = tt
-    plain m Drop q = tt
-    plain m (Grant w v) q = cc
-    plain m (Claim d) q = tt
-
--- the grants that are sent once the tables have changed
-abbrev AsksIn : ℕ → List (List Resource) → List (List Resource) → Waiter → Type 0
-AsksIn n ts us w = Asks n ts us w.owner w.name w.mode
-
-grants-new : (z : State) (hs : Loss) (ts : List (List Resource)) (ws : List Waiter) → IsStep z.nodes hs ts z.tables → Each (AsksIn z.nodes ts z.tables) ws → Each (Stood z) (map (grant_of z) ws) → Each (IsNew z.nodes hs ts z.tables) (map (grant_of z) ws)
-grants-new z hs ts [] s a b = tt
-grants-new z hs ts (w ∷ ws) s a b =
-    let now : Gave z.nodes z.tables w.owner w.name w.mode (told_at w.name z).value (told_at w.name z).valid = record { granted = b.0; block = refl; mark = refl } in
-    (record { before = ts; behind = z.tables; starts = leads-here z.nodes hs ts ts refl; step = s; ends = leads-here z.nodes hs z.tables z.tables refl; asks = a.0; gave = now }, grants-new z hs ts ws s a.1 b.1)
-
-pub serve-goes : (hs : Loss) (s z : State) → IsStep z.nodes hs s.tables z.tables → z.mail ≡ s.mail → Each (AsksIn z.nodes s.tables z.tables) z.queue → Each (Stood z) (grants_of z z.queue) → Goes z.nodes hs s (served z)
-serve-goes hs s z st m a b = record {
-  chain = leads-one z.nodes hs s.tables z.tables st;
-  sent = grants_of z z.queue;
-  sends = ap (λ (ms : List Message). ms ++ grants_of z z.queue) m;
-  given = grants-new z hs s.tables (filter (is_served z) z.queue) st (each-filter (AsksIn z.nodes s.tables z.tables) (is_served z) z.queue a) b;
+  given = each-append (IsNew n r a.tables c.tables) f.sent g.sent
+      (each-weaker (IsNew n r a.tables b.tables) (IsNew n r a.tables c.tables) f.sent (λ m k. new-wider n r a.tables a.tables b.tables c.tables m (leads-here n r a.tables a.tables refl) g.chain k) f.given)
+      (each-weaker (IsNew n r b.tables c.tables) (IsNew n r a.tables c.tables) g.sent (λ m k. new-wider n r a.tables b.tables c.tables c.tables m f.chain (leads-here n r c.tables c.tables refl) k) g.given);
 }
 
 -- ---- calls
@@ -252,13 +242,3 @@ ask-makes m w t c old l o = one-ask m w t c.lock old l c.stands c.along o
 
 pub drop-makes : (m : Message) (t : List Resource) (c : CanDrop m t) → m.letter ≡ Drop → MakesCall m t (released m.name m.owner m.value t)
 drop-makes m t c l = Releases c.lock l (can-lock (Some c.lock) (standing_of m.owner (resource_at m.name t).askers) c.stands) refl
-
--- the queue once an ask is put into it
-pub put-asked : (n : ℕ) (ts us : List (List Resource)) (m : Message) (old : Option Mode) (w : Mode) (q : List Waiter) → m.letter ≡ Ask w → IsCallStep n m ts us → Each (λ (v : Waiter). Waits n ts v.owner v.name v.mode) q → Each (AsksIn n ts us) (put_last m old w q)
-put-asked n ts us m old w q l c a =
-    let one : Waiter = record { owner = m.owner; name = m.name; mode = w; converts = is_some old } in
-    let all : Each (AsksIn n ts us) q = each-weaker (λ (v : Waiter). Waits n ts v.owner v.name v.mode) (AsksIn n ts us) q (λ v k. Waited k) a in
-    (elim (lowers old w) as (λ b. Each (AsksIn n ts us) (if b then q else put_before (goes_before one) one q)) [ true ↦ all | false ↦ each-put (AsksIn n ts us) (goes_before one) one q (Came m refl refl l c) all ])
-
-pub all-waited : (n : ℕ) (ts us : List (List Resource)) (q : List Waiter) → Each (λ (v : Waiter). Waits n ts v.owner v.name v.mode) q → Each (AsksIn n ts us) q
-all-waited n ts us q a = each-weaker (λ (v : Waiter). Waits n ts v.owner v.name v.mode) (AsksIn n ts us) q (λ v k. Waited k) a

@@ -1,3 +1,4 @@
+pub mod Answers
 pub mod Deaths
 pub mod Events
 pub mod Lanes

@@ -1,4 +1,5 @@
 -- Lists of events, and what holds of them.
+use Rattle.std.specs.List.{list_any}
 use Rattle.std.specs.Prelude.{◌≡◌, ◌≤◌, ◌-◌, ◌++◌, ◌&&◌, ◌⊎◌, not, ℕ, Bool, true, false, List, [], ◌∷◌, Option, Some, None, is_some, Contains, filter, find, set, if◌then◌else◌, option_and_then}
 use Rattle.plain_cat.specs.declared.mode.Mode.{Mode}
 use Rattle.lock_db.specs.declared.name.LockName.{LockName}
@@ -7,19 +8,21 @@ use Rattle.lock_db.specs.declared.askers.Standing.{Standing}
 use Rattle.lock_db.specs.declared.askers.Standing.TheVariants.{Granted}
 use Rattle.lock_db.specs.declared.resource.Resource.{Resource}
 use Rattle.lock_db.specs.Queues.{standing_of, lock_of, is_queued, wanted}
+use Rattle.lock_db.specs.Resources.{is_writer_of}
 use Rattle.lock_db.specs.Tables.{resource_at, asked, converted, released, recovered}
 use Rattle.dlm_core.specs.declared.messages.Letter.{Letter}
 use Rattle.dlm_core.specs.declared.messages.Letter.TheVariants.{Ask, Drop, Grant, Claim}
 use Rattle.dlm_core.specs.declared.messages.Message.{Message}
-use Rattle.dlm_core.specs.declared.homes.Home.{Home}
+use Rattle.dlm_core.specs.declared.holds.Hold.{Hold}
 use Rattle.dlm_core.specs.declared.events.Event.{Event}
 use Rattle.dlm_core.specs.declared.events.Event.TheVariants as event
 use Rattle.dlm_core.specs.declared.events.Told.TheVariants as told
 use Rattle.dlm_core.specs.Modes.{is_across}
 use Rattle.dlm_core.specs.States.{State, home, recovery, table_at, is_between, past_first, start}
 use Rattle.dlm_core.specs.Steps.{is_call}
-use Rattle.dlm_core.specs.Deaths.{is_lost, bereft_tables}
-use Rattle.dlm_core.specs.Events.{names_living, after, told_of}
+use Rattle.dlm_core.specs.Recoveries.{best_block, is_open}
+use Rattle.dlm_core.specs.Deaths.{is_lost, was_master, bereft_tables, bereft}
+use Rattle.dlm_core.specs.Events.{is_claimed, names_living, after, told_of}
 use Rattle.dlm_core.specs.Lanes.{BeliefsGoTogether}
 
 -- the state after a list of events
@@ -72,24 +75,23 @@ may_recover (event.Drop owner name fill) s = false
 may_recover (event.Pass from to) s = brings_claim (delivered (event.Pass from to) s)
 may_recover (event.Kill node) s = names_living (event.Kill node) s
 
--- the node that an event kills
-abbrev pub victim : Event → Option ℕ
-victim (event.Ask owner name mode fill) = None
-victim (event.Drop owner name fill) = None
-victim (event.Pass from to) = None
-victim (event.Kill node) = Some node
+-- What an event leaves to recoveries that may end with it: the state in which the claim has come that it delivers, or in which the node
+-- is gone that it kills.
+abbrev pub with_claim : Message → Letter → State → State
+with_claim m (Ask mode) s = s
+with_claim m Drop s = s
+with_claim m (Grant mode valid) s = s
+with_claim m (Claim dead) s = record s { awaited = filter (λ w. not (is_claimed dead m.from w)) s.awaited }
 
--- what an event takes away: who dies, and the homes as they are then
-pub record Loss : Type 0 where
-  pub dead : Option ℕ
-  pub homes : List Home
+abbrev pub with_first : Option Message → State → State
+with_first None s = s
+with_first (Some m) s = with_claim m m.letter s
 
-abbrev pub loss_of : Event → State → Loss
-loss_of e s = record { dead = victim e; homes = s.homes }
-
--- nothing is taken away
-abbrev pub no_loss : Loss
-no_loss = record { dead = None; homes = [] }
+abbrev pub left_to : Event → State → State
+left_to (event.Ask owner name mode fill) s = s
+left_to (event.Drop owner name fill) s = s
+left_to (event.Pass from to) s = with_first (find (is_between from to) s.mail) s
+left_to (event.Kill node) s = bereft node s
 
 -- What an ask or a drop makes of its master's table, which may take it. An ask is a request of an owner that has nothing there, or a
 -- conversion of a lock of which no conversion is queued, and not between CW and PR. A drop is the release of such a lock.
@@ -99,27 +101,40 @@ pub data MakesCall (m : Message) (t t2 : List Resource) : Type 0 where
       → t2 ≡ converted m.name m.owner mode m.value t → MakesCall m t t2
   Releases : (old : Mode) → m.letter ≡ Drop → lock_of m.owner (resource_at m.name t).askers ≡ Some old → t2 ≡ released m.name m.owner m.value t → MakesCall m t t2
 
--- One step of the tables: the table of a name's home makes a call. At a recovery the call is that of a claimed lock or ask, and
--- then the name has the claimed value block, which is not valid.
-pub record IsCallStep (nodes : ℕ) (m : Message) (ts us : List (List Resource)) : Type 0 where
-  pub table : List Resource
-  pub makes : MakesCall m (table_at (home nodes m.name) ts) table
-  pub becomes : (us ≡ set ts (home nodes m.name - 1) table) ⊎ (us ≡ set ts (home nodes m.name - 1) (recovered m.name m.value table))
+-- The names of a dead node are being recovered, this name is one of them, and none of their claims is on its way any more.
+pub record IsDue (r : State) (name : LockName) : Type 0 where
+  pub dead : ℕ
+  pub recovers : recovery name r ≡ Some dead
+  pub all_came : is_open dead r.awaited ≡ false
 
--- or the node dies that the event kills, and the names that it was the master of are lost
-pub data IsStep (nodes : ℕ) (loss : Loss) (ts us : List (List Resource)) : Type 0 where
-  Calls : (m : Message) → IsCallStep nodes m ts us → IsStep nodes loss ts us
-  Dies : (dead : ℕ) → loss.dead ≡ Some dead → us ≡ bereft_tables dead loss.homes ts → IsStep nodes loss ts us
+-- A message asks for what a living owner has claimed of a name, its lock or what it waits for, with the best of the claimed value blocks.
+pub record IsClaimOf (r : State) (m : Message) : Type 0 where
+  pub claim : Hold
+  pub made : Contains r.claims claim
+  pub of_owner : m.owner ≡ claim.owner
+  pub on_name : m.name ≡ claim.name
+  pub mode : Mode
+  pub asks : m.letter ≡ Ask mode
+  pub claims : (claim.belief ≡ Some mode) ⊎ (claim.wait ≡ Some mode)
+  pub block : m.value ≡ (best_block m.name r.claimed_blocks).value
+
+-- One step of a recovery that ends: the table of a name's home makes a call. It is a claim that was made, and then the name has the
+-- claimed value block, which is not valid; or it is a message that was kept back.
+pub data IsStep (nodes : ℕ) (r : State) (m : Message) (ts us : List (List Resource)) : Type 0 where
+  Restores : (t : List Resource) → IsDue r m.name → IsClaimOf r m → MakesCall m (table_at (home nodes m.name) ts) t
+      → us ≡ set ts (home nodes m.name - 1) (recovered m.name m.value t) → IsStep nodes r m ts us
+  Keeps : (t : List Resource) → IsDue r m.name → Contains r.kept m → MakesCall m (table_at (home nodes m.name) ts) t
+      → us ≡ set ts (home nodes m.name - 1) t → IsStep nodes r m ts us
 
 -- steps from tables to tables, by way of these
-abbrev pub AreSteps : ℕ → Loss → List (List Resource) → List (List (List Resource)) → List (List Resource) → Type 0
-AreSteps nodes loss ts [] us = us ≡ ts
-AreSteps nodes loss ts (v ∷ vs) us = IsStep nodes loss ts v × AreSteps nodes loss v vs us
+abbrev pub AreSteps : ℕ → State → List (List Resource) → List (List (List Resource)) → List (List Resource) → Type 0
+AreSteps nodes r ts [] us = us ≡ ts
+AreSteps nodes r ts (v ∷ vs) us = ((m : Message) × IsStep nodes r m ts v) × AreSteps nodes r v vs us
 
 -- some steps, one after the other
-pub record Leads (nodes : ℕ) (loss : Loss) (ts us : List (List Resource)) : Type 0 where
+pub record Leads (nodes : ℕ) (r : State) (ts us : List (List Resource)) : Type 0 where
   pub stops : List (List (List Resource))
-  pub steps : AreSteps nodes loss ts stops us
+  pub steps : AreSteps nodes r ts stops us
 
 -- The tables go by calls of the lock manager: where an event delivers a call on a name that is not being recovered, the table of the
 -- name's home makes it, and all others stay. With a claim recoveries may end, which are calls of what is claimed and of what was kept
@@ -129,9 +144,9 @@ pub data GoesByCalls (e : Event) (before after : State) : Type 0 where
   Stays : call_in e before ≡ None → after.tables ≡ before.tables → GoesByCalls e before after
   Calls : (m : Message) (t : List Resource) → call_in e before ≡ Some m → MakesCall m (table_at (home before.nodes m.name) before.tables) t
       → after.tables ≡ set before.tables (home before.nodes m.name - 1) t → GoesByCalls e before after
-  Recovers : brings_claim (delivered e before) ≡ true → Leads before.nodes no_loss before.tables after.tables → GoesByCalls e before after
-  Dies : (dead : ℕ) → e ≡ event.Kill dead → names_living e before ≡ true → Leads before.nodes no_loss (bereft_tables dead before.homes before.tables) after.tables
-      → GoesByCalls e before after
+  Recovers : brings_claim (delivered e before) ≡ true → Leads before.nodes (left_to e before) before.tables after.tables → GoesByCalls e before after
+  Dies : (dead : ℕ) → e ≡ event.Kill dead → names_living e before ≡ true
+      → Leads before.nodes (left_to e before) (bereft_tables dead before.homes before.tables) after.tables → GoesByCalls e before after
 
 -- so it is at each event of every list
 abbrev pub TablesGoByCalls : Type 0
@@ -151,26 +166,10 @@ pub record Waits (nodes : ℕ) (ts : List (List Resource)) (owner : Owner) (name
   pub queued : is_queued standing ≡ true
   pub wants : wanted standing ≡ mode
 
--- before a step an owner's ask for a mode stands in a queue, or the step is the call
-pub data Asks (nodes : ℕ) (ts us : List (List Resource)) (owner : Owner) (name : LockName) (mode : Mode) : Type 0 where
-  Waited : Waits nodes ts owner name mode → Asks nodes ts us owner name mode
-  Came : (m : Message) → m.owner ≡ owner → m.name ≡ name → m.letter ≡ Ask mode → IsCallStep nodes m ts us → Asks nodes ts us owner name mode
-
--- One of the steps by which the tables change gives what a grant says. Before it the owner asks for the mode. After it the owner has
--- the lock, with that value block and that mark.
-pub record GivesBetween (nodes : ℕ) (loss : Loss) (first last : List (List Resource)) (grant : Message) (mode : Mode) (valid : Bool) : Type 0 where
-  pub before : List (List Resource)
-  pub behind : List (List Resource)
-  pub starts : Leads nodes loss first before
-  pub step : IsStep nodes loss before behind
-  pub ends : Leads nodes loss behind last
-  pub asks : Asks nodes before behind grant.owner grant.name mode
-  pub gave : Gave nodes behind grant.owner grant.name mode grant.value valid
-
--- before an event an owner's ask for a mode stands in a queue, or it is this call
-pub data IsAskedFor (s : State) (call : Message) (owner : Owner) (name : LockName) (mode : Mode) : Type 0 where
-  Queues : Waits s.nodes s.tables owner name mode → IsAskedFor s call owner name mode
-  Comes : call.owner ≡ owner → call.name ≡ name → call.letter ≡ Ask mode → IsAskedFor s call owner name mode
+-- in these tables an owner's ask for a mode stands in a queue, or it is this call
+pub data IsAskedFor (nodes : ℕ) (ts : List (List Resource)) (call : Message) (owner : Owner) (name : LockName) (mode : Mode) : Type 0 where
+  Queues : Waits nodes ts owner name mode → IsAskedFor nodes ts call owner name mode
+  Comes : call.owner ≡ owner → call.name ≡ name → call.letter ≡ Ask mode → IsAskedFor nodes ts call owner name mode
 
 -- An event gives what a grant says by the call that it delivers. The call is on the name. Before the event the owner asks for the mode.
 -- After it the owner has the lock in the table of the name, with that value block and that mark.
@@ -178,14 +177,47 @@ pub record GivesByCall (s : State) (e : Event) (grant : Message) (mode : Mode) (
   pub call : Message
   pub delivers : call_in e s ≡ Some call
   pub on_name : call.name ≡ grant.name
-  pub asks : IsAskedFor s call grant.owner grant.name mode
+  pub asks : IsAskedFor s.nodes s.tables call grant.owner grant.name mode
   pub gave : Gave s.nodes (after e s).tables grant.owner grant.name mode grant.value valid
 
--- An event gives what a grant says, by one of its steps, and the grant is among the messages that it has sent. Where it is no death and
--- brings no claim, this step is the call that it delivers.
+-- somebody of this node has the name in a mode whose holders write
+abbrev pub writes_on : ℕ → LockName → State → Bool
+writes_on node name s = list_any (is_writer_of node) (resource_at name (table_at (home s.nodes name) s.tables)).askers
+
+-- A death gives what a grant says. The name was not being recovered, and another node is its master. Before the death the owner's ask
+-- stood in a queue. Once the locks and requests of the dead node are gone, and nothing else has changed, the owner has the lock, with
+-- that value block and that mark. The block is not valid where the dead node could write it.
+pub record GivesByDeath (s : State) (dead : ℕ) (grant : Message) (mode : Mode) (valid : Bool) : Type 0 where
+  pub open_name : recovery grant.name s ≡ None
+  pub stays : was_master dead s grant.name ≡ false
+  pub waited : Waits s.nodes s.tables grant.owner grant.name mode
+  pub gave : Gave s.nodes (bereft_tables dead s.homes s.tables) grant.owner grant.name mode grant.value valid
+  pub cleared : writes_on dead grant.name s ≡ true → valid ≡ false
+
+-- One step of the recoveries between these tables gives what a grant says. It is a call on the name. Before it the owner asks for the
+-- mode. After it the owner has the lock, with that value block and that mark.
+pub record GivesBetween (nodes : ℕ) (r : State) (first last : List (List Resource)) (grant : Message) (mode : Mode) (valid : Bool) : Type 0 where
+  pub before : List (List Resource)
+  pub behind : List (List Resource)
+  pub call : Message
+  pub starts : Leads nodes r first before
+  pub step : IsStep nodes r call before behind
+  pub ends : Leads nodes r behind last
+  pub on_name : call.name ≡ grant.name
+  pub asks : IsAskedFor nodes before call grant.owner grant.name mode
+  pub gave : Gave nodes behind grant.owner grant.name mode grant.value valid
+
+-- Which change of an event gives what a grant says: the call that it delivers, the death, or a step of a recovery that ends with it. The
+-- last is only where the name was being recovered before the event.
+pub data GivenBy (s : State) (e : Event) (grant : Message) (mode : Mode) (valid : Bool) : Type 0 where
+  ByCall : GivesByCall s e grant mode valid → GivenBy s e grant mode valid
+  ByDeath : (dead : ℕ) → e ≡ event.Kill dead → names_living e s ≡ true → GivesByDeath s dead grant mode valid → GivenBy s e grant mode valid
+  InRecovery : may_recover e s ≡ true → is_some (recovery grant.name s) ≡ true
+      → GivesBetween s.nodes (left_to e s) (left_to e s).tables (after e s).tables grant mode valid → GivenBy s e grant mode valid
+
+-- An event gives what a grant says, and the grant is among the messages that it has sent.
 pub record Gives (s : State) (e : Event) (grant : Message) (mode : Mode) (valid : Bool) : Type 0 where
-  pub gives : GivesBetween s.nodes (loss_of e s) s.tables (after e s).tables grant mode valid
-  pub by_call : may_recover e s ≡ false → GivesByCall s e grant mode valid
+  pub gives : GivenBy s e grant mode valid
   pub sent : List Message
   pub sends : (after e s).mail ≡ undelivered e s ++ sent
   pub among : Contains sent grant

@@ -1,7 +1,9 @@
 -- A script has a node at least, so what holds of every list of events holds of its events.
 use Rattle.std.proofs.Common.{◌≡◌, ◌≤◌, ◌+◌, ◌++◌, ℕ, Bool, true, false, List, [], ◌∷◌, Option, Some, None, Result, Ok, Err, codes, leb, length, take, refl, if◌then◌else◌}
 use Rattle.dlm_core.specs.declared.events.Event.{Event}
-use Rattle.dlm_core.specs.Runs.{AllGoTogether, TablesGoByCalls, GrantsAreTrue}
+use Rattle.dlm_core.specs.States.{start}
+use Rattle.dlm_core.specs.Answers.{AnswersAreTrue}
+use Rattle.dlm_core.specs.Runs.{after_all, AllGoTogether, TablesGoByCalls, GrantsAreTrue}
 use Rattle.dlm_run.specs.Statuses.{KeepsTheRules}
 use Rattle.run_script.specs.Grammar.{is_skipped}
 use Rattle.run_script.specs.Lines.{lines_of}
@@ -64,11 +66,12 @@ read-low (line ∷ lines) at b p h e =
 pub script_nodes : (bytes : List ℕ) (p : Play) → script_of bytes ≡ Ok p → 1 ≤ p.nodes
 script_nodes bytes p e = read-low (lines_of bytes) 1 nothing_read p tt e
 
-pub script_rules : (bytes : List ℕ) (p : Play) → script_of bytes ≡ Ok p → AllGoTogether → TablesGoByCalls → GrantsAreTrue → KeepsTheRules p
-script_rules bytes p e a b c =
+pub script_rules : (bytes : List ℕ) (p : Play) → script_of bytes ≡ Ok p → AllGoTogether → AnswersAreTrue → TablesGoByCalls → GrantsAreTrue → KeepsTheRules p
+script_rules bytes p e a t b c =
     let l : 1 ≤ p.nodes = script_nodes bytes p e in
     record {
       safe = λ i. a p.nodes (take i p.events) l;
+      answers = λ done later f q. t (after_all (start p.nodes) done) f;
       calls = λ done later f q. b p.nodes done f l;
-      grants = λ done later f owner name mode value valid q t. c p.nodes done f owner name mode value valid l t;
+      grants = λ done later f owner name mode value valid q g. c p.nodes done f owner name mode value valid l g;
     }

@@ -1,5 +1,5 @@
 -- How a run ends, and what is written.
-use Rattle.std.specs.Prelude.{◌≡◌, ◌<◌, ◌≤◌, ◌⊎◌, ◌++◌, ℕ, Bool, List, [], ◌∷◌, Option, IfSome, Ok, Err, codes, decimal, length, take}
+use Rattle.std.specs.Prelude.{◌≡◌, ◌<◌, ◌≤◌, ◌++◌, ℕ, Bool, List, [], ◌∷◌, Option, IfSome, Ok, Err, codes, decimal, length, take}
 use Rattle.std.specs.Io.KnownBytes.{Appends}
 use Rattle.base_words.specs.Faults.{Rose}
 use Rattle.fx_text.specs.Streams.{AppendsStart}
@@ -12,6 +12,7 @@ use Rattle.lock_db.specs.declared.name.Owner.{Owner}
 use Rattle.dlm_core.specs.declared.events.Event.{Event}
 use Rattle.dlm_core.specs.declared.events.Told.TheVariants as told
 use Rattle.dlm_core.specs.Events.{after, told_of}
+use Rattle.dlm_core.specs.Answers.{IsAnswered}
 use Rattle.dlm_core.specs.Runs.{after_all, GoesByCalls, TellsTruly}
 use Rattle.dlm_run.specs.Plays.{Play}
 use Rattle.dlm_run.specs.declared.script.Fault.TheVariants.{BadLine, TooMany}
@@ -46,9 +47,11 @@ status_code status.OutFault = 6
 status_code status.NoMemory = 7
 
 -- What holds of the events of a script, played one after the other. What two owners believe of one name goes together after each of
--- them. At each of them the tables go by calls of the lock manager. Each grant that one of them tells of was given by an earlier one.
+-- them. Each of their answers is true. At each of them the tables go by calls of the lock manager. Each grant that one of them tells of
+-- was given by an earlier one.
 pub record KeepsTheRules (s : Play) : Type 0 where
   pub safe : (i : ℕ) → BeliefsGoTogether (after_all (start s.nodes) (take i s.events))
+  pub answers : (done later : List Event) (e : Event) → s.events ≡ done ++ (e ∷ later) → IsAnswered e (after_all (start s.nodes) done) (after e (after_all (start s.nodes) done)) (told_of e (after_all (start s.nodes) done))
   pub calls : (done later : List Event) (e : Event) → s.events ≡ done ++ (e ∷ later) → GoesByCalls e (after_all (start s.nodes) done) (after e (after_all (start s.nodes) done))
   pub grants : (done later : List Event) (e : Event) (owner : Owner) (name : LockName) (mode : Mode) (value : List ℕ) (valid : Bool) → s.events ≡ done ++ (e ∷ later)
       → told_of e (after_all (start s.nodes) done) ≡ told.Granted owner name mode value valid → TellsTruly (start s.nodes) done e owner name mode value valid

@@ -48,6 +48,7 @@ fn lines_of(alloc: Global, bytes: &[u8]) -> Result<Vec<u8>, DlmStatus>
     ensures err { IfErr result (IsRefused bytes.now) }
 {
     laws::beliefs_go_together();
+    laws::answers_are_true();
     laws::tables_go_by_calls();
     laws::grants_are_true();
     match read_script(alloc, bytes) {
@@ -131,7 +132,8 @@ fn tell_lines<O: TextOut>(out: &mut O, text: &[u8]) -> DlmStatus
 ///
 /// A script has at most 1,048,576 bytes and 4,096 events. What is tested first is told: the script's bytes, its lines, the
 /// output. All lines are made before the first is written. After each event what any two owners believe of one name goes
-/// together, at each event the tables go by calls of the lock manager, and each grant that is told of was given.
+/// together, each answer is true, at each event the tables go by calls of the lock manager, and each grant that is told of
+/// was given.
 pub fn dlm_run<T: TextIn, O: TextOut>(alloc: Global, script: &mut T, out: &mut O) -> DlmStatus
     // What the status says of the script.
     ensures due { IsDue (T.left script.old) result }

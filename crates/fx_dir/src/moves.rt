@@ -1,4 +1,4 @@
-ghost use Rattle.std.specs.Prelude.{◌≡◌, ◌<◌, ◌≤◌, ◌^◌, true, false, option_map, position, IfOk, IfSome, IsOk, Ok, length};
+ghost use Rattle.std.specs.Prelude.{◌≡◌, ◌<◌, ◌≤◌, ◌^◌, ◌++◌, true, false, option_map, position, IfOk, OnOk, IfSome, IsOk, Ok, length};
 ghost use Rattle.std.specs.List.{position_or_len};
 ghost use Rattle.std.specs.Result.{ForOk};
 ghost use Rattle.std.specs.Str.{bytes_eq};
@@ -10,7 +10,7 @@ ghost use Rattle.fx_dir.specs.Moves.{rising, falling, less_last, inserted, as_ne
 ghost use Rattle.fx_dir.specs.Pieces.{insertion_by, removal_by};
 
 use crate::packing::{Lacking, lacking_at, pack_into, without};
-use crate::{Move, NoMemory, RawEnt, RawName, read_dir};
+use crate::{DirFault, Move, NoMemory, RawEnt, RawName, read_dir};
 use base_words::Block;
 use std::alloc::{AllocError, Global};
 
@@ -21,13 +21,18 @@ fn are_equal(a: &Block, b: &Block) -> bool
     a.as_slice() == b.as_slice()
 }
 
+/// No fewer than the writes by which an entry comes or goes: two for each block, and one more.
+fn most_moves(old: &[Block]) -> usize {
+    old.len().saturating_mul(2).saturating_add(1)
+}
+
 /// The writes of the blocks that change, first to last.
 fn rising(alloc: Global, old: &[Block], new: &[Block]) -> Result<Vec<Move>, NoMemory>
     requires count { length old.now ≡ length new.now }
     requires numbered { length old.now < 2 ^ 32 }
     ensures { IfOk result (λ v. v.items ≡ rising 1 old.now new.now) }
 {
-    let mut moves = Vec::new(alloc);
+    let mut moves = Vec::with_capacity(alloc, most_moves(old))?;
     for i in 0..old.len() {
         if !are_equal(&old[i], &new[i]) {
             moves.push(Move {
@@ -45,7 +50,7 @@ fn falling(alloc: Global, old: &[Block], new: &[Block]) -> Result<Vec<Move>, NoM
     requires numbered { length old.now < 2 ^ 32 }
     ensures { IfOk result (λ v. v.items ≡ falling 1 old.now new.now) }
 {
-    let mut moves = Vec::new(alloc);
+    let mut moves = Vec::with_capacity(alloc, old.len())?;
     let mut i = old.len();
     while i > 0 {
         i -= 1;
@@ -112,15 +117,25 @@ fn spot_of(es: &[RawEnt], e: &RawEnt) -> usize
     first_behind(es, e).unwrap_or(es.len())
 }
 
+/// Appends the entries.
+fn push_all(list: &mut Vec<RawEnt>, es: &[RawEnt]) -> Result<(), NoMemory>
+    ensures { OnOk result (list.new.items ≡ list.old.items ++ es.now) }
+{
+    for e in es {
+        list.push(*e)?;
+    }
+    Ok(())
+}
+
 /// The entries with one more in its place.
 fn inserted(alloc: Global, es: &[RawEnt], e: &RawEnt) -> Result<Vec<RawEnt>, NoMemory>
     ensures { IfOk result (λ v. v.items ≡ inserted e.now es.now) }
 {
     let (front, back) = es.split_at(spot_of(es, e));
     let mut list = Vec::with_capacity(alloc, es.len().saturating_add(1))?;
-    list.extend_from_slice(front)?;
+    push_all(&mut list, front)?;
     list.push(*e)?;
-    list.extend_from_slice(back)?;
+    push_all(&mut list, back)?;
     Ok(list)
 }
 
@@ -132,7 +147,8 @@ fn entries(alloc: Global, old: &[Block]) -> Result<Vec<RawEnt>, NoMemory>
 {
     match read_dir(alloc, old) {
         Ok(list) => Ok(list),
-        Err(_) => Err(AllocError),
+        Err(DirFault::NoMemory) => Err(AllocError),
+        Err(_) => unreachable!(),
     }
 }
 

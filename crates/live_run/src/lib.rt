@@ -27,9 +27,9 @@ mod words;
 
 pub use calling::exit_call;
 pub use gate::{Gate, OpenGate};
+pub use live::mounted;
+pub use rest::finish;
 pub use run_engine::{Called, Finished, Status, no_memory};
 pub use theorems::{good_live_runs_are_answered, one_live_status_is_due};
+pub use threads::{Task, tasks_of};
 pub use top::vmsclus_live;
-
-#[cfg(test)]
-mod yard_tests;

@@ -130,7 +130,7 @@ fn live_on<R: Threads + Wait + Sync, I: ImageDev + Send, G: Gate + Sync>(
 }
 
 /// Mounts a drive for a script.
-pub(crate) fn mounted<I: ImageDev>(
+pub fn mounted<I: ImageDev>(
     alloc: Global,
     m: Mirror<I>,
     script: &Script,

@@ -23,7 +23,7 @@ trait Steps: Drop {
 
 // A seat, and the yard that it is of.
 #[derive(Drop)]
-pub(crate) struct Task<'a, W: Acts> {
+pub struct Task<'a, W: Acts> {
     seat: SeatOf<W>,
     yard: &'a YardOf<W>,
     ghost fits: { seat.seat.table_id ≡ yard.now.table.shared.table_id },
@@ -31,7 +31,7 @@ pub(crate) struct Task<'a, W: Acts> {
 
 impl<'a, W: Acts> Task<'a, W> {
     /// One step of the seat, with its answer.
-    pub(crate) fn turn<R: Wait>(&mut self, rt: &R, alloc: Global) -> Result<Turn, TurnFault> {
+    pub fn turn<R: Wait>(&mut self, rt: &R, alloc: Global) -> Result<Turn, TurnFault> {
         self.seat.step(rt, alloc, self.yard)
     }
 }
@@ -88,7 +88,7 @@ fn task_of<'a, W: Acts>(yard: &'a YardOf<W>, seat: SeatOf<W>) -> Task<'a, W>
 }
 
 /// The tasks of all nodes.
-pub(crate) fn tasks_of<'a, W: Acts>(
+pub fn tasks_of<'a, W: Acts>(
     alloc: Global,
     yard: &'a YardOf<W>,
     seats: Vec<SeatOf<W>>,

@@ -20,6 +20,12 @@ unfolding events_of create_events
 fits_readable reg dir name ver blocks owner seen f =
     through_readable seen.geometry f.blocks f.own f.cat f.on.spelt dir _ (space_of seen) _ _ seen.locks seen.blocks f.on.stands f.order
 
+-- and so is one in which a directory is made
+pub fits_readable_dir : (reg : ℕ) (dir : Fid) (name : List ℕ) (owner : Uic) (seen : Seen) → FitsSeen (cmd.MkDir reg dir name owner) seen → HeadIsReadable dir seen.blocks
+unfolding events_of mkdir_events
+fits_readable_dir reg dir name owner seen f =
+    through_readable seen.geometry f.blocks f.own f.cat f.on.spelt dir _ (space_of seen) _ _ seen.locks seen.blocks f.on.stands f.order
+
 -- the header that was seen first is the directory's, whose runs end at or before LBN 65,536
 pub fits_inside : (x : Cmd) (seen : Seen) → IsMake x → FitsSeen x seen → HeadIsInside seen.blocks
 unfolding events_of create_events mkdir_events

@@ -16,13 +16,13 @@ ghost use Rattle.op_steps.specs.Given.{IsOfVolume};
 ghost use Rattle.op_create.specs.Files.{entry_made, IsSound, IsNewIn};
 
 use crate::files::{NewFile, new_dir, new_file, numbered};
-use crate::judging::{create_refusal, mkdir_refusal, version_after};
+use crate::judging::{create_refusal, mkdir_refusal};
 use crate::slots::{Place, place_seen};
 use crate::writing::{entry_for, making_writes};
 use base_words::Block;
 use lock_db::LockName;
-use op_law::{Need, NoMemory, Plan, Rest, Seen, entries_seen, refused};
-use op_steps::{DirSeen, Names, clusters_for, names_seen};
+use op_law::{Need, NoMemory, Plan, Rest, Seen, refused};
+use op_steps::{DirSeen, Names, clusters_for, names_seen, new_version};
 use plain_cat::{Fid, Mode, Name, Reply, Uic};
 use plain_rules::dir_name;
 use std::alloc::Global;
@@ -83,7 +83,7 @@ fn create_judged(
     match place_seen(alloc, seen, owner, clusters, rest)? {
         Place::Next(need) => Ok(need),
         Place::Slot(quota, n, slot, last) => {
-            let ver = version_after(d.blocks, name, ver);
+            let ver = new_version(d.blocks, name, ver);
             let f = new_file(name, ver, owner, clusters);
             made(alloc, seen, d, quota, &numbered(slot, &f), n, last)
         }
@@ -114,8 +114,7 @@ fn create_in(
     match rest.locks {
         [_, ..] => create_judged(alloc, seen, d, name, ver, clusters, owner, rest),
         [] => {
-            let entries = entries_seen(alloc, d.blocks)?;
-            match create_refusal(alloc, &seen.geometry, &entries, name, ver, clusters)? {
+            match create_refusal(&seen.geometry, d.blocks, name, ver, clusters) {
                 Some(why) => Ok(refused(alloc, why)),
                 None => Ok(Need::Lock(LockName::Q, Mode::PW)),
             }
@@ -190,6 +189,7 @@ fn mkdir_in(
 ) -> Result<Need, NoMemory>
     requires geometry { IsGeometry seen.now.geometry }
     requires readable { IsReadable d.now }
+    requires read { IsRead d.now.blocks.now }
     requires parent { d.now.fid.num ≤ 16777215 }
     requires name { is_name name.now ≡ true }
     requires within { IsOfVolume seen.now.geometry seen.now.clusters seen.now.number }
@@ -199,8 +199,7 @@ fn mkdir_in(
     match rest.locks {
         [_, ..] => mkdir_judged(alloc, seen, d, name, owner, rest),
         [] => {
-            let entries = entries_seen(alloc, d.blocks)?;
-            match mkdir_refusal(alloc, &seen.geometry, &entries, name)? {
+            match mkdir_refusal(&seen.geometry, d.blocks, name) {
                 Some(why) => Ok(refused(alloc, why)),
                 None => Ok(Need::Lock(LockName::Q, Mode::PW)),
             }
@@ -219,6 +218,7 @@ pub(crate) fn mkdir_next(
 ) -> Result<Need, NoMemory>
     requires geometry { IsGeometry seen.now.geometry }
     requires inside { HeadIsInside seen.now.blocks }
+    requires readable { HeadIsReadable dir seen.now.blocks }
     requires within { IsOfVolume seen.now.geometry seen.now.clusters seen.now.number }
     requires name { IsTrue (is_dir_name name.now) }
     requires follows { HasFirst (mkdir_events seen.now.geometry dir name.now owner) seen.now }

@@ -225,6 +225,13 @@ impl Writes {
         Ok(())
     }
 
+    /// Takes memory for n more writes, so that none is moved while as many are added. The writes stay.
+    pub fn make_room(&mut self, n: usize) -> Result<(), NoMemory>
+        ensures { self.new ≡ self.old }
+    {
+        self.list.reserve(n)
+    }
+
     /// Drops all writes, and keeps the memory.
     pub fn clear(&mut self)
         ensures { self.new ≡ [] }

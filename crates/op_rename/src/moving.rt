@@ -32,6 +32,13 @@ fn moved(alloc: Global, blocks: &[(u32, Block)], moves: &[Move]) -> Result<Block
     Ok(after)
 }
 
+// No fewer than the writes of a RENAME: those that enter the new name, and behind them two for each block and one more.
+fn most_writes(entering: usize, blocks: usize) -> usize {
+    entering
+        .saturating_add(blocks.saturating_mul(2))
+        .saturating_add(1)
+}
+
 /// The writes that give the entry `e` the name and version of `new`, which has the same file: `new` is entered, and then `e` is
 /// removed from the directory as it stands by then. An error says that memory ran out.
 #[tactic(auto, unfolding(op_law::specs::Moving::insertion_writes, op_law::specs::Moving::rename_writes))]
@@ -53,6 +60,7 @@ pub(crate) fn rename_writes(
     let moves = insertion_moves(alloc, d, new)?;
     let last = moves.len().saturating_sub(1);
     let slice = moves.as_slice();
+    writes.make_room(most_writes(slice.len(), d.blocks.len()))?;
     push_moves(
         alloc,
         &mut writes,

@@ -13,39 +13,35 @@ ghost use Rattle.op_law.specs.Events.{Space, next_of};
 ghost use Rattle.op_law.specs.Writing.{plan_of};
 ghost use Rattle.op_law.specs.Moving.{entries_of, rename_refusals, rename_writes, rename_events};
 ghost use Rattle.op_law.specs.Behind.{goes_on_by, blocks_alone};
-ghost use Rattle.op_law.specs.Readable.{HeadIsInside};
+ghost use Rattle.op_law.specs.Rows.{entries_seen};
+ghost use Rattle.op_law.specs.Readable.{HeadIsInside, HeadIsReadable, IsRead};
 ghost use Rattle.op_steps.specs.Names.{dir_seen, IsReadable};
 ghost use Rattle.op_rename.specs.Kinds.{rename_in};
 
 use crate::moving::rename_writes;
-use op_law::{Need, NoMemory, Plan, Seen, blocks_of, entries_seen, refused};
-use op_steps::{DirSeen, Names, entry_found, is_full, names_seen, new_version};
-use plain_cat::{DirEnt, DirEnts, Fid, Name, Refusal, Reply};
-use plain_rules::{highest, with_version};
+use base_words::Block;
+use op_law::{Need, NoMemory, Plan, Seen, blocks_of, entry_seen, refused};
+use op_steps::{DirSeen, Names, highest_seen, is_full, is_taken, names_seen, new_version};
+use plain_cat::{DirEnt, Fid, Name, Refusal, Reply};
 use std::alloc::Global;
 use vol_parts::{Geometry, blocks_are_whole};
 
-// Why an entry does not get this name and version, if it does not. An error says that memory ran out.
-fn rename_refusal(
-    alloc: Global,
-    g: &Geometry,
-    entries: &DirEnts,
-    to: &Name,
-    to_ver: u16,
-) -> Result<Option<Refusal>, NoMemory>
-    ensures { IfOk result (λ r. r ≡ first_refusal (rename_refusals g.now entries.now to.now to_ver)) }
+// Why an entry of a directory whose blocks were seen does not get this name and version, if it does not.
+fn rename_refusal(g: &Geometry, seen: &[(u32, Block)], to: &Name, to_ver: u16) -> Option<Refusal>
+    requires { IsRead seen.now }
+    ensures { result ≡ first_refusal (rename_refusals g.now (entries_seen (blocks_alone seen.now)) to.now to_ver) }
 {
-    if to_ver == 0 && 32767 <= highest(entries.items(), to) {
-        return Ok(Some(Refusal::BadVersion));
+    if to_ver == 0 && 32767 <= highest_seen(seen, to) {
+        return Some(Refusal::BadVersion);
     }
-    let ver = new_version(entries, to, to_ver);
-    if with_version(entries.items(), to, ver).is_some() {
-        return Ok(Some(Refusal::DupFile));
+    let ver = new_version(seen, to, to_ver);
+    if is_taken(seen, to, ver) {
+        return Some(Refusal::DupFile);
     }
-    if is_full(alloc, g, entries, to, ver)? {
-        return Ok(Some(Refusal::DirFull));
+    if is_full(g, seen, to, ver) {
+        return Some(Refusal::DirFull);
     }
-    Ok(None)
+    None
 }
 
 // The blocks of a directory are whole, by their type.
@@ -103,22 +99,22 @@ fn rename_in(
     to_ver: u16,
 ) -> Result<Need, NoMemory>
     requires readable { IsReadable d.now }
+    requires read { IsRead d.now.blocks.now }
     requires name { is_name to.now ≡ true }
     requires version { to_ver ≤ 32767 }
     ensures { IfOk result (λ need. (rest : Rest) (space : Space) → goes_on_by (rename_in g.now name.now ver to.now to_ver (dir_seen d.now)) rest space ≡ need) }
 {
     is_whole(alloc, d)?;
-    let entries = entries_seen(alloc, d.blocks)?;
-    let Some(e) = entry_found(&entries, name, ver) else {
+    let Some(e) = entry_seen(alloc, d.blocks, name, ver)? else {
         return Ok(refused(alloc, Refusal::NoSuchFile));
     };
     if e.fid.num <= 11 {
         return Ok(refused(alloc, Refusal::NoPriv));
     }
-    if let Some(why) = rename_refusal(alloc, g, &entries, to, to_ver)? {
+    if let Some(why) = rename_refusal(g, d.blocks, to, to_ver) {
         return Ok(refused(alloc, why));
     }
-    let plan = renamed(alloc, d, e, to, new_version(&entries, to, to_ver))?;
+    let plan = renamed(alloc, d, &e, to, new_version(d.blocks, to, to_ver))?;
     Ok(Need::Ready(plan))
 }
 
@@ -135,6 +131,7 @@ pub(crate) fn rename_next(
 ) -> Result<Need, NoMemory>
     requires geometry { IsGeometry seen.now.geometry }
     requires inside { HeadIsInside seen.now.blocks }
+    requires readable { HeadIsReadable dir seen.now.blocks }
     requires name { is_name to.now ≡ true }
     requires version { to_ver ≤ 32767 }
     ensures { IfOk result (λ need. need ≡ next_of (rename_events seen.now.geometry dir name.now ver to.now to_ver) seen.now) }

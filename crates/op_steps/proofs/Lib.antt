@@ -29,6 +29,7 @@ pub mod ReadOnce
 pub mod RemovalSteps
 pub mod Rerun
 pub mod Rising
+pub mod Rooms
 pub mod RowNewPlaces
 pub mod RowNewSteps
 pub mod RowPlaces

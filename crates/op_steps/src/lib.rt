@@ -38,7 +38,9 @@ mod seeing;
 pub use clusters::{clusters_for, cost_of, runs_for};
 pub use headers::push_header;
 pub use moves::{insertion_moves, push_insertion, push_moves, push_removal};
-pub use names::{DirSeen, Names, entry_found, is_full, names_seen, new_version};
+pub use names::{
+    DirSeen, Names, has_name, highest_seen, is_full, is_taken, names_seen, new_version,
+};
 pub use quotas::{
     owner_row, push_charge, push_discharge, push_row, quota_seen, row_there, rows_seen,
 };

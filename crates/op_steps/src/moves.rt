@@ -20,6 +20,9 @@ use op_law::{NoMemory, Numbers, PlanWrite, Writes, blocks_of, place_in};
 use plain_cat::{Blocks, Clusters, DirEnt, Stage};
 use std::alloc::{AllocError, Global};
 
+// Room for the writes that come behind those of moves, as where a file goes.
+const FEW: usize = 8;
+
 // An entry as a directory's blocks have it.
 fn raw_entry(e: &DirEnt) -> RawEnt
     requires { IsInForm (raw_entry e.now) }
@@ -99,6 +102,7 @@ pub fn push_moves(
     requires { IsReadable d.now }
     ensures { OnOk result (writes.new ≡ writes.old ++ moves_at (dir_seen d.now) before after first moves.now) }
 {
+    writes.make_room(moves.len().saturating_add(FEW))?;
     for (i, m) in moves.iter().enumerate() {
         let stage = if i < first { before } else { after };
         writes.push(move_write(alloc, d, m, stage))?;

@@ -1,24 +1,24 @@
 //! A directory in which a name is to be entered: its lock in PW, its header and its blocks; and the refusals that it shows.
 
-ghost use Rattle.std.specs.Prelude.{◌≡◌, false, IfOk, option_copied};
-ghost use Rattle.plain_rules.specs.Lookups.{versions, entry_of};
-ghost use Rattle.plain_rules.specs.Directories.{new_version, is_last_version};
+ghost use Rattle.std.specs.Prelude.{◌≡◌, ◌≤◌, false, not};
+ghost use Rattle.plain_rules.specs.Lookups.{versions, highest};
+ghost use Rattle.plain_rules.specs.Directories.{is_nil, is_taken, new_version, is_last_version};
 ghost use Rattle.vol_parts.specs.Parts.{IsGeometry};
 ghost use Rattle.op_law.specs.Events.{Events, Space, following};
-ghost use Rattle.op_law.specs.Rows.{in_directory, live_in};
+ghost use Rattle.op_law.specs.Rows.{in_directory, live_in, entries_seen};
 ghost use Rattle.op_law.specs.Moving.{SeenDir, through_names, is_full};
-ghost use Rattle.op_law.specs.Readable.{AreInside, HeadIsInside, BodyIsRead, HeadIsReadable};
-ghost use Rattle.op_law.specs.Behind.{FollowsBy};
+ghost use Rattle.op_law.specs.Readable.{AreInside, HeadIsInside, BodyIsRead, HeadIsReadable, IsRead};
+ghost use Rattle.op_law.specs.Behind.{FollowsBy, blocks_alone};
 ghost use Rattle.op_steps.specs.Names.{behind_names, FollowsNames, ShowsReadable, ShowsRead, IsDirectory, IsNumbered};
 
 use base_words::Block;
+use fx_room::has_room;
 use lock_db::LockName;
 use op_law::{
-    Listed, Looked, Need, NoMemory, Rest, blocks_seen, header_seen, is_number, live_in, place_in,
-    refused,
+    Listed, Looked, Need, Rest, blocks_seen, header_seen, is_number, live_in, place_in, refused,
+    version_seen,
 };
-use plain_cat::{DirEnt, DirEnts, Fid, Mode, Name, Refusal};
-use plain_rules::{dir_fits, highest, inserted, with_version};
+use plain_cat::{Fid, Mode, Name, Refusal};
 use std::alloc::Global;
 use vol_parts::Geometry;
 
@@ -92,46 +92,52 @@ pub fn names_seen<'a>(alloc: Global, g: &Geometry, dir: Fid, rest: Rest<'a>) -> 
     }
 }
 
-/// The version of a new entry: one more than the highest, where it is 0.
-pub fn new_version(entries: &DirEnts, name: &Name, ver: u16) -> u16
-    requires { is_last_version ver (versions name.now entries.now) ≡ false }
-    ensures { result ≡ new_version ver (versions name.now entries.now) }
+/// The highest version of a name in a directory whose blocks were seen, or 0. It takes no memory.
+pub fn highest_seen(seen: &[(u32, Block)], name: &Name) -> u16
+    requires { IsRead seen.now }
+    ensures { result ≡ highest (versions name.now (entries_seen (blocks_alone seen.now))) }
+{
+    match version_seen(seen, name, 0) {
+        Some(v) => v.ver,
+        None => 0,
+    }
+}
+
+/// Whether a directory whose blocks were seen has some version of a name. It takes no memory.
+pub fn has_name(seen: &[(u32, Block)], name: &Name) -> bool
+    requires { IsRead seen.now }
+    ensures { result ≡ not (is_nil (versions name.now (entries_seen (blocks_alone seen.now)))) }
+{
+    version_seen(seen, name, 0).is_some()
+}
+
+/// Whether a directory whose blocks were seen has this version of a name. It takes no memory.
+pub fn is_taken(seen: &[(u32, Block)], name: &Name, ver: u16) -> bool
+    requires read { IsRead seen.now }
+    requires from { 1 ≤ ver }
+    ensures { result ≡ is_taken ver (versions name.now (entries_seen (blocks_alone seen.now))) }
+{
+    version_seen(seen, name, ver).is_some()
+}
+
+/// The version of a new entry in a directory whose blocks were seen: one more than the highest, where it is 0. It takes no memory.
+pub fn new_version(seen: &[(u32, Block)], name: &Name, ver: u16) -> u16
+    requires read { IsRead seen.now }
+    requires last { is_last_version ver (versions name.now (entries_seen (blocks_alone seen.now))) ≡ false }
+    ensures value { result ≡ new_version ver (versions name.now (entries_seen (blocks_alone seen.now))) }
+    ensures from { 1 ≤ result }
 {
     if ver == 0 {
-        highest(entries.items(), name) + 1
+        highest_seen(seen, name) + 1
     } else {
         ver
     }
 }
 
-/// Whether a new entry of this name and version has no room in a directory. An error says that memory ran out.
-#[tactic(auto, unfolding(op_law::specs::Moving::is_full))]
-pub fn is_full(
-    alloc: Global,
-    g: &Geometry,
-    entries: &DirEnts,
-    name: &Name,
-    ver: u16,
-) -> Result<bool, NoMemory>
-    ensures { IfOk result (λ full. full ≡ is_full g.now entries.now name.now ver) }
+/// Whether a new entry of this name and version has no room in a directory whose blocks were seen. It takes no memory.
+pub fn is_full(g: &Geometry, seen: &[(u32, Block)], name: &Name, ver: u16) -> bool
+    requires { IsRead seen.now }
+    ensures { result ≡ is_full g.now (entries_seen (blocks_alone seen.now)) name.now ver }
 {
-    let e = DirEnt {
-        name: name.copy(alloc)?,
-        ver,
-        fid: Fid { num: 0, seq: 0 },
-    };
-    let trial = inserted(alloc, e, entries)?;
-    Ok(!dir_fits(trial.items(), g.cluster))
-}
-
-/// The entry that is looked for, where version 0 means the highest.
-pub fn entry_found<'a>(entries: &'a DirEnts, name: &Name, ver: u16) -> Option<&'a DirEnt>
-    ensures { option_copied result ≡ entry_of (versions name.now entries.now) ver }
-{
-    let ver = if ver == 0 {
-        highest(entries.items(), name)
-    } else {
-        ver
-    };
-    with_version(entries.items(), name, ver)
+    !has_room(seen, name.items(), ver, g.cluster)
 }

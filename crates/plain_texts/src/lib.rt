@@ -19,6 +19,7 @@ mod names;
 mod pieces;
 mod replies;
 mod reports;
+mod tail;
 
 pub use commands::push_command;
 pub use names::{push_entry, push_fid, push_mode, push_uic};

@@ -1,26 +1,56 @@
-ghost use Rattle.std.specs.Prelude.{◌≡◌, ◌++◌, OnOk};
+ghost use Rattle.std.specs.Prelude.{◌≡◌, ◌≤◌, ◌<◌, ◌+◌, ◌/◌, ◌%◌, ◌++◌, OnOk, codes, decimal, length};
 ghost use Rattle.plain_texts.specs.Names.{fid_text, uic_text, mode_text};
 ghost use Rattle.plain_cat.specs.Names.{text_of as entry_text};
 
-use crate::pieces::{NoMemory, push_bytes, push_number, push_octal};
+use crate::pieces::{NoMemory, push_bytes, push_octal};
+use crate::tail::Tail;
 use plain_cat::{Fid, Mode, Name, Uic};
 use std::alloc::Global;
 
+// Puts a file identifier in front of a text.
+pub(crate) fn fid_before(tail: &mut Tail, fid: Fid)
+    requires { length tail.old ≤ 10 }
+    ensures text { tail.new ≡ fid_text fid ++ tail.old }
+    ensures short { length tail.new ≤ length tail.old + 25 }
+{
+    tail.byte(b')');
+    tail.byte(b'0');
+    tail.byte(b',');
+    tail.number(u32::from(fid.seq));
+    tail.byte(b',');
+    tail.number(fid.num);
+    tail.byte(b'(');
+}
+
 /// Appends a file identifier, as `(4,4,0)`.
-pub fn push_fid(alloc: Global, out: &mut Vec<u8>, fid: Fid) -> Result<(), NoMemory>
+pub fn push_fid(_alloc: Global, out: &mut Vec<u8>, fid: Fid) -> Result<(), NoMemory>
     ensures { OnOk result (out.new.items ≡ out.old.items ++ fid_text fid) }
 {
-    push_bytes(out, b"(")?;
-    push_number(alloc, out, fid.num)?;
-    push_bytes(out, b",")?;
-    push_number(alloc, out, u32::from(fid.seq))?;
-    push_bytes(out, b",0)")
+    let mut tail = Tail::new();
+    fid_before(&mut tail, fid);
+    push_bytes(out, tail.text())
+}
+
+// Appends an owner whose group and member have one digit each.
+fn push_short_uic(out: &mut Vec<u8>, owner: Uic) -> Result<(), NoMemory>
+    requires group { owner.0 / 65536 < 8 }
+    requires member { owner.0 % 65536 < 8 }
+    ensures { OnOk result (out.new.items ≡ out.old.items ++ uic_text owner) }
+{
+    let [group, member] = [owner.0 / 65536, owner.0 % 65536];
+    push_bytes(
+        out,
+        &[b'[', b'0' + group as u8, b',', b'0' + member as u8, b']'],
+    )
 }
 
 /// Appends an owner, as `[1,4]`: group and member in octal.
 pub fn push_uic(alloc: Global, out: &mut Vec<u8>, owner: Uic) -> Result<(), NoMemory>
     ensures { OnOk result (out.new.items ≡ out.old.items ++ uic_text owner) }
 {
+    if owner.0 / 65536 < 8 && owner.0 % 65536 < 8 {
+        return push_short_uic(out, owner);
+    }
     push_bytes(out, b"[")?;
     push_octal(alloc, out, owner.0 / 65536)?;
     push_bytes(out, b",")?;
@@ -28,13 +58,23 @@ pub fn push_uic(alloc: Global, out: &mut Vec<u8>, owner: Uic) -> Result<(), NoMe
     push_bytes(out, b"]")
 }
 
+// Puts the version of an entry in front of a text.
+pub(crate) fn version_before(tail: &mut Tail, ver: u16)
+    requires { length tail.old ≤ 29 }
+    ensures { tail.new ≡ codes ";" ++ (decimal ver ++ tail.old) }
+{
+    tail.number(u32::from(ver));
+    tail.byte(b';');
+}
+
 /// Appends a name with its version, as `INDEXF.SYS;1`.
-pub fn push_entry(alloc: Global, out: &mut Vec<u8>, name: &Name, ver: u16) -> Result<(), NoMemory>
+pub fn push_entry(_alloc: Global, out: &mut Vec<u8>, name: &Name, ver: u16) -> Result<(), NoMemory>
     ensures { OnOk result (out.new.items ≡ out.old.items ++ entry_text name.now ver) }
 {
+    let mut tail = Tail::new();
+    version_before(&mut tail, ver);
     push_bytes(out, name.items())?;
-    push_bytes(out, b";")?;
-    push_number(alloc, out, u32::from(ver))
+    push_bytes(out, tail.text())
 }
 
 /// Appends a lock mode by its two letters.

@@ -3,9 +3,10 @@ ghost use Rattle.std.specs.Fmt.{digit_glyph};
 ghost use Rattle.std.specs.List.{flat_map};
 ghost use Rattle.plain_texts.specs.Replies.{refusal_text, listed_text, kind_text, closed_text, hex_text, size_text, marks_text, facts_text, usage_text, reply_text};
 
-use crate::commands::{then_entry, then_fid, then_uic};
-use crate::names::{push_entry, push_fid};
+use crate::commands::{then_entry, then_uic};
+use crate::names::{fid_before, push_entry, push_fid, version_before};
 use crate::pieces::{NoMemory, push_bytes, push_count, push_number};
+use crate::tail::Tail;
 use plain_cat::{DirEnt, Refusal, Reply, Uic};
 use std::alloc::Global;
 
@@ -35,19 +36,24 @@ pub fn push_refusal(out: &mut Vec<u8>, why: Refusal) -> Result<(), NoMemory>
 }
 
 // Appends an entry of a listing, behind its space.
-fn push_listed(alloc: Global, out: &mut Vec<u8>, e: &DirEnt) -> Result<(), NoMemory>
+fn push_listed(out: &mut Vec<u8>, e: &DirEnt) -> Result<(), NoMemory>
     ensures { OnOk result (out.new.items ≡ out.old.items ++ listed_text e.now) }
 {
-    then_entry(alloc, out, &e.name, e.ver)?;
-    then_fid(alloc, out, e.fid)
+    let mut tail = Tail::new();
+    fid_before(&mut tail, e.fid);
+    tail.byte(b' ');
+    version_before(&mut tail, e.ver);
+    push_bytes(out, b" ")?;
+    push_bytes(out, e.name.items())?;
+    push_bytes(out, tail.text())
 }
 
 // Appends the entries of a listing.
-fn push_entries(alloc: Global, out: &mut Vec<u8>, entries: &[DirEnt]) -> Result<(), NoMemory>
+fn push_entries(out: &mut Vec<u8>, entries: &[DirEnt]) -> Result<(), NoMemory>
     ensures { OnOk result (out.new.items ≡ out.old.items ++ flat_map listed_text entries.now) }
 {
     for e in entries {
-        push_listed(alloc, out, e)?;
+        push_listed(out, e)?;
     }
     Ok(())
 }
@@ -189,7 +195,7 @@ pub fn push_reply(alloc: Global, out: &mut Vec<u8>, reply: &Reply) -> Result<(),
         Reply::Listed(entries) => {
             push_count(alloc, out, entries.items().len())?;
             push_bytes(out, b" entries")?;
-            push_entries(alloc, out, entries.items())
+            push_entries(out, entries.items())
         }
         Reply::Facts {
             dir,

@@ -11,12 +11,7 @@
 //!
 //! It promises nothing: no contract says what these values are, and no program uses them. The tests that use them compare.
 //!
-//! It has tests of its own, of the program around the top call over real files: locks, images that are only read, what is no image,
-//! and syncs that fail. Each makes a file or a folder of its own in the folder for temporary files, calls the program's call with it,
-//! and compares the number, the text, and what the file has then. Two openings of one file in one process exclude one another as
-//! those of two processes do; what two processes do, and that the sync comes before the first byte of the report, `./try_edge` shows.
-//!
-//! The other crates of tests of whole calls (`rows_runs`, `rows_stops`, `rows_hostile`, `rows_reports`, `rows_live`) use it.
+//! The crates of tests of whole calls (`rows_runs`, `rows_stops`, `rows_hostile`, `rows_reports`, `rows_live`) use it.
 #![tactic(auto)]
 
 mod calls;
@@ -38,16 +33,3 @@ pub use rows::{Row, play};
 pub use steps::{NOTHING, REBUILD, Step, after, made, mended, stays};
 pub use stops::{Stop, failing, is_cut};
 pub use texts::{Lines, Written, lines_with, text_of};
-
-#[cfg(test)]
-mod edge;
-#[cfg(test)]
-mod edge_calls;
-#[cfg(test)]
-mod locks;
-#[cfg(test)]
-mod paths;
-#[cfg(test)]
-mod session;
-#[cfg(test)]
-mod syncs;

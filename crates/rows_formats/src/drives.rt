@@ -137,7 +137,7 @@ fn write<I: ImageDev>(image: &mut I, lbn: u32, b: &Block) -> bool {
         .is_ok_and(|size| lbn < size && image.write_block(lbn, b).is_ok())
 }
 
-// Two pieces of 2,048 blocks, three blocks, and a rest that is no block.
+// Sixteen pieces of 256 blocks, three blocks, and a rest that is no block.
 fn bytes_of_file(alloc: Global) -> Result<Vec<u8>, NoMemory> {
     (0..4_099usize * 512 + 100)
         .map(|i| (i / 512 % 251) as u8)
@@ -251,6 +251,35 @@ fn reads_and_writes_a_file(rt: HostRuntime) -> Result<(), Failed> {
     assert_eq!(rt; read(&mut image, 2_047), Some([0xee; 512]));
     opened(&rt, path)?.set_len(4_097 * 512)?;
     check_rest(&rt, &mut image);
+    fs::remove_file(&rt, path)?;
+    Ok(())
+}
+
+// The drive has the file's blocks, in order, across the pieces.
+fn check_loaded(rt: &impl Abort, mirror: &Mirror<FileImage<File>>) {
+    assert_eq!(rt; mirror.all().len(), 4_099);
+    for (lbn, block) in mirror.all().iter().enumerate() {
+        assert!(rt; *block == [(lbn % 251) as u8; 512], "block {lbn}");
+    }
+}
+
+#[test]
+fn loads_a_file(rt: HostRuntime) -> Result<(), Failed> {
+    let name = format!(in rt.alloc(); "blk_drive-load-{}", process::id(rt.process()))?;
+    let path = env::temp_dir(&rt)?.join(rt.alloc(), name.as_str())?;
+    let path = path.as_path();
+    fs::write(&rt, path, bytes_of_file(rt.alloc())?.as_slice())?;
+    match Mirror::load(rt.alloc(), image_of(&rt, path)?) {
+        Ok(mirror) => check_loaded(&rt, &mirror),
+        Err(_) => return Err(Failed::from("not loaded")),
+    }
+    let shortened = image_of(&rt, path)?;
+    opened(&rt, path)?.set_len(4_097 * 512)?;
+    let answer = Mirror::load(rt.alloc(), shortened);
+    assert_eq!(rt;
+        answer.map_err(|r| r.fault).map(|m| m.size()),
+        Err(LoadFault::ImageFault)
+    );
     fs::remove_file(&rt, path)?;
     Ok(())
 }

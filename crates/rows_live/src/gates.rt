@@ -163,6 +163,15 @@ impl<'a, I: ImageDev> ImageDev for Counted<'a, I> {
         self.image.read_block(lbn, b)
     }
 
+    fn read_onto(
+        &mut self,
+        lbn: u32,
+        count: u32,
+        all: &mut Vec<[u8; 512]>,
+    ) -> Result<(), DevFault> {
+        self.image.read_onto(lbn, count, all)
+    }
+
     fn write_block(&mut self, lbn: u32, b: &[u8; 512]) -> Result<(), DevFault> {
         let written = self.image.write_block(lbn, b);
         if written.is_ok() {

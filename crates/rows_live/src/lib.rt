@@ -1,7 +1,7 @@
 //! Tests of live calls, with threads (`live_run`). The crate has tests alone.
 //!
 //! `gates` shows that several threads run, and that they make the events; `reports` are judged line by line against the volume before and
-//! the volume after (`log_check`); `sends` is that a world may be handed to a thread.
+//! the volume after (`log_check`); `sends` is that a world may be handed to a thread; `yards` steps seats in turn, without threads.
 //!
 //! ```text
 //! let called = live(&rt, alloc, "live", volume(alloc)?, script)?;
@@ -16,3 +16,5 @@ mod gates;
 mod reports;
 #[cfg(test)]
 mod sends;
+#[cfg(test)]
+mod yards;

@@ -1,5 +1,10 @@
-use lock_db::{Asked, LockDb, LockName, Mode, Owner};
-use node_locks::{Raise, first_sequence, lower, release, second_sequence, take, waits};
+//! Rows on the locks that nodes keep, with the sequences of their value blocks.
+
+use crate::steps::Step::{Asks, Dies, Gives, Lowers, Stands, Takes, Value, Waits, Writes};
+use crate::steps::{Step, play};
+use lock_db::LockName::{Q, S, V};
+use lock_db::{Mode, Owner};
+use node_locks::{Raise, first_sequence, second_sequence};
 use std::test::Fail;
 
 const ONE_TWO: Raise = Raise {
@@ -12,209 +17,111 @@ const NOTHING: Raise = Raise {
     second: 0,
 };
 
-fn ask(
-    rt: &HostRuntime,
-    db: &mut LockDb,
-    name: LockName,
-    node: u8,
-    mode: Mode,
-) -> Result<Asked, Fail> {
-    let owner = Owner { node, part: 0 };
-    if db.mode(name, owner).is_some() || db.queued(name, owner) {
-        return Err(Fail::new("the node stands there"));
-    }
-    Ok(db.request(rt.alloc(), name, owner, mode)?)
-}
+const NODE1: Owner = Owner { node: 1, part: 0 };
 
-fn give(db: &mut LockDb, name: LockName, node: u8, raise: Raise) -> Result<(), Fail> {
-    let owner = Owner { node, part: 0 };
-    if db.mode(name, owner).is_none() || db.queued(name, owner) {
-        return Err(Fail::new("no lock"));
-    }
-    release(db, node, name, raise);
-    Ok(())
-}
+const NODE2: Owner = Owner { node: 2, part: 0 };
 
-fn write(db: &mut LockDb, name: LockName, node: u8, value: [u8; 16]) -> Result<(), Fail> {
-    let owner = Owner { node, part: 0 };
-    if db.mode(name, owner) != Some(Mode::PW) || db.queued(name, owner) {
-        return Err(Fail::new("no lock in PW"));
-    }
-    db.convert(name, owner, Mode::PW, value);
-    Ok(())
-}
+const NODE3: Owner = Owner { node: 3, part: 0 };
 
-#[test]
-fn a_writer_waits_behind_readers(rt: HostRuntime) -> Result<(), Fail> {
-    let name = LockName::S(12);
-    let mut db = LockDb::new(rt.alloc())?;
-    assert!(rt; !waits(&db, 3, &[]), "a row without locks does not wait");
-    assert_eq!(rt; ask(&rt, &mut db, name, 1, Mode::PR)?, Asked::Granted);
-    assert_eq!(rt; ask(&rt, &mut db, name, 2, Mode::PR)?, Asked::Granted);
-    assert_eq!(rt;
-        ask(&rt, &mut db, LockName::Q, 3, Mode::PW)?,
-        Asked::Granted
-    );
-    assert_eq!(rt; ask(&rt, &mut db, name, 3, Mode::PW)?, Asked::Queued);
-    assert_eq!(rt; ask(&rt, &mut db, name, 4, Mode::PR)?, Asked::Queued);
-    let writer = [(LockName::Q, Mode::PW), (name, Mode::PW)];
-    assert!(rt;
-        waits(&db, 3, &writer) && !waits(&db, 2, &[(name, Mode::PR)]),
-        "the writer waits, and a reader that is granted does not"
-    );
+const NODE4: Owner = Owner { node: 4, part: 0 };
 
-    give(&mut db, name, 1, ONE_TWO)?;
-    assert!(rt; waits(&db, 3, &writer), "the writer waits for node 2 still");
-    give(&mut db, name, 2, ONE_TWO)?;
-    assert!(rt;
-        !waits(&db, 3, &writer) && waits(&db, 4, &[(name, Mode::PR)]),
-        "the writer is served, and the reader behind it waits"
-    );
-    // Readers raise nothing.
-    assert_eq!(rt; db.value(name), ([0; 16], true));
-    give(&mut db, name, 3, ONE_TWO)?;
-    assert!(rt;
-        !waits(&db, 4, &[(name, Mode::PR)]),
-        "the reader is served after the writer"
-    );
-    assert_eq!(rt;
-        db.value(name),
-        ([1, 0, 0, 0, 0, 0, 0, 0, 2, 0, 0, 0, 0, 0, 0, 0], true)
-    );
-    Ok(())
-}
+/// Value blocks with two sequences below 256.
+const AT_ONE_TWO: [u8; 16] = [1, 0, 0, 0, 0, 0, 0, 0, 2, 0, 0, 0, 0, 0, 0, 0];
 
-#[test]
-fn sequences_carry_and_stay_at_the_last_number(rt: HostRuntime) -> Result<(), Fail> {
-    let name = LockName::V;
-    let mut db = LockDb::new(rt.alloc())?;
-    ask(&rt, &mut db, name, 1, Mode::PW)?;
-    ask(&rt, &mut db, name, 2, Mode::PW)?;
-    ask(&rt, &mut db, name, 3, Mode::PR)?;
-    write(
-        &mut db,
-        name,
-        1,
+const AT_TWO_FOUR: [u8; 16] = [2, 0, 0, 0, 0, 0, 0, 0, 4, 0, 0, 0, 0, 0, 0, 0];
+
+const AT_ONE_ONE: [u8; 16] = [1, 0, 0, 0, 0, 0, 0, 0, 1, 0, 0, 0, 0, 0, 0, 0];
+
+/// The writer waits for two readers, and the reader behind it for the writer. Readers raise nothing.
+const BEHIND_READERS: [Step; 16] = [
+    Waits(3, S(12), Mode::PW, false),
+    Asks(S(12), NODE1, Mode::PR, true),
+    Asks(S(12), NODE2, Mode::PR, true),
+    Asks(Q, NODE3, Mode::PW, true),
+    Asks(S(12), NODE3, Mode::PW, false),
+    Asks(S(12), NODE4, Mode::PR, false),
+    Waits(3, S(12), Mode::PW, true),
+    Waits(2, S(12), Mode::PR, false),
+    Gives(S(12), 1, ONE_TWO),
+    Waits(3, S(12), Mode::PW, true),
+    Gives(S(12), 2, ONE_TWO),
+    Waits(4, S(12), Mode::PR, true),
+    Value(S(12), [0; 16], true),
+    Gives(S(12), 3, ONE_TWO),
+    Waits(4, S(12), Mode::PR, false),
+    Value(S(12), AT_ONE_TWO, true),
+];
+
+const CARRIED: [Step; 9] = [
+    Asks(V, NODE1, Mode::PW, true),
+    Asks(V, NODE2, Mode::PW, false),
+    Asks(V, NODE3, Mode::PR, false),
+    Writes(
+        V,
+        NODE1,
         [255, 0, 0, 0, 0, 0, 0, 7, 254, 255, 0, 0, 0, 0, 0, 0],
-    )?;
-    give(&mut db, name, 1, ONE_TWO)?;
-    assert_eq!(rt;
-        db.value(name),
-        ([0, 1, 0, 0, 0, 0, 0, 7, 0, 0, 1, 0, 0, 0, 0, 0], true)
-    );
-    let (value, _) = db.value(name);
+    ),
+    Gives(V, 1, ONE_TWO),
+    Value(V, [0, 1, 0, 0, 0, 0, 0, 7, 0, 0, 1, 0, 0, 0, 0, 0], true),
+    Writes(V, NODE2, [255; 16]),
+    Gives(V, 2, ONE_TWO),
+    Value(V, [255; 16], true),
+];
+
+/// After the first release the block is valid.
+const NOT_VALID: [Step; 11] = [
+    Asks(S(4), NODE1, Mode::PW, true),
+    Asks(S(4), NODE2, Mode::PW, false),
+    Asks(S(4), NODE3, Mode::PW, false),
+    Asks(S(4), NODE4, Mode::PR, false),
+    Dies(1),
+    Waits(2, S(4), Mode::PW, false),
+    Value(S(4), [0; 16], false),
+    Gives(S(4), 2, NOTHING),
+    Value(S(4), AT_ONE_ONE, true),
+    Gives(S(4), 3, NOTHING),
+    Value(S(4), AT_ONE_ONE, true),
+];
+
+/// Node 1 converts from NL, and is served before node 3, which has asked before. Another row of node 1 goes on meanwhile.
+const KEPT: [Step; 17] = [
+    Takes(S(7), 1, Mode::PW, true),
+    Lowers(S(7), 1, Mode::NL, ONE_TWO),
+    Value(S(7), AT_ONE_TWO, true),
+    Stands(S(7), NODE1, Some(Mode::NL), false),
+    Takes(S(7), 2, Mode::PW, true),
+    Takes(S(7), 3, Mode::PR, false),
+    Takes(S(7), 1, Mode::PW, false),
+    Waits(1, S(7), Mode::PW, true),
+    Waits(3, S(7), Mode::PR, true),
+    Takes(V, 1, Mode::PW, true),
+    Waits(1, V, Mode::PW, false),
+    Lowers(S(7), 2, Mode::NL, ONE_TWO),
+    Waits(1, S(7), Mode::PW, false),
+    Waits(3, S(7), Mode::PR, true),
+    Value(S(7), AT_TWO_FOUR, true),
+    Lowers(S(7), 1, Mode::NL, NOTHING),
+    Waits(3, S(7), Mode::PR, false),
+];
+
+const ROWS: [(&str, &[Step]); 4] = [
+    ("a writer waits behind readers", &BEHIND_READERS),
+    ("sequences carry and stay at the last number", &CARRIED),
+    ("a block that is not valid is raised by one", &NOT_VALID),
+    ("a lock that is kept is asked for by a conversion", &KEPT),
+];
+
+#[test]
+fn locks_are_held(rt: HostRuntime) -> Result<(), Fail> {
+    for (row, steps) in ROWS {
+        play(&rt, rt.alloc(), row, steps)?;
+    }
+    Ok(())
+}
+
+#[test]
+fn a_value_block_has_two_sequences(rt: HostRuntime) {
+    let value = [0, 1, 0, 0, 0, 0, 0, 7, 0, 0, 1, 0, 0, 0, 0, 0];
     assert_eq!(rt; first_sequence(&value), 0x0700_0000_0000_0100);
     assert_eq!(rt; second_sequence(&value), 65_536);
-
-    write(&mut db, name, 2, [255; 16])?;
-    give(&mut db, name, 2, ONE_TWO)?;
-    assert_eq!(rt; db.value(name), ([255; 16], true));
-    Ok(())
-}
-
-#[test]
-fn a_block_that_is_not_valid_is_raised_by_one(rt: HostRuntime) -> Result<(), Fail> {
-    let name = LockName::S(4);
-    let mut db = LockDb::new(rt.alloc())?;
-    ask(&rt, &mut db, name, 1, Mode::PW)?;
-    ask(&rt, &mut db, name, 2, Mode::PW)?;
-    ask(&rt, &mut db, name, 3, Mode::PW)?;
-    ask(&rt, &mut db, name, 4, Mode::PR)?;
-    db.drop_node(1);
-    assert!(rt;
-        !waits(&db, 2, &[(name, Mode::PW)]),
-        "node 2 is served once node 1 is dead"
-    );
-    assert_eq!(rt; db.value(name), ([0; 16], false));
-    give(&mut db, name, 2, NOTHING)?;
-    assert_eq!(rt;
-        db.value(name),
-        ([1, 0, 0, 0, 0, 0, 0, 0, 1, 0, 0, 0, 0, 0, 0, 0], true)
-    );
-    // The block is valid now.
-    give(&mut db, name, 3, NOTHING)?;
-    assert_eq!(rt;
-        db.value(name),
-        ([1, 0, 0, 0, 0, 0, 0, 0, 1, 0, 0, 0, 0, 0, 0, 0], true)
-    );
-    Ok(())
-}
-
-fn take_on(
-    rt: &HostRuntime,
-    db: &mut LockDb,
-    name: LockName,
-    node: u8,
-    mode: Mode,
-) -> Result<Asked, Fail> {
-    let owner = Owner { node, part: 0 };
-    if db.queued(name, owner)
-        || !(db.mode(name, owner).is_none() || db.mode(name, owner) == Some(Mode::NL))
-    {
-        return Err(Fail::new("no lock that can be asked for"));
-    }
-    Ok(take(rt.alloc(), db, node, name, mode)?)
-}
-
-fn lower_on(
-    db: &mut LockDb,
-    name: LockName,
-    node: u8,
-    low: Mode,
-    raise: Raise,
-) -> Result<(), Fail> {
-    let owner = Owner { node, part: 0 };
-    if db.mode(name, owner).is_none() || db.queued(name, owner) || low == Mode::CW {
-        return Err(Fail::new("no lock"));
-    }
-    lower(db, node, name, low, raise);
-    Ok(())
-}
-
-#[test]
-fn a_lock_that_is_kept_is_asked_for_by_a_conversion(rt: HostRuntime) -> Result<(), Fail> {
-    let name = LockName::S(7);
-    let mut db = LockDb::new(rt.alloc())?;
-    assert_eq!(rt; take_on(&rt, &mut db, name, 1, Mode::PW)?, Asked::Granted);
-    lower_on(&mut db, name, 1, Mode::NL, ONE_TWO)?;
-    assert_eq!(rt;
-        db.value(name),
-        ([1, 0, 0, 0, 0, 0, 0, 0, 2, 0, 0, 0, 0, 0, 0, 0], true)
-    );
-    assert_eq!(rt; db.mode(name, Owner { node: 1, part: 0 }), Some(Mode::NL));
-    assert_eq!(rt; take_on(&rt, &mut db, name, 2, Mode::PW)?, Asked::Granted);
-    assert_eq!(rt; take_on(&rt, &mut db, name, 3, Mode::PR)?, Asked::Queued);
-    // Node 1 converts from NL, and is served before node 3, which has asked before.
-    assert_eq!(rt; take_on(&rt, &mut db, name, 1, Mode::PW)?, Asked::Queued);
-    let row = [(name, Mode::PW)];
-    assert!(rt;
-        waits(&db, 1, &row) && waits(&db, 3, &[(name, Mode::PR)]),
-        "nodes 1 and 3 wait for node 2"
-    );
-    // Another row of node 1 goes on meanwhile.
-    assert_eq!(rt;
-        take_on(&rt, &mut db, LockName::V, 1, Mode::PW)?,
-        Asked::Granted
-    );
-    assert!(rt;
-        !waits(&db, 1, &[(LockName::V, Mode::PW)]),
-        "another row of node 1 does not wait"
-    );
-    lower_on(&mut db, LockName::V, 1, Mode::NL, NOTHING)?;
-
-    lower_on(&mut db, name, 2, Mode::NL, ONE_TWO)?;
-    assert!(rt;
-        !waits(&db, 1, &row) && waits(&db, 3, &[(name, Mode::PR)]),
-        "node 1 is served before node 3"
-    );
-    assert_eq!(rt;
-        db.value(name),
-        ([2, 0, 0, 0, 0, 0, 0, 0, 4, 0, 0, 0, 0, 0, 0, 0], true)
-    );
-    lower_on(&mut db, name, 1, Mode::NL, NOTHING)?;
-    assert!(rt;
-        !waits(&db, 3, &[(name, Mode::PR)]),
-        "node 3 is served after node 1"
-    );
-    Ok(())
 }

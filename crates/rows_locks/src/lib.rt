@@ -17,3 +17,5 @@ mod holding;
 mod random;
 #[cfg(test)]
 mod scripts;
+#[cfg(test)]
+mod steps;

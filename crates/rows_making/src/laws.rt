@@ -1,7 +1,7 @@
 //! A law of the worked examples.
 
 ghost use Rattle.std.specs.Prelude.{◌≡◌};
-ghost use Rattle.rows_plain.specs.Fresh.{fresh as example};
+ghost use Rattle.rows_sample.specs.Fresh.{fresh as example};
 ghost use Rattle.vol_init.specs.declared.layout.Layout.{Layout};
 ghost use Rattle.vol_init.specs.Layouts.{fresh};
 

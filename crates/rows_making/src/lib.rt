@@ -1,4 +1,4 @@
-//! Worked rows of making and mending volumes, and a law: the worked catalogue of `rows_plain` is that of a fresh volume.
+//! Worked rows of making and mending volumes, and a law: the worked catalogue of `rows_sample` is that of a fresh volume.
 //!
 //! Over `vol_init` and `vol_rebuild`.
 //!

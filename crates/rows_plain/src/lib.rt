@@ -1,25 +1,10 @@
-//! Worked rows of the plain crates: examples of commands, deaths and mendings on the catalogue of a fresh volume of 1,024 blocks.
+//! Worked rows of the plain crates: examples of commands, deaths and mendings on the catalogue of a fresh volume of 1,024 blocks. The
+//! crate has tests alone.
 //!
-//! Over `plain_rules` and `plain_past`. It has one function, laws on values, and tests.
+//! Over `plain_rules`, `plain_vol` and `plain_past`; the catalogue is that of `rows_sample`.
 //!
-//! ```text
-//! let cat = fresh_catalogue(alloc)?;
-//! ```
-//!
-//! `fresh_catalogue` is exactly the definition `fresh`: eleven system files, two quota rows, all else free, nothing open. In the
-//! tests each stated entry is judged legal by `check_reply`, and neighbours of it illegal.
-//!
-//! The laws are examples of deaths on that volume. Each is the contract of a function that does nothing.
+//! It promises nothing: in the tests each stated entry is judged legal by `check_reply`, and neighbours of it illegal.
 #![tactic(auto)]
-
-mod death_laws;
-mod fresh;
-
-pub use death_laws::{
-    a_create_stops, a_death_closes_and_leaks, a_rename_stops, nodes_die_where_killed,
-    nodes_give_their_own_commands,
-};
-pub use fresh::fresh_catalogue;
 
 #[cfg(test)]
 mod pasts;

@@ -3,7 +3,7 @@
 use log_check::{Verdict, judge};
 use plain_cat::NoMemory;
 use plain_rules::{free_clusters, is_accounted};
-use rows_plain::fresh_catalogue;
+use rows_sample::fresh_catalogue;
 use std::alloc::Global;
 use std::test::Fail;
 

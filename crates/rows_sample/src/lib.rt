@@ -1,16 +1,28 @@
-//! A small volume for the tests of commands: 64 blocks in clusters of two, with the system files, a directory and four files.
+//! Samples for tests: a small volume block by block, the catalogue of a fresh volume, and examples of deaths on it, as laws.
 //!
-//! `volume` gives its blocks, `name` a name of bytes, and `FIRST` and `SECOND` are the two blocks of its directory.
+//! `volume` gives the blocks of a volume of 64 blocks in clusters of two, with the system files, a directory and four files; `name` a name
+//! of bytes, and `FIRST` and `SECOND` are the two blocks of its directory. `fresh_catalogue` is exactly the definition `fresh`: a volume of
+//! 1,024 blocks with eleven system files, two quota rows, all else free, nothing open.
 //!
 //! ```text
 //! let mut blocks = volume();
 //! let entry = name(alloc, b"A.TXT")?;
+//! let cat = fresh_catalogue(alloc)?;
 //! ```
 //!
-//! It promises nothing: no contract says what is on this volume, and no program uses it. The tests that use it compare.
+//! The laws are examples of deaths on that catalogue. Each is the contract of a function that does nothing. No contract says what is on the
+//! small volume, and no program uses this crate: the tests of `rows_plain`, `rows_making`, `rows_ops` and `rows_reports` do.
 #![tactic(auto)]
 
+mod death_laws;
+mod fresh;
+
 use base_words::{Block, put_bytes, put_long, put_word, set_sum};
+pub use death_laws::{
+    a_create_stops, a_death_closes_and_leaks, a_rename_stops, nodes_die_where_killed,
+    nodes_give_their_own_commands,
+};
+pub use fresh::fresh_catalogue;
 use fx_home::{Home, Scb, home_block, scb_block};
 use plain_cat::{Name, NoMemory};
 use std::alloc::Global;

@@ -1,8 +1,10 @@
 use plain_cat::{
-    ByteBlock, Cmd, DirEnt, DirEnts, Entry, Fid, Mended, Mode, Name, NumberList, Refusal, Reply,
-    Stage, Uic,
+    ByteBlock, Cmd, DirEnt, DirEnts, Entry, Fid, Mended, Name, NumberList, Refusal, Reply, Stage,
+    Uic,
 };
+use plain_past::Past;
 use plain_texts::{NoMemory, push_command, push_lines, push_reply};
+use run_script::read_script;
 use std::alloc::Global;
 use std::test::Fail;
 
@@ -16,116 +18,55 @@ fn name_of(alloc: Global, text: &str) -> Result<Name, NoMemory> {
 
 const FILE: Fid = Fid { num: 12, seq: 1 };
 
-const MFD: Fid = Fid { num: 4, seq: 4 };
-
 const USER: Uic = Uic(65540);
 
-fn commands(alloc: Global) -> Result<Vec<(Cmd, &'static str)>, NoMemory> {
-    let a = || name_of(alloc, "A.TXT");
-    let mut all = Vec::new(alloc);
-    all.push((
-        Cmd::Lookup {
-            reg: 1,
-            dir: MFD,
-            name: a()?,
-            ver: 0,
-        },
-        "LOOKUP R1 (4,4,0) A.TXT;0",
-    ))?;
-    all.push((Cmd::List { dir: MFD }, "LIST (4,4,0)"))?;
-    all.push((Cmd::Stat { file: FILE }, "STAT (12,1,0)"))?;
-    all.push((
-        Cmd::Create {
-            reg: 1,
-            dir: MFD,
-            name: a()?,
-            ver: 0,
-            blocks: 10,
-            owner: USER,
-        },
+/// Lines of a node, and their commands as they are printed.
+const COMMANDS: [(&str, &str); 15] = [
+    ("LOOKUP R1 MFD A.TXT;0", "LOOKUP R1 (4,4,0) A.TXT;0"),
+    ("LIST MFD", "LIST (4,4,0)"),
+    ("STAT (12,1,0)", "STAT (12,1,0)"),
+    (
+        "CREATE R1 MFD A.TXT;0 10 [1,4]",
         "CREATE R1 (4,4,0) A.TXT;0 10 [1,4]",
-    ))?;
-    all.push((
-        Cmd::MkDir {
-            reg: 8,
-            dir: MFD,
-            name: name_of(alloc, "D")?,
-            owner: Uic(0xffff_ffff),
-        },
-        "MKDIR R8 (4,4,0) D [177777,177777]",
-    ))?;
-    all.push((
-        Cmd::Extend {
-            file: FILE,
-            blocks: 1,
-        },
-        "EXTEND (12,1,0) 1",
-    ))?;
-    all.push((
-        Cmd::Trunc {
-            file: FILE,
-            blocks: 304,
-        },
-        "TRUNC (12,1,0) 304",
-    ))?;
-    all.push((
-        Cmd::Delete {
-            dir: MFD,
-            name: a()?,
-            ver: 32767,
-        },
-        "DELETE (4,4,0) A.TXT;32767",
-    ))?;
-    let to = name_of(alloc, "B.TXT")?;
-    all.push((
-        Cmd::Rename {
-            dir: MFD,
-            name: a()?,
-            ver: 1,
-            to,
-            to_ver: 0,
-        },
+    ),
+    (
+        "MKDIR R8 LOST D [37777,177777]",
+        "MKDIR R8 (11,1,0) D [37777,177777]",
+    ),
+    ("EXTEND (12,1,0) 1", "EXTEND (12,1,0) 1"),
+    ("TRUNC (12,1,0) 304", "TRUNC (12,1,0) 304"),
+    ("DELETE MFD A.TXT;32767", "DELETE (4,4,0) A.TXT;32767"),
+    (
+        "RENAME MFD A.TXT;1 B.TXT;0",
         "RENAME (4,4,0) A.TXT;1 B.TXT;0",
-    ))?;
-    all.push((
-        Cmd::OpenFile {
-            chan: 1,
-            file: FILE,
-            mode: Mode::CW,
-        },
-        "OPEN 1 (12,1,0) CW",
-    ))?;
-    all.push((Cmd::CloseFile { chan: 1 }, "CLOSE 1"))?;
-    all.push((Cmd::ReadBlock { chan: 1, vbn: 1 }, "READ 1 1"))?;
-    let text = name_of(alloc, "HELLO")?;
-    all.push((
-        Cmd::WriteBlock {
-            chan: 1,
-            vbn: 1,
-            text,
-        },
-        "WRITE 1 1 HELLO",
-    ))?;
-    all.push((
-        Cmd::QuotaSet {
-            owner: USER,
-            quota: 13,
-            over: 4,
-        },
-        "QUOTASET [1,4] 13 4",
-    ))?;
-    all.push((Cmd::QuotaShow { owner: USER }, "QUOTASHOW [1,4]"))?;
-    Ok(all)
+    ),
+    ("OPEN 1 (12,1,0) CW", "OPEN 1 (12,1,0) CW"),
+    ("CLOSE 1", "CLOSE 1"),
+    ("READ 1 1", "READ 1 1"),
+    ("WRITE 1 1 HELLO", "WRITE 1 1 HELLO"),
+    ("QUOTASET [1,4] 13 4", "QUOTASET [1,4] 13 4"),
+    ("QUOTASHOW [1,4]", "QUOTASHOW [1,4]"),
+];
+
+/// The command of a line, as it is printed.
+fn printed(alloc: Global, line: &str) -> Result<Vec<u8>, Fail> {
+    let text = format!(in alloc; "NODES 1\n1 {line}\n")?;
+    let Ok(script) = read_script(alloc, text.as_bytes()) else {
+        return Err(Fail::new("a bad line"));
+    };
+    let Some(cmd) = Past::new().next(alloc, &script, 1)? else {
+        return Err(Fail::new("no command"));
+    };
+    let mut out = Vec::new(alloc);
+    push_command(alloc, &mut out, &cmd)?;
+    Ok(out)
 }
 
 #[test]
 fn writes_each_command(rt: HostRuntime) -> Result<(), Fail> {
-    let all = commands(rt.alloc())?;
-    assert_eq!(rt; all.len(), 15);
-    for (cmd, text) in &all {
-        let mut out = Vec::new(rt.alloc());
-        push_command(rt.alloc(), &mut out, cmd)?;
-        assert_eq!(rt; out.as_slice(), text.as_bytes(), "{text}");
+    for (line, text) in COMMANDS {
+        let found = printed(rt.alloc(), line)?;
+        assert_eq!(rt; found.as_slice(), text.as_bytes(), "{text}");
     }
     Ok(())
 }

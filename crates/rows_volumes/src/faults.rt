@@ -4,11 +4,12 @@ ghost use Rattle.vol_faults.specs.Conditions.{IsSize};
 
 use base_words::{Block, put_bytes, put_long, put_word, set_sum};
 use fx_bitmap::{clear_bits, set_bits};
-use fx_header::HeaderFault;
-use fx_home::{Home, HomeFault, Scb, ScbFault, scb_block};
+use fx_home::{Home, Scb, scb_block};
 use plain_cat::NoMemory;
+use plain_texts::{push_bytes, push_number};
 use std::alloc::Global;
 use std::test::Fail;
+use vol_analyze::push_finding;
 use vol_faults::{
     count_clusters, count_outside, first_bad_control_block, first_bad_header,
     first_bad_system_file, first_free_cluster, first_free_number, first_large_file, first_run_off,
@@ -107,174 +108,175 @@ fn first(alloc: Global, home: &Home, blocks: &[Block]) -> Result<(Option<Finding
     Ok((None, count_outside(home, blocks, &counts)))
 }
 
-/// What is found, of the kinds that the tests look for.
-#[derive(Clone, Copy)]
-pub(crate) enum Told {
-    Nothing,
-    Home(HomeFault),
-    Header(u32, HeaderFault),
-    WrongNumber(u32),
-    SystemFile(u32),
-    Scb(ScbFault),
-    Runs(u32),
-    Clusters(u32),
-    SharedCluster(u32),
-    DirRecord(u32),
-    NoQuotaRow(u32),
-    FreeCluster(u32),
-    FreeNumber(u32),
-    SystemEntry(u32),
-    Other,
+/// A change of a volume.
+pub(crate) enum Change {
+    /// A header in this block: number, sequence, flags, and two runs.
+    Header(usize, u16, u16, u32, (u16, u16), (u16, u16)),
+    /// A storage control block for so many blocks.
+    Control(u32),
+    /// Bytes of a block from a place on.
+    Bytes(usize, usize, &'static [u8]),
+    /// Bits of a block from a number on: set, or cleared.
+    Set(usize, u32, u32),
+    Clear(usize, u32, u32),
 }
 
-pub(crate) fn kind_of(found: &Option<Finding>) -> Told {
-    match found {
-        None => Told::Nothing,
-        Some(Finding::Home(fault)) => Told::Home(*fault),
-        Some(Finding::Header(n, fault)) => Told::Header(*n, *fault),
-        Some(Finding::WrongNumber(n)) => Told::WrongNumber(*n),
-        Some(Finding::SystemFile(n)) => Told::SystemFile(*n),
-        Some(Finding::Scb(fault)) => Told::Scb(*fault),
-        Some(Finding::Runs(n)) => Told::Runs(*n),
-        Some(Finding::Clusters(n)) => Told::Clusters(*n),
-        Some(Finding::SharedCluster(n)) => Told::SharedCluster(*n),
-        Some(Finding::DirRecord(n)) => Told::DirRecord(*n),
-        Some(Finding::NoQuotaRow(n)) => Told::NoQuotaRow(*n),
-        Some(Finding::FreeCluster(n)) => Told::FreeCluster(*n),
-        Some(Finding::FreeNumber(n)) => Told::FreeNumber(*n),
-        Some(Finding::SystemEntry(n)) => Told::SystemEntry(*n),
-        Some(_) => Told::Other,
-    }
-}
-
-/// The first finding, and how many clusters are outside where there is none.
-fn first_told(alloc: Global, b: &[Block; 64]) -> Result<(Told, u32), NoMemory> {
-    let (found, outside) = first(alloc, &SMALL, b)?;
-    Ok((kind_of(&found), outside))
-}
-
-/// The sound volume with one block in place of its own.
-fn with_block(lbn: usize, block: &Block) -> [Block; 64] {
-    let mut b = small();
+fn put(b: &mut [Block; 64], lbn: usize, block: &Block) {
     if let Some(place) = b.get_mut(lbn) {
         *place = *block;
     }
-    b
 }
 
-/// The first finding with one block in place of its own.
-fn first_with(alloc: Global, lbn: usize, block: &Block) -> Result<(Told, u32), NoMemory> {
-    first_told(alloc, &with_block(lbn, block))
+fn put_at(block: &mut Block, at: usize, bytes: &[u8]) {
+    if bytes.len() <= 512 && at <= 512 - bytes.len() {
+        put_bytes(block, at, bytes);
+    }
 }
 
-#[test]
-fn first_findings_of_headers(rt: HostRuntime) -> Result<(), Fail> {
-    let alloc = rt.alloc();
-    assert!(rt;
-        matches!(first_told(alloc, &small())?, (Told::Nothing, 0)),
-        "nothing is found in the sound volume"
-    );
-    let mut changed = header(20, 1, 0, NO_RUN, NO_RUN);
-    put_word(&mut changed, 12, 1);
-    assert!(rt;
-        matches!(
-            first_with(alloc, 24, &changed)?,
-            (Told::Header(20, HeaderFault::BadSum), _)
+// Sets bits, or clears them, as far as a block has them.
+fn put_bits(block: &mut Block, from: u32, count: u32, is_set: bool) {
+    let from = from.min(4095);
+    let count = count.min(4096 - from);
+    if is_set {
+        set_bits(block, from, count);
+    } else {
+        clear_bits(block, from, count);
+    }
+}
+
+pub(crate) fn put_change(b: &mut [Block; 64], change: &Change) {
+    match change {
+        Change::Header(lbn, num, seq, flags, first, second) => {
+            put(b, *lbn, &header(*num, *seq, *flags, *first, *second));
+        }
+        Change::Control(blocks) => put(
+            b,
+            37,
+            &scb_block(&Scb {
+                cluster: 1,
+                blocks: *blocks,
+            }),
         ),
-        "the bad sum of header 20 is told"
-    );
-    let other = header(21, 1, 0, NO_RUN, NO_RUN);
-    assert!(rt;
-        matches!(first_with(alloc, 24, &other)?, (Told::WrongNumber(20), _)),
-        "the wrong number in header 20 is told"
-    );
-    let marked = header(5, 5, MARKED, NO_RUN, NO_RUN);
-    assert!(rt;
-        matches!(first_with(alloc, 9, &marked)?, (Told::SystemFile(5), _)),
-        "the mark of system file 5 is told"
-    );
-    let short = header(1, 1, 0, (0, 36), NO_RUN);
-    assert!(rt;
-        matches!(first_with(alloc, 5, &short)?, (Told::SystemFile(1), _)),
-        "the short run of system file 1 is told"
-    );
-    let larger = scb_block(&Scb {
-        cluster: 1,
-        blocks: 65,
-    });
-    assert!(rt;
-        matches!(
-            first_with(alloc, 37, &larger)?,
-            (Told::Scb(ScbFault::BadSize), _)
-        ),
-        "the wrong size in the storage control block is told"
-    );
-    Ok(())
+        Change::Bytes(lbn, at, bytes) => {
+            if let Some(block) = b.get_mut(*lbn) {
+                put_at(block, *at, bytes);
+            }
+        }
+        Change::Set(lbn, from, count) => {
+            if let Some(block) = b.get_mut(*lbn) {
+                put_bits(block, *from, *count, true);
+            }
+        }
+        Change::Clear(lbn, from, count) => {
+            if let Some(block) = b.get_mut(*lbn) {
+                put_bits(block, *from, *count, false);
+            }
+        }
+    }
 }
 
-/// The sound volume with a file 12 of these runs.
-fn with_runs(flags: u32, first: (u16, u16), second: (u16, u16)) -> [Block; 64] {
-    with_block(16, &header(12, 1, flags, first, second))
-}
-
-/// The first finding with a file 12 of these runs.
-fn first_of_file(
+/// The text of a finding, or of so many clusters outside where there is none.
+pub(crate) fn text_of(
     alloc: Global,
-    flags: u32,
-    first: (u16, u16),
-    second: (u16, u16),
-) -> Result<(Told, u32), NoMemory> {
-    first_told(alloc, &with_runs(flags, first, second))
+    found: &Option<Finding>,
+    outside: u32,
+) -> Result<Vec<u8>, NoMemory> {
+    let mut out = Vec::new(alloc);
+    match found {
+        Some(f) => push_finding(alloc, &mut out, f)?,
+        None => {
+            push_bytes(&mut out, b"nothing, outside ")?;
+            push_number(alloc, &mut out, outside)?;
+        }
+    }
+    Ok(out)
 }
 
+// Whether this is found first in the sound volume with these changes.
+fn is_first(alloc: Global, changes: &[Change], text: &str) -> Result<bool, NoMemory> {
+    let mut b = small();
+    for it in changes {
+        put_change(&mut b, it);
+    }
+    let (found, outside) = first(alloc, &SMALL, &b)?;
+    let told = text_of(alloc, &found, outside)?;
+    Ok(told.as_slice() == text.as_bytes())
+}
+
+/// A file 12 in cluster 42 and in cluster 63, marked, whose bitmaps are put right one after another.
+const TWELVE: Change = Change::Header(16, 12, 1, MARKED, (42, 1), (63, 1));
+
+/// Changes of the sound volume, and what is found first.
+const ROWS: [(&[Change], &str); 14] = [
+    (&[], "nothing, outside 0"),
+    (
+        &[
+            Change::Header(24, 20, 1, 0, NO_RUN, NO_RUN),
+            Change::Bytes(24, 12, &[1]),
+        ],
+        "header 20: BadSum",
+    ),
+    (
+        &[Change::Header(24, 21, 1, 0, NO_RUN, NO_RUN)],
+        "header 20: WrongNumber",
+    ),
+    (
+        &[Change::Header(9, 5, 5, MARKED, NO_RUN, NO_RUN)],
+        "system file 5",
+    ),
+    (
+        &[Change::Header(5, 1, 1, 0, (0, 36), NO_RUN)],
+        "system file 1",
+    ),
+    (&[Change::Control(65)], "storage control block: BadSize"),
+    (
+        &[Change::Header(16, 12, 1, 0, (60, 5), NO_RUN)],
+        "runs of 12",
+    ),
+    (
+        &[Change::Header(16, 12, 1, 0, (0, 39), (0, 39))],
+        "clusters of 12",
+    ),
+    (
+        &[Change::Header(16, 12, 1, MARKED, (41, 3), NO_RUN)],
+        "shared cluster 41",
+    ),
+    (&[TWELVE], "free cluster 42 in use"),
+    (
+        &[TWELVE, Change::Clear(38, 42, 1)],
+        "free cluster 63 in use",
+    ),
+    (
+        &[TWELVE, Change::Clear(38, 42, 1), Change::Clear(38, 63, 1)],
+        "free number 12 in use",
+    ),
+    (
+        &[
+            TWELVE,
+            Change::Clear(38, 42, 1),
+            Change::Clear(38, 63, 1),
+            Change::Set(4, 11, 1),
+        ],
+        "nothing, outside 0",
+    ),
+    // three clusters are neither free nor in a file
+    (
+        &[
+            TWELVE,
+            Change::Clear(38, 42, 1),
+            Change::Clear(38, 63, 1),
+            Change::Set(4, 11, 1),
+            Change::Clear(38, 50, 3),
+        ],
+        "nothing, outside 3",
+    ),
+];
+
 #[test]
-fn first_findings_of_clusters(rt: HostRuntime) -> Result<(), Fail> {
-    let alloc = rt.alloc();
-    assert!(rt;
-        matches!(
-            first_of_file(alloc, 0, (60, 5), NO_RUN)?,
-            (Told::Runs(12), _)
-        ),
-        "the run of file 12 beyond the volume is told"
-    );
-    assert!(rt;
-        matches!(
-            first_of_file(alloc, 0, (0, 39), (0, 39))?,
-            (Told::Clusters(12), _)
-        ),
-        "the 78 clusters of file 12 are told"
-    );
-    assert!(rt;
-        matches!(
-            first_of_file(alloc, MARKED, (41, 3), NO_RUN)?,
-            (Told::SharedCluster(41), _)
-        ),
-        "cluster 41, which is in two runs, is told"
-    );
-    let mut b = with_runs(MARKED, (42, 1), (63, 1));
-    assert!(rt;
-        matches!(first_told(alloc, &b)?, (Told::FreeCluster(42), _)),
-        "cluster 42 of file 12, free in the bitmap, is told"
-    );
-    clear_bits(&mut b[38], 42, 1);
-    assert!(rt;
-        matches!(first_told(alloc, &b)?, (Told::FreeCluster(63), _)),
-        "cluster 63 of file 12, free in the bitmap, is told"
-    );
-    clear_bits(&mut b[38], 63, 1);
-    assert!(rt;
-        matches!(first_told(alloc, &b)?, (Told::FreeNumber(12), _)),
-        "file number 12, free in the bitmap, is told"
-    );
-    set_bits(&mut b[4], 11, 1);
-    assert!(rt;
-        matches!(first_told(alloc, &b)?, (Told::Nothing, 0)),
-        "nothing is found once the bitmaps are right"
-    );
-    clear_bits(&mut b[38], 50, 3);
-    assert!(rt;
-        matches!(first_told(alloc, &b)?, (Told::Nothing, 3)),
-        "three clusters are neither free nor in a file"
-    );
+fn the_first_finding_is_told(rt: HostRuntime) -> Result<(), Fail> {
+    for (changes, text) in ROWS {
+        let is_first = is_first(rt.alloc(), changes, text)?;
+        assert!(rt; is_first, "{text}");
+    }
     Ok(())
 }

@@ -1,6 +1,6 @@
-use crate::faults::{SMALL, Told, kind_of, small};
+use crate::faults::{Change, SMALL, put_change, small, text_of};
 use base_words::Block;
-use fx_home::{HomeFault, home_block};
+use fx_home::home_block;
 use fx_quota::{Row, set_row};
 use plain_cat::{Cat, NoMemory};
 use std::alloc::Global;
@@ -48,10 +48,6 @@ fn whole() -> [Block; 64] {
     b
 }
 
-fn found(alloc: Global, blocks: &[Block; 64]) -> Result<Told, NoMemory> {
-    Ok(kind_of(&read_whole(alloc, blocks)?.err()))
-}
-
 /// Whether a catalogue has the sizes of the sound volume.
 fn has_its_sizes(cat: &Cat) -> bool {
     (cat.factor, cat.total, cat.reserved) == (1, 64, 42)
@@ -83,40 +79,27 @@ fn a_volume_is_read(rt: HostRuntime) -> Result<(), Fail> {
     Ok(())
 }
 
-/// The finding of a volume with one byte changed, which of these kinds is the first.
+/// One byte after another is changed, and this is found then, which of these kinds is the first.
+const BYTES: [(Change, &str); 6] = [
+    (Change::Bytes(39, 35, b"Q"), "system entry 8"),
+    (Change::Bytes(4, 0, &[0xfe]), "free number 1 in use"),
+    (Change::Bytes(38, 5, &[0xfe]), "free cluster 41 in use"),
+    (Change::Bytes(40, 4, &[1]), "no quota row for 1"),
+    (Change::Bytes(39, 0, &[0x17]), "directory 4: BadRecord"),
+    (Change::Bytes(1, 496, b"d"), "home: BadFormat"),
+];
+
+fn found(alloc: Global, b: &[Block; 64]) -> Result<Vec<u8>, NoMemory> {
+    text_of(alloc, &read_whole(alloc, b)?.err(), 0)
+}
+
 #[test]
 fn one_byte_makes_a_finding(rt: HostRuntime) -> Result<(), Fail> {
-    let alloc = rt.alloc();
     let mut b = whole();
-    b[39][35] = b'Q';
-    assert!(rt;
-        matches!(found(alloc, &b)?, Told::SystemEntry(8)),
-        "the missing entry of system file 8 is told"
-    );
-    b[4][0] = 0xfe;
-    assert!(rt;
-        matches!(found(alloc, &b)?, Told::FreeNumber(1)),
-        "file number 1, free in the bitmap, is told"
-    );
-    b[38][5] = 0xfe;
-    assert!(rt;
-        matches!(found(alloc, &b)?, Told::FreeCluster(41)),
-        "cluster 41 of file 11, free in the bitmap, is told"
-    );
-    b[40][4] = 1;
-    assert!(rt;
-        matches!(found(alloc, &b)?, Told::NoQuotaRow(1)),
-        "the missing quota row for the owner of file 1 is told"
-    );
-    b[39][0] = 0x17;
-    assert!(rt;
-        matches!(found(alloc, &b)?, Told::DirRecord(4)),
-        "the bad record of directory 4 is told"
-    );
-    b[1][496] = b'd';
-    assert!(rt;
-        matches!(found(alloc, &b)?, Told::Home(HomeFault::BadFormat)),
-        "the bad format of the home block is told"
-    );
+    for (byte, text) in &BYTES {
+        put_change(&mut b, byte);
+        let found = found(rt.alloc(), &b)?;
+        assert!(rt; found.as_slice() == text.as_bytes(), "{text}");
+    }
     Ok(())
 }

@@ -1,5 +1,5 @@
 -- Where the parts of a volume lie: one behind the other, and all inside the blocks.
-use Rattle.std.proofs.Common.{◌≡◌, ◌+◌, ◌-◌, ◌*◌, ◌/◌, ◌<◌, ◌≤◌, ◌==◌, ℕ, zero, suc, true, false, Some, refl, arith}
+use Rattle.std.proofs.Common.{◌≡◌, ◌+◌, ◌-◌, ◌*◌, ◌/◌, ◌<◌, ◌≤◌, ◌==◌, ℕ, zero, suc, true, false, None, Some, refl, arith}
 use Rattle.std.proofs.lemmas.Bool.{ne_eqb, eq-eqb, and_from, and_left, and_right, le-leb, lt-leb, lt-ltb, le-ltb}
 use Rattle.std.proofs.Math.Nat.{mul-le-mul_left}
 use Rattle.vol_parts.specs.Parts.{storage_blocks, is_among}
@@ -177,3 +177,18 @@ part-quota l k p h =
     let there = among (first_block l 10) l.cluster lbn (omega arith) (omega arith) in
     let number : lbn - first_block l 10 ≡ k = omega arith in
     rw (b.front.copy, b.front.header, b.front.numbers, b.front.headers, b.control, b.storage, main, lost, there, number) refl
+
+-- an LBN behind the system files is no part's
+pub part-none : (l : Layout) (lbn : ℕ) → Places l → first_block l 10 + l.cluster ≤ lbn → part_of l lbn ≡ None
+unfolding part_of
+part-none l lbn p h =
+    let b = beyond l lbn p (omega (arith, p.main, p.lost)) in
+    let main = past (first_block l 4) l.cluster lbn (omega (arith, p.main, p.lost)) in
+    let lost = past (first_block l 11) l.cluster lbn (omega (arith, p.lost)) in
+    let quota = past (first_block l 10) l.cluster lbn h in
+    rw (b.front.copy, b.front.header, b.front.numbers, b.front.headers, b.control, b.storage, main, lost, quota) refl
+
+-- QUOTA.SYS is the last of them
+pub parts-end : (l : Layout) → l.cluster * reserved_clusters l ≡ first_block l 10 + l.cluster
+unfolding first_cluster
+parts-end l = omega arith

@@ -1,8 +1,8 @@
 //! Writing a volume.
-ghost use Rattle.std.specs.Prelude.{◌≡◌, ◌≢◌, ◌<◌, ◌≤◌, ℕ, length, Some, None, Err, IfSome, IfErr, OnOk, OnErr};
+ghost use Rattle.std.specs.Prelude.{◌≡◌, ◌≢◌, ◌<◌, ◌≤◌, ◌*◌, ℕ, length, Some, None, Err, IfSome, IfErr, OnOk, OnErr};
 ghost use Rattle.base_words.specs.Faults.{HasCause};
 ghost use Rattle.vol_parts.specs.Findings.{Accepts, CatOf};
-ghost use Rattle.vol_init.specs.Layouts.{fresh};
+ghost use Rattle.vol_init.specs.Layouts.{IsLayout, reserved_clusters, fresh};
 ghost use Rattle.vol_init.specs.Refusals.{refusal, layout_for, home_of, HasInitCause};
 ghost use Rattle.vol_init.specs.Parts.{part_of};
 ghost use Rattle.base_words.specs.Fields.{block_at as block_in};
@@ -39,9 +39,18 @@ fn put_part<I: ImageDev>(m: &mut Mirror<I>, plan: &Plan, lbn: u32) -> Result<(),
     }
 }
 
+/// The end of the system files, behind which no block is a part.
+fn end_of_parts(layout: &Layout) -> u32
+    requires { IsLayout layout.now }
+    ensures { result ≡ layout.now.cluster * reserved_clusters layout.now }
+{
+    layout.cluster * layout.reserved_clusters()
+}
+
 /// Writes all parts behind the home block, in order of LBN.
 fn put_parts<I: ImageDev>(m: &mut Mirror<I>, plan: &Plan) -> Result<(), ImageFault>
-    requires { IsPlan plan.now }
+    requires plan { IsPlan plan.now }
+    requires blocks { plan.now.layout.blocks ≡ length m.old.blocks }
     ensures there { OnOk result (ArePut plan.now (length m.old.blocks) m.old.blocks m.new.blocks) }
     ensures low { (k : ℕ) → k < 2 → block_in m.new.blocks k ≡ block_in m.old.blocks k }
     ensures image { I.told m.old.image ≡ Some m.old.blocks → OnOk result (I.told m.new.image ≡ Some m.new.blocks) }
@@ -50,7 +59,7 @@ fn put_parts<I: ImageDev>(m: &mut Mirror<I>, plan: &Plan) -> Result<(), ImageFau
     ensures count { length m.new.blocks ≡ length m.old.blocks }
     ensures cause { HasCause (I.faults m.old.image) (I.faults m.new.image) result }
 {
-    for lbn in 2..m.size() {
+    for lbn in 2..end_of_parts(&plan.layout) {
         put_part(m, plan, lbn)?;
     }
     Ok(())

@@ -2,7 +2,6 @@
 use Rattle.std.proofs.Common.{◌≡◌, ◌+◌, ◌*◌, ◌<◌, ℕ, zero, suc, Bool, map, length, bit_and, if◌then◌else◌, refl, arith}
 use Rattle.std.specs.List.{range_with_len}
 use Rattle.base_words.specs.Fields.{IsBytes, IsWholeBlock}
-use Rattle.base_words.proofs.Tables.{rises}
 use Rattle.fx_quota.specs.Rows.{flags_at, row_start, row_table, row_put, row_cleared}
 use Rattle.fx_bitmap.specs.Bits.{bit_at, number_of, block_of, is_among, bits_put}
 use Rattle.fx_bitmap.proofs.Bytes.{number_of-lt}

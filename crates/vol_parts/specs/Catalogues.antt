@@ -38,6 +38,10 @@ abbrev pub written_blocks : ℕ → Hdr → List Block → List Block
 written_blocks n f blocks =
     if f.dir || is_structure n then [] else if f.mark == 0 then blocks else take (f.mark - 1) blocks
 
+-- the blocks tell nothing of a file: it is no directory, and holds the volume's own structures or has nothing below its mark
+abbrev pub is_bare : ℕ → Hdr → Bool
+is_bare n f = not f.dir && (is_structure n || (f.mark == 1))
+
 abbrev pub entries_in : Hdr → List Block → List DirEnt
 entries_in f blocks = if f.dir then plain_entries (directory blocks) else []
 

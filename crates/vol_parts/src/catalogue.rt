@@ -4,7 +4,7 @@ ghost use Rattle.fx_home.specs.Homes.{IsWithinLimits};
 ghost use Rattle.fx_dir.specs.Directory.{directory};
 ghost use Rattle.plain_rules.specs.Lookups.{clusters_in};
 ghost use Rattle.vol_parts.specs.Volumes.{volume, IsNumber, numbers, total, body};
-ghost use Rattle.vol_parts.specs.Catalogues.{plain_entry, plain_entries, is_structure, written_blocks, file_of, slot_of, files_of, is_outside_cluster, is_outside_number, catalogue};
+ghost use Rattle.vol_parts.specs.Catalogues.{plain_entry, plain_entries, is_structure, written_blocks, is_bare, file_of, slot_of, files_of, is_outside_cluster, is_outside_number, catalogue};
 ghost use Rattle.vol_parts.specs.Conditions.{HasRunsInside, HasAllRunsInside};
 
 use crate::bodies::{body, fields, is_used_number};
@@ -110,6 +110,27 @@ fn file_of(alloc: Global, home: &Home, n: u32, f: &Hdr, all: Blocks) -> Result<F
     })
 }
 
+// Whether the blocks of a file tell nothing of it: it is no directory, and holds the volume's own structures or has nothing below its mark.
+fn is_bare(n: u32, f: &Hdr) -> bool
+    ensures { result ≡ is_bare n f.now }
+{
+    !f.dir && (is_structure(n) || f.mark == 1)
+}
+
+// A file, by its header and its blocks, which are not read where they tell nothing of it.
+fn file(alloc: Global, home: &Home, blocks: &[Block], n: u32, f: &Hdr) -> Result<File, NoMemory>
+    requires limits { IsWithinLimits home.now }
+    requires number { IsNumber (volume home.now blocks.now) n }
+    requires runs { HasRunsInside (volume home.now blocks.now) n }
+    ensures { IfOk result (λ file. file ≡ file_of home.now.cluster n f.now (body (volume home.now blocks.now) n)) }
+{
+    if is_bare(n, f) {
+        return file_of(alloc, home, n, f, Blocks::new(alloc));
+    }
+    let all = body(alloc, home, blocks, n)?;
+    file_of(alloc, home, n, f, all)
+}
+
 /// What a file number has, as a catalogue tells it. The runs of its file lie inside the whole clusters. An error says that
 /// memory ran out.
 #[tactic(auto, unfolding(crate::specs::Catalogues::slot_of))]
@@ -120,10 +141,7 @@ pub fn slot(alloc: Global, home: &Home, blocks: &[Block], n: u32) -> Result<Slot
     ensures { IfOk result (λ slot. slot ≡ slot_of (volume home.now blocks.now) n) }
 {
     match head(home, blocks, n) {
-        Ok(Head::Used(f)) => {
-            let all = body(alloc, home, blocks, n)?;
-            Ok(Slot::Used(file_of(alloc, home, n, &f, all)?))
-        }
+        Ok(Head::Used(f)) => Ok(Slot::Used(file(alloc, home, blocks, n, &f)?)),
         Ok(Head::Free(seq)) => Ok(Slot::Free(seq)),
         Err(_) => Ok(Slot::Free(0)),
     }

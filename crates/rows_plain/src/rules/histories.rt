@@ -2,12 +2,12 @@
 ghost use Rattle.std.specs.Prelude.{◌<◌, All, IsTrue};
 
 use super::replay::{Answer, Command, Replay, SYSTEM, USER, answered, name_of};
-use crate::fresh_catalogue;
 use plain_cat::{
     Cat, DirEnt, DirEnts, Entry, File, Mended, NoMemory, NumberList, QuotaRow, QuotaRows, Slot,
     Stage, Uic,
 };
 use plain_rules::inserted;
+use rows_sample::fresh_catalogue;
 use std::alloc::{AllocError, Global};
 use std::process::Abort;
 use std::test::Fail;

@@ -1,7 +1,6 @@
 ghost use Rattle.std.specs.Prelude.{IsTrue};
 ghost use Rattle.plain_rules.specs.Checks.{EntryInForm};
 
-use crate::fresh_catalogue;
 use base_words::{Block, put_bytes, zeros};
 use plain_cat::{
     ByteBlock, Cat, Cmd, DirEnt, DirEnts, Entry, Fid, Mode, Name, NoMemory, Refusal, Reply, Slot,
@@ -9,6 +8,7 @@ use plain_cat::{
 };
 use plain_rules::{is_accounted, is_in_form};
 use plain_vol::{Checked, check_reply};
+use rows_sample::fresh_catalogue;
 use std::alloc::{AllocError, Global};
 use std::process::Abort;
 use std::test::Fail;

@@ -1,4 +1,4 @@
-use Rattle.std.proofs.Common.{◌≡◌, ◌∙◌, ℕ, [], unwrap_or, refl, rules, tests, eqb}
+use Rattle.std.proofs.Common.{refl, rules, tests, eqb}
 use Rattle.std.proofs.lemmas.Iterator.Consumers.{nth_from_yields_List}
 use Rattle.std.proofs.lemmas.Iterator.Splits.{YieldsList-from_slice_split}
 use Rattle.run_script.specs.Lines.{parts}

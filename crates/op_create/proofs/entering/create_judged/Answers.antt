@@ -33,7 +33,7 @@ returns-in-Slot c =
     let e : NewEntry = record { name = name; ver = new_version c.args.ver (versions name (entries_of d)); file = file } in
     let path = place_next g d e (first_refusal (create_refusals g (entries_of d) name c.args.ver c.args.clusters)) c.args.rest (space_of seen) c.in_ok-need.field-0 c.requires.judged (c.in_ok-need.ensures.need (made_at g d e))
     ∙ ap (behind_place (made_at g d e) (space_of seen)) c.in-Slot.is in
-    let version = c.version_after-ver.ensures in
+    let version = c.new_version-ver.ensures.value in
     let file_is : entry_made c.new_file-f.result ≡ e = c.new_file-f.ensures ∙ ap (λ v. record { name = name; ver = v; file = file }) version in
     let numbered_is : entry_made c.numbered.result ≡ numbered c.in-Slot.slot.now e = ap entry_made c.numbered.ensures ∙ ap (numbered c.in-Slot.slot.now) file_is in
     subst (λ x. IfOk c.made.result (λ need. need ≡ x))

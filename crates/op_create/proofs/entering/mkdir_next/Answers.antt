@@ -4,6 +4,7 @@ use Rattle.op_law.specs.Events.{space_of}
 use Rattle.op_law.specs.Moving.{SeenDir}
 use Rattle.op_law.specs.Entering.{mkdir_in}
 use Rattle.op_law.specs.Behind.{FollowsBy}
+use Rattle.op_law.specs.Readable.{HeadIsReadable}
 use Rattle.op_steps.specs.Names.{dir_seen}
 use Rattle.op_steps.proofs.Followed.{first_names}
 use Rattle.op_create.proofs.Judged.{mkdir_first}
@@ -27,3 +28,6 @@ mkdir_in-requires-clause-follows c =
     let next = λ (d : SeenDir). mkdir_in g d (dir_name c.args.name.now) c.args.owner in
     let first = first_names g c.args.dir next seen c.all.result c.all.ensures.locks c.all.ensures.blocks (mkdir_first g c.args.dir c.args.name.now c.args.owner seen c.requires.follows) in
     subst (λ n. FollowsBy (mkdir_in g (dir_seen c.in-All.d) n c.args.owner) c.in-All.rest (space_of seen)) (sym c.in_ok-name-in-All.ensures) (c.in-All.ensures.follows next (space_of seen) first)
+
+pub mkdir_in-requires-clause-read : goal.mkdir_in-requires-clause-read
+mkdir_in-requires-clause-read c = c.in-All.ensures.read (subst (HeadIsReadable c.args.dir) (sym c.all.ensures.blocks) c.requires.readable)

@@ -9,17 +9,17 @@ use Rattle.op_rename.proofs.renaming.rename_in.Goals as goal
 pub renamed-requires-clause-number : goal.renamed-requires-clause-number
 renamed-requires-clause-number c =
     let name = c.args.name.now in
-    let found = ap (λ es. entry_of (versions name es) c.args.ver) (sym c.in_ok-entries.ensures) ∙ sym c.in-Some.ensures in
-    found_number (blocks_alone c.args.d.now.blocks.now) name c.args.ver c.in-Some.e.now c.in_ok-is_whole.ensures found
+    let found = sym c.in_ok-e.ensures ∙ c.in-Some.is in
+    found_number (blocks_alone c.args.d.now.blocks.now) name c.args.ver c.in-Some.e c.in_ok-is_whole.ensures found
 
 pub renamed-requires-clause-seq : goal.renamed-requires-clause-seq
 renamed-requires-clause-seq c =
     let name = c.args.name.now in
-    let found = ap (λ es. entry_of (versions name es) c.args.ver) (sym c.in_ok-entries.ensures) ∙ sym c.in-Some.ensures in
-    found_sequence (blocks_alone c.args.d.now.blocks.now) name c.args.ver c.in-Some.e.now c.in_ok-is_whole.ensures found
+    let found = sym c.in_ok-e.ensures ∙ c.in-Some.is in
+    found_sequence (blocks_alone c.args.d.now.blocks.now) name c.args.ver c.in-Some.e c.in_ok-is_whole.ensures found
 
 pub renamed-requires-clause-there : goal.renamed-requires-clause-there
 renamed-requires-clause-there c =
     let name = c.args.name.now in
-    let found = ap (λ es. entry_of (versions name es) c.args.ver) (sym c.in_ok-entries.ensures) ∙ sym c.in-Some.ensures in
-    found_there name c.args.ver (entries_seen (blocks_alone c.args.d.now.blocks.now)) c.in-Some.e.now found
+    let found = sym c.in_ok-e.ensures ∙ c.in-Some.is in
+    found_there name c.args.ver (entries_seen (blocks_alone c.args.d.now.blocks.now)) c.in-Some.e found

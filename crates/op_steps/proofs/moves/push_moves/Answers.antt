@@ -1,4 +1,4 @@
-use Rattle.std.proofs.Common.{◌≡◌, ◌∙◌, ◌+◌, ◌++◌, suc, [], ◌∷◌, take, ap, sym, arith, append_assoc}
+use Rattle.std.proofs.Common.{◌≡◌, ◌∙◌, ◌+◌, ◌++◌, suc, [], ◌∷◌, take, ap, sym, arith, append_assoc, append-nil}
 use Rattle.op_law.specs.Moving.{moves_at, move_write}
 use Rattle.op_steps.specs.Names.{dir_seen}
 use Rattle.op_steps.proofs.Entered.{one_more_before, one_more_after}
@@ -6,6 +6,9 @@ use Rattle.op_steps.proofs.moves.push_moves.Goals as goal
 use Rattle.op_steps.proofs.moves.push_moves.Goals.{then-i-first, else-i-first}
 use Rattle.fx_dir.specs.declared.Move.{Move}
 use Rattle.plain_cat.specs.declared.history.Stage.{Stage}
+
+pub loop-i-init : goal.loop-i-init
+loop-i-init c = c.make_room.ensures ∙ sym (append-nil c.args.writes.now)
 
 pub loop-i-preserved : goal.loop-i-preserved
 loop-i-preserved c =
