@@ -13,7 +13,8 @@
 //! `exit_call` makes the call with all of the words that it is given, in order, and answers the number of its status and the image, for which
 //! what the call says holds (`IsEnd`).
 //!
-//! The program `vmsclus_live` calls it.
+//! The program `vmsclus_live` calls it. The parts of the call that tests look at apart are its mount (`mounted`), the seats that go to
+//! the threads (`tasks_of`, `Task`), and what is done when all have ended (`finish`).
 #![tactic(auto)]
 
 mod calling;
