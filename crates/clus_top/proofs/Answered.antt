@@ -13,7 +13,7 @@ use Rattle.plain_rules.specs.Own.{Killed, is_mending}
 use Rattle.core_state.specs.Worlds.{NodeState, Plain, node_at}
 use Rattle.core_state.specs.Event.{Event}
 use Rattle.core_state.specs.Event as event
-use Rattle.core_state.specs.Deaths.{kills, kills_at, is_due, died_at, died, after_step}
+use Rattle.core_state.specs.Deaths.{kills_at, is_due, died_at, died, after_step}
 use Rattle.core_state.specs.Events.{would_go, asked_by, readied_at, readied, next_event, happens, happen_at, after_turn, is_over}
 use Rattle.core_state.proofs.Kills.{any_kill}
 use Rattle.std.proofs.lemmas.Bool.{and_parts}

@@ -1,26 +1,36 @@
--- Want of memory before the call: that status is due of all words, and the image has what it had.
-use Rattle.std.proofs.Common.{ℕ, List, Option, Some, None, refl, inl}
+-- Want of memory before a job: that status is due of all words, and the image stays.
+use Rattle.std.proofs.Common.{◌≡◌, ℕ, false, List, Option, Some, None, refl, inl}
 use Rattle.base_words.specs.Fields.{Block}
 use Rattle.run_engine.specs.declared.status.Status.TheVariants as status
 use Rattle.clus_top.specs.Words.{Wanted, Run, RunRebuild, Soak, Analyze, Rebuild, Init}
 use Rattle.clus_top.specs.Images.{IsImageAfter}
 use Rattle.clus_top.specs.Statuses.{IsDue}
+use Rattle.clus_top.specs.Verdicts.{is_verdict_of}
 
-pub lacking_due : (wanted : Option Wanted) (left : Option (List ℕ)) (size : ℕ) (told : Option (List Block)) → IsDue wanted left size told status.NoMemory
-lacking_due None left size told = tt
-lacking_due (Some Run) left size told = tt
-lacking_due (Some RunRebuild) left size told = tt
-lacking_due (Some (Soak n)) left size told = tt
-lacking_due (Some Analyze) left size told = tt
-lacking_due (Some Rebuild) left size told = tt
-lacking_due (Some (Init cluster files label)) left size told = tt
+pub lacking_due : (wanted : Option Wanted) (bytes : List ℕ) (size : ℕ) (bs : List Block) → IsDue wanted bytes size bs status.NoMemory
+lacking_due None bytes size bs = tt
+lacking_due (Some Run) bytes size bs = tt
+lacking_due (Some RunRebuild) bytes size bs = tt
+lacking_due (Some (Soak n)) bytes size bs = tt
+lacking_due (Some Analyze) bytes size bs = tt
+lacking_due (Some Rebuild) bytes size bs = tt
+lacking_due (Some (Init cluster files label)) bytes size bs = tt
 
-pub lacking_image : (wanted : Option Wanted) (left : Option (List ℕ)) (told : Option (List Block)) → IsImageAfter wanted left told told status.NoMemory
-lacking_image None left told = refl
-lacking_image (Some Run) left told = inl refl
-lacking_image (Some RunRebuild) left told = inl refl
-lacking_image (Some (Soak n)) left told = inl refl
-lacking_image (Some Analyze) left told = refl
-lacking_image (Some Rebuild) left told = inl refl
-lacking_image (Some (Init cluster files label)) left None = tt
-lacking_image (Some (Init cluster files label)) left (Some bs) = inl refl
+pub lacking_image : (wanted : Option Wanted) (bytes : List ℕ) (bs : List Block) → IsImageAfter wanted bytes bs bs status.NoMemory
+lacking_image None bytes bs = refl
+lacking_image (Some Run) bytes bs = inl refl
+lacking_image (Some RunRebuild) bytes bs = inl refl
+lacking_image (Some (Soak n)) bytes bs = inl refl
+lacking_image (Some Analyze) bytes bs = refl
+lacking_image (Some Rebuild) bytes bs = record { mends = λ z h. h; kept = λ f h. refl }
+lacking_image (Some (Init cluster files label)) bytes bs = inl refl
+
+-- it is no verdict
+pub no_verdict : (wanted : Option Wanted) → is_verdict_of wanted status.NoMemory ≡ false
+no_verdict None = refl
+no_verdict (Some Run) = refl
+no_verdict (Some RunRebuild) = refl
+no_verdict (Some (Soak n)) = refl
+no_verdict (Some Analyze) = refl
+no_verdict (Some Rebuild) = refl
+no_verdict (Some (Init cluster files label)) = refl

@@ -1,5 +1,5 @@
 -- Of all statuses exactly one is due, but for faults and want of memory.
-use Rattle.std.proofs.Common.{◌≡◌, ℕ, true, List, [], ◌∷◌, Option, Some, None, refl, sym, ap, ◌∙◌, inl, inr}
+use Rattle.std.proofs.Common.{◌≡◌, ℕ, true, List, [], ◌∷◌, Option, Some, None, refl, sym, ap, subst, ◌∙◌, inl, inr}
 use Rattle.std.proofs.lemmas.Bool.{false≢true}
 use Rattle.base_words.specs.Fields.{Block}
 use Rattle.blk_drive.specs.Images.{IsInside, IsOutside}
@@ -14,14 +14,16 @@ use Rattle.run_engine.specs.declared.status.Status.{Status}
 use Rattle.run_engine.specs.declared.status.Status.TheVariants as status
 use Rattle.run_engine.specs.Verdicts.{is_verdict, is_mended_verdict, IsRunDue}
 use Rattle.blk_drive.proofs.Sizes.{is_size, outside}
+use Rattle.run_engine.specs.Texts.{IsWordsDue}
 use Rattle.run_engine.proofs.Verdicts.{OneList, unfound, same_first, AloneInRun, alone_good, words_alone, run_verdict}
+use Rattle.run_engine.proofs.Verdicts.{due_alone as run_alone}
 use Rattle.clus_top.specs.Words.{Wanted, Run, RunRebuild, Soak, Analyze, Rebuild, Init}
 use Rattle.clus_top.specs.Statuses.{IsRunRebuildDue, IsSoakDue, IsAnalysisDue, IsRebuildDue, sized, IsPossible, IsInitDue, IsDue}
 use Rattle.clus_top.specs.Verdicts.{is_verdict_of, HasOneVerdict, RunsGood}
 
 -- no other status of an analysis is due
 abbrev AloneInAnalysis : ℕ → List Block → Status → Type 0
-AloneInAnalysis size bs s = (other : Status) → is_verdict other ≡ true → IsAnalysisDue size (Some bs) other → other ≡ s
+AloneInAnalysis size bs s = (other : Status) → is_verdict other ≡ true → IsAnalysisDue size bs other → other ≡ s
 
 size_alone : (size : ℕ) (bs : List Block) → IsOutside size → AloneInAnalysis size bs (status.BadSize size)
 size_alone size bs out status.Ok v h = absurd (outside size h.inside out)
@@ -73,7 +75,7 @@ none_alone size bs list inside none (status.BadInit x) v h = absurd h
 
 -- nor of a soak
 abbrev AloneInSoak : ℕ → ℕ → List Block → Status → Type 0
-AloneInSoak n size bs s = (other : Status) → is_verdict other ≡ true → IsSoakDue n size (Some bs) other → other ≡ s
+AloneInSoak n size bs s = (other : Status) → is_verdict other ≡ true → IsSoakDue n size bs other → other ≡ s
 
 soak_outside : (n size : ℕ) (bs : List Block) → IsOutside size → AloneInSoak n size bs (status.BadSize size)
 soak_outside n size bs out status.Ok v h = absurd (outside size h.inside out)
@@ -130,11 +132,11 @@ of_run bytes size bs fs one list found =
 
 -- of a run that is mended then the same one is due
 alone_mended : (bytes : List ℕ) (size : ℕ) (bs : List Block) (s : Status) → AloneInRun bytes size bs s → (other : Status) → is_mended_verdict other ≡ true
-    → IsRunRebuildDue (Some bytes) size (Some bs) other → other ≡ s
+    → IsRunRebuildDue bytes size bs other → other ≡ s
 alone_mended bytes size bs s alone (status.NotMendable g) v h = absurd (false≢true v)
 alone_mended bytes size bs s alone other v h = alone other v h
 
-of_mended : (bytes : List ℕ) (size : ℕ) (bs : List Block) (s : Status) → is_verdict s ≡ true → IsRunDue (Some bytes) size (Some bs) s → AloneInRun bytes size bs s
+of_mended : (bytes : List ℕ) (size : ℕ) (bs : List Block) (s : Status) → is_verdict s ≡ true → IsRunDue bytes size bs s → AloneInRun bytes size bs s
     → HasOneVerdict (Some RunRebuild) bytes size bs
 of_mended bytes size bs (status.NotMendable f) v d alone = absurd d
 of_mended bytes size bs s v d alone = record { status = s; verdict = v; due = d; alone = alone_mended bytes size bs s alone }
@@ -266,7 +268,7 @@ same_fatal bs f g one found other =
 
 -- nor of a mending
 abbrev AloneInRebuild : ℕ → List Block → Status → Type 0
-AloneInRebuild size bs s = (other : Status) → is_verdict other ≡ true → IsRebuildDue size (Some bs) other → other ≡ s
+AloneInRebuild size bs s = (other : Status) → is_verdict other ≡ true → IsRebuildDue size bs other → other ≡ s
 
 rebuild_outside : (size : ℕ) (bs : List Block) → IsOutside size → AloneInRebuild size bs (status.BadSize size)
 rebuild_outside size bs out status.Ok v h = absurd (outside size h.inside out)
@@ -347,10 +349,69 @@ one_verdict (Some Analyze) bytes size bs fs one list found = of_analysis bytes s
 one_verdict (Some Rebuild) bytes size bs fs one list found = of_rebuild bytes size bs fs list found
 one_verdict (Some (Init cluster files label)) bytes size bs fs one list found = of_init cluster files label bytes size bs
 
+-- ---- of a status that is due
+
+alone_analysis : (size : ℕ) (bs : List Block) (s : Status) → OneList bs → is_verdict s ≡ true → IsAnalysisDue size bs s → AloneInAnalysis size bs s
+alone_analysis size bs status.Ok list v d = none_alone size bs list d.inside d.accepted
+alone_analysis size bs status.ImageFault list v d = absurd (false≢true v)
+alone_analysis size bs (status.BadSize n) list v d = subst (λ (m : ℕ). AloneInAnalysis size bs (status.BadSize m)) (sym d.0) (size_alone size bs d.1)
+alone_analysis size bs status.Findings list v d = found_alone size bs d.1.first list d.0 d.1.found
+alone_analysis size bs status.OutFault list v d = absurd (false≢true v)
+alone_analysis size bs status.NoMemory list v d = absurd (false≢true v)
+alone_analysis size bs s list v d = absurd d
+
+alone_soak : (n size : ℕ) (bs : List Block) (s : Status) → OneList bs → is_verdict s ≡ true → IsSoakDue n size bs s → AloneInSoak n size bs s
+alone_soak n size bs status.Ok list v d = soak_good n size bs list d.inside d.accepted
+alone_soak n size bs status.ImageFault list v d = absurd (false≢true v)
+alone_soak n size bs (status.BadSize k) list v d = subst (λ (m : ℕ). AloneInSoak n size bs (status.BadSize m)) (sym d.0) (soak_outside n size bs d.1)
+alone_soak n size bs (status.NotAccepted f) list v d = soak_found n size bs f list d.0 d.1
+alone_soak n size bs status.OutFault list v d = absurd (false≢true v)
+alone_soak n size bs status.NoMemory list v d = absurd (false≢true v)
+alone_soak n size bs s list v d = absurd d
+
+alone_rebuild : (size : ℕ) (bs : List Block) (s : Status) → OneList bs → is_verdict s ≡ true → IsRebuildDue size bs s → AloneInRebuild size bs s
+alone_rebuild size bs status.Ok list v d = rebuild_weak size bs d.inside d.weak
+alone_rebuild size bs status.ImageFault list v d = absurd (false≢true v)
+alone_rebuild size bs (status.BadSize n) list v d = subst (λ (m : ℕ). AloneInRebuild size bs (status.BadSize m)) (sym d.0) (rebuild_outside size bs d.1)
+alone_rebuild size bs (status.NotMendable f) list v d = rebuild_fatal size bs f list d.0 d.1
+alone_rebuild size bs status.OutFault list v d = absurd (false≢true v)
+alone_rebuild size bs status.NoMemory list v d = absurd (false≢true v)
+alone_rebuild size bs s list v d = absurd d
+
+alone_init : (cluster files : ℕ) (label : List ℕ) (size : ℕ) (s : Status) → is_verdict s ≡ true → IsInitDue cluster files label size s → AloneInInit cluster files label size s
+alone_init cluster files label size status.Ok v d = possible_alone cluster files label size d
+alone_init cluster files label size status.ImageFault v d = absurd (false≢true v)
+alone_init cluster files label size (status.BadSize n) v d = subst (λ (m : ℕ). AloneInInit cluster files label size (status.BadSize m)) (sym d.0) (size_alone_in cluster files label size d.1)
+alone_init cluster files label size (status.BadInit f) v d = refused_alone cluster files label size f d.0 d.1
+alone_init cluster files label size status.OutFault v d = absurd (false≢true v)
+alone_init cluster files label size status.NoMemory v d = absurd (false≢true v)
+alone_init cluster files label size s v d = absurd d
+
+alone_run_rebuild : (bytes : List ℕ) (size : ℕ) (bs : List Block) (s : Status) → SayOneThing (lines_of bytes) → OneList bs → is_mended_verdict s ≡ true → IsRunRebuildDue bytes size bs s
+    → (other : Status) → is_mended_verdict other ≡ true → IsRunRebuildDue bytes size bs other → other ≡ s
+alone_run_rebuild bytes size bs (status.NotMendable f) one list v d = absurd (false≢true v)
+alone_run_rebuild bytes size bs s one list v d = alone_mended bytes size bs s (run_alone bytes size bs s one list v d)
+
+alone_words : (s : Status) → is_verdict s ≡ true → IsWordsDue s → (other : Status) → is_verdict other ≡ true → IsWordsDue other → other ≡ s
+alone_words status.BadWords v d = words_alone
+alone_words status.NoMemory v d = absurd (false≢true v)
+alone_words s v d = absurd d
+
+-- no other status is due than one that is
+pub due_alone : (wanted : Option Wanted) (bytes : List ℕ) (size : ℕ) (bs : List Block) (s : Status) → SayOneThing (lines_of bytes) → OneList bs → is_verdict_of wanted s ≡ true → IsDue wanted bytes size bs s
+    → (other : Status) → is_verdict_of wanted other ≡ true → IsDue wanted bytes size bs other → other ≡ s
+due_alone None bytes size bs s one list v d = alone_words s v d
+due_alone (Some Run) bytes size bs s one list v d = run_alone bytes size bs s one list v d
+due_alone (Some RunRebuild) bytes size bs s one list v d = alone_run_rebuild bytes size bs s one list v d
+due_alone (Some (Soak n)) bytes size bs s one list v d = alone_soak n size bs s list v d
+due_alone (Some Analyze) bytes size bs s one list v d = alone_analysis size bs s list v d
+due_alone (Some Rebuild) bytes size bs s one list v d = alone_rebuild size bs s list v d
+due_alone (Some (Init cluster files label)) bytes size bs s one list v d = alone_init cluster files label size s v d
+
 -- ---- a good script on an accepted volume
 
 pub answered : (wanted : Option Wanted) (bytes : List ℕ) (size : ℕ) (bs : List Block) (s : Status) → SayOneThing (lines_of bytes) → OneList bs → RunsGood wanted bytes → IsInside size → Accepts bs
-    → is_verdict_of wanted s ≡ true → IsDue wanted (Some bytes) size (Some bs) s → s ≡ status.Ok
+    → is_verdict_of wanted s ≡ true → IsDue wanted bytes size bs s → s ≡ status.Ok
 answered None bytes size bs s one list good inside none v h = absurd good
 answered (Some Run) bytes size bs s one list good inside none v h = alone_good bytes size bs one list good inside none s v h
 answered (Some RunRebuild) bytes size bs s one list good inside none v h = alone_mended bytes size bs status.Ok (alone_good bytes size bs one list good inside none) s v h

@@ -1,5 +1,5 @@
 -- The report of a run is the report of a history that replays, and the image has what the run wrote.
-use Rattle.std.proofs.Common.{◌≡◌, ◌∙◌, ◌⊎◌, ℕ, true, List, Option, Result, Err, All, length, refl, sym, ap, subst, arith, inl, inr}
+use Rattle.std.proofs.Common.{◌≡◌, ◌∙◌, ◌⊎◌, ℕ, true, List, Option, Result, Some, Err, All, length, refl, sym, ap, subst, arith, inl, inr}
 use Rattle.std.specs.Prelude.{slice_index_or, OnErr}
 use Rattle.base_words.specs.Fields.{Block}
 use Rattle.base_words.specs.Faults.{Rose}
@@ -10,7 +10,8 @@ use Rattle.plain_rules.specs.Replaying.{Replays}
 use Rattle.vol_parts.specs.declared.geometry.Geometry.{Geometry}
 use Rattle.plain_cat.specs.InForm.{InForm, is_within}
 use Rattle.run_script.proofs.Pieces.{limits}
-use Rattle.blk_drive.specs.Telling.{told_as}
+use Rattle.blk_drive.specs.Telling.{IsTold, told_as}
+use Rattle.core_state.specs.Deaths.{after_step}
 use Rattle.core_state.specs.Worlds.{Plain, IsOfWorld}
 use Rattle.core_state.specs.Goods.{Good}
 use Rattle.core_state.specs.Mounting.{IsMounted, IsMountEnd}
@@ -23,12 +24,15 @@ use Rattle.core_state.specs.Ends.{AllOver}
 use Rattle.run_engine.specs.Ended.{IsSpelt, HasEnded}
 use Rattle.run_engine.proofs.Driving.{told_well}
 use Rattle.run_engine.specs.Stops.{IsStopOf, mount_status}
+use Rattle.run_engine.specs.Inputs.{Leaves}
+use Rattle.run_engine.specs.Texts.{cut_text}
+use Rattle.run_engine.proofs.Given.{torn_leaves}
 use Rattle.run_engine.proofs.Results.{on_err, same_err}
 use Rattle.clus_top.specs.Runs.{HasRun, LacksMemory}
 use Rattle.run_engine.specs.declared.stop.Stop.{Stop}
 use Rattle.run_engine.specs.declared.stop.Stop.TheVariants as stop
 use Rattle.clus_top.specs.declared.run_job.Printed.{Printed}
-use Rattle.clus_top.specs.Ends.{printed_text, IsWholeIn, IsDriveIn, IsEndIn, IsLackingIn, IsCutIn, IsStopIn, IsStopBy}
+use Rattle.clus_top.specs.Ends.{printed_text, IsWholeIn, IsDriveIn, IsEndIn, IsLackingIn, IsCutShortIn, IsStopIn, IsStopBy}
 use Rattle.run_engine.proofs.Walked.{over_walk}
 use Rattle.clus_top.proofs.Used.{walk_keeps, walk_uses}
 use Rattle.clus_top.proofs.Stopping.{starts_accepted}
@@ -55,45 +59,52 @@ module _ (start : Plain) (good : Good start) (m : IsMounted start.blocks start.s
     good = keeps;
   }
 
-  unfoldable pub drive_in : (new : Plain) (plays : List ℕ) (told now : Option (List Block)) → plays ≡ start.script.plays → IsPartOfWalk start plays new → Good new → now ≡ told_as told new.blocks
-      → IsDriveIn start.script start.blocks told now
-  drive_in new plays told now same part keeps image = record { world = new; ran = has_run new plays same part keeps; image = image }
+  unfoldable pub drive_in : (new : Plain) (plays : List ℕ) → plays ≡ start.script.plays → IsPartOfWalk start plays new → Good new → IsDriveIn start.script start.blocks new.blocks
+  drive_in new plays same part keeps = record { world = new; ran = has_run new plays same part keeps; image = refl }
 
   -- a run that lacks memory
-  pub lacking_in : (new : Plain) (plays : List ℕ) (told now : Option (List Block)) → plays ≡ start.script.plays → IsPartOfWalk start plays new → Good new → now ≡ told_as told new.blocks
-      → LacksMemory start plays new → IsLackingIn start.script start.blocks told now
+  pub lacking_in : (new : Plain) (plays : List ℕ) → plays ≡ start.script.plays → IsPartOfWalk start plays new → Good new → LacksMemory start plays new → IsLackingIn start.script start.blocks new.blocks
   unfolding drive_in has_run
-  lacking_in new plays told now same part keeps image lacks = record {
-    drive = drive_in new plays told now same part keeps image;
+  lacking_in new plays same part keeps lacks = record {
+    drive = drive_in new plays same part keeps;
     lacks = subst (λ (ns : List ℕ). LacksMemory start ns new) same lacks;
   }
 
   -- a run that a write cut short
-  pub cut_in : (new : Plain) (plays : List ℕ) (told now : Option (List Block)) → plays ≡ start.script.plays → IsPartOfWalk start plays new → Good new
-      → IsBeforeWrite (IsNextIn start plays new) start.blocks told now new → IsCutIn start.script start.blocks told now
+  pub cut_in : (new : Plain) (plays : List ℕ) (told now : Option (List Block)) → plays ≡ start.script.plays → IsPartOfWalk start plays new → Good new → IsTold told start.blocks
+      → IsBeforeWrite (IsNextIn start plays new) start.blocks told now new → Leaves told now (λ left. IsCutShortIn start.script start.blocks left (cut_text new.history))
   unfolding has_run
-  cut_in new plays told now same part keeps before = record {
-    world = new;
-    ran = has_run new plays same part keeps;
-    before = subst (λ (ns : List ℕ). IsBeforeWrite (IsNextIn start ns new) start.blocks told now new) same before;
-  }
+  cut_in new plays told now same part keeps shows before =
+      torn_leaves told now start.blocks new.blocks (after_step new before.node).blocks (λ left. IsCutShortIn start.script start.blocks left (cut_text new.history)) (before.image shows)
+      (λ left torn. record {
+        cut = record {
+          world = new;
+          ran = has_run new plays same part keeps;
+          before = subst (λ (ns : List ℕ). IsBeforeWrite (IsNextIn start ns new) start.blocks (Some start.blocks) (Some left) new) same
+              (record { node = before.node; next = before.next; turn = before.turn; write = before.write; image = λ h. torn });
+        };
+        written = refl;
+      })
 
   -- a run that stopped by this fault
   pub run_stop : {A : Type 0} (new : Plain) (plays : List ℕ) (told now : Option (List Block)) (had has : ℕ) (r : Result A RunFault) (f : RunFault) → r ≡ Err f
       → plays ≡ start.script.plays → OnErr r (IsPartOfWalk start plays new) → Good new
       → (r ≡ Err run.ImageFault → Rose had has) → (r ≡ Err run.ImageFault → IsBeforeWrite (IsNextIn start plays new) start.blocks told now new)
       → (r ≡ Err run.NoMemory → IsBeforeTaking (IsNextIn start plays new) new)
-      → (now ≡ told_as told new.blocks) ⊎ (r ≡ Err run.ImageFault)
-      → (s : Stop) → IsStopOf new f s → IsStopBy start.script start.blocks told now had has s
-  unfolding cut_in
-  run_stop {A} new plays told now had has r run.ImageFault is same part keeps cause before taking image (stop.Cut text) written =
-      (cause is, record { cut = cut_in new plays told now same (on_err r run.ImageFault (IsPartOfWalk start plays new) is part) keeps (before is); written = written })
-  run_stop {A} new plays told now had has r run.ImageFault is same part keeps cause before taking image stop.NoLines none =
-      (cause is, cut_in new plays told now same (on_err r run.ImageFault (IsPartOfWalk start plays new) is part) keeps (before is))
-  run_stop {A} new plays told now had has r run.ImageFault is same part keeps cause before taking image (stop.By s) none = absurd none
-  run_stop {A} new plays told now had has r run.NoMemory is same part keeps cause before taking image s e =
-      subst (IsStopBy start.script start.blocks told now had has) (sym e) (inr (lacking_in new plays told now same (on_err r run.NoMemory (IsPartOfWalk start plays new) is part) keeps
-      (told_well (r ≡ Err run.ImageFault) _ _ image (λ p. let f : run.NoMemory ≡ run.ImageFault = same_err r run.NoMemory run.ImageFault is p in cc)) (inl (taking is))))
+      → (now ≡ told_as told new.blocks) ⊎ (r ≡ Err run.ImageFault) → IsTold told start.blocks
+      → (s : Stop) → IsStopOf new f s → Leaves told now (λ left. IsStopBy start.script start.blocks left had has s)
+  run_stop {A} new plays told now had has r run.ImageFault is same part keeps cause before taking image shows (stop.Cut text) written =
+      let c = cut_in new plays told now same (on_err r run.ImageFault (IsPartOfWalk start plays new) is part) keeps shows (before is) in
+      record { new = c.new; left = c.left; holds = (cause is, record { cut = c.holds.cut; written = written ∙ c.holds.written }) }
+  run_stop {A} new plays told now had has r run.ImageFault is same part keeps cause before taking image shows stop.NoLines none =
+      let c = cut_in new plays told now same (on_err r run.ImageFault (IsPartOfWalk start plays new) is part) keeps shows (before is) in
+      record { new = c.new; left = c.left; holds = (cause is, c.holds.cut) }
+  run_stop {A} new plays told now had has r run.ImageFault is same part keeps cause before taking image shows (stop.By s) none = absurd none
+  run_stop {A} new plays told now had has r run.NoMemory is same part keeps cause before taking image shows s e = record {
+    new = new.blocks;
+    left = told_well (r ≡ Err run.ImageFault) _ _ image (λ p. let f : run.NoMemory ≡ run.ImageFault = same_err r run.NoMemory run.ImageFault is p in cc);
+    holds = subst (IsStopBy start.script start.blocks new.blocks had has) (sym e) (inr (lacking_in new plays same (on_err r run.NoMemory (IsPartOfWalk start plays new) is part) keeps (inl (taking is))));
+  }
 
   pub led : (c d : Cat) (s : Script) (new : Plain) → s ≡ start.script → c ≡ start.opening → Replays c s new.history d → Replays m.opening start.script new.history d
   led c d s new script first h =
@@ -115,12 +126,12 @@ module _ (start : Plain) (good : Good start) (m : IsMounted start.blocks start.s
   }
 
   -- a run that has come to its end
-  unfoldable pub end_in : (what : Printed) (new : Plain) (plays : List ℕ) (told now : Option (List Block)) (text : List ℕ) → plays ≡ start.script.plays → IsRotatedIn (budget_of start) (played plays start) new → AllOver new → Good new
-      → Stays start new → Whole new.script new.history → now ≡ told_as told new.blocks → (c : Cat) × HasEnded new c × (text ≡ printed_text what new c)
-      → IsEndIn what start.script start.blocks told now text
+  unfoldable pub end_in : (what : Printed) (new : Plain) (plays : List ℕ) (text : List ℕ) → plays ≡ start.script.plays → IsRotatedIn (budget_of start) (played plays start) new → AllOver new → Good new
+      → Stays start new → Whole new.script new.history → (c : Cat) × HasEnded new c × (text ≡ printed_text what new c)
+      → IsEndIn what start.script start.blocks new.blocks text
   unfolding drive_in has_run whole_in
-  end_in what new plays told now text same walk over keeps stays whole image end = record {
-    drive = drive_in new plays told now same (inr (walk.turns, walk.at)) keeps image;
+  end_in what new plays text same walk over keeps stays whole end = record {
+    drive = drive_in new plays same (inr (walk.turns, walk.at)) keeps;
     walked = subst (λ (ns : List ℕ). IsRotatedIn (budget_of start) (played ns start) new) same walk;
     over = over;
     left = whole_in new stays (over_walk IsAnswered step_keeps start plays new (walk.turns, walk.at) answered) whole end.0 end.1;
@@ -128,19 +139,19 @@ module _ (start : Plain) (good : Good start) (m : IsMounted start.blocks start.s
   }
 
 -- what is said of a mounted volume is said of its blocks
-pub end_of_mounted : (what : Printed) (bs : List Block) (s : Script) (w : Plain) (told new : Option (List Block)) (text : List ℕ) → IsMounted bs s w
-    → IsEndIn what w.script w.blocks told new text → IsEndIn what s bs told new text
-end_of_mounted what bs s w told new text m h =
-    subst (λ (t : Script). IsEndIn what t bs told new text) (ap (λ (v : Plain). v.script) m.is) (subst (λ (b : List Block). IsEndIn what w.script b told new text) (ap (λ (v : Plain). v.blocks) m.is) h)
+pub end_of_mounted : (what : Printed) (bs : List Block) (s : Script) (w : Plain) (new : List Block) (text : List ℕ) → IsMounted bs s w
+    → IsEndIn what w.script w.blocks new text → IsEndIn what s bs new text
+end_of_mounted what bs s w new text m h =
+    subst (λ (t : Script). IsEndIn what t bs new text) (ap (λ (v : Plain). v.script) m.is) (subst (λ (b : List Block). IsEndIn what w.script b new text) (ap (λ (v : Plain). v.blocks) m.is) h)
 
-pub stop_of_mounted : (bs : List Block) (s : Script) (w : Plain) (told new : Option (List Block)) (had has : ℕ) (x : Stop) → IsMounted bs s w
-    → IsStopBy w.script w.blocks told new had has x → IsStopBy s bs told new had has x
-stop_of_mounted bs s w told new had has x m h =
-    subst (λ (t : Script). IsStopBy t bs told new had has x) (ap (λ (v : Plain). v.script) m.is) (subst (λ (b : List Block). IsStopBy w.script b told new had has x) (ap (λ (v : Plain). v.blocks) m.is) h)
+pub stop_of_mounted : (bs : List Block) (s : Script) (w : Plain) (new : List Block) (had has : ℕ) (x : Stop) → IsMounted bs s w
+    → IsStopBy w.script w.blocks new had has x → IsStopBy s bs new had has x
+stop_of_mounted bs s w new had has x m h =
+    subst (λ (t : Script). IsStopBy t bs new had has x) (ap (λ (v : Plain). v.script) m.is) (subst (λ (b : List Block). IsStopBy w.script b new had has x) (ap (λ (v : Plain). v.blocks) m.is) h)
 
-pub mount_stop : (s : Script) (bs : List Block) (told new : Option (List Block)) (f : MountFault) → new ≡ told → IsMountEnd bs f → IsStopIn s bs told new (mount_status f)
-mount_stop s bs told new (mount.NotAccepted f) same h = (h, same)
-mount_stop s bs told new mount.NoMemory same h = inl same
+pub mount_stop : (s : Script) (bs : List Block) (f : MountFault) → IsMountEnd bs f → IsStopIn s bs bs (mount_status f)
+mount_stop s bs (mount.NotAccepted f) h = (h, refl)
+mount_stop s bs mount.NoMemory h = inl refl
 
 -- ---- plays
 

@@ -1,129 +1,338 @@
--- A run whose drive is mended then: what its status, its text and its image say where it is not mended.
-use Rattle.std.proofs.Common.{◌≡◌, ◌∙◌, ◌⊎◌, ℕ, List, Option, refl, sym, subst, inl, inr}
+-- What a job answers, by how it is told.
+use Rattle.std.proofs.Common.{◌≡◌, ◌∙◌, ◌⊎◌, ℕ, true, false, List, [], ◌∷◌, Option, Some, None, refl, sym, subst, inl, inr}
+use Rattle.std.proofs.lemmas.Bool.{false≢true}
+use Rattle.std.specs.Io.KnownBytes.{Appends}
 use Rattle.base_words.specs.Fields.{Block}
 use Rattle.base_words.specs.Faults.{Rose}
-use Rattle.plain_cat.specs.declared.script.Script.{Script}
+use Rattle.fx_text.specs.Streams.{AppendsStart}
+use Rattle.fx_text.specs.Written.{IsWritten}
+use Rattle.blk_drive.specs.Images.{IsInside}
+use Rattle.vol_parts.specs.declared.finding.Finding.{Finding}
+use Rattle.vol_parts.specs.Findings.{AreFindings}
 use Rattle.run_engine.specs.declared.status.Status.{Status}
 use Rattle.run_engine.specs.declared.status.Status.TheVariants as status
+use Rattle.run_engine.specs.declared.stop.Stop.{Stop}
+use Rattle.run_engine.specs.declared.stop.Stop.TheVariants as stop
 use Rattle.run_engine.specs.declared.over_mending.Halt.{Halt}
 use Rattle.run_engine.specs.declared.over_mending.Halt.TheVariants as halt
-use Rattle.run_engine.specs.Texts.{status_text, Writes}
-use Rattle.fx_text.specs.Written.{IsWritten}
-use Rattle.run_engine.specs.Halts.{IsToldHalt}
-use Rattle.clus_top.specs.Statuses.{IsRunRebuildDue}
-use Rattle.clus_top.specs.Images.{IsMendedFaultText, IsRunRebuildImage}
-use Rattle.clus_top.specs.Ends.{IsRunEnd}
-use Rattle.clus_top.specs.Halts.{IsRunHalt, IsQuietHalt, IsHaltImage}
-use Rattle.clus_top.proofs.Halting.{cut_left, lacking_left, unlined_left, unmended_left}
+use Rattle.run_engine.specs.Halts.{halt_of, IsToldHalt}
+use Rattle.run_engine.specs.Scripts.{IsScriptOf}
+use Rattle.run_engine.specs.Texts.{status_text, IsPlainText, Writes}
+use Rattle.run_engine.specs.Verdicts.{is_verdict}
+use Rattle.clus_top.specs.Words.{Wanted, Run, RunRebuild, Soak, Analyze, Rebuild, Init}
+use Rattle.clus_top.specs.Calls.{IsAnswer, IsCall}
+use Rattle.clus_top.specs.Ends.{IsReported, IsSummarized, IsRunEnd, IsRunStop, IsSoakEnd, IsSoakStop, IsFoundEnd, IsLoadEnd, IsInitEnd, IsFormattedWith, IsRebuiltWith, IsRebuildEnd}
+use Rattle.clus_top.specs.Halts.{IsMendedWith, IsRunHalt}
+use Rattle.clus_top.specs.Images.{IsFaultTextOf, IsImageAfter, IsFormatted, IsCutShort, IsMendingCutShort}
+use Rattle.clus_top.specs.Mendings.{IsStillToMend}
+use Rattle.clus_top.specs.Statuses.{accepted_text, IsDue, IsTextOf}
+use Rattle.clus_top.proofs.Analyzed.{found_due}
+use Rattle.clus_top.proofs.Halting.{rest}
+use Rattle.clus_top.proofs.Lacking.{lacking_due, lacking_image, no_verdict}
+use Rattle.vol_init.specs.Refusals.{home_of}
 
-module _ (left : Option (List ℕ)) (size : ℕ) (told new : Option (List Block)) (read reading had has : ℕ) (old now : Option (List ℕ)) (before after : ℕ) where
-  -- ---- the status
+-- what a status says of a job that gave no text, and whose text says all; the image may have been left so where memory runs out for it
+pub record IsQuiet (wanted : Option Wanted) (bytes : List ℕ) (size : ℕ) (old new : List Block) (read reading had has : ℕ) (s : Status) : Type 0 where
+  pub due : IsDue wanted bytes size old s
+  pub script_fault : s ≡ status.ScriptFault → Rose read reading
+  pub image_fault : s ≡ status.ImageFault → Rose had has
+  pub out_fault : s ≡ status.OutFault → ⊥
+  pub written : (was now : Option (List ℕ)) (before after : ℕ) → IsWritten was now before after (status_text s)
+      → Writes (IsTextOf wanted bytes size old new) (IsFaultTextOf wanted bytes old new) old was now before after s
+  pub left : IsImageAfter wanted bytes old new s
+  pub lacking : IsImageAfter wanted bytes old new status.NoMemory
 
-  due_by : (s : Status) → IsRunEnd left size told read reading had has s → IsRunRebuildDue left size told s
-  due_by status.ScriptFault h = tt
-  due_by status.ScriptTooLong h = h
-  due_by (status.BadScript n) h = h
-  due_by status.TooMany h = h
-  due_by status.ImageFault h = h.0
-  due_by (status.BadSize n) h = h
-  due_by (status.NotAccepted f) h = h
-  due_by status.NoMemory h = tt
-  due_by s h = absurd h
+not_this : (s other : Status) → is_verdict s ≡ true → is_verdict other ≡ false → s ≡ other → ⊥
+not_this s other v n e = false≢true (sym n ∙ subst (λ (x : Status). is_verdict x ≡ true) e v)
 
-  pub due_told : (x : Halt) (r : Status) → IsRunHalt left size told read reading had has x → IsToldHalt old now before after x r → IsRunRebuildDue left size told r
-  due_told (halt.Cut text) r h t = subst (IsRunRebuildDue left size told) (sym t.0) h.0
-  due_told halt.NoLines r h t = subst (IsRunRebuildDue left size told) (sym t.0) tt
-  due_told (halt.Unmended text f) r h t = subst (IsRunRebuildDue left size told) (sym t.0) h
-  due_told (halt.By s) r h t = by t.0 where
-    by : (r ≡ s) ⊎ (r ≡ status.NoMemory) → IsRunRebuildDue left size told r
-    by (inl e) = subst (IsRunRebuildDue left size told) (sym e) (due_by s h)
-    by (inr e) = subst (IsRunRebuildDue left size told) (sym e) tt
+module _ (wanted : Option Wanted) (bytes : List ℕ) (size : ℕ) (old new : List Block) (read reading had has : ℕ) where
+  -- a status that speaks of what came in alone
+  verdict : (s : Status) → is_verdict s ≡ true → IsDue wanted bytes size old s
+      → ((was now : Option (List ℕ)) (before after : ℕ) → IsWritten was now before after (status_text s) → Writes (IsTextOf wanted bytes size old new) (IsFaultTextOf wanted bytes old new) old was now before after s)
+      → IsImageAfter wanted bytes old new s → IsImageAfter wanted bytes old new status.NoMemory → IsQuiet wanted bytes size old new read reading had has s
+  verdict s v due written left lacking = record {
+    due = due;
+    script_fault = λ e. absurd (not_this s status.ScriptFault v refl e);
+    image_fault = λ e. absurd (not_this s status.ImageFault v refl e);
+    out_fault = λ e. not_this s status.OutFault v refl e;
+    written = written;
+    left = left;
+    lacking = lacking;
+  }
 
-  -- ---- faults
+  script_fault : Rose read reading → IsDue wanted bytes size old status.ScriptFault → IsImageAfter wanted bytes old new status.ScriptFault → IsImageAfter wanted bytes old new status.NoMemory
+      → IsQuiet wanted bytes size old new read reading had has status.ScriptFault
+  script_fault rose due left lacking = record {
+    due = due;
+    script_fault = λ e. rose;
+    image_fault = λ e. absurd (let f : status.ScriptFault ≡ status.ImageFault = e in cc);
+    out_fault = λ e. let f : status.ScriptFault ≡ status.OutFault = e in cc;
+    written = λ was now before after w. w;
+    left = left;
+    lacking = lacking;
+  }
 
-  pub script_told : (x : Halt) (r : Status) → IsRunHalt left size told read reading had has x → IsToldHalt old now before after x r → r ≡ status.ScriptFault → Rose read reading
-  script_told (halt.Cut text) r h t q = absurd (let e : status.ImageFault ≡ status.ScriptFault = sym t.0 ∙ q in cc e)
-  script_told halt.NoLines r h t q = absurd (let e : status.NoMemory ≡ status.ScriptFault = sym t.0 ∙ q in cc e)
-  script_told (halt.Unmended text f) r h t q = absurd (let e : status.NotMendable f ≡ status.ScriptFault = sym t.0 ∙ q in cc e)
-  script_told (halt.By s) r h t q = by t.0 where
-    by : (r ≡ s) ⊎ (r ≡ status.NoMemory) → Rose read reading
-    by (inl e) = subst (IsRunEnd left size told read reading had has) (sym e ∙ q) h
-    by (inr e) = absurd (let k : status.NoMemory ≡ status.ScriptFault = sym e ∙ q in cc k)
+  image_fault : Rose had has → IsDue wanted bytes size old status.ImageFault → IsFaultTextOf wanted bytes old new status.ImageFault (status_text status.ImageFault) → IsImageAfter wanted bytes old new status.ImageFault
+      → IsImageAfter wanted bytes old new status.NoMemory → IsQuiet wanted bytes size old new read reading had has status.ImageFault
+  image_fault rose due text left lacking = record {
+    due = due;
+    script_fault = λ e. absurd (let f : status.ImageFault ≡ status.ScriptFault = e in cc);
+    image_fault = λ e. rose;
+    out_fault = λ e. let f : status.ImageFault ≡ status.OutFault = e in cc;
+    written = λ was now before after w. (status_text status.ImageFault, text, w);
+    left = left;
+    lacking = lacking;
+  }
 
-  pub image_told : (x : Halt) (r : Status) → IsRunHalt left size told read reading had has x → IsToldHalt old now before after x r → r ≡ status.ImageFault → Rose had has
-  image_told (halt.Cut text) r h t q = h.1
-  image_told halt.NoLines r h t q = h.1
-  image_told (halt.Unmended text f) r h t q = absurd (let e : status.NotMendable f ≡ status.ImageFault = sym t.0 ∙ q in cc e)
-  image_told (halt.By s) r h t q = by t.0 where
-    by : (r ≡ s) ⊎ (r ≡ status.NoMemory) → Rose had has
-    by (inl e) = let k : IsRunEnd left size told read reading had has status.ImageFault = subst (IsRunEnd left size told read reading had has) (sym e ∙ q) h in k.1
-    by (inr e) = absurd (let k : status.NoMemory ≡ status.ImageFault = sym e ∙ q in cc k)
+  no_memory : IsImageAfter wanted bytes old new status.NoMemory → IsQuiet wanted bytes size old new read reading had has status.NoMemory
+  no_memory left = record {
+    due = lacking_due wanted bytes size old;
+    script_fault = λ e. absurd (let f : status.NoMemory ≡ status.ScriptFault = e in cc);
+    image_fault = λ e. absurd (let f : status.NoMemory ≡ status.ImageFault = e in cc);
+    out_fault = λ e. let f : status.NoMemory ≡ status.OutFault = e in cc;
+    written = λ was now before after w. w;
+    left = left;
+    lacking = left;
+  }
 
-  pub out_told : (x : Halt) (r : Status) → IsRunHalt left size told read reading had has x → IsToldHalt old now before after x r → r ≡ status.OutFault → Rose before after
-  out_told (halt.Cut text) r h t q = absurd (let e : status.ImageFault ≡ status.OutFault = sym t.0 ∙ q in cc e)
-  out_told halt.NoLines r h t q = absurd (let e : status.NoMemory ≡ status.OutFault = sym t.0 ∙ q in cc e)
-  out_told (halt.Unmended text f) r h t q = absurd (let e : status.NotMendable f ≡ status.OutFault = sym t.0 ∙ q in cc e)
-  out_told (halt.By s) r h t q = by t.0 where
-    by : (r ≡ s) ⊎ (r ≡ status.NoMemory) → Rose before after
-    by (inl e) = absurd (let k : IsRunEnd left size told read reading had has status.OutFault = subst (IsRunEnd left size told read reading had has) (sym e ∙ q) h in k)
-    by (inr e) = absurd (let k : status.NoMemory ≡ status.OutFault = sym e ∙ q in cc k)
+-- ---- which statuses are quiet
 
-  -- ---- the text and the image
+bad_words : (bytes : List ℕ) (size : ℕ) (bs : List Block) (read reading had has : ℕ) → IsQuiet None bytes size bs bs read reading had has status.BadWords
+bad_words bytes size bs read reading had has = verdict None bytes size bs bs read reading had has status.BadWords refl tt (λ was now before after w. w) refl refl
 
-  module _ (IsGiven : Script → Type 0) (R : List ℕ → Type 0) where
-    written_by : (s : Status) → IsRunEnd left size told read reading had has s → IsQuietHalt IsGiven told new s → IsWritten old now before after (status_text s)
-        → Writes R (IsMendedFaultText IsGiven told new) told old now before after s
-    written_by status.ScriptFault h i w = w
-    written_by status.ScriptTooLong h i w = w
-    written_by (status.BadScript n) h i w = w
-    written_by status.TooMany h i w = w
-    written_by status.ImageFault h i w = (status_text status.ImageFault, inl (i, refl), w)
-    written_by (status.BadSize n) h i w = w
-    written_by (status.NotAccepted f) h i w = w
-    written_by status.NoMemory h i w = w
-    written_by s h i w = absurd h
+quiet_run : (bytes : List ℕ) (size : ℕ) (old new : List Block) (read reading had has : ℕ) (s : Status) → IsRunEnd bytes size old new read reading had has s → IsQuiet (Some Run) bytes size old new read reading had has s
+quiet_run bytes size old new read reading had has status.ScriptFault h = script_fault (Some Run) bytes size old new read reading had has h.0 tt h.1 (inl h.1)
+quiet_run bytes size old new read reading had has status.ScriptTooLong h = verdict (Some Run) bytes size old new read reading had has status.ScriptTooLong refl h.0 (λ was now before after w. w) h.1 (inl h.1)
+quiet_run bytes size old new read reading had has (status.BadScript n) h = verdict (Some Run) bytes size old new read reading had has (status.BadScript n) refl h.0 (λ was now before after w. w) h.1 (inl h.1)
+quiet_run bytes size old new read reading had has status.TooMany h = verdict (Some Run) bytes size old new read reading had has status.TooMany refl h.0 (λ was now before after w. w) h.1 (inl h.1)
+quiet_run bytes size old new read reading had has status.ImageFault h = image_fault (Some Run) bytes size old new read reading had has h.1 h.0 (inl (h.2, refl)) (inl h.2) (inl h.2)
+quiet_run bytes size old new read reading had has (status.BadSize n) h = verdict (Some Run) bytes size old new read reading had has (status.BadSize n) refl h.0 (λ was now before after w. w) h.1 (inl h.1)
+quiet_run bytes size old new read reading had has (status.NotAccepted f) h = verdict (Some Run) bytes size old new read reading had has (status.NotAccepted f) refl h.0 (λ was now before after w. w) h.1 (inl h.1)
+quiet_run bytes size old new read reading had has status.NoMemory (inl e) = no_memory (Some Run) bytes size old new read reading had has (inl e)
+quiet_run bytes size old new read reading had has status.NoMemory (inr d) = no_memory (Some Run) bytes size old new read reading had has (inr (inl d))
+quiet_run bytes size old new read reading had has s h = absurd h
 
-    pub written_told : (x : Halt) (r : Status) → IsRunHalt left size told read reading had has x → IsHaltImage IsGiven told new x → IsToldHalt old now before after x r
-        → Writes R (IsMendedFaultText IsGiven told new) told old now before after r
-    written_told (halt.Cut text) r h i t = subst (Writes R (IsMendedFaultText IsGiven told new) told old now before after) (sym t.0) (text.items, inr i, t.1)
-    written_told halt.NoLines r h i t = subst (Writes R (IsMendedFaultText IsGiven told new) told old now before after) (sym t.0) t.1
-    written_told (halt.Unmended text f) r h i t = subst (Writes R (IsMendedFaultText IsGiven told new) told old now before after) (sym t.0) (text.items, i, t.1)
-    written_told (halt.By s) r h i t = by t.0 where
-      by : (r ≡ s) ⊎ (r ≡ status.NoMemory) → Writes R (IsMendedFaultText IsGiven told new) told old now before after r
-      by (inl e) =
-          subst (Writes R (IsMendedFaultText IsGiven told new) told old now before after) (sym e)
-          (written_by s h i (subst (λ (q : Status). IsWritten old now before after (status_text q)) e t.1))
-      by (inr e) = subst (Writes R (IsMendedFaultText IsGiven told new) told old now before after) (sym e) (subst (λ (q : Status). IsWritten old now before after (status_text q)) e t.1)
+quiet_run_rebuild : (bytes : List ℕ) (size : ℕ) (old new : List Block) (read reading had has : ℕ) (s : Status) → IsRunEnd bytes size old new read reading had has s → IsQuiet (Some RunRebuild) bytes size old new read reading had has s
+quiet_run_rebuild bytes size old new read reading had has status.ScriptFault h = script_fault (Some RunRebuild) bytes size old new read reading had has h.0 tt h.1 (inl h.1)
+quiet_run_rebuild bytes size old new read reading had has status.ScriptTooLong h = verdict (Some RunRebuild) bytes size old new read reading had has status.ScriptTooLong refl h.0 (λ was now before after w. w) h.1 (inl h.1)
+quiet_run_rebuild bytes size old new read reading had has (status.BadScript n) h = verdict (Some RunRebuild) bytes size old new read reading had has (status.BadScript n) refl h.0 (λ was now before after w. w) h.1 (inl h.1)
+quiet_run_rebuild bytes size old new read reading had has status.TooMany h = verdict (Some RunRebuild) bytes size old new read reading had has status.TooMany refl h.0 (λ was now before after w. w) h.1 (inl h.1)
+quiet_run_rebuild bytes size old new read reading had has status.ImageFault h = image_fault (Some RunRebuild) bytes size old new read reading had has h.1 h.0 (inl (h.2, refl)) (inl h.2) (inl h.2)
+quiet_run_rebuild bytes size old new read reading had has (status.BadSize n) h = verdict (Some RunRebuild) bytes size old new read reading had has (status.BadSize n) refl h.0 (λ was now before after w. w) h.1 (inl h.1)
+quiet_run_rebuild bytes size old new read reading had has (status.NotAccepted f) h = verdict (Some RunRebuild) bytes size old new read reading had has (status.NotAccepted f) refl h.0 (λ was now before after w. w) h.1 (inl h.1)
+quiet_run_rebuild bytes size old new read reading had has status.NoMemory (inl e) = no_memory (Some RunRebuild) bytes size old new read reading had has (inl e)
+quiet_run_rebuild bytes size old new read reading had has status.NoMemory (inr d) = no_memory (Some RunRebuild) bytes size old new read reading had has (inr (inl d))
+quiet_run_rebuild bytes size old new read reading had has s h = absurd h
 
-    after_by : (s : Status) → IsRunEnd left size told read reading had has s → IsQuietHalt IsGiven told new s → IsRunRebuildImage IsGiven told new s
-    after_by status.ScriptFault h i = i
-    after_by status.ScriptTooLong h i = i
-    after_by (status.BadScript n) h i = i
-    after_by status.TooMany h i = i
-    after_by status.ImageFault h i = inl i
-    after_by (status.BadSize n) h i = i
-    after_by (status.NotAccepted f) h i = i
-    after_by status.NoMemory h (inl e) = inl e
-    after_by status.NoMemory h (inr i) = inr (lacking_left IsGiven told new i)
-    after_by s h i = absurd h
+quiet_soak : (n : ℕ) (bytes : List ℕ) (size : ℕ) (old new : List Block) (read reading had has : ℕ) (s : Status) → IsSoakEnd n size old new had has s → IsQuiet (Some (Soak n)) bytes size old new read reading had has s
+quiet_soak n bytes size old new read reading had has status.ImageFault h = image_fault (Some (Soak n)) bytes size old new read reading had has h.0 tt (inl (h.1, refl)) (inl h.1) (inl h.1)
+quiet_soak n bytes size old new read reading had has (status.BadSize k) h = verdict (Some (Soak n)) bytes size old new read reading had has (status.BadSize k) refl h.0 (λ was now before after w. w) h.1 (inl h.1)
+quiet_soak n bytes size old new read reading had has (status.NotAccepted f) h = verdict (Some (Soak n)) bytes size old new read reading had has (status.NotAccepted f) refl h.0 (λ was now before after w. w) h.1 (inl h.1)
+quiet_soak n bytes size old new read reading had has status.NoMemory (inl e) = no_memory (Some (Soak n)) bytes size old new read reading had has (inl e)
+quiet_soak n bytes size old new read reading had has status.NoMemory (inr d) = no_memory (Some (Soak n)) bytes size old new read reading had has (inr (inl d))
+quiet_soak n bytes size old new read reading had has s h = absurd h
 
-    lacking_by : (s : Status) → IsRunEnd left size told read reading had has s → IsQuietHalt IsGiven told new s → IsRunRebuildImage IsGiven told new status.NoMemory
-    lacking_by status.ScriptFault h i = inl i
-    lacking_by status.ScriptTooLong h i = inl i
-    lacking_by (status.BadScript n) h i = inl i
-    lacking_by status.TooMany h i = inl i
-    lacking_by status.ImageFault h i = inl i
-    lacking_by (status.BadSize n) h i = inl i
-    lacking_by (status.NotAccepted f) h i = inl i
-    lacking_by status.NoMemory h (inl e) = inl e
-    lacking_by status.NoMemory h (inr i) = inr (lacking_left IsGiven told new i)
-    lacking_by s h i = absurd h
+quiet_analysis : (bytes : List ℕ) (size : ℕ) (bs : List Block) (read reading had has : ℕ) (s : Status) → IsLoadEnd size had has s → IsQuiet (Some Analyze) bytes size bs bs read reading had has s
+quiet_analysis bytes size bs read reading had has status.ImageFault h = image_fault (Some Analyze) bytes size bs bs read reading had has h tt refl refl refl
+quiet_analysis bytes size bs read reading had has (status.BadSize n) h = verdict (Some Analyze) bytes size bs bs read reading had has (status.BadSize n) refl h (λ was now before after w. w) refl refl
+quiet_analysis bytes size bs read reading had has status.NoMemory h = no_memory (Some Analyze) bytes size bs bs read reading had has refl
+quiet_analysis bytes size bs read reading had has s h = absurd h
 
-    pub after_told : (x : Halt) (r : Status) → IsRunHalt left size told read reading had has x → IsHaltImage IsGiven told new x → IsToldHalt old now before after x r → IsRunRebuildImage IsGiven told new r
-    after_told (halt.Cut text) r h i t = subst (IsRunRebuildImage IsGiven told new) (sym t.0) (inr (cut_left IsGiven told new text.items i))
-    after_told halt.NoLines r h i t = subst (IsRunRebuildImage IsGiven told new) (sym t.0) (inr (unlined_left IsGiven told new i))
-    after_told (halt.Unmended text f) r h i t = subst (IsRunRebuildImage IsGiven told new) (sym t.0) (unmended_left IsGiven told new f text.items i)
-    after_told (halt.By s) r h i t = by t.0 where
-      by : (r ≡ s) ⊎ (r ≡ status.NoMemory) → IsRunRebuildImage IsGiven told new r
-      by (inl e) = subst (IsRunRebuildImage IsGiven told new) (sym e) (after_by s h i)
-      by (inr e) = subst (IsRunRebuildImage IsGiven told new) (sym e) (lacking_by s h i)
+unmended_stays : (old new : List Block) → new ≡ old → IsStillToMend old new
+unmended_stays old new e = subst (IsStillToMend old) (sym e) (record { mends = λ z h. h; kept = λ f h. refl })
+
+quiet_rebuild : (bytes : List ℕ) (size : ℕ) (old new : List Block) (read reading had has : ℕ) (s : Status) → IsRebuildEnd size old new had has s → IsQuiet (Some Rebuild) bytes size old new read reading had has s
+quiet_rebuild bytes size old new read reading had has status.ImageFault h = image_fault (Some Rebuild) bytes size old new read reading had has h.0 tt refl h.1 h.1
+quiet_rebuild bytes size old new read reading had has (status.BadSize n) h = verdict (Some Rebuild) bytes size old new read reading had has (status.BadSize n) refl h.0 (λ was now before after w. w) h.1 (unmended_stays old new h.1)
+quiet_rebuild bytes size old new read reading had has (status.NotMendable f) h =
+    verdict (Some Rebuild) bytes size old new read reading had has (status.NotMendable f) refl h.0 (λ was now before after w. (status_text (status.NotMendable f), refl, w)) h.1 (unmended_stays old new h.1)
+quiet_rebuild bytes size old new read reading had has status.NoMemory h = no_memory (Some Rebuild) bytes size old new read reading had has h
+quiet_rebuild bytes size old new read reading had has s h = absurd h
+
+quiet_init : (cluster files : ℕ) (label bytes : List ℕ) (size : ℕ) (old new : List Block) (read reading had has : ℕ) (s : Status) → IsInitEnd cluster files label size had has s → IsFormatted (home_of cluster files label) old new s
+    → IsQuiet (Some (Init cluster files label)) bytes size old new read reading had has s
+quiet_init cluster files label bytes size old new read reading had has status.ImageFault h i = image_fault (Some (Init cluster files label)) bytes size old new read reading had has h tt refl i i
+quiet_init cluster files label bytes size old new read reading had has (status.BadSize n) h i =
+    verdict (Some (Init cluster files label)) bytes size old new read reading had has (status.BadSize n) refl h (λ was now before after w. w) i (inl i)
+quiet_init cluster files label bytes size old new read reading had has (status.BadInit f) h i =
+    verdict (Some (Init cluster files label)) bytes size old new read reading had has (status.BadInit f) refl h (λ was now before after w. w) i (inl i)
+quiet_init cluster files label bytes size old new read reading had has status.NoMemory h i = no_memory (Some (Init cluster files label)) bytes size old new read reading had has i
+quiet_init cluster files label bytes size old new read reading had has s h i = absurd h
+
+-- ---- what is answered
+
+module _ (wanted : Option Wanted) (bytes : List ℕ) (size : ℕ) (old new : List Block) (was now : Option (List ℕ)) (read reading had has before after : ℕ) where
+  quiet_is : (s : Status) → IsQuiet wanted bytes size old new read reading had has s → IsWritten was now before after (status_text s) → IsAnswer wanted bytes size old new was now read reading had has before after s
+  quiet_is s q w = record { due = q.due; script_fault = q.script_fault; image_fault = q.image_fault; out_fault = λ e. absurd (q.out_fault e); written = q.written was now before after w; left = q.left }
+
+  lacking_is : IsImageAfter wanted bytes old new status.NoMemory → IsWritten was now before after (status_text status.NoMemory) → IsAnswer wanted bytes size old new was now read reading had has before after status.NoMemory
+  lacking_is left w = quiet_is status.NoMemory (no_memory wanted bytes size old new read reading had has left) w
+
+  -- a quiet status, or want of memory for its text
+  pub told : (s r : Status) → IsQuiet wanted bytes size old new read reading had has s → (r ≡ s) ⊎ (r ≡ status.NoMemory) → IsWritten was now before after (status_text r)
+      → IsAnswer wanted bytes size old new was now read reading had has before after r
+  told s r q (inl e) w = subst (IsAnswer wanted bytes size old new was now read reading had has before after) (sym e) (quiet_is s q (subst (λ (x : Status). IsWritten was now before after (status_text x)) e w))
+  told s r q (inr e) w =
+      subst (IsAnswer wanted bytes size old new was now read reading had has before after) (sym e) (lacking_is q.lacking (subst (λ (x : Status). IsWritten was now before after (status_text x)) e w))
+
+  -- a write that failed
+  cut_is : (text : List ℕ) → IsDue wanted bytes size old status.ImageFault → Rose had has → IsFaultTextOf wanted bytes old new status.ImageFault text → IsImageAfter wanted bytes old new status.ImageFault
+      → IsWritten was now before after text → IsAnswer wanted bytes size old new was now read reading had has before after status.ImageFault
+  cut_is text due rose fault left w = record {
+    due = due;
+    script_fault = λ e. absurd (let f : status.ImageFault ≡ status.ScriptFault = e in cc);
+    image_fault = λ e. rose;
+    out_fault = λ e. absurd (let f : status.ImageFault ≡ status.OutFault = e in cc);
+    written = (text, fault, w);
+    left = left;
+  }
+
+  unmended_is : (f : Finding) (text : List ℕ) → IsDue wanted bytes size old (status.NotMendable f) → IsFaultTextOf wanted bytes old new (status.NotMendable f) text → IsImageAfter wanted bytes old new (status.NotMendable f)
+      → IsWritten was now before after text → IsAnswer wanted bytes size old new was now read reading had has before after (status.NotMendable f)
+  unmended_is f text due fault left w = record {
+    due = due;
+    script_fault = λ e. absurd (let k : status.NotMendable f ≡ status.ScriptFault = e in cc);
+    image_fault = λ e. absurd (let k : status.NotMendable f ≡ status.ImageFault = e in cc);
+    out_fault = λ e. absurd (let k : status.NotMendable f ≡ status.OutFault = e in cc);
+    written = (text, fault, w);
+    left = left;
+  }
+
+  -- the text of status 0 is told
+  pub ok_is : (text : List ℕ) (s : Status) → IsDue wanted bytes size old status.Ok → IsDue wanted bytes size old status.OutFault → IsTextOf wanted bytes size old new text
+      → IsImageAfter wanted bytes old new status.Ok → IsImageAfter wanted bytes old new status.OutFault
+      → (s ≡ status.Ok) ⊎ (s ≡ status.OutFault) → (s ≡ status.Ok → Appends was now text) → (s ≡ status.OutFault → AppendsStart was now text) → (s ≡ status.OutFault → Rose before after)
+      → IsAnswer wanted bytes size old new was now read reading had has before after s
+  ok_is text s due out is left left_out (inl e) all cut fault = subst (IsAnswer wanted bytes size old new was now read reading had has before after) (sym e) (record {
+    due = due;
+    script_fault = λ q. absurd (let k : status.Ok ≡ status.ScriptFault = q in cc);
+    image_fault = λ q. absurd (let k : status.Ok ≡ status.ImageFault = q in cc);
+    out_fault = λ q. absurd (let k : status.Ok ≡ status.OutFault = q in cc);
+    written = (text, is, all e);
+    left = left;
+  })
+  ok_is text s due out is left left_out (inr e) all cut fault = subst (IsAnswer wanted bytes size old new was now read reading had has before after) (sym e) (record {
+    due = out;
+    script_fault = λ q. absurd (let k : status.OutFault ≡ status.ScriptFault = q in cc);
+    image_fault = λ q. absurd (let k : status.OutFault ≡ status.ImageFault = q in cc);
+    out_fault = λ q. fault e;
+    written = (text, is, cut e);
+    left = left_out;
+  })
+
+  module _ (r : Status) where
+    -- how a halt is told
+    at_cut : (text : List ℕ) → IsDue wanted bytes size old status.ImageFault → Rose had has → IsFaultTextOf wanted bytes old new status.ImageFault text → IsImageAfter wanted bytes old new status.ImageFault
+        → (r ≡ status.ImageFault) × IsWritten was now before after text → IsAnswer wanted bytes size old new was now read reading had has before after r
+    at_cut text due rose fault left t = subst (IsAnswer wanted bytes size old new was now read reading had has before after) (sym t.0) (cut_is text due rose fault left t.1)
+
+    at_lines : IsImageAfter wanted bytes old new status.NoMemory → (r ≡ status.NoMemory) × IsWritten was now before after (status_text status.NoMemory) → IsAnswer wanted bytes size old new was now read reading had has before after r
+    at_lines left t = subst (IsAnswer wanted bytes size old new was now read reading had has before after) (sym t.0) (lacking_is left t.1)
+
+    at_unmended : (f : Finding) (text : List ℕ) → IsDue wanted bytes size old (status.NotMendable f) → IsFaultTextOf wanted bytes old new (status.NotMendable f) text
+        → IsImageAfter wanted bytes old new (status.NotMendable f) → (r ≡ status.NotMendable f) × IsWritten was now before after text → IsAnswer wanted bytes size old new was now read reading had has before after r
+    at_unmended f text due fault left t = subst (IsAnswer wanted bytes size old new was now read reading had has before after) (sym t.0) (unmended_is f text due fault left t.1)
+
+-- ---- what is found
+
+not_script : (fs : List Finding) (s : Status) → IsFoundEnd fs s → s ≡ status.ScriptFault → ⊥
+not_script fs s end e = never fs (subst (IsFoundEnd fs) e end) where
+  never : (gs : List Finding) → IsFoundEnd gs status.ScriptFault → ⊥
+  never [] h = h
+  never (f ∷ gs) h = h
+
+not_image : (fs : List Finding) (s : Status) → IsFoundEnd fs s → s ≡ status.ImageFault → ⊥
+not_image fs s end e = never fs (subst (IsFoundEnd fs) e end) where
+  never : (gs : List Finding) → IsFoundEnd gs status.ImageFault → ⊥
+  never [] h = h
+  never (f ∷ gs) h = h
+
+module _ (size : ℕ) (was now : Option (List ℕ)) (read reading had has before after : ℕ) (r : Status) (fs : List Finding) (inside : IsInside size) (end : IsFoundEnd fs r) (fault : r ≡ status.OutFault → Rose before after) where
+  found_is : (bytes : List ℕ) (bs : List Block) → AreFindings bs fs → Writes (λ text. text ≡ accepted_text) IsPlainText bs was now before after r → IsAnswer (Some Analyze) bytes size bs bs was now read reading had has before after r
+  found_is bytes bs found w = record {
+    due = found_due size bs fs r inside found end;
+    script_fault = λ e. absurd (not_script fs r end e);
+    image_fault = λ e. absurd (not_image fs r end e);
+    out_fault = fault;
+    written = w;
+    left = refl;
+  }
+
+  pub found_told : ((bs : List Block) → AreFindings bs fs → Writes (λ text. text ≡ accepted_text) IsPlainText bs was now before after r) → (bytes : List ℕ) (old new : List Block)
+      → (new ≡ old) × AreFindings old fs → IsAnswer (Some Analyze) bytes size old new was now read reading had has before after r
+  found_told w bytes old new h =
+      subst (λ (bs : List Block). IsAnswer (Some Analyze) bytes size old bs was now read reading had has before after r) (sym h.0) (found_is bytes old (rest h) (w old (rest h)))
+
+-- ---- of each job
+
+module _ (size : ℕ) (was now : Option (List ℕ)) (read reading had has before after : ℕ) (r : Status) where
+  pub run_told : (x : Stop) → IsToldHalt was now before after (halt_of x) r → (bytes : List ℕ) (old new : List Block) → IsRunStop bytes size old new read reading had has x
+      → IsAnswer (Some Run) bytes size old new was now read reading had has before after r
+  run_told (stop.Cut text) t bytes old new h = at_cut (Some Run) bytes size old new was now read reading had has before after r text.items h.0 h.1 (inr h.2) (inr h.2.cut) t
+  run_told stop.NoLines t bytes old new h = at_lines (Some Run) bytes size old new was now read reading had has before after r (inr (inr h.2)) t
+  run_told (stop.By s) t bytes old new h = told (Some Run) bytes size old new was now read reading had has before after s r (quiet_run bytes size old new read reading had has s h) t.0 t.1
+
+  pub soak_told : (n : ℕ) (x : Stop) → IsToldHalt was now before after (halt_of x) r → (bytes : List ℕ) (old new : List Block) → IsSoakStop n size old new had has x
+      → IsAnswer (Some (Soak n)) bytes size old new was now read reading had has before after r
+  soak_told n (stop.Cut text) t bytes old new h = at_cut (Some (Soak n)) bytes size old new was now read reading had has before after r text.items tt h.0 (inr h.1) (inr h.1.cut) t
+  soak_told n stop.NoLines t bytes old new h = at_lines (Some (Soak n)) bytes size old new was now read reading had has before after r (inr (inr h.1)) t
+  soak_told n (stop.By s) t bytes old new h = told (Some (Soak n)) bytes size old new was now read reading had has before after s r (quiet_soak n bytes size old new read reading had has s h) t.0 t.1
+
+  pub halt_told : (x : Halt) → IsToldHalt was now before after x r → (bytes : List ℕ) (old new : List Block) → IsRunHalt bytes size old new read reading had has x
+      → IsAnswer (Some RunRebuild) bytes size old new was now read reading had has before after r
+  halt_told (halt.Cut text) t bytes old new h = by h.2 where
+    by : IsCutShort (IsScriptOf bytes) old new text.items ⊎ IsMendingCutShort (IsScriptOf bytes) old new text.items → IsAnswer (Some RunRebuild) bytes size old new was now read reading had has before after r
+    by (inl k) = at_cut (Some RunRebuild) bytes size old new was now read reading had has before after r text.items h.0 h.1 (inr (inl k)) (inr (inl k.cut)) t
+    by (inr k) = at_cut (Some RunRebuild) bytes size old new was now read reading had has before after r text.items h.0 h.1 (inr (inr k)) (inr (inr k.part)) t
+  halt_told halt.NoLines t bytes old new h = at_lines (Some RunRebuild) bytes size old new was now read reading had has before after r (inr (inr h.2)) t
+  halt_told (halt.Unmended text f) t bytes old new h =
+      at_unmended (Some RunRebuild) bytes size old new was now read reading had has before after r f text.items (h.0, h.1, (new, h.2.unmended)) h.2 h.2.unmended t
+  halt_told (halt.By s) t bytes old new (inl h) = told (Some RunRebuild) bytes size old new was now read reading had has before after s r (quiet_run_rebuild bytes size old new read reading had has s h) t.0 t.1
+  halt_told (halt.By s) t bytes old new (inr h) =
+      told (Some RunRebuild) bytes size old new was now read reading had has before after s r
+      (subst (IsQuiet (Some RunRebuild) bytes size old new read reading had has) (sym h.0) (no_memory (Some RunRebuild) bytes size old new read reading had has (inr (inr (inr h.1))))) t.0 t.1
+
+  module _ (s : Status) (either : (r ≡ s) ⊎ (r ≡ status.NoMemory)) (w : IsWritten was now before after (status_text r)) where
+    pub load_told : (bytes : List ℕ) (bs : List Block) → IsLoadEnd size had has s → IsAnswer (Some Analyze) bytes size bs bs was now read reading had has before after r
+    load_told bytes bs h = told (Some Analyze) bytes size bs bs was now read reading had has before after s r (quiet_analysis bytes size bs read reading had has s h) either w
+
+    pub rebuild_told : (bytes : List ℕ) (old new : List Block) → IsRebuildEnd size old new had has s → IsAnswer (Some Rebuild) bytes size old new was now read reading had has before after r
+    rebuild_told bytes old new h = told (Some Rebuild) bytes size old new was now read reading had has before after s r (quiet_rebuild bytes size old new read reading had has s h) either w
+
+    pub init_told : (cluster files : ℕ) (label bytes : List ℕ) (old new : List Block) → IsInitEnd cluster files label size had has s → IsFormatted (home_of cluster files label) old new s
+        → IsAnswer (Some (Init cluster files label)) bytes size old new was now read reading had has before after r
+    init_told cluster files label bytes old new h i =
+        told (Some (Init cluster files label)) bytes size old new was now read reading had has before after s r (quiet_init cluster files label bytes size old new read reading had has s h i) either w
+
+  pub words_told : (r ≡ status.BadWords) ⊎ (r ≡ status.NoMemory) → IsWritten was now before after (status_text r) → (bytes : List ℕ) (bs : List Block) → IsAnswer None bytes size bs bs was now read reading had has before after r
+  words_told either w bytes bs = told None bytes size bs bs was now read reading had has before after status.BadWords r (bad_words bytes size bs read reading had has) either w
+
+  -- the text of status 0
+  module _ (text : List ℕ) (either : (r ≡ status.Ok) ⊎ (r ≡ status.OutFault)) (all : r ≡ status.Ok → Appends was now text) (cut : r ≡ status.OutFault → AppendsStart was now text) (fault : r ≡ status.OutFault → Rose before after) where
+    pub run_ok : (bytes : List ℕ) (old new : List Block) → IsReported bytes size old new text → IsAnswer (Some Run) bytes size old new was now read reading had has before after r
+    run_ok bytes old new h = ok_is (Some Run) bytes size old new was now read reading had has before after text r (h.good, h.accepted) (h.good, h.accepted) h.report h.drive h.drive either all cut fault
+
+    pub soak_ok : (n : ℕ) (bytes : List ℕ) (old new : List Block) → IsSummarized n size old new text → IsAnswer (Some (Soak n)) bytes size old new was now read reading had has before after r
+    soak_ok n bytes old new h = ok_is (Some (Soak n)) bytes size old new was now read reading had has before after text r h.accepted h.accepted h.summary h.drive h.drive either all cut fault
+
+    pub halt_ok : (bytes : List ℕ) (old new : List Block) → IsMendedWith bytes size old new text → IsAnswer (Some RunRebuild) bytes size old new was now read reading had has before after r
+    halt_ok bytes old new h =
+        ok_is (Some RunRebuild) bytes size old new was now read reading had has before after text r (h.good, h.accepted) (h.good, h.accepted) h.report h.report.both h.report.both either all cut fault
+
+    pub init_ok : (cluster files : ℕ) (label bytes : List ℕ) (old new : List Block) → IsFormattedWith cluster files label size old new text
+        → IsAnswer (Some (Init cluster files label)) bytes size old new was now read reading had has before after r
+    init_ok cluster files label bytes old new h =
+        ok_is (Some (Init cluster files label)) bytes size old new was now read reading had has before after text r h.possible h.possible h.told h.made h.made either all cut fault
+
+    pub rebuild_ok : (bytes : List ℕ) (old new : List Block) → IsRebuiltWith size old new text → IsAnswer (Some Rebuild) bytes size old new was now read reading had has before after r
+    rebuild_ok bytes old new h = ok_is (Some Rebuild) bytes size old new was now read reading had has before after text r h.mendable h.mendable h.told h.told.mended h.told.mended either all cut fault
+
+-- ---- want of memory before the call
+
+pub lacking_call : (wanted : Option Wanted) (bytes : List ℕ) (size : ℕ) (bs : List Block) (was now : Option (List ℕ)) (read reading had has before after : ℕ) → IsWritten was now before after (status_text status.NoMemory)
+    → IsCall wanted bytes size bs bs was now read reading had has before after status.NoMemory
+lacking_call wanted bytes size bs was now read reading had has before after w = record {
+  answer = lacking_is wanted bytes size bs bs was now read reading had has before after (lacking_image wanted bytes bs) w;
+  alone = λ v. absurd (false≢true (sym (no_verdict wanted) ∙ v));
+  answered = λ good inside none v. absurd (false≢true (sym (no_verdict wanted) ∙ v));
+}

@@ -1,5 +1,5 @@
 -- How the steps of a job end.
-use Rattle.std.specs.Prelude.{◌≡◌, ◌⊎◌, ℕ, false, List, [], ◌∷◌, Option, Some, IfSome}
+use Rattle.std.specs.Prelude.{◌≡◌, ◌⊎◌, ℕ, false, List, [], ◌∷◌, Some}
 use Rattle.std.specs.List.{list_any}
 use Rattle.base_words.specs.Fields.{Block}
 use Rattle.base_words.specs.Faults.{Rose}
@@ -9,30 +9,32 @@ use Rattle.plain_cat.specs.declared.script.Script.{Script}
 use Rattle.plain_rules.specs.Own.{Whole, Killed, is_mending}
 use Rattle.plain_rules.specs.Replaying.{Replays}
 use Rattle.core_state.specs.Worlds.{Plain}
-use Rattle.blk_drive.specs.Telling.{told_as}
 use Rattle.run_engine.specs.Walks.{played, budget_of, IsRotatedIn, IsNextIn, IsBeforeWrite}
 use Rattle.core_state.specs.Ends.{AllOver}
 use Rattle.run_engine.specs.Ended.{IsSpelt}
 use Rattle.vol_parts.specs.declared.finding.Finding.{Finding}
 use Rattle.vol_parts.specs.declared.geometry.Geometry.{Geometry}
-use Rattle.vol_parts.specs.Findings.{AreFindings, Accepts, CatOf, IsFirstFatal}
+use Rattle.vol_parts.specs.Findings.{Accepts, CatOf, IsFirstFatal}
 use Rattle.vol_analyze.specs.Judging.{IsFirstFound}
 use Rattle.run_engine.specs.declared.stop.Stop.{Stop}
 use Rattle.run_engine.specs.declared.stop.Stop.TheVariants as stop
 use Rattle.run_engine.specs.Stops.{report_text}
-use Rattle.run_engine.specs.Texts.{IsTooLong, IsBad, IsOverfull, IsGood, status_text, cut_text}
+use Rattle.run_engine.specs.Scripts.{IsScriptOf}
+use Rattle.run_engine.specs.Texts.{IsTooLong, IsBad, IsOverfull, IsGood, IsAccepted, cut_text}
 use Rattle.clus_top.specs.declared.run_job.Printed.{Printed}
 use Rattle.clus_top.specs.declared.run_job.Printed.TheVariants as printed
 use Rattle.run_engine.specs.declared.status.Status.{Status}
 use Rattle.run_engine.specs.declared.status.Status.TheVariants as status
-use Rattle.clus_top.specs.Runs.{summary_text, HasRun, LacksMemory}
+use Rattle.clus_top.specs.Runs.{IsSoakOf, IsReport, IsSummary, summary_text, HasRun, LacksMemory}
 use Rattle.vol_init.specs.declared.fault.InitFault.{InitFault}
 use Rattle.vol_init.specs.declared.fault.InitFault.TheVariants as fault
-use Rattle.vol_init.specs.Refusals.{refusal}
+use Rattle.vol_init.specs.Made.{IsMade}
+use Rattle.vol_init.specs.Refusals.{refusal, home_of}
 use Rattle.vol_rebuild.specs.declared.fault.RebuildFault.{RebuildFault}
 use Rattle.vol_rebuild.specs.declared.fault.RebuildFault.TheVariants as rebuild
-use Rattle.clus_top.specs.Statuses.{sized}
-use Rattle.clus_top.specs.Images.{IsLackingDriveOf, IsCutOf, IsCutShort}
+use Rattle.clus_top.specs.Mendings.{IsMendingText, IsStillToMend}
+use Rattle.clus_top.specs.Statuses.{IsMendable, IsPossible, sized, made_text}
+use Rattle.clus_top.specs.Images.{IsLastDriveOf, IsLackingDriveOf, IsCutOf, IsCutShort}
 
 -- what is printed of a world whose history leads to a catalogue
 abbrev pub printed_text : Printed → Plain → Cat → List ℕ
@@ -52,108 +54,107 @@ pub record IsWholeIn (script : Script) (bs : List Block) (g : Geometry) (w : Pla
   pub unmended : list_any is_mending w.history ≡ false
   pub left : IsSpelt g w.blocks after
 
--- the image has the drive of a world that has run a script, where it told these blocks before
-pub record IsDriveIn (script : Script) (bs : List Block) (told new : Option (List Block)) : Type 0 where
+-- the image has the drive of a world that has run a script on these blocks
+pub record IsDriveIn (script : Script) (bs new : List Block) : Type 0 where
   pub world : Plain
   pub ran : HasRun script bs world
-  pub image : new ≡ told_as told world.blocks
+  pub image : new ≡ world.blocks
 
 -- and the world has come to its end, of which this text is printed
-pub record IsEndIn (what : Printed) (script : Script) (bs : List Block) (told new : Option (List Block)) (text : List ℕ) : Type 0 where
-  pub drive : IsDriveIn script bs told new
+pub record IsEndIn (what : Printed) (script : Script) (bs new : List Block) (text : List ℕ) : Type 0 where
+  pub drive : IsDriveIn script bs new
   pub walked : IsRotatedIn (budget_of drive.ran.start) (played script.plays drive.ran.start) drive.world
   pub over : AllOver drive.world
   pub left : IsWholeIn script bs drive.ran.start.geometry drive.world
   pub written : text ≡ printed_text what drive.world left.after
 
 -- and it may lack memory there
-pub record IsLackingIn (script : Script) (bs : List Block) (told new : Option (List Block)) : Type 0 where
-  pub drive : IsDriveIn script bs told new
+pub record IsLackingIn (script : Script) (bs new : List Block) : Type 0 where
+  pub drive : IsDriveIn script bs new
   pub lacks : LacksMemory drive.ran.start script.plays drive.world
 
 -- A world has run a script as far as to a write of the node whose turn it is, and the image has the blocks from before that turn,
 -- or those that it would have left.
-pub record IsCutIn (script : Script) (bs : List Block) (told new : Option (List Block)) : Type 0 where
+pub record IsCutIn (script : Script) (bs new : List Block) : Type 0 where
   pub world : Plain
   pub ran : HasRun script bs world
-  pub before : IsBeforeWrite (IsNextIn ran.start script.plays world) bs told new world
+  pub before : IsBeforeWrite (IsNextIn ran.start script.plays world) bs (Some bs) (Some new) world
 
 -- with this text
-pub record IsCutShortIn (script : Script) (bs : List Block) (told new : Option (List Block)) (text : List ℕ) : Type 0 where
-  pub cut : IsCutIn script bs told new
+pub record IsCutShortIn (script : Script) (bs new : List Block) (text : List ℕ) : Type 0 where
+  pub cut : IsCutIn script bs new
   pub written : text ≡ cut_text cut.world.history
 
 -- Why a script came to no end on the blocks of a volume, but for a write that failed, and what the image has then.
-abbrev pub IsStopIn : Script → List Block → Option (List Block) → Option (List Block) → Status → Type 0
-IsStopIn script bs told new (status.NotAccepted f) = IsFirstFound bs f × (new ≡ told)
-IsStopIn script bs told new status.NoMemory = (new ≡ told) ⊎ IsLackingIn script bs told new
-IsStopIn script bs told new s = ⊥
+abbrev pub IsStopIn : Script → List Block → List Block → Status → Type 0
+IsStopIn script bs new (status.NotAccepted f) = IsFirstFound bs f × (new ≡ bs)
+IsStopIn script bs new status.NoMemory = (new ≡ bs) ⊎ IsLackingIn script bs new
+IsStopIn script bs new s = ⊥
 
 -- why it came to none
-abbrev pub IsStopBy : Script → List Block → Option (List Block) → Option (List Block) → ℕ → ℕ → Stop → Type 0
-IsStopBy script bs told new had has (stop.Cut text) = Rose had has × IsCutShortIn script bs told new text.items
-IsStopBy script bs told new had has stop.NoLines = Rose had has × IsCutIn script bs told new
-IsStopBy script bs told new had has (stop.By s) = IsStopIn script bs told new s
+abbrev pub IsStopBy : Script → List Block → List Block → ℕ → ℕ → Stop → Type 0
+IsStopBy script bs new had has (stop.Cut text) = Rose had has × IsCutShortIn script bs new text.items
+IsStopBy script bs new had has stop.NoLines = Rose had has × IsCutIn script bs new
+IsStopBy script bs new had has (stop.By s) = IsStopIn script bs new s
 
 -- Why a script came to no end on an image, but for a write that failed, of the load or of the blocks, and what the image has then.
-abbrev pub IsImageEnd : Script → ℕ → Option (List Block) → Option (List Block) → ℕ → ℕ → Status → Type 0
-IsImageEnd script size told new had has status.ImageFault = Rose had has × (new ≡ told)
-IsImageEnd script size told new had has (status.BadSize n) = ((n ≡ size) × IsOutside size) × (new ≡ told)
-IsImageEnd script size told new had has (status.NotAccepted f) = (IsInside size × IfSome told (λ bs. IsFirstFound bs f)) × (new ≡ told)
-IsImageEnd script size told new had has status.NoMemory = (new ≡ told) ⊎ IfSome told (λ bs. IsLackingIn script bs told new)
-IsImageEnd script size told new had has s = ⊥
+abbrev pub IsImageEnd : Script → ℕ → List Block → List Block → ℕ → ℕ → Status → Type 0
+IsImageEnd script size old new had has status.ImageFault = Rose had has × (new ≡ old)
+IsImageEnd script size old new had has (status.BadSize n) = ((n ≡ size) × IsOutside size) × (new ≡ old)
+IsImageEnd script size old new had has (status.NotAccepted f) = (IsInside size × IsFirstFound old f) × (new ≡ old)
+IsImageEnd script size old new had has status.NoMemory = (new ≡ old) ⊎ IsLackingIn script old new
+IsImageEnd script size old new had has s = ⊥
 
 -- why it came to none
-abbrev pub IsImageStop : Script → ℕ → Option (List Block) → Option (List Block) → ℕ → ℕ → Stop → Type 0
-IsImageStop script size told new had has (stop.Cut text) = Rose had has × IfSome told (λ bs. IsCutShortIn script bs told new text.items)
-IsImageStop script size told new had has stop.NoLines = Rose had has × IfSome told (λ bs. IsCutIn script bs told new)
-IsImageStop script size told new had has (stop.By s) = IsImageEnd script size told new had has s
+abbrev pub IsImageStop : Script → ℕ → List Block → List Block → ℕ → ℕ → Stop → Type 0
+IsImageStop script size old new had has (stop.Cut text) = Rose had has × IsCutShortIn script old new text.items
+IsImageStop script size old new had has stop.NoLines = Rose had has × IsCutIn script old new
+IsImageStop script size old new had has (stop.By s) = IsImageEnd script size old new had has s
 
--- why a run gave no report: of the script, of the load, or of the blocks
-abbrev pub IsRunEnd : Option (List ℕ) → ℕ → Option (List Block) → ℕ → ℕ → ℕ → ℕ → Status → Type 0
-IsRunEnd left size told read reading had has status.ScriptFault = Rose read reading
-IsRunEnd left size told read reading had has status.ScriptTooLong = IfSome left IsTooLong
-IsRunEnd left size told read reading had has (status.BadScript n) = IfSome left (IsBad n)
-IsRunEnd left size told read reading had has status.TooMany = IfSome left IsOverfull
-IsRunEnd left size told read reading had has status.ImageFault = IfSome left IsGood × Rose had has
-IsRunEnd left size told read reading had has (status.BadSize n) = IfSome left IsGood × (n ≡ size) × IsOutside size
-IsRunEnd left size told read reading had has (status.NotAccepted f) = IfSome left IsGood × IsInside size × IfSome told (λ bs. IsFirstFound bs f)
-IsRunEnd left size told read reading had has status.NoMemory = Unit {0}
-IsRunEnd left size told read reading had has s = ⊥
+-- a run of the script that these bytes spell has come to its end, and this is its report
+pub record IsReported (bytes : List ℕ) (size : ℕ) (old new : List Block) (text : List ℕ) : Type 0 where
+  pub good : IsGood bytes
+  pub accepted : IsAccepted size old
+  pub report : IsReport (IsScriptOf bytes) old new text
+  pub drive : IsLastDriveOf (IsScriptOf bytes) old new
 
--- a run that a write cut short is one of a good script, and the image has counted a fault
-abbrev pub IsRunStop : Option (List ℕ) → ℕ → Option (List Block) → ℕ → ℕ → ℕ → ℕ → Stop → Type 0
-IsRunStop left size told read reading had has (stop.Cut text) = IfSome left IsGood × Rose had has
-IsRunStop left size told read reading had has stop.NoLines = IfSome left IsGood × Rose had has
-IsRunStop left size told read reading had has (stop.By s) = IsRunEnd left size told read reading had has s
+-- and a soak, with its summary
+pub record IsSummarized (n size : ℕ) (old new : List Block) (text : List ℕ) : Type 0 where
+  pub accepted : IsAccepted size old
+  pub summary : IsSummary n old new text
+  pub drive : IsLastDriveOf (IsSoakOf n) old new
 
--- why a soak gave no summary: of the load, or of the blocks
-abbrev pub IsSoakEnd : ℕ → ℕ → Option (List Block) → ℕ → ℕ → Status → Type 0
-IsSoakEnd n size told had has status.ImageFault = Rose had has
-IsSoakEnd n size told had has (status.BadSize k) = (k ≡ size) × IsOutside size
-IsSoakEnd n size told had has (status.NotAccepted f) = IsInside size × IfSome told (λ bs. IsFirstFound bs f)
-IsSoakEnd n size told had has status.NoMemory = Unit {0}
-IsSoakEnd n size told had has s = ⊥
+-- Why a run gave no report, but for a write that failed: of the script, of the load, or of the blocks; and what the image has then.
+abbrev pub IsRunEnd : List ℕ → ℕ → List Block → List Block → ℕ → ℕ → ℕ → ℕ → Status → Type 0
+IsRunEnd bytes size old new read reading had has status.ScriptFault = Rose read reading × (new ≡ old)
+IsRunEnd bytes size old new read reading had has status.ScriptTooLong = IsTooLong bytes × (new ≡ old)
+IsRunEnd bytes size old new read reading had has (status.BadScript n) = IsBad n bytes × (new ≡ old)
+IsRunEnd bytes size old new read reading had has status.TooMany = IsOverfull bytes × (new ≡ old)
+IsRunEnd bytes size old new read reading had has status.ImageFault = IsGood bytes × Rose had has × (new ≡ old)
+IsRunEnd bytes size old new read reading had has (status.BadSize n) = (IsGood bytes × (n ≡ size) × IsOutside size) × (new ≡ old)
+IsRunEnd bytes size old new read reading had has (status.NotAccepted f) = (IsGood bytes × IsInside size × IsFirstFound old f) × (new ≡ old)
+IsRunEnd bytes size old new read reading had has status.NoMemory = (new ≡ old) ⊎ IsLackingDriveOf (IsScriptOf bytes) old new
+IsRunEnd bytes size old new read reading had has s = ⊥
 
--- and of one that a write cut short the image has counted a fault
-abbrev pub IsSoakStop : ℕ → ℕ → Option (List Block) → ℕ → ℕ → Stop → Type 0
-IsSoakStop n size told had has (stop.Cut text) = Rose had has
-IsSoakStop n size told had has stop.NoLines = Rose had has
-IsSoakStop n size told had has (stop.By s) = IsSoakEnd n size told had has s
+-- why it gave none
+abbrev pub IsRunStop : List ℕ → ℕ → List Block → List Block → ℕ → ℕ → ℕ → ℕ → Stop → Type 0
+IsRunStop bytes size old new read reading had has (stop.Cut text) = IsGood bytes × Rose had has × IsCutShort (IsScriptOf bytes) old new text.items
+IsRunStop bytes size old new read reading had has stop.NoLines = IsGood bytes × Rose had has × IsCutOf (IsScriptOf bytes) old new
+IsRunStop bytes size old new read reading had has (stop.By s) = IsRunEnd bytes size old new read reading had has s
 
--- what the image has with a status whose text says all, and with the text of a run that a write cut short
-abbrev pub IsQuietImage : (Script → Type 0) → Option (List Block) → Option (List Block) → Status → Type 0
-IsQuietImage IsGiven told new status.NoMemory = (new ≡ told) ⊎ IfSome told (λ bs. IsLackingDriveOf IsGiven bs new)
-IsQuietImage IsGiven told new s = new ≡ told
+-- Why a soak gave no summary, but for a write that failed: of the load, or of the blocks; and what the image has then.
+abbrev pub IsSoakEnd : ℕ → ℕ → List Block → List Block → ℕ → ℕ → Status → Type 0
+IsSoakEnd n size old new had has status.ImageFault = Rose had has × (new ≡ old)
+IsSoakEnd n size old new had has (status.BadSize k) = ((k ≡ size) × IsOutside size) × (new ≡ old)
+IsSoakEnd n size old new had has (status.NotAccepted f) = (IsInside size × IsFirstFound old f) × (new ≡ old)
+IsSoakEnd n size old new had has status.NoMemory = (new ≡ old) ⊎ IsLackingDriveOf (IsSoakOf n) old new
+IsSoakEnd n size old new had has s = ⊥
 
-abbrev pub IsStopImage : (Script → Type 0) → Option (List Block) → Option (List Block) → Stop → Type 0
-IsStopImage IsGiven told new (stop.Cut text) = IfSome told (λ bs. IsCutShort IsGiven bs new text.items)
-IsStopImage IsGiven told new stop.NoLines = IfSome told (λ bs. IsCutOf IsGiven bs new)
-IsStopImage IsGiven told new (stop.By s) = IsQuietImage IsGiven told new s
-
--- these are the findings of the blocks
-abbrev pub AreFoundIn : List Finding → List Block → Type 0
-AreFoundIn fs bs = AreFindings bs fs
+-- why it gave none
+abbrev pub IsSoakStop : ℕ → ℕ → List Block → List Block → ℕ → ℕ → Stop → Type 0
+IsSoakStop n size old new had has (stop.Cut text) = Rose had has × IsCutShort (IsSoakOf n) old new text.items
+IsSoakStop n size old new had has stop.NoLines = Rose had has × IsCutOf (IsSoakOf n) old new
+IsSoakStop n size old new had has (stop.By s) = IsSoakEnd n size old new had has s
 
 -- the status after findings are told
 abbrev pub IsFoundEnd : List Finding → Status → Type 0
@@ -188,16 +189,27 @@ IsInitEnd cluster files label size had has (status.BadInit f) = IsInside size ×
 IsInitEnd cluster files label size had has status.NoMemory = Unit {0}
 IsInitEnd cluster files label size had has s = ⊥
 
+-- an image is formatted, and this text says so
+pub record IsFormattedWith (cluster files : ℕ) (label : List ℕ) (size : ℕ) (old new : List Block) (text : List ℕ) : Type 0 where
+  pub possible : IsPossible cluster files label size
+  pub made : IsMade (home_of cluster files label) old new
+  pub told : text ≡ made_text label (sized cluster files size)
+
 -- the status of a mending that failed
 abbrev pub rebuild_status : RebuildFault → Status
 rebuild_status (rebuild.NotMendable f) = status.NotMendable f
 rebuild_status rebuild.ImageFault = status.ImageFault
 rebuild_status rebuild.NoMemory = status.NoMemory
 
--- why an image was not mended
-abbrev pub IsRebuildEnd : ℕ → Option (List Block) → ℕ → ℕ → Status → Type 0
-IsRebuildEnd size told had has status.ImageFault = Rose had has
-IsRebuildEnd size told had has (status.BadSize n) = (n ≡ size) × IsOutside size
-IsRebuildEnd size told had has (status.NotMendable f) = IsInside size × IfSome told (λ bs. IsFirstFatal bs f)
-IsRebuildEnd size told had has status.NoMemory = Unit {0}
-IsRebuildEnd size told had has s = ⊥
+-- an image is mended, and this text says what was done
+pub record IsRebuiltWith (size : ℕ) (old new : List Block) (text : List ℕ) : Type 0 where
+  pub mendable : IsMendable size old
+  pub told : IsMendingText old new text
+
+-- why an image was not mended, and what it has then
+abbrev pub IsRebuildEnd : ℕ → List Block → List Block → ℕ → ℕ → Status → Type 0
+IsRebuildEnd size old new had has status.ImageFault = Rose had has × IsStillToMend old new
+IsRebuildEnd size old new had has (status.BadSize n) = ((n ≡ size) × IsOutside size) × (new ≡ old)
+IsRebuildEnd size old new had has (status.NotMendable f) = (IsInside size × IsFirstFatal old f) × (new ≡ old)
+IsRebuildEnd size old new had has status.NoMemory = IsStillToMend old new
+IsRebuildEnd size old new had has s = ⊥

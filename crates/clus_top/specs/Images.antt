@@ -1,5 +1,5 @@
 -- What the image has after a job.
-use Rattle.std.specs.Prelude.{◌≡◌, ◌⊎◌, ℕ, List, Option, Some, None, IfSome}
+use Rattle.std.specs.Prelude.{◌≡◌, ◌⊎◌, ℕ, List, Option, Some, None}
 use Rattle.base_words.specs.Fields.{Block}
 use Rattle.fx_home.specs.declared.home.Home.{Home}
 use Rattle.vol_init.specs.Refusals.{home_of}
@@ -19,122 +19,117 @@ use Rattle.vol_parts.specs.declared.finding.Finding.{Finding}
 use Rattle.clus_top.specs.Mendings.{IsMendedImage, IsStillToMend}
 use Rattle.clus_top.specs.MendedRuns.{HasRunAndMended, IsPartlyMended, IsUnmended}
 
--- the image has a new volume
-abbrev pub IsImageMade : Home → List Block → Option (List Block) → Type 0
-IsImageMade h old None = ⊥
-IsImageMade h old (Some new) = IsMade h old new
-
 -- After a format: the new volume; after a fault or want of memory the old blocks, or no home block that is read, or the new
 -- volume; and after a refusal the old blocks.
-abbrev pub IsFormatted : Home → List Block → Option (List Block) → Status → Type 0
-IsFormatted h old new status.Ok = IsImageMade h old new
-IsFormatted h old new status.OutFault = IsImageMade h old new
-IsFormatted h old new status.ImageFault = IsLeft h old new
-IsFormatted h old new status.NoMemory = IsLeft h old new
-IsFormatted h old new s = new ≡ Some old
+abbrev pub IsFormatted : Home → List Block → List Block → Status → Type 0
+IsFormatted h old new status.Ok = IsMade h old new
+IsFormatted h old new status.OutFault = IsMade h old new
+IsFormatted h old new status.ImageFault = IsLeft h old (Some new)
+IsFormatted h old new status.NoMemory = IsLeft h old (Some new)
+IsFormatted h old new s = new ≡ old
 
 -- The image has the drive of a world that has run the script of its job on the volume of these blocks, as far as its nodes came.
-pub record IsDriveOf (IsGiven : Script → Type 0) (bs : List Block) (new : Option (List Block)) : Type 0 where
+pub record IsDriveOf (IsGiven : Script → Type 0) (bs new : List Block) : Type 0 where
   pub script : Script
   pub given : IsGiven script
   pub world : Plain
   pub ran : HasRun script bs world
-  pub image : new ≡ Some world.blocks
+  pub image : new ≡ world.blocks
 
 -- and every node is over
-abbrev pub IsLastDriveOf : (Script → Type 0) → List Block → Option (List Block) → Type 0
+abbrev pub IsLastDriveOf : (Script → Type 0) → List Block → List Block → Type 0
 IsLastDriveOf IsGiven bs new = (d : IsDriveOf IsGiven bs new) × AllOver d.world
 
 -- and it may lack memory there
-abbrev pub IsLackingDriveOf : (Script → Type 0) → List Block → Option (List Block) → Type 0
+abbrev pub IsLackingDriveOf : (Script → Type 0) → List Block → List Block → Type 0
 IsLackingDriveOf IsGiven bs new = (d : IsDriveOf IsGiven bs new) × LacksMemory d.ran.start d.script.plays d.world
 
 -- A world has run the script of its job on the volume of these blocks as far as to a write of the node whose turn it is. The image
 -- has the drive of this world, or that which this one turn would have left: one block may be ahead, and no other differs. Whichever it
 -- is, the image mends as the catalogue that the run leaves as it stops, with that write done if it landed.
-pub record IsCutOf (IsGiven : Script → Type 0) (bs : List Block) (new : Option (List Block)) : Type 0 where
+pub record IsCutOf (IsGiven : Script → Type 0) (bs new : List Block) : Type 0 where
   pub script : Script
   pub given : IsGiven script
   pub world : Plain
   pub ran : HasRun script bs world
-  pub before : IsBeforeWrite (IsNextIn ran.start script.plays world) bs (Some bs) new world
-  pub torn : IsTornRun ran.start script.plays world before.node new
+  pub before : IsBeforeWrite (IsNextIn ran.start script.plays world) bs (Some bs) (Some new) world
+  pub torn : IsTornRun ran.start script.plays world before.node (Some new)
 
 -- After a run: the drive of its world, once every node is over; after a fault of the image the old blocks, or the drive as far as the run
 -- came but for the block of a write that failed; after want of memory the old blocks, or the drive as far as to where the run lacked it, or
 -- what a write that failed left, if the lines of the answers before it found no memory; and else the old blocks.
-abbrev pub IsRunImage : (Script → Type 0) → Option (List Block) → Option (List Block) → Status → Type 0
-IsRunImage IsGiven told new status.Ok = IfSome told (λ bs. IsLastDriveOf IsGiven bs new)
-IsRunImage IsGiven told new status.OutFault = IfSome told (λ bs. IsLastDriveOf IsGiven bs new)
-IsRunImage IsGiven told new status.NoMemory = (new ≡ told) ⊎ IfSome told (λ bs. IsLackingDriveOf IsGiven bs new ⊎ IsCutOf IsGiven bs new)
-IsRunImage IsGiven told new status.ImageFault = (new ≡ told) ⊎ IfSome told (λ bs. IsCutOf IsGiven bs new)
-IsRunImage IsGiven told new s = new ≡ told
+abbrev pub IsRunImage : (Script → Type 0) → List Block → List Block → Status → Type 0
+IsRunImage IsGiven old new status.Ok = IsLastDriveOf IsGiven old new
+IsRunImage IsGiven old new status.OutFault = IsLastDriveOf IsGiven old new
+IsRunImage IsGiven old new status.NoMemory = (new ≡ old) ⊎ (IsLackingDriveOf IsGiven old new ⊎ IsCutOf IsGiven old new)
+IsRunImage IsGiven old new status.ImageFault = (new ≡ old) ⊎ IsCutOf IsGiven old new
+IsRunImage IsGiven old new s = new ≡ old
 
 -- After a run that is mended then: the mended volume; where it cannot be mended the drive of the run; after want of memory or a fault of
 -- the image also the drive of the run as far as the mending came, of which one block may be ahead, and which mends to the same.
-abbrev pub IsRunRebuildImage : (Script → Type 0) → Option (List Block) → Option (List Block) → Status → Type 0
-IsRunRebuildImage IsGiven told new status.Ok = IfSome told (λ bs. HasRunAndMended IsGiven bs new)
-IsRunRebuildImage IsGiven told new status.OutFault = IfSome told (λ bs. HasRunAndMended IsGiven bs new)
-IsRunRebuildImage IsGiven told new (status.NotMendable f) = IfSome told (λ bs. IsUnmended IsGiven bs new f)
-IsRunRebuildImage IsGiven told new status.NoMemory = (new ≡ told) ⊎ IfSome told (λ bs. IsLackingDriveOf IsGiven bs new ⊎ (IsCutOf IsGiven bs new ⊎ IsPartlyMended IsGiven bs new))
-IsRunRebuildImage IsGiven told new status.ImageFault = (new ≡ told) ⊎ IfSome told (λ bs. IsCutOf IsGiven bs new ⊎ IsPartlyMended IsGiven bs new)
-IsRunRebuildImage IsGiven told new s = new ≡ told
+abbrev pub IsRunRebuildImage : (Script → Type 0) → List Block → List Block → Status → Type 0
+IsRunRebuildImage IsGiven old new status.Ok = HasRunAndMended IsGiven old new
+IsRunRebuildImage IsGiven old new status.OutFault = HasRunAndMended IsGiven old new
+IsRunRebuildImage IsGiven old new (status.NotMendable f) = IsUnmended IsGiven old new f
+IsRunRebuildImage IsGiven old new status.NoMemory = (new ≡ old) ⊎ (IsLackingDriveOf IsGiven old new ⊎ (IsCutOf IsGiven old new ⊎ IsPartlyMended IsGiven old new))
+IsRunRebuildImage IsGiven old new status.ImageFault = (new ≡ old) ⊎ (IsCutOf IsGiven old new ⊎ IsPartlyMended IsGiven old new)
+IsRunRebuildImage IsGiven old new s = new ≡ old
 
 -- After a mending: the mended volume; after a fault or want of memory blocks that mend to the same as the old ones, and the old ones
 -- where they have a fatal finding; and else the old blocks.
-abbrev pub IsRebuildImage : Option (List Block) → Option (List Block) → Status → Type 0
-IsRebuildImage told new status.Ok = IfSome told (λ bs. IsMendedImage bs new)
-IsRebuildImage told new status.OutFault = IfSome told (λ bs. IsMendedImage bs new)
-IsRebuildImage told new status.ImageFault = (new ≡ told) ⊎ IfSome told (λ bs. IsStillToMend bs new)
-IsRebuildImage told new status.NoMemory = (new ≡ told) ⊎ IfSome told (λ bs. IsStillToMend bs new)
-IsRebuildImage told new s = new ≡ told
+abbrev pub IsRebuildImage : List Block → List Block → Status → Type 0
+IsRebuildImage old new status.Ok = IsMendedImage old new
+IsRebuildImage old new status.OutFault = IsMendedImage old new
+IsRebuildImage old new status.ImageFault = IsStillToMend old new
+IsRebuildImage old new status.NoMemory = IsStillToMend old new
+IsRebuildImage old new s = new ≡ old
 
 -- ---- what is told of a fault of the image
 
 -- a run that a write cut short, with the lines of the answers before it
-pub record IsCutShort (IsGiven : Script → Type 0) (bs : List Block) (new : Option (List Block)) (text : List ℕ) : Type 0 where
+pub record IsCutShort (IsGiven : Script → Type 0) (bs new : List Block) (text : List ℕ) : Type 0 where
   pub cut : IsCutOf IsGiven bs new
   pub written : text ≡ cut_text cut.world.history
 
 -- a run has come to its end, and a write of its mending failed: with the lines of its history
-pub record IsMendingCutShort (IsGiven : Script → Type 0) (bs : List Block) (new : Option (List Block)) (text : List ℕ) : Type 0 where
+pub record IsMendingCutShort (IsGiven : Script → Type 0) (bs new : List Block) (text : List ℕ) : Type 0 where
   pub part : IsPartlyMended IsGiven bs new
   pub written : text ≡ cut_text part.ran.world.history
 
 -- a run whose drive cannot be mended, with the lines of its history
-pub record IsUnmendedText (IsGiven : Script → Type 0) (bs : List Block) (new : Option (List Block)) (f : Finding) (text : List ℕ) : Type 0 where
+pub record IsUnmendedText (IsGiven : Script → Type 0) (bs new : List Block) (f : Finding) (text : List ℕ) : Type 0 where
   pub unmended : IsUnmended IsGiven bs new f
   pub written : text ≡ unmended_text unmended.ran.world.history f
 
 -- The text of a fault of the image: of a run that a write cut short the lines of the answers before it, and the text of the fault; and else
 -- that alone, and the image has its blocks.
-abbrev pub IsRunFaultText : (Script → Type 0) → Option (List Block) → Option (List Block) → Status → List ℕ → Type 0
-IsRunFaultText IsGiven told new status.ImageFault text = ((new ≡ told) × (text ≡ status_text status.ImageFault)) ⊎ IfSome told (λ bs. IsCutShort IsGiven bs new text)
-IsRunFaultText IsGiven told new s text = IsPlainText s text
+abbrev pub IsRunFaultText : (Script → Type 0) → List Block → List Block → Status → List ℕ → Type 0
+IsRunFaultText IsGiven old new status.ImageFault text = ((new ≡ old) × (text ≡ status_text status.ImageFault)) ⊎ IsCutShort IsGiven old new text
+IsRunFaultText IsGiven old new s text = IsPlainText s text
 
 -- The same of a run that is mended then: a write of the mending may have failed too, and where it cannot be mended the lines of the
 -- history come before the text.
-abbrev pub IsMendedFaultText : (Script → Type 0) → Option (List Block) → Option (List Block) → Status → List ℕ → Type 0
-IsMendedFaultText IsGiven told new status.ImageFault text =
-    ((new ≡ told) × (text ≡ status_text status.ImageFault)) ⊎ IfSome told (λ bs. IsCutShort IsGiven bs new text ⊎ IsMendingCutShort IsGiven bs new text)
-IsMendedFaultText IsGiven told new (status.NotMendable f) text = IfSome told (λ bs. IsUnmendedText IsGiven bs new f text)
-IsMendedFaultText IsGiven told new s text = IsPlainText s text
+abbrev pub IsMendedFaultText : (Script → Type 0) → List Block → List Block → Status → List ℕ → Type 0
+IsMendedFaultText IsGiven old new status.ImageFault text =
+    ((new ≡ old) × (text ≡ status_text status.ImageFault)) ⊎ (IsCutShort IsGiven old new text ⊎ IsMendingCutShort IsGiven old new text)
+IsMendedFaultText IsGiven old new (status.NotMendable f) text = IsUnmendedText IsGiven old new f text
+IsMendedFaultText IsGiven old new s text = IsPlainText s text
 
-abbrev pub IsFaultTextOf : Option Wanted → Option (List ℕ) → Option (List Block) → Option (List Block) → Status → List ℕ → Type 0
-IsFaultTextOf (Some Run) left told new s text = IsRunFaultText (IsScriptOf left) told new s text
-IsFaultTextOf (Some RunRebuild) left told new s text = IsMendedFaultText (IsScriptOf left) told new s text
-IsFaultTextOf (Some (Soak n)) left told new s text = IsRunFaultText (IsSoakOf n) told new s text
-IsFaultTextOf (Some Analyze) left told new s text = IsPlainText s text
-IsFaultTextOf (Some Rebuild) left told new s text = IsPlainText s text
-IsFaultTextOf (Some (Init cluster files label)) left told new s text = IsPlainText s text
-IsFaultTextOf None left told new s text = IsPlainText s text
+abbrev pub IsFaultTextOf : Option Wanted → List ℕ → List Block → List Block → Status → List ℕ → Type 0
+IsFaultTextOf (Some Run) bytes old new s text = IsRunFaultText (IsScriptOf bytes) old new s text
+IsFaultTextOf (Some RunRebuild) bytes old new s text = IsMendedFaultText (IsScriptOf bytes) old new s text
+IsFaultTextOf (Some (Soak n)) bytes old new s text = IsRunFaultText (IsSoakOf n) old new s text
+IsFaultTextOf (Some Analyze) bytes old new s text = IsPlainText s text
+IsFaultTextOf (Some Rebuild) bytes old new s text = IsPlainText s text
+IsFaultTextOf (Some (Init cluster files label)) bytes old new s text = IsPlainText s text
+IsFaultTextOf None bytes old new s text = IsPlainText s text
 
 -- After a job: a run, a soak, a mending and a format write to the image.
-abbrev pub IsImageAfter : Option Wanted → Option (List ℕ) → Option (List Block) → Option (List Block) → Status → Type 0
-IsImageAfter (Some (Init cluster files label)) left told new s = IfSome told (λ old. IsFormatted (home_of cluster files label) old new s)
-IsImageAfter (Some Run) left told new s = IsRunImage (IsScriptOf left) told new s
-IsImageAfter (Some RunRebuild) left told new s = IsRunRebuildImage (IsScriptOf left) told new s
-IsImageAfter (Some (Soak n)) left told new s = IsRunImage (IsSoakOf n) told new s
-IsImageAfter (Some Analyze) left told new s = new ≡ told
-IsImageAfter (Some Rebuild) left told new s = IsRebuildImage told new s
-IsImageAfter None left told new s = new ≡ told
+abbrev pub IsImageAfter : Option Wanted → List ℕ → List Block → List Block → Status → Type 0
+IsImageAfter (Some (Init cluster files label)) bytes old new s = IsFormatted (home_of cluster files label) old new s
+IsImageAfter (Some Run) bytes old new s = IsRunImage (IsScriptOf bytes) old new s
+IsImageAfter (Some RunRebuild) bytes old new s = IsRunRebuildImage (IsScriptOf bytes) old new s
+IsImageAfter (Some (Soak n)) bytes old new s = IsRunImage (IsSoakOf n) old new s
+IsImageAfter (Some Analyze) bytes old new s = new ≡ old
+IsImageAfter (Some Rebuild) bytes old new s = IsRebuildImage old new s
+IsImageAfter None bytes old new s = new ≡ old

@@ -1,5 +1,5 @@
 -- What a mending of a volume leaves, and what is printed of it.
-use Rattle.std.specs.Prelude.{◌≡◌, ◌++◌, ℕ, List, Option, Some}
+use Rattle.std.specs.Prelude.{◌≡◌, ◌++◌, ℕ, List}
 use Rattle.base_words.specs.Fields.{Block}
 use Rattle.plain_cat.specs.declared.cat.Cat.{Cat}
 use Rattle.plain_cat.specs.declared.history.Mended.{Mended}
@@ -9,25 +9,21 @@ use Rattle.plain_texts.specs.Reports.{newline, mended_text}
 use Rattle.vol_mends.specs.Mends.{Mends}
 use Rattle.vol_rebuild.specs.Rebuilt.{IsRebuilt}
 
--- the image has an accepted volume, which tells the catalogue to which that of the old blocks is mended
-pub record IsMendedImage (bs : List Block) (new : Option (List Block)) : Type 0 where
-  pub blocks : List Block
+-- the new blocks are an accepted volume, which tells the catalogue to which that of the old ones is mended
+pub record IsMendedImage (bs new : List Block) : Type 0 where
   pub done : Mended
-  pub image : new ≡ Some blocks
-  pub rebuilt : IsRebuilt bs blocks done
+  pub rebuilt : IsRebuilt bs new done
 
 -- what is printed of what was done
 abbrev pub mending_text : Mended → List ℕ
 mending_text done = mended_text done ++ newline
 
 -- a text tells what was done to these blocks
-pub record IsMendingText (bs : List Block) (new : Option (List Block)) (text : List ℕ) : Type 0 where
+pub record IsMendingText (bs new : List Block) (text : List ℕ) : Type 0 where
   pub mended : IsMendedImage bs new
   pub written : text ≡ mending_text mended.done
 
--- The image has blocks that mend to the same as the old ones. Where these have a fatal finding, it has them.
-pub record IsStillToMend (bs : List Block) (new : Option (List Block)) : Type 0 where
-  pub blocks : List Block
-  pub image : new ≡ Some blocks
-  pub mends : (z : Cat) → Mends bs z → Mends blocks z
-  pub kept : (f : Finding) → IsFatal bs f → blocks ≡ bs
+-- The new blocks mend to the same as the old ones. If these have a fatal finding, they are the old ones.
+pub record IsStillToMend (bs new : List Block) : Type 0 where
+  pub mends : (z : Cat) → Mends bs z → Mends new z
+  pub kept : (f : Finding) → IsFatal bs f → new ≡ bs

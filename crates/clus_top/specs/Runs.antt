@@ -1,5 +1,5 @@
 -- What a run of a script answers on a volume.
-use Rattle.std.specs.Prelude.{◌≡◌, ◌⊎◌, ℕ, false, List, Option, Some}
+use Rattle.std.specs.Prelude.{◌≡◌, ◌⊎◌, ℕ, false, List}
 use Rattle.std.specs.List.{list_any}
 use Rattle.base_words.specs.Fields.{Block}
 use Rattle.fx_home.specs.Homes.{home_read}
@@ -36,7 +36,7 @@ IsSoakOf n script = script ≡ soak_script n
 -- image has the blocks of this world: with its parts there they spell the catalogue to which the history leads, and nothing is outside at any
 -- node. Each block that a turn of the run has used from a cache was the drive's, and each world on the way could stop: it would have left a
 -- catalogue with every answer so far, as which its drive mends.
-pub record HasRunToEnd (IsGiven : Script → Type 0) (bs : List Block) (new : Option (List Block)) : Type 0 where
+pub record HasRunToEnd (IsGiven : Script → Type 0) (bs new : List Block) : Type 0 where
   pub script : Script
   pub start : Plain
   pub world : Plain
@@ -55,11 +55,11 @@ pub record HasRunToEnd (IsGiven : Script → Type 0) (bs : List Block) (new : Op
   pub killed : Killed script world.history
   pub unmended : list_any is_mending world.history ≡ false
   pub parts : IsGeometryBy bs (home_read (home_at bs)) start.geometry
-  pub image : new ≡ Some world.blocks
+  pub image : new ≡ world.blocks
   pub left : IsSpelt start.geometry world.blocks after
 
 -- The text is the report of the history of a world that has run the script to its end.
-pub record IsReport (IsGiven : Script → Type 0) (bs : List Block) (new : Option (List Block)) (text : List ℕ) : Type 0 where
+pub record IsReport (IsGiven : Script → Type 0) (bs new : List Block) (text : List ℕ) : Type 0 where
   pub ran : HasRunToEnd IsGiven bs new
   pub written : text ≡ report_text ran.world.history ran.after
 
@@ -69,7 +69,7 @@ summary_text n w c = summary_bytes n w (free_clusters c)
 
 -- The text is the summary of a world that has run soak n to its end: of its history, of what its nodes have read and found cached, and
 -- of the free clusters of the catalogue to which the history leads.
-pub record IsSummary (n : ℕ) (bs : List Block) (new : Option (List Block)) (text : List ℕ) : Type 0 where
+pub record IsSummary (n : ℕ) (bs new : List Block) (text : List ℕ) : Type 0 where
   pub ran : HasRunToEnd (IsSoakOf n) bs new
   pub written : text ≡ summary_text n ran.world ran.after
 

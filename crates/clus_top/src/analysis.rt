@@ -1,6 +1,8 @@
-ghost use Rattle.std.specs.Prelude.{◌≡◌, IfOk, IfErr, IfSome, length};
+ghost use Rattle.std.specs.Prelude.{◌≡◌, IfOk, IfErr, length};
 ghost use Rattle.blk_drive.specs.Images.{IsInside};
-ghost use Rattle.clus_top.specs.Ends.{IsLoadEnd, AreFoundIn};
+ghost use Rattle.vol_parts.specs.Findings.{AreFindings};
+ghost use Rattle.run_engine.specs.Inputs.{OfImage};
+ghost use Rattle.clus_top.specs.Ends.{IsLoadEnd};
 
 use base_words::Block;
 use blk_drive::{ImageDev, LoadRefused, Mirror};
@@ -18,7 +20,7 @@ pub struct Analysis<I: ImageDev> {
 // What is found in the blocks of a volume.
 fn findings_in(alloc: Global, bs: &[Block]) -> Result<Vec<Finding>, Status>
     requires { IsInside (length bs.now) }
-    ensures found { IfOk result (λ fs. AreFoundIn fs.items bs.now) }
+    ensures found { IfOk result (λ fs. AreFindings bs.now fs.items) }
     ensures end { IfErr result (λ s. s ≡ Status.NoMemory) }
 {
     match analyze(alloc, bs) {
@@ -30,7 +32,7 @@ fn findings_in(alloc: Global, bs: &[Block]) -> Result<Vec<Finding>, Status>
 /// Looks for what is wrong with the volume of an image.
 pub fn analyze_image<I: ImageDev>(alloc: Global, image: I) -> Analysis<I>
     ensures inside { IfOk result.outcome (λ fs. IsInside (I.size image)) }
-    ensures found { IfOk result.outcome (λ fs. IfSome (I.told image) (AreFoundIn fs.items)) }
+    ensures found { IfOk result.outcome (λ fs. OfImage (I.size image) (I.told image) (I.told result.image) (λ old new. (new ≡ old) × AreFindings old fs.items)) }
     ensures end { IfErr result.outcome (IsLoadEnd (I.size image) (I.faults image) (I.faults result.image)) }
     ensures told { I.told result.image ≡ I.told image }
 {

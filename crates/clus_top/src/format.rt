@@ -1,10 +1,12 @@
-ghost use Rattle.std.specs.Prelude.{◌≡◌, ◌≤◌, ◌++◌, ◌-◌, length, OnOk, IfOk, IfErr, IfSome, Some};
+ghost use Rattle.std.specs.Prelude.{◌≡◌, ◌≤◌, ◌++◌, ◌-◌, length, OnOk, IfOk, IfErr};
 ghost use Rattle.vol_init.specs.Layouts.{IsLayout, reserved_clusters, total};
 ghost use Rattle.vol_init.specs.Refusals.{home_of};
-ghost use Rattle.clus_top.specs.Statuses.{room_text, made_text, sized, IsPossible};
+ghost use Rattle.blk_drive.specs.Telling.{IsTold as Shows};
+ghost use Rattle.clus_top.specs.Statuses.{room_text, made_text};
+ghost use Rattle.run_engine.specs.Inputs.{Leaves, OfImage};
 ghost use Rattle.run_engine.specs.Summaries.{counted};
-ghost use Rattle.clus_top.specs.Ends.{init_status, IsInitEnd};
-ghost use Rattle.clus_top.specs.Images.{IsImageMade, IsFormatted};
+ghost use Rattle.clus_top.specs.Ends.{init_status, IsInitEnd, IsFormattedWith};
+ghost use Rattle.clus_top.specs.Images.{IsFormatted};
 
 use blk_drive::{ImageDev, LoadRefused, Mirror};
 use plain_cat::NoMemory;
@@ -84,13 +86,12 @@ fn init_on<I: ImageDev>(
     files: u32,
     label: &[u8],
 ) -> Result<Vec<u8>, Status>
-    ensures possible { IfOk result (λ text. IsPossible cluster files label.now (length m.old.blocks)) }
-    ensures text { IfOk result (λ text. text.items ≡ made_text label.now (sized cluster files (length m.old.blocks))) }
-    ensures made { I.told m.old.image ≡ Some m.old.blocks
-        → IfOk result (λ text. IsImageMade (home_of cluster files label.now) m.old.blocks (I.told m.new.image)) }
-    ensures left { I.told m.old.image ≡ Some m.old.blocks
-        → IfErr result (IsFormatted (home_of cluster files label.now) m.old.blocks (I.told m.new.image)) }
-    ensures end { IfErr result (IsInitEnd cluster files label.now (length m.old.blocks) (I.faults m.old.image) (I.faults m.new.image)) }
+    requires told { Shows (I.told m.old.image) m.old.blocks }
+    ensures text { IfOk result (λ text. Leaves (I.told m.old.image) (I.told m.new.image)
+        (λ new. IsFormattedWith cluster files label.now (length m.old.blocks) m.old.blocks new text.items)) }
+    ensures end { IfErr result (λ s. Leaves (I.told m.old.image) (I.told m.new.image)
+        (λ new. IsInitEnd cluster files label.now (length m.old.blocks) (I.faults m.old.image) (I.faults m.new.image) s
+        × IsFormatted (home_of cluster files label.now) m.old.blocks new s)) }
 {
     let blocks = m.size();
     if let Err(fault) = init(alloc, m, cluster, files, label) {
@@ -115,11 +116,11 @@ pub fn init_image<I: ImageDev>(
     files: u32,
     label: &[u8],
 ) -> Format<I>
-    ensures possible { IfOk result.outcome (λ text. IsPossible cluster files label.now (I.size image)) }
-    ensures text { IfOk result.outcome (λ text. text.items ≡ made_text label.now (sized cluster files (I.size image))) }
-    ensures made { IfOk result.outcome (λ text. IfSome (I.told image) (λ old. IsImageMade (home_of cluster files label.now) old (I.told result.image))) }
-    ensures left { IfErr result.outcome (λ s. IfSome (I.told image) (λ old. IsFormatted (home_of cluster files label.now) old (I.told result.image) s)) }
-    ensures end { IfErr result.outcome (IsInitEnd cluster files label.now (I.size image) (I.faults image) (I.faults result.image)) }
+    ensures text { IfOk result.outcome (λ text. OfImage (I.size image) (I.told image) (I.told result.image)
+        (λ old new. IsFormattedWith cluster files label.now (I.size image) old new text.items)) }
+    ensures end { IfErr result.outcome (λ s. OfImage (I.size image) (I.told image) (I.told result.image)
+        (λ old new. IsInitEnd cluster files label.now (I.size image) (I.faults image) (I.faults result.image) s
+        × IsFormatted (home_of cluster files label.now) old new s)) }
 {
     match Mirror::load(alloc, image) {
         Ok(mut mirror) => {

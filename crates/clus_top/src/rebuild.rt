@@ -1,11 +1,9 @@
-ghost use Rattle.std.specs.Prelude.{◌≡◌, IfErr, IfOk, IfSome, OnOk, length};
+ghost use Rattle.std.specs.Prelude.{◌≡◌, IfErr, IfOk, length};
 ghost use Rattle.blk_drive.specs.Images.{IsInside};
-ghost use Rattle.vol_parts.specs.Findings.{Weak};
 ghost use Rattle.blk_drive.specs.Telling.{IsTold as Shows};
-ghost use Rattle.clus_top.specs.Ends.{IsRebuildEnd, rebuild_status};
-ghost use Rattle.clus_top.specs.Images.{IsRebuildImage};
-ghost use Rattle.clus_top.specs.Mendings.{IsMendedImage, IsMendingText, mending_text};
-ghost use Rattle.clus_top.specs.Statuses.{IsMendable};
+ghost use Rattle.run_engine.specs.Inputs.{Leaves, OfImage};
+ghost use Rattle.clus_top.specs.Ends.{IsRebuiltWith, IsRebuildEnd, rebuild_status};
+ghost use Rattle.clus_top.specs.Mendings.{mending_text};
 
 use blk_drive::{ImageDev, LoadRefused, Mirror};
 use plain_cat::{Mended, NoMemory};
@@ -46,11 +44,9 @@ fn rebuild_status(fault: RebuildFault) -> Status
 fn mend_on<I: ImageDev>(alloc: Global, m: &mut Mirror<I>) -> Result<Vec<u8>, Status>
     requires inside { IsInside (length m.old.blocks) }
     requires told { Shows (I.told m.old.image) m.old.blocks }
-    ensures weak { OnOk result (IfSome (I.told m.old.image) Weak) }
-    ensures text { IfOk result (λ text. IfSome (I.told m.old.image) (λ bs. IsMendingText bs (I.told m.new.image) text.items)) }
-    ensures mended { IfOk result (λ text. IfSome (I.told m.old.image) (λ bs. IsMendedImage bs (I.told m.new.image))) }
-    ensures left { IfErr result (IsRebuildImage (I.told m.old.image) (I.told m.new.image)) }
-    ensures end { IfErr result (IsRebuildEnd (length m.old.blocks) (I.told m.old.image) (I.faults m.old.image) (I.faults m.new.image)) }
+    ensures text { IfOk result (λ text. Leaves (I.told m.old.image) (I.told m.new.image) (λ new. IsRebuiltWith (length m.old.blocks) m.old.blocks new text.items)) }
+    ensures end { IfErr result (λ s. Leaves (I.told m.old.image) (I.told m.new.image)
+        (λ new. IsRebuildEnd (length m.old.blocks) m.old.blocks new (I.faults m.old.image) (I.faults m.new.image) s)) }
 {
     let done = match rebuild(alloc, m) {
         Ok(done) => done,
@@ -64,11 +60,9 @@ fn mend_on<I: ImageDev>(alloc: Global, m: &mut Mirror<I>) -> Result<Vec<u8>, Sta
 
 /// Mends the volume of an image.
 pub fn mend_image<I: ImageDev>(alloc: Global, image: I) -> Rebuild<I>
-    ensures passed { IfOk result.outcome (λ text. IsMendable (I.size image) (I.told image)) }
-    ensures text { IfOk result.outcome (λ text. IfSome (I.told image) (λ bs. IsMendingText bs (I.told result.image) text.items)) }
-    ensures mended { IfOk result.outcome (λ text. IfSome (I.told image) (λ bs. IsMendedImage bs (I.told result.image))) }
-    ensures left { IfErr result.outcome (IsRebuildImage (I.told image) (I.told result.image)) }
-    ensures end { IfErr result.outcome (IsRebuildEnd (I.size image) (I.told image) (I.faults image) (I.faults result.image)) }
+    ensures text { IfOk result.outcome (λ text. OfImage (I.size image) (I.told image) (I.told result.image) (λ old new. IsRebuiltWith (I.size image) old new text.items)) }
+    ensures end { IfErr result.outcome (λ s. OfImage (I.size image) (I.told image) (I.told result.image)
+        (λ old new. IsRebuildEnd (I.size image) old new (I.faults image) (I.faults result.image) s)) }
 {
     match Mirror::load(alloc, image) {
         Ok(mut mirror) => {

@@ -1,4 +1,4 @@
-ghost use Rattle.std.specs.Prelude.{◌≡◌, ◌≤◌, IfOk, IfErr, IfSome};
+ghost use Rattle.std.specs.Prelude.{◌≡◌, ◌≤◌, IfOk, IfErr};
 ghost use Rattle.plain_cat.specs.declared.cat.Cat.{Cat};
 ghost use Rattle.plain_cat.specs.InForm.{InForm};
 ghost use Rattle.plain_rules.specs.Lookups.{free_clusters};
@@ -7,12 +7,9 @@ ghost use Rattle.core_state.specs.Mounting.{IsMounted};
 ghost use Rattle.core_state.specs.Ends.{AllOver};
 ghost use Rattle.run_engine.specs.Summaries.{summary_bytes};
 ghost use Rattle.run_engine.specs.Ended.{HasEnded};
-ghost use Rattle.run_engine.specs.Scripts.{IsScriptOf};
-ghost use Rattle.run_engine.specs.Texts.{IsGood, IsAccepted};
-ghost use Rattle.clus_top.specs.Runs.{IsSoakOf};
-ghost use Rattle.clus_top.specs.Statuses.{IsReportOn, IsSummaryOn};
-ghost use Rattle.clus_top.specs.Ends.{printed_text, IsStopBy, IsEndIn, IsImageStop, IsRunStop, IsSoakStop, IsStopImage};
-ghost use Rattle.clus_top.specs.Images.{IsLastDriveOf};
+ghost use Rattle.run_engine.specs.Inputs.{OfScript, Leaves, OfImage};
+ghost use Rattle.blk_drive.specs.Images.{IsInside};
+ghost use Rattle.clus_top.specs.Ends.{printed_text, IsStopBy, IsEndIn, IsImageStop, IsReported, IsSummarized, IsRunStop, IsSoakStop};
 
 use blk_drive::{ImageDev, LoadRefused, Mirror};
 use core_state::{MountRefused, World};
@@ -72,9 +69,9 @@ fn run_on<I: ImageDev>(
     requires form { InForm w.old.world.script }
     requires plays { plays.now ≡ w.old.world.script.plays }
     requires told { IsTold (I.told w.old.image) w.old.world.blocks }
-    ensures report { IfOk result (λ text. IsEndIn what w.old.world.script w.old.world.blocks (I.told w.old.image) (I.told w.new.image) text.items) }
-    ensures end { IfErr result (IsStopBy w.old.world.script w.old.world.blocks (I.told w.old.image) (I.told w.new.image)
-        (I.faults w.old.image) (I.faults w.new.image)) }
+    ensures report { IfOk result (λ text. Leaves (I.told w.old.image) (I.told w.new.image) (λ new. IsEndIn what w.old.world.script w.old.world.blocks new text.items)) }
+    ensures end { IfErr result (λ s. Leaves (I.told w.old.image) (I.told w.new.image)
+        (λ new. IsStopBy w.old.world.script w.old.world.blocks new (I.faults w.old.image) (I.faults w.new.image) s)) }
 {
     w.keeps_the_rules();
     let ran = run(alloc, w, plays);
@@ -89,9 +86,9 @@ fn run_on<I: ImageDev>(
 fn run_mounted<I: ImageDev>(alloc: Global, m: Mirror<I>, script: &Script, what: Printed) -> Ran<I>
     requires form { InForm script.now }
     requires told { IsTold (I.told m.image) m.blocks }
-    ensures report { IfOk result.outcome (λ text. IsEndIn what script.now m.blocks (I.told m.image) (I.told result.image) text.items) }
-    ensures end { IfErr result.outcome (IsStopBy script.now m.blocks (I.told m.image) (I.told result.image)
-        (I.faults m.image) (I.faults result.image)) }
+    ensures report { IfOk result.outcome (λ text. Leaves (I.told m.image) (I.told result.image) (λ new. IsEndIn what script.now m.blocks new text.items)) }
+    ensures end { IfErr result.outcome (λ s. Leaves (I.told m.image) (I.told result.image)
+        (λ new. IsStopBy script.now m.blocks new (I.faults m.image) (I.faults result.image) s)) }
 {
     match World::<I, XqpOp>::mount(alloc, m, script) {
         Ok(mut world) => {
@@ -119,10 +116,10 @@ pub struct Ran<I: ImageDev> {
 // Runs a script on an image.
 fn run_image<I: ImageDev>(alloc: Global, image: I, script: &Script, what: Printed) -> Ran<I>
     requires form { InForm script.now }
-    ensures passed { IfOk result.outcome (λ text. IsAccepted (I.size image) (I.told image)) }
-    ensures report { IfOk result.outcome (λ text. IfSome (I.told image) (λ bs. IsEndIn what script.now bs (I.told image) (I.told result.image) text.items)) }
-    ensures end { IfErr result.outcome (IsImageStop script.now (I.size image) (I.told image) (I.told result.image)
-        (I.faults image) (I.faults result.image)) }
+    ensures inside { IfOk result.outcome (λ text. IsInside (I.size image)) }
+    ensures report { IfOk result.outcome (λ text. OfImage (I.size image) (I.told image) (I.told result.image) (λ old new. IsEndIn what script.now old new text.items)) }
+    ensures end { IfErr result.outcome (λ s. OfImage (I.size image) (I.told image) (I.told result.image)
+        (λ old new. IsImageStop script.now (I.size image) old new (I.faults image) (I.faults result.image) s)) }
 {
     match Mirror::load(alloc, image) {
         Ok(mirror) => run_mounted(alloc, mirror, script, what),
@@ -135,12 +132,10 @@ fn run_image<I: ImageDev>(alloc: Global, image: I, script: &Script, what: Printe
 
 /// Runs the script that is read on the image, for its report.
 pub fn run_script<I: ImageDev, T: TextIn>(alloc: Global, image: I, script: &mut T) -> Ran<I>
-    ensures passed { IfOk result.outcome (λ text. IfSome (T.left script.old) IsGood × IsAccepted (I.size image) (I.told image)) }
-    ensures report { IfOk result.outcome (λ text. IsReportOn (T.left script.old) (I.told image) (I.told result.image) text.items) }
-    ensures ended { IfOk result.outcome (λ text. IfSome (I.told image) (λ bs. IsLastDriveOf (IsScriptOf (T.left script.old)) bs (I.told result.image))) }
-    ensures end { IfErr result.outcome (IsRunStop (T.left script.old) (I.size image) (I.told image)
-        (T.faults script.old) (T.faults script.new) (I.faults image) (I.faults result.image)) }
-    ensures left { IfErr result.outcome (IsStopImage (IsScriptOf (T.left script.old)) (I.told image) (I.told result.image)) }
+    ensures report { IfOk result.outcome (λ text. OfScript (T.left script.old) (λ bytes. OfImage (I.size image) (I.told image) (I.told result.image)
+        (λ old new. IsReported bytes (I.size image) old new text.items))) }
+    ensures end { IfErr result.outcome (λ s. OfScript (T.left script.old) (λ bytes. OfImage (I.size image) (I.told image) (I.told result.image)
+        (λ old new. IsRunStop bytes (I.size image) old new (T.faults script.old) (T.faults script.new) (I.faults image) (I.faults result.image) s))) }
 {
     match script_of(alloc, script) {
         Ok(spelt) => run_image(alloc, image, &spelt, Printed::Report),
@@ -154,11 +149,9 @@ pub fn run_script<I: ImageDev, T: TextIn>(alloc: Global, image: I, script: &mut 
 /// Runs the soak of a number up to 256 on the image, for its summary.
 pub fn run_soak<I: ImageDev>(alloc: Global, image: I, n: u32) -> Ran<I>
     requires { n ≤ 256 }
-    ensures passed { IfOk result.outcome (λ text. IsAccepted (I.size image) (I.told image)) }
-    ensures summary { IfOk result.outcome (λ text. IsSummaryOn n (I.told image) (I.told result.image) text.items) }
-    ensures ended { IfOk result.outcome (λ text. IfSome (I.told image) (λ bs. IsLastDriveOf (IsSoakOf n) bs (I.told result.image))) }
-    ensures end { IfErr result.outcome (IsSoakStop n (I.size image) (I.told image) (I.faults image) (I.faults result.image)) }
-    ensures left { IfErr result.outcome (IsStopImage (IsSoakOf n) (I.told image) (I.told result.image)) }
+    ensures summary { IfOk result.outcome (λ text. OfImage (I.size image) (I.told image) (I.told result.image) (λ old new. IsSummarized n (I.size image) old new text.items)) }
+    ensures end { IfErr result.outcome (λ s. OfImage (I.size image) (I.told image) (I.told result.image)
+        (λ old new. IsSoakStop n (I.size image) old new (I.faults image) (I.faults result.image) s)) }
 {
     match soak(alloc, n) {
         Ok(drawn) => run_image(alloc, image, &drawn, Printed::Summary(n)),

@@ -1,12 +1,10 @@
-ghost use Rattle.std.specs.Prelude.{◌≡◌, IfErr, IfOk, IfSome};
+ghost use Rattle.std.specs.Prelude.{◌≡◌, IfErr, IfOk};
 ghost use Rattle.plain_cat.specs.InForm.{InForm};
 ghost use Rattle.blk_drive.specs.Telling.{IsTold};
 ghost use Rattle.core_state.specs.Mounting.{IsMounted};
-ghost use Rattle.run_engine.specs.Scripts.{IsScriptOf};
-ghost use Rattle.run_engine.specs.Texts.{IsAccepted, IsGood};
-ghost use Rattle.clus_top.specs.Halts.{IsMendedIn, IsHaltIn, IsImageHalt, IsRunHalt, IsHaltImage};
-ghost use Rattle.clus_top.specs.MendedRuns.{HasRunAndMended};
-ghost use Rattle.clus_top.specs.Statuses.{IsMendedReportOn};
+ghost use Rattle.run_engine.specs.Inputs.{OfScript, Leaves, OfImage};
+ghost use Rattle.blk_drive.specs.Images.{IsInside};
+ghost use Rattle.clus_top.specs.Halts.{IsMendedIn, IsHaltIn, IsImageHalt, IsMendedWith, IsRunHalt};
 
 use blk_drive::{ImageDev, LoadRefused, Mirror};
 use core_state::{MountRefused, World};
@@ -24,9 +22,9 @@ fn mend_on<I: ImageDev>(alloc: Global, w: World<I, XqpOp>, plays: &Plays) -> Men
     requires form { InForm w.world.script }
     requires plays { plays.now ≡ w.world.script.plays }
     requires told { IsTold (I.told w.image) w.world.blocks }
-    ensures report { IfOk result.outcome (λ text. IsMendedIn w.world.script w.world.blocks (I.told w.image) (I.told result.image) text.items) }
-    ensures halt { IfErr result.outcome (IsHaltIn w.world.script w.world.blocks (I.told w.image) (I.told result.image)
-        (I.faults w.image) (I.faults result.image)) }
+    ensures report { IfOk result.outcome (λ text. Leaves (I.told w.image) (I.told result.image) (λ new. IsMendedIn w.world.script w.world.blocks new text.items)) }
+    ensures halt { IfErr result.outcome (λ h. Leaves (I.told w.image) (I.told result.image)
+        (λ new. IsHaltIn w.world.script w.world.blocks new (I.faults w.image) (I.faults result.image) h)) }
 {
     let mut w = w;
     w.keeps_the_rules();
@@ -49,9 +47,9 @@ fn mend_on<I: ImageDev>(alloc: Global, w: World<I, XqpOp>, plays: &Plays) -> Men
 fn mend_mounted<I: ImageDev>(alloc: Global, m: Mirror<I>, script: &Script) -> MendedRun<I>
     requires form { InForm script.now }
     requires told { IsTold (I.told m.image) m.blocks }
-    ensures report { IfOk result.outcome (λ text. IsMendedIn script.now m.blocks (I.told m.image) (I.told result.image) text.items) }
-    ensures halt { IfErr result.outcome (IsHaltIn script.now m.blocks (I.told m.image) (I.told result.image)
-        (I.faults m.image) (I.faults result.image)) }
+    ensures report { IfOk result.outcome (λ text. Leaves (I.told m.image) (I.told result.image) (λ new. IsMendedIn script.now m.blocks new text.items)) }
+    ensures halt { IfErr result.outcome (λ h. Leaves (I.told m.image) (I.told result.image)
+        (λ new. IsHaltIn script.now m.blocks new (I.faults m.image) (I.faults result.image) h)) }
 {
     match World::<I, XqpOp>::mount(alloc, m, script) {
         Ok(world) => mend_on(alloc, world, &script.plays),
@@ -65,10 +63,10 @@ fn mend_mounted<I: ImageDev>(alloc: Global, m: Mirror<I>, script: &Script) -> Me
 // Runs a script on an image, and mends it then.
 fn mend_image<I: ImageDev>(alloc: Global, image: I, script: &Script) -> MendedRun<I>
     requires form { InForm script.now }
-    ensures passed { IfOk result.outcome (λ text. IsAccepted (I.size image) (I.told image)) }
-    ensures report { IfOk result.outcome (λ text. IfSome (I.told image) (λ bs. IsMendedIn script.now bs (I.told image) (I.told result.image) text.items)) }
-    ensures halt { IfErr result.outcome (IsImageHalt script.now (I.size image) (I.told image) (I.told result.image)
-        (I.faults image) (I.faults result.image)) }
+    ensures inside { IfOk result.outcome (λ text. IsInside (I.size image)) }
+    ensures report { IfOk result.outcome (λ text. OfImage (I.size image) (I.told image) (I.told result.image) (λ old new. IsMendedIn script.now old new text.items)) }
+    ensures halt { IfErr result.outcome (λ h. OfImage (I.size image) (I.told image) (I.told result.image)
+        (λ old new. IsImageHalt script.now (I.size image) old new (I.faults image) (I.faults result.image) h)) }
 {
     match Mirror::load(alloc, image) {
         Ok(mirror) => mend_mounted(alloc, mirror, script),
@@ -81,12 +79,10 @@ fn mend_image<I: ImageDev>(alloc: Global, image: I, script: &Script) -> MendedRu
 
 /// Runs the script that is read on the image, and mends its volume once the last node is over, for its report.
 pub fn run_and_mend<I: ImageDev, T: TextIn>(alloc: Global, image: I, script: &mut T) -> MendedRun<I>
-    ensures passed { IfOk result.outcome (λ text. IfSome (T.left script.old) IsGood × IsAccepted (I.size image) (I.told image)) }
-    ensures report { IfOk result.outcome (λ text. IsMendedReportOn (T.left script.old) (I.told image) (I.told result.image) text.items) }
-    ensures mended { IfOk result.outcome (λ text. IfSome (I.told image) (λ bs. HasRunAndMended (IsScriptOf (T.left script.old)) bs (I.told result.image))) }
-    ensures halt { IfErr result.outcome (IsRunHalt (T.left script.old) (I.size image) (I.told image)
-        (T.faults script.old) (T.faults script.new) (I.faults image) (I.faults result.image)) }
-    ensures left { IfErr result.outcome (IsHaltImage (IsScriptOf (T.left script.old)) (I.told image) (I.told result.image)) }
+    ensures report { IfOk result.outcome (λ text. OfScript (T.left script.old) (λ bytes. OfImage (I.size image) (I.told image) (I.told result.image)
+        (λ old new. IsMendedWith bytes (I.size image) old new text.items))) }
+    ensures halt { IfErr result.outcome (λ h. OfScript (T.left script.old) (λ bytes. OfImage (I.size image) (I.told image) (I.told result.image)
+        (λ old new. IsRunHalt bytes (I.size image) old new (T.faults script.old) (T.faults script.new) (I.faults image) (I.faults result.image) h))) }
 {
     match script_of(alloc, script) {
         Ok(spelt) => mend_image(alloc, image, &spelt),

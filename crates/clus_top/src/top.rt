@@ -1,30 +1,24 @@
-ghost use Rattle.std.specs.Prelude.{◌≡◌, ◌≤◌, List, Option, Some, IfSome};
+ghost use Rattle.std.specs.Prelude.{◌≡◌, ◌≤◌, ℕ, List, Some};
 ghost use Rattle.base_words.specs.Faults.{Rose};
 ghost use Rattle.base_words.specs.Fields.{Block};
-ghost use Rattle.run_engine.specs.Scripts.{IsScriptOf};
+ghost use Rattle.vol_parts.specs.Findings.{AreFindings};
+ghost use Rattle.run_engine.specs.Inputs.{OfScript, OfImage};
 ghost use Rattle.run_engine.specs.Texts.{IsPlainText, Writes};
-ghost use Rattle.clus_top.specs.Ends.{AreFoundIn, IsFoundEnd};
-ghost use Rattle.vol_init.specs.Refusals.{home_of};
-ghost use Rattle.clus_top.specs.Words.{Run, RunRebuild, Soak, wanted_by};
-ghost use Rattle.clus_top.specs.Runs.{IsSoakOf};
-ghost use Rattle.clus_top.specs.Images.{IsFormatted, IsRunImage, IsRunRebuildImage, IsRebuildImage, IsImageAfter, IsRunFaultText, IsMendedFaultText, IsFaultTextOf};
-ghost use Rattle.clus_top.specs.Mendings.{IsMendingText};
-ghost use Rattle.run_engine.specs.Verdicts.{IsRunDue};
-ghost use Rattle.clus_top.specs.Verdicts.{IsAlone, AnswersGood};
-ghost use Rattle.clus_top.specs.Statuses.{IsRunRebuildDue, IsSoakDue, IsAnalysisDue, IsRebuildDue, IsInitDue, IsDue, IsSummaryOn, accepted_text, made_text, sized, IsTextOf};
+ghost use Rattle.clus_top.specs.Calls.{IsAnswer, IsCall};
+ghost use Rattle.clus_top.specs.Ends.{IsFoundEnd};
+ghost use Rattle.clus_top.specs.Statuses.{accepted_text};
+ghost use Rattle.clus_top.specs.Words.{Run, RunRebuild, Soak, Analyze, Rebuild as Mending, Init, wanted_by};
 
 use crate::analysis::{Analysis, analyze_image};
 use crate::format::{Format, init_image};
 use crate::rebuild::{Rebuild, mend_image};
 use crate::run_job::{Ran, run_script, run_soak};
 use crate::run_rebuild::run_and_mend;
-use crate::theorems::{good_runs_are_answered, one_status_is_due};
+use crate::theorems::{good_runs_are_answered, no_other_status_is_due};
 use crate::words::{Job, job_of};
 use blk_drive::ImageDev;
 use fx_text::{TextIn, TextOut, Word};
-use run_engine::{
-    Finished, MendedRun, Status, Stop, tell, tell_cut, tell_findings, tell_halt, tell_text,
-};
+use run_engine::{Finished, MendedRun, Status, halt_of, tell, tell_findings, tell_halt, tell_text};
 use std::alloc::Global;
 use vol_analyze::Finding;
 
@@ -35,23 +29,21 @@ fn run<I: ImageDev, T: TextIn, O: TextOut>(
     script: &mut T,
     out: &mut O,
 ) -> Finished<I>
-    ensures due { IsRunDue (T.left script.old) (I.size image) (I.told image) result.status }
-    ensures script_fault { result.status ≡ Status.ScriptFault → Rose (T.faults script.old) (T.faults script.new) }
-    ensures image_fault { result.status ≡ Status.ImageFault → Rose (I.faults image) (I.faults result.image) }
-    ensures out_fault { result.status ≡ Status.OutFault → Rose (O.faults out.old) (O.faults out.new) }
-    ensures written { Writes (IsTextOf (Some Run) (T.left script.old) (I.size image) (I.told image) (I.told result.image))
-        (IsRunFaultText (IsScriptOf (T.left script.old)) (I.told image) (I.told result.image)) (I.told image)
-        (O.written out.old) (O.written out.new) (O.faults out.old) (O.faults out.new) result.status }
-    ensures after { IsRunImage (IsScriptOf (T.left script.old)) (I.told image) (I.told result.image) result.status }
+    ensures { OfScript (T.left script.old) (λ bytes. OfImage (I.size image) (I.told image) (I.told result.image) (λ old new.
+        IsAnswer (Some Run) bytes (I.size image) old new (O.written out.old) (O.written out.new)
+        (T.faults script.old) (T.faults script.new) (I.faults image) (I.faults result.image) (O.faults out.old) (O.faults out.new) result.status)) }
 {
     let Ran { outcome, image } = run_script(alloc, image, script);
-    let status = match outcome {
-        Ok(text) => tell_text(out, text.as_slice()),
-        Err(Stop::Cut(text)) => tell_cut(out, text.as_slice()),
-        Err(Stop::NoLines) => tell(alloc, out, Status::NoMemory),
-        Err(Stop::By(status)) => tell(alloc, out, status),
-    };
-    Finished { status, image }
+    match outcome {
+        Ok(text) => {
+            let status = tell_text(out, text.as_slice());
+            Finished { status, image }
+        }
+        Err(stop) => {
+            let status = tell_halt(alloc, out, halt_of(stop));
+            Finished { status, image }
+        }
+    }
 }
 
 // The job `run --rebuild`.
@@ -61,14 +53,9 @@ fn run_rebuild<I: ImageDev, T: TextIn, O: TextOut>(
     script: &mut T,
     out: &mut O,
 ) -> Finished<I>
-    ensures due { IsRunRebuildDue (T.left script.old) (I.size image) (I.told image) result.status }
-    ensures script_fault { result.status ≡ Status.ScriptFault → Rose (T.faults script.old) (T.faults script.new) }
-    ensures image_fault { result.status ≡ Status.ImageFault → Rose (I.faults image) (I.faults result.image) }
-    ensures out_fault { result.status ≡ Status.OutFault → Rose (O.faults out.old) (O.faults out.new) }
-    ensures written { Writes (IsTextOf (Some RunRebuild) (T.left script.old) (I.size image) (I.told image) (I.told result.image))
-        (IsMendedFaultText (IsScriptOf (T.left script.old)) (I.told image) (I.told result.image)) (I.told image)
-        (O.written out.old) (O.written out.new) (O.faults out.old) (O.faults out.new) result.status }
-    ensures after { IsRunRebuildImage (IsScriptOf (T.left script.old)) (I.told image) (I.told result.image) result.status }
+    ensures { OfScript (T.left script.old) (λ bytes. OfImage (I.size image) (I.told image) (I.told result.image) (λ old new.
+        IsAnswer (Some RunRebuild) bytes (I.size image) old new (O.written out.old) (O.written out.new)
+        (T.faults script.old) (T.faults script.new) (I.faults image) (I.faults result.image) (O.faults out.old) (O.faults out.new) result.status)) }
 {
     let MendedRun { outcome, image } = run_and_mend(alloc, image, script);
     match outcome {
@@ -83,33 +70,32 @@ fn run_rebuild<I: ImageDev, T: TextIn, O: TextOut>(
     }
 }
 
-// The job `soak`.
+// The job `soak`. It reads no script.
 fn soak<I: ImageDev, O: TextOut>(alloc: Global, image: I, n: u32, out: &mut O) -> Finished<I>
     requires { n ≤ 256 }
-    ensures due { IsSoakDue n (I.size image) (I.told image) result.status }
-    ensures image_fault { result.status ≡ Status.ImageFault → Rose (I.faults image) (I.faults result.image) }
-    ensures out_fault { result.status ≡ Status.OutFault → Rose (O.faults out.old) (O.faults out.new) }
-    ensures written { Writes (IsSummaryOn n (I.told image) (I.told result.image))
-        (IsRunFaultText (IsSoakOf n) (I.told image) (I.told result.image)) (I.told image)
-        (O.written out.old) (O.written out.new) (O.faults out.old) (O.faults out.new) result.status }
-    ensures after { IsRunImage (IsSoakOf n) (I.told image) (I.told result.image) result.status }
+    ensures { (bytes : List ℕ) (faults : ℕ) → OfImage (I.size image) (I.told image) (I.told result.image) (λ old new.
+        IsAnswer (Some (Soak n)) bytes (I.size image) old new (O.written out.old) (O.written out.new)
+        faults faults (I.faults image) (I.faults result.image) (O.faults out.old) (O.faults out.new) result.status) }
 {
     let Ran { outcome, image } = run_soak(alloc, image, n);
-    let status = match outcome {
-        Ok(text) => tell_text(out, text.as_slice()),
-        Err(Stop::Cut(text)) => tell_cut(out, text.as_slice()),
-        Err(Stop::NoLines) => tell(alloc, out, Status::NoMemory),
-        Err(Stop::By(status)) => tell(alloc, out, status),
-    };
-    Finished { status, image }
+    match outcome {
+        Ok(text) => {
+            let status = tell_text(out, text.as_slice());
+            Finished { status, image }
+        }
+        Err(stop) => {
+            let status = tell_halt(alloc, out, halt_of(stop));
+            Finished { status, image }
+        }
+    }
 }
 
 // Prints what is found.
 fn tell_found<O: TextOut>(alloc: Global, out: &mut O, findings: &[Finding]) -> Status
     ensures end { IsFoundEnd findings.now result }
     ensures out_fault { result ≡ Status.OutFault → Rose (O.faults out.old) (O.faults out.new) }
-    ensures written { (told : Option (List Block)) → IfSome told (AreFoundIn findings.now)
-        → Writes (λ text. text ≡ accepted_text) IsPlainText told (O.written out.old) (O.written out.new) (O.faults out.old) (O.faults out.new) result }
+    ensures written { (bs : List Block) → AreFindings bs findings.now
+        → Writes (λ text. text ≡ accepted_text) IsPlainText bs (O.written out.old) (O.written out.new) (O.faults out.old) (O.faults out.new) result }
 {
     match findings {
         [] => tell_text(out, b"accepted\n"),
@@ -119,36 +105,40 @@ fn tell_found<O: TextOut>(alloc: Global, out: &mut O, findings: &[Finding]) -> S
 
 // The job `analyze`.
 fn analyze<I: ImageDev, O: TextOut>(alloc: Global, image: I, out: &mut O) -> Finished<I>
-    ensures due { IsAnalysisDue (I.size image) (I.told image) result.status }
-    ensures image_fault { result.status ≡ Status.ImageFault → Rose (I.faults image) (I.faults result.image) }
-    ensures out_fault { result.status ≡ Status.OutFault → Rose (O.faults out.old) (O.faults out.new) }
-    ensures written { Writes (λ text. text ≡ accepted_text) IsPlainText (I.told image)
-        (O.written out.old) (O.written out.new) (O.faults out.old) (O.faults out.new) result.status }
-    ensures told { I.told result.image ≡ I.told image }
+    ensures { (bytes : List ℕ) (faults : ℕ) → OfImage (I.size image) (I.told image) (I.told result.image) (λ old new.
+        IsAnswer (Some Analyze) bytes (I.size image) old new (O.written out.old) (O.written out.new)
+        faults faults (I.faults image) (I.faults result.image) (O.faults out.old) (O.faults out.new) result.status) }
 {
     let Analysis { outcome, image } = analyze_image(alloc, image);
-    let status = match outcome {
-        Ok(findings) => tell_found(alloc, out, findings.as_slice()),
-        Err(status) => tell(alloc, out, status),
-    };
-    Finished { status, image }
+    match outcome {
+        Ok(findings) => {
+            let status = tell_found(alloc, out, findings.as_slice());
+            Finished { status, image }
+        }
+        Err(fault) => {
+            let status = tell(alloc, out, fault);
+            Finished { status, image }
+        }
+    }
 }
 
 // The job `rebuild`.
 fn rebuild<I: ImageDev, O: TextOut>(alloc: Global, image: I, out: &mut O) -> Finished<I>
-    ensures due { IsRebuildDue (I.size image) (I.told image) result.status }
-    ensures image_fault { result.status ≡ Status.ImageFault → Rose (I.faults image) (I.faults result.image) }
-    ensures out_fault { result.status ≡ Status.OutFault → Rose (O.faults out.old) (O.faults out.new) }
-    ensures written { Writes (λ text. IfSome (I.told image) (λ bs. IsMendingText bs (I.told result.image) text)) IsPlainText (I.told image)
-        (O.written out.old) (O.written out.new) (O.faults out.old) (O.faults out.new) result.status }
-    ensures after { IsRebuildImage (I.told image) (I.told result.image) result.status }
+    ensures { (bytes : List ℕ) (faults : ℕ) → OfImage (I.size image) (I.told image) (I.told result.image) (λ old new.
+        IsAnswer (Some Mending) bytes (I.size image) old new (O.written out.old) (O.written out.new)
+        faults faults (I.faults image) (I.faults result.image) (O.faults out.old) (O.faults out.new) result.status) }
 {
     let Rebuild { outcome, image } = mend_image(alloc, image);
-    let status = match outcome {
-        Ok(text) => tell_text(out, text.as_slice()),
-        Err(status) => tell(alloc, out, status),
-    };
-    Finished { status, image }
+    match outcome {
+        Ok(text) => {
+            let status = tell_text(out, text.as_slice());
+            Finished { status, image }
+        }
+        Err(fault) => {
+            let status = tell(alloc, out, fault);
+            Finished { status, image }
+        }
+    }
 }
 
 // The job `init`.
@@ -160,19 +150,21 @@ fn init<I: ImageDev, O: TextOut>(
     label: &[u8],
     out: &mut O,
 ) -> Finished<I>
-    ensures due { IsInitDue cluster files label.now (I.size image) result.status }
-    ensures image_fault { result.status ≡ Status.ImageFault → Rose (I.faults image) (I.faults result.image) }
-    ensures out_fault { result.status ≡ Status.OutFault → Rose (O.faults out.old) (O.faults out.new) }
-    ensures written { Writes (λ text. text ≡ made_text label.now (sized cluster files (I.size image))) IsPlainText (I.told image)
-        (O.written out.old) (O.written out.new) (O.faults out.old) (O.faults out.new) result.status }
-    ensures after { IfSome (I.told image) (λ old. IsFormatted (home_of cluster files label.now) old (I.told result.image) result.status) }
+    ensures { (bytes : List ℕ) (faults : ℕ) → OfImage (I.size image) (I.told image) (I.told result.image) (λ old new.
+        IsAnswer (Some (Init cluster files label.now)) bytes (I.size image) old new (O.written out.old) (O.written out.new)
+        faults faults (I.faults image) (I.faults result.image) (O.faults out.old) (O.faults out.new) result.status) }
 {
     let Format { outcome, image } = init_image(alloc, image, cluster, files, label);
-    let status = match outcome {
-        Ok(text) => tell_text(out, text.as_slice()),
-        Err(status) => tell(alloc, out, status),
-    };
-    Finished { status, image }
+    match outcome {
+        Ok(text) => {
+            let status = tell_text(out, text.as_slice());
+            Finished { status, image }
+        }
+        Err(fault) => {
+            let status = tell(alloc, out, fault);
+            Finished { status, image }
+        }
+    }
 }
 
 // Does the job of the words.
@@ -183,14 +175,9 @@ fn done<I: ImageDev, T: TextIn, O: TextOut>(
     script: &mut T,
     out: &mut O,
 ) -> Finished<I>
-    ensures due { IsDue (wanted_by words.now) (T.left script.old) (I.size image) (I.told image) result.status }
-    ensures script_fault { result.status ≡ Status.ScriptFault → Rose (T.faults script.old) (T.faults script.new) }
-    ensures image_fault { result.status ≡ Status.ImageFault → Rose (I.faults image) (I.faults result.image) }
-    ensures out_fault { result.status ≡ Status.OutFault → Rose (O.faults out.old) (O.faults out.new) }
-    ensures written { Writes (IsTextOf (wanted_by words.now) (T.left script.old) (I.size image) (I.told image) (I.told result.image))
-        (IsFaultTextOf (wanted_by words.now) (T.left script.old) (I.told image) (I.told result.image)) (I.told image)
-        (O.written out.old) (O.written out.new) (O.faults out.old) (O.faults out.new) result.status }
-    ensures after { IsImageAfter (wanted_by words.now) (T.left script.old) (I.told image) (I.told result.image) result.status }
+    ensures { OfScript (T.left script.old) (λ bytes. OfImage (I.size image) (I.told image) (I.told result.image) (λ old new.
+        IsAnswer (wanted_by words.now) bytes (I.size image) old new (O.written out.old) (O.written out.new)
+        (T.faults script.old) (T.faults script.new) (I.faults image) (I.faults result.image) (O.faults out.old) (O.faults out.new) result.status)) }
 {
     match job_of(words) {
         Some(Job::Run) => run(alloc, image, script, out),
@@ -234,36 +221,15 @@ pub fn vmsclus<I: ImageDev, T: TextIn, O: TextOut>(
     script: &mut T,
     out: &mut O,
 ) -> Finished<I>
-    // What the status says of the words, the script, the image's size and its blocks.
-    ensures due { IsDue (wanted_by words.now) (T.left script.old) (I.size image) (I.told image) result.status }
-
-    // A fault comes only where the count of that very object rose in this call.
-    ensures script_fault { result.status ≡ Status.ScriptFault → Rose (T.faults script.old) (T.faults script.new) }
-    ensures image_fault { result.status ≡ Status.ImageFault → Rose (I.faults image) (I.faults result.image) }
-    ensures out_fault { result.status ≡ Status.OutFault → Rose (O.faults out.old) (O.faults out.new) }
-
-    // With status 0 the job's text was written, with a fault of the sink first bytes of it, with findings these, and else the
-    // text of the status; in front of that of a write that failed in a run or a soak the lines of the answers before it, and so in front of
-    // that of a run whose volume cannot be mended.
-    ensures written { Writes (IsTextOf (wanted_by words.now) (T.left script.old) (I.size image) (I.told image) (I.told result.image))
-        (IsFaultTextOf (wanted_by words.now) (T.left script.old) (I.told image) (I.told result.image)) (I.told image)
-        (O.written out.old) (O.written out.new) (O.faults out.old) (O.faults out.new) result.status }
-
-    // A run or a soak that has come to its end leaves the drive of its nodes, which spells the catalogue of the report. One that has not
-    // leaves the drive as far as it came; where a write failed its block is the old one or the new one. A mending leaves an accepted
-    // volume, which tells the mended catalogue; after a fault or want of memory the blocks mend to the same as the old ones, and where
-    // these have a fatal finding they are the old ones. A run that is mended then leaves what a mending leaves of the drive of its nodes. A format leaves a new volume; after a fault or want of memory there are the old
-    // blocks, or no home block that is read, or the new volume. Nothing else changes the image's blocks.
-    ensures after { IsImageAfter (wanted_by words.now) (T.left script.old) (I.told image) (I.told result.image) result.status }
-
-    // Of the statuses but faults, want of memory and, of a run that is mended then, `NotMendable`, no other one is due than that of the call.
-    ensures alone { IsAlone (wanted_by words.now) (T.left script.old) (I.size image) (I.told image) result.status }
-
-    // A good script on an accepted volume is answered: with status 0, unless a call of an object fails or memory runs out, or the volume of a
-    // run that is mended then cannot be mended.
-    ensures answered { AnswersGood (wanted_by words.now) (T.left script.old) (I.size image) (I.told image) result.status }
+    // There are bytes of a script, blocks of an image, as many as it has, and blocks that it has then, of which all of `IsCall` holds
+    // together: what the status says of what came in, when a fault comes, what was written, which blocks are left, that no other status was
+    // due, and that a good script is answered. If the source or the image tells its content, they are these. If it does not, as a file, no
+    // contract says which they are.
+    ensures { OfScript (T.left script.old) (λ bytes. OfImage (I.size image) (I.told image) (I.told result.image) (λ old new.
+        IsCall (wanted_by words.now) bytes (I.size image) old new (O.written out.old) (O.written out.new)
+        (T.faults script.old) (T.faults script.new) (I.faults image) (I.faults result.image) (O.faults out.old) (O.faults out.new) result.status)) }
 {
-    one_status_is_due();
+    no_other_status_is_due();
     good_runs_are_answered();
     done(alloc, words, image, script, out)
 }

@@ -1,18 +1,21 @@
 -- What the laws of statuses say of one call.
-use Rattle.std.proofs.Common.{◌≡◌, ◌∙◌, ℕ, List, Option, Some, None, sym}
+use Rattle.std.proofs.Common.{ℕ, List, Option, Some, None}
 use Rattle.base_words.specs.Fields.{Block}
 use Rattle.run_engine.specs.declared.status.Status.{Status}
 use Rattle.live_run.specs.declared.words.Job.{Job}
+use Rattle.live_run.specs.Calls.{IsAnswer, IsCall}
+use Rattle.live_run.specs.Laws.{NoOtherLiveIsDue, GoodLiveRunsAreAnswered, AnswersGood}
 use Rattle.live_run.specs.Statuses.{IsDue}
-use Rattle.live_run.specs.Laws.{OneLiveStatusIsDue, GoodLiveRunsAreAnswered, IsAlone, AnswersGood}
 
-pub alone_by : (what : Option Job) (left : Option (List ℕ)) (size : ℕ) (told new : Option (List Block)) (s : Status) → IsDue what left size told new s → OneLiveStatusIsDue → IsAlone what left size told new s
-alone_by what None size told new s due law = tt
-alone_by what (Some bytes) size None new s due law = tt
-alone_by what (Some bytes) size (Some bs) new s due law = λ fs found v other w h. let r = law what bytes size bs fs found in r.alone new other w h ∙ sym (r.alone new s v due)
+answered_by : (what : Option Job) (bytes : List ℕ) (size : ℕ) (old new : List Block) (s : Status) → IsDue what bytes size old new s → GoodLiveRunsAreAnswered → AnswersGood what bytes size old s
+answered_by None bytes size old new s due law = tt
+answered_by (Some what) bytes size old new s due law = λ good inside none v. law what bytes size old new s good inside none v due
 
-pub answered_by : (what : Option Job) (left : Option (List ℕ)) (size : ℕ) (told new : Option (List Block)) (s : Status) → IsDue what left size told new s → GoodLiveRunsAreAnswered → AnswersGood what left size told s
-answered_by None left size told new s due law = tt
-answered_by (Some what) None size told new s due law = tt
-answered_by (Some what) (Some bytes) size None new s due law = tt
-answered_by (Some what) (Some bytes) size (Some bs) new s due law = λ good inside none v. law what bytes size bs new s good inside none v due
+module _ (what : Option Job) (size : ℕ) (was now : Option (List ℕ)) (read reading had has before after : ℕ) (s : Status) where
+  pub called : NoOtherLiveIsDue → GoodLiveRunsAreAnswered → (bytes : List ℕ) (old new : List Block) → IsAnswer what bytes size old new was now read reading had has before after s
+      → IsCall what bytes size old new was now read reading had has before after s
+  called alone good bytes old new a = record {
+    answer = a;
+    alone = alone what bytes size old new s a.due;
+    answered = answered_by what bytes size old new s a.due good;
+  }

@@ -15,6 +15,7 @@ use Rattle.run_engine.specs.declared.stop.Stop.{Stop}
 use Rattle.run_engine.specs.declared.over_mending.Halt.{Halt}
 use Rattle.run_engine.specs.declared.over_mending.Halt.TheVariants as halt
 use Rattle.run_engine.specs.Stops.{report_text, IsStopOf}
+use Rattle.run_engine.specs.Inputs.{Leaves}
 use Rattle.run_engine.specs.Halts.{halt_of, IsMendedBy, IsHaltBy}
 use Rattle.live_run.specs.declared.words.Job.{Job}
 use Rattle.live_run.specs.declared.words.Job.TheVariants as job
@@ -25,12 +26,12 @@ use Rattle.live_run.specs.Lives.{IsCut, IsLacking, IsUnmended}
 -- a world in which every node is over is told with this text, and the image has this then
 abbrev pub IsToldOver : Job → Plain → Option (List Block) → Option (List Block) → List ℕ → Type 0
 IsToldOver job.Live w told new text = (new ≡ told) × ((c : Cat) × HasEnded w c × (text ≡ report_text w.history c))
-IsToldOver job.LiveRebuild w told new text = (c : Cat) → HasEnded w c → IsMendedBy w c told new text
+IsToldOver job.LiveRebuild w told new text = (c : Cat) → HasEnded w c → Leaves told new (λ bs. IsMendedBy w c bs text)
 
 -- or why it has no text
 abbrev pub IsHaltOver : Job → Plain → Option (List Block) → Option (List Block) → ℕ → ℕ → Halt → Type 0
 IsHaltOver job.Live w told new had has h = (new ≡ told) × (h ≡ halt.By status.NoMemory)
-IsHaltOver job.LiveRebuild w told new had has h = (c : Cat) → HasEnded w c → IsHaltBy w c told new had has h
+IsHaltOver job.LiveRebuild w told new had has h = (c : Cat) → HasEnded w c → Leaves told new (λ bs. IsHaltBy w c bs had has h)
 
 -- how the run after the threads is told, with its text or with why there is none
 abbrev pub IsToldEnd : {A : Type 0} → Job → Plain → Result A RunFault → Option (List Block) → Option (List Block) → List ℕ → Type 0
@@ -44,14 +45,14 @@ IsHaltAfter what w (Err f) told new had has h = (new ≡ told) × (has ≡ had) 
 -- ---- on the blocks of a volume
 
 -- Why there is no end, but for a write that failed and a drive that cannot be mended, and what the image has then.
-abbrev pub IsQuiet : Job → Script → List Block → Option (List Block) → Option (List Block) → Status → Type 0
-IsQuiet what script bs told new (status.NotAccepted f) = IsFirstFound bs f × (new ≡ told)
-IsQuiet what script bs told new status.NoMemory = (new ≡ told) ⊎ IsLacking what script bs told new
-IsQuiet what script bs told new s = ⊥
+abbrev pub IsQuiet : Job → Script → List Block → List Block → Status → Type 0
+IsQuiet what script bs new (status.NotAccepted f) = IsFirstFound bs f × (new ≡ bs)
+IsQuiet what script bs new status.NoMemory = (new ≡ bs) ⊎ IsLacking what script bs new
+IsQuiet what script bs new s = ⊥
 
 -- why there is none
-abbrev pub IsHalt : Job → Script → List Block → Option (List Block) → Option (List Block) → ℕ → ℕ → Halt → Type 0
-IsHalt what script bs told new had has (halt.Cut text) = Rose had has × IsCut what script bs told new text.items
-IsHalt what script bs told new had has halt.NoLines = Rose had has × ((text : List ℕ) × IsCut what script bs told new text)
-IsHalt what script bs told new had has (halt.Unmended text f) = Accepts bs × IsUnmended what script bs told new f text.items
-IsHalt what script bs told new had has (halt.By s) = IsQuiet what script bs told new s
+abbrev pub IsHalt : Job → Script → List Block → List Block → ℕ → ℕ → Halt → Type 0
+IsHalt what script bs new had has (halt.Cut text) = Rose had has × IsCut what script bs new text.items
+IsHalt what script bs new had has halt.NoLines = Rose had has × ((text : List ℕ) × IsCut what script bs new text)
+IsHalt what script bs new had has (halt.Unmended text f) = Accepts bs × IsUnmended what script bs new f text.items
+IsHalt what script bs new had has (halt.By s) = IsQuiet what script bs new s

@@ -1,5 +1,5 @@
 -- Of all statuses of a live call exactly one is due, and a good script on an accepted volume is answered.
-use Rattle.std.specs.Prelude.{◌≡◌, ℕ, Bool, true, List, Option, Some, None, IfSome}
+use Rattle.std.specs.Prelude.{◌≡◌, ℕ, Bool, true, List, Option, Some, None}
 use Rattle.base_words.specs.Fields.{Block}
 use Rattle.blk_drive.specs.Images.{IsInside}
 use Rattle.vol_parts.specs.declared.finding.Finding.{Finding}
@@ -17,29 +17,33 @@ abbrev pub is_verdict_of : Option Job → Status → Bool
 is_verdict_of (Some job.LiveRebuild) s = is_mended_verdict s
 is_verdict_of what s = is_verdict s
 
--- of a job, a script and blocks that are told one such status is due, and no other one, whatever the image has then
+-- of a job, a script and blocks one such status is due, and no other one, whatever the image has then
 pub record HasOneVerdict (what : Option Job) (bytes : List ℕ) (size : ℕ) (bs : List Block) : Type 0 where
   pub status : Status
   pub verdict : is_verdict_of what status ≡ true
-  pub due : (new : Option (List Block)) → IsDue what (Some bytes) size (Some bs) new status
-  pub alone : (new : Option (List Block)) (other : Status) → is_verdict_of what other ≡ true → IsDue what (Some bytes) size (Some bs) new other → other ≡ status
+  pub due : (new : List Block) → IsDue what bytes size bs new status
+  pub alone : (new : List Block) (other : Status) → is_verdict_of what other ≡ true → IsDue what bytes size bs new other → other ≡ status
 
 abbrev pub OneLiveStatusIsDue : Type 0
 OneLiveStatusIsDue = (what : Option Job) (bytes : List ℕ) (size : ℕ) (bs : List Block) (fs : List Finding) → AreFindings bs fs → HasOneVerdict what bytes size bs
 
 -- on an accepted volume the one such status of a good script is Ok
 abbrev pub GoodLiveRunsAreAnswered : Type 0
-GoodLiveRunsAreAnswered = (what : Job) (bytes : List ℕ) (size : ℕ) (bs : List Block) (new : Option (List Block)) (s : Status) → IsGood bytes → IsInside size → Accepts bs
-    → is_verdict_of (Some what) s ≡ true → IsDue (Some what) (Some bytes) size (Some bs) new s → s ≡ status.Ok
+GoodLiveRunsAreAnswered = (what : Job) (bytes : List ℕ) (size : ℕ) (bs : List Block) (new : List Block) (s : Status) → IsGood bytes → IsInside size → Accepts bs
+    → is_verdict_of (Some what) s ≡ true → IsDue (Some what) bytes size bs new s → s ≡ status.Ok
 
 -- ---- of one call
 
--- where script and blocks are told, no other such status is due than that of the call
-abbrev pub IsAlone : Option Job → Option (List ℕ) → ℕ → Option (List Block) → Option (List Block) → Status → Type 0
-IsAlone what left size told new s = IfSome left (λ bytes. IfSome told (λ bs. (fs : List Finding) → AreFindings bs fs → is_verdict_of what s ≡ true
-    → (other : Status) → is_verdict_of what other ≡ true → IsDue what (Some bytes) size (Some bs) new other → other ≡ s))
+-- of such a status: no other such one is due
+abbrev pub IsAlone : Option Job → List ℕ → ℕ → List Block → List Block → Status → Type 0
+IsAlone what bytes size old new s = is_verdict_of what s ≡ true
+    → (other : Status) → is_verdict_of what other ≡ true → IsDue what bytes size old new other → other ≡ s
 
 -- such a status of a good script on an accepted volume is Ok
-abbrev pub AnswersGood : Option Job → Option (List ℕ) → ℕ → Option (List Block) → Status → Type 0
-AnswersGood None left size told s = Unit {0}
-AnswersGood (Some what) left size told s = IfSome left (λ bytes. IfSome told (λ bs. IsGood bytes → IsInside size → Accepts bs → is_verdict_of (Some what) s ≡ true → s ≡ status.Ok))
+abbrev pub AnswersGood : Option Job → List ℕ → ℕ → List Block → Status → Type 0
+AnswersGood None bytes size bs s = Unit {0}
+AnswersGood (Some what) bytes size bs s = IsGood bytes → IsInside size → Accepts bs → is_verdict_of (Some what) s ≡ true → s ≡ status.Ok
+
+-- so it is of each status that is due
+abbrev pub NoOtherLiveIsDue : Type 0
+NoOtherLiveIsDue = (what : Option Job) (bytes : List ℕ) (size : ℕ) (old new : List Block) (s : Status) → IsDue what bytes size old new s → IsAlone what bytes size old new s

@@ -6,7 +6,7 @@ use crate::gate::Gate;
 use crate::top::vmsclus_live;
 use blk_drive::ImageDev;
 use fx_text::{TextIn, TextOut};
-use run_engine::{Called, exit_code, no_memory, words_of};
+use run_engine::{Called, blocks_are_counted, exit_code, no_memory, words_of};
 use std::alloc::Global;
 use std::sync::Wait;
 use std::thread::Threads;
@@ -40,6 +40,7 @@ pub fn exit_call<
     })
         (O.written out.new) (I.told result.image) (T.faults script.new) (I.faults result.image) (O.faults out.new) (exit_status result.code) }
 {
+    blocks_are_counted(&image);
     match words_of(alloc, line) {
         Ok(words) => {
             let finished = vmsclus_live(rt, alloc, words.as_slice(), image, script, out, gate);

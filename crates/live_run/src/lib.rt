@@ -6,9 +6,9 @@
 //! let finished = vmsclus_live(rt, alloc, words, image, &mut script, &mut out, &OpenGate);
 //! ```
 //!
-//! Of what a script, the words and a volume say, and of what is written, it promises what `vmsclus` does (`due`, `written`, `after`), if it
-//! returns: with status 0 the report is that of a history that replays from the catalogue of the volume, whole. A good script on an accepted
-//! volume is answered (`good_live_runs_are_answered`). That several threads ran, and that they made the events, tests show.
+//! Of what a script, the words and a volume say, and of what is written, it promises what `vmsclus` does (`due`, `written`, `left` of
+//! `IsCall`), if it returns: with status 0 the report is that of a history that replays from the catalogue of the volume, whole. A good script on an accepted
+//! volume is answered (`good_live_runs_are_answered`), and of one status that is due no other one is (`no_other_live_status_is_due`). That several threads ran, and that they made the events, tests show.
 //!
 //! `exit_call` makes the call with all of the words that it is given, in order, and answers the number of its status and the image, for which
 //! what the call says holds (`IsEnd`).
@@ -31,6 +31,8 @@ pub use gate::{Gate, OpenGate};
 pub use live::mounted;
 pub use rest::finish;
 pub use run_engine::{Called, Finished, Status, no_memory};
-pub use theorems::{good_live_runs_are_answered, one_live_status_is_due};
+pub use theorems::{
+    good_live_runs_are_answered, no_other_live_status_is_due, one_live_status_is_due,
+};
 pub use threads::{Task, tasks_of};
 pub use top::vmsclus_live;

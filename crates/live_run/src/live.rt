@@ -1,17 +1,18 @@
 //! A script whose nodes are threads, on an image.
 
-ghost use Rattle.std.specs.Prelude.{◌≡◌, IfOk, IfErr, IfSome, OnOk};
+ghost use Rattle.std.specs.Prelude.{◌≡◌, IfOk, IfErr, OnOk};
 ghost use Rattle.plain_cat.specs.declared.cat.Cat.{Cat};
 ghost use Rattle.plain_cat.specs.InForm.{InForm};
 ghost use Rattle.blk_drive.specs.Telling.{IsTold};
 ghost use Rattle.core_state.specs.Mounting.{IsMounted, IsMountEnd};
 ghost use Rattle.core_state.specs.Ends.{AllOver};
 ghost use Rattle.run_engine.specs.Ended.{HasEnded};
-ghost use Rattle.run_engine.specs.Texts.{IsGood, IsAccepted};
+ghost use Rattle.blk_drive.specs.Images.{IsInside};
+ghost use Rattle.run_engine.specs.Inputs.{OfScript, Leaves, OfImage};
 ghost use Rattle.run_engine.specs.Stops.{report_text};
 ghost use Rattle.live_run.specs.Lives.{IsEnd};
 ghost use Rattle.live_run.specs.Ends.{IsHalt, IsHaltAfter, IsHaltOver, IsToldEnd, IsToldOver};
-ghost use Rattle.live_run.specs.Statuses.{IsImageHalt, IsReportOn, IsRunHalt};
+ghost use Rattle.live_run.specs.Statuses.{IsImageHalt, IsReported, IsRunHalt};
 
 use crate::gate::Gate;
 use crate::rest::finish;
@@ -23,8 +24,8 @@ use fx_text::TextIn;
 use op_law::Operation;
 use plain_cat::Script;
 use run_engine::{
-    Halt, MendedRun, RunFault, Status, halt_of, load_status, mend_over, mount_status, report_of,
-    script_of, stop_of,
+    Halt, MendedRun, RunFault, Status, blocks_are_counted, halt_of, load_status, mend_over,
+    mount_status, report_of, script_of, stop_of,
 };
 use std::alloc::Global;
 use std::sync::Wait;
@@ -111,8 +112,9 @@ fn live_on<R: Threads + Wait + Sync, I: ImageDev + Send, G: Gate + Sync>(
 ) -> MendedRun<I>
     requires mounted { IsMounted world.world.blocks world.world.script world.world }
     requires told { IsTold (I.told world.image) world.world.blocks }
-    ensures ended { IfOk result.outcome (λ text. IsEnd job world.world.script world.world.blocks (I.told world.image) (I.told result.image) text.items) }
-    ensures halt { IfErr result.outcome (IsHalt job world.world.script world.world.blocks (I.told world.image) (I.told result.image) (I.faults world.image) (I.faults result.image)) }
+    ensures ended { IfOk result.outcome (λ text. Leaves (I.told world.image) (I.told result.image) (λ new. IsEnd job world.world.script world.world.blocks new text.items)) }
+    ensures halt { IfErr result.outcome (λ h. Leaves (I.told world.image) (I.told result.image)
+        (λ new. IsHalt job world.world.script world.world.blocks new (I.faults world.image) (I.faults result.image) h)) }
 {
     world.keeps_the_rules();
     match lived(rt, alloc, world, gate) {
@@ -155,8 +157,9 @@ fn live_mounted<R: Threads + Wait + Sync, I: ImageDev + Send, G: Gate + Sync>(
 ) -> MendedRun<I>
     requires form { InForm script.now }
     requires told { IsTold (I.told m.image) m.blocks }
-    ensures ended { IfOk result.outcome (λ text. IsEnd job script.now m.blocks (I.told m.image) (I.told result.image) text.items) }
-    ensures halt { IfErr result.outcome (IsHalt job script.now m.blocks (I.told m.image) (I.told result.image) (I.faults m.image) (I.faults result.image)) }
+    ensures ended { IfOk result.outcome (λ text. Leaves (I.told m.image) (I.told result.image) (λ new. IsEnd job script.now m.blocks new text.items)) }
+    ensures halt { IfErr result.outcome (λ h. Leaves (I.told m.image) (I.told result.image)
+        (λ new. IsHalt job script.now m.blocks new (I.faults m.image) (I.faults result.image) h)) }
 {
     match mounted(alloc, m, script) {
         Ok(world) => live_on(rt, alloc, world, gate, job),
@@ -177,10 +180,12 @@ fn live_image<R: Threads + Wait + Sync, I: ImageDev + Send, G: Gate + Sync>(
     job: Job,
 ) -> MendedRun<I>
     requires form { InForm script.now }
-    ensures passed { IfOk result.outcome (λ text. IsAccepted (I.size image) (I.told image)) }
-    ensures ended { IfOk result.outcome (λ text. IfSome (I.told image) (λ bs. IsEnd job script.now bs (I.told image) (I.told result.image) text.items)) }
-    ensures halt { IfErr result.outcome (IsImageHalt job script.now (I.size image) (I.told image) (I.told result.image) (I.faults image) (I.faults result.image)) }
+    ensures inside { IfOk result.outcome (λ text. IsInside (I.size image)) }
+    ensures ended { IfOk result.outcome (λ text. OfImage (I.size image) (I.told image) (I.told result.image) (λ old new. IsEnd job script.now old new text.items)) }
+    ensures halt { IfErr result.outcome (λ h. OfImage (I.size image) (I.told image) (I.told result.image)
+        (λ old new. IsImageHalt job script.now (I.size image) old new (I.faults image) (I.faults result.image) h)) }
 {
+    blocks_are_counted(&image);
     match Mirror::load(alloc, image) {
         Ok(mirror) => live_mounted(rt, alloc, mirror, script, gate, job),
         Err(LoadRefused { fault, image }) => MendedRun {
@@ -199,11 +204,12 @@ pub fn live_script<R: Threads + Wait + Sync, I: ImageDev + Send, T: TextIn, G: G
     gate: &G,
     job: Job,
 ) -> MendedRun<I>
-    ensures passed { IfOk result.outcome (λ text. IfSome (T.left script.old) IsGood × IsAccepted (I.size image) (I.told image)) }
-    ensures report { IfOk result.outcome (λ text. IsReportOn job (T.left script.old) (I.told image) (I.told result.image) text.items) }
-    ensures halt { IfErr result.outcome (IsRunHalt job (T.left script.old) (I.size image) (I.told image) (I.told result.image)
-        (T.faults script.old) (T.faults script.new) (I.faults image) (I.faults result.image)) }
+    ensures report { IfOk result.outcome (λ text. OfScript (T.left script.old) (λ bytes. OfImage (I.size image) (I.told image) (I.told result.image)
+        (λ old new. IsReported job bytes (I.size image) old new text.items))) }
+    ensures halt { IfErr result.outcome (λ h. OfScript (T.left script.old) (λ bytes. OfImage (I.size image) (I.told image) (I.told result.image)
+        (λ old new. IsRunHalt job bytes (I.size image) old new (T.faults script.old) (T.faults script.new) (I.faults image) (I.faults result.image) h))) }
 {
+    blocks_are_counted(&image);
     match script_of(alloc, script) {
         Ok(spelt) => live_image(rt, alloc, image, &spelt, gate, job),
         Err(status) => MendedRun {

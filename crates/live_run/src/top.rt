@@ -1,17 +1,15 @@
-ghost use Rattle.std.specs.Prelude.{◌≡◌};
-ghost use Rattle.base_words.specs.Faults.{Rose};
-ghost use Rattle.run_engine.specs.Texts.{Writes};
+ghost use Rattle.std.specs.Prelude.{Some};
+ghost use Rattle.run_engine.specs.Inputs.{OfScript, OfImage};
+ghost use Rattle.live_run.specs.Calls.{IsAnswer, IsCall};
 ghost use Rattle.live_run.specs.Words.{job_of};
-ghost use Rattle.live_run.specs.Laws.{IsAlone, AnswersGood};
-ghost use Rattle.live_run.specs.Statuses.{IsDue, IsLiveDue, IsTextOf, IsReportOn, IsFaultTextOf, IsLiveFaultText, IsImageAfter, IsLiveImage};
 
 use crate::gate::Gate;
 use crate::live::live_script;
-use crate::theorems::{good_live_runs_are_answered, one_live_status_is_due};
+use crate::theorems::{good_live_runs_are_answered, no_other_live_status_is_due};
 use crate::words::{Job, job_of};
 use blk_drive::ImageDev;
 use fx_text::{TextIn, TextOut, Word};
-use run_engine::{Finished, MendedRun, Status, tell, tell_halt, tell_text};
+use run_engine::{Finished, MendedRun, Status, blocks_are_counted, tell, tell_halt, tell_text};
 use std::alloc::Global;
 use std::sync::Wait;
 use std::thread::Threads;
@@ -26,14 +24,9 @@ fn live<R: Threads + Wait + Sync, I: ImageDev + Send, T: TextIn, O: TextOut, G: 
     gate: &G,
     job: Job,
 ) -> Finished<I>
-    ensures due { IsLiveDue job (T.left script.old) (I.size image) (I.told image) (I.told result.image) result.status }
-    ensures script_fault { result.status ≡ Status.ScriptFault → Rose (T.faults script.old) (T.faults script.new) }
-    ensures image_fault { result.status ≡ Status.ImageFault → Rose (I.faults image) (I.faults result.image) }
-    ensures out_fault { result.status ≡ Status.OutFault → Rose (O.faults out.old) (O.faults out.new) }
-    ensures written { Writes (IsReportOn job (T.left script.old) (I.told image) (I.told result.image))
-        (IsLiveFaultText job (T.left script.old) (I.told image) (I.told result.image)) (I.told image)
-        (O.written out.old) (O.written out.new) (O.faults out.old) (O.faults out.new) result.status }
-    ensures after { IsLiveImage job (T.left script.old) (I.told image) (I.told result.image) result.status }
+    ensures { OfScript (T.left script.old) (λ bytes. OfImage (I.size image) (I.told image) (I.told result.image) (λ old new.
+        IsAnswer (Some job) bytes (I.size image) old new (O.written out.old) (O.written out.new)
+        (T.faults script.old) (T.faults script.new) (I.faults image) (I.faults result.image) (O.faults out.old) (O.faults out.new) result.status)) }
 {
     let MendedRun { outcome, image } = live_script(rt, alloc, image, script, gate, job);
     match outcome {
@@ -58,15 +51,11 @@ fn done<R: Threads + Wait + Sync, I: ImageDev + Send, T: TextIn, O: TextOut, G: 
     out: &mut O,
     gate: &G,
 ) -> Finished<I>
-    ensures due { IsDue (job_of words.now) (T.left script.old) (I.size image) (I.told image) (I.told result.image) result.status }
-    ensures script_fault { result.status ≡ Status.ScriptFault → Rose (T.faults script.old) (T.faults script.new) }
-    ensures image_fault { result.status ≡ Status.ImageFault → Rose (I.faults image) (I.faults result.image) }
-    ensures out_fault { result.status ≡ Status.OutFault → Rose (O.faults out.old) (O.faults out.new) }
-    ensures written { Writes (IsTextOf (job_of words.now) (T.left script.old) (I.told image) (I.told result.image))
-        (IsFaultTextOf (job_of words.now) (T.left script.old) (I.told image) (I.told result.image)) (I.told image)
-        (O.written out.old) (O.written out.new) (O.faults out.old) (O.faults out.new) result.status }
-    ensures after { IsImageAfter (job_of words.now) (T.left script.old) (I.told image) (I.told result.image) result.status }
+    ensures { OfScript (T.left script.old) (λ bytes. OfImage (I.size image) (I.told image) (I.told result.image) (λ old new.
+        IsAnswer (job_of words.now) bytes (I.size image) old new (O.written out.old) (O.written out.new)
+        (T.faults script.old) (T.faults script.new) (I.faults image) (I.faults result.image) (O.faults out.old) (O.faults out.new) result.status)) }
 {
+    blocks_are_counted(&image);
     match job_of(words) {
         Some(job) => live(rt, alloc, image, script, out, gate, job),
         None => Finished {
@@ -100,31 +89,15 @@ pub fn vmsclus_live<
     out: &mut O,
     gate: &G,
 ) -> Finished<I>
-    // What the status says of the words, the script, the image's size and its blocks.
-    ensures due { IsDue (job_of words.now) (T.left script.old) (I.size image) (I.told image) (I.told result.image) result.status }
-
-    // A fault comes only where the count of that very object rose in this call.
-    ensures script_fault { result.status ≡ Status.ScriptFault → Rose (T.faults script.old) (T.faults script.new) }
-    ensures image_fault { result.status ≡ Status.ImageFault → Rose (I.faults image) (I.faults result.image) }
-    ensures out_fault { result.status ≡ Status.OutFault → Rose (O.faults out.old) (O.faults out.new) }
-
-    // With status 0 the report was written, with a fault of the sink first bytes of it, and else the text of the status; in front of that
-    // of a write that failed the lines of the answers so far, and so in front of that of a drive that cannot be mended.
-    ensures written { Writes (IsTextOf (job_of words.now) (T.left script.old) (I.told image) (I.told result.image))
-        (IsFaultTextOf (job_of words.now) (T.left script.old) (I.told image) (I.told result.image)) (I.told image)
-        (O.written out.old) (O.written out.new) (O.faults out.old) (O.faults out.new) result.status }
-
-    // Which blocks the image has after the call.
-    ensures after { IsImageAfter (job_of words.now) (T.left script.old) (I.told image) (I.told result.image) result.status }
-
-    // Of the statuses but faults, want of memory and, of a call that mends then, `NotMendable`, no other one is due than that of the call.
-    ensures alone { IsAlone (job_of words.now) (T.left script.old) (I.size image) (I.told image) (I.told result.image) result.status }
-
-    // A good script on an accepted volume is answered: with status 0, unless a call of an object fails or memory runs out, or the volume, if
-    // it is mended then, cannot be mended.
-    ensures answered { AnswersGood (job_of words.now) (T.left script.old) (I.size image) (I.told image) result.status }
+    // There are bytes of a script, blocks of an image, as many as it has, and blocks that it has then, of which all of `IsCall` holds
+    // together: what the status says of what came in, when a fault comes, what was written, which blocks are left, that no other status was
+    // due, and that a good script is answered. If the source or the image tells its content, they are these. If it does not, as a file, no
+    // contract says which they are.
+    ensures { OfScript (T.left script.old) (λ bytes. OfImage (I.size image) (I.told image) (I.told result.image) (λ old new.
+        IsCall (job_of words.now) bytes (I.size image) old new (O.written out.old) (O.written out.new)
+        (T.faults script.old) (T.faults script.new) (I.faults image) (I.faults result.image) (O.faults out.old) (O.faults out.new) result.status)) }
 {
-    one_live_status_is_due();
+    no_other_live_status_is_due();
     good_live_runs_are_answered();
     done(rt, alloc, words, image, script, out, gate)
 }

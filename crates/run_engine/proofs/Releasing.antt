@@ -1,5 +1,5 @@
 -- A command keeps its locks until the turn that appends its entry, and gives them back in that turn.
-use Rattle.std.proofs.Common.{◌≡◌, ◌∙◌, ◌⊎◌, ◌++◌, ◌==◌, ℕ, Bool, true, false, cond, List, [], ◌∷◌, Option, Some, None, refl, sym, ap, subst, inl, inr, append-nil}
+use Rattle.std.proofs.Common.{◌≡◌, ◌∙◌, ◌⊎◌, ◌++◌, ℕ, Bool, true, false, cond, [], ◌∷◌, Option, Some, None, refl, sym, ap, subst, inl, inr, append-nil}
 use Rattle.plain_cat.specs.declared.mode.Mode.{Mode}
 use Rattle.plain_cat.specs.declared.mode.Mode.TheVariants.{NL}
 use Rattle.plain_cat.specs.declared.command.Cmd.{Cmd}
@@ -8,7 +8,6 @@ use Rattle.plain_cat.specs.declared.history.Entry.TheVariants.{Done}
 use Rattle.plain_rules.specs.Own.{next_command}
 use Rattle.lock_db.specs.declared.name.LockName.{LockName}
 use Rattle.lock_db.specs.declared.name.LockName.TheVariants.{X}
-use Rattle.lock_db.specs.declared.askers.Standing.{Standing}
 use Rattle.lock_db.specs.declared.askers.Standing.TheVariants.{Granted}
 use Rattle.lock_db.specs.Laws.{stands_at}
 use Rattle.base_words.specs.Lists.{Has}
@@ -24,7 +23,7 @@ use Rattle.core_state.specs.Worlds.{NodeState, Plain, node_at, with_node, rows_o
 use Rattle.core_state.specs.Asks.{with_ask, own_of, lock_of_ask}
 use Rattle.core_state.specs.Event.{Event}
 use Rattle.core_state.specs.Event as event
-use Rattle.core_state.specs.Events.{is_held_up, prepared_by, served_for, served_by, served, serves, serving, prepared, readied_at, readied, event_now, next_event, turned, would_go, asked_by, answering, answered_by, happens, happen_at, happen, after_turn}
+use Rattle.core_state.specs.Events.{is_held_up, prepared_by, served_for, served_by, served, serves, serving, prepared, readied_at, readied, event_now, next_event, turned, would_go, asked_by, answering, answered_by, happens, happen_at, after_turn}
 use Rattle.core_state.specs.Stores.{IsKeptLow, IsKeptX}
 use Rattle.core_state.specs.Goods.{Good}
 use Rattle.core_state.proofs.Nodes.{at_here}

@@ -19,3 +19,10 @@ if_err (Err e) P Q f h = f e h
 pub if_ok : {A E : Type 0} (r : Result A E) (P Q : A → Type 0) → ((x : A) → P x → Q x) → IfOk r P → IfOk r Q
 if_ok (Ok x) P Q f h = f x h
 if_ok (Err e) P Q f h = h
+
+pub ok_has : {A E : Type 0} (r : Result A E) (a : A) (P : A → Type 0) → r ≡ Ok a → IfOk r P → P a
+ok_has r a P is h = subst (λ x. IfOk x P) is h
+
+pub both_ok : {A E : Type 0} (r : Result A E) (P : Type 0) (Q : A → Type 0) → IfOk r (λ x. P) → IfOk r Q → IfOk r (λ x. P × Q x)
+both_ok (Ok a) P Q p q = (p, q)
+both_ok (Err e) P Q p q = p

@@ -1,6 +1,6 @@
 -- Of all statuses of a run exactly one is due, but for faults and want of memory: of a size, of a script's length and of findings there is
 -- one thing to say.
-use Rattle.std.proofs.Common.{◌≡◌, ◌≤◌, ℕ, true, List, [], ◌∷◌, Some, length, refl, ap, arith, inl, inr}
+use Rattle.std.proofs.Common.{◌≡◌, ◌≤◌, ℕ, true, List, [], ◌∷◌, length, refl, sym, ap, subst, arith, inl, inr}
 use Rattle.std.proofs.lemmas.Bool.{false≢true, cases_lt}
 use Rattle.base_words.specs.Fields.{Block}
 use Rattle.blk_drive.specs.Images.{IsInside, IsOutside}
@@ -31,7 +31,7 @@ same_first bs f g one found other =
 
 -- no other status of a run is due
 abbrev pub AloneInRun : List ℕ → ℕ → List Block → Status → Type 0
-AloneInRun bytes size bs s = (other : Status) → is_verdict other ≡ true → IsRunDue (Some bytes) size (Some bs) other → other ≡ s
+AloneInRun bytes size bs s = (other : Status) → is_verdict other ≡ true → IsRunDue bytes size bs other → other ≡ s
 
 alone_long : (bytes : List ℕ) (size : ℕ) (bs : List Block) → IsTooLong bytes → AloneInRun bytes size bs status.ScriptTooLong
 alone_long bytes size bs long status.Ok v h = absurd (too_long bytes long h.0.within)
@@ -128,6 +128,23 @@ alone_good bytes size bs one list good inside none (status.NotMendable g) v h = 
 alone_good bytes size bs one list good inside none status.OutFault v h = absurd (false≢true v)
 alone_good bytes size bs one list good inside none status.NoMemory v h = absurd (false≢true v)
 alone_good bytes size bs one list good inside none (status.BadInit x) v h = absurd h
+
+-- of a run no other status is due than one that is
+pub due_alone : (bytes : List ℕ) (size : ℕ) (bs : List Block) (s : Status) → SayOneThing (lines_of bytes) → OneList bs → is_verdict s ≡ true → IsRunDue bytes size bs s → AloneInRun bytes size bs s
+due_alone bytes size bs status.Ok one list v d = alone_good bytes size bs one list d.0 d.1.inside d.1.accepted
+due_alone bytes size bs status.BadWords one list v d = absurd d
+due_alone bytes size bs status.ScriptFault one list v d = absurd (false≢true v)
+due_alone bytes size bs status.ScriptTooLong one list v d = alone_long bytes size bs d
+due_alone bytes size bs (status.BadScript n) one list v d = alone_bad bytes size bs n one d
+due_alone bytes size bs status.TooMany one list v d = alone_over bytes size bs one d
+due_alone bytes size bs status.ImageFault one list v d = absurd (false≢true v)
+due_alone bytes size bs (status.BadSize n) one list v d = subst (λ (m : ℕ). AloneInRun bytes size bs (status.BadSize m)) (sym d.1) (alone_size bytes size bs one d.0 d.2)
+due_alone bytes size bs (status.NotAccepted f) one list v d = alone_found bytes size bs f one list d.0 d.1 d.2
+due_alone bytes size bs status.Findings one list v d = absurd d
+due_alone bytes size bs (status.NotMendable f) one list v d = absurd d
+due_alone bytes size bs status.OutFault one list v d = absurd (false≢true v)
+due_alone bytes size bs status.NoMemory one list v d = absurd (false≢true v)
+due_alone bytes size bs (status.BadInit f) one list v d = absurd d
 
 -- nor of words that have no reading
 pub words_alone : (other : Status) → is_verdict other ≡ true → IsWordsDue other → other ≡ status.BadWords

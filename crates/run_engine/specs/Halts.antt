@@ -15,7 +15,6 @@ use Rattle.plain_cat.specs.declared.cat.Cat.{Cat}
 use Rattle.vol_rebuild.specs.declared.fault.RebuildFault.{RebuildFault}
 use Rattle.vol_rebuild.specs.declared.fault.RebuildFault.TheVariants as rebuild
 use Rattle.core_state.specs.Worlds.{Plain}
-use Rattle.blk_drive.specs.Telling.{told_as}
 use Rattle.run_engine.specs.declared.status.Status.{Status}
 use Rattle.run_engine.specs.declared.status.Status.TheVariants as status
 use Rattle.run_engine.specs.declared.stop.Stop.{Stop}
@@ -45,32 +44,24 @@ IsHaltOf h (rebuild.NotMendable f) (halt.Unmended text g) = (text.items ≡ unme
 IsHaltOf h (rebuild.NotMendable f) (halt.By s) = s ≡ status.NoMemory
 IsHaltOf h rebuild.NoMemory r = r ≡ halt.By status.NoMemory
 
--- the image has blocks that mend to the same as the drive of the world, or, if that cannot be mended, its drive
-pub record IsPartlyBy (w : Plain) (c : Cat) (told new : Option (List Block)) : Type 0 where
-  pub blocks : List Block
-  pub image : new ≡ told_as told blocks
-  pub still : StillMends c w.blocks blocks
-
--- it has the mended volume, and this text is printed
-pub record IsMendedBy (w : Plain) (c : Cat) (told new : Option (List Block)) (text : List ℕ) : Type 0 where
-  pub blocks : List Block
+-- the image has the mended volume, and this text is printed
+pub record IsMendedBy (w : Plain) (c : Cat) (new : List Block) (text : List ℕ) : Type 0 where
   pub done : Mended
-  pub image : new ≡ told_as told blocks
-  pub mended : IsMended c blocks done
+  pub mended : IsMended c new done
   pub written : text ≡ report_text (with_mending w.history done) mended.after
 
 -- it has the drive of the world, which cannot be mended
-pub record IsUnmendedBy (w : Plain) (c : Cat) (told new : Option (List Block)) (f : Finding) (text : List ℕ) : Type 0 where
-  pub image : new ≡ told_as told w.blocks
+pub record IsUnmendedBy (w : Plain) (c : Cat) (new : List Block) (f : Finding) (text : List ℕ) : Type 0 where
+  pub image : new ≡ w.blocks
   pub roomless : IsRoomless c w.blocks f
   pub written : text ≡ unmended_text w.history f
 
--- why the drive is not mended
-abbrev pub IsHaltBy : Plain → Cat → Option (List Block) → Option (List Block) → ℕ → ℕ → Halt → Type 0
-IsHaltBy w c told new had has (halt.Cut text) = Rose had has × IsPartlyBy w c told new × (text.items ≡ cut_text w.history)
-IsHaltBy w c told new had has halt.NoLines = Rose had has × IsPartlyBy w c told new
-IsHaltBy w c told new had has (halt.Unmended text f) = IsUnmendedBy w c told new f text.items
-IsHaltBy w c told new had has (halt.By s) = (s ≡ status.NoMemory) × IsPartlyBy w c told new
+-- Why the drive is not mended. The image has blocks that mend to the same as the drive of the world, or, if that cannot be mended, its drive.
+abbrev pub IsHaltBy : Plain → Cat → List Block → ℕ → ℕ → Halt → Type 0
+IsHaltBy w c new had has (halt.Cut text) = Rose had has × StillMends c w.blocks new × (text.items ≡ cut_text w.history)
+IsHaltBy w c new had has halt.NoLines = Rose had has × StillMends c w.blocks new
+IsHaltBy w c new had has (halt.Unmended text f) = IsUnmendedBy w c new f text.items
+IsHaltBy w c new had has (halt.By s) = (s ≡ status.NoMemory) × StillMends c w.blocks new
 
 -- the status of a run that is not mended, and the text that was written
 abbrev pub IsToldHalt : Option (List ℕ) → Option (List ℕ) → ℕ → ℕ → Halt → Status → Type 0

@@ -3,6 +3,7 @@ pub mod Ended
 pub mod Faults
 pub mod Halting
 pub mod Halts
+pub mod Inputs
 pub mod Laws
 pub mod Mending
 pub mod Mendings

@@ -1,5 +1,5 @@
 -- What a status says of a script and a volume, its text, and what is written.
-use Rattle.std.specs.Prelude.{◌≡◌, ◌<◌, ◌≤◌, ◌⊎◌, ◌++◌, ℕ, List, [], Option, IfSome, codes, decimal, flat_map, length}
+use Rattle.std.specs.Prelude.{◌≡◌, ◌<◌, ◌≤◌, ◌++◌, ℕ, List, [], Option, codes, decimal, flat_map, length}
 use Rattle.std.specs.Io.KnownBytes.{Appends}
 use Rattle.base_words.specs.Fields.{Block}
 use Rattle.blk_drive.specs.Images.{IsInside}
@@ -74,9 +74,9 @@ pub record IsGood (bytes : List ℕ) : Type 0 where
   pub spelt : SpellsScript (lines_of bytes) script
 
 -- an image of a volume's size is accepted
-pub record IsAccepted (size : ℕ) (told : Option (List Block)) : Type 0 where
+pub record IsAccepted (size : ℕ) (bs : List Block) : Type 0 where
   pub inside : IsInside size
-  pub accepted : IfSome told Accepts
+  pub accepted : Accepts bs
 
 -- where the words have no reading
 abbrev pub IsWordsDue : Status → Type 0
@@ -104,10 +104,10 @@ IsPlainText s text = text ≡ status_text s
 
 -- What was written at a status, where R is said of the text of status 0, and F of the text of a fault of the image and of a volume that
 -- cannot be mended: all of that text, or first bytes of it where the sink fails; the findings; or the text of the status.
-abbrev pub Writes : (R : List ℕ → Type 0) → (F : Status → List ℕ → Type 0) → Option (List Block) → Option (List ℕ) → Option (List ℕ) → ℕ → ℕ → Status → Type 0
-Writes R F told old new before now status.Ok = (text : List ℕ) × R text × Appends old new text
-Writes R F told old new before now status.OutFault = (text : List ℕ) × R text × AppendsStart old new text
-Writes R F told old new before now status.Findings = (text : List ℕ) × IfSome told (IsFindingsText text) × IsWritten old new before now text
-Writes R F told old new before now status.ImageFault = (text : List ℕ) × F status.ImageFault text × IsWritten old new before now text
-Writes R F told old new before now (status.NotMendable f) = (text : List ℕ) × F (status.NotMendable f) text × IsWritten old new before now text
-Writes R F told old new before now s = IsWritten old new before now (status_text s)
+abbrev pub Writes : (R : List ℕ → Type 0) → (F : Status → List ℕ → Type 0) → List Block → Option (List ℕ) → Option (List ℕ) → ℕ → ℕ → Status → Type 0
+Writes R F bs old new before now status.Ok = (text : List ℕ) × R text × Appends old new text
+Writes R F bs old new before now status.OutFault = (text : List ℕ) × R text × AppendsStart old new text
+Writes R F bs old new before now status.Findings = (text : List ℕ) × IsFindingsText text bs × IsWritten old new before now text
+Writes R F bs old new before now status.ImageFault = (text : List ℕ) × F status.ImageFault text × IsWritten old new before now text
+Writes R F bs old new before now (status.NotMendable f) = (text : List ℕ) × F (status.NotMendable f) text × IsWritten old new before now text
+Writes R F bs old new before now s = IsWritten old new before now (status_text s)

@@ -1,5 +1,5 @@
 -- Which statuses speak of what came in alone, and when those of a run are due.
-use Rattle.std.specs.Prelude.{◌≡◌, ℕ, Bool, true, false, List, Option, Some, IfSome}
+use Rattle.std.specs.Prelude.{◌≡◌, ℕ, Bool, true, false, List}
 use Rattle.base_words.specs.Fields.{Block}
 use Rattle.blk_drive.specs.Images.{IsInside, IsOutside}
 use Rattle.vol_analyze.specs.Judging.{IsFirstFound}
@@ -24,25 +24,25 @@ is_mended_verdict s = is_verdict s
 
 -- When a status of a run is due. The order is script read, grammar, image read, size, acceptance, output; of a fault its own condition is that its
 -- count rose.
-abbrev pub IsRunDue : Option (List ℕ) → ℕ → Option (List Block) → Status → Type 0
-IsRunDue left size told status.Ok = IfSome left IsGood × IsAccepted size told
-IsRunDue left size told status.BadWords = ⊥
-IsRunDue left size told status.ScriptFault = Unit {0}
-IsRunDue left size told status.ScriptTooLong = IfSome left IsTooLong
-IsRunDue left size told (status.BadScript n) = IfSome left (IsBad n)
-IsRunDue left size told status.TooMany = IfSome left IsOverfull
-IsRunDue left size told status.ImageFault = IfSome left IsGood
-IsRunDue left size told (status.BadSize n) = IfSome left IsGood × (n ≡ size) × IsOutside size
-IsRunDue left size told (status.NotAccepted f) = IfSome left IsGood × IsInside size × IfSome told (λ bs. IsFirstFound bs f)
-IsRunDue left size told status.Findings = ⊥
-IsRunDue left size told (status.NotMendable f) = ⊥
-IsRunDue left size told status.OutFault = IfSome left IsGood × IsAccepted size told
-IsRunDue left size told status.NoMemory = Unit {0}
-IsRunDue left size told (status.BadInit f) = ⊥
+abbrev pub IsRunDue : List ℕ → ℕ → List Block → Status → Type 0
+IsRunDue bytes size bs status.Ok = IsGood bytes × IsAccepted size bs
+IsRunDue bytes size bs status.BadWords = ⊥
+IsRunDue bytes size bs status.ScriptFault = Unit {0}
+IsRunDue bytes size bs status.ScriptTooLong = IsTooLong bytes
+IsRunDue bytes size bs (status.BadScript n) = IsBad n bytes
+IsRunDue bytes size bs status.TooMany = IsOverfull bytes
+IsRunDue bytes size bs status.ImageFault = IsGood bytes
+IsRunDue bytes size bs (status.BadSize n) = IsGood bytes × (n ≡ size) × IsOutside size
+IsRunDue bytes size bs (status.NotAccepted f) = IsGood bytes × IsInside size × IsFirstFound bs f
+IsRunDue bytes size bs status.Findings = ⊥
+IsRunDue bytes size bs (status.NotMendable f) = ⊥
+IsRunDue bytes size bs status.OutFault = IsGood bytes × IsAccepted size bs
+IsRunDue bytes size bs status.NoMemory = Unit {0}
+IsRunDue bytes size bs (status.BadInit f) = ⊥
 
--- of a script and blocks that are told one status of a run that speaks of what came in is due, and no other one
+-- of a script and blocks one status of a run that speaks of what came in is due, and no other one
 pub record HasRunVerdict (bytes : List ℕ) (size : ℕ) (bs : List Block) : Type 0 where
   pub status : Status
   pub verdict : is_verdict status ≡ true
-  pub due : IsRunDue (Some bytes) size (Some bs) status
-  pub alone : (other : Status) → is_verdict other ≡ true → IsRunDue (Some bytes) size (Some bs) other → other ≡ status
+  pub due : IsRunDue bytes size bs status
+  pub alone : (other : Status) → is_verdict other ≡ true → IsRunDue bytes size bs other → other ≡ status

@@ -17,6 +17,9 @@
 //! its bound. `free_at_end` counts the free clusters of the catalogue to which the history leads and which the drive spells then.
 //! `report`, `summary` and the texts are exactly those of their definitions.
 //!
+//! `script_of` reads a script, and says of which bytes that holds (`OfScript`); `OfImage` says the same of the blocks of an image, and
+//! `blocks_are_counted` that those that it tells are as many as it has.
+//!
 //! `mend` mends the drive of a world that is over, as its catalogue is mended, and adds that to the history (`end`). After each
 //! answer the drive mends to what the catalogue mends to (`still`). `free_on_drive` counts the free clusters of a mended drive.
 //!
@@ -33,6 +36,7 @@ mod calls;
 mod counts;
 mod fault;
 mod free;
+mod images;
 mod laws;
 mod mending;
 mod over_mending;
@@ -50,6 +54,7 @@ mod world_laws;
 pub use calls::{Called, exit_code, no_memory, words_of};
 pub use fault::RunFault;
 pub use free::free_at_end;
+pub use images::blocks_are_counted;
 pub use laws::{over_is_spelt, over_is_whole, turns_are_two_phase, turns_leave_the_rest};
 pub use mending::{MendEnd, free_on_drive, mend};
 pub use over_mending::{Halt, MendedRun, halt_of, mend_over, tell_halt};
@@ -60,7 +65,7 @@ pub use status::{Finished, Status};
 pub use stop::{Stop, load_status, mount_status, report_of, stop_of};
 pub use stop_laws::{runs_can_stop, torn_runs_can_stop, torn_worlds_can_stop};
 pub use summaries::summary;
-pub use telling::{tell, tell_cut, tell_findings, tell_text};
+pub use telling::{tell, tell_findings, tell_text};
 pub use world_laws::{
     halted_is_one, over_worlds_mend, rebuilt_is_mended, steps_keep_the_rules, stopped_worlds_mend,
 };

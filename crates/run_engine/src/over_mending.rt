@@ -9,6 +9,7 @@ ghost use Rattle.core_state.specs.Worlds.{shown};
 ghost use Rattle.run_engine.specs.Ended.{HasEnded};
 ghost use Rattle.run_engine.specs.Reports.{lines_bytes, report_bytes};
 ghost use Rattle.core_state.specs.Ends.{AllOver};
+ghost use Rattle.run_engine.specs.Inputs.{Leaves};
 ghost use Rattle.run_engine.specs.Halts.{halt_of, IsHaltOf, IsMendedBy, IsHaltBy, IsToldHalt};
 ghost use Rattle.run_engine.specs.Texts.{unmended_text};
 
@@ -125,9 +126,10 @@ fn report_on<I: ImageDev>(alloc: Global, h: &History, m: &Mirror<I>) -> Result<V
 pub fn mend_over<I: ImageDev, O: Operation>(alloc: Global, w: World<I, O>) -> MendedRun<I>
     requires over { AllOver w.world }
     requires told { IsTold (I.told w.image) w.world.blocks }
-    ensures report { IfOk result.outcome (λ text. (c : Cat) → HasEnded w.world c → IsMendedBy w.world c (I.told w.image) (I.told result.image) text.items) }
+    ensures report { IfOk result.outcome (λ text. (c : Cat) → HasEnded w.world c
+        → Leaves (I.told w.image) (I.told result.image) (λ new. IsMendedBy w.world c new text.items)) }
     ensures halt { IfErr result.outcome (λ h. (c : Cat) → HasEnded w.world c
-        → IsHaltBy w.world c (I.told w.image) (I.told result.image) (I.faults w.image) (I.faults result.image) h) }
+        → Leaves (I.told w.image) (I.told result.image) (λ new. IsHaltBy w.world c new (I.faults w.image) (I.faults result.image) h)) }
 {
     w.keeps_the_rules();
     let MendEnd {

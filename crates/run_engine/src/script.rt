@@ -1,5 +1,6 @@
-ghost use Rattle.std.specs.Prelude.{IfOk, IfErr, IfSome};
+ghost use Rattle.std.specs.Prelude.{IfOk, IfErr};
 ghost use Rattle.plain_cat.specs.InForm.{InForm};
+ghost use Rattle.run_engine.specs.Inputs.{OfScript};
 ghost use Rattle.run_engine.specs.Scripts.{SpellsWithin, IsScriptEnd};
 
 use crate::Status;
@@ -13,9 +14,9 @@ const SCRIPT_LIMIT: usize = 1_048_576;
 
 /// Reads the script to its end, and what it spells.
 pub fn script_of<T: TextIn>(alloc: Global, script: &mut T) -> Result<Script, Status>
-    ensures spelt { IfOk result (λ s. IfSome (T.left script.old) (SpellsWithin s)) }
+    ensures spelt { IfOk result (λ s. OfScript (T.left script.old) (SpellsWithin s)) }
     ensures form { IfOk result InForm }
-    ensures end { IfErr result (IsScriptEnd (T.left script.old) (T.faults script.old) (T.faults script.new)) }
+    ensures end { IfErr result (λ s. OfScript (T.left script.old) (λ bytes. IsScriptEnd bytes (T.faults script.old) (T.faults script.new) s)) }
 {
     let bytes = match read_all(alloc, script, SCRIPT_LIMIT) {
         Ok(bytes) => bytes,

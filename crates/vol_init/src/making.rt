@@ -28,6 +28,7 @@ fn put_part<I: ImageDev>(m: &mut Mirror<I>, plan: &Plan, lbn: u32) -> Result<(),
     ensures there { OnOk result (IsAt plan.now lbn (block_in m.old.blocks lbn) (block_in m.new.blocks lbn)) }
     ensures others { (k : ℕ) → k ≢ lbn → block_in m.new.blocks k ≡ block_in m.old.blocks k }
     ensures image { I.told m.old.image ≡ Some m.old.blocks → OnOk result (I.told m.new.image ≡ Some m.new.blocks) }
+    ensures untold { I.told m.old.image ≡ None → I.told m.new.image ≡ None }
     ensures home { told_at (I.told m.new.image) 1 ≡ told_at (I.told m.old.image) 1 }
     ensures size { I.size m.new.image ≡ I.size m.old.image }
     ensures count { length m.new.blocks ≡ length m.old.blocks }
@@ -54,6 +55,7 @@ fn put_parts<I: ImageDev>(m: &mut Mirror<I>, plan: &Plan) -> Result<(), ImageFau
     ensures there { OnOk result (ArePut plan.now (length m.old.blocks) m.old.blocks m.new.blocks) }
     ensures low { (k : ℕ) → k < 2 → block_in m.new.blocks k ≡ block_in m.old.blocks k }
     ensures image { I.told m.old.image ≡ Some m.old.blocks → OnOk result (I.told m.new.image ≡ Some m.new.blocks) }
+    ensures untold { I.told m.old.image ≡ None → I.told m.new.image ≡ None }
     ensures home { told_at (I.told m.new.image) 1 ≡ told_at (I.told m.old.image) 1 }
     ensures size { I.size m.new.image ≡ I.size m.old.image }
     ensures count { length m.new.blocks ≡ length m.old.blocks }
@@ -71,6 +73,7 @@ fn make<I: ImageDev>(m: &mut Mirror<I>, plan: &Plan) -> Result<(), ImageFault>
     requires blocks { plan.now.layout.blocks ≡ length m.old.blocks }
     ensures ok { OnOk result (IsMade plan.now.home m.old.blocks m.new.blocks) }
     ensures image { I.told m.old.image ≡ Some m.old.blocks → OnOk result (I.told m.new.image ≡ Some m.new.blocks) }
+    ensures untold { I.told m.old.image ≡ None → I.told m.new.image ≡ None }
     ensures fault { I.told m.old.image ≡ Some m.old.blocks
         → OnErr result (IsLeft plan.now.home m.old.blocks (I.told m.new.image)) }
     ensures size { I.size m.new.image ≡ I.size m.old.image }
@@ -104,6 +107,9 @@ pub fn init<I: ImageDev>(
     // Ok comes with the whole volume, in memory and on the image.
     ensures ok { OnOk result (IsMade (home_of cluster files label.now) m.old.blocks m.new.blocks) }
     ensures image { I.told m.old.image ≡ Some m.old.blocks → OnOk result (I.told m.new.image ≡ Some m.new.blocks) }
+
+    // An image that tells nothing tells nothing then.
+    ensures untold { I.told m.old.image ≡ None → I.told m.new.image ≡ None }
 
     // The volume is accepted, and its catalogue is that of a fresh volume.
     ensures accepted { OnOk result (Accepts m.new.blocks) }

@@ -1,8 +1,9 @@
-use Rattle.std.proofs.Common.{◌≡◌, ◌∙◌, ℕ, List, subst}
+use Rattle.std.proofs.Common.{◌∙◌, ℕ, List, subst, refl}
 use Rattle.std.specs.Process.{exit_status}
 use Rattle.run_engine.specs.declared.status.Status.TheVariants as status
+use Rattle.run_engine.proofs.Given.{any_script, image_stays}
 use Rattle.clus_top.specs.Calls.{IsEnd}
-use Rattle.clus_top.proofs.Lacking.{lacking_due, lacking_image}
+use Rattle.clus_top.proofs.Told.{lacking_call}
 use Rattle.clus_top.proofs.calling.exit_call.Goals as goal
 
 pub returns-in-Ok : goal.returns-in-Ok
@@ -17,25 +18,13 @@ returns-in-Ok g c =
       image_faults = g.I.ImageDev.faults c.args.image;
       out_faults = g.O.TextOut.faults c.args.out.now;
     }) (g.O.TextOut.written c.vmsclus-finished.new.out) (g.I.ImageDev.told c.vmsclus-finished.result.image) (g.T.TextIn.faults c.vmsclus-finished.new.script) (g.I.ImageDev.faults c.vmsclus-finished.result.image) (g.O.TextOut.faults c.vmsclus-finished.new.out) (exit_status c.exit_code-code.result) in
-    subst P (c.as_slice.ensures.value ∙ c.in-Ok.ensures) (record {
-      status = c.vmsclus-finished.result.status;
-      number_is = c.exit_code-code.ensures;
-      due = c.vmsclus-finished.ensures.due;
-      script_fault = c.vmsclus-finished.ensures.script_fault;
-      out_fault = c.vmsclus-finished.ensures.out_fault;
-      image_fault = c.vmsclus-finished.ensures.image_fault;
-      text = c.vmsclus-finished.ensures.written;
-      after = c.vmsclus-finished.ensures.after;
-    })
+    subst P (c.as_slice.ensures.value ∙ c.in-Ok.ensures) (record { status = c.vmsclus-finished.result.status; number_is = c.exit_code-code.ensures; call = c.vmsclus-finished.ensures })
 
 pub returns-in-Err : goal.returns-in-Err
 returns-in-Err g c = record {
   status = status.NoMemory;
   number_is = c.no_memory-code.ensures.number;
-  due = lacking_due _ _ _ _;
-  script_fault = λ e. absurd (let f : status.NoMemory ≡ status.ScriptFault = e in cc);
-  out_fault = λ e. absurd (let f : status.NoMemory ≡ status.OutFault = e in cc);
-  image_fault = λ e. absurd (let f : status.NoMemory ≡ status.ImageFault = e in cc);
-  text = c.no_memory-code.ensures.text;
-  after = lacking_image _ _ _;
+  call = any_script (g.T.TextIn.left c.args.script.now) _
+      (λ bytes. image_stays (g.I.ImageDev.size c.args.image) (g.I.ImageDev.told c.args.image) (g.I.ImageDev.told c.args.image) _ (g.met.I.ImageDev.counted c.args.image) refl
+      (λ bs count. lacking_call _ bytes (g.I.ImageDev.size c.args.image) bs _ _ _ _ _ _ _ _ c.no_memory-code.ensures.text));
 }

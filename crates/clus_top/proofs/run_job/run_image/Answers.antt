@@ -1,35 +1,44 @@
-use Rattle.std.proofs.Common.{subst}
+use Rattle.std.proofs.Common.{sym, subst}
+use Rattle.run_engine.specs.declared.stop.Stop.TheVariants as stop
+use Rattle.run_engine.specs.Inputs.{Leaves}
+use Rattle.run_engine.proofs.Given.{leaves_has, image_stays}
 use Rattle.run_engine.proofs.Results.{if_err, if_ok}
-use Rattle.clus_top.specs.Ends.{IsEndIn, IsStopBy}
-use Rattle.clus_top.proofs.Imaged.{accepted_on, end_on, stop_on}
+use Rattle.clus_top.specs.Ends.{IsEndIn, IsStopBy, IsImageStop}
+use Rattle.clus_top.proofs.Imaged.{stop_on, load_end}
 use Rattle.clus_top.proofs.run_job.run_image.Goals as goal
-
-pub returns-in-Ok-clause-passed : goal.returns-in-Ok-clause-passed
-returns-in-Ok-clause-passed g c =
-    let new = g.I.ImageDev.told c.run_mounted.result.image in
-    if_ok c.run_mounted.result.outcome _ _
-    (λ text h. record {
-      inside = c.in-Ok.ensures.inside;
-      accepted = accepted_on c.args.script.now (g.I.ImageDev.size c.args.image) (g.I.ImageDev.told c.args.image) new c.in-Ok.mirror.blocks c.in-Ok.ensures.blocks c.args.what text.items
-          (subst (λ t. IsEndIn c.args.what c.args.script.now c.in-Ok.mirror.blocks t new text.items) c.in-Ok.ensures.told h);
-    })
-    c.run_mounted.ensures.report
 
 pub returns-in-Ok-clause-report : goal.returns-in-Ok-clause-report
 returns-in-Ok-clause-report g c =
-    let new = g.I.ImageDev.told c.run_mounted.result.image in
+    let now = g.I.ImageDev.told c.run_mounted.result.image in
     if_ok c.run_mounted.result.outcome _ _
-    (λ text h. end_on c.args.script.now (g.I.ImageDev.size c.args.image) (g.I.ImageDev.told c.args.image) new c.in-Ok.mirror.blocks c.in-Ok.ensures.blocks c.args.what text.items
-    (subst (λ t. IsEndIn c.args.what c.args.script.now c.in-Ok.mirror.blocks t new text.items) c.in-Ok.ensures.told h))
+    (λ text h. record {
+      old = c.in-Ok.mirror.blocks;
+      count = c.in-Ok.ensures.count;
+      read = c.in-Ok.ensures.blocks;
+      then = subst (λ t. Leaves t now (λ new. IsEndIn c.args.what c.args.script.now c.in-Ok.mirror.blocks new text.items)) c.in-Ok.ensures.told h;
+    })
     c.run_mounted.ensures.report
 
 pub returns-in-Ok-clause-end : goal.returns-in-Ok-clause-end
 returns-in-Ok-clause-end g c =
-    let new = g.I.ImageDev.told c.run_mounted.result.image in
+    let now = g.I.ImageDev.told c.run_mounted.result.image in
     let has = g.I.ImageDev.faults c.run_mounted.result.image in
     let had = g.I.ImageDev.faults c.in-Ok.mirror.image in
     if_err c.run_mounted.result.outcome _ _
-    (λ s h. stop_on c.args.script.now (g.I.ImageDev.size c.args.image) (g.I.ImageDev.told c.args.image) new c.in-Ok.mirror.blocks c.in-Ok.ensures.blocks _ had has s
-    c.in-Ok.ensures.inside c.in-Ok.ensures.later
-    (subst (λ t. IsStopBy c.args.script.now c.in-Ok.mirror.blocks t new had has s) c.in-Ok.ensures.told h))
+    (λ s h. record {
+      old = c.in-Ok.mirror.blocks;
+      count = c.in-Ok.ensures.count;
+      read = c.in-Ok.ensures.blocks;
+      then = leaves_has (g.I.ImageDev.told c.args.image) now _ _
+          (λ new e. stop_on c.args.script.now (g.I.ImageDev.size c.args.image) c.in-Ok.mirror.blocks new (g.I.ImageDev.faults c.args.image) had has s c.in-Ok.ensures.inside c.in-Ok.ensures.later e)
+          (subst (λ t. Leaves t now (λ new. IsStopBy c.args.script.now c.in-Ok.mirror.blocks new had has s)) c.in-Ok.ensures.told h);
+    })
     c.run_mounted.ensures.end
+
+pub returns-in-Err-clause-end : goal.returns-in-Err-clause-end
+returns-in-Err-clause-end g c =
+    let size = g.I.ImageDev.size c.args.image in
+    let had = g.I.ImageDev.faults c.args.image in
+    let has = g.I.ImageDev.faults c.in-Err.field-0.image in
+    image_stays size (g.I.ImageDev.told c.args.image) (g.I.ImageDev.told c.in-Err.field-0.image) _ (g.met.I.ImageDev.counted c.args.image) c.in-Err.ensures.told
+    (λ bs count. subst (λ s. IsImageStop c.args.script.now size bs bs had has (stop.By s)) (sym c.load_status.ensures) (load_end c.args.script.now size bs had has c.in-Err.field-0.fault c.in-Err.ensures.cause))

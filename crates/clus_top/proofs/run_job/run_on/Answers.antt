@@ -9,22 +9,30 @@ pub returns-in-Ok-clause-report : goal.returns-in-Ok-clause-report
 returns-in-Ok-clause-report g c =
     let image = told_well _ _ _ (c.run-ran.ensures.drive c.requires.told) (λ p. let e = sym c.in-Ok.is ∙ p in cc) in
     if_ok c.text_of.result _ _
-    (λ text h. end_in c.args.w.now.world c.keeps_the_rules.ensures.good c.requires.mounted c.args.what c.run-ran.new.w.world c.args.plays.now _ _ text.items c.requires.plays
-    c.in-Ok.ensures.ok.0 c.in-Ok.ensures.ok.1 c.keeps_the_rules-2.ensures.good c.run-ran.ensures.stays c.in-Ok.ensures.whole image h)
+    (λ text h. record {
+      new = c.run-ran.new.w.world.blocks;
+      left = image;
+      holds = end_in c.args.w.now.world c.keeps_the_rules.ensures.good c.requires.mounted c.args.what c.run-ran.new.w.world c.args.plays.now text.items c.requires.plays
+          c.in-Ok.ensures.ok.0 c.in-Ok.ensures.ok.1 c.keeps_the_rules-2.ensures.good c.run-ran.ensures.stays c.in-Ok.ensures.whole h;
+    })
     c.text_of.ensures.text
 
 pub returns-in-Ok-clause-end : goal.returns-in-Ok-clause-end
 returns-in-Ok-clause-end g c =
     let start = c.args.w.now.world in
     let image = told_well _ _ _ (c.run-ran.ensures.drive c.requires.told) (λ p. let e = sym c.in-Ok.is ∙ p in cc) in
-    let lacking = lacking_in start c.keeps_the_rules.ensures.good c.requires.mounted c.run-ran.new.w.world c.args.plays.now (g.I.ImageDev.told c.args.w.now.image) (g.I.ImageDev.told c.run-ran.new.w.image) c.requires.plays
-    (inr (c.in-Ok.ensures.ok.0.turns, c.in-Ok.ensures.ok.0.at)) c.keeps_the_rules-2.ensures.good image (inr c.in-Ok.ensures.ok.1) in
+    let lacking = lacking_in start c.keeps_the_rules.ensures.good c.requires.mounted c.run-ran.new.w.world c.args.plays.now c.requires.plays
+    (inr (c.in-Ok.ensures.ok.0.turns, c.in-Ok.ensures.ok.0.at)) c.keeps_the_rules-2.ensures.good (inr c.in-Ok.ensures.ok.1) in
     if_err c.text_of.result _ _
-    (λ s e. subst (IsStopBy start.script start.blocks (g.I.ImageDev.told c.args.w.now.image) (g.I.ImageDev.told c.run-ran.new.w.image) (g.I.ImageDev.faults c.args.w.now.image) (g.I.ImageDev.faults c.run-ran.new.w.image)) (sym e) (inr lacking))
+    (λ s e. record {
+      new = c.run-ran.new.w.world.blocks;
+      left = image;
+      holds = subst (IsStopBy start.script start.blocks c.run-ran.new.w.world.blocks (g.I.ImageDev.faults c.args.w.now.image) (g.I.ImageDev.faults c.run-ran.new.w.image)) (sym e) (inr lacking);
+    })
     c.text_of.ensures.end
 
 pub returns-in-Err-clause-end : goal.returns-in-Err-clause-end
 returns-in-Err-clause-end g c =
     run_stop c.args.w.now.world c.keeps_the_rules.ensures.good c.requires.mounted c.run-ran.new.w.world c.args.plays.now _ _ _ _ c.run-ran.result c.in-Err.fault c.in-Err.is c.requires.plays
-    c.run-ran.ensures.err c.keeps_the_rules-2.ensures.good c.run-ran.ensures.cause c.run-ran.ensures.before c.run-ran.ensures.memory (c.run-ran.ensures.drive c.requires.told)
+    c.run-ran.ensures.err c.keeps_the_rules-2.ensures.good c.run-ran.ensures.cause c.run-ran.ensures.before c.run-ran.ensures.memory (c.run-ran.ensures.drive c.requires.told) c.requires.told
     c.stop_of.result c.stop_of.ensures

@@ -1,6 +1,8 @@
 use Rattle.std.proofs.Common.{◌∙◌, ℕ, List, All, sym, subst}
 use Rattle.core_state.specs.Worlds.{IsOfWorld}
+use Rattle.run_engine.specs.Inputs.{Leaves}
 use Rattle.run_engine.proofs.Driving.{told_well}
+use Rattle.run_engine.proofs.Given.{leaves_has}
 use Rattle.run_engine.proofs.Results.{if_err, if_ok}
 use Rattle.run_engine.proofs.MendedDrives.{told_now}
 use Rattle.clus_top.specs.Ends.{IsStopBy}
@@ -35,12 +37,14 @@ returns-in-Ok-clause-halt g c =
 
 pub returns-in-Err-clause-halt : goal.returns-in-Err-clause-halt
 returns-in-Err-clause-halt g c =
-    let told = g.I.ImageDev.told c.args.w.image in
-    let faults = g.I.ImageDev.faults c.args.w.image in
-    subst (IsHaltIn c.args.w.world.script c.args.w.world.blocks told (g.I.ImageDev.told c.into_image.result) faults (g.I.ImageDev.faults c.into_image.result)) (sym c.halt_of.ensures)
-    (stop_halts c.args.w.world.script c.args.w.world.blocks told _ faults _ c.stop_of-stop.result
-    (subst (λ (i : g.row.I.Denot). IsStopBy c.args.w.world.script c.args.w.world.blocks told (g.I.ImageDev.told i) faults (g.I.ImageDev.faults i) c.stop_of-stop.result)
-    (sym (c.into_image.ensures ∙ c.into_parts-history.ensures.image))
+    let told = λ (i : g.row.I.Denot). g.I.ImageDev.told i in
+    let faults = λ (i : g.row.I.Denot). g.I.ImageDev.faults i in
+    let script = c.args.w.world.script in
+    let bs = c.args.w.world.blocks in
+    let after = c.into_image.ensures ∙ c.into_parts-history.ensures.image in
+    leaves_has (told c.args.w.image) (told c.into_image.result) _ _
+    (λ new e. subst (IsHaltIn script bs new (faults c.args.w.image) (faults c.into_image.result)) (sym c.halt_of.ensures) (stop_halts script bs new (faults c.args.w.image) (faults c.into_image.result) c.stop_of-stop.result e))
+    (subst (λ (i : g.row.I.Denot). Leaves (told c.args.w.image) (told i) (λ new. IsStopBy script bs new (faults c.args.w.image) (faults i) c.stop_of-stop.result)) (sym after)
     (run_stop c.args.w.world c.keeps_the_rules.ensures.good c.requires.mounted c.run-ran.new.w.world c.args.plays.now _ _ _ _ c.run-ran.result c.in-Err.fault c.in-Err.is c.requires.plays
-    c.run-ran.ensures.err c.keeps_the_rules-2.ensures.good c.run-ran.ensures.cause c.run-ran.ensures.before c.run-ran.ensures.memory (c.run-ran.ensures.drive c.requires.told)
-    c.stop_of-stop.result c.stop_of-stop.ensures)))
+    c.run-ran.ensures.err c.keeps_the_rules-2.ensures.good c.run-ran.ensures.cause c.run-ran.ensures.before c.run-ran.ensures.memory (c.run-ran.ensures.drive c.requires.told) c.requires.told
+    c.stop_of-stop.result c.stop_of-stop.ensures))

@@ -1,46 +1,34 @@
-use Rattle.std.proofs.Common.{Some}
-use Rattle.run_engine.specs.Scripts.{IsScriptOf}
-use Rattle.clus_top.specs.Statuses.{IsTextOf}
-use Rattle.clus_top.specs.Words.{RunRebuild}
-use Rattle.run_engine.proofs.Results.{err_is}
-use Rattle.clus_top.proofs.Told.{due_told, script_told, image_told, out_told, written_told, after_told}
+use Rattle.std.proofs.Common.{ℕ, List, subst}
+use Rattle.std.specs.Io.KnownBytes.{Appends}
+use Rattle.fx_text.specs.Streams.{AppendsStart}
+use Rattle.run_engine.proofs.Given.{script_has, image_has}
+use Rattle.run_engine.proofs.Results.{ok_has, err_is}
+use Rattle.clus_top.proofs.Told.{halt_ok, halt_told}
 use Rattle.clus_top.proofs.top.run_rebuild.Goals as goal
 
-pub returns-in-Err-clause-due : goal.returns-in-Err-clause-due
-returns-in-Err-clause-due g c =
-    due_told (g.T.TextIn.left c.args.script.now) (g.I.ImageDev.size c.args.image) (g.I.ImageDev.told c.args.image) (g.I.ImageDev.told c.run_and_mend-outcome.result.image) _ _ _ _ _ _ _ _
-    c.in-Err.halt c.tell_halt-status.result (err_is c.run_and_mend-outcome.result.outcome c.in-Err.halt _ c.in-Err.is c.run_and_mend-outcome.ensures.halt) c.tell_halt-status.ensures
-
-pub returns-in-Err-clause-script_fault : goal.returns-in-Err-clause-script_fault
-returns-in-Err-clause-script_fault g c =
-    script_told (g.T.TextIn.left c.args.script.now) (g.I.ImageDev.size c.args.image) (g.I.ImageDev.told c.args.image) (g.I.ImageDev.told c.run_and_mend-outcome.result.image) _ _ _ _ _ _ _ _
-    c.in-Err.halt c.tell_halt-status.result (err_is c.run_and_mend-outcome.result.outcome c.in-Err.halt _ c.in-Err.is c.run_and_mend-outcome.ensures.halt) c.tell_halt-status.ensures
-
-pub returns-in-Err-clause-image_fault : goal.returns-in-Err-clause-image_fault
-returns-in-Err-clause-image_fault g c =
-    image_told (g.T.TextIn.left c.args.script.now) (g.I.ImageDev.size c.args.image) (g.I.ImageDev.told c.args.image) (g.I.ImageDev.told c.run_and_mend-outcome.result.image) _ _ _ _ _ _ _ _
-    c.in-Err.halt c.tell_halt-status.result (err_is c.run_and_mend-outcome.result.outcome c.in-Err.halt _ c.in-Err.is c.run_and_mend-outcome.ensures.halt) c.tell_halt-status.ensures
-
-pub returns-in-Err-clause-out_fault : goal.returns-in-Err-clause-out_fault
-returns-in-Err-clause-out_fault g c =
-    out_told (g.T.TextIn.left c.args.script.now) (g.I.ImageDev.size c.args.image) (g.I.ImageDev.told c.args.image) (g.I.ImageDev.told c.run_and_mend-outcome.result.image) _ _ _ _ _ _ _ _
-    c.in-Err.halt c.tell_halt-status.result (err_is c.run_and_mend-outcome.result.outcome c.in-Err.halt _ c.in-Err.is c.run_and_mend-outcome.ensures.halt) c.tell_halt-status.ensures
-
-pub returns-in-Err-clause-written : goal.returns-in-Err-clause-written
-returns-in-Err-clause-written g c =
-    let left = g.T.TextIn.left c.args.script.now in
+pub returns-in-Ok : goal.returns-in-Ok
+returns-in-Ok g c =
     let size = g.I.ImageDev.size c.args.image in
-    let told = g.I.ImageDev.told c.args.image in
-    let new = g.I.ImageDev.told c.run_and_mend-outcome.result.image in
-    written_told left size told new _ _ _ _ _ _ _ _ (IsScriptOf left) (IsTextOf (Some RunRebuild) left size told new) c.in-Err.halt c.tell_halt-status.result
-    (err_is c.run_and_mend-outcome.result.outcome c.in-Err.halt _ c.in-Err.is c.run_and_mend-outcome.ensures.halt)
-    (err_is c.run_and_mend-outcome.result.outcome c.in-Err.halt _ c.in-Err.is c.run_and_mend-outcome.ensures.left) c.tell_halt-status.ensures
+    let was = g.O.TextOut.written c.args.out.now in
+    let now = g.O.TextOut.written c.tell_text-status.new.out in
+    let text = c.in-Ok.text.items in
+    script_has (g.T.TextIn.left c.args.script.now) _ _
+    (λ bytes. image_has size (g.I.ImageDev.told c.args.image) (g.I.ImageDev.told c.run_and_mend-outcome.result.image) _ _
+    (halt_ok size was now (g.T.TextIn.faults c.args.script.now) (g.T.TextIn.faults c.run_and_mend-outcome.new.script) (g.I.ImageDev.faults c.args.image) (g.I.ImageDev.faults c.run_and_mend-outcome.result.image)
+    (g.O.TextOut.faults c.args.out.now) (g.O.TextOut.faults c.tell_text-status.new.out) c.tell_text-status.result text c.tell_text-status.ensures.either
+    (λ e. subst (λ (t : List ℕ). Appends was now t) c.as_slice.ensures.value (c.tell_text-status.ensures.all e)) (λ e. subst (λ (t : List ℕ). AppendsStart was now t) c.as_slice.ensures.value (c.tell_text-status.ensures.cut e))
+    c.tell_text-status.ensures.fault bytes))
+    (ok_has c.run_and_mend-outcome.result.outcome c.in-Ok.text _ c.in-Ok.is c.run_and_mend-outcome.ensures.report)
 
-pub returns-in-Err-clause-after : goal.returns-in-Err-clause-after
-returns-in-Err-clause-after g c =
-    let left = g.T.TextIn.left c.args.script.now in
-    let told = g.I.ImageDev.told c.args.image in
-    let new = g.I.ImageDev.told c.run_and_mend-outcome.result.image in
-    after_told left (g.I.ImageDev.size c.args.image) told new _ _ _ _ _ _ _ _ (IsScriptOf left) (IsTextOf (Some RunRebuild) left (g.I.ImageDev.size c.args.image) told new) c.in-Err.halt c.tell_halt-status.result
+pub returns-in-Err : goal.returns-in-Err
+returns-in-Err g c =
+    let size = g.I.ImageDev.size c.args.image in
+    let was = g.O.TextOut.written c.args.out.now in
+    let now = g.O.TextOut.written c.tell_halt-status.new.out in
+    let before = g.O.TextOut.faults c.args.out.now in
+    let after = g.O.TextOut.faults c.tell_halt-status.new.out in
+    script_has (g.T.TextIn.left c.args.script.now) _ _
+    (λ bytes. image_has size (g.I.ImageDev.told c.args.image) (g.I.ImageDev.told c.run_and_mend-outcome.result.image) _ _
+    (halt_told size was now (g.T.TextIn.faults c.args.script.now) (g.T.TextIn.faults c.run_and_mend-outcome.new.script) (g.I.ImageDev.faults c.args.image) (g.I.ImageDev.faults c.run_and_mend-outcome.result.image) before after
+    c.tell_halt-status.result c.in-Err.halt c.tell_halt-status.ensures bytes))
     (err_is c.run_and_mend-outcome.result.outcome c.in-Err.halt _ c.in-Err.is c.run_and_mend-outcome.ensures.halt)
-    (err_is c.run_and_mend-outcome.result.outcome c.in-Err.halt _ c.in-Err.is c.run_and_mend-outcome.ensures.left) c.tell_halt-status.ensures

@@ -1,14 +1,14 @@
+use Rattle.run_engine.proofs.Given.{script_has, image_has}
 use Rattle.clus_top.specs.Words.{wanted_by}
-use Rattle.clus_top.proofs.OneAnswer.{alone_by, answered_by}
+use Rattle.clus_top.proofs.OneAnswer.{called}
 use Rattle.clus_top.proofs.top.vmsclus.Goals as goal
 
-pub returns-clause-alone : goal.returns-clause-alone
-returns-clause-alone g c =
-    let wanted = wanted_by c.args.words.now in
+pub returns : goal.returns
+returns g c =
     let size = g.I.ImageDev.size c.args.image in
-    alone_by wanted (g.T.TextIn.left c.args.script.now) size (g.I.ImageDev.told c.args.image) c.done.result.status c.done.ensures.due
-    (λ bytes bs fs found. c.one_status_is_due.ensures wanted bytes size bs fs found)
-
-pub returns-clause-answered : goal.returns-clause-answered
-returns-clause-answered g c =
-    answered_by (wanted_by c.args.words.now) (g.T.TextIn.left c.args.script.now) (g.I.ImageDev.size c.args.image) (g.I.ImageDev.told c.args.image) c.done.result.status c.done.ensures.due c.good_runs_are_answered.ensures
+    script_has (g.T.TextIn.left c.args.script.now) _ _
+    (λ bytes. image_has size (g.I.ImageDev.told c.args.image) (g.I.ImageDev.told c.done.result.image) _ _
+    (called (wanted_by c.args.words.now) size (g.O.TextOut.written c.args.out.now) (g.O.TextOut.written c.done.new.out) (g.T.TextIn.faults c.args.script.now) (g.T.TextIn.faults c.done.new.script)
+    (g.I.ImageDev.faults c.args.image) (g.I.ImageDev.faults c.done.result.image) (g.O.TextOut.faults c.args.out.now) (g.O.TextOut.faults c.done.new.out) c.done.result.status
+    c.no_other_status_is_due.ensures c.good_runs_are_answered.ensures bytes))
+    c.done.ensures

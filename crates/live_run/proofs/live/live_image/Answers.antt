@@ -1,36 +1,46 @@
-use Rattle.std.proofs.Common.{subst}
+use Rattle.std.proofs.Common.{sym, subst}
+use Rattle.run_engine.specs.declared.over_mending.Halt.TheVariants as halt
+use Rattle.run_engine.specs.Inputs.{Leaves}
+use Rattle.run_engine.proofs.Given.{leaves_has, image_stays}
+use Rattle.run_engine.proofs.Results.{if_err, if_ok}
 use Rattle.live_run.specs.Lives.{IsEnd}
 use Rattle.live_run.specs.Ends.{IsHalt}
-use Rattle.run_engine.proofs.Results.{if_err, if_ok}
-use Rattle.live_run.proofs.Imaged.{accepted_on, end_on, halt_on}
+use Rattle.live_run.specs.Statuses.{IsImageHalt}
+use Rattle.live_run.proofs.Imaged.{halt_on, load_end}
 use Rattle.live_run.proofs.live.live_image.Goals as goal
-
-pub returns-in-Ok-clause-passed : goal.returns-in-Ok-clause-passed
-returns-in-Ok-clause-passed g c =
-    let new = g.I.ImageDev.told c.live_mounted.result.image in
-    if_ok c.live_mounted.result.outcome _ _
-    (λ text h. record {
-      inside = c.in-Ok.ensures.inside;
-      accepted = accepted_on c.args.job c.args.script.now (g.I.ImageDev.size c.args.image) (g.I.ImageDev.told c.args.image) new c.in-Ok.mirror.blocks c.in-Ok.ensures.blocks text.items
-          (subst (λ t. IsEnd c.args.job c.args.script.now c.in-Ok.mirror.blocks t new text.items) c.in-Ok.ensures.told h);
-    })
-    c.live_mounted.ensures.ended
 
 pub returns-in-Ok-clause-ended : goal.returns-in-Ok-clause-ended
 returns-in-Ok-clause-ended g c =
-    let new = g.I.ImageDev.told c.live_mounted.result.image in
+    let now = g.I.ImageDev.told c.live_mounted.result.image in
     if_ok c.live_mounted.result.outcome _ _
-    (λ text h. end_on c.args.job c.args.script.now (g.I.ImageDev.size c.args.image) (g.I.ImageDev.told c.args.image) new c.in-Ok.mirror.blocks c.in-Ok.ensures.blocks text.items
-    (subst (λ t. IsEnd c.args.job c.args.script.now c.in-Ok.mirror.blocks t new text.items) c.in-Ok.ensures.told h))
+    (λ text h. record {
+      old = c.in-Ok.mirror.blocks;
+      count = c.in-Ok.ensures.count;
+      read = c.in-Ok.ensures.blocks;
+      then = subst (λ t. Leaves t now (λ new. IsEnd c.args.job c.args.script.now c.in-Ok.mirror.blocks new text.items)) c.in-Ok.ensures.told h;
+    })
     c.live_mounted.ensures.ended
 
 pub returns-in-Ok-clause-halt : goal.returns-in-Ok-clause-halt
 returns-in-Ok-clause-halt g c =
-    let new = g.I.ImageDev.told c.live_mounted.result.image in
+    let now = g.I.ImageDev.told c.live_mounted.result.image in
     let has = g.I.ImageDev.faults c.live_mounted.result.image in
     let had = g.I.ImageDev.faults c.in-Ok.mirror.image in
     if_err c.live_mounted.result.outcome _ _
-    (λ s h. halt_on c.args.job c.args.script.now (g.I.ImageDev.size c.args.image) (g.I.ImageDev.told c.args.image) new c.in-Ok.mirror.blocks c.in-Ok.ensures.blocks _ had has s
-    c.in-Ok.ensures.inside c.in-Ok.ensures.later
-    (subst (λ t. IsHalt c.args.job c.args.script.now c.in-Ok.mirror.blocks t new had has s) c.in-Ok.ensures.told h))
+    (λ x h. record {
+      old = c.in-Ok.mirror.blocks;
+      count = c.in-Ok.ensures.count;
+      read = c.in-Ok.ensures.blocks;
+      then = leaves_has (g.I.ImageDev.told c.args.image) now _ _
+          (λ new e. halt_on c.args.job c.args.script.now (g.I.ImageDev.size c.args.image) c.in-Ok.mirror.blocks new (g.I.ImageDev.faults c.args.image) had has x c.in-Ok.ensures.inside c.in-Ok.ensures.later e)
+          (subst (λ t. Leaves t now (λ new. IsHalt c.args.job c.args.script.now c.in-Ok.mirror.blocks new had has x)) c.in-Ok.ensures.told h);
+    })
     c.live_mounted.ensures.halt
+
+pub returns-in-Err-clause-halt : goal.returns-in-Err-clause-halt
+returns-in-Err-clause-halt g c =
+    let size = g.I.ImageDev.size c.args.image in
+    let had = g.I.ImageDev.faults c.args.image in
+    let has = g.I.ImageDev.faults c.in-Err.field-0.image in
+    image_stays size (g.I.ImageDev.told c.args.image) (g.I.ImageDev.told c.in-Err.field-0.image) _ c.blocks_are_counted.ensures c.in-Err.ensures.told
+    (λ bs count. subst (λ s. IsImageHalt c.args.job c.args.script.now size bs bs had has (halt.By s)) (sym c.load_status.ensures) (load_end c.args.job c.args.script.now size bs had has c.in-Err.field-0.fault c.in-Err.ensures.cause))

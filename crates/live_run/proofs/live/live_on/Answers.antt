@@ -1,4 +1,6 @@
 use Rattle.live_run.proofs.Lived.{told_ok, ended_by, halted_by}
+use Rattle.std.proofs.Common.{◌∙◌, refl, ap, inl}
+use Rattle.run_engine.proofs.Given.{stays}
 use Rattle.run_engine.proofs.Results.{if_err, if_ok}
 use Rattle.node_seat.specs.Keeping.{start_of}
 use Rattle.live_run.proofs.live.live_on.Goals as goal
@@ -36,3 +38,8 @@ returns-in-Ok-clause-halt g c =
     (faults end.image) (faults c.told_end.result.image) (told end.image) (told c.told_end.result.image) c.finish-ran.result k
     c.finish-ran.ensures.over c.finish-ran.ensures.whole x h)
     c.told_end.ensures.halt
+
+pub returns-in-Err-clause-halt : goal.returns-in-Err-clause-halt
+returns-in-Err-clause-halt g c =
+    let same = c.image_of.ensures ∙ ap (λ w. w.image) c.in-Err.ensures.back in
+    stays (g.I.ImageDev.told c.args.world.image) (g.I.ImageDev.told c.image_of.result) c.args.world.world.blocks _ c.requires.told (ap (λ (i : g.row.I.Denot). g.I.ImageDev.told i) same) (inl refl)

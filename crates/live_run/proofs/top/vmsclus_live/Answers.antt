@@ -1,13 +1,14 @@
+use Rattle.run_engine.proofs.Given.{script_has, image_has}
 use Rattle.live_run.specs.Words.{job_of}
-use Rattle.live_run.proofs.OneAnswer.{alone_by, answered_by}
+use Rattle.live_run.proofs.OneAnswer.{called}
 use Rattle.live_run.proofs.top.vmsclus_live.Goals as goal
 
-pub returns-clause-alone : goal.returns-clause-alone
-returns-clause-alone g c =
-    alone_by (job_of c.args.words.now) (g.T.TextIn.left c.args.script.now) (g.I.ImageDev.size c.args.image) (g.I.ImageDev.told c.args.image) (g.I.ImageDev.told c.done.result.image) c.done.result.status c.done.ensures.due
-    c.one_live_status_is_due.ensures
-
-pub returns-clause-answered : goal.returns-clause-answered
-returns-clause-answered g c =
-    answered_by (job_of c.args.words.now) (g.T.TextIn.left c.args.script.now) (g.I.ImageDev.size c.args.image) (g.I.ImageDev.told c.args.image) (g.I.ImageDev.told c.done.result.image) c.done.result.status c.done.ensures.due
-    c.good_live_runs_are_answered.ensures
+pub returns : goal.returns
+returns g c =
+    let size = g.I.ImageDev.size c.args.image in
+    script_has (g.T.TextIn.left c.args.script.now) _ _
+    (λ bytes. image_has size (g.I.ImageDev.told c.args.image) (g.I.ImageDev.told c.done.result.image) _ _
+    (called (job_of c.args.words.now) size (g.O.TextOut.written c.args.out.now) (g.O.TextOut.written c.done.new.out) (g.T.TextIn.faults c.args.script.now) (g.T.TextIn.faults c.done.new.script)
+    (g.I.ImageDev.faults c.args.image) (g.I.ImageDev.faults c.done.result.image) (g.O.TextOut.faults c.args.out.now) (g.O.TextOut.faults c.done.new.out) c.done.result.status
+    c.no_other_live_status_is_due.ensures c.good_live_runs_are_answered.ensures bytes))
+    c.done.ensures
