@@ -1,5 +1,5 @@
 -- The clusters of one block that are taken, one after another.
-use Rattle.std.proofs.Common.{◌≡◌, ◌≤◌, ◌<◌, ◌+◌, ◌-◌, ◌*◌, ◌%◌, ◌++◌, ℕ, zero, suc, Bool, true, false, List, [], ◌∷◌, length, refl, sym, ap, ◌∙◌, arith, append-nil, append_assoc, length-append}
+use Rattle.std.proofs.Common.{◌≡◌, ◌≤◌, ◌<◌, ◌+◌, ◌-◌, ◌*◌, ◌%◌, ◌++◌, ℕ, zero, suc, Bool, true, false, List, [], ◌∷◌, length, refl, sym, ap, subst, ◌∙◌, arith, append-nil, append_assoc, length-append}
 use Rattle.std.specs.Prelude.{min, filter, take}
 use Rattle.std.specs.List.{range_with_len, All}
 use Rattle.std.proofs.lemmas.List.{take-append-le, length-take}
@@ -73,6 +73,13 @@ taking_full wanted before first b taken left q le t full =
     let some = length-take (wanted - length before) free in
     not_taken wanted before first b taken left q t
     (full_stays (wanted - length before) free b first (q - first) (q + 1 - first) q (bit_at b (q % 4096)) refl (omega arith) (omega arith) (omega (arith, count, some)))
+
+-- where as many are taken as are wanted, no cluster behind them is
+pub full_on : (wanted : ℕ) (before : List ℕ) (first : ℕ) (b : Block) (taken : List ℕ) (left : Block) (q n : ℕ) → first ≤ q → TakenTo wanted before first b taken left q → wanted ≤ length taken → TakenTo wanted before first b taken left (q + n)
+full_on wanted before first b taken left q zero le t full = subst (λ p. TakenTo wanted before first b taken left p) (omega arith) t
+full_on wanted before first b taken left q (suc n) le t full =
+    let next : q + n + 1 ≡ q + suc n = omega arith in
+    subst (λ p. TakenTo wanted before first b taken left p) next (taking_full wanted before first b taken left (q + n) (omega arith) (full_on wanted before first b taken left q n le t full) full)
 
 -- one more cluster that is taken
 one_more : (n : ℕ) (xs : List ℕ) (q : ℕ) → length (take n xs) < n → take n (xs ++ q ∷ []) ≡ take n xs ++ q ∷ []

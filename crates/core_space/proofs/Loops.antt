@@ -6,7 +6,7 @@ use Rattle.std.proofs.lemmas.Bool.Decides.{nat_tests}
 use Rattle.std.proofs.lemmas.List.{take_more, length-take, length-map, take-map, map-append}
 use Rattle.std.proofs.lemmas.List.Elements.{All-append}
 use Rattle.base_words.specs.Fields.{Block}
-use Rattle.fx_bitmap.specs.Bits.{bit_at}
+use Rattle.fx_bitmap.specs.Bits.{bit_at, count_below, count_set}
 use Rattle.plain_cat.specs.declared.reply.Refusal.TheVariants.{DeviceFull}
 use Rattle.vol_parts.specs.declared.geometry.Geometry.{Geometry}
 use Rattle.vol_parts.specs.declared.geometry.Part.TheVariants.{Storage}
@@ -44,6 +44,25 @@ counts_same b first q count le e clear =
 pub counts_all : (g : Geometry) (k q : ℕ) (b : Block) → q - 4096 * k ≡ min (4096 * k + 4096) (total_of g) - 4096 * k → counted_to b (4096 * k) q ≡ length (free_in g k b)
 unfolding free_in
 counts_all g k q b e = ap (λ n. length (filter (λ x. bit_at b (x % 4096)) (range_with_len (4096 * k) n))) e
+
+-- where all bits of the block are clusters', they are counted as bits
+counted_set : (b : Block) (k n : ℕ) → n ≤ 4096 → counted_to b (4096 * k) (4096 * k + n) ≡ count_below (bit_at b) n
+unfolding count_below
+counted_set b k zero h = let none : 4096 * k + 0 - 4096 * k ≡ 0 = omega arith in ap (λ m. length (filter (λ x. bit_at b (x % 4096)) (range_with_len (4096 * k) m))) none
+counted_set b k (suc n) h = by_bit (bit_at b n) refl (counted_set b k n (omega arith)) where
+  place : (4096 * k + n) % 4096 ≡ n
+  place = omega arith
+
+  next : 4096 * k + n + 1 ≡ 4096 * k + suc n
+  next = omega arith
+
+  by_bit : (t : Bool) → bit_at b n ≡ t → counted_to b (4096 * k) (4096 * k + n) ≡ count_below (bit_at b) n → counted_to b (4096 * k) (4096 * k + suc n) ≡ count_below (bit_at b) n + (cond t 1 0)
+  by_bit true set so_far = sym (counts_more b (4096 * k) (4096 * k + n) (count_below (bit_at b) n) (omega arith) (sym so_far) (ap (bit_at b) place ∙ set) ∙ ap (counted_to b (4096 * k)) next)
+  by_bit false clear so_far = sym (counts_same b (4096 * k) (4096 * k + n) (count_below (bit_at b) n) (omega arith) (sym so_far) (ap (bit_at b) place ∙ clear) ∙ ap (counted_to b (4096 * k)) next) ∙ omega arith
+
+pub counts_whole : (g : Geometry) (k : ℕ) (b : Block) → min (4096 * k + 4096) (total_of g) - 4096 * k ≡ 4096 → count_set b ≡ length (free_in g k b)
+unfolding count_set
+counts_whole g k b e = sym (counted_set b k 4096 (omega arith)) ∙ counts_all g k (4096 * k + 4096) b (omega (arith, e))
 
 pub none_free : (g : Geometry) (k : ℕ) → 0 ≡ length (free_from g k [])
 unfolding free_from

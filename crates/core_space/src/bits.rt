@@ -12,7 +12,7 @@ ghost use Rattle.core_space.specs.Filling.{lowest_numbers, with_used};
 ghost use Rattle.core_space.specs.Giving.{is_seen, block_seen, has_covered};
 
 use base_words::{Block, zeros};
-use fx_bitmap::{bit, clear_bits, set_bits};
+use fx_bitmap::{bit, clear_bits, count_set, set_bits};
 use op_law::Numbers;
 use plain_cat::NoMemory;
 use std::alloc::Global;
@@ -41,6 +41,9 @@ fn count_in(geometry: &Geometry, k: u32, block: &Block) -> u32
 {
     let first = CLUSTERS_PER_BLOCK * k;
     let end = (first + CLUSTERS_PER_BLOCK).min(geometry.blocks / geometry.cluster);
+    if end == first + CLUSTERS_PER_BLOCK {
+        return count_set(block);
+    }
     let mut count = 0;
     for q in first..end {
         if bit(block, q % CLUSTERS_PER_BLOCK) {

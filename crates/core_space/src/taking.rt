@@ -97,7 +97,10 @@ fn take_from(
     let end = (first + 4096).min(geometry.blocks / geometry.cluster);
     let mut left = *block;
     for q in first..end {
-        if taken.items().len() < wanted as usize && bit(block, q % 4096) {
+        if wanted as usize <= taken.items().len() {
+            return Ok(left);
+        }
+        if bit(block, q % 4096) {
             taken.push(q)?;
             clear_bits(&mut left, q % 4096, 1);
         }

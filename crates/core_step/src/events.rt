@@ -258,11 +258,11 @@ pub(crate) fn ask<I: ImageDev, O: Operation>(
 }
 
 // A node has looked at a block. A refusal of memory leaves it as it was.
-fn keep_block<O: Operation>(node: &mut Node<O>, lbn: u32, block: Block) -> Result<(), NoMemory>
-    ensures ok { OnOk result (state_of O.cmd_is node.new ≡ turned (looking (state_of O.cmd_is node.old) lbn block)) }
+fn keep_block<O: Operation>(node: &mut Node<O>, lbn: u32, block: &Block) -> Result<(), NoMemory>
+    ensures ok { OnOk result (state_of O.cmd_is node.new ≡ turned (looking (state_of O.cmd_is node.old) lbn block.now)) }
     ensures err { OnErr result (state_of O.cmd_is node.new ≡ state_of O.cmd_is node.old) }
 {
-    node.seen.blocks.push((lbn, block))?;
+    node.seen.blocks.push((lbn, *block))?;
     count_read(node);
     Ok(())
 }
@@ -274,13 +274,13 @@ fn keep_looked<O: Operation>(
     seq: Option<u64>,
     name: LockName,
     lbn: u32,
-    block: Block,
+    block: &Block,
 ) -> Result<(), NoMemory>
-    ensures ok { OnOk result (state_of O.cmd_is node.new ≡ turned (caching (kept_with seq lbn name block node.old.cache) (looking (state_of O.cmd_is node.old) lbn block))) }
+    ensures ok { OnOk result (state_of O.cmd_is node.new ≡ turned (caching (kept_with seq lbn name block.now node.old.cache) (looking (state_of O.cmd_is node.old) lbn block.now))) }
     ensures err { OnErr result (state_of O.cmd_is node.new ≡ state_of O.cmd_is node.old) }
 {
-    node.seen.blocks.push((lbn, block))?;
-    match keep(alloc, &mut node.cache, seq, lbn, name, &block) {
+    node.seen.blocks.push((lbn, *block))?;
+    match keep(alloc, &mut node.cache, seq, lbn, name, block) {
         Ok(()) => {
             count_read(node);
             Ok(())
@@ -317,7 +317,7 @@ pub(crate) fn look<I: ImageDev, O: Operation>(
         seq,
         name,
         lbn,
-        block,
+        &block,
     )
 }
 
@@ -363,7 +363,7 @@ pub(crate) fn fetch<I: ImageDev, O: Operation>(
     ensures room { core.new.history.room ≡ core.old.history.room }
 {
     let block = *core.mirror.read(lbn);
-    keep_block(&mut core.nodes[node as usize - 1], lbn, block)
+    keep_block(&mut core.nodes[node as usize - 1], lbn, &block)
 }
 
 // A node has decided on a plan.

@@ -1,6 +1,7 @@
 -- What is appended to a list of entries.
 use Rattle.std.proofs.Common.{◌≡◌, ◌∙◌, Bool, true, false, List, [], ◌∷◌, ◌++◌, Option, Some, None, drop, length, refl, sym, ap, subst, if◌then◌else◌}
-use Rattle.std.specs.Prelude.{option_and_then}
+use Rattle.std.specs.Prelude.{option_and_then, unwrap_or, IsSome}
+use Rattle.fx_dir.specs.Directory.{entries_at}
 use Rattle.base_words.specs.Fields.{Block, IsBytes}
 use Rattle.fx_dir.specs.declared.RawEnt.{RawEnt}
 use Rattle.fx_dir.specs.Lists.{Each}
@@ -54,3 +55,21 @@ block-sound b fs bytes h = go (records_in (length b) b) refl h where
   go : (o : Option (List RawEnt)) → o ≡ records_in (length b) b → option_and_then if_rising o ≡ Some fs → Each IsInForm fs × (rises fs ≡ true)
   go None k h = absurd (cc)
   go (Some es) k h = step es (sym k) (rises es) refl h
+
+-- the entries of a block that is a list of records in order are those of its records
+pub block-whole : (b : Block) → IsSome (block_entries b) → records_in (length b) b ≡ Some (entries_at b)
+unfolding block_entries
+block-whole b h = by_records (records_in (length b) b) refl h where
+  by_rising : (es : List RawEnt) (q : Bool) → IsSome (if q then Some es else None) → es ≡ unwrap_or (if q then Some es else None) []
+  by_rising es true k = refl
+  by_rising es false k = absurd (cc)
+
+  by_records : (o : Option (List RawEnt)) → records_in (length b) b ≡ o → IsSome (option_and_then if_rising o) → records_in (length b) b ≡ Some (unwrap_or (option_and_then if_rising (records_in (length b) b)) [])
+  by_records None e k = absurd (cc)
+  by_records (Some es) e k = e ∙ ap Some (by_rising es (rises es) k) ∙ ap (λ o. Some (unwrap_or (option_and_then if_rising o) [])) (sym e)
+
+-- where there was something, it stands behind the list
+pub sure : (b : Bool) (es new : List RawEnt) (o : Option (List RawEnt)) → if_whole b new ≡ behind es o → IsSome o → (fs : List RawEnt) × (o ≡ Some fs) × (new ≡ es ++ fs)
+sure true es new o h s = found true es new o h refl
+sure false es new None h s = absurd (cc)
+sure false es new (Some fs) h s = absurd (cc)

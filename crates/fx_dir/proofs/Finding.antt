@@ -1,10 +1,11 @@
 -- What the reader finds in blocks without a fault.
-use Rattle.std.proofs.Common.{◌≡◌, ◌&&◌, ◌||◌, ◌⊎◌, not, Bool, true, false, ℕ, List, [], ◌∷◌, ◌++◌, Option, Some, None, Ok, Err, map, length, unwrap_or, refl, sym, ap, subst, ◌∙◌, inl, inr, cond, eqb, if◌then◌else◌}
+use Rattle.std.proofs.Common.{◌≡◌, ◌&&◌, ◌||◌, ◌⊎◌, not, Bool, true, false, ℕ, List, [], ◌∷◌, ◌++◌, Option, Some, None, Result, Ok, Err, IsOk, map, length, unwrap_or, refl, sym, ap, subst, ◌∙◌, inl, inr, cond, eqb, if◌then◌else◌}
 use Rattle.std.specs.List.{list_any}
 use Rattle.std.specs.Str.{bytes_eq}
 use Rattle.std.specs.Prelude.{option_and_then}
 use Rattle.base_words.specs.Fields.{Block}
 use Rattle.fx_dir.specs.declared.RawEnt.{RawEnt}
+use Rattle.fx_dir.specs.declared.DirFault.{DirFault}
 use Rattle.fx_dir.specs.declared.DirFault.TheVariants.{BadOrder, Clash}
 use Rattle.fx_dir.specs.Lists.{Each, In, joined}
 use Rattle.fx_dir.specs.Entries.{same, clash, rises, has, fresh, any_clash, plain}
@@ -169,3 +170,23 @@ reads_set bs es h =
       sound = subst (λ (v : List RawEnt). Each (λ e. In (all_entries bs) e) v) w.entries (met-sound [] (map entries_at bs) (all_entries bs) tt (each-within (map entries_at bs)));
       complete = each-joined (λ e. In (map plain es) (plain e)) (map entries_at bs) w.plainly;
     }
+
+-- ---- a directory without a fault
+
+-- a block that is read is a list of records in order
+pub block-is : (vbn : ℕ) (es : List RawEnt) (o : Option (List RawEnt)) → IsOk (one_more vbn es o) → o ≡ Some (unwrap_or o [])
+block-is vbn es None h = absurd (cc)
+block-is vbn es (Some fs) h = refl
+
+-- what a block adds is the same under each number
+pub any-vbn : (vbn : ℕ) (es new : List RawEnt) (o : Option (List RawEnt)) → one_more 0 es o ≡ Ok new → one_more vbn es o ≡ Ok new
+any-vbn vbn es new None h = absurd (cc)
+any-vbn vbn es new (Some fs) h = h
+
+-- in a directory without a fault each block is read
+pub one-sound : (vbn : ℕ) (es : List RawEnt) (o : Option (List RawEnt)) (f : List RawEnt → Result (List RawEnt) DirFault) → IsOk (and_then (one_more vbn es o) f) → IsOk (one_more 0 es o)
+one-sound vbn es None f h = absurd (cc)
+one-sound vbn es (Some fs) f h = by_result (one_more 0 es (Some fs)) h where
+  by_result : (r : Result (List RawEnt) DirFault) → IsOk (and_then r f) → IsOk r
+  by_result (Ok gs) h = refl
+  by_result (Err fault) h = absurd (cc)

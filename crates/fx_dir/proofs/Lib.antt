@@ -15,6 +15,7 @@ pub mod Steps
 pub mod Naming
 pub mod Placing
 pub mod Filling
+pub mod Ahead
 pub mod Forming
 pub mod Appending
 pub mod Groups
@@ -24,6 +25,8 @@ pub mod Based
 pub mod Changing
 pub mod Seeing
 pub mod Inserting
+pub mod Entering
+pub mod Leaving
 pub mod Removing
 pub mod Moving
 pub mod Merging

@@ -9,7 +9,6 @@ use Rattle.base_words.specs.Packing.{padded, size}
 use Rattle.fx_dir.specs.declared.RawEnt.{RawEnt}
 use Rattle.fx_dir.specs.Writing.{name_of, head_bytes, version_bytes, goes_on, last_name, following, record_bytes, block_of}
 use Rattle.fx_dir.specs.Pieces.{entry_bytes}
-use Rattle.fx_dir.proofs.Order.{bytes_refl}
 use Rattle.fx_dir.proofs.Steps.{drop-here, last-more}
 use Rattle.fx_dir.proofs.Written.{length-version, length-head, length-records, block-written}
 
@@ -26,10 +25,9 @@ put-join b xs ys o p h e =
     (λ i. t i ++ (ys ++ d i)) ∙ append_assoc (take o b) xs (ys ++ drop (o + length (xs ++ ys)) b) ∙ ap (λ l. take o b ++ l) (sym (append_assoc xs ys (drop (o + length (xs ++ ys)) b)))
 
 -- the records of entries, one entry at a time
-pub records-one : (last : Option (List ℕ)) (e : RawEnt) (es : List RawEnt) → record_bytes last (e ∷ es) ≡ entry_bytes last e (following e.name (e ∷ es)) ++ record_bytes (Some e.name) es
+pub records-one : (last : Option (List ℕ)) (e : RawEnt) (es : List RawEnt) → record_bytes last (e ∷ es) ≡ entry_bytes last e (suc (following e.name es)) ++ record_bytes (Some e.name) es
 records-one last e es =
-    let n : following e.name (e ∷ es) ≡ suc (following e.name es) = rw (bytes_refl e.name) (omega arith) in
-    rw n (sym (append_assoc (if goes_on last e then [] else head_bytes e (suc (following e.name es))) (version_bytes e) (record_bytes (Some e.name) es)))
+    sym (append_assoc (if goes_on last e then [] else head_bytes e (suc (following e.name es))) (version_bytes e) (record_bytes (Some e.name) es))
 
 -- What stands in the block after i entries: their text, which ends at the place `at`.
 pub record Standing (es : List RawEnt) (i at : ℕ) (b : Block) : Type 0 where
@@ -44,27 +42,27 @@ standing-none es b z = record { text = []; long = refl; stands = z; left = refl 
 
 -- the records of all entries, where i entries stand
 pub standing-room : (es : List RawEnt) (i at : ℕ) (b : Block) (e : RawEnt) → Standing es i at b → size name_of None es ≤ 510 → i < length es → e ≡ get_or es i e
-    → at + length (entry_bytes (last_name (take i es)) e (following e.name (drop i es))) ≤ 510
+    → at + length (entry_bytes (last_name (take i es)) e (suc (following e.name (drop (i + 1) es)))) ≤ 510
 standing-room es i at b e s room h k =
     let rest = record_bytes (Some e.name) (drop (i + 1) es) in
     let d = drop-here es i e h k in
-    let one : record_bytes (last_name (take i es)) (drop i es) ≡ entry_bytes (last_name (take i es)) e (following e.name (drop i es)) ++ rest =
-    ap (record_bytes (last_name (take i es))) d ∙ records-one (last_name (take i es)) e (drop (i + 1) es) ∙ ap (λ (t : List RawEnt). entry_bytes (last_name (take i es)) e (following e.name t) ++ rest) (sym d) in
+    let one : record_bytes (last_name (take i es)) (drop i es) ≡ entry_bytes (last_name (take i es)) e (suc (following e.name (drop (i + 1) es))) ++ rest =
+    ap (record_bytes (last_name (take i es))) d ∙ records-one (last_name (take i es)) e (drop (i + 1) es) in
     let all : length s.text + length (record_bytes (last_name (take i es)) (drop i es)) ≡ size name_of None es =
     sym (length-append s.text (record_bytes (last_name (take i es)) (drop i es))) ∙ ap length s.left ∙ length-records None es in
     let long = s.long in
-    omega (arith, ap length one, length-append (entry_bytes (last_name (take i es)) e (following e.name (drop i es))) rest)
+    omega (arith, ap length one, length-append (entry_bytes (last_name (take i es)) e (suc (following e.name (drop (i + 1) es)))) rest)
 
 -- one entry more
 pub standing-more : (es : List RawEnt) (i at next : ℕ) (b c : Block) (e : RawEnt) → Standing es i at b → i < length es → e ≡ get_or es i e
-    → c ≡ put b at (entry_bytes (last_name (take i es)) e (following e.name (drop i es))) → next ≡ at + length (entry_bytes (last_name (take i es)) e (following e.name (drop i es)))
+    → c ≡ put b at (entry_bytes (last_name (take i es)) e (suc (following e.name (drop (i + 1) es)))) → next ≡ at + length (entry_bytes (last_name (take i es)) e (suc (following e.name (drop (i + 1) es))))
     → Standing es (i + 1) next c
 standing-more es i at next b c e s h k w n =
-    let piece = entry_bytes (last_name (take i es)) e (following e.name (drop i es)) in
+    let piece = entry_bytes (last_name (take i es)) e (suc (following e.name (drop (i + 1) es))) in
     let rest = record_bytes (Some e.name) (drop (i + 1) es) in
     let d = drop-here es i e h k in
     let one : record_bytes (last_name (take i es)) (drop i es) ≡ piece ++ rest =
-    ap (record_bytes (last_name (take i es))) d ∙ records-one (last_name (take i es)) e (drop (i + 1) es) ∙ ap (λ (t : List RawEnt). entry_bytes (last_name (take i es)) e (following e.name t) ++ rest) (sym d) in
+    ap (record_bytes (last_name (take i es))) d ∙ records-one (last_name (take i es)) e (drop (i + 1) es) in
     record {
       text = s.text ++ piece;
       long = length-append s.text piece ∙ ap (λ m. m + length piece) s.long ∙ sym n;

@@ -1,5 +1,6 @@
 -- Steps through the versions of a record and through the records of a block.
 use Rattle.std.proofs.Common.{◌≡◌, ◌+◌, ◌*◌, ◌≤◌, ◌<◌, ◌++◌, true, false, ℕ, zero, suc, List, [], ◌∷◌, Option, Some, None, option_map, drop, length, refl, sym, ap, ◌∙◌, arith, append_assoc}
+use Rattle.std.specs.Prelude.{IsSome}
 use Rattle.std.proofs.lemmas.List.{drop-drop}
 use Rattle.fx_dir.specs.declared.RawEnt.{RawEnt}
 use Rattle.fx_dir.specs.Records.{record_length, is_end, is_version, entry_in, versions_in, record_entries, records_in}
@@ -51,3 +52,10 @@ pub records-go : (all : Option (List RawEnt)) (list more next : List RawEnt) (by
 unfolding records_in Left
 records-go all list more next bytes l t r e s (zero, m, h) = absurd (omega arith)
 records-go all list more next bytes l t r e s (suc n, m, h) = (n, omega arith, rw e (h ∙ rw (t, r) (more-many list more (records_in n (drop (record_length bytes) bytes)))))
+
+-- where all is there, so is the record that begins here
+pub record-there : (all : Option (List RawEnt)) (xs list : List RawEnt) (bytes : List ℕ) → 2 ≤ length bytes → is_end bytes ≡ false → all ≡ Some xs → Left all list bytes → IsSome (record_entries bytes)
+record-there all xs list bytes l t a left = by_record (record_entries bytes) refl where
+  by_record : (o : Option (List RawEnt)) → record_entries bytes ≡ o → IsSome o
+  by_record None e = absurd (let n : Some xs ≡ None = sym a ∙ records-fail all list bytes l t e left in cc)
+  by_record (Some es) e = refl

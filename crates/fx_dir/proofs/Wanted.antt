@@ -81,6 +81,7 @@ ltb_says n m e = grind (arith, nat_tests)
 pub record HasVersions (bytes : List ℕ) : Type 0 where
   pub room : record_length bytes + 2 ≤ length bytes
   pub head : head_length bytes < record_length bytes
+  pub named : is_named bytes ≡ true
   pub entries : record_entries bytes ≡ versions_in bytes ((record_length bytes - head_length bytes) / 8) (drop (head_length bytes) bytes)
 
 pub record-versions : (bytes : List ℕ) → IsSome (record_entries bytes) → HasVersions bytes
@@ -95,6 +96,7 @@ record-versions bytes h = by_test (is_whole bytes && is_named bytes) refl h wher
       record {
         room = leb_says (record_length bytes + 2) (length bytes) p.0;
         head = ltb_says (head_length bytes) (record_length bytes) q.0;
+        named = (and_cases _ _ e).1;
         entries = ap (λ b. cond b (versions_in bytes ((record_length bytes - head_length bytes) / 8) (drop (head_length bytes) bytes)) None) e;
       }
 

@@ -21,7 +21,7 @@ impl RawEnt {
     pub(crate) fn is_same(&self, other: &RawEnt) -> bool
         ensures { result ≡ same self.now other.now }
     {
-        self.name.bytes() == other.name.bytes() && self.ver == other.ver
+        self.ver == other.ver && self.name.is_same(&other.name)
     }
 
     /// Whether an entry of the same name and version has another file identifier.

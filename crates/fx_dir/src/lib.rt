@@ -4,6 +4,7 @@
 //! that it stands for. [`read_dir`] reads the blocks of a directory, [`packed`] fills blocks with entries, and [`insert_moves`]
 //! and [`remove_moves`] give the writes, block by block, by which an entry comes or goes while the directory has its other
 //! entries at every moment, and [`pack_moves`] those by which entries that stand in two blocks come to stand in one.
+//! [`read_sound`], [`insert_into`], [`remove_from`] and [`rename_into`] serve directories that are known to be without a fault.
 //!
 //! ```text
 //! let moves = insert_moves(alloc, blocks, &entry)?;  // none if the entries with the new one do not pack
@@ -16,18 +17,22 @@
 #![tactic(auto)]
 
 ghost use Rattle.std.specs.Prelude.{◌≡◌, ◌≤◌, ◌-◌, ◌++◌, length, replicate};
+ghost use Rattle.std.specs.Str.{bytes_eq};
 
 use base_words::Block;
+use byteorder::{ByteOrder, LittleEndian};
 use std::alloc::{AllocError, AllocFailed};
 use std::marker::Model;
 use thiserror::Error;
 
+mod both;
 mod entries;
 mod laws;
 mod moves;
 mod packing;
 mod reading;
 mod records;
+mod renaming;
 mod searching;
 mod writing;
 
@@ -37,7 +42,8 @@ pub use laws::{
 };
 pub use moves::{Removal, insert_into, insert_moves, pack_moves, remove_from, remove_moves};
 pub use packing::packed;
-pub use reading::read_dir;
+pub use reading::{read_dir, read_sound};
+pub use renaming::{Renaming, rename_into};
 pub use searching::find_in;
 
 /// No memory was to be had.
@@ -87,6 +93,20 @@ impl RawName {
         ensures { result.now ≡ self.now }
     {
         &self.bytes[..self.len as usize]
+    }
+
+    /// Whether the two have the same bytes.
+    pub fn is_same(&self, other: &RawName) -> bool
+        ensures { result ≡ bytes_eq self.now other.now }
+    {
+        if self.len != other.len {
+            return false;
+        }
+        // Names that differ do so in their first eight bytes, mostly.
+        if LittleEndian::read_u64(&self.bytes) != LittleEndian::read_u64(&other.bytes) {
+            return false;
+        }
+        self.bytes == other.bytes
     }
 }
 

@@ -1,18 +1,20 @@
-ghost use Rattle.std.specs.Prelude.{◌≡◌, ◌<◌, ◌≤◌, ◌^◌, ◌++◌, true, false, option_map, position, IfOk, OnOk, IfSome, IsOk, Ok, length};
+ghost use Rattle.std.specs.Prelude.{◌≡◌, ◌<◌, ◌≤◌, ◌^◌, ◌++◌, true, false, option_map, position, IfOk, OnOk, IfSome, IsOk, Ok, map, length};
 ghost use Rattle.std.specs.List.{position_or_len};
 ghost use Rattle.std.specs.Result.{ForOk};
 ghost use Rattle.std.specs.Str.{bytes_eq};
 ghost use Rattle.fx_dir.specs.Lists.{Each};
 ghost use Rattle.fx_dir.specs.Entries.{before, has};
 ghost use Rattle.fx_dir.specs.Directory.{directory};
-ghost use Rattle.fx_dir.specs.Writing.{IsInForm};
+ghost use Rattle.base_words.specs.Packing.{pack};
+ghost use Rattle.fx_dir.specs.Writing.{IsInForm, IsRanged, name_of, block_of};
 ghost use Rattle.fx_dir.specs.Moves.{rising, falling, less_last, inserted, as_new, insertion, Inserts, removal, key, Removes, repacking, packing_writes, Packs};
 ghost use Rattle.fx_dir.specs.Pieces.{insertion_by, removal_by};
 
+use crate::both::{Both, pack_both};
 use crate::packing::{Lacking, lacking_at, pack_into, without};
-use crate::{DirFault, Move, NoMemory, RawEnt, RawName, read_dir};
+use crate::{Move, NoMemory, RawEnt, RawName, read_sound};
 use base_words::Block;
-use std::alloc::{AllocError, Global};
+use std::alloc::Global;
 
 /// Whether two blocks have the same bytes.
 fn are_equal(a: &Block, b: &Block) -> bool
@@ -81,7 +83,7 @@ fn marks_of(es: &[RawEnt], e: &RawEnt) -> (u16, u8)
     ensures flags { result.1 ≡ (as_new es.now e.now).flags }
 {
     for x in es {
-        if x.name.bytes() == e.name.bytes() {
+        if x.name.is_same(&e.name) {
             return (x.limit, x.flags);
         }
     }
@@ -89,7 +91,7 @@ fn marks_of(es: &[RawEnt], e: &RawEnt) -> (u16, u8)
 }
 
 /// The entry with the version limit and the flags of its name.
-fn as_new(es: &[RawEnt], e: &RawEnt) -> RawEnt
+pub(crate) fn as_new(es: &[RawEnt], e: &RawEnt) -> RawEnt
     ensures { result ≡ as_new es.now e.now }
 {
     let (limit, flags) = marks_of(es, e);
@@ -110,7 +112,7 @@ fn first_behind(es: &[RawEnt], e: &RawEnt) -> Option<usize>
 }
 
 /// How many of the entries stand in front of the place of this one.
-fn spot_of(es: &[RawEnt], e: &RawEnt) -> usize
+pub(crate) fn spot_of(es: &[RawEnt], e: &RawEnt) -> usize
     ensures spot { result ≡ position_or_len (λ x. before e.now x) es.now }
     ensures bound { result ≤ length es.now }
 {
@@ -128,7 +130,7 @@ fn push_all(list: &mut Vec<RawEnt>, es: &[RawEnt]) -> Result<(), NoMemory>
 }
 
 /// The entries with one more in its place.
-fn inserted(alloc: Global, es: &[RawEnt], e: &RawEnt) -> Result<Vec<RawEnt>, NoMemory>
+pub(crate) fn inserted(alloc: Global, es: &[RawEnt], e: &RawEnt) -> Result<Vec<RawEnt>, NoMemory>
     ensures { IfOk result (λ v. v.items ≡ inserted e.now es.now) }
 {
     let (front, back) = es.split_at(spot_of(es, e));
@@ -139,22 +141,9 @@ fn inserted(alloc: Global, es: &[RawEnt], e: &RawEnt) -> Result<Vec<RawEnt>, NoM
     Ok(list)
 }
 
-/// The entries of a directory without a fault.
-fn entries(alloc: Global, old: &[Block]) -> Result<Vec<RawEnt>, NoMemory>
-    requires { IsOk (directory old.now) }
-    ensures value { IfOk result (λ v. directory old.now ≡ Ok v.items) }
-    ensures form { IfOk result (λ v. Each IsInForm v.items) }
-{
-    match read_dir(alloc, old) {
-        Ok(list) => Ok(list),
-        Err(DirFault::NoMemory) => Err(AllocError),
-        Err(_) => unreachable!(),
-    }
-}
-
 /// The writes of an insertion that leads from the packing `left` of the old entries to the packing `new`, of which one block
 /// has the new entry.
-fn insert_writes(
+pub(crate) fn insert_writes(
     alloc: Global,
     old: &[Block],
     left: &[Block],
@@ -195,13 +184,14 @@ pub fn insert_into(
     ensures law { IfOk result (λ o. IfSome o (λ v. Inserts old.now e.now v.items)) }
 {
     let new = as_new(es, e);
-    let all = inserted(alloc, es, &new)?;
-    let after = pack_into(alloc, all.as_slice(), old.len())?;
+    let Both {
+        before,
+        after,
+        lacking,
+    } = pack_both(alloc, es, &new, old.len())?;
     if after.left > 0 {
         return Ok(None);
     }
-    let before = pack_into(alloc, es, old.len())?;
-    let lacking = lacking_at(alloc, all.as_slice(), old.len(), &new)?;
     Ok(Some(insert_writes(alloc, old, before.blocks.as_slice(), after.blocks, &lacking)?))
 }
 
@@ -219,7 +209,7 @@ pub fn insert_moves(alloc: Global, old: &[Block], e: &RawEnt) -> Result<Option<V
     ensures moves { IfOk result (λ o. option_map (λ v. v.items) o ≡ insertion old.now e.now) }
     ensures law { IfOk result (λ o. IfSome o (λ v. Inserts old.now e.now v.items)) }
 {
-    let es = entries(alloc, old)?;
+    let es = read_sound(alloc, old)?;
     insert_into(alloc, old, es.as_slice(), e)
 }
 
@@ -234,7 +224,7 @@ pub fn pack_moves(alloc: Global, old: &[Block]) -> Result<Vec<Move>, NoMemory>
     ensures moves { IfOk result (λ v. v.items ≡ repacking old.now) }
     ensures law { IfOk result (λ v. Packs old.now v.items) }
 {
-    let es = entries(alloc, old)?;
+    let es = read_sound(alloc, old)?;
     let packing = pack_into(alloc, es.as_slice(), old.len())?;
     rising(alloc, old, packing.blocks.as_slice())
 }
@@ -275,6 +265,39 @@ fn remove_writes(
     Ok(Removal { moves, packing })
 }
 
+/// What [`remove_from`] gives, where `whole` is the packing of the entries.
+pub(crate) fn remove_by(
+    alloc: Global,
+    old: &[Block],
+    whole: Vec<Block>,
+    es: &[RawEnt],
+    name: &[u8],
+    ver: u16,
+) -> Result<Removal, NoMemory>
+    requires numbered { length old.now < 2 ^ 32 }
+    requires read { directory old.now ≡ Ok es.now }
+    requires forms { Each IsInForm es.now }
+    requires whole { whole.items ≡ map block_of (pack name_of (length old.now) es.now) }
+    requires ranged { Each (λ g. Each IsRanged g) (pack name_of (length old.now) es.now) }
+    requires there { has es.now (key name.now ver) ≡ true }
+    ensures moves { IfOk result (λ r. r.moves.items ≡ removal old.now name.now ver) }
+    ensures packing { IfOk result (λ r. r.packing ≡ packing_writes old.now) }
+    ensures law { IfOk result (λ r. Removes old.now (key name.now ver) r.moves.items) }
+{
+    let e = RawEnt {
+        name: RawName::new(name),
+        ver,
+        num: 0,
+        seq: 0,
+        limit: 0,
+        flags: 0,
+    };
+    let rest = without(alloc, es, &e)?;
+    let after = pack_into(alloc, rest.as_slice(), old.len())?;
+    let lacking = lacking_at(alloc, es, old.len(), &e)?;
+    remove_writes(alloc, old, whole, &lacking, after.blocks.as_slice())
+}
+
 /// What [`remove_moves`] gives, where the entries of the directory are read already.
 pub fn remove_from(
     alloc: Global,
@@ -291,19 +314,8 @@ pub fn remove_from(
     ensures packing { IfOk result (λ r. r.packing ≡ packing_writes old.now) }
     ensures law { IfOk result (λ r. Removes old.now (key name.now ver) r.moves.items) }
 {
-    let e = RawEnt {
-        name: RawName::new(name),
-        ver,
-        num: 0,
-        seq: 0,
-        limit: 0,
-        flags: 0,
-    };
-    let rest = without(alloc, es, &e)?;
     let whole = pack_into(alloc, es, old.len())?;
-    let after = pack_into(alloc, rest.as_slice(), old.len())?;
-    let lacking = lacking_at(alloc, es, old.len(), &e)?;
-    remove_writes(alloc, old, whole.blocks, &lacking, after.blocks.as_slice())
+    remove_by(alloc, old, whole.blocks, es, name, ver)
 }
 
 /// The writes that take the entry of this name and version out of a directory, in their order.
@@ -322,6 +334,6 @@ pub fn remove_moves(
     ensures moves { IfOk result (λ v. v.items ≡ removal old.now name.now ver) }
     ensures law { IfOk result (λ v. Removes old.now (key name.now ver) v.items) }
 {
-    let es = entries(alloc, old)?;
+    let es = read_sound(alloc, old)?;
     Ok(remove_from(alloc, old, es.as_slice(), name, ver)?.moves)
 }

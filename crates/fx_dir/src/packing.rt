@@ -1,4 +1,4 @@
-ghost use Rattle.std.specs.Prelude.{◌≡◌, ◌<◌, ◌≤◌, ◌+◌, true, None, option_map, Ok, map, IfOk, IfSome, length, take, drop, slice_index_or, []};
+ghost use Rattle.std.specs.Prelude.{◌≡◌, ◌<◌, ◌≤◌, ◌+◌, ◌++◌, true, None, option_map, Ok, map, IfOk, IfSome, length, take, drop, slice_index_or, []};
 ghost use Rattle.base_words.specs.Packing.{cost, filled, unfilled, pack, over};
 ghost use Rattle.fx_dir.specs.Lists.{Each};
 ghost use Rattle.fx_dir.specs.Entries.{rises, plain, without};
@@ -19,17 +19,17 @@ fn cost_of(block: &[RawEnt], e: &RawEnt) -> usize
     ensures value { result ≡ cost (last_name block.now) e.now.name }
     ensures bound { result < 300 }
 {
-    let name = e.name.bytes();
     if let Some(last) = block.get(block.len().saturating_sub(1)) {
-        if last.name.bytes() == name {
+        if last.name.is_same(&e.name) {
             return 8;
         }
     }
+    let name = e.name.bytes();
     14 + (name.len() + name.len() % 2)
 }
 
 /// How many of the entries go into one block.
-fn fill(es: &[RawEnt]) -> usize
+pub(crate) fn fill(es: &[RawEnt]) -> usize
     requires { Each IsInForm es.now }
     ensures group { take result es.now ≡ filled name_of None 0 es.now }
     ensures rest { drop result es.now ≡ unfilled name_of None 0 es.now }
@@ -65,7 +65,20 @@ pub(crate) fn pack_into(alloc: Global, es: &[RawEnt], count: usize) -> Result<Pa
     ensures ranged { IfOk result (λ _. Each (λ g. Each IsRanged g) (pack name_of count es.now)) }
     ensures left { IfOk result (λ r. r.left ≡ length (over name_of count es.now)) }
 {
-    let mut blocks = Vec::with_capacity(alloc, count)?;
+    pack_onto(Vec::with_capacity(alloc, count)?, es, count)
+}
+
+/// These blocks, and behind them the first `count` of the packing.
+pub(crate) fn pack_onto(
+    mut blocks: Vec<Block>,
+    es: &[RawEnt],
+    count: usize,
+) -> Result<Packing, NoMemory>
+    requires { Each IsInForm es.now }
+    ensures blocks { IfOk result (λ r. r.blocks.items ≡ blocks.items ++ map block_of (pack name_of count es.now)) }
+    ensures ranged { IfOk result (λ _. Each (λ g. Each IsRanged g) (pack name_of count es.now)) }
+    ensures left { IfOk result (λ r. r.left ≡ length (over name_of count es.now)) }
+{
     let mut rest = es;
     for i in 0..count {
         let (group, more) = rest.split_at(fill(rest));

@@ -1,4 +1,4 @@
-ghost use Rattle.std.specs.Prelude.{◌≡◌, ◌≤◌, ◌+◌, ◌++◌, Result, Ok, Err, Some, IfOk, OnOk, true, length, take, drop};
+ghost use Rattle.std.specs.Prelude.{◌≡◌, ◌≤◌, ◌+◌, ◌++◌, Result, Ok, Err, Some, IsOk, IfOk, OnOk, true, length, take, drop};
 ghost use Rattle.std.specs.List.{list_all};
 ghost use Rattle.fx_dir.specs.Entries.{before, rises};
 ghost use Rattle.fx_dir.specs.Lists.{Each};
@@ -6,7 +6,7 @@ ghost use Rattle.fx_dir.specs.Writing.{IsInForm};
 ghost use Rattle.fx_dir.specs.Directory.{Gives, directory, one_more};
 ghost use Rattle.fx_dir.specs.Records.{block_entries};
 
-use crate::records::push_block;
+use crate::records::{push_block, push_sound};
 use crate::{DirFault, NoMemory, RawEnt};
 use base_words::Block;
 use std::alloc::Global;
@@ -33,6 +33,7 @@ fn count_met(es: &[RawEnt], fs: &[RawEnt]) -> Result<usize, DirFault>
     requires found { rises fs.now ≡ true }
     ensures value { Gives (λ n. es.now ++ drop n fs.now) (one_more 0 es.now (Some fs.now)) result }
     ensures bound { IfOk result (λ n. n ≤ length fs.now) }
+    ensures sound { IsOk (one_more 0 es.now (Some fs.now)) → IsOk result }
 {
     let mut i = passed(es, fs);
     let mut count = 0usize;
@@ -101,6 +102,39 @@ pub fn read_dir(alloc: Global, blocks: &[Block]) -> Result<Vec<RawEnt>, DirFault
     for b in blocks {
         one_more(vbn, &mut met, b)?;
         vbn = vbn.saturating_add(1);
+    }
+    Ok(met)
+}
+
+/// Adds the entries of one more block of a directory without a fault to those met so far.
+fn one_sound(met: &mut Vec<RawEnt>, b: &Block) -> Result<(), NoMemory>
+    requires form { Each IsInForm met.old.items }
+    requires order { rises met.old.items ≡ true }
+    requires sound { IsOk (one_more 0 met.old.items (block_entries b.now)) }
+    ensures value { OnOk result (one_more 0 met.old.items (block_entries b.now) ≡ Ok met.new.items) }
+    ensures form { OnOk result (Each IsInForm met.new.items) }
+    ensures order { OnOk result (rises met.new.items ≡ true) }
+{
+    let at = met.as_slice().len();
+    push_sound(met, b)?;
+    let (before, found) = met.as_slice().split_at(at);
+    let Ok(count) = count_met(before, found) else {
+        unreachable!()
+    };
+    take_out(met, at, count)?;
+    Ok(())
+}
+
+/// The entries of a directory that is read without a fault, which is not checked again: what [`read_dir`] gives.
+pub fn read_sound(alloc: Global, blocks: &[Block]) -> Result<Vec<RawEnt>, NoMemory>
+    requires { IsOk (directory blocks.now) }
+    ensures entries { IfOk result (λ v. directory blocks.now ≡ Ok v.items) }
+    ensures order { IfOk result (λ v. rises v.items ≡ true) }
+    ensures form { IfOk result (λ v. Each IsInForm v.items) }
+{
+    let mut met = Vec::with_capacity(alloc, blocks.len().saturating_mul(62))?;
+    for b in blocks {
+        one_sound(&mut met, b)?;
     }
     Ok(met)
 }

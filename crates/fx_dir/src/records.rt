@@ -1,5 +1,6 @@
-ghost use Rattle.std.specs.Prelude.{◌≡◌, ◌+◌, ◌-◌, ◌*◌, ◌/◌, ◌≤◌, ◌<◌, IfOk, length};
+ghost use Rattle.std.specs.Prelude.{◌≡◌, ◌+◌, ◌-◌, ◌*◌, ◌/◌, ◌≤◌, ◌<◌, ◌++◌, IfOk, OnOk, IsSome, length, drop};
 ghost use Rattle.std.specs.Bool.{OnTrue};
+ghost use Rattle.fx_dir.specs.Directory.{entries_at};
 ghost use Rattle.fx_dir.specs.Pieces.{if_whole, behind};
 ghost use Rattle.fx_dir.specs.Records.{record_length, head_length, name_in, is_end, is_whole, is_named, is_version, entry_in, versions_in, record_entries, records_in, block_entries};
 
@@ -114,6 +115,22 @@ fn push_versions(
     Ok(true)
 }
 
+/// Appends the entries of the versions of the record that begins here, and says whether none is bad.
+fn push_named(list: &mut Vec<RawEnt>, bytes: &[u8]) -> Result<bool, NoMemory>
+    requires room { record_length bytes.now + 2 ≤ length bytes.now }
+    requires head { head_length bytes.now < record_length bytes.now }
+    requires named { length (name_in bytes.now) ≤ 79 }
+    ensures { IfOk result (λ whole. if_whole whole list.new.items ≡ behind list.old.items (versions_in bytes.now ((record_length bytes.now - head_length bytes.now) / 8) (drop (head_length bytes.now) bytes.now))) }
+{
+    let head = head_length(bytes);
+    push_versions(
+        list,
+        bytes,
+        (record_length(bytes) - head) / 8,
+        &bytes[head..],
+    )
+}
+
 /// Appends the entries of the record that begins here, and says whether there is one.
 #[tactic(auto, unfolding(crate::specs::Records::record_entries))]
 fn push_record(list: &mut Vec<RawEnt>, bytes: &[u8]) -> Result<bool, NoMemory>
@@ -124,13 +141,7 @@ fn push_record(list: &mut Vec<RawEnt>, bytes: &[u8]) -> Result<bool, NoMemory>
     if !is_whole(bytes) || !is_named(bytes) {
         return Ok(false);
     }
-    let head = head_length(bytes);
-    push_versions(
-        list,
-        bytes,
-        (record_length(bytes) - head) / 8,
-        &bytes[head..],
-    )
+    push_named(list, bytes)
 }
 
 /// Appends the entries of the records of a block, and says whether none is bad.
@@ -159,4 +170,17 @@ pub(crate) fn push_block(list: &mut Vec<RawEnt>, b: &Block) -> Result<bool, NoMe
         return Ok(false);
     }
     Ok(rises(list.as_slice().split_at(at).1))
+}
+
+/// Appends the entries of a block that is a list of records in order, which is not checked again.
+pub(crate) fn push_sound(list: &mut Vec<RawEnt>, b: &Block) -> Result<(), NoMemory>
+    requires { IsSome (block_entries b.now) }
+    ensures { OnOk result (list.new.items ≡ list.old.items ++ entries_at b.now) }
+{
+    let mut rest: &[u8] = b;
+    while !is_end(rest) {
+        push_named(list, rest)?;
+        rest = rest.split_at(record_length(rest)).1;
+    }
+    Ok(())
 }

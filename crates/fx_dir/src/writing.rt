@@ -1,4 +1,4 @@
-ghost use Rattle.std.specs.Prelude.{◌≡◌, ◌+◌, ◌≤◌, None, length};
+ghost use Rattle.std.specs.Prelude.{◌≡◌, ◌+◌, ◌≤◌, ◌<◌, suc, None, length};
 ghost use Rattle.base_words.specs.Fields.{put};
 ghost use Rattle.base_words.specs.Packing.{padded, size};
 ghost use Rattle.fx_dir.specs.declared.RawEnt.{RawEnt};
@@ -6,7 +6,7 @@ ghost use Rattle.fx_dir.specs.Lists.{Each};
 ghost use Rattle.fx_dir.specs.Writing.{IsInForm, name_of, head_bytes, version_bytes, goes_on, last_name, following, block_of};
 ghost use Rattle.fx_dir.specs.Pieces.{entry_bytes};
 
-use crate::RawEnt;
+use crate::{RawEnt, RawName};
 use base_words::{Block, put_bytes, put_word, zeros};
 
 /// Whether the entry goes into the record of the last of those before it.
@@ -16,16 +16,16 @@ fn goes_on(before: &[RawEnt], e: &RawEnt) -> bool
 {
     match before.get(before.len().saturating_sub(1)) {
         None => false,
-        Some(last) => last.name.bytes() == e.name.bytes(),
+        Some(last) => last.name.is_same(&e.name),
     }
 }
 
 /// How many of the entries go on with this name.
-fn following(name: &[u8], es: &[RawEnt]) -> usize
+fn following(name: &RawName, es: &[RawEnt]) -> usize
     ensures count { result ≡ following name.now es.now }
     ensures bound { result ≤ length es.now }
 {
-    es.iter().take_while(|e| name == e.name.bytes()).count()
+    es.iter().take_while(|e| name.is_same(&e.name)).count()
 }
 
 /// Writes what a record of `count` versions has in front of them.
@@ -59,13 +59,13 @@ fn put_version(b: &mut Block, at: usize, e: &RawEnt)
     put_bytes(b, at + 6, &[0, (e.num / 65536) as u8]);
 }
 
-/// Writes an entry behind those in front of it, and gives the place behind it. `rest` begins with the entry.
-fn put_entry(b: &mut Block, at: usize, before: &[RawEnt], e: &RawEnt, rest: &[RawEnt]) -> usize
+/// Writes an entry behind those in front of it, and gives the place behind it. `more` are the entries behind it.
+fn put_entry(b: &mut Block, at: usize, before: &[RawEnt], e: &RawEnt, more: &[RawEnt]) -> usize
     requires form { IsInForm e.now }
-    requires few { length rest.now ≤ 64 }
-    requires room { at + length (entry_bytes (last_name before.now) e.now (following e.now.name rest.now)) ≤ 510 }
-    ensures text { b.new ≡ put b.old at (entry_bytes (last_name before.now) e.now (following e.now.name rest.now)) }
-    ensures end { result ≡ at + length (entry_bytes (last_name before.now) e.now (following e.now.name rest.now)) }
+    requires few { length more.now < 64 }
+    requires room { at + length (entry_bytes (last_name before.now) e.now (suc (following e.now.name more.now))) ≤ 510 }
+    ensures text { b.new ≡ put b.old at (entry_bytes (last_name before.now) e.now (suc (following e.now.name more.now))) }
+    ensures end { result ≡ at + length (entry_bytes (last_name before.now) e.now (suc (following e.now.name more.now))) }
 {
     if goes_on(before, e) {
         put_version(b, at, e);
@@ -73,7 +73,7 @@ fn put_entry(b: &mut Block, at: usize, before: &[RawEnt], e: &RawEnt, rest: &[Ra
     }
     let name = e.name.bytes();
     let head = 6 + (name.len() + name.len() % 2);
-    put_head(b, at, e, following(name, rest));
+    put_head(b, at, e, 1 + following(&e.name, more));
     put_version(b, at + head, e);
     at + head + 8
 }
@@ -87,8 +87,9 @@ pub(crate) fn block_of(es: &[RawEnt]) -> Block
     let mut b = zeros();
     let mut at = 0usize;
     for (i, e) in es.iter().enumerate() {
-        let (before, rest) = es.split_at(i);
-        at = put_entry(&mut b, at, before, e, rest);
+        let (before, _) = es.split_at(i);
+        let (_, more) = es.split_at(i + 1);
+        at = put_entry(&mut b, at, before, e, more);
     }
     put_bytes(&mut b, at, &[255, 255]);
     b

@@ -1,5 +1,5 @@
 -- Filling blocks entry by entry packs them.
-use Rattle.std.proofs.Common.{◌≡◌, ◌∙◌, ◌+◌, ◌-◌, ◌<◌, ◌≤◌, ℕ, zero, suc, Bool, true, false, cond, List, [], ◌∷◌, Option, Some, None, leb, not, drop, length, get_or, refl, sym, ap, arith, drop-cons}
+use Rattle.std.proofs.Common.{◌≡◌, ◌∙◌, ◌+◌, ◌-◌, ◌≤◌, ℕ, zero, suc, Bool, true, false, cond, List, [], ◌∷◌, Option, Some, None, leb, not, refl, sym, ap, arith}
 use Rattle.std.specs.Prelude.{◌==◌, ◌||◌, ◌&&◌}
 use Rattle.std.proofs.lemmas.Bool.Decides.{nat_tests}
 use Rattle.base_words.specs.Packing.{cost, unfilled, over}
@@ -21,7 +21,7 @@ unfolding pushed
 stuck k used last [] = refl
 stuck k used last (e ∷ es) = stuck k used last es
 
-none_over : (k : ℕ) → over name_of k [] ≡ []
+pub none_over : (k : ℕ) → over name_of k [] ≡ []
 none_over zero = refl
 none_over (suc k) = none_over k
 

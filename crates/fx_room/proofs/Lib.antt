@@ -1,3 +1,5 @@
 pub mod Counting
 pub mod Walks
 pub mod Streams
+pub mod Plenty
+pub mod Tallying

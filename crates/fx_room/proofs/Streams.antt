@@ -1,5 +1,5 @@
 -- The versions of a record, the records of a block, and the blocks of a directory, gone through in turn.
-use Rattle.std.proofs.Common.{◌≡◌, ◌∙◌, ◌+◌, ◌-◌, ◌*◌, ◌<◌, ◌≤◌, ℕ, zero, suc, Bool, true, false, cond, List, [], ◌∷◌, ◌++◌, Option, Some, None, Result, Ok, Err, option_map, drop, length, get_or, unwrap_or, refl, sym, ap, subst, arith, drop-cons}
+use Rattle.std.proofs.Common.{◌≡◌, ◌∙◌, ◌+◌, ◌*◌, ◌<◌, ◌≤◌, ℕ, zero, suc, Bool, true, false, cond, List, [], ◌∷◌, ◌++◌, Option, Some, None, Result, Ok, Err, option_map, drop, length, get_or, unwrap_or, refl, sym, ap, subst, arith, drop-cons}
 use Rattle.std.specs.Prelude.{IsSome, IsOk, option_and_then}
 use Rattle.std.proofs.lemmas.List.{drop-drop}
 use Rattle.base_words.specs.Fields.{Block, field}
@@ -30,7 +30,7 @@ as_key e w x = ap (λ b. cond {A = Walked} b (record { tried = taken_in e w.trie
 
 -- ---- versions
 
-version-step : (head bytes : List ℕ) (n : ℕ) → IsSome (versions_in head (suc n) bytes)
+pub version-step : (head bytes : List ℕ) (n : ℕ) → IsSome (versions_in head (suc n) bytes)
     → IsSome (versions_in head n (drop 8 bytes)) × (read_in (versions_in head (suc n) bytes) ≡ entry_in head bytes ∷ read_in (versions_in head n (drop 8 bytes)))
 version-step head bytes n h = by_test (is_version bytes) (versions_in head n (drop 8 bytes)) h where
   by_test : (t : Bool) (o : Option (List RawEnt)) → IsSome (cond t (option_map (λ es. entry_in head bytes ∷ es) o) None)
@@ -57,16 +57,26 @@ versions-passed e end now next head bytes at k n a left is =
     subst (λ b. VersionsLeft e end next (versions_in head n b)) d
     (record { some = s.0; same = ap (λ w. walked e w rest) taken ∙ ap (walked e now) (sym s.1) ∙ left.same })
 
+-- ---- entries that are taken in turn, whatever is made of them
+
+-- none change nothing, and those of two lists are taken as those of one
+pub record TakesInTurn {A : Type 0} (feed : A → List RawEnt → A) : Type 0 where
+  pub none : (now : A) → feed now [] ≡ now
+  pub more : (now : A) (xs ys : List RawEnt) → feed now (xs ++ ys) ≡ feed (feed now xs) ys
+
+pub walks : (e : RawEnt) → TakesInTurn (walked e)
+walks e = record { none = λ now. refl; more = walked-more e }
+
 -- ---- records
 
 abbrev behind : List ℕ → List ℕ
 behind bytes = drop (record_length bytes) bytes
 
-pub record RecordsLeft (e : RawEnt) (end now : Walked) (bytes : List ℕ) : Type 0 where
+pub record RecordsLeft {A : Type 0} (feed : A → List RawEnt → A) (end now : A) (bytes : List ℕ) : Type 0 where
   pub count : ℕ
   pub few : length bytes ≤ count
   pub some : IsSome (records_in count bytes)
-  pub same : walked e now (read_in (records_in count bytes)) ≡ end
+  pub same : feed now (read_in (records_in count bytes)) ≡ end
 
 -- a record, and those behind it
 record IsRead (bytes : List ℕ) (all : List RawEnt) : Type 0 where
@@ -98,12 +108,12 @@ module _ (bytes : List ℕ) (long : 2 ≤ length bytes) where
         parts = (λ i. read_in (option_and_then (λ xs. option_map (λ ys. xs ++ ys) (f i)) (e i))) ∙ λ i. read_in (sym e i) ++ read_in (sym f i);
       }
 
-  module _ (e : RawEnt) (end now : Walked) (left : RecordsLeft e end now bytes) where
+  module _ {A : Type 0} (feed : A → List RawEnt → A) (end now : A) (left : RecordsLeft feed end now bytes) where
     pub record-here : is_end bytes ≡ false → IsSome (record_entries bytes)
     record-here t = (is_read t left.count left.few left.some).here
 
-    pub record-passed : is_end bytes ≡ false → (next : Walked) → next ≡ walked e now (read_in (record_entries bytes)) → length (behind bytes) < length bytes → RecordsLeft e end next (behind bytes)
-    record-passed t next is fewer =
+    pub record-passed : is_end bytes ≡ false → (next : A) → next ≡ feed now (read_in (record_entries bytes)) → length (behind bytes) < length bytes → TakesInTurn feed → RecordsLeft feed end next (behind bytes)
+    record-passed t next is fewer turn =
         let r = is_read t left.count left.few left.some in
         let few = r.few in
         let rest : List RawEnt = read_in (records_in r.n (behind bytes)) in
@@ -111,60 +121,60 @@ module _ (bytes : List ℕ) (long : 2 ≤ length bytes) where
           count = r.n;
           few = omega arith;
           some = r.more;
-          same = ap (λ w. walked e w rest) is ∙ sym (walked-more e now (read_in (record_entries bytes)) rest) ∙ ap (walked e now) (sym r.parts) ∙ left.same;
+          same = ap (λ w. feed w rest) is ∙ sym (turn.more now (read_in (record_entries bytes)) rest) ∙ ap (feed now) (sym r.parts) ∙ left.same;
         }
 
-    pub records-none : is_end bytes ≡ true → now ≡ end
+    pub records-none : is_end bytes ≡ true → TakesInTurn feed → now ≡ end
     unfolding records_in
-    records-none t = by_count left.count left.few left.same where
-      by_count : (n : ℕ) → length bytes ≤ n → walked e now (read_in (records_in n bytes)) ≡ end → now ≡ end
+    records-none t turn = by_count left.count left.few left.same where
+      by_count : (n : ℕ) → length bytes ≤ n → feed now (read_in (records_in n bytes)) ≡ end → now ≡ end
       by_count zero few same = absurd (omega arith)
       by_count (suc n) few same =
           let none : records_in (suc n) bytes ≡ Some [] = rw t refl in
-          sym (ap (λ o. walked e now (read_in o)) none) ∙ same
+          sym (turn.none now) ∙ sym (ap (λ o. feed now (read_in o)) none) ∙ same
 
-pub records-first : (e : RawEnt) (w : Walked) (b : Block) → IsSome (block_entries b) → RecordsLeft e (walked e w (entries_at b)) w b
+pub records-first : {A : Type 0} (feed : A → List RawEnt → A) (w : A) (b : Block) → IsSome (block_entries b) → RecordsLeft feed (feed w (entries_at b)) w b
 unfolding block_entries
-records-first e w b h = by_records (records_in (length b) b) refl h where
+records-first feed w b h = by_records (records_in (length b) b) refl h where
   by_rising : (es : List RawEnt) (t : Bool) → IsSome (cond t (Some es) None) → unwrap_or (cond t (Some es) None) [] ≡ es
   by_rising es true k = refl
   by_rising es false k = absurd (cc)
 
-  by_records : (o : Option (List RawEnt)) → records_in (length b) b ≡ o → IsSome (option_and_then if_rising o) → RecordsLeft e (walked e w (entries_at b)) w b
+  by_records : (o : Option (List RawEnt)) → records_in (length b) b ≡ o → IsSome (option_and_then if_rising o) → RecordsLeft feed (feed w (entries_at b)) w b
   by_records None r k = absurd (cc)
   by_records (Some es) r k = record {
     count = length b;
     few = omega arith;
     some = subst IsSome (sym r) refl;
-    same = ap (λ o. walked e w (read_in o)) r ∙ sym (ap (λ o. walked e w (unwrap_or (option_and_then if_rising o) [])) r ∙ ap (walked e w) (by_rising es (rises es) k));
+    same = ap (λ o. feed w (read_in o)) r ∙ sym (ap (λ o. feed w (unwrap_or (option_and_then if_rising o) [])) r ∙ ap (feed w) (by_rising es (rises es) k));
   }
 
 -- ---- blocks
 
-pub record BlocksLeft (e : RawEnt) (end now : Walked) (seen : List (ℕ × Block)) : Type 0 where
+pub record BlocksLeft {A : Type 0} (feed : A → List RawEnt → A) (end now : A) (seen : List (ℕ × Block)) : Type 0 where
   pub read : Each IsBlockRead (blocks_of seen)
-  pub same : walked e now (all_entries (blocks_of seen)) ≡ end
+  pub same : feed now (all_entries (blocks_of seen)) ≡ end
 
-pub blocks-here : (e : RawEnt) (end now : Walked) (seen : List (ℕ × Block)) (i : ℕ) (d : ℕ × Block) → i < length seen → BlocksLeft e end now (drop i seen) → BlocksLeft e end now (get_or seen i d ∷ drop (i + 1) seen)
-blocks-here e end now seen i d lt left =
+pub blocks-here : {A : Type 0} (feed : A → List RawEnt → A) (end now : A) (seen : List (ℕ × Block)) (i : ℕ) (d : ℕ × Block) → i < length seen → BlocksLeft feed end now (drop i seen) → BlocksLeft feed end now (get_or seen i d ∷ drop (i + 1) seen)
+blocks-here feed end now seen i d lt left =
     let s : i + 1 ≡ suc i = omega arith in
     let split : drop i seen ≡ get_or seen i d ∷ drop (i + 1) seen = drop-cons seen i d lt ∙ λ j. get_or seen i d ∷ drop (sym s j) seen in
-    subst (BlocksLeft e end now) split left
+    subst (BlocksLeft feed end now) split left
 
-pub blocks-passed : (e : RawEnt) (end now next : Walked) (x : ℕ × Block) (rest : List (ℕ × Block)) → BlocksLeft e end now (x ∷ rest) → next ≡ walked e now (entries_at x.1) → BlocksLeft e end next rest
-blocks-passed e end now next x rest left is = record {
+pub blocks-passed : {A : Type 0} (feed : A → List RawEnt → A) (end now next : A) (x : ℕ × Block) (rest : List (ℕ × Block)) → BlocksLeft feed end now (x ∷ rest) → next ≡ feed now (entries_at x.1) → TakesInTurn feed → BlocksLeft feed end next rest
+blocks-passed feed end now next x rest left is turn = record {
   read = left.read.1;
-  same = ap (λ w. walked e w (all_entries (blocks_of rest))) is ∙ sym (walked-more e now (entries_at x.1) (all_entries (blocks_of rest))) ∙ left.same;
+  same = ap (λ w. feed w (all_entries (blocks_of rest))) is ∙ sym (turn.more now (entries_at x.1) (all_entries (blocks_of rest))) ∙ left.same;
 }
 
-none_behind : (seen : List (ℕ × Block)) (i : ℕ) → length seen ≤ i → drop i seen ≡ []
+pub none_behind : (seen : List (ℕ × Block)) (i : ℕ) → length seen ≤ i → drop i seen ≡ []
 none_behind [] zero le = refl
 none_behind [] (suc i) le = refl
 none_behind (x ∷ seen) zero le = absurd (omega arith)
 none_behind (x ∷ seen) (suc i) le = none_behind seen i (omega arith)
 
-pub blocks-none : (e : RawEnt) (end now : Walked) (seen : List (ℕ × Block)) (i : ℕ) → length seen ≤ i → BlocksLeft e end now (drop i seen) → now ≡ end
-blocks-none e end now seen i le left = sym (ap (λ l. walked e now (all_entries (blocks_of l))) (none_behind seen i le)) ∙ left.same
+pub blocks-none : {A : Type 0} (feed : A → List RawEnt → A) (end now : A) (seen : List (ℕ × Block)) (i : ℕ) → length seen ≤ i → BlocksLeft feed end now (drop i seen) → TakesInTurn feed → now ≡ end
+blocks-none feed end now seen i le left turn = sym (turn.none now) ∙ sym (ap (λ l. feed now (all_entries (blocks_of l))) (none_behind seen i le)) ∙ left.same
 
 -- ---- a directory
 

@@ -1,17 +1,17 @@
 -- Going through the blocks of a directory takes in its entries, each once and in order.
-use Rattle.std.proofs.Common.{◌≡◌, ◌∙◌, ◌+◌, ◌*◌, ◌≤◌, ◌&&◌, ◌||◌, ℕ, zero, suc, Bool, true, false, cond, List, [], ◌∷◌, ◌++◌, Option, Some, None, Ok, not, map, refl, sym, ap, subst, inl, inr, arith, append_assoc}
+use Rattle.std.proofs.Common.{◌≡◌, ◌∙◌, ◌&&◌, ◌||◌, Bool, true, false, cond, List, [], ◌∷◌, ◌++◌, Option, Some, None, Ok, not, map, refl, sym, ap, subst, inl, inr, append_assoc}
 use Rattle.std.specs.List.{list_all}
 use Rattle.base_words.specs.Fields.{Block}
 use Rattle.fx_dir.specs.declared.RawEnt.{RawEnt}
 use Rattle.fx_dir.specs.Lists.{Each, joined}
 use Rattle.fx_dir.specs.Entries.{same, before, rises, has, fresh}
 use Rattle.fx_dir.specs.Directory.{directory, entries_at, all_entries}
-use Rattle.fx_dir.specs.Moves.{inserted, key}
+use Rattle.fx_dir.specs.Moves.{key}
 use Rattle.fx_dir.proofs.Meeting.{met}
 use Rattle.fx_dir.proofs.Finding.{went}
 use Rattle.fx_dir.proofs.Merging.{same-sym}
 use Rattle.fx_dir.proofs.Order.{and_cases, both, is_true_or, not_both, before-other, before-trans}
-use Rattle.fx_room.specs.Filling.{Tried, filled_by, taken_in}
+use Rattle.fx_room.specs.Filling.{Tried, taken_in}
 use Rattle.fx_room.specs.Walk.{Walked, is_behind, taken_on, walked}
 use Rattle.fx_room.proofs.Counting.{ends, taken}
 

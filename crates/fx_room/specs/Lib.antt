@@ -1,3 +1,4 @@
 pub mod Filling
+pub mod Plenty
 pub mod Room
 pub mod Walk

@@ -5,12 +5,19 @@
 //! ```
 //!
 //! [`has_room`] answers what packing would: the entries and the new one, in order, each into the current block where its bytes
-//! fit in 510, and else into the next. It counts the bytes entry by entry as these stand in the blocks, and takes no memory.
+//! fit in 510, and else into the next. It takes no memory.
+//!
+//! There are two ways to the answer:
+//!
+//! - First a quick look at the records, of which only the bytes and the longest name count. Packing leaves fewer bytes of a block
+//!   free than a record of that name with one version takes. Where k blocks have room for all bytes with so many free in each, the
+//!   answer is yes. That is nearly always so.
+//! - Else a walk through the entries decides. It fills the blocks as packing would, entry by entry, and counts the bytes.
 //!
 //! The commands on names use it (`op_steps`).
 #![tactic(auto)]
 
-ghost use Rattle.std.specs.Prelude.{◌≡◌, ◌+◌, ◌*◌, ◌<◌, ◌≤◌, ◌&&◌, ℕ, List, None, IsSome, IsOk, length, option_copied};
+ghost use Rattle.std.specs.Prelude.{◌≡◌, ◌+◌, ◌-◌, ◌*◌, ◌^◌, ◌<◌, ◌≤◌, ◌&&◌, min, ℕ, true, List, None, IsSome, IsOk, length, option_copied};
 ghost use Rattle.std.specs.Result.{ForOk};
 ghost use Rattle.std.specs.Str.{bytes_eq};
 ghost use Rattle.std.specs.Ordering.{is_lt, is_eq};
@@ -23,6 +30,7 @@ ghost use Rattle.fx_dir.specs.Directory.{directory, entries_at, all_entries};
 ghost use Rattle.fx_dir.specs.Moves.{key};
 ghost use Rattle.fx_room.specs.Filling.{filled_of, in_next, pushed, is_first, tried_of, taken_in};
 ghost use Rattle.fx_room.specs.Walk.{walked_of, last_met, is_behind, taken_on, walked, read_in, blocks_of, IsBlockRead};
+ghost use Rattle.fx_room.specs.Plenty.{bytes_of, longest_of, bytes_in, longest_in};
 ghost use Rattle.fx_room.specs.Room.{has_room};
 
 use base_words::Block;
@@ -58,6 +66,16 @@ struct Walk<'a> {
     trial: Trial<'a>,
     last: Option<&'a [u8]>,
     last_ver: u16,
+}
+
+/// What the records of blocks have in all.
+#[derive(Clone, Copy)]
+struct Tally {
+    /// The bytes of their records.
+    bytes: usize,
+
+    /// The length of the longest name.
+    longest: usize,
 }
 
 /// The bytes of an entry in a record of its own.
@@ -298,6 +316,58 @@ fn blocks_taken<'a>(w: Walk<'a>, name: &'a [u8], ver: u16, seen: &'a [(u32, Bloc
     now
 }
 
+/// The bytes of the records of a block, and the longest of their names.
+fn block_counted(b: &Block) -> Tally
+    requires { IsSome (block_entries b.now) }
+    ensures bytes { bytes_of (entries_at b.now) ≤ result.bytes }
+    ensures longest { longest_of (entries_at b.now) ≤ result.longest }
+{
+    let mut longest = 0usize;
+    let mut rest: &[u8] = b;
+    while !is_end(rest) {
+        longest = longest.max(name_in(rest).len());
+        rest = rest.split_at(record_length(rest)).1;
+    }
+    Tally {
+        bytes: b.len() - rest.len(),
+        longest,
+    }
+}
+
+/// The bytes of the records of all blocks, as far as 64 bits go, and the longest of their names.
+fn blocks_counted(seen: &[(u32, Block)]) -> Tally
+    requires { Each IsBlockRead (blocks_of seen.now) }
+    ensures bytes { min (bytes_in (blocks_of seen.now)) (2 ^ 64 - 1) ≤ result.bytes }
+    ensures longest { longest_in (blocks_of seen.now) ≤ result.longest }
+{
+    let mut bytes = 0usize;
+    let mut longest = 0usize;
+    for (_, block) in seen {
+        let own = block_counted(block);
+        bytes = bytes.saturating_add(own.bytes);
+        longest = longest.max(own.longest);
+    }
+    Tally { bytes, longest }
+}
+
+/// Whether the entries of a directory and a new one of this name surely pack into k blocks. It may say no where they do.
+///
+/// No entry takes more than `most` bytes, so packing ends a block only where `511 - most` of it or more are in use. The entries take
+/// no more than the records that they stand in, and with the new one twice `most` at most is added: for its own record, and for one
+/// that the entry behind it begins.
+fn has_plenty(seen: &[(u32, Block)], name: &[u8], k: u32) -> bool
+    requires { IsOk (directory (blocks_of seen.now)) }
+    ensures { result ≡ true → (ver : ℕ) → ForOk (directory (blocks_of seen.now)) (λ es. has_room k (key name.now ver) es ≡ true) }
+{
+    let all = blocks_counted(seen);
+    let longest = all.longest.max(name.len());
+    if longest > 255 {
+        return false;
+    }
+    let most = 14 + longest + longest % 2;
+    all.bytes.saturating_add(2 * most) <= k as usize * (511 - most)
+}
+
 /// Whether the entries of a directory, in its blocks with their LBNs, and a new one of this name and version pack into k blocks.
 /// The blocks are read without a fault. It takes no memory.
 pub fn has_room<'a>(seen: &'a [(u32, Block)], name: &'a [u8], ver: u16, k: u32) -> bool
@@ -306,6 +376,9 @@ pub fn has_room<'a>(seen: &'a [(u32, Block)], name: &'a [u8], ver: u16, k: u32) 
 {
     if k == 0 {
         return false;
+    }
+    if has_plenty(seen, name, k) {
+        return true;
     }
     let first = Walk {
         trial: Trial {

@@ -1,6 +1,7 @@
 //! The steps on the table: the one on the resource of a name, in its place.
 
-ghost use Rattle.std.specs.Prelude.{◌≡◌, IfOk, OnOk, OnErr, IsSome, IsTrue, MatchResult, Some, None, Ok, Err, map, filter, find, take, drop, length, slice_index_or, option_copied, false, ◌<◌, ◌+◌, ◌++◌};
+ghost use Rattle.std.specs.Prelude.{◌≡◌, IfOk, OnOk, OnErr, IfSome, IsSome, IsTrue, MatchResult, Some, None, Ok, Err, map, filter, find, take, drop, length, slice_index_or, option_copied, false, ◌<◌, ◌+◌, ◌++◌};
+ghost use Rattle.std.specs.Bool.{OnTrue};
 ghost use Rattle.lock_db.specs.declared.resource.Resource.{Resource};
 ghost use Rattle.lock_db.specs.Names.{is_same};
 ghost use Rattle.lock_db.specs.Queues.{lock_of};
@@ -15,11 +16,36 @@ use crate::resource::{
 use plain_cat::{Mode, NoMemory};
 use std::alloc::Global;
 
+/// Whether the resource of the name stands at this place.
+fn is_at(table: &[Resource], i: usize, name: LockName) -> bool
+    ensures { OnTrue result (IsAt name table.now i) }
+{
+    i < table.len() && table[i].name == name
+}
+
+/// Where the resource of the name stands, if it is one of the last two. X and V, which are looked for most, stand there.
+fn near_end(table: &[Resource], name: LockName) -> Option<usize>
+    ensures { IfSome result (λ i. IsAt name table.now i) }
+{
+    let last = table.len().saturating_sub(1);
+    if is_at(table, last, name) {
+        return Some(last);
+    }
+    let other = last.saturating_sub(1);
+    if is_at(table, other, name) {
+        return Some(other);
+    }
+    None
+}
+
 /// Where the resource of the name stands, or where it would.
 fn search(table: &[Resource], name: LockName) -> Result<usize, usize>
     requires { IsTrue (is_ordered table.now) }
     ensures { MatchResult result (IsAt name table.now) (IsGap name table.now) }
 {
+    if let Some(i) = near_end(table, name) {
+        return Ok(i);
+    }
     table.binary_search_by(|r| r.name.order(name))
 }
 

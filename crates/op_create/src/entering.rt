@@ -39,6 +39,7 @@ fn made(
 ) -> Result<Need, NoMemory>
     requires geometry { IsGeometry seen.now.geometry }
     requires readable { IsReadable d.now }
+    requires read { IsRead d.now.blocks.now }
     requires few { length quota.now ≤ 16 }
     requires sound { IsSound seen.now.geometry f.now }
     requires new { IsNewIn (dir_seen d.now) f.now }
@@ -163,6 +164,7 @@ fn mkdir_judged(
 ) -> Result<Need, NoMemory>
     requires geometry { IsGeometry seen.now.geometry }
     requires readable { IsReadable d.now }
+    requires read { IsRead d.now.blocks.now }
     requires parent { d.now.fid.num ≤ 16777215 }
     requires name { is_name name.now ≡ true }
     requires within { IsOfVolume seen.now.geometry seen.now.clusters seen.now.number }

@@ -10,6 +10,7 @@ ghost use Rattle.vol_spell.specs.Reading.{IsFileNumber};
 ghost use Rattle.op_law.specs.Writing.{holding, empty_handed, write_at, header_write};
 ghost use Rattle.op_law.specs.Entering.{body_writes, new_header, entry_for, making_writes};
 ghost use Rattle.op_law.specs.Behind.{blocks_alone};
+ghost use Rattle.op_law.specs.Readable.{IsRead};
 ghost use Rattle.op_steps.specs.Names.{dir_seen, IsReadable};
 ghost use Rattle.op_steps.specs.Given.{IsOfVolume};
 ghost use Rattle.op_create.specs.Files.{file_made, entry_made, IsSound, IsNewIn};
@@ -139,6 +140,7 @@ pub(crate) fn making_writes(
 ) -> Result<Writes, NoMemory>
     requires geometry { IsGeometry g.now }
     requires readable { IsReadable d.now }
+    requires read { IsRead d.now.blocks.now }
     requires few { length quota.now ≤ 16 }
     requires sound { IsSound g.now f.now }
     requires new { IsNewIn (dir_seen d.now) f.now }

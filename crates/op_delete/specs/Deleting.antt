@@ -16,12 +16,14 @@ use Rattle.op_law.specs.Moving.{SeenDir}
 use Rattle.op_law.specs.Freeing.{through_space}
 use Rattle.op_law.specs.Removing.{if_empty, delete_plan}
 use Rattle.op_law.specs.Behind.{blocks_alone}
+use Rattle.op_law.specs.Readable.{IsRead}
 use Rattle.op_steps.specs.declared.names.DirSeen.{DirSeen}
 use Rattle.op_steps.specs.Names.{IsReadable}
 
--- the directory can be read, has at most 16 blocks, and has the entry
+-- the directory is read without a fault, has at most 16 blocks, and has the entry
 pub record CanGo (d : DirSeen) (e : DirEnt) : Type 0 where
   pub readable : IsReadable d
+  pub read : IsRead d.blocks.now
   pub few : length d.blocks.now ≤ 16
   pub there : ForOk (directory (blocks_alone d.blocks.now)) (λ es. has es (key e.name e.ver) ≡ true)
 

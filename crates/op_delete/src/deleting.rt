@@ -25,10 +25,10 @@ ghost use Rattle.op_delete.specs.Naming.{LockIsOf};
 use crate::looking::{Empty, empty_seen};
 use crate::naming::{Told, file_told};
 use crate::seeing::{Named, named_seen};
-use crate::writing::{push_removed, push_unnaming};
+use crate::writing::push_unnaming;
 use op_freeing::{Space, SpaceSeen, all_clusters, push_gone, space_seen};
 use op_law::{Ask, Need, NoMemory, Plan, Rest, Seen, Writes, entry_seen, refused};
-use op_steps::{DirSeen, FileSeen, Names, names_seen};
+use op_steps::{DirSeen, FileSeen, Names, names_seen, push_removal};
 use plain_cat::{Clusters, DirEnt, Fid, Mode, Name, Refusal, Reply, Stage};
 use std::alloc::Global;
 use vol_parts::Geometry;
@@ -39,7 +39,7 @@ fn entry_removed(alloc: Global, d: &DirSeen<'_>, e: &DirEnt) -> Result<Plan, NoM
     ensures { IfOk result (λ p. p ≡ plan_of (removal_writes (dir_seen d.now) e.now stage.Nothing stage.Done) reply.EntryRemoved) }
 {
     let mut writes = Writes::new(alloc);
-    push_removed(alloc, &mut writes, d, e, Stage::Nothing, Stage::Done)?;
+    push_removal(alloc, &mut writes, d, e, Stage::Nothing, Stage::Done)?;
     Ok(Plan {
         writes,
         ask: None,

@@ -6,36 +6,18 @@ ghost use Rattle.fx_dir.specs.Entries.{has};
 ghost use Rattle.fx_dir.specs.Directory.{directory};
 ghost use Rattle.fx_dir.specs.Moves.{key};
 ghost use Rattle.vol_parts.specs.Parts.{IsGeometry};
-ghost use Rattle.op_law.specs.Moving.{removal_writes};
 ghost use Rattle.op_law.specs.Behind.{blocks_alone};
+ghost use Rattle.op_law.specs.Readable.{IsRead};
 ghost use Rattle.op_law.specs.Removing.{marking_writes, unnaming_writes};
 ghost use Rattle.op_steps.specs.Names.{dir_seen, IsReadable as IsDirReadable};
 ghost use Rattle.op_steps.specs.Seeing.{file_seen};
 
 use fx_header::set_marked;
-use op_law::{NoMemory, Writes, blocks_of};
+use op_law::{NoMemory, Writes};
 use op_steps::{DirSeen, FileSeen, push_header, push_removal};
 use plain_cat::{Clusters, DirEnt, Stage};
 use std::alloc::Global;
 use vol_parts::Geometry;
-
-/// Adds the writes that remove an entry from a directory as it was seen. Those that pack its entries leave the stage `before`, and
-/// the others `after`. A refusal of memory says nothing of the writes.
-pub(crate) fn push_removed(
-    alloc: Global,
-    writes: &mut Writes,
-    d: &DirSeen<'_>,
-    e: &DirEnt,
-    before: Stage,
-    after: Stage,
-) -> Result<(), NoMemory>
-    requires readable { IsDirReadable d.now }
-    requires there { ForOk (directory (blocks_alone d.now.blocks.now)) (λ es. has es (key e.now.name e.now.ver) ≡ true) }
-    ensures { OnOk result (writes.new ≡ writes.old ++ removal_writes (dir_seen d.now) e.now before after) }
-{
-    let blocks = blocks_of(alloc, d.blocks)?;
-    push_removal(alloc, writes, d, &blocks, e, before, after)
-}
 
 // Adds the write that marks a file for delete, unless it is marked. A refusal of memory says nothing of the writes.
 fn push_mark(
@@ -70,6 +52,7 @@ pub(crate) fn push_unnaming(
     requires geometry { IsGeometry g.now }
     requires number { f.now.num ≤ g.now.files }
     requires readable { IsDirReadable d.now }
+    requires read { IsRead d.now.blocks.now }
     requires there { ForOk (directory (blocks_alone d.now.blocks.now)) (λ es. has es (key e.now.name e.now.ver) ≡ true) }
     ensures { OnOk result (writes.new ≡ writes.old ++ unnaming_writes g.now (dir_seen d.now) e.now (file_seen g.now f.now)) }
 {
@@ -79,5 +62,5 @@ pub(crate) fn push_unnaming(
     } else {
         Stage::Marked
     };
-    push_removed(alloc, writes, d, e, before, Stage::Unlinked)
+    push_removal(alloc, writes, d, e, before, Stage::Unlinked)
 }

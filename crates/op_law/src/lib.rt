@@ -30,8 +30,8 @@ pub use numbers::Numbers;
 pub use operation::Operation;
 pub use plain_cat::NoMemory;
 pub use rows::{
-    answered, blocks_of, entries_seen, entry_seen, is_number, live_in, place_in, refused,
-    version_seen,
+    answered, blocks_of, entries_read, entries_seen, entry_seen, is_number, live_in, place_in,
+    refused, version_seen,
 };
 pub use seeing::{
     Granted, Listed, Listing, Looked, Rest, block_seen, blocks_seen, directory_seen,

@@ -12,11 +12,11 @@ ghost use Rattle.op_law.specs.Readable.{HasMap, AreInside, IsRead, version_told}
 use crate::lists::Writes;
 use crate::need::{Need, Plan};
 use base_words::Block;
-use fx_dir::{Version, find_in};
+use fx_dir::{Version, find_in, read_sound};
 use fx_header::{Hdr, Slot, read_header, runs};
 use plain_cat::{Blocks, DirEnt, DirEnts, Fid, Name, NoMemory, Refusal, Reply};
 use std::alloc::Global;
-use vol_parts::{Geometry, read_entries};
+use vol_parts::{Geometry, plain_entries, read_entries};
 
 /// Nothing more is needed, and nothing is written: the reply. It takes no memory.
 pub fn answered(alloc: Global, reply: Reply) -> Need
@@ -96,6 +96,16 @@ pub fn entries_seen(alloc: Global, seen: &[(u32, Block)]) -> Result<DirEnts, NoM
     ensures { IfOk result (λ entries. entries ≡ entries_seen (blocks_alone seen.now)) }
 {
     read_entries(alloc, blocks_of(alloc, seen)?.items())
+}
+
+/// The same of a directory that is read without a fault, which is not checked again.
+pub fn entries_read(alloc: Global, seen: &[(u32, Block)]) -> Result<DirEnts, NoMemory>
+    requires { IsRead seen.now }
+    ensures { IfOk result (λ entries. entries ≡ entries_seen (blocks_alone seen.now)) }
+{
+    let blocks = blocks_of(alloc, seen)?;
+    let found = read_sound(alloc, blocks.items())?;
+    plain_entries(alloc, found.as_slice())
 }
 
 // The entry of this name and version in the first block that has one, without its name.

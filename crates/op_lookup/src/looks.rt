@@ -9,7 +9,7 @@ ghost use Rattle.op_law.specs.Needs.{facts_of, lookup_events, list_events, stat_
 
 use fx_header::Hdr;
 use op_law::{
-    Listing, Looked, Need, NoMemory, Seen, answered, directory_seen, entries_seen, entry_seen,
+    Listing, Looked, Need, NoMemory, Seen, answered, directory_seen, entries_read, entry_seen,
     header_seen, live_in, refused,
 };
 use plain_cat::{DirEnt, Fid, Mode, Name, Refusal, Reply, Uic};
@@ -57,13 +57,14 @@ pub(crate) fn lookup_next(
 pub(crate) fn list_next(alloc: Global, dir: Fid, seen: &Seen) -> Result<Need, NoMemory>
     requires geometry { IsGeometry seen.now.geometry }
     requires inside { HeadIsInside seen.now.blocks }
+    requires readable { HeadIsReadable dir seen.now.blocks }
     ensures { IfOk result (λ need. need ≡ next_of (list_events seen.now.geometry dir) seen.now) }
 {
     match directory_seen(alloc, &seen.geometry, dir, Mode::PR, seen.all()) {
         Listing::Next(need) => Ok(need),
         Listing::All(_, blocks, _) => Ok(answered(
             alloc,
-            Reply::Listed(entries_seen(alloc, blocks)?),
+            Reply::Listed(entries_read(alloc, blocks)?),
         )),
     }
 }

@@ -62,12 +62,11 @@ fn renamed(
     ver: u16,
 ) -> Result<Plan, NoMemory>
     requires readable { IsReadable d.now }
-    requires whole { AreWholeBlocks (blocks_alone d.now.blocks.now) }
+    requires read { IsRead d.now.blocks.now }
     requires name { is_name to.now ≡ true }
     requires from { 1 ≤ ver }
     requires last { ver ≤ 32767 }
     requires number { e.now.fid.num ≤ 16777215 }
-    requires seq { e.now.fid.seq < 2 ^ 16 }
     requires new { is_taken ver (versions to.now (entries_of (dir_seen d.now))) ≡ false }
     requires there { is_taken e.now.ver (versions e.now.name (entries_of (dir_seen d.now))) ≡ true }
     ensures { IfOk result (λ p. p ≡ plan_of (rename_writes (dir_seen d.now) e.now (entry to.now ver e.now.fid)) (reply.Renamed to.now ver)) }

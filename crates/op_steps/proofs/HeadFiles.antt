@@ -1,5 +1,5 @@
 -- A file that is there, by its header: its clusters, its blocks, and what the catalogue has of it.
-use Rattle.std.proofs.Common.{false, ◌≡◌, ◌∙◌, ◌≤◌, ◌<◌, ◌+◌, ◌*◌, ◌/◌, ℕ, List, [], Some, length, slice_get, take_all, sym, ap, subst, arith, None, cond, ◌-◌}
+use Rattle.std.proofs.Common.{false, ◌≡◌, ◌∙◌, ◌≤◌, ◌<◌, ◌+◌, ◌*◌, ◌/◌, ℕ, List, [], Some, length, slice_get, take_all, sym, ap, subst, arith, None, cond}
 use Rattle.vol_parts.specs.Volumes.{most_clusters, fields_in}
 use Rattle.std.proofs.lemmas.Bool.Decides.{nat_tests}
 use Rattle.std.specs.Prelude.{◌↔◌, Ok}

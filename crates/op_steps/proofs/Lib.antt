@@ -25,7 +25,6 @@ pub mod Lists
 pub mod Mapped
 pub mod OfVolume
 pub mod Places
-pub mod ReadOnce
 pub mod RemovalSteps
 pub mod Rerun
 pub mod Rising

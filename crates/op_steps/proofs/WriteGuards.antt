@@ -27,7 +27,7 @@ use Rattle.op_law.proofs.Naming.{under_lock}
 use Rattle.op_steps.specs.Files.{file_in}
 use Rattle.op_steps.proofs.HeadSteps.{head_guards, head_leaves}
 use Rattle.op_steps.specs.BlockWrites.{WriteGuards, WriteLeaves}
-use Rattle.op_steps.proofs.Places.{file, no_dir, lies, guard}
+use Rattle.op_steps.proofs.Places.{no_dir, lies, guard}
 
 -- ---- each of the writes
 

@@ -37,7 +37,7 @@ mod seeing;
 
 pub use clusters::{clusters_for, cost_of, runs_for};
 pub use headers::push_header;
-pub use moves::{insertion_moves, push_insertion, push_moves, push_removal};
+pub use moves::{push_insertion, push_moves, push_removal, raw_entry};
 pub use names::{
     DirSeen, Names, has_name, highest_seen, is_full, is_taken, names_seen, new_version,
 };

@@ -1,30 +1,31 @@
 //! The writes that enter an entry into a directory, and those that remove one.
 
-ghost use Rattle.std.specs.Prelude.{◌≡◌, ◌<◌, ◌++◌, ◌^◌, true, false, option_map, length, IfOk, IfSome, OnOk};
-ghost use Rattle.std.specs.Result.{ForOk, result_ok};
+ghost use Rattle.std.specs.Prelude.{◌≡◌, ◌++◌, true, false, IfOk, OnOk};
+ghost use Rattle.std.specs.Result.{ForOk};
 ghost use Rattle.fx_dir.specs.Writing.{IsInForm};
-ghost use Rattle.fx_dir.specs.Lists.{Each};
 ghost use Rattle.fx_dir.specs.Entries.{has};
 ghost use Rattle.fx_dir.specs.Directory.{directory};
 ghost use Rattle.fx_dir.specs.Moves.{key};
 ghost use Rattle.plain_rules.specs.Lookups.{versions};
 ghost use Rattle.plain_rules.specs.Directories.{is_taken};
+ghost use Rattle.op_law.specs.Behind.{blocks_alone};
+ghost use Rattle.op_law.specs.Readable.{IsRead};
 ghost use Rattle.op_law.specs.Moving.{entries_of, move_write, moves_at, insertion_moves, insertion_writes, removal_writes};
 ghost use Rattle.vol_spell.specs.Entries.{raw_entry};
 ghost use Rattle.op_steps.specs.Names.{dir_seen, IsReadable};
 
 use crate::names::DirSeen;
-use fx_dir::{DirFault, Move, RawEnt, RawName, insert_into, read_dir, remove_from};
+use fx_dir::{Move, RawEnt, RawName, insert_into, read_sound, remove_from};
 use lock_db::LockName;
 use op_law::{NoMemory, Numbers, PlanWrite, Writes, blocks_of, place_in};
-use plain_cat::{Blocks, Clusters, DirEnt, Stage};
-use std::alloc::{AllocError, Global};
+use plain_cat::{Clusters, DirEnt, Stage};
+use std::alloc::Global;
 
 // Room for the writes that come behind those of moves, as where a file goes.
 const FEW: usize = 8;
 
-// An entry as a directory's blocks have it.
-fn raw_entry(e: &DirEnt) -> RawEnt
+/// An entry as a directory's blocks have it.
+pub fn raw_entry(e: &DirEnt) -> RawEnt
     requires { IsInForm (raw_entry e.now) }
     ensures { result ≡ raw_entry e.now }
 {
@@ -38,31 +39,16 @@ fn raw_entry(e: &DirEnt) -> RawEnt
     }
 }
 
-// The entries of blocks, or none where these are not read as a directory. An error says that memory ran out.
-fn entries_in(alloc: Global, blocks: &Blocks) -> Result<Option<Vec<RawEnt>>, NoMemory>
-    ensures read { IfOk result (λ o. option_map (λ es. es.items) o ≡ result_ok (directory blocks.now)) }
-    ensures form { IfOk result (λ o. IfSome o (λ es. Each IsInForm es.items)) }
-{
-    match read_dir(alloc, blocks.items()) {
-        Ok(es) => Ok(Some(es)),
-        Err(DirFault::NoMemory) => Err(AllocError),
-        Err(DirFault::BadRecord(_)) => Ok(None),
-        Err(DirFault::BadOrder) => Ok(None),
-        Err(DirFault::Clash) => Ok(None),
-    }
-}
-
-/// The moves that enter an entry: none where the blocks are no directory, or have no room for it. An error says that memory ran out.
-pub fn insertion_moves(alloc: Global, d: &DirSeen<'_>, e: &DirEnt) -> Result<Vec<Move>, NoMemory>
+// The moves that enter an entry: none where the blocks have no room for it. An error says that memory ran out.
+fn insertion_moves(alloc: Global, d: &DirSeen<'_>, e: &DirEnt) -> Result<Vec<Move>, NoMemory>
     requires readable { IsReadable d.now }
+    requires read { IsRead d.now.blocks.now }
     requires form { IsInForm (raw_entry e.now) }
     requires new { is_taken e.now.ver (versions e.now.name (entries_of (dir_seen d.now))) ≡ false }
     ensures { IfOk result (λ ms. ms.items ≡ insertion_moves (dir_seen d.now) e.now) }
 {
     let blocks = blocks_of(alloc, d.blocks)?;
-    let Some(es) = entries_in(alloc, &blocks)? else {
-        return Ok(Vec::new(alloc));
-    };
+    let es = read_sound(alloc, blocks.items())?;
     match insert_into(alloc, blocks.items(), es.as_slice(), &raw_entry(e))? {
         Some(moves) => Ok(moves),
         None => Ok(Vec::new(alloc)),
@@ -122,6 +108,7 @@ pub fn push_insertion(
     after: Stage,
 ) -> Result<(), NoMemory>
     requires readable { IsReadable d.now }
+    requires read { IsRead d.now.blocks.now }
     requires form { IsInForm (raw_entry e.now) }
     requires new { is_taken e.now.ver (versions e.now.name (entries_of (dir_seen d.now))) ≡ false }
     ensures { OnOk result (writes.new ≡ writes.old ++ insertion_writes (dir_seen d.now) e.now before after) }
@@ -131,26 +118,24 @@ pub fn push_insertion(
     push_moves(alloc, writes, d, moves.as_slice(), last, before, after)
 }
 
-/// Adds the writes that remove an entry from a directory with these blocks. Those that pack its entries leave the stage `before`,
-/// and the others `after`. There is none where the blocks are no directory. A refusal of memory says nothing of the writes.
+/// Adds the writes that remove an entry from a directory as it was seen. Those that pack its entries leave the stage `before`, and
+/// the others `after`. A refusal of memory says nothing of the writes.
 #[tactic(auto, unfolding(op_law::specs::Moving::removal_writes))]
 pub fn push_removal(
     alloc: Global,
     writes: &mut Writes,
     d: &DirSeen<'_>,
-    blocks: &Blocks,
     e: &DirEnt,
     before: Stage,
     after: Stage,
 ) -> Result<(), NoMemory>
     requires readable { IsReadable d.now }
-    requires few { length blocks.now < 2 ^ 32 }
-    requires there { ForOk (directory blocks.now) (λ es. has es (key e.now.name e.now.ver) ≡ true) }
-    ensures { OnOk result (writes.new ≡ writes.old ++ removal_writes (record (dir_seen d.now) { blocks = blocks.now }) e.now before after) }
+    requires read { IsRead d.now.blocks.now }
+    requires there { ForOk (directory (blocks_alone d.now.blocks.now)) (λ es. has es (key e.now.name e.now.ver) ≡ true) }
+    ensures { OnOk result (writes.new ≡ writes.old ++ removal_writes (dir_seen d.now) e.now before after) }
 {
-    let Some(es) = entries_in(alloc, blocks)? else {
-        return Ok(());
-    };
+    let blocks = blocks_of(alloc, d.blocks)?;
+    let es = read_sound(alloc, blocks.items())?;
     let removal = remove_from(alloc, blocks.items(), es.as_slice(), e.name.items(), e.ver)?;
     push_moves(
         alloc,

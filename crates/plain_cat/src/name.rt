@@ -36,6 +36,15 @@ impl Name {
         }
     }
 
+    /// The text of these bytes.
+    pub fn of(alloc: Global, bytes: &[u8]) -> Result<Self, NoMemory>
+        ensures { IfOk result (λ n. n ≡ bytes.now) }
+    {
+        Ok(Name {
+            bytes: SmallVec::from_slice(alloc, bytes)?,
+        })
+    }
+
     /// Adds a byte at the end. A refusal of memory leaves the text as it was.
     pub fn push(&mut self, item: u8) -> Result<(), NoMemory>
         ensures ok { OnOk result (self.new ≡ self.old ++ item ∷ []) }
@@ -56,9 +65,7 @@ impl Name {
     pub fn copy(&self, alloc: Global) -> Result<Self, NoMemory>
         ensures { IfOk result (λ n. n ≡ self.now) }
     {
-        Ok(Name {
-            bytes: SmallVec::from_slice(alloc, self.bytes.as_slice())?,
-        })
+        Name::of(alloc, self.bytes.as_slice())
     }
 
     /// Whether the two texts have the same bytes.

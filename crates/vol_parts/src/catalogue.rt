@@ -19,30 +19,20 @@ use plain_cat::{
 };
 use std::alloc::{AllocError, Global};
 
-// A name of these bytes.
-fn plain_name(alloc: Global, bytes: &[u8]) -> Result<Name, NoMemory>
-    ensures { IfOk result (λ name. name ≡ bytes.now) }
-{
-    let mut name = Name::new(alloc);
-    for byte in bytes {
-        name.push(*byte)?;
-    }
-    Ok(name)
-}
-
 /// An entry without the version limit and the flags of its record. An error says that memory ran out.
 pub fn plain_entry(alloc: Global, e: &RawEnt) -> Result<DirEnt, NoMemory>
     ensures { IfOk result (λ entry. entry ≡ plain_entry e.now) }
 {
     let seq = e.seq;
     Ok(DirEnt {
-        name: plain_name(alloc, e.name.bytes())?,
+        name: Name::of(alloc, e.name.bytes())?,
         ver: e.ver,
         fid: Fid { num: e.num, seq },
     })
 }
 
-fn plain_entries(alloc: Global, found: &[RawEnt]) -> Result<DirEnts, NoMemory>
+/// Entries without the version limits and the flags of their records, in their order. An error says that memory ran out.
+pub fn plain_entries(alloc: Global, found: &[RawEnt]) -> Result<DirEnts, NoMemory>
     ensures { IfOk result (λ entries. entries ≡ map plain_entry found.now) }
 {
     let mut entries = DirEnts::new(alloc);

@@ -24,7 +24,7 @@ mod rows;
 pub mod whole;
 
 pub use bodies::{FileRuns, body, fields, file_runs, first_lbn, is_free_cluster, is_used_number};
-pub use catalogue::{files, plain_entry, read_catalogue, read_entries, slot};
+pub use catalogue::{files, plain_entries, plain_entry, read_catalogue, read_entries, slot};
 pub use dirs::{dir_fault, first_bad_directory};
 pub use finding::Finding;
 pub use geometry::{Geometry, Part, guard};

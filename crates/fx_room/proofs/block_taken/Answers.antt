@@ -2,12 +2,12 @@ use Rattle.std.proofs.Common.{◌≡◌, ◌<◌, ◌∙◌, false, sym, ap, ari
 use Rattle.fx_dir.specs.Moves.{key}
 use Rattle.fx_dir.specs.Records.{record_length, is_end}
 use Rattle.fx_dir.proofs.Wanted.{record-versions}
-use Rattle.fx_room.specs.Walk.{walked_of}
-use Rattle.fx_room.proofs.Streams.{record-here, record-passed, records-none, records-first}
+use Rattle.fx_room.specs.Walk.{walked_of, walked}
+use Rattle.fx_room.proofs.Streams.{walks, record-here, record-passed, records-none, records-first}
 use Rattle.fx_room.proofs.block_taken.Goals as goal
 
 pub loop-rest-init : goal.loop-rest-init
-loop-rest-init c = record { long = omega arith; left = records-first (key c.args.name.now c.args.ver) (walked_of c.args.w) c.args.b.now c.requires }
+loop-rest-init c = record { long = omega arith; left = records-first (walked (key c.args.name.now c.args.ver)) (walked_of c.args.w) c.args.b.now c.requires }
 
 pub record_taken-now-requires : goal.record_taken-now-requires
 record_taken-now-requires c = record-here c.loop-rest.rest.now c.loop-rest.invariant.long _ _ _ c.loop-rest.invariant.left (sym c.is_end.ensures ∙ c.loop-rest-test.true)
@@ -30,8 +30,8 @@ loop-rest-preserved c =
     let fewer : length (drop (record_length rest) rest) < length rest = omega (arith, length-drop (record_length rest) rest) in
     record {
       long = rw back (omega (arith, length-drop (record_length rest) rest));
-      left = rw back (record-passed rest c.loop-rest.invariant.long _ _ _ c.loop-rest.invariant.left goes (walked_of c.record_taken-now.result) c.record_taken-now.ensures fewer);
+      left = rw back (record-passed rest c.loop-rest.invariant.long _ _ _ c.loop-rest.invariant.left goes (walked_of c.record_taken-now.result) c.record_taken-now.ensures fewer (walks (key c.args.name.now c.args.ver)));
     }
 
 pub returns : goal.returns
-returns c = records-none c.loop-rest.rest.now c.loop-rest.invariant.long _ _ _ c.loop-rest.invariant.left (sym c.is_end.ensures ∙ c.loop-rest-test.false)
+returns c = records-none c.loop-rest.rest.now c.loop-rest.invariant.long _ _ _ c.loop-rest.invariant.left (sym c.is_end.ensures ∙ c.loop-rest-test.false) (walks (key c.args.name.now c.args.ver))

@@ -8,7 +8,7 @@ use Rattle.fx_room.proofs.block_taken.Given as goal
 abbrev pub invariant-loop-rest : goal.invariant-loop-rest
 invariant-loop-rest l = record {
   long : 2 ≤ length l.rest;
-  left : RecordsLeft (key l.name l.ver) (walked (key l.name l.ver) (walked_of l.w) (entries_at l.b)) (walked_of l.now) l.rest;
+  left : RecordsLeft (walked (key l.name l.ver)) (walked (key l.name l.ver) (walked_of l.w) (entries_at l.b)) (walked_of l.now) l.rest;
 }
 
 abbrev pub decreases-loop-rest : goal.decreases-loop-rest

@@ -6,4 +6,4 @@ use Rattle.fx_room.proofs.Streams.{BlocksLeft}
 use Rattle.fx_room.proofs.blocks_taken.Given as goal
 
 abbrev pub invariant-loop-block : goal.invariant-loop-block
-invariant-loop-block l = BlocksLeft (key l.name l.ver) (walked (key l.name l.ver) (walked_of l.w) (all_entries (blocks_of l.seen))) (walked_of l.now) (drop l.block-index l.seen)
+invariant-loop-block l = BlocksLeft (walked (key l.name l.ver)) (walked (key l.name l.ver) (walked_of l.w) (all_entries (blocks_of l.seen))) (walked_of l.now) (drop l.block-index l.seen)

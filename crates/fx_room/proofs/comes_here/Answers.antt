@@ -2,7 +2,6 @@ use Rattle.std.proofs.Common.{◌∙◌, sym, ap}
 use Rattle.std.specs.Prelude.{◌&&◌}
 use Rattle.fx_dir.specs.Entries.{before}
 use Rattle.fx_dir.specs.Moves.{key}
-use Rattle.fx_room.specs.Filling.{is_first}
 use Rattle.fx_room.proofs.Counting.{first_before}
 use Rattle.fx_room.proofs.comes_here.Goals as goal
 

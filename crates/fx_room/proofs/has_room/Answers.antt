@@ -1,8 +1,6 @@
-use Rattle.std.proofs.Common.{◌≡◌, ◌≤◌, ◌∙◌, [], true, List, Ok, not, sym, ap, arith}
-use Rattle.fx_dir.specs.declared.RawEnt.{RawEnt}
-use Rattle.fx_dir.specs.Directory.{directory}
-use Rattle.fx_dir.specs.Moves.{inserted, key}
-use Rattle.fx_room.specs.Filling.{Filled, Tried, filled_by, tried_of}
+use Rattle.std.proofs.Common.{◌≡◌, ◌∙◌, [], true, not, sym, ap, arith}
+use Rattle.fx_dir.specs.Moves.{key}
+use Rattle.fx_room.specs.Filling.{Filled, Tried, tried_of}
 use Rattle.fx_room.specs.Walk.{Walked, blocks_of}
 use Rattle.fx_room.specs.Room.{has_room}
 use Rattle.fx_room.proofs.Counting.{start, ends, no_block, told_waiting, told_all}

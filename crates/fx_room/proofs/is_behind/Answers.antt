@@ -1,5 +1,4 @@
-use Rattle.std.proofs.Common.{◌∙◌, option_map, sym, ap}
-use Rattle.std.specs.Prelude.{option_copied}
+use Rattle.std.proofs.Common.{◌∙◌, sym, ap}
 use Rattle.fx_dir.specs.Moves.{key}
 use Rattle.fx_room.specs.Walk.{last_met, is_behind}
 use Rattle.fx_room.proofs.Counting.{first_before}

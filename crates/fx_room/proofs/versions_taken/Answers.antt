@@ -1,4 +1,4 @@
-use Rattle.std.proofs.Common.{◌≡◌, ◌+◌, ◌-◌, ◌∙◌, suc, sym, ap, arith}
+use Rattle.std.proofs.Common.{◌≡◌, ◌+◌, ◌∙◌, suc, sym, arith}
 use Rattle.base_words.specs.Fields.{field}
 use Rattle.fx_dir.specs.Moves.{key}
 use Rattle.fx_dir.specs.Records.{name_in}

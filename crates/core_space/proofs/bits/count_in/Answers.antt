@@ -1,5 +1,7 @@
 use Rattle.std.proofs.Common.{◌∙◌, ◌*◌, sym, arith}
-use Rattle.core_space.proofs.Loops.{counts_more, counts_same, counts_all}
+use Rattle.fx_bitmap.specs.Bits.{bit_at, count_set}
+use Rattle.fx_bitmap.proofs.Counts.{count_below-le}
+use Rattle.core_space.proofs.Loops.{counts_more, counts_same, counts_all, counts_whole}
 use Rattle.core_space.proofs.bits.count_in.Goals as goal
 use Rattle.core_space.proofs.bits.count_in.Goals.{then-bit, else-bit}
 
@@ -23,6 +25,16 @@ loop-q-preserved c =
             omega arith,
           )
     ]
+
+pub returns-then-end-first-clause-count : goal.returns-then-end-first-clause-count
+returns-then-end-first-clause-count c =
+    let end = c.min-end.ensures in
+    let whole = c.if-end-first.true in
+    c.count_set.ensures ∙ counts_whole c.args.geometry.now c.args.k c.args.block.now (omega arith)
+
+pub returns-then-end-first-clause-most : goal.returns-then-end-first-clause-most
+unfolding count_set
+returns-then-end-first-clause-most c = rw c.count_set.ensures (count_below-le (bit_at c.args.block.now) 4096)
 
 pub returns-clause-count : goal.returns-clause-count
 returns-clause-count c =

@@ -1,4 +1,4 @@
-use Rattle.std.proofs.Common.{◌≤◌, ◌⊎◌, ◌++◌, Bool, Ok, Err, inl, inr, length, drop, sym, ap, ◌∙◌, arith, if◌then◌else◌}
+use Rattle.std.proofs.Common.{◌≡◌, ◌≤◌, ◌⊎◌, ◌++◌, Bool, true, false, Ok, Err, IsOk, inl, inr, length, drop, sym, ap, subst, ◌∙◌, arith, if◌then◌else◌}
 use Rattle.fx_dir.specs.Moves.{on_entries}
 use Rattle.fx_dir.specs.declared.DirFault.TheVariants.{Clash}
 use Rattle.fx_dir.proofs.Merging.{walk-says, walk-begins, walk-strays, walk-ends, same-sym}
@@ -39,3 +39,9 @@ returns-clause-value c =
     let end : (length es ≤ c.loop-i.i) ⊎ (length fs ≤ c.loop-i.count) = elim c.loop-i-test.branch [ then-loop-i-test+else-count-fs w ↦ inr w.if-count-fs.false | else-loop-i-test w ↦ inl w.loop-i-test.false ] in
     let ends = walk-ends c.loop-i.clash es fs c.loop-i.i c.loop-i.count end in
     walk-says 0 es fs c.requires.met c.requires.found ∙ ap (on_entries (λ gs. es ++ gs)) (sym c.loop-i.invariant.so_far ∙ ends ∙ ap (λ (t : Bool). if t then Err Clash else Ok (drop c.loop-i.count fs)) c.if-clash-2.false)
+
+pub returns-then-not-is_eq-clause-sound : goal.returns-then-not-is_eq-clause-sound
+returns-then-not-is_eq-clause-sound c = λ sound. absurd (let k : false ≡ true = subst IsOk (returns-then-not-is_eq-clause-value c) sound in cc)
+
+pub returns-then-clash-2-clause-sound : goal.returns-then-clash-2-clause-sound
+returns-then-clash-2-clause-sound c = λ sound. absurd (let k : false ≡ true = subst IsOk (returns-then-clash-2-clause-value c) sound in cc)

@@ -4,5 +4,5 @@ use Rattle.fx_dir.proofs.Forming.{named}
 use Rattle.fx_dir.proofs.Steps.{name-short}
 use Rattle.fx_dir.proofs.records.push_record.Goals as goal
 
-pub push_versions-requires-clause-named : goal.push_versions-requires-clause-named
-push_versions-requires-clause-named c = name-short (name_in c.args.bytes.now) (named c.args.bytes.now (sym c.is_named.ensures ∙ c.if-not-is_named.false))
+pub push_named-requires-clause-named : goal.push_named-requires-clause-named
+push_named-requires-clause-named c = name-short (name_in c.args.bytes.now) (named c.args.bytes.now (sym c.is_named.ensures ∙ c.if-not-is_named.false))

@@ -1,4 +1,4 @@
-use Rattle.std.proofs.Common.{◌∙◌, ◌+◌, None, length, arith, length-drop}
+use Rattle.std.proofs.Common.{◌∙◌, ◌+◌, suc, None, length, arith, length-drop}
 use Rattle.base_words.specs.Fields.{put}
 use Rattle.fx_dir.specs.Pieces.{entry_bytes}
 use Rattle.fx_dir.specs.Writing.{IsInForm, last_name, following}
@@ -15,18 +15,18 @@ put_entry-at-requires-clause-form c = rw c.index-es-i.is (each-get IsInForm c.ar
 
 pub put_entry-at-requires-clause-few : goal.put_entry-at-requires-clause-few
 put_entry-at-requires-clause-few c =
-    rw c.split_at.ensures.back (omega (arith, c.requires.room, size-length None c.args.es.now, length-drop c.loop-i.i c.args.es.now))
+    rw c.split_at-in-loop-i.ensures.back (omega (arith, c.requires.room, size-length None c.args.es.now, length-drop (c.loop-i.i + 1) c.args.es.now))
 
 pub put_entry-at-requires-clause-room : goal.put_entry-at-requires-clause-room
 put_entry-at-requires-clause-room c =
-    rw (c.split_at.ensures.front, c.split_at.ensures.back)
+    rw (c.split_at.ensures.front, c.split_at-in-loop-i.ensures.back)
     (standing-room c.args.es.now c.loop-i.i c.loop-i.at c.loop-i.b c.index-es-i.result c.loop-i.invariant c.requires.room c.loop-i-test.true c.index-es-i.is)
 
 pub loop-i-preserved : goal.loop-i-preserved
 loop-i-preserved c =
     let e = c.index-es-i.result in
     standing-more c.args.es.now c.loop-i.i c.loop-i.at _ c.loop-i.b _ e c.loop-i.invariant c.loop-i-test.true c.index-es-i.is
-    (c.put_entry-at.ensures.text ∙ λ j. put c.loop-i.b c.loop-i.at (entry_bytes (last_name (c.split_at.ensures.front j)) e (following e.name (c.split_at.ensures.back j)))) (c.put_entry-at.ensures.end ∙ λ j. c.loop-i.at + length (entry_bytes (last_name (c.split_at.ensures.front j)) e (following e.name (c.split_at.ensures.back j))))
+    (c.put_entry-at.ensures.text ∙ λ j. put c.loop-i.b c.loop-i.at (entry_bytes (last_name (c.split_at.ensures.front j)) e (suc (following e.name (c.split_at-in-loop-i.ensures.back j))))) (c.put_entry-at.ensures.end ∙ λ j. c.loop-i.at + length (entry_bytes (last_name (c.split_at.ensures.front j)) e (suc (following e.name (c.split_at-in-loop-i.ensures.back j)))))
 
 pub put_bytes-requires : goal.put_bytes-requires
 put_bytes-requires c = omega (arith, standing-end c.args.es.now c.loop-i.i c.loop-i.at c.loop-i.b c.loop-i.invariant c.requires.room)

@@ -18,6 +18,7 @@ deleted-requires-clause-entry c =
     let found = sym c.in_ok-e.ensures ∙ c.in-Some.is in
     record {
       readable = c.requires.dir;
+      read = c.requires.read;
       few = c.requires.few;
       there = found_so (blocks_alone c.args.d.now.blocks.now) name c.args.ver c.in-Some.e found;
     }

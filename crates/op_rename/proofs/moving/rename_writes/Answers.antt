@@ -1,28 +1,25 @@
-use Rattle.std.proofs.Common.{◌≡◌, ◌∙◌, ℕ, length, ap, sym, arith}
-use Rattle.std.proofs.lemmas.List.{length-map}
-use Rattle.base_words.specs.Fields.{Block}
+use Rattle.std.proofs.Common.{◌≡◌, ◌∙◌, Ok, sym, ap}
+use Rattle.fx_dir.specs.Entries.{has}
 use Rattle.fx_dir.specs.Directory.{directory}
-use Rattle.fx_dir.specs.Moves.{written}
-use Rattle.fx_dir.proofs.Changing.{length-written}
-use Rattle.op_law.specs.Moving.{insertion_moves}
+use Rattle.fx_dir.specs.Moves.{key}
+use Rattle.plain_rules.specs.Lookups.{versions}
+use Rattle.plain_rules.specs.Directories.{is_taken}
+use Rattle.vol_parts.specs.Catalogues.{plain_entries}
+use Rattle.vol_spell.proofs.RemovalLists.{is_there}
 use Rattle.op_law.specs.Behind.{blocks_alone}
-use Rattle.op_steps.specs.Names.{dir_seen}
-use Rattle.op_rename.proofs.Behind.{there_behind}
+use Rattle.op_steps.proofs.Entered.{new_there}
 use Rattle.op_rename.proofs.moving.rename_writes.Goals as goal
 
-pub push_removal-requires-clause-few : goal.push_removal-requires-clause-few
-push_removal-requires-clause-few c =
-    let d = c.args.d.now in
-    let e = ap length c.in_ok-blocks.ensures in
-    let n = length-written c.as_slice-slice.result.now (blocks_alone d.blocks.now) in
-    let m = length-map d.blocks.now (λ (s : ℕ × Block). s.1) in
-    let few = c.requires.readable.few in
-    omega arith
+pub rename_into-requires-clause-new : goal.rename_into-requires-clause-new
+rename_into-requires-clause-new c =
+    let bs = blocks_alone c.args.d.now.blocks.now in
+    let read : directory bs ≡ Ok c.as_slice.result.now = ap directory (sym (c.items.ensures ∙ c.in_ok-blocks.ensures)) ∙ c.in_ok-es.ensures.entries ∙ ap Ok (sym c.as_slice.ensures.value) in
+    new_there bs c.args.new.now _ c.as_slice.result.now c.raw_entry.ensures c.requires.new read
 
-pub push_removal-requires-clause-there : goal.push_removal-requires-clause-there
-push_removal-requires-clause-there c =
-    let d = c.args.d.now in
-    let bs = blocks_alone d.blocks.now in
-    let moves : c.as_slice-slice.result.now ≡ insertion_moves (dir_seen d) c.args.new.now = c.as_slice-slice.ensures.value ∙ c.in_ok-moves.ensures in
-    let blocks = c.in_ok-blocks.ensures ∙ ap (λ ms. written ms bs) moves in
-    λ es read. there_behind bs c.args.new.now c.args.e.now c.requires.whole c.requires.form c.requires.seq c.requires.new c.requires.there es (ap directory (sym blocks) ∙ read)
+pub rename_into-requires-clause-there : goal.rename_into-requires-clause-there
+rename_into-requires-clause-there c =
+    let bs = blocks_alone c.args.d.now.blocks.now in
+    let e = c.args.e.now in
+    let read : directory bs ≡ Ok c.as_slice.result.now = ap directory (sym (c.items.ensures ∙ c.in_ok-blocks.ensures)) ∙ c.in_ok-es.ensures.entries ∙ ap Ok (sym c.as_slice.ensures.value) in
+    ap (λ n. has c.as_slice.result.now (key n e.ver)) c.items-3.ensures
+    ∙ is_there e.name e.ver c.as_slice.result.now (ap (λ r. is_taken e.ver (versions e.name (plain_entries r))) (sym read) ∙ c.requires.there)

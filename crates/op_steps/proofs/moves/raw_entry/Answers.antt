@@ -1,4 +1,3 @@
-use Rattle.std.proofs.Common.{◌≤◌, length, subst, sym, List, ℕ}
 use Rattle.fx_dir.proofs.Steps.{name-short}
 use Rattle.op_steps.proofs.moves.raw_entry.Goals as goal
 

@@ -5,7 +5,7 @@ use Rattle.fx_dir.specs.Lists.{Each}
 use Rattle.fx_dir.specs.Writing.{IsInForm, IsRanged, name_of}
 use Rattle.fx_dir.proofs.Mixing.{each-take, each-drop}
 use Rattle.fx_dir.proofs.Filling.{group-room, blocks-step, over-next}
-use Rattle.fx_dir.proofs.packing.pack_into.Goals as goal
+use Rattle.fx_dir.proofs.packing.pack_onto.Goals as goal
 
 pub block_of-requires-clause-form : goal.block_of-requires-clause-form
 block_of-requires-clause-form c = rw c.split_at.ensures.front (each-take IsInForm c.fill.result c.loop-i.rest.now c.loop-i.invariant.form)

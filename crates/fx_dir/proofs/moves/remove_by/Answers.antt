@@ -14,16 +14,16 @@ use Rattle.fx_dir.proofs.Seeing.{without-each}
 use Rattle.fx_dir.proofs.Based.{long-from, read-fits, read-order}
 use Rattle.fx_dir.proofs.Removing.{removes, remove-there}
 use Rattle.fx_dir.proofs.Filling.{length-blocks, removal-is, pack-rises, pack-ranged}
-use Rattle.fx_dir.proofs.moves.remove_from.Goals as goal
+use Rattle.fx_dir.proofs.moves.remove_by.Goals as goal
 
 pub new-requires : goal.new-requires
 new-requires c = has-short c.args.name.now c.args.ver c.args.es.now c.requires.forms c.requires.there
 
-pub pack_into-requires-2 : goal.pack_into-requires-2
-pack_into-requires-2 c = subst (λ t. Each IsInForm t) (sym (c.as_slice.ensures.value ∙ c.in_ok-rest.ensures)) (without-each IsInForm _ c.args.es.now c.requires.forms)
+pub pack_into-requires : goal.pack_into-requires
+pack_into-requires c = subst (λ t. Each IsInForm t) (sym (c.as_slice.ensures.value ∙ c.in_ok-rest.ensures)) (without-each IsInForm _ c.args.es.now c.requires.forms)
 
 pub remove_writes-requires-clause-left : goal.remove_writes-requires-clause-left
-remove_writes-requires-clause-left c = ap length c.in_ok-whole.ensures.blocks ∙ length-blocks (length c.args.old.now) c.args.es.now
+remove_writes-requires-clause-left c = ap length c.requires.whole ∙ length-blocks (length c.args.old.now) c.args.es.now
 
 pub remove_writes-requires-clause-rest : goal.remove_writes-requires-clause-rest
 remove_writes-requires-clause-rest c = ap length (c.as_slice-2.ensures.value ∙ c.in_ok-after.ensures.blocks) ∙ length-blocks (length c.args.old.now) c.as_slice.result.now
@@ -38,7 +38,7 @@ remove_writes-requires-clause-there c =
     let read = c.requires.read in
     let fits = read-fits old fs (long-from old c.told-old) read in
     let at : c.in_ok-lacking.lacking.at ≡ place e (pack name_of k fs) = c.in_ok-lacking.ensures.at ∙ ap (λ x. place x (pack name_of k fs)) n in
-    rw (at, c.in_ok-whole.ensures.blocks) (omega (arith, remove-there k fs e fits c.requires.there, length-blocks k fs, pack-length k fs))
+    rw (at, c.requires.whole) (omega (arith, remove-there k fs e fits c.requires.there, length-blocks k fs, pack-length k fs))
 
 pub returns-clause-moves : goal.returns-clause-moves
 returns-clause-moves c =
@@ -49,7 +49,7 @@ returns-clause-moves c =
     let n = ap (λ t. key t c.args.ver) c.new.ensures in
     let read = c.requires.read in
     let fits = read-fits old fs (long-from old c.told-old) read in
-    let whole : c.in_ok-whole.whole.blocks.items ≡ map block_of (pack name_of k fs) = c.in_ok-whole.ensures.blocks in
+    let whole : c.args.whole.items ≡ map block_of (pack name_of k fs) = c.requires.whole in
     let rest : c.as_slice.result.now ≡ without e fs = c.as_slice.ensures.value ∙ c.in_ok-rest.ensures ∙ ap (λ x. without x fs) n in
     let after : c.as_slice-2.result.now ≡ map block_of (pack name_of k (without e fs)) = c.as_slice-2.ensures.value ∙ c.in_ok-after.ensures.blocks ∙ ap (λ t. map block_of (pack name_of k t)) rest in
     let at : c.in_ok-lacking.lacking.at ≡ place e (pack name_of k fs) = c.in_ok-lacking.ensures.at ∙ ap (λ x. place x (pack name_of k fs)) n in
@@ -61,7 +61,7 @@ returns-clause-moves c =
 pub returns-clause-packing : goal.returns-clause-packing
 returns-clause-packing c =
     let old = c.args.old.now in
-    IfOk-weaker c.remove_writes.result _ _ (λ r by. by ∙ ap (λ (t : List Block). length (rising 1 old t)) (c.in_ok-whole.ensures.blocks ∙ sym (ap (packed_as old) c.requires.read))) c.remove_writes.ensures.packing
+    IfOk-weaker c.remove_writes.result _ _ (λ r by. by ∙ ap (λ (t : List Block). length (rising 1 old t)) (c.requires.whole ∙ sym (ap (packed_as old) c.requires.read))) c.remove_writes.ensures.packing
 
 pub returns-clause-law : goal.returns-clause-law
 returns-clause-law c =
@@ -72,12 +72,12 @@ returns-clause-law c =
     let n = ap (λ t. key t c.args.ver) c.new.ensures in
     let read = c.requires.read in
     let fits = read-fits old fs (long-from old c.told-old) read in
-    let whole : c.in_ok-whole.whole.blocks.items ≡ map block_of (pack name_of k fs) = c.in_ok-whole.ensures.blocks in
+    let whole : c.args.whole.items ≡ map block_of (pack name_of k fs) = c.requires.whole in
     let rest : c.as_slice.result.now ≡ without e fs = c.as_slice.ensures.value ∙ c.in_ok-rest.ensures ∙ ap (λ x. without x fs) n in
     let after : c.as_slice-2.result.now ≡ map block_of (pack name_of k (without e fs)) = c.as_slice-2.ensures.value ∙ c.in_ok-after.ensures.blocks ∙ ap (λ t. map block_of (pack name_of k t)) rest in
     let at : c.in_ok-lacking.lacking.at ≡ place e (pack name_of k fs) = c.in_ok-lacking.ensures.at ∙ ap (λ x. place x (pack name_of k fs)) n in
     let block : c.in_ok-lacking.lacking.block ≡ block_of (without e (slice_index_or (pack name_of k fs) (place e (pack name_of k fs)) [])) =
     c.in_ok-lacking.ensures.block ∙ ap (λ x. block_of (without x (slice_index_or (pack name_of k fs) (place x (pack name_of k fs)) []))) n in
     let is = (λ i. removal_by old (whole i) (at i) (block i) (after i)) ∙ removal-is old (pack name_of k fs) e (pack name_of k (without e fs)) (pack-rises k fs fits (read-order old fs read)) in
-    let ranged = pack-ranged k fs fits c.in_ok-whole.ensures.ranged in
+    let ranged = pack-ranged k fs fits c.requires.ranged in
     IfOk-weaker c.remove_writes.result _ _ (λ r by. removes old fs e r.moves.items (long-from old c.told-old) read c.requires.there (record { form = c.requires.forms; ranged = ranged }) refl (by ∙ is)) c.remove_writes.ensures.moves
