@@ -7,3 +7,4 @@ pub mod Outcome
 pub mod Spaces
 pub mod Moving
 pub mod Using
+pub mod Cached

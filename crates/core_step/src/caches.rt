@@ -1,14 +1,15 @@
 //! A node's cached blocks: which are current, and what a look and a write make of them.
 
-ghost use Rattle.std.specs.Prelude.{◌≡◌, is_some, OnOk, OnErr, if◌then◌else◌};
+ghost use Rattle.std.specs.Prelude.{◌≡◌, is_some, option_copied, Some, OnOk, OnErr, if◌then◌else◌};
 ghost use Rattle.base_words.specs.Fields.{Block};
 ghost use Rattle.vol_parts.specs.Parts.{IsGeometry};
 ghost use Rattle.lock_db.specs.Tables.{resource_at};
 ghost use Rattle.op_law.specs.declared.need.PlanWrite.{PlanWrite};
 ghost use Rattle.node_locks.specs.Sequences.{first_sequence, second_sequence};
 ghost use Rattle.core_state.specs.Raises.{is_first_part};
-ghost use Rattle.core_state.specs.Caches.{sequence_now, next_sequence, current_entry, writes_at, kept_sequence, kept_with, least_sequence, rewritten};
+ghost use Rattle.core_state.specs.Caches.{next_sequence, writes_at, kept_sequence, kept_with, least_sequence, rewritten};
 ghost use Rattle.core_state.specs.Events.{cached_block};
+ghost use Rattle.core_step.specs.Cached.{part_now, entry_in};
 
 use crate::raises::is_first_part;
 use base_words::Block;
@@ -18,6 +19,15 @@ use node_locks::{first_sequence, second_sequence};
 use op_law::NoMemory;
 use std::alloc::Global;
 use vol_parts::Geometry;
+
+/// The part of a lock's value block to which a block belongs, as it is now.
+#[derive(Clone, Copy)]
+pub(crate) struct PartNow {
+    /// Its sequence.
+    pub(crate) seq: u64,
+    /// Whether the value block is valid.
+    pub(crate) valid: bool,
+}
 
 // The sequence of the part to which a block belongs, in this value block.
 fn part_sequence(g: &Geometry, name: LockName, lbn: u32, value: &[u8; 16]) -> u64
@@ -31,6 +41,18 @@ fn part_sequence(g: &Geometry, name: LockName, lbn: u32, value: &[u8; 16]) -> u6
     }
 }
 
+/// The part to which a block belongs that a lock guards.
+pub(crate) fn part_now(g: &Geometry, locks: &LockDb, name: LockName, lbn: u32) -> PartNow
+    requires { IsGeometry g.now }
+    ensures { result ≡ part_now g.now locks.now name lbn }
+{
+    let (value, valid) = locks.value(name);
+    PartNow {
+        seq: part_sequence(g, name, lbn, &value),
+        valid,
+    }
+}
+
 // One higher.
 fn next_sequence(seq: u64) -> u64
     ensures { result ≡ next_sequence seq }
@@ -38,23 +60,20 @@ fn next_sequence(seq: u64) -> u64
     seq.saturating_add(1)
 }
 
-/// The bytes of the current entry of a block, under the lock that guards it.
+/// The bytes of the entry of a block that is current by this part.
 pub(crate) fn current_block(
-    g: &Geometry,
-    locks: &LockDb,
+    part: PartNow,
     cache: &NodeCache,
     name: LockName,
     lbn: u32,
-) -> Option<Block>
-    requires { IsGeometry g.now }
-    ensures some { is_some result ≡ is_some (current_entry g.now locks.now name lbn cache.now) }
-    ensures block { (b : Block) → result ≡ Some b → b ≡ cached_block (current_entry g.now locks.now name lbn cache.now) }
+) -> Option<&Block>
+    ensures some { is_some result ≡ is_some (entry_in part name lbn cache.now) }
+    ensures block { (b : Block) → option_copied result ≡ Some b → b ≡ cached_block (entry_in part name lbn cache.now) }
 {
-    let (value, valid) = locks.value(name);
-    if !valid {
+    if !part.valid {
         return None;
     }
-    cache.block(lbn, name, part_sequence(g, name, lbn, &value))
+    cache.peek(lbn, name, part.seq)
 }
 
 // Whether the file system of a node holds a lock in PW.
@@ -64,23 +83,19 @@ fn writes_at(locks: &LockDb, node: u8, name: LockName) -> bool
     matches!(locks.mode(name, Owner { node, part: 0 }), Some(Mode::PW))
 }
 
-/// With which sequence a block that is read under a lock is kept, if it is.
+/// With which sequence a block of this part is kept that is read under a lock, if it is.
 pub(crate) fn kept_sequence(
-    g: &Geometry,
+    part: PartNow,
     locks: &LockDb,
     node: u8,
     name: LockName,
-    lbn: u32,
 ) -> Option<u64>
-    requires { IsGeometry g.now }
-    ensures { result ≡ kept_sequence (resource_at name locks.now).valid (writes_at node (resource_at name locks.now)) (sequence_now g.now locks.now name lbn) }
+    ensures { result ≡ kept_sequence part.valid (writes_at node (resource_at name locks.now)) part.seq }
 {
-    let (value, valid) = locks.value(name);
-    let seq = part_sequence(g, name, lbn, &value);
-    if valid {
-        Some(seq)
+    if part.valid {
+        Some(part.seq)
     } else if writes_at(locks, node, name) {
-        Some(next_sequence(seq))
+        Some(next_sequence(part.seq))
     } else {
         None
     }
@@ -123,10 +138,9 @@ pub(crate) fn rewrite(
     requires { IsGeometry g.now }
     ensures { (w : PlanWrite) → w.lock ≡ name → w.lbn ≡ lbn → w.block ≡ block.now → cache.new ≡ rewritten g.now locks.now w cache.old }
 {
-    let (value, valid) = locks.value(name);
-    let seq = part_sequence(g, name, lbn, &value);
-    let least = least_sequence(valid, seq);
+    let part = part_now(g, locks, name, lbn);
+    let least = least_sequence(part.valid, part.seq);
     if cache.holds_since(lbn, name, least) {
-        cache.replace(lbn, name, next_sequence(seq), block);
+        cache.replace(lbn, name, next_sequence(part.seq), block);
     }
 }

@@ -10,17 +10,17 @@ ghost use Rattle.op_law.specs.declared.need.Ask.{Ask as PlanAsk};
 ghost use Rattle.core_state.specs.Worlds.{NodeState, IsOfWorld, state_of, plain_of, node_at};
 ghost use Rattle.core_state.specs.Event as event;
 ghost use Rattle.core_state.specs.Asks.{has_asked};
-ghost use Rattle.vol_parts.specs.Parts.{IsGeometry};
 ghost use Rattle.lock_db.specs.declared.name.LockName.{LockName};
 ghost use Rattle.node_cache.specs.Cached.{found, used};
-ghost use Rattle.core_state.specs.Caches.{kept_with};
+ghost use Rattle.lock_db.specs.Tables.{resource_at};
+ghost use Rattle.core_state.specs.Caches.{kept_with, kept_sequence, writes_at, sequence_now};
 ghost use Rattle.core_state.specs.Events.{happen, turned, leaving, locking, reading, hitting, caching, looking, using, planning, would_go};
 ghost use Rattle.core_step.specs.Asks.{aim_of, MayAsk, noted, unnoted};
 ghost use Rattle.core_step.specs.Giving.{MayLeaveAll};
 ghost use Rattle.core_step.specs.Using.{IsCurrent};
 
 use crate::asks::Aim;
-use crate::caches::{keep, kept_sequence};
+use crate::caches::keep;
 use crate::giving::leave_all;
 use base_words::Block;
 use blk_drive::ImageDev;
@@ -292,25 +292,25 @@ fn keep_looked<O: Operation>(
     }
 }
 
-/// A node's command looks at a block, which the lock of this name guards, and reads it from the drive. An error says that memory ran
-/// out, and nothing was looked at.
+/// A node's command looks at a block, which the lock of this name guards, and reads it from the drive. Its cache keeps it with this
+/// sequence, or not. An error says that memory ran out, and nothing was looked at.
 pub(crate) fn look<I: ImageDev, O: Operation>(
     alloc: Global,
     core: &mut Core<I, O>,
     node: u8,
     name: LockName,
     lbn: u32,
+    seq: Option<u64>,
 ) -> Result<(), NoMemory>
     requires node { IsOfWorld (plain_of O.cmd_is core.old) node }
-    requires geometry { IsGeometry core.old.geometry }
     requires within { lbn < length core.old.mirror.blocks }
+    requires kept { seq ≡ kept_sequence (resource_at name core.old.locks).valid (writes_at node (resource_at name core.old.locks)) (sequence_now core.old.geometry core.old.locks name lbn) }
     ensures world { OnOk result (plain_of O.cmd_is core.new ≡ happen (plain_of O.cmd_is core.old) node (event.Look name lbn)) }
     ensures same { OnErr result (plain_of O.cmd_is core.new ≡ plain_of O.cmd_is core.old) }
     ensures mirror { core.new.mirror ≡ core.old.mirror }
     ensures room { core.new.history.room ≡ core.old.history.room }
 {
     let block = *core.mirror.read(lbn);
-    let seq = kept_sequence(&core.geometry, &core.locks, node, name, lbn);
     keep_looked(
         alloc,
         &mut core.nodes[node as usize - 1],

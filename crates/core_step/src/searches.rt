@@ -12,14 +12,15 @@ ghost use Rattle.core_state.specs.Worlds.{NodeState, IsOfWorld, state_of, plain_
 ghost use Rattle.core_state.specs.Event as event;
 ghost use Rattle.lock_db.specs.declared.name.LockName.TheVariants.{V};
 ghost use Rattle.node_cache.specs.Cached.{found, used};
-ghost use Rattle.core_state.specs.Caches.{kept_with};
+ghost use Rattle.lock_db.specs.Tables.{resource_at};
+ghost use Rattle.core_state.specs.Caches.{kept_with, kept_sequence, writes_at, sequence_now};
 ghost use Rattle.core_state.specs.Events.{happen, turned, caching, told_by, ready_of, space_decided, space_looking, space_using, space_writing};
 ghost use Rattle.core_state.specs.Asks.{has_asked};
 ghost use Rattle.core_state.specs.Stocks.{has_bit_at};
 ghost use Rattle.core_step.specs.Spaces.{IsBitmapPlace, CanTake, taking, next_write};
 ghost use Rattle.core_step.specs.Using.{IsCurrent};
 
-use crate::caches::{keep, kept_sequence, rewrite};
+use crate::caches::{keep, rewrite};
 use crate::events::{count, count_hit, count_read};
 use crate::raises::is_same;
 use base_words::Block;
@@ -179,27 +180,27 @@ fn use_on<O: Operation>(
     }
 }
 
-/// By its rules for space, for this need, a node looks at a bitmap block and reads it from the drive, and what they then come to is taken
-/// over. An error says that memory ran out, and nothing was looked at.
+/// By its rules for space, for this need, a node looks at a bitmap block and reads it from the drive; its cache keeps it with this
+/// sequence, or not, and what the rules then come to is taken over. An error says that memory ran out, and nothing was looked at.
 pub(crate) fn space_look<I: ImageDev, O: Operation>(
     alloc: Global,
     core: &mut Core<I, O>,
     node: u8,
     need: SpaceNeed,
     lbn: u32,
+    seq: Option<u64>,
 ) -> Result<(), NoMemory>
     requires node { IsOfWorld (plain_of O.cmd_is core.old) node }
-    requires volume { IsGeometry core.old.geometry }
     requires geometry { (s : NodeState) → node_at (plain_of O.cmd_is core.old).nodes node ≡ Some s → IsGeometry s.seen.geometry }
     requires need { need.clusters ≤ 65536 }
     requires within { lbn < length core.old.mirror.blocks }
+    requires kept { seq ≡ kept_sequence (resource_at V core.old.locks).valid (writes_at node (resource_at V core.old.locks)) (sequence_now core.old.geometry core.old.locks V lbn) }
     ensures world { OnOk result (plain_of O.cmd_is core.new ≡ happen (plain_of O.cmd_is core.old) node (event.SpaceLook need.clusters need.number lbn)) }
     ensures same { OnErr result (plain_of O.cmd_is core.new ≡ plain_of O.cmd_is core.old) }
     ensures mirror { core.new.mirror ≡ core.old.mirror }
     ensures room { core.new.history.room ≡ core.old.history.room }
 {
     let block = *core.mirror.read(lbn);
-    let seq = kept_sequence(&core.geometry, &core.locks, node, LockName::V, lbn);
     look_on(
         alloc,
         &mut core.nodes[node as usize - 1],

@@ -23,7 +23,7 @@ ghost use Rattle.core_step.specs.Turns.{told};
 
 use crate::answers::{answer, write};
 use crate::asks::{going_ask, writes_by};
-use crate::caches::current_block;
+use crate::caches::{current_block, kept_sequence, part_now};
 use crate::channels::channel_seen;
 use crate::claims::{claim, lower_v, lower_x, return_x};
 use crate::events::{ask, fetch, leave, lock, look, plan, stand, use_block};
@@ -58,11 +58,14 @@ fn by_space_look<I: ImageDev, O: Operation>(
     ensures { IsTurn I.faults I.told node (held_of O.cmd_is core.old) (held_of O.cmd_is core.new) result }
 {
     let at = &core.nodes[node as usize - 1];
-    if let Some(block) = current_block(&core.geometry, &core.locks, &at.cache, LockName::V, lbn) {
+    let part = part_now(&core.geometry, &core.locks, LockName::V, lbn);
+    if let Some(block) = current_block(part, &at.cache, LockName::V, lbn) {
+        let block = *block;
         space_use(alloc, core, node, need, lbn, &block)?;
         return Ok(Turn::Moved(Kind::Used));
     }
-    space_look(alloc, core, node, need, lbn)?;
+    let seq = kept_sequence(part, &core.locks, node, LockName::V);
+    space_look(alloc, core, node, need, lbn, seq)?;
     Ok(Turn::Moved(Kind::Looked))
 }
 
@@ -157,11 +160,14 @@ fn by_look<I: ImageDev, O: Operation>(
     ensures { IsTurn I.faults I.told node (held_of O.cmd_is core.old) (held_of O.cmd_is core.new) result }
 {
     let at = &core.nodes[node as usize - 1];
-    if let Some(block) = current_block(&core.geometry, &core.locks, &at.cache, name, lbn) {
+    let part = part_now(&core.geometry, &core.locks, name, lbn);
+    if let Some(block) = current_block(part, &at.cache, name, lbn) {
+        let block = *block;
         use_block(core, node, lbn, &block)?;
         return Ok(Turn::Moved(Kind::Used));
     }
-    look(alloc, core, node, name, lbn)?;
+    let seq = kept_sequence(part, &core.locks, node, name);
+    look(alloc, core, node, name, lbn, seq)?;
     Ok(Turn::Moved(Kind::Looked))
 }
 

@@ -1,6 +1,6 @@
 -- The moves by which a directory changes, from what its blocks are.
 use Rattle.std.proofs.Common.{◌≡◌, ◌≤◌, ◌<◌, ◌-◌, ◌&&◌, ◌∙◌, ℕ, Bool, true, false, cond, List, Some, None, Result, Ok, All, length, nat_le, refl, sym, ap, subst, arith}
-use Rattle.std.specs.Prelude.{option_map}
+use Rattle.std.specs.Prelude.{option_map, is_some}
 use Rattle.std.specs.Result.{IsOk, ForOk}
 use Rattle.std.proofs.lemmas.Bool.{and_parts, leb-true}
 use Rattle.base_words.specs.Fields.{Block}
@@ -136,6 +136,9 @@ module _ (g : Geometry) (bs : List Block) (c : Cat) (n : ℕ) (d f : File) (more
 
     pub is_new : ForOk (directory found) (λ (es : List RawEnt). has es raw ≡ false)
     is_new es e = lost_is_entered.new g bs c n d f es can_enter (sym (ap directory same_blocks) ∙ e)
+
+    pub has_moves : is_some (insertion found raw) ≡ true
+    has_moves = ap (λ (xs : List Block). is_some (insertion xs raw)) same_blocks ∙ lost_is_entered.room g bs c n d f can_enter ∙ ap is_some enters
 
     pub insertion_leads : (ms : List Move) → insertion found raw ≡ Some ms → CanEnterOne c n → DirLeads g bs (with_entries c 11 d more) 11 ls ms
     insertion_leads ms e change =

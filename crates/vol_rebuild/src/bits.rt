@@ -20,7 +20,7 @@ use blk_drive::{ImageDev, Mirror};
 use fx_bitmap::{clear_bits, set_bits};
 use fx_home::{Home, read_home};
 use plain_cat::{Cat, NoMemory, Slot};
-use std::alloc::{AllocError, Global};
+use std::alloc::Global;
 use vol_faults::count_clusters;
 use vol_parts::Geometry;
 
@@ -103,7 +103,7 @@ fn counted(alloc: Global, blocks: &[Block]) -> Result<(Home, Vec<u8>), NoMemory>
     ensures { IfOk result (λ p. (g : Geometry) (c : Cat) → IsTold g blocks.now c → IsCounted g p.0 p.1.items blocks.now c) }
 {
     let Ok(home) = read_home(&blocks[1]) else {
-        return Err(AllocError);
+        unreachable!()
     };
     let counts = count_clusters(alloc, &home, blocks)?;
     Ok((home, counts))

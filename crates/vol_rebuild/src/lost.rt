@@ -23,7 +23,7 @@ use blk_drive::{ImageDev, Mirror};
 use fx_dir::insert_moves;
 use plain_cat::{Cat, DirEnts, File, NoMemory, Slot};
 use plain_rules::{file_at, with_lost_entry};
-use std::alloc::{AllocError, Global};
+use std::alloc::Global;
 use vol_faults::{Spot, all_firsts, is_lost, spots};
 use vol_parts::Geometry;
 
@@ -103,7 +103,6 @@ fn lost_files(alloc: Global, cat: &Cat) -> Result<LostFiles, NoMemory>
 }
 
 // The moves by which a lost file is entered in [SYSLOST], which is `dir`, where there is room for it: it has the entries `more` then.
-// They are none where memory lacks.
 fn insertion(
     alloc: Global,
     g: &Geometry,
@@ -123,13 +122,13 @@ fn insertion(
 {
     let e = lost_entry(alloc, dir.entries.items(), n, seq)?;
     let body = body(alloc, g, blocks, LOST)?;
-    match insert_moves(alloc, body.blocks.as_slice(), &e)? {
-        Some(moves) => Ok(Moves {
-            places: body.places,
-            moves,
-        }),
-        None => Err(AllocError),
-    }
+    let Some(moves) = insert_moves(alloc, body.blocks.as_slice(), &e)? else {
+        unreachable!()
+    };
+    Ok(Moves {
+        places: body.places,
+        moves,
+    })
 }
 
 // Enters a lost file, and says whether there was room.

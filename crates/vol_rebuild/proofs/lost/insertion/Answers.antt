@@ -1,4 +1,6 @@
-use Rattle.std.proofs.Common.{◌≡◌, ◌<◌, ◌∙◌, ℕ, false, List, Some, length, sym, ap, subst, arith}
+use Rattle.std.proofs.Common.{◌≡◌, ◌<◌, ◌∙◌, ℕ, false, List, Some, None, length, sym, ap, subst, arith}
+use Rattle.std.specs.Prelude.{is_some}
+use Rattle.std.proofs.lemmas.Bool.{false≢true}
 use Rattle.std.specs.Result.{IsOk, ForOk}
 use Rattle.base_words.specs.Fields.{Block}
 use Rattle.fx_dir.specs.declared.RawEnt.{RawEnt}
@@ -10,7 +12,7 @@ use Rattle.plain_cat.specs.declared.entries.DirEnt.{DirEnt}
 use Rattle.plain_rules.specs.Lookups.{versions, highest}
 use Rattle.plain_rules.specs.Mending.{with_lost_entry, lost_entry, lost_name}
 use Rattle.vol_spell.specs.Entries.{raw_entry}
-use Rattle.vol_rebuild.proofs.Directing.{dir_there, numbered, reads, version_room, lost_dir, in_form, is_new, insertion_leads}
+use Rattle.vol_rebuild.proofs.Directing.{dir_there, numbered, reads, version_room, lost_dir, in_form, is_new, has_moves, insertion_leads}
 use Rattle.vol_rebuild.proofs.lost.insertion.Goals as goal
 
 pub lost_entry-requires : goal.lost_entry-requires
@@ -58,8 +60,19 @@ insert_moves-requires-clause-new c =
     let e = c.in_ok-e.ensures ∙ (ap (λ (es : List DirEnt). raw_entry (lost_entry es c.args.n c.args.seq)) c.items.ensures ∙ ap (λ (s : ℕ). raw_entry (lost_entry c.args.dir.now.entries c.args.n s)) (sym f.2)) in
     subst (λ (x : RawEnt). ForOk (directory c.as_slice.result.now) (λ (es : List RawEnt). has es x ≡ false)) (sym e) new
 
-pub returns-in-Some : goal.returns-in-Some
-returns-in-Some c =
+pub unreachable-requires : goal.unreachable-requires
+unreachable-requires c =
+    let f = c.requires.file in
+    let room = subst (λ (s : ℕ). with_lost_entry c.args.cat.now.factor c.args.dir.now.entries c.args.n s ≡ Some c.args.more.now) (sym f.2) c.requires.room in
+    let e = c.in_ok-e.ensures ∙ (ap (λ (es : List DirEnt). raw_entry (lost_entry es c.args.n c.args.seq)) c.items.ensures ∙ ap (λ (s : ℕ). raw_entry (lost_entry c.args.dir.now.entries c.args.n s)) (sym f.2)) in
+    let by : insertion c.as_slice.result.now (raw_entry (lost_entry c.args.dir.now.entries c.args.n f.0.seq)) ≡ None =
+    ap (λ (x : RawEnt). insertion c.as_slice.result.now x) (sym e) ∙ sym (rw c.in_default.is at c.in_ok-moves.ensures.moves) in
+    let some = has_moves c.args.g.now c.args.blocks.now c.args.cat.now c.args.n c.args.dir.now f.0 c.args.more.now c.requires.told c.requires.dir f.1 room c.in_ok-body.body.places.items c.as_slice.result.now
+    c.in_ok-body.ensures.places (c.as_slice.ensures.value ∙ c.in_ok-body.ensures.blocks) in
+    false≢true (sym (ap is_some by) ∙ some)
+
+pub returns : goal.returns
+returns c =
     let f = c.requires.file in
     let room = subst (λ (s : ℕ). with_lost_entry c.args.cat.now.factor c.args.dir.now.entries c.args.n s ≡ Some c.args.more.now) (sym f.2) c.requires.room in
     let e = c.in_ok-e.ensures ∙ (ap (λ (es : List DirEnt). raw_entry (lost_entry es c.args.n c.args.seq)) c.items.ensures ∙ ap (λ (s : ℕ). raw_entry (lost_entry c.args.dir.now.entries c.args.n s)) (sym f.2)) in
