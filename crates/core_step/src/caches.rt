@@ -84,12 +84,7 @@ fn writes_at(locks: &LockDb, node: u8, name: LockName) -> bool
 }
 
 /// With which sequence a block of this part is kept that is read under a lock, if it is.
-pub(crate) fn kept_sequence(
-    part: PartNow,
-    locks: &LockDb,
-    node: u8,
-    name: LockName,
-) -> Option<u64>
+pub(crate) fn kept_sequence(part: PartNow, locks: &LockDb, node: u8, name: LockName) -> Option<u64>
     ensures { result ≡ kept_sequence part.valid (writes_at node (resource_at name locks.now)) part.seq }
 {
     if part.valid {
