@@ -5,7 +5,7 @@ use Rattle.run_engine.specs.declared.status.Status.TheVariants as status
 use Rattle.clus_top.specs.Words.{Wanted, Run, RunRebuild, Soak, Analyze, Rebuild, Init}
 use Rattle.clus_top.specs.Images.{IsImageAfter}
 use Rattle.clus_top.specs.Statuses.{IsDue}
-use Rattle.clus_top.specs.Verdicts.{is_verdict_of}
+use Rattle.clus_top.specs.Verdicts.{is_answer_of}
 
 pub lacking_due : (wanted : Option Wanted) (bytes : List ℕ) (size : ℕ) (bs : List Block) → IsDue wanted bytes size bs status.NoMemory
 lacking_due None bytes size bs = tt
@@ -26,7 +26,7 @@ lacking_image (Some Rebuild) bytes bs = record { mends = λ z h. h; kept = λ f 
 lacking_image (Some (Init cluster files label)) bytes bs = inl refl
 
 -- it is no verdict
-pub no_verdict : (wanted : Option Wanted) → is_verdict_of wanted status.NoMemory ≡ false
+pub no_verdict : (wanted : Option Wanted) → is_answer_of wanted status.NoMemory ≡ false
 no_verdict None = refl
 no_verdict (Some Run) = refl
 no_verdict (Some RunRebuild) = refl

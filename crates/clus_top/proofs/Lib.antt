@@ -1,5 +1,6 @@
 pub mod Analyzed
 pub mod Answered
+pub mod Endings
 pub mod Formatted
 pub mod Halting
 pub mod Imaged

@@ -1,7 +1,7 @@
 -- Of all statuses exactly one is due, but for faults and want of memory.
-use Rattle.std.proofs.Common.{◌≡◌, ℕ, true, List, [], ◌∷◌, Option, Some, None, refl, sym, ap, subst, ◌∙◌, inl, inr}
+use Rattle.std.proofs.Common.{◌≡◌, ◌≤◌, ℕ, true, length, List, [], ◌∷◌, Option, Some, None, refl, sym, ap, subst, ◌∙◌, inl, inr}
 use Rattle.std.proofs.lemmas.Bool.{false≢true}
-use Rattle.base_words.specs.Fields.{Block}
+use Rattle.base_words.specs.Fields.{Block, AreWholeBlocks}
 use Rattle.blk_drive.specs.Images.{IsInside, IsOutside}
 use Rattle.vol_parts.specs.declared.finding.Finding.{Finding}
 use Rattle.vol_parts.specs.Findings.{Weak, AreFindings, Accepts, IsFirstFatal}
@@ -14,12 +14,23 @@ use Rattle.run_engine.specs.declared.status.Status.{Status}
 use Rattle.run_engine.specs.declared.status.Status.TheVariants as status
 use Rattle.run_engine.specs.Verdicts.{is_verdict, is_mended_verdict, IsRunDue}
 use Rattle.blk_drive.proofs.Sizes.{is_size, outside}
-use Rattle.run_engine.specs.Texts.{IsWordsDue}
+use Rattle.run_engine.specs.Scripts.{IsScriptOf}
+use Rattle.run_engine.specs.Texts.{IsWordsDue, IsGood, IsAccepted}
 use Rattle.run_engine.proofs.Verdicts.{OneList, unfound, same_first, AloneInRun, alone_good, words_alone, run_verdict}
 use Rattle.run_engine.proofs.Verdicts.{due_alone as run_alone}
 use Rattle.clus_top.specs.Words.{Wanted, Run, RunRebuild, Soak, Analyze, Rebuild, Init}
 use Rattle.clus_top.specs.Statuses.{IsRunRebuildDue, IsSoakDue, IsAnalysisDue, IsRebuildDue, sized, IsPossible, IsInitDue, IsDue}
-use Rattle.clus_top.specs.Verdicts.{is_verdict_of, HasOneVerdict, RunsGood}
+use Rattle.clus_top.specs.MendedRuns.{IsMendableThen, IsUnmendable}
+use Rattle.clus_top.specs.Verdicts.{HasOneVerdict, is_answer_of, RunsGood}
+use Rattle.clus_top.proofs.Endings.{mendable_once, unmendable_once, comes_to_end, ends_somehow}
+
+-- all blocks have one list of findings
+abbrev OneLists : Type 0
+OneLists = (bs : List Block) → OneList bs
+
+-- and they have one
+abbrev AllHaveFindings : Type 0
+AllHaveFindings = (bs : List Block) → (fs : List Finding) × AreFindings bs fs
 
 -- no other status of an analysis is due
 abbrev AloneInAnalysis : ℕ → List Block → Status → Type 0
@@ -130,21 +141,67 @@ of_run bytes size bs fs one list found =
     let r = run_verdict bytes size bs fs one list found in
     record { status = r.status; verdict = r.verdict; due = r.due; alone = r.alone }
 
--- of a run that is mended then the same one is due
-alone_mended : (bytes : List ℕ) (size : ℕ) (bs : List Block) (s : Status) → AloneInRun bytes size bs s → (other : Status) → is_mended_verdict other ≡ true
-    → IsRunRebuildDue bytes size bs other → other ≡ s
-alone_mended bytes size bs s alone (status.NotMendable g) v h = absurd (false≢true v)
-alone_mended bytes size bs s alone other v h = alone other v h
+-- ---- of a run that is mended then
 
-of_mended : (bytes : List ℕ) (size : ℕ) (bs : List Block) (s : Status) → is_verdict s ≡ true → IsRunDue bytes size bs s → AloneInRun bytes size bs s
-    → HasOneVerdict (Some RunRebuild) bytes size bs
-of_mended bytes size bs (status.NotMendable f) v d alone = absurd d
-of_mended bytes size bs s v d alone = record { status = s; verdict = v; due = d; alone = alone_mended bytes size bs s alone }
+-- the status of the run alone
+as_run : Status → Status
+as_run (status.NotMendable f) = status.Ok
+as_run s = s
 
-of_run_rebuild : (bytes : List ℕ) (size : ℕ) (bs : List Block) (fs : List Finding) → SayOneThing (lines_of bytes) → OneList bs → AreFindings bs fs → HasOneVerdict (Some RunRebuild) bytes size bs
-of_run_rebuild bytes size bs fs one list found =
-    let r = of_run bytes size bs fs one list found in
-    of_mended bytes size bs r.status r.verdict r.due r.alone
+run_is_due : (bytes : List ℕ) (size : ℕ) (bs : List Block) (s : Status) → IsRunRebuildDue bytes size bs s → IsRunDue bytes size bs (as_run s)
+run_is_due bytes size bs status.Ok d = (d.0, d.1)
+run_is_due bytes size bs (status.NotMendable f) d = (d.0, d.1)
+run_is_due bytes size bs s d = d
+
+run_is_verdict : (s : Status) → is_verdict s ≡ true → is_verdict (as_run s) ≡ true
+run_is_verdict (status.NotMendable f) v = refl
+run_is_verdict s v = v
+
+-- a run that can be mended, one that cannot, and one that comes to no end
+only_mendable : (bytes : List ℕ) (size : ℕ) (bs : List Block) → SayOneThing (lines_of bytes) → IsMendableThen (IsScriptOf bytes) bs → (other : Status) → IsRunRebuildDue bytes size bs other → as_run other ≡ status.Ok
+    → other ≡ status.Ok
+only_mendable bytes size bs one m (status.NotMendable g) d e = absurd (mendable_once bytes bs one m g d.2)
+only_mendable bytes size bs one m other d e = e
+
+only_unmendable : (bytes : List ℕ) (size : ℕ) (bs : List Block) (f : Finding) → SayOneThing (lines_of bytes) → OneLists → IsUnmendable (IsScriptOf bytes) bs f → (other : Status) → IsRunRebuildDue bytes size bs other
+    → as_run other ≡ status.Ok → other ≡ status.NotMendable f
+only_unmendable bytes size bs f one lists u status.Ok d e = absurd (mendable_once bytes bs one d.2 f u)
+only_unmendable bytes size bs f one lists u (status.NotMendable g) d e = ap status.NotMendable (unmendable_once bytes bs one lists f g u d.2)
+only_unmendable bytes size bs f one lists u other d e = absurd (cc e)
+
+only_without_end : (s : Status) → (status.Ok ≡ s → ⊥) → (other : Status) → as_run other ≡ s → other ≡ s
+only_without_end s no (status.NotMendable g) e = absurd (no e)
+only_without_end s no other e = e
+
+pub alone_run_rebuild : (bytes : List ℕ) (size : ℕ) (bs : List Block) (s : Status) → SayOneThing (lines_of bytes) → OneLists → is_verdict s ≡ true → IsRunRebuildDue bytes size bs s
+    → (other : Status) → is_verdict other ≡ true → IsRunRebuildDue bytes size bs other → other ≡ s
+alone_run_rebuild bytes size bs s one lists v d other w h =
+    let e : as_run other ≡ as_run s = run_alone bytes size bs (as_run s) one (lists bs) (run_is_verdict s v) (run_is_due bytes size bs s d) (as_run other) (run_is_verdict other w) (run_is_due bytes size bs other h) in
+    by s d e where
+  by : (s : Status) → IsRunRebuildDue bytes size bs s → as_run other ≡ as_run s → other ≡ s
+  by status.Ok d e = only_mendable bytes size bs one d.2 other h e
+  by (status.NotMendable f) d e = only_unmendable bytes size bs f one lists d.2 other h e
+  by s d e = only_without_end s (λ k. cc k) other e
+
+-- a good script on an accepted volume: the run comes to its end, which can be mended or not
+of_end : (bytes : List ℕ) (size : ℕ) (bs : List Block) → SayOneThing (lines_of bytes) → OneLists → AllHaveFindings → length bs ≡ size → AreWholeBlocks bs → IsGood bytes → IsAccepted size bs → HasOneVerdict (Some RunRebuild) bytes size bs
+of_end bytes size bs one lists found count whole good accepted =
+    let end = comes_to_end bytes bs good (subst (λ (k : ℕ). 64 ≤ k) (sym count) accepted.inside.low) (subst (λ (k : ℕ). k ≤ 65536) (sym count) accepted.inside.high) whole accepted.accepted in
+    elim (ends_somehow (IsScriptOf bytes) bs end.0 end.1 found) [
+      | inl m ↦ record { status = status.Ok; verdict = refl; due = (good, accepted, m); alone = alone_run_rebuild bytes size bs status.Ok one lists refl (good, accepted, m) }
+      | inr u ↦ record { status = status.NotMendable u.0; verdict = refl; due = (good, accepted, u.1); alone = alone_run_rebuild bytes size bs (status.NotMendable u.0) one lists refl (good, accepted, u.1) }
+    ]
+
+-- by the status of the run alone
+of_run_rebuild : (bytes : List ℕ) (size : ℕ) (bs : List Block) → SayOneThing (lines_of bytes) → OneLists → AllHaveFindings → length bs ≡ size → AreWholeBlocks bs → HasOneVerdict (Some RunRebuild) bytes size bs
+of_run_rebuild bytes size bs one lists found count whole =
+    let there = found bs in
+    let r = of_run bytes size bs there.0 one (lists bs) there.1 in
+    by r.status r.verdict r.due where
+  by : (s : Status) → is_verdict s ≡ true → IsRunDue bytes size bs s → HasOneVerdict (Some RunRebuild) bytes size bs
+  by status.Ok v d = of_end bytes size bs one lists found count whole d.0 d.1
+  by (status.NotMendable f) v d = absurd d
+  by s v d = record { status = s; verdict = v; due = d; alone = alone_run_rebuild bytes size bs s one lists v d }
 
 of_mounted : (n : ℕ) (bytes : List ℕ) (size : ℕ) (bs : List Block) (fs : List Finding) → OneList bs → IsInside size → AreFindings bs fs → HasOneVerdict (Some (Soak n)) bytes size bs
 of_mounted n bytes size bs [] list inside none = record {
@@ -339,15 +396,15 @@ of_rebuild bytes size bs fs list found =
       | inl inside ↦ of_blocks bytes size bs fs list inside found
     ]
 
-pub one_verdict : (wanted : Option Wanted) (bytes : List ℕ) (size : ℕ) (bs : List Block) (fs : List Finding) → SayOneThing (lines_of bytes) → OneList bs → AreFindings bs fs
+pub one_verdict : (wanted : Option Wanted) (bytes : List ℕ) (size : ℕ) (bs : List Block) → SayOneThing (lines_of bytes) → OneLists → AllHaveFindings → length bs ≡ size → AreWholeBlocks bs
     → HasOneVerdict wanted bytes size bs
-one_verdict None bytes size bs fs one list found = record { status = status.BadWords; verdict = refl; due = tt; alone = words_alone }
-one_verdict (Some Run) bytes size bs fs one list found = of_run bytes size bs fs one list found
-one_verdict (Some RunRebuild) bytes size bs fs one list found = of_run_rebuild bytes size bs fs one list found
-one_verdict (Some (Soak n)) bytes size bs fs one list found = of_soak n bytes size bs fs list found
-one_verdict (Some Analyze) bytes size bs fs one list found = of_analysis bytes size bs fs list found
-one_verdict (Some Rebuild) bytes size bs fs one list found = of_rebuild bytes size bs fs list found
-one_verdict (Some (Init cluster files label)) bytes size bs fs one list found = of_init cluster files label bytes size bs
+one_verdict None bytes size bs one lists found count whole = record { status = status.BadWords; verdict = refl; due = tt; alone = words_alone }
+one_verdict (Some Run) bytes size bs one lists found count whole = let there = found bs in of_run bytes size bs there.0 one (lists bs) there.1
+one_verdict (Some RunRebuild) bytes size bs one lists found count whole = of_run_rebuild bytes size bs one lists found count whole
+one_verdict (Some (Soak n)) bytes size bs one lists found count whole = let there = found bs in of_soak n bytes size bs there.0 (lists bs) there.1
+one_verdict (Some Analyze) bytes size bs one lists found count whole = let there = found bs in of_analysis bytes size bs there.0 (lists bs) there.1
+one_verdict (Some Rebuild) bytes size bs one lists found count whole = let there = found bs in of_rebuild bytes size bs there.0 (lists bs) there.1
+one_verdict (Some (Init cluster files label)) bytes size bs one lists found count whole = of_init cluster files label bytes size bs
 
 -- ---- of a status that is due
 
@@ -387,34 +444,36 @@ alone_init cluster files label size status.OutFault v d = absurd (false≢true v
 alone_init cluster files label size status.NoMemory v d = absurd (false≢true v)
 alone_init cluster files label size s v d = absurd d
 
-alone_run_rebuild : (bytes : List ℕ) (size : ℕ) (bs : List Block) (s : Status) → SayOneThing (lines_of bytes) → OneList bs → is_mended_verdict s ≡ true → IsRunRebuildDue bytes size bs s
-    → (other : Status) → is_mended_verdict other ≡ true → IsRunRebuildDue bytes size bs other → other ≡ s
-alone_run_rebuild bytes size bs (status.NotMendable f) one list v d = absurd (false≢true v)
-alone_run_rebuild bytes size bs s one list v d = alone_mended bytes size bs s (run_alone bytes size bs s one list v d)
-
 alone_words : (s : Status) → is_verdict s ≡ true → IsWordsDue s → (other : Status) → is_verdict other ≡ true → IsWordsDue other → other ≡ s
 alone_words status.BadWords v d = words_alone
 alone_words status.NoMemory v d = absurd (false≢true v)
 alone_words s v d = absurd d
 
 -- no other status is due than one that is
-pub due_alone : (wanted : Option Wanted) (bytes : List ℕ) (size : ℕ) (bs : List Block) (s : Status) → SayOneThing (lines_of bytes) → OneList bs → is_verdict_of wanted s ≡ true → IsDue wanted bytes size bs s
-    → (other : Status) → is_verdict_of wanted other ≡ true → IsDue wanted bytes size bs other → other ≡ s
-due_alone None bytes size bs s one list v d = alone_words s v d
-due_alone (Some Run) bytes size bs s one list v d = run_alone bytes size bs s one list v d
-due_alone (Some RunRebuild) bytes size bs s one list v d = alone_run_rebuild bytes size bs s one list v d
-due_alone (Some (Soak n)) bytes size bs s one list v d = alone_soak n size bs s list v d
-due_alone (Some Analyze) bytes size bs s one list v d = alone_analysis size bs s list v d
-due_alone (Some Rebuild) bytes size bs s one list v d = alone_rebuild size bs s list v d
-due_alone (Some (Init cluster files label)) bytes size bs s one list v d = alone_init cluster files label size s v d
+pub due_alone : (wanted : Option Wanted) (bytes : List ℕ) (size : ℕ) (bs : List Block) (s : Status) → SayOneThing (lines_of bytes) → OneLists → is_verdict s ≡ true → IsDue wanted bytes size bs s
+    → (other : Status) → is_verdict other ≡ true → IsDue wanted bytes size bs other → other ≡ s
+due_alone None bytes size bs s one lists v d = alone_words s v d
+due_alone (Some Run) bytes size bs s one lists v d = run_alone bytes size bs s one (lists bs) v d
+due_alone (Some RunRebuild) bytes size bs s one lists v d = alone_run_rebuild bytes size bs s one lists v d
+due_alone (Some (Soak n)) bytes size bs s one lists v d = alone_soak n size bs s (lists bs) v d
+due_alone (Some Analyze) bytes size bs s one lists v d = alone_analysis size bs s (lists bs) v d
+due_alone (Some Rebuild) bytes size bs s one lists v d = alone_rebuild size bs s (lists bs) v d
+due_alone (Some (Init cluster files label)) bytes size bs s one lists v d = alone_init cluster files label size s v d
 
 -- ---- a good script on an accepted volume
 
+-- of a run that is mended then, where its volume can be mended
+good_mended : (bytes : List ℕ) (size : ℕ) (bs : List Block) (s : Status) → SayOneThing (lines_of bytes) → OneList bs → IsGood bytes → IsInside size → Accepts bs → is_mended_verdict s ≡ true → IsRunRebuildDue bytes size bs s
+    → s ≡ status.Ok
+good_mended bytes size bs status.Ok one list good inside none v h = refl
+good_mended bytes size bs (status.NotMendable f) one list good inside none v h = absurd (false≢true v)
+good_mended bytes size bs s one list good inside none v h = alone_good bytes size bs one list good inside none s v h
+
 pub answered : (wanted : Option Wanted) (bytes : List ℕ) (size : ℕ) (bs : List Block) (s : Status) → SayOneThing (lines_of bytes) → OneList bs → RunsGood wanted bytes → IsInside size → Accepts bs
-    → is_verdict_of wanted s ≡ true → IsDue wanted bytes size bs s → s ≡ status.Ok
+    → is_answer_of wanted s ≡ true → IsDue wanted bytes size bs s → s ≡ status.Ok
 answered None bytes size bs s one list good inside none v h = absurd good
 answered (Some Run) bytes size bs s one list good inside none v h = alone_good bytes size bs one list good inside none s v h
-answered (Some RunRebuild) bytes size bs s one list good inside none v h = alone_mended bytes size bs status.Ok (alone_good bytes size bs one list good inside none) s v h
+answered (Some RunRebuild) bytes size bs s one list good inside none v h = good_mended bytes size bs s one list good inside none v h
 answered (Some (Soak n)) bytes size bs s one list good inside none v h = soak_good n size bs list inside none s v h
 answered (Some Analyze) bytes size bs s one list good inside none v h = absurd good
 answered (Some Rebuild) bytes size bs s one list good inside none v h = absurd good

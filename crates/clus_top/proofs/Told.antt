@@ -17,6 +17,7 @@ use Rattle.run_engine.specs.declared.over_mending.Halt.{Halt}
 use Rattle.run_engine.specs.declared.over_mending.Halt.TheVariants as halt
 use Rattle.run_engine.specs.Halts.{halt_of, IsToldHalt}
 use Rattle.run_engine.specs.Scripts.{IsScriptOf}
+use Rattle.clus_top.specs.MendedRuns.{IsMendableThen}
 use Rattle.run_engine.specs.Texts.{status_text, IsPlainText, Writes}
 use Rattle.run_engine.specs.Verdicts.{is_verdict}
 use Rattle.clus_top.specs.Words.{Wanted, Run, RunRebuild, Soak, Analyze, Rebuild, Init}
@@ -317,7 +318,9 @@ module _ (size : ℕ) (was now : Option (List ℕ)) (read reading had has before
 
     pub halt_ok : (bytes : List ℕ) (old new : List Block) → IsMendedWith bytes size old new text → IsAnswer (Some RunRebuild) bytes size old new was now read reading had has before after r
     halt_ok bytes old new h =
-        ok_is (Some RunRebuild) bytes size old new was now read reading had has before after text r (h.good, h.accepted) (h.good, h.accepted) h.report h.report.both h.report.both either all cut fault
+        let both = h.report.both in
+        let mendable : IsMendableThen (IsScriptOf bytes) old = record { new = both.before; ran = both.ran; after = both.mended.after; done = both.done; mends = both.mended.mends } in
+        ok_is (Some RunRebuild) bytes size old new was now read reading had has before after text r (h.good, h.accepted, mendable) (h.good, h.accepted) h.report both both either all cut fault
 
     pub init_ok : (cluster files : ℕ) (label bytes : List ℕ) (old new : List Block) → IsFormattedWith cluster files label size old new text
         → IsAnswer (Some (Init cluster files label)) bytes size old new was now read reading had has before after r
@@ -333,6 +336,6 @@ pub lacking_call : (wanted : Option Wanted) (bytes : List ℕ) (size : ℕ) (bs 
     → IsCall wanted bytes size bs bs was now read reading had has before after status.NoMemory
 lacking_call wanted bytes size bs was now read reading had has before after w = record {
   answer = lacking_is wanted bytes size bs bs was now read reading had has before after (lacking_image wanted bytes bs) w;
-  alone = λ v. absurd (false≢true (sym (no_verdict wanted) ∙ v));
+  alone = λ v. absurd (false≢true v);
   answered = λ good inside none v. absurd (false≢true (sym (no_verdict wanted) ∙ v));
 }

@@ -28,7 +28,7 @@ goes_lawfully w good n s x at calm e = by_cmd s.cmd (good.nodes n s at).command 
       held a None = a
       held a (Some c) = c
 
-step_keeps : (w : Plain) (n : ℕ) → Good w → Good (after_step w n)
+pub step_keeps : (w : Plain) (n : ℕ) → Good w → Good (after_step w n)
 step_keeps w n good = steps_keep_the_rules w n good (goes_lawfully w good n)
 
 -- wherever a run stops, the world keeps the rules

@@ -1,8 +1,10 @@
 -- What a run leaves whose drive is mended once the last node is over.
-use Rattle.std.specs.Prelude.{◌≡◌, ℕ, List}
+use Rattle.std.specs.Prelude.{◌≡◌, ℕ, List, Some}
 use Rattle.base_words.specs.Fields.{Block}
+use Rattle.plain_cat.specs.declared.cat.Cat.{Cat}
 use Rattle.plain_cat.specs.declared.script.Script.{Script}
 use Rattle.plain_cat.specs.declared.history.Mended.{Mended}
+use Rattle.plain_rules.specs.Mending.{mended}
 use Rattle.plain_rules.specs.Replaying.{Replays}
 use Rattle.vol_parts.specs.declared.finding.Finding.{Finding}
 use Rattle.run_engine.specs.Mending.{IsMended}
@@ -32,12 +34,20 @@ pub record IsPartlyMended (IsGiven : Script → Type 0) (bs new : List Block) : 
   pub ran : HasRunToEnd IsGiven bs before
   pub still : StillMends ran.after ran.world.blocks new
 
+-- on the volume of these blocks a run can come to an end whose catalogue can be mended
+pub record IsMendableThen (IsGiven : Script → Type 0) (bs : List Block) : Type 0 where
+  pub new : List Block
+  pub ran : HasRunToEnd IsGiven bs new
+  pub after : Cat
+  pub done : Mended
+  pub mends : mended ran.after ≡ Some (after, done)
+
 -- A run has come to its end, and its catalogue cannot be mended: [SYSLOST] lacks room for a lost file. The image has the drive of the
 -- run, of which this is the first fatal finding.
 pub record IsUnmended (IsGiven : Script → Type 0) (bs new : List Block) (f : Finding) : Type 0 where
   pub ran : HasRunToEnd IsGiven bs new
   pub roomless : IsRoomless ran.after ran.world.blocks f
 
--- on the volume of these blocks a run can come to such an end
+-- On the volume of these blocks a run can come to such an end. All its runs of a script come to one end: so each does, or none.
 abbrev pub IsUnmendable : (Script → Type 0) → List Block → Finding → Type 0
 IsUnmendable IsGiven bs f = (new : List Block) × IsUnmended IsGiven bs new f

@@ -17,7 +17,7 @@ use Rattle.run_engine.specs.Verdicts.{IsRunDue}
 use Rattle.clus_top.specs.Words.{Wanted, Run, RunRebuild, Soak, Analyze, Rebuild, Init}
 use Rattle.clus_top.specs.Runs.{IsReport, IsSummary}
 use Rattle.clus_top.specs.Mendings.{IsMendingText}
-use Rattle.clus_top.specs.MendedRuns.{IsMendedReport, IsUnmendable}
+use Rattle.clus_top.specs.MendedRuns.{IsMendedReport, IsMendableThen, IsUnmendable}
 use Rattle.run_engine.specs.Summaries.{counted}
 
 -- ---- volumes
@@ -29,8 +29,9 @@ pub record HasFindings (bs : List Block) : Type 0 where
 
 -- ---- when a status is due
 
--- Of a run that is mended then. The order is that of a run, and then whether its catalogue can be mended.
+-- Of a run that is mended then. The order is that of a run, and then whether the catalogue to which it leads can be mended.
 abbrev pub IsRunRebuildDue : List ℕ → ℕ → List Block → Status → Type 0
+IsRunRebuildDue bytes size bs status.Ok = IsGood bytes × IsAccepted size bs × IsMendableThen (IsScriptOf bytes) bs
 IsRunRebuildDue bytes size bs (status.NotMendable f) = IsGood bytes × IsAccepted size bs × IsUnmendable (IsScriptOf bytes) bs f
 IsRunRebuildDue bytes size bs s = IsRunDue bytes size bs s
 

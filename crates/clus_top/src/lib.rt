@@ -10,9 +10,9 @@
 //! ```
 //!
 //! The contract is one clause, on bytes of a script, blocks of the image and blocks that are left (`IsCall`). Its fields say: each status
-//! comes only under its condition (`due`), and of all inputs one is due, and no other one, but for faults, want of memory and, of
-//! `run --rebuild`, `NotMendable` (`one_status_is_due`, `no_other_status_is_due`); of a good script and an accepted volume it is `Ok`
-//! (`good_runs_are_answered`). With status 0 the report of a run is the answers of one uncached volume, taken one after the other,
+//! comes only under its condition (`due`), and of all inputs one is due, and no other one, but for faults and want of memory
+//! (`one_status_is_due`, `no_other_status_is_due`); of a good script and an accepted volume it is `Ok`, or, of `run --rebuild` whose end
+//! cannot be mended, `NotMendable` (`good_runs_are_answered`). With status 0 the report of a run is the answers of one uncached volume, taken one after the other,
 //! with the stages and leaks of deaths (`written`), and the image has the blocks to which they lead (`left`), mended by the
 //! report's last entry if the job is `run --rebuild`. With other statuses these two say what was written, and what the image has. A
 //! fault is reported only if its object's count of faults rose.

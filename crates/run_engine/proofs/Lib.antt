@@ -8,6 +8,7 @@ pub mod Halts
 pub mod Matching
 pub mod MendedDrives
 pub mod MountedVolumes
+pub mod OneEnd
 pub mod Playing
 pub mod Rebuilding
 pub mod Releasing

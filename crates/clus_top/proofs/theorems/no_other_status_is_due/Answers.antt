@@ -3,4 +3,4 @@ use Rattle.clus_top.proofs.OneVerdict.{due_alone}
 use Rattle.clus_top.proofs.theorems.no_other_status_is_due.Goals as goal
 
 pub returns : goal.returns
-returns c wanted bytes size bs s due v = due_alone wanted bytes size bs s (c.a_text_says_one_thing.ensures (lines_of bytes)) (c.findings_are_one_list.ensures bs) v due
+returns c wanted bytes size bs s due v = due_alone wanted bytes size bs s (c.a_text_says_one_thing.ensures (lines_of bytes)) c.findings_are_one_list.ensures v due
