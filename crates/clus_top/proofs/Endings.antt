@@ -16,6 +16,7 @@ use Rattle.vol_parts.specs.Volumes.{volume, geometry_of}
 use Rattle.vol_parts.specs.Catalogues.{catalogue}
 use Rattle.vol_parts.specs.Findings.{home_at, Weak, AreFindings, AreWarningsBy, Accepts, IsCatalogueBy, CatOf, IsFatal, IsFirstFatal}
 use Rattle.vol_faults.specs.Free.{IsGeometryBy}
+use Rattle.vol_found.specs.Having.{HaveFindings}
 use Rattle.vol_analyze.proofs.Accepting.{accepted_accounts}
 use Rattle.run_script.specs.Lines.{lines_of}
 use Rattle.run_script.specs.Laws.{SayOneThing}
@@ -199,8 +200,8 @@ module _ (IsGiven : Script → Type 0) (bs new : List Block) (a : HasRunToEnd Is
       (found.0, new, record { ran = a; roomless = record { none = none; number = why.0; is = why.1; first = found.1 } })
   unmended none fs (inr clear) = let lacks = (end_mends IsGiven bs new a).lacking none in absurd (clear.0 (NoRoom lacks.0) lacks.1)
 
-  pub ends_somehow : ((xs : List Block) → (fs : List Finding) × AreFindings xs fs) → IsMendableThen IsGiven bs ⊎ ((f : Finding) × IsUnmendable IsGiven bs f)
+  pub ends_somehow : ((xs : List Block) → HaveFindings xs) → IsMendableThen IsGiven bs ⊎ ((f : Finding) × IsUnmendable IsGiven bs f)
   ends_somehow found = by (mended a.after) refl where
     by : (o : Option (Cat × Mended)) → mended a.after ≡ o → IsMendableThen IsGiven bs ⊎ ((f : Finding) × IsUnmendable IsGiven bs f)
     by (Some m) is = inl (record { new = new; ran = a; after = m.0; done = m.1; mends = is })
-    by None none = let there = found a.world.blocks in inr (unmended none there.0 there.1)
+    by None none = let there = found a.world.blocks in inr (unmended none there.findings there.are)

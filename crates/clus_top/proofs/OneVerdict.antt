@@ -7,6 +7,7 @@ use Rattle.vol_parts.specs.declared.finding.Finding.{Finding}
 use Rattle.vol_parts.specs.Findings.{Weak, AreFindings, Accepts, IsFirstFatal}
 use Rattle.run_script.specs.Lines.{lines_of}
 use Rattle.run_script.specs.Laws.{SayOneThing}
+use Rattle.vol_found.specs.Having.{HaveFindings}
 use Rattle.vol_analyze.specs.Judging.{IsFirstFound}
 use Rattle.vol_init.specs.declared.fault.InitFault.{InitFault}
 use Rattle.vol_init.specs.Refusals.{refusal}
@@ -30,7 +31,7 @@ OneLists = (bs : List Block) → OneList bs
 
 -- and they have one
 abbrev AllHaveFindings : Type 0
-AllHaveFindings = (bs : List Block) → (fs : List Finding) × AreFindings bs fs
+AllHaveFindings = (bs : List Block) → HaveFindings bs
 
 -- no other status of an analysis is due
 abbrev AloneInAnalysis : ℕ → List Block → Status → Type 0
@@ -196,7 +197,7 @@ of_end bytes size bs one lists found count whole good accepted =
 of_run_rebuild : (bytes : List ℕ) (size : ℕ) (bs : List Block) → SayOneThing (lines_of bytes) → OneLists → AllHaveFindings → length bs ≡ size → AreWholeBlocks bs → HasOneVerdict (Some RunRebuild) bytes size bs
 of_run_rebuild bytes size bs one lists found count whole =
     let there = found bs in
-    let r = of_run bytes size bs there.0 one (lists bs) there.1 in
+    let r = of_run bytes size bs there.findings one (lists bs) there.are in
     by r.status r.verdict r.due where
   by : (s : Status) → is_verdict s ≡ true → IsRunDue bytes size bs s → HasOneVerdict (Some RunRebuild) bytes size bs
   by status.Ok v d = of_end bytes size bs one lists found count whole d.0 d.1
@@ -399,11 +400,11 @@ of_rebuild bytes size bs fs list found =
 pub one_verdict : (wanted : Option Wanted) (bytes : List ℕ) (size : ℕ) (bs : List Block) → SayOneThing (lines_of bytes) → OneLists → AllHaveFindings → length bs ≡ size → AreWholeBlocks bs
     → HasOneVerdict wanted bytes size bs
 one_verdict None bytes size bs one lists found count whole = record { status = status.BadWords; verdict = refl; due = tt; alone = words_alone }
-one_verdict (Some Run) bytes size bs one lists found count whole = let there = found bs in of_run bytes size bs there.0 one (lists bs) there.1
+one_verdict (Some Run) bytes size bs one lists found count whole = let there = found bs in of_run bytes size bs there.findings one (lists bs) there.are
 one_verdict (Some RunRebuild) bytes size bs one lists found count whole = of_run_rebuild bytes size bs one lists found count whole
-one_verdict (Some (Soak n)) bytes size bs one lists found count whole = let there = found bs in of_soak n bytes size bs there.0 (lists bs) there.1
-one_verdict (Some Analyze) bytes size bs one lists found count whole = let there = found bs in of_analysis bytes size bs there.0 (lists bs) there.1
-one_verdict (Some Rebuild) bytes size bs one lists found count whole = let there = found bs in of_rebuild bytes size bs there.0 (lists bs) there.1
+one_verdict (Some (Soak n)) bytes size bs one lists found count whole = let there = found bs in of_soak n bytes size bs there.findings (lists bs) there.are
+one_verdict (Some Analyze) bytes size bs one lists found count whole = let there = found bs in of_analysis bytes size bs there.findings (lists bs) there.are
+one_verdict (Some Rebuild) bytes size bs one lists found count whole = let there = found bs in of_rebuild bytes size bs there.findings (lists bs) there.are
 one_verdict (Some (Init cluster files label)) bytes size bs one lists found count whole = of_init cluster files label bytes size bs
 
 -- ---- of a status that is due

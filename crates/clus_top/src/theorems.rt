@@ -2,19 +2,17 @@
 
 ghost use Rattle.std.specs.Prelude.{◌≡◌, ℕ, List, Option, length};
 ghost use Rattle.base_words.specs.Fields.{Block, AreWholeBlocks};
-ghost use Rattle.vol_parts.specs.declared.finding.Finding.{Finding};
-ghost use Rattle.vol_parts.specs.Findings.{AreFindings};
 ghost use Rattle.clus_top.specs.Words.{Wanted};
 ghost use Rattle.clus_top.specs.Verdicts.{HasOneVerdict, NoOtherIsDue, GoodRunsAreAnswered};
 
 /// Of all jobs, scripts and images one status is due, and only one, but for faults and want of memory. So of a run that is mended then
 /// `NotMendable` is due exactly if its run, which comes to one end, leads to a volume that cannot be mended.
 pub fn one_status_is_due()
-    ensures { (wanted : Option Wanted) (bytes : List ℕ) (size : ℕ) (bs : List Block) → ((xs : List Block) → (fs : List Finding) × AreFindings xs fs) → length bs ≡ size → AreWholeBlocks bs
-        → HasOneVerdict wanted bytes size bs }
+    ensures { (wanted : Option Wanted) (bytes : List ℕ) (size : ℕ) (bs : List Block) → length bs ≡ size → AreWholeBlocks bs → HasOneVerdict wanted bytes size bs }
 {
     run_script::a_text_says_one_thing();
     vol_analyze::findings_are_one_list();
+    vol_found::there_are_findings();
 }
 
 /// If a status is due that is no fault and no want of memory, no other such one is.
