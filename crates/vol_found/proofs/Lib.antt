@@ -1,0 +1,4 @@
+pub mod Seeking
+pub mod Chains
+pub mod Ranks
+pub mod Present
