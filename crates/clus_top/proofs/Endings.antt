@@ -184,10 +184,10 @@ module _ (bytes : List ℕ) (bs : List Block) (good : IsGood bytes) (from : 64 �
   pub comes_to_end : (new : List Block) × HasRunToEnd (IsScriptOf bytes) bs new
   comes_to_end =
       let c = over_is_spelt last last_well ending.over in (
-      last.blocks,
-      ran_to_end (IsScriptOf bytes) s good.spelt bs last.blocks printed.Report (report_text last.history c.0)
-      (end_in begun begun_well is_mounted printed.Report last s.plays (report_text last.history c.0) refl walked ending.over last_well (walk_stays begun turned last s.plays refl (ending.turns, refl))
-      (over_is_whole last last_well ending.over) (c.0, c.1, refl)),
+        last.blocks,
+        ran_to_end (IsScriptOf bytes) s good.spelt bs last.blocks printed.Report (report_text last.history c.0)
+            (end_in begun begun_well is_mounted printed.Report last s.plays (report_text last.history c.0) refl walked ending.over last_well (walk_stays begun turned last s.plays refl (ending.turns, refl))
+            (over_is_whole last last_well ending.over) (c.0, c.1, refl)),
       )
 
 -- ---- and it can be mended, or not

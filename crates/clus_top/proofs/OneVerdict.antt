@@ -179,10 +179,10 @@ pub alone_run_rebuild : (bytes : List ℕ) (size : ℕ) (bs : List Block) (s : S
 alone_run_rebuild bytes size bs s one lists v d other w h =
     let e : as_run other ≡ as_run s = run_alone bytes size bs (as_run s) one (lists bs) (run_is_verdict s v) (run_is_due bytes size bs s d) (as_run other) (run_is_verdict other w) (run_is_due bytes size bs other h) in
     by s d e where
-  by : (s : Status) → IsRunRebuildDue bytes size bs s → as_run other ≡ as_run s → other ≡ s
-  by status.Ok d e = only_mendable bytes size bs one d.2 other h e
-  by (status.NotMendable f) d e = only_unmendable bytes size bs f one lists d.2 other h e
-  by s d e = only_without_end s (λ k. cc k) other e
+      by : (s : Status) → IsRunRebuildDue bytes size bs s → as_run other ≡ as_run s → other ≡ s
+      by status.Ok d e = only_mendable bytes size bs one d.2 other h e
+      by (status.NotMendable f) d e = only_unmendable bytes size bs f one lists d.2 other h e
+      by s d e = only_without_end s (λ k. cc k) other e
 
 -- a good script on an accepted volume: the run comes to its end, which can be mended or not
 of_end : (bytes : List ℕ) (size : ℕ) (bs : List Block) → SayOneThing (lines_of bytes) → OneLists → AllHaveFindings → length bs ≡ size → AreWholeBlocks bs → IsGood bytes → IsAccepted size bs → HasOneVerdict (Some RunRebuild) bytes size bs
@@ -199,10 +199,10 @@ of_run_rebuild bytes size bs one lists found count whole =
     let there = found bs in
     let r = of_run bytes size bs there.findings one (lists bs) there.are in
     by r.status r.verdict r.due where
-  by : (s : Status) → is_verdict s ≡ true → IsRunDue bytes size bs s → HasOneVerdict (Some RunRebuild) bytes size bs
-  by status.Ok v d = of_end bytes size bs one lists found count whole d.0 d.1
-  by (status.NotMendable f) v d = absurd d
-  by s v d = record { status = s; verdict = v; due = d; alone = alone_run_rebuild bytes size bs s one lists v d }
+      by : (s : Status) → is_verdict s ≡ true → IsRunDue bytes size bs s → HasOneVerdict (Some RunRebuild) bytes size bs
+      by status.Ok v d = of_end bytes size bs one lists found count whole d.0 d.1
+      by (status.NotMendable f) v d = absurd d
+      by s v d = record { status = s; verdict = v; due = d; alone = alone_run_rebuild bytes size bs s one lists v d }
 
 of_mounted : (n : ℕ) (bytes : List ℕ) (size : ℕ) (bs : List Block) (fs : List Finding) → OneList bs → IsInside size → AreFindings bs fs → HasOneVerdict (Some (Soak n)) bytes size bs
 of_mounted n bytes size bs [] list inside none = record {

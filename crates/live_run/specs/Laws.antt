@@ -2,8 +2,7 @@
 use Rattle.std.specs.Prelude.{◌≡◌, ℕ, Bool, true, List, Option, Some, None}
 use Rattle.base_words.specs.Fields.{Block}
 use Rattle.blk_drive.specs.Images.{IsInside}
-use Rattle.vol_parts.specs.declared.finding.Finding.{Finding}
-use Rattle.vol_parts.specs.Findings.{AreFindings, Accepts}
+use Rattle.vol_parts.specs.Findings.{Accepts}
 use Rattle.run_engine.specs.declared.status.Status.{Status}
 use Rattle.run_engine.specs.declared.status.Status.TheVariants as status
 use Rattle.run_engine.specs.Texts.{IsGood}
@@ -25,7 +24,7 @@ pub record HasOneVerdict (what : Option Job) (bytes : List ℕ) (size : ℕ) (bs
   pub alone : (new : List Block) (other : Status) → is_verdict_of what other ≡ true → IsDue what bytes size bs new other → other ≡ status
 
 abbrev pub OneLiveStatusIsDue : Type 0
-OneLiveStatusIsDue = (what : Option Job) (bytes : List ℕ) (size : ℕ) (bs : List Block) (fs : List Finding) → AreFindings bs fs → HasOneVerdict what bytes size bs
+OneLiveStatusIsDue = (what : Option Job) (bytes : List ℕ) (size : ℕ) (bs : List Block) → HasOneVerdict what bytes size bs
 
 -- on an accepted volume the one such status of a good script is Ok
 abbrev pub GoodLiveRunsAreAnswered : Type 0

@@ -2,13 +2,14 @@
 
 ghost use Rattle.live_run.specs.Laws.{OneLiveStatusIsDue, NoOtherLiveIsDue, GoodLiveRunsAreAnswered};
 
-/// Of both jobs and of words without a reading, of all scripts, sizes and blocks, whatever is found in these, one status is due, and only
-/// one, but for faults and want of memory, and of a call that mends then but for whether its volume can be mended.
+/// Of both jobs and of words without a reading, of all scripts, sizes and blocks one status is due, and only one, but for faults and want
+/// of memory, and of a call that mends then but for whether its volume can be mended: that hangs on the order of the threads' turns.
 pub fn one_live_status_is_due()
     ensures { OneLiveStatusIsDue }
 {
     run_script::a_text_says_one_thing();
     vol_analyze::findings_are_one_list();
+    vol_found::there_are_findings();
 }
 
 /// If a status is due that is no fault and no want of memory, and of a call that mends then not `NotMendable`, no other such one is.
