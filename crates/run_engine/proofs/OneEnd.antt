@@ -31,8 +31,11 @@ next_fixed r over = turn_fixed r over (next_from r.world r.from) refl
 
 rotation_fixed : (j k : ℕ) (r : Rotation) → AllOver (rotation k r).world → rotation (j + k) r ≡ rotation k r
 unfolding rotation
-rotation_fixed zero k r over = refl
-rotation_fixed (suc j) k r over = let same = rotation_fixed j k r over in ap after_next same ∙ next_fixed (rotation k r) over
+rotation_fixed zero k r over = let e : 0 + k ≡ k = omega arith in ap (λ i. rotation i r) e
+rotation_fixed (suc j) k r over =
+    let e : suc j + k ≡ suc (j + k) = omega arith in
+    let same = rotation_fixed j k r over in
+    ap (λ i. rotation i r) e ∙ (ap after_next same ∙ next_fixed (rotation k r) over)
 
 -- so two ends are one
 one_after : (k l : ℕ) (w : Plain) → k ≤ l → AllOver (rotated k 1 w) → rotated l 1 w ≡ rotated k 1 w
@@ -86,10 +89,10 @@ module _ (keeps : (w : Plain) (n : ℕ) → Good w → Good (after_step w n)) (b
 
   to_end : (left k : ℕ) (w : Plain) (from : ℕ) → k + left ≡ budget → IsUnderWay budget k old w from → EndsWithin budget old
   to_end zero k w from e h = ended k w from (omega arith) h (over_at_last budget k w from (omega arith) h.enough)
-  to_end (suc left) k w from e h = by (next_from w from) refl where
-    by : (o : Option ℕ) → next_from w from ≡ o → EndsWithin budget old
-    by None none = ended k w from (omega arith) h (none_next w from none)
-    by (Some n) next = to_end left (k + 1) (after_step w n) (n + 1) (omega arith) (next_way k w from n (omega arith) h next)
+  to_end (suc left) k w from e h = by (next_from w from) refl (λ n way. to_end left (k + 1) (after_step w n) (n + 1) (omega arith) way) where
+    by : (o : Option ℕ) → next_from w from ≡ o → ((n : ℕ) → IsUnderWay budget (k + 1) old (after_step w n) (n + 1) → EndsWithin budget old) → EndsWithin budget old
+    by None none on = ended k w from (omega arith) h (none_next w from none)
+    by (Some n) next on = on n (next_way k w from n (omega arith) h next)
 
 pub ends_within : ((w : Plain) (n : ℕ) → Good w → Good (after_step w n)) → (w : Plain) → Good w → IsAccepted w.opening → EndsWithin (budget_of w) w
 ends_within keeps w good accepted =
