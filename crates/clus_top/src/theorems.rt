@@ -2,18 +2,17 @@
 
 ghost use Rattle.std.specs.Prelude.{ℕ, List, Option};
 ghost use Rattle.base_words.specs.Fields.{Block};
-ghost use Rattle.vol_parts.specs.declared.finding.Finding.{Finding};
-ghost use Rattle.vol_parts.specs.Findings.{AreFindings};
 ghost use Rattle.clus_top.specs.Words.{Wanted};
 ghost use Rattle.clus_top.specs.Verdicts.{HasOneVerdict, NoOtherIsDue, GoodRunsAreAnswered};
 
-/// Of all jobs, scripts, sizes and blocks, whatever is found in these, one status is due, and only one, but for faults and want of
-/// memory, and of a run that is mended then but for whether its volume can be mended.
+/// Of all jobs, scripts, sizes and blocks one status is due, and only one, but for faults and want of memory, and of a run that is
+/// mended then but for whether its volume can be mended.
 pub fn one_status_is_due()
-    ensures { (wanted : Option Wanted) (bytes : List ℕ) (size : ℕ) (bs : List Block) (fs : List Finding) → AreFindings bs fs → HasOneVerdict wanted bytes size bs }
+    ensures { (wanted : Option Wanted) (bytes : List ℕ) (size : ℕ) (bs : List Block) → HasOneVerdict wanted bytes size bs }
 {
     run_script::a_text_says_one_thing();
     vol_analyze::findings_are_one_list();
+    vol_found::there_are_findings();
 }
 
 /// If a status is due that is no fault and no want of memory, and of a run that is mended then not `NotMendable`, no other such one is.

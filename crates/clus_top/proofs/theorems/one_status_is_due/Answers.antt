@@ -3,5 +3,6 @@ use Rattle.clus_top.proofs.OneVerdict.{one_verdict}
 use Rattle.clus_top.proofs.theorems.one_status_is_due.Goals as goal
 
 pub returns : goal.returns
-returns c wanted bytes size bs fs found =
-    one_verdict wanted bytes size bs fs (c.a_text_says_one_thing.ensures (lines_of bytes)) (c.findings_are_one_list.ensures bs) found
+returns c wanted bytes size bs =
+    let have = c.there_are_findings.ensures bs in
+    one_verdict wanted bytes size bs have.findings (c.a_text_says_one_thing.ensures (lines_of bytes)) (c.findings_are_one_list.ensures bs) have.are
