@@ -22,6 +22,7 @@ use Rattle.log_check.specs.Checks.{shut, IsLegalBetween, LeadsElsewhere, LeadsTo
 use Rattle.log_check.specs.Statuses.{Given, given, IsRead, AreLoaded, IsCheckDue}
 use Rattle.log_check.specs.Verdicts.{is_verdict, SomeStatus}
 use Rattle.vol_analyze.proofs.Accepting.{accepted_accounts}
+use Rattle.vol_found.specs.Having.{HaveFindings}
 use Rattle.log_check.proofs.SameCats.{cats}
 use Rattle.blk_drive.proofs.Sizes.{is_size}
 
@@ -98,6 +99,10 @@ module _ (some : SomeVerdict) (words : List (List ℕ)) (text : List ℕ) (bs : 
 some_word : (w : List ℕ) (ws : List (List ℕ)) → ◌≡◌ {A = List (List ℕ)} (w ∷ ws) [] → ⊥
 some_word w ws e = cc
 
-pub some_status : SomeVerdict → SomeStatus
-some_status some [] text bs fs size_after cs gs whole before after = let s = by_text some [] text bs size_after cs whole refl fs gs before after in (s.which, s.speaks, s.due)
-some_status some (w ∷ ws) text bs fs size_after cs gs whole before after = (status.BadWords, refl, some_word w ws)
+pub some_status : SomeVerdict → ((bs : List Block) → HaveFindings bs) → SomeStatus
+some_status some have [] text bs size_after cs whole =
+    let before = have bs in
+    let after = have cs in
+    let s = by_text some [] text bs size_after cs whole refl before.findings after.findings before.are after.are in
+    (s.which, s.speaks, s.due)
+some_status some have (w ∷ ws) text bs size_after cs whole = (status.BadWords, refl, some_word w ws)

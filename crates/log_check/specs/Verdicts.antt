@@ -1,8 +1,6 @@
 -- Of all statuses one is due, but for faults and want of memory.
 use Rattle.std.specs.Prelude.{◌≡◌, ℕ, Bool, true, false, List, Some, length}
 use Rattle.base_words.specs.Fields.{Block, AreWholeBlocks}
-use Rattle.vol_parts.specs.declared.finding.Finding.{Finding}
-use Rattle.vol_parts.specs.Findings.{AreFindings}
 use Rattle.log_check.specs.declared.status.CheckStatus.{CheckStatus}
 use Rattle.log_check.specs.declared.status.CheckStatus.TheVariants as status
 use Rattle.log_check.specs.Statuses.{given, IsCheckDue}
@@ -20,7 +18,7 @@ abbrev pub OneStatus : Type 0
 OneStatus = (words : List (List ℕ)) (text : List ℕ) (bs : List Block) (size_after : ℕ) (cs : List Block) → AreWholeBlocks bs → (s t : CheckStatus) → is_verdict s ≡ true → is_verdict t ≡ true
     → IsCheckDue (given words (Some text) (length bs) (Some bs) size_after (Some cs)) s → IsCheckDue (given words (Some text) (length bs) (Some bs) size_after (Some cs)) t → s ≡ t
 
--- and one is due, whatever is found in the blocks
+-- and one is due
 abbrev pub SomeStatus : Type 0
-SomeStatus = (words : List (List ℕ)) (text : List ℕ) (bs : List Block) (fs : List Finding) (size_after : ℕ) (cs : List Block) (gs : List Finding) → AreWholeBlocks bs → AreFindings bs fs → AreFindings cs gs
+SomeStatus = (words : List (List ℕ)) (text : List ℕ) (bs : List Block) (size_after : ℕ) (cs : List Block) → AreWholeBlocks bs
     → (s : CheckStatus) × (is_verdict s ≡ true) × IsCheckDue (given words (Some text) (length bs) (Some bs) size_after (Some cs)) s
