@@ -197,7 +197,7 @@ module _ (IsGiven : Script → Type 0) (bs new : List Block) (a : HasRunToEnd Is
   unmended : mended a.after ≡ None → (fs : List Finding) → AreFindings a.world.blocks fs → (f : Finding) × IsUnmendable IsGiven bs f
   unmended none fs (inl found) =
       let why = ((end_mends IsGiven bs new a).roomless found.0 found.1.fatal).1 in
-      (found.0, new, record { ran = a; roomless = record { none = none; number = why.0; is = why.1; first = found.1 } })
+      (found.0, (new, record { ran = a; roomless = record { none = none; number = why.0; is = why.1; first = found.1 } }))
   unmended none fs (inr clear) = let lacks = (end_mends IsGiven bs new a).lacking none in absurd (clear.0 (NoRoom lacks.0) lacks.1)
 
   pub ends_somehow : ((xs : List Block) → HaveFindings xs) → IsMendableThen IsGiven bs ⊎ ((f : Finding) × IsUnmendable IsGiven bs f)

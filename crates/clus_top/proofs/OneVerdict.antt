@@ -145,7 +145,7 @@ of_run bytes size bs fs one list found =
 -- ---- of a run that is mended then
 
 -- the status of the run alone
-as_run : Status → Status
+abbrev as_run : Status → Status
 as_run (status.NotMendable f) = status.Ok
 as_run s = s
 
@@ -171,8 +171,8 @@ only_unmendable bytes size bs f one lists u (status.NotMendable g) d e = ap stat
 only_unmendable bytes size bs f one lists u other d e = absurd (cc e)
 
 only_without_end : (s : Status) → (status.Ok ≡ s → ⊥) → (other : Status) → as_run other ≡ s → other ≡ s
-only_without_end s no (status.NotMendable g) e = absurd (no e)
-only_without_end s no other e = e
+only_without_end s ends (status.NotMendable g) e = absurd (ends e)
+only_without_end s ends other e = e
 
 pub alone_run_rebuild : (bytes : List ℕ) (size : ℕ) (bs : List Block) (s : Status) → SayOneThing (lines_of bytes) → OneLists → is_verdict s ≡ true → IsRunRebuildDue bytes size bs s
     → (other : Status) → is_verdict other ≡ true → IsRunRebuildDue bytes size bs other → other ≡ s
