@@ -1,0 +1,4 @@
+pub mod Streams
+pub mod Spellings
+pub mod Held
+pub mod Back
