@@ -1,14 +1,14 @@
 -- What is spelt reads back.
-use Rattle.std.proofs.Common.{◌≡◌, ◌∙◌, ◌+◌, ◌-◌, ◌*◌, ◌%◌, ◌^◌, ◌<◌, ◌≤◌, ◌==◌, ℕ, zero, suc, true, false, List, [], ◌∷◌, ◌++◌, length, map, take, drop, replicate, nat_lt, if◌then◌else◌, Result, Ok, Err, All, IsOkAnd, refl, sym, ap, arith, subst, append_assoc, length-append, lit<}
+use Rattle.std.proofs.Common.{◌≡◌, ◌∙◌, ◌+◌, ◌-◌, ◌%◌, ◌<◌, ◌≤◌, ℕ, List, [], ◌∷◌, ◌++◌, length, map, take, drop, get_or, replicate, Result, Ok, All, IsOkAnd, refl, sym, ap, arith, subst, append_assoc, length-append}
 use Rattle.std.proofs.lemmas.Bool.Decides.{nat_tests}
-use Rattle.std.proofs.lemmas.List.{take_at, drop_at}
-use Rattle.std.proofs.lemmas.List.Elements.{All-head, All-tail}
+use Rattle.std.proofs.lemmas.List.{take_at, drop_at, take_all}
+use Rattle.std.proofs.lemmas.List.Elements.{All-nil, All-head, All-tail, All-more}
 use Rattle.byteorder.specs.Endian.{little_number, little_bytes}
 use Rattle.byteorder.specs.Numbers.{little_number-reads_back, length-bytes_low_first}
 use Rattle.fx_records.specs.declared.types.Rec.{Rec}
 use Rattle.fx_records.specs.declared.types.RecFault.{RecFault}
-use Rattle.fx_records.specs.Records.{room_of, front_record, in_front, records_from, records_of, data_at, spelt_line, spelt, ReadsBack}
-use Rattle.fx_records.proofs.Spellings.{spelt-none, length-spelt_line}
+use Rattle.fx_records.specs.Records.{room_of, front_record, in_front, records_from, records_of, data_at, spelt_line, spelt, ReadsAs, ReadsBack}
+use Rattle.fx_records.proofs.Spellings.{spelt-none, length-spelt_line, spelt-take_more}
 use Rattle.fx_records.proofs.Streams.{records_from-ends, records_from-goes}
 
 abbrev pub IsShort : List ℕ → Type 0
@@ -55,7 +55,7 @@ data_at-spelt front line rest =
     let count = little_bytes 2 (length line) in
     let fill = replicate (length line % 2) 0 in
     let grouped : front ++ ((count ++ (line ++ fill)) ++ rest) ≡ (front ++ count) ++ (line ++ (fill ++ rest)) =
-        ap (λ l. front ++ l) (append_assoc count (line ++ fill) rest ∙ ap (λ l. count ++ l) (append_assoc line fill rest)) ∙ sym (append_assoc front count (line ++ (fill ++ rest))) in
+    ap (λ l. front ++ l) (append_assoc count (line ++ fill) rest ∙ ap (λ l. count ++ l) (append_assoc line fill rest)) ∙ sym (append_assoc front count (line ++ (fill ++ rest))) in
     let long : length (front ++ count) ≡ length front + 2 = length-append front count ∙ ap (λ n. length front + n) (length-bytes_low_first 0 2 (length line)) in
     ap (λ l. take (length line) (drop (length front + 2) l)) grouped
     ∙ ap (take (length line)) (drop_at (front ++ count) (line ++ (fill ++ rest)) (length front + 2) long)
@@ -69,9 +69,9 @@ data-back front (line ∷ lines) =
     let long : length front + room_of (length line) ≡ length (front ++ spelt_line line) = sym (length-append front (spelt_line line) ∙ ap (λ n. length front + n) (length-spelt_line line)) in
     let first = ap (λ l. data_at l (record { from = length front + 2; len = length line })) all ∙ data_at-spelt front line (spelt lines) in
     let others =
-        ap (λ l. map (data_at l) (places_from (length front + room_of (length line)) lines)) grouped
-        ∙ ap (λ n. map (data_at ((front ++ spelt_line line) ++ spelt lines)) (places_from n lines)) long
-        ∙ data-back (front ++ spelt_line line) lines in
+    ap (λ l. map (data_at l) (places_from (length front + room_of (length line)) lines)) grouped
+    ∙ ap (λ n. map (data_at ((front ++ spelt_line line) ++ spelt lines)) (places_from n lines)) long
+    ∙ data-back (front ++ spelt_line line) lines in
     cc
 
 length-spelt_cons : (lines : List (List ℕ)) → length lines ≤ length (spelt lines)
@@ -88,3 +88,26 @@ pub reads_back : ReadsBack
 reads_back lines h =
     let P : Result (List Rec) RecFault → Type 0 = λ given. IsOkAnd given (λ places. map (data_at (spelt lines)) places ≡ lines) in
     subst P (sym (records_of-spelt lines h)) (data-back [] lines)
+
+-- the stream of the first lines, each as short as a count can tell
+pub record AreSpelt (lines : List (List ℕ)) (i : ℕ) (stream : List ℕ) : Type 0 where
+  pub same : stream ≡ spelt (take i lines)
+  pub short : All IsShort (take i lines)
+
+pub AreSpelt-none : (lines : List (List ℕ)) → AreSpelt lines 0 []
+AreSpelt-none lines = record { same = sym spelt-none; short = All-nil IsShort }
+
+pub AreSpelt-more : (lines : List (List ℕ)) (i : ℕ) (stream line : List ℕ) → i < length lines → AreSpelt lines i stream → line ≡ get_or lines i [] → IsShort line
+    → AreSpelt lines (i + 1) (stream ++ spelt_line line)
+AreSpelt-more lines i stream line within h e small = record {
+  same = ap (λ front. front ++ spelt_line line) h.same ∙ ap (λ l. spelt (take i lines) ++ spelt_line l) e ∙ sym (spelt-take_more lines i within);
+  short = All-more IsShort lines i [] within h.short (subst IsShort e small);
+}
+
+pub AreSpelt-all : (lines : List (List ℕ)) (i : ℕ) (stream : List ℕ) → length lines ≤ i → AreSpelt lines i stream → stream ≡ spelt lines
+AreSpelt-all lines i stream end h = h.same ∙ ap spelt (take_all i lines end)
+
+pub AreSpelt-read : (lines : List (List ℕ)) (i : ℕ) (stream : List ℕ) → length lines ≤ i → AreSpelt lines i stream → ReadsAs stream lines
+AreSpelt-read lines i stream end h =
+    let short : All IsShort lines = subst (All IsShort) (take_all i lines end) h.short in
+    subst (λ s. ReadsAs s lines) (sym (AreSpelt-all lines i stream end h)) (reads_back lines short)

@@ -2,3 +2,4 @@ pub mod Streams
 pub mod Spellings
 pub mod Held
 pub mod Back
+pub mod TextLines

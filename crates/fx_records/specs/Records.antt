@@ -54,11 +54,13 @@ spelt_line line = little_bytes 2 (length line) ++ (line ++ replicate (length lin
 unfoldable pub spelt : List (List ℕ) → List ℕ
 spelt lines = flat_map spelt_line lines
 
--- what is spelt reads without a fault, and the data of its records are the lines
+-- a stream reads without a fault, and the data of its records are these lines
+abbrev pub ReadsAs : List ℕ → List (List ℕ) → Type 0
+ReadsAs stream lines = IsOkAnd (records_of stream) (λ places. map (data_at stream) places ≡ lines)
+
+-- what is spelt reads as the lines
 abbrev pub ReadsBack : Type 0
-ReadsBack =
-    (lines : List (List ℕ)) → All (λ line. length line ≤ 32767) lines
-    → IsOkAnd (records_of (spelt lines)) (λ places. map (data_at (spelt lines)) places ≡ lines)
+ReadsBack = (lines : List (List ℕ)) → All (λ line. length line ≤ 32767) lines → ReadsAs (spelt lines) lines
 
 -- the lines that stand at these places
 abbrev pub lines_at : List ℕ → List Rec → List (List ℕ)

@@ -20,15 +20,13 @@ mod laws;
 mod lines;
 mod reading;
 mod spelling;
-#[cfg(test)]
-mod tests;
 mod types;
 
 pub use laws::read_back;
 pub use lines::Lines8;
 pub use reading::records;
 pub use spelling::spell;
-pub use types::{NoMemory, Rec, RecFault};
+pub use types::{LineFault, NoMemory, Rec, RecFault};
 
 /// The largest count of a record, in bytes.
 const LARGEST: usize = 32_767;

@@ -1,8 +1,10 @@
 //! Lines of bytes.
-ghost use Rattle.std.specs.Prelude.{◌≡◌, ◌<◌, ◌≤◌, ◌++◌, [], ◌∷◌, OnOk, OnErr, length, slice_index_or};
+ghost use Rattle.std.specs.Prelude.{◌≡◌, ◌<◌, ◌≤◌, ◌++◌, ℕ, [], ◌∷◌, Some, None, Err, IfOk, OnOk, OnErr, length, slice_index_or};
+ghost use Rattle.fx_records.specs.Lines.{before_end, text_lines, long_line};
 ghost use Rattle.fx_records.specs.Records.{spelt};
 
-use crate::types::{NoMemory, Rec};
+use crate::LARGEST;
+use crate::types::{LineFault, NoMemory, Rec};
 use std::alloc::{AllocError, Global};
 use std::marker::Model;
 
@@ -28,9 +30,40 @@ impl Model for Lines8 {
     ghost invariant = { λ l. AreLines l.bytes.items l.places.items l.spelt };
 }
 
+// A text without a line feed at its end.
+fn before_end(text: &[u8]) -> &[u8]
+    ensures { result.now ≡ before_end text.now }
+{
+    match text {
+        [front @ .., b'\n'] => front,
+        _ => text,
+    }
+}
+
 impl Lines8 {
-    /// No lines.
-    pub fn new(alloc: Global) -> Self
+    /// The lines of a text: each ends with a line feed, which the last may lack. A line has no line feed, and any other bytes.
+    ///
+    /// LineLong comes exactly where a line has more than 32,767 bytes, with the first such one, but for want of memory before.
+    pub fn of_text(alloc: Global, text: &[u8]) -> Result<Lines8, LineFault>
+        ensures ok { IfOk result (λ lines. lines ≡ text_lines text.now) }
+        ensures short { OnOk result (long_line (text_lines text.now) ≡ None) }
+        ensures long { (k : ℕ) → result ≡ Err (LineFault.LineLong k) → long_line (text_lines text.now) ≡ Some k }
+    {
+        let mut lines = Lines8::new(alloc);
+        if text.is_empty() {
+            return Ok(lines);
+        }
+        for line in before_end(text).split(|b| *b == b'\n') {
+            if line.len() > LARGEST {
+                return Err(LineFault::LineLong(lines.len() + 1));
+            }
+            lines.push(line)?;
+        }
+        Ok(lines)
+    }
+
+    // No lines.
+    fn new(alloc: Global) -> Self
         ensures { result ≡ [] }
     {
         Lines8 {
@@ -64,9 +97,9 @@ impl Lines8 {
         self.spelt
     }
 
-    /// Adds a line at the end. Want of memory leaves the lines as they were; it comes too where their records would take more
-    /// bytes than a `usize` can tell.
-    pub fn push(&mut self, line: &[u8]) -> Result<(), NoMemory>
+    // Adds a line at the end. Want of memory leaves the lines as they were; it comes too where their records would take more
+    // bytes than a `usize` can tell.
+    fn push(&mut self, line: &[u8]) -> Result<(), NoMemory>
         requires { length line.now ≤ 32767 }
         ensures ok { OnOk result (self.new ≡ self.old ++ line.now ∷ []) }
         ensures err { OnErr result (self.new ≡ self.old) }

@@ -1,6 +1,6 @@
 //! Writing a stream.
 ghost use Rattle.std.specs.Prelude.{◌≡◌, ◌≤◌, ◌++◌, IfOk, OnOk, length};
-ghost use Rattle.fx_records.specs.Records.{spelt_line, spelt};
+ghost use Rattle.fx_records.specs.Records.{spelt_line, spelt, ReadsAs};
 
 use crate::lines::Lines8;
 use crate::types::NoMemory;
@@ -23,7 +23,8 @@ fn push_record(stream: &mut Vec<u8>, line: &[u8]) -> Result<(), NoMemory>
 
 /// The stream of a list of lines: the record of each, one behind the other. The fill is zero.
 pub fn spell(alloc: Global, lines: &Lines8) -> Result<Vec<u8>, NoMemory>
-    ensures { IfOk result (λ stream. stream.items ≡ spelt lines.now) }
+    ensures bytes { IfOk result (λ stream. stream.items ≡ spelt lines.now) }
+    ensures reads_back { IfOk result (λ stream. ReadsAs stream.items lines.now) }
 {
     let mut stream = Vec::with_capacity(alloc, lines.spelt_len())?;
     for i in 0..lines.len() {

@@ -25,6 +25,26 @@ pub enum RecFault {
     NoMemory,
 }
 
+/// Why a text is not lines of records.
+#[derive(Clone, Copy, Debug, PartialEq)]
+pub enum LineFault {
+    /// This line, counted from 1, is the first that has more than 32,767 bytes.
+    LineLong(usize),
+    /// Memory ran out.
+    NoMemory,
+}
+
+impl From<AllocError> for LineFault {
+    ghost use Rattle.std.specs.Prelude.{◌≡◌};
+    ghost use Rattle.fx_records.specs.declared.types.LineFault.TheVariants.{NoMemory};
+
+    ghost from_gives = { λ _ fault. fault ≡ NoMemory };
+
+    fn from(_error: AllocError) -> LineFault {
+        LineFault::NoMemory
+    }
+}
+
 impl From<AllocError> for RecFault {
     ghost use Rattle.std.specs.Prelude.{◌≡◌};
     ghost use Rattle.fx_records.specs.declared.types.RecFault.TheVariants.{NoMemory};

@@ -1,8 +1,6 @@
-use Rattle.std.proofs.Common.{◌≡◌, ◌∙◌, ℕ, List, drop, Result, Err, sym, ap, subst}
+use Rattle.std.proofs.Common.{List, sym, subst}
 use Rattle.std.proofs.lemmas.Result.{err_from_is_err_and}
 use Rattle.fx_records.specs.declared.types.Rec.{Rec}
-use Rattle.fx_records.specs.declared.types.RecFault.{RecFault}
-use Rattle.fx_records.specs.Records.{front_record, records_of}
 use Rattle.fx_records.proofs.Streams.{HasRead, HasRead-none, HasRead-more, HasRead-all, HasRead-fault}
 use Rattle.fx_records.proofs.reading.records.Goals as goal
 

@@ -1,6 +1,3 @@
-use Rattle.std.proofs.Common.{ℕ, List, subst, sym}
-use Rattle.fx_records.specs.declared.types.Rec.{Rec}
-use Rattle.fx_records.specs.Records.{AreLines}
 use Rattle.fx_records.proofs.Held.{AreLines-none}
 use Rattle.fx_records.proofs.lines.Lines8.new.Goals as goal
 

@@ -1,7 +1,6 @@
-use Rattle.std.proofs.Common.{◌≡◌, ◌∙◌, ℕ, ◌+◌, ◌%◌, List, [], ◌∷◌, ◌++◌, length, sym, ap, arith, rules}
+use Rattle.std.proofs.Common.{◌≡◌, ◌∙◌, ◌+◌, [], ◌∷◌, ◌++◌, length, ap, arith, rules}
 use Rattle.std.proofs.lemmas.Result.{MatchResult-from_err}
-use Rattle.fx_records.specs.declared.types.Rec.{Rec}
-use Rattle.fx_records.specs.Records.{AreLines, lines_at, room_of}
+use Rattle.fx_records.specs.Records.{lines_at, room_of}
 use Rattle.fx_records.proofs.Held.{AreLines-append, AreLines-push, lines_at-kept, lines_at-push}
 use Rattle.fx_records.proofs.lines.Lines8.push.Goals as goal
 
