@@ -3,3 +3,4 @@ pub mod Spellings
 pub mod Held
 pub mod Back
 pub mod TextLines
+pub mod Exact

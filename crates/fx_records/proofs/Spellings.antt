@@ -24,3 +24,7 @@ spelt-take_more lines i h = ap spelt (take_more lines i [] h) ∙ spelt-push (ta
 pub spelt-none : spelt [] ≡ []
 unfolding spelt
 spelt-none = refl
+
+pub spelt-cons : (line : List ℕ) (lines : List (List ℕ)) → spelt (line ∷ lines) ≡ spelt_line line ++ spelt lines
+unfolding spelt
+spelt-cons line lines = refl

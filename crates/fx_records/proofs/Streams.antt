@@ -14,7 +14,7 @@ records_from-ends zero at left h = refl
 records_from-ends (suc most) at left h = let test : (length left == 0) ≡ true = eq-eqb (length left) 0 h in rw test refl
 
 -- something is left
-records_from-one : (most at : ℕ) (left : List ℕ) → 0 < most → 0 < length left
+pub records_from-one : (most at : ℕ) (left : List ℕ) → 0 < most → 0 < length left
     → records_from most at left ≡ and_behind (front_record at left) (λ r. records_from (most - 1) (at + room_of r.len) (drop (room_of r.len) left))
 unfolding records_from
 records_from-one zero at left some h = absurd (omega arith)

@@ -1,6 +1,6 @@
 -- Variable-length records in a stream of bytes. A record is a count of two bytes, the lowest first, so many bytes of data, and
 -- one byte of fill where the count is odd. A count is at most 32,767.
-use Rattle.std.specs.Prelude.{◌≡◌, ◌+◌, ◌%◌, ◌≤◌, ◌==◌, ℕ, zero, suc, nat_lt, List, [], ◌∷◌, ◌++◌, length, map, take, drop, flat_map, replicate, All, Result, Ok, Err, IsOkAnd, if◌then◌else◌}
+use Rattle.std.specs.Prelude.{◌≡◌, ◌↔◌, ◌+◌, ◌%◌, ◌≤◌, ◌==◌, ℕ, zero, suc, nat_lt, List, [], ◌∷◌, ◌++◌, length, map, take, drop, flat_map, replicate, All, Result, Ok, Err, IsOkAnd, if◌then◌else◌}
 use Rattle.byteorder.specs.Endian.{little_number, little_bytes}
 use Rattle.fx_records.specs.declared.types.Rec.{Rec}
 use Rattle.fx_records.specs.declared.types.RecFault.{RecFault}
@@ -61,6 +61,27 @@ ReadsAs stream lines = IsOkAnd (records_of stream) (λ places. map (data_at stre
 -- what is spelt reads as the lines
 abbrev pub ReadsBack : Type 0
 ReadsBack = (lines : List (List ℕ)) → All (λ line. length line ≤ 32767) lines → ReadsAs (spelt lines) lines
+
+-- a stream begins with the record of this line: two bytes that say its length, its bytes, and any one byte of fill where the
+-- length is odd; and `rest` is behind it
+pub record BeginsWith (line stream rest : List ℕ) : Type 0 where
+  pub count : List ℕ
+  pub fill : List ℕ
+  pub two_bytes : length count ≡ 2
+  pub says_length : little_number 2 count ≡ length line
+  pub even : length fill ≡ length line % 2
+  pub in_order : stream ≡ count ++ (line ++ (fill ++ rest))
+
+-- a stream is the records of these lines, one behind the other, and nothing else
+abbrev pub AreRecordsOf : List (List ℕ) → List ℕ → Type 0
+AreRecordsOf [] stream = stream ≡ []
+AreRecordsOf (line ∷ lines) stream = (rest : List ℕ) × (BeginsWith line stream rest × AreRecordsOf lines rest)
+
+-- a stream reads as exactly those lines of which it is the records, whatever the fill
+abbrev pub ReadsExactly : Type 0
+ReadsExactly =
+    (stream : List ℕ) (lines : List (List ℕ))
+    → ReadsAs stream lines ↔ (All (λ line. length line ≤ 32767) lines × AreRecordsOf lines stream)
 
 -- the lines that stand at these places
 abbrev pub lines_at : List ℕ → List Rec → List (List ℕ)

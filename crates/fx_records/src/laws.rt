@@ -1,7 +1,12 @@
 //! What is written reads back.
-ghost use Rattle.fx_records.specs.Records.{ReadsBack};
+ghost use Rattle.fx_records.specs.Records.{ReadsBack, ReadsExactly};
 
 /// A law: the records of what is spelt are the lines.
 pub fn read_back()
     ensures { ReadsBack }
+{}
+
+/// A law: a stream reads as lines exactly where it is their records, one behind the other, whatever the bytes of fill.
+pub fn reading_is_exact()
+    ensures { ReadsExactly }
 {}

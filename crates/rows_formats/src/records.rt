@@ -67,7 +67,9 @@ const TEXTS: [(&[u8], &[u8]); 7] = [
 fn text_of(alloc: Global, stream: &[u8]) -> Result<Vec<u8>, NoMemory> {
     let mut text = Vec::new(alloc);
     for place in records(alloc, stream).unwrap_or(Vec::new(alloc)) {
-        let data = stream.get(place.from..).and_then(|rest| rest.get(..place.len));
+        let data = stream
+            .get(place.from..)
+            .and_then(|rest| rest.get(..place.len));
         text.extend_from_slice(data.unwrap_or(b""))?;
         text.push(b'\n')?;
     }
@@ -94,15 +96,31 @@ fn largest_line_has_32767_bytes(rt: HostRuntime) -> Result<(), Fail> {
     let lines = Lines8::of_text(rt.alloc(), &text).map_err(|_| "no lines")?;
     assert_eq!(rt; (lines.len(), lines.spelt_len()), (1, 32_770));
     let stream = spell(rt.alloc(), &lines)?;
-    assert!(rt; stream.starts_with(b"\xff\x7fx") && stream.ends_with(b"x\0"), "its count and its fill");
-    let whole = Ok([Rec { from: 2, len: 32_767 }].as_slice());
+    assert!(rt;
+        stream.starts_with(b"\xff\x7fx") && stream.ends_with(b"x\0"),
+        "its count and its fill"
+    );
+    let whole = Ok([Rec {
+        from: 2,
+        len: 32_767,
+    }]
+    .as_slice());
     assert!(rt; is_read(rt.alloc(), &stream, whole), "whole");
     let cut = stream.get(..32_769).unwrap_or(b"");
-    assert!(rt; is_read(rt.alloc(), cut, Err(RecFault::Truncated(0))), "without its fill");
+    assert!(rt;
+        is_read(rt.alloc(), cut, Err(RecFault::Truncated(0))),
+        "without its fill"
+    );
     text.push(b'x')?;
-    assert_eq!(rt; Lines8::of_text(rt.alloc(), &text).err(), Some(LineFault::LineLong(1)));
+    assert_eq!(rt;
+        Lines8::of_text(rt.alloc(), &text).err(),
+        Some(LineFault::LineLong(1))
+    );
     let mut second = Vec::from_slice(rt.alloc(), b"A\n\n")?;
     second.extend_from_slice(&text)?;
-    assert_eq!(rt; Lines8::of_text(rt.alloc(), &second).err(), Some(LineFault::LineLong(3)));
+    assert_eq!(rt;
+        Lines8::of_text(rt.alloc(), &second).err(),
+        Some(LineFault::LineLong(3))
+    );
     Ok(())
 }
