@@ -1,6 +1,6 @@
 -- A stream reads as the lines of which it is the records, and as no others.
-use Rattle.std.proofs.Common.{◌≡◌, ◌∙◌, ◌+◌, ◌-◌, ◌%◌, ◌<◌, ◌≤◌, ◌==◌, ◌↔◌, ℕ, zero, suc, Bool, true, false, List, [], ◌∷◌, ◌++◌, length, map, take, drop, nat_lt, if◌then◌else◌, Result, Ok, Err, All, IsOkAnd, inl, inr, refl, sym, ap, arith, subst, append_assoc, length-append, length-drop, length-take-le}
-use Rattle.std.proofs.lemmas.Bool.{cases_Bool, cases_lt}
+use Rattle.std.proofs.Common.{◌≡◌, ◌∙◌, ◌+◌, ◌-◌, ◌%◌, ◌<◌, ◌≤◌, ℕ, zero, suc, true, false, List, [], ◌∷◌, ◌++◌, length, map, take, drop, nat_lt, Result, Ok, Err, All, IsOkAnd, inl, inr, refl, sym, ap, arith, subst, append_assoc, length-append, length-drop, length-take-le}
+use Rattle.std.proofs.lemmas.Bool.{cases_lt}
 use Rattle.std.proofs.lemmas.Bool.Decides.{nat_tests}
 use Rattle.std.proofs.lemmas.List.{take_at, drop_at, drop-drop, take-append-drop, nil_from_length}
 use Rattle.std.proofs.lemmas.List.Elements.{All-nil, All-cons, All-head, All-tail}
@@ -29,7 +29,7 @@ front_record-begins at line stream rest short h =
 drop-begins : (line stream rest : List ℕ) → BeginsWith line stream rest → drop (room_of (length line)) stream ≡ rest
 drop-begins line stream rest h =
     let grouped : h.count ++ (line ++ (h.fill ++ rest)) ≡ (h.count ++ (line ++ h.fill)) ++ rest =
-        sym (append_assoc h.count (line ++ h.fill) rest ∙ ap (λ l. h.count ++ l) (append_assoc line h.fill rest)) in
+    sym (append_assoc h.count (line ++ h.fill) rest ∙ ap (λ l. h.count ++ l) (append_assoc line h.fill rest)) in
     let long : length (h.count ++ (line ++ h.fill)) ≡ room_of (length line) = omega (arith, length-append h.count (line ++ h.fill), length-append line h.fill, h.two_bytes, h.even) in
     ap (drop (room_of (length line))) (h.in_order ∙ grouped) ∙ drop_at (h.count ++ (line ++ h.fill)) rest (room_of (length line)) long
 
@@ -70,9 +70,9 @@ read_all (line ∷ lines) most front stream fuel short h =
     let at = length-front front line stream rest begins in
     let goes = records_from-goes most (length front) stream r (omega arith) some (front_record-begins (length front) line stream rest (All-head IsShort line lines short) begins) in
     let others : records_from (most - 1) (length front + room_of (length line)) (drop (room_of (length line)) stream) ≡ Ok inner.places =
-        ap (records_from (most - 1) (length front + room_of (length line))) (drop-begins line stream rest begins)
-        ∙ ap (λ n. records_from (most - 1) n rest) (sym at)
-        ∙ inner.read in
+    ap (records_from (most - 1) (length front + room_of (length line))) (drop-begins line stream rest begins)
+    ∙ ap (λ n. records_from (most - 1) n rest) (sym at)
+    ∙ inner.read in
     let behind : map (data_at (front ++ stream)) inner.places ≡ lines = ap (λ s. map (data_at s) inner.places) (behind-begins front line stream rest begins) ∙ inner.told in
     let first = data_at-begins front line stream rest begins in
     record {
@@ -166,7 +166,7 @@ whole-begins front left r h =
     let in_data : drop 2 left ≡ take n (drop 2 left) ++ drop (2 + n) left = sym (take-append-drop n (drop 2 left)) ∙ ap (λ l. take n (drop 2 left) ++ l) behind in
     let in_fill : drop (2 + n) left ≡ take (n % 2) (drop (2 + n) left) ++ drop (room_of n) left = sym (take-append-drop (n % 2) (drop (2 + n) left)) ∙ ap (λ l. take (n % 2) (drop (2 + n) left) ++ l) rest in
     let all : left ≡ take 2 left ++ (take n (drop 2 left) ++ (take (n % 2) (drop (2 + n) left) ++ drop (room_of n) left)) =
-        sym (take-append-drop 2 left) ∙ ap (λ l. take 2 left ++ l) (in_data ∙ ap (λ l. take n (drop 2 left) ++ l) in_fill) in
+    sym (take-append-drop 2 left) ∙ ap (λ l. take 2 left ++ l) (in_data ∙ ap (λ l. take n (drop 2 left) ++ l) in_fill) in
     let len = length-data_at front left r h in
     record {
       count = take 2 left;
@@ -215,7 +215,7 @@ told_all (suc most) front left places fuel h = elim (cases_lt 0 (length left)) [
       let read = take (room_of p.r.len) left in
       let rest = drop (room_of p.r.len) left in
       let next : records_from most (length (front ++ read)) rest ≡ Ok p.others =
-          ap (λ n. records_from most n rest) (length-read front left p.r whole) ∙ ap (λ k. records_from k (length front + room_of p.r.len) rest) (sym before) ∙ p.rest in
+      ap (λ n. records_from most n rest) (length-read front left p.r whole) ∙ ap (λ k. records_from k (length front + room_of p.r.len) rest) (sym before) ∙ p.rest in
       let inner = told_all most (front ++ read) rest p.others (omega (arith, length-drop (room_of p.r.len) left)) next in
       subst (IsTold front left) (sym p.all) (told_more front left p.r p.others whole inner)
 ]
