@@ -101,7 +101,7 @@ pub record IsWhole (at : ℕ) (left : List ℕ) (r : Rec) : Type 0 where
   pub from : r.from ≡ at + 2
   pub len : r.len ≡ little_number 2 left
 
-front_record-whole : (at : ℕ) (left : List ℕ) (r : Rec) → front_record at left ≡ Ok r → IsWhole at left r
+pub front_record-whole : (at : ℕ) (left : List ℕ) (r : Rec) → front_record at left ≡ Ok r → IsWhole at left r
 unfolding front_record
 front_record-whole at left r h = elim (cases_lt (length left) 2) [
   | inl few ↦
@@ -150,12 +150,12 @@ data_at-whole : (front left : List ℕ) (r : Rec) → IsWhole (length front) lef
 data_at-whole front left r h =
     ap (λ o. take r.len (drop o (front ++ left))) h.from ∙ ap (take r.len) (sym (drop-drop 2 (length front) (front ++ left)) ∙ ap (drop 2) (drop_at front left (length front) refl))
 
-length-data_at : (front left : List ℕ) (r : Rec) → IsWhole (length front) left r → length (data_at (front ++ left) r) ≡ r.len
+pub length-data_at : (front left : List ℕ) (r : Rec) → IsWhole (length front) left r → length (data_at (front ++ left) r) ≡ r.len
 length-data_at front left r h =
     ap length (data_at-whole front left r h) ∙ length-take-le r.len (drop 2 left) (omega (arith, length-drop 2 left, h.room, h.len))
 
 -- a whole record at the front is the record of its data
-whole-begins : (front left : List ℕ) (r : Rec) → IsWhole (length front) left r → BeginsWith (data_at (front ++ left) r) left (drop (room_of r.len) left)
+pub whole-begins : (front left : List ℕ) (r : Rec) → IsWhole (length front) left r → BeginsWith (data_at (front ++ left) r) left (drop (room_of r.len) left)
 whole-begins front left r h =
     let n = r.len in
     let inside : room_of n ≤ length left = omega (arith, h.room, h.len) in

@@ -4,3 +4,4 @@ pub mod Held
 pub mod Back
 pub mod TextLines
 pub mod Exact
+pub mod Faults

@@ -1,10 +1,10 @@
 -- Variable-length records in a stream of bytes. A record is a count of two bytes, the lowest first, so many bytes of data, and
 -- one byte of fill where the count is odd. A count is at most 32,767.
-use Rattle.std.specs.Prelude.{◌≡◌, ◌↔◌, ◌+◌, ◌%◌, ◌≤◌, ◌==◌, ℕ, zero, suc, nat_lt, List, [], ◌∷◌, ◌++◌, length, map, take, drop, flat_map, replicate, All, Result, Ok, Err, IsOkAnd, if◌then◌else◌}
+use Rattle.std.specs.Prelude.{◌≡◌, ◌↔◌, ◌+◌, ◌%◌, ◌≤◌, ◌<◌, ◌⊎◌, ◌==◌, ℕ, zero, suc, nat_lt, List, [], ◌∷◌, ◌++◌, length, map, take, drop, flat_map, replicate, All, Result, Ok, Err, IsOkAnd, if◌then◌else◌}
 use Rattle.byteorder.specs.Endian.{little_number, little_bytes}
 use Rattle.fx_records.specs.declared.types.Rec.{Rec}
 use Rattle.fx_records.specs.declared.types.RecFault.{RecFault}
-use Rattle.fx_records.specs.declared.types.RecFault.TheVariants.{BadCount, Truncated}
+use Rattle.fx_records.specs.declared.types.RecFault.TheVariants.{BadCount, Truncated, NoMemory}
 
 -- how many bytes a record with so many bytes of data takes
 abbrev pub room_of : ℕ → ℕ
@@ -82,6 +82,27 @@ abbrev pub ReadsExactly : Type 0
 ReadsExactly =
     (stream : List ℕ) (lines : List (List ℕ))
     → ReadsAs stream lines ↔ (All (λ line. length line ≤ 32767) lines × AreRecordsOf lines stream)
+
+-- What is left of a stream from byte `at` on begins with no record, and this is why: a whole count is too large, or the end
+-- comes within the count, or behind a count that is good, within the data or the fill.
+abbrev pub IsFaultAt : ℕ → List ℕ → RecFault → Type 0
+IsFaultAt at left (BadCount byte) = (byte ≡ at) × ((2 ≤ length left) × (32767 < little_number 2 left))
+IsFaultAt at left (Truncated byte) =
+    (byte ≡ at) × ((0 < length left) × ((length left < 2) ⊎ ((little_number 2 left ≤ 32767) × (length left < room_of (little_number 2 left)))))
+IsFaultAt at left NoMemory = ⊥
+
+-- a stream is some records, and behind them comes this fault
+pub record HasFault (at : ℕ) (stream : List ℕ) (fault : RecFault) : Type 0 where
+  pub lines : List (List ℕ)
+  pub front : List ℕ
+  pub left : List ℕ
+  pub in_order : stream ≡ front ++ left
+  pub records : AreRecordsOf lines front
+  pub here : IsFaultAt (at + length front) left fault
+
+-- the fault that is given is the first one: what stands before it is records
+abbrev pub FaultsAreFirst : Type 0
+FaultsAreFirst = (stream : List ℕ) (fault : RecFault) → records_of stream ≡ Err fault → HasFault 0 stream fault
 
 -- the lines that stand at these places
 abbrev pub lines_at : List ℕ → List Rec → List (List ℕ)

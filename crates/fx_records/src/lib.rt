@@ -11,8 +11,8 @@
 //! ```
 //!
 //! What is spelt reads back: the records of a list's stream are its lines (`read_back`). A stream reads as lines exactly where it
-//! is their records (`reading_is_exact`): the fill is written as zero, and not looked at when read. A fault comes exactly where
-//! the format has one.
+//! is their records (`reading_is_exact`): the fill is written as zero, and not looked at when read. A fault is the first one:
+//! what stands before it is records (`faults_are_first`).
 //!
 //! No program uses it yet.
 #![tactic(auto)]
@@ -23,7 +23,7 @@ mod reading;
 mod spelling;
 mod types;
 
-pub use laws::{read_back, reading_is_exact};
+pub use laws::{faults_are_first, read_back, reading_is_exact};
 pub use lines::Lines8;
 pub use reading::records;
 pub use spelling::spell;
