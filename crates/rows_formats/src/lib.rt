@@ -1,4 +1,5 @@
-//! Worked rows of the formats: words, blocks, headers, bitmaps, directories and texts, byte for byte. The crate has tests alone.
+//! Worked rows of the formats: words, blocks, headers, bitmaps, directories, records and texts, byte for byte. The crate has
+//! tests alone.
 //!
 //! Over `base_words`, `blk_drive` and the crates of `fx_`. A module is named after what its crate reads and writes.
 //!
@@ -17,6 +18,8 @@ mod headers;
 mod homes;
 #[cfg(test)]
 mod quotas;
+#[cfg(test)]
+mod records;
 #[cfg(test)]
 mod texts;
 #[cfg(test)]
