@@ -23,19 +23,29 @@ fn is_at(table: &[Resource], i: usize, name: LockName) -> bool
     i < table.len() && table[i].name == name
 }
 
-/// Where the resource of the name stands, if it is one of the last two. X and V, which are looked for most, stand there.
+/// The first of these two places at which the resource of the name stands.
+fn one_of(table: &[Resource], name: LockName, i: usize, j: usize) -> Option<usize>
+    ensures { IfSome result (λ i. IsAt name table.now i) }
+{
+    if is_at(table, i, name) {
+        return Some(i);
+    }
+    if is_at(table, j, name) {
+        return Some(j);
+    }
+    None
+}
+
+/// Where the resource of the name stands, if it is one of the first two or of the last two. Those that are looked for most stand there:
+/// the main directory, and X and V.
 fn near_end(table: &[Resource], name: LockName) -> Option<usize>
     ensures { IfSome result (λ i. IsAt name table.now i) }
 {
+    if matches!(name, LockName::S(_)) {
+        return one_of(table, name, 0, 1);
+    }
     let last = table.len().saturating_sub(1);
-    if is_at(table, last, name) {
-        return Some(last);
-    }
-    let other = last.saturating_sub(1);
-    if is_at(table, other, name) {
-        return Some(other);
-    }
-    None
+    one_of(table, name, last, last.saturating_sub(1))
 }
 
 /// Where the resource of the name stands, or where it would.
