@@ -3,13 +3,14 @@ use Rattle.std.proofs.Common.{◌≡◌, ◌∙◌, ◌+◌, ◌-◌, ◌<◌, �
 use Rattle.std.proofs.lemmas.Bool.{cases_lt}
 use Rattle.std.proofs.lemmas.Bool.Decides.{nat_tests}
 use Rattle.std.proofs.lemmas.List.{take_at, take-append-drop}
+use Rattle.std.proofs.lemmas.List.Elements.{All-nil, All-cons}
 use Rattle.byteorder.specs.Endian.{little_number}
 use Rattle.fx_records.specs.declared.types.Rec.{Rec}
 use Rattle.fx_records.specs.declared.types.RecFault.{RecFault}
 use Rattle.fx_records.specs.declared.types.RecFault.TheVariants.{BadCount, Truncated}
 use Rattle.fx_records.specs.Records.{room_of, front_record, in_front, and_behind, records_from, records_of, data_at, BeginsWith, IsFaultAt, HasFault, FaultsAreFirst}
 use Rattle.fx_records.proofs.Streams.{records_from-ends, records_from-one}
-use Rattle.fx_records.proofs.Exact.{IsWhole, front_record-whole, whole-begins, length-data_at}
+use Rattle.fx_records.proofs.Exact.{IsShort, IsWhole, front_record-whole, whole-begins, length-data_at}
 
 -- why there is no record at the front
 front_record-fault : (at : ℕ) (left : List ℕ) (fault : RecFault) → 0 < length left → front_record at left ≡ Err fault → IsFaultAt at left fault
@@ -58,7 +59,6 @@ front_faults (Ok r) behind fault h = inr (r, (refl, in_front-Err r (behind r) fa
 -- a record stays one whatever comes behind it
 begins-moved : (line stream rest other : List ℕ) → BeginsWith line stream rest → BeginsWith line (take (room_of (length line)) stream ++ other) other
 begins-moved line stream rest other h =
-    let body = h.count ++ (line ++ h.fill) in
     let grouped : (more : List ℕ) → h.count ++ (line ++ (h.fill ++ more)) ≡ (h.count ++ (line ++ h.fill)) ++ more = λ more.
     sym (append_assoc h.count (line ++ h.fill) more ∙ ap (λ l. h.count ++ l) (append_assoc line h.fill more)) in
     let long : length (h.count ++ (line ++ h.fill)) ≡ room_of (length line) = omega (arith, length-append h.count (line ++ h.fill), length-append line h.fill, h.two_bytes, h.even) in
@@ -89,6 +89,7 @@ HasFault-behind at front left r fault whole h =
       front = first ++ h.front;
       left = h.left;
       in_order = sym (take-append-drop (room_of r.len) left) ∙ ap (λ l. take (room_of r.len) left ++ l) h.in_order ∙ sym (append_assoc (take (room_of r.len) left) h.front h.left);
+      short = All-cons IsShort (data_at (front ++ left) r) h.lines (omega (arith, len, whole.len, whole.short)) h.short;
       records = (h.front, (begins, h.records));
       here = subst (λ n. IsFaultAt n h.left fault) (omega (arith, long)) h.here;
     }
@@ -105,6 +106,7 @@ faults_from (suc most) at front left fault start fuel h = elim (cases_lt 0 (leng
           front = [];
           left = left;
           in_order = refl;
+          short = All-nil IsShort;
           records = refl;
           here = subst (λ n. IsFaultAt n left fault) (omega arith) (front_record-fault at left fault some here);
         }

@@ -97,6 +97,7 @@ pub record HasFault (at : ℕ) (stream : List ℕ) (fault : RecFault) : Type 0 w
   pub front : List ℕ
   pub left : List ℕ
   pub in_order : stream ≡ front ++ left
+  pub short : All (λ line. length line ≤ 32767) lines
   pub records : AreRecordsOf lines front
   pub here : IsFaultAt (at + length front) left fault
 
@@ -108,7 +109,7 @@ FaultsAreFirst = (stream : List ℕ) (fault : RecFault) → records_of stream �
 abbrev pub lines_at : List ℕ → List Rec → List (List ℕ)
 lines_at bytes places = map (data_at bytes) places
 
--- each of these places is one of bytes that there are, and a count can tell how many; the stream of the lines there has this length
+-- each place is within the bytes and no longer than a count can tell, and the stream of the lines there has this length
 pub record AreLines (bytes : List ℕ) (places : List Rec) (len : ℕ) : Type 0 where
   pub inside : All (λ r. r.from + r.len ≤ length bytes) places
   pub short : All (λ r. r.len ≤ 32767) places

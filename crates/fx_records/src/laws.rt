@@ -1,4 +1,4 @@
-//! What is written reads back.
+//! Laws of reading and writing.
 ghost use Rattle.fx_records.specs.Records.{ReadsBack, ReadsExactly, FaultsAreFirst};
 
 /// A law: the records of what is spelt are the lines.

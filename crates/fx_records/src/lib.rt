@@ -3,9 +3,10 @@
 //! the count is odd. A count is 0 to 32,767.
 //!
 //! [`records`] reads a stream: it gives a [`Rec`] for each record, which says where its data stand, or the first fault.
-//! [`Lines8`] is a list of lines of bytes, each as long as a count can tell, and [`spell`] gives the stream of a list.
+//! [`Lines8`] is a list of lines of bytes, none longer than a count can tell, and [`spell`] gives the stream of a list.
 //!
 //! ```text
+//! let lines = Lines8::of_text(alloc, text)?;
 //! let stream = spell(alloc, &lines)?;
 //! let places = records(alloc, &stream)?;  // one for each line
 //! ```

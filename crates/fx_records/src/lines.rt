@@ -8,7 +8,7 @@ use crate::types::{LineFault, NoMemory, Rec};
 use std::alloc::{AllocError, Global};
 use std::marker::Model;
 
-/// A list of lines, each of at most 32,767 bytes: as many as the count of a record can tell.
+/// A list of lines of bytes, each of at most 32,767 bytes: as many as the count of a record can tell.
 #[derive(Drop)]
 pub struct Lines8 {
     // The lines, one behind the other, and where each stands in them.
