@@ -7,7 +7,7 @@ use core_space::{
     Phase, SpaceEvent, SpaceLocks, SpaceNeed, SpaceRun, is_due, space_next, space_writes,
 };
 use extent_cache::Extents;
-use fx_bitmap::{bit, set_bits};
+use fx_bitmap::{bit, clear_bits, set_bits};
 use lock_db::LockName;
 use plain_cat::{Mode, NoMemory, Refusal};
 use std::alloc::Global;
@@ -42,6 +42,11 @@ const FILLING: SpaceLocks = SpaceLocks {
 
 const LOWERED: SpaceLocks = SpaceLocks {
     x: Some(Mode::NL),
+    v: Some(Mode::NL),
+};
+
+const ALONE_IN_X: SpaceLocks = SpaceLocks {
+    x: Some(Mode::EX),
     v: Some(Mode::NL),
 };
 
@@ -191,24 +196,34 @@ fn looks_and_drains(
     Ok(looks(&storage, STORAGE) && drains && looks(&index, INDEX))
 }
 
-/// Its writes give all of its stock back, the numbers first.
+/// What comes behind the writes of a stock that goes back, the number first, where they are of these two blocks.
+fn behind_writes(
+    alloc: Global,
+    run: &mut SpaceRun,
+    stock: &mut Extents,
+    written: (Block, Block),
+) -> Result<Option<SpaceEvent>, NoMemory> {
+    let index = next(alloc, FILLING, run, stock, 76)?;
+    run.made = 1;
+    let storage = next(alloc, FILLING, run, stock, 76)?;
+    run.made = 2;
+    stock.clear();
+    let last = next(alloc, FILLING, run, stock, 76)?;
+    if puts(&index, INDEX, &written.0) && puts(&storage, STORAGE, &written.1) {
+        return Ok(Some(last));
+    }
+    Ok(None)
+}
+
+/// Its writes give all of its stock back.
 fn gives_all_back(alloc: Global) -> Result<bool, NoMemory> {
     let mut stock = stocked(alloc, 196, 16, 23)?;
     let mut run = SpaceRun::new(alloc);
     run.phase = Phase::Fill;
     let looked = looks_and_drains(alloc, &mut run, &mut stock)?;
-    let index = next(alloc, FILLING, &run, &stock, 76)?;
-    run.made = 1;
-    let storage = next(alloc, FILLING, &run, &stock, 76)?;
-    run.made = 2;
-    stock.clear();
-    let last = next(alloc, FILLING, &run, &stock, 76)?;
-    Ok(
-        looked
-            && puts(&index, INDEX, &bits(0, 22))
-            && puts(&storage, STORAGE, &bits(196, 60))
-            && matches!(&last, SpaceEvent::LowerX),
-    )
+    let written = (bits(0, 22), bits(196, 60));
+    let last = behind_writes(alloc, &mut run, &mut stock, written)?;
+    Ok(looked && matches!(&last, Some(SpaceEvent::LowerX)))
 }
 
 // The other node holds the clusters 26 to 41, and gives them back for X in EX. With them the 76 are there, or none is.
@@ -226,10 +241,16 @@ fn searches_alone(
     stock: &mut Extents,
 ) -> Result<bool, NoMemory> {
     let first = next(alloc, LOWERED, run, stock, 76)?;
+    let second = next(alloc, ALONE_IN_X, run, stock, 76)?;
     let index = next(alloc, ALONE, run, stock, 76)?;
     look(alloc, run, stock, needs(76), (INDEX, bits(0, 12)))?;
     let storage = next(alloc, ALONE, run, stock, 76)?;
-    Ok(asks(&first, LockName::X, Mode::EX) && looks(&index, INDEX) && looks(&storage, STORAGE))
+    Ok(
+        asks(&first, LockName::X, Mode::EX)
+            && asks(&second, LockName::V, Mode::PW)
+            && looks(&index, INDEX)
+            && looks(&storage, STORAGE),
+    )
 }
 
 /// Just the need is taken of 76 clusters: number 13, and all of them.
@@ -299,9 +320,37 @@ fn gives_back_when_due(alloc: Global) -> Result<bool, NoMemory> {
     Ok(due && !later && asks(&first, LockName::V, Mode::PW) && matches!(&last, SpaceEvent::Return))
 }
 
+/// Its looks and its writes, the number first.
+fn gives_back_for_good(alloc: Global) -> Result<bool, NoMemory> {
+    let mut stock = stocked(alloc, 26, 16, 13)?;
+    let mut run = SpaceRun::new(alloc);
+    run.phase = Phase::Back;
+    let index = next(alloc, FILLING, &run, &stock, 0)?;
+    look(alloc, &mut run, &mut stock, needs(0), (INDEX, bits(0, 21)))?;
+    let storage = next(alloc, FILLING, &run, &stock, 0)?;
+    look(
+        alloc,
+        &mut run,
+        &mut stock,
+        needs(0),
+        (STORAGE, bits(42, 214)),
+    )?;
+    let mut without = bits(0, 21);
+    clear_bits(&mut without, 12, 1);
+    let last = behind_writes(alloc, &mut run, &mut stock, (without, bits(26, 230)))?;
+    Ok(
+        looks(&index, INDEX)
+            && looks(&storage, STORAGE)
+            && run.phase == Phase::Back
+            && matches!(&last, Some(SpaceEvent::Return)),
+    )
+}
+
 #[test]
 fn a_stock_goes_back_when_it_is_due(rt: HostRuntime) -> Result<(), Fail> {
     let gives = gives_back_when_due(rt.alloc())?;
     assert!(&rt; gives, "when a stock goes back");
+    let returned = gives_back_for_good(rt.alloc())?;
+    assert!(&rt; returned, "all of the stock goes back for good");
     Ok(())
 }

@@ -21,12 +21,14 @@ const BY_A_READER: &[Row<'static>] = &[
     ),
     ("1 READ 1 0", "", "refused EndOfFile"),
     ("1 READ 1 3", "", "refused EndOfFile"),
+    ("1 READ 1 65536", "", "refused EndOfFile"),
     ("1 WRITE 1 1 AB", "", "refused NoPriv"),
 ];
 
 const BY_A_WRITER: &[Row<'static>] = &[
     ("1 WRITE 1 0 AB", "", "refused EndOfFile"),
     ("1 WRITE 1 3 AB", "", "refused EndOfFile"),
+    ("1 WRITE 1 65536 AB", "", "refused EndOfFile"),
 ];
 
 // The volume, on which both blocks of the file are full.
