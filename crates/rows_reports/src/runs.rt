@@ -4,7 +4,7 @@ use blk_drive::MemImage;
 use fx_text::{MemIn, MemOut};
 use log_check::check_log;
 use plain_cat::NoMemory;
-use rows_calls::{Exchange, Wrong, answered, expect, volume};
+use rows_calls::{Exchange, Lines, Written, Wrong, answered, expect, volume};
 use std::alloc::Global;
 use std::test::Fail;
 
@@ -111,11 +111,28 @@ const EARLY_DEATH: Run = Run {
         end: 1 answered, 1 died, 230 free\n",
 };
 
+/// The lines of as many look-ups as a script may have.
+const LONGEST: Lines<'static> = Lines {
+    from: 1,
+    to: 4096,
+    more: 0,
+    script: "",
+    report: "%k N1 LOOKUP R1 (4,4,0) A.B;0 = refused NoSuchFile\n",
+};
+
 // A report has to have this verdict.
 fn check_verdict(alloc: Global, run: Option<Run>, report: &str, wanted: &str) -> Result<(), Wrong> {
     let found = verdict(alloc, image_after(alloc, run)?, report)?;
     let what = format!(in alloc; "{found}, wanted {wanted}, of {report}")?;
     expect(alloc, found.as_str() == wanted, what.as_str())
+}
+
+// The report of the look-ups is legal.
+fn check_longest(alloc: Global) -> Result<(), Wrong> {
+    let lines = Written::new(alloc, "", &[LONGEST])?;
+    let mut report = String::from_str(alloc, lines.report())?;
+    report.push_str("end: 4096 answered, 0 died, 231 free\n")?;
+    check_verdict(alloc, None, report.as_str(), "0: legal, 4096 entries\n")
 }
 
 // A run, a report that is judged against the image that the run leaves, and the verdict.
@@ -137,5 +154,6 @@ fn reports_are_judged(rt: HostRuntime) -> Result<(), Fail> {
     for (run, report, wanted) in cases {
         check_verdict(rt.alloc(), run, report, wanted)?;
     }
+    check_longest(rt.alloc())?;
     Ok(())
 }
