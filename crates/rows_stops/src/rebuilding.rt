@@ -129,7 +129,8 @@ const FILE_REPORT: &str =
     "1 N1 CREATE R1 (4,4,0) A.TXT;0 10 [1,4] = (12,1,0) A.TXT;1\nend: 1 answered, 0 died, 228 free\n";
 
 /// On the volume with A.TXT: both entries of a renamed file are there, and the file keeps the one that comes first; a file that was open
-/// is deleted, and the node that has it open dies.
+/// is deleted, and the node that has it open dies; and one node dies in its removal and another while it makes a file, so that there is
+/// something of each kind to mend.
 const OF_A_FILE: &[&[Step<'static>]] = &[
     &[
         Step::Run(
@@ -185,6 +186,29 @@ const OF_A_FILE: &[&[Step<'static>]] = &[
             "1 N1 LOOKUP R1 (4,4,0) A.TXT;0 = refused NoSuchFile\n\
             2 N1 QUOTASHOW [1,4] = usage 0 quota 1088 overdraft 0\n\
             end: 2 answered, 0 died, 231 free\n",
+        ),
+    ],
+    &[
+        Step::Run(
+            "NODES 2\nKILL 1 WRITE 2\nKILL 2 WRITE 5\n1 DELETE MFD A.TXT;0\n2 CREATE R1 MFD B.TXT;0 10 [1,4]\n",
+            "1 N1 died at marked, leaked 0 clusters, 0 numbers\n\
+            2 N2 died at lost, leaked 16 clusters, 8 numbers\n\
+            end: 0 answered, 2 died, 209 free\n",
+        ),
+        Step::Finds("marked 12\nlost 13\nleaked clusters 16\nleaked numbers 8\n"),
+        Step::Call(
+            REBUILD,
+            "",
+            0,
+            "rebuilt: 1 entered, 1 entries removed, 1 files gone, 16 clusters, 8 numbers\n",
+        ),
+        Step::Stays,
+        Step::Made(
+            "NODES 1\n1 LIST LOST\n1 LOOKUP R1 MFD A.TXT;0\n1 QUOTASHOW [1,4]\n",
+            "1 N1 LIST (11,1,0) = 1 entries F00013.LST;1 (13,1,0)\n\
+            2 N1 LOOKUP R1 (4,4,0) A.TXT;0 = refused NoSuchFile\n\
+            3 N1 QUOTASHOW [1,4] = usage 13 quota 1088 overdraft 0\n\
+            end: 3 answered, 0 died, 228 free\n",
         ),
     ],
 ];
