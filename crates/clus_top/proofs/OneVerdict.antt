@@ -152,6 +152,7 @@ as_run s = s
 run_is_due : (bytes : List ℕ) (size : ℕ) (bs : List Block) (s : Status) → IsRunRebuildDue bytes size bs s → IsRunDue bytes size bs (as_run s)
 run_is_due bytes size bs status.Ok d = (d.0, d.1)
 run_is_due bytes size bs (status.NotMendable f) d = (d.0, d.1)
+run_is_due bytes size bs status.OutFault d = (d.0, d.1)
 run_is_due bytes size bs s d = d
 
 run_is_verdict : (s : Status) → is_verdict s ≡ true → is_verdict (as_run s) ≡ true
@@ -202,6 +203,7 @@ of_run_rebuild bytes size bs one lists found count whole =
       by : (s : Status) → is_verdict s ≡ true → IsRunDue bytes size bs s → HasOneVerdict (Some RunRebuild) bytes size bs
       by status.Ok v d = of_end bytes size bs one lists found count whole d.0 d.1
       by (status.NotMendable f) v d = absurd d
+      by status.OutFault v d = absurd (false≢true v)
       by s v d = record { status = s; verdict = v; due = d; alone = alone_run_rebuild bytes size bs s one lists v d }
 
 of_mounted : (n : ℕ) (bytes : List ℕ) (size : ℕ) (bs : List Block) (fs : List Finding) → OneList bs → IsInside size → AreFindings bs fs → HasOneVerdict (Some (Soak n)) bytes size bs
@@ -468,6 +470,7 @@ good_mended : (bytes : List ℕ) (size : ℕ) (bs : List Block) (s : Status) →
     → s ≡ status.Ok
 good_mended bytes size bs status.Ok one list good inside none v h = refl
 good_mended bytes size bs (status.NotMendable f) one list good inside none v h = absurd (false≢true v)
+good_mended bytes size bs status.OutFault one list good inside none v h = absurd (false≢true v)
 good_mended bytes size bs s one list good inside none v h = alone_good bytes size bs one list good inside none s v h
 
 pub answered : (wanted : Option Wanted) (bytes : List ℕ) (size : ℕ) (bs : List Block) (s : Status) → SayOneThing (lines_of bytes) → OneList bs → RunsGood wanted bytes → IsInside size → Accepts bs

@@ -320,7 +320,7 @@ module _ (size : ℕ) (was now : Option (List ℕ)) (read reading had has before
     halt_ok bytes old new h =
         let both = h.report.both in
         let mendable : IsMendableThen (IsScriptOf bytes) old = record { new = both.before; ran = both.ran; after = both.mended.after; done = both.done; mends = both.mended.mends } in
-        ok_is (Some RunRebuild) bytes size old new was now read reading had has before after text r (h.good, h.accepted, mendable) (h.good, h.accepted) h.report both both either all cut fault
+        ok_is (Some RunRebuild) bytes size old new was now read reading had has before after text r (h.good, h.accepted, mendable) (h.good, h.accepted, mendable) h.report both both either all cut fault
 
     pub init_ok : (cluster files : ℕ) (label bytes : List ℕ) (old new : List Block) → IsFormattedWith cluster files label size old new text
         → IsAnswer (Some (Init cluster files label)) bytes size old new was now read reading had has before after r

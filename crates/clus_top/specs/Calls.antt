@@ -38,7 +38,7 @@ pub record IsAnswer (wanted : Option Wanted) (bytes : List ℕ) (size : ℕ) (ol
 -- What the top call answers.
 pub record IsCall (wanted : Option Wanted) (bytes : List ℕ) (size : ℕ) (old new : List Block) (was now : Option (List ℕ)) (read reading had has before after : ℕ) (s : Status) : Type 0 where
   pub answer : IsAnswer wanted bytes size old new was now read reading had has before after s
-  -- Of the statuses but faults and want of memory no other one is due than that of the call.
+  -- If the status is no fault and no want of memory, no other such one is due.
   pub alone : IsAlone wanted bytes size old s
   -- A good script on an accepted volume is answered: with status 0, unless a call of an object fails or memory runs out, or the volume of
   -- a run that is mended then cannot be mended.

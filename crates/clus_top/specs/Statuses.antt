@@ -33,6 +33,7 @@ pub record HasFindings (bs : List Block) : Type 0 where
 abbrev pub IsRunRebuildDue : List ℕ → ℕ → List Block → Status → Type 0
 IsRunRebuildDue bytes size bs status.Ok = IsGood bytes × IsAccepted size bs × IsMendableThen (IsScriptOf bytes) bs
 IsRunRebuildDue bytes size bs (status.NotMendable f) = IsGood bytes × IsAccepted size bs × IsUnmendable (IsScriptOf bytes) bs f
+IsRunRebuildDue bytes size bs status.OutFault = IsGood bytes × IsAccepted size bs × IsMendableThen (IsScriptOf bytes) bs
 IsRunRebuildDue bytes size bs s = IsRunDue bytes size bs s
 
 -- Of a soak, which reads no script. The order is image read, size, acceptance, output.

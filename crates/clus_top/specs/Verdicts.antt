@@ -1,4 +1,4 @@
--- That of all statuses exactly one is due.
+-- That of all statuses, but for faults and want of memory, exactly one is due.
 use Rattle.std.specs.Prelude.{◌≡◌, ℕ, Bool, true, List, Option, Some}
 use Rattle.base_words.specs.Fields.{Block}
 use Rattle.blk_drive.specs.Images.{IsInside}

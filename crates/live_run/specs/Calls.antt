@@ -32,7 +32,7 @@ pub record IsAnswer (what : Option Job) (bytes : List ℕ) (size : ℕ) (old new
 -- What the live top call answers.
 pub record IsCall (what : Option Job) (bytes : List ℕ) (size : ℕ) (old new : List Block) (was now : Option (List ℕ)) (read reading had has before after : ℕ) (s : Status) : Type 0 where
   pub answer : IsAnswer what bytes size old new was now read reading had has before after s
-  -- Of the statuses but faults, want of memory and, of a call that mends then, `NotMendable`, no other one is due than that of the call.
+  -- If the status is no fault, no want of memory and, of a call that mends then, not `NotMendable`, no other such one is due.
   pub alone : IsAlone what bytes size old new s
   -- A good script on an accepted volume is answered: with status 0, unless a call of an object fails or memory runs out, or the volume, if
   -- it is mended then, cannot be mended.

@@ -1,4 +1,5 @@
--- Of all statuses of a live call exactly one is due, and a good script on an accepted volume is answered.
+-- Of the statuses of a live call, but for faults, want of memory and NotMendable of one that mends, exactly one is due, and a good script
+-- on an accepted volume is answered.
 use Rattle.std.specs.Prelude.{◌≡◌, ℕ, Bool, true, List, Option, Some, None}
 use Rattle.base_words.specs.Fields.{Block}
 use Rattle.blk_drive.specs.Images.{IsInside}

@@ -6,9 +6,11 @@
 //! let finished = vmsclus_live(rt, alloc, words, image, &mut script, &mut out, &OpenGate);
 //! ```
 //!
-//! Of what a script, the words and a volume say, and of what is written, it promises what `vmsclus` does (`due`, `written`, `left` of
-//! `IsCall`), if it returns: with status 0 the report is that of a history that replays from the catalogue of the volume, whole. A good script on an accepted
-//! volume is answered (`good_live_runs_are_answered`), and of one status that is due no other one is (`no_other_live_status_is_due`). That several threads ran, and that they made the events, tests show.
+//! Of what is written and left it promises what `vmsclus` does (`written`, `left` of `IsCall`), if it returns, and of what a script, the
+//! words and a volume say what `run` does, and with a mending when it cannot be made (`due`): with status 0 the report is that of a history
+//! that replays from the catalogue of the volume, whole. A good script on an accepted volume is answered, but for faults, want of memory and
+//! `NotMendable` (`good_live_runs_are_answered`); and if a status is due that is none of these, no other such one is
+//! (`no_other_live_status_is_due`). That several threads ran, and that they made the events, tests show.
 //!
 //! `exit_call` makes the call with all of the words that it is given, in order, and answers the number of its status and the image, for which
 //! what the call says holds (`IsEnd`).

@@ -91,7 +91,8 @@ pub fn vmsclus_live<
 ) -> Finished<I>
     // There are bytes of a script, blocks of an image, as many as it has, and blocks that it has then, of which all of `IsCall` holds
     // together: what the status says of what came in, when a fault comes, what was written, which blocks are left, that no other status was
-    // due, and that a good script is answered. If the source or the image tells its content, they are these. If it does not, as a file, no
+    // due if this one is no fault and no want of memory (with a mending also not `NotMendable`), and that a good script is answered but for
+    // these. If the source or the image tells its content, they are these. If it does not, as a file, no
     // contract says which they are.
     ensures { OfScript (T.left script.old) (λ bytes. OfImage (I.size image) (I.told image) (I.told result.image) (λ old new.
         IsCall (job_of words.now) bytes (I.size image) old new (O.written out.old) (O.written out.new)

@@ -9,9 +9,9 @@
 //! ```
 //!
 //! `Legal` comes only if the report is a legal history from the catalogue of the volume before, and leads to that of the volume
-//! after (`due`). Of all inputs one status is due, and only one, but for faults and want of memory (`one_status_is_due`). What
-//! was written is said too (`written`), and both images keep their blocks (`before`, `after`). A fault comes only if its object's
-//! count of faults rose.
+//! after (`due`). Of words, a report and the blocks of two images, all told, one status is due, and only one, but for faults and want
+//! of memory (`one_status_is_due`). What was written is said too (`written`), and both images keep their blocks (`before`, `after`). A
+//! fault comes only if its object's count of faults rose.
 //!
 //! `draft_of` reads which entry a line is about, off its front: what was written as a line is read as its entry (`IsDrafted`); of other
 //! texts it says nothing. No reply is read but the number that the reply of a new file shows: the answer is worked out on the

@@ -5,8 +5,8 @@
 //! the first. `there_are_findings` says that it always is, for any blocks and any number of them. `vol_analyze` reads the list, where
 //! memory does not run out, and says that it is the only one.
 //!
-//! That of all statuses one is due, in the calls of `clus_top` and of `log_check`, rests on it: so those laws ask nothing of what is
-//! found in the blocks.
+//! That of all statuses, but for faults and want of memory, one is due, in the calls of `clus_top`, `live_run` and `log_check`, rests on
+//! it: so those laws ask nothing of what is found in the blocks.
 #![tactic(auto)]
 
 mod laws;
