@@ -15,18 +15,18 @@ abbrev pub IsShort : List ℕ → Type 0
 IsShort line = length line ≤ 32767
 
 -- the record of a line at the front is read as it is
-length-begins : (line stream rest : List ℕ) → BeginsWith line stream rest → length stream ≡ room_of (length line) + length rest
+pub length-begins : (line stream rest : List ℕ) → BeginsWith line stream rest → length stream ≡ room_of (length line) + length rest
 length-begins line stream rest h =
     omega (arith, ap length h.in_order, length-append h.count (line ++ (h.fill ++ rest)), length-append line (h.fill ++ rest), length-append h.fill rest, h.two_bytes, h.even)
 
-front_record-begins : (at : ℕ) (line stream rest : List ℕ) → IsShort line → BeginsWith line stream rest → front_record at stream ≡ Ok (record { from = at + 2; len = length line })
+pub front_record-begins : (at : ℕ) (line stream rest : List ℕ) → IsShort line → BeginsWith line stream rest → front_record at stream ≡ Ok (record { from = at + 2; len = length line })
 unfolding front_record
 front_record-begins at line stream rest short h =
     let count : little_number 2 stream ≡ length line = ap (little_number 2) h.in_order ∙ little_from-append 2 h.count (line ++ (h.fill ++ rest)) (omega (arith, h.two_bytes)) ∙ h.says_length in
     let long = length-begins line stream rest h in
     rw (count, long) (grind (arith, nat_tests))
 
-drop-begins : (line stream rest : List ℕ) → BeginsWith line stream rest → drop (room_of (length line)) stream ≡ rest
+pub drop-begins : (line stream rest : List ℕ) → BeginsWith line stream rest → drop (room_of (length line)) stream ≡ rest
 drop-begins line stream rest h =
     let grouped : h.count ++ (line ++ (h.fill ++ rest)) ≡ (h.count ++ (line ++ h.fill)) ++ rest =
     sym (append_assoc h.count (line ++ h.fill) rest ∙ ap (λ l. h.count ++ l) (append_assoc line h.fill rest)) in
@@ -82,7 +82,7 @@ read_all (line ∷ lines) most front stream fuel short h =
     }
 
 -- there are no more lines than bytes
-few : (lines : List (List ℕ)) (stream : List ℕ) → AreRecordsOf lines stream → length lines ≤ length stream
+pub few : (lines : List (List ℕ)) (stream : List ℕ) → AreRecordsOf lines stream → length lines ≤ length stream
 few [] stream h = omega arith
 few (line ∷ lines) stream h = omega (arith, few lines h.0 h.1.1, length-begins line stream h.0 h.1.0)
 

@@ -1,16 +1,16 @@
--- What stands before the fault of a stream is records.
-use Rattle.std.proofs.Common.{◌≡◌, ◌∙◌, ◌+◌, ◌-◌, ◌<◌, ◌≤◌, ◌⊎◌, ℕ, zero, suc, true, false, List, [], ◌∷◌, ◌++◌, length, take, drop, nat_lt, Result, Ok, Err, inl, inr, refl, sym, ap, arith, subst, append_assoc, length-append, length-drop, length-take-le}
+-- A stream has a fault exactly where what stands before it is records, and the fault says what is wrong there.
+use Rattle.std.proofs.Common.{◌≡◌, ◌∙◌, ◌+◌, ◌-◌, ◌<◌, ◌≤◌, ◌⊎◌, ℕ, zero, suc, true, false, List, [], ◌∷◌, ◌++◌, length, take, drop, nat_lt, Result, Ok, Err, All, inl, inr, refl, sym, ap, arith, subst, append_assoc, length-append, length-drop, length-take-le}
 use Rattle.std.proofs.lemmas.Bool.{cases_lt}
 use Rattle.std.proofs.lemmas.Bool.Decides.{nat_tests}
 use Rattle.std.proofs.lemmas.List.{take_at, take-append-drop}
-use Rattle.std.proofs.lemmas.List.Elements.{All-nil, All-cons}
+use Rattle.std.proofs.lemmas.List.Elements.{All-nil, All-cons, All-head, All-tail}
 use Rattle.byteorder.specs.Endian.{little_number}
 use Rattle.fx_records.specs.declared.types.Rec.{Rec}
 use Rattle.fx_records.specs.declared.types.RecFault.{RecFault}
-use Rattle.fx_records.specs.declared.types.RecFault.TheVariants.{BadCount, Truncated}
-use Rattle.fx_records.specs.Records.{room_of, front_record, in_front, and_behind, records_from, records_of, data_at, BeginsWith, IsFaultAt, HasFault, FaultsAreFirst}
-use Rattle.fx_records.proofs.Streams.{records_from-ends, records_from-one}
-use Rattle.fx_records.proofs.Exact.{IsShort, IsWhole, front_record-whole, whole-begins, length-data_at}
+use Rattle.fx_records.specs.declared.types.RecFault.TheVariants.{BadCount, Truncated, NoMemory}
+use Rattle.fx_records.specs.Records.{room_of, front_record, in_front, and_behind, records_from, records_of, data_at, BeginsWith, AreRecordsOf, IsFaultAt, HasFault, FaultsAreFirst}
+use Rattle.fx_records.proofs.Streams.{records_from-ends, records_from-one, records_from-goes, records_from-stops}
+use Rattle.fx_records.proofs.Exact.{IsShort, IsWhole, length-begins, front_record-begins, drop-begins, few, front_record-whole, whole-begins, length-data_at}
 
 -- why there is no record at the front
 front_record-fault : (at : ℕ) (left : List ℕ) (fault : RecFault) → 0 < length left → front_record at left ≡ Err fault → IsFaultAt at left fault
@@ -122,6 +122,80 @@ faults_from (suc most) at front left fault start fuel h = elim (cases_lt 0 (leng
       ]
 ]
 
-pub faults_first : FaultsAreFirst
+-- what is wrong at the front is told
+front_record-told : (at : ℕ) (left : List ℕ) (fault : RecFault) → IsFaultAt at left fault → front_record at left ≡ Err fault
+unfolding front_record
+front_record-told at left (BadCount byte) h =
+    let test : nat_lt (length left) 2 ≡ false = let two = h.1.0 in grind (arith, nat_tests) in
+    let test1 : nat_lt 32767 (little_number 2 left) ≡ true = let bad = h.1.1 in grind (arith, nat_tests) in
+    rw (test, test1) (ap (λ n. Err (BadCount n)) (sym h.0))
+front_record-told at left (Truncated byte) h = elim (cases_lt (length left) 2) [
+  | inl few ↦
+      let test : nat_lt (length left) 2 ≡ true = grind (arith, nat_tests) in
+      rw test (ap (λ n. Err (Truncated n)) (sym h.0))
+  | inr two ↦ elim h.1.1 [
+    | inl few ↦ absurd (omega arith)
+    | inr p ↦
+        let test : nat_lt (length left) 2 ≡ false = grind (arith, nat_tests) in
+        let test1 : nat_lt 32767 (little_number 2 left) ≡ false = let good = p.0 in grind (arith, nat_tests) in
+        let test2 : nat_lt (length left) (room_of (little_number 2 left)) ≡ true = let cut = p.1 in grind (arith, nat_tests) in
+        rw (test, test1, test2) (ap (λ n. Err (Truncated n)) (sym h.0))
+  ]
+]
+front_record-told at left NoMemory h = absurd h
+
+-- something stands there
+IsFaultAt-some : (at : ℕ) (left : List ℕ) (fault : RecFault) → IsFaultAt at left fault → 0 < length left
+IsFaultAt-some at left (BadCount byte) h = let two = h.1.0 in omega arith
+IsFaultAt-some at left (Truncated byte) h = h.1.0
+IsFaultAt-some at left NoMemory h = absurd h
+
+-- a record stays one with more behind the stream
+begins-more : (line front rest left : List ℕ) → BeginsWith line front rest → BeginsWith line (front ++ left) (rest ++ left)
+begins-more line front rest left h = record {
+  count = h.count;
+  fill = h.fill;
+  two_bytes = h.two_bytes;
+  says_length = h.says_length;
+  even = h.even;
+  in_order =
+      ap (λ l. l ++ left) h.in_order
+      ∙ append_assoc h.count (line ++ (h.fill ++ rest)) left
+      ∙ ap (λ l. h.count ++ l) (append_assoc line (h.fill ++ rest) left)
+      ∙ ap (λ l. h.count ++ (line ++ l)) (append_assoc h.fill rest left);
+}
+
+-- behind the records of these lines comes this fault
+told_behind : (lines : List (List ℕ)) (most at : ℕ) (front left : List ℕ) (fault : RecFault) → length lines < most → All IsShort lines → AreRecordsOf lines front → IsFaultAt (at + length front) left fault
+    → records_from most at (front ++ left) ≡ Err fault
+told_behind [] most at front left fault fuel short h here =
+    let start : at + length front ≡ at = omega (arith, ap length h) in
+    let wrong : IsFaultAt at left fault = subst (λ n. IsFaultAt n left fault) start here in
+    ap (λ f. records_from most at (f ++ left)) h
+    ∙ records_from-stops most at left fault (omega arith) (IsFaultAt-some at left fault wrong) (front_record-told at left fault wrong)
+told_behind (line ∷ lines) most at front left fault fuel short h here =
+    let rest = h.0 in
+    let next = at + room_of (length line) in
+    let r : Rec = record { from = at + 2; len = length line } in
+    let begins = begins-more line front rest left h.1.0 in
+    let some : 0 < length (front ++ left) = omega (arith, length-begins line (front ++ left) (rest ++ left) begins) in
+    let long : at + length front ≡ next + length rest = omega (arith, length-begins line front rest h.1.0) in
+    let first = front_record-begins at line (front ++ left) (rest ++ left) (All-head IsShort line lines short) begins in
+    let inner = told_behind lines (most - 1) next rest left fault (omega arith) (All-tail IsShort line lines short) h.1.1 (subst (λ n. IsFaultAt n left fault) long here) in
+    records_from-goes most at (front ++ left) r (omega arith) some first
+    ∙ ap (λ l. in_front (r ∷ []) (records_from (most - 1) next l)) (drop-begins line (front ++ left) (rest ++ left) begins)
+    ∙ ap (in_front (r ∷ [])) inner
+
+fault-told : (stream : List ℕ) (fault : RecFault) → HasFault 0 stream fault → records_of stream ≡ Err fault
 unfolding records_of
-faults_first stream fault h = faults_from (length stream) 0 [] stream fault refl (omega arith) h
+fault-told stream fault h =
+    let some = IsFaultAt-some (0 + length h.front) h.left fault h.here in
+    let fuel : length h.lines < length stream = omega (arith, some, few h.lines h.front h.records, ap length h.in_order, length-append h.front h.left) in
+    ap (records_from (length stream) 0) h.in_order ∙ told_behind h.lines (length stream) 0 h.front h.left fault fuel h.short h.records h.here
+
+fault-first : (stream : List ℕ) (fault : RecFault) → records_of stream ≡ Err fault → HasFault 0 stream fault
+unfolding records_of
+fault-first stream fault h = faults_from (length stream) 0 [] stream fault refl (omega arith) h
+
+pub faults_first : FaultsAreFirst
+faults_first stream fault = (fault-first stream fault, fault-told stream fault)

@@ -1,14 +1,12 @@
 -- The lines of a text, taken one after the other.
-use Rattle.std.proofs.Common.{◌≡◌, ◌∙◌, ◌+◌, ◌<◌, ◌≤◌, ◌==◌, ℕ, true, false, List, [], ◌∷◌, ◌++◌, length, map, take, get_or, Bor, Some, None, All, ltb, refl, sym, ap, arith, subst}
+use Rattle.std.proofs.Common.{◌≡◌, ◌∙◌, ◌+◌, ◌<◌, ◌==◌, ℕ, true, false, List, [], ◌∷◌, ◌++◌, length, map, take, get_or, Bor, Some, None, All, ltb, refl, sym, ap, arith, subst}
 use Rattle.std.specs.List.{slice_split, position_or_len}
 use Rattle.std.proofs.lemmas.Bool.Decides.{nat_tests}
 use Rattle.std.proofs.lemmas.List.{get_or-take, map_push, length-take-le, get_or_default, length-map}
 use Rattle.std.proofs.lemmas.List.Elements.{All-nil, All-push}
 use Rattle.std.proofs.lemmas.List.Sums.{position_or_len_is}
 use Rattle.fx_records.specs.Lines.{before_end, text_lines, is_long, long_line}
-
-abbrev pub IsShort : List ℕ → Type 0
-IsShort line = length line ≤ 32767
+use Rattle.fx_records.proofs.Exact.{IsShort}
 
 not_long : (line : List ℕ) → IsShort line → is_long line ≡ false
 not_long line h = grind (arith, nat_tests)

@@ -1,4 +1,4 @@
--- The lines of a text, and the longest that a record can have.
+-- The lines of a text, and the first that is too long for a record.
 use Rattle.std.specs.Prelude.{◌+◌, ◌-◌, ◌==◌, ℕ, Bool, nat_lt, List, [], ◌∷◌, length, take, slice_index, position, Option, option_map, if◌then◌else◌}
 use Rattle.std.specs.List.{slice_split}
 

@@ -101,9 +101,9 @@ pub record HasFault (at : ℕ) (stream : List ℕ) (fault : RecFault) : Type 0 w
   pub records : AreRecordsOf lines front
   pub here : IsFaultAt (at + length front) left fault
 
--- the fault that is given is the first one: what stands before it is records
+-- a stream has a fault exactly where what stands before it is records, and the fault says what is wrong at its byte
 abbrev pub FaultsAreFirst : Type 0
-FaultsAreFirst = (stream : List ℕ) (fault : RecFault) → records_of stream ≡ Err fault → HasFault 0 stream fault
+FaultsAreFirst = (stream : List ℕ) (fault : RecFault) → (records_of stream ≡ Err fault) ↔ HasFault 0 stream fault
 
 -- the lines that stand at these places
 abbrev pub lines_at : List ℕ → List Rec → List (List ℕ)

@@ -11,7 +11,7 @@ pub fn reading_is_exact()
     ensures { ReadsExactly }
 {}
 
-/// A law: where a stream has a fault, what stands before it is records, and the fault says what is wrong at its byte.
+/// A law: a stream has a fault exactly where what stands before it is records, and the fault says what is wrong at its byte.
 pub fn faults_are_first()
     ensures { FaultsAreFirst }
 {}

@@ -12,8 +12,8 @@
 //! ```
 //!
 //! What is spelt reads back: the records of a list's stream are its lines (`read_back`). A stream reads as lines exactly where it
-//! is their records (`reading_is_exact`): the fill is written as zero, and not looked at when read. A fault is the first one:
-//! what stands before it is records (`faults_are_first`).
+//! is their records (`reading_is_exact`): the fill is written as zero, and not looked at when read. A stream has a fault exactly
+//! where what stands before it is records, and the fault says what is wrong at its byte (`faults_are_first`).
 //!
 //! No program uses it yet.
 #![tactic(auto)]

@@ -11,7 +11,7 @@ use std::marker::Model;
 /// A list of lines of bytes, each of at most 32,767 bytes: as many as the count of a record can tell.
 #[derive(Drop)]
 pub struct Lines8 {
-    // The lines, one behind the other, and where each stands in them.
+    // The lines, one behind the other, and where each stands in them; no count stands before it there.
     bytes: Vec<u8>,
     places: Vec<Rec>,
     // How many bytes their records take.

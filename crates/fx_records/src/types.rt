@@ -14,7 +14,7 @@ pub struct Rec {
     pub len: usize,
 }
 
-/// Why a stream is not a list of records: the first fault in the order of its bytes. Of one record a bad count comes first.
+/// Why no records are given: the first fault in the order of the stream's bytes, of one record a bad count first; or want of memory.
 #[derive(Clone, Copy, Debug, PartialEq)]
 pub enum RecFault {
     /// The count that begins at this byte is above 32,767.
@@ -25,7 +25,7 @@ pub enum RecFault {
     NoMemory,
 }
 
-/// Why a text is not lines of records.
+/// Why no lines are given.
 #[derive(Clone, Copy, Debug, PartialEq)]
 pub enum LineFault {
     /// This line, counted from 1, is the first that has more than 32,767 bytes.
