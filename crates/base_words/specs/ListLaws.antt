@@ -1,6 +1,6 @@
 -- Laws of lists and of writes.
 use Rattle.std.specs.Prelude.{◌≡◌, ◌⊎◌, ◌↔◌, ◌++◌, ℕ, Bool, not, List, Some, length, filter, slice_get}
-use Rattle.base_words.specs.Lists.{Has, Once, AreApart, Parts, written, Touches, StandsIn}
+use Rattle.base_words.specs.Lists.{Has, Once, AreApart, Parts, written, Touches, StandsIn, HoldsPart}
 
 -- an item of two lists in a row is an item of the first or of the second
 abbrev pub HasJoined : Type 0 → Type 0
@@ -43,3 +43,10 @@ StandsJoined A = (bs : List A) (ss ts : List (ℕ × A)) → StandsIn bs (ss ++ 
 -- what stands at places that no write touches stands there after the writes
 abbrev pub StandsStill : Type 0 → Type 0
 StandsStill A = (ws : List (ℕ × A)) (bs : List A) (ss : List (ℕ × A)) → ((l : ℕ) → Touches ws l → Touches ss l → ⊥) → StandsIn bs ss → StandsIn (written ws bs) ss
+
+-- a list that more was being added to holds a beginning of two lists in a row: nothing, a beginning of the first, or the first and a
+-- beginning of the second
+pub record HoldsPartLaws (A : Type 0) : Type 0 where
+  pub nothing : (old more new : List A) → new ≡ old → HoldsPart old more new
+  pub first : (old xs ys new : List A) → HoldsPart old xs new → HoldsPart old (xs ++ ys) new
+  pub second : (old xs ys new : List A) → HoldsPart (old ++ xs) ys new → HoldsPart old (xs ++ ys) new

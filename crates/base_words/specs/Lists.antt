@@ -1,5 +1,5 @@
 -- What is in a list, what stands in it once, and writes to a list by place.
-use Rattle.std.specs.Prelude.{◌≡◌, ◌⊎◌, ℕ, List, [], ◌∷◌, Some, slice_get, slice_set}
+use Rattle.std.specs.Prelude.{◌≡◌, ◌⊎◌, ◌++◌, ℕ, List, [], ◌∷◌, Some, slice_get, slice_set}
 
 -- x is an item
 abbrev pub Has : {A : Type 0} → List A → A → Type 0
@@ -36,3 +36,10 @@ Touches (w ∷ ws) l = (w.0 ≡ l) ⊎ Touches ws l
 abbrev pub StandsIn : {A : Type 0} → List A → List (ℕ × A) → Type 0
 StandsIn bs [] = Unit {0}
 StandsIn bs (s ∷ ss) = (slice_get bs s.0 ≡ Some s.1) × StandsIn bs ss
+
+-- the list holds what it held, and behind that a beginning of what was to be added
+pub record HoldsPart {A : Type 0} (old more new : List A) : Type 0 where
+  pub part : List A
+  pub rest : List A
+  pub beginning : more ≡ part ++ rest
+  pub held : new ≡ old ++ part

@@ -1,6 +1,6 @@
 //! Laws of lists, and of writes to a list by place.
 
-ghost use Rattle.base_words.specs.ListLaws.{HasJoined, HasPlace, OnceJoined, Filtered, WrittenJoined, WritesLand, TouchedAlike, TouchesJoined, StandsJoined, StandsStill};
+ghost use Rattle.base_words.specs.ListLaws.{HasJoined, HasPlace, OnceJoined, Filtered, WrittenJoined, WritesLand, TouchedAlike, TouchesJoined, StandsJoined, StandsStill, HoldsPartLaws};
 
 /// An item of two lists in a row is an item of the first or of the second.
 pub fn has_joined<T>()
@@ -50,4 +50,9 @@ pub fn stands_joined<T>()
 /// What stands where no write is stands there after the writes.
 pub fn stands_still<T>()
     ensures { StandsStill T }
+{}
+
+/// A beginning of one of two lists in a row was added: it is a beginning of both in a row.
+pub fn holds_part<T>()
+    ensures { HoldsPartLaws T }
 {}

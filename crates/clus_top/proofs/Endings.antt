@@ -16,7 +16,7 @@ use Rattle.vol_parts.specs.Volumes.{volume, geometry_of}
 use Rattle.vol_parts.specs.Catalogues.{catalogue}
 use Rattle.vol_parts.specs.Findings.{home_at, Weak, AreFindings, AreWarningsBy, Accepts, IsCatalogueBy, CatOf, IsFatal, IsFirstFatal}
 use Rattle.vol_faults.specs.Free.{IsGeometryBy}
-use Rattle.vol_found.specs.Having.{HaveFindings}
+use Rattle.vol_analyze.specs.Having.{HaveFindings}
 use Rattle.vol_analyze.proofs.Accepting.{accepted_accounts}
 use Rattle.run_script.specs.Lines.{lines_of}
 use Rattle.run_script.specs.Laws.{SayOneThing}

@@ -7,7 +7,7 @@ use Rattle.vol_parts.specs.declared.finding.Finding.{Finding}
 use Rattle.vol_parts.specs.Findings.{Weak, AreFindings, Accepts, IsFirstFatal}
 use Rattle.run_script.specs.Lines.{lines_of}
 use Rattle.run_script.specs.Laws.{SayOneThing}
-use Rattle.vol_found.specs.Having.{HaveFindings}
+use Rattle.vol_analyze.specs.Having.{HaveFindings}
 use Rattle.vol_analyze.specs.Judging.{IsFirstFound}
 use Rattle.vol_init.specs.declared.fault.InitFault.{InitFault}
 use Rattle.vol_init.specs.Refusals.{refusal}

@@ -106,13 +106,14 @@ use Rattle.core_state.proofs.SmallWorlds.{small_answered}
 use Rattle.core_state.proofs.Keeping.{rebuilt, held_set, LosesNothing, kept_once}
 use Rattle.core_state.proofs.Standing.{calm, all_taken, none_taken, back_taken}
 use Rattle.core_state.proofs.Turning.{take_none, under_command, here, space_now, writes_more}
+use Rattle.node_locks.proofs.Standing.{goes-then, goes-same}
 
 -- ---- locks that go back
 
 -- they go back by their names
-given_names : (g : Geometry) (n : ℕ) (ws : List PlanWrite) (ls : Row) (t : List Resource) → all_given n (λ name u. raised_block (raise_of g name ws) (resource_at name u)) (names_of ls) t ≡ given_back g n ws ls t
+given_names : (g : Geometry) (n : ℕ) (ws : List PlanWrite) (ls : Row) (t : List Resource) → all_given n (λ name u. raised_block name (raise_of g name ws) (resource_at name u)) (names_of ls) t ≡ given_back g n ws ls t
 given_names g n ws [] t = refl
-given_names g n ws (l ∷ ls) t = given_names g n ws ls (released l.0 (system_of n) (raised_block (raise_of g l.0 ws) (resource_at l.0 t)) t)
+given_names g n ws (l ∷ ls) t = given_names g n ws ls (released l.0 (system_of n) (raised_block l.0 (raise_of g l.0 ws) (resource_at l.0 t)) t)
 
 -- ---- small steps
 
@@ -145,7 +146,7 @@ pub record ClosesOff (t after : List Resource) (rows : ℕ → List Row) : Type 
 
 -- as where nothing changes
 all_stay : (t : List Resource) (rows : ℕ → List Row) → IsTable t → AreHeld t rows → ClosesOff t t rows
-all_stay t rows table held = record { table = table; goes_on = record { held = held; goes_on = λ m xs i. record { waits = λ e. e; holds = λ l h. h } } }
+all_stay t rows table held = record { table = table; goes_on = record { held = held; goes_on = λ m xs i. goes-same t m xs } }
 
 no_system : (chan : ℕ) → is_eighth chan ≡ true → chan ≢ 0
 no_system chan e f = let low = (channel_from chan e).0 in absurd (omega arith)
@@ -369,7 +370,7 @@ module _ (w : Plain) (good : Good w) (n : ℕ) (s : NodeState) (at : node_at w.n
   values = raised_values w.geometry (all_writes s)
 
   abbrev raises : LockName → List Resource → List ℕ
-  raises name u = raised_block (raise_of w.geometry name (all_writes s)) (resource_at name u)
+  raises name u = raised_block name (raise_of w.geometry name (all_writes s)) (resource_at name u)
 
   given : AreLetGo w.locks n (kept_then s) (rows_at w.nodes) mid
   given = subst (AreLetGo w.locks n (kept_then s) (rows_at w.nodes)) (given_names w.geometry n (all_writes s) (going s) (all_back n (keeps s.cache) values (used_locks s) w.locks))
@@ -395,7 +396,7 @@ module _ (w : Plain) (good : Good w) (n : ℕ) (s : NodeState) (at : node_at w.n
   others_go m q ne e ls i =
       let first = given.others m ls ne (subst (λ (rs : List Row). Has rs ls) (sym (ap rows_in e)) i) in
       let second = let_off.goes_on.goes_on m ls (subst (λ (rs : List Row). Has rs ls) (sym (others_rows m ne ∙ ap rows_in e)) i) in
-      record { waits = λ f. second.waits (first.waits f); holds = λ l h. second.holds l (first.holds l h) }
+      goes-then w.locks mid after m ls first second
 
   rests_then : waits_at after n (kept_then s) ≡ false
   rests_then =
@@ -516,7 +517,7 @@ module _ (w : Plain) (good : Good w) (n : ℕ) (s : NodeState) (at : node_at w.n
         replayed = replays_grow w.opening w.script w.history good.running.cat entry cat_then good.running.replayed answered.answer;
         base = committed;
         own = new;
-        cached = cached_then w good n s at free granted x r (w.history ++ entry ∷ []) all_made let_off.table held_then others_go cat_then new ws in_hold guarded;
+        cached = cached_then w good n s at free granted x r (w.history ++ entry ∷ []) all_made let_off.table held_then rests_then others_go cat_then new ws in_hold guarded;
         drive = under_grown w.geometry cat_then committed new w.locks after w.nodes n s rested w.blocks at
             (λ m q k ne e h. rows_go_on w.locks after m (rows_of q) k (others_go m q ne e) h) under_then;
         accounted = subst (λ (o : Outcome). Accounted o.after) answered.answer.2 (accounts_kept good.running.cat n x answered.answer.0 good.running.accounted answered.answer.1);
@@ -536,7 +537,7 @@ module _ (w : Plain) (good : Good w) (n : ℕ) (s : NodeState) (at : node_at w.n
       few_then
       (λ m ne. past_of_others m w.history entry (not_of n m x r ne))
       others_go stocked_then
-      (writes_then w good n s at free granted x r (w.history ++ entry ∷ []) all_made let_off.table held_then others_go)
+      (writes_then w good n s at free granted x r (w.history ++ entry ∷ []) all_made let_off.table held_then rests_then others_go)
       (record {
         past = sym grows;
         geometry = mine.geometry;

@@ -5,12 +5,11 @@ use Rattle.lock_db.specs.declared.name.LockName.{LockName}
 use Rattle.lock_db.specs.Tables.{resource_at}
 use Rattle.plain_cat.specs.declared.cat.Cat.{Cat}
 use Rattle.vol_spell.specs.Owners.{Owners}
-use Rattle.node_locks.specs.Held.{joined, names_of}
+use Rattle.node_locks.specs.Held.{system_of, has_lock}
 use Rattle.node_locks.specs.Sequences.{rise}
 use Rattle.node_cache.specs.Cached.{Cached}
-use Rattle.base_words.specs.Lists.{Has}
 use Rattle.base_words.proofs.Listing.{same_or_not}
-use Rattle.core_state.specs.Worlds.{NodeState, Plain, node_at, rows_of}
+use Rattle.core_state.specs.Worlds.{NodeState, Plain, node_at}
 use Rattle.core_state.specs.Stores.{hold_writes, part_raise, rise_now, IsWriter, HasWritten, IsUnwritten, IsTrue, now_of, IsCurrent, IsAhead, IsCachedAt}
 
 -- ---- rises
@@ -61,6 +60,7 @@ pub record IsEventOf (w v : Plain) (n : ℕ) (s r : NodeState) : Type 0 where
   pub geometry : v.geometry ≡ w.geometry
   -- the other nodes hold what they held
   pub holders : (m : ℕ) (q : NodeState) (name : LockName) → m ≢ n → node_at w.nodes m ≡ Some q → IsWriter w m q name → IsWriter v m q name
+  pub lasting : (m : ℕ) (q : NodeState) (name : LockName) → m ≢ n → node_at w.nodes m ≡ Some q → has_lock name (system_of m) w.locks ≡ true → has_lock name (system_of m) v.locks ≡ true
   -- who holds a lock in PW is the only one to do so
   pub sole : (m : ℕ) (q : NodeState) (name : LockName) → node_at w.nodes m ≡ Some q → IsWriter w n s name → IsWriter w m q name → m ≡ n
   pub sole_then : (m : ℕ) (q : NodeState) (name : LockName) → node_at v.nodes m ≡ Some q → IsWriter v n r name → IsWriter v m q name → m ≡ n
@@ -136,7 +136,7 @@ module _ (w v : Plain) (n : ℕ) (s r : NodeState) (ev : IsEventOf w v n s r) (e
     other_stays goes = by_goes goes where
       stays : now_of v e ≡ now_of w e → valid_at v e ≡ valid_at w e → written_by w s e ≤ written_by v r e → IsCachedAt v other d m q e
       stays same mark more = record {
-        held = old.held;
+        held = ev.lasting m q e.lock ne there old.held;
         near = elim old.near [
           | inl le ↦ inl (subst (λ k. e.seq ≤ k) (sym same) le)
           | inr a ↦ inr (record {
@@ -155,7 +155,7 @@ module _ (w v : Plain) (n : ℕ) (s r : NodeState) (ev : IsEventOf w v n s r) (e
 
       lowered : IsWriter w n s e.lock → now_of v e ≡ now_of w e + rise_now w s e.lock e.lbn → written_by v r e ≡ 0 → IsCachedAt v other d m q e
       lowered writer higher none = record {
-        held = old.held;
+        held = ev.lasting m q e.lock ne there old.held;
         near = inl (let le = low writer in omega (arith, le, higher));
         now = λ is un.
             let le = low writer in
@@ -173,7 +173,7 @@ module _ (w v : Plain) (n : ℕ) (s r : NodeState) (ev : IsEventOf w v n s r) (e
     -- where it is dead that held the lock in PW, nothing is current
     pub other_spoiled : Spoils w v n s e → IsCachedAt v other d m q e
     other_spoiled h = record {
-      held = old.held;
+      held = ev.lasting m q e.lock ne there old.held;
       near = inl (let le = low h.writer in subst (λ k. e.seq ≤ k) (sym h.same) le);
       now = λ is un. absurd (let f : true ≡ false = sym is.valid ∙ h.mark in cc);
       ahead = λ a. absurd (let le = low h.writer in let f : e.seq ≡ now_of v e + 1 = a.seq in omega (arith, f, le, h.same));
@@ -181,7 +181,7 @@ module _ (w v : Plain) (n : ℕ) (s r : NodeState) (ev : IsEventOf w v n s r) (e
 
   -- ---- an entry of node n itself, which it has had before
 
-  module _ (own other : Owners) (c d : Cat) (old : IsCachedAt w own c n s e) (held : Has (names_of (joined (rows_of r))) e.lock)
+  module _ (own other : Owners) (c d : Cat) (old : IsCachedAt w own c n s e) (held : has_lock e.lock (system_of n) v.locks ≡ true)
       (truth : IsCurrent w e ⊎ IsAhead w n s e → (1 ≤ written_by v r e) ⊎ (written_by w s e ≤ 1) → IsTrue w own c e → IsTrue v other d e) where
     pub own_stays : Goes w v n s r e → IsCachedAt v other d n r e
     own_stays goes = by_goes goes where

@@ -20,7 +20,7 @@ use Rattle.base_words.specs.Lists.{Has, Once}
 use Rattle.base_words.proofs.Listing.{has_parted}
 use Rattle.node_locks.specs.Held.{Row, system_of, joined, names_of, HoldsItsLocks, waits_at}
 use Rattle.node_locks.specs.PuttingBack.{Values, all_back, MayPutBack}
-use Rattle.node_locks.specs.Sequences.{raised_block}
+use Rattle.node_locks.specs.Sequences.{raised_block, guards_blocks}
 use Rattle.node_locks.proofs.Keeping.{may_change}
 use Rattle.node_locks.proofs.Nodes.{has_name_or_not}
 use Rattle.op_law.specs.declared.seen.Chan.{Chan}
@@ -28,7 +28,7 @@ use Rattle.core_state.specs.Worlds.{NodeState, Plain, node_at, rows_of, rows_in}
 use Rattle.core_state.specs.Raises.{raise_of}
 use Rattle.core_state.specs.Channels.{let_go, closed_off}
 use Rattle.core_state.specs.Caches.{has_entry, keeps, raised_values}
-use Rattle.core_state.specs.Stores.{guards_blocks, IsWriter}
+use Rattle.core_state.specs.Stores.{IsWriter}
 use Rattle.core_state.specs.Goods.{held_by, Good}
 use Rattle.core_state.specs.Events.{all_writes, stays, going, used_locks, all_put_back}
 use Rattle.core_state.proofs.Holding.{in_held_is, is_in_held, named_there}
@@ -178,8 +178,8 @@ module _ (w : Plain) (good : Good w) (n : ℕ) (s : NodeState) (at : node_at w.n
       same : resource_at name last ≡ resource_at name mid
       same = gone_leaves name (λ a. gone_apart name a (named_there used name mode h))
 
-      by_mode : (b : Bool) → is_writing mode ≡ b → MatchBool b (BlockIs (raised_block (raise_of w.geometry name (all_writes s)) (resource_at name w.locks)) true (resource_at name mid)) (BlockStays (resource_at name w.locks) (resource_at name mid)) → Goes last
-      by_mode true e is = Raised (used_writer name mode h e) (subst (BlockIs (raised_block (raise_of w.geometry name (all_writes s)) (resource_at name w.locks)) true) (sym same) is)
+      by_mode : (b : Bool) → is_writing mode ≡ b → MatchBool b (BlockIs (raised_block name (raise_of w.geometry name (all_writes s)) (resource_at name w.locks)) true (resource_at name mid)) (BlockStays (resource_at name w.locks) (resource_at name mid)) → Goes last
+      by_mode true e is = Raised (used_writer name mode h e) (subst (BlockIs (raised_block name (raise_of w.geometry name (all_writes s)) (resource_at name w.locks)) true) (sym same) is)
       by_mode false e stay = Unraised (used_reader name mode guards h e) (subst (BlockStays (resource_at name w.locks)) (sym same) stay)
 
     -- one that was not

@@ -32,7 +32,7 @@ use Rattle.vol_spell.specs.Owners.{Owners}
 use Rattle.base_words.proofs.Listing.{same_or_not}
 use Rattle.vol_under.specs.UnderWay.{AreSole}
 use Rattle.node_locks.specs.Held.{Row, system_of, joined, names_of, HoldsItsLocks, AreHeld, all_held}
-use Rattle.node_locks.specs.Sequences.{first_sequence, second_sequence}
+use Rattle.node_locks.specs.Sequences.{first_sequence, second_sequence, guards_blocks}
 use Rattle.node_locks.proofs.Keeping.{held_are_granted, holders_hold, rows_go_on}
 use Rattle.node_cache.specs.Cached.{Cached}
 use Rattle.op_law.specs.declared.need.PlanWrite.{PlanWrite}
@@ -40,7 +40,7 @@ use Rattle.op_law.specs.Laws.{held_in}
 use Rattle.core_state.specs.Worlds.{NodeState, Plain, node_at, set_node, rows_of, rows_in, rows_at}
 use Rattle.core_state.specs.Opens.{open_stands, open_now, AreOpensLocked}
 use Rattle.core_state.specs.Raises.{is_first_part}
-use Rattle.core_state.specs.Stores.{guards_blocks, hold_writes, IsWriter, IsTrue, now_of, AreCached, AreHeldWrites}
+use Rattle.core_state.specs.Stores.{hold_writes, IsWriter, IsTrue, now_of, AreCached, AreHeldWrites}
 use Rattle.core_state.specs.Goods.{held_by, nodes_under, Good}
 use Rattle.core_state.specs.Deaths.{gone}
 use Rattle.core_state.proofs.Nodes.{at_here, at_else}
@@ -56,6 +56,7 @@ use Rattle.core_state.proofs.CachedOthers.{rows_stand}
 use Rattle.core_state.proofs.CachedBacks.{writes_pw, pw_writes}
 use Rattle.base_words.proofs.Booleans.{nat_same}
 use Rattle.plain_rules.proofs.Ordered.{or_right}
+use Rattle.core_state.proofs.Lasting.{lock_named, goes_lasting}
 
 -- a file system that has a lock in PW or EX is a writer of its node
 system_writes : (n : ℕ) (xs : List Asker) (mode : Mode) → standing_of (system_of n) xs ≡ Some (Granted mode) → is_writing mode ≡ true → list_any (is_writer_of n) xs ≡ true
@@ -221,6 +222,7 @@ module _ (w : Plain) (good : Good w) (n : ℕ) (s : NodeState) (at : node_at w.n
     others = λ m ne. at_else w.nodes n m r ne;
     geometry = refl;
     holders = λ m q name ne there k. writer_on m q name ne there k;
+    lasting = λ m q name ne there k. goes_lasting w.locks after m q name (holds_of m q there) (goes_on m q ne there) k;
     sole = λ m q name there a b. sole_writer w sole good.writers n m s q name at there a b;
     sole_then = λ m q name there a b. sole_writer v sole_then death_writes n m r q name (at_here w.nodes n r s at) there a b;
     held_writes = raised_writer;
@@ -230,7 +232,7 @@ module _ (w : Plain) (good : Good w) (n : ℕ) (s : NodeState) (at : node_at w.n
   death_goes : (m : ℕ) (q : NodeState) (e : Cached) → m ≢ n → node_at w.nodes m ≡ Some q → Has q.cache e → Goes w v n s r e ⊎ Spoils w v n s e
   death_goes m q e ne there has = by_mark (list_any (is_writer_of n) (resource_at e.lock w.locks).askers) refl where
     is : BlockIs (resource_at e.lock w.locks).value ((resource_at e.lock w.locks).valid && not (list_any (is_writer_of n) (resource_at e.lock w.locks).askers)) (resource_at e.lock after)
-    is = death_block w.locks n m (rows_of q) e.lock ne good.locked.0 (holds_of m q there) (good.running.cached m q e there has).held
+    is = death_block w.locks n m (rows_of q) e.lock ne good.locked.0 (holds_of m q there) (lock_named w.locks m (rows_of q) e.lock (holds_of m q there) (good.running.cached m q e there has).held)
 
     same : now_of v e ≡ now_of w e
     same = ap (λ (bytes : List ℕ). cond (is_first_part w.geometry e.lock e.lbn) (first_sequence bytes) (second_sequence bytes)) is.bytes_are

@@ -8,11 +8,11 @@ use Rattle.plain_cat.specs.declared.cat.Cat.{Cat}
 use Rattle.base_words.specs.Lists.{Has}
 use Rattle.vol_spell.specs.Owners.{Owners}
 use Rattle.base_words.proofs.Listing.{same_or_not}
-use Rattle.node_locks.specs.Held.{joined, names_of}
+use Rattle.node_locks.specs.Held.{system_of, has_lock}
 use Rattle.node_locks.specs.Sequences.{rise}
 use Rattle.node_cache.specs.Cached.{Cached, cached, is_for, is_of, found, moved_to_front, used, kept, replaced}
 use Rattle.op_law.specs.declared.need.PlanWrite.{PlanWrite}
-use Rattle.core_state.specs.Worlds.{NodeState, Plain, node_at, rows_of}
+use Rattle.core_state.specs.Worlds.{NodeState, Plain, node_at}
 use Rattle.core_state.specs.Caches.{sequence_now, next_sequence, least_sequence}
 use Rattle.core_state.specs.Stores.{hold_writes, part_raise, IsWriter, IsUnwritten, IsTrue, now_of, IsCachedAt, AreCached}
 use Rattle.core_state.proofs.Cached.{same_state, rises_written, written_by, valid_at, Goes, Spoils, IsEventOf, other_stays, other_spoiled}
@@ -102,7 +102,7 @@ module _ (w : Plain) (own : Owners) (c : Cat) (n : ℕ) (s : NodeState) (name : 
   now = sequence_now w.geometry w.locks name lbn
 
   -- under a valid value block
-  pub kept_valid : (resource_at name w.locks).valid ≡ true → Has (names_of (joined (rows_of s))) name → IsTrue w own c (cached lbn name now b) → IsCachedAt w own c n s (cached lbn name now b)
+  pub kept_valid : (resource_at name w.locks).valid ≡ true → has_lock name (system_of n) w.locks ≡ true → IsTrue w own c (cached lbn name now b) → IsCachedAt w own c n s (cached lbn name now b)
   kept_valid valid held true_it = record {
     held = held;
     near = inl (omega arith);
@@ -111,7 +111,7 @@ module _ (w : Plain) (own : Owners) (c : Cat) (n : ℕ) (s : NodeState) (name : 
   }
 
   -- and under one that is not valid, by who holds the lock in PW
-  pub kept_ahead : (resource_at name w.locks).valid ≡ false → IsWriter w n s name → next_sequence now ≡ now + 1 → Has (names_of (joined (rows_of s))) name → IsTrue w own c (cached lbn name (next_sequence now) b)
+  pub kept_ahead : (resource_at name w.locks).valid ≡ false → IsWriter w n s name → next_sequence now ≡ now + 1 → has_lock name (system_of n) w.locks ≡ true → IsTrue w own c (cached lbn name (next_sequence now) b)
       → IsCachedAt w own c n s (cached lbn name (next_sequence now) b)
   kept_ahead spoiled writer higher held true_it = record {
     held = held;
@@ -126,7 +126,7 @@ module _ (w : Plain) (own : Owners) (c : Cat) (n : ℕ) (s : NodeState) (v : Pla
   abbrev at : ℕ
   at = sequence_now w.geometry w.locks v.lock v.lbn
 
-  pub written_anew : IsWriter w n s v.lock → 1 ≤ part_raise w.geometry v.lock v.lbn (hold_writes s) → next_sequence at ≡ at + 1 → Has (names_of (joined (rows_of s))) v.lock
+  pub written_anew : IsWriter w n s v.lock → 1 ≤ part_raise w.geometry v.lock v.lbn (hold_writes s) → next_sequence at ≡ at + 1 → has_lock v.lock (system_of n) w.locks ≡ true
       → IsTrue w own c (cached v.lbn v.lock (next_sequence at) v.block) → IsCachedAt w own c n s (cached v.lbn v.lock (next_sequence at) v.block)
   written_anew writer some higher held true_it = record {
     held = held;

@@ -7,7 +7,7 @@ use Rattle.base_words.specs.Lists.{Has}
 use Rattle.vol_spell.specs.Owners.{Owners}
 use Rattle.base_words.proofs.Listing.{same_or_not}
 use Rattle.vol_under.specs.UnderWay.{AreSole}
-use Rattle.node_locks.specs.Held.{Row, joined, names_of, all_held}
+use Rattle.node_locks.specs.Held.{Row, all_held}
 use Rattle.node_cache.specs.Cached.{Cached}
 use Rattle.op_law.specs.declared.need.PlanWrite.{PlanWrite}
 use Rattle.op_law.specs.Laws.{held_in}
@@ -51,6 +51,7 @@ module _ (w : Plain) (sole : AreSole (nodes_under w.locks w.nodes)) (writes : Ar
     others = λ m ne. at_else w.nodes n m r ne;
     geometry = refl;
     holders = λ m q name ne there h. h;
+    lasting = λ m q name ne there h. h;
     sole = λ m q name there a b. sole_writer w sole writes n m s q name at there a b;
     sole_then = sole_then;
     held_writes = raised_writer;
@@ -66,7 +67,7 @@ module _ (w : Plain) (sole : AreSole (nodes_under w.locks w.nodes)) (writes : Ar
 
   -- an entry that the node has had
   pub quiet_mine : (own : Owners) (c : Cat) (e : Cached) → IsCachedAt w own c n s e → IsCachedAt v own c n r e
-  quiet_mine own c e old = own_stays w v n s r quiet_event e own own c c old (subst (λ (rs : List Row). Has (names_of (joined rs)) e.lock) (sym rows) old.held) (λ is few t. quiet_truth own c e t) (quiet_goes e)
+  quiet_mine own c e old = own_stays w v n s r quiet_event e own own c c old old.held (λ is few t. quiet_truth own c e t) (quiet_goes e)
 
   -- where all entries of the node are ones that it has had, or are in order
   pub quiet_cached : (own : Owners) (c : Cat) → AreCached w own c → ((e : Cached) → Has r.cache e → Has s.cache e ⊎ IsCachedAt v own c n r e) → AreCached v own c

@@ -20,12 +20,13 @@ use Rattle.vol_spell.specs.Reading.{owner_at}
 use Rattle.vol_under.specs.Guards.{Guard, Lock, Stock, guard_by, guard_of}
 use Rattle.node_cache.specs.Cached.{Cached, cached, IsCache, is_since, used, kept, replaced}
 use Rattle.node_cache.proofs.Entries.{cache-kept, cache-used, cache-replaced}
-use Rattle.node_locks.specs.Held.{joined, names_of, HoldsItsLocks, without}
+use Rattle.node_locks.specs.Held.{system_of, has_lock, HoldsItsLocks, without}
 use Rattle.op_law.specs.declared.need.PlanWrite.{PlanWrite}
 use Rattle.core_space.specs.declared.run.Phase.{Phase}
 use Rattle.core_state.specs.Worlds.{NodeState, Plain, rows_of}
 use Rattle.core_state.specs.Caches.{sequence_now, next_sequence, kept_sequence, kept_with, kept_by_look, writes_at, least_sequence, rewritten}
-use Rattle.core_state.specs.Stores.{guards_blocks, AreKept, HasStore, IsTrue, IsCachedAt}
+use Rattle.node_locks.specs.Sequences.{guards_blocks}
+use Rattle.core_state.specs.Stores.{AreKept, HasStore, IsTrue, IsCachedAt}
 use Rattle.core_state.proofs.CachedEvents.{has_kept, has_used, has_replaced, kept_valid, kept_ahead}
 use Rattle.core_state.proofs.CachedHolders.{holds_to_write}
 use Rattle.core_state.proofs.Naming.{from_without}
@@ -93,7 +94,7 @@ module _ (w : Plain) (n : ℕ) (name : LockName) (lbn : ℕ) (b : Block) where
 
   -- the block that was read is true, where it is the drive's
   module _ (r : NodeState) (own : Owners) (c : Cat) (table : IsTable w.locks) (holds : HoldsItsLocks w.locks n (rows_of r)) (higher : next_sequence (sequence_now w.geometry w.locks name lbn) ≡ sequence_now w.geometry w.locks name lbn + 1)
-      (held : Has (names_of (joined (rows_of r))) name) (true_it : (seq : ℕ) → IsTrue w own c (cached lbn name seq b)) where
+      (held : has_lock name (system_of n) w.locks ≡ true) (true_it : (seq : ℕ) → IsTrue w own c (cached lbn name seq b)) where
     read_entry : (valid writes : Bool) → (resource_at name w.locks).valid ≡ valid → writes_at n (resource_at name w.locks) ≡ writes → (seq : ℕ) → kept_sequence valid writes (sequence_now w.geometry w.locks name lbn) ≡ Some seq
         → IsCachedAt w own c n r (cached lbn name seq b)
     read_entry true writes mark writer seq e = subst (λ (k : ℕ). IsCachedAt w own c n r (cached lbn name k b)) (number_is (sequence_now w.geometry w.locks name lbn) seq e) (kept_valid w own c n r name lbn b mark held (true_it (sequence_now w.geometry w.locks name lbn))) where

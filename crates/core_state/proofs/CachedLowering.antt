@@ -17,20 +17,20 @@ use Rattle.base_words.specs.Lists.{Has}
 use Rattle.vol_spell.specs.Owners.{Owners}
 use Rattle.base_words.proofs.Listing.{same_or_not, has_parted, has_first, has_second}
 use Rattle.vol_under.specs.UnderWay.{AreSole}
-use Rattle.node_locks.specs.Held.{Row, joined, names_of, without}
-use Rattle.node_locks.specs.Sequences.{raised_block}
+use Rattle.node_locks.specs.Held.{system_of, has_lock, Row, names_of, without}
+use Rattle.node_locks.specs.Sequences.{raised_block, guards_blocks}
 use Rattle.node_locks.specs.declared.sequences.Raise.{Raise}
 use Rattle.node_cache.specs.Cached.{Cached}
 use Rattle.op_law.specs.declared.need.PlanWrite.{PlanWrite}
 use Rattle.op_law.specs.Laws.{held_in, takes_lock}
 use Rattle.core_space.specs.declared.run.Phase.{Phase}
-use Rattle.core_state.specs.Worlds.{NodeState, Plain, node_at, set_node, rows_of}
+use Rattle.core_state.specs.Worlds.{NodeState, Plain, node_at, set_node}
 use Rattle.core_state.specs.Asks.{writes_now}
 use Rattle.core_state.specs.Raises.{raise_of}
 use Rattle.core_state.specs.Caches.{part_sequence}
 use Rattle.core_state.specs.Searches.{AreUnderV}
 use Rattle.core_state.specs.Small.{AllGoOn}
-use Rattle.core_state.specs.Stores.{guards_blocks, AreKept, HasStore, hold_writes, part_raise, IsWriter, AreCached, AreHeldWrites}
+use Rattle.core_state.specs.Stores.{AreKept, HasStore, hold_writes, part_raise, IsWriter, AreCached, AreHeldWrites}
 use Rattle.core_state.specs.Goods.{held_by, nodes_under, HasCommand, Good}
 use Rattle.core_state.proofs.Nodes.{at_here, at_else}
 use Rattle.core_state.proofs.Holding.{held_grows, held_named}
@@ -104,11 +104,12 @@ pub record IsLoweredTo (w : Plain) (n : ℕ) (s r : NodeState) (t : List Resourc
   pub apart : (x : PlanWrite) → Has (take s.done (writes_now s.tried s.plan)) x → IsApart x
   pub left : hold_writes r ≡ take s.done (writes_now s.tried s.plan)
   pub writer : IsWriter w n s V
-  pub block : BlockIs (raised_block (raise_of w.geometry V s.run.writes) (resource_at V w.locks)) true (resource_at V t)
+  pub block : BlockIs (raised_block V (raise_of w.geometry V s.run.writes) (resource_at V w.locks)) true (resource_at V t)
   pub elsewhere : (name : LockName) → name ≢ V → name ≢ X → resource_at name t ≡ resource_at name w.locks
   pub holds : (name : LockName) → name ≢ V → name ≢ X → IsWriter w n s name → Has (held_in PW (held_by t n r)) name
   pub others : (m : ℕ) (q : NodeState) (l : LockName × Mode) → m ≢ n → node_at w.nodes m ≡ Some q → Has (held_by w.locks m q) l → Has (held_by t m q) l
-  pub named : (name : LockName) → name ≢ X → Has (names_of (joined (rows_of s))) name → Has (names_of (joined (rows_of r))) name
+  pub lasting : (name : LockName) → name ≢ X → has_lock name (system_of n) w.locks ≡ true → has_lock name (system_of n) t ≡ true
+  pub others_lasting : (m : ℕ) (q : NodeState) (name : LockName) → m ≢ n → node_at w.nodes m ≡ Some q → has_lock name (system_of m) w.locks ≡ true → has_lock name (system_of m) t ≡ true
   pub cache : r.cache ≡ s.cache
 
 module _ (w : Plain) (sole : AreSole (nodes_under w.locks w.nodes)) (writes : AreHeldWrites w) (n : ℕ) (s r : NodeState) (t : List Resource) (is : IsLoweredTo w n s r t) where
@@ -148,6 +149,7 @@ module _ (w : Plain) (sole : AreSole (nodes_under w.locks w.nodes)) (writes : Ar
       others = λ m ne. at_else w.nodes n m r ne;
       geometry = refl;
       holders = λ m q name ne there h. other_on m q name ne there h;
+      lasting = λ m q name ne there h. is.others_lasting m q name ne there h;
       sole = λ m q name there a b. sole_writer w sole writes n m s q name is.at there a b;
       sole_then = λ m q name there a b. sole_writer v sole_then lowered_writes n m r q name (at_here w.nodes n r s is.at) there a b;
       held_writes = raised_writer;
@@ -163,13 +165,13 @@ module _ (w : Plain) (sole : AreSole (nodes_under w.locks w.nodes)) (writes : Ar
         ])
         (λ x h lock. has_first by_rules by_command x (subst (λ (ws : List PlanWrite). Has ws x) (sym is.made) h))
 
-    block_v : BlockIs (raised_block (raise_of w.geometry V (hold_writes s)) (resource_at V w.locks)) true (resource_at V t)
-    block_v = subst (λ (k : Raise). BlockIs (raised_block k (resource_at V w.locks)) true (resource_at V t)) (sym raise_v) is.block
+    block_v : BlockIs (raised_block V (raise_of w.geometry V (hold_writes s)) (resource_at V w.locks)) true (resource_at V t)
+    block_v = subst (λ (k : Raise). BlockIs (raised_block V k (resource_at V w.locks)) true (resource_at V t)) (sym raise_v) is.block
 
     on_v : (e : Cached) → e.lock ≡ V → Goes w v n s r e
-    on_v e lock = back_goes w n s r t w.blocks (set_node w.nodes n r) w.history e (go.first e.lock) (go.second e.lock) (raise_little _ _) (raise_little _ _) (raised_writer e)
+    on_v e lock = back_goes w n s r t w.blocks (set_node w.nodes n r) w.history e (go.first e.lock) (go.second e.lock) (raise_little _ _) (raise_little _ _) (raised_writer e) (ap guards_blocks lock)
         (none_under w e.lock e.lbn (hold_writes r) (λ x h under. (is.apart x (subst (λ (ws : List PlanWrite). Has ws x) is.left h)).not_v (under ∙ lock)))
-        (Raised (subst (IsWriter w n s) (sym lock) is.writer) (subst (λ (k : LockName). BlockIs (raised_block (raise_of w.geometry k (hold_writes s)) (resource_at k w.locks)) true (resource_at k t)) (sym lock) block_v))
+        (Raised (subst (IsWriter w n s) (sym lock) is.writer) (subst (λ (k : LockName). BlockIs (raised_block k (raise_of w.geometry k (hold_writes s)) (resource_at k w.locks)) true (resource_at k t)) (sym lock) block_v))
 
     -- under another lock it has written what its command has
     elsewhere : (e : Cached) → e.lock ≢ V → e.lock ≢ X → Goes w v n s r e
@@ -196,4 +198,4 @@ module _ (w : Plain) (sole : AreSole (nodes_under w.locks w.nodes)) (writes : Ar
         (λ e has.
         let there : Has s.cache e = subst (λ (es : List Cached). Has es e) is.cache has in
         let guards = guarding n s e is.at there in
-        own_stays w v n s r lowered_event e own own c c (all n s e is.at there) (is.named e.lock (no_x_guards e guards) (all n s e is.at there).held) (λ either few x. record { block = x.block; guard = x.guard; kind = x.kind }) (lowered_goes e guards))
+        own_stays w v n s r lowered_event e own own c c (all n s e is.at there) (is.lasting e.lock (no_x_guards e guards) (all n s e is.at there).held) (λ either few x. record { block = x.block; guard = x.guard; kind = x.kind }) (lowered_goes e guards))

@@ -1,5 +1,5 @@
 -- The next write of a plan is under a lock that its node holds in PW, and that guards blocks.
-use Rattle.std.proofs.Common.{◌≡◌, ◌<◌, ◌&&◌, ℕ, Bool, true, false, not, List, Option, Some, None, length, map, slice_get, refl, sym, ap, subst}
+use Rattle.std.proofs.Common.{◌≡◌, ◌<◌, ℕ, Bool, true, false, not, List, Option, Some, None, length, map, slice_get, refl, sym, ap, subst}
 use Rattle.lock_db.specs.declared.name.LockName.{LockName}
 use Rattle.lock_db.specs.declared.name.LockName.TheVariants.{S, A, Q, X, V}
 use Rattle.plain_cat.specs.declared.mode.Mode.TheVariants.{PW}
@@ -26,7 +26,7 @@ use Rattle.op_law.specs.declared.need.Ask.{Ask}
 use Rattle.op_law.specs.Knows.{knows, is_granted}
 use Rattle.op_law.specs.Laws.{held_in, planned, takes_lock, IsNamed, IsPlan}
 use Rattle.core_state.specs.Worlds.{NodeState, Plain, node_at}
-use Rattle.core_state.specs.Stores.{guards_blocks}
+use Rattle.node_locks.specs.Sequences.{guards_blocks}
 use Rattle.core_state.specs.Stocks.{stock_now}
 use Rattle.core_state.specs.Asks.{writes_by, writes_now}
 use Rattle.core_state.specs.Goods.{IsAtPlan, Good, held_by}

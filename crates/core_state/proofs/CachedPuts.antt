@@ -1,5 +1,5 @@
 -- The cached blocks of all nodes over a write.
-use Rattle.std.proofs.Common.{◌≡◌, ◌≢◌, ◌≤◌, ◌<◌, ◌+◌, ◌&&◌, ◌||◌, ◌==◌, ◌∙◌, ◌⊎◌, ℕ, Bool, true, false, cond, List, [], ◌∷◌, Some, length, slice_set, refl, sym, ap, subst, inl, inr, arith}
+use Rattle.std.proofs.Common.{◌≡◌, ◌≢◌, ◌≤◌, ◌<◌, ◌+◌, ◌||◌, ◌∙◌, ◌⊎◌, ℕ, Bool, true, false, cond, List, [], ◌∷◌, Some, length, slice_set, refl, sym, ap, subst, inl, inr, arith}
 use Rattle.std.specs.Prelude.{nat_le}
 use Rattle.std.specs.List.{list_any}
 use Rattle.lock_db.specs.declared.name.LockName.{LockName}
@@ -14,7 +14,7 @@ use Rattle.base_words.proofs.Listing.{same_or_not}
 use Rattle.base_words.proofs.ListWrites.{get-set_else, get-set_here}
 use Rattle.vol_under.specs.Guards.{Lock, Stock, guard_of}
 use Rattle.vol_under.specs.UnderWay.{AreSole}
-use Rattle.node_locks.specs.Held.{Row, joined, names_of, all_held}
+use Rattle.node_locks.specs.Held.{system_of, has_lock, Row, all_held}
 use Rattle.node_cache.specs.Cached.{Cached, cached, is_for, is_under, is_of, is_since, replaced}
 use Rattle.op_law.specs.declared.need.PlanWrite.{PlanWrite}
 use Rattle.op_law.specs.Laws.{held_in, IsCacheable}
@@ -100,6 +100,7 @@ module _ (w : Plain) (sole : AreSole (nodes_under w.locks w.nodes)) (writes : Ar
     others = λ m ne. at_else w.nodes n m r ne;
     geometry = refl;
     holders = λ m q name ne there h. h;
+    lasting = λ m q name ne there h. h;
     sole = λ m q name there a b. sole_writer w sole writes n m s q name is.at there a b;
     sole_then = sole_then;
     held_writes = λ e some. let k = raises_under w.geometry e.lock e.lbn (hold_writes s) some in subst (IsWriter w n s) k.2 (writes n s k.0 is.at k.1);
@@ -142,9 +143,6 @@ module _ (w : Plain) (sole : AreSole (nodes_under w.locks w.nodes)) (writes : Ar
   abbrev least : ℕ
   least = least_sequence (resource_at x.lock w.locks).valid now
 
-  held_on : (e : Cached) → IsCachedAt w own c n s e → Has (names_of (joined (rows_of r))) e.lock
-  held_on e old = subst (λ (rs : List Row). Has (names_of (joined rs)) e.lock) (sym is.rows) old.held
-
   -- no other node has written under the lock
   sole_here : (e : Cached) → e.lock ≡ x.lock → IsUnwritten w n e
   sole_here e lock = unwritten_read w sole writes n s e is.at (subst (Has (held_in PR (held_by w.locks n s))) (sym lock) (held_weaker PW PR (held_by w.locks n s) x.lock (omega arith) is.holds))
@@ -153,7 +151,7 @@ module _ (w : Plain) (sole : AreSole (nodes_under w.locks w.nodes)) (writes : Ar
   mine_stays : (all : AreCached w own c) (e : Cached) → Has s.cache e → (e.lbn ≡ x.lbn → e.lock ≡ x.lock → least ≤ e.seq → ⊥) → IsCachedAt v other d n r e
   mine_stays all e has old_one =
       let old = all n s e is.at has in
-      own_stays w v n s r put_event e own other c d old (held_on e old)
+      own_stays w v n s r put_event e own other c d old old.held
       (λ either few t. elim (same_or_not e.lbn x.lbn) [
         | inl lbn ↦ absurd (let lock = under_it e t lbn in old_one lbn lock (fresh e lbn lock either))
         | inr ne ↦ elsewhere e t ne
@@ -191,7 +189,7 @@ module _ (w : Plain) (sole : AreSole (nodes_under w.locks w.nodes)) (writes : Ar
       let t : IsTrue w own c e = since_is_true w own c n s e old (ap next_sequence now_is ∙ is.goes_on ∙ ap (λ j. j + 1) (sym now_is)) (sole_here e lock)
       (subst (λ (b : Bool). least_sequence b (now_of w e) ≤ e.seq) (sym mark_is) (subst (λ (j : ℕ). least_sequence (resource_at x.lock w.locks).valid j ≤ e.seq) (sym now_is) (is_at_most least e.seq parts.1))) in
       let place = stays e.lock e.lbn t.guard t.kind in
-      written_anew v other d n r x (writer_on x.lock is.holds) (write_raises w.geometry (hold_writes r) x is.made) is.goes_on (subst (Has (names_of (joined (rows_of r)))) lock (held_on e old)) (record {
+      written_anew v other d n r x (writer_on x.lock is.holds) (write_raises w.geometry (hold_writes r) x is.made) is.goes_on (subst (λ (k : LockName). has_lock k (system_of n) w.locks ≡ true) lock old.held) (record {
         block = get-set_here w.blocks x.lbn x.block is.within;
         guard = subst (λ (l : ℕ). guard_of w.geometry other l ≡ Some (Lock x.lock)) lbn (subst (λ (y : LockName). guard_of w.geometry other e.lbn ≡ Some (Lock y)) lock place.0);
         kind = subst (IsCacheable w.geometry other d) lbn place.1;

@@ -15,7 +15,7 @@ use Rattle.base_words.specs.Lists.{Has, Once}
 use Rattle.vol_parts.specs.declared.geometry.Geometry.{Geometry}
 use Rattle.node_locks.specs.Held.{Row, system_of, names_of}
 use Rattle.node_locks.specs.PuttingBack.{Keeps, Values, put_back, all_back, MayPutBack}
-use Rattle.node_locks.specs.Sequences.{HasSequences, rise, raised, first_sequence, second_sequence, raised_block}
+use Rattle.node_locks.specs.Sequences.{HasSequences, rise, raised, first_sequence, second_sequence, block_with, guards_blocks, raised_block}
 use Rattle.node_locks.proofs.ReadingBack.{sequences_read_back}
 use Rattle.op_law.specs.declared.need.PlanWrite.{PlanWrite}
 use Rattle.core_state.specs.Raises.{is_first_part, raise_of}
@@ -118,18 +118,24 @@ module _ (n : ℕ) (keeps : Keeps) (values : Values) (low : (l : LockName × Mod
 
 -- what the writes under a lock write goes by its resource alone
 pub by_its_resource : (g : Geometry) (ws : List PlanWrite) (l : LockName × Mode) (t u : List Resource) → resource_at l.0 u ≡ resource_at l.0 t → raised_values g ws l u ≡ raised_values g ws l t
-by_its_resource g ws l t u same = ap (λ r. raised_block (raise_of g l.0 ws) r) same
+by_its_resource g ws l t u same = ap (λ r. raised_block l.0 (raise_of g l.0 ws) r) same
 
 -- ---- the sequence of a part
 
 -- In a block that was raised by some writes the sequence of a part is higher by just so much, where it goes on.
-pub part_is_raised : (g : Geometry) (name : LockName) (lbn : ℕ) (ws : List PlanWrite) (old new : Resource) → GoesOn (first_sequence old.value) → GoesOn (second_sequence old.value) → BlockIs (raised_block (raise_of g name ws) old) true new
-    → (raise_of g name ws).first ≤ 2 → (raise_of g name ws).second ≤ 2 → part_sequence g name lbn new ≡ part_sequence g name lbn old + rise old.valid (part_raise g name lbn ws)
-part_is_raised g name lbn ws old new first second is few_first few_second = by_part (is_first_part g name lbn) where
-  both : HasSequences (raised old.valid (raise_of g name ws).first (first_sequence old.value)) (raised old.valid (raise_of g name ws).second (second_sequence old.value)) (raised_block (raise_of g name ws) old)
+pub part_is_raised : (g : Geometry) (name : LockName) (lbn : ℕ) (ws : List PlanWrite) (old new : Resource) → guards_blocks name ≡ true → GoesOn (first_sequence old.value) → GoesOn (second_sequence old.value)
+    → BlockIs (raised_block name (raise_of g name ws) old) true new → (raise_of g name ws).first ≤ 2 → (raise_of g name ws).second ≤ 2 → part_sequence g name lbn new ≡ part_sequence g name lbn old + rise old.valid (part_raise g name lbn ws)
+part_is_raised g name lbn ws old new guards first second is few_first few_second = by_part (is_first_part g name lbn) where
+  bytes : List ℕ
+  bytes = block_with (raised old.valid (raise_of g name ws).first (first_sequence old.value)) (raised old.valid (raise_of g name ws).second (second_sequence old.value))
+
+  now : new.value ≡ bytes
+  now = is.bytes_are ∙ ap (λ (b : Bool). cond b bytes old.value) guards
+
+  both : HasSequences (raised old.valid (raise_of g name ws).first (first_sequence old.value)) (raised old.valid (raise_of g name ws).second (second_sequence old.value)) bytes
   both = sequences_read_back (raised old.valid (raise_of g name ws).first (first_sequence old.value)) (raised old.valid (raise_of g name ws).second (second_sequence old.value))
       (raised_fits old.valid (raise_of g name ws).first (first_sequence old.value)) (raised_fits old.valid (raise_of g name ws).second (second_sequence old.value))
 
   by_part : (b : Bool) → cond b (first_sequence new.value) (second_sequence new.value) ≡ cond b (first_sequence old.value) (second_sequence old.value) + rise old.valid (cond b (raise_of g name ws).first (raise_of g name ws).second)
-  by_part true = ap first_sequence is.bytes_are ∙ both.first_is ∙ first old.valid (raise_of g name ws).first few_first
-  by_part false = ap second_sequence is.bytes_are ∙ both.second_is ∙ second old.valid (raise_of g name ws).second few_second
+  by_part true = ap first_sequence now ∙ both.first_is ∙ first old.valid (raise_of g name ws).first few_first
+  by_part false = ap second_sequence now ∙ both.second_is ∙ second old.valid (raise_of g name ws).second few_second

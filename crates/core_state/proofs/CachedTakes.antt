@@ -19,18 +19,18 @@ use Rattle.base_words.specs.Lists.{Has}
 use Rattle.vol_spell.specs.Owners.{Owners}
 use Rattle.base_words.proofs.Listing.{same_or_not}
 use Rattle.vol_under.specs.UnderWay.{AreSole}
-use Rattle.node_locks.specs.Held.{Row, system_of, joined, names_of}
-use Rattle.node_locks.specs.Taking.{has_lock, taken, MayTake}
+use Rattle.node_locks.specs.Held.{has_lock, Row, system_of}
+use Rattle.node_locks.specs.Taking.{taken, MayTake}
 use Rattle.node_cache.specs.Cached.{Cached}
 use Rattle.op_law.specs.declared.need.PlanWrite.{PlanWrite}
 use Rattle.op_law.specs.Laws.{held_in}
-use Rattle.core_state.specs.Worlds.{NodeState, Plain, node_at, set_node, rows_of}
+use Rattle.core_state.specs.Worlds.{NodeState, Plain, node_at, set_node}
 use Rattle.core_state.specs.Goods.{held_by, nodes_under, Good}
 use Rattle.core_state.specs.Small.{AllGoOn}
 use Rattle.core_state.specs.Raises.{is_first_part}
-use Rattle.node_locks.specs.Sequences.{first_sequence, second_sequence}
+use Rattle.node_locks.specs.Sequences.{first_sequence, second_sequence, guards_blocks}
 use Rattle.core_state.specs.Caches.{sequence_now, next_sequence}
-use Rattle.core_state.specs.Stores.{guards_blocks, hold_writes, part_raise, IsWriter, AreCached, AreHeldWrites}
+use Rattle.core_state.specs.Stores.{hold_writes, part_raise, IsWriter, AreCached, AreHeldWrites}
 use Rattle.core_state.proofs.Nodes.{at_here, at_else}
 use Rattle.core_state.proofs.Holding.{strong_grows}
 use Rattle.core_state.proofs.Naming.{same_name}
@@ -108,13 +108,14 @@ taken_elsewhere owner name other mode t ne = by_lock (has_lock name owner t) whe
 
 -- ---- the event
 
--- what a node loses of what it holds is none in CR or more, the others stand as they stood, and the value blocks of the locks of blocks stay
+-- what a node loses of what it holds is none in CR or more, the others stand as they stood, nobody loses a lock, and the value blocks of
+-- the locks of blocks stay
 pub record IsTakenIn (w : Plain) (n : ℕ) (s r : NodeState) (t : List Resource) : Type 0 where
   pub at : node_at w.nodes n ≡ Some s
   pub strong : (l : LockName × Mode) → rank CR ≤ rank l.1 → Has (held_by w.locks n s) l → Has (held_by t n r) l
   pub others : (m : ℕ) (q : NodeState) → m ≢ n → node_at w.nodes m ≡ Some q → held_by t m q ≡ held_by w.locks m q
   pub stays : (name : LockName) → guards_blocks name ≡ true → BlockStays (resource_at name w.locks) (resource_at name t)
-  pub named : (name : LockName) → Has (names_of (joined (rows_of s))) name → Has (names_of (joined (rows_of r))) name
+  pub lasting : (m : ℕ) (name : LockName) → has_lock name (system_of m) w.locks ≡ true → has_lock name (system_of m) t ≡ true
   pub same : hold_writes r ≡ hold_writes s
   pub cache : r.cache ≡ s.cache
 
@@ -154,6 +155,7 @@ module _ (w : Plain) (sole : AreSole (nodes_under w.locks w.nodes)) (writes : Ar
       others = λ m ne. at_else w.nodes n m r ne;
       geometry = refl;
       holders = λ m q name ne there h. other_on m q name ne there h;
+      lasting = λ m q name ne there h. is.lasting m name h;
       sole = λ m q name there a b. sole_writer w sole writes n m s q name is.at there a b;
       sole_then = λ m q name there a b. sole_writer v sole_then taken_writes n m r q name (at_here w.nodes n r s is.at) there a b;
       held_writes = raised_writer;
@@ -170,4 +172,4 @@ module _ (w : Plain) (sole : AreSole (nodes_under w.locks w.nodes)) (writes : Ar
         (λ m q e ne there has. record { goes = inl (taken_goes e (guarding m q e there has)); truth = λ none none_then x. record { block = x.block; guard = x.guard; kind = x.kind } })
         (λ e has.
         let there : Has s.cache e = subst (λ (es : List Cached). Has es e) is.cache has in
-        own_stays w v n s r taken_event e own own c c (all n s e is.at there) (is.named e.lock (all n s e is.at there).held) (λ either few x. record { block = x.block; guard = x.guard; kind = x.kind }) (taken_goes e (guarding n s e is.at there)))
+        own_stays w v n s r taken_event e own own c c (all n s e is.at there) (is.lasting n e.lock (all n s e is.at there).held) (λ either few x. record { block = x.block; guard = x.guard; kind = x.kind }) (taken_goes e (guarding n s e is.at there)))

@@ -1,5 +1,5 @@
 -- Cached blocks stay true as writes are committed, unless one of these has freed the slot of the directory under the entry's lock.
-use Rattle.std.proofs.Common.{◌≡◌, ◌≤◌, ◌&&◌, ◌==◌, ◌∙◌, ◌⊎◌, ℕ, true, List, Ok, slice_get, refl, sym, ap, subst, inl, inr, arith}
+use Rattle.std.proofs.Common.{◌≡◌, ◌≤◌, ◌∙◌, ◌⊎◌, ℕ, true, List, Ok, slice_get, sym, ap, subst, inl, inr, arith}
 use Rattle.fx_header.specs.declared.slot.Slot.TheVariants as head
 use Rattle.fx_header.specs.Headers.{header_read}
 use Rattle.lock_db.specs.declared.name.LockName.{LockName}

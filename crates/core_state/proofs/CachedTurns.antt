@@ -1,6 +1,6 @@
 -- A look of a node at a block that may be cached: it reads the block from the drive, or uses the one that it has cached. Both keep the
 -- invariant, where the sight of the block does.
-use Rattle.std.proofs.Common.{◌≡◌, ◌⊎◌, ◌<◌, ◌∙◌, ℕ, Bool, false, List, [], ◌∷◌, Option, Some, None, is_some, cond, length, slice_get, refl, sym, ap, subst, inl, inr, arith}
+use Rattle.std.proofs.Common.{◌≡◌, ◌⊎◌, ◌<◌, ◌∙◌, ℕ, Bool, true, false, List, [], ◌∷◌, Option, Some, None, is_some, cond, length, slice_get, refl, sym, ap, subst, inl, inr, arith}
 use Rattle.base_words.specs.Fields.{Block}
 use Rattle.lock_db.specs.declared.name.LockName.{LockName}
 use Rattle.lock_db.specs.declared.name.LockName.TheVariants.{V}
@@ -13,7 +13,7 @@ use Rattle.vol_parts.specs.declared.geometry.Part.TheVariants.{IndexBitmap, Stor
 use Rattle.vol_under.specs.Guards.{Lock, guard_of}
 use Rattle.vol_under.specs.Keeping.{IsBitmap}
 use Rattle.vol_under.proofs.Guarding.{bitmap_guard}
-use Rattle.node_locks.specs.Held.{Row, joined, names_of, HoldsItsLocks, waits_at}
+use Rattle.node_locks.specs.Held.{system_of, has_lock, Row, HoldsItsLocks, waits_at}
 use Rattle.node_cache.specs.Cached.{Cached}
 use Rattle.op_law.specs.Laws.{held_in, IsCacheable, Fixed}
 use Rattle.core_state.specs.Worlds.{NodeState, Plain, node_at, with_node, rows_of, rows_in}
@@ -25,13 +25,14 @@ use Rattle.core_state.specs.Events.{cached_block, block_used, cache_used, cache_
 use Rattle.base_words.specs.Faults.{next as one_more}
 use Rattle.base_words.specs.Fields.{block_at}
 use Rattle.core_state.proofs.Holding.{HasIn, in_held_is, is_in_held}
-use Rattle.core_state.proofs.Running.{held_among, claims_held}
-use Rattle.core_state.proofs.Turning.{index_within, has_name, seen_so}
+use Rattle.core_state.proofs.Running.{claims_held}
+use Rattle.core_state.proofs.Turning.{index_within, seen_so}
 use Rattle.core_state.proofs.Looks.{space_seen_so}
 use Rattle.core_state.proofs.CachedEvents.{has_used}
 use Rattle.core_state.proofs.CachedUses.{current_is_drives}
 use Rattle.core_state.proofs.CachedLooks.{guarding_name, looked_store, looked_mine, used_store}
 use Rattle.core_state.proofs.CachedTakes.{goes_higher}
+use Rattle.core_state.proofs.Lasting.{held_lasting}
 
 -- the entries of this cache are ones that the node had, or in order, however else the node stands then
 abbrev pub AreInOrder : (w : Plain) → Good w → ℕ → NodeState → List Cached → Type 0
@@ -47,17 +48,15 @@ module _ (w : Plain) (good : Good w) (n : ℕ) (s : NodeState) (at : node_at w.n
   mine : HoldsItsLocks w.locks n (rows_of s)
   mine = subst (λ (rs : List Row). HoldsItsLocks w.locks n rs) (ap rows_in at) (good.locked.1 n)
 
-  held : Has (names_of (joined (rows_of s))) name
-  held =
-      let k : HasIn PR (held_by w.locks n s) name = in_held_is PR (held_by w.locks n s) name holds in
-      has_name (joined (rows_of s)) name k.in_mode (held_among w.locks n (rows_of s) (name, k.in_mode) k.has)
+  held : has_lock name (system_of n) w.locks ≡ true
+  held = let k : HasIn PR (held_by w.locks n s) name = in_held_is PR (held_by w.locks n s) name holds in held_lasting w.locks n (rows_of s) (name, k.in_mode) mine k.has
 
   there : slice_get w.blocks lbn ≡ Some (block_at w.blocks lbn)
   there = index_within w.blocks lbn within
 
   in_order : AreInOrder w good n s (cache_looked w n s name lbn)
   in_order r rows e h = looked_mine (with_node w n r) n name lbn (block_at w.blocks lbn) r good.running.drive.own good.running.cat good.locked.0 (subst (λ (rs : List Row). HoldsItsLocks w.locks n rs) (sym rows) mine)
-      (goes_higher w good name lbn) (subst (λ (rs : List Row). Has (names_of (joined rs)) name) (sym rows) held) (λ seq. record { block = there; guard = guard; kind = kind }) s.cache e h
+      (goes_higher w good name lbn) held (λ seq. record { block = there; guard = guard; kind = kind }) s.cache e h
 
   -- it is read
   pub read_keeps : Good (with_node w n (F (block_at w.blocks lbn) (cache_looked w n s name lbn) (one_more s.reads) s.hits))

@@ -1,5 +1,5 @@
 -- A node claims a lock of free space: X, or V.
-use Rattle.std.proofs.Common.{◌≡◌, ◌≢◌, ◌≤◌, ◌⊎◌, ◌++◌, ℕ, true, false, List, [], ◌∷◌, Option, Some, refl, sym, ap, subst, ◌∙◌, inl, inr, arith}
+use Rattle.std.proofs.Common.{◌≡◌, ◌≢◌, ◌≤◌, ◌⊎◌, ◌++◌, ℕ, true, false, List, [], ◌∷◌, Option, Some, refl, sym, ap, subst, ◌∙◌, arith}
 use Rattle.base_words.specs.Fields.{Block}
 use Rattle.lock_db.specs.declared.name.LockName.{LockName}
 use Rattle.lock_db.specs.declared.name.LockName.TheVariants.{A, X}
@@ -14,7 +14,6 @@ use Rattle.node_locks.specs.Taking.{taken}
 use Rattle.node_locks.proofs.Keeping.{held_are_granted, rows_stand_still}
 use Rattle.base_words.specs.Lists.{Has}
 use Rattle.vol_spell.specs.Owners.{Owners}
-use Rattle.base_words.proofs.Listing.{has_first, has_second}
 use Rattle.core_cached.specs.Committed.{IsUnderOn}
 use Rattle.vol_under.specs.UnderWay.{UnderWay, changed, AreSole}
 use Rattle.op_law.specs.Laws.{held_in}
@@ -32,15 +31,15 @@ use Rattle.core_state.proofs.Holding.{strong_grows}
 use Rattle.core_state.proofs.Running.{at_any, under_now, under_here, are_sole}
 use Rattle.core_state.proofs.Taking.{widens}
 use Rattle.core_state.proofs.SmallWorlds.{OwesLess, small_taken, lock_there}
-use Rattle.core_state.proofs.Keeping.{altered, still_driven, rebuilt, held_set, has_waited, course_stays, row_of_name, kept_named, asked_named, claims_named}
-use Rattle.core_state.proofs.Naming.{same_name, named_by, stays_without}
+use Rattle.core_state.proofs.Keeping.{altered, still_driven, rebuilt, held_set, has_waited, course_stays}
 use Rattle.core_state.proofs.CachedTakes.{taken_stays, IsTakenIn, taken_writes, taken_cached}
 use Rattle.core_state.proofs.Seeking.{neither}
 use Rattle.core_state.proofs.Beginning.{stays_stocked}
 use Rattle.core_state.proofs.Opens.{opens_taken}
 use Rattle.core_state.proofs.Rows.{IsFew, AreMoved, IsClaimed, claims_move, claims_it, rows_twice}
 use Rattle.node_locks.proofs.Nodes.{rows_here as own_rows}
-use Rattle.core_state.proofs.Turning.{goes_still, Rest, rest_of, has_name, guarding_of}
+use Rattle.core_state.proofs.Turning.{Rest, rest_of, guarding_of}
+use Rattle.node_locks.proofs.Standing.{goes-still}
 
 -- ---- an event by the rules for space, which leaves the command as it is
 
@@ -121,27 +120,13 @@ module _ (w : Plain) (good : Good w) (n : ℕ) (s : NodeState) (at : node_at w.n
         = λ i. record (at_any n s s.cmd (held_by t n r)) { seen = sym looked_same i ++ s.seen.blocks; stock = sym stock_same i } in
         subst (λ (k : UnderWay). IsUnderOn w.geometry good.running.cat base own (changed (nodes_under w.locks w.nodes) n k) w.blocks) there v
 
-    named_then : (other : LockName) → Has (names_of (joined (rows_of s))) other → Has (names_of (joined (rows_of r))) other
-    named_then other h = elim (row_of_name s other h) [
-      | inl a ↦ let k = named_by s.kept other a in kept_or other k.0 (has_first s.kept s.claims (other, k.0) k.1)
-      | inr b ↦ elim b [
-        | inl c ↦ asked_named r other c
-        | inr d ↦ let k = named_by s.claims other d in kept_or other k.0 (has_second s.kept s.claims (other, k.0) k.1)
-      ]
-    ] where
-      kept_or : (other : LockName) (k : Mode) → Has (s.kept ++ s.claims) (other, k) → Has (names_of (joined (rows_of r))) other
-      kept_or other k h = elim (same_name other name) [
-        | inl is ↦ claims_named r other (inl (sym is))
-        | inr ne ↦ kept_named r other (has_name r.kept other k (stays_without (s.kept ++ s.claims) name (other, k) h ne))
-      ]
-
     takes : IsTakenIn w n s r t
     takes = record {
       at = at;
       strong = strong;
       others = λ m y ne e. rows_stand_still w.locks t m (rows_of y) (λ ls i. claimed.took.others m ls ne);
       stays = λ other guards. taken_stays n name other mode w.locks claimed.took.may;
-      named = named_then;
+      lasting = claimed.took.lasting;
       same = refl;
       cache = refl;
     }
@@ -161,7 +146,7 @@ module _ (w : Plain) (good : Good w) (n : ℕ) (s : NodeState) (at : node_at w.n
         (taken_cached w sole good.writers n s r t takes (are_sole t (set_node w.nodes n r) claimed.took.table held_then) (guarding_of w good) own good.running.cat good.running.cached))
         (claimed.took.table, held_then) good.own
         (small_taken w good.small n s r at name (system_of n) mode w.blocks (lock_there w.locks n name claimed.took.may) owes)
-        (good.few n) (λ m ne. refl) (λ m y ne e ls i. goes_still w.locks t m ls (claimed.took.others m ls ne))
+        (good.few n) (λ m ne. refl) (λ m y ne e ls i. goes-still w.locks t m ls (claimed.took.others m ls ne))
         (stays_stocked s r refl stock_same x_stays (good.running.stocked n s at))
         (taken_writes w sole good.writers n s r t takes)
         (space_node t w.blocks r refl refl refl (λ e. claimed.asked_still.waits ∙ e) asks keeps claimed.rests_then space)

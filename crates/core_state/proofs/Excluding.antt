@@ -7,7 +7,7 @@ use Rattle.lock_db.specs.declared.name.LockName.{LockName}
 use Rattle.lock_db.specs.declared.askers.Asker.{Asker}
 use Rattle.lock_db.specs.declared.resource.Resource.{Resource}
 use Rattle.lock_db.specs.Names.{same_owner}
-use Rattle.lock_db.specs.Queues.{held, goes, goes_beside, lock_of}
+use Rattle.lock_db.specs.Queues.{held, goes, goes_beside}
 use Rattle.lock_db.specs.Tables.{resource_at, IsTable}
 use Rattle.lock_db.proofs.Lists.{list_all-find, find-passes, or-right}
 use Rattle.lock_db.proofs.Owners.{same_owner-same}

@@ -45,7 +45,8 @@ use Rattle.core_state.specs.Worlds.{NodeState, Plain, node_at, set_node, rows_of
 use Rattle.core_state.specs.Asks.{granted_ask, knows_now, writes_now}
 use Rattle.core_state.specs.Stocks.{things_in, filled_by, left_by, things_held, taken_in, stock_now, looked_now, unwritten}
 use Rattle.core_state.specs.Searches.{wanted_by, numbered_by, lacks_by, NeedsSpace, FillWrites, IsWritingBack, IsDraining, HasClaimed, IsTaking, Rules, Grabs, Filled, Drains, Taking, Taken, Busy}
-use Rattle.core_state.specs.Stores.{guards_blocks, hold_writes, HasStore, IsStocked}
+use Rattle.node_locks.specs.Sequences.{guards_blocks}
+use Rattle.core_state.specs.Stores.{hold_writes, HasStore, IsStocked}
 use Rattle.core_state.specs.Goods.{under_with, nodes_under, IsAt, IsNode, Good, held_by}
 use Rattle.core_state.specs.Events.{turned, ready_left, given_by, stocked_by, is_last, space_writing, caching, cache_written}
 use Rattle.base_words.specs.Faults.{next as one_more}

@@ -31,6 +31,7 @@ use Rattle.plain_histories.specs.Opens.{OpensNameFiles}
 use Rattle.core_state.proofs.Opens.{opens_same}
 use Rattle.core_state.proofs.Switching.{AsksAlike, now_alike}
 use Rattle.core_state.proofs.Nodes.{at_here, at_else, all_set, length_node}
+use Rattle.node_locks.proofs.Standing.{goes-same}
 
 -- the world after an event: other locks, blocks, nodes and history
 abbrev pub altered : Plain → List Resource → List Block → List NodeState → List Entry → Plain
@@ -42,7 +43,7 @@ LosesNothing t u m q = (ls : Row) → Has (rows_of q) ls → GoesOn t u m ls
 
 -- as where the table stays
 pub loses_nothing : (t : List Resource) (m : ℕ) (q : NodeState) → LosesNothing t t m q
-loses_nothing t m q ls i = record { waits = λ e. e; holds = λ l h. h }
+loses_nothing t m q ls i = goes-same t m ls
 
 has_kept_row : (s : NodeState) → Has (rows_of s) s.kept
 has_kept_row s = inl refl

@@ -58,6 +58,7 @@ use Rattle.core_state.proofs.CachedEvents.{all_cached}
 use Rattle.core_state.proofs.CachedUses.{sole_writer}
 use Rattle.core_state.proofs.CachedAnswers.{none_raised, part_stays}
 use Rattle.core_state.proofs.CachedOthers.{left_stays, somebody_there}
+use Rattle.core_state.proofs.Lasting.{lock_named, goes_lasting}
 
 -- ---- locks that go back with their value blocks as they are
 
@@ -223,6 +224,9 @@ module _ (w : Plain) (good : Good w) (n : ℕ) (s : NodeState) (at : node_at w.n
   sole_then : AreSole (nodes_under after (set_node w.nodes n r))
   sole_then = are_sole after (set_node w.nodes n r) swept.table (held_set after w.nodes n s r at held_then)
 
+  holds_of : (m : ℕ) (q : NodeState) → node_at w.nodes m ≡ Some q → HoldsItsLocks w.locks m (rows_of q)
+  holds_of m q there = subst (λ (rs : List Row). HoldsItsLocks w.locks m rs) (ap rows_in there) (good.locked.1 m)
+
   leave_event : IsEventOf w v_then n s r
   leave_event = record {
     at = at;
@@ -230,6 +234,7 @@ module _ (w : Plain) (good : Good w) (n : ℕ) (s : NodeState) (at : node_at w.n
     others = λ m ne. at_else w.nodes n m r ne;
     geometry = refl;
     holders = λ m q name ne there h. writer_on m q name ne there h;
+    lasting = λ m q name ne there h. goes_lasting w.locks after m q name (holds_of m q there) (loses m q ne there) h;
     sole = λ m q name there a b. sole_writer w sole good.writers n m s q name at there a b;
     sole_then = λ m q name there a b. sole_writer v_then sole_then writes_then n m r q name (at_here w.nodes n r s at) there a b;
     held_writes = λ e some. absurd (some_written e some);
@@ -240,12 +245,12 @@ module _ (w : Plain) (good : Good w) (n : ℕ) (s : NodeState) (at : node_at w.n
   block_stays : (m : ℕ) (q : NodeState) (name : LockName) → m ≢ n → node_at w.nodes m ≡ Some q → Has (names_of (joined (rows_of q))) name → BlockStays (resource_at name w.locks) (resource_at name after)
   block_stays m q name ne there h =
       left_stays n s.kept w.locks name (kept_once s (mine w good n s at on).once) (λ l k. may_change w.locks n l (rows_of s) (mine w good n s at on) (kept_held w.locks n s l me.rests k)) (λ l k f. not_writing l k)
-      (somebody_there w.locks n m (rows_of q) name ne (subst (λ (rs : List Row). HoldsItsLocks w.locks m rs) (ap rows_in there) (good.locked.1 m)) h)
+      (somebody_there w.locks n m (rows_of q) name ne (holds_of m q there) h)
 
   cached_then : AreCached v_then own cat
   cached_then = all_cached w v_then n s r leave_event own own cat cat good.running.cached
       (λ m q e ne there has.
-      let b = block_stays m q e.lock ne there (good.running.cached m q e there has).held in
+      let b = block_stays m q e.lock ne there (lock_named w.locks m (rows_of q) e.lock (holds_of m q there) (good.running.cached m q e there has).held) in
       record {
         goes = inl (Stays (part_stays w.geometry e.lock e.lbn (resource_at e.lock w.locks) (resource_at e.lock after) b) b.mark (omega arith) (λ h. absurd (not_writer e.lock h)));
         truth = λ none none_then t. record { block = t.block; guard = t.guard; kind = t.kind };

@@ -65,6 +65,7 @@ pub mod Midway
 pub mod Returning
 pub mod Lowering
 pub mod Rulings
+pub mod Lasting
 pub mod Leaving
 pub mod Closing
 pub mod Turns

@@ -14,11 +14,10 @@ use Rattle.plain_cat.specs.declared.mode.Mode.{Mode}
 use Rattle.plain_cat.specs.declared.mode.Mode.TheVariants.{NL, CR, CW, PR, PW}
 use Rattle.plain_cat.specs.declared.command.Cmd.{Cmd}
 use Rattle.plain_cat.specs.declared.cat.Cat.{Cat}
-use Rattle.node_locks.specs.Held.{system_of, Row, joined, names_of, AreHeld, with_rows, IsGranted, waits_at, held_locks, all_held, without}
-use Rattle.node_locks.specs.Sequences.{first_sequence, second_sequence}
-use Rattle.node_locks.proofs.Standing.{held-asked}
+use Rattle.node_locks.specs.Held.{HoldsItsLocks, has_lock, system_of, Row, names_of, AreHeld, with_rows, IsGranted, waits_at, held_locks, all_held, without}
+use Rattle.node_locks.specs.Sequences.{first_sequence, second_sequence, raised_block}
+use Rattle.node_locks.proofs.Standing.{goes-still, held-asked}
 use Rattle.node_locks.proofs.Keeping.{held_are_granted, rows_go_on}
-use Rattle.node_locks.specs.Sequences.{raised_block}
 use Rattle.base_words.specs.Lists.{Has, Touches}
 use Rattle.vol_spell.specs.Owners.{Owners, Things, nothing, Outs}
 use Rattle.base_words.proofs.Listing.{has_parted, has_first, has_second}
@@ -46,13 +45,14 @@ use Rattle.core_state.proofs.Holding.{HasIn, in_held_is, is_in_held, held_grows}
 use Rattle.core_state.proofs.Naming.{one_of, named_by, asked_is, is_asked, stays_without, from_without}
 use Rattle.core_state.proofs.Running.{at_any, under_grown, claims_held, are_sole}
 use Rattle.core_state.proofs.Opens.{opens_converted, opens_released}
-use Rattle.core_state.proofs.Keeping.{altered, still_driven, rebuilt, held_set, LosesNothing, row_of_name, kept_named, asked_named}
+use Rattle.core_state.proofs.Keeping.{altered, still_driven, rebuilt, held_set, LosesNothing, row_of_name}
 use Rattle.core_state.proofs.Rows.{AreLowered, v_lock, v_lowers, x_lock, x_lowers, x_returns}
 use Rattle.core_state.proofs.SmallTables.{is_first, is_second, lowered_once, converted_same, released_own}
 use Rattle.core_state.proofs.SmallWorlds.{small_lowered}
 use Rattle.core_state.proofs.Beginning.{stays_stocked}
 use Rattle.core_state.proofs.Standing.{all_taken, back_taken, with_nothing}
 use Rattle.core_state.proofs.Turning.{Rest, rest_of, has_name, guarding_of}
+use Rattle.node_locks.proofs.Nodes.{rows_here as own_rows}
 use Rattle.core_state.proofs.Claiming.{mine, space_node}
 use Rattle.core_state.proofs.Claims.{keeps_on, owed_at}
 use Rattle.core_state.proofs.Backs.{back_over}
@@ -61,6 +61,7 @@ use Rattle.core_state.proofs.Returning.{not_its, holds_v, back_drive}
 use Rattle.core_state.proofs.CachedTables.{Kept, put_back_block}
 use Rattle.core_state.proofs.CachedLooks.{store_without}
 use Rattle.core_state.proofs.CachedLowering.{store_more, all_higher, command_apart, IsLoweredTo, lowered_writes, lowered_cached}
+use Rattle.core_state.proofs.Lasting.{free_lasting, lock_named, goes_lasting}
 
 pub no_run_left : (o : Option ℕ) → o ≡ None → is_some o ≡ true → ⊥
 no_run_left o e f = absurd (let g : false ≡ true = sym (ap is_some e) ∙ f in cc)
@@ -105,7 +106,7 @@ module _ (w : Plain) (good : Good w) (n : ℕ) (s : NodeState) (at : node_at w.n
   granted_v = (held_are_granted w.locks n (V, PW) (rows_of s) (mine w good n s at on)).0 (claims_held w.locks n s (V, PW) granted has_v)
 
   abbrev value : List ℕ
-  value = raised_block (raise_of w.geometry V s.run.writes) (resource_at V w.locks)
+  value = raised_block V (raise_of w.geometry V s.run.writes) (resource_at V w.locks)
 
   abbrev mid : List Resource
   mid = v_lowered w n s
@@ -201,19 +202,26 @@ module _ (w : Plain) (good : Good w) (n : ℕ) (s : NodeState) (at : node_at w.n
     loses : (m : ℕ) (q : NodeState) → m ≢ n → node_at w.nodes m ≡ Some q → LosesNothing w.locks after m q
     loses m q ne e ls i = low.others m ls ne (subst (λ (rs : List Row). Has rs ls) (sym (ap rows_in e)) i)
 
-    named_on : (name : LockName) → name ≢ X → Has (names_of (joined (rows_of s))) name → Has (names_of (joined (rows_of r))) name
-    named_on name not_x h = elim (row_of_name s name h) [
+    -- and so are those of which a conversion waits, or which are in NL
+    lasting_on : (name : LockName) → name ≢ X → has_lock name (system_of n) w.locks ≡ true → has_lock name (system_of n) after ≡ true
+    lasting_on name not_x h = elim (row_of_name s name (lock_named w.locks n (rows_of s) name (mine w good n s at on) h)) [
       | inl a ↦ let k = named_by s.kept name a in kept_on k.0 (has_first s.kept ((V, NL) ∷ []) (name, k.0) k.1)
       | inr b ↦ elim b [
-        | inl c ↦ asked_named r name (subst (λ (ls : Row). Has (names_of ls) name) (sym same_asked) c)
+        | inl c ↦ (goes-still w.locks after n s.asked low.asked_still).lasting name c h
         | inr d ↦
             let k = named_by s.claims name d in
             let is_v : V ≡ name = ap (λ (l : LockName × Mode). l.0) (one_of s.claims (V, PW) (name, k.0) claims k.1) in
             kept_on NL (has_second s.kept ((V, NL) ∷ []) (name, NL) (inl (ap (λ (y : LockName). (y, NL)) is_v)))
       ]
     ] where
-      kept_on : (mode : Mode) → Has kept_mid (name, mode) → Has (names_of (joined (rows_of r))) name
-      kept_on mode k = kept_named r name (has_name r.kept name mode (keeps_most (name, mode) not_x k))
+      rows_after : List Row
+      rows_after = r.kept ∷ (s.asked ∷ ([] ∷ []))
+
+      holds_after : HoldsItsLocks after n rows_after
+      holds_after = subst (λ (rs : List Row). HoldsItsLocks after n rs) (own_rows (rows_at w.nodes) n rows_after) (low.held n)
+
+      kept_on : (mode : Mode) → Has kept_mid (name, mode) → has_lock name (system_of n) after ≡ true
+      kept_on mode k = free_lasting after n rows_after r.kept name holds_after (inl refl) low.rests (has_name r.kept name mode (keeps_most (name, mode) not_x k))
 
     others_on : (m : ℕ) (q : NodeState) (k : LockName × Mode) → m ≢ n → node_at w.nodes m ≡ Some q → Has (held_by w.locks m q) k → Has (held_by after m q) k
     others_on m q k ne e h = rows_go_on w.locks after m (rows_of q) k (loses m q ne e) h
@@ -234,7 +242,8 @@ module _ (w : Plain) (good : Good w) (n : ℕ) (s : NodeState) (at : node_at w.n
       elsewhere = raised.elsewhere;
       holds = holds_on PW (omega arith);
       others = others_on;
-      named = named_on;
+      lasting = lasting_on;
+      others_lasting = λ m q name ne e k. goes_lasting w.locks after m q name (subst (λ (rs : List Row). HoldsItsLocks w.locks m rs) (ap rows_in e) (good.locked.1 m)) (loses m q ne e) k;
       cache = same_cache;
     }
 

@@ -35,9 +35,9 @@ use Rattle.lock_db.proofs.Blocks.{asked-at, asked-leaves, converted-at, converte
 use Rattle.lock_db.proofs.Places.{written-askers}
 use Rattle.lock_db.proofs.Standings.{requests-stand, conversions-stand, releases-leave}
 use Rattle.lock_db.proofs.Steps.{IsSettled-at, IsTable-asked, IsTable-converted, IsTable-released, HasLock, HasLock-lock_of, lock-is, converts-goes}
-use Rattle.node_locks.specs.Held.{system_of}
+use Rattle.node_locks.specs.Held.{has_lock, system_of}
 use Rattle.node_locks.specs.Sequences.{raised_block}
-use Rattle.node_locks.specs.Taking.{has_lock, taken, taken_now, MayTake}
+use Rattle.node_locks.specs.Taking.{taken, taken_now, MayTake}
 use Rattle.node_locks.proofs.Taking.{no-lock}
 use Rattle.node_locks.proofs.Served.{settled-served, vacated-standing, without-other, with-other}
 use Rattle.lock_db.proofs.Owners.{Served}
@@ -216,13 +216,13 @@ opens_left n (l ∷ ls) t having is opens =
 pub given_table : (g : Geometry) (n : ℕ) (ws : List PlanWrite) (ls : List (LockName × Mode)) (t : List Resource) → IsTable t → IsTable (given_back g n ws ls t)
 given_table g n ws [] t is = is
 given_table g n ws (l ∷ ls) t is =
-    let value : List ℕ = raised_block (raise_of g l.0 ws) (resource_at l.0 t) in
+    let value : List ℕ = raised_block l.0 (raise_of g l.0 ws) (resource_at l.0 t) in
     given_table g n ws ls (released l.0 (system_of n) value t) (IsTable-released l.0 (system_of n) value t is)
 
 pub opens_given : (g : Geometry) (n : ℕ) (ws : List PlanWrite) (ls : List (LockName × Mode)) (t : List Resource) (having : Owner → Option Open) → IsTable t → AreOpensLocked t having → AreOpensLocked (given_back g n ws ls t) having
 opens_given g n ws [] t having is opens = opens
 opens_given g n ws (l ∷ ls) t having is opens =
-    let value : List ℕ = raised_block (raise_of g l.0 ws) (resource_at l.0 t) in
+    let value : List ℕ = raised_block l.0 (raise_of g l.0 ws) (resource_at l.0 t) in
     opens_given g n ws ls (released l.0 (system_of n) value t) having (IsTable-released l.0 (system_of n) value t is) (opens_released l.0 n value t having is opens)
 
 -- where the owners have the same open

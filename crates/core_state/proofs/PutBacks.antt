@@ -17,14 +17,13 @@ use Rattle.base_words.proofs.Listing.{has_first, has_second}
 use Rattle.vol_parts.specs.declared.geometry.Geometry.{Geometry}
 use Rattle.node_locks.specs.Held.{Row, system_of, names_of}
 use Rattle.node_locks.specs.PuttingBack.{Keeps, Values, put_back, all_back, kept_by, kept_of, IsLow, MayPutBack}
-use Rattle.node_locks.specs.Sequences.{raised_block}
+use Rattle.node_locks.specs.Sequences.{raised_block, guards_blocks}
 use Rattle.node_cache.specs.Cached.{Cached, is_under}
 use Rattle.op_law.specs.declared.need.PlanWrite.{PlanWrite}
 use Rattle.core_state.specs.Worlds.{NodeState}
 use Rattle.core_state.specs.Opens.{AreOpensLocked}
 use Rattle.core_state.specs.Raises.{raise_of}
 use Rattle.core_state.specs.Caches.{has_entry, keeps, raised_values, lowered_of}
-use Rattle.core_state.specs.Stores.{guards_blocks}
 use Rattle.core_state.specs.Events.{given_back, stays}
 use Rattle.core_state.proofs.Holding.{named_there}
 use Rattle.core_state.proofs.Opens.{opens_released, opens_converted}
@@ -108,7 +107,7 @@ all_go l = None
 
 pub given_is : (g : Geometry) (n : ℕ) (ws : List PlanWrite) (ls : Row) (t : List Resource) → given_back g n ws ls t ≡ all_back n all_go (raised_values g ws) ls t
 given_is g n ws [] t = refl
-given_is g n ws (l ∷ ls) t = given_is g n ws ls (released l.0 (system_of n) (raised_block (raise_of g l.0 ws) (resource_at l.0 t)) t)
+given_is g n ws (l ∷ ls) t = given_is g n ws ls (released l.0 (system_of n) (raised_block l.0 (raise_of g l.0 ws) (resource_at l.0 t)) t)
 
 -- ---- who has a file open
 

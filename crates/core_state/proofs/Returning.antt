@@ -29,7 +29,8 @@ use Rattle.core_space.specs.declared.run.Phase.TheVariants as phase
 use Rattle.core_space.specs.Giving.{give_place, give_writes}
 use Rattle.core_space.specs.Rule.{decides, give_by, decision_in}
 use Rattle.core_state.specs.Worlds.{NodeState, Plain, node_at, set_node, with_node, rows_of}
-use Rattle.core_state.specs.Stores.{guards_blocks, HasStore, IsCachedAt}
+use Rattle.node_locks.specs.Sequences.{guards_blocks}
+use Rattle.core_state.specs.Stores.{HasStore, IsCachedAt}
 use Rattle.core_state.specs.Asks.{is_claiming, writes_now}
 use Rattle.core_state.specs.Small.{lent, owed_in, owed, has_command}
 use Rattle.core_state.specs.Stocks.{roomless, things_in, left_by, stock_now, looked_now, unwritten}

@@ -16,9 +16,9 @@ use Rattle.plain_cat.specs.declared.mode.Mode.{Mode}
 use Rattle.plain_cat.specs.declared.mode.Mode.TheVariants.{NL, CR, CW, PR, PW}
 use Rattle.base_words.specs.Lists.{Has}
 use Rattle.base_words.proofs.Listing.{same_or_not, has_first}
-use Rattle.node_locks.specs.Held.{system_of, Row, joined, names_of, IsGranted, HoldsItsLocks, AreHeld, waits_at, held_locks, all_held, without, taken_out, put_in, with_rows}
+use Rattle.node_locks.specs.Held.{has_lock, system_of, Row, joined, names_of, IsGranted, HoldsItsLocks, AreHeld, waits_at, held_locks, all_held, without, taken_out, put_in, with_rows}
 use Rattle.node_locks.specs.HeldLaws.{StandsStill, GoesOn, IsMoved, IsLowered, IsGivenBack}
-use Rattle.node_locks.specs.Taking.{has_lock, taken, taken_now, MayTake, IsTaken}
+use Rattle.node_locks.specs.Taking.{taken, taken_now, MayTake, IsTaken}
 use Rattle.node_locks.proofs.Taking.{taking_holds, taking_keeps}
 use Rattle.node_locks.proofs.Moving.{moving_holds}
 use Rattle.node_locks.proofs.Lowering.{lowering_holds}
@@ -26,6 +26,8 @@ use Rattle.node_locks.proofs.Giving.{giving_holds}
 use Rattle.node_locks.proofs.Keeping.{all_are_held, held_are_granted, rest_goes_on}
 use Rattle.core_state.proofs.Naming.{same_name}
 use Rattle.node_locks.proofs.Nodes.{rows_here}
+use Rattle.node_locks.proofs.Standing.{still-then, goes-then}
+use Rattle.core_state.proofs.Lasting.{still_lasting}
 
 other_rows : (rows : ℕ → List Row) (n : ℕ) (own : List Row) (m : ℕ) → m ≢ n → with_rows rows n own m ≡ rows m
 other_rows rows n own m ne = grind (arith, nat_tests)
@@ -111,6 +113,7 @@ pub record HasTakenIt (t : List Resource) (n : ℕ) (name : LockName) (old own :
   pub held : AreHeld after (with_rows rows n own)
   pub strong : (l : LockName × Mode) → rank CR ≤ rank l.1 → Has (all_held t n old) l → Has (all_held after n own) l
   pub others : (m : ℕ) (ls : Row) → m ≢ n → StandsStill t after m ls
+  pub lasting : (m : ℕ) (other : LockName) → has_lock other (system_of m) t ≡ true → has_lock other (system_of m) after ≡ true
 
 -- Behind the second row, which waits for nothing, or as the one of the third row, which is empty.
 module _ (t : List Resource) (n : ℕ) (name : LockName) (mode : Mode) (rows : ℕ → List Row) (kept asked claims : Row) (is : IsTable t) (held : AreHeld t rows) (at : rows n ≡ kept ∷ (asked ∷ (claims ∷ []))) (rests : waits_at t n kept ≡ false)
@@ -132,6 +135,14 @@ module _ (t : List Resource) (n : ℕ) (name : LockName) (mode : Mode) (rows : �
       let its : HoldsItsLocks after n (with_it k) = subst (λ (rs : List Row). HoldsItsLocks after n rs) (rows_here rows n (with_it k)) (held_then n) in
       (held_are_granted after n l (with_it k) its).1 (stays_granted name n mode t l may le ((held_are_granted t n l old mine).0 h))
 
+  -- nobody loses a lock
+  all_lasting : {other : LockName} → ((k : LockName) → has_lock k (system_of n) t ≡ true → has_lock k (system_of n) after ≡ true) → ((m : ℕ) → m ≢ n → StandsStill t after m ((other, NL) ∷ []))
+      → (m : ℕ) → has_lock other (system_of m) t ≡ true → has_lock other (system_of m) after ≡ true
+  all_lasting {other} own others m h = elim (same_or_not m n) [
+    | inl e ↦ subst (λ (k : ℕ). has_lock other (system_of k) after ≡ true) (sym e) (own other (subst (λ (k : ℕ). has_lock other (system_of k) t ≡ true) e h))
+    | inr ne ↦ still_lasting t after m other (others m ne) h
+  ]
+
   -- it is the last of the second row
   pub record IsAskedLast : Type 0 where
     pub took : HasTakenIt t n name old (without name kept ∷ ((asked ++ (name, mode) ∷ []) ∷ (claims ∷ []))) rows after
@@ -149,6 +160,7 @@ module _ (t : List Resource) (n : ℕ) (name : LockName) (mode : Mode) (rows : �
           held = it.held;
           strong = strong_by 1 it.may it.held;
           others = λ m ls ne. it.others m ls ne;
+          lasting = λ m other h. all_lasting it.lasting (λ k ne. it.others k ((other, NL) ∷ []) ne) m h;
         };
         waits = it.waits;
         rests_then = it.left.waits;
@@ -172,6 +184,7 @@ module _ (t : List Resource) (n : ℕ) (name : LockName) (mode : Mode) (rows : �
           held = it.held;
           strong = strong_by 2 it.may it.held;
           others = λ m ls ne. it.others m ls ne;
+          lasting = λ m other h. all_lasting it.lasting (λ k ne. it.others k ((other, NL) ∷ []) ne) m h;
         };
         waits = it.waits;
         rests_then = it.left.waits;
@@ -187,13 +200,6 @@ pub record AreLowered (t : List Resource) (n : ℕ) (own : List Row) (kept asked
   pub rests : waits_at after n kept ≡ false
   pub asked_still : StandsStill t after n asked
   pub others : (m : ℕ) (ls : Row) → m ≢ n → Has (rows m) ls → GoesOn t after m ls
-
--- two calls, one behind the other
-pub goes_twice : (t mid last : List Resource) (m : ℕ) (ls : Row) → GoesOn t mid m ls → GoesOn mid last m ls → GoesOn t last m ls
-goes_twice t mid last m ls a b = record { waits = λ e. b.waits (a.waits e); holds = λ l h. b.holds l (a.holds l h) }
-
-still_twice : (t mid last : List Resource) (m : ℕ) (ls : Row) → StandsStill t mid m ls → StandsStill mid last m ls → StandsStill t last m ls
-still_twice t mid last m ls a b = record { waits = b.waits ∙ a.waits; holds = b.holds ∙ a.holds }
 
 module _ (t : List Resource) (n : ℕ) (value : List ℕ) (rows : ℕ → List Row) (kept asked : Row) (is : IsTable t) (held : AreHeld t rows) (at : rows n ≡ kept ∷ (asked ∷ (((V, PW) ∷ []) ∷ []))) (rests : waits_at t n kept ≡ false) (free : waits_at t n ((V, PW) ∷ []) ≡ false) where
   abbrev v_rows : List Row
@@ -275,8 +281,8 @@ module _ (t : List Resource) (n : ℕ) (value : List ℕ) (rows : ℕ → List R
           table = IsTable-converted X (system_of n) NL (resource_at X mid).value mid first.table (ap is_some x_lock) (λ e f. absurd (let h : NL ≡ CW = f in cc));
           held = rows_twice after rows n own ((without X kept_mid ++ (X, NL) ∷ []) ∷ (asked ∷ ([] ∷ []))) so.held;
           rests = so.last.waits;
-          asked_still = still_twice t mid after n asked first.asked_still (so.rest 1 asked (λ e. absurd (omega arith)) (λ e. absurd (omega arith)) refl);
-          others = λ m ls ne h. goes_twice t mid after m ls (first.others m ls ne h) (so.others m ls ne (others_mid m ls ne h));
+          asked_still = still-then t mid after n asked first.asked_still (so.rest 1 asked (λ e. absurd (omega arith)) (λ e. absurd (omega arith)) refl);
+          others = λ m ls ne h. goes-then t mid after m ls (first.others m ls ne h) (so.others m ls ne (others_mid m ls ne h));
         }
 
     -- or given back
@@ -289,6 +295,6 @@ module _ (t : List Resource) (n : ℕ) (value : List ℕ) (rows : ℕ → List R
           table = IsTable-released X (system_of n) (resource_at X mid).value mid first.table;
           held = rows_twice after rows n own (without X kept_mid ∷ (asked ∷ ([] ∷ []))) so.held;
           rests = so.left.waits;
-          asked_still = still_twice t mid after n asked first.asked_still (so.rest 1 asked (λ e. absurd (omega arith)) refl);
-          others = λ m ls ne h. goes_twice t mid after m ls (first.others m ls ne h) (so.others m ls ne (others_mid m ls ne h));
+          asked_still = still-then t mid after n asked first.asked_still (so.rest 1 asked (λ e. absurd (omega arith)) refl);
+          others = λ m ls ne h. goes-then t mid after m ls (first.others m ls ne h) (so.others m ls ne (others_mid m ls ne h));
         }

@@ -1,7 +1,7 @@
 -- What the calls of the lock manager make of the sequences of value blocks: a request leaves each, and where locks go back no
 -- sequence is raised by more than two.
 use Rattle.std.proofs.Common.{◌≡◌, ◌≢◌, ◌≤◌, ◌<◌, ◌+◌, ◌^◌, ℕ, Bool, true, false, List, [], ◌∷◌, Option, Some, None, cond, IsSome, is_some, refl, sym, ap, subst, ◌∙◌, inl, inr, arith}
-use Rattle.std.specs.Prelude.{◌⊎◌, replicate, MatchBool}
+use Rattle.std.specs.Prelude.{replicate, MatchBool}
 use Rattle.std.specs.List.{list_any}
 use Rattle.plain_cat.specs.declared.mode.Mode.{Mode}
 use Rattle.plain_cat.specs.declared.command.Cmd.{Cmd}
@@ -19,11 +19,11 @@ use Rattle.lock_db.specs.Laws.{BlockStays, BlockIs, somebody}
 use Rattle.lock_db.proofs.Blocks.{requests-keep, conversions-write, releases-write, asked-leaves, converted-leaves, released-leaves}
 use Rattle.base_words.specs.Lists.{Has, Once}
 use Rattle.vol_parts.specs.declared.geometry.Geometry.{Geometry}
-use Rattle.node_locks.specs.Held.{Row, system_of, names_of}
+use Rattle.node_locks.specs.Held.{has_lock, Row, system_of, names_of}
 use Rattle.node_locks.specs.PuttingBack.{Keeps, put_back, all_back, MayPutBack}
 use Rattle.node_locks.proofs.Nodes.{has_name_or_not}
-use Rattle.node_locks.specs.Taking.{has_lock, taken}
-use Rattle.node_locks.specs.Sequences.{rise, raised, first_sequence, second_sequence, raised_block}
+use Rattle.node_locks.specs.Taking.{taken}
+use Rattle.node_locks.specs.Sequences.{rise, raised, first_sequence, second_sequence, block_with, guards_blocks, raised_block}
 use Rattle.node_locks.specs.declared.sequences.Raise.{Raise}
 use Rattle.node_locks.proofs.ReadingBack.{sequences_read_back}
 use Rattle.op_law.specs.declared.need.PlanWrite.{PlanWrite}
@@ -66,16 +66,22 @@ pub record IsSmallRaise (raise : Raise) : Type 0 where
 -- one of the two sequences of a value block: in zeros it is zero, and raised by two or by one at most it grows by that at most
 pub record IsSequence (seq : List ℕ → ℕ) : Type 0 where
   pub zeros : seq (replicate 16 0) ≡ 0
-  pub little : (raise : Raise) (r : Resource) → IsSmallRaise raise → seq (raised_block raise r) ≤ seq r.value + 2
-  pub by_one : (raise : Raise) (r : Resource) → IsRaiseByOne raise → seq (raised_block raise r) ≤ seq r.value + 1
+  pub little : (name : LockName) (raise : Raise) (r : Resource) → IsSmallRaise raise → seq (raised_block name raise r) ≤ seq r.value + 2
+  pub by_one : (raise : Raise) (r : Resource) → IsRaiseByOne raise → seq (raised_block V raise r) ≤ seq r.value + 1
+
+-- it is so where it is raised only under some locks
+raised_or_not : (seq : List ℕ → ℕ) (b : Bool) (x y : List ℕ) → seq x ≤ seq y + 2 → seq (cond b x y) ≤ seq y + 2
+raised_or_not seq true x y le = le
+raised_or_not seq false x y le = omega arith
 
 pub is_first : IsSequence first_sequence
 unfolding first_sequence
 is_first = record {
   zeros = refl;
-  little = λ raise r small.
+  little = λ name raise r small.
       let e = (sequences_read_back (raised r.valid raise.first (first_sequence r.value)) (raised r.valid raise.second (second_sequence r.value)) (raised_fits r.valid raise.first (first_sequence r.value)) (raised_fits r.valid raise.second (second_sequence r.value))).first_is in
-      subst (λ (k : ℕ). k ≤ first_sequence r.value + 2) (sym e) (raised_little r.valid raise.first (first_sequence r.value) small.first);
+      raised_or_not first_sequence (guards_blocks name) (block_with (raised r.valid raise.first (first_sequence r.value)) (raised r.valid raise.second (second_sequence r.value))) r.value
+      (subst (λ (k : ℕ). k ≤ first_sequence r.value + 2) (sym e) (raised_little r.valid raise.first (first_sequence r.value) small.first));
   by_one = λ raise r once.
       let e = (sequences_read_back (raised r.valid raise.first (first_sequence r.value)) (raised r.valid raise.second (second_sequence r.value)) (raised_fits r.valid raise.first (first_sequence r.value)) (raised_fits r.valid raise.second (second_sequence r.value))).first_is in
       subst (λ (k : ℕ). k ≤ first_sequence r.value + 1) (sym e) (raised_once r.valid raise.first (first_sequence r.value) once.first);
@@ -85,9 +91,10 @@ pub is_second : IsSequence second_sequence
 unfolding second_sequence
 is_second = record {
   zeros = refl;
-  little = λ raise r small.
+  little = λ name raise r small.
       let e = (sequences_read_back (raised r.valid raise.first (first_sequence r.value)) (raised r.valid raise.second (second_sequence r.value)) (raised_fits r.valid raise.first (first_sequence r.value)) (raised_fits r.valid raise.second (second_sequence r.value))).second_is in
-      subst (λ (k : ℕ). k ≤ second_sequence r.value + 2) (sym e) (raised_little r.valid raise.second (second_sequence r.value) small.second);
+      raised_or_not second_sequence (guards_blocks name) (block_with (raised r.valid raise.first (first_sequence r.value)) (raised r.valid raise.second (second_sequence r.value))) r.value
+      (subst (λ (k : ℕ). k ≤ second_sequence r.value + 2) (sym e) (raised_little r.valid raise.second (second_sequence r.value) small.second));
   by_one = λ raise r once.
       let e = (sequences_read_back (raised r.valid raise.first (first_sequence r.value)) (raised r.valid raise.second (second_sequence r.value)) (raised_fits r.valid raise.first (first_sequence r.value)) (raised_fits r.valid raise.second (second_sequence r.value))).second_is in
       subst (λ (k : ℕ). k ≤ second_sequence r.value + 1) (sym e) (raised_once r.valid raise.second (second_sequence r.value) once.second);
@@ -162,11 +169,11 @@ module _ (seq : List ℕ → ℕ) (is : IsSequence seq) where
   by_block true false value old new h le = let e : seq new.value ≡ seq old.value = ap seq h.bytes in omega arith
   by_block false writes value old new h le = let e : seq new.value ≡ 0 = ap seq h.bytes_are ∙ is.zeros in omega arith
 
-  released_here : (name : LockName) (owner : Owner) (raise : Raise) (t : List Resource) → IsSmallRaise raise → at name (released name owner (raised_block raise (resource_at name t)) t) ≤ at name t + 2
+  released_here : (name : LockName) (owner : Owner) (raise : Raise) (t : List Resource) → IsSmallRaise raise → at name (released name owner (raised_block name raise (resource_at name t)) t) ≤ at name t + 2
   released_here name owner raise t small =
       let r : Resource = resource_at name t in
-      let value : List ℕ = raised_block raise r in
-      by_block (somebody (without owner r.askers)) (is_writing (mode_held owner r)) value r (resource_at name (released name owner value t)) (releases-write name owner value t) (is.little raise r small)
+      let value : List ℕ = raised_block name raise r in
+      by_block (somebody (without owner r.askers)) (is_writing (mode_held owner r)) value r (resource_at name (released name owner value t)) (releases-write name owner value t) (is.little name raise r small)
 
   released_else : (name other : LockName) (owner : Owner) (value : List ℕ) (t : List Resource) → other ≢ name → at other (released name owner value t) ≡ at other t
   released_else name other owner value t ne = ap (λ (r : Resource). seq r.value) (released-leaves name owner value t other ne)
@@ -215,7 +222,7 @@ module _ (seq : List ℕ → ℕ) (is : IsSequence seq) where
 
   -- V is lowered
   pub lowered_once : (g : Geometry) (ws : List PlanWrite) (other : LockName) (owner : Owner) (mode : Mode) (t : List Resource) → IsSome (lock_of owner (resource_at V t).askers)
-      → at other (converted V owner mode (raised_block (raise_of g V ws) (resource_at V t)) t) ≤ at other t + 1
+      → at other (converted V owner mode (raised_block V (raise_of g V ws) (resource_at V t)) t) ≤ at other t + 1
   lowered_once g ws other owner mode t some = elim (same_name other V) [
     | inl e ↦ subst (λ (x : LockName). at x (converted V owner mode value_v t) ≤ at x t + 1) (sym e)
         (by_raised (conversion_writes (mode_held owner (resource_at V t)) mode) value_v (resource_at V t) (resource_at V (converted V owner mode value_v t)) (conversions-write V owner mode value_v t some)
@@ -223,13 +230,13 @@ module _ (seq : List ℕ → ℕ) (is : IsSequence seq) where
     | inr ne ↦ let e : at other (converted V owner mode value_v t) ≡ at other t = ap (λ (r : Resource). seq r.value) (converted-leaves V owner mode value_v t other ne) in omega arith
   ] where
     value_v : List ℕ
-    value_v = raised_block (raise_of g V ws) (resource_at V t)
+    value_v = raised_block V (raise_of g V ws) (resource_at V t)
 
   -- ---- locks that go back one after the other
 
   module _ (g : Geometry) (n : ℕ) (ws : List PlanWrite) where
     abbrev value : LockName → List Resource → List ℕ
-    value name t = raised_block (raise_of g name ws) (resource_at name t)
+    value name t = raised_block name (raise_of g name ws) (resource_at name t)
 
     given_else : (ls : List (LockName × Mode)) (t : List Resource) (name : LockName) → (Has (names_of ls) name → ⊥) → at name (given_back g n ws ls t) ≡ at name t
     given_else [] t name none = refl
@@ -264,7 +271,7 @@ module _ (seq : List ℕ → ℕ) (is : IsSequence seq) where
     put_back_here l (Some low) t lock =
         let r : Resource = resource_at l.0 t in
         by_little (conversion_writes (mode_held (system_of n) r) low) (value l.0 t) r (resource_at l.0 (converted l.0 (system_of n) low (value l.0 t) t)) (conversions-write l.0 (system_of n) low (value l.0 t) t (ap is_some lock))
-        (is.little (raise_of g l.0 ws) r (little_raise g l.0 ws))
+        (is.little l.0 (raise_of g l.0 ws) r (little_raise g l.0 ws))
 
     put_back_else : (l : LockName × Mode) (o : Option Mode) (t : List Resource) (other : LockName) → other ≢ l.0 → at other (put_back n (raised_values g ws l t) l o t) ≡ at other t
     put_back_else l None t other ne = released_else l.0 other (system_of n) (value l.0 t) t ne

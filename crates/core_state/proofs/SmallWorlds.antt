@@ -21,8 +21,8 @@ use Rattle.plain_cat.specs.declared.history.Entry.TheVariants.{Done}
 use Rattle.plain_cat.specs.declared.script.Script.{Script}
 use Rattle.plain_cat.specs.declared.cat.Cat.{Cat}
 use Rattle.vol_parts.specs.declared.geometry.Geometry.{Geometry}
-use Rattle.node_locks.specs.Held.{system_of}
-use Rattle.node_locks.specs.Taking.{has_lock, taken, MayTake}
+use Rattle.node_locks.specs.Held.{has_lock, system_of}
+use Rattle.node_locks.specs.Taking.{taken, MayTake}
 use Rattle.node_locks.proofs.Taking.{no-lock}
 use Rattle.node_locks.specs.Sequences.{first_sequence, second_sequence}
 use Rattle.op_law.specs.declared.seen.Chan.{Chan}

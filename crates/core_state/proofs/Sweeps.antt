@@ -19,8 +19,9 @@ use Rattle.base_words.specs.Lists.{Has, Once}
 use Rattle.base_words.proofs.Listing.{same_or_not}
 use Rattle.core_state.proofs.Naming.{without_none}
 use Rattle.core_state.proofs.Keeping.{names_parted, names_first}
-use Rattle.core_state.proofs.Rows.{rows_twice, goes_twice}
+use Rattle.core_state.proofs.Rows.{rows_twice}
 use Rattle.node_locks.proofs.Nodes.{rows_here as own_rows}
+use Rattle.node_locks.proofs.Standing.{goes-then}
 
 -- ---- lists
 
@@ -235,7 +236,7 @@ module _ (keeps : Keeps) (values : Values) (give : LockName → List Resource �
     others = λ m ls ne h.
         let h2 : Has (rows2 m) ls = subst (λ (rs : List Row). Has rs ls) (sym (else_rows rows n m own2 ne)) h in
         let h3 : Has (rows3 m) ls = subst (λ (rs : List Row). Has rs ls) (sym (else_rows rows n m own3 ne)) h in
-        goes_twice t t1 t3 m ls (first.others m ls ne h) (goes_twice t1 t2 t3 m ls (second.others m ls ne h2) (third.others m ls ne h3));
+        goes-then t t1 t3 m ls (first.others m ls ne h) (goes-then t1 t2 t3 m ls (second.others m ls ne h2) (third.others m ls ne h3));
   }
 
   pub lets_go : AreLetGo t n stay rows (all_given n give (names_of gone) (all_back n keeps values (asked ++ claims) t))

@@ -18,15 +18,15 @@ use Rattle.base_words.specs.Fields.{Block}
 use Rattle.plain_cat.specs.Modes.{rank}
 use Rattle.plain_cat.specs.InForm.{is_eighth}
 use Rattle.plain_cat.specs.declared.mode.Mode.{Mode}
-use Rattle.plain_cat.specs.declared.mode.Mode.TheVariants.{CR, CW, PR, PW, EX}
+use Rattle.plain_cat.specs.declared.mode.Mode.TheVariants.{NL, CR, CW, PR, PW, EX}
 use Rattle.plain_cat.specs.declared.command.Cmd.{Cmd}
 use Rattle.plain_cat.specs.declared.command.Cmd.TheVariants as cmd
 use Rattle.plain_cat.specs.declared.cat.Cat.{Cat}
 use Rattle.plain_cat.specs.declared.cat.Open.{Open}
 use Rattle.plain_rules.specs.Lookups.{channel_at}
-use Rattle.node_locks.specs.Held.{system_of, Row, joined, names_of, HoldsItsLocks, AreHeld, waits_at, all_held, without, with_rows}
+use Rattle.node_locks.specs.Held.{has_lock, system_of, Row, joined, names_of, HoldsItsLocks, AreHeld, waits_at, all_held, without, with_rows}
 use Rattle.node_locks.specs.HeldLaws.{StandsStill, GoesOn as RowGoesOn}
-use Rattle.node_locks.specs.Taking.{has_lock, taken, taken_now}
+use Rattle.node_locks.specs.Taking.{taken, taken_now}
 use Rattle.node_locks.specs.Channels.{AllStill}
 use Rattle.node_locks.proofs.Channels.{channels_ask, channels_convert}
 use Rattle.node_locks.proofs.Keeping.{held_are_granted, rows_stand_still}
@@ -48,7 +48,8 @@ use Rattle.core_space.specs.declared.run.Phase.TheVariants as phase
 use Rattle.core_state.specs.Worlds.{NodeState, Plain, node_at, set_node, rows_of, rows_in, rows_at}
 use Rattle.core_state.specs.Asks.{writes_by, writes_now, granted_by, granted_ask, asker_of, own_of, own_ask, lock_of_ask, with_ask, known_with, knows_now}
 use Rattle.core_state.specs.Opens.{is_channel, open_of, open_asked, open_with, asked_in, asked_at, open_now, open_stands, AreOpensLocked}
-use Rattle.core_state.specs.Stores.{AreKept, guards_blocks, hold_writes}
+use Rattle.node_locks.specs.Sequences.{guards_blocks}
+use Rattle.core_state.specs.Stores.{AreKept, hold_writes}
 use Rattle.core_state.specs.Channels.{names_in_form, channel_seen, channel_now, HasOpens}
 use Rattle.core_state.specs.Stocks.{stock_now, looked_now}
 use Rattle.core_state.specs.Goods.{under_with, nodes_under, IsAtPlan, IsAt, HasCommand, Good, held_by}
@@ -69,8 +70,10 @@ use Rattle.core_state.proofs.Keeping.{altered, still_driven, IsDriven, rebuilt, 
 use Rattle.core_state.proofs.Rows.{IsAskedLast, asks_last}
 use Rattle.core_state.proofs.Beginning.{stays_stocked}
 use Rattle.core_state.proofs.Standing.{locks_within, IsAskOf, asks_open, asked_last, claims_are}
-use Rattle.core_state.proofs.Turning.{my_sole, under_command, here, drive, back, known, is_node, writes_more, made_of, space_now, stocked_now, goes_still as row_goes, taken_first, taken_first_of, within_first, named_still, guarding_of}
+use Rattle.core_state.proofs.Turning.{my_sole, under_command, here, drive, back, known, is_node, writes_more, made_of, space_now, stocked_now, taken_first, taken_first_of, within_first, guarding_of}
 use Rattle.core_state.proofs.Answering.{node_number, answers_keep}
+use Rattle.node_locks.proofs.Standing.{goes-still}
+use Rattle.core_state.proofs.Lasting.{still_lasting}
 
 pub both : (a b : Bool) → a ≡ true → b ≡ true → (a && b) ≡ true
 both a b e f = ap (λ k. k && b) e ∙ f
@@ -544,7 +547,7 @@ module _ (w : Plain) (good : Good w) (n : ℕ) (s : NodeState) (at : node_at w.n
           strong = λ l le h. subst (λ (ls : Row). Has (all_held t n (rows_then ls)) l) bare (it.took.strong l le h);
           others = λ m y off e. rows_stand_still w.locks t m (rows_of y) (λ ls i. it.took.others m ls off);
           stays = λ other guards. taken_stays n (A a.file) other a.mode w.locks it.took.may;
-          named = named_still s q (A a.file) a.mode (sym bare) refl refl;
+          lasting = it.took.lasting;
           same = wrote not_yet;
           cache = refl;
         }
@@ -563,7 +566,7 @@ module _ (w : Plain) (good : Good w) (n : ℕ) (s : NodeState) (at : node_at w.n
             (taken_cached w (my_sole w good n s at x cmd free) good.writers n s q t takes (are_sole t (set_node w.nodes n q) it.took.table held_then) (guarding_of w good) good.running.drive.own cat good.running.cached))
             (it.took.table, held_then) good.own
             (small_taken w good.small n s q at (A a.file) (system_of n) a.mode w.blocks (system_lock w.locks n (A a.file) it.took.may) (owes_so s q refl refl refl refl)) (good.few n) (λ m ne. refl)
-            (λ m y ne e ls i. row_goes w.locks t m ls (it.took.others m ls ne))
+            (λ m y ne e ls i. goes-still w.locks t m ls (it.took.others m ls ne))
             (stays_stocked s q refl refl (λ h. h) (stocked_now w good n s at x cmd free))
             (taken_writes w (my_sole w good n s at x cmd free) good.writers n s q t takes)
             (is_node w good n s at x cmd free t w.blocks q refl refl refl refl (good.nodes n s at).store (subst (λ (ls : Row). waits_at t n ls ≡ false) bare it.rests_then) now.seen now.own
@@ -652,7 +655,7 @@ module _ (w : Plain) (good : Good w) (n : ℕ) (s : NodeState) (at : node_at w.n
       strong = λ l le h. subst (λ (ls : Row). Has ls l) (sym holds_same) h;
       others = λ m y off e. rows_stand_still w.locks t m (rows_of y) (λ ls i. still.still m ls);
       stays = λ other guards. taken_elsewhere me (A a.file) other a.mode w.locks (λ e. absurd (let f : true ≡ false = sym guards ∙ ap guards_blocks e in cc));
-      named = λ other h. h;
+      lasting = λ m other h. still_lasting w.locks t m other (still.still m ((other, NL) ∷ [])) h;
       same = wrote not_yet;
       cache = refl;
     }
@@ -664,7 +667,7 @@ module _ (w : Plain) (good : Good w) (n : ℕ) (s : NodeState) (at : node_at w.n
     held_q = held_same t w.nodes n s q at refl still.held
 
     goes_still : (m : ℕ) (ls : Row) → RowGoesOn w.locks t m ls
-    goes_still m ls = let k : StandsStill w.locks t m ls = still.still m ls in record { waits = λ e. k.waits ∙ e; holds = λ l h. subst (λ (ks : Row). Has ks l) (sym k.holds) h }
+    goes_still m ls = goes-still w.locks t m ls (still.still m ls)
 
     driven : IsDriven w t w.blocks (set_node w.nodes n q) w.history
     driven = record {

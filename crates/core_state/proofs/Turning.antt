@@ -11,8 +11,7 @@ use Rattle.plain_cat.specs.declared.mode.Mode.{Mode}
 use Rattle.plain_cat.specs.declared.mode.Mode.TheVariants.{NL, CR, CW, PR, PW}
 use Rattle.plain_cat.specs.declared.command.Cmd.{Cmd}
 use Rattle.plain_cat.specs.declared.cat.Cat.{Cat}
-use Rattle.node_locks.specs.Held.{system_of, Row, joined, names_of, HoldsItsLocks, waits_at, without}
-use Rattle.node_locks.specs.HeldLaws.{StandsStill, GoesOn as RowGoesOn}
+use Rattle.node_locks.specs.Held.{system_of, Row, joined, names_of, HoldsItsLocks, waits_at}
 use Rattle.node_locks.specs.Taking.{taken}
 use Rattle.node_locks.proofs.Keeping.{rows_stand_still}
 use Rattle.node_locks.proofs.Nodes.{has_name_or_not}
@@ -45,7 +44,8 @@ use Rattle.op_law.specs.declared.seen.Chan.{Chan}
 use Rattle.core_space.specs.declared.run.Phase.TheVariants as phase
 use Rattle.core_space.specs.declared.run.SpaceRun.{SpaceRun}
 use Rattle.core_state.specs.Channels.{channel_now, HasChannels}
-use Rattle.core_state.specs.Stores.{guards_blocks, HasStore, IsStocked, IsCachedAt}
+use Rattle.node_locks.specs.Sequences.{guards_blocks}
+use Rattle.core_state.specs.Stores.{HasStore, IsStocked, IsCachedAt}
 use Rattle.core_state.specs.Stocks.{looked_now, stock_now}
 use Rattle.core_state.specs.Worlds.{NodeState, Plain, node_at, set_node, with_node, rows_of, rows_in, rows_at}
 use Rattle.core_state.specs.Event as event
@@ -55,13 +55,13 @@ use Rattle.core_state.specs.Waiting.{WaitsForLock, AsksForNumber, WaitsAside}
 use Rattle.core_state.specs.Goods.{under_with, nodes_under, IsAtPlan, IsAt, HasCommand, IsNode, Good, held_by}
 use Rattle.core_state.specs.Events.{turned, locking, seeing, planning, caching, writing, cache_written, happens}
 use Rattle.core_state.proofs.Holding.{held_grows, strong_grows}
-use Rattle.core_state.proofs.Naming.{same_name, none_of, named_by, stays_without, has_asked_without}
+use Rattle.core_state.proofs.Naming.{none_of, named_by, has_asked_without}
 use Rattle.core_state.proofs.Driving.{law_grows}
 use Rattle.core_state.proofs.Running.{all_asked, at_locks, under_now, under_here, are_sole}
 use Rattle.core_state.proofs.Taking.{its_outs, its_seen, its_guards, becomes, is_committed, decides, writes}
 use Rattle.core_state.proofs.SmallWorlds.{owes_so, small_set, small_taken, lock_there}
 use Rattle.core_state.specs.Opens.{open_with, open_now}
-use Rattle.core_state.proofs.Keeping.{altered, still_driven, rebuilt, held_set, held_same, loses_nothing, row_of_name, kept_named, asked_named, claims_named}
+use Rattle.core_state.proofs.Keeping.{altered, still_driven, rebuilt, held_set, held_same, loses_nothing, row_of_name}
 use Rattle.core_state.proofs.CachedPuts.{IsWriteOf, put_cached, put_writes}
 use Rattle.core_state.proofs.CachedLooks.{rewritten_store, store_without}
 use Rattle.core_state.proofs.CachedTakes.{goes_higher, taken_stays, IsTakenIn, taken_writes, taken_cached}
@@ -70,16 +70,13 @@ use Rattle.core_state.proofs.Opens.{opens_taken}
 use Rattle.core_state.proofs.Rows.{asks_last}
 use Rattle.core_state.proofs.Standing.{calm, come_by, claims_are, locks_within, block_seen, comes_behind, lock_seen, is_known}
 use Rattle.core_state.proofs.Seeking.{one_more_is}
+use Rattle.node_locks.proofs.Standing.{goes-still}
 
 -- a block that there is
 pub index_within : (bs : List Block) (l : ℕ) → l < length bs → slice_get bs l ≡ Some (slice_index_or bs l [])
 index_within [] l lt = absurd (omega arith)
 index_within (b ∷ bs) zero lt = refl
 index_within (b ∷ bs) (suc l) lt = index_within bs l (omega arith)
-
--- a row that stands still loses nothing
-pub goes_still : (t u : List Resource) (m : ℕ) (ls : Row) → StandsStill t u m ls → RowGoesOn t u m ls
-goes_still t u m ls s = record { waits = λ e. s.waits ∙ e; holds = λ l h. subst (λ (ks : Row). Has ks l) (sym s.holds) h }
 
 -- a write of a plan, as it is planned
 pub planned_at : (ws : List PlanWrite) (k : ℕ) (v : PlanWrite) → slice_get ws k ≡ Some v → slice_get (map planned ws) k ≡ Some (planned v)
@@ -213,23 +210,6 @@ pub has_name : (ls : Row) (name : LockName) (mode : Mode) → Has ls (name, mode
 has_name [] name mode h = absurd h
 has_name (l ∷ ls) name mode (inl e) = inl (ap (λ (k : LockName × Mode). k.0) e)
 has_name (l ∷ ls) name mode (inr h) = inr (has_name ls name mode h)
-
-pub named_still : (s r : NodeState) (name : LockName) (mode : Mode) → r.kept ≡ without name s.kept → r.asked ≡ s.asked ++ (name, mode) ∷ [] → r.claims ≡ s.claims
-    → (other : LockName) → Has (names_of (joined (rows_of s))) other → Has (names_of (joined (rows_of r))) other
-named_still s r name mode kept asked claims other h = elim (row_of_name s other h) [
-  | inl a ↦ elim (same_name other name) [
-    | inl is ↦ asked_named r other (subst (λ (ls : Row). Has (names_of ls) other) (sym asked) (has_name (s.asked ++ (name, mode) ∷ []) other mode (has_second s.asked ((name, mode) ∷ []) (other, mode) (inl (ap (λ (k : LockName). (k, mode)) (sym is))))))
-    | inr ne ↦
-        let k = named_by s.kept other a in
-        kept_named r other (subst (λ (ls : Row). Has (names_of ls) other) (sym kept) (has_name (without name s.kept) other k.0 (stays_without s.kept name (other, k.0) k.1 ne)))
-  ]
-  | inr b ↦ elim b [
-    | inl c ↦
-        let k = named_by s.asked other c in
-        asked_named r other (subst (λ (ls : Row). Has (names_of ls) other) (sym asked) (has_name (s.asked ++ (name, mode) ∷ []) other k.0 (has_first s.asked ((name, mode) ∷ []) (other, k.0) k.1)))
-    | inr d ↦ claims_named r other (subst (λ (ls : Row). Has (names_of ls) other) (sym claims) d)
-  ]
-]
 
 -- what an event of a node's command leaves
 pub record Rest : Type 0 where
@@ -452,7 +432,7 @@ module _ (w : Plain) (good : Good w) (n : ℕ) (s : NodeState) (at : node_at w.n
         strong = grows;
         others = λ m q ne e. rows_stand_still w.locks t m (rows_of q) (λ ls i. it.took.others m ls ne);
         stays = λ other guards. taken_stays n name other mode w.locks it.took.may;
-        named = named_still s r name mode refl refl refl;
+        lasting = it.took.lasting;
         same = refl;
         cache = refl;
       } in
@@ -465,7 +445,7 @@ module _ (w : Plain) (good : Good w) (n : ℕ) (s : NodeState) (at : node_at w.n
       (it.took.table, held_set t w.nodes n s r at it.took.held) good.own
       (small_taken w good.small n s r at name (system_of n) mode w.blocks (lock_there w.locks n name it.took.may) (owes_so s r refl refl refl (has_asked_without X name s.kept not_x)))
       (good.few n) (λ m ne. refl)
-      (λ m q ne e ls i. goes_still w.locks t m ls (it.took.others m ls ne))
+      (λ m q ne e ls i. goes-still w.locks t m ls (it.took.others m ls ne))
       (stays_stocked s r refl refl (x_stays_without s.kept name not_x) stocked_now)
       (taken_writes w my_sole good.writers n s r t takes)
       (is_node t w.blocks r refl refl refl refl (store_without s.run.phase s.kept s.cache name me.store) it.rests_then (goes.granted s.seen name mode under_command.seen is)

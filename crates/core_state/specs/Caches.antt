@@ -81,7 +81,7 @@ keeps es l = if has_entry es l.0 then Some NL else None
 
 -- with its value block raised by the writes under it
 abbrev pub raised_values : Geometry → List PlanWrite → Values
-raised_values g ws l t = raised_block (raise_of g l.0 ws) (resource_at l.0 t)
+raised_values g ws l t = raised_block l.0 (raise_of g l.0 ws) (resource_at l.0 t)
 
 -- the locks after those of a row are put back, in order, and what is kept of them
 abbrev pub put_back_all : Geometry → ℕ → List PlanWrite → List Cached → Row → List Resource → List Resource

@@ -1,5 +1,5 @@
 -- The event of a node's turn, and what it makes of the world.
-use Rattle.std.specs.Prelude.{◌==◌, ◌+◌, ◌-◌, ◌^◌, ◌++◌, ◌||◌, ◌&&◌, not, ℕ, Bool, true, false, List, [], ◌∷◌, Option, Some, None, is_none, is_some, filter, find, slice_get, slice_set, length, if◌then◌else◌}
+use Rattle.std.specs.Prelude.{◌==◌, ◌+◌, ◌++◌, ◌||◌, ◌&&◌, not, ℕ, Bool, true, false, List, [], ◌∷◌, Option, Some, None, is_none, is_some, filter, find, slice_get, slice_set, length, if◌then◌else◌}
 use Rattle.base_words.specs.Fields.{Block, block_at}
 use Rattle.lock_db.specs.declared.name.LockName.{LockName}
 use Rattle.lock_db.specs.declared.name.LockName.TheVariants.{A, X, V}
@@ -258,7 +258,7 @@ is_write other = false
 -- the locks given back, in order, each with its value block raised by the writes under it
 abbrev pub given_back : Geometry → ℕ → List PlanWrite → List (LockName × Mode) → List Resource → List Resource
 given_back g n ws [] t = t
-given_back g n ws (l ∷ locks) t = given_back g n ws locks (released l.0 (system_of n) (raised_block (raise_of g l.0 ws) (resource_at l.0 t)) t)
+given_back g n ws (l ∷ locks) t = given_back g n ws locks (released l.0 (system_of n) (raised_block l.0 (raise_of g l.0 ws) (resource_at l.0 t)) t)
 
 -- the locks given back with their value blocks left as they are
 abbrev pub left_alone : ℕ → List (LockName × Mode) → List Resource → List Resource
@@ -454,7 +454,7 @@ locks_after w n s x r = closed_off n (channel_seen s.opens x) x r (all_put_back 
 
 -- after V is lowered from PW, its value block raised by the writes under it
 abbrev pub v_lowered : Plain → ℕ → NodeState → List Resource
-v_lowered w n s = converted V (system_of n) NL (raised_block (raise_of w.geometry V s.run.writes) (resource_at V w.locks)) w.locks
+v_lowered w n s = converted V (system_of n) NL (raised_block V (raise_of w.geometry V s.run.writes) (resource_at V w.locks)) w.locks
 
 -- after X is lowered, and after it is given back
 abbrev pub x_lowered : ℕ → List Resource → List Resource

@@ -1,7 +1,7 @@
 -- What a node keeps beyond its commands: locks, a stock, and cached blocks.
-use Rattle.std.specs.Prelude.{◌≡◌, ◌≢◌, ◌⊎◌, ◌≤◌, ◌+◌, ◌++◌, ℕ, Bool, true, false, List, [], Option, Some, None, length, take, slice_get, if◌then◌else◌}
+use Rattle.std.specs.Prelude.{◌≡◌, ◌≢◌, ◌⊎◌, ◌≤◌, ◌+◌, ◌++◌, ℕ, true, List, [], Option, Some, None, length, take, slice_get, if◌then◌else◌}
 use Rattle.lock_db.specs.declared.name.LockName.{LockName}
-use Rattle.lock_db.specs.declared.name.LockName.TheVariants.{S, Q, X, V}
+use Rattle.lock_db.specs.declared.name.LockName.TheVariants.{X, V}
 use Rattle.lock_db.specs.Tables.{resource_at}
 use Rattle.node_cache.specs.Cached.{Cached, IsCache}
 use Rattle.plain_cat.specs.declared.mode.Mode.{Mode}
@@ -12,8 +12,8 @@ use Rattle.base_words.specs.Lists.{Has}
 use Rattle.vol_spell.specs.Owners.{Owners, nothing}
 use Rattle.vol_parts.specs.declared.geometry.Geometry.{Geometry}
 use Rattle.vol_under.specs.Guards.{Lock, guard_of}
-use Rattle.node_locks.specs.Held.{joined, names_of, all_held, without}
-use Rattle.node_locks.specs.Sequences.{rise}
+use Rattle.node_locks.specs.Held.{system_of, has_lock, all_held, without}
+use Rattle.node_locks.specs.Sequences.{guards_blocks, rise}
 use Rattle.op_law.specs.declared.need.PlanWrite.{PlanWrite}
 use Rattle.op_law.specs.Fits.{things}
 use Rattle.op_law.specs.Laws.{held_in, IsCacheable}
@@ -28,13 +28,6 @@ use Rattle.core_state.specs.Caches.{sequence_now}
 -- a lock on X that is kept in this phase of the rules for space: in CR, but where all free space is searched
 abbrev pub IsKeptX : Phase → LockName × Mode → Type 0
 IsKeptX p l = (l.0 ≡ X) × ((l.1 ≡ CR) ⊎ (p ≡ phase.Last))
-
--- the locks that guard blocks: those of files, that of the quota file, and that of the bitmaps
-abbrev pub guards_blocks : LockName → Bool
-guards_blocks (S n) = true
-guards_blocks Q = true
-guards_blocks V = true
-guards_blocks other = false
 
 -- a lock in NL, under which cached blocks may be
 abbrev pub IsKeptLow : LockName × Mode → Type 0
@@ -120,8 +113,8 @@ pub record IsAhead (w : Plain) (n : ℕ) (s : NodeState) (e : Cached) : Type 0 w
 
 -- An entry in the cache of node n, which stands as s.
 pub record IsCachedAt (w : Plain) (own : Owners) (c : Cat) (n : ℕ) (s : NodeState) (e : Cached) : Type 0 where
-  -- the node has its lock, in NL or more
-  pub held : Has (names_of (joined (rows_of s))) e.lock
+  -- the node holds its lock, in NL or more, also where a conversion of it waits
+  pub held : has_lock e.lock (system_of n) w.locks ≡ true
   -- its sequence is at most that of its part, or one ahead
   pub near : (e.seq ≤ now_of w e) ⊎ IsAhead w n s e
   -- where it is current, it is true, unless another node has written to its part

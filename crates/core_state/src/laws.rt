@@ -1,12 +1,13 @@
 //! Laws of worlds, each as the contract of a function that does nothing.
 
-ghost use Rattle.std.specs.Prelude.{◌≡◌, ℕ, false, Some, slice_get};
+ghost use Rattle.std.specs.Prelude.{◌≡◌, ℕ, true, false, Some, slice_get};
 ghost use Rattle.lock_db.specs.declared.name.LockName.{LockName};
 ghost use Rattle.node_cache.specs.Cached.{Cached};
 ghost use Rattle.plain_cat.specs.declared.mode.Mode.TheVariants.{PR};
 ghost use Rattle.base_words.specs.Lists.{Has};
 ghost use Rattle.plain_cat.specs.declared.command.Cmd.{Cmd};
 ghost use Rattle.plain_cat.specs.declared.reply.Refusal.{Refusal};
+ghost use Rattle.node_locks.specs.Held.{system_of, has_lock};
 ghost use Rattle.op_law.specs.Laws.{held_in, Lawful};
 ghost use Rattle.core_state.specs.Worlds.{NodeState, Plain, node_at, current};
 ghost use Rattle.core_state.specs.Caches.{current_entry};
@@ -40,6 +41,11 @@ pub fn stocks_are_locked()
 /// A command is refused for want of space only where its node holds X in EX and V in PW, and no other node has anything outside.
 pub fn shortage_is_of_all()
     ensures { (w : Plain) (n : ℕ) (s : NodeState) (r : Refusal) → Good w → node_at w.nodes n ≡ Some s → s.seen.short ≡ Some r → IsSoleOutside w n s }
+{}
+
+/// A node that has a cached block holds the lock that guards it, in NL or more, also while a conversion of it waits.
+pub fn cached_blocks_are_under_locks()
+    ensures { (w : Plain) (n : ℕ) (s : NodeState) (e : Cached) → Good w → node_at w.nodes n ≡ Some s → Has s.cache e → has_lock e.lock (system_of n) w.locks ≡ true }
 {}
 
 /// A cached block whose entry is current, of a node that holds its lock in PR or more, is the drive's: so is each that a turn uses.

@@ -26,8 +26,8 @@ mod world;
 pub use cluster::Core;
 pub use core_space::{Phase, SpaceRun};
 pub use laws::{
-    current_blocks_are_the_drives, deaths_keep_the_rules, shortage_is_of_all, stocks_are_locked,
-    turns_keep_the_rules, used_blocks_are_the_drives,
+    cached_blocks_are_under_locks, current_blocks_are_the_drives, deaths_keep_the_rules,
+    shortage_is_of_all, stocks_are_locked, turns_keep_the_rules, used_blocks_are_the_drives,
 };
 pub use mounting::{MountFault, MountRefused};
 pub use node::Node;

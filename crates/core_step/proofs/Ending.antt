@@ -108,7 +108,7 @@ module _ {w : Plain} (good : Good w) {n : ℕ} (r : IsReady w n) where
   put_so = putting_back_holds (keeps s.cache) values w.locks n s.kept (used_locks s) ([] ∷ []) before good.locked.0 joined_so.held (own_rows (rows_at w.nodes) n (s.kept ∷ (used_locks s ∷ ([] ∷ [])))) node.rests joined_so.free (λ l h. is_low s.cache l)
 
   abbrev raises : LockName → List Resource → List ℕ
-  raises name t = raised_block (raise_of w.geometry name (all_writes s)) (resource_at name t)
+  raises name t = raised_block name (raise_of w.geometry name (all_writes s)) (resource_at name t)
 
   gives_so : MayGiveNamed n raises (names_of (going s)) u
   gives_so =

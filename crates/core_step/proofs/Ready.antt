@@ -89,9 +89,9 @@ searched_told cmd_is (Some op) s x k b cmd e asks is =
 
 -- ---- the locks can all be given back
 
-pub may_each : (g : Geometry) (n : ℕ) (ws : List PlanWrite) (ls : Row) (t : List Resource) → MayGiveNamed n (λ name u. raised_block (raise_of g name ws) (resource_at name u)) (names_of ls) t → MayGiveAll g n ws ls t
+pub may_each : (g : Geometry) (n : ℕ) (ws : List PlanWrite) (ls : Row) (t : List Resource) → MayGiveNamed n (λ name u. raised_block name (raise_of g name ws) (resource_at name u)) (names_of ls) t → MayGiveAll g n ws ls t
 may_each g n ws [] t may = tt
-may_each g n ws (l ∷ ls) t may = (may.0, may_each g n ws ls (released l.0 (system_of n) (raised_block (raise_of g l.0 ws) (resource_at l.0 t)) t) may.1)
+may_each g n ws (l ∷ ls) t may = (may.0, may_each g n ws ls (released l.0 (system_of n) (raised_block l.0 (raise_of g l.0 ws) (resource_at l.0 t)) t) may.1)
 
 -- the same, where the value blocks stay
 pub may_leave_each : (n : ℕ) (ls : Row) (t : List Resource) → MayGiveNamed n (λ name u. (resource_at name u).value) (names_of ls) t → MayLeaveAll n ls t

@@ -10,11 +10,11 @@ use Rattle.lock_db.specs.Resources.{goes_at_once}
 use Rattle.lock_db.specs.Tables.{resource_at}
 use Rattle.plain_cat.specs.declared.mode.Mode.{Mode}
 use Rattle.plain_cat.specs.declared.mode.Mode.TheVariants.{CW}
-use Rattle.node_locks.specs.Taking.{has_lock}
 use Rattle.op_law.specs.declared.need.Ask.{Ask}
 use Rattle.core_state.specs.Asks.{asker_of}
 use Rattle.core_state.specs.Events.{would_go}
 use Rattle.core_step.specs.declared.asks.Aim.{Aim}
+use Rattle.node_locks.specs.Held.{has_lock}
 
 -- the ask of a plan, where it was not granted yet and would be
 abbrev pub going_ask : List Resource → ℕ → Bool → Option Ask → Option Ask

@@ -28,7 +28,7 @@ use Rattle.core_state.specs.Events.{all_writes, going, used_locks, given_back}
 abbrev pub MayGiveAll : Geometry → ℕ → List PlanWrite → List (LockName × Mode) → List Resource → Type 0
 MayGiveAll g n ws [] t = Unit {0}
 MayGiveAll g n ws (l ∷ locks) t =
-    IsSome (lock_of (system_of n) (resource_at l.0 t).askers) × MayGiveAll g n ws locks (released l.0 (system_of n) (raised_block (raise_of g l.0 ws) (resource_at l.0 t)) t)
+    IsSome (lock_of (system_of n) (resource_at l.0 t).askers) × MayGiveAll g n ws locks (released l.0 (system_of n) (raised_block l.0 (raise_of g l.0 ws) (resource_at l.0 t)) t)
 
 -- node n, which stands as s, can put back the locks of its command, and give back those that it kept and that do not stay
 pub record MayPutAllBack (g : Geometry) (n : ℕ) (s : NodeState) (t : List Resource) : Type 0 where

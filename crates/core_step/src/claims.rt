@@ -83,7 +83,7 @@ pub(crate) fn claim<I: ImageDev, O: Operation>(
 fn lower_bitmaps(g: &Geometry, locks: &mut LockDb, node: u8, run: &SpaceRun)
     requires geometry { IsGeometry g.now }
     requires lock { lock_of (system_of node) (resource_at V locks.old).askers ≡ Some Mode.PW }
-    ensures { locks.new ≡ converted V (system_of node) Mode.NL (raised_block (raise_of g.now V run.now.writes) (resource_at V locks.old)) locks.old }
+    ensures { locks.new ≡ converted V (system_of node) Mode.NL (raised_block V (raise_of g.now V run.now.writes) (resource_at V locks.old)) locks.old }
 {
     let raise = raise_by_writes(g, LockName::V, run.writes.items());
     lower(locks, node, LockName::V, Mode::NL, raise);

@@ -34,8 +34,8 @@ pub(crate) fn has_any(stock: &Extents) -> bool
 // Puts back one lock: it is lowered to NL where a cached block is under it, and else it goes back.
 fn put_back(locks: &mut LockDb, node: u8, name: LockName, cached: bool, raise: Raise)
     requires { IsSome (lock_of (system_of node) (resource_at name locks.old).askers) }
-    ensures { locks.new ≡ (if cached then converted name (system_of node) Mode.NL (raised_block raise (resource_at name locks.old)) locks.old
-        else released name (system_of node) (raised_block raise (resource_at name locks.old)) locks.old) }
+    ensures { locks.new ≡ (if cached then converted name (system_of node) Mode.NL (raised_block name raise (resource_at name locks.old)) locks.old
+        else released name (system_of node) (raised_block name raise (resource_at name locks.old)) locks.old) }
 {
     if cached {
         lower(locks, node, name, Mode::NL, raise);

@@ -9,7 +9,7 @@ pub fn one_live_status_is_due()
 {
     run_script::a_text_says_one_thing();
     vol_analyze::findings_are_one_list();
-    vol_found::there_are_findings();
+    vol_analyze::there_are_findings();
 }
 
 /// If a status is due that is no fault and no want of memory, and of a call that mends then not `NotMendable`, no other such one is.

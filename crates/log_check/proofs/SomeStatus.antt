@@ -22,7 +22,7 @@ use Rattle.log_check.specs.Checks.{shut, IsLegalBetween, LeadsElsewhere, LeadsTo
 use Rattle.log_check.specs.Statuses.{Given, given, IsRead, AreLoaded, IsCheckDue}
 use Rattle.log_check.specs.Verdicts.{is_verdict, SomeStatus}
 use Rattle.vol_analyze.proofs.Accepting.{accepted_accounts}
-use Rattle.vol_found.specs.Having.{HaveFindings}
+use Rattle.vol_analyze.specs.Having.{HaveFindings}
 use Rattle.log_check.proofs.SameCats.{cats}
 use Rattle.blk_drive.proofs.Sizes.{is_size}
 

@@ -10,5 +10,5 @@ pub fn one_status_is_due()
 {
     crate::a_report_has_one_verdict();
     vol_analyze::findings_are_one_list();
-    vol_found::there_are_findings();
+    vol_analyze::there_are_findings();
 }

@@ -1,5 +1,5 @@
 -- What a conversion from NL leaves of the nodes' locks.
-use Rattle.std.proofs.Common.{◌≡◌, ◌≢◌, ◌⊎◌, ◌||◌, ℕ, Bool, true, false, not, List, [], ◌∷◌, Some, None, IsSome, find, option_map, unwrap_or, if◌then◌else◌, refl, ap, sym, cond, ◌∙◌, inl, inr, arith}
+use Rattle.std.proofs.Common.{◌≡◌, ◌≢◌, ◌⊎◌, ◌||◌, ℕ, Bool, true, false, not, List, [], ◌∷◌, Some, None, IsSome, find, option_map, option_and_then, is_some, unwrap_or, if◌then◌else◌, refl, ap, sym, cond, ◌∙◌, inl, inr, arith}
 use Rattle.std.specs.List.{list_all}
 use Rattle.std.proofs.lemmas.List.Folds.{list_all-map}
 use Rattle.plain_cat.specs.declared.mode.Mode.{Mode}
@@ -22,7 +22,7 @@ use Rattle.lock_db.proofs.Steps.{IsSettled-at, HasLock, HasLock-lock_of, lock-is
 use Rattle.lock_db.proofs.Blocks.{converted-at, converted-leaves}
 use Rattle.lock_db.proofs.Standings.{conversions-stand}
 use Rattle.base_words.specs.Lists.{Has}
-use Rattle.node_locks.specs.Held.{system_of, names_of, IsGranted, IsWaiting, HoldsItsLocks, is_queued_at, taken_out, put_in}
+use Rattle.node_locks.specs.Held.{system_of, has_lock, names_of, IsGranted, IsWaiting, HoldsItsLocks, is_queued_at, taken_out, put_in}
 use Rattle.node_locks.specs.HeldLaws.{ConvertingHolds}
 use Rattle.node_locks.proofs.Nodes.{each, name_or_not, systems-apart}
 use Rattle.node_locks.proofs.Standing.{StandsAlike, AllGranted, alike-comes, stands-still, granted-all, waits-push, held-push}
@@ -120,6 +120,10 @@ converts-queued : (u : List Resource) (n : ℕ) (l : LockName × Mode) (now : Bo
 converts-queued u n l true e = ap (λ o. unwrap_or (option_map is_queued o) false) e
 converts-queued u n l false e = ap (λ o. unwrap_or (option_map is_queued o) false) e
 
+converts-lasting : (u : List Resource) (n : ℕ) (l : LockName × Mode) (now : Bool) → stands_at l.0 (system_of n) u ≡ Some (if now then Granted l.1 else Converting NL l.1) → has_lock l.0 (system_of n) u ≡ true
+converts-lasting u n l true e = ap (λ o. is_some (option_and_then held o)) e
+converts-lasting u n l false e = ap (λ o. is_some (option_and_then held o)) e
+
 pub converting_holds : ConvertingHolds
 converting_holds t n i k ls ms l value own rows is held at_own from has left to idle =
     let u : List Resource = converted l.0 (system_of n) l.1 value t in
@@ -139,6 +143,7 @@ converting_holds t n i k ls ms l value own rows is held at_own from has left to 
       left = left-held l.0 t u n ls alike was;
       waits = waits-push u n ms l ∙ queued;
       last = held-push u n ms l ∙ held-new ms l (is_queued_at u n l) now queued;
+      lasting = converts-lasting u n l now new;
       rest = λ j xs d e at. rest-still l.0 t u n i j ls xs own h from named alike d at;
       others = λ m xs d. stands-still m t u xs (λ name j. others m d name);
     }

@@ -13,7 +13,7 @@ use Rattle.base_words.proofs.Listing.{once_first, once_second}
 use Rattle.node_locks.specs.Held.{system_of, Row, names_of, IsGranted, HoldsItsLocks, AreHeld, waits_at, without, taken_out, put_in, with_rows}
 use Rattle.node_locks.specs.HeldLaws.{StandsStill, GoesOn, IsLowered, IsGivenBack}
 use Rattle.node_locks.specs.PuttingBack.{put_back, all_back, kept_by, kept_of, IsLow, ArePutBack, PuttingBackHolds}
-use Rattle.node_locks.proofs.Standing.{AllGranted, granted-all}
+use Rattle.node_locks.proofs.Standing.{AllGranted, granted-all, still-same, still-then, goes-same, goes-then}
 use Rattle.node_locks.proofs.Nodes.{rows_here, rows_else, rows_twice, rows_same}
 use Rattle.node_locks.proofs.Rows.{all_names, once-parts, order-at, without-first}
 use Rattle.node_locks.proofs.Moving.{is-held}
@@ -92,8 +92,8 @@ putting_back_holds keeps values t n kept [] rest rows is held own idle free low 
     table = is;
     held = λ m. subst (λ (x : List Row). HoldsItsLocks t m x) (with-same m) (held m);
     own = rw (append-nil kept) (is-held t n kept (granted-all t n kept (order-at t n (rows n) 0 kept mine.in_order (rw own refl)) idle));
-    still = λ xs i. record { waits = refl; holds = refl };
-    others = λ m xs d i. record { waits = λ q. q; holds = λ k h. h };
+    still = λ xs i. still-same t n xs;
+    others = λ m xs d i. goes-same t m xs;
   },
 ) where
   mine : HoldsItsLocks t n (rows n)
@@ -116,10 +116,10 @@ putting_back_holds keeps values t n kept (l ∷ ls) rest rows is held own idle f
         table = by.table;
         held = λ m. subst (λ (x : List Row). HoldsItsLocks after m x) (rows_twice rows n (next ∷ (ls ∷ rest)) ((next ++ kept_of keeps ls) ∷ ([] ∷ rest)) m) (by.held m);
         own = by.own;
-        still = λ xs i. let a : StandsStill t u n xs = one.still xs i in let b : StandsStill u after n xs = by.still xs i in record { waits = b.waits ∙ a.waits; holds = b.holds ∙ a.holds };
+        still = λ xs i. let a : StandsStill t u n xs = one.still xs i in let b : StandsStill u after n xs = by.still xs i in still-then t u after n xs a b;
         others = λ m xs d i.
             let a : GoesOn t u m xs = one.others m xs d i in
             let b : GoesOn u after m xs = by.others m xs d (subst (λ (x : List Row). Has x xs) (sym (rows_else rows n (next ∷ (ls ∷ rest)) m d)) i) in
-            record { waits = λ q. b.waits (a.waits q); holds = λ k h. b.holds k (a.holds k h) };
+            goes-then t u after m xs a b;
       }),
     )

@@ -1,12 +1,12 @@
 -- How a node's locks stand in a table, and in a later one.
-use Rattle.std.proofs.Common.{◌≡◌, ◌⊎◌, ◌-◌, ℕ, suc, Bool, true, false, List, [], ◌∷◌, ◌++◌, Some, None, slice_get, length, option_map, unwrap_or, if◌then◌else◌, refl, ap, ◌∙◌, inl, inr, arith}
+use Rattle.std.proofs.Common.{◌≡◌, ◌⊎◌, ◌-◌, ℕ, suc, Bool, true, false, List, [], ◌∷◌, ◌++◌, Some, None, slice_get, length, option_map, option_and_then, is_some, unwrap_or, if◌then◌else◌, refl, sym, ap, subst, ◌∙◌, inl, inr, arith}
 use Rattle.plain_cat.specs.declared.mode.Mode.{Mode}
 use Rattle.lock_db.specs.declared.name.LockName.{LockName}
 use Rattle.lock_db.specs.declared.resource.Resource.{Resource}
-use Rattle.lock_db.specs.Queues.{is_queued}
+use Rattle.lock_db.specs.Queues.{is_queued, held}
 use Rattle.lock_db.specs.Laws.{stands_at}
 use Rattle.base_words.specs.Lists.{Has}
-use Rattle.node_locks.specs.Held.{system_of, names_of, IsGranted, IsWaiting, StandInOrder, is_queued_at, waits_at, held_locks}
+use Rattle.node_locks.specs.Held.{system_of, has_lock, names_of, IsGranted, IsWaiting, StandInOrder, is_queued_at, waits_at, held_locks}
 use Rattle.node_locks.specs.HeldLaws.{StandsStill, GoesOn}
 
 pub queued-granted : (t : List Resource) (n : ℕ) (l : LockName × Mode) → IsGranted t n l → is_queued_at t n l ≡ false
@@ -77,10 +77,12 @@ waits-last t n (k ∷ (j ∷ ls)) l e =
     let rest : length (j ∷ ls) - 1 ≡ length ls = omega arith in
     waits-last t n (j ∷ ls) l (rw rest (rw whole at e))
 
--- What a node's locks in one table are in a later one: what is granted stays so, what waits may be granted, and nothing comes.
+-- What a node's locks in one table are in a later one: what is granted stays so, what waits may be granted, no lock goes, and nothing
+-- comes.
 pub record ComesTo (m : ℕ) (t u : List Resource) : Type 0 where
   pub granted : (l : LockName × Mode) → IsGranted t m l → IsGranted u m l
   pub waiting : (l : LockName × Mode) → IsWaiting t m l → IsGranted u m l ⊎ IsWaiting u m l
+  pub lasting : (name : LockName) → has_lock name (system_of m) t ≡ true → has_lock name (system_of m) u ≡ true
   pub nothing : (name : LockName) → stands_at name (system_of m) t ≡ None → stands_at name (system_of m) u ≡ None
 
 -- a lock that is the last of a row
@@ -111,6 +113,7 @@ pub comes-on : (m : ℕ) (t u : List Resource) (ls : List (LockName × Mode)) �
 comes-on m t u ls o s = record {
   waits = λ q. waits-granted u m ls (granted-later t u m ls (λ l i g. o.granted l g) (granted-all t m ls s q));
   holds = λ x h. comes-held m t u ls x o s h;
+  lasting = λ name i h. o.lasting name h;
 }
 
 -- at each name a node stands as it stood
@@ -118,7 +121,7 @@ abbrev pub StandsAlike : ℕ → List Resource → List Resource → Type 0
 StandsAlike m t u = (name : LockName) → stands_at name (system_of m) u ≡ stands_at name (system_of m) t
 
 pub alike-comes : (m : ℕ) (t u : List Resource) → StandsAlike m t u → ComesTo m t u
-alike-comes m t u a = record { granted = λ l g. a l.0 ∙ g; waiting = λ l w. inr (elim w [ inl e ↦ inl (a l.0 ∙ e) | inr e ↦ inr (a l.0 ∙ e) ]); nothing = λ name e. a name ∙ e }
+alike-comes m t u a = record { granted = λ l g. a l.0 ∙ g; waiting = λ l w. inr (elim w [ inl e ↦ inl (a l.0 ∙ e) | inr e ↦ inr (a l.0 ∙ e) ]); lasting = λ name h. ap (λ o. is_some (option_and_then held o)) (a name) ∙ h; nothing = λ name e. a name ∙ e }
 
 -- a row at whose names a node stands as it stood
 abbrev pub AlikeAt : ℕ → List Resource → List Resource → List (LockName × Mode) → Type 0
@@ -138,7 +141,28 @@ held-alike m t u (l ∷ []) a = ap (λ b. if b then [] else l ∷ []) (queued-al
 held-alike m t u (l ∷ (k ∷ ls)) a = ap (λ ys. l ∷ ys) (held-alike m t u (k ∷ ls) (λ name i. a name (inr i)))
 
 pub stands-still : (m : ℕ) (t u : List Resource) (ls : List (LockName × Mode)) → AlikeAt m t u ls → StandsStill t u m ls
-stands-still m t u ls a = record { waits = waits-alike m t u ls a; holds = held-alike m t u ls a }
+stands-still m t u ls a = record { waits = waits-alike m t u ls a; holds = held-alike m t u ls a; stands = a }
+
+-- in the same table, and over two changes of it
+pub still-same : (t : List Resource) (m : ℕ) (ls : List (LockName × Mode)) → StandsStill t t m ls
+still-same t m ls = record { waits = refl; holds = refl; stands = λ name h. refl }
+
+pub still-then : (t u v : List Resource) (m : ℕ) (ls : List (LockName × Mode)) → StandsStill t u m ls → StandsStill u v m ls → StandsStill t v m ls
+still-then t u v m ls a b = record { waits = b.waits ∙ a.waits; holds = b.holds ∙ a.holds; stands = λ name h. b.stands name h ∙ a.stands name h }
+
+pub goes-same : (t : List Resource) (m : ℕ) (ls : List (LockName × Mode)) → GoesOn t t m ls
+goes-same t m ls = record { waits = λ q. q; holds = λ l h. h; lasting = λ name i h. h }
+
+pub goes-then : (t u v : List Resource) (m : ℕ) (ls : List (LockName × Mode)) → GoesOn t u m ls → GoesOn u v m ls → GoesOn t v m ls
+goes-then t u v m ls a b = record { waits = λ q. b.waits (a.waits q); holds = λ l h. b.holds l (a.holds l h); lasting = λ name i h. b.lasting name i (a.lasting name i h) }
+
+-- a row that stands still loses nothing
+pub goes-still : (t u : List Resource) (m : ℕ) (ls : List (LockName × Mode)) → StandsStill t u m ls → GoesOn t u m ls
+goes-still t u m ls s = record {
+  waits = λ q. s.waits ∙ q;
+  holds = λ l h. subst (λ (ks : List (LockName × Mode)). Has ks l) (sym s.holds) h;
+  lasting = λ name i h. ap (λ o. is_some (option_and_then held o)) (s.stands name i) ∙ h;
+}
 
 alike-last : (m : ℕ) (t u : List Resource) (l : LockName × Mode) → stands_at l.0 (system_of m) u ≡ stands_at l.0 (system_of m) t → IsGranted t m l ⊎ IsWaiting t m l → IsGranted u m l ⊎ IsWaiting u m l
 alike-last m t u l e (inl g) = inl (e ∙ g)

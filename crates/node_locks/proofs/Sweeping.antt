@@ -9,7 +9,7 @@ use Rattle.base_words.specs.Lists.{Has}
 use Rattle.node_locks.specs.Held.{system_of, Row, names_of, IsGranted, HoldsItsLocks, without, taken_out, with_rows}
 use Rattle.node_locks.specs.HeldLaws.{StandsStill, GoesOn, IsGivenBack}
 use Rattle.node_locks.specs.Sweeping.{all_given, without_all, all_taken_out, AreSwept, SweepingHolds, AllGo}
-use Rattle.node_locks.proofs.Standing.{AllGranted, granted-all}
+use Rattle.node_locks.proofs.Standing.{AllGranted, granted-all, still-same, still-then, goes-same, goes-then}
 use Rattle.node_locks.proofs.Nodes.{rows_here, rows_else, rows_twice, rows_same}
 use Rattle.node_locks.proofs.Rows.{order-at, without-stays, without-first, taken-at, taken-else}
 use Rattle.node_locks.proofs.Moving.{is-held}
@@ -31,8 +31,8 @@ sweeping_holds values t n i ls [] own rows is held at_own from idle once in_row 
         table = is;
         held = λ m. subst (λ (x : List Row). HoldsItsLocks t m x) (with-same m) (held m);
         row = is-held t n ls (granted-all t n ls (order-at t n own i ls mine.in_order from) idle);
-        rest = λ j xs ne at. record { waits = refl; holds = refl };
-        others = λ m xs d j. record { waits = λ q. q; holds = λ k h. h };
+        rest = λ j xs ne at. still-same t n xs;
+        others = λ m xs d j. goes-same t m xs;
       },
     ) where
       with-same : (m : ℕ) → rows m ≡ with_rows rows n own m
@@ -58,11 +58,11 @@ sweeping_holds values t n i ls (name ∷ names) own rows is held at_own from idl
         rest = λ j xs ne at.
             let a : StandsStill t u n xs = one.rest j xs ne at in
             let b : StandsStill u after n xs = by.rest j xs ne (taken-else own i j name ne ∙ at) in
-            record { waits = b.waits ∙ a.waits; holds = b.holds ∙ a.holds };
+            still-then t u after n xs a b;
         others = λ m xs d j.
             let a : GoesOn t u m xs = one.others m xs d j in
             let b : GoesOn u after m xs = by.others m xs d (subst (λ (x : List Row). Has x xs) (sym (rows_else rows n out m d)) j) in
-            record { waits = λ q. b.waits (a.waits q); holds = λ k h. b.holds k (a.holds k h) };
+            goes-then t u after m xs a b;
       },
     )
 

@@ -1,5 +1,5 @@
 -- What is left where a lock is asked for.
-use Rattle.std.proofs.Common.{◌≡◌, ℕ, Bool, true, false, List, [], ◌∷◌, Some, None, IsSome, is_some, slice_get, option_and_then, not, ◌++◌, if◌then◌else◌, arith, refl, ap, sym, subst, ◌∙◌, inl, inr}
+use Rattle.std.proofs.Common.{◌≡◌, ◌≢◌, ◌⊎◌, ℕ, Bool, true, false, List, [], ◌∷◌, Some, None, IsSome, is_some, slice_get, option_and_then, not, ◌++◌, if◌then◌else◌, arith, refl, ap, sym, subst, ◌∙◌, inl, inr}
 use Rattle.plain_cat.specs.declared.mode.Mode.{Mode}
 use Rattle.plain_cat.specs.declared.mode.Mode.TheVariants.{NL, PR}
 use Rattle.lock_db.specs.declared.name.LockName.{LockName}
@@ -9,16 +9,18 @@ use Rattle.lock_db.specs.declared.resource.Resource.{Resource}
 use Rattle.lock_db.specs.Queues.{held, settled_mode, standing_of, lock_of}
 use Rattle.lock_db.specs.Resources.{goes_at_once}
 use Rattle.lock_db.specs.Tables.{IsTable, resource_at, asked, converted, converts_now}
+use Rattle.lock_db.specs.Laws.{stands_at}
 use Rattle.lock_db.proofs.Steps.{IsTable-asked, IsTable-converted}
 use Rattle.base_words.specs.Lists.{Has}
-use Rattle.node_locks.specs.Held.{system_of, Row, joined, names_of, IsGranted, HoldsItsLocks, AreHeld, waits_at, taken_out}
+use Rattle.node_locks.specs.Held.{system_of, has_lock, Row, joined, names_of, IsGranted, HoldsItsLocks, AreHeld, waits_at, taken_out}
 use Rattle.node_locks.specs.HeldLaws.{IsAskedFor, IsConverted}
-use Rattle.node_locks.specs.Taking.{has_lock, taken, taken_now, IsTaken, TakingHolds, TakingKeeps}
+use Rattle.node_locks.specs.Taking.{taken, taken_now, IsTaken, TakingHolds, TakingKeeps}
 use Rattle.node_locks.proofs.Standing.{AllGranted, granted-all}
 use Rattle.node_locks.proofs.Rows.{AlikeBut, order-at, taken-absent}
 use Rattle.node_locks.proofs.Asking.{asked-elsewhere, asking_holds}
 use Rattle.node_locks.proofs.Moving.{granted-in, left-held}
-use Rattle.node_locks.proofs.Converting.{converting_holds}
+use Rattle.node_locks.proofs.Converting.{converted-elsewhere, converting_holds}
+use Rattle.node_locks.proofs.Nodes.{name_or_not}
 
 -- who stands nowhere has no lock there
 pub no-lock : (name : LockName) (owner : Owner) (t : List Resource) → standing_of owner (resource_at name t).askers ≡ None → has_lock name owner t ≡ false
@@ -38,6 +40,12 @@ taking_keeps t name owner mode is (inr l) =
     let b = nl-lock name owner t l in
     let some : IsSome (lock_of owner (resource_at name t).askers) = rw l refl in
     rw b (IsTable-converted name owner mode (resource_at name t).value t is some (λ e f. let k : Some NL ≡ Some PR = sym l ∙ e in cc))
+
+-- a node keeps its locks, if it does so on the name of a call and stands elsewhere as it stood
+lasts : (name at : LockName) (n : ℕ) (t u : List Resource) → (name ≡ at) ⊎ (name ≢ at) → (has_lock at (system_of n) t ≡ true → has_lock at (system_of n) u ≡ true)
+    → (name ≢ at → stands_at name (system_of n) u ≡ stands_at name (system_of n) t) → has_lock name (system_of n) t ≡ true → has_lock name (system_of n) u ≡ true
+lasts name at n t u (inl e) here alike has = subst (λ (x : LockName). has_lock x (system_of n) u ≡ true) (sym e) (here (subst (λ (x : LockName). has_lock x (system_of n) t ≡ true) e has))
+lasts name at n t u (inr d) here alike has = ap (λ o. is_some (option_and_then held o)) (alike d) ∙ has
 
 taking-new : (t : List Resource) (n i k : ℕ) (ls ms : Row) (l : LockName × Mode) (own : List Row) (rows : ℕ → List Row) → AreHeld t rows → rows n ≡ own
     → slice_get own i ≡ Some ls → waits_at t n ls ≡ false → (Has (names_of (joined own)) l.0 → ⊥)
@@ -61,6 +69,7 @@ taking-new t n i k ls ms l own rows held at_own from left free to idle =
       waits = by.waits ∙ ap not (sym now);
       last = by.last ∙ ap (λ (v : Bool). if v then ms ++ l ∷ [] else ms) (sym now);
       rest = λ j xs d e g. by.rest j xs e g;
+      lasting = λ name. lasts name l.0 n t u (name_or_not name l.0) (λ e. absurd (let f : true ≡ false = sym e ∙ b in cc)) (λ d. alike name d);
       others = by.others;
     })
 
@@ -85,6 +94,7 @@ taking-kept t n i k ls ms l own rows is held at_own from left has to idle =
       waits = by.waits ∙ ap not (sym now);
       last = by.last ∙ ap (λ (v : Bool). if v then ms ++ l ∷ [] else ms) (sym now);
       rest = by.rest;
+      lasting = λ name. lasts name l.0 n t u (name_or_not name l.0) (λ e. by.lasting) (λ d. converted-elsewhere l.0 name n n l.1 value t d);
       others = by.others;
     })
 

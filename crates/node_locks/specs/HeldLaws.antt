@@ -9,23 +9,26 @@ use Rattle.lock_db.specs.declared.resource.Resource.{Resource}
 use Rattle.lock_db.specs.Queues.{standing_of, lock_of, held, wanted, goes_beside, head_of, is_upward}
 use Rattle.lock_db.specs.Resources.{goes_at_once}
 use Rattle.lock_db.specs.Tables.{IsTable, resource_at, asked, converts_now, converted, released, dropped}
+use Rattle.lock_db.specs.Laws.{stands_at}
 use Rattle.base_words.specs.Lists.{Has, Once}
-use Rattle.node_locks.specs.Held.{system_of, Row, joined, names_of, IsGranted, HoldsItsLocks, AreHeld, waits_at, held_locks, all_held, without, taken_out, put_in, with_rows}
+use Rattle.node_locks.specs.Held.{system_of, has_lock, Row, joined, names_of, IsGranted, HoldsItsLocks, AreHeld, waits_at, held_locks, all_held, without, taken_out, put_in, with_rows}
 
 -- a row of node m stands as it stood
 pub record StandsStill (t after : List Resource) (m : ℕ) (ls : Row) : Type 0 where
   pub waits : waits_at after m ls ≡ waits_at t m ls
   pub holds : held_locks after m ls ≡ held_locks t m ls
+  pub stands : (name : LockName) → Has (names_of ls) name → stands_at name (system_of m) after ≡ stands_at name (system_of m) t
 
 -- node m holds all of a row
 pub record IsHeld (t : List Resource) (m : ℕ) (ls : Row) : Type 0 where
   pub waits : waits_at t m ls ≡ false
   pub holds : held_locks t m ls ≡ ls
 
--- node m loses nothing of a row, and does not come to wait for it
+-- node m loses nothing of a row, also no lock of which a conversion waits, and does not come to wait for it
 pub record GoesOn (t after : List Resource) (m : ℕ) (ls : Row) : Type 0 where
   pub waits : waits_at t m ls ≡ false → waits_at after m ls ≡ false
   pub holds : (l : LockName × Mode) → Has (held_locks t m ls) l → Has (held_locks after m ls) l
+  pub lasting : (name : LockName) → Has (names_of ls) name → has_lock name (system_of m) t ≡ true → has_lock name (system_of m) after ≡ true
 
 -- in an empty table no node has a lock
 abbrev pub NothingIsHeld : Type 0
@@ -56,6 +59,7 @@ pub record IsConverted (n i k : ℕ) (ls ms : Row) (l : LockName × Mode) (own :
   pub left : IsHeld after n (without l.0 ls)
   pub waits : waits_at after n (ms ++ l ∷ []) ≡ not (converts_now l.0 (system_of n) l.1 t)
   pub last : held_locks after n (ms ++ l ∷ []) ≡ (if converts_now l.0 (system_of n) l.1 t then ms ++ l ∷ [] else ms)
+  pub lasting : has_lock l.0 (system_of n) after ≡ true
   pub rest : (j : ℕ) (xs : Row) → j ≢ i → j ≢ k → slice_get own j ≡ Some xs → StandsStill t after n xs
   pub others : (m : ℕ) (xs : Row) → m ≢ n → StandsStill t after m xs
 

@@ -4,9 +4,9 @@ ghost use Rattle.std.specs.Prelude.{◌≡◌, ◌≢◌, IsSome, OnOk, IfOk, On
 ghost use Rattle.lock_db.specs.Queues.{lock_of};
 ghost use Rattle.lock_db.specs.Resources.{asked_answer};
 ghost use Rattle.lock_db.specs.Tables.{resource_at, converted, released};
-ghost use Rattle.node_locks.specs.Held.{system_of, waits_at};
+ghost use Rattle.node_locks.specs.Held.{system_of, has_lock, waits_at};
 ghost use Rattle.node_locks.specs.Sequences.{raised_block};
-ghost use Rattle.node_locks.specs.Taking.{has_lock, taken, taken_now, MayTake};
+ghost use Rattle.node_locks.specs.Taking.{taken, taken_now, MayTake};
 
 use crate::sequences::{Raise, raised_block};
 use lock_db::{Asked, LockDb, LockName, Mode, NoMemory, Owner};
@@ -55,24 +55,26 @@ pub fn take(
 }
 
 /// Lowers a lock that the node's file system has, and of which no conversion waits, or leaves it in its mode. It takes no
-/// memory. From PW or EX this writes the value block, with both sequences raised as a release raises them.
+/// memory. From PW or EX this writes the value block, as a release does.
 pub fn lower(db: &mut LockDb, node: u8, name: LockName, low: Mode, raise: Raise)
     requires lock { IsSome (lock_of (system_of node) (resource_at name db.old).askers) }
     requires not_across { lock_of (system_of node) (resource_at name db.old).askers ≡ Some Mode.PR → low ≢ Mode.CW }
-    ensures { db.new ≡ converted name (system_of node) low (raised_block raise (resource_at name db.old)) db.old }
+    ensures { db.new ≡ converted name (system_of node) low (raised_block name raise (resource_at name db.old)) db.old }
 {
     let (value, valid) = db.value(name);
-    let block = raised_block(value, valid, raise);
+    let block = raised_block(name, value, valid, raise);
     let _granted = db.convert(name, system_of(node), low, block);
 }
 
 /// Gives back a lock that the node's file system has, and of which no conversion waits. From PW or EX this writes the value
-/// block, with both sequences raised: each by its number, and by one at least where the block was not valid. With the
-/// last lock and request on the name the block is gone: the next to ask finds zeros, valid.
+/// block. If the lock guards blocks, both sequences are raised: each by its number, and by one at least where the block was not
+/// valid. Else, on X and on the A locks, the block is left as it is. With the last lock and request on the name the block is gone: the
+/// next to ask finds zeros, valid.
 pub fn release(db: &mut LockDb, node: u8, name: LockName, raise: Raise)
     requires { IsSome (lock_of (system_of node) (resource_at name db.old).askers) }
-    ensures { db.new ≡ released name (system_of node) (raised_block raise (resource_at name db.old)) db.old }
+    ensures { db.new ≡ released name (system_of node) (raised_block name raise (resource_at name db.old)) db.old }
 {
     let (value, valid) = db.value(name);
-    db.release(name, system_of(node), raised_block(value, valid, raise));
+    let block = raised_block(name, value, valid, raise);
+    db.release(name, system_of(node), block);
 }

@@ -11,7 +11,8 @@
 //! ```
 //!
 //! `push_freeing` adds exactly the writes of both bitmaps; `blocks_for` gives exactly the bitmap blocks that are to be looked at.
-//! `push_gone` adds exactly the writes of a file that goes, `all_clusters` gives exactly its clusters.
+//! `push_gone` adds exactly the writes of a file that goes, `all_clusters` gives exactly its clusters. Where memory runs out, the plan
+//! holds what it held, and behind that at most a beginning of what was to be added.
 //!
 //! Laws: the bitmap writes are steps of a plan (`freeing_steps`), with the quota row too (`tail_steps`), each under V or Q
 //! (`tail_guards`); after them nothing is outside (`tail_ends`), and other files stay as they were seen (`other_files_stand`).

@@ -1,6 +1,7 @@
 //! The writes by which a file goes: the free slot, and what becomes free.
 
-ghost use Rattle.std.specs.Prelude.{◌≡◌, ◌≤◌, ◌++◌, [], ◌∷◌, None, IfOk, OnOk};
+ghost use Rattle.std.specs.Prelude.{◌≡◌, ◌≤◌, ◌++◌, [], ◌∷◌, None, IfOk, OnOk, OnErr};
+ghost use Rattle.base_words.specs.Lists.{HoldsPart};
 ghost use Rattle.fx_header.specs.Headers.{freed};
 ghost use Rattle.plain_cat.specs.declared.history.Stage.TheVariants as stage;
 ghost use Rattle.vol_parts.specs.Parts.{IsGeometry};
@@ -28,8 +29,8 @@ fn one_number(alloc: Global, n: u32) -> Result<Numbers, NoMemory>
     Ok(numbers)
 }
 
-// Adds the write of the header that becomes a free slot. The clusters and the number are outside then. A refusal of memory says
-// nothing of the writes.
+// Adds the write of the header that becomes a free slot. The clusters and the number are outside then. If memory runs out,
+// the writes are as they were.
 fn push_slot(
     alloc: Global,
     writes: &mut Writes,
@@ -39,7 +40,8 @@ fn push_slot(
 ) -> Result<(), NoMemory>
     requires geometry { IsGeometry g.now }
     requires number { f.now.num ≤ g.now.files }
-    ensures { OnOk result (writes.new ≡ writes.old ++ with_numbers (f.now.num ∷ []) (header_write g.now f.now.num (freed f.now.fields.seq) stage.Freed (holding clusters.now None)) ∷ []) }
+    ensures ok { OnOk result (writes.new ≡ writes.old ++ with_numbers (f.now.num ∷ []) (header_write g.now f.now.num (freed f.now.fields.seq) stage.Freed (holding clusters.now None)) ∷ []) }
+    ensures err { OnErr result (writes.new ≡ writes.old) }
 {
     writes.push(PlanWrite {
         lock: LockName::S(f.num),
@@ -52,7 +54,8 @@ fn push_slot(
     })
 }
 
-/// Adds the writes with which a file of these clusters goes. A refusal of memory says nothing of the writes.
+/// Adds the writes with which a file of these clusters goes. If memory runs out, the writes that were there are followed by a
+/// beginning of those to be added.
 #[tactic(auto, unfolding(op_law::specs::Freeing::freeing_writes))]
 pub fn push_gone(
     alloc: Global,
@@ -67,7 +70,8 @@ pub fn push_gone(
     requires readable { IsReadable f.now }
     requires clusters { clusters.now ≡ all_clusters g.now (file_seen g.now f.now) }
     requires whole { IsWhole g.now clusters.now space.now }
-    ensures { OnOk result (writes.new ≡ writes.old ++ freeing_writes g.now (file_seen g.now f.now) (space_seen space.now)) }
+    ensures ok { OnOk result (writes.new ≡ writes.old ++ freeing_writes g.now (file_seen g.now f.now) (space_seen space.now)) }
+    ensures err { OnErr result (HoldsPart writes.old (freeing_writes g.now (file_seen g.now f.now) (space_seen space.now)) writes.new) }
 {
     push_slot(alloc, writes, g, f, clusters)?;
     let numbers = one_number(alloc, f.num)?;

@@ -1,3 +1,4 @@
+pub mod Begun
 pub mod BlockSteps
 pub mod Chaining
 pub mod Charges

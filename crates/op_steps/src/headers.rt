@@ -1,6 +1,6 @@
 //! The write of a file's header.
 
-ghost use Rattle.std.specs.Prelude.{◌≡◌, ◌≤◌, ◌++◌, [], ◌∷◌, OnOk};
+ghost use Rattle.std.specs.Prelude.{◌≡◌, ◌≤◌, ◌++◌, [], ◌∷◌, OnOk, OnErr};
 ghost use Rattle.vol_parts.specs.Parts.{IsGeometry};
 ghost use Rattle.op_law.specs.Writing.{holding, header_write};
 
@@ -11,8 +11,8 @@ use plain_cat::{Clusters, Stage};
 use std::alloc::Global;
 use vol_parts::Geometry;
 
-/// Adds the write of the header of file n, which leaves this stage; these clusters and this number are outside then. A refusal of
-/// memory says nothing of the writes.
+/// Adds the write of the header of file n, which leaves this stage; these clusters and this number are outside then. If memory
+/// runs out, the writes are as they were.
 pub fn push_header(
     alloc: Global,
     writes: &mut Writes,
@@ -25,7 +25,8 @@ pub fn push_header(
 ) -> Result<(), NoMemory>
     requires geometry { IsGeometry g.now }
     requires number { n ≤ g.now.files }
-    ensures { OnOk result (writes.new ≡ writes.old ++ header_write g.now n block.now stage (holding clusters number) ∷ []) }
+    ensures ok { OnOk result (writes.new ≡ writes.old ++ header_write g.now n block.now stage (holding clusters number) ∷ []) }
+    ensures err { OnErr result (writes.new ≡ writes.old) }
 {
     writes.push(PlanWrite {
         lock: LockName::S(n),

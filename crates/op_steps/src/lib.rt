@@ -13,7 +13,7 @@
 //!
 //! What was seen is given exactly, or else exactly the next need, whatever the command looks at afterwards (`need`). Each `push_`
 //! call adds exactly the writes of its definition to the plan, as `push_insertion` those that enter an entry and `push_charge`
-//! that of a quota row; after want of memory nothing is said of the writes.
+//! that of a quota row; where memory runs out, the plan holds what it held, and behind that at most a beginning of those.
 //!
 //! A plan is a chain of steps: each write takes blocks that spell one stage to blocks that spell the next. Each law is the contract of
 //! a function that does nothing, and those that end in `_guards` say that each write is under the lock that guards its block.

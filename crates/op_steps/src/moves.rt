@@ -1,7 +1,8 @@
 //! The writes that enter an entry into a directory, and those that remove one.
 
-ghost use Rattle.std.specs.Prelude.{◌≡◌, ◌++◌, true, false, IfOk, OnOk};
+ghost use Rattle.std.specs.Prelude.{◌≡◌, ◌++◌, true, false, IfOk, OnOk, OnErr};
 ghost use Rattle.std.specs.Result.{ForOk};
+ghost use Rattle.base_words.specs.Lists.{HoldsPart};
 ghost use Rattle.fx_dir.specs.Writing.{IsInForm};
 ghost use Rattle.fx_dir.specs.Entries.{has};
 ghost use Rattle.fx_dir.specs.Directory.{directory};
@@ -74,8 +75,8 @@ fn move_write(alloc: Global, d: &DirSeen<'_>, m: &Move, stage: Stage) -> PlanWri
     }
 }
 
-/// Adds the writes of moves in a directory, of which so many leave the stage `before`, and those behind them `after`. A refusal of
-/// memory says nothing of the writes.
+/// Adds the writes of moves in a directory, of which so many leave the stage `before`, and those behind them `after`. If
+/// memory runs out, the writes that were there are followed by a beginning of those to be added.
 pub fn push_moves(
     alloc: Global,
     writes: &mut Writes,
@@ -86,7 +87,8 @@ pub fn push_moves(
     after: Stage,
 ) -> Result<(), NoMemory>
     requires { IsReadable d.now }
-    ensures { OnOk result (writes.new ≡ writes.old ++ moves_at (dir_seen d.now) before after first moves.now) }
+    ensures ok { OnOk result (writes.new ≡ writes.old ++ moves_at (dir_seen d.now) before after first moves.now) }
+    ensures err { OnErr result (HoldsPart writes.old (moves_at (dir_seen d.now) before after first moves.now) writes.new) }
 {
     writes.make_room(moves.len().saturating_add(FEW))?;
     for (i, m) in moves.iter().enumerate() {
@@ -96,8 +98,8 @@ pub fn push_moves(
     Ok(())
 }
 
-/// Adds the writes that enter an entry, of which the last leaves the stage `after`, and those in front of it `before`. A refusal
-/// of memory says nothing of the writes.
+/// Adds the writes that enter an entry, of which the last leaves the stage `after`, and those in front of it `before`. If
+/// memory runs out, the writes that were there are followed by a beginning of those to be added.
 #[tactic(auto, unfolding(op_law::specs::Moving::insertion_writes))]
 pub fn push_insertion(
     alloc: Global,
@@ -111,7 +113,8 @@ pub fn push_insertion(
     requires read { IsRead d.now.blocks.now }
     requires form { IsInForm (raw_entry e.now) }
     requires new { is_taken e.now.ver (versions e.now.name (entries_of (dir_seen d.now))) ≡ false }
-    ensures { OnOk result (writes.new ≡ writes.old ++ insertion_writes (dir_seen d.now) e.now before after) }
+    ensures ok { OnOk result (writes.new ≡ writes.old ++ insertion_writes (dir_seen d.now) e.now before after) }
+    ensures err { OnErr result (HoldsPart writes.old (insertion_writes (dir_seen d.now) e.now before after) writes.new) }
 {
     let moves = insertion_moves(alloc, d, e)?;
     let last = moves.len().saturating_sub(1);
@@ -119,7 +122,7 @@ pub fn push_insertion(
 }
 
 /// Adds the writes that remove an entry from a directory as it was seen. Those that pack its entries leave the stage `before`, and
-/// the others `after`. A refusal of memory says nothing of the writes.
+/// the others `after`. If memory runs out, the writes that were there are followed by a beginning of those to be added.
 #[tactic(auto, unfolding(op_law::specs::Moving::removal_writes))]
 pub fn push_removal(
     alloc: Global,
@@ -132,7 +135,8 @@ pub fn push_removal(
     requires readable { IsReadable d.now }
     requires read { IsRead d.now.blocks.now }
     requires there { ForOk (directory (blocks_alone d.now.blocks.now)) (λ es. has es (key e.now.name e.now.ver) ≡ true) }
-    ensures { OnOk result (writes.new ≡ writes.old ++ removal_writes (dir_seen d.now) e.now before after) }
+    ensures ok { OnOk result (writes.new ≡ writes.old ++ removal_writes (dir_seen d.now) e.now before after) }
+    ensures err { OnErr result (HoldsPart writes.old (removal_writes (dir_seen d.now) e.now before after) writes.new) }
 {
     let blocks = blocks_of(alloc, d.blocks)?;
     let es = read_sound(alloc, blocks.items())?;

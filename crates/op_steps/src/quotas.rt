@@ -1,6 +1,6 @@
 //! The quota blocks: what they show, and the write of an owner's row.
 
-ghost use Rattle.std.specs.Prelude.{◌≡◌, ◌≤◌, ◌<◌, ◌*◌, ◌%◌, ◌++◌, [], ◌∷◌, List, Some, true, is_some, length, slice_get, IfOk, IfSome, OnOk};
+ghost use Rattle.std.specs.Prelude.{◌≡◌, ◌≤◌, ◌<◌, ◌*◌, ◌%◌, ◌++◌, [], ◌∷◌, List, Some, true, is_some, length, slice_get, IfOk, IfSome, OnOk, OnErr};
 ghost use Rattle.base_words.specs.Fields.{Block};
 ghost use Rattle.fx_quota.specs.Rows.{row_in};
 ghost use Rattle.plain_cat.specs.declared.history.Stage.TheVariants as stage;
@@ -111,7 +111,7 @@ pub fn row_there(quota: &[(u32, Block)], j: u32) -> Row
 }
 
 /// Adds the write that makes row j active with these values, which leaves this stage; these clusters and this number are outside
-/// then. A refusal of memory says nothing of the writes.
+/// then. If memory runs out, the writes are as they were.
 pub fn push_row(
     alloc: Global,
     writes: &mut Writes,
@@ -126,7 +126,8 @@ pub fn push_row(
     requires geometry { IsGeometry g.now }
     requires few { length quota.now ≤ 16 }
     requires within { j < 16 * length quota.now }
-    ensures { OnOk result (writes.new ≡ writes.old ++ row_write g.now (blocks_alone quota.now) j row.now stage (holding clusters number) ∷ []) }
+    ensures ok { OnOk result (writes.new ≡ writes.old ++ row_write g.now (blocks_alone quota.now) j row.now stage (holding clusters number) ∷ []) }
+    ensures err { OnErr result (writes.new ≡ writes.old) }
 {
     let mut block = quota[(j / 16) as usize].1;
     set_row(&mut block, j % 16, row);
@@ -142,7 +143,7 @@ pub fn push_row(
 }
 
 /// Adds the write that charges an owner with k blocks more, where the owner has a row; these clusters and this number are
-/// outside then. The usage has 32 bits. A refusal of memory says nothing of the writes.
+/// outside then. The usage has 32 bits. If memory runs out, the writes are as they were.
 #[tactic(auto, unfolding(op_law::specs::Quotas::owner_write))]
 pub fn push_charge(
     alloc: Global,
@@ -156,7 +157,8 @@ pub fn push_charge(
 ) -> Result<(), NoMemory>
     requires geometry { IsGeometry g.now }
     requires few { length quota.now ≤ 16 }
-    ensures { OnOk result (writes.new ≡ writes.old ++ owner_write g.now (blocks_alone quota.now) owner (row_charged k) stage.Charged (holding clusters.now number)) }
+    ensures ok { OnOk result (writes.new ≡ writes.old ++ owner_write g.now (blocks_alone quota.now) owner (row_charged k) stage.Charged (holding clusters.now number)) }
+    ensures err { OnErr result (writes.new ≡ writes.old) }
 {
     let Some(j) = owner_row(quota, owner) else {
         return Ok(());
@@ -182,8 +184,8 @@ pub fn push_charge(
     )
 }
 
-/// Adds the write that charges an owner with k blocks less, where the owner has a row, which is the last of its command. A refusal
-/// of memory says nothing of the writes.
+/// Adds the write that charges an owner with k blocks less, where the owner has a row, which is the last of its command. If
+/// memory runs out, the writes are as they were.
 #[tactic(auto, unfolding(op_law::specs::Quotas::owner_write))]
 pub fn push_discharge(
     alloc: Global,
@@ -195,7 +197,8 @@ pub fn push_discharge(
 ) -> Result<(), NoMemory>
     requires geometry { IsGeometry g.now }
     requires few { length quota.now ≤ 16 }
-    ensures { OnOk result (writes.new ≡ writes.old ++ owner_write g.now (blocks_alone quota.now) owner (row_discharged k) stage.Done empty_handed) }
+    ensures ok { OnOk result (writes.new ≡ writes.old ++ owner_write g.now (blocks_alone quota.now) owner (row_discharged k) stage.Done empty_handed) }
+    ensures err { OnErr result (writes.new ≡ writes.old) }
 {
     let Some(j) = owner_row(quota, owner) else {
         return Ok(());

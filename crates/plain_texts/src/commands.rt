@@ -3,7 +3,7 @@ ghost use Rattle.plain_texts.specs.Names.{fid_text, uic_text, mode_text};
 ghost use Rattle.plain_cat.specs.Names.{text_of as entry_text};
 ghost use Rattle.plain_texts.specs.Commands.{command_text, then_word, register_text};
 
-use crate::names::{push_entry, push_fid, push_mode, push_uic};
+use crate::names::{add_entry, add_uic, push_fid, push_mode};
 use crate::pieces::{NoMemory, push_bytes, push_number};
 use plain_cat::{Cmd, Fid, Mode, Name, Uic};
 use std::alloc::Global;
@@ -18,7 +18,7 @@ pub(crate) fn then_entry(
     ensures { OnOk result (out.new.items ≡ out.old.items ++ then_word (entry_text name.now ver)) }
 {
     push_bytes(out, b" ")?;
-    push_entry(alloc, out, name, ver)
+    add_entry(alloc, out, name, ver)
 }
 
 // Appends a space and a file identifier.
@@ -34,7 +34,7 @@ pub(crate) fn then_uic(alloc: Global, out: &mut Vec<u8>, owner: Uic) -> Result<(
     ensures { OnOk result (out.new.items ≡ out.old.items ++ then_word (uic_text owner)) }
 {
     push_bytes(out, b" ")?;
-    push_uic(alloc, out, owner)
+    add_uic(alloc, out, owner)
 }
 
 // Appends a space and a number.
@@ -69,9 +69,9 @@ fn then_text(out: &mut Vec<u8>, text: &Name) -> Result<(), NoMemory>
     push_bytes(out, text.items())
 }
 
-/// Appends a command as a script has it, with its file identifiers resolved.
+// Appends a command as a script has it, with its file identifiers resolved.
 #[tactic(auto, unfolding(crate::specs::Commands::command_text))]
-pub fn push_command(alloc: Global, out: &mut Vec<u8>, cmd: &Cmd) -> Result<(), NoMemory>
+pub(crate) fn add_command(alloc: Global, out: &mut Vec<u8>, cmd: &Cmd) -> Result<(), NoMemory>
     ensures { OnOk result (out.new.items ≡ out.old.items ++ command_text cmd.now) }
 {
     match cmd {

@@ -1,4 +1,4 @@
-ghost use Rattle.std.specs.Prelude.{◌≡◌, ◌≤◌, ◌<◌, ◌+◌, ◌/◌, ◌%◌, ◌++◌, OnOk, codes, decimal, length};
+ghost use Rattle.std.specs.Prelude.{◌≡◌, ◌≤◌, ◌<◌, ◌+◌, ◌/◌, ◌%◌, ◌++◌, OnOk, OnErr, codes, decimal, length};
 ghost use Rattle.plain_texts.specs.Names.{fid_text, uic_text, mode_text};
 ghost use Rattle.plain_cat.specs.Names.{text_of as entry_text};
 
@@ -24,7 +24,8 @@ pub(crate) fn fid_before(tail: &mut Tail, fid: Fid)
 
 /// Appends a file identifier, as `(4,4,0)`.
 pub fn push_fid(_alloc: Global, out: &mut Vec<u8>, fid: Fid) -> Result<(), NoMemory>
-    ensures { OnOk result (out.new.items ≡ out.old.items ++ fid_text fid) }
+    ensures ok { OnOk result (out.new.items ≡ out.old.items ++ fid_text fid) }
+    ensures err { OnErr result (out.new.items ≡ out.old.items) }
 {
     let mut tail = Tail::new();
     fid_before(&mut tail, fid);
@@ -44,8 +45,8 @@ fn push_short_uic(out: &mut Vec<u8>, owner: Uic) -> Result<(), NoMemory>
     )
 }
 
-/// Appends an owner, as `[1,4]`: group and member in octal.
-pub fn push_uic(alloc: Global, out: &mut Vec<u8>, owner: Uic) -> Result<(), NoMemory>
+// Appends an owner, as `[1,4]`: group and member in octal.
+pub(crate) fn add_uic(alloc: Global, out: &mut Vec<u8>, owner: Uic) -> Result<(), NoMemory>
     ensures { OnOk result (out.new.items ≡ out.old.items ++ uic_text owner) }
 {
     if owner.0 / 65536 < 8 && owner.0 % 65536 < 8 {
@@ -67,8 +68,13 @@ pub(crate) fn version_before(tail: &mut Tail, ver: u16)
     tail.byte(b';');
 }
 
-/// Appends a name with its version, as `INDEXF.SYS;1`.
-pub fn push_entry(_alloc: Global, out: &mut Vec<u8>, name: &Name, ver: u16) -> Result<(), NoMemory>
+// Appends a name with its version, as `INDEXF.SYS;1`.
+pub(crate) fn add_entry(
+    _alloc: Global,
+    out: &mut Vec<u8>,
+    name: &Name,
+    ver: u16,
+) -> Result<(), NoMemory>
     ensures { OnOk result (out.new.items ≡ out.old.items ++ entry_text name.now ver) }
 {
     let mut tail = Tail::new();
@@ -79,7 +85,8 @@ pub fn push_entry(_alloc: Global, out: &mut Vec<u8>, name: &Name, ver: u16) -> R
 
 /// Appends a lock mode by its two letters.
 pub fn push_mode(out: &mut Vec<u8>, mode: Mode) -> Result<(), NoMemory>
-    ensures { OnOk result (out.new.items ≡ out.old.items ++ mode_text mode) }
+    ensures ok { OnOk result (out.new.items ≡ out.old.items ++ mode_text mode) }
+    ensures err { OnErr result (out.new.items ≡ out.old.items) }
 {
     match mode {
         Mode::NL => push_bytes(out, b"NL"),

@@ -1,10 +1,10 @@
-ghost use Rattle.std.specs.Prelude.{◌≡◌, ◌<◌, ◌++◌, ◌+◌, ◌*◌, OnOk, false, sum};
+ghost use Rattle.std.specs.Prelude.{◌≡◌, ◌<◌, ◌++◌, ◌+◌, ◌*◌, OnOk, OnErr, false, sum};
 ghost use Rattle.std.specs.Fmt.{digit_glyph};
 ghost use Rattle.std.specs.List.{flat_map};
 ghost use Rattle.plain_texts.specs.Replies.{refusal_text, listed_text, kind_text, closed_text, hex_text, size_text, marks_text, facts_text, usage_text, reply_text};
 
 use crate::commands::{then_entry, then_uic};
-use crate::names::{fid_before, push_entry, push_fid, version_before};
+use crate::names::{add_entry, fid_before, push_fid, version_before};
 use crate::pieces::{NoMemory, push_bytes, push_count, push_number};
 use crate::tail::Tail;
 use plain_cat::{DirEnt, Refusal, Reply, Uic};
@@ -12,7 +12,8 @@ use std::alloc::Global;
 
 /// Appends a refusal by its name.
 pub fn push_refusal(out: &mut Vec<u8>, why: Refusal) -> Result<(), NoMemory>
-    ensures { OnOk result (out.new.items ≡ out.old.items ++ refusal_text why) }
+    ensures ok { OnOk result (out.new.items ≡ out.old.items ++ refusal_text why) }
+    ensures err { OnErr result (out.new.items ≡ out.old.items) }
 {
     match why {
         Refusal::NoSuchFile => push_bytes(out, b"NoSuchFile"),
@@ -182,9 +183,9 @@ fn push_usage(
     push_number(alloc, out, over)
 }
 
-/// Appends a reply.
+// Appends a reply.
 #[tactic(auto, unfolding(crate::specs::Replies::reply_text))]
-pub fn push_reply(alloc: Global, out: &mut Vec<u8>, reply: &Reply) -> Result<(), NoMemory>
+pub(crate) fn add_reply(alloc: Global, out: &mut Vec<u8>, reply: &Reply) -> Result<(), NoMemory>
     ensures { OnOk result (out.new.items ≡ out.old.items ++ reply_text reply.now) }
 {
     match reply {
@@ -219,7 +220,7 @@ pub fn push_reply(alloc: Global, out: &mut Vec<u8>, reply: &Reply) -> Result<(),
         Reply::Deleted => push_bytes(out, b"deleted"),
         Reply::Marked => push_bytes(out, b"marked"),
         Reply::EntryRemoved => push_bytes(out, b"entry removed"),
-        Reply::Renamed { name, ver } => push_entry(alloc, out, name, *ver),
+        Reply::Renamed { name, ver } => add_entry(alloc, out, name, *ver),
         Reply::Opened => push_bytes(out, b"open"),
         Reply::Closed { gone } => push_closed(out, *gone),
         Reply::Bytes(bytes) => {

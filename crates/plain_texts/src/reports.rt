@@ -1,15 +1,16 @@
-ghost use Rattle.std.specs.Prelude.{◌≡◌, ◌++◌, ◌+◌, OnOk};
+ghost use Rattle.std.specs.Prelude.{◌≡◌, ◌++◌, ◌+◌, OnOk, OnErr};
 ghost use Rattle.plain_texts.specs.Reports.{stage_text, leaks_text, entries_text, mended_text, node_text, entry_line, line_text, lines_text};
 
-use crate::commands::push_command;
+use crate::commands::add_command;
 use crate::pieces::{NoMemory, push_bytes, push_count, push_number};
-use crate::replies::push_reply;
+use crate::replies::add_reply;
 use plain_cat::{Entry, Mended, Stage};
 use std::alloc::Global;
 
 /// Appends the stage at which a node died.
 pub fn push_stage(out: &mut Vec<u8>, stage: Stage) -> Result<(), NoMemory>
-    ensures { OnOk result (out.new.items ≡ out.old.items ++ stage_text stage) }
+    ensures ok { OnOk result (out.new.items ≡ out.old.items ++ stage_text stage) }
+    ensures err { OnErr result (out.new.items ≡ out.old.items) }
 {
     match stage {
         Stage::Idle => push_bytes(out, b"idle"),
@@ -56,8 +57,8 @@ fn push_entries(
     push_bytes(out, b" entries removed, ")
 }
 
-/// Appends what a mending did, as the verb `rebuild` prints it.
-pub fn push_mended(alloc: Global, out: &mut Vec<u8>, m: Mended) -> Result<(), NoMemory>
+// Appends what a mending did, as the verb `rebuild` prints it.
+pub(crate) fn add_mended(alloc: Global, out: &mut Vec<u8>, m: Mended) -> Result<(), NoMemory>
     ensures { OnOk result (out.new.items ≡ out.old.items ++ mended_text m) }
 {
     push_bytes(out, b"rebuilt: ")?;
@@ -84,9 +85,9 @@ fn push_entry_line(alloc: Global, out: &mut Vec<u8>, entry: &Entry) -> Result<()
     match entry {
         Entry::Done { node, cmd, reply } => {
             push_node(alloc, out, *node)?;
-            push_command(alloc, out, cmd)?;
+            add_command(alloc, out, cmd)?;
             push_bytes(out, b" = ")?;
-            push_reply(alloc, out, reply)
+            add_reply(alloc, out, reply)
         }
         Entry::Died {
             node,
@@ -100,12 +101,17 @@ fn push_entry_line(alloc: Global, out: &mut Vec<u8>, entry: &Entry) -> Result<()
             push_bytes(out, b", leaked ")?;
             push_leaks(alloc, out, *clusters, numbers.items().len())
         }
-        Entry::Mended(m) => push_mended(alloc, out, *m),
+        Entry::Mended(m) => add_mended(alloc, out, *m),
     }
 }
 
-/// Appends the line of an entry of the history, with its number and its line feed.
-pub fn push_line(alloc: Global, out: &mut Vec<u8>, k: usize, entry: &Entry) -> Result<(), NoMemory>
+// Appends the line of an entry of the history, with its number and its line feed.
+pub(crate) fn add_line(
+    alloc: Global,
+    out: &mut Vec<u8>,
+    k: usize,
+    entry: &Entry,
+) -> Result<(), NoMemory>
     ensures { OnOk result (out.new.items ≡ out.old.items ++ line_text k entry.now) }
 {
     push_count(alloc, out, k)?;
@@ -114,12 +120,12 @@ pub fn push_line(alloc: Global, out: &mut Vec<u8>, k: usize, entry: &Entry) -> R
     push_bytes(out, b"\n")
 }
 
-/// Appends the lines of a history, numbered from 1.
-pub fn push_lines(alloc: Global, out: &mut Vec<u8>, entries: &[Entry]) -> Result<(), NoMemory>
+// Appends the lines of a history, numbered from 1.
+pub(crate) fn add_lines(alloc: Global, out: &mut Vec<u8>, entries: &[Entry]) -> Result<(), NoMemory>
     ensures { OnOk result (out.new.items ≡ out.old.items ++ lines_text entries.now) }
 {
     for (i, entry) in entries.iter().enumerate() {
-        push_line(alloc, out, i + 1, entry)?;
+        add_line(alloc, out, i + 1, entry)?;
     }
     Ok(())
 }

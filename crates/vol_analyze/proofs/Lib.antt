@@ -1,7 +1,11 @@
 pub mod Accepting
+pub mod Chains
 pub mod Doubled
+pub mod Heads
+pub mod Once
+pub mod Present
+pub mod Ranks
 pub mod Reading
+pub mod Seeking
 pub mod Told
 pub mod Weakly
-pub mod Once
-pub mod Heads

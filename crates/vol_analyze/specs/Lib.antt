@@ -1,4 +1,5 @@
-pub mod Texts
-pub mod Kinds
 pub mod Conditions
+pub mod Having
 pub mod Judging
+pub mod Kinds
+pub mod Texts

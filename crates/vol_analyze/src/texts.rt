@@ -1,4 +1,4 @@
-ghost use Rattle.std.specs.Prelude.{◌≡◌, ◌++◌, OnOk, codes};
+ghost use Rattle.std.specs.Prelude.{◌≡◌, ◌++◌, OnOk, OnErr, codes};
 ghost use Rattle.vol_analyze.specs.Texts.{home_fault_text, header_fault_text, scb_fault_text, numbered, wrong_at, owned, entry_in, usage_off, finding_text};
 
 use fx_header::HeaderFault;
@@ -175,9 +175,19 @@ fn push_names_none(
     push_bytes(out, b" names no file")
 }
 
-/// Appends a finding as it is printed, without a line's end. It fails only where memory ran out.
-#[tactic(auto, unfolding(crate::specs::Texts::finding_text))]
+/// Appends a finding as it is printed, without a line's end. An error says that memory ran out, and leaves the list as it was.
 pub fn push_finding(alloc: Global, out: &mut Vec<u8>, f: &Finding) -> Result<(), NoMemory>
+    ensures ok { OnOk result (out.new.items ≡ out.old.items ++ finding_text f.now) }
+    ensures err { OnErr result (out.new.items ≡ out.old.items) }
+{
+    let mut text = Vec::new(alloc);
+    add_finding(alloc, &mut text, f)?;
+    push_bytes(out, text.as_slice())
+}
+
+// Appends a finding, piece by piece.
+#[tactic(auto, unfolding(crate::specs::Texts::finding_text))]
+fn add_finding(alloc: Global, out: &mut Vec<u8>, f: &Finding) -> Result<(), NoMemory>
     ensures { OnOk result (out.new.items ≡ out.old.items ++ finding_text f.now) }
 {
     match f {

@@ -1,6 +1,7 @@
 use Rattle.std.proofs.Common.{◌≡◌, ◌∙◌, ◌+◌, ◌++◌, suc, [], ◌∷◌, take, ap, sym, arith, append_assoc, append-nil}
 use Rattle.op_law.specs.Moving.{moves_at, move_write}
 use Rattle.op_steps.specs.Names.{dir_seen}
+use Rattle.op_steps.proofs.Begun.{at_error, so_far}
 use Rattle.op_steps.proofs.Entered.{one_more_before, one_more_after}
 use Rattle.op_steps.proofs.moves.push_moves.Goals as goal
 use Rattle.op_steps.proofs.moves.push_moves.Goals.{then-i-first, else-i-first}
@@ -34,3 +35,8 @@ loop-i-preserved c =
       | then-i-first w ↦ step a _ w.stage-is c.move_write.ensures (one_more_before d a b k i ms _ lt (let t = w.if-i-first.true in omega arith))
       | else-i-first w ↦ step b _ w.stage-is c.move_write.ensures (one_more_after d a b k i ms _ lt (let t = w.if-i-first.false in omega arith))
     ]
+
+pub returns-in_err-push-clause-err : goal.returns-in_err-push-clause-err
+returns-in_err-push-clause-err c =
+    let all = moves_at (dir_seen c.args.d.now) c.args.before c.args.after c.args.first c.args.moves.now in
+    at_error _ (so_far c.args.writes.now all _ c.loop-i.i (c.in_err-push.ensures.err ∙ c.loop-i.invariant))

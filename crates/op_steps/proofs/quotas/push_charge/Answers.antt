@@ -10,8 +10,8 @@ use Rattle.op_law.specs.Behind.{blocks_alone}
 use Rattle.op_steps.proofs.Charges.{charged_so, owner_has}
 use Rattle.op_steps.proofs.quotas.push_charge.Goals as goal
 
-pub returns : goal.returns
-returns c =
+pub returns-clause-ok : goal.returns-clause-ok
+returns-clause-ok c =
     let g = c.args.g.now in
     let qs = blocks_alone c.args.quota.now in
     let j = c.in-Some.j in
@@ -25,4 +25,4 @@ returns c =
     let outside : row_write g qs j charged stage.Charged (holding c.in_ok-outside.outside c.args.number) ≡ row_write g qs j charged stage.Charged held =
     ap (λ cs. row_write g qs j charged stage.Charged (holding cs c.args.number)) c.in_ok-outside.ensures in
     let is = ap (λ w. w ∷ []) outside ∙ owner_has g qs c.args.owner (row_charged k) stage.Charged held j charged (sym c.in-Some.ensures.place) same in
-    subst (λ ws. OnOk c.push_row.result (c.push_row.new.writes ≡ c.args.writes.now ++ ws)) is c.push_row.ensures
+    subst (λ ws. OnOk c.push_row.result (c.push_row.new.writes ≡ c.args.writes.now ++ ws)) is c.push_row.ensures.ok

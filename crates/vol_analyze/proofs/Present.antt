@@ -11,9 +11,9 @@ use Rattle.vol_parts.specs.Volumes.{Volume, volume}
 use Rattle.vol_parts.specs.Warnings.{warnings}
 use Rattle.vol_faults.specs.Whole.{NoneBelow, IsFirstBelow}
 use Rattle.vol_faults.proofs.WholeLemmas.{step, wider, none-first, none-kept, read-home-fault}
-use Rattle.vol_found.specs.Having.{HaveFindings}
-use Rattle.vol_found.proofs.Seeking.{HasFirst}
-use Rattle.vol_found.proofs.Ranks.{headers, systems, control, run_bounds, sizes, sharing, directories, doubles, rowless, free_clusters, free_numbers, entries, marked, loops, room, late}
+use Rattle.vol_analyze.specs.Having.{HaveFindings}
+use Rattle.vol_analyze.proofs.Seeking.{HasFirst}
+use Rattle.vol_analyze.proofs.Ranks.{headers, systems, control, run_bounds, sizes, sharing, directories, doubles, rowless, free_clusters, free_numbers, entries, marked, loops, room, late}
 
 -- the first fatal finding of the ranks below this one, or that none of those holds
 abbrev HasFirstBelow : Volume → ℕ → Type 0

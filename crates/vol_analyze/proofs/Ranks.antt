@@ -30,8 +30,8 @@ use Rattle.vol_faults.proofs.PlaceLemmas.{one-place}
 use Rattle.vol_faults.proofs.ReachLemmas.{path-number}
 use Rattle.vol_faults.proofs.RoomLemmas.{no-room-exact}
 use Rattle.vol_faults.proofs.SharingLemmas.{times-shared, shared-times, shared-found}
-use Rattle.vol_found.proofs.Chains.{chain_settled}
-use Rattle.vol_found.proofs.Seeking.{HasFirst, IsJudged, IsSettled, at_most, both, moved, nothing, number, same, seek, seek_kind, three}
+use Rattle.vol_analyze.proofs.Chains.{chain_settled}
+use Rattle.vol_analyze.proofs.Seeking.{HasFirst, IsJudged, IsSettled, at_most, both, moved, nothing, number, same, seek, seek_kind, three}
 
 -- ---- headers
 

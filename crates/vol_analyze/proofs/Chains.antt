@@ -8,7 +8,7 @@ use Rattle.vol_parts.specs.Fatal.Path.{One, More}
 use Rattle.vol_faults.specs.Reaching.{leads}
 use Rattle.vol_faults.proofs.ReachLemmas.{leads-names, names-leads, path-number}
 use Rattle.vol_faults.proofs.WayLemmas.{path-on}
-use Rattle.vol_found.proofs.Seeking.{IsSettled, moved, same}
+use Rattle.vol_analyze.proofs.Seeking.{IsSettled, moved, same}
 
 -- a chain leads from n to m, and between them it goes through numbers below k alone
 linked : Cat → ℕ → ℕ → ℕ → Bool

@@ -1,6 +1,6 @@
 use Rattle.std.proofs.Common.{◌≡◌, ◌++◌, ◌+◌, drop}
 use Rattle.plain_texts.specs.Reports.{lines_from}
-use Rattle.plain_texts.proofs.reports.push_lines.Given as goal
+use Rattle.plain_texts.proofs.reports.add_lines.Given as goal
 
 -- what is written, and the lines of what is left, are all lines
 abbrev pub invariant-loop-i : goal.invariant-loop-i

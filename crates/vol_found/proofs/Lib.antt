@@ -1,4 +1,0 @@
-pub mod Seeking
-pub mod Chains
-pub mod Ranks
-pub mod Present
