@@ -29,7 +29,6 @@ use Rattle.core_state.proofs.Accepting.{accepted_near, accepted_sized, accepted_
 use Rattle.core_state.proofs.MountedWorlds.{good_mounted, mounts}
 use Rattle.run_engine.specs.Ended.{IsSpelt}
 use Rattle.run_engine.specs.Mending.{MendsAs}
-use Rattle.run_engine.specs.Mendings.{IsRoomless}
 use Rattle.run_engine.specs.Scripts.{IsScriptOf}
 use Rattle.run_engine.specs.Texts.{IsGood}
 use Rattle.run_engine.specs.Walks.{played, rotated, budget_of, IsRotatedIn, Stays}
@@ -42,7 +41,7 @@ use Rattle.run_engine.proofs.Walked.{over_plays}
 use Rattle.run_engine.proofs.Worlds.{over_worlds_mend}
 use Rattle.clus_top.specs.declared.run_job.Printed.TheVariants as printed
 use Rattle.clus_top.specs.Runs.{HasRunToEnd}
-use Rattle.clus_top.specs.MendedRuns.{IsMendableThen, IsUnmended, IsUnmendable}
+use Rattle.clus_top.specs.MendedRuns.{IsMendableThen, IsUnmendable}
 use Rattle.clus_top.proofs.Jobs.{ran_to_end}
 use Rattle.clus_top.proofs.Reported.{end_in}
 use Rattle.clus_top.proofs.Stopping.{starts_accepted}

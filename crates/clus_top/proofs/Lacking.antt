@@ -2,7 +2,7 @@
 use Rattle.std.proofs.Common.{◌≡◌, ℕ, false, List, Option, Some, None, refl, inl}
 use Rattle.base_words.specs.Fields.{Block}
 use Rattle.run_engine.specs.declared.status.Status.TheVariants as status
-use Rattle.clus_top.specs.Words.{Wanted, Run, RunRebuild, Soak, Analyze, Rebuild, Init}
+use Rattle.clus_top.specs.Words.{Wanted, Run, RunRebuild, Soak, Analyze, Rebuild, Records, Store, Init}
 use Rattle.clus_top.specs.Images.{IsImageAfter}
 use Rattle.clus_top.specs.Statuses.{IsDue}
 use Rattle.clus_top.specs.Verdicts.{is_answer_of}
@@ -14,6 +14,8 @@ lacking_due (Some RunRebuild) bytes size bs = tt
 lacking_due (Some (Soak n)) bytes size bs = tt
 lacking_due (Some Analyze) bytes size bs = tt
 lacking_due (Some Rebuild) bytes size bs = tt
+lacking_due (Some (Records n seq)) bytes size bs = tt
+lacking_due (Some (Store n seq)) bytes size bs = tt
 lacking_due (Some (Init cluster files label)) bytes size bs = tt
 
 pub lacking_image : (wanted : Option Wanted) (bytes : List ℕ) (bs : List Block) → IsImageAfter wanted bytes bs bs status.NoMemory
@@ -23,6 +25,8 @@ lacking_image (Some RunRebuild) bytes bs = inl refl
 lacking_image (Some (Soak n)) bytes bs = inl refl
 lacking_image (Some Analyze) bytes bs = refl
 lacking_image (Some Rebuild) bytes bs = record { mends = λ z h. h; kept = λ f h. refl }
+lacking_image (Some (Records n seq)) bytes bs = refl
+lacking_image (Some (Store n seq)) bytes bs = refl
 lacking_image (Some (Init cluster files label)) bytes bs = inl refl
 
 -- it is no verdict
@@ -33,4 +37,6 @@ no_verdict (Some RunRebuild) = refl
 no_verdict (Some (Soak n)) = refl
 no_verdict (Some Analyze) = refl
 no_verdict (Some Rebuild) = refl
+no_verdict (Some (Records n seq)) = refl
+no_verdict (Some (Store n seq)) = refl
 no_verdict (Some (Init cluster files label)) = refl

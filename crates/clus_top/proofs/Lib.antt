@@ -5,12 +5,16 @@ pub mod Formatted
 pub mod Halting
 pub mod Imaged
 pub mod Jobs
+pub mod Keeping
 pub mod Lacking
 pub mod Mending
 pub mod OneAnswer
 pub mod OneVerdict
 pub mod Pushed
+pub mod RecordsRead
+pub mod RecordsVerdict
 pub mod Reported
 pub mod Stopping
+pub mod StoreVerdict
 pub mod Told
 pub mod Used

@@ -17,13 +17,16 @@ use Rattle.run_engine.specs.Verdicts.{is_verdict, is_mended_verdict, IsRunDue}
 use Rattle.blk_drive.proofs.Sizes.{is_size, outside}
 use Rattle.run_engine.specs.Scripts.{IsScriptOf}
 use Rattle.run_engine.specs.Texts.{IsWordsDue, IsGood, IsAccepted}
-use Rattle.run_engine.proofs.Verdicts.{OneList, unfound, same_first, AloneInRun, alone_good, words_alone, run_verdict}
+use Rattle.run_engine.proofs.Verdicts.{OneList, unfound, same_first, alone_good, words_alone, run_verdict}
 use Rattle.run_engine.proofs.Verdicts.{due_alone as run_alone}
-use Rattle.clus_top.specs.Words.{Wanted, Run, RunRebuild, Soak, Analyze, Rebuild, Init}
+use Rattle.vol_records.specs.Records.{FaultsAreFirst}
+use Rattle.clus_top.specs.Words.{Wanted, Run, RunRebuild, Soak, Analyze, Rebuild, Records, Store, Init}
 use Rattle.clus_top.specs.Statuses.{IsRunRebuildDue, IsSoakDue, IsAnalysisDue, IsRebuildDue, sized, IsPossible, IsInitDue, IsDue}
 use Rattle.clus_top.specs.MendedRuns.{IsMendableThen, IsUnmendable}
 use Rattle.clus_top.specs.Verdicts.{HasOneVerdict, is_answer_of, RunsGood}
 use Rattle.clus_top.proofs.Endings.{mendable_once, unmendable_once, comes_to_end, ends_somehow}
+use Rattle.clus_top.proofs.RecordsVerdict.{of_records, alone_records}
+use Rattle.clus_top.proofs.StoreVerdict.{of_store, alone_store}
 
 -- all blocks have one list of findings
 abbrev OneLists : Type 0
@@ -39,51 +42,30 @@ AloneInAnalysis size bs s = (other : Status) → is_verdict other ≡ true → I
 
 size_alone : (size : ℕ) (bs : List Block) → IsOutside size → AloneInAnalysis size bs (status.BadSize size)
 size_alone size bs out status.Ok v h = absurd (outside size h.inside out)
-size_alone size bs out status.BadWords v h = absurd h
-size_alone size bs out status.ScriptFault v h = absurd h
-size_alone size bs out status.ScriptTooLong v h = absurd h
-size_alone size bs out (status.BadScript m) v h = absurd h
-size_alone size bs out status.TooMany v h = absurd h
 size_alone size bs out status.ImageFault v h = absurd (false≢true v)
 size_alone size bs out (status.BadSize m) v h = ap status.BadSize h.0
-size_alone size bs out (status.NotAccepted g) v h = absurd h
 size_alone size bs out status.Findings v h = absurd (outside size h.0 out)
-size_alone size bs out (status.NotMendable g) v h = absurd h
 size_alone size bs out status.OutFault v h = absurd (false≢true v)
 size_alone size bs out status.NoMemory v h = absurd (false≢true v)
-size_alone size bs out (status.BadInit x) v h = absurd h
+size_alone size bs out s v h = absurd h
 
 found_alone : (size : ℕ) (bs : List Block) (f : Finding) → OneList bs → IsInside size → IsFirstFound bs f → AloneInAnalysis size bs status.Findings
 found_alone size bs f list inside found status.Ok v h = absurd (unfound bs f list h.accepted found)
-found_alone size bs f list inside found status.BadWords v h = absurd h
-found_alone size bs f list inside found status.ScriptFault v h = absurd h
-found_alone size bs f list inside found status.ScriptTooLong v h = absurd h
-found_alone size bs f list inside found (status.BadScript m) v h = absurd h
-found_alone size bs f list inside found status.TooMany v h = absurd h
 found_alone size bs f list inside found status.ImageFault v h = absurd (false≢true v)
 found_alone size bs f list inside found (status.BadSize m) v h = absurd (outside size inside h.1)
-found_alone size bs f list inside found (status.NotAccepted g) v h = absurd h
 found_alone size bs f list inside found status.Findings v h = refl
-found_alone size bs f list inside found (status.NotMendable g) v h = absurd h
 found_alone size bs f list inside found status.OutFault v h = absurd (false≢true v)
 found_alone size bs f list inside found status.NoMemory v h = absurd (false≢true v)
-found_alone size bs f list inside found (status.BadInit x) v h = absurd h
+found_alone size bs f list inside found s v h = absurd h
 
 none_alone : (size : ℕ) (bs : List Block) → OneList bs → IsInside size → Accepts bs → AloneInAnalysis size bs status.Ok
 none_alone size bs list inside none status.Ok v h = refl
-none_alone size bs list inside none status.BadWords v h = absurd h
-none_alone size bs list inside none status.ScriptFault v h = absurd h
-none_alone size bs list inside none status.ScriptTooLong v h = absurd h
-none_alone size bs list inside none (status.BadScript m) v h = absurd h
-none_alone size bs list inside none status.TooMany v h = absurd h
 none_alone size bs list inside none status.ImageFault v h = absurd (false≢true v)
 none_alone size bs list inside none (status.BadSize m) v h = absurd (outside size inside h.1)
-none_alone size bs list inside none (status.NotAccepted g) v h = absurd h
 none_alone size bs list inside none status.Findings v h = absurd (unfound bs h.1.first list none h.1.found)
-none_alone size bs list inside none (status.NotMendable g) v h = absurd h
 none_alone size bs list inside none status.OutFault v h = absurd (false≢true v)
 none_alone size bs list inside none status.NoMemory v h = absurd (false≢true v)
-none_alone size bs list inside none (status.BadInit x) v h = absurd h
+none_alone size bs list inside none s v h = absurd h
 
 -- nor of a soak
 abbrev AloneInSoak : ℕ → ℕ → List Block → Status → Type 0
@@ -91,51 +73,30 @@ AloneInSoak n size bs s = (other : Status) → is_verdict other ≡ true → IsS
 
 soak_outside : (n size : ℕ) (bs : List Block) → IsOutside size → AloneInSoak n size bs (status.BadSize size)
 soak_outside n size bs out status.Ok v h = absurd (outside size h.inside out)
-soak_outside n size bs out status.BadWords v h = absurd h
-soak_outside n size bs out status.ScriptFault v h = absurd h
-soak_outside n size bs out status.ScriptTooLong v h = absurd h
-soak_outside n size bs out (status.BadScript m) v h = absurd h
-soak_outside n size bs out status.TooMany v h = absurd h
 soak_outside n size bs out status.ImageFault v h = absurd (false≢true v)
 soak_outside n size bs out (status.BadSize m) v h = ap status.BadSize h.0
 soak_outside n size bs out (status.NotAccepted g) v h = absurd (outside size h.0 out)
-soak_outside n size bs out status.Findings v h = absurd h
-soak_outside n size bs out (status.NotMendable g) v h = absurd h
 soak_outside n size bs out status.OutFault v h = absurd (false≢true v)
 soak_outside n size bs out status.NoMemory v h = absurd (false≢true v)
-soak_outside n size bs out (status.BadInit x) v h = absurd h
+soak_outside n size bs out s v h = absurd h
 
 soak_found : (n size : ℕ) (bs : List Block) (f : Finding) → OneList bs → IsInside size → IsFirstFound bs f → AloneInSoak n size bs (status.NotAccepted f)
 soak_found n size bs f list inside found status.Ok v h = absurd (unfound bs f list h.accepted found)
-soak_found n size bs f list inside found status.BadWords v h = absurd h
-soak_found n size bs f list inside found status.ScriptFault v h = absurd h
-soak_found n size bs f list inside found status.ScriptTooLong v h = absurd h
-soak_found n size bs f list inside found (status.BadScript m) v h = absurd h
-soak_found n size bs f list inside found status.TooMany v h = absurd h
 soak_found n size bs f list inside found status.ImageFault v h = absurd (false≢true v)
 soak_found n size bs f list inside found (status.BadSize m) v h = absurd (outside size inside h.1)
 soak_found n size bs f list inside found (status.NotAccepted g) v h = ap status.NotAccepted (same_first bs f g list found h.1)
-soak_found n size bs f list inside found status.Findings v h = absurd h
-soak_found n size bs f list inside found (status.NotMendable g) v h = absurd h
 soak_found n size bs f list inside found status.OutFault v h = absurd (false≢true v)
 soak_found n size bs f list inside found status.NoMemory v h = absurd (false≢true v)
-soak_found n size bs f list inside found (status.BadInit x) v h = absurd h
+soak_found n size bs f list inside found s v h = absurd h
 
 soak_good : (n size : ℕ) (bs : List Block) → OneList bs → IsInside size → Accepts bs → AloneInSoak n size bs status.Ok
 soak_good n size bs list inside none status.Ok v h = refl
-soak_good n size bs list inside none status.BadWords v h = absurd h
-soak_good n size bs list inside none status.ScriptFault v h = absurd h
-soak_good n size bs list inside none status.ScriptTooLong v h = absurd h
-soak_good n size bs list inside none (status.BadScript m) v h = absurd h
-soak_good n size bs list inside none status.TooMany v h = absurd h
 soak_good n size bs list inside none status.ImageFault v h = absurd (false≢true v)
 soak_good n size bs list inside none (status.BadSize m) v h = absurd (outside size inside h.1)
 soak_good n size bs list inside none (status.NotAccepted g) v h = absurd (unfound bs g list none h.1)
-soak_good n size bs list inside none status.Findings v h = absurd h
-soak_good n size bs list inside none (status.NotMendable g) v h = absurd h
 soak_good n size bs list inside none status.OutFault v h = absurd (false≢true v)
 soak_good n size bs list inside none status.NoMemory v h = absurd (false≢true v)
-soak_good n size bs list inside none (status.BadInit x) v h = absurd h
+soak_good n size bs list inside none s v h = absurd h
 
 of_run : (bytes : List ℕ) (size : ℕ) (bs : List Block) (fs : List Finding) → SayOneThing (lines_of bytes) → OneList bs → AreFindings bs fs → HasOneVerdict (Some Run) bytes size bs
 of_run bytes size bs fs one list found =
@@ -259,51 +220,30 @@ same_fault o f g h k = let e : Some f ≡ Some g = sym h ∙ k in cc e
 
 size_alone_in : (cluster files : ℕ) (label : List ℕ) (size : ℕ) → IsOutside size → AloneInInit cluster files label size (status.BadSize size)
 size_alone_in cluster files label size out status.Ok v h = absurd (outside size h.inside out)
-size_alone_in cluster files label size out status.BadWords v h = absurd h
-size_alone_in cluster files label size out status.ScriptFault v h = absurd h
-size_alone_in cluster files label size out status.ScriptTooLong v h = absurd h
-size_alone_in cluster files label size out (status.BadScript m) v h = absurd h
-size_alone_in cluster files label size out status.TooMany v h = absurd h
 size_alone_in cluster files label size out status.ImageFault v h = absurd (false≢true v)
 size_alone_in cluster files label size out (status.BadSize m) v h = ap status.BadSize h.0
-size_alone_in cluster files label size out (status.NotAccepted g) v h = absurd h
-size_alone_in cluster files label size out status.Findings v h = absurd h
-size_alone_in cluster files label size out (status.NotMendable g) v h = absurd h
 size_alone_in cluster files label size out status.OutFault v h = absurd (false≢true v)
 size_alone_in cluster files label size out status.NoMemory v h = absurd (false≢true v)
 size_alone_in cluster files label size out (status.BadInit g) v h = absurd (outside size h.0 out)
+size_alone_in cluster files label size out s v h = absurd h
 
 refused_alone : (cluster files : ℕ) (label : List ℕ) (size : ℕ) (f : InitFault) → IsInside size → refusal (sized cluster files size) label ≡ Some f → AloneInInit cluster files label size (status.BadInit f)
 refused_alone cluster files label size f inside is status.Ok v h = absurd (no_fault (refusal (sized cluster files size) label) f h.possible is)
-refused_alone cluster files label size f inside is status.BadWords v h = absurd h
-refused_alone cluster files label size f inside is status.ScriptFault v h = absurd h
-refused_alone cluster files label size f inside is status.ScriptTooLong v h = absurd h
-refused_alone cluster files label size f inside is (status.BadScript m) v h = absurd h
-refused_alone cluster files label size f inside is status.TooMany v h = absurd h
 refused_alone cluster files label size f inside is status.ImageFault v h = absurd (false≢true v)
 refused_alone cluster files label size f inside is (status.BadSize m) v h = absurd (outside size inside h.1)
-refused_alone cluster files label size f inside is (status.NotAccepted g) v h = absurd h
-refused_alone cluster files label size f inside is status.Findings v h = absurd h
-refused_alone cluster files label size f inside is (status.NotMendable g) v h = absurd h
 refused_alone cluster files label size f inside is status.OutFault v h = absurd (false≢true v)
 refused_alone cluster files label size f inside is status.NoMemory v h = absurd (false≢true v)
 refused_alone cluster files label size f inside is (status.BadInit g) v h = ap status.BadInit (same_fault (refusal (sized cluster files size) label) f g is h.1)
+refused_alone cluster files label size f inside is s v h = absurd h
 
 possible_alone : (cluster files : ℕ) (label : List ℕ) (size : ℕ) → IsPossible cluster files label size → AloneInInit cluster files label size status.Ok
 possible_alone cluster files label size may status.Ok v h = refl
-possible_alone cluster files label size may status.BadWords v h = absurd h
-possible_alone cluster files label size may status.ScriptFault v h = absurd h
-possible_alone cluster files label size may status.ScriptTooLong v h = absurd h
-possible_alone cluster files label size may (status.BadScript m) v h = absurd h
-possible_alone cluster files label size may status.TooMany v h = absurd h
 possible_alone cluster files label size may status.ImageFault v h = absurd (false≢true v)
 possible_alone cluster files label size may (status.BadSize m) v h = absurd (outside size may.inside h.1)
-possible_alone cluster files label size may (status.NotAccepted g) v h = absurd h
-possible_alone cluster files label size may status.Findings v h = absurd h
-possible_alone cluster files label size may (status.NotMendable g) v h = absurd h
 possible_alone cluster files label size may status.OutFault v h = absurd (false≢true v)
 possible_alone cluster files label size may status.NoMemory v h = absurd (false≢true v)
 possible_alone cluster files label size may (status.BadInit g) v h = absurd (no_fault (refusal (sized cluster files size) label) g may.possible h.1)
+possible_alone cluster files label size may s v h = absurd h
 
 -- what is refused is told, and else the image is formatted
 of_format : (cluster files : ℕ) (label : List ℕ) (bytes : List ℕ) (size : ℕ) (bs : List Block) (o : Option InitFault) → IsInside size
@@ -332,51 +272,30 @@ AloneInRebuild size bs s = (other : Status) → is_verdict other ≡ true → Is
 
 rebuild_outside : (size : ℕ) (bs : List Block) → IsOutside size → AloneInRebuild size bs (status.BadSize size)
 rebuild_outside size bs out status.Ok v h = absurd (outside size h.inside out)
-rebuild_outside size bs out status.BadWords v h = absurd h
-rebuild_outside size bs out status.ScriptFault v h = absurd h
-rebuild_outside size bs out status.ScriptTooLong v h = absurd h
-rebuild_outside size bs out (status.BadScript m) v h = absurd h
-rebuild_outside size bs out status.TooMany v h = absurd h
 rebuild_outside size bs out status.ImageFault v h = absurd (false≢true v)
 rebuild_outside size bs out (status.BadSize m) v h = ap status.BadSize h.0
-rebuild_outside size bs out (status.NotAccepted g) v h = absurd h
-rebuild_outside size bs out status.Findings v h = absurd h
 rebuild_outside size bs out (status.NotMendable g) v h = absurd (outside size h.0 out)
 rebuild_outside size bs out status.OutFault v h = absurd (false≢true v)
 rebuild_outside size bs out status.NoMemory v h = absurd (false≢true v)
-rebuild_outside size bs out (status.BadInit x) v h = absurd h
+rebuild_outside size bs out s v h = absurd h
 
 rebuild_fatal : (size : ℕ) (bs : List Block) (f : Finding) → OneList bs → IsInside size → IsFirstFatal bs f → AloneInRebuild size bs (status.NotMendable f)
 rebuild_fatal size bs f list inside found status.Ok v h = absurd (h.weak f found.fatal)
-rebuild_fatal size bs f list inside found status.BadWords v h = absurd h
-rebuild_fatal size bs f list inside found status.ScriptFault v h = absurd h
-rebuild_fatal size bs f list inside found status.ScriptTooLong v h = absurd h
-rebuild_fatal size bs f list inside found (status.BadScript m) v h = absurd h
-rebuild_fatal size bs f list inside found status.TooMany v h = absurd h
 rebuild_fatal size bs f list inside found status.ImageFault v h = absurd (false≢true v)
 rebuild_fatal size bs f list inside found (status.BadSize m) v h = absurd (outside size inside h.1)
-rebuild_fatal size bs f list inside found (status.NotAccepted g) v h = absurd h
-rebuild_fatal size bs f list inside found status.Findings v h = absurd h
 rebuild_fatal size bs f list inside found (status.NotMendable g) v h = ap status.NotMendable (same_fatal bs f g list found h.1)
 rebuild_fatal size bs f list inside found status.OutFault v h = absurd (false≢true v)
 rebuild_fatal size bs f list inside found status.NoMemory v h = absurd (false≢true v)
-rebuild_fatal size bs f list inside found (status.BadInit x) v h = absurd h
+rebuild_fatal size bs f list inside found s v h = absurd h
 
 rebuild_weak : (size : ℕ) (bs : List Block) → IsInside size → Weak bs → AloneInRebuild size bs status.Ok
 rebuild_weak size bs inside weak status.Ok v h = refl
-rebuild_weak size bs inside weak status.BadWords v h = absurd h
-rebuild_weak size bs inside weak status.ScriptFault v h = absurd h
-rebuild_weak size bs inside weak status.ScriptTooLong v h = absurd h
-rebuild_weak size bs inside weak (status.BadScript m) v h = absurd h
-rebuild_weak size bs inside weak status.TooMany v h = absurd h
 rebuild_weak size bs inside weak status.ImageFault v h = absurd (false≢true v)
 rebuild_weak size bs inside weak (status.BadSize m) v h = absurd (outside size inside h.1)
-rebuild_weak size bs inside weak (status.NotAccepted g) v h = absurd h
-rebuild_weak size bs inside weak status.Findings v h = absurd h
 rebuild_weak size bs inside weak (status.NotMendable g) v h = absurd (weak g h.1.fatal)
 rebuild_weak size bs inside weak status.OutFault v h = absurd (false≢true v)
 rebuild_weak size bs inside weak status.NoMemory v h = absurd (false≢true v)
-rebuild_weak size bs inside weak (status.BadInit x) v h = absurd h
+rebuild_weak size bs inside weak s v h = absurd h
 
 of_blocks : (bytes : List ℕ) (size : ℕ) (bs : List Block) (fs : List Finding) → OneList bs → IsInside size → AreFindings bs fs → HasOneVerdict (Some Rebuild) bytes size bs
 of_blocks bytes size bs fs list inside (inl found) = record {
@@ -399,15 +318,17 @@ of_rebuild bytes size bs fs list found =
       | inl inside ↦ of_blocks bytes size bs fs list inside found
     ]
 
-pub one_verdict : (wanted : Option Wanted) (bytes : List ℕ) (size : ℕ) (bs : List Block) → SayOneThing (lines_of bytes) → OneLists → AllHaveFindings → length bs ≡ size → AreWholeBlocks bs
+pub one_verdict : (wanted : Option Wanted) (bytes : List ℕ) (size : ℕ) (bs : List Block) → SayOneThing (lines_of bytes) → OneLists → AllHaveFindings → FaultsAreFirst → length bs ≡ size → AreWholeBlocks bs
     → HasOneVerdict wanted bytes size bs
-one_verdict None bytes size bs one lists found count whole = record { status = status.BadWords; verdict = refl; due = tt; alone = words_alone }
-one_verdict (Some Run) bytes size bs one lists found count whole = let there = found bs in of_run bytes size bs there.findings one (lists bs) there.are
-one_verdict (Some RunRebuild) bytes size bs one lists found count whole = of_run_rebuild bytes size bs one lists found count whole
-one_verdict (Some (Soak n)) bytes size bs one lists found count whole = let there = found bs in of_soak n bytes size bs there.findings (lists bs) there.are
-one_verdict (Some Analyze) bytes size bs one lists found count whole = let there = found bs in of_analysis bytes size bs there.findings (lists bs) there.are
-one_verdict (Some Rebuild) bytes size bs one lists found count whole = let there = found bs in of_rebuild bytes size bs there.findings (lists bs) there.are
-one_verdict (Some (Init cluster files label)) bytes size bs one lists found count whole = of_init cluster files label bytes size bs
+one_verdict None bytes size bs one lists found faults count whole = record { status = status.BadWords; verdict = refl; due = tt; alone = words_alone }
+one_verdict (Some Run) bytes size bs one lists found faults count whole = let there = found bs in of_run bytes size bs there.findings one (lists bs) there.are
+one_verdict (Some RunRebuild) bytes size bs one lists found faults count whole = of_run_rebuild bytes size bs one lists found count whole
+one_verdict (Some (Soak n)) bytes size bs one lists found faults count whole = let there = found bs in of_soak n bytes size bs there.findings (lists bs) there.are
+one_verdict (Some Analyze) bytes size bs one lists found faults count whole = let there = found bs in of_analysis bytes size bs there.findings (lists bs) there.are
+one_verdict (Some Rebuild) bytes size bs one lists found faults count whole = let there = found bs in of_rebuild bytes size bs there.findings (lists bs) there.are
+one_verdict (Some (Records n seq)) bytes size bs one lists found faults count whole = let there = found bs in of_records n seq bytes size bs there.findings faults (lists bs) there.are
+one_verdict (Some (Store n seq)) bytes size bs one lists found faults count whole = let there = found bs in of_store n seq bytes size bs there.findings (lists bs) there.are
+one_verdict (Some (Init cluster files label)) bytes size bs one lists found faults count whole = of_init cluster files label bytes size bs
 
 -- ---- of a status that is due
 
@@ -461,6 +382,8 @@ due_alone (Some RunRebuild) bytes size bs s one lists v d = alone_run_rebuild by
 due_alone (Some (Soak n)) bytes size bs s one lists v d = alone_soak n size bs s (lists bs) v d
 due_alone (Some Analyze) bytes size bs s one lists v d = alone_analysis size bs s (lists bs) v d
 due_alone (Some Rebuild) bytes size bs s one lists v d = alone_rebuild size bs s (lists bs) v d
+due_alone (Some (Records n seq)) bytes size bs s one lists v d = alone_records n seq size bs s (lists bs) v d
+due_alone (Some (Store n seq)) bytes size bs s one lists v d = alone_store n seq bytes size bs s (lists bs) v d
 due_alone (Some (Init cluster files label)) bytes size bs s one lists v d = alone_init cluster files label size s v d
 
 -- ---- a good script on an accepted volume
@@ -481,4 +404,6 @@ answered (Some RunRebuild) bytes size bs s one list good inside none v h = good_
 answered (Some (Soak n)) bytes size bs s one list good inside none v h = soak_good n size bs list inside none s v h
 answered (Some Analyze) bytes size bs s one list good inside none v h = absurd good
 answered (Some Rebuild) bytes size bs s one list good inside none v h = absurd good
+answered (Some (Records n seq)) bytes size bs s one list good inside none v h = absurd good
+answered (Some (Store n seq)) bytes size bs s one list good inside none v h = absurd good
 answered (Some (Init cluster files label)) bytes size bs s one list good inside none v h = absurd good

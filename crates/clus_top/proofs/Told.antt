@@ -20,13 +20,14 @@ use Rattle.run_engine.specs.Scripts.{IsScriptOf}
 use Rattle.clus_top.specs.MendedRuns.{IsMendableThen}
 use Rattle.run_engine.specs.Texts.{status_text, IsPlainText, Writes}
 use Rattle.run_engine.specs.Verdicts.{is_verdict}
-use Rattle.clus_top.specs.Words.{Wanted, Run, RunRebuild, Soak, Analyze, Rebuild, Init}
+use Rattle.clus_top.specs.Words.{Wanted, Run, RunRebuild, Soak, Analyze, Rebuild, Records, Store, Init}
 use Rattle.clus_top.specs.Calls.{IsAnswer, IsCall}
-use Rattle.clus_top.specs.Ends.{IsReported, IsSummarized, IsRunEnd, IsRunStop, IsSoakEnd, IsSoakStop, IsFoundEnd, IsLoadEnd, IsInitEnd, IsFormattedWith, IsRebuiltWith, IsRebuildEnd}
+use Rattle.clus_top.specs.Ends.{IsReported, IsSummarized, IsRunEnd, IsRunStop, IsSoakEnd, IsSoakStop, IsFoundEnd, IsLoadEnd, IsInitEnd, IsFormattedWith, IsRebuiltWith, IsRebuildEnd, IsRecordsOn, IsRecordsEnd}
 use Rattle.clus_top.specs.Halts.{IsMendedWith, IsRunHalt}
 use Rattle.clus_top.specs.Images.{IsFaultTextOf, IsImageAfter, IsFormatted, IsCutShort, IsMendingCutShort}
 use Rattle.clus_top.specs.Mendings.{IsStillToMend}
 use Rattle.clus_top.specs.Statuses.{accepted_text, IsDue, IsTextOf}
+use Rattle.clus_top.specs.Stores.{IsStoredOf, IsStoreEnd}
 use Rattle.clus_top.proofs.Analyzed.{found_due}
 use Rattle.clus_top.proofs.Halting.{rest}
 use Rattle.clus_top.proofs.Lacking.{lacking_due, lacking_image, no_verdict}
@@ -149,6 +150,38 @@ quiet_rebuild bytes size old new read reading had has (status.NotMendable f) h =
     verdict (Some Rebuild) bytes size old new read reading had has (status.NotMendable f) refl h.0 (λ was now before after w. (status_text (status.NotMendable f), refl, w)) h.1 (unmended_stays old new h.1)
 quiet_rebuild bytes size old new read reading had has status.NoMemory h = no_memory (Some Rebuild) bytes size old new read reading had has h
 quiet_rebuild bytes size old new read reading had has s h = absurd h
+
+quiet_records : (n seq : ℕ) (bytes : List ℕ) (size : ℕ) (bs : List Block) (read reading had has : ℕ) (s : Status) → IsRecordsEnd n seq size bs had has s → IsQuiet (Some (Records n seq)) bytes size bs bs read reading had has s
+quiet_records n seq bytes size bs read reading had has status.ImageFault h = image_fault (Some (Records n seq)) bytes size bs bs read reading had has h tt refl refl refl
+quiet_records n seq bytes size bs read reading had has (status.BadSize k) h = verdict (Some (Records n seq)) bytes size bs bs read reading had has (status.BadSize k) refl h (λ was now before after w. w) refl refl
+quiet_records n seq bytes size bs read reading had has (status.NotAccepted f) h = verdict (Some (Records n seq)) bytes size bs bs read reading had has (status.NotAccepted f) refl h (λ was now before after w. w) refl refl
+quiet_records n seq bytes size bs read reading had has status.NoFile h = verdict (Some (Records n seq)) bytes size bs bs read reading had has status.NoFile refl h (λ was now before after w. w) refl refl
+quiet_records n seq bytes size bs read reading had has (status.BadRecord at) h = verdict (Some (Records n seq)) bytes size bs bs read reading had has (status.BadRecord at) refl h (λ was now before after w. w) refl refl
+quiet_records n seq bytes size bs read reading had has status.NoMemory h = no_memory (Some (Records n seq)) bytes size bs bs read reading had has refl
+quiet_records n seq bytes size bs read reading had has s h = absurd h
+
+-- a status is a fault of the image, or another one
+told_fault : (s : Status) → (s ≡ status.ImageFault) ⊎ (s ≡ status.ImageFault → ⊥)
+told_fault status.ImageFault = inl refl
+told_fault s = inr (λ e. let f = e in cc)
+
+-- where a store gave no text, but for a fault of the image
+quiet_store : (n seq : ℕ) (bytes : List ℕ) (size : ℕ) (old new : List Block) (read reading had has : ℕ) (s : Status) → (s ≡ status.ImageFault → ⊥) → IsStoreEnd n seq bytes size old new read reading had has s
+    → IsQuiet (Some (Store n seq)) bytes size old new read reading had has s
+quiet_store n seq bytes size old new read reading had has status.Ok other h = absurd h
+quiet_store n seq bytes size old new read reading had has status.OutFault other h = absurd h
+quiet_store n seq bytes size old new read reading had has status.ImageFault other h = absurd (other refl)
+quiet_store n seq bytes size old new read reading had has status.ScriptFault other h = script_fault (Some (Store n seq)) bytes size old new read reading had has h.0 tt h.1 h.1
+quiet_store n seq bytes size old new read reading had has status.ScriptTooLong other h = verdict (Some (Store n seq)) bytes size old new read reading had has status.ScriptTooLong refl h.0 (λ was now before after w. w) h.1 h.1
+quiet_store n seq bytes size old new read reading had has (status.LineLong k) other h = verdict (Some (Store n seq)) bytes size old new read reading had has (status.LineLong k) refl h.0 (λ was now before after w. w) h.1 h.1
+quiet_store n seq bytes size old new read reading had has (status.BadSize k) other h = verdict (Some (Store n seq)) bytes size old new read reading had has (status.BadSize k) refl h.0 (λ was now before after w. w) h.1 h.1
+quiet_store n seq bytes size old new read reading had has (status.NotAccepted f) other h = verdict (Some (Store n seq)) bytes size old new read reading had has (status.NotAccepted f) refl h.0 (λ was now before after w. w) h.1 h.1
+quiet_store n seq bytes size old new read reading had has status.NoFile other h = verdict (Some (Store n seq)) bytes size old new read reading had has status.NoFile refl h.0 (λ was now before after w. w) h.1 h.1
+quiet_store n seq bytes size old new read reading had has status.NoPriv other h = verdict (Some (Store n seq)) bytes size old new read reading had has status.NoPriv refl h.0 (λ was now before after w. w) h.1 h.1
+quiet_store n seq bytes size old new read reading had has status.NotEmpty other h = verdict (Some (Store n seq)) bytes size old new read reading had has status.NotEmpty refl h.0 (λ was now before after w. w) h.1 h.1
+quiet_store n seq bytes size old new read reading had has status.NoRoom other h = verdict (Some (Store n seq)) bytes size old new read reading had has status.NoRoom refl h.0 (λ was now before after w. w) h.1 h.1
+quiet_store n seq bytes size old new read reading had has status.NoMemory other h = no_memory (Some (Store n seq)) bytes size old new read reading had has h.1
+quiet_store n seq bytes size old new read reading had has s other h = absurd h.0.1
 
 quiet_init : (cluster files : ℕ) (label bytes : List ℕ) (size : ℕ) (old new : List Block) (read reading had has : ℕ) (s : Status) → IsInitEnd cluster files label size had has s → IsFormatted (home_of cluster files label) old new s
     → IsQuiet (Some (Init cluster files label)) bytes size old new read reading had has s
@@ -300,6 +333,24 @@ module _ (size : ℕ) (was now : Option (List ℕ)) (read reading had has before
     pub rebuild_told : (bytes : List ℕ) (old new : List Block) → IsRebuildEnd size old new had has s → IsAnswer (Some Rebuild) bytes size old new was now read reading had has before after r
     rebuild_told bytes old new h = told (Some Rebuild) bytes size old new was now read reading had has before after s r (quiet_rebuild bytes size old new read reading had has s h) either w
 
+    records_told_of : (n seq : ℕ) (bytes : List ℕ) (bs : List Block) → IsRecordsEnd n seq size bs had has s → IsAnswer (Some (Records n seq)) bytes size bs bs was now read reading had has before after r
+    records_told_of n seq bytes bs h = told (Some (Records n seq)) bytes size bs bs was now read reading had has before after s r (quiet_records n seq bytes size bs read reading had has s h) either w
+
+    pub records_told : (n seq : ℕ) (bytes : List ℕ) (old new : List Block) → (new ≡ old) × IsRecordsEnd n seq size old had has s → IsAnswer (Some (Records n seq)) bytes size old new was now read reading had has before after r
+    records_told n seq bytes old new h = subst (λ (bs : List Block). IsAnswer (Some (Records n seq)) bytes size old bs was now read reading had has before after r) (sym h.0) (records_told_of n seq bytes old h.1)
+
+    -- A fault of the image is told, so want of memory comes where the image stays.
+    pub store_told : (s ≡ status.ImageFault → r ≡ status.ImageFault) → (n seq : ℕ) (bytes : List ℕ) (old new : List Block) → IsStoreEnd n seq bytes size old new read reading had has s
+        → IsAnswer (Some (Store n seq)) bytes size old new was now read reading had has before after r
+    store_told fault n seq bytes old new h = by (told_fault s) where
+      by : (s ≡ status.ImageFault) ⊎ (s ≡ status.ImageFault → ⊥) → IsAnswer (Some (Store n seq)) bytes size old new was now read reading had has before after r
+      by (inl e) =
+          let is = fault e in
+          let k = subst (IsStoreEnd n seq bytes size old new read reading had has) e h in
+          at_cut (Some (Store n seq)) bytes size old new was now read reading had has before after r (status_text status.ImageFault) (k.0, tt) k.1 refl k.2
+          (is, subst (λ (y : Status). IsWritten was now before after (status_text y)) is w)
+      by (inr other) = told (Some (Store n seq)) bytes size old new was now read reading had has before after s r (quiet_store n seq bytes size old new read reading had has s other h) either w
+
     pub init_told : (cluster files : ℕ) (label bytes : List ℕ) (old new : List Block) → IsInitEnd cluster files label size had has s → IsFormatted (home_of cluster files label) old new s
         → IsAnswer (Some (Init cluster files label)) bytes size old new was now read reading had has before after r
     init_told cluster files label bytes old new h i =
@@ -326,6 +377,16 @@ module _ (size : ℕ) (was now : Option (List ℕ)) (read reading had has before
         → IsAnswer (Some (Init cluster files label)) bytes size old new was now read reading had has before after r
     init_ok cluster files label bytes old new h =
         ok_is (Some (Init cluster files label)) bytes size old new was now read reading had has before after text r h.possible h.possible h.told h.made h.made either all cut fault
+
+    pub records_ok : (n seq : ℕ) (bytes : List ℕ) (old new : List Block) → (new ≡ old) × IsRecordsOn n seq size old text → IsAnswer (Some (Records n seq)) bytes size old new was now read reading had has before after r
+    records_ok n seq bytes old new h =
+        let on = h.1 in
+        ok_is (Some (Records n seq)) bytes size old new was now read reading had has before after text r (on.accepted, on.printed.records) (on.accepted, on.printed.records) on.printed h.0 h.0 either all cut fault
+
+    pub store_ok : (n seq : ℕ) (bytes : List ℕ) (old new : List Block) → IsStoredOf n seq bytes size old new text → IsAnswer (Some (Store n seq)) bytes size old new was now read reading had has before after r
+    store_ok n seq bytes old new h =
+        let due : IsDue (Some (Store n seq)) bytes size old status.Ok = (h.storable, h.kept.taken) in
+        ok_is (Some (Store n seq)) bytes size old new was now read reading had has before after text r due due h.kept.told h.kept.stored h.kept.stored either all cut fault
 
     pub rebuild_ok : (bytes : List ℕ) (old new : List Block) → IsRebuiltWith size old new text → IsAnswer (Some Rebuild) bytes size old new was now read reading had has before after r
     rebuild_ok bytes old new h = ok_is (Some Rebuild) bytes size old new was now read reading had has before after text r h.mendable h.mendable h.told h.told.mended h.told.mended either all cut fault

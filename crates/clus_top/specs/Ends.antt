@@ -1,5 +1,5 @@
 -- How the steps of a job end.
-use Rattle.std.specs.Prelude.{◌≡◌, ◌⊎◌, ℕ, false, List, [], ◌∷◌, Some}
+use Rattle.std.specs.Prelude.{◌≡◌, ◌⊎◌, ℕ, false, List, [], ◌∷◌, Some, None}
 use Rattle.std.specs.List.{list_any}
 use Rattle.base_words.specs.Fields.{Block}
 use Rattle.base_words.specs.Faults.{Rose}
@@ -32,7 +32,10 @@ use Rattle.vol_init.specs.Made.{IsMade}
 use Rattle.vol_init.specs.Refusals.{refusal, home_of}
 use Rattle.vol_rebuild.specs.declared.fault.RebuildFault.{RebuildFault}
 use Rattle.vol_rebuild.specs.declared.fault.RebuildFault.TheVariants as rebuild
+use Rattle.vol_records.specs.Streams.{stream_at}
 use Rattle.clus_top.specs.Mendings.{IsMendingText, IsStillToMend}
+use Rattle.vol_records.specs.Records.{records_of}
+use Rattle.clus_top.specs.Records.{IsRecordsText, IsBadAt, HasBadRecord}
 use Rattle.clus_top.specs.Statuses.{IsMendable, IsPossible, sized, made_text}
 use Rattle.clus_top.specs.Images.{IsLastDriveOf, IsLackingDriveOf, IsCutOf, IsCutShort}
 
@@ -213,3 +216,44 @@ IsRebuildEnd size old new had has (status.BadSize n) = ((n ≡ size) × IsOutsid
 IsRebuildEnd size old new had has (status.NotMendable f) = (IsInside size × IsFirstFatal old f) × (new ≡ old)
 IsRebuildEnd size old new had has status.NoMemory = IsStillToMend old new
 IsRebuildEnd size old new had has s = ⊥
+
+-- an image has a volume with such records, and this is their text
+pub record IsRecordsOn (n seq size : ℕ) (bs : List Block) (text : List ℕ) : Type 0 where
+  pub accepted : IsAccepted size bs
+  pub printed : IsRecordsText n seq bs text
+
+-- why a stream gave no text of records
+abbrev pub IsStreamEnd : List ℕ → Status → Type 0
+IsStreamEnd stream (status.BadRecord at) = IsBadAt at (records_of stream)
+IsStreamEnd stream status.NoMemory = Unit {0}
+IsStreamEnd stream s = ⊥
+
+-- why there is no stream
+abbrev pub IsNoStream : ℕ → ℕ → List Block → Status → Type 0
+IsNoStream n seq bs status.NoFile = stream_at bs n seq ≡ None
+IsNoStream n seq bs status.NoMemory = Unit {0}
+IsNoStream n seq bs s = ⊥
+
+-- why blocks are not accepted
+abbrev pub IsJudgedEnd : List Block → Status → Type 0
+IsJudgedEnd bs (status.NotAccepted f) = IsFirstFound bs f
+IsJudgedEnd bs status.NoMemory = Unit {0}
+IsJudgedEnd bs s = ⊥
+
+-- why the blocks of a volume gave no text of records
+abbrev pub IsRecordsEndIn : ℕ → ℕ → List Block → Status → Type 0
+IsRecordsEndIn n seq bs (status.NotAccepted f) = IsFirstFound bs f
+IsRecordsEndIn n seq bs status.NoFile = Accepts bs × (stream_at bs n seq ≡ None)
+IsRecordsEndIn n seq bs (status.BadRecord at) = Accepts bs × HasBadRecord n seq bs at
+IsRecordsEndIn n seq bs status.NoMemory = Unit {0}
+IsRecordsEndIn n seq bs s = ⊥
+
+-- why an image gave none
+abbrev pub IsRecordsEnd : ℕ → ℕ → ℕ → List Block → ℕ → ℕ → Status → Type 0
+IsRecordsEnd n seq size bs had has status.ImageFault = Rose had has
+IsRecordsEnd n seq size bs had has (status.BadSize k) = (k ≡ size) × IsOutside size
+IsRecordsEnd n seq size bs had has (status.NotAccepted f) = IsInside size × IsFirstFound bs f
+IsRecordsEnd n seq size bs had has status.NoFile = IsAccepted size bs × (stream_at bs n seq ≡ None)
+IsRecordsEnd n seq size bs had has (status.BadRecord at) = IsAccepted size bs × HasBadRecord n seq bs at
+IsRecordsEnd n seq size bs had has status.NoMemory = Unit {0}
+IsRecordsEnd n seq size bs had has s = ⊥

@@ -13,11 +13,13 @@ use Rattle.core_state.specs.Ends.{AllOver}
 use Rattle.run_engine.specs.Scripts.{IsScriptOf}
 use Rattle.run_engine.specs.Texts.{status_text, cut_text, unmended_text, IsPlainText}
 use Rattle.run_engine.specs.Torn.{IsTornRun}
-use Rattle.clus_top.specs.Words.{Wanted, Run, RunRebuild, Soak, Analyze, Rebuild, Init}
+use Rattle.clus_top.specs.Words.{Wanted, Run, RunRebuild, Soak, Analyze, Rebuild, Records, Store, Init}
 use Rattle.clus_top.specs.Runs.{IsSoakOf, HasRun, LacksMemory}
 use Rattle.vol_parts.specs.declared.finding.Finding.{Finding}
 use Rattle.clus_top.specs.Mendings.{IsMendedImage, IsStillToMend}
 use Rattle.clus_top.specs.MendedRuns.{HasRunAndMended, IsPartlyMended, IsUnmended}
+use Rattle.clus_top.specs.Stores.{IsStoreImage}
+use Rattle.vol_records.specs.Lines.{text_lines}
 
 -- After a format: the new volume; after a fault or want of memory the old blocks, or no home block that is read, or the new
 -- volume; and after a refusal the old blocks.
@@ -121,10 +123,12 @@ IsFaultTextOf (Some RunRebuild) bytes old new s text = IsMendedFaultText (IsScri
 IsFaultTextOf (Some (Soak n)) bytes old new s text = IsRunFaultText (IsSoakOf n) old new s text
 IsFaultTextOf (Some Analyze) bytes old new s text = IsPlainText s text
 IsFaultTextOf (Some Rebuild) bytes old new s text = IsPlainText s text
+IsFaultTextOf (Some (Records n seq)) bytes old new s text = IsPlainText s text
+IsFaultTextOf (Some (Store n seq)) bytes old new s text = IsPlainText s text
 IsFaultTextOf (Some (Init cluster files label)) bytes old new s text = IsPlainText s text
 IsFaultTextOf None bytes old new s text = IsPlainText s text
 
--- After a job: a run, a soak, a mending and a format write to the image.
+-- After a job: a run, a soak, a mending, a store and a format write to the image.
 abbrev pub IsImageAfter : Option Wanted → List ℕ → List Block → List Block → Status → Type 0
 IsImageAfter (Some (Init cluster files label)) bytes old new s = IsFormatted (home_of cluster files label) old new s
 IsImageAfter (Some Run) bytes old new s = IsRunImage (IsScriptOf bytes) old new s
@@ -132,4 +136,6 @@ IsImageAfter (Some RunRebuild) bytes old new s = IsRunRebuildImage (IsScriptOf b
 IsImageAfter (Some (Soak n)) bytes old new s = IsRunImage (IsSoakOf n) old new s
 IsImageAfter (Some Analyze) bytes old new s = new ≡ old
 IsImageAfter (Some Rebuild) bytes old new s = IsRebuildImage old new s
+IsImageAfter (Some (Records n seq)) bytes old new s = new ≡ old
+IsImageAfter (Some (Store n seq)) bytes old new s = IsStoreImage n seq (text_lines bytes) old new s
 IsImageAfter None bytes old new s = new ≡ old

@@ -4,7 +4,9 @@ pub mod Halts
 pub mod Images
 pub mod MendedRuns
 pub mod Mendings
+pub mod Records
 pub mod Runs
 pub mod Statuses
+pub mod Stores
 pub mod Verdicts
 pub mod Words

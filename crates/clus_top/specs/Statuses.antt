@@ -14,10 +14,14 @@ use Rattle.vol_init.specs.Refusals.{refusal}
 use Rattle.run_engine.specs.Scripts.{IsScriptOf}
 use Rattle.run_engine.specs.Texts.{IsGood, IsAccepted, IsWordsDue}
 use Rattle.run_engine.specs.Verdicts.{IsRunDue}
-use Rattle.clus_top.specs.Words.{Wanted, Run, RunRebuild, Soak, Analyze, Rebuild, Init}
+use Rattle.vol_records.specs.Lines.{text_lines}
+use Rattle.vol_records.specs.Streams.{stream_at}
+use Rattle.clus_top.specs.Words.{Wanted, Run, RunRebuild, Soak, Analyze, Rebuild, Records, Store, Init}
 use Rattle.clus_top.specs.Runs.{IsReport, IsSummary}
 use Rattle.clus_top.specs.Mendings.{IsMendingText}
 use Rattle.clus_top.specs.MendedRuns.{IsMendedReport, IsMendableThen, IsUnmendable}
+use Rattle.clus_top.specs.Records.{HasRecords, IsRecordsText, HasBadRecord}
+use Rattle.clus_top.specs.Stores.{IsStoreDue, stored_text}
 use Rattle.run_engine.specs.Summaries.{counted}
 
 -- ---- volumes
@@ -71,6 +75,18 @@ IsRebuildDue size bs status.OutFault = IsMendable size bs
 IsRebuildDue size bs status.NoMemory = Unit {0}
 IsRebuildDue size bs s = ⊥
 
+-- Of the records of a file. The order is image read, size, acceptance, the file, its records, output.
+abbrev pub IsRecordsDue : ℕ → ℕ → ℕ → List Block → Status → Type 0
+IsRecordsDue n seq size bs status.Ok = IsAccepted size bs × HasRecords n seq bs
+IsRecordsDue n seq size bs status.ImageFault = Unit {0}
+IsRecordsDue n seq size bs (status.BadSize k) = (k ≡ size) × IsOutside size
+IsRecordsDue n seq size bs (status.NotAccepted f) = IsInside size × IsFirstFound bs f
+IsRecordsDue n seq size bs status.NoFile = IsAccepted size bs × (stream_at bs n seq ≡ None)
+IsRecordsDue n seq size bs (status.BadRecord at) = IsAccepted size bs × HasBadRecord n seq bs at
+IsRecordsDue n seq size bs status.OutFault = IsAccepted size bs × HasRecords n seq bs
+IsRecordsDue n seq size bs status.NoMemory = Unit {0}
+IsRecordsDue n seq size bs s = ⊥
+
 -- the layout of a volume of so many blocks
 abbrev pub sized : ℕ → ℕ → ℕ → Layout
 sized cluster files size = record { cluster = cluster; files = files; blocks = size }
@@ -99,6 +115,8 @@ IsDue (Some RunRebuild) bytes size bs s = IsRunRebuildDue bytes size bs s
 IsDue (Some (Soak n)) bytes size bs s = IsSoakDue n size bs s
 IsDue (Some Analyze) bytes size bs s = IsAnalysisDue size bs s
 IsDue (Some Rebuild) bytes size bs s = IsRebuildDue size bs s
+IsDue (Some (Records n seq)) bytes size bs s = IsRecordsDue n seq size bs s
+IsDue (Some (Store n seq)) bytes size bs s = IsStoreDue n seq bytes size bs s
 IsDue (Some (Init cluster files label)) bytes size bs s = IsInitDue cluster files label size s
 
 -- ---- what is written
@@ -125,4 +143,6 @@ IsTextOf (Some RunRebuild) bytes size old new text = IsMendedReport (IsScriptOf 
 IsTextOf (Some (Soak n)) bytes size old new text = IsSummary n old new text
 IsTextOf (Some Analyze) bytes size old new text = text ≡ accepted_text
 IsTextOf (Some Rebuild) bytes size old new text = IsMendingText old new text
+IsTextOf (Some (Records n seq)) bytes size old new text = IsRecordsText n seq old text
+IsTextOf (Some (Store n seq)) bytes size old new text = text ≡ stored_text (text_lines bytes)
 IsTextOf (Some (Init cluster files label)) bytes size old new text = text ≡ made_text label (sized cluster files size)

@@ -5,14 +5,16 @@ use Rattle.std.specs.Str.{bytes_eq}
 use Rattle.clus_top.specs.declared.words.Job.{Job}
 use Rattle.clus_top.specs.declared.words.Job.TheVariants as job
 
--- a job: run the script, run it and mend the volume then, run the soak of this number, print what is found in the volume, mend it, or
--- format the image with these blocks in a cluster, these file numbers and this label
+-- a job: run the script, run it and mend the volume then, run the soak of this number, print what is found in the volume, mend it, print
+-- the records of the file of this number and sequence, store the lines of a text there, or format the image with these blocks in a cluster, these file numbers and this label
 pub data Wanted : Type 0 where
   Run : Wanted
   RunRebuild : Wanted
   Soak : ℕ → Wanted
   Analyze : Wanted
   Rebuild : Wanted
+  Records : ℕ → ℕ → Wanted
+  Store : ℕ → ℕ → Wanted
   Init : ℕ → ℕ → List ℕ → Wanted
 
 -- what a job of the program is
@@ -22,6 +24,8 @@ wanted job.RunRebuild = RunRebuild
 wanted (job.Soak n) = Soak n
 wanted job.Analyze = Analyze
 wanted job.Rebuild = Rebuild
+wanted (job.Records file seq) = Records file seq
+wanted (job.Store file seq) = Store file seq
 wanted (job.Init cluster files label) = Init cluster files label.now
 
 -- the number of a soak is at most 256
@@ -71,6 +75,30 @@ unfoldable pub paired : List ℕ → List ℕ → Option Wanted
 paired word more =
     if bytes_eq word (codes "run") then (if bytes_eq more (codes "--rebuild") then Some RunRebuild else None) else soaked word more
 
+-- a sequence has 16 bits
+abbrev pub is_seq : ℕ → Bool
+is_seq seq = nat_le seq 65535
+
+-- the records of a file, where both numbers are numbers and the second is a sequence
+abbrev pub records_with : Option ℕ → Option ℕ → Option Wanted
+records_with (Some file) (Some seq) = if is_seq seq then Some (Records file seq) else None
+records_with None seq = None
+records_with (Some file) None = None
+
+-- a store in a file, likewise
+abbrev pub store_with : Option ℕ → Option ℕ → Option Wanted
+store_with (Some file) (Some seq) = if is_seq seq then Some (Store file seq) else None
+store_with None seq = None
+store_with (Some file) None = None
+
+-- the words of a store
+unfoldable pub storing : List ℕ → List ℕ → List ℕ → Option Wanted
+storing word file seq = if bytes_eq word (codes "store") then store_with (number file) (number seq) else None
+
+-- the words of the records of a file, or of a store
+unfoldable pub recorded : List ℕ → List ℕ → List ℕ → Option Wanted
+recorded word file seq = if bytes_eq word (codes "records") then records_with (number file) (number seq) else storing word file seq
+
 -- a format, where its two numbers are numbers
 abbrev pub init_with : Option ℕ → Option ℕ → List ℕ → Option Wanted
 init_with (Some cluster) (Some files) label = Some (Init cluster files label)
@@ -86,5 +114,6 @@ formatted word cluster files label =
 unfoldable pub wanted_by : List (List ℕ) → Option Wanted
 wanted_by (word ∷ []) = named word
 wanted_by (word ∷ more ∷ []) = paired word more
+wanted_by (word ∷ file ∷ seq ∷ []) = recorded word file seq
 wanted_by (word ∷ cluster ∷ files ∷ label ∷ []) = formatted word cluster files label
 wanted_by words = None

@@ -1,8 +1,8 @@
 //! The top call: the program `vmsclus` over any image, script source and text sink; and the program around it, which opens these.
 //!
 //! The words ask for a job: `run` runs a script on a volume, `run --rebuild` mends the volume then too, `soak` runs a script that is
-//! drawn from a number, `analyze` reports what is wrong with a volume, `rebuild` mends it, `init` makes one. `Finished` has the
-//! `Status` of the call, and the image.
+//! drawn from a number, `analyze` reports what is wrong with a volume, `rebuild` mends it, `records` prints the records of a file,
+//! `store` stores the lines of a text there, `init` makes a volume. `Finished` has the `Status` of the call, and the image.
 //!
 //! ```text
 //! let finished = vmsclus(alloc, words, image, &mut script, &mut out);
@@ -20,8 +20,8 @@
 //! `run` is the whole program. `exit_call` makes the top call with all of the words that it is given, in order, and answers the number
 //! of its status and the image, for which what the top call says holds (`IsEnd`). If there is no memory for the words, the number is that of
 //! `NoMemory`. What `run` takes from the system, words and files, no contract says: stored runs show it, and tests over real files. How the
-//! image's file is opened, locked and synced is in `edge_files`: `analyze` opens it to be read, and every other job to be read and
-//! written.
+//! image's file is opened, locked and synced is in `edge_files`: `analyze` and `records` open it to be read, and every other job to be
+//! read and written.
 //!
 //! `vmsclus` and `vmsclus_init` call `run`; `vmsclus_live` takes the rest from it.
 #![tactic(auto)]
@@ -31,8 +31,10 @@ mod calling;
 mod files;
 mod format;
 mod rebuild;
+mod records;
 mod run_job;
 mod run_rebuild;
+mod store;
 mod theorems;
 mod top;
 mod words;

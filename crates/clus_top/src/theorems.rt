@@ -13,6 +13,7 @@ pub fn one_status_is_due()
     run_script::a_text_says_one_thing();
     vol_analyze::findings_are_one_list();
     vol_analyze::there_are_findings();
+    vol_records::faults_are_first();
 }
 
 /// If a status is due that is no fault and no want of memory, no other such one is.

@@ -7,13 +7,15 @@ ghost use Rattle.run_engine.specs.Texts.{IsPlainText, Writes};
 ghost use Rattle.clus_top.specs.Calls.{IsAnswer, IsCall};
 ghost use Rattle.clus_top.specs.Ends.{IsFoundEnd};
 ghost use Rattle.clus_top.specs.Statuses.{accepted_text};
-ghost use Rattle.clus_top.specs.Words.{Run, RunRebuild, Soak, Analyze, Rebuild as Mending, Init, wanted_by};
+ghost use Rattle.clus_top.specs.Words.{Run, RunRebuild, Soak, Analyze, Rebuild as Mending, Records, Store, Init, wanted_by};
 
 use crate::analysis::{Analysis, analyze_image};
 use crate::format::{Format, init_image};
 use crate::rebuild::{Rebuild, mend_image};
+use crate::records::{Reading, read_records};
 use crate::run_job::{Ran, run_script, run_soak};
 use crate::run_rebuild::run_and_mend;
+use crate::store::{Stored, store_text};
 use crate::theorems::{good_runs_are_answered, no_other_status_is_due};
 use crate::words::{Job, job_of};
 use blk_drive::ImageDev;
@@ -141,6 +143,57 @@ fn rebuild<I: ImageDev, O: TextOut>(alloc: Global, image: I, out: &mut O) -> Fin
     }
 }
 
+// The job `records`. It reads no script.
+fn records<I: ImageDev, O: TextOut>(
+    alloc: Global,
+    image: I,
+    file: u32,
+    seq: u16,
+    out: &mut O,
+) -> Finished<I>
+    ensures { (bytes : List ℕ) (faults : ℕ) → OfImage (I.size image) (I.told image) (I.told result.image) (λ old new.
+        IsAnswer (Some (Records file seq)) bytes (I.size image) old new (O.written out.old) (O.written out.new)
+        faults faults (I.faults image) (I.faults result.image) (O.faults out.old) (O.faults out.new) result.status) }
+{
+    let Reading { outcome, image } = read_records(alloc, image, file, seq);
+    match outcome {
+        Ok(text) => {
+            let status = tell_text(out, text.as_slice());
+            Finished { status, image }
+        }
+        Err(fault) => {
+            let status = tell(alloc, out, fault);
+            Finished { status, image }
+        }
+    }
+}
+
+// The job `store`.
+fn store<I: ImageDev, T: TextIn, O: TextOut>(
+    alloc: Global,
+    image: I,
+    file: u32,
+    seq: u16,
+    script: &mut T,
+    out: &mut O,
+) -> Finished<I>
+    ensures { OfScript (T.left script.old) (λ bytes. OfImage (I.size image) (I.told image) (I.told result.image) (λ old new.
+        IsAnswer (Some (Store file seq)) bytes (I.size image) old new (O.written out.old) (O.written out.new)
+        (T.faults script.old) (T.faults script.new) (I.faults image) (I.faults result.image) (O.faults out.old) (O.faults out.new) result.status)) }
+{
+    let Stored { outcome, image } = store_text(alloc, image, file, seq, script);
+    match outcome {
+        Ok(text) => {
+            let status = tell_text(out, text.as_slice());
+            Finished { status, image }
+        }
+        Err(fault) => {
+            let status = tell(alloc, out, fault);
+            Finished { status, image }
+        }
+    }
+}
+
 // The job `init`.
 fn init<I: ImageDev, O: TextOut>(
     alloc: Global,
@@ -185,6 +238,8 @@ fn done<I: ImageDev, T: TextIn, O: TextOut>(
         Some(Job::Soak(n)) => soak(alloc, image, n, out),
         Some(Job::Analyze) => analyze(alloc, image, out),
         Some(Job::Rebuild) => rebuild(alloc, image, out),
+        Some(Job::Records { file, seq }) => records(alloc, image, file, seq, out),
+        Some(Job::Store { file, seq }) => store(alloc, image, file, seq, script, out),
         Some(
             Job::Init {
                 cluster,
@@ -209,10 +264,14 @@ fn done<I: ImageDev, T: TextIn, O: TextOut>(
 /// `soak N`, for N from 1 to 256, does the same with the script that is drawn from N, for 4 nodes and with 16 N commands, and prints one
 /// line: how many of them were carried out and how many refused, how many blocks the nodes read and how many they found in their caches,
 /// and the free clusters. `analyze` prints what is found in a volume. `rebuild` mends a volume that has no fatal finding, and prints what it
-/// did; what it leaves where it is stopped mends to the same. `init CLUSTER FILES LABEL` makes a volume with 1 to 16 blocks in a cluster, 32
-/// to 4,096 file numbers, and a label of 1 to 12 characters of A to Z, 0 to 9, `$`, `_` and `-`. Other words are `BadWords`.
+/// did; what it leaves where it is stopped mends to the same. `records N S` prints the variable-length records of the file of number N and
+/// sequence S on a volume in which nothing is found, a line for each, and how many there are; it changes nothing. `store N S` reads a text of at
+/// most 1,048,576 bytes and stores its lines, each of at most 32,767 bytes, as variable-length records in the file of number N and sequence
+/// S, in which nothing was written so far, on a volume in which nothing is found. `init CLUSTER FILES LABEL` makes a volume with 1 to 16
+/// blocks in a cluster, 32 to 4,096 file numbers, and a label of 1 to 12 characters of A to Z, 0 to 9, `$`, `_`
+/// and `-`. Other words are `BadWords`.
 ///
-/// What is tested first is told: the words; of a run the script's bytes and then its lines; the image's bytes, and their number;
+/// What is tested first is told: the words; of a run and a store the script's bytes and then its lines; the image's bytes, and their number;
 /// what the job asks of the volume; and the output last. The call waits for nobody, and always returns.
 pub fn vmsclus<I: ImageDev, T: TextIn, O: TextOut>(
     alloc: Global,

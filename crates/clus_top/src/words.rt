@@ -1,6 +1,6 @@
-ghost use Rattle.std.specs.Prelude.{◌≡◌, ◌-◌, ◌≤◌, true, IfSome, option_map};
+ghost use Rattle.std.specs.Prelude.{◌≡◌, ◌-◌, ◌≤◌, true, Some, None, IfSome, option_map, if◌then◌else◌};
 ghost use Rattle.std.specs.List.{list_all};
-ghost use Rattle.clus_top.specs.Words.{wanted, is_soak, is_digit, value_of, number, named, soaked, paired, formatted, wanted_by, IsWithinLimits};
+ghost use Rattle.clus_top.specs.Words.{wanted, is_soak, is_seq, is_digit, value_of, number, named, soaked, paired, storing, recorded, formatted, wanted_by, IsWithinLimits};
 
 use fx_text::Word;
 
@@ -21,6 +21,24 @@ pub enum Job<'a> {
 
     /// `rebuild`: mend the volume.
     Rebuild,
+
+    /// `records N S`: print the records of a file.
+    Records {
+        /// The number of the file, 0 to 99,999 as it is written.
+        file: u32,
+
+        /// Its sequence, 0 to 65,535.
+        seq: u16,
+    },
+
+    /// `store N S`: store the lines of the text in a file.
+    Store {
+        /// The number of the file, 0 to 99,999 as it is written.
+        file: u32,
+
+        /// Its sequence, 0 to 65,535.
+        seq: u16,
+    },
 
     /// `init CLUSTER FILES LABEL`: format the image.
     Init {
@@ -139,6 +157,43 @@ fn paired<'a>(word: &[u8], more: &[u8]) -> Option<Job<'a>>
     }
 }
 
+// A number as a sequence.
+fn seq_of(n: u32) -> Option<u16>
+    ensures value { result ≡ (if is_seq n then Some n else None) }
+{
+    if n <= 65_535 { Some(n as u16) } else { None }
+}
+
+// The store that three words ask for.
+#[tactic(auto, unfolding(crate::specs::Words::storing))]
+fn storing<'a>(word: &[u8], file: &[u8], seq: &[u8]) -> Option<Job<'a>>
+    ensures wanted { option_map wanted result ≡ storing word.now file.now seq.now }
+    ensures limits { IfSome result IsWithinLimits }
+{
+    if word != b"store".as_slice() {
+        return None;
+    }
+    Some(Job::Store {
+        file: number(file)?,
+        seq: seq_of(number(seq)?)?,
+    })
+}
+
+// The records, or the store, that three words ask for.
+#[tactic(auto, unfolding(crate::specs::Words::recorded))]
+fn recorded<'a>(word: &[u8], file: &[u8], seq: &[u8]) -> Option<Job<'a>>
+    ensures wanted { option_map wanted result ≡ recorded word.now file.now seq.now }
+    ensures limits { IfSome result IsWithinLimits }
+{
+    if word != b"records".as_slice() {
+        return storing(word, file, seq);
+    }
+    Some(Job::Records {
+        file: number(file)?,
+        seq: seq_of(number(seq)?)?,
+    })
+}
+
 // The format that four words ask for.
 #[tactic(auto, unfolding(crate::specs::Words::formatted))]
 fn formatted<'a>(word: &[u8], cluster: &[u8], files: &[u8], label: &'a [u8]) -> Option<Job<'a>>
@@ -164,6 +219,7 @@ pub fn job_of(words: &[Word]) -> Option<Job<'_>>
     match words {
         [word] => named(word.bytes()),
         [word, more] => paired(word.bytes(), more.bytes()),
+        [word, file, seq] => recorded(word.bytes(), file.bytes(), seq.bytes()),
         [word, cluster, files, label] => formatted(
             word.bytes(),
             cluster.bytes(),

@@ -81,6 +81,7 @@ use Rattle.core_state.specs.Events.{given_back, all_writes, turned, stays, stayi
 use Rattle.plain_histories.specs.Usages.{AreNear}
 use Rattle.plain_histories.proofs.Stating.{answer_near, answer_small}
 use Rattle.core_state.specs.Fallen.{falls}
+use Rattle.core_state.proofs.StockSizes.{few_ready}
 use Rattle.core_state.proofs.Falling.{answers_fell, answers_left}
 use Rattle.core_state.proofs.Numbers.{Keeps as Numbers, answer_stays}
 use Rattle.core_state.proofs.Opens.{opens_given}
@@ -419,7 +420,7 @@ module _ (w : Plain) (good : Good w) (n : ℕ) (s : NodeState) (at : node_at w.n
     held_mine = subst (λ (rs : List Row). HoldsItsLocks after n rs) (ap rows_in (at_here w.nodes n rested s at)) (held_then n)
 
   stocked_then : IsStocked rested
-  stocked_then = record { holds = elim (good.running.stocked n s at).holds [ inl none ↦ inl (nothing_then (none_in_stock s.stock s.run none.stock)) | inr h ↦ by_any (has_any (roomless s.stock)) refl h ] } where
+  stocked_then = record { holds = elim (good.running.stocked n s at).holds [ inl none ↦ inl (nothing_then (none_in_stock s.stock s.run none.stock)) | inr h ↦ by_any (has_any (roomless s.stock)) refl h ]; few = inl (few_ready s x cmd p is (good.running.stocked n s at).few) } where
     no_list : (xs : List ℕ) → nat_lt 0 (length xs) ≡ false → xs ≡ []
     no_list [] e = refl
     no_list (y ∷ xs) e = absurd (let f : true ≡ false = sym (some (length xs)) ∙ e in cc) where

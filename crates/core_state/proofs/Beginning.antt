@@ -22,13 +22,14 @@ use Rattle.core_state.specs.Worlds.{NodeState, Plain, node_at, with_node, rows_o
 use Rattle.core_state.specs.Asks.{writes_now, granted_ask, own_ask, with_ask, is_claiming}
 use Rattle.core_state.specs.Stocks.{stock_now}
 use Rattle.core_state.specs.Searches.{IsOff, Off}
-use Rattle.core_state.specs.Stores.{IsStocked, hold_writes, IsCachedAt}
+use Rattle.core_state.specs.Stores.{HasFewNumbers, IsStocked, hold_writes, IsCachedAt}
 use Rattle.core_state.specs.Small.{lent, owed_in, owed, has_command}
 use Rattle.core_state.specs.Goods.{under_with, nodes_under, IsAtPlan, IsIdle, HasCommand, IsNode, Good}
 use Rattle.core_state.specs.Events.{is_out, begun}
 use Rattle.core_state.proofs.Commands.{next_names}
 use Rattle.core_state.proofs.Holding.{in_held_is, is_in_held}
 use Rattle.core_state.proofs.Naming.{stays_without}
+use Rattle.core_state.proofs.StockSizes.{few_idle}
 use Rattle.core_state.proofs.Switching.{AsksAlike}
 use Rattle.core_state.proofs.Running.{under_now, under_here, are_sole}
 use Rattle.core_state.proofs.CachedKinds.{quiet_cached, quiet_writes}
@@ -38,12 +39,14 @@ use Rattle.core_state.proofs.Keeping.{still_driven, rebuilt, held_same, loses_no
 use Rattle.core_state.proofs.Seeking.{neither}
 
 -- what holds of what a node has outside stays, where it was given the same, has the same in stock, and keeps X
-pub stays_stocked : (s r : NodeState) → things r.seen.clusters r.seen.number ≡ things s.seen.clusters s.seen.number → stock_now r.stock r.run ≡ stock_now s.stock s.run → (Has (held_in CR s.kept) X → Has (held_in CR r.kept) X) → IsStocked s → IsStocked r
-stays_stocked s r given stock keeps h = record {
+pub stays_stocked : (s r : NodeState) → things r.seen.clusters r.seen.number ≡ things s.seen.clusters s.seen.number → stock_now r.stock r.run ≡ stock_now s.stock s.run → (Has (held_in CR s.kept) X → Has (held_in CR r.kept) X)
+    → (HasFewNumbers s → HasFewNumbers r) → IsStocked s → IsStocked r
+stays_stocked s r given stock keeps few h = record {
   holds = elim h.holds [
     | inl e ↦ inl (record { given = given ∙ e.given; stock = stock ∙ e.stock })
     | inr k ↦ inr (keeps k)
   ];
+  few = few h.few;
 }
 
 -- X stays without the lock on another name
@@ -102,7 +105,7 @@ module _ (w : Plain) (good : Good w) (n : ℕ) (s : NodeState) (at : node_at w.n
       let idle : IsIdle s.seen s.asked s.plan s.done = subst (HasCommand w n s) none node.command in
       let goes : GoesOn x = seen_goes_on x law.searches in
       let still = neither s.over s.past.dead on in
-      alone (begun s x) refl (λ part o low. refl) refl (begins_owe x none off.run) (stays_stocked s (begun s x) refl refl (λ h. h) (good.running.stocked n s at)) (begins_under x none idle) refl (λ e h. inl h) (record {
+      alone (begun s x) refl (λ part o low. refl) refl (begins_owe x none off.run) (stays_stocked s (begun s x) refl refl (λ h. h) (λ f. inl (few_idle s none f)) (good.running.stocked n s at)) (begins_under x none idle) refl (λ e h. inl h) (record {
         past = node.past;
         geometry = node.geometry;
         channels = node.channels;

@@ -27,6 +27,7 @@ use Rattle.core_state.specs.Waiting.{WaitsAside}
 use Rattle.core_state.specs.Searches.{begun_run, Spaces}
 use Rattle.core_state.specs.Goods.{under_with, nodes_under, HasCourse, HasCommand, IsNode, Good, held_by}
 use Rattle.core_state.specs.Events.{is_out, turned, claiming}
+use Rattle.core_state.proofs.StockSizes.{few_stays}
 use Rattle.core_state.proofs.Holding.{strong_grows}
 use Rattle.core_state.proofs.Running.{at_any, under_now, under_here, are_sole}
 use Rattle.core_state.proofs.Taking.{widens}
@@ -147,6 +148,6 @@ module _ (w : Plain) (good : Good w) (n : ℕ) (s : NodeState) (at : node_at w.n
         (claimed.took.table, held_then) good.own
         (small_taken w good.small n s r at name (system_of n) mode w.blocks (lock_there w.locks n name claimed.took.may) owes)
         (good.few n) (λ m ne. refl) (λ m y ne e ls i. goes-still w.locks t m ls (claimed.took.others m ls ne))
-        (stays_stocked s r refl stock_same x_stays (good.running.stocked n s at))
+        (stays_stocked s r refl stock_same x_stays (few_stays s r refl refl refl) (good.running.stocked n s at))
         (taken_writes w sole good.writers n s r t takes)
         (space_node t w.blocks r refl refl refl (λ e. claimed.asked_still.waits ∙ e) asks keeps claimed.rests_then space)

@@ -539,7 +539,7 @@ module _ (w : Plain) (good : Good w) (n : ℕ) (s : NodeState) (at : node_at w.n
       (subst (HasFewAnswers w.script n) (sym grows) (good.few n))
       (λ m ne. past_of_others m w.history entry (not_of m ne))
       others_go
-      (record { holds = inl (record { given = refl; stock = refl }) })
+      (record { holds = inl (record { given = refl; stock = refl }); few = inl (omega arith) })
       (death_writes w good n s at history others_go held_then)
       (record {
         past = ap (λ (p : NodePast). record p { dead = true }) mine.past ∙ sym grows;

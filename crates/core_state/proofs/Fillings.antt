@@ -2,10 +2,12 @@
 use Rattle.std.proofs.Common.{◌≡◌, ◌≤◌, ◌<◌, ◌+◌, ◌-◌, ◌/◌, ◌++◌, ◌&&◌, ◌||◌, not, ℕ, zero, suc, Bool, true, false, cond, List, [], ◌∷◌, Option, Some, None, is_some, filter, length, map, slice_get, nat_le, nat_lt, min, refl, sym, ap, subst, ◌∙◌, inl, inr, arith}
 use Rattle.std.specs.List.{range_with_len}
 use Rattle.std.proofs.lemmas.Bool.{and_parts}
+use Rattle.std.proofs.lemmas.List.{length-map}
 use Rattle.std.proofs.lemmas.Bool.Decides.{nat_tests}
 use Rattle.std.proofs.lemmas.List.Filters.{length-filter_both}
 use Rattle.base_words.specs.Fields.{Block}
 use Rattle.plain_cat.specs.declared.cat.Cat.{Cat}
+use Rattle.plain_cat.specs.declared.command.Cmd.{Cmd}
 use Rattle.base_words.specs.Lists.{Has, Once, AreApart}
 use Rattle.vol_spell.specs.Owners.{Owners, Things}
 use Rattle.base_words.proofs.Listing.{has_first, has_second, once_in_a_row, once_first, once_second, once_apart}
@@ -16,21 +18,26 @@ use Rattle.vol_spell.specs.Reading.{total_of}
 use Rattle.vol_spell.specs.Places.{place_of, IsPart}
 use Rattle.vol_spell.specs.Spelling.{Spells}
 use Rattle.vol_spell.proofs.Parts.{are_parts}
+use Rattle.op_law.specs.declared.need.Need.TheVariants as need
 use Rattle.op_law.specs.declared.need.PlanWrite.{PlanWrite}
+use Rattle.op_law.specs.declared.seen.Seen.{Seen}
+use Rattle.op_law.specs.Needs.{IsNext}
 use Rattle.op_law.specs.Writing.{with_numbers}
 use Rattle.extent_cache.specs.Stock.{put_in, with_one, merged}
 use Rattle.extent_cache.specs.Takings.{holds_enough}
 use Rattle.core_space.specs.Searching.{cluster_places, places, free_from, taken_in, cluster_write, cluster_writes}
 use Rattle.core_space.proofs.Chosen.{LiesIn, has_taken_in}
-use Rattle.core_space.specs.Filling.{clusters_to_take, lacks_number, storage_part, storage_place, fill_place, lowest_numbers, numbers_taken, clusters_taken, fill_writes, filled}
+use Rattle.core_space.specs.Filling.{spare_numbers, clusters_to_take, lacks_number, storage_part, storage_place, fill_place, lowest_numbers, numbers_taken, clusters_taken, fill_writes, filled}
 use Rattle.core_space.specs.Laws.{taken_with, taken_before, IsEnough}
 use Rattle.core_space.proofs.Filled.{filled_is, fills_enough, last_clusters, last_taken, taken_by, writes_fill}
 use Rattle.core_space.proofs.Merged.{not_held, put_in_has, put_in_once, stocks_take_all}
-use Rattle.core_state.specs.Worlds.{Stock}
+use Rattle.core_state.specs.Worlds.{Stock, NodeState}
 use Rattle.core_state.specs.Stocks.{roomless, filled_by}
-use Rattle.core_state.specs.Searches.{AreUnderV}
+use Rattle.core_state.specs.Searches.{AreUnderV, wanted_by, numbered_by, lacks_by}
+use Rattle.core_state.specs.Stores.{HasFewNumbers}
 use Rattle.core_state.proofs.Seeking.{some_quotient}
 use Rattle.core_state.proofs.Serving.{length_taken}
+use Rattle.core_state.proofs.StockSizes.{few_same}
 use Rattle.core_space.proofs.Apart.{lbns}
 use Rattle.core_space.proofs.Ways.{is_below}
 
@@ -178,6 +185,7 @@ with_numbers_is ns [] w h = absurd h
 with_numbers_is ns (v ∷ ws) w (inl e) = ap (λ (x : PlanWrite). x.numbers) (sym e)
 with_numbers_is ns (v ∷ ws) w (inr h) = with_numbers_is ns ws w h
 
+-- a write of a filling says all the numbers that are taken
 fill_numbers : (g : Geometry) (wanted : ℕ) (lacks : Bool) (bs : List Block) (w : PlanWrite) → Has (fill_writes g wanted lacks bs) w → w.numbers ≡ numbers_taken g lacks bs
 unfolding fill_writes
 fill_numbers g wanted false bs w h = with_numbers_is [] (cluster_writes g (clusters_taken g wanted bs) None [] 0 bs) w h
@@ -319,3 +327,49 @@ fill_some g need numbered stock bs [] short e =
         no_index f = some_index g (clusters_to_take need (length stock.clusters)) bs
             (subst (λ (b : Bool). 1 ≤ length (numbers_taken g b bs)) f ((fills_enough g need (length stock.clusters) (lacks_number numbered stock.numbers) bs [] e).number f))
             (sym ((filled_is g need (length stock.clusters) (lacks_number numbered stock.numbers) bs [] e).1 ∙ ap (λ b. fill_writes g (clusters_to_take need (length stock.clusters)) b bs) f))
+
+-- ---- how many file numbers the stock has then: its last write puts into it all that was taken
+
+pub few_filled : (s r : NodeState) (x : Cmd) → s.cmd ≡ Some x → (g : Geometry) (wanted held : ℕ) (bs : List Block) (ws : List PlanWrite) (v : PlanWrite) → filled g wanted held (lacks_by x s.seen s.stock) bs ≡ Some ws → Has ws v → Once (v.numbers ++ s.stock.numbers)
+    → r.cmd ≡ s.cmd → r.seen ≡ s.seen → r.stock ≡ filled_by v s.stock → IsNext x s.seen (need.Space (wanted_by x s.seen) (numbered_by x s.seen)) → HasFewNumbers s → HasFewNumbers r
+few_filled s r x is g wanted held bs ws v enough among once cmd seen stock next few = by_lacks (numbered_by x s.seen) refl (nat_lt 0 (length s.stock.numbers)) refl where
+  count : length r.stock.numbers ≡ length (merged v.numbers s.stock.numbers)
+  count = λ i. length (stock i).numbers
+
+  most : length (merged v.numbers s.stock.numbers) ≡ length v.numbers + length s.stock.numbers
+  most = length_merged v.numbers s.stock.numbers once
+
+  taken : v.numbers ≡ numbers_taken g (lacks_by x s.seen s.stock) bs
+  taken = fill_numbers g (clusters_to_take wanted held) (lacks_by x s.seen s.stock) bs v (subst (λ (vs : List PlanWrite). Has vs v) (filled_is g wanted held (lacks_by x s.seen s.stock) bs ws enough).1 among)
+
+  none_lacks : lacks_by x s.seen s.stock ≡ false → HasFewNumbers r
+  none_lacks e =
+      let none : v.numbers ≡ [] = taken ∙ ap (λ b. numbers_taken g b bs) e in
+      let zero : length v.numbers ≡ 0 = ap (λ (ns : List ℕ). length ns) none in
+      few_same s r cmd seen (omega (arith, count, most, zero)) few
+
+  by_lacks : (b : Bool) → numbered_by x s.seen ≡ b → (t : Bool) → nat_lt 0 (length s.stock.numbers) ≡ t → HasFewNumbers r
+  by_lacks false e t f = none_lacks (ap (λ c. c && not (nat_lt 0 (length s.stock.numbers))) e)
+  by_lacks true e true f = none_lacks (λ i. e i && not (f i))
+  by_lacks true e false f = inr (record {
+    command = x;
+    is = cmd ∙ is;
+    clusters = wanted_by x s.seen;
+    next = subst (λ (k : Seen). IsNext x k (need.Space (wanted_by x s.seen) true)) (sym seen) (next ∙ ap (need.Space (wanted_by x s.seen)) e);
+    most =
+        let empty : length s.stock.numbers ≡ 0 = grind (arith, nat_tests) in
+        let nine : length v.numbers ≤ 9 = subst (λ (ns : List ℕ). length ns ≤ 9) (sym taken) (fills_enough g wanted held (lacks_by x s.seen s.stock) bs ws enough).few in
+        omega (arith, count, most, empty, nine);
+  })
+
+-- a filling has taken at most one number and the spare ones
+pub fill_few : (g : Geometry) (need held : ℕ) (lacks : Bool) (bs : List Block) (ws : List PlanWrite) (k : ℕ) → filled g need held lacks bs ≡ Some ws → length (taken_before ws k).numbers ≤ 1 + spare_numbers
+fill_few g need held lacks bs ws zero e = omega arith
+fill_few g need held lacks bs ws (suc k) e = by_write (slice_get ws k) refl where
+  by_write : (o : Option PlanWrite) → slice_get ws k ≡ o → length (taken_with o).numbers ≤ 9
+  by_write None at = omega arith
+  by_write (Some v) at =
+      let is : v.numbers ≡ numbers_taken g lacks bs = fill_numbers g (clusters_to_take need held) lacks bs v (subst (λ (vs : List PlanWrite). Has vs v) (filled_is g need held lacks bs ws e).1 (get_has ws k v at)) in
+      let few : length v.numbers ≤ 9 = subst (λ (ns : List ℕ). length ns ≤ 9) (sym is) (fills_enough g need held lacks bs ws e).few in
+      let same = length-map v.numbers (λ n. n - 1) in
+      omega (arith, few, same)

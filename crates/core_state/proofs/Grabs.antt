@@ -46,13 +46,14 @@ use Rattle.core_state.specs.Asks.{granted_ask, knows_now, writes_now}
 use Rattle.core_state.specs.Stocks.{things_in, filled_by, left_by, things_held, taken_in, stock_now, looked_now, unwritten}
 use Rattle.core_state.specs.Searches.{wanted_by, numbered_by, lacks_by, NeedsSpace, FillWrites, IsWritingBack, IsDraining, HasClaimed, IsTaking, Rules, Grabs, Filled, Drains, Taking, Taken, Busy}
 use Rattle.node_locks.specs.Sequences.{guards_blocks}
-use Rattle.core_state.specs.Stores.{hold_writes, HasStore, IsStocked}
+use Rattle.core_state.specs.Stores.{hold_writes, HasStore, IsStocked, HasFewNumbers}
 use Rattle.core_state.specs.Goods.{under_with, nodes_under, IsAt, IsNode, Good, held_by}
 use Rattle.core_state.specs.Events.{turned, ready_left, given_by, stocked_by, is_last, space_writing, caching, cache_written}
 use Rattle.base_words.specs.Faults.{next as one_more}
 use Rattle.core_cached.specs.Committed.{IsUnderOn}
 use Rattle.core_cached.proofs.Guarded.{spaces_stay}
 use Rattle.node_cache.specs.Cached.{Cached}
+use Rattle.core_state.proofs.StockSizes.{few_stays, few_left, few_none}
 use Rattle.core_state.proofs.CachedPuts.{IsWriteOf, put_cached, put_writes}
 use Rattle.core_state.proofs.CachedLooks.{rewritten_store}
 use Rattle.core_state.proofs.CachedTakes.{goes_higher}
@@ -64,9 +65,9 @@ use Rattle.core_state.proofs.Switching.{AsksAlike}
 use Rattle.core_state.proofs.SmallWorlds.{OwesLess, owes_same, small_set}
 use Rattle.core_state.proofs.Keeping.{altered, still_driven, rebuilt, held_same, loses_nothing}
 use Rattle.core_state.proofs.Standing.{all_taken, part_taken, back_taken, with_nothing}
-use Rattle.core_state.proofs.Turning.{my_sole, under_command, here, drive, outs_now, seen_now, guards_now, is_node, goes, not_yet, plan_stays, asks_now, asks_then, no_wait, no_writes_now, me, more_before, only_before, made_before}
+use Rattle.core_state.proofs.Turning.{my_sole, under_command, here, drive, outs_now, seen_now, guards_now, is_node, goes, not_yet, plan_stays, asks_now, asks_then, no_wait, no_writes_now, me, more_before, only_before, made_before, stocked_now}
 use Rattle.core_state.proofs.Serving.{no_number}
-use Rattle.core_state.proofs.Fillings.{fill_once, fill_last, filled_enough, fill_under}
+use Rattle.core_state.proofs.Fillings.{get_has, fill_once, fill_last, filled_enough, fill_under, few_filled}
 use Rattle.core_state.proofs.InStock.{is_once, in_stock}
 use Rattle.core_state.proofs.Backs.{IsBackWrite, back_write}
 
@@ -208,8 +209,11 @@ module _ (w : Plain) (good : Good w) (n : ℕ) (s : NodeState) (at : node_at w.n
         (put_writes w (my_sole w good n s at x cmd free) good.writers n s r good.running.drive.own drive_now.new cat cat v it stays) node
 
   -- X is held in CR or more
-  stocked_by_x : (r : NodeState) (m : Mode) → r.kept ≡ s.kept → Has s.kept (X, m) → rank CR ≤ rank m → IsStocked r
-  stocked_by_x r m same h le = record { holds = inr (subst (λ (ls : Row). Has (held_in CR ls) X) (sym same) (is_in_held CR s.kept X (record { in_mode = m; has = h; strong = le }))) }
+  stocked_by_x : (r : NodeState) (m : Mode) → r.kept ≡ s.kept → Has s.kept (X, m) → rank CR ≤ rank m → (HasFewNumbers s → HasFewNumbers r) → IsStocked r
+  stocked_by_x r m same h le few = record {
+    holds = inr (subst (λ (ls : Row). Has (held_in CR ls) X) (sym same) (is_in_held CR s.kept X (record { in_mode = m; has = h; strong = le })));
+    few = few (stocked_now w good n s at x cmd free).few;
+  }
 
   -- what it keeps, as the write leaves it
   store_so : (p : Phase) (locks : Row) (es : List Cached) → v.lock ≡ V → p ≡ s.run.phase → locks ≡ s.kept → es ≡ cache_written w s v → HasStore p locks es
@@ -269,7 +273,7 @@ module _ (w : Plain) (good : Good w) (n : ℕ) (s : NodeState) (at : node_at w.n
         let stock_then : stock_now s.stock r.run ≡ mid = ap (together (things_in s.stock)) (part_taken s.run.phase ws (t + 1) part ∙ ap (λ p. taken_in p ws (t + 1)) h.filling.fill ∙ taken_next ws t v next) in
         let there : record u { seen = rest; stock = mid } ≡ under_with w.locks n r s.cmd
         = (λ i. record (at_locks n r x (held_by w.locks n s)) { stock = sym stock_then i }) ∙ ap (under_with w.locks n r) (sym cmd) in
-        written_so filling.old among once refilled.0 r filling.lock refl refl refl (λ part o low. refl) refl (owes_same s r refl refl) (stocked_by_x r CR refl h.filling.shared (omega arith)) (knows_now n x s.seen s.tried s.plan) mid u.took mid
+        written_so filling.old among once refilled.0 r filling.lock refl refl refl (λ part o low. refl) refl (owes_same s r refl refl) (stocked_by_x r CR refl h.filling.shared (omega arith) (few_stays s r refl refl refl)) (knows_now n x s.seen s.tried s.plan) mid u.took mid
         (λ base own spelt outs stands. (refill base own spelt outs stands).1) (λ own o. o) there
         (node_so r filling.lock refl refl refl refl refl refl refl refl refl refl refl
         (Grabs (record { filling = record { fill = h.filling.fill; shared = h.filling.shared; claims = h.filling.claims; needs = h.filling.needs; in_order = h.filling.in_order }; enough = h.enough; part = part })))
@@ -281,7 +285,7 @@ module _ (w : Plain) (good : Good w) (n : ℕ) (s : NodeState) (at : node_at w.n
         let there : record u { seen = rest; stock = left_then } ≡ under_with w.locks n r s.cmd
         = (λ i. record (at_locks n r x (held_by w.locks n s)) { stock = sym stock_then i }) ∙ ap (under_with w.locks n r) (sym cmd) in
         let its = is_once n refilled.1.new v s.stock (subst (λ (k : Things). Outs n refilled.1.new k mid) none refilled.1.outs) in
-        written_so filling.old among once refilled.0 r filling.lock refl refl refl (λ part o low. refl) refl (owes_same s r refl refl) (stocked_by_x r CR refl h.filling.shared (omega arith)) (knows_now n x s.seen s.tried s.plan) mid u.took left_then
+        written_so filling.old among once refilled.0 r filling.lock refl refl refl (λ part o low. refl) refl (owes_same s r refl refl) (stocked_by_x r CR refl h.filling.shared (omega arith) (few_filled s r x cmd g (wanted_by x s.seen) (length s.stock.clusters) bs ws v h.enough (get_has ws t v next) its.numbers refl refl refl h.filling.needs.next)) (knows_now n x s.seen s.tried s.plan) mid u.took left_then
         (λ base own spelt outs stands. (refill base own spelt outs stands).1)
         (λ own o. subst (λ (k : Things). Outs n own k left_then) (sym none) (in_stock n own v s.stock (subst (λ (k : Things). Outs n own k mid) none o))) there
         (node_so r filling.lock refl refl refl refl refl refl refl refl refl refl refl
@@ -315,7 +319,7 @@ module _ (w : Plain) (good : Good w) (n : ℕ) (s : NodeState) (at : node_at w.n
         let stock_then : stock_now (r last).stock (r last).run ≡ left_then = ap (together left_then) (back_taken s.run.phase ws (t + 1) (inl h.drain)) ∙ with_nothing left_then in
         let there : record u { seen = rest; stock = left_then } ≡ under_with w.locks n (r last) s.cmd
         = (λ i. record (at_locks n (r last) x (held_by w.locks n s)) { stock = sym stock_then i }) ∙ ap (under_with w.locks n (r last)) (sym cmd) in
-        written_so b.old b.among goes_back.once b.bitmap (r last) b.lock refl refl refl (λ part o low. refl) refl (owes_same s (r last) refl refl) (stocked_by_x (r last) CR refl h.shared (omega arith)) (knows_now n x s.seen s.tried s.plan) left_then u.took left_then
+        written_so b.old b.among goes_back.once b.bitmap (r last) b.lock refl refl refl (λ part o low. refl) refl (owes_same s (r last) refl refl) (stocked_by_x (r last) CR refl h.shared (omega arith) (few_left s (r last) g v.lbn refl refl refl)) (knows_now n x s.seen s.tried s.plan) left_then u.took left_then
         (λ base own spelt outs stands. b.refill base own spelt (subst (λ (k : Things). Outs n own u.took k) stock_so outs) stands) (λ own o. o) there
         (node_so (r last) b.lock refl refl refl refl refl refl refl refl refl refl refl
         (Drains (record { drain = h.drain; shared = h.shared; claims = h.claims; needs = h.needs; goes = b.goes })))
@@ -378,7 +382,7 @@ module _ (w : Plain) (good : Good w) (n : ℕ) (s : NodeState) (at : node_at w.n
         let stock_then : stock_now s.stock r.run ≡ gets = in_last (t + 1) part ∙ ap things_held out_now in
         let there : record u { seen = rest; stock = gets } ≡ under_with w.locks n r s.cmd
         = (λ i. record (at_locks n r x (held_by w.locks n s)) { stock = sym stock_then i }) ∙ ap (under_with w.locks n r) (sym cmd) in
-        written_so taking.old among_last once_last bitmap r taking.lock refl refl refl (λ part o low. refl) refl (owes_same s r refl refl) (stocked_by_x r EX refl h.found.claimed_so.alone (omega arith)) (knows_now n x s.seen s.tried s.plan) gets u.took gets
+        written_so taking.old among_last once_last bitmap r taking.lock refl refl refl (λ part o low. refl) refl (owes_same s r refl refl) (stocked_by_x r EX refl h.found.claimed_so.alone (omega arith) (few_stays s r refl refl refl)) (knows_now n x s.seen s.tried s.plan) gets u.took gets
         (λ base own spelt outs stands. (refill_last base own spelt outs stands).1) (λ own o. o) there
         (node_so r taking.lock refl refl refl refl refl refl refl refl refl refl refl
         (Taking (record { found = record { claimed_so = claimed_on r.run s.seen refl refl refl refl; enough = h.found.enough; above = h.found.above }; needs = h.needs; part = part; ready = h.ready })))
@@ -392,7 +396,7 @@ module _ (w : Plain) (good : Good w) (n : ℕ) (s : NodeState) (at : node_at w.n
         let all_so = takes_all g (wanted_by x s.seen) (numbered_by x s.seen) seen_bs ws h.found.enough in
         let count : length v.clusters ≡ wanted_by x s.seen = ap (λ (k : Held). length k.clusters) (sym out_last) ∙ all_so.clusters in
         let numbered : has_number (numbered_by x s.seen) v.number ≡ true = number_there (numbered_by x s.seen) v.number (ap (λ (k : Held). is_some k.number) (sym out_last) ∙ all_so.number) in
-        written_so taking.old among_last once_last bitmap r taking.lock refl refl refl (λ part o low. refl) refl (owes_same s r refl refl) (stocked_by_x r EX refl h.found.claimed_so.alone (omega arith)) (knows_now n x r.seen s.tried s.plan) gets gets nothing
+        written_so taking.old among_last once_last bitmap r taking.lock refl refl refl (λ part o low. refl) refl (owes_same s r refl refl) (stocked_by_x r EX refl h.found.claimed_so.alone (omega arith) (λ f. few_none r h.found.claimed_so.empty)) (knows_now n x r.seen s.tried s.plan) gets gets nothing
         (λ base own spelt outs stands. (refill_last base own spelt outs stands).1) (λ own o. out_taken n own gets (subst (λ (k : Things). Outs n own k gets) none o)) there
         (is_node w good n s at x cmd free w.locks written r refl refl refl refl (store_so r.run.phase r.kept r.cache taking.lock refl refl refl) (me w good n s at x cmd free).rests
         ((goes w good n s at x cmd free).given s.seen (wanted_by x s.seen) (numbered_by x s.seen) v.clusters v.number now.seen h.needs.next count numbered) now.own (plan_stays w good n s at x cmd free w.locks r no_plan refl refl)

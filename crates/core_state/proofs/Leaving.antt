@@ -41,6 +41,7 @@ use Rattle.core_state.specs.Searches.{IsOff, Spaces, Off}
 use Rattle.core_state.specs.Stores.{hold_writes, part_raise, IsWriter, AreCached, AreHeldWrites}
 use Rattle.core_state.specs.Goods.{held_by, under_with, nodes_under, IsIdle, HasCommand, IsNode, Good}
 use Rattle.core_state.specs.Events.{is_out, space_locks, is_wanted, is_ended, gives_back_in, gives_back, left_alone, turned, leaving}
+use Rattle.core_state.proofs.StockSizes.{few_none}
 use Rattle.core_state.proofs.Nodes.{at_here, at_else}
 use Rattle.core_state.proofs.Holding.{in_held_is, held_grows}
 use Rattle.core_state.proofs.Running.{kept_held, held_among, under_here, under_grown, are_sole}
@@ -263,7 +264,7 @@ module _ (w : Plain) (good : Good w) (n : ℕ) (s : NodeState) (at : node_at w.n
       (swept.table, held_set after w.nodes n s r at held_then) good.own
       (small_left w good.small n s r at after w.blocks (left_little first_sequence is_first n s.kept w.locks) (left_little second_sequence is_second n s.kept w.locks) owes)
       (good.few n) (λ m ne. refl) loses
-      (record { holds = inl (record { given = λ i. things (idle.space.clusters i) (idle.space.number i); stock = nothing_stocked }) })
+      (record { holds = inl (record { given = λ i. things (idle.space.clusters i) (idle.space.number i); stock = nothing_stocked }); few = few_none r empty })
       writes_then
       (record {
         past = me.past;

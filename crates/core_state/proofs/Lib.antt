@@ -41,6 +41,7 @@ pub mod SmallWorlds
 pub mod Numbers
 pub mod Beginning
 pub mod Standing
+pub mod StockSizes
 pub mod Preparing
 pub mod Turning
 pub mod Serving
@@ -72,6 +73,7 @@ pub mod Turns
 pub mod Leaking
 pub mod Dying
 pub mod Outside
+pub mod OutsideNumbers
 pub mod Openings
 pub mod Accepting
 pub mod MountedWorlds

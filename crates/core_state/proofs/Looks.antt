@@ -41,9 +41,10 @@ use Rattle.core_state.specs.Asks.{is_claiming, writes_now}
 use Rattle.core_state.specs.Small.{lent, owed_in, owed}
 use Rattle.core_state.specs.Stocks.{roomless, things_in, unwritten, taken_in, taken_by, stock_now, looked_now}
 use Rattle.core_state.specs.Searches.{wanted_by, numbered_by, lacks_by, IsFilling, FillLooks, IsGoingBack, LooksOn, WritesBack, IsDraining, HasClaimed, IsLooking, Rules, Fills, Grabs, Drains, Looking, Taking, Refused, Busy}
-use Rattle.core_state.specs.Stores.{AreKept, HasStore, IsCachedAt}
+use Rattle.core_state.specs.Stores.{AreKept, HasStore, IsCachedAt, HasFewNumbers}
 use Rattle.core_state.specs.Goods.{under_with, nodes_under, IsAt, IsNode, Good, held_by}
 use Rattle.core_state.specs.Events.{turned, space_need, told_by, looked_on, space_decided, decision_on}
+use Rattle.core_state.proofs.StockSizes.{few_stays, few_none}
 use Rattle.core_state.proofs.Holding.{is_in_held, held_weaker}
 use Rattle.core_state.proofs.Running.{claims_held, at_locks}
 use Rattle.core_state.proofs.Taking.{becomes, is_committed}
@@ -148,8 +149,8 @@ module _ (w : Plain) (good : Good w) (n : ℕ) (s : NodeState) (at : node_at w.n
 
     -- the node as the look leaves it: where its rules have come to this, and it was given nothing
     left_so : (d : Decision) → things (come_as d).seen.clusters (come_as d).seen.number ≡ things s.seen.clusters s.seen.number → (come_as d).seen.blocks ≡ s.seen.blocks
-        → owed (come_as d) ≡ owed s → IsNode (with_node w n (come_as d)) n (come_as d) → Good (with_node w n (come_as d))
-    left_so d took blocks owes node =
+        → (HasFewNumbers s → HasFewNumbers (come_as d)) → owed (come_as d) ≡ owed s → IsNode (with_node w n (come_as d)) n (come_as d) → Good (with_node w n (come_as d))
+    left_so d took blocks few owes node =
         let r : NodeState = come_as d in
         let v : UnderWay = at_locks n r x (held_by w.locks n s) in
         let seen_is : unwritten (take 0 d.writes) more ++ s.seen.blocks ≡ v.seen = ap (λ ss. unwritten (take 0 d.writes) more ++ ss) (sym blocks) in
@@ -158,7 +159,7 @@ module _ (w : Plain) (good : Good w) (n : ℕ) (s : NodeState) (at : node_at w.n
         (subst (StandsIn under.base) seen_is (all_stand (take 0 d.writes)))
         (subst (λ (ss : List (ℕ × Block)). (l : ℕ) → Touches ss l → MayLook (held_in PR (held_by w.locks n s)) (guard_of g under.own l)) seen_is (all_guarded (take 0 d.writes))) in
         let there : v ≡ under_with w.locks n r r.cmd = ap (under_with w.locks n r) (sym cmd) in
-        alone w good n s at r refl (λ part o low. refl) refl (owes_same s r owes refl) (stays_stocked s r took (stock_so d) (λ h. h) (stocked_now w good n s at x cmd free))
+        alone w good n s at r refl (λ part o low. refl) refl (owes_same s r owes refl) (stays_stocked s r took (stock_so d) (λ h. h) few (stocked_now w good n s at x cmd free))
         (subst (λ (k : UnderWay). IsUnderOn w.geometry cat good.running.drive.base good.running.drive.own (changed (nodes_under w.locks w.nodes) n k) w.blocks) there (back w good n s at x cmd free v w.blocks drive_now))
         (ap (λ (ws : List PlanWrite). ws ++ take s.done (writes_now s.tried s.plan)) (sym (ap (λ (ws : List PlanWrite). take s.run.made ws) no_writes ∙ take_none s.run.made))) (entries r refl) node
 
@@ -167,7 +168,7 @@ module _ (w : Plain) (good : Good w) (n : ℕ) (s : NodeState) (at : node_at w.n
     goes_so d none keeps owes rules =
         let r : NodeState = come_as d in
         let same : told_by d.short s.seen ≡ s.seen = ap (λ o. told_by o s.seen) none in
-        left_so d (ap (λ (k : Seen). things k.clusters k.number) same) (ap (λ (k : Seen). k.blocks) same) owes
+        left_so d (ap (λ (k : Seen). things k.clusters k.number) same) (ap (λ (k : Seen). k.blocks) same) (few_stays s r refl same refl) owes
         (is_node w good n s at x cmd free w.locks w.blocks r refl (ap (λ (k : Seen). k.geometry) same) (ap (λ (k : Seen). k.channel) same) refl (record { kept = keeps; few = store.few; cache = store.cache; guarding = store.guarding }) (me w good n s at x cmd free).rests
         (subst (λ (k : Seen). HasSeen x k) (sym same) now.seen) (subst (λ (k : Seen). (name : LockName) → Has (names_of k.locks) name → takes_lock x name ≡ true) (sym same) now.own)
         (plan_stays w good n s at x cmd free w.locks r no_plan refl refl)
@@ -289,7 +290,7 @@ module _ (w : Plain) (good : Good w) (n : ℕ) (s : NodeState) (at : node_at w.n
       by_found (Short why) e next_lbn =
           let d : Decision = record { phase = phase.Last; writes = []; short = Some why } in
           let r : NodeState = come_as d in
-          left_so d (sym (λ i. things (h.needs.none.clusters i) (h.needs.none.number i))) refl (last_owes d refl)
+          left_so d (sym (λ i. things (h.needs.none.clusters i) (h.needs.none.number i))) refl (λ f. few_none r h.claimed_so.empty) (last_owes d refl)
           (is_node w good n s at x cmd free w.locks w.blocks r refl refl refl refl (record { kept = last_kept; few = store.few; cache = store.cache; guarding = store.guarding }) (me w good n s at x cmd free).rests
           ((goes w good n s at x cmd free).refused s.seen (wanted_by x s.seen) (wants_number x) why now.seen h.needs.next (refused_why g (wanted_by x s.seen) (wants_number x) (blocks_of more) why e))
           now.own (plan_stays w good n s at x cmd free w.locks r no_plan refl refl) (asks_then w good n s at x cmd free r no_plan refl (asks_now w good n s at x cmd free no_plan))

@@ -41,6 +41,7 @@ use Rattle.core_state.specs.Stores.{IsKeptLow, IsKeptX, AreKept, HasStore, IsSto
 use Rattle.core_state.specs.Waiting.{IsAside, WaitsAside}
 use Rattle.core_state.specs.Goods.{under_with, nodes_under, IsNode, Good, held_by}
 use Rattle.core_state.specs.Events.{is_out, turned, lowering, lowering_both, returning, v_lowered, x_lowered, x_returned}
+use Rattle.core_state.proofs.StockSizes.{few_stays, few_none}
 use Rattle.core_state.proofs.Holding.{HasIn, in_held_is, is_in_held, held_grows}
 use Rattle.core_state.proofs.Naming.{one_of, named_by, asked_is, is_asked, stays_without, from_without}
 use Rattle.core_state.proofs.Running.{at_any, under_grown, claims_held, are_sole}
@@ -292,7 +293,7 @@ module _ (w : Plain) (good : Good w) (n : ℕ) (s : NodeState) (at : node_at w.n
   pub v_keeps : (x : Cmd) → s.cmd ≡ Some x → HasFilled x s.kept s.claims s.run s.stock s.seen → Good (altered w mid w.blocks (set_node w.nodes n (turned (lowering s))) w.history)
   v_keeps x cmd h = lowers_so r mid v_so refl refl refl refl refl refl (λ l ne i. i) raised_mid h.locks (none_last s.run.writes s.run.made h.all) there h.needs.apart (subst (λ (p : Phase). WaitsAside p s.asked s.seen.number) h.fill) opens_mid
       (small_lowered w good.small n s r at mid mid w.blocks first_mid second_mid (λ name. omega arith) (λ name. omega arith) refl owes)
-      (stays_stocked s r refl stock_same (λ k. held_grows CR s.kept kept_mid X (λ l i. has_first s.kept ((V, NL) ∷ []) l i) k) (good.running.stocked n s at))
+      (stays_stocked s r refl stock_same (λ k. held_grows CR s.kept kept_mid X (λ l i. has_first s.kept ((V, NL) ∷ []) l i) k) (few_stays s r refl refl refl) (good.running.stocked n s at))
       (store_mid phase.Fill not_last)
       (Busy x cmd (Served (record { run = refl; claims = refl; needs = h.needs; enough = h.enough }))) where
         r : NodeState
@@ -379,7 +380,7 @@ module _ (w : Plain) (good : Good w) (n : ℕ) (s : NodeState) (at : node_at w.n
         (opens_converted X n CR NL (resource_at X mid).value mid (open_now cat w.nodes) v_so.table x_not_a lock_x not_cw opens_mid)
         (small_lowered w good.small n s r at t_low mid w.blocks first_mid second_mid
         (λ name. let e = converted_same first_sequence is_first X name (system_of n) NL mid (ap is_some lock_x) in omega arith) (λ name. let e = converted_same second_sequence is_second X name (system_of n) NL mid (ap is_some lock_x) in omega arith) refl owes)
-        (record { holds = inl (record { given = λ i. things (h.needs.none.clusters i) (h.needs.none.number i); stock = nothing_now phase.Last }) })
+        (record { holds = inl (record { given = λ i. things (h.needs.none.clusters i) (h.needs.none.number i); stock = nothing_now phase.Last }); few = few_none r empty })
         (store_more phase.Last phase.Last less ((X, NL) ∷ []) s.cache refl (store_less phase.Last) keeps_low)
         (Busy x cmd (Alone (record { run = refl; claims = inl (refl, has_second less ((X, NL) ∷ []) (X, NL) (inl refl)); empty = empty; needs = h.needs }))) where
           r : NodeState
@@ -410,7 +411,7 @@ module _ (w : Plain) (good : Good w) (n : ℕ) (s : NodeState) (at : node_at w.n
         (opens_released X n (resource_at X mid).value mid (open_now cat w.nodes) v_so.table opens_mid)
         (small_lowered w good.small n s r at t_back mid w.blocks first_mid second_mid
         (λ name. released_own first_sequence is_first X name (system_of n) mid) (λ name. released_own second_sequence is_second X name (system_of n) mid) refl (owes s.cmd))
-        (record { holds = inl (record { given = λ i. things (h.space.clusters i) (h.space.number i); stock = nothing_now phase.Off }) })
+        (record { holds = inl (record { given = λ i. things (h.space.clusters i) (h.space.number i); stock = nothing_now phase.Off }); few = few_none r empty })
         (store_less phase.Off)
         (Off (record { run = refl; claims = refl; space = h.space })) where
           r : NodeState

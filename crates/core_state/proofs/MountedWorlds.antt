@@ -143,7 +143,7 @@ module _ (bs : List Block) (s : Script) (c : Cat) (g : Geometry) (form : InForm 
       named = closed_names c none_open;
       opens = opens_same [] (open_of c) (open_now c w.nodes) (λ owner low. ap (λ a. open_with owner.part a (open_of c owner)) (no_asks owner.node)) (opens_none c 64 none_open);
       opened = λ n r e. subst (λ (y : NodeState). HasOpens c n y.opens) (sym (at_rest_at s.nodes x n r e)) (none_opened c 64 n none_open);
-      stocked = λ n r e. subst IsStocked (sym (at_rest_at s.nodes x n r e)) (record { holds = inl (record { given = refl; stock = refl }) });
+      stocked = λ n r e. subst IsStocked (sym (at_rest_at s.nodes x n r e)) (record { holds = inl (record { given = refl; stock = refl }); few = inl (omega arith) });
       cached = λ n r k e has. absurd (subst (λ (y : NodeState). Has y.cache k) (at_rest_at s.nodes x n r e) has);
     };
     locked = (record { ordered = refl; used = refl; settled_all = tt }, nothing_is_held (rows_at w.nodes) no_locks);

@@ -1,5 +1,5 @@
 -- What a node has outside files and bitmaps it has under X or V; and who is refused for want of space holds both alone.
-use Rattle.std.proofs.Common.{◌≡◌, ◌≤◌, ◌++◌, ◌⊎◌, ◌==◌, not, ℕ, zero, suc, Bool, true, false, List, [], ◌∷◌, Option, Some, None, map, take, zip, refl, sym, ap, subst, ◌∙◌, inl, inr, arith}
+use Rattle.std.proofs.Common.{◌≡◌, ◌≤◌, ◌++◌, ◌⊎◌, ◌==◌, not, ℕ, zero, suc, Bool, true, false, List, [], ◌∷◌, Option, Some, None, length, map, take, zip, refl, sym, ap, subst, ◌∙◌, inl, inr, arith}
 use Rattle.std.proofs.lemmas.Bool.{and_parts}
 use Rattle.std.proofs.lemmas.Bool.Decides.{nat_tests}
 use Rattle.std.proofs.lemmas.List.{append-nil}
@@ -23,12 +23,14 @@ use Rattle.vol_under.specs.Guards.{guard_of, MayLook}
 use Rattle.vol_under.specs.UnderWay.{UnderWay, outs_after, together}
 use Rattle.vol_under.specs.Under.{IsUnder}
 use Rattle.op_law.specs.declared.need.Ask.{Ask}
+use Rattle.op_law.specs.declared.need.Need.TheVariants as need
 use Rattle.op_law.specs.declared.need.Plan.{Plan}
 use Rattle.op_law.specs.declared.need.PlanWrite.{PlanWrite}
 use Rattle.op_law.specs.Events.{has_number, has_space}
 use Rattle.op_law.specs.Fits.{things}
 use Rattle.op_law.specs.Knows.{knows, is_granted}
-use Rattle.op_law.specs.Laws.{held_in, planned, KeepsOut, IsPlan}
+use Rattle.op_law.specs.Needs.{IsNext}
+use Rattle.op_law.specs.Laws.{held_in, planned, most_outside, KeepsOut, IsPlan}
 use Rattle.core_space.specs.Searching.{More, Short, Enough, places, found, found_clusters, free_from, cluster_writes}
 use Rattle.core_space.specs.Answering.{blocks_of}
 use Rattle.core_space.proofs.Looked.{places_lie}
@@ -130,22 +132,38 @@ module _ (w : Plain) (good : Good w) (n : ℕ) (s : NodeState) (at : node_at w.n
       by_ask (Some a) ask true t = all_by a ask (still_granted w good n s at x cmd i.1 p e a ask t)
 
   -- behind the writes done
-  abbrev behind : Things
+  abbrev pub behind : Things
   behind = outs_after given (writes_done s)
 
-  behind_so : ((behind ≡ nothing) ⊎ (behind ≡ given)) ⊎ Has (held_in PW (held_by w.locks n s)) V
-  behind_so = elim (left_behind given (writes_now s.tried s.plan) s.done) [ inl e ↦ inl (inr e) | inr r ↦ by_cmd s.cmd refl me.command r ] where
-    by_plan_free : (x : Cmd) (o : Option Plan) → IsAtPlan x (waits_at w.locks n s.asked) s.seen s.done s.tried o → (v : PlanWrite) → Has (writes_now s.tried o) v → waits_at w.locks n s.asked ≡ false
-    by_plan_free x None i v h = absurd h
-    by_plan_free x (Some p) i v h = i.1
+  -- or it holds V, its command has decided, and few file numbers are among it
+  pub record IsUnderV : Type 0 where
+    pub held : Has (held_in PW (held_by w.locks n s)) V
+    pub few : length behind.numbers ≤ most_outside
+    pub command : Cmd
+    pub is : s.cmd ≡ Some command
+    pub plan : Plan
+    pub next : IsNext command s.seen (need.Ready plan)
 
-    by_cmd : (o : Option Cmd) → s.cmd ≡ o → HasCommand w n s o → IsLeft given behind (writes_now s.tried s.plan) → ((behind ≡ nothing) ⊎ (behind ≡ given)) ⊎ Has (held_in PW (held_by w.locks n s)) V
+  pub behind_so : ((behind ≡ nothing) ⊎ (behind ≡ given)) ⊎ IsUnderV
+  behind_so = elim (left_behind given (writes_now s.tried s.plan) s.done) [ inl e ↦ inl (inr e) | inr r ↦ by_cmd s.cmd refl me.command r ] where
+    by_plan : (x : Cmd) (o : Option Plan) → IsAtPlan x (waits_at w.locks n s.asked) s.seen s.done s.tried o → (v : PlanWrite) → Has (writes_now s.tried o) v → (waits_at w.locks n s.asked ≡ false) × ((p : Plan) × IsNext x s.seen (need.Ready p))
+    by_plan x None i v h = absurd h
+    by_plan x (Some p) i v h = (i.1, (p, i.0))
+
+    by_cmd : (o : Option Cmd) → s.cmd ≡ o → HasCommand w n s o → IsLeft given behind (writes_now s.tried s.plan) → ((behind ≡ nothing) ⊎ (behind ≡ given)) ⊎ IsUnderV
     by_cmd None cmd idle r = absurd (let h : Has (writes_now s.tried None) r.write = subst (λ (o : Option Plan). Has (writes_now s.tried o) r.write) idle.plan r.among in h)
     by_cmd (Some x) cmd now r = elim (keeps_out x cmd r.write r.among) [
       | inl e ↦ inl (inl (r.leaves ∙ e))
       | inr e ↦ elim e [
         | inl f ↦ inl (inr (r.leaves ∙ f))
-        | inr f ↦ inr (wide_so w good n s at (by_plan_free x s.plan now.plan r.write r.among) V f)
+        | inr f ↦ inr (let made = by_plan x s.plan now.plan r.write r.among in record {
+          held = wide_so w good n s at made.0 V f.0;
+          few = subst (λ (o : Things). length o.numbers ≤ most_outside) (sym r.leaves) f.1;
+          command = x;
+          is = cmd;
+          plan = made.1.0;
+          next = made.1.1;
+        })
       ]
     ]
 
@@ -153,7 +171,7 @@ module _ (w : Plain) (good : Good w) (n : ℕ) (s : NodeState) (at : node_at w.n
   pub nothing_outside : HasNothing s → (outside_now s ≡ nothing) ⊎ Has (held_in PW (held_by w.locks n s)) V
   nothing_outside none = elim behind_so [
     | inl e ↦ inl (elim e [ inl f ↦ (λ i. together (f i) (none.stock i)) | inr f ↦ (λ i. together ((f ∙ none.given) i) (none.stock i)) ])
-    | inr h ↦ inr h
+    | inr h ↦ inr h.held
   ]
 
   pub locked_so : IsOutsideLocked w n s

@@ -38,6 +38,7 @@ use Rattle.core_state.specs.Searches.{IsWritingBack, IsGoingBack, LooksOn, Write
 use Rattle.core_state.specs.Goods.{under_with, nodes_under, IsNode, Good, held_by}
 use Rattle.core_state.specs.Events.{is_out, turned, space_need, ready_left, given_by, stocked_by, is_last, space_writing, caching, cache_written}
 use Rattle.base_words.specs.Faults.{next as one_more}
+use Rattle.core_state.proofs.StockSizes.{few_stays, few_left}
 use Rattle.core_state.proofs.Holding.{is_in_held, held_weaker}
 use Rattle.core_state.proofs.Running.{at_any, under_now, claims_held, are_sole}
 use Rattle.core_state.proofs.Keeping.{altered, still_driven, rebuilt, held_same, loses_nothing, asked_apart}
@@ -134,7 +135,7 @@ module _ (w : Plain) (good : Good w) (n : ℕ) (s : NodeState) (at : node_at w.n
           let drive_now = looks g cat (nodes_under w.locks w.nodes) w.blocks n u (here_so w good n s at) under sole lbn b (not_done w good n s at not_its lbn bitmap) there_now (may_look under.own lbn bitmap)
           new (among ws) (law_so w good n s at (looked_now (r ws).run) u.read u.write u.stock (wide_so w good n s at)) in
           let there : record u { seen = new } ≡ under_with w.locks n (r ws) (r ws).cmd = λ i. record (at_any n s s.cmd (held_by w.locks n s)) { seen = new; stock = sym (stock_same ws) i } in
-          alone w good n s at (r ws) refl (λ part o low. refl) refl (owes_same s (r ws) (owes ws) refl) (stays_stocked s (r ws) refl (stock_same ws) (λ k. k) (good.running.stocked n s at))
+          alone w good n s at (r ws) refl (λ part o low. refl) refl (owes_same s (r ws) (owes ws) refl) (stays_stocked s (r ws) refl (stock_same ws) (λ k. k) (few_stays s (r ws) refl refl refl) (good.running.stocked n s at))
           (subst (λ (k : UnderWay). IsUnderOn w.geometry cat good.running.drive.base good.running.drive.own (changed (nodes_under w.locks w.nodes) n k) w.blocks) there (back_drive under.base under.own (record u { seen = new }) w.blocks drive_now))
           (ap (λ (zs : List PlanWrite). zs ++ take s.done (writes_now s.tried s.plan)) (sym (ap (λ (zs : List PlanWrite). take s.run.made zs) no_writes ∙ take_none s.run.made))) (entries (r ws) refl)
           (space_node w good n s at on w.locks w.blocks (r ws) refl refl refl (λ e. e) (λ e a. inl (inr refl)) (record { kept = keeps_on s.run.phase phase.Back s.kept (inl not_last) store.kept; few = store.few; cache = store.cache; guarding = store.guarding }) me.rests
@@ -183,7 +184,7 @@ module _ (w : Plain) (good : Good w) (n : ℕ) (s : NodeState) (at : node_at w.n
           good.running.opens
           (put_cached w sole good.writers n s q under.own drive_now.new cat cat v it stays good.running.cached))
           (good.locked.0, held_same w.locks w.nodes n s q at refl good.locked.1) good.own (small_set w good.small n s q at written (owes_same s q refl refl)) (good.few n) (λ m ne. refl) (λ m y ne e. loses_nothing w.locks m y)
-          (record { holds = inr (is_in_held CR s.kept X (record { in_mode = CR; has = h.shared; strong = omega arith })) })
+          (record { holds = inr (is_in_held CR s.kept X (record { in_mode = CR; has = h.shared; strong = omega arith })); few = few_left s q g v.lbn refl refl refl (good.running.stocked n s at).few })
           (put_writes w sole good.writers n s q under.own drive_now.new cat cat v it stays)
           (space_node w good n s at on w.locks written q refl refl refl (λ e. e) (λ e a. a) (rewritten_store w v s.run.phase s.kept s.cache (ap guards_blocks b.lock) me.store) me.rests
           (Back (record { back = h.back; shared = h.shared; claims = h.claims; space = h.space; apart = h.apart; goes = b.goes }))) where

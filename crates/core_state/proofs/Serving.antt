@@ -46,6 +46,7 @@ use Rattle.core_state.specs.Searches.{begun_run, wanted_by, numbered_by, IsOfNum
 use Rattle.core_state.specs.Stores.{IsKeptLow, HasNothing, IsStocked}
 use Rattle.core_state.specs.Goods.{under_with, nodes_under, IsAt, Good, held_by}
 use Rattle.core_state.specs.Events.{may_serve, serves, serving}
+use Rattle.core_state.proofs.StockSizes.{few_served}
 use Rattle.core_state.proofs.Holding.{in_held_is, named_there}
 use Rattle.core_state.proofs.Naming.{none_of}
 use Rattle.core_state.proofs.Running.{held_among, at_locks}
@@ -304,7 +305,7 @@ module _ (w : Plain) (good : Good w) (n : ℕ) (s : NodeState) (at : node_at w.n
           none_kept (suc j) false = refl
 
     given_stocked : IsStocked r
-    given_stocked = record { holds = elim (stocked_now w good n s at x cmd free).holds [ inl e ↦ inl (nothing_left e.stock) | inr h ↦ inr h ] }
+    given_stocked = record { holds = elim (stocked_now w good n s at x cmd free).holds [ inl e ↦ inl (nothing_left e.stock) | inr h ↦ inr h ]; few = inl (few_served s x cmd k b is (stocked_now w good n s at x cmd free).few) }
 
     given_owes : OwesLess s r
     given_owes =

@@ -54,6 +54,7 @@ use Rattle.core_state.specs.Channels.{names_in_form, channel_seen, channel_now, 
 use Rattle.core_state.specs.Stocks.{stock_now, looked_now}
 use Rattle.core_state.specs.Goods.{under_with, nodes_under, IsAtPlan, IsAt, HasCommand, Good, held_by}
 use Rattle.core_state.specs.Events.{turned, asking, would_go, asked_by, by_end, happens}
+use Rattle.core_state.proofs.StockSizes.{few_ready}
 use Rattle.core_state.proofs.Nodes.{at_here, at_else, all_set}
 use Rattle.core_state.proofs.Holding.{held_grows, strong_grows}
 use Rattle.core_state.proofs.Naming.{named_by, without_none}
@@ -567,7 +568,7 @@ module _ (w : Plain) (good : Good w) (n : ℕ) (s : NodeState) (at : node_at w.n
             (it.took.table, held_then) good.own
             (small_taken w good.small n s q at (A a.file) (system_of n) a.mode w.blocks (system_lock w.locks n (A a.file) it.took.may) (owes_so s q refl refl refl refl)) (good.few n) (λ m ne. refl)
             (λ m y ne e ls i. goes-still w.locks t m ls (it.took.others m ls ne))
-            (stays_stocked s q refl refl (λ h. h) (stocked_now w good n s at x cmd free))
+            (stays_stocked s q refl refl (λ h. h) (λ f. inl (few_ready s x cmd p made.0 f)) (stocked_now w good n s at x cmd free))
             (taken_writes w (my_sole w good n s at x cmd free) good.writers n s q t takes)
             (is_node w good n s at x cmd free t w.blocks q refl refl refl refl (good.nodes n s at).store (subst (λ (ls : Row). waits_at t n ls ≡ false) bare it.rests_then) now.seen now.own
             (subst (IsAtPlan x (waits_at t n q.asked) s.seen s.done true) (sym plan) (made.0, free_then, all_made not_yet))
@@ -695,7 +696,7 @@ module _ (w : Plain) (good : Good w) (n : ℕ) (s : NodeState) (at : node_at w.n
 
     all : Good (altered w t w.blocks (set_node w.nodes n q) w.history)
     all = rebuilt w good n s q at t w.blocks w.history driven (took.table, held_q) good.own (small_taken w good.small n s q at (A a.file) me a.mode w.blocks lock_there (owes_so s q refl refl refl refl)) (good.few n) (λ m off. refl) (λ m y off e ls i. goes_still m ls)
-        (stays_stocked s q refl refl (λ h. h) (stocked_now w good n s at x cmd free))
+        (stays_stocked s q refl refl (λ h. h) (λ f. inl (few_ready s x cmd p made.0 f)) (stocked_now w good n s at x cmd free))
         (taken_writes w (my_sole w good n s at x cmd free) good.writers n s q t takes)
         (is_node w good n s at x cmd free t w.blocks q refl refl refl refl (good.nodes n s at).store ((mine_still s.kept).waits ∙ (good.nodes n s at).rests) now.seen now.own
         (subst (IsAtPlan x (waits_at t n s.asked) s.seen s.done true) (sym plan) (made.0, waits_same, all_made not_yet))

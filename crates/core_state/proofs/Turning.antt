@@ -54,6 +54,7 @@ use Rattle.core_state.specs.Searches.{IsOfNumber, HasCome, Spaces, Off, Back, Bu
 use Rattle.core_state.specs.Waiting.{WaitsForLock, AsksForNumber, WaitsAside}
 use Rattle.core_state.specs.Goods.{under_with, nodes_under, IsAtPlan, IsAt, HasCommand, IsNode, Good, held_by}
 use Rattle.core_state.specs.Events.{turned, locking, seeing, planning, caching, writing, cache_written, happens}
+use Rattle.core_state.proofs.StockSizes.{few_else, few_ready}
 use Rattle.core_state.proofs.Holding.{held_grows, strong_grows}
 use Rattle.core_state.proofs.Naming.{none_of, named_by, has_asked_without}
 use Rattle.core_state.proofs.Driving.{law_grows}
@@ -446,7 +447,7 @@ module _ (w : Plain) (good : Good w) (n : ℕ) (s : NodeState) (at : node_at w.n
       (small_taken w good.small n s r at name (system_of n) mode w.blocks (lock_there w.locks n name it.took.may) (owes_so s r refl refl refl (has_asked_without X name s.kept not_x)))
       (good.few n) (λ m ne. refl)
       (λ m q ne e ls i. goes-still w.locks t m ls (it.took.others m ls ne))
-      (stays_stocked s r refl refl (x_stays_without s.kept name not_x) stocked_now)
+      (stays_stocked s r refl refl (x_stays_without s.kept name not_x) (λ f. inl (few_else s x cmd (λ k b e. absurd (let g : need.Lock name mode ≡ need.Space k b = sym is ∙ e in cc)) f)) stocked_now)
       (taken_writes w my_sole good.writers n s r t takes)
       (is_node t w.blocks r refl refl refl refl (store_without s.run.phase s.kept s.cache name me.store) it.rests_then (goes.granted s.seen name mode under_command.seen is)
       (names_of_more s.seen.locks (name, mode) (λ m. takes_lock x m ≡ true) under_command.own may.own)
@@ -477,7 +478,7 @@ module _ (w : Plain) (good : Good w) (n : ℕ) (s : NodeState) (at : node_at w.n
         ]
       ]) in
       let there : at_locks n r x (held_by w.locks n s) ≡ under_with w.locks n r r.cmd = ap (under_with w.locks n r) (sym cmd) in
-      alone w good n s at r refl (λ part o low. refl) refl (owes_so s r refl refl refl refl) (stays_stocked s r refl refl (λ h. h) stocked_now)
+      alone w good n s at r refl (λ part o low. refl) refl (owes_so s r refl refl refl refl) (stays_stocked s r refl refl (λ h. h) (λ f. inl (few_else s x cmd never f)) stocked_now)
       (subst (λ (u : UnderWay). IsUnderOn w.geometry good.running.cat base_now own_now (changed (nodes_under w.locks w.nodes) n u) w.blocks) there (back (at_locks n r x (held_by w.locks n s)) w.blocks v))
       refl entries
       (is_node w.locks w.blocks r refl refl refl refl store me.rests seen under_command.own (plan_stays w.locks r no_plan refl refl)
@@ -499,7 +500,7 @@ module _ (w : Plain) (good : Good w) (n : ℕ) (s : NodeState) (at : node_at w.n
       (first_guarded n x s.seen p p.ask law base own good.running.cat (stock_now s.stock s.run) spelt known ((stands_joined base left s.seen.blocks).0 stands).1 outs l t)) in
       let there : record u { plan = map planned ws } ≡ under_with w.locks n r r.cmd
       = (λ i. record (at_locks n r x (held_by w.locks n s)) { done = not_yet no_plan i }) ∙ ap (under_with w.locks n r) (sym cmd) in
-      alone w good n s at r refl (λ part o low. sym (ap (λ q. open_with part (granted_ask s.tried q) o) no_plan)) refl (owes_so s r refl refl refl refl) (stays_stocked s r refl refl (λ h. h) stocked_now)
+      alone w good n s at r refl (λ part o low. sym (ap (λ q. open_with part (granted_ask s.tried q) o) no_plan)) refl (owes_so s r refl refl refl refl) (stays_stocked s r refl refl (λ h. h) (λ f. inl (few_ready s x cmd p is f)) stocked_now)
       (subst (λ (u : UnderWay). IsUnderOn w.geometry good.running.cat base_now own_now (changed (nodes_under w.locks w.nodes) n u) w.blocks) there (back (record u { plan = map planned ws }) w.blocks v))
       (ap (λ (ws : List PlanWrite). take s.run.made s.run.writes ++ ws) (sym (ap (λ (o : Option Plan). take s.done (writes_now s.tried o)) no_plan ∙ take_none s.done))) (λ e h. inl h)
       (is_node w.locks w.blocks r refl refl refl refl me.store me.rests under_command.seen under_command.own (is, free, omega arith)
@@ -543,7 +544,7 @@ module _ (w : Plain) (good : Good w) (n : ℕ) (s : NodeState) (at : node_at w.n
       good.running.opens
       (put_cached w my_sole good.writers n s r own_now own_now good.running.cat good.running.cat v it stays good.running.cached))
       (good.locked.0, held_same w.locks w.nodes n s r at refl good.locked.1) good.own (small_set w good.small n s r at bs (owes_so s r refl refl refl refl)) (good.few n) (λ m ne. refl) (λ m q ne e. loses_nothing w.locks m q)
-      (stays_stocked s r refl refl (λ h. h) stocked_now)
+      (stays_stocked s r refl refl (λ h. h) (λ f. inl (few_ready s x cmd p made.0 f)) stocked_now)
       (put_writes w my_sole good.writers n s r own_now own_now good.running.cat good.running.cat v it stays)
       (is_node w.locks bs r refl refl refl refl (rewritten_store w v s.run.phase s.kept s.cache guards me.store) me.rests under_command.seen under_command.own
       (subst (IsAtPlan x (waits_at w.locks n s.asked) s.seen (s.done + 1) s.tried) (sym plan) (made.0, made.1, (let lt : s.done < length (writes_by p.ask s.tried p.writes) = slice_get_within (writes_by p.ask s.tried p.writes) s.done v next in omega arith)))

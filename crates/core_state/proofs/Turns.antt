@@ -30,6 +30,7 @@ use Rattle.core_state.specs.Event as event
 use Rattle.core_state.specs.Events.{phase_begun, serves, serving, served_for, served_by, served, space_state, space_need, by_rule, by_need, by_write, by_end, by_plan, by_command, by_turn, is_out, gives_back_in, gives_back, stands, event_of, event_now, begun, prepared_by, is_held_up, prepared, readied_at, happens, happen_at, happen, after_turn, turned, or_use}
 use Rattle.base_words.specs.Faults.{next as one_more}
 use Rattle.base_words.specs.Fields.{block_at}
+use Rattle.core_state.proofs.StockSizes.{few_stays}
 use Rattle.core_state.proofs.Nodes.{at_here, set_node_twice, set_node_same}
 use Rattle.core_state.proofs.Running.{under_here}
 use Rattle.core_state.proofs.SmallWorlds.{owes_same}
@@ -50,7 +51,7 @@ module _ (w : Plain) (good : Good w) (n : ℕ) (s : NodeState) (at : node_at w.n
   mine = good.nodes n s at
 
   turned_keeps : Good (with_node w n (turned s))
-  turned_keeps = alone w good n s at (turned s) refl (λ part o low. refl) refl (owes_same s (turned s) refl refl) (stays_stocked s (turned s) refl refl (λ h. h) (good.running.stocked n s at)) drive_then refl (λ e h. inl h) (record {
+  turned_keeps = alone w good n s at (turned s) refl (λ part o low. refl) refl (owes_same s (turned s) refl refl) (stays_stocked s (turned s) refl refl (λ h. h) (few_stays s (turned s) refl refl refl) (good.running.stocked n s at)) drive_then refl (λ e h. inl h) (record {
     past = mine.past;
     geometry = mine.geometry;
     channels = mine.channels;

@@ -14,9 +14,12 @@ use Rattle.vol_parts.specs.declared.geometry.Geometry.{Geometry}
 use Rattle.vol_under.specs.Guards.{Lock, guard_of}
 use Rattle.node_locks.specs.Held.{system_of, has_lock, all_held, without}
 use Rattle.node_locks.specs.Sequences.{guards_blocks, rise}
+use Rattle.op_law.specs.declared.need.Need.TheVariants as need
 use Rattle.op_law.specs.declared.need.PlanWrite.{PlanWrite}
+use Rattle.op_law.specs.Needs.{IsNext}
 use Rattle.op_law.specs.Fits.{things}
 use Rattle.op_law.specs.Laws.{held_in, IsCacheable}
+use Rattle.core_space.specs.Filling.{spare_numbers}
 use Rattle.core_space.specs.declared.run.Phase.{Phase}
 use Rattle.core_space.specs.declared.run.Phase.TheVariants as phase
 use Rattle.core_state.specs.Worlds.{Stock, empty_stock, NodeState, Plain, node_at, rows_of}
@@ -58,9 +61,23 @@ pub record HasNothing (s : NodeState) : Type 0 where
   pub given : things s.seen.clusters s.seen.number ≡ nothing
   pub stock : stock_now s.stock s.run ≡ nothing
 
--- who was given clusters or a number, or has any in its stock or taken for it, keeps X in CR or more
+-- Its command needs a file number next. The stock was filled for that, or may have been, so that it has one more than the spare ones.
+pub record NeedsNumber (s : NodeState) : Type 0 where
+  pub command : Cmd
+  pub is : s.cmd ≡ Some command
+  pub clusters : ℕ
+  pub next : IsNext command s.seen (need.Space clusters true)
+  pub most : length s.stock.numbers ≤ 1 + spare_numbers
+
+-- a stock has at most the spare file numbers, or one more for its command
+abbrev pub HasFewNumbers : NodeState → Type 0
+HasFewNumbers s = (length s.stock.numbers ≤ spare_numbers) ⊎ NeedsNumber s
+
+-- who was given clusters or a number, or has any in its stock or taken for it, keeps X in CR or more; and its stock has few file
+-- numbers
 pub record IsStocked (s : NodeState) : Type 0 where
   pub holds : HasNothing s ⊎ Has (held_in CR s.kept) X
+  pub few : HasFewNumbers s
 
 -- ---- cached blocks
 

@@ -1,6 +1,6 @@
 //! Laws of worlds, each as the contract of a function that does nothing.
 
-ghost use Rattle.std.specs.Prelude.{◌≡◌, ℕ, true, false, Some, slice_get};
+ghost use Rattle.std.specs.Prelude.{◌≡◌, ◌≤◌, ℕ, true, false, Some, length, slice_get};
 ghost use Rattle.lock_db.specs.declared.name.LockName.{LockName};
 ghost use Rattle.node_cache.specs.Cached.{Cached};
 ghost use Rattle.plain_cat.specs.declared.mode.Mode.TheVariants.{PR};
@@ -13,9 +13,9 @@ ghost use Rattle.core_state.specs.Worlds.{NodeState, Plain, node_at, current};
 ghost use Rattle.core_state.specs.Caches.{current_entry};
 ghost use Rattle.core_state.specs.Goods.{Good, held_by};
 ghost use Rattle.core_state.specs.Events.{is_held_up, is_over, after_turn};
-ghost use Rattle.core_state.specs.Deaths.{died};
+ghost use Rattle.core_state.specs.Deaths.{outside_now, died};
 ghost use Rattle.core_state.specs.Uses.{UsesTheDrives};
-ghost use Rattle.core_state.specs.Outside.{IsOutsideLocked, IsSoleOutside};
+ghost use Rattle.core_state.specs.Outside.{IsOutsideLocked, most_numbers, IsSoleOutside};
 
 /// A world keeps the rules where a node dies, whatever its command had come to: the history, with the death as its last entry, replays
 /// still, the drive is that of the catalogue to which it leads, and what the other nodes hold, have open and know stays. The drive, the
@@ -36,6 +36,12 @@ pub fn turns_keep_the_rules()
 /// PW.
 pub fn stocks_are_locked()
     ensures { (w : Plain) (n : ℕ) (s : NodeState) → Good w → node_at w.nodes n ≡ Some s → IsOutsideLocked w n s }
+{}
+
+/// A node has at most 24 file numbers outside files and bitmaps, in its stock, taken for it, or for its command: 8 spare ones, and 16
+/// of its command's writes.
+pub fn numbers_outside_are_few()
+    ensures { (w : Plain) (n : ℕ) (s : NodeState) → Good w → node_at w.nodes n ≡ Some s → length (outside_now s).numbers ≤ most_numbers }
 {}
 
 /// A command is refused for want of space only where its node holds X in EX and V in PW, and no other node has anything outside.

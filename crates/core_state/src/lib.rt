@@ -27,7 +27,8 @@ pub use cluster::Core;
 pub use core_space::{Phase, SpaceRun};
 pub use laws::{
     cached_blocks_are_under_locks, current_blocks_are_the_drives, deaths_keep_the_rules,
-    shortage_is_of_all, stocks_are_locked, turns_keep_the_rules, used_blocks_are_the_drives,
+    numbers_outside_are_few, shortage_is_of_all, stocks_are_locked, turns_keep_the_rules,
+    used_blocks_are_the_drives,
 };
 pub use mounting::{MountFault, MountRefused};
 pub use node::Node;

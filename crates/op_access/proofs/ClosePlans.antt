@@ -55,7 +55,7 @@ use Rattle.op_steps.specs.Files.{file_in, IsFileThere}
 use Rattle.op_freeing.specs.BitmapWrites.{storage_places}
 use Rattle.op_freeing.proofs.Endings.{held_keeps_out}
 use Rattle.op_freeing.specs.GoneWrites.{space_at, gone_writes, gone}
-use Rattle.op_freeing.proofs.GoneSteps.{gone_steps, gone_guards, gone_leaves, gone_ends}
+use Rattle.op_freeing.proofs.GoneSteps.{gone_steps, gone_guards, gone_leaves, gone_leaves_few, gone_ends}
 use Rattle.op_access.proofs.Opens.{HasOpen, alone_is}
 use Rattle.op_access.proofs.CloseOutcomes.{shut, stays_answer, kept_answer, gone_answer, stands_freed, stands_gone}
 use Rattle.op_access.proofs.CloseWalks.{take_none}
@@ -176,7 +176,7 @@ module _ (node : ℕ) (seen : Seen) (bs : List Block) (own : Owners) (c : Cat) (
       gone_done = record {
         named = gone_guards g p.file.num h c bs own node names s number in_file in_q in_v;
         dirs = gone_leaves g p.file.num h c bs own s number reads;
-        kept_out = held_keeps_out (things seen.clusters seen.number) names ws in_v;
+        kept_out = held_keeps_out (things seen.clusters seen.number) names ws in_v (gone_leaves_few g bs p.file.num h);
         steps = gone_steps end k p.file.num h body closed bs own on there in_file in_q in_v free_stage last_stage finish;
       }
 

@@ -1,5 +1,5 @@
 -- The whole plan of a DELETE, and the writes before its ask, as they are done on the blocks of a volume.
-use Rattle.std.proofs.Common.{◌≡◌, ◌<◌, ◌+◌, ◌*◌, ◌^◌, ◌∙◌, inl, inr, ℕ, Bool, true, false, cond, List, [], ◌∷◌, ◌++◌, Some, None, map, take, length, refl, sym, ap, subst, arith}
+use Rattle.std.proofs.Common.{◌≡◌, ◌≤◌, ◌<◌, ◌+◌, ◌*◌, ◌^◌, ◌∙◌, inl, inr, ℕ, Bool, true, false, cond, List, [], ◌∷◌, ◌++◌, Some, None, map, take, length, refl, sym, ap, subst, arith}
 use Rattle.std.specs.Prelude.{nat_le, Ok}
 use Rattle.std.proofs.lemmas.List.{append-nil}
 use Rattle.base_words.specs.Fields.{Block, IsWholeBlock, field}
@@ -41,7 +41,7 @@ use Rattle.op_law.specs.declared.need.PlanWrite.{PlanWrite}
 use Rattle.op_law.specs.declared.seen.Seen.{Seen}
 use Rattle.op_law.specs.Fits.{things}
 use Rattle.op_law.specs.Knows.{knows}
-use Rattle.op_law.specs.Laws.{planned, under_way, held_in, AreNamed, LeavesDirs, KeepsRuns, NoDir, Same, Freed, is_dir_told}
+use Rattle.op_law.specs.Laws.{planned, under_way, held_in, AreNamed, most_outside, LeaveFew, LeavesDirs, KeepsRuns, NoDir, Same, Freed, is_dir_told}
 use Rattle.op_law.specs.Writing.{empty_handed, holding, with_numbers, header_write}
 use Rattle.op_law.specs.Refusing.{SeenFile}
 use Rattle.op_law.specs.Moving.{SeenDir, removal_writes}
@@ -51,7 +51,7 @@ use Rattle.op_law.proofs.Telling.{reads_runs}
 use Rattle.op_law.proofs.Through.{IsListed}
 use Rattle.op_law.proofs.Naming.{both_named, both_leave, no_header_leaves}
 use Rattle.op_law.proofs.Ends.{outs_behind, stage_behind}
-use Rattle.op_law.proofs.RemovalEnds.{removal_outs, removal_stage, removal_leaves_nothing, nothing_kept}
+use Rattle.op_law.proofs.RemovalEnds.{LeaveNothing, both_leave_nothing, nothing_kept, nothing_few, both_few, removal_outs, removal_stage, removal_leaves_nothing}
 use Rattle.op_law.proofs.Doing.{AreDone}
 use Rattle.op_steps.specs.Chained.{Chain, StepsOf, after_writes, StandsOn}
 use Rattle.vol_spell.specs.Entries.{CanBeRemoved}
@@ -70,7 +70,7 @@ use Rattle.op_freeing.specs.TailWrites.{tail_writes}
 use Rattle.op_freeing.proofs.Named.{under_locks, under_joined}
 use Rattle.op_freeing.proofs.Steps.{after_both}
 use Rattle.op_freeing.proofs.Endings.{stage_both, held_keeps_out}
-use Rattle.op_freeing.proofs.Tails.{tail_steps, tail_stands, tail_guards, tail_no_header, tail_stage}
+use Rattle.op_freeing.proofs.Tails.{tail_steps, tail_stands, tail_guards, tail_no_header, tail_stage, tail_leaves_few}
 use Rattle.op_steps.proofs.Slots.{slot_twice}
 use Rattle.op_delete.proofs.Outcomes.{less, unlinked, without_file, gone, removes_answer, stands_removed, marks_answer, deletes_answer, stands_unlinked, stands_freed, stands_gone}
 use Rattle.op_delete.proofs.Chains.{can, lone_steps, IsUnlinked, unnaming_steps}
@@ -254,6 +254,24 @@ module _ (node : ℕ) (seen : Seen) (bs : List Block) (own : Owners) (c : Cat) (
       unfolding unnaming_writes
       us_outs o = outs_behind (mark_by h.marked) (removal_by h.marked) o nothing (λ o. removal_outs dd e (cond h.marked stage.Nothing stage.Marked) stage.Unlinked o decides)
 
+      mark_few : (t : Bool) → LeaveNothing (mark_by t)
+      mark_few true w t = absurd t
+      mark_few false w (inl e) = ap (λ (v : PlanWrite). (planned v).outs) (sym e)
+      mark_few false w (inr t) = absurd t
+
+      us_few : LeaveFew us
+      unfolding unnaming_writes
+      us_few =
+          nothing_few (mark_by h.marked ++ removal_by h.marked)
+          (both_leave_nothing (mark_by h.marked) (removal_by h.marked) (mark_few h.marked) (removal_leaves_nothing dd e (cond h.marked stage.Nothing stage.Marked) stage.Unlinked))
+
+      slot_few : LeaveFew (slot_write ∷ [])
+      slot_few w (inl is) = subst (λ (v : PlanWrite). length (planned v).outs.numbers ≤ most_outside) is (omega arith)
+      slot_few w (inr t) = absurd t
+
+      all_few : LeaveFew (us ++ slot_write ∷ tail)
+      all_few = both_few us (slot_write ∷ tail) us_few (both_few (slot_write ∷ []) tail slot_few (tail_leaves_few g stage.Freed qs ns f.owner fewer stage.Done bs (omega arith)))
+
       -- ---- what the last ones go by stands
 
       mark_under : (t : Bool) → AreUnder (S e.fid.num ∷ []) (mark_by t)
@@ -335,7 +353,7 @@ module _ (node : ℕ) (seen : Seen) (bs : List Block) (own : Owners) (c : Cat) (
           refused_done = record {
             named = us_named;
             dirs = us_leaves;
-            kept_out = held_keeps_out (things seen.clusters seen.number) names us in_v;
+            kept_out = held_keeps_out (things seen.clusters seen.number) names us in_v us_few;
             steps = subst (λ ws. StepsOf refused_end k ws bs own) (append-nil us) (first_steps refused_end [] (λ un. marked_end _ un.spelt));
           }
 
@@ -420,6 +438,6 @@ module _ (node : ℕ) (seen : Seen) (bs : List Block) (own : Owners) (c : Cat) (
           granted_done = record {
             named = all_named;
             dirs = all_leave;
-            kept_out = held_keeps_out (things seen.clusters seen.number) names all in_v;
+            kept_out = held_keeps_out (things seen.clusters seen.number) names all in_v all_few;
             steps = first_steps granted_end (slot_write ∷ tail) slot_chain;
           }

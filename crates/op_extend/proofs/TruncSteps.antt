@@ -1,5 +1,5 @@
 -- The writes of TRUNC as they are done on the blocks of a volume.
-use Rattle.std.proofs.Common.{◌≡◌, ◌<◌, ◌-◌, ◌*◌, ◌∙◌, inl, inr, ℕ, Bool, true, false, List, [], ◌∷◌, Some, map, length, refl, sym, ap, subst, arith}
+use Rattle.std.proofs.Common.{◌≡◌, ◌≤◌, ◌<◌, ◌-◌, ◌*◌, ◌∙◌, inl, inr, ℕ, Bool, true, false, List, [], ◌∷◌, Some, map, length, refl, sym, ap, subst, arith}
 use Rattle.std.specs.Prelude.{◌||◌, nat_le, nat_lt, Ok}
 use Rattle.std.proofs.lemmas.Bool.Decides.{nat_tests}
 use Rattle.std.proofs.lemmas.List.{append-nil, length-map}
@@ -36,7 +36,7 @@ use Rattle.op_law.specs.declared.seen.Seen.{Seen}
 use Rattle.op_law.specs.Fits.{things}
 use Rattle.op_law.specs.Freeing.{blocks_for}
 use Rattle.op_law.specs.Knows.{knows}
-use Rattle.op_law.specs.Laws.{planned, under_way, AreNamed, LeavesDirs, NoDir, is_dir_told}
+use Rattle.op_law.specs.Laws.{planned, under_way, AreNamed, most_outside, LeaveFew, LeavesDirs, NoDir, is_dir_told}
 use Rattle.op_law.specs.Refusing.{SeenFile}
 use Rattle.op_law.specs.Sizes.{size_shown, cut_clusters, cutting_writes}
 use Rattle.op_law.specs.Writing.{empty_handed, clusters_for}
@@ -44,6 +44,7 @@ use Rattle.op_law.proofs.Doing.{AreDone}
 use Rattle.op_law.proofs.Naming.{both_named, both_leave, no_header_leaves}
 use Rattle.op_law.proofs.Telling.{live_reads}
 use Rattle.op_law.proofs.Through.{file_told}
+use Rattle.op_law.proofs.RemovalEnds.{both_few}
 use Rattle.op_steps.specs.Chained.{Chain, StepsOf, after_writes, StandsOn}
 use Rattle.op_steps.proofs.Chaining.{live_at}
 use Rattle.op_steps.specs.Files.{file_in, IsFileThere}
@@ -55,7 +56,7 @@ use Rattle.op_freeing.specs.BitmapWrites.{storage_seen}
 use Rattle.op_freeing.specs.Standing.{AreUnder, AreBeside}
 use Rattle.op_freeing.specs.TailWrites.{tail_writes}
 use Rattle.op_freeing.proofs.Endings.{rising_clusters, held_keeps_out}
-use Rattle.op_freeing.proofs.Tails.{tail_steps, tail_stands, tail_guards, tail_no_header, tail_stage, tail_ends}
+use Rattle.op_freeing.proofs.Tails.{tail_steps, tail_stands, tail_guards, tail_no_header, tail_stage, tail_ends, tail_leaves_few}
 use Rattle.op_extend.proofs.Growing.{IsLive}
 use Rattle.op_extend.proofs.TruncReplies.{cut_for, cut_after, cuts_answer, stands_shortened, stands_cut}
 
@@ -148,6 +149,13 @@ module _ (file : Fid) (blocks : ℕ) (node : ℕ) (seen : Seen) (bs : List Block
       (head_leaves g n head_write c bs own s lives.number refl (NoDir (ap (λ r. is_dir_told (fields_in r)) reads ∙ apart.1)))
       (no_header_leaves g bs tail (tail_no_header g stage.Shortened qs [] f.owner fewer stage.Done bs bs own c s))
 
+  head_few : LeaveFew (head_write ∷ [])
+  head_few w (inl is) = subst (λ (v : PlanWrite). length (planned v).outs.numbers ≤ most_outside) is (omega arith)
+  head_few w (inr t) = absurd t
+
+  all_few : LeaveFew all
+  all_few = both_few (head_write ∷ []) tail head_few (tail_leaves_few g stage.Shortened qs [] f.owner fewer stage.Done bs (omega arith))
+
   -- ---- what the last ones go by stands
 
   head_under : AreUnder (S file.num ∷ []) (head_write ∷ [])
@@ -232,6 +240,6 @@ module _ (file : Fid) (blocks : ℕ) (node : ℕ) (seen : Seen) (bs : List Block
   cut_done = record {
     named = all_named;
     dirs = all_leave;
-    kept_out = held_keeps_out (things seen.clusters seen.number) names all in_v;
+    kept_out = held_keeps_out (things seen.clusters seen.number) names all in_v all_few;
     steps = all_steps;
   }

@@ -98,7 +98,7 @@ clusters_free g st qs ns bs own c q s are t =
 -- ---- what is outside, and the stage
 
 pub held_keeps_out : HeldKeepsOut
-held_keeps_out given locks ws held w t = inr (inr held)
+held_keeps_out given locks ws held few w t = inr (inr (held, few w t))
 
 pub outs_both : (vs ws : List PlanWrite) (o : Things) → outs_after o (map planned (vs ++ ws)) ≡ outs_after (outs_after o (map planned vs)) (map planned ws)
 outs_both [] ws o = refl

@@ -1,5 +1,5 @@
 -- The writes by which a file goes, as they are done on the blocks of a volume.
-use Rattle.std.proofs.Common.{◌≡◌, ◌<◌, ◌+◌, ◌*◌, ◌^◌, ◌∙◌, inl, inr, ℕ, List, [], ◌∷◌, map, refl, ap, subst, arith}
+use Rattle.std.proofs.Common.{◌≡◌, ◌≤◌, ◌<◌, ◌+◌, ◌*◌, ◌^◌, ◌∙◌, inl, inr, ℕ, List, [], ◌∷◌, map, length, refl, ap, subst, arith}
 use Rattle.std.specs.Prelude.{Ok}
 use Rattle.std.proofs.lemmas.List.{append-nil}
 use Rattle.base_words.specs.Fields.{Block, field}
@@ -25,12 +25,13 @@ use Rattle.vol_spell.specs.Spelling.{Spells}
 use Rattle.vol_under.specs.Chains.{End}
 use Rattle.vol_under.specs.UnderWay.{stage_after}
 use Rattle.op_law.specs.declared.need.PlanWrite.{PlanWrite}
-use Rattle.op_law.specs.Laws.{planned, AreNamed, Freed}
+use Rattle.op_law.specs.Laws.{planned, AreNamed, most_outside, LeaveFew, Freed}
 use Rattle.op_law.specs.Freeing.{all_clusters, freeing_writes}
 use Rattle.op_law.specs.Refusing.{SeenFile}
 use Rattle.op_law.specs.SeenFiles.{file_clusters}
 use Rattle.op_law.specs.Writing.{empty_handed}
 use Rattle.op_law.proofs.Naming.{both_named, both_leave, no_header_leaves}
+use Rattle.op_law.proofs.RemovalEnds.{both_few}
 use Rattle.op_steps.specs.Chained.{Chain, StepsOf, StageOf, after_writes, StandsOn}
 use Rattle.op_steps.specs.Files.{file_in, IsFileThere}
 use Rattle.op_steps.specs.HeadWrites.{IsHeadWritten}
@@ -41,8 +42,8 @@ use Rattle.op_steps.proofs.Freed.{freed_steps}
 use Rattle.op_freeing.specs.Standing.{AreUnder, AreBeside}
 use Rattle.op_freeing.specs.TailWrites.{tail_writes}
 use Rattle.op_freeing.proofs.Endings.{rising_clusters}
-use Rattle.op_freeing.proofs.Tails.{tail_steps, tail_stands, tail_guards, tail_no_header, tail_stage, tail_ends}
-use Rattle.op_freeing.specs.GoneWrites.{gone, GoneSteps, GoneGuards, GoneLeaves, GoneEnds}
+use Rattle.op_freeing.proofs.Tails.{tail_steps, tail_stands, tail_guards, tail_no_header, tail_stage, tail_ends, tail_leaves_few}
+use Rattle.op_freeing.specs.GoneWrites.{gone, GoneSteps, GoneGuards, GoneLeaves, GoneLeavesFew, GoneEnds}
 
 -- ---- what guards them, and what they leave
 
@@ -109,6 +110,16 @@ pub gone_ends : GoneEnds
 unfolding freeing_writes
 gone_ends g f s o len =
     tail_ends g stage.Freed (all_clusters g f) (f.num ∷ []) s.storage s.index s.quota f.file.owner (g.cluster * f.file.clusters + 1) stage.Done (rising_clusters g (file_clusters g f)).0 len
+
+slot_few : (g : Geometry) (n : ℕ) (h : Hdr) (bs : List Block) → LeaveFew (slot_write g n h bs ∷ [])
+slot_few g n h bs w (inl e) = subst (λ (v : PlanWrite). length (planned v).outs.numbers ≤ most_outside) e (omega arith)
+slot_few g n h bs w (inr t) = absurd t
+
+pub gone_leaves_few : GoneLeavesFew
+unfolding freeing_writes
+gone_leaves_few g bs n h =
+    both_few (slot_write g n h bs ∷ []) (tail_on g n h bs bs) (slot_few g n h bs)
+    (tail_leaves_few g stage.Freed (all_clusters g (sf g n h bs)) (n ∷ []) (sf g n h bs).file.owner (fewer g n h bs) stage.Done bs (omega arith))
 
 -- ---- the steps
 

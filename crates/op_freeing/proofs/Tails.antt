@@ -1,5 +1,5 @@
 -- The row of the owner as a step, and all writes of the tail.
-use Rattle.std.proofs.Common.{◌≡◌, ◌-◌, ℕ, List, [], ◌∷◌, ◌++◌, Option, Some, None, map, refl, sym, ap, subst, ◌∙◌, inl, inr, append_assoc}
+use Rattle.std.proofs.Common.{◌≡◌, ◌≤◌, ◌-◌, ℕ, List, [], ◌∷◌, ◌++◌, Option, Some, None, length, map, refl, sym, ap, subst, ◌∙◌, inl, inr, arith, append_assoc}
 use Rattle.std.specs.Prelude.{flat_map, slice_index_or}
 use Rattle.base_words.specs.Fields.{Block}
 use Rattle.fx_quota.specs.declared.types.Row.{Row}
@@ -24,11 +24,13 @@ use Rattle.vol_under.specs.Guards.{guard_of}
 use Rattle.vol_under.specs.UnderWay.{stage_after, outs_after}
 use Rattle.vol_under.specs.Chains.{End}
 use Rattle.op_law.specs.declared.need.PlanWrite.{PlanWrite}
-use Rattle.op_law.specs.Laws.{planned}
+use Rattle.op_law.specs.Fits.{things}
+use Rattle.op_law.specs.Laws.{numbers_before, planned, most_outside, LeaveFew}
 use Rattle.op_law.specs.Writing.{empty_handed}
 use Rattle.op_law.specs.Quotas.{changed_write, owner_write, row_place, row_discharged}
 use Rattle.vol_spell.specs.Rows.{is_row_of}
-use Rattle.op_law.specs.Freeing.{freeing_tail}
+use Rattle.op_law.specs.Freeing.{behind, blocks_for, storage_writes, index_write, freeing_tail}
+use Rattle.op_law.proofs.RemovalEnds.{LeaveNothing, nothing_few, both_few}
 use Rattle.op_law.proofs.Naming.{both_named, TouchesNoHeader}
 use Rattle.op_steps.specs.Chained.{Chain, StepsOf, StageOf, after_writes, StandsOn, FilesStay}
 use Rattle.vol_spell.specs.Rows.{IsRowChange}
@@ -36,7 +38,7 @@ use Rattle.vol_spell.proofs.RowOrder.{quota_changed, unchanged, sorted-changed}
 use Rattle.op_steps.proofs.RowPlaces.{no_row}
 use Rattle.op_steps.proofs.RowSteps.{row_steps, row_guards, row_no_header}
 use Rattle.op_freeing.specs.BitmapWrites.{storage_places, storage_seen, index_seen, brought, bitmaps_freed}
-use Rattle.op_freeing.specs.TailWrites.{row_freed, DischargeSteps, tail_writes, TailSteps, TailGuards, TailStage, TailStands, TailEnds}
+use Rattle.op_freeing.specs.TailWrites.{row_freed, DischargeSteps, tail_writes, TailSteps, TailGuards, TailStage, TailLeavesFew, TailStands, TailEnds}
 use Rattle.op_freeing.proofs.Named.{guarded, freeing_guards, freeing_no_header, under_locks, under_joined}
 use Rattle.op_freeing.proofs.Still.{other_locks_stand, other_files_stand}
 use Rattle.op_freeing.proofs.Steps.{after_both, freeing_steps}
@@ -170,3 +172,40 @@ tail_ends g s qs ns storage index quota owner less last are len =
     outs_both (freeing_tail g s qs ns storage index) (owner_write g quota owner (row_discharged less) last empty_handed) (brought qs ns)
     ∙ ap (λ (o : Things). outs_after o (map planned (owner_write g quota owner (row_discharged less) last empty_handed))) (freeing_outs g s qs ns storage index are len)
     ∙ owner_outs g quota owner (row_discharged less) last
+
+-- ---- how many file numbers are outside between them
+
+brought_count : (ns qs : List ℕ) → length (numbers_before ns (things qs None)).numbers ≡ length ns
+brought_count [] qs = refl
+brought_count (n ∷ ns) qs = let h = brought_count ns qs in omega arith
+
+module _ (g : Geometry) (s : Stage) (qs ns : List ℕ) (few : length ns ≤ most_outside) where
+  storage_leaves_few : (ks : List ℕ) (bs : List Block) → LeaveFew (storage_writes g s qs ns ks bs)
+  storage_leaves_few [] bs w t = absurd t
+  storage_leaves_few (k ∷ ks) [] w t = absurd t
+  storage_leaves_few (k ∷ ks) (b ∷ bs) w (inl e) = subst (λ (v : PlanWrite). length (planned v).outs.numbers ≤ most_outside) e (let c = brought_count ns (behind k qs) in omega arith)
+  storage_leaves_few (k ∷ ks) (b ∷ bs) w (inr t) = storage_leaves_few ks bs w t
+
+index_leaves_nothing : (g : Geometry) (s : Stage) (ns : List ℕ) (b : Block) → LeaveNothing (index_write g s ns b)
+index_leaves_nothing g s [] b w t = absurd t
+index_leaves_nothing g s (n ∷ ns) b w (inl e) = ap (λ (v : PlanWrite). (planned v).outs) (sym e)
+index_leaves_nothing g s (n ∷ ns) b w (inr t) = absurd t
+
+row_leaves_nothing : (g : Geometry) (quota : List Block) (owner : Uic) (change : Row → Row) (s : Stage) → LeaveNothing (owner_write g quota owner change s empty_handed)
+unfolding owner_write
+row_leaves_nothing g quota owner change s = by_place (row_place (is_row_of owner) quota) where
+  by_place : (o : Option ℕ) → LeaveNothing (changed_write g quota change s empty_handed o)
+  by_place None w t = absurd t
+  by_place (Some j) w (inl e) = ap (λ (v : PlanWrite). (planned v).outs) (sym e)
+  by_place (Some j) w (inr t) = absurd t
+
+pub tail_few : (g : Geometry) (s : Stage) (qs ns : List ℕ) (storage : List Block) (index : Block) (quota : List Block) (owner : Uic) (less : ℕ) (last : Stage) → length ns ≤ most_outside
+    → LeaveFew (freeing_tail g s qs ns storage index ++ owner_write g quota owner (row_discharged less) last empty_handed)
+tail_few g s qs ns storage index quota owner less last few =
+    both_few (freeing_tail g s qs ns storage index) (owner_write g quota owner (row_discharged less) last empty_handed)
+    (both_few (storage_writes g s qs ns (blocks_for g qs) storage) (index_write g s ns index) (storage_leaves_few g s qs ns few (blocks_for g qs) storage)
+    (nothing_few (index_write g s ns index) (index_leaves_nothing g s ns index)))
+    (nothing_few (owner_write g quota owner (row_discharged less) last empty_handed) (row_leaves_nothing g quota owner (row_discharged less) last))
+
+pub tail_leaves_few : TailLeavesFew
+tail_leaves_few g s qs ns owner less last bs few = tail_few g s qs ns (storage_seen g bs qs) (index_seen g bs) (blocks_at bs (quota_places g)) owner less last few

@@ -17,7 +17,7 @@ use Rattle.vol_under.specs.UnderWay.{stage_after, outs_after}
 use Rattle.vol_under.specs.Chains.{End}
 use Rattle.vol_under.specs.Freeing.{FreesInTurn}
 use Rattle.op_law.specs.declared.need.PlanWrite.{PlanWrite}
-use Rattle.op_law.specs.Laws.{planned, AreNamed, KeepsOut}
+use Rattle.op_law.specs.Laws.{planned, AreNamed, LeaveFew, KeepsOut}
 use Rattle.op_law.specs.Freeing.{rising, blocks_for, storage_writes, freeing_tail}
 use Rattle.op_steps.specs.Chained.{Chain, StepsOf, StageOf, after_writes, StandsOn, FilesStay}
 
@@ -84,9 +84,9 @@ abbrev pub FreeingGuards : Type 0
 FreeingGuards = (g : Geometry) (s : Stage) (qs ns : List ℕ) (storage : List Block) (index : Block) (base : List Block) (own : Owners) (x : Cat) (node : ℕ) (locks : List LockName) → Spells g base own x
     → Has locks V → AreNamed node locks g own (freeing_tail g s qs ns storage index)
 
--- what is outside after any writes may be so where V is held
+-- what is outside after any writes may be so where V is held, and few file numbers are among it
 abbrev pub HeldKeepsOut : Type 0
-HeldKeepsOut = (given : Things) (locks : List LockName) (ws : List PlanWrite) → Has locks V → KeepsOut given locks ws
+HeldKeepsOut = (given : Things) (locks : List LockName) (ws : List PlanWrite) → Has locks V → LeaveFew ws → KeepsOut given locks ws
 
 -- where as many blocks were seen as have bits of the clusters, nothing is outside after the writes; and the stage is theirs
 pub record FreeingEnds (g : Geometry) (s : Stage) (qs ns : List ℕ) (storage : List Block) (index : Block) : Type 0 where

@@ -20,7 +20,7 @@ use Rattle.vol_spell.specs.Spelling.{Spells}
 use Rattle.vol_under.specs.Chains.{End}
 use Rattle.vol_under.specs.UnderWay.{stage_after, outs_after}
 use Rattle.op_law.specs.declared.need.PlanWrite.{PlanWrite}
-use Rattle.op_law.specs.Laws.{planned, AreNamed, LeavesDirs}
+use Rattle.op_law.specs.Laws.{planned, AreNamed, LeaveFew, LeavesDirs}
 use Rattle.op_law.specs.Refusing.{SeenFile}
 use Rattle.op_law.specs.Freeing.{SeenSpace, blocks_for, all_clusters, freeing_writes}
 use Rattle.op_law.specs.Writing.{empty_handed}
@@ -61,6 +61,10 @@ GoneGuards = (g : Geometry) (n : ℕ) (h : Hdr) (x : Cat) (bs : List Block) (own
 abbrev pub GoneLeaves : Type 0
 GoneLeaves = (g : Geometry) (n : ℕ) (h : Hdr) (x : Cat) (bs : List Block) (own : Owners) → Spells g bs own x → IsFileNumber g n → header_read (header_block g bs n) ≡ Ok (Used h)
     → LeavesDirs g bs (gone_writes g bs n h)
+
+-- few file numbers are outside between them
+abbrev pub GoneLeavesFew : Type 0
+GoneLeavesFew = (g : Geometry) (bs : List Block) (n : ℕ) (h : Hdr) → LeaveFew (gone_writes g bs n h)
 
 -- after them nothing is outside, whatever was seen, where as many blocks were seen as have bits of the clusters
 abbrev pub GoneEnds : Type 0

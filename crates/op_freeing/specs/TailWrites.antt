@@ -1,5 +1,5 @@
 -- The last writes of a command that makes something free: the bitmaps, and the row of the owner, who is charged less.
-use Rattle.std.specs.Prelude.{◌≡◌, ◌++◌, ℕ, List, length, map}
+use Rattle.std.specs.Prelude.{◌≡◌, ◌≤◌, ◌++◌, ℕ, List, length, map}
 use Rattle.base_words.specs.Fields.{Block}
 use Rattle.lock_db.specs.declared.name.LockName.{LockName}
 use Rattle.lock_db.specs.declared.name.LockName.TheVariants.{Q, V}
@@ -16,7 +16,7 @@ use Rattle.vol_spell.specs.Spelling.{Spells}
 use Rattle.vol_under.specs.UnderWay.{stage_after, outs_after}
 use Rattle.vol_under.specs.Chains.{End}
 use Rattle.op_law.specs.declared.need.PlanWrite.{PlanWrite}
-use Rattle.op_law.specs.Laws.{planned, AreNamed}
+use Rattle.op_law.specs.Laws.{planned, AreNamed, most_outside, LeaveFew}
 use Rattle.op_law.specs.Writing.{empty_handed}
 use Rattle.op_law.specs.Quotas.{owner_write, row_discharged}
 use Rattle.op_law.specs.Freeing.{blocks_for, freeing_tail}
@@ -68,6 +68,10 @@ TailStage = (k : Chain) (s : Stage) (qs ns : List ℕ) (owner : Uic) (less : ℕ
 abbrev pub TailEnds : Type 0
 TailEnds = (g : Geometry) (s : Stage) (qs ns : List ℕ) (storage : List Block) (index : Block) (quota : List Block) (owner : Uic) (less : ℕ) (last : Stage) → AreClusters g qs → length storage ≡ length (blocks_for g qs)
     → outs_after (brought qs ns) (map planned (freeing_tail g s qs ns storage index ++ owner_write g quota owner (row_discharged less) last empty_handed)) ≡ nothing
+
+-- no more file numbers are outside between them than become free
+abbrev pub TailLeavesFew : Type 0
+TailLeavesFew = (g : Geometry) (s : Stage) (qs ns : List ℕ) (owner : Uic) (less : ℕ) (last : Stage) (bs : List Block) → length ns ≤ most_outside → LeaveFew (tail_writes g s qs ns owner less last bs)
 
 -- Behind writes that are under neither V nor Q, on the committed owners, these are the writes that they were: the blocks that they
 -- go by stand as they were seen.

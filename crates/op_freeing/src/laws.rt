@@ -3,7 +3,7 @@
 ghost use Rattle.vol_under.specs.Chains.{anywhere};
 ghost use Rattle.op_freeing.specs.BitmapWrites.{RisingClusters, StorageFrees, ClustersFree, FreeingSteps, FreeingGuards, HeldKeepsOut, FreeingEndsSo};
 ghost use Rattle.op_freeing.specs.Standing.{UnderLocks, UnderJoined, Guarded, OtherLocksStand, OtherFilesStand};
-ghost use Rattle.op_freeing.specs.TailWrites.{DischargeSteps, TailSteps, TailGuards, TailStage, TailStands, TailEnds};
+ghost use Rattle.op_freeing.specs.TailWrites.{DischargeSteps, TailSteps, TailGuards, TailStage, TailLeavesFew, TailStands, TailEnds};
 
 /// Clusters in rising order are the same clusters, as far as the volume has them, each once.
 pub fn rising_clusters()
@@ -32,7 +32,7 @@ pub fn freeing_guards()
     ensures { FreeingGuards }
 {}
 
-/// Where V is held in PW, anything may be outside after a write.
+/// Where V is held in PW, anything may be outside after a write, but at most 16 file numbers.
 pub fn held_keeps_out()
     ensures { HeldKeepsOut }
 {}
@@ -62,6 +62,11 @@ pub fn tail_guards()
 /// The catalogue after them is that of the stage after them, also where the owner has no row.
 pub fn tail_stage()
     ensures { TailStage }
+{}
+
+/// No more file numbers are outside between them than become free.
+pub fn tail_leaves_few()
+    ensures { TailLeavesFew }
 {}
 
 /// Behind writes that are under neither V nor Q, on the committed owners, these are the writes that they were: the blocks that they

@@ -1,5 +1,5 @@
 -- What is outside after the writes to a directory's blocks, and the stage after those of a removal.
-use Rattle.std.proofs.Common.{◌≡◌, ◌<◌, ◌-◌, ℕ, List, [], ◌∷◌, ◌++◌, map, length, take, drop, refl, sym, ap, inl, inr, arith, length-drop}
+use Rattle.std.proofs.Common.{◌≡◌, ◌≤◌, ◌<◌, ◌-◌, ℕ, List, [], ◌∷◌, ◌++◌, map, length, take, drop, refl, sym, ap, subst, inl, inr, arith, length-drop}
 use Rattle.fx_dir.specs.declared.Move.{Move}
 use Rattle.fx_dir.specs.Moves.{removal, packing_writes}
 use Rattle.lock_db.specs.declared.name.LockName.{LockName}
@@ -11,7 +11,7 @@ use Rattle.base_words.proofs.Listing.{has_parted}
 use Rattle.vol_under.specs.UnderWay.{stage_after, outs_after}
 use Rattle.op_law.specs.declared.need.PlanWrite.{PlanWrite}
 use Rattle.op_law.specs.Moving.{SeenDir, move_write, moves_at, insertion_moves, insertion_writes, removal_writes}
-use Rattle.op_law.specs.Laws.{planned, KeepsOut}
+use Rattle.op_law.specs.Laws.{planned, most_outside, LeaveFew, KeepsOut}
 use Rattle.op_law.proofs.Ends.{outs_behind, stage_behind}
 
 -- ---- writes that leave nothing outside
@@ -32,6 +32,14 @@ nothing_left ws none = along ws nothing refl none where
 
 pub nothing_kept : (given : Things) (locks : List LockName) (ws : List PlanWrite) → LeaveNothing ws → KeepsOut given locks ws
 nothing_kept given locks ws none w t = inl (none w t)
+
+-- ---- writes that leave few file numbers outside
+
+pub nothing_few : (ws : List PlanWrite) → LeaveNothing ws → LeaveFew ws
+nothing_few ws none w t = subst (λ (o : Things). length o.numbers ≤ most_outside) (sym (none w t)) (omega arith)
+
+pub both_few : (vs ws : List PlanWrite) → LeaveFew vs → LeaveFew ws → LeaveFew (vs ++ ws)
+both_few vs ws first behind w t = elim (has_parted vs ws w t) [ inl h ↦ first w h | inr h ↦ behind w h ]
 
 -- ---- moves
 

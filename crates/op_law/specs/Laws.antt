@@ -149,9 +149,17 @@ OnItsBlocks node u g P = (base : List Block) (own : Owners) (c : Cat) (stock : T
 abbrev pub AreGuarded : ℕ → UnderWay → Geometry → Type 0
 AreGuarded node u g = OnItsBlocks node u g (λ base own. (l : ℕ) → Touches (bare u.plan) l → MayWrite node u.write (guard_of g own l))
 
--- after each of these writes what is outside is nothing, or what was given, or V is held in PW
+-- The most file numbers that a write of a plan leaves outside. The writes of today's commands leave one at most.
+abbrev pub most_outside : ℕ
+most_outside = 16
+
+-- each of these writes leaves at most so many
+abbrev pub LeaveFew : List PlanWrite → Type 0
+LeaveFew ws = (w : PlanWrite) → Has ws w → length (planned w).outs.numbers ≤ most_outside
+
+-- after each of these writes what is outside is nothing, or what was given, or V is held in PW and few file numbers are outside
 abbrev pub KeepsOut : Things → List LockName → List PlanWrite → Type 0
-KeepsOut given locks ws = (w : PlanWrite) → Has ws w → ((planned w).outs ≡ nothing) ⊎ (((planned w).outs ≡ given) ⊎ Has locks V)
+KeepsOut given locks ws = (w : PlanWrite) → Has ws w → ((planned w).outs ≡ nothing) ⊎ (((planned w).outs ≡ given) ⊎ (Has locks V × (length (planned w).outs.numbers ≤ most_outside)))
 
 -- a header that is in use is a directory's
 abbrev pub is_dir_told : Option Hdr → Bool
@@ -171,8 +179,8 @@ LeavesDirs g base ws = (w : PlanWrite) → Has ws w → (i : ℕ) → part_of g 
 
 -- These writes, which are the node's plan, and this reply are right: each write is guarded, by the lock that it names, each
 -- number of the writes leaves a stage of the command, the reply goes with all of them, and after them the command has nothing
--- outside, nor before that anything but what it was given, where it does not hold V in PW. A header that is written leaves a
--- directory's runs, unless its slot becomes free.
+-- outside, nor before that anything but what it was given, where it does not hold V in PW, and never many file numbers. A header
+-- that is written leaves a directory's runs, unless its slot becomes free.
 pub record IsRight (node : ℕ) (cmd : Cmd) (g : Geometry) (ws : List PlanWrite) (u : UnderWay) (r : Reply) : Type 0 where
   pub named : OnItsBlocks node u g (λ base own. AreNamed node u.write g own ws)
   pub guarded : AreGuarded node u g

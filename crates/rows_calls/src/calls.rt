@@ -23,19 +23,19 @@ pub struct Failures {
 
 const NONE: Failures = Failures { script: 0, out: 0 };
 
-/// A call with these words, of which some calls of the script and the sink fail.
-pub fn call_with(
+/// A call with these words and a script of any bytes, of which some calls of the script and the sink fail.
+pub fn call_bytes(
     alloc: Global,
     words: &[&str],
     image: MemImage,
-    script: &str,
+    script: &[u8],
     fails: Failures,
 ) -> Result<Called, NoMemory> {
     let mut given = Vec::new(alloc);
     for word in words {
         given.push(Word::new(alloc, word.as_bytes())?)?;
     }
-    let bytes = Vec::from_slice(alloc, script.as_bytes())?;
+    let bytes = Vec::from_slice(alloc, script)?;
     let mut script = MemIn::new(bytes, vec![in alloc; fails.script]?);
     let mut out = MemOut::new(alloc, 1_000_000, vec![in alloc; fails.out]?)?;
     let finished = vmsclus(alloc, given.as_slice(), image, &mut script, &mut out);
@@ -44,6 +44,17 @@ pub fn call_with(
         out,
         image: finished.image,
     })
+}
+
+/// The same with a script of text.
+pub fn call_with(
+    alloc: Global,
+    words: &[&str],
+    image: MemImage,
+    script: &str,
+    fails: Failures,
+) -> Result<Called, NoMemory> {
+    call_bytes(alloc, words, image, script.as_bytes(), fails)
 }
 
 /// A call with these words, whose script and sink do not fail.

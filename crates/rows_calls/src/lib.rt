@@ -24,7 +24,7 @@ mod steps;
 mod stops;
 mod texts;
 
-pub use calls::{Called, Exchange, Failures, call, call_with};
+pub use calls::{Called, Exchange, Failures, call, call_bytes, call_with};
 pub use checks::{Wrong, answered, check_about, check_answer, check_same, expect};
 pub use images::{On, blocks_of, image_of, volume, zeros};
 pub use long::{BEFORE, ELEVEN};

@@ -1,8 +1,8 @@
 //! Streams of variable-length records, byte for byte, and the texts whose lines they are.
 
-use fx_records::{LineFault, Lines8, NoMemory, Rec, RecFault, records, spell};
 use std::alloc::Global;
 use std::test::Fail;
+use vol_records::{LineFault, Lines8, NoMemory, Rec, RecFault, push_records, records, spell};
 
 /// What a stream is read as: where the data of its records stand, or its fault.
 type Seen = Result<&'static [Rec], RecFault>;
@@ -86,6 +86,27 @@ fn texts_are_spelt_and_read_back(rt: HostRuntime) -> Result<(), Fail> {
         let again = text_of(rt.alloc(), &stream)?;
         assert!(rt; again.starts_with(text), "{text:?}");
         assert!(rt; again.len() <= text.len() + 1, "{text:?}");
+    }
+    Ok(())
+}
+
+/// Streams, and the texts of their records.
+const PRINTED: [(&[u8], &[u8]); 3] = [
+    (b"", b"0 records\n"),
+    (b"\x05\0HELLO\0\x06\0WORLD!", b"HELLO\nWORLD!\n2 records\n"),
+    (
+        b"\x05\0 ~\x1f\x7f\xff\0\0\0\x02\0\n\x0d",
+        b" ~...\n\n..\n3 records\n",
+    ),
+];
+
+#[test]
+fn records_are_printed(rt: HostRuntime) -> Result<(), Fail> {
+    for (stream, want) in PRINTED {
+        let places = records(rt.alloc(), stream).map_err(|_| "no records")?;
+        let mut text = Vec::new(rt.alloc());
+        push_records(rt.alloc(), &mut text, stream, &places)?;
+        assert_eq!(rt; text.as_slice(), want);
     }
     Ok(())
 }

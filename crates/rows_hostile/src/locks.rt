@@ -10,11 +10,12 @@ use std::test::Fail;
 use std::{fs, io};
 
 // Each job of `vmsclus`, with a script of which every command writes.
-const JOBS: [&str; 5] = [
+const JOBS: [&str; 6] = [
     "run",
     "run --rebuild",
     "soak 1",
     "rebuild",
+    "store 12 1",
     "init 1 32 OTHER",
 ];
 
@@ -134,6 +135,8 @@ fn an_image_that_may_not_be_written_is_read(rt: HostRuntime) -> Result<(), Fail>
     let only = ReadOnly(&rt);
     let called = call(&only, path, Access::Look, "analyze", "")?;
     check(&rt, &called, 0, "accepted\n", "analyze");
+    let called = call(&only, path, Access::Look, "records 3 3", "")?;
+    check(&rt, &called, 0, "0 records\n", "records");
     let called = call(&only, path, Access::Change, "run", READING)?;
     let report = "1 N1 LIST (11,1,0) = 0 entries\nend: 1 answered, 0 died, 214 free\n";
     check(&rt, &called, 0, report, "a script that reads");

@@ -16,6 +16,7 @@ const JOBS: &[(&[&str], &str)] = &[
     (&["soak", "1"], ""),
     (&["analyze"], ""),
     (&["rebuild"], ""),
+    (&["records", "3", "3"], ""),
     (&["init", "1", "32", "TINY"], ""),
 ];
 
@@ -85,6 +86,10 @@ const UNTOLD: &[(&[&str], &str, Failures, u8, &str)] = &[
     (&["run"], "", SINK, 3, ""),
     (&["run", "now"], "", SINK, 1, ""),
     (&["init", "17", "32", "TINY"], "", SINK, 9, ""),
+    (&["records", "2", "2"], "", SINK, 10, ""),
+    (&["records", "12", "1"], "", SINK, 11, ""),
+    (&["store", "12", "1"], "A", SOURCE, 2, "script fault\n"),
+    (&["store", "12", "1"], "A", SINK, 11, ""),
 ];
 
 #[test]

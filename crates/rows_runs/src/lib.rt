@@ -28,6 +28,10 @@ mod queues;
 #[cfg(test)]
 mod quotas;
 #[cfg(test)]
+mod records;
+#[cfg(test)]
 mod soaks;
+#[cfg(test)]
+mod stores;
 #[cfg(test)]
 mod tree;

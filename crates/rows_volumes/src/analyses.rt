@@ -49,7 +49,7 @@ const LAST: &[u8] = b"\x16\x00\xff\x7f\x00\x0aF00015.LST\xff\x7f\x0e\x00\x01\x00
 const THRICE: &[u8] = b"\x33\x40\x00\x00\x33\x40\x00\x00\x33\x40\x00\x00";
 
 /// A block that begins with these bytes and is zero behind them.
-fn block(bytes: &[u8]) -> Block {
+pub(crate) fn block(bytes: &[u8]) -> Block {
     let mut b = [0; 512];
     for (place, byte) in b.iter_mut().zip(bytes) {
         *place = *byte;
@@ -58,7 +58,7 @@ fn block(bytes: &[u8]) -> Block {
 }
 
 /// The header of a file of owner [0,0] with one run, or none where the count of blocks is 0.
-fn header(num: u16, seq: u16, flags: u8, lbn: u16, count: u16) -> Block {
+pub(crate) fn header(num: u16, seq: u16, flags: u8, lbn: u16, count: u16) -> Block {
     let mut b = [0; 512];
     put_bytes(&mut b, 0, &[40, 100, 255, 255]);
     put_word(&mut b, 6, 513);
@@ -77,7 +77,7 @@ fn header(num: u16, seq: u16, flags: u8, lbn: u16, count: u16) -> Block {
 }
 
 /// A sound volume: the files 1 to 11, which cost 61 blocks, and nothing else.
-fn sound() -> [Block; 64] {
+pub(crate) fn sound() -> [Block; 64] {
     let mut b = [[0; 512]; 64];
     b[1] = home_block(&SMALL);
     put_bytes(&mut b[8], 0, &[0xff, 7]);
@@ -107,7 +107,7 @@ fn sound() -> [Block; 64] {
 
 /// The same with files 12 to 16, of which 13 is marked, and 14 and 15 are in no directory. The clusters 27 to 29 and the
 /// numbers 21 and 22 are neither free nor in use.
-fn faulty() -> [Block; 64] {
+pub(crate) fn faulty() -> [Block; 64] {
     let mut b = sound();
     put_bytes(&mut b[8], 1, &[0xff, 0x30]);
     b[20] = header(12, 1, 0, 50, 2);

@@ -35,7 +35,6 @@ AloneInRun bytes size bs s = (other : Status) → is_verdict other ≡ true → 
 
 alone_long : (bytes : List ℕ) (size : ℕ) (bs : List Block) → IsTooLong bytes → AloneInRun bytes size bs status.ScriptTooLong
 alone_long bytes size bs long status.Ok v h = absurd (too_long bytes long h.0.within)
-alone_long bytes size bs long status.BadWords v h = absurd h
 alone_long bytes size bs long status.ScriptFault v h = absurd (false≢true v)
 alone_long bytes size bs long status.ScriptTooLong v h = refl
 alone_long bytes size bs long (status.BadScript m) v h = absurd (too_long bytes long h.within)
@@ -43,15 +42,12 @@ alone_long bytes size bs long status.TooMany v h = absurd (too_long bytes long h
 alone_long bytes size bs long status.ImageFault v h = absurd (false≢true v)
 alone_long bytes size bs long (status.BadSize m) v h = absurd (too_long bytes long h.0.within)
 alone_long bytes size bs long (status.NotAccepted g) v h = absurd (too_long bytes long h.0.within)
-alone_long bytes size bs long status.Findings v h = absurd h
-alone_long bytes size bs long (status.NotMendable g) v h = absurd h
 alone_long bytes size bs long status.OutFault v h = absurd (false≢true v)
 alone_long bytes size bs long status.NoMemory v h = absurd (false≢true v)
-alone_long bytes size bs long (status.BadInit x) v h = absurd h
+alone_long bytes size bs long s v h = absurd h
 
 alone_bad : (bytes : List ℕ) (size : ℕ) (bs : List Block) (n : ℕ) → SayOneThing (lines_of bytes) → IsBad n bytes → AloneInRun bytes size bs (status.BadScript n)
 alone_bad bytes size bs n one bad status.Ok v h = absurd (one.good h.0.script n h.0.spelt bad.bad)
-alone_bad bytes size bs n one bad status.BadWords v h = absurd h
 alone_bad bytes size bs n one bad status.ScriptFault v h = absurd (false≢true v)
 alone_bad bytes size bs n one bad status.ScriptTooLong v h = absurd (too_long bytes h bad.within)
 alone_bad bytes size bs n one bad (status.BadScript m) v h = ap status.BadScript (one.one_line m n h.bad bad.bad)
@@ -59,15 +55,12 @@ alone_bad bytes size bs n one bad status.TooMany v h = absurd (one.first n bad.b
 alone_bad bytes size bs n one bad status.ImageFault v h = absurd (false≢true v)
 alone_bad bytes size bs n one bad (status.BadSize m) v h = absurd (one.good h.0.script n h.0.spelt bad.bad)
 alone_bad bytes size bs n one bad (status.NotAccepted g) v h = absurd (one.good h.0.script n h.0.spelt bad.bad)
-alone_bad bytes size bs n one bad status.Findings v h = absurd h
-alone_bad bytes size bs n one bad (status.NotMendable g) v h = absurd h
 alone_bad bytes size bs n one bad status.OutFault v h = absurd (false≢true v)
 alone_bad bytes size bs n one bad status.NoMemory v h = absurd (false≢true v)
-alone_bad bytes size bs n one bad (status.BadInit x) v h = absurd h
+alone_bad bytes size bs n one bad s v h = absurd h
 
 alone_over : (bytes : List ℕ) (size : ℕ) (bs : List Block) → SayOneThing (lines_of bytes) → IsOverfull bytes → AloneInRun bytes size bs status.TooMany
 alone_over bytes size bs one over status.Ok v h = absurd (one.within h.0.script h.0.spelt over.over)
-alone_over bytes size bs one over status.BadWords v h = absurd h
 alone_over bytes size bs one over status.ScriptFault v h = absurd (false≢true v)
 alone_over bytes size bs one over status.ScriptTooLong v h = absurd (too_long bytes h over.within)
 alone_over bytes size bs one over (status.BadScript m) v h = absurd (one.first m h.bad over.over)
@@ -75,15 +68,12 @@ alone_over bytes size bs one over status.TooMany v h = refl
 alone_over bytes size bs one over status.ImageFault v h = absurd (false≢true v)
 alone_over bytes size bs one over (status.BadSize m) v h = absurd (one.within h.0.script h.0.spelt over.over)
 alone_over bytes size bs one over (status.NotAccepted g) v h = absurd (one.within h.0.script h.0.spelt over.over)
-alone_over bytes size bs one over status.Findings v h = absurd h
-alone_over bytes size bs one over (status.NotMendable g) v h = absurd h
 alone_over bytes size bs one over status.OutFault v h = absurd (false≢true v)
 alone_over bytes size bs one over status.NoMemory v h = absurd (false≢true v)
-alone_over bytes size bs one over (status.BadInit x) v h = absurd h
+alone_over bytes size bs one over s v h = absurd h
 
 alone_size : (bytes : List ℕ) (size : ℕ) (bs : List Block) → SayOneThing (lines_of bytes) → IsGood bytes → IsOutside size → AloneInRun bytes size bs (status.BadSize size)
 alone_size bytes size bs one good out status.Ok v h = absurd (outside size h.1.inside out)
-alone_size bytes size bs one good out status.BadWords v h = absurd h
 alone_size bytes size bs one good out status.ScriptFault v h = absurd (false≢true v)
 alone_size bytes size bs one good out status.ScriptTooLong v h = absurd (too_long bytes h good.within)
 alone_size bytes size bs one good out (status.BadScript m) v h = absurd (one.good good.script m good.spelt h.bad)
@@ -91,15 +81,12 @@ alone_size bytes size bs one good out status.TooMany v h = absurd (one.within go
 alone_size bytes size bs one good out status.ImageFault v h = absurd (false≢true v)
 alone_size bytes size bs one good out (status.BadSize m) v h = ap status.BadSize h.1
 alone_size bytes size bs one good out (status.NotAccepted g) v h = absurd (outside size h.1 out)
-alone_size bytes size bs one good out status.Findings v h = absurd h
-alone_size bytes size bs one good out (status.NotMendable g) v h = absurd h
 alone_size bytes size bs one good out status.OutFault v h = absurd (false≢true v)
 alone_size bytes size bs one good out status.NoMemory v h = absurd (false≢true v)
-alone_size bytes size bs one good out (status.BadInit x) v h = absurd h
+alone_size bytes size bs one good out s v h = absurd h
 
 alone_found : (bytes : List ℕ) (size : ℕ) (bs : List Block) (f : Finding) → SayOneThing (lines_of bytes) → OneList bs → IsGood bytes → IsInside size → IsFirstFound bs f → AloneInRun bytes size bs (status.NotAccepted f)
 alone_found bytes size bs f one list good inside found status.Ok v h = absurd (unfound bs f list h.1.accepted found)
-alone_found bytes size bs f one list good inside found status.BadWords v h = absurd h
 alone_found bytes size bs f one list good inside found status.ScriptFault v h = absurd (false≢true v)
 alone_found bytes size bs f one list good inside found status.ScriptTooLong v h = absurd (too_long bytes h good.within)
 alone_found bytes size bs f one list good inside found (status.BadScript m) v h = absurd (one.good good.script m good.spelt h.bad)
@@ -107,15 +94,12 @@ alone_found bytes size bs f one list good inside found status.TooMany v h = absu
 alone_found bytes size bs f one list good inside found status.ImageFault v h = absurd (false≢true v)
 alone_found bytes size bs f one list good inside found (status.BadSize m) v h = absurd (outside size inside h.2)
 alone_found bytes size bs f one list good inside found (status.NotAccepted g) v h = ap status.NotAccepted (same_first bs f g list found h.2)
-alone_found bytes size bs f one list good inside found status.Findings v h = absurd h
-alone_found bytes size bs f one list good inside found (status.NotMendable g) v h = absurd h
 alone_found bytes size bs f one list good inside found status.OutFault v h = absurd (false≢true v)
 alone_found bytes size bs f one list good inside found status.NoMemory v h = absurd (false≢true v)
-alone_found bytes size bs f one list good inside found (status.BadInit x) v h = absurd h
+alone_found bytes size bs f one list good inside found s v h = absurd h
 
 pub alone_good : (bytes : List ℕ) (size : ℕ) (bs : List Block) → SayOneThing (lines_of bytes) → OneList bs → IsGood bytes → IsInside size → Accepts bs → AloneInRun bytes size bs status.Ok
 alone_good bytes size bs one list good inside none status.Ok v h = refl
-alone_good bytes size bs one list good inside none status.BadWords v h = absurd h
 alone_good bytes size bs one list good inside none status.ScriptFault v h = absurd (false≢true v)
 alone_good bytes size bs one list good inside none status.ScriptTooLong v h = absurd (too_long bytes h good.within)
 alone_good bytes size bs one list good inside none (status.BadScript m) v h = absurd (one.good good.script m good.spelt h.bad)
@@ -123,16 +107,13 @@ alone_good bytes size bs one list good inside none status.TooMany v h = absurd (
 alone_good bytes size bs one list good inside none status.ImageFault v h = absurd (false≢true v)
 alone_good bytes size bs one list good inside none (status.BadSize m) v h = absurd (outside size inside h.2)
 alone_good bytes size bs one list good inside none (status.NotAccepted g) v h = absurd (unfound bs g list none h.2)
-alone_good bytes size bs one list good inside none status.Findings v h = absurd h
-alone_good bytes size bs one list good inside none (status.NotMendable g) v h = absurd h
 alone_good bytes size bs one list good inside none status.OutFault v h = absurd (false≢true v)
 alone_good bytes size bs one list good inside none status.NoMemory v h = absurd (false≢true v)
-alone_good bytes size bs one list good inside none (status.BadInit x) v h = absurd h
+alone_good bytes size bs one list good inside none s v h = absurd h
 
 -- of a run no other status is due than one that is
 pub due_alone : (bytes : List ℕ) (size : ℕ) (bs : List Block) (s : Status) → SayOneThing (lines_of bytes) → OneList bs → is_verdict s ≡ true → IsRunDue bytes size bs s → AloneInRun bytes size bs s
 due_alone bytes size bs status.Ok one list v d = alone_good bytes size bs one list d.0 d.1.inside d.1.accepted
-due_alone bytes size bs status.BadWords one list v d = absurd d
 due_alone bytes size bs status.ScriptFault one list v d = absurd (false≢true v)
 due_alone bytes size bs status.ScriptTooLong one list v d = alone_long bytes size bs d
 due_alone bytes size bs (status.BadScript n) one list v d = alone_bad bytes size bs n one d
@@ -140,28 +121,15 @@ due_alone bytes size bs status.TooMany one list v d = alone_over bytes size bs o
 due_alone bytes size bs status.ImageFault one list v d = absurd (false≢true v)
 due_alone bytes size bs (status.BadSize n) one list v d = subst (λ (m : ℕ). AloneInRun bytes size bs (status.BadSize m)) (sym d.1) (alone_size bytes size bs one d.0 d.2)
 due_alone bytes size bs (status.NotAccepted f) one list v d = alone_found bytes size bs f one list d.0 d.1 d.2
-due_alone bytes size bs status.Findings one list v d = absurd d
-due_alone bytes size bs (status.NotMendable f) one list v d = absurd d
 due_alone bytes size bs status.OutFault one list v d = absurd (false≢true v)
 due_alone bytes size bs status.NoMemory one list v d = absurd (false≢true v)
-due_alone bytes size bs (status.BadInit f) one list v d = absurd d
+due_alone bytes size bs s one list v d = absurd d
 
 -- nor of words that have no reading
 pub words_alone : (other : Status) → is_verdict other ≡ true → IsWordsDue other → other ≡ status.BadWords
-words_alone status.Ok v h = absurd h
 words_alone status.BadWords v h = refl
-words_alone status.ScriptFault v h = absurd h
-words_alone status.ScriptTooLong v h = absurd h
-words_alone (status.BadScript m) v h = absurd h
-words_alone status.TooMany v h = absurd h
-words_alone status.ImageFault v h = absurd h
-words_alone (status.BadSize m) v h = absurd h
-words_alone (status.NotAccepted g) v h = absurd h
-words_alone status.Findings v h = absurd h
-words_alone (status.NotMendable g) v h = absurd h
-words_alone status.OutFault v h = absurd h
 words_alone status.NoMemory v h = absurd (false≢true v)
-words_alone (status.BadInit x) v h = absurd h
+words_alone s v h = absurd h
 
 -- a good script, and an image of the right size
 of_inside : (bytes : List ℕ) (size : ℕ) (bs : List Block) (fs : List Finding) → SayOneThing (lines_of bytes) → OneList bs → IsGood bytes → IsInside size → AreFindings bs fs

@@ -44,6 +44,12 @@ status_text (status.NotMendable f) = codes "not mendable: " ++ (finding_text f +
 status_text status.OutFault = []
 status_text status.NoMemory = codes "no memory" ++ newline
 status_text (status.BadInit f) = init_fault_text f ++ newline
+status_text (status.BadRecord at) = codes "bad record at " ++ (decimal at ++ newline)
+status_text status.NoFile = codes "no such file" ++ newline
+status_text (status.LineLong k) = codes "line " ++ (decimal k ++ codes " too long\n")
+status_text status.NoPriv = codes "no privilege" ++ newline
+status_text status.NotEmpty = codes "not empty" ++ newline
+status_text status.NoRoom = codes "no room" ++ newline
 
 -- the text of a run that a write of the image has cut short: the lines of the answers so far, and that of the fault
 abbrev pub cut_text : List Entry → List ℕ

@@ -26,7 +26,6 @@ is_mended_verdict s = is_verdict s
 -- count rose.
 abbrev pub IsRunDue : List ℕ → ℕ → List Block → Status → Type 0
 IsRunDue bytes size bs status.Ok = IsGood bytes × IsAccepted size bs
-IsRunDue bytes size bs status.BadWords = ⊥
 IsRunDue bytes size bs status.ScriptFault = Unit {0}
 IsRunDue bytes size bs status.ScriptTooLong = IsTooLong bytes
 IsRunDue bytes size bs (status.BadScript n) = IsBad n bytes
@@ -34,11 +33,9 @@ IsRunDue bytes size bs status.TooMany = IsOverfull bytes
 IsRunDue bytes size bs status.ImageFault = IsGood bytes
 IsRunDue bytes size bs (status.BadSize n) = IsGood bytes × (n ≡ size) × IsOutside size
 IsRunDue bytes size bs (status.NotAccepted f) = IsGood bytes × IsInside size × IsFirstFound bs f
-IsRunDue bytes size bs status.Findings = ⊥
-IsRunDue bytes size bs (status.NotMendable f) = ⊥
 IsRunDue bytes size bs status.OutFault = IsGood bytes × IsAccepted size bs
 IsRunDue bytes size bs status.NoMemory = Unit {0}
-IsRunDue bytes size bs (status.BadInit f) = ⊥
+IsRunDue bytes size bs s = ⊥
 
 -- of a script and blocks one status of a run that speaks of what came in is due, and no other one
 pub record HasRunVerdict (bytes : List ℕ) (size : ℕ) (bs : List Block) : Type 0 where

@@ -49,12 +49,30 @@ pub enum Status {
     /// The image was not formatted, by one of the first four refusals: the cluster factor, the file numbers or the label are
     /// outside their limits, or the image is too small.
     BadInit(InitFault),
+
+    /// A stream is not records: this is the byte of the stream, counted from 0, at which its first bad record begins.
+    BadRecord(usize),
+
+    /// The volume has no file of this number and sequence; or its records are asked for, and it is a directory.
+    NoFile,
+
+    /// This line of the text to store, counted from 1, is the first that has more than 32,767 bytes.
+    LineLong(usize),
+
+    /// Nothing is stored in a file of the system, nor in a directory.
+    NoPriv,
+
+    /// Nothing is stored in a file in which something was written.
+    NotEmpty,
+
+    /// The records take more bytes than the blocks of the file have.
+    NoRoom,
 }
 
 impl Status {
     ghost use Rattle.run_engine.specs.Statuses.{status_code};
 
-    /// The number with which the program ends: 0 to 7, or 9.
+    /// The number with which the program ends: 0 to 7, or 9 to 11.
     pub fn code(&self) -> u8
         ensures { result ≡ status_code self.now }
     {
@@ -68,6 +86,12 @@ impl Status {
             Status::OutFault => 6,
             Status::NoMemory => 7,
             Status::BadInit(_) => 9,
+            Status::BadRecord(_) => 10,
+            Status::NoFile
+            | Status::LineLong(_)
+            | Status::NoPriv
+            | Status::NotEmpty
+            | Status::NoRoom => 11,
         }
     }
 }

@@ -9,7 +9,7 @@ ghost use Rattle.fx_text.specs.Written.{IsWritten};
 use crate::Status;
 use fx_text::{TextOut, write_all};
 use plain_cat::NoMemory;
-use plain_texts::{push_bytes, push_number};
+use plain_texts::{push_bytes, push_count, push_number};
 use std::alloc::Global;
 use vol_analyze::{Finding, push_finding};
 use vol_init::InitFault;
@@ -22,6 +22,30 @@ fn numbered(alloc: Global, front: &[u8], n: u32) -> Result<Vec<u8>, NoMemory>
     push_bytes(&mut text, front)?;
     push_number(alloc, &mut text, n)?;
     push_bytes(&mut text, b"\n")?;
+    Ok(text)
+}
+
+// The text of a bad record.
+#[tactic(auto, unfolding(crate::specs::Texts::status_text))]
+fn bad_record(alloc: Global, at: usize) -> Result<Vec<u8>, NoMemory>
+    ensures { IfOk result (λ text. text.items ≡ status_text (Status.BadRecord at)) }
+{
+    let mut text = Vec::new(alloc);
+    push_bytes(&mut text, b"bad record at ")?;
+    push_count(alloc, &mut text, at)?;
+    push_bytes(&mut text, b"\n")?;
+    Ok(text)
+}
+
+// The text of a line that is too long.
+#[tactic(auto, unfolding(crate::specs::Texts::status_text))]
+fn line_long(alloc: Global, k: usize) -> Result<Vec<u8>, NoMemory>
+    ensures { IfOk result (λ text. text.items ≡ status_text (Status.LineLong k)) }
+{
+    let mut text = Vec::new(alloc);
+    push_bytes(&mut text, b"line ")?;
+    push_count(alloc, &mut text, k)?;
+    push_bytes(&mut text, b" too long\n")?;
     Ok(text)
 }
 
@@ -80,6 +104,8 @@ fn status_text(alloc: Global, status: &Status) -> Result<Vec<u8>, NoMemory>
         Status::BadSize(n) => return numbered(alloc, b"bad size ", *n),
         Status::NotAccepted(found) => return not_accepted(alloc, found),
         Status::NotMendable(found) => return not_mendable(alloc, found),
+        Status::BadRecord(at) => return bad_record(alloc, *at),
+        Status::LineLong(k) => return line_long(alloc, *k),
         Status::Ok | Status::Findings | Status::OutFault => b"",
         Status::BadWords => b"bad words\n",
         Status::ScriptFault => b"script fault\n",
@@ -88,6 +114,10 @@ fn status_text(alloc: Global, status: &Status) -> Result<Vec<u8>, NoMemory>
         Status::ImageFault => b"image fault\n",
         Status::NoMemory => b"no memory\n",
         Status::BadInit(fault) => init_text(*fault),
+        Status::NoFile => b"no such file\n",
+        Status::NoPriv => b"no privilege\n",
+        Status::NotEmpty => b"not empty\n",
+        Status::NoRoom => b"no room\n",
     };
     Vec::from_slice(alloc, plain)
 }

@@ -4,4 +4,4 @@ use Rattle.clus_top.proofs.theorems.one_status_is_due.Goals as goal
 
 pub returns : goal.returns
 returns c wanted bytes size bs count whole =
-    one_verdict wanted bytes size bs (c.a_text_says_one_thing.ensures (lines_of bytes)) c.findings_are_one_list.ensures c.there_are_findings.ensures count whole
+    one_verdict wanted bytes size bs (c.a_text_says_one_thing.ensures (lines_of bytes)) c.findings_are_one_list.ensures c.there_are_findings.ensures c.faults_are_first.ensures count whole

@@ -1,9 +1,9 @@
 use Rattle.std.proofs.Common.{◌≡◌, ◌∙◌, Option, Some, None, refl, sym, ap, subst}
 use Rattle.std.specs.Option.{option_map}
-use Rattle.run_engine.specs.Inputs.{OfImage}
+use Rattle.run_engine.specs.Inputs.{OfScript, OfImage}
 use Rattle.run_engine.proofs.Given.{any_script, image_stays}
 use Rattle.clus_top.specs.Calls.{IsAnswer}
-use Rattle.clus_top.specs.Words.{Wanted, wanted, Soak, Analyze, Rebuild, Init, wanted_by}
+use Rattle.clus_top.specs.Words.{Wanted, wanted, Soak, Analyze, Rebuild, Records, Store, Init, wanted_by}
 use Rattle.clus_top.proofs.Told.{words_told}
 use Rattle.clus_top.proofs.top.done.Goals as goal
 
@@ -42,6 +42,28 @@ returns-in-Some-Rebuild g c =
     (λ bytes. subst (λ (w : Option Wanted). OfImage size told now (λ old new.
     IsAnswer w bytes size old new (g.O.TextOut.written c.args.out.now) (g.O.TextOut.written c.rebuild.new.out) faults faults (g.I.ImageDev.faults c.args.image) (g.I.ImageDev.faults c.rebuild.result.image)
     (g.O.TextOut.faults c.args.out.now) (g.O.TextOut.faults c.rebuild.new.out) c.rebuild.result.status)) e (c.rebuild.ensures bytes faults))
+
+pub returns-in-Some-Records : goal.returns-in-Some-Records
+returns-in-Some-Records g c =
+    let size = g.I.ImageDev.size c.args.image in
+    let told = g.I.ImageDev.told c.args.image in
+    let now = g.I.ImageDev.told c.records.result.image in
+    let faults = g.T.TextIn.faults c.args.script.now in
+    let e : Some (Records c.in-Some-Records.file c.in-Some-Records.seq) ≡ wanted_by c.args.words.now = sym (ap (option_map wanted) (c.in-Some-Records.is ∙ ap (λ x. Some x) c.in-Some-Records.field-0-is)) ∙ c.job_of.ensures.wanted in
+    any_script (g.T.TextIn.left c.args.script.now) _
+    (λ bytes. subst (λ (w : Option Wanted). OfImage size told now (λ old new.
+    IsAnswer w bytes size old new (g.O.TextOut.written c.args.out.now) (g.O.TextOut.written c.records.new.out) faults faults (g.I.ImageDev.faults c.args.image) (g.I.ImageDev.faults c.records.result.image)
+    (g.O.TextOut.faults c.args.out.now) (g.O.TextOut.faults c.records.new.out) c.records.result.status)) e (c.records.ensures bytes faults))
+
+pub returns-in-Some-Store : goal.returns-in-Some-Store
+returns-in-Some-Store g c =
+    let size = g.I.ImageDev.size c.args.image in
+    let told = g.I.ImageDev.told c.args.image in
+    let now = g.I.ImageDev.told c.store.result.image in
+    let e : Some (Store c.in-Some-Store.file c.in-Some-Store.seq) ≡ wanted_by c.args.words.now = sym (ap (option_map wanted) (c.in-Some-Store.is ∙ ap (λ x. Some x) c.in-Some-Store.field-0-is)) ∙ c.job_of.ensures.wanted in
+    subst (λ (w : Option Wanted). OfScript (g.T.TextIn.left c.args.script.now) (λ bytes. OfImage size told now (λ old new.
+    IsAnswer w bytes size old new (g.O.TextOut.written c.args.out.now) (g.O.TextOut.written c.store.new.out) (g.T.TextIn.faults c.args.script.now) (g.T.TextIn.faults c.store.new.script)
+    (g.I.ImageDev.faults c.args.image) (g.I.ImageDev.faults c.store.result.image) (g.O.TextOut.faults c.args.out.now) (g.O.TextOut.faults c.store.new.out) c.store.result.status))) e c.store.ensures
 
 pub returns-in-Some-Init : goal.returns-in-Some-Init
 returns-in-Some-Init g c =

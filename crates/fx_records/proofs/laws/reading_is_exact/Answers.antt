@@ -1,5 +1,0 @@
-use Rattle.fx_records.proofs.Exact.{reads_exactly}
-use Rattle.fx_records.proofs.laws.reading_is_exact.Goals as goal
-
-pub returns : goal.returns
-returns c = reads_exactly

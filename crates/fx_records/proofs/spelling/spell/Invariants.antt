@@ -1,5 +1,0 @@
-use Rattle.fx_records.proofs.Back.{AreSpelt}
-use Rattle.fx_records.proofs.spelling.spell.Given as goal
-
-abbrev pub invariant-loop-i : goal.invariant-loop-i
-invariant-loop-i l = AreSpelt l.lines l.i l.stream.items

@@ -1,0 +1,7 @@
+pub mod Lines
+pub mod Records
+pub mod Streams
+pub mod Texts
+pub mod Keeping
+pub mod Making
+pub mod Storing
