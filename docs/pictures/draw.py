@@ -130,8 +130,8 @@ def layers():
 
 
 def statuses():
-    p = Picture("statuses", 1020, 470, "Which status leads to which step")
-    p.box(410, 10, 200, 40, ["the status"], "plain")
+    p = Picture("statuses", 1188, 470, "Which status leads to which step")
+    p.box(494, 10, 200, 40, ["the status"], "plain")
     rows = [
         ("0", "done", ["nothing; if a line", "says died: rebuild"], "cool"),
         ("1, 2, 3, 9", "words or script", ["mend them,", "and call again"], "box"),
@@ -139,10 +139,11 @@ def statuses():
         ("5", "the volume", ["analyze shows", "what is wrong"], "warm"),
         ("6", "output or sync", ["do not run it again;", "copy, then look"], "warm"),
         ("7", "memory", ["give it more"], "box"),
+        ("10, 11", "file or records", ["another file or text;", "nothing was written"], "box"),
     ]
     for i, (code, what, does, kind) in enumerate(rows):
         x = 15 + 168 * i
-        p.arrow([(510, 50), (x + 75, 92)])
+        p.arrow([(594, 50), (x + 75, 92)])
         p.box(x, 94, 150, 46, [code, what], "plain")
         p.arrow([(x + 75, 140), (x + 75, 168)])
         p.box(x, 170, 150, 60, [], kind)

@@ -15,7 +15,7 @@ use Rattle.vol_parts.specs.Volumes.{volume}
 use Rattle.vol_parts.specs.Findings.{home_at, Accepts}
 use Rattle.vol_records.specs.declared.types.StoreFault.{StoreFault}
 use Rattle.vol_records.specs.declared.types.StoreFault.TheVariants as store
-use Rattle.vol_records.specs.Lines.{text_lines}
+use Rattle.run_script.specs.Lines.{lines_of}
 use Rattle.vol_records.specs.Making.{IsImageOf}
 use Rattle.vol_records.specs.Records.{spelt}
 use Rattle.vol_records.specs.Storing.{used_file, refusal_by, store_refusal, refusal_of, refusal_at, Answers, IsStored, IsStoring}
@@ -50,7 +50,7 @@ this_against None r f p e h = absurd (not_refused f p (subst (Answers None) e h)
 -- no refusal is a fault of the image
 
 no_fault_by : (n len : ℕ) (o : Option Hdr) → refusal_by n len o ≡ Some store.ImageFault → ⊥
-no_fault_by n len None e = absurd (let g : Some store.NoFile ≡ Some store.ImageFault = e in cc)
+no_fault_by n len None e = absurd (let g : Some store.NoSuchFile ≡ Some store.ImageFault = e in cc)
 no_fault_by n len (Some f) e = by_tests (nat_le n 11 || f.dir) (not (f.mark == 1)) (nat_lt (512 * f.blocks) len) e where
   by_tests : (a b c : Bool) → cond a (Some store.NoPriv) (cond b (Some store.NotEmpty) (cond c (Some store.NoRoom) None)) ≡ Some store.ImageFault → ⊥
   by_tests true b c e = absurd (let g : Some store.NoPriv ≡ Some store.ImageFault = e in cc)
@@ -62,7 +62,7 @@ no_fault : (bs : List Block) (n seq len : ℕ) → refusal_at bs n seq len ≡ S
 unfolding store_refusal
 no_fault bs n seq len e = by_home (home_read (home_at bs)) e where
   by_home : (r : Result Home HomeFault) → refusal_of bs r n seq len ≡ Some store.ImageFault → ⊥
-  by_home (Err fault) e = absurd (let g : Some store.NoFile ≡ Some store.ImageFault = e in cc)
+  by_home (Err fault) e = absurd (let g : Some store.NoSuchFile ≡ Some store.ImageFault = e in cc)
   by_home (Ok home) e = no_fault_by n len (used_file (volume home bs) n seq) e
 
 none_at_fault : (o : Option StoreFault) (r : Result ℕ StoreFault) → (o ≡ Some store.ImageFault → ⊥) → r ≡ Err store.ImageFault → Answers o r → o ≡ None
@@ -106,7 +106,7 @@ module _ (n seq : ℕ) (lines : List (List ℕ)) (told now : Option (List Block)
       (record { accepted = record { inside = a.inside; accepted = a.accepted }; is = is }, a.refused f is)
 
   pub end_left : (f : StoreFault) → r ≡ Err f → Leaves told now (λ new. IsKeepEnd n seq lines (length old) old new had has (store_status f))
-  end_left store.NoFile e = record { new = blocks; left = image (other_fault store.NoFile (λ k. let g : store.NoFile ≡ store.ImageFault = k in cc) e); holds = refused_is store.NoFile tt e }
+  end_left store.NoSuchFile e = record { new = blocks; left = image (other_fault store.NoSuchFile (λ k. let g : store.NoSuchFile ≡ store.ImageFault = k in cc) e); holds = refused_is store.NoSuchFile tt e }
   end_left store.NoPriv e = record { new = blocks; left = image (other_fault store.NoPriv (λ k. let g : store.NoPriv ≡ store.ImageFault = k in cc) e); holds = refused_is store.NoPriv tt e }
   end_left store.NotEmpty e = record { new = blocks; left = image (other_fault store.NotEmpty (λ k. let g : store.NotEmpty ≡ store.ImageFault = k in cc) e); holds = refused_is store.NotEmpty tt e }
   end_left store.NoRoom e = record { new = blocks; left = image (other_fault store.NoRoom (λ k. let g : store.NoRoom ≡ store.ImageFault = k in cc) e); holds = refused_is store.NoRoom tt e }
@@ -156,7 +156,7 @@ module _ (n seq : ℕ) (lines : List (List ℕ)) (bytes : List ℕ) (read_as : I
   pub stored_of : (text : List ℕ) → IsStoredWith n seq lines size old new text → IsStoredOf n seq bytes size old new text
   stored_of text h = record { storable = storable; kept = subst (λ (ls : List (List ℕ)). IsStoredWith n seq ls size old new text) read_as.are h }
 
-  end_by : (read reading had has : ℕ) (s : Status) → IsKeepEnd n seq (text_lines bytes) size old new had has s → IsStoreEnd n seq bytes size old new read reading had has s
+  end_by : (read reading had has : ℕ) (s : Status) → IsKeepEnd n seq (lines_of bytes) size old new had has s → IsStoreEnd n seq bytes size old new read reading had has s
   end_by read reading had has status.Ok h = h
   end_by read reading had has status.OutFault h = h
   end_by read reading had has status.ScriptFault h = absurd h.0

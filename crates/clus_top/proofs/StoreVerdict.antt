@@ -14,7 +14,8 @@ use Rattle.vol_parts.specs.declared.finding.Finding.{Finding}
 use Rattle.vol_analyze.specs.Judging.{IsFirstFound}
 use Rattle.vol_records.specs.declared.types.StoreFault.{StoreFault}
 use Rattle.vol_records.specs.declared.types.StoreFault.TheVariants as store
-use Rattle.vol_records.specs.Lines.{text_lines, long_line}
+use Rattle.run_script.specs.Lines.{lines_of}
+use Rattle.vol_records.specs.Lines.{long_line}
 use Rattle.vol_records.specs.Storing.{refusal_by, refusal_of, store_refusal, used_file}
 use Rattle.vol_records.specs.Records.{spelt}
 use Rattle.run_engine.specs.declared.status.Status.{Status}
@@ -44,9 +45,9 @@ by_option P none some (Some x) = some x
 
 by_home : (bs : List Block) (r : Result Home HomeFault) (n seq len : ℕ) (g : StoreFault) → refusal_of bs r n seq len ≡ Some g → IsRefusal g
 unfolding store_refusal
-by_home bs (Err fault) n seq len g e = is_this store.NoFile g e tt
+by_home bs (Err fault) n seq len g e = is_this store.NoSuchFile g e tt
 by_home bs (Ok home) n seq len g e =
-    by_option (λ o. refusal_by n len o ≡ Some g → IsRefusal g) (λ k. is_this store.NoFile g k tt) (λ f k. by_tests _ _ _ g k) (used_file (volume home bs) n seq) e
+    by_option (λ o. refusal_by n len o ≡ Some g → IsRefusal g) (λ k. is_this store.NoSuchFile g k tt) (λ f k. by_tests _ _ _ g k) (used_file (volume home bs) n seq) e
 
 is_refusal : (n seq : ℕ) (lines : List (List ℕ)) (bs : List Block) (g : StoreFault) → against n seq lines bs ≡ Some g → IsRefusal g
 is_refusal n seq lines bs g e = by_home bs (home_read (home_at bs)) n seq (length (spelt lines)) g e
@@ -97,7 +98,7 @@ module _ (n seq : ℕ) (lines : List (List ℕ)) (size : ℕ) (bs : List Block) 
     refused_alone f r status.ImageFault v h = absurd (false≢true v)
     refused_alone f r (status.BadSize m) v h = absurd (outside size r.accepted.inside h.1)
     refused_alone f r (status.NotAccepted g) v h = absurd (unfound bs g list r.accepted.accepted h.1)
-    refused_alone f r status.NoFile v h = ap store_status (same_refusal (against n seq lines bs) f store.NoFile r.is h.is)
+    refused_alone f r status.NoFile v h = ap store_status (same_refusal (against n seq lines bs) f store.NoSuchFile r.is h.is)
     refused_alone f r status.NoPriv v h = ap store_status (same_refusal (against n seq lines bs) f store.NoPriv r.is h.is)
     refused_alone f r status.NotEmpty v h = ap store_status (same_refusal (against n seq lines bs) f store.NotEmpty r.is h.is)
     refused_alone f r status.NoRoom v h = ap store_status (same_refusal (against n seq lines bs) f store.NoRoom r.is h.is)
@@ -110,7 +111,7 @@ module _ (n seq : ℕ) (lines : List (List ℕ)) (size : ℕ) (bs : List Block) 
     taken_alone t status.ImageFault v h = absurd (false≢true v)
     taken_alone t (status.BadSize m) v h = absurd (outside size t.accepted.inside h.1)
     taken_alone t (status.NotAccepted g) v h = absurd (unfound bs g list t.accepted.accepted h.1)
-    taken_alone t status.NoFile v h = absurd (no_refusal (against n seq lines bs) store.NoFile t.none h.is)
+    taken_alone t status.NoFile v h = absurd (no_refusal (against n seq lines bs) store.NoSuchFile t.none h.is)
     taken_alone t status.NoPriv v h = absurd (no_refusal (against n seq lines bs) store.NoPriv t.none h.is)
     taken_alone t status.NotEmpty v h = absurd (no_refusal (against n seq lines bs) store.NotEmpty t.none h.is)
     taken_alone t status.NoRoom v h = absurd (no_refusal (against n seq lines bs) store.NoRoom t.none h.is)
@@ -123,7 +124,7 @@ module _ (n seq : ℕ) (lines : List (List ℕ)) (size : ℕ) (bs : List Block) 
     alone_keep status.ImageFault v d = absurd (false≢true v)
     alone_keep (status.BadSize k) v d = subst (λ (m : ℕ). AloneInKeep n seq lines size bs (status.BadSize m)) (sym d.0) (outside_alone d.1)
     alone_keep (status.NotAccepted f) v d = found_alone f list d.0 d.1
-    alone_keep status.NoFile v d = refused_alone store.NoFile d
+    alone_keep status.NoFile v d = refused_alone store.NoSuchFile d
     alone_keep status.NoPriv v d = refused_alone store.NoPriv d
     alone_keep status.NotEmpty v d = refused_alone store.NotEmpty d
     alone_keep status.NoRoom v d = refused_alone store.NoRoom d
@@ -140,7 +141,7 @@ record HasKeepVerdict (n seq : ℕ) (lines : List (List ℕ)) (size : ℕ) (bs :
 
 module _ (n seq : ℕ) (lines : List (List ℕ)) (size : ℕ) (bs : List Block) (list : OneList bs) where
   of_refusal : (f : StoreFault) → IsRefusal f → IsRefused n seq lines size bs f → HasKeepVerdict n seq lines size bs
-  of_refusal store.NoFile p r = record { status = status.NoFile; verdict = refl; due = r; alone = refused_alone n seq lines size bs list store.NoFile r }
+  of_refusal store.NoSuchFile p r = record { status = status.NoFile; verdict = refl; due = r; alone = refused_alone n seq lines size bs list store.NoSuchFile r }
   of_refusal store.NoPriv p r = record { status = status.NoPriv; verdict = refl; due = r; alone = refused_alone n seq lines size bs list store.NoPriv r }
   of_refusal store.NotEmpty p r = record { status = status.NotEmpty; verdict = refl; due = r; alone = refused_alone n seq lines size bs list store.NotEmpty r }
   of_refusal store.NoRoom p r = record { status = status.NoRoom; verdict = refl; due = r; alone = refused_alone n seq lines size bs list store.NoRoom r }
@@ -189,38 +190,38 @@ module _ (n seq : ℕ) (bytes : List ℕ) (size : ℕ) (bs : List Block) where
   line_alone : (k : ℕ) → HasLongLine k bytes → AloneInStore n seq bytes size bs (status.LineLong k)
   line_alone k first status.ScriptFault v h = absurd (false≢true v)
   line_alone k first status.ScriptTooLong v h = absurd (too_long bytes h first.within)
-  line_alone k first (status.LineLong m) v h = ap status.LineLong (same_line (long_line (text_lines bytes)) k m first.first h.first)
+  line_alone k first (status.LineLong m) v h = ap status.LineLong (same_line (long_line (lines_of bytes)) k m first.first h.first)
   line_alone k first status.NoMemory v h = absurd (false≢true v)
-  line_alone k first s v h = absurd (no_line (long_line (text_lines bytes)) k h.0.short first.first)
+  line_alone k first s v h = absurd (no_line (long_line (lines_of bytes)) k h.0.short first.first)
 
-  storable_alone : IsStorable bytes → (s : Status) → AloneInKeep n seq (text_lines bytes) size bs s → AloneInStore n seq bytes size bs s
+  storable_alone : IsStorable bytes → (s : Status) → AloneInKeep n seq (lines_of bytes) size bs s → AloneInStore n seq bytes size bs s
   storable_alone good s a status.ScriptFault v h = absurd (false≢true v)
   storable_alone good s a status.ScriptTooLong v h = absurd (too_long bytes h good.within)
-  storable_alone good s a (status.LineLong m) v h = absurd (no_line (long_line (text_lines bytes)) m good.short h.first)
+  storable_alone good s a (status.LineLong m) v h = absurd (no_line (long_line (lines_of bytes)) m good.short h.first)
   storable_alone good s a status.NoMemory v h = absurd (false≢true v)
   storable_alone good s a other v h = a other v h.1
 
-  storable_due : IsStorable bytes → (s : Status) → IsKeepDue n seq (text_lines bytes) size bs s → IsStoreDue n seq bytes size bs s
+  storable_due : IsStorable bytes → (s : Status) → IsKeepDue n seq (lines_of bytes) size bs s → IsStoreDue n seq bytes size bs s
   storable_due good status.ScriptFault h = absurd h
   storable_due good status.ScriptTooLong h = absurd h
   storable_due good (status.LineLong k) h = absurd h
   storable_due good status.NoMemory h = tt
   storable_due good s h = (good, h)
 
-  of_text : (fs : List Finding) → OneList bs → AreFindings bs fs → length bytes ≤ 1048576 → (o : Option ℕ) → long_line (text_lines bytes) ≡ o → HasOneVerdict (Some (Store n seq)) bytes size bs
+  of_text : (fs : List Finding) → OneList bs → AreFindings bs fs → length bytes ≤ 1048576 → (o : Option ℕ) → long_line (lines_of bytes) ≡ o → HasOneVerdict (Some (Store n seq)) bytes size bs
   of_text fs list found within (Some k) is =
       let first : HasLongLine k bytes = record { within = within; first = is } in
       record { status = status.LineLong k; verdict = refl; due = first; alone = line_alone k first }
   of_text fs list found within None is =
       let good : IsStorable bytes = record { within = within; short = is } in
-      let k = of_lines n seq (text_lines bytes) size bs list fs found in
+      let k = of_lines n seq (lines_of bytes) size bs list fs found in
       record { status = k.status; verdict = k.verdict; due = storable_due good k.status k.due; alone = storable_alone good k.status k.alone }
 
 pub of_store : (n seq : ℕ) (bytes : List ℕ) (size : ℕ) (bs : List Block) (fs : List Finding) → OneList bs → AreFindings bs fs → HasOneVerdict (Some (Store n seq)) bytes size bs
 of_store n seq bytes size bs fs list found =
     elim (cases_lt 1048576 (length bytes)) [
       | inl long ↦ record { status = status.ScriptTooLong; verdict = refl; due = long; alone = long_alone n seq bytes size bs long }
-      | inr within ↦ of_text n seq bytes size bs fs list found within (long_line (text_lines bytes)) refl
+      | inr within ↦ of_text n seq bytes size bs fs list found within (long_line (lines_of bytes)) refl
     ]
 
 -- no other status is due than one that is
@@ -229,4 +230,4 @@ alone_store n seq bytes size bs status.ScriptFault list v d = absurd (false≢tr
 alone_store n seq bytes size bs status.ScriptTooLong list v d = long_alone n seq bytes size bs d
 alone_store n seq bytes size bs (status.LineLong k) list v d = line_alone n seq bytes size bs k d
 alone_store n seq bytes size bs status.NoMemory list v d = absurd (false≢true v)
-alone_store n seq bytes size bs s list v d = storable_alone n seq bytes size bs d.0 s (alone_keep n seq (text_lines bytes) size bs list s v d.1)
+alone_store n seq bytes size bs s list v d = storable_alone n seq bytes size bs d.0 s (alone_keep n seq (lines_of bytes) size bs list s v d.1)

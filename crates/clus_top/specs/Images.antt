@@ -19,7 +19,7 @@ use Rattle.vol_parts.specs.declared.finding.Finding.{Finding}
 use Rattle.clus_top.specs.Mendings.{IsMendedImage, IsStillToMend}
 use Rattle.clus_top.specs.MendedRuns.{HasRunAndMended, IsPartlyMended, IsUnmended}
 use Rattle.clus_top.specs.Stores.{IsStoreImage}
-use Rattle.vol_records.specs.Lines.{text_lines}
+use Rattle.run_script.specs.Lines.{lines_of}
 
 -- After a format: the new volume; after a fault or want of memory the old blocks, or no home block that is read, or the new
 -- volume; and after a refusal the old blocks.
@@ -137,5 +137,5 @@ IsImageAfter (Some (Soak n)) bytes old new s = IsRunImage (IsSoakOf n) old new s
 IsImageAfter (Some Analyze) bytes old new s = new ≡ old
 IsImageAfter (Some Rebuild) bytes old new s = IsRebuildImage old new s
 IsImageAfter (Some (Records n seq)) bytes old new s = new ≡ old
-IsImageAfter (Some (Store n seq)) bytes old new s = IsStoreImage n seq (text_lines bytes) old new s
+IsImageAfter (Some (Store n seq)) bytes old new s = IsStoreImage n seq (lines_of bytes) old new s
 IsImageAfter None bytes old new s = new ≡ old

@@ -14,7 +14,7 @@ use Rattle.vol_init.specs.Refusals.{refusal}
 use Rattle.run_engine.specs.Scripts.{IsScriptOf}
 use Rattle.run_engine.specs.Texts.{IsGood, IsAccepted, IsWordsDue}
 use Rattle.run_engine.specs.Verdicts.{IsRunDue}
-use Rattle.vol_records.specs.Lines.{text_lines}
+use Rattle.run_script.specs.Lines.{lines_of}
 use Rattle.vol_records.specs.Streams.{stream_at}
 use Rattle.clus_top.specs.Words.{Wanted, Run, RunRebuild, Soak, Analyze, Rebuild, Records, Store, Init}
 use Rattle.clus_top.specs.Runs.{IsReport, IsSummary}
@@ -144,5 +144,5 @@ IsTextOf (Some (Soak n)) bytes size old new text = IsSummary n old new text
 IsTextOf (Some Analyze) bytes size old new text = text ≡ accepted_text
 IsTextOf (Some Rebuild) bytes size old new text = IsMendingText old new text
 IsTextOf (Some (Records n seq)) bytes size old new text = IsRecordsText n seq old text
-IsTextOf (Some (Store n seq)) bytes size old new text = text ≡ stored_text (text_lines bytes)
+IsTextOf (Some (Store n seq)) bytes size old new text = text ≡ stored_text (lines_of bytes)
 IsTextOf (Some (Init cluster files label)) bytes size old new text = text ≡ made_text label (sized cluster files size)

@@ -7,7 +7,8 @@ use Rattle.vol_parts.specs.Findings.{Accepts}
 use Rattle.vol_analyze.specs.Judging.{IsFirstFound}
 use Rattle.vol_records.specs.declared.types.StoreFault.{StoreFault}
 use Rattle.vol_records.specs.declared.types.StoreFault.TheVariants as store
-use Rattle.vol_records.specs.Lines.{text_lines, long_line}
+use Rattle.run_script.specs.Lines.{lines_of}
+use Rattle.vol_records.specs.Lines.{long_line}
 use Rattle.vol_records.specs.Records.{spelt}
 use Rattle.vol_records.specs.Storing.{refusal_at, IsStored, IsSafe}
 use Rattle.run_engine.specs.declared.status.Status.{Status}
@@ -19,18 +20,18 @@ use Rattle.run_engine.specs.Texts.{IsTooLong, IsAccepted}
 -- it is within its limit, and none of its lines is too long
 pub record IsStorable (bytes : List ℕ) : Type 0 where
   pub within : length bytes ≤ 1048576
-  pub short : long_line (text_lines bytes) ≡ None
+  pub short : long_line (lines_of bytes) ≡ None
 
 -- it is within its limit, and this line, counted from 1, is the first that is too long
 pub record HasLongLine (k : ℕ) (bytes : List ℕ) : Type 0 where
   pub within : length bytes ≤ 1048576
-  pub first : long_line (text_lines bytes) ≡ Some k
+  pub first : long_line (lines_of bytes) ≡ Some k
 
 -- these are its lines, none of which is too long
 pub record IsReadAs (lines : List (List ℕ)) (bytes : List ℕ) : Type 0 where
   pub within : length bytes ≤ 1048576
-  pub short : long_line (text_lines bytes) ≡ None
-  pub are : lines ≡ text_lines bytes
+  pub short : long_line (lines_of bytes) ≡ None
+  pub are : lines ≡ lines_of bytes
 
 -- why it gave no lines
 abbrev pub IsTextEnd : List ℕ → ℕ → ℕ → Status → Type 0
@@ -62,7 +63,7 @@ IsKeepDue n seq lines size bs status.Ok = IsTaken n seq lines size bs
 IsKeepDue n seq lines size bs status.ImageFault = Unit {0}
 IsKeepDue n seq lines size bs (status.BadSize k) = (k ≡ size) × IsOutside size
 IsKeepDue n seq lines size bs (status.NotAccepted f) = IsInside size × IsFirstFound bs f
-IsKeepDue n seq lines size bs status.NoFile = IsRefused n seq lines size bs store.NoFile
+IsKeepDue n seq lines size bs status.NoFile = IsRefused n seq lines size bs store.NoSuchFile
 IsKeepDue n seq lines size bs status.NoPriv = IsRefused n seq lines size bs store.NoPriv
 IsKeepDue n seq lines size bs status.NotEmpty = IsRefused n seq lines size bs store.NotEmpty
 IsKeepDue n seq lines size bs status.NoRoom = IsRefused n seq lines size bs store.NoRoom
@@ -76,7 +77,7 @@ IsStoreDue n seq bytes size bs status.ScriptFault = Unit {0}
 IsStoreDue n seq bytes size bs status.ScriptTooLong = IsTooLong bytes
 IsStoreDue n seq bytes size bs (status.LineLong k) = HasLongLine k bytes
 IsStoreDue n seq bytes size bs status.NoMemory = Unit {0}
-IsStoreDue n seq bytes size bs s = IsStorable bytes × IsKeepDue n seq (text_lines bytes) size bs s
+IsStoreDue n seq bytes size bs s = IsStorable bytes × IsKeepDue n seq (lines_of bytes) size bs s
 
 -- ---- what is printed, and what the image has
 
@@ -84,8 +85,8 @@ IsStoreDue n seq bytes size bs s = IsStorable bytes × IsKeepDue n seq (text_lin
 unfoldable pub stored_text : List (List ℕ) → List ℕ
 stored_text lines = codes "stored " ++ (decimal (length lines) ++ (codes " records, " ++ (decimal (length (spelt lines)) ++ codes " bytes\n")))
 
--- A store that is stopped at a write: the volume is accepted, and nothing stands against the lines; and an accepted volume is left,
--- as it was or with the lines stored.
+-- A store that is stopped at a write: the volume is accepted, and nothing stands against the lines; and what the first of its writes
+-- make of the old blocks is left, an accepted volume that shows what it did or has the lines stored.
 pub record IsStopped (n seq : ℕ) (lines : List (List ℕ)) (old new : List Block) : Type 0 where
   pub accepted : Accepts old
   pub none : against n seq lines old ≡ None
@@ -95,8 +96,9 @@ pub record IsStopped (n seq : ℕ) (lines : List (List ℕ)) (old new : List Blo
 abbrev pub IsCutStore : ℕ → ℕ → List (List ℕ) → List Block → List Block → Type 0
 IsCutStore n seq lines old new = (new ≡ old) ⊎ IsStopped n seq lines old new
 
--- After a store: the lines are stored; after a fault of the image the old blocks, or, of an accepted volume that takes the lines, an
--- accepted volume that tells the old catalogue or that with the lines stored; and else the old blocks.
+-- After a store: what all of its writes make of the old blocks, with the lines stored; after a fault of the image the old blocks, or, of
+-- an accepted volume that takes the lines, what the first of those writes make of them, which tells the old catalogue or that with the
+-- lines stored; and else the old blocks.
 abbrev pub IsStoreImage : ℕ → ℕ → List (List ℕ) → List Block → List Block → Status → Type 0
 IsStoreImage n seq lines old new status.Ok = IsStored old new n seq (spelt lines)
 IsStoreImage n seq lines old new status.OutFault = IsStored old new n seq (spelt lines)
@@ -107,7 +109,7 @@ IsStoreImage n seq lines old new s = new ≡ old
 
 -- the status of a refusal, or of a fault
 abbrev pub store_status : StoreFault → Status
-store_status store.NoFile = status.NoFile
+store_status store.NoSuchFile = status.NoFile
 store_status store.NoPriv = status.NoPriv
 store_status store.NotEmpty = status.NotEmpty
 store_status store.NoRoom = status.NoRoom
@@ -130,12 +132,12 @@ IsKeepEnd n seq lines size old new had has s = IsKeepDue n seq lines size old s 
 -- the lines of a text are stored, and this text says so
 pub record IsStoredOf (n seq : ℕ) (bytes : List ℕ) (size : ℕ) (old new : List Block) (text : List ℕ) : Type 0 where
   pub storable : IsStorable bytes
-  pub kept : IsStoredWith n seq (text_lines bytes) size old new text
+  pub kept : IsStoredWith n seq (lines_of bytes) size old new text
 
 -- why they were not
 abbrev pub IsStoreEnd : ℕ → ℕ → List ℕ → ℕ → List Block → List Block → ℕ → ℕ → ℕ → ℕ → Status → Type 0
 IsStoreEnd n seq bytes size old new read reading had has status.Ok = ⊥
 IsStoreEnd n seq bytes size old new read reading had has status.OutFault = ⊥
 IsStoreEnd n seq bytes size old new read reading had has status.ScriptFault = Rose read reading × (new ≡ old)
-IsStoreEnd n seq bytes size old new read reading had has status.ImageFault = IsStorable bytes × Rose had has × IsCutStore n seq (text_lines bytes) old new
+IsStoreEnd n seq bytes size old new read reading had has status.ImageFault = IsStorable bytes × Rose had has × IsCutStore n seq (lines_of bytes) old new
 IsStoreEnd n seq bytes size old new read reading had has s = IsStoreDue n seq bytes size old s × (new ≡ old)

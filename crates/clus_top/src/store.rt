@@ -63,7 +63,7 @@ fn store_status(fault: StoreFault) -> Status
     ensures { result ≡ store_status fault }
 {
     match fault {
-        StoreFault::NoFile => Status::NoFile,
+        StoreFault::NoSuchFile => Status::NoFile,
         StoreFault::NoPriv => Status::NoPriv,
         StoreFault::NotEmpty => Status::NotEmpty,
         StoreFault::NoRoom => Status::NoRoom,

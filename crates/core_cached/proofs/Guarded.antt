@@ -1,10 +1,10 @@
 -- A block that may be cached stays under its lock.
 use Rattle.std.proofs.Common.{◌≡◌, ◌∙◌, ◌⊎◌, ◌/◌, ◌-◌, ◌==◌, ℕ, Bool, true, false, List, Option, Some, None, Result, Ok, Err, slice_get, get_or, if◌then◌else◌, refl, sym, ap, subst, inl, inr, arith}
 use Rattle.base_words.specs.Fields.{Block}
+use Rattle.fx_header.specs.declared.run.Run.{Run}
 use Rattle.fx_header.specs.declared.slot.Slot.{Slot as Head}
 use Rattle.fx_header.specs.declared.slot.Slot.TheVariants as head
 use Rattle.fx_header.specs.declared.slot.HeaderFault.{HeaderFault}
-use Rattle.fx_header.specs.Headers.{header_read}
 use Rattle.lock_db.specs.declared.name.LockName.{LockName}
 use Rattle.lock_db.specs.declared.name.LockName.TheVariants.{S}
 use Rattle.plain_cat.specs.declared.cat.Cat.{Cat}
@@ -14,7 +14,7 @@ use Rattle.plain_cat.specs.declared.cat.Slot.TheVariants as slot
 use Rattle.plain_laws.proofs.Standing.{stands_from}
 use Rattle.plain_rules.specs.Lookups.{file_in, slot_at, file_at}
 use Rattle.vol_spell.specs.declared.owner.Owner.{Owner}
-use Rattle.vol_spell.specs.declared.owner.Owner.TheVariants.{Free, InFile}
+use Rattle.vol_spell.specs.declared.owner.Owner.TheVariants.{InFile}
 use Rattle.base_words.specs.Lists.{Has}
 use Rattle.vol_spell.specs.Owners.{Owners, OwnersMove, IsSpaceMove, IsDeathMove}
 use Rattle.vol_parts.specs.declared.geometry.Geometry.{Geometry}
@@ -22,11 +22,12 @@ use Rattle.vol_parts.specs.declared.geometry.Part.{Part}
 use Rattle.vol_parts.specs.Parts.{part_of}
 use Rattle.vol_parts.specs.Volumes.{fields_in}
 use Rattle.vol_parts.specs.Catalogues.{file_of, slot_with}
-use Rattle.vol_spell.specs.Reading.{IsFileNumber, owner_at, header_block, fields_told, runs_told, clusters_of, told_of, body_blocks}
+use Rattle.vol_spell.specs.Reading.{IsFileNumber, owner_at, header_block, head_told, fields_told, runs_told, clusters_of, told_of, body_blocks}
 use Rattle.vol_spell.specs.Spelling.{Spells}
 use Rattle.vol_spell.proofs.Parts.{slot_there, told}
 use Rattle.vol_under.specs.Guards.{Guard, Lock, guard_by, guard_of, lock_of_part}
 use Rattle.op_law.specs.Laws.{IsCacheable, Fixed, OfDirectory, is_dir_told, KeepsRuns, Freed, NoDir, Same}
+use Rattle.vol_spell.proofs.HeadSlots.{alone_runs}
 use Rattle.core_cached.specs.Staying.{IsGuarded, IsFreed, DirsStay, SpacesStay, DeathsStay}
 
 -- ---- guards
@@ -118,21 +119,21 @@ module _ (g : Geometry) (bs : List Block) (own : Owners) (c : Cat) (s : Spells g
   dir_told : (f : File) → file_at c n ≡ Some f → f.dir ≡ true → is_dir_told (fields_told (header_block g bs n)) ≡ true
   dir_told f at dir =
       let there : Some (get_or c.files (n - 1) (slot.Free 0)) ≡ Some (slot.Used f) = sym its ∙ used_slot (slot_at c n) f at in
-      told_head g.cluster n (header_read (header_block g bs n)) (body_blocks bs n (told_of g bs n)) f ((told g bs own c s n number).slot ∙ some_is (get_or c.files (n - 1) (slot.Free 0)) (slot.Used f) there) dir
+      told_head g.cluster n (head_told (header_block g bs n)) (body_blocks bs n (told_of g bs n)) f ((told g bs own c s n number).slot ∙ some_is (get_or c.files (n - 1) (slot.Free 0)) (slot.Used f) there) dir
 
   -- and the other way round
   told_dir : is_dir_told (fields_told (header_block g bs n)) ≡ true → (f : File) × (file_at c n ≡ Some f) × (f.dir ≡ true)
   told_dir dir =
-      let h = told_file g.cluster n (header_read (header_block g bs n)) (body_blocks bs n (told_of g bs n)) dir in
+      let h = told_file g.cluster n (head_told (header_block g bs n)) (body_blocks bs n (told_of g bs n)) dir in
       let tells_it = told g bs own c s n number in
       (h.0, ap file_in its ∙ ap (λ y. file_in (Some y)) (sym tells_it.slot ∙ h.1), h.2)
 
-  -- its clusters are those of its runs
+  -- its clusters are those of the runs of its one header
   in_runs : (q : ℕ) → slice_get own.clusters q ≡ Some (InFile n) → Has (clusters_of g.cluster (runs_told (header_block g bs n))) q
-  in_runs q e = ((told g bs own c s n number).runs q).1 e
+  in_runs q e = subst (λ (rs : List Run). Has (clusters_of g.cluster rs) q) (alone_runs g bs own c s n number) (((told g bs own c s n number).runs q).1 e)
 
   of_runs : (q : ℕ) → Has (clusters_of g.cluster (runs_told (header_block g bs n))) q → slice_get own.clusters q ≡ Some (InFile n)
-  of_runs q h = ((told g bs own c s n number).runs q).0 h
+  of_runs q h = ((told g bs own c s n number).runs q).0 (subst (λ (rs : List Run). Has (clusters_of g.cluster rs) q) (sym (alone_runs g bs own c s n number)) h)
 
 pub dirs_stay : DirsStay
 dirs_stay g base new own other c d name l s after heads is = by_kind is.kind where

@@ -17,6 +17,7 @@ use Rattle.base_words.proofs.ListWrites.{get-set_else, get-set_here, length-writ
 use Rattle.vol_parts.specs.declared.geometry.Geometry.{Geometry}
 use Rattle.vol_parts.specs.declared.geometry.Part.TheVariants.{Header}
 use Rattle.vol_parts.specs.Parts.{part_of}
+use Rattle.vol_parts.specs.Chains.{as_first}
 use Rattle.vol_parts.specs.Volumes.{fields_in}
 use Rattle.vol_spell.specs.Reading.{IsFileNumber, owner_at, header_place, header_block, fields_told}
 use Rattle.vol_spell.specs.Spelling.{Spells}
@@ -144,8 +145,8 @@ freed_by g base own c node locks ws name s named freed = elim (head_after g ws b
         slot = ap header_read (sym h.3) ∙ freed.slot;
       }
 ] where
-  not_both : (said : Result Head HeaderFault) (last : ℕ) → said ≡ Ok (head.Free last) → is_dir_told (fields_in said) ≡ true → ⊥
-  not_both said last e dir = absurd (let f : false ≡ true = sym (ap (λ x. is_dir_told (fields_in x)) e) ∙ dir in cc)
+  not_both : (said : Result Head HeaderFault) (last : ℕ) → said ≡ Ok (head.Free last) → is_dir_told (fields_in (as_first said)) ≡ true → ⊥
+  not_both said last e dir = absurd (let f : false ≡ true = sym (ap (λ x. is_dir_told (fields_in (as_first x))) e) ∙ dir in cc)
 
 pub guarded_or_freed : GuardedOrFreed
 guarded_or_freed g base own other c d node locks ws name l s after named leaves is =

@@ -1,5 +1,5 @@
--- No command makes more than 1,900 events, and no close more than 127; and a command has its answer left.
-use Rattle.std.proofs.Common.{◌≡◌, ◌⊎◌, ◌≤◌, ◌<◌, ◌+◌, ◌-◌, min, ℕ, zero, suc, Bool, true, false, cond, List, [], ◌∷◌, Option, Some, None, length, take, slice_get, refl, sym, ap, subst, ◌∙◌, inl, inr, arith}
+-- No command makes as many events as are allowed for, and no close more than 127; and a command has its answer left.
+use Rattle.std.proofs.Common.{◌≡◌, ◌⊎◌, ◌≤◌, ◌<◌, ◌+◌, ◌-◌, ◌*◌, min, ℕ, zero, suc, Bool, true, false, cond, List, [], ◌∷◌, Option, Some, None, length, slice_get, refl, sym, ap, subst, ◌∙◌, inl, inr, arith}
 use Rattle.std.specs.Prelude.{sum_by}
 use Rattle.std.proofs.lemmas.List.{length-append, length-take}
 use Rattle.std.proofs.lemmas.List.Sums.{sum_by-cons}
@@ -9,11 +9,11 @@ use Rattle.lock_db.specs.Names.{is_same}
 use Rattle.plain_cat.specs.declared.command.Cmd.{Cmd}
 use Rattle.plain_cat.specs.declared.command.Cmd.TheVariants as cmd
 use Rattle.plain_cat.specs.declared.script.LineCmd.{LineCmd}
+use Rattle.plain_rules.specs.Lookups.{file_most}
 use Rattle.plain_rules.specs.Mending.{is_true}
-use Rattle.plain_rules.specs.Own.{NodePast, past, lines_of, or_close}
+use Rattle.plain_rules.specs.Own.{NodePast, lines_of, or_close}
 use Rattle.vol_parts.specs.declared.geometry.Geometry.{Geometry}
 use Rattle.node_locks.specs.Held.{Row, waits_at}
-use Rattle.op_law.specs.declared.need.Need.TheVariants as need
 use Rattle.op_law.specs.declared.need.Ask.{Ask}
 use Rattle.op_law.specs.declared.need.Plan.{Plan}
 use Rattle.op_law.specs.declared.need.PlanWrite.{PlanWrite}
@@ -29,7 +29,7 @@ use Rattle.core_state.specs.Goods.{IsAtPlan, IsIdle, HasCommand, HasFewAnswers, 
 use Rattle.core_state.proofs.Commands.{closes_one}
 use Rattle.core_state.proofs.Midway.{drive_so}
 use Rattle.core_state.proofs.Standing.{come_by}
-use Rattle.core_ends.specs.Measure.{one_if, plan_steps, by_claim, rule_steps, steps_of, answers_left, rest_of}
+use Rattle.core_ends.specs.Measure.{one_if, plan_steps, by_claim, rule_steps, steps_of, command_steps, answers_left, rest_of}
 use Rattle.core_ends.proofs.Standing.{me, now, seen_on}
 
 -- ---- the parts
@@ -64,7 +64,7 @@ tried_few : (b : Bool) → one_if b ≤ 1
 tried_few true = omega arith
 tried_few false = omega arith
 
-most_few : (x : Cmd) → most_writes x ≤ 1233
+most_few : (x : Cmd) → most_writes x ≤ 16 * file_most + 1
 most_few (cmd.Lookup reg dir name ver) = omega arith
 most_few (cmd.List dir) = omega arith
 most_few (cmd.Stat file) = omega arith
@@ -109,7 +109,7 @@ behind (y ∷ xs) (suc k) e = let h = behind xs k e in omega arith
 
 -- it answers a line, or closes a channel behind its lines
 pub data HasAnswer (lines answered steps : ℕ) : Type 0 where
-  Line : answered < lines → steps ≤ 1900 → HasAnswer lines answered steps
+  Line : answered < lines → steps < command_steps → HasAnswer lines answered steps
   Close : lines ≤ answered → answered < lines + 8 → steps < 128 → HasAnswer lines answered steps
 
 pub answer_left : (lines answered steps : ℕ) → HasAnswer lines answered steps → steps < answers_left lines answered
@@ -156,7 +156,7 @@ module _ (w : Plain) (good : Good w) (n : ℕ) (s : NodeState) (at : node_at w.n
       by_plan None e i = omega arith
       by_plan (Some p) e i = let a = i.2 in let b = by_few p.ask s.tried p.writes in let c = brief.writes p i.0 in let d = tried_few s.tried in omega arith
 
-    pub steps_few : steps_of s ≤ 1900
+    pub steps_few : steps_of s < command_steps
     steps_few =
         let a = asked_few in
         let b = brief.blocks in

@@ -10,7 +10,7 @@ use Rattle.core_state.specs.Events.{is_out, event_of, event_now, next_event, pre
 use Rattle.core_state.specs.Deaths.{is_due, died, after_step}
 use Rattle.core_state.proofs.Nodes.{at_here, at_else}
 use Rattle.core_state.proofs.Preparing.{readied_is}
-use Rattle.core_ends.specs.Measure.{left, Changes}
+use Rattle.core_ends.specs.Measure.{command_steps, left, Changes}
 use Rattle.core_ends.specs.Turns.{ahead, ComesNext, IsWithin, IsEnough, turns_of, TurnsAreEnough, StepsTakeOne, NoneIsLeft}
 use Rattle.core_state.specs.Ends.{AllOver}
 use Rattle.core_ends.proofs.Movers.{somebody_moves}
@@ -202,9 +202,9 @@ turns_are_enough w good accepted =
       nothing : (a b : ℕ) → a * 0 + 0 ≤ b * 0
       nothing a b = omega arith
 
-      by_count : (c : ℕ) → length w.nodes ≡ c → left w * length w.nodes + length w.nodes ≤ (2048 * (length w.script.lines + length w.nodes)) * length w.nodes
-      by_count zero e = subst (λ c. left w * c + c ≤ (2048 * (length w.script.lines + length w.nodes)) * c) (sym e) (nothing (left w) (2048 * (length w.script.lines + length w.nodes)))
-      by_count (suc k) e = let few = little_is_left w in mul_over (left w) (2048 * (length w.script.lines + length w.nodes)) (length w.nodes) (omega arith)
+      by_count : (c : ℕ) → length w.nodes ≡ c → left w * length w.nodes + length w.nodes ≤ (command_steps * (length w.script.lines + length w.nodes)) * length w.nodes
+      by_count zero e = subst (λ c. left w * c + c ≤ (command_steps * (length w.script.lines + length w.nodes)) * c) (sym e) (nothing (left w) (command_steps * (length w.script.lines + length w.nodes)))
+      by_count (suc k) e = let few = little_is_left w in mul_over (left w) (command_steps * (length w.script.lines + length w.nodes)) (length w.nodes) (omega arith)
 
 pub none_is_left : NoneIsLeft
 none_is_left w from (inl over) = over

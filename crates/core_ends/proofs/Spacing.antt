@@ -1,5 +1,5 @@
 -- Each event of the rules for space leaves less to be done.
-use Rattle.std.proofs.Common.{◌≡◌, ◌≤◌, ◌<◌, ◌+◌, ◌-◌, ◌++◌, ◌&&◌, min, ℕ, Bool, true, false, cond, List, [], ◌∷◌, Option, Some, None, is_some, length, drop, slice_get, refl, sym, ap, subst, ◌∙◌, inl, inr, arith}
+use Rattle.std.proofs.Common.{◌≡◌, ◌≤◌, ◌<◌, ◌+◌, ◌-◌, ◌++◌, ◌&&◌, min, ℕ, Bool, true, false, cond, List, [], ◌∷◌, Option, Some, None, is_some, length, slice_get, refl, sym, ap, subst, ◌∙◌, inl, inr, arith}
 use Rattle.std.proofs.lemmas.List.{length-append, length-drop}
 use Rattle.std.specs.Prelude.{slice_index_or}
 use Rattle.base_words.specs.Fields.{Block}

@@ -1,5 +1,5 @@
 -- Each step of a node leaves less to be done: its turn, or the death in its place; and there is little at first.
-use Rattle.std.proofs.Common.{◌≡◌, ◌≢◌, ◌⊎◌, ◌≤◌, ◌<◌, ◌+◌, ◌-◌, ◌*◌, ◌==◌, ◌||◌, ℕ, zero, suc, Bool, true, false, cond, List, [], ◌∷◌, Option, Some, None, length, slice_get, refl, sym, ap, ◌∙◌, inl, inr, arith}
+use Rattle.std.proofs.Common.{◌≡◌, ◌≢◌, ◌⊎◌, ◌≤◌, ◌<◌, ◌+◌, ◌-◌, ◌*◌, ◌==◌, ℕ, zero, suc, Bool, true, false, cond, List, [], ◌∷◌, Option, Some, None, length, slice_get, refl, sym, ap, ◌∙◌, inl, inr, arith}
 use Rattle.std.proofs.lemmas.Bool.Decides.{nat_tests}
 use Rattle.plain_cat.specs.declared.command.Cmd.{Cmd}
 use Rattle.plain_cat.specs.declared.script.Line.{Line}
@@ -18,7 +18,7 @@ use Rattle.core_state.specs.Event.{Event, Stand}
 use Rattle.core_state.specs.Event as event
 use Rattle.core_state.specs.Events.{mode_in, is_out, stands, next_event, turned, after_turn, is_over_in, is_over}
 use Rattle.core_state.specs.Deaths.{gone, died_at, died, is_due}
-use Rattle.core_ends.specs.Measure.{return_by, return_left, steps_of, answers_left, rest_of, left_in, left_from, left, Changes, StepsLeaveLess, StepsLeaveNoMore, SomeIsLeft, LittleIsLeft}
+use Rattle.core_ends.specs.Measure.{return_by, return_left, steps_of, command_steps, answers_left, rest_of, left_in, left_from, left, Changes, StepsLeaveLess, StepsLeaveNoMore, SomeIsLeft, LittleIsLeft}
 use Rattle.core_ends.proofs.Sums.{same_some, none_some, node_less, alive_left}
 use Rattle.core_ends.proofs.Bounds.{without_steps, room}
 use Rattle.core_ends.proofs.Falling.{node_most, stands_still, turns_leave_less}
@@ -141,9 +141,9 @@ back_most g stock kept run = by_test (is_reader (mode_in X kept)) (by_phase run.
   by_test true le = le
   by_test false le = omega arith
 
-in_most : (script : Script) (n : ℕ) (s : NodeState) → left_in script n s + 1 ≤ 2048 * (length (lines_of n script.lines) + 1)
+in_most : (script : Script) (n : ℕ) (s : NodeState) → left_in script n s + 1 ≤ command_steps * (length (lines_of n script.lines) + 1)
 in_most script n s = by_out (is_out s) where
-  by_out : (b : Bool) → cond b 0 ((rest_of script n s - steps_of s) + return_left s.seen.geometry s.stock s.kept s.run) + 1 ≤ 2048 * (length (lines_of n script.lines) + 1)
+  by_out : (b : Bool) → cond b 0 ((rest_of script n s - steps_of s) + return_left s.seen.geometry s.stock s.kept s.run) + 1 ≤ command_steps * (length (lines_of n script.lines) + 1)
   by_out true = omega arith
   by_out false = let a = back_most s.seen.geometry s.stock s.kept s.run in omega arith
 
@@ -152,7 +152,7 @@ lines_from : List Line → ℕ → List NodeState → ℕ
 lines_from ls k [] = 0
 lines_from ls k (s ∷ ss) = length (lines_of k ls) + lines_from ls (suc k) ss
 
-from_most : (script : Script) (k : ℕ) (nodes : List NodeState) → left_from script k nodes + length nodes ≤ 2048 * (lines_from script.lines k nodes + length nodes)
+from_most : (script : Script) (k : ℕ) (nodes : List NodeState) → left_from script k nodes + length nodes ≤ command_steps * (lines_from script.lines k nodes + length nodes)
 unfolding lines_from
 from_most script k [] = omega arith
 from_most script k (s ∷ ss) = let a = in_most script k s in let b = from_most script (suc k) ss in omega arith

@@ -4,6 +4,7 @@ use Rattle.base_words.specs.Fields.{Block}
 use Rattle.lock_db.specs.Names.{is_same}
 use Rattle.lock_db.specs.declared.name.LockName.TheVariants.{X, V}
 use Rattle.plain_cat.specs.declared.script.Script.{Script}
+use Rattle.plain_rules.specs.Lookups.{file_most}
 use Rattle.plain_rules.specs.Own.{lines_of}
 use Rattle.vol_parts.specs.declared.geometry.Geometry.{Geometry}
 use Rattle.vol_parts.specs.declared.geometry.Part.TheVariants.{IndexBitmap}
@@ -73,9 +74,13 @@ return_left g stock kept run = if is_reader (mode_in X kept) then return_by g st
 abbrev pub steps_of : NodeState → ℕ
 steps_of s = length s.asked + (length s.seen.blocks + (rule_steps s.seen.geometry s.stock s.claims s.run s.run.phase + plan_steps s.plan s.done s.tried))
 
+-- Above all events of a command: a WRITE has the most writes, up to one zero fewer than a file has blocks, the block, and the header.
+abbrev pub command_steps : ℕ
+command_steps = 16 * file_most + 816
+
 -- so many answers are left, of lines and of closes behind them, and the leaving
 abbrev pub answers_left : ℕ → ℕ → ℕ
-answers_left lines answered = 2048 * (lines - answered) + (128 * (8 - (answered - lines)) + 1)
+answers_left lines answered = command_steps * (lines - answered) + (128 * (8 - (answered - lines)) + 1)
 
 abbrev pub rest_of : Script → ℕ → NodeState → ℕ
 rest_of script n s = answers_left (length (lines_of n script.lines)) s.past.answered
@@ -112,4 +117,4 @@ SomeIsLeft = (w : Plain) (n : ℕ) → Good w → is_over w n ≡ false → 0 < 
 
 -- and never more than this
 abbrev pub LittleIsLeft : Type 0
-LittleIsLeft = (w : Plain) → left w + length w.nodes ≤ 2048 * (length w.script.lines + length w.nodes)
+LittleIsLeft = (w : Plain) → left w + length w.nodes ≤ command_steps * (length w.script.lines + length w.nodes)

@@ -5,7 +5,7 @@ use Rattle.core_state.specs.Goods.{Good, IsAccepted}
 use Rattle.core_state.specs.Events.{is_over}
 use Rattle.core_state.specs.Deaths.{after_step}
 use Rattle.core_ends.specs.Moving.{Moves}
-use Rattle.core_ends.specs.Measure.{left}
+use Rattle.core_ends.specs.Measure.{command_steps, left}
 use Rattle.core_state.specs.Ends.{AllOver}
 
 -- how many of so many nodes come before node m, from this number on, and behind the last node from node 1 on
@@ -29,7 +29,7 @@ IsEnough turns w from = AllOver w ⊎ IsWithin turns w from
 
 -- of a world, 2,048 turns for each of its nodes, for each line and each node
 abbrev pub turns_of : Plain → ℕ
-turns_of w = (2048 * (length w.script.lines + length w.nodes)) * length w.nodes
+turns_of w = (command_steps * (length w.script.lines + length w.nodes)) * length w.nodes
 
 abbrev pub TurnsAreEnough : Type 0
 TurnsAreEnough = (w : Plain) → Good w → IsAccepted w.opening → IsEnough (turns_of w) w 1

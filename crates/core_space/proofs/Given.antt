@@ -17,7 +17,7 @@ use Rattle.vol_spell.specs.Places.{place_of}
 use Rattle.vol_spell.specs.Spelling.{Spells}
 use Rattle.vol_spell.proofs.Parts.{part_there}
 use Rattle.vol_under.specs.Refilling.{LieIn, AreGiven}
-use Rattle.vol_under.proofs.Refills.{gives_clusters, gives_numbers}
+use Rattle.vol_under.proofs.Refills.{stock_blank, gives_clusters, gives_numbers}
 use Rattle.op_law.specs.Freeing.{with_free}
 use Rattle.core_space.specs.Giving.{block_seen, numbers_back, clusters_back}
 use Rattle.core_space.specs.Laws.{places_of, things_of, NumbersGoBack, ClustersGoBack}
@@ -29,8 +29,10 @@ numbers_go_back g cs [] looked n took base own c some s outs at = absurd (omega 
 numbers_go_back g cs (m ∷ ns) looked n took base own c some s outs at =
     let old : Block = block_seen looked (place_of g IndexBitmap) in
     let fit = s.counts.geometry.files_to in
+    let all = whole (places_of (m ∷ ns)) in
     gives_numbers g n took (things_of cs (m ∷ ns)) (place_of g IndexBitmap) (places_of (m ∷ ns)) [] old (numbers_back g (m ∷ ns) looked).block base own c s outs
-    (part_there g base own c s IndexBitmap tt) at (whole (places_of (m ∷ ns))) tt (are_numbers_given g old m ns fit)
+    (part_there g base own c s IndexBitmap tt) at all tt (are_numbers_given g old m ns fit)
+    (stock_blank g base own c n took (things_of cs (m ∷ ns)) (places_of (m ∷ ns)) [] s outs all)
 
 pub covered_is : (k q : ℕ) → is_covered k q ≡ true → q / 4096 ≡ k
 covered_is k q e = grind (arith, nat_tests)

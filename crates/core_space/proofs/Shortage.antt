@@ -1,7 +1,7 @@
 -- A search that was refused was refused for its reason.
-use Rattle.std.proofs.Common.{◌≡◌, ◌≤◌, ◌<◌, ◌+◌, ◌-◌, ◌*◌, ◌/◌, ◌%◌, ◌++◌, ◌&&◌, ◌||◌, ℕ, zero, suc, Bool, true, false, List, [], ◌∷◌, Option, Some, None, length, slice_get, refl, sym, ap, subst, ◌∙◌, inl, inr, arith, cond, nat_lt, length-append}
+use Rattle.std.proofs.Common.{◌≡◌, ◌≤◌, ◌<◌, ◌+◌, ◌-◌, ◌*◌, ◌/◌, ◌%◌, ◌++◌, ◌&&◌, ℕ, zero, suc, Bool, true, false, List, [], ◌∷◌, Option, Some, None, length, slice_get, refl, sym, ap, subst, ◌∙◌, inl, inr, arith, cond, nat_lt, length-append}
 use Rattle.std.specs.Prelude.{min, not, find, filter}
-use Rattle.std.specs.List.{range_with_len, list_any, zip}
+use Rattle.std.specs.List.{range_with_len, zip}
 use Rattle.std.proofs.lemmas.Bool.Decides.{nat_tests}
 use Rattle.std.proofs.lemmas.List.Elements.{filter-append}
 use Rattle.std.proofs.lemmas.List.Sums.{length-filter}
@@ -12,7 +12,8 @@ use Rattle.plain_cat.specs.declared.reply.Refusal.{Refusal}
 use Rattle.plain_cat.specs.declared.reply.Refusal.TheVariants.{IndexFull, DeviceFull}
 use Rattle.plain_cat.specs.declared.cat.Cat.{Cat}
 use Rattle.plain_rules.specs.Lookups.{free_clusters, is_free_number, has_free_number}
-use Rattle.base_words.proofs.Listing.{has_any}
+use Rattle.plain_rules.proofs.Headers.{single_number}
+use Rattle.plain_rules.proofs.Picks.{no_number as none_to_take}
 use Rattle.base_words.specs.Lists.{Has, StandsIn}
 use Rattle.vol_spell.specs.Owners.{Owners}
 use Rattle.vol_spell.proofs.Placing.{ranged_has}
@@ -21,6 +22,7 @@ use Rattle.vol_parts.specs.Parts.{storage_blocks}
 use Rattle.vol_spell.specs.Reading.{total_of, cluster_bit}
 use Rattle.vol_spell.specs.Spelling.{Spells}
 use Rattle.vol_under.specs.Shortage.{IsFreeByBits}
+use Rattle.vol_under.proofs.Leaking.{single_headers}
 use Rattle.vol_under.proofs.Short.{free_by_bits}
 use Rattle.core_space.specs.Searching.{More, Short, storage_places, cluster_places, free_number, clusters_in, free_in, free_from, number_write, found_number}
 use Rattle.core_space.specs.Taking.{looked, IsTooLittle, ShortageIsExact, CommandIsShort}
@@ -36,11 +38,6 @@ filter_same p q [] same = refl
 filter_same p q (x ∷ xs) same =
     ap (λ b. cond b (x ∷ filter p xs) (filter p xs)) (same x (inl refl))
     ∙ ap (λ ys. cond (q x) (x ∷ ys) ys) (filter_same p q xs (λ y t. same y (inr t)))
-
--- a test that all items of a list fail
-none_of : (p : ℕ → Bool) (xs : List ℕ) → ((x : ℕ) → Has xs x → p x ≡ false) → list_any p xs ≡ false
-none_of p [] fails = refl
-none_of p (x ∷ xs) fails = ap (λ b. b || list_any p xs) (fails x (inl refl)) ∙ none_of p xs (λ y t. fails y (inr t))
 
 not_found : (p : ℕ → Bool) (xs : List ℕ) (x : ℕ) → find p xs ≡ None → Has xs x → p x ≡ false
 not_found p [] x e t = absurd t
@@ -99,10 +96,10 @@ few_clusters g (suc more) bs base c free few all stood =
 
 no_number : (g : Geometry) (index : Block) (base : List Block) (own : Owners) (c : Cat) → free_number g index ≡ None → Spells g base own c → IsFreeByBits g base c → slice_get base (4 * g.cluster) ≡ Some index → has_free_number c ≡ false
 unfolding free_number
-no_number g index base own c e s free at = none_of (is_free_number c) (range_with_len 1 (length c.files)) (λ n t. by_test n t (is_free_number c n) refl) where
-  by_test : (n : ℕ) → Has (range_with_len 1 (length c.files)) n → (b : Bool) → is_free_number c n ≡ b → is_free_number c n ≡ false
-  by_test n t false f = f
-  by_test n t true f =
+no_number g index base own c e s free at = none_to_take c (λ k lt. by_test (k + 1) (is_free_number c (k + 1)) refl) where
+  by_test : (n : ℕ) (b : Bool) → is_free_number c n ≡ b → is_free_number c n ≡ false
+  by_test n false f = f
+  by_test n true f =
       let p = (free.numbers n).0 f in
       let lo = p.0.from in
       let hi = p.0.to in
@@ -115,8 +112,7 @@ a_number g index n base own c e s at =
     let h = free_number_clear g index n e in
     let lo = h.from in
     let hi = h.to in
-    let count = s.counts.slots in
-    has_any (is_free_number c) (range_with_len 1 (length c.files)) n (ranged_has 1 (length c.files) n lo (omega arith))
+    single_number c (single_headers g base own c s) n
     (clear_is_free g base own c n s (record { from = lo; to = hi }) (number_bit_seen g base index n at ∙ h.clear))
 
 -- ---- the refusals

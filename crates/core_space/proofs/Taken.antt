@@ -10,6 +10,9 @@ use Rattle.fx_bitmap.specs.Bits.{bit_at}
 use Rattle.plain_cat.specs.declared.cat.Cat.{Cat}
 use Rattle.plain_cat.specs.declared.reply.Refusal.TheVariants.{IndexFull}
 use Rattle.plain_rules.specs.Lookups.{is_free_number}
+use Rattle.plain_rules.specs.Answers.{IsPick}
+use Rattle.plain_rules.proofs.Headers.{single_number}
+use Rattle.plain_rules.proofs.Picks.{pick_of}
 use Rattle.vol_spell.specs.declared.owner.Owner.TheVariants.{Free}
 use Rattle.vol_spell.specs.Counts.{is_same_owner}
 use Rattle.base_words.specs.Lists.{Has, Once}
@@ -18,7 +21,7 @@ use Rattle.base_words.proofs.Listing.{has_parted, once_in_a_row}
 use Rattle.vol_parts.specs.declared.geometry.Geometry.{Geometry}
 use Rattle.vol_spell.specs.Reading.{IsFileNumber, number_bit}
 use Rattle.vol_spell.specs.Spelling.{Spells}
-use Rattle.vol_under.proofs.Leaking.{number_free_of}
+use Rattle.vol_under.proofs.Leaking.{single_headers, number_free_of}
 use Rattle.op_law.specs.declared.need.PlanWrite.{PlanWrite}
 use Rattle.op_law.specs.Knows.{is_new_number}
 use Rattle.op_law.specs.Writing.{Held, holding, empty_handed}
@@ -161,13 +164,18 @@ number_taken g index (Some n) base own c e s at =
     let h = free_number_clear g index n e in
     clear_is_free g base own c n s (record { from = h.from; to = h.to }) (number_bit_seen g base index n at ∙ h.clear)
 
+-- one that is free may be taken
+number_to_take : (g : Geometry) (base : List Block) (own : Owners) (c : Cat) (n : Option ℕ) → Spells g base own c → IfSome n (λ m. is_free_number c m ≡ true) → IfSome n (λ m. IsPick c (Some m))
+number_to_take g base own c None s free = tt
+number_to_take g base own c (Some n) s free = pick_of c n free (single_number c (single_headers g base own c s) n free)
+
 pub number_is_free : NumberIsFree
 number_is_free g clusters false bs ws base own c e s stood =
-    subst (λ (o : Option ℕ). IfSome o (λ m. is_free_number c m ≡ true)) (sym (without_number g clusters bs ws e).number) tt
+    subst (λ (o : Option ℕ). IfSome o (λ m. IsPick c (Some m))) (sym (without_number g clusters bs ws e).number) tt
 number_is_free g clusters true [] ws base own c e s stood = absurd (let f : More ≡ Enough ws = e in cc)
 number_is_free g clusters true (index ∷ bs) ws base own c e s stood =
-    subst (λ (o : Option ℕ). IfSome o (λ m. is_free_number c m ≡ true)) (sym (with_number g clusters index bs (free_number g index) ws e).number)
-    (number_taken g index (free_number g index) base own c refl s stood.0)
+    subst (λ (o : Option ℕ). IfSome o (λ m. IsPick c (Some m))) (sym (with_number g clusters index bs (free_number g index) ws e).number)
+    (number_to_take g base own c (free_number g index) s (number_taken g index (free_number g index) base own c refl s stood.0))
 
 -- a number above those of the system files
 is_above : (n : ℕ) → (n ≤ 11 → ⊥) → nat_lt 11 n ≡ true

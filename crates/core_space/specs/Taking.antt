@@ -8,6 +8,7 @@ use Rattle.plain_cat.specs.declared.reply.Refusal.{Refusal}
 use Rattle.plain_cat.specs.declared.reply.Refusal.TheVariants.{IndexFull, DeviceFull}
 use Rattle.plain_cat.specs.declared.cat.Cat.{Cat}
 use Rattle.plain_rules.specs.Lookups.{free_clusters, is_free_number, has_free_number}
+use Rattle.plain_rules.specs.Answers.{IsPick}
 use Rattle.base_words.specs.Lists.{Has, Once, StandsIn}
 use Rattle.vol_spell.specs.Owners.{Owners, Things, nothing, Outs}
 use Rattle.vol_parts.specs.declared.geometry.Geometry.{Geometry}
@@ -106,10 +107,10 @@ pub record IsWanted (wanted : ℕ) (numbered : Bool) (out : Held) : Type 0 where
 abbrev pub TakesAll : Type 0
 TakesAll = (g : Geometry) (clusters : ℕ) (number : Bool) (bs : List Block) (ws : List PlanWrite) → found g clusters number bs ≡ Enough ws → IsWanted clusters number (out_after ws (length ws))
 
--- The number is free by the catalogue of all blocks in which those stand that were looked at.
+-- The number is free by the catalogue of all blocks in which those stand that were looked at, and may be taken.
 abbrev pub NumberIsFree : Type 0
 NumberIsFree = (g : Geometry) (clusters : ℕ) (number : Bool) (bs : List Block) (ws : List PlanWrite) (base : List Block) (own : Owners) (c : Cat) → found g clusters number bs ≡ Enough ws
-    → Spells g base own c → StandsIn base (looked g clusters number bs) → IfSome (out_after ws (length ws)).number (λ n. is_free_number c n ≡ true)
+    → Spells g base own c → StandsIn base (looked g clusters number bs) → IfSome (out_after ws (length ws)).number (λ n. IsPick c (Some n))
 
 -- And it is above those of the system files, where none of these is free.
 abbrev pub NumberIsNew : Type 0
@@ -118,7 +119,7 @@ NumberIsNew = (g : Geometry) (clusters : ℕ) (number : Bool) (bs : List Block) 
 
 -- ---- shortage
 
--- no number is free, or else the clusters that are free are too few
+-- there is no number to take, or else the clusters that are free are too few
 abbrev pub IsTooLittle : ℕ → Bool → Cat → Refusal → Type 0
 IsTooLittle clusters number c IndexFull = (number ≡ true) × (has_free_number c ≡ false)
 IsTooLittle clusters number c DeviceFull = (number ≡ true → has_free_number c ≡ true) × (free_clusters c < clusters)

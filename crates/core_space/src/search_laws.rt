@@ -43,7 +43,7 @@ pub fn takes_all()
     ensures { TakesAll }
 {}
 
-/// The number that it takes is free by the catalogue.
+/// The number that it takes is free by the catalogue, and may be taken.
 pub fn number_is_free()
     ensures { NumberIsFree }
 {}

@@ -12,11 +12,10 @@ use Rattle.fx_header.specs.declared.slot.HeaderFault.{HeaderFault}
 use Rattle.plain_cat.specs.declared.cat.Cat.{Cat}
 use Rattle.plain_cat.specs.declared.cat.QuotaRow.{QuotaRow}
 use Rattle.plain_cat.specs.declared.cat.Slot.{Slot}
-use Rattle.plain_rules.specs.Lookups.{is_free_slot, is_leaked, is_free_number}
+use Rattle.plain_rules.specs.Lookups.{is_free_slot, is_leaked, is_free_number, file_most}
 use Rattle.plain_rules.specs.Accounts.{charge}
 use Rattle.vol_parts.specs.declared.finding.Finding.TheVariants as finding
-use Rattle.vol_parts.specs.Volumes.{Volume, volume, IsNumber, factor, body, fields, fields_in}
-use Rattle.vol_parts.specs.Volumes.{head as head_of}
+use Rattle.vol_parts.specs.Volumes.{Volume, volume, IsNumber, factor, body, first_head, fields, fields_in}
 use Rattle.vol_parts.specs.Catalogues.{file_of, slot_of, slot_with, files_of, catalogue}
 use Rattle.vol_parts.specs.Fatal.{is_too_large, is_system_header, is_system_file}
 use Rattle.vol_parts.specs.Warnings.{is_miscounted}
@@ -47,8 +46,8 @@ module _ (v : Volume) (weak : IsWeak v) where
 
   system_used : (n : ℕ) → 1 ≤ n → n ≤ 11 → is_free_slot (Some (slot_of v n)) ≡ false
   unfolding slot_of
-  system_used n from to = by_head (head_of v n) refl where
-    by_head : (r : Result Head HeaderFault) → head_of v n ≡ r → is_free_slot (Some (slot_with (factor v) n r (body v n))) ≡ false
+  system_used n from to = by_head (first_head v n) refl where
+    by_head : (r : Result Head HeaderFault) → first_head v n ≡ r → is_free_slot (Some (slot_with (factor v) n r (body v n))) ≡ false
     by_head (Ok (head.Used f)) e = refl
     by_head (Ok (head.Free seq)) e = absurd (let f : false ≡ true = ap (λ r. is_system_header n (fields_in r)) (sym e) ∙ system_there n from to in cc)
     by_head (Err fault) e = absurd (let f : false ≡ true = ap (λ r. is_system_header n (fields_in r)) (sym e) ∙ system_there n from to in cc)
@@ -111,27 +110,27 @@ accepted_near bs c from to whole accepts told =
     subst (λ (d : Cat). AreNear d 0) (sym is) (all_exact (catalogue v) (catalogue v).quota (none_miscounted v (no_warnings bs s.home accepts s.read)))
 
 module _ (v : Volume) (weak : IsWeak v) where
-  small_by : (n : ℕ) → IsNumber v n → 11 < n → (r : Result Head HeaderFault) → head_of v n ≡ r → (f : File) → slot_with (factor v) n r (body v n) ≡ Used f → f.clusters ≤ 77
+  small_by : (n : ℕ) → IsNumber v n → 11 < n → (r : Result Head HeaderFault) → first_head v n ≡ r → (f : File) → slot_with (factor v) n r (body v n) ≡ Used f → f.clusters ≤ file_most
   small_by n number above (Ok (head.Used h)) e f is =
       let same : file_of (factor v) n h (body v n) ≡ f = (let g : Used (file_of (factor v) n h (body v n)) ≡ Used f = is in cc) in
-      subst (λ (x : File). x.clusters ≤ 77) same (few (h.blocks / factor v) (by_size (is_too_large v (fields v n)) refl)) where
+      subst (λ (x : File). x.clusters ≤ file_most) same (few (h.blocks / factor v) (by_size (is_too_large v (fields v n)) refl)) where
         told : fields v n ≡ Some h
         told = ap fields_in e
 
-        few : (k : ℕ) → nat_lt 77 k ≡ false → k ≤ 77
+        few : (k : ℕ) → nat_lt file_most k ≡ false → k ≤ file_most
         few k e = grind (arith, nat_tests)
 
-        by_size : (b : Bool) → is_too_large v (fields v n) ≡ b → nat_lt 77 (h.blocks / factor v) ≡ false
+        by_size : (b : Bool) → is_too_large v (fields v n) ≡ b → nat_lt file_most (h.blocks / factor v) ≡ false
         by_size true large = absurd (weak.none (finding.Clusters n) (number, above, large))
         by_size false fits = sym (ap (is_too_large v) told) ∙ fits
   small_by n number above (Ok (head.Free seq)) e f is = absurd (let g : Free seq ≡ Used f = is in cc)
   small_by n number above (Err fault) e f is = absurd (let g : Free 0 ≡ Used f = is in cc)
 
-  small_slot : (n : ℕ) → IsNumber v n → 11 < n → (f : File) → slot_of v n ≡ Used f → f.clusters ≤ 77
+  small_slot : (n : ℕ) → IsNumber v n → 11 < n → (f : File) → slot_of v n ≡ Used f → f.clusters ≤ file_most
   unfolding slot_of
-  small_slot n number above f is = small_by n number above (head_of v n) refl f is
+  small_slot n number above f is = small_by n number above (first_head v n) refl f is
 
-  small_at : (n : ℕ) (f : File) → 11 < n → slice_get (files_of v) (n - 1) ≡ Some (Used f) → f.clusters ≤ 77
+  small_at : (n : ℕ) (f : File) → 11 < n → slice_get (files_of v) (n - 1) ≡ Some (Used f) → f.clusters ≤ file_most
   unfolding files_of
   small_at n f above at =
       let r = mapped_range (slot_of v) 1 v.home.files (n - 1) (Used f) at in

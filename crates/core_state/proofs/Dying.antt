@@ -47,9 +47,10 @@ use Rattle.node_locks.proofs.Keeping.{rows_go_on}
 use Rattle.base_words.specs.Fields.{Block}
 use Rattle.base_words.specs.Lists.{Has, written}
 use Rattle.vol_spell.specs.Owners.{Owners, Things, nothing, Outs}
-use Rattle.base_words.proofs.Listing.{same_or_not, has_second}
+use Rattle.base_words.proofs.Listing.{same_or_not, has_second, filtered}
 use Rattle.vol_spell.specs.Reading.{total_of}
 use Rattle.vol_spell.specs.Spelling.{Spells}
+use Rattle.vol_spell.proofs.Clusters.{once_range}
 use Rattle.vol_under.specs.UnderWay.{PlannedWrite, bare, UnderWay, first_stage, writes_to, stage_after, stage_at, outs_after, together, all_out, resting, changed, AreSole, StandsAt}
 use Rattle.vol_under.specs.Ending.{AreNumbersOf}
 use Rattle.op_law.specs.declared.need.PlanWrite.{PlanWrite}
@@ -160,10 +161,13 @@ few_numbers (i ∷ is) most n few (inr h) = few_numbers is most n (λ j t. few j
 -- the numbers of a death are those among its things
 numbers_are : (t : Things) → ((i : ℕ) → Has t.numbers i → i < 4096) → AreNumbersOf (numbers_of t) t
 unfolding numbers_that
-numbers_are t few n = (
-  (λ h. any_has t.numbers n ((has_filtered (has_number t) (range_with_len 1 4096) n).0 h).1),
-  (λ h. let k = few_numbers t.numbers 4096 n few h in let low = k.0 in let high = k.1 in (has_filtered (has_number t) (range_with_len 1 4096) n).1 (has_range 1 4096 n low (omega arith), has_any t.numbers n h)),
-)
+numbers_are t few = record {
+  same = λ n. (
+    (λ h. any_has t.numbers n ((has_filtered (has_number t) (range_with_len 1 4096) n).0 h).1),
+    (λ h. let k = few_numbers t.numbers 4096 n few h in let low = k.0 in let high = k.1 in (has_filtered (has_number t) (range_with_len 1 4096) n).1 (has_range 1 4096 n low (omega arith), has_any t.numbers n h)),
+  );
+  once = filtered.once (has_number t) (range_with_len 1 4096) (once_range 1 4096);
+}
 
 -- ---- its channels
 

@@ -60,7 +60,7 @@ module _ (g : Geometry) (c : Cat) (base : List Block) (own : Owners) (nodes : �
   under_then = record {
     spelt = dead_spelt g base own new c n (length stock.clusters) ns u.spelt moves
         (leaks_count n stock.clusters own.clusters out.clusters.once clusters ∙ ap (λ k. k + length stock.clusters) (sym u.spelt.owners.leaked))
-        (leaks_flagged stock.numbers own.numbers ∙ ap (λ (fs : List Bool). flagged fs (file_numbers stock)) (sym u.spelt.owners.leaked_numbers) ∙ sym (flagged_alike ns (file_numbers stock) c.leaked_numbers are));
+        (leaks_flagged stock.numbers own.numbers ∙ ap (λ (fs : List Bool). flagged fs (file_numbers stock)) (sym u.spelt.owners.leaked_numbers) ∙ sym (flagged_alike ns (file_numbers stock) c.leaked_numbers are.same));
     over = over_same (λ m. writes_to (nodes m).done (nodes m)) (λ m. writes_to (changed nodes n rest m).done (changed nodes n rest m)) base drive u.over (done_alike nodes n rest (sym (ap (λ v. writes_to v.done v) is)));
     within = each (λ m v. v.done ≤ length v.plan) nodes n rest (omega arith) (λ m ne. u.within m);
     stands = each (λ m v. StandsIn base v.seen) nodes n rest tt (λ m ne. u.stands m);

@@ -84,9 +84,9 @@ mkdir_stays : (c : Cat) (dir : ℕ) (d : File) (name : List ℕ) (owner : Uic) (
 mkdir_stays c dir d name owner None = same_stays c
 mkdir_stays c dir d name owner (Some n) = entered_stays c dir d _ _
 
-extend_stays : (c : Cat) (n : ℕ) (f : Option File) (blocks : ℕ) → Keeps c (extend_of c n f blocks).after
-extend_stays c n None blocks = same_stays c
-extend_stays c n (Some f) blocks = unless_stays c (extend_refusal c n f blocks) _ (file_stays (charged c f.owner (c.factor * in_clusters c blocks)) n (grown c f (in_clusters c blocks)))
+extend_stays : (c : Cat) (n : ℕ) (f : Option File) (blocks : ℕ) (new : Option ℕ) → Keeps c (extend_of c n f blocks new).after
+extend_stays c n None blocks new = same_stays c
+extend_stays c n (Some f) blocks new = unless_stays c (extend_refusal c n f blocks new) _ (file_stays (charged c f.owner (c.factor * in_clusters c blocks)) n (grown c f (in_clusters c blocks)))
 
 trunc_stays : (c : Cat) (n : ℕ) (f : Option File) (blocks : ℕ) → Keeps c (trunc_of c n f blocks).after
 trunc_stays c n None blocks = same_stays c
@@ -152,7 +152,7 @@ outcome_stays c node (cmd.List dir) new named = in_stays c (live c dir) _ (λ d.
 outcome_stays c node (cmd.Stat file) new named = stat_stays c (live c file)
 outcome_stays c node (cmd.Create reg dir name ver blocks owner) new named = in_stays c (live c dir) _ (λ d. unless_stays c (create_refusal c d name ver blocks owner new) _ (create_stays c dir.num d name ver blocks owner new))
 outcome_stays c node (cmd.MkDir reg dir name owner) new named = in_stays c (live c dir) _ (λ d. unless_stays c (mkdir_refusal c d (dir_name name) owner new) _ (mkdir_stays c dir.num d (dir_name name) owner new))
-outcome_stays c node (cmd.Extend file blocks) new named = extend_stays c file.num (live c file) blocks
+outcome_stays c node (cmd.Extend file blocks) new named = extend_stays c file.num (live c file) blocks new
 outcome_stays c node (cmd.Trunc file blocks) new named = trunc_stays c file.num (live c file) blocks
 outcome_stays c node (cmd.Delete dir name ver) new named = in_stays c (live c dir) _ (λ d. entry_stays c (entry_of (versions name d.entries) ver) _ (λ e no_system. if_stays c (has_entries (in_use c e.fid)) _ _ (same_stays c) (deleted_stays c dir.num d e (in_use c e.fid) no_system)))
 outcome_stays c node (cmd.Rename dir name ver to to_ver) new named = in_stays c (live c dir) _ (λ d. entry_stays c (entry_of (versions name d.entries) ver) _ (λ e no_system. unless_stays c (rename_refusal c d to to_ver) _ (file_stays c dir.num _)))

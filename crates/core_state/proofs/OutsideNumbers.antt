@@ -1,5 +1,5 @@
 -- How many file numbers a node has outside files and bitmaps.
-use Rattle.std.proofs.Common.{◌≡◌, ◌≤◌, ◌<◌, ◌+◌, ◌-◌, ◌++◌, ◌⊎◌, ℕ, List, Option, Some, None, length, map, refl, sym, ap, subst, ◌∙◌, inl, inr, arith, length-append}
+use Rattle.std.proofs.Common.{◌≡◌, ◌≤◌, ◌+◌, ◌-◌, ◌++◌, ◌⊎◌, ℕ, List, Option, Some, None, length, map, sym, ap, subst, ◌∙◌, inl, inr, arith, length-append}
 use Rattle.std.proofs.lemmas.List.{length-map}
 use Rattle.plain_cat.specs.declared.command.Cmd.{Cmd}
 use Rattle.vol_spell.specs.Owners.{Things, nothing}
@@ -7,11 +7,9 @@ use Rattle.op_law.specs.declared.need.Need.TheVariants as need
 use Rattle.op_law.specs.declared.need.Plan.{Plan}
 use Rattle.op_law.specs.Needs.{IsNext}
 use Rattle.op_law.specs.Fits.{things}
-use Rattle.core_space.specs.Filling.{spare_numbers}
 use Rattle.core_space.specs.Taking.{out_after}
 use Rattle.core_space.specs.Answering.{blocks_of}
 use Rattle.core_space.specs.declared.run.Phase.TheVariants as phase
-use Rattle.core_space.specs.declared.run.SpaceRun.{SpaceRun}
 use Rattle.core_state.specs.Worlds.{NodeState, Plain, node_at}
 use Rattle.core_state.specs.Stocks.{taken_in, taken_now}
 use Rattle.core_state.specs.Searches.{wanted_by, numbered_by, lacks_by, Rules, Served, Given, Shared, Fills, Grabs, Filled, Drains, Alone, Looking, Taking, Taken, Refused, Spaces, Off, Back, Busy}

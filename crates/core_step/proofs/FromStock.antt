@@ -2,6 +2,7 @@
 use Rattle.std.proofs.Common.{◌≡◌, ◌≤◌, ◌⊎◌, ℕ, Bool, true, false, cond, Option, Some, None, length, refl, sym, ap, subst, ◌∙◌, inl, inr}
 use Rattle.std.specs.Prelude.{◌&&◌, ◌||◌, not, is_some, option_map, IfSome, IsSome}
 use Rattle.plain_cat.specs.declared.command.Cmd.{Cmd}
+use Rattle.plain_rules.specs.Lookups.{header_most}
 use Rattle.vol_parts.specs.Parts.{IsGeometry}
 use Rattle.op_law.specs.declared.need.Need.{Need}
 use Rattle.op_law.specs.declared.need.Need.TheVariants as need
@@ -246,7 +247,7 @@ module _ {w : Plain} (good : Good w) {n : ℕ} (r : IsReady w n) (none : plan_at
   q_none : HasNoSpace (space_of q.seen)
   q_none = (may_need w good n q r.at r.cmd r.has r.free (need.Space k c) is).1
 
-  pub few_wanted : k ≤ 77
+  pub few_wanted : k ≤ header_most
   few_wanted = q_search.few
 
   as_wanted : need.Space k c ≡ need.Space (wanted_by r.cmd q.seen) (numbered_by r.cmd q.seen)
@@ -288,7 +289,7 @@ module _ {w : Plain} (good : Good w) {n : ℕ} (r : IsReady w n) (none : plan_at
   q_moves = subst (Moves w good n q r.at (once_now w good n q r.at r.on r.granted) r.cmd) (sym same_space) (its_moves w good n q r.at r.on r.granted r.cmd r.has r.free q_plan q_calmly is_wanted_so lacks_so)
 
   -- where it is not in the midst of them, it may take memory
-  pub midst_takes : ((j : ℕ) (d : Bool) → IsSearching q r.cmd j d → j ≤ 77 → ⊥) → takes_none w.locks n (next_event w n) ≡ false
+  pub midst_takes : ((j : ℕ) (d : Bool) → IsSearching q r.cmd j d → j ≤ header_most → ⊥) → takes_none w.locks n (next_event w n) ≡ false
   midst_takes not_so = ap (takes_none w.locks n) space_makes.event ∙ takes_or_use w.locks n w q (by_space q k c) ∙ elim (midst (by_space q k c) q_moves) [
     | inl e ↦ e
     | inr e ↦ absurd (not_so k c (record {

@@ -1,6 +1,7 @@
 -- What a command searches for is counted.
 use Rattle.std.proofs.Common.{◌≡◌, ◌≤◌, ◌<◌, ◌+◌, ◌-◌, ◌*◌, ◌/◌, ℕ, Bool, false, Result, Ok, Err, sym, ◌∙◌, arith}
 use Rattle.std.specs.Prelude.{OnErr}
+use Rattle.plain_rules.specs.Lookups.{header_most, file_most}
 use Rattle.plain_rules.proofs.Usages.{product_le}
 use Rattle.plain_cat.specs.declared.command.Cmd.{Cmd}
 use Rattle.vol_parts.specs.declared.geometry.Geometry.{Geometry}
@@ -8,10 +9,10 @@ use Rattle.op_law.specs.Knows.{clusters_wanted}
 use Rattle.plain_rules.specs.Laws.{makes_file as wants_number}
 use Rattle.core_step.specs.Ready.{WantsSpace}
 
--- a file of at most 77 clusters has no more blocks than a volume
-pub blocks_fit : (b c k : ℕ) → 1 ≤ c → c ≤ 16 → (b + (c - 1)) / c ≡ k → k ≤ 77 → 65536 < b → ⊥
+-- the clusters of one header have no more blocks than a volume
+pub blocks_fit : (b c k : ℕ) → 1 ≤ c → c ≤ 16 → (b + (c - 1)) / c ≡ k → k ≤ header_most → 65536 < b → ⊥
 blocks_fit b c k from to e few many =
-    let p : c * ((b + (c - 1)) / c) ≤ 1232 = product_le c ((b + (c - 1)) / c) to (omega arith) in
+    let p : c * ((b + (c - 1)) / c) ≤ 16 * file_most = product_le c ((b + (c - 1)) / c) to (omega arith) in
     absurd (omega arith)
 
 -- a command that wants no clusters and no number searches for nothing

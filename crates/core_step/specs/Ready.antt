@@ -1,6 +1,7 @@
 -- A node that goes on with its command.
 use Rattle.std.specs.Prelude.{◌≡◌, ◌≤◌, ℕ, Bool, true, false, Some, None}
 use Rattle.plain_cat.specs.declared.command.Cmd.{Cmd}
+use Rattle.plain_rules.specs.Lookups.{header_most}
 use Rattle.plain_rules.specs.Own.{next_command}
 use Rattle.vol_parts.specs.declared.geometry.Geometry.{Geometry}
 use Rattle.node_locks.specs.Held.{waits_at}
@@ -91,7 +92,7 @@ SearchesAsNeeded s = (x : Cmd) (clusters : ℕ) (number : Bool) → s.cmd ≡ So
 
 -- it searches for nothing that a file can have
 abbrev pub IsNotSearching : NodeState → Type 0
-IsNotSearching s = (x : Cmd) (clusters : ℕ) (number : Bool) → s.cmd ≡ Some x → IsSearching s x clusters number → clusters ≤ 77 → ⊥
+IsNotSearching s = (x : Cmd) (clusters : ℕ) (number : Bool) → s.cmd ≡ Some x → IsSearching s x clusters number → clusters ≤ header_most → ⊥
 
 -- the command of node n needs no space any more
 abbrev pub IsGivenAll : Plain → ℕ → Type 0

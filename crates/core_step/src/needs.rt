@@ -1,6 +1,7 @@
 //! What a node's command needs next.
 
 ghost use Rattle.std.specs.Prelude.{◌≡◌, ◌+◌, ◌-◌, ◌/◌, false, IfOk, OnErr, IfSome, None, true, ◌≤◌, ◌<◌, ℕ, Bool, IsSome, IsTrue};
+ghost use Rattle.plain_rules.specs.Lookups.{header_most};
 ghost use Rattle.vol_parts.specs.Parts.{IsGeometry};
 ghost use Rattle.op_law.specs.Events.{HasNoSpace, space_of};
 ghost use Rattle.op_law.specs.Needs.{need_of};
@@ -43,7 +44,7 @@ fn something(clusters: u32, number: bool) -> Option<(u32, bool)>
 fn space_wanted(g: &Geometry, cmd: &Cmd) -> Option<(u32, bool)>
     requires { IsGeometry g.now }
     ensures some { IfSome result (λ wanted. WantsSpace g.now cmd.now wanted.0 wanted.1) }
-    ensures none { result ≡ None → (k : ℕ) (b : Bool) → WantsSpace g.now cmd.now k b → k ≤ 77 → ⊥ }
+    ensures none { result ≡ None → (k : ℕ) (b : Bool) → WantsSpace g.now cmd.now k b → k ≤ header_most → ⊥ }
 {
     match cmd {
         Cmd::Create { blocks, .. } => something(clusters_for(g, *blocks)?, true),
@@ -65,7 +66,7 @@ fn has_no_space(seen: &Seen) -> bool
 fn searched_for<O: Operation>(node: &Node<O>, cmd: &Cmd) -> Option<(u32, bool)>
     requires { IsGeometry node.now.seen.geometry }
     ensures some { IfSome result (λ wanted. IsSearching (state_of O.cmd_is node.now) cmd.now wanted.0 wanted.1) }
-    ensures none { result ≡ None → (k : ℕ) (b : Bool) → IsSearching (state_of O.cmd_is node.now) cmd.now k b → k ≤ 77 → ⊥ }
+    ensures none { result ≡ None → (k : ℕ) (b : Bool) → IsSearching (state_of O.cmd_is node.now) cmd.now k b → k ≤ header_most → ⊥ }
 {
     let searches = matches!(node.run.phase, Phase::Fill | Phase::Drain | Phase::Last);
     if !searches || !has_no_space(&node.seen) {

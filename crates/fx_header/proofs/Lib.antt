@@ -1,5 +1,6 @@
 pub mod MergeLemmas
 pub mod NewLemmas
+pub mod PartLemmas
 pub mod PointerLemmas
 pub mod RunsLemmas
 pub mod SetterLemmas

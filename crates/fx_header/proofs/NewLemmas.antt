@@ -1,47 +1,31 @@
 -- What a new header tells, and a free slot.
-use Rattle.std.proofs.Common.{◌≡◌, ◌∙◌, ◌+◌, ◌-◌, ◌/◌, ◌%◌, ◌^◌, ◌<◌, ◌≤◌, ◌==◌, ◌&&◌, ◌||◌, ◌++◌, ℕ, List, [], ◌∷◌, length, take, drop, get_or, replicate, nat_le, Bool, true, false, refl, sym, ap, subst, inl, inr, ◌⊎◌, arith, length-append, length-take, bit_and, Ok}
+use Rattle.std.proofs.Common.{◌≡◌, ◌∙◌, ◌+◌, ◌-◌, ◌/◌, ◌%◌, ◌^◌, ◌<◌, ◌≤◌, ◌==◌, ◌++◌, ℕ, List, [], ◌∷◌, length, take, drop, get_or, get_or-drop, replicate, Bool, true, false, refl, sym, ap, subst, arith, length-append, length-take, bit_and, Ok}
 use Rattle.std.specs.Prelude.{if◌then◌else◌}
-use Rattle.std.proofs.lemmas.Bool.{and_parts, leb-true, ne_eqb}
+use Rattle.std.proofs.lemmas.Bool.{ne_eqb}
 use Rattle.std.proofs.lemmas.List.{length-replicate}
 use Rattle.byteorder.specs.Endian.{little_bytes}
 use Rattle.base_words.specs.Fields.{field, put, put_field, summed}
 use Rattle.base_words.specs.Tables.{zeros, Table, laid}
 use Rattle.base_words.proofs.Puts.{length-put, length-put_field, length-summed, field-put_same, field-put_below, field-put_field_above}
-use Rattle.base_words.proofs.Tables.{rises, row, length-zeros, rises-le, length-laid, field-laid}
+use Rattle.base_words.proofs.Tables.{rises, row, length-zeros, length-laid, field-laid}
 use Rattle.fx_header.specs.declared.slot.Hdr.{Hdr}
 use Rattle.fx_header.specs.declared.slot.Slot.TheVariants.{Free, Used}
 use Rattle.fx_header.specs.Pointers.{blocks_in}
-use Rattle.fx_header.specs.Headers.{number_of, is_free, has_level, has_offsets, is_on_this_volume, is_alone, area_rows, size_rows, owner_rows, new_rows, flags_of, filled, with_name, header_bytes, with_runs, freed, header_read, map_area, ReadsBack}
-use Rattle.fx_header.proofs.SoundLemmas.{Same, sound-reads, same-field, same-put_below, same-summed, same-same}
+use Rattle.fx_header.specs.Headers.{number_of, is_free, has_level, has_offsets, is_on_this_volume, is_alone, area_rows, id_rows, size_rows, owner_rows, new_rows, flags_of, filled, with_name, header_bytes, with_runs, freed, fields_of, header_read, map_area, IsMade, ReadsBack}
+use Rattle.base_words.specs.Fields.{has_sum}
+use Rattle.fx_header.proofs.SoundLemmas.{Same, sound-reads, same-field, same-put_below, same-summed, same-same, sum-true}
+use Rattle.fx_header.proofs.SetterLemmas.{Tells, tells-fields}
 use Rattle.fx_header.proofs.RunsLemmas.{Fielded, field-byte, runs-written, runs-read, runs-sound}
 
 -- one table after another
-pub laid-append : (xs ys : Table) (b : List ℕ) → laid (xs ++ ys) b ≡ laid ys (laid xs b)
+laid-append : (xs ys : Table) (b : List ℕ) → laid (xs ++ ys) b ≡ laid ys (laid xs b)
 laid-append [] ys b = refl
 laid-append ((o, w, n) ∷ xs) ys b = laid-append xs ys (put_field b o w n)
 
-or-parts : (a b : Bool) → a || b ≡ true → (a ≡ true) ⊎ (b ≡ true)
-or-parts true b e = inl refl
-or-parts false b e = inr e
-
--- no field of the table has a byte of the w from p on
-apart : Table → ℕ → ℕ → Bool
-apart [] p w = true
-apart ((o, v, n) ∷ table) p w = (nat_le (o + v) p || nat_le (p + w) o) && apart table p w
-
--- then those bytes stay
-field-laid_apart : (start : ℕ) (table : Table) (b : List ℕ) (p w : ℕ) → rises start table ≡ true → length b ≡ 512 → apart table p w ≡ true → field (laid table b) p w ≡ field b p w
-unfolding apart
-field-laid_apart start [] b p w r l a = refl
-field-laid_apart start ((o, v, n) ∷ table) b p w r l a =
-    let parts = and_parts (nat_le start o) (rises (o + v) table) r in
-    let ends = rises-le (o + v) table parts.1 in
-    let tests = and_parts (nat_le (o + v) p || nat_le (p + w) o) (apart table p w) a in
-    let here : field (put_field b o v n) p w ≡ field b p w = elim (or-parts (nat_le (o + v) p) (nat_le (p + w) o) tests.0) [
-      | inl behind ↦ field-put_field_above b o v n p w (omega arith) (leb-true (o + v) p behind)
-      | inr in_front ↦ field-put_below b o (little_bytes v n) p w (omega arith) (leb-true (p + w) o in_front)
-    ] in
-    field-laid_apart (o + v) table (put_field b o v n) p w parts.1 (length-put_field b o v n (omega arith) ∙ l) tests.1 ∙ here
+laid-five : (v w x y z : Table) (b : List ℕ) → laid (v ++ (w ++ (x ++ (y ++ z)))) b ≡ laid z (laid y (laid x (laid w (laid v b))))
+laid-five v w x y z b =
+    laid-append v (w ++ (x ++ (y ++ z))) b ∙ laid-append w (x ++ (y ++ z)) (laid v b) ∙ laid-append x (y ++ z) (laid w (laid v b))
+    ∙ laid-append y z (laid x (laid w (laid v b)))
 
 -- the rows of a new header
 record Rows (table : Table) (h : Hdr) : Type 0 where
@@ -50,37 +34,43 @@ record Rows (table : Table) (h : Hdr) : Type 0 where
   map : row table 1 ≡ (1, 1, 100)
   access : row table 2 ≡ (2, 1, 255)
   reserved : row table 3 ≡ (3, 1, 255)
-  level : row table 5 ≡ (7, 1, 2)
-  low : row table 6 ≡ (8, 2, h.num % 2 ^ 16)
-  seq : row table 7 ≡ (10, 2, h.seq)
-  high : row table 8 ≡ (13, 1, h.num / 2 ^ 16)
-  upper : row table 9 ≡ (24, 2, h.blocks / 2 ^ 16)
-  lower : row table 10 ≡ (26, 2, h.blocks % 2 ^ 16)
-  end-upper : row table 11 ≡ (28, 2, h.end / 2 ^ 16)
-  end-lower : row table 12 ≡ (30, 2, h.end % 2 ^ 16)
-  byte : row table 13 ≡ (32, 2, h.byte)
-  flags : row table 14 ≡ (52, 4, flags_of h)
-  owner : row table 15 ≡ (60, 4, h.owner)
-  mark : row table 19 ≡ (76, 4, h.mark)
-  no-segment : apart table 4 2 ≡ true
-  no-volume : apart table 12 1 ≡ true
-  no-chain : apart table 14 6 ≡ true
-  no-link : apart table 14 2 ≡ true
-  no-link-seq : apart table 16 2 ≡ true
-  no-link-high : apart table 19 1 ≡ true
+  seg : row table 4 ≡ (4, 2, h.seg)
+  level : row table 6 ≡ (7, 1, 2)
+  low : row table 7 ≡ (8, 2, h.num % 2 ^ 16)
+  seq : row table 8 ≡ (10, 2, h.seq)
+  volume : row table 9 ≡ (12, 1, 0)
+  high : row table 10 ≡ (13, 1, h.num / 2 ^ 16)
+  next-low : row table 11 ≡ (14, 2, h.ext % 2 ^ 16)
+  next-seq : row table 12 ≡ (16, 2, h.ext_seq)
+  next-volume : row table 13 ≡ (18, 1, 0)
+  next-high : row table 14 ≡ (19, 1, h.ext / 2 ^ 16)
+  upper : row table 15 ≡ (24, 2, h.blocks / 2 ^ 16)
+  lower : row table 16 ≡ (26, 2, h.blocks % 2 ^ 16)
+  end-upper : row table 17 ≡ (28, 2, h.end / 2 ^ 16)
+  end-lower : row table 18 ≡ (30, 2, h.end % 2 ^ 16)
+  byte : row table 19 ≡ (32, 2, h.byte)
+  flags : row table 20 ≡ (52, 4, flags_of h)
+  owner : row table 21 ≡ (60, 4, h.owner)
+  mark : row table 26 ≡ (76, 4, h.mark)
 
 new-rows : (h : Hdr) (parent : ℕ × ℕ) → Rows (new_rows h parent) h
-unfolding area_rows size_rows owner_rows apart
+unfolding area_rows size_rows owner_rows
 new-rows h parent = record {
   order = refl;
   ident = refl;
   map = refl;
   access = refl;
   reserved = refl;
+  seg = refl;
   level = refl;
   low = refl;
   seq = refl;
+  volume = refl;
   high = refl;
+  next-low = refl;
+  next-seq = refl;
+  next-volume = refl;
+  next-high = refl;
   upper = refl;
   lower = refl;
   end-upper = refl;
@@ -89,43 +79,13 @@ new-rows h parent = record {
   flags = refl;
   owner = refl;
   mark = refl;
-  no-segment = refl;
-  no-volume = refl;
-  no-chain = refl;
-  no-link = refl;
-  no-link-seq = refl;
-  no-link-high = refl;
 }
 
--- a row of a table that is laid into zeros reads as its number, and bytes of no row are zero
+-- a row of a table that is laid into zeros reads as its number
 row-told : (table : Table) (i p w x : ℕ) → rises 0 table ≡ true → row table i ≡ (p, w, x) → x < 256 ^ w → field (laid table zeros) p w ≡ x
 row-told table i p w x r e fits =
     let P : ℕ × ℕ × ℕ → Type 0 = λ f. f.2 < 256 ^ f.1 → field (laid table zeros) f.0 f.1 ≡ f.2 in
     subst P e (field-laid 0 table zeros i r length-zeros) fits
-
-zero-segment : field zeros 4 2 ≡ 0
-unfolding zeros
-zero-segment = refl
-
-zero-volume : field zeros 12 1 ≡ 0
-unfolding zeros
-zero-volume = refl
-
-zero-chain : field zeros 14 6 ≡ 0
-unfolding zeros
-zero-chain = refl
-
-zero-link : field zeros 14 2 ≡ 0
-unfolding zeros
-zero-link = refl
-
-zero-link-seq : field zeros 16 2 ≡ 0
-unfolding zeros
-zero-link-seq = refl
-
-zero-link-high : field zeros 19 1 ≡ 0
-unfolding zeros
-zero-link-high = refl
 
 zero-number : field zeros 8 2 ≡ 0
 unfolding zeros
@@ -176,6 +136,20 @@ flags-fit false true = omega arith
 flags-fit false false = omega arith
 
 -- the numbers of a header fit their fields
+pub record Ranges (h : Hdr) : Type 0 where
+  pub from : 1 ≤ h.num
+  pub num : h.num < 2 ^ 24
+  pub seq : h.seq < 2 ^ 16
+  pub owner : h.owner < 2 ^ 32
+  pub blocks : h.blocks < 2 ^ 32
+  pub mark : h.mark < 2 ^ 32
+  pub end : h.end < 2 ^ 32
+  pub byte : h.byte < 2 ^ 16
+  pub seg : h.seg < 2 ^ 16
+  pub ext : h.ext < 2 ^ 24
+  pub ext_seq : h.ext_seq < 2 ^ 16
+
+-- the same of the only header of a file
 pub record Fits (h : Hdr) : Type 0 where
   pub from : 1 ≤ h.num
   pub num : h.num < 2 ^ 24
@@ -189,53 +163,137 @@ pub record Fits (h : Hdr) : Type 0 where
   pub ext : h.ext ≡ 0
   pub ext_seq : h.ext_seq ≡ 0
 
--- what a new header tells, from its rows
-laid-fielded : (table : Table) (n : List ℕ) (h : Hdr) → Rows table h → Fits h → Same n (laid table zeros) 0 80 → Fielded n h
-unfolding is_free has_level has_offsets is_on_this_volume is_alone
-laid-fielded table n h rows fits same =
+fits-ranges : (h : Hdr) → Fits h → Ranges h
+fits-ranges h fits = record {
+  from = fits.from;
+  num = fits.num;
+  seq = fits.seq;
+  owner = fits.owner;
+  blocks = fits.blocks;
+  mark = fits.mark;
+  end = fits.end;
+  byte = fits.byte;
+  seg = omega (arith, fits.seg);
+  ext = omega (arith, fits.ext);
+  ext_seq = omega (arith, fits.ext_seq);
+}
+
+-- what a new header tells, and the tests that it passes without its runs
+pub record Told (n : List ℕ) (h : Hdr) : Type 0 where
+  pub used : is_free n ≡ false
+  pub level : has_level n ≡ true
+  pub offsets : has_offsets n ≡ true
+  pub volume : is_on_this_volume n ≡ true
+  pub next-volume : field n 18 1 ≡ 0
+  pub tells : Tells n h
+
+-- from its rows
+laid-told : (table : Table) (n : List ℕ) (h : Hdr) → Rows table h → Ranges h → Same n (laid table zeros) 0 80 → Told n h
+unfolding is_free has_level has_offsets is_on_this_volume
+laid-told table n h rows fits same =
     let t : List ℕ = laid table zeros in
     let told : (i p w x : ℕ) → row table i ≡ (p, w, x) → x < 256 ^ w → p + w ≤ 80 → field n p w ≡ x =
     λ i p w x e f l. same-field n t 0 80 p w same (omega arith) l ∙ row-told table i p w x rows.order e f in
     let byte : (i p x : ℕ) → row table i ≡ (p, 1, x) → x < 256 → p + 1 ≤ 80 → get_or n p 0 ≡ x =
     λ i p x e f l. sym (field-byte n p) ∙ told i p 1 x e f l in
-    let none : (p w : ℕ) → apart table p w ≡ true → p + w ≤ 80 → field n p w ≡ field zeros p w =
-    λ p w a l. same-field n t 0 80 p w same (omega arith) l ∙ field-laid_apart 0 table zeros p w rows.order length-zeros a in
     let number : number_of n ≡ h.num =
-    omega (arith, told 6 8 2 (h.num % 2 ^ 16) rows.low (omega arith) (omega arith), byte 8 13 (h.num / 2 ^ 16) rows.high (omega (arith, fits.num)) (omega arith)) in
-    let flags : field n 52 4 ≡ flags_of h = told 14 52 4 (flags_of h) rows.flags (flags-fit h.dir h.marked) (omega arith) in
+    omega (arith, told 7 8 2 (h.num % 2 ^ 16) rows.low (omega arith) (omega arith), byte 10 13 (h.num / 2 ^ 16) rows.high (omega (arith, fits.num)) (omega arith)) in
+    let flags : field n 52 4 ≡ flags_of h = told 20 52 4 (flags_of h) rows.flags (flags-fit h.dir h.marked) (omega arith) in
     record {
       used = ne_eqb (number_of n) 0 (λ z. absurd (omega (arith, fits.from, number, z)));
-      level = rw (byte 5 7 2 rows.level (omega arith) (omega arith)) refl;
+      level = rw (byte 6 7 2 rows.level (omega arith) (omega arith)) refl;
       offsets = rw (
         byte 0 0 40 rows.ident (omega arith) (omega arith),
         byte 1 1 100 rows.map (omega arith) (omega arith),
         byte 2 2 255 rows.access (omega arith) (omega arith),
         byte 3 3 255 rows.reserved (omega arith) (omega arith),
       ) refl;
-      volume = rw (sym (field-byte n 12) ∙ none 12 1 rows.no-volume (omega arith) ∙ zero-volume) refl;
-      alone = rw (none 4 2 rows.no-segment (omega arith) ∙ zero-segment, none 14 6 rows.no-chain (omega arith) ∙ zero-chain) refl;
+      volume = rw (byte 9 12 0 rows.volume (omega arith) (omega arith)) refl;
+      next-volume = told 13 18 1 0 rows.next-volume (omega arith) (omega arith);
       tells = record {
         num = number;
-        seq = told 7 10 2 h.seq rows.seq (omega (arith, fits.seq)) (omega arith);
-        owner = told 15 60 4 h.owner rows.owner (omega (arith, fits.owner)) (omega arith);
+        seq = told 8 10 2 h.seq rows.seq (omega (arith, fits.seq)) (omega arith);
+        owner = told 21 60 4 h.owner rows.owner (omega (arith, fits.owner)) (omega arith);
         dir = rw flags (flag-dir h.dir h.marked);
         marked = rw flags (flag-marked h.dir h.marked);
-        blocks = omega (arith, told 9 24 2 (h.blocks / 2 ^ 16) rows.upper (omega (arith, fits.blocks)) (omega arith), told 10 26 2 (h.blocks % 2 ^ 16) rows.lower (omega arith) (omega arith));
-        mark = told 19 76 4 h.mark rows.mark (omega (arith, fits.mark)) (omega arith);
-        end = omega (arith, told 11 28 2 (h.end / 2 ^ 16) rows.end-upper (omega (arith, fits.end)) (omega arith), told 12 30 2 (h.end % 2 ^ 16) rows.end-lower (omega arith) (omega arith));
-        byte = told 13 32 2 h.byte rows.byte (omega (arith, fits.byte)) (omega arith);
-        seg = none 4 2 rows.no-segment (omega arith) ∙ zero-segment ∙ sym fits.seg;
-        ext = omega (arith, none 14 2 rows.no-link (omega arith), zero-link, sym (field-byte n 19), none 19 1 rows.no-link-high (omega arith), zero-link-high, fits.ext);
-        ext_seq = none 16 2 rows.no-link-seq (omega arith) ∙ zero-link-seq ∙ sym fits.ext_seq;
+        blocks = omega (arith, told 15 24 2 (h.blocks / 2 ^ 16) rows.upper (omega (arith, fits.blocks)) (omega arith), told 16 26 2 (h.blocks % 2 ^ 16) rows.lower (omega arith) (omega arith));
+        mark = told 26 76 4 h.mark rows.mark (omega (arith, fits.mark)) (omega arith);
+        end = omega (arith, told 17 28 2 (h.end / 2 ^ 16) rows.end-upper (omega (arith, fits.end)) (omega arith), told 18 30 2 (h.end % 2 ^ 16) rows.end-lower (omega arith) (omega arith));
+        byte = told 19 32 2 h.byte rows.byte (omega (arith, fits.byte)) (omega arith);
+        seg = told 4 4 2 h.seg rows.seg (omega (arith, fits.seg)) (omega arith);
+        ext = omega (arith, told 11 14 2 (h.ext % 2 ^ 16) rows.next-low (omega arith) (omega arith), byte 14 19 (h.ext / 2 ^ 16) rows.next-high (omega (arith, fits.ext)) (omega arith));
+        ext_seq = told 12 16 2 h.ext_seq rows.next-seq (omega (arith, fits.ext_seq)) (omega arith);
       };
     }
 
-pub new-fielded : (h : Hdr) (text : List ℕ) (parent : ℕ × ℕ) → Fits h → Fielded (header_bytes h text parent) h
+pub new-told : (h : Hdr) (text : List ℕ) (parent : ℕ × ℕ) → Ranges h → Told (header_bytes h text parent) h
 unfolding header_bytes
-new-fielded h text parent fits =
+new-told h text parent fits =
     let rows = new-rows h parent in
-    laid-fielded (new_rows h parent) (summed (with_name (laid (new_rows h parent) zeros) text)) h rows fits
+    laid-told (new_rows h parent) (summed (with_name (laid (new_rows h parent) zeros) text)) h rows fits
     (same-named (laid (new_rows h parent) zeros) text (length-laid 0 (new_rows h parent) zeros rows.order length-zeros))
+
+-- the whole link is zero where its parts are
+zero-link : (b : List ℕ) → field b 14 2 ≡ 0 → field b 16 2 ≡ 0 → field b 18 1 ≡ 0 → get_or b 19 0 ≡ 0 → field b 14 6 ≡ 0
+zero-link b low seq volume high =
+    omega (
+      arith,
+      low,
+      seq,
+      volume,
+      high,
+      get_or-drop 14 b 0 0,
+      get_or-drop 14 b 1 0,
+      get_or-drop 14 b 2 0,
+      get_or-drop 14 b 3 0,
+      get_or-drop 14 b 4 0,
+      get_or-drop 14 b 5 0,
+      get_or-drop 16 b 0 0,
+      get_or-drop 16 b 1 0,
+      get_or-drop 18 b 0 0,
+    )
+
+lone-alone : (n : List ℕ) (h : Hdr) → Fits h → Told n h → is_alone n ≡ true
+unfolding is_alone
+lone-alone n h fits told =
+    let t = told.tells in
+    let link = zero-link n (omega (arith, t.ext, fits.ext)) (t.ext_seq ∙ fits.ext_seq) told.next-volume (omega (arith, t.ext, fits.ext)) in
+    rw (t.seg ∙ fits.seg, link) refl
+
+pub new-fielded : (h : Hdr) (text : List ℕ) (parent : ℕ × ℕ) → Fits h → Fielded (header_bytes h text parent) h
+new-fielded h text parent fits =
+    let told = new-told h text parent (fits-ranges h fits) in
+    record {
+      used = told.used;
+      level = told.level;
+      offsets = told.offsets;
+      volume = told.volume;
+      alone = lone-alone (header_bytes h text parent) h fits told;
+      tells = told.tells;
+    }
+
+pub new-sum : (h : Hdr) (text : List ℕ) (parent : ℕ × ℕ) → has_sum (header_bytes h text parent) ≡ true
+unfolding header_bytes
+new-sum h text parent =
+    let rows = new-rows h parent in
+    let t : List ℕ = laid (new_rows h parent) zeros in
+    sum-true (with_name t text) (length-named t text (length-laid 0 (new_rows h parent) zeros rows.order length-zeros))
+
+-- what is said of any new header
+pub new-made : (h : Hdr) (text : List ℕ) (parent : ℕ × ℕ) → Ranges h → IsMade (header_bytes h text parent)
+new-made h text parent fits =
+    let told = new-told h text parent fits in
+    record { used = told.used; sum = new-sum h text parent; level = told.level; offsets = told.offsets; volume = told.volume }
+
+pub new-fields : (h : Hdr) (text : List ℕ) (parent : ℕ × ℕ) → Ranges h → fields_of (header_bytes h text parent) ≡ h
+new-fields h text parent fits = tells-fields (header_bytes h text parent) h (new-told h text parent fits).tells
+
+-- the rows of a new header are laid one part after another
+pub new-laid : (h : Hdr) (parent : ℕ × ℕ) (b : List ℕ)
+    → laid (owner_rows (flags_of h) h.owner parent h.mark) (laid (size_rows h.blocks h.end h.byte) (laid (id_rows 14 h.ext h.ext_seq) (laid (id_rows 8 h.num h.seq) (laid (area_rows h.seg) b))))
+    ≡ laid (new_rows h parent) b
+new-laid h parent b =
+    sym (laid-five (area_rows h.seg) (id_rows 8 h.num h.seq) (id_rows 14 h.ext h.ext_seq) (size_rows h.blocks h.end h.byte) (owner_rows (flags_of h) h.owner parent h.mark) b)
 
 pub length-header : (h : Hdr) (text : List ℕ) (parent : ℕ × ℕ) → length (header_bytes h text parent) ≡ 512
 unfolding header_bytes

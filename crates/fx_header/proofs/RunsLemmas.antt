@@ -10,7 +10,7 @@ use Rattle.fx_header.specs.declared.run.Run.{Run}
 use Rattle.fx_header.specs.declared.slot.Hdr.{Hdr}
 use Rattle.fx_header.specs.declared.slot.Slot.TheVariants.{Used}
 use Rattle.fx_header.specs.Pointers.{AreRuns, merged, map_words, blocks_in, runs_of}
-use Rattle.fx_header.specs.Headers.{map_offset, access_offset, map_area, map_in_use, map_bytes, runs_in, blocks_of, is_free, has_level, has_offsets, is_on_this_volume, is_alone, has_map, high_first_rows, header_read, with_runs}
+use Rattle.fx_header.specs.Headers.{map_offset, access_offset, map_area, map_in_use, map_bytes, runs_in, blocks_of, is_free, has_level, has_offsets, is_on_this_volume, is_alone, has_map, high_first_rows, header_read, with_words, with_runs, with_map}
 use Rattle.base_words.specs.Fields.{has_sum}
 use Rattle.fx_header.proofs.SpellLemmas.{runs_of-words, rest_of-words, even-words, blocks_in-merged}
 use Rattle.fx_header.proofs.SoundLemmas.{Sound, Same, areas-of, same-front, same-field, same-byte, same-within, same-range, same-put_below, same-field_below, same-field_above, same-summed, same-same, sum-true, blocks-true, ends-of, ends-true, sound-reads, reads-sound}
@@ -19,6 +19,56 @@ use Rattle.fx_header.proofs.SetterLemmas.{Tells, tells-of, tells-fields, high-le
 -- a byte is a field of one byte
 pub field-byte : (b : List ℕ) (o : ℕ) → field b o 1 ≡ get_or b o 0
 field-byte b o = let at : get_or (drop o b) 0 0 ≡ get_or b (o + 0) 0 = get_or-drop o b 0 0 in let same : o + 0 ≡ o = omega arith in rw (at, same) (omega arith)
+
+-- a block whose map area has the pointers of runs
+pub record Mapped (n b : List ℕ) (runs : List Run) : Type 0 where
+  pub long : length n ≡ 512
+  pub front : Same n b 0 58
+  pub behind : Same n b 59 80
+  pub words : map_bytes n ≡ map_words runs
+  pub used : map_in_use n ≡ length (map_words runs) / 2
+
+pub words-mapped : (b : List ℕ) (runs : List Run) → length b ≡ 512 → has_offsets b ≡ true → AreRuns runs → length (map_words runs) ≤ 2 * map_area b
+    → Mapped (with_words b (map_words runs)) b runs
+words-mapped b runs long off are room =
+    let areas = areas-of b off in
+    let words : List ℕ = map_words runs in
+    let start : ℕ = 2 * map_offset b in
+    let p : List ℕ = put b start words in
+    let q : List ℕ = put_field p 58 1 (length words / 2) in
+    let ends : start + length words ≤ 510 = omega (arith, areas.inside, areas.reserved) in
+    let begins : 80 ≤ start = omega (arith, areas.ident, areas.map) in
+    let len-p : length p ≡ 512 = length-put b start words (omega arith) ∙ long in
+    let len-q : length q ≡ 512 = length-put_field p 58 1 (length words / 2) (omega arith) ∙ len-p in
+    let from-p : Same q p 59 510 = same-field_above p 58 1 (length words / 2) 59 510 (omega arith) (omega arith) in
+    let front : Same q b 0 58 =
+    same-same q p b 0 58 (same-field_below p 58 1 (length words / 2) 0 58 (omega arith) (omega arith)) (same-put_below b start words 0 58 (omega arith) (omega arith)) in
+    let behind : Same q b 59 80 =
+    same-same q p b 59 80 (same-within q p 59 510 59 80 from-p (omega arith) (omega arith)) (same-put_below b start words 59 80 (omega arith) (omega arith)) in
+    let even = even-words runs are in
+    let used : get_or q 58 0 ≡ length words / 2 =
+    sym (field-byte q 58) ∙ field-put_same p 58 1 (length words / 2) (omega arith) (omega (arith, areas.inside, areas.reserved)) in
+    let offset : map_offset q ≡ map_offset b = same-byte q b 0 58 1 front (omega arith) (omega arith) in
+    let stop : 2 * (map_offset b + length words / 2) ≡ start + length words = omega arith in
+    let bytes : map_bytes q ≡ words =
+    rw (offset, used, stop) (same-range q p 59 510 start (start + length words) (len-q ∙ sym len-p) from-p (omega arith) (omega arith)
+    ∙ slice_range-put_same b start words (start + length words) (omega arith) refl) in
+    record { long = len-q; front = front; behind = behind; words = bytes; used = used }
+
+-- and keeps them where a part in front of the map area is written
+still-mapped : (n q b : List ℕ) (runs : List Run) → has_offsets b ≡ true → AreRuns runs → length (map_words runs) ≤ 2 * map_area b → Mapped q b runs
+    → length n ≡ 512 → Same n q 0 14 → Same n q 58 510 → (map_bytes n ≡ map_words runs) × (map_in_use n ≡ length (map_words runs) / 2)
+still-mapped n q b runs off are room w long front area =
+    let areas = areas-of b off in
+    let even = even-words runs are in
+    let first : map_offset q ≡ map_offset b = same-byte q b 0 58 1 w.front (omega arith) (omega arith) in
+    let offset : map_offset n ≡ map_offset q = same-byte n q 0 14 1 front (omega arith) (omega arith) in
+    let used : map_in_use n ≡ map_in_use q = same-byte n q 58 510 58 area (omega arith) (omega arith) in
+    let count = w.used in
+    let bytes : map_bytes n ≡ map_bytes q =
+    rw (offset, used) (same-range n q 58 510 (2 * map_offset q) (2 * (map_offset q + map_in_use q)) (long ∙ sym w.long) area
+    (omega (arith, areas.ident, areas.map, first)) (omega (arith, areas.inside, areas.reserved, first, count))) in
+    (bytes ∙ w.words, used ∙ w.used)
 
 -- what a header tells whose runs were written
 pub record Written (n b : List ℕ) (runs : List Run) : Type 0 where
@@ -35,52 +85,52 @@ pub runs-written : (b : List ℕ) (runs : List Run) → length b ≡ 512 → has
     → blocks_in runs < 2 ^ 32 → Written (with_runs b runs) b runs
 unfolding with_runs
 runs-written b runs long off are room fits =
-    let areas = areas-of b off in
-    let words : List ℕ = map_words runs in
-    let start : ℕ = 2 * map_offset b in
-    let p : List ℕ = put b start words in
-    let q : List ℕ = put_field p 58 1 (length words / 2) in
+    let q : List ℕ = with_words b (map_words runs) in
     let m : List ℕ = laid (high_first_rows 24 (blocks_in runs)) q in
     let n : List ℕ = summed m in
-    let ends : start + length words ≤ 510 = omega (arith, areas.inside, areas.reserved) in
-    let begins : 80 ≤ start = omega (arith, areas.ident, areas.map) in
-    let len-p : length p ≡ 512 = length-put b start words (omega arith) ∙ long in
-    let len-q : length q ≡ 512 = length-put_field p 58 1 (length words / 2) (omega arith) ∙ len-p in
+    let w = words-mapped b runs long off are room in
+    let len-q : length q ≡ 512 = w.long in
     let len-m : length m ≡ 512 = high-length q 24 (blocks_in runs) (omega arith) ∙ len-q in
     let summing : Same n m 0 510 = same-summed m 0 510 len-m (omega arith) in
-    let from-q : Same n q 28 510 =
+    let low : Same n q 0 24 =
+    same-same n m q 0 24 (same-within n m 0 510 0 24 summing (omega arith) (omega arith)) (high-below q 24 (blocks_in runs) 0 24 (omega arith) (omega arith)) in
+    let high : Same n q 28 510 =
     same-same n m q 28 510 (same-within n m 0 510 28 510 summing (omega arith) (omega arith)) (high-above q 24 (blocks_in runs) 28 510 (omega arith) (omega arith)) in
-    let from-p : Same n p 59 510 =
-    same-same n q p 59 510 (same-within n q 28 510 59 510 from-q (omega arith) (omega arith)) (same-field_above p 58 1 (length words / 2) 59 510 (omega arith) (omega arith)) in
-    let front : Same n b 0 24 =
-    same-same n m b 0 24 (same-within n m 0 510 0 24 summing (omega arith) (omega arith))
-    (same-same m q b 0 24 (high-below q 24 (blocks_in runs) 0 24 (omega arith) (omega arith))
-    (same-same q p b 0 24 (same-field_below p 58 1 (length words / 2) 0 24 (omega arith) (omega arith)) (same-put_below b start words 0 24 (omega arith) (omega arith)))) in
-    let middle : Same n b 28 58 =
-    same-same n q b 28 58 (same-within n q 28 510 28 58 from-q (omega arith) (omega arith))
-    (same-same q p b 28 58 (same-field_below p 58 1 (length words / 2) 28 58 (omega arith) (omega arith)) (same-put_below b start words 28 58 (omega arith) (omega arith))) in
-    let behind : Same n b 59 80 =
-    same-same n p b 59 80 (same-within n p 59 510 59 80 from-p (omega arith) (omega arith)) (same-put_below b start words 59 80 (omega arith) (omega arith)) in
-    let even = even-words runs are in
-    let used : get_or n 58 0 ≡ length words / 2 =
-    same-byte n q 28 510 58 from-q (omega arith) (omega arith) ∙ sym (field-byte q 58) ∙ field-put_same p 58 1 (length words / 2) (omega arith) (omega (arith, areas.inside, areas.reserved)) in
-    let offset : map_offset n ≡ map_offset b = same-byte n b 0 24 1 front (omega arith) (omega arith) in
-    let stop : 2 * (map_offset b + length words / 2) ≡ start + length words = omega arith in
-    let bytes : map_bytes n ≡ words =
-    rw (offset, used, stop) (same-range n p 59 510 start (start + length words) (length-summed m len-m ∙ sym len-p) from-p (omega arith) (omega arith)
-    ∙ slice_range-put_same b start words (start + length words) (omega arith) refl) in
+    let map = still-mapped n q b runs off are room w (length-summed m len-m)
+    (same-within n q 0 24 0 14 low (omega arith) (omega arith)) (same-within n q 28 510 58 510 high (omega arith) (omega arith)) in
     let upper : field n 24 2 ≡ field m 24 2 = same-field n m 0 510 24 2 summing (omega arith) (omega arith) in
     let lower : field n 26 2 ≡ field m 26 2 = same-field n m 0 510 26 2 summing (omega arith) (omega arith) in
     record {
       long = length-summed m len-m;
-      front = front;
-      middle = middle;
-      behind = behind;
-      words = bytes;
-      used = used;
+      front = same-same n q b 0 24 low (same-within q b 0 58 0 24 w.front (omega arith) (omega arith));
+      middle = same-same n q b 28 58 (same-within n q 28 510 28 58 high (omega arith) (omega arith)) (same-within q b 0 58 28 58 w.front (omega arith) (omega arith));
+      behind = same-same n q b 59 80 (same-within n q 28 510 59 80 high (omega arith) (omega arith)) w.behind;
+      words = map.0;
+      used = map.1;
       blocks = rw (upper, lower) (high-reads q 24 (blocks_in runs) (omega arith) fits);
       sum = sum-true m len-m;
     }
+
+-- the same of a header whose runs alone were written
+pub map-mapped : (b : List ℕ) (runs : List Run) → length b ≡ 512 → has_offsets b ≡ true → AreRuns runs → length (map_words runs) ≤ 2 * map_area b
+    → Mapped (with_map b runs) b runs × (has_sum (with_map b runs) ≡ true)
+unfolding with_map
+map-mapped b runs long off are room =
+    let q : List ℕ = with_words b (map_words runs) in
+    let n : List ℕ = summed q in
+    let w = words-mapped b runs long off are room in
+    let summing : Same n q 0 510 = same-summed q 0 510 w.long (omega arith) in
+    let map = still-mapped n q b runs off are room w (length-summed q w.long)
+    (same-within n q 0 510 0 14 summing (omega arith) (omega arith)) (same-within n q 0 510 58 510 summing (omega arith) (omega arith)) in (
+      record {
+        long = length-summed q w.long;
+        front = same-same n q b 0 58 (same-within n q 0 510 0 58 summing (omega arith) (omega arith)) w.front;
+        behind = same-same n q b 59 80 (same-within n q 0 510 59 80 summing (omega arith) (omega arith)) w.behind;
+        words = map.0;
+        used = map.1;
+      },
+      sum-true q w.long,
+    )
 
 -- the runs of a header are those that were written, with adjacent ones merged
 pub runs-read : (n b : List ℕ) (runs : List Run) → AreRuns runs → Written n b runs → runs_in n ≡ merged runs
@@ -98,15 +148,17 @@ pub record Fielded (b : List ℕ) (h : Hdr) : Type 0 where
 pub sound-fielded : (b : List ℕ) (h : Hdr) → Sound b h → Fielded b h
 sound-fielded b h s = record { used = s.used; level = s.level; offsets = s.offsets; volume = s.volume; alone = s.alone; tells = tells-of b h s.fields }
 
--- is sound with runs
-written-map : (n b : List ℕ) (runs : List Run) → has_offsets b ≡ true → AreRuns runs → length (map_words runs) ≤ 2 * map_area b → Written n b runs → has_map n ≡ true
+-- the pointers that were written fit their words
+pub map-true : (n b : List ℕ) (runs : List Run) → has_offsets b ≡ true → AreRuns runs → length (map_words runs) ≤ 2 * map_area b → Same n b 0 24
+    → map_bytes n ≡ map_words runs → map_in_use n ≡ length (map_words runs) / 2 → has_map n ≡ true
 unfolding has_map
-written-map n b runs off are room w =
+map-true n b runs off are room front words used =
     let none = rest_of-words runs are in
-    let start : map_offset n ≡ map_offset b = same-byte n b 0 24 1 w.front (omega arith) (omega arith) in
-    let behind : access_offset n ≡ access_offset b = same-byte n b 0 24 2 w.front (omega arith) (omega arith) in
-    rw (w.words, none, w.used, behind, start, le-leb (length (map_words runs) / 2) (map_area b) (omega arith)) refl
+    let start : map_offset n ≡ map_offset b = same-byte n b 0 24 1 front (omega arith) (omega arith) in
+    let behind : access_offset n ≡ access_offset b = same-byte n b 0 24 2 front (omega arith) (omega arith) in
+    rw (words, none, used, behind, start, le-leb (length (map_words runs) / 2) (map_area b) (omega arith)) refl
 
+-- is sound with runs
 pub runs-sound : (b : List ℕ) (h : Hdr) (runs : List Run) → length b ≡ 512 → Fielded b h → AreRuns runs → length (map_words runs) ≤ 2 * map_area b
     → blocks_in runs < 2 ^ 32 → h.end ≤ blocks_in runs + 1 → h.byte ≤ 511 → h.mark ≤ blocks_in runs + 1
     → Sound (with_runs b runs) (record h { blocks = blocks_in runs })
@@ -141,7 +193,7 @@ runs-sound b h runs long f are room fits end byte mark =
       offsets = same.offsets ∙ f.offsets;
       volume = same.volume ∙ f.volume;
       alone = same.alone ∙ f.alone;
-      map = written-map n b runs f.offsets are room w;
+      map = map-true n b runs f.offsets are room w.front w.words w.used;
       size = blocks-true n (read ∙ sym w.blocks);
       ends = ends-true n (record {
         end = omega (arith, told.end, w.blocks);

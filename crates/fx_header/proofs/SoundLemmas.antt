@@ -73,6 +73,10 @@ reads-sound b h read =
 pub Same : List ℕ → List ℕ → ℕ → ℕ → Type 0
 Same a b lo hi = (k : ℕ) → lo ≤ k → k < hi → get_or a k 0 ≡ get_or b k 0
 
+pub same-of : (a b : List ℕ) (lo hi : ℕ) → ((k : ℕ) → lo ≤ k → k < hi → get_or a k 0 ≡ get_or b k 0) → Same a b lo hi
+unfolding Same
+same-of a b lo hi same = same
+
 pub same-within : (a b : List ℕ) (lo hi from to : ℕ) → Same a b lo hi → lo ≤ from → to ≤ hi → Same a b from to
 unfolding Same
 same-within a b lo hi from to same h l k x y = same k (omega arith) (omega arith)
@@ -93,27 +97,27 @@ pub same-byte : (a b : List ℕ) (lo hi k : ℕ) → Same a b lo hi → lo ≤ k
 unfolding Same
 same-byte a b lo hi k same h l = same k h l
 
-same-used : (a b : List ℕ) → Same a b 0 24 → is_free a ≡ is_free b
+pub same-used : (a b : List ℕ) → Same a b 0 14 → is_free a ≡ is_free b
 unfolding is_free
-same-used a b same = rw (same-byte a b 0 24 13 same (omega arith) (omega arith), same-field a b 0 24 8 2 same (omega arith) (omega arith)) refl
+same-used a b same = rw (same-byte a b 0 14 13 same (omega arith) (omega arith), same-field a b 0 14 8 2 same (omega arith) (omega arith)) refl
 
-same-level : (a b : List ℕ) → Same a b 0 24 → has_level a ≡ has_level b
+pub same-level : (a b : List ℕ) → Same a b 0 14 → has_level a ≡ has_level b
 unfolding has_level
-same-level a b same = rw (same-byte a b 0 24 7 same (omega arith) (omega arith)) refl
+same-level a b same = rw (same-byte a b 0 14 7 same (omega arith) (omega arith)) refl
 
-same-offsets : (a b : List ℕ) → Same a b 0 24 → has_offsets a ≡ has_offsets b
+pub same-offsets : (a b : List ℕ) → Same a b 0 14 → has_offsets a ≡ has_offsets b
 unfolding has_offsets
 same-offsets a b same =
     rw (
-      same-byte a b 0 24 0 same (omega arith) (omega arith),
-      same-byte a b 0 24 1 same (omega arith) (omega arith),
-      same-byte a b 0 24 2 same (omega arith) (omega arith),
-      same-byte a b 0 24 3 same (omega arith) (omega arith),
+      same-byte a b 0 14 0 same (omega arith) (omega arith),
+      same-byte a b 0 14 1 same (omega arith) (omega arith),
+      same-byte a b 0 14 2 same (omega arith) (omega arith),
+      same-byte a b 0 14 3 same (omega arith) (omega arith),
     ) refl
 
-same-volume : (a b : List ℕ) → Same a b 0 24 → is_on_this_volume a ≡ is_on_this_volume b
+pub same-volume : (a b : List ℕ) → Same a b 0 14 → is_on_this_volume a ≡ is_on_this_volume b
 unfolding is_on_this_volume
-same-volume a b same = rw (same-byte a b 0 24 12 same (omega arith) (omega arith)) refl
+same-volume a b same = rw (same-byte a b 0 14 12 same (omega arith) (omega arith)) refl
 
 same-alone : (a b : List ℕ) → Same a b 0 24 → is_alone a ≡ is_alone b
 unfolding is_alone
@@ -121,10 +125,10 @@ same-alone a b same = rw (same-field a b 0 24 4 2 same (omega arith) (omega arit
 
 pub same-front : (a b : List ℕ) → Same a b 0 24 → SameFront a b
 same-front a b same = record {
-  used = same-used a b same;
-  level = same-level a b same;
-  offsets = same-offsets a b same;
-  volume = same-volume a b same;
+  used = same-used a b (same-within a b 0 24 0 14 same (omega arith) (omega arith));
+  level = same-level a b (same-within a b 0 24 0 14 same (omega arith) (omega arith));
+  offsets = same-offsets a b (same-within a b 0 24 0 14 same (omega arith) (omega arith));
+  volume = same-volume a b (same-within a b 0 24 0 14 same (omega arith) (omega arith));
   alone = same-alone a b same;
 }
 
@@ -233,15 +237,20 @@ unfolding has_sum
 sum-true b l = eq-eqb (field (summed b) 510 2) (checksum (summed b) 255) (field-summed b l ∙ sym (checksum-summed b l))
 
 -- a block that has the map area of another has its runs
-pub same-map : (n b : List ℕ) → length n ≡ length b → has_offsets b ≡ true → has_map b ≡ true
-    → Same n b 0 24 → Same n b 58 59 → Same n b 80 510 → (map_bytes n ≡ map_bytes b) × (has_map n ≡ true)
+pub same-area : (n b : List ℕ) → length n ≡ length b → has_offsets b ≡ true → has_map b ≡ true
+    → Same n b 0 14 → Same n b 58 59 → Same n b 80 510 → (map_bytes n ≡ map_bytes b) × (has_map n ≡ true)
 unfolding has_map
-same-map n b long off fits front words area =
+same-area n b long off fits front words area =
     let at = areas-of b off in
     let few = map-fits b fits in
-    let start : map_offset n ≡ map_offset b = same-byte n b 0 24 1 front (omega arith) (omega arith) in
-    let behind : access_offset n ≡ access_offset b = same-byte n b 0 24 2 front (omega arith) (omega arith) in
+    let start : map_offset n ≡ map_offset b = same-byte n b 0 14 1 front (omega arith) (omega arith) in
+    let behind : access_offset n ≡ access_offset b = same-byte n b 0 14 2 front (omega arith) (omega arith) in
     let used : map_in_use n ≡ map_in_use b = same-byte n b 58 59 58 words (omega arith) (omega arith) in
     let bytes : map_bytes n ≡ map_bytes b =
     rw (start, used) (same-range n b 80 510 (2 * map_offset b) (2 * (map_offset b + map_in_use b)) long area (omega arith) (omega arith)) in
     (bytes, rw (bytes, used, behind, start) fits)
+
+pub same-map : (n b : List ℕ) → length n ≡ length b → has_offsets b ≡ true → has_map b ≡ true
+    → Same n b 0 24 → Same n b 58 59 → Same n b 80 510 → (map_bytes n ≡ map_bytes b) × (has_map n ≡ true)
+same-map n b long off fits front words area =
+    same-area n b long off fits (same-within n b 0 24 0 14 front (omega arith) (omega arith)) words area

@@ -1,5 +1,5 @@
 -- File headers: what each field of a header's block says, and the faults that a header can have.
-use Rattle.std.specs.Prelude.{◌≡◌, ◌≤◌, ◌+◌, ◌-◌, ◌*◌, ◌/◌, ◌%◌, ◌^◌, ◌==◌, ◌&&◌, not, nat_le, ℕ, List, [], ◌∷◌, ◌++◌, take, drop, replicate, length, slice_index, slice_range, Bool, Result, Ok, Err, if◌then◌else◌, bit_and, bit_or, IsTrue, ⊤}
+use Rattle.std.specs.Prelude.{◌≡◌, ◌≤◌, ◌+◌, ◌-◌, ◌*◌, ◌/◌, ◌%◌, ◌^◌, ◌==◌, ◌&&◌, not, nat_le, ℕ, List, [], ◌∷◌, ◌++◌, take, drop, replicate, length, slice_index, slice_range, Bool, false, Result, Ok, Err, if◌then◌else◌, bit_and, bit_or, IsTrue, ⊤}
 use Rattle.bitflags.specs.Sets.{without}
 use Rattle.base_words.specs.Fields.{Block, field, put, put_field, summed, has_sum}
 use Rattle.base_words.specs.Tables.{Table, zeros, laid}
@@ -154,17 +154,17 @@ HasRuns b (Used h) = IsTrue (has_offsets b) × IsTrue (has_map b)
 abbrev pub high_first_rows : ℕ → ℕ → Table
 high_first_rows o n = (o, 2, n / 2 ^ 16) ∷ (o + 2, 2, n % 2 ^ 16) ∷ []
 
--- the rows of a file identifier: the number, the sequence number, and the number's high byte behind that of the volume
+-- the rows of a file identifier: the number, the sequence number, volume 0, and the number's high byte
 abbrev pub id_rows : ℕ → ℕ → ℕ → Table
-id_rows o num seq = (o, 2, num % 2 ^ 16) ∷ (o + 2, 2, seq) ∷ (o + 5, 1, num / 2 ^ 16) ∷ []
+id_rows o num seq = (o, 2, num % 2 ^ 16) ∷ (o + 2, 2, seq) ∷ (o + 4, 1, 0) ∷ (o + 5, 1, num / 2 ^ 16) ∷ []
 
 -- the file characteristics
 abbrev pub flags_of : Hdr → ℕ
 flags_of h = (if h.dir then 2 ^ 13 else 0) + (if h.marked then 2 ^ 15 else 0)
 
--- the rows of a new header: where its areas begin, and version 1 of structure level 2
-unfoldable pub area_rows : Table
-area_rows = (0, 1, 40) ∷ (1, 1, 100) ∷ (2, 1, 255) ∷ (3, 1, 255) ∷ (6, 1, 1) ∷ (7, 1, 2) ∷ []
+-- the rows of a new header: where its areas begin, which header of the file it is, and version 1 of structure level 2
+unfoldable pub area_rows : ℕ → Table
+area_rows seg = (0, 1, 40) ∷ (1, 1, 100) ∷ (2, 1, 255) ∷ (3, 1, 255) ∷ (4, 2, seg) ∷ (6, 1, 1) ∷ (7, 1, 2) ∷ []
 
 -- its blocks and its end of file
 unfoldable pub size_rows : ℕ → ℕ → ℕ → Table
@@ -177,7 +177,9 @@ owner_rows flags owner parent mark = (52, 4, flags) ∷ (60, 4, owner) ∷ id_ro
 -- all of its fields; those that are not named are zero
 abbrev pub new_rows : Hdr → ℕ × ℕ → Table
 new_rows h parent =
-    area_rows ++ (id_rows 8 h.num h.seq ++ (size_rows h.blocks h.end h.byte ++ owner_rows (flags_of h) h.owner parent h.mark))
+    area_rows h.seg
+    ++ (id_rows 8 h.num h.seq
+    ++ (id_rows 14 h.ext h.ext_seq ++ (size_rows h.blocks h.end h.byte ++ owner_rows (flags_of h) h.owner parent h.mark)))
 
 -- the first n characters of a text, filled with spaces
 abbrev pub filled : ℕ → List ℕ → List ℕ
@@ -216,12 +218,52 @@ unfoldable pub with_end : Block → ℕ → ℕ → Block
 with_end b end byte = summed (put_field (laid (high_first_rows 28 end) b) 32 2 byte)
 
 -- a header with other words in use in its map area; those behind them stay
-abbrev pub with_map : Block → List ℕ → Block
-with_map b words = put_field (put b (2 * map_offset b) words) 58 1 (length words / 2)
+abbrev pub with_words : Block → List ℕ → Block
+with_words b words = put_field (put b (2 * map_offset b) words) 58 1 (length words / 2)
 
 -- a header with other runs, and their blocks
 unfoldable pub with_runs : Block → List Run → Block
-with_runs b runs = summed (laid (high_first_rows 24 (blocks_in runs)) (with_map b (map_words runs)))
+with_runs b runs = summed (laid (high_first_rows 24 (blocks_in runs)) (with_words b (map_words runs)))
+
+-- a header with other runs alone: its blocks stay
+unfoldable pub with_map : Block → List Run → Block
+with_map b runs = summed (with_words b (map_words runs))
+
+-- a header with other blocks alone: its runs stay
+unfoldable pub with_blocks : Block → ℕ → Block
+with_blocks b blocks = summed (laid (high_first_rows 24 blocks) b)
+
+-- a header with another next header
+unfoldable pub with_link : Block → ℕ → ℕ → Block
+with_link b num seq = summed (laid (id_rows 14 num seq) b)
+
+-- ---- what they leave
+
+-- The new block has its checksum, and the tests that look at neither the runs, their blocks nor the other headers of the
+-- file answer as before. The map area stays where it is.
+pub record KeepsTests (old : Block) (new : Block) : Type 0 where
+  pub used : is_free new ≡ is_free old
+  pub sum : IsTrue (has_sum new)
+  pub level : has_level new ≡ has_level old
+  pub offsets : has_offsets new ≡ has_offsets old
+  pub volume : is_on_this_volume new ≡ is_on_this_volume old
+  pub area : map_area new ≡ map_area old
+
+-- runs that can be read stay
+abbrev pub LeavesRuns : Block → Block → Type 0
+LeavesRuns old new = IsTrue (has_offsets old) → IsTrue (has_map old) → (runs_in new ≡ runs_in old) × IsTrue (has_map new)
+
+-- the tests of a header in use that look at neither the runs, their blocks nor the other headers of the file
+pub record IsMade (b : Block) : Type 0 where
+  pub used : is_free b ≡ false
+  pub sum : IsTrue (has_sum b)
+  pub level : IsTrue (has_level b)
+  pub offsets : IsTrue (has_offsets b)
+  pub volume : IsTrue (is_on_this_volume b)
+
+-- the header is the only one of its file
+abbrev pub IsLone : Hdr → Type 0
+IsLone h = (h.seg ≡ 0) × (h.ext ≡ 0) × (h.ext_seq ≡ 0)
 
 -- a new header reads back, with any runs of as many blocks that have room in its map area, and so do they
 abbrev pub ReadsBack : Block → Hdr → Type 0

@@ -13,6 +13,9 @@
 //! only if the pointers do not fit, and then changes nothing; otherwise the runs read back, adjacent ones merged. No call takes
 //! memory.
 //!
+//! A file may have several headers, each of which names the next one. `set_map`, `set_blocks` and `set_link` write the runs
+//! of one header, the blocks of the file and the next header, each alone; the other fields and tests stay (`fields`, `tests`).
+//!
 //! `vol_parts`, the writes of commands (`op_steps`, `op_create`) and mending use it.
 #![tactic(auto)]
 
@@ -25,9 +28,11 @@ mod slot;
 mod write;
 
 pub use base_words::Block;
-pub use map::set_runs;
+pub use map::{set_map, set_runs};
 pub use pointers::{RunIter, runs};
 pub use read::read_header;
 pub use run::Run;
 pub use slot::{Hdr, HeaderFault, Slot};
-pub use write::{clear_contig, free_slot, new_header, set_end, set_mark, set_marked};
+pub use write::{
+    clear_contig, free_slot, new_header, set_blocks, set_end, set_link, set_mark, set_marked,
+};

@@ -1,7 +1,7 @@
 ghost use Rattle.std.specs.Prelude.{◌≡◌, ◌+◌, ◌-◌, ◌*◌, ◌≤◌, ◌<◌, IsTrue, nat_le, false, length};
 ghost use Rattle.fx_header.specs.declared.slot.Hdr.{Hdr};
 ghost use Rattle.fx_header.specs.declared.slot.Slot.TheVariants.{Used};
-ghost use Rattle.fx_header.specs.Headers.{has_offsets, map_area, runs_in, header_read, with_runs};
+ghost use Rattle.fx_header.specs.Headers.{has_offsets, has_map, map_area, runs_in, fields_of, header_read, with_words, with_runs, with_map, KeepsTests};
 ghost use Rattle.fx_header.specs.Pointers.{IsRun, AreRuns, SplitsRun, Appended, pointer_bytes, merged, map_words, blocks_in, lbns_in};
 
 use crate::run::Run;
@@ -77,11 +77,32 @@ fn spell(map: &mut Block, room: usize, runs: &[Run]) -> Option<usize>
     Some(used)
 }
 
+/// Writes runs into the map area, and how many words are then in use. The answer is false, and the block is unchanged, where
+/// the pointers need more words than the map area has.
+#[tactic(auto, unfolding(crate::specs::Headers::has_offsets))]
+fn put_map(b: &mut Block, runs: &[Run]) -> bool
+    requires offsets { IsTrue (has_offsets b.old) }
+    requires runs { AreRuns runs.now }
+    ensures fits { result ≡ nat_le (length (map_words runs.now)) (2 * map_area b.old) }
+    ensures written { IsTrue result → b.new ≡ with_words b.old (map_words runs.now) }
+    ensures same { result ≡ false → b.new ≡ b.old }
+{
+    let mut map = zeros();
+    let [map_offset, access_offset] = [b[1], b[2]];
+    let room = 2 * usize::from(access_offset - map_offset);
+    let Some(used) = spell(&mut map, room, runs) else {
+        return false;
+    };
+    put_bytes(b, 2 * usize::from(map_offset), &map[..used]);
+    put_byte(b, 58, (used / 2) as u8);
+    true
+}
+
 /// Writes a file's runs into the map area, with adjacent ones merged and each pointer in the first of the formats 1, 2 and
 /// 3 that has room for it; besides, the words in use, the blocks (HIBLK) and the checksum. Words behind those in use stay
 /// as they were. The answer is false, and the block is unchanged, where the pointers need more words than the map area
 /// has. Each run has a block at least and ends at or before LBN 65,536, and together they have at most 65,536 blocks.
-#[tactic(auto, unfolding(crate::specs::Headers::has_offsets, crate::specs::Headers::with_runs))]
+#[tactic(auto, unfolding(crate::specs::Headers::with_runs))]
 pub fn set_runs(b: &mut Block, runs: &[Run]) -> bool
     requires offsets { IsTrue (has_offsets b.old) }
     requires runs { AreRuns runs.now }
@@ -95,15 +116,32 @@ pub fn set_runs(b: &mut Block, runs: &[Run]) -> bool
         → h.end ≤ blocks_in runs.now + 1 → h.mark ≤ blocks_in runs.now + 1
         → header_read b.new ≡ Ok (Used (record h { blocks = blocks_in runs.now })) }
 {
-    let mut map = zeros();
-    let [map_offset, access_offset] = [b[1], b[2]];
-    let room = 2 * usize::from(access_offset - map_offset);
-    let Some(used) = spell(&mut map, room, runs) else {
+    if !put_map(b, runs) {
         return false;
-    };
-    put_bytes(b, 2 * usize::from(map_offset), &map[..used]);
-    put_byte(b, 58, (used / 2) as u8);
+    }
     put_high_first(b, 24, runs.iter().map(|r| r.count).sum());
+    set_sum(b);
+    true
+}
+
+/// Writes runs into the map area of one of a file's headers, as `set_runs` does, but leaves the file's blocks (HIBLK) as they
+/// are: these stand in the first header for all.
+#[tactic(auto, unfolding(crate::specs::Headers::with_map))]
+pub fn set_map(b: &mut Block, runs: &[Run]) -> bool
+    requires offsets { IsTrue (has_offsets b.old) }
+    requires runs { AreRuns runs.now }
+    ensures fits { result ≡ nat_le (length (map_words runs.now)) (2 * map_area b.old) }
+    ensures written { IsTrue result → b.new ≡ with_map b.old runs.now }
+    ensures same { result ≡ false → b.new ≡ b.old }
+    ensures runs { IsTrue result → runs_in b.new ≡ merged runs.now }
+    ensures blocks { IsTrue result → lbns_in (runs_in b.new) ≡ lbns_in runs.now }
+    ensures map { IsTrue result → IsTrue (has_map b.new) }
+    ensures fields { IsTrue result → fields_of b.new ≡ fields_of b.old }
+    ensures tests { IsTrue result → KeepsTests b.old b.new }
+{
+    if !put_map(b, runs) {
+        return false;
+    }
     set_sum(b);
     true
 }

@@ -3,7 +3,7 @@ ghost use Rattle.base_words.specs.Fields.{put_field};
 ghost use Rattle.base_words.specs.Tables.{laid};
 ghost use Rattle.fx_header.specs.declared.slot.Hdr.{Hdr};
 ghost use Rattle.fx_header.specs.declared.slot.Slot.TheVariants.{Free, Used};
-ghost use Rattle.fx_header.specs.Headers.{filled, high_first_rows, id_rows, area_rows, size_rows, owner_rows, with_name, flags_of, header_bytes, freed, marked, scattered, with_mark, with_end, has_offsets, map_area, header_read, ReadsBack};
+ghost use Rattle.fx_header.specs.Headers.{filled, high_first_rows, id_rows, area_rows, size_rows, owner_rows, with_name, flags_of, header_bytes, freed, marked, scattered, with_mark, with_end, with_blocks, with_link, has_offsets, map_area, fields_of, header_read, KeepsTests, LeavesRuns, IsMade, IsLone, ReadsBack};
 
 use crate::flags::FileFlags;
 use crate::slot::Hdr;
@@ -27,7 +27,7 @@ pub(crate) fn put_high_first(b: &mut Block, o: usize, n: u32)
     put_word(b, o + 2, (n & 0xffff) as u16);
 }
 
-/// Writes a file identifier's number and sequence number.
+/// Writes a file identifier: the number and the sequence number, on volume 0.
 fn put_id(b: &mut Block, o: usize, num: u32, seq: u16)
     requires room { o + 6 ≤ 512 }
     requires number { num < 2 ^ 24 }
@@ -35,7 +35,20 @@ fn put_id(b: &mut Block, o: usize, num: u32, seq: u16)
 {
     put_word(b, o, (num & 0xffff) as u16);
     put_word(b, o + 2, seq);
+    put_byte(b, o + 4, 0);
     put_byte(b, o + 5, (num >> 16) as u8);
+}
+
+/// Writes which file a header is of, and which header of the file is the next one.
+fn put_ids(b: &mut Block, h: &Hdr)
+    requires number { h.now.num < 2 ^ 24 }
+    requires next { h.now.ext < 2 ^ 24 }
+    ensures written { b.new ≡ laid (id_rows 14 h.now.ext h.now.ext_seq) (laid (id_rows 8 h.now.num h.now.seq) b.old) }
+    ensures seq { h.now.seq < 2 ^ 16 }
+    ensures ext_seq { h.now.ext_seq < 2 ^ 16 }
+{
+    put_id(b, 8, h.num, h.seq);
+    put_id(b, 14, h.ext, h.ext_seq);
 }
 
 /// The file characteristics of a header.
@@ -76,15 +89,16 @@ fn put_name(b: &mut Block, text: &[u8])
     put_bytes(b, 134, &back);
 }
 
-/// Writes where the areas of a header begin, and the structure level.
+/// Writes where the areas of a header begin, which header of its file it is, and the structure level.
 #[tactic(auto, unfolding(crate::specs::Headers::area_rows))]
-fn put_areas(b: &mut Block)
-    ensures { b.new ≡ laid area_rows b.old }
+fn put_areas(b: &mut Block, seg: u16)
+    ensures { b.new ≡ laid (area_rows seg) b.old }
 {
     put_byte(b, 0, 40);
     put_byte(b, 1, 100);
     put_byte(b, 2, 255);
     put_byte(b, 3, 255);
+    put_word(b, 4, seg);
     put_byte(b, 6, 1);
     put_byte(b, 7, 2);
 }
@@ -123,9 +137,10 @@ pub fn free_slot(seq: u16) -> Block
     b
 }
 
-/// The header of a new file, whose number is 1 to 16,777,215, and which has no other header. The text is its name as `NAME.TYP;1`, of which the ident
-/// area holds 86 characters, and `parent` is the number and the sequence number of its directory. The map area has 155
-/// words and is empty: `set_runs` fills it, and only then is the header sound.
+/// A new header of a file, whose number is 1 to 16,777,215. The text is the file's name as `NAME.TYP;1`, of which the ident
+/// area holds 86 characters, and `parent` is the number and the sequence number of its directory. Of the headers of the file
+/// it is number `seg`, and `ext` names the next one. The map area has 155 words and is empty: `set_runs` fills it, and only
+/// then is the header sound.
 #[tactic(auto, unfolding(crate::specs::Headers::header_bytes))]
 pub fn new_header(h: &Hdr, text: &[u8], parent: (u32, u16)) -> Block
     requires number { (1 ≤ h.now.num) × (h.now.num < 2 ^ 24) }
@@ -134,15 +149,18 @@ pub fn new_header(h: &Hdr, text: &[u8], parent: (u32, u16)) -> Block
     requires mark { h.now.mark ≤ h.now.blocks + 1 }
     requires end { h.now.end ≤ h.now.blocks + 1 }
     requires byte { h.now.byte ≤ 511 }
-    requires alone { (h.now.seg ≡ 0) × (h.now.ext ≡ 0) × (h.now.ext_seq ≡ 0) }
+    requires seg { h.now.seg ≤ 15 }
+    requires ext { h.now.ext ≤ 16777215 }
     ensures written { result ≡ header_bytes h.now text.now parent }
     ensures offsets { IsTrue (has_offsets result) }
     ensures area { map_area result ≡ 155 }
-    ensures reads { ReadsBack result h.now }
+    ensures fields { fields_of result ≡ h.now }
+    ensures made { IsMade result }
+    ensures reads { IsLone h.now → ReadsBack result h.now }
 {
     let mut b = zeros();
-    put_areas(&mut b);
-    put_id(&mut b, 8, h.num, h.seq);
+    put_areas(&mut b, h.seg);
+    put_ids(&mut b, h);
     put_size(&mut b, h.blocks, h.end, h.byte);
     put_owner(&mut b, flags_of(h), h.owner, parent, h.mark);
     put_name(&mut b, text);
@@ -195,5 +213,30 @@ pub fn set_end(b: &mut Block, end: u32, byte: u16)
 {
     put_high_first(b, 28, end);
     put_word(b, 32, byte);
+    set_sum(b);
+}
+
+/// Writes the blocks of the file (HIBLK) alone: the runs stay as they are.
+#[tactic(auto, unfolding(crate::specs::Headers::with_blocks))]
+pub fn set_blocks(b: &mut Block, blocks: u32)
+    ensures written { b.new ≡ with_blocks b.old blocks }
+    ensures fields { fields_of b.new ≡ record (fields_of b.old) { blocks = blocks } }
+    ensures runs { LeavesRuns b.old b.new }
+    ensures tests { KeepsTests b.old b.new }
+{
+    put_high_first(b, 24, blocks);
+    set_sum(b);
+}
+
+/// Writes the number and the sequence number of the file's next header (EXT_FID), 0 and 0 for none.
+#[tactic(auto, unfolding(crate::specs::Headers::with_link))]
+pub fn set_link(b: &mut Block, num: u32, seq: u16)
+    requires number { num ≤ 16777215 }
+    ensures written { b.new ≡ with_link b.old num seq }
+    ensures fields { fields_of b.new ≡ record (fields_of b.old) { ext = num; ext_seq = seq } }
+    ensures runs { LeavesRuns b.old b.new }
+    ensures tests { KeepsTests b.old b.new }
+{
+    put_id(b, 14, num, seq);
     set_sum(b);
 }

@@ -1,5 +1,5 @@
 -- The line of an entry is read as that entry.
-use Rattle.std.proofs.Common.{◌≡◌, ◌∙◌, ◌+◌, ◌-◌, ◌<◌, ◌^◌, ◌++◌, ℕ, zero, suc, true, false, not, cond, List, [], ◌∷◌, Option, Some, None, length, take, drop, get_or, leb, eqb, refl, sym, ap, subst, arith, inl, inr, codes, append_assoc, length-append}
+use Rattle.std.proofs.Common.{◌≡◌, ◌∙◌, ◌+◌, ◌-◌, ◌<◌, ◌^◌, ◌++◌, ℕ, zero, suc, true, false, not, cond, List, [], ◌∷◌, Option, Some, None, length, take, drop, get_or, eqb, refl, sym, ap, subst, arith, inl, inr, codes, append_assoc, length-append}
 use Rattle.std.specs.Prelude.{IfSome}
 use Rattle.std.specs.List.{list_all}
 use Rattle.std.specs.Fmt.{decimal}

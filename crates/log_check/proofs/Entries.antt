@@ -11,7 +11,7 @@ use Rattle.plain_cat.specs.declared.cat.Cat.{Cat}
 use Rattle.plain_cat.specs.InForm.{is_eighth}
 use Rattle.plain_texts.specs.Reports.{line_text, newline}
 use Rattle.plain_rules.specs.Accounts.{Accounted}
-use Rattle.plain_rules.specs.Lookups.{free_clusters}
+use Rattle.plain_rules.specs.Lookups.{free_clusters, free_count}
 use Rattle.plain_rules.specs.Replaying.{MayLeak, are_free, dead}
 use Rattle.plain_rules.proofs.Kept.{dead_keeps}
 use Rattle.plain_rules.specs.Checks.{is_quiet, IsLegal}
@@ -110,7 +110,8 @@ told_nexts i c text a ns d line none told node k accounted free is =
     let e : d ≡ dead c a.node a.clusters ns.items = is ∙ ap (dead c a.node a.clusters) (sym none) in
     let quiet = (and_parts (is_quiet a.stage) (a.numbers == 0) told).0 in
     let unused : are_free c ns.items ≡ true = ap (are_free c) none in
-    entry_nexts i c text (Died a.node a.stage a.clusters ns) d true line (none, k) refl refl (node, quiet, (free, unused), e) (subst Accounted (sym is) (dead_keeps c a.node a.clusters [] accounted))
+    let few : length ns.items ≤ free_count c = omega (arith, ap length none) in
+    entry_nexts i c text (Died a.node a.stage a.clusters ns) d true line (none, k) refl refl (node, quiet, (free, unused, few), e) (subst Accounted (sym is) (dead_keeps c a.node a.clusters [] accounted))
 
 -- one with more clusters than are free
 pub told_illegal : (i : ℕ) (c : Cat) (text : List ℕ) (a : Death) (ns : Spared ℕ) → ns.items ≡ [] → is_told a ≡ true → free_clusters c < a.clusters → IsDeathStep i c text a step.Stop

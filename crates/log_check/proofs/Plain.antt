@@ -1,5 +1,5 @@
 -- No line feed and no equals sign stands in the text of a command.
-use Rattle.std.proofs.Common.{◌≡◌, ◌+◌, ◌/◌, ◌%◌, ◌<◌, ◌^◌, ◌⊎◌, ◌++◌, ◌&&◌, ℕ, Bool, true, false, not, List, length, leb, eqb, refl, arith, inl, inr, codes}
+use Rattle.std.proofs.Common.{◌≡◌, ◌/◌, ◌%◌, ◌<◌, ◌^◌, ◌⊎◌, ◌++◌, ◌&&◌, ℕ, Bool, true, false, not, List, length, leb, eqb, refl, arith, inl, inr, codes}
 use Rattle.std.specs.Fmt.{decimal}
 use Rattle.std.specs.List.{list_all}
 use Rattle.std.proofs.lemmas.Bool.{and_parts, leb-true}

@@ -19,9 +19,8 @@ use Rattle.plain_texts.specs.Reports.{entry_line, line_text}
 use Rattle.plain_rules.specs.declared.outcome.Outcome.{Outcome}
 use Rattle.plain_rules.specs.Accounts.{Accounted}
 use Rattle.plain_rules.specs.Lookups.{slot_at, last_seq}
-use Rattle.plain_rules.specs.Answers.{extend_outcome, outcome, IsPick}
+use Rattle.plain_rules.specs.Answers.{outcome, IsPick}
 use Rattle.plain_rules.specs.Checks.{shown_number}
-use Rattle.plain_rules.specs.Laws.{makes_file}
 use Rattle.plain_rules.proofs.Standing.{stands_free}
 use Rattle.plain_rules.proofs.Picks.{pick_is_free}
 use Rattle.plain_rules.proofs.Choices.{no_answer}
@@ -32,18 +31,18 @@ use Rattle.log_check.specs.Commands.{IsSpeaking}
 use Rattle.log_check.specs.Lines.{body_of, reply_of, bracketed, shown_of}
 use Rattle.log_check.proofs.Drafted.{part-zero, short-back, answer-reply}
 use Rattle.log_check.specs.declared.steps.Step.TheVariants as step
-use Rattle.log_check.specs.Steps.{BeginsWith, IsNext, IsAnswerStep, IsChosen}
+use Rattle.log_check.specs.Steps.{BeginsWith, IsNext, IsAnswerStep, may_take_number, IsChosen}
 use Rattle.log_check.proofs.Told.{body-line, done-line, line-open}
 
--- a command that makes no file is answered alike whatever number is handed in
-any_choice : (c : Cat) (node : ℕ) (x : Cmd) (m k : Option ℕ) → makes_file x ≡ false → outcome c node x m ≡ outcome c node x k
-unfolding outcome extend_outcome
+-- a command that takes no number is answered alike whatever number is handed in
+any_choice : (c : Cat) (node : ℕ) (x : Cmd) (m k : Option ℕ) → may_take_number x ≡ false → outcome c node x m ≡ outcome c node x k
+unfolding outcome
 any_choice c node (cmd.Lookup x0 x1 x2 x3) m k h = refl
 any_choice c node (cmd.List x0) m k h = refl
 any_choice c node (cmd.Stat x0) m k h = refl
 any_choice c node (cmd.Create x0 x1 x2 x3 x4 x5) m k h = absurd (let no : ⊥ = cc in no)
 any_choice c node (cmd.MkDir x0 x1 x2 x3) m k h = absurd (let no : ⊥ = cc in no)
-any_choice c node (cmd.Extend x0 x1) m k h = refl
+any_choice c node (cmd.Extend x0 x1) m k h = absurd (let no : ⊥ = cc in no)
 any_choice c node (cmd.Trunc x0 x1) m k h = refl
 any_choice c node (cmd.Delete x0 x1 x2) m k h = refl
 any_choice c node (cmd.Rename x0 x1 x2 x3 x4) m k h = refl
@@ -56,10 +55,10 @@ any_choice c node (cmd.QuotaShow x0) m k h = refl
 
 -- ---- the number that a reply shows
 
--- a number that a new file can take is small
+-- a number that can be taken is small
 pub pick_small : (c : Cat) (n : ℕ) → Accounted c → IsPick c (Some n) → n < 2 ^ 32
 pick_small c n a p =
-    let inside : n - 1 < length c.files = slice_get_within c.files (n - 1) (Free (last_seq (slot_at c n))) (stands_free c n (pick_is_free c (Some n) p)) in
+    let inside : n - 1 < length c.files = slice_get_within c.files (n - 1) (Free (last_seq (slot_at c n))) (stands_free c n (pick_is_free c n p)) in
     omega (arith, inside, a.numbers)
 
 shown_text : (n : ℕ) (t : List ℕ) → n < 2 ^ 32 → shown_of (40 ∷ (decimal n ++ (44 ∷ t))) ≡ Some n
@@ -98,7 +97,7 @@ shown-back reply.QuotaKept n u h small = none_shown n h
 shown-back (reply.Usage usage quota over) n u h small = none_shown n h
 shown-back (reply.Refused why) n u h small = none_shown n h
 
--- the text of a reply shows the number that a new file can take
+-- the text of a reply shows the number that can be taken
 pub shown_pick : (c : Cat) (text : List ℕ) (r : Reply) (n : ℕ) (rest : List ℕ) → Accounted c → text ≡ reply_text r ++ (10 ∷ rest) → shown_number r ≡ Some n → IsPick c (Some n) → shown_of text ≡ Some n
 shown_pick c text r n rest a e shows pick = ap shown_of e ∙ shown-back r n (10 ∷ rest) shows (pick_small c n a pick)
 

@@ -7,7 +7,6 @@ use Rattle.plain_cat.specs.InForm.{is_eighth}
 use Rattle.plain_texts.specs.Commands.{command_text}
 use Rattle.plain_texts.specs.Reports.{stage_text, leaks_text, mended_text, node_text}
 use Rattle.run_script.specs.Steps.{part_of}
-use Rattle.log_check.specs.declared.drafts.Death.{Death}
 use Rattle.log_check.specs.declared.lines.Draft.{Draft}
 use Rattle.log_check.specs.declared.lines.Draft.TheVariants as draft
 use Rattle.log_check.specs.Drafts.{behind_first, death}

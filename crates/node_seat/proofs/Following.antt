@@ -1,7 +1,6 @@
 -- What a step of a node leaves as it was: the script, the opening catalogue, the places of the volume's parts; and that nodes die only
 -- where the script kills them, and nothing is mended.
 use Rattle.std.proofs.Common.{◌≡◌, ◌||◌, ◌++◌, not, ℕ, Bool, true, false, cond, List, [], ◌∷◌, Option, Some, None, refl, sym, ap, subst, ◌∙◌}
-use Rattle.std.specs.List.{list_any}
 use Rattle.std.proofs.lemmas.List.Folds.{list_any-append}
 use Rattle.plain_cat.specs.declared.command.Cmd.{Cmd}
 use Rattle.plain_cat.specs.declared.reply.Reply.{Reply}
@@ -13,7 +12,7 @@ use Rattle.plain_past.proofs.Growing.{killed_grows}
 use Rattle.core_state.specs.Worlds.{NodeState, Plain, node_at}
 use Rattle.core_state.specs.Event.{Event}
 use Rattle.core_state.specs.Event as event
-use Rattle.core_state.specs.Deaths.{death_of, kills, kills_at, is_due, died_at, died, after_step}
+use Rattle.core_state.specs.Deaths.{death_of, kills_at, is_due, died_at, died, after_step}
 use Rattle.core_state.specs.Events.{would_go, asked_by, answered_by, readied_at, readied, next_event, happens, happen_at, after_turn, is_over}
 use Rattle.node_seat.specs.Keeping.{IsOrderly}
 use Rattle.core_state.proofs.Kills.{any_kill}

@@ -43,15 +43,15 @@ use Rattle.op_law.specs.Channels.{close_ask, close_plan}
 use Rattle.op_law.specs.Fits.{things}
 use Rattle.op_law.specs.Freeing.{blocks_for, all_clusters}
 use Rattle.op_law.specs.Knows.{is_granted, knows}
-use Rattle.plain_rules.specs.Opens.{goes_with}
-use Rattle.plain_rules.specs.Opens.{is_held_open}
+use Rattle.plain_rules.specs.Opens.{goes_with, is_held_open}
 use Rattle.op_law.specs.Laws.{planned, under_way}
 use Rattle.op_law.specs.Writing.{empty_handed}
 use Rattle.op_law.proofs.Asking.{IsDoneBy}
 use Rattle.op_law.proofs.Doing.{AreDone}
-use Rattle.op_law.proofs.Telling.{file_blocks, file_told_at}
+use Rattle.vol_spell.proofs.HeadSlots.{file_blocks, file_told_at}
 use Rattle.op_steps.specs.Chained.{Chain, StandsOn}
-use Rattle.op_steps.specs.Files.{file_in, IsFileThere}
+use Rattle.op_steps.specs.Files.{file_in}
+use Rattle.vol_spell.specs.Files.{IsFileThere}
 use Rattle.op_freeing.specs.BitmapWrites.{storage_places}
 use Rattle.op_freeing.proofs.Endings.{held_keeps_out}
 use Rattle.op_freeing.specs.GoneWrites.{space_at, gone_writes, gone}

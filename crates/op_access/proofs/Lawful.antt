@@ -39,7 +39,7 @@ use Rattle.op_law.specs.Rows.{answers}
 use Rattle.op_law.proofs.Asking.{IsDoneBy, asks_lawful}
 use Rattle.op_law.proofs.Doing.{refusal_done}
 use Rattle.op_law.proofs.Ends.{nothing_given}
-use Rattle.op_law.proofs.Telling.{file_blocks, file_told_at}
+use Rattle.vol_spell.proofs.HeadSlots.{file_blocks, file_told_at}
 use Rattle.op_law.proofs.Through.{header_obeys}
 use Rattle.op_law.proofs.Walking.{ObeysBy, kept}
 use Rattle.op_steps.specs.Files.{file_in}
@@ -83,15 +83,15 @@ module _ (chan : ℕ) (is : is_eighth chan ≡ true) where
 
       module _ (h : Hdr) (number : IsFileNumber seen.geometry p.file.num) (used : used_in p.file.seq (header_block seen.geometry bs p.file.num) ≡ Some h) where
         file_level : level c (S p.file.num) ≡ 0
-        file_level = ap (λ (o : Option File). cond (is_some o) 0 4) (file_told_at g bs own c s p.file.num h number (used_reads p.file.seq _ h used))
+        file_level = ap (λ (o : Option File). cond (is_some o) 0 4) (file_told_at g bs own c s p.file.num h number (used_reads p.file.seq (header_block seen.geometry bs p.file.num) h used))
 
         by_marked : (t : Bool) → h.marked ≡ t
             → O (cond t (through_space g (file_in g bs n h) (λ sp. Make (close_plan n chan p.mode (freeing_writes g (file_in g bs n h) sp)))) (answers (reply.Closed false))) first
         by_marked true marked =
             space_obeys x g bs own c s seen Done n h refl (Higher (let z = file_level in omega arith)) (Higher (let z = file_level in omega arith)) (Higher (omega arith))
             (λ sp. close_plan n chan p.mode (freeing_writes g (file_in g bs n h) sp))
-            (plan_done node seen bs own c s stock given outs chan is p has hold h number (used_reads p.file.seq _ h used) marked)
-        by_marked false unmarked = stays_done node seen bs own c s stock given outs chan is p has hold h number (used_reads p.file.seq _ h used) unmarked first
+            (plan_done node seen bs own c s stock given outs chan is p has hold h number (used_reads p.file.seq (header_block seen.geometry bs p.file.num) h used) marked)
+        by_marked false unmarked = stays_done node seen bs own c s stock given outs chan is p has hold h number (used_reads p.file.seq (header_block seen.geometry bs p.file.num) h used) unmarked first
 
       by_used : IsFileNumber seen.geometry p.file.num → (o : Option Hdr) → used_in p.file.seq (header_block seen.geometry bs p.file.num) ≡ o
           → O (if_file (answers (reply.Closed false)) (close_in seen.geometry chan p.mode) (option_map (seen_file seen.geometry p.file.num (header_block seen.geometry bs p.file.num)) o)) first

@@ -10,7 +10,7 @@ use Rattle.plain_cat.specs.declared.entries.DirEnt.{DirEnt}
 use Rattle.plain_cat.specs.declared.command.Cmd.{Cmd}
 use Rattle.plain_cat.specs.declared.command.Cmd.TheVariants as cmd
 use Rattle.plain_cat.specs.declared.cat.File.{File}
-use Rattle.plain_rules.specs.Lookups.{versions}
+use Rattle.plain_rules.specs.Lookups.{versions, header_most}
 use Rattle.plain_rules.specs.Directories.{inserted, is_nil, fits, nowhere, entry, new_version, is_taken}
 use Rattle.plain_rules.specs.Changes.{new_file}
 use Rattle.plain_rules.specs.Answers.{first_refusal, dir_name}
@@ -50,7 +50,7 @@ dir_named name e =
 
 -- what is made is within the limits of the format, and goes into a directory with these entries
 pub record IsInOrder (g : Geometry) (m : Maker) (es : List DirEnt) : Type 0 where
-  pub few : m.file.clusters ≤ 77
+  pub few : m.file.clusters ≤ header_most
   pub owner : m.file.owner.0 < 2 ^ 32
   pub name : is_name m.name ≡ true
   pub ver_from : 1 ≤ m.ver es
@@ -72,7 +72,7 @@ in_order g (cmd.Create reg dir name ver blocks owner) is es e =
     let b = and_parts (is_version ver) (is_count blocks && is_owner owner) a.1 in
     let o = and_parts (is_count blocks) (is_owner owner) b.1 in
     let p = passed (create_refusals g es name ver (clusters_for g blocks)) e in
-    let low : (clusters_for g blocks) ≤ 77 = (let h = p.1.1.0 in grind (arith, nat_tests)) in
+    let low : (clusters_for g blocks) ≤ header_most = (let h = p.1.1.0 in grind (arith, nat_tests)) in
     record {
       few = low;
       owner = owner_low owner.0 o.1;

@@ -106,11 +106,11 @@ module _ (x : Cmd) (is : IsMake x) (node : ℕ) (seen : Seen) where
             let outs_are = making_outs g (dir_in g bs m.dir) (blocks_at bs (quota_places g)) new n qs (things seen.clusters seen.number) in
             let enough : m.file.clusters ≤ free_clusters c = subst (λ j. j ≤ free_clusters c) count space.enough in (
               after_for g c m d n,
-              subst (λ st. StandsAt c node (Some x) st (after_for g c m d n)) (sym stage_is) (stands_done g c s.constants.factor node x is d dir.live dir.dir order_at paid n enough space.free),
+              subst (λ st. StandsAt c node (Some x) st (after_for g c m d n)) (sym stage_is) (stands_done g c s.constants.factor node x is d dir.live dir.dir order_at paid n enough space.pick),
               spelt,
               subst (λ t. Outs node own' t stock) (sym outs_are) outs',
               c.opens,
-              makes_answer g c s.constants.factor node x is d dir.live dir.dir order_at paid n enough space.free,
+              makes_answer g c s.constants.factor node x is d dir.live dir.dir order_at paid n enough space.pick,
             )
 
         made_done : Done k_locks (made_plan (numbered (header_block g bs n) (to_make m es)))

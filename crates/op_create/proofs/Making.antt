@@ -106,13 +106,13 @@ module _ (x : Cmd) (is : IsMake x) (node : ℕ) (g : Geometry) (bs : List Block)
   apart h = not_live_number c m.dir d n space.free lives h
 
   charged_at : StandsAt c node (Some x) stage.Charged (charged c m.file.owner cost)
-  charged_at = stands_charged g c s.constants.factor node x is d lives dir.dir order paid n enough space.free
+  charged_at = stands_charged g c s.constants.factor node x is d lives dir.dir order paid n enough space.pick
 
   lost_at : StandsAt c node (Some x) stage.Lost (lost_for g c m n)
-  lost_at = stands_lost g c s.constants.factor node x is d lives dir.dir order paid n enough space.free
+  lost_at = stands_lost g c s.constants.factor node x is d lives dir.dir order paid n enough space.pick
 
   done_at : StandsAt c node (Some x) stage.Done (after_for g c m d n)
-  done_at = stands_done g c s.constants.factor node x is d lives dir.dir order paid n enough space.free
+  done_at = stands_done g c s.constants.factor node x is d lives dir.dir order paid n enough space.pick
 
   -- the row that is charged stays in range
   within : over_quota (row_of m.file.owner c.quota) cost ≡ false

@@ -13,12 +13,11 @@ use Rattle.plain_cat.specs.declared.reply.Refusal.TheVariants as refusal
 use Rattle.plain_cat.specs.declared.cat.Cat.{Cat}
 use Rattle.plain_cat.specs.declared.cat.File.{File}
 use Rattle.plain_rules.specs.declared.outcome.Outcome.{Outcome}
-use Rattle.plain_rules.specs.Lookups.{live, free_clusters, is_free_number}
+use Rattle.plain_rules.specs.Lookups.{live, free_clusters}
 use Rattle.plain_rules.specs.Directories.{inserted, entry}
 use Rattle.plain_rules.specs.Changes.{new_fid, charged, with_file, with_entries}
 use Rattle.plain_rules.specs.Answers.{refused, first_refusal, unless, in_directory_file, shown, made, create_outcome, create_refusal, mkdir_outcome, mkdir_refusal, outcome, IsPick, Answer}
 use Rattle.plain_rules.specs.Stages.{making_stage, create_stage, mkdir_stage, command_stage, stage_of, staged}
-use Rattle.plain_rules.proofs.Picks.{free_is_pick}
 use Rattle.plain_rules.proofs.LawSteps.{pick_exists}
 use Rattle.vol_parts.specs.declared.geometry.Geometry.{Geometry}
 use Rattle.vol_under.specs.UnderWay.{StandsAt}
@@ -137,10 +136,7 @@ module _ (g : Geometry) (c : Cat) (factor : c.factor ≡ g.cluster) (node : ℕ)
         (last_checks order paid (Some short.0) ∙ ap (λ t. cond t (Some refusal.DeviceFull) None) short.2))
     refuses_short order paid other short = absurd short
 
-    module _ (order : Shows None) (paid : PaidTo None) (n : ℕ) (enough : m.file.clusters ≤ free_clusters c) (free : is_free_number c n ≡ true) where
-      pick : IsPick c (Some n)
-      pick = free_is_pick c (Some n) free
-
+    module _ (order : Shows None) (paid : PaidTo None) (n : ℕ) (enough : m.file.clusters ≤ free_clusters c) (pick : IsPick c (Some n)) where
       makes : outcome c node x (Some n) ≡ made_by c m d n
       makes =
           let has : nat_lt (free_clusters c) m.file.clusters ≡ false = grind (arith, nat_tests) in

@@ -3,7 +3,7 @@ use Rattle.std.proofs.Common.{◌≡◌, ◌<◌, ◌+◌, ◌^◌, ◌∙◌, �
 use Rattle.std.specs.Prelude.{◌==◌, not, Result, Ok, Err}
 use Rattle.std.proofs.lemmas.Bool.Decides.{nat_tests}
 use Rattle.std.proofs.lemmas.Option.{slice_get-get_or}
-use Rattle.base_words.specs.Fields.{Block, IsBytes, field}
+use Rattle.base_words.specs.Fields.{Block, IsBytes, field, has_sum}
 use Rattle.base_words.proofs.Puts.{field-lt}
 use Rattle.fx_header.specs.declared.slot.Hdr.{Hdr}
 use Rattle.fx_header.specs.declared.slot.Slot.{Slot as Head}
@@ -11,7 +11,6 @@ use Rattle.fx_header.specs.declared.slot.Slot.TheVariants as head
 use Rattle.fx_header.specs.declared.slot.HeaderFault.{HeaderFault}
 use Rattle.fx_header.specs.declared.slot.HeaderFault.TheVariants.{BadSum, BadLevel, BadOffsets, BadRvn, BadExtension, BadMap, BadEnd}
 use Rattle.fx_header.specs.Headers.{is_free, has_level, has_offsets, is_on_this_volume, is_alone, has_map, has_blocks, has_end, header_read, fields_of}
-use Rattle.base_words.specs.Fields.{has_sum}
 use Rattle.plain_cat.specs.declared.cat.Cat.{Cat}
 use Rattle.plain_rules.specs.Lookups.{last_seq}
 use Rattle.plain_rules.specs.Changes.{next_seq, new_fid}
@@ -22,7 +21,7 @@ use Rattle.vol_spell.specs.Reading.{IsFileNumber, header_place, header_block}
 use Rattle.vol_spell.specs.Spelling.{Spells}
 use Rattle.op_law.specs.Entering.{slot_seq}
 use Rattle.op_law.proofs.Looks.{header_under}
-use Rattle.op_law.proofs.Telling.{file_blocks, slot_is}
+use Rattle.vol_spell.proofs.HeadSlots.{file_blocks, slot_is}
 
 -- ---- one block
 

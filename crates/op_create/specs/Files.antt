@@ -2,7 +2,7 @@
 use Rattle.std.specs.Prelude.{◌≡◌, ◌≤◌, ◌+◌, ◌*◌, true, false, []}
 use Rattle.base_words.specs.Names.{is_name}
 use Rattle.plain_cat.specs.declared.cat.File.{File}
-use Rattle.plain_rules.specs.Lookups.{versions}
+use Rattle.plain_rules.specs.Lookups.{versions, header_most}
 use Rattle.plain_rules.specs.Directories.{is_taken}
 use Rattle.vol_parts.specs.declared.geometry.Geometry.{Geometry}
 use Rattle.op_law.specs.Entering.{NewEntry}
@@ -33,7 +33,7 @@ pub record IsSound (g : Geometry) (f : NewFile) : Type 0 where
   pub name : is_name f.name.now ≡ true
   pub ver_from : 1 ≤ f.ver
   pub ver_to : f.ver ≤ 32767
-  pub clusters : f.clusters ≤ 77
+  pub clusters : f.clusters ≤ header_most
   pub mark : f.mark ≤ g.cluster * f.clusters + 1
   pub end : f.end ≤ g.cluster * f.clusters + 1
 

@@ -8,6 +8,7 @@ ghost use Rattle.plain_rules.specs.Answers.{first_refusal};
 ghost use Rattle.op_law.specs.Entering.{create_refusals, mkdir_refusals};
 
 use base_words::Block;
+use op_law::HEADER_MOST;
 use op_steps::{has_name, highest_seen, is_full, is_taken, new_version};
 use plain_cat::{Name, Refusal};
 use vol_parts::Geometry;
@@ -30,7 +31,7 @@ pub(crate) fn create_refusal(
     if is_taken(seen, name, ver) {
         return Some(Refusal::DupFile);
     }
-    if 77 < clusters {
+    if HEADER_MOST < clusters {
         return Some(Refusal::FileLimit);
     }
     if is_full(g, seen, name, ver) {

@@ -3,6 +3,7 @@
 
 ghost use Rattle.std.specs.Prelude.{◌≡◌, ◌≤◌, ℕ, List, IfOk};
 ghost use Rattle.base_words.specs.Fields.{Block};
+ghost use Rattle.plain_rules.specs.Lookups.{header_most};
 ghost use Rattle.plain_rules.specs.Answers.{first_refusal};
 ghost use Rattle.vol_parts.specs.Parts.{IsGeometry};
 ghost use Rattle.vol_spell.specs.Reading.{IsFileNumber};
@@ -44,7 +45,7 @@ fn charge_refusal(
     clusters: u32,
 ) -> Result<Option<Refusal>, NoMemory>
     requires geometry { IsGeometry g.now }
-    requires few { clusters ≤ 77 }
+    requires few { clusters ≤ header_most }
     ensures { IfOk result (λ r. r ≡ first_refusal (charge_refusals g.now owner clusters (rows_seen (blocks_alone quota.now)))) }
 {
     let rows = rows_seen(alloc, quota)?;
@@ -77,7 +78,7 @@ fn slot_seen<'a>(g: &Geometry, quota: &'a [(u32, Block)], n: u32, rest: Rest<'a>
     }
 }
 
-/// The quota, the space and the new slot, for a file of so many clusters, at most 77. An error says that memory ran out.
+/// The quota, the space and the new slot, for a file of so many clusters, no more than one header has. An error says that memory ran out.
 pub(crate) fn place_seen<'a>(
     alloc: Global,
     seen: &Seen,
@@ -86,7 +87,7 @@ pub(crate) fn place_seen<'a>(
     rest: Rest<'a>,
 ) -> Result<Place<'a>, NoMemory>
     requires geometry { IsGeometry seen.now.geometry }
-    requires few { clusters ≤ 77 }
+    requires few { clusters ≤ header_most }
     requires within { IsOfVolume seen.now.geometry seen.now.clusters seen.now.number }
     ensures place { IfOk result (λ p. IsPlace seen.now.geometry clusters (space_of seen.now) p) }
     ensures need { IfOk result (λ p. (next : List Block → List ℕ → ℕ → Block → Events) → goes_on_by (through_place seen.now.geometry owner clusters next) rest.entry (space_of seen.now) ≡ behind_place next (space_of seen.now) p) }

@@ -3,8 +3,6 @@ use Rattle.std.proofs.Common.{◌≡◌, ◌∙◌, ℕ, Bool, true, false, cond
 use Rattle.std.specs.Prelude.{◌==◌, option_map}
 use Rattle.base_words.specs.Fields.{Block}
 use Rattle.fx_header.specs.declared.slot.Hdr.{Hdr}
-use Rattle.fx_header.specs.declared.slot.Slot.TheVariants as head
-use Rattle.fx_header.specs.Headers.{header_read}
 use Rattle.lock_db.specs.declared.name.LockName.{LockName}
 use Rattle.lock_db.specs.declared.name.LockName.TheVariants.{S}
 use Rattle.plain_cat.specs.declared.mode.Mode.{Mode}
@@ -26,10 +24,11 @@ use Rattle.op_law.specs.declared.seen.Chan.{Chan}
 use Rattle.op_law.specs.Events.{Events}
 use Rattle.op_law.specs.Refusing.{SeenFile, seen_file, used_in, if_file, through_open}
 use Rattle.op_law.specs.Rows.{is_number, refuses}
-use Rattle.op_law.proofs.Telling.{file_blocks}
+use Rattle.vol_spell.proofs.HeadSlots.{file_blocks}
 use Rattle.op_law.proofs.Through.{header_obeys}
 use Rattle.op_law.proofs.Walking.{ObeysBy}
-use Rattle.op_steps.specs.Files.{file_in, IsFileThere}
+use Rattle.op_steps.specs.Files.{file_in}
+use Rattle.vol_spell.specs.Files.{IsFileThere}
 use Rattle.op_data.proofs.Channel.{HasOpen}
 use Rattle.op_steps.proofs.Uses.{used_reads, used_is, not_used}
 
@@ -51,7 +50,7 @@ module _ (g : Geometry) (bs : List Block) (own : Owners) (c : Cat) (s : Spells g
 
   -- the header of its number is in use
   pub open_there : (h : Hdr) → IsFileNumber g p.file.num → used_in p.file.seq (header_block g bs p.file.num) ≡ Some h → IsFileThere g c bs p.file.num h opened.file
-  open_there h is e = record { number = is; above = opened.above; reads = used_reads p.file.seq (header_read (header_block g bs n)) h e; file = open_file c node chan p opened }
+  open_there h is e = record { number = is; above = opened.above; reads = used_reads p.file.seq (header_block g bs n) h e; file = open_file c node chan p opened }
 
   -- there is none other
   pub open_some : IsFileNumber g p.file.num → used_in p.file.seq (header_block g bs p.file.num) ≡ None → ⊥

@@ -40,10 +40,12 @@ use Rattle.op_law.specs.SeenFiles.{file_place}
 use Rattle.op_law.proofs.Doing.{IsDone}
 use Rattle.op_law.proofs.Spaceless.{spaceless_lawful}
 use Rattle.op_law.proofs.Walking.{ObeysBy}
-use Rattle.op_steps.specs.Files.{file_in, IsFileThere}
+use Rattle.op_steps.specs.Files.{file_in}
+use Rattle.vol_spell.specs.Files.{IsFileThere}
 use Rattle.op_steps.specs.BlockWrites.{HasBlock}
 use Rattle.vol_spell.specs.Entries.{blocks_of as blocks_in}
-use Rattle.op_steps.proofs.Places.{file, guard, lies}
+use Rattle.op_steps.proofs.Places.{guard, lies}
+use Rattle.vol_spell.proofs.FilePlaces.{file}
 use Rattle.op_data.specs.Kinds.{IsRead}
 use Rattle.op_data.proofs.Channel.{HasOpen, both_hold, open_as}
 use Rattle.op_data.proofs.Shows.{block_shows}

@@ -13,13 +13,13 @@ use Rattle.vol_spell.specs.Owners.{Owners}
 use Rattle.vol_parts.specs.declared.geometry.Geometry.{Geometry}
 use Rattle.vol_spell.specs.Reading.{header_block}
 use Rattle.vol_spell.specs.Spelling.{Spells}
-use Rattle.vol_spell.specs.Entries.{places_in}
+use Rattle.vol_spell.specs.Entries.{places_in, blocks_of as blocks_in}
 use Rattle.op_law.specs.SeenFiles.{file_place}
 use Rattle.op_steps.specs.Files.{file_in}
 use Rattle.op_steps.specs.BlockWrites.{HasBlock}
-use Rattle.vol_spell.specs.Entries.{blocks_of as blocks_in}
-use Rattle.op_steps.proofs.Shown.{shown_by, flat_file, flat_told}
-use Rattle.op_steps.proofs.Places.{plain, file, no_dir, place}
+use Rattle.vol_spell.proofs.Shown.{shown_by, flat_file, flat_told}
+use Rattle.op_steps.proofs.Places.{place}
+use Rattle.vol_spell.proofs.FilePlaces.{plain, file, no_dir}
 
 get_taken : {A : Type 0} (k i : ℕ) (xs : List A) → i < k → slice_get (take k xs) i ≡ slice_get xs i
 get_taken zero i xs lt = absurd (omega arith)

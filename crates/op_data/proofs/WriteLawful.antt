@@ -41,7 +41,8 @@ use Rattle.op_law.proofs.Doing.{IsDone, refusal_done}
 use Rattle.op_law.proofs.Spaceless.{spaceless_lawful}
 use Rattle.op_law.proofs.Walking.{ObeysBy}
 use Rattle.op_steps.specs.Chained.{Chain, StandsOn, StepsOf}
-use Rattle.op_steps.specs.Files.{file_in, IsFileThere}
+use Rattle.op_steps.specs.Files.{file_in}
+use Rattle.vol_spell.specs.Files.{IsFileThere}
 use Rattle.op_steps.specs.BlockWrites.{HasBlock}
 use Rattle.op_steps.proofs.WriteGuards.{each_write, write_guards, write_leaves}
 use Rattle.op_steps.proofs.WriteSteps.{write_steps}

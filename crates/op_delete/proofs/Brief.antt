@@ -107,7 +107,7 @@ module _ (g : Geometry) (bs : List Block) (own : Owners) (c : Cat) (s : Spells g
       used_brief locks two = by_used (used_in e.fid.seq hb) refl where
         by_used : (o : Option Hdr) → used_in e.fid.seq hb ≡ o → Within (if_file (entry_removed d e) (λ f. if_empty f (next f)) (option_map (seen_file g e.fid.num hb) o)) locks 52
         by_used None is = lone_brief locks 52
-        by_used (Some h) is = file_brief h (used_reads e.fid.seq (header_read hb) h is) locks two
+        by_used (Some h) is = file_brief h (used_reads e.fid.seq hb h is) locks two
 
       lock_brief : (t : Bool) → Within (cond t (Look (S e.fid.num) (header_place g e.fid.num) looking) (Take (S e.fid.num) PW (Look (S e.fid.num) (header_place g e.fid.num) looking))) 3 53
       lock_brief true = (omega arith, λ b at. subst (λ y. Within (looking y) 3 52) (header_is g bs e.fid.num (header_place g e.fid.num) b refl at) (used_brief 3 (omega arith)))

@@ -32,11 +32,12 @@ use Rattle.vol_under.specs.Chains.{End}
 use Rattle.vol_under.specs.UnderWay.{StandsAt}
 use Rattle.vol_under.proofs.Steps.{stands_first}
 use Rattle.op_law.specs.declared.need.PlanWrite.{PlanWrite}
-use Rattle.op_law.specs.Writing.{empty_handed, clusters_seen}
+use Rattle.op_law.specs.Writing.{empty_handed}
+use Rattle.vol_spell.specs.Files.{clusters_seen, IsFileThere}
 use Rattle.op_law.specs.Refusing.{SeenFile}
 use Rattle.op_law.specs.Moving.{SeenDir, removal_writes}
 use Rattle.op_law.specs.Removing.{unnaming_writes}
-use Rattle.op_law.proofs.Telling.{file_told_at}
+use Rattle.vol_spell.proofs.HeadSlots.{file_told_at}
 use Rattle.op_law.proofs.Through.{file_told, IsListed}
 use Rattle.op_steps.specs.Chained.{Chain, StepsOf, after_writes, StandsOn}
 use Rattle.op_steps.specs.EntryWrites.{dir_in}
@@ -44,14 +45,14 @@ use Rattle.vol_spell.specs.Entries.{CanBeRemoved}
 use Rattle.op_steps.proofs.Chaining.{live_at, other_slot, same_dir}
 use Rattle.vol_spell.proofs.RemovalLists.{found_there}
 use Rattle.op_steps.proofs.RemovalSteps.{removal_steps}
-use Rattle.op_steps.specs.Files.{file_in, IsFileThere}
+use Rattle.op_steps.specs.Files.{file_in}
 use Rattle.op_steps.specs.HeadWrites.{IsHeadWritten}
 use Rattle.op_steps.specs.MarkWrites.{marked_write}
-use Rattle.op_steps.proofs.HeadFiles.{head_whole}
-use Rattle.op_steps.proofs.HeadRuns.{marked_runs}
+use Rattle.vol_spell.proofs.HeadFiles.{head_whole}
+use Rattle.vol_spell.proofs.HeadRuns.{marked_runs}
 use Rattle.op_steps.proofs.Kept.{marked_steps}
 use Rattle.op_delete.proofs.Slots.{slots_apart, slot_same}
-use Rattle.op_steps.proofs.Slots.{file_there}
+use Rattle.vol_spell.proofs.Slots.{file_there}
 use Rattle.op_delete.proofs.Outcomes.{less, unlinked, stands_removed, stands_marked, stands_unlinked}
 
 module _ (node : ℕ) (g : Geometry) (bs : List Block) (own : Owners) (c : Cat) (s : Spells g bs own c) (stock : Things) (outs : Outs node own nothing stock)

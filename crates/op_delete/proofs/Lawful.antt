@@ -60,7 +60,8 @@ use Rattle.op_law.specs.Moving.{SeenDir, entries_of}
 use Rattle.op_law.specs.Freeing.{SeenSpace, blocks_for, all_clusters, through_space, freeing_writes}
 use Rattle.op_law.specs.Removing.{under_lock, if_empty, delete_plan, entry_removed, delete_in, unnaming_writes}
 use Rattle.op_law.proofs.Walking.{ObeysBy, kept}
-use Rattle.op_law.proofs.Telling.{number_is, reads_runs, file_told_at, file_blocks}
+use Rattle.op_law.proofs.Telling.{number_is}
+use Rattle.vol_spell.proofs.HeadSlots.{reads_runs, file_told_at, file_blocks}
 use Rattle.op_law.proofs.Looks.{header_under, block_under}
 use Rattle.op_law.proofs.Heads.{header_is}
 use Rattle.op_law.proofs.Through.{file_told, IsListed, directory_obeys, number_obeys, quota_obeys, all_obeys}
@@ -152,7 +153,7 @@ module _ (dir : Fid) (name : List ℕ) (ver : ℕ) where
             sf = file_in g bs e.fid.num h
 
             reads : header_read hb ≡ Ok (head.Used h)
-            reads = used_reads e.fid.seq (header_read hb) h used
+            reads = used_reads e.fid.seq hb h used
 
             uses : in_use c e.fid ≡ Some f
             uses = used_is g bs own c s e.fid number ∙ ap (option_map (λ h. file_told bs g e.fid h)) used

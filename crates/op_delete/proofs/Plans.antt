@@ -32,7 +32,6 @@ use Rattle.base_words.specs.Lists.{Has}
 use Rattle.vol_spell.specs.Owners.{Owners, Things, nothing, Outs}
 use Rattle.vol_spell.specs.Spread.{blocks_at}
 use Rattle.vol_parts.specs.declared.geometry.Geometry.{Geometry}
-use Rattle.vol_parts.specs.Volumes.{fields_in}
 use Rattle.vol_spell.specs.Reading.{IsFileNumber, header_block, quota_places}
 use Rattle.vol_spell.specs.Spelling.{Spells}
 use Rattle.vol_under.specs.Chains.{End, Replied}
@@ -47,7 +46,7 @@ use Rattle.op_law.specs.Refusing.{SeenFile}
 use Rattle.op_law.specs.Moving.{SeenDir, removal_writes}
 use Rattle.op_law.specs.Freeing.{SeenSpace, rising, all_clusters}
 use Rattle.op_law.specs.Removing.{unnaming_writes}
-use Rattle.op_law.proofs.Telling.{reads_runs}
+use Rattle.vol_spell.proofs.HeadSlots.{reads_fields, reads_runs}
 use Rattle.op_law.proofs.Through.{IsListed}
 use Rattle.op_law.proofs.Naming.{both_named, both_leave, no_header_leaves}
 use Rattle.op_law.proofs.Ends.{outs_behind, stage_behind}
@@ -60,8 +59,8 @@ use Rattle.op_steps.specs.Files.{file_in}
 use Rattle.op_steps.specs.HeadWrites.{IsHeadWritten}
 use Rattle.op_steps.specs.MarkWrites.{marked_write}
 use Rattle.op_steps.specs.GoneWrites.{freed_write}
-use Rattle.op_steps.proofs.HeadFiles.{head_whole}
-use Rattle.op_steps.proofs.HeadRuns.{marked_runs}
+use Rattle.vol_spell.proofs.HeadFiles.{head_whole}
+use Rattle.vol_spell.proofs.HeadRuns.{marked_runs}
 use Rattle.op_steps.proofs.HeadSteps.{head_guards, head_leaves}
 use Rattle.op_steps.proofs.Freed.{freed_steps}
 use Rattle.op_freeing.specs.BitmapWrites.{brought, storage_seen, index_seen}
@@ -71,7 +70,7 @@ use Rattle.op_freeing.proofs.Named.{under_locks, under_joined}
 use Rattle.op_freeing.proofs.Steps.{after_both}
 use Rattle.op_freeing.proofs.Endings.{stage_both, held_keeps_out}
 use Rattle.op_freeing.proofs.Tails.{tail_steps, tail_stands, tail_guards, tail_no_header, tail_stage, tail_leaves_few}
-use Rattle.op_steps.proofs.Slots.{slot_twice}
+use Rattle.vol_spell.proofs.Slots.{slot_twice}
 use Rattle.op_delete.proofs.Outcomes.{less, unlinked, without_file, gone, removes_answer, stands_removed, marks_answer, deletes_answer, stands_unlinked, stands_freed, stands_gone}
 use Rattle.op_delete.proofs.Chains.{can, lone_steps, IsUnlinked, unnaming_steps}
 use Rattle.op_delete.proofs.Chains as chain
@@ -218,8 +217,8 @@ module _ (node : ℕ) (seen : Seen) (bs : List Block) (own : Owners) (c : Cat) (
       mark_keeps : KeepsRuns hb (marked hb)
       mark_keeps = by_dir h.dir refl where
         by_dir : (t : Bool) → h.dir ≡ t → KeepsRuns hb (marked hb)
-        by_dir false is = NoDir (ap is_dir_told (ap fields_in reads) ∙ is)
-        by_dir true is = Same (ap is_dir_told (ap fields_in mark_reads) ∙ is) (reads_runs (marked hb) hm mark_reads ∙ marked_runs hb h whole.long reads ∙ sym (reads_runs hb h reads))
+        by_dir false is = NoDir (ap is_dir_told (reads_fields hb h reads) ∙ is)
+        by_dir true is = Same (ap is_dir_told (reads_fields (marked hb) hm mark_reads) ∙ is) (reads_runs (marked hb) hm mark_reads ∙ marked_runs hb h whole.long reads ∙ sym (reads_runs hb h reads))
 
       mark_leaves : (t : Bool) → LeavesDirs g bs (mark_by t)
       mark_leaves true = λ w t. absurd t

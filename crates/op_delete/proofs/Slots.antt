@@ -1,6 +1,5 @@
 -- Slots that are set twice, or in another order, and the channels that have a file open.
 use Rattle.std.proofs.Common.{◌≡◌, ◌≤◌, ◌-◌, ℕ, zero, suc, List, [], ◌∷◌, Some, ◌++◌, length, take, slice_set, refl, ap, arith}
-use Rattle.std.specs.Prelude.{◌==◌}
 use Rattle.base_words.specs.Fields.{Block}
 use Rattle.plain_cat.specs.declared.cat.Cat.{Cat}
 use Rattle.plain_cat.specs.declared.cat.File.{File}

@@ -15,11 +15,13 @@ use Rattle.fx_header.proofs.SoundLemmas.{areas-of, ends-of, reads-sound}
 use Rattle.vol_parts.proofs.WholeHeaders.{whole_end}
 use Rattle.base_words.specs.Lists.{Has}
 use Rattle.base_words.proofs.Listing.{has_first}
+use Rattle.plain_rules.specs.Lookups.{header_most}
 use Rattle.vol_parts.specs.declared.geometry.Geometry.{Geometry}
 use Rattle.vol_parts.specs.Parts.{IsGeometry}
 use Rattle.vol_spell.specs.Reading.{total_of}
 use Rattle.op_law.specs.Sizes.{lowered}
-use Rattle.op_law.specs.Writing.{runs_for, clusters_seen}
+use Rattle.op_law.specs.Writing.{runs_for}
+use Rattle.vol_spell.specs.Files.{clusters_seen}
 use Rattle.op_steps.proofs.FileRuns.{are_runs_for, short_words}
 use Rattle.op_steps.proofs.Clustered.{few_blocks}
 use Rattle.op_steps.specs.declared.seeing.FileSeen.{FileSeen}
@@ -54,7 +56,7 @@ module _ (g : Geometry) (f : FileSeen) (k : ℕ) (geometry : IsGeometry g) (can 
   abbrev front : List ℕ
   front = take k (clusters_seen g f.head.now)
 
-  front_few : length (take k (clusters_seen g f.head.now)) ≤ 77
+  front_few : length (take k (clusters_seen g f.head.now)) ≤ header_most
   front_few = let a = length-take k (clusters_seen g f.head.now) in let c = can.readable.sized.count in let few = can.few in omega arith
 
   within : (q : ℕ) → Has (take k (clusters_seen g f.head.now)) q → q < total_of g

@@ -11,11 +11,13 @@ use Rattle.fx_header.specs.Pointers.{AreRuns, blocks_in, map_words}
 use Rattle.fx_header.proofs.SoundLemmas.{areas-of}
 use Rattle.base_words.specs.Lists.{Has}
 use Rattle.base_words.proofs.Listing.{has_parted}
+use Rattle.plain_rules.specs.Lookups.{header_most}
 use Rattle.vol_parts.specs.declared.geometry.Geometry.{Geometry}
 use Rattle.vol_parts.specs.Parts.{IsGeometry}
 use Rattle.vol_parts.proofs.Ranges.{range-more}
 use Rattle.vol_spell.specs.Reading.{total_of, clusters_of}
-use Rattle.op_law.specs.Writing.{runs_for, clusters_seen}
+use Rattle.op_law.specs.Writing.{runs_for}
+use Rattle.vol_spell.specs.Files.{clusters_seen}
 use Rattle.op_steps.proofs.FileRuns.{are_runs_for, short_words}
 use Rattle.op_steps.proofs.Clustered.{few_blocks}
 use Rattle.op_steps.specs.Given.{IsOfVolume}
@@ -52,11 +54,11 @@ cluster_within lbn count w i low lt top =
 
 -- ---- the clusters of a file and new ones
 
-module _ (g : Geometry) (f : FileSeen) (qs : List ℕ) (geometry : IsGeometry g) (readable : IsReadable g f) (few : f.fields.blocks / g.cluster + length qs ≤ 77) (of_volume : IsOfVolume g qs None) where
+module _ (g : Geometry) (f : FileSeen) (qs : List ℕ) (geometry : IsGeometry g) (readable : IsReadable g f) (few : f.fields.blocks / g.cluster + length qs ≤ header_most) (of_volume : IsOfVolume g qs None) where
   abbrev all : List ℕ
   all = clusters_seen g f.head.now ++ qs
 
-  all_few : length (clusters_seen g f.head.now ++ qs) ≤ 77
+  all_few : length (clusters_seen g f.head.now ++ qs) ≤ header_most
   all_few = let a = length-append (clusters_seen g f.head.now) qs in let c = readable.sized.count in omega arith
 
   within : (q : ℕ) → Has (clusters_seen g f.head.now ++ qs) q → q < total_of g

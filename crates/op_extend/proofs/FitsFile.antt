@@ -28,7 +28,7 @@ use Rattle.op_law.specs.Rows.{is_number, refuses, through_header}
 use Rattle.op_law.specs.Sizes.{extend_events, trunc_events}
 use Rattle.op_law.proofs.Heads.{header_is, through_inside}
 use Rattle.op_law.proofs.Telling.{number_is}
-use Rattle.op_steps.proofs.HeadFiles.{within, counted, few}
+use Rattle.vol_spell.proofs.HeadFiles.{within, counted, few}
 use Rattle.op_extend.specs.Kinds.{ChangesSize}
 use Rattle.op_extend.specs.Seeing.{IsSized, HeadIsSized}
 

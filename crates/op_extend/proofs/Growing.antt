@@ -14,7 +14,7 @@ use Rattle.plain_cat.specs.declared.history.Stage.TheVariants as stage
 use Rattle.plain_cat.specs.declared.cat.Cat.{Cat}
 use Rattle.plain_cat.specs.declared.cat.File.{File}
 use Rattle.plain_cat.specs.declared.cat.QuotaRow.{QuotaRow}
-use Rattle.plain_rules.specs.Lookups.{live, row_of, free_clusters}
+use Rattle.plain_rules.specs.Lookups.{live, row_of, free_clusters, header_most}
 use Rattle.plain_rules.specs.Changes.{with_file, grown}
 use Rattle.plain_rules.specs.Answers.{first_refusal}
 use Rattle.vol_spell.specs.Owners.{Owners, Things, nothing, Outs}
@@ -22,7 +22,6 @@ use Rattle.vol_spell.specs.Spread.{blocks_at}
 use Rattle.vol_parts.specs.declared.geometry.Geometry.{Geometry}
 use Rattle.vol_spell.specs.Reading.{IsFileNumber, header_block, quota_places}
 use Rattle.vol_spell.specs.Spelling.{Spells}
-use Rattle.vol_parts.specs.Volumes.{fields_in}
 use Rattle.vol_under.specs.Chains.{End}
 use Rattle.vol_under.specs.UnderWay.{StandsAt}
 use Rattle.op_law.specs.declared.need.PlanWrite.{PlanWrite}
@@ -36,18 +35,21 @@ use Rattle.op_law.specs.Writing.{holding, clusters_for}
 use Rattle.op_law.specs.Quotas.{row_charged, owner_write}
 use Rattle.op_law.proofs.Naming.{both_named, both_leave, no_header_leaves}
 use Rattle.op_law.proofs.Refusals.{passed}
+use Rattle.vol_spell.proofs.HeadSlots.{reads_fields}
 use Rattle.op_law.proofs.Telling.{live_reads}
+use Rattle.vol_spell.proofs.HeadSlots.{one_header_each}
 use Rattle.op_law.proofs.Through.{file_told}
 use Rattle.op_steps.specs.Chained.{Chain, StepsOf, after_writes, StandsOn, FilesStay}
 use Rattle.vol_spell.specs.Rows.{IsInRange, row_for}
 use Rattle.op_steps.proofs.RowSteps.{row_steps, row_guards, row_no_header}
 use Rattle.op_steps.proofs.Chaining.{live_at}
-use Rattle.op_steps.specs.Files.{file_in, IsFileThere}
+use Rattle.op_steps.specs.Files.{file_in}
+use Rattle.vol_spell.specs.Files.{IsFileThere}
 use Rattle.op_steps.specs.GrownWrites.{grown_write}
 use Rattle.op_steps.proofs.HeadSteps.{head_guards, head_leaves}
 use Rattle.op_steps.proofs.GrownSteps.{grown_steps}
 use Rattle.op_extend.proofs.Ranges.{drawn_in}
-use Rattle.op_extend.proofs.Replies.{head_checks, draft_checks, charged_for, after_for, stands_charged, stands_done}
+use Rattle.op_extend.proofs.Replies.{head_checks, draft_checks, within, charged_for, after_for, stands_charged, stands_done}
 
 -- a live file, by its header
 pub record IsLive (g : Geometry) (bs : List Block) (c : Cat) (file : Fid) (h : Hdr) : Type 0 where
@@ -98,11 +100,11 @@ module _ (node : ℕ) (file : Fid) (blocks : ℕ) (g : Geometry) (bs : List Bloc
   above : 11 < file.num
   above = let e = kept_out.0 in grind (arith, nat_tests)
 
-  few : f.clusters + clusters_for g blocks ≤ 77
-  few = let e = (passed (head_checks file.num f j) order).1.0 in grind (arith, nat_tests)
+  few : f.clusters + clusters_for g blocks ≤ header_most
+  few = one_header_each (f.clusters + j) (within file.num f j order).file
 
   ranged : (r : QuotaRow) → row_of (file_told bs g file h).owner c.quota ≡ Some r → IsInRange (row_charged (g.cluster * clusters_for g blocks) (row_for r))
-  ranged r at = drawn_in g bs own c s f.owner j r (let e = few in omega arith) fits at
+  ranged r at = drawn_in g bs own c s f.owner j r (within file.num f j order).growth fits at
 
   charged_at : StandsAt c node (Some (cmd.Extend file blocks)) stage.Charged (charged_for g c f j)
   charged_at = stands_charged g c s.constants.factor node file blocks f lives.live order paid enough
@@ -148,4 +150,4 @@ module _ (node : ℕ) (file : Fid) (blocks : ℕ) (g : Geometry) (bs : List Bloc
   growing_leaves =
       both_leave g bs row_part (head_write ∷ [])
       (no_header_leaves g bs row_part (row_no_header g bs bs own c f.owner (row_charged (g.cluster * j)) stage.Charged (holding qs None) s))
-      (head_leaves g n head_write c bs own s lives.number refl (NoDir (ap (λ r. is_dir_told (fields_in r)) reads ∙ kept_out.1)))
+      (head_leaves g n head_write c bs own s lives.number refl (NoDir (ap is_dir_told (reads_fields (header_block g bs n) h reads) ∙ kept_out.1)))

@@ -11,7 +11,7 @@ use Rattle.plain_cat.specs.declared.cat.Cat.{Cat}
 use Rattle.plain_cat.specs.declared.cat.Slot.{Slot}
 use Rattle.plain_cat.specs.declared.cat.Slot.TheVariants.{Used, Free}
 use Rattle.plain_cat.specs.declared.cat.QuotaRow.{QuotaRow}
-use Rattle.plain_rules.specs.Lookups.{clusters_in, row_of}
+use Rattle.plain_rules.specs.Lookups.{clusters_in, row_of, header_most}
 use Rattle.plain_rules.specs.Changes.{cost}
 use Rattle.plain_rules.specs.Accounts.{share, charge}
 use Rattle.vol_spell.specs.Owners.{Owners}
@@ -78,8 +78,8 @@ module _ (g : Geometry) (bs : List Block) (own : Owners) (c : Cat) (s : Spells g
         by_test is true h more = let same : q ≡ r = (let e : Some q ≡ Some r = h in cc) in subst (λ (y : QuotaRow). y.usage ≤ 1069632) same (near is)
         by_test is false h more = more h
 
-  -- it stays in range where at most 77 clusters are charged
-  pub drawn_in : (owner : Uic) (k : ℕ) (r : QuotaRow) → k ≤ 77 → list_all (is_charged c) c.quota ≡ true → row_of owner c.quota ≡ Some r → IsInRange (row_charged (g.cluster * k) (row_for r))
+  -- it stays in range where no more clusters are charged than one header has
+  pub drawn_in : (owner : Uic) (k : ℕ) (r : QuotaRow) → k ≤ header_most → list_all (is_charged c) c.quota ≡ true → row_of owner c.quota ≡ Some r → IsInRange (row_charged (g.cluster * k) (row_for r))
   drawn_in owner k r few fits at =
       let old = rows_in_range g bs own c owner r s at in
       let low = usage_le owner c.quota r fits at in

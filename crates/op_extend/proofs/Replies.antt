@@ -1,6 +1,6 @@
 -- The outcome of EXTEND: the refusals in their order, and the file that is grown; and the stages on the way.
-use Rattle.std.proofs.Common.{◌≡◌, ◌≤◌, ◌∙◌, ℕ, Bool, true, false, cond, List, [], ◌∷◌, ◌++◌, Option, Some, None, ap, arith}
-use Rattle.std.specs.Prelude.{◌*◌, ◌+◌, ◌-◌, ◌/◌, nat_lt}
+use Rattle.std.proofs.Common.{◌≡◌, ◌≤◌, ◌∙◌, ℕ, Bool, true, false, cond, List, [], ◌∷◌, ◌++◌, Option, Some, None, refl, ap, arith}
+use Rattle.std.specs.Prelude.{◌*◌, ◌+◌, ◌-◌, ◌/◌, ◌&&◌, ◌||◌, nat_lt, is_none}
 use Rattle.std.proofs.lemmas.Bool.Decides.{nat_tests}
 use Rattle.plain_cat.specs.declared.ids.Fid.{Fid}
 use Rattle.plain_cat.specs.declared.command.Cmd.{Cmd}
@@ -13,29 +13,47 @@ use Rattle.plain_cat.specs.declared.reply.Refusal.TheVariants as refusal
 use Rattle.plain_cat.specs.declared.cat.Cat.{Cat}
 use Rattle.plain_cat.specs.declared.cat.File.{File}
 use Rattle.plain_rules.specs.declared.outcome.Outcome.{Outcome}
-use Rattle.plain_rules.specs.Lookups.{live, row_of, free_clusters}
+use Rattle.plain_rules.specs.Lookups.{live, row_of, free_clusters, header_most, file_most, needs_header}
 use Rattle.plain_rules.specs.Changes.{charged, with_file, grown}
 use Rattle.plain_rules.specs.Answers.{refused, first_refusal, unless, is_kept, over_draft, extend_refusal, extend_of, extend_outcome, outcome, Answer}
 use Rattle.plain_rules.specs.Stages.{extend_stage, command_stage, stage_of, staged}
+use Rattle.plain_rules.proofs.Headers.{no_header}
 use Rattle.plain_rules.proofs.LawSteps.{pick_exists}
 use Rattle.vol_parts.specs.declared.geometry.Geometry.{Geometry}
 use Rattle.vol_under.specs.UnderWay.{StandsAt}
 use Rattle.op_law.specs.Sizes.{size_shown}
 use Rattle.op_law.specs.Writing.{clusters_for}
-use Rattle.op_law.proofs.Refusals.{first_stays, first_goes}
+use Rattle.op_law.proofs.Refusals.{passed, first_stays, first_goes}
+use Rattle.vol_spell.proofs.HeadSlots.{one_header_each}
 
 -- the refusals that the header shows, and those of the quota rows
 abbrev pub head_checks : ℕ → File → ℕ → List (Bool × Refusal)
-head_checks n f k = (is_kept n f, refusal.NoPriv) ∷ (nat_lt 77 (f.clusters + k), refusal.FileLimit) ∷ []
+head_checks n f k = (is_kept n f, refusal.NoPriv) ∷ (nat_lt header_most k || nat_lt file_most (f.clusters + k), refusal.FileLimit) ∷ []
 
 abbrev pub draft_checks : Geometry → Cat → File → ℕ → List (Bool × Refusal)
 draft_checks g c f k = (over_draft (row_of f.owner c.quota) (g.cluster * k), refusal.ExQuota) ∷ []
 
-abbrev space_checks : Cat → ℕ → List (Bool × Refusal)
-space_checks c k = (nat_lt (free_clusters c) k, refusal.DeviceFull) ∷ []
+abbrev space_checks : Cat → File → ℕ → Option ℕ → List (Bool × Refusal)
+space_checks c f k new = (needs_header f.clusters k && is_none new, refusal.IndexFull) ∷ (nat_lt (free_clusters c) k, refusal.DeviceFull) ∷ []
 
-abbrev checks : Geometry → Cat → ℕ → File → ℕ → List (Bool × Refusal)
-checks g c n f k = head_checks n f k ++ (draft_checks g c f k ++ space_checks c k)
+abbrev checks : Geometry → Cat → ℕ → File → ℕ → Option ℕ → List (Bool × Refusal)
+checks g c n f k new = head_checks n f k ++ (draft_checks g c f k ++ space_checks c f k new)
+
+-- behind the refusals that the header shows, the new clusters are within one header, and all within a file
+pub record IsWithin (f : File) (k : ℕ) : Type 0 where
+  pub growth : k ≤ header_most
+  pub file : f.clusters + k ≤ file_most
+
+pub within : (n : ℕ) (f : File) (k : ℕ) → first_refusal (head_checks n f k) ≡ None → IsWithin f k
+within n f k order = by_tests (nat_lt header_most k) (nat_lt file_most (f.clusters + k)) refl refl (passed (head_checks n f k) order).1.0 where
+  by_tests : (a b : Bool) → nat_lt header_most k ≡ a → nat_lt file_most (f.clusters + k) ≡ b → (a || b) ≡ false → IsWithin f k
+  by_tests true b p q e = absurd (let z : true ≡ false = e in cc)
+  by_tests false true p q e = absurd (let z : true ≡ false = e in cc)
+  by_tests false false p q e = record { growth = grind (arith, nat_tests); file = grind (arith, nat_tests) }
+
+-- no new header is needed
+none_needed : (n : ℕ) (f : File) (k : ℕ) → first_refusal (head_checks n f k) ≡ None → needs_header f.clusters k ≡ false
+none_needed n f k order = no_header f.clusters k (one_header_each (f.clusters + k) (within n f k order).file)
 
 -- the catalogue with the charge, and with the grown file
 abbrev pub charged_for : Geometry → Cat → File → ℕ → Cat
@@ -52,18 +70,19 @@ module _ (g : Geometry) (c : Cat) (factor : c.factor ≡ g.cluster) (node : ℕ)
   k = clusters_for g blocks
 
   -- the outcome where a volume has so many blocks in a cluster
-  abbrev by_factor : File → ℕ → Outcome
-  by_factor f w = let j = (blocks + (w - 1)) / w in
-      unless c (first_refusal ((is_kept file.num f, refusal.NoPriv) ∷ (nat_lt 77 (f.clusters + j), refusal.FileLimit) ∷ (over_draft (row_of f.owner c.quota) (w * j), refusal.ExQuota) ∷ (nat_lt (free_clusters c) j, refusal.DeviceFull) ∷ []))
+  abbrev by_factor : Option ℕ → File → ℕ → Outcome
+  by_factor new f w = let j = (blocks + (w - 1)) / w in
+      unless c (first_refusal ((is_kept file.num f, refusal.NoPriv) ∷ (nat_lt header_most j || nat_lt file_most (f.clusters + j), refusal.FileLimit) ∷ (over_draft (row_of f.owner c.quota) (w * j), refusal.ExQuota)
+      ∷ (needs_header f.clusters j && is_none new, refusal.IndexFull) ∷ (nat_lt (free_clusters c) j, refusal.DeviceFull) ∷ []))
       (record { reply = reply.Size (w * (f.clusters + j)); after = with_file (charged c f.owner (w * j)) file.num (grown c f j) })
 
-  outcome_by : (new : Option ℕ) (o : Option File) → live c file ≡ o → outcome c node (cmd.Extend file blocks) new ≡ extend_of c file.num o blocks
+  outcome_by : (new : Option ℕ) (o : Option File) → live c file ≡ o → outcome c node (cmd.Extend file blocks) new ≡ extend_of c file.num o blocks new
   unfolding outcome extend_outcome
-  outcome_by new o e = ap (λ y. extend_of c file.num y blocks) e
+  outcome_by new o e = ap (λ y. extend_of c file.num y blocks new) e
 
-  outcome_is : (new : Option ℕ) (f : File) → live c file ≡ Some f → outcome c node (cmd.Extend file blocks) new ≡ by_factor f g.cluster
+  outcome_is : (new : Option ℕ) (f : File) → live c file ≡ Some f → outcome c node (cmd.Extend file blocks) new ≡ by_factor new f g.cluster
   unfolding extend_refusal
-  outcome_is new f lives = outcome_by new (Some f) lives ∙ ap (by_factor f) factor
+  outcome_is new f lives = outcome_by new (Some f) lives ∙ ap (by_factor new f) factor
 
   -- the answer is this refusal
   abbrev pub Refuses : Refusal → Type 0
@@ -80,7 +99,7 @@ module _ (g : Geometry) (c : Cat) (factor : c.factor ≡ g.cluster) (node : ℕ)
     grown_by = record { reply = size_shown g (f.clusters + k); after = after_for g c file.num f k }
 
     -- what the refusals come to
-    comes_to : (new : Option ℕ) (o : Option Refusal) → first_refusal (checks g c file.num f k) ≡ o → outcome c node (cmd.Extend file blocks) new ≡ unless c o (record { reply = size_shown g (f.clusters + k); after = after_for g c file.num f k })
+    comes_to : (new : Option ℕ) (o : Option Refusal) → first_refusal (checks g c file.num f k new) ≡ o → outcome c node (cmd.Extend file blocks) new ≡ unless c o (record { reply = size_shown g (f.clusters + k); after = after_for g c file.num f k })
     comes_to new o e = outcome_is new f lives ∙ ap (λ y. unless c y (record { reply = size_shown g (f.clusters + k); after = after_for g c file.num f k })) e
 
     abbrev Shows : Option Refusal → Type 0
@@ -90,24 +109,26 @@ module _ (g : Geometry) (c : Cat) (factor : c.factor ≡ g.cluster) (node : ℕ)
     PaidTo o = first_refusal (draft_checks g c f k) ≡ o
 
     pub refuses_shown : (r : Refusal) → Shows (Some r) → Refuses r
-    refuses_shown r e = refuses_any r (λ new. comes_to new (Some r) (first_stays (head_checks file.num f k) (draft_checks g c f k ++ space_checks c k) r e))
+    refuses_shown r e = refuses_any r (λ new. comes_to new (Some r) (first_stays (head_checks file.num f k) (draft_checks g c f k ++ space_checks c f k new) r e))
 
     pub refuses_unpaid : Shows None → (r : Refusal) → PaidTo (Some r) → Refuses r
     refuses_unpaid order r e = refuses_any r (λ new. comes_to new (Some r)
-        (first_goes (head_checks file.num f k) (draft_checks g c f k ++ space_checks c k) order ∙ first_stays (draft_checks g c f k) (space_checks c k) r e))
+        (first_goes (head_checks file.num f k) (draft_checks g c f k ++ space_checks c f k new) order ∙ first_stays (draft_checks g c f k) (space_checks c f k new) r e))
 
     -- the refusal of the space is the last
-    last_check : Shows None → PaidTo None → first_refusal (checks g c file.num f k) ≡ cond (nat_lt (free_clusters c) k) (Some refusal.DeviceFull) None
-    last_check order paid = first_goes (head_checks file.num f k) (draft_checks g c f k ++ space_checks c k) order ∙ first_goes (draft_checks g c f k) (space_checks c k) paid
+    last_check : (new : Option ℕ) → Shows None → PaidTo None → first_refusal (checks g c file.num f k new) ≡ cond (nat_lt (free_clusters c) k) (Some refusal.DeviceFull) None
+    last_check new order paid =
+        first_goes (head_checks file.num f k) (draft_checks g c f k ++ space_checks c f k new) order ∙ first_goes (draft_checks g c f k) (space_checks c f k new) paid
+        ∙ ap (λ t. cond (t && is_none new) (Some refusal.IndexFull) (cond (nat_lt (free_clusters c) k) (Some refusal.DeviceFull) None)) (none_needed file.num f k order)
 
     pub refuses_short : Shows None → PaidTo None → nat_lt (free_clusters c) k ≡ true → Refuses refusal.DeviceFull
-    refuses_short order paid short = refuses_any refusal.DeviceFull (λ new. comes_to new (Some refusal.DeviceFull) (last_check order paid ∙ ap (λ t. cond t (Some refusal.DeviceFull) None) short))
+    refuses_short order paid short = refuses_any refusal.DeviceFull (λ new. comes_to new (Some refusal.DeviceFull) (last_check new order paid ∙ ap (λ t. cond t (Some refusal.DeviceFull) None) short))
 
     module _ (order : Shows None) (paid : PaidTo None) (enough : k ≤ free_clusters c) where
       grows : (new : Option ℕ) → outcome c node (cmd.Extend file blocks) new ≡ record { reply = size_shown g (f.clusters + k); after = after_for g c file.num f k }
       grows new =
           let has : nat_lt (free_clusters c) k ≡ false = grind (arith, nat_tests) in
-          comes_to new None (last_check order paid ∙ ap (λ t. cond t (Some refusal.DeviceFull) None) has)
+          comes_to new None (last_check new order paid ∙ ap (λ t. cond t (Some refusal.DeviceFull) None) has)
 
       pub grows_answer : Answer c node (cmd.Extend file blocks) (size_shown g (f.clusters + k)) (after_for g c file.num f k)
       grows_answer = let p = pick_exists c in (p.0, p.1, grows p.0)

@@ -55,7 +55,7 @@ use Rattle.op_law.proofs.Through.{file_told, header_obeys, quota_obeys, all_obey
 use Rattle.op_law.proofs.Walking.{ObeysBy}
 use Rattle.op_steps.proofs.Chaining.{live_at}
 use Rattle.op_steps.specs.Files.{file_in}
-use Rattle.op_steps.proofs.HeadFiles.{sized, counted, mark_within, end_within, file_is, shown, length-shown}
+use Rattle.vol_spell.proofs.HeadFiles.{sized, counted, mark_within, end_within, file_is, shown, length-shown}
 use Rattle.op_freeing.proofs.Filters.{mapped}
 use Rattle.op_freeing.proofs.Named.{guarded, for_part}
 use Rattle.op_extend.specs.Kinds.{IsTrunc}

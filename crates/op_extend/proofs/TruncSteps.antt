@@ -25,7 +25,6 @@ use Rattle.vol_spell.specs.Spread.{blocks_at}
 use Rattle.vol_spell.proofs.Placing.{length-blocks_at}
 use Rattle.vol_parts.specs.declared.geometry.Geometry.{Geometry}
 use Rattle.vol_parts.specs.declared.geometry.Part.TheVariants.{Storage}
-use Rattle.vol_parts.specs.Volumes.{fields_in}
 use Rattle.vol_spell.specs.Reading.{header_block, quota_places}
 use Rattle.vol_spell.specs.Places.{place_of}
 use Rattle.vol_spell.specs.Spelling.{Spells}
@@ -42,12 +41,14 @@ use Rattle.op_law.specs.Sizes.{size_shown, cut_clusters, cutting_writes}
 use Rattle.op_law.specs.Writing.{empty_handed, clusters_for}
 use Rattle.op_law.proofs.Doing.{AreDone}
 use Rattle.op_law.proofs.Naming.{both_named, both_leave, no_header_leaves}
+use Rattle.vol_spell.proofs.HeadSlots.{reads_fields}
 use Rattle.op_law.proofs.Telling.{live_reads}
 use Rattle.op_law.proofs.Through.{file_told}
 use Rattle.op_law.proofs.RemovalEnds.{both_few}
 use Rattle.op_steps.specs.Chained.{Chain, StepsOf, after_writes, StandsOn}
 use Rattle.op_steps.proofs.Chaining.{live_at}
-use Rattle.op_steps.specs.Files.{file_in, IsFileThere}
+use Rattle.op_steps.specs.Files.{file_in}
+use Rattle.vol_spell.specs.Files.{IsFileThere}
 use Rattle.op_steps.specs.HeadWrites.{IsHeadWritten}
 use Rattle.op_steps.specs.GoneWrites.{cut_write}
 use Rattle.op_steps.proofs.HeadSteps.{head_guards, head_leaves}
@@ -146,7 +147,7 @@ module _ (file : Fid) (blocks : ℕ) (node : ℕ) (seen : Seen) (bs : List Block
   all_leave : LeavesDirs g bs all
   all_leave =
       both_leave g bs (head_write ∷ []) tail
-      (head_leaves g n head_write c bs own s lives.number refl (NoDir (ap (λ r. is_dir_told (fields_in r)) reads ∙ apart.1)))
+      (head_leaves g n head_write c bs own s lives.number refl (NoDir (ap is_dir_told (reads_fields (header_block g bs n) h reads) ∙ apart.1)))
       (no_header_leaves g bs tail (tail_no_header g stage.Shortened qs [] f.owner fewer stage.Done bs bs own c s))
 
   head_few : LeaveFew (head_write ∷ [])

@@ -1,7 +1,6 @@
 -- The events of EXTEND, walked along on blocks that have what it has seen.
 use Rattle.std.proofs.Common.{◌≡◌, ◌≤◌, ◌+◌, ◌*◌, ◌∙◌, inl, inr, ℕ, true, false, List, [], ◌∷◌, Option, Some, None, length, refl, sym, ap, subst, arith}
 use Rattle.std.specs.Prelude.{nat_lt, is_some, option_map, if◌then◌else◌}
-use Rattle.std.proofs.lemmas.Bool.Decides.{nat_tests}
 use Rattle.base_words.specs.Fields.{Block}
 use Rattle.fx_header.specs.declared.slot.Hdr.{Hdr}
 use Rattle.lock_db.specs.declared.name.LockName.{LockName}
@@ -16,7 +15,7 @@ use Rattle.plain_cat.specs.declared.reply.Refusal.{Refusal}
 use Rattle.plain_cat.specs.declared.reply.Refusal.TheVariants as refusal
 use Rattle.plain_cat.specs.declared.cat.Cat.{Cat}
 use Rattle.plain_cat.specs.declared.cat.QuotaRow.{QuotaRow}
-use Rattle.plain_rules.specs.Lookups.{live, row_of, free_clusters}
+use Rattle.plain_rules.specs.Lookups.{live, row_of, free_clusters, header_most}
 use Rattle.plain_rules.specs.Answers.{first_refusal, over_draft}
 use Rattle.base_words.specs.Lists.{Has}
 use Rattle.vol_spell.specs.Owners.{Owners, Things, Outs}
@@ -36,7 +35,6 @@ use Rattle.op_law.specs.Rows.{plain_plan, refuses, live_in}
 use Rattle.op_law.specs.Sizes.{size_shown, growing_writes, grown_by, extend_in, extend_events}
 use Rattle.op_law.specs.Quotas.{through_quota, rows_seen}
 use Rattle.op_law.specs.Writing.{plan_of, clusters_for}
-use Rattle.op_law.proofs.Refusals.{passed}
 use Rattle.op_law.proofs.Spaces.{clusters_given, clusters_refused, IsKnown}
 use Rattle.op_law.proofs.Telling.{live_is, not_live}
 use Rattle.op_law.proofs.Through.{file_told, header_obeys, quota_obeys}
@@ -45,7 +43,7 @@ use Rattle.op_steps.proofs.Chaining.{live_at}
 use Rattle.op_steps.specs.Files.{file_in}
 use Rattle.op_extend.proofs.Ends.{only_clusters}
 use Rattle.op_extend.proofs.Growing.{IsLive}
-use Rattle.op_extend.proofs.Replies.{head_checks, draft_checks}
+use Rattle.op_extend.proofs.Replies.{head_checks, draft_checks, within}
 
 module _ (file : Fid) (blocks : ℕ) (node : ℕ) (seen : Seen) (bs : List Block) (own : Owners) (c : Cat) (s : Spells seen.geometry bs own c) (stock : Things) (known : IsKnown node (cmd.Extend file blocks) seen own c stock)
     (P : List (LockName × Mode) → Plan → Type 0) where
@@ -100,8 +98,8 @@ module _ (file : Fid) (blocks : ℕ) (node : ℕ) (seen : Seen) (bs : List Block
     in_use : level c (S file.num) ≡ 0
     in_use = ap (λ o. if is_some o then 0 else 4) (live_at c file (file_told bs g file h) lives.live)
 
-    few : k ≤ 77
-    few = let e = (passed (head_checks n (file_told bs g file h) k) order).1.0 in grind (arith, nat_tests)
+    few : k ≤ header_most
+    few = (within n (file_told bs g file h) k order).growth
 
     by_space : Paid h None → (cs : List ℕ) (m : Option ℕ) (why : Option Refusal) → space_of seen ≡ record { clusters = cs; number = m; short = why }
         → has_space (clusters_for seen.geometry blocks) false (record { clusters = cs; number = m; short = why }) ≡ true

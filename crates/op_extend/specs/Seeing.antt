@@ -4,12 +4,12 @@ use Rattle.base_words.specs.Fields.{Block}
 use Rattle.fx_header.specs.declared.slot.Hdr.{Hdr}
 use Rattle.fx_header.specs.declared.slot.Slot.TheVariants.{Used}
 use Rattle.fx_header.specs.Headers.{header_read}
+use Rattle.plain_rules.specs.Lookups.{header_most}
 use Rattle.base_words.specs.Lists.{Has}
 use Rattle.vol_parts.specs.declared.geometry.Geometry.{Geometry}
-use Rattle.vol_parts.specs.Volumes.{most_clusters}
 use Rattle.vol_spell.specs.Reading.{total_of}
 use Rattle.op_law.specs.Readable.{HasMap, AreInside}
-use Rattle.op_law.specs.Writing.{clusters_seen}
+use Rattle.vol_spell.specs.Files.{clusters_seen}
 use Rattle.op_steps.specs.declared.seeing.FileSeen.{FileSeen}
 
 -- a header of number n with these fields has the clusters of its blocks, all of the volume; above the system files not more than
@@ -17,7 +17,7 @@ use Rattle.op_steps.specs.declared.seeing.FileSeen.{FileSeen}
 pub record IsSized (g : Geometry) (n : ℕ) (b : Block) (h : Hdr) : Type 0 where
   pub count : length (clusters_seen g b) ≡ h.blocks / g.cluster
   pub there : (q : ℕ) → Has (clusters_seen g b) q → q < total_of g
-  pub few : 11 < n → length (clusters_seen g b) ≤ most_clusters
+  pub few : 11 < n → length (clusters_seen g b) ≤ header_most
 
 -- so it is of a header that was seen first
 abbrev pub HeadIsSized : Geometry → ℕ → List (ℕ × Block) → Type 0
@@ -36,4 +36,4 @@ pub record IsReadable (g : Geometry) (f : FileSeen) : Type 0 where
 pub record CanBeCut (g : Geometry) (f : FileSeen) (k : ℕ) : Type 0 where
   pub readable : IsReadable g f
   pub more : k < f.fields.blocks / g.cluster
-  pub few : f.fields.blocks / g.cluster ≤ most_clusters
+  pub few : f.fields.blocks / g.cluster ≤ header_most

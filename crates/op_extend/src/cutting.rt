@@ -3,6 +3,7 @@
 ghost use Rattle.std.specs.Prelude.{◌≡◌, ◌≤◌, ◌<◌, ◌*◌, ◌/◌, length, map, take, drop, IfOk};
 ghost use Rattle.base_words.specs.Fields.{IsWholeBlock};
 ghost use Rattle.fx_header.specs.declared.run.Run.{Run};
+ghost use Rattle.plain_rules.specs.Lookups.{file_most};
 ghost use Rattle.vol_parts.specs.Parts.{IsGeometry};
 ghost use Rattle.op_law.specs.Behind.{blocks_alone};
 ghost use Rattle.op_law.specs.Freeing.{blocks_for};
@@ -64,7 +65,7 @@ pub(crate) fn clusters_behind(
 // The header with a mark and an end that are at most one block behind the first k clusters.
 fn lower(block: &mut Block, g: &Geometry, f: &FileSeen<'_>, k: u32)
     requires geometry { IsGeometry g.now }
-    requires few { k ≤ 77 }
+    requires few { k ≤ file_most }
     ensures lowered { block.new ≡ lowered block.old (file_seen g.now f.now).file (g.now.cluster * k) }
     ensures whole { IsWholeBlock block.old }
 {

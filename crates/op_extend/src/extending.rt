@@ -1,6 +1,7 @@
 //! What EXTEND needs next.
 
 ghost use Rattle.std.specs.Prelude.{◌≡◌, ◌≤◌, ◌+◌, ◌/◌, option_map, None, length, IfOk};
+ghost use Rattle.plain_rules.specs.Lookups.{header_most};
 ghost use Rattle.plain_rules.specs.Answers.{first_refusal, over_draft};
 ghost use Rattle.vol_parts.specs.Parts.{IsGeometry};
 ghost use Rattle.op_law.specs.Events.{next_of, space_of};
@@ -22,7 +23,8 @@ use crate::given::{Given, clusters_given};
 use crate::writing::growing_writes;
 use base_words::Block;
 use op_law::{
-    Listed, Looked, Need, NoMemory, Plan, Rest, Seen, header_seen, is_number, live_in, refused,
+    FILE_MOST, HEADER_MOST, Listed, Looked, Need, NoMemory, Plan, Rest, Seen, header_seen,
+    is_number, live_in, refused,
 };
 use op_steps::{FileSeen, clusters_for, quota_seen, rows_seen};
 use plain_cat::{Fid, Mode, QuotaRow, Refusal, Reply, Uic};
@@ -49,13 +51,13 @@ fn growing_refusal(g: &Geometry, f: &FileSeen<'_>, k: u32) -> Option<Refusal>
     if f.num <= 11 || f.fields.dir {
         return Some(Refusal::NoPriv);
     }
-    if 77 < (f.fields.blocks / g.cluster) as u64 + k as u64 {
+    if HEADER_MOST < k || FILE_MOST < (f.fields.blocks / g.cluster) as u64 + k as u64 {
         return Some(Refusal::FileLimit);
     }
     None
 }
 
-// Why its owner does not get so many clusters, at most 77, by the quota blocks, if not.
+// Why its owner does not get so many clusters, no more than one header has, by the quota blocks, if not.
 fn draft_refusal(
     alloc: Global,
     g: &Geometry,
@@ -64,7 +66,7 @@ fn draft_refusal(
     k: u32,
 ) -> Result<Option<Refusal>, NoMemory>
     requires geometry { IsGeometry g.now }
-    requires few { k ≤ 77 }
+    requires few { k ≤ header_most }
     ensures { IfOk result (λ r. r ≡ first_refusal (draft_refusals g.now (file_seen g.now f.now) (blocks_alone quota.now) k)) }
 {
     let rows = rows_seen(alloc, quota)?;
@@ -87,7 +89,7 @@ fn grown(
     requires geometry { IsGeometry seen.now.geometry }
     requires readable { IsReadable seen.now.geometry f.now }
     requires quota { length quota.now ≤ 16 }
-    requires few { f.now.fields.blocks / seen.now.geometry.cluster + k ≤ 77 }
+    requires few { f.now.fields.blocks / seen.now.geometry.cluster + k ≤ header_most }
     requires count { length seen.now.clusters ≡ k }
     requires within { IsOfVolume seen.now.geometry seen.now.clusters seen.now.number }
     ensures { IfOk result (λ need. need ≡ goes_on_by (grown_by seen.now.geometry (file_seen seen.now.geometry f.now) (blocks_alone quota.now) k seen.now.clusters) rest.entry (space_of seen.now)) }

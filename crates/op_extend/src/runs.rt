@@ -4,7 +4,8 @@ ghost use Rattle.std.specs.Prelude.{◌≡◌, ◌≤◌, ◌+◌, ◌/◌, ◌+
 ghost use Rattle.std.specs.List.{range_with_len};
 ghost use Rattle.vol_parts.specs.Parts.{IsGeometry};
 ghost use Rattle.op_law.specs.Readable.{HasMap, AreInside};
-ghost use Rattle.op_law.specs.Writing.{clusters_seen, runs_for};
+ghost use Rattle.op_law.specs.Writing.{runs_for};
+ghost use Rattle.vol_spell.specs.Files.{clusters_seen};
 
 use base_words::Block;
 use fx_header::{Run, runs};

@@ -1,10 +1,12 @@
 //! The writes of EXTEND: the charge, and the header with more clusters.
 
 ghost use Rattle.std.specs.Prelude.{◌≡◌, ◌≤◌, ◌+◌, ◌/◌, ◌++◌, None, length, IfOk};
+ghost use Rattle.plain_rules.specs.Lookups.{header_most, file_most};
 ghost use Rattle.vol_parts.specs.Parts.{IsGeometry};
 ghost use Rattle.op_law.specs.Behind.{blocks_alone};
 ghost use Rattle.op_law.specs.Sizes.{grown_mark, grown_header, growing_writes};
-ghost use Rattle.op_law.specs.Writing.{runs_for, clusters_seen};
+ghost use Rattle.op_law.specs.Writing.{runs_for};
+ghost use Rattle.vol_spell.specs.Files.{clusters_seen};
 ghost use Rattle.op_steps.specs.Given.{IsOfVolume};
 ghost use Rattle.op_steps.specs.Seeing.{file_seen};
 ghost use Rattle.op_extend.specs.Seeing.{IsReadable};
@@ -21,7 +23,7 @@ use vol_parts::Geometry;
 // The mark of a file that gets more blocks: where it had none, the blocks that it has stay written.
 fn grown_mark(g: &Geometry, f: &FileSeen<'_>) -> u32
     requires geometry { IsGeometry g.now }
-    requires few { f.now.fields.blocks / g.now.cluster ≤ 77 }
+    requires few { f.now.fields.blocks / g.now.cluster ≤ file_most }
     ensures { result ≡ grown_mark g.now (file_seen g.now f.now).file }
 {
     if f.fields.mark == 0 {
@@ -59,7 +61,7 @@ fn grown_header(
 ) -> Result<Block, NoMemory>
     requires geometry { IsGeometry g.now }
     requires readable { IsReadable g.now f.now }
-    requires few { f.now.fields.blocks / g.now.cluster + length clusters.now ≤ 77 }
+    requires few { f.now.fields.blocks / g.now.cluster + length clusters.now ≤ header_most }
     requires within { IsOfVolume g.now clusters.now None }
     ensures { IfOk result (λ b. b ≡ grown_header g.now (file_seen g.now f.now) clusters.now) }
 {
@@ -84,7 +86,7 @@ pub(crate) fn growing_writes(
     requires geometry { IsGeometry g.now }
     requires readable { IsReadable g.now f.now }
     requires quota { length quota.now ≤ 16 }
-    requires few { f.now.fields.blocks / g.now.cluster + k ≤ 77 }
+    requires few { f.now.fields.blocks / g.now.cluster + k ≤ header_most }
     requires count { length clusters.now ≡ k }
     requires within { IsOfVolume g.now clusters.now None }
     ensures { IfOk result (λ ws. ws ≡ growing_writes g.now (file_seen g.now f.now) (blocks_alone quota.now) clusters.now k) }

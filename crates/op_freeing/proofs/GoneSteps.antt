@@ -33,10 +33,11 @@ use Rattle.op_law.specs.Writing.{empty_handed}
 use Rattle.op_law.proofs.Naming.{both_named, both_leave, no_header_leaves}
 use Rattle.op_law.proofs.RemovalEnds.{both_few}
 use Rattle.op_steps.specs.Chained.{Chain, StepsOf, StageOf, after_writes, StandsOn}
-use Rattle.op_steps.specs.Files.{file_in, IsFileThere}
+use Rattle.op_steps.specs.Files.{file_in}
+use Rattle.vol_spell.specs.Files.{IsFileThere}
 use Rattle.op_steps.specs.HeadWrites.{IsHeadWritten}
 use Rattle.op_steps.specs.GoneWrites.{freed_write}
-use Rattle.op_steps.proofs.HeadFiles.{head_whole}
+use Rattle.vol_spell.proofs.HeadFiles.{head_whole}
 use Rattle.op_steps.proofs.HeadSteps.{head_guards, head_leaves}
 use Rattle.op_steps.proofs.Freed.{freed_steps}
 use Rattle.op_freeing.specs.Standing.{AreUnder, AreBeside}

@@ -1,6 +1,6 @@
 -- The quota rows of a catalogue that is spelt are of 32 bits, and so are those of an owner who is charged less.
-use Rattle.std.proofs.Common.{◌≡◌, ◌%◌, ℕ, List, [], ◌∷◌, ◌++◌, Some, sym, subst, arith}
-use Rattle.std.specs.Prelude.{◌==◌, flat_map}
+use Rattle.std.proofs.Common.{◌≡◌, ℕ, List, Some, sym, subst, arith}
+use Rattle.std.specs.Prelude.{flat_map}
 use Rattle.base_words.specs.Fields.{Block}
 use Rattle.plain_cat.specs.declared.ids.Uic.{Uic}
 use Rattle.plain_cat.specs.declared.cat.Cat.{Cat}

@@ -20,7 +20,7 @@ use Rattle.vol_spell.proofs.Frames.{on_volume}
 use Rattle.vol_spell.proofs.Parts.{are_parts, part_there, part_owned}
 use Rattle.vol_under.specs.UnderWay.{PlannedWrite, bare}
 use Rattle.vol_under.specs.Chains.{End, Steps}
-use Rattle.vol_under.proofs.Refills.{gives_numbers}
+use Rattle.vol_under.proofs.Refills.{stock_blank, gives_numbers}
 use Rattle.vol_under.proofs.Frees.{refill_step, free_series, swapped}
 use Rattle.op_law.specs.declared.need.PlanWrite.{PlanWrite}
 use Rattle.op_law.specs.Laws.{planned}
@@ -88,7 +88,8 @@ module _ (end : End) (k : Chain) (s : Stage) (ws : List PlanWrite) (x : Cat) whe
       let ps : List ℕ = map (λ m. m - 1) (n ∷ ns) in
       let given = numbers_given g b (n ∷ ns) spelt.counts.geometry.files_to (spelt.whole l b at) in
       let w : PlannedWrite = planned (write_at V (place_of g IndexBitmap) (without_numbers b (n ∷ ns)) s empty_handed) in
-      let r = gives_numbers g k.node k.stock took l ps [] b w.block bs own x spelt (swapped k.node own took k.stock outs) (part_there g bs own x spelt IndexBitmap tt) at (all_of_it ps) tt given in
+      let r = gives_numbers g k.node k.stock took l ps [] b w.block bs own x spelt (swapped k.node own took k.stock outs) (part_there g bs own x spelt IndexBitmap tt) at (all_of_it ps) tt given
+      (stock_blank g bs own x k.node k.stock took ps [] spelt (swapped k.node own took k.stock outs) (all_of_it ps)) in
       let step = refill_step g k.node k.cmd k.locks k.cat x k.stock nothing w bs own r stage refl in
       (r.new, x, step, rest r.new (record { spelt = r.spelt; outs = swapped k.node r.new k.stock nothing r.outs }))
 

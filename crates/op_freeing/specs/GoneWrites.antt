@@ -25,7 +25,8 @@ use Rattle.op_law.specs.Refusing.{SeenFile}
 use Rattle.op_law.specs.Freeing.{SeenSpace, blocks_for, all_clusters, freeing_writes}
 use Rattle.op_law.specs.Writing.{empty_handed}
 use Rattle.op_steps.specs.Chained.{Chain, StepsOf, StageOf, StandsOn}
-use Rattle.op_steps.specs.Files.{file_in, IsFileThere}
+use Rattle.op_steps.specs.Files.{file_in}
+use Rattle.vol_spell.specs.Files.{IsFileThere}
 use Rattle.op_freeing.specs.BitmapWrites.{storage_seen, index_seen}
 
 -- what a command looks at before the file of number n goes, as the blocks have it

@@ -3,7 +3,7 @@
 ghost use Rattle.std.specs.Prelude.{◌≡◌, ◌≤◌, ◌+◌, ◌/◌, ◌++◌, IfOk, OnOk};
 ghost use Rattle.std.specs.List.{range_with_len};
 ghost use Rattle.vol_parts.specs.Parts.{IsGeometry};
-ghost use Rattle.op_law.specs.Writing.{clusters_seen};
+ghost use Rattle.vol_spell.specs.Files.{clusters_seen};
 ghost use Rattle.op_law.specs.Freeing.{all_clusters};
 ghost use Rattle.op_law.specs.Readable.{HasMap, AreInside};
 ghost use Rattle.op_steps.specs.Seeing.{file_seen, IsReadable};

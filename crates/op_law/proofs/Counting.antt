@@ -1,5 +1,5 @@
 -- The events and the writes that commands have in common, counted. A directory and the quota file have one cluster, of up to 16
--- blocks; the storage bitmap has up to 16 blocks; a file above number 11 has up to 77 clusters.
+-- blocks; the storage bitmap has up to 16 blocks; a file above number 11 has up to file_most clusters.
 use Rattle.std.proofs.Common.{◌≡◌, ◌≤◌, ◌<◌, ◌-◌, ◌+◌, ◌*◌, ◌/◌, ◌∙◌, ℕ, zero, suc, Bool, true, false, cond, List, [], ◌∷◌, ◌++◌, Option, Some, None, length, map, take, drop, refl, sym, ap, subst, arith, length-append, length-take, length-drop}
 use Rattle.std.specs.Prelude.{◌==◌, ◌&&◌, not, option_map, slice_index_or, unwrap_or, filter, if◌then◌else◌, Result, Ok, Err}
 use Rattle.std.specs.Str.{bytes_eq}
@@ -21,7 +21,6 @@ use Rattle.fx_header.specs.declared.run.Run.{Run}
 use Rattle.fx_header.specs.declared.slot.Hdr.{Hdr}
 use Rattle.fx_header.specs.declared.slot.Slot.TheVariants as head
 use Rattle.fx_header.specs.Headers.{header_read, runs_in}
-use Rattle.fx_header.specs.Pointers.{lbns_in}
 use Rattle.fx_quota.specs.declared.types.Row.{Row}
 use Rattle.lock_db.specs.declared.name.LockName.{LockName}
 use Rattle.lock_db.specs.declared.name.LockName.TheVariants.{S, Q}
@@ -36,28 +35,29 @@ use Rattle.plain_cat.specs.declared.reply.Refusal.{Refusal}
 use Rattle.plain_cat.specs.declared.reply.Refusal.TheVariants as refusal
 use Rattle.plain_cat.specs.declared.cat.Cat.{Cat}
 use Rattle.vol_spell.specs.Owners.{Owners}
-use Rattle.vol_spell.proofs.Placing.{spread_places}
 use Rattle.vol_parts.specs.declared.finding.Finding.TheVariants as finding
 use Rattle.vol_parts.specs.declared.geometry.Geometry.{Geometry}
-use Rattle.vol_parts.specs.Volumes.{most_clusters, fields_in, runs_with}
+use Rattle.plain_rules.specs.Lookups.{clusters_in, file_most}
+use Rattle.vol_parts.specs.Volumes.{fields_in, Told}
 use Rattle.vol_parts.specs.Fatal.{is_cluster_run, has_dir_size, found_in}
 use Rattle.vol_parts.specs.Parts.{IsGeometry, storage_blocks}
-use Rattle.vol_spell.specs.Reading.{IsFileNumber, header_place, header_block, told_of, body_blocks, runs_told, clusters_of, quota_places, total_of}
+use Rattle.vol_spell.specs.Reading.{IsFileNumber, header_place, header_block, told_of, alone, body_blocks, clusters_told, quota_places, total_of}
 use Rattle.vol_spell.specs.Spelling.{dir_found, Spells}
+use Rattle.vol_spell.proofs.Adds.{size_told}
+use Rattle.vol_spell.proofs.Heads.{alone_told}
 use Rattle.vol_spell.proofs.Parts.{told}
-use Rattle.vol_spell.proofs.Runs.{lbns_spread}
+use Rattle.vol_parts.specs.Catalogues.{slot_with}
 use Rattle.op_law.specs.Events.{Events, Take, Look, Space}
 use Rattle.op_law.specs.Rows.{answers, refuses, is_number, live_in, look_all, through_header, in_directory, through_directory}
-use Rattle.vol_spell.specs.Entries.{places_in}
+use Rattle.vol_spell.specs.Entries.{places_in, raw_entry}
 use Rattle.op_law.specs.Refusing.{SeenFile, seen_file, if_file, unless_refused, through_live}
 use Rattle.op_law.specs.Writing.{Held, empty_handed}
 use Rattle.op_law.specs.Quotas.{row_place, changed_write, row_discharged, owner_write, through_quota}
 use Rattle.vol_spell.specs.Rows.{is_row_of}
 use Rattle.op_law.specs.Moving.{SeenDir, moves_at, move_write, insertion_moves, insertion_writes, removal_writes}
-use Rattle.vol_spell.specs.Entries.{raw_entry}
 use Rattle.op_law.specs.Freeing.{SeenSpace, lies_in, blocks_for, storage_writes, index_write, freeing_tail, freeing_writes, all_clusters}
 use Rattle.op_law.proofs.Heads.{header_is}
-use Rattle.op_law.proofs.Telling.{number_is, live_reads, reads_runs, blocks_said, quotient}
+use Rattle.op_law.proofs.Telling.{number_is, live_reads}
 use Rattle.op_law.proofs.Brief.{BriefBy, brief_more}
 use Rattle.vol_spell.proofs.EntryDirs.{one_cluster}
 
@@ -75,24 +75,22 @@ module _ (g : Geometry) (bs : List Block) (own : Owners) (c : Cat) (s : Spells g
   pub few_places : f.dir ≡ true → length (places_in hb) ≤ 16
   few_places d =
       let t = told g bs own c s n is in
-      let found : dir_found g n (Some f) (runs_with (Some f) hb) (body_blocks bs n (told_of g bs n)) ≡ None =
-      ap (λ r. dir_found g n (fields_in r) (runs_with (fields_in r) hb) (body_blocks bs n (told_of g bs n))) (sym reads) ∙ t.dir in
-      let size = sized g n f (runs_in hb) (body_blocks bs n (told_of g bs n)) d found in
+      let found : dir_found g n (Some f) (runs_in hb) (body_blocks bs n (alone n f hb)) ≡ None =
+      ap (λ (z : Told). dir_found g n (fields_in z.head) z.runs (body_blocks bs n z)) (sym (alone_told g bs n f reads)) ∙ t.dir in
+      let size = sized g n f (runs_in hb) (body_blocks bs n (alone n f hb)) d found in
       let run = and_parts (is_cluster_run g.cluster (runs_in hb)) ((f.mark == 0) && ((f.end == g.cluster + 1) && (f.byte == 0))) size in
       let e = one_cluster g.cluster (runs_in hb) run.0 in
       let top = s.counts.geometry.cluster_to in
       omega arith
 
-  -- above number 11 it has at most 77 clusters
-  pub few_clusters : 11 < n → f.blocks / g.cluster ≤ most_clusters
+  -- above number 11 it has not more clusters than a file may have
+  pub few_clusters : 11 < n → f.blocks / g.cluster ≤ file_most
   few_clusters above =
       let t = told g bs own c s n is in
-      let low = s.counts.geometry.cluster_from in
-      let k = length (clusters_of g.cluster (runs_told hb)) in
-      let count : length (lbns_in (runs_told hb)) ≡ k * g.cluster = ap length (lbns_spread g (runs_told hb) low t.whole) ∙ spread_places.count g.cluster (clusters_of g.cluster (runs_told hb)) in
-      let same : length (lbns_in (runs_told hb)) ≡ f.blocks = ap (λ rs. length (lbns_in rs)) (reads_runs hb f reads) ∙ blocks_said hb f reads in
-      let e : f.blocks / g.cluster ≡ k = ap (λ m. m / g.cluster) (sym same ∙ count) ∙ quotient k g.cluster low in
-      let few : k ≤ most_clusters = t.few above in
+      let body = body_blocks bs n (told_of g bs n) in
+      let said : f.blocks / g.cluster ≡ clusters_in (slot_with g.cluster n (told_of g bs n).head body) = ap (λ (z : Told). clusters_in (slot_with g.cluster n z.head body)) (sym (alone_told g bs n f reads)) in
+      let count : f.blocks / g.cluster ≡ length (clusters_told g (told_of g bs n)) = said ∙ ap clusters_in t.slot ∙ size_told g own n (told_of g bs n) body _ s.counts.geometry.cluster_from t in
+      let few : length (clusters_told g (told_of g bs n)) ≤ file_most = t.few above in
       omega arith
 
 -- ---- events

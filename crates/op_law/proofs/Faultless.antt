@@ -27,7 +27,8 @@ use Rattle.op_law.specs.Behind.{blocks_alone}
 use Rattle.op_law.specs.Events.{Events, Take, Look, Space, Follows}
 use Rattle.op_law.specs.Rows.{is_number, refuses, live_in, look_all, in_directory, through_directory}
 use Rattle.op_law.proofs.Heads.{header_is}
-use Rattle.op_law.proofs.Telling.{number_is, live_reads, file_told_at, file_blocks}
+use Rattle.op_law.proofs.Telling.{number_is, live_reads}
+use Rattle.vol_spell.proofs.HeadSlots.{file_told_at, file_blocks}
 
 -- blocks that were looked at in turn are those at their places
 looked_at : (bs : List Block) (name : LockName) (ls : List ℕ) (next : List Block → Events) (locks : List (LockName × Mode)) (seen : List (ℕ × Block)) (space : Space) (given : Type 0)

@@ -14,13 +14,14 @@ use Rattle.base_words.specs.Lists.{StandsIn}
 use Rattle.vol_spell.specs.Owners.{Owners}
 use Rattle.vol_parts.specs.declared.geometry.Geometry.{Geometry}
 use Rattle.vol_parts.specs.Parts.{IsGeometry}
-use Rattle.vol_spell.specs.Reading.{IsFileNumber, header_place, header_block, runs_told, total_of}
+use Rattle.vol_spell.specs.Reading.{IsFileNumber, header_place, header_block, told_of, total_of}
 use Rattle.vol_spell.specs.Spelling.{AreWhole, Spells}
 use Rattle.vol_spell.proofs.Parts.{told}
 use Rattle.op_law.specs.Readable.{EndsInside, AreInside, HeadIsInside}
 use Rattle.op_law.specs.Behind.{first_seen}
 use Rattle.op_law.specs.Events.{Events, Take, Look, Space, Follows}
 use Rattle.op_law.specs.Rows.{is_number, refuses, through_header}
+use Rattle.vol_spell.proofs.HeadSlots.{alone_runs}
 use Rattle.op_law.proofs.Telling.{number_is}
 
 pub head_inside : (blocks : List (ℕ × Block)) (b : Block) (behind : List (ℕ × Block)) → first_seen blocks ≡ Some (b, behind) → HeadIsInside blocks → AreInside b
@@ -50,7 +51,7 @@ module _ (g : Geometry) (bs : List Block) (own : Owners) (c : Cat) (s : Spells g
   -- the block that was looked at in the place of a file's header is one whose runs are inside
   pub header_inside : (n : ℕ) (b : Block) → IsFileNumber g n → slice_get bs (header_place g n) ≡ Some b → AreInside b
   header_inside n b is at = subst AreInside (header_is g bs n (header_place g n) b refl at)
-      (runs_inside g (runs_told (header_block g bs n)) s.counts.geometry (told g bs own c s n is).whole)
+      (subst (λ (rs : List Run). All EndsInside rs) (alone_runs g bs own c s n is) (runs_inside g (told_of g bs n).runs s.counts.geometry (told g bs own c s n is).whole))
 
   -- so is what was seen first under a file's lock
   pub through_inside : (fid : Fid) (mode : Mode) (next : Block → Events) (locks : List (LockName × Mode)) (blocks : List (ℕ × Block)) (space : Space) (given : Type 0)

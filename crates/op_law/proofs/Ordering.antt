@@ -15,13 +15,12 @@ use Rattle.base_words.specs.Lists.{Has}
 use Rattle.vol_spell.specs.Owners.{Owners}
 use Rattle.base_words.proofs.Listing.{has_place}
 use Rattle.vol_parts.specs.declared.geometry.Geometry.{Geometry}
-use Rattle.plain_rules.specs.SystemFiles.{is_system_entry}
-use Rattle.plain_rules.specs.SystemFiles.{listed}
-use Rattle.plain_rules.specs.SystemFiles.{entries_of}
+use Rattle.plain_rules.specs.SystemFiles.{is_system_entry, listed, entries_of}
 use Rattle.vol_spell.specs.Spelling.{Spells}
 use Rattle.op_law.specs.Rows.{entries_seen}
 use Rattle.op_law.specs.Order.{NamesNumber, One, level, IsBefore, Higher, Named}
-use Rattle.op_law.proofs.Telling.{live_reads, file_told_at}
+use Rattle.op_law.proofs.Telling.{live_reads}
+use Rattle.vol_spell.proofs.HeadSlots.{file_told_at}
 use Rattle.op_law.proofs.Through.{file_header, file_told, listed_blocks, IsListed}
 
 -- ---- an entry that is found is there

@@ -1,5 +1,5 @@
 -- What is known of the space that a command was given, and why it was given none.
-use Rattle.std.proofs.Common.{◌≡◌, ◌≤◌, ◌<◌, ◌+◌, ◌-◌, ◌∙◌, inl, ℕ, Bool, true, false, List, ◌++◌, Option, Some, None, length, slice_get, refl, sym, ap, subst, arith}
+use Rattle.std.proofs.Common.{◌≡◌, ◌≤◌, ◌<◌, ◌+◌, ◌-◌, ◌∙◌, inl, ℕ, suc, Bool, true, false, List, ◌++◌, Option, Some, None, length, slice_get, refl, sym, ap, subst, arith}
 use Rattle.std.specs.Prelude.{◌&&◌, not, nat_lt}
 use Rattle.std.proofs.lemmas.Bool.{and_parts}
 use Rattle.std.proofs.lemmas.Bool.Decides.{nat_tests}
@@ -14,7 +14,7 @@ use Rattle.plain_cat.specs.declared.cat.Cat.{Cat}
 use Rattle.plain_cat.specs.declared.cat.File.{File}
 use Rattle.plain_cat.specs.declared.cat.Slot.{Slot}
 use Rattle.plain_cat.specs.declared.cat.Slot.TheVariants.{Used, Free}
-use Rattle.plain_rules.specs.Lookups.{slot_at, file_in, file_at, of_seq, unmarked, live, free_clusters, is_free_slot, is_leaked, is_free_number, has_free_number}
+use Rattle.plain_rules.specs.Lookups.{slot_at, file_in, file_at, of_seq, unmarked, live, free_clusters, is_free_slot, is_leaked, is_free_number, free_count, has_free_number}
 use Rattle.plain_rules.specs.Answers.{IsPick}
 use Rattle.plain_rules.proofs.Picks.{number_of, pick_of}
 use Rattle.vol_spell.specs.declared.owner.Owner.TheVariants.{Outside}
@@ -24,7 +24,7 @@ use Rattle.vol_spell.specs.Reading.{IsFileNumber}
 use Rattle.vol_spell.specs.Spelling.{Spells}
 use Rattle.vol_under.specs.UnderWay.{together}
 use Rattle.vol_under.specs.Ending.{file_numbers}
-use Rattle.vol_under.proofs.Leaking.{outside_may_leak}
+use Rattle.vol_under.proofs.Leaking.{numbers_all, outside_may_leak}
 use Rattle.op_law.specs.declared.seen.Seen.{Seen}
 use Rattle.op_law.specs.Knows.{channel_of, has_channel, Wanted, wanted, is_short, is_new_number, usages_fit, opens_hold, knows}
 use Rattle.op_law.specs.Fits.{things}
@@ -55,7 +55,7 @@ pub clusters_given : (g : Geometry) (bs : List Block) (own : Owners) (c : Cat) (
 clusters_given g bs own c node qs number stock s outs = by_number number outs where
   count : (took : Things) → Outs node own took stock → length took.clusters ≤ free_clusters c
   count took outs =
-      let leak = outside_may_leak g bs own c node took stock (file_numbers (together took stock)) s outs (λ m. ((λ h. h), (λ h. h))) in
+      let leak = outside_may_leak g bs own c node took stock (file_numbers (together took stock)) s outs (numbers_all (together took stock) outs.numbers.once) in
       let long = length-append took.clusters stock.clusters in
       let le : length (took.clusters ++ stock.clusters) ≤ free_clusters c = leak.0 in
       omega arith
@@ -64,27 +64,32 @@ clusters_given g bs own c node qs number stock s outs = by_number number outs wh
   by_number None outs = count (things qs None) outs
   by_number (Some n) outs = count (things qs (Some n)) outs
 
--- the number is one of the volume's, above those of the system files, and free, and so many clusters are free
+-- the number is one of the volume's, above those of the system files, and may be taken, and so many clusters are free
 pub record IsSpace (g : Geometry) (c : Cat) (qs : List ℕ) (n : ℕ) : Type 0 where
   pub number : IsFileNumber g n
   pub above : 11 < n
   pub free : is_free_number c n ≡ true
+  pub pick : IsPick c (Some n)
   pub enough : length qs ≤ free_clusters c
 
 pub space_given : (g : Geometry) (bs : List Block) (own : Owners) (c : Cat) (node : ℕ) (qs : List ℕ) (n : ℕ) (stock : Things) → Spells g bs own c → Outs node own (things qs (Some n)) stock → is_new_number (Some n) ≡ true
     → IsSpace g c qs n
 space_given g bs own c node qs n stock s outs new =
     let took = things qs (Some n) in
-    let leak = outside_may_leak g bs own c node took stock (file_numbers (together took stock)) s outs (λ m. ((λ h. h), (λ h. h))) in
+    let leak = outside_may_leak g bs own c node took stock (file_numbers (together took stock)) s outs (numbers_all (together took stock) outs.numbers.once) in
+    let many : suc (length (file_numbers stock)) ≤ free_count c = leak.2 in
     let above : 11 < n = grind (arith, nat_tests) in
     let back : n - 1 + 1 ≡ n = omega arith in
     let out : slice_get own.numbers (n - 1) ≡ Some (Outside node) = (outs.numbers.all (n - 1)).1 (inl (inl refl)) in
     let lt = slice_get_within own.numbers (n - 1) (Outside node) out in
     let count = s.counts.numbers in
+    let free : is_free_number c n ≡ true = subst (λ k. is_free_number c k ≡ true) back (and_parts (is_free_number c (n - 1 + 1)) _ leak.1).0 in
+    let has : has_free_number c ≡ true = grind (arith, nat_tests) in
     record {
       number = record { from = omega arith; to = omega arith };
       above = above;
-      free = subst (λ k. is_free_number c k ≡ true) back (and_parts (is_free_number c (n - 1 + 1)) _ leak.1).0;
+      free = free;
+      pick = pick_of c n free has;
       enough = clusters_given g bs own c node qs (Some n) stock s outs;
     }
 

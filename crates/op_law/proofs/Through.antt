@@ -43,7 +43,8 @@ use Rattle.op_law.specs.Quotas.{through_quota}
 use Rattle.op_law.specs.Order.{IsBefore}
 use Rattle.op_law.specs.Laws.{held_in, ComesInTurn, Fixed, IsLockedLook}
 use Rattle.op_law.proofs.Heads.{header_is}
-use Rattle.op_law.proofs.Telling.{live_reads, reads_runs, file_blocks, live_is, not_live, number_is}
+use Rattle.op_law.proofs.Telling.{live_reads, live_is, not_live, number_is}
+use Rattle.vol_spell.proofs.HeadSlots.{reads_runs, file_blocks}
 use Rattle.op_law.proofs.Looks.{IsUnder, header_under, block_under}
 use Rattle.op_law.proofs.Walking.{ObeysBy}
 

@@ -1,7 +1,8 @@
 -- How much a command needs and writes.
-use Rattle.std.specs.Prelude.{◌≤◌, ℕ, length}
+use Rattle.std.specs.Prelude.{◌≤◌, ◌+◌, ◌*◌, ℕ, length}
 use Rattle.plain_cat.specs.declared.command.Cmd.{Cmd}
 use Rattle.plain_cat.specs.declared.command.Cmd.TheVariants as cmd
+use Rattle.plain_rules.specs.Lookups.{file_most}
 use Rattle.op_law.specs.declared.need.Need.TheVariants as need
 use Rattle.op_law.specs.declared.need.Plan.{Plan}
 use Rattle.op_law.specs.declared.seen.Seen.{Seen}
@@ -16,11 +17,11 @@ most_locks = 4
 abbrev pub most_looks : ℕ
 most_looks = 70
 
--- The most writes of its plan. A file has up to 1,232 blocks, 77 clusters of 16, so a WRITE has up to 1,231 zeros, the block, and
+-- The most writes of its plan. A file has up to file_most clusters of 16 blocks, so a WRITE has up to one zero fewer, the block, and
 -- the header. A CLOSE has the header, up to 16 blocks of the storage bitmap, that of the index file, and a quota block. Of the
 -- others a RENAME has the most: an insertion and a removal, each of up to 33 writes.
 abbrev pub most_writes : Cmd → ℕ
-most_writes (cmd.WriteBlock chan vbn text) = 1233
+most_writes (cmd.WriteBlock chan vbn text) = 16 * file_most + 1
 most_writes (cmd.CloseFile chan) = 30
 most_writes other = 120
 

@@ -3,7 +3,6 @@ use Rattle.std.specs.Prelude.{◌==◌, ◌||◌, ◌-◌, ◌*◌, ◌++◌, na
 use Rattle.std.specs.List.{range_with_len}
 use Rattle.base_words.specs.Fields.{Block}
 use Rattle.base_words.specs.Tables.{zeros}
-use Rattle.fx_header.specs.Headers.{with_mark, with_end}
 use Rattle.plain_cat.specs.declared.ids.Fid.{Fid}
 use Rattle.plain_cat.specs.declared.mode.Mode.{Mode}
 use Rattle.plain_cat.specs.declared.mode.Mode.TheVariants.{PR, PW, EX}
@@ -14,6 +13,7 @@ use Rattle.plain_cat.specs.declared.cat.File.{File}
 use Rattle.plain_rules.specs.Changes.{is_past_mark, text_block, ended, marked_up}
 use Rattle.plain_rules.specs.Answers.{first_refusal, is_kept, is_reading}
 use Rattle.vol_parts.specs.declared.geometry.Geometry.{Geometry}
+use Rattle.vol_spell.specs.Files.{with_sizes}
 use Rattle.op_law.specs.declared.need.PlanWrite.{PlanWrite}
 use Rattle.op_law.specs.declared.need.Plan.{Plan}
 use Rattle.op_law.specs.declared.need.Ask.{Ask}
@@ -91,9 +91,6 @@ read_events g channel vbn = read_on g channel vbn
 -- ---- WRITE
 
 -- the header of a file whose mark and end come behind a virtual block that is written at or past them
-abbrev pub with_sizes : Block → File → Block
-with_sizes head f = with_end (with_mark head f.mark) f.end f.byte
-
 unfoldable pub written_header : SeenFile → ℕ → Block
 written_header f vbn = with_sizes f.head (ended (marked_up f.file vbn) vbn)
 

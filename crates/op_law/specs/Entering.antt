@@ -17,7 +17,7 @@ use Rattle.plain_cat.specs.declared.reply.Refusal.{Refusal}
 use Rattle.plain_cat.specs.declared.reply.Refusal.TheVariants as refusal
 use Rattle.plain_cat.specs.declared.cat.File.{File}
 use Rattle.plain_cat.specs.declared.cat.QuotaRow.{QuotaRow}
-use Rattle.plain_rules.specs.Lookups.{versions, row_of}
+use Rattle.plain_rules.specs.Lookups.{versions, row_of, header_most}
 use Rattle.plain_rules.specs.Directories.{is_nil, entry, new_version, is_last_version, is_taken}
 use Rattle.plain_rules.specs.Changes.{next_seq, new_file, new_dir}
 use Rattle.plain_rules.specs.Answers.{first_refusal, over_quota, shown, dir_name}
@@ -27,7 +27,6 @@ use Rattle.vol_spell.specs.Reading.{header_place}
 use Rattle.op_law.specs.declared.need.PlanWrite.{PlanWrite}
 use Rattle.op_law.specs.Events.{Events, Take, Look, Find, Make}
 use Rattle.op_law.specs.Refusing.{unless_refused, if_space}
-use Rattle.vol_parts.specs.Volumes.{most_clusters}
 use Rattle.op_law.specs.Writing.{holding, empty_handed, write_at, header_write, plan_of, clusters_for, runs_for}
 use Rattle.op_law.specs.Quotas.{through_quota, rows_seen, owner_write, row_charged}
 use Rattle.op_law.specs.Moving.{SeenDir, entries_of, through_names, is_full, insertion_writes}
@@ -119,7 +118,7 @@ create_refusals g entries name ver clusters =
     let es = versions name entries in
     (is_last_version ver es, refusal.BadVersion)
     ∷ (is_taken (new_version ver es) es, refusal.DupFile)
-    ∷ (nat_lt most_clusters clusters, refusal.FileLimit)
+    ∷ (nat_lt header_most clusters, refusal.FileLimit)
     ∷ (is_full g entries name (new_version ver es), refusal.DirFull)
     ∷ []
 

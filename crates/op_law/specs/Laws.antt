@@ -14,7 +14,7 @@ use Rattle.plain_cat.specs.declared.reply.Reply.{Reply}
 use Rattle.plain_cat.specs.declared.reply.Reply.TheVariants as reply
 use Rattle.plain_cat.specs.declared.cat.Cat.{Cat}
 use Rattle.plain_cat.specs.declared.cat.File.{File}
-use Rattle.plain_rules.specs.Lookups.{file_at}
+use Rattle.plain_rules.specs.Lookups.{file_at, header_most}
 use Rattle.vol_spell.specs.declared.owner.Owner.TheVariants.{InFile}
 use Rattle.base_words.specs.Lists.{Has, Touches, StandsIn}
 use Rattle.vol_spell.specs.Owners.{Owners, Things, nothing, Outs}
@@ -37,7 +37,6 @@ use Rattle.op_law.specs.declared.seen.Seen.{Seen}
 use Rattle.op_law.specs.declared.seen.Chan.{Chan}
 use Rattle.op_law.specs.Knows.{channel_of, asking_part, takes_space, Wanted, wanted, may_ask, knows, is_granted}
 use Rattle.op_law.specs.Events.{space_of, HasNoSpace, SearchesOnce}
-use Rattle.vol_parts.specs.Volumes.{most_clusters}
 use Rattle.op_law.specs.Order.{IsBefore}
 use Rattle.op_law.specs.Needs.{events_of, IsNext}
 use Rattle.op_law.specs.Fits.{HasSeen, things, IsSeenOn}
@@ -117,7 +116,7 @@ pub record IsGuardedLook (g : Geometry) (bs : List Block) (own : Owners) (locks 
 pub record IsSearch (cmd : Cmd) (locks : List (LockName × Mode)) (k : Wanted) (clusters : ℕ) (number : Bool) : Type 0 where
   pub takes : takes_space cmd ≡ true
   pub quota : Has (held_in PW locks) Q
-  pub few : clusters ≤ most_clusters
+  pub few : clusters ≤ header_most
   pub clusters_are : clusters ≡ k.clusters
   pub number_is : number ≡ k.number
 

@@ -1,5 +1,5 @@
 -- The quota blocks: the rows that they tell, the write of one row, and the commands on quotas.
-use Rattle.std.specs.Prelude.{◌==◌, ◌+◌, ◌-◌, ◌*◌, ◌/◌, ◌%◌, ℕ, Bool, List, [], ◌∷◌, Option, Some, None, is_none, length, flat_map}
+use Rattle.std.specs.Prelude.{◌+◌, ◌-◌, ◌*◌, ◌/◌, ◌%◌, ℕ, Bool, List, [], ◌∷◌, Option, Some, None, is_none, length, flat_map}
 use Rattle.std.specs.List.{range_with_len, position}
 use Rattle.base_words.specs.Fields.{Block}
 use Rattle.fx_quota.specs.declared.types.Row.{Row}

@@ -6,7 +6,8 @@ use Rattle.plain_cat.specs.declared.history.Stage.{Stage}
 use Rattle.vol_parts.specs.declared.geometry.Geometry.{Geometry}
 use Rattle.op_law.specs.declared.need.PlanWrite.{PlanWrite}
 use Rattle.op_law.specs.Refusing.{SeenFile}
-use Rattle.op_law.specs.Writing.{clusters_seen, block_place, body_write}
+use Rattle.op_law.specs.Writing.{block_place, body_write}
+use Rattle.vol_spell.specs.Files.{clusters_seen}
 
 -- its clusters, in the file's order: as many as it has blocks for
 abbrev pub file_clusters : Geometry → SeenFile → List ℕ

@@ -1,5 +1,5 @@
 -- The commands that give a file more clusters, or fewer.
-use Rattle.std.specs.Prelude.{◌==◌, ◌-◌, ◌+◌, ◌*◌, ◌++◌, nat_lt, min, ℕ, Bool, false, List, [], ◌∷◌, None, take, drop, if◌then◌else◌}
+use Rattle.std.specs.Prelude.{◌==◌, ◌-◌, ◌+◌, ◌*◌, ◌++◌, ◌||◌, nat_lt, min, ℕ, Bool, false, List, [], ◌∷◌, None, take, drop, if◌then◌else◌}
 use Rattle.base_words.specs.Fields.{Block}
 use Rattle.fx_header.specs.Headers.{with_runs, with_mark, with_end, scattered}
 use Rattle.lock_db.specs.declared.name.LockName.TheVariants.{V}
@@ -11,14 +11,13 @@ use Rattle.plain_cat.specs.declared.reply.Reply.TheVariants as reply
 use Rattle.plain_cat.specs.declared.reply.Refusal.{Refusal}
 use Rattle.plain_cat.specs.declared.reply.Refusal.TheVariants as refusal
 use Rattle.plain_cat.specs.declared.cat.File.{File}
-use Rattle.plain_rules.specs.Lookups.{row_of}
+use Rattle.plain_rules.specs.Lookups.{row_of, header_most, file_most}
 use Rattle.plain_rules.specs.Answers.{first_refusal, over_draft, is_kept}
 use Rattle.vol_parts.specs.declared.geometry.Geometry.{Geometry}
 use Rattle.op_law.specs.declared.need.PlanWrite.{PlanWrite}
 use Rattle.op_law.specs.Events.{Events, Take, Find, Make}
 use Rattle.op_law.specs.Rows.{answers}
 use Rattle.op_law.specs.Refusing.{SeenFile, unless_refused, through_live, if_clusters}
-use Rattle.vol_parts.specs.Volumes.{most_clusters}
 use Rattle.op_law.specs.Writing.{holding, empty_handed, header_write, plan_of, clusters_for, runs_for}
 use Rattle.op_law.specs.SeenFiles.{file_clusters}
 use Rattle.op_law.specs.Quotas.{through_quota, rows_seen, owner_write, row_charged, row_discharged}
@@ -49,7 +48,7 @@ grown_by g f quota k qs = Make (plan_of (growing_writes g f quota qs k) (size_sh
 
 -- the refusals that the header shows
 abbrev pub growing_refusals : SeenFile → ℕ → List (Bool × Refusal)
-growing_refusals f k = (is_kept f.num f.file, refusal.NoPriv) ∷ (nat_lt most_clusters (f.file.clusters + k), refusal.FileLimit) ∷ []
+growing_refusals f k = (is_kept f.num f.file, refusal.NoPriv) ∷ (nat_lt header_most k || nat_lt file_most (f.file.clusters + k), refusal.FileLimit) ∷ []
 
 -- and the one that the quota blocks show
 abbrev pub draft_refusals : Geometry → SeenFile → List Block → ℕ → List (Bool × Refusal)

@@ -59,10 +59,6 @@ asking_plan ws a r = record { writes = ws; ask = Some a; reply = r }
 abbrev pub clusters_for : Geometry → ℕ → ℕ
 clusters_for g blocks = (blocks + (g.cluster - 1)) / g.cluster
 
--- the clusters of a file by the block of its header, in the file's order
-abbrev pub clusters_seen : Geometry → Block → List ℕ
-clusters_seen g head = clusters_of g.cluster (runs_in head)
-
 -- the runs of clusters, one for each
 abbrev pub runs_for : Geometry → List ℕ → List Run
 runs_for g qs = map (λ q. record { lbn = q * g.cluster; count = g.cluster }) qs

@@ -15,6 +15,7 @@
 #![tactic(auto)]
 
 mod laws;
+mod limits;
 mod lists;
 mod need;
 mod numbers;
@@ -24,6 +25,7 @@ mod seeing;
 mod seen;
 
 pub use laws::{looks_reply, seen_goes_on};
+pub use limits::{FILE_MOST, HEADER_MOST};
 pub use lists::{KeptLocks, SeenBlocks, SeenLocks, Writes};
 pub use need::{Ask, Need, Plan, PlanWrite};
 pub use numbers::Numbers;

@@ -16,7 +16,7 @@ pub enum Need {
     /// A look at a file's own block, by its LBN. It is read from the drive each time.
     Bare(u32),
 
-    /// So many free clusters, 0 to 77, and a free file number or none.
+    /// So many free clusters, no more than one header has, and a free file number or none.
     Space { clusters: u32, number: bool },
 
     /// Nothing more: the plan is made.

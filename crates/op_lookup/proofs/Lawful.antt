@@ -31,7 +31,8 @@ use Rattle.op_law.specs.Events.{Space, space_of, HasNoSearch}
 use Rattle.op_law.specs.Rows.{plain_plan, answers, live_in, through_header, through_directory, entries_seen}
 use Rattle.op_law.specs.Needs.{facts_of, facts_or_none, lookup_events, list_events, stat_events, events_of}
 use Rattle.op_law.specs.Laws.{Lawful}
-use Rattle.op_law.proofs.Telling.{live_reads, live_is, not_live, blocks_whole}
+use Rattle.op_law.proofs.Telling.{live_reads, live_is, not_live}
+use Rattle.vol_spell.proofs.HeadSlots.{blocks_whole}
 use Rattle.op_law.proofs.Walking.{EveryPlan, Obeys}
 use Rattle.op_law.proofs.Through.{header_so, directory_so, file_header, file_told, listed_blocks, header_obeys, directory_obeys}
 use Rattle.op_law.proofs.Brief.{BriefBy, Briefs}

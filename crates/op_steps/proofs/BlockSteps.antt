@@ -1,17 +1,20 @@
 -- The write of a block of a file that is no directory is a step.
 use Rattle.std.proofs.Common.{◌≡◌, ◌-◌, ◌∙◌, ℕ, Bool, false, List, Some, slice_set, sym, ap}
+use Rattle.std.specs.Prelude.{Ok}
 use Rattle.base_words.specs.Fields.{Block}
+use Rattle.fx_header.specs.declared.slot.Slot.TheVariants as head
 use Rattle.plain_cat.specs.declared.cat.File.{File}
 use Rattle.plain_cat.specs.declared.cat.Slot.TheVariants as slot
 use Rattle.plain_rules.specs.Changes.{with_file}
 use Rattle.vol_spell.specs.Spread.{blocks_at}
 use Rattle.vol_parts.specs.declared.geometry.Geometry.{Geometry}
-use Rattle.vol_parts.specs.Volumes.{fields_in}
+use Rattle.vol_parts.specs.Volumes.{fields_in, Told}
 use Rattle.vol_parts.specs.Catalogues.{slot_with, file_of}
 use Rattle.vol_spell.specs.Reading.{header_block, told_of, body_blocks}
 use Rattle.vol_spell.specs.Spelling.{dir_found}
 use Rattle.vol_spell.specs.Kinds.{IsBodyFor}
 use Rattle.vol_spell.specs.Views.{IsFileAt}
+use Rattle.vol_spell.proofs.Heads.{alone_told}
 use Rattle.vol_spell.proofs.Viewing.{body_set}
 use Rattle.vol_under.specs.Chains.{End, IsStep}
 use Rattle.vol_under.proofs.Reach.{step_kinds}
@@ -20,33 +23,36 @@ use Rattle.op_law.specs.Laws.{planned}
 use Rattle.vol_spell.specs.Entries.{places_in}
 use Rattle.op_law.specs.SeenFiles.{file_place, file_write}
 use Rattle.op_steps.specs.Files.{file_in}
-use Rattle.op_steps.specs.BlockWrites.{showing, BlockSteps}
-use Rattle.op_steps.proofs.Places.{places, body, no_dir, body_place, shows}
+use Rattle.op_steps.specs.BlockWrites.{BlockSteps}
+use Rattle.vol_spell.specs.Files.{showing}
+use Rattle.op_steps.proofs.Places.{body_place}
+use Rattle.vol_spell.proofs.FilePlaces.{places, body, no_dir, shows}
 
 pub block_steps : (end : End) → BlockSteps end
 block_steps end k n h f vbn b s ws x bs own on has whole stage rest =
     let g : Geometry = k.geometry in
     let there = has.there in
-    let head : Block = header_block g bs n in
+    let first : Block = header_block g bs n in
     let w : PlanWrite = file_write (file_in g bs n h) vbn b s in
     let l : ℕ = file_place (file_in g bs n h) vbn in
     let new : File = showing f vbn b in
     let old : List Block = body_blocks bs n (told_of g bs n) in
     let at = body_place g bs own x n h f on.spelt there vbn has.from has.to in
     let flat : h.dir ≡ false = no_dir g bs own x n h f on.spelt there has.flat in
+    let head_is : (told_of g bs n).head ≡ Ok (head.Used h) = ap (λ (t : Told). t.head) (alone_told g bs n h there.reads) in
     let is : IsBodyFor g bs n (vbn - 1) l b (slot.Used new) = record {
       whole = whole;
       number = there.number;
       place = at;
-      dir = ap (λ r. dir_found g n (fields_in r) (told_of g bs n).runs (slice_set old (vbn - 1) b)) there.reads
+      dir = ap (λ r. dir_found g n (fields_in r) (told_of g bs n).runs (slice_set old (vbn - 1) b)) head_is
           ∙ ap (λ (d : Bool). dir_found g n (Some (record h { dir = d })) (told_of g bs n).runs (slice_set old (vbn - 1) b)) flat;
-      slot = ap (λ r. slot_with g.cluster n r (slice_set old (vbn - 1) b)) there.reads
+      slot = ap (λ r. slot_with g.cluster n r (slice_set old (vbn - 1) b)) head_is
           ∙ ap (λ (ys : List Block). slot.Used (file_of g.cluster n h (slice_set ys (vbn - 1) b))) (body g bs own x n h f on.spelt there)
           ∙ ap (λ (y : File). slot.Used y) (shows g bs own x n h f on.spelt there vbn has.from has.to has.flat b);
     } in
     let step : IsStep g k.node k.cmd k.locks k.cat k.stock (planned w) bs own own (with_file x n new) =
     (step_kinds g k.node k.cmd k.locks k.cat k.stock).body (planned w) bs own x n (vbn - 1) (slot.Used new) on.spelt is stage on.outs in
-    let set : IsFileAt g (slice_set bs l b) n head (told_of g bs n) (slice_set old (vbn - 1) b) = body_set g bs own x n (vbn - 1) l b on.spelt there.number at in (
+    let set : IsFileAt g (slice_set bs l b) n first (told_of g bs n) (slice_set old (vbn - 1) b) = body_set g bs own x n (vbn - 1) l b on.spelt there.number at in (
       own,
       with_file x n new,
       step,

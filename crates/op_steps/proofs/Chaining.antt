@@ -17,12 +17,13 @@ use Rattle.vol_spell.specs.Spread.{blocks_at}
 use Rattle.base_words.proofs.ListWrites.{get-set_else}
 use Rattle.vol_parts.specs.declared.geometry.Geometry.{Geometry}
 use Rattle.vol_parts.specs.Volumes.{Told}
-use Rattle.vol_spell.specs.Reading.{header_block, told_of, runs_told, body_places}
+use Rattle.vol_spell.specs.Reading.{header_block, told_of, body_places}
 use Rattle.vol_spell.specs.Spelling.{Spells}
 use Rattle.vol_spell.specs.Views.{IsSameFile}
+use Rattle.vol_spell.proofs.Heads.{alone_told}
 use Rattle.vol_spell.specs.Entries.{places_in}
 use Rattle.op_law.specs.Moving.{SeenDir}
-use Rattle.op_law.proofs.Telling.{live_reads, reads_runs}
+use Rattle.op_law.proofs.Telling.{live_reads}
 use Rattle.op_law.proofs.Looks.{plain_directory}
 use Rattle.op_law.proofs.Through.{IsListed}
 use Rattle.op_steps.specs.EntryWrites.{dir_in}
@@ -59,7 +60,7 @@ same_dir g bs own c s fid f dir bs' same =
     let reads : header_read h ≡ Ok (head.Used f) = live_reads fid.seq (header_read h) f dir.header in
     let t : Told = told_of g bs fid.num in
     let places : body_places fid.num t ≡ places_in h =
-    ap (λ t. cond t [] (lbns_in (runs_told h))) (plain_directory g bs own c s fid.num f reads dir.dir) ∙ ap (λ rs. lbns_in rs) (reads_runs h f reads) in
+    ap (λ k. cond k [] (lbns_in t.runs)) (plain_directory g bs own c s fid.num f reads dir.dir) ∙ ap (λ (z : Told). lbns_in z.runs) (alone_told g bs fid.num f reads) in
     let body : blocks_at bs' (places_in h) ≡ blocks_at bs (places_in h) =
     ap (blocks_at bs') (sym places) ∙ ap (λ x. blocks_at bs' (body_places fid.num x)) (sym same.told) ∙ same.body ∙ ap (blocks_at bs) places in
     ap (λ b. dir_of b (blocks_at bs' (places_in b))) same.header ∙ ap (dir_of h) body where

@@ -6,6 +6,7 @@ use Rattle.std.proofs.lemmas.Bool.Decides.{nat_tests}
 use Rattle.base_words.specs.Fields.{Block}
 use Rattle.fx_header.specs.Headers.{map_area}
 use Rattle.fx_header.specs.Pointers.{blocks_in, map_words}
+use Rattle.plain_rules.specs.Lookups.{header_most}
 use Rattle.base_words.specs.Lists.{Has}
 use Rattle.vol_parts.specs.declared.geometry.Geometry.{Geometry}
 use Rattle.vol_parts.specs.Parts.{IsGeometry}
@@ -27,15 +28,15 @@ cluster_ends g q geo lt =
     let top = geo.blocks_to in
     omega arith
 
--- 77 clusters have few blocks, and pointers to them few bytes
-pub few_blocks : (g : Geometry) (qs : List ℕ) → IsGeometry g → length qs ≤ 77 → blocks_in (runs_for g qs) ≤ 65536
+-- the clusters of one header have few blocks, and pointers to them few bytes
+pub few_blocks : (g : Geometry) (qs : List ℕ) → IsGeometry g → length qs ≤ header_most → blocks_in (runs_for g qs) ≤ 65536
 few_blocks g qs geo few =
     let e = blocks_for_runs g qs in
     let top = geo.cluster_to in
-    let up : g.cluster * length qs ≤ g.cluster * 77 = mul-le-mul_left g.cluster few in
+    let up : g.cluster * length qs ≤ g.cluster * header_most = mul-le-mul_left g.cluster few in
     omega arith
 
-pub few_words : (g : Geometry) (qs : List ℕ) (b : Block) → IsGeometry g → length qs ≤ 77 → ((q : ℕ) → Has qs q → q < total_of g) → map_area b ≡ 155 → nat_le (length (map_words (runs_for g qs))) (2 * map_area b) ≡ true
+pub few_words : (g : Geometry) (qs : List ℕ) (b : Block) → IsGeometry g → length qs ≤ header_most → ((q : ℕ) → Has qs q → q < total_of g) → map_area b ≡ 155 → nat_le (length (map_words (runs_for g qs))) (2 * map_area b) ≡ true
 few_words g qs b geo few within area =
     let e = short_words g geo.cluster_from qs within geo.cluster_to geo.blocks_to in
     grind (arith, nat_tests)

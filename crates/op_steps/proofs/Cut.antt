@@ -1,5 +1,5 @@
 -- The header of a file with its first clusters alone.
-use Rattle.std.proofs.Common.{◌≡◌, ◌∙◌, ◌≤◌, ◌<◌, ◌+◌, ◌-◌, ◌*◌, ◌/◌, ◌^◌, ◌++◌, ℕ, Bool, true, false, List, [], Some, length, take, drop, is_some, slice_get, refl, sym, ap, subst, inl, inr, arith, cond}
+use Rattle.std.proofs.Common.{◌≡◌, ◌∙◌, ◌≤◌, ◌<◌, ◌+◌, ◌-◌, ◌*◌, ◌/◌, ◌^◌, ◌++◌, ℕ, Bool, true, false, List, [], Some, length, take, drop, slice_get, refl, sym, ap, subst, inl, inr, arith, cond}
 use Rattle.std.specs.Prelude.{◌==◌, ◌↔◌, min, nat_lt, nat_le}
 use Rattle.std.proofs.Math.Nat.{mul-le-mul_left, mul-le-mul_right, mul-div_cancel_left}
 use Rattle.std.proofs.lemmas.Bool.Decides.{nat_tests}
@@ -18,7 +18,6 @@ use Rattle.vol_spell.specs.Spread.{blocks_at, spread}
 use Rattle.base_words.proofs.Listing.{has_parted, has_first, has_second, once_first, once_apart}
 use Rattle.vol_spell.proofs.Placing.{spread_joined, blocks_joined, spread_places, length-blocks_at}
 use Rattle.vol_parts.specs.declared.geometry.Geometry.{Geometry}
-use Rattle.vol_parts.specs.Volumes.{fields_in}
 use Rattle.vol_parts.specs.Catalogues.{is_structure, file_of}
 use Rattle.vol_spell.specs.Reading.{header_block}
 use Rattle.vol_spell.specs.Spelling.{dir_found}
@@ -28,16 +27,17 @@ use Rattle.vol_under.specs.Filing.{brought_out, AreFiled, Gives}
 use Rattle.vol_under.proofs.Files.{file_gives}
 use Rattle.op_law.specs.Freeing.{rising}
 use Rattle.op_law.specs.Sizes.{cut_header, cut_clusters}
-use Rattle.op_law.specs.Writing.{empty_handed, runs_for, clusters_seen}
+use Rattle.op_law.specs.Writing.{empty_handed, runs_for}
+use Rattle.vol_spell.specs.Files.{clusters_seen, IsFileThere}
 use Rattle.op_steps.specs.Chained.{Chain, StandsOn}
-use Rattle.op_steps.specs.Files.{file_in, IsFileThere}
+use Rattle.op_steps.specs.Files.{file_in}
 use Rattle.op_steps.specs.GoneWrites.{cut_write, CutSteps}
 use Rattle.op_steps.proofs.HeadSteps.{head_steps}
-use Rattle.op_steps.proofs.HeadFiles.{once, owned, within, sized, counted, all_seen, few, byte_within, not_structure}
-use Rattle.op_steps.proofs.HeadTold.{IsHeadWith, IsFileWith, head_for}
+use Rattle.vol_spell.proofs.HeadFiles.{once, owned, within, sized, counted, all_seen, few, byte_within, not_structure}
+use Rattle.vol_spell.proofs.HeadTold.{IsHeadWith, IsFileWith, head_for}
 use Rattle.op_steps.proofs.Rerun.{with_clusters, rerun}
-use Rattle.op_steps.proofs.Grown.{shown_by, remark, reend}
-use Rattle.op_steps.proofs.Kept.{first, file}
+use Rattle.op_steps.proofs.Grown.{shown_by}
+use Rattle.vol_spell.proofs.HeadKept.{remark, reend, first, file}
 use Rattle.op_steps.proofs.Rising.{rising_has, has_rising, once_rising}
 
 -- ---- what shows
@@ -115,7 +115,7 @@ module _ (k : Chain) (n : ℕ) (h : Hdr) (f : File) (kept : ℕ) (x : Cat) (bs :
   parts = take-append-drop kept cs
 
   file_now : f ≡ file_of k.geometry.cluster n h (blocks_at bs (spread k.geometry.cluster (clusters_seen k.geometry (header_block k.geometry bs n))))
-  file_now = file k n h f x bs own on is
+  file_now = file g k.node n h f x bs own on.spelt is
 
   count : f.clusters ≡ length cs
   count = ap (λ (y : File). y.clusters) file_now ∙ counted g bs own x n h on.spelt is.number is.reads
@@ -199,7 +199,7 @@ module _ (k : Chain) (n : ℕ) (h : Hdr) (f : File) (kept : ℕ) (x : Cat) (bs :
       let one : Block = with_end b (min h.end (limit + 1)) byte in
       let two : Block = with_mark one (min h.mark (limit + 1)) in
       let ended : IsHeadWith g n one (record h { end = min h.end (limit + 1); byte = cond (nat_lt (limit + 1) h.end) 0 h.byte }) cs =
-      reend g n b h cs (min h.end (limit + 1)) (cond (nat_lt (limit + 1) h.end) 0 h.byte) (first k n h f x bs own on is) (omega arith) (omega arith) (byte_low (nat_lt (limit + 1) h.end)) in
+      reend g n b h cs (min h.end (limit + 1)) (cond (nat_lt (limit + 1) h.end) 0 h.byte) (first g k.node n h f x bs own on.spelt is) (omega arith) (omega arith) (byte_low (nat_lt (limit + 1) h.end)) in
       let marked : IsHeadWith g n two (lowered_fields h (g.cluster * kept)) cs = remark g n one (record h { end = min h.end (limit + 1); byte = cond (nat_lt (limit + 1) h.end) 0 h.byte }) cs (min h.mark (limit + 1)) ended (omega arith) (omega arith) in
       let many = few g bs own x n h on.spelt is.number is.reads is.above in
       let c = count in
@@ -243,7 +243,7 @@ module _ (k : Chain) (n : ℕ) (h : Hdr) (f : File) (kept : ℕ) (x : Cat) (bs :
   }
 
   pub cut_for : IsHeaderFor k.geometry bs k.node n n own (brought_out k.node gone own) x (cut_header k.geometry (file_in k.geometry bs n h) kept) (slot.Used (cut x f kept))
-  cut_for = head_for g bs own new x k.node n (cut_header g (file_in g bs n h) kept) fields front (cut x f kept) on.spelt is.number (not_structure n is.above) (ap is_some (ap fields_in is.reads)) at with
+  cut_for = head_for g bs own new x k.node n (cut_header g (file_in g bs n h) kept) fields front (cut x f kept) on.spelt is.number (not_structure n is.above) h is.reads at with
 
   -- the clusters that are outside then are those
   pub outs_are : record { clusters = cut_clusters k.geometry (file_in k.geometry bs n h) kept; numbers = [] } ≡ gone

@@ -24,9 +24,8 @@ use Rattle.vol_parts.specs.declared.geometry.Geometry.{Geometry}
 use Rattle.vol_parts.specs.Parts.{IsGeometry}
 use Rattle.vol_parts.specs.Fatal.{is_cluster_run, found_in}
 use Rattle.vol_parts.specs.declared.finding.Finding.TheVariants as finding
-use Rattle.vol_parts.specs.Volumes.{fields_in, runs_with}
 use Rattle.vol_parts.specs.Catalogues.{is_structure, plain_entries, file_of, slot_with}
-use Rattle.vol_spell.specs.Reading.{total_of, fields_told, runs_told}
+use Rattle.vol_spell.specs.Reading.{total_of}
 use Rattle.vol_spell.specs.Spelling.{dir_found}
 use Rattle.op_law.specs.Entering.{NewEntry, fields_for, new_header}
 use Rattle.plain_cat.specs.Names.{text_of}
@@ -118,15 +117,9 @@ module _ (g : Geometry) (parent : Fid) (n : ℕ) (e : NewEntry) (qs : List ℕ) 
   unfolding new_header
   head_is = back.0
 
-  pub fields_are : fields_told (new_header g parent n e qs) ≡ Some (fields_for g n e.file)
-  fields_are = ap fields_in head_is
-
-  runs_are_in : runs_in (new_header g parent n e qs) ≡ merged (runs_for g qs)
+  pub runs_are : runs_in (new_header g parent n e qs) ≡ merged (runs_for g qs)
   unfolding new_header
-  runs_are_in = back.1
-
-  pub runs_are : runs_told (new_header g parent n e qs) ≡ merged (runs_for g qs)
-  runs_are = ap (λ o. runs_with o (new_header g parent n e qs)) fields_are ∙ runs_are_in
+  runs_are = back.1
 
   pub whole_new : IsWholeBlock (new_header g parent n e qs)
   unfolding new_header
@@ -177,14 +170,12 @@ dir_told g n f body qs (inr (e, one)) bare =
 
 -- what the header tells with the blocks of the file: a directory that can be read, and the file
 pub new_dir_told : (g : Geometry) (parent : Fid) (n : ℕ) (e : NewEntry) (qs : List ℕ) (body : List Block) → IsGeometry g → CanBeMade g n e qs → ((q : ℕ) → Has qs q → q < total_of g) → IsBare e.file body
-    → dir_found g n (fields_told (new_header g parent n e qs)) (runs_told (new_header g parent n e qs)) body ≡ None
+    → dir_found g n (Some (fields_for g n e.file)) (runs_in (new_header g parent n e qs)) body ≡ None
 new_dir_told g parent n e qs body geometry can within bare =
-    ap (λ o. dir_found g n o (runs_told (new_header g parent n e qs)) body) (fields_are g parent n e qs geometry can within)
-    ∙ ap (λ rs. dir_found g n (Some (fields_for g n e.file)) rs body) (runs_are g parent n e qs geometry can within)
+    ap (λ rs. dir_found g n (Some (fields_for g n e.file)) rs body) (runs_are g parent n e qs geometry can within)
     ∙ dir_told g n e.file body qs can.kind bare
 
 pub new_slot_told : (g : Geometry) (parent : Fid) (n : ℕ) (e : NewEntry) (qs : List ℕ) (body : List Block) → IsGeometry g → CanBeMade g n e qs → ((q : ℕ) → Has qs q → q < total_of g) → is_structure n ≡ false → IsBare e.file body
-    → slot_with g.cluster n (header_read (new_header g parent n e qs)) body ≡ slot.Used e.file
+    → slot_with g.cluster n (Ok (head.Used (fields_for g n e.file))) body ≡ slot.Used e.file
 new_slot_told g parent n e qs body geometry can within plain bare =
-    ap (λ r. slot_with g.cluster n r body) (head_is g parent n e qs geometry can within)
-    ∙ ap (λ (f : File). slot.Used f) (file_told g n e.file body (length qs) geometry.cluster_from plain can.kind bare)
+    ap (λ (f : File). slot.Used f) (file_told g n e.file body (length qs) geometry.cluster_from plain can.kind bare)

@@ -15,27 +15,30 @@ use Rattle.plain_cat.specs.declared.cat.File.{File}
 use Rattle.plain_cat.specs.declared.cat.Slot.TheVariants as slot
 use Rattle.plain_cat.specs.declared.history.Stage.TheVariants as stage
 use Rattle.vol_spell.specs.declared.owner.Owner.TheVariants.{InFile}
-use Rattle.vol_spell.specs.Owners.{Owners, Things, nothing, Outs}
+use Rattle.vol_spell.specs.Owners.{Owners, IsFileMove, Things, nothing, Outs}
 use Rattle.vol_parts.specs.declared.geometry.Geometry.{Geometry}
 use Rattle.vol_parts.specs.declared.geometry.Part.TheVariants.{Header}
-use Rattle.vol_parts.specs.Volumes.{Told, told_by, fields_in}
-use Rattle.vol_spell.specs.Reading.{header_place, header_block, header_tells, told_of, body_blocks}
-use Rattle.vol_spell.specs.Spelling.{Tells}
+use Rattle.vol_parts.specs.Volumes.{Told}
+use Rattle.vol_spell.specs.Reading.{header_place, header_block, told_of, nobody, body_blocks}
+use Rattle.vol_spell.specs.Spelling.{IsHead, Tells}
 use Rattle.vol_spell.specs.Kinds.{IsHeaderFor}
+use Rattle.vol_spell.proofs.Heads.{head_alone}
 use Rattle.vol_spell.proofs.Frames.{on_volume}
-use Rattle.vol_spell.proofs.Parts.{part_owned, in_use, own_number}
-use Rattle.vol_spell.proofs.Viewing.{told_set}
+use Rattle.vol_spell.proofs.Parts.{part_owned, in_use, alone_number}
+use Rattle.vol_spell.proofs.Viewing.{none_set}
 use Rattle.vol_under.specs.Chains.{End}
 use Rattle.vol_under.specs.Filing.{brought_out, AreFiled, Gives}
 use Rattle.vol_under.proofs.Files.{file_gives}
+use Rattle.vol_spell.proofs.HeadSlots.{reads_fields}
 use Rattle.op_law.specs.Freeing.{rising}
 use Rattle.op_law.specs.Laws.{planned}
-use Rattle.op_law.specs.Writing.{empty_handed, clusters_seen}
+use Rattle.op_law.specs.Writing.{empty_handed}
+use Rattle.vol_spell.specs.Files.{clusters_seen, IsFileThere}
 use Rattle.op_steps.specs.Chained.{Chain, StandsOn}
-use Rattle.op_steps.specs.Files.{file_in, IsFileThere}
+use Rattle.op_steps.specs.Files.{file_in}
 use Rattle.op_steps.specs.GoneWrites.{freed_write, FreedSteps}
 use Rattle.op_steps.proofs.HeadSteps.{head_steps}
-use Rattle.op_steps.proofs.HeadFiles.{head_whole, owned, within, all_seen, not_structure, file_is}
+use Rattle.vol_spell.proofs.HeadFiles.{head_whole, owned, within, all_seen, not_structure, file_is}
 use Rattle.op_steps.proofs.Rising.{rising_has, has_rising, once_rising}
 
 module _ (k : Chain) (n : ℕ) (h : Hdr) (f : File) (x : Cat) (bs : List Block) (own : Owners) (on : StandsOn k empty_handed x bs own) (is : IsFileThere k.geometry x bs n h f) where
@@ -53,7 +56,7 @@ module _ (k : Chain) (n : ℕ) (h : Hdr) (f : File) (x : Cat) (bs : List Block) 
   gone = record { clusters = rising k.geometry (clusters_seen k.geometry (header_block k.geometry bs n)); numbers = (n - 1) ∷ [] }
 
   numbered : slice_get own.numbers (n - 1) ≡ Some (InFile n)
-  numbered = (in_use g bs own x on.spelt n is.number).0 (ap is_some (ap fields_in is.reads))
+  numbered = (in_use g bs own x on.spelt n is.number).0 (ap is_some (reads_fields b h is.reads))
 
   filed : AreFiled n own gone
   filed = record {
@@ -79,10 +82,6 @@ module _ (k : Chain) (n : ℕ) (h : Hdr) (f : File) (x : Cat) (bs : List Block) 
   reads : header_read (freed h.seq) ≡ Ok (head.Free h.seq)
   reads = freed-reads h.seq seq_low
 
-  -- what a free slot tells
-  abbrev nobody : Told
-  nobody = told_by n (Ok (head.Free h.seq)) (freed h.seq)
-
   no_cluster : (q : ℕ) → slice_get (brought_out k.node gone own).clusters q ≡ Some (InFile n) → ⊥
   no_cluster q e =
       let mine = (gives.clusters q).0 e in
@@ -92,11 +91,11 @@ module _ (k : Chain) (n : ℕ) (h : Hdr) (f : File) (x : Cat) (bs : List Block) 
   no_number : (i : ℕ) → slice_get (brought_out k.node gone own).numbers i ≡ Some (InFile n) → ⊥
   no_number i e =
       let mine = (gives.numbers i).0 e in
-      let same : n ≡ i + 1 = own_number g bs own x on.spelt i n mine.0 in
+      let same : n ≡ i + 1 = alone_number g bs own x on.spelt i n h is.reads mine.0 in
       let place : n - 1 ≡ i = omega arith in
       mine.1 (inl place)
 
-  tells : Tells k.geometry (brought_out k.node gone own) n nobody (body_blocks bs n nobody) (slot.Free h.seq)
+  tells : Tells k.geometry (brought_out k.node gone own) n (nobody h.seq) (body_blocks bs n (nobody h.seq)) (slot.Free h.seq)
   tells = record {
     reads = tt;
     whole = tt;
@@ -115,15 +114,17 @@ module _ (k : Chain) (n : ℕ) (h : Hdr) (f : File) (x : Cat) (bs : List Block) 
   pub freed_for : IsHeaderFor k.geometry bs k.node n n own (brought_out k.node gone own) x (freed h.seq) (slot.Free f.seq)
   freed_for =
       let len = on_volume g bs own x on.spelt (header_place g n) (InFile 1) (part_owned g bs own x on.spelt (Header n) is.number) in
-      let told : header_tells n (freed h.seq) ≡ nobody = ap (λ r. told_by n r (freed h.seq)) reads in
       record {
         whole = whole_freed h.seq;
         number = is.number;
-        own_slot = refl;
+        slot = inl refl;
+        owned = subst (IsFileMove k.node n) (sym numbered) refl;
+        head = subst (IsHead n) (sym reads) tt;
+        alike = λ ne. absurd (ne refl);
         plain = not_structure n is.above;
         moves = gives.moves;
         tells = subst (λ (q : ℕ). Tells g new n (told_of g (slice_set bs (header_place g n) (freed h.seq)) n) (body_blocks bs n (told_of g (slice_set bs (header_place g n) (freed h.seq)) n)) (slot.Free q)) (sym seq_is)
-            (subst (λ (z : Told). Tells g new n z (body_blocks bs n z) (slot.Free h.seq)) (sym (told_set g bs n (freed h.seq) len ∙ told)) tells);
+            (subst (λ (z : Told). Tells g new n z (body_blocks bs n z) (slot.Free h.seq)) (sym (none_set g bs n (freed h.seq) h.seq len (head_alone (freed h.seq) ∙ reads))) tells);
         reserved = λ old low at. let above = is.above in absurd (omega arith);
       }
 

@@ -1,5 +1,5 @@
 -- The header of a file with more clusters, and the file that it tells.
-use Rattle.std.proofs.Common.{◌≡◌, ◌∙◌, ◌≤◌, ◌<◌, ◌+◌, ◌-◌, ◌*◌, ◌/◌, ◌^◌, ◌++◌, ℕ, Bool, true, false, List, length, take, refl, sym, ap, subst, arith, cond}
+use Rattle.std.proofs.Common.{◌≡◌, ◌∙◌, ◌≤◌, ◌+◌, ◌-◌, ◌*◌, ◌/◌, ◌++◌, ℕ, Bool, true, false, List, length, take, refl, sym, ap, subst, arith, cond}
 use Rattle.std.specs.Prelude.{◌==◌}
 use Rattle.std.proofs.Math.Nat.{mul-div_cancel_left}
 use Rattle.std.proofs.lemmas.Bool.Decides.{nat_tests}
@@ -7,43 +7,19 @@ use Rattle.std.proofs.lemmas.List.{take_at, take-append-le}
 use Rattle.base_words.specs.Fields.{Block}
 use Rattle.fx_header.specs.declared.run.Run.{Run}
 use Rattle.fx_header.specs.declared.slot.Hdr.{Hdr}
-use Rattle.fx_header.specs.Headers.{runs_in, with_mark, with_end, scattered}
-use Rattle.fx_header.proofs.SetterLemmas.{mark-reads, end-reads, scattered-reads}
-use Rattle.vol_parts.proofs.WholeHeaders.{whole_mark, whole_end, whole_scattered}
+use Rattle.fx_header.specs.Headers.{runs_in, scattered}
+use Rattle.fx_header.proofs.SetterLemmas.{scattered-reads}
+use Rattle.vol_parts.proofs.WholeHeaders.{whole_scattered}
 use Rattle.vol_parts.specs.declared.geometry.Geometry.{Geometry}
 use Rattle.vol_parts.specs.Catalogues.{is_structure, file_of}
 use Rattle.vol_spell.specs.Reading.{clusters_of}
 use Rattle.vol_spell.specs.Spelling.{AreWhole}
-use Rattle.op_steps.proofs.HeadRuns.{mark_runs, end_runs, scattered_runs}
-use Rattle.op_steps.proofs.HeadTold.{IsHeadWith}
+use Rattle.vol_spell.proofs.HeadRuns.{scattered_runs}
+use Rattle.vol_spell.proofs.HeadTold.{IsHeadWith}
 
 -- ---- the header
 
--- another mark leaves the clusters
-pub remark : (g : Geometry) (n : ℕ) (b : Block) (h : Hdr) (ds : List ℕ) (mark : ℕ) → IsHeadWith g n b h ds → mark < 2 ^ 32 → mark ≤ h.blocks + 1 → IsHeadWith g n (with_mark b mark) (record h { mark = mark }) ds
-remark g n b h ds mark at fits within =
-    let same : runs_in (with_mark b mark) ≡ runs_in b = mark_runs b h mark at.whole.long at.reads in
-    record {
-      whole = whole_mark b mark at.whole;
-      reads = mark-reads b h mark at.whole.long fits at.reads within;
-      num = at.num;
-      runs = subst (λ (rs : List Run). AreWhole g rs) (sym same) at.runs;
-      clusters = ap (λ (rs : List Run). clusters_of g.cluster rs) same ∙ at.clusters;
-    }
-
--- and another end
-pub reend : (g : Geometry) (n : ℕ) (b : Block) (h : Hdr) (ds : List ℕ) (end byte : ℕ) → IsHeadWith g n b h ds → end < 2 ^ 32 → end ≤ h.blocks + 1 → byte ≤ 511 → IsHeadWith g n (with_end b end byte) (record h { end = end; byte = byte }) ds
-reend g n b h ds end byte at fits within small =
-    let same : runs_in (with_end b end byte) ≡ runs_in b = end_runs b h end byte at.whole.long at.reads in
-    record {
-      whole = whole_end b end byte at.whole;
-      reads = end-reads b h end byte at.whole.long fits at.reads within small;
-      num = at.num;
-      runs = subst (λ (rs : List Run). AreWhole g rs) (sym same) at.runs;
-      clusters = ap (λ (rs : List Run). clusters_of g.cluster rs) same ∙ at.clusters;
-    }
-
--- and so does that it is not said to be contiguous
+-- that it is not said to be contiguous leaves the clusters
 pub scatter : (g : Geometry) (n : ℕ) (b : Block) (h : Hdr) (ds : List ℕ) → IsHeadWith g n b h ds → IsHeadWith g n (scattered b) h ds
 scatter g n b h ds at =
     let same : runs_in (scattered b) ≡ runs_in b = scattered_runs b h at.whole.long at.reads in

@@ -1,5 +1,5 @@
 -- The write of the header of a file with more clusters is a step.
-use Rattle.std.proofs.Common.{◌≡◌, ◌∙◌, ◌≤◌, ◌<◌, ◌+◌, ◌*◌, ◌++◌, ℕ, Bool, true, false, List, Some, None, length, is_some, refl, sym, ap, subst, inl, inr, arith, cond, length-append, slice_get}
+use Rattle.std.proofs.Common.{◌≡◌, ◌∙◌, ◌≤◌, ◌<◌, ◌+◌, ◌*◌, ◌++◌, ℕ, Bool, true, false, List, Some, None, length, refl, sym, ap, subst, inl, inr, arith, cond, length-append, slice_get}
 use Rattle.std.specs.Prelude.{◌==◌, ◌↔◌}
 use Rattle.std.proofs.Math.Nat.{mul-le-mul_right}
 use Rattle.std.proofs.lemmas.Option.{slice_get_within}
@@ -9,6 +9,7 @@ use Rattle.fx_header.specs.Headers.{runs_in, with_runs}
 use Rattle.plain_cat.specs.declared.cat.Cat.{Cat}
 use Rattle.plain_cat.specs.declared.cat.File.{File}
 use Rattle.plain_cat.specs.declared.cat.Slot.TheVariants as slot
+use Rattle.plain_rules.specs.Lookups.{header_most}
 use Rattle.plain_rules.specs.Changes.{grown}
 use Rattle.vol_spell.specs.declared.owner.Owner.TheVariants.{InFile, Outside}
 use Rattle.base_words.specs.Lists.{Has, Once}
@@ -17,7 +18,6 @@ use Rattle.vol_spell.specs.Spread.{blocks_at, spread}
 use Rattle.base_words.proofs.Listing.{has_parted, has_first, has_second, once_first, once_in_a_row}
 use Rattle.vol_spell.proofs.Placing.{spread_joined, blocks_joined}
 use Rattle.vol_parts.specs.declared.geometry.Geometry.{Geometry}
-use Rattle.vol_parts.specs.Volumes.{most_clusters, fields_in}
 use Rattle.vol_parts.specs.Catalogues.{file_of}
 use Rattle.vol_spell.specs.Reading.{total_of, header_block}
 use Rattle.vol_spell.specs.Spelling.{dir_found}
@@ -27,18 +27,20 @@ use Rattle.vol_under.specs.Filing.{filed, Takes}
 use Rattle.vol_under.proofs.Files.{file_takes}
 use Rattle.op_law.specs.Fits.{things}
 use Rattle.op_law.specs.Sizes.{grown_header, grown_mark}
-use Rattle.op_law.specs.Writing.{holding, runs_for, clusters_seen}
+use Rattle.op_law.specs.Writing.{holding, runs_for}
+use Rattle.vol_spell.specs.Files.{clusters_seen, IsFileThere}
 use Rattle.op_steps.specs.Chained.{Chain, StandsOn}
-use Rattle.op_steps.specs.Files.{file_in, IsFileThere}
+use Rattle.op_steps.specs.Files.{file_in}
 use Rattle.op_steps.specs.GrownWrites.{grown_write, GrownSteps}
 use Rattle.op_steps.proofs.HeadSteps.{head_steps}
-use Rattle.op_steps.proofs.HeadFiles.{head_whole, once, owned, within, number_is, sized, counted, all_seen, length-shown, file_is, end_within, mark_within, not_structure}
-use Rattle.op_steps.proofs.HeadTold.{IsHeadWith, IsFileWith, head_for}
+use Rattle.vol_spell.proofs.HeadFiles.{head_whole, once, owned, within, number_is, sized, counted, all_seen, length-shown, file_is, end_within, mark_within, not_structure}
+use Rattle.vol_spell.proofs.HeadTold.{IsHeadWith, IsFileWith, head_for}
 use Rattle.op_steps.proofs.Rerun.{with_clusters, rerun}
-use Rattle.op_steps.proofs.Grown.{mark_for, remark, scatter, grown_told}
+use Rattle.op_steps.proofs.Grown.{mark_for, scatter, grown_told}
+use Rattle.vol_spell.proofs.HeadKept.{remark}
 
 module _ (k : Chain) (n : ℕ) (h : Hdr) (f : File) (qs : List ℕ) (x : Cat) (bs : List Block) (own : Owners) (on : StandsOn k (holding qs None) x bs own) (is : IsFileThere k.geometry x bs n h f)
-    (flat : f.dir ≡ false) (few : f.clusters + length qs ≤ most_clusters) where
+    (flat : f.dir ≡ false) (few : f.clusters + length qs ≤ header_most) where
   abbrev g : Geometry
   g = k.geometry
 
@@ -66,7 +68,7 @@ module _ (k : Chain) (n : ℕ) (h : Hdr) (f : File) (qs : List ℕ) (x : Cat) (b
   count : f.clusters ≡ length cs
   count = ap (λ (y : File). y.clusters) file ∙ counted g bs own x n h on.spelt is.number is.reads
 
-  all_few : length (cs ++ qs) ≤ most_clusters
+  all_few : length (cs ++ qs) ≤ header_most
   all_few = let a = length-append cs qs in let c = count in omega arith
 
   inside : (q : ℕ) → Has (cs ++ qs) q → q < total_of k.geometry
@@ -155,14 +157,14 @@ module _ (k : Chain) (n : ℕ) (h : Hdr) (f : File) (qs : List ℕ) (x : Cat) (b
     once = all_once;
     clusters = mine;
     numbers = numbers;
-    few = λ above. all_few;
+    few = λ above. let a = all_few in omega arith;
     dir = ap (λ (d : Bool). dir_found g n (Some (record fields { dir = d })) (runs_in (grown_header g (file_in g bs n h) qs)) (blocks_at bs (spread g.cluster (cs ++ qs)))) dir;
     file = told;
     reserved = λ old_slot low_number at_slot. let above = is.above in absurd (omega arith);
   }
 
   pub grown_for : IsHeaderFor k.geometry bs k.node n n own (filed n (things qs None) own) x (grown_header k.geometry (file_in k.geometry bs n h) qs) (slot.Used (grown x f (length qs)))
-  grown_for = head_for g bs own new x k.node n (grown_header g (file_in g bs n h) qs) fields (cs ++ qs) (grown x f (length qs)) on.spelt is.number (not_structure n is.above) (ap is_some (ap fields_in is.reads)) at with
+  grown_for = head_for g bs own new x k.node n (grown_header g (file_in g bs n h) qs) fields (cs ++ qs) (grown x f (length qs)) on.spelt is.number (not_structure n is.above) h is.reads at with
 
   pub grown_takes : Takes k.node n own (filed n (things qs None) own) (things qs None) k.stock
   grown_takes = takes

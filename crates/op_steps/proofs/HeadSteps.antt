@@ -1,21 +1,15 @@
 -- The write of a block that reads as a file's header is a step, and the file's lock guards it.
-use Rattle.std.proofs.Common.{◌≡◌, ◌∙◌, ℕ, List, Option, Some, slice_set, sym, ap, subst, inl, inr}
-use Rattle.base_words.specs.Fields.{Block}
+use Rattle.std.proofs.Common.{◌≡◌, ◌∙◌, ℕ, Option, Some, slice_set, refl, sym, ap, subst, inl, inr}
 use Rattle.lock_db.specs.declared.name.LockName.TheVariants.{S}
-use Rattle.plain_cat.specs.declared.cat.Cat.{Cat}
-use Rattle.plain_cat.specs.declared.cat.Slot.{Slot}
 use Rattle.plain_rules.specs.Changes.{with_slot}
-use Rattle.vol_spell.specs.Owners.{Owners}
 use Rattle.vol_parts.specs.declared.geometry.Geometry.{Geometry}
 use Rattle.vol_parts.specs.declared.geometry.Part.{Part}
 use Rattle.vol_parts.specs.declared.geometry.Part.TheVariants.{Header}
 use Rattle.vol_parts.specs.Parts.{part_of}
-use Rattle.vol_spell.specs.Reading.{owner_at, header_place, header_block, header_tells, body_blocks}
-use Rattle.vol_spell.specs.Spelling.{Spells}
-use Rattle.vol_spell.specs.Kinds.{IsHeaderFor}
-use Rattle.vol_spell.specs.Views.{IsFileAt}
+use Rattle.vol_spell.specs.Reading.{owner_at, header_block, told_of, body_blocks}
+use Rattle.vol_spell.specs.Views.{IsFileAt, IsHeaderSet}
 use Rattle.vol_spell.proofs.Parts.{part_there}
-use Rattle.vol_spell.proofs.Viewing.{parts_stay, header_set}
+use Rattle.vol_spell.proofs.Viewing.{header_set}
 use Rattle.vol_under.specs.Chains.{End, IsStep}
 use Rattle.vol_under.specs.Guards.{guard_by}
 use Rattle.vol_under.proofs.Reach.{step_kinds}
@@ -25,26 +19,22 @@ use Rattle.op_law.proofs.Naming.{under_lock}
 use Rattle.op_steps.specs.Chained.{OthersStay}
 use Rattle.op_steps.specs.HeadWrites.{HeadSteps, HeadGuards, HeadLeaves}
 
--- a write to the place of a header is to that part
-header_part : (g : Geometry) (bs : List Block) (own : Owners) (x : Cat) (n l : ℕ) (spelt : Spells g bs own x) (b : Block) (s : Slot) (node : ℕ) (new : Owners) → IsHeaderFor g bs node n n own new x b s → l ≡ header_place g n → part_of g l ≡ Some (Header n)
-header_part g bs own x n l spelt b s node new is place = ap (part_of g) place ∙ part_there g bs own x spelt (Header n) is.number
-
 pub head_steps : (end : End) → HeadSteps end
 head_steps end k n s w ws x bs own new spelt lock place is outs stage rest =
     let g : Geometry = k.geometry in
     let step : IsStep g k.node k.cmd k.locks k.cat k.stock (planned w) bs own new (with_slot x n s) =
     (step_kinds g k.node k.cmd k.locks k.cat k.stock).header (planned w) bs own new x n n s spelt place is lock stage outs in
-    let part = header_part g bs own x n w.lbn spelt w.block s k.node new is place in
-    let others : OthersStay g n bs (slice_set bs w.lbn w.block) =
-    λ i number ne. parts_stay g bs own x i w.lbn (Header n) w.block spelt number part (λ f. ne (let h : Header n ≡ Header i = f in cc)) in (
+    let set : IsHeaderSet g bs (slice_set bs w.lbn w.block) n n w.block =
+    subst (λ (l : ℕ). IsHeaderSet g bs (slice_set bs l w.block) n n w.block) (sym place) (header_set g bs own new x k.node n n w.block s spelt is) in
+    let file : let t = told_of g (slice_set bs w.lbn w.block) n in IsFileAt g (slice_set bs w.lbn w.block) n w.block t (body_blocks bs n t) = record { header = set.header; told = refl; body = set.body } in
+    let others : OthersStay g n bs (slice_set bs w.lbn w.block) = λ i number ne. set.others i number ne ne in (
       new,
       with_slot x n s,
       step,
       rest (record {
         spelt = step.spelt;
         outs = outs;
-        file = subst (λ (l : ℕ). IsFileAt g (slice_set bs l w.block) n w.block (header_tells n w.block) (body_blocks bs n (header_tells n w.block))) (sym place)
-            (header_set g bs own new x k.node n n w.block s spelt is);
+        file = file;
         others = others;
       }),
     )

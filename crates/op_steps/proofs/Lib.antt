@@ -17,10 +17,7 @@ pub mod Followed
 pub mod Freed
 pub mod Grown
 pub mod GrownSteps
-pub mod HeadFiles
-pub mod HeadRuns
 pub mod HeadSteps
-pub mod HeadTold
 pub mod Kept
 pub mod Lists
 pub mod Mapped
@@ -35,9 +32,7 @@ pub mod RowNewSteps
 pub mod RowPlaces
 pub mod RowRanges
 pub mod RowSteps
-pub mod Shown
 pub mod Sizes
-pub mod Slots
 pub mod Uses
 pub mod WriteGuards
 pub mod WriteSteps

@@ -14,18 +14,18 @@ use Rattle.vol_parts.proofs.WholeHeaders.{whole_runs}
 use Rattle.base_words.specs.Lists.{Has}
 use Rattle.vol_parts.specs.declared.geometry.Geometry.{Geometry}
 use Rattle.vol_parts.specs.Parts.{IsGeometry}
-use Rattle.vol_parts.specs.Volumes.{most_clusters}
+use Rattle.plain_rules.specs.Lookups.{header_most}
 use Rattle.vol_spell.specs.Reading.{total_of, clusters_of}
 use Rattle.vol_spell.specs.Spelling.{AreWhole}
 use Rattle.op_law.specs.Writing.{runs_for}
 use Rattle.op_steps.proofs.FileRuns.{whole_for, clusters_for_runs, are_runs_for, short_words, blocks_for_runs}
-use Rattle.op_steps.proofs.HeadTold.{IsHeadWith}
+use Rattle.vol_spell.proofs.HeadTold.{IsHeadWith}
 
 -- the fields with the blocks of so many clusters
 abbrev pub with_clusters : Geometry → Hdr → ℕ → Hdr
 with_clusters g h k = record h { blocks = g.cluster * k }
 
-pub rerun : (g : Geometry) (n : ℕ) (b : Block) (h : Hdr) (ds : List ℕ) → IsGeometry g → IsWholeBlock b → header_read b ≡ Ok (Used h) → h.num ≡ n → ((q : ℕ) → Has ds q → q < total_of g) → length ds ≤ most_clusters
+pub rerun : (g : Geometry) (n : ℕ) (b : Block) (h : Hdr) (ds : List ℕ) → IsGeometry g → IsWholeBlock b → header_read b ≡ Ok (Used h) → h.num ≡ n → ((q : ℕ) → Has ds q → q < total_of g) → length ds ≤ header_most
     → h.end ≤ g.cluster * length ds + 1 → h.mark ≤ g.cluster * length ds + 1 → IsHeadWith g n (with_runs b (runs_for g ds)) (with_clusters g h (length ds)) ds
 rerun g n b h ds geometry whole reads num within few end mark =
     let low = geometry.cluster_from in

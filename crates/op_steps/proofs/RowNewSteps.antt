@@ -81,7 +81,7 @@ module _ (end : End) (k : Chain) (j : ℕ) (r : Row) (s : Stage) (out : Held) (w
   step = record { stage = stage; spelt = spelt; moves = (moves_compose (IsCommandMove k.node k.locks)).still own; outs = on.outs }
 
   steps : (StandsOn k out (with_more (quota_row r) x) after own → FilesStay g bs after → StepsOf end k ws after own) → StepsOf end k (write ∷ ws) bs own
-  steps rest = (own, with_more (quota_row r) x, step, rest (record { spelt = spelt; outs = on.outs }) (λ i number. parts_stay g bs own x i write.lbn (Quota (j / 16)) write.block on.spelt number part (λ f. absurd (cc))))
+  steps rest = (own, with_more (quota_row r) x, step, rest (record { spelt = spelt; outs = on.outs }) (λ i number. parts_stay g bs own x i write.lbn (Quota (j / 16)) write.block on.spelt number part (λ m t f. absurd (cc))))
 
 pub new_row_steps : (end : End) → NewRowSteps end
 new_row_steps end k j r s out ws x bs own on free none range stage rest = steps end k j r s out ws x bs own on free none range stage rest

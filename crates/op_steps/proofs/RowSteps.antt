@@ -109,7 +109,7 @@ module _ (end : End) (k : Chain) (owner : Uic) (change : Row → Row) (rows : Qu
     step = record { stage = stage; spelt = spelt; moves = (moves_compose (IsCommandMove k.node k.locks)).still own; outs = on.outs }
 
     with_row : Rest (write ∷ []) → StepsOf end k (write ∷ ws) bs own
-    with_row rest = (own, with_changed owner rows x, step, rest (record { spelt = step.spelt; outs = on.outs }) (λ i number. parts_stay g bs own x i write.lbn (Quota (j / 16)) write.block on.spelt number part (λ f. absurd (cc))))
+    with_row rest = (own, with_changed owner rows x, step, rest (record { spelt = step.spelt; outs = on.outs }) (λ i number. parts_stay g bs own x i write.lbn (Quota (j / 16)) write.block on.spelt number part (λ m t f. absurd (cc))))
 
   by_place : (o : Option ℕ) → row_place (is_row_of owner) seen ≡ o → Rest (changed_write g seen change s out o) → StepsOf end k (changed_write g seen change s out o ++ ws) bs own
   by_place None e rest = without_row e rest

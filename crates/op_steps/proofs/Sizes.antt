@@ -12,11 +12,11 @@ use Rattle.base_words.specs.Lists.{Has}
 use Rattle.vol_spell.specs.Owners.{Owners}
 use Rattle.vol_spell.specs.Reading.{header_block}
 use Rattle.vol_under.specs.Chains.{End}
-use Rattle.op_law.specs.Channels.{with_sizes, written_header, last_header}
+use Rattle.op_law.specs.Channels.{written_header, last_header}
+use Rattle.vol_spell.specs.Files.{with_sizes, IsFileThere, IsResized}
 use Rattle.op_law.specs.Writing.{empty_handed, header_write}
 use Rattle.op_steps.specs.Chained.{Chain, StepsOf, StageOf, after_writes, StandsOn}
-use Rattle.op_steps.specs.Files.{file_in, IsFileThere}
-use Rattle.op_steps.specs.MarkWrites.{IsResized}
+use Rattle.op_steps.specs.Files.{file_in}
 use Rattle.op_steps.proofs.Kept.{sized_steps}
 use Rattle.op_steps.specs.BlockWrites.{file_with}
 

@@ -5,7 +5,6 @@ use Rattle.std.specs.List.{range_with_len}
 use Rattle.std.proofs.lemmas.Bool.Decides.{nat_tests}
 use Rattle.base_words.specs.Fields.{Block}
 use Rattle.base_words.specs.Tables.{zeros}
-use Rattle.fx_header.specs.Headers.{header_read}
 use Rattle.lock_db.specs.declared.name.LockName.TheVariants.{S}
 use Rattle.plain_cat.specs.declared.history.Stage.{Stage}
 use Rattle.plain_cat.specs.declared.history.Stage.TheVariants as stage
@@ -15,8 +14,7 @@ use Rattle.base_words.proofs.Listing.{has_parted}
 use Rattle.vol_parts.specs.declared.geometry.Geometry.{Geometry}
 use Rattle.vol_parts.specs.declared.geometry.Part.TheVariants.{Header}
 use Rattle.vol_parts.specs.Parts.{part_of}
-use Rattle.vol_parts.specs.Volumes.{fields_in}
-use Rattle.vol_spell.specs.Reading.{header_block}
+use Rattle.vol_spell.specs.Reading.{header_block, fields_told}
 use Rattle.vol_under.specs.Guards.{guard_of}
 use Rattle.op_law.specs.declared.need.PlanWrite.{PlanWrite}
 use Rattle.op_law.specs.Channels.{zero_writes, last_header, block_writes}
@@ -24,10 +22,12 @@ use Rattle.op_law.specs.Laws.{IsNamed, KeepsRuns, NoDir, is_dir_told}
 use Rattle.op_law.specs.Refusing.{SeenFile}
 use Rattle.op_law.specs.SeenFiles.{file_place, file_write}
 use Rattle.op_law.proofs.Naming.{under_lock}
+use Rattle.vol_spell.proofs.HeadSlots.{reads_fields}
 use Rattle.op_steps.specs.Files.{file_in}
 use Rattle.op_steps.proofs.HeadSteps.{head_guards, head_leaves}
 use Rattle.op_steps.specs.BlockWrites.{WriteGuards, WriteLeaves}
-use Rattle.op_steps.proofs.Places.{no_dir, lies, guard}
+use Rattle.op_steps.proofs.Places.{lies, guard}
+use Rattle.vol_spell.proofs.FilePlaces.{no_dir}
 
 -- ---- each of the writes
 
@@ -80,7 +80,7 @@ write_guards g n h f vbn b x bs own node locks s has lock =
 
 pub write_leaves : WriteLeaves
 write_leaves g n h f vbn b x bs own s has =
-    let flat : is_dir_told (fields_in (header_read (header_block g bs n))) ≡ false = ap (λ r. is_dir_told (fields_in r)) has.there.reads ∙ no_dir g bs own x n h f s has.there has.flat in
+    let flat : is_dir_told (fields_told (header_block g bs n)) ≡ false = ap is_dir_told (reads_fields (header_block g bs n) h has.there.reads) ∙ no_dir g bs own x n h f s has.there has.flat in
     each_write (λ w. (i : ℕ) → part_of g w.lbn ≡ Some (Header i) → KeepsRuns (header_block g bs i) w.block) g (file_in g bs n h) vbn b has.from
     (λ v from to c st i at. let top = has.to in no_header v from (omega arith) c i at)
     (head_leaves g n (last_header g (file_in g bs n h) vbn) x bs own s has.there.number refl (NoDir flat) (last_header g (file_in g bs n h) vbn) (inl refl)) where

@@ -23,19 +23,18 @@ use Rattle.vol_under.specs.Chains.{End}
 use Rattle.op_law.specs.declared.need.PlanWrite.{PlanWrite}
 use Rattle.op_law.specs.Channels.{zero_writes, last_header, block_writes}
 use Rattle.op_law.specs.Refusing.{seen_file}
-use Rattle.vol_spell.specs.Entries.{places_in}
+use Rattle.vol_spell.specs.Entries.{places_in, blocks_of as blocks_in}
 use Rattle.op_law.specs.SeenFiles.{file_write}
 use Rattle.op_law.specs.Writing.{empty_handed}
 use Rattle.op_steps.specs.Chained.{Chain, StepsOf, StageOf, after_writes, StandsOn}
-use Rattle.op_steps.specs.Files.{file_in, IsFileThere}
-use Rattle.op_steps.specs.MarkWrites.{IsResized}
-use Rattle.op_steps.proofs.HeadFiles.{mark_within, end_within, byte_within}
-use Rattle.op_steps.specs.BlockWrites.{HasBlock, showing, IsBlockWritten, file_with, WriteSteps}
-use Rattle.vol_spell.specs.Entries.{blocks_of as blocks_in}
+use Rattle.op_steps.specs.Files.{file_in}
+use Rattle.vol_spell.specs.Files.{IsFileThere, IsResized, showing}
+use Rattle.vol_spell.proofs.HeadFiles.{mark_within, end_within, byte_within}
+use Rattle.op_steps.specs.BlockWrites.{HasBlock, IsBlockWritten, file_with, WriteSteps}
 use Rattle.op_steps.proofs.Lists.{filled, take_behind}
-use Rattle.op_steps.proofs.Slots.{slot_twice, file_there}
-use Rattle.op_steps.proofs.Shown.{shown_by}
-use Rattle.op_steps.proofs.Places.{plain, file, size, count, no_dir, shows}
+use Rattle.vol_spell.proofs.Slots.{slot_twice, file_there}
+use Rattle.vol_spell.proofs.Shown.{shown_by}
+use Rattle.vol_spell.proofs.FilePlaces.{plain, file, size, count, no_dir, shows}
 use Rattle.op_steps.proofs.BlockSteps.{block_steps}
 use Rattle.op_steps.proofs.Zeros.{same_past, still_there, zero_steps}
 use Rattle.op_steps.proofs.Sizes.{sized_as, written_as, header_as, end_in, byte_in, header_step}

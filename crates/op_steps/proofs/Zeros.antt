@@ -23,11 +23,12 @@ use Rattle.op_law.specs.Refusing.{seen_file}
 use Rattle.op_law.specs.SeenFiles.{file_write}
 use Rattle.op_law.specs.Writing.{empty_handed}
 use Rattle.op_steps.specs.Chained.{Chain, StepsOf, StageOf, after_writes, StandsOn}
-use Rattle.op_steps.specs.Files.{file_in, IsFileThere}
-use Rattle.op_steps.specs.BlockWrites.{showing, IsBlockWritten}
+use Rattle.op_steps.specs.Files.{file_in}
+use Rattle.vol_spell.specs.Files.{IsFileThere, showing}
+use Rattle.op_steps.specs.BlockWrites.{IsBlockWritten}
 use Rattle.vol_spell.specs.Entries.{blocks_of as blocks_in}
 use Rattle.op_steps.proofs.Lists.{filled}
-use Rattle.op_steps.proofs.Slots.{slot_same}
+use Rattle.vol_spell.proofs.Slots.{slot_same}
 use Rattle.op_steps.proofs.BlockSteps.{block_steps}
 
 -- a block at or above the mark leaves the catalogue

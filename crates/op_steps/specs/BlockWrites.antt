@@ -1,5 +1,5 @@
 -- The writes to the blocks of a file that is no directory.
-use Rattle.std.specs.Prelude.{◌≡◌, ◌≤◌, ◌-◌, ◌*◌, ◌&&◌, not, nat_le, ℕ, true, false, List, [], ◌∷◌, slice_set, if◌then◌else◌}
+use Rattle.std.specs.Prelude.{◌≡◌, ◌≤◌, ◌-◌, ◌*◌, ◌&&◌, not, nat_le, ℕ, true, false, List, [], ◌∷◌, slice_set}
 use Rattle.base_words.specs.Fields.{Block, IsWholeBlock}
 use Rattle.fx_header.specs.declared.slot.Hdr.{Hdr}
 use Rattle.lock_db.specs.declared.name.LockName.{LockName}
@@ -21,7 +21,8 @@ use Rattle.op_law.specs.SeenFiles.{file_write}
 use Rattle.op_law.specs.Channels.{block_writes}
 use Rattle.op_law.specs.Writing.{empty_handed}
 use Rattle.op_steps.specs.Chained.{Chain, StepsOf, StageOf, after_writes, StandsOn}
-use Rattle.op_steps.specs.Files.{file_in, IsFileThere}
+use Rattle.op_steps.specs.Files.{file_in}
+use Rattle.vol_spell.specs.Files.{IsFileThere, showing}
 use Rattle.vol_spell.specs.Entries.{blocks_of}
 
 -- a file that is there, no system file and no directory, and a virtual block that is one of its blocks
@@ -32,10 +33,6 @@ pub record HasBlock (g : Geometry) (x : Cat) (bs : List Block) (n : ℕ) (h : Hd
   pub to : vbn ≤ g.cluster * f.clusters
 
 -- ---- one block
-
--- the file with a virtual block written, its mark and its end as they were
-abbrev pub showing : File → ℕ → Block → File
-showing f vbn b = if is_past_mark f vbn then f else record f { written = slice_set f.written (vbn - 1) b }
 
 -- virtual block `vbn` of file n was written: from `bs` to `after`, which spell x, and its header is the same
 pub record IsBlockWritten (k : Chain) (n vbn : ℕ) (b : Block) (x : Cat) (own : Owners) (bs after : List Block) : Type 0 where

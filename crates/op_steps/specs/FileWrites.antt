@@ -7,6 +7,7 @@ use Rattle.plain_cat.specs.declared.ids.Fid.{Fid}
 use Rattle.plain_cat.specs.declared.history.Stage.TheVariants as stage
 use Rattle.plain_cat.specs.declared.cat.Cat.{Cat}
 use Rattle.plain_cat.specs.declared.cat.File.{File}
+use Rattle.plain_rules.specs.Lookups.{header_most}
 use Rattle.plain_rules.specs.Changes.{with_file, new_file, new_dir}
 use Rattle.base_words.specs.Lists.{Has}
 use Rattle.vol_spell.specs.Owners.{Owners}
@@ -28,7 +29,7 @@ pub record CanBeMade (g : Geometry) (n : ℕ) (e : NewEntry) (qs : List ℕ) : T
   pub number : IsFileNumber g n
   pub above : 11 < n
   pub kind : IsNewFile g e.file (length qs)
-  pub few : length qs ≤ 77
+  pub few : length qs ≤ header_most
   pub seq : e.file.seq < 2 ^ 16
   pub owner : e.file.owner.0 < 2 ^ 32
   pub name : is_name e.name ≡ true

@@ -19,7 +19,8 @@ use Rattle.op_law.specs.Sizes.{cut_header, cut_clusters}
 use Rattle.op_law.specs.Freeing.{all_clusters}
 use Rattle.op_law.specs.Writing.{holding, empty_handed, with_numbers, header_write}
 use Rattle.op_steps.specs.Chained.{Chain, StepsOf, StageOf, after_writes, StandsOn}
-use Rattle.op_steps.specs.Files.{file_in, IsFileThere}
+use Rattle.op_steps.specs.Files.{file_in}
+use Rattle.vol_spell.specs.Files.{IsFileThere}
 use Rattle.op_steps.specs.HeadWrites.{IsHeadWritten}
 
 -- the write that makes the slot of a file free: its clusters and its number are outside then

@@ -9,7 +9,7 @@ use Rattle.plain_rules.specs.Changes.{with_slot}
 use Rattle.base_words.specs.Lists.{Has}
 use Rattle.vol_spell.specs.Owners.{Owners, Things, Outs}
 use Rattle.vol_parts.specs.declared.geometry.Geometry.{Geometry}
-use Rattle.vol_spell.specs.Reading.{IsFileNumber, header_place, header_block, header_tells, body_blocks}
+use Rattle.vol_spell.specs.Reading.{IsFileNumber, header_place, header_block, told_of, body_blocks}
 use Rattle.vol_spell.specs.Spelling.{Spells}
 use Rattle.vol_spell.specs.Kinds.{IsHeaderFor}
 use Rattle.vol_spell.specs.Views.{IsFileAt}
@@ -22,8 +22,8 @@ use Rattle.op_steps.specs.Chained.{Chain, StepsOf, StageOf, after_writes, Others
 pub record IsHeadWritten (k : Chain) (n : ℕ) (b : Block) (out : Things) (x : Cat) (bs after : List Block) (new : Owners) : Type 0 where
   pub spelt : Spells k.geometry after new x
   pub outs : Outs k.node new out k.stock
-  -- the file's header is this block, and its blocks are those that the block names
-  pub file : IsFileAt k.geometry after n b (header_tells n b) (body_blocks bs n (header_tells n b))
+  -- the file's header is this block, and its blocks, those that are told then, stood there before
+  pub file : let t = told_of k.geometry after n in IsFileAt k.geometry after n b t (body_blocks bs n t)
   -- each other file is as it was
   pub others : OthersStay k.geometry n bs after
 

@@ -1,5 +1,5 @@
 -- The write of the header of a file whose clusters stay: marked for delete, or with other sizes.
-use Rattle.std.specs.Prelude.{◌≡◌, ◌≤◌, ◌+◌, ◌*◌, ℕ, true, false, List, [], ◌∷◌}
+use Rattle.std.specs.Prelude.{◌≡◌, ℕ, true, false, List, [], ◌∷◌}
 use Rattle.base_words.specs.Fields.{Block}
 use Rattle.fx_header.specs.declared.slot.Hdr.{Hdr}
 use Rattle.fx_header.specs.Headers.{marked}
@@ -10,18 +10,14 @@ use Rattle.plain_cat.specs.declared.cat.File.{File}
 use Rattle.plain_rules.specs.Changes.{with_file}
 use Rattle.base_words.specs.Lists.{Has}
 use Rattle.vol_spell.specs.Owners.{Owners, nothing}
-use Rattle.vol_spell.specs.Spread.{blocks_at}
 use Rattle.vol_parts.specs.declared.geometry.Geometry.{Geometry}
-use Rattle.vol_parts.specs.Catalogues.{written_blocks}
-use Rattle.vol_spell.specs.Reading.{header_block}
 use Rattle.vol_under.specs.Chains.{End}
 use Rattle.op_law.specs.declared.need.PlanWrite.{PlanWrite}
 use Rattle.op_law.specs.Refusing.{SeenFile}
-use Rattle.vol_spell.specs.Entries.{places_in}
-use Rattle.op_law.specs.Channels.{with_sizes}
+use Rattle.vol_spell.specs.Files.{with_sizes, IsFileThere, IsResized}
 use Rattle.op_law.specs.Writing.{empty_handed, header_write}
 use Rattle.op_steps.specs.Chained.{Chain, StepsOf, StageOf, after_writes, StandsOn}
-use Rattle.op_steps.specs.Files.{file_in, IsFileThere}
+use Rattle.op_steps.specs.Files.{file_in}
 use Rattle.op_steps.specs.HeadWrites.{IsHeadWritten}
 
 -- the write that marks a file for delete
@@ -35,14 +31,6 @@ MarkedSteps end = (k : Chain) (n : ℕ) (h : Hdr) (f : File) (s : Stage) (ws : L
     → (let w = marked_write k.geometry (file_in k.geometry bs n h) s in IsHeadWritten k n w.block nothing (with_file x n (record f { marked = true })) bs (after_writes (w ∷ []) bs) own
     → StepsOf end k ws (after_writes (w ∷ []) bs) own)
     → StepsOf end k (marked_write k.geometry (file_in k.geometry bs n h) s ∷ ws) bs own
-
--- the file as f, but for its mark, its end and what shows by the mark: its blocks that are written on these blocks
-pub record IsResized (g : Geometry) (bs : List Block) (n : ℕ) (h : Hdr) (f new : File) : Type 0 where
-  pub same : record f { mark = new.mark; end = new.end; byte = new.byte; written = new.written } ≡ new
-  pub mark : new.mark ≤ g.cluster * f.clusters + 1
-  pub end : new.end ≤ g.cluster * f.clusters + 1
-  pub byte : new.byte ≤ 511
-  pub written : written_blocks n (record h { mark = new.mark }) (blocks_at bs (places_in (header_block g bs n))) ≡ new.written
 
 -- the write of a file's header with the mark and the end of another
 abbrev pub sized_write : Geometry → SeenFile → File → Stage → PlanWrite

@@ -1,6 +1,7 @@
 //! Clusters: how many blocks need, what they cost, and the runs that they are.
 
 ghost use Rattle.std.specs.Prelude.{◌≡◌, ◌≤◌, ◌+◌, ◌*◌, None, IfOk};
+ghost use Rattle.plain_rules.specs.Lookups.{file_most};
 ghost use Rattle.vol_parts.specs.Parts.{IsGeometry};
 ghost use Rattle.op_law.specs.Writing.{clusters_for, runs_for};
 ghost use Rattle.op_steps.specs.Given.{IsOfVolume};
@@ -20,10 +21,10 @@ pub fn clusters_for(g: &Geometry, blocks: u32) -> u32
     (blocks + (g.cluster - 1)) / g.cluster
 }
 
-/// What a file of so many clusters, at most 77, costs its owner: its blocks, and one more.
+/// What a file of so many clusters costs its owner: its blocks, and one more.
 pub fn cost_of(g: &Geometry, clusters: u32) -> u32
     requires geometry { IsGeometry g.now }
-    requires few { clusters ≤ 77 }
+    requires few { clusters ≤ file_most }
     ensures { result ≡ g.now.cluster * clusters + 1 }
 {
     g.cluster * clusters + 1

@@ -15,7 +15,7 @@ use Rattle.plain_cat.specs.declared.cat.Open.{Open}
 use Rattle.plain_cat.specs.declared.cat.QuotaRow.{QuotaRow}
 use Rattle.plain_cat.specs.declared.cat.Slot.TheVariants.{Used, Free}
 use Rattle.plain_rules.specs.declared.outcome.Outcome.{Outcome}
-use Rattle.plain_rules.specs.Lookups.{last_seq, slot_at, is_free_slot, is_set, is_leaked, file_at, in_use, live, versions, entry_of, channel_at, is_open, row_of, is_free_number}
+use Rattle.plain_rules.specs.Lookups.{last_seq, slot_at, is_free_slot, is_set, is_leaked, file_at, in_use, live, versions, entry_of, channel_at, is_open, row_of, is_free_number, header_most}
 use Rattle.plain_rules.specs.Directories.{inserted, without, entry, new_version}
 use Rattle.plain_rules.specs.Changes.{in_clusters, cost, with_file, charged, freed, new_fid, new_file, new_dir, cut, is_past_mark, text_block, with_block, with_channel}
 use Rattle.plain_rules.specs.Accounts.{share, HasRow, Accounted}
@@ -119,13 +119,13 @@ there None h = absurd (let f : true ≡ false = h in cc)
 there (Some r) h = refl
 
 abbrev HasRoom : Cat → ℕ → Uic → Type 0
-HasRoom c blocks owner = (in_clusters c blocks ≤ 77) × (is_some (row_of owner c.quota) ≡ true)
+HasRoom c blocks owner = (in_clusters c blocks ≤ header_most) × (is_some (row_of owner c.quota) ≡ true)
 
 create_row : (c : Cat) (d : File) (name : List ℕ) (ver blocks : ℕ) (owner : Uic) (new : Option ℕ) → create_refusal c d name ver blocks owner new ≡ None → HasRoom c blocks owner
 unfolding create_refusal
 create_row c d name ver blocks owner new h =
     let f = are_false (create_checks c d name ver blocks owner new) h in
-    let limit : nat_lt 77 (in_clusters c blocks) ≡ false = f.1.1.0 in
+    let limit : nat_lt header_most (in_clusters c blocks) ≡ false = f.1.1.0 in
     (grind (arith, nat_tests), there (row_of owner c.quota) f.1.1.1.1.0)
 
 create_passed : (c : Cat) (dir : Fid) (name : List ℕ) (ver blocks : ℕ) (owner : Uic) (new : Option ℕ) → is_refusal (create_outcome c dir name ver blocks owner new).reply ≡ false → HasRoom c blocks owner
@@ -156,13 +156,13 @@ making_fair c n f o s k free size row = tt
 create_fair : (c : Cat) (blocks : ℕ) (owner : Uic) (new : Option ℕ) (o : Outcome) (s : Stage) → Fair c o.after → IsPick c new → HasRoom c blocks owner → FairIf c (create_stage c blocks owner new o s)
 unfolding create_stage
 create_fair c blocks owner None o s k pick room = tt
-create_fair c blocks owner (Some n) o s k pick room = making_fair c n (new_file (new_fid c n).seq owner (in_clusters c blocks)) o s k (pick_is_free c (Some n) pick)
-    (λ a. let high = a.factor_to in let le = product_le c.factor (in_clusters c blocks) high room.0 in omega (arith, le)) room.1
+create_fair c blocks owner (Some n) o s k pick room = making_fair c n (new_file (new_fid c n).seq owner (in_clusters c blocks)) o s k (pick_is_free c n pick)
+    (λ a. let high = a.factor_to in let le = product_le c.factor (in_clusters c blocks) high (omega (arith, room.0)) in omega (arith, le)) room.1
 
 mkdir_fair : (c : Cat) (owner : Uic) (new : Option ℕ) (o : Outcome) (s : Stage) → Fair c o.after → IsPick c new → is_some (row_of owner c.quota) ≡ true → FairIf c (mkdir_stage c owner new o s)
 unfolding mkdir_stage
 mkdir_fair c owner None o s k pick row = tt
-mkdir_fair c owner (Some n) o s k pick row = making_fair c n (new_dir (new_fid c n).seq owner c.factor) o s k (pick_is_free c (Some n) pick) (λ a. let high = a.factor_to in omega (arith, high)) row
+mkdir_fair c owner (Some n) o s k pick row = making_fair c n (new_dir (new_fid c n).seq owner c.factor) o s k (pick_is_free c n pick) (λ a. let high = a.factor_to in omega (arith, high)) row
 
 extend_fair : (c : Cat) (f : Option File) (blocks : ℕ) (o : Outcome) (s : Stage) → Fair c o.after → FairIf c (extend_stage c f blocks o s)
 unfolding extend_stage

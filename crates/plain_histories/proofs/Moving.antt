@@ -97,21 +97,21 @@ create_kept : (c : Cat) (dir : ℕ) (d : File) (name : List ℕ) (ver blocks : �
     → Kept c (create_made c dir d name ver blocks owner new).after
 create_kept c dir d name ver blocks owner None pick at = same_kept c
 create_kept c dir d name ver blocks owner (Some n) pick at = all_kept c _ refl
-    (entered_stay c dir d (entry name (new_version ver (versions name d.entries)) (new_fid c n)) (new_file (new_fid c n).seq owner (in_clusters c blocks)) at (pick_is_free c (Some n) pick))
+    (entered_stay c dir d (entry name (new_version ver (versions name d.entries)) (new_fid c n)) (new_file (new_fid c n).seq owner (in_clusters c blocks)) at (pick_is_free c n pick))
 
 mkdir_kept : (c : Cat) (dir : ℕ) (d : File) (name : List ℕ) (owner : Uic) (new : Option ℕ) → IsPick c new → slice_get c.files (dir - 1) ≡ Some (Used d)
     → Kept c (mkdir_made c dir d name owner new).after
 mkdir_kept c dir d name owner None pick at = same_kept c
 mkdir_kept c dir d name owner (Some n) pick at = all_kept c _ refl
-    (entered_stay c dir d (entry name 1 (new_fid c n)) (new_dir (new_fid c n).seq owner c.factor) at (pick_is_free c (Some n) pick))
+    (entered_stay c dir d (entry name 1 (new_fid c n)) (new_dir (new_fid c n).seq owner c.factor) at (pick_is_free c n pick))
 
 stat_kept : (c : Cat) (f : Option File) → Kept c (stat_of c f).after
 stat_kept c None = same_kept c
 stat_kept c (Some f) = same_kept c
 
-extend_kept : (c : Cat) (n : ℕ) (f : Option File) (blocks : ℕ) → ((g : File) → f ≡ Some g → slice_get c.files (n - 1) ≡ Some (Used g)) → Kept c (extend_of c n f blocks).after
-extend_kept c n None blocks at = same_kept c
-extend_kept c n (Some f) blocks at = unless_kept c (extend_refusal c n f blocks) (extended c n f (in_clusters c blocks))
+extend_kept : (c : Cat) (n : ℕ) (f : Option File) (blocks : ℕ) (new : Option ℕ) → ((g : File) → f ≡ Some g → slice_get c.files (n - 1) ≡ Some (Used g)) → Kept c (extend_of c n f blocks new).after
+extend_kept c n None blocks new at = same_kept c
+extend_kept c n (Some f) blocks new at = unless_kept c (extend_refusal c n f blocks new) (extended c n f (in_clusters c blocks))
     (all_kept c _ refl (slot_stay c.files (n - 1) f (grown c f (in_clusters c blocks)) (at f refl) refl refl))
 
 trunc_kept : (c : Cat) (n : ℕ) (f : Option File) (blocks : ℕ) → ((g : File) → f ≡ Some g → slice_get c.files (n - 1) ≡ Some (Used g)) → Kept c (trunc_of c n f blocks).after
@@ -235,7 +235,7 @@ outcome_moved c n (cmd.Create reg dir name ver blocks owner) new pick = moved_by
     unless_kept c (create_refusal c d name ver blocks owner new) _ (create_kept c dir.num d name ver blocks owner new pick (stands_live c dir d at))))
 outcome_moved c n (cmd.MkDir reg dir name owner) new pick = moved_by c n (cmd.MkDir reg dir name owner) _ refl (in_kept c (live c dir) _ (λ d at.
     unless_kept c (mkdir_refusal c d (dir_name name) owner new) _ (mkdir_kept c dir.num d (dir_name name) owner new pick (stands_live c dir d at))))
-outcome_moved c n (cmd.Extend file blocks) new pick = moved_by c n (cmd.Extend file blocks) _ refl (extend_kept c file.num (live c file) blocks (λ g at. stands_live c file g at))
+outcome_moved c n (cmd.Extend file blocks) new pick = moved_by c n (cmd.Extend file blocks) _ refl (extend_kept c file.num (live c file) blocks new (λ g at. stands_live c file g at))
 outcome_moved c n (cmd.Trunc file blocks) new pick = moved_by c n (cmd.Trunc file blocks) _ refl (trunc_kept c file.num (live c file) blocks (λ g at. stands_live c file g at))
 outcome_moved c n (cmd.Delete dir name ver) new pick = moved_by c n (cmd.Delete dir name ver) _ refl (delete_kept c dir name ver)
 outcome_moved c n (cmd.Rename dir name ver to to_ver) new pick = moved_by c n (cmd.Rename dir name ver to to_ver) _ refl (rename_kept c dir name ver to to_ver)

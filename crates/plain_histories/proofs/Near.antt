@@ -1,5 +1,5 @@
 -- What an answer leaves of usages and of small files.
-use Rattle.std.proofs.Common.{◌≡◌, ◌-◌, ◌+◌, ◌*◌, ◌≤◌, ◌==◌, ◌&&◌, ◌⊎◌, inl, inr, ℕ, Bool, true, false, cond, not, min, List, [], ◌∷◌, Option, Some, None, nat_le, nat_lt, map, length, slice_get, slice_set, get_or, refl, sym, ap, subst, ◌∙◌, arith}
+use Rattle.std.proofs.Common.{◌≡◌, ◌-◌, ◌+◌, ◌*◌, ◌≤◌, ◌==◌, ◌&&◌, ◌||◌, ◌⊎◌, inl, inr, ℕ, Bool, true, false, cond, not, min, List, [], ◌∷◌, Option, Some, None, nat_le, nat_lt, map, length, slice_get, slice_set, get_or, refl, sym, ap, subst, ◌∙◌, arith}
 use Rattle.std.specs.Prelude.{is_some, All}
 use Rattle.std.specs.List.{list_any}
 use Rattle.std.proofs.lemmas.Bool.Decides.{nat_tests}
@@ -21,7 +21,7 @@ use Rattle.plain_cat.specs.declared.cat.Slot.TheVariants.{Used, Free}
 use Rattle.plain_cat.specs.declared.cat.Open.{Open}
 use Rattle.plain_cat.specs.declared.cat.QuotaRow.{QuotaRow}
 use Rattle.plain_rules.specs.declared.outcome.Outcome.{Outcome}
-use Rattle.plain_rules.specs.Lookups.{slot_at, last_seq, file_at, in_use, live, versions, entry_of, channel_at, is_open, row_of, is_free_number, clusters_in}
+use Rattle.plain_rules.specs.Lookups.{slot_at, last_seq, file_at, in_use, live, versions, entry_of, channel_at, is_open, row_of, is_free_number, clusters_in, header_most, file_most}
 use Rattle.plain_rules.specs.Directories.{inserted, without, entry, new_version}
 use Rattle.plain_rules.specs.Changes.{in_clusters, cost, with_file, with_entries, charged, new_fid, new_file, new_dir, grown, cut, block_of, written, with_channel, with_row, allowed}
 use Rattle.plain_rules.specs.Accounts.{share, charge}
@@ -80,7 +80,7 @@ pub entries_keep : (c : Cat) (n : ℕ) (d : File) (es : List DirEnt) → slice_g
 entries_keep c n d es at = file_keeps c n d (record d { entries = es }) at refl refl
 
 -- a new file under a free number, whose owner is charged
-pub placed_keep : (c : Cat) (n : ℕ) (f : File) → is_free_number c n ≡ true → f.clusters ≤ 77 → Keeps c (with_file (charged c f.owner (cost c f.clusters)) n f)
+pub placed_keep : (c : Cat) (n : ℕ) (f : File) → is_free_number c n ≡ true → f.clusters ≤ file_most → Keeps c (with_file (charged c f.owner (cost c f.clusters)) n f)
 placed_keep c n f free few = record {
   near = λ m h. more_within c n (Free (last_seq (slot_at c n))) (Used f) f.owner (cost c f.clusters) m (stands_free c n free) (λ p. omega arith) h;
   small = set_small c.files (n - 1) (Used f) (λ le. few);
@@ -93,7 +93,7 @@ still_there c dir n d f at free = set_else c.files (n - 1) (dir - 1) (Used f) ap
   apart : n - 1 ≡ dir - 1 → ⊥
   apart e = let two : Some (Free (last_seq (slot_at c n))) ≡ Some (Used d) = sym (stands_free c n free) ∙ (ap (slice_get c.files) e ∙ at) in cc two
 
-entered_keep : (c : Cat) (dir : ℕ) (d : File) (e : DirEnt) (f : File) → slice_get c.files (dir - 1) ≡ Some (Used d) → is_free_number c e.fid.num ≡ true → f.clusters ≤ 77 → Keeps c (entered c dir d e f)
+entered_keep : (c : Cat) (dir : ℕ) (d : File) (e : DirEnt) (f : File) → slice_get c.files (dir - 1) ≡ Some (Used d) → is_free_number c e.fid.num ≡ true → f.clusters ≤ file_most → Keeps c (entered c dir d e f)
 entered_keep c dir d e f at free few =
     let next : Cat = with_file (charged c f.owner (cost c f.clusters)) e.fid.num f in
     then_keeps c next (with_entries next dir d (inserted e d.entries)) (placed_keep c e.fid.num f free few)
@@ -109,41 +109,45 @@ removed_keep c n f s = record {
 
 -- ---- commands
 
-pub create_few : (c : Cat) (d : File) (name : List ℕ) (ver blocks : ℕ) (owner : Uic) (new : Option ℕ) → create_refusal c d name ver blocks owner new ≡ None → in_clusters c blocks ≤ 77
+pub create_few : (c : Cat) (d : File) (name : List ℕ) (ver blocks : ℕ) (owner : Uic) (new : Option ℕ) → create_refusal c d name ver blocks owner new ≡ None → in_clusters c blocks ≤ header_most
 unfolding create_refusal
 create_few c d name ver blocks owner new h =
     let f = are_false (create_checks c d name ver blocks owner new) h in
-    let limit : nat_lt 77 (in_clusters c blocks) ≡ false = f.1.1.0 in
+    let limit : nat_lt header_most (in_clusters c blocks) ≡ false = f.1.1.0 in
     grind (arith, nat_tests)
 
-pub extend_few : (c : Cat) (n : ℕ) (f : File) (blocks : ℕ) → extend_refusal c n f blocks ≡ None → f.clusters + in_clusters c blocks ≤ 77
+later_false : (a b : Bool) → (a || b) ≡ false → b ≡ false
+later_false true b h = absurd (let f : true ≡ false = h in cc)
+later_false false b h = h
+
+pub extend_few : (c : Cat) (n : ℕ) (f : File) (blocks : ℕ) (new : Option ℕ) → extend_refusal c n f blocks new ≡ None → f.clusters + in_clusters c blocks ≤ file_most
 unfolding extend_refusal
-extend_few c n f blocks h =
-    let g = are_false (extend_checks c n f (in_clusters c blocks)) h in
-    let limit : nat_lt 77 (f.clusters + in_clusters c blocks) ≡ false = g.1.0 in
+extend_few c n f blocks new h =
+    let g = are_false (extend_checks c n f (in_clusters c blocks) new) h in
+    let limit : nat_lt file_most (f.clusters + in_clusters c blocks) ≡ false = later_false (nat_lt header_most (in_clusters c blocks)) _ g.1.0 in
     grind (arith, nat_tests)
 
-create_keeps : (c : Cat) (dir : ℕ) (d : File) (name : List ℕ) (ver blocks : ℕ) (owner : Uic) (new : Option ℕ) → IsPick c new → slice_get c.files (dir - 1) ≡ Some (Used d) → in_clusters c blocks ≤ 77
+create_keeps : (c : Cat) (dir : ℕ) (d : File) (name : List ℕ) (ver blocks : ℕ) (owner : Uic) (new : Option ℕ) → IsPick c new → slice_get c.files (dir - 1) ≡ Some (Used d) → in_clusters c blocks ≤ header_most
     → Keeps c (create_made c dir d name ver blocks owner new).after
 create_keeps c dir d name ver blocks owner None pick at few = same_keeps c
 create_keeps c dir d name ver blocks owner (Some n) pick at few =
-    entered_keep c dir d (entry name (new_version ver (versions name d.entries)) (new_fid c n)) (new_file (new_fid c n).seq owner (in_clusters c blocks)) at (pick_is_free c (Some n) pick) few
+    entered_keep c dir d (entry name (new_version ver (versions name d.entries)) (new_fid c n)) (new_file (new_fid c n).seq owner (in_clusters c blocks)) at (pick_is_free c n pick) (omega (arith, few))
 
 mkdir_keeps : (c : Cat) (dir : ℕ) (d : File) (name : List ℕ) (owner : Uic) (new : Option ℕ) → IsPick c new → slice_get c.files (dir - 1) ≡ Some (Used d)
     → Keeps c (mkdir_made c dir d name owner new).after
 mkdir_keeps c dir d name owner None pick at = same_keeps c
 mkdir_keeps c dir d name owner (Some n) pick at =
-    entered_keep c dir d (entry name 1 (new_fid c n)) (new_dir (new_fid c n).seq owner c.factor) at (pick_is_free c (Some n) pick) (omega arith)
+    entered_keep c dir d (entry name 1 (new_fid c n)) (new_dir (new_fid c n).seq owner c.factor) at (pick_is_free c n pick) (omega arith)
 
 stat_keeps : (c : Cat) (f : Option File) → Keeps c (stat_of c f).after
 stat_keeps c None = same_keeps c
 stat_keeps c (Some f) = same_keeps c
 
-extend_keeps : (c : Cat) (n : ℕ) (f : Option File) (blocks : ℕ) → ((g : File) → f ≡ Some g → slice_get c.files (n - 1) ≡ Some (Used g)) → Keeps c (extend_of c n f blocks).after
-extend_keeps c n None blocks at = same_keeps c
-extend_keeps c n (Some f) blocks at = unless_keeps c (extend_refusal c n f blocks) (extended c n f (in_clusters c blocks)) (λ passed.
+extend_keeps : (c : Cat) (n : ℕ) (f : Option File) (blocks : ℕ) (new : Option ℕ) → ((g : File) → f ≡ Some g → slice_get c.files (n - 1) ≡ Some (Used g)) → Keeps c (extend_of c n f blocks new).after
+extend_keeps c n None blocks new at = same_keeps c
+extend_keeps c n (Some f) blocks new at = unless_keeps c (extend_refusal c n f blocks new) (extended c n f (in_clusters c blocks)) (λ passed.
     let k : ℕ = in_clusters c blocks in
-    let few : f.clusters + k ≤ 77 = extend_few c n f blocks passed in
+    let few : f.clusters + k ≤ file_most = extend_few c n f blocks new passed in
     record {
       near = λ m h. more_within c n (Used f) (Used (grown c f k)) f.owner (c.factor * k) m (at f refl) (λ p. grows (p.0 == f.owner.0) c.factor f.clusters k) h;
       small = set_small c.files (n - 1) (Used (grown c f k)) (λ le. few);
@@ -284,7 +288,7 @@ outcome_keeps c n (cmd.Create reg dir name ver blocks owner) new pick = in_keeps
     create_keeps c dir.num d name ver blocks owner new pick (stands_live c dir d at) (create_few c d name ver blocks owner new passed)))
 outcome_keeps c n (cmd.MkDir reg dir name owner) new pick = in_keeps c (live c dir) _ (λ d at.
     unless_keeps c (mkdir_refusal c d (dir_name name) owner new) (mkdir_made c dir.num d (dir_name name) owner new) (λ passed. mkdir_keeps c dir.num d (dir_name name) owner new pick (stands_live c dir d at)))
-outcome_keeps c n (cmd.Extend file blocks) new pick = extend_keeps c file.num (live c file) blocks (λ g at. stands_live c file g at)
+outcome_keeps c n (cmd.Extend file blocks) new pick = extend_keeps c file.num (live c file) blocks new (λ g at. stands_live c file g at)
 outcome_keeps c n (cmd.Trunc file blocks) new pick = trunc_keeps c file.num (live c file) blocks (λ g at. stands_live c file g at)
 outcome_keeps c n (cmd.Delete dir name ver) new pick = delete_keeps c dir name ver
 outcome_keeps c n (cmd.Rename dir name ver to to_ver) new pick = rename_keeps c dir name ver to to_ver

@@ -111,9 +111,9 @@ mkdir_taken : (c : Cat) (dir : ℕ) (d : File) (name : List ℕ) (owner : Uic) (
 mkdir_taken c dir d name owner None = same_taken c
 mkdir_taken c dir d name owner (Some n) = entered_taken c dir d _ _
 
-extend_taken : (c : Cat) (n : ℕ) (f : Option File) (blocks : ℕ) → StayTaken c (extend_of c n f blocks).after
-extend_taken c n None blocks = same_taken c
-extend_taken c n (Some f) blocks = unless_taken c (extend_refusal c n f blocks) _ (file_taken (charged c f.owner (c.factor * in_clusters c blocks)) n (grown c f (in_clusters c blocks)))
+extend_taken : (c : Cat) (n : ℕ) (f : Option File) (blocks : ℕ) (new : Option ℕ) → StayTaken c (extend_of c n f blocks new).after
+extend_taken c n None blocks new = same_taken c
+extend_taken c n (Some f) blocks new = unless_taken c (extend_refusal c n f blocks new) _ (file_taken (charged c f.owner (c.factor * in_clusters c blocks)) n (grown c f (in_clusters c blocks)))
 
 trunc_taken : (c : Cat) (n : ℕ) (f : Option File) (blocks : ℕ) → StayTaken c (trunc_of c n f blocks).after
 trunc_taken c n None blocks = same_taken c
@@ -173,7 +173,7 @@ outcome_taken c node (cmd.List dir) new names = in_taken c (live c dir) _ (λ d.
 outcome_taken c node (cmd.Stat file) new names = stat_taken c (live c file)
 outcome_taken c node (cmd.Create reg dir name ver blocks owner) new names = in_taken c (live c dir) _ (λ d. unless_taken c (create_refusal c d name ver blocks owner new) _ (create_taken c dir.num d name ver blocks owner new))
 outcome_taken c node (cmd.MkDir reg dir name owner) new names = in_taken c (live c dir) _ (λ d. unless_taken c (mkdir_refusal c d (dir_name name) owner new) _ (mkdir_taken c dir.num d (dir_name name) owner new))
-outcome_taken c node (cmd.Extend file blocks) new names = extend_taken c file.num (live c file) blocks
+outcome_taken c node (cmd.Extend file blocks) new names = extend_taken c file.num (live c file) blocks new
 outcome_taken c node (cmd.Trunc file blocks) new names = trunc_taken c file.num (live c file) blocks
 outcome_taken c node (cmd.Delete dir name ver) new names = in_taken c (live c dir) _ (λ d. entry_taken c (entry_of (versions name d.entries) ver) _ (λ e no_system. if_taken c (has_entries (in_use c e.fid)) _ _ (same_taken c) (deleted_taken c dir.num d e (in_use c e.fid) no_system)))
 outcome_taken c node (cmd.Rename dir name ver to to_ver) new names = in_taken c (live c dir) _ (λ d. entry_taken c (entry_of (versions name d.entries) ver) _ (λ e no_system. unless_taken c (rename_refusal c d to to_ver) _ (file_taken c dir.num _)))

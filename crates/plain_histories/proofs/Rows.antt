@@ -10,7 +10,7 @@ use Rattle.plain_cat.specs.declared.ids.Uic.{Uic}
 use Rattle.plain_cat.specs.declared.cat.Cat.{Cat}
 use Rattle.plain_cat.specs.declared.cat.Slot.{Slot}
 use Rattle.plain_cat.specs.declared.cat.QuotaRow.{QuotaRow}
-use Rattle.plain_rules.specs.Lookups.{clusters_in}
+use Rattle.plain_rules.specs.Lookups.{clusters_in, file_most}
 use Rattle.plain_rules.specs.Changes.{raised, lowered, with_slot, charged, discharged}
 use Rattle.plain_rules.specs.Accounts.{share, charge}
 use Rattle.plain_histories.proofs.Lists.{same_or_other, set_else, set_there}
@@ -93,16 +93,16 @@ charged_within c o k m h = All-map (λ (r : QuotaRow). r.usage ≤ charge (charg
 
 -- ---- small files
 
--- each slot above number 11 has at most 77 clusters
+-- each slot above number 11 has at most file_most clusters
 abbrev pub AreSmall : List Slot → Type 0
-AreSmall xs = (j : ℕ) (s : Slot) → 11 ≤ j → slice_get xs j ≡ Some s → clusters_in s ≤ 77
+AreSmall xs = (j : ℕ) (s : Slot) → 11 ≤ j → slice_get xs j ≡ Some s → clusters_in s ≤ file_most
 
-pub set_small : (xs : List Slot) (i : ℕ) (s : Slot) → (11 ≤ i → clusters_in s ≤ 77) → AreSmall xs → AreSmall (slice_set xs i s)
+pub set_small : (xs : List Slot) (i : ℕ) (s : Slot) → (11 ≤ i → clusters_in s ≤ file_most) → AreSmall xs → AreSmall (slice_set xs i s)
 set_small xs i s few small j t le at = elim (same_or_other i j) [ inl e ↦ here e | inr ne ↦ small j t le (sym (set_else xs i j s ne) ∙ at) ] where
-  here : i ≡ j → clusters_in t ≤ 77
+  here : i ≡ j → clusters_in t ≤ file_most
   here e =
       let same : t ≡ s = set_there xs i s t (ap (slice_get (slice_set xs i s)) e ∙ at) in
-      subst (λ (x : Slot). clusters_in x ≤ 77) (sym same) (few (subst (λ (k : ℕ). 11 ≤ k) (sym e) le))
+      subst (λ (x : Slot). clusters_in x ≤ file_most) (sym same) (few (subst (λ (k : ℕ). 11 ≤ k) (sym e) le))
 
 -- a slot that has no more clusters than before
 pub less_small : (xs : List Slot) (i : ℕ) (old s : Slot) → slice_get xs i ≡ Some old → clusters_in s ≤ clusters_in old → AreSmall xs → AreSmall (slice_set xs i s)

@@ -16,7 +16,7 @@ use Rattle.plain_cat.specs.declared.cat.File.{File}
 use Rattle.plain_cat.specs.declared.cat.Open.{Open}
 use Rattle.plain_cat.specs.declared.cat.Slot.TheVariants.{Used, Free}
 use Rattle.plain_rules.specs.declared.outcome.Outcome.{Outcome}
-use Rattle.plain_rules.specs.Lookups.{file_at, in_use, live, versions, entry_of, channel_at, is_open, place, is_free_number}
+use Rattle.plain_rules.specs.Lookups.{file_at, in_use, live, versions, entry_of, channel_at, is_open, place, is_free_number, header_most, file_most}
 use Rattle.plain_rules.specs.Directories.{inserted, without, entry, new_version}
 use Rattle.plain_rules.specs.Changes.{in_clusters, cost, with_file, charged, freed, new_fid, new_file, new_dir, cut, is_past_mark, text_block, with_block, with_channel}
 use Rattle.plain_rules.specs.Accounts.{death_cost}
@@ -65,16 +65,16 @@ then_adds c (Some x) next h = h x refl
 
 -- ---- costs
 
-to_death : (k : ℕ) → k ≤ 1232 → k ≤ death_cost
+to_death : (k : ℕ) → k ≤ 16 * file_most → k ≤ death_cost
 to_death k le = omega (arith, le)
 
-one_more : (k : ℕ) → k ≤ 1232 → k + 1 ≤ death_cost
+one_more : (k : ℕ) → k ≤ 16 * file_most → k + 1 ≤ death_cost
 one_more k le = omega (arith, le)
 
-cost_le : (c : Cat) (k : ℕ) → c.factor ≤ 16 → k ≤ 77 → cost c k ≤ death_cost
+cost_le : (c : Cat) (k : ℕ) → c.factor ≤ 16 → k ≤ file_most → cost c k ≤ death_cost
 cost_le c k factor few = one_more (c.factor * k) (product_le c.factor k factor few)
 
-blocks_le : (c : Cat) (k : ℕ) → c.factor ≤ 16 → k ≤ 77 → c.factor * k ≤ death_cost
+blocks_le : (c : Cat) (k : ℕ) → c.factor ≤ 16 → k ≤ file_most → c.factor * k ≤ death_cost
 blocks_le c k factor few = to_death (c.factor * k) (product_le c.factor k factor few)
 
 index_above : (n : ℕ) → nat_le n 11 ≡ false → 11 ≤ n - 1
@@ -104,18 +104,18 @@ entry_passed c (Some x) next e at h =
       by_system true is k = absurd (let f : true ≡ false = k in cc)
       by_system false is k = is
 
-create_passed : (c : Cat) (dir : Fid) (name : List ℕ) (ver blocks : ℕ) (owner : Uic) (new : Option ℕ) → is_refusal (create_outcome c dir name ver blocks owner new).reply ≡ false → in_clusters c blocks ≤ 77
+create_passed : (c : Cat) (dir : Fid) (name : List ℕ) (ver blocks : ℕ) (owner : Uic) (new : Option ℕ) → is_refusal (create_outcome c dir name ver blocks owner new).reply ≡ false → in_clusters c blocks ≤ header_most
 unfolding create_outcome
 create_passed c dir name ver blocks owner new h =
-    in_passed (in_clusters c blocks ≤ 77) c (live c dir) (λ (d : File). unless c (create_refusal c d name ver blocks owner new) (create_made c dir.num d name ver blocks owner new))
+    in_passed (in_clusters c blocks ≤ header_most) c (live c dir) (λ (d : File). unless c (create_refusal c d name ver blocks owner new) (create_made c dir.num d name ver blocks owner new))
     (λ d at k. create_few c d name ver blocks owner new (passed c (create_refusal c d name ver blocks owner new) (create_made c dir.num d name ver blocks owner new) k)) h
 
-extend_passed : (c : Cat) (n : ℕ) (o : Option File) (blocks : ℕ) (f : File) → o ≡ Some f → is_refusal (extend_of c n o blocks).reply ≡ false → f.clusters + in_clusters c blocks ≤ 77
-extend_passed c n None blocks f at h = absurd (let x : None ≡ Some f = at in cc)
-extend_passed c n (Some g) blocks f at h =
+extend_passed : (c : Cat) (n : ℕ) (o : Option File) (blocks : ℕ) (new : Option ℕ) (f : File) → o ≡ Some f → is_refusal (extend_of c n o blocks new).reply ≡ false → f.clusters + in_clusters c blocks ≤ file_most
+extend_passed c n None blocks new f at h = absurd (let x : None ≡ Some f = at in cc)
+extend_passed c n (Some g) blocks new f at h =
     let same : g ≡ f = (let x : Some g ≡ Some f = at in cc) in
-    subst (λ (x : File). x.clusters + in_clusters c blocks ≤ 77) same
-    (extend_few c n g blocks (passed c (extend_refusal c n g blocks) (extended c n g (in_clusters c blocks)) h))
+    subst (λ (x : File). x.clusters + in_clusters c blocks ≤ file_most) same
+    (extend_few c n g blocks new (passed c (extend_refusal c n g blocks new) (extended c n g (in_clusters c blocks)) h))
 
 trunc_passed : (c : Cat) (n : ℕ) (o : Option File) (blocks : ℕ) (f : File) → o ≡ Some f → is_refusal (trunc_of c n o blocks).reply ≡ false → nat_le n 11 ≡ false
 trunc_passed c n None blocks f at h = absurd (let x : None ≡ Some f = at in cc)
@@ -137,7 +137,7 @@ delete_passed c dir name ver d e at is h =
 
 -- ---- commands
 
-making_adds : (c : Cat) (n : ℕ) (f : File) (o : Outcome) (s : Stage) → Keeps c o.after → is_free_number c n ≡ true → f.clusters ≤ 77 → AddsIf c (making_stage c n f o s)
+making_adds : (c : Cat) (n : ℕ) (f : File) (o : Outcome) (s : Stage) → Keeps c o.after → is_free_number c n ≡ true → f.clusters ≤ file_most → AddsIf c (making_stage c n f o s)
 making_adds c n f o stage.Charged k free few = record {
   near = λ names factor small m h. wider (charged c f.owner (cost c f.clusters)) (m + cost c f.clusters) (m + death_cost) (within_one m (cost c f.clusters) (cost_le c f.clusters factor few))
       (charged_within c f.owner (cost c f.clusters) m h);
@@ -148,17 +148,17 @@ making_adds c n f o stage.Lost k free few = adds_by c (with_file (charged c f.ow
 making_adds c n f o stage.Done k free few = adds_by c o.after k
 making_adds c n f o s k free few = tt
 
-create_adds : (c : Cat) (blocks : ℕ) (owner : Uic) (new : Option ℕ) (o : Outcome) (s : Stage) → Keeps c o.after → IsPick c new → in_clusters c blocks ≤ 77 → AddsIf c (create_stage c blocks owner new o s)
+create_adds : (c : Cat) (blocks : ℕ) (owner : Uic) (new : Option ℕ) (o : Outcome) (s : Stage) → Keeps c o.after → IsPick c new → in_clusters c blocks ≤ header_most → AddsIf c (create_stage c blocks owner new o s)
 unfolding create_stage
 create_adds c blocks owner None o s k pick few = tt
-create_adds c blocks owner (Some n) o s k pick few = making_adds c n (new_file (new_fid c n).seq owner (in_clusters c blocks)) o s k (pick_is_free c (Some n) pick) few
+create_adds c blocks owner (Some n) o s k pick few = making_adds c n (new_file (new_fid c n).seq owner (in_clusters c blocks)) o s k (pick_is_free c n pick) (omega (arith, few))
 
 mkdir_adds : (c : Cat) (owner : Uic) (new : Option ℕ) (o : Outcome) (s : Stage) → Keeps c o.after → IsPick c new → AddsIf c (mkdir_stage c owner new o s)
 unfolding mkdir_stage
 mkdir_adds c owner None o s k pick = tt
-mkdir_adds c owner (Some n) o s k pick = making_adds c n (new_dir (new_fid c n).seq owner c.factor) o s k (pick_is_free c (Some n) pick) (omega arith)
+mkdir_adds c owner (Some n) o s k pick = making_adds c n (new_dir (new_fid c n).seq owner c.factor) o s k (pick_is_free c n pick) (omega arith)
 
-extend_adds : (c : Cat) (f : Option File) (blocks : ℕ) (o : Outcome) (s : Stage) → Keeps c o.after → ((g : File) → f ≡ Some g → g.clusters + in_clusters c blocks ≤ 77) → AddsIf c (extend_stage c f blocks o s)
+extend_adds : (c : Cat) (f : Option File) (blocks : ℕ) (o : Outcome) (s : Stage) → Keeps c o.after → ((g : File) → f ≡ Some g → g.clusters + in_clusters c blocks ≤ file_most) → AddsIf c (extend_stage c f blocks o s)
 unfolding extend_stage
 extend_adds c (Some f) blocks o stage.Charged k few = record {
   near = λ names factor small m h. wider (charged c f.owner (c.factor * in_clusters c blocks)) (m + c.factor * in_clusters c blocks) (m + death_cost)
@@ -167,7 +167,7 @@ extend_adds c (Some f) blocks o stage.Charged k few = record {
   small = λ h. h;
   factor = refl;
 } where
-  part : (a b : ℕ) → a + b ≤ 77 → b ≤ 77
+  part : (a b : ℕ) → a + b ≤ file_most → b ≤ file_most
   part a b le = omega (arith, le)
 extend_adds c (Some f) blocks o stage.Done k few = adds_by c o.after k
 extend_adds c f blocks o s k few = tt
@@ -180,7 +180,7 @@ cut_adds c n f k at above less = record {
   small = less_small c.files (n - 1) (Used f) (Used (cut c f k)) at less;
   factor = refl;
 } where
-  part : (a : ℕ) → a ≤ 77 → a - k ≤ 77
+  part : (a : ℕ) → a ≤ file_most → a - k ≤ file_most
   part a le = omega (arith, le)
 
 trunc_adds : (c : Cat) (n : ℕ) (f : Option File) (blocks : ℕ) (o : Outcome) (s : Stage) → Keeps c o.after → ((g : File) → f ≡ Some g → slice_get c.files (n - 1) ≡ Some (Used g))
@@ -292,15 +292,15 @@ quota_adds c o s k = tt
 
 -- ---- all
 
-extend_kept : (c : Cat) (n : ℕ) (file : Fid) (blocks : ℕ) (new : Option ℕ) → is_refusal (outcome c n (cmd.Extend file blocks) new).reply ≡ false → (g : File) → live c file ≡ Some g → g.clusters + in_clusters c blocks ≤ 77
+extend_kept : (c : Cat) (n : ℕ) (file : Fid) (blocks : ℕ) (new : Option ℕ) → is_refusal (outcome c n (cmd.Extend file blocks) new).reply ≡ false → (g : File) → live c file ≡ Some g → g.clusters + in_clusters c blocks ≤ file_most
 unfolding outcome extend_outcome
-extend_kept c n file blocks new kept g at = extend_passed c file.num (live c file) blocks g at kept
+extend_kept c n file blocks new kept g at = extend_passed c file.num (live c file) blocks new g at kept
 
 trunc_kept : (c : Cat) (n : ℕ) (file : Fid) (blocks : ℕ) (new : Option ℕ) → is_refusal (outcome c n (cmd.Trunc file blocks) new).reply ≡ false → (g : File) → live c file ≡ Some g → nat_le file.num 11 ≡ false
 unfolding outcome trunc_outcome
 trunc_kept c n file blocks new kept g at = trunc_passed c file.num (live c file) blocks g at kept
 
-create_kept : (c : Cat) (n reg : ℕ) (dir : Fid) (name : List ℕ) (ver blocks : ℕ) (owner : Uic) (new : Option ℕ) → is_refusal (outcome c n (cmd.Create reg dir name ver blocks owner) new).reply ≡ false → in_clusters c blocks ≤ 77
+create_kept : (c : Cat) (n reg : ℕ) (dir : Fid) (name : List ℕ) (ver blocks : ℕ) (owner : Uic) (new : Option ℕ) → is_refusal (outcome c n (cmd.Create reg dir name ver blocks owner) new).reply ≡ false → in_clusters c blocks ≤ header_most
 unfolding outcome
 create_kept c n reg dir name ver blocks owner new kept = create_passed c dir name ver blocks owner new kept
 

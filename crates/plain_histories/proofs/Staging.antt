@@ -41,7 +41,7 @@ then_if b (Some x) next h = h x refl
 
 making_kept : (c : Cat) (n : ℕ) (f : File) (o : Outcome) (s : Stage) → Kept c o.after → IsPick c (Some n) → KeptIf c (making_stage c n f o s)
 making_kept c n f o stage.Charged k pick = all_kept c _ refl (same_stay c.files)
-making_kept c n f o stage.Lost k pick = all_kept c _ refl (placed_stay c n f (pick_is_free c (Some n) pick))
+making_kept c n f o stage.Lost k pick = all_kept c _ refl (placed_stay c n f (pick_is_free c n pick))
 making_kept c n f o stage.Done k pick = k
 making_kept c n f o s k pick = tt
 

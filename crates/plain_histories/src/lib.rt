@@ -8,7 +8,7 @@
 //!
 //! `usage_laws`: how far a quota row's usage may be above what its owner's files cost. `usages_stay_near`: an answer adds nothing to
 //! the difference; a stage at which a node dies adds the cost of one file at most, if files are small and opens are of files in use;
-//! eight deaths leave at most a million blocks. `files_stay_small`: if each user file has at most 77 clusters, this stays so.
+//! eight deaths leave at most a million blocks. `files_stay_small`: if each user file has at most `file_most` clusters, this stays so.
 //!
 //! `death_laws`: what a node's death leaves of the catalogue, at any stage of its command. `deaths_keep_accounts`: the limits and the
 //! quotas stay in order, if there were fewer than eight deaths before. `system_numbers_stay_taken`: no number of a system file

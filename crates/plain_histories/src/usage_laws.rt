@@ -11,7 +11,7 @@ ghost use Rattle.plain_rules.specs.Replaying.{dead};
 ghost use Rattle.plain_histories.specs.Opens.{OpensNameFiles};
 ghost use Rattle.plain_histories.specs.Usages.{AreNear, HasSmallFiles};
 
-/// A file above number 11 has at most 77 clusters after every answer, at every stage of a command and after every death, where it
+/// A file above number 11 has at most `file_most` clusters after every answer, at every stage of a command and after every death, where it
 /// was so before.
 pub fn files_stay_small()
     ensures answers { (c d : Cat) (n : ℕ) (x : Cmd) (r : Reply) → HasSmallFiles c → Answer c n x r d → HasSmallFiles d }

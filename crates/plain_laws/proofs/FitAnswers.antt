@@ -114,11 +114,11 @@ mkdir_room c d name owner new h =
     let room : nat_lt (free_clusters c) 1 ≡ false = f.1.1.1.1.1.0 in
     grind (arith, nat_tests)
 
-extend_room : (c : Cat) (n : ℕ) (f : File) (blocks : ℕ) → extend_refusal c n f blocks ≡ None → in_clusters c blocks ≤ free_clusters c
+extend_room : (c : Cat) (n : ℕ) (f : File) (blocks : ℕ) (new : Option ℕ) → extend_refusal c n f blocks new ≡ None → in_clusters c blocks ≤ free_clusters c
 unfolding extend_refusal
-extend_room c n f blocks h =
-    let g = are_false (extend_checks c n f (in_clusters c blocks)) h in
-    let room : nat_lt (free_clusters c) (in_clusters c blocks) ≡ false = g.1.1.1.0 in
+extend_room c n f blocks new h =
+    let g = are_false (extend_checks c n f (in_clusters c blocks) new) h in
+    let room : nat_lt (free_clusters c) (in_clusters c blocks) ≡ false = g.1.1.1.1.0 in
     grind (arith, nat_tests)
 
 -- a new file under a free number
@@ -147,13 +147,13 @@ create_made_fits : (c : Cat) (dir : ℕ) (d : File) (name : List ℕ) (ver block
     → slice_get c.files (dir - 1) ≡ Some (Used d) → in_clusters c blocks ≤ free_clusters c → Fits (create_made c dir d name ver blocks owner new).after
 create_made_fits c dir d name ver blocks owner None h pick at few = h
 create_made_fits c dir d name ver blocks owner (Some n) h pick at few =
-    entered_fits c dir d (entry name (new_version ver (versions name d.entries)) (new_fid c n)) (new_file (new_fid c n).seq owner (in_clusters c blocks)) h at (pick_is_free c (Some n) pick) few
+    entered_fits c dir d (entry name (new_version ver (versions name d.entries)) (new_fid c n)) (new_file (new_fid c n).seq owner (in_clusters c blocks)) h at (pick_is_free c n pick) few
 
 mkdir_made_fits : (c : Cat) (dir : ℕ) (d : File) (name : List ℕ) (owner : Uic) (new : Option ℕ) → Fits c → IsPick c new
     → slice_get c.files (dir - 1) ≡ Some (Used d) → 1 ≤ free_clusters c → Fits (mkdir_made c dir d name owner new).after
 mkdir_made_fits c dir d name owner None h pick at few = h
 mkdir_made_fits c dir d name owner (Some n) h pick at few =
-    entered_fits c dir d (entry name 1 (new_fid c n)) (new_dir (new_fid c n).seq owner c.factor) h at (pick_is_free c (Some n) pick) few
+    entered_fits c dir d (entry name 1 (new_fid c n)) (new_dir (new_fid c n).seq owner c.factor) h at (pick_is_free c n pick) few
 
 create_fits : (c : Cat) (dir : Fid) (name : List ℕ) (ver blocks : ℕ) (owner : Uic) (new : Option ℕ) → Fits c → IsPick c new
     → Fits (create_outcome c dir name ver blocks owner new).after
@@ -173,11 +173,11 @@ stat_fits : (c : Cat) (f : Option File) → Fits c → Fits (stat_of c f).after
 stat_fits c None h = h
 stat_fits c (Some f) h = h
 
-extend_fits : (c : Cat) (n : ℕ) (f : Option File) (blocks : ℕ) → Fits c → ((g : File) → f ≡ Some g → slice_get c.files (n - 1) ≡ Some (Used g))
-    → Fits (extend_of c n f blocks).after
-extend_fits c n None blocks h at = h
-extend_fits c n (Some f) blocks h at = fits_unless c (extend_refusal c n f blocks) _ h (λ passed.
-    slot_fits c n (Used f) (Used (grown c f (in_clusters c blocks))) (in_clusters c blocks) h (at f refl) (omega arith) (extend_room c n f blocks passed))
+extend_fits : (c : Cat) (n : ℕ) (f : Option File) (blocks : ℕ) (new : Option ℕ) → Fits c → ((g : File) → f ≡ Some g → slice_get c.files (n - 1) ≡ Some (Used g))
+    → Fits (extend_of c n f blocks new).after
+extend_fits c n None blocks new h at = h
+extend_fits c n (Some f) blocks new h at = fits_unless c (extend_refusal c n f blocks new) _ h (λ passed.
+    slot_fits c n (Used f) (Used (grown c f (in_clusters c blocks))) (in_clusters c blocks) h (at f refl) (omega arith) (extend_room c n f blocks new passed))
 
 trunc_fits : (c : Cat) (n : ℕ) (f : Option File) (blocks : ℕ) → Fits c → ((g : File) → f ≡ Some g → slice_get c.files (n - 1) ≡ Some (Used g))
     → Fits (trunc_of c n f blocks).after
@@ -262,7 +262,7 @@ outcome_fits c node (cmd.List dir) new h pick = fits_in c (live c dir) _ h (λ d
 outcome_fits c node (cmd.Stat file) new h pick = stat_fits c (live c file) h
 outcome_fits c node (cmd.Create reg dir name ver blocks owner) new h pick = create_fits c dir name ver blocks owner new h pick
 outcome_fits c node (cmd.MkDir reg dir name owner) new h pick = mkdir_fits c dir name owner new h pick
-outcome_fits c node (cmd.Extend file blocks) new h pick = extend_fits c file.num (live c file) blocks h (λ g at. stands_live c file g at)
+outcome_fits c node (cmd.Extend file blocks) new h pick = extend_fits c file.num (live c file) blocks new h (λ g at. stands_live c file g at)
 outcome_fits c node (cmd.Trunc file blocks) new h pick = trunc_fits c file.num (live c file) blocks h (λ g at. stands_live c file g at)
 outcome_fits c node (cmd.Delete dir name ver) new h pick = delete_fits c dir name ver h
 outcome_fits c node (cmd.Rename dir name ver to to_ver) new h pick = rename_fits c dir name ver to to_ver h

@@ -69,7 +69,7 @@ mkdir_passed c dir name owner new h =
 making_fits : (c : Cat) (n : ℕ) (f : File) (o : Outcome) (s : Stage) → Fits c → Fits o.after → IsPick c (Some n) → f.clusters ≤ free_clusters c
     → FitsIf (making_stage c n f o s)
 making_fits c n f o stage.Charged h k pick few = h
-making_fits c n f o stage.Lost h k pick few = placed_fits c n f h (pick_is_free c (Some n) pick) few
+making_fits c n f o stage.Lost h k pick few = placed_fits c n f h (pick_is_free c n pick) few
 making_fits c n f o stage.Done h k pick few = k
 making_fits c n f o s h k pick few = tt
 

@@ -54,9 +54,9 @@ mkdir_stays : (c : Cat) (dir : ℕ) (d : File) (name : List ℕ) (owner : Uic) (
 mkdir_stays c dir d name owner None = left refl
 mkdir_stays c dir d name owner (Some n) = done refl
 
-extend_stays : (c : Cat) (n : ℕ) (f : Option File) (blocks : ℕ) → Stays c (extend_of c n f blocks)
-extend_stays c n None blocks = left refl
-extend_stays c n (Some f) blocks = stays_unless c (extend_refusal c n f blocks) (extended c n f (in_clusters c blocks)) (done refl)
+extend_stays : (c : Cat) (n : ℕ) (f : Option File) (blocks : ℕ) (new : Option ℕ) → Stays c (extend_of c n f blocks new)
+extend_stays c n None blocks new = left refl
+extend_stays c n (Some f) blocks new = stays_unless c (extend_refusal c n f blocks new) (extended c n f (in_clusters c blocks)) (done refl)
 
 trunc_stays : (c : Cat) (n : ℕ) (f : Option File) (blocks : ℕ) → Stays c (trunc_of c n f blocks)
 trunc_stays c n None blocks = left refl
@@ -139,7 +139,7 @@ outcome_stays c node (cmd.Create reg dir name ver blocks owner) new = stays_in c
     stays_unless c (create_refusal c d name ver blocks owner new) (create_made c dir.num d name ver blocks owner new) (create_stays c dir.num d name ver blocks owner new))
 outcome_stays c node (cmd.MkDir reg dir name owner) new = stays_in c (live c dir) _ (λ d.
     stays_unless c (mkdir_refusal c d (dir_name name) owner new) (mkdir_made c dir.num d (dir_name name) owner new) (mkdir_stays c dir.num d (dir_name name) owner new))
-outcome_stays c node (cmd.Extend file blocks) new = extend_stays c file.num (live c file) blocks
+outcome_stays c node (cmd.Extend file blocks) new = extend_stays c file.num (live c file) blocks new
 outcome_stays c node (cmd.Trunc file blocks) new = trunc_stays c file.num (live c file) blocks
 outcome_stays c node (cmd.Delete dir name ver) new = delete_stays c dir name ver
 outcome_stays c node (cmd.Rename dir name ver to to_ver) new = rename_stays c dir name ver to to_ver

@@ -1,5 +1,5 @@
 -- Answers keep a catalogue in order.
-use Rattle.std.proofs.Common.{◌≡◌, ◌==◌, ◌&&◌, ◌-◌, ◌+◌, ◌*◌, ◌<◌, ◌≤◌, ◌⊎◌, inl, inr, ◌∙◌, ℕ, zero, suc, Bool, true, false, cond, not, min, List, [], ◌∷◌, Option, Some, None, length, map, slice_get, set, nat_le, nat_lt, refl, sym, ap, subst, arith}
+use Rattle.std.proofs.Common.{◌≡◌, ◌==◌, ◌&&◌, ◌||◌, ◌-◌, ◌+◌, ◌*◌, ◌<◌, ◌≤◌, ◌⊎◌, inl, inr, ◌∙◌, ℕ, zero, suc, Bool, true, false, cond, not, min, List, [], ◌∷◌, Option, Some, None, length, map, slice_get, set, nat_le, nat_lt, refl, sym, ap, subst, arith}
 use Rattle.std.specs.Prelude.{is_some}
 use Rattle.std.specs.List.{list_any}
 use Rattle.std.specs.Str.{bytes_eq}
@@ -24,7 +24,7 @@ use Rattle.plain_cat.specs.declared.cat.Slot.TheVariants.{Used, Free}
 use Rattle.plain_cat.specs.declared.cat.Open.{Open}
 use Rattle.plain_cat.specs.declared.cat.QuotaRow.{QuotaRow}
 use Rattle.plain_rules.specs.declared.outcome.Outcome.{Outcome}
-use Rattle.plain_rules.specs.Lookups.{slot_at, last_seq, file_at, of_seq, in_use, unmarked, live, versions, first_with, entry_of, highest, channel_at, is_open, row_of, is_free_number}
+use Rattle.plain_rules.specs.Lookups.{slot_at, last_seq, file_at, of_seq, in_use, unmarked, live, versions, first_with, entry_of, highest, channel_at, is_open, row_of, is_free_number, header_most, file_most}
 use Rattle.plain_rules.specs.Directories.{inserted, is_entry, without, is_nil, fits, entry, nowhere, new_version, is_last_version, is_taken}
 use Rattle.plain_rules.specs.Changes.{in_clusters, cost, with_file, freed, raised, lowered, charged, discharged, new_fid, new_file, new_dir, grown, cut, block_of, is_past_mark, marked_up, written, with_channel, with_row, allowed}
 use Rattle.plain_rules.specs.Mending.{system_names, is_name_of, is_own}
@@ -223,7 +223,7 @@ named_old c n f h at here e k from to has = h.named e k from to (has_to (entries
 
 -- the same but for clusters, mark, end and contents
 pub same_edit : (c : Cat) (n : ℕ) (f g : File) → file_at c n ≡ Some f → g.seq ≡ f.seq → g.dir ≡ f.dir → g.owner ≡ f.owner → g.entries ≡ f.entries → g.marked ≡ f.marked
-    → (11 < n → g.clusters ≤ 77) → IsSound c → Edit c n f g
+    → (11 < n → g.clusters ≤ file_most) → IsSound c → Edit c n f g
 same_edit c n f g at seq dir owner entries marked size h = record {
   seq = seq;
   dir = dir;
@@ -327,17 +327,17 @@ free_high c n h free = by_case (cases_lt 11 n) n refl where
       let both : Some (Free (last_seq (slot_at c n))) ≡ Some (Used r.0) = sym (stands_free c n free) ∙ stands_at c n r.0 r.1 in
       absurd (cc both)
 
-pub placed_sound : (c : Cat) (n : ℕ) (f : File) → is_free_number c n ≡ true → f.clusters ≤ 77 → f.entries ≡ [] → is_some (row_of f.owner c.quota) ≡ true
+pub placed_sound : (c : Cat) (n : ℕ) (f : File) → is_free_number c n ≡ true → f.clusters ≤ file_most → f.entries ≡ [] → is_some (row_of f.owner c.quota) ≡ true
     → Keeps c (with_file (charged c f.owner (cost c f.clusters)) n f)
 placed_sound c n f free few bare row h =
     let c0 : Cat = charged c f.owner (cost c f.clusters) in
     slot_sound c0 n (Used f) (free_high c n h free) (λ g is.
     let same : f ≡ g = cc is in
-    subst (λ (x : File). (x.clusters ≤ 77) × (is_some (row_of x.owner c0.quota) ≡ true) × (x.entries ≡ [])) same
+    subst (λ (x : File). (x.clusters ≤ file_most) × (is_some (row_of x.owner c0.quota) ≡ true) × (x.entries ≡ [])) same
     (few, rows_map (raised f.owner (cost c f.clusters)) (raised_owner f.owner (cost c f.clusters)) f.owner c.quota row, bare))
     (charged_sound c f.owner (cost c f.clusters) h)
 
-pub entered_sound : (c : Cat) (dir : ℕ) (d : File) (e : DirEnt) (f : File) → file_at c dir ≡ Some d → d.marked ≡ false → is_free_number c e.fid.num ≡ true → f.clusters ≤ 77 → f.entries ≡ []
+pub entered_sound : (c : Cat) (dir : ℕ) (d : File) (e : DirEnt) (f : File) → file_at c dir ≡ Some d → d.marked ≡ false → is_free_number c e.fid.num ≡ true → f.clusters ≤ file_most → f.entries ≡ []
     → is_some (row_of f.owner c.quota) ≡ true → is_taken e.ver (versions e.name d.entries) ≡ false → Keeps c (entered c dir d e f)
 entered_sound c dir d e f at unmarked free few bare row untaken h =
     edit_sound c1 dir d (record d { entries = inserted e d.entries }) at1
@@ -387,13 +387,13 @@ pub record MayCreate (c : Cat) (d : File) (name : List ℕ) (ver : ℕ) (owner :
   pub row : is_some (row_of owner c.quota) ≡ true
 
 pub create_may : (c : Cat) (d : File) (name : List ℕ) (ver blocks : ℕ) (owner : Uic) (new : Option ℕ) → create_refusal c d name ver blocks owner new ≡ None
-    → MayCreate c d name (new_version ver (versions name d.entries)) owner × (in_clusters c blocks ≤ 77)
+    → MayCreate c d name (new_version ver (versions name d.entries)) owner × (in_clusters c blocks ≤ header_most)
 unfolding create_refusal
 create_may c d name ver blocks owner new h =
     let f = are_false (create_checks c d name ver blocks owner new) h in
-    let limit : nat_lt 77 (in_clusters c blocks) ≡ false = f.1.1.0 in
+    let limit : nat_lt header_most (in_clusters c blocks) ≡ false = f.1.1.0 in
     (record { untaken = f.1.0; row = has_row (row_of owner c.quota) f.1.1.1.1.0 }, few (in_clusters c blocks) limit) where
-      few : (k : ℕ) → nat_lt 77 k ≡ false → k ≤ 77
+      few : (k : ℕ) → nat_lt header_most k ≡ false → k ≤ header_most
       few k e = grind (arith, nat_tests)
 
 nothing_taken : (ver : ℕ) (es : List DirEnt) → not (is_nil es) ≡ false → is_taken ver es ≡ false
@@ -407,37 +407,41 @@ mkdir_may c d name owner new h =
     record { untaken = nothing_taken 1 (versions name d.entries) f.0; row = has_row (row_of owner c.quota) f.1.1.0 }
 
 create_keeps : (c : Cat) (dir : ℕ) (d : File) (name : List ℕ) (ver blocks : ℕ) (owner : Uic) (new : Option ℕ) → IsPick c new → file_at c dir ≡ Some d → d.marked ≡ false
-    → MayCreate c d name (new_version ver (versions name d.entries)) owner × (in_clusters c blocks ≤ 77) → Keeps c (create_made c dir d name ver blocks owner new).after
+    → MayCreate c d name (new_version ver (versions name d.entries)) owner × (in_clusters c blocks ≤ header_most) → Keeps c (create_made c dir d name ver blocks owner new).after
 create_keeps c dir d name ver blocks owner None pick at free may = same_keeps c
 create_keeps c dir d name ver blocks owner (Some n) pick at free may =
     entered_sound c dir d (entry name (new_version ver (versions name d.entries)) (new_fid c n)) (new_file (new_fid c n).seq owner (in_clusters c blocks)) at free
-    (pick_is_free c (Some n) pick) may.1 refl may.0.row may.0.untaken
+    (pick_is_free c n pick) (omega (arith, may.1)) refl may.0.row may.0.untaken
 
 mkdir_keeps : (c : Cat) (dir : ℕ) (d : File) (name : List ℕ) (owner : Uic) (new : Option ℕ) → IsPick c new → file_at c dir ≡ Some d → d.marked ≡ false
     → MayCreate c d name 1 owner → Keeps c (mkdir_made c dir d name owner new).after
 mkdir_keeps c dir d name owner None pick at free may = same_keeps c
 mkdir_keeps c dir d name owner (Some n) pick at free may =
-    entered_sound c dir d (entry name 1 (new_fid c n)) (new_dir (new_fid c n).seq owner c.factor) at free (pick_is_free c (Some n) pick) (omega arith) refl may.row may.untaken
+    entered_sound c dir d (entry name 1 (new_fid c n)) (new_dir (new_fid c n).seq owner c.factor) at free (pick_is_free c n pick) (omega arith) refl may.row may.untaken
 
-extend_few : (c : Cat) (n : ℕ) (f : File) (blocks : ℕ) → extend_refusal c n f blocks ≡ None → f.clusters + in_clusters c blocks ≤ 77
+later_false : (a b : Bool) → (a || b) ≡ false → b ≡ false
+later_false true b h = absurd (cc h)
+later_false false b h = h
+
+extend_few : (c : Cat) (n : ℕ) (f : File) (blocks : ℕ) (new : Option ℕ) → extend_refusal c n f blocks new ≡ None → f.clusters + in_clusters c blocks ≤ file_most
 unfolding extend_refusal
-extend_few c n f blocks h =
-    let g = are_false (extend_checks c n f (in_clusters c blocks)) h in
-    let limit : nat_lt 77 (f.clusters + in_clusters c blocks) ≡ false = g.1.0 in
+extend_few c n f blocks new h =
+    let g = are_false (extend_checks c n f (in_clusters c blocks) new) h in
+    let limit : nat_lt file_most (f.clusters + in_clusters c blocks) ≡ false = later_false (nat_lt header_most (in_clusters c blocks)) _ g.1.0 in
     few (f.clusters + in_clusters c blocks) limit where
-      few : (k : ℕ) → nat_lt 77 k ≡ false → k ≤ 77
+      few : (k : ℕ) → nat_lt file_most k ≡ false → k ≤ file_most
       few k e = grind (arith, nat_tests)
 
 stat_keeps : (c : Cat) (f : Option File) → Keeps c (stat_of c f).after
 stat_keeps c None = same_keeps c
 stat_keeps c (Some f) = same_keeps c
 
-extend_keeps : (c : Cat) (n : ℕ) (f : Option File) (blocks : ℕ) → ((g : File) → f ≡ Some g → file_at c n ≡ Some g) → Keeps c (extend_of c n f blocks).after
-extend_keeps c n None blocks at = same_keeps c
-extend_keeps c n (Some f) blocks at = unless_keeps c (extend_refusal c n f blocks) (extended c n f (in_clusters c blocks)) (λ passed h.
+extend_keeps : (c : Cat) (n : ℕ) (f : Option File) (blocks : ℕ) (new : Option ℕ) → ((g : File) → f ≡ Some g → file_at c n ≡ Some g) → Keeps c (extend_of c n f blocks new).after
+extend_keeps c n None blocks new at = same_keeps c
+extend_keeps c n (Some f) blocks new at = unless_keeps c (extend_refusal c n f blocks new) (extended c n f (in_clusters c blocks)) (λ passed h.
     let k : ℕ = in_clusters c blocks in
     let c0 : Cat = charged c f.owner (c.factor * k) in
-    edit_sound c0 n f (grown c f k) (at f refl) (same_edit c0 n f (grown c f k) (at f refl) refl refl refl refl refl (λ high. extend_few c n f blocks passed))
+    edit_sound c0 n f (grown c f k) (at f refl) (same_edit c0 n f (grown c f k) (at f refl) refl refl refl refl refl (λ high. extend_few c n f blocks new passed))
     (charged_sound c f.owner (c.factor * k) h))
 
 pub cut_sound : (c : Cat) (n : ℕ) (f : File) (k : ℕ) → file_at c n ≡ Some f → k ≤ f.clusters → Keeps c (with_file c n (cut c f k))
@@ -609,7 +613,7 @@ outcome_sound c n (cmd.Create reg dir name ver blocks owner) new pick = in_keeps
 outcome_sound c n (cmd.MkDir reg dir name owner) new pick = in_keeps c (live c dir) _ (λ d at is.
     unless_keeps c (mkdir_refusal c d (dir_name name) owner new) (mkdir_made c dir.num d (dir_name name) owner new) (λ passed.
     let p = live_parts c dir d at in mkdir_keeps c dir.num d (dir_name name) owner new pick p.0 p.1 (mkdir_may c d (dir_name name) owner new passed)))
-outcome_sound c n (cmd.Extend file blocks) new pick = extend_keeps c file.num (live c file) blocks (λ g at. (live_parts c file g at).0)
+outcome_sound c n (cmd.Extend file blocks) new pick = extend_keeps c file.num (live c file) blocks new (λ g at. (live_parts c file g at).0)
 outcome_sound c n (cmd.Trunc file blocks) new pick = trunc_keeps c file.num (live c file) blocks (λ g at. (live_parts c file g at).0)
 outcome_sound c n (cmd.Delete dir name ver) new pick = delete_keeps c dir name ver
 outcome_sound c n (cmd.Rename dir name ver to to_ver) new pick = rename_keeps c dir name ver to to_ver

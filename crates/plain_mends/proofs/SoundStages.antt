@@ -15,7 +15,7 @@ use Rattle.plain_cat.specs.declared.history.Stage.TheVariants as stage
 use Rattle.plain_cat.specs.declared.cat.Cat.{Cat}
 use Rattle.plain_cat.specs.declared.cat.File.{File}
 use Rattle.plain_rules.specs.declared.outcome.Outcome.{Outcome}
-use Rattle.plain_rules.specs.Lookups.{file_at, in_use, live, versions, entry_of, channel_at, is_open, row_of, is_free_number}
+use Rattle.plain_rules.specs.Lookups.{file_at, in_use, live, versions, entry_of, channel_at, is_open, row_of, is_free_number, header_most, file_most}
 use Rattle.plain_rules.specs.Directories.{inserted, entry, new_version}
 use Rattle.plain_rules.specs.Changes.{in_clusters, cost, with_file, freed, with_entries, new_fid, new_file, new_dir, cut, is_past_mark, text_block, with_block, with_channel}
 use Rattle.plain_rules.specs.Answers.{refused, unless, in_directory_file, create_refusal, create_made, create_outcome, dir_name, mkdir_refusal, mkdir_made, mkdir_outcome, with_entry, has_entries, unnamed, less_entry, delete_outcome, rename_refusal, renamed, rename_outcome, outcome, IsPick}
@@ -63,10 +63,10 @@ entry_passed c (Some x) next e at h =
       by_system false is k = (above_from x.fid.num is, k)
 
 create_passed : (c : Cat) (dir : Fid) (name : List ℕ) (ver blocks : ℕ) (owner : Uic) (new : Option ℕ) → is_refusal (create_outcome c dir name ver blocks owner new).reply ≡ false
-    → (is_some (row_of owner c.quota) ≡ true) × (in_clusters c blocks ≤ 77)
+    → (is_some (row_of owner c.quota) ≡ true) × (in_clusters c blocks ≤ header_most)
 unfolding create_outcome
 create_passed c dir name ver blocks owner new h =
-    in_passed ((is_some (row_of owner c.quota) ≡ true) × (in_clusters c blocks ≤ 77)) c (live c dir) (λ (d : File). unless c (create_refusal c d name ver blocks owner new) (create_made c dir.num d name ver blocks owner new))
+    in_passed ((is_some (row_of owner c.quota) ≡ true) × (in_clusters c blocks ≤ header_most)) c (live c dir) (λ (d : File). unless c (create_refusal c d name ver blocks owner new) (create_made c dir.num d name ver blocks owner new))
     (λ d at is k. let m = create_may c d name ver blocks owner new (passed c (create_refusal c d name ver blocks owner new) (create_made c dir.num d name ver blocks owner new) k) in (m.0.row, m.1)) h
 
 mkdir_passed : (c : Cat) (dir : Fid) (name : List ℕ) (owner : Uic) (new : Option ℕ) → is_refusal (mkdir_outcome c dir name owner new).reply ≡ false → is_some (row_of owner c.quota) ≡ true
@@ -114,23 +114,23 @@ rename_passed c dir name ver to to_ver d e at found h =
 
 -- ---- commands
 
-making_sound : (c : Cat) (n : ℕ) (f : File) (o : Outcome) (s : Stage) → IsSound c → IsSound o.after → is_free_number c n ≡ true → f.clusters ≤ 77 → f.entries ≡ [] → is_some (row_of f.owner c.quota) ≡ true
+making_sound : (c : Cat) (n : ℕ) (f : File) (o : Outcome) (s : Stage) → IsSound c → IsSound o.after → is_free_number c n ≡ true → f.clusters ≤ file_most → f.entries ≡ [] → is_some (row_of f.owner c.quota) ≡ true
     → SoundIf (making_stage c n f o s)
 making_sound c n f o stage.Charged h k free few bare row = charged_sound c f.owner (cost c f.clusters) h
 making_sound c n f o stage.Lost h k free few bare row = placed_sound c n f free few bare row h
 making_sound c n f o stage.Done h k free few bare row = k
 making_sound c n f o s h k free few bare row = tt
 
-create_sound : (c : Cat) (blocks : ℕ) (owner : Uic) (new : Option ℕ) (o : Outcome) (s : Stage) → IsSound c → IsSound o.after → IsPick c new → (is_some (row_of owner c.quota) ≡ true) × (in_clusters c blocks ≤ 77)
+create_sound : (c : Cat) (blocks : ℕ) (owner : Uic) (new : Option ℕ) (o : Outcome) (s : Stage) → IsSound c → IsSound o.after → IsPick c new → (is_some (row_of owner c.quota) ≡ true) × (in_clusters c blocks ≤ header_most)
     → SoundIf (create_stage c blocks owner new o s)
 unfolding create_stage
 create_sound c blocks owner None o s h k pick may = tt
-create_sound c blocks owner (Some n) o s h k pick may = making_sound c n (new_file (new_fid c n).seq owner (in_clusters c blocks)) o s h k (pick_is_free c (Some n) pick) may.1 refl may.0
+create_sound c blocks owner (Some n) o s h k pick may = making_sound c n (new_file (new_fid c n).seq owner (in_clusters c blocks)) o s h k (pick_is_free c n pick) (omega (arith, may.1)) refl may.0
 
 mkdir_sound : (c : Cat) (owner : Uic) (new : Option ℕ) (o : Outcome) (s : Stage) → IsSound c → IsSound o.after → IsPick c new → is_some (row_of owner c.quota) ≡ true → SoundIf (mkdir_stage c owner new o s)
 unfolding mkdir_stage
 mkdir_sound c owner None o s h k pick row = tt
-mkdir_sound c owner (Some n) o s h k pick row = making_sound c n (new_dir (new_fid c n).seq owner c.factor) o s h k (pick_is_free c (Some n) pick) (omega arith) refl row
+mkdir_sound c owner (Some n) o s h k pick row = making_sound c n (new_dir (new_fid c n).seq owner c.factor) o s h k (pick_is_free c n pick) (omega arith) refl row
 
 extend_sound : (c : Cat) (f : Option File) (blocks : ℕ) (o : Outcome) (s : Stage) → IsSound c → IsSound o.after → SoundIf (extend_stage c f blocks o s)
 unfolding extend_stage

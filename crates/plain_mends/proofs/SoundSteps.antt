@@ -9,7 +9,7 @@ use Rattle.plain_cat.specs.declared.cat.Cat.{Cat}
 use Rattle.plain_cat.specs.declared.cat.File.{File}
 use Rattle.plain_cat.specs.declared.cat.Slot.{Slot}
 use Rattle.plain_cat.specs.declared.cat.Slot.TheVariants.{Used}
-use Rattle.plain_rules.specs.Lookups.{file_at, row_of}
+use Rattle.plain_rules.specs.Lookups.{file_at, row_of, file_most}
 use Rattle.plain_rules.specs.Directories.{is_nil}
 use Rattle.plain_rules.specs.Changes.{with_slot, with_file}
 use Rattle.plain_rules.specs.Answers.{has_entries}
@@ -25,7 +25,7 @@ use Rattle.plain_laws.proofs.Standing.{number_rises, file_same, file_other}
 
 -- what a file of the later catalogue is by the earlier one, where new chains begin at s
 pub record Comes (c : Cat) (s n : ℕ) (g : File) : Type 0 where
-  pub size : 11 < n → g.clusters ≤ 77
+  pub size : 11 < n → g.clusters ≤ file_most
   pub owner : is_some (row_of g.owner c.quota) ≡ true
   pub closed : has_entries (Some g) ≡ true → g.marked ≡ false
   pub edges : (e : DirEnt) → Has (listed (Some g)) e → (n ≡ 4 → is_system_entry 4 e ≡ false)
@@ -149,7 +149,7 @@ pub record Edit (c : Cat) (n : ℕ) (f g : File) : Type 0 where
   pub seq : g.seq ≡ f.seq
   pub dir : g.dir ≡ f.dir
   pub owner : g.owner ≡ f.owner
-  pub size : 11 < n → g.clusters ≤ 77
+  pub size : 11 < n → g.clusters ≤ file_most
   pub low : n ≤ 11 → g.marked ≡ false
   pub closed : has_entries (Some g) ≡ true → g.marked ≡ false
   pub own : n ≡ 4 → (k : ℕ) → 1 ≤ k → k ≤ 11 → list_any (is_system_entry k) f.entries ≡ true → list_any (is_system_entry k) g.entries ≡ true
@@ -256,7 +256,7 @@ no_way c n m f at bare = no_start c n m (λ e has.
     subst (λ (es : List DirEnt). Has es e) bare (if_listed f.dir f.entries e mine).1)
 
 -- the number of a slot that changes is above those of the system
-pub slot_sound : (c : Cat) (n : ℕ) (v : Slot) → 11 < n → ((g : File) → v ≡ Used g → (g.clusters ≤ 77) × (is_some (row_of g.owner c.quota) ≡ true) × (g.entries ≡ [])) → IsSound c → IsSound (with_slot c n v)
+pub slot_sound : (c : Cat) (n : ℕ) (v : Slot) → 11 < n → ((g : File) → v ≡ Used g → (g.clusters ≤ file_most) × (is_some (row_of g.owner c.quota) ≡ true) × (g.entries ≡ [])) → IsSound c → IsSound (with_slot c n v)
 slot_sound c n v high new h = sound_on c d n (record {
   files = λ k x there. comes k x (at_after c n k v x rises there);
   low = λ k x from to there is. (x, file_other c n k v rises (λ e. omega (arith, e, to, high)) ∙ there, is);

@@ -4,7 +4,7 @@ use Rattle.std.specs.List.{Contains, list_any}
 use Rattle.plain_cat.specs.declared.entries.DirEnt.{DirEnt}
 use Rattle.plain_cat.specs.declared.cat.Cat.{Cat}
 use Rattle.plain_cat.specs.declared.cat.File.{File}
-use Rattle.plain_rules.specs.Lookups.{file_at, row_of}
+use Rattle.plain_rules.specs.Lookups.{file_at, row_of, file_most}
 use Rattle.plain_rules.specs.Answers.{has_entries}
 use Rattle.plain_rules.specs.Mending.{is_own}
 use Rattle.plain_rules.specs.SystemFiles.{system_seq, is_system_directory, entries_of, is_system_entry}
@@ -35,8 +35,8 @@ pub data NumberPath (c : Cat) (n : ℕ) : ℕ → Type 0 where
 pub record IsSound (c : Cat) : Type 0 where
   -- The system files are there.
   pub systems : (n : ℕ) → 1 ≤ n → n ≤ 11 → (f : File) × (file_at c n ≡ Some f) × IsSystemFile n f
-  -- A file above number 11 has at most 77 clusters.
-  pub sizes : (n : ℕ) (f : File) → 11 < n → file_at c n ≡ Some f → f.clusters ≤ 77
+  -- A file above number 11 has at most file_most clusters.
+  pub sizes : (n : ℕ) (f : File) → 11 < n → file_at c n ≡ Some f → f.clusters ≤ file_most
   -- Each owner of a file has a quota row.
   pub owners : (n : ℕ) (f : File) → file_at c n ≡ Some f → is_some (row_of f.owner c.quota) ≡ true
   -- Each system file has its own entry in the master file directory.

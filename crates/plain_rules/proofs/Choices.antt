@@ -7,7 +7,7 @@ use Rattle.plain_cat.specs.declared.cat.Cat.{Cat}
 use Rattle.plain_cat.specs.declared.cat.File.{File}
 use Rattle.plain_rules.specs.declared.outcome.Outcome.{Outcome}
 use Rattle.plain_rules.specs.Lookups.{live}
-use Rattle.plain_rules.specs.Answers.{unless, in_directory_file, create_refusal, create_made, create_outcome, dir_name, mkdir_refusal, mkdir_made, mkdir_outcome, extend_outcome, outcome, IsPick, Answer}
+use Rattle.plain_rules.specs.Answers.{unless, in_directory_file, create_refusal, create_made, create_outcome, dir_name, mkdir_refusal, mkdir_made, mkdir_outcome, extend_refusal, extend_of, extend_outcome, outcome, IsPick, Answer}
 use Rattle.plain_rules.specs.Checks.{shown_number, ChosenAlike}
 use Rattle.plain_rules.specs.Laws.{makes_file}
 use Rattle.plain_rules.proofs.Picks.{one_pick}
@@ -26,6 +26,12 @@ alike_in : (c : Cat) (f : Option File) (next after : File → Outcome) (m : ℕ)
 alike_in c None next after m h = inl refl
 alike_in c (Some d) next after m h = alike_if d.dir (next d) (after d) _ m (h d)
 
+-- EXTEND is answered alike whatever number is free
+extend_alike : (c : Cat) (n : ℕ) (f : Option File) (blocks m k : ℕ) → extend_of c n f blocks (Some m) ≡ extend_of c n f blocks (Some k)
+unfolding extend_refusal
+extend_alike c n None blocks m k = refl
+extend_alike c n (Some f) blocks m k = refl
+
 -- two free numbers give the same answer, unless the reply shows the number
 pub free_choice : (c : Cat) (node : ℕ) (x : Cmd) (m k : ℕ) → ChosenAlike (outcome c node x (Some m)) (outcome c node x (Some k)) m
 unfolding outcome create_outcome mkdir_outcome create_refusal mkdir_refusal extend_outcome
@@ -36,7 +42,7 @@ free_choice c node (cmd.Create reg dir name ver blocks owner) m k = alike_in c (
     alike_unless c (create_refusal c d name ver blocks owner (Some m)) (create_made c dir.num d name ver blocks owner (Some m)) (create_made c dir.num d name ver blocks owner (Some k)) m refl)
 free_choice c node (cmd.MkDir reg dir name owner) m k = alike_in c (live c dir) _ _ m (λ d.
     alike_unless c (mkdir_refusal c d (dir_name name) owner (Some m)) (mkdir_made c dir.num d (dir_name name) owner (Some m)) (mkdir_made c dir.num d (dir_name name) owner (Some k)) m refl)
-free_choice c node (cmd.Extend file blocks) m k = inl refl
+free_choice c node (cmd.Extend file blocks) m k = inl (extend_alike c file.num (live c file) blocks m k)
 free_choice c node (cmd.Trunc file blocks) m k = inl refl
 free_choice c node (cmd.Delete dir name ver) m k = inl refl
 free_choice c node (cmd.Rename dir name ver to to_ver) m k = inl refl
@@ -55,7 +61,7 @@ no_choice c node (cmd.List dir) m k h = refl
 no_choice c node (cmd.Stat file) m k h = refl
 no_choice c node (cmd.Create reg dir name ver blocks owner) m k h = absurd (cc h)
 no_choice c node (cmd.MkDir reg dir name owner) m k h = absurd (cc h)
-no_choice c node (cmd.Extend file blocks) m k h = refl
+no_choice c node (cmd.Extend file blocks) m k h = extend_alike c file.num (live c file) blocks m k
 no_choice c node (cmd.Trunc file blocks) m k h = refl
 no_choice c node (cmd.Delete dir name ver) m k h = refl
 no_choice c node (cmd.Rename dir name ver to to_ver) m k h = refl

@@ -135,9 +135,9 @@ stat_form : (c : Cat) (f : Option File) → HasOneForm c → HasOneForm (stat_of
 stat_form c None f = f
 stat_form c (Some x) f = f
 
-extend_form : (c : Cat) (n : ℕ) (f : Option File) (blocks : ℕ) → HasOneForm c → ((g : File) → f ≡ Some g → rises g.entries ≡ true) → HasOneForm (extend_of c n f blocks).after
-extend_form c n None blocks h order = h
-extend_form c n (Some f) blocks h order = form_unless c (extend_refusal c n f blocks) _ h (λ passed.
+extend_form : (c : Cat) (n : ℕ) (f : Option File) (blocks : ℕ) (new : Option ℕ) → HasOneForm c → ((g : File) → f ≡ Some g → rises g.entries ≡ true) → HasOneForm (extend_of c n f blocks new).after
+extend_form c n None blocks new h order = h
+extend_form c n (Some f) blocks new h order = form_unless c (extend_refusal c n f blocks new) _ h (λ passed.
     form_slot (charged c f.owner (c.factor * in_clusters c blocks)) n (Used (grown c f (in_clusters c blocks))) (form_charged c f.owner (c.factor * in_clusters c blocks) h) (order f refl))
 
 trunc_form : (c : Cat) (n : ℕ) (f : Option File) (blocks : ℕ) → HasOneForm c → ((g : File) → f ≡ Some g → rises g.entries ≡ true) → HasOneForm (trunc_of c n f blocks).after
@@ -241,7 +241,7 @@ outcome_form c node (cmd.List dir) new f = form_in c (live c dir) _ f (λ d at. 
 outcome_form c node (cmd.Stat file) new f = stat_form c (live c file) f
 outcome_form c node (cmd.Create reg dir name ver blocks owner) new f = create_form c dir name ver blocks owner new f
 outcome_form c node (cmd.MkDir reg dir name owner) new f = mkdir_form c dir name owner new f
-outcome_form c node (cmd.Extend file blocks) new f = extend_form c file.num (live c file) blocks f (λ g at. stands_in_order c file.num g f (stands_live c file g at))
+outcome_form c node (cmd.Extend file blocks) new f = extend_form c file.num (live c file) blocks new f (λ g at. stands_in_order c file.num g f (stands_live c file g at))
 outcome_form c node (cmd.Trunc file blocks) new f = trunc_form c file.num (live c file) blocks f (λ g at. stands_in_order c file.num g f (stands_live c file g at))
 outcome_form c node (cmd.Delete dir name ver) new f = delete_form c dir name ver f
 outcome_form c node (cmd.Rename dir name ver to to_ver) new f = rename_form c dir name ver to to_ver f

@@ -1,4 +1,4 @@
-use Rattle.std.proofs.Common.{◌≡◌, ◌==◌, ◌+◌, ◌-◌, ◌≤◌, ◌∙◌, ℕ, suc, Bool, true, false, cond, min, List, [], ◌∷◌, Option, Some, None, is_some, is_none, map, nat_lt, slice_get, get_or, refl, sym, ap, subst, arith}
+use Rattle.std.proofs.Common.{◌≡◌, ◌==◌, ◌+◌, ◌-◌, ◌≤◌, ◌∙◌, ◌||◌, ℕ, suc, Bool, true, false, cond, min, List, [], ◌∷◌, Option, Some, None, is_some, is_none, map, nat_lt, slice_get, get_or, refl, sym, ap, subst, arith}
 use Rattle.std.specs.Prelude.{All}
 use Rattle.std.proofs.lemmas.Bool.Decides.{nat_tests}
 use Rattle.std.proofs.lemmas.List.Elements.{All-map, All-cons}
@@ -16,7 +16,7 @@ use Rattle.plain_cat.specs.declared.cat.Slot.TheVariants.{Used, Free}
 use Rattle.plain_cat.specs.declared.cat.Open.{Open}
 use Rattle.plain_cat.specs.declared.cat.QuotaRow.{QuotaRow}
 use Rattle.plain_rules.specs.declared.outcome.Outcome.{Outcome}
-use Rattle.plain_rules.specs.Lookups.{slot_at, last_seq, file_at, in_use, live, versions, entry_of, channel_at, row_of}
+use Rattle.plain_rules.specs.Lookups.{slot_at, last_seq, file_at, in_use, live, versions, entry_of, channel_at, row_of, header_most, file_most}
 use Rattle.plain_rules.specs.Directories.{without, entry, new_version}
 use Rattle.plain_rules.specs.Changes.{in_clusters, new_fid, new_file, new_dir, written, with_channel, with_row, allowed, cost}
 use Rattle.plain_rules.specs.Accounts.{share, charge, HasRow, IsCharged, Accounted}
@@ -44,20 +44,20 @@ stat_keeps c None a = a
 stat_keeps c (Some f) a = a
 
 create_row : (c : Cat) (d : File) (name : List ℕ) (ver blocks : ℕ) (owner : Uic) (new : Option ℕ) → create_refusal c d name ver blocks owner new ≡ None
-    → (in_clusters c blocks ≤ 77) × (is_some (row_of owner c.quota) ≡ true)
+    → (in_clusters c blocks ≤ header_most) × (is_some (row_of owner c.quota) ≡ true)
 unfolding create_refusal
 create_row c d name ver blocks owner new h =
     let f = are_false (create_checks c d name ver blocks owner new) h in
-    let limit : nat_lt 77 (in_clusters c blocks) ≡ false = f.1.1.0 in
+    let limit : nat_lt header_most (in_clusters c blocks) ≡ false = f.1.1.0 in
     (grind (arith, nat_tests), there (row_of owner c.quota) f.1.1.1.1.0)
 
 create_made_keeps : (c : Cat) (dir : ℕ) (d : File) (name : List ℕ) (ver blocks : ℕ) (owner : Uic) (new : Option ℕ) → Accounted c → IsPick c new
-    → slice_get c.files (dir - 1) ≡ Some (Used d) → in_clusters c blocks ≤ 77 → is_some (row_of owner c.quota) ≡ true
+    → slice_get c.files (dir - 1) ≡ Some (Used d) → in_clusters c blocks ≤ header_most → is_some (row_of owner c.quota) ≡ true
     → Accounted (create_made c dir d name ver blocks owner new).after
 create_made_keeps c dir d name ver blocks owner None a pick at few row = a
 create_made_keeps c dir d name ver blocks owner (Some n) a pick at few row =
     entered_keep c dir d (entry name (new_version ver (versions name d.entries)) (new_fid c n)) (new_file (new_fid c n).seq owner (in_clusters c blocks))
-    (last_seq (slot_at c n)) a at (stands_free c n (pick_is_free c (Some n) pick)) (omega (arith, product_le c.factor (in_clusters c blocks) a.factor_to few)) row
+    (last_seq (slot_at c n)) a at (stands_free c n (pick_is_free c n pick)) (omega (arith, product_le c.factor (in_clusters c blocks) a.factor_to (omega (arith, few)))) row
 
 create_keeps : (c : Cat) (dir : Fid) (name : List ℕ) (ver blocks : ℕ) (owner : Uic) (new : Option ℕ) → Accounted c → IsPick c new
     → Accounted (create_outcome c dir name ver blocks owner new).after
@@ -79,7 +79,7 @@ mkdir_made_keeps : (c : Cat) (dir : ℕ) (d : File) (name : List ℕ) (owner : U
 mkdir_made_keeps c dir d name owner None a pick at row = a
 mkdir_made_keeps c dir d name owner (Some n) a pick at row =
     entered_keep c dir d (entry name 1 (new_fid c n)) (new_dir (new_fid c n).seq owner c.factor)
-    (last_seq (slot_at c n)) a at (stands_free c n (pick_is_free c (Some n) pick)) (omega (arith, a.factor_to)) row
+    (last_seq (slot_at c n)) a at (stands_free c n (pick_is_free c n pick)) (omega (arith, a.factor_to)) row
 
 mkdir_keeps : (c : Cat) (dir : Fid) (name : List ℕ) (owner : Uic) (new : Option ℕ) → Accounted c → IsPick c new
     → Accounted (mkdir_outcome c dir name owner new).after
@@ -88,18 +88,22 @@ mkdir_keeps c dir name owner new a pick = kept_in c (live c dir) _ a (λ d at.
     kept_unless c (mkdir_refusal c d (dir_name name) owner new) (mkdir_made c dir.num d (dir_name name) owner new) a (λ passed.
     mkdir_made_keeps c dir.num d (dir_name name) owner new a pick (stands_live c dir d at) (mkdir_row c d (dir_name name) owner new passed)))
 
-extend_few : (c : Cat) (n : ℕ) (f : File) (blocks : ℕ) → extend_refusal c n f blocks ≡ None → f.clusters + in_clusters c blocks ≤ 77
+later_false : (a b : Bool) → (a || b) ≡ false → b ≡ false
+later_false true b h = absurd (cc h)
+later_false false b h = h
+
+extend_few : (c : Cat) (n : ℕ) (f : File) (blocks : ℕ) (new : Option ℕ) → extend_refusal c n f blocks new ≡ None → f.clusters + in_clusters c blocks ≤ file_most
 unfolding extend_refusal
-extend_few c n f blocks h =
-    let g = are_false (extend_checks c n f (in_clusters c blocks)) h in
-    let limit : nat_lt 77 (f.clusters + in_clusters c blocks) ≡ false = g.1.0 in
+extend_few c n f blocks new h =
+    let g = are_false (extend_checks c n f (in_clusters c blocks) new) h in
+    let limit : nat_lt file_most (f.clusters + in_clusters c blocks) ≡ false = later_false (nat_lt header_most (in_clusters c blocks)) _ g.1.0 in
     grind (arith, nat_tests)
 
-extend_keeps : (c : Cat) (n : ℕ) (f : Option File) (blocks : ℕ) → Accounted c → ((g : File) → f ≡ Some g → slice_get c.files (n - 1) ≡ Some (Used g))
-    → Accounted (extend_of c n f blocks).after
-extend_keeps c n None blocks a at = a
-extend_keeps c n (Some f) blocks a at = kept_unless c (extend_refusal c n f blocks) _ a (λ passed.
-    grown_keep c n f (in_clusters c blocks) a (at f refl) (extend_few c n f blocks passed))
+extend_keeps : (c : Cat) (n : ℕ) (f : Option File) (blocks : ℕ) (new : Option ℕ) → Accounted c → ((g : File) → f ≡ Some g → slice_get c.files (n - 1) ≡ Some (Used g))
+    → Accounted (extend_of c n f blocks new).after
+extend_keeps c n None blocks new a at = a
+extend_keeps c n (Some f) blocks new a at = kept_unless c (extend_refusal c n f blocks new) _ a (λ passed.
+    grown_keep c n f (in_clusters c blocks) a (at f refl) (extend_few c n f blocks new passed))
 
 trunc_keeps : (c : Cat) (n : ℕ) (f : Option File) (blocks : ℕ) → Accounted c → ((g : File) → f ≡ Some g → slice_get c.files (n - 1) ≡ Some (Used g))
     → Accounted (trunc_of c n f blocks).after
@@ -278,7 +282,7 @@ accounts_kept c node (cmd.List dir) new a pick = list_keeps c dir a
 accounts_kept c node (cmd.Stat file) new a pick = stat_keeps c (live c file) a
 accounts_kept c node (cmd.Create reg dir name ver blocks owner) new a pick = create_keeps c dir name ver blocks owner new a pick
 accounts_kept c node (cmd.MkDir reg dir name owner) new a pick = mkdir_keeps c dir name owner new a pick
-accounts_kept c node (cmd.Extend file blocks) new a pick = extend_keeps c file.num (live c file) blocks a (λ g at. stands_live c file g at)
+accounts_kept c node (cmd.Extend file blocks) new a pick = extend_keeps c file.num (live c file) blocks new a (λ g at. stands_live c file g at)
 accounts_kept c node (cmd.Trunc file blocks) new a pick = trunc_keeps c file.num (live c file) blocks a (λ g at. stands_live c file g at)
 accounts_kept c node (cmd.Delete dir name ver) new a pick = delete_keeps c dir name ver a
 accounts_kept c node (cmd.Rename dir name ver to to_ver) new a pick = rename_keeps c dir name ver to to_ver a

@@ -11,7 +11,7 @@ use Rattle.plain_cat.specs.declared.cat.Slot.{Slot}
 use Rattle.plain_cat.specs.declared.cat.Slot.TheVariants.{Used, Free}
 use Rattle.plain_cat.specs.declared.cat.Open.{Open}
 use Rattle.plain_rules.specs.declared.outcome.Outcome.{Outcome}
-use Rattle.plain_rules.specs.Lookups.{clusters_in}
+use Rattle.plain_rules.specs.Lookups.{clusters_in, file_most}
 use Rattle.plain_rules.specs.Directories.{inserted}
 use Rattle.plain_rules.specs.Changes.{cost, with_file, with_entries, charged, discharged, grown, cut, marked_up, written}
 use Rattle.plain_rules.specs.Accounts.{share, HasRow, Accounted}
@@ -142,7 +142,7 @@ grows true f k m = omega arith
 grows false f k m = refl
 
 -- a file gets k clusters more
-pub grown_keep : (c : Cat) (n : ℕ) (f : File) (k : ℕ) → Accounted c → slice_get c.files (n - 1) ≡ Some (Used f) → f.clusters + k ≤ 77
+pub grown_keep : (c : Cat) (n : ℕ) (f : File) (k : ℕ) → Accounted c → slice_get c.files (n - 1) ≡ Some (Used f) → f.clusters + k ≤ file_most
     → Accounted (with_file (charged c f.owner (c.factor * k)) n (grown c f k))
 grown_keep c n f k a at few =
     charge_accounts c n (Used f) (Used (grown c f k)) f.owner (c.factor * k) a at

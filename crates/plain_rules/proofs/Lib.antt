@@ -2,6 +2,7 @@ pub mod Accounting
 pub mod Choices
 pub mod FormEntries
 pub mod FormSteps
+pub mod Headers
 pub mod Keeps
 pub mod Kept
 pub mod LawSteps

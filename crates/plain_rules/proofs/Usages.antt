@@ -6,7 +6,7 @@ use Rattle.plain_cat.specs.declared.cat.Cat.{Cat}
 use Rattle.plain_cat.specs.declared.cat.Slot.{Slot}
 use Rattle.plain_cat.specs.declared.cat.Slot.TheVariants.{Used, Free}
 use Rattle.plain_cat.specs.declared.cat.QuotaRow.{QuotaRow}
-use Rattle.plain_rules.specs.Lookups.{clusters_in}
+use Rattle.plain_rules.specs.Lookups.{clusters_in, file_most}
 use Rattle.plain_rules.specs.Changes.{cost}
 use Rattle.plain_rules.specs.Accounts.{share, charge, Accounted}
 
@@ -14,7 +14,7 @@ cond_le : (b : Bool) (x m : ℕ) → x ≤ m → cond b x 0 ≤ m
 cond_le true x m h = h
 cond_le false x m h = omega arith
 
-pub product_le : (a b : ℕ) → a ≤ 16 → b ≤ 77 → a * b ≤ 1232
+pub product_le : (a b : ℕ) → a ≤ 16 → b ≤ file_most → a * b ≤ 16 * file_most
 product_le a b h k = grind arith
 
 share_le : (c : Cat) (owner : Uic) (s : Slot) → c.factor * clusters_in s ≤ 65536 → share c owner s ≤ 65537
@@ -34,9 +34,9 @@ usage_room c n a h k d lt =
     let below : (get_or c.quota k d).usage ≤ charge c (get_or c.quota k d).owner + 1000000 = (a.usage k d lt).1 in
     omega (arith, below, charge_le c (get_or c.quota k d).owner a)
 
--- a file of at most 77 clusters can be charged
-pub cost_room : (c : Cat) (n : ℕ) → Accounted c → n ≤ 77 → All (λ (r : QuotaRow). r.usage + cost c n < 2 ^ 32) c.quota
+-- a file of a size that is allowed can be charged
+pub cost_room : (c : Cat) (n : ℕ) → Accounted c → n ≤ file_most → All (λ (r : QuotaRow). r.usage + cost c n < 2 ^ 32) c.quota
 cost_room c n a h = usage_room c (cost c n) a (omega (arith, product_le c.factor n a.factor_to h))
 
-pub growth_room : (c : Cat) (n : ℕ) → Accounted c → n ≤ 77 → All (λ (r : QuotaRow). r.usage + c.factor * n < 2 ^ 32) c.quota
+pub growth_room : (c : Cat) (n : ℕ) → Accounted c → n ≤ file_most → All (λ (r : QuotaRow). r.usage + c.factor * n < 2 ^ 32) c.quota
 growth_room c n a h = usage_room c (c.factor * n) a (omega (arith, product_le c.factor n a.factor_to h))

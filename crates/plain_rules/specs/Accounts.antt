@@ -6,7 +6,7 @@ use Rattle.plain_cat.specs.declared.cat.Cat.{Cat}
 use Rattle.plain_cat.specs.declared.cat.Slot.{Slot}
 use Rattle.plain_cat.specs.declared.cat.Slot.TheVariants.{Used, Free}
 use Rattle.plain_cat.specs.declared.cat.QuotaRow.{QuotaRow}
-use Rattle.plain_rules.specs.Lookups.{row_of, clusters_in}
+use Rattle.plain_rules.specs.Lookups.{row_of, clusters_in, file_most}
 use Rattle.plain_rules.specs.Changes.{cost}
 
 -- what a slot's file costs an owner
@@ -37,7 +37,7 @@ pub record Accounted (c : Cat) : Type 0 where
   pub owners : All (HasRow c.quota) c.files
   pub usage : All (IsCharged c) c.quota
 
--- What one death may leave above a row's sum, in blocks: the cost of the largest file. A file has at most 77 clusters of at
--- most 16 blocks, and one more for the file.
+-- What one death may leave above a row's sum, in blocks: the cost of the largest file above number 11. It has at most so many
+-- clusters of at most 16 blocks, and costs one more for the file.
 abbrev pub death_cost : ℕ
-death_cost = 16 * 77 + 1
+death_cost = 16 * file_most + 1

@@ -19,7 +19,7 @@ use Rattle.plain_cat.specs.declared.cat.File.{File}
 use Rattle.plain_cat.specs.declared.cat.Open.{Open}
 use Rattle.plain_cat.specs.declared.cat.QuotaRow.{QuotaRow}
 use Rattle.plain_rules.specs.declared.outcome.Outcome.{Outcome}
-use Rattle.plain_rules.specs.Lookups.{file_at, in_use, live, versions, entry_of, found, channel_at, is_open, row_of, free_clusters, is_free_number, has_free_number}
+use Rattle.plain_rules.specs.Lookups.{file_at, in_use, live, versions, entry_of, found, channel_at, is_open, row_of, free_clusters, header_most, file_most, needs_header, is_free_number, has_free_number}
 use Rattle.plain_rules.specs.Directories.{inserted, without, is_nil, fits, entry, nowhere, new_version, is_last_version, is_taken}
 use Rattle.plain_rules.specs.Changes.{in_clusters, blocks_of, cost, with_file, freed, with_entries, charged, discharged, new_fid, new_file, new_dir, grown, cut, block_of, written, with_channel, with_row, allowed}
 
@@ -103,7 +103,7 @@ create_checks c d name ver blocks owner new =
     let es = versions name d.entries in
     (is_last_version ver es, refusal.BadVersion)
     ∷ (is_taken (new_version ver es) es, refusal.DupFile)
-    ∷ (nat_lt 77 (in_clusters c blocks), refusal.FileLimit)
+    ∷ (nat_lt header_most (in_clusters c blocks), refusal.FileLimit)
     ∷ room_checks c d name (new_version ver es) owner (in_clusters c blocks) new
 
 unfoldable pub create_refusal : Cat → File → List ℕ → ℕ → ℕ → Uic → Option ℕ → Option Refusal
@@ -142,17 +142,18 @@ mkdir_outcome c dir name owner new = in_directory c dir (λ d.
 abbrev pub is_kept : ℕ → File → Bool
 is_kept n f = nat_le n 11 || f.dir
 
--- EXTEND
-abbrev pub extend_checks : Cat → ℕ → File → ℕ → List (Bool × Refusal)
-extend_checks c n f k =
+-- EXTEND, which may take a number for a new header
+abbrev pub extend_checks : Cat → ℕ → File → ℕ → Option ℕ → List (Bool × Refusal)
+extend_checks c n f k new =
     (is_kept n f, refusal.NoPriv)
-    ∷ (nat_lt 77 (f.clusters + k), refusal.FileLimit)
+    ∷ (nat_lt header_most k || nat_lt file_most (f.clusters + k), refusal.FileLimit)
     ∷ (over_draft (row_of f.owner c.quota) (c.factor * k), refusal.ExQuota)
+    ∷ (needs_header f.clusters k && is_none new, refusal.IndexFull)
     ∷ (nat_lt (free_clusters c) k, refusal.DeviceFull)
     ∷ []
 
-unfoldable pub extend_refusal : Cat → ℕ → File → ℕ → Option Refusal
-extend_refusal c n f blocks = first_refusal (extend_checks c n f (in_clusters c blocks))
+unfoldable pub extend_refusal : Cat → ℕ → File → ℕ → Option ℕ → Option Refusal
+extend_refusal c n f blocks new = first_refusal (extend_checks c n f (in_clusters c blocks) new)
 
 abbrev pub extended : Cat → ℕ → File → ℕ → Outcome
 extended c n f k = record {
@@ -160,13 +161,13 @@ extended c n f k = record {
   after = with_file (charged c f.owner (c.factor * k)) n (grown c f k);
 }
 
-abbrev pub extend_of : Cat → ℕ → Option File → ℕ → Outcome
-extend_of c n None blocks = refused c refusal.NoSuchFile
-extend_of c n (Some f) blocks = unless c (extend_refusal c n f blocks) (extended c n f (in_clusters c blocks))
+abbrev pub extend_of : Cat → ℕ → Option File → ℕ → Option ℕ → Outcome
+extend_of c n None blocks new = refused c refusal.NoSuchFile
+extend_of c n (Some f) blocks new = unless c (extend_refusal c n f blocks new) (extended c n f (in_clusters c blocks))
 
--- whatever number is free: a file takes none for its growth
+-- whatever number a new header takes: only whether there is one counts
 unfoldable pub extend_outcome : Cat → Fid → ℕ → Option ℕ → Outcome
-extend_outcome c file blocks new = extend_of c file.num (live c file) blocks
+extend_outcome c file blocks new = extend_of c file.num (live c file) blocks new
 
 -- TRUNC
 abbrev pub truncated : Cat → ℕ → File → ℕ → Outcome
@@ -317,8 +318,8 @@ quota_shown c (Some r) = told c (reply.Usage r.usage r.quota r.over)
 unfoldable pub quota_show_outcome : Cat → Uic → Outcome
 quota_show_outcome c owner = quota_shown c (row_of owner c.quota)
 
--- What a node's command is answered, and the catalogue after it, where new is the number that a new file takes, or none
--- where none is free.
+-- What a node's command is answered, and the catalogue after it, where new is the number that a new file or a new header
+-- takes, or none where there is none.
 unfoldable pub outcome : Cat → ℕ → Cmd → Option ℕ → Outcome
 outcome c node (cmd.Lookup reg dir name ver) new = lookup_outcome c dir name ver
 outcome c node (cmd.List dir) new = list_outcome c dir
@@ -336,7 +337,7 @@ outcome c node (cmd.WriteBlock chan vbn text) new = write_outcome c node chan vb
 outcome c node (cmd.QuotaSet owner quota over) new = quota_set_outcome c owner quota over
 outcome c node (cmd.QuotaShow owner) new = quota_show_outcome c owner
 
--- a free number, where a new file can have one, and else none
+-- a free number, where a new header can have one, and else none
 abbrev pub IsPick : Cat → Option ℕ → Type 0
 IsPick c None = has_free_number c ≡ false
 IsPick c (Some n) = is_free_number c n && has_free_number c ≡ true

@@ -1,6 +1,6 @@
 -- What stands in a catalogue.
-use Rattle.std.specs.Prelude.{◌==◌, ◌&&◌, ◌-◌, ◌+◌, ◌*◌, ℕ, Bool, true, false, not, List, [], ◌∷◌, Option, Some, None, slice_get, drop, filter, length, if◌then◌else◌}
-use Rattle.std.specs.List.{sum_by, list_any, range_with_len}
+use Rattle.std.specs.Prelude.{◌==◌, ◌&&◌, ◌-◌, ◌+◌, ◌*◌, ◌/◌, ◌<◌, ◌≤◌, ◌≡◌, nat_lt, ℕ, Bool, true, false, not, List, [], ◌∷◌, Option, Some, None, slice_get, drop, filter, length, if◌then◌else◌}
+use Rattle.std.specs.List.{sum_by, count_by, list_any, range_with_len}
 use Rattle.std.specs.Str.{bytes_eq}
 use Rattle.plain_cat.specs.declared.ids.Fid.{Fid}
 use Rattle.plain_cat.specs.declared.ids.Uic.{Uic}
@@ -126,6 +126,39 @@ is_leaked c n = is_set (slice_get c.leaked_numbers (n - 1))
 abbrev pub is_free_number : Cat → ℕ → Bool
 is_free_number c n = is_free_slot (slot_at c n) && not (is_leaked c n)
 
--- whether a new file can have a number: some number is free
+-- the most clusters of one header
+abbrev pub header_most : ℕ
+header_most = 77
+
+-- the most clusters of a file above number 11
+abbrev pub file_most : ℕ
+file_most = 77
+
+-- How many extension headers a file of k clusters has. Its first header and each further one has up to header_most of them.
+abbrev pub extra : ℕ → ℕ
+extra k = (k - 1) / header_most
+
+-- whether a file of k clusters needs a new header for so many more
+abbrev pub needs_header : ℕ → ℕ → Bool
+needs_header k more = nat_lt (extra k) (extra (k + more))
+
+-- the extension headers of a slot's file
+abbrev pub extra_in : Slot → ℕ
+extra_in s = extra (clusters_in s)
+
+-- the extension headers of all files above number 11, marked ones among them
+abbrev pub headers_more : Cat → ℕ
+headers_more c = sum_by extra_in (drop 11 c.files)
+
+-- How many numbers there are to take: the free ones less those of extension headers, which the catalogue does not know one by
+-- one and so calls free.
+abbrev pub free_count : Cat → ℕ
+free_count c = count_by (is_free_number c) (range_with_len 1 (length c.files)) - headers_more c
+
+-- whether a new header can have a number
 abbrev pub has_free_number : Cat → Bool
-has_free_number c = list_any (is_free_number c) (range_with_len 1 (length c.files))
+has_free_number c = nat_lt 0 (free_count c)
+
+-- each file above number 11 has one header
+abbrev pub HasSingleHeaders : Cat → Type 0
+HasSingleHeaders c = (n : ℕ) (f : File) → 11 < n → file_at c n ≡ Some f → f.clusters ≤ header_most

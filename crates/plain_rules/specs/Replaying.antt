@@ -1,12 +1,12 @@
 -- The entries of a history, one after the other, lead from one catalogue to another.
-use Rattle.std.specs.Prelude.{◌≡◌, ◌≤◌, ◌-◌, ◌+◌, ℕ, zero, suc, Bool, true, List, [], ◌∷◌, ◌++◌, Option, Some, None, slice_set}
+use Rattle.std.specs.Prelude.{◌≡◌, ◌≤◌, ◌-◌, ◌+◌, ℕ, zero, suc, Bool, true, List, [], ◌∷◌, ◌++◌, Option, Some, None, length, slice_set}
 use Rattle.std.specs.List.{list_all}
 use Rattle.plain_cat.specs.declared.history.Entry.{Entry}
 use Rattle.plain_cat.specs.declared.history.Entry.TheVariants.{Done, Died, Mended}
 use Rattle.plain_cat.specs.declared.cat.Cat.{Cat}
 use Rattle.plain_cat.specs.declared.cat.Open.{Open}
 use Rattle.plain_cat.specs.declared.script.Script.{Script}
-use Rattle.plain_rules.specs.Lookups.{place, free_clusters, is_free_number}
+use Rattle.plain_rules.specs.Lookups.{place, free_clusters, is_free_number, free_count}
 use Rattle.plain_rules.specs.Answers.{IsPick, Answer}
 use Rattle.plain_rules.specs.Stages.{staged}
 use Rattle.plain_rules.specs.Mending.{mended}
@@ -34,9 +34,9 @@ dead c node clusters numbers = record c {
 abbrev pub are_free : Cat → List ℕ → Bool
 are_free c ns = list_all (is_free_number c) ns
 
--- a node may leak so many clusters and these numbers
+-- A node may leak so many clusters and these numbers: free ones, and no more than there are beside those of extension headers.
 abbrev pub MayLeak : Cat → ℕ → List ℕ → Type 0
-MayLeak c clusters numbers = (clusters ≤ free_clusters c) × (are_free c numbers ≡ true)
+MayLeak c clusters numbers = (clusters ≤ free_clusters c) × (are_free c numbers ≡ true) × (length numbers ≤ free_count c)
 
 -- one entry, after those of h: an answer, a death at a stage of the node's next command, or a mending
 abbrev pub Leads : Script → List Entry → Cat → Entry → Cat → Type 0

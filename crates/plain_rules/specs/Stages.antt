@@ -139,8 +139,8 @@ abbrev pub begun : Cat → Option Cmd → Option Cat
 begun c None = None
 begun c (Some cmd) = Some c
 
--- The catalogue where a node stopped at a stage of its next command, with new for the number that a new file takes. There
--- is none where the command has no such stage. A refused command has none that shows.
+-- The catalogue where a node stopped at a stage of its next command, with new for the number that a new file or a new
+-- header takes. There is none where the command has no such stage. A refused command has none that shows.
 unfoldable pub staged : Cat → ℕ → Option Cmd → Stage → Option ℕ → Option Cat
 staged c node next stage.Idle new = Some c
 staged c node next stage.Nothing new = begun c next

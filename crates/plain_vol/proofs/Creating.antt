@@ -10,7 +10,7 @@ use Rattle.plain_cat.specs.declared.reply.Reply.TheVariants as reply
 use Rattle.plain_cat.specs.declared.reply.Refusal.{Refusal}
 use Rattle.plain_cat.specs.declared.reply.Refusal.TheVariants as refusal
 use Rattle.plain_rules.specs.declared.outcome.Outcome.{Outcome}
-use Rattle.plain_rules.specs.Lookups.{live, versions, row_of, free_clusters}
+use Rattle.plain_rules.specs.Lookups.{live, versions, row_of, free_clusters, header_most}
 use Rattle.plain_rules.specs.Directories.{inserted, fits, entry, nowhere, new_version, is_last_version, is_taken}
 use Rattle.plain_rules.specs.Changes.{in_clusters, cost, with_file, charged, new_fid, new_file}
 use Rattle.plain_rules.specs.Answers.{refused, first_refusal, unless, in_directory_file, over_quota, create_refusal, create_made, create_outcome}
@@ -38,7 +38,7 @@ no_version true taken w r rest h = let is : ◌≡◌ {A = Result ℕ Refusal} (
 no_version false true w r rest h = let is : ◌≡◌ {A = Result ℕ Refusal} (Err refusal.DupFile) (Err r) = h in let e : refusal.DupFile ≡ r = cc in ap (λ (r : Refusal). Some r) e
 no_version false false w r rest h = absurd (let no : ◌≡◌ {A = Result ℕ Refusal} (Ok w) (Err r) = h in cc no)
 
-within : (k : ℕ) → k ≤ 77 → nat_lt 77 k ≡ false
+within : (k : ℕ) → k ≤ header_most → nat_lt header_most k ≡ false
 within k h = grind (arith, nat_tests)
 
 module _ (c : Cat) (dir : Fid) (name : List ℕ) (ver blocks : ℕ) (owner : Uic) (new : Option ℕ) (d : File) (live_is : live c dir ≡ Some d) (is_dir : d.dir ≡ true) where
@@ -64,7 +64,7 @@ module _ (c : Cat) (dir : Fid) (name : List ℕ) (ver blocks : ℕ) (owner : Uic
   pub refused_version : (r : Refusal) → version_for ver of_name ≡ Err r → refused c r ≡ answer
   refused_version r h = refuses r (no_version_refused r h)
 
-  module _ (v k : ℕ) (version : version_for ver of_name ≡ Ok v) (clusters : k ≡ in_clusters c blocks) (few : k ≤ 77) where
+  module _ (v k : ℕ) (version : version_for ver of_name ≡ Ok v) (clusters : k ≡ in_clusters c blocks) (few : k ≤ header_most) where
     same_version : new_version ver of_name ≡ v
     same_version = version_is (is_last_version ver of_name) (is_taken (new_version ver of_name) of_name) (new_version ver of_name) v version
 
@@ -72,7 +72,7 @@ module _ (c : Cat) (dir : Fid) (name : List ℕ) (ver blocks : ℕ) (owner : Uic
     unfolding create_refusal
     left =
         by_version (is_last_version ver of_name) (is_taken (new_version ver of_name) of_name) (new_version ver of_name) v _ version
-        ∙ ap (λ (b : Bool). cond b (Some refusal.FileLimit) (first_refusal (all_room_checks c d name (new_version ver of_name) owner (in_clusters c blocks) new))) (ap (nat_lt 77) (sym clusters) ∙ within k few)
+        ∙ ap (λ (b : Bool). cond b (Some refusal.FileLimit) (first_refusal (all_room_checks c d name (new_version ver of_name) owner (in_clusters c blocks) new))) (ap (nat_lt header_most) (sym clusters) ∙ within k few)
         ∙ (λ i. first_refusal (all_room_checks c d name (same_version i) owner (sym clusters i) new))
 
     room : (b : Bool) → fits c.factor (inserted (entry name v nowhere) d.entries) ≡ b

@@ -12,7 +12,7 @@ use crate::checking::Checked;
 use crate::dying::{are_free, bury};
 use crate::mending::{Repair, mend};
 use crate::outcomes::outcome_on;
-use crate::picks::{is_free_number, pick};
+use crate::picks::{free_count, is_free_number, pick};
 use crate::sameness::is_same_reply;
 use plain_cat::{Cat, Cmd, Entry, Mended, NoMemory, NumberList, Reply, Stage};
 use plain_rules::{Outcome, free_clusters};
@@ -27,7 +27,7 @@ fn shown_number(reply: &Reply) -> Option<u32>
     }
 }
 
-// The number that a new file takes: the one that the reply shows, where it is free.
+// The number that a new file or a new header takes: the one that the reply shows, where it is free.
 fn choose(cat: &Cat, reply: &Reply) -> Option<u32>
     requires { length cat.now.files ≤ 4096 }
     ensures pick { IsPick cat.now result }
@@ -111,6 +111,7 @@ fn check_death(
         || !is_quiet(stage)
         || free_clusters(cat) < clusters
         || !are_free(cat, numbers.items())
+        || free_count(cat) < numbers.items().len()
     {
         return Ok(Checked::Illegal);
     }
@@ -147,8 +148,8 @@ fn check_mending(alloc: Global, cat: &Cat, counts: &Mended) -> Result<Checked, N
 /// Judges an entry of a history on the catalogue before it. `Legal`, with the catalogue after it, comes exactly where the
 /// entry is a case of the rules, and `Illegal` exactly where it is none: an answer is the reply of its command, with any free
 /// number for a new file; a mending has the counts of what mending does; and a death is judged where it left nothing of a
-/// command, with clusters and numbers that are free, since the entry does not tell the command. A death at a later stage is
-/// `Illegal` here, and so is an answer or a death of a node outside 1 to 8.
+/// command, with clusters and numbers that are free and no more numbers than there are to take, since the entry does not tell
+/// the command. A death at a later stage is `Illegal` here, and so is an answer or a death of a node outside 1 to 8.
 pub fn check_reply(alloc: Global, cat: &Cat, e: &Entry) -> Result<Checked, NoMemory>
     requires cat { Accounted cat.now }
     requires entry { EntryInForm e.now }

@@ -6,14 +6,15 @@
 //!
 //! ```text
 //! let Checked::Legal(after) = check_reply(alloc, &cat, &entry)? else { .. };
-//! let outcome = outcome_on(alloc, cat, node, &cmd, number)?;  // number: what a new file takes, or none
+//! let outcome = outcome_on(alloc, cat, node, &cmd, number)?;  // number: what a new file or header takes, or none
 //! ```
 //!
 //! `Legal`, with the catalogue after it, comes if and only if the rules have the case (`exact`); a death at a later stage than
 //! `nothing` is always `Illegal`, since the entry does not contain the command. `outcome_on` is exactly `outcome` of `plain_rules`.
 //! `died_on` gives exactly the catalogue after the death, without file numbers, and none if and only if fewer clusters are free than
-//! it leaks. `pick` gives a number that a new file may have, or none if there is none. After want of memory `outcome_on`'s catalogue
-//! is gone. `log_check` uses these calls.
+//! it leaks. `free_count` is how many numbers there are to take: the free ones less those of extension headers. `pick` gives a number
+//! that a new header may have, or none if there is none. After want of memory `outcome_on`'s catalogue is gone. `log_check` uses these
+//! calls.
 #![tactic(auto)]
 
 mod changes;
@@ -22,6 +23,7 @@ mod checking;
 mod dying;
 mod entering;
 mod entries;
+mod headers;
 mod judge;
 mod lookups;
 mod making;
@@ -38,7 +40,7 @@ pub use checking::Checked;
 pub use dying::died_on;
 pub use judge::check_reply;
 pub use outcomes::outcome_on;
-pub use picks::{is_free_number, pick};
+pub use picks::{free_count, is_free_number, pick};
 pub use plain_cat::{
     Blocks, Cat, Channels, Clusters, Cmd, DirEnt, DirEnts, Entry, Fid, File, FileRef, Files, Flags,
     History, Kill, KillAt, Kills, Line, LineCmd, Lines, Mended, Mode, Name, NoMemory, NumberList,

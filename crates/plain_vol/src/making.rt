@@ -2,11 +2,12 @@ ghost use Rattle.std.specs.Prelude.{◌≡◌, ◌≤◌, ◌<◌, ◌^◌, ◌+
 ghost use Rattle.plain_rules.specs.Accounts.{Accounted};
 ghost use Rattle.plain_rules.specs.Changes.{cost, new_fid, new_file, new_dir};
 ghost use Rattle.plain_rules.specs.Answers.{first_refusal, create_outcome, mkdir_outcome};
-ghost use Rattle.plain_rules.specs.Lookups.{versions};
+ghost use Rattle.plain_rules.specs.Lookups.{versions, header_most};
 ghost use Rattle.plain_vol.specs.Makings.{room_checks, version_for, made_in};
 
 use crate::changes::{charge, cost, in_clusters, set_slot};
 use crate::entries::with_entry;
+use crate::headers::HEADER_MOST;
 use crate::lookups::last_seq;
 use crate::outcomes::refused;
 use plain_cat::{
@@ -134,7 +135,7 @@ fn created(
     requires cat { Accounted cat.now }
     requires blocks { blocks ≤ 65536 }
     ensures made { IfOk result (λ m. made_in cat.now dir.num m ≡ create_outcome cat.now dir name.now ver blocks owner new) }
-    ensures small { IfOk result (λ m. IfOk m (λ m. m.file.clusters ≤ 77)) }
+    ensures small { IfOk result (λ m. IfOk m (λ m. m.file.clusters ≤ header_most)) }
 {
     let Some(d) = live(cat, dir) else {
         return Ok(Err(Refusal::NoSuchFile));
@@ -147,7 +148,7 @@ fn created(
         Err(refusal) => return Ok(Err(refusal)),
     };
     let clusters = in_clusters(cat, blocks);
-    if 77 < clusters {
+    if HEADER_MOST < clusters {
         return Ok(Err(Refusal::FileLimit));
     }
     let fid = fid_of(cat, new);
@@ -183,7 +184,7 @@ fn made_dir(
 ) -> Result<Result<Made, Refusal>, NoMemory>
     requires { Accounted cat.now }
     ensures made { IfOk result (λ m. made_in cat.now dir.num m ≡ mkdir_outcome cat.now dir name.now owner new) }
-    ensures small { IfOk result (λ m. IfOk m (λ m. m.file.clusters ≤ 77)) }
+    ensures small { IfOk result (λ m. IfOk m (λ m. m.file.clusters ≤ header_most)) }
 {
     let Some(d) = live(cat, dir) else {
         return Ok(Err(Refusal::NoSuchFile));
@@ -224,7 +225,7 @@ fn enter(
     making: Result<Made, Refusal>,
 ) -> Result<Outcome, NoMemory>
     requires cat { Accounted cat }
-    requires small { IfOk making (λ m. m.file.clusters ≤ 77) }
+    requires small { IfOk making (λ m. m.file.clusters ≤ header_most) }
     ensures { IfOk result (λ o. o ≡ made_in cat dir making) }
 {
     let made = match making {

@@ -21,9 +21,9 @@ pub(crate) fn refused(cat: Cat, refusal: Refusal) -> Outcome
     told(cat, Reply::Refused(refusal))
 }
 
-/// What the command of a node of 1 to 8 is answered, and the catalogue after it, where `new` is the number that a new file
-/// takes, or none where none is free. The catalogue is handed over and changed where it stands. An error says that memory ran
-/// out, and then the catalogue is gone.
+/// What the command of a node of 1 to 8 is answered, and the catalogue after it, where `new` is the number that a new file or a
+/// new header takes, or none where there is none. The catalogue is handed over and changed where it stands. An error says that
+/// memory ran out, and then the catalogue is gone.
 #[tactic(auto, unfolding(plain_rules::specs::Answers::outcome, plain_cat::specs::InForm::in_form))]
 pub fn outcome_on(
     alloc: Global,

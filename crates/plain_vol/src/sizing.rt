@@ -1,10 +1,12 @@
 ghost use Rattle.std.specs.Prelude.{◌≡◌, ◌≤◌, ◌<◌, ◌+◌, ◌*◌, ◌^◌, ◌-◌, IfOk};
+ghost use Rattle.plain_rules.specs.Lookups.{header_most};
 ghost use Rattle.plain_rules.specs.Accounts.{Accounted};
 ghost use Rattle.plain_rules.specs.Changes.{blocks_of, grown, cut};
 ghost use Rattle.plain_rules.specs.Answers.{over_draft, is_kept, extend_outcome, trunc_outcome};
 ghost use Rattle.plain_vol.specs.Makings.{grown_in, cut_in};
 
 use crate::changes::{charge, discharge, in_clusters, set_slot};
+use crate::headers::{FILE_MOST, HEADER_MOST, needs_header};
 use crate::outcomes::refused;
 use plain_cat::{Cat, Fid, File, NoMemory, QuotaRow, Refusal, Reply, Slot};
 use plain_rules::{Outcome, free_clusters, live, row_of};
@@ -68,7 +70,7 @@ fn larger(
     requires cat { Accounted cat.now }
     requires blocks { blocks ≤ 65536 }
     ensures grown { IfOk result (λ s. grown_in cat.now fid.num s ≡ extend_outcome cat.now fid blocks new) }
-    ensures small { IfOk result (λ s. IfOk s (λ s. s.change ≤ 1232)) }
+    ensures small { IfOk result (λ s. IfOk s (λ s. s.change ≤ 16 * header_most)) }
 {
     let Some(file) = live(cat, fid) else {
         return Ok(Err(Refusal::NoSuchFile));
@@ -77,11 +79,14 @@ fn larger(
         return Ok(Err(Refusal::NoPriv));
     }
     let k = in_clusters(cat, blocks);
-    if 77 < file.clusters as u64 + k as u64 {
+    if HEADER_MOST < k || (FILE_MOST as u64) < file.clusters as u64 + k as u64 {
         return Ok(Err(Refusal::FileLimit));
     }
     if over_draft(row_of(cat.quota.items(), file.owner), cat.factor * k) {
         return Ok(Err(Refusal::ExQuota));
+    }
+    if needs_header(file.clusters, k) && new.is_none() {
+        return Ok(Err(Refusal::IndexFull));
     }
     if free_clusters(cat) < k {
         return Ok(Err(Refusal::DeviceFull));
@@ -93,7 +98,7 @@ fn larger(
     }))
 }
 
-// EXTEND, which takes no number
+// EXTEND, where a new header may take the number
 pub(crate) fn extend(
     alloc: Global,
     mut cat: Cat,

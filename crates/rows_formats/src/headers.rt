@@ -3,8 +3,8 @@ ghost use Rattle.fx_header.specs.Pointers.{AreRuns, blocks_in};
 
 use base_words::{Block, put_bytes, put_long, put_word, set_sum};
 use fx_header::{
-    Hdr, HeaderFault, Run, Slot, clear_contig, free_slot, new_header, read_header, runs, set_end,
-    set_mark, set_marked, set_runs,
+    Hdr, HeaderFault, Run, Slot, clear_contig, free_slot, new_header, read_header, runs,
+    set_blocks, set_end, set_link, set_map, set_mark, set_marked, set_runs,
 };
 use std::test::Fail;
 
@@ -318,4 +318,132 @@ fn setters_change_their_field(rt: HostRuntime) {
         }))
     );
     assert_eq!(rt; read_header(&free_slot(65535)), Ok(Slot::Free(65535)));
+}
+
+/// The number and the sequence number of a next header, and the bytes that say so.
+const LINKS: [(u32, u16, [u8; 6]); 4] = [
+    (0, 0, [0, 0, 0, 0, 0, 0]),
+    (13, 0, [13, 0, 0, 0, 0, 0]),
+    (0x02_0203, 7, [3, 2, 7, 0, 0, 2]),
+    (0xff_ffff, 65535, [255, 255, 255, 255, 0, 255]),
+];
+
+#[test]
+fn a_link_has_its_bytes_alone(rt: HostRuntime) {
+    let plain = header(&[0x03, 0x40, 0x58, 0x00], 4);
+    for (num, seq, bytes) in &LINKS {
+        let mut b = plain;
+        b[18] = 5;
+        set_link(&mut b, (*num).min(0xff_ffff), *seq);
+        assert_eq!(rt; &b[14..20], bytes.as_slice());
+        set_link(&mut b, 0, 0);
+        assert!(rt; b == plain, "all other bytes stay");
+    }
+}
+
+/// The blocks of a file, and the bytes that say so.
+const BLOCKS: [(u32, [u8; 4]); 3] = [
+    (0, [0, 0, 0, 0]),
+    (0x01_0005, [1, 0, 5, 0]),
+    (0xffff_fffe, [255, 255, 254, 255]),
+];
+
+#[test]
+fn blocks_have_their_bytes_alone(rt: HostRuntime) {
+    let plain = header(&[0x03, 0x40, 0x58, 0x00], 4);
+    for (blocks, bytes) in &BLOCKS {
+        let mut b = plain;
+        set_blocks(&mut b, *blocks);
+        assert_eq!(rt; &b[24..28], bytes.as_slice());
+        assert_eq!(rt; read_header(&b), Err(HeaderFault::BadEnd));
+        set_blocks(&mut b, 4);
+        assert!(rt; b == plain, "all other bytes stay");
+    }
+}
+
+#[test]
+fn a_map_leaves_the_blocks(rt: HostRuntime) -> Result<(), Fail> {
+    let mut b = header(&[0x03, 0x40, 0x58, 0x00], 4);
+    let Ok(Slot::Used(h)) = read_header(&b) else {
+        return Err("no header".into());
+    };
+    let given = [(50, 3), (53, 1)].map(|(lbn, count)| Run { lbn, count });
+    if !are_runs(&given) {
+        return Err("no runs".into());
+    }
+    assert!(rt; set_map(&mut b, &given), "one pointer has room");
+    assert_eq!(rt; &b[200..204], [0x03, 0x40, 0x32, 0x00].as_slice());
+    assert_eq!(rt; read_header(&b), Ok(Slot::Used(h)));
+    Ok(())
+}
+
+#[test]
+fn a_map_of_fewer_blocks_leaves_the_blocks(rt: HostRuntime) -> Result<(), Fail> {
+    let plain = header(&[0x03, 0x40, 0x58, 0x00], 4);
+    let Ok(Slot::Used(_)) = read_header(&plain) else {
+        return Err("no header".into());
+    };
+    let given = [Run { lbn: 88, count: 3 }];
+    if !are_runs(&given) {
+        return Err("no runs".into());
+    }
+    let mut b = plain;
+    assert!(rt; set_map(&mut b, &given), "one pointer has room");
+    assert_eq!(rt; &b[24..28], [0, 0, 4, 0].as_slice());
+    assert_eq!(rt; read_header(&b), Err(HeaderFault::BadEnd));
+    Ok(())
+}
+
+#[test]
+fn a_map_without_room_changes_nothing(rt: HostRuntime) -> Result<(), Fail> {
+    let mut clusters = [Run { lbn: 0, count: 16 }; 78];
+    for (i, run) in clusters.iter_mut().enumerate() {
+        run.lbn = 32 * i as u32;
+    }
+    if !are_runs(&clusters) {
+        return Err("no runs".into());
+    }
+    let empty = new_header(&file(1232), b"A.TXT;1", (4, 4));
+    let mut b = empty;
+    assert!(rt; !set_map(&mut b, &clusters), "78 runs have no room");
+    assert!(rt; b == empty, "the header stays as it was");
+    Ok(())
+}
+
+/// The second header (13,0,0) of a file, which names (65550,3,0) as the third one.
+fn second() -> Hdr
+    ensures { result ≡ record { num = 13; seq = 0; owner = 65540; dir = false; marked = false; blocks = 0; mark = 0; end = 0; byte = 0; seg = 1; ext = 65550; ext_seq = 3 } }
+{
+    Hdr {
+        num: 13,
+        seq: 0,
+        owner: 65540,
+        dir: false,
+        marked: false,
+        blocks: 0,
+        mark: 0,
+        end: 0,
+        byte: 0,
+        seg: 1,
+        ext: 0x01_000e,
+        ext_seq: 3,
+    }
+}
+
+#[test]
+fn an_extension_header_has_its_place_and_the_next_one(rt: HostRuntime) -> Result<(), Fail> {
+    let mut b = new_header(&second(), b"A.TXT;1", (0x01_0042, 1));
+    let front = [40, 100, 255, 255, 1, 0, 1, 2, 13, 0, 0, 0, 0, 0];
+    assert_eq!(rt; &b[..14], front.as_slice());
+    assert_eq!(rt; &b[14..20], [14, 0, 3, 0, 0, 1].as_slice());
+    let given = [Run { lbn: 100, count: 4 }];
+    if !are_runs(&given) {
+        return Err("no runs".into());
+    }
+    assert!(rt; set_map(&mut b, &given), "one pointer has room");
+    assert_eq!(rt; &b[200..204], [0x03, 0x40, 0x64, 0x00].as_slice());
+    assert_eq!(rt; b[58], 2);
+    assert_eq!(rt; &b[24..28], [0, 0, 0, 0].as_slice());
+    assert_eq!(rt; read_header(&b), Err(HeaderFault::BadExtension));
+    Ok(())
 }

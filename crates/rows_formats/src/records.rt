@@ -11,7 +11,7 @@ const STREAMS: [(&[u8], Seen); 17] = [
     (b"", Ok(&[])),
     (b"\0\0", Ok(&[Rec { from: 2, len: 0 }])),
     (b"\x02\0AB", Ok(&[Rec { from: 2, len: 2 }])),
-    // The fill of an odd record is not looked at.
+    // The padding of an odd record is not looked at.
     (b"\x01\0A\0", Ok(&[Rec { from: 2, len: 1 }])),
     (b"\x01\0A\xff", Ok(&[Rec { from: 2, len: 1 }])),
     (
@@ -22,7 +22,7 @@ const STREAMS: [(&[u8], Seen); 17] = [
         b"\x03\0\x0d\0\xff\0\0\0",
         Ok(&[Rec { from: 2, len: 3 }, Rec { from: 8, len: 0 }]),
     ),
-    // The end within a count, within data, and before the fill.
+    // The end within a count, within data, and before the padding.
     (b"\x05", Err(RecFault::Truncated(0))),
     (b"\x02\0A", Err(RecFault::Truncated(0))),
     (b"\x01\0A", Err(RecFault::Truncated(0))),
@@ -119,7 +119,7 @@ fn largest_line_has_32767_bytes(rt: HostRuntime) -> Result<(), Fail> {
     let stream = spell(rt.alloc(), &lines)?;
     assert!(rt;
         stream.starts_with(b"\xff\x7fx") && stream.ends_with(b"x\0"),
-        "its count and its fill"
+        "its count and its padding"
     );
     let whole = Ok([Rec {
         from: 2,
@@ -130,7 +130,7 @@ fn largest_line_has_32767_bytes(rt: HostRuntime) -> Result<(), Fail> {
     let cut = stream.get(..32_769).unwrap_or(b"");
     assert!(rt;
         is_read(rt.alloc(), cut, Err(RecFault::Truncated(0))),
-        "without its fill"
+        "without its padding"
     );
     text.push(b'x')?;
     assert_eq!(rt;

@@ -5,11 +5,12 @@ use edge_files::{Access, image_at};
 use std::alloc::{Allocator, Global};
 use std::fs::{File, Metadata, OpenOptions};
 use std::io::ErrorKind;
+use std::process::ExitCode;
 use std::rt::Files;
 use std::test::Fail;
 use std::{fs, io};
 
-// Each job of `vmsclus`, with a script of which every command writes.
+// Each job of `vmsclus` that may write, with a script of which every command writes.
 const JOBS: [&str; 6] = [
     "run",
     "run --rebuild",
@@ -18,6 +19,9 @@ const JOBS: [&str; 6] = [
     "store 12 1",
     "init 1 32 OTHER",
 ];
+
+// Those that only read.
+const LOOKS: [&str; 2] = ["analyze", "records 3 3"];
 
 const WRITING: &str = "NODES 1\n1 CREATE R1 MFD A.TXT;0 1 [1,4]\n";
 
@@ -34,8 +38,10 @@ fn an_image_that_another_may_write_is_a_fault(rt: HostRuntime) -> Result<(), Fai
         let called = call(&rt, path, Access::Change, job, WRITING)?;
         check(&rt, &called, 4, "image fault\n", job);
     }
-    let called = call(&rt, path, Access::Look, "analyze", "")?;
-    check(&rt, &called, 4, "image fault\n", "analyze");
+    for job in LOOKS {
+        let called = call(&rt, path, Access::Look, job, "")?;
+        check(&rt, &called, 4, "image fault\n", job);
+    }
     drop(held);
     let after = fs::read(&rt, path)?;
     assert!(rt; before.as_slice() == after.as_slice(), "the file changed");
@@ -54,6 +60,8 @@ fn those_that_read_share_an_image(rt: HostRuntime) -> Result<(), Fail> {
     let held = image_at(&rt, path, Access::Look)?;
     let called = call(&rt, path, Access::Look, "analyze", "")?;
     check(&rt, &called, 0, "accepted\n", "analyze beside a reader");
+    let called = call(&rt, path, Access::Look, "records 3 3", "")?;
+    check(&rt, &called, 0, "0 records\n", "records beside a reader");
     for job in JOBS {
         let called = call(&rt, path, Access::Change, job, WRITING)?;
         check(&rt, &called, 4, "image fault\n", job);
@@ -131,6 +139,8 @@ fn an_image_that_may_not_be_written_is_read(rt: HostRuntime) -> Result<(), Fail>
     let path = path_of(&rt, "read_only")?;
     let path = path.as_str();
     make_volume(&rt, path)?;
+    let made = call(&rt, path, Access::Change, "run", WRITING)?;
+    assert!(rt; made.code == ExitCode::from(0), "a file is made");
     let before = fs::read(&rt, path)?;
     let only = ReadOnly(&rt);
     let called = call(&only, path, Access::Look, "analyze", "")?;
@@ -138,7 +148,7 @@ fn an_image_that_may_not_be_written_is_read(rt: HostRuntime) -> Result<(), Fail>
     let called = call(&only, path, Access::Look, "records 3 3", "")?;
     check(&rt, &called, 0, "0 records\n", "records");
     let called = call(&only, path, Access::Change, "run", READING)?;
-    let report = "1 N1 LIST (11,1,0) = 0 entries\nend: 1 answered, 0 died, 214 free\n";
+    let report = "1 N1 LIST (11,1,0) = 0 entries\nend: 1 answered, 0 died, 213 free\n";
     check(&rt, &called, 0, report, "a script that reads");
     let called = call(&only, path, Access::Change, "rebuild", "")?;
     let nothing = "rebuilt: 0 entered, 0 entries removed, 0 files gone, 0 clusters, 0 numbers\n";
@@ -149,7 +159,7 @@ fn an_image_that_may_not_be_written_is_read(rt: HostRuntime) -> Result<(), Fail>
         nothing,
         "a mending that has nothing to write",
     );
-    for job in ["run", "run --rebuild", "init 1 32 OTHER"] {
+    for job in ["run", "run --rebuild", "store 12 1", "init 1 32 OTHER"] {
         let called = call(&only, path, Access::Change, job, WRITING)?;
         check(&rt, &called, 4, "image fault\n", job);
     }

@@ -9,7 +9,7 @@ use rows_calls::{
 use std::alloc::Global;
 use std::test::Fail;
 
-/// Jobs that go well on a small volume: their words, and a script for those that read one.
+/// Jobs that go well on a small volume with an empty file: their words, and a script or a text for those that read one.
 const JOBS: &[(&[&str], &str)] = &[
     (&["run"], MAKING),
     (&["run", "--rebuild"], MAKING),
@@ -17,10 +17,18 @@ const JOBS: &[(&[&str], &str)] = &[
     (&["analyze"], ""),
     (&["rebuild"], ""),
     (&["records", "3", "3"], ""),
+    (&["store", "12", "1"], "HELLO\n"),
     (&["init", "1", "32", "TINY"], ""),
 ];
 
 const MAKING: &str = "NODES 1\n1 CREATE R1 MFD A.TXT;0 1 [1,4]\n";
+
+// That volume. Its file is (12,1,0).
+fn volume(alloc: Global) -> Result<MemImage, Wrong> {
+    let called = call(alloc, &["run"], On::Tiny.image(alloc)?, MAKING)?;
+    expect(alloc, called.code == 0, MAKING)?;
+    Ok(called.image)
+}
 
 // A call has to have this answer, and these blocks.
 fn check_left(
@@ -61,9 +69,9 @@ fn each_fails(alloc: Global, image: &MemImage, words: &[&str], script: &str) -> 
 #[test]
 fn each_read_fails(rt: HostRuntime) -> Result<(), Fail> {
     let alloc = rt.alloc();
-    let fresh = On::Tiny.image(alloc)?;
+    let image = volume(alloc)?;
     for (words, script) in JOBS {
-        each_fails(alloc, &fresh, words, script)?;
+        each_fails(alloc, &image, words, script)?;
     }
     Ok(())
 }
@@ -133,9 +141,9 @@ fn fails_to_tell(
 #[test]
 fn the_sink_fails(rt: HostRuntime) -> Result<(), Fail> {
     let alloc = rt.alloc();
-    let fresh = On::Tiny.image(alloc)?;
+    let image = volume(alloc)?;
     for (words, script) in JOBS {
-        fails_to_tell(alloc, &fresh, words, script)?;
+        fails_to_tell(alloc, &image, words, script)?;
     }
     Ok(())
 }

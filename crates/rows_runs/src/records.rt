@@ -131,7 +131,7 @@ const STREAM_REPORT: &str = "1 N1 CREATE R1 (4,4,0) A.TXT;0 12 [1,4] = (12,1,0) 
     4 N1 CLOSE 1 = closed\n\
     end: 4 answered, 0 died, 228 free\n";
 
-/// The file has LBN 100 to 111, and its header is LBN 28. Its stream are two records: 5 bytes and one of fill, and 6 bytes; and there
+/// The file has LBN 100 to 111, and its header is LBN 28. Its stream are two records: 5 bytes and one of padding, and 6 bytes; and there
 /// is its end, at byte 16 of its first block.
 const SPELT: &[Step<'static>] = &[
     Step::Made(STREAM, STREAM_REPORT),

@@ -1,5 +1,5 @@
 use crate::analyses::{block, header, sound};
-use base_words::{Block, put_bytes, put_long};
+use base_words::{Block, put_bytes, put_long, put_word, set_sum};
 use blk_drive::{Fail, MemImage, Mirror};
 use fx_header::{Slot, read_header, set_end, set_mark};
 use plain_cat::NoMemory;
@@ -7,7 +7,7 @@ use std::alloc::{AllocError, Global};
 use std::test::Fail as Failed;
 use vol_analyze::accepted;
 use vol_records::{Lines8, StoreFault, store, stream};
-use vol_spell::read_fully;
+use vol_spell::{LbnList, file_lbns, read_fully};
 
 /// The calls of an image of 64 blocks before the first write: it is asked for its size, and each block is read.
 const READS: u64 = 65;
@@ -35,6 +35,20 @@ fn ready() -> [Block; 64] {
     put_long(&mut b[46], 8, 67);
     b[50] = [b'A'; 512];
     b[51] = [b'B'; 512];
+    b
+}
+
+/// The same, but that file 12 has two blocks more in front of the others, LBN 54 and 55.
+fn parted() -> [Block; 64] {
+    let mut b = ready();
+    b[20][58] = 4;
+    put_word(&mut b[20], 26, 4);
+    put_word(&mut b[20], 202, 54);
+    put_word(&mut b[20], 204, 0x4001);
+    put_word(&mut b[20], 206, 50);
+    set_sum(&mut b[20]);
+    b[43][3] = 0xf0;
+    put_long(&mut b[46], 8, 69);
     b
 }
 
@@ -103,10 +117,10 @@ fn the_first_refusal_is_told(rt: HostRuntime) -> Result<(), Failed> {
     let alloc = rt.alloc();
     let long = [b'x'; 1023];
     let cases: [((u32, u16), &[u8], StoreFault); 9] = [
-        ((0, 1), b"", StoreFault::NoFile),
-        ((12, 2), b"", StoreFault::NoFile),
-        ((14, 1), b"", StoreFault::NoFile),
-        ((33, 1), b"", StoreFault::NoFile),
+        ((0, 1), b"", StoreFault::NoSuchFile),
+        ((12, 2), b"", StoreFault::NoSuchFile),
+        ((14, 1), b"", StoreFault::NoSuchFile),
+        ((33, 1), b"", StoreFault::NoSuchFile),
         ((3, 3), long.as_slice(), StoreFault::NoPriv),
         ((4, 4), b"", StoreFault::NoPriv),
         ((11, 1), b"", StoreFault::NoPriv),
@@ -245,5 +259,62 @@ fn a_failed_write_leaves_an_accepted_volume(rt: HostRuntime) -> Result<(), Faile
             "write {k} fails and lands"
         );
     }
+    Ok(())
+}
+
+/// The LBNs of the blocks of a file, or none where a fatal finding holds.
+fn lbns_of(alloc: Global, b: &[Block; 64], n: u32) -> Result<Option<LbnList>, NoMemory> {
+    match read_fully(alloc, b)? {
+        Ok(_) => file_lbns(alloc, b, n),
+        Err(_) => Ok(None),
+    }
+}
+
+/// Whether the blocks of a file stand at these LBNs.
+fn stands_at(alloc: Global, b: &[Block; 64], n: u32, lbns: &[u32]) -> Result<bool, NoMemory> {
+    Ok(match lbns_of(alloc, b, n)? {
+        Some(list) => list.items() == lbns,
+        None => false,
+    })
+}
+
+/// Files, and the LBNs of their blocks.
+const PLACES: [(u32, &[u32]); 4] = [
+    (12, &[54, 55, 50, 51]),
+    (13, &[52, 53]),
+    (3, &[]),
+    (10, &[46, 47]),
+];
+
+#[test]
+fn blocks_are_told_in_the_order_of_the_file(rt: HostRuntime) -> Result<(), Failed> {
+    let alloc = rt.alloc();
+    let b = parted();
+    for (n, lbns) in &PLACES {
+        assert!(rt; stands_at(alloc, &b, *n, lbns)?, "file {n}");
+    }
+    for n in [0, 14, 33] {
+        assert!(rt; lbns_of(alloc, &b, n)?.is_none(), "no file {n}");
+    }
+    Ok(())
+}
+
+#[test]
+fn blocks_are_written_in_the_order_of_the_file(rt: HostRuntime) -> Result<(), Failed> {
+    let alloc = rt.alloc();
+    let mut want = parted();
+    let end = whole(alloc, &want, (12, 1), &[b'x'; 1100])?;
+    assert!(rt; end.answer == Ok(1102), "two blocks and 78 bytes");
+    want[54] = [b'x'; 512];
+    want[54][0] = 0x4c;
+    want[54][1] = 4;
+    want[55] = [b'x'; 512];
+    want[50] = block(&[b'x'; 78]);
+    set_mark(&mut want[20], 4);
+    set_end(&mut want[20], 3, 78);
+    assert!(rt;
+        end.blocks.as_slice() == want.as_slice(),
+        "three blocks and the header are written, and no other"
+    );
     Ok(())
 }

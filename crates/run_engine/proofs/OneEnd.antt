@@ -9,7 +9,7 @@ use Rattle.core_state.specs.Ends.{AllOver}
 use Rattle.core_ends.specs.Turns.{IsEnough}
 use Rattle.run_engine.specs.Walks.{first_from, or_first, next_from, Rotation, with_turn, after_next, rotation, rotated, budget_of}
 use Rattle.run_engine.proofs.Enough.{enough_at_first, enough_after, over_at_last}
-use Rattle.run_engine.proofs.Rotating.{IsFound, found_within, next_found, none_next, rotation_none, rotation_more}
+use Rattle.run_engine.proofs.Rotating.{found_within, next_found, none_next, rotation_none, rotation_more}
 use Rattle.run_engine.proofs.Staying.{step_stays}
 
 -- ---- nothing changes once every node is over

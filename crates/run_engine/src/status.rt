@@ -13,10 +13,10 @@ pub enum Status {
     /// The words have no reading.
     BadWords,
 
-    /// A read of the script failed, and the source has counted it.
+    /// A read of the script, or of the text to store, failed, and the source has counted it.
     ScriptFault,
 
-    /// The script has more than 1,048,576 bytes.
+    /// The script, or the text to store, has more than 1,048,576 bytes.
     ScriptTooLong,
 
     /// The first bad line of the script, counted from 1.

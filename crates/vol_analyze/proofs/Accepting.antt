@@ -26,7 +26,7 @@ use Rattle.plain_rules.specs.Accounts.{charge, HasRow, IsCharged, Accounted}
 use Rattle.vol_parts.specs.declared.finding.Finding.{Finding}
 use Rattle.vol_parts.specs.declared.finding.Finding.TheVariants as finding
 use Rattle.vol_parts.specs.Volumes.{Volume, volume, IsNumber, factor, body, numbers, fields, fields_in, active_rows}
-use Rattle.vol_parts.specs.Volumes.{head as head_of}
+use Rattle.vol_parts.specs.Volumes.{first_head}
 use Rattle.vol_parts.specs.Catalogues.{quota_row, rows_sorted, slot_of, slot_with, files_of, catalogue}
 use Rattle.vol_parts.specs.Fatal.{is_rowless}
 use Rattle.vol_parts.specs.Warnings.{is_marked, names_none, is_second, names_none_found, second_found, has_doubles, is_lost_file, if_any, is_miscounted, usage_found, warnings}
@@ -144,14 +144,14 @@ module _ (v : Volume) (weak : IsWeak v) where
 
   has_row : (n : ℕ) → IsNumber v n → HasRow rows (slot_of v n)
   unfolding slot_of
-  has_row n number = by_head (head_of v n) refl where
+  has_row n number = by_head (first_head v n) refl where
     owned : (f : Hdr) → fields v n ≡ Some f → list_any (λ (r : Row). r.uic == f.owner) (active_rows v) ≡ true
     owned f e = elim (cases_Bool (list_any (λ (r : Row). r.uic == f.owner) (active_rows v))) [
       | inl is ↦ is
       | inr none ↦ absurd (weak.none (finding.NoQuotaRow n) (number, ap (is_rowless (active_rows v)) e ∙ ap not none))
     ]
 
-    by_head : (r : Result Head HeaderFault) → head_of v n ≡ r → HasRow rows (slot_with (factor v) n r (body v n))
+    by_head : (r : Result Head HeaderFault) → first_head v n ≡ r → HasRow rows (slot_with (factor v) n r (body v n))
     by_head (Ok (head.Used f)) e = sorted_has (active_rows v) f.owner (owned f (ap fields_in e))
     by_head (Ok (head.Free seq)) e = tt
     by_head (Err fault) e = tt

@@ -1,5 +1,5 @@
 -- What the reader of directories says of one block, and of a directory of the catalogue.
-use Rattle.std.proofs.Common.{◌⊎◌, inl, inr, ◌≡◌, ◌≤◌, ◌<◌, ◌+◌, ◌-◌, ◌∙◌, ◌++◌, ◌&&◌, ℕ, Bool, true, false, List, [], ◌∷◌, Option, Some, None, Result, Ok, Err, length, map, get_or, drop, refl, sym, ap, arith, length-append, drop-cons, suc}
+use Rattle.std.proofs.Common.{◌⊎◌, inl, inr, ◌≡◌, ◌≤◌, ◌<◌, ◌+◌, ◌-◌, ◌∙◌, ◌&&◌, ℕ, Bool, true, false, List, [], ◌∷◌, Option, Some, None, Result, Ok, Err, length, map, get_or, drop, refl, sym, ap, arith, length-append, drop-cons, suc}
 use Rattle.std.proofs.lemmas.Bool.{false≢true, lt-ltb, le-ltb, cases_lt}
 use Rattle.std.proofs.lemmas.List.{length-map}
 use Rattle.std.specs.Prelude.{nat_lt, if◌then◌else◌}
@@ -20,7 +20,7 @@ use Rattle.fx_header.specs.declared.slot.Slot.TheVariants as head
 use Rattle.plain_cat.specs.declared.cat.File.{File}
 use Rattle.plain_cat.specs.declared.cat.Slot.{Slot}
 use Rattle.plain_cat.specs.declared.cat.Slot.TheVariants.{Used, Free}
-use Rattle.vol_parts.specs.Volumes.{Volume, factor, head as head_of, fields_in, runs, body}
+use Rattle.vol_parts.specs.Volumes.{Volume, factor, first_head, fields_in, runs, body}
 use Rattle.vol_parts.specs.Catalogues.{plain_entry, plain_entries, slot_with, slot_of}
 use Rattle.vol_parts.specs.declared.finding.Finding.TheVariants as finding
 use Rattle.vol_parts.specs.Fatal.{found_in, has_dir_size, dir_fault}
@@ -101,11 +101,11 @@ dir_doubles v n bs (Ok (head.Used h)) s e d sound =
 dir_doubles v n bs (Ok (head.Free seq)) s e d sound = absurd (false≢true (ap is_dir e ∙ d))
 dir_doubles v n bs (Err fault) s e d sound = absurd (false≢true (ap is_dir e ∙ d))
 
-sound_dir : (v : Volume) (n : ℕ) → dir_fault v n ≡ None → (h : Hdr) → head_of v n ≡ Ok (head.Used h) → h.dir ≡ true
+sound_dir : (v : Volume) (n : ℕ) → dir_fault v n ≡ None → (h : Hdr) → first_head v n ≡ Ok (head.Used h) → h.dir ≡ true
     → found_in n (directory (body v n)) ≡ None
 unfolding dir_fault
 sound_dir v n none h e d =
-    let at : fields_in (head_of v n) ≡ Some h = ap fields_in e in
+    let at : fields_in (first_head v n) ≡ Some h = ap fields_in e in
     size (has_dir_size (factor v) h (runs v n)) (rw (at, d) at (none)) where
       size : (b : Bool) → (if b then found_in n (directory (body v n)) else Some (finding.DirSize n)) ≡ None → found_in n (directory (body v n)) ≡ None
       size true k = k
@@ -115,12 +115,12 @@ sound_dir v n none h e d =
 pub doubles_dir : (v : Volume) (n : ℕ) (f : File) → slot_of v n ≡ Used f → f.dir ≡ true → dir_fault v n ≡ None
     → nat_lt (length f.entries) (length (joined (map entries_at (body v n)))) ≡ has_doubles v n
 unfolding slot_of has_doubles
-doubles_dir v n f s d none = dir_doubles v n (body v n) (head_of v n) (Used f) s d (λ h e t. sound_dir v n none h e t)
+doubles_dir v n f s d none = dir_doubles v n (body v n) (first_head v n) (Used f) s d (λ h e t. sound_dir v n none h e t)
 
 -- a file that is no directory has none
 pub doubles_file : (v : Volume) (n : ℕ) (f : File) → slot_of v n ≡ Used f → f.dir ≡ false → false ≡ has_doubles v n
 unfolding slot_of has_doubles
-doubles_file v n f s d = file (head_of v n) s where
+doubles_file v n f s d = file (first_head v n) s where
   file : (o : Result Head HeaderFault) → slot_with (factor v) n o (body v n) ≡ Used f → false ≡ is_double_dir (fields_in o) (body v n)
   file (Ok (head.Used g)) s = let e : g.dir ≡ false = ap is_dir s ∙ d in rw e refl
   file (Ok (head.Free seq)) s = refl
@@ -129,7 +129,7 @@ doubles_file v n f s d = file (head_of v n) s where
 -- nor has a free number
 pub doubles_free : (v : Volume) (n seq : ℕ) → slot_of v n ≡ Free seq → false ≡ has_doubles v n
 unfolding slot_of has_doubles
-doubles_free v n seq s = free (head_of v n) s where
+doubles_free v n seq s = free (first_head v n) s where
   free : (o : Result Head HeaderFault) → slot_with (factor v) n o (body v n) ≡ Free seq → false ≡ is_double_dir (fields_in o) (body v n)
   free (Ok (head.Used g)) s = absurd (cc)
   free (Ok (head.Free last)) s = refl

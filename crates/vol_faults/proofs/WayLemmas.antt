@@ -1,6 +1,6 @@
 -- The way along chains of entries: what each step keeps.
 use Rattle.std.proofs.Common.{◌≡◌, ◌∙◌, ◌≢◌, ◌+◌, ◌<◌, ◌≤◌, ◌-◌, ℕ, true, false, length, get_or, Option, Some, refl, sym, ap, subst, take, arith, inl, inr, ⊎_elim, below_more}
-use Rattle.std.specs.Prelude.{◌&&◌, ◌||◌, ◌==◌, ◌⊎◌, slice_get}
+use Rattle.std.specs.Prelude.{◌&&◌, ◌==◌, ◌⊎◌, slice_get}
 use Rattle.std.proofs.lemmas.Bool.{and_parts, cases_lt, cases_eq, eqb-true}
 use Rattle.std.proofs.lemmas.List.{take_all}
 use Rattle.std.proofs.lemmas.Option.{slice_get_within, get_or_from_slice_get}

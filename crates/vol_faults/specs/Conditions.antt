@@ -4,7 +4,7 @@ use Rattle.std.specs.List.{list_any}
 use Rattle.fx_header.specs.declared.slot.Slot.{Slot}
 use Rattle.fx_header.specs.declared.slot.Slot.TheVariants.{Free, Used}
 use Rattle.fx_header.specs.declared.slot.HeaderFault.{HeaderFault}
-use Rattle.vol_parts.specs.Volumes.{Volume, IsNumber, head, fields, runs, is_used_number}
+use Rattle.vol_parts.specs.Volumes.{Volume, IsNumber, head, used_slot, runs, is_used_number}
 use Rattle.vol_parts.specs.Fatal.{is_system_file, is_off_bounds}
 
 -- the blocks that a volume can have
@@ -33,6 +33,6 @@ pub record HasSystemFiles (v : Volume) : Type 0 where
 unfoldable pub has_run_off : Volume → ℕ → Bool
 has_run_off v n = list_any (is_off_bounds v) (runs v n)
 
--- the index-file bitmap calls a number free, and a file has it
+-- the index-file bitmap calls a number free, and its slot is used
 unfoldable pub is_free_in_use : Volume → ℕ → Bool
-is_free_in_use v n = not (is_used_number v n) && is_some (fields v n)
+is_free_in_use v n = not (is_used_number v n) && is_some (used_slot v n)

@@ -1,5 +1,5 @@
 -- What stands under the numbers of a fresh volume, and its catalogue.
-use Rattle.std.proofs.Common.{◌≡◌, ◌∙◌, ◌+◌, ◌-◌, ◌*◌, ◌/◌, ◌<◌, ◌≤◌, ℕ, Bool, true, false, [], ◌++◌, Some, None, map, take, replicate, length, refl, sym, ap, arith, ⊎_elim}
+use Rattle.std.proofs.Common.{◌≡◌, ◌∙◌, ◌+◌, ◌-◌, ◌*◌, ◌/◌, ◌<◌, ◌≤◌, ℕ, Bool, true, false, [], ◌++◌, Some, None, Ok, map, take, replicate, length, refl, sym, ap, arith, ⊎_elim}
 use Rattle.std.specs.Prelude.{◌&&◌, not}
 use Rattle.std.specs.List.{range_with_len, sum_by}
 use Rattle.std.proofs.lemmas.Bool.{cases_lt, le-leb, lt-leb}
@@ -7,8 +7,10 @@ use Rattle.std.proofs.lemmas.List.{take_at}
 use Rattle.std.proofs.lemmas.List.FromFn.{length-map-range_with_len}
 use Rattle.std.proofs.Math.Nat.{mul-div_cancel_left}
 use Rattle.fx_header.specs.Pointers.{blocks_in}
+use Rattle.fx_header.specs.declared.slot.Slot.TheVariants.{Used}
 use Rattle.plain_cat.specs.declared.cat.Slot.TheVariants.{Free}
 use Rattle.plain_rules.specs.Lookups.{clusters_in}
+use Rattle.vol_parts.specs.Chains.{as_first}
 use Rattle.vol_parts.specs.Volumes.{Volume, IsNumber, total, fields_in, fields, runs, body, is_in_file, is_in_files, is_free_cluster}
 use Rattle.vol_parts.specs.Catalogues.{written_blocks, entries_in, slot_of, files_of, rows_sorted, is_outside_cluster, is_outside_number, catalogue}
 use Rattle.vol_parts.proofs.Sizes.{runs-none, length-body}
@@ -21,11 +23,16 @@ use Rattle.vol_init.proofs.Clusters.{IsOf, is_owner, has_owner, one_run, no_run,
 
 -- ---- numbers
 
+-- a header that is made is the first one of its file
+pub first_made : (l : Layout) (n : ℕ) → as_first (Ok (Used (header_of l n))) ≡ Ok (Used (header_of l n))
+unfolding header_of
+first_made l n = refl
+
 pub used_fields : (v : Volume) (n : ℕ) → IsFresh v → 1 ≤ n → n ≤ 11 → fields v n ≡ Some (header_of (layout_of v) n)
-used_fields v n is low high = ap fields_in (is.used n low high)
+used_fields v n is low high = ap (λ r. fields_in (as_first r)) (is.used n low high) ∙ ap fields_in (first_made (layout_of v) n)
 
 pub free_fields : (v : Volume) (n : ℕ) → IsFresh v → 11 < n → n ≤ v.home.files → fields v n ≡ None
-free_fields v n is low high = ap fields_in (is.free n low high)
+free_fields v n is low high = ap (λ r. fields_in (as_first r)) (is.free n low high)
 
 pub free_runs : (v : Volume) (n : ℕ) → IsFresh v → 11 < n → n ≤ v.home.files → runs v n ≡ []
 free_runs v n is low high = runs-none v n (free_fields v n is low high)

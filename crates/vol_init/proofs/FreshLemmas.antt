@@ -16,6 +16,7 @@ use Rattle.fx_bitmap.specs.Bits.{bit_at}
 use Rattle.fx_dir.specs.Directory.{directory, all_entries}
 use Rattle.fx_dir.specs.Entries.{rises}
 use Rattle.vol_parts.specs.Parts.{storage_blocks}
+use Rattle.vol_parts.specs.Chains.{as_first}
 use Rattle.vol_parts.specs.Volumes.{Volume, header_lbn, header_at, block_at, head, fields, fields_in, runs, first_lbn, bitmap_lbn, body, rows_in, active_rows, is_used_number, is_free_cluster}
 use Rattle.vol_parts.proofs.Sizes.{runs-used}
 use Rattle.vol_init.specs.declared.layout.Layout.{Layout}
@@ -28,6 +29,7 @@ use Rattle.vol_init.specs.declared.part.Part.{Part}
 use Rattle.vol_init.specs.declared.part.Part.TheVariants.{HomeCopy, HeaderCopy, Numbers, Header, Control, Storage, Main, Lost, Quota}
 use Rattle.vol_init.specs.Parts.{first_block, part_of, home_copy_bytes, header_block, control_block, quota_block, is_free, SaysHeader, SaysControl, SaysQuota, Says}
 use Rattle.vol_init.proofs.PlaceLemmas.{Places, places, bitmap-some, part-home-copy, part-header-copy, part-numbers, part-header, part-control, part-storage, part-main, part-lost, part-quota}
+use Rattle.vol_init.proofs.Files.{first_made}
 use Rattle.vol_init.proofs.ZeroLemmas.{freed-none}
 use Rattle.vol_init.proofs.HeaderLemmas.{runs-some}
 use Rattle.vol_init.proofs.BlockLemmas.{picked, rows-first, body-run}
@@ -85,7 +87,7 @@ lie-of : (v : Volume) (main lost : List Block) (n : ℕ) → Stands (layout_of v
     → runs v n ≡ runs_of (layout_of v) n
 lie-of v main lost n s p from to =
     let h = header-says v main lost n s p from (omega (arith, s.limits.files_low)) in
-    let known : fields v n ≡ Some (header_of (layout_of v) n) = ap fields_in (used-of v main lost n s p from to) in
+    let known : fields v n ≡ Some (header_of (layout_of v) n) = ap (λ r. fields_in (as_first r)) (used-of v main lost n s p from to) ∙ ap fields_in (first_made (layout_of v) n) in
     runs-used v n _ known ∙ h.1.lies to
 
 -- the run of a file with clusters

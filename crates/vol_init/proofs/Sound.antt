@@ -8,7 +8,7 @@ use Rattle.fx_header.specs.declared.slot.Hdr.{Hdr}
 use Rattle.fx_header.specs.declared.slot.Slot.{Slot as Head}
 use Rattle.fx_header.specs.declared.slot.Slot.TheVariants as head
 use Rattle.fx_header.specs.declared.slot.HeaderFault.{HeaderFault}
-use Rattle.vol_parts.specs.Volumes.{Volume, IsNumber, factor, total, head as head_of, fields, runs, is_in_run, is_in_files, is_free_cluster, is_used_number, active_rows}
+use Rattle.vol_parts.specs.Volumes.{Volume, IsNumber, factor, total, head as head_of, fields_in, used_slot, fields, runs, is_in_run, is_in_files, is_free_cluster, is_used_number, active_rows}
 use Rattle.vol_parts.specs.Fatal.{is_system_header, in_whole_clusters, stated_clusters, are_stated, is_system_file, scb_fault, is_off_bounds, is_too_large, IsInRun, IsShared, dir_fault, has_two_rows, is_rowless}
 use Rattle.vol_init.specs.declared.layout.Layout.{Layout}
 use Rattle.vol_init.specs.Layouts.{IsLayout, index_clusters, bitmap_clusters, clusters_of, first_cluster, reserved_clusters, header_of, quota_rows}
@@ -29,11 +29,11 @@ number_of : (l : Layout) (n : ℕ) → (header_of l n).num ≡ n
 unfolding header_of
 number_of l n = refl
 
-pub no_wrong_number : (v : Volume) (n : ℕ) (f : Hdr) → IsFresh v → IsNumber v n → fields v n ≡ Some f → f.num ≢ n → ⊥
+pub no_wrong_number : (v : Volume) (n : ℕ) (f : Hdr) → IsFresh v → IsNumber v n → used_slot v n ≡ Some f → f.num ≢ n → ⊥
 no_wrong_number v n f is number e wrong =
-    ⊎_elim (λ (h : 11 < n). let none : None ≡ Some f = sym (free_fields v n is h number.to) ∙ e in cc)
+    ⊎_elim (λ (h : 11 < n). let none : None ≡ Some f = sym (ap fields_in (is.free n h number.to)) ∙ e in cc)
     (λ (h : n ≤ 11).
-    let one : Some (header_of (layout_of v) n) ≡ Some f = sym (used_fields v n is number.from h) ∙ e in
+    let one : Some (header_of (layout_of v) n) ≡ Some f = sym (ap fields_in (is.used n number.from h)) ∙ e in
     let same : header_of (layout_of v) n ≡ f = cc in
     wrong (ap (λ (x : Hdr). x.num) (sym same) ∙ number_of (layout_of v) n))
     (cases_lt 11 n)
@@ -158,11 +158,10 @@ no_free_cluster v q is inside free used =
     let low = reserved_in_files v q is used in
     both_ways (is_free_cluster v q) (is.clusters q inside ∙ lt-leb (reserved_clusters (layout_of v)) q low) free
 
-pub no_free_number : (v : Volume) (n : ℕ) → IsFresh v → IsNumber v n → is_used_number v n ≡ false → is_some (fields v n) ≡ true → ⊥
+pub no_free_number : (v : Volume) (n : ℕ) → IsFresh v → IsNumber v n → is_used_number v n ≡ false → is_some (used_slot v n) ≡ true → ⊥
 no_free_number v n is number free used =
     let high = leb-false n 11 (sym (is.numbers n number) ∙ free) in
-    let none = free_fields v n is high number.to in
-    let past : false ≡ true = rw none at used in
+    let past : false ≡ true = ap (λ r. is_some (fields_in r)) (sym (is.free n high number.to)) ∙ used in
     cc
 
 -- ---- directories

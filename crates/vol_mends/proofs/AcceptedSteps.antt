@@ -20,7 +20,7 @@ use Rattle.plain_cat.specs.declared.cat.Slot.{Slot}
 use Rattle.plain_cat.specs.declared.cat.Slot.TheVariants.{Used}
 use Rattle.plain_cat.specs.declared.cat.QuotaRow.{QuotaRow}
 use Rattle.plain_rules.specs.declared.places.Place.{Place}
-use Rattle.plain_rules.specs.Lookups.{file_at, in_use, row_of}
+use Rattle.plain_rules.specs.Lookups.{file_at, in_use, row_of, file_most}
 use Rattle.plain_rules.specs.Answers.{has_entries}
 use Rattle.plain_rules.specs.Changes.{with_row}
 use Rattle.plain_rules.specs.Mending.{entries_in, numbers_from, places, system_names, is_name_of, is_own}
@@ -39,7 +39,7 @@ use Rattle.plain_rules.specs.SystemFiles.{entries_of}
 use Rattle.plain_mends.specs.Sound.NumberPath.{One, More}
 use Rattle.vol_parts.specs.declared.finding.Finding.{Finding}
 use Rattle.vol_parts.specs.declared.finding.Finding.TheVariants as finding
-use Rattle.vol_parts.specs.Volumes.{Volume, volume, IsNumber, factor, head as head_of, most_clusters, fields, runs, body, active_rows}
+use Rattle.vol_parts.specs.Volumes.{Volume, volume, IsNumber, factor, first_head, fields, runs, body, active_rows}
 use Rattle.vol_parts.specs.Catalogues.{file_of, quota_row, slot_of, files_of, rows_sorted, catalogue}
 use Rattle.vol_parts.specs.Fatal.{stated_clusters, are_stated, is_system_header, is_system_file, is_too_large, is_cluster_run, has_dir_size, found_in, dir_test, dir_fault, is_rowless, is_marked_dir, NamesFile, Path, IsFatalIn}
 use Rattle.vol_parts.specs.Fatal.Path.{One as First, More as Next}
@@ -76,7 +76,7 @@ system_from k n h blocks e =
     let b = dir_is h.dir (is_system_directory n) h.marked a.1 in
     record { seq = eqb-true h.seq (system_seq n) a.0; dir = b.0; unmarked = b.1 }
 
-few : (x : ℕ) → nat_lt most_clusters x ≡ false → x ≤ 77
+few : (x : ℕ) → nat_lt file_most x ≡ false → x ≤ file_most
 few x e = grind (arith, nat_tests)
 
 row_here : (b : Bool) (r : QuotaRow) (o : Option QuotaRow) → (b ≡ true) ⊎ (is_some o ≡ true) → is_some (cond b (Some r) o) ≡ true
@@ -156,7 +156,7 @@ module _ (v : Volume) (weak : (f : Finding) → IsFatalIn v f → ⊥) (enough :
       get_along (slot_of v) 1 v.home.files (n - 1) (omega (arith, from, to)) ∙ ap (λ k. Some (slot_of v k)) z
 
   -- the header of a file
-  told_at : (n : ℕ) (f : File) → file_at c n ≡ Some f → IsNumber v n × TellsFile (factor v) n (head_of v n) (body v n) f
+  told_at : (n : ℕ) (f : File) → file_at c n ≡ Some f → IsNumber v n × TellsFile (factor v) n (first_head v n) (body v n) f
   unfolding slot_of
   told_at n f at =
       let num = file-number c n f at in
@@ -164,14 +164,14 @@ module _ (v : Volume) (weak : (f : Finding) → IsFatalIn v f → ⊥) (enough :
       let is : IsNumber v n = record { from = num.0; to = (let to = num.1 in omega (arith, to, all)) } in
       let both : Some (slot_of v n) ≡ Some (Used f) = sym (slot_is n is) ∙ stands_at c n f at in
       let one : slot_of v n ≡ Used f = cc both in
-      (is, tells_file (factor v) n (head_of v n) (body v n) f one)
+      (is, tells_file (factor v) n (first_head v n) (body v n) f one)
 
   -- the file of a header
   file_there : (n : ℕ) (h : Hdr) → IsNumber v n → fields v n ≡ Some h → file_at c n ≡ Some (file_of (factor v) n h (body v n))
   unfolding slot_of
   file_there n h is e =
       let from = is.from in
-      file_from c n (file_of (factor v) n h (body v n)) (omega (arith, from)) (slot_is n is ∙ ap (λ (x : Slot). Some x) (told_file (factor v) n (head_of v n) (body v n) h e))
+      file_from c n (file_of (factor v) n h (body v n)) (omega (arith, from)) (slot_is n is ∙ ap (λ (x : Slot). Some x) (told_file (factor v) n (first_head v n) (body v n) h e))
 
   systems : (n : ℕ) → 1 ≤ n → n ≤ 11 → (f : File) × (file_at c n ≡ Some f) × IsSystemFile n f
   unfolding is_system_file
@@ -183,13 +183,13 @@ module _ (v : Volume) (weak : (f : Finding) → IsFatalIn v f → ⊥) (enough :
     by_head None e h = absurd (cc h)
     by_head (Some h) e s = (file_of (factor v) n h (body v n), file_there n h (record { from = from; to = omega (arith, to, enough) }) e, system_from (factor v) n h (body v n) s)
 
-  sizes : (n : ℕ) (f : File) → 11 < n → file_at c n ≡ Some f → f.clusters ≤ 77
+  sizes : (n : ℕ) (f : File) → 11 < n → file_at c n ≡ Some f → f.clusters ≤ file_most
   sizes n f high at =
       let r = told_at n f at in
       let t = r.1 in
       let small : is_too_large v (fields v n) ≡ false = is_false (is_too_large v (fields v n)) (λ e. weak (finding.Clusters n) (r.0, high, e)) in
-      let mine : nat_lt most_clusters (t.hdr.blocks / factor v) ≡ false = ap (is_too_large v) (sym t.at) ∙ small in
-      subst (λ (k : ℕ). k ≤ 77) (ap (λ (x : File). x.clusters) t.is) (few (t.hdr.blocks / factor v) mine)
+      let mine : nat_lt file_most (t.hdr.blocks / factor v) ≡ false = ap (is_too_large v) (sym t.at) ∙ small in
+      subst (λ (k : ℕ). k ≤ file_most) (ap (λ (x : File). x.clusters) t.is) (few (t.hdr.blocks / factor v) mine)
 
   owners : (n : ℕ) (f : File) → file_at c n ≡ Some f → is_some (row_of f.owner c.quota) ≡ true
   unfolding catalogue
@@ -210,7 +210,7 @@ module _ (v : Volume) (weak : (f : Finding) → IsFatalIn v f → ⊥) (enough :
     each : (k : ℕ) (s : Slot) → slice_get c.files k ≡ Some s → Single (map (placed (1 + k)) (entries_in s))
     each k s at =
         let r = along_get (slot_of v) 1 v.home.files k s at in
-        subst (λ (x : Slot). Single (map (placed (1 + k)) (entries_in x))) r.1 (single_slot (1 + k) (factor v) (1 + k) (head_of v (1 + k)) (body v (1 + k)))
+        subst (λ (x : Slot). Single (map (placed (1 + k)) (entries_in x))) r.1 (single_slot (1 + k) (factor v) (1 + k) (first_head v (1 + k)) (body v (1 + k)))
 
   keyed : AreKeyed c
   keyed i j p q a b one = single_keyed (places c) single i j p q a b one

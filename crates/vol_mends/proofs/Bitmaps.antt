@@ -8,13 +8,12 @@ use Rattle.base_words.specs.Fields.{Block}
 use Rattle.fx_header.specs.declared.slot.Slot.{Slot as Head}
 use Rattle.fx_header.specs.declared.slot.Slot.TheVariants as head
 use Rattle.fx_header.specs.declared.slot.HeaderFault.{HeaderFault}
-use Rattle.fx_header.specs.Headers.{header_read}
 use Rattle.fx_bitmap.specs.Bits.{bit_at}
 use Rattle.plain_cat.specs.declared.cat.Cat.{Cat}
 use Rattle.plain_rules.specs.Lookups.{file_in, file_at}
 use Rattle.vol_spell.specs.declared.owner.Owner.{Owner}
 use Rattle.vol_spell.specs.declared.owner.Owner.TheVariants.{Free, InFile, Outside, Leaked}
-use Rattle.vol_spell.specs.Owners.{Owners, IsSpaceMove, IsDeathMove}
+use Rattle.vol_spell.specs.Owners.{Owners, Moves, IsSpaceMove, IsDeathMove}
 use Rattle.vol_spell.specs.Counts.{is_same_owner}
 use Rattle.vol_spell.proofs.Moving.{still}
 use Rattle.vol_parts.specs.declared.geometry.Geometry.{Geometry}
@@ -31,7 +30,7 @@ use Rattle.vol_spell.proofs.Owned.{each_is_owned}
 use Rattle.vol_spell.proofs.Parts.{slot_there, told, part_owned, part_there}
 use Rattle.vol_spell.proofs.Frames.{on_volume}
 use Rattle.vol_spell.proofs.Viewing.{parts_stay, index_set}
-use Rattle.vol_spell.proofs.Keeping.{index_write, death_leaks}
+use Rattle.vol_spell.proofs.Keeping.{freed_blank, index_write, death_leaks}
 use Rattle.vol_mends.specs.Weak.{NoOuts}
 use Rattle.vol_mends.specs.Going.{Change, Leaked as Leaks}
 use Rattle.vol_mends.specs.Told.{IsTold, LeadsTo, KeepsSingles}
@@ -41,6 +40,7 @@ use Rattle.vol_mends.proofs.OneWrite.{single_same}
 use Rattle.vol_mends.proofs.Basics.{clash, false_by}
 use Rattle.vol_mends.proofs.Turned.{turned, turned_was, turned_is, turned_moves, turned_on, none_outside}
 use Rattle.vol_mends.proofs.Parting.{no_number_out}
+use Rattle.vol_mends.proofs.Alone.{alone_is}
 
 -- ---- what is leaked goes to a node, and is free
 
@@ -84,7 +84,7 @@ not_leaked Leaked = refl
 -- a write to another part than a header leaves directories
 pub parts_single : (g : Geometry) (bs : List Block) (own now : Owners) (c d : Cat) (p : Part) (b : Block) → Spells g bs own c → Spells g (slice_set bs (place_of g p) b) now d → IsPart g p → ((n : ℕ) → p ≢ Header n) → KeepsSingles g bs (slice_set bs (place_of g p) b)
 parts_single g bs own now c d p b s t is other n number single =
-    single_same g bs (slice_set bs (place_of g p) b) own now c d s t n number (parts_stay g bs own c n (place_of g p) p b s number (part_there g bs own c s p is) (other n)) single
+    single_same g bs (slice_set bs (place_of g p) b) own now c d s t n number (parts_stay g bs own c n (place_of g p) p b s number (part_there g bs own c s p is) (λ m t. other m)) single
 
 -- ---- numbers
 
@@ -100,7 +100,7 @@ file_used g bs own c s n is =
     let some : (n == 0) ≡ false = not_zero n from in
     ap (λ b. is_some (file_in (cond b None (slice_get c.files (n - 1))))) some
     ∙ (ap (λ x. is_some (file_in x)) (slot_there g bs own c s n is ∙ ap (λ x. Some x) (sym (told g bs own c s n is).slot))
-    ∙ slot_used g.cluster n (header_read (header_block g bs n)) (body_blocks bs n (told_of g bs n)))
+    ∙ slot_used g.cluster n (told_of g bs n).head (body_blocks bs n (told_of g bs n)))
   where
     not_zero : (n : ℕ) → 1 ≤ n → (n == 0) ≡ false
     not_zero n low = grind (arith, nat_tests)
@@ -124,15 +124,22 @@ module _ (g : Geometry) (bs : List Block) (c : Cat) (b : Block) (are : AreFileBi
   part : IsPart g IndexBitmap
   part = tt
 
+  -- the number of a file is that of its one header
+  one_number : (n i : ℕ) → IsFileNumber g n → slice_get o.own.numbers (n - 1) ≡ Some (InFile i) → n ≡ i
+  one_number n i is at =
+      let e = alone_is g bs o.own c o.spells (n - 1) i at in
+      let from = is.from in
+      omega (arith, e, from)
+
   -- the bit of a number whose owner is told
   bit_of : (n : ℕ) → IsFileNumber g n → (x : Owner) → slice_get o.own.numbers (n - 1) ≡ Some x → IsNumberOf g bs n x → bit_at b (n - 1) ≡ is_same_owner (InFile n) x
   unfolding is_same_owner
-  bit_of n is x at k = are.bits n is ∙ (file_used g bs o.own c o.spells n is ∙ by x k) where
-    by : (y : Owner) → IsNumberOf g bs n y → is_some (fields_told (header_block g bs n)) ≡ is_same_owner (InFile n) y
-    by Free k = false_by _ (λ e. let h : Free ≡ InFile n = k.file.0 e in cc h)
-    by (Outside m) k = false_by _ (λ e. let h : Outside m ≡ InFile n = k.file.0 e in cc h)
-    by Leaked k = false_by _ (λ e. let h : Leaked ≡ InFile n = k.file.0 e in cc h)
-    by (InFile i) k = let same : n ≡ i = sym (k.known i refl) in k.file.1 (ap (λ j. InFile j) (sym same)) ∙ sym (eq-eqb n i same)
+  bit_of n is x at k = are.bits n is ∙ (file_used g bs o.own c o.spells n is ∙ by x at k) where
+    by : (y : Owner) → slice_get o.own.numbers (n - 1) ≡ Some y → IsNumberOf g bs n y → is_some (fields_told (header_block g bs n)) ≡ is_same_owner (InFile n) y
+    by Free at k = false_by _ (λ e. let h : Free ≡ InFile n = k.file.0 e in cc h)
+    by (Outside m) at k = false_by _ (λ e. let h : Outside m ≡ InFile n = k.file.0 e in cc h)
+    by Leaked at k = false_by _ (λ e. let h : Leaked ≡ InFile n = k.file.0 e in cc h)
+    by (InFile i) at k = let same : n ≡ i = one_number n i is at in k.file.1 (ap (λ j. InFile j) (sym same)) ∙ sym (eq-eqb n i same)
 
   free_bits : (n : ℕ) → IsFileNumber g n → (number_bit g new n ≡ false) ↔ (slice_get end.numbers (n - 1) ≡ Some Free)
   unfolding is_same_owner
@@ -147,7 +154,7 @@ module _ (g : Geometry) (bs : List Block) (c : Cat) (b : Block) (are : AreFileBi
       free_by : (x : Owner) → slice_get o.own.numbers (n - 1) ≡ Some x → IsNumberOf g bs n x → is_same_owner (InFile n) x ≡ false → given x ≡ Free
       free_by Free at k e = refl
       free_by Leaked at k e = refl
-      free_by (InFile i) at k e = absurd (clash (n == i) (eq-eqb n i (sym (k.known i refl))) e)
+      free_by (InFile i) at k e = absurd (clash (n == i) (eq-eqb n i (one_number n i is at)) e)
       free_by (Outside m) at k e = absurd (no_number_out o.own o.outs (n - 1) m at)
 
       bit_free : (x : Owner) → given x ≡ Free → is_same_owner (InFile n) x ≡ false
@@ -156,10 +163,13 @@ module _ (g : Geometry) (bs : List Block) (c : Cat) (b : Block) (are : AreFileBi
       bit_free (InFile i) e = absurd (cc e)
       bit_free (Outside m) e = absurd (cc e)
 
+  moves : Moves (IsSpaceMove 0) mid.numbers end.numbers
+  moves = turned_on (IsSpaceMove 0) (λ q. taken) (λ q. given) o.own.numbers (λ q x at. give_moves x)
+
   set_now : Spells g new end (with_leaks mid c)
   set_now =
       index_write g bs mid end (with_leaks mid c) 0 (place_of g IndexBitmap) b held are.whole (part_there g bs o.own c o.spells IndexBitmap part) refl
-      (turned_on (IsSpaceMove 0) (λ q. taken) (λ q. given) o.own.numbers (λ q x at. give_moves x)) free_bits
+      moves free_bits (freed_blank g bs mid (with_leaks mid c) held end 0 moves)
 
   no_flags : (i : ℕ) (xs : List Owner) → map (is_same_owner Leaked) (turned (λ q. taken) i xs) ≡ map (λ (t : Bool). false) (map (is_same_owner Leaked) xs)
   no_flags i [] = refl

@@ -193,7 +193,7 @@ module _ (g : Geometry) (bs : List Block) (c : Cat) (home : Home) (k : ℕ) (b :
       apart_by g o.own 1 (place_of g (Storage k)) (InFile 1) (InFile 2) (home_owned g bs o.own c o.spells) (part_owned g bs o.own c o.spells (Storage k) are.block) (λ e. cc e)
 
   file_same : (n : ℕ) → IsFileNumber g n → told_of g new n ≡ told_of g bs n
-  file_same n is = (parts_stay g bs o.own c n (place_of g (Storage k)) (Storage k) b o.spells is there (λ e. cc e)).told
+  file_same n is = (parts_stay g bs o.own c n (place_of g (Storage k)) (Storage k) b o.spells is there (λ m t e. cc e)).told
 
   filed_same : (q : ℕ) → is_in_files (v home.label g new end after spelt) q ≡ is_in_files (v home.label g bs o.own c o.spells) q
   filed_same q =

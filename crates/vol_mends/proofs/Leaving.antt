@@ -1,10 +1,8 @@
 -- A slot that becomes free.
-use Rattle.std.proofs.Common.{◌≡◌, ◌≢◌, ◌∙◌, ◌<◌, ◌≤◌, ◌+◌, ◌-◌, ℕ, true, false, not, List, [], Some, Ok, length, map, slice_get, slice_set, refl, sym, ap, subst, arith, ◌⊎◌, inl, inr}
+use Rattle.std.proofs.Common.{◌≡◌, ◌≢◌, ◌∙◌, ◌<◌, ◌≤◌, ◌+◌, ◌-◌, ℕ, true, false, not, List, [], Some, length, map, slice_get, slice_set, refl, sym, ap, subst, arith, ◌⊎◌, inl, inr}
 use Rattle.std.specs.Prelude.{◌==◌, ◌||◌, count_by, is_some}
 use Rattle.std.proofs.lemmas.Bool.{eq-eqb, and_from}
 use Rattle.base_words.specs.Fields.{Block}
-use Rattle.fx_header.specs.declared.slot.Slot.TheVariants as head
-use Rattle.fx_header.specs.Headers.{header_read}
 use Rattle.plain_cat.specs.declared.ids.Fid.{Fid}
 use Rattle.plain_cat.specs.declared.cat.Cat.{Cat}
 use Rattle.plain_cat.specs.declared.cat.File.{File}
@@ -16,21 +14,22 @@ use Rattle.plain_mends.specs.Resuming.{leaving}
 use Rattle.base_words.proofs.Listing.{has_from, has_any}
 use Rattle.plain_laws.proofs.Standing.{number_rises}
 use Rattle.vol_spell.specs.declared.owner.Owner.TheVariants.{InFile, Outside, Leaked}
-use Rattle.vol_spell.specs.Owners.{Owners}
+use Rattle.vol_spell.specs.Owners.{Owners, IsFileMove}
 use Rattle.vol_spell.specs.Counts.{is_same_owner}
 use Rattle.vol_spell.proofs.Counting.{counts_list}
 use Rattle.base_words.proofs.Listing.{same_or_not}
 use Rattle.vol_parts.specs.declared.geometry.Geometry.{Geometry}
 use Rattle.vol_parts.specs.declared.geometry.Part.TheVariants.{Header}
-use Rattle.vol_parts.specs.Volumes.{Told, told_by, fields_in}
+use Rattle.vol_parts.specs.Chains.{as_first}
+use Rattle.vol_parts.specs.Volumes.{Told, fields_in}
 use Rattle.vol_parts.specs.Warnings.{is_double_dir}
-use Rattle.vol_spell.specs.Reading.{IsFileNumber, header_place, header_block, told_of, clusters_told, body_blocks}
-use Rattle.vol_spell.specs.Spelling.{Tells, Spells}
+use Rattle.vol_spell.specs.Reading.{IsFileNumber, header_place, told_of, nobody, clusters_told, body_blocks}
+use Rattle.vol_spell.specs.Spelling.{IsHead, Tells, Spells}
 use Rattle.vol_spell.specs.Kinds.{IsHeaderFor, with_leaks}
 use Rattle.vol_spell.proofs.Adds.{size_told}
-use Rattle.vol_spell.proofs.Parts.{part_owned, part_there, in_use, own_number}
+use Rattle.vol_spell.proofs.Parts.{part_owned, in_use}
 use Rattle.vol_spell.proofs.Frames.{on_volume}
-use Rattle.vol_spell.proofs.Viewing.{told_set, parts_stay}
+use Rattle.vol_spell.proofs.Viewing.{none_set, header_set}
 use Rattle.vol_spell.proofs.Keeping.{header_write, death_leaks}
 use Rattle.vol_mends.specs.Going.{Change, Freed}
 use Rattle.vol_mends.proofs.Tests.{tells_file}
@@ -38,6 +37,7 @@ use Rattle.vol_mends.proofs.AcceptedSteps.{weak_can_mend}
 use Rattle.vol_spell.proofs.EntryDirs.{used_at}
 use Rattle.vol_mends.specs.Told.{LeadsTo, IsSingle, KeepsSingles}
 use Rattle.vol_mends.specs.Slots.{CanBeFreed, SlotIsFreed}
+use Rattle.vol_mends.proofs.Alone.{alone_is}
 use Rattle.vol_mends.proofs.Basics.{clash, lower_or}
 use Rattle.vol_mends.proofs.WriteTold.{Owned, owned, changed, home_left}
 use Rattle.vol_mends.proofs.OneWrite.{doubles_told, single_same}
@@ -86,11 +86,8 @@ module _ (g : Geometry) (bs : List Block) (c : Cat) (n : ℕ) (f : File) (b : Bl
   tells : Tells g o.own n (told_of g bs n) (body_blocks bs n (told_of g bs n)) (slot.Used f)
   tells = o.spells.files n (slot.Used f) number (used_at c n f can.file)
 
-  abbrev nobody : Told
-  nobody = told_by n (Ok (head.Free f.seq)) b
-
-  told_now : told_of g new n ≡ nobody
-  told_now = told_set g bs n b on ∙ ap (λ r. told_by n r b) can.free
+  told_now : told_of g new n ≡ nobody f.seq
+  told_now = none_set g bs n b f.seq on (ap as_first can.free)
 
   abbrev mid : Owners
   mid = parted n (Outside 0) o.own
@@ -98,7 +95,7 @@ module _ (g : Geometry) (bs : List Block) (c : Cat) (n : ℕ) (f : File) (b : Bl
   abbrev left : Owners
   left = parted n Leaked o.own
 
-  tells_now : Tells g mid n nobody (body_blocks bs n nobody) (slot.Free f.seq)
+  tells_now : Tells g mid n (nobody f.seq) (body_blocks bs n (nobody f.seq)) (slot.Free f.seq)
   tells_now = record {
     reads = tt;
     whole = tt;
@@ -111,11 +108,19 @@ module _ (g : Geometry) (bs : List Block) (c : Cat) (n : ℕ) (f : File) (b : Bl
     slot = refl;
   }
 
+  in_number : slice_get o.own.numbers (n - 1) ≡ Some (InFile n)
+  in_number =
+      let file = tells_file g.cluster n (told_of g bs n).head (body_blocks bs n (told_of g bs n)) f tells.slot in
+      (in_use g bs o.own c o.spells n number).0 (ap is_some file.at)
+
   header_for : IsHeaderFor g bs 0 n n o.own mid c b (slot.Free f.seq)
   header_for = record {
     whole = can.whole;
     number = number;
-    own_slot = refl;
+    slot = inl refl;
+    owned = subst (IsFileMove 0 n) (sym in_number) refl;
+    head = subst (IsHead n) (sym can.free) tt;
+    alike = λ other. absurd (other refl);
     plain = not_structure n above;
     moves = to_node n o.own;
     tells = subst (λ (z : Told). Tells g mid n z (body_blocks bs n z) (slot.Free f.seq)) (sym told_now) tells_now;
@@ -142,13 +147,8 @@ module _ (g : Geometry) (bs : List Block) (c : Cat) (n : ℕ) (f : File) (b : Bl
       let mine = clusters_of_file in
       omega (arith, all, were, mine)
 
-  in_number : slice_get o.own.numbers (n - 1) ≡ Some (InFile n)
-  in_number =
-      let file = tells_file g.cluster n (header_read (header_block g bs n)) (body_blocks bs n (told_of g bs n)) f tells.slot in
-      (in_use g bs o.own c o.spells n number).0 (ap is_some file.at)
-
   one_number : (q : ℕ) → slice_get o.own.numbers q ≡ Some (InFile n) → q ≡ n - 1
-  one_number q e = let same = own_number g bs o.own c o.spells q n e in omega (arith, same)
+  one_number q e = let same = alone_is g bs o.own c o.spells q n e in omega (arith, same)
 
   numbers_left : map (is_same_owner Leaked) left.numbers ≡ slice_set c.leaked_numbers (n - 1) true
   numbers_left = flags_set n 0 o.own.numbers (n - 1) in_number one_number ∙ ap (λ ns. slice_set ns (n - 1) true) (sym o.spells.owners.leaked_numbers)
@@ -184,7 +184,7 @@ module _ (g : Geometry) (bs : List Block) (c : Cat) (n : ℕ) (f : File) (b : Bl
     by (inl same) = subst (λ k. IsSingle g new k) (sym same) none_here
     by (inr other) =
         single_same g bs new o.own left c (leaving c n f) o.spells spelt i is
-        (parts_stay g bs o.own c i (header_place g n) (Header n) b o.spells is (part_there g bs o.own c o.spells (Header n) number) (λ e. other (let k : n ≡ i = cc e in sym k))) single
+        ((header_set g bs o.own mid c 0 n n b (slot.Free f.seq) o.spells header_for).others i is other other) single
 
 pub slot_is_freed : SlotIsFreed
 slot_is_freed = record { leads = slot_leads; singles = slot_singles; within = on }

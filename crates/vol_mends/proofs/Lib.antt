@@ -1,4 +1,5 @@
 pub mod AcceptedSteps
+pub mod Alone
 pub mod Basics
 pub mod Bitmaps
 pub mod ClusterBits

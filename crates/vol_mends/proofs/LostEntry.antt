@@ -1,5 +1,5 @@
 -- The entry of a lost file, which is within the limits of the format and new to [SYSLOST].
-use Rattle.std.proofs.Common.{◌≡◌, ◌∙◌, ◌<◌, ◌+◌, ◌-◌, ◌/◌, ◌%◌, ◌^◌, ℕ, Bool, true, false, cond, List, [], ◌∷◌, ◌++◌, Some, Ok, Err, Result, is_some, length, drop, get_or, refl, sym, ap, subst, arith}
+use Rattle.std.proofs.Common.{◌≡◌, ◌∙◌, ◌<◌, ◌+◌, ◌-◌, ◌/◌, ◌%◌, ◌^◌, ℕ, Bool, true, false, cond, List, [], ◌∷◌, ◌++◌, Some, is_some, length, drop, get_or, refl, sym, ap, subst, arith}
 use Rattle.std.specs.Prelude.{◌==◌, ◌&&◌, ◌||◌, not, leb}
 use Rattle.std.specs.List.{list_all, prefix_len}
 use Rattle.std.specs.Str.{bytes_eq}
@@ -8,10 +8,6 @@ use Rattle.std.proofs.lemmas.Option.{slice_get-get_or, slice_get_within}
 use Rattle.base_words.specs.Fields.{Block, IsWholeBlock, field}
 use Rattle.base_words.specs.Names.{is_character, is_part, is_tail, is_name}
 use Rattle.base_words.proofs.Puts.{field-lt}
-use Rattle.fx_header.specs.declared.slot.Hdr.{Hdr}
-use Rattle.fx_header.specs.declared.slot.Slot.{Slot as Head}
-use Rattle.fx_header.specs.declared.slot.Slot.TheVariants as head
-use Rattle.fx_header.specs.declared.slot.HeaderFault.{HeaderFault}
 use Rattle.fx_header.specs.Headers.{header_read}
 use Rattle.fx_header.proofs.SoundLemmas.{reads-sound}
 use Rattle.fx_header.proofs.SetterLemmas.{tells-of}
@@ -28,8 +24,8 @@ use Rattle.vol_spell.specs.declared.owner.Owner.TheVariants.{InFile}
 use Rattle.vol_spell.specs.Owners.{Owners}
 use Rattle.vol_parts.specs.declared.geometry.Geometry.{Geometry}
 use Rattle.vol_parts.specs.declared.geometry.Part.TheVariants.{Header}
-use Rattle.vol_parts.specs.Volumes.{fields_in}
-use Rattle.vol_spell.specs.Reading.{IsFileNumber, header_place, header_block, told_of, body_blocks}
+use Rattle.vol_parts.proofs.Alone.{first-is}
+use Rattle.vol_spell.specs.Reading.{IsFileNumber, header_place, header_block, head_told, told_of, body_blocks}
 use Rattle.vol_spell.specs.Spelling.{Spells}
 use Rattle.vol_spell.proofs.Parts.{part_owned}
 use Rattle.vol_spell.proofs.Frames.{on_volume}
@@ -116,18 +112,13 @@ next_is_new g bs own c s opens n d at name =
 
 -- ---- the sequence
 
-used_head : (r : Result Head HeaderFault) (h : Hdr) → fields_in r ≡ Some h → r ≡ Ok (head.Used h)
-used_head (Ok (head.Used x)) h e = let same : x ≡ h = cc e in ap (λ (y : Hdr). Ok (head.Used y)) same
-used_head (Ok (head.Free seq)) h e = absurd (cc e)
-used_head (Err fault) h e = absurd (cc e)
-
 -- the sequence of a file fits its field
 pub seq_fits : (g : Geometry) (bs : List Block) (own : Owners) (c : Cat) → Spells g bs own c → (n : ℕ) (f : File) → IsFileNumber g n → file_at c n ≡ Some f → f.seq < 2 ^ 16
 seq_fits g bs own c s n f is at =
     let b : Block = header_block g bs n in
     let tells = s.files n (slot.Used f) is (used_at c n f at) in
-    let file = tells_file g.cluster n (header_read b) (body_blocks bs n (told_of g bs n)) f tells.slot in
-    let reads = used_head (header_read b) file.hdr file.at in
+    let file = tells_file g.cluster n (head_told b) (body_blocks bs n (told_of g bs n)) f tells.slot in
+    let reads = (first-is (header_read b) file.hdr file.at).0 in
     let len = on_volume g bs own c s (header_place g n) (InFile 1) (part_owned g bs own c s (Header n) is) in
     let whole : IsWholeBlock b = s.whole (header_place g n) b (slice_get-get_or bs (header_place g n) [] len) in
     let t = tells-of b file.hdr (reads-sound b file.hdr reads).fields in

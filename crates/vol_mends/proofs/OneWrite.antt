@@ -18,13 +18,13 @@ use Rattle.plain_cat.specs.declared.cat.Cat.{Cat}
 use Rattle.vol_spell.specs.Owners.{Owners}
 use Rattle.vol_spell.specs.Spread.{blocks_at}
 use Rattle.vol_parts.specs.declared.geometry.Geometry.{Geometry}
-use Rattle.vol_parts.specs.Volumes.{body}
+use Rattle.vol_parts.specs.Volumes.{Told, fields_in, body}
 use Rattle.vol_parts.specs.Catalogues.{is_structure}
 use Rattle.vol_parts.specs.Fatal.{is_system_header}
 use Rattle.plain_rules.specs.SystemFiles.{is_system_directory}
 use Rattle.vol_parts.specs.Warnings.{is_double_dir, has_doubles}
 use Rattle.fx_dir.specs.Laws.{has_double}
-use Rattle.vol_spell.specs.Reading.{IsFileNumber, header_block, told_of, fields_told, runs_told, body_blocks}
+use Rattle.vol_spell.specs.Reading.{IsFileNumber, told_of, body_blocks}
 use Rattle.vol_spell.specs.Spelling.{Spells}
 use Rattle.vol_spell.specs.Views.{IsSameFile}
 use Rattle.vol_spell.proofs.Told.{no_dir, no_directory}
@@ -41,23 +41,23 @@ dull (Some f) n xs ys d e =
 
 -- whether a directory has doubles, by its header and its blocks
 pub doubles_told : (label : List ℕ) (g : Geometry) (bs : List Block) (own : Owners) (c : Cat) (s : Spells g bs own c) (n : ℕ) → IsFileNumber g n
-    → has_doubles (v label g bs own c s) n ≡ is_double_dir (fields_told (header_block g bs n)) (body_blocks bs n (told_of g bs n))
+    → has_doubles (v label g bs own c s) n ≡ is_double_dir (fields_in (told_of g bs n).head) (body_blocks bs n (told_of g bs n))
 unfolding has_doubles
 doubles_told label g bs own c s n is =
     ap (λ o. is_double_dir o (body (v label g bs own c s) n)) (v_fields label g bs own c s n is)
-    ∙ (ap (λ xs. is_double_dir (fields_told (header_block g bs n)) xs) (v_body label g bs own c s n is) ∙ by_kind (is_structure n) refl)
+    ∙ (ap (λ xs. is_double_dir (fields_in (told_of g bs n).head) xs) (v_body label g bs own c s n is) ∙ by_kind (is_structure n) refl)
   where
     by_kind : (k : Bool) → is_structure n ≡ k
-        → is_double_dir (fields_told (header_block g bs n)) (blocks_at bs (lbns_in (runs_told (header_block g bs n)))) ≡ is_double_dir (fields_told (header_block g bs n)) (body_blocks bs n (told_of g bs n))
-    by_kind true e = dull (fields_told (header_block g bs n)) n _ _ (no_directory n e) (system label g bs own c s n e)
-    by_kind false e = ap (λ t. is_double_dir (fields_told (header_block g bs n)) (blocks_at bs (cond t [] (lbns_in (runs_told (header_block g bs n)))))) (sym e)
+        → is_double_dir (fields_in (told_of g bs n).head) (blocks_at bs (lbns_in (told_of g bs n).runs)) ≡ is_double_dir (fields_in (told_of g bs n).head) (body_blocks bs n (told_of g bs n))
+    by_kind true e = dull (fields_in (told_of g bs n).head) n _ _ (no_directory n e) (system label g bs own c s n e)
+    by_kind false e = ap (λ t. is_double_dir (fields_in (told_of g bs n).head) (blocks_at bs (cond t [] (lbns_in (told_of g bs n).runs)))) (sym e)
 
 -- a directory that keeps its header and its blocks gets none
 pub single_same : (g : Geometry) (bs new : List Block) (own now : Owners) (c d : Cat) → Spells g bs own c → Spells g new now d → (n : ℕ) → IsFileNumber g n → IsSameFile g bs new n → IsSingle g bs n → IsSingle g new n
 single_same g bs new own now c d s t n is f h =
     doubles_told [] g new now d t n is
-    ∙ (ap (λ b. is_double_dir (fields_told b) (body_blocks new n (told_of g new n))) f.header
-    ∙ (ap (λ xs. is_double_dir (fields_told (header_block g bs n)) xs) f.body ∙ (sym (doubles_told [] g bs own c s n is) ∙ h)))
+    ∙ (ap (λ (t : Told). is_double_dir (fields_in t.head) (body_blocks new n (told_of g new n))) f.told
+    ∙ (ap (λ xs. is_double_dir (fields_in (told_of g bs n).head) xs) f.body ∙ (sym (doubles_told [] g bs own c s n is) ∙ h)))
 
 -- ---- packed blocks
 
@@ -77,5 +77,5 @@ pub single_of : (g : Geometry) (bs : List Block) (own : Owners) (c : Cat) → Sp
     → body_blocks bs n (told_of g bs n) ≡ map block_of (pack name_of k es) → IsSingle g bs n
 single_of g bs own c s n k es is sound order e =
     doubles_told [] g bs own c s n is
-    ∙ (ap (λ xs. is_double_dir (fields_told (header_block g bs n)) xs) e
-    ∙ by_fields (fields_told (header_block g bs n)) (map block_of (pack name_of k es)) (alike (map entries_at (map block_of (pack name_of k es))) ∙ single_packed k es sound.form sound.ranged order))
+    ∙ (ap (λ xs. is_double_dir (fields_in (told_of g bs n).head) xs) e
+    ∙ by_fields (fields_in (told_of g bs n).head) (map block_of (pack name_of k es)) (alike (map entries_at (map block_of (pack name_of k es))) ∙ single_packed k es sound.form sound.ranged order))

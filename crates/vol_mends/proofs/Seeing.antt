@@ -13,11 +13,11 @@ use Rattle.plain_cat.specs.declared.cat.File.{File}
 use Rattle.plain_rules.specs.Lookups.{file_at}
 use Rattle.vol_spell.specs.Spread.{blocks_at}
 use Rattle.vol_parts.specs.declared.geometry.Geometry.{Geometry}
-use Rattle.vol_parts.specs.Volumes.{volume, fields_in, runs_with, first_lbn, runs, body, fields}
+use Rattle.vol_parts.specs.Volumes.{Told, volume, first_lbn, runs, body, fields}
 use Rattle.vol_parts.specs.Fatal.{is_cluster_run}
 use Rattle.vol_parts.specs.Warnings.{has_doubles}
 use Rattle.vol_parts.specs.Findings.{home_at}
-use Rattle.vol_spell.specs.Reading.{IsFileNumber, header_block, runs_told}
+use Rattle.vol_spell.specs.Reading.{IsFileNumber, header_block, told_of}
 use Rattle.vol_mends.proofs.Views.{v_fields, v_runs, v_body}
 use Rattle.vol_mends.proofs.Tests.{cluster_run}
 use Rattle.vol_spell.specs.Entries.{places_in, blocks_of}
@@ -54,8 +54,8 @@ module _ (g : Geometry) (home : Home) (bs : List Block) (c : Cat) (t : IsTold g 
     is : IsFileNumber g n
     is = number g bs c n d has
 
-    runs_are : runs_told (header_block g bs n) ≡ runs_in (header_block g bs n)
-    runs_are = ap (λ r. runs_with (fields_in r) (header_block g bs n)) (at g bs c n d has).header
+    runs_are : (told_of g bs n).runs ≡ runs_in (header_block g bs n)
+    runs_are = ap (λ (t : Told). t.runs) (at g bs c n d has).told
 
     bodies : body (volume home bs) n ≡ blocks_of g bs n
     bodies =

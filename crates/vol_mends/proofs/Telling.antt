@@ -25,11 +25,10 @@ use Rattle.vol_spell.specs.Spelling.{Spells}
 use Rattle.vol_spell.specs.Owning.{IsClusterOf, IsNumberOf}
 use Rattle.vol_spell.proofs.Owned.{each_is_owned}
 use Rattle.vol_spell.proofs.Parts.{told}
-use Rattle.vol_spell.proofs.Told.{told_there}
 use Rattle.vol_spell.proofs.Picking.{any_place, has_any, place_any}
 use Rattle.vol_spell.proofs.Clusters.{run_of, of_run}
 use Rattle.vol_mends.specs.Weak.{NoOuts, shut}
-use Rattle.vol_mends.proofs.Views.{v, v_head, v_runs, v_quota_body, v_rows, v_total, v_cluster_bit, v_number_bit, v_files}
+use Rattle.vol_mends.proofs.Views.{v, v_told, v_runs, v_quota_body, v_rows, v_total, v_cluster_bit, v_number_bit, v_files}
 use Rattle.vol_mends.proofs.Tests.{count_range, map_range}
 
 pub same_free : (o : Owner) → is_same_owner Free o ≡ true → o ≡ Free
@@ -126,7 +125,7 @@ module _ (label : List ℕ) (g : Geometry) (bs : List Block) (own : Owners) (c :
         used_is p k = v_number_bit label g bs own c s n ∙ k.bit
 
         told_is : (m : ℕ) → IsFileNumber g m → told_in w m ≡ told_of g bs m
-        told_is m k = told_there w m (v_head label g bs own c s m k)
+        told_is m k = v_told label g bs own c s m k
 
         slots_to : (m : ℕ) → IsFileNumber g m → Has (told_of g bs m).slots n → is_in_slots w n ≡ true
         slots_to m k h =
@@ -146,7 +145,7 @@ module _ (label : List ℕ) (g : Geometry) (bs : List Block) (own : Owners) (c :
         by_owner : (p : Owner) → slice_get own.numbers (n - 1) ≡ Some p → IsNumberOf g bs n p → is_used_number w n && not (is_in_slots w n) ≡ is_same_owner Leaked p
         by_owner Free e k = ap (λ b. b && not (is_in_slots w n)) (used_is Free k)
         by_owner (InFile m) e k =
-            let own_is : IsFileNumber g m = subst (λ (j : ℕ). IsFileNumber g j) (sym (k.known m refl)) is in
+            let own_is : IsFileNumber g m = k.known m refl in
             ap (λ b. b && not (is_in_slots w n)) (used_is (InFile m) k) ∙ ap not (slots_to m own_is ((k.slots m own_is).1 refl))
         by_owner (Outside node) e k = absurd (no_number_out (n - 1) node e)
         by_owner Leaked e k =

@@ -19,7 +19,7 @@ use Rattle.plain_cat.specs.declared.cat.Cat.{Cat}
 use Rattle.plain_cat.specs.declared.cat.File.{File}
 use Rattle.plain_cat.specs.declared.cat.Slot.{Slot}
 use Rattle.plain_cat.specs.declared.cat.Slot.TheVariants.{Used, Free}
-use Rattle.plain_rules.specs.Lookups.{file_at, row_of, clusters_in}
+use Rattle.plain_rules.specs.Lookups.{file_at, row_of, clusters_in, file_most}
 use Rattle.plain_rules.proofs.Standing.{stands_at}
 use Rattle.plain_laws.proofs.Standing.{file_from}
 use Rattle.plain_mends.specs.Sound.{IsSystemFile}
@@ -27,20 +27,19 @@ use Rattle.vol_spell.specs.declared.owner.Owner.TheVariants.{InFile}
 use Rattle.vol_spell.specs.declared.owner.Owner.TheVariants as owner
 use Rattle.base_words.specs.Lists.{Has}
 use Rattle.vol_spell.specs.Owners.{Owners}
-use Rattle.vol_spell.specs.Counts.{is_same_owner}
 use Rattle.vol_spell.specs.Spread.{blocks_at}
 use Rattle.base_words.proofs.Listing.{same_or_not}
 use Rattle.vol_parts.specs.declared.finding.Finding.{Finding}
 use Rattle.vol_parts.specs.declared.finding.Finding.TheVariants as finding
 use Rattle.vol_parts.specs.declared.geometry.Geometry.{Geometry}
 use Rattle.vol_parts.specs.Parts.{storage_blocks}
-use Rattle.vol_parts.specs.Volumes.{Volume, volume, IsNumber, factor, total, head as head_of, used_slot, fields, runs, body, bitmap_lbn, is_free_cluster, is_used_number, is_in_files, active_rows}
+use Rattle.vol_parts.specs.Volumes.{Volume, volume, IsNumber, factor, total, head as head_of, used_slot, fields_in, fields, runs, body, bitmap_lbn, is_free_cluster, is_used_number, is_in_files, active_rows}
 use Rattle.vol_parts.specs.Catalogues.{is_structure, file_of, catalogue}
 use Rattle.vol_parts.specs.Fatal.{in_whole_clusters, stated_clusters, are_stated, is_system_header, is_system_file, scb_test, scb_fault, is_off_bounds, is_too_large, IsInRun, IsShared, is_cluster_run, has_dir_size, found_in, dir_test, dir_fault, has_two_rows, is_rowless, HasNoRoom, IsFatalIn}
 use Rattle.plain_rules.specs.SystemFiles.{is_system_directory}
 use Rattle.vol_parts.specs.Findings.{home_at, IsFatalBy, IsFatal, IsCatalogueBy}
 use Rattle.vol_faults.specs.CatFindings.{IsFatalOf}
-use Rattle.vol_spell.specs.Reading.{IsFileNumber, total_of, header_block, told_of, fields_told, runs_told, clusters_told, body_blocks, rows_told}
+use Rattle.vol_spell.specs.Reading.{IsFileNumber, total_of, header_block, told_of, clusters_told, body_blocks, rows_told}
 use Rattle.vol_spell.specs.Spelling.{IsHomeOf, dir_found, Tells, Spells}
 use Rattle.vol_spell.proofs.Owned.{each_is_owned}
 use Rattle.vol_spell.proofs.Parts.{slot_there, told}
@@ -80,23 +79,23 @@ module _ (label : List ℕ) (g : Geometry) (bs : List Block) (own : Owners) (c :
   -- ---- headers
 
   no_header : (n : ℕ) (fault : HeaderFault) → IsNumber w n → head_of w n ≡ Err fault → ⊥
-  no_header n fault is e = head_fault n (header_read (header_block g bs n)) fault (tells n (number n is)).reads (sym (v_head label g bs own c s n (number n is)) ∙ e)
+  no_header n fault is e = head_fault n (header_read (header_block g bs n)) fault (s.slots.heads n (number n is)) (sym (v_head label g bs own c s n (number n is)) ∙ e)
 
   right_number : (n : ℕ) (f : Hdr) → IsNumber w n → used_slot w n ≡ Some f → f.num ≡ n
-  right_number n f is e = head_number n (header_read (header_block g bs n)) f (tells n (number n is)).reads (sym (v_fields label g bs own c s n (number n is)) ∙ e)
+  right_number n f is e = head_number n (header_read (header_block g bs n)) f (s.slots.heads n (number n is)) (sym (ap fields_in (v_head label g bs own c s n (number n is))) ∙ e)
 
   -- the header of a file that stands in the catalogue
-  header_of : (n : ℕ) (f : File) → IsFileNumber g n → file_at c n ≡ Some f → TellsFile g.cluster n (header_read (header_block g bs n)) (body_blocks bs n (told_of g bs n)) f
+  header_of : (n : ℕ) (f : File) → IsFileNumber g n → file_at c n ≡ Some f → TellsFile g.cluster n (told_of g bs n).head (body_blocks bs n (told_of g bs n)) f
   header_of n f is at =
       let both : Some (get_or c.files (n - 1) (Free 0)) ≡ Some (Used f) = sym (slot_there g bs own c s n is) ∙ stands_at c n f at in
       let same : get_or c.files (n - 1) (Free 0) ≡ Used f = cc both in
-      tells_file g.cluster n (header_read (header_block g bs n)) (body_blocks bs n (told_of g bs n)) f ((tells n is).slot ∙ same)
+      tells_file g.cluster n (told_of g bs n).head (body_blocks bs n (told_of g bs n)) f ((tells n is).slot ∙ same)
 
   -- and the file of a header that is in use
-  file_told : (n : ℕ) (h : Hdr) → IsFileNumber g n → fields_told (header_block g bs n) ≡ Some h → slice_get c.files (n - 1) ≡ Some (Used (file_of g.cluster n h (body_blocks bs n (told_of g bs n))))
-  file_told n h is e = slot_there g bs own c s n is ∙ ap (λ (x : Slot). Some x) (sym (tells n is).slot ∙ told_file g.cluster n (header_read (header_block g bs n)) (body_blocks bs n (told_of g bs n)) h e)
+  file_told : (n : ℕ) (h : Hdr) → IsFileNumber g n → fields_in (told_of g bs n).head ≡ Some h → slice_get c.files (n - 1) ≡ Some (Used (file_of g.cluster n h (body_blocks bs n (told_of g bs n))))
+  file_told n h is e = slot_there g bs own c s n is ∙ ap (λ (x : Slot). Some x) (sym (tells n is).slot ∙ told_file g.cluster n (told_of g bs n).head (body_blocks bs n (told_of g bs n)) h e)
 
-  file_there : (n : ℕ) (h : Hdr) → IsFileNumber g n → fields_told (header_block g bs n) ≡ Some h → file_at c n ≡ Some (file_of g.cluster n h (body_blocks bs n (told_of g bs n)))
+  file_there : (n : ℕ) (h : Hdr) → IsFileNumber g n → fields_in (told_of g bs n).head ≡ Some h → file_at c n ≡ Some (file_of g.cluster n h (body_blocks bs n (told_of g bs n)))
   file_there n h is e = let from = is.from in file_from c n (file_of g.cluster n h (body_blocks bs n (told_of g bs n))) (omega (arith, from)) (file_told n h is e)
 
   -- ---- system files
@@ -114,7 +113,7 @@ module _ (label : List ℕ) (g : Geometry) (bs : List Block) (own : Owners) (c :
   runs_are n r is one = v_runs label g bs own c s n is ∙ one
 
   -- a directory has one run of one cluster
-  dir_run : (n : ℕ) (h : Hdr) → IsFileNumber g n → fields_told (header_block g bs n) ≡ Some h → h.dir ≡ true → is_cluster_run g.cluster (told_of g bs n).runs ≡ true
+  dir_run : (n : ℕ) (h : Hdr) → IsFileNumber g n → fields_in (told_of g bs n).head ≡ Some h → h.dir ≡ true → is_cluster_run g.cluster (told_of g bs n).runs ≡ true
   dir_run n h is e dir =
       let found : dir_found g n (Some h) (told_of g bs n).runs (body_blocks bs n (told_of g bs n)) ≡ None =
       ap (λ o. dir_found g n o (told_of g bs n).runs (body_blocks bs n (told_of g bs n))) (sym e) ∙ (tells n is).dir in
@@ -194,19 +193,19 @@ module _ (label : List ℕ) (g : Geometry) (bs : List Block) (own : Owners) (c :
       clash (is_off_bounds w p.item) p.passes (whole_within w p.item r.begins r.ends (omega (arith, i, t)))
 
   not_large : (n : ℕ) → IsNumber w n → 11 < n → is_too_large w (fields w n) ≡ true → ⊥
-  not_large n k high e = by_head (fields_told (header_block g bs n)) refl (ap (is_too_large w) (sym (v_fields label g bs own c s n (number n k))) ∙ e) where
+  not_large n k high e = by_head (fields_in (told_of g bs n).head) refl (ap (is_too_large w) (sym (v_fields label g bs own c s n (number n k))) ∙ e) where
     is : IsFileNumber g n
     is = number n k
 
-    by_head : (o : Option Hdr) → fields_told (header_block g bs n) ≡ o → is_too_large w o ≡ true → ⊥
+    by_head : (o : Option Hdr) → fields_in (told_of g bs n).head ≡ o → is_too_large w o ≡ true → ⊥
     by_head None at large = let x : false ≡ true = large in cc x
     by_head (Some h) at large =
         let size = size_told g own n (told_of g bs n) (body_blocks bs n (told_of g bs n)) (get_or c.files (n - 1) (Free 0)) low (tells n is) in
         let both : Some (get_or c.files (n - 1) (Free 0)) ≡ Some (Used (file_of g.cluster n h (body_blocks bs n (told_of g bs n)))) = sym (slot_there g bs own c s n is) ∙ file_told n h is at in
         let same : get_or c.files (n - 1) (Free 0) ≡ Used (file_of g.cluster n h (body_blocks bs n (told_of g bs n))) = cc both in
         let mine : h.blocks / g.cluster ≡ length (clusters_told g (told_of g bs n)) = ap clusters_in (sym same) ∙ size in
-        let few : length (clusters_told g (told_of g bs n)) ≤ 77 = (tells n is).few high in
-        let much : 77 < h.blocks / g.cluster = ltb-true 77 (h.blocks / g.cluster) large in
+        let few : length (clusters_told g (told_of g bs n)) ≤ file_most = (tells n is).few high in
+        let much : file_most < h.blocks / g.cluster = ltb-true file_most (h.blocks / g.cluster) large in
         omega (arith, mine, few, much)
 
   cluster_in : (q n i : ℕ) → IsInRun w q n i → IsFileNumber g n × Has (clusters_told g (told_of g bs n)) q
@@ -267,7 +266,7 @@ module _ (label : List ℕ) (g : Geometry) (bs : List Block) (own : Owners) (c :
     by_kind false e =
         same (fields w n) (told_of g bs n).runs (body_blocks bs n (told_of g bs n))
         (ap (λ o. dir_found g n o (told_of g bs n).runs (body_blocks bs n (told_of g bs n))) (v_fields label g bs own c s n is) ∙ (tells n is).dir) (v_runs label g bs own c s n is)
-        (v_body label g bs own c s n is ∙ ap (λ b. blocks_at bs (cond b [] (lbns_in (runs_told (header_block g bs n))))) (sym e))
+        (v_body label g bs own c s n is ∙ ap (λ b. blocks_at bs (cond b [] (lbns_in (told_of g bs n).runs))) (sym e))
 
   no_dir_fault : (n : ℕ) (f : Finding) → IsNumber w n → dir_fault w n ≡ Some f → ⊥
   no_dir_fault n f k e = let both : None ≡ Some f = sym (dir_fine n k) ∙ e in cc both
@@ -282,11 +281,11 @@ module _ (label : List ℕ) (g : Geometry) (bs : List Block) (own : Owners) (c :
       omega (arith, two, few, same)
 
   has_row : (n : ℕ) → IsNumber w n → is_rowless (active_rows w) (fields w n) ≡ true → ⊥
-  has_row n k e = by_head (fields_told (header_block g bs n)) refl (ap (λ rs. is_rowless rs (fields w n)) (sym (v_rows label g bs own c s)) ∙ e) where
+  has_row n k e = by_head (fields_in (told_of g bs n).head) refl (ap (λ rs. is_rowless rs (fields w n)) (sym (v_rows label g bs own c s)) ∙ e) where
     is : IsFileNumber g n
     is = number n k
 
-    by_head : (o : Option Hdr) → fields_told (header_block g bs n) ≡ o → is_rowless (rows_told g bs) (fields w n) ≡ true → ⊥
+    by_head : (o : Option Hdr) → fields_in (told_of g bs n).head ≡ o → is_rowless (rows_told g bs) (fields w n) ≡ true → ⊥
     by_head None at none = let x : false ≡ true = ap (is_rowless (rows_told g bs)) (sym at ∙ sym (v_fields label g bs own c s n is)) ∙ none in cc x
     by_head (Some h) at none =
         let f : File = file_of g.cluster n h (body_blocks bs n (told_of g bs n)) in
@@ -311,16 +310,10 @@ module _ (label : List ℕ) (g : Geometry) (bs : List Block) (own : Owners) (c :
   no_free_number : (n : ℕ) → IsNumber w n → is_used_number w n ≡ false → is_some (used_slot w n) ≡ true → ⊥
   no_free_number n k unused used =
       let is = number n k in
-      let r = each_is_owned.numbers g bs own c n s is in
-      let bit : not (is_same_owner owner.Free r.0) ≡ false = sym r.2.bit ∙ (sym (v_number_bit label g bs own c s n) ∙ unused) in
-      let free_is : r.0 ≡ owner.Free = same_free r.0 (not_false (is_same_owner owner.Free r.0) bit) in
-      let file_is : r.0 ≡ InFile n = r.2.file.0 (ap (λ o. is_some o) (sym (v_fields label g bs own c s n is)) ∙ used) in
-      let both : owner.Free ≡ InFile n = sym free_is ∙ file_is in
+      let free : slice_get own.numbers (n - 1) ≡ Some owner.Free = (s.owners.number_bits n is).0 (sym (v_number_bit label g bs own c s n) ∙ unused) in
+      let none : used_slot w n ≡ None = ap fields_in (v_head label g bs own c s n is) ∙ s.slots.blank n is free in
+      let both : false ≡ true = sym (ap is_some none) ∙ used in
       cc both
-    where
-      not_false : (b : Bool) → not b ≡ false → b ≡ true
-      not_false true e = refl
-      not_false false e = absurd (cc e)
 
   -- ---- all
 

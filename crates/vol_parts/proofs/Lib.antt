@@ -1,7 +1,12 @@
+pub mod Alone
 pub mod Bytes
+pub mod ChainSteps
+pub mod Cuts
 pub mod FirstLemmas
 pub mod Groups
 pub mod Headers
+pub mod Linked
+pub mod Listed
 pub mod Moving
 pub mod Names
 pub mod Owners
@@ -11,8 +16,10 @@ pub mod Sized
 pub mod Sizes
 pub mod Slots
 pub mod Tables
+pub mod Walks
 pub mod WholeFields
 pub mod WholeHeaders
 pub mod WholeRanges
 pub mod Factors
+pub mod Splits
 pub mod Structures

@@ -2,13 +2,19 @@
 use Rattle.std.proofs.Common.{◌≡◌, ◌∙◌, ◌+◌, ◌-◌, ◌*◌, ◌%◌, ◌<◌, ◌≤◌, ◌==◌, ◌&&◌, nat_le, ℕ, zero, suc, List, [], ◌∷◌, ◌++◌, length, take, drop, get_or, slice_range, false, map, refl, ap, arith, drop-cons, append-nil}
 use Rattle.std.specs.List.{range_with_len, list_any}
 use Rattle.std.proofs.lemmas.List.{map-append}
+use Rattle.std.proofs.lemmas.List.Concat.{length-flat_map}
+use Rattle.std.proofs.lemmas.List.FromFn.{length-range_with_len}
 use Rattle.std.proofs.lemmas.Bool.{and_parts, or_parts, leb-true, not-false}
 use Rattle.std.proofs.Math.Nat.{mul-div-le}
 use Rattle.base_words.specs.Fields.{Block}
 use Rattle.fx_header.specs.declared.run.Run.{Run}
-use Rattle.fx_header.specs.Pointers.{lbns_in}
+use Rattle.fx_header.specs.Pointers.{blocks_in, lbns_in}
 use Rattle.vol_parts.specs.Volumes.{Volume, factor, total, block_at, runs, body}
 use Rattle.vol_parts.specs.Fatal.{is_off_bounds}
+
+-- the blocks of runs are as many as they say
+pub length-lbns_in : (rs : List Run) → length (lbns_in rs) ≡ blocks_in rs
+length-lbns_in rs = length-flat_map (λ (r : Run). range_with_len r.lbn r.count) rs ∙ simp length-range_with_len
 
 -- neighbouring blocks are a part of all
 taken : (bs : List Block) (a n : ℕ) → a + n ≤ length bs → map (λ k. get_or bs k []) (range_with_len a n) ≡ take n (drop a bs)

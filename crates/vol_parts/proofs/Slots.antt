@@ -1,11 +1,24 @@
 -- A number belongs to a file exactly where its own slot is used, since a file has one header.
-use Rattle.std.proofs.Common.{◌≡◌, ◌+◌, ◌<◌, ◌≤◌, ℕ, zero, suc, Bool, true, false, Option, Some, None, refl, sym, ap, ◌∙◌, arith}
+use Rattle.std.proofs.Common.{◌≡◌, ◌+◌, ◌<◌, ◌≤◌, ℕ, zero, suc, Bool, true, false, List, [], ◌∷◌, Option, Some, None, refl, sym, ap, ◌∙◌, arith}
 use Rattle.std.specs.Prelude.{◌==◌, ◌&&◌, ◌||◌, is_some}
 use Rattle.std.specs.List.{range_with_len, list_any}
 use Rattle.std.proofs.lemmas.Bool.{eqb-true, eq-eqb}
 use Rattle.std.proofs.lemmas.Bool.Decides.{nat_tests}
 use Rattle.fx_header.specs.declared.slot.Hdr.{Hdr}
-use Rattle.vol_parts.specs.Volumes.{Volume, IsNumber, numbers, fields, slots_with, is_slot_of, is_in_slots}
+use Rattle.vol_parts.specs.Volumes.{Volume, IsNumber, numbers, fields, Told, told, is_slot_of, is_in_slots}
+use Rattle.vol_parts.proofs.Alone.{alone_told, none_told}
+use Rattle.vol_parts.proofs.Sizes.{fields-head}
+
+abbrev slots_with : Option Hdr → ℕ → List ℕ
+slots_with (Some f) n = n ∷ []
+slots_with None n = []
+
+-- a file has the slot of its own number alone
+slots_are : (v : Volume) (n : ℕ) → (told v n).slots ≡ slots_with (fields v n) n
+slots_are v n = by_fields (fields v n) refl where
+  by_fields : (o : Option Hdr) → fields v n ≡ o → (told v n).slots ≡ slots_with (fields v n) n
+  by_fields (Some f) e = ap (λ (t : Told). t.slots) (alone_told v n f (fields-head v n f e)) ∙ ap (λ o. slots_with o n) (sym e)
+  by_fields None e = ap (λ (t : Told). t.slots) (none_told v n e) ∙ ap (λ o. slots_with o n) (sym e)
 
 own_slot : (o : Option Hdr) (n m : ℕ) → list_any (λ k. k == m) (slots_with o n) ≡ (is_some o && (n == m))
 own_slot None n m = refl
@@ -16,10 +29,10 @@ own_slot (Some f) n m = by_test (n == m) where
 
 slot_here : (v : Volume) (m n : ℕ) → is_some (fields v m) ≡ true → n ≡ m → is_slot_of v m n ≡ true
 slot_here v m n used e =
-    own_slot (fields v n) n m ∙ ap (λ k. is_some (fields v k) && (k == m)) e ∙ ap (λ t. t && (m == m)) used ∙ eq-eqb m m refl
+    ap (list_any (λ k. k == m)) (slots_are v n) ∙ own_slot (fields v n) n m ∙ ap (λ k. is_some (fields v k) && (k == m)) e ∙ ap (λ t. t && (m == m)) used ∙ eq-eqb m m refl
 
 no_slot : (v : Volume) (m n : ℕ) → is_some (fields v m) ≡ false → is_slot_of v m n ≡ false
-no_slot v m n free = own_slot (fields v n) n m ∙ by_test (n == m) refl where
+no_slot v m n free = ap (list_any (λ k. k == m)) (slots_are v n) ∙ own_slot (fields v n) n m ∙ by_test (n == m) refl where
   and_none : (t : Bool) → (t && false) ≡ false
   and_none true = refl
   and_none false = refl

@@ -7,9 +7,9 @@ use Rattle.base_words.proofs.Tables.{rises}
 use Rattle.fx_header.specs.declared.run.Run.{Run}
 use Rattle.fx_header.specs.declared.slot.Hdr.{Hdr}
 use Rattle.fx_header.specs.Pointers.{word, long, first_word, pointer_bytes, merged, map_words, blocks_in}
-use Rattle.fx_header.specs.Headers.{has_offsets, map_offset, map_area, high_first_rows, area_rows, size_rows, owner_rows, new_rows, filled, with_name, header_bytes, with_flags, marked, scattered, with_mark, with_end, with_runs, freed}
+use Rattle.fx_header.specs.Headers.{has_offsets, map_offset, map_area, high_first_rows, id_rows, area_rows, size_rows, owner_rows, new_rows, filled, with_name, header_bytes, with_flags, marked, scattered, with_mark, with_end, with_words, with_runs, with_map, with_blocks, with_link, freed}
 use Rattle.fx_header.proofs.SoundLemmas.{areas-of}
-use Rattle.vol_parts.specs.Laws.{WholeHeader, WholeRuns, WholeMark, WholeEnd, WholeMarked, WholeScattered, WholeFreed}
+use Rattle.vol_parts.specs.Laws.{WholeHeader, WholeRuns, WholeMap, WholeBlocks, WholeLink, WholeMark, WholeEnd, WholeMarked, WholeScattered, WholeFreed}
 use Rattle.vol_parts.proofs.Bytes.{bytes-none, bytes-append, bytes-take, bytes-drop, bytes-replicate, bytes-little}
 use Rattle.vol_parts.proofs.WholeFields.{whole_zeros, whole_put, whole_field, whole_summed, whole-laid}
 use Rattle.fx_header.proofs.NewLemmas.{length-filled}
@@ -88,14 +88,30 @@ bytes-pointers (r ∷ runs) = bytes-append (pointer_bytes r) (flat_map pointer_b
 area-ends : (b : Block) → has_offsets b ≡ true → 2 * map_offset b + 2 * map_area b ≤ 510
 area-ends b off = let areas = areas-of b off in omega (arith, areas.inside, areas.reserved)
 
-pub whole_runs : WholeRuns
-unfolding with_runs
-whole_runs b runs whole off room =
+whole-words : (b : Block) (runs : List Run) → IsWholeBlock b → has_offsets b ≡ true → length (map_words runs) ≤ 2 * map_area b
+    → IsWholeBlock (with_words b (map_words runs))
+whole-words b runs whole off room =
     let start : ℕ = 2 * map_offset b in
     let words : List ℕ = map_words runs in
     let p : Block = put b start words in
-    let q : Block = put_field p 58 1 (length words / 2) in
     let ends = area-ends b off in
     let whole_p : IsWholeBlock p = whole_put b start words whole (bytes-pointers (merged runs)) (omega arith) in
-    let whole_q : IsWholeBlock q = whole_field p 58 1 (length words / 2) whole_p (omega arith) in
-    whole_summed (laid (high_first_rows 24 (blocks_in runs)) q) (whole-high q 24 (blocks_in runs) whole_q (omega arith))
+    whole_field p 58 1 (length words / 2) whole_p (omega arith)
+
+pub whole_runs : WholeRuns
+unfolding with_runs
+whole_runs b runs whole off room =
+    let q : Block = with_words b (map_words runs) in
+    whole_summed (laid (high_first_rows 24 (blocks_in runs)) q) (whole-high q 24 (blocks_in runs) (whole-words b runs whole off room) (omega arith))
+
+pub whole_map : WholeMap
+unfolding with_map
+whole_map b runs whole off room = whole_summed (with_words b (map_words runs)) (whole-words b runs whole off room)
+
+pub whole_blocks : WholeBlocks
+unfolding with_blocks
+whole_blocks b blocks whole = whole_summed (laid (high_first_rows 24 blocks) b) (whole-high b 24 blocks whole (omega arith))
+
+pub whole_link : WholeLink
+unfolding with_link
+whole_link b num seq whole = whole_summed (laid (id_rows 14 num seq) b) (whole-laid 14 (id_rows 14 num seq) b refl whole)

@@ -18,7 +18,7 @@ use Rattle.plain_cat.specs.declared.cat.Slot.TheVariants.{Used, Free}
 use Rattle.plain_cat.specs.declared.cat.QuotaRow.{QuotaRow}
 use Rattle.plain_rules.specs.Lookups.{clusters_in}
 use Rattle.plain_rules.specs.Changes.{with_row}
-use Rattle.vol_parts.specs.Volumes.{Volume, factor, total, numbers, head as head_of, body, is_in_files, is_in_slots, is_free_cluster, is_used_number, active_rows}
+use Rattle.vol_parts.specs.Volumes.{Volume, factor, total, numbers, first_head, body, is_in_files, is_in_slots, is_free_cluster, is_used_number, active_rows}
 
 -- an entry without the version limit and the flags of its record
 abbrev pub plain_entry : RawEnt → DirEnt
@@ -67,7 +67,7 @@ slot_with factor n (Err fault) blocks = Free 0
 
 -- what a file number has
 unfoldable pub slot_of : Volume → ℕ → Slot
-slot_of v n = slot_with (factor v) n (head_of v n) (body v n)
+slot_of v n = slot_with (factor v) n (first_head v n) (body v n)
 
 -- all files
 unfoldable pub files_of : Volume → List Slot

@@ -16,13 +16,13 @@ use Rattle.fx_quota.specs.declared.types.Row.{Row}
 use Rattle.plain_cat.specs.declared.entries.DirEnt.{DirEnt}
 use Rattle.plain_cat.specs.declared.cat.Cat.{Cat}
 use Rattle.plain_cat.specs.declared.cat.File.{File}
-use Rattle.plain_rules.specs.Lookups.{file_at, in_use}
+use Rattle.plain_rules.specs.Lookups.{file_at, in_use, file_most}
 use Rattle.plain_rules.specs.Answers.{has_entries}
 use Rattle.plain_rules.specs.Mending.{lost, enter, enter_all, stripped}
 use Rattle.vol_parts.specs.declared.finding.Finding.{Finding}
 use Rattle.vol_parts.specs.declared.finding.Finding.TheVariants as finding
 use Rattle.vol_parts.specs.Parts.{storage_blocks}
-use Rattle.vol_parts.specs.Volumes.{Volume, IsNumber, factor, total, block_at, head as head_of, used_slot, fields, most_clusters, runs, is_in_run, is_in_files, bitmap_lbn, is_free_cluster, is_used_number, body, active_rows}
+use Rattle.vol_parts.specs.Volumes.{Volume, IsNumber, factor, total, block_at, head as head_of, used_slot, fields, runs, is_in_run, is_in_files, bitmap_lbn, is_free_cluster, is_used_number, body, active_rows}
 use Rattle.vol_parts.specs.Catalogues.{catalogue}
 use Rattle.plain_rules.specs.SystemFiles.{system_seq, is_system_directory, entries_of, is_system_entry}
 
@@ -73,10 +73,10 @@ scb_fault v = scb_test v (scb_read (block_at v (bitmap_lbn v)))
 unfoldable pub is_off_bounds : Volume → Run → Bool
 is_off_bounds v r = not ((r.lbn % factor v == 0) && ((r.count % factor v == 0) && nat_le (r.lbn + r.count) (factor v * total v)))
 
--- more clusters than a header lists
+-- more clusters than a file above number 11 has
 abbrev pub is_too_large : Volume → Option Hdr → Bool
 is_too_large v None = false
-is_too_large v (Some f) = nat_lt most_clusters (f.blocks / factor v)
+is_too_large v (Some f) = nat_lt file_most (f.blocks / factor v)
 
 -- run i, from 0, of the file n has the cluster q
 pub record IsInRun (v : Volume) (q n i : ℕ) : Type 0 where

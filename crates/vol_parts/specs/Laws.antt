@@ -9,7 +9,7 @@ use Rattle.fx_bitmap.specs.Bits.{bits_put}
 use Rattle.fx_header.specs.declared.run.Run.{Run}
 use Rattle.fx_header.specs.declared.slot.Hdr.{Hdr}
 use Rattle.fx_header.specs.Pointers.{map_words}
-use Rattle.fx_header.specs.Headers.{has_offsets, map_area, header_bytes, with_runs, with_mark, with_end, marked, scattered, freed}
+use Rattle.fx_header.specs.Headers.{has_offsets, map_area, header_bytes, with_runs, with_map, with_blocks, with_link, with_mark, with_end, marked, scattered, freed}
 use Rattle.fx_dir.specs.declared.RawEnt.{RawEnt}
 use Rattle.fx_dir.specs.declared.Move.{Move}
 use Rattle.fx_dir.specs.Lists.{Each}
@@ -59,6 +59,18 @@ abbrev pub WholeRuns : Type 0
 WholeRuns =
     (b : Block) (runs : List Run) → IsWholeBlock b → IsTrue (has_offsets b) → length (map_words runs) ≤ 2 * map_area b
     → IsWholeBlock (with_runs b runs)
+
+-- the same runs alone, the blocks alone, and the next header
+abbrev pub WholeMap : Type 0
+WholeMap =
+    (b : Block) (runs : List Run) → IsWholeBlock b → IsTrue (has_offsets b) → length (map_words runs) ≤ 2 * map_area b
+    → IsWholeBlock (with_map b runs)
+
+abbrev pub WholeBlocks : Type 0
+WholeBlocks = (b : Block) (blocks : ℕ) → IsWholeBlock b → IsWholeBlock (with_blocks b blocks)
+
+abbrev pub WholeLink : Type 0
+WholeLink = (b : Block) (num seq : ℕ) → IsWholeBlock b → IsWholeBlock (with_link b num seq)
 
 abbrev pub WholeMark : Type 0
 WholeMark = (b : Block) (mark : ℕ) → IsWholeBlock b → IsWholeBlock (with_mark b mark)

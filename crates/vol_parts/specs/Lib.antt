@@ -1,4 +1,6 @@
 pub mod Catalogues
+pub mod ChainLaws
+pub mod Chains
 pub mod Conditions
 pub mod Fatal
 pub mod Findings

@@ -1,5 +1,5 @@
 -- What the blocks of a volume say, part by part, once the home block has told the cluster factor and the file numbers.
-use Rattle.std.specs.Prelude.{◌+◌, ◌*◌, ◌-◌, ◌/◌, ◌%◌, ◌≤◌, ◌==◌, ◌&&◌, nat_lt, ℕ, Bool, List, [], ◌∷◌, Option, Some, None, Result, Ok, Err, length, map, flat_map, slice_index_or, if◌then◌else◌}
+use Rattle.std.specs.Prelude.{◌+◌, ◌*◌, ◌-◌, ◌/◌, ◌%◌, ◌≤◌, ◌==◌, ◌&&◌, nat_lt, ℕ, Bool, false, List, [], ◌∷◌, Option, Some, None, Result, Ok, Err, length, map, flat_map, slice_index_or, if◌then◌else◌}
 use Rattle.std.specs.List.{range_with_len, list_any, filter_map}
 use Rattle.base_words.specs.Fields.{Block}
 use Rattle.fx_home.specs.declared.home.Home.{Home}
@@ -15,6 +15,7 @@ use Rattle.fx_bitmap.specs.Bits.{bit_at}
 use Rattle.fx_quota.specs.declared.types.Row.{Row}
 use Rattle.fx_quota.specs.Rows.{row_at}
 use Rattle.vol_parts.specs.declared.geometry.Geometry.{Geometry}
+use Rattle.vol_parts.specs.Chains.{Headers, HeaderChain, as_first, chain_of}
 
 -- a volume: what its home block says, and all of its blocks
 pub record Volume : Type 0 where
@@ -65,37 +66,51 @@ fields_in (Err fault) = None
 abbrev pub used_slot : Volume → ℕ → Option Hdr
 used_slot v n = fields_in (head v n)
 
--- the fields of the file of a number, where the file is in use: those of its first header, which has the slot of that number
-abbrev pub fields : Volume → ℕ → Option Hdr
-fields v n = used_slot v n
+-- what the slot of a number says as the first header of a file, which has the slot of the file's number
+abbrev pub first_head : Volume → ℕ → Result Slot HeaderFault
+first_head v n = as_first (head v n)
 
--- the most clusters that a header lists, where its number is above 11
-abbrev pub most_clusters : ℕ
-most_clusters = 77
+-- the fields of the file of a number, where the file is in use: those of its first header
+abbrev pub fields : Volume → ℕ → Option Hdr
+fields v n = fields_in (first_head v n)
 
 -- ---- what is told of a file
 
--- what is told of the file of a number: what the slot of its first header says, the numbers of all its header slots, and its
--- runs, in order
+-- what is told of the file of a number: what the slot of its first header says, the numbers of all its header slots, the runs that
+-- each of these headers lists, the runs of the file, in order, and whether something is listed behind them
 pub record Told : Type 0 where
   pub head : Result Slot HeaderFault
   pub slots : List ℕ
+  pub parts : List (List Run)
   pub runs : List Run
-
-abbrev pub slots_with : Option Hdr → ℕ → List ℕ
-slots_with (Some f) n = n ∷ []
-slots_with None n = []
+  pub surplus : Bool
 
 abbrev pub runs_with : Option Hdr → Block → List Run
 runs_with (Some f) b = runs_in b
 runs_with None b = []
 
--- by the block in the slot of that number, of which this is said: a file has one header
-abbrev pub told_by : ℕ → Result Slot HeaderFault → Block → Told
-told_by n said b = record { head = said; slots = slots_with (fields_in said) n; runs = runs_with (fields_in said) b }
+-- the runs that the header in the slot of a number lists, in order
+abbrev pub listed_in : Volume → ℕ → List Run
+listed_in v n = runs_with (used_slot v n) (header_at v n)
+
+-- what the header slots of a volume say
+abbrev pub headers_of : Volume → Headers
+headers_of v = record { files = v.home.files; says = used_slot v; lists = listed_in v }
+
+-- the chain of the file whose first header is in slot n, if there is one
+abbrev pub chain_from : Headers → ℕ → Option Hdr → HeaderChain
+chain_from h n (Some f) = chain_of h n f
+chain_from h n None = record { slots = []; parts = []; runs = []; surplus = false }
+
+abbrev pub told_with : Result Slot HeaderFault → HeaderChain → Told
+told_with said c = record { head = said; slots = c.slots; parts = c.parts; runs = c.runs; surplus = c.surplus }
+
+-- what slots tell of the file of a number, of whose slot this is said as a first header
+abbrev pub told_by : Headers → ℕ → Result Slot HeaderFault → Told
+told_by h n said = told_with said (chain_from h n (fields_in said))
 
 abbrev pub told : Volume → ℕ → Told
-told v n = told_by n (head v n) (header_at v n)
+told v n = told_by (headers_of v) n (first_head v n)
 
 -- a number is that of a header slot of file n
 abbrev pub is_slot_of : Volume → ℕ → ℕ → Bool

@@ -1,6 +1,6 @@
 ghost use Rattle.std.specs.Prelude.{◌≡◌, ◌+◌, ◌*◌, ◌/◌, ◌≤◌, ◌<◌, ◌++◌, length, slice_range, IfOk, OnOk};
 ghost use Rattle.fx_home.specs.Homes.{IsWithinLimits};
-ghost use Rattle.vol_parts.specs.Volumes.{volume, IsNumber, fields, runs, first_lbn, bitmap_lbn, is_used_number, is_free_cluster, body};
+ghost use Rattle.vol_parts.specs.Volumes.{volume, IsNumber, fields, listed_in, runs, first_lbn, bitmap_lbn, is_used_number, is_free_cluster, body};
 ghost use Rattle.vol_parts.specs.Iter.{file_runs_left};
 ghost use Rattle.vol_parts.specs.Conditions.{HasRunsInside};
 
@@ -49,12 +49,11 @@ impl Iterator for FileRuns<'_> {
     }
 }
 
-/// The runs of the file of a number, in order. A number that is not in use has none.
-#[tactic(auto, unfolding(crate::specs::Volumes::runs))]
-pub fn file_runs<'a>(home: &Home, blocks: &'a [Block], n: u32) -> FileRuns<'a>
+// The runs that the header in the slot of a number lists, in order. A slot that is not used lists none.
+pub(crate) fn slot_runs<'a>(home: &Home, blocks: &'a [Block], n: u32) -> FileRuns<'a>
     requires limits { IsWithinLimits home.now }
     requires number { IsNumber (volume home.now blocks.now) n }
-    ensures { file_runs_left result ≡ runs (volume home.now blocks.now) n }
+    ensures { file_runs_left result ≡ listed_in (volume home.now blocks.now) n }
 {
     match head(home, blocks, n) {
         Ok(Slot::Used(_)) => FileRuns {
@@ -63,6 +62,16 @@ pub fn file_runs<'a>(home: &Home, blocks: &'a [Block], n: u32) -> FileRuns<'a>
         Ok(Slot::Free(_)) => FileRuns { header: None },
         Err(_) => FileRuns { header: None },
     }
+}
+
+/// The runs of the file of a number, in order. A number that is not in use has none.
+#[tactic(auto, unfolding(crate::specs::Volumes::runs))]
+pub fn file_runs<'a>(home: &Home, blocks: &'a [Block], n: u32) -> FileRuns<'a>
+    requires limits { IsWithinLimits home.now }
+    requires number { IsNumber (volume home.now blocks.now) n }
+    ensures { file_runs_left result ≡ runs (volume home.now blocks.now) n }
+{
+    slot_runs(home, blocks, n)
 }
 
 /// The LBN at which a file's first run begins, 0 where it has none.

@@ -8,7 +8,8 @@
 //! ```
 //!
 //! Each call gives exactly what the definition says of the blocks: `guard` the part that a block is, `fields` a file's header,
-//! `body` its blocks, `read_catalogue` the catalogue. Some ask for what earlier findings exclude, such as runs outside the volume
+//! `body` its blocks, `read_catalogue` the catalogue, `chain_slots` the header slots of a file that may have several (the checks of
+//! a volume will call it). Some ask for what earlier findings exclude, such as runs outside the volume
 //! (`requires`). Laws (`whole`): whatever the format crates write is a whole block, one of 512 bytes.
 //!
 //! All crates of volumes, commands and the core use it.
@@ -16,6 +17,7 @@
 
 mod bodies;
 mod catalogue;
+pub mod chains;
 mod dirs;
 mod finding;
 mod geometry;
@@ -25,6 +27,7 @@ pub mod whole;
 
 pub use bodies::{FileRuns, body, fields, file_runs, first_lbn, is_free_cluster, is_used_number};
 pub use catalogue::{files, plain_entries, plain_entry, read_catalogue, read_entries, slot};
+pub use chains::{MOST_HEADERS, chain_slots, cut};
 pub use dirs::{dir_fault, first_bad_directory};
 pub use finding::Finding;
 pub use geometry::{Geometry, Part, guard};

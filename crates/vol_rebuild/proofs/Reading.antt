@@ -1,5 +1,5 @@
 -- What blocks that tell a catalogue have.
-use Rattle.std.proofs.Common.{◌≡◌, ◌≤◌, ◌<◌, ◌/◌, ◌-◌, ◌∙◌, inl, inr, ℕ, false, cond, List, [], ◌∷◌, Option, Some, None, length, replicate, get_or, refl, sym, ap, arith}
+use Rattle.std.proofs.Common.{◌≡◌, ◌≤◌, ◌<◌, ◌/◌, ◌-◌, ◌∙◌, inl, inr, ℕ, false, cond, List, [], ◌∷◌, Option, Some, None, length, replicate, get_or, refl, sym, ap, subst, arith}
 use Rattle.std.specs.Prelude.{All}
 use Rattle.std.proofs.lemmas.List.{length-map}
 use Rattle.std.proofs.lemmas.List.Elements.{All-nil, All-cons}
@@ -7,7 +7,7 @@ use Rattle.std.proofs.lemmas.List.Sums.{count_by-le-length}
 use Rattle.std.proofs.Math.Nat.{div-le_self}
 use Rattle.std.proofs.lemmas.Option.{slice_get_within}
 use Rattle.base_words.specs.Fields.{Block}
-use Rattle.fx_header.specs.Headers.{header_read}
+use Rattle.fx_header.specs.Pointers.{lbns_in}
 use Rattle.fx_dir.specs.Directory.{directory}
 use Rattle.plain_cat.specs.declared.cat.Cat.{Cat}
 use Rattle.plain_cat.specs.declared.cat.File.{File}
@@ -30,6 +30,7 @@ use Rattle.vol_spell.specs.Reading.{IsFileNumber, header_block, header_place, to
 use Rattle.vol_spell.specs.Spelling.{Spells}
 use Rattle.vol_spell.proofs.Parts.{slot_there, told, in_file, part_owned}
 use Rattle.vol_spell.proofs.Frames.{on_volume}
+use Rattle.vol_spell.proofs.HeadSlots.{alone_runs}
 use Rattle.vol_mends.specs.Weak.{CanMend}
 use Rattle.vol_mends.proofs.Tests.{TellsFile, tells_file}
 use Rattle.vol_mends.proofs.AcceptedSteps.{weak_can_mend, told_shut}
@@ -98,12 +99,12 @@ module _ (g : Geometry) (bs : List Block) (c : Cat) (t : IsTold g bs c) where
       record { from = omega (arith, rises); to = omega (arith, rises, within, long) }
 
   -- the header of a file
-  pub header_of : (n : ℕ) (f : File) → file_at c n ≡ Some f → TellsFile g.cluster n (header_read (header_block g bs n)) (body_blocks bs n (told_of g bs n)) f
+  pub header_of : (n : ℕ) (f : File) → file_at c n ≡ Some f → TellsFile g.cluster n (told_of g bs n).head (body_blocks bs n (told_of g bs n)) f
   header_of n f at =
       let is = number n f at in
       let both : Some (get_or c.files (n - 1) (Free 0)) ≡ Some (Used f) = sym (slot_there g bs (owned g bs c t).own c s n is) ∙ stands_at c n f at in
       let same : get_or c.files (n - 1) (Free 0) ≡ Used f = cc both in
-      tells_file g.cluster n (header_read (header_block g bs n)) (body_blocks bs n (told_of g bs n)) f ((told g bs (owned g bs c t).own c s n is).slot ∙ same)
+      tells_file g.cluster n (told_of g bs n).head (body_blocks bs n (told_of g bs n)) f ((told g bs (owned g bs c t).own c s n is).slot ∙ same)
 
   -- a file that is no directory has no entries
   pub plain_file : (n : ℕ) (f : File) → file_at c n ≡ Some f → f.dir ≡ false → f.entries ≡ []
@@ -116,7 +117,7 @@ module _ (g : Geometry) (bs : List Block) (c : Cat) (t : IsTold g bs c) where
   pub there : (n : ℕ) → IsFileNumber g n → IsThere g bs n
   there n is = record {
     header = on_volume g bs (owned g bs c t).own c s (header_place g n) (InFile 1) (part_owned g bs (owned g bs c t).own c s (Header n) is);
-    blocks = all_has (λ l. l < length bs) (places_told (header_block g bs n)) (λ l h. on_volume g bs (owned g bs c t).own c s l (InFile n) (in_file g bs (owned g bs c t).own c s n l is h));
+    blocks = all_has (λ l. l < length bs) (places_told (header_block g bs n)) (λ l h. on_volume g bs (owned g bs c t).own c s l (InFile n) (in_file g bs (owned g bs c t).own c s n l is (subst (λ rs. Has (lbns_in rs) l) (sym (alone_runs g bs (owned g bs c t).own c s n is)) h)));
   }
 
   pub sizes : HasFileSizes c

@@ -13,14 +13,14 @@ spelt_line-begins : (line rest : List ℕ) → IsShort line → BeginsWith line 
 unfolding spelt_line
 spelt_line-begins line rest short =
     let count : List ℕ = little_bytes 2 (length line) in
-    let fill : List ℕ = replicate (length line % 2) 0 in
+    let padding : List ℕ = replicate (length line % 2) 0 in
     record {
       count = count;
-      fill = fill;
+      padding = padding;
       two_bytes = length-bytes_low_first 0 2 (length line);
       says_length = ap (little_number 2) (sym (append-nil count)) ∙ little_number-reads_back 2 (length line) [] (omega arith);
       even = length-replicate (length line % 2) 0;
-      in_order = append_assoc count (line ++ fill) rest ∙ ap (λ l. count ++ l) (append_assoc line fill rest);
+      in_order = append_assoc count (line ++ padding) rest ∙ ap (λ l. count ++ l) (append_assoc line padding rest);
     }
 
 -- so the stream of lines is their records

@@ -17,29 +17,29 @@ IsShort line = length line ≤ 32767
 -- the record of a line at the front is read as it is
 pub length-begins : (line stream rest : List ℕ) → BeginsWith line stream rest → length stream ≡ room_of (length line) + length rest
 length-begins line stream rest h =
-    omega (arith, ap length h.in_order, length-append h.count (line ++ (h.fill ++ rest)), length-append line (h.fill ++ rest), length-append h.fill rest, h.two_bytes, h.even)
+    omega (arith, ap length h.in_order, length-append h.count (line ++ (h.padding ++ rest)), length-append line (h.padding ++ rest), length-append h.padding rest, h.two_bytes, h.even)
 
 pub front_record-begins : (at : ℕ) (line stream rest : List ℕ) → IsShort line → BeginsWith line stream rest → front_record at stream ≡ Ok (record { from = at + 2; len = length line })
 unfolding front_record
 front_record-begins at line stream rest short h =
-    let count : little_number 2 stream ≡ length line = ap (little_number 2) h.in_order ∙ little_from-append 2 h.count (line ++ (h.fill ++ rest)) (omega (arith, h.two_bytes)) ∙ h.says_length in
+    let count : little_number 2 stream ≡ length line = ap (little_number 2) h.in_order ∙ little_from-append 2 h.count (line ++ (h.padding ++ rest)) (omega (arith, h.two_bytes)) ∙ h.says_length in
     let long = length-begins line stream rest h in
     rw (count, long) (grind (arith, nat_tests))
 
 pub drop-begins : (line stream rest : List ℕ) → BeginsWith line stream rest → drop (room_of (length line)) stream ≡ rest
 drop-begins line stream rest h =
-    let grouped : h.count ++ (line ++ (h.fill ++ rest)) ≡ (h.count ++ (line ++ h.fill)) ++ rest =
-    sym (append_assoc h.count (line ++ h.fill) rest ∙ ap (λ l. h.count ++ l) (append_assoc line h.fill rest)) in
-    let long : length (h.count ++ (line ++ h.fill)) ≡ room_of (length line) = omega (arith, length-append h.count (line ++ h.fill), length-append line h.fill, h.two_bytes, h.even) in
-    ap (drop (room_of (length line))) (h.in_order ∙ grouped) ∙ drop_at (h.count ++ (line ++ h.fill)) rest (room_of (length line)) long
+    let grouped : h.count ++ (line ++ (h.padding ++ rest)) ≡ (h.count ++ (line ++ h.padding)) ++ rest =
+    sym (append_assoc h.count (line ++ h.padding) rest ∙ ap (λ l. h.count ++ l) (append_assoc line h.padding rest)) in
+    let long : length (h.count ++ (line ++ h.padding)) ≡ room_of (length line) = omega (arith, length-append h.count (line ++ h.padding), length-append line h.padding, h.two_bytes, h.even) in
+    ap (drop (room_of (length line))) (h.in_order ∙ grouped) ∙ drop_at (h.count ++ (line ++ h.padding)) rest (room_of (length line)) long
 
 data_at-begins : (front line stream rest : List ℕ) → BeginsWith line stream rest → data_at (front ++ stream) (record { from = length front + 2; len = length line }) ≡ line
 data_at-begins front line stream rest h =
-    let grouped : front ++ stream ≡ (front ++ h.count) ++ (line ++ (h.fill ++ rest)) = ap (λ l. front ++ l) h.in_order ∙ sym (append_assoc front h.count (line ++ (h.fill ++ rest))) in
+    let grouped : front ++ stream ≡ (front ++ h.count) ++ (line ++ (h.padding ++ rest)) = ap (λ l. front ++ l) h.in_order ∙ sym (append_assoc front h.count (line ++ (h.padding ++ rest))) in
     let long : length (front ++ h.count) ≡ length front + 2 = omega (arith, length-append front h.count, h.two_bytes) in
     ap (λ l. take (length line) (drop (length front + 2) l)) grouped
-    ∙ ap (take (length line)) (drop_at (front ++ h.count) (line ++ (h.fill ++ rest)) (length front + 2) long)
-    ∙ take_at line (h.fill ++ rest) (length line) refl
+    ∙ ap (take (length line)) (drop_at (front ++ h.count) (line ++ (h.padding ++ rest)) (length front + 2) long)
+    ∙ take_at line (h.padding ++ rest) (length line) refl
 
 -- what of a stream is read, and what is behind it
 behind-begins : (front line stream rest : List ℕ) → BeginsWith line stream rest → front ++ stream ≡ (front ++ take (room_of (length line)) stream) ++ rest
@@ -162,18 +162,18 @@ whole-begins front left r h =
     let line = data_at-whole front left r h in
     let behind : drop n (drop 2 left) ≡ drop (2 + n) left = drop-drop n 2 left in
     let rest : drop (n % 2) (drop (2 + n) left) ≡ drop (room_of n) left = drop-drop (n % 2) (2 + n) left in
-    let fill : length (take (n % 2) (drop (2 + n) left)) ≡ n % 2 = length-take-le (n % 2) (drop (2 + n) left) (omega (arith, length-drop (2 + n) left)) in
+    let padding : length (take (n % 2) (drop (2 + n) left)) ≡ n % 2 = length-take-le (n % 2) (drop (2 + n) left) (omega (arith, length-drop (2 + n) left)) in
     let in_data : drop 2 left ≡ take n (drop 2 left) ++ drop (2 + n) left = sym (take-append-drop n (drop 2 left)) ∙ ap (λ l. take n (drop 2 left) ++ l) behind in
-    let in_fill : drop (2 + n) left ≡ take (n % 2) (drop (2 + n) left) ++ drop (room_of n) left = sym (take-append-drop (n % 2) (drop (2 + n) left)) ∙ ap (λ l. take (n % 2) (drop (2 + n) left) ++ l) rest in
+    let in_padding : drop (2 + n) left ≡ take (n % 2) (drop (2 + n) left) ++ drop (room_of n) left = sym (take-append-drop (n % 2) (drop (2 + n) left)) ∙ ap (λ l. take (n % 2) (drop (2 + n) left) ++ l) rest in
     let all : left ≡ take 2 left ++ (take n (drop 2 left) ++ (take (n % 2) (drop (2 + n) left) ++ drop (room_of n) left)) =
-    sym (take-append-drop 2 left) ∙ ap (λ l. take 2 left ++ l) (in_data ∙ ap (λ l. take n (drop 2 left) ++ l) in_fill) in
+    sym (take-append-drop 2 left) ∙ ap (λ l. take 2 left ++ l) (in_data ∙ ap (λ l. take n (drop 2 left) ++ l) in_padding) in
     let len = length-data_at front left r h in
     record {
       count = take 2 left;
-      fill = take (n % 2) (drop (2 + n) left);
+      padding = take (n % 2) (drop (2 + n) left);
       two_bytes = length-take-le 2 left h.two;
       says_length = little_from-take 0 2 2 left (omega arith) ∙ sym h.len ∙ sym len;
-      even = fill ∙ ap (λ m. m % 2) (sym len);
+      even = padding ∙ ap (λ m. m % 2) (sym len);
       in_order = all ∙ ap (λ d. take 2 left ++ (d ++ (take (n % 2) (drop (2 + n) left) ++ drop (room_of n) left))) (sym line);
     }
 

@@ -59,14 +59,14 @@ front_faults (Ok r) behind fault h = inr (r, (refl, in_front-Err r (behind r) fa
 -- a record stays one whatever comes behind it
 begins-moved : (line stream rest other : List ℕ) → BeginsWith line stream rest → BeginsWith line (take (room_of (length line)) stream ++ other) other
 begins-moved line stream rest other h =
-    let grouped : (more : List ℕ) → h.count ++ (line ++ (h.fill ++ more)) ≡ (h.count ++ (line ++ h.fill)) ++ more = λ more.
-    sym (append_assoc h.count (line ++ h.fill) more ∙ ap (λ l. h.count ++ l) (append_assoc line h.fill more)) in
-    let long : length (h.count ++ (line ++ h.fill)) ≡ room_of (length line) = omega (arith, length-append h.count (line ++ h.fill), length-append line h.fill, h.two_bytes, h.even) in
-    let first : take (room_of (length line)) stream ≡ h.count ++ (line ++ h.fill) =
-    ap (take (room_of (length line))) (h.in_order ∙ grouped rest) ∙ take_at (h.count ++ (line ++ h.fill)) rest (room_of (length line)) long in
+    let grouped : (more : List ℕ) → h.count ++ (line ++ (h.padding ++ more)) ≡ (h.count ++ (line ++ h.padding)) ++ more = λ more.
+    sym (append_assoc h.count (line ++ h.padding) more ∙ ap (λ l. h.count ++ l) (append_assoc line h.padding more)) in
+    let long : length (h.count ++ (line ++ h.padding)) ≡ room_of (length line) = omega (arith, length-append h.count (line ++ h.padding), length-append line h.padding, h.two_bytes, h.even) in
+    let first : take (room_of (length line)) stream ≡ h.count ++ (line ++ h.padding) =
+    ap (take (room_of (length line))) (h.in_order ∙ grouped rest) ∙ take_at (h.count ++ (line ++ h.padding)) rest (room_of (length line)) long in
     record {
       count = h.count;
-      fill = h.fill;
+      padding = h.padding;
       two_bytes = h.two_bytes;
       says_length = h.says_length;
       even = h.even;
@@ -154,15 +154,15 @@ IsFaultAt-some at left NoMemory h = absurd h
 begins-more : (line front rest left : List ℕ) → BeginsWith line front rest → BeginsWith line (front ++ left) (rest ++ left)
 begins-more line front rest left h = record {
   count = h.count;
-  fill = h.fill;
+  padding = h.padding;
   two_bytes = h.two_bytes;
   says_length = h.says_length;
   even = h.even;
   in_order =
       ap (λ l. l ++ left) h.in_order
-      ∙ append_assoc h.count (line ++ (h.fill ++ rest)) left
-      ∙ ap (λ l. h.count ++ l) (append_assoc line (h.fill ++ rest) left)
-      ∙ ap (λ l. h.count ++ (line ++ l)) (append_assoc h.fill rest left);
+      ∙ append_assoc h.count (line ++ (h.padding ++ rest)) left
+      ∙ ap (λ l. h.count ++ l) (append_assoc line (h.padding ++ rest) left)
+      ∙ ap (λ l. h.count ++ (line ++ l)) (append_assoc h.padding rest left);
 }
 
 -- behind the records of these lines comes this fault

@@ -23,7 +23,7 @@ use Rattle.plain_cat.specs.declared.cat.Cat.{Cat}
 use Rattle.plain_cat.specs.declared.cat.File.{File}
 use Rattle.plain_cat.specs.declared.cat.Slot.{Slot}
 use Rattle.plain_rules.specs.Lookups.{file_in, of_seq, in_use}
-use Rattle.vol_parts.specs.Volumes.{Volume, volume, IsNumber, factor, head as head_of, fields_in, fields, runs, body}
+use Rattle.vol_parts.specs.Volumes.{Volume, volume, IsNumber, factor, first_head, fields_in, fields, runs, body}
 use Rattle.vol_parts.specs.Catalogues.{is_structure, file_of, slot_with, slot_of, files_of, catalogue}
 use Rattle.vol_parts.specs.Conditions.{HasRunsInside, HasAllRunsInside}
 use Rattle.vol_parts.specs.Findings.{home_at}
@@ -98,7 +98,7 @@ stream-shown v n f plain inside e d =
 -- ---- files
 
 -- what is told of a slot
-slot-shown : (v : Volume) (n seq : ℕ) (r : Result Head HeaderFault) → head_of v n ≡ r → is_structure n ≡ false → HasRunsInside v n
+slot-shown : (v : Volume) (n seq : ℕ) (r : Result Head HeaderFault) → first_head v n ≡ r → is_structure n ≡ false → HasRunsInside v n
     → option_map (λ (f : Hdr). stream_in f (body v n)) (plain_fields seq (fields_in r))
     ≡ option_map (shown_stream (factor v)) (plain_only (of_seq seq (file_in (Some (slot_with (factor v) n r (body v n))))))
 slot-shown v n seq (Ok (head.Used f)) e plain inside = by_tests (f.seq == seq) f.dir refl where
@@ -132,7 +132,7 @@ number-shown v n seq plain inside = elim (cases_lt 0 n) [
         let same : 1 + (n - 1) ≡ n = omega arith in
         let there = get_along (slot_of v) 1 v.home.files (n - 1) (omega arith) ∙ ap (λ k. Some (slot_of v k)) same in
         let number : IsNumber v n = record { from = omega arith; to = within } in
-        ap told has ∙ slot-shown v n seq (head_of v n) refl plain (inside.inside n number)
+        ap told has ∙ slot-shown v n seq (first_head v n) refl plain (inside.inside n number)
         ∙ sym (ap (λ t. shows t (slice_get slots (n - 1))) (ne_eqb n 0 (λ e. omega arith)) ∙ ap (λ s. shows false s) there)
   ]
   | inr none ↦

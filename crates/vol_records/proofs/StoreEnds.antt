@@ -1,6 +1,7 @@
 -- What is known when bytes are to be stored, and how it ends.
 use Rattle.std.proofs.Common.{◌≡◌, ◌∙◌, ◌≤◌, ◌<◌, ◌+◌, ◌*◌, ◌++◌, ℕ, false, true, List, [], ◌∷◌, Option, Some, None, Result, Ok, Err, length, take, slice_get, refl, sym, ap, subst, inl, All, arith, Bool, cond, not, nat_le, nat_lt}
 use Rattle.std.specs.Prelude.{slice_index_or, ◌==◌, ◌||◌}
+use Rattle.std.proofs.lemmas.List.{take_all}
 use Rattle.std.proofs.lemmas.Option.{get_or_from_slice_get}
 use Rattle.base_words.specs.Fields.{Block, IsBytes, AreWholeBlocks}
 use Rattle.base_words.specs.Lists.{written}
@@ -10,13 +11,14 @@ use Rattle.fx_header.specs.declared.slot.Hdr.{Hdr}
 use Rattle.fx_header.specs.Pointers.{lbns_in}
 use Rattle.vol_faults.specs.Conditions.{IsSize}
 use Rattle.vol_parts.specs.Volumes.{volume, IsNumber, runs}
-use Rattle.vol_parts.specs.Findings.{Accepts}
+use Rattle.vol_parts.specs.Findings.{home_at, Accepts, IsReadable}
+use Rattle.vol_spell.specs.Lbns.{lbns_at}
 use Rattle.vol_records.specs.declared.types.StoreFault.{StoreFault}
 use Rattle.vol_records.specs.declared.types.StoreFault.TheVariants.{NoPriv, NotEmpty, NoRoom, NoMemory, ImageFault}
 use Rattle.vol_records.specs.Making.{placed, IsMade}
-use Rattle.vol_records.specs.Storing.{used_file, refusal_by, store_refusal, chunks, blocks_for, IsSafe, IsStored, IsStoring, stored_header, store_writes}
+use Rattle.vol_records.specs.Storing.{used_file, refusal_by, store_refusal, chunks, blocks_for, IsSafe, IsStored, IsStoring, stored_header, store_writes, writes_at}
 use Rattle.vol_records.proofs.Made.{none_made, all_made, made_as, made_full}
-use Rattle.vol_records.proofs.StoreSafe.{StoresSafely, number_of, storing_is_safe}
+use Rattle.vol_records.proofs.StoreSafe.{StoresSafely, number_of, storing_is_safe, accepted_weak, lbns_told}
 use Rattle.vol_records.proofs.StoreWrites.{none_written}
 
 -- what was read of the drive, and what was found: no refusal
@@ -34,35 +36,57 @@ module _ (home : Home) (bs all : List Block) (b : Block) (n seq len : ℕ) (byte
   free_here : store_refusal (volume home bs) n seq (length bytes) ≡ None
   free_here = ap (λ k. store_refusal (volume home bs) n seq k) (sym is.len_is) ∙ (ap (λ (x : List Block). store_refusal (volume home x) n seq len) (sym is.all_is) ∙ sym is.free)
 
+  home_here : home_read (home_at bs) ≡ Ok home
+  home_here = ap home_read (get_or_from_slice_get bs 1 b [] is.first) ∙ sym is.read
+
   pub number_is : (other : List Block) → IsNumber (volume home other) n
   number_is other = let k = number_of (volume home bs) n seq (length bytes) free_here in record { from = k.from; to = k.to }
+
+  told_here : lbns_at bs n ≡ Some (lbns_in (runs (volume home bs) n))
+  told_here = lbns_told home bs n seq (length bytes) home_here free_here
+
+  -- what is told of the LBNs of the file's blocks
+  pub listed : (other : List Block) (o : Option (List ℕ)) (ls : List ℕ) → other ≡ bs → o ≡ lbns_at other n → o ≡ Some ls → ls ≡ lbns_in (runs (volume home bs) n)
+  listed other o ls other_is told at =
+      let both : Some ls ≡ Some (lbns_in (runs (volume home bs) n)) = sym at ∙ (told ∙ (ap (λ (x : List Block). lbns_at x n) other_is ∙ told_here)) in
+      cc both
+
+  pub always_listed : (other : List Block) (o : Option (List ℕ)) → other ≡ bs → o ≡ lbns_at other n → o ≡ None → ⊥
+  always_listed other o other_is told at =
+      let both : None ≡ Some (lbns_in (runs (volume home bs) n)) = sym at ∙ (told ∙ (ap (λ (x : List Block). lbns_at x n) other_is ∙ told_here)) in
+      absurd (cc both)
 
   pub safe_is : IsBytes bytes → StoresSafely home bs n seq bytes
   safe_is ranged = storing_is_safe home bs n seq bytes (record {
     size = is.size;
     whole = is.whole;
     accepted = is.accepted;
-    read = ap home_read (get_or_from_slice_get bs 1 b [] is.first) ∙ sym is.read;
+    read = home_here;
     free = free_here;
     ranged = ranged;
   })
 
+-- ---- the blocks of the file
+
+-- an accepted volume can be read
+pub readable : (bs : List Block) → Accepts bs → IsReadable bs
+readable bs accepted f fatal = absurd (accepted_weak bs accepted f fatal)
+
 -- what is to be written
-pub record IsPlanned (home : Home) (bs all : List Block) (n len lbn : ℕ) (bytes items : List ℕ) (ls : List ℕ) (head hb : Block) : Type 0 where
-  pub places : ls ≡ lbns_in (runs (volume home all) n)
-  pub all_is : all ≡ bs
+pub record IsPlanned (home : Home) (bs : List Block) (n len lbn : ℕ) (bytes items : List ℕ) (ls : List ℕ) (head hb : Block) : Type 0 where
+  pub places : ls ≡ lbns_in (runs (volume home bs) n)
   pub items_are : items ≡ bytes
   pub lbn_is : lbn ≡ 4 * home.cluster + n
   pub there : slice_get bs lbn ≡ Some hb
   pub head_is : head ≡ stored_header hb len
   pub len_is : len ≡ length bytes
 
-pub planned : (home : Home) (bs all : List Block) (n len lbn : ℕ) (bytes items : List ℕ) (ls : List ℕ) (head hb : Block) → IsPlanned home bs all n len lbn bytes items ls head hb
+pub planned : (home : Home) (bs : List Block) (n len lbn : ℕ) (bytes items : List ℕ) (ls : List ℕ) (head hb : Block) → IsPlanned home bs n len lbn bytes items ls head hb
     → placed ls (chunks (blocks_for (length items)) items) ++ (lbn, head) ∷ [] ≡ store_writes (volume home bs) n bytes
-planned home bs all n len lbn bytes items ls head hb p =
+planned home bs n len lbn bytes items ls head hb p =
     let hb_is = get_or_from_slice_get bs lbn hb [] p.there in
     let head_at = p.head_is ∙ (ap (λ k. stored_header hb k) p.len_is ∙ (ap (λ (x : Block). stored_header x (length bytes)) (sym hb_is) ∙ ap (λ l. stored_header (slice_index_or bs l []) (length bytes)) p.lbn_is)) in
-    ap (λ (xs : List ℕ). placed xs (chunks (blocks_for (length items)) items) ++ (lbn, head) ∷ []) (p.places ∙ ap (λ (x : List Block). lbns_in (runs (volume home x) n)) p.all_is)
+    ap (λ (xs : List ℕ). placed xs (chunks (blocks_for (length items)) items) ++ (lbn, head) ∷ []) p.places
     ∙ (ap (λ (xs : List ℕ). placed (lbns_in (runs (volume home bs) n)) (chunks (blocks_for (length xs)) xs) ++ (lbn, head) ∷ []) p.items_are
     ∙ (ap (λ (x : Block). placed (lbns_in (runs (volume home bs) n)) (chunks (blocks_for (length bytes)) bytes) ++ (lbn, x) ∷ []) head_at
     ∙ ap (λ l. placed (lbns_in (runs (volume home bs) n)) (chunks (blocks_for (length bytes)) bytes) ++ (l, stored_header (slice_index_or bs (4 * home.cluster + n) []) (length bytes)) ∷ []) p.lbn_is))
@@ -70,10 +94,11 @@ planned home bs all n len lbn bytes items ls head hb p =
 -- ---- ends
 
 -- what was made of writes that are safe is safe, on the drive and on the image
-is_storing : (old new : List Block) (n seq : ℕ) (bytes : List ℕ) (ws : List (ℕ × Block)) (t u : Option (List Block)) (f g : ℕ) (P : Type 0) → ((k : ℕ) → IsSafe old n seq bytes (written (take k ws) old))
-    → IsMade ws old new t u f g P → IsStoring old new n seq bytes t u f g P
-is_storing old new n seq bytes ws t u f g P safe made = record {
+is_storing : (old new : List Block) (n seq : ℕ) (bytes : List ℕ) (ws : List (ℕ × Block)) (t u : Option (List Block)) (f g : ℕ) (P : Type 0) → (k : ℕ) × (ws ≡ take k (writes_at old n bytes))
+    → ((k : ℕ) → IsSafe old n seq bytes (written (take k ws) old)) → IsMade ws old new t u f g P → IsStoring old new n seq bytes t u f g P
+is_storing old new n seq bytes ws t u f g P first safe made = record {
   writes = ws;
+  first = first;
   safe = safe;
   made = made;
   left = subst (λ (x : List Block). IsSafe old n seq bytes x) (sym made.made) (safe made.count);
@@ -83,7 +108,7 @@ is_storing old new n seq bytes ws t u f g P safe made = record {
 -- nothing is written
 pub nothing_stored : (bs : List Block) (n seq : ℕ) (bytes : List ℕ) (t : Option (List Block)) (f : ℕ) (P : Type 0) → Accepts bs → (P → ⊥) → IsStoring bs bs n seq bytes t t f f P
 nothing_stored bs n seq bytes t f P accepted none =
-    is_storing bs bs n seq bytes [] t t f f P (λ k. subst (λ (x : List Block). IsSafe bs n seq bytes x) (sym (none_written k bs)) (inl (record { accepted = accepted; left = λ c told. told })))
+    is_storing bs bs n seq bytes [] t t f f P (0, refl) (λ k. subst (λ (x : List Block). IsSafe bs n seq bytes x) (sym (none_written k bs)) (inl (record { count = 0; made = refl; accepted = accepted; left = λ c told. told })))
     (all_made [] bs bs t t f f 0 P (none_made [] bs t f) refl none)
 
 -- memory ran out, so no write failed
@@ -96,13 +121,14 @@ no_write r x e none f =
 pub storing : (home : Home) (old new : List Block) (n seq : ℕ) (bytes : List ℕ) (ws : List (ℕ × Block)) (t u : Option (List Block)) (f g : ℕ) (P Q : Type 0) → StoresSafely home old n seq bytes
     → ws ≡ store_writes (volume home old) n bytes → (P → Q) → (Q → P) → IsMade ws old new t u f g P → IsStoring old new n seq bytes t u f g Q
 storing home old new n seq bytes ws t u f g P Q safe same to from made =
-    is_storing old new n seq bytes (store_writes (volume home old) n bytes) t u f g Q safe.safe (subst (λ (vs : List (ℕ × Block)). IsMade vs old new t u f g Q) same (made_as ws old new t u f g P Q to from made))
+    is_storing old new n seq bytes (writes_at old n bytes) t u f g Q (length (writes_at old n bytes), sym (take_all (length (writes_at old n bytes)) (writes_at old n bytes) (omega arith))) safe.safe
+    (subst (λ (vs : List (ℕ × Block)). IsMade vs old new t u f g Q) (same ∙ sym safe.writes) (made_as ws old new t u f g P Q to from made))
 
 -- all were made
 pub stored_all : (home : Home) (old new : List Block) (n seq : ℕ) (bytes : List ℕ) (ws : List (ℕ × Block)) (t u : Option (List Block)) (f g : ℕ) (P : Type 0) → StoresSafely home old n seq bytes
     → ws ≡ store_writes (volume home old) n bytes → (P → ⊥) → IsMade ws old new t u f g P → IsStored old new n seq bytes
 stored_all home old new n seq bytes ws t u f g P safe same well made =
-    subst (λ (x : List Block). IsStored old x n seq bytes) (sym (made_full ws old new t u f g P made well ∙ ap (λ (vs : List (ℕ × Block)). written vs old) same)) safe.all
+    subst (λ (x : List Block). IsStored old x n seq bytes) (sym (made_full ws old new t u f g P made well ∙ ap (λ (vs : List (ℕ × Block)). written vs old) (same ∙ sym safe.writes))) safe.all
 
 -- what the writes ask for
 pub record AreAsked (bs : List Block) (len lbn : ℕ) (items ls : List ℕ) : Type 0 where
@@ -112,10 +138,9 @@ pub record AreAsked (bs : List Block) (len lbn : ℕ) (items ls : List ℕ) : Ty
   pub header : lbn < length bs
   pub short : len ≤ 33554432
 
-pub asked : (home : Home) (bs all : List Block) (n seq len lbn : ℕ) (bytes items ls : List ℕ) → StoresSafely home bs n seq bytes → ls ≡ lbns_in (runs (volume home all) n) → all ≡ bs → items ≡ bytes
+pub asked : (home : Home) (bs : List Block) (n seq len lbn : ℕ) (bytes items ls : List ℕ) → StoresSafely home bs n seq bytes → ls ≡ lbns_in (runs (volume home bs) n) → items ≡ bytes
     → lbn ≡ 4 * home.cluster + n → len ≡ length bytes → AreAsked bs len lbn items ls
-asked home bs all n seq len lbn bytes items ls safe places all_is items_are lbn_is len_is =
-    let here : ls ≡ lbns_in (runs (volume home bs) n) = places ∙ ap (λ (x : List Block). lbns_in (runs (volume home x) n)) all_is in
+asked home bs n seq len lbn bytes items ls safe here items_are lbn_is len_is =
     let many : length items ≡ length bytes = ap length items_are in
     let enough = safe.room in
     let few = safe.few in

@@ -1,5 +1,5 @@
 -- Bytes are stored safely.
-use Rattle.std.proofs.Common.{◌≡◌, ◌∙◌, ◌≤◌, ◌<◌, ◌+◌, ◌-◌, ◌*◌, ◌/◌, ◌%◌, ◌++◌, ◌⊎◌, inl, inr, ℕ, zero, suc, Bool, true, false, cond, not, List, [], ◌∷◌, Option, Some, None, Result, Ok, Err, All, length, take, nat_lt, nat_le, slice_get, slice_set, refl, sym, ap, subst, arith}
+use Rattle.std.proofs.Common.{◌≡◌, ◌∙◌, ◌≤◌, ◌<◌, ◌+◌, ◌-◌, ◌*◌, ◌/◌, ◌%◌, ◌++◌, ◌⊎◌, inl, inr, ℕ, zero, suc, Bool, true, false, cond, not, List, [], ◌∷◌, Option, Some, None, Ok, Err, All, length, take, nat_lt, nat_le, slice_get, slice_set, is_some, refl, sym, ap, subst, arith}
 use Rattle.std.specs.Prelude.{◌==◌, ◌&&◌, ◌||◌, replicate, option_map}
 use Rattle.std.specs.List.{flat_map}
 use Rattle.std.proofs.lemmas.Bool.{and_parts, eqb-true, eq-eqb, leb-true}
@@ -14,11 +14,9 @@ use Rattle.fx_home.specs.declared.home.Home.{Home}
 use Rattle.fx_home.specs.Homes.{home_read}
 use Rattle.fx_header.specs.declared.run.Run.{Run}
 use Rattle.fx_header.specs.declared.slot.Hdr.{Hdr}
-use Rattle.fx_header.specs.declared.slot.Slot.{Slot as Head}
 use Rattle.fx_header.specs.declared.slot.Slot.TheVariants as head
-use Rattle.fx_header.specs.declared.slot.HeaderFault.{HeaderFault}
 use Rattle.fx_header.specs.declared.slot.HeaderFault.TheVariants.{BadSum}
-use Rattle.fx_header.specs.Headers.{header_read, runs_in}
+use Rattle.fx_header.specs.Headers.{header_read}
 use Rattle.fx_header.specs.Pointers.{lbns_in}
 use Rattle.plain_cat.specs.declared.cat.Cat.{Cat}
 use Rattle.plain_cat.specs.declared.cat.File.{File}
@@ -29,9 +27,10 @@ use Rattle.vol_faults.specs.Free.{IsGeometryBy}
 use Rattle.vol_parts.specs.declared.finding.Finding.{Finding}
 use Rattle.vol_parts.specs.declared.geometry.Geometry.{Geometry}
 use Rattle.vol_parts.specs.declared.geometry.Part.TheVariants.{Header}
-use Rattle.vol_parts.specs.Volumes.{Volume, volume, IsNumber, factor, head as head_of, fields_in, fields, runs_with, runs, header_lbn, header_at, geometry_of}
+use Rattle.vol_parts.specs.Volumes.{Volume, volume, IsNumber, factor, head as head_of, fields, runs, header_lbn, header_at, geometry_of}
 use Rattle.vol_parts.specs.Catalogues.{is_structure, file_of, written_blocks, catalogue}
 use Rattle.vol_parts.specs.Findings.{home_at, Weak, IsFirstFatal, Accepts, AreWarningsBy, IsCatalogueBy, CatOf}
+use Rattle.vol_parts.proofs.Sizes.{fields-head, runs-used}
 use Rattle.vol_spell.specs.declared.owner.Owner.TheVariants.{InFile}
 use Rattle.vol_spell.specs.Reading.{IsFileNumber, header_place, header_block, told_of, body_places}
 use Rattle.vol_spell.specs.Entries.{places_in, blocks_of}
@@ -39,18 +38,16 @@ use Rattle.vol_spell.proofs.Frames.{of_body, on_volume}
 use Rattle.vol_spell.proofs.Parts.{part_owned}
 use Rattle.vol_mends.specs.Told.{IsTold}
 use Rattle.vol_mends.proofs.WriteTold.{Owned, owned, one_cat}
-use Rattle.op_law.specs.Channels.{with_sizes}
-use Rattle.op_law.proofs.Telling.{file_blocks, file_told_at}
-use Rattle.op_steps.specs.Files.{IsFileThere}
-use Rattle.op_steps.specs.MarkWrites.{IsResized}
-use Rattle.op_law.specs.Writing.{clusters_seen}
-use Rattle.op_steps.proofs.HeadFiles.{not_structure, few, sized}
-use Rattle.op_steps.proofs.Places.{places, size, count}
+use Rattle.vol_spell.specs.Lbns.{is_file, lbns_by, lbns_at}
+use Rattle.vol_spell.specs.Files.{with_sizes, IsFileThere, IsResized, clusters_seen}
+use Rattle.vol_spell.proofs.HeadSlots.{file_blocks, file_told_at}
+use Rattle.vol_spell.proofs.HeadFiles.{not_structure, few, sized}
+use Rattle.vol_spell.proofs.FilePlaces.{places, size, count}
 use Rattle.vol_records.specs.declared.types.StoreFault.TheVariants as refusal
 use Rattle.vol_records.specs.Keeping.{AreAccepted}
 use Rattle.vol_records.specs.Making.{placed}
 use Rattle.vol_records.specs.Streams.{end_at, plain_only, all_blocks, shown_stream}
-use Rattle.vol_records.specs.Storing.{of_sequence, used_file, refusal_by, store_refusal, chunks, blocks_for, stored, IsStored, IsUntouched, IsSafe, stored_header, store_writes}
+use Rattle.vol_records.specs.Storing.{of_sequence, used_file, refusal_by, store_refusal, chunks, blocks_for, stored, IsStored, IsUntouched, IsSafe, stored_header, store_writes, writes_by, writes_at}
 use Rattle.vol_records.proofs.Chunks.{length-chunks, whole_chunks, bytes_back, enough, no_more}
 use Rattle.vol_records.proofs.DataKeeps.{data_at, from_places}
 use Rattle.vol_records.proofs.Shown.{streams-shown}
@@ -76,8 +73,9 @@ pub record StoresSafely (home : Home) (bs : List Block) (n seq : ℕ) (bytes : L
   pub room : blocks_for (length bytes) ≤ length (lbns_in (runs (volume home bs) n))
   pub few : length bytes ≤ 33554432
   pub header : header_lbn (volume home bs) n < length bs
-  pub safe : (k : ℕ) → IsSafe bs n seq bytes (written (take k (store_writes (volume home bs) n bytes)) bs)
-  pub all : IsStored bs (written (store_writes (volume home bs) n bytes) bs) n seq bytes
+  pub writes : writes_at bs n bytes ≡ store_writes (volume home bs) n bytes
+  pub safe : (k : ℕ) → IsSafe bs n seq bytes (written (take k (writes_at bs n bytes)) bs)
+  pub all : IsStored bs (written (writes_at bs n bytes) bs) n seq bytes
 
 abbrev pub StoringIsSafe : Type 0
 StoringIsSafe = (home : Home) (bs : List Block) (n seq : ℕ) (bytes : List ℕ) → CanStore home bs n seq bytes → StoresSafely home bs n seq bytes
@@ -140,27 +138,38 @@ used_is v n seq f e = by_number (nat_lt 0 n && nat_le n v.home.files) refl e whe
       let some : nat_lt 0 n ≡ true = p.0 in
       record { number = record { from = grind (arith, nat_tests); to = leb-true n v.home.files p.1 }; fields = r.0; right = r.1 }
 
+-- a file in use has the number
+used_listed : (v : Volume) (n seq : ℕ) (f : Hdr) → used_file v n seq ≡ Some f → is_file v n ≡ true
+unfolding is_file
+used_listed v n seq f e =
+    let u = used_is v n seq f e in
+    let from = u.number.from in
+    let to = u.number.to in
+    and_true (nat_lt 0 n) (nat_le n v.home.files && is_some (fields v n)) (grind (arith, nat_tests)) (and_true (nat_le n v.home.files) (is_some (fields v n)) (grind (arith, nat_tests)) (ap is_some u.fields))
+  where
+    and_true : (a b : Bool) → a ≡ true → b ≡ true → a && b ≡ true
+    and_true a b x y = rw (x, y) refl
+
 -- where nothing is refused, the number is one of the volume's
 pub number_of : (v : Volume) (n seq len : ℕ) → store_refusal v n seq len ≡ None → IsNumber v n
 unfolding store_refusal
 number_of v n seq len e = let a = allowed n len (used_file v n seq) e in (used_is v n seq a.hdr a.is).number
 
+-- and the LBNs of the blocks of its file are told
+pub lbns_told : (home : Home) (bs : List Block) (n seq len : ℕ) → home_read (home_at bs) ≡ Ok home → store_refusal (volume home bs) n seq len ≡ None → lbns_at bs n ≡ Some (lbns_in (runs (volume home bs) n))
+unfolding store_refusal
+lbns_told home bs n seq len read free =
+    let v = volume home bs in
+    let a = allowed n len (used_file v n seq) free in
+    ap (λ r. lbns_by bs r n) read ∙ ap (λ t. cond t (Some (lbns_in (runs v n))) None) (used_listed v n seq a.hdr a.is)
+
 -- the header that tells fields can be read
 head_reads : (v : Volume) (n : ℕ) (f : Hdr) → fields v n ≡ Some f → header_read (header_at v n) ≡ Ok (head.Used f)
 unfolding head_of
-head_reads v n f e = by_place (nat_lt (header_lbn v n) (length v.blocks)) e where
-  by_read : (r : Result Head HeaderFault) → fields_in r ≡ Some f → r ≡ Ok (head.Used f)
-  by_read (Ok (head.Used g)) h = let same : g ≡ f = cc h in ap (λ (x : Hdr). Ok (head.Used x)) same
-  by_read (Ok (head.Free seq)) h = absurd (cc h)
-  by_read (Err fault) h = absurd (cc h)
-
-  by_place : (b : Bool) → fields_in (cond b (header_read (header_at v n)) (Err BadSum)) ≡ Some f → header_read (header_at v n) ≡ Ok (head.Used f)
-  by_place true h = by_read (header_read (header_at v n)) h
+head_reads v n f e = by_place (nat_lt (header_lbn v n) (length v.blocks)) (fields-head v n f e) where
+  by_place : (b : Bool) → cond b (header_read (header_at v n)) (Err BadSum) ≡ Ok (head.Used f) → header_read (header_at v n) ≡ Ok (head.Used f)
+  by_place true h = h
   by_place false h = absurd (cc h)
-
-runs_are : (v : Volume) (n : ℕ) (f : Hdr) → fields v n ≡ Some f → runs v n ≡ runs_in (header_at v n)
-unfolding runs
-runs_are v n f e = ap (λ o. runs_with o (header_at v n)) e
 
 -- ---- what shows by a mark
 
@@ -185,6 +194,13 @@ back factor f bytes =
     ∙ bytes_back (blocks_for len) bytes (replicate (f.clusters * factor - length (chunks (blocks_for len) bytes)) zeros) (enough len))
 
 -- ---- the volume
+
+-- nothing fatal is found in an accepted one
+pub accepted_weak : (bs : List Block) → Accepts bs → Weak bs
+accepted_weak bs accepted = by_case accepted where
+  by_case : ((f : Finding) × IsFirstFatal bs f × ([] ≡ f ∷ [])) ⊎ (Weak bs × AreWarningsBy bs (home_read (home_at bs)) []) → Weak bs
+  by_case (inl k) = absurd (cc (k.2))
+  by_case (inr k) = k.0
 
 module _ (home : Home) (bs : List Block) (n seq : ℕ) (bytes : List ℕ) (can : CanStore home bs n seq bytes) where
   abbrev v : Volume
@@ -212,17 +228,11 @@ module _ (home : Home) (bs : List Block) (n seq : ℕ) (bytes : List ℕ) (can :
   reads : header_read (header_block (geometry_of (volume home bs)) bs n) ≡ Ok (head.Used allows.hdr)
   reads = head_reads v n allows.hdr used.fields
 
-  weak : Weak bs
-  weak = by_case can.accepted where
-    by_case : ((f : Finding) × IsFirstFatal bs f × ([] ≡ f ∷ [])) ⊎ (Weak bs × AreWarningsBy bs (home_read (home_at bs)) []) → Weak bs
-    by_case (inl k) = absurd (cc (k.2))
-    by_case (inr k) = k.0
-
   told : IsTold (geometry_of (volume home bs)) bs (catalogue (volume home bs))
   told = record {
     size = can.size;
     whole = can.whole;
-    cat = record { weak = weak; told = subst (λ r. IsCatalogueBy bs r c) (sym can.read) refl };
+    cat = record { weak = accepted_weak bs can.accepted; told = subst (λ r. IsCatalogueBy bs r c) (sym can.read) refl };
     geometry = subst (λ r. IsGeometryBy bs r g) (sym can.read) refl;
   }
 
@@ -250,7 +260,7 @@ module _ (home : Home) (bs : List Block) (n seq : ℕ) (bytes : List ℕ) (can :
   }
 
   places_are : lbns_in (runs (volume home bs) n) ≡ places_in (header_at (volume home bs) n)
-  places_are = ap (λ (rs : List Run). lbns_in rs) (runs_are v n allows.hdr used.fields)
+  places_are = ap (λ (rs : List Run). lbns_in rs) (runs-used v n allows.hdr used.fields)
 
   many : length (places_in (header_at (volume home bs) n)) ≡ h.blocks
   many = count g bs o.own c n h f o.spells there ∙ sym (size g bs o.own c n h f o.spells there)
@@ -299,40 +309,70 @@ module _ (home : Home) (bs : List Block) (n seq : ℕ) (bytes : List ℕ) (can :
   in_use_is : (x : Cat) (k : File) → file_at x n ≡ Some k → k.seq ≡ seq → in_use x (record { num = n; seq = seq }) ≡ Some k
   in_use_is x k e same = ap (of_seq seq) e ∙ ap (λ b. cond b (Some k) None) (eq-eqb k.seq seq same)
 
-  stores : (new : List Block) → AreAccepted g new (with_file (catalogue (volume home bs)) n (stored f bytes)) → IsStored bs new n seq bytes
-  stores new a =
+  abbrev all_writes : List ℕ → List (ℕ × Block)
+  all_writes ls = placed ls (chunks (blocks_for (length bytes)) bytes) ++ (header_lbn (volume home bs) n, stored_header (header_at (volume home bs) n) (length bytes)) ∷ []
+
+  writes_are : all_writes (places_in (header_at (volume home bs) n)) ≡ writes_at bs n bytes
+  writes_are = ap all_writes (sym places_are) ∙ ap (λ r. writes_by bs r n bytes) (sym can.read)
+
+  -- the blocks after all of them
+  abbrev full : List Block
+  full = slice_set mid (header_place (geometry_of (volume home bs)) n) (stored_header (header_at (volume home bs) n) (length bytes))
+
+  all_made : full ≡ written (writes_at bs n bytes) bs
+  all_made =
+      sym (written_joined front ((header_lbn v n, stored_header hb (length bytes)) ∷ []) bs) ∙ ap (λ (ws : List (ℕ × Block)). written ws bs) writes_are
+
+  stores : IsStored bs full n seq bytes
+  stores =
+      let a = after in
       let d : Cat = with_file c n (stored f bytes) in
       let here : in_use d (record { num = n; seq = seq }) ≡ Some (stored f bytes) =
       in_use_is d (stored f bytes) (data_at c n f (blocks_for (length bytes) + 1) (length bytes / 512 + 1) (length bytes % 512) cs at) used.right in
       let plain : plain_only (Some (stored f bytes)) ≡ Some (stored f bytes) = ap (λ b. cond b None (Some (stored f bytes))) allows.flat in
       record {
+        made = all_made;
         cat = c;
         file = f;
         told = told.cat;
         at = in_use_is c f at used.right;
         accepted = a.accepted;
         left = a.told.cat;
-        stream = streams-shown new d n seq a.told.cat (not_structure n allows.above)
+        stream = streams-shown full d n seq a.told.cat (not_structure n allows.above)
             ∙ (ap (λ (x : Option File). option_map (shown_stream d.factor) (plain_only x)) here
             ∙ (ap (λ (x : Option File). option_map (shown_stream d.factor) x) plain ∙ ap (λ (xs : List ℕ). Some xs) (back d.factor f bytes)));
       }
 
-  untouched : (x : List Block) → IsBare g o.own (catalogue (volume home bs)) n allows.hdr f (header_at (volume home bs) n) x → IsUntouched bs x
-  untouched x b = record { accepted = b.has.accepted; left = λ d t. subst (λ (y : Cat). CatOf x y) (sym (one_cat bs d c t told.cat)) b.has.told.cat }
+  untouched : (k : ℕ) → IsBare g o.own (catalogue (volume home bs)) n allows.hdr f (header_at (volume home bs) n) (written (take k (writes_at bs n bytes)) bs)
+      → IsUntouched bs (written (take k (writes_at bs n bytes)) bs) n bytes
+  untouched k b = record {
+    count = k;
+    made = refl;
+    accepted = b.has.accepted;
+    left = λ d t. subst (λ (y : Cat). CatOf (written (take k (writes_at bs n bytes)) bs) y) (sym (one_cat bs d c t told.cat)) b.has.told.cat;
+  }
 
-  last : (k : ℕ) → IsSafe bs n seq bytes (written (take k ((header_lbn (volume home bs) n, stored_header (header_at (volume home bs) n) (length bytes)) ∷ [])) mid)
-  last zero = inl (untouched mid wrote.all)
-  last (suc zero) = inr (stores (slice_set mid (header_place g n) (stored_header hb (length bytes))) after)
-  last (suc (suc k)) = inr (stores (slice_set mid (header_place g n) (stored_header hb (length bytes))) after)
+  -- after each number of the writes the file shows nothing still, or they are all made
+  abbrev AreSafe : List Block → Type 0
+  AreSafe x = IsBare g o.own (catalogue (volume home bs)) n allows.hdr f (header_at (volume home bs) n) x ⊎ (x ≡ full)
 
-  abbrev all_writes : List ℕ → List (ℕ × Block)
-  all_writes ls = placed ls (chunks (blocks_for (length bytes)) bytes) ++ (header_lbn (volume home bs) n, stored_header (header_at (volume home bs) n) (length bytes)) ∷ []
+  last : (k : ℕ) → AreSafe (written (take k ((header_lbn (volume home bs) n, stored_header (header_at (volume home bs) n) (length bytes)) ∷ [])) mid)
+  last zero = inl wrote.all
+  last (suc zero) = inr refl
+  last (suc (suc k)) = inr refl
 
-  safe : (k : ℕ) → IsSafe bs n seq bytes (written (take k (all_writes (places_in (header_at (volume home bs) n)))) bs)
-  safe k = through (λ x. IsSafe bs n seq bytes x) front ((header_lbn v n, stored_header hb (length bytes)) ∷ []) bs (λ m. inl (untouched (written (take m front) bs) (wrote.bare m))) last k
+  each : (k : ℕ) → AreSafe (written (take k (writes_at bs n bytes)) bs)
+  each k = subst (λ (ws : List (ℕ × Block)). AreSafe (written (take k ws) bs)) writes_are
+      (through (λ x. AreSafe x) front ((header_lbn v n, stored_header hb (length bytes)) ∷ []) bs (λ m. inl (wrote.bare m)) last k)
 
-  whole : IsStored bs (written (all_writes (places_in (header_at (volume home bs) n))) bs) n seq bytes
-  whole = subst (λ (x : List Block). IsStored bs x n seq bytes) (sym (written_joined front ((header_lbn v n, stored_header hb (length bytes)) ∷ []) bs)) (stores (slice_set mid (header_place g n) (stored_header hb (length bytes))) after)
+  safe : (k : ℕ) → IsSafe bs n seq bytes (written (take k (writes_at bs n bytes)) bs)
+  safe k = by_case (each k) where
+    by_case : AreSafe (written (take k (writes_at bs n bytes)) bs) → IsSafe bs n seq bytes (written (take k (writes_at bs n bytes)) bs)
+    by_case (inl bare) = inl (untouched k bare)
+    by_case (inr done) = inr (subst (λ (x : List Block). IsStored bs x n seq bytes) (sym done) stores)
+
+  whole : IsStored bs (written (writes_at bs n bytes) bs) n seq bytes
+  whole = subst (λ (x : List Block). IsStored bs x n seq bytes) all_made stores
 
   each_inside : (k l : ℕ) → slice_get (places_in (header_at (volume home bs) n)) k ≡ Some l → l < length bs
   each_inside k l e = (of_body g bs o.own c o.spells n l number (has_at (body_places n (told_of g bs n)) k l (ap (λ (ls : List ℕ). slice_get ls k) (places g bs o.own c n h f o.spells there) ∙ e))).within
@@ -344,8 +384,9 @@ module _ (home : Home) (bs : List Block) (n seq : ℕ) (bytes : List ℕ) (can :
     room = subst (λ (ls : List ℕ). blocks_for (length bytes) ≤ length ls) (sym places_are) room;
     few = (let fits = allows.room in let e = many in let top = low_blocks in omega (arith, fits, e, top));
     header = on_volume g bs o.own c o.spells (header_place g n) (InFile 1) (part_owned g bs o.own c o.spells (Header n) number);
-    safe = subst (λ (ls : List ℕ). (k : ℕ) → IsSafe bs n seq bytes (written (take k (all_writes ls)) bs)) (sym places_are) safe;
-    all = subst (λ (ls : List ℕ). IsStored bs (written (all_writes ls) bs) n seq bytes) (sym places_are) whole;
+    writes = ap (λ r. writes_by bs r n bytes) can.read;
+    safe = safe;
+    all = whole;
   } where
     low_blocks : h.blocks ≤ 65536
     low_blocks =

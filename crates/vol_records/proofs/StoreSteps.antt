@@ -1,41 +1,36 @@
 -- One write of a block of a file in which nothing shows, and the write of its header.
-use Rattle.std.proofs.Common.{◌≡◌, ◌≢◌, ◌∙◌, ◌+◌, ◌-◌, ℕ, Bool, true, false, cond, not, List, [], Some, None, nat_le, slice_get, slice_set, sym, ap, subst, arith}
+use Rattle.std.proofs.Common.{◌≡◌, ◌≢◌, ◌∙◌, ◌+◌, ◌-◌, ℕ, Bool, true, false, cond, not, List, Some, Ok, nat_le, slice_get, slice_set, sym, ap, subst, arith}
 use Rattle.std.specs.Prelude.{◌==◌, ◌&&◌}
 use Rattle.std.proofs.lemmas.Bool.{le-leb}
 use Rattle.std.proofs.lemmas.Option.{slice_get_within}
 use Rattle.base_words.specs.Fields.{Block, IsWholeBlock}
 use Rattle.base_words.proofs.Listing.{has_at}
 use Rattle.fx_header.specs.declared.slot.Hdr.{Hdr}
+use Rattle.fx_header.specs.declared.slot.Slot.TheVariants as head
 use Rattle.fx_header.specs.Headers.{header_read}
 use Rattle.plain_cat.specs.declared.cat.Cat.{Cat}
 use Rattle.plain_cat.specs.declared.cat.File.{File}
 use Rattle.plain_cat.specs.declared.cat.Slot.TheVariants as slot
 use Rattle.plain_rules.specs.Changes.{with_file, is_past_mark}
 use Rattle.vol_parts.specs.declared.geometry.Geometry.{Geometry}
-use Rattle.vol_parts.specs.declared.geometry.Part.TheVariants.{Header}
-use Rattle.vol_parts.specs.Parts.{part_of}
 use Rattle.vol_parts.specs.Volumes.{fields_in}
 use Rattle.vol_parts.specs.Catalogues.{slot_with, file_of}
 use Rattle.vol_spell.specs.declared.owner.Owner.TheVariants.{InFile}
-use Rattle.vol_spell.specs.Owners.{Owners, nothing}
-use Rattle.vol_spell.specs.Reading.{IsFileNumber, header_place, header_block, told_of, body_places, body_blocks}
+use Rattle.vol_spell.specs.Owners.{Owners}
+use Rattle.vol_spell.specs.Reading.{IsFileNumber, header_place, header_block, head_told, told_of, body_places, body_blocks}
 use Rattle.vol_spell.specs.Spread.{blocks_at}
 use Rattle.vol_spell.specs.Entries.{places_in, blocks_of}
 use Rattle.vol_spell.specs.Spelling.{dir_found, Spells}
 use Rattle.vol_spell.specs.Kinds.{IsHeaderFor, IsBodyFor}
 use Rattle.vol_spell.specs.Views.{IsFileAt, IsSameFile}
-use Rattle.vol_spell.proofs.Frames.{of_body, header_apart}
+use Rattle.vol_spell.proofs.Frames.{of_body, header_apart, heads_apart}
+use Rattle.vol_spell.proofs.Heads.{head_alone}
 use Rattle.vol_spell.proofs.Keeping.{header_write, body_write}
-use Rattle.vol_spell.proofs.Parts.{part_there}
-use Rattle.vol_spell.proofs.Viewing.{others_stay, parts_stay, body_set}
-use Rattle.op_law.specs.Channels.{with_sizes}
-use Rattle.op_steps.specs.BlockWrites.{showing}
-use Rattle.op_steps.specs.Chained.{Chain}
-use Rattle.op_steps.specs.Files.{IsFileThere}
-use Rattle.op_steps.specs.MarkWrites.{IsResized}
-use Rattle.op_steps.proofs.Kept.{sized_for}
-use Rattle.op_steps.proofs.Places.{places, body, count, no_dir, shows}
-use Rattle.op_steps.proofs.Slots.{slot_same}
+use Rattle.vol_spell.proofs.Viewing.{others_stay, header_set, body_set}
+use Rattle.vol_spell.specs.Files.{with_sizes, showing, IsFileThere, IsResized}
+use Rattle.vol_spell.proofs.HeadKept.{sized_for}
+use Rattle.vol_spell.proofs.FilePlaces.{places, body, count, no_dir, shows}
+use Rattle.vol_spell.proofs.Slots.{slot_same}
 use Rattle.vol_records.specs.Keeping.{with_data, HasPlainFile, AreAccepted}
 use Rattle.vol_records.proofs.DataAccepted.{data_is_accepted}
 
@@ -84,13 +79,14 @@ module _ (g : Geometry) (own : Owners) (c : Cat) (n : ℕ) (h : Hdr) (f : File) 
     body_is : IsBodyFor g bs n i l b (slot.Used f)
     body_is =
         let flat : h.dir ≡ false = no_dir g bs own c n h f s t is.has.flat in
+        let says : head_told (header_block g bs n) ≡ Ok (head.Used h) = head_alone (header_block g bs n) ∙ t.reads in
         record {
           whole = whole;
           number = t.number;
           place = place;
-          dir = ap (λ r. dir_found g n (fields_in r) (told_of g bs n).runs (slice_set (body_blocks bs n (told_of g bs n)) i b)) t.reads
+          dir = ap (λ r. dir_found g n (fields_in r) (told_of g bs n).runs (slice_set (body_blocks bs n (told_of g bs n)) i b)) says
               ∙ ap (λ (d : Bool). dir_found g n (Some (record h { dir = d })) (told_of g bs n).runs (slice_set (body_blocks bs n (told_of g bs n)) i b)) flat;
-          slot = ap (λ r. slot_with g.cluster n r (slice_set (body_blocks bs n (told_of g bs n)) i b)) t.reads
+          slot = ap (λ r. slot_with g.cluster n r (slice_set (body_blocks bs n (told_of g bs n)) i b)) says
               ∙ (ap (λ (ys : List Block). slot.Used (file_of g.cluster n h (slice_set ys i b))) (body g bs own c n h f s t)
               ∙ ap (λ (y : File). slot.Used y) shown);
         }
@@ -109,7 +105,7 @@ module _ (g : Geometry) (own : Owners) (c : Cat) (n : ℕ) (h : Hdr) (f : File) 
         let o = of_body g bs own c s n l t.number (has_at (body_places n (told_of g bs n)) i l place) in
         let above = t.above in
         let apart : InFile 1 ≢ InFile n = λ e. (let one : 1 ≡ n = cc e in omega (arith, above, one)) in
-        others_stay g bs own c m l b s number (header_apart g bs own c s l (InFile n) o.owned apart m number)
+        others_stay g bs own c m l b s number (heads_apart g bs own c s m l number (header_apart g bs own c s l (InFile n) o.owned apart))
         (λ e. other (let both : Some (InFile n) ≡ Some (InFile m) = sym o.owned ∙ e in let one : n ≡ m = cc both in sym one))
 
     after : AreAccepted g (slice_set bs l b) c
@@ -138,14 +134,10 @@ module _ (g : Geometry) (own : Owners) (c : Cat) (n : ℕ) (h : Hdr) (f : File) 
     abbrev b' : Block
     b' = with_sizes (header_block g bs n) (with_data f mark end byte blocks)
 
-    chain : Chain
-    chain = record { geometry = g; node = 1; cmd = None; locks = []; cat = c; stock = nothing }
-
     head_is : IsHeaderFor g bs 1 n n own own c (with_sizes (header_block g bs n) (with_data f mark end byte blocks)) (slot.Used (with_data f mark end byte blocks))
-    head_is = sized_for (record { geometry = g; node = 1; cmd = None; locks = []; cat = c; stock = nothing }) n h f c bs own (record { spelt = s; outs = is.has.outs 1 }) t new is.has.flat sizes
+    head_is = sized_for g 1 n h f c bs own s t new is.has.flat sizes
 
     pub header_made : AreAccepted g (slice_set bs (header_place g n) (with_sizes (header_block g bs n) (with_data f mark end byte blocks))) (with_file c n (with_data f mark end byte blocks))
     header_made =
-        let part : part_of g (header_place g n) ≡ Some (Header n) = part_there g bs own c s (Header n) t.number in
         data_is_accepted g bs (slice_set bs (header_place g n) b') own c n f mark end byte blocks is.has (header_write g bs own own c 1 n n b' (slot.Used new) s head_is)
-        (λ m number other. parts_stay g bs own c m (header_place g n) (Header n) b' s number part (λ e. other (let one : n ≡ m = (let two : Header n ≡ Header m = e in cc two) in sym one)))
+        (λ m number other. (header_set g bs own own c 1 n n b' (slot.Used new) s head_is).others m number other other)

@@ -1,5 +1,5 @@
 -- Variable-length records in a stream of bytes. A record is a count of two bytes, the lowest first, so many bytes of data, and
--- one byte of fill where the count is odd. A count is at most 32,767.
+-- one byte of padding where the count is odd. A count is at most 32,767.
 use Rattle.std.specs.Prelude.{◌≡◌, ◌↔◌, ◌+◌, ◌%◌, ◌≤◌, ◌<◌, ◌⊎◌, ◌==◌, ℕ, zero, suc, nat_lt, List, [], ◌∷◌, ◌++◌, length, map, take, drop, flat_map, replicate, All, Result, Ok, Err, IsOkAnd, if◌then◌else◌}
 use Rattle.byteorder.specs.Endian.{little_number, little_bytes}
 use Rattle.vol_records.specs.declared.types.Rec.{Rec}
@@ -11,7 +11,7 @@ abbrev pub room_of : ℕ → ℕ
 room_of count = 2 + count + count % 2
 
 -- The record at the front of what is left of a stream from byte `at` on, or its fault. A bad count comes before an end within
--- data or fill.
+-- data or padding.
 unfoldable pub front_record : ℕ → List ℕ → Result Rec RecFault
 front_record at left =
     let count = little_number 2 left in
@@ -62,29 +62,29 @@ ReadsAs stream lines = IsOkAnd (records_of stream) (λ places. map (data_at stre
 abbrev pub ReadsBack : Type 0
 ReadsBack = (lines : List (List ℕ)) → All (λ line. length line ≤ 32767) lines → ReadsAs (spelt lines) lines
 
--- a stream begins with the record of this line: two bytes that say its length, its bytes, and any one byte of fill where the
+-- a stream begins with the record of this line: two bytes that say its length, its bytes, and any one byte of padding where the
 -- length is odd; and `rest` is behind it
 pub record BeginsWith (line stream rest : List ℕ) : Type 0 where
   pub count : List ℕ
-  pub fill : List ℕ
+  pub padding : List ℕ
   pub two_bytes : length count ≡ 2
   pub says_length : little_number 2 count ≡ length line
-  pub even : length fill ≡ length line % 2
-  pub in_order : stream ≡ count ++ (line ++ (fill ++ rest))
+  pub even : length padding ≡ length line % 2
+  pub in_order : stream ≡ count ++ (line ++ (padding ++ rest))
 
 -- a stream is the records of these lines, one behind the other, and nothing else
 abbrev pub AreRecordsOf : List (List ℕ) → List ℕ → Type 0
 AreRecordsOf [] stream = stream ≡ []
 AreRecordsOf (line ∷ lines) stream = (rest : List ℕ) × (BeginsWith line stream rest × AreRecordsOf lines rest)
 
--- a stream reads as exactly those lines of which it is the records, whatever the fill
+-- a stream reads as exactly those lines of which it is the records, whatever the padding
 abbrev pub ReadsExactly : Type 0
 ReadsExactly =
     (stream : List ℕ) (lines : List (List ℕ))
     → ReadsAs stream lines ↔ (All (λ line. length line ≤ 32767) lines × AreRecordsOf lines stream)
 
 -- What is left of a stream from byte `at` on begins with no record, and this is why: a whole count is too large, or the end
--- comes within the count, or behind a count that is good, within the data or the fill.
+-- comes within the count, or behind a count that is good, within the data or the padding.
 abbrev pub IsFaultAt : ℕ → List ℕ → RecFault → Type 0
 IsFaultAt at left (BadCount byte) = (byte ≡ at) × ((2 ≤ length left) × (32767 < little_number 2 left))
 IsFaultAt at left (Truncated byte) =

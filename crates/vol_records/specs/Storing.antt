@@ -34,7 +34,7 @@ used_file v n seq = if nat_lt 0 n && nat_le n v.home.files then of_sequence seq 
 -- Why so many bytes are not stored in the file of number n: none is in use; it is a system file or a directory; something was
 -- written in it; or its blocks are too few.
 abbrev pub refusal_by : ℕ → ℕ → Option Hdr → Option StoreFault
-refusal_by n len None = Some refusal.NoFile
+refusal_by n len None = Some refusal.NoSuchFile
 refusal_by n len (Some f) =
     if nat_le n 11 || f.dir then Some refusal.NoPriv
     else if not (f.mark == 1) then Some refusal.NotEmpty
@@ -45,7 +45,7 @@ unfoldable pub store_refusal : Volume → ℕ → ℕ → ℕ → Option StoreFa
 store_refusal v n seq len = refusal_by n len (used_file v n seq)
 
 abbrev pub refusal_of : List Block → Result Home HomeFault → ℕ → ℕ → ℕ → Option StoreFault
-refusal_of bs (Err fault) n seq len = Some refusal.NoFile
+refusal_of bs (Err fault) n seq len = Some refusal.NoSuchFile
 refusal_of bs (Ok home) n seq len = store_refusal (volume home bs) n seq len
 
 -- why so many bytes are not stored in the file of number n and sequence seq of these blocks, if they are not
@@ -79,25 +79,6 @@ blocks_for len = (len + 511) / 512
 abbrev pub stored : File → List ℕ → File
 stored f bytes = with_data f (blocks_for (length bytes) + 1) (length bytes / 512 + 1) (length bytes % 512) (chunks (blocks_for (length bytes)) bytes)
 
--- the new blocks are accepted, and tell the catalogue of the old ones with these bytes in the file
-pub record IsStored (old new : List Block) (n seq : ℕ) (bytes : List ℕ) : Type 0 where
-  pub cat : Cat
-  pub file : File
-  pub told : CatOf old cat
-  pub at : in_use cat (record { num = n; seq = seq }) ≡ Some file
-  pub accepted : Accepts new
-  pub left : CatOf new (with_file cat n (stored file bytes))
-  pub stream : stream_at new n seq ≡ Some bytes
-
--- the new blocks are accepted, and tell the catalogue of the old ones
-pub record IsUntouched (old new : List Block) : Type 0 where
-  pub accepted : Accepts new
-  pub left : (c : Cat) → CatOf old c → CatOf new c
-
--- what a stop may leave: an accepted volume, in which all is as it was, or the bytes are stored
-abbrev pub IsSafe : List Block → ℕ → ℕ → List ℕ → List Block → Type 0
-IsSafe old n seq bytes new = IsUntouched old new ⊎ IsStored old new n seq bytes
-
 -- ---- the writes
 
 -- the header of a file in which so many bytes are stored
@@ -108,16 +89,51 @@ stored_header b len = with_end (with_mark b (blocks_for len + 1)) (len / 512 + 1
 abbrev pub store_writes : Volume → ℕ → List ℕ → List (ℕ × Block)
 store_writes v n bytes = placed (lbns_in (runs v n)) (chunks (blocks_for (length bytes)) bytes) ++ (header_lbn v n, stored_header (header_at v n) (length bytes)) ∷ []
 
+abbrev pub writes_by : List Block → Result Home HomeFault → ℕ → List ℕ → List (ℕ × Block)
+writes_by bs (Err fault) n bytes = []
+writes_by bs (Ok home) n bytes = store_writes (volume home bs) n bytes
+
+-- the same of the blocks of a volume; none where the home block has a fault
+abbrev pub writes_at : List Block → ℕ → List ℕ → List (ℕ × Block)
+writes_at bs n bytes = writes_by bs (home_read (home_at bs)) n bytes
+
+-- ---- what they lead to
+
+-- The new blocks are what all of those writes make of the old ones. They are accepted, and tell the catalogue of the old ones with
+-- these bytes in the file.
+pub record IsStored (old new : List Block) (n seq : ℕ) (bytes : List ℕ) : Type 0 where
+  pub made : new ≡ written (writes_at old n bytes) old
+  pub cat : Cat
+  pub file : File
+  pub told : CatOf old cat
+  pub at : in_use cat (record { num = n; seq = seq }) ≡ Some file
+  pub accepted : Accepts new
+  pub left : CatOf new (with_file cat n (stored file bytes))
+  pub stream : stream_at new n seq ≡ Some bytes
+
+-- The new blocks are what the first of those writes make of the old ones. They are accepted, and tell the catalogue of the old ones.
+pub record IsUntouched (old new : List Block) (n : ℕ) (bytes : List ℕ) : Type 0 where
+  pub count : ℕ
+  pub made : new ≡ written (take count (writes_at old n bytes)) old
+  pub accepted : Accepts new
+  pub left : (c : Cat) → CatOf old c → CatOf new c
+
+-- what a stop may leave: an accepted volume, in which all shows as it did, or the bytes are stored
+abbrev pub IsSafe : List Block → ℕ → ℕ → List ℕ → List Block → Type 0
+IsSafe old n seq bytes new = IsUntouched old new n bytes ⊎ IsStored old new n seq bytes
+
 -- the image has blocks that a stop may leave
 pub record HasSafe (old : List Block) (n seq : ℕ) (bytes : List ℕ) (told now : Option (List Block)) : Type 0 where
   pub blocks : List Block
   pub there : now ≡ told_as told blocks
   pub safe : IsSafe old n seq bytes blocks
 
--- Writes of which the first lead from the old blocks to the new ones. After each number of them, also where the drive stops there,
--- the blocks are accepted, and tell the old catalogue or that with the bytes stored. So do the new ones, and those of the image.
+-- The first so many of the writes that store the bytes, and no others. All of these are made, up to one that fails, and lead from the
+-- old blocks to the new ones. After each number of them, also where the drive stops there, the blocks are accepted, and tell the old
+-- catalogue or that with the bytes stored. So do the new ones, and those of the image.
 pub record IsStoring (old new : List Block) (n seq : ℕ) (bytes : List ℕ) (told now : Option (List Block)) (before after : ℕ) (Failed : Type 0) : Type 0 where
   pub writes : List (ℕ × Block)
+  pub first : (k : ℕ) × (writes ≡ take k (writes_at old n bytes))
   pub safe : (k : ℕ) → IsSafe old n seq bytes (written (take k writes) old)
   pub made : IsMade writes old new told now before after Failed
   pub left : IsSafe old n seq bytes new

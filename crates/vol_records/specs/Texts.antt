@@ -1,9 +1,9 @@
 -- The text of records: a line for each, and their count.
 use Rattle.std.specs.Prelude.{◌≡◌, ◌≤◌, ◌⊎◌, ◌==◌, ◌++◌, ◌&&◌, ◌||◌, nat_le, ℕ, Bool, true, List, [], ◌∷◌, length, map, flat_map, All, Ok, codes, decimal, if◌then◌else◌}
 use Rattle.plain_texts.specs.Reports.{newline}
+use Rattle.run_script.specs.Lines.{lines_of}
 use Rattle.vol_records.specs.declared.types.Rec.{Rec}
 use Rattle.vol_records.specs.Records.{records_of, data_at, spelt}
-use Rattle.vol_records.specs.Lines.{text_lines}
 
 -- a byte as it is printed: a full stop stands for one that is no printable character of ASCII
 unfoldable pub printable : ℕ → ℕ
@@ -35,5 +35,5 @@ AllLinesEnd text = (text ≡ []) ⊎ ((front : List ℕ) × (text ≡ front ++ 1
 -- front of their count.
 abbrev pub PrintsBack : Type 0
 PrintsBack =
-    (text : List ℕ) (places : List Rec) → All (λ b. is_plain b ≡ true) text → AllLinesEnd text → All (λ l. length l ≤ 32767) (text_lines text)
-    → records_of (spelt (text_lines text)) ≡ Ok places → records_text (spelt (text_lines text)) places ≡ text ++ count_line (length (text_lines text))
+    (text : List ℕ) (places : List Rec) → All (λ b. is_plain b ≡ true) text → AllLinesEnd text → All (λ l. length l ≤ 32767) (lines_of text)
+    → records_of (spelt (lines_of text)) ≡ Ok places → records_text (spelt (lines_of text)) places ≡ text ++ count_line (length (lines_of text))

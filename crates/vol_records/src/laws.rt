@@ -9,7 +9,7 @@ pub fn read_back()
     ensures { ReadsBack }
 {}
 
-/// A law: a stream reads as lines exactly where it is their records, one behind the other, whatever the bytes of fill.
+/// A law: a stream reads as lines exactly where it is their records, one behind the other, whatever the bytes of padding.
 pub fn reading_is_exact()
     ensures { ReadsExactly }
 {}

@@ -1,10 +1,12 @@
 //! Lines of bytes.
 ghost use Rattle.std.specs.Prelude.{◌≡◌, ◌<◌, ◌≤◌, ◌++◌, ℕ, [], ◌∷◌, Some, None, Err, IfOk, OnOk, OnErr, length, slice_index_or};
-ghost use Rattle.vol_records.specs.Lines.{before_end, text_lines, long_line};
+ghost use Rattle.run_script.specs.Lines.{lines_of};
+ghost use Rattle.vol_records.specs.Lines.{long_line};
 ghost use Rattle.vol_records.specs.Records.{spelt};
 
 use crate::LARGEST;
 use crate::types::{LineFault, NoMemory, Rec};
+use run_script::split_line;
 use std::alloc::{AllocError, Global};
 use std::marker::Model;
 
@@ -30,34 +32,23 @@ impl Model for Lines8 {
     ghost invariant = { λ l. AreLines l.bytes.items l.places.items l.spelt };
 }
 
-// A text without a line feed at its end.
-fn before_end(text: &[u8]) -> &[u8]
-    ensures { result.now ≡ before_end text.now }
-{
-    match text {
-        [front @ .., b'\n'] => front,
-        _ => text,
-    }
-}
-
 impl Lines8 {
     /// The lines of a text: each ends with a line feed, which the last may lack. A line has no line feed, and any other bytes.
     ///
     /// LineLong comes exactly where a line has more than 32,767 bytes, with the first such one, but for want of memory before.
     pub fn of_text(alloc: Global, text: &[u8]) -> Result<Lines8, LineFault>
-        ensures ok { IfOk result (λ lines. lines ≡ text_lines text.now) }
-        ensures short { OnOk result (long_line (text_lines text.now) ≡ None) }
-        ensures long { (k : ℕ) → result ≡ Err (LineFault.LineLong k) → long_line (text_lines text.now) ≡ Some k }
+        ensures ok { IfOk result (λ lines. lines ≡ lines_of text.now) }
+        ensures short { OnOk result (long_line (lines_of text.now) ≡ None) }
+        ensures long { (k : ℕ) → result ≡ Err (LineFault.LineLong k) → long_line (lines_of text.now) ≡ Some k }
     {
         let mut lines = Lines8::new(alloc);
-        if text.is_empty() {
-            return Ok(lines);
-        }
-        for line in before_end(text).split(|b| *b == b'\n') {
-            if line.len() > LARGEST {
+        let mut rest = text;
+        while let Some(split) = split_line(rest) {
+            if split.line.len() > LARGEST {
                 return Err(LineFault::LineLong(lines.len() + 1));
             }
-            lines.push(line)?;
+            lines.push(split.line)?;
+            rest = split.rest;
         }
         Ok(lines)
     }

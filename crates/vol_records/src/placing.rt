@@ -1,17 +1,14 @@
-//! What is written to store bytes in a file, and where.
-ghost use Rattle.std.specs.Prelude.{◌≡◌, ◌≤◌, ◌*◌, ◌++◌, IfOk, IfSome, OnOk, length, take, drop};
-ghost use Rattle.std.specs.List.{range_with_len};
+//! What is written to store bytes in a file.
+ghost use Rattle.std.specs.Prelude.{◌≡◌, ◌≤◌, ◌*◌, length, take, drop};
 ghost use Rattle.fx_home.specs.Homes.{IsWithinLimits};
-ghost use Rattle.fx_header.specs.Pointers.{lbns_in};
-ghost use Rattle.vol_parts.specs.Volumes.{volume, IsNumber, runs};
+ghost use Rattle.vol_parts.specs.Volumes.{volume};
 ghost use Rattle.vol_records.specs.Storing.{used_file, store_refusal, filled, blocks_for, stored_header};
 
-use crate::types::{NoMemory, StoreFault};
+use crate::types::StoreFault;
 use base_words::{Block, put_bytes, zeros};
-use fx_header::{Hdr, Run, set_end, set_mark};
+use fx_header::{Hdr, set_end, set_mark};
 use fx_home::Home;
-use std::alloc::Global;
-use vol_parts::{fields, file_runs};
+use vol_parts::fields;
 
 // The fields of the file in use under a number and a sequence.
 #[tactic(auto, unfolding(crate::specs::Storing::used_file))]
@@ -39,7 +36,7 @@ pub(crate) fn refusal(
     ensures { result ≡ store_refusal (volume home.now blocks.now) n seq len }
 {
     let Some(f) = used_file(home, blocks, n, seq) else {
-        return Some(StoreFault::NoFile);
+        return Some(StoreFault::NoSuchFile);
     };
     if n <= 11 || f.dir {
         return Some(StoreFault::NoPriv);
@@ -51,34 +48,6 @@ pub(crate) fn refusal(
         return Some(StoreFault::NoRoom);
     }
     None
-}
-
-// Adds the LBNs of the blocks of a run.
-fn push_run(all: &mut Vec<usize>, run: Run) -> Result<(), NoMemory>
-    ensures { OnOk result (all.new.items ≡ all.old.items ++ range_with_len run.lbn run.count) }
-{
-    for i in 0..run.count as usize {
-        all.push(run.lbn as usize + i)?;
-    }
-    Ok(())
-}
-
-// The LBNs of the blocks of a file, in its order.
-pub(crate) fn places(
-    alloc: Global,
-    home: &Home,
-    blocks: &[Block],
-    n: u32,
-) -> Result<Vec<usize>, NoMemory>
-    requires limits { IsWithinLimits home.now }
-    requires number { IsNumber (volume home.now blocks.now) n }
-    ensures { IfOk result (λ v. v.items ≡ lbns_in (runs (volume home.now blocks.now) n)) }
-{
-    let mut all = Vec::new(alloc);
-    for run in file_runs(home, blocks, n) {
-        push_run(&mut all, run)?;
-    }
-    Ok(all)
 }
 
 // How many blocks so many bytes take.

@@ -21,7 +21,7 @@ fn push_record(stream: &mut Vec<u8>, line: &[u8]) -> Result<(), NoMemory>
     Ok(())
 }
 
-/// The stream of a list of lines: the record of each, one behind the other. The fill is zero.
+/// The stream of a list of lines: the record of each, one behind the other. The padding is zero.
 pub fn spell(alloc: Global, lines: &Lines8) -> Result<Vec<u8>, NoMemory>
     ensures bytes { IfOk result (λ stream. stream.items ≡ spelt lines.now) }
     ensures reads_back { IfOk result (λ stream. ReadsAs stream.items lines.now) }

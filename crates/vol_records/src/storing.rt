@@ -9,7 +9,7 @@ ghost use Rattle.vol_records.specs.Making.{placed, IsMade};
 ghost use Rattle.vol_records.specs.Storing.{refusal_at, Answers, chunks, blocks_for, IsStored, IsStoring};
 
 use crate::lines::Lines8;
-use crate::placing::{blocks_for, chunk, places, refusal, stored_header};
+use crate::placing::{blocks_for, chunk, refusal, stored_header};
 use crate::spelling::spell;
 use crate::types::StoreFault;
 use base_words::Block;
@@ -17,6 +17,7 @@ use blk_drive::{ImageDev, ImageFault, Mirror};
 use fx_home::{read_home, slot_lbn};
 use std::alloc::Global;
 use vol_parts::blocks_are_whole;
+use vol_spell::file_lbns;
 
 // A drive has as many blocks as a volume may have, and they are whole. Its type says it, and this function tells it as clauses.
 fn drive_is_whole<I: ImageDev>(m: &Mirror<I>)
@@ -35,7 +36,7 @@ fn bytes_are_ranged(bytes: &[u8])
 // Writes the blocks of bytes to these places, one by one.
 fn write_blocks<I: ImageDev>(
     m: &mut Mirror<I>,
-    places: &[usize],
+    places: &[u32],
     bytes: &[u8],
 ) -> Result<(), ImageFault>
     requires size { IsSize (length m.old.blocks) }
@@ -46,7 +47,7 @@ fn write_blocks<I: ImageDev>(
 {
     for i in 0..blocks_for(bytes.len()) {
         let b = chunk(bytes, i);
-        m.write(places[i] as u32, &b)?;
+        m.write(places[i], &b)?;
     }
     Ok(())
 }
@@ -54,7 +55,7 @@ fn write_blocks<I: ImageDev>(
 // Writes the blocks of bytes to these places, one by one, and then the header.
 fn write_file<I: ImageDev>(
     m: &mut Mirror<I>,
-    places: &[usize],
+    places: &[u32],
     bytes: &[u8],
     lbn: u32,
     head: &Block,
@@ -74,8 +75,8 @@ fn write_file<I: ImageDev>(
 /// is that of the lines then, and its other blocks show zeros. The volume is accepted, and so is what is left. Ok tells how many
 /// bytes the stream has.
 ///
-/// The blocks of the stream are written in the file's order, and last its header: before it, nothing shows. A refusal comes before
-/// all memory is taken, and all memory is taken before the first write.
+/// The blocks of the stream are written in the file's order, and last its header: before it, nothing shows. No other block is written.
+/// A refusal comes before all memory is taken, and all memory is taken before the first write.
 pub fn store<I: ImageDev>(
     alloc: Global,
     m: &mut Mirror<I>,
@@ -93,22 +94,25 @@ pub fn store<I: ImageDev>(
     // Ok comes with the lines stored.
     ensures stored { IfOk result (λ t. (t ≡ length (spelt lines.now)) × IsStored m.old.blocks m.new.blocks n seq (spelt lines.now)) }
 
-    // Whatever the answer, and wherever a stop comes, an accepted volume is left: as it was, or with the lines stored.
+    // Whatever the answer, and wherever a stop comes, the first so many of those writes are made and no others, and an accepted volume
+    // is left: as it was, or with the lines stored.
     ensures step { IsStoring m.old.blocks m.new.blocks n seq (spelt lines.now) (I.told m.old.image) (I.told m.new.image) (I.faults m.old.image) (I.faults m.new.image) (result ≡ Err StoreFault.ImageFault) }
 {
     drive_is_whole(m);
     let len = lines.spelt_len();
     let Ok(home) = read_home(m.read(1)) else {
-        return Err(StoreFault::NoFile);
+        return Err(StoreFault::NoSuchFile);
     };
     if let Some(fault) = refusal(&home, m.all(), n, seq, len) {
         return Err(fault);
     }
-    let places = places(alloc, &home, m.all(), n)?;
+    let Some(places) = file_lbns(alloc, m.all(), n)? else {
+        return Err(StoreFault::NoSuchFile);
+    };
     let bytes = spell(alloc, lines)?;
     bytes_are_ranged(bytes.as_slice());
     let lbn = slot_lbn(&home, n);
     let head = stored_header(m.read(lbn), len);
-    write_file(m, places.as_slice(), bytes.as_slice(), lbn, &head)?;
+    write_file(m, places.items(), bytes.as_slice(), lbn, &head)?;
     Ok(len as u32)
 }

@@ -20,7 +20,7 @@ pub struct Rec {
 pub enum RecFault {
     /// The count that begins at this byte is above 32,767.
     BadCount(usize),
-    /// The stream ends within the count, the data or the fill of the record that begins at this byte.
+    /// The stream ends within the count, the data or the padding of the record that begins at this byte.
     Truncated(usize),
     /// Memory ran out.
     NoMemory,
@@ -39,7 +39,7 @@ pub enum LineFault {
 #[derive(Clone, Copy, Debug, PartialEq)]
 pub enum StoreFault {
     /// No file of this number is in use with this sequence.
-    NoFile,
+    NoSuchFile,
     /// It is a system file, one of the numbers 1 to 11, or a directory.
     NoPriv,
     /// Something was written in it: its mark is not 1.

@@ -31,7 +31,7 @@ use Rattle.fx_dir.specs.Directory.{directory}
 use Rattle.fx_quota.specs.declared.types.Row.{Row}
 use Rattle.plain_cat.specs.declared.cat.Cat.{Cat}
 use Rattle.plain_cat.specs.declared.cat.Slot.{Slot}
-use Rattle.plain_rules.specs.Lookups.{clusters_in}
+use Rattle.plain_rules.specs.Lookups.{clusters_in, file_most}
 use Rattle.vol_spell.specs.declared.owner.Owner.{Owner}
 use Rattle.vol_spell.specs.declared.owner.Owner.TheVariants.{Free, InFile, Outside, Leaked}
 use Rattle.base_words.specs.Lists.{Has, Once}
@@ -44,15 +44,17 @@ use Rattle.vol_parts.specs.declared.finding.Finding.{Finding}
 use Rattle.vol_parts.specs.declared.finding.Finding.TheVariants as finding
 use Rattle.vol_parts.specs.declared.geometry.Geometry.{Geometry}
 use Rattle.vol_parts.specs.Parts.{IsGeometry, storage_blocks}
-use Rattle.vol_parts.specs.Volumes.{Volume, volume, factor, total, numbers, IsNumber, block_at, header_lbn, head as head_of, fields_in, fields, most_clusters, Told, told as told_in, is_slot_of, is_in_slots, runs, body, is_in_run, is_in_file, is_in_files, first_lbn, bitmap_lbn, quota_lbn, geometry_of, is_free_cluster, is_used_number, active_rows}
+use Rattle.vol_parts.specs.Volumes.{Volume, volume, factor, total, numbers, IsNumber, block_at, header_lbn, head as head_of, fields_in, used_slot, fields, Told, told as told_in, is_slot_of, is_in_slots, runs, body, is_in_run, is_in_file, is_in_files, first_lbn, bitmap_lbn, quota_lbn, geometry_of, is_free_cluster, is_used_number, active_rows}
+use Rattle.vol_parts.specs.Chains.{as_first}
 use Rattle.vol_parts.specs.Catalogues.{is_structure, slot_with, slot_of, files_of, rows_sorted, is_outside_cluster, is_outside_number, catalogue}
 use Rattle.vol_parts.specs.Fatal.{is_system_header, stated_clusters, are_stated, is_system_file, in_whole_clusters, scb_test, scb_fault, is_off_bounds, is_too_large, IsInRun, IsShared, has_dir_size, found_in, dir_test, dir_fault, IsFatalIn, has_two_rows}
 use Rattle.plain_rules.specs.SystemFiles.{is_system_directory}
 use Rattle.vol_parts.specs.Findings.{home_at, IsFatalBy, IsCatalogueBy}
-use Rattle.vol_spell.specs.Reading.{IsFileNumber, total_of, header_block, told_of, fields_told, runs_told, clusters_of, clusters_told, body_blocks, cluster_bit, number_bit, quota_places, rows_told}
-use Rattle.vol_spell.specs.Spelling.{IsHomeOf, IsHead, IsWhole, AreWhole, dir_found, size_in, Tells, IsStructure, run_for, HasStructures, Spells}
+use Rattle.vol_spell.specs.Reading.{IsFileNumber, total_of, header_block, told_of, clusters_of, clusters_told, body_blocks, cluster_bit, number_bit, quota_places, rows_told}
+use Rattle.vol_spell.specs.Spelling.{IsHomeOf, IsHead, IsBlank, IsWhole, AreWhole, dir_found, size_in, Tells, IsStructure, run_for, HasStructures, Spells}
 use Rattle.vol_spell.specs.Accepting.{owner_found, cluster_owner, number_owner, owners_told, IsSpelt, CatalogueIsSpelt}
-use Rattle.vol_spell.proofs.Parts.{slot_is_own, one_slot, room}
+use Rattle.vol_spell.proofs.Heads.{alone_told, none_told, first_reads, slot_used}
+use Rattle.vol_spell.proofs.Parts.{room}
 use Rattle.vol_spell.proofs.Adds.{sized, size_by}
 use Rattle.vol_spell.proofs.Told.{head_there, told_there, runs_there, body_there, free_cluster_at, rows_there, slot_there_of, no_dir, no_directory, which_structure, seen}
 use Rattle.vol_spell.proofs.Picking.{found_is, found_none, any_place, place_any, has_any, get_along, along_get, count_along, map_along, once_by_place, two_counted}
@@ -217,16 +219,25 @@ length-files_of v = length-map-range_with_len (slot_of v) 1 v.home.files
 
 -- a file whose blocks are those of few clusters lists few
 few_by : (g : Geometry) (n : ℕ) (r : Result Head HeaderFault) (rs : List Run) → 1 ≤ g.cluster → IsHead n r → AreWhole g rs → blocks_in rs ≡ size_in (fields_in r)
-    → ((f : Hdr) → fields_in r ≡ Some f → nat_lt most_clusters (f.blocks / g.cluster) ≡ false) → length (clusters_of g.cluster rs) ≤ most_clusters
+    → ((f : Hdr) → fields_in r ≡ Some f → nat_lt file_most (f.blocks / g.cluster) ≡ false) → length (clusters_of g.cluster rs) ≤ file_most
 few_by g n r rs low is w size few = by_head r (size_by g n r rs [] (slot_with g.cluster n r []) low is w size refl) is few where
   at_most : (x k : ℕ) → x ≡ k → nat_lt 77 x ≡ false → k ≤ 77
   at_most x k e t = grind (arith, nat_tests)
 
   by_head : (q : Result Head HeaderFault) → clusters_in (slot_with g.cluster n q []) ≡ length (clusters_of g.cluster rs) → IsHead n q
-      → ((f : Hdr) → fields_in q ≡ Some f → nat_lt most_clusters (f.blocks / g.cluster) ≡ false) → length (clusters_of g.cluster rs) ≤ most_clusters
+      → ((f : Hdr) → fields_in q ≡ Some f → nat_lt file_most (f.blocks / g.cluster) ≡ false) → length (clusters_of g.cluster rs) ≤ file_most
   by_head (Ok (head.Used f)) count is few = at_most (f.blocks / g.cluster) (length (clusters_of g.cluster rs)) count (few f refl)
   by_head (Ok (head.Free seq)) count is few = let none : 0 ≡ length (clusters_of g.cluster rs) = count in omega arith
   by_head (Err fault) count is few = absurd is
+
+-- what is told as a first header is as it is read, or free
+first_head_is : (n : ℕ) (r : Result Head HeaderFault) → IsHead n r → IsHead n (as_first r)
+first_head_is n (Ok (head.Used f)) is = by_seg (f.seg == 0) where
+  by_seg : (t : Bool) → IsHead n (if t then Ok (head.Used f) else Ok (head.Free f.seq))
+  by_seg true = is
+  by_seg false = tt
+first_head_is n (Ok (head.Free seq)) is = tt
+first_head_is n (Err fault) is = is
 
 -- ---- owners by test
 
@@ -334,14 +345,17 @@ module _ (home : Home) (bs : List Block) (read : home_read (home_at bs) ≡ Ok h
     by_test true e = head_there v n (ltb-true (header_lbn v n) (length bs) e)
     by_test false e = absurd (weak (finding.Header n BadSum) (number_is n is, head_past v n e))
 
-  v_fields : (n : ℕ) → IsFileNumber g n → fields v n ≡ fields_told (header_block g bs n)
-  v_fields n is = ap fields_in (v_head n is)
+  v_fields : (n : ℕ) → IsFileNumber g n → fields v n ≡ fields_in (told_of g bs n).head
+  v_fields n is = ap (λ r. fields_in (as_first r)) (v_head n is)
 
-  v_runs : (n : ℕ) → IsFileNumber g n → runs v n ≡ runs_told (header_block g bs n)
-  v_runs n is = runs_there v n (v_head n is)
+  v_told : (n : ℕ) → IsFileNumber g n → told_in v n ≡ told_of g bs n
+  v_told n is = told_there v n (λ m k. v_head m (record { from = k.from; to = k.to })) (number_is n is)
 
-  v_body : (n : ℕ) → IsFileNumber g n → body v n ≡ blocks_at bs (lbns_in (runs_told (header_block g bs n)))
-  v_body n is = body_there v n (runs_told (header_block g bs n)) (v_runs n is)
+  v_runs : (n : ℕ) → IsFileNumber g n → runs v n ≡ (told_of g bs n).runs
+  v_runs n is = runs_there v n (told_of g bs n) (v_told n is)
+
+  v_body : (n : ℕ) → IsFileNumber g n → body v n ≡ blocks_at bs (lbns_in (told_of g bs n).runs)
+  v_body n is = body_there v n (told_of g bs n).runs (v_runs n is)
 
   v_reads : (n : ℕ) → IsFileNumber g n → IsHead n (header_read (header_block g bs n))
   v_reads n is = subst (λ (r : Result Head HeaderFault). IsHead n r) (v_head n is) (by_head (head_of v n) refl) where
@@ -353,36 +367,39 @@ module _ (home : Home) (bs : List Block) (read : home_read (home_at bs) ≡ Ok h
       | inr ne ↦ absurd (weak (finding.WrongNumber n) (number_is n is, (f, ap fields_in e, ne)))
     ]
 
+  v_tells : (n : ℕ) → IsFileNumber g n → IsHead n (told_of g bs n).head
+  v_tells n is = first_head_is n (header_read (header_block g bs n)) (v_reads n is)
+
   v_whole_runs : (n : ℕ) → IsFileNumber g n → AreWhole g (runs v n)
   v_whole_runs n is = all_whole v (runs v n) (λ k r e. on k r e (is_off_bounds v r) refl) where
     on : (k : ℕ) (r : Run) → slice_get (runs v n) k ≡ Some r → (b : Bool) → is_off_bounds v r ≡ b → is_off_bounds v r ≡ false
     on k r e false t = t
     on k r e true t = absurd (weak (finding.Runs n) (number_is n is, place_any (is_off_bounds v) (runs v n) k r e t))
 
-  v_whole : (n : ℕ) → IsFileNumber g n → AreWhole g (runs_told (header_block g bs n))
+  v_whole : (n : ℕ) → IsFileNumber g n → AreWhole g (told_of g bs n).runs
   v_whole n is = subst (λ (rs : List Run). AreWhole g rs) (v_runs n is) (v_whole_runs n is)
 
   -- a cluster is in one run alone
-  v_one : (q n m i j : ℕ) (r s : Run) → IsFileNumber g n → IsFileNumber g m → slice_get (runs_told (header_block g bs n)) i ≡ Some r → slice_get (runs_told (header_block g bs m)) j ≡ Some s
+  v_one : (q n m i j : ℕ) (r s : Run) → IsFileNumber g n → IsFileNumber g m → slice_get (told_of g bs n).runs i ≡ Some r → slice_get (told_of g bs m).runs j ≡ Some s
       → is_in_run g.cluster q r ≡ true → is_in_run g.cluster q s ≡ true → (n ≡ m) × (i ≡ j)
   v_one q n m i j r s is_n is_m at_n at_m in_n in_m = elim (same_or_not n m) [
     | inl a ↦ elim (same_or_not i j) [ inl b ↦ (a, b) | inr ne ↦ absurd (weak (finding.SharedCluster q) (shared (inr ne))) ]
     | inr ne ↦ absurd (weak (finding.SharedCluster q) (shared (inl ne)))
   ] where
-    in_run : (k p : ℕ) (x : Run) → IsFileNumber g k → slice_get (runs_told (header_block g bs k)) p ≡ Some x → is_in_run g.cluster q x ≡ true → IsInRun (volume home bs) q k p
+    in_run : (k p : ℕ) (x : Run) → IsFileNumber g k → slice_get (told_of g bs k).runs p ≡ Some x → is_in_run g.cluster q x ≡ true → IsInRun (volume home bs) q k p
     in_run k p x is e t = record { number = number_is k is; run = x; there = ap (λ rs. slice_get rs p) (v_runs k is) ∙ e; inside = t }
 
     shared : (n ≢ m) ⊎ (i ≢ j) → IsShared (volume home bs) q
     shared apart = record { n = n; i = i; m = m; j = j; one = in_run n i r is_n at_n in_n; other = in_run m j s is_m at_m in_m; apart = apart }
 
   v_once : (n : ℕ) → IsFileNumber g n → Once (clusters_told g (told_of g bs n))
-  v_once n is = clusters_once g (runs_told (header_block g bs n)) low (v_whole n is) (λ q i j r s a b t u. (v_one q n n i j r s is is a b t u).1)
+  v_once n is = clusters_once g (told_of g bs n).runs low (v_whole n is) (λ q i j r s a b t u. (v_one q n n i j r s is is a b t u).1)
 
   -- a file has a cluster exactly where it is one of those that its header tells
   v_in_file : (q n : ℕ) → IsFileNumber g n → Has (clusters_told g (told_of g bs n)) q ↔ (is_in_file v q n ≡ true)
   v_in_file q n is = (
-    (λ t. let h = run_of g (runs_told (header_block g bs n)) q low (v_whole n is) t in place_any (is_in_run (factor v) q) (runs v n) h.place h.run (ap (λ rs. slice_get rs h.place) (v_runs n is) ∙ h.there) h.inside),
-    (λ e. let h = any_place (is_in_run (factor v) q) (runs v n) e in of_run g (runs_told (header_block g bs n)) q h.place h.item low (v_whole n is) (ap (λ rs. slice_get rs h.place) (sym (v_runs n is)) ∙ h.there) h.passes),
+    (λ t. let h = run_of g (told_of g bs n).runs q low (v_whole n is) t in place_any (is_in_run (factor v) q) (runs v n) h.place h.run (ap (λ rs. slice_get rs h.place) (v_runs n is) ∙ h.there) h.inside),
+    (λ e. let h = any_place (is_in_run (factor v) q) (runs v n) e in of_run g (told_of g bs n).runs q h.place h.item low (v_whole n is) (ap (λ rs. slice_get rs h.place) (sym (v_runs n is)) ∙ h.there) h.passes),
   )
 
   v_number : (n : ℕ) → Has (numbers v) n → IsFileNumber g n
@@ -393,8 +410,8 @@ module _ (home : Home) (bs : List Block) (read : home_read (home_at bs) ≡ Ok h
 
   v_in_total : (q n : ℕ) → IsFileNumber g n → Has (clusters_told g (told_of g bs n)) q → q < total v
   v_in_total q n is t =
-      let h = run_of g (runs_told (header_block g bs n)) q low (v_whole n is) t in
-      within_total g h.run q (whole_at g (runs_told (header_block g bs n)) h.place h.run (v_whole n is) h.there) h.inside
+      let h = run_of g (told_of g bs n).runs q low (v_whole n is) t in
+      within_total g h.run q (whole_at g (told_of g bs n).runs h.place h.run (v_whole n is) h.there) h.inside
 
   v_in_files : (q n : ℕ) → IsFileNumber g n → is_in_file v q n ≡ true → is_in_files v q ≡ true
   unfolding is_in_files
@@ -405,8 +422,8 @@ module _ (home : Home) (bs : List Block) (read : home_read (home_at bs) ≡ Ok h
     mine : is_in_file v q n ≡ true
     mine = (v_in_file q n is).0 t
 
-    run : IsInRunAt g.cluster q (runs_told (header_block g bs n))
-    run = run_of g (runs_told (header_block g bs n)) q low (v_whole n is) t
+    run : IsInRunAt g.cluster q (told_of g bs n).runs
+    run = run_of g (told_of g bs n).runs q low (v_whole n is) t
 
     by_free : (b : Bool) → is_free_cluster v q ≡ b → is_free_cluster v q ≡ false
     by_free false e = e
@@ -417,7 +434,7 @@ module _ (home : Home) (bs : List Block) (read : home_read (home_at bs) ≡ Ok h
     by_found (Some m) e =
         let h = found_is (is_in_file v q) (numbers v) m e in
         let is_m = v_number m h.0 in
-        let other = run_of g (runs_told (header_block g bs m)) q low (v_whole m is_m) ((v_in_file q m is_m).1 h.1) in
+        let other = run_of g (told_of g bs m).runs q low (v_whole m is_m) ((v_in_file q m is_m).1 h.1) in
         let same = (v_one q m n other.place run.place other.run run.run is_m is other.there run.there other.inside run.inside).0 in
         e ∙ ap (λ x. Some x) same
 
@@ -450,9 +467,6 @@ module _ (home : Home) (bs : List Block) (read : home_read (home_at bs) ≡ Ok h
   v_known : (q n : ℕ) → slice_get (map (cluster_owner v) (range_with_len 0 (total v))) q ≡ Some (InFile n) → IsFileNumber g n
   v_known q n e = let h = in_file_owner v q n (cluster_from q (InFile n) e).1 in v_number n (found_is (is_in_file v q) (numbers v) n h.1).0
 
-  v_told : (n : ℕ) → IsFileNumber g n → told_in v n ≡ told_of g bs n
-  v_told n is = told_there v n (v_head n is)
-
   -- a number is one of a file's exactly where it is among the header slots that are told of the file
   v_in_slots : (m n : ℕ) → IsFileNumber g n → Has (told_of g bs n).slots m ↔ (is_slot_of v m n ≡ true)
   v_in_slots m n is = (
@@ -463,27 +477,40 @@ module _ (home : Home) (bs : List Block) (read : home_read (home_at bs) ≡ Ok h
         subst (λ (x : Told). Has x.slots m) (v_told n is) (subst (λ k. Has (told_in v n).slots k) same (has_at (told_in v n).slots h.place h.item h.there))),
   )
 
+  -- a number among the slots of a file has a header
+  v_used_slot : (m n : ℕ) → IsFileNumber g n → Has (told_of g bs n).slots m → IsFileNumber g m × (is_some (used_slot v m) ≡ true)
+  v_used_slot m n is t =
+      let h = slot_used g bs n m (record { from = is.from; to = is.to }) t in
+      let number = h.number in
+      let is_m : IsFileNumber g m = record { from = number.from; to = number.to } in
+      (is_m, ap (λ r. is_some (fields_in r)) (v_head m is_m) ∙ h.used)
+
+  -- and is among the slots of no other file
+  v_own_slot : (m n : ℕ) → IsFileNumber g n → Has (told_of g bs n).slots m → m ≡ n
+  v_own_slot m n is t = by_head (told_of g bs n).head refl where
+    by_head : (r : Result Head HeaderFault) → (told_of g bs n).head ≡ r → m ≡ n
+    by_head (Ok (head.Used f)) e = elim (subst (λ (x : Told). Has x.slots m) (alone_told g bs n f (first_reads (header_block g bs n) f e)) t) [ inl same ↦ sym same | inr none ↦ absurd none ]
+    by_head (Ok (head.Free seq)) e = absurd (subst (λ (x : Told). Has x.slots m) (none_told g bs n seq e) t)
+    by_head (Err fault) e = absurd (subst (λ (r : Result Head HeaderFault). IsHead n r) e (v_tells n is))
+
+  v_one_file : (m n k : ℕ) → IsFileNumber g n → IsFileNumber g k → Has (told_of g bs n).slots m → Has (told_of g bs k).slots m → k ≡ n
+  v_one_file m n k is_n is_k t u = sym (v_own_slot m k is_k u) ∙ v_own_slot m n is_n t
+
   v_slot_owner : (m n : ℕ) → IsFileNumber g n → Has (told_of g bs n).slots m → IsFileNumber g m × (number_owner v m ≡ InFile n)
   v_slot_owner m n is t = (is_m, owner_in_slots v m n (by_bit (is_used_number v m) refl) (by_found (find (is_slot_of v m) (numbers v)) refl)) where
-    same : m ≡ n
-    same = one_slot g bs n m t
-
     is_m : IsFileNumber g m
-    is_m = subst (λ (k : ℕ). IsFileNumber g k) (sym same) is
-
-    used : is_some (fields v m) ≡ true
-    used = ap is_some (v_fields m is_m) ∙ ap (λ k. is_some (fields_told (header_block g bs k))) same ∙ (slot_is_own (fields_told (header_block g bs n)) n m t).1
+    is_m = (v_used_slot m n is t).0
 
     by_bit : (b : Bool) → is_used_number v m ≡ b → is_used_number v m ≡ true
     by_bit true e = e
-    by_bit false e = absurd (weak (finding.FreeNumber m) (number_is m is_m, e, used))
+    by_bit false e = absurd (weak (finding.FreeNumber m) (number_is m is_m, e, (v_used_slot m n is t).1))
 
     by_found : (o : Option ℕ) → find (is_slot_of v m) (numbers v) ≡ o → find (is_slot_of v m) (numbers v) ≡ Some n
     by_found None e = absurd (let f : false ≡ true = sym (found_none (is_slot_of v m) (numbers v) n e (v_numbers n is)) ∙ (v_in_slots m n is).0 t in cc)
     by_found (Some k) e =
         let h = found_is (is_slot_of v m) (numbers v) k e in
-        let other : m ≡ k = one_slot g bs k m ((v_in_slots m k (v_number k h.0)).1 h.1) in
-        e ∙ ap (λ x. Some x) (sym other ∙ same)
+        let is_k = v_number k h.0 in
+        e ∙ ap (λ x. Some x) (v_one_file m n k is is_k t ((v_in_slots m k is_k).1 h.1))
 
   v_slots : (n m : ℕ) → IsFileNumber g n → Has (told_of g bs n).slots m ↔ (IsFileNumber g m × (slice_get (map (number_owner v) (numbers v)) (m - 1) ≡ Some (InFile n)))
   v_slots n m is = (
@@ -491,9 +518,9 @@ module _ (home : Home) (bs : List Block) (read : home_read (home_at bs) ≡ Ok h
     (λ x. let h = in_slots_owner v m n (number_from_at m (InFile n) x.0 x.1) in (v_in_slots m n is).1 (found_is (is_slot_of v m) (numbers v) n h.1).1),
   )
 
-  v_few : (n : ℕ) → IsFileNumber g n → 11 < n → length (clusters_told g (told_of g bs n)) ≤ most_clusters
-  v_few n is above = few_by g n (told_of g bs n).head (told_of g bs n).runs low (v_reads n is) (v_whole n is) (sized n (header_block g bs n)) (λ f e. by_test f e (is_too_large v (Some f)) refl) where
-    by_test : (f : Hdr) → fields_told (header_block g bs n) ≡ Some f → (t : Bool) → is_too_large v (Some f) ≡ t → is_too_large v (Some f) ≡ false
+  v_few : (n : ℕ) → IsFileNumber g n → 11 < n → length (clusters_told g (told_of g bs n)) ≤ file_most
+  v_few n is above = few_by g n (told_of g bs n).head (told_of g bs n).runs low (v_tells n is) (v_whole n is) (sized g bs n (v_tells n is)) (λ f e. by_test f e (is_too_large v (Some f)) refl) where
+    by_test : (f : Hdr) → fields_in (told_of g bs n).head ≡ Some f → (t : Bool) → is_too_large v (Some f) ≡ t → is_too_large v (Some f) ≡ false
     by_test f e false t = t
     by_test f e true t = absurd (weak (finding.Clusters n) (number_is n is, above, ap (is_too_large v) (v_fields n is ∙ e) ∙ t))
 
@@ -611,9 +638,9 @@ module _ (home : Home) (bs : List Block) (read : home_read (home_at bs) ≡ Ok h
 
   -- ---- files and rows
 
-  v_structure_header : (n : ℕ) → is_structure n ≡ true → is_system_header n (fields_told (header_block g bs n)) ≡ true
+  v_structure_header : (n : ℕ) → is_structure n ≡ true → is_system_header n (fields_in (told_of g bs n).head) ≡ true
   v_structure_header n e =
-      let P : ℕ → Type 0 = λ k. is_system_header k (fields_told (header_block g bs k)) ≡ true in
+      let P : ℕ → Type 0 = λ k. is_system_header k (fields_in (told_of g bs k).head) ≡ true in
       elim (which_structure n e) [
         | inl a ↦ subst P (sym a) v_index_file.header
         | inr more ↦ elim more [ inl b ↦ subst P (sym b) v_bitmap_file.header | inr c ↦ subst P (sym c) v_quota_file.header ]
@@ -633,34 +660,40 @@ module _ (home : Home) (bs : List Block) (read : home_read (home_at bs) ≡ Ok h
       | Mixed same ↦ weak (finding.DirClash n) (number_is n is, said f (finding.DirClash n) e same)
     ])
 
-  v_dir_all : (n : ℕ) → IsFileNumber g n → dir_found g n (fields_told (header_block g bs n)) (runs_told (header_block g bs n)) (blocks_at bs (lbns_in (runs_told (header_block g bs n)))) ≡ None
+  v_dir_all : (n : ℕ) → IsFileNumber g n → dir_found g n (fields_in (told_of g bs n).head) (told_of g bs n).runs (blocks_at bs (lbns_in (told_of g bs n).runs)) ≡ None
   v_dir_all n is =
-      ap (λ h. dir_found g n h (runs_told (header_block g bs n)) (blocks_at bs (lbns_in (runs_told (header_block g bs n))))) (sym (v_fields n is))
-      ∙ ap (λ rs. dir_found g n (fields v n) rs (blocks_at bs (lbns_in (runs_told (header_block g bs n))))) (sym (v_runs n is))
+      ap (λ h. dir_found g n h (told_of g bs n).runs (blocks_at bs (lbns_in (told_of g bs n).runs))) (sym (v_fields n is))
+      ∙ ap (λ rs. dir_found g n (fields v n) rs (blocks_at bs (lbns_in (told_of g bs n).runs))) (sym (v_runs n is))
       ∙ ap (λ xs. dir_found g n (fields v n) (runs v n) xs) (sym (v_body n is)) ∙ dir_same v n (fields v n) ∙ v_dir_test n is
 
-  v_dir : (n : ℕ) → IsFileNumber g n → dir_found g n (fields_told (header_block g bs n)) (runs_told (header_block g bs n)) (body_blocks bs n (told_of g bs n)) ≡ None
+  v_dir : (n : ℕ) → IsFileNumber g n → dir_found g n (fields_in (told_of g bs n).head) (told_of g bs n).runs (body_blocks bs n (told_of g bs n)) ≡ None
   v_dir n is = by_kind (is_structure n) refl where
-    by_kind : (k : Bool) → is_structure n ≡ k → dir_found g n (fields_told (header_block g bs n)) (runs_told (header_block g bs n)) (body_blocks bs n (told_of g bs n)) ≡ None
-    by_kind true e = dir_blind g n (fields_told (header_block g bs n)) _ _ (no_directory n e) (v_structure_header n e)
+    by_kind : (k : Bool) → is_structure n ≡ k → dir_found g n (fields_in (told_of g bs n).head) (told_of g bs n).runs (body_blocks bs n (told_of g bs n)) ≡ None
+    by_kind true e = dir_blind g n (fields_in (told_of g bs n).head) _ _ (no_directory n e) (v_structure_header n e)
     by_kind false e =
-        ap (λ t. dir_found g n (fields_told (header_block g bs n)) (runs_told (header_block g bs n)) (blocks_at bs (cond t [] (lbns_in (runs_told (header_block g bs n)))))) e ∙ v_dir_all n is
+        ap (λ t. dir_found g n (fields_in (told_of g bs n).head) (told_of g bs n).runs (blocks_at bs (cond t [] (lbns_in (told_of g bs n).runs)))) e ∙ v_dir_all n is
 
   v_files : (n : ℕ) (s : Slot) → IsFileNumber g n → slice_get (files_of v) (n - 1) ≡ Some s → Tells g (owners_told v) n (told_of g bs n) (body_blocks bs n (told_of g bs n)) s
   v_files n s is at = record {
-    reads = v_reads n is;
+    reads = v_tells n is;
     whole = v_whole n is;
     once = v_once n is;
     runs = λ q. v_clusters n q is;
     few = v_few n is;
     slots = λ m. v_slots n m is;
-    size = sized n (header_block g bs n);
+    size = sized g bs n (v_tells n is);
     dir = v_dir n is;
     slot =
         (let a = is.from in
-        sym (seen g bs n (header_block g bs n) (v_structure_header n)) ∙ sym (slot_there_of v n (header_block g bs n) (blocks_at bs (lbns_in (runs_told (header_block g bs n)))) (v_head n is) (v_body n is))
+        sym (seen g bs n (told_of g bs n) (v_structure_header n)) ∙ sym (slot_there_of v n (told_of g bs n) (blocks_at bs (lbns_in (told_of g bs n).runs)) (v_told n is) (v_body n is))
         ∙ ap (slot_of v) (let z : n ≡ 1 + (n - 1) = omega arith in z) ∙ slot_from v (n - 1) s at);
   }
+
+  v_blank : (m : ℕ) → IsFileNumber g m → slice_get (map (number_owner v) (numbers v)) (m - 1) ≡ Some Free → IsBlank (header_block g bs m)
+  v_blank m is at = sym (ap fields_in (v_head m is)) ∙ by_fields (fields_in (head_of v m)) refl where
+    by_fields : (o : Option Hdr) → fields_in (head_of v m) ≡ o → fields_in (head_of v m) ≡ None
+    by_fields None e = e
+    by_fields (Some f) e = absurd (weak (finding.FreeNumber m) (number_is m is, (free_number_owner v m).1 (number_from_at m Free is at), ap is_some e))
 
   v_quota_body : body v 10 ≡ blocks_at bs (quota_places g)
   v_quota_body = v_body 10 ten ∙ ap (λ rs. blocks_at bs (lbns_in rs)) v_quota_file.run ∙ ap (λ ls. blocks_at bs ls) (append-nil (quota_places g))
@@ -696,6 +729,7 @@ module _ (home : Home) (bs : List Block) (read : home_read (home_at bs) ≡ Ok h
     structures = v_structures;
     constants = record { factor = refl; total = refl; reserved = refl; rows = ap (λ k. 16 * k) v_row_count };
     files = v_files;
+    slots = record { heads = v_reads; blank = v_blank };
     rows = record {
       quota = ap rows_sorted v_rows;
       once = v_row_owners;

@@ -1,5 +1,5 @@
 -- The clusters add up.
-use Rattle.std.proofs.Common.{◌≡◌, ◌<◌, ◌≤◌, ◌+◌, ◌-◌, ◌*◌, ◌/◌, ℕ, zero, suc, List, [], ◌∷◌, ◌++◌, Some, length, take, slice_get, get_or, refl, sym, ap, ◌∙◌, arith, cond, length-append, ◌%◌}
+use Rattle.std.proofs.Common.{◌≡◌, ◌<◌, ◌≤◌, ◌+◌, ◌-◌, ◌*◌, ◌/◌, ℕ, zero, suc, List, [], ◌∷◌, ◌++◌, Some, length, take, slice_get, get_or, refl, sym, ap, subst, ◌∙◌, arith, cond, length-append, ◌%◌}
 use Rattle.std.specs.Prelude.{◌==◌, ◌&&◌, nat_lt, count_by, sum_by, Result, Ok, Err}
 use Rattle.std.specs.List.{range_with_len}
 use Rattle.std.proofs.lemmas.Bool.Decides.{nat_tests}
@@ -26,11 +26,12 @@ use Rattle.vol_spell.specs.Owners.{Owners}
 use Rattle.vol_spell.specs.Counts.{is_same_owner}
 use Rattle.vol_spell.proofs.Counting.{counts_list}
 use Rattle.vol_parts.specs.declared.geometry.Geometry.{Geometry}
-use Rattle.vol_parts.specs.Volumes.{fields_in, runs_with, Told}
+use Rattle.vol_parts.specs.Volumes.{fields_in, Told}
 use Rattle.vol_parts.specs.Catalogues.{slot_with}
-use Rattle.vol_spell.specs.Reading.{IsFileNumber, total_of, header_tells, told_of, clusters_of, clusters_told}
+use Rattle.vol_spell.specs.Reading.{IsFileNumber, total_of, header_block, told_of, alone, clusters_of, clusters_told}
 use Rattle.vol_spell.specs.Spelling.{AreWhole, IsHead, size_in, Tells, Spells}
 use Rattle.vol_spell.specs.Adding.{is_outside, CountsAdd, ClustersAddUp}
+use Rattle.vol_spell.proofs.Heads.{alone_told, none_told, first_reads}
 use Rattle.vol_spell.proofs.Parts.{low, told}
 
 -- ---- the size of a file
@@ -56,13 +57,17 @@ read_blocks b f e =
     let h : blocks_of b ≡ f.blocks = ap (λ (x : Hdr). x.blocks) s.fields in
     size-of b s.size ∙ h
 
--- the runs that a header tells have the blocks that it says
-pub sized : (n : ℕ) (b : Block) → blocks_in (header_tells n b).runs ≡ size_in (fields_in (header_tells n b).head)
-sized n b = by_read (header_read b) refl where
-  by_read : (r : Result Head HeaderFault) → header_read b ≡ r → blocks_in (runs_with (fields_in r) b) ≡ size_in (fields_in r)
-  by_read (Ok (head.Used f)) e = read_blocks b f e
-  by_read (Ok (head.Free seq)) e = refl
-  by_read (Err fault) e = refl
+-- the runs of a file that has one header have the blocks that it says
+pub alone_sized : (n : ℕ) (f : Hdr) (b : Block) → header_read b ≡ Ok (head.Used f) → blocks_in (alone n f b).runs ≡ size_in (fields_in (alone n f b).head)
+alone_sized n f b e = read_blocks b f e
+
+-- and so those of each file have the blocks that its first header says
+pub sized : (g : Geometry) (bs : List Block) (n : ℕ) → IsHead n (told_of g bs n).head → blocks_in (told_of g bs n).runs ≡ size_in (fields_in (told_of g bs n).head)
+sized g bs n is = by_read (told_of g bs n).head refl is where
+  by_read : (r : Result Head HeaderFault) → (told_of g bs n).head ≡ r → IsHead n r → blocks_in (told_of g bs n).runs ≡ size_in (fields_in (told_of g bs n).head)
+  by_read (Ok (head.Used f)) e is = subst (λ (t : Told). blocks_in t.runs ≡ size_in (fields_in t.head)) (sym (alone_told g bs n f (first_reads (header_block g bs n) f e))) (alone_sized n f (header_block g bs n) (first_reads (header_block g bs n) f e))
+  by_read (Ok (head.Free seq)) e is = subst (λ (t : Told). blocks_in t.runs ≡ size_in (fields_in t.head)) (sym (none_told g bs n seq e)) refl
+  by_read (Err fault) e is = absurd is
 
 none_by : (k f : ℕ) → 1 ≤ f → k * f ≡ 0 → 0 ≡ k
 none_by zero f low e = refl

@@ -27,11 +27,12 @@ use Rattle.vol_spell.specs.Spread.{blocks_at}
 use Rattle.vol_spell.proofs.Placing.{length-blocks_at}
 use Rattle.vol_parts.specs.declared.finding.Finding.TheVariants as finding
 use Rattle.vol_parts.specs.declared.geometry.Geometry.{Geometry}
-use Rattle.vol_parts.specs.Volumes.{Told, fields_in, runs_with}
+use Rattle.vol_parts.specs.Volumes.{Told, fields_in}
 use Rattle.vol_parts.specs.Catalogues.{plain_entry, plain_entries, is_structure, written_blocks, entries_in, file_of, slot_with}
 use Rattle.vol_parts.specs.Fatal.{is_cluster_run, is_system_header, has_dir_size, found_in}
-use Rattle.vol_spell.specs.Reading.{IsFileNumber, header_block, told_of, fields_told, runs_told, body_places, body_blocks}
+use Rattle.vol_spell.specs.Reading.{IsFileNumber, header_block, head_told, told_of, alone, body_places, body_blocks}
 use Rattle.vol_spell.specs.Spelling.{Tells, dir_found, Spells}
+use Rattle.vol_spell.proofs.Heads.{alone_told, first_reads}
 use Rattle.vol_spell.proofs.Frames.{of_body}
 use Rattle.vol_spell.proofs.Told.{no_dir, no_directory, which_structure}
 use Rattle.vol_spell.specs.Entries.{places_in, blocks_of}
@@ -39,15 +40,15 @@ use Rattle.vol_spell.proofs.EntryLists.{read_where_none_found, none_found_where_
 
 -- a directory is none of the files that hold the volume's own structures
 module _ (g : Geometry) (bs : List Block) (own : Owners) (x : Cat) (s : Spells g bs own x) where
-  system : (n : ℕ) → is_structure n ≡ true → is_system_header n (fields_told (header_block g bs n)) ≡ true
+  system : (n : ℕ) → is_structure n ≡ true → is_system_header n (fields_in (told_of g bs n).head) ≡ true
   system n e =
-      let P : ℕ → Type 0 = λ k. is_system_header k (fields_told (header_block g bs k)) ≡ true in
+      let P : ℕ → Type 0 = λ k. is_system_header k (fields_in (told_of g bs k).head) ≡ true in
       elim (which_structure n e) [
         | inl one ↦ subst P (sym one) s.structures.index.header
         | inr more ↦ elim more [ inl two ↦ subst P (sym two) s.structures.bitmap.header | inr ten ↦ subst P (sym ten) s.structures.quota.header ]
       ]
 
-  plain_directory : (n : ℕ) (h : Hdr) → header_read (header_block g bs n) ≡ Ok (head.Used h) → h.dir ≡ true → is_structure n ≡ false
+  plain_directory : (n : ℕ) (h : Hdr) → (told_of g bs n).head ≡ Ok (head.Used h) → h.dir ≡ true → is_structure n ≡ false
   plain_directory n h e d = by_kind (is_structure n) refl where
     by_kind : (k : Bool) → is_structure n ≡ k → is_structure n ≡ false
     by_kind false k = k
@@ -62,6 +63,7 @@ pub record IsDirAt (g : Geometry) (bs : List Block) (n : ℕ) (d : File) : Type 
   pub entries : List RawEnt
   pub header : header_read (header_block g bs n) ≡ Ok (head.Used fields)
   pub dir : fields.dir ≡ true
+  pub told : told_of g bs n ≡ alone n fields (header_block g bs n)
   pub places : body_places n (told_of g bs n) ≡ places_in (header_block g bs n)
   pub file : file_of g.cluster n fields (blocks_of g bs n) ≡ d
   pub size : has_dir_size g.cluster fields (runs_in (header_block g bs n)) ≡ true
@@ -117,25 +119,29 @@ module _ (g : Geometry) (bs : List Block) (own : Owners) (x : Cat) (s : Spells g
   tells : Tells g own n (told_of g bs n) (body_blocks bs n (told_of g bs n)) (slot.Used d)
   tells = s.files n (slot.Used d) is (used_at x n d at)
 
-  by_read : (r : Result Head HeaderFault) → header_read h ≡ r → slot_with g.cluster n r (body_blocks bs n (told_of g bs n)) ≡ slot.Used d
-      → dir_found g n (fields_in r) (runs_with (fields_in r) h) (body_blocks bs n (told_of g bs n)) ≡ None → IsDirAt g bs n d
-  by_read (Err fault) e told found = absurd (cc)
-  by_read (Ok (head.Free seq)) e told found = absurd (cc)
-  by_read (Ok (head.Used f)) e told found =
+  by_read : (r : Result Head HeaderFault) → head_told h ≡ r → slot_with g.cluster n r (body_blocks bs n (told_of g bs n)) ≡ slot.Used d → IsDirAt g bs n d
+  by_read (Err fault) e told = absurd (cc)
+  by_read (Ok (head.Free seq)) e told = absurd (cc)
+  by_read (Ok (head.Used f)) e told =
+      let reads : header_read h ≡ Ok (head.Used f) = first_reads h f e in
+      let one : told_of g bs n ≡ alone n f h = alone_told g bs n f reads in
       let file : file_of g.cluster n f (body_blocks bs n (told_of g bs n)) ≡ d = cc in
       let is_dir : f.dir ≡ true = ap (λ (y : File). y.dir) file ∙ dir in
-      let plain : is_structure n ≡ false = plain_directory g bs own x s n f e is_dir in
+      let plain : is_structure n ≡ false = plain_directory g bs own x s n f (ap (λ (t : Told). t.head) one) is_dir in
       let places : body_places n (told_of g bs n) ≡ places_in h =
-      ap (λ q. if q then [] else lbns_in (runs_told h)) plain ∙ ap (λ r. lbns_in (runs_with (fields_in r) h)) e in
+      ap (λ q. if q then [] else lbns_in (told_of g bs n).runs) plain ∙ ap (λ (t : Told). lbns_in t.runs) one in
       let body : body_blocks bs n (told_of g bs n) ≡ blocks_of g bs n = ap (blocks_at bs) places in
+      let found : dir_found g n (Some f) (runs_in h) (body_blocks bs n (told_of g bs n)) ≡ None =
+      ap (λ (t : Told). dir_found g n (fields_in t.head) t.runs (body_blocks bs n (told_of g bs n))) (sym one) ∙ tells.dir in
       let found_on : dir_found g n (Some f) (runs_in h) (blocks_of g bs n) ≡ None = ap (dir_found g n (Some f) (runs_in h)) (sym body) ∙ found in
       let sound = nothing_found g n f (runs_in h) (blocks_of g bs n) is_dir found_on in
       let run = and_parts (is_cluster_run g.cluster (runs_in h)) ((f.mark == 0) && ((f.end == g.cluster + 1) && (f.byte == 0))) sound.size in
       record {
         fields = f;
         entries = sound.entries;
-        header = e;
+        header = reads;
         dir = is_dir;
+        told = one;
         places = places;
         file = ap (file_of g.cluster n f) (sym body) ∙ file;
         size = sound.size;
@@ -145,7 +151,7 @@ module _ (g : Geometry) (bs : List Block) (own : Owners) (x : Cat) (s : Spells g
       }
 
   pub dir_at : IsDirAt g bs n d
-  dir_at = by_read (header_read h) refl tells.slot tells.dir
+  dir_at = by_read (head_told h) refl tells.slot
 
 -- ---- what other blocks of the directory tell
 
@@ -169,11 +175,11 @@ shows_dir g bs n d at es blocks read =
     let f = at.fields in
     let h = header_block g bs n in
     record {
-      none = ap (λ r. dir_found g n (fields_in r) (runs_with (fields_in r) h) blocks) at.header
+      none = ap (λ (t : Told). dir_found g n (fields_in t.head) t.runs blocks) at.told
           ∙ ap (λ q. if not q then None else if has_dir_size g.cluster f (runs_in h) then found_in n (directory blocks) else Some (finding.DirSize n)) at.dir
           ∙ ap (λ q. if q then found_in n (directory blocks) else Some (finding.DirSize n)) at.size
           ∙ none_found_where_read n (directory blocks) es read;
-      slot = ap (λ r. slot_with g.cluster n r blocks) at.header ∙ ap (λ (y : File). slot.Used y) file;
+      slot = ap (λ (t : Told). slot_with g.cluster n t.head blocks) at.told ∙ ap (λ (y : File). slot.Used y) file;
     }
   where
     file : file_of g.cluster n at.fields blocks ≡ record d { entries = map plain_entry es }

@@ -27,13 +27,13 @@ use Rattle.vol_parts.specs.declared.geometry.Part.TheVariants.{Header}
 use Rattle.vol_parts.specs.Parts.{part_of}
 use Rattle.vol_parts.specs.Volumes.{fields_in, Told}
 use Rattle.vol_parts.specs.Catalogues.{plain_entry, slot_with}
-use Rattle.vol_spell.specs.Reading.{IsFileNumber, header_place, header_block, header_tells, told_of, body_places, body_blocks, owner_at}
+use Rattle.vol_spell.specs.Reading.{IsFileNumber, header_place, header_block, told_of, body_places, body_blocks, owner_at}
 use Rattle.vol_spell.specs.Spelling.{dir_found, Spells}
 use Rattle.vol_spell.specs.Kinds.{IsBodyFor}
 use Rattle.vol_spell.specs.Views.{IsFileAt, IsSameFile}
-use Rattle.vol_spell.proofs.Keeping.{body_write}
-use Rattle.vol_spell.proofs.Parts.{part_there}
-use Rattle.vol_spell.proofs.Frames.{body_owned, body_no_part, body_once, of_body}
+use Rattle.vol_spell.proofs.Keeping.{header_number, body_write}
+use Rattle.vol_spell.proofs.Parts.{told, part_there}
+use Rattle.vol_spell.proofs.Frames.{told_kept, body_owned, body_no_part, body_once, of_body}
 use Rattle.vol_spell.proofs.Viewing.{body_set}
 use Rattle.vol_spell.specs.Entries.{places_in, blocks_of, places_written, after_moves, AreMovesIn, MovesSpelt, MovesLeave}
 use Rattle.vol_spell.proofs.EntryLists.{map_plain}
@@ -52,7 +52,7 @@ module _ (g : Geometry) (bs : List Block) (own : Owners) (x : Cat) (s : Spells g
   pub others_kept : (i : ℕ) → IsFileNumber g i → (i ≡ n → ⊥) → IsSameFile g bs (written ws bs) i
   others_kept i file other = record { header = header_kept i file; told = kept; body = ap (body_blocks (written ws bs) i) kept ∙ blocks_kept ws bs (body_places i (told_of g bs i)) no_block } where
     kept : told_of g (written ws bs) i ≡ told_of g bs i
-    kept = ap (header_tells i) (header_kept i file)
+    kept = told_kept g ws bs i (told g bs own x s i file).size (λ l t m u e. body_no_part g bs own x s n l (Header m) is (within l t) (ap (part_of g) (sym e) ∙ part_there g bs own x s (Header m) (header_number g bs own x s i m file u)))
 
     no_block : (l : ℕ) → Touches ws l → Has (body_places i (told_of g bs i)) l → ⊥
     no_block l t u =
@@ -100,10 +100,7 @@ set_again (x ∷ xs) (suc k) a b = ap (λ ys. x ∷ ys) (set_again xs k a b)
 slot_again : (x : Cat) (n : ℕ) (s t : Slot) → with_slot (with_slot x n s) n t ≡ with_slot x n t
 slot_again x n s t = ap (λ (fs : List Slot). record x { files = fs }) (set_again x.files (n - 1) s t)
 
-module _ (g : Geometry) (own : Owners) (n : ℕ) (h : Block) (is : IsFileNumber g n) (places : body_places n (header_tells n h) ≡ places_in h) where
-  abbrev t : Told
-  t = header_tells n h
-
+module _ (g : Geometry) (own : Owners) (n : ℕ) (h : Block) (t : Told) (is : IsFileNumber g n) (places : body_places n t ≡ places_in h) where
   abbrev shown : List Block → Slot
   shown body = slot_with g.cluster n t.head body
 
@@ -169,7 +166,7 @@ module _ (g : Geometry) (bs : List Block) (own : Owners) (x : Cat) (n : ℕ) (d 
   shows k es read =
       let told = (shows_dir g bs n d at es (moved (take k ms) body) read).slot in
       subst (λ (s : Slot). Spells g (after_moves g n (take k ms) bs) own (with_slot x n s)) told
-      (spelt_after g own n h are.number at.places k ms bs body x are.moves.whole are.moves.changes count are.spelt (record { header = refl; told = refl; body = ap (blocks_at bs) at.places })
+      (spelt_after g own n h (told_of g bs n) are.number at.places k ms bs body x are.moves.whole are.moves.changes count are.spelt (record { header = refl; told = refl; body = ap (blocks_at bs) at.places })
       (λ i le. let r = reads i le in (shows_dir g bs n d at r.0 (moved (take i ms) body) r.1).none))
 
   -- the entries are the catalogue's before

@@ -9,30 +9,31 @@ use Rattle.std.proofs.lemmas.Option.{slice_get_within}
 use Rattle.std.proofs.lemmas.List.Sums.{sum_by-cons}
 use Rattle.base_words.specs.Fields.{Block}
 use Rattle.fx_header.specs.declared.run.Run.{Run}
-use Rattle.fx_header.specs.Pointers.{lbns_in}
+use Rattle.fx_header.specs.Headers.{header_read}
+use Rattle.fx_header.specs.Pointers.{blocks_in, lbns_in}
 use Rattle.plain_cat.specs.declared.cat.Cat.{Cat}
 use Rattle.plain_cat.specs.declared.cat.Slot.{Slot}
 use Rattle.plain_rules.specs.Lookups.{clusters_in}
 use Rattle.vol_spell.specs.declared.owner.Owner.{Owner}
-use Rattle.vol_spell.specs.declared.owner.Owner.TheVariants.{InFile}
-use Rattle.base_words.specs.Lists.{Has, Once}
+use Rattle.vol_spell.specs.declared.owner.Owner.TheVariants.{Free, InFile}
+use Rattle.base_words.specs.Lists.{Has, Once, Touches, written}
 use Rattle.vol_spell.specs.Owners.{Owners}
 use Rattle.base_words.proofs.Listing.{same_or_not}
 use Rattle.base_words.proofs.ListWrites.{get-set_else, get-set_here}
-use Rattle.vol_spell.proofs.Placing.{blocks_stay, has_ranged}
+use Rattle.vol_spell.proofs.Placing.{blocks_stay, has_ranged, index-set_here}
 use Rattle.vol_parts.specs.declared.geometry.Geometry.{Geometry}
 use Rattle.vol_parts.specs.declared.geometry.Part.{Part}
 use Rattle.vol_parts.specs.declared.geometry.Part.TheVariants.{Header, IndexBitmap, Storage, Quota}
 use Rattle.vol_parts.specs.Parts.{part_of, storage_blocks}
 use Rattle.vol_parts.specs.Volumes.{fields_in, Told, rows_in}
 use Rattle.vol_parts.specs.Catalogues.{is_structure}
-use Rattle.vol_spell.specs.Reading.{IsFileNumber, total_of, owner_at, header_place, header_tells, told_of, body_places, body_blocks, cluster_bit, number_bit, quota_places, rows_told}
+use Rattle.vol_spell.specs.Reading.{IsFileNumber, total_of, owner_at, header_place, header_block, told_of, body_places, body_blocks, cluster_bit, number_bit, quota_places, rows_told}
 use Rattle.vol_spell.specs.Places.{file_of_part}
-use Rattle.vol_spell.specs.Spelling.{Tells, IsStructure, HasStructures, Spells, IsHomeOf}
+use Rattle.vol_spell.specs.Spelling.{size_in, Tells, IsStructure, HasStructures, IsHead, IsBlank, HasSlots, Spells, IsHomeOf}
 use Rattle.vol_spell.specs.Bodies.{IsOfBody}
-use Rattle.vol_spell.specs.Views.{ToldStays}
 use Rattle.vol_spell.proofs.Runs.{lbns_once}
-use Rattle.vol_spell.proofs.Parts.{one_head, low, told, in_file, slot_number, home_owned, control_owned, part_owned, part_owner}
+use Rattle.vol_spell.proofs.Heads.{told_stays}
+use Rattle.vol_spell.proofs.Parts.{low, told, in_file, slot_number, not_slot, home_owned, control_owned, part_owned, part_owner}
 
 structure_file : (p : Part) → is_structure (file_of_part p) ≡ true
 structure_file (Header n) = refl
@@ -42,20 +43,30 @@ structure_file (Quota k) = refl
 
 -- ---- one file
 
--- what is told of a file stays where none of the blocks in its header slots changes
-pub told_stays : ToldStays
-told_stays g bs n l b away = ap (header_tells n) (get_or-set_other bs l (header_place g n) b [] (away n (inl refl)))
+-- and so where blocks are set, none of them in its header slots
+pub told_kept : (g : Geometry) (ws : List (ℕ × Block)) (bs : List Block) (n : ℕ) → blocks_in (told_of g bs n).runs ≡ size_in (fields_in (told_of g bs n).head)
+    → ((l : ℕ) → Touches ws l → (m : ℕ) → Has (n ∷ (told_of g bs n).slots) m → header_place g m ≢ l) → told_of g (written ws bs) n ≡ told_of g bs n
+told_kept g [] bs n size away = refl
+told_kept g (w ∷ ws) bs n size away =
+    let one : told_of g (slice_set bs w.0 w.1) n ≡ told_of g bs n = told_stays g bs n w.0 w.1 size (away w.0 (inl refl)) in
+    told_kept g ws (slice_set bs w.0 w.1) n (subst (λ (t : Told). blocks_in t.runs ≡ size_in (fields_in t.head)) (sym one) size)
+    (λ l t m u. away l (inr t) m (subst (λ (x : Told). Has (n ∷ x.slots) m) one u)) ∙ one
 
--- a block that is set elsewhere leaves what is told of a file and its blocks
+-- a block that is set elsewhere leaves a file of which the same is told
+pub file_kept : (g : Geometry) (own : Owners) (bs : List Block) (l : ℕ) (b : Block) (n : ℕ) (s : Slot) → told_of g (slice_set bs l b) n ≡ told_of g bs n → (Has (body_places n (told_of g bs n)) l → ⊥)
+    → Tells g own n (told_of g bs n) (body_blocks bs n (told_of g bs n)) s
+    → Tells g own n (told_of g (slice_set bs l b) n) (body_blocks (slice_set bs l b) n (told_of g (slice_set bs l b) n)) s
+file_kept g own bs l b n s h away t =
+    let P : Told → Type 0 = λ x. Tells g own n x (body_blocks (slice_set bs l b) n x) s in
+    let R : List Block → Type 0 = λ xs. Tells g own n (told_of g bs n) xs s in
+    subst P (sym h) (subst R (sym (blocks_stay bs l b (body_places n (told_of g bs n)) away)) t)
+
+-- and what is told of a file, and its blocks, where it is set in none of its header slots
 pub file_stays : (g : Geometry) (own : Owners) (bs : List Block) (l : ℕ) (b : Block) (n : ℕ) (s : Slot) → ((m : ℕ) → Has (n ∷ (told_of g bs n).slots) m → header_place g m ≢ l)
     → (Has (body_places n (told_of g bs n)) l → ⊥)
     → Tells g own n (told_of g bs n) (body_blocks bs n (told_of g bs n)) s
     → Tells g own n (told_of g (slice_set bs l b) n) (body_blocks (slice_set bs l b) n (told_of g (slice_set bs l b) n)) s
-file_stays g own bs l b n s other away t =
-    let h = told_stays g bs n l b other in
-    let P : Told → Type 0 = λ x. Tells g own n x (body_blocks (slice_set bs l b) n x) s in
-    let R : List Block → Type 0 = λ xs. Tells g own n (told_of g bs n) xs s in
-    subst P (sym h) (subst R (sym (blocks_stay bs l b (body_places n (told_of g bs n)) away)) t)
+file_stays g own bs l b n s other away t = file_kept g own bs l b n s (told_stays g bs n l b t.size other) away t
 
 -- what a file tells stays where what it owns stays
 pub tells_on : (g : Geometry) (own new : Owners) (n : ℕ) (h : Told) (blocks : List Block) (s : Slot)
@@ -74,22 +85,45 @@ tells_on g own new n h blocks s cs ns t = record {
   slot = t.slot;
 }
 
-structure_stays : (g : Geometry) (bs : List Block) (l : ℕ) (b : Block) (n : ℕ) (r : Run) → header_place g n ≢ l → IsStructure g bs n r → IsStructure g (slice_set bs l b) n r
-structure_stays g bs l b n r other st =
-    let h = told_stays g bs n l b (λ m t. subst (λ k. header_place g k ≢ l) (sym (one_head g bs n m t)) other) in
-    record { header = ap (λ t. is_system_header n (fields_in t.head)) h ∙ st.header; run = ap (λ t. t.runs) h ∙ st.run }
+structure_stays : (g : Geometry) (bs bs' : List Block) (n : ℕ) (r : Run) → told_of g bs' n ≡ told_of g bs n → IsStructure g bs n r → IsStructure g bs' n r
+structure_stays g bs bs' n r h st = record { header = ap (λ (t : Told). is_system_header n (fields_in t.head)) h ∙ st.header; run = ap (λ (t : Told). t.runs) h ∙ st.run }
 
-pub structures_stay : (g : Geometry) (bs : List Block) (l : ℕ) (b : Block) → 1 ≢ l → g.bitmap_lbn ≢ l → ((n : ℕ) → is_structure n ≡ true → header_place g n ≢ l) → HasStructures g bs → HasStructures g (slice_set bs l b)
-structures_stay g bs l b home control headers st =
+pub structures_stay : (g : Geometry) (bs : List Block) (l : ℕ) (b : Block) → 1 ≢ l → g.bitmap_lbn ≢ l → ((n : ℕ) → is_structure n ≡ true → told_of g (slice_set bs l b) n ≡ told_of g bs n) → HasStructures g bs → HasStructures g (slice_set bs l b)
+structures_stay g bs l b home control told st =
     let P : Block → Type 0 = λ x. IsHomeOf g (home_read x) in
     let R : Block → Type 0 = λ x. scb_read x ≡ Ok (record { cluster = g.cluster; blocks = g.blocks }) in
     record {
       home = subst P (sym (get_or-set_other bs l 1 b [] home)) st.home;
       control = subst R (sym (get_or-set_other bs l g.bitmap_lbn b [] control)) st.control;
-      index = structure_stays g bs l b 1 _ (headers 1 refl) st.index;
-      bitmap = structure_stays g bs l b 2 _ (headers 2 refl) st.bitmap;
-      quota = structure_stays g bs l b 10 _ (headers 10 refl) st.quota;
+      index = structure_stays g bs (slice_set bs l b) 1 _ (told 1 refl) st.index;
+      bitmap = structure_stays g bs (slice_set bs l b) 2 _ (told 2 refl) st.bitmap;
+      quota = structure_stays g bs (slice_set bs l b) 10 _ (told 10 refl) st.quota;
     }
+
+-- ---- header slots
+
+-- a block that is set in no header slot leaves them, and no other number is free
+pub slots_stay : (g : Geometry) (bs : List Block) (own new : Owners) (l : ℕ) (b : Block) → ((m : ℕ) → IsFileNumber g m → header_place g m ≢ l)
+    → ((m : ℕ) → IsFileNumber g m → slice_get new.numbers (m - 1) ≡ Some Free → IsBlank (header_block g bs m)) → HasSlots g bs own → HasSlots g (slice_set bs l b) new
+slots_stay g bs own new l b apart blank h =
+    let same : (m : ℕ) → IsFileNumber g m → header_block g (slice_set bs l b) m ≡ header_block g bs m = λ m is. get_or-set_other bs l (header_place g m) b [] (apart m is) in
+    record {
+      heads = λ m is. subst (λ (x : Block). IsHead m (header_read x)) (sym (same m is)) (h.heads m is);
+      blank = λ m is e. subst (λ (x : Block). IsBlank x) (sym (same m is)) (blank m is e);
+    }
+
+-- one that is set in a header slot is the header of its number, and free where the number is
+pub slots_set : (g : Geometry) (bs : List Block) (own new : Owners) (m : ℕ) (b : Block) → header_place g m < length bs → IsHead m (header_read b) → (slice_get new.numbers (m - 1) ≡ Some Free → IsBlank b)
+    → ((k : ℕ) → slice_get new.numbers k ≡ Some Free → slice_get own.numbers k ≡ Some Free) → HasSlots g bs own → HasSlots g (slice_set bs (header_place g m) b) new
+slots_set g bs own new m b lt head free old h = record {
+  heads = λ k is. at k (λ (x : Block). IsHead k (header_read x)) (λ e. subst (λ (j : ℕ). IsHead j (header_read b)) (sym e) head) (λ ne. h.heads k is);
+  blank = λ k is e. at k (λ (x : Block). IsBlank x) (λ same. free (ap (λ j. slice_get new.numbers (j - 1)) (sym same) ∙ e)) (λ ne. h.blank k is (old (k - 1) e));
+} where
+  at : (k : ℕ) (P : Block → Type 0) → (k ≡ m → P b) → (k ≢ m → P (header_block g bs k)) → P (header_block g (slice_set bs (header_place g m) b) k)
+  at k P here there = elim (same_or_not k m) [
+    | inl e ↦ subst P (sym (ap (λ j. header_block g (slice_set bs (header_place g m) b) j) e ∙ index-set_here bs (header_place g m) b lt)) (here e)
+    | inr ne ↦ subst P (sym (get_or-set_other bs (header_place g m) (header_place g k) b [] (let f : header_place g k ≢ header_place g m = (λ e. ne (omega arith)) in f))) (there ne)
+  ]
 
 -- ---- owners and places
 
@@ -176,6 +210,14 @@ module _ (g : Geometry) (bs : List Block) (own : Owners) (c : Cat) (s : Spells g
   -- so the blocks in the header slots of a file stay where those of all numbers do
   pub heads_apart : (n l : ℕ) → IsFileNumber g n → ((m : ℕ) → IsFileNumber g m → header_place g m ≢ l) → (m : ℕ) → Has (n ∷ (told_of g bs n).slots) m → header_place g m ≢ l
   heads_apart n l is apart m t = elim t [ inl e ↦ apart m (subst (λ k. IsFileNumber g k) e is) | inr u ↦ apart m (slot_number g bs own c s n m is u) ]
+
+  -- and with them what is told of it
+  pub told_apart : (l : ℕ) (b : Block) → ((m : ℕ) → IsFileNumber g m → header_place g m ≢ l) → (n : ℕ) → IsFileNumber g n → told_of g (slice_set bs l b) n ≡ told_of g bs n
+  told_apart l b apart n is = told_stays g bs n l b (told g bs own c s n is).size (heads_apart n l is apart)
+
+  -- the slot of a number that is not the file's lies apart from all of its slots
+  pub slots_apart : (n m : ℕ) → IsFileNumber g n → n ≢ m → slice_get own.numbers (m - 1) ≢ Some (InFile n) → (j : ℕ) → Has (n ∷ (told_of g bs n).slots) j → header_place g j ≢ header_place g m
+  slots_apart n m is ne other j t e = not_slot g bs own c s n m is ne other j t (omega arith)
 
   pub index_apart : (l : ℕ) (o : Owner) → owner_at g own l ≡ Some o → InFile 1 ≢ o → 4 * g.cluster ≢ l
   index_apart l o at ne = apart_by g own (4 * g.cluster) l (InFile 1) o (part_owned g bs own c s IndexBitmap tt) at ne

@@ -12,7 +12,7 @@ use Rattle.vol_parts.specs.declared.geometry.Geometry.{Geometry}
 use Rattle.vol_spell.specs.Reading.{IsFileNumber, total_of, cluster_bit, number_bit}
 use Rattle.vol_spell.specs.Spelling.{Spells}
 use Rattle.vol_spell.specs.Owning.{IsClusterOf, IsNumberOf, EachIsOwned}
-use Rattle.vol_spell.proofs.Parts.{told, own_number, in_use}
+use Rattle.vol_spell.proofs.Parts.{told, in_use}
 
 -- a bit that is set exactly where nobody is the owner
 bit_is : (t : Bool) (o : Owner) → ((t ≡ true) ↔ (Some o ≡ Some Free)) → t ≡ is_same_owner Free o
@@ -62,7 +62,7 @@ module _ (g : Geometry) (bs : List Block) (own : Owners) (c : Cat) (s : Spells g
     bit = bit_is_not (number_bit g bs n) o (of_owner _ own.numbers (n - 1) o Free at (s.owners.number_bits n is));
     file = same_owner _ o (InFile n) (of_owner _ own.numbers (n - 1) o (InFile n) at (in_use g bs own c s n is));
     slots = λ m is_m. same_owner _ o (InFile m) (of_owner _ own.numbers (n - 1) o (InFile m) at (of_number _ _ _ is ((told g bs own c s m is_m).slots n)));
-    known = λ m e. let k = own_number g bs own c s (n - 1) m (at ∙ ap (λ x. Some x) e) in let a = is.from in omega arith;
+    known = λ m e. s.owners.known_numbers (n - 1) m (at ∙ ap (λ x. Some x) e);
   }
 
 pub each_is_owned : EachIsOwned

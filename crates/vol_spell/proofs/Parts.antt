@@ -1,11 +1,14 @@
 -- Where the parts of a volume lie.
 use Rattle.std.proofs.Common.{◌≡◌, ◌≢◌, ◌<◌, ◌≤◌, ◌+◌, ◌*◌, ◌-◌, ◌/◌, ℕ, Bool, true, false, List, ◌∷◌, Option, Some, None, slice_get, get_or, refl, sym, ap, subst, ◌∙◌, inl, inr, arith, cond}
-use Rattle.std.specs.Prelude.{◌==◌, ◌↔◌, is_some}
+use Rattle.std.specs.Prelude.{◌==◌, ◌↔◌, is_some, Ok}
 use Rattle.std.proofs.lemmas.Bool.Decides.{nat_tests}
 use Rattle.std.proofs.lemmas.Option.{slice_get-get_or, slice_get_within}
 use Rattle.base_words.specs.Fields.{Block}
 use Rattle.fx_header.specs.declared.run.Run.{Run}
 use Rattle.fx_header.specs.declared.slot.Hdr.{Hdr}
+use Rattle.fx_header.specs.declared.slot.Slot.TheVariants as head
+use Rattle.fx_header.specs.Headers.{header_read}
+use Rattle.vol_parts.specs.Volumes.{fields_in, Told}
 use Rattle.fx_header.specs.Pointers.{lbns_in}
 use Rattle.plain_cat.specs.declared.cat.Cat.{Cat}
 use Rattle.plain_cat.specs.declared.cat.Slot.{Slot}
@@ -17,12 +20,12 @@ use Rattle.vol_parts.specs.declared.geometry.Geometry.{Geometry}
 use Rattle.vol_parts.specs.declared.geometry.Part.{Part}
 use Rattle.vol_parts.specs.declared.geometry.Part.TheVariants.{Header, IndexBitmap, Storage, Quota}
 use Rattle.vol_parts.specs.Parts.{part_of, is_among, storage_blocks}
-use Rattle.vol_parts.specs.Volumes.{slots_with}
 use Rattle.vol_parts.specs.Fatal.{in_whole_clusters}
 use Rattle.vol_spell.specs.Reading.{IsFileNumber, total_of, owner_at, header_block, fields_told, told_of, body_blocks}
 use Rattle.vol_spell.specs.Places.{place_of, IsPart, file_of_part, ArePartsOf}
-use Rattle.vol_spell.specs.Spelling.{Tells, IsStructure, Spells}
+use Rattle.vol_spell.specs.Spelling.{IsBlank, Tells, IsStructure, Spells}
 use Rattle.vol_spell.proofs.Runs.{has_cluster, in_one_run}
+use Rattle.vol_spell.proofs.Heads.{head_alone, alone_told, first_there, slots_used}
 
 -- a block is a part, or none
 data Which (g : Geometry) (l : ℕ) (o : Option Part) : Type 0 where
@@ -82,29 +85,14 @@ differ a b e f = grind (arith, nat_tests)
 pub room : (f k x : ℕ) → 1 ≤ f → x < k → x < f * in_whole_clusters f k
 room f k x low lt = omega arith
 
--- ---- header slots: a file has one, its own, where it is in use
-
-pub slot_is_own : (o : Option Hdr) (n m : ℕ) → Has (slots_with o n) m → (m ≡ n) × (is_some o ≡ true)
-slot_is_own None n m t = absurd t
-slot_is_own (Some f) n m t = elim t [ inl e ↦ (sym e, refl) | inr none ↦ absurd none ]
-
-pub own_slot_there : (o : Option Hdr) (n : ℕ) → is_some o ≡ true → Has (slots_with o n) n
-own_slot_there None n e = absurd (let f : false ≡ true = e in cc)
-own_slot_there (Some f) n e = inl refl
-
-pub one_slot : (g : Geometry) (bs : List Block) (n m : ℕ) → Has (told_of g bs n).slots m → m ≡ n
-one_slot g bs n m t = (slot_is_own (fields_told (header_block g bs n)) n m t).0
-
--- and of the number of a file and its header slots
-pub one_head : (g : Geometry) (bs : List Block) (n m : ℕ) → Has (n ∷ (told_of g bs n).slots) m → m ≡ n
-one_head g bs n m t = elim t [ inl e ↦ sym e | inr u ↦ one_slot g bs n m u ]
+-- ---- header slots
 
 -- the number is the file's where the header is in use
 pub used_of : (g : Geometry) (own : Owners) (bs : List Block) (n : ℕ) (blocks : List Block) (s : Slot) → IsFileNumber g n → Tells g own n (told_of g bs n) blocks s
     → (is_some (fields_told (header_block g bs n)) ≡ true) ↔ (slice_get own.numbers (n - 1) ≡ Some (InFile n))
 used_of g own bs n blocks s is t = (
-  (λ used. ((t.slots n).0 (own_slot_there (fields_told (header_block g bs n)) n used)).1),
-  (λ e. (slot_is_own (fields_told (header_block g bs n)) n n ((t.slots n).1 (is, e))).1),
+  (λ used. ((t.slots n).0 (first_there g bs n used)).1),
+  (λ e. slots_used g bs n n ((t.slots n).1 (is, e))),
 )
 
 module _ (g : Geometry) (bs : List Block) (own : Owners) (c : Cat) (s : Spells g bs own c) where
@@ -126,20 +114,39 @@ module _ (g : Geometry) (bs : List Block) (own : Owners) (c : Cat) (s : Spells g
   pub slot_number : (n m : ℕ) → IsFileNumber g n → Has (told_of g bs n).slots m → IsFileNumber g m
   slot_number n m is t = (((told n is).slots m).0 t).0
 
-  -- a file that has a number has its own
-  pub own_number : (i n : ℕ) → slice_get own.numbers i ≡ Some (InFile n) → n ≡ i + 1
-  own_number i n e =
+  -- a number that is not a file's is none of its header slots
+  pub not_slot : (n m : ℕ) → IsFileNumber g n → n ≢ m → slice_get own.numbers (m - 1) ≢ Some (InFile n) → (j : ℕ) → Has (n ∷ (told_of g bs n).slots) j → j ≢ m
+  not_slot n m is ne other j (inl e) f = ne (e ∙ f)
+  not_slot n m is ne other j (inr u) f = other (subst (λ (k : ℕ). slice_get own.numbers (k - 1) ≡ Some (InFile n)) f (((told n is).slots j).0 u).1)
+
+  -- a number is that of a file exactly where its header is in use
+  pub in_use : (n : ℕ) → IsFileNumber g n → (is_some (fields_told (header_block g bs n)) ≡ true) ↔ (slice_get own.numbers (n - 1) ≡ Some (InFile n))
+  in_use n is = let t = told n is in used_of g own bs n (body_blocks bs n (told_of g bs n)) (get_or c.files (n - 1) (slot.Free 0)) is t
+
+  -- a number that is a file's is that of one of its header slots
+  pub number_slot : (i n : ℕ) → slice_get own.numbers i ≡ Some (InFile n) → IsFileNumber g n × Has (told_of g bs n).slots (i + 1)
+  number_slot i n e =
       let is = s.owners.known_numbers i n e in
       let lt = slice_get_within own.numbers i (InFile n) e in
       let len = s.counts.numbers in
       let m : IsFileNumber g (i + 1) = record { from = omega arith; to = omega arith } in
       let back : i + 1 - 1 ≡ i = omega arith in
-      let has = ((told n is).slots (i + 1)).1 (m, ap (slice_get own.numbers) back ∙ e) in
-      sym (one_slot g bs n (i + 1) has)
+      (is, ((told n is).slots (i + 1)).1 (m, ap (slice_get own.numbers) back ∙ e))
 
-  -- a number is its file's exactly where its header is in use
-  pub in_use : (n : ℕ) → IsFileNumber g n → (is_some (fields_told (header_block g bs n)) ≡ true) ↔ (slice_get own.numbers (n - 1) ≡ Some (InFile n))
-  in_use n is = let t = told n is in used_of g own bs n (body_blocks bs n (told_of g bs n)) (get_or c.files (n - 1) (slot.Free 0)) is t
+  -- a file that has not the number of its own has none
+  pub numberless : (i n : ℕ) → slice_get own.numbers (n - 1) ≢ Some (InFile n) → slice_get own.numbers i ≢ Some (InFile n)
+  numberless i n none e = let h = number_slot i n e in none ((in_use n h.0).0 (slots_used g bs n (i + 1) h.1))
+
+  -- and one that has one header has that number alone
+  pub alone_number : (i n : ℕ) (f : Hdr) → header_read (header_block g bs n) ≡ Ok (head.Used f) → slice_get own.numbers i ≡ Some (InFile n) → n ≡ i + 1
+  alone_number i n f reads e = elim (subst (λ (t : Told). Has t.slots (i + 1)) (alone_told g bs n f reads) (number_slot i n e).1) [ inl same ↦ same | inr none ↦ absurd none ]
+
+  -- the slot of a number that is not a file's is free
+  pub spare_blank : (m : ℕ) → IsFileNumber g m → slice_get own.numbers (m - 1) ≢ Some (InFile m) → IsBlank (header_block g bs m)
+  spare_blank m is spare = ap fields_in (sym (head_alone (header_block g bs m))) ∙ by_fields (fields_told (header_block g bs m)) refl where
+    by_fields : (o : Option Hdr) → fields_told (header_block g bs m) ≡ o → fields_told (header_block g bs m) ≡ None
+    by_fields None e = e
+    by_fields (Some f) e = absurd (spare ((in_use m is).0 (ap is_some e)))
 
   pub in_structure : (n : ℕ) (r : Run) → IsFileNumber g n → IsStructure g bs n r → (l : ℕ) → r.lbn ≤ l → l < r.lbn + r.count → owner_at g own l ≡ Some (InFile n)
   in_structure n r is st l lo hi = in_file n l is (let P : List Run → Type 0 = λ rs. Has (lbns_in rs) l in subst P (sym st.run) (in_one_run r l lo hi))

@@ -22,14 +22,17 @@ use Rattle.vol_spell.specs.Owners.{Owners}
 use Rattle.vol_spell.specs.Spread.{blocks_at}
 use Rattle.vol_parts.specs.declared.geometry.Geometry.{Geometry}
 use Rattle.vol_parts.specs.declared.geometry.Part.TheVariants.{Header}
-use Rattle.vol_parts.specs.Volumes.{Volume, factor, header_lbn, header_at, head as head_of, fields_in, runs_with, told_by as told_by_head, told as told_in, runs, body, first_lbn, bitmap_lbn, quota_lbn, geometry_of, is_free_cluster, is_used_number, rows_in, active_rows}
+use Rattle.vol_parts.specs.Chains.{Headers, as_first}
+use Rattle.vol_parts.specs.ChainLaws.{IsSlot, IsSameSlot}
+use Rattle.vol_parts.specs.Volumes.{Volume, IsNumber, headers_of, runs_with, factor, header_lbn, header_at, head as head_of, fields_in, Told, told_by as told_by_head, told as told_in, runs, body, first_lbn, bitmap_lbn, quota_lbn, geometry_of, is_free_cluster, is_used_number, rows_in, active_rows}
 use Rattle.vol_parts.specs.Catalogues.{is_structure, slot_with, slot_of, files_of, rows_sorted, written_blocks, entries_in, plain_entries}
 use Rattle.vol_parts.specs.Fatal.{is_system_header}
 use Rattle.plain_rules.specs.SystemFiles.{system_seq}
 use Rattle.plain_rules.specs.SystemFiles.{is_system_directory}
-use Rattle.vol_spell.specs.Reading.{IsFileNumber, volume_of, header_place, header_block, header_tells, told_of, fields_told, runs_told, body_blocks, number_bit, quota_places, rows_told}
+use Rattle.vol_spell.specs.Reading.{IsFileNumber, volume_of, header_place, header_block, head_told, told_of, body_blocks, number_bit, quota_places, rows_told}
 use Rattle.vol_spell.specs.Spelling.{Spells}
 use Rattle.vol_spell.specs.Telling.{IsToldBy, VolumeTells}
+use Rattle.vol_spell.proofs.SameSlots.{told_same}
 use Rattle.vol_spell.proofs.Parts.{slot_there, told, part_owned}
 use Rattle.vol_spell.proofs.Frames.{on_volume, structure_number}
 
@@ -47,12 +50,28 @@ pub head_there : (v : Volume) (n : ℕ) → header_lbn v n < length v.blocks →
 unfolding head_of
 head_there v n lt = rw (lt-ltb (header_lbn v n) (length v.blocks) lt) refl
 
-pub told_there : (v : Volume) (n : ℕ) → head_of v n ≡ header_read (header_at v n) → told_in v n ≡ header_tells n (header_at v n)
-told_there v n e = ap (λ r. told_by_head n r (header_at v n)) e
+-- the header slots, read by their blocks
+abbrev headers_seen : Volume → Headers
+headers_seen v = record {
+  files = v.home.files;
+  says = λ m. fields_in (header_read (header_at v m));
+  lists = λ m. runs_with (fields_in (header_read (header_at v m))) (header_at v m);
+}
 
-pub runs_there : (v : Volume) (n : ℕ) → head_of v n ≡ header_read (header_at v n) → runs v n ≡ runs_told (header_at v n)
+-- where all header slots are inside the blocks, what is told of a file is told by these
+pub told_there : (v : Volume) (n : ℕ) → ((m : ℕ) → IsNumber v m → head_of v m ≡ header_read (header_at v m)) → IsNumber v n → told_in v n ≡ told_by_head (headers_seen v) n (head_told (header_at v n))
+told_there v n heads is =
+    ap (λ r. told_by_head (headers_of v) n (as_first r)) (heads n is)
+    ∙ told_same (headers_seen v) (headers_of v) n (head_told (header_at v n)) (record { files = refl; slots = same }) (record { from = is.from; to = is.to })
+  where
+    same : (m : ℕ) → IsSlot (headers_seen v) m → IsSameSlot (headers_seen v) (headers_of v) m
+    same m k =
+        let e = heads m (record { from = k.from; to = k.to }) in
+        record { says = ap fields_in e; lists = ap (λ r. runs_with (fields_in r) (header_at v m)) e }
+
+pub runs_there : (v : Volume) (n : ℕ) (t : Told) → told_in v n ≡ t → runs v n ≡ t.runs
 unfolding runs
-runs_there v n e = ap (λ r. runs_with (fields_in r) (header_at v n)) e
+runs_there v n t e = ap (λ (x : Told). x.runs) e
 
 pub body_there : (v : Volume) (n : ℕ) (rs : List Run) → runs v n ≡ rs → body v n ≡ blocks_at v.blocks (lbns_in rs)
 unfolding body
@@ -70,9 +89,9 @@ pub rows_there : (v : Volume) (blocks : List Block) → body v 10 ≡ blocks →
 unfolding active_rows
 rows_there v blocks e = ap (λ xs. flat_map rows_in xs) e
 
-pub slot_there_of : (v : Volume) (n : ℕ) (h : Block) (blocks : List Block) → head_of v n ≡ header_read h → body v n ≡ blocks → slot_of v n ≡ slot_with (factor v) n (header_read h) blocks
+pub slot_there_of : (v : Volume) (n : ℕ) (t : Told) (blocks : List Block) → told_in v n ≡ t → body v n ≡ blocks → slot_of v n ≡ slot_with (factor v) n t.head blocks
 unfolding slot_of
-slot_there_of v n h blocks e f = ap (λ r. slot_with (factor v) n r (body v n)) e ∙ ap (λ xs. slot_with (factor v) n (header_read h) xs) f
+slot_there_of v n t blocks e f = ap (λ (x : Told). slot_with (factor v) n x.head (body v n)) e ∙ ap (λ xs. slot_with (factor v) n t.head xs) f
 
 -- the slot of a file that holds parts does not tell of its blocks
 pub no_dir : (n : ℕ) (f : Hdr) → is_system_directory n ≡ false → is_system_header n (Some f) ≡ true → f.dir ≡ false
@@ -109,24 +128,24 @@ which_structure n e = elim (same_or_not n 1) [
 ]
 
 -- the blocks of a file, as its slot tells of them
-pub seen : (g : Geometry) (bs : List Block) (n : ℕ) (b : Block) → (is_structure n ≡ true → is_system_header n (fields_told b) ≡ true)
-    → slot_with g.cluster n (header_read b) (blocks_at bs (lbns_in (runs_told b))) ≡ slot_with g.cluster n (header_read b) (body_blocks bs n (header_tells n b))
-seen g bs n b system = by_kind (is_structure n) refl where
-  by_kind : (k : Bool) → is_structure n ≡ k → slot_with g.cluster n (header_read b) (blocks_at bs (lbns_in (runs_told b))) ≡ slot_with g.cluster n (header_read b) (body_blocks bs n (header_tells n b))
-  by_kind true e = blind g.cluster n (header_read b) _ _ e (no_directory n e) (system e)
-  by_kind false e = ap (λ t. slot_with g.cluster n (header_read b) (blocks_at bs (cond t [] (lbns_in (runs_told b))))) (sym e)
+pub seen : (g : Geometry) (bs : List Block) (n : ℕ) (t : Told) → (is_structure n ≡ true → is_system_header n (fields_in t.head) ≡ true)
+    → slot_with g.cluster n t.head (blocks_at bs (lbns_in t.runs)) ≡ slot_with g.cluster n t.head (body_blocks bs n t)
+seen g bs n t system = by_kind (is_structure n) refl where
+  by_kind : (k : Bool) → is_structure n ≡ k → slot_with g.cluster n t.head (blocks_at bs (lbns_in t.runs)) ≡ slot_with g.cluster n t.head (body_blocks bs n t)
+  by_kind true e = blind g.cluster n t.head _ _ e (no_directory n e) (system e)
+  by_kind false e = ap (λ k. slot_with g.cluster n t.head (blocks_at bs (cond k [] (lbns_in t.runs)))) (sym e)
 
 module _ (g : Geometry) (bs : List Block) (own : Owners) (c : Cat) (s : Spells g bs own c) where
   v_head : (n : ℕ) → IsFileNumber g n → head_of (volume_of g bs) n ≡ header_read (header_block g bs n)
   v_head n is = head_there (volume_of g bs) n (on_volume g bs own c s (header_place g n) (InFile 1) (part_owned g bs own c s (Header n) is))
 
   v_told : (n : ℕ) → IsFileNumber g n → told_in (volume_of g bs) n ≡ told_of g bs n
-  v_told n is = told_there (volume_of g bs) n (v_head n is)
+  v_told n is = told_there (volume_of g bs) n (λ m k. v_head m (record { from = k.from; to = k.to })) (record { from = is.from; to = is.to })
 
-  v_runs : (n : ℕ) → IsFileNumber g n → runs (volume_of g bs) n ≡ runs_told (header_block g bs n)
-  v_runs n is = runs_there (volume_of g bs) n (v_head n is)
+  v_runs : (n : ℕ) → IsFileNumber g n → runs (volume_of g bs) n ≡ (told_of g bs n).runs
+  v_runs n is = runs_there (volume_of g bs) n (told_of g bs n) (v_told n is)
 
-  v_body : (n : ℕ) → IsFileNumber g n → body (volume_of g bs) n ≡ blocks_at bs (lbns_in (runs_told (header_block g bs n)))
+  v_body : (n : ℕ) → IsFileNumber g n → body (volume_of g bs) n ≡ blocks_at bs (lbns_in (told_of g bs n).runs)
   v_body n is = body_there (volume_of g bs) n _ (v_runs n is)
 
   v_bitmap : bitmap_lbn (volume_of g bs) ≡ g.bitmap_lbn
@@ -145,9 +164,9 @@ module _ (g : Geometry) (bs : List Block) (own : Owners) (c : Cat) (s : Spells g
   v_rows = rows_there (volume_of g bs) _ (v_body 10 (structure_number g bs own c s 10 refl)) ∙ ap (λ rs. flat_map rows_in (blocks_at bs (lbns_in rs))) s.structures.quota.run
       ∙ ap (λ ls. flat_map rows_in (blocks_at bs ls)) (append-nil (quota_places g))
 
-  system : (n : ℕ) → is_structure n ≡ true → is_system_header n (fields_told (header_block g bs n)) ≡ true
+  system : (n : ℕ) → is_structure n ≡ true → is_system_header n (fields_in (told_of g bs n).head) ≡ true
   system n e =
-      let P : ℕ → Type 0 = λ k. is_system_header k (fields_told (header_block g bs k)) ≡ true in
+      let P : ℕ → Type 0 = λ k. is_system_header k (fields_in (told_of g bs k).head) ≡ true in
       elim (which_structure n e) [
         | inl one ↦ subst P (sym one) s.structures.index.header
         | inr more ↦ elim more [ inl two ↦ subst P (sym two) s.structures.bitmap.header | inr ten ↦ subst P (sym ten) s.structures.quota.header ]
@@ -162,7 +181,7 @@ module _ (g : Geometry) (bs : List Block) (own : Owners) (c : Cat) (s : Spells g
         let z : 1 + i - 1 ≡ i = omega arith in
         let t = told g bs own c s (1 + i) is in
         ap (slice_get c.files) (sym z) ∙ slot_there g bs own c s (1 + i) is
-        ∙ ap (λ x. Some x) (sym (slot_there_of (volume_of g bs) (1 + i) (header_block g bs (1 + i)) _ (v_head (1 + i) is) (v_body (1 + i) is) ∙ seen g bs (1 + i) (header_block g bs (1 + i)) (system (1 + i)) ∙ t.slot))
+        ∙ ap (λ x. Some x) (sym (slot_there_of (volume_of g bs) (1 + i) (told_of g bs (1 + i)) _ (v_told (1 + i) is) (v_body (1 + i) is) ∙ seen g bs (1 + i) (told_of g bs (1 + i)) (system (1 + i)) ∙ t.slot))
 
   pub told_by : IsToldBy g bs c
   told_by = record {

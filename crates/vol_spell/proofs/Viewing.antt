@@ -1,11 +1,16 @@
 -- What a write leaves of a file's header and blocks, and what it makes of them.
-use Rattle.std.proofs.Common.{◌≡◌, ◌≢◌, ℕ, List, Some, slice_set, sym, ap, subst, ◌∙◌, get_or-set_other, [], ◌<◌, ◌+◌, ◌-◌, ◌*◌, ◌/◌, ◌%◌, zero, suc, length, slice_get, arith}
+use Rattle.std.proofs.Common.{◌≡◌, ◌≢◌, ℕ, List, ◌∷◌, Some, slice_set, inl, refl, sym, ap, ◌∙◌, get_or-set_other, [], ◌<◌, ◌+◌, ◌-◌, ◌*◌, ◌/◌, ◌%◌, zero, suc, length, slice_get, arith}
 use Rattle.vol_spell.proofs.Clusters.{once_range}
-use Rattle.vol_spell.proofs.Keeping.{new_body_away}
+use Rattle.vol_spell.proofs.Keeping.{header_number, others_told, new_body_away, slot_told}
 use Rattle.vol_spell.specs.declared.owner.Owner.TheVariants.{InFile, Outside}
+use Rattle.vol_spell.specs.Owners.{Owners}
+use Rattle.plain_cat.specs.declared.cat.Cat.{Cat}
+use Rattle.fx_header.specs.declared.slot.Hdr.{Hdr}
+use Rattle.fx_header.specs.declared.slot.Slot.TheVariants.{Free, Used}
+use Rattle.fx_header.specs.Headers.{header_read}
 use Rattle.fx_bitmap.specs.Bits.{bit_at}
 use Rattle.std.specs.List.{range_with_len}
-use Rattle.std.specs.Prelude.{slice_index_or}
+use Rattle.std.specs.Prelude.{slice_index_or, Ok}
 use Rattle.vol_parts.specs.Parts.{part_of}
 use Rattle.base_words.specs.Fields.{Block}
 use Rattle.base_words.specs.Lists.{Has}
@@ -13,31 +18,41 @@ use Rattle.base_words.proofs.Listing.{has_at}
 use Rattle.vol_spell.proofs.Placing.{blocks_stay, blocks_set, index-set_here}
 use Rattle.vol_parts.specs.declared.geometry.Geometry.{Geometry}
 use Rattle.vol_parts.specs.declared.geometry.Part.TheVariants.{Header, IndexBitmap, Storage, Quota}
-use Rattle.vol_spell.specs.Reading.{IsFileNumber, header_place, header_tells, told_of, body_places, body_blocks, owner_at, quota_places}
-use Rattle.vol_spell.specs.Kinds.{IsHeaderFor}
-use Rattle.vol_spell.specs.Views.{IsFileAt, IsSameFile, OthersStay, PartsStay, BodySet, OutsideStays, HeaderSet, StorageSet, IndexSet, QuotaSet}
-use Rattle.vol_spell.proofs.Parts.{one_head, part_there, part_owned, part_only, part_owner}
-use Rattle.vol_spell.proofs.Frames.{told_stays, body_owned, body_no_part, body_once, of_body, header_apart, heads_apart, on_volume}
+use Rattle.vol_spell.specs.Reading.{IsFileNumber, header_place, head_told, told_of, alone, nobody, body_places, body_blocks, owner_at, quota_places}
+use Rattle.vol_spell.specs.Views.{IsSameFile, OthersStay, PartsStay, BodySet, OutsideStays, HeaderSet, SlotSet, StorageSet, IndexSet, QuotaSet}
+use Rattle.vol_spell.specs.Spelling.{Spells}
+use Rattle.vol_spell.proofs.Heads.{alone_told, none_told, told_stays}
+use Rattle.vol_spell.proofs.Parts.{told, part_there, part_owned, part_only, part_owner}
+use Rattle.vol_spell.proofs.Frames.{body_owned, body_no_part, body_once, of_body, header_apart, heads_apart, told_apart, on_volume}
 
--- what is told of a file, and its blocks, stay
-file_left : (g : Geometry) (bs : List Block) (n l : ℕ) (b : Block) → header_place g n ≢ l → (Has (body_places n (told_of g bs n)) l → ⊥) → IsSameFile g bs (slice_set bs l b) n
-file_left g bs n l b other away =
-    let h = told_stays g bs n l b (λ m t. subst (λ k. header_place g k ≢ l) (sym (one_head g bs n m t)) other) in
-    record { header = get_or-set_other bs l (header_place g n) b [] other; told = h; body = ap (body_blocks (slice_set bs l b) n) h ∙ blocks_stay bs l b (body_places n (told_of g bs n)) away }
+-- a file of which the same is told, with the blocks that the write leaves
+file_same : (g : Geometry) (bs : List Block) (n l : ℕ) (b : Block) → header_place g n ≢ l → told_of g (slice_set bs l b) n ≡ told_of g bs n → (Has (body_places n (told_of g bs n)) l → ⊥) → IsSameFile g bs (slice_set bs l b) n
+file_same g bs n l b other told away =
+    record { header = get_or-set_other bs l (header_place g n) b [] other; told = told; body = ap (body_blocks (slice_set bs l b) n) told ∙ blocks_stay bs l b (body_places n (told_of g bs n)) away }
+
+module _ (g : Geometry) (bs : List Block) (own : Owners) (c : Cat) (s : Spells g bs own c) where
+  -- what is told of a file, and its blocks, stay
+  file_left : (n l : ℕ) (b : Block) → IsFileNumber g n → ((m : ℕ) → Has (n ∷ (told_of g bs n).slots) m → header_place g m ≢ l) → (Has (body_places n (told_of g bs n)) l → ⊥) → IsSameFile g bs (slice_set bs l b) n
+  file_left n l b is apart away = file_same g bs n l b (apart n (inl refl)) (told_stays g bs n l b (told g bs own c s n is).size apart) away
+
+  not_in_body : (n m : ℕ) → IsFileNumber g n → IsFileNumber g m → Has (body_places n (told_of g bs n)) (header_place g m) → ⊥
+  not_in_body n m is is_m t = body_no_part g bs own c s n (header_place g m) (Header m) is t (part_there g bs own c s (Header m) is_m)
 
 pub others_stay : OthersStay
-others_stay g bs own c n l b s is other ne = file_left g bs n l b other (λ t. ne (body_owned g bs own c s n l is t).1)
+others_stay g bs own c n l b s is apart ne = file_left g bs own c s n l b is apart (λ t. ne (body_owned g bs own c s n l is t).1)
 
 pub parts_stay : PartsStay
 parts_stay g bs own c n l p b s is part ne =
-    file_left g bs n l b (λ e. ne (let h : Some p ≡ Some (Header n) = sym part ∙ ap (part_of g) (sym e) ∙ part_there g bs own c s (Header n) is in cc)) (λ t. body_no_part g bs own c s n l p is t part)
+    file_left g bs own c s n l b is
+    (λ m t e. ne m t (let h : Some p ≡ Some (Header m) = sym part ∙ ap (part_of g) (sym e) ∙ part_there g bs own c s (Header m) (header_number g bs own c s n m is t) in cc))
+    (λ t. body_no_part g bs own c s n l p is t part)
 
 pub body_set : BodySet
 body_set g bs own c n v l b s is at =
     let has : Has (body_places n (told_of g bs n)) l = has_at (body_places n (told_of g bs n)) v l at in
     let o = of_body g bs own c s n l is has in
     let other : (m : ℕ) → IsFileNumber g m → header_place g m ≢ l = λ m is_m e. body_no_part g bs own c s n l (Header m) is has (ap (part_of g) (sym e) ∙ part_there g bs own c s (Header m) is_m) in
-    let h = told_stays g bs n l b (heads_apart g bs own c s n l is other) in
+    let h = told_apart g bs own c s l b other n is in
     record {
       header = get_or-set_other bs l (header_place g n) b [] (other n is);
       told = h;
@@ -46,26 +61,38 @@ body_set g bs own c n v l b s is at =
 
 pub outside_stays : OutsideStays
 outside_stays g bs own c n node l b s is at =
-    others_stay g bs own c n l b s is (header_apart g bs own c s l (Outside node) at (λ e. absurd (cc)) n is) (λ e. let h : Some (Outside node) ≡ Some (InFile n) = sym at ∙ e in absurd (cc))
+    others_stay g bs own c n l b s is (heads_apart g bs own c s n l is (header_apart g bs own c s l (Outside node) at (λ e. absurd (cc)))) (λ e. let h : Some (Outside node) ≡ Some (InFile n) = sym at ∙ e in absurd (cc))
 
--- the block that is set in the slot of a number is what its file's header tells
-pub told_set : (g : Geometry) (bs : List Block) (n : ℕ) (b : Block) → header_place g n < length bs → told_of g (slice_set bs (header_place g n) b) n ≡ header_tells n b
-told_set g bs n b len = ap (header_tells n) (index-set_here bs (header_place g n) b len)
+-- what is told of a file, in the slot of whose number its one header is set
+pub alone_set : (g : Geometry) (bs : List Block) (n : ℕ) (b : Block) (f : Hdr) → header_place g n < length bs → header_read b ≡ Ok (Used f) → told_of g (slice_set bs (header_place g n) b) n ≡ alone n f b
+alone_set g bs n b f len reads =
+    let here = index-set_here bs (header_place g n) b len in
+    alone_told g (slice_set bs (header_place g n) b) n f (ap header_read here ∙ reads) ∙ ap (alone n f) here
+
+-- and of a number in whose slot the first header of no file is set
+pub none_set : (g : Geometry) (bs : List Block) (n : ℕ) (b : Block) (seq : ℕ) → header_place g n < length bs → head_told b ≡ Ok (Free seq) → told_of g (slice_set bs (header_place g n) b) n ≡ nobody seq
+none_set g bs n b seq len reads = none_told g (slice_set bs (header_place g n) b) n seq (ap head_told (index-set_here bs (header_place g n) b len) ∙ reads)
 
 pub header_set : HeaderSet
 header_set g bs own new c node n m b x s h =
-    subst (λ (k : ℕ). IsFileAt g (slice_set bs (header_place g k) b) n b (header_tells n b) (body_blocks bs n (header_tells n b))) (sym h.own_slot)
-    (set_here (subst (λ (k : ℕ). IsHeaderFor g bs node n k own new c b x) h.own_slot h)) where
-      set_here : IsHeaderFor g bs node n n own new c b x → IsFileAt g (slice_set bs (header_place g n) b) n b (header_tells n b) (body_blocks bs n (header_tells n b))
-      set_here h =
-          let at : owner_at g own (header_place g n) ≡ Some (InFile 1) = part_owned g bs own c s (Header n) h.number in
-          let len = on_volume g bs own c s (header_place g n) (InFile 1) at in
-          let now = told_set g bs n b len in
-          record {
-            header = index-set_here bs (header_place g n) b len;
-            told = now;
-            body = blocks_stay bs (header_place g n) b (body_places n (told_of g (slice_set bs (header_place g n) b) n)) (new_body_away g bs own c s new node n (header_place g n) b x h at) ∙ ap (body_blocks bs n) now;
-          }
+    let is_m = header_number g bs own c s n m h.number h.slot in
+    let at : owner_at g own (header_place g m) ≡ Some (InFile 1) = part_owned g bs own c s (Header m) is_m in
+    let len = on_volume g bs own c s (header_place g m) (InFile 1) at in
+    let now = told_of g (slice_set bs (header_place g m) b) n in
+    record {
+      header = index-set_here bs (header_place g m) b len;
+      body = blocks_stay bs (header_place g m) b (body_places n now) (new_body_away g bs own c s new node n m (header_place g m) b x h at);
+      others = λ i is ne apart. file_same g bs i (header_place g m) b (λ e. apart (let same : i ≡ m = omega arith in same)) (others_told g bs own c s new node n m b x h i is ne) (not_in_body g bs own c s i m is is_m);
+    }
+
+pub slot_set : SlotSet
+slot_set g bs own c m b s h =
+    let len = on_volume g bs own c s (header_place g m) (InFile 1) (part_owned g bs own c s (Header m) h.number) in
+    record {
+      header = index-set_here bs (header_place g m) b len;
+      told = slot_told g bs own c s m b h m h.number;
+      others = λ i is apart. file_same g bs i (header_place g m) b (λ e. apart (let same : i ≡ m = omega arith in same)) (slot_told g bs own c s m b h i is) (not_in_body g bs own c s i m is h.number);
+    }
 
 pub storage_set : StorageSet
 storage_set g bs own c k l b s part =

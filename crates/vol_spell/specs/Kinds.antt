@@ -1,13 +1,16 @@
 -- The kinds of writes, and the death of a node. Each takes blocks that spell a catalogue to blocks that spell one, whatever the
 -- whole block that is written, if it reads as the kind says.
-use Rattle.std.specs.Prelude.{◌≡◌, ◌≤◌, ◌<◌, ◌-◌, ◌↔◌, ℕ, true, false, List, Some, None, map, count_by, slice_get, slice_set}
+use Rattle.std.specs.Prelude.{◌≡◌, ◌≢◌, ◌≤◌, ◌<◌, ◌-◌, ◌↔◌, ℕ, true, false, List, ◌∷◌, Some, None, Ok, map, count_by, slice_get, slice_set}
 use Rattle.base_words.specs.Fields.{Block, IsWholeBlock}
 use Rattle.plain_cat.specs.declared.cat.Cat.{Cat}
 use Rattle.plain_cat.specs.declared.cat.Slot.{Slot}
+use Rattle.plain_cat.specs.declared.cat.Slot.TheVariants as slot
+use Rattle.fx_header.specs.declared.slot.Slot.TheVariants as head
+use Rattle.fx_header.specs.Headers.{header_read}
 use Rattle.plain_rules.specs.Lookups.{clusters_in}
 use Rattle.plain_rules.specs.Changes.{with_slot}
-use Rattle.vol_spell.specs.declared.owner.Owner.TheVariants.{Free, Outside, Leaked}
-use Rattle.base_words.specs.Lists.{Once}
+use Rattle.vol_spell.specs.declared.owner.Owner.TheVariants.{Free, InFile, Outside, Leaked}
+use Rattle.base_words.specs.Lists.{Has, Once}
 use Rattle.vol_spell.specs.Owners.{Owners, Moves, OwnersMove, IsFileMove, IsSpaceMove, IsDeathMove}
 use Rattle.vol_spell.specs.Counts.{is_same_owner}
 use Rattle.vol_parts.specs.declared.geometry.Geometry.{Geometry}
@@ -15,8 +18,8 @@ use Rattle.vol_parts.specs.declared.geometry.Part.TheVariants.{IndexBitmap, Stor
 use Rattle.vol_parts.specs.Parts.{part_of}
 use Rattle.vol_parts.specs.Volumes.{fields_in}
 use Rattle.vol_parts.specs.Catalogues.{is_structure, slot_with, rows_sorted}
-use Rattle.vol_spell.specs.Reading.{IsFileNumber, total_of, owner_at, header_place, told_of, body_places, body_blocks, cluster_bit, number_bit, rows_told}
-use Rattle.vol_spell.specs.Spelling.{Tells, dir_found, Spells}
+use Rattle.vol_spell.specs.Reading.{IsFileNumber, total_of, owner_at, header_place, header_block, head_told, told_of, body_places, body_blocks, cluster_bit, number_bit, rows_told}
+use Rattle.vol_spell.specs.Spelling.{IsHead, IsBlank, Tells, dir_found, Spells}
 
 -- a block in no file and no bitmap, which a node holds: nothing changes
 abbrev pub OutsideWrite : Type 0
@@ -38,20 +41,25 @@ StorageWrite = (g : Geometry) (bs : List Block) (own new : Owners) (c : Cat) (no
     → ((q : ℕ) → q < total_of g → (cluster_bit g (slice_set bs l b) q ≡ true) ↔ (slice_get new.clusters q ≡ Some Free))
     → Spells g (slice_set bs l b) new c
 
--- the index-file bitmap: numbers go from the free ones to the node that writes, or back
+-- the index-file bitmap: numbers go from the free ones to the node that writes, or back; the slot of each that becomes free is free
 abbrev pub IndexWrite : Type 0
 IndexWrite = (g : Geometry) (bs : List Block) (own new : Owners) (c : Cat) (node l : ℕ) (b : Block) → Spells g bs own c → IsWholeBlock b → part_of g l ≡ Some IndexBitmap
     → new.clusters ≡ own.clusters → Moves (IsSpaceMove node) own.numbers new.numbers
     → ((n : ℕ) → IsFileNumber g n → (number_bit g (slice_set bs l b) n ≡ false) ↔ (slice_get new.numbers (n - 1) ≡ Some Free))
+    → ((n : ℕ) → IsFileNumber g n → slice_get own.numbers (n - 1) ≢ Some Free → slice_get new.numbers (n - 1) ≡ Some Free → IsBlank (header_block g bs n))
     → Spells g (slice_set bs l b) new c
 
--- The block b in header slot m of file n, whose only slot is its own, by a node: what the file gets was outside at the node, and
--- what it loses goes there. With it and the blocks that are named then the file tells the slot s, where a file that is counted as
--- reserved keeps its number of clusters.
+-- The block b in header slot m of file n, that of its own number or another, by a node: what the file gets was outside at the
+-- node, and what it loses goes there. The number m is the file's or outside at the node, and it stays its header's; what is told of
+-- m where it is not n stays. With the block and the blocks that are named then the file tells the slot s, where a file that is
+-- counted as reserved keeps its number of clusters.
 pub record IsHeaderFor (g : Geometry) (bs : List Block) (node n m : ℕ) (own new : Owners) (c : Cat) (b : Block) (s : Slot) : Type 0 where
   pub whole : IsWholeBlock b
   pub number : IsFileNumber g n
-  pub own_slot : m ≡ n
+  pub slot : Has (n ∷ (told_of g bs n).slots) m
+  pub owned : IsFileMove node n (slice_get own.numbers (m - 1))
+  pub head : IsHead m (header_read b)
+  pub alike : m ≢ n → told_of g (slice_set bs (header_place g m) b) m ≡ told_of g bs m
   pub plain : is_structure n ≡ false
   pub moves : OwnersMove (IsFileMove node n) own new
   pub tells : let t = told_of g (slice_set bs (header_place g m) b) n in Tells g new n t (body_blocks bs n t) s
@@ -61,6 +69,22 @@ pub record IsHeaderFor (g : Geometry) (bs : List Block) (node n m : ℕ) (own ne
 abbrev pub HeaderWrite : Type 0
 HeaderWrite = (g : Geometry) (bs : List Block) (own new : Owners) (c : Cat) (node n m : ℕ) (b : Block) (s : Slot) → Spells g bs own c → IsHeaderFor g bs node n m own new c b s
     → Spells g (slice_set bs (header_place g m) b) new (with_slot c n s)
+
+-- The block b in header slot m, which is no file's: it is the header of this number, tells no file, and has the sequence that the
+-- catalogue has. Where the number is free, the slot stays free.
+pub record IsSlotFor (g : Geometry) (bs : List Block) (m : ℕ) (own : Owners) (c : Cat) (b : Block) : Type 0 where
+  pub whole : IsWholeBlock b
+  pub number : IsFileNumber g m
+  pub no_file : (n : ℕ) → slice_get own.numbers (m - 1) ≢ Some (InFile n)
+  pub seq : ℕ
+  pub reads : head_told b ≡ Ok (head.Free seq)
+  pub slot : slice_get c.files (m - 1) ≡ Some (slot.Free seq)
+  pub head : IsHead m (header_read b)
+  pub blank : slice_get own.numbers (m - 1) ≡ Some Free → IsBlank b
+
+-- a header slot that is no file's: nothing changes
+abbrev pub SlotWrite : Type 0
+SlotWrite = (g : Geometry) (bs : List Block) (own : Owners) (c : Cat) (m : ℕ) (b : Block) → Spells g bs own c → IsSlotFor g bs m own c b → Spells g (slice_set bs (header_place g m) b) own c
 
 -- The block v, from 0, of file n, which stands at l: with it the file's blocks tell the slot s, and a directory can be read.
 pub record IsBodyFor (g : Geometry) (bs : List Block) (n v l : ℕ) (b : Block) (s : Slot) : Type 0 where

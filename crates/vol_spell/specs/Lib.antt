@@ -3,10 +3,12 @@ pub mod Adding
 pub mod Bodies
 pub mod Counts
 pub mod Entries
+pub mod Files
 pub mod Forms
 pub mod Fully
 pub mod Hands
 pub mod Kinds
+pub mod Lbns
 pub mod OwnerLaws
 pub mod Owners
 pub mod Owning

@@ -19,14 +19,14 @@ pub record IsClusterOf (g : Geometry) (bs : List Block) (q : ℕ) (o : Owner) : 
   pub once : (n : ℕ) → IsFileNumber g n → Once (clusters_told g (told_of g bs n))
   pub known : (n : ℕ) → o ≡ InFile n → IsFileNumber g n
 
--- Number n is of owner o alone: its bit is clear exactly where o is nobody, its header is in use exactly where o is its file, and
--- it is among the header slots of a file exactly where o is that file. Where o is a node or it is leaked, the bit is set and the
--- header is free.
+-- Number n is of owner o alone: its bit is clear exactly where o is nobody, it has a file's first header exactly where o is the
+-- file of that number, and it is among the header slots of a file exactly where o is that file. Where o is a node or it is leaked,
+-- the bit is set and it is among the slots of no file.
 pub record IsNumberOf (g : Geometry) (bs : List Block) (n : ℕ) (o : Owner) : Type 0 where
   pub bit : number_bit g bs n ≡ not (is_same_owner Free o)
   pub file : (is_some (fields_told (header_block g bs n)) ≡ true) ↔ (o ≡ InFile n)
   pub slots : (m : ℕ) → IsFileNumber g m → Has (told_of g bs m).slots n ↔ (o ≡ InFile m)
-  pub known : (m : ℕ) → o ≡ InFile m → m ≡ n
+  pub known : (m : ℕ) → o ≡ InFile m → IsFileNumber g m
 
 -- each cluster and each number has one owner
 pub record EachIsOwned : Type 0 where

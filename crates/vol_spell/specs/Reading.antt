@@ -1,10 +1,13 @@
 -- What the blocks of a volume tell, read by its geometry: headers, runs, clusters, bits and quota rows.
-use Rattle.std.specs.Prelude.{◌+◌, ◌*◌, ◌-◌, ◌/◌, ◌%◌, ◌≤◌, ℕ, Bool, List, [], Option, flat_map, slice_get, slice_index_or, if◌then◌else◌}
+use Rattle.std.specs.Prelude.{◌+◌, ◌*◌, ◌-◌, ◌/◌, ◌%◌, ◌≤◌, ℕ, Bool, false, List, [], ◌∷◌, Option, Result, Ok, flat_map, slice_get, slice_index_or, if◌then◌else◌}
 use Rattle.std.specs.List.{range_with_len}
 use Rattle.base_words.specs.Fields.{Block}
 use Rattle.fx_header.specs.declared.run.Run.{Run}
 use Rattle.fx_header.specs.declared.slot.Hdr.{Hdr}
-use Rattle.fx_header.specs.Headers.{header_read}
+use Rattle.fx_header.specs.declared.slot.HeaderFault.{HeaderFault}
+use Rattle.fx_header.specs.declared.slot.Slot.{Slot}
+use Rattle.fx_header.specs.declared.slot.Slot.TheVariants.{Free, Used}
+use Rattle.fx_header.specs.Headers.{header_read, runs_in}
 use Rattle.fx_header.specs.Pointers.{lbns_in}
 use Rattle.fx_bitmap.specs.Bits.{bit_at}
 use Rattle.fx_quota.specs.declared.types.Row.{Row}
@@ -12,6 +15,7 @@ use Rattle.vol_spell.specs.declared.owner.Owner.{Owner}
 use Rattle.vol_spell.specs.Owners.{Owners}
 use Rattle.vol_spell.specs.Spread.{blocks_at}
 use Rattle.vol_parts.specs.declared.geometry.Geometry.{Geometry}
+use Rattle.vol_parts.specs.Chains.{Headers, as_first}
 use Rattle.vol_parts.specs.Volumes.{Volume, volume, fields_in, Told, runs_with, told_by, rows_in}
 use Rattle.vol_parts.specs.Catalogues.{is_structure}
 
@@ -41,9 +45,21 @@ header_place g n = 4 * g.cluster + n
 abbrev pub header_block : Geometry → List Block → ℕ → Block
 header_block g bs n = slice_index_or bs (header_place g n) []
 
--- the fields that a header tells, where it is in use
+-- what the header slots say
+abbrev pub headers_at : Geometry → List Block → Headers
+headers_at g bs = record {
+  files = g.files;
+  says = λ m. fields_in (header_read (header_block g bs m));
+  lists = λ m. runs_with (fields_in (header_read (header_block g bs m))) (header_block g bs m);
+}
+
+-- what a block says as the first header of a file
+abbrev pub head_told : Block → Result Slot HeaderFault
+head_told b = as_first (header_read b)
+
+-- the fields of the file whose first header this is, where it is in use
 abbrev pub fields_told : Block → Option Hdr
-fields_told b = fields_in (header_read b)
+fields_told b = fields_in (head_told b)
 
 -- the runs that a header tells: none where it is not in use
 abbrev pub runs_told : Block → List Run
@@ -53,13 +69,17 @@ runs_told b = runs_with (fields_told b) b
 abbrev pub clusters_of : ℕ → List Run → List ℕ
 clusters_of factor runs = flat_map (λ r. range_with_len (r.lbn / factor) (r.count / factor)) runs
 
--- what the header b alone tells of the file of number n
-abbrev pub header_tells : ℕ → Block → Told
-header_tells n b = told_by n (header_read b) b
-
 -- what the blocks tell of the file of a number
 abbrev pub told_of : Geometry → List Block → ℕ → Told
-told_of g bs n = header_tells n (header_block g bs n)
+told_of g bs n = told_by (headers_at g bs) n (head_told (header_block g bs n))
+
+-- what is told of a file that has one header, the block b with these fields
+abbrev pub alone : ℕ → Hdr → Block → Told
+alone n f b = record { head = Ok (Used f); slots = n ∷ []; parts = runs_in b ∷ []; runs = runs_in b; surplus = false }
+
+-- what is told of a number that is the first of no file, with the sequence of its slot
+abbrev pub nobody : ℕ → Told
+nobody seq = record { head = Ok (Free seq); slots = []; parts = []; runs = []; surplus = false }
 
 -- the clusters of a file, by what is told of it
 abbrev pub clusters_told : Geometry → Told → List ℕ

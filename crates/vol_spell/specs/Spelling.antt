@@ -9,11 +9,12 @@ use Rattle.fx_header.specs.declared.slot.Hdr.{Hdr}
 use Rattle.fx_header.specs.declared.slot.Slot.{Slot as Head}
 use Rattle.fx_header.specs.declared.slot.Slot.TheVariants as head
 use Rattle.fx_header.specs.declared.slot.HeaderFault.{HeaderFault}
+use Rattle.fx_header.specs.Headers.{header_read}
 use Rattle.fx_header.specs.Pointers.{blocks_in}
 use Rattle.fx_dir.specs.Directory.{directory}
 use Rattle.plain_cat.specs.declared.cat.Cat.{Cat}
 use Rattle.plain_cat.specs.declared.cat.Slot.{Slot}
-use Rattle.plain_rules.specs.Lookups.{clusters_in}
+use Rattle.plain_rules.specs.Lookups.{clusters_in, file_most}
 use Rattle.vol_spell.specs.declared.owner.Owner.TheVariants.{Free, InFile, Leaked}
 use Rattle.base_words.specs.Lists.{Has, Once}
 use Rattle.vol_spell.specs.Owners.{Owners}
@@ -22,10 +23,10 @@ use Rattle.vol_parts.specs.declared.finding.Finding.{Finding}
 use Rattle.vol_parts.specs.declared.finding.Finding.TheVariants as finding
 use Rattle.vol_parts.specs.declared.geometry.Geometry.{Geometry}
 use Rattle.vol_parts.specs.Parts.{IsGeometry, storage_blocks}
-use Rattle.vol_parts.specs.Volumes.{fields_in, most_clusters, Told}
+use Rattle.vol_parts.specs.Volumes.{fields_in, Told}
 use Rattle.vol_parts.specs.Catalogues.{slot_with, rows_sorted}
 use Rattle.vol_parts.specs.Fatal.{is_system_header, has_dir_size, found_in, in_whole_clusters}
-use Rattle.vol_spell.specs.Reading.{IsFileNumber, total_of, told_of, clusters_told, body_blocks, cluster_bit, number_bit, rows_told}
+use Rattle.vol_spell.specs.Reading.{IsFileNumber, total_of, header_block, told_of, clusters_told, body_blocks, cluster_bit, number_bit, rows_told}
 
 -- ---- a file
 
@@ -64,7 +65,7 @@ pub record Tells (g : Geometry) (own : Owners) (n : ℕ) (t : Told) (blocks : Li
   pub whole : AreWhole g t.runs
   pub once : Once (clusters_told g t)
   pub runs : (q : ℕ) → Has (clusters_told g t) q ↔ (slice_get own.clusters q ≡ Some (InFile n))
-  pub few : 11 < n → length (clusters_told g t) ≤ most_clusters
+  pub few : 11 < n → length (clusters_told g t) ≤ file_most
   pub slots : (m : ℕ) → Has t.slots m ↔ (IsFileNumber g m × (slice_get own.numbers (m - 1) ≡ Some (InFile n)))
   pub size : blocks_in t.runs ≡ size_in (fields_in t.head)
   pub dir : dir_found g n (fields_in t.head) t.runs blocks ≡ None
@@ -119,6 +120,17 @@ pub record HasRows (g : Geometry) (bs : List Block) (c : Cat) : Type 0 where
   pub quota : c.quota ≡ rows_sorted (rows_told g bs)
   pub once : Once (map (λ r. r.uic) (rows_told g bs))
 
+-- a header slot that is free
+abbrev pub IsBlank : Block → Type 0
+IsBlank b = fields_in (header_read b) ≡ None
+
+-- The header slots, those of files and all others.
+pub record HasSlots (g : Geometry) (bs : List Block) (own : Owners) : Type 0 where
+  -- each slot can be read, and a header in it is that of its number
+  pub heads : (m : ℕ) → IsFileNumber g m → IsHead m (header_read (header_block g bs m))
+  -- the slot of a free number is free
+  pub blank : (m : ℕ) → IsFileNumber g m → slice_get own.numbers (m - 1) ≡ Some Free → IsBlank (header_block g bs m)
+
 -- The owners are those that the bits and the catalogue tell.
 pub record AreOwners (g : Geometry) (bs : List Block) (own : Owners) (c : Cat) : Type 0 where
   -- the bit of a cluster is set exactly where it is free
@@ -146,6 +158,8 @@ pub record Spells (g : Geometry) (bs : List Block) (own : Owners) (c : Cat) : Ty
   pub constants : HasConstants g c
   -- what is told of each file tells its slot, with the blocks of the file
   pub files : (n : ℕ) (s : Slot) → IsFileNumber g n → slice_get c.files (n - 1) ≡ Some s → Tells g own n (told_of g bs n) (body_blocks bs n (told_of g bs n)) s
+  -- each header slot can be read, and that of a free number is free
+  pub slots : HasSlots g bs own
   -- the quota rows are the catalogue's
   pub rows : HasRows g bs c
   -- the owners are those that the bits and the catalogue tell

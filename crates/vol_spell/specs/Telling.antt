@@ -9,7 +9,7 @@ use Rattle.vol_spell.specs.Spread.{blocks_at}
 use Rattle.vol_parts.specs.declared.geometry.Geometry.{Geometry}
 use Rattle.vol_parts.specs.Volumes.{head, told, runs, body, geometry_of, is_free_cluster, is_used_number, active_rows}
 use Rattle.vol_parts.specs.Catalogues.{files_of, rows_sorted}
-use Rattle.vol_spell.specs.Reading.{IsFileNumber, volume_of, header_block, told_of, runs_told, cluster_bit, number_bit, rows_told}
+use Rattle.vol_spell.specs.Reading.{IsFileNumber, volume_of, header_block, told_of, cluster_bit, number_bit, rows_told}
 use Rattle.vol_spell.specs.Spelling.{Spells}
 
 -- the volume has this geometry, and its headers, bits, rows and files are those of the blocks and of the catalogue
@@ -17,8 +17,8 @@ pub record IsToldBy (g : Geometry) (bs : List Block) (c : Cat) : Type 0 where
   pub geometry : geometry_of (volume_of g bs) ≡ g
   pub heads : (n : ℕ) → IsFileNumber g n → head (volume_of g bs) n ≡ header_read (header_block g bs n)
   pub told : (n : ℕ) → IsFileNumber g n → told (volume_of g bs) n ≡ told_of g bs n
-  pub runs : (n : ℕ) → IsFileNumber g n → runs (volume_of g bs) n ≡ runs_told (header_block g bs n)
-  pub bodies : (n : ℕ) → IsFileNumber g n → body (volume_of g bs) n ≡ blocks_at bs (lbns_in (runs_told (header_block g bs n)))
+  pub runs : (n : ℕ) → IsFileNumber g n → runs (volume_of g bs) n ≡ (told_of g bs n).runs
+  pub bodies : (n : ℕ) → IsFileNumber g n → body (volume_of g bs) n ≡ blocks_at bs (lbns_in ((told_of g bs n).runs))
   pub cluster_bits : (q : ℕ) → is_free_cluster (volume_of g bs) q ≡ cluster_bit g bs q
   pub number_bits : (n : ℕ) → is_used_number (volume_of g bs) n ≡ number_bit g bs n
   pub rows : active_rows (volume_of g bs) ≡ rows_told g bs

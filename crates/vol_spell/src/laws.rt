@@ -2,8 +2,8 @@
 
 ghost use Rattle.vol_spell.specs.Bodies.{PartsLieApart, BodiesLieApart};
 ghost use Rattle.vol_spell.specs.Owning.{EachIsOwned};
-ghost use Rattle.vol_spell.specs.Kinds.{OutsideWrite, QuotaWrite, StorageWrite, IndexWrite, HeaderWrite, BodyWrite, DeathLeaks};
-ghost use Rattle.vol_spell.specs.Views.{ToldStays, OthersStay, PartsStay, OutsideStays, BodySet, HeaderSet, StorageSet, IndexSet, QuotaSet};
+ghost use Rattle.vol_spell.specs.Kinds.{OutsideWrite, QuotaWrite, StorageWrite, IndexWrite, HeaderWrite, SlotWrite, BodyWrite, DeathLeaks};
+ghost use Rattle.vol_spell.specs.Views.{ToldStays, OthersStay, PartsStay, OutsideStays, BodySet, HeaderSet, SlotSet, StorageSet, IndexSet, QuotaSet};
 ghost use Rattle.vol_spell.specs.Adding.{ClustersAddUp};
 ghost use Rattle.vol_spell.specs.Telling.{VolumeTells};
 ghost use Rattle.vol_spell.specs.Accepting.{CatalogueIsSpelt};
@@ -41,7 +41,7 @@ pub fn told_stays()
     ensures { ToldStays }
 {}
 
-/// A write to a place that is not a file's header, nor in its clusters, leaves its header and its blocks.
+/// A write to a place that is none of a file's header slots, nor in its clusters, leaves its header and its blocks.
 pub fn others_stay()
     ensures { OthersStay }
 {}
@@ -56,9 +56,14 @@ pub fn outside_stays()
     ensures { OutsideStays }
 {}
 
-/// A new header of a file is its header, and leaves the blocks that it names.
+/// A new header of a file leaves the blocks that the file has then, and each other file.
 pub fn header_set()
     ensures { HeaderSet }
+{}
+
+/// A block in a header slot that is no file's leaves each file.
+pub fn slot_set()
+    ensures { SlotSet }
 {}
 
 /// A block of the storage bitmap tells the bits of its 4,096 clusters, and leaves the others.
@@ -105,6 +110,11 @@ pub fn index_write()
 /// is none of 1, 2 and 10, and up to 11 it keeps its number of clusters.
 pub fn header_write()
     ensures { HeaderWrite }
+{}
+
+/// A write to a header slot that is no file's leaves what the blocks spell.
+pub fn slot_write()
+    ensures { SlotWrite }
 {}
 
 /// A write to a block of a file other than 1, 2 and 10 changes its slot.

@@ -9,7 +9,7 @@
 //! ```
 //!
 //! `read_volume` gives the catalogue, and none if and only if there is a fatal finding (`IsCatOrNone`). `read_fully` gives that
-//! finding too.
+//! finding too. `file_lbns` gives the LBNs of a file's blocks, in order, as an `LbnList`.
 //!
 //! Each law is the contract of a function that does nothing. `laws`: `parts_lie_apart`, `clusters_add_up`, and one for each kind of
 //! write to a header or a bitmap, such as `header_write` and `storage_write`, which takes spelt blocks to spelt blocks. `owner_laws`:
@@ -22,11 +22,13 @@
 #![tactic(auto)]
 
 pub mod laws;
+mod lbns;
 mod owner;
 pub mod owner_laws;
 mod reading;
 pub mod write_laws;
 
+pub use lbns::{LbnList, file_lbns};
 pub use owner::Owner;
 pub use reading::{read_fully, read_volume};
 pub use vol_faults::{free_counts, geometry};

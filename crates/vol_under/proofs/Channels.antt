@@ -72,7 +72,7 @@ module _ (c : Cat) where
   extend_kept : (file : Fid) (blocks : ℕ) (new : Option ℕ) → (extend_outcome c file blocks new).after.opens ≡ c.opens
   unfolding extend_outcome
   extend_kept file blocks new = by_file (live c file) where
-    by_file : (f : Option File) → (extend_of c file.num f blocks).after.opens ≡ c.opens
+    by_file : (f : Option File) → (extend_of c file.num f blocks new).after.opens ≡ c.opens
     by_file None = refl
     by_file (Some f) = unless_kept _ _ refl
 

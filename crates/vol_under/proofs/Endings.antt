@@ -6,7 +6,7 @@ use Rattle.plain_cat.specs.declared.cat.Cat.{Cat}
 use Rattle.plain_cat.specs.declared.cat.Open.{Open}
 use Rattle.plain_rules.specs.Replaying.{closed_channels, flagged, dead}
 use Rattle.vol_spell.specs.declared.owner.Owner.TheVariants.{Outside, Leaked}
-use Rattle.base_words.specs.Lists.{Touches, StandsIn}
+use Rattle.base_words.specs.Lists.{Once, Touches, StandsIn}
 use Rattle.vol_spell.specs.Owners.{Owners, OwnersMove, IsDeathMove, nothing, Outs}
 use Rattle.vol_spell.specs.Hands.{handed, AreOf}
 use Rattle.vol_spell.specs.Counts.{is_same_owner}
@@ -16,7 +16,7 @@ use Rattle.vol_spell.specs.Spelling.{Spells}
 use Rattle.vol_spell.specs.Kinds.{with_leaks}
 use Rattle.vol_spell.proofs.Keeping.{death_leaks}
 use Rattle.vol_under.specs.Guards.{guard_of, MayWrite, MayLook}
-use Rattle.vol_under.specs.UnderWay.{bare, UnderWay, writes_to, all_out, resting, idle, changed}
+use Rattle.vol_under.specs.UnderWay.{bare, UnderWay, writes_to, all_out, resting, idle, changed, AreSole}
 use Rattle.vol_under.specs.Under.{IsLawful, IsUnder}
 use Rattle.vol_under.specs.Ending.{OpensKeep, file_numbers, LeakKeeps, DeathKeeps}
 use Rattle.vol_under.specs.Answering.{AnswerKeeps}
@@ -33,6 +33,7 @@ opens_spelt g bs own c opens s = record {
   structures = s.structures;
   constants = record { factor = s.constants.factor; total = s.constants.total; reserved = s.constants.reserved; rows = s.constants.rows };
   files = s.files;
+  slots = s.slots;
   rows = record { quota = s.rows.quota; once = s.rows.once };
   owners = record { cluster_bits = s.owners.cluster_bits; number_bits = s.owners.number_bits; known = s.owners.known; known_numbers = s.owners.known_numbers; leaked = s.owners.leaked; leaked_numbers = s.owners.leaked_numbers };
 }
@@ -67,7 +68,7 @@ leak_keeps g c nodes drive n stock ns u is are =
       own = new;
       spelt = dead_spelt g u.base u.own new c n (length stock.clusters) ns u.spelt moves
           (leaks_count n stock.clusters u.own.clusters out.clusters.once clusters ∙ ap (λ k. k + length stock.clusters) (sym u.spelt.owners.leaked))
-          (leaks_flagged stock.numbers u.own.numbers ∙ ap (λ (fs : List Bool). flagged fs (file_numbers stock)) (sym u.spelt.owners.leaked_numbers) ∙ sym (flagged_alike ns (file_numbers stock) c.leaked_numbers are));
+          (leaks_flagged stock.numbers u.own.numbers ∙ ap (λ (fs : List Bool). flagged fs (file_numbers stock)) (sym u.spelt.owners.leaked_numbers) ∙ sym (flagged_alike ns (file_numbers stock) c.leaked_numbers are.same));
       over = over_same (λ m. writes_to (nodes m).done (nodes m)) (λ m. writes_to (changed nodes n rest m).done (changed nodes n rest m)) u.base drive u.over (done_alike nodes n rest (sym (ap (λ v. writes_to v.done v) is)));
       within = each (λ m v. v.done ≤ length v.plan) nodes n rest (omega arith) (λ m ne. u.within m);
       stands = each (λ m v. StandsIn u.base v.seen) nodes n rest tt (λ m ne. u.stands m);
@@ -104,6 +105,14 @@ twice false u v x = refl
 
 pub changed_again : (nodes : ℕ → UnderWay) (n : ℕ) (u v : UnderWay) → changed (changed nodes n u) n v ≡ changed nodes n v
 changed_again nodes n u v = λ i m. twice (m == n) u v (nodes m) i
+
+-- what a node has outside after its writes done stands there once
+pub all_out_once : (g : Geometry) (c : Cat) (nodes : ℕ → UnderWay) (drive : List Block) (n : ℕ) → AreSole nodes → IsUnder g c nodes drive → (nodes n).knows c ≡ true → Once (all_out (nodes n)).numbers
+all_out_once g c nodes drive n sole u knows =
+    let s = stop_keeps g c nodes drive n sole u knows in
+    let is : changed nodes n (idle (nodes n)) n ≡ resting (all_out (nodes n)) = changed_here nodes n (idle (nodes n)) in
+    let out : Outs n s.2.own nothing (all_out (nodes n)) = subst (λ (v : UnderWay). Outs n s.2.own v.took v.stock) is (s.2.outs n) in
+    out.numbers.once
 
 pub death_keeps : DeathKeeps
 death_keeps g c nodes drive n ns sole u knows are =

@@ -1,39 +1,41 @@
 -- What is outside at a node, and what leaks.
 use Rattle.std.proofs.Common.{suc, length-set, ◌≡◌, ◌≤◌, ◌+◌, ◌-◌, ◌==◌, ◌&&◌, ℕ, Bool, true, false, List, [], ◌∷◌, ◌++◌, Option, Some, None, length, map, slice_get, slice_set, get_or, refl, sym, ap, subst, ◌∙◌, inl, inr, arith, cond}
 use Rattle.std.specs.Prelude.{◌↔◌, count_by, Result, Ok, Err, is_some, option_map, not}
-use Rattle.std.specs.List.{list_all}
+use Rattle.std.specs.List.{list_all, range_with_len}
 use Rattle.std.proofs.lemmas.Bool.Decides.{nat_tests}
-use Rattle.std.proofs.lemmas.List.{map-set}
+use Rattle.std.proofs.lemmas.List.{map-set, length-map}
 use Rattle.std.proofs.lemmas.List.Sums.{sum_by-cons}
 use Rattle.std.proofs.lemmas.Option.{slice_get_within, slice_get-get_or, slice_get-map}
 use Rattle.base_words.specs.Fields.{Block}
 use Rattle.fx_header.specs.declared.slot.Slot.{Slot as Head}
 use Rattle.fx_header.specs.declared.slot.Slot.TheVariants as head
 use Rattle.fx_header.specs.declared.slot.HeaderFault.{HeaderFault}
-use Rattle.fx_header.specs.Headers.{header_read}
 use Rattle.plain_cat.specs.declared.cat.Cat.{Cat}
 use Rattle.plain_cat.specs.declared.cat.Slot.{Slot}
 use Rattle.plain_cat.specs.declared.cat.Slot.TheVariants as slot
-use Rattle.plain_rules.specs.Lookups.{is_free_slot, is_set, is_free_number, free_clusters}
+use Rattle.plain_rules.specs.Lookups.{is_free_slot, is_set, is_free_number, free_clusters, header_most, free_count, HasSingleHeaders}
 use Rattle.plain_rules.specs.Replaying.{flagged}
+use Rattle.plain_rules.proofs.Headers.{single_count}
+use Rattle.plain_rules.proofs.Standing.{stands_at}
 use Rattle.vol_spell.specs.declared.owner.Owner.{Owner}
 use Rattle.vol_spell.specs.declared.owner.Owner.TheVariants.{Free, InFile, Outside, Leaked}
 use Rattle.base_words.specs.Lists.{Has, Once, written, Touches}
-use Rattle.vol_spell.specs.Owners.{Owners}
+use Rattle.vol_spell.specs.Owners.{Owners, Things, Outs}
 use Rattle.vol_spell.specs.Hands.{handed, AreOf}
 use Rattle.vol_spell.specs.Counts.{is_same_owner}
-use Rattle.base_words.proofs.Listing.{has_parted}
+use Rattle.base_words.proofs.Listing.{has_parted, has_first, has_second, has_map, has_mapped}
 use Rattle.base_words.proofs.ListWrites.{touches_or_not, touched_alike, get-written_else, length-written}
-use Rattle.vol_spell.proofs.Counting.{handing_counts, out_counts}
+use Rattle.vol_spell.proofs.Counting.{handing_counts, counts_list, out_counts}
 use Rattle.vol_parts.specs.declared.geometry.Geometry.{Geometry}
 use Rattle.vol_parts.specs.Volumes.{fields_in}
 use Rattle.vol_parts.specs.Catalogues.{slot_with}
-use Rattle.vol_spell.specs.Reading.{IsFileNumber, header_block, told_of, body_blocks}
+use Rattle.vol_spell.specs.Reading.{IsFileNumber, header_block, head_told, told_of, body_blocks}
 use Rattle.vol_spell.specs.Spelling.{IsHead, Spells}
 use Rattle.vol_spell.specs.Adding.{is_outside}
-use Rattle.vol_spell.proofs.Adds.{clusters_add_up}
-use Rattle.vol_spell.proofs.Parts.{used_of}
-use Rattle.vol_under.specs.Ending.{OutsideMayLeak}
+use Rattle.vol_spell.proofs.Adds.{size_told, clusters_add_up}
+use Rattle.vol_spell.proofs.Parts.{low, used_of}
+use Rattle.vol_under.specs.Ending.{file_numbers, AreNumbersOf, OutsideMayLeak}
+use Rattle.vol_under.specs.UnderWay.{together}
 
 -- a header that is not in use tells a free slot
 free_slot : (n factor : ℕ) (r : Result Head HeaderFault) (blocks : List Block) (s : Slot) → IsHead n r → (is_some (fields_in r) ≡ true → ⊥) → slot_with factor n r blocks ≡ s → is_free_slot (Some s) ≡ true
@@ -60,7 +62,7 @@ number_free_of g bs own c o i no_file no_leak s at =
     let number : IsFileNumber g (i + 1) = record { from = omega arith; to = omega arith } in
     let here : slice_get c.files i ≡ Some (get_or c.files i (slot.Free 0)) = slice_get-get_or c.files i (slot.Free 0) (omega arith) in
     let t = s.files (i + 1) (get_or c.files i (slot.Free 0)) number (ap (λ k. slice_get c.files k) back ∙ here) in
-    let free : is_free_slot (Some (get_or c.files i (slot.Free 0))) ≡ true = free_slot (i + 1) g.cluster (header_read (header_block g bs (i + 1))) (body_blocks bs (i + 1) (told_of g bs (i + 1))) (get_or c.files i (slot.Free 0)) t.reads
+    let free : is_free_slot (Some (get_or c.files i (slot.Free 0))) ≡ true = free_slot (i + 1) g.cluster (head_told (header_block g bs (i + 1))) (body_blocks bs (i + 1) (told_of g bs (i + 1))) (get_or c.files i (slot.Free 0)) t.reads
     (λ used. no_file (i + 1) (let e : Some o ≡ Some (InFile (i + 1)) = sym at ∙ ap (λ k. slice_get own.numbers k) (sym back) ∙ (used_of g own bs (i + 1) (body_blocks bs (i + 1) (told_of g bs (i + 1))) (get_or c.files i (slot.Free 0)) number t).0 used in cc)) t.slot in
     let leaked : is_set (slice_get c.leaked_numbers i) ≡ false =
     ap (λ (xs : List Bool). is_set (slice_get xs i)) s.owners.leaked_numbers ∙ ap is_set (slice_get-map (is_same_owner Leaked) own.numbers i) ∙ not_leaked o (slice_get own.numbers i) no_leak at in
@@ -99,10 +101,107 @@ outside_is n Leaked e = e
 some_of : (k f a b : ℕ) → f ≡ a + b → k ≤ b → k ≤ f
 some_of k f a b e h = omega arith
 
-has_mapped : (xs : List ℕ) (n : ℕ) → Has (map (λ i. i + 1) xs) n → (i : ℕ) × Has xs i × (i + 1 ≡ n)
-has_mapped [] n t = absurd t
-has_mapped (x ∷ xs) n (inl e) = (x, inl refl, e)
-has_mapped (x ∷ xs) n (inr t) = let h = has_mapped xs n t in (h.0, inr h.1, h.2)
+-- ---- as many numbers
+
+-- each file above number 11 has one header
+pub single_headers : (g : Geometry) (bs : List Block) (own : Owners) (c : Cat) → Spells g bs own c → HasSingleHeaders c
+single_headers g bs own c s n f above at =
+    let here = stands_at c n f at in
+    let lt = slice_get_within c.files (n - 1) (slot.Used f) here in
+    let count = s.counts.slots in
+    let t = s.files n (slot.Used f) (record { from = omega arith; to = omega arith }) here in
+    subst (λ (k : ℕ). k ≤ header_most) (sym (size_told g own n (told_of g bs n) (body_blocks bs n (told_of g bs n)) (slot.Used f) (low g bs own c s) t)) (t.few above)
+
+-- a test of owners that none passes but where a test along a range holds counts no more than that
+less_along : (r : ℕ → Bool) (p : Owner → Bool) (xs : List Owner) (a : ℕ) → ((i : ℕ) (o : Owner) → slice_get xs i ≡ Some o → p o ≡ true → r (a + i) ≡ true) → count_by p xs ≤ count_by r (range_with_len a (length xs))
+less_along r p [] a h = omega arith
+less_along r p (x ∷ xs) a h =
+    let f : Owner → ℕ = λ o. cond (p o) 1 0 in
+    let k : ℕ → ℕ = λ i. cond (r i) 1 0 in
+    let rest : count_by p xs ≤ count_by r (range_with_len (a + 1) (length xs)) = less_along r p xs (a + 1) (λ i o e y. ap r (let f : a + 1 + i ≡ a + suc i = omega arith in f) ∙ h (suc i) o e y) in
+    adds_less (f x) (k a) (count_by p xs) (count_by r (range_with_len (a + 1) (length xs))) _ _ (sum_by-cons f x xs) (sum_by-cons k a (range_with_len (a + 1) (length xs))) (by_test (p x) refl) rest where
+      by_test : (b : Bool) → p x ≡ b → cond {A = ℕ} (p x) 1 0 ≤ cond {A = ℕ} (r a) 1 0
+      by_test true e = rw (e, ap r (let f : a ≡ a + 0 = omega arith in f) ∙ h 0 x refl e) (omega arith)
+      by_test false e = rw e (omega arith)
+
+outside_same : (n : ℕ) (o : Owner) → is_same_owner (Outside n) o ≡ true → o ≡ Outside n
+unfolding is_same_owner
+outside_same n Free e = absurd (let f : false ≡ true = e in cc)
+outside_same n (InFile i) e = absurd (let f : false ≡ true = e in cc)
+outside_same n (Outside m) e = ap Outside (let h : m ≡ n = grind (arith, nat_tests) in h)
+outside_same n Leaked e = absurd (let f : false ≡ true = e in cc)
+
+-- the numbers outside at a node are no more than there are to take
+pub numbers_out : (g : Geometry) (bs : List Block) (own : Owners) (c : Cat) (n : ℕ) → Spells g bs own c → count_by (is_same_owner (Outside n)) own.numbers ≤ free_count c
+numbers_out g bs own c n s =
+    let numbers : length own.numbers ≡ g.files = s.counts.numbers in
+    let slots : length c.files ≡ g.files = s.counts.slots in
+    let as_many : length own.numbers ≡ length c.files = omega arith in
+    let all : free_count c ≡ count_by (is_free_number c) (range_with_len 1 (length c.files)) = single_count c (single_headers g bs own c s) in
+    let less : count_by (is_same_owner (Outside n)) own.numbers ≤ count_by (is_free_number c) (range_with_len 1 (length own.numbers)) = less_along (is_free_number c) (is_same_owner (Outside n)) own.numbers 1 free in
+    subst (λ (k : ℕ). count_by (is_same_owner (Outside n)) own.numbers ≤ k) (ap (λ k. count_by (is_free_number c) (range_with_len 1 k)) as_many ∙ sym all) less where
+      free : (i : ℕ) (o : Owner) → slice_get own.numbers i ≡ Some o → is_same_owner (Outside n) o ≡ true → is_free_number c (1 + i) ≡ true
+      free i o at same =
+          let next : i + 1 ≡ 1 + i = omega arith in
+          subst (λ (k : ℕ). is_free_number c k ≡ true) next (number_free g bs own c n i s (at ∙ ap (λ (x : Owner). Some x) (outside_same n o same)))
+
+-- the places of numbers that stand once stand once
+places_once : (ns : List ℕ) → Once ns → ((n : ℕ) → Has ns n → 1 ≤ n) → Once (map (λ n. n - 1) ns)
+places_once [] once low = tt
+places_once (n ∷ ns) once low = (
+  (λ t.
+      let h = has_mapped (λ m. m - 1) ns (n - 1) t in
+      let back : h.0 - 1 ≡ n - 1 = h.2 in
+      let a = low n (inl refl) in
+      let b = low h.0 (inr h.1) in
+      let same : h.0 ≡ n = omega arith in
+      once.0 (subst (λ (k : ℕ). Has ns k) same h.1)),
+  places_once ns once.1 (λ m t. low m (inr t)),
+)
+
+numbers_once : (ps : List ℕ) → Once ps → Once (map (λ i. i + 1) ps)
+numbers_once [] once = tt
+numbers_once (p ∷ ps) once = (
+  (λ t.
+      let h = has_mapped (λ i. i + 1) ps (p + 1) t in
+      let next : h.0 + 1 ≡ p + 1 = h.2 in
+      let same : h.0 ≡ p = omega arith in
+      once.0 (subst (λ (k : ℕ). Has ps k) same h.1)),
+  numbers_once ps once.1,
+)
+
+-- the file numbers among things, as they stand there
+pub numbers_all : (t : Things) → Once t.numbers → AreNumbersOf (file_numbers t) t
+numbers_all t once = record { same = λ n. ((λ h. h), (λ h. h)); once = numbers_once t.numbers once }
+
+-- as many numbers as are outside at a node
+numbers_long : (own : Owners) (n : ℕ) (took stock : Things) (ns : List ℕ) → Outs n own took stock → AreNumbersOf ns (together took stock) → length ns ≡ count_by (is_same_owner (Outside n)) own.numbers
+numbers_long own n took stock ns outs are = sym (counts_list (Outside n) (map (λ m. m - 1) ns) own.numbers (places_once ns are.once above) at ∙ length-map ns (λ m. m - 1)) where
+  all : List ℕ
+  all = took.numbers ++ stock.numbers
+
+  above : (m : ℕ) → Has ns m → 1 ≤ m
+  above m t = let h = has_mapped (λ i. i + 1) all m ((are.same m).0 t) in let e = h.2 in omega arith
+
+  out : (i : ℕ) → Has all i → slice_get own.numbers i ≡ Some (Outside n)
+  out i t = (outs.numbers.all i).1 (has_parted took.numbers stock.numbers i t)
+
+  among : (i : ℕ) → slice_get own.numbers i ≡ Some (Outside n) → Has all i
+  among i e = elim ((outs.numbers.all i).0 e) [ inl t ↦ has_first took.numbers stock.numbers i t | inr t ↦ has_second took.numbers stock.numbers i t ]
+
+  at : (q : ℕ) → Has (map (λ m. m - 1) ns) q ↔ (slice_get own.numbers q ≡ Some (Outside n))
+  at q = (
+    (λ t.
+        let h = has_mapped (λ m. m - 1) ns q t in
+        let k = has_mapped (λ i. i + 1) all h.0 ((are.same h.0).0 h.1) in
+        let e : h.0 - 1 ≡ q = h.2 in
+        let f : k.0 + 1 ≡ h.0 = k.2 in
+        let same : k.0 ≡ q = omega arith in
+        subst (λ (i : ℕ). slice_get own.numbers i ≡ Some (Outside n)) same (out k.0 k.1)),
+    (λ e.
+        let back : q + 1 - 1 ≡ q = omega arith in
+        subst (λ (i : ℕ). Has (map (λ m. m - 1) ns) i) back (has_map (λ m. m - 1) ns (q + 1) ((are.same (q + 1)).1 (has_map (λ i. i + 1) all q (among q e))))),
+  )
 
 pub outside_may_leak : OutsideMayLeak
 outside_may_leak g bs own c n took stock ns s outs are =
@@ -111,8 +210,9 @@ outside_may_leak g bs own c n took stock ns s outs are =
     let all = (clusters_add_up g bs own c s).free in (
       some_of (length (took.clusters ++ stock.clusters)) (free_clusters c) _ (count_by is_outside own.clusters) all (subst (λ (k : ℕ). k ≤ count_by is_outside own.clusters) counted less),
       all_free c ns (λ m t.
-          let h = has_mapped (took.numbers ++ stock.numbers) m ((are m).0 t) in
+          let h = has_mapped (λ i. i + 1) (took.numbers ++ stock.numbers) m ((are.same m).0 t) in
           subst (λ (k : ℕ). is_free_number c k ≡ true) h.2 (number_free g bs own c n h.0 s ((outs.numbers.all h.0).1 (has_parted took.numbers stock.numbers h.0 h.1)))),
+      subst (λ (k : ℕ). k ≤ free_count c) (sym (numbers_long own n took stock ns outs are)) (numbers_out g bs own c n s),
     )
 
 -- each thing that goes to the leaks counts one more

@@ -13,7 +13,7 @@ use Rattle.vol_spell.proofs.Moving.{still, grown, moves_grow, moves_compose}
 use Rattle.base_words.specs.Fields.{Block}
 use Rattle.vol_parts.specs.declared.geometry.Geometry.{Geometry}
 use Rattle.vol_spell.specs.Spelling.{Spells}
-use Rattle.vol_spell.proofs.Keeping.{outside_write, quota_write, header_write, body_write, storage_write, index_write}
+use Rattle.vol_spell.proofs.Keeping.{outside_write, quota_write, header_write, slot_write, body_write, storage_write, index_write}
 use Rattle.vol_under.specs.Guards.{IsCommandMove}
 use Rattle.vol_under.specs.UnderWay.{PlannedWrite, bare, first_stage, stage_after, outs_after, StandsAt}
 use Rattle.vol_under.specs.Chains.{End, Steps, Replied, StepsReach, StepsLawful, StepsReply, StepKinds}
@@ -88,6 +88,12 @@ step_kinds g n cmd locks c stock = record {
     moves = moves_grow (IsFileMove n i) (IsCommandMove n locks) (file_command n i locks holds) own new is.moves;
     outs = outs;
   };
+  slot = λ w bs own x m s place is stage outs. record {
+    stage = stage;
+    spelt = subst (λ (l : ℕ). Spells g (slice_set bs l w.block) own x) (sym place) (slot_write g bs own x m w.block s is);
+    moves = stays own;
+    outs = outs;
+  };
   body = λ w bs own x i v slot s is stage outs. record { stage = stage; spelt = body_write g bs own x i v w.lbn w.block slot s is; moves = stays own; outs = outs };
   storage = λ w bs own new x k s whole part moves same bits stage outs. record {
     stage = stage;
@@ -95,9 +101,9 @@ step_kinds g n cmd locks c stock = record {
     moves = record { clusters = space_moves n locks own.clusters new.clusters moves; numbers = same_moves n locks own.numbers new.numbers same };
     outs = outs;
   };
-  index = λ w bs own new x s whole part same moves bits stage outs. record {
+  index = λ w bs own new x s whole part same moves bits blank stage outs. record {
     stage = stage;
-    spelt = index_write g bs own new x n w.lbn w.block s whole part same moves bits;
+    spelt = index_write g bs own new x n w.lbn w.block s whole part same moves bits blank;
     moves = record { clusters = same_moves n locks own.clusters new.clusters same; numbers = space_moves n locks own.numbers new.numbers moves };
     outs = outs;
   };

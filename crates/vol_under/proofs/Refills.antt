@@ -1,14 +1,14 @@
 -- The bitmap writes of the space rule.
-use Rattle.std.proofs.Common.{◌≡◌, ◌≢◌, ◌<◌, ◌+◌, ◌-◌, ◌*◌, ◌/◌, ◌%◌, ◌⊎◌, ℕ, true, false, List, [], Some, slice_get, slice_set, refl, sym, ap, ◌∙◌, inl, inr, arith}
+use Rattle.std.proofs.Common.{◌≡◌, ◌≢◌, ◌<◌, ◌+◌, ◌-◌, ◌*◌, ◌/◌, ◌%◌, ◌⊎◌, ℕ, true, false, List, [], Some, slice_get, slice_set, refl, sym, ap, subst, ◌∙◌, inl, inr, arith}
 use Rattle.std.specs.Prelude.{◌↔◌, slice_index_or}
-use Rattle.std.proofs.lemmas.Option.{get_or_from_slice_get}
+use Rattle.std.proofs.lemmas.Option.{get_or_from_slice_get, slice_get_within}
 use Rattle.base_words.specs.Fields.{Block}
 use Rattle.fx_bitmap.specs.Bits.{bit_at}
 use Rattle.plain_cat.specs.declared.cat.Cat.{Cat}
 use Rattle.vol_spell.specs.declared.owner.Owner.{Owner}
-use Rattle.vol_spell.specs.declared.owner.Owner.TheVariants.{Free, Outside}
+use Rattle.vol_spell.specs.declared.owner.Owner.TheVariants.{Free, InFile, Outside}
 use Rattle.base_words.specs.Lists.{Once, Parts}
-use Rattle.vol_spell.specs.Owners.{Owners, Moves, IsSpaceMove, AreOut}
+use Rattle.vol_spell.specs.Owners.{Owners, Moves, IsSpaceMove, AreOut, Things, Outs}
 use Rattle.vol_spell.specs.Hands.{handed, AreOf}
 use Rattle.base_words.proofs.Listing.{same_or_not}
 use Rattle.vol_spell.proofs.Moving.{still}
@@ -16,12 +16,12 @@ use Rattle.vol_spell.proofs.Handing.{handed_moves, are_handed, out_swaps, outsid
 use Rattle.vol_parts.specs.declared.geometry.Geometry.{Geometry}
 use Rattle.vol_parts.specs.declared.geometry.Part.TheVariants.{IndexBitmap, Storage}
 use Rattle.vol_parts.specs.Parts.{part_of}
-use Rattle.vol_spell.specs.Reading.{IsFileNumber, total_of, cluster_bit, number_bit}
-use Rattle.vol_spell.specs.Spelling.{Spells}
-use Rattle.vol_spell.proofs.Parts.{part_only}
+use Rattle.vol_spell.specs.Reading.{IsFileNumber, total_of, header_block, cluster_bit, number_bit}
+use Rattle.vol_spell.specs.Spelling.{IsBlank, Spells}
+use Rattle.vol_spell.proofs.Parts.{part_only, spare_blank}
 use Rattle.vol_spell.proofs.Viewing.{storage_set, index_set}
 use Rattle.vol_spell.proofs.Keeping.{storage_write, index_write}
-use Rattle.vol_under.specs.Refilling.{TakesClusters, GivesClusters, TakesNumbers, GivesNumbers}
+use Rattle.vol_under.specs.Refilling.{HaveBlankSlots, TakesClusters, GivesClusters, TakesNumbers, GivesNumbers}
 
 -- things of the stock become free
 stock_to_free : (n : ℕ) (qs rest took stock : List ℕ) (xs : List Owner) → Parts stock qs rest → Once rest → AreOut n xs took stock → AreOut n (handed qs Free xs) took rest
@@ -118,7 +118,7 @@ pub takes_numbers : TakesNumbers
 takes_numbers g n took stock l ps old b base own c s outs part at taken =
     record {
       new = new;
-      spelt = index_write g base own new c n l b s taken.whole part refl moves bits;
+      spelt = index_write g base own new c n l b s taken.whole part refl moves bits blank;
       moves = record { clusters = still (IsSpaceMove n) own.clusters; numbers = moves };
       outs = record { clusters = outs.clusters; numbers = free_to_stock n ps took.numbers stock.numbers own.numbers taken.once were outs.numbers };
     } where
@@ -148,11 +148,23 @@ takes_numbers g n took stock l ps old b base own c s outs part at taken =
             (λ x. let y = (h.from (m - 1)).0 x in v ∙ (taken.bits (m - 1) lt).1 (sym (was m) ∙ i.1 y.0, y.1)),
           )
 
+      blank : (m : ℕ) → IsFileNumber g m → slice_get own.numbers (m - 1) ≢ Some Free → slice_get new.numbers (m - 1) ≡ Some Free → IsBlank (header_block g base m)
+      blank m is other now = absurd (other (((are_handed ps Free (Outside n) own.numbers were (λ f. absurd (cc))).from (m - 1)).0 now).0)
+
+-- The numbers of a stock have free slots, which no file has. (A file has one header.)
+pub stock_blank : (g : Geometry) (base : List Block) (own : Owners) (c : Cat) (n : ℕ) (took stock : Things) (ps rest : List ℕ) → Spells g base own c → Outs n own took stock → Parts stock.numbers ps rest → HaveBlankSlots g base ps
+stock_blank g base own c n took stock ps rest s outs parts i t =
+    let out : slice_get own.numbers i ≡ Some (Outside n) = (outs.numbers.all i).1 (inr (parts.part_in i t)) in
+    let lt = slice_get_within own.numbers i (Outside n) out in
+    let count = s.counts.numbers in
+    let back : i + 1 - 1 ≡ i = omega arith in
+    spare_blank g base own c s (i + 1) (record { from = omega arith; to = omega arith }) (λ e. absurd (let both : Some (Outside n) ≡ Some (InFile (i + 1)) = sym out ∙ ap (slice_get own.numbers) (sym back) ∙ e in cc))
+
 pub gives_numbers : GivesNumbers
-gives_numbers g n took stock l ps rest old b base own c s outs part at parts once given =
+gives_numbers g n took stock l ps rest old b base own c s outs part at parts once given slots =
     record {
       new = new;
-      spelt = index_write g base own new c n l b s given.whole part refl moves bits;
+      spelt = index_write g base own new c n l b s given.whole part refl moves bits freed;
       moves = record { clusters = still (IsSpaceMove n) own.clusters; numbers = moves };
       outs = record { clusters = outs.clusters; numbers = stock_to_free n ps rest took.numbers stock.numbers own.numbers parts once outs.numbers };
     } where
@@ -177,3 +189,9 @@ gives_numbers g n took stock l ps rest old b base own c s outs part at parts onc
             (λ x. (h.to (m - 1)).1 (elim ((given.bits (m - 1) lt).0 (sym v ∙ x)) [ inl y ↦ inr (i.0 (was m ∙ y)) | inr t ↦ inl t ])),
             (λ x. v ∙ (given.bits (m - 1) lt).1 (elim ((h.to (m - 1)).0 x) [ inl t ↦ inr t | inr y ↦ inl (sym (was m) ∙ i.1 y) ])),
           )
+
+      freed : (m : ℕ) → IsFileNumber g m → slice_get own.numbers (m - 1) ≢ Some Free → slice_get new.numbers (m - 1) ≡ Some Free → IsBlank (header_block g base m)
+      freed m is other now =
+          let a = is.from in
+          let back : m - 1 + 1 ≡ m = omega arith in
+          elim (((are_handed ps (Outside n) Free own.numbers were (λ f. absurd (cc))).to (m - 1)).0 now) [ inl t ↦ subst (λ (k : ℕ). IsBlank (header_block g base k)) back (slots (m - 1) t) | inr y ↦ absurd (other y) ]

@@ -9,7 +9,6 @@ use Rattle.base_words.specs.Fields.{Block}
 use Rattle.fx_header.specs.declared.slot.Slot.{Slot as Head}
 use Rattle.fx_header.specs.declared.slot.Slot.TheVariants as head
 use Rattle.fx_header.specs.declared.slot.HeaderFault.{HeaderFault}
-use Rattle.fx_header.specs.Headers.{header_read}
 use Rattle.plain_cat.specs.declared.cat.Cat.{Cat}
 use Rattle.plain_cat.specs.declared.cat.Slot.{Slot}
 use Rattle.plain_cat.specs.declared.cat.Slot.TheVariants as slot
@@ -23,11 +22,12 @@ use Rattle.base_words.proofs.Listing.{has_parted, has_first, has_second}
 use Rattle.vol_parts.specs.declared.geometry.Geometry.{Geometry}
 use Rattle.vol_parts.specs.Volumes.{fields_in}
 use Rattle.vol_parts.specs.Catalogues.{slot_with}
-use Rattle.vol_spell.specs.Reading.{IsFileNumber, total_of, header_block, told_of, body_blocks, cluster_bit, number_bit}
+use Rattle.vol_spell.specs.Reading.{IsFileNumber, total_of, header_block, head_told, told_of, body_blocks, cluster_bit, number_bit}
 use Rattle.vol_spell.specs.Spelling.{Spells}
 use Rattle.vol_spell.specs.Adding.{is_outside}
 use Rattle.vol_spell.proofs.Adds.{clusters_add_up}
-use Rattle.vol_spell.proofs.Parts.{used_of, own_number}
+use Rattle.vol_spell.proofs.Parts.{used_of, number_slot, alone_number}
+use Rattle.vol_spell.proofs.Heads.{first_reads, slots_used}
 use Rattle.vol_spell.proofs.Owned.{each_is_owned}
 use Rattle.vol_under.specs.Shortage.{OutAlike, IsFreeByBits, FreeByBits}
 use Rattle.vol_under.proofs.Leaking.{number_free_of}
@@ -111,17 +111,25 @@ module _ (g : Geometry) (bs : List Block) (own : Owners) (c : Cat) (s : Spells g
             let f : false ≡ true = sym k ∙ h in cc)
         by_zero false z lt e = let ne : 1 ≤ n = grind (arith, nat_tests) in record { from = ne; to = omega arith }
 
+  -- the number of a file is that of its one header
+  alone_is : (i m : ℕ) → slice_get own.numbers i ≡ Some (InFile m) → m ≡ i + 1
+  alone_is i m at = by_head (head_told (header_block g bs m)) refl (slots_used g bs m (i + 1) (number_slot g bs own c s i m at).1) where
+    by_head : (r : Result Head HeaderFault) → head_told (header_block g bs m) ≡ r → is_some (fields_in r) ≡ true → m ≡ i + 1
+    by_head (Ok (head.Used f)) e used = alone_number g bs own c s i m f (first_reads (header_block g bs m) f e) at
+    by_head (Ok (head.Free seq)) e used = absurd (let h : false ≡ true = used in cc)
+    by_head (Err fault) e used = absurd (let h : false ≡ true = used in cc)
+
   clear : (n : ℕ) (o : Owner) → IsFileNumber g n → is_free_number c n ≡ true → slice_get own.numbers (n - 1) ≡ Some o → number_bit g bs n ≡ false
   unfolding is_same_owner
   clear n Free is free at = (s.owners.number_bits n is).1 at
   clear n (InFile m) is free at = absurd (
-      let own_is : m ≡ n - 1 + 1 = own_number g bs own c s (n - 1) m at in
+      let own_is : m ≡ n - 1 + 1 = alone_is (n - 1) m at in
       let a = is.from in
       let same : m ≡ n = omega arith in
       let there : slice_get c.files (n - 1) ≡ Some (slot.Free (last_seq (slot_at c n))) = stands_free c n free in
       let t = s.files n (slot.Free (last_seq (slot_at c n))) is there in
       let used = (used_of g own bs n (body_blocks bs n (told_of g bs n)) (slot.Free (last_seq (slot_at c n))) is t).1 (at ∙ ap (λ k. Some (InFile k)) same) in
-      let h : is_free_slot (Some (slot.Free (last_seq (slot_at c n)))) ≡ false = used_slot n g.cluster (header_read (header_block g bs n)) (body_blocks bs n (told_of g bs n)) _ used t.slot in
+      let h : is_free_slot (Some (slot.Free (last_seq (slot_at c n)))) ≡ false = used_slot n g.cluster (head_told (header_block g bs n)) (body_blocks bs n (told_of g bs n)) _ used t.slot in
       let f : true ≡ false = h in cc)
   clear n (Outside m) is free at = absurd (no_number m (n - 1) at)
   clear n Leaked is free at = absurd (

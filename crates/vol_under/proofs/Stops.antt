@@ -12,10 +12,10 @@ use Rattle.vol_under.specs.UnderWay.{UnderWay, writes_to, stage_at, outs_at, tog
 use Rattle.vol_under.specs.Under.{IsOver, IsUnder}
 use Rattle.vol_under.specs.Ending.{file_numbers, dead_with}
 use Rattle.vol_under.specs.Stopping.{Stop, Die, KnowsOn, DriveSpells, WorldStops}
-use Rattle.vol_under.proofs.Leaking.{lists_same}
+use Rattle.vol_under.proofs.Leaking.{lists_same, numbers_all}
 use Rattle.vol_under.proofs.Nodes.{changed_here, changed_else, each}
 use Rattle.vol_under.proofs.Steps.{stop_keeps, out_joined}
-use Rattle.vol_under.proofs.Endings.{death_keeps}
+use Rattle.vol_under.proofs.Endings.{all_out_once, death_keeps}
 
 -- a node at rest has no lock, so the locks of the others are sole still
 pub sole_rests : (nodes : ℕ → UnderWay) (n : ℕ) (stock : Things) → AreSole nodes → AreSole (changed nodes n (resting stock))
@@ -97,7 +97,7 @@ pub all_die : (ns : List ℕ) (g : Geometry) (c : Cat) (nodes : ℕ → UnderWay
     → (d : Cat) × Die nodes ns c d × IsUnder g d (altered (λ u. resting nothing) nodes ns) drive
 all_die [] g c nodes drive sole u once knows = (c, refl, u)
 all_die (n ∷ ns) g c nodes drive sole u once knows =
-    let first = death_keeps g c nodes drive n (file_numbers (all_out (nodes n))) sole u (knows n [] c ((λ t. t), tt) (first_alone n ns once) refl) (λ k. ((λ t. t), (λ t. t))) in
+    let first = death_keeps g c nodes drive n (file_numbers (all_out (nodes n))) sole u (knows n [] c ((λ t. t), tt) (first_alone n ns once) refl) (numbers_all (all_out (nodes n)) (all_out_once g c nodes drive n sole u (knows n [] c ((λ t. t), tt) (first_alone n ns once) refl))) in
     let x = dead_with first.cat n (all_out (nodes n)) in
     let rest = all_die ns g x after drive (sole_rests nodes n nothing sole) first.under once.1 (on first.cat first.stage) in
     (rest.0, (first.cat, first.stage, back ns (λ m t. t) x rest.0 rest.1), rest.2) where

@@ -1,5 +1,5 @@
 -- Plans as chains of writes: each takes blocks that spell one stage to blocks that spell the next.
-use Rattle.std.specs.Prelude.{◌≡◌, ◌≤◌, ◌<◌, ◌-◌, ◌↔◌, ℕ, true, false, List, [], ◌∷◌, Option, Some, length, map, take, slice_get, slice_set}
+use Rattle.std.specs.Prelude.{◌≡◌, ◌≢◌, ◌≤◌, ◌<◌, ◌-◌, ◌↔◌, ℕ, true, false, List, [], ◌∷◌, Option, Some, length, map, take, slice_get, slice_set}
 use Rattle.base_words.specs.Fields.{Block, IsWholeBlock}
 use Rattle.lock_db.specs.declared.name.LockName.{LockName}
 use Rattle.lock_db.specs.declared.name.LockName.TheVariants.{S}
@@ -17,9 +17,9 @@ use Rattle.vol_spell.specs.Owners.{Owners, Moves, OwnersMove, IsSpaceMove, Thing
 use Rattle.vol_parts.specs.declared.geometry.Geometry.{Geometry}
 use Rattle.vol_parts.specs.declared.geometry.Part.TheVariants.{IndexBitmap, Storage, Quota}
 use Rattle.vol_parts.specs.Parts.{part_of}
-use Rattle.vol_spell.specs.Reading.{IsFileNumber, total_of, owner_at, header_place, cluster_bit, number_bit, rows_told}
-use Rattle.vol_spell.specs.Spelling.{Spells}
-use Rattle.vol_spell.specs.Kinds.{with_rows, IsHeaderFor, IsBodyFor}
+use Rattle.vol_spell.specs.Reading.{IsFileNumber, total_of, owner_at, header_place, header_block, cluster_bit, number_bit, rows_told}
+use Rattle.vol_spell.specs.Spelling.{IsBlank, Spells}
+use Rattle.vol_spell.specs.Kinds.{with_rows, IsHeaderFor, IsSlotFor, IsBodyFor}
 use Rattle.vol_under.specs.Guards.{IsCommandMove}
 use Rattle.vol_under.specs.UnderWay.{PlannedWrite, bare, first_stage, stage_after, outs_after, UnderWay, StandsAt}
 use Rattle.vol_under.specs.Under.{IsLawful}
@@ -89,6 +89,9 @@ pub record StepKinds (g : Geometry) (n : ℕ) (cmd : Option Cmd) (locks : List L
   -- a header slot m of a file whose lock the node holds
   pub header : (w : PlannedWrite) (bs : List Block) (own new : Owners) (x : Cat) (i m : ℕ) (s : Slot) → Spells g bs own x → w.lbn ≡ header_place g m → IsHeaderFor g bs n i m own new x w.block s → Has locks (S i)
       → StandsAt c n cmd w.stage (with_slot x i s) → Outs n new w.outs stock → IsStep g n cmd locks c stock w bs own new (with_slot x i s)
+  -- a header slot m that is no file's
+  pub slot : (w : PlannedWrite) (bs : List Block) (own : Owners) (x : Cat) (m : ℕ) → Spells g bs own x → w.lbn ≡ header_place g m → IsSlotFor g bs m own x w.block
+      → StandsAt c n cmd w.stage x → Outs n own w.outs stock → IsStep g n cmd locks c stock w bs own own x
   -- a block of a file
   pub body : (w : PlannedWrite) (bs : List Block) (own : Owners) (x : Cat) (i v : ℕ) (s : Slot) → Spells g bs own x → IsBodyFor g bs i v w.lbn w.block s
       → StandsAt c n cmd w.stage (with_slot x i s) → Outs n own w.outs stock → IsStep g n cmd locks c stock w bs own own (with_slot x i s)
@@ -96,7 +99,8 @@ pub record StepKinds (g : Geometry) (n : ℕ) (cmd : Option Cmd) (locks : List L
   pub storage : (w : PlannedWrite) (bs : List Block) (own new : Owners) (x : Cat) (k : ℕ) → Spells g bs own x → IsWholeBlock w.block → part_of g w.lbn ≡ Some (Storage k) → Moves (IsSpaceMove n) own.clusters new.clusters → new.numbers ≡ own.numbers
       → ((q : ℕ) → q < total_of g → (cluster_bit g (slice_set bs w.lbn w.block) q ≡ true) ↔ (slice_get new.clusters q ≡ Some Free))
       → StandsAt c n cmd w.stage x → Outs n new w.outs stock → IsStep g n cmd locks c stock w bs own new x
-  -- the index-file bitmap
+  -- the index-file bitmap: the slot of each number that becomes free is free
   pub index : (w : PlannedWrite) (bs : List Block) (own new : Owners) (x : Cat) → Spells g bs own x → IsWholeBlock w.block → part_of g w.lbn ≡ Some IndexBitmap → new.clusters ≡ own.clusters → Moves (IsSpaceMove n) own.numbers new.numbers
       → ((i : ℕ) → IsFileNumber g i → (number_bit g (slice_set bs w.lbn w.block) i ≡ false) ↔ (slice_get new.numbers (i - 1) ≡ Some Free))
+      → ((i : ℕ) → IsFileNumber g i → slice_get own.numbers (i - 1) ≢ Some Free → slice_get new.numbers (i - 1) ≡ Some Free → IsBlank (header_block g bs i))
       → StandsAt c n cmd w.stage x → Outs n new w.outs stock → IsStep g n cmd locks c stock w bs own new x

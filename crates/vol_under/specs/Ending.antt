@@ -4,7 +4,7 @@ use Rattle.base_words.specs.Fields.{Block}
 use Rattle.plain_cat.specs.declared.cat.Cat.{Cat}
 use Rattle.plain_cat.specs.declared.cat.Open.{Open}
 use Rattle.plain_rules.specs.Replaying.{dead, MayLeak}
-use Rattle.base_words.specs.Lists.{Has}
+use Rattle.base_words.specs.Lists.{Has, Once}
 use Rattle.vol_spell.specs.Owners.{Owners, Things, nothing, Outs}
 use Rattle.vol_parts.specs.declared.geometry.Geometry.{Geometry}
 use Rattle.vol_spell.specs.Spelling.{Spells}
@@ -23,9 +23,10 @@ file_numbers t = map (λ i. i + 1) t.numbers
 abbrev pub dead_with : Cat → ℕ → Things → Cat
 dead_with c n t = dead c n (length t.clusters) (file_numbers t)
 
--- these are the file numbers among these things, in whatever order
-abbrev pub AreNumbersOf : List ℕ → Things → Type 0
-AreNumbersOf ns t = (n : ℕ) → Has ns n ↔ Has (file_numbers t) n
+-- these are the file numbers among these things, each once, in whatever order
+pub record AreNumbersOf (ns : List ℕ) (t : Things) : Type 0 where
+  pub same : (n : ℕ) → Has ns n ↔ Has (file_numbers t) n
+  pub once : Once ns
 
 -- what is outside at a node is free by the catalogue, so that it may leak
 abbrev pub OutsideMayLeak : Type 0

@@ -1,5 +1,5 @@
 -- The bitmap writes of the space rule: what is free goes to a node's stock, or what is of the stock becomes free.
-use Rattle.std.specs.Prelude.{◌≡◌, ◌<◌, ◌/◌, ◌%◌, ◌⊎◌, ◌↔◌, ◌++◌, ℕ, true, false, List, Some, slice_get}
+use Rattle.std.specs.Prelude.{◌≡◌, ◌<◌, ◌/◌, ◌%◌, ◌⊎◌, ◌↔◌, ◌++◌, ◌+◌, ℕ, true, false, List, Some, slice_get}
 use Rattle.base_words.specs.Fields.{Block, IsWholeBlock}
 use Rattle.fx_bitmap.specs.Bits.{bit_at}
 use Rattle.plain_cat.specs.declared.cat.Cat.{Cat}
@@ -8,8 +8,8 @@ use Rattle.vol_spell.specs.Owners.{Owners, Things, Outs}
 use Rattle.vol_parts.specs.declared.geometry.Geometry.{Geometry}
 use Rattle.vol_parts.specs.declared.geometry.Part.TheVariants.{IndexBitmap, Storage}
 use Rattle.vol_parts.specs.Parts.{part_of}
-use Rattle.vol_spell.specs.Reading.{total_of}
-use Rattle.vol_spell.specs.Spelling.{Spells}
+use Rattle.vol_spell.specs.Reading.{total_of, header_block}
+use Rattle.vol_spell.specs.Spelling.{IsBlank, Spells}
 use Rattle.vol_under.specs.Keeping.{Refills}
 
 -- these clusters have their bits in block k of the storage bitmap
@@ -61,8 +61,12 @@ TakesNumbers = (g : Geometry) (n : ℕ) (took stock : Things) (l : ℕ) (ps : Li
     → part_of g l ≡ Some IndexBitmap → slice_get base l ≡ Some old → AreNumbersTaken g ps old b
     → Refills g n took (record stock { numbers = stock.numbers ++ ps }) l b base own c
 
--- file numbers of the stock become free, and the rest stays
+-- the header slots of these file numbers are free
+abbrev pub HaveBlankSlots : Geometry → List Block → List ℕ → Type 0
+HaveBlankSlots g bs ps = (i : ℕ) → Has ps i → IsBlank (header_block g bs (i + 1))
+
+-- file numbers of the stock become free, whose slots are free, and the rest stays
 abbrev pub GivesNumbers : Type 0
 GivesNumbers = (g : Geometry) (n : ℕ) (took stock : Things) (l : ℕ) (ps rest : List ℕ) (old b : Block) (base : List Block) (own : Owners) (c : Cat) → Spells g base own c → Outs n own took stock
-    → part_of g l ≡ Some IndexBitmap → slice_get base l ≡ Some old → Parts stock.numbers ps rest → Once rest → AreNumbersGiven g ps old b
+    → part_of g l ≡ Some IndexBitmap → slice_get base l ≡ Some old → Parts stock.numbers ps rest → Once rest → AreNumbersGiven g ps old b → HaveBlankSlots g base ps
     → Refills g n took (record stock { numbers = rest }) l b base own c

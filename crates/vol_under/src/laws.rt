@@ -77,7 +77,7 @@ pub fn takes_numbers()
     ensures { TakesNumbers }
 {}
 
-/// A write to the index-file bitmap that clears the bits of file numbers of the stock makes them free.
+/// A write to the index-file bitmap that clears the bits of file numbers of the stock, whose header slots are free, makes them free.
 pub fn gives_numbers()
     ensures { GivesNumbers }
 {}

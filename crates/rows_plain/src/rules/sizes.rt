@@ -85,3 +85,71 @@ pub const LARGEST_FILE: [Step; 5] = [
         ],
     },
 ];
+
+/// The file that is made last.
+const FOURTH: Fid = Fid { num: 15, seq: 1 };
+
+/// Three files have all the clusters. Of the refusals of an EXTEND the first is answered, where those behind it hold too.
+pub const REFUSED_GROWTH: [Step; 9] = [
+    Step {
+        command: Create(MFD, "A.TXT", 0, 308, USER),
+        answer: Found(12, 1, "A.TXT", 1),
+        wrong: &[
+            Refused(FileLimit),
+            Refused(IndexFull),
+            Found(11, 1, "A.TXT", 1),
+        ],
+    },
+    Step {
+        command: Create(MFD, "B.TXT", 0, 308, USER),
+        answer: Found(13, 1, "B.TXT", 1),
+        wrong: &[
+            Refused(FileLimit),
+            Refused(DeviceFull),
+            Found(12, 1, "B.TXT", 1),
+        ],
+    },
+    Step {
+        command: Create(MFD, "C.TXT", 0, 308, USER),
+        answer: Found(14, 1, "C.TXT", 1),
+        wrong: &[
+            Refused(ExQuota),
+            Refused(DeviceFull),
+            Found(13, 1, "C.TXT", 1),
+        ],
+    },
+    Step {
+        command: Create(MFD, "D.TXT", 0, 0, USER),
+        answer: Found(15, 1, "D.TXT", 1),
+        wrong: &[
+            Refused(ExQuota),
+            Refused(DeviceFull),
+            Found(14, 1, "D.TXT", 1),
+        ],
+    },
+    Step {
+        command: Extend(FOURTH, 1),
+        answer: Refused(DeviceFull),
+        wrong: &[Refused(ExQuota), Refused(IndexFull), Size(4)],
+    },
+    Step {
+        command: Extend(FOURTH, 308),
+        answer: Refused(ExQuota),
+        wrong: &[Refused(FileLimit), Refused(DeviceFull), Size(308)],
+    },
+    Step {
+        command: Extend(FOURTH, 309),
+        answer: Refused(FileLimit),
+        wrong: &[Refused(ExQuota), Refused(DeviceFull), Size(312)],
+    },
+    Step {
+        command: Extend(MFD, 309),
+        answer: Refused(NoPriv),
+        wrong: &[Refused(FileLimit), Refused(ExQuota), Refused(DeviceFull)],
+    },
+    Step {
+        command: Extend(Fid { num: 15, seq: 2 }, 309),
+        answer: Refused(NoSuchFile),
+        wrong: &[Refused(NoPriv), Refused(FileLimit), Refused(DeviceFull)],
+    },
+];

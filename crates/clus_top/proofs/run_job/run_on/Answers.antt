@@ -1,9 +1,15 @@
-use Rattle.std.proofs.Common.{◌∙◌, sym, subst, inr}
+use Rattle.std.proofs.Common.{◌∙◌, ℕ, List, All, sym, subst, inr}
+use Rattle.core_state.specs.Worlds.{IsOfWorld}
 use Rattle.run_engine.proofs.Driving.{told_well}
 use Rattle.run_engine.proofs.Results.{if_err, if_ok}
 use Rattle.clus_top.specs.Ends.{IsStopBy}
-use Rattle.clus_top.proofs.Reported.{lacking_in, run_stop, end_in}
+use Rattle.clus_top.proofs.Reported.{plays_of_world, lacking_in, run_stop, end_in}
 use Rattle.clus_top.proofs.run_job.run_on.Goals as goal
+
+pub run-ran-requires : goal.run-ran-requires
+run-ran-requires g c =
+    subst (λ (ns : List ℕ). All (IsOfWorld c.args.w.now.world) ns) (sym c.requires.plays)
+    (plays_of_world c.args.w.now.world c.keeps_the_rules.ensures.good.counted c.requires.form)
 
 pub returns-in-Ok-clause-report : goal.returns-in-Ok-clause-report
 returns-in-Ok-clause-report g c =

@@ -1,4 +1,4 @@
-use Rattle.std.proofs.Common.{◌+◌, ◌∙◌, true, false, sym, arith}
+use Rattle.std.proofs.Common.{◌+◌, ◌∙◌, sym, arith}
 use Rattle.core_state.specs.Worlds.{state_of}
 use Rattle.core_death.specs.Lasts.{number_told}
 use Rattle.std.proofs.Common.{ℕ, subst}

@@ -6,15 +6,14 @@ use Rattle.fx_header.proofs.SpellLemmas.{lbns_in-merged}
 use Rattle.fx_header.proofs.map.set_runs.Goals as goal
 
 is-written : (c : goal.After-set_sum) → c.set_sum.new.b ≡ with_runs c.args.b.now c.args.runs.now
-unfolding with_runs has_offsets
+unfolding with_runs
 is-written c = search rules
 
 offsets : (c : goal.After-set_sum) → has_offsets c.args.b.now ≡ true
 offsets c = c.requires.offsets
 
 room : (c : goal.After-set_sum) → length (map_words c.args.runs.now) ≤ 2 * map_area c.args.b.now
-unfolding has_offsets
-room c = omega (arith, c.in-Some.ensures)
+room c = search rules
 
 written : (c : goal.After-set_sum) → Written (with_runs c.args.b.now c.args.runs.now) c.args.b.now c.args.runs.now
 written c = runs-written c.args.b.now c.args.runs.now c.told-b (offsets c) c.requires.runs (room c) (omega arith)

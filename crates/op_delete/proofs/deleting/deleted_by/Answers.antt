@@ -1,6 +1,5 @@
 use Rattle.std.proofs.Common.{◌∙◌, Option, ap, sym}
 use Rattle.plain_cat.specs.declared.entries.DirEnt.{DirEnt}
-use Rattle.plain_rules.specs.Lookups.{versions, entry_of}
 use Rattle.op_law.specs.declared.need.Need.TheVariants as need
 use Rattle.op_law.specs.declared.need.Plan.{Plan}
 use Rattle.op_law.specs.Behind.{blocks_alone}

@@ -1,7 +1,7 @@
 use Rattle.std.proofs.Common.{◌∙◌, ◌/◌, List, ℕ, drop, map, ap, sym}
 use Rattle.fx_header.specs.declared.run.Run.{Run}
 use Rattle.op_law.specs.Freeing.{rising}
-use Rattle.op_law.specs.Writing.{clusters_seen}
+use Rattle.vol_spell.specs.Files.{clusters_seen}
 use Rattle.op_extend.proofs.FileClusters.{all_seen}
 use Rattle.op_extend.proofs.FewerClusters.{first_ones, dropped}
 use Rattle.op_extend.proofs.cutting.clusters_behind.Goals as goal

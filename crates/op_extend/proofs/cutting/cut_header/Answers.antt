@@ -5,7 +5,8 @@ use Rattle.fx_header.specs.Pointers.{AreRuns, blocks_in, map_words}
 use Rattle.fx_header.specs.Headers.{map_area, has_offsets, with_runs}
 use Rattle.base_words.specs.Fields.{Block}
 use Rattle.op_law.specs.Sizes.{lowered, cut_header}
-use Rattle.op_law.specs.Writing.{runs_for, clusters_seen}
+use Rattle.op_law.specs.Writing.{runs_for}
+use Rattle.vol_spell.specs.Files.{clusters_seen}
 use Rattle.op_steps.specs.Seeing.{file_seen}
 use Rattle.op_extend.proofs.FileClusters.{all_seen}
 use Rattle.op_extend.proofs.FewerClusters.{front_runs, front_blocks, front_offsets, front_fits, taken}

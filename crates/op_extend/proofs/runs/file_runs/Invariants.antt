@@ -2,7 +2,8 @@ use Rattle.std.proofs.Common.{◌≡◌, ◌++◌, All}
 use Rattle.fx_header.specs.Iter.{runs_left}
 use Rattle.vol_spell.specs.Reading.{clusters_of}
 use Rattle.op_law.specs.Readable.{EndsInside}
-use Rattle.op_law.specs.Writing.{runs_for, clusters_seen}
+use Rattle.op_law.specs.Writing.{runs_for}
+use Rattle.vol_spell.specs.Files.{clusters_seen}
 use Rattle.op_extend.proofs.runs.file_runs.Given as goal
 
 abbrev pub invariant-loop-run : goal.invariant-loop-run

@@ -2,7 +2,7 @@ use Rattle.std.proofs.Common.{◌≡◌, ◌++◌, All}
 use Rattle.fx_header.specs.Iter.{runs_left}
 use Rattle.vol_spell.specs.Reading.{clusters_of}
 use Rattle.op_law.specs.Readable.{EndsInside}
-use Rattle.op_law.specs.Writing.{clusters_seen}
+use Rattle.vol_spell.specs.Files.{clusters_seen}
 use Rattle.op_freeing.proofs.clusters.clusters_seen.Given as goal
 
 abbrev pub invariant-loop-run : goal.invariant-loop-run

@@ -19,7 +19,7 @@ returns-in_default-2-clause-made c =
     let e : DirEnt = record { name = c.in_ok-copy.field-0; ver = c.in-Ok.ver; fid = c.fid_of-fid.result } in
     let P : Option File → Type 0 = λ o. IsGrown c.args.cat.now c.in-Some.d.now e o in
     full c.args.cat.now c.args.dir c.args.name.now c.args.ver c.args.blocks c.args.owner c.args.new c.in-Some.d.now (sym c.in-Some.ensures) c.if-not-d.false
-    c.in-Ok.ver c.in_clusters-clusters.result version c.in_clusters-clusters.ensures c.if-clusters-gt77.false e c.in_ok-copy.ensures refl (subst P c.in_default-2.is c.in_ok-directory.ensures)
+    c.in-Ok.ver c.in_clusters-clusters.result version c.in_clusters-clusters.ensures c.if-clusters-gt-HEADER_MOST.false e c.in_ok-copy.ensures refl (subst P c.in_default-2.is c.in_ok-directory.ensures)
 
 pub returns-in-Some-room_refusal-clause-made : goal.returns-in-Some-room_refusal-clause-made
 returns-in-Some-room_refusal-clause-made c =
@@ -28,7 +28,7 @@ returns-in-Some-room_refusal-clause-made c =
     let e : DirEnt = record { name = c.in_ok-copy.field-0; ver = c.in-Ok.ver; fid = c.fid_of-fid.result } in
     let P : Option File → Type 0 = λ o. IsGrown c.args.cat.now c.in-Some.d.now e o in
     roomless c.args.cat.now c.args.dir c.args.name.now c.args.ver c.args.blocks c.args.owner c.args.new c.in-Some.d.now (sym c.in-Some.ensures) c.if-not-d.false
-    c.in-Ok.ver c.in_clusters-clusters.result version c.in_clusters-clusters.ensures c.if-clusters-gt77.false e c.in-Some-2.directory c.in-Some-room_refusal.refusal c.in_ok-copy.ensures refl
+    c.in-Ok.ver c.in_clusters-clusters.result version c.in_clusters-clusters.ensures c.if-clusters-gt-HEADER_MOST.false e c.in-Some-2.directory c.in-Some-room_refusal.refusal c.in_ok-copy.ensures refl
     (subst P c.in-Some-2.is c.in_ok-directory.ensures) (sym c.room_refusal.ensures ∙ c.in-Some-room_refusal.is)
 
 pub returns-clause-made : goal.returns-clause-made
@@ -38,5 +38,5 @@ returns-clause-made c =
     let e : DirEnt = record { name = c.in_ok-copy.field-0; ver = c.in-Ok.ver; fid = c.fid_of-fid.result } in
     let P : Option File → Type 0 = λ o. IsGrown c.args.cat.now c.in-Some.d.now e o in
     makes c.args.cat.now c.args.dir c.args.name.now c.args.ver c.args.blocks c.args.owner c.args.new c.in-Some.d.now (sym c.in-Some.ensures) c.if-not-d.false
-    c.in-Ok.ver c.in_clusters-clusters.result version c.in_clusters-clusters.ensures c.if-clusters-gt77.false e c.in-Some-2.directory c.in_ok-copy-2.field-0 c.new_file.result
+    c.in-Ok.ver c.in_clusters-clusters.result version c.in_clusters-clusters.ensures c.if-clusters-gt-HEADER_MOST.false e c.in-Some-2.directory c.in_ok-copy-2.field-0 c.new_file.result
     c.in_ok-copy.ensures refl (subst P c.in-Some-2.is c.in_ok-directory.ensures) (sym c.room_refusal.ensures ∙ c.in_default-room_refusal.is) c.fid_of-fid.ensures c.in_ok-copy-2.ensures c.new_file.ensures

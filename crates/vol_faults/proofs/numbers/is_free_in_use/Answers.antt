@@ -1,5 +1,8 @@
-use Rattle.std.proofs.Common.{arith}
-use Rattle.vol_parts.specs.Volumes.{volume}
+use Rattle.std.proofs.Common.{◌≡◌, ◌∙◌, not, false, sym, ap, arith}
+use Rattle.std.specs.Prelude.{◌&&◌, is_some}
+use Rattle.vol_parts.specs.Volumes.{volume, fields, used_slot, is_used_number}
+use Rattle.vol_parts.proofs.Alone.{fields-used}
+use Rattle.vol_faults.specs.Conditions.{is_free_in_use}
 use Rattle.vol_faults.proofs.HeaderLemmas.{index-inside}
 use Rattle.vol_faults.proofs.numbers.is_free_in_use.Goals as goal
 
@@ -7,3 +10,11 @@ pub is_used_number-requires-clause-there : goal.is_used_number-requires-clause-t
 is_used_number-requires-clause-there c =
     let h = index-inside (volume c.args.home.now c.args.blocks.now) (omega arith) c.requires.heads in
     omega (arith, h)
+
+pub returns-then-not-is_used_number : goal.returns-then-not-is_used_number
+unfolding is_free_in_use
+returns-then-not-is_used_number c =
+    let v = volume c.args.home.now c.args.blocks.now in
+    let free : is_used_number v c.args.n ≡ false = sym c.is_used_number.ensures ∙ c.if-not-is_used_number.true in
+    let there : c.is_some.result ≡ is_some (fields v c.args.n) = cc (c.is_some.ensures, c.fields.ensures) in
+    there ∙ ap is_some (fields-used v c.args.n) ∙ ap (λ t. not t && is_some (used_slot v c.args.n)) (sym free)

@@ -1,9 +1,10 @@
-use Rattle.std.proofs.Common.{◌∙◌, ℕ, List, Err, refl, ap, subst, arith}
+use Rattle.std.proofs.Common.{◌∙◌, ℕ, List, Err, refl, sym, ap, subst, arith}
 use Rattle.std.proofs.lemmas.Result.{err_from_is_err_and}
 use Rattle.base_words.specs.Fields.{IsBytes}
+use Rattle.vol_parts.specs.Findings.{IsReadable}
 use Rattle.vol_records.specs.declared.types.StoreFault.{StoreFault}
 use Rattle.vol_records.specs.Records.{spelt}
-use Rattle.vol_records.proofs.StoreEnds.{IsFree, number_is, safe_is, planned, asked, nothing_stored, no_write, storing, stored_all, not_fault}
+use Rattle.vol_records.proofs.StoreEnds.{IsFree, number_is, listed, always_listed, safe_is, readable, planned, asked, nothing_stored, no_write, storing, stored_all, not_fault}
 use Rattle.vol_records.proofs.storing.store.Goals as goal
 
 pub returns-in-Some-clause-step : goal.returns-in-Some-clause-step
@@ -11,8 +12,17 @@ returns-in-Some-clause-step g c =
     nothing_stored c.args.m.now.blocks c.args.n c.args.seq (spelt c.args.lines.now) _ _ _ c.requires
     (not_fault c.in-Ok.home c.all.result.now c.args.n c.args.seq c.spelt_len-len.result c.in-Some.fault c.in-Some.ensures)
 
-pub places-requires-clause-number : goal.places-requires-clause-number
-places-requires-clause-number g c =
+pub file_lbns-requires-clause-readable : goal.file_lbns-requires-clause-readable
+file_lbns-requires-clause-readable g c =
+    subst IsReadable (sym c.all-2.ensures) (readable c.args.m.now.blocks c.requires)
+
+pub returns-in_err-places-clause-step : goal.returns-in_err-places-clause-step
+returns-in_err-places-clause-step g c =
+    let p = err_from_is_err_and c.from_residual.result c.from_residual.ensures.1 in
+    nothing_stored c.args.m.now.blocks c.args.n c.args.seq (spelt c.args.lines.now) _ _ _ c.requires (no_write c.from_residual.result _ p.1 p.2)
+
+pub returns-in_default-2-clause-answers : goal.returns-in_default-2-clause-answers
+returns-in_default-2-clause-answers g c =
     let is : IsFree c.in-Ok.home c.args.m.now.blocks c.all.result.now c.read.result.now c.args.n c.args.seq c.spelt_len-len.result (spelt c.args.lines.now) = record {
       size = c.drive_is_whole.ensures.size;
       whole = c.drive_is_whole.ensures.whole;
@@ -23,13 +33,21 @@ places-requires-clause-number g c =
       len_is = c.spelt_len-len.ensures;
       free = c.in_default-refusal.ensures;
     } in
-    let k = number_is c.in-Ok.home c.args.m.now.blocks c.all.result.now c.read.result.now c.args.n c.args.seq c.spelt_len-len.result (spelt c.args.lines.now) is c.all-2.result.now in
-    record { from = k.from; to = k.to }
+    absurd (always_listed c.in-Ok.home c.args.m.now.blocks c.all.result.now c.read.result.now c.args.n c.args.seq c.spelt_len-len.result (spelt c.args.lines.now) is c.all-2.result.now c.in_ok-places.field-0 c.all-2.ensures c.in_ok-places.ensures c.in_default-2.is)
 
-pub returns-in_err-places-clause-step : goal.returns-in_err-places-clause-step
-returns-in_err-places-clause-step g c =
-    let p = err_from_is_err_and c.from_residual.result c.from_residual.ensures.1 in
-    nothing_stored c.args.m.now.blocks c.args.n c.args.seq (spelt c.args.lines.now) _ _ _ c.requires (no_write c.from_residual.result _ p.1 p.2)
+pub returns-in_default-2-clause-step : goal.returns-in_default-2-clause-step
+returns-in_default-2-clause-step g c =
+    let is : IsFree c.in-Ok.home c.args.m.now.blocks c.all.result.now c.read.result.now c.args.n c.args.seq c.spelt_len-len.result (spelt c.args.lines.now) = record {
+      size = c.drive_is_whole.ensures.size;
+      whole = c.drive_is_whole.ensures.whole;
+      accepted = c.requires;
+      first = c.read.ensures;
+      read = c.in-Ok.ensures.value;
+      all_is = c.all.ensures;
+      len_is = c.spelt_len-len.ensures;
+      free = c.in_default-refusal.ensures;
+    } in
+    absurd (always_listed c.in-Ok.home c.args.m.now.blocks c.all.result.now c.read.result.now c.args.n c.args.seq c.spelt_len-len.result (spelt c.args.lines.now) is c.all-2.result.now c.in_ok-places.field-0 c.all-2.ensures c.in_ok-places.ensures c.in_default-2.is)
 
 pub returns-in_err-bytes-clause-step : goal.returns-in_err-bytes-clause-step
 returns-in_err-bytes-clause-step g c =
@@ -101,7 +119,8 @@ write_file-requires-clause-inside g c =
     } in
     let ranged : IsBytes (spelt c.args.lines.now) = subst (λ (xs : List ℕ). IsBytes xs) (c.as_slice.ensures.value ∙ c.in_ok-bytes.ensures.bytes) c.bytes_are_ranged.ensures in
     let safe = safe_is c.in-Ok.home c.args.m.now.blocks c.all.result.now c.read.result.now c.args.n c.args.seq c.spelt_len-len.result (spelt c.args.lines.now) is ranged in
-    let asks = asked c.in-Ok.home c.args.m.now.blocks c.all-2.result.now c.args.n c.args.seq c.spelt_len-len.result c.slot_lbn-lbn.result (spelt c.args.lines.now) c.as_slice-3.result.now c.as_slice-2.result.now safe (c.as_slice-2.ensures.value ∙ c.in_ok-places.ensures) c.all-2.ensures (c.as_slice-3.ensures.value ∙ c.in_ok-bytes.ensures.bytes) c.slot_lbn-lbn.ensures c.spelt_len-len.ensures in
+    let here = c.items.ensures ∙ listed c.in-Ok.home c.args.m.now.blocks c.all.result.now c.read.result.now c.args.n c.args.seq c.spelt_len-len.result (spelt c.args.lines.now) is c.all-2.result.now c.in_ok-places.field-0 c.in-Some-2.places c.all-2.ensures c.in_ok-places.ensures c.in-Some-2.is in
+    let asks = asked c.in-Ok.home c.args.m.now.blocks c.args.n c.args.seq c.spelt_len-len.result c.slot_lbn-lbn.result (spelt c.args.lines.now) c.as_slice-2.result.now c.items.result.now safe here (c.as_slice-2.ensures.value ∙ c.in_ok-bytes.ensures.bytes) c.slot_lbn-lbn.ensures c.spelt_len-len.ensures in
     asks.inside
 
 pub write_file-requires-clause-room : goal.write_file-requires-clause-room
@@ -118,7 +137,8 @@ write_file-requires-clause-room g c =
     } in
     let ranged : IsBytes (spelt c.args.lines.now) = subst (λ (xs : List ℕ). IsBytes xs) (c.as_slice.ensures.value ∙ c.in_ok-bytes.ensures.bytes) c.bytes_are_ranged.ensures in
     let safe = safe_is c.in-Ok.home c.args.m.now.blocks c.all.result.now c.read.result.now c.args.n c.args.seq c.spelt_len-len.result (spelt c.args.lines.now) is ranged in
-    let asks = asked c.in-Ok.home c.args.m.now.blocks c.all-2.result.now c.args.n c.args.seq c.spelt_len-len.result c.slot_lbn-lbn.result (spelt c.args.lines.now) c.as_slice-3.result.now c.as_slice-2.result.now safe (c.as_slice-2.ensures.value ∙ c.in_ok-places.ensures) c.all-2.ensures (c.as_slice-3.ensures.value ∙ c.in_ok-bytes.ensures.bytes) c.slot_lbn-lbn.ensures c.spelt_len-len.ensures in
+    let here = c.items.ensures ∙ listed c.in-Ok.home c.args.m.now.blocks c.all.result.now c.read.result.now c.args.n c.args.seq c.spelt_len-len.result (spelt c.args.lines.now) is c.all-2.result.now c.in_ok-places.field-0 c.in-Some-2.places c.all-2.ensures c.in_ok-places.ensures c.in-Some-2.is in
+    let asks = asked c.in-Ok.home c.args.m.now.blocks c.args.n c.args.seq c.spelt_len-len.result c.slot_lbn-lbn.result (spelt c.args.lines.now) c.as_slice-2.result.now c.items.result.now safe here (c.as_slice-2.ensures.value ∙ c.in_ok-bytes.ensures.bytes) c.slot_lbn-lbn.ensures c.spelt_len-len.ensures in
     asks.room
 
 pub write_file-requires-clause-few : goal.write_file-requires-clause-few
@@ -135,7 +155,8 @@ write_file-requires-clause-few g c =
     } in
     let ranged : IsBytes (spelt c.args.lines.now) = subst (λ (xs : List ℕ). IsBytes xs) (c.as_slice.ensures.value ∙ c.in_ok-bytes.ensures.bytes) c.bytes_are_ranged.ensures in
     let safe = safe_is c.in-Ok.home c.args.m.now.blocks c.all.result.now c.read.result.now c.args.n c.args.seq c.spelt_len-len.result (spelt c.args.lines.now) is ranged in
-    let asks = asked c.in-Ok.home c.args.m.now.blocks c.all-2.result.now c.args.n c.args.seq c.spelt_len-len.result c.slot_lbn-lbn.result (spelt c.args.lines.now) c.as_slice-3.result.now c.as_slice-2.result.now safe (c.as_slice-2.ensures.value ∙ c.in_ok-places.ensures) c.all-2.ensures (c.as_slice-3.ensures.value ∙ c.in_ok-bytes.ensures.bytes) c.slot_lbn-lbn.ensures c.spelt_len-len.ensures in
+    let here = c.items.ensures ∙ listed c.in-Ok.home c.args.m.now.blocks c.all.result.now c.read.result.now c.args.n c.args.seq c.spelt_len-len.result (spelt c.args.lines.now) is c.all-2.result.now c.in_ok-places.field-0 c.in-Some-2.places c.all-2.ensures c.in_ok-places.ensures c.in-Some-2.is in
+    let asks = asked c.in-Ok.home c.args.m.now.blocks c.args.n c.args.seq c.spelt_len-len.result c.slot_lbn-lbn.result (spelt c.args.lines.now) c.as_slice-2.result.now c.items.result.now safe here (c.as_slice-2.ensures.value ∙ c.in_ok-bytes.ensures.bytes) c.slot_lbn-lbn.ensures c.spelt_len-len.ensures in
     asks.few
 
 pub write_file-requires-clause-header : goal.write_file-requires-clause-header
@@ -152,7 +173,8 @@ write_file-requires-clause-header g c =
     } in
     let ranged : IsBytes (spelt c.args.lines.now) = subst (λ (xs : List ℕ). IsBytes xs) (c.as_slice.ensures.value ∙ c.in_ok-bytes.ensures.bytes) c.bytes_are_ranged.ensures in
     let safe = safe_is c.in-Ok.home c.args.m.now.blocks c.all.result.now c.read.result.now c.args.n c.args.seq c.spelt_len-len.result (spelt c.args.lines.now) is ranged in
-    let asks = asked c.in-Ok.home c.args.m.now.blocks c.all-2.result.now c.args.n c.args.seq c.spelt_len-len.result c.slot_lbn-lbn.result (spelt c.args.lines.now) c.as_slice-3.result.now c.as_slice-2.result.now safe (c.as_slice-2.ensures.value ∙ c.in_ok-places.ensures) c.all-2.ensures (c.as_slice-3.ensures.value ∙ c.in_ok-bytes.ensures.bytes) c.slot_lbn-lbn.ensures c.spelt_len-len.ensures in
+    let here = c.items.ensures ∙ listed c.in-Ok.home c.args.m.now.blocks c.all.result.now c.read.result.now c.args.n c.args.seq c.spelt_len-len.result (spelt c.args.lines.now) is c.all-2.result.now c.in_ok-places.field-0 c.in-Some-2.places c.all-2.ensures c.in_ok-places.ensures c.in-Some-2.is in
+    let asks = asked c.in-Ok.home c.args.m.now.blocks c.args.n c.args.seq c.spelt_len-len.result c.slot_lbn-lbn.result (spelt c.args.lines.now) c.as_slice-2.result.now c.items.result.now safe here (c.as_slice-2.ensures.value ∙ c.in_ok-bytes.ensures.bytes) c.slot_lbn-lbn.ensures c.spelt_len-len.ensures in
     asks.header
 
 pub returns-in_err-write_file-clause-step : goal.returns-in_err-write_file-clause-step
@@ -169,10 +191,10 @@ returns-in_err-write_file-clause-step g c =
     } in
     let ranged : IsBytes (spelt c.args.lines.now) = subst (λ (xs : List ℕ). IsBytes xs) (c.as_slice.ensures.value ∙ c.in_ok-bytes.ensures.bytes) c.bytes_are_ranged.ensures in
     let safe = safe_is c.in-Ok.home c.args.m.now.blocks c.all.result.now c.read.result.now c.args.n c.args.seq c.spelt_len-len.result (spelt c.args.lines.now) is ranged in
-    let same = planned c.in-Ok.home c.args.m.now.blocks c.all-2.result.now c.args.n c.spelt_len-len.result c.slot_lbn-lbn.result (spelt c.args.lines.now) c.as_slice-3.result.now c.as_slice-2.result.now c.stored_header-head.result c.read-2.result.now (record {
-      places = c.as_slice-2.ensures.value ∙ c.in_ok-places.ensures;
-      all_is = c.all-2.ensures;
-      items_are = c.as_slice-3.ensures.value ∙ c.in_ok-bytes.ensures.bytes;
+    let here = c.items.ensures ∙ listed c.in-Ok.home c.args.m.now.blocks c.all.result.now c.read.result.now c.args.n c.args.seq c.spelt_len-len.result (spelt c.args.lines.now) is c.all-2.result.now c.in_ok-places.field-0 c.in-Some-2.places c.all-2.ensures c.in_ok-places.ensures c.in-Some-2.is in
+    let same = planned c.in-Ok.home c.args.m.now.blocks c.args.n c.spelt_len-len.result c.slot_lbn-lbn.result (spelt c.args.lines.now) c.as_slice-2.result.now c.items.result.now c.stored_header-head.result c.read-2.result.now (record {
+      places = here;
+      items_are = c.as_slice-2.ensures.value ∙ c.in_ok-bytes.ensures.bytes;
       lbn_is = c.slot_lbn-lbn.ensures;
       there = c.read-2.ensures;
       head_is = c.stored_header-head.ensures;
@@ -213,10 +235,10 @@ returns-clause-stored g c =
     } in
     let ranged : IsBytes (spelt c.args.lines.now) = subst (λ (xs : List ℕ). IsBytes xs) (c.as_slice.ensures.value ∙ c.in_ok-bytes.ensures.bytes) c.bytes_are_ranged.ensures in
     let safe = safe_is c.in-Ok.home c.args.m.now.blocks c.all.result.now c.read.result.now c.args.n c.args.seq c.spelt_len-len.result (spelt c.args.lines.now) is ranged in
-    let same = planned c.in-Ok.home c.args.m.now.blocks c.all-2.result.now c.args.n c.spelt_len-len.result c.slot_lbn-lbn.result (spelt c.args.lines.now) c.as_slice-3.result.now c.as_slice-2.result.now c.stored_header-head.result c.read-2.result.now (record {
-      places = c.as_slice-2.ensures.value ∙ c.in_ok-places.ensures;
-      all_is = c.all-2.ensures;
-      items_are = c.as_slice-3.ensures.value ∙ c.in_ok-bytes.ensures.bytes;
+    let here = c.items.ensures ∙ listed c.in-Ok.home c.args.m.now.blocks c.all.result.now c.read.result.now c.args.n c.args.seq c.spelt_len-len.result (spelt c.args.lines.now) is c.all-2.result.now c.in_ok-places.field-0 c.in-Some-2.places c.all-2.ensures c.in_ok-places.ensures c.in-Some-2.is in
+    let same = planned c.in-Ok.home c.args.m.now.blocks c.args.n c.spelt_len-len.result c.slot_lbn-lbn.result (spelt c.args.lines.now) c.as_slice-2.result.now c.items.result.now c.stored_header-head.result c.read-2.result.now (record {
+      places = here;
+      items_are = c.as_slice-2.ensures.value ∙ c.in_ok-bytes.ensures.bytes;
       lbn_is = c.slot_lbn-lbn.ensures;
       there = c.read-2.ensures;
       head_is = c.stored_header-head.ensures;
@@ -238,10 +260,10 @@ returns-clause-step g c =
     } in
     let ranged : IsBytes (spelt c.args.lines.now) = subst (λ (xs : List ℕ). IsBytes xs) (c.as_slice.ensures.value ∙ c.in_ok-bytes.ensures.bytes) c.bytes_are_ranged.ensures in
     let safe = safe_is c.in-Ok.home c.args.m.now.blocks c.all.result.now c.read.result.now c.args.n c.args.seq c.spelt_len-len.result (spelt c.args.lines.now) is ranged in
-    let same = planned c.in-Ok.home c.args.m.now.blocks c.all-2.result.now c.args.n c.spelt_len-len.result c.slot_lbn-lbn.result (spelt c.args.lines.now) c.as_slice-3.result.now c.as_slice-2.result.now c.stored_header-head.result c.read-2.result.now (record {
-      places = c.as_slice-2.ensures.value ∙ c.in_ok-places.ensures;
-      all_is = c.all-2.ensures;
-      items_are = c.as_slice-3.ensures.value ∙ c.in_ok-bytes.ensures.bytes;
+    let here = c.items.ensures ∙ listed c.in-Ok.home c.args.m.now.blocks c.all.result.now c.read.result.now c.args.n c.args.seq c.spelt_len-len.result (spelt c.args.lines.now) is c.all-2.result.now c.in_ok-places.field-0 c.in-Some-2.places c.all-2.ensures c.in_ok-places.ensures c.in-Some-2.is in
+    let same = planned c.in-Ok.home c.args.m.now.blocks c.args.n c.spelt_len-len.result c.slot_lbn-lbn.result (spelt c.args.lines.now) c.as_slice-2.result.now c.items.result.now c.stored_header-head.result c.read-2.result.now (record {
+      places = here;
+      items_are = c.as_slice-2.ensures.value ∙ c.in_ok-bytes.ensures.bytes;
       lbn_is = c.slot_lbn-lbn.ensures;
       there = c.read-2.ensures;
       head_is = c.stored_header-head.ensures;

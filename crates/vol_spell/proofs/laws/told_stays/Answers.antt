@@ -1,4 +1,4 @@
-use Rattle.vol_spell.proofs.Frames.{told_stays}
+use Rattle.vol_spell.proofs.Heads.{told_stays}
 use Rattle.vol_spell.proofs.laws.told_stays.Goals as goal
 
 pub returns : goal.returns
