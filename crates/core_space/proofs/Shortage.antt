@@ -12,7 +12,6 @@ use Rattle.plain_cat.specs.declared.reply.Refusal.{Refusal}
 use Rattle.plain_cat.specs.declared.reply.Refusal.TheVariants.{IndexFull, DeviceFull}
 use Rattle.plain_cat.specs.declared.cat.Cat.{Cat}
 use Rattle.plain_rules.specs.Lookups.{free_clusters, is_free_number, has_free_number}
-use Rattle.plain_rules.proofs.Headers.{single_number}
 use Rattle.plain_rules.proofs.Picks.{no_number as none_to_take}
 use Rattle.base_words.specs.Lists.{Has, StandsIn}
 use Rattle.vol_spell.specs.Owners.{Owners}
@@ -22,14 +21,13 @@ use Rattle.vol_parts.specs.Parts.{storage_blocks}
 use Rattle.vol_spell.specs.Reading.{total_of, cluster_bit}
 use Rattle.vol_spell.specs.Spelling.{Spells}
 use Rattle.vol_under.specs.Shortage.{IsFreeByBits}
-use Rattle.vol_under.proofs.Leaking.{single_headers}
 use Rattle.vol_under.proofs.Short.{free_by_bits}
 use Rattle.core_space.specs.Searching.{More, Short, storage_places, cluster_places, free_number, clusters_in, free_in, free_from, number_write, found_number}
 use Rattle.core_space.specs.Taking.{looked, IsTooLittle, ShortageIsExact, CommandIsShort}
 use Rattle.core_space.proofs.Ways.{short_of}
 use Rattle.core_space.proofs.Ranges.{range_parts}
-use Rattle.core_space.proofs.Chosen.{lies_in, free_number_clear}
-use Rattle.core_space.proofs.Taken.{clear_is_free, number_bit_seen}
+use Rattle.core_space.proofs.Chosen.{lies_in}
+use Rattle.core_space.proofs.Taken.{number_bit_seen, number_there}
 
 -- ---- lists
 
@@ -107,14 +105,6 @@ no_number g index base own c e s free at = none_to_take c (λ k lt. by_test (k +
       let clear : bit_at index (n - 1) ≡ false = sym (number_bit_seen g base index n at) ∙ p.1 in
       absurd (let h : true ≡ false = sym (ap not clear) ∙ fails in cc)
 
-a_number : (g : Geometry) (index : Block) (n : ℕ) (base : List Block) (own : Owners) (c : Cat) → free_number g index ≡ Some n → Spells g base own c → slice_get base (4 * g.cluster) ≡ Some index → has_free_number c ≡ true
-a_number g index n base own c e s at =
-    let h = free_number_clear g index n e in
-    let lo = h.from in
-    let hi = h.to in
-    single_number c (single_headers g base own c s) n
-    (clear_is_free g base own c n s (record { from = lo; to = hi }) (number_bit_seen g base index n at ∙ h.clear))
-
 -- ---- the refusals
 
 by_number : (g : Geometry) (clusters : ℕ) (index : Block) (n : Option ℕ) (bs : List Block) (r : Refusal) (base : List Block) (own : Owners) (c : Cat) → free_number g index ≡ n → found_number g clusters index n bs ≡ Short r
@@ -124,7 +114,7 @@ by_number g clusters index None bs r base own c is e s free stood =
     subst (λ (x : Refusal). IsTooLittle clusters true c x) same (refl, no_number g index base own c is s free stood.0)
 by_number g clusters index (Some n) bs r base own c is e s free stood =
     let t = short_of g clusters (Some n) (number_write g n index ∷ []) bs r e in
-    subst (λ (x : Refusal). IsTooLittle clusters true c x) (sym t.2) ((λ y. a_number g index n base own c is s stood.0), few_clusters g clusters bs base c free t.0 t.1 stood.1)
+    subst (λ (x : Refusal). IsTooLittle clusters true c x) (sym t.2) ((λ y. number_there g index n base own c is s stood.0), few_clusters g clusters bs base c free t.0 t.1 stood.1)
 
 pub shortage_is_exact : ShortageIsExact
 shortage_is_exact g clusters false bs r base own c e s none stood =

@@ -1,18 +1,19 @@
 -- What the writes of a search have taken in the end.
-use Rattle.std.proofs.Common.{◌≡◌, ◌≤◌, ◌+◌, ◌-◌, ◌*◌, ◌/◌, ◌++◌, ℕ, zero, suc, Bool, true, false, List, [], ◌∷◌, Option, Some, None, length, slice_get, refl, sym, ap, subst, ◌∙◌, inl, inr, arith, append-nil, append_assoc, length-append, nat_lt}
-use Rattle.std.specs.Prelude.{take, is_some, IfSome}
+use Rattle.std.proofs.Common.{◌≡◌, ◌≤◌, ◌<◌, ◌+◌, ◌-◌, ◌*◌, ◌/◌, ◌++◌, ℕ, zero, suc, Bool, true, false, List, [], ◌∷◌, Option, Some, None, length, slice_get, get_or, cond, refl, sym, ap, subst, ◌∙◌, inl, inr, arith, append-nil, append_assoc, length-append, nat_lt}
+use Rattle.std.specs.Prelude.{take, is_some, IfSome, count_by, sum_by}
 use Rattle.std.proofs.lemmas.Bool.{cases_lt}
 use Rattle.std.proofs.lemmas.Bool.Decides.{nat_tests}
 use Rattle.std.proofs.lemmas.List.{length-take-le}
-use Rattle.std.proofs.lemmas.Option.{get_or_from_slice_get}
+use Rattle.std.proofs.lemmas.List.Sums.{get_or-le-sum_by}
+use Rattle.std.proofs.lemmas.Option.{get_or_from_slice_get, slice_get_within}
 use Rattle.base_words.specs.Fields.{Block}
 use Rattle.fx_bitmap.specs.Bits.{bit_at}
 use Rattle.plain_cat.specs.declared.cat.Cat.{Cat}
 use Rattle.plain_cat.specs.declared.reply.Refusal.TheVariants.{IndexFull}
-use Rattle.plain_rules.specs.Lookups.{is_free_number}
+use Rattle.plain_rules.specs.Lookups.{is_free_number, free_count, has_free_number}
 use Rattle.plain_rules.specs.Answers.{IsPick}
-use Rattle.plain_rules.proofs.Headers.{single_number}
 use Rattle.plain_rules.proofs.Picks.{pick_of}
+use Rattle.vol_spell.specs.declared.owner.Owner.{Owner}
 use Rattle.vol_spell.specs.declared.owner.Owner.TheVariants.{Free}
 use Rattle.vol_spell.specs.Counts.{is_same_owner}
 use Rattle.base_words.specs.Lists.{Has, Once}
@@ -21,7 +22,9 @@ use Rattle.base_words.proofs.Listing.{has_parted, once_in_a_row}
 use Rattle.vol_parts.specs.declared.geometry.Geometry.{Geometry}
 use Rattle.vol_spell.specs.Reading.{IsFileNumber, number_bit}
 use Rattle.vol_spell.specs.Spelling.{Spells}
-use Rattle.vol_under.proofs.Leaking.{single_headers, number_free_of}
+use Rattle.vol_spell.specs.Adding.{is_outside}
+use Rattle.vol_spell.proofs.NumberAdds.{numbers_add_up}
+use Rattle.vol_under.proofs.Leaking.{number_free_of}
 use Rattle.op_law.specs.declared.need.PlanWrite.{PlanWrite}
 use Rattle.op_law.specs.Knows.{is_new_number}
 use Rattle.op_law.specs.Writing.{Held, holding, empty_handed}
@@ -154,20 +157,38 @@ clear_is_free g base own c n s is bit =
     let back : n - 1 + 1 ≡ n = omega arith in
     subst (λ (k : ℕ). is_free_number c k ≡ true) back (number_free_of g base own c Free (n - 1) (λ m e. absurd (cc)) refl s ((s.owners.number_bits n is).0 bit))
 
+-- and a new header can have one
+pub clear_is_there : (g : Geometry) (base : List Block) (own : Owners) (c : Cat) (n : ℕ) → Spells g base own c → IsFileNumber g n → number_bit g base n ≡ false → has_free_number c ≡ true
+unfolding is_same_owner
+clear_is_there g base own c n s is bit =
+    let free : Owner → ℕ = λ o. cond (is_same_owner Free o) 1 0 in
+    let at : slice_get own.numbers (n - 1) ≡ Some Free = (s.owners.number_bits n is).0 bit in
+    let here : free (get_or own.numbers (n - 1) Free) ≡ 1 = ap free (get_or_from_slice_get own.numbers (n - 1) Free Free at) in
+    let some : free (get_or own.numbers (n - 1) Free) ≤ sum_by free own.numbers = get_or-le-sum_by free own.numbers (n - 1) Free (slice_get_within own.numbers (n - 1) Free at) in
+    there (free_count c) (sum_by free own.numbers) (count_by is_outside own.numbers) (numbers_add_up g base own c s) (omega (arith, here, some)) where
+      there : (k a b : ℕ) → k ≡ a + b → 1 ≤ a → nat_lt 0 k ≡ true
+      there k a b e le = let lt : 0 < k = omega arith in grind (arith, nat_tests)
+
 -- a bit of the index-file bitmap that was looked at
 pub number_bit_seen : (g : Geometry) (base : List Block) (index : Block) (n : ℕ) → slice_get base (4 * g.cluster) ≡ Some index → number_bit g base n ≡ bit_at index (n - 1)
 number_bit_seen g base index n at = ap (λ (b : Block). bit_at b (n - 1)) (get_or_from_slice_get base (4 * g.cluster) index [] at)
 
+-- the first number whose bit is clear there is free
+number_clear : (g : Geometry) (index : Block) (n : ℕ) (base : List Block) → free_number g index ≡ Some n → slice_get base (4 * g.cluster) ≡ Some index → IsFileNumber g n × (number_bit g base n ≡ false)
+number_clear g index n base e at = let h = free_number_clear g index n e in (record { from = h.from; to = h.to }, number_bit_seen g base index n at ∙ h.clear)
+
 number_taken : (g : Geometry) (index : Block) (n : Option ℕ) (base : List Block) (own : Owners) (c : Cat) → free_number g index ≡ n → Spells g base own c → slice_get base (4 * g.cluster) ≡ Some index → IfSome n (λ m. is_free_number c m ≡ true)
 number_taken g index None base own c e s at = tt
-number_taken g index (Some n) base own c e s at =
-    let h = free_number_clear g index n e in
-    clear_is_free g base own c n s (record { from = h.from; to = h.to }) (number_bit_seen g base index n at ∙ h.clear)
+number_taken g index (Some n) base own c e s at = let h = number_clear g index n base e at in clear_is_free g base own c n s h.0 h.1
 
--- one that is free may be taken
-number_to_take : (g : Geometry) (base : List Block) (own : Owners) (c : Cat) (n : Option ℕ) → Spells g base own c → IfSome n (λ m. is_free_number c m ≡ true) → IfSome n (λ m. IsPick c (Some m))
-number_to_take g base own c None s free = tt
-number_to_take g base own c (Some n) s free = pick_of c n free (single_number c (single_headers g base own c s) n free)
+-- and a new header can have one
+pub number_there : (g : Geometry) (index : Block) (n : ℕ) (base : List Block) (own : Owners) (c : Cat) → free_number g index ≡ Some n → Spells g base own c → slice_get base (4 * g.cluster) ≡ Some index → has_free_number c ≡ true
+number_there g index n base own c e s at = let h = number_clear g index n base e at in clear_is_there g base own c n s h.0 h.1
+
+-- so it may be taken
+number_to_take : (g : Geometry) (index : Block) (n : Option ℕ) (base : List Block) (own : Owners) (c : Cat) → free_number g index ≡ n → Spells g base own c → slice_get base (4 * g.cluster) ≡ Some index → IfSome n (λ m. IsPick c (Some m))
+number_to_take g index None base own c e s at = tt
+number_to_take g index (Some n) base own c e s at = pick_of c n (number_taken g index (Some n) base own c e s at) (number_there g index n base own c e s at)
 
 pub number_is_free : NumberIsFree
 number_is_free g clusters false bs ws base own c e s stood =
@@ -175,7 +196,7 @@ number_is_free g clusters false bs ws base own c e s stood =
 number_is_free g clusters true [] ws base own c e s stood = absurd (let f : More ≡ Enough ws = e in cc)
 number_is_free g clusters true (index ∷ bs) ws base own c e s stood =
     subst (λ (o : Option ℕ). IfSome o (λ m. IsPick c (Some m))) (sym (with_number g clusters index bs (free_number g index) ws e).number)
-    (number_to_take g base own c (free_number g index) s (number_taken g index (free_number g index) base own c refl s stood.0))
+    (number_to_take g index (free_number g index) base own c refl s stood.0)
 
 -- a number above those of the system files
 is_above : (n : ℕ) → (n ≤ 11 → ⊥) → nat_lt 11 n ≡ true

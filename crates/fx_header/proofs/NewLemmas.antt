@@ -1,21 +1,23 @@
 -- What a new header tells, and a free slot.
-use Rattle.std.proofs.Common.{◌≡◌, ◌∙◌, ◌+◌, ◌-◌, ◌/◌, ◌%◌, ◌^◌, ◌<◌, ◌≤◌, ◌==◌, ◌++◌, ℕ, List, [], ◌∷◌, length, take, drop, get_or, get_or-drop, replicate, Bool, true, false, refl, sym, ap, subst, arith, length-append, length-take, bit_and, Ok}
+use Rattle.std.proofs.Common.{◌≡◌, ◌∙◌, ◌+◌, ◌-◌, ◌*◌, ◌/◌, ◌%◌, ◌^◌, ◌<◌, ◌≤◌, ◌==◌, ◌++◌, ℕ, List, [], ◌∷◌, length, take, drop, get_or, replicate, Bool, true, false, refl, sym, ap, subst, arith, length-append, length-take, bit_and, Ok}
 use Rattle.std.specs.Prelude.{if◌then◌else◌}
-use Rattle.std.proofs.lemmas.Bool.{ne_eqb}
+use Rattle.std.proofs.lemmas.Bool.{ne_eqb, le-leb}
 use Rattle.std.proofs.lemmas.List.{length-replicate}
 use Rattle.byteorder.specs.Endian.{little_bytes}
 use Rattle.base_words.specs.Fields.{field, put, put_field, summed}
 use Rattle.base_words.specs.Tables.{zeros, Table, laid}
 use Rattle.base_words.proofs.Puts.{length-put, length-put_field, length-summed, field-put_same, field-put_below, field-put_field_above}
-use Rattle.base_words.proofs.Tables.{rises, row, length-zeros, length-laid, field-laid}
+use Rattle.base_words.proofs.Tables.{rises, row, length-zeros, length-laid, field-laid, field-laid_below, field-laid_above}
 use Rattle.fx_header.specs.declared.slot.Hdr.{Hdr}
-use Rattle.fx_header.specs.declared.slot.Slot.TheVariants.{Free, Used}
-use Rattle.fx_header.specs.Pointers.{blocks_in}
-use Rattle.fx_header.specs.Headers.{number_of, is_free, has_level, has_offsets, is_on_this_volume, is_alone, area_rows, id_rows, size_rows, owner_rows, new_rows, flags_of, filled, with_name, header_bytes, with_runs, freed, fields_of, header_read, map_area, IsMade, ReadsBack}
+use Rattle.fx_header.specs.declared.slot.Slot.TheVariants.{Free}
+use Rattle.fx_header.specs.Pointers.{blocks_in, runs_of}
+use Rattle.fx_header.specs.Headers.{number_of, is_free, has_level, has_offsets, is_on_this_volume, has_segment, has_map, area_rows, id_rows, size_rows, owner_rows, new_rows, flags_of, filled, with_name, header_bytes, with_runs, freed, fields_of, header_read, map_offset, map_area, map_in_use, map_bytes, runs_in, EndsWithin, IsMade, ReadsBack}
 use Rattle.base_words.specs.Fields.{has_sum}
-use Rattle.fx_header.proofs.SoundLemmas.{Same, sound-reads, same-field, same-put_below, same-summed, same-same, sum-true}
-use Rattle.fx_header.proofs.SetterLemmas.{Tells, tells-fields}
-use Rattle.fx_header.proofs.RunsLemmas.{Fielded, field-byte, runs-written, runs-read, runs-sound}
+use Rattle.fx_header.proofs.SoundLemmas.{Sound, Same, sound-reads, same-field, same-put_below, same-summed, same-same, sum-true}
+use Rattle.fx_header.proofs.SetterLemmas.{Tells, ByteWithin, tells-fields, told-ends}
+use Rattle.fx_header.proofs.RunsLemmas.{Fielded, field-byte, room-blocks, runs-written, runs-read, runs-sound}
+use Rattle.fx_header.proofs.PartLemmas.{map-reads, map-runs}
+use Rattle.fx_header.proofs.PointerLemmas.{runs_of-nil, rest_of-nil}
 
 -- one table after another
 laid-append : (xs ys : Table) (b : List ℕ) → laid (xs ++ ys) b ≡ laid ys (laid xs b)
@@ -42,7 +44,6 @@ record Rows (table : Table) (h : Hdr) : Type 0 where
   high : row table 10 ≡ (13, 1, h.num / 2 ^ 16)
   next-low : row table 11 ≡ (14, 2, h.ext % 2 ^ 16)
   next-seq : row table 12 ≡ (16, 2, h.ext_seq)
-  next-volume : row table 13 ≡ (18, 1, 0)
   next-high : row table 14 ≡ (19, 1, h.ext / 2 ^ 16)
   upper : row table 15 ≡ (24, 2, h.blocks / 2 ^ 16)
   lower : row table 16 ≡ (26, 2, h.blocks % 2 ^ 16)
@@ -69,7 +70,6 @@ new-rows h parent = record {
   high = refl;
   next-low = refl;
   next-seq = refl;
-  next-volume = refl;
   next-high = refl;
   upper = refl;
   lower = refl;
@@ -94,6 +94,10 @@ zero-number = refl
 zero-high : field zeros 13 1 ≡ 0
 unfolding zeros
 zero-high = refl
+
+zero-words : field zeros 58 1 ≡ 0
+unfolding zeros
+zero-words = refl
 
 -- the name is written behind the fields
 pub length-filled : (n : ℕ) (text : List ℕ) → length (filled n text) ≡ n
@@ -145,38 +149,9 @@ pub record Ranges (h : Hdr) : Type 0 where
   pub mark : h.mark < 2 ^ 32
   pub end : h.end < 2 ^ 32
   pub byte : h.byte < 2 ^ 16
-  pub seg : h.seg < 2 ^ 16
+  pub seg : h.seg ≤ 15
   pub ext : h.ext < 2 ^ 24
   pub ext_seq : h.ext_seq < 2 ^ 16
-
--- the same of the only header of a file
-pub record Fits (h : Hdr) : Type 0 where
-  pub from : 1 ≤ h.num
-  pub num : h.num < 2 ^ 24
-  pub seq : h.seq < 2 ^ 16
-  pub owner : h.owner < 2 ^ 32
-  pub blocks : h.blocks < 2 ^ 32
-  pub mark : h.mark < 2 ^ 32
-  pub end : h.end < 2 ^ 32
-  pub byte : h.byte < 2 ^ 16
-  pub seg : h.seg ≡ 0
-  pub ext : h.ext ≡ 0
-  pub ext_seq : h.ext_seq ≡ 0
-
-fits-ranges : (h : Hdr) → Fits h → Ranges h
-fits-ranges h fits = record {
-  from = fits.from;
-  num = fits.num;
-  seq = fits.seq;
-  owner = fits.owner;
-  blocks = fits.blocks;
-  mark = fits.mark;
-  end = fits.end;
-  byte = fits.byte;
-  seg = omega (arith, fits.seg);
-  ext = omega (arith, fits.ext);
-  ext_seq = omega (arith, fits.ext_seq);
-}
 
 -- what a new header tells, and the tests that it passes without its runs
 pub record Told (n : List ℕ) (h : Hdr) : Type 0 where
@@ -184,12 +159,12 @@ pub record Told (n : List ℕ) (h : Hdr) : Type 0 where
   pub level : has_level n ≡ true
   pub offsets : has_offsets n ≡ true
   pub volume : is_on_this_volume n ≡ true
-  pub next-volume : field n 18 1 ≡ 0
+  pub segment : has_segment n ≡ true
   pub tells : Tells n h
 
 -- from its rows
 laid-told : (table : Table) (n : List ℕ) (h : Hdr) → Rows table h → Ranges h → Same n (laid table zeros) 0 80 → Told n h
-unfolding is_free has_level has_offsets is_on_this_volume
+unfolding is_free has_level has_offsets is_on_this_volume has_segment
 laid-told table n h rows fits same =
     let t : List ℕ = laid table zeros in
     let told : (i p w x : ℕ) → row table i ≡ (p, w, x) → x < 256 ^ w → p + w ≤ 80 → field n p w ≡ x =
@@ -198,6 +173,7 @@ laid-told table n h rows fits same =
     λ i p x e f l. sym (field-byte n p) ∙ told i p 1 x e f l in
     let number : number_of n ≡ h.num =
     omega (arith, told 7 8 2 (h.num % 2 ^ 16) rows.low (omega arith) (omega arith), byte 10 13 (h.num / 2 ^ 16) rows.high (omega (arith, fits.num)) (omega arith)) in
+    let seg : field n 4 2 ≡ h.seg = told 4 4 2 h.seg rows.seg (omega (arith, fits.seg)) (omega arith) in
     let flags : field n 52 4 ≡ flags_of h = told 20 52 4 (flags_of h) rows.flags (flags-fit h.dir h.marked) (omega arith) in
     record {
       used = ne_eqb (number_of n) 0 (λ z. absurd (omega (arith, fits.from, number, z)));
@@ -209,7 +185,7 @@ laid-told table n h rows fits same =
         byte 3 3 255 rows.reserved (omega arith) (omega arith),
       ) refl;
       volume = rw (byte 9 12 0 rows.volume (omega arith) (omega arith)) refl;
-      next-volume = told 13 18 1 0 rows.next-volume (omega arith) (omega arith);
+      segment = rw seg (le-leb h.seg 15 fits.seg);
       tells = record {
         num = number;
         seq = told 8 10 2 h.seq rows.seq (omega (arith, fits.seq)) (omega arith);
@@ -220,7 +196,7 @@ laid-told table n h rows fits same =
         mark = told 26 76 4 h.mark rows.mark (omega (arith, fits.mark)) (omega arith);
         end = omega (arith, told 17 28 2 (h.end / 2 ^ 16) rows.end-upper (omega (arith, fits.end)) (omega arith), told 18 30 2 (h.end % 2 ^ 16) rows.end-lower (omega arith) (omega arith));
         byte = told 19 32 2 h.byte rows.byte (omega (arith, fits.byte)) (omega arith);
-        seg = told 4 4 2 h.seg rows.seg (omega (arith, fits.seg)) (omega arith);
+        seg = seg;
         ext = omega (arith, told 11 14 2 (h.ext % 2 ^ 16) rows.next-low (omega arith) (omega arith), byte 14 19 (h.ext / 2 ^ 16) rows.next-high (omega (arith, fits.ext)) (omega arith));
         ext_seq = told 12 16 2 h.ext_seq rows.next-seq (omega (arith, fits.ext_seq)) (omega arith);
       };
@@ -233,42 +209,15 @@ new-told h text parent fits =
     laid-told (new_rows h parent) (summed (with_name (laid (new_rows h parent) zeros) text)) h rows fits
     (same-named (laid (new_rows h parent) zeros) text (length-laid 0 (new_rows h parent) zeros rows.order length-zeros))
 
--- the whole link is zero where its parts are
-zero-link : (b : List ℕ) → field b 14 2 ≡ 0 → field b 16 2 ≡ 0 → field b 18 1 ≡ 0 → get_or b 19 0 ≡ 0 → field b 14 6 ≡ 0
-zero-link b low seq volume high =
-    omega (
-      arith,
-      low,
-      seq,
-      volume,
-      high,
-      get_or-drop 14 b 0 0,
-      get_or-drop 14 b 1 0,
-      get_or-drop 14 b 2 0,
-      get_or-drop 14 b 3 0,
-      get_or-drop 14 b 4 0,
-      get_or-drop 14 b 5 0,
-      get_or-drop 16 b 0 0,
-      get_or-drop 16 b 1 0,
-      get_or-drop 18 b 0 0,
-    )
-
-lone-alone : (n : List ℕ) (h : Hdr) → Fits h → Told n h → is_alone n ≡ true
-unfolding is_alone
-lone-alone n h fits told =
-    let t = told.tells in
-    let link = zero-link n (omega (arith, t.ext, fits.ext)) (t.ext_seq ∙ fits.ext_seq) told.next-volume (omega (arith, t.ext, fits.ext)) in
-    rw (t.seg ∙ fits.seg, link) refl
-
-pub new-fielded : (h : Hdr) (text : List ℕ) (parent : ℕ × ℕ) → Fits h → Fielded (header_bytes h text parent) h
+pub new-fielded : (h : Hdr) (text : List ℕ) (parent : ℕ × ℕ) → Ranges h → Fielded (header_bytes h text parent) h
 new-fielded h text parent fits =
-    let told = new-told h text parent (fits-ranges h fits) in
+    let told = new-told h text parent fits in
     record {
       used = told.used;
       level = told.level;
       offsets = told.offsets;
       volume = told.volume;
-      alone = lone-alone (header_bytes h text parent) h fits told;
+      segment = told.segment;
       tells = told.tells;
     }
 
@@ -283,7 +232,7 @@ new-sum h text parent =
 pub new-made : (h : Hdr) (text : List ℕ) (parent : ℕ × ℕ) → Ranges h → IsMade (header_bytes h text parent)
 new-made h text parent fits =
     let told = new-told h text parent fits in
-    record { used = told.used; sum = new-sum h text parent; level = told.level; offsets = told.offsets; volume = told.volume }
+    record { used = told.used; sum = new-sum h text parent; level = told.level; offsets = told.offsets; volume = told.volume; segment = told.segment }
 
 pub new-fields : (h : Hdr) (text : List ℕ) (parent : ℕ × ℕ) → Ranges h → fields_of (header_bytes h text parent) ≡ h
 new-fields h text parent fits = tells-fields (header_bytes h text parent) h (new-told h text parent fits).tells
@@ -301,18 +250,6 @@ length-header h text parent =
     let rows = new-rows h parent in
     length-summed (with_name (laid (new_rows h parent) zeros) text) (length-named (laid (new_rows h parent) zeros) text (length-laid 0 (new_rows h parent) zeros rows.order length-zeros))
 
--- a new header reads back with its runs
-pub new-reads : (h : Hdr) (text : List ℕ) (parent : ℕ × ℕ) → Fits h → h.end ≤ h.blocks + 1 → h.byte ≤ 511 → h.mark ≤ h.blocks + 1 → ReadsBack (header_bytes h text parent) h
-new-reads h text parent fits end byte mark runs are room blocks =
-    let b : List ℕ = header_bytes h text parent in
-    let f = new-fielded h text parent fits in
-    let few : blocks_in runs < 2 ^ 32 = omega (arith, fits.blocks, blocks) in
-    let w = runs-written b runs (length-header h text parent) f.offsets are room few in
-    let sound = runs-sound b h runs (length-header h text parent) f are room few (omega (arith, blocks, end)) byte (omega (arith, blocks, mark)) in (
-      sound-reads (with_runs b runs) (record h { blocks = blocks_in runs }) sound ∙ ap (λ n. Ok (Used (record h { blocks = n }))) blocks,
-      runs-read (with_runs b runs) b runs are w,
-    )
-
 -- its map area has 155 words
 pub header-area : (h : Hdr) (text : List ℕ) (parent : ℕ × ℕ) → map_area (header_bytes h text parent) ≡ 155
 unfolding header_bytes
@@ -326,6 +263,70 @@ header-area h text parent =
     let access : get_or n 2 0 ≡ 255 =
     sym (field-byte n 2) ∙ same-field n t 0 80 2 1 same (omega arith) (omega arith) ∙ row-told (new_rows h parent) 2 2 1 255 rows.order rows.access (omega arith) in
     rw (access, map) refl
+
+-- a map area of which no word is in use has no runs, and its last pointer ends there
+empty-bytes : (b : List ℕ) → map_in_use b ≡ 0 → map_bytes b ≡ []
+empty-bytes b e = let none : 2 * (map_offset b + map_in_use b) - 2 * map_offset b ≡ 0 = omega (arith, e) in rw none refl
+
+empty-map : (b : List ℕ) → map_in_use b ≡ 0 → has_map b ≡ true
+unfolding has_map
+empty-map b e = rw (empty-bytes b e, e, rest_of-nil, le-leb 0 (map_area b) (omega arith)) refl
+
+empty-runs : (b : List ℕ) → map_in_use b ≡ 0 → runs_in b ≡ []
+empty-runs b e = ap runs_of (empty-bytes b e) ∙ runs_of-nil
+
+-- so is that of a new header
+rows-between : (h : Hdr) (parent : ℕ × ℕ) → field (laid (new_rows h parent) zeros) 58 1 ≡ 0
+unfolding area_rows size_rows owner_rows
+rows-between h parent =
+    let front : Table = area_rows h.seg ++ id_rows 8 h.num h.seq ++ id_rows 14 h.ext h.ext_seq ++ size_rows h.blocks h.end h.byte ++ (52, 4, flags_of h) ∷ [] in
+    let behind : Table = (60, 4, h.owner) ∷ id_rows 66 parent.0 parent.1 ++ (76, 4, h.mark) ∷ [] in
+    ap (λ b. field b 58 1) (laid-append front behind zeros)
+    ∙ field-laid_below 60 behind (laid front zeros) 58 1 refl (length-laid 0 front zeros refl length-zeros) (omega arith)
+    ∙ field-laid_above 0 front zeros 58 1 refl length-zeros (omega arith) ∙ zero-words
+
+header-empty : (h : Hdr) (text : List ℕ) (parent : ℕ × ℕ) → map_in_use (header_bytes h text parent) ≡ 0
+unfolding header_bytes
+header-empty h text parent =
+    let rows = new-rows h parent in
+    let t : List ℕ = laid (new_rows h parent) zeros in
+    let n : List ℕ = summed (with_name t text) in
+    let same : Same n t 0 80 = same-named t text (length-laid 0 (new_rows h parent) zeros rows.order length-zeros) in
+    sym (field-byte n 58) ∙ same-field n t 0 80 58 1 same (omega arith) (omega arith) ∙ rows-between h parent
+
+-- a new header reads back
+module _ (h : Hdr) (text : List ℕ) (parent : ℕ × ℕ) (fits : Ranges h) (within : EndsWithin h) (byte : ByteWithin h) where
+  new-sound : Sound (header_bytes h text parent) h
+  new-sound =
+      let b : List ℕ = header_bytes h text parent in
+      let told = new-told h text parent fits in
+      record {
+        used = told.used;
+        sum = new-sum h text parent;
+        level = told.level;
+        offsets = told.offsets;
+        volume = told.volume;
+        segment = told.segment;
+        map = empty-map b (header-empty h text parent);
+        ends = told-ends b h told.tells within byte;
+        fields = new-fields h text parent fits;
+      }
+
+  pub new-reads : ReadsBack (header_bytes h text parent) h
+  new-reads =
+      let b : List ℕ = header_bytes h text parent in
+      let f = new-fielded h text parent fits in
+      let long = length-header h text parent in
+      let read = sound-reads b h new-sound in
+      record {
+        empty = (read, empty-runs b (header-empty h text parent));
+        map = λ runs room. (map-reads b runs long f.offsets room.0 room.1 h read, map-runs b runs long f.offsets room.0 room.1);
+        runs = λ runs room ends.
+            let few = room-blocks b runs f.offsets room in (
+              sound-reads (with_runs b runs) (record h { blocks = blocks_in runs }) (runs-sound b h runs long f room.0 room.1 few ends byte),
+              runs-read (with_runs b runs) b runs room.0 (runs-written b runs long f.offsets room.0 room.1 few),
+            );
+      }
 
 -- a free slot reads as free
 pub freed-reads : (seq : ℕ) → seq < 2 ^ 16 → header_read (freed seq) ≡ Ok (Free seq)

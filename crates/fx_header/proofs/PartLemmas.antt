@@ -1,16 +1,17 @@
 -- What a header tells after its runs alone were written, its blocks, or the next header of its file.
-use Rattle.std.proofs.Common.{◌≡◌, ◌∙◌, ◌+◌, ◌*◌, ◌/◌, ◌%◌, ◌^◌, ◌<◌, ◌≤◌, ℕ, List, length, true, refl, sym, ap, arith}
+use Rattle.std.proofs.Common.{◌≡◌, ◌∙◌, ◌+◌, ◌*◌, ◌/◌, ◌%◌, ◌^◌, ◌<◌, ◌≤◌, ℕ, List, length, true, refl, sym, ap, arith, Ok}
 use Rattle.base_words.specs.Fields.{field, summed, has_sum}
 use Rattle.base_words.specs.Tables.{Table, laid}
 use Rattle.base_words.proofs.Puts.{length-summed}
 use Rattle.base_words.proofs.Tables.{rises, end_of, length-laid, field-laid, field-laid_below, field-laid_above}
 use Rattle.fx_header.specs.declared.run.Run.{Run}
 use Rattle.fx_header.specs.declared.slot.Hdr.{Hdr}
+use Rattle.fx_header.specs.declared.slot.Slot.TheVariants.{Used}
 use Rattle.fx_header.specs.Pointers.{AreRuns, merged, map_words, runs_of}
-use Rattle.fx_header.specs.Headers.{map_offset, access_offset, map_area, runs_in, blocks_of, link_of, link_seq_of, has_offsets, has_map, fields_of, high_first_rows, id_rows, with_map, with_blocks, with_link, KeepsTests, LeavesRuns}
+use Rattle.fx_header.specs.Headers.{map_offset, access_offset, map_area, runs_in, blocks_of, link_of, link_seq_of, has_offsets, has_map, fields_of, header_read, high_first_rows, id_rows, with_map, with_blocks, with_link, KeepsTests, LeavesRuns, EndsWithin}
 use Rattle.fx_header.proofs.SpellLemmas.{runs_of-words}
-use Rattle.fx_header.proofs.SoundLemmas.{Same, same-of, same-field, same-byte, same-within, same-summed, same-same, same-used, same-level, same-offsets, same-volume, same-area, sum-true}
-use Rattle.fx_header.proofs.SetterLemmas.{Tells, tells-of, tells-fields, high-length, high-reads, high-below, high-above}
+use Rattle.fx_header.proofs.SoundLemmas.{Same, same-of, same-field, same-byte, same-within, same-summed, same-same, same-used, same-level, same-offsets, same-volume, same-segment, same-area, sum-true, sound-reads, reads-sound}
+use Rattle.fx_header.proofs.SetterLemmas.{Tells, ByteWithin, tells-of, tells-fields, ends-told, told-ends, high-length, high-reads, high-below, high-above}
 use Rattle.fx_header.proofs.RunsLemmas.{field-byte, map-mapped, map-true}
 
 -- the fields of a header of which no other part was written
@@ -53,6 +54,7 @@ tests-again n b sum low =
       level = same-level n b low;
       offsets = same-offsets n b low;
       volume = same-volume n b low;
+      segment = same-segment n b low;
       area = rw (start, behind) refl;
     }
 
@@ -61,6 +63,23 @@ runs-again : (n b : List ℕ) → length n ≡ length b → Same n b 0 14 → Sa
 runs-again n b long low area off fits =
     let same = same-area n b long off fits low (same-within n b 58 510 58 59 area (omega arith) (omega arith)) (same-within n b 58 510 80 510 area (omega arith) (omega arith)) in
     (ap runs_of same.0, same.1)
+
+-- what it reads as, if its ends lie within its blocks
+reads-again : (n b : List ℕ) (h g : Hdr) → KeepsTests b n → has_map n ≡ true → header_read b ≡ Ok (Used h) → fields_of n ≡ g → EndsWithin g → ByteWithin g
+    → header_read n ≡ Ok (Used g)
+reads-again n b h g kept map read fields within byte =
+    let s = reads-sound b h read in
+    sound-reads n g (record {
+      used = kept.used ∙ s.used;
+      sum = kept.sum;
+      level = kept.level ∙ s.level;
+      offsets = kept.offsets ∙ s.offsets;
+      volume = kept.volume ∙ s.volume;
+      segment = kept.segment ∙ s.segment;
+      map = map;
+      ends = told-ends n g (tells-of n g fields) within byte;
+      fields = fields;
+    })
 
 -- ---- the runs alone
 
@@ -90,6 +109,12 @@ module _ (b : List ℕ) (runs : List Run) (long : length b ≡ 512) (off : has_o
       let m = map-mapped b runs long off are room in
       tests-again (with_map b runs) b m.1 (same-within (with_map b runs) b 0 58 0 14 m.0.front (omega arith) (omega arith))
 
+  pub map-reads : (h : Hdr) → header_read b ≡ Ok (Used h) → header_read (with_map b runs) ≡ Ok (Used h)
+  map-reads h read =
+      let s = reads-sound b h read in
+      let ends = ends-told b h s in
+      reads-again (with_map b runs) b h h map-tests map-fits read (map-fields ∙ s.fields) ends.0 ends.1
+
 -- ---- the blocks
 
 -- what stays of a header whose blocks were written
@@ -113,9 +138,9 @@ blocks-around b blocks long =
       high = same-same n m b 28 510 (same-within n m 0 510 28 510 summing (omega arith) (omega arith)) (high-above b 24 blocks 28 510 (omega arith) (omega arith));
     }
 
-pub blocks-reads : (b : List ℕ) (blocks : ℕ) → length b ≡ 512 → blocks < 2 ^ 32 → blocks_of (with_blocks b blocks) ≡ blocks
+pub blocks-told : (b : List ℕ) (blocks : ℕ) → length b ≡ 512 → blocks < 2 ^ 32 → blocks_of (with_blocks b blocks) ≡ blocks
 unfolding with_blocks
-blocks-reads b blocks long fits =
+blocks-told b blocks long fits =
     let m : List ℕ = laid (high_first_rows 24 blocks) b in
     let n : List ℕ = summed m in
     let len : length m ≡ 512 = high-length b 24 blocks (omega arith) ∙ long in
@@ -133,7 +158,7 @@ module _ (b : List ℕ) (blocks : ℕ) (long : length b ≡ 512) where
       let kept : (p v : ℕ) → p + v ≤ 24 → field n p v ≡ field b p v = λ p v h. same-field n b 0 24 p v w.low (omega arith) (omega arith) in
       fields-again n b blocks (link_of b) (link_seq_of b)
       (same-within n b 0 24 0 14 w.low (omega arith) (omega arith)) (same-within n b 28 510 28 58 w.high (omega arith) (omega arith)) (same-within n b 28 510 59 80 w.high (omega arith) (omega arith))
-      (blocks-reads b blocks long fits)
+      (blocks-told b blocks long fits)
       (rw (same-byte n b 0 24 19 w.low (omega arith) (omega arith), kept 14 2 (omega arith)) refl)
       (kept 16 2 (omega arith))
 
@@ -147,6 +172,13 @@ module _ (b : List ℕ) (blocks : ℕ) (long : length b ≡ 512) where
       let n : List ℕ = with_blocks b blocks in
       let w = blocks-around b blocks long in
       runs-again n b (w.long ∙ sym long) (same-within n b 0 24 0 14 w.low (omega arith) (omega arith)) (same-within n b 28 510 58 510 w.high (omega arith) (omega arith))
+
+  pub blocks-reads : (h : Hdr) → blocks < 2 ^ 32 → header_read b ≡ Ok (Used h) → EndsWithin (record h { blocks = blocks })
+      → header_read (with_blocks b blocks) ≡ Ok (Used (record h { blocks = blocks }))
+  blocks-reads h fits read within =
+      let s = reads-sound b h read in
+      reads-again (with_blocks b blocks) b h (record h { blocks = blocks }) blocks-tests (blocks-runs s.offsets s.map).1 read
+      (blocks-fields fits ∙ ap (λ (g : Hdr). record g { blocks = blocks }) s.fields) within (ends-told b h s).1
 
 -- ---- the next header
 
@@ -173,10 +205,10 @@ link-around b num seq long =
       high = same-same n m b 20 510 (same-within n m 0 510 20 510 summing (omega arith) (omega arith)) (same-laid_above 14 (id_rows 14 num seq) b 20 510 refl long (omega arith));
     }
 
-pub link-reads : (b : List ℕ) (num seq : ℕ) → length b ≡ 512 → num < 2 ^ 24 → seq < 2 ^ 16
+pub link-told : (b : List ℕ) (num seq : ℕ) → length b ≡ 512 → num < 2 ^ 24 → seq < 2 ^ 16
     → (link_of (with_link b num seq) ≡ num) × (link_seq_of (with_link b num seq) ≡ seq)
 unfolding with_link
-link-reads b num seq long fits seq-fits =
+link-told b num seq long fits seq-fits =
     let table : Table = id_rows 14 num seq in
     let m : List ℕ = laid table b in
     let n : List ℕ = summed m in
@@ -193,7 +225,7 @@ module _ (b : List ℕ) (num seq : ℕ) (long : length b ≡ 512) where
   link-fields fits seq-fits =
       let n : List ℕ = with_link b num seq in
       let w = link-around b num seq long in
-      let read = link-reads b num seq long fits seq-fits in
+      let read = link-told b num seq long fits seq-fits in
       let kept : (p v : ℕ) → 20 ≤ p → p + v ≤ 510 → field n p v ≡ field b p v = λ p v h l. same-field n b 20 510 p v w.high (omega arith) (omega arith) in
       fields-again n b (blocks_of b) num seq
       w.low (same-within n b 20 510 28 58 w.high (omega arith) (omega arith)) (same-within n b 20 510 59 80 w.high (omega arith) (omega arith))
@@ -211,3 +243,11 @@ module _ (b : List ℕ) (num seq : ℕ) (long : length b ≡ 512) where
       let n : List ℕ = with_link b num seq in
       let w = link-around b num seq long in
       runs-again n b (w.long ∙ sym long) w.low (same-within n b 20 510 58 510 w.high (omega arith) (omega arith))
+
+  pub link-reads : (h : Hdr) → num < 2 ^ 24 → seq < 2 ^ 16 → header_read b ≡ Ok (Used h)
+      → header_read (with_link b num seq) ≡ Ok (Used (record h { ext = num; ext_seq = seq }))
+  link-reads h fits seq-fits read =
+      let s = reads-sound b h read in
+      let ends = ends-told b h s in
+      reads-again (with_link b num seq) b h (record h { ext = num; ext_seq = seq }) link-tests (link-runs s.offsets s.map).1 read
+      (link-fields fits seq-fits ∙ ap (λ (g : Hdr). record g { ext = num; ext_seq = seq }) s.fields) ends.0 ends.1

@@ -10,11 +10,11 @@ use Rattle.fx_header.specs.declared.run.Run.{Run}
 use Rattle.fx_header.specs.declared.slot.Hdr.{Hdr}
 use Rattle.fx_header.specs.declared.slot.Slot.TheVariants.{Used}
 use Rattle.fx_header.specs.Pointers.{AreRuns, merged, map_words, blocks_in, runs_of}
-use Rattle.fx_header.specs.Headers.{map_offset, access_offset, map_area, map_in_use, map_bytes, runs_in, blocks_of, is_free, has_level, has_offsets, is_on_this_volume, is_alone, has_map, high_first_rows, header_read, with_words, with_runs, with_map}
+use Rattle.fx_header.specs.Headers.{map_offset, access_offset, map_area, map_in_use, map_bytes, runs_in, blocks_of, is_free, has_level, has_offsets, is_on_this_volume, has_segment, has_map, high_first_rows, header_read, EndsWithin, HasRoom, with_words, with_runs, with_map}
 use Rattle.base_words.specs.Fields.{has_sum}
-use Rattle.fx_header.proofs.SpellLemmas.{runs_of-words, rest_of-words, even-words, blocks_in-merged}
-use Rattle.fx_header.proofs.SoundLemmas.{Sound, Same, areas-of, same-front, same-field, same-byte, same-within, same-range, same-put_below, same-field_below, same-field_above, same-summed, same-same, sum-true, blocks-true, ends-of, ends-true, sound-reads, reads-sound}
-use Rattle.fx_header.proofs.SetterLemmas.{Tells, tells-of, tells-fields, high-length, high-reads, high-below, high-above}
+use Rattle.fx_header.proofs.SpellLemmas.{runs_of-words, rest_of-words, even-words, few-blocks}
+use Rattle.fx_header.proofs.SoundLemmas.{Sound, Same, areas-of, same-front, same-field, same-byte, same-within, same-range, same-put_below, same-field_below, same-field_above, same-summed, same-same, sum-true, sound-reads, reads-sound}
+use Rattle.fx_header.proofs.SetterLemmas.{Tells, ByteWithin, tells-of, tells-fields, ends-told, told-ends, high-length, high-reads, high-below, high-above}
 
 -- a byte is a field of one byte
 pub field-byte : (b : List ℕ) (o : ℕ) → field b o 1 ≡ get_or b o 0
@@ -142,11 +142,11 @@ pub record Fielded (b : List ℕ) (h : Hdr) : Type 0 where
   pub level : has_level b ≡ true
   pub offsets : has_offsets b ≡ true
   pub volume : is_on_this_volume b ≡ true
-  pub alone : is_alone b ≡ true
+  pub segment : has_segment b ≡ true
   pub tells : Tells b h
 
 pub sound-fielded : (b : List ℕ) (h : Hdr) → Sound b h → Fielded b h
-sound-fielded b h s = record { used = s.used; level = s.level; offsets = s.offsets; volume = s.volume; alone = s.alone; tells = tells-of b h s.fields }
+sound-fielded b h s = record { used = s.used; level = s.level; offsets = s.offsets; volume = s.volume; segment = s.segment; tells = tells-of b h s.fields }
 
 -- the pointers that were written fit their words
 pub map-true : (n b : List ℕ) (runs : List Run) → has_offsets b ≡ true → AreRuns runs → length (map_words runs) ≤ 2 * map_area b → Same n b 0 24
@@ -158,11 +158,17 @@ map-true n b runs off are room front words used =
     let behind : access_offset n ≡ access_offset b = same-byte n b 0 24 2 front (omega arith) (omega arith) in
     rw (words, none, used, behind, start, le-leb (length (map_words runs) / 2) (map_area b) (omega arith)) refl
 
+-- runs that have room have fewer blocks than a number of four bytes
+pub room-blocks : (b : List ℕ) (runs : List Run) → has_offsets b ≡ true → HasRoom b runs → blocks_in runs < 2 ^ 32
+room-blocks b runs off room =
+    let areas = areas-of b off in
+    omega (arith, few-blocks runs room.0, room.1, areas.inside, areas.reserved)
+
 -- is sound with runs
 pub runs-sound : (b : List ℕ) (h : Hdr) (runs : List Run) → length b ≡ 512 → Fielded b h → AreRuns runs → length (map_words runs) ≤ 2 * map_area b
-    → blocks_in runs < 2 ^ 32 → h.end ≤ blocks_in runs + 1 → h.byte ≤ 511 → h.mark ≤ blocks_in runs + 1
+    → blocks_in runs < 2 ^ 32 → EndsWithin (record h { blocks = blocks_in runs }) → ByteWithin h
     → Sound (with_runs b runs) (record h { blocks = blocks_in runs })
-runs-sound b h runs long f are room fits end byte mark =
+runs-sound b h runs long f are room fits within byte =
     let n : List ℕ = with_runs b runs in
     let w = runs-written b runs long f.offsets are room fits in
     let same = same-front n b w.front in
@@ -185,21 +191,15 @@ runs-sound b h runs long f are room fits end byte mark =
       ext = rw (same-byte n b 0 24 19 w.front (omega arith) (omega arith), front 14 2 (omega arith)) t.ext;
       ext_seq = front 16 2 (omega arith) ∙ t.ext_seq;
     } in
-    let read : blocks_in (runs_in n) ≡ blocks_in runs = ap blocks_in (runs-read n b runs are w) ∙ blocks_in-merged runs in
     record {
       used = same.used ∙ f.used;
       sum = w.sum;
       level = same.level ∙ f.level;
       offsets = same.offsets ∙ f.offsets;
       volume = same.volume ∙ f.volume;
-      alone = same.alone ∙ f.alone;
+      segment = same.segment ∙ f.segment;
       map = map-true n b runs f.offsets are room w.front w.words w.used;
-      size = blocks-true n (read ∙ sym w.blocks);
-      ends = ends-true n (record {
-        end = omega (arith, told.end, w.blocks);
-        byte = omega (arith, told.byte);
-        mark = omega (arith, told.mark, w.blocks);
-      });
+      ends = told-ends n (record h { blocks = blocks_in runs }) told within byte;
       fields = tells-fields n (record h { blocks = blocks_in runs }) told;
     }
 
@@ -208,5 +208,4 @@ pub runs-reads : (b : List ℕ) (h : Hdr) (runs : List Run) → length b ≡ 512
     → header_read (with_runs b runs) ≡ Ok (Used (record h { blocks = blocks_in runs }))
 runs-reads b h runs long are room fits read end mark =
     let s = reads-sound b h read in
-    let byte : h.byte ≤ 511 = omega (arith, (ends-of b s.ends).byte, (tells-of b h s.fields).byte) in
-    sound-reads (with_runs b runs) (record h { blocks = blocks_in runs }) (runs-sound b h runs long (sound-fielded b h s) are room fits end byte mark)
+    sound-reads (with_runs b runs) (record h { blocks = blocks_in runs }) (runs-sound b h runs long (sound-fielded b h s) are room fits (λ first. (end, mark)) (ends-told b h s).1)

@@ -8,10 +8,9 @@ use Rattle.base_words.specs.Tables.{laid}
 use Rattle.base_words.proofs.Puts.{length-put_field, length-summed, field-put_same, field-put_below, field-lt}
 use Rattle.fx_header.specs.declared.slot.Hdr.{Hdr}
 use Rattle.fx_header.specs.declared.slot.Slot.TheVariants.{Used}
-use Rattle.fx_header.specs.Pointers.{blocks_in, runs_of}
-use Rattle.fx_header.specs.Headers.{number_of, high_first, has_flag, runs_in, blocks_of, end_of, byte_of, mark_of, segment_of, link_of, link_seq_of, fields_of, high_first_rows, header_read, with_flags, marked, scattered, with_mark, with_end}
+use Rattle.fx_header.specs.Headers.{number_of, high_first, has_flag, blocks_of, end_of, byte_of, mark_of, segment_of, link_of, link_seq_of, has_end, fields_of, high_first_rows, header_read, EndsWithin, with_flags, marked, scattered, with_mark, with_end}
 use Rattle.base_words.specs.Fields.{has_sum}
-use Rattle.fx_header.proofs.SoundLemmas.{Sound, Same, same-front, same-field, same-byte, same-within, same-field_below, same-field_above, same-summed, same-same, sum-true, same-map, sound-reads, reads-sound, blocks-of, blocks-true, ends-of, ends-true}
+use Rattle.fx_header.proofs.SoundLemmas.{Sound, Ends, Same, same-front, same-field, same-byte, same-within, same-field_below, same-field_above, same-summed, same-same, sum-true, same-map, sound-reads, reads-sound, ends-of, ends-true}
 
 -- the fields of a header, one by one
 pub record Tells (b : List ℕ) (h : Hdr) : Type 0 where
@@ -49,32 +48,45 @@ pub tells-fields : (b : List ℕ) (h : Hdr) → Tells b h → fields_of b ≡ h
 unfolding fields_of
 tells-fields b h t = rw (t.num, t.seq, t.owner, t.dir, t.marked, t.blocks, t.mark, t.end, t.byte, t.seg, t.ext, t.ext_seq) refl
 
+-- the first free byte of a first header lies in its block
+abbrev pub ByteWithin : Hdr → Type 0
+ByteWithin h = h.seg ≡ 0 → h.byte ≤ 511
+
+-- what a sound header says of its ends, and that these fields pass the test
+pub ends-told : (b : List ℕ) (h : Hdr) → Sound b h → EndsWithin h × ByteWithin h
+ends-told b h s =
+    let t = tells-of b h s.fields in
+    let ends : (first : h.seg ≡ 0) → Ends b = λ first. ends-of b (t.seg ∙ first) s.ends in (
+      λ first. (omega (arith, (ends first).end, t.end, t.blocks), omega (arith, (ends first).mark, t.mark, t.blocks)),
+      λ first. omega (arith, (ends first).byte, t.byte),
+    )
+
+pub told-ends : (b : List ℕ) (h : Hdr) → Tells b h → EndsWithin h → ByteWithin h → has_end b ≡ true
+told-ends b h t within byte =
+    ends-true b (λ first.
+    let seg : h.seg ≡ 0 = sym t.seg ∙ first in
+    record {
+      end = omega (arith, (within seg).0, t.end, t.blocks);
+      byte = omega (arith, byte seg, t.byte);
+      mark = omega (arith, (within seg).1, t.mark, t.blocks);
+    })
+
 -- a header of which a field between the front and the map area was written, and no byte of its map
 still-sound : (n b : List ℕ) (h g : Hdr) → length n ≡ 512 → length b ≡ 512 → Sound b h → Same n b 0 28 → Same n b 58 59 → Same n b 80 510
-    → has_sum n ≡ true → Tells n g → g.end ≤ h.blocks + 1 → g.byte ≤ 511 → g.mark ≤ h.blocks + 1 → Sound n g
-still-sound n b h g long-n long-b s low words area sum tells end byte mark =
+    → has_sum n ≡ true → Tells n g → EndsWithin g → ByteWithin g → Sound n g
+still-sound n b h g long-n long-b s low words area sum tells within byte =
     let front : Same n b 0 24 = same-within n b 0 28 0 24 low (omega arith) (omega arith) in
     let f = same-front n b front in
     let m = same-map n b (long-n ∙ sym long-b) s.offsets s.map front words area in
-    let t = tells-of b h s.fields in
-    let upper : field n 24 2 ≡ field b 24 2 = same-field n b 0 28 24 2 low (omega arith) (omega arith) in
-    let lower : field n 26 2 ≡ field b 26 2 = same-field n b 0 28 26 2 low (omega arith) (omega arith) in
-    let blocks : blocks_of n ≡ blocks_of b = rw (upper, lower) refl in
-    let runs : blocks_in (runs_in n) ≡ blocks_in (runs_in b) = ap (λ bytes. blocks_in (runs_of bytes)) m.0 in
     record {
       used = f.used ∙ s.used;
       sum = sum;
       level = f.level ∙ s.level;
       offsets = f.offsets ∙ s.offsets;
       volume = f.volume ∙ s.volume;
-      alone = f.alone ∙ s.alone;
+      segment = f.segment ∙ s.segment;
       map = m.1;
-      size = blocks-true n (runs ∙ blocks-of b s.size ∙ sym blocks);
-      ends = ends-true n (record {
-        end = omega (arith, tells.end, blocks, t.blocks);
-        byte = omega (arith, tells.byte);
-        mark = omega (arith, tells.mark, blocks, t.blocks);
-      });
+      ends = told-ends n g tells within byte;
       fields = tells-fields n g tells;
     }
 
@@ -87,7 +99,7 @@ mark-sound b h mark long fits limit s =
     let low : Same n b 0 76 = same-same n m b 0 76 (same-summed m 0 76 len (omega arith)) (same-field_below b 76 4 mark 0 76 (omega arith) (omega arith)) in
     let area : Same n b 80 510 = same-same n m b 80 510 (same-summed m 80 510 len (omega arith)) (same-field_above b 76 4 mark 80 510 (omega arith) (omega arith)) in
     let t = tells-of b h s.fields in
-    let e = ends-of b s.ends in
+    let e = ends-told b h s in
     let kept : (p w : ℕ) → p + w ≤ 76 → field n p w ≡ field b p w = λ p w h. same-field n b 0 76 p w low (omega arith) (omega arith) in
     let number : number_of n ≡ number_of b = rw (same-byte n b 0 76 13 low (omega arith) (omega arith), kept 8 2 (omega arith)) refl in
     let flags : field n 52 4 ≡ field b 52 4 = kept 52 4 (omega arith) in
@@ -108,7 +120,7 @@ mark-sound b h mark long fits limit s =
       ext = rw (same-byte n b 0 76 19 low (omega arith) (omega arith), kept 14 2 (omega arith)) t.ext;
       ext_seq = kept 16 2 (omega arith) ∙ t.ext_seq;
     })
-    (omega (arith, e.end, t.end, t.blocks)) (omega (arith, e.byte, t.byte)) limit
+    (λ first. ((e.0 first).0, limit)) e.1
 
 -- a header with other characteristics
 flags-sound : (b : List ℕ) (h : Hdr) (flags : ℕ) (dir mark : Bool) → length b ≡ 512 → flags < 256 ^ 4
@@ -120,7 +132,7 @@ flags-sound b h flags dir mark long fits is_dir is_marked s =
     let low : Same n b 0 52 = same-same n m b 0 52 (same-summed m 0 52 len (omega arith)) (same-field_below b 52 4 flags 0 52 (omega arith) (omega arith)) in
     let high : Same n b 56 510 = same-same n m b 56 510 (same-summed m 56 510 len (omega arith)) (same-field_above b 52 4 flags 56 510 (omega arith) (omega arith)) in
     let t = tells-of b h s.fields in
-    let e = ends-of b s.ends in
+    let e = ends-told b h s in
     let below : (p w : ℕ) → p + w ≤ 52 → field n p w ≡ field b p w = λ p w h. same-field n b 0 52 p w low (omega arith) (omega arith) in
     let above : (p w : ℕ) → 56 ≤ p → p + w ≤ 510 → field n p w ≡ field b p w = λ p w h l. same-field n b 56 510 p w high (omega arith) (omega arith) in
     let written : field n 52 4 ≡ flags = same-field n m 0 510 52 4 (same-summed m 0 510 len (omega arith)) (omega arith) (omega arith) ∙ field-put_same b 52 4 flags (omega arith) fits in
@@ -141,7 +153,7 @@ flags-sound b h flags dir mark long fits is_dir is_marked s =
       ext = rw (same-byte n b 0 52 19 low (omega arith) (omega arith), below 14 2 (omega arith)) t.ext;
       ext_seq = below 16 2 (omega arith) ∙ t.ext_seq;
     })
-    (omega (arith, e.end, t.end, t.blocks)) (omega (arith, e.byte, t.byte)) (omega (arith, e.mark, t.mark, t.blocks))
+    e.0 e.1
 
 marked-sound : (b : List ℕ) (h : Hdr) → length b ≡ 512 → IsBytes b → Sound b h → Sound (marked b) (record h { marked = true })
 unfolding marked
@@ -212,7 +224,7 @@ end-sound b h end byte long fits limit small s =
     let middle : Same n one 0 32 =
     same-same n m one 0 32 (same-within n m 0 510 0 32 summing (omega arith) (omega arith)) (same-field_below one 32 2 byte 0 32 (omega arith) (omega arith)) in
     let t = tells-of b h s.fields in
-    let e = ends-of b s.ends in
+    let e = ends-told b h s in
     let below : (p w : ℕ) → p + w ≤ 28 → field n p w ≡ field b p w = λ p w h. same-field n b 0 28 p w low (omega arith) (omega arith) in
     let above : (p w : ℕ) → 34 ≤ p → p + w ≤ 510 → field n p w ≡ field b p w = λ p w h l. same-field n b 34 510 p w high (omega arith) (omega arith) in
     let upper : field n 28 2 ≡ field one 28 2 = same-field n one 0 32 28 2 middle (omega arith) (omega arith) in
@@ -234,7 +246,7 @@ end-sound b h end byte long fits limit small s =
       ext = rw (same-byte n b 0 28 19 low (omega arith) (omega arith), below 14 2 (omega arith)) t.ext;
       ext_seq = below 16 2 (omega arith) ∙ t.ext_seq;
     })
-    limit small (omega (arith, e.mark, t.mark, t.blocks))
+    (λ first. (limit, (e.0 first).1)) (λ first. small)
 
 -- the same of what is read
 pub mark-reads : (b : List ℕ) (h : Hdr) (mark : ℕ) → length b ≡ 512 → mark < 2 ^ 32 → header_read b ≡ Ok (Used h) → mark ≤ h.blocks + 1

@@ -1,6 +1,6 @@
 -- A header that no test faults, and what its tests look at.
 use Rattle.std.proofs.Common.{◌≡◌, ◌∙◌, ◌+◌, ◌-◌, ◌*◌, ◌<◌, ◌≤◌, ℕ, List, length, drop, get_or, slice_range, Bool, true, false, not, Result, Ok, Err, refl, sym, arith, length-take, length-drop}
-use Rattle.std.specs.Prelude.{if◌then◌else◌}
+use Rattle.std.specs.Prelude.{if◌then◌else◌, ◌==◌}
 use Rattle.std.proofs.lemmas.List.{ext_get_or, get_or-take, get_or-drop}
 use Rattle.byteorder.specs.Endian.{little_bytes}
 use Rattle.byteorder.specs.Numbers.{length-bytes_low_first}
@@ -11,8 +11,7 @@ use Rattle.fx_header.specs.declared.slot.Slot.TheVariants.{Free, Used}
 use Rattle.fx_header.specs.declared.slot.Hdr.{Hdr}
 use Rattle.fx_header.specs.declared.slot.HeaderFault.{HeaderFault}
 use Rattle.std.proofs.lemmas.Bool.{and_parts, leb-true, le-leb, eqb-true, eq-eqb}
-use Rattle.fx_header.specs.Pointers.{blocks_in}
-use Rattle.fx_header.specs.Headers.{ident_offset, map_offset, access_offset, reserved_offset, map_area, map_in_use, map_bytes, runs_in, blocks_of, end_of, byte_of, mark_of, is_free, has_level, has_offsets, is_on_this_volume, is_alone, has_map, has_blocks, has_end, fields_of, header_read}
+use Rattle.fx_header.specs.Headers.{ident_offset, map_offset, access_offset, reserved_offset, map_area, map_in_use, map_bytes, blocks_of, end_of, byte_of, mark_of, segment_of, is_free, has_level, has_offsets, is_on_this_volume, has_segment, has_map, has_end, fields_of, header_read}
 use Rattle.base_words.specs.Fields.{has_sum}
 
 -- all tests hold, and these are the fields
@@ -22,15 +21,14 @@ pub record Sound (b : List ℕ) (h : Hdr) : Type 0 where
   pub level : has_level b ≡ true
   pub offsets : has_offsets b ≡ true
   pub volume : is_on_this_volume b ≡ true
-  pub alone : is_alone b ≡ true
+  pub segment : has_segment b ≡ true
   pub map : has_map b ≡ true
-  pub size : has_blocks b ≡ true
   pub ends : has_end b ≡ true
   pub fields : fields_of b ≡ h
 
 pub sound-reads : (b : List ℕ) (h : Hdr) → Sound b h → header_read b ≡ Ok (Used h)
 unfolding header_read
-sound-reads b h s = rw (s.used, s.sum, s.level, s.offsets, s.volume, s.alone, s.map, s.size, s.ends, s.fields) refl
+sound-reads b h s = rw (s.used, s.sum, s.level, s.offsets, s.volume, s.segment, s.map, s.ends, s.fields) refl
 
 -- the slot is in use, and past a test that would have answered a fault
 past-free : (t : Bool) (seq : ℕ) (others : Result Slot HeaderFault) (h : Hdr) → (if t then Ok (Free seq) else others) ≡ Ok (Used h) → (t ≡ false) × (others ≡ Ok (Used h))
@@ -52,19 +50,17 @@ reads-sound b h read =
     let level = past-fault _ _ _ h sum.1 in
     let offsets = past-fault _ _ _ h level.1 in
     let volume = past-fault _ _ _ h offsets.1 in
-    let alone = past-fault _ _ _ h volume.1 in
-    let map = past-fault _ _ _ h alone.1 in
-    let size = past-fault _ _ _ h map.1 in
-    let ends = past-fault _ _ _ h size.1 in
+    let segment = past-fault _ _ _ h volume.1 in
+    let map = past-fault _ _ _ h segment.1 in
+    let ends = past-fault _ _ _ h map.1 in
     record {
       used = used.0;
       sum = sum.0;
       level = level.0;
       offsets = offsets.0;
       volume = volume.0;
-      alone = alone.0;
+      segment = segment.0;
       map = map.0;
-      size = size.0;
       ends = ends.0;
       fields = of-used (fields_of b) h ends.1;
     }
@@ -87,7 +83,7 @@ pub record SameFront (a b : List ℕ) : Type 0 where
   pub level : has_level a ≡ has_level b
   pub offsets : has_offsets a ≡ has_offsets b
   pub volume : is_on_this_volume a ≡ is_on_this_volume b
-  pub alone : is_alone a ≡ is_alone b
+  pub segment : has_segment a ≡ has_segment b
 
 pub same-field : (a b : List ℕ) (lo hi p w : ℕ) → Same a b lo hi → lo ≤ p → p + w ≤ hi → field a p w ≡ field b p w
 unfolding Same
@@ -119,9 +115,9 @@ pub same-volume : (a b : List ℕ) → Same a b 0 14 → is_on_this_volume a ≡
 unfolding is_on_this_volume
 same-volume a b same = rw (same-byte a b 0 14 12 same (omega arith) (omega arith)) refl
 
-same-alone : (a b : List ℕ) → Same a b 0 24 → is_alone a ≡ is_alone b
-unfolding is_alone
-same-alone a b same = rw (same-field a b 0 24 4 2 same (omega arith) (omega arith), same-field a b 0 24 14 6 same (omega arith) (omega arith)) refl
+pub same-segment : (a b : List ℕ) → Same a b 0 14 → has_segment a ≡ has_segment b
+unfolding has_segment
+same-segment a b same = rw (same-field a b 0 14 4 2 same (omega arith) (omega arith)) refl
 
 pub same-front : (a b : List ℕ) → Same a b 0 24 → SameFront a b
 same-front a b same = record {
@@ -129,7 +125,7 @@ same-front a b same = record {
   level = same-level a b (same-within a b 0 24 0 14 same (omega arith) (omega arith));
   offsets = same-offsets a b (same-within a b 0 24 0 14 same (omega arith) (omega arith));
   volume = same-volume a b (same-within a b 0 24 0 14 same (omega arith) (omega arith));
-  alone = same-alone a b same;
+  segment = same-segment a b (same-within a b 0 24 0 14 same (omega arith) (omega arith));
 }
 
 -- the bytes between two places
@@ -198,23 +194,24 @@ pub map-fits : (b : List ℕ) → has_map b ≡ true → map_in_use b ≤ map_ar
 unfolding has_map
 map-fits b t = leb-true (map_in_use b) (map_area b) (and_parts _ _ t).0
 
-pub blocks-of : (b : List ℕ) → has_blocks b ≡ true → blocks_in (runs_in b) ≡ blocks_of b
-unfolding has_blocks
-blocks-of b t = eqb-true (blocks_in (runs_in b)) (blocks_of b) t
-
-pub blocks-true : (b : List ℕ) → blocks_in (runs_in b) ≡ blocks_of b → has_blocks b ≡ true
-unfolding has_blocks
-blocks-true b e = eq-eqb (blocks_in (runs_in b)) (blocks_of b) e
-
 pub record Ends (b : List ℕ) : Type 0 where
   pub end : end_of b ≤ blocks_of b + 1
   pub byte : byte_of b ≤ 511
   pub mark : mark_of b ≤ blocks_of b + 1
 
-pub ends-of : (b : List ℕ) → has_end b ≡ true → Ends b
+-- a test that is asked only where another holds
+then-true : (c t : Bool) → c ≡ true → (if c then t else true) ≡ true → t ≡ true
+then-true true t e holds = holds
+then-true false t e holds = absurd (cc)
+
+when-true : (c t : Bool) → (c ≡ true → t ≡ true) → (if c then t else true) ≡ true
+when-true true t f = f refl
+when-true false t f = refl
+
+pub ends-of : (b : List ℕ) → segment_of b ≡ 0 → has_end b ≡ true → Ends b
 unfolding has_end
-ends-of b t =
-    let mark = and_parts _ _ t in
+ends-of b first t =
+    let mark = and_parts _ _ (then-true (segment_of b == 0) _ (eq-eqb (segment_of b) 0 first) t) in
     let byte = and_parts _ _ mark.0 in
     record {
       end = leb-true (end_of b) (blocks_of b + 1) byte.0;
@@ -222,14 +219,16 @@ ends-of b t =
       mark = leb-true (mark_of b) (blocks_of b + 1) mark.1;
     }
 
-pub ends-true : (b : List ℕ) → Ends b → has_end b ≡ true
+pub ends-true : (b : List ℕ) → (segment_of b ≡ 0 → Ends b) → has_end b ≡ true
 unfolding has_end
-ends-true b e =
+ends-true b ends =
+    when-true (segment_of b == 0) _ (λ first.
+    let e = ends (eqb-true (segment_of b) 0 first) in
     rw (
       le-leb (end_of b) (blocks_of b + 1) e.end,
       le-leb (byte_of b) 511 e.byte,
       le-leb (mark_of b) (blocks_of b + 1) e.mark,
-    ) refl
+    ) refl)
 
 -- a block with its checksum
 pub sum-true : (b : List ℕ) → length b ≡ 512 → has_sum (summed b) ≡ true

@@ -103,6 +103,16 @@ even-runs (r ∷ runs) h =
     let others = even-runs runs (All-tail IsRun r runs h) in
     omega (arith, b.size, others, length-append (pointer_bytes r) rest)
 
+-- a pointer takes two bytes at least, and spells 65,536 blocks at most
+few-runs : (runs : List Run) → AreRuns runs → 2 * blocks_in runs ≤ 65536 * length (flat_map pointer_bytes runs)
+few-runs [] h = omega arith
+few-runs (r ∷ runs) h =
+    let rest : List ℕ = flat_map pointer_bytes runs in
+    let run = All-head IsRun r runs h in
+    let b = begins-pointer r rest run in
+    let others = few-runs runs (All-tail IsRun r runs h) in
+    omega (arith, b.size, others, run.1, length-append (pointer_bytes r) rest, sum_by-cons (λ x. x.count) r runs)
+
 -- merged runs are runs
 AreRuns-joined : (r : Run) (runs : List Run) → IsRun r → AreRuns runs → AreRuns (joined r runs)
 AreRuns-joined r [] h k = All-cons IsRun r [] h k
@@ -162,3 +172,6 @@ blocks_in-joined r (s ∷ runs) =
 pub blocks_in-merged : (runs : List Run) → blocks_in (merged runs) ≡ blocks_in runs
 blocks_in-merged [] = refl
 blocks_in-merged (r ∷ runs) = blocks_in-joined r (merged runs) ∙ ap (λ n. r.count + n) (blocks_in-merged runs) ∙ sym (sum_by-cons (λ x. x.count) r runs)
+
+pub few-blocks : (runs : List Run) → AreRuns runs → 2 * blocks_in runs ≤ 65536 * length (map_words runs)
+few-blocks runs h = let few = few-runs (merged runs) (AreRuns-merged runs h) in omega (arith, few, blocks_in-merged runs)

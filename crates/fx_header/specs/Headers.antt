@@ -1,5 +1,5 @@
 -- File headers: what each field of a header's block says, and the faults that a header can have.
-use Rattle.std.specs.Prelude.{◌≡◌, ◌≤◌, ◌+◌, ◌-◌, ◌*◌, ◌/◌, ◌%◌, ◌^◌, ◌==◌, ◌&&◌, not, nat_le, ℕ, List, [], ◌∷◌, ◌++◌, take, drop, replicate, length, slice_index, slice_range, Bool, false, Result, Ok, Err, if◌then◌else◌, bit_and, bit_or, IsTrue, ⊤}
+use Rattle.std.specs.Prelude.{◌≡◌, ◌≤◌, ◌+◌, ◌-◌, ◌*◌, ◌/◌, ◌%◌, ◌^◌, ◌==◌, ◌&&◌, not, nat_le, ℕ, List, [], ◌∷◌, ◌++◌, take, drop, replicate, length, slice_index, slice_range, Bool, true, false, Result, Ok, Err, if◌then◌else◌, bit_and, bit_or, IsTrue, ⊤}
 use Rattle.bitflags.specs.Sets.{without}
 use Rattle.base_words.specs.Fields.{Block, field, put, put_field, summed, has_sum}
 use Rattle.base_words.specs.Tables.{Table, zeros, laid}
@@ -94,21 +94,20 @@ has_offsets b =
 unfoldable pub is_on_this_volume : Block → Bool
 is_on_this_volume b = slice_index b 12 == 0
 
--- the header is no extension header (SEG_NUM) and has none (EXT_FID)
-unfoldable pub is_alone : Block → Bool
-is_alone b = (field b 4 2 == 0) && (field b 14 6 == 0)
+-- it is one of the 16 headers that a file may have (SEG_NUM)
+unfoldable pub has_segment : Block → Bool
+has_segment b = nat_le (segment_of b) 15
 
 -- the words in use are within the map area, and the last pointer ends at the last of them
 unfoldable pub has_map : Block → Bool
 has_map b = nat_le (map_in_use b) (map_area b) && (length (rest_of (map_bytes b)) == 0)
 
--- the blocks are those of the runs
-unfoldable pub has_blocks : Block → Bool
-has_blocks b = blocks_in (runs_in b) == blocks_of b
-
--- the end of file and the mark are at most one block behind the blocks
+-- In the first header of a file, the end of file and the mark are at most one block behind the blocks, and the first free byte is
+-- at most 511. What another header has in these fields says nothing.
 unfoldable pub has_end : Block → Bool
-has_end b = nat_le (end_of b) (blocks_of b + 1) && nat_le (byte_of b) 511 && nat_le (mark_of b) (blocks_of b + 1)
+has_end b =
+    if segment_of b == 0 then nat_le (end_of b) (blocks_of b + 1) && nat_le (byte_of b) 511 && nat_le (mark_of b) (blocks_of b + 1)
+    else true
 
 -- the fields that a header in use tells
 unfoldable pub fields_of : Block → Hdr
@@ -137,9 +136,8 @@ header_read b =
     else if not (has_level b) then Err BadLevel
     else if not (has_offsets b) then Err BadOffsets
     else if not (is_on_this_volume b) then Err BadRvn
-    else if not (is_alone b) then Err BadExtension
+    else if not (has_segment b) then Err BadExtension
     else if not (has_map b) then Err BadMap
-    else if not (has_blocks b) then Err BadEnd
     else if not (has_end b) then Err BadEnd
     else Ok (Used (fields_of b))
 
@@ -239,34 +237,43 @@ with_link b num seq = summed (laid (id_rows 14 num seq) b)
 
 -- ---- what they leave
 
--- The new block has its checksum, and the tests that look at neither the runs, their blocks nor the other headers of the
--- file answer as before. The map area stays where it is.
+-- The new block has its checksum, and the tests that look at neither the runs nor the end of file answer as before. The
+-- map area keeps its size.
 pub record KeepsTests (old : Block) (new : Block) : Type 0 where
   pub used : is_free new ≡ is_free old
   pub sum : IsTrue (has_sum new)
   pub level : has_level new ≡ has_level old
   pub offsets : has_offsets new ≡ has_offsets old
   pub volume : is_on_this_volume new ≡ is_on_this_volume old
+  pub segment : has_segment new ≡ has_segment old
   pub area : map_area new ≡ map_area old
 
 -- runs that can be read stay
 abbrev pub LeavesRuns : Block → Block → Type 0
 LeavesRuns old new = IsTrue (has_offsets old) → IsTrue (has_map old) → (runs_in new ≡ runs_in old) × IsTrue (has_map new)
 
--- the tests of a header in use that look at neither the runs, their blocks nor the other headers of the file
+-- the tests of a header in use that look at neither the runs nor the end of file
 pub record IsMade (b : Block) : Type 0 where
   pub used : is_free b ≡ false
   pub sum : IsTrue (has_sum b)
   pub level : IsTrue (has_level b)
   pub offsets : IsTrue (has_offsets b)
   pub volume : IsTrue (is_on_this_volume b)
+  pub segment : IsTrue (has_segment b)
 
--- the header is the only one of its file
-abbrev pub IsLone : Hdr → Type 0
-IsLone h = (h.seg ≡ 0) × (h.ext ≡ 0) × (h.ext_seq ≡ 0)
+-- the end of file and the mark of a first header are at most one block behind its blocks
+abbrev pub EndsWithin : Hdr → Type 0
+EndsWithin h = h.seg ≡ 0 → (h.end ≤ h.blocks + 1) × (h.mark ≤ h.blocks + 1)
 
--- a new header reads back, with any runs of as many blocks that have room in its map area, and so do they
-abbrev pub ReadsBack : Block → Hdr → Type 0
-ReadsBack b h =
-    (runs : List Run) → AreRuns runs → length (map_words runs) ≤ 2 * map_area b → blocks_in runs ≡ h.blocks
-    → (header_read (with_runs b runs) ≡ Ok (Used h)) × (runs_in (with_runs b runs) ≡ merged runs)
+-- Runs that have room in a header's map area.
+abbrev pub HasRoom : Block → List Run → Type 0
+HasRoom b runs = AreRuns runs × (length (map_words runs) ≤ 2 * map_area b)
+
+-- A new header reads as the fields that it was made of: as it is, which is without runs; with any runs that have room, which
+-- leave its blocks; and with runs and their blocks, if its end lies within these.
+pub record ReadsBack (b : Block) (h : Hdr) : Type 0 where
+  pub empty : (header_read b ≡ Ok (Used h)) × (runs_in b ≡ [])
+  pub map : (runs : List Run) → HasRoom b runs → (header_read (with_map b runs) ≡ Ok (Used h)) × (runs_in (with_map b runs) ≡ merged runs)
+  pub runs :
+      (runs : List Run) → HasRoom b runs → EndsWithin (record h { blocks = blocks_in runs })
+      → (header_read (with_runs b runs) ≡ Ok (Used (record h { blocks = blocks_in runs }))) × (runs_in (with_runs b runs) ≡ merged runs)

@@ -13,8 +13,10 @@
 //! only if the pointers do not fit, and then changes nothing; otherwise the runs read back, adjacent ones merged. No call takes
 //! memory.
 //!
-//! A file may have several headers, each of which names the next one. `set_map`, `set_blocks` and `set_link` write the runs
-//! of one header, the blocks of the file and the next header, each alone; the other fields and tests stay (`fields`, `tests`).
+//! A file may have up to 16 headers, each of which names the next one. The reader takes each of them by itself: it follows no
+//! link, and does not compare the blocks of the file, which the first header says, with the runs. `set_map`, `set_blocks` and
+//! `set_link` write the runs of one header, the blocks of the file and the next header, each alone; the other fields and tests
+//! stay (`fields`, `tests`).
 //!
 //! `vol_parts`, the writes of commands (`op_steps`, `op_create`) and mending use it.
 #![tactic(auto)]

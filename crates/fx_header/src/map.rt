@@ -138,6 +138,7 @@ pub fn set_map(b: &mut Block, runs: &[Run]) -> bool
     ensures map { IsTrue result → IsTrue (has_map b.new) }
     ensures fields { IsTrue result → fields_of b.new ≡ fields_of b.old }
     ensures tests { IsTrue result → KeepsTests b.old b.new }
+    ensures reads { IsTrue result → (h : Hdr) → header_read b.old ≡ Ok (Used h) → header_read b.new ≡ Ok (Used h) }
 {
     if !put_map(b, runs) {
         return false;

@@ -1,15 +1,13 @@
 ghost use Rattle.std.specs.Prelude.{◌≡◌, ◌+◌, ◌≤◌, ◌<◌, IsTrue, IfOk};
 ghost use Rattle.base_words.specs.Fields.{field};
-ghost use Rattle.fx_header.specs.Pointers.{blocks_in};
-ghost use Rattle.fx_header.specs.Headers.{high_first, number_of, runs_in, is_free, has_level, has_offsets, is_on_this_volume, is_alone, has_map, has_blocks, has_end, link_of, fields_of, header_read, HasRuns};
+ghost use Rattle.fx_header.specs.Headers.{high_first, number_of, is_free, has_level, has_offsets, is_on_this_volume, has_segment, has_map, has_end, link_of, fields_of, header_read, HasRuns};
 ghost use Rattle.base_words.specs.Fields.{has_sum};
 
 use crate::flags::FileFlags;
-use crate::pointers::{ends_whole, map_words, runs};
+use crate::pointers::{ends_whole, map_words};
 use crate::slot::{Hdr, HeaderFault, Slot};
 use base_words::{Block, long_at, sum_of, word_at};
 use bitflags::Flags;
-use byteorder::{ByteOrder, LittleEndian};
 
 /// The number of four bytes at the offset `o` whose high word stands first.
 fn high_first_at(b: &Block, o: usize) -> u32
@@ -74,11 +72,11 @@ fn is_on_this_volume(b: &Block) -> bool
     b[12] == 0
 }
 
-#[tactic(auto, unfolding(crate::specs::Headers::is_alone))]
-fn is_alone(b: &Block) -> bool
-    ensures { result ≡ is_alone b.now }
+#[tactic(auto, unfolding(crate::specs::Headers::has_segment))]
+fn has_segment(b: &Block) -> bool
+    ensures { result ≡ has_segment b.now }
 {
-    word_at(b, 4) == 0 && LittleEndian::read_u48(&b[14..]) == 0
+    word_at(b, 4) <= 15
 }
 
 #[tactic(auto, unfolding(crate::specs::Headers::has_offsets, crate::specs::Headers::has_map))]
@@ -89,32 +87,13 @@ fn has_map(b: &Block) -> bool
     b[58] <= b[2] - b[1] && ends_whole(map_words(b))
 }
 
-/// The blocks of all runs.
-fn blocks_in_runs(b: &Block) -> u64
-    requires offsets { IsTrue (has_offsets b.now) }
-    requires map { IsTrue (has_map b.now) }
-    ensures { result ≡ blocks_in (runs_in b.now) }
-{
-    let mut blocks = 0;
-    for run in runs(b) {
-        blocks += u64::from(run.count);
-    }
-    blocks
-}
-
-#[tactic(auto, unfolding(crate::specs::Headers::has_blocks))]
-fn has_blocks(b: &Block) -> bool
-    requires offsets { IsTrue (has_offsets b.now) }
-    requires map { IsTrue (has_map b.now) }
-    ensures { result ≡ has_blocks b.now }
-{
-    blocks_in_runs(b) == u64::from(high_first_at(b, 24))
-}
-
 #[tactic(auto, unfolding(crate::specs::Headers::has_end))]
 fn has_end(b: &Block) -> bool
     ensures { result ≡ has_end b.now }
 {
+    if word_at(b, 4) != 0 {
+        return true;
+    }
     let blocks = u64::from(high_first_at(b, 24));
     u64::from(high_first_at(b, 28)) <= blocks + 1
         && word_at(b, 32) <= 511
@@ -171,14 +150,11 @@ pub fn read_header(b: &Block) -> Result<Slot, HeaderFault>
     if !is_on_this_volume(b) {
         return Err(HeaderFault::BadRvn);
     }
-    if !is_alone(b) {
+    if !has_segment(b) {
         return Err(HeaderFault::BadExtension);
     }
     if !has_map(b) {
         return Err(HeaderFault::BadMap);
-    }
-    if !has_blocks(b) {
-        return Err(HeaderFault::BadEnd);
     }
     if !has_end(b) {
         return Err(HeaderFault::BadEnd);

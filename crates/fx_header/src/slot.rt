@@ -3,9 +3,9 @@ use thiserror::Error;
 /// What a header slot says.
 #[derive(Debug, Clone, Copy, PartialEq)]
 pub enum Slot {
-    /// No file has this number. The sequence number is that of its last use, 0 where it had none.
+    /// No header is in use here. The sequence number is that of the last use, 0 where there was none.
     Free(u16),
-    /// A file has this number.
+    /// A header is in use here: a file's first one, or another one.
     Used(Hdr),
 }
 
@@ -22,15 +22,16 @@ pub struct Hdr {
     pub dir: bool,
     /// The file is marked for delete.
     pub marked: bool,
-    /// The blocks that are allocated to the file (HIBLK).
+    /// The blocks that are allocated to the file (HIBLK). The first header says this, and where the end and the mark are, for
+    /// the whole file: in another header these fields say nothing.
     pub blocks: u32,
     /// The virtual block from which on blocks count as not written (HIGHWATER), or 0 if no mark is kept.
     pub mark: u32,
-    /// The virtual block that the end of file lies in (EFBLK), at most one more than `blocks`.
+    /// The virtual block that the end of file lies in (EFBLK): in a first header at most one more than `blocks`.
     pub end: u32,
-    /// The first free byte of that block, at most 511.
+    /// The first free byte of that block: in a first header at most 511.
     pub byte: u16,
-    /// Which header of the file this is (SEG_NUM), 0 for the first one.
+    /// Which header of the file this is (SEG_NUM), 0 for the first one and at most 15.
     pub seg: u16,
     /// The file number of the next header of the file (EXT_FID), 0 where there is none.
     pub ext: u32,
@@ -53,13 +54,13 @@ pub enum HeaderFault {
     /// The relative volume number is not 0.
     #[error("the relative volume number is not 0")]
     BadRvn,
-    /// The header belongs to a chain of extension headers.
-    #[error("the header is one of a chain")]
+    /// The header is said to be one behind the 16 that a file may have: SEG_NUM is above 15.
+    #[error("the place in the chain of headers is above 15")]
     BadExtension,
     /// More words are in use than the map area has, or the last pointer does not end at the last of them.
     #[error("the retrieval pointers do not fit their words")]
     BadMap,
-    /// The blocks are not those of the runs, or the end or the mark lies beyond them.
-    #[error("the end of file does not fit the runs")]
+    /// In a first header the end or the mark lies more than one block behind the blocks, or the first free byte is above 511.
+    #[error("the end of file does not fit the blocks")]
     BadEnd,
 }

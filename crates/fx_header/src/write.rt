@@ -3,7 +3,7 @@ ghost use Rattle.base_words.specs.Fields.{put_field};
 ghost use Rattle.base_words.specs.Tables.{laid};
 ghost use Rattle.fx_header.specs.declared.slot.Hdr.{Hdr};
 ghost use Rattle.fx_header.specs.declared.slot.Slot.TheVariants.{Free, Used};
-ghost use Rattle.fx_header.specs.Headers.{filled, high_first_rows, id_rows, area_rows, size_rows, owner_rows, with_name, flags_of, header_bytes, freed, marked, scattered, with_mark, with_end, with_blocks, with_link, has_offsets, map_area, fields_of, header_read, KeepsTests, LeavesRuns, IsMade, IsLone, ReadsBack};
+ghost use Rattle.fx_header.specs.Headers.{filled, high_first_rows, id_rows, area_rows, size_rows, owner_rows, with_name, flags_of, header_bytes, freed, marked, scattered, with_mark, with_end, with_blocks, with_link, has_offsets, map_area, fields_of, header_read, KeepsTests, LeavesRuns, IsMade, EndsWithin, ReadsBack};
 
 use crate::flags::FileFlags;
 use crate::slot::Hdr;
@@ -39,7 +39,7 @@ fn put_id(b: &mut Block, o: usize, num: u32, seq: u16)
     put_byte(b, o + 5, (num >> 16) as u8);
 }
 
-/// Writes which file a header is of, and which header of the file is the next one.
+/// Writes the number and the sequence number of the header's own slot (FID), and those of the next header of the file (EXT_FID).
 fn put_ids(b: &mut Block, h: &Hdr)
     requires number { h.now.num < 2 ^ 24 }
     requires next { h.now.ext < 2 ^ 24 }
@@ -139,8 +139,9 @@ pub fn free_slot(seq: u16) -> Block
 
 /// A new header of a file, whose number is 1 to 16,777,215. The text is the file's name as `NAME.TYP;1`, of which the ident
 /// area holds 86 characters, and `parent` is the number and the sequence number of its directory. Of the headers of the file
-/// it is number `seg`, and `ext` names the next one. The map area has 155 words and is empty: `set_runs` fills it, and only
-/// then is the header sound.
+/// it is number `seg`, and `ext` names the next one. An extension header, whose `seg` is above 0, has an empty text and the
+/// parent 0, 0. The map area has 155 words and is empty: `set_runs` writes the runs of a file's only header, with its blocks,
+/// and `set_map` those of any other header.
 #[tactic(auto, unfolding(crate::specs::Headers::header_bytes))]
 pub fn new_header(h: &Hdr, text: &[u8], parent: (u32, u16)) -> Block
     requires number { (1 ≤ h.now.num) × (h.now.num < 2 ^ 24) }
@@ -156,7 +157,7 @@ pub fn new_header(h: &Hdr, text: &[u8], parent: (u32, u16)) -> Block
     ensures area { map_area result ≡ 155 }
     ensures fields { fields_of result ≡ h.now }
     ensures made { IsMade result }
-    ensures reads { IsLone h.now → ReadsBack result h.now }
+    ensures reads { ReadsBack result h.now }
 {
     let mut b = zeros();
     put_areas(&mut b, h.seg);
@@ -216,13 +217,16 @@ pub fn set_end(b: &mut Block, end: u32, byte: u16)
     set_sum(b);
 }
 
-/// Writes the blocks of the file (HIBLK) alone: the runs stay as they are.
+/// Writes the blocks of the file (HIBLK) alone: the runs stay as they are. A first header is sound afterwards if its end and
+/// its mark lie within, any other in any case.
 #[tactic(auto, unfolding(crate::specs::Headers::with_blocks))]
 pub fn set_blocks(b: &mut Block, blocks: u32)
     ensures written { b.new ≡ with_blocks b.old blocks }
     ensures fields { fields_of b.new ≡ record (fields_of b.old) { blocks = blocks } }
     ensures runs { LeavesRuns b.old b.new }
     ensures tests { KeepsTests b.old b.new }
+    ensures reads { (h : Hdr) → header_read b.old ≡ Ok (Used h) → EndsWithin (record h { blocks = blocks })
+        → header_read b.new ≡ Ok (Used (record h { blocks = blocks })) }
 {
     put_high_first(b, 24, blocks);
     set_sum(b);
@@ -236,6 +240,8 @@ pub fn set_link(b: &mut Block, num: u32, seq: u16)
     ensures fields { fields_of b.new ≡ record (fields_of b.old) { ext = num; ext_seq = seq } }
     ensures runs { LeavesRuns b.old b.new }
     ensures tests { KeepsTests b.old b.new }
+    ensures reads { (h : Hdr) → header_read b.old ≡ Ok (Used h)
+        → header_read b.new ≡ Ok (Used (record h { ext = num; ext_seq = seq })) }
 {
     put_id(b, 14, num, seq);
     set_sum(b);

@@ -7,7 +7,6 @@ use Rattle.std.proofs.lemmas.List.{length-map}
 use Rattle.base_words.specs.Fields.{Block}
 use Rattle.fx_header.specs.declared.slot.Hdr.{Hdr}
 use Rattle.fx_header.specs.declared.slot.Slot.TheVariants as head
-use Rattle.fx_header.specs.Headers.{header_read}
 use Rattle.lock_db.specs.declared.name.LockName.{LockName}
 use Rattle.lock_db.specs.declared.name.LockName.TheVariants.{S, Q, V}
 use Rattle.plain_cat.specs.InForm.{is_eighth}
@@ -28,7 +27,7 @@ use Rattle.vol_spell.proofs.Placing.{length-blocks_at}
 use Rattle.vol_parts.specs.declared.geometry.Geometry.{Geometry}
 use Rattle.vol_parts.specs.declared.geometry.Part.TheVariants.{Storage}
 use Rattle.vol_parts.specs.Catalogues.{file_of}
-use Rattle.vol_spell.specs.Reading.{IsFileNumber, header_block}
+use Rattle.vol_spell.specs.Reading.{IsFileNumber, header_block, head_told}
 use Rattle.vol_spell.specs.Places.{place_of}
 use Rattle.vol_spell.specs.Spelling.{Spells}
 use Rattle.vol_under.specs.Chains.{End, Replied}
@@ -70,7 +69,7 @@ not_false false e = absurd (let f : true ≡ false = e in cc)
 
 module _ (node : ℕ) (seen : Seen) (bs : List Block) (own : Owners) (c : Cat) (s : Spells seen.geometry bs own c) (stock : Things) (given : things seen.clusters seen.number ≡ nothing) (outs : Outs node own nothing stock)
     (chan : ℕ) (is : is_eighth chan ≡ true) (p : Chan) (has : HasOpen c node chan p) (hold : list_all is_held_open c.opens ≡ true)
-    (h : Hdr) (number : IsFileNumber seen.geometry p.file.num) (reads : header_read (header_block seen.geometry bs p.file.num) ≡ Ok (head.Used h)) where
+    (h : Hdr) (number : IsFileNumber seen.geometry p.file.num) (reads : head_told (header_block seen.geometry bs p.file.num) ≡ Ok (head.Used h)) where
   abbrev g : Geometry
   g = seen.geometry
 

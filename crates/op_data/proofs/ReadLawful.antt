@@ -43,7 +43,7 @@ use Rattle.op_law.proofs.Walking.{ObeysBy}
 use Rattle.op_steps.specs.Files.{file_in}
 use Rattle.vol_spell.specs.Files.{IsFileThere}
 use Rattle.op_steps.specs.BlockWrites.{HasBlock}
-use Rattle.vol_spell.specs.Entries.{blocks_of as blocks_in}
+use Rattle.vol_spell.specs.Files.{blocks_told as blocks_in}
 use Rattle.op_steps.proofs.Places.{guard, lies}
 use Rattle.vol_spell.proofs.FilePlaces.{file}
 use Rattle.op_data.specs.Kinds.{IsRead}

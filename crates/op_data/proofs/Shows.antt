@@ -6,14 +6,15 @@ use Rattle.std.proofs.lemmas.Option.{slice_get-map, get_or_from_slice_get}
 use Rattle.base_words.specs.Fields.{Block}
 use Rattle.base_words.specs.Tables.{zeros}
 use Rattle.fx_header.specs.declared.slot.Hdr.{Hdr}
+use Rattle.fx_header.specs.Pointers.{lbns_in}
 use Rattle.plain_cat.specs.declared.cat.Cat.{Cat}
 use Rattle.plain_cat.specs.declared.cat.File.{File}
 use Rattle.plain_rules.specs.Changes.{is_past_mark, block_of}
 use Rattle.vol_spell.specs.Owners.{Owners}
 use Rattle.vol_parts.specs.declared.geometry.Geometry.{Geometry}
-use Rattle.vol_spell.specs.Reading.{header_block}
+use Rattle.vol_spell.specs.Reading.{told_of}
 use Rattle.vol_spell.specs.Spelling.{Spells}
-use Rattle.vol_spell.specs.Entries.{places_in, blocks_of as blocks_in}
+use Rattle.vol_spell.specs.Files.{blocks_told as blocks_in}
 use Rattle.op_law.specs.SeenFiles.{file_place}
 use Rattle.op_steps.specs.Files.{file_in}
 use Rattle.op_steps.specs.BlockWrites.{HasBlock}
@@ -35,7 +36,7 @@ block_shows g bs own x n h f vbn b s has past at =
     let told : f ≡ flat_file g.cluster h (shown_by h.mark (blocks_in g bs n)) =
     file g bs own x n h f s has.there ∙ flat_told g.cluster n h (blocks_in g bs n) (plain g bs own x n h f s has.there) (no_dir g bs own x n h f s has.there has.flat) in
     let here : slice_get (blocks_in g bs n) (vbn - 1) ≡ Some b =
-    slice_get-map (λ l. slice_index_or bs l []) (places_in (header_block g bs n)) (vbn - 1)
+    slice_get-map (λ l. slice_index_or bs l []) (lbns_in (told_of g bs n).runs) (vbn - 1)
     ∙ ap (option_map (λ l. slice_index_or bs l [])) (place g bs own x n h f s has.there vbn has.from has.to)
     ∙ ap (λ (y : Block). Some y) (get_or_from_slice_get bs l b [] at) in
     let marks : not (h.mark == 0) && nat_le h.mark vbn ≡ false = sym (ap (λ (y : File). is_past_mark y vbn) told) ∙ past in

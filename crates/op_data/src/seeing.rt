@@ -1,4 +1,4 @@
-//! The file that a channel has open: its number and its header.
+//! The file that a channel has open: its number and its headers.
 
 ghost use Rattle.std.specs.Prelude.{◌≡◌, option_map};
 ghost use Rattle.base_words.specs.Fields.{Block};
@@ -16,8 +16,8 @@ ghost use Rattle.op_steps.specs.Seeing.{file_seen, IsReadable};
 ghost use Rattle.op_data.specs.Seeing.{behind_open, ShowsFile};
 
 use base_words::Block;
-use op_law::{Looked, Need, Rest, header_seen, is_number, place_in, refused};
-use op_steps::{FileSeen, file_used};
+use op_law::{Looked, Need, Rest, header_seen, is_number, refused};
+use op_steps::{FileSeen, file_lbn, file_used};
 use plain_cat::{Fid, Mode, Refusal};
 use std::alloc::Global;
 use vol_parts::Geometry;
@@ -81,7 +81,7 @@ pub(crate) fn file_place(g: &Geometry, f: &FileSeen<'_>, vbn: u32) -> u32
     requires { IsReadable f.now }
     ensures { result ≡ file_place (file_seen g.now f.now) vbn }
 {
-    place_in(f.head, vbn.saturating_sub(1) as usize).unwrap_or(0)
+    file_lbn(f, vbn.saturating_sub(1) as usize).unwrap_or(0)
 }
 
 /// A look at a file's own block. It takes no memory.

@@ -4,7 +4,6 @@ use Rattle.std.proofs.Common.{◌≡◌, ◌≤◌, ◌∙◌, ℕ, Bool, true, 
 use Rattle.std.specs.Prelude.{◌==◌, nat_le, option_map}
 use Rattle.base_words.specs.Fields.{Block}
 use Rattle.fx_header.specs.declared.slot.Hdr.{Hdr}
-use Rattle.fx_header.specs.Headers.{header_read}
 use Rattle.lock_db.specs.declared.name.LockName.{LockName}
 use Rattle.lock_db.specs.declared.name.LockName.TheVariants.{S, V}
 use Rattle.plain_cat.specs.declared.ids.Fid.{Fid}
@@ -22,7 +21,7 @@ use Rattle.plain_rules.specs.Lookups.{versions, entry_of}
 use Rattle.base_words.specs.Lists.{StandsIn}
 use Rattle.vol_spell.specs.Owners.{Owners}
 use Rattle.vol_parts.specs.declared.geometry.Geometry.{Geometry}
-use Rattle.vol_spell.specs.Reading.{IsFileNumber, header_place, header_block}
+use Rattle.vol_spell.specs.Reading.{IsFileNumber, header_place, header_block, head_told}
 use Rattle.vol_spell.specs.Spelling.{Spells}
 use Rattle.op_law.specs.declared.need.Need.{Need}
 use Rattle.op_law.specs.declared.need.Need.TheVariants as need
@@ -102,8 +101,8 @@ module _ (g : Geometry) (bs : List Block) (own : Owners) (c : Cat) (s : Spells g
           → Follows (cond t (look_all (S dir.num) (places_in b) (λ xs. nx (record { fid = dir; head = b; blocks = xs }))) (refuses refusal.NotDir)) locks blocks space given
           → following (cond t (look_all (S dir.num) (places_in b) (λ xs. np (record { fid = dir; head = b; blocks = xs }))) (refuses refusal.NotDir)) locks blocks space ≡ need.Ready (carry cs) → Goal
       by_dir h live true d fs e =
-          let reads = live_reads dir.seq (header_read b) h live in
-          let few : length (places_in b) ≤ 16 = subst (λ x. length (places_in x) ≤ 16) same (few_places g bs own c s dir.num is h (ap header_read same ∙ reads) d) in
+          let reads = live_reads dir.seq (head_told b) h live in
+          let few : length (places_in b) ≤ 16 = subst (λ x. length (places_in x) ≤ 16) same (few_places g bs own c s dir.num is h (ap head_told same ∙ reads) d) in
           all_blocks (places_in b) (λ xs. nx (record { fid = dir; head = b; blocks = xs })) (λ xs. np (record { fid = dir; head = b; blocks = xs })) locks blocks stands
           (λ xs len. so (record { fid = dir; head = b; blocks = xs }) (omega arith)) fs e
       by_dir h live false d fs e = refusing refusal.NotDir locks blocks e

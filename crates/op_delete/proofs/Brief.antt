@@ -1,11 +1,15 @@
 -- How much a DELETE needs and writes.
-use Rattle.std.proofs.Common.{◌≡◌, ◌≤◌, ◌-◌, ℕ, Bool, true, false, cond, List, [], ◌∷◌, ◌++◌, Option, Some, None, length, map, refl, sym, subst, arith, length-append}
+use Rattle.fx_header.specs.Pointers.{lbns_in}
+use Rattle.fx_header.specs.declared.run.Run.{Run}
+use Rattle.op_law.proofs.SeenRuns.{first_runs}
+use Rattle.op_law.specs.SeenFiles.{file_places}
+use Rattle.std.proofs.Common.{◌≡◌, ◌≤◌, ◌-◌, ◌∙◌, ℕ, Bool, true, false, cond, List, [], ◌∷◌, ◌++◌, Option, Some, None, length, map, refl, sym, subst, arith, length-append}
 use Rattle.std.specs.Prelude.{◌==◌, nat_le, option_map, Ok}
 use Rattle.std.proofs.lemmas.List.{length-map}
 use Rattle.base_words.specs.Fields.{Block}
 use Rattle.fx_header.specs.declared.slot.Hdr.{Hdr}
 use Rattle.fx_header.specs.declared.slot.Slot.TheVariants as head
-use Rattle.fx_header.specs.Headers.{header_read, marked}
+use Rattle.fx_header.specs.Headers.{runs_in, marked}
 use Rattle.lock_db.specs.declared.name.LockName.TheVariants.{S, V}
 use Rattle.plain_cat.specs.declared.ids.Fid.{Fid}
 use Rattle.plain_cat.specs.declared.mode.Mode.TheVariants.{PW}
@@ -19,21 +23,21 @@ use Rattle.plain_rules.specs.Directories.{is_nil}
 use Rattle.vol_spell.specs.Owners.{Owners}
 use Rattle.vol_parts.specs.declared.geometry.Geometry.{Geometry}
 use Rattle.vol_parts.specs.declared.geometry.Part.TheVariants.{Storage}
-use Rattle.vol_spell.specs.Reading.{IsFileNumber, header_place, header_block}
+use Rattle.vol_spell.specs.Reading.{IsFileNumber, header_place, header_block, head_told, runs_told}
 use Rattle.vol_spell.specs.Places.{place_of}
 use Rattle.vol_spell.specs.Spelling.{Spells}
 use Rattle.op_law.specs.declared.seen.Seen.{Seen}
 use Rattle.op_law.specs.Events.{Events, Take, Look, Make, Space, space_of}
 use Rattle.op_law.specs.Needs.{events_of}
 use Rattle.op_law.specs.Rows.{refuses, is_number, look_all, entries_seen}
-use Rattle.vol_spell.specs.Entries.{places_in}
 use Rattle.op_law.specs.Refusing.{SeenFile, seen_file, used_in, if_file, if_entry}
 use Rattle.op_law.specs.Writing.{empty_handed, header_write}
 use Rattle.op_law.specs.Moving.{SeenDir, entries_of, removal_writes}
 use Rattle.op_law.specs.Freeing.{SeenSpace, blocks_for, all_clusters, through_space, freeing_writes}
 use Rattle.op_law.specs.Removing.{under_lock, if_empty, marking_writes, unnaming_writes, delete_plan, entry_removed, delete_in}
 use Rattle.op_law.proofs.Brief.{BriefBy, Briefs}
-use Rattle.op_law.proofs.Heads.{header_is}
+use Rattle.vol_spell.proofs.HeadSlots.{reads_fields}
+use Rattle.op_law.proofs.Heads.{header_is, listed_inside}
 use Rattle.op_law.proofs.Telling.{number_is}
 use Rattle.op_law.proofs.Counting.{few_places, all_brief, quota_brief, number_brief, directory_brief, removal_few, bitmap_few, freeing_few}
 use Rattle.op_steps.proofs.Uses.{used_reads}
@@ -89,18 +93,23 @@ module _ (g : Geometry) (bs : List Block) (own : Owners) (c : Cat) (s : Spells g
       abbrev looking : Block → Events
       looking b = if_file (entry_removed d e) (λ f. if_empty f (next f)) (option_map (seen_file g e.fid.num b) (used_in e.fid.seq b))
 
-      file_brief : (h : Hdr) → header_read hb ≡ Ok (head.Used h) → (locks : ℕ) → 2 ≤ locks → Within (if_empty (seen_file g e.fid.num hb h) (next (seen_file g e.fid.num hb h))) locks 52
+      file_brief : (h : Hdr) → head_told hb ≡ Ok (head.Used h) → (locks : ℕ) → 2 ≤ locks → Within (if_empty (seen_file g e.fid.num hb h) (next (seen_file g e.fid.num hb h))) locks 52
       file_brief h reads locks two = by_dir h.dir refl where
         f : SeenFile
         f = seen_file g e.fid.num hb h
+
+        -- a directory has all runs that its header lists
+        whole : h.dir ≡ true → runs_told hb ≡ runs_in hb
+        whole is = (listed_inside g bs own c s e.fid.num number).dir h (reads_fields hb h reads) is
 
         by_nil : (t : Bool) → Within (cond t (next f) (refuses refusal.DirNotEmpty)) locks 36
         by_nil true = space_brief f locks 36 two (omega arith)
         by_nil false = omega arith
 
-        by_dir : (t : Bool) → h.dir ≡ t → Within (cond t (look_all (S e.fid.num) (places_in hb) (λ bs. cond (is_nil (entries_seen bs)) (next f) (refuses refusal.DirNotEmpty))) (next f)) locks 52
+        by_dir : (t : Bool) → h.dir ≡ t → Within (cond t (look_all (S e.fid.num) (file_places f) (λ bs. cond (is_nil (entries_seen bs)) (next f) (refuses refusal.DirNotEmpty))) (next f)) locks 52
         by_dir true is =
-            all_brief bs space 120 (S e.fid.num) (places_in hb) _ 16 locks 52 (few_places g bs own c s e.fid.num number h reads is) (omega arith) (λ seen len. by_nil (is_nil (entries_seen seen)))
+            all_brief bs space 120 (S e.fid.num) (file_places f) _ 16 locks 52
+            (subst (λ (rs : List Run). length (lbns_in rs) ≤ 16) (sym (first_runs hb h reads ∙ whole is)) (few_places g bs own c s e.fid.num number h reads is)) (omega arith) (λ seen len. by_nil (is_nil (entries_seen seen)))
         by_dir false is = space_brief f locks 52 two (omega arith)
 
       used_brief : (locks : ℕ) → 2 ≤ locks → Within (looking hb) locks 52

@@ -4,10 +4,9 @@ use Rattle.std.specs.Prelude.{nat_le, Ok}
 use Rattle.std.proofs.lemmas.Bool.Decides.{nat_tests}
 use Rattle.std.proofs.lemmas.List.{append-nil}
 use Rattle.base_words.specs.Fields.{Block, IsWholeBlock}
-use Rattle.fx_header.specs.declared.run.Run.{Run}
 use Rattle.fx_header.specs.declared.slot.Hdr.{Hdr}
 use Rattle.fx_header.specs.declared.slot.Slot.TheVariants as head
-use Rattle.fx_header.specs.Headers.{header_read, marked}
+use Rattle.fx_header.specs.Headers.{runs_in, marked}
 use Rattle.fx_header.proofs.SetterLemmas.{marked-reads}
 use Rattle.lock_db.specs.declared.name.LockName.{LockName}
 use Rattle.lock_db.specs.declared.name.LockName.TheVariants.{S}
@@ -26,18 +25,22 @@ use Rattle.plain_rules.specs.Answers.{has_entries}
 use Rattle.base_words.specs.Lists.{Has}
 use Rattle.vol_spell.specs.Owners.{Owners, Things, nothing, Outs}
 use Rattle.vol_parts.specs.declared.geometry.Geometry.{Geometry}
-use Rattle.vol_spell.specs.Reading.{IsFileNumber, header_block, clusters_of}
+use Rattle.vol_spell.specs.Reading.{IsFileNumber, header_block, head_told, clusters_of}
 use Rattle.vol_spell.specs.Spelling.{Spells}
+use Rattle.vol_parts.specs.Chains.{cut}
 use Rattle.vol_under.specs.Chains.{End}
 use Rattle.vol_under.specs.UnderWay.{StandsAt}
 use Rattle.vol_under.proofs.Steps.{stands_first}
 use Rattle.op_law.specs.declared.need.PlanWrite.{PlanWrite}
 use Rattle.op_law.specs.Writing.{empty_handed}
-use Rattle.vol_spell.specs.Files.{clusters_seen, IsFileThere}
+use Rattle.vol_spell.specs.Files.{IsFileThere}
 use Rattle.op_law.specs.Refusing.{SeenFile}
+use Rattle.op_law.specs.SeenFiles.{runs_by, file_clusters}
 use Rattle.op_law.specs.Moving.{SeenDir, removal_writes}
 use Rattle.op_law.specs.Removing.{unnaming_writes}
+use Rattle.vol_spell.proofs.Heads.{first_reads, first_segment, reads_first}
 use Rattle.vol_spell.proofs.HeadSlots.{file_told_at}
+use Rattle.op_law.proofs.SeenRuns.{lone_runs}
 use Rattle.op_law.proofs.Through.{file_told, IsListed}
 use Rattle.op_steps.specs.Chained.{Chain, StepsOf, after_writes, StandsOn}
 use Rattle.op_steps.specs.EntryWrites.{dir_in}
@@ -98,7 +101,7 @@ module _ (node : ℕ) (g : Geometry) (bs : List Block) (own : Owners) (c : Cat) 
 
     -- ---- a file
 
-    module _ (h : Hdr) (number : IsFileNumber g e.fid.num) (reads : header_read (header_block g bs e.fid.num) ≡ Ok (head.Used h)) where
+    module _ (h : Hdr) (number : IsFileNumber g e.fid.num) (reads : head_told (header_block g bs e.fid.num) ≡ Ok (head.Used h)) where
       abbrev pub f : File
       f = file_told bs g e.fid h
 
@@ -131,7 +134,7 @@ module _ (node : ℕ) (g : Geometry) (bs : List Block) (own : Owners) (c : Cat) 
       pub record IsUnlinked (bs' : List Block) : Type 0 where
         pub spelt : Spells g bs' own bare_cat
         pub file : IsFileThere g bare_cat bs' e.fid.num hm fm
-        pub clusters : clusters_seen g (header_block g bs' e.fid.num) ≡ clusters_seen g hb
+        pub clusters : file_clusters g (file_in g bs' e.fid.num hm) ≡ file_clusters g sf
 
       module _ (uses : in_use c e.fid ≡ Some f) (bare : has_entries (Some f) ≡ false) (apart : dir.num ≡ e.fid.num → ⊥) (in_dir : Has locks (S dir.num)) (in_file : Has locks (S e.fid.num)) where
         at_less : file_at lesser e.fid.num ≡ Some f
@@ -141,11 +144,12 @@ module _ (node : ℕ) (g : Geometry) (bs : List Block) (own : Owners) (c : Cat) 
         marked_there = file_there lesser e.fid.num f fm number.from at_less
 
         -- blocks with this header of the file are so
-        unlinked_at : (bs' : List Block) (b : Block) → Spells g bs' own bare_cat → header_block g bs' e.fid.num ≡ b → header_read b ≡ Ok (head.Used hm) → clusters_seen g b ≡ clusters_seen g hb → IsUnlinked bs'
-        unlinked_at bs' b spelt is reads same = record {
+        unlinked_at : (bs' : List Block) (b : Block) → Spells g bs' own bare_cat → header_block g bs' e.fid.num ≡ b → head_told b ≡ Ok (head.Used hm) → runs_in b ≡ runs_in hb → IsUnlinked bs'
+        unlinked_at bs' b spelt is marked_reads same = record {
           spelt = spelt;
-          file = record { number = number; above = above; reads = ap header_read is ∙ reads; file = marked_there };
-          clusters = ap (clusters_seen g) is ∙ same;
+          file = record { number = number; above = above; reads = ap head_told is ∙ marked_reads; file = marked_there };
+          clusters = ap (λ (x : Block). clusters_of g.cluster (runs_by h.blocks x [])) is
+              ∙ ap (clusters_of g.cluster) (lone_runs b hm (first_reads b hm marked_reads) ∙ ap (cut h.blocks) same ∙ sym (lone_runs hb h (first_reads hb h reads)));
         }
 
         abbrev Unlinked : Cat → Type 0
@@ -171,7 +175,7 @@ module _ (node : ℕ) (g : Geometry) (bs : List Block) (own : Owners) (c : Cat) 
           same_cat : bare_cat ≡ lesser
           same_cat = ap (λ (y : File). with_file lesser e.fid.num y) same_file ∙ slot_same lesser e.fid.num f at_less
 
-          marked_reads : header_read hb ≡ Ok (head.Used hm)
+          marked_reads : head_told hb ≡ Ok (head.Used hm)
           marked_reads = reads ∙ ap (λ (t : Bool). Ok (head.Used (record h { marked = t }))) was
 
           marked_chain : StepsOf end k (writes_by true ++ ws) bs own
@@ -223,8 +227,8 @@ module _ (node : ℕ) (g : Geometry) (bs : List Block) (own : Owners) (c : Cat) 
                 removal_steps end k dir d e stage.Marked stage.Unlinked ws with_mark next own (record { spelt = w.spelt; outs = w.outs }) can_then marked_stage (subst Unlinked (sym order) unlinked_stage)
                 (λ on stays. more (unlinked_at _ (marked hb) (subst (λ y. Spells g (after_writes (removal_in (dir_in g next dir)) next) own y) order on.spelt)
                 ((stays e.fid.num number (λ q. apart (sym q))).header ∙ w.file.header)
-                (marked-reads hb h whole.long whole.bytes reads)
-                (ap (λ (rs : List Run). clusters_of g.cluster rs) (marked_runs hb h whole.long reads))))
+                (reads_first (marked hb) hm (marked-reads hb h whole.long whole.bytes (first_reads hb h reads)) (first_segment hb h reads))
+                (marked_runs hb h whole.long (first_reads hb h reads))))
 
             behind_mark : StepsOf end k (removal_in dd ++ ws) next own
             behind_mark = subst Goes same_names goes rest

@@ -1,4 +1,7 @@
 -- DELETE obeys the law.
+use Rattle.fx_header.specs.declared.run.Run.{Run}
+use Rattle.op_law.proofs.SeenRuns.{first_runs}
+use Rattle.op_law.specs.SeenFiles.{file_places}
 use Rattle.std.proofs.Common.{◌≡◌, ◌∙◌, inl, inr, ℕ, Bool, true, false, cond, List, [], ◌∷◌, Option, Some, None, map, length, is_some, refl, sym, ap, subst, arith}
 use Rattle.std.specs.Prelude.{◌==◌, ◌&&◌, not, nat_le, option_map, Ok}
 use Rattle.std.specs.List.{list_all}
@@ -9,7 +12,7 @@ use Rattle.std.proofs.lemmas.Option.{get_or_from_slice_get}
 use Rattle.base_words.specs.Fields.{Block}
 use Rattle.fx_header.specs.declared.slot.Hdr.{Hdr}
 use Rattle.fx_header.specs.declared.slot.Slot.TheVariants as head
-use Rattle.fx_header.specs.Headers.{header_read}
+use Rattle.fx_header.specs.Headers.{runs_in}
 use Rattle.fx_header.specs.Pointers.{lbns_in}
 use Rattle.fx_dir.specs.Directory.{directory}
 use Rattle.lock_db.specs.declared.name.LockName.{LockName}
@@ -36,7 +39,7 @@ use Rattle.vol_parts.specs.declared.geometry.Geometry.{Geometry}
 use Rattle.vol_parts.specs.declared.geometry.Part.{Part}
 use Rattle.vol_parts.specs.declared.geometry.Part.TheVariants.{Storage, IndexBitmap}
 use Rattle.vol_parts.specs.Catalogues.{plain_entries}
-use Rattle.vol_spell.specs.Reading.{IsFileNumber, header_place, header_block, runs_told}
+use Rattle.vol_spell.specs.Reading.{IsFileNumber, header_place, header_block, head_told, runs_told}
 use Rattle.vol_spell.specs.Places.{place_of, IsPart, file_of_part}
 use Rattle.vol_spell.specs.Spelling.{Spells}
 use Rattle.vol_spell.specs.declared.owner.Owner.TheVariants.{InFile}
@@ -61,9 +64,9 @@ use Rattle.op_law.specs.Freeing.{SeenSpace, blocks_for, all_clusters, through_sp
 use Rattle.op_law.specs.Removing.{under_lock, if_empty, delete_plan, entry_removed, delete_in, unnaming_writes}
 use Rattle.op_law.proofs.Walking.{ObeysBy, kept}
 use Rattle.op_law.proofs.Telling.{number_is}
-use Rattle.vol_spell.proofs.HeadSlots.{reads_runs, file_told_at, file_blocks}
+use Rattle.vol_spell.proofs.HeadSlots.{reads_fields, file_told_at, file_blocks}
 use Rattle.op_law.proofs.Looks.{header_under, block_under}
-use Rattle.op_law.proofs.Heads.{header_is}
+use Rattle.op_law.proofs.Heads.{header_is, listed_inside}
 use Rattle.op_law.proofs.Through.{file_told, IsListed, directory_obeys, number_obeys, quota_obeys, all_obeys}
 use Rattle.op_law.proofs.Ordering.{entry_behind}
 use Rattle.op_law.proofs.Ends.{nothing_given}
@@ -152,7 +155,7 @@ module _ (dir : Fid) (name : List ℕ) (ver : ℕ) where
             abbrev sf : SeenFile
             sf = file_in g bs e.fid.num h
 
-            reads : header_read hb ≡ Ok (head.Used h)
+            reads : head_told hb ≡ Ok (head.Used h)
             reads = used_reads e.fid.seq hb h used
 
             uses : in_use c e.fid ≡ Some f
@@ -259,9 +262,13 @@ module _ (dir : Fid) (name : List ℕ) (ver : ℕ) where
             -- ---- a file in use, whichever locks are held
 
             module _ (held : List (LockName × Mode)) (has : Has (held_in PR held) (S e.fid.num)) (go : has_entries (Some f) ≡ false → O next held) where
+              -- a directory has all runs that its header lists
+              dir_listed : h.dir ≡ true → runs_told hb ≡ runs_in hb
+              dir_listed is = (listed_inside g bs own c s e.fid.num number).dir h (reads_fields hb h reads) is
+
               entries_are : h.dir ≡ true → f.entries ≡ entries_seen (blocks_at bs (places_in hb))
               entries_are is =
-                  ap (λ t. cond t (plain_entries (directory (file_blocks bs hb))) []) is ∙ ap (λ rs. entries_seen (blocks_at bs (lbns_in rs))) (reads_runs hb h reads)
+                  ap (λ t. cond t (plain_entries (directory (file_blocks bs hb))) []) is ∙ ap (λ rs. entries_seen (blocks_at bs (lbns_in rs))) (dir_listed is)
 
               by_nil : h.dir ≡ true → (t : Bool) → is_nil (entries_seen (blocks_at bs (places_in hb))) ≡ t → O (cond t next (refuses refusal.DirNotEmpty)) held
               by_nil is true none = go (ap (λ t. t && not (is_nil f.entries)) is ∙ ap (λ ys. not (is_nil ys)) (entries_are is) ∙ ap not none)
@@ -271,14 +278,19 @@ module _ (dir : Fid) (name : List ℕ) (ver : ℕ) where
 
               under_file : h.dir ≡ true → (l : ℕ) → Has (places_in hb) l → IsLockedLook g bs own c held (S e.fid.num) l
               under_file is l t =
-                  let places : lbns_in (runs_told hb) ≡ places_in hb = ap lbns_in (reads_runs hb h reads) in
+                  let places : lbns_in (runs_told hb) ≡ places_in hb = ap lbns_in (dir_listed is) in
                   let u = block_under g bs own c s e.fid.num l h number reads is (subst (λ ls. Has ls l) (sym places) t) in
                   record { kind = u.kind; guard = u.guard; held = has; within = u.within }
 
               empty_obeys : O (if_empty sf next) held
               empty_obeys = by_dir h.dir refl where
-                by_dir : (t : Bool) → h.dir ≡ t → O (cond t (look_all (S e.fid.num) (places_in hb) (λ bs. cond (is_nil (entries_seen bs)) next (refuses refusal.DirNotEmpty))) next) held
-                by_dir true is = all_obeys x g bs own c s seen Done (S e.fid.num) held (places_in hb) _ (under_file is) (by_nil is (is_nil (entries_seen (blocks_at bs (places_in hb)))) refl)
+                behind : List Block → Events
+                behind bs = cond (is_nil (entries_seen bs)) next (refuses refusal.DirNotEmpty)
+
+                by_dir : (t : Bool) → h.dir ≡ t → O (cond t (look_all (S e.fid.num) (file_places sf) behind) next) held
+                by_dir true is =
+                    subst (λ (rs : List Run). O (look_all (S e.fid.num) (lbns_in rs) behind) held) (sym (first_runs hb h reads ∙ dir_listed is))
+                    (all_obeys x g bs own c s seen Done (S e.fid.num) held (places_in hb) behind (under_file is) (by_nil is (is_nil (entries_seen (blocks_at bs (places_in hb)))) refl))
                 by_dir false is = go (ap (λ t. t && not (is_nil f.entries)) is)
 
           abbrev looking : Block → Events

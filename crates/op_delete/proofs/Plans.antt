@@ -1,12 +1,12 @@
 -- The whole plan of a DELETE, and the writes before its ask, as they are done on the blocks of a volume.
-use Rattle.std.proofs.Common.{◌≡◌, ◌≤◌, ◌<◌, ◌+◌, ◌*◌, ◌^◌, ◌∙◌, inl, inr, ℕ, Bool, true, false, cond, List, [], ◌∷◌, ◌++◌, Some, None, map, take, length, refl, sym, ap, subst, arith}
+use Rattle.std.proofs.Common.{◌≡◌, ◌≤◌, ◌<◌, ◌+◌, ◌*◌, ◌^◌, ◌∙◌, inl, inr, ℕ, Bool, true, false, cond, List, [], ◌∷◌, ◌++◌, Some, None, map, length, refl, sym, ap, subst, arith}
 use Rattle.std.specs.Prelude.{nat_le, Ok}
 use Rattle.std.proofs.lemmas.List.{append-nil}
 use Rattle.base_words.specs.Fields.{Block, IsWholeBlock, field}
 use Rattle.base_words.proofs.Puts.{field-lt}
 use Rattle.fx_header.specs.declared.slot.Hdr.{Hdr}
 use Rattle.fx_header.specs.declared.slot.Slot.TheVariants as head
-use Rattle.fx_header.specs.Headers.{header_read, marked, freed as freed_block}
+use Rattle.fx_header.specs.Headers.{marked, freed as freed_block}
 use Rattle.fx_header.proofs.NewLemmas.{freed-reads}
 use Rattle.fx_header.proofs.SoundLemmas.{reads-sound}
 use Rattle.fx_header.proofs.SetterLemmas.{marked-reads, tells-of}
@@ -32,8 +32,9 @@ use Rattle.base_words.specs.Lists.{Has}
 use Rattle.vol_spell.specs.Owners.{Owners, Things, nothing, Outs}
 use Rattle.vol_spell.specs.Spread.{blocks_at}
 use Rattle.vol_parts.specs.declared.geometry.Geometry.{Geometry}
-use Rattle.vol_spell.specs.Reading.{IsFileNumber, header_block, quota_places}
+use Rattle.vol_spell.specs.Reading.{IsFileNumber, header_block, head_told, quota_places}
 use Rattle.vol_spell.specs.Spelling.{Spells}
+use Rattle.vol_parts.specs.Chains.{cut}
 use Rattle.vol_under.specs.Chains.{End, Replied}
 use Rattle.vol_under.specs.UnderWay.{StandsAt, stage_after, outs_after}
 use Rattle.op_law.specs.declared.need.PlanWrite.{PlanWrite}
@@ -46,6 +47,7 @@ use Rattle.op_law.specs.Refusing.{SeenFile}
 use Rattle.op_law.specs.Moving.{SeenDir, removal_writes}
 use Rattle.op_law.specs.Freeing.{SeenSpace, rising, all_clusters}
 use Rattle.op_law.specs.Removing.{unnaming_writes}
+use Rattle.vol_spell.proofs.Heads.{first_reads, first_segment, reads_first}
 use Rattle.vol_spell.proofs.HeadSlots.{reads_fields, reads_runs}
 use Rattle.op_law.proofs.Through.{IsListed}
 use Rattle.op_law.proofs.Naming.{both_named, both_leave, no_header_leaves}
@@ -122,7 +124,7 @@ module _ (node : ℕ) (seen : Seen) (bs : List Block) (own : Owners) (c : Cat) (
 
     -- ---- a file
 
-    module _ (h : Hdr) (number : IsFileNumber g e.fid.num) (reads : header_read (header_block g bs e.fid.num) ≡ Ok (head.Used h)) where
+    module _ (h : Hdr) (number : IsFileNumber g e.fid.num) (reads : head_told (header_block g bs e.fid.num) ≡ Ok (head.Used h)) where
       abbrev n : ℕ
       n = e.fid.num
 
@@ -183,8 +185,8 @@ module _ (node : ℕ) (seen : Seen) (bs : List Block) (own : Owners) (c : Cat) (
       whole : IsWholeBlock hb
       whole = head_whole g bs own c e.fid.num h s number reads
 
-      mark_reads : header_read (marked hb) ≡ Ok (head.Used hm)
-      mark_reads = marked-reads hb h whole.long whole.bytes reads
+      mark_reads : head_told (marked hb) ≡ Ok (head.Used hm)
+      mark_reads = reads_first (marked hb) hm (marked-reads hb h whole.long whole.bytes (first_reads hb h reads)) (first_segment hb h reads)
 
       -- ---- what guards them
 
@@ -218,7 +220,7 @@ module _ (node : ℕ) (seen : Seen) (bs : List Block) (own : Owners) (c : Cat) (
       mark_keeps = by_dir h.dir refl where
         by_dir : (t : Bool) → h.dir ≡ t → KeepsRuns hb (marked hb)
         by_dir false is = NoDir (ap is_dir_told (reads_fields hb h reads) ∙ is)
-        by_dir true is = Same (ap is_dir_told (reads_fields (marked hb) hm mark_reads) ∙ is) (reads_runs (marked hb) hm mark_reads ∙ marked_runs hb h whole.long reads ∙ sym (reads_runs hb h reads))
+        by_dir true is = Same (ap is_dir_told (reads_fields (marked hb) hm mark_reads) ∙ is) (reads_runs (marked hb) hm mark_reads ∙ ap (cut h.blocks) (marked_runs hb h whole.long (first_reads hb h reads)) ∙ sym (reads_runs hb h reads))
 
       mark_leaves : (t : Bool) → LeavesDirs g bs (mark_by t)
       mark_leaves true = λ w t. absurd t
@@ -232,7 +234,7 @@ module _ (node : ℕ) (seen : Seen) (bs : List Block) (own : Owners) (c : Cat) (
 
       seq_low : h.seq < 2 ^ 16
       seq_low =
-          let t = tells-of hb h (reads-sound hb h reads).fields in
+          let t = tells-of hb h (reads-sound hb h (first_reads hb h reads)).fields in
           let lt : field hb 10 2 < 256 ^ 2 = field-lt hb 10 2 whole.bytes in
           omega (arith, t.seq, lt)
 
@@ -390,7 +392,7 @@ module _ (node : ℕ) (seen : Seen) (bs : List Block) (own : Owners) (c : Cat) (
             then_write = freed_write g (file_in g second e.fid.num hm) stage.Freed
 
             same_write : then_write ≡ slot_write
-            same_write = ap (λ (cs : List ℕ). with_numbers (e.fid.num ∷ []) (header_write g e.fid.num (freed_block h.seq) stage.Freed (holding (rising g (take f.clusters cs)) None))) un.clusters
+            same_write = ap (λ (cs : List ℕ). with_numbers (e.fid.num ∷ []) (header_write g e.fid.num (freed_block h.seq) stage.Freed (holding (rising g cs) None))) un.clusters
 
             module _ (new : Owners) (w : IsHeadWritten k e.fid.num then_write.block (planned then_write).outs (freed bare_cat e.fid.num fm) second (after_writes (then_write ∷ []) second) new) where
               spelt : Spells g third new free_cat

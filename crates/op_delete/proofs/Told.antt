@@ -1,4 +1,5 @@
 -- What stands behind a directory tells the file of the entry: its lock, and its header behind which more was seen.
+use Rattle.op_law.specs.SeenFiles.{file_places}
 use Rattle.std.proofs.Common.{◌≡◌, ◌≤◌, ◌-◌, ◌∙◌, ℕ, Bool, true, false, cond, List, [], ◌∷◌, Option, Some, None, length, take, drop, slice_index_or, refl, sym, ap, subst, arith}
 use Rattle.std.specs.Prelude.{◌==◌, nat_le, option_map}
 use Rattle.std.proofs.lemmas.Bool.Decides.{nat_tests}
@@ -22,7 +23,6 @@ use Rattle.op_law.specs.declared.seeing.Rest.{Rest}
 use Rattle.op_law.specs.Events.{Events, Take, Look, Make, Space, HasNoSpace, following, Follows}
 use Rattle.op_law.specs.Behind.{goes_on_by, first_seen, FollowsBy}
 use Rattle.op_law.specs.Rows.{is_number, refuses, look_all, entries_seen, plain_plan}
-use Rattle.vol_spell.specs.Entries.{places_in}
 use Rattle.op_law.specs.Refusing.{SeenFile, seen_file, used_in, if_file, if_entry}
 use Rattle.op_law.specs.Writing.{plan_of}
 use Rattle.op_law.specs.Moving.{SeenDir, removal_writes}
@@ -74,8 +74,8 @@ module _ (g : Geometry) (d : SeenDir) (o : Option DirEnt) (f : SeenFile) (m : �
     by_nil true xs fs = room_first xs fs
     by_nil false xs fs = absurd (let t : length ((S m, mode) ∷ locks) ≡ 0 = ap length fs.0 in omega arith)
 
-    by_dir : (t : Bool) → Follows (cond t (look_all (S f.num) (places_in f.head) (λ bs. cond (is_nil (entries_seen bs)) room (refuses refusal.DirNotEmpty))) room) ((S m, mode) ∷ locks) blocks space given → ⊥
-    by_dir true fs = looks_first (S f.num) (places_in f.head) (λ bs. cond (is_nil (entries_seen bs)) room (refuses refusal.DirNotEmpty)) (S m, mode) locks space given (λ bs. by_nil (is_nil (entries_seen bs))) blocks fs
+    by_dir : (t : Bool) → Follows (cond t (look_all (S f.num) (file_places f) (λ bs. cond (is_nil (entries_seen bs)) room (refuses refusal.DirNotEmpty))) room) ((S m, mode) ∷ locks) blocks space given → ⊥
+    by_dir true fs = looks_first (S f.num) (file_places f) (λ bs. cond (is_nil (entries_seen bs)) room (refuses refusal.DirNotEmpty)) (S m, mode) locks space given (λ bs. by_nil (is_nil (entries_seen bs))) blocks fs
     by_dir false fs = room_first blocks fs
 
 -- ---- behind a directory

@@ -37,7 +37,7 @@ use Rattle.vol_spell.specs.Entries.{places_in}
 use Rattle.op_law.specs.Refusing.{SeenFile, seen_file, used_in, if_file, if_entry}
 use Rattle.op_law.specs.Writing.{empty_handed, header_write}
 use Rattle.op_law.specs.Moving.{SeenDir, entries_of, through_names, removal_writes}
-use Rattle.op_law.specs.SeenFiles.{file_clusters}
+use Rattle.op_law.specs.SeenFiles.{file_clusters, file_places}
 use Rattle.op_law.specs.Freeing.{SeenSpace, blocks_for, all_clusters, through_space, freeing_writes}
 use Rattle.op_law.specs.Removing.{under_lock, if_empty, marking_writes, unnaming_writes, delete_plan, entry_removed, delete_in, delete_events}
 use Rattle.op_law.proofs.Asking.{EveryEnd, IsShapedBy}
@@ -113,8 +113,8 @@ module _ (dir : Fid) (name : List ℕ) (ver : ℕ) where
       by_nil true = space_so d e f held has
       by_nil false = refused refusal.DirNotEmpty held
 
-      by_dir : (t : Bool) → T (cond t (look_all (S f.num) (places_in f.head) (λ bs. cond (is_nil (entries_seen bs)) next (refuses refusal.DirNotEmpty))) next) held
-      by_dir true = all_so (S f.num) (places_in f.head) _ held (λ bs len. by_nil (is_nil (entries_seen bs)))
+      by_dir : (t : Bool) → T (cond t (look_all (S f.num) (file_places f) (λ bs. cond (is_nil (entries_seen bs)) next (refuses refusal.DirNotEmpty))) next) held
+      by_dir true = all_so (S f.num) (file_places f) _ held (λ bs len. by_nil (is_nil (entries_seen bs)))
       by_dir false = space_so d e f held has
 
     used_so : (d : SeenDir) (e : DirEnt) (b : Block) (held : Held) → Has (held_in PW ((held ++ (Q, PW) ∷ []) ++ (V, PW) ∷ [])) (S e.fid.num)

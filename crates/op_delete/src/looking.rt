@@ -9,8 +9,8 @@ ghost use Rattle.op_delete.specs.Looking.{without_entries, behind_empty};
 
 use base_words::Block;
 use lock_db::LockName;
-use op_law::{Listed, Need, NoMemory, Rest, blocks_seen, entries_seen, place_in, refused};
-use op_steps::FileSeen;
+use op_law::{Listed, Need, NoMemory, Rest, blocks_seen, entries_seen, refused};
+use op_steps::{FileSeen, file_lbn};
 use plain_cat::Refusal;
 use std::alloc::Global;
 use vol_parts::Geometry;
@@ -59,7 +59,7 @@ pub(crate) fn empty_seen<'a>(
     if !f.fields.dir {
         return Ok(Empty::Shown(rest));
     }
-    let unseen = place_in(f.head, rest.blocks.len());
+    let unseen = file_lbn(f, rest.blocks.len());
     match blocks_seen(LockName::S(f.num), f.fields.blocks as usize, unseen, rest) {
         Listed::Next(need) => Ok(Empty::Next(need)),
         Listed::All(blocks, behind) => entries_none(alloc, blocks, behind),

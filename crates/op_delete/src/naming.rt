@@ -63,6 +63,7 @@ fn header_passed<'a>(n: u32, rest: Rest<'a>) -> Told<'a>
     let file = FileSeen {
         num: n,
         head,
+        rest: &[],
         fields,
     };
     Told::File(

@@ -10,8 +10,8 @@ use Rattle.fx_header.specs.declared.slot.Hdr.{Hdr}
 use Rattle.fx_header.specs.declared.slot.Slot.TheVariants.{Used}
 use Rattle.fx_header.specs.Headers.{map_area, has_offsets, header_read, with_end, with_mark}
 use Rattle.fx_header.specs.Pointers.{AreRuns, blocks_in, map_words}
-use Rattle.fx_header.proofs.SetterLemmas.{end-reads, mark-reads, tells-of}
-use Rattle.fx_header.proofs.SoundLemmas.{areas-of, ends-of, reads-sound}
+use Rattle.fx_header.proofs.SetterLemmas.{end-reads, mark-reads, ends-told}
+use Rattle.fx_header.proofs.SoundLemmas.{areas-of, reads-sound}
 use Rattle.vol_parts.proofs.WholeHeaders.{whole_end}
 use Rattle.base_words.specs.Lists.{Has}
 use Rattle.base_words.proofs.Listing.{has_first}
@@ -19,9 +19,10 @@ use Rattle.plain_rules.specs.Lookups.{header_most}
 use Rattle.vol_parts.specs.declared.geometry.Geometry.{Geometry}
 use Rattle.vol_parts.specs.Parts.{IsGeometry}
 use Rattle.vol_spell.specs.Reading.{total_of}
+use Rattle.vol_spell.proofs.Heads.{first_reads, first_segment}
 use Rattle.op_law.specs.Sizes.{lowered}
 use Rattle.op_law.specs.Writing.{runs_for}
-use Rattle.vol_spell.specs.Files.{clusters_seen}
+use Rattle.op_law.specs.SeenFiles.{file_clusters}
 use Rattle.op_steps.proofs.FileRuns.{are_runs_for, short_words}
 use Rattle.op_steps.proofs.Clustered.{few_blocks}
 use Rattle.op_steps.specs.declared.seeing.FileSeen.{FileSeen}
@@ -51,21 +52,21 @@ lowered_reads b h end byte mark whole fits few reads end_in byte_in mark_in =
 
 module _ (g : Geometry) (f : FileSeen) (k : ℕ) (geometry : IsGeometry g) (can : CanBeCut g f k) where
   abbrev cs : List ℕ
-  cs = clusters_seen g f.head.now
+  cs = file_clusters g (file_seen g f)
 
   abbrev front : List ℕ
-  front = take k (clusters_seen g f.head.now)
+  front = take k (file_clusters g (file_seen g f))
 
-  front_few : length (take k (clusters_seen g f.head.now)) ≤ header_most
-  front_few = let a = length-take k (clusters_seen g f.head.now) in let c = can.readable.sized.count in let few = can.few in omega arith
+  front_few : length (take k (file_clusters g (file_seen g f))) ≤ header_most
+  front_few = let a = length-take k (file_clusters g (file_seen g f)) in let c = can.readable.sized.count in let few = can.few in omega arith
 
-  within : (q : ℕ) → Has (take k (clusters_seen g f.head.now)) q → q < total_of g
-  within q t = can.readable.sized.there q (subst (λ (ls : List ℕ). Has ls q) (take-append-drop k (clusters_seen g f.head.now)) (has_first (take k (clusters_seen g f.head.now)) (drop k (clusters_seen g f.head.now)) q t))
+  within : (q : ℕ) → Has (take k (file_clusters g (file_seen g f))) q → q < total_of g
+  within q t = can.readable.sized.there q (subst (λ (ls : List ℕ). Has ls q) (take-append-drop k (file_clusters g (file_seen g f))) (has_first (take k (file_clusters g (file_seen g f))) (drop k (file_clusters g (file_seen g f))) q t))
 
-  pub front_runs : AreRuns (runs_for g (take k (clusters_seen g f.head.now)))
+  pub front_runs : AreRuns (runs_for g (take k (file_clusters g (file_seen g f))))
   front_runs = are_runs_for g geometry.cluster_from front within geometry.blocks_to
 
-  pub front_blocks : blocks_in (runs_for g (take k (clusters_seen g f.head.now))) ≤ 65536
+  pub front_blocks : blocks_in (runs_for g (take k (file_clusters g (file_seen g f)))) ≤ 65536
   front_blocks = few_blocks g front geometry front_few
 
   byte_low : (t : Bool) → f.fields.byte ≤ 511 → cond t 0 f.fields.byte ≤ 511
@@ -77,21 +78,21 @@ module _ (g : Geometry) (f : FileSeen) (k : ℕ) (geometry : IsGeometry g) (can 
   front_offsets whole =
       let h : Hdr = f.fields in
       let b : Block = f.head.now in
-      let sound = reads-sound b h can.readable.reads in
-      let e = ends-of b sound.ends in
-      let t = tells-of b h sound.fields in
-      let end_in : h.end ≤ h.blocks + 1 = omega (arith, e.end, t.end, t.blocks) in
-      let mark_in : h.mark ≤ h.blocks + 1 = omega (arith, e.mark, t.mark, t.blocks) in
-      let byte_in : h.byte ≤ 511 = omega (arith, e.byte, t.byte) in
+      let reads = first_reads b h can.readable.reads in
+      let first : h.seg ≡ 0 = first_segment b h can.readable.reads in
+      let ends = ends-told b h (reads-sound b h reads) in
+      let end_in : h.end ≤ h.blocks + 1 = (ends.0 first).0 in
+      let mark_in : h.mark ≤ h.blocks + 1 = (ends.0 first).1 in
+      let byte_in : h.byte ≤ 511 = ends.1 first in
       let more = can.more in
       let few = can.few in
       let up : g.cluster * k ≤ 16 * k = mul-le-mul_right k geometry.cluster_to in
       let limit : g.cluster * k + 1 < 2 ^ 32 = omega arith in
       lowered_reads b h (min h.end (g.cluster * k + 1)) (cond (nat_lt (g.cluster * k + 1) h.end) 0 h.byte) (min h.mark (g.cluster * k + 1)) whole
-      (omega arith) (omega arith) can.readable.reads (omega arith) (byte_low (nat_lt (g.cluster * k + 1) h.end) byte_in) (omega arith)
+      (omega arith) (omega arith) reads (omega arith) (byte_low (nat_lt (g.cluster * k + 1) h.end) byte_in) (omega arith)
 
   -- and has room for the pointers
-  pub front_fits : (b : Block) → has_offsets b ≡ true → nat_le (length (map_words (runs_for g (take k (clusters_seen g f.head.now))))) (2 * map_area b) ≡ true
+  pub front_fits : (b : Block) → has_offsets b ≡ true → nat_le (length (map_words (runs_for g (take k (file_clusters g (file_seen g f)))))) (2 * map_area b) ≡ true
   front_fits b offsets =
       let e = short_words g geometry.cluster_from front within geometry.cluster_to geometry.blocks_to in
       let n = front_few in

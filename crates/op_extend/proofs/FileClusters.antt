@@ -1,5 +1,5 @@
 -- The clusters of a file that a command has seen, and the runs that they are.
-use Rattle.std.proofs.Common.{◌≡◌, ◌∙◌, ◌<◌, ◌≤◌, ◌+◌, ◌*◌, ◌/◌, ◌++◌, ℕ, true, List, [], ◌∷◌, None, length, take, take_all, inl, inr, refl, sym, ap, arith, append_assoc, length-append}
+use Rattle.std.proofs.Common.{◌≡◌, ◌∙◌, ◌<◌, ◌≤◌, ◌+◌, ◌*◌, ◌/◌, ◌++◌, ℕ, true, List, [], ◌∷◌, None, length, inl, inr, refl, sym, ap, arith, append_assoc, length-append}
 use Rattle.std.specs.Prelude.{nat_le}
 use Rattle.std.specs.List.{range_with_len}
 use Rattle.std.proofs.Math.Nat.{mul-le-mul_left, div-mul-le_self}
@@ -17,11 +17,12 @@ use Rattle.vol_parts.specs.Parts.{IsGeometry}
 use Rattle.vol_parts.proofs.Ranges.{range-more}
 use Rattle.vol_spell.specs.Reading.{total_of, clusters_of}
 use Rattle.op_law.specs.Writing.{runs_for}
-use Rattle.vol_spell.specs.Files.{clusters_seen}
+use Rattle.op_law.specs.SeenFiles.{file_clusters}
 use Rattle.op_steps.proofs.FileRuns.{are_runs_for, short_words}
 use Rattle.op_steps.proofs.Clustered.{few_blocks}
 use Rattle.op_steps.specs.Given.{IsOfVolume}
 use Rattle.op_steps.specs.declared.seeing.FileSeen.{FileSeen}
+use Rattle.op_steps.specs.Seeing.{file_seen}
 use Rattle.op_extend.specs.Seeing.{IsReadable}
 
 -- the runs of clusters in a row
@@ -56,27 +57,23 @@ cluster_within lbn count w i low lt top =
 
 module _ (g : Geometry) (f : FileSeen) (qs : List ℕ) (geometry : IsGeometry g) (readable : IsReadable g f) (few : f.fields.blocks / g.cluster + length qs ≤ header_most) (of_volume : IsOfVolume g qs None) where
   abbrev all : List ℕ
-  all = clusters_seen g f.head.now ++ qs
+  all = file_clusters g (file_seen g f) ++ qs
 
-  all_few : length (clusters_seen g f.head.now ++ qs) ≤ header_most
-  all_few = let a = length-append (clusters_seen g f.head.now) qs in let c = readable.sized.count in omega arith
+  all_few : length (file_clusters g (file_seen g f) ++ qs) ≤ header_most
+  all_few = let a = length-append (file_clusters g (file_seen g f)) qs in let c = readable.sized.count in omega arith
 
-  within : (q : ℕ) → Has (clusters_seen g f.head.now ++ qs) q → q < total_of g
-  within q t = elim (has_parted (clusters_seen g f.head.now) qs q t) [ inl u ↦ readable.sized.there q u | inr u ↦ of_volume.there q u ]
+  within : (q : ℕ) → Has (file_clusters g (file_seen g f) ++ qs) q → q < total_of g
+  within q t = elim (has_parted (file_clusters g (file_seen g f)) qs q t) [ inl u ↦ readable.sized.there q u | inr u ↦ of_volume.there q u ]
 
-  pub are_runs : AreRuns (runs_for g (clusters_seen g f.head.now ++ qs))
+  pub are_runs : AreRuns (runs_for g (file_clusters g (file_seen g f) ++ qs))
   are_runs = are_runs_for g geometry.cluster_from all within geometry.blocks_to
 
-  pub blocks_few : blocks_in (runs_for g (clusters_seen g f.head.now ++ qs)) ≤ 65536
+  pub blocks_few : blocks_in (runs_for g (file_clusters g (file_seen g f) ++ qs)) ≤ 65536
   blocks_few = few_blocks g all geometry all_few
 
-  pub words_fit : nat_le (length (map_words (runs_for g (clusters_seen g f.head.now ++ qs)))) (2 * map_area f.head.now) ≡ true
+  pub words_fit : nat_le (length (map_words (runs_for g (file_clusters g (file_seen g f) ++ qs)))) (2 * map_area f.head.now) ≡ true
   words_fit =
       let e = short_words g geometry.cluster_from all within geometry.cluster_to geometry.blocks_to in
       let n = all_few in
       let room = (areas-of f.head.now readable.map.offsets).room in
       grind (arith, nat_tests)
-
--- as many as it has blocks for
-pub all_seen : (g : Geometry) (f : FileSeen) → IsReadable g f → take (f.fields.blocks / g.cluster) (clusters_seen g f.head.now) ≡ clusters_seen g f.head.now
-all_seen g f readable = take_all (f.fields.blocks / g.cluster) (clusters_seen g f.head.now) (let e = readable.sized.count in omega arith)

@@ -6,7 +6,6 @@ use Rattle.std.proofs.lemmas.Bool.Decides.{nat_tests}
 use Rattle.base_words.specs.Fields.{Block}
 use Rattle.fx_header.specs.declared.slot.Hdr.{Hdr}
 use Rattle.fx_header.specs.declared.slot.Slot.TheVariants as head
-use Rattle.fx_header.specs.Headers.{header_read}
 use Rattle.lock_db.specs.declared.name.LockName.TheVariants.{S, Q}
 use Rattle.plain_cat.specs.declared.ids.Fid.{Fid}
 use Rattle.plain_cat.specs.declared.command.Cmd.TheVariants as cmd
@@ -20,7 +19,7 @@ use Rattle.plain_rules.specs.Answers.{first_refusal}
 use Rattle.vol_spell.specs.Owners.{Owners, Things, nothing, Outs}
 use Rattle.vol_spell.specs.Spread.{blocks_at}
 use Rattle.vol_parts.specs.declared.geometry.Geometry.{Geometry}
-use Rattle.vol_spell.specs.Reading.{IsFileNumber, header_block, quota_places}
+use Rattle.vol_spell.specs.Reading.{IsFileNumber, header_block, quota_places, head_told}
 use Rattle.vol_spell.specs.Spelling.{Spells}
 use Rattle.vol_under.specs.Chains.{End}
 use Rattle.vol_under.specs.UnderWay.{StandsAt}
@@ -87,8 +86,8 @@ module _ (node : ℕ) (file : Fid) (blocks : ℕ) (g : Geometry) (bs : List Bloc
   abbrev head_write : PlanWrite
   head_write = grown_write g (file_in g bs file.num h) qs stage.Done
 
-  reads : header_read (header_block g bs file.num) ≡ Ok (head.Used h)
-  reads = live_reads file.seq (header_read (header_block g bs file.num)) h lives.header
+  reads : head_told (header_block g bs file.num) ≡ Ok (head.Used h)
+  reads = live_reads file.seq (head_told (header_block g bs file.num)) h lives.header
 
   -- it is no system file and no directory, and has few clusters
   kept_out : (nat_le file.num 11 ≡ false) × (h.dir ≡ false)
@@ -114,7 +113,7 @@ module _ (node : ℕ) (file : Fid) (blocks : ℕ) (g : Geometry) (bs : List Bloc
 
   -- the file is still there behind the row
   there : (bs' : List Block) → header_block g bs' file.num ≡ header_block g bs file.num → IsFileThere g (charged_for g c f j) bs' file.num h f
-  there bs' same = record { number = lives.number; above = above; reads = ap header_read same ∙ reads; file = live_at c file f lives.live }
+  there bs' same = record { number = lives.number; above = above; reads = ap head_told same ∙ reads; file = live_at c file f lives.live }
 
   -- ---- the steps
 

@@ -5,7 +5,6 @@ use Rattle.std.proofs.lemmas.Bool.Decides.{nat_tests}
 use Rattle.base_words.specs.Fields.{Block}
 use Rattle.fx_header.specs.declared.slot.Hdr.{Hdr}
 use Rattle.fx_header.specs.declared.slot.Slot.TheVariants as head
-use Rattle.fx_header.specs.Headers.{header_read}
 use Rattle.lock_db.specs.declared.name.LockName.{LockName}
 use Rattle.lock_db.specs.declared.name.LockName.TheVariants.{S, Q, V}
 use Rattle.plain_cat.specs.declared.ids.Fid.{Fid}
@@ -29,7 +28,7 @@ use Rattle.vol_parts.specs.declared.geometry.Geometry.{Geometry}
 use Rattle.vol_parts.specs.declared.geometry.Part.{Part}
 use Rattle.vol_parts.specs.declared.geometry.Part.TheVariants.{Storage}
 use Rattle.vol_parts.specs.Catalogues.{file_of, is_structure}
-use Rattle.vol_spell.specs.Reading.{IsFileNumber, header_block}
+use Rattle.vol_spell.specs.Reading.{IsFileNumber, header_block, head_told}
 use Rattle.vol_spell.specs.Places.{place_of, IsPart, file_of_part}
 use Rattle.vol_spell.specs.Spelling.{Spells}
 use Rattle.vol_spell.proofs.Parts.{part_there, part_owned}
@@ -95,7 +94,7 @@ same_cut c f mark end written =
     let w : take (c.factor * f.clusters) f.written ≡ f.written = take_whole (c.factor * f.clusters) f.written written in
     rw (m, e, t, w) refl
 
-module _ (g : Geometry) (bs : List Block) (own : Owners) (c : Cat) (s : Spells g bs own c) (n : ℕ) (h : Hdr) (is : IsFileNumber g n) (reads : header_read (header_block g bs n) ≡ Ok (head.Used h)) (f : File) (at : file_at c n ≡ Some f) where
+module _ (g : Geometry) (bs : List Block) (own : Owners) (c : Cat) (s : Spells g bs own c) (n : ℕ) (h : Hdr) (is : IsFileNumber g n) (reads : head_told (header_block g bs n) ≡ Ok (head.Used h)) (f : File) (at : file_at c n ≡ Some f) where
   all_kept : cut c f f.clusters ≡ f
   all_kept =
       let e : f ≡ file_of g.cluster n h (shown g bs own c n h s is reads) = file_is g bs own c n h s is reads f at in
@@ -200,8 +199,8 @@ module _ (file : Fid) (blocks : ℕ) (node : ℕ) (seen : Seen) (bs : List Block
               (cut_done file blocks node seen bs own c s stock outs h lives free goes),
         )
 
-    reads : header_read (header_block g bs n) ≡ Ok (head.Used h)
-    reads = live_reads file.seq (header_read (header_block g bs n)) h lives.header
+    reads : head_told (header_block g bs n) ≡ Ok (head.Used h)
+    reads = live_reads file.seq (head_told (header_block g bs n)) h lives.header
 
     by_less : (t : Bool) → nat_lt k f.clusters ≡ t → O (cond t (cut_to g sf k) (answers (size_shown g f.clusters))) first
     by_less true goes = cut_obeys goes

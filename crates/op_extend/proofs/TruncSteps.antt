@@ -6,7 +6,6 @@ use Rattle.std.proofs.lemmas.List.{append-nil, length-map}
 use Rattle.base_words.specs.Fields.{Block}
 use Rattle.fx_header.specs.declared.slot.Hdr.{Hdr}
 use Rattle.fx_header.specs.declared.slot.Slot.TheVariants as head
-use Rattle.fx_header.specs.Headers.{header_read}
 use Rattle.lock_db.specs.declared.name.LockName.{LockName}
 use Rattle.lock_db.specs.declared.name.LockName.TheVariants.{S, Q, V}
 use Rattle.plain_cat.specs.declared.ids.Fid.{Fid}
@@ -25,7 +24,7 @@ use Rattle.vol_spell.specs.Spread.{blocks_at}
 use Rattle.vol_spell.proofs.Placing.{length-blocks_at}
 use Rattle.vol_parts.specs.declared.geometry.Geometry.{Geometry}
 use Rattle.vol_parts.specs.declared.geometry.Part.TheVariants.{Storage}
-use Rattle.vol_spell.specs.Reading.{header_block, quota_places}
+use Rattle.vol_spell.specs.Reading.{header_block, quota_places, head_told}
 use Rattle.vol_spell.specs.Places.{place_of}
 use Rattle.vol_spell.specs.Spelling.{Spells}
 use Rattle.vol_under.specs.Chains.{End, Replied}
@@ -127,8 +126,8 @@ module _ (file : Fid) (blocks : ℕ) (node : ℕ) (seen : Seen) (bs : List Block
   in_v : Has names V
   in_v = inr (inr (inl refl))
 
-  reads : header_read (header_block g bs n) ≡ Ok (head.Used h)
-  reads = live_reads file.seq (header_read (header_block g bs n)) h lives.header
+  reads : head_told (header_block g bs n) ≡ Ok (head.Used h)
+  reads = live_reads file.seq (head_told (header_block g bs n)) h lives.header
 
   apart : (11 < n) × (h.dir ≡ false)
   apart = kept_out n h.dir free

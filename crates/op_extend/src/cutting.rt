@@ -11,7 +11,7 @@ ghost use Rattle.op_law.specs.Sizes.{lowered, cut_header, cut_clusters, cutting_
 ghost use Rattle.op_steps.specs.Seeing.{file_seen};
 ghost use Rattle.op_extend.specs.Seeing.{CanBeCut};
 
-use crate::runs::file_runs;
+use crate::runs::cluster_runs;
 use base_words::Block;
 use fx_header::{Run, set_end, set_mark, set_runs};
 use op_freeing::{push_storage, rising};
@@ -56,7 +56,7 @@ pub(crate) fn clusters_behind(
     requires can { CanBeCut g.now f.now k }
     ensures { IfOk result (λ qs. qs ≡ cut_clusters g.now (file_seen g.now f.now) k) }
 {
-    let all = file_runs(alloc, g, f.head)?;
+    let all = cluster_runs(alloc, g, f)?;
     let first = first_clusters(alloc, g, runs_behind(all.as_slice(), k))?;
     let gone = rising(alloc, g, first.as_slice())?;
     Ok(gone)
@@ -87,7 +87,7 @@ fn cut_header(alloc: Global, g: &Geometry, f: &FileSeen<'_>, k: u32) -> Result<B
     ensures { IfOk result (λ b. b ≡ cut_header g.now (file_seen g.now f.now) k) }
 {
     let mut block = *f.head;
-    let all = file_runs(alloc, g, f.head)?;
+    let all = cluster_runs(alloc, g, f)?;
     lower(&mut block, g, f, k);
     set_runs(&mut block, first_runs(all.as_slice(), k));
     Ok(block)

@@ -14,7 +14,7 @@ ghost use Rattle.plain_cat.specs.declared.reply.Refusal.TheVariants as refusal;
 ghost use Rattle.op_steps.specs.Given.{IsOfVolume};
 ghost use Rattle.op_steps.specs.Seeing.{file_seen};
 ghost use Rattle.op_extend.specs.Seeing.{IsSized, HeadIsSized, IsReadable};
-ghost use Rattle.fx_header.specs.Headers.{header_read};
+ghost use Rattle.vol_spell.specs.Reading.{head_told};
 ghost use Rattle.fx_header.specs.declared.slot.Hdr.{Hdr};
 ghost use Rattle.fx_header.specs.declared.slot.Slot.TheVariants.{Used};
 ghost use Rattle.std.specs.Prelude.{Ok};
@@ -146,7 +146,7 @@ fn in_header(
     requires geometry { IsGeometry seen.now.geometry }
     requires number { file.num ≤ seen.now.geometry.files }
     requires inside { AreInside head.now }
-    requires sized { (h : Hdr) → header_read head.now ≡ Ok (Used h) → IsSized seen.now.geometry file.num head.now h }
+    requires sized { (h : Hdr) → head_told head.now ≡ Ok (Used h) → IsSized seen.now.geometry (seen_file seen.now.geometry file.num head.now h) }
     requires few { k ≤ 65536 }
     requires within { IsOfVolume seen.now.geometry seen.now.clusters seen.now.number }
     ensures { IfOk result (λ need. need ≡ goes_on_by (if_file (refuses refusal.NoSuchFile) (extend_in seen.now.geometry k) (option_map (seen_file seen.now.geometry file.num head.now) (live_in file.seq head.now))) rest.entry (space_of seen.now)) }
@@ -158,6 +158,7 @@ fn in_header(
             &FileSeen {
                 num: file.num,
                 head,
+                rest: &[],
                 fields,
             },
             k,

@@ -24,4 +24,4 @@ mod truncating;
 mod writing;
 
 pub use operation::OpExtend;
-pub use runs::file_runs;
+pub use runs::cluster_runs;

@@ -3,13 +3,14 @@
 ghost use Rattle.std.specs.Prelude.{◌≡◌, ◌≤◌, ◌+◌, ◌/◌, ◌++◌, OnOk, IfOk};
 ghost use Rattle.std.specs.List.{range_with_len};
 ghost use Rattle.vol_parts.specs.Parts.{IsGeometry};
-ghost use Rattle.op_law.specs.Readable.{HasMap, AreInside};
+ghost use Rattle.op_law.specs.SeenFiles.{file_clusters};
 ghost use Rattle.op_law.specs.Writing.{runs_for};
-ghost use Rattle.vol_spell.specs.Files.{clusters_seen};
+ghost use Rattle.op_steps.specs.Seeing.{file_seen};
+ghost use Rattle.op_extend.specs.Seeing.{IsReadable};
 
-use base_words::Block;
-use fx_header::{Run, runs};
+use fx_header::Run;
 use op_law::NoMemory;
+use op_steps::{FileSeen, file_runs};
 use std::alloc::Global;
 use vol_parts::Geometry;
 
@@ -29,16 +30,14 @@ fn push_clusters(all: &mut Vec<Run>, g: &Geometry, run: Run) -> Result<(), NoMem
     Ok(())
 }
 
-/// The runs of a file's clusters in the file's order, one for each, by the block of its header. The header is one in use, and its
-/// runs end at or before LBN 65,536. An error says that memory ran out.
-pub fn file_runs(alloc: Global, g: &Geometry, head: &Block) -> Result<Vec<Run>, NoMemory>
+/// The runs of a file's clusters in the file's order, one for each. An error says that memory ran out.
+pub fn cluster_runs(alloc: Global, g: &Geometry, f: &FileSeen<'_>) -> Result<Vec<Run>, NoMemory>
     requires geometry { IsGeometry g.now }
-    requires map { HasMap head.now }
-    requires inside { AreInside head.now }
-    ensures { IfOk result (λ rs. rs.items ≡ runs_for g.now (clusters_seen g.now head.now)) }
+    requires readable { IsReadable g.now f.now }
+    ensures { IfOk result (λ rs. rs.items ≡ runs_for g.now (file_clusters g.now (file_seen g.now f.now))) }
 {
     let mut all = Vec::new(alloc);
-    for run in runs(head) {
+    for run in file_runs(f) {
         push_clusters(&mut all, g, run)?;
     }
     Ok(all)

@@ -6,12 +6,12 @@ ghost use Rattle.vol_parts.specs.Parts.{IsGeometry};
 ghost use Rattle.op_law.specs.Behind.{blocks_alone};
 ghost use Rattle.op_law.specs.Sizes.{grown_mark, grown_header, growing_writes};
 ghost use Rattle.op_law.specs.Writing.{runs_for};
-ghost use Rattle.vol_spell.specs.Files.{clusters_seen};
+ghost use Rattle.op_law.specs.SeenFiles.{file_clusters};
 ghost use Rattle.op_steps.specs.Given.{IsOfVolume};
 ghost use Rattle.op_steps.specs.Seeing.{file_seen};
 ghost use Rattle.op_extend.specs.Seeing.{IsReadable};
 
-use crate::runs::file_runs;
+use crate::runs::cluster_runs;
 use base_words::Block;
 use fx_header::{Run, clear_contig, set_mark, set_runs};
 use op_law::{NoMemory, Writes};
@@ -43,9 +43,9 @@ fn grown_runs(
     requires geometry { IsGeometry g.now }
     requires readable { IsReadable g.now f.now }
     requires within { IsOfVolume g.now clusters.now None }
-    ensures { IfOk result (λ rs. rs.items ≡ runs_for g.now (clusters_seen g.now f.now.head.now ++ clusters.now)) }
+    ensures { IfOk result (λ rs. rs.items ≡ runs_for g.now (file_clusters g.now (file_seen g.now f.now) ++ clusters.now)) }
 {
-    let mut all = file_runs(alloc, g, f.head)?;
+    let mut all = cluster_runs(alloc, g, f)?;
     let more = runs_for(alloc, g, clusters)?;
     all.extend_from_slice(more.as_slice())?;
     Ok(all)

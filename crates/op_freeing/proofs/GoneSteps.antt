@@ -6,7 +6,6 @@ use Rattle.base_words.specs.Fields.{Block, field}
 use Rattle.base_words.proofs.Puts.{field-lt}
 use Rattle.fx_header.specs.declared.slot.Hdr.{Hdr}
 use Rattle.fx_header.specs.declared.slot.Slot.TheVariants as head
-use Rattle.fx_header.specs.Headers.{header_read}
 use Rattle.fx_header.proofs.NewLemmas.{freed-reads}
 use Rattle.fx_header.proofs.SoundLemmas.{reads-sound}
 use Rattle.fx_header.proofs.SetterLemmas.{tells-of}
@@ -20,7 +19,8 @@ use Rattle.base_words.specs.Lists.{Has}
 use Rattle.vol_spell.specs.Owners.{Owners}
 use Rattle.vol_parts.specs.declared.geometry.Geometry.{Geometry}
 use Rattle.vol_parts.specs.Catalogues.{file_of}
-use Rattle.vol_spell.specs.Reading.{IsFileNumber, header_block}
+use Rattle.vol_spell.specs.Reading.{IsFileNumber, header_block, head_told}
+use Rattle.vol_spell.proofs.Heads.{first_reads}
 use Rattle.vol_spell.specs.Spelling.{Spells}
 use Rattle.vol_under.specs.Chains.{End}
 use Rattle.vol_under.specs.UnderWay.{stage_after}
@@ -92,11 +92,11 @@ gone_guards g n h x bs own node locks s number in_file in_q in_v =
     (tail_guards g stage.Freed (all_clusters g (sf g n h bs)) (n ∷ []) (sf g n h bs).file.owner (fewer g n h bs) stage.Done bs bs own x node locks s in_v in_q)
 
 -- the sequence of a header fits its field
-seq_low : (g : Geometry) (n : ℕ) (h : Hdr) (x : Cat) (bs : List Block) (own : Owners) → Spells g bs own x → IsFileNumber g n → header_read (header_block g bs n) ≡ Ok (head.Used h) → h.seq < 2 ^ 16
+seq_low : (g : Geometry) (n : ℕ) (h : Hdr) (x : Cat) (bs : List Block) (own : Owners) → Spells g bs own x → IsFileNumber g n → head_told (header_block g bs n) ≡ Ok (head.Used h) → h.seq < 2 ^ 16
 seq_low g n h x bs own s number reads =
     let hb : Block = header_block g bs n in
     let whole = head_whole g bs own x n h s number reads in
-    let t = tells-of hb h (reads-sound hb h reads).fields in
+    let t = tells-of hb h (reads-sound hb h (first_reads hb h reads)).fields in
     let lt : field hb 10 2 < 256 ^ 2 = field-lt hb 10 2 whole.bytes in
     omega (arith, t.seq, lt)
 

@@ -3,7 +3,6 @@ use Rattle.std.specs.Prelude.{◌≡◌, ◌+◌, ◌*◌, ℕ, List, length, ma
 use Rattle.base_words.specs.Fields.{Block}
 use Rattle.fx_header.specs.declared.slot.Hdr.{Hdr}
 use Rattle.fx_header.specs.declared.slot.Slot.TheVariants.{Used}
-use Rattle.fx_header.specs.Headers.{header_read}
 use Rattle.lock_db.specs.declared.name.LockName.{LockName}
 use Rattle.lock_db.specs.declared.name.LockName.TheVariants.{S, Q, V}
 use Rattle.plain_cat.specs.declared.history.Stage.TheVariants as stage
@@ -15,7 +14,7 @@ use Rattle.vol_spell.specs.Owners.{Owners, Things, nothing}
 use Rattle.vol_spell.specs.Spread.{blocks_at}
 use Rattle.vol_parts.specs.declared.geometry.Geometry.{Geometry}
 use Rattle.vol_parts.specs.Catalogues.{file_of}
-use Rattle.vol_spell.specs.Reading.{IsFileNumber, header_block, quota_places}
+use Rattle.vol_spell.specs.Reading.{IsFileNumber, header_block, quota_places, head_told}
 use Rattle.vol_spell.specs.Spelling.{Spells}
 use Rattle.vol_under.specs.Chains.{End}
 use Rattle.vol_under.specs.UnderWay.{stage_after, outs_after}
@@ -60,7 +59,7 @@ GoneGuards = (g : Geometry) (n : ℕ) (h : Hdr) (x : Cat) (bs : List Block) (own
 
 -- they leave the runs of each directory, but for this file's, whose slot becomes free
 abbrev pub GoneLeaves : Type 0
-GoneLeaves = (g : Geometry) (n : ℕ) (h : Hdr) (x : Cat) (bs : List Block) (own : Owners) → Spells g bs own x → IsFileNumber g n → header_read (header_block g bs n) ≡ Ok (Used h)
+GoneLeaves = (g : Geometry) (n : ℕ) (h : Hdr) (x : Cat) (bs : List Block) (own : Owners) → Spells g bs own x → IsFileNumber g n → head_told (header_block g bs n) ≡ Ok (Used h)
     → LeavesDirs g bs (gone_writes g bs n h)
 
 -- few file numbers are outside between them

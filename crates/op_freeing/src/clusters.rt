@@ -3,16 +3,14 @@
 ghost use Rattle.std.specs.Prelude.{◌≡◌, ◌≤◌, ◌+◌, ◌/◌, ◌++◌, IfOk, OnOk};
 ghost use Rattle.std.specs.List.{range_with_len};
 ghost use Rattle.vol_parts.specs.Parts.{IsGeometry};
-ghost use Rattle.vol_spell.specs.Files.{clusters_seen};
 ghost use Rattle.op_law.specs.Freeing.{all_clusters};
-ghost use Rattle.op_law.specs.Readable.{HasMap, AreInside};
+ghost use Rattle.op_law.specs.SeenFiles.{file_clusters};
 ghost use Rattle.op_steps.specs.Seeing.{file_seen, IsReadable};
 
 use crate::rising;
-use base_words::Block;
-use fx_header::{Run, runs};
+use fx_header::Run;
 use op_law::NoMemory;
-use op_steps::FileSeen;
+use op_steps::{FileSeen, file_runs};
 use plain_cat::Clusters;
 use std::alloc::Global;
 use vol_parts::Geometry;
@@ -30,27 +28,25 @@ fn push_clusters(all: &mut Vec<u32>, g: &Geometry, run: Run) -> Result<(), NoMem
     Ok(())
 }
 
-// The clusters of the runs of a header, in order.
-fn clusters_seen(alloc: Global, g: &Geometry, head: &Block) -> Result<Vec<u32>, NoMemory>
+// The clusters of a file, in its order. An error says that memory ran out.
+fn file_clusters(alloc: Global, g: &Geometry, f: &FileSeen<'_>) -> Result<Vec<u32>, NoMemory>
     requires geometry { IsGeometry g.now }
-    requires map { HasMap head.now }
-    requires inside { AreInside head.now }
-    ensures { IfOk result (λ qs. qs.items ≡ clusters_seen g.now head.now) }
+    requires readable { IsReadable f.now }
+    ensures { IfOk result (λ qs. qs.items ≡ file_clusters g.now (file_seen g.now f.now)) }
 {
     let mut all = Vec::new(alloc);
-    for run in runs(head) {
+    for run in file_runs(f) {
         push_clusters(&mut all, g, run)?;
     }
     Ok(all)
 }
 
-/// The clusters of a file, rising: as many as it has blocks for. An error says that memory ran out.
+/// The clusters of a file, rising. An error says that memory ran out.
 pub fn all_clusters(alloc: Global, g: &Geometry, f: &FileSeen<'_>) -> Result<Clusters, NoMemory>
     requires geometry { IsGeometry g.now }
     requires readable { IsReadable f.now }
     ensures { IfOk result (λ qs. qs ≡ all_clusters g.now (file_seen g.now f.now)) }
 {
-    let all = clusters_seen(alloc, g, f.head)?;
-    let count = ((f.fields.blocks / g.cluster) as usize).min(all.len());
-    rising(alloc, g, &all.as_slice()[..count])
+    let all = file_clusters(alloc, g, f)?;
+    rising(alloc, g, all.as_slice())
 }

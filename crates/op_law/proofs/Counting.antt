@@ -20,7 +20,7 @@ use Rattle.fx_dir.specs.Moves.{rising, falling, less_last, place, inserted, as_n
 use Rattle.fx_header.specs.declared.run.Run.{Run}
 use Rattle.fx_header.specs.declared.slot.Hdr.{Hdr}
 use Rattle.fx_header.specs.declared.slot.Slot.TheVariants as head
-use Rattle.fx_header.specs.Headers.{header_read, runs_in}
+use Rattle.fx_header.specs.Headers.{runs_in}
 use Rattle.fx_quota.specs.declared.types.Row.{Row}
 use Rattle.lock_db.specs.declared.name.LockName.{LockName}
 use Rattle.lock_db.specs.declared.name.LockName.TheVariants.{S, Q}
@@ -38,13 +38,13 @@ use Rattle.vol_spell.specs.Owners.{Owners}
 use Rattle.vol_parts.specs.declared.finding.Finding.TheVariants as finding
 use Rattle.vol_parts.specs.declared.geometry.Geometry.{Geometry}
 use Rattle.plain_rules.specs.Lookups.{clusters_in, file_most}
-use Rattle.vol_parts.specs.Volumes.{fields_in, Told}
-use Rattle.vol_parts.specs.Fatal.{is_cluster_run, has_dir_size, found_in}
+use Rattle.vol_parts.specs.Volumes.{Told}
+use Rattle.vol_parts.specs.Fatal.{is_one_header, is_cluster_run, has_dir_size, found_in}
 use Rattle.vol_parts.specs.Parts.{IsGeometry, storage_blocks}
-use Rattle.vol_spell.specs.Reading.{IsFileNumber, header_place, header_block, told_of, alone, body_blocks, clusters_told, quota_places, total_of}
+use Rattle.vol_spell.specs.Reading.{IsFileNumber, header_place, header_block, head_told, told_of, body_blocks, clusters_told, quota_places, total_of}
 use Rattle.vol_spell.specs.Spelling.{dir_found, Spells}
 use Rattle.vol_spell.proofs.Adds.{size_told}
-use Rattle.vol_spell.proofs.Heads.{alone_told}
+use Rattle.vol_spell.proofs.HeadSlots.{reads_fields, dir_runs}
 use Rattle.vol_spell.proofs.Parts.{told}
 use Rattle.vol_parts.specs.Catalogues.{slot_with}
 use Rattle.op_law.specs.Events.{Events, Take, Look, Space}
@@ -61,13 +61,13 @@ use Rattle.op_law.proofs.Telling.{number_is, live_reads}
 use Rattle.op_law.proofs.Brief.{BriefBy, brief_more}
 use Rattle.vol_spell.proofs.EntryDirs.{one_cluster}
 
-sized : (g : Geometry) (n : ℕ) (f : Hdr) (rs : List Run) (blocks : List Block) → f.dir ≡ true → dir_found g n (Some f) rs blocks ≡ None → has_dir_size g.cluster f rs ≡ true
-sized g n f rs blocks d h = by_size (has_dir_size g.cluster f rs) (ap (λ q. if not q then None else if has_dir_size g.cluster f rs then found_in n (directory blocks) else Some (finding.DirSize n)) (sym d) ∙ h) where
+sized : (g : Geometry) (n : ℕ) (f : Hdr) (t : Told) (blocks : List Block) → f.dir ≡ true → dir_found g n (Some f) t blocks ≡ None → (is_one_header f t && has_dir_size g.cluster f t.runs) ≡ true
+sized g n f t blocks d h = by_size (is_one_header f t && has_dir_size g.cluster f t.runs) (ap (λ q. if not q then None else if is_one_header f t && has_dir_size g.cluster f t.runs then found_in n (directory blocks) else Some (finding.DirSize n)) (sym d) ∙ h) where
   by_size : (q : Bool) → (if q then found_in n (directory blocks) else Some (finding.DirSize n)) ≡ None → q ≡ true
   by_size true e = refl
   by_size false e = absurd (cc)
 
-module _ (g : Geometry) (bs : List Block) (own : Owners) (c : Cat) (s : Spells g bs own c) (n : ℕ) (is : IsFileNumber g n) (f : Hdr) (reads : header_read (header_block g bs n) ≡ Ok (head.Used f)) where
+module _ (g : Geometry) (bs : List Block) (own : Owners) (c : Cat) (s : Spells g bs own c) (n : ℕ) (is : IsFileNumber g n) (f : Hdr) (reads : head_told (header_block g bs n) ≡ Ok (head.Used f)) where
   abbrev hb : Block
   hb = header_block g bs n
 
@@ -75,9 +75,10 @@ module _ (g : Geometry) (bs : List Block) (own : Owners) (c : Cat) (s : Spells g
   pub few_places : f.dir ≡ true → length (places_in hb) ≤ 16
   few_places d =
       let t = told g bs own c s n is in
-      let found : dir_found g n (Some f) (runs_in hb) (body_blocks bs n (alone n f hb)) ≡ None =
-      ap (λ (z : Told). dir_found g n (fields_in z.head) z.runs (body_blocks bs n z)) (sym (alone_told g bs n f reads)) ∙ t.dir in
-      let size = sized g n f (runs_in hb) (body_blocks bs n (alone n f hb)) d found in
+      let body = body_blocks bs n (told_of g bs n) in
+      let found : dir_found g n (Some f) (told_of g bs n) body ≡ None = subst (λ (o : Option Hdr). dir_found g n o (told_of g bs n) body ≡ None) (reads_fields hb f reads) t.dir in
+      let both = and_parts (is_one_header f (told_of g bs n)) (has_dir_size g.cluster f (told_of g bs n).runs) (sized g n f (told_of g bs n) body d found) in
+      let size = subst (λ (rs : List Run). has_dir_size g.cluster f rs ≡ true) (dir_runs g bs own c s n f is reads d) both.1 in
       let run = and_parts (is_cluster_run g.cluster (runs_in hb)) ((f.mark == 0) && ((f.end == g.cluster + 1) && (f.byte == 0))) size in
       let e = one_cluster g.cluster (runs_in hb) run.0 in
       let top = s.counts.geometry.cluster_to in
@@ -88,7 +89,7 @@ module _ (g : Geometry) (bs : List Block) (own : Owners) (c : Cat) (s : Spells g
   few_clusters above =
       let t = told g bs own c s n is in
       let body = body_blocks bs n (told_of g bs n) in
-      let said : f.blocks / g.cluster ≡ clusters_in (slot_with g.cluster n (told_of g bs n).head body) = ap (λ (z : Told). clusters_in (slot_with g.cluster n z.head body)) (sym (alone_told g bs n f reads)) in
+      let said : f.blocks / g.cluster ≡ clusters_in (slot_with g.cluster n (told_of g bs n).head body) = ap (λ r. clusters_in (slot_with g.cluster n r body)) (sym reads) in
       let count : f.blocks / g.cluster ≡ length (clusters_told g (told_of g bs n)) = said ∙ ap clusters_in t.slot ∙ size_told g own n (told_of g bs n) body _ s.counts.geometry.cluster_from t in
       let few : length (clusters_told g (told_of g bs n)) ≤ file_most = t.few above in
       omega arith
@@ -159,7 +160,7 @@ module _ (bs : List Block) (space : Space) (writes : ℕ) where
         by_dir : IsFileNumber g fid.num → (f : Hdr) → live_in fid.seq own_head ≡ Some f → (t : Bool) → f.dir ≡ t
             → Within (cond t (look_all (S fid.num) (places_in own_head) (next own_head)) (refuses refusal.NotDir)) (locks - 1) (looks - 1)
         by_dir is f e true d =
-            let few = few_places g bs own c s fid.num is f (live_reads fid.seq (header_read own_head) f e) d in
+            let few = few_places g bs own c s fid.num is f (live_reads fid.seq (head_told own_head) f e) d in
             all_brief (S fid.num) (places_in own_head) (next own_head) 16 (locks - 1) (looks - 1) few (omega arith)
             (λ seen same. subst (λ n. Within (next own_head seen) (locks - 1) n) (let z : looks - 17 ≡ looks - 1 - 16 = omega arith in z) (so seen (omega arith)))
         by_dir is f e false d = omega arith

@@ -7,7 +7,6 @@ use Rattle.base_words.specs.Lists.{StandsIn}
 use Rattle.fx_dir.specs.Directory.{directory}
 use Rattle.fx_header.specs.declared.slot.Hdr.{Hdr}
 use Rattle.fx_header.specs.declared.slot.Slot.TheVariants as head
-use Rattle.fx_header.specs.Headers.{header_read}
 use Rattle.plain_cat.specs.declared.ids.Fid.{Fid}
 use Rattle.plain_cat.specs.declared.mode.Mode.{Mode}
 use Rattle.plain_cat.specs.declared.cat.Cat.{Cat}
@@ -18,7 +17,7 @@ use Rattle.vol_spell.specs.Owners.{Owners}
 use Rattle.vol_spell.specs.Spread.{blocks_at}
 use Rattle.vol_parts.specs.declared.geometry.Geometry.{Geometry}
 use Rattle.vol_parts.specs.Catalogues.{file_of}
-use Rattle.vol_spell.specs.Reading.{IsFileNumber, header_place, header_block}
+use Rattle.vol_spell.specs.Reading.{IsFileNumber, header_place, header_block, head_told}
 use Rattle.vol_spell.specs.Spelling.{Spells}
 use Rattle.vol_spell.specs.Entries.{places_in}
 use Rattle.vol_spell.proofs.EntryDirs.{dir_at}
@@ -42,7 +41,7 @@ looked_at bs name (l ∷ ls) next locks (x ∷ seen) space given stands f le =
 
 module _ (g : Geometry) (bs : List Block) (own : Owners) (c : Cat) (s : Spells g bs own c) where
   -- the blocks of a directory in use are read
-  body_read : (n : ℕ) (h : Hdr) → IsFileNumber g n → header_read (header_block g bs n) ≡ Ok (head.Used h) → h.dir ≡ true → IsOk (directory (blocks_at bs (places_in (header_block g bs n))))
+  body_read : (n : ℕ) (h : Hdr) → IsFileNumber g n → head_told (header_block g bs n) ≡ Ok (head.Used h) → h.dir ≡ true → IsOk (directory (blocks_at bs (places_in (header_block g bs n))))
   body_read n h is e d =
       let at = dir_at g bs own c s n is (file_of g.cluster n h (file_blocks bs (header_block g bs n))) (file_told_at g bs own c s n h is e) d in
       subst IsOk (sym at.read) refl
@@ -52,7 +51,7 @@ module _ (g : Geometry) (bs : List Block) (own : Owners) (c : Cat) (s : Spells g
         → Follows (in_directory fid b (next b) (live_in fid.seq b)) locks seen space given → BodyIsRead fid b seen
     behind_read b locks seen is at stands f h live d all =
         let same = header_is g bs fid.num (header_place g fid.num) b refl at in
-        let reads : header_read (header_block g bs fid.num) ≡ Ok (head.Used h) = ap header_read same ∙ live_reads fid.seq (header_read b) h live in
+        let reads : head_told (header_block g bs fid.num) ≡ Ok (head.Used h) = ap head_told same ∙ live_reads fid.seq (head_told b) h live in
         let body : IsOk (directory (blocks_at bs (places_in b))) = subst (λ k. IsOk (directory (blocks_at bs (places_in k)))) same (body_read fid.num h is reads d) in
         let goes = subst (λ t. Follows (cond t (look_all (S fid.num) (places_in b) (next b)) (refuses refusal.NotDir)) locks seen space given) d
         (subst (λ o. Follows (in_directory fid b (next b) o) locks seen space given) live f) in

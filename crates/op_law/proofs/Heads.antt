@@ -21,7 +21,8 @@ use Rattle.op_law.specs.Readable.{EndsInside, AreInside, HeadIsInside}
 use Rattle.op_law.specs.Behind.{first_seen}
 use Rattle.op_law.specs.Events.{Events, Take, Look, Space, Follows}
 use Rattle.op_law.specs.Rows.{is_number, refuses, through_header}
-use Rattle.vol_spell.proofs.HeadSlots.{alone_runs}
+use Rattle.vol_spell.proofs.Heads.{used_first}
+use Rattle.vol_spell.proofs.HeadSlots.{alone_runs, listed_enough, dir_runs}
 use Rattle.op_law.proofs.Telling.{number_is}
 
 pub head_inside : (blocks : List (ℕ × Block)) (b : Block) (behind : List (ℕ × Block)) → first_seen blocks ≡ Some (b, behind) → HeadIsInside blocks → AreInside b
@@ -48,10 +49,19 @@ pub header_is : (g : Geometry) (bs : List Block) (n l : ℕ) (b : Block) → l �
 header_is g bs n l b e at = ap (λ k. get_or bs k []) (sym e) ∙ get_or_from_slice_get bs l b [] at
 
 module _ (g : Geometry) (bs : List Block) (own : Owners) (c : Cat) (s : Spells g bs own c) where
-  -- the block that was looked at in the place of a file's header is one whose runs are inside
+  -- what the header of a number lists of a file is inside
+  pub listed_inside : (n : ℕ) → IsFileNumber g n → AreInside (header_block g bs n)
+  listed_inside n is =
+      let b : Block = header_block g bs n in
+      record {
+        runs = subst (λ (rs : List Run). All EndsInside rs) (alone_runs g bs own c s n is) (runs_inside g (told_of g bs n).runs s.counts.geometry (told g bs own c s n is).whole);
+        enough = λ h e. listed_enough g bs own c s n h is (used_first b h e);
+        dir = λ h e d. sym (alone_runs g bs own c s n is) ∙ dir_runs g bs own c s n h is (used_first b h e) d;
+      }
+
+  -- so is the block that was looked at in its place
   pub header_inside : (n : ℕ) (b : Block) → IsFileNumber g n → slice_get bs (header_place g n) ≡ Some b → AreInside b
-  header_inside n b is at = subst AreInside (header_is g bs n (header_place g n) b refl at)
-      (subst (λ (rs : List Run). All EndsInside rs) (alone_runs g bs own c s n is) (runs_inside g (told_of g bs n).runs s.counts.geometry (told g bs own c s n is).whole))
+  header_inside n b is at = subst AreInside (header_is g bs n (header_place g n) b refl at) (listed_inside n is)
 
   -- so is what was seen first under a file's lock
   pub through_inside : (fid : Fid) (mode : Mode) (next : Block → Events) (locks : List (LockName × Mode)) (blocks : List (ℕ × Block)) (space : Space) (given : Type 0)

@@ -24,3 +24,4 @@ pub mod RemovalEnds
 pub mod Spaceless
 pub mod Opens
 pub mod Freed
+pub mod SeenRuns

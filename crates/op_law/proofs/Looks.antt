@@ -5,7 +5,6 @@ use Rattle.base_words.specs.Fields.{Block}
 use Rattle.fx_header.specs.declared.run.Run.{Run}
 use Rattle.fx_header.specs.declared.slot.Hdr.{Hdr}
 use Rattle.fx_header.specs.declared.slot.Slot.TheVariants as head
-use Rattle.fx_header.specs.Headers.{header_read}
 use Rattle.fx_header.specs.Pointers.{lbns_in}
 use Rattle.lock_db.specs.declared.name.LockName.TheVariants.{S}
 use Rattle.plain_cat.specs.declared.cat.Cat.{Cat}
@@ -14,13 +13,12 @@ use Rattle.base_words.specs.Lists.{Has}
 use Rattle.vol_spell.specs.Owners.{Owners}
 use Rattle.vol_parts.specs.declared.geometry.Geometry.{Geometry}
 use Rattle.vol_parts.specs.declared.geometry.Part.TheVariants.{Header}
-use Rattle.vol_parts.specs.Volumes.{fields_in, Told}
+use Rattle.vol_parts.specs.Volumes.{fields_in}
 use Rattle.vol_parts.specs.Catalogues.{is_structure, file_of}
 use Rattle.vol_parts.specs.Fatal.{is_system_header}
-use Rattle.vol_spell.specs.Reading.{IsFileNumber, owner_at, header_place, header_block, told_of, runs_told}
+use Rattle.vol_spell.specs.Reading.{IsFileNumber, owner_at, header_place, header_block, head_told, told_of, runs_told}
 use Rattle.vol_spell.specs.Bodies.{IsOfBody}
 use Rattle.vol_spell.specs.Spelling.{Spells}
-use Rattle.vol_spell.proofs.Heads.{alone_told}
 use Rattle.vol_spell.proofs.Parts.{part_there, part_owned}
 use Rattle.vol_spell.proofs.Frames.{of_body, on_volume}
 use Rattle.vol_spell.proofs.Told.{no_dir, no_directory, which_structure}
@@ -51,16 +49,16 @@ module _ (g : Geometry) (bs : List Block) (own : Owners) (c : Cat) (s : Spells g
       ]
 
   -- a directory is none of the files that hold the volume's own structures
-  pub plain_directory : (n : ℕ) (h : Hdr) → header_read (header_block g bs n) ≡ Ok (head.Used h) → h.dir ≡ true → is_structure n ≡ false
+  pub plain_directory : (n : ℕ) (h : Hdr) → head_told (header_block g bs n) ≡ Ok (head.Used h) → h.dir ≡ true → is_structure n ≡ false
   plain_directory n h e d = by_kind (is_structure n) refl where
     by_kind : (k : Bool) → is_structure n ≡ k → is_structure n ≡ false
     by_kind false k = k
     by_kind true k =
-        let t : is_system_header n (Some h) ≡ true = ap (λ (t : Told). is_system_header n (fields_in t.head)) (sym (alone_told g bs n h e)) ∙ system n k in
+        let t : is_system_header n (Some h) ≡ true = ap (λ r. is_system_header n (fields_in r)) (sym e) ∙ system n k in
         let f : true ≡ false = sym d ∙ no_dir n h (no_directory n k) t in
         absurd (cc)
 
-  pub block_under : (n l : ℕ) (h : Hdr) → IsFileNumber g n → header_read (header_block g bs n) ≡ Ok (head.Used h) → h.dir ≡ true
+  pub block_under : (n l : ℕ) (h : Hdr) → IsFileNumber g n → head_told (header_block g bs n) ≡ Ok (head.Used h) → h.dir ≡ true
       → Has (lbns_in (runs_told (header_block g bs n))) l → IsUnder g bs own c n l
   block_under n l h is e d t =
       let P : Bool → Type 0 = λ k. Has (cond k [] (lbns_in (told_of g bs n).runs)) l in

@@ -4,7 +4,6 @@ use Rattle.std.specs.Prelude.{◌==◌, ◌&&◌, is_some, bytes_eq}
 use Rattle.std.proofs.lemmas.Bool.Decides.{nat_tests}
 use Rattle.base_words.specs.Fields.{Block}
 use Rattle.fx_header.specs.declared.slot.Hdr.{Hdr}
-use Rattle.fx_header.specs.Headers.{header_read}
 use Rattle.lock_db.specs.declared.name.LockName.TheVariants.{S}
 use Rattle.plain_cat.specs.declared.ids.Fid.{Fid}
 use Rattle.plain_cat.specs.declared.entries.DirEnt.{DirEnt}
@@ -16,6 +15,7 @@ use Rattle.vol_spell.specs.Owners.{Owners}
 use Rattle.base_words.proofs.Listing.{has_place}
 use Rattle.vol_parts.specs.declared.geometry.Geometry.{Geometry}
 use Rattle.plain_rules.specs.SystemFiles.{is_system_entry, listed, entries_of}
+use Rattle.vol_spell.specs.Reading.{head_told}
 use Rattle.vol_spell.specs.Spelling.{Spells}
 use Rattle.op_law.specs.Rows.{entries_seen}
 use Rattle.op_law.specs.Order.{NamesNumber, One, level, IsBefore, Higher, Named}
@@ -52,7 +52,7 @@ module _ (g : Geometry) (bs : List Block) (own : Owners) (c : Cat) (s : Spells g
   -- the catalogue's entries of a live directory are those that its blocks show
   entries_are : entries_of c fid.num ≡ entries_seen (listed_blocks bs g fid)
   entries_are =
-      let at : file_at c fid.num ≡ Some (file_told bs g fid f) = file_told_at g bs own c s fid.num f dir.number (live_reads fid.seq (header_read (file_header bs g fid)) f dir.header) in
+      let at : file_at c fid.num ≡ Some (file_told bs g fid f) = file_told_at g bs own c s fid.num f dir.number (live_reads fid.seq (head_told (file_header bs g fid)) f dir.header) in
       ap listed at ∙ ap (λ t. cond t (file_told bs g fid f).entries []) dir.dir ∙ dir.entries
 
   pub entry_names : (name : List ℕ) (ver : ℕ) (e : DirEnt) → entry_of (versions name (entries_seen (listed_blocks bs g fid))) ver ≡ Some e → 11 < e.fid.num → NamesNumber c fid.num e.fid.num
@@ -65,7 +65,7 @@ module _ (g : Geometry) (bs : List Block) (own : Owners) (c : Cat) (s : Spells g
   -- so its lock may be asked for behind the directory's
   pub entry_behind : (name : List ℕ) (ver : ℕ) (e : DirEnt) → entry_of (versions name (entries_seen (listed_blocks bs g fid))) ver ≡ Some e → 11 < e.fid.num → IsBefore c (S fid.num) (S e.fid.num)
   entry_behind name ver e at above =
-      let here : level c (S fid.num) ≡ 0 = ap (λ o. cond (is_some o) 0 4) (file_told_at g bs own c s fid.num f dir.number (live_reads fid.seq (header_read (file_header bs g fid)) f dir.header)) in
+      let here : level c (S fid.num) ≡ 0 = ap (λ o. cond (is_some o) 0 4) (file_told_at g bs own c s fid.num f dir.number (live_reads fid.seq (head_told (file_header bs g fid)) f dir.header)) in
       by_file here (file_at c e.fid.num) refl where
         by_file : level c (S fid.num) ≡ 0 → (o : Option File) → file_at c e.fid.num ≡ o → IsBefore c (S fid.num) (S e.fid.num)
         by_file here None k = let last : level c (S e.fid.num) ≡ 4 = ap (λ (o : Option File). cond (is_some o) 0 4) k in Higher (omega arith)

@@ -5,7 +5,6 @@ use Rattle.std.proofs.lemmas.Option.{get_or_from_slice_get}
 use Rattle.base_words.specs.Fields.{Block}
 use Rattle.fx_header.specs.declared.slot.Hdr.{Hdr}
 use Rattle.fx_header.specs.declared.slot.Slot.TheVariants as head
-use Rattle.fx_header.specs.Headers.{header_read}
 use Rattle.fx_header.specs.Pointers.{lbns_in}
 use Rattle.fx_dir.specs.Directory.{directory}
 use Rattle.lock_db.specs.declared.name.LockName.{LockName}
@@ -28,7 +27,7 @@ use Rattle.vol_spell.proofs.Placing.{has_ranged}
 use Rattle.vol_parts.specs.declared.geometry.Geometry.{Geometry}
 use Rattle.vol_parts.specs.declared.geometry.Part.TheVariants.{Quota}
 use Rattle.vol_parts.specs.Catalogues.{plain_entries, file_of}
-use Rattle.vol_spell.specs.Reading.{IsFileNumber, owner_at, header_place, header_block, runs_told, quota_places}
+use Rattle.vol_spell.specs.Reading.{IsFileNumber, owner_at, header_place, header_block, head_told, runs_told, quota_places}
 use Rattle.vol_spell.specs.Places.{place_of}
 use Rattle.vol_spell.specs.Spelling.{Spells}
 use Rattle.vol_spell.proofs.Parts.{part_there, part_owned}
@@ -44,7 +43,7 @@ use Rattle.op_law.specs.Order.{IsBefore}
 use Rattle.op_law.specs.Laws.{held_in, ComesInTurn, Fixed, IsLockedLook}
 use Rattle.op_law.proofs.Heads.{header_is}
 use Rattle.op_law.proofs.Telling.{live_reads, live_is, not_live, number_is}
-use Rattle.vol_spell.proofs.HeadSlots.{reads_runs, file_blocks}
+use Rattle.vol_spell.proofs.HeadSlots.{alone_runs, dir_runs, file_blocks}
 use Rattle.op_law.proofs.Looks.{IsUnder, header_under, block_under}
 use Rattle.op_law.proofs.Walking.{ObeysBy}
 
@@ -186,8 +185,8 @@ module _ (x : Cmd) (g : Geometry) (bs : List Block) (own : Owners) (c : Cat) (s 
       in_dir : IsFileNumber g fid.num → (f : Hdr) → live_in fid.seq (file_header bs g fid) ≡ Some f → f.dir ≡ true
           → O (look_all (S fid.num) (places_in (file_header bs g fid)) (next (file_header bs g fid))) file_held
       in_dir is f e d =
-          let reads : header_read (file_header bs g fid) ≡ Ok (head.Used f) = live_reads fid.seq (header_read (file_header bs g fid)) f e in
-          let places : lbns_in (runs_told (file_header bs g fid)) ≡ places_in (file_header bs g fid) = ap lbns_in (reads_runs (file_header bs g fid) f reads) in
+          let reads : head_told (file_header bs g fid) ≡ Ok (head.Used f) = live_reads fid.seq (head_told (file_header bs g fid)) f e in
+          let places : lbns_in (runs_told (file_header bs g fid)) ≡ places_in (file_header bs g fid) = ap lbns_in (sym (alone_runs g bs own c s fid.num is) ∙ dir_runs g bs own c s fid.num f is reads d) in
           let entries : (file_told bs g fid f).entries ≡ entries_seen (listed_blocks bs g fid) =
           ap (λ t. cond t (plain_entries (directory (file_blocks bs (file_header bs g fid)))) []) d ∙ ap (λ ls. entries_seen (blocks_at bs ls)) places in
           all_obeys (S fid.num) file_held (places_in (file_header bs g fid)) (next (file_header bs g fid))

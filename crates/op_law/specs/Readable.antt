@@ -6,10 +6,11 @@ use Rattle.fx_dir.specs.Directory.{directory}
 use Rattle.fx_header.specs.declared.run.Run.{Run}
 use Rattle.fx_header.specs.declared.slot.Hdr.{Hdr}
 use Rattle.fx_header.specs.Headers.{has_offsets, has_map, runs_in}
+use Rattle.fx_header.specs.Pointers.{blocks_in}
 use Rattle.plain_cat.specs.declared.ids.Fid.{Fid}
 use Rattle.plain_cat.specs.declared.entries.DirEnt.{DirEnt}
 use Rattle.vol_spell.specs.Entries.{places_in}
-use Rattle.vol_spell.specs.Reading.{runs_told}
+use Rattle.vol_spell.specs.Reading.{fields_told, runs_told}
 use Rattle.op_law.specs.Rows.{live_in}
 use Rattle.op_law.specs.Behind.{blocks_alone}
 use Rattle.op_law.specs.declared.seeing.Listed.{Listed}
@@ -21,17 +22,23 @@ use Rattle.op_law.specs.declared.seeing.Listing.TheVariants as listing
 pub record HasMap (b : Block) : Type 0 where
   pub offsets : IsTrue (has_offsets b)
   pub map : IsTrue (has_map b)
-  pub told : runs_told b ≡ runs_in b
 
 -- a run ends at or before LBN 65,536
 abbrev pub EndsInside : Run → Type 0
 EndsInside r = r.lbn + r.count ≤ 65536
 
--- the runs that a header tells do
-abbrev pub AreInside : Block → Type 0
-AreInside b = All EndsInside (runs_told b)
+-- all runs that a header lists do
+abbrev pub ListsInside : Block → Type 0
+ListsInside b = All EndsInside (runs_in b)
 
--- those of a header that was seen first do
+-- Where a block is the first header of a file, it lists as many blocks as the file has, and the runs of these do. What it lists behind
+-- them may lie anywhere; that of a directory lists nothing else.
+pub record AreInside (b : Block) : Type 0 where
+  pub runs : All EndsInside (runs_told b)
+  pub enough : (h : Hdr) → fields_told b ≡ Some h → h.blocks ≤ blocks_in (runs_in b)
+  pub dir : (h : Hdr) → fields_told b ≡ Some h → h.dir ≡ true → runs_told b ≡ runs_in b
+
+-- so it is with the header that was seen first
 abbrev pub HeadIsInside : List (ℕ × Block) → Type 0
 HeadIsInside [] = Unit {0}
 HeadIsInside (h ∷ seen) = AreInside h.1

@@ -21,14 +21,18 @@ unless_refused (Some r) next = refuses r
 
 -- ---- a file
 
--- a file as a command sees it: its number, the block of its header, and what that tells of the file, without its blocks
+-- A file as a command sees it: its number, the block of its first header, the other headers that were seen, in order, each with its
+-- place, the blocks that the first one says, and what that tells of the file, without its blocks.
 pub record SeenFile : Type 0 where
   pub num : ℕ
   pub head : Block
+  pub rest : List (ℕ × Block)
+  pub blocks : ℕ
   pub file : File
 
+-- a file of which one header was seen
 abbrev pub seen_file : Geometry → ℕ → Block → Hdr → SeenFile
-seen_file g n b h = record { num = n; head = b; file = file_of g.cluster n h [] }
+seen_file g n b h = record { num = n; head = b; rest = []; blocks = h.blocks; file = file_of g.cluster n h [] }
 
 abbrev pub header_of_seq : ℕ → Option Hdr → Option Hdr
 header_of_seq seq None = None

@@ -18,7 +18,7 @@ use Rattle.op_law.specs.declared.need.Plan.{Plan}
 use Rattle.op_law.specs.declared.need.Ask.{Ask}
 use Rattle.op_law.specs.Events.{Events, Take, Look, Make}
 use Rattle.op_law.specs.Rows.{refuses, is_number, look_all, entries_seen}
-use Rattle.vol_spell.specs.Entries.{places_in}
+use Rattle.op_law.specs.SeenFiles.{file_places}
 use Rattle.op_law.specs.Refusing.{SeenFile, seen_file, used_in, if_file, if_entry}
 use Rattle.op_law.specs.Writing.{empty_handed, header_write, plan_of, asking_plan}
 use Rattle.op_law.specs.Moving.{SeenDir, entries_of, through_names, removal_writes}
@@ -40,7 +40,7 @@ through_named g dir fid otherwise next =
 -- no directory, or one whose blocks show no entry
 abbrev pub if_empty : SeenFile → Events → Events
 if_empty f next =
-    if f.file.dir then look_all (S f.num) (places_in f.head) (λ bs. if is_nil (entries_seen bs) then next else refuses refusal.DirNotEmpty)
+    if f.file.dir then look_all (S f.num) (file_places f) (λ bs. if is_nil (entries_seen bs) then next else refuses refusal.DirNotEmpty)
     else next
 
 -- ---- writes

@@ -6,7 +6,6 @@ use Rattle.fx_header.specs.declared.slot.Hdr.{Hdr}
 use Rattle.fx_header.specs.declared.slot.Slot.{Slot}
 use Rattle.fx_header.specs.declared.slot.Slot.TheVariants.{Free, Used}
 use Rattle.fx_header.specs.declared.slot.HeaderFault.{HeaderFault}
-use Rattle.fx_header.specs.Headers.{header_read}
 use Rattle.lock_db.specs.declared.name.LockName.{LockName}
 use Rattle.lock_db.specs.declared.name.LockName.TheVariants.{S}
 use Rattle.plain_cat.specs.declared.ids.Fid.{Fid}
@@ -18,7 +17,7 @@ use Rattle.plain_cat.specs.declared.reply.Refusal.{Refusal}
 use Rattle.plain_cat.specs.declared.reply.Refusal.TheVariants as refusal
 use Rattle.vol_parts.specs.declared.geometry.Geometry.{Geometry}
 use Rattle.vol_parts.specs.Catalogues.{plain_entries}
-use Rattle.vol_spell.specs.Reading.{header_place}
+use Rattle.vol_spell.specs.Reading.{header_place, head_told}
 use Rattle.op_law.specs.declared.need.Need.{Need}
 use Rattle.op_law.specs.declared.need.Need.TheVariants as need
 use Rattle.op_law.specs.declared.need.Plan.{Plan}
@@ -47,15 +46,15 @@ refuses r = answers (reply.Refused r)
 abbrev pub is_number : Geometry → Fid → Bool
 is_number g fid = nat_le 1 fid.num && nat_le fid.num g.files
 
--- the header in a slot, where it is that of the live file of this sequence
+-- what a slot says as a file's first header, where it is that of the live file of this sequence
 abbrev pub live_header : ℕ → Result Slot HeaderFault → Option Hdr
 live_header seq (Ok (Used h)) = if (h.seq == seq) && not h.marked then Some h else None
 live_header seq (Ok (Free last)) = None
 live_header seq (Err fault) = None
 
--- the header of the live file of this sequence, by its block
+-- the first header of the live file of this sequence, by its block
 abbrev pub live_in : ℕ → Block → Option Hdr
-live_in seq b = live_header seq (header_read b)
+live_in seq b = live_header seq (head_told b)
 
 -- looks at all of these blocks, in order, and what comes next by them
 abbrev pub look_all : LockName → List ℕ → (List Block → Events) → Events

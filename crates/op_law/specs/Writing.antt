@@ -2,13 +2,12 @@
 use Rattle.std.specs.Prelude.{◌+◌, ◌-◌, ◌*◌, ◌/◌, ℕ, List, [], Option, Some, None, map, slice_index_or}
 use Rattle.base_words.specs.Fields.{Block}
 use Rattle.fx_header.specs.declared.run.Run.{Run}
-use Rattle.fx_header.specs.Headers.{runs_in}
 use Rattle.lock_db.specs.declared.name.LockName.{LockName}
 use Rattle.lock_db.specs.declared.name.LockName.TheVariants.{S}
 use Rattle.plain_cat.specs.declared.history.Stage.{Stage}
 use Rattle.plain_cat.specs.declared.reply.Reply.{Reply}
 use Rattle.vol_parts.specs.declared.geometry.Geometry.{Geometry}
-use Rattle.vol_spell.specs.Reading.{header_place, clusters_of}
+use Rattle.vol_spell.specs.Reading.{header_place}
 use Rattle.op_law.specs.declared.need.Plan.{Plan}
 use Rattle.op_law.specs.declared.need.PlanWrite.{PlanWrite}
 use Rattle.op_law.specs.declared.need.Ask.{Ask}
@@ -37,11 +36,11 @@ with_numbers ns w = record w { numbers = ns }
 abbrev pub header_write : Geometry → ℕ → Block → Stage → Held → PlanWrite
 header_write g n b s out = write_at (S n) (header_place g n) b s out
 
--- where the virtual block of a file stands, by the block of its header; the first is 1
+-- where the virtual block of a directory stands, by the block of its header; the first is 1
 abbrev pub block_place : Block → ℕ → ℕ
 block_place head vbn = slice_index_or (places_in head) (vbn - 1) 0
 
--- the write of a virtual block of file n, which leaves nothing outside
+-- the write of a virtual block of directory n, which leaves nothing outside
 abbrev pub body_write : ℕ → Block → ℕ → Block → Stage → PlanWrite
 body_write n head vbn b s = write_at (S n) (block_place head vbn) b s empty_handed
 

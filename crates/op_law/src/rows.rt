@@ -1,13 +1,13 @@
 //! The events that commands have in common, each worked out.
 
-ghost use Rattle.std.specs.Prelude.{◌≡◌, ◌+◌, IfOk, IfSome, option_map, map, length, slice_get};
+ghost use Rattle.std.specs.Prelude.{◌≡◌, ◌+◌, true, IfOk, IfSome, option_map, map, length, slice_get};
 ghost use Rattle.fx_dir.specs.Directory.{all_entries};
 ghost use Rattle.fx_dir.specs.Wanted.{wanted_in, version_of};
 ghost use Rattle.plain_rules.specs.Lookups.{versions, entry_of};
 ghost use Rattle.op_law.specs.Rows.{answered, refused, is_number, live_in, entries_seen};
 ghost use Rattle.vol_spell.specs.Entries.{places_in};
 ghost use Rattle.op_law.specs.Behind.{blocks_alone};
-ghost use Rattle.op_law.specs.Readable.{HasMap, AreInside, IsRead, version_told};
+ghost use Rattle.op_law.specs.Readable.{HasMap, ListsInside, AreInside, IsRead, version_told};
 
 use crate::lists::Writes;
 use crate::need::{Need, Plan};
@@ -43,15 +43,16 @@ pub fn is_number(g: &Geometry, fid: Fid) -> bool
     1 <= fid.num && fid.num <= g.files
 }
 
-/// The header of the live file of this sequence, by its block, or none where the slot has none. Its runs can be read, and have
-/// as many blocks as it says.
+/// The first header of the live file of this sequence, by its block, or none where the slot has none. Its runs can be read; those of a
+/// directory have as many blocks as it says.
 pub fn live_in(b: &Block, seq: u16) -> Option<Hdr>
     ensures header { result ≡ live_in seq b.now }
     ensures map { IfSome result (λ h. HasMap b.now) }
-    ensures count { IfSome result (λ h. length (places_in b.now) ≡ h.blocks) }
+    ensures count { IfSome result (λ h. h.dir ≡ true → AreInside b.now → length (places_in b.now) ≡ h.blocks) }
+    ensures inside { IfSome result (λ h. h.dir ≡ true → AreInside b.now → ListsInside b.now) }
 {
     match read_header(b) {
-        Ok(Slot::Used(h)) => if h.seq == seq && !h.marked {
+        Ok(Slot::Used(h)) => if h.seg == 0 && h.seq == seq && !h.marked {
             Some(h)
         } else {
             None
@@ -61,11 +62,11 @@ pub fn live_in(b: &Block, seq: u16) -> Option<Hdr>
     }
 }
 
-/// The LBN of a file's block, which counts from 0, by the block of its header, or none where the file has fewer. The header
-/// is one in use, and its runs end at or before LBN 65,536.
+/// The LBN of a directory's block, which counts from 0, by the block of its header, or none where the directory has fewer. All runs of
+/// the header can be read, and end at or before LBN 65,536.
 pub fn place_in(b: &Block, at: usize) -> Option<u32>
     requires map { HasMap b.now }
-    requires inside { AreInside b.now }
+    requires inside { ListsInside b.now }
     ensures { result ≡ slice_get (places_in b.now) at }
 {
     let mut left = at;

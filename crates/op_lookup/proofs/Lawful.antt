@@ -4,7 +4,6 @@ use Rattle.std.specs.Prelude.{option_map, Ok}
 use Rattle.base_words.specs.Fields.{Block}
 use Rattle.fx_header.specs.declared.slot.Hdr.{Hdr}
 use Rattle.fx_header.specs.declared.slot.Slot.TheVariants as head
-use Rattle.fx_header.specs.Headers.{header_read}
 use Rattle.lock_db.specs.declared.name.LockName.TheVariants.{S}
 use Rattle.plain_cat.specs.declared.ids.Fid.{Fid}
 use Rattle.plain_cat.specs.declared.mode.Mode.TheVariants.{PR}
@@ -22,7 +21,7 @@ use Rattle.plain_rules.specs.Answers.{told, in_directory_file, lookup_outcome, l
 use Rattle.plain_rules.proofs.LawSteps.{pick_exists}
 use Rattle.vol_spell.specs.Owners.{Owners}
 use Rattle.vol_parts.specs.declared.geometry.Geometry.{Geometry}
-use Rattle.vol_spell.specs.Reading.{IsFileNumber}
+use Rattle.vol_spell.specs.Reading.{IsFileNumber, head_told}
 use Rattle.vol_spell.specs.Spelling.{Spells}
 use Rattle.op_law.specs.declared.need.Plan.{Plan}
 use Rattle.op_law.specs.declared.seen.Seen.{Seen}
@@ -105,7 +104,7 @@ module _ (x : Cmd) (channel : Option Chan) (g : Geometry) (seen : Seen) (bs : Li
     stat_behind : IsFileNumber g fid.num → (o : Option Hdr) → live_in fid.seq hb ≡ o → Obeys x g bs own c seen P (facts_or_none o) ((S fid.num, PR) ∷ [])
     stat_behind is None e = tells_so (reply.Refused refusal.NoSuchFile) (λ node new. same node new ∙ ap (stat_of c) (live_is g bs own c s fid is ∙ ap (option_map told_file) e))
     stat_behind is (Some f) e =
-        let reads : header_read hb ≡ Ok (head.Used f) = live_reads fid.seq (header_read hb) f e in
+        let reads : head_told hb ≡ Ok (head.Used f) = live_reads fid.seq (head_told hb) f e in
         let blocks = blocks_whole g bs own c s fid.num f is reads in
         tells_so (facts_of f) (λ node new. same node new ∙ ap (stat_of c) (live_is g bs own c s fid is ∙ ap (option_map told_file) e)
         ∙ ap (λ n. told c (reply.Facts f.dir (record { 0 = f.owner }) n f.mark f.end f.byte)) blocks)

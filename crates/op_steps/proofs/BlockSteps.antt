@@ -3,6 +3,7 @@ use Rattle.std.proofs.Common.{◌≡◌, ◌-◌, ◌∙◌, ℕ, Bool, false, L
 use Rattle.std.specs.Prelude.{Ok}
 use Rattle.base_words.specs.Fields.{Block}
 use Rattle.fx_header.specs.declared.slot.Slot.TheVariants as head
+use Rattle.fx_header.specs.Pointers.{lbns_in}
 use Rattle.plain_cat.specs.declared.cat.File.{File}
 use Rattle.plain_cat.specs.declared.cat.Slot.TheVariants as slot
 use Rattle.plain_rules.specs.Changes.{with_file}
@@ -14,13 +15,11 @@ use Rattle.vol_spell.specs.Reading.{header_block, told_of, body_blocks}
 use Rattle.vol_spell.specs.Spelling.{dir_found}
 use Rattle.vol_spell.specs.Kinds.{IsBodyFor}
 use Rattle.vol_spell.specs.Views.{IsFileAt}
-use Rattle.vol_spell.proofs.Heads.{alone_told}
 use Rattle.vol_spell.proofs.Viewing.{body_set}
 use Rattle.vol_under.specs.Chains.{End, IsStep}
 use Rattle.vol_under.proofs.Reach.{step_kinds}
 use Rattle.op_law.specs.declared.need.PlanWrite.{PlanWrite}
 use Rattle.op_law.specs.Laws.{planned}
-use Rattle.vol_spell.specs.Entries.{places_in}
 use Rattle.op_law.specs.SeenFiles.{file_place, file_write}
 use Rattle.op_steps.specs.Files.{file_in}
 use Rattle.op_steps.specs.BlockWrites.{BlockSteps}
@@ -39,13 +38,13 @@ block_steps end k n h f vbn b s ws x bs own on has whole stage rest =
     let old : List Block = body_blocks bs n (told_of g bs n) in
     let at = body_place g bs own x n h f on.spelt there vbn has.from has.to in
     let flat : h.dir ≡ false = no_dir g bs own x n h f on.spelt there has.flat in
-    let head_is : (told_of g bs n).head ≡ Ok (head.Used h) = ap (λ (t : Told). t.head) (alone_told g bs n h there.reads) in
+    let head_is : (told_of g bs n).head ≡ Ok (head.Used h) = there.reads in
     let is : IsBodyFor g bs n (vbn - 1) l b (slot.Used new) = record {
       whole = whole;
       number = there.number;
       place = at;
-      dir = ap (λ r. dir_found g n (fields_in r) (told_of g bs n).runs (slice_set old (vbn - 1) b)) head_is
-          ∙ ap (λ (d : Bool). dir_found g n (Some (record h { dir = d })) (told_of g bs n).runs (slice_set old (vbn - 1) b)) flat;
+      dir = ap (λ r. dir_found g n (fields_in r) (told_of g bs n) (slice_set old (vbn - 1) b)) head_is
+          ∙ ap (λ (d : Bool). dir_found g n (Some (record h { dir = d })) (told_of g bs n) (slice_set old (vbn - 1) b)) flat;
       slot = ap (λ r. slot_with g.cluster n r (slice_set old (vbn - 1) b)) head_is
           ∙ ap (λ (ys : List Block). slot.Used (file_of g.cluster n h (slice_set ys (vbn - 1) b))) (body g bs own x n h f on.spelt there)
           ∙ ap (λ (y : File). slot.Used y) (shows g bs own x n h f on.spelt there vbn has.from has.to has.flat b);
@@ -59,7 +58,7 @@ block_steps end k n h f vbn b s ws x bs own on has whole stage rest =
       rest (record {
         on = record { spelt = step.spelt; outs = on.outs };
         header = set.header;
-        blocks = ap (λ (hb : Block). blocks_at (slice_set bs l b) (places_in hb)) set.header
+        blocks = ap (λ (t : Told). blocks_at (slice_set bs l b) (lbns_in t.runs)) set.told
             ∙ ap (blocks_at (slice_set bs l b)) (sym (places g bs own x n h f on.spelt there))
             ∙ ap (body_blocks (slice_set bs l b) n) (sym set.told)
             ∙ set.body

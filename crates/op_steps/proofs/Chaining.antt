@@ -4,7 +4,6 @@ use Rattle.std.specs.Prelude.{◌==◌, Ok}
 use Rattle.base_words.specs.Fields.{Block}
 use Rattle.fx_header.specs.declared.slot.Hdr.{Hdr}
 use Rattle.fx_header.specs.declared.slot.Slot.TheVariants as head
-use Rattle.fx_header.specs.Headers.{header_read}
 use Rattle.fx_header.specs.Pointers.{lbns_in}
 use Rattle.plain_cat.specs.declared.ids.Fid.{Fid}
 use Rattle.plain_cat.specs.declared.cat.Cat.{Cat}
@@ -17,10 +16,10 @@ use Rattle.vol_spell.specs.Spread.{blocks_at}
 use Rattle.base_words.proofs.ListWrites.{get-set_else}
 use Rattle.vol_parts.specs.declared.geometry.Geometry.{Geometry}
 use Rattle.vol_parts.specs.Volumes.{Told}
-use Rattle.vol_spell.specs.Reading.{header_block, told_of, body_places}
+use Rattle.vol_spell.specs.Reading.{head_told, header_block, told_of, body_places}
 use Rattle.vol_spell.specs.Spelling.{Spells}
 use Rattle.vol_spell.specs.Views.{IsSameFile}
-use Rattle.vol_spell.proofs.Heads.{alone_told}
+use Rattle.vol_spell.proofs.HeadSlots.{dir_runs}
 use Rattle.vol_spell.specs.Entries.{places_in}
 use Rattle.op_law.specs.Moving.{SeenDir}
 use Rattle.op_law.proofs.Telling.{live_reads}
@@ -57,10 +56,10 @@ other_slot c n i s from low ne = by_zero (i == 0) where
 pub same_dir : (g : Geometry) (bs : List Block) (own : Owners) (c : Cat) (s : Spells g bs own c) (fid : Fid) (f : Hdr) (dir : IsListed g bs c fid f) (bs' : List Block) → IsSameFile g bs bs' fid.num → dir_in g bs' fid ≡ dir_in g bs fid
 same_dir g bs own c s fid f dir bs' same =
     let h : Block = header_block g bs fid.num in
-    let reads : header_read h ≡ Ok (head.Used f) = live_reads fid.seq (header_read h) f dir.header in
+    let reads : head_told h ≡ Ok (head.Used f) = live_reads fid.seq (head_told h) f dir.header in
     let t : Told = told_of g bs fid.num in
     let places : body_places fid.num t ≡ places_in h =
-    ap (λ k. cond k [] (lbns_in t.runs)) (plain_directory g bs own c s fid.num f reads dir.dir) ∙ ap (λ (z : Told). lbns_in z.runs) (alone_told g bs fid.num f reads) in
+    ap (λ k. cond k [] (lbns_in t.runs)) (plain_directory g bs own c s fid.num f reads dir.dir) ∙ ap lbns_in (dir_runs g bs own c s fid.num f dir.number reads dir.dir) in
     let body : blocks_at bs' (places_in h) ≡ blocks_at bs (places_in h) =
     ap (blocks_at bs') (sym places) ∙ ap (λ x. blocks_at bs' (body_places fid.num x)) (sym same.told) ∙ same.body ∙ ap (blocks_at bs) places in
     ap (λ b. dir_of b (blocks_at bs' (places_in b))) same.header ∙ ap (dir_of h) body where

@@ -6,7 +6,7 @@ use Rattle.std.proofs.lemmas.Bool.Decides.{nat_tests}
 use Rattle.std.proofs.lemmas.List.{take_at, take-append-le, take-append-drop, take-take, take_all, length-take}
 use Rattle.base_words.specs.Fields.{Block}
 use Rattle.fx_header.specs.declared.slot.Hdr.{Hdr}
-use Rattle.fx_header.specs.Headers.{runs_in, with_runs, with_mark, with_end}
+use Rattle.fx_header.specs.Headers.{with_runs, with_mark, with_end}
 use Rattle.plain_cat.specs.declared.cat.Cat.{Cat}
 use Rattle.plain_cat.specs.declared.cat.File.{File}
 use Rattle.plain_cat.specs.declared.cat.Slot.TheVariants as slot
@@ -19,7 +19,7 @@ use Rattle.base_words.proofs.Listing.{has_parted, has_first, has_second, once_fi
 use Rattle.vol_spell.proofs.Placing.{spread_joined, blocks_joined, spread_places, length-blocks_at}
 use Rattle.vol_parts.specs.declared.geometry.Geometry.{Geometry}
 use Rattle.vol_parts.specs.Catalogues.{is_structure, file_of}
-use Rattle.vol_spell.specs.Reading.{header_block}
+use Rattle.vol_spell.specs.Reading.{header_block, told_of, alone, clusters_told}
 use Rattle.vol_spell.specs.Spelling.{dir_found}
 use Rattle.vol_spell.specs.Kinds.{IsHeaderFor}
 use Rattle.vol_under.specs.Chains.{End}
@@ -28,12 +28,13 @@ use Rattle.vol_under.proofs.Files.{file_gives}
 use Rattle.op_law.specs.Freeing.{rising}
 use Rattle.op_law.specs.Sizes.{cut_header, cut_clusters}
 use Rattle.op_law.specs.Writing.{empty_handed, runs_for}
-use Rattle.vol_spell.specs.Files.{clusters_seen, IsFileThere}
+use Rattle.vol_spell.specs.Files.{IsFileThere}
+use Rattle.op_law.proofs.SeenRuns.{seen_clusters}
 use Rattle.op_steps.specs.Chained.{Chain, StandsOn}
 use Rattle.op_steps.specs.Files.{file_in}
 use Rattle.op_steps.specs.GoneWrites.{cut_write, CutSteps}
 use Rattle.op_steps.proofs.HeadSteps.{head_steps}
-use Rattle.vol_spell.proofs.HeadFiles.{once, owned, within, sized, counted, all_seen, few, byte_within, not_structure}
+use Rattle.vol_spell.proofs.HeadFiles.{once, owned, within, sized, counted, few, byte_within, not_structure}
 use Rattle.vol_spell.proofs.HeadTold.{IsHeadWith, IsFileWith, head_for}
 use Rattle.op_steps.proofs.Rerun.{with_clusters, rerun}
 use Rattle.op_steps.proofs.Grown.{shown_by}
@@ -96,25 +97,25 @@ module _ (k : Chain) (n : ℕ) (h : Hdr) (f : File) (kept : ℕ) (x : Cat) (bs :
   b = header_block k.geometry bs n
 
   abbrev cs : List ℕ
-  cs = clusters_seen k.geometry (header_block k.geometry bs n)
+  cs = clusters_told k.geometry (told_of k.geometry bs n)
 
   -- the clusters that stay, and those that go
   abbrev front : List ℕ
-  front = take kept (clusters_seen k.geometry (header_block k.geometry bs n))
+  front = take kept (clusters_told k.geometry (told_of k.geometry bs n))
 
   abbrev rest : List ℕ
-  rest = drop kept (clusters_seen k.geometry (header_block k.geometry bs n))
+  rest = drop kept (clusters_told k.geometry (told_of k.geometry bs n))
 
   abbrev pub gone : Things
-  gone = record { clusters = rising k.geometry (drop kept (clusters_seen k.geometry (header_block k.geometry bs n))); numbers = [] }
+  gone = record { clusters = rising k.geometry (drop kept (clusters_told k.geometry (told_of k.geometry bs n))); numbers = [] }
 
   abbrev new : Owners
   new = brought_out k.node gone own
 
-  parts : take kept (clusters_seen k.geometry (header_block k.geometry bs n)) ++ drop kept (clusters_seen k.geometry (header_block k.geometry bs n)) ≡ clusters_seen k.geometry (header_block k.geometry bs n)
+  parts : take kept (clusters_told k.geometry (told_of k.geometry bs n)) ++ drop kept (clusters_told k.geometry (told_of k.geometry bs n)) ≡ clusters_told k.geometry (told_of k.geometry bs n)
   parts = take-append-drop kept cs
 
-  file_now : f ≡ file_of k.geometry.cluster n h (blocks_at bs (spread k.geometry.cluster (clusters_seen k.geometry (header_block k.geometry bs n))))
+  file_now : f ≡ file_of k.geometry.cluster n h (blocks_at bs (spread k.geometry.cluster (clusters_told k.geometry (told_of k.geometry bs n))))
   file_now = file g k.node n h f x bs own on.spelt is
 
   count : f.clusters ≡ length cs
@@ -206,17 +207,17 @@ module _ (k : Chain) (n : ℕ) (h : Hdr) (f : File) (kept : ℕ) (x : Cat) (bs :
       let len = front_count in
       let size : g.cluster * length front ≡ g.cluster * kept = ap (λ z. g.cluster * z) len in
       let last = rerun g n two (lowered_fields h (g.cluster * kept)) front geometry marked.whole marked.reads marked.num (λ q t. within g bs own x n h on.spelt is.number is.reads q (in_all q t)) (omega arith) (omega arith) (omega arith) in
-      rw (all_seen g bs own x n h on.spelt is.number is.reads) (subst (λ (z : ℕ). IsHeadWith g n (with_runs two (runs_for g front)) (with_clusters g (lowered_fields h (g.cluster * kept)) z) front) len last)
+      rw (seen_clusters g bs own x on.spelt n h is.number is.reads) (subst (λ (z : ℕ). IsHeadWith g n (with_runs two (runs_for g front)) (with_clusters g (lowered_fields h (g.cluster * kept)) z) front) len last)
 
   -- ---- the file
 
   abbrev front_blocks : List Block
-  front_blocks = blocks_at bs (spread k.geometry.cluster (take kept (clusters_seen k.geometry (header_block k.geometry bs n))))
+  front_blocks = blocks_at bs (spread k.geometry.cluster (take kept (clusters_told k.geometry (told_of k.geometry bs n))))
 
   abbrev rest_blocks : List Block
-  rest_blocks = blocks_at bs (spread k.geometry.cluster (drop kept (clusters_seen k.geometry (header_block k.geometry bs n))))
+  rest_blocks = blocks_at bs (spread k.geometry.cluster (drop kept (clusters_told k.geometry (told_of k.geometry bs n))))
 
-  joined : blocks_at bs (spread k.geometry.cluster (clusters_seen k.geometry (header_block k.geometry bs n))) ≡ front_blocks ++ rest_blocks
+  joined : blocks_at bs (spread k.geometry.cluster (clusters_told k.geometry (told_of k.geometry bs n))) ≡ front_blocks ++ rest_blocks
   joined = ap (λ (ls : List ℕ). blocks_at bs (spread g.cluster ls)) (sym parts) ∙ ap (blocks_at bs) (spread_joined g.cluster front rest) ∙ blocks_joined bs (spread g.cluster front) (spread g.cluster rest)
 
   front_long : length front_blocks ≡ k.geometry.cluster * kept
@@ -230,14 +231,15 @@ module _ (k : Chain) (n : ℕ) (h : Hdr) (f : File) (kept : ℕ) (x : Cat) (bs :
       ∙ ap (λ (body : List Block). cut x (file_of g.cluster n h body) kept) (sym joined)
       ∙ ap (λ (y : File). cut x y kept) (sym file_now)
 
-  with : IsFileWith k.geometry bs own (brought_out k.node gone own) x k.node n fields (runs_in (cut_header k.geometry (file_in k.geometry bs n h) kept)) front (cut x f kept)
+  with : IsFileWith k.geometry bs own (brought_out k.node gone own) x k.node n (cut_header k.geometry (file_in k.geometry bs n h) kept) fields front (cut x f kept)
   with = record {
     moves = gives.moves;
     once = once_first front rest both_once;
     clusters = mine;
     numbers = numbers;
     few = λ above. let many = few g bs own x n h on.spelt is.number is.reads above in let c = count in let len = front_count in omega arith;
-    dir = ap (λ (d : Bool). dir_found g n (Some (record fields { dir = d })) (runs_in (cut_header g (file_in g bs n h) kept)) front_blocks) dir;
+    system = λ low_number. let above = is.above in absurd (omega arith);
+    dir = ap (λ (d : Bool). dir_found g n (Some (record fields { dir = d })) (alone n fields (cut_header g (file_in g bs n h) kept)) front_blocks) dir;
     file = told;
     reserved = λ old low_number at_slot. let above = is.above in absurd (omega arith);
   }
@@ -247,7 +249,7 @@ module _ (k : Chain) (n : ℕ) (h : Hdr) (f : File) (kept : ℕ) (x : Cat) (bs :
 
   -- the clusters that are outside then are those
   pub outs_are : record { clusters = cut_clusters k.geometry (file_in k.geometry bs n h) kept; numbers = [] } ≡ gone
-  outs_are = ap (λ (qs : List ℕ). record { clusters = rising g (drop kept qs); numbers = [] }) (all_seen g bs own x n h on.spelt is.number is.reads)
+  outs_are = ap (λ (qs : List ℕ). record { clusters = rising g (drop kept qs); numbers = [] }) (seen_clusters g bs own x on.spelt n h is.number is.reads)
 
 pub cut_steps : (end : End) → CutSteps end
 cut_steps end k n h f kept s ws x bs own on is flat le lock stage rest =

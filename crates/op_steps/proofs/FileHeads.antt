@@ -1,16 +1,17 @@
 -- The header of a new file: what is read of it, and that it is a whole block.
 use Rattle.std.proofs.Common.{◌≡◌, ◌<◌, ◌≤◌, ◌+◌, ◌*◌, ◌++◌, ℕ, Bool, true, false, List, [], ◌∷◌, Some, None, length, refl, sym, ap, ◌∙◌, inl, inr, arith, cond, lit<, Ok}
-use Rattle.std.specs.Prelude.{◌==◌, ◌&&◌, codes, decimal}
+use Rattle.std.specs.Prelude.{◌==◌, ◌&&◌, not, codes, decimal}
 use Rattle.std.proofs.lemmas.Bool.{eq-eqb}
+use Rattle.std.proofs.lemmas.Bool.Decides.{nat_tests}
 use Rattle.std.proofs.Math.Nat.{mul-div_cancel_left, mul-le-mul_right}
 use Rattle.std.proofs.lemmas.Fmt.{IsAscii-decimal}
 use Rattle.base_words.specs.Fields.{Block, IsBytes, IsWholeBlock}
 use Rattle.fx_dir.specs.Directory.{directory}
-use Rattle.fx_header.specs.declared.run.Run.{Run}
 use Rattle.fx_header.specs.declared.slot.Slot.TheVariants as head
-use Rattle.fx_header.specs.Pointers.{merged, map_words}
+use Rattle.fx_header.specs.Pointers.{merged, map_words, blocks_in}
+use Rattle.fx_header.proofs.SpellLemmas.{blocks_in-merged}
 use Rattle.fx_header.specs.Headers.{header_read, header_bytes, map_area, runs_in, with_runs}
-use Rattle.fx_header.proofs.NewLemmas.{Fits, new-fielded, new-reads, header-area}
+use Rattle.fx_header.proofs.NewLemmas.{Ranges, new-fielded, new-reads, header-area}
 use Rattle.vol_parts.proofs.Bytes.{bytes-append, bytes-cons, bytes-none}
 use Rattle.vol_parts.proofs.WholeHeaders.{whole_header, whole_runs}
 use Rattle.vol_parts.proofs.Names.{bytes-name}
@@ -22,10 +23,14 @@ use Rattle.plain_rules.specs.Changes.{new_file, new_dir}
 use Rattle.base_words.specs.Lists.{Has}
 use Rattle.vol_parts.specs.declared.geometry.Geometry.{Geometry}
 use Rattle.vol_parts.specs.Parts.{IsGeometry}
-use Rattle.vol_parts.specs.Fatal.{is_cluster_run, found_in}
+use Rattle.vol_parts.specs.Chains.{cut}
+use Rattle.vol_parts.specs.Fatal.{is_one_header, is_cluster_run, found_in}
+use Rattle.vol_parts.specs.Volumes.{Told}
+use Rattle.vol_parts.proofs.Cuts.{cut-leaves}
+use Rattle.vol_parts.proofs.Listed.{runs-some}
 use Rattle.vol_parts.specs.declared.finding.Finding.TheVariants as finding
 use Rattle.vol_parts.specs.Catalogues.{is_structure, plain_entries, file_of, slot_with}
-use Rattle.vol_spell.specs.Reading.{total_of}
+use Rattle.vol_spell.specs.Reading.{total_of, alone}
 use Rattle.vol_spell.specs.Spelling.{dir_found}
 use Rattle.op_law.specs.Entering.{NewEntry, fields_for, new_header}
 use Rattle.plain_cat.specs.Names.{text_of}
@@ -64,7 +69,7 @@ bytes-text name ver are top =
 -- ---- what is read
 
 module _ (g : Geometry) (parent : Fid) (n : ℕ) (e : NewEntry) (qs : List ℕ) (geometry : IsGeometry g) (can : CanBeMade g n e qs) (within : (q : ℕ) → Has qs q → q < total_of g) where
-  fits : Fits (fields_for g n e.file)
+  fits : Ranges (fields_for g n e.file)
   fits =
       let s = sized g e.file (length qs) can.kind in
       let clusters = s.clusters in
@@ -88,9 +93,9 @@ module _ (g : Geometry) (parent : Fid) (n : ℕ) (e : NewEntry) (qs : List ℕ) 
         mark = omega arith;
         end = omega arith;
         byte = omega arith;
-        seg = refl;
-        ext = refl;
-        ext_seq = refl;
+        seg = omega arith;
+        ext = omega arith;
+        ext_seq = omega arith;
       }
 
   abbrev base : Block
@@ -110,8 +115,10 @@ module _ (g : Geometry) (parent : Fid) (n : ℕ) (e : NewEntry) (qs : List ℕ) 
       let end = s.end in
       let byte = s.byte in
       let blocks : g.cluster * e.file.clusters ≡ g.cluster * length qs = ap (λ k. g.cluster * k) s.clusters in
-      new-reads (fields_for g n e.file) (text_of e.name e.ver) (parent.num, parent.seq) fits (omega arith) (omega arith) (omega arith)
-      (runs_for g qs) (are_runs_for g geometry.cluster_from qs within geometry.blocks_to) room (blocks_for_runs g qs ∙ sym blocks)
+      let all : blocks_in (runs_for g qs) ≡ g.cluster * e.file.clusters = blocks_for_runs g qs ∙ sym blocks in
+      let made = new-reads (fields_for g n e.file) (text_of e.name e.ver) (parent.num, parent.seq) fits (λ first. (omega arith, omega arith)) (λ first. omega arith) in
+      let read = made.runs (runs_for g qs) (are_runs_for g geometry.cluster_from qs within geometry.blocks_to, room) (λ first. (omega (arith, all), omega (arith, all))) in
+      (read.0 ∙ ap (λ (z : ℕ). Ok (head.Used (record (fields_for g n e.file) { blocks = z }))) all, read.1)
 
   pub head_is : header_read (new_header g parent n e qs) ≡ Ok (head.Used (fields_for g n e.file))
   unfolding new_header
@@ -120,6 +127,21 @@ module _ (g : Geometry) (parent : Fid) (n : ℕ) (e : NewEntry) (qs : List ℕ) 
   pub runs_are : runs_in (new_header g parent n e qs) ≡ merged (runs_for g qs)
   unfolding new_header
   runs_are = back.1
+
+  abbrev made : Block
+  made = new_header g parent n e qs
+
+  -- it lists just the blocks of the file
+  pub listed_is : blocks_in (runs_in (new_header g parent n e qs)) ≡ g.cluster * e.file.clusters
+  listed_is =
+      let s = sized g e.file (length qs) can.kind in
+      ap blocks_in runs_are ∙ blocks_in-merged (runs_for g qs) ∙ blocks_for_runs g qs ∙ ap (λ k. g.cluster * k) (sym s.clusters)
+
+  pub cut_is : cut (g.cluster * e.file.clusters) (runs_in (new_header g parent n e qs)) ≡ merged (runs_for g qs)
+  cut_is = cut-leaves (g.cluster * e.file.clusters) (runs_in made) (runs-some made) (omega (arith, listed_is)) ∙ runs_are
+
+  no_surplus : (alone n (fields_for g n e.file) (new_header g parent n e qs)).surplus ≡ false
+  no_surplus = let all : blocks_in (runs_in made) ≤ g.cluster * e.file.clusters = omega (arith, listed_is) in grind (arith, nat_tests)
 
   pub whole_new : IsWholeBlock (new_header g parent n e qs)
   unfolding new_header
@@ -156,24 +178,42 @@ runs_of_one g [] one = absurd (omega arith)
 runs_of_one g (q ∷ []) one = eq-eqb g.cluster g.cluster refl
 runs_of_one g (q ∷ p ∷ qs) one = absurd (omega arith)
 
-directory_found : (g : Geometry) (n seq : ℕ) (owner : Uic) (body : List Block) (rs : List Run) → is_cluster_run g.cluster rs ≡ true → directory body ≡ Ok [] → dir_found g n (Some (fields_for g n (new_dir seq owner g.cluster))) rs body ≡ None
-directory_found g n seq owner body rs run bare =
-    ap (λ t. cond (t && ((g.cluster + 1 == g.cluster + 1) && true)) (found_in n (directory body)) (Some (finding.DirSize n))) run
+-- a file has one header where nothing is listed behind its blocks
+record HasOneHeader (g : Geometry) (k : ℕ) (t : Told) : Type 0 where
+  pub last : t.surplus ≡ false
+  pub size : blocks_in t.runs ≡ g.cluster * k
+
+directory_found : (g : Geometry) (n seq : ℕ) (owner : Uic) (body : List Block) (t : Told) → HasOneHeader g 1 t → is_cluster_run g.cluster t.runs ≡ true → directory body ≡ Ok []
+    → dir_found g n (Some (fields_for g n (new_dir seq owner g.cluster))) t body ≡ None
+directory_found g n seq owner body t alone run bare =
+    let one : is_one_header (fields_for g n (new_dir seq owner g.cluster)) t ≡ true =
+    ap (λ s. not s && (blocks_in t.runs == g.cluster * 1)) alone.last ∙ eq-eqb (blocks_in t.runs) (g.cluster * 1) alone.size in
+    ap (λ o. cond (o && (is_cluster_run g.cluster t.runs && ((g.cluster + 1 == g.cluster + 1) && true))) (found_in n (directory body)) (Some (finding.DirSize n))) one
+    ∙ ap (λ t. cond (t && ((g.cluster + 1 == g.cluster + 1) && true)) (found_in n (directory body)) (Some (finding.DirSize n))) run
     ∙ ap (λ t. cond (t && true) (found_in n (directory body)) (Some (finding.DirSize n))) (eq-eqb (g.cluster + 1) (g.cluster + 1) refl)
     ∙ ap (found_in n) bare
 
-dir_told : (g : Geometry) (n : ℕ) (f : File) (body : List Block) (qs : List ℕ) → IsNewFile g f (length qs) → IsBare f body → dir_found g n (Some (fields_for g n f)) (merged (runs_for g qs)) body ≡ None
-dir_told g n f body qs (inl e) bare = ap (λ (x : File). dir_found g n (Some (fields_for g n x)) (merged (runs_for g qs)) body) e
-dir_told g n f body qs (inr (e, one)) bare =
-    ap (λ (x : File). dir_found g n (Some (fields_for g n x)) (merged (runs_for g qs)) body) e
-    ∙ directory_found g n f.seq f.owner body (merged (runs_for g qs)) (runs_of_one g qs one) (bare (ap (λ (x : File). x.dir) e))
+dir_told : (g : Geometry) (n : ℕ) (f : File) (body : List Block) (qs : List ℕ) (t : Told) → IsNewFile g f (length qs) → IsBare f body → HasOneHeader g (length qs) t → t.runs ≡ merged (runs_for g qs)
+    → dir_found g n (Some (fields_for g n f)) t body ≡ None
+dir_told g n f body qs t (inl e) bare alone runs = ap (λ (x : File). dir_found g n (Some (fields_for g n x)) t body) e
+dir_told g n f body qs t (inr (e, one)) bare alone runs =
+    ap (λ (x : File). dir_found g n (Some (fields_for g n x)) t body) e
+    ∙ directory_found g n f.seq f.owner body t (record { last = alone.last; size = alone.size ∙ ap (λ k. g.cluster * k) one })
+    (ap (is_cluster_run g.cluster) runs ∙ runs_of_one g qs one) (bare (ap (λ (x : File). x.dir) e))
 
 -- what the header tells with the blocks of the file: a directory that can be read, and the file
 pub new_dir_told : (g : Geometry) (parent : Fid) (n : ℕ) (e : NewEntry) (qs : List ℕ) (body : List Block) → IsGeometry g → CanBeMade g n e qs → ((q : ℕ) → Has qs q → q < total_of g) → IsBare e.file body
-    → dir_found g n (Some (fields_for g n e.file)) (runs_in (new_header g parent n e qs)) body ≡ None
+    → dir_found g n (Some (fields_for g n e.file)) (alone n (fields_for g n e.file) (new_header g parent n e qs)) body ≡ None
 new_dir_told g parent n e qs body geometry can within bare =
-    ap (λ rs. dir_found g n (Some (fields_for g n e.file)) rs body) (runs_are g parent n e qs geometry can within)
-    ∙ dir_told g n e.file body qs can.kind bare
+    let s = sized g e.file (length qs) can.kind in
+    let listed = listed_is g parent n e qs geometry can within in
+    let cuts = cut_is g parent n e qs geometry can within in
+    dir_told g n e.file body qs (alone n (fields_for g n e.file) (new_header g parent n e qs)) can.kind bare
+    (record {
+      last = no_surplus g parent n e qs geometry can within;
+      size = ap blocks_in cuts ∙ sym (ap blocks_in (runs_are g parent n e qs geometry can within)) ∙ listed ∙ ap (λ k. g.cluster * k) s.clusters;
+    })
+    cuts
 
 pub new_slot_told : (g : Geometry) (parent : Fid) (n : ℕ) (e : NewEntry) (qs : List ℕ) (body : List Block) → IsGeometry g → CanBeMade g n e qs → ((q : ℕ) → Has qs q → q < total_of g) → is_structure n ≡ false → IsBare e.file body
     → slot_with g.cluster n (Ok (head.Used (fields_for g n e.file))) body ≡ slot.Used e.file

@@ -1,5 +1,5 @@
 -- The writes of a new file as steps, and what guards the blocks that they touch.
-use Rattle.std.proofs.Common.{◌≡◌, ◌<◌, ◌≤◌, ◌+◌, ◌-◌, ◌++◌, ◌⊎◌, ℕ, false, List, [], ◌∷◌, Some, length, map, slice_get, slice_set, is_some, refl, sym, ap, subst, ◌∙◌, inl, inr, arith, cond}
+use Rattle.std.proofs.Common.{◌≡◌, ◌<◌, ◌≤◌, ◌+◌, ◌-◌, ◌*◌, ◌++◌, ◌⊎◌, ℕ, false, List, [], ◌∷◌, Some, length, map, slice_get, slice_set, is_some, refl, sym, ap, subst, ◌∙◌, inl, inr, arith, cond}
 use Rattle.std.specs.Prelude.{Result, Ok, Err}
 use Rattle.std.proofs.lemmas.Option.{slice_get_within}
 use Rattle.base_words.specs.Fields.{Block}
@@ -9,7 +9,7 @@ use Rattle.fx_header.specs.declared.slot.Slot.{Slot as Head}
 use Rattle.fx_header.specs.declared.slot.Slot.TheVariants as head
 use Rattle.fx_header.specs.declared.slot.HeaderFault.{HeaderFault}
 use Rattle.fx_header.specs.Headers.{header_read, runs_in}
-use Rattle.fx_header.specs.Pointers.{merged, lbns_in}
+use Rattle.fx_header.specs.Pointers.{merged, blocks_in, lbns_in}
 use Rattle.plain_cat.specs.declared.ids.Fid.{Fid}
 use Rattle.plain_cat.specs.declared.cat.Cat.{Cat}
 use Rattle.plain_cat.specs.declared.cat.Slot.TheVariants as slot
@@ -24,17 +24,18 @@ use Rattle.vol_spell.specs.Spread.{blocks_at, spread}
 use Rattle.base_words.proofs.Listing.{once_first}
 use Rattle.vol_parts.specs.declared.geometry.Geometry.{Geometry}
 use Rattle.vol_parts.specs.declared.geometry.Part.TheVariants.{Header}
-use Rattle.vol_parts.specs.Volumes.{Told, fields_in}
+use Rattle.vol_parts.specs.Volumes.{Told, fields_in, told_by}
+use Rattle.vol_parts.specs.Chains.{cut}
 use Rattle.vol_parts.specs.Catalogues.{is_structure}
-use Rattle.vol_spell.specs.Reading.{IsFileNumber, total_of, header_place, header_block, head_told, told_of, alone, clusters_of, clusters_told, body_places, body_blocks}
+use Rattle.vol_spell.specs.Reading.{IsFileNumber, total_of, header_place, header_block, headers_at, head_told, told_of, alone, clusters_of, clusters_told, body_places, body_blocks}
 use Rattle.vol_spell.specs.Spelling.{AreWhole, IsHead, Tells, Spells}
 use Rattle.vol_spell.specs.Kinds.{IsHeaderFor}
 use Rattle.vol_spell.specs.Views.{IsSameFile}
 use Rattle.vol_spell.proofs.Keeping.{outside_write}
-use Rattle.vol_spell.proofs.Heads.{head_alone, none_told}
+use Rattle.vol_spell.proofs.Heads.{none_told, reads_first}
+use Rattle.vol_spell.proofs.OneHeader.{within_file, alone_size, alone_split}
 use Rattle.vol_spell.proofs.Parts.{numberless, in_use, told, part_owned}
 use Rattle.vol_spell.proofs.Frames.{on_volume}
-use Rattle.vol_spell.proofs.Adds.{alone_sized}
 use Rattle.vol_spell.proofs.Viewing.{alone_set, header_set, outside_stays}
 use Rattle.vol_under.specs.UnderWay.{PlannedWrite, bare}
 use Rattle.vol_under.specs.Chains.{End, IsStep, Steps}
@@ -51,7 +52,7 @@ use Rattle.op_law.specs.Writing.{holding, empty_handed, runs_for, header_write}
 use Rattle.op_steps.specs.Chained.{Chain, StepsOf, StandsOn, FilesStay, OthersStay, after_writes}
 use Rattle.op_steps.specs.FileWrites.{CanBeMade, file_writes, FileSteps}
 use Rattle.op_steps.proofs.FileRuns.{whole_for, clusters_for_runs, lbns_merged}
-use Rattle.op_steps.proofs.FileHeads.{IsBare, head_is, runs_are, whole_new, new_dir_told, new_slot_told}
+use Rattle.op_steps.proofs.FileHeads.{IsBare, head_is, listed_is, cut_is, whole_new, new_dir_told, new_slot_told}
 use Rattle.op_steps.proofs.FileBodies.{AreBody, are_body}
 use Rattle.vol_parts.proofs.Structures.{not_structure}
 
@@ -90,7 +91,7 @@ unused g bs own x node n spelt is out q at =
       by_head (Ok (head.Used h)) e t =
           let f : Some (Outside node) ≡ Some (InFile n) = sym out ∙ (in_use g bs own x spelt n is).0 (ap (λ r. is_some (fields_in r)) e) in absurd (cc)
       by_head (Ok (head.Free seq)) e t = subst (λ (z : Told). Has (clusters_told g z) q) (none_told g bs n seq e) t
-      by_head (Err fault) e t = subst (IsHead n) (sym (head_alone (header_block g bs n)) ∙ e) (spelt.slots.heads n is)
+      by_head (Err fault) e t = subst (λ (z : Told). Has (clusters_told g z) q) (ap (told_by (headers_at g bs) n) e) t
 
 module _ (k : Chain) (parent : Fid) (n : ℕ) (e : NewEntry) (qs : List ℕ) (x : Cat) (bs : List Block) (own : Owners) (on : StandsOn k (holding qs (Some n)) x bs own) (can : CanBeMade k.geometry n e qs)
     (bare_body : AreBody k.geometry k.node n e.file qs bs own (body_writes k.geometry n e.file qs)) where
@@ -119,11 +120,17 @@ module _ (k : Chain) (parent : Fid) (n : ℕ) (e : NewEntry) (qs : List ℕ) (x 
   abbrev mid_blocks : List Block
   mid_blocks = after_writes (body_writes k.geometry n e.file qs) bs
 
-  runs_eq : runs_in block ≡ merged (runs_for k.geometry qs)
-  runs_eq = runs_are k.geometry parent n e qs on.spelt.counts.geometry can within
+  runs_eq : cut (k.geometry.cluster * e.file.clusters) (runs_in block) ≡ merged (runs_for k.geometry qs)
+  runs_eq = cut_is k.geometry parent n e qs on.spelt.counts.geometry can within
 
   reads : header_read block ≡ Ok (head.Used (fields_for k.geometry n e.file))
   reads = head_is k.geometry parent n e qs on.spelt.counts.geometry can within
+
+  first : head_told block ≡ Ok (head.Used (fields_for k.geometry n e.file))
+  first = reads_first block (fields_for k.geometry n e.file) reads refl
+
+  enough : k.geometry.cluster * e.file.clusters ≤ blocks_in (runs_in block)
+  enough = omega (arith, listed_is k.geometry parent n e qs on.spelt.counts.geometry can within)
 
   abbrev tells : Told
   tells = alone n (fields_for k.geometry n e.file) (new_header k.geometry parent n e qs)
@@ -132,7 +139,7 @@ module _ (k : Chain) (parent : Fid) (n : ℕ) (e : NewEntry) (qs : List ℕ) (x 
   clusters_eq = ap (λ (rs : List Run). clusters_of k.geometry.cluster rs) runs_eq ∙ clusters_for_runs k.geometry on.spelt.counts.geometry.cluster_from qs within
 
   places_eq : body_places n tells ≡ spread k.geometry.cluster qs
-  places_eq = ap (λ t. cond t [] (lbns_in (runs_in block))) plain ∙ ap (λ (rs : List Run). lbns_in rs) runs_eq ∙ lbns_merged k.geometry qs
+  places_eq = ap (λ t. cond t [] (lbns_in (cut (k.geometry.cluster * e.file.clusters) (runs_in block)))) plain ∙ ap (λ (rs : List Run). lbns_in rs) runs_eq ∙ lbns_merged k.geometry qs
 
   bare_blocks : IsBare e.file (body_blocks mid_blocks n tells)
   bare_blocks d = ap (λ (ls : List ℕ). directory (blocks_at mid_blocks ls)) places_eq ∙ bare_body.bare d
@@ -143,19 +150,27 @@ module _ (k : Chain) (parent : Fid) (n : ℕ) (e : NewEntry) (qs : List ℕ) (x 
   only_number i (inl (inr t)) = absurd t
   only_number i (inr u) = absurd (numberless k.geometry bs own x on.spelt i n (λ e. let both : Some (Outside k.node) ≡ Some (InFile n) = sym number_out ∙ e in absurd (cc)) u)
 
+  few_listed : length (clusters_told k.geometry tells) ≤ header_most
+  few_listed = subst (λ (ls : List ℕ). length ls ≤ header_most) (sym clusters_eq) can.few
+
+  whole_listed : AreWhole k.geometry (cut (k.geometry.cluster * e.file.clusters) (runs_in block))
+  whole_listed = subst (λ (rs : List Run). AreWhole k.geometry rs) (sym runs_eq) (whole_for k.geometry on.spelt.counts.geometry.cluster_from qs within)
+
   told_then : Tells k.geometry new n tells (body_blocks mid_blocks n tells) (slot.Used e.file)
   told_then =
       let geometry = on.spelt.counts.geometry in
       let t = takes in
       record {
         reads = refl;
-        whole = subst (λ (rs : List Run). AreWhole k.geometry rs) (sym runs_eq) (whole_for k.geometry geometry.cluster_from qs within);
+        whole = whole_listed;
         once = subst (λ (ls : List ℕ). Once ls) (sym clusters_eq) (once_first qs k.stock.clusters on.outs.clusters.once);
         runs = λ q. (
           (λ u. (t.clusters q).1 (inl (subst (λ (ls : List ℕ). Has ls q) clusters_eq u))),
           (λ u. elim ((t.clusters q).0 u) [ inl v ↦ subst (λ (ls : List ℕ). Has ls q) (sym clusters_eq) v | inr v ↦ absurd (unused k.geometry bs own x k.node n on.spelt can.number number_out q v) ]),
         );
-        few = λ above. subst (λ (ls : List ℕ). length ls ≤ header_most) (sym clusters_eq) can.few;
+        few = λ above. within_file (length (clusters_told k.geometry tells)) few_listed;
+        split = λ above. alone_split k.geometry n (fields_for k.geometry n e.file) block geometry.cluster_from whole_listed few_listed;
+        system = λ low. let above = can.above in absurd (omega arith);
         slots = λ m. (
           (λ u. elim u [
             | inl e ↦ subst (λ (i : ℕ). IsFileNumber k.geometry i × (slice_get new.numbers (i - 1) ≡ Some (InFile n))) e (can.number, (t.numbers (n - 1)).1 (inl (inl refl)))
@@ -163,7 +178,7 @@ module _ (k : Chain) (parent : Fid) (n : ℕ) (e : NewEntry) (qs : List ℕ) (x 
           ]),
           (λ u. inl (only_number (m - 1) ((t.numbers (m - 1)).0 u.1) ∙ (let low = u.0.from in let z : m - 1 + 1 ≡ m = omega arith in z))),
         );
-        size = alone_sized n (fields_for k.geometry n e.file) block reads;
+        size = alone_size (fields_for k.geometry n e.file) block enough;
         dir = new_dir_told k.geometry parent n e qs (body_blocks mid_blocks n tells) geometry can within bare_blocks;
         slot = new_slot_told k.geometry parent n e qs (body_blocks mid_blocks n tells) geometry can within plain bare_blocks;
       }
@@ -181,7 +196,9 @@ module _ (k : Chain) (parent : Fid) (n : ℕ) (e : NewEntry) (qs : List ℕ) (x 
         alike = λ ne. absurd (ne refl);
         plain = plain;
         moves = t.moves;
-        tells = subst (λ (z : Told). Tells k.geometry new n z (body_blocks mid_blocks n z) (slot.Used e.file)) (sym (alone_set k.geometry mid_blocks n block (fields_for k.geometry n e.file) len reads)) told_then;
+        tells = subst (λ (z : Told). Tells k.geometry new n z (body_blocks mid_blocks n z) (slot.Used e.file)) (sym (alone_set k.geometry mid_blocks n block (fields_for k.geometry n e.file) len first enough)) told_then;
+        lost = λ i number mine gone. absurd (numberless k.geometry bs own x on.spelt (i - 1) n (λ e. let both : Some (Outside k.node) ≡ Some (InFile n) = sym number_out ∙ e in absurd (cc)) mine);
+        outside = λ m e. absurd (let both : Some (InFile n) ≡ Some (Outside m) = sym ((t.numbers (n - 1)).1 (inl (inl refl))) ∙ e in cc);
         reserved = λ old low at. let above = can.above in absurd (omega arith);
       }
 

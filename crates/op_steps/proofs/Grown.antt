@@ -1,19 +1,18 @@
 -- The header of a file with more clusters, and the file that it tells.
-use Rattle.std.proofs.Common.{◌≡◌, ◌∙◌, ◌≤◌, ◌+◌, ◌-◌, ◌*◌, ◌/◌, ◌++◌, ℕ, Bool, true, false, List, length, take, refl, sym, ap, subst, arith, cond}
+use Rattle.std.proofs.Common.{◌≡◌, ◌∙◌, ◌≤◌, ◌+◌, ◌-◌, ◌*◌, ◌/◌, ◌++◌, ℕ, Bool, true, false, List, length, take, refl, sym, ap, arith, cond}
 use Rattle.std.specs.Prelude.{◌==◌}
 use Rattle.std.proofs.Math.Nat.{mul-div_cancel_left}
 use Rattle.std.proofs.lemmas.Bool.Decides.{nat_tests}
 use Rattle.std.proofs.lemmas.List.{take_at, take-append-le}
 use Rattle.base_words.specs.Fields.{Block}
-use Rattle.fx_header.specs.declared.run.Run.{Run}
 use Rattle.fx_header.specs.declared.slot.Hdr.{Hdr}
-use Rattle.fx_header.specs.Headers.{runs_in, scattered}
+use Rattle.fx_header.specs.Headers.{scattered}
 use Rattle.fx_header.proofs.SetterLemmas.{scattered-reads}
 use Rattle.vol_parts.proofs.WholeHeaders.{whole_scattered}
 use Rattle.vol_parts.specs.declared.geometry.Geometry.{Geometry}
 use Rattle.vol_parts.specs.Catalogues.{is_structure, file_of}
-use Rattle.vol_spell.specs.Reading.{clusters_of}
-use Rattle.vol_spell.specs.Spelling.{AreWhole}
+use Rattle.vol_spell.proofs.Heads.{first_reads, first_segment, reads_first}
+use Rattle.vol_spell.proofs.HeadKept.{relisted}
 use Rattle.vol_spell.proofs.HeadRuns.{scattered_runs}
 use Rattle.vol_spell.proofs.HeadTold.{IsHeadWith}
 
@@ -22,14 +21,10 @@ use Rattle.vol_spell.proofs.HeadTold.{IsHeadWith}
 -- that it is not said to be contiguous leaves the clusters
 pub scatter : (g : Geometry) (n : ℕ) (b : Block) (h : Hdr) (ds : List ℕ) → IsHeadWith g n b h ds → IsHeadWith g n (scattered b) h ds
 scatter g n b h ds at =
-    let same : runs_in (scattered b) ≡ runs_in b = scattered_runs b h at.whole.long at.reads in
-    record {
-      whole = whole_scattered b at.whole;
-      reads = scattered-reads b h at.whole.long at.whole.bytes at.reads;
-      num = at.num;
-      runs = subst (λ (rs : List Run). AreWhole g rs) (sym same) at.runs;
-      clusters = ap (λ (rs : List Run). clusters_of g.cluster rs) same ∙ at.clusters;
-    }
+    let read = first_reads b h at.reads in
+    relisted g n b (scattered b) h h ds (whole_scattered b at.whole)
+    (reads_first (scattered b) h (scattered-reads b h at.whole.long at.whole.bytes read) (first_segment b h at.reads))
+    refl refl (scattered_runs b h at.whole.long read) at
 
 -- ---- what shows
 

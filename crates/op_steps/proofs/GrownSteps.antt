@@ -5,7 +5,7 @@ use Rattle.std.proofs.Math.Nat.{mul-le-mul_right}
 use Rattle.std.proofs.lemmas.Option.{slice_get_within}
 use Rattle.base_words.specs.Fields.{Block}
 use Rattle.fx_header.specs.declared.slot.Hdr.{Hdr}
-use Rattle.fx_header.specs.Headers.{runs_in, with_runs}
+use Rattle.fx_header.specs.Headers.{with_runs}
 use Rattle.plain_cat.specs.declared.cat.Cat.{Cat}
 use Rattle.plain_cat.specs.declared.cat.File.{File}
 use Rattle.plain_cat.specs.declared.cat.Slot.TheVariants as slot
@@ -19,7 +19,7 @@ use Rattle.base_words.proofs.Listing.{has_parted, has_first, has_second, once_fi
 use Rattle.vol_spell.proofs.Placing.{spread_joined, blocks_joined}
 use Rattle.vol_parts.specs.declared.geometry.Geometry.{Geometry}
 use Rattle.vol_parts.specs.Catalogues.{file_of}
-use Rattle.vol_spell.specs.Reading.{total_of, header_block}
+use Rattle.vol_spell.specs.Reading.{total_of, header_block, told_of, alone, clusters_told}
 use Rattle.vol_spell.specs.Spelling.{dir_found}
 use Rattle.vol_spell.specs.Kinds.{IsHeaderFor}
 use Rattle.vol_under.specs.Chains.{End}
@@ -28,12 +28,13 @@ use Rattle.vol_under.proofs.Files.{file_takes}
 use Rattle.op_law.specs.Fits.{things}
 use Rattle.op_law.specs.Sizes.{grown_header, grown_mark}
 use Rattle.op_law.specs.Writing.{holding, runs_for}
-use Rattle.vol_spell.specs.Files.{clusters_seen, IsFileThere}
+use Rattle.vol_spell.specs.Files.{IsFileThere}
+use Rattle.op_law.proofs.SeenRuns.{seen_clusters}
 use Rattle.op_steps.specs.Chained.{Chain, StandsOn}
 use Rattle.op_steps.specs.Files.{file_in}
 use Rattle.op_steps.specs.GrownWrites.{grown_write, GrownSteps}
 use Rattle.op_steps.proofs.HeadSteps.{head_steps}
-use Rattle.vol_spell.proofs.HeadFiles.{head_whole, once, owned, within, number_is, sized, counted, all_seen, length-shown, file_is, end_within, mark_within, not_structure}
+use Rattle.vol_spell.proofs.HeadFiles.{head_whole, once, owned, within, number_is, sized, counted, length-shown, file_is, end_within, mark_within, not_structure}
 use Rattle.vol_spell.proofs.HeadTold.{IsHeadWith, IsFileWith, head_for}
 use Rattle.op_steps.proofs.Rerun.{with_clusters, rerun}
 use Rattle.op_steps.proofs.Grown.{mark_for, scatter, grown_told}
@@ -48,10 +49,10 @@ module _ (k : Chain) (n : ℕ) (h : Hdr) (f : File) (qs : List ℕ) (x : Cat) (b
   b = header_block k.geometry bs n
 
   abbrev cs : List ℕ
-  cs = clusters_seen k.geometry (header_block k.geometry bs n)
+  cs = clusters_told k.geometry (told_of k.geometry bs n)
 
   abbrev old : List Block
-  old = blocks_at bs (spread k.geometry.cluster (clusters_seen k.geometry (header_block k.geometry bs n)))
+  old = blocks_at bs (spread k.geometry.cluster (clusters_told k.geometry (told_of k.geometry bs n)))
 
   abbrev new : Owners
   new = filed n (things qs None) own
@@ -136,7 +137,7 @@ module _ (k : Chain) (n : ℕ) (h : Hdr) (f : File) (qs : List ℕ) (x : Cat) (b
       let all = all_few in
       let marked = remark g n (with_runs b (runs_for g (cs ++ qs))) (with_clusters g h (length cs + length qs)) (cs ++ qs) (mark_for (g.cluster * length cs) h.mark) sized_first (omega arith) (omega arith) in
       let last = scatter g n _ fields (cs ++ qs) marked in
-      rw (marks, all_seen g bs own x n h on.spelt is.number is.reads) last
+      rw (marks, seen_clusters g bs own x on.spelt n h is.number is.reads) last
 
   -- ---- the file
 
@@ -151,14 +152,15 @@ module _ (k : Chain) (n : ℕ) (h : Hdr) (f : File) (qs : List ℕ) (x : Cat) (b
       ∙ grown_told g x.factor n h (length cs) (length qs) old (blocks_at bs (spread g.cluster qs)) on.spelt.constants.factor on.spelt.counts.geometry.cluster_from (not_structure n is.above) dir s (length-shown g bs own x n h on.spelt is.number is.reads) (omega arith)
       ∙ ap (λ (y : File). grown x y (length qs)) (sym file)
 
-  with : IsFileWith k.geometry bs own (filed n (things qs None) own) x k.node n fields (runs_in (grown_header k.geometry (file_in k.geometry bs n h) qs)) (cs ++ qs) (grown x f (length qs))
+  with : IsFileWith k.geometry bs own (filed n (things qs None) own) x k.node n (grown_header k.geometry (file_in k.geometry bs n h) qs) fields (cs ++ qs) (grown x f (length qs))
   with = record {
     moves = takes.moves;
     once = all_once;
     clusters = mine;
     numbers = numbers;
     few = λ above. let a = all_few in omega arith;
-    dir = ap (λ (d : Bool). dir_found g n (Some (record fields { dir = d })) (runs_in (grown_header g (file_in g bs n h) qs)) (blocks_at bs (spread g.cluster (cs ++ qs)))) dir;
+    system = λ low_number. let above = is.above in absurd (omega arith);
+    dir = ap (λ (d : Bool). dir_found g n (Some (record fields { dir = d })) (alone n fields (grown_header g (file_in g bs n h) qs)) (blocks_at bs (spread g.cluster (cs ++ qs)))) dir;
     file = told;
     reserved = λ old_slot low_number at_slot. let above = is.above in absurd (omega arith);
   }

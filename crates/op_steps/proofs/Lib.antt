@@ -37,3 +37,5 @@ pub mod Uses
 pub mod WriteGuards
 pub mod WriteSteps
 pub mod Zeros
+pub mod CutRuns
+pub mod LoneFiles

@@ -1,5 +1,5 @@
 -- The file in use under an identifier, by the header of its number.
-use Rattle.std.proofs.Common.{◌≡◌, ◌<◌, ◌-◌, ◌∙◌, ℕ, Bool, true, false, cond, List, Some, None, slice_get, refl, sym, ap, arith}
+use Rattle.std.proofs.Common.{◌≡◌, ◌<◌, ◌-◌, ◌∙◌, ℕ, Bool, true, false, cond, List, Some, None, slice_get, refl, ap, arith}
 use Rattle.std.specs.Prelude.{◌==◌, option_map, Result, Ok, Err}
 use Rattle.std.proofs.lemmas.Bool.Decides.{nat_tests}
 use Rattle.std.proofs.lemmas.Option.{slice_get_past}
@@ -8,7 +8,6 @@ use Rattle.fx_header.specs.declared.slot.Hdr.{Hdr}
 use Rattle.fx_header.specs.declared.slot.Slot.{Slot as Head}
 use Rattle.fx_header.specs.declared.slot.Slot.TheVariants as head
 use Rattle.fx_header.specs.declared.slot.HeaderFault.{HeaderFault}
-use Rattle.fx_header.specs.Headers.{header_read}
 use Rattle.plain_cat.specs.declared.ids.Fid.{Fid}
 use Rattle.plain_cat.specs.declared.cat.Cat.{Cat}
 use Rattle.plain_rules.specs.Lookups.{file_in, of_seq, in_use}
@@ -18,7 +17,6 @@ use Rattle.vol_parts.specs.Volumes.{fields_in}
 use Rattle.vol_parts.specs.Catalogues.{slot_with, file_of}
 use Rattle.vol_spell.specs.Reading.{IsFileNumber, header_block, head_told}
 use Rattle.vol_spell.specs.Spelling.{Spells}
-use Rattle.vol_spell.proofs.Heads.{head_alone}
 use Rattle.op_law.specs.Rows.{is_number}
 use Rattle.op_law.specs.Refusing.{header_of_seq, used_in}
 use Rattle.vol_spell.proofs.HeadSlots.{file_blocks, slot_is}
@@ -42,16 +40,15 @@ used_of_seq seq (Ok (head.Used f)) h e = by_test (f.seq == seq) e where
 used_of_seq seq (Ok (head.Free last)) h e = absurd (let f : None ≡ Some h = e in cc)
 used_of_seq seq (Err fault) h e = absurd (let f : None ≡ Some h = e in cc)
 
-pub used_reads : (seq : ℕ) (b : Block) (h : Hdr) → used_in seq b ≡ Some h → header_read b ≡ Ok (head.Used h)
-used_reads seq b h e = sym (head_alone b) ∙ used_of_seq seq (head_told b) h e
+pub used_reads : (seq : ℕ) (b : Block) (h : Hdr) → used_in seq b ≡ Some h → head_told b ≡ Ok (head.Used h)
+used_reads seq b h e = used_of_seq seq (head_told b) h e
 
 module _ (g : Geometry) (bs : List Block) (own : Owners) (c : Cat) (s : Spells g bs own c) (fid : Fid) where
   pub used_is : IsFileNumber g fid.num
       → in_use c fid ≡ option_map (λ h. file_of g.cluster fid.num h (file_blocks bs (header_block g bs fid.num))) (used_in fid.seq (header_block g bs fid.num))
   used_is is =
       ap (λ x. of_seq fid.seq (file_in x)) (slot_is g bs own c s fid.num is)
-      ∙ used_slot g.cluster fid.num fid.seq (header_read (header_block g bs fid.num)) (file_blocks bs (header_block g bs fid.num))
-      ∙ ap (λ r. option_map (λ h. file_of g.cluster fid.num h (file_blocks bs (header_block g bs fid.num))) (header_of_seq fid.seq (fields_in r))) (sym (head_alone (header_block g bs fid.num)))
+      ∙ used_slot g.cluster fid.num fid.seq (head_told (header_block g bs fid.num)) (file_blocks bs (header_block g bs fid.num))
 
   -- a number out of range has none
   pub not_used : is_number g fid ≡ false → in_use c fid ≡ None

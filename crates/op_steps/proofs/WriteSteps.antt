@@ -6,6 +6,7 @@ use Rattle.std.proofs.lemmas.Bool.Decides.{nat_tests}
 use Rattle.base_words.specs.Fields.{Block, IsWholeBlock}
 use Rattle.base_words.specs.Tables.{zeros}
 use Rattle.fx_header.specs.declared.slot.Hdr.{Hdr}
+use Rattle.fx_header.specs.Pointers.{lbns_in}
 use Rattle.lock_db.specs.declared.name.LockName.TheVariants.{S}
 use Rattle.plain_cat.specs.declared.history.Stage.TheVariants as stage
 use Rattle.plain_cat.specs.declared.cat.Cat.{Cat}
@@ -17,18 +18,17 @@ use Rattle.vol_spell.specs.Owners.{Owners}
 use Rattle.vol_spell.proofs.Placing.{length-blocks_at}
 use Rattle.vol_parts.specs.declared.geometry.Geometry.{Geometry}
 use Rattle.vol_parts.specs.Catalogues.{written_blocks, file_of}
-use Rattle.vol_spell.specs.Reading.{header_block}
+use Rattle.vol_spell.specs.Reading.{header_block, told_of}
 use Rattle.vol_spell.specs.Spelling.{Spells}
 use Rattle.vol_under.specs.Chains.{End}
 use Rattle.op_law.specs.declared.need.PlanWrite.{PlanWrite}
 use Rattle.op_law.specs.Channels.{zero_writes, last_header, block_writes}
 use Rattle.op_law.specs.Refusing.{seen_file}
-use Rattle.vol_spell.specs.Entries.{places_in, blocks_of as blocks_in}
 use Rattle.op_law.specs.SeenFiles.{file_write}
 use Rattle.op_law.specs.Writing.{empty_handed}
 use Rattle.op_steps.specs.Chained.{Chain, StepsOf, StageOf, after_writes, StandsOn}
 use Rattle.op_steps.specs.Files.{file_in}
-use Rattle.vol_spell.specs.Files.{IsFileThere, IsResized, showing}
+use Rattle.vol_spell.specs.Files.{blocks_told as blocks_in, IsFileThere, IsResized, showing}
 use Rattle.vol_spell.proofs.HeadFiles.{mark_within, end_within, byte_within}
 use Rattle.op_steps.specs.BlockWrites.{HasBlock, IsBlockWritten, file_with, WriteSteps}
 use Rattle.op_steps.proofs.Lists.{filled, take_behind}
@@ -111,7 +111,7 @@ module _ (end : End) (k : Chain) (n : ℕ) (h : Hdr) (f : File) (vbn : ℕ) (b :
     marked_to = grind (arith, nat_tests)
 
     long : length (blocks_in k.geometry bs n) ≡ k.geometry.cluster * f.clusters
-    long = length-blocks_at bs (places_in head) ∙ count g bs own x n h f on.spelt has.there
+    long = length-blocks_at bs (lbns_in (told_of k.geometry bs n).runs) ∙ count g bs own x n h f on.spelt has.there
 
     -- what showed
     old_shown : f.written ≡ take (f.mark - 1) (blocks_in k.geometry bs n)

@@ -7,7 +7,6 @@ use Rattle.base_words.specs.Fields.{Block}
 use Rattle.base_words.specs.Tables.{zeros}
 use Rattle.vol_parts.proofs.WholeFields.{whole_zeros}
 use Rattle.fx_header.specs.declared.slot.Hdr.{Hdr}
-use Rattle.fx_header.specs.Headers.{header_read}
 use Rattle.plain_cat.specs.declared.history.Stage.TheVariants as stage
 use Rattle.plain_cat.specs.declared.cat.Cat.{Cat}
 use Rattle.plain_cat.specs.declared.cat.File.{File}
@@ -15,7 +14,7 @@ use Rattle.plain_rules.specs.Lookups.{file_at}
 use Rattle.plain_rules.specs.Changes.{with_file, is_past_mark}
 use Rattle.base_words.specs.Lists.{written}
 use Rattle.vol_spell.specs.Owners.{Owners}
-use Rattle.vol_spell.specs.Reading.{header_block}
+use Rattle.vol_spell.specs.Reading.{header_block, head_told}
 use Rattle.vol_spell.specs.Spelling.{Spells}
 use Rattle.vol_under.specs.Chains.{End}
 use Rattle.op_law.specs.declared.need.PlanWrite.{PlanWrite}
@@ -24,9 +23,8 @@ use Rattle.op_law.specs.SeenFiles.{file_write}
 use Rattle.op_law.specs.Writing.{empty_handed}
 use Rattle.op_steps.specs.Chained.{Chain, StepsOf, StageOf, after_writes, StandsOn}
 use Rattle.op_steps.specs.Files.{file_in}
-use Rattle.vol_spell.specs.Files.{IsFileThere, showing}
+use Rattle.vol_spell.specs.Files.{blocks_told as blocks_in, IsFileThere, showing}
 use Rattle.op_steps.specs.BlockWrites.{IsBlockWritten}
-use Rattle.vol_spell.specs.Entries.{blocks_of as blocks_in}
 use Rattle.op_steps.proofs.Lists.{filled}
 use Rattle.vol_spell.proofs.Slots.{slot_same}
 use Rattle.op_steps.proofs.BlockSteps.{block_steps}
@@ -37,7 +35,7 @@ same_past x n f vbn b at past = ap (λ (t : Bool). with_file x n (cond t f (reco
 
 -- the file is there still where its header is the same
 pub still_there : (k : Chain) (n : ℕ) (h : Hdr) (f : File) (x : Cat) (bs after : List Block) → header_block k.geometry after n ≡ header_block k.geometry bs n → IsFileThere k.geometry x bs n h f → IsFileThere k.geometry x after n h f
-still_there k n h f x bs after same there = record { number = there.number; above = there.above; reads = ap header_read same ∙ there.reads; file = there.file }
+still_there k n h f x bs after same there = record { number = there.number; above = there.above; reads = ap head_told same ∙ there.reads; file = there.file }
 
 -- a block lies at or above a mark
 pub lies_past : (f : File) (vbn : ℕ) → 1 ≤ f.mark → f.mark ≤ vbn → is_past_mark f vbn ≡ true

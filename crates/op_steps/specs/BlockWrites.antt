@@ -22,8 +22,7 @@ use Rattle.op_law.specs.Channels.{block_writes}
 use Rattle.op_law.specs.Writing.{empty_handed}
 use Rattle.op_steps.specs.Chained.{Chain, StepsOf, StageOf, after_writes, StandsOn}
 use Rattle.op_steps.specs.Files.{file_in}
-use Rattle.vol_spell.specs.Files.{IsFileThere, showing}
-use Rattle.vol_spell.specs.Entries.{blocks_of}
+use Rattle.vol_spell.specs.Files.{blocks_told, IsFileThere, showing}
 
 -- a file that is there, no system file and no directory, and a virtual block that is one of its blocks
 pub record HasBlock (g : Geometry) (x : Cat) (bs : List Block) (n : ℕ) (h : Hdr) (f : File) (vbn : ℕ) : Type 0 where
@@ -38,7 +37,7 @@ pub record HasBlock (g : Geometry) (x : Cat) (bs : List Block) (n : ℕ) (h : Hd
 pub record IsBlockWritten (k : Chain) (n vbn : ℕ) (b : Block) (x : Cat) (own : Owners) (bs after : List Block) : Type 0 where
   pub on : StandsOn k empty_handed x after own
   pub header : header_block k.geometry after n ≡ header_block k.geometry bs n
-  pub blocks : blocks_of k.geometry after n ≡ slice_set (blocks_of k.geometry bs n) (vbn - 1) b
+  pub blocks : blocks_told k.geometry after n ≡ slice_set (blocks_told k.geometry bs n) (vbn - 1) b
 
 -- the write is a step, and so are the writes behind it that are steps on what it leaves
 abbrev pub BlockSteps : End → Type 0

@@ -7,6 +7,7 @@ pub mod Given
 pub mod GoneWrites
 pub mod GrownWrites
 pub mod HeadWrites
+pub mod Iter
 pub mod MarkWrites
 pub mod Names
 pub mod NewRows

@@ -6,7 +6,7 @@ use Rattle.op_law.specs.declared.need.Need.{Need}
 use Rattle.op_law.specs.Events.{Events, Space}
 use Rattle.op_law.specs.Moving.{SeenDir}
 use Rattle.op_law.specs.Behind.{goes_on_by, blocks_alone, FollowsBy}
-use Rattle.op_law.specs.Readable.{HasMap, AreInside, IsRead}
+use Rattle.op_law.specs.Readable.{HasMap, ListsInside, IsRead}
 use Rattle.op_steps.specs.declared.names.DirSeen.{DirSeen}
 use Rattle.op_steps.specs.declared.names.Names.{Names}
 use Rattle.op_steps.specs.declared.names.Names.TheVariants as names
@@ -25,10 +25,10 @@ abbrev pub FollowsNames : (SeenDir → Events) → Space → Names → Type 0
 FollowsNames next space (names.All d rest) = FollowsBy (next (dir_seen d)) rest space
 FollowsNames next space (names.Next need) = Unit {0}
 
--- the runs of its header can be read, and end at or before LBN 65,536
+-- all runs of its header can be read, and end at or before LBN 65,536
 pub record IsReadable (d : DirSeen) : Type 0 where
   pub map : HasMap d.head.now
-  pub inside : AreInside d.head.now
+  pub inside : ListsInside d.head.now
   pub few : length d.blocks.now < 2 ^ 32
 
 -- those of the directory that was seen

@@ -2,7 +2,7 @@
 //! and the laws by which these writes go from stage to stage.
 //!
 //! A `DirSeen` is a directory whose header and blocks were seen. `Names` is that, or what the command needs next. A `FileSeen` is a file
-//! by its header.
+//! by its headers that were seen, and `file_runs` are its runs.
 //!
 //! ```text
 //! match names_seen(alloc, &seen.geometry, dir, seen.all()) {
@@ -33,6 +33,7 @@ pub mod laws;
 mod moves;
 mod names;
 mod quotas;
+mod runs;
 mod seeing;
 
 pub use clusters::{clusters_for, cost_of, runs_for};
@@ -44,4 +45,5 @@ pub use names::{
 pub use quotas::{
     owner_row, push_charge, push_discharge, push_row, quota_seen, row_there, rows_seen,
 };
+pub use runs::{HeaderRuns, ListedRuns, SeenRuns, file_lbn, file_runs};
 pub use seeing::{FileSeen, fields_told, file_used};

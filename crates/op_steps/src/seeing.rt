@@ -1,9 +1,8 @@
-//! A file in use as a command has seen it: its number and its header.
+//! A file in use as a command has seen it: its number and its headers.
 
-ghost use Rattle.std.specs.Prelude.{◌≡◌, ◌≤◌, length, option_map, Some, IfSome};
+ghost use Rattle.std.specs.Prelude.{◌≡◌, ◌≤◌, option_map, Some, IfSome};
 ghost use Rattle.vol_parts.specs.declared.geometry.Geometry.{Geometry as Volume};
 ghost use Rattle.vol_spell.specs.Reading.{fields_told};
-ghost use Rattle.vol_spell.specs.Entries.{places_in};
 ghost use Rattle.op_law.specs.Refusing.{seen_file, used_in};
 ghost use Rattle.op_law.specs.Readable.{HasMap, AreInside};
 ghost use Rattle.op_steps.specs.Seeing.{file_seen, IsReadableAs};
@@ -12,27 +11,29 @@ use base_words::Block;
 use fx_header::{Hdr, Slot, read_header};
 use plain_cat::Fid;
 
-/// A file in use whose header was seen. It may be marked for delete.
+/// A file in use of which headers were seen. It may be marked for delete.
 #[derive(Clone, Copy)]
 pub struct FileSeen<'a> {
     pub num: u32,
 
-    /// The block of its header.
+    /// The block of its first header.
     pub head: &'a Block,
 
-    /// The fields that the header tells.
+    /// Its other headers that were seen, in order, each with its place.
+    pub rest: &'a [(u32, Block)],
+
+    /// The fields that the first header tells.
     pub fields: Hdr,
 }
 
-/// The header of the file in use in a slot, by its block, or none where the slot has none.
+/// The first header of the file in use in a slot, by its block, or none where the slot has none.
 pub fn fields_told(b: &Block) -> Option<Hdr>
     ensures header { result ≡ fields_told b.now }
     ensures map { IfSome result (λ h. HasMap b.now) }
-    ensures count { IfSome result (λ h. length (places_in b.now) ≡ h.blocks) }
     ensures few { IfSome result (λ h. AreInside b.now → h.blocks ≤ 33554432) }
 {
     match read_header(b) {
-        Ok(Slot::Used(h)) => Some(h),
+        Ok(Slot::Used(h)) => if h.seg == 0 { Some(h) } else { None },
         Ok(Slot::Free(_)) => None,
         Err(_) => None,
     }
@@ -43,7 +44,7 @@ fn used_in(b: &Block, seq: u16) -> Option<Hdr>
     ensures header { result ≡ used_in seq b.now }
     ensures told { IfSome result (λ h. fields_told b.now ≡ Some h) }
     ensures map { IfSome result (λ h. HasMap b.now) }
-    ensures count { IfSome result (λ h. length (places_in b.now) ≡ h.blocks) }
+    ensures few { IfSome result (λ h. AreInside b.now → h.blocks ≤ 33554432) }
 {
     let h = fields_told(b)?;
     if h.seq == seq { Some(h) } else { None }
@@ -59,6 +60,7 @@ pub fn file_used<'a>(fid: Fid, head: &'a Block) -> Option<FileSeen<'a>>
         Some(fields) => Some(FileSeen {
             num: fid.num,
             head,
+            rest: &[],
             fields,
         }),
         None => None,

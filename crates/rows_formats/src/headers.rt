@@ -120,9 +120,9 @@ const WRONG: [(usize, u8, HeaderFault); 6] = [
     (7, 1, HeaderFault::BadLevel),
     (1, 39, HeaderFault::BadOffsets),
     (12, 1, HeaderFault::BadRvn),
-    (4, 1, HeaderFault::BadExtension),
+    (4, 16, HeaderFault::BadExtension),
     (58, 1, HeaderFault::BadMap),
-    (26, 5, HeaderFault::BadEnd),
+    (30, 6, HeaderFault::BadEnd),
 ];
 
 #[test]
@@ -144,7 +144,7 @@ fn the_first_fault_is_told(rt: HostRuntime) {
 }
 
 /// One byte, and whether the header is still sound with it, or else the fault: the limits of each test.
-const LIMITS: [(usize, u8, Option<HeaderFault>); 14] = [
+const LIMITS: [(usize, u8, Option<HeaderFault>); 20] = [
     (6, 7, None),
     (0, 39, Some(HeaderFault::BadOffsets)),
     (0, 100, None),
@@ -152,9 +152,15 @@ const LIMITS: [(usize, u8, Option<HeaderFault>); 14] = [
     (2, 254, None),
     (2, 253, Some(HeaderFault::BadOffsets)),
     (3, 254, Some(HeaderFault::BadOffsets)),
-    (19, 1, Some(HeaderFault::BadExtension)),
+    (4, 15, None),
+    (4, 16, Some(HeaderFault::BadExtension)),
+    (5, 1, Some(HeaderFault::BadExtension)),
+    (14, 13, None),
+    (19, 1, None),
     (58, 155, None),
     (58, 156, Some(HeaderFault::BadMap)),
+    (26, 5, None),
+    (26, 3, Some(HeaderFault::BadEnd)),
     (30, 6, Some(HeaderFault::BadEnd)),
     (33, 2, Some(HeaderFault::BadEnd)),
     (76, 5, None),
@@ -341,21 +347,34 @@ fn a_link_has_its_bytes_alone(rt: HostRuntime) {
     }
 }
 
-/// The blocks of a file, and the bytes that say so.
-const BLOCKS: [(u32, [u8; 4]); 3] = [
-    (0, [0, 0, 0, 0]),
-    (0x01_0005, [1, 0, 5, 0]),
-    (0xffff_fffe, [255, 255, 254, 255]),
+/// The blocks of a file, the bytes that say so, and whether an end of file in block 5 is within.
+const BLOCKS: [(u32, [u8; 4], bool); 5] = [
+    (0, [0, 0, 0, 0], false),
+    (3, [0, 0, 3, 0], false),
+    (5, [0, 0, 5, 0], true),
+    (0x01_0005, [1, 0, 5, 0], true),
+    (0xffff_ffff, [255, 255, 255, 255], true),
 ];
 
 #[test]
 fn blocks_have_their_bytes_alone(rt: HostRuntime) {
     let plain = header(&[0x03, 0x40, 0x58, 0x00], 4);
-    for (blocks, bytes) in &BLOCKS {
+    let Ok(Slot::Used(h)) = read_header(&plain) else {
+        return;
+    };
+    for (blocks, bytes, within) in &BLOCKS {
         let mut b = plain;
         set_blocks(&mut b, *blocks);
         assert_eq!(rt; &b[24..28], bytes.as_slice());
-        assert_eq!(rt; read_header(&b), Err(HeaderFault::BadEnd));
+        let expected = if *within {
+            Ok(Slot::Used(Hdr {
+                blocks: *blocks,
+                ..h
+            }))
+        } else {
+            Err(HeaderFault::BadEnd)
+        };
+        assert_eq!(rt; read_header(&b), expected);
         set_blocks(&mut b, 4);
         assert!(rt; b == plain, "all other bytes stay");
     }
@@ -380,7 +399,7 @@ fn a_map_leaves_the_blocks(rt: HostRuntime) -> Result<(), Fail> {
 #[test]
 fn a_map_of_fewer_blocks_leaves_the_blocks(rt: HostRuntime) -> Result<(), Fail> {
     let plain = header(&[0x03, 0x40, 0x58, 0x00], 4);
-    let Ok(Slot::Used(_)) = read_header(&plain) else {
+    let Ok(Slot::Used(h)) = read_header(&plain) else {
         return Err("no header".into());
     };
     let given = [Run { lbn: 88, count: 3 }];
@@ -390,7 +409,7 @@ fn a_map_of_fewer_blocks_leaves_the_blocks(rt: HostRuntime) -> Result<(), Fail> 
     let mut b = plain;
     assert!(rt; set_map(&mut b, &given), "one pointer has room");
     assert_eq!(rt; &b[24..28], [0, 0, 4, 0].as_slice());
-    assert_eq!(rt; read_header(&b), Err(HeaderFault::BadEnd));
+    assert_eq!(rt; read_header(&b), Ok(Slot::Used(h)));
     Ok(())
 }
 
@@ -432,10 +451,14 @@ fn second() -> Hdr
 
 #[test]
 fn an_extension_header_has_its_place_and_the_next_one(rt: HostRuntime) -> Result<(), Fail> {
-    let mut b = new_header(&second(), b"A.TXT;1", (0x01_0042, 1));
+    let mut b = new_header(&second(), b"", (0, 0));
     let front = [40, 100, 255, 255, 1, 0, 1, 2, 13, 0, 0, 0, 0, 0];
     assert_eq!(rt; &b[..14], front.as_slice());
     assert_eq!(rt; &b[14..20], [14, 0, 3, 0, 0, 1].as_slice());
+    assert_eq!(rt; &b[66..80], [0; 14].as_slice());
+    assert_eq!(rt; &b[80..100], [b' '; 20].as_slice());
+    assert_eq!(rt; &b[134..200], [b' '; 66].as_slice());
+    assert_eq!(rt; read_header(&b), Ok(Slot::Used(second())));
     let given = [Run { lbn: 100, count: 4 }];
     if !are_runs(&given) {
         return Err("no runs".into());
@@ -444,6 +467,65 @@ fn an_extension_header_has_its_place_and_the_next_one(rt: HostRuntime) -> Result
     assert_eq!(rt; &b[200..204], [0x03, 0x40, 0x64, 0x00].as_slice());
     assert_eq!(rt; b[58], 2);
     assert_eq!(rt; &b[24..28], [0, 0, 0, 0].as_slice());
-    assert_eq!(rt; read_header(&b), Err(HeaderFault::BadExtension));
+    assert_eq!(rt; read_header(&b), Ok(Slot::Used(second())));
     Ok(())
+}
+
+/// A header with these sizes, without runs: the blocks, the end of file, its first free byte and the mark.
+fn sized(blocks: u32, end: u32, byte: u16, mark: u32) -> Block {
+    let mut b = header(&[], 0);
+    put_word(&mut b, 24, (blocks >> 16) as u16);
+    put_word(&mut b, 26, (blocks & 0xffff) as u16);
+    put_word(&mut b, 28, (end >> 16) as u16);
+    put_word(&mut b, 30, (end & 0xffff) as u16);
+    put_word(&mut b, 32, byte);
+    put_long(&mut b, 76, mark);
+    set_sum(&mut b);
+    b
+}
+
+#[test]
+fn an_extension_header_has_any_sizes(rt: HostRuntime) {
+    let mut b = sized(0, 0xffff_ffff, 65535, 0xffff_ffff);
+    assert_eq!(rt; read_header(&b), Err(HeaderFault::BadEnd));
+    put_word(&mut b, 4, 15);
+    set_link(&mut b, 0x02_0203, 7);
+    let last = Hdr {
+        num: 4,
+        seq: 4,
+        owner: 65537,
+        dir: true,
+        marked: false,
+        blocks: 0,
+        mark: 0xffff_ffff,
+        end: 0xffff_ffff,
+        byte: 65535,
+        seg: 15,
+        ext: 0x02_0203,
+        ext_seq: 7,
+    };
+    assert_eq!(rt; read_header(&b), Ok(Slot::Used(last)));
+    put_word(&mut b, 4, 16);
+    set_sum(&mut b);
+    assert_eq!(rt; read_header(&b), Err(HeaderFault::BadExtension));
+}
+
+#[test]
+fn as_many_blocks_as_a_number_tells_are_read(rt: HostRuntime) {
+    let b = sized(0xffff_ffff, 0xffff_ffff, 511, 0xffff_ffff);
+    let whole = Hdr {
+        num: 4,
+        seq: 4,
+        owner: 65537,
+        dir: true,
+        marked: false,
+        blocks: 0xffff_ffff,
+        mark: 0xffff_ffff,
+        end: 0xffff_ffff,
+        byte: 511,
+        seg: 0,
+        ext: 0,
+        ext_seq: 0,
+    };
+    assert_eq!(rt; read_header(&b), Ok(Slot::Used(whole)));
 }

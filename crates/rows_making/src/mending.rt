@@ -324,3 +324,32 @@ fn leaks_and_usages_are_put_right(rt: HostRuntime) -> Result<(), Failed> {
     );
     Ok(())
 }
+
+/// File 14 has no block left, but its header lists two; file 15 has a link behind its last block; and the header in slot 17 is no first
+/// one, and no file's.
+fn tailed() -> [Block; 64] {
+    let mut b = volume();
+    put_word(&mut b[22], 26, 0);
+    put_long(&mut b[22], 76, 1);
+    set_sum(&mut b[22]);
+    put_word(&mut b[23], 14, 13);
+    put_word(&mut b[23], 16, 1);
+    set_sum(&mut b[23]);
+    let first = b[21];
+    let mut further = small_header(&first, 17);
+    put_word(&mut further, 4, 1);
+    set_sum(&mut further);
+    b[25] = further;
+    b[8][2] = 1;
+    b
+}
+
+#[test]
+fn surplus_and_stray_headers_go(rt: HostRuntime) -> Result<(), Failed> {
+    let alloc = rt.alloc();
+    assert!(rt;
+        is_put_right(alloc, &tailed(), counts(0, 0, 1, 1, 1))?,
+        "two headers are cut, and a stray one goes"
+    );
+    Ok(())
+}

@@ -45,8 +45,8 @@ const SIXTEEN: &[u8] = b"\x12\x00\xff\x7f\x00\x05Q.TXT\x00\x01\x00\x10\x00\x01\x
 /// An entry of file 14 with the last version of the name that [SYSLOST] gives to file 15.
 const LAST: &[u8] = b"\x16\x00\xff\x7f\x00\x0aF00015.LST\xff\x7f\x0e\x00\x01\x00\x00\x00\xff\xff";
 
-/// Three pointers to the first 52 blocks.
-const THRICE: &[u8] = b"\x33\x40\x00\x00\x33\x40\x00\x00\x33\x40\x00\x00";
+/// Pointers to the first 52 blocks, to these again, and to the first 50: 77 clusters.
+const THRICE: &[u8] = b"\x33\x40\x00\x00\x33\x40\x00\x00\x31\x40\x00\x00";
 
 /// A block that begins with these bytes and is zero behind them.
 pub(crate) fn block(bytes: &[u8]) -> Block {
@@ -191,7 +191,7 @@ fn all_that_is_mended_is_found_in_order(rt: HostRuntime) -> Result<(), Fail> {
 }
 
 /// Changes a byte, and of a header its sum as well.
-fn change(b: &mut [Block; 64], lbn: usize, at: usize, byte: u8) {
+pub(crate) fn change(b: &mut [Block; 64], lbn: usize, at: usize, byte: u8) {
     if let Some(block) = b.get_mut(lbn) {
         if let Some(place) = block.get_mut(at) {
             *place = byte;
@@ -220,8 +220,9 @@ const BEFORE: [(usize, usize, u8, &str); 13] = [
 ];
 
 /// Those that go on behind file 12 with too many clusters.
-const BEHIND: [(usize, usize, u8, &str); 6] = [
+const BEHIND: [(usize, usize, u8, &str); 7] = [
     (20, 202, 51, "runs of 12\n"),
+    (29, 4, 2, "chain of 12: Broken\n"),
     (42, 100, 1, "storage control block: BadSum\n"),
     (13, 10, 9, "system file 5\n"),
     (20, 8, 13, "header 12: WrongNumber\n"),
@@ -229,13 +230,18 @@ const BEHIND: [(usize, usize, u8, &str); 6] = [
     (1, 496, b'd', "home: BadFormat\n"),
 ];
 
-/// File 12 with three times the first 52 blocks.
+/// File 12 with 78 clusters: 77 are in its first header, and one is in a second one, number 21.
 fn put_thrice(b: &mut [Block; 64]) {
+    put_word(&mut b[20], 14, 21);
+    put_word(&mut b[20], 16, 1);
     put_word(&mut b[20], 26, 156);
     put_word(&mut b[20], 30, 157);
     b[20][58] = 6;
     put_bytes(&mut b[20], 200, THRICE);
     set_sum(&mut b[20]);
+    b[29] = header(21, 1, 0, 0, 2);
+    b[29][4] = 1;
+    set_sum(&mut b[29]);
 }
 
 // Each finding of an earlier kind is told in place of those before it, which still hold.

@@ -11,7 +11,7 @@ use std::alloc::Global;
 use std::test::Fail;
 use vol_analyze::push_finding;
 use vol_faults::{
-    count_clusters, count_outside, first_bad_control_block, first_bad_header,
+    count_clusters, count_outside, first_bad_chain, first_bad_control_block, first_bad_header,
     first_bad_system_file, first_free_cluster, first_free_number, first_large_file, first_run_off,
     first_shared_cluster,
 };
@@ -89,6 +89,9 @@ fn first(alloc: Global, home: &Home, blocks: &[Block]) -> Result<(Option<Finding
     if let Some(f) = first_bad_control_block(home, blocks) {
         return Ok((Some(f), 0));
     }
+    if let Some(f) = first_bad_chain(home, blocks) {
+        return Ok((Some(f), 0));
+    }
     if let Some(f) = first_run_off(home, blocks) {
         return Ok((Some(f), 0));
     }
@@ -112,6 +115,8 @@ fn first(alloc: Global, home: &Home, blocks: &[Block]) -> Result<(Option<Finding
 pub(crate) enum Change {
     /// A header in this block: number, sequence, flags, and two runs.
     Header(usize, u16, u16, u32, (u16, u16), (u16, u16)),
+    /// A word of a header in this block, at this place, and the header's sum.
+    Word(usize, usize, u16),
     /// A storage control block for so many blocks.
     Control(u32),
     /// Bytes of a block from a place on.
@@ -148,6 +153,12 @@ pub(crate) fn put_change(b: &mut [Block; 64], change: &Change) {
     match change {
         Change::Header(lbn, num, seq, flags, first, second) => {
             put(b, *lbn, &header(*num, *seq, *flags, *first, *second));
+        }
+        Change::Word(lbn, at, word) => {
+            if let Some(block) = b.get_mut(*lbn) {
+                put_at(block, *at, &word.to_le_bytes());
+                set_sum(block);
+            }
         }
         Change::Control(blocks) => put(
             b,
@@ -206,8 +217,18 @@ fn is_first(alloc: Global, changes: &[Change], text: &str) -> Result<bool, NoMem
 /// A file 12 in cluster 42 and in cluster 63, marked, whose bitmaps are put right one after another.
 const TWELVE: Change = Change::Header(16, 12, 1, MARKED, (42, 1), (63, 1));
 
+/// A file 12 of 78 clusters: its first header has 77 of them, and its second one, number 13, the last.
+const SPLIT: &[Change] = &[
+    Change::Header(16, 12, 1, 0, (0, 39), (0, 38)),
+    Change::Word(16, 14, 13),
+    Change::Word(16, 16, 1),
+    Change::Word(16, 26, 78),
+    Change::Header(17, 13, 1, 0, (0, 1), NO_RUN),
+    Change::Word(17, 4, 1),
+];
+
 /// Changes of the sound volume, and what is found first.
-const ROWS: [(&[Change], &str); 14] = [
+const ROWS: [(&[Change], &str); 16] = [
     (&[], "nothing, outside 0"),
     (
         &[
@@ -234,9 +255,17 @@ const ROWS: [(&[Change], &str); 14] = [
         "runs of 12",
     ),
     (
-        &[Change::Header(16, 12, 1, 0, (0, 39), (0, 39))],
-        "clusters of 12",
+        &[
+            Change::Header(16, 12, 1, 0, (0, 39), NO_RUN),
+            Change::Word(16, 26, 40),
+        ],
+        "chain of 12: Broken",
     ),
+    (
+        &[Change::Header(16, 12, 1, 0, (0, 39), (0, 39))],
+        "chain of 12: BadSplit",
+    ),
+    (SPLIT, "clusters of 12"),
     (
         &[Change::Header(16, 12, 1, MARKED, (41, 3), NO_RUN)],
         "shared cluster 41",

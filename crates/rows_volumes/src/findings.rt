@@ -9,7 +9,7 @@ use vol_analyze::{Finding, push_finding};
 const USER: Uic = Uic(65540);
 
 /// Findings, and how each is written.
-const TEXTS: [(Finding, &str); 41] = [
+const TEXTS: [(Finding, &str); 45] = [
     (Finding::Home(HomeFault::BadFormat), "home: BadFormat"),
     (Finding::Home(HomeFault::BadLevel), "home: BadLevel"),
     (Finding::Home(HomeFault::BadSum1), "home: BadSum1"),
@@ -69,6 +69,8 @@ const TEXTS: [(Finding, &str); 41] = [
     (Finding::MarkedDir(14), "marked directory 14"),
     (Finding::DirLoop(15), "directory loop at 15"),
     (Finding::SystemFile(2), "system file 2"),
+    (Finding::ChainBroken(12), "chain of 12: Broken"),
+    (Finding::ChainSplit(13), "chain of 13: BadSplit"),
     (Finding::Runs(12), "runs of 12"),
     (Finding::Clusters(12), "clusters of 12"),
     (Finding::SharedCluster(65535), "shared cluster 65535"),
@@ -81,6 +83,8 @@ const TEXTS: [(Finding, &str); 41] = [
     (Finding::Marked(12), "marked 12"),
     (Finding::Doubles(4), "doubles in 4"),
     (Finding::Lost(13), "lost 13"),
+    (Finding::Surplus(14), "surplus of 14"),
+    (Finding::Stray(4096), "stray header 4096"),
     (Finding::LeakedClusters(16), "leaked clusters 16"),
     (Finding::LeakedNumbers(8), "leaked numbers 8"),
     (

@@ -10,6 +10,8 @@ mod analyses;
 #[cfg(test)]
 mod catalogues;
 #[cfg(test)]
+mod chains;
+#[cfg(test)]
 mod faults;
 #[cfg(test)]
 mod findings;

@@ -1,4 +1,5 @@
-use crate::analyses::faulty;
+use crate::analyses::{change, faulty};
+use crate::chains::listed;
 use base_words::Block;
 use fx_header::{set_end, set_mark};
 use plain_cat::NoMemory;
@@ -103,6 +104,30 @@ fn files_in_use_have_streams(rt: HostRuntime) -> Result<(), Fail> {
     assert!(rt;
         is_stream(alloc, &b, 10, 1, b[46..48].as_flattened())?,
         "the stream of QUOTA.SYS is its rows"
+    );
+    Ok(())
+}
+
+/// A volume in which file 12 has two blocks, one of A and one of B. Its header lists two blocks more, each of C, and the end that it
+/// says is in the third block.
+fn with_surplus() -> [Block; 64] {
+    let mut b = listed();
+    b[50] = [b'A'; 512];
+    b[51] = [b'B'; 512];
+    b[52] = [b'C'; 512];
+    b[53] = [b'C'; 512];
+    set_end(&mut b[20], 3, 9);
+    change(&mut b, 20, 26, 2);
+    b
+}
+
+#[test]
+fn what_is_listed_behind_the_blocks_is_in_no_stream(rt: HostRuntime) -> Result<(), Fail> {
+    let alloc = rt.alloc();
+    let want = made_of(alloc, &[(b'A', 512), (b'B', 512)])?;
+    assert!(rt;
+        is_stream(alloc, &with_surplus(), 12, 1, &want)?,
+        "the stream ends with the last block of the file"
     );
     Ok(())
 }

@@ -29,7 +29,7 @@ use Rattle.vol_parts.specs.Volumes.{Volume, volume, IsNumber, factor, body, numb
 use Rattle.vol_parts.specs.Volumes.{first_head}
 use Rattle.vol_parts.specs.Catalogues.{quota_row, rows_sorted, slot_of, slot_with, files_of, catalogue}
 use Rattle.vol_parts.specs.Fatal.{is_rowless}
-use Rattle.vol_parts.specs.Warnings.{is_marked, names_none, is_second, names_none_found, second_found, has_doubles, is_lost_file, if_any, is_miscounted, usage_found, warnings}
+use Rattle.vol_parts.specs.Warnings.{is_marked, names_none, is_second, names_none_found, second_found, has_doubles, has_surplus, is_stray, is_lost_file, if_any, is_miscounted, usage_found, warnings}
 use Rattle.vol_parts.specs.Findings.{home_at, AreWarningsBy, Accepts, CatOf}
 use Rattle.vol_spell.proofs.Accepted.{catalogue_is_spelt}
 use Rattle.vol_analyze.proofs.Weakly.{cat-told, IsWeak, weak-volume, file-sizes}
@@ -105,6 +105,8 @@ none_miscounted v e =
     let numbers_leaked = if_any finding.LeakedNumbers (count_by is_true c.leaked_numbers) in
     let clusters_leaked = if_any finding.LeakedClusters c.leaked in
     let files_lost = map finding.Lost (numbers_from (is_lost_file c) 1 c.files) in
+    let strays = map finding.Stray (filter (is_stray v) (numbers v)) in
+    let surplus = map finding.Surplus (filter (has_surplus v) (numbers v)) in
     let doubles = map finding.Doubles (filter (has_doubles v) (numbers v)) in
     let seconds = map second_found (filter (is_second c) (places c)) in
     let nameless = map names_none_found (filter (names_none c) (places c)) in
@@ -112,11 +114,14 @@ none_miscounted v e =
     none_mapped (usage_found c) (filter (is_miscounted c) c.quota)
     (behind_none numbers_leaked counts
     (behind_none clusters_leaked (numbers_leaked ++ counts)
-    (behind_none files_lost (clusters_leaked ++ (numbers_leaked ++ counts))
-    (behind_none doubles (files_lost ++ (clusters_leaked ++ (numbers_leaked ++ counts)))
-    (behind_none seconds (doubles ++ (files_lost ++ (clusters_leaked ++ (numbers_leaked ++ counts))))
-    (behind_none nameless (seconds ++ (doubles ++ (files_lost ++ (clusters_leaked ++ (numbers_leaked ++ counts)))))
-    (behind_none marked (nameless ++ (seconds ++ (doubles ++ (files_lost ++ (clusters_leaked ++ (numbers_leaked ++ counts)))))) (sym e))))))))
+    (behind_none strays (clusters_leaked ++ (numbers_leaked ++ counts))
+    (behind_none surplus (strays ++ (clusters_leaked ++ (numbers_leaked ++ counts)))
+    (behind_none files_lost (surplus ++ (strays ++ (clusters_leaked ++ (numbers_leaked ++ counts))))
+    (behind_none doubles (files_lost ++ (surplus ++ (strays ++ (clusters_leaked ++ (numbers_leaked ++ counts)))))
+    (behind_none seconds (doubles ++ (files_lost ++ (surplus ++ (strays ++ (clusters_leaked ++ (numbers_leaked ++ counts))))))
+    (behind_none nameless (seconds ++ (doubles ++ (files_lost ++ (surplus ++ (strays ++ (clusters_leaked ++ (numbers_leaked ++ counts)))))))
+    (behind_none marked (nameless ++ (seconds ++ (doubles ++ (files_lost ++ (surplus ++ (strays ++ (clusters_leaked ++ (numbers_leaked ++ counts))))))))
+    (sym e))))))))))
 
 pub no_warnings : (bs : List Block) (home : Home) → Accepts bs → home_read (home_at bs) ≡ Ok home → [] ≡ warnings (volume home bs)
 no_warnings bs home (inl f) e = absurd (let g : [] ≡ f.0 ∷ [] = f.2 in cc)

@@ -12,7 +12,7 @@ use Rattle.fx_header.specs.declared.slot.HeaderFault.{HeaderFault}
 use Rattle.vol_parts.specs.declared.finding.Finding.{Finding}
 use Rattle.vol_parts.specs.declared.finding.Finding.TheVariants as finding
 use Rattle.vol_parts.specs.Volumes.{Volume, volume, head, fields_in}
-use Rattle.vol_parts.specs.Fatal.{IsFatalIn, scb_fault, dir_fault}
+use Rattle.vol_parts.specs.Fatal.{IsFatalIn, scb_fault, chain_fault, dir_fault}
 use Rattle.vol_parts.specs.Findings.{home_at, IsFatalBy, rank, subject, is_no_later, IsFirstFatal, AreWarningsBy, AreFindings}
 
 -- ---- what can be found of a kind about one thing
@@ -27,6 +27,7 @@ found_at v k n =
     if k == 1 then Some (header_found n (head v n))
     else if k == 2 then Some (finding.SystemFile n)
     else if k == 3 then option_map finding.Scb (scb_fault v)
+    else if k == 4 then chain_fault v n
     else if k == 5 then Some (finding.Runs n)
     else if k == 6 then Some (finding.Clusters n)
     else if k == 7 then Some (finding.SharedCluster n)
@@ -58,6 +59,8 @@ fatal_at v (finding.Header n fault) p = ap Some (bad_header n fault (head v n) p
 fatal_at v (finding.WrongNumber n) p = ap Some (wrong_number n p.1.0 (head v n) p.1.1)
 fatal_at v (finding.SystemFile n) p = refl
 fatal_at v (finding.Scb fault) p = ap (option_map finding.Scb) p
+fatal_at v (finding.ChainBroken n) p = p.2
+fatal_at v (finding.ChainSplit n) p = p.2
 fatal_at v (finding.Runs n) p = refl
 fatal_at v (finding.Clusters n) p = refl
 fatal_at v (finding.SharedCluster q) p = refl
@@ -78,6 +81,8 @@ fatal_at v (finding.NamesNone name ver dir) p = absurd p
 fatal_at v (finding.Second name ver dir) p = absurd p
 fatal_at v (finding.Doubles n) p = absurd p
 fatal_at v (finding.Lost n) p = absurd p
+fatal_at v (finding.Surplus n) p = absurd p
+fatal_at v (finding.Stray n) p = absurd p
 fatal_at v (finding.LeakedClusters k) p = absurd p
 fatal_at v (finding.LeakedNumbers k) p = absurd p
 fatal_at v (finding.Usage owner has should) p = absurd p

@@ -10,10 +10,10 @@ use Rattle.vol_parts.specs.Findings.{home_at, rank, IsFatalBy, AreWarningsBy}
 use Rattle.vol_parts.specs.Volumes.{Volume, volume}
 use Rattle.vol_parts.specs.Warnings.{warnings}
 use Rattle.vol_faults.specs.Whole.{NoneBelow, IsFirstBelow}
-use Rattle.vol_faults.proofs.WholeLemmas.{step, wider, none-first, none-kept, read-home-fault}
+use Rattle.vol_faults.proofs.WholeLemmas.{step, wider, none-first, read-home-fault}
 use Rattle.vol_analyze.specs.Having.{HaveFindings}
 use Rattle.vol_analyze.proofs.Seeking.{HasFirst}
-use Rattle.vol_analyze.proofs.Ranks.{headers, systems, control, run_bounds, sizes, sharing, directories, doubles, rowless, free_clusters, free_numbers, entries, marked, loops, room, late}
+use Rattle.vol_analyze.proofs.Ranks.{headers, systems, control, chains, run_bounds, sizes, sharing, directories, doubles, rowless, free_clusters, free_numbers, entries, marked, loops, room, late}
 
 -- the first fatal finding of the ranks below this one, or that none of those holds
 abbrev HasFirstBelow : Volume → ℕ → Type 0
@@ -27,7 +27,7 @@ next v k here (None, none) = let w = here none in (w.0, step v k (suc k) w.0 non
 parts : (v : Volume) → HasFirstBelow v 9
 parts v =
     next v 8 (λ none. directories v) (next v 7 (sharing v) (next v 6 (λ none. sizes v) (next v 5 (λ none. run_bounds v)
-    (next v 4 (λ none. (None, none-kept v)) (next v 3 (λ none. control v) (next v 2 (λ none. systems v) (next v 1 (λ none. headers v) (None, none-first v))))))))
+    (next v 4 (λ none. chains v) (next v 3 (λ none. control v) (next v 2 (λ none. systems v) (next v 1 (λ none. headers v) (None, none-first v))))))))
 
 all : (v : Volume) → HasFirstBelow v 18
 all v =

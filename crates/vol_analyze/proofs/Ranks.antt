@@ -1,5 +1,5 @@
 -- Of each rank the first finding is found, or that there is none.
-use Rattle.std.proofs.Common.{◌≡◌, ◌<◌, ◌≤◌, ◌+◌, ◌⊎◌, ℕ, zero, suc, true, false, List, [], ◌∷◌, Option, Some, None, Result, Ok, Err, length, sum_by, refl, sym, subst, arith, inl, inr, ⊎_elim}
+use Rattle.std.proofs.Common.{◌≡◌, ◌<◌, ◌≤◌, ◌+◌, ◌⊎◌, ◌∙◌, ℕ, zero, suc, true, false, List, [], ◌∷◌, Option, Some, None, Result, Ok, Err, length, sum_by, refl, sym, ap, subst, arith, inl, inr, ⊎_elim}
 use Rattle.std.specs.Prelude.{◌==◌, is_some, slice_get}
 use Rattle.std.specs.List.{list_any, count_by}
 use Rattle.std.proofs.lemmas.Bool.{cases_lt, eqb-true, false_from_ne_true, leb-true}
@@ -16,13 +16,14 @@ use Rattle.vol_parts.specs.declared.finding.Finding.{Finding}
 use Rattle.vol_parts.specs.declared.finding.Finding.TheVariants as finding
 use Rattle.vol_parts.specs.Catalogues.{catalogue}
 use Rattle.vol_parts.specs.Conditions.{HasAllRunsInside, IsFirstDirFault}
-use Rattle.vol_parts.specs.Fatal.{IsFatalIn, is_system_file, scb_fault, is_off_bounds, is_too_large, dir_fault, has_two_rows, is_rowless, is_marked_dir}
+use Rattle.vol_parts.specs.Fatal.{IsFatalIn, is_system_file, scb_fault, chain_fault, is_off_bounds, is_too_large, dir_fault, has_two_rows, is_rowless, is_marked_dir}
 use Rattle.vol_parts.specs.Findings.{rank, subject}
 use Rattle.vol_parts.specs.Volumes.{Volume, IsNumber, total, head, used_slot, fields, runs, is_in_files, is_free_cluster, is_used_number, active_rows}
 use Rattle.vol_parts.proofs.FirstLemmas.{first-directory}
-use Rattle.vol_faults.specs.Conditions.{is_bad_header}
+use Rattle.vol_faults.specs.Conditions.{is_bad_header, has_bad_chain}
 use Rattle.vol_faults.specs.Counts.{times}
 use Rattle.vol_faults.specs.Whole.{NoneBelow}
+use Rattle.vol_faults.proofs.ChainLemmas.{chains-found, chain-kind}
 use Rattle.vol_faults.proofs.FirstLemmas.{headers-found, wrong-number}
 use Rattle.vol_faults.proofs.Found.{found_none, found_some}
 use Rattle.vol_faults.proofs.LiftLemmas.{first-of-volume}
@@ -53,7 +54,7 @@ pub headers : (v : Volume) → HasFirst v 1
 headers v = seek v 1 (v.home.files + 1) (λ n. judge_header v n (both (number v n) (same (is_bad_header v n) true)))
     (λ f e h. let high = ((headers-found v).only f e h).1 in omega arith)
 
--- ---- system files, the control block, runs and sizes
+-- ---- system files, the control block, chains of headers, runs and sizes
 
 system_only : (f : Finding) → rank f ≡ 2 → f ≡ finding.SystemFile (subject f)
 system_only (finding.SystemFile n) e = refl
@@ -73,6 +74,29 @@ scb_first v (Some fault) e = (Some (finding.Scb fault), record { rank_is = refl;
 
 pub control : (v : Volume) → HasFirst v 3
 control v = scb_first v (scb_fault v) refl
+
+chain_judged : (v : Volume) (n : ℕ) (o : Option Finding) → chain_fault v n ≡ o → IsNumber v n → 11 < n → IsJudged v 4 n
+chain_judged v n (Some f) e i above = elim (chain-kind v n f e) [
+  | inl is ↦ inl (finding.ChainBroken n, record { ranked = refl; about = refl; fatal = (i, above, e ∙ ap Some is) })
+  | inr is ↦ inl (finding.ChainSplit n, record { ranked = refl; about = refl; fatal = (i, above, e ∙ ap Some is) })
+]
+chain_judged v n None e i above = inr (λ f a.
+    let w = (chains-found v).only f a.ranked a.fatal in
+    let here : has_bad_chain v n ≡ true = subst (λ (m : ℕ). has_bad_chain v m ≡ true) a.about w.2 in
+    absurd (let g : false ≡ true = ap is_some (sym e) ∙ here in cc))
+
+judge_chain : (v : Volume) (n : ℕ) → IsSettled (IsNumber v n × (12 ≤ n)) → IsJudged v 4 n
+judge_chain v n (inl h) = chain_judged v n (chain_fault v n) refl h.0 h.1
+judge_chain v n (inr none) = inr (λ f a.
+    let is = a.about in
+    let w = (chains-found v).only f a.ranked a.fatal in
+    let low = w.0 in
+    let high = w.1 in
+    none (record { from = omega arith; to = omega arith }, omega arith))
+
+pub chains : (v : Volume) → HasFirst v 4
+chains v = seek v 4 (v.home.files + 1) (λ n. judge_chain v n (both (number v n) (at_most 12 n)))
+    (λ f e h. let w = (chains-found v).only f e h in let low = w.0 in let high = w.1 in omega arith)
 
 runs_only : (f : Finding) → rank f ≡ 5 → f ≡ finding.Runs (subject f)
 runs_only (finding.Runs n) e = refl
@@ -229,6 +253,8 @@ none_late v (finding.NamesNone name ver dir) e h = h
 none_late v (finding.Second name ver dir) e h = h
 none_late v (finding.Doubles n) e h = h
 none_late v (finding.Lost n) e h = h
+none_late v (finding.Surplus n) e h = h
+none_late v (finding.Stray n) e h = h
 none_late v (finding.LeakedClusters k) e h = h
 none_late v (finding.LeakedNumbers k) e h = h
 none_late v (finding.Usage owner has should) e h = h

@@ -20,10 +20,10 @@ use Rattle.fx_header.specs.declared.slot.Slot.TheVariants as head
 use Rattle.plain_cat.specs.declared.cat.File.{File}
 use Rattle.plain_cat.specs.declared.cat.Slot.{Slot}
 use Rattle.plain_cat.specs.declared.cat.Slot.TheVariants.{Used, Free}
-use Rattle.vol_parts.specs.Volumes.{Volume, factor, first_head, fields_in, runs, body}
+use Rattle.vol_parts.specs.Volumes.{Volume, factor, first_head, fields_in, runs, body, told}
 use Rattle.vol_parts.specs.Catalogues.{plain_entry, plain_entries, slot_with, slot_of}
 use Rattle.vol_parts.specs.declared.finding.Finding.TheVariants as finding
-use Rattle.vol_parts.specs.Fatal.{found_in, has_dir_size, dir_fault}
+use Rattle.vol_parts.specs.Fatal.{found_in, is_one_header, has_dir_size, dir_fault}
 use Rattle.vol_parts.specs.Warnings.{is_double_dir, has_doubles}
 use Rattle.fx_dir.specs.Laws.{has_double}
 use Rattle.vol_analyze.proofs.Doubled.{fresh-clean, none-crosses, doubled_is}
@@ -106,7 +106,7 @@ sound_dir : (v : Volume) (n : ℕ) → dir_fault v n ≡ None → (h : Hdr) → 
 unfolding dir_fault
 sound_dir v n none h e d =
     let at : fields_in (first_head v n) ≡ Some h = ap fields_in e in
-    size (has_dir_size (factor v) h (runs v n)) (rw (at, d) at (none)) where
+    size (is_one_header h (told v n) && has_dir_size (factor v) h (runs v n)) (rw (at, d) at (none)) where
       size : (b : Bool) → (if b then found_in n (directory (body v n)) else Some (finding.DirSize n)) ≡ None → found_in n (directory (body v n)) ≡ None
       size true k = k
       size false k = absurd (cc)

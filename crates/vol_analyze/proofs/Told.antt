@@ -11,7 +11,7 @@ use Rattle.vol_parts.specs.declared.finding.Finding.{Finding}
 use Rattle.vol_parts.specs.declared.finding.Finding.TheVariants as finding
 use Rattle.vol_parts.specs.Volumes.{Volume, IsNumber, numbers}
 use Rattle.vol_parts.specs.Catalogues.{slot_of, files_of, is_outside_number, catalogue}
-use Rattle.vol_parts.specs.Warnings.{has_doubles, if_any, warnings}
+use Rattle.vol_parts.specs.Warnings.{has_doubles, has_surplus, is_stray, if_any, warnings}
 use Rattle.vol_parts.proofs.Ranges.{range-more}
 use Rattle.vol_parts.proofs.Sizes.{length-files_of}
 use Rattle.vol_analyze.specs.Kinds.{marked_of, nameless_of, seconds_of, lost_of, usages_of, findings_with}
@@ -47,13 +47,23 @@ pub filter_next : (p : ℕ → Bool) (i : ℕ)
 filter_next p i =
     ap (filter p) (range-more 1 i (i + 1) (omega arith)) ∙ filter-append p (range_with_len 1 i) ((i + 1) ∷ [])
 
+-- the directories that have doubles, the files that have surplus, and the headers that are in no chain
+pub record AreNumbers (v : Volume) (ds ss hs : List ℕ) : Type 0 where
+  pub doubles : ds ≡ filter (has_doubles v) (numbers v)
+  pub surplus : ss ≡ filter (has_surplus v) (numbers v)
+  pub strays : hs ≡ filter (is_stray v) (numbers v)
+
 -- the kinds in order are all findings
-pub warnings_is : (v : Volume) (c : Cat) (ds : List ℕ) → c ≡ catalogue v → ds ≡ filter (has_doubles v) (numbers v) → findings_with c ds ≡ warnings v
+pub warnings_is : (v : Volume) (c : Cat) (ds ss hs : List ℕ) → c ≡ catalogue v → AreNumbers v ds ss hs → findings_with c ds ss hs ≡ warnings v
 unfolding warnings
-warnings_is v c ds e d =
+warnings_is v c ds ss hs e are =
     let k : Cat = catalogue v in
-    ap (λ (t : Cat). findings_with t ds) e ∙ (ap (λ (t : List ℕ). findings_with k t) d
+    let d : List ℕ = filter (has_doubles v) (numbers v) in
+    let s : List ℕ = filter (has_surplus v) (numbers v) in
+    let h : List ℕ = filter (is_stray v) (numbers v) in
+    ap (λ (t : Cat). findings_with t ds ss hs) e ∙ (ap (λ (t : List ℕ). findings_with k t ss hs) are.doubles
+    ∙ ap (λ (t : List ℕ). findings_with k d t hs) are.surplus ∙ ap (λ (t : List ℕ). findings_with k d s t) are.strays
     ∙ ap (λ (t : List Finding).
     marked_of k ++ (nameless_of k (places k) ++ (seconds_of k (places k)
-    ++ (map finding.Doubles (filter (has_doubles v) (numbers v)) ++ (lost_of k ++ t)))))
+    ++ (map finding.Doubles d ++ (lost_of k ++ (map finding.Surplus s ++ (map finding.Stray h ++ t)))))))
     (append_assoc (if_any finding.LeakedClusters k.leaked) (if_any finding.LeakedNumbers (count_by is_true k.leaked_numbers)) (usages_of k)))

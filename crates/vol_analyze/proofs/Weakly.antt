@@ -1,6 +1,6 @@
 -- What holds of a volume in which no fatal finding holds.
 use Rattle.std.proofs.Common.{◌≡◌, ◌+◌, ◌*◌, ◌/◌, ◌≤◌, ℕ, Bool, true, false, not, List, Option, Some, None, Result, Ok, Err, length, get_or, refl, sym, subst, inl, inr, arith}
-use Rattle.std.specs.Prelude.{if◌then◌else◌}
+use Rattle.std.specs.Prelude.{◌&&◌, if◌then◌else◌}
 use Rattle.std.specs.List.{list_any, sum_by}
 use Rattle.std.proofs.lemmas.Bool.{cases_Bool}
 use Rattle.std.proofs.lemmas.List.Elements.{All-from_get_or}
@@ -21,10 +21,10 @@ use Rattle.plain_cat.specs.declared.cat.Slot.TheVariants.{Free}
 use Rattle.plain_rules.specs.Lookups.{clusters_in}
 use Rattle.vol_parts.specs.declared.finding.Finding.{Finding}
 use Rattle.vol_parts.specs.declared.finding.Finding.TheVariants as finding
-use Rattle.vol_parts.specs.Volumes.{Volume, volume, IsNumber, factor, fields, runs, body, geometry_of}
+use Rattle.vol_parts.specs.Volumes.{Volume, volume, IsNumber, factor, fields, runs, body, told, geometry_of}
 use Rattle.vol_parts.specs.Catalogues.{catalogue}
 use Rattle.vol_parts.specs.Conditions.{HasRunsInside, HasAllRunsInside}
-use Rattle.vol_parts.specs.Fatal.{IsFatalIn, is_off_bounds, has_dir_size, found_in, dir_test, dir_fault}
+use Rattle.vol_parts.specs.Fatal.{IsFatalIn, is_off_bounds, is_one_header, has_dir_size, found_in, dir_test, dir_fault}
 use Rattle.vol_parts.specs.Findings.{home_at, IsFatalBy, IsCatalogueBy, CatOf}
 use Rattle.vol_faults.specs.Conditions.{IsSize}
 use Rattle.vol_spell.specs.Accepting.{owners_told}
@@ -75,7 +75,7 @@ sized-none v n false sized weak number e = e
 
 test-none : (v : Volume) (n : ℕ) (o : Option Hdr) → IsWeak v → IsNumber v n → dir_fault v n ≡ dir_test v n o → dir_fault v n ≡ None
 test-none v n None weak number e = e
-test-none v n (Some f) weak number e = sized-none v n f.dir (has_dir_size (factor v) f (runs v n)) weak number e
+test-none v n (Some f) weak number e = sized-none v n f.dir (is_one_header f (told v n) && has_dir_size (factor v) f (runs v n)) weak number e
 
 fault-none : (v : Volume) (n : ℕ) → IsWeak v → IsNumber v n → dir_fault v n ≡ None
 unfolding dir_fault

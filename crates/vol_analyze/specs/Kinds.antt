@@ -28,16 +28,17 @@ leaks_of c = if_any finding.LeakedClusters c.leaked ++ if_any finding.LeakedNumb
 abbrev pub usages_of : Cat → List Finding
 usages_of c = map (usage_found c) (filter (is_miscounted c) c.quota)
 
--- all of them, where these directories have doubles
-abbrev pub findings_with : Cat → List ℕ → List Finding
-findings_with c ds =
+-- all of them, where these directories have doubles, these files surplus, and these headers are in no chain
+abbrev pub findings_with : Cat → List ℕ → List ℕ → List ℕ → List Finding
+findings_with c ds ss hs =
     marked_of c ++ (nameless_of c (places c) ++ (seconds_of c (places c)
-    ++ (map finding.Doubles ds ++ (lost_of c ++ (leaks_of c ++ usages_of c)))))
+    ++ (map finding.Doubles ds ++ (lost_of c ++ (map finding.Surplus ss ++ (map finding.Stray hs ++ (leaks_of c ++ usages_of c)))))))
 
 -- of the findings that are not fatal those of the first kinds: of marked files, and of entries
 abbrev pub early_of : Cat → List Finding
 early_of c = marked_of c ++ (nameless_of c (places c) ++ seconds_of c (places c))
 
--- and those of the others, where these directories have doubles
-abbrev pub late_of : Cat → List ℕ → List Finding
-late_of c ds = map finding.Doubles ds ++ (lost_of c ++ (leaks_of c ++ usages_of c))
+-- and those of the others, where these directories have doubles, these files surplus, and these headers are in no chain
+abbrev pub late_of : Cat → List ℕ → List ℕ → List ℕ → List Finding
+late_of c ds ss hs =
+    map finding.Doubles ds ++ (lost_of c ++ (map finding.Surplus ss ++ (map finding.Stray hs ++ (leaks_of c ++ usages_of c))))

@@ -13,13 +13,13 @@ ghost use Rattle.vol_analyze.specs.Conditions.{HasFileSizes, HasSoundDirectories
 ghost use Rattle.vol_analyze.specs.Kinds.{marked_of, nameless_of, seconds_of, early_of, late_of};
 
 use crate::doubles::doubles;
-use crate::kinds::{nameless, names_none, push_leaks, push_lost, push_marked, push_usages, second};
-use crate::warnings::push_doubles;
+use crate::kinds::{nameless, names_none, push_marked, second};
+use crate::warnings::push_late;
 use base_words::Block;
 use fx_home::Home;
 use plain_cat::{Cat, NoMemory};
 use std::alloc::Global;
-use vol_faults::{Spot, all_firsts, is_second, spots};
+use vol_faults::{Spot, all_firsts, is_second, spots, strays, surplus};
 use vol_parts::Finding;
 
 // The first of these.
@@ -89,20 +89,24 @@ fn first_early(alloc: Global, cat: &Cat) -> Result<Option<Finding>, NoMemory>
     first_second(alloc, cat, firsts.as_slice(), spots.as_slice())
 }
 
-// The first of directories that have doubles, which are these, of lost files, of leaks, and of usages.
-fn first_late(alloc: Global, cat: &Cat, doubles: &[u32]) -> Result<Option<Finding>, NoMemory>
+// The first of directories that have doubles, of lost files, of files that have surplus, of headers that are in no chain, of leaks,
+// and of usages. The directories, these files and the headers are given.
+fn first_late(
+    alloc: Global,
+    cat: &Cat,
+    doubles: &[u32],
+    files: &[u32],
+    headers: &[u32],
+) -> Result<Option<Finding>, NoMemory>
     requires numbers { length cat.now.files ≤ 4096 }
     requires flags { length cat.now.leaked_numbers ≤ 4096 }
     requires sizes { HasFileSizes cat.now }
-    ensures { IfOk result (λ first. first ≡ slice_get (late_of cat.now doubles.now) 0) }
+    ensures { IfOk result (λ first. first ≡ slice_get (late_of cat.now doubles.now files.now headers.now) 0) }
 {
     let spots = spots(alloc, cat)?;
     let firsts = all_firsts(alloc, cat, spots.as_slice())?;
     let mut found = Vec::new(alloc);
-    push_doubles(&mut found, doubles)?;
-    push_lost(&mut found, cat, firsts.as_slice())?;
-    push_leaks(&mut found, cat)?;
-    push_usages(&mut found, cat)?;
+    push_late(&mut found, cat, firsts.as_slice(), doubles, files, headers)?;
     Ok(first_of(found))
 }
 
@@ -126,5 +130,13 @@ pub(crate) fn first_warning(
         return Ok(Some(found));
     }
     let doubled = doubles(alloc, home, blocks, cat)?;
-    first_late(alloc, cat, doubled.as_slice())
+    let files = surplus(alloc, home, blocks)?;
+    let headers = strays(alloc, home, blocks)?;
+    first_late(
+        alloc,
+        cat,
+        doubled.as_slice(),
+        files.as_slice(),
+        headers.as_slice(),
+    )
 }

@@ -1,13 +1,14 @@
 -- Where the storage bitmap and the quota blocks lie: BITMAP.SYS is one run inside the blocks, with room for a bit of each
 -- cluster, and QUOTA.SYS is one.
-use Rattle.std.proofs.Common.{◌≡◌, ◌+◌, ◌*◌, ◌/◌, ◌<◌, ◌≤◌, ℕ, [], ◌∷◌, List, true, Some, length, refl, arith, ap}
+use Rattle.std.proofs.Common.{◌≡◌, ◌+◌, ◌*◌, ◌/◌, ◌<◌, ◌≤◌, ◌&&◌, ℕ, [], ◌∷◌, List, true, Some, length, refl, arith, ap}
 use Rattle.std.proofs.lemmas.Bool.{and_parts, leb-true, eqb-true}
 use Rattle.fx_header.specs.declared.run.Run.{Run}
 use Rattle.fx_home.specs.Homes.{IsWithinLimits}
+use Rattle.vol_parts.specs.Conditions.{HasSystemFiles}
 use Rattle.vol_parts.specs.Parts.{IsGeometry, storage_blocks}
-use Rattle.vol_parts.specs.Volumes.{Volume, factor, total, runs, first_lbn, bitmap_lbn, quota_lbn, geometry_of, fields}
-use Rattle.vol_parts.specs.Fatal.{in_whole_clusters, stated_clusters, is_stated_run, are_stated, is_system_file, is_system_header}
-use Rattle.vol_faults.specs.Conditions.{IsSize, HasSystemFiles}
+use Rattle.vol_parts.specs.Volumes.{Volume, factor, total, runs, first_lbn, bitmap_lbn, quota_lbn, geometry_of, fields, told}
+use Rattle.vol_parts.specs.Fatal.{in_whole_clusters, stated_clusters, is_stated_run, are_stated, has_one_header, is_system_file, is_system_header}
+use Rattle.vol_faults.specs.Conditions.{IsSize}
 
 -- one run, as it is stated
 one-stated : (v : Volume) (n k : ℕ) (rs : List Run) → are_stated v n (Some k) rs ≡ true → (r : Run) × (rs ≡ r ∷ []) × (is_stated_run v n k r ≡ true)
@@ -20,7 +21,8 @@ bitmap-stated : (v : Volume) → HasSystemFiles v
 unfolding is_system_file stated_clusters
 bitmap-stated v s =
     let h : is_system_file v 2 ≡ true = s.sound 2 (omega arith) (omega arith) in
-    (and_parts (is_system_header 2 (fields v 2)) (are_stated v 2 (stated_clusters v 2) (runs v 2)) h).1
+    let behind = (and_parts (is_system_header 2 (fields v 2)) (has_one_header (fields v 2) (told v 2) && are_stated v 2 (stated_clusters v 2) (runs v 2)) h).1 in
+    (and_parts (has_one_header (fields v 2) (told v 2)) (are_stated v 2 (stated_clusters v 2) (runs v 2)) behind).1
 
 -- so many clusters have room for so many blocks
 room-in_whole_clusters : (factor blocks : ℕ) → 1 ≤ factor → blocks ≤ factor * in_whole_clusters factor blocks
@@ -54,7 +56,8 @@ quota-stated : (v : Volume) → HasSystemFiles v → are_stated v 10 (Some 1) (r
 unfolding is_system_file stated_clusters
 quota-stated v s =
     let h : is_system_file v 10 ≡ true = s.sound 10 (omega arith) (omega arith) in
-    (and_parts (is_system_header 10 (fields v 10)) (are_stated v 10 (stated_clusters v 10) (runs v 10)) h).1
+    let behind = (and_parts (is_system_header 10 (fields v 10)) (has_one_header (fields v 10) (told v 10) && are_stated v 10 (stated_clusters v 10) (runs v 10)) h).1 in
+    (and_parts (has_one_header (fields v 10) (told v 10)) (are_stated v 10 (stated_clusters v 10) (runs v 10)) behind).1
 
 quota-inside : (v : Volume) → 1 ≤ factor v → HasSystemFiles v → quota_lbn v < length v.blocks
 quota-inside v some s =

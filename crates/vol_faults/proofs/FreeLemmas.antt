@@ -10,10 +10,11 @@ use Rattle.fx_home.specs.declared.home.Home.{Home}
 use Rattle.fx_home.specs.declared.home.HomeFault.{HomeFault}
 use Rattle.fx_home.specs.Homes.{home_read}
 use Rattle.vol_parts.specs.declared.finding.Finding.TheVariants as finding
+use Rattle.vol_parts.specs.Conditions.{HasSystemFiles}
 use Rattle.vol_parts.specs.Volumes.{Volume, volume, IsNumber, head}
 use Rattle.vol_parts.specs.Fatal.{is_system_file}
 use Rattle.vol_parts.specs.Findings.{home_at, rank, IsFatalBy, IsReadable}
-use Rattle.vol_faults.specs.Conditions.{is_bad_slot, is_bad_header, HasHeads, HasSystemFiles}
+use Rattle.vol_faults.specs.Conditions.{is_bad_slot, is_bad_header, HasHeads}
 use Rattle.vol_faults.specs.Whole.{NoneBelow}
 use Rattle.vol_faults.proofs.CountLemmas.{range_more}
 use Rattle.vol_faults.proofs.FirstLemmas.{wrong-number}

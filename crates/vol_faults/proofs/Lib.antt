@@ -1,5 +1,6 @@
 pub mod BitmapLemmas
 pub mod CatLemmas
+pub mod ChainLemmas
 pub mod CountLemmas
 pub mod Entering
 pub mod FirstLemmas
@@ -14,6 +15,7 @@ pub mod ReachLemmas
 pub mod RoomLemmas
 pub mod SharingLemmas
 pub mod Stripping
+pub mod TailLemmas
 pub mod WalkLemmas
 pub mod WayLemmas
 pub mod WholeLemmas

@@ -66,11 +66,6 @@ pub none-first : (v : Volume) → NoneBelow v 1
 none-first v (finding.Home fault) low h = h
 none-first v g low h = absurd (omega arith)
 
--- nothing is of the rank that is kept
-pub none-kept : (v : Volume) → IsFirstOf v 4 None
-none-kept v (finding.Home fault) e h = absurd (omega arith)
-none-kept v g e h = absurd (omega arith)
-
 -- the same for a kind that the catalogue tells
 pub cat-step : (v : Volume) (c : Cat) (k m : ℕ) (r : Option Finding) → catalogue v ≡ c → 13 ≤ k → k ≤ 16 → NoneBelow v k → IsFirstIn c k r → suc k ≡ m
     → IsFirstBelow v m r
@@ -96,6 +91,8 @@ fatal-none v (finding.Header n fault) none h = absurd (none (finding.Header n fa
 fatal-none v (finding.WrongNumber n) none h = absurd (none (finding.WrongNumber n) (omega arith) h)
 fatal-none v (finding.SystemFile n) none h = absurd (none (finding.SystemFile n) (omega arith) h)
 fatal-none v (finding.Scb fault) none h = absurd (none (finding.Scb fault) (omega arith) h)
+fatal-none v (finding.ChainBroken n) none h = absurd (none (finding.ChainBroken n) (omega arith) h)
+fatal-none v (finding.ChainSplit n) none h = absurd (none (finding.ChainSplit n) (omega arith) h)
 fatal-none v (finding.Runs n) none h = absurd (none (finding.Runs n) (omega arith) h)
 fatal-none v (finding.Clusters n) none h = absurd (none (finding.Clusters n) (omega arith) h)
 fatal-none v (finding.SharedCluster q) none h = absurd (none (finding.SharedCluster q) (omega arith) h)

@@ -5,7 +5,7 @@ use Rattle.fx_header.specs.declared.slot.Slot.{Slot}
 use Rattle.fx_header.specs.declared.slot.Slot.TheVariants.{Free, Used}
 use Rattle.fx_header.specs.declared.slot.HeaderFault.{HeaderFault}
 use Rattle.vol_parts.specs.Volumes.{Volume, IsNumber, head, used_slot, runs, is_used_number}
-use Rattle.vol_parts.specs.Fatal.{is_system_file, is_off_bounds}
+use Rattle.vol_parts.specs.Fatal.{chain_fault, is_off_bounds}
 
 -- the blocks that a volume can have
 pub record IsSize (blocks : ℕ) : Type 0 where
@@ -25,9 +25,9 @@ is_bad_header v n = is_bad_slot n (head v n)
 pub record HasHeads (v : Volume) : Type 0 where
   pub sound : (n : ℕ) → IsNumber v n → is_bad_header v n ≡ false
 
--- the files 1 to 11 are as the structure of a volume asks
-pub record HasSystemFiles (v : Volume) : Type 0 where
-  pub sound : (n : ℕ) → 1 ≤ n → n ≤ 11 → is_system_file v n ≡ true
+-- the chain of headers of the file of a number is broken or badly split
+abbrev pub has_bad_chain : Volume → ℕ → Bool
+has_bad_chain v n = is_some (chain_fault v n)
 
 -- a run of the file of a number is off
 unfoldable pub has_run_off : Volume → ℕ → Bool

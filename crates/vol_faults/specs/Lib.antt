@@ -4,6 +4,7 @@ pub mod Counts
 pub mod Free
 pub mod Places
 pub mod Reaching
+pub mod Tails
 pub mod Waiting
 pub mod Walking
 pub mod Whole

@@ -4,11 +4,11 @@ ghost use Rattle.std.specs.Prelude.{◌≡◌, ◌+◌, ◌/◌, ◌<◌, ◌&&�
 ghost use Rattle.std.specs.List.{count_by, range_with_len};
 ghost use Rattle.fx_home.specs.Homes.{IsWithinLimits};
 ghost use Rattle.vol_parts.specs.Catalogues.{is_outside_cluster};
-ghost use Rattle.vol_parts.specs.Conditions.{HasAllRunsInside};
+ghost use Rattle.vol_parts.specs.Conditions.{HasSystemFiles, HasAllRunsInside};
 ghost use Rattle.vol_parts.specs.Firsts.{IsFirstOf};
 ghost use Rattle.vol_parts.specs.Lowest.{IsLowest};
 ghost use Rattle.vol_parts.specs.Volumes.{volume, total, bitmap_lbn, is_free_cluster};
-ghost use Rattle.vol_faults.specs.Conditions.{IsSize, HasSystemFiles};
+ghost use Rattle.vol_faults.specs.Conditions.{IsSize};
 ghost use Rattle.vol_faults.specs.Counts.{AreCounts, times};
 
 use crate::sizes::total;

@@ -2,10 +2,10 @@
 
 ghost use Rattle.std.specs.Prelude.{◌≡◌, ◌<◌};
 ghost use Rattle.fx_home.specs.Homes.{IsWithinLimits};
+ghost use Rattle.vol_parts.specs.Conditions.{HasSystemFiles};
 ghost use Rattle.vol_parts.specs.Fatal.{scb_fault};
 ghost use Rattle.vol_parts.specs.Firsts.{IsFirstOf};
 ghost use Rattle.vol_parts.specs.Volumes.{volume};
-ghost use Rattle.vol_faults.specs.Conditions.{HasSystemFiles};
 
 use base_words::Block;
 use fx_home::{Home, ScbFault, read_scb};

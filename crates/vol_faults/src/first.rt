@@ -3,13 +3,14 @@
 ghost use Rattle.std.specs.Prelude.{◌≡◌, ◌≤◌, IfNone, IfOk, length};
 ghost use Rattle.fx_home.specs.Homes.{IsWithinLimits};
 ghost use Rattle.vol_parts.specs.Catalogues.{catalogue};
-ghost use Rattle.vol_parts.specs.Conditions.{HasAllRunsInside};
+ghost use Rattle.vol_parts.specs.Conditions.{HasSystemFiles, HasAllRunsInside};
 ghost use Rattle.vol_parts.specs.Volumes.{Volume, volume};
-ghost use Rattle.vol_faults.specs.Conditions.{IsSize, HasHeads, HasSystemFiles};
+ghost use Rattle.vol_faults.specs.Conditions.{IsSize, HasHeads};
 ghost use Rattle.vol_faults.specs.Counts.{AreCounts};
 ghost use Rattle.vol_faults.specs.Whole.{NoneBelow, IsFirstBelow, IsReadOf, IsRead};
 
 use crate::bounds::{first_large_file, first_run_off};
+use crate::chains::first_bad_chain;
 use crate::clusters::{count_outside, first_free_cluster, first_shared_cluster};
 use crate::control::first_bad_control_block;
 use crate::counts::count_clusters;
@@ -26,7 +27,7 @@ use vol_parts::{
     Finding, active_rows, first_bad_directory, first_double_row, first_rowless_file, read_catalogue,
 };
 
-/// The first of headers, system files, the control block, runs, and sizes of files.
+/// The first of headers, system files, the control block, chains of headers, runs, and sizes of files.
 fn first_of_files(home: &Home, blocks: &[Block]) -> Option<Finding>
     requires limits { IsWithinLimits home.now }
     requires size { IsSize (length blocks.now) }
@@ -42,6 +43,9 @@ fn first_of_files(home: &Home, blocks: &[Block]) -> Option<Finding>
         return Some(found);
     }
     if let Some(found) = first_bad_control_block(home, blocks) {
+        return Some(found);
+    }
+    if let Some(found) = first_bad_chain(home, blocks) {
         return Some(found);
     }
     if let Some(found) = first_run_off(home, blocks) {

@@ -2,10 +2,11 @@
 
 ghost use Rattle.std.specs.Prelude.{◌≡◌, length};
 ghost use Rattle.fx_home.specs.Homes.{IsWithinLimits, home_read};
+ghost use Rattle.vol_parts.specs.Conditions.{HasSystemFiles};
 ghost use Rattle.vol_parts.specs.Findings.{home_at, IsReadable};
 ghost use Rattle.vol_parts.specs.Parts.{IsGeometry};
 ghost use Rattle.vol_parts.specs.Volumes.{volume};
-ghost use Rattle.vol_faults.specs.Conditions.{IsSize, HasHeads, HasSystemFiles};
+ghost use Rattle.vol_faults.specs.Conditions.{IsSize, HasHeads};
 ghost use Rattle.vol_faults.specs.Free.{free_clusters, free_numbers, IsGeometryBy, AreFreeBy};
 
 use crate::sizes::total;

@@ -13,10 +13,14 @@
 //! names it, `stays`, `is_second` and `is_lost` answer by that table exactly the questions of mending, and `first_without_room` gives
 //! the first such file (`IsFirstIn`). A law says that mending fails if and only if that room is lacking.
 //!
+//! Two lists are of what mending takes off: `surplus` of the files whose chains of headers go on behind their last block, `strays` of
+//! the headers that are no first ones and in no file's chain.
+//!
 //! `vol_spell` reads volumes by it, `vol_analyze` lists findings, `vol_rebuild` mends.
 #![tactic(auto)]
 
 mod bounds;
+mod chains;
 mod clusters;
 mod control;
 mod counts;
@@ -33,8 +37,10 @@ mod room;
 mod sizes;
 mod staying;
 mod systems;
+mod tails;
 
 pub use bounds::{first_large_file, first_run_off};
+pub use chains::first_bad_chain;
 pub use clusters::{count_outside, first_free_cluster, first_shared_cluster};
 pub use control::first_bad_control_block;
 pub use counts::count_clusters;
@@ -50,3 +56,4 @@ pub use places::{Spot, spots};
 pub use room::first_without_room;
 pub use staying::stays;
 pub use systems::first_bad_system_file;
+pub use tails::{strays, surplus};

@@ -1,4 +1,4 @@
-//! File numbers that the index-file bitmap calls free and that a file has.
+//! File numbers that the index-file bitmap calls free, and whose header slots are used.
 
 ghost use Rattle.std.specs.Prelude.{◌≡◌};
 ghost use Rattle.fx_home.specs.Homes.{IsWithinLimits};
@@ -9,9 +9,9 @@ ghost use Rattle.vol_faults.specs.Conditions.{HasHeads, is_free_in_use};
 
 use base_words::Block;
 use fx_home::Home;
-use vol_parts::{Finding, fields, is_used_number};
+use vol_parts::{Finding, is_used_number, used_slot};
 
-/// Whether the index-file bitmap says that a number is free, and a file has it.
+/// Whether the index-file bitmap says that a number is free, and its header slot is used.
 #[tactic(auto, unfolding(crate::specs::Conditions::is_free_in_use))]
 fn is_free_in_use(home: &Home, blocks: &[Block], n: u32) -> bool
     requires limits { IsWithinLimits home.now }
@@ -19,7 +19,7 @@ fn is_free_in_use(home: &Home, blocks: &[Block], n: u32) -> bool
     requires number { IsNumber (volume home.now blocks.now) n }
     ensures { result ≡ is_free_in_use (volume home.now blocks.now) n }
 {
-    !is_used_number(home, blocks, n) && fields(home, blocks, n).is_some()
+    !is_used_number(home, blocks, n) && used_slot(home, blocks, n).is_some()
 }
 
 fn lowest_free_in_use(home: &Home, blocks: &[Block]) -> Option<u32>
@@ -35,7 +35,7 @@ fn lowest_free_in_use(home: &Home, blocks: &[Block]) -> Option<u32>
     None
 }
 
-/// The first file number that the index-file bitmap calls free and that a file has. All headers can be read.
+/// The first file number that the index-file bitmap calls free and whose header slot is used. All headers can be read.
 pub fn first_free_number(home: &Home, blocks: &[Block]) -> Option<Finding>
     requires limits { IsWithinLimits home.now }
     requires heads { HasHeads (volume home.now blocks.now) }

@@ -2,18 +2,19 @@
 
 ghost use Rattle.std.specs.Prelude.{◌≡◌, ◌+◌, ◌*◌, ◌^◌, ◌<◌, ◌≤◌, not, IfNone, IfSome, length};
 ghost use Rattle.fx_home.specs.Homes.{IsWithinLimits};
+ghost use Rattle.vol_parts.specs.Conditions.{HasSystemFiles};
 ghost use Rattle.vol_parts.specs.Fatal.{in_whole_clusters, stated_clusters, is_stated_run, are_stated, is_system_header, is_system_file};
 ghost use Rattle.vol_parts.specs.Firsts.{IsFirstOf};
 ghost use Rattle.vol_parts.specs.Iter.{file_runs_left};
 ghost use Rattle.vol_parts.specs.Lowest.{IsLowest};
 ghost use Rattle.vol_parts.specs.Volumes.{volume, runs};
-ghost use Rattle.vol_faults.specs.Conditions.{IsSize, HasSystemFiles};
+ghost use Rattle.vol_faults.specs.Conditions.{IsSize};
 
 use crate::sizes::{total, whole};
 use base_words::Block;
 use fx_header::{Hdr, Run};
 use fx_home::Home;
-use vol_parts::{FileRuns, Finding, fields, file_runs};
+use vol_parts::{FileRuns, Finding, fields, file_runs, is_one_header};
 
 /// How many clusters so many blocks take.
 fn in_whole_clusters(cluster: usize, blocks: usize) -> usize
@@ -113,7 +114,11 @@ fn is_system_file(home: &Home, blocks: &[Block], n: u32) -> bool
     ensures { result ≡ is_system_file (volume home.now blocks.now) n }
 {
     match fields(home, blocks, n) {
-        Some(f) => is_system_header(n, &f) && has_stated_runs(home, blocks, n),
+        Some(f) => {
+            is_system_header(n, &f)
+                && is_one_header(home, blocks, n, &f)
+                && has_stated_runs(home, blocks, n)
+        }
         None => false,
     }
 }

@@ -12,14 +12,14 @@ use Rattle.vol_parts.specs.declared.finding.Finding.{Finding}
 use Rattle.vol_parts.specs.declared.finding.Finding.TheVariants as finding
 use Rattle.vol_parts.specs.Volumes.{Volume, volume}
 use Rattle.vol_parts.specs.Catalogues.{catalogue}
-use Rattle.vol_parts.specs.Fatal.{IsFatalIn, is_system_file, is_marked_dir, Path, HasNoRoom, dir_fault}
+use Rattle.vol_parts.specs.Fatal.{IsFatalIn, is_system_file, is_marked_dir, Path, HasNoRoom, chain_fault, dir_fault}
 use Rattle.plain_rules.specs.SystemFiles.{is_system_entry}
 use Rattle.plain_rules.specs.SystemFiles.{entries_of}
 use Rattle.vol_parts.specs.Findings.{home_at, IsFatalBy, Weak, AreWarningsBy, Accepts, IsCatalogueBy, CatOf}
 use Rattle.vol_init.specs.Layouts.{fresh}
 use Rattle.vol_init.specs.Fresh.{layout_of, IsFresh}
 use Rattle.vol_init.proofs.Files.{catalogue_is}
-use Rattle.vol_init.proofs.Sound.{no_bad_header, no_wrong_number, none_too_large, system_files, no_control_fault, none_off, none_shared, no_free_cluster, no_free_number, no_dir_fault, none_twice, none_rowless}
+use Rattle.vol_init.proofs.Sound.{no_bad_header, no_wrong_number, none_too_large, system_files, no_control_fault, no_chain_fault, none_off, none_shared, no_free_cluster, no_free_number, no_dir_fault, none_twice, none_rowless}
 use Rattle.vol_init.proofs.Entries.{system_entries, no_marked_dir, no_loop, room_for_all}
 use Rattle.vol_init.proofs.Quiet.{no_warnings}
 
@@ -31,6 +31,8 @@ no_fatal v (finding.Header n fault) is h = no_bad_header v n fault is h.0 h.1
 no_fatal v (finding.WrongNumber n) is h = no_wrong_number v n h.1.0 is h.0 h.1.1 h.1.2
 no_fatal v (finding.SystemFile n) is h = both_ways (is_system_file v n) h.2 (system_files v n is h.0 h.1)
 no_fatal v (finding.Scb fault) is h = let past : None ≡ Some fault = sym (no_control_fault v is) ∙ h in cc
+no_fatal v (finding.ChainBroken n) is h = no_finding (chain_fault v n) (finding.ChainBroken n) (no_chain_fault v n is h.0 h.1) h.2
+no_fatal v (finding.ChainSplit n) is h = no_finding (chain_fault v n) (finding.ChainSplit n) (no_chain_fault v n is h.0 h.1) h.2
 no_fatal v (finding.Runs n) is h = both_ways _ (none_off v n is h.0) h.1
 no_fatal v (finding.Clusters n) is h = both_ways _ (none_too_large v n is h.0 h.1) h.2
 no_fatal v (finding.SharedCluster q) is h = none_shared v q is h

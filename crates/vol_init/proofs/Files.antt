@@ -1,8 +1,8 @@
 -- What stands under the numbers of a fresh volume, and its catalogue.
 use Rattle.std.proofs.Common.{◌≡◌, ◌∙◌, ◌+◌, ◌-◌, ◌*◌, ◌/◌, ◌<◌, ◌≤◌, ℕ, Bool, true, false, [], ◌++◌, Some, None, Ok, map, take, replicate, length, refl, sym, ap, arith, ⊎_elim}
-use Rattle.std.specs.Prelude.{◌&&◌, not}
-use Rattle.std.specs.List.{range_with_len, sum_by}
-use Rattle.std.proofs.lemmas.Bool.{cases_lt, le-leb, lt-leb}
+use Rattle.std.specs.Prelude.{◌&&◌, ◌==◌, not}
+use Rattle.std.specs.List.{range_with_len, list_any, sum_by}
+use Rattle.std.proofs.lemmas.Bool.{cases_lt, le-leb, lt-leb, eq-eqb}
 use Rattle.std.proofs.lemmas.List.{take_at}
 use Rattle.std.proofs.lemmas.List.FromFn.{length-map-range_with_len}
 use Rattle.std.proofs.Math.Nat.{mul-div_cancel_left}
@@ -11,14 +11,17 @@ use Rattle.fx_header.specs.declared.slot.Slot.TheVariants.{Used}
 use Rattle.plain_cat.specs.declared.cat.Slot.TheVariants.{Free}
 use Rattle.plain_rules.specs.Lookups.{clusters_in}
 use Rattle.vol_parts.specs.Chains.{as_first}
-use Rattle.vol_parts.specs.Volumes.{Volume, IsNumber, total, fields_in, fields, runs, body, is_in_file, is_in_files, is_free_cluster}
+use Rattle.vol_parts.specs.Fatal.{is_one_header}
+use Rattle.vol_parts.specs.Warnings.{has_surplus}
+use Rattle.vol_parts.specs.Volumes.{Volume, IsNumber, total, fields_in, fields, Told, told, runs, body, is_slot_of, is_in_slots, is_in_file, is_in_files, is_free_cluster}
 use Rattle.vol_parts.specs.Catalogues.{written_blocks, entries_in, slot_of, files_of, rows_sorted, is_outside_cluster, is_outside_number, catalogue}
 use Rattle.vol_parts.proofs.Sizes.{runs-none, length-body}
-use Rattle.vol_parts.proofs.Slots.{in_slots}
+use Rattle.vol_parts.proofs.Alone.{one_told}
 use Rattle.vol_init.specs.declared.layout.Layout.{Layout}
 use Rattle.vol_init.specs.Layouts.{clusters_of, reserved_clusters, header_of, quota_rows, entries_of, system_slot, fresh}
 use Rattle.vol_init.specs.Fresh.{layout_of, IsFresh}
 use Rattle.vol_init.proofs.Ranges.{by_number, split_map, constant_map, none_counted, any_number, number_any}
+use Rattle.vol_init.proofs.HeaderLemmas.{runs-fit}
 use Rattle.vol_init.proofs.Clusters.{IsOf, is_owner, has_owner, one_run, no_run, in_runs_of, of_in_runs}
 
 -- ---- numbers
@@ -36,6 +39,34 @@ free_fields v n is low high = ap (λ r. fields_in (as_first r)) (is.free n low h
 
 pub free_runs : (v : Volume) (n : ℕ) → IsFresh v → 11 < n → n ≤ v.home.files → runs v n ≡ []
 free_runs v n is low high = runs-none v n (free_fields v n is low high)
+
+-- the header of a system file is all that there is of the file
+without_more : (l : Layout) (n : ℕ) (t : Told) → t.surplus ≡ false → blocks_in t.runs ≡ (header_of l n).blocks → is_one_header (header_of l n) t ≡ true
+unfolding header_of
+without_more l n t none count = rw (none, eq-eqb _ _ count) refl
+
+same_blocks : (l : Layout) (n : ℕ) → (header_of l n).blocks ≡ l.cluster * clusters_of l n
+unfolding header_of
+same_blocks l n = refl
+
+pub one_header : (v : Volume) (n : ℕ) → IsFresh v → 1 ≤ n → n ≤ 11 → is_one_header (header_of (layout_of v) n) (told v n) ≡ true
+unfolding runs has_surplus
+one_header v n is low high =
+    let l = layout_of v in
+    let fit = runs-fit l n is.limits is.room in
+    without_more l n (told v n) (is.no_more n low high) (ap blocks_in (is.lie n low high) ∙ fit.count ∙ sym (same_blocks l n))
+
+-- so its number is that of a slot of the file
+own_slot : (v : Volume) (n : ℕ) → IsFresh v → 1 ≤ n → n ≤ 11 → is_slot_of v n n ≡ true
+own_slot v n is low high =
+    let alone = one_told v n (header_of (layout_of v) n) (used_fields v n is low high) (one_header v n is low high) in
+    ap (λ (t : Told). list_any (λ k. k == n) t.slots) alone ∙ rw (eq-eqb n n refl) refl
+
+pub in_slots : (v : Volume) (n : ℕ) → IsFresh v → 1 ≤ n → n ≤ 11 → is_in_slots v n ≡ true
+unfolding is_in_slots
+in_slots v n is low high =
+    let many = is.limits.files_low in
+    number_any (is_slot_of v n) 1 v.home.files n low (omega arith) (own_slot v n is low high)
 
 -- a number of a cluster's file is a system file's
 pub in_file_of : (v : Volume) (n q : ℕ) → IsFresh v → IsNumber v n → is_in_file v q n ≡ true → (n ≤ 11) × IsOf (layout_of v) n q
@@ -138,7 +169,7 @@ pub outside_number : (v : Volume) (n : ℕ) → IsFresh v → IsNumber v n → i
 unfolding is_outside_number
 outside_number v n is number =
     ⊎_elim (λ (h : 11 < n). rw (is.numbers n number, lt-leb n 11 h) refl)
-    (λ (h : n ≤ 11). rw (is.numbers n number, le-leb n 11 h, in_slots v n number, used_fields v n is number.from h) refl)
+    (λ (h : n ≤ 11). rw (is.numbers n number, le-leb n 11 h, in_slots v n is number.from h) refl)
     (cases_lt 11 n)
 
 rows_are : (l : Layout) → rows_sorted (quota_rows l) ≡ (fresh l).quota

@@ -12,26 +12,25 @@ use Rattle.fx_header.specs.declared.slot.Slot.{Slot}
 use Rattle.fx_header.specs.declared.slot.Slot.TheVariants.{Used}
 use Rattle.fx_header.specs.declared.slot.HeaderFault.{HeaderFault}
 use Rattle.fx_header.specs.Headers.{header_read}
+use Rattle.fx_header.specs.Pointers.{blocks_in}
 use Rattle.fx_bitmap.specs.Bits.{bit_at}
 use Rattle.fx_dir.specs.Directory.{directory, all_entries}
 use Rattle.fx_dir.specs.Entries.{rises}
 use Rattle.vol_parts.specs.Parts.{storage_blocks}
-use Rattle.vol_parts.specs.Chains.{as_first}
-use Rattle.vol_parts.specs.Volumes.{Volume, header_lbn, header_at, block_at, head, fields, fields_in, runs, first_lbn, bitmap_lbn, body, rows_in, active_rows, is_used_number, is_free_cluster}
-use Rattle.vol_parts.proofs.Sizes.{runs-used}
+use Rattle.vol_parts.specs.Volumes.{Volume, header_lbn, header_at, block_at, head, Told, told, runs, first_lbn, bitmap_lbn, body, rows_in, active_rows, is_used_number, is_free_cluster}
+use Rattle.vol_parts.proofs.Alone.{IsOnly, alone, alone_told}
 use Rattle.vol_init.specs.declared.layout.Layout.{Layout}
-use Rattle.vol_init.specs.Layouts.{IsLayout, total, reserved_clusters, clusters_of, header_of, runs_of, main_entries, quota_rows}
+use Rattle.vol_init.specs.Layouts.{IsLayout, total, reserved_clusters, clusters_of, blocks_of, header_of, runs_of, main_entries, quota_rows}
 use Rattle.vol_init.specs.Fresh.{IsFresh, layout_of}
 use Rattle.vol_init.proofs.Doubles.{ordered_once}
-use Rattle.vol_parts.specs.Warnings.{has_doubles}
+use Rattle.vol_parts.specs.Warnings.{has_doubles, has_surplus}
 use Rattle.vol_init.proofs.EntryLemmas.{main-rises}
 use Rattle.vol_init.specs.declared.part.Part.{Part}
 use Rattle.vol_init.specs.declared.part.Part.TheVariants.{HomeCopy, HeaderCopy, Numbers, Header, Control, Storage, Main, Lost, Quota}
 use Rattle.vol_init.specs.Parts.{first_block, part_of, home_copy_bytes, header_block, control_block, quota_block, is_free, SaysHeader, SaysControl, SaysQuota, Says}
 use Rattle.vol_init.proofs.PlaceLemmas.{Places, places, bitmap-some, part-home-copy, part-header-copy, part-numbers, part-header, part-control, part-storage, part-main, part-lost, part-quota}
-use Rattle.vol_init.proofs.Files.{first_made}
 use Rattle.vol_init.proofs.ZeroLemmas.{freed-none}
-use Rattle.vol_init.proofs.HeaderLemmas.{runs-some}
+use Rattle.vol_init.proofs.HeaderLemmas.{runs-some, runs-fit}
 use Rattle.vol_init.proofs.BlockLemmas.{picked, rows-first, body-run}
 
 -- the blocks of a volume say what their parts should, at this layout and with these directories
@@ -83,12 +82,33 @@ used-of v main lost n s p from to =
     let h = header-says v main lost n s p from (omega (arith, s.limits.files_low)) in
     head-of v n _ h.0 (h.1.used to)
 
+-- a header that is made is the first one of its file and the last, and lists the file's blocks
+made-only : (l : Layout) (n : ℕ) → IsOnly (header_of l n)
+unfolding header_of
+made-only l n = record { first = refl; last = refl }
+
+made-blocks : (l : Layout) (n blocks : ℕ) → blocks ≡ blocks_of l n → (header_of l n).blocks ≡ blocks
+unfolding header_of
+made-blocks l n blocks e = sym e
+
+-- so it is all that there is of the file
+told-of : (v : Volume) (main lost : List Block) (n : ℕ) → Stands (layout_of v) main lost v → Places (layout_of v) → 1 ≤ n → n ≤ 11
+    → told v n ≡ alone n (header_of (layout_of v) n) (runs_of (layout_of v) n)
+told-of v main lost n s p from to =
+    let l = layout_of v in
+    let lists = (header-says v main lost n s p from (omega (arith, s.limits.files_low))).1.lies to in
+    let fit = runs-fit l n s.limits s.room in
+    alone_told v n (header_of l n) (used-of v main lost n s p from to) (made-only l n) (made-blocks l n _ (ap blocks_in lists ∙ fit.count))
+    ∙ ap (alone n (header_of l n)) lists
+
 lie-of : (v : Volume) (main lost : List Block) (n : ℕ) → Stands (layout_of v) main lost v → Places (layout_of v) → 1 ≤ n → n ≤ 11
     → runs v n ≡ runs_of (layout_of v) n
-lie-of v main lost n s p from to =
-    let h = header-says v main lost n s p from (omega (arith, s.limits.files_low)) in
-    let known : fields v n ≡ Some (header_of (layout_of v) n) = ap (λ r. fields_in (as_first r)) (used-of v main lost n s p from to) ∙ ap fields_in (first_made (layout_of v) n) in
-    runs-used v n _ known ∙ h.1.lies to
+unfolding runs
+lie-of v main lost n s p from to = ap (λ (t : Told). t.runs) (told-of v main lost n s p from to)
+
+no-more : (v : Volume) (main lost : List Block) (n : ℕ) → Stands (layout_of v) main lost v → Places (layout_of v) → 1 ≤ n → n ≤ 11 → has_surplus v n ≡ false
+unfolding has_surplus
+no-more v main lost n s p from to = ap (λ (t : Told). t.surplus) (told-of v main lost n s p from to)
 
 -- the run of a file with clusters
 run-of : (v : Volume) (main lost : List Block) (n : ℕ) → Stands (layout_of v) main lost v → Places (layout_of v) → 1 ≤ n → n ≤ 11 → 1 ≤ clusters_of (layout_of v) n
@@ -184,6 +204,7 @@ stands-fresh v main lost s =
       room = s.room;
       used = λ n from to. used-of v main lost n s p from to;
       lie = λ n from to. lie-of v main lost n s p from to;
+      no_more = λ n from to. no-more v main lost n s p from to;
       free = λ n from to. (let h = header-says v main lost n s p (omega arith) to in head-of v n _ h.0 (h.1.free from));
       control = control-of v main lost s p;
       numbers = λ n h. numbers-of v main lost n s p h.from (omega (arith, h.to, s.limits.files_high));

@@ -6,7 +6,7 @@ use Rattle.std.proofs.Math.Nat.{mul-le-mul_left}
 use Rattle.base_words.specs.Fields.{Block}
 use Rattle.fx_header.specs.declared.run.Run.{Run}
 use Rattle.fx_header.specs.declared.slot.Slot.TheVariants.{Used}
-use Rattle.fx_header.specs.Headers.{header_read, runs_in, map_area, with_runs, ReadsBack}
+use Rattle.fx_header.specs.Headers.{header_read, runs_in, map_area, with_runs, EndsWithin, ReadsBack}
 use Rattle.fx_header.specs.Pointers.{AreRuns, IsRun, merged, map_words, pointer_bytes, first_word, word, long, blocks_in}
 use Rattle.vol_init.specs.declared.layout.Layout.{Layout}
 use Rattle.vol_init.specs.Layouts.{IsLayout, total, reserved_clusters, clusters_of, first_cluster, blocks_of, header_of, runs_of}
@@ -121,14 +121,20 @@ run-written l n b new fits r h room some e area test written =
     let yes : fits ≡ true = test ∙ le-leb _ _ (omega (arith, fit.short, area)) in
     written yes ∙ ap (with_runs b) (ap (λ (s : Run). s ∷ []) e ∙ sym (runs-some l n some))
 
-header-blocks : (l : Layout) (n : ℕ) → (header_of l n).blocks ≡ blocks_of l n
+-- the header with as many blocks as it says, and its end, which is after them
+with-blocks : (l : Layout) (n blocks : ℕ) → blocks ≡ blocks_of l n → record (header_of l n) { blocks = blocks } ≡ header_of l n
 unfolding header_of
-header-blocks l n = refl
+with-blocks l n blocks e = rw e refl
+
+ends-within : (l : Layout) (n : ℕ) → EndsWithin (header_of l n)
+unfolding header_of
+ends-within l n first = (omega arith, omega arith)
 
 pub header-reads : (l : Layout) (n : ℕ) (bare b : Block) → IsLayout l → reserved_clusters l ≤ total l → map_area bare ≡ 155
     → ReadsBack bare (header_of l n) → b ≡ with_runs bare (runs_of l n)
     → (header_read b ≡ Ok (Used (header_of l n))) × (runs_in b ≡ runs_of l n)
 header-reads l n bare b h room area reads e =
     let fit : RunsFit l n (runs_of l n) = runs-fit l n h room in
-    let back = reads (runs_of l n) fit.are (omega (arith, fit.short, area)) (fit.count ∙ sym (header-blocks l n)) in
-    (ap header_read e ∙ back.0, ap runs_in e ∙ back.1 ∙ fit.same)
+    let same : record (header_of l n) { blocks = blocks_in (runs_of l n) } ≡ header_of l n = with-blocks l n (blocks_in (runs_of l n)) fit.count in
+    let back = reads.runs (runs_of l n) (fit.are, omega (arith, fit.short, area)) (subst EndsWithin (sym same) (ends-within l n)) in
+    (ap header_read e ∙ back.0 ∙ ap (λ h. Ok (Used h)) same, ap runs_in e ∙ back.1 ∙ fit.same)

@@ -1,6 +1,6 @@
 -- Nothing is found in a fresh volume that mending puts right.
-use Rattle.std.proofs.Common.{◌≡◌, ◌∙◌, ◌+◌, ◌-◌, ◌*◌, ◌<◌, ◌≤◌, ℕ, false, cond, List, [], ◌∷◌, ◌++◌, map, filter, replicate, refl, arith, ⊎_elim}
-use Rattle.std.specs.Prelude.{◌||◌}
+use Rattle.std.proofs.Common.{◌≡◌, ◌∙◌, ◌+◌, ◌-◌, ◌*◌, ◌<◌, ◌≤◌, ℕ, false, cond, List, [], ◌∷◌, ◌++◌, Some, map, filter, replicate, refl, ap, arith, ⊎_elim}
+use Rattle.std.specs.Prelude.{◌||◌, ◌&&◌, not}
 use Rattle.std.specs.List.{range_with_len, list_any, count_by, sum_by}
 use Rattle.std.proofs.lemmas.Bool.{cases_lt, eq-eqb}
 use Rattle.std.proofs.lemmas.List.Folds.{sum_by-replicate}
@@ -14,8 +14,9 @@ use Rattle.fx_dir.proofs.Finding.{reads_set}
 use Rattle.plain_cat.specs.declared.cat.Slot.TheVariants.{Free}
 use Rattle.plain_rules.specs.Accounts.{share, charge}
 use Rattle.plain_rules.specs.Mending.{is_own, stays, system_names, is_true, numbers_from}
-use Rattle.vol_parts.specs.Volumes.{Volume, IsNumber, numbers, body}
-use Rattle.vol_parts.specs.Warnings.{is_marked, names_none, is_second, has_doubles, is_lost_file, is_miscounted, warnings}
+use Rattle.vol_parts.specs.Volumes.{Volume, IsNumber, numbers, fields_in, used_slot, Told, is_in_slots, body}
+use Rattle.vol_parts.proofs.Alone.{none_told}
+use Rattle.vol_parts.specs.Warnings.{is_marked, names_none, is_second, has_doubles, is_lost_file, has_surplus, is_further, is_stray, is_miscounted, warnings}
 use Rattle.fx_dir.specs.Laws.{has_double}
 use Rattle.vol_init.specs.declared.layout.Layout.{Layout}
 use Rattle.vol_init.specs.Layouts.{clusters_of, reserved_clusters, header_of, main_entries, quota_rows, system_slot, fresh}
@@ -76,6 +77,33 @@ no_double : (v : Volume) (n : ℕ) → IsFresh v → has_doubles v 4 ≡ false �
 no_double v n is once number =
     ⊎_elim (λ (h : 11 < n). unnumbered v n is h number.to) (λ (h : n ≤ 11). double_dir v n is once number.from h) (cases_lt 11 n)
 
+-- ---- chains
+
+surplus_none : (v : Volume) (n : ℕ) → IsFresh v → IsNumber v n → has_surplus v n ≡ false
+unfolding has_surplus
+surplus_none v n is number =
+    ⊎_elim (λ (h : 11 < n). ap (λ (t : Told). t.surplus) (none_told v n (free_fields v n is h number.to))) (λ (h : n ≤ 11). is.no_more n number.from h) (cases_lt 11 n)
+
+first_one : (l : Layout) (n : ℕ) → is_further (Some (header_of l n)) ≡ false
+unfolding header_of
+first_one l n = refl
+
+not_further : (v : Volume) (n : ℕ) → IsFresh v → IsNumber v n → is_further (used_slot v n) ≡ false
+not_further v n is number =
+    ⊎_elim (λ (h : 11 < n). ap (λ r. is_further (fields_in r)) (is.free n h number.to))
+    (λ (h : n ≤ 11). ap (λ r. is_further (fields_in r)) (is.used n number.from h) ∙ first_one (layout_of v) n)
+    (cases_lt 11 n)
+
+stray_none : (v : Volume) (n : ℕ) → IsFresh v → IsNumber v n → is_stray v n ≡ false
+unfolding is_stray
+stray_none v n is number = ap (λ t. t && not (is_in_slots v n)) (not_further v n is number)
+
+no_file_has_more : (v : Volume) → IsFresh v → filter (has_surplus v) (numbers v) ≡ []
+no_file_has_more v is = none_kept (has_surplus v) 1 v.home.files (λ n low high. surplus_none v n is (record { from = low; to = omega arith }))
+
+no_stray : (v : Volume) → IsFresh v → filter (is_stray v) (numbers v) ≡ []
+no_stray v is = none_kept (is_stray v) 1 v.home.files (λ n low high. stray_none v n is (record { from = low; to = omega arith }))
+
 -- ---- usage
 
 system_cost : (l : Layout) → sum_by (share (fresh l) (record { 0 = 65537 })) (map (system_slot l) (range_with_len 1 11)) ≡ l.cluster * reserved_clusters l + 11
@@ -121,4 +149,4 @@ pub no_warnings : (v : Volume) → IsFresh v → has_doubles v 4 ≡ false → w
 unfolding warnings
 no_warnings v is once =
     let l = layout_of v in
-    rw (catalogue_is v is, none_marked l, places_are l, all_named l, none_second l, no_directory_doubled v is once, none_lost_files l, no_clusters_leaked l, no_numbers_leaked l, none_miscounted l) refl
+    rw (catalogue_is v is, none_marked l, places_are l, all_named l, none_second l, no_directory_doubled v is once, none_lost_files l, no_file_has_more v is, no_stray v is, no_clusters_leaked l, no_numbers_leaked l, none_miscounted l) refl

@@ -8,14 +8,14 @@ use Rattle.fx_header.specs.declared.slot.Hdr.{Hdr}
 use Rattle.fx_header.specs.declared.slot.Slot.{Slot as Head}
 use Rattle.fx_header.specs.declared.slot.Slot.TheVariants as head
 use Rattle.fx_header.specs.declared.slot.HeaderFault.{HeaderFault}
-use Rattle.vol_parts.specs.Volumes.{Volume, IsNumber, factor, total, head as head_of, fields_in, used_slot, fields, runs, is_in_run, is_in_files, is_free_cluster, is_used_number, active_rows}
-use Rattle.vol_parts.specs.Fatal.{is_system_header, in_whole_clusters, stated_clusters, are_stated, is_system_file, scb_fault, is_off_bounds, is_too_large, IsInRun, IsShared, dir_fault, has_two_rows, is_rowless}
+use Rattle.vol_parts.specs.Volumes.{Volume, IsNumber, factor, total, head as head_of, fields_in, used_slot, fields, told, runs, is_in_run, is_in_files, is_free_cluster, is_used_number, active_rows}
+use Rattle.vol_parts.specs.Fatal.{is_system_header, has_one_header, in_whole_clusters, stated_clusters, are_stated, is_system_file, scb_fault, chain_fault, is_off_bounds, is_too_large, IsInRun, IsShared, dir_fault, has_two_rows, is_rowless}
 use Rattle.vol_init.specs.declared.layout.Layout.{Layout}
 use Rattle.vol_init.specs.Layouts.{IsLayout, index_clusters, bitmap_clusters, clusters_of, first_cluster, reserved_clusters, header_of, quota_rows}
 use Rattle.vol_init.specs.Fresh.{layout_of, IsFresh}
 use Rattle.vol_init.proofs.Ranges.{by_number}
 use Rattle.vol_init.proofs.Clusters.{owner, is_owner, run_at, one_run, no_run, only_run, in_run_of}
-use Rattle.vol_init.proofs.Files.{used_fields, free_fields, free_runs, reserved_in_files}
+use Rattle.vol_init.proofs.Files.{used_fields, free_fields, free_runs, one_header, reserved_in_files}
 
 -- ---- headers
 
@@ -97,13 +97,23 @@ system_runs v n is low high =
     (stated_run v 11 1 is (omega arith) (omega arith) refl refl (omega arith) refl)
     n low high
 
+system_one : (v : Volume) (n : ℕ) → IsFresh v → 1 ≤ n → n ≤ 11 → has_one_header (fields v n) (told v n) ≡ true
+system_one v n is low high = ap (λ o. has_one_header o (told v n)) (used_fields v n is low high) ∙ one_header v n is low high
+
 pub system_files : (v : Volume) (n : ℕ) → IsFresh v → 1 ≤ n → n ≤ 11 → is_system_file v n ≡ true
 unfolding is_system_file
-system_files v n is low high = rw (used_fields v n is low high, system_header (layout_of v) n low high, system_runs v n is low high) refl
+system_files v n is low high =
+    let heads = ap (is_system_header n) (used_fields v n is low high) ∙ system_header (layout_of v) n low high in
+    rw (heads, system_one v n is low high, system_runs v n is low high) refl
 
 pub no_control_fault : (v : Volume) → IsFresh v → scb_fault v ≡ None
 unfolding scb_fault
 no_control_fault v is = rw (is.control, eq-eqb (factor v) (factor v) refl, eq-eqb (length v.blocks) (length v.blocks) refl) refl
+
+-- the chains of other files are whole, since there are none
+pub no_chain_fault : (v : Volume) (n : ℕ) → IsFresh v → IsNumber v n → 11 < n → chain_fault v n ≡ None
+unfolding chain_fault
+no_chain_fault v n is number high = rw (free_fields v n is high number.to) refl
 
 -- ---- runs and clusters
 
@@ -175,10 +185,10 @@ each_dir v n is low high =
     let plain : (k : ℕ) → 1 ≤ k → k ≤ 11 → (header_of l k).dir ≡ false → dir_fault v k ≡ None = λ k a b e. rw (used_fields v k is a b, e) refl in
     by_number (λ k. dir_fault v k ≡ None)
     (plain 1 (omega arith) (omega arith) refl) (plain 2 (omega arith) (omega arith) refl) (plain 3 (omega arith) (omega arith) refl)
-    (rw (used_fields v 4 is (omega arith) (omega arith), is.lie 4 (omega arith) (omega arith), one_run l 4 (omega arith), one, eq-eqb f f refl, eq-eqb (f + 1) (f + 1) refl, is.main) refl)
+    (rw (used_fields v 4 is (omega arith) (omega arith), one_header v 4 is (omega arith) (omega arith), is.lie 4 (omega arith) (omega arith), one_run l 4 (omega arith), one, eq-eqb f f refl, eq-eqb (f + 1) (f + 1) refl, is.main) refl)
     (plain 5 (omega arith) (omega arith) refl) (plain 6 (omega arith) (omega arith) refl) (plain 7 (omega arith) (omega arith) refl)
     (plain 8 (omega arith) (omega arith) refl) (plain 9 (omega arith) (omega arith) refl) (plain 10 (omega arith) (omega arith) refl)
-    (rw (used_fields v 11 is (omega arith) (omega arith), is.lie 11 (omega arith) (omega arith), one_run l 11 (omega arith), one, eq-eqb f f refl, eq-eqb (f + 1) (f + 1) refl, is.lost) refl)
+    (rw (used_fields v 11 is (omega arith) (omega arith), one_header v 11 is (omega arith) (omega arith), is.lie 11 (omega arith) (omega arith), one_run l 11 (omega arith), one, eq-eqb f f refl, eq-eqb (f + 1) (f + 1) refl, is.lost) refl)
     n low high
 
 pub no_dir_fault : (v : Volume) (n : ℕ) → IsFresh v → IsNumber v n → dir_fault v n ≡ None

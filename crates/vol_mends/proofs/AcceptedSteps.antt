@@ -39,9 +39,9 @@ use Rattle.plain_rules.specs.SystemFiles.{entries_of}
 use Rattle.plain_mends.specs.Sound.NumberPath.{One, More}
 use Rattle.vol_parts.specs.declared.finding.Finding.{Finding}
 use Rattle.vol_parts.specs.declared.finding.Finding.TheVariants as finding
-use Rattle.vol_parts.specs.Volumes.{Volume, volume, IsNumber, factor, first_head, fields, runs, body, active_rows}
+use Rattle.vol_parts.specs.Volumes.{Volume, volume, IsNumber, factor, first_head, fields, told as told_in, runs, body, active_rows}
 use Rattle.vol_parts.specs.Catalogues.{file_of, quota_row, slot_of, files_of, rows_sorted, catalogue}
-use Rattle.vol_parts.specs.Fatal.{stated_clusters, are_stated, is_system_header, is_system_file, is_too_large, is_cluster_run, has_dir_size, found_in, dir_test, dir_fault, is_rowless, is_marked_dir, NamesFile, Path, IsFatalIn}
+use Rattle.vol_parts.specs.Fatal.{is_one_header, has_one_header, stated_clusters, are_stated, is_system_header, is_system_file, is_too_large, is_cluster_run, has_dir_size, found_in, dir_test, dir_fault, is_rowless, is_marked_dir, NamesFile, Path, IsFatalIn}
 use Rattle.vol_parts.specs.Fatal.Path.{One as First, More as Next}
 use Rattle.vol_parts.specs.Warnings.{names_none, names_none_found, is_marked, warnings}
 use Rattle.vol_parts.specs.Findings.{CatOf, home_at, IsFatalBy, Weak, AreWarningsBy, IsCatalogueBy, IsFirstFatal}
@@ -175,7 +175,7 @@ module _ (v : Volume) (weak : (f : Finding) → IsFatalIn v f → ⊥) (enough :
 
   systems : (n : ℕ) → 1 ≤ n → n ≤ 11 → (f : File) × (file_at c n ≡ Some f) × IsSystemFile n f
   unfolding is_system_file
-  systems n from to = by_head (fields v n) refl (and_parts (is_system_header n (fields v n)) (are_stated v n (stated_clusters v n) (runs v n)) good).0 where
+  systems n from to = by_head (fields v n) refl (and_parts (is_system_header n (fields v n)) (has_one_header (fields v n) (told_in v n) && are_stated v n (stated_clusters v n) (runs v n)) good).0 where
     good : is_system_file v n ≡ true
     good = is_true (is_system_file v n) (λ e. weak (finding.SystemFile n) (from, to, e))
 
@@ -238,16 +238,17 @@ module _ (v : Volume) (weak : (f : Finding) → IsFatalIn v f → ⊥) (enough :
       let r = told_at n f at in
       let t = r.1 in
       let is : t.hdr.dir ≡ true = ap (λ (x : File). x.dir) t.is ∙ dir in
-      sym (ap (λ (x : File). x.mark) t.is) ∙ by_size r.0 t.hdr t.at is (has_dir_size (factor v) t.hdr (runs v n)) refl
+      sym (ap (λ (x : File). x.mark) t.is) ∙ by_size r.0 t.hdr t.at is (is_one_header t.hdr (told_in v n) && has_dir_size (factor v) t.hdr (runs v n)) refl
     where
-      by_size : IsNumber v n → (h : Hdr) → fields v n ≡ Some h → h.dir ≡ true → (b : Bool) → has_dir_size (factor v) h (runs v n) ≡ b → h.mark ≡ 0
+      by_size : IsNumber v n → (h : Hdr) → fields v n ≡ Some h → h.dir ≡ true → (b : Bool) → (is_one_header h (told_in v n) && has_dir_size (factor v) h (runs v n)) ≡ b → h.mark ≡ 0
       by_size number h at is true e =
-          eqb-true h.mark 0 (and_parts (h.mark == 0) ((h.end == factor v + 1) && (h.byte == 0)) (and_parts (is_cluster_run (factor v) (runs v n)) ((h.mark == 0) && ((h.end == factor v + 1) && (h.byte == 0))) e).1).0
+          eqb-true h.mark 0 (and_parts (h.mark == 0) ((h.end == factor v + 1) && (h.byte == 0)) (and_parts (is_cluster_run (factor v) (runs v n)) ((h.mark == 0) && ((h.end == factor v + 1) && (h.byte == 0)))
+          (and_parts (is_one_header h (told_in v n)) (has_dir_size (factor v) h (runs v n)) e).1).1).0
       by_size number h at is false e =
           absurd (weak (finding.DirSize n) (
             number,
             ap (dir_test v n) at
-                ∙ (ap (λ b. cond (not b) None (cond (has_dir_size (factor v) h (runs v n)) (found_in n (directory (body v n))) (Some (finding.DirSize n)))) is
+                ∙ (ap (λ b. cond (not b) None (cond (is_one_header h (told_in v n) && has_dir_size (factor v) h (runs v n)) (found_in n (directory (body v n))) (Some (finding.DirSize n)))) is
                 ∙ ap (λ b. cond b (found_in n (directory (body v n))) (Some (finding.DirSize n))) e),
           ))
 

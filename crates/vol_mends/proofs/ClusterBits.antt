@@ -42,7 +42,7 @@ use Rattle.vol_mends.proofs.Basics.{clash, false_by}
 use Rattle.plain_mends.proofs.GoneSteps.{both_ways as same_bool}
 use Rattle.vol_mends.proofs.Turned.{turned, turned_was, turned_is, turned_moves, turned_on, none_outside, count_none}
 use Rattle.vol_mends.proofs.Parting.{no_cluster_out}
-use Rattle.vol_mends.proofs.Bitmaps.{taken, given, take_moves, give_moves, given_out, parts_single, part_on}
+use Rattle.vol_mends.proofs.Bitmaps.{taken, given, take_moves, give_moves, given_out, parts_single, parts_clean, is_filed, part_on}
 
 -- those alone whose bits are in block k
 abbrev taken_in : ℕ → ℕ → Owner → Owner
@@ -68,13 +68,6 @@ given_in_out k q m x e = by (q / 4096 == k) e where
   by : (b : Bool) → cond b (given x) x ≡ Outside m → x ≡ Outside m
   by true h = given_out m x h
   by false h = h
-
--- whether a cluster is in a file, by its owner
-abbrev pub is_filed : Owner → Bool
-is_filed Free = false
-is_filed (InFile i) = true
-is_filed (Outside m) = false
-is_filed Leaked = false
 
 module _ (label : List ℕ) (g : Geometry) (bs : List Block) (own : Owners) (c : Cat) (s : Spells g bs own c) where
   -- a cluster of a file is in a run of it
@@ -122,7 +115,8 @@ module _ (g : Geometry) (bs : List Block) (c : Cat) (home : Home) (k : ℕ) (b :
   held =
       let flags = sym o.spells.owners.leaked_numbers in
       subst (λ (ns : List Bool). Spells g bs mid (record c { leaked = left; leaked_numbers = ns })) flags
-      (death_leaks g bs o.own mid c 0 o.spells (record { clusters = turned_moves (IsDeathMove 0) (taken_in k) o.own.clusters (λ q x at. take_in_moves k q x); numbers = still (IsDeathMove 0) o.own.numbers }))
+      (death_leaks g bs o.own mid c 0 o.spells (record { clusters = turned_moves (IsDeathMove 0) (taken_in k) o.own.clusters (λ q x at. take_in_moves k q x); numbers = still (IsDeathMove 0) o.own.numbers })
+      (λ m j is was now. absurd (let both : Some Leaked ≡ Some (Outside j) = sym was ∙ now in cc both)))
 
   there : part_of g (place_of g (Storage k)) ≡ Some (Storage k)
   there = part_there g bs o.own c o.spells (Storage k) are.block
@@ -215,6 +209,7 @@ module _ (g : Geometry) (bs : List Block) (c : Cat) (home : Home) (k : ℕ) (b :
     left = left;
     leads = changed g bs new end c after are.told change spelt outs (home_left bs (place_of g (Storage k)) b home_apart);
     singles = parts_single g bs o.own end c after (Storage k) b o.spells spelt are.block (λ n e. cc e);
+    clean = parts_clean g bs o.own c (Storage k) b o.spells are.block (λ n e. cc e);
     same = λ q. ap (λ (h : Home). is_in_files (volume h new) q) home_is ∙ (filed_same q ∙ sym (ap (λ (h : Home). is_in_files (volume h bs) q) home_is));
     here = λ q e. free_now q ∙ (storage_set g bs o.own c k (place_of g (Storage k)) b o.spells there).here q e;
     elsewhere = λ q ne. free_now q ∙ ((storage_set g bs o.own c k (place_of g (Storage k)) b o.spells there).elsewhere q ne ∙ sym (free_before q));

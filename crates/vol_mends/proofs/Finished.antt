@@ -27,7 +27,7 @@ use Rattle.vol_parts.specs.declared.finding.Finding.TheVariants as finding
 use Rattle.vol_parts.specs.declared.geometry.Geometry.{Geometry}
 use Rattle.vol_parts.specs.Volumes.{Volume, volume, numbers}
 use Rattle.vol_parts.specs.Catalogues.{catalogue}
-use Rattle.vol_parts.specs.Warnings.{is_marked, names_none, is_second, names_none_found, second_found, has_doubles, is_lost_file, if_any, is_miscounted, usage_found, warnings}
+use Rattle.vol_parts.specs.Warnings.{is_marked, names_none, is_second, names_none_found, second_found, has_doubles, has_surplus, is_stray, is_lost_file, if_any, is_miscounted, usage_found, warnings}
 use Rattle.vol_parts.specs.Findings.{home_at, Accepts, AreWarningsBy, IsCatalogueBy}
 use Rattle.vol_spell.specs.Reading.{IsFileNumber}
 use Rattle.vol_mends.proofs.AcceptedSteps.{told_shut}
@@ -35,7 +35,9 @@ use Rattle.plain_mends.proofs.DoneSteps.{done_mends}
 use Rattle.plain_mends.proofs.Standing.{stays_each}
 use Rattle.plain_laws.proofs.Places.{in_from}
 use Rattle.vol_mends.specs.Told.{IsTold, IsSingle}
+use Rattle.vol_mends.specs.Clean.{IsClean}
 use Rattle.vol_mends.specs.Done.{DoneIsAccepted}
+use Rattle.vol_mends.proofs.NoTails.{no_surplus, no_stray}
 use Rattle.vol_mends.proofs.Basics.{and_no, stands}
 use Rattle.vol_mends.proofs.WriteTold.{Owned, owned, one_cat, home_told}
 use Rattle.vol_mends.proofs.Turned.{count_none}
@@ -119,17 +121,20 @@ module _ (c : Cat) (done : IsDone c) where
   no_flags : count_by is_true c.leaked_numbers ≡ 0
   no_flags = count_none is_true c.leaked_numbers (λ k b at. at_place (λ (x : Bool). x ≡ false) c.leaked_numbers done.numbers k b at)
 
-nothing_found : (v : Volume) → IsDone (catalogue v) → ((k n : ℕ) → slice_get (numbers v) k ≡ Some n → has_doubles v n ≡ false) → warnings v ≡ []
+nothing_found : (v : Volume) → IsDone (catalogue v) → ((k n : ℕ) → slice_get (numbers v) k ≡ Some n → has_doubles v n ≡ false)
+    → ((k n : ℕ) → slice_get (numbers v) k ≡ Some n → has_surplus v n ≡ false) → ((k n : ℕ) → slice_get (numbers v) k ≡ Some n → is_stray v n ≡ false) → warnings v ≡ []
 unfolding warnings
-nothing_found v done single =
+nothing_found v done single whole placed =
     none_joined _ _ (none_mapped finding.Marked _ (no_numbers is_marked 1 (catalogue v).files (no_mark (catalogue v) done)))
     (none_joined _ _ (none_mapped names_none_found _ (none_kept (names_none (catalogue v)) (places (catalogue v)) (some_named (catalogue v) done)))
     (none_joined _ _ (none_mapped second_found _ (none_kept (is_second (catalogue v)) (places (catalogue v)) (none_second (catalogue v) done)))
     (none_joined _ _ (none_mapped finding.Doubles _ (none_kept (has_doubles v) (numbers v) single))
     (none_joined _ _ (none_mapped finding.Lost _ (no_numbers (is_lost_file (catalogue v)) 1 (catalogue v).files (none_lost (catalogue v) done)))
+    (none_joined _ _ (none_mapped finding.Surplus _ (none_kept (has_surplus v) (numbers v) whole))
+    (none_joined _ _ (none_mapped finding.Stray _ (none_kept (is_stray v) (numbers v) placed))
     (none_joined _ _ (ap (if_any finding.LeakedClusters) done.clusters)
     (none_joined _ _ (ap (if_any finding.LeakedNumbers) (no_flags (catalogue v) done))
-    (none_mapped (usage_found (catalogue v)) _ (none_kept (is_miscounted (catalogue v)) (catalogue v).quota (right_usage (catalogue v) done)))))))))
+    (none_mapped (usage_found (catalogue v)) _ (none_kept (is_miscounted (catalogue v)) (catalogue v).quota (right_usage (catalogue v) done)))))))))))
 
 -- ---- the volume is accepted
 
@@ -157,22 +162,32 @@ module _ (g : Geometry) (bs : List Block) (c : Cat) (t : IsTold g bs c) (done : 
   ends_here : (z : Cat) → MendsTo c z → z ≡ c
   ends_here z m = let both : Some (z, m.0) ≡ Some (c, nothing_done) = sym m.1 ∙ still in ap (cat_in z) both
 
-  accepted : ((n : ℕ) → IsFileNumber g n → IsSingle g bs n) → Accepts bs
-  accepted single = inr (t.cat.weak, by (home_read (home_at bs)) refl t.cat.told) where
+  accepted : IsClean g bs → ((n : ℕ) → IsFileNumber g n → IsSingle g bs n) → Accepts bs
+  accepted clean single = inr (t.cat.weak, by (home_read (home_at bs)) refl t.cat.told) where
     by : (r : Result Home HomeFault) → home_read (home_at bs) ≡ r → IsCatalogueBy bs r c → AreWarningsBy bs r []
     by (Err fault) e told = absurd told
-    by (Ok home) e told = sym (nothing_found (volume home bs) (subst IsDone told done) each) where
+    by (Ok home) e told = sym (nothing_found (volume home bs) (subst IsDone told done) each whole placed) where
       home_is : home ≡ record { cluster = g.cluster; files = g.files; label = home.label }
       home_is = home_told g bs o.own c o.spells home e
 
-      each : (k n : ℕ) → slice_get (numbers (volume home bs)) k ≡ Some n → has_doubles (volume home bs) n ≡ false
-      each k n at =
+      file_number : (k n : ℕ) → slice_get (numbers (volume home bs)) k ≡ Some n → IsFileNumber g n
+      file_number k n at =
           let held = has_at (numbers (volume home bs)) k n at in
           let r = has_ranged 1 home.files n held in
           let files : home.files ≡ g.files = ap (λ (h : Home). h.files) home_is in
           let from = r.0 in
           let to = r.1 in
-          let is : IsFileNumber g n = record { from = from; to = omega (arith, to, files) } in
+          record { from = from; to = omega (arith, to, files) }
+
+      whole : (k n : ℕ) → slice_get (numbers (volume home bs)) k ≡ Some n → has_surplus (volume home bs) n ≡ false
+      whole k n at = ap (λ (h : Home). has_surplus (volume h bs) n) home_is ∙ no_surplus home.label g bs o.own c o.spells clean n (file_number k n at)
+
+      placed : (k n : ℕ) → slice_get (numbers (volume home bs)) k ≡ Some n → is_stray (volume home bs) n ≡ false
+      placed k n at = ap (λ (h : Home). is_stray (volume h bs) n) home_is ∙ no_stray home.label g bs o.own c o.spells clean n (file_number k n at)
+
+      each : (k n : ℕ) → slice_get (numbers (volume home bs)) k ≡ Some n → has_doubles (volume home bs) n ≡ false
+      each k n at =
+          let is = file_number k n at in
           ap (λ (h : Home). has_doubles (volume h bs) n) home_is
           ∙ (doubles_told home.label g bs o.own c o.spells n is ∙ (sym (doubles_told [] g bs o.own c o.spells n is) ∙ single n is))
 
@@ -180,5 +195,5 @@ pub done_is_accepted : DoneIsAccepted
 done_is_accepted = record {
   still = still;
   ends = λ g bs c z t done m. ends_here g bs c t done z (subst (λ (x : Cat). MendsTo x z) (one_cat bs m.cat c m.told t.cat) m.ends);
-  accepted = accepted;
+  accepted = λ g bs c t done clean single. accepted g bs c t done clean single;
 }

@@ -23,8 +23,8 @@ use Rattle.vol_parts.specs.declared.geometry.Part.TheVariants.{Header}
 use Rattle.vol_parts.specs.Chains.{as_first}
 use Rattle.vol_parts.specs.Volumes.{Told, fields_in}
 use Rattle.vol_parts.specs.Warnings.{is_double_dir}
-use Rattle.vol_spell.specs.Reading.{IsFileNumber, header_place, told_of, nobody, clusters_told, body_blocks}
-use Rattle.vol_spell.specs.Spelling.{IsHead, Tells, Spells}
+use Rattle.vol_spell.specs.Reading.{IsFileNumber, header_block, header_place, told_of, nobody, clusters_told, body_blocks}
+use Rattle.vol_spell.specs.Spelling.{IsHead, IsBlank, Tells, Spells}
 use Rattle.vol_spell.specs.Kinds.{IsHeaderFor, with_leaks}
 use Rattle.vol_spell.proofs.Adds.{size_told}
 use Rattle.vol_spell.proofs.Parts.{part_owned, in_use}
@@ -37,12 +37,14 @@ use Rattle.vol_mends.proofs.AcceptedSteps.{weak_can_mend}
 use Rattle.vol_spell.proofs.EntryDirs.{used_at}
 use Rattle.vol_mends.specs.Told.{LeadsTo, IsSingle, KeepsSingles}
 use Rattle.vol_mends.specs.Slots.{CanBeFreed, SlotIsFreed}
+use Rattle.vol_spell.proofs.OneHeader.{none_split}
+use Rattle.vol_spell.proofs.Placing.{index-set_here}
 use Rattle.vol_mends.proofs.Alone.{alone_is}
 use Rattle.vol_mends.proofs.Basics.{clash, lower_or}
 use Rattle.vol_mends.proofs.WriteTold.{Owned, owned, changed, home_left}
 use Rattle.vol_mends.proofs.OneWrite.{doubles_told, single_same}
 use Rattle.vol_mends.proofs.Moved.{file_number}
-use Rattle.vol_mends.proofs.Parting.{parted, to_node, to_leaks, nothing_left, leaks_out, leaks_count, flags_set}
+use Rattle.vol_mends.proofs.Parting.{parted, to_node, to_leaks, nothing_left, no_number_out, leaks_out, leaks_count, flags_set}
 use Rattle.vol_parts.proofs.Structures.{not_structure}
 
 one_fid : (a b : Fid) → a ≡ b → same_fid a b ≡ true
@@ -102,6 +104,8 @@ module _ (g : Geometry) (bs : List Block) (c : Cat) (n : ℕ) (f : File) (b : Bl
     once = tt;
     runs = λ q. ((λ t. absurd t), (λ e. absurd (nothing_left n (Outside 0) o.own.clusters q (λ k. cc k) e)));
     few = λ high. omega arith;
+    split = λ high. none_split g.cluster f.seq;
+    system = λ low. refl;
     slots = λ m. ((λ t. absurd t), (λ u. absurd (nothing_left n (Outside 0) o.own.numbers (m - 1) (λ k. cc k) u.1)));
     size = refl;
     dir = refl;
@@ -112,6 +116,15 @@ module _ (g : Geometry) (bs : List Block) (c : Cat) (n : ℕ) (f : File) (b : Bl
   in_number =
       let file = tells_file g.cluster n (told_of g bs n).head (body_blocks bs n (told_of g bs n)) f tells.slot in
       (in_use g bs o.own c o.spells n number).0 (ap is_some file.at)
+
+  -- the slot of the number that the file loses is the one that is written, which is free
+  lost : (i : ℕ) → IsFileNumber g i → slice_get o.own.numbers (i - 1) ≡ Some (InFile n) → IsBlank (header_block g new i)
+  lost i is mine =
+      let from = is.from in
+      let only = alone_is g bs o.own c o.spells (i - 1) n mine in
+      let same : n ≡ i = omega (arith, only, from) in
+      let free : IsBlank b = ap fields_in can.free in
+      subst (λ (k : ℕ). IsBlank (header_block g new k)) same (subst (λ (x : Block). IsBlank x) (sym (index-set_here bs (header_place g n) b on)) free)
 
   header_for : IsHeaderFor g bs 0 n n o.own mid c b (slot.Free f.seq)
   header_for = record {
@@ -124,6 +137,8 @@ module _ (g : Geometry) (bs : List Block) (c : Cat) (n : ℕ) (f : File) (b : Bl
     plain = not_structure n above;
     moves = to_node n o.own;
     tells = subst (λ (z : Told). Tells g mid n z (body_blocks bs n z) (slot.Free f.seq)) (sym told_now) tells_now;
+    lost = λ i is mine gone. lost i is mine;
+    outside = λ k e. ap fields_in can.free;
     reserved = λ old low at. let high = above in absurd (omega (arith, low, high));
   }
 
@@ -132,6 +147,7 @@ module _ (g : Geometry) (bs : List Block) (c : Cat) (n : ℕ) (f : File) (b : Bl
 
   leaked : Spells g new left (with_leaks left (with_slot c n (slot.Free f.seq)))
   leaked = death_leaks g new mid left (with_slot c n (slot.Free f.seq)) 0 written (to_leaks n o.own)
+      (λ m k is was now. absurd (no_number_out left (leaks_out n o.own o.outs) (m - 1) k now))
 
   -- ---- the catalogue
 

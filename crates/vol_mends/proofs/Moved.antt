@@ -4,7 +4,6 @@ use Rattle.std.specs.Prelude.{slice_index_or}
 use Rattle.std.proofs.lemmas.Option.{slice_get-get_or, slice_get_within}
 use Rattle.base_words.specs.Fields.{Block}
 use Rattle.base_words.specs.Packing.{pack}
-use Rattle.fx_header.specs.Headers.{header_read}
 use Rattle.fx_header.specs.Pointers.{lbns_in}
 use Rattle.fx_dir.specs.declared.RawEnt.{RawEnt}
 use Rattle.fx_dir.specs.declared.Move.{Move}
@@ -32,13 +31,14 @@ use Rattle.vol_spell.specs.Spread.{blocks_at}
 use Rattle.vol_spell.proofs.Placing.{blocks_kept}
 use Rattle.base_words.proofs.ListWrites.{set-get, touches_taken}
 use Rattle.vol_parts.specs.declared.geometry.Geometry.{Geometry}
-use Rattle.vol_parts.specs.Volumes.{fields_in, Told, runs_with}
+use Rattle.vol_parts.specs.Volumes.{fields_in}
 use Rattle.vol_parts.specs.Catalogues.{plain_entry, is_structure}
 use Rattle.vol_parts.specs.Findings.{home_at}
 use Rattle.vol_spell.proofs.Frames.{body_owned, of_body}
-use Rattle.vol_spell.proofs.Heads.{alone_told}
+use Rattle.vol_spell.proofs.HeadSlots.{alone_told}
+use Rattle.vol_spell.proofs.OneHeader.{alone_whole}
 use Rattle.vol_spell.proofs.Parts.{home_owned}
-use Rattle.vol_spell.specs.Reading.{IsFileNumber, owner_at, runs_told, header_block, told_of, alone, body_places, body_blocks}
+use Rattle.vol_spell.specs.Reading.{IsFileNumber, owner_at, runs_told, runs_first, header_block, head_told, told_of, alone, body_places, body_blocks}
 use Rattle.vol_spell.specs.Spelling.{Spells}
 use Rattle.vol_spell.specs.Views.{IsSameFile}
 use Rattle.vol_mends.specs.Going.{Change}
@@ -102,7 +102,7 @@ module _ (g : Geometry) (bs : List Block) (c : Cat) (n : ℕ) (d : File) (h : Ha
     by false e = not_there (key name ver) at.entries (sym seen ∙ e) ∙ sym e
 
   told_places : lbns_in (runs_told (header_block g bs n)) ≡ places_in (header_block g bs n)
-  told_places = ap (λ (t : Told). lbns_in (runs_with (fields_in t.head) (header_block g bs n))) at.told
+  told_places = ap lbns_in (ap (λ r. runs_first (fields_in r) (header_block g bs n)) at.header ∙ alone_whole n at.fields (header_block g bs n) at.one)
 
   inside : (l : ℕ) → Has (places_in (header_block g bs n)) l → l < length bs
   inside l t = (of_body g bs o.own c o.spells n l number (subst (λ (ls : List ℕ). Has ls l) (sym at.places) t)).within
@@ -153,7 +153,7 @@ module _ (g : Geometry) (bs : List Block) (c : Cat) (n : ℕ) (d : File) (h : Ha
     body_now =
         let new_blocks : List Block = after_moves g n ms bs in
         let head : header_block g (after_moves g n ms bs) n ≡ header_block g bs n = moves_leave.header g bs o.own c n d old new j ms are in
-        let same : told_of g new_blocks n ≡ told_of g bs n = alone_told g new_blocks n at.fields (ap header_read head ∙ at.header) ∙ (ap (alone n at.fields) head ∙ sym at.told) in
+        let same : told_of g new_blocks n ≡ told_of g bs n = alone_told g new_blocks o.own y end n at.fields number (ap head_told head ∙ at.header) ∙ (ap (alone n at.fields) head ∙ sym at.told) in
         ap (λ t. blocks_at new_blocks (body_places n t)) same
         ∙ (ap (blocks_at new_blocks) at.places ∙ (sym (ap (λ b. blocks_at new_blocks (places_in b)) head) ∙ moves_leave.blocks g bs o.own c n d old new j ms are))
 

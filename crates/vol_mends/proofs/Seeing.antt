@@ -27,6 +27,7 @@ use Rattle.vol_mends.specs.Seen.{IsSeen, VolumeIsSeen}
 use Rattle.vol_mends.proofs.WriteTold.{Owned, owned, home_told, geometry_read}
 use Rattle.vol_mends.proofs.OneWrite.{doubles_told}
 use Rattle.vol_mends.proofs.Moved.{number, at}
+use Rattle.vol_spell.proofs.OneHeader.{alone_whole}
 use Rattle.vol_mends.proofs.Bitmaps.{file_used}
 
 -- the number at a place of a range
@@ -55,7 +56,9 @@ module _ (g : Geometry) (home : Home) (bs : List Block) (c : Cat) (t : IsTold g 
     is = number g bs c n d has
 
     runs_are : (told_of g bs n).runs ≡ runs_in (header_block g bs n)
-    runs_are = ap (λ (t : Told). t.runs) (at g bs c n d has).told
+    runs_are =
+        let a = at g bs c n d has in
+        ap (λ (t : Told). t.runs) a.told ∙ alone_whole n a.fields (header_block g bs n) a.one
 
     bodies : body (volume home bs) n ≡ blocks_of g bs n
     bodies =

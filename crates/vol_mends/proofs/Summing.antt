@@ -33,7 +33,7 @@ use Rattle.vol_mends.specs.Told.{IsTold}
 use Rattle.vol_mends.specs.Rows.{sum_of, summed, quota_block, AreSums, UsageIsSet, RowsAreSummed}
 use Rattle.vol_mends.proofs.Basics.{false_by}
 use Rattle.vol_mends.proofs.WriteTold.{Owned, owned, changed, home_left}
-use Rattle.vol_mends.proofs.Bitmaps.{parts_single, part_on}
+use Rattle.vol_mends.proofs.Bitmaps.{parts_single, parts_clean, part_on}
 
 abbrev owner_of : Row → ℕ
 owner_of r = r.uic
@@ -171,6 +171,7 @@ module _ (g : Geometry) (bs : List Block) (c : Cat) (k : ℕ) (b : Block) (are :
     usages = of_usage;
     leads = changed g bs new o.own c (record c { quota = map usages c.quota }) are.told change spelt o.outs (home_left bs (place_of g (Quota k)) b home_apart);
     singles = parts_single g bs o.own o.own c (record c { quota = map usages c.quota }) (Quota k) b o.spells spelt are.block (λ n e. cc e);
+    clean = parts_clean g bs o.own c (Quota k) b o.spells are.block (λ n e. cc e);
   }
 
 -- ---- where each block is summed

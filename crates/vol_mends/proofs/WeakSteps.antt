@@ -1,6 +1,6 @@
 -- Blocks that spell a catalogue that can be mended have no fatal finding.
 use Rattle.std.proofs.Common.{◌≡◌, ◌≢◌, ◌<◌, ◌≤◌, ◌+◌, ◌-◌, ◌*◌, ◌/◌, ◌∙◌, ℕ, Bool, true, false, cond, not, List, [], ◌∷◌, Option, Some, None, length, slice_get, get_or, refl, sym, ap, subst, arith, ◌⊎◌, inl, inr}
-use Rattle.std.specs.Prelude.{◌==◌, ◌||◌, is_some, Result, Ok, Err, count_by, slice_index_or}
+use Rattle.std.specs.Prelude.{◌==◌, ◌||◌, ◌&&◌, is_some, Result, Ok, Err, count_by, slice_index_or}
 use Rattle.std.specs.List.{list_any}
 use Rattle.std.proofs.lemmas.Bool.{and_parts, and_from, eq-eqb, eqb-true, leb-true, ltb-true}
 use Rattle.base_words.specs.Fields.{Block}
@@ -12,7 +12,7 @@ use Rattle.fx_header.specs.declared.run.Run.{Run}
 use Rattle.fx_header.specs.declared.slot.Hdr.{Hdr}
 use Rattle.fx_header.specs.declared.slot.HeaderFault.{HeaderFault}
 use Rattle.fx_header.specs.Headers.{header_read}
-use Rattle.fx_header.specs.Pointers.{lbns_in}
+use Rattle.fx_header.specs.Pointers.{blocks_in, lbns_in}
 use Rattle.fx_dir.specs.Directory.{directory}
 use Rattle.fx_quota.specs.declared.types.Row.{Row}
 use Rattle.plain_cat.specs.declared.cat.Cat.{Cat}
@@ -33,14 +33,16 @@ use Rattle.vol_parts.specs.declared.finding.Finding.{Finding}
 use Rattle.vol_parts.specs.declared.finding.Finding.TheVariants as finding
 use Rattle.vol_parts.specs.declared.geometry.Geometry.{Geometry}
 use Rattle.vol_parts.specs.Parts.{storage_blocks}
-use Rattle.vol_parts.specs.Volumes.{Volume, volume, IsNumber, factor, total, head as head_of, used_slot, fields_in, fields, runs, body, bitmap_lbn, is_free_cluster, is_used_number, is_in_files, active_rows}
+use Rattle.vol_parts.specs.Volumes.{Volume, volume, IsNumber, factor, total, head as head_of, used_slot, fields_in, fields, headers_of, Told, told as told_in, runs, body, bitmap_lbn, is_free_cluster, is_used_number, is_in_files, active_rows}
+use Rattle.vol_parts.specs.Chains.{HeaderChain, chain_of, is_broken, is_well_split}
 use Rattle.vol_parts.specs.Catalogues.{is_structure, file_of, catalogue}
-use Rattle.vol_parts.specs.Fatal.{in_whole_clusters, stated_clusters, are_stated, is_system_header, is_system_file, scb_test, scb_fault, is_off_bounds, is_too_large, IsInRun, IsShared, is_cluster_run, has_dir_size, found_in, dir_test, dir_fault, has_two_rows, is_rowless, HasNoRoom, IsFatalIn}
+use Rattle.vol_parts.proofs.Alone.{file_told as file_told_in}
+use Rattle.vol_parts.specs.Fatal.{is_one_header, has_one_header, chain_test, chain_fault, in_whole_clusters, stated_clusters, are_stated, is_system_header, is_system_file, scb_test, scb_fault, is_off_bounds, is_too_large, IsInRun, IsShared, is_cluster_run, has_dir_size, found_in, dir_test, dir_fault, has_two_rows, is_rowless, HasNoRoom, IsFatalIn}
 use Rattle.plain_rules.specs.SystemFiles.{is_system_directory}
 use Rattle.vol_parts.specs.Findings.{home_at, IsFatalBy, IsFatal, IsCatalogueBy}
 use Rattle.vol_faults.specs.CatFindings.{IsFatalOf}
-use Rattle.vol_spell.specs.Reading.{IsFileNumber, total_of, header_block, told_of, clusters_told, body_blocks, rows_told}
-use Rattle.vol_spell.specs.Spelling.{IsHomeOf, dir_found, Tells, Spells}
+use Rattle.vol_spell.specs.Reading.{IsFileNumber, total_of, header_block, told_of, chain_told, clusters_told, body_blocks, rows_told}
+use Rattle.vol_spell.specs.Spelling.{IsHomeOf, dir_found, size_in, has_one_at_most, Tells, Spells}
 use Rattle.vol_spell.proofs.Owned.{each_is_owned}
 use Rattle.vol_spell.proofs.Parts.{slot_there, told}
 use Rattle.vol_spell.proofs.Told.{no_dir, no_directory}
@@ -48,7 +50,7 @@ use Rattle.vol_spell.proofs.Picking.{any_place}
 use Rattle.vol_spell.proofs.Clusters.{of_run}
 use Rattle.vol_spell.proofs.Adds.{size_told}
 use Rattle.vol_mends.specs.Weak.{NoOuts, shut, SpeltIsWeak}
-use Rattle.vol_mends.proofs.Views.{v, v_head, v_fields, v_runs, v_body, v_bitmap, v_rows, v_total, v_cluster_bit, v_number_bit, system}
+use Rattle.vol_mends.proofs.Views.{v, v_head, v_told, v_fields, v_runs, v_body, v_bitmap, v_rows, v_total, v_cluster_bit, v_number_bit, system}
 use Rattle.vol_mends.proofs.Tests.{head_fault, head_number, TellsFile, tells_file, told_file, system_header, stated_one, whole_within, whole_at, one_place, cluster_run, once_counted, rows_any}
 use Rattle.vol_mends.proofs.Telling.{same_free, in_files, catalogue_is}
 
@@ -115,14 +117,16 @@ module _ (label : List ℕ) (g : Geometry) (bs : List Block) (own : Owners) (c :
   -- a directory has one run of one cluster
   dir_run : (n : ℕ) (h : Hdr) → IsFileNumber g n → fields_in (told_of g bs n).head ≡ Some h → h.dir ≡ true → is_cluster_run g.cluster (told_of g bs n).runs ≡ true
   dir_run n h is e dir =
-      let found : dir_found g n (Some h) (told_of g bs n).runs (body_blocks bs n (told_of g bs n)) ≡ None =
-      ap (λ o. dir_found g n o (told_of g bs n).runs (body_blocks bs n (told_of g bs n))) (sym e) ∙ (tells n is).dir in
-      by_size h.dir dir (has_dir_size g.cluster h (told_of g bs n).runs) refl found
+      let found : dir_found g n (Some h) (told_of g bs n) (body_blocks bs n (told_of g bs n)) ≡ None =
+      ap (λ o. dir_found g n o (told_of g bs n) (body_blocks bs n (told_of g bs n))) (sym e) ∙ (tells n is).dir in
+      by_size h.dir dir (is_one_header h (told_of g bs n) && has_dir_size g.cluster h (told_of g bs n).runs) refl found
     where
-      by_size : (b : Bool) → b ≡ true → (z : Bool) → has_dir_size g.cluster h (told_of g bs n).runs ≡ z
+      by_size : (b : Bool) → b ≡ true → (z : Bool) → (is_one_header h (told_of g bs n) && has_dir_size g.cluster h (told_of g bs n).runs) ≡ z
           → cond (not b) None (cond z (found_in n (directory (body_blocks bs n (told_of g bs n)))) (Some (finding.DirSize n))) ≡ None → is_cluster_run g.cluster (told_of g bs n).runs ≡ true
       by_size false b z is_z f = absurd (cc b)
-      by_size true b true is_z f = (and_parts (is_cluster_run g.cluster (told_of g bs n).runs) _ is_z).0
+      by_size true b true is_z f =
+          let sized = (and_parts (is_one_header h (told_of g bs n)) (has_dir_size g.cluster h (told_of g bs n).runs) is_z).1 in
+          (and_parts (is_cluster_run g.cluster (told_of g bs n).runs) _ sized).0
       by_size true b false is_z f = absurd (cc f)
 
   stated : (n : ℕ) → IsFileNumber g n → ((is_system_directory n ≡ true) → is_cluster_run g.cluster (told_of g bs n).runs ≡ true) → are_stated w n (stated_clusters w n) (runs w n) ≡ true
@@ -158,6 +162,12 @@ module _ (label : List ℕ) (g : Geometry) (bs : List Block) (own : Owners) (c :
         stated_one w n (in_whole_clusters g.cluster (4 * g.cluster + 1 + g.files)) r (runs w n) (runs_are n r is one) refl (inside n r is one) (λ t. refl)
     by_one false e = by_two (n == 2) refl e
 
+  -- it has one header
+  one_header : (n : ℕ) (h : Hdr) → IsFileNumber g n → n ≤ 11 → fields_in (told_of g bs n).head ≡ Some h → has_one_header (fields w n) (told_in w n) ≡ true
+  one_header n h is to at =
+      ap (λ o. has_one_header o (told_in w n)) (v_fields label g bs own c s n is ∙ at) ∙ ap (is_one_header h) (v_told label g bs own c s n is)
+      ∙ ap (λ o. has_one_at_most o (told_of g bs n)) (sym at) ∙ (tells n is).system to
+
   system_file : (n : ℕ) → 1 ≤ n → n ≤ 11 → is_system_file w n ≡ true
   unfolding is_system_file
   system_file n from to =
@@ -166,9 +176,10 @@ module _ (label : List ℕ) (g : Geometry) (bs : List Block) (own : Owners) (c :
       let m = systems n from to in
       let t = header_of n m.0 is m.1 in
       let dir : t.hdr.dir ≡ is_system_directory n = ap (λ (x : File). x.dir) t.is ∙ m.2.dir in
-      and_from (is_system_header n (fields w n)) (are_stated w n (stated_clusters w n) (runs w n))
+      and_from (is_system_header n (fields w n)) (has_one_header (fields w n) (told_in w n) && are_stated w n (stated_clusters w n) (runs w n))
       (ap (is_system_header n) (v_fields label g bs own c s n is ∙ t.at) ∙ system_header g.cluster n t.hdr (body_blocks bs n (told_of g bs n)) m.0 t.is m.2)
-      (stated n is (λ d. dir_run n t.hdr is t.at (dir ∙ d)))
+      (and_from (has_one_header (fields w n) (told_in w n)) (are_stated w n (stated_clusters w n) (runs w n)) (one_header n t.hdr is to t.at)
+      (stated n is (λ d. dir_run n t.hdr is t.at (dir ∙ d))))
 
   -- ---- the storage control block
 
@@ -179,6 +190,32 @@ module _ (label : List ℕ) (g : Geometry) (bs : List Block) (own : Owners) (c :
       ap (λ r. scb_test w r) read
       ∙ (ap (λ b. cond (not b) (Some BadCluster) (cond (not (g.blocks == length bs)) (Some BadSize) None)) (eq-eqb g.cluster g.cluster refl)
       ∙ ap (λ b. cond (not b) (Some BadSize) None) (eq-eqb g.blocks (length bs) (sym s.counts.blocks)))
+
+  -- ---- chains of headers
+
+  -- the chain of a file in use
+  chain_is : (n : ℕ) (h : Hdr) → IsFileNumber g n → fields w n ≡ Some h → chain_told (told_of g bs n) ≡ chain_of (headers_of w) n h
+  chain_is n h is at = ap chain_told (sym (v_told label g bs own c s n is)) ∙ ap chain_told (file_told_in w n h at)
+
+  chain_fine : (n : ℕ) → IsNumber w n → 11 < n → chain_fault w n ≡ None
+  unfolding chain_fault
+  chain_fine n k high = by_fields (fields w n) refl where
+    is : IsFileNumber g n
+    is = number n k
+
+    by_fields : (o : Option Hdr) → fields w n ≡ o → chain_test w n o ≡ None
+    by_fields None at = refl
+    by_fields (Some h) at =
+        let chain = chain_is n h is at in
+        let size : blocks_in (told_of g bs n).runs ≡ h.blocks = (tells n is).size ∙ ap size_in (sym (v_fields label g bs own c s n is) ∙ at) in
+        let same : blocks_in (chain_of (headers_of w) n h).runs ≡ h.blocks = ap (λ (x : HeaderChain). blocks_in x.runs) (sym chain) ∙ size in
+        let whole : is_broken h (chain_of (headers_of w) n h) ≡ false = ap not (eq-eqb _ _ same) in
+        let split : is_well_split g.cluster (chain_of (headers_of w) n h) ≡ true = ap (is_well_split g.cluster) (sym chain) ∙ (tells n is).split high in
+        ap (λ b. cond b (Some (finding.ChainBroken n)) (cond (is_well_split g.cluster (chain_of (headers_of w) n h)) None (Some (finding.ChainSplit n)))) whole
+        ∙ ap (λ b. cond b None (Some (finding.ChainSplit n))) split
+
+  no_chain_fault : (n : ℕ) (f : Finding) → IsNumber w n → 11 < n → chain_fault w n ≡ Some f → ⊥
+  no_chain_fault n f k high e = let both : None ≡ Some f = sym (chain_fine n k high) ∙ e in cc both
 
   -- ---- runs and clusters
 
@@ -250,22 +287,24 @@ module _ (label : List ℕ) (g : Geometry) (bs : List Block) (own : Owners) (c :
     is : IsFileNumber g n
     is = number n k
 
-    same : (o : Option Hdr) (rs : List Run) (blocks : List Block) → dir_found g n o rs blocks ≡ None → runs w n ≡ rs → body w n ≡ blocks → dir_test w n o ≡ None
-    same None rs blocks f a b = refl
-    same (Some h) rs blocks f a b =
-        ap (λ x. cond (not h.dir) None (cond (has_dir_size g.cluster h x) (found_in n (directory (body w n))) (Some (finding.DirSize n)))) a
-        ∙ (ap (λ y. cond (not h.dir) None (cond (has_dir_size g.cluster h rs) (found_in n (directory y)) (Some (finding.DirSize n)))) b ∙ f)
+    same : (o : Option Hdr) (t : Told) (blocks : List Block) → dir_found g n o t blocks ≡ None → told_in w n ≡ t → runs w n ≡ t.runs → body w n ≡ blocks → dir_test w n o ≡ None
+    same None t blocks f a r b = refl
+    same (Some h) t blocks f a r b =
+        ap (λ x. cond (not h.dir) None (cond (is_one_header h x && has_dir_size g.cluster h (runs w n)) (found_in n (directory (body w n))) (Some (finding.DirSize n)))) a
+        ∙ (ap (λ x. cond (not h.dir) None (cond (is_one_header h t && has_dir_size g.cluster h x) (found_in n (directory (body w n))) (Some (finding.DirSize n)))) r
+        ∙ (ap (λ y. cond (not h.dir) None (cond (is_one_header h t && has_dir_size g.cluster h t.runs) (found_in n (directory y)) (Some (finding.DirSize n)))) b ∙ f))
 
     blind : (o : Option Hdr) → is_structure n ≡ true → is_system_header n o ≡ true → dir_test w n o ≡ None
     blind None e h = refl
     blind (Some h) e sys =
-        ap (λ d. cond (not d) None (cond (has_dir_size g.cluster h (runs w n)) (found_in n (directory (body w n))) (Some (finding.DirSize n)))) (no_dir n h (no_directory n e) sys)
+        ap (λ d. cond (not d) None (cond (is_one_header h (told_in w n) && has_dir_size g.cluster h (runs w n)) (found_in n (directory (body w n))) (Some (finding.DirSize n)))) (no_dir n h (no_directory n e) sys)
 
     by_kind : (b : Bool) → is_structure n ≡ b → dir_test w n (fields w n) ≡ None
     by_kind true e = blind (fields w n) e (ap (is_system_header n) (v_fields label g bs own c s n is) ∙ system label g bs own c s n e)
     by_kind false e =
-        same (fields w n) (told_of g bs n).runs (body_blocks bs n (told_of g bs n))
-        (ap (λ o. dir_found g n o (told_of g bs n).runs (body_blocks bs n (told_of g bs n))) (v_fields label g bs own c s n is) ∙ (tells n is).dir) (v_runs label g bs own c s n is)
+        same (fields w n) (told_of g bs n) (body_blocks bs n (told_of g bs n))
+        (ap (λ o. dir_found g n o (told_of g bs n) (body_blocks bs n (told_of g bs n))) (v_fields label g bs own c s n is) ∙ (tells n is).dir) (v_told label g bs own c s n is)
+        (v_runs label g bs own c s n is)
         (v_body label g bs own c s n is ∙ ap (λ b. blocks_at bs (cond b [] (lbns_in (told_of g bs n).runs))) (sym e))
 
   no_dir_fault : (n : ℕ) (f : Finding) → IsNumber w n → dir_fault w n ≡ Some f → ⊥
@@ -327,6 +366,8 @@ module _ (label : List ℕ) (g : Geometry) (bs : List Block) (own : Owners) (c :
   found (finding.WrongNumber n) e = e.1.2 (right_number n e.1.0 e.0 e.1.1)
   found (finding.SystemFile n) e = clash (is_system_file w n) (system_file n e.0 e.1) e.2
   found (finding.Scb fault) e = let both : None ≡ Some fault = sym control ∙ e in cc both
+  found (finding.ChainBroken n) e = no_chain_fault n (finding.ChainBroken n) e.0 e.1 e.2
+  found (finding.ChainSplit n) e = no_chain_fault n (finding.ChainSplit n) e.0 e.1 e.2
   found (finding.Runs n) e = in_bounds n e.0 e.1
   found (finding.Clusters n) e = not_large n e.0 e.1 e.2
   found (finding.SharedCluster q) e = not_shared q e

@@ -1,27 +1,29 @@
 -- The writes of bitmap blocks that say what the headers say.
-use Rattle.std.specs.Prelude.{◌≡◌, ◌≢◌, ◌<◌, ◌-◌, ◌/◌, ◌%◌, not, ℕ, Bool, false, List, Ok, length, is_some, map, slice_set}
+use Rattle.std.specs.Prelude.{◌≡◌, ◌≢◌, ◌<◌, ◌-◌, ◌/◌, ◌%◌, not, ℕ, Bool, false, List, Ok, length, map, slice_set}
 use Rattle.base_words.specs.Fields.{Block, IsWholeBlock}
 use Rattle.fx_home.specs.declared.home.Home.{Home}
 use Rattle.fx_home.specs.Homes.{home_read}
 use Rattle.fx_bitmap.specs.Bits.{bit_at}
 use Rattle.plain_cat.specs.declared.cat.Cat.{Cat}
-use Rattle.plain_rules.specs.Lookups.{file_at}
 use Rattle.vol_parts.specs.declared.geometry.Geometry.{Geometry}
 use Rattle.vol_parts.specs.declared.geometry.Part.TheVariants.{IndexBitmap, Storage}
 use Rattle.vol_parts.specs.Parts.{storage_blocks}
-use Rattle.vol_parts.specs.Volumes.{volume, is_in_files, is_free_cluster}
+use Rattle.vol_parts.specs.Volumes.{volume, is_in_slots, is_in_files, is_free_cluster}
 use Rattle.vol_parts.specs.Findings.{home_at}
 use Rattle.vol_spell.specs.Reading.{IsFileNumber, total_of}
 use Rattle.vol_spell.specs.Places.{place_of}
 use Rattle.vol_mends.specs.Told.{IsTold, LeadsTo, KeepsSingles}
+use Rattle.vol_mends.specs.Clean.{IsClean, KeepsClean}
 
 -- ---- numbers
 
--- a block for the index-file bitmap in which a number is in use exactly where a file has it
-pub record AreFileBits (g : Geometry) (bs : List Block) (c : Cat) (b : Block) : Type 0 where
+-- Clean blocks, and a block for the index-file bitmap in which a number is in use exactly where it is that of a header slot of a file.
+pub record AreFileBits (g : Geometry) (bs : List Block) (c : Cat) (home : Home) (b : Block) : Type 0 where
   pub told : IsTold g bs c
+  pub clean : IsClean g bs
+  pub read : home_read (home_at bs) ≡ Ok home
   pub whole : IsWholeBlock b
-  pub bits : (n : ℕ) → IsFileNumber g n → bit_at b (n - 1) ≡ is_some (file_at c n)
+  pub bits : (n : ℕ) → IsFileNumber g n → bit_at b (n - 1) ≡ is_in_slots (volume home bs) n
 
 -- no number is leaked
 abbrev pub numbers_left : Cat → Cat
@@ -29,8 +31,9 @@ numbers_left c = record c { leaked_numbers = map (λ (b : Bool). false) c.leaked
 
 -- with it no number is leaked
 pub record NumbersAreSet : Type 0 where
-  pub leads : (g : Geometry) (bs : List Block) (c : Cat) (b : Block) → AreFileBits g bs c b → LeadsTo g bs c (numbers_left c) (slice_set bs (place_of g IndexBitmap) b)
-  pub singles : (g : Geometry) (bs : List Block) (c : Cat) (b : Block) → AreFileBits g bs c b → KeepsSingles g bs (slice_set bs (place_of g IndexBitmap) b)
+  pub leads : (g : Geometry) (bs : List Block) (c : Cat) (home : Home) (b : Block) → AreFileBits g bs c home b → LeadsTo g bs c (numbers_left c) (slice_set bs (place_of g IndexBitmap) b)
+  pub singles : (g : Geometry) (bs : List Block) (c : Cat) (home : Home) (b : Block) → AreFileBits g bs c home b → KeepsSingles g bs (slice_set bs (place_of g IndexBitmap) b)
+  pub clean : (g : Geometry) (bs : List Block) (c : Cat) (home : Home) (b : Block) → AreFileBits g bs c home b → KeepsClean g bs (slice_set bs (place_of g IndexBitmap) b)
   pub within : (g : Geometry) (bs : List Block) (c : Cat) → IsTold g bs c → place_of g IndexBitmap < length bs
 
 -- ---- clusters
@@ -49,6 +52,7 @@ pub record SpaceIsSet (g : Geometry) (bs : List Block) (c : Cat) (home : Home) (
   pub left : ℕ
   pub leads : LeadsTo g bs c (record c { leaked = left }) new
   pub singles : KeepsSingles g bs new
+  pub clean : KeepsClean g bs new
   pub same : (q : ℕ) → is_in_files (volume home new) q ≡ is_in_files (volume home bs) q
   pub here : (q : ℕ) → q / 4096 ≡ k → is_free_cluster (volume home new) q ≡ bit_at b (q % 4096)
   pub elsewhere : (q : ℕ) → q / 4096 ≢ k → is_free_cluster (volume home new) q ≡ is_free_cluster (volume home bs) q

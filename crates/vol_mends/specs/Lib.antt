@@ -1,5 +1,6 @@
 pub mod Accepted
 pub mod Bits
+pub mod Clean
 pub mod Done
 pub mod Going
 pub mod Mends
@@ -7,5 +8,7 @@ pub mod Moving
 pub mod Rows
 pub mod Seen
 pub mod Slots
+pub mod Surplus
+pub mod Tails
 pub mod Told
 pub mod Weak

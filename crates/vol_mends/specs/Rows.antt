@@ -11,6 +11,7 @@ use Rattle.vol_parts.specs.declared.geometry.Part.TheVariants.{Quota}
 use Rattle.vol_parts.specs.Volumes.{rows_in}
 use Rattle.vol_spell.specs.Places.{place_of}
 use Rattle.vol_mends.specs.Told.{IsTold, LeadsTo, KeepsSingles}
+use Rattle.vol_mends.specs.Clean.{KeepsClean}
 
 -- what the files of a row's owner cost
 abbrev pub sum_of : Cat → Row → ℕ
@@ -37,6 +38,7 @@ pub record UsageIsSet (g : Geometry) (bs : List Block) (c : Cat) (new : List Blo
   pub usages : IsOfUsage change
   pub leads : LeadsTo g bs c (record c { quota = map change c.quota }) new
   pub singles : KeepsSingles g bs new
+  pub clean : KeepsClean g bs new
 
 -- with it the usages of its rows are summed; and all are where those of each block are
 pub record RowsAreSummed : Type 0 where

@@ -1,6 +1,7 @@
 ghost use Rattle.vol_mends.specs.Done.{DoneIsAccepted};
 
-/// Where nothing is left to mend and no entry stands in two blocks, the volume is accepted, and mends to the catalogue that it tells.
+/// Where nothing is left to mend, the blocks are clean and no entry stands in two blocks, the volume is accepted, and mends to the
+/// catalogue that it tells.
 pub fn done_is_accepted()
     ensures { DoneIsAccepted }
 {}

@@ -1,4 +1,6 @@
 ghost use Rattle.vol_mends.specs.Slots.{SlotIsFreed};
+ghost use Rattle.vol_mends.specs.Surplus.{LastIsCut};
+ghost use Rattle.vol_mends.specs.Tails.{StrayIsFreed, SurplusIsCut};
 ghost use Rattle.vol_mends.specs.Bits.{NumbersAreSet, ClustersAreSet};
 ghost use Rattle.vol_mends.specs.Rows.{RowsAreSummed};
 
@@ -7,7 +9,23 @@ pub fn slot_is_freed()
     ensures { SlotIsFreed }
 {}
 
-/// An index-file bitmap that says which numbers files have leaves no number leaked.
+/// A file whose last header is cut to the blocks that the file has in it, and loses its link, keeps its header slots, its blocks in
+/// their order and how it is split, and nothing is listed behind them. Adjacent runs of that header are merged.
+pub fn last_is_cut()
+    ensures { LastIsCut }
+{}
+
+/// So with a header block that reads so. The catalogue stays, and so does what is told of each other file.
+pub fn surplus_is_cut()
+    ensures { SurplusIsCut }
+{}
+
+/// A header slot that is in use and no file's becomes free, with the same sequence. The catalogue stays.
+pub fn stray_is_freed()
+    ensures { StrayIsFreed }
+{}
+
+/// An index-file bitmap that says which numbers are those of header slots of files leaves no number leaked.
 pub fn numbers_are_set()
     ensures { NumbersAreSet }
 {}

@@ -3,6 +3,8 @@ use Rattle.std.proofs.Common.{◌≡◌, ◌∙◌, ◌+◌, ◌-◌, ◌<◌, �
 use Rattle.std.proofs.lemmas.List.{drop_more, drop_all}
 use Rattle.fx_header.specs.declared.run.Run.{Run}
 use Rattle.fx_header.specs.declared.slot.Hdr.{Hdr}
+use Rattle.std.specs.Prelude.{is_some}
+use Rattle.vol_parts.specs.Conditions.{IsUsedSlot}
 use Rattle.vol_parts.specs.Volumes.{Volume, IsNumber, headers_of}
 use Rattle.vol_parts.specs.Chains.{Headers, held, next_header, slots_from, cut, front_of}
 use Rattle.vol_parts.proofs.Cuts.{cut-none, cut-nil, cut-within, cut-past}
@@ -44,34 +46,33 @@ cut-done done left i rs whole so_far behind =
 
 -- ---- slots
 
-pub walk-ends : (h : Headers) (done : List ℕ) (k i n : ℕ) (f : Hdr) (left : ℕ) (whole : List ℕ) → done ++ slots_from h (k - i) n f left ≡ whole
-    → i < k → left ≤ held h n → done ++ n ∷ [] ≡ whole
-walk-ends h done k i n f left whole so_far more enough =
+pub step-ends : (h : Headers) (k i n : ℕ) (f : Hdr) (left : ℕ) → i < k → left ≤ held h n → slots_from h (k - i) n f left ≡ n ∷ []
+step-ends h k i n f left more enough =
     let fuel : k - i ≡ suc (k - (i + 1)) = omega arith in
-    at_last done (slots_from h (k - i) n f left) whole n so_far (ap (λ j. slots_from h j n f left) fuel ∙ walk-enough h (k - (i + 1)) n f left enough)
+    ap (λ j. slots_from h j n f left) fuel ∙ walk-enough h (k - (i + 1)) n f left enough
 
-pub walk-stops : (h : Headers) (done : List ℕ) (k i n : ℕ) (f : Hdr) (left : ℕ) (whole : List ℕ) → done ++ slots_from h (k - i) n f left ≡ whole
-    → i < k → held h n < left → next_header h f ≡ None → done ++ n ∷ [] ≡ whole
-walk-stops h done k i n f left whole so_far more past none =
+pub step-stops : (h : Headers) (k i n : ℕ) (f : Hdr) (left : ℕ) → i < k → held h n < left → next_header h f ≡ None → slots_from h (k - i) n f left ≡ n ∷ []
+step-stops h k i n f left more past none =
     let fuel : k - i ≡ suc (k - (i + 1)) = omega arith in
-    at_last done (slots_from h (k - i) n f left) whole n so_far (ap (λ j. slots_from h j n f left) fuel ∙ walk-more h (k - (i + 1)) n f left None past none)
+    ap (λ j. slots_from h j n f left) fuel ∙ walk-more h (k - (i + 1)) n f left None past none
 
-pub walk-goes : (h : Headers) (done : List ℕ) (k i n : ℕ) (f x : Hdr) (left : ℕ) (whole : List ℕ) → done ++ slots_from h (k - i) n f left ≡ whole
-    → i < k → held h n < left → next_header h f ≡ Some x
-    → (done ++ n ∷ []) ++ slots_from h (k - (i + 1)) f.ext x (left - held h n) ≡ whole
-walk-goes h done k i n f x left whole so_far more past next =
+pub step-goes : (h : Headers) (k i n : ℕ) (f x : Hdr) (left : ℕ) → i < k → held h n < left → next_header h f ≡ Some x
+    → slots_from h (k - i) n f left ≡ n ∷ slots_from h (k - (i + 1)) f.ext x (left - held h n)
+step-goes h k i n f x left more past next =
     let fuel : k - i ≡ suc (k - (i + 1)) = omega arith in
-    one_more done (slots_from h (k - i) n f left) (slots_from h (k - (i + 1)) f.ext x (left - held h n)) whole n so_far
-    (ap (λ j. slots_from h j n f left) fuel ∙ walk-more h (k - (i + 1)) n f left (Some x) past next)
+    ap (λ j. slots_from h j n f left) fuel ∙ walk-more h (k - (i + 1)) n f left (Some x) past next
 
-pub walk-done : (h : Headers) (done : List ℕ) (k i n : ℕ) (f : Hdr) (left : ℕ) (whole : List ℕ) → done ++ slots_from h (k - i) n f left ≡ whole
-    → k ≤ i → done ≡ whole
-walk-done h done k i n f left whole so_far over =
+pub step-done : (h : Headers) (k i n : ℕ) (f : Hdr) (left : ℕ) → k ≤ i → slots_from h (k - i) n f left ≡ []
+step-done h k i n f left over =
     let fuel : k - i ≡ 0 = omega arith in
-    at_end done (slots_from h (k - i) n f left) whole so_far (ap (λ j. slots_from h j n f left) fuel ∙ walk-none h n f left)
+    ap (λ j. slots_from h j n f left) fuel ∙ walk-none h n f left
 
 -- the number of the next header is one of the volume
 pub next-number : (v : Volume) (f x : Hdr) → next_header (headers_of v) f ≡ Some x → IsNumber v f.ext
 next-number v f x e =
     let next = next-is (headers_of v) f x e in
     record { from = next.number.from; to = next.number.to }
+
+-- and its slot is used
+pub next-used : (v : Volume) (f x : Hdr) → next_header (headers_of v) f ≡ Some x → IsUsedSlot v f.ext
+next-used v f x e = record { used = ap is_some (next-is (headers_of v) f x e).says }

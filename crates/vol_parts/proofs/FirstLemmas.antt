@@ -1,6 +1,6 @@
 -- The first findings of directories and of quota rows.
 use Rattle.std.proofs.Common.{◌≡◌, ◌∙◌, ◌⊎◌, ℕ, Bool, true, false, not, Option, Some, None, Result, Ok, Err, List, refl, ap, inl, inr, arith}
-use Rattle.std.specs.Prelude.{if◌then◌else◌, option_map}
+use Rattle.std.specs.Prelude.{if◌then◌else◌, ◌&&◌, option_map}
 use Rattle.std.proofs.lemmas.Bool.{both_ways, cases_lt}
 use Rattle.fx_header.specs.declared.slot.Hdr.{Hdr}
 use Rattle.fx_dir.specs.declared.RawEnt.{RawEnt}
@@ -10,8 +10,8 @@ use Rattle.fx_dir.specs.Directory.{directory}
 use Rattle.plain_cat.specs.declared.ids.Uic.{Uic}
 use Rattle.vol_parts.specs.declared.finding.Finding.{Finding}
 use Rattle.vol_parts.specs.declared.finding.Finding.TheVariants as finding
-use Rattle.vol_parts.specs.Volumes.{Volume, IsNumber, factor, fields, runs, body, active_rows}
-use Rattle.vol_parts.specs.Fatal.{IsFatalIn, has_dir_size, found_in, dir_test, dir_fault, has_two_rows, is_rowless}
+use Rattle.vol_parts.specs.Volumes.{Volume, IsNumber, factor, fields, told, runs, body, active_rows}
+use Rattle.vol_parts.specs.Fatal.{IsFatalIn, is_one_header, has_dir_size, found_in, dir_test, dir_fault, has_two_rows, is_rowless}
 use Rattle.vol_parts.specs.Findings.{rank, subject}
 use Rattle.vol_parts.specs.Firsts.{IsFirstOf}
 use Rattle.vol_parts.specs.Lowest.{IsLowest}
@@ -38,7 +38,7 @@ sized-of n false sized r f e = absurd (cc)
 
 test-of : (v : Volume) (n : ℕ) (o : Option Hdr) (f : Finding) → dir_test v n o ≡ Some f → IsOfDir n f
 test-of v n None f e = absurd (cc)
-test-of v n (Some h) f e = sized-of n h.dir (has_dir_size (factor v) h (runs v n)) (directory (body v n)) f e
+test-of v n (Some h) f e = sized-of n h.dir (is_one_header h (told v n) && has_dir_size (factor v) h (runs v n)) (directory (body v n)) f e
 
 fault-of : (v : Volume) (n : ℕ) (f : Finding) → dir_fault v n ≡ Some f → IsOfDir n f
 unfolding dir_fault

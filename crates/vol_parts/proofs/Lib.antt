@@ -1,8 +1,10 @@
+pub mod Ahead
 pub mod Alone
 pub mod Bytes
 pub mod ChainSteps
 pub mod Cuts
 pub mod FirstLemmas
+pub mod Flagging
 pub mod Groups
 pub mod Headers
 pub mod Linked

@@ -1,5 +1,5 @@
 -- The catalogue that the blocks of a volume tell.
-use Rattle.std.specs.Prelude.{◌*◌, ◌-◌, ◌/◌, ◌==◌, ◌&&◌, ◌||◌, not, ℕ, Bool, List, [], ◌∷◌, None, Result, Ok, Err, length, map, take, replicate, if◌then◌else◌}
+use Rattle.std.specs.Prelude.{◌*◌, ◌-◌, ◌/◌, ◌==◌, ◌&&◌, ◌||◌, not, ℕ, Bool, true, List, [], ◌∷◌, None, slice_set, Result, Ok, Err, length, map, take, replicate, if◌then◌else◌}
 use Rattle.std.specs.List.{range_with_len, count_by, sum_by}
 use Rattle.base_words.specs.Fields.{Block}
 use Rattle.fx_header.specs.declared.slot.Hdr.{Hdr}
@@ -88,6 +88,11 @@ is_outside_cluster v q = not (is_free_cluster v q) && not (is_in_files v q)
 -- a file number is outside: in use by its bit, and no file's
 unfoldable pub is_outside_number : Volume → ℕ → Bool
 is_outside_number v n = is_used_number v n && not (is_in_slots v n)
+
+-- flags, number n at n - 1, with those of these numbers set
+abbrev pub flagged : List ℕ → List Bool → List Bool
+flagged [] flags = flags
+flagged (n ∷ ns) flags = flagged ns (slice_set flags (n - 1) true)
 
 -- The catalogue: nothing is open, and what is outside is leaked.
 unfoldable pub catalogue : Volume → Cat

@@ -69,7 +69,7 @@ abbrev pub most_headers : ℕ
 most_headers = 16
 
 -- what the chain of a file says: the numbers of its slots, the runs that each of them lists, the runs of the file, and whether
--- something is listed behind these
+-- something is listed behind these, or a link leads on
 pub record HeaderChain : Type 0 where
   pub slots : List ℕ
   pub parts : List (List Run)

@@ -8,6 +8,7 @@ use Rattle.fx_home.specs.declared.scb.ScbFault.TheVariants.{BadCluster, BadSize}
 use Rattle.fx_home.specs.Homes.{scb_read}
 use Rattle.fx_header.specs.declared.run.Run.{Run}
 use Rattle.fx_header.specs.declared.slot.Hdr.{Hdr}
+use Rattle.fx_header.specs.Pointers.{blocks_in}
 use Rattle.fx_dir.specs.declared.RawEnt.{RawEnt}
 use Rattle.fx_dir.specs.declared.DirFault.{DirFault}
 use Rattle.fx_dir.specs.declared.DirFault.TheVariants as dir
@@ -22,9 +23,21 @@ use Rattle.plain_rules.specs.Mending.{lost, enter, enter_all, stripped}
 use Rattle.vol_parts.specs.declared.finding.Finding.{Finding}
 use Rattle.vol_parts.specs.declared.finding.Finding.TheVariants as finding
 use Rattle.vol_parts.specs.Parts.{storage_blocks}
-use Rattle.vol_parts.specs.Volumes.{Volume, IsNumber, factor, total, block_at, head as head_of, used_slot, fields, runs, is_in_run, is_in_files, bitmap_lbn, is_free_cluster, is_used_number, body, active_rows}
+use Rattle.vol_parts.specs.Chains.{chain_of, is_broken, is_well_split}
+use Rattle.vol_parts.specs.Volumes.{Volume, IsNumber, factor, total, block_at, head as head_of, used_slot, fields, headers_of, Told, told, runs, is_in_run, is_in_files, bitmap_lbn, is_free_cluster, is_used_number, body, active_rows}
 use Rattle.vol_parts.specs.Catalogues.{catalogue}
 use Rattle.plain_rules.specs.SystemFiles.{system_seq, is_system_directory, entries_of, is_system_entry}
+
+-- ---- system files
+
+-- a file whose first header has these fields has no other: no link leads on, nothing is listed behind the file's blocks, and all of
+-- them are listed
+abbrev pub is_one_header : Hdr → Told → Bool
+is_one_header f t = (f.ext == 0) && (not t.surplus && (blocks_in t.runs == f.blocks))
+
+abbrev pub has_one_header : Option Hdr → Told → Bool
+has_one_header None t = false
+has_one_header (Some f) t = is_one_header f t
 
 -- so many blocks take so many clusters
 abbrev pub in_whole_clusters : ℕ → ℕ → ℕ
@@ -56,7 +69,8 @@ is_system_header n (Some f) = (f.seq == system_seq n) && ((not (f.dir) || is_sys
 
 -- the file of this number, 1 to 11, is as the structure of a volume asks
 unfoldable pub is_system_file : Volume → ℕ → Bool
-is_system_file v n = is_system_header n (fields v n) && are_stated v n (stated_clusters v n) (runs v n)
+is_system_file v n =
+    is_system_header n (fields v n) && (has_one_header (fields v n) (told v n) && are_stated v n (stated_clusters v n) (runs v n))
 
 -- the first fault of the storage control block, if it has one
 abbrev pub scb_test : Volume → Result Scb ScbFault → Option ScbFault
@@ -67,13 +81,25 @@ scb_test v (Ok s) =
 unfoldable pub scb_fault : Volume → Option ScbFault
 scb_fault v = scb_test v (scb_read (block_at v (bitmap_lbn v)))
 
+-- ---- chains of headers
+
+abbrev pub chain_test : Volume → ℕ → Option Hdr → Option Finding
+chain_test v n None = None
+chain_test v n (Some f) =
+    let c = chain_of (headers_of v) n f in
+    if is_broken f c then Some (finding.ChainBroken n) else if is_well_split (factor v) c then None else Some (finding.ChainSplit n)
+
+-- what is wrong with the chain of headers of the file of this number: it ends too early, or its clusters are not well split
+unfoldable pub chain_fault : Volume → ℕ → Option Finding
+chain_fault v n = chain_test v n (fields v n)
+
 -- ---- runs and clusters
 
 -- a run does not begin and end at a cluster's bounds, or is not inside the whole clusters
 unfoldable pub is_off_bounds : Volume → Run → Bool
 is_off_bounds v r = not ((r.lbn % factor v == 0) && ((r.count % factor v == 0) && nat_le (r.lbn + r.count) (factor v * total v)))
 
--- more clusters than a file above number 11 has
+-- more clusters than a file above number 11 may have
 abbrev pub is_too_large : Volume → Option Hdr → Bool
 is_too_large v None = false
 is_too_large v (Some f) = nat_lt file_most (f.blocks / factor v)
@@ -116,9 +142,11 @@ found_in n (Err dir.NoMemory) = None
 abbrev pub dir_test : Volume → ℕ → Option Hdr → Option Finding
 dir_test v n None = None
 dir_test v n (Some f) =
-    if not f.dir then None else if has_dir_size (factor v) f (runs v n) then found_in n (directory (body v n)) else Some (finding.DirSize n)
+    if not f.dir then None
+    else if is_one_header f (told v n) && has_dir_size (factor v) f (runs v n) then found_in n (directory (body v n))
+    else Some (finding.DirSize n)
 
--- what is wrong with the directory of this number: its size, or the first fault of its blocks
+-- what is wrong with the directory of this number: its headers or its size, or the first fault of its blocks
 unfoldable pub dir_fault : Volume → ℕ → Option Finding
 dir_fault v n = dir_test v n (fields v n)
 
@@ -169,6 +197,8 @@ IsFatalIn v (finding.Header n fault) = IsNumber v n × (head_of v n ≡ Err faul
 IsFatalIn v (finding.WrongNumber n) = IsNumber v n × ((f : Hdr) × (used_slot v n ≡ Some f) × (f.num ≢ n))
 IsFatalIn v (finding.SystemFile n) = (1 ≤ n) × (n ≤ 11) × (is_system_file v n ≡ false)
 IsFatalIn v (finding.Scb fault) = scb_fault v ≡ Some fault
+IsFatalIn v (finding.ChainBroken n) = IsNumber v n × (11 < n) × (chain_fault v n ≡ Some (finding.ChainBroken n))
+IsFatalIn v (finding.ChainSplit n) = IsNumber v n × (11 < n) × (chain_fault v n ≡ Some (finding.ChainSplit n))
 IsFatalIn v (finding.Runs n) = IsNumber v n × (list_any (is_off_bounds v) (runs v n) ≡ true)
 IsFatalIn v (finding.Clusters n) = IsNumber v n × (11 < n) × (is_too_large v (fields v n) ≡ true)
 IsFatalIn v (finding.SharedCluster q) = IsShared v q

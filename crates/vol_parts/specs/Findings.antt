@@ -24,14 +24,16 @@ IsFatalBy bs (Ok home) f = IsFatalIn (volume home bs) f
 abbrev pub IsFatal : List Block → Finding → Type 0
 IsFatal bs f = IsFatalBy bs (home_read (home_at bs)) f
 
--- in which order the kinds of fatal findings are looked for; the two of a header are one kind, and the four of a directory. No
--- finding has rank 4: the place before the runs of a file is kept for another kind.
+-- in which order the kinds of fatal findings are looked for; the two of a header are one kind, and so are the two of a chain and the
+-- four of a directory
 abbrev pub rank : Finding → ℕ
 rank (finding.Home fault) = 0
 rank (finding.Header n fault) = 1
 rank (finding.WrongNumber n) = 1
 rank (finding.SystemFile n) = 2
 rank (finding.Scb fault) = 3
+rank (finding.ChainBroken n) = 4
+rank (finding.ChainSplit n) = 4
 rank (finding.Runs n) = 5
 rank (finding.Clusters n) = 6
 rank (finding.SharedCluster q) = 7
@@ -56,6 +58,8 @@ subject (finding.Header n fault) = n
 subject (finding.WrongNumber n) = n
 subject (finding.SystemFile n) = n
 subject (finding.Scb fault) = 0
+subject (finding.ChainBroken n) = n
+subject (finding.ChainSplit n) = n
 subject (finding.Runs n) = n
 subject (finding.Clusters n) = n
 subject (finding.SharedCluster q) = q

@@ -66,7 +66,7 @@ fields_in (Err fault) = None
 abbrev pub used_slot : Volume → ℕ → Option Hdr
 used_slot v n = fields_in (head v n)
 
--- what the slot of a number says as the first header of a file, which has the slot of the file's number
+-- what the slot of a number says as the first header of a file: the slot of another header is told as a free one
 abbrev pub first_head : Volume → ℕ → Result Slot HeaderFault
 first_head v n = as_first (head v n)
 
@@ -77,7 +77,7 @@ fields v n = fields_in (first_head v n)
 -- ---- what is told of a file
 
 -- what is told of the file of a number: what the slot of its first header says, the numbers of all its header slots, the runs that
--- each of these headers lists, the runs of the file, in order, and whether something is listed behind them
+-- each of these headers lists, the runs of the file, in order, and whether something is listed behind them, or a link leads on
 pub record Told : Type 0 where
   pub head : Result Slot HeaderFault
   pub slots : List ℕ

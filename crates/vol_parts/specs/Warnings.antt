@@ -1,5 +1,5 @@
 -- What mending puts right: the findings of a volume that has no fatal one.
-use Rattle.std.specs.Prelude.{◌==◌, ◌&&◌, not, ℕ, Bool, false, List, [], ◌∷◌, ◌++◌, Option, Some, None, is_none, map, filter, if◌then◌else◌}
+use Rattle.std.specs.Prelude.{◌==◌, ◌&&◌, not, nat_lt, ℕ, Bool, false, List, [], ◌∷◌, ◌++◌, Option, Some, None, is_none, map, filter, if◌then◌else◌}
 use Rattle.std.specs.List.{count_by}
 use Rattle.base_words.specs.Fields.{Block}
 use Rattle.fx_header.specs.declared.slot.Hdr.{Hdr}
@@ -14,7 +14,7 @@ use Rattle.plain_rules.specs.Accounts.{charge}
 use Rattle.plain_rules.specs.Mending.{places, stays, is_lost, numbers_from, is_true}
 use Rattle.vol_parts.specs.declared.finding.Finding.{Finding}
 use Rattle.vol_parts.specs.declared.finding.Finding.TheVariants as finding
-use Rattle.vol_parts.specs.Volumes.{Volume, numbers, fields, body}
+use Rattle.vol_parts.specs.Volumes.{Volume, numbers, used_slot, fields, told, is_in_slots, body}
 use Rattle.vol_parts.specs.Catalogues.{catalogue}
 use Rattle.fx_dir.specs.Laws.{has_double}
 
@@ -49,6 +49,19 @@ abbrev pub is_lost_file : Cat → ℕ → Slot → Bool
 is_lost_file c n (Free seq) = false
 is_lost_file c n (Used f) = is_lost c n f
 
+-- something is listed behind the blocks of a file, or a link leads on
+unfoldable pub has_surplus : Volume → ℕ → Bool
+has_surplus v n = (told v n).surplus
+
+-- a slot is used by another header than a file's first one
+abbrev pub is_further : Option Hdr → Bool
+is_further None = false
+is_further (Some f) = nat_lt 0 f.seg
+
+-- such a header is in the chain of no file
+unfoldable pub is_stray : Volume → ℕ → Bool
+is_stray v n = is_further (used_slot v n) && not (is_in_slots v n)
+
 -- one finding where the number is not 0
 abbrev pub if_any : (ℕ → Finding) → ℕ → List Finding
 if_any found n = if n == 0 then [] else found n ∷ []
@@ -68,6 +81,8 @@ warnings v = let c = catalogue v in
     ++ (map second_found (filter (is_second c) (places c))
     ++ (map finding.Doubles (filter (has_doubles v) (numbers v))
     ++ (map finding.Lost (numbers_from (is_lost_file c) 1 c.files)
+    ++ (map finding.Surplus (filter (has_surplus v) (numbers v))
+    ++ (map finding.Stray (filter (is_stray v) (numbers v))
     ++ (if_any finding.LeakedClusters c.leaked
     ++ (if_any finding.LeakedNumbers (count_by is_true c.leaked_numbers)
-    ++ map (usage_found c) (filter (is_miscounted c) c.quota)))))))
+    ++ map (usage_found c) (filter (is_miscounted c) c.quota)))))))))

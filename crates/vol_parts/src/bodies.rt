@@ -1,77 +1,45 @@
 ghost use Rattle.std.specs.Prelude.{◌≡◌, ◌+◌, ◌*◌, ◌/◌, ◌≤◌, ◌<◌, ◌++◌, length, slice_range, IfOk, OnOk};
 ghost use Rattle.fx_home.specs.Homes.{IsWithinLimits};
-ghost use Rattle.vol_parts.specs.Volumes.{volume, IsNumber, fields, listed_in, runs, first_lbn, bitmap_lbn, is_used_number, is_free_cluster, body};
+ghost use Rattle.vol_parts.specs.Volumes.{volume, IsNumber, runs, first_lbn, bitmap_lbn, is_used_number, is_free_cluster, body};
 ghost use Rattle.vol_parts.specs.Iter.{file_runs_left};
 ghost use Rattle.vol_parts.specs.Conditions.{HasRunsInside};
 
-use crate::heads::head;
+use crate::heads::fields;
+use crate::links::MOST_HEADERS;
+use crate::one_slot::{no_runs, used_slot_runs};
+use crate::walk::FileRuns;
 use base_words::Block;
 use fx_bitmap::bit;
-use fx_header::{Hdr, Run, RunIter, Slot, runs};
-use fx_home::{Home, slot_lbn};
+use fx_header::Run;
+use fx_home::Home;
 use plain_cat::{Blocks, NoMemory};
 use std::alloc::Global;
 
-/// The fields of the header of a file number, or none where the number is not in use or its header is not one.
-pub fn fields(home: &Home, blocks: &[Block], n: u32) -> Option<Hdr>
-    requires limits { IsWithinLimits home.now }
-    requires number { IsNumber (volume home.now blocks.now) n }
-    ensures { result ≡ fields (volume home.now blocks.now) n }
-{
-    match head(home, blocks, n) {
-        Ok(Slot::Used(f)) => Some(f),
-        Ok(Slot::Free(_)) => None,
-        Err(_) => None,
-    }
-}
-
-/// The runs of a file, in order.
-#[derive(Debug, Clone, Drop)]
-pub struct FileRuns<'a> {
-    header: Option<RunIter<'a>>,
-}
-
-impl Iterator for FileRuns<'_> {
-    ghost use Rattle.std.specs.Iterator.{YieldsFirst, item_count};
-    ghost use Rattle.vol_parts.specs.Iter.{file_runs_left};
-
-    type Item = Run;
-
-    ghost next_gives = { YieldsFirst file_runs_left };
-
-    ghost remaining = { item_count file_runs_left };
-
-    fn next(&mut self) -> Option<Run> {
-        match &mut self.header {
-            Some(header) => header.next(),
-            None => None,
-        }
-    }
-}
-
-// The runs that the header in the slot of a number lists, in order. A slot that is not used lists none.
-pub(crate) fn slot_runs<'a>(home: &Home, blocks: &'a [Block], n: u32) -> FileRuns<'a>
-    requires limits { IsWithinLimits home.now }
-    requires number { IsNumber (volume home.now blocks.now) n }
-    ensures { file_runs_left result ≡ listed_in (volume home.now blocks.now) n }
-{
-    match head(home, blocks, n) {
-        Ok(Slot::Used(_)) => FileRuns {
-            header: Some(runs(&blocks[slot_lbn(home, n) as usize])),
-        },
-        Ok(Slot::Free(_)) => FileRuns { header: None },
-        Err(_) => FileRuns { header: None },
-    }
-}
-
-/// The runs of the file of a number, in order. A number that is not in use has none.
+/// The runs of the file of a number, in order, of all its headers. A number that has no first header of a file has none.
 #[tactic(auto, unfolding(crate::specs::Volumes::runs))]
-pub fn file_runs<'a>(home: &Home, blocks: &'a [Block], n: u32) -> FileRuns<'a>
+pub fn file_runs<'a>(home: &'a Home, blocks: &'a [Block], n: u32) -> FileRuns<'a>
     requires limits { IsWithinLimits home.now }
     requires number { IsNumber (volume home.now blocks.now) n }
     ensures { file_runs_left result ≡ runs (volume home.now blocks.now) n }
 {
-    slot_runs(home, blocks, n)
+    let Some(first) = fields(home, blocks, n) else {
+        return FileRuns {
+            home,
+            blocks,
+            header: None,
+            runs: no_runs(),
+            more: 0,
+            left: 0,
+        };
+    };
+    FileRuns {
+        home,
+        blocks,
+        header: Some(first),
+        runs: used_slot_runs(home, blocks, n),
+        more: MOST_HEADERS - 1,
+        left: first.blocks,
+    }
 }
 
 /// The LBN at which a file's first run begins, 0 where it has none.

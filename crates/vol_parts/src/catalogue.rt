@@ -1,14 +1,16 @@
-ghost use Rattle.std.specs.Prelude.{◌≡◌, ◌+◌, ◌*◌, ◌^◌, ◌≤◌, ◌<◌, None, length, map, take, replicate, IfOk};
+ghost use Rattle.std.specs.Prelude.{◌≡◌, ◌+◌, ◌*◌, ◌^◌, ◌≤◌, ◌<◌, None, true, length, map, take, replicate, IfOk};
 ghost use Rattle.std.specs.List.{range_with_len, sum_by, count_by};
 ghost use Rattle.fx_home.specs.Homes.{IsWithinLimits};
 ghost use Rattle.fx_dir.specs.Directory.{directory};
 ghost use Rattle.plain_rules.specs.Lookups.{clusters_in};
-ghost use Rattle.vol_parts.specs.Volumes.{volume, IsNumber, numbers, total, body};
+ghost use Rattle.vol_parts.specs.Volumes.{volume, IsNumber, numbers, fields, told, is_in_slots, total, body};
 ghost use Rattle.vol_parts.specs.Catalogues.{plain_entry, plain_entries, is_structure, written_blocks, is_bare, file_of, slot_of, files_of, is_outside_cluster, is_outside_number, catalogue};
-ghost use Rattle.vol_parts.specs.Conditions.{HasRunsInside, HasAllRunsInside};
+ghost use Rattle.vol_parts.specs.Fatal.{has_one_header};
+ghost use Rattle.vol_parts.specs.Conditions.{HasSystemFiles, HasRunsInside, HasAllRunsInside};
 
-use crate::bodies::{body, fields, is_used_number};
-use crate::heads::head;
+use crate::bodies::{body, is_used_number};
+use crate::flags::slot_flags;
+use crate::heads::{fields, first_head};
 use crate::rows::{active_rows, sorted_rows};
 use base_words::Block;
 use fx_dir::{DirFault, RawEnt, read_dir};
@@ -130,7 +132,7 @@ pub fn slot(alloc: Global, home: &Home, blocks: &[Block], n: u32) -> Result<Slot
     requires runs { HasRunsInside (volume home.now blocks.now) n }
     ensures { IfOk result (λ slot. slot ≡ slot_of (volume home.now blocks.now) n) }
 {
-    match head(home, blocks, n) {
+    match first_head(home, blocks, n) {
         Ok(Head::Used(f)) => Ok(Slot::Used(file(alloc, home, blocks, n, &f)?)),
         Ok(Head::Free(seq)) => Ok(Slot::Free(seq)),
         Err(_) => Ok(Slot::Free(0)),
@@ -174,10 +176,11 @@ fn reserved(slots: &[Slot]) -> u32
     clusters
 }
 
-// How many blocks the file of a number has.
+// How many blocks the file of a number has, which has one header.
 fn size(home: &Home, blocks: &[Block], n: u32) -> u32
     requires limits { IsWithinLimits home.now }
     requires number { IsNumber (volume home.now blocks.now) n }
+    requires one { let v = volume home.now blocks.now in has_one_header (fields v n) (told v n) ≡ true }
     ensures { result ≡ length (body (volume home.now blocks.now) n) }
 {
     match fields(home, blocks, n) {
@@ -186,15 +189,16 @@ fn size(home: &Home, blocks: &[Block], n: u32) -> u32
     }
 }
 
-// Whether a file number is in use by its bit, and no file's.
+// Whether a file number is in use by its bit, and no file's. `slots` are the flags of the files' header slots.
 #[tactic(auto, unfolding(crate::specs::Catalogues::is_outside_number))]
-fn is_outside_number(home: &Home, blocks: &[Block], n: u32) -> bool
+fn is_outside_number(home: &Home, blocks: &[Block], slots: &[bool], n: u32) -> bool
     requires limits { IsWithinLimits home.now }
     requires number { IsNumber (volume home.now blocks.now) n }
     requires there { 4 * home.now.cluster < length blocks.now }
+    requires slots { slots.now ≡ map (is_in_slots (volume home.now blocks.now)) (numbers (volume home.now blocks.now)) }
     ensures { result ≡ is_outside_number (volume home.now blocks.now) n }
 {
-    is_used_number(home, blocks, n) && !fields(home, blocks, n).is_some()
+    is_used_number(home, blocks, n) && !slots[n as usize - 1]
 }
 
 // Which file numbers are in use by their bits, and no file's.
@@ -203,9 +207,10 @@ fn outside_numbers(alloc: Global, home: &Home, blocks: &[Block]) -> Result<Flags
     requires there { 4 * home.now.cluster < length blocks.now }
     ensures { IfOk result (λ flags. flags ≡ map (is_outside_number (volume home.now blocks.now)) (numbers (volume home.now blocks.now))) }
 {
+    let slots = slot_flags(alloc, home, blocks)?;
     let mut flags = Flags::new(alloc);
     for n in 1..home.files + 1 {
-        flags.push(is_outside_number(home, blocks, n))?;
+        flags.push(is_outside_number(home, blocks, slots.items(), n))?;
     }
     Ok(flags)
 }
@@ -222,8 +227,8 @@ fn no_opens(alloc: Global) -> Result<Channels, NoMemory>
 }
 
 /// The catalogue that the blocks of a volume tell, of which there are at most 65,536. `leaked` is how many clusters are
-/// neither free nor in a file. The runs of all files lie inside the whole clusters, and the index-file bitmap is inside the
-/// image. An error says that memory ran out.
+/// neither free nor in a file. The system files are as the structure of a volume asks, the runs of all files lie inside the
+/// whole clusters, and the index-file bitmap is inside the image. An error says that memory ran out.
 #[tactic(auto, unfolding(crate::specs::Catalogues::catalogue))]
 pub fn read_catalogue(
     alloc: Global,
@@ -234,6 +239,7 @@ pub fn read_catalogue(
     requires limits { IsWithinLimits home.now }
     requires blocks { length blocks.now ≤ 65536 }
     requires there { 4 * home.now.cluster < length blocks.now }
+    requires systems { HasSystemFiles (volume home.now blocks.now) }
     requires runs { HasAllRunsInside (volume home.now blocks.now) }
     requires leaked { leaked ≡ count_by (is_outside_cluster (volume home.now blocks.now)) (range_with_len 0 (total (volume home.now blocks.now))) }
     ensures { IfOk result (λ cat. cat ≡ catalogue (volume home.now blocks.now)) }

@@ -1,59 +1,26 @@
-//! The chain of headers of a file, and the runs of the file in it. The checks of a volume will call this.
+//! The chain of headers of a file, what can be wrong with it, and the cut of runs.
 
-ghost use Rattle.std.specs.Prelude.{◌≡◌, ◌-◌, IfOk};
+ghost use Rattle.std.specs.Prelude.{◌≡◌, ◌-◌, ◌==◌, Some, false, IfOk};
 ghost use Rattle.fx_home.specs.Homes.{IsWithinLimits};
-ghost use Rattle.vol_parts.specs.Volumes.{volume, IsNumber, used_slot, headers_of};
-ghost use Rattle.vol_parts.specs.Chains.{held, follows, next_header, slots_from, cut, most_headers};
+ghost use Rattle.vol_parts.specs.Volumes.{volume, IsNumber, fields, headers_of, told};
+ghost use Rattle.vol_parts.specs.Chains.{held, cut, chain_of, is_broken, is_well_split};
+ghost use Rattle.vol_parts.specs.Fatal.{is_one_header, chain_fault};
 
 pub mod laws;
 
-use crate::bodies::slot_runs;
-use crate::heads::head;
+use crate::bodies::file_runs;
+use crate::finding::Finding;
+use crate::heads::fields;
+use crate::links::{MOST_HEADERS, next_header};
+use crate::one_slot::slot_runs;
 use base_words::Block;
-use fx_header::{Hdr, Run, Slot};
+use fx_header::{Hdr, Run};
 use fx_home::Home;
 use plain_cat::NoMemory;
 use std::alloc::Global;
 
-/// The most headers that a file has.
-pub const MOST_HEADERS: u32 = 16;
-
-// Whether a header is the next one of a file behind another one.
-#[tactic(auto, unfolding(crate::specs::Chains::follows))]
-fn follows(f: &Hdr, next: &Hdr) -> bool
-    ensures { result ≡ follows f.now next.now }
-{
-    next.num == f.ext && next.seq == f.ext_seq && u32::from(next.seg) == u32::from(f.seg) + 1
-}
-
-// The fields of the slot of a number, where the slot is used.
-fn used_slot(home: &Home, blocks: &[Block], n: u32) -> Option<Hdr>
-    requires limits { IsWithinLimits home.now }
-    requires number { IsNumber (volume home.now blocks.now) n }
-    ensures { result ≡ used_slot (volume home.now blocks.now) n }
-{
-    match head(home, blocks, n) {
-        Ok(Slot::Used(f)) => Some(f),
-        Ok(Slot::Free(_)) => None,
-        Err(_) => None,
-    }
-}
-
-// The next header of a file behind this one.
-#[tactic(auto, unfolding(crate::specs::Chains::next_header))]
-fn next_header(home: &Home, blocks: &[Block], f: &Hdr) -> Option<Hdr>
-    requires limits { IsWithinLimits home.now }
-    ensures { result ≡ next_header (headers_of (volume home.now blocks.now)) f.now }
-{
-    if f.ext < 1 || home.files < f.ext {
-        return None;
-    }
-    let next = used_slot(home, blocks, f.ext)?;
-    if follows(f, &next) { Some(next) } else { None }
-}
-
-// How many of so many blocks are left behind those of the runs that a slot lists.
-fn left_behind(home: &Home, blocks: &[Block], n: u32, left: u32) -> u32
+/// How many of so many blocks are left behind those of the runs that a slot lists.
+pub fn left_behind(home: &Home, blocks: &[Block], n: u32, left: u32) -> u32
     requires limits { IsWithinLimits home.now }
     requires number { IsNumber (volume home.now blocks.now) n }
     ensures { result ≡ left - held (headers_of (volume home.now blocks.now)) n }
@@ -65,37 +32,93 @@ fn left_behind(home: &Home, blocks: &[Block], n: u32, left: u32) -> u32
     left
 }
 
-/// The numbers of the header slots of a file, in order: that of its first header `first` in the slot `n`, and those to which the
-/// links lead, as far as the file's blocks go; 16 at most. An error says that memory ran out.
-#[tactic(auto, unfolding(crate::specs::Chains::slots_from))]
-pub fn chain_slots(
-    alloc: Global,
-    home: &Home,
-    blocks: &[Block],
-    n: u32,
-    first: &Hdr,
-) -> Result<Vec<u32>, NoMemory>
+// Whether a slot lists just so many blocks.
+fn has_blocks(home: &Home, blocks: &[Block], n: u32, count: u32) -> bool
     requires limits { IsWithinLimits home.now }
     requires number { IsNumber (volume home.now blocks.now) n }
-    ensures { IfOk result (λ slots. slots.items ≡ slots_from (headers_of (volume home.now blocks.now)) most_headers n first.now first.now.blocks) }
+    ensures { result ≡ (held (headers_of (volume home.now blocks.now)) n == count) }
 {
-    let mut slots = Vec::new(alloc);
+    let mut left = count;
+    for run in slot_runs(home, blocks, n) {
+        if left < run.count {
+            return false;
+        }
+        left -= run.count;
+    }
+    left == 0
+}
+
+/// Whether a file has one header alone: it has no link, and lists just the file's blocks. `first` is its first header, in the slot
+/// `n`.
+pub fn is_one_header(home: &Home, blocks: &[Block], n: u32, first: &Hdr) -> bool
+    requires limits { IsWithinLimits home.now }
+    requires number { IsNumber (volume home.now blocks.now) n }
+    requires first { fields (volume home.now blocks.now) n ≡ Some first.now }
+    ensures { result ≡ is_one_header first.now (told (volume home.now blocks.now) n) }
+{
+    first.ext == 0 && has_blocks(home, blocks, n, first.blocks)
+}
+
+// Whether the chain of a file ends before its blocks do.
+fn is_broken(home: &Home, blocks: &[Block], n: u32, first: &Hdr) -> bool
+    requires limits { IsWithinLimits home.now }
+    requires number { IsNumber (volume home.now blocks.now) n }
+    requires first { fields (volume home.now blocks.now) n ≡ Some first.now }
+    ensures { result ≡ is_broken first.now (chain_of (headers_of (volume home.now blocks.now)) n first.now) }
+{
+    let mut left = first.blocks;
+    for run in file_runs(home, blocks, n) {
+        left = left.saturating_sub(run.count);
+    }
+    left != 0
+}
+
+// Whether the clusters of a file are well split over its headers. Its chain is not broken.
+#[tactic(auto, unfolding(crate::specs::Chains::is_well_split))]
+fn is_well_split(home: &Home, blocks: &[Block], n: u32, first: &Hdr) -> bool
+    requires limits { IsWithinLimits home.now }
+    requires number { IsNumber (volume home.now blocks.now) n }
+    requires whole { is_broken first.now (chain_of (headers_of (volume home.now blocks.now)) n first.now) ≡ false }
+    ensures { result ≡ is_well_split home.now.cluster (chain_of (headers_of (volume home.now blocks.now)) n first.now) }
+{
+    let full = 77 * u32::from(home.cluster);
     let mut at = n;
     let mut header = *first;
     let mut left = first.blocks;
     for _count in 0..MOST_HEADERS {
-        slots.push(at)?;
-        left = left_behind(home, blocks, at, left);
-        if left == 0 {
-            return Ok(slots);
+        let behind = left_behind(home, blocks, at, left);
+        if behind == 0 {
+            return left <= full;
+        }
+        if left - behind != full {
+            return false;
         }
         let Some(next) = next_header(home, blocks, &header) else {
-            return Ok(slots);
+            return false;
         };
         at = header.ext;
         header = next;
+        left = behind;
     }
-    Ok(slots)
+    false
+}
+
+/// What is wrong with the chain of headers of a file, from 1 to the last: it ends before the file's blocks do, or its clusters are
+/// not well split over the headers. `None` where nothing is, and where the number has no first header of a file.
+#[tactic(auto, unfolding(crate::specs::Fatal::chain_fault))]
+pub fn chain_fault(home: &Home, blocks: &[Block], n: u32) -> Option<Finding>
+    requires limits { IsWithinLimits home.now }
+    requires number { IsNumber (volume home.now blocks.now) n }
+    ensures { result ≡ chain_fault (volume home.now blocks.now) n }
+{
+    let first = fields(home, blocks, n)?;
+    if is_broken(home, blocks, n, &first) {
+        return Some(Finding::ChainBroken(n));
+    }
+    if is_well_split(home, blocks, n, &first) {
+        return None;
+    }
+    Some(Finding::ChainSplit(n))
 }
 
 /// The first so many blocks of runs: the run in which they end is shortened. An error says that memory ran out.

@@ -7,8 +7,10 @@ ghost use Rattle.vol_parts.specs.Fatal.{has_dir_size, found_in, dir_fault};
 ghost use Rattle.vol_parts.specs.Firsts.{IsFirstOf};
 ghost use Rattle.vol_parts.specs.Conditions.{HasRunsInside, HasAllRunsInside, IsFirstDirFault};
 
-use crate::bodies::{fields, file_runs, run_blocks};
+use crate::bodies::{file_runs, run_blocks};
+use crate::chains::is_one_header;
 use crate::finding::Finding;
+use crate::heads::fields;
 use base_words::Block;
 use fx_dir::{DirFault, read_dir};
 use fx_header::{Hdr, Run};
@@ -62,7 +64,7 @@ fn blocks_fault(alloc: Global, blocks: &[Block], n: u32) -> Result<Option<Findin
     }
 }
 
-/// What is wrong with the directory of a number, from 1 to the last: its size, or the first fault of its blocks. `None` where
+/// What is wrong with the directory of a number, from 1 to the last: its headers or its size, or the first fault of its blocks. `None` where
 /// nothing is, and where the number has no directory. The runs of its file lie inside the whole clusters. An error says that
 /// memory ran out.
 #[tactic(auto, unfolding(crate::specs::Fatal::dir_fault))]
@@ -82,6 +84,9 @@ pub fn dir_fault(
     };
     if !f.dir {
         return Ok(None);
+    }
+    if !is_one_header(home, blocks, n, &f) {
+        return Ok(Some(Finding::DirSize(n)));
     }
     let Some(run) = dir_run(home, blocks, n, &f) else {
         return Ok(Some(Finding::DirSize(n)));

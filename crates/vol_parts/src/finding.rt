@@ -3,8 +3,8 @@ use fx_home::{HomeFault, ScbFault};
 use plain_cat::{Name, Uic};
 
 /// What is wrong with a volume. The fatal findings come first, in the order in which they are looked for, where the two of a
-/// header are one kind, and so are the four of a directory; of one kind the lowest number comes first. A volume that has one
-/// has no catalogue. Mending puts the others right.
+/// header are one kind, and so are the two of a chain and the four of a directory; of one kind the lowest number comes first. A
+/// volume that has one has no catalogue. Mending puts the others right.
 #[derive(Drop)]
 pub enum Finding {
     /// The home block is not one.
@@ -17,12 +17,19 @@ pub enum Finding {
     WrongNumber(u32),
 
     /// A file of number 1 to 11 is not what the volume's structure asks: in use under its own identifier, a directory or
-    /// not, not marked, and of the files 1, 2, 4, 10 and 11 one run of the stated size inside the whole clusters, which for
-    /// file 1 begins at LBN 0.
+    /// not, not marked, with one header that lists just the file's blocks and has no link, and of the files 1, 2, 4, 10 and 11
+    /// one run of the stated size inside the whole clusters, which for file 1 begins at LBN 0.
     SystemFile(u32),
 
     /// The storage control block is not one, or says another cluster factor or size.
     Scb(ScbFault),
+
+    /// The chain of headers of this file, whose number is above 11, ends before the blocks do that the first header says.
+    ChainBroken(u32),
+
+    /// The clusters of this file, whose number is above 11, are not well split over its headers: each but the last should have
+    /// 77, and the last one 77 at most.
+    ChainSplit(u32),
 
     /// A run of this file does not begin and end at a cluster's bounds, or is not inside the whole clusters.
     Runs(u32),
@@ -33,7 +40,7 @@ pub enum Finding {
     /// This cluster is in two runs.
     SharedCluster(u32),
 
-    /// This directory is not one cluster in one run, with its end after its last block and no mark.
+    /// This directory is not one cluster in one run, in one header, with its end after its last block and no mark.
     DirSize(u32),
 
     /// A block of this directory is no list of records.
@@ -54,7 +61,7 @@ pub enum Finding {
     /// The storage bitmap says that this cluster is free, and a file has it.
     FreeCluster(u32),
 
-    /// The index-file bitmap says that this number is free, and a file has it.
+    /// The index-file bitmap says that this number is free, and its header slot is used.
     FreeNumber(u32),
 
     /// The master file directory lacks the entry of this system file: its name, version 1, and its own identifier.
@@ -83,6 +90,12 @@ pub enum Finding {
 
     /// This file is in no directory.
     Lost(u32),
+
+    /// Something is listed behind the blocks of this file, or a link leads on.
+    Surplus(u32),
+
+    /// The header of this number is not the first one of a file, and in no file's chain.
+    Stray(u32),
 
     /// So many clusters are neither free nor in a file.
     LeakedClusters(u32),

@@ -16,6 +16,7 @@ use Rattle.vol_parts.specs.declared.geometry.Geometry.{Geometry}
 use Rattle.vol_mends.specs.Told.{IsTold}
 use Rattle.vol_rebuild.specs.Leaving.{gone_numbers}
 use Rattle.vol_rebuild.specs.Steps.{AreSingles, IsStripped, AreEntered, AreFreed, IsTidy, AreSummed}
+use Rattle.vol_rebuild.specs.Tails.{AreTailsClear}
 use Rattle.vol_rebuild.specs.Ways.{IsWay}
 use Rattle.vol_rebuild.specs.Rebuilt.{IsRebuilt}
 use Rattle.vol_rebuild.proofs.Stepping.{way_mends}
@@ -67,7 +68,9 @@ pub record AreSteps (g : Geometry) (old new : List Block) (c : Cat) (done : Mend
   pub packs : AreSingles g packed_blocks
   pub enters : AreEntered g first second packed_blocks entered_blocks done.entered
   pub frees : AreFreed g second third entered_blocks freed_blocks done.gone
-  pub tidies : IsTidy g third freed_blocks tidy_blocks
+  pub cleared_blocks : List Block
+  pub clears : AreTailsClear g third freed_blocks cleared_blocks
+  pub tidies : IsTidy g third cleared_blocks tidy_blocks
   pub sums : AreSummed g (without_leaks third) tidy_blocks new
   pub clusters : done.clusters ≡ c.leaked
   pub numbers : done.numbers ≡ count_by is_true c.leaked_numbers
@@ -81,7 +84,7 @@ rebuilt g old new c done s = record {
   after = last;
   told = s.told.cat;
   mends = mends;
-  accepted = done_is_accepted.accepted g new last s.sums.told finished (λ n is. s.sums.singles n is (s.tidies.singles n is (s.frees.singles n is (s.enters.singles n is (s.packs n is)))));
+  accepted = done_is_accepted.accepted g new last s.sums.told finished (s.sums.clean (s.tidies.clean s.clears.clean)) (λ n is. s.sums.singles n is (s.tidies.singles n is (s.clears.singles n is (s.frees.singles n is (s.enters.singles n is (s.packs n is))))));
   left = s.sums.told.cat;
 } where
   last : Cat

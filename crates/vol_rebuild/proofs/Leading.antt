@@ -5,27 +5,19 @@ use Rattle.std.specs.Str.{bytes_eq}
 use Rattle.std.proofs.lemmas.Bool.{cases_lt, eq-eqb, cases_eq}
 use Rattle.std.proofs.lemmas.Slice.Eq.{bytes_eq-Decides}
 use Rattle.base_words.specs.Fields.{Block}
-use Rattle.fx_header.specs.Pointers.{lbns_in}
 use Rattle.fx_dir.specs.declared.Move.{Move}
 use Rattle.plain_cat.specs.declared.entries.DirEnt.{DirEnt}
 use Rattle.plain_cat.specs.declared.cat.Cat.{Cat}
-use Rattle.plain_cat.specs.declared.cat.File.{File}
-use Rattle.plain_rules.specs.Lookups.{file_at, versions, first_with}
+use Rattle.plain_rules.specs.Lookups.{versions, first_with}
 use Rattle.plain_rules.specs.Directories.{is_taken}
 use Rattle.base_words.specs.Lists.{Has}
 use Rattle.vol_parts.specs.declared.geometry.Geometry.{Geometry}
-use Rattle.vol_parts.specs.Volumes.{runs_with}
 use Rattle.vol_spell.specs.Reading.{IsFileNumber, header_block}
 use Rattle.vol_mends.specs.Mends.{Mends}
 use Rattle.vol_spell.specs.Entries.{places_in, after_moves}
 use Rattle.vol_mends.specs.Told.{IsTold, IsSingle, KeepsSingles}
 use Rattle.vol_mends.specs.Moving.{MovesLead}
-use Rattle.vol_rebuild.specs.Places.{written_at, places_told, DirLeads}
-use Rattle.vol_rebuild.proofs.Reading.{header_of}
-
--- where the blocks of a file are, by its header
-pub places_used : (g : Geometry) (bs : List Block) (c : Cat) (t : IsTold g bs c) (n : ℕ) (f : File) → file_at c n ≡ Some f → places_told (header_block g bs n) ≡ places_in (header_block g bs n)
-places_used g bs c t n f at = let h = header_of g bs c t n f at in ap (λ o. lbns_in (runs_with o (header_block g bs n))) h.at
+use Rattle.vol_rebuild.specs.Places.{written_at, DirLeads}
 
 take_past : (k : ℕ) (ms : List Move) → length ms ≤ k → take k ms ≡ ms
 take_past zero [] h = refl

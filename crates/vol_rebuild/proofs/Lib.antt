@@ -6,6 +6,7 @@ pub mod Going
 pub mod Entering
 pub mod Reading
 pub mod Finishing
+pub mod Flagging
 pub mod Leading
 pub mod Setting
 pub mod Directing
@@ -16,3 +17,5 @@ pub mod Spacing
 pub mod Usages
 pub mod Stripping
 pub mod Lacking
+pub mod Tailing
+pub mod Surpluses

@@ -1,6 +1,7 @@
 -- The storage bitmap, block by block.
 use Rattle.std.proofs.Common.{◌≡◌, ◌==◌, ◌≤◌, ◌<◌, ◌+◌, ◌/◌, ◌%◌, ◌∙◌, ◌⊎◌, inl, inr, ℕ, not, List, Ok, length, sym, ap, subst, arith}
-use Rattle.std.specs.Prelude.{slice_index, slice_set}
+use Rattle.std.specs.Prelude.{slice_index, slice_set, Result, OnOk}
+use Rattle.std.proofs.lemmas.Result.{on_ok_weaker}
 use Rattle.std.proofs.lemmas.Bool.{cases_lt}
 use Rattle.base_words.specs.Fields.{Block, IsWholeBlock}
 use Rattle.fx_home.specs.declared.home.Home.{Home}
@@ -16,10 +17,11 @@ use Rattle.vol_faults.specs.Counts.{AreCounts}
 use Rattle.vol_spell.specs.Reading.{total_of}
 use Rattle.vol_spell.specs.Places.{place_of}
 use Rattle.vol_mends.specs.Told.{IsTold, LeadsTo}
-use Rattle.vol_mends.specs.Bits.{AreSpaceBits, SpaceIsSet}
+use Rattle.vol_mends.specs.Bits.{AreSpaceBits, SpaceIsSet, numbers_left}
 use Rattle.vol_mends.proofs.ClusterBits.{clusters_are_set}
 use Rattle.vol_mends.proofs.Seeing.{volume_is_seen}
-use Rattle.vol_rebuild.specs.Space.{IsCounted, IsSpaceSet}
+use Rattle.vol_rebuild.specs.Space.{IsCounted, IsSpaceSet, IsSpaceTidy}
+use Rattle.vol_rebuild.specs.Steps.{AreNumbersSet, IsTidy}
 use Rattle.vol_rebuild.proofs.Setting.{none_counted}
 
 -- what is counted
@@ -69,6 +71,7 @@ module _ (g : Geometry) (home : Home) (counts : List ℕ) (bs : List Block) (c :
     here = λ q lt e. set.here q e ∙ bits q (within q lt) e;
     elsewhere = set.elsewhere;
     singles = set.singles;
+    clean = set.clean;
   }
 
 -- where each block is written, nothing is leaked
@@ -90,3 +93,8 @@ set_more g home counts bs new c k before s q lt to = by_place (cases_lt (q / 409
 -- a block of the storage bitmap is on the volume
 pub storage_on : (g : Geometry) (home : Home) (counts : List ℕ) (bs : List Block) (c : Cat) (k : ℕ) → IsCounted g home counts bs c → k < storage_blocks (total_of g) → place_of g (Storage k) < length bs
 storage_on g home counts bs c k h block = clusters_are_set.within g bs (record c { leaked = h.left }) k h.told block
+
+-- the bits of all numbers, and then those of all clusters
+pub tidied : {E : Type 0} (g : Geometry) (bs mid new : List Block) (c : Cat) (r : Result Unit E) → AreNumbersSet g bs mid c → OnOk r (IsSpaceTidy g mid new (numbers_left c)) → OnOk r (IsTidy g c bs new)
+tidied g bs mid new c r set h =
+    on_ok_weaker r (λ (t : IsSpaceTidy g mid new (numbers_left c)). record { told = t.told; singles = λ n is k. t.singles n is (set.singles n is k); clean = λ k. t.clean (set.clean k) }) h

@@ -16,6 +16,7 @@ use Rattle.vol_parts.specs.Volumes.{rows_in}
 use Rattle.vol_spell.specs.Places.{place_of}
 use Rattle.vol_analyze.specs.Conditions.{HasFileSizes}
 use Rattle.vol_mends.specs.Told.{IsTold, LeadsTo, KeepsSingles}
+use Rattle.vol_mends.specs.Clean.{KeepsClean}
 use Rattle.vol_mends.specs.Rows.{sum_of, summed, quota_block, AreSums, UsageIsSet}
 use Rattle.vol_mends.proofs.Summing.{rows_are_summed}
 use Rattle.vol_rebuild.specs.Steps.{IsOfFiles, AreSummed}
@@ -97,6 +98,7 @@ module _ (g : Geometry) (bs : List Block) (cat c : Cat) (k : ℕ) (b : Block) (o
         (subst (λ (rs : List Row). All (λ (r : Row). r.usage ≡ sum_of c r) rs) (sym rows_c) (all_right c (rows_in (quota_block g bs k))));
     elsewhere = λ j other. index_else bs (place_of g (Quota k)) (place_of g (Quota j)) b [] (λ e. other (omega (arith, e)));
     singles = set.singles;
+    clean = set.clean;
   }
 
 -- one block more is right
@@ -111,10 +113,11 @@ right_more g bs new c d k same before s j to = by_place (cases_lt j k) where
 
 -- ---- all of them
 
-pub all_sums : (g : Geometry) (old new : List Block) (c : Cat) (rows : List QuotaRow) → IsTold g new (record c { quota = rows }) → ((j : ℕ) → j < g.cluster → AreRight g new c j) → KeepsSingles g old new → AreSummed g c old new
-all_sums g old new c rows t right singles = record {
+pub all_sums : (g : Geometry) (old new : List Block) (c : Cat) (rows : List QuotaRow) → IsTold g new (record c { quota = rows }) → ((j : ℕ) → j < g.cluster → AreRight g new c j) → KeepsSingles g old new → KeepsClean g old new → AreSummed g c old new
+all_sums g old new c rows t right singles clean = record {
   rows = rows;
   told = t;
   usage = rows_are_summed.all g new (record c { quota = rows }) t right;
   singles = singles;
+  clean = clean;
 }

@@ -6,3 +6,4 @@ pub mod Places
 pub mod Leaving
 pub mod Space
 pub mod Sums
+pub mod Tails

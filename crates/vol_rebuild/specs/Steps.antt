@@ -13,6 +13,8 @@ use Rattle.vol_mends.specs.Going.{Change}
 use Rattle.vol_parts.specs.declared.geometry.Geometry.{Geometry}
 use Rattle.vol_spell.specs.Reading.{IsFileNumber}
 use Rattle.vol_mends.specs.Told.{IsTold, IsSingle, KeepsSingles}
+use Rattle.vol_mends.specs.Clean.{KeepsClean}
+use Rattle.vol_mends.specs.Bits.{numbers_left}
 use Rattle.vol_rebuild.specs.Leaving.{gone_numbers}
 
 -- how many files there are
@@ -103,10 +105,17 @@ pub record AreFreed (g : Geometry) (c d : Cat) (old new : List Block) (k : ℕ) 
   pub files : used_count d + k ≡ used_count c
   pub singles : KeepsSingles g old new
 
+-- no number is leaked
+pub record AreNumbersSet (g : Geometry) (old new : List Block) (c : Cat) : Type 0 where
+  pub told : IsTold g new (numbers_left c)
+  pub singles : KeepsSingles g old new
+  pub clean : KeepsClean g old new
+
 -- nothing is leaked
 pub record IsTidy (g : Geometry) (c : Cat) (old new : List Block) : Type 0 where
   pub told : IsTold g new (without_leaks c)
   pub singles : KeepsSingles g old new
+  pub clean : KeepsClean g old new
 
 -- a catalogue has these files
 pub record IsOfFiles (files c : Cat) : Type 0 where
@@ -119,3 +128,4 @@ pub record AreSummed (g : Geometry) (c : Cat) (old new : List Block) : Type 0 wh
   pub told : IsTold g new (record c { quota = rows })
   pub usage : All (λ (r : QuotaRow). r.usage ≡ charge c r.owner) rows
   pub singles : KeepsSingles g old new
+  pub clean : KeepsClean g old new

@@ -6,6 +6,7 @@ use Rattle.plain_cat.specs.declared.cat.QuotaRow.{QuotaRow}
 use Rattle.vol_parts.specs.declared.geometry.Geometry.{Geometry}
 use Rattle.vol_parts.specs.Volumes.{rows_in}
 use Rattle.vol_mends.specs.Told.{IsTold, KeepsSingles}
+use Rattle.vol_mends.specs.Clean.{KeepsClean}
 use Rattle.vol_mends.specs.Rows.{sum_of, quota_block}
 
 -- the rows of quota block k have the usages that the files of c cost
@@ -19,3 +20,4 @@ pub record IsQuotaSet (g : Geometry) (old new : List Block) (c : Cat) (k : ℕ) 
   pub here : AreRight g new c k
   pub elsewhere : (j : ℕ) → j ≢ k → quota_block g new j ≡ quota_block g old j
   pub singles : KeepsSingles g old new
+  pub clean : KeepsClean g old new

@@ -1,25 +1,25 @@
-//! Step 4: the bitmaps get the bits that the headers ask for.
+//! Step 5: the bitmaps get the bits that the headers ask for.
 
-ghost use Rattle.std.specs.Prelude.{◌≡◌, ◌≤◌, ◌<◌, ◌-◌, ◌/◌, ◌%◌, ◌==◌, ℕ, Err, length, is_some, slice_index, if◌then◌else◌, IfOk, OnOk};
+ghost use Rattle.std.specs.Prelude.{◌≡◌, ◌≤◌, ◌<◌, ◌-◌, ◌/◌, ◌%◌, ◌==◌, ℕ, Err, false, length, slice_index, slice_index_or, if◌then◌else◌, IfOk, OnOk};
 ghost use Rattle.fx_bitmap.specs.Bits.{bit_at};
 ghost use Rattle.plain_cat.specs.declared.cat.Cat.{Cat};
-ghost use Rattle.plain_rules.specs.Lookups.{file_at};
 ghost use Rattle.vol_parts.specs.declared.geometry.Geometry.{Geometry};
 ghost use Rattle.vol_parts.specs.Parts.{IsGeometry, storage_blocks};
 ghost use Rattle.vol_spell.specs.Reading.{total_of};
-ghost use Rattle.vol_mends.specs.Told.{IsTold, KeepsSingles};
-ghost use Rattle.vol_mends.specs.Bits.{numbers_left};
-ghost use Rattle.vol_rebuild.specs.Steps.{IsTidy};
+ghost use Rattle.vol_mends.specs.Told.{IsTold};
+ghost use Rattle.vol_mends.specs.Clean.{IsClean};
+ghost use Rattle.vol_rebuild.specs.Steps.{AreNumbersSet, IsTidy};
 ghost use Rattle.vol_rebuild.specs.Space.{IsCounted, IsSpaceSet, IsSpaceTidy};
 ghost use Rattle.vol_rebuild.specs.Ways.{IsStep};
 
 use crate::fault::StepFault;
+use crate::flags::{flagged, home_of};
 use crate::making::{block_is_whole, make_other};
 use base_words::Block;
 use blk_drive::{ImageDev, Mirror};
 use fx_bitmap::{clear_bits, set_bits};
-use fx_home::{Home, read_home};
-use plain_cat::{Cat, NoMemory, Slot};
+use fx_home::Home;
+use plain_cat::NoMemory;
 use std::alloc::Global;
 use vol_faults::count_clusters;
 use vol_parts::Geometry;
@@ -36,28 +36,29 @@ fn put_bit(b: &mut Block, i: u32, value: bool)
     }
 }
 
-// A block of the index-file bitmap in which the numbers that files have are in use, and no others.
-fn index_block(old: &Block, cat: &Cat) -> Block
-    requires { length cat.now.files ≤ 4096 }
-    ensures { (n : ℕ) → 1 ≤ n → n ≤ length cat.now.files → bit_at result (n - 1) ≡ is_some (file_at cat.now n) }
+// A block of the index-file bitmap in which the numbers of header slots of files, which have a flag, are in use, and no others.
+fn index_block(old: &Block, flags: &[bool]) -> Block
+    requires { length flags.now ≤ 4096 }
+    ensures { (i : ℕ) → i < length flags.now → bit_at result i ≡ slice_index_or flags.now i false }
 {
     let mut b = *old;
-    for (i, slot) in cat.files.items().iter().enumerate() {
-        put_bit(&mut b, i as u32, matches!(slot, Slot::Used(_)));
+    for (i, flag) in flags.iter().enumerate() {
+        put_bit(&mut b, i as u32, *flag);
     }
     b
 }
 
 // Writes the index-file bitmap, unless it says what the headers say.
-fn set_index<I: ImageDev>(m: &mut Mirror<I>, g: &Geometry, cat: &Cat) -> Result<(), StepFault>
-    requires told { IsTold g.now m.old.blocks cat.now }
+fn set_index<I: ImageDev>(alloc: Global, m: &mut Mirror<I>, g: &Geometry) -> Result<(), StepFault>
     requires geometry { IsGeometry g.now }
+    requires told { (c : Cat) × IsTold g.now m.old.blocks c }
+    requires clean { IsClean g.now m.old.blocks }
     ensures step { IsStep m.old.blocks m.new.blocks (I.told m.old.image) (I.told m.new.image) (I.faults m.old.image) (I.faults m.new.image) (result ≡ Err StepFault.ImageFault) }
-    ensures told { OnOk result (IsTold g.now m.new.blocks (numbers_left cat.now)) }
-    ensures singles { OnOk result (KeepsSingles g.now m.old.blocks m.new.blocks) }
+    ensures ok { (c : Cat) → IsTold g.now m.old.blocks c → OnOk result (AreNumbersSet g.now m.old.blocks m.new.blocks c) }
 {
+    let flags = flagged(alloc, m.all())?;
     let lbn = 4 * g.cluster;
-    let b = index_block(m.read(lbn), cat);
+    let b = index_block(m.read(lbn), flags.items());
     block_is_whole(b);
     make_other(m, lbn, &b)
 }
@@ -102,9 +103,7 @@ fn counted(alloc: Global, blocks: &[Block]) -> Result<(Home, Vec<u8>), NoMemory>
     requires { (g : Geometry) × (c : Cat) × IsTold g blocks.now c }
     ensures { IfOk result (λ p. (g : Geometry) (c : Cat) → IsTold g blocks.now c → IsCounted g p.0 p.1.items blocks.now c) }
 {
-    let Ok(home) = read_home(&blocks[1]) else {
-        unreachable!()
-    };
+    let home = home_of(blocks);
     let counts = count_clusters(alloc, &home, blocks)?;
     Ok((home, counts))
 }
@@ -128,13 +127,13 @@ pub(crate) fn set_all_bits<I: ImageDev>(
     alloc: Global,
     m: &mut Mirror<I>,
     g: &Geometry,
-    cat: &Cat,
 ) -> Result<(), StepFault>
-    requires told { IsTold g.now m.old.blocks cat.now }
     requires geometry { IsGeometry g.now }
+    requires told { (c : Cat) × IsTold g.now m.old.blocks c }
+    requires clean { IsClean g.now m.old.blocks }
     ensures step { IsStep m.old.blocks m.new.blocks (I.told m.old.image) (I.told m.new.image) (I.faults m.old.image) (I.faults m.new.image) (result ≡ Err StepFault.ImageFault) }
-    ensures ok { OnOk result (IsTidy g.now cat.now m.old.blocks m.new.blocks) }
+    ensures ok { (c : Cat) → IsTold g.now m.old.blocks c → OnOk result (IsTidy g.now c m.old.blocks m.new.blocks) }
 {
-    set_index(m, g, cat)?;
+    set_index(alloc, m, g)?;
     set_space(alloc, m, g)
 }

@@ -18,6 +18,7 @@ mod bits;
 mod doubles;
 mod entries;
 mod fault;
+mod flags;
 mod lost;
 mod making;
 mod mending;
@@ -25,6 +26,8 @@ mod names;
 mod places;
 mod rows;
 mod slots;
+mod surplus;
+mod tails;
 
 pub use fault::RebuildFault;
 pub use mending::rebuild;

@@ -23,6 +23,7 @@ use crate::fault::{RebuildFault, StepFault};
 use crate::lost::enter_lost;
 use crate::rows::set_usages;
 use crate::slots::free_slots;
+use crate::tails::clear_tails;
 use blk_drive::{ImageDev, Mirror};
 use plain_cat::{Cat, Mended};
 use std::alloc::Global;
@@ -70,7 +71,8 @@ fn mend<I: ImageDev>(
     pack_doubles(alloc, m, g, cat)?;
     let entered = enter_lost(alloc, m, g, cat)?;
     let gone = free_slots(alloc, m, g, cat)?;
-    set_all_bits(alloc, m, g, cat)?;
+    clear_tails(alloc, m, g)?;
+    set_all_bits(alloc, m, g)?;
     set_usages(m, g, cat)?;
     Ok(Mended {
         entered,
@@ -83,9 +85,10 @@ fn mend<I: ImageDev>(
 
 /// Mends a volume, which has 64 to 65,536 blocks. Entries that name no live file, or of which their file keeps another one, are
 /// removed, and those that stand in two blocks are packed away; files in no directory are entered in `[SYSLOST]`, an empty one only if
-/// there is room; files that are marked for delete or still in no directory are freed; and the bitmaps and the usages of the quota
-/// rows are set to what the headers say. A block that would not change is not written. After each of the writes the blocks have no
-/// fatal finding and mend to the same catalogue, so a mending that is stopped can be made again.
+/// there is room; files that are marked for delete or still in no directory are freed; the last header of a file that lists or links
+/// more than the file has is cut to the file's blocks; header slots that no file has become free; and the bitmaps and the usages of
+/// the quota rows are set to what the headers say. A block that would not change is not written. After each of the writes the blocks
+/// have no fatal finding and mend to the same catalogue, so a mending that is stopped can be made again.
 ///
 /// What was done is counted. `NotMendable` tells the first fatal finding, if there is one, and nothing is written then. `ImageFault`
 /// comes where a write of the image failed, and `NoMemory` where memory ran out, before the first write or between two.

@@ -1,9 +1,11 @@
 //! The blocks of a directory, and where they stand.
 
-ghost use Rattle.std.specs.Prelude.{◌≡◌, ◌<◌, ◌++◌, ◌+◌, All, length, IfOk, OnOk};
+ghost use Rattle.std.specs.Prelude.{◌≡◌, ◌<◌, ◌++◌, ◌+◌, All, length, IfOk, IsTrue, OnOk};
+ghost use Rattle.fx_header.specs.Headers.{has_offsets, has_map, runs_in};
+ghost use Rattle.fx_header.specs.Pointers.{lbns_in};
 ghost use Rattle.std.specs.List.{range_with_len};
 ghost use Rattle.vol_spell.specs.Spread.{blocks_at};
-ghost use Rattle.vol_spell.specs.Reading.{header_block};
+ghost use Rattle.vol_spell.specs.Reading.{header_block, runs_told};
 ghost use Rattle.vol_rebuild.specs.Places.{places_told, IsThere};
 
 use base_words::Block;
@@ -11,7 +13,7 @@ use fx_dir::Move;
 use fx_header::{Run, Slot, read_header, runs};
 use plain_cat::NoMemory;
 use std::alloc::Global;
-use vol_parts::Geometry;
+use vol_parts::{Geometry, cut};
 
 // The blocks of a directory, and the LBN of each.
 #[derive(Drop)]
@@ -37,18 +39,50 @@ fn push_run(all: &mut Vec<usize>, run: Run) -> Result<(), NoMemory>
     Ok(())
 }
 
-// The LBNs of the blocks of a file, by its header.
+// The runs that a header lists.
+fn listed(alloc: Global, header: &Block) -> Result<Vec<Run>, NoMemory>
+    requires offsets { IsTrue (has_offsets header.now) }
+    requires map { IsTrue (has_map header.now) }
+    ensures { IfOk result (λ v. v.items ≡ runs_in header.now) }
+{
+    let mut all = Vec::new(alloc);
+    for run in runs(header) {
+        all.push(run)?;
+    }
+    Ok(all)
+}
+
+// The runs of a file that has one header, by this header: none where it is no first header in use.
+pub(crate) fn first_runs(alloc: Global, header: &Block) -> Result<Vec<Run>, NoMemory>
+    ensures { IfOk result (λ v. v.items ≡ runs_told header.now) }
+{
+    let Ok(Slot::Used(f)) = read_header(header) else {
+        return Ok(Vec::new(alloc));
+    };
+    if f.seg != 0 {
+        return Ok(Vec::new(alloc));
+    }
+    let listed = listed(alloc, header)?;
+    cut(alloc, listed.as_slice(), f.blocks)
+}
+
+// The LBNs of the blocks of runs, in order.
+fn lbns(alloc: Global, runs: &[Run]) -> Result<Vec<usize>, NoMemory>
+    ensures { IfOk result (λ v. v.items ≡ lbns_in runs.now) }
+{
+    let mut all = Vec::new(alloc);
+    for run in runs {
+        push_run(&mut all, *run)?;
+    }
+    Ok(all)
+}
+
+// The LBNs of the blocks of a file that has one header, by this header.
 fn places(alloc: Global, header: &Block) -> Result<Vec<usize>, NoMemory>
     ensures { IfOk result (λ v. v.items ≡ places_told header.now) }
 {
-    let mut all = Vec::new(alloc);
-    let Ok(Slot::Used(_)) = read_header(header) else {
-        return Ok(all);
-    };
-    for run in runs(header) {
-        push_run(&mut all, run)?;
-    }
-    Ok(all)
+    let runs = first_runs(alloc, header)?;
+    lbns(alloc, runs.as_slice())
 }
 
 // The blocks at these LBNs.

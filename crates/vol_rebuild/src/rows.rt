@@ -1,4 +1,4 @@
-//! Step 5: the usages of the quota rows become what the owners' files cost.
+//! Step 6: the usages of the quota rows become what the owners' files cost.
 
 ghost use Rattle.std.specs.Prelude.{◌≡◌, ◌≤◌, ◌<◌, ◌==◌, ℕ, Err, length, map, option_map, if◌then◌else◌, OnOk};
 ghost use Rattle.fx_quota.specs.Rows.{row_at};

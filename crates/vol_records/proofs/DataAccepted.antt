@@ -31,6 +31,8 @@ use Rattle.vol_spell.specs.Views.{IsSameFile}
 use Rattle.vol_spell.proofs.Placing.{ranged_has}
 use Rattle.vol_mends.specs.Weak.{shut}
 use Rattle.vol_mends.specs.Told.{IsTold, IsSingle}
+use Rattle.vol_mends.specs.Clean.{KeepsClean}
+use Rattle.vol_mends.proofs.NoTails.{accepted_is_clean}
 use Rattle.vol_mends.proofs.AcceptedSteps.{accepted_is_sound, told_shut}
 use Rattle.vol_mends.proofs.OneWrite.{doubles_told, single_same}
 use Rattle.vol_mends.proofs.Finished.{done_is_accepted}
@@ -58,7 +60,7 @@ no_double (Some h) xs flat = by_dir h.dir (flat h refl) where
   by_dir false e = refl
 
 module _ (g : Geometry) (bs new : List Block) (own : Owners) (c : Cat) (n : ℕ) (f : File) (mark end byte : ℕ) (blocks : List Block) (has : HasPlainFile g bs own c n f)
-    (s : Spells g new own (with_file c n (with_data f mark end byte blocks))) (others : (m : ℕ) → IsFileNumber g m → (m ≡ n → ⊥) → IsSameFile g bs new m) where
+    (s : Spells g new own (with_file c n (with_data f mark end byte blocks))) (others : (m : ℕ) → IsFileNumber g m → (m ≡ n → ⊥) → IsSameFile g bs new m) (clean : KeepsClean g bs new) where
   abbrev d : Cat
   d = with_file c n (with_data f mark end byte blocks)
 
@@ -122,7 +124,7 @@ module _ (g : Geometry) (bs new : List Block) (own : Owners) (c : Cat) (n : ℕ)
     by_case (inr other) = single_same g bs new own own c d has.spells s m is (others m is other) (was_single m is)
 
   accepted : AreAccepted g new d
-  accepted = record { accepted = done_is_accepted.accepted g new d told done single; told = told }
+  accepted = record { accepted = done_is_accepted.accepted g new d told done (clean (accepted_is_clean g bs c has.told has.accepted)) single; told = told }
 
 pub data_is_accepted : DataIsAccepted
 data_is_accepted = accepted

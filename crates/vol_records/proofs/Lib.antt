@@ -6,10 +6,12 @@ pub mod TextLines
 pub mod Exact
 pub mod Faults
 pub mod Showing
+pub mod WholeFiles
 pub mod Shown
 pub mod DataKeeps
 pub mod NothingLeft
 pub mod DataAccepted
+pub mod StoreClean
 pub mod StoreSteps
 pub mod StoreWrites
 pub mod Chunks

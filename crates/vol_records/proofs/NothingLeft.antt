@@ -33,7 +33,7 @@ use Rattle.vol_parts.specs.declared.finding.Finding.TheVariants as finding
 use Rattle.vol_parts.specs.declared.geometry.Geometry.{Geometry}
 use Rattle.vol_parts.specs.Volumes.{Volume, volume, numbers}
 use Rattle.vol_parts.specs.Catalogues.{catalogue, plain_entries}
-use Rattle.vol_parts.specs.Warnings.{is_marked, names_none, is_second, names_none_found, second_found, has_doubles, is_lost_file, if_any, is_miscounted, usage_found, warnings}
+use Rattle.vol_parts.specs.Warnings.{is_marked, names_none, is_second, names_none_found, second_found, has_doubles, is_lost_file, has_surplus, is_stray, if_any, is_miscounted, usage_found, warnings}
 use Rattle.vol_parts.specs.Findings.{home_at, Weak, IsFirstFatal, Accepts, AreWarningsBy, IsCatalogueBy, CatOf}
 use Rattle.vol_spell.specs.Owners.{Owners}
 use Rattle.vol_spell.specs.Reading.{IsFileNumber, told_of, body_blocks}
@@ -93,17 +93,19 @@ are_none v e =
     let r3 = none_right (map second_found (filter (is_second c) (places c))) _ r2 in
     let r4 = none_right (map finding.Doubles (filter (has_doubles v) (numbers v))) _ r3 in
     let r5 = none_right (map finding.Lost (numbers_from (is_lost_file c) 1 c.files)) _ r4 in
-    let r6 = none_right (if_any finding.LeakedClusters c.leaked) _ r5 in
-    let r7 = none_right (if_any finding.LeakedNumbers (count_by is_true c.leaked_numbers)) _ r6 in
+    let r6 = none_right (map finding.Surplus (filter (has_surplus v) (numbers v))) _ r5 in
+    let r7 = none_right (map finding.Stray (filter (is_stray v) (numbers v))) _ r6 in
+    let r8 = none_right (if_any finding.LeakedClusters c.leaked) _ r7 in
+    let r9 = none_right (if_any finding.LeakedNumbers (count_by is_true c.leaked_numbers)) _ r8 in
     record {
       marks = none_mapped finding.Marked _ (none_left _ _ e);
       named = none_mapped names_none_found _ (none_left _ _ r1);
       seconds = none_mapped second_found _ (none_left _ _ r2);
       doubles = none_mapped finding.Doubles _ (none_left _ _ r3);
       lost = none_mapped finding.Lost _ (none_left _ _ r4);
-      clusters = none_if finding.LeakedClusters _ (none_left _ _ r5);
-      numbers = none_if finding.LeakedNumbers _ (none_left _ _ r6);
-      usage = none_mapped (usage_found c) _ r7;
+      clusters = none_if finding.LeakedClusters _ (none_left _ _ r7);
+      numbers = none_if finding.LeakedNumbers _ (none_left _ _ r8);
+      usage = none_mapped (usage_found c) _ r9;
     }
 
 -- ---- so nothing is left

@@ -25,13 +25,14 @@ use Rattle.plain_cat.specs.declared.cat.Slot.{Slot}
 use Rattle.plain_rules.specs.Lookups.{file_in, of_seq, in_use}
 use Rattle.vol_parts.specs.Volumes.{Volume, volume, IsNumber, factor, first_head, fields_in, fields, runs, body}
 use Rattle.vol_parts.specs.Catalogues.{is_structure, file_of, slot_with, slot_of, files_of, catalogue}
-use Rattle.vol_parts.specs.Conditions.{HasRunsInside, HasAllRunsInside}
+use Rattle.vol_parts.specs.Conditions.{HasRunsInside}
 use Rattle.vol_parts.specs.Findings.{home_at}
 use Rattle.vol_parts.proofs.Runs.{Inside, inside-others}
-use Rattle.vol_parts.proofs.Sizes.{length-body, blocks-size}
+use Rattle.vol_parts.proofs.Sizes.{length-body}
 use Rattle.vol_faults.proofs.CountLemmas.{on-bounds}
 use Rattle.vol_spell.proofs.Picking.{get_along}
-use Rattle.vol_analyze.proofs.Weakly.{home-read, cat-told, weak-volume, runs-inside}
+use Rattle.vol_analyze.proofs.Weakly.{IsWeak, home-read, cat-told, weak-volume, runs-inside}
+use Rattle.vol_records.proofs.WholeFiles.{file-whole}
 use Rattle.vol_records.specs.Streams.{shown_blocks, bytes_before, stream_in, plain_fields, plain_file, stream_of, stream_by, plain_only, shown_stream, ShowsStreams}
 
 -- ---- sizes
@@ -53,9 +54,10 @@ left-out : (a b c : ℕ) → a ≡ 0 → a + b ≡ c → b ≡ c
 left-out a b c none e = omega arith
 
 -- the clusters of a file are its blocks
-clusters-blocks : (v : Volume) (n : ℕ) (f : Hdr) → HasRunsInside v n → fields v n ≡ Some f → f.blocks / factor v * factor v ≡ length (body v n)
-clusters-blocks v n f inside e =
-    let same = blocks-size v n f e in
+clusters-blocks : (v : Volume) (n : ℕ) (f : Hdr) → IsWeak v → IsNumber v n → fields v n ≡ Some f → f.blocks / factor v * factor v ≡ length (body v n)
+clusters-blocks v n f weak number e =
+    let same = file-whole v n f weak number e in
+    let inside : HasRunsInside v n = (runs-inside v weak).inside n number in
     let whole : f.blocks % factor v ≡ 0 = ap (λ k. k % factor v) (same ∙ length-body v n) ∙ whole-blocks v (runs v n) inside.inside in
     left-out (f.blocks % factor v) (f.blocks / factor v * factor v) f.blocks whole (mod-add-div' f.blocks (factor v)) ∙ same
 
@@ -88,20 +90,20 @@ file-shown n room f bs true structure d s size = absurd (let e : true ≡ false 
 file-shown n room f bs false true d s size = absurd (let e : true ≡ false = s in cc)
 file-shown n room f bs false false d s size = filled f.mark room bs size
 
-stream-shown : (v : Volume) (n : ℕ) (f : Hdr) → is_structure n ≡ false → HasRunsInside v n → fields v n ≡ Some f → f.dir ≡ false
+stream-shown : (v : Volume) (n : ℕ) (f : Hdr) → is_structure n ≡ false → IsWeak v → IsNumber v n → fields v n ≡ Some f → f.dir ≡ false
     → stream_in f (body v n) ≡ shown_stream (factor v) (file_of (factor v) n f (body v n))
 unfolding stream_in shown_stream
-stream-shown v n f plain inside e d =
+stream-shown v n f plain weak number e d =
     ap (λ bs. bytes_before f.end f.byte bs)
-    (sym (file-shown n (f.blocks / factor v * factor v) f (body v n) f.dir (is_structure n) d plain (clusters-blocks v n f inside e)))
+    (sym (file-shown n (f.blocks / factor v * factor v) f (body v n) f.dir (is_structure n) d plain (clusters-blocks v n f weak number e)))
 
 -- ---- files
 
 -- what is told of a slot
-slot-shown : (v : Volume) (n seq : ℕ) (r : Result Head HeaderFault) → first_head v n ≡ r → is_structure n ≡ false → HasRunsInside v n
+slot-shown : (v : Volume) (n seq : ℕ) (r : Result Head HeaderFault) → first_head v n ≡ r → is_structure n ≡ false → IsWeak v → IsNumber v n
     → option_map (λ (f : Hdr). stream_in f (body v n)) (plain_fields seq (fields_in r))
     ≡ option_map (shown_stream (factor v)) (plain_only (of_seq seq (file_in (Some (slot_with (factor v) n r (body v n))))))
-slot-shown v n seq (Ok (head.Used f)) e plain inside = by_tests (f.seq == seq) f.dir refl where
+slot-shown v n seq (Ok (head.Used f)) e plain weak number = by_tests (f.seq == seq) f.dir refl where
   file : File
   file = file_of (factor v) n f (body v n)
 
@@ -112,16 +114,16 @@ slot-shown v n seq (Ok (head.Used f)) e plain inside = by_tests (f.seq == seq) f
       → option_map (λ (g : Hdr). stream_in g (body v n)) (if same && not is_dir then Some f else None)
       ≡ option_map (shown_stream (factor v)) (plain_only (if same then Some file else None))
   by_tests true true d = sym (ap shown_if d)
-  by_tests true false d = ap (λ s. Some s) (stream-shown v n f plain inside (ap fields_in e) d) ∙ sym (ap shown_if d)
+  by_tests true false d = ap (λ s. Some s) (stream-shown v n f plain weak number (ap fields_in e) d) ∙ sym (ap shown_if d)
   by_tests false is_dir d = refl
-slot-shown v n seq (Ok (head.Free last)) e plain inside = refl
-slot-shown v n seq (Err fault) e plain inside = refl
+slot-shown v n seq (Ok (head.Free last)) e plain weak number = refl
+slot-shown v n seq (Err fault) e plain weak number = refl
 
 -- what is told of a number
-number-shown : (v : Volume) (n seq : ℕ) → is_structure n ≡ false → HasAllRunsInside v
+number-shown : (v : Volume) (n seq : ℕ) → is_structure n ≡ false → IsWeak v
     → stream_of v n seq ≡ option_map (shown_stream (catalogue v).factor) (plain_only (in_use (catalogue v) (record { num = n; seq = seq })))
 unfolding plain_file catalogue files_of slot_of
-number-shown v n seq plain inside = elim (cases_lt 0 n) [
+number-shown v n seq plain weak = elim (cases_lt 0 n) [
   | inl some ↦ elim (cases_lt v.home.files n) [
     | inl beyond ↦
         let lacks = and_else (nat_lt 0 n) (nat_le n v.home.files) (lt-leb n v.home.files beyond) in
@@ -132,7 +134,7 @@ number-shown v n seq plain inside = elim (cases_lt 0 n) [
         let same : 1 + (n - 1) ≡ n = omega arith in
         let there = get_along (slot_of v) 1 v.home.files (n - 1) (omega arith) ∙ ap (λ k. Some (slot_of v k)) same in
         let number : IsNumber v n = record { from = omega arith; to = within } in
-        ap told has ∙ slot-shown v n seq (first_head v n) refl plain (inside.inside n number)
+        ap told has ∙ slot-shown v n seq (first_head v n) refl plain weak number
         ∙ sym (ap (λ t. shows t (slice_get slots (n - 1))) (ne_eqb n 0 (λ e. omega arith)) ∙ ap (λ s. shows false s) there)
   ]
   | inr none ↦
@@ -155,6 +157,6 @@ streams-shown bs c n seq at plain = by_home (home_read (home_at bs)) refl where
       → stream_by bs r n seq ≡ option_map (shown_stream c.factor) (plain_only (in_use c (record { num = n; seq = seq })))
   by_home (Ok home) e =
       let v = volume home bs in
-      number-shown v n seq plain (runs-inside v (weak-volume bs c home at e))
+      number-shown v n seq plain (weak-volume bs c home at e)
       ∙ ap (λ (d : Cat). option_map (shown_stream d.factor) (plain_only (in_use d (record { num = n; seq = seq })))) (sym (cat-told bs c home at e))
   by_home (Err fault) e = absurd (home-read bs c fault at e)

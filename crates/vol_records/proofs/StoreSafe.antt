@@ -4,7 +4,7 @@ use Rattle.std.specs.Prelude.{◌==◌, ◌&&◌, ◌||◌, replicate, option_ma
 use Rattle.std.specs.List.{flat_map}
 use Rattle.std.proofs.lemmas.Bool.{and_parts, eqb-true, eq-eqb, leb-true}
 use Rattle.std.proofs.lemmas.Bool.Decides.{nat_tests}
-use Rattle.std.proofs.Math.Nat.{mod-lt, div-add-mod, mul-le-mul_right}
+use Rattle.std.proofs.Math.Nat.{mod-lt, div-add-mod}
 use Rattle.base_words.specs.Fields.{Block, IsBytes, AreWholeBlocks}
 use Rattle.base_words.specs.Lists.{written}
 use Rattle.base_words.specs.Tables.{zeros}
@@ -12,7 +12,6 @@ use Rattle.base_words.proofs.Listing.{has_at}
 use Rattle.base_words.proofs.ListWrites.{written_joined}
 use Rattle.fx_home.specs.declared.home.Home.{Home}
 use Rattle.fx_home.specs.Homes.{home_read}
-use Rattle.fx_header.specs.declared.run.Run.{Run}
 use Rattle.fx_header.specs.declared.slot.Hdr.{Hdr}
 use Rattle.fx_header.specs.declared.slot.Slot.TheVariants as head
 use Rattle.fx_header.specs.declared.slot.HeaderFault.TheVariants.{BadSum}
@@ -30,19 +29,21 @@ use Rattle.vol_parts.specs.declared.geometry.Part.TheVariants.{Header}
 use Rattle.vol_parts.specs.Volumes.{Volume, volume, IsNumber, factor, head as head_of, fields, runs, header_lbn, header_at, geometry_of}
 use Rattle.vol_parts.specs.Catalogues.{is_structure, file_of, written_blocks, catalogue}
 use Rattle.vol_parts.specs.Findings.{home_at, Weak, IsFirstFatal, Accepts, AreWarningsBy, IsCatalogueBy, CatOf}
-use Rattle.vol_parts.proofs.Sizes.{fields-head, runs-used}
+use Rattle.vol_parts.proofs.Alone.{first-is}
+use Rattle.vol_parts.proofs.Sizes.{fields-head}
 use Rattle.vol_spell.specs.declared.owner.Owner.TheVariants.{InFile}
-use Rattle.vol_spell.specs.Reading.{IsFileNumber, header_place, header_block, told_of, body_places}
-use Rattle.vol_spell.specs.Entries.{places_in, blocks_of}
+use Rattle.vol_spell.specs.Reading.{IsFileNumber, header_place, header_block, head_told, told_of, body_places}
 use Rattle.vol_spell.proofs.Frames.{of_body, on_volume}
 use Rattle.vol_spell.proofs.Parts.{part_owned}
 use Rattle.vol_mends.specs.Told.{IsTold}
+use Rattle.vol_mends.proofs.Views.{v_runs}
 use Rattle.vol_mends.proofs.WriteTold.{Owned, owned, one_cat}
 use Rattle.vol_spell.specs.Lbns.{is_file, lbns_by, lbns_at}
-use Rattle.vol_spell.specs.Files.{with_sizes, IsFileThere, IsResized, clusters_seen}
+use Rattle.vol_spell.specs.Files.{with_sizes, blocks_told, IsFileThere, IsResized}
 use Rattle.vol_spell.proofs.HeadSlots.{file_blocks, file_told_at}
-use Rattle.vol_spell.proofs.HeadFiles.{not_structure, few, sized}
+use Rattle.vol_spell.proofs.HeadFiles.{not_structure}
 use Rattle.vol_spell.proofs.FilePlaces.{places, size, count}
+use Rattle.vol_spell.proofs.Heads.{reads_first}
 use Rattle.vol_records.specs.declared.types.StoreFault.TheVariants as refusal
 use Rattle.vol_records.specs.Keeping.{AreAccepted}
 use Rattle.vol_records.specs.Making.{placed}
@@ -51,6 +52,7 @@ use Rattle.vol_records.specs.Storing.{of_sequence, used_file, refusal_by, store_
 use Rattle.vol_records.proofs.Chunks.{length-chunks, whole_chunks, bytes_back, enough, no_more}
 use Rattle.vol_records.proofs.DataKeeps.{data_at, from_places}
 use Rattle.vol_records.proofs.Shown.{streams-shown}
+use Rattle.vol_records.proofs.StoreClean.{low_blocks}
 use Rattle.vol_records.proofs.StoreSteps.{IsBare, header_made}
 use Rattle.vol_records.proofs.StoreWrites.{AreWritten, are_written, through}
 
@@ -222,11 +224,15 @@ module _ (home : Home) (bs : List Block) (n seq : ℕ) (bytes : List ℕ) (can :
   abbrev h : Hdr
   h = allows.hdr
 
+  -- where the blocks of the file stand
+  abbrev all_places : List ℕ
+  all_places = lbns_in (runs (volume home bs) n)
+
   used : IsUsed (volume home bs) n seq allows.hdr
   used = used_is v n seq allows.hdr allows.is
 
-  reads : header_read (header_block (geometry_of (volume home bs)) bs n) ≡ Ok (head.Used allows.hdr)
-  reads = head_reads v n allows.hdr used.fields
+  reads : head_told (header_block (geometry_of (volume home bs)) bs n) ≡ Ok (head.Used allows.hdr)
+  reads = reads_first (header_block g bs n) allows.hdr (head_reads v n allows.hdr used.fields) (first-is (head_of v n) allows.hdr used.fields).1
 
   told : IsTold (geometry_of (volume home bs)) bs (catalogue (volume home bs))
   told = record {
@@ -251,37 +257,39 @@ module _ (home : Home) (bs : List Block) (n seq : ℕ) (bytes : List ℕ) (can :
   there : IsFileThere (geometry_of (volume home bs)) (catalogue (volume home bs)) bs n allows.hdr f
   there = record { number = number; above = allows.above; reads = reads; file = at }
 
-  bare : IsBare (geometry_of (volume home bs)) o.own (catalogue (volume home bs)) n allows.hdr f (header_at (volume home bs) n) bs
+  -- its blocks stand where the volume has them
+  places_are : lbns_in (told_of (geometry_of (volume home bs)) bs n).runs ≡ lbns_in (runs (volume home bs) n)
+  places_are = ap lbns_in (sym (v_runs home.label g bs o.own c o.spells n number))
+
+  bare : IsBare (geometry_of (volume home bs)) o.own (catalogue (volume home bs)) n allows.hdr f (header_at (volume home bs) n) (lbns_in (runs (volume home bs) n)) bs
   bare = record {
     has = record { accepted = can.accepted; told = told; spells = o.spells; outs = o.outs; at = at; flat = allows.flat };
     there = there;
     mark = allows.mark;
     head = refl;
+    places = places_are;
   }
 
-  places_are : lbns_in (runs (volume home bs) n) ≡ places_in (header_at (volume home bs) n)
-  places_are = ap (λ (rs : List Run). lbns_in rs) (runs-used v n allows.hdr used.fields)
+  many : length (lbns_in (runs (volume home bs) n)) ≡ h.blocks
+  many = ap length (sym places_are) ∙ count g bs o.own c n h f o.spells there ∙ sym (size g bs o.own c n h f o.spells there)
 
-  many : length (places_in (header_at (volume home bs) n)) ≡ h.blocks
-  many = count g bs o.own c n h f o.spells there ∙ sym (size g bs o.own c n h f o.spells there)
-
-  room : blocks_for (length bytes) ≤ length (places_in (header_at (volume home bs) n))
+  room : blocks_for (length bytes) ≤ length (lbns_in (runs (volume home bs) n))
   room = let fits = no_more (length bytes) h.blocks allows.room in let e = many in omega (arith, fits, e)
 
   abbrev cs : List Block
   cs = chunks (blocks_for (length bytes)) bytes
 
   abbrev front : List (ℕ × Block)
-  front = placed (places_in (header_at (volume home bs) n)) (chunks (blocks_for (length bytes)) bytes)
+  front = placed (lbns_in (runs (volume home bs) n)) (chunks (blocks_for (length bytes)) bytes)
 
-  wrote : AreWritten (geometry_of (volume home bs)) o.own (catalogue (volume home bs)) n allows.hdr f (header_at (volume home bs) n) 0 (placed (places_in (header_at (volume home bs) n)) (chunks (blocks_for (length bytes)) bytes)) (chunks (blocks_for (length bytes)) bytes) bs
+  wrote : AreWritten (geometry_of (volume home bs)) o.own (catalogue (volume home bs)) n allows.hdr f (header_at (volume home bs) n) (lbns_in (runs (volume home bs) n)) 0 (placed (lbns_in (runs (volume home bs) n)) (chunks (blocks_for (length bytes)) bytes)) (chunks (blocks_for (length bytes)) bytes) bs
   wrote =
       let len = length-chunks (blocks_for (length bytes)) bytes in
       let fits = room in
-      are_written g o.own c n h f hb (places_in hb) cs 0 bs bare refl (omega (arith, len, fits)) (whole_chunks (blocks_for (length bytes)) bytes can.ranged)
+      are_written g o.own c n h f hb all_places all_places cs 0 bs bare refl (omega (arith, len, fits)) (whole_chunks (blocks_for (length bytes)) bytes can.ranged)
 
   abbrev mid : List Block
-  mid = written (placed (places_in (header_at (volume home bs) n)) (chunks (blocks_for (length bytes)) bytes)) bs
+  mid = written (placed (lbns_in (runs (volume home bs) n)) (chunks (blocks_for (length bytes)) bytes)) bs
 
   -- the header's sizes are within the file
   sizes : IsResized (geometry_of (volume home bs)) mid n allows.hdr f (stored f bytes)
@@ -291,20 +299,20 @@ module _ (home : Home) (bs : List Block) (n seq : ℕ) (bytes : List ℕ) (can :
       let byte : length bytes % 512 < 512 = mod-lt (length bytes) (let few : 0 < 512 = omega arith in few) in
       let k = blocks_for (length bytes) in
       let len = length-chunks k bytes in
-      let first : take (0 + length cs) (blocks_of g mid n) ≡ cs = wrote.blocks in
+      let first : take (0 + length cs) (blocks_told g mid n) ≡ cs = wrote.blocks in
       record {
         same = refl;
         mark = omega (arith, blocks, fits);
         end = (let room = allows.room in omega (arith, blocks, room));
         byte = omega (arith, byte);
-        written = shown_by n k h (blocks_of g mid n) allows.flat (not_structure n allows.above) ∙ (ap (λ m. take m (blocks_of g mid n)) (let z : k ≡ 0 + length cs = omega (arith, len) in z) ∙ first);
+        written = shown_by n k h (blocks_told g mid n) allows.flat (not_structure n allows.above) ∙ (ap (λ m. take m (blocks_told g mid n)) (let z : k ≡ 0 + length cs = omega (arith, len) in z) ∙ first);
       }
 
   after : AreAccepted (geometry_of (volume home bs)) (slice_set mid (header_place (geometry_of (volume home bs)) n) (stored_header (header_at (volume home bs) n) (length bytes))) (with_file (catalogue (volume home bs)) n (stored f bytes))
   after =
       let k = blocks_for (length bytes) in
       subst (λ (x : Block). AreAccepted g (slice_set mid (header_place g n) (with_sizes x (stored f bytes))) (with_file c n (stored f bytes))) wrote.all.head
-      (header_made g o.own c n h f hb mid wrote.all (k + 1) (length bytes / 512 + 1) (length bytes % 512) cs sizes)
+      (header_made g o.own c n h f hb all_places mid wrote.all (k + 1) (length bytes / 512 + 1) (length bytes % 512) cs sizes)
 
   in_use_is : (x : Cat) (k : File) → file_at x n ≡ Some k → k.seq ≡ seq → in_use x (record { num = n; seq = seq }) ≡ Some k
   in_use_is x k e same = ap (of_seq seq) e ∙ ap (λ b. cond b (Some k) None) (eq-eqb k.seq seq same)
@@ -312,8 +320,8 @@ module _ (home : Home) (bs : List Block) (n seq : ℕ) (bytes : List ℕ) (can :
   abbrev all_writes : List ℕ → List (ℕ × Block)
   all_writes ls = placed ls (chunks (blocks_for (length bytes)) bytes) ++ (header_lbn (volume home bs) n, stored_header (header_at (volume home bs) n) (length bytes)) ∷ []
 
-  writes_are : all_writes (places_in (header_at (volume home bs) n)) ≡ writes_at bs n bytes
-  writes_are = ap all_writes (sym places_are) ∙ ap (λ r. writes_by bs r n bytes) (sym can.read)
+  writes_are : all_writes (lbns_in (runs (volume home bs) n)) ≡ writes_at bs n bytes
+  writes_are = ap (λ r. writes_by bs r n bytes) (sym can.read)
 
   -- the blocks after all of them
   abbrev full : List Block
@@ -343,7 +351,7 @@ module _ (home : Home) (bs : List Block) (n seq : ℕ) (bytes : List ℕ) (can :
             ∙ (ap (λ (x : Option File). option_map (shown_stream d.factor) x) plain ∙ ap (λ (xs : List ℕ). Some xs) (back d.factor f bytes)));
       }
 
-  untouched : (k : ℕ) → IsBare g o.own (catalogue (volume home bs)) n allows.hdr f (header_at (volume home bs) n) (written (take k (writes_at bs n bytes)) bs)
+  untouched : (k : ℕ) → IsBare g o.own (catalogue (volume home bs)) n allows.hdr f (header_at (volume home bs) n) (lbns_in (runs (volume home bs) n)) (written (take k (writes_at bs n bytes)) bs)
       → IsUntouched bs (written (take k (writes_at bs n bytes)) bs) n bytes
   untouched k b = record {
     count = k;
@@ -354,7 +362,7 @@ module _ (home : Home) (bs : List Block) (n seq : ℕ) (bytes : List ℕ) (can :
 
   -- after each number of the writes the file shows nothing still, or they are all made
   abbrev AreSafe : List Block → Type 0
-  AreSafe x = IsBare g o.own (catalogue (volume home bs)) n allows.hdr f (header_at (volume home bs) n) x ⊎ (x ≡ full)
+  AreSafe x = IsBare g o.own (catalogue (volume home bs)) n allows.hdr f (header_at (volume home bs) n) (lbns_in (runs (volume home bs) n)) x ⊎ (x ≡ full)
 
   last : (k : ℕ) → AreSafe (written (take k ((header_lbn (volume home bs) n, stored_header (header_at (volume home bs) n) (length bytes)) ∷ [])) mid)
   last zero = inl wrote.all
@@ -374,27 +382,20 @@ module _ (home : Home) (bs : List Block) (n seq : ℕ) (bytes : List ℕ) (can :
   whole : IsStored bs (written (writes_at bs n bytes) bs) n seq bytes
   whole = subst (λ (x : List Block). IsStored bs x n seq bytes) all_made stores
 
-  each_inside : (k l : ℕ) → slice_get (places_in (header_at (volume home bs) n)) k ≡ Some l → l < length bs
-  each_inside k l e = (of_body g bs o.own c o.spells n l number (has_at (body_places n (told_of g bs n)) k l (ap (λ (ls : List ℕ). slice_get ls k) (places g bs o.own c n h f o.spells there) ∙ e))).within
+  each_inside : (k l : ℕ) → slice_get (lbns_in (runs (volume home bs) n)) k ≡ Some l → l < length bs
+  each_inside k l e = (of_body g bs o.own c o.spells n l number (has_at (body_places n (told_of g bs n)) k l (ap (λ (ls : List ℕ). slice_get ls k) (places g bs o.own c n h f o.spells there ∙ places_are) ∙ e))).within
 
   pub stores_safely : StoresSafely home bs n seq bytes
   stores_safely = record {
     number = used.number;
-    inside = subst (λ (ls : List ℕ). All (λ l. l < length bs) ls) (sym places_are) (from_places (λ l. l < length bs) (places_in hb) each_inside);
-    room = subst (λ (ls : List ℕ). blocks_for (length bytes) ≤ length ls) (sym places_are) room;
-    few = (let fits = allows.room in let e = many in let top = low_blocks in omega (arith, fits, e, top));
+    inside = from_places (λ l. l < length bs) all_places each_inside;
+    room = room;
+    few = (let fits = allows.room in let e = many in let top = low_blocks g o.own c n h f bs o.spells there in omega (arith, fits, e, top));
     header = on_volume g bs o.own c o.spells (header_place g n) (InFile 1) (part_owned g bs o.own c o.spells (Header n) number);
     writes = ap (λ r. writes_by bs r n bytes) can.read;
     safe = safe;
     all = whole;
-  } where
-    low_blocks : h.blocks ≤ 65536
-    low_blocks =
-        let top = few g bs o.own c n h o.spells number reads allows.above in
-        let same = sized g bs o.own c n h o.spells number reads in
-        let up = o.spells.counts.geometry.cluster_to in
-        let most = mul-le-mul_right (length (clusters_seen g (header_block g bs n))) up in
-        omega (arith, top, same, most)
+  }
 
 pub storing_is_safe : StoringIsSafe
 storing_is_safe = stores_safely

@@ -4,13 +4,14 @@ use Rattle.std.proofs.lemmas.Option.{slice_get_within}
 use Rattle.base_words.specs.Fields.{Block, IsWholeBlock}
 use Rattle.base_words.specs.Lists.{written}
 use Rattle.fx_header.specs.declared.slot.Hdr.{Hdr}
+use Rattle.fx_header.specs.Pointers.{lbns_in}
 use Rattle.plain_cat.specs.declared.cat.Cat.{Cat}
 use Rattle.plain_cat.specs.declared.cat.File.{File}
 use Rattle.vol_parts.specs.declared.geometry.Geometry.{Geometry}
 use Rattle.vol_spell.specs.Owners.{Owners}
 use Rattle.vol_spell.proofs.Placing.{length-blocks_at}
-use Rattle.vol_spell.specs.Entries.{places_in, blocks_of}
-use Rattle.vol_spell.specs.Reading.{header_block}
+use Rattle.vol_spell.specs.Files.{blocks_told}
+use Rattle.vol_spell.specs.Reading.{told_of}
 use Rattle.vol_records.specs.Making.{placed}
 use Rattle.vol_records.proofs.StoreSteps.{IsBare, block_made}
 
@@ -42,21 +43,21 @@ take_set (x ∷ xs) (suc j) b lt = ap (λ ys. x ∷ ys) (take_set xs j b (omega 
 
 -- ---- the blocks of the file
 
-module _ (g : Geometry) (own : Owners) (c : Cat) (n : ℕ) (h : Hdr) (f : File) (hb : Block) where
+module _ (g : Geometry) (own : Owners) (c : Cat) (n : ℕ) (h : Hdr) (f : File) (hb : Block) (stands : List ℕ) where
   -- after these writes the file shows nothing still, and its first blocks are those before them and these
   pub record AreWritten (j : ℕ) (ws : List (ℕ × Block)) (cs bs : List Block) : Type 0 where
-    pub bare : (k : ℕ) → IsBare g own c n h f hb (written (take k ws) bs)
-    pub all : IsBare g own c n h f hb (written ws bs)
-    pub blocks : take (j + length cs) (blocks_of g (written ws bs) n) ≡ take j (blocks_of g bs n) ++ cs
+    pub bare : (k : ℕ) → IsBare g own c n h f hb stands (written (take k ws) bs)
+    pub all : IsBare g own c n h f hb stands (written ws bs)
+    pub blocks : take (j + length cs) (blocks_told g (written ws bs) n) ≡ take j (blocks_told g bs n) ++ cs
 
-  pub are_written : (ls : List ℕ) (cs : List Block) (j : ℕ) (bs : List Block) → IsBare g own c n h f hb bs → drop j (places_in hb) ≡ ls → length cs ≤ length ls → ((k : ℕ) (b : Block) → slice_get cs k ≡ Some b → IsWholeBlock b)
+  pub are_written : (ls : List ℕ) (cs : List Block) (j : ℕ) (bs : List Block) → IsBare g own c n h f hb stands bs → drop j stands ≡ ls → length cs ≤ length ls → ((k : ℕ) (b : Block) → slice_get cs k ≡ Some b → IsWholeBlock b)
       → AreWritten j (placed ls cs) cs bs
   are_written ls [] j bs is at room whole = none_placed ls where
     still : AreWritten j [] [] bs
     still = record {
-      bare = λ k. subst (λ (x : List Block). IsBare g own c n h f hb x) (sym (none_written k bs)) is;
+      bare = λ k. subst (λ (x : List Block). IsBare g own c n h f hb stands x) (sym (none_written k bs)) is;
       all = is;
-      blocks = ap (λ k. take k (blocks_of g bs n)) (let z : j + 0 ≡ j = omega arith in z) ∙ sym (append-nil (take j (blocks_of g bs n)));
+      blocks = ap (λ k. take k (blocks_told g bs n)) (let z : j + 0 ≡ j = omega arith in z) ∙ sym (append-nil (take j (blocks_told g bs n)));
     }
 
     none_placed : (ms : List ℕ) → AreWritten j (placed ms []) [] bs
@@ -64,27 +65,27 @@ module _ (g : Geometry) (own : Owners) (c : Cat) (n : ℕ) (h : Hdr) (f : File) 
     none_placed (m ∷ ms) = still
   are_written [] (b ∷ cs) j bs is at room whole = absurd (omega (arith, room))
   are_written (l ∷ ls) (b ∷ cs) j bs is at room whole =
-      let d = drop_cons (places_in hb) j l ls at in
-      let here : slice_get (places_in (header_block g bs n)) j ≡ Some l = ap (λ (x : Block). slice_get (places_in x) j) is.head ∙ d.0 in
-      let made = block_made g own c n h f hb bs is j l b (whole 0 b refl) here in
+      let d = drop_cons stands j l ls at in
+      let here : slice_get (lbns_in (told_of g bs n).runs) j ≡ Some l = ap (λ (xs : List ℕ). slice_get xs j) is.places ∙ d.0 in
+      let made = block_made g own c n h f hb stands bs is j l b (whole 0 b refl) here in
       let rest = are_written ls cs (suc j) (slice_set bs l b) made.bare d.1 (omega (arith, room)) (λ k x e. whole (suc k) x e) in
-      let inside : j < length (blocks_of g bs n) = blocks_within bs l here in
+      let inside : j < length (blocks_told g bs n) = blocks_within bs l here in
       record {
         bare = λ k. each k is rest.bare;
         all = rest.all;
-        blocks = ap (λ k. take k (blocks_of g (written (placed ls cs) (slice_set bs l b)) n)) (let z : j + suc (length cs) ≡ suc j + length cs = omega arith in z)
+        blocks = ap (λ k. take k (blocks_told g (written (placed ls cs) (slice_set bs l b)) n)) (let z : j + suc (length cs) ≡ suc j + length cs = omega arith in z)
             ∙ (rest.blocks
             ∙ (ap (λ ys. take (suc j) ys ++ cs) made.blocks
-            ∙ (ap (λ ys. ys ++ cs) (take_set (blocks_of g bs n) j b inside)
-            ∙ append_assoc (take j (blocks_of g bs n)) (b ∷ []) cs)));
+            ∙ (ap (λ ys. ys ++ cs) (take_set (blocks_told g bs n) j b inside)
+            ∙ append_assoc (take j (blocks_told g bs n)) (b ∷ []) cs)));
       }
     where
-      blocks_within : (bs : List Block) (l : ℕ) → slice_get (places_in (header_block g bs n)) j ≡ Some l → j < length (blocks_of g bs n)
+      blocks_within : (bs : List Block) (l : ℕ) → slice_get (lbns_in (told_of g bs n).runs) j ≡ Some l → j < length (blocks_told g bs n)
       blocks_within bs l e =
-          let lt = slice_get_within (places_in (header_block g bs n)) j l e in
-          let len = length-blocks_at bs (places_in (header_block g bs n)) in
+          let lt = slice_get_within (lbns_in (told_of g bs n).runs) j l e in
+          let len = length-blocks_at bs (lbns_in (told_of g bs n).runs) in
           omega (arith, lt, len)
 
-      each : (k : ℕ) → IsBare g own c n h f hb bs → ((m : ℕ) → IsBare g own c n h f hb (written (take m (placed ls cs)) (slice_set bs l b))) → IsBare g own c n h f hb (written (take k ((l, b) ∷ placed ls cs)) bs)
+      each : (k : ℕ) → IsBare g own c n h f hb stands bs → ((m : ℕ) → IsBare g own c n h f hb stands (written (take m (placed ls cs)) (slice_set bs l b))) → IsBare g own c n h f hb stands (written (take k ((l, b) ∷ placed ls cs)) bs)
       each zero i rest = i
       each (suc k) i rest = rest k

@@ -13,6 +13,7 @@ use Rattle.vol_spell.specs.Spelling.{Spells}
 use Rattle.vol_spell.specs.Views.{IsSameFile}
 use Rattle.vol_mends.specs.Weak.{NoOuts}
 use Rattle.vol_mends.specs.Told.{IsTold}
+use Rattle.vol_mends.specs.Clean.{KeepsClean}
 
 -- a file with another mark and end, and with other blocks
 abbrev pub with_data : File → ℕ → ℕ → ℕ → List Block → File
@@ -32,9 +33,9 @@ pub record AreAccepted (g : Geometry) (bs : List Block) (c : Cat) : Type 0 where
   pub accepted : Accepts bs
   pub told : IsTold g bs c
 
--- Where the data of that file have changed alone, and each other file has the header and the blocks that it had, the blocks are
--- accepted still.
+-- Where the data of that file have changed alone, each other file has the header and the blocks that it had, and the blocks stay
+-- clean, they are accepted still.
 abbrev pub DataIsAccepted : Type 0
 DataIsAccepted = (g : Geometry) (bs new : List Block) (own : Owners) (c : Cat) (n : ℕ) (f : File) (mark end byte : ℕ) (blocks : List Block) → HasPlainFile g bs own c n f
-    → Spells g new own (with_file c n (with_data f mark end byte blocks)) → ((m : ℕ) → IsFileNumber g m → (m ≡ n → ⊥) → IsSameFile g bs new m)
+    → Spells g new own (with_file c n (with_data f mark end byte blocks)) → ((m : ℕ) → IsFileNumber g m → (m ≡ n → ⊥) → IsSameFile g bs new m) → KeepsClean g bs new
     → AreAccepted g new (with_file c n (with_data f mark end byte blocks))

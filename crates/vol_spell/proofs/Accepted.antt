@@ -4,7 +4,7 @@ use Rattle.std.specs.Prelude.{◌↔◌, ◌==◌, ◌&&◌, ◌||◌, nat_lt, n
 use Rattle.std.specs.List.{range_with_len, list_any, find}
 use Rattle.std.proofs.Math.Nat.{mul-div-le}
 use Rattle.std.proofs.lemmas.Bool.Decides.{nat_tests}
-use Rattle.std.proofs.lemmas.Bool.{and_parts, ltb-true, leb-true, eqb-true, eq-eqb, le-leb}
+use Rattle.std.proofs.lemmas.Bool.{and_parts, ltb-true, leb-true, eqb-true, eq-eqb, le-leb, not-false, cases_lt}
 use Rattle.std.proofs.lemmas.List.FromFn.{length-range_with_len, length-map-range_with_len}
 use Rattle.base_words.specs.Fields.{Block, AreWholeBlocks}
 use Rattle.fx_home.specs.declared.home.Home.{Home}
@@ -44,18 +44,21 @@ use Rattle.vol_parts.specs.declared.finding.Finding.{Finding}
 use Rattle.vol_parts.specs.declared.finding.Finding.TheVariants as finding
 use Rattle.vol_parts.specs.declared.geometry.Geometry.{Geometry}
 use Rattle.vol_parts.specs.Parts.{IsGeometry, storage_blocks}
-use Rattle.vol_parts.specs.Volumes.{Volume, volume, factor, total, numbers, IsNumber, block_at, header_lbn, head as head_of, fields_in, used_slot, fields, Told, told as told_in, is_slot_of, is_in_slots, runs, body, is_in_run, is_in_file, is_in_files, first_lbn, bitmap_lbn, quota_lbn, geometry_of, is_free_cluster, is_used_number, active_rows}
-use Rattle.vol_parts.specs.Chains.{as_first}
+use Rattle.vol_parts.specs.Volumes.{Volume, volume, factor, total, numbers, IsNumber, block_at, header_lbn, head as head_of, fields_in, used_slot, fields, headers_of, Told, told as told_in, is_slot_of, is_in_slots, runs, body, is_in_run, is_in_file, is_in_files, first_lbn, bitmap_lbn, quota_lbn, geometry_of, is_free_cluster, is_used_number, active_rows}
+use Rattle.vol_parts.specs.Chains.{as_first, chain_of, is_broken, is_well_split}
 use Rattle.vol_parts.specs.Catalogues.{is_structure, slot_with, slot_of, files_of, rows_sorted, is_outside_cluster, is_outside_number, catalogue}
-use Rattle.vol_parts.specs.Fatal.{is_system_header, stated_clusters, are_stated, is_system_file, in_whole_clusters, scb_test, scb_fault, is_off_bounds, is_too_large, IsInRun, IsShared, has_dir_size, found_in, dir_test, dir_fault, IsFatalIn, has_two_rows}
+use Rattle.vol_parts.specs.Fatal.{is_one_header, has_one_header, is_system_header, chain_test, chain_fault, stated_clusters, are_stated, is_system_file, in_whole_clusters, scb_test, scb_fault, is_off_bounds, is_too_large, IsInRun, IsShared, has_dir_size, found_in, dir_test, dir_fault, IsFatalIn, has_two_rows}
 use Rattle.plain_rules.specs.SystemFiles.{is_system_directory}
 use Rattle.vol_parts.specs.Findings.{home_at, IsFatalBy, IsCatalogueBy}
-use Rattle.vol_spell.specs.Reading.{IsFileNumber, total_of, header_block, told_of, clusters_of, clusters_told, body_blocks, cluster_bit, number_bit, quota_places, rows_told}
-use Rattle.vol_spell.specs.Spelling.{IsHomeOf, IsHead, IsBlank, IsWhole, AreWhole, dir_found, size_in, Tells, IsStructure, run_for, HasStructures, Spells}
+use Rattle.vol_spell.specs.Reading.{IsFileNumber, total_of, header_block, told_of, chain_told, clusters_of, clusters_told, body_blocks, cluster_bit, number_bit, quota_places, rows_told}
+use Rattle.vol_spell.specs.Spelling.{IsHomeOf, IsHead, IsBlank, IsWhole, AreWhole, dir_found, size_in, has_one_at_most, Tells, IsStructure, run_for, HasStructures, Spells}
 use Rattle.vol_spell.specs.Accepting.{owner_found, cluster_owner, number_owner, owners_told, IsSpelt, CatalogueIsSpelt}
-use Rattle.vol_spell.proofs.Heads.{alone_told, none_told, first_reads, slot_used}
+use Rattle.vol_spell.proofs.Heads.{slot_used}
+use Rattle.vol_spell.proofs.OneHeader.{one_sized, none_split}
+use Rattle.vol_parts.proofs.Alone.{file_told, none_told}
 use Rattle.vol_spell.proofs.Parts.{room}
-use Rattle.vol_spell.proofs.Adds.{sized, size_by}
+use Rattle.vol_spell.proofs.SlotFiles.{IsSoundChain, one_file}
+use Rattle.vol_spell.proofs.Adds.{size_by}
 use Rattle.vol_spell.proofs.Told.{head_there, told_there, runs_there, body_there, free_cluster_at, rows_there, slot_there_of, no_dir, no_directory, which_structure, seen}
 use Rattle.vol_spell.proofs.Picking.{found_is, found_none, any_place, place_any, has_any, get_along, along_get, count_along, map_along, once_by_place, two_counted}
 use Rattle.vol_spell.proofs.Clusters.{IsInRunAt, run_of, of_run, clusters_once, within_total}
@@ -123,7 +126,7 @@ dir_finding_in n (Err dir.NoMemory) f e = absurd (let h : None ≡ Some f = e in
 
 dir_finding : (v : Volume) (n : ℕ) (h : Option Hdr) (f : Finding) → dir_test v n h ≡ Some f → IsDirFinding n f
 dir_finding v n None f e = absurd (let h : None ≡ Some f = e in cc)
-dir_finding v n (Some h) f e = by_tests (not h.dir) (has_dir_size (factor v) h (runs v n)) e where
+dir_finding v n (Some h) f e = by_tests (not h.dir) (is_one_header h (told_in v n) && has_dir_size (factor v) h (runs v n)) e where
   by_tests : (a b : Bool) → cond a None (cond b (found_in n (directory (body v n))) (Some (finding.DirSize n))) ≡ Some f → IsDirFinding n f
   by_tests true b e = absurd (let h : None ≡ Some f = e in cc)
   by_tests false true e = dir_finding_in n (directory (body v n)) f e
@@ -161,8 +164,26 @@ one_run v n k (r ∷ q ∷ rs) e = absurd (let f : false ≡ true = e in cc)
 system_parts : (v : Volume) (n k : ℕ) → is_system_file v n ≡ true → stated_clusters v n ≡ Some k → (is_system_header n (fields v n) ≡ true) × IsOneRun v n k (runs v n)
 unfolding is_system_file
 system_parts v n k e st =
-    let p = and_parts (is_system_header n (fields v n)) (are_stated v n (stated_clusters v n) (runs v n)) e in
-    (p.0, one_run v n k (runs v n) (ap (λ o. are_stated v n o (runs v n)) (sym st) ∙ p.1))
+    let p = and_parts (is_system_header n (fields v n)) (has_one_header (fields v n) (told_in v n) && are_stated v n (stated_clusters v n) (runs v n)) e in
+    let q = and_parts (has_one_header (fields v n) (told_in v n)) (are_stated v n (stated_clusters v n) (runs v n)) p.1 in
+    (p.0, one_run v n k (runs v n) (ap (λ o. are_stated v n o (runs v n)) (sym st) ∙ q.1))
+
+-- a system file has one header
+system_one : (v : Volume) (n : ℕ) → is_system_file v n ≡ true → has_one_at_most (fields v n) (told_in v n) ≡ true
+unfolding is_system_file
+system_one v n e =
+    let p = and_parts (is_system_header n (fields v n)) (has_one_header (fields v n) (told_in v n) && are_stated v n (stated_clusters v n) (runs v n)) e in
+    at_most (fields v n) (told_in v n) (and_parts (has_one_header (fields v n) (told_in v n)) (are_stated v n (stated_clusters v n) (runs v n)) p.1).0
+  where
+    at_most : (o : Option Hdr) (t : Told) → has_one_header o t ≡ true → has_one_at_most o t ≡ true
+    at_most None t e = refl
+    at_most (Some f) t e = e
+
+-- the tests of the chain of a file in use
+chain_fault_is : (v : Volume) (n : ℕ) (f : Hdr) → fields v n ≡ Some f
+    → chain_fault v n ≡ cond (is_broken f (chain_of (headers_of v) n f)) (Some (finding.ChainBroken n)) (cond (is_well_split (factor v) (chain_of (headers_of v) n f)) None (Some (finding.ChainSplit n)))
+unfolding chain_fault
+chain_fault_is v n f e = ap (chain_test v n) e
 
 stated_index : (v : Volume) → stated_clusters v 1 ≡ Some (in_whole_clusters (factor v) (4 * factor v + 1 + v.home.files))
 unfolding stated_clusters
@@ -196,14 +217,15 @@ scb_of : (v : Volume) → scb_fault v ≡ scb_test v (scb_read (block_at v (bitm
 unfolding scb_fault
 scb_of v = refl
 
-dir_same : (v : Volume) (n : ℕ) (h : Option Hdr) → dir_found (geometry_of v) n h (runs v n) (body v n) ≡ dir_test v n h
+dir_same : (v : Volume) (n : ℕ) (h : Option Hdr) → dir_found (geometry_of v) n h (told_in v n) (body v n) ≡ dir_test v n h
+unfolding runs
 dir_same v n None = refl
 dir_same v n (Some h) = refl
 
 -- what is no directory has nothing wrong with it as one
-dir_blind : (g : Geometry) (n : ℕ) (h : Option Hdr) (rs : List Run) (blocks : List Block) → is_system_directory n ≡ false → is_system_header n h ≡ true → dir_found g n h rs blocks ≡ None
-dir_blind g n None rs blocks d e = refl
-dir_blind g n (Some h) rs blocks d e = rw (no_dir n h d e) refl
+dir_blind : (g : Geometry) (n : ℕ) (h : Option Hdr) (t : Told) (blocks : List Block) → is_system_directory n ≡ false → is_system_header n h ≡ true → dir_found g n h t blocks ≡ None
+dir_blind g n None t blocks d e = refl
+dir_blind g n (Some h) t blocks d e = rw (no_dir n h d e) refl
 
 number_bit_is : (v : Volume) (n : ℕ) → is_used_number v n ≡ number_bit (geometry_of v) v.blocks n
 unfolding is_used_number
@@ -485,16 +507,70 @@ module _ (home : Home) (bs : List Block) (read : home_read (home_at bs) ≡ Ok h
       let is_m : IsFileNumber g m = record { from = number.from; to = number.to } in
       (is_m, ap (λ r. is_some (fields_in r)) (v_head m is_m) ∙ h.used)
 
-  -- and is among the slots of no other file
-  v_own_slot : (m n : ℕ) → IsFileNumber g n → Has (told_of g bs n).slots m → m ≡ n
-  v_own_slot m n is t = by_head (told_of g bs n).head refl where
-    by_head : (r : Result Head HeaderFault) → (told_of g bs n).head ≡ r → m ≡ n
-    by_head (Ok (head.Used f)) e = elim (subst (λ (x : Told). Has x.slots m) (alone_told g bs n f (first_reads (header_block g bs n) f e)) t) [ inl same ↦ sym same | inr none ↦ absurd none ]
-    by_head (Ok (head.Free seq)) e = absurd (subst (λ (x : Told). Has x.slots m) (none_told g bs n seq e) t)
-    by_head (Err fault) e = absurd (subst (λ (r : Result Head HeaderFault). IsHead n r) e (v_tells n is))
+  v_system : (n : ℕ) → 1 ≤ n → n ≤ 11 → is_system_file v n ≡ true
+  v_system n a b = by_test (is_system_file v n) refl where
+    by_test : (t : Bool) → is_system_file v n ≡ t → is_system_file v n ≡ true
+    by_test true e = e
+    by_test false e = absurd (weak (finding.SystemFile n) (a, b, e))
 
+  -- a system file has one header, with all its blocks
+  v_headed : (n : ℕ) → IsFileNumber g n → n ≤ 11 → has_one_at_most (fields_in (told_of g bs n).head) (told_of g bs n) ≡ true
+  v_headed n is low =
+      ap (λ o. has_one_at_most o (told_of g bs n)) (sym (v_fields n is)) ∙ ap (has_one_at_most (fields v n)) (sym (v_told n is)) ∙ system_one v n (v_system n is.from low)
+
+  -- the chain of another file in use has all of its blocks, and is well split
+  v_chain : (n : ℕ) → IsFileNumber g n → 11 < n → (f : Hdr) → fields v n ≡ Some f
+      → (is_broken f (chain_of (headers_of v) n f) ≡ false) × (is_well_split (factor v) (chain_of (headers_of v) n f) ≡ true)
+  v_chain n is above f used = by_tests (is_broken f (chain_of (headers_of v) n f)) (is_well_split (factor v) (chain_of (headers_of v) n f)) refl refl where
+    by_tests : (a b : Bool) → is_broken f (chain_of (headers_of v) n f) ≡ a → is_well_split (factor v) (chain_of (headers_of v) n f) ≡ b
+        → (is_broken f (chain_of (headers_of v) n f) ≡ false) × (is_well_split (factor v) (chain_of (headers_of v) n f) ≡ true)
+    by_tests false true t u = (t, u)
+    by_tests true b t u =
+        absurd (weak (finding.ChainBroken n) (number_is n is, above, chain_fault_is v n f used ∙ ap (λ x. cond x (Some (finding.ChainBroken n)) (cond (is_well_split (factor v) (chain_of (headers_of v) n f)) None (Some (finding.ChainSplit n)))) t))
+    by_tests false false t u =
+        absurd (weak (finding.ChainSplit n) (
+          number_is n is,
+          above,
+          chain_fault_is v n f used ∙ ap (λ x. cond x (Some (finding.ChainBroken n)) (cond (is_well_split (factor v) (chain_of (headers_of v) n f)) None (Some (finding.ChainSplit n)))) t
+              ∙ ap (λ x. cond x None (Some (finding.ChainSplit n))) u,
+        ))
+
+  v_size_above : (n : ℕ) → IsFileNumber g n → 11 < n → blocks_in (told_of g bs n).runs ≡ size_in (fields_in (told_of g bs n).head)
+  v_size_above n is above = subst (λ (t : Told). blocks_in t.runs ≡ size_in (fields_in t.head)) (v_told n is) (by_fields (fields v n) refl) where
+    by_fields : (o : Option Hdr) → fields v n ≡ o → blocks_in (told_in v n).runs ≡ size_in (fields_in (told_in v n).head)
+    by_fields None e = subst (λ (t : Told). blocks_in t.runs ≡ size_in (fields_in t.head)) (sym (none_told v n e)) (ap size_in (sym e))
+    by_fields (Some f) e =
+        subst (λ (t : Told). blocks_in t.runs ≡ size_in (fields_in t.head)) (sym (file_told v n f e))
+        (eqb-true (blocks_in (chain_of (headers_of v) n f).runs) f.blocks (not-false _ (v_chain n is above f e).0))
+
+  v_size : (n : ℕ) → IsFileNumber g n → blocks_in (told_of g bs n).runs ≡ size_in (fields_in (told_of g bs n).head)
+  v_size n is = elim (cases_lt 11 n) [ inl above ↦ v_size_above n is above | inr low ↦ one_sized g bs n (v_headed n is low) ]
+
+  v_few : (n : ℕ) → IsFileNumber g n → 11 < n → length (clusters_told g (told_of g bs n)) ≤ file_most
+  v_few n is above = few_by g n (told_of g bs n).head (told_of g bs n).runs low (v_tells n is) (v_whole n is) (v_size n is) (λ f e. by_test f e (is_too_large v (Some f)) refl) where
+    by_test : (f : Hdr) → fields_in (told_of g bs n).head ≡ Some f → (t : Bool) → is_too_large v (Some f) ≡ t → is_too_large v (Some f) ≡ false
+    by_test f e false t = t
+    by_test f e true t = absurd (weak (finding.Clusters n) (number_is n is, above, ap (is_too_large v) (v_fields n is ∙ e) ∙ t))
+
+  v_split : (n : ℕ) → IsFileNumber g n → 11 < n → is_well_split g.cluster (chain_told (told_of g bs n)) ≡ true
+  v_split n is above = subst (λ (t : Told). is_well_split g.cluster (chain_told t) ≡ true) (v_told n is) (by_fields (fields v n) refl) where
+    by_fields : (o : Option Hdr) → fields v n ≡ o → is_well_split (factor v) (chain_told (told_in v n)) ≡ true
+    by_fields None e = ap (λ (t : Told). is_well_split (factor v) (chain_told t)) (none_told v n e) ∙ none_split (factor v) 0
+    by_fields (Some f) e = ap (λ (t : Told). is_well_split (factor v) (chain_told t)) (file_told v n f e) ∙ (v_chain n is above f e).1
+
+  v_sound : (n : ℕ) → IsFileNumber g n → IsSoundChain g bs n
+  v_sound n is = record { whole = v_whole n is; size = v_size n is; split = v_split n is; system = v_headed n is }
+
+  -- files that share a cluster are one
+  v_apart : (n k : ℕ) → IsFileNumber g n → IsFileNumber g k → (q : ℕ) → Has (clusters_told g (told_of g bs n)) q → Has (clusters_told g (told_of g bs k)) q → n ≡ k
+  v_apart n k is_n is_k q t u =
+      let a = run_of g (told_of g bs n).runs q low (v_whole n is_n) t in
+      let b = run_of g (told_of g bs k).runs q low (v_whole k is_k) u in
+      (v_one q n k a.place b.place a.run b.run is_n is_k a.there b.there a.inside b.inside).0
+
+  -- so a slot is among those of one file
   v_one_file : (m n k : ℕ) → IsFileNumber g n → IsFileNumber g k → Has (told_of g bs n).slots m → Has (told_of g bs k).slots m → k ≡ n
-  v_one_file m n k is_n is_k t u = sym (v_own_slot m k is_k u) ∙ v_own_slot m n is_n t
+  v_one_file m n k is_n is_k t u = one_file g bs k n m low (v_sound k is_k) (v_sound n is_n) (v_apart k n is_k is_n) u t
 
   v_slot_owner : (m n : ℕ) → IsFileNumber g n → Has (told_of g bs n).slots m → IsFileNumber g m × (number_owner v m ≡ InFile n)
   v_slot_owner m n is t = (is_m, owner_in_slots v m n (by_bit (is_used_number v m) refl) (by_found (find (is_slot_of v m) (numbers v)) refl)) where
@@ -517,12 +593,6 @@ module _ (home : Home) (bs : List Block) (read : home_read (home_at bs) ≡ Ok h
     (λ t. let h = v_slot_owner m n is t in (h.0, number_at m (InFile n) h.0 h.1)),
     (λ x. let h = in_slots_owner v m n (number_from_at m (InFile n) x.0 x.1) in (v_in_slots m n is).1 (found_is (is_slot_of v m) (numbers v) n h.1).1),
   )
-
-  v_few : (n : ℕ) → IsFileNumber g n → 11 < n → length (clusters_told g (told_of g bs n)) ≤ file_most
-  v_few n is above = few_by g n (told_of g bs n).head (told_of g bs n).runs low (v_tells n is) (v_whole n is) (sized g bs n (v_tells n is)) (λ f e. by_test f e (is_too_large v (Some f)) refl) where
-    by_test : (f : Hdr) → fields_in (told_of g bs n).head ≡ Some f → (t : Bool) → is_too_large v (Some f) ≡ t → is_too_large v (Some f) ≡ false
-    by_test f e false t = t
-    by_test f e true t = absurd (weak (finding.Clusters n) (number_is n is, above, ap (is_too_large v) (v_fields n is ∙ e) ∙ t))
 
   v_cluster_bits : (q : ℕ) → q < total v → (cluster_bit g bs q ≡ true) ↔ (slice_get (map (cluster_owner v) (range_with_len 0 (total v))) q ≡ Some Free)
   v_cluster_bits q lt =
@@ -548,12 +618,6 @@ module _ (home : Home) (bs : List Block) (read : home_read (home_at bs) ≡ Ok h
   }
 
   -- ---- the volume's own structures
-
-  v_system : (n : ℕ) → 1 ≤ n → n ≤ 11 → is_system_file v n ≡ true
-  v_system n a b = by_test (is_system_file v n) refl where
-    by_test : (t : Bool) → is_system_file v n ≡ t → is_system_file v n ≡ true
-    by_test true e = e
-    by_test false e = absurd (weak (finding.SystemFile n) (a, b, e))
 
   first_number : (n : ℕ) → 1 ≤ n → n ≤ 11 → IsFileNumber g n
   first_number n a b = let f = within.files_low in record { from = a; to = (let h : n ≤ home.files = omega arith in h) }
@@ -660,18 +724,18 @@ module _ (home : Home) (bs : List Block) (read : home_read (home_at bs) ≡ Ok h
       | Mixed same ↦ weak (finding.DirClash n) (number_is n is, said f (finding.DirClash n) e same)
     ])
 
-  v_dir_all : (n : ℕ) → IsFileNumber g n → dir_found g n (fields_in (told_of g bs n).head) (told_of g bs n).runs (blocks_at bs (lbns_in (told_of g bs n).runs)) ≡ None
+  v_dir_all : (n : ℕ) → IsFileNumber g n → dir_found g n (fields_in (told_of g bs n).head) (told_of g bs n) (blocks_at bs (lbns_in (told_of g bs n).runs)) ≡ None
   v_dir_all n is =
-      ap (λ h. dir_found g n h (told_of g bs n).runs (blocks_at bs (lbns_in (told_of g bs n).runs))) (sym (v_fields n is))
-      ∙ ap (λ rs. dir_found g n (fields v n) rs (blocks_at bs (lbns_in (told_of g bs n).runs))) (sym (v_runs n is))
-      ∙ ap (λ xs. dir_found g n (fields v n) (runs v n) xs) (sym (v_body n is)) ∙ dir_same v n (fields v n) ∙ v_dir_test n is
+      ap (λ h. dir_found g n h (told_of g bs n) (blocks_at bs (lbns_in (told_of g bs n).runs))) (sym (v_fields n is))
+      ∙ ap (λ t. dir_found g n (fields v n) t (blocks_at bs (lbns_in (told_of g bs n).runs))) (sym (v_told n is))
+      ∙ ap (λ xs. dir_found g n (fields v n) (told_in v n) xs) (sym (v_body n is)) ∙ dir_same v n (fields v n) ∙ v_dir_test n is
 
-  v_dir : (n : ℕ) → IsFileNumber g n → dir_found g n (fields_in (told_of g bs n).head) (told_of g bs n).runs (body_blocks bs n (told_of g bs n)) ≡ None
+  v_dir : (n : ℕ) → IsFileNumber g n → dir_found g n (fields_in (told_of g bs n).head) (told_of g bs n) (body_blocks bs n (told_of g bs n)) ≡ None
   v_dir n is = by_kind (is_structure n) refl where
-    by_kind : (k : Bool) → is_structure n ≡ k → dir_found g n (fields_in (told_of g bs n).head) (told_of g bs n).runs (body_blocks bs n (told_of g bs n)) ≡ None
+    by_kind : (k : Bool) → is_structure n ≡ k → dir_found g n (fields_in (told_of g bs n).head) (told_of g bs n) (body_blocks bs n (told_of g bs n)) ≡ None
     by_kind true e = dir_blind g n (fields_in (told_of g bs n).head) _ _ (no_directory n e) (v_structure_header n e)
     by_kind false e =
-        ap (λ t. dir_found g n (fields_in (told_of g bs n).head) (told_of g bs n).runs (blocks_at bs (cond t [] (lbns_in (told_of g bs n).runs)))) e ∙ v_dir_all n is
+        ap (λ t. dir_found g n (fields_in (told_of g bs n).head) (told_of g bs n) (blocks_at bs (cond t [] (lbns_in (told_of g bs n).runs)))) e ∙ v_dir_all n is
 
   v_files : (n : ℕ) (s : Slot) → IsFileNumber g n → slice_get (files_of v) (n - 1) ≡ Some s → Tells g (owners_told v) n (told_of g bs n) (body_blocks bs n (told_of g bs n)) s
   v_files n s is at = record {
@@ -680,8 +744,10 @@ module _ (home : Home) (bs : List Block) (read : home_read (home_at bs) ≡ Ok h
     once = v_once n is;
     runs = λ q. v_clusters n q is;
     few = v_few n is;
+    split = v_split n is;
     slots = λ m. v_slots n m is;
-    size = sized g bs n (v_tells n is);
+    system = v_headed n is;
+    size = v_size n is;
     dir = v_dir n is;
     slot =
         (let a = is.from in
@@ -729,7 +795,7 @@ module _ (home : Home) (bs : List Block) (read : home_read (home_at bs) ≡ Ok h
     structures = v_structures;
     constants = record { factor = refl; total = refl; reserved = refl; rows = ap (λ k. 16 * k) v_row_count };
     files = v_files;
-    slots = record { heads = v_reads; blank = v_blank };
+    slots = record { heads = v_reads; blank = v_blank; outside = λ m k is e. absurd (number_never_outside v m k (number_from_at m (Outside k) is e)) };
     rows = record {
       quota = ap rows_sorted v_rows;
       once = v_row_owners;

@@ -1,21 +1,16 @@
 -- The clusters add up.
-use Rattle.std.proofs.Common.{◌≡◌, ◌<◌, ◌≤◌, ◌+◌, ◌-◌, ◌*◌, ◌/◌, ℕ, zero, suc, List, [], ◌∷◌, ◌++◌, Some, length, take, slice_get, get_or, refl, sym, ap, subst, ◌∙◌, arith, cond, length-append, ◌%◌}
+use Rattle.std.proofs.Common.{◌≡◌, ◌<◌, ◌≤◌, ◌+◌, ◌-◌, ◌*◌, ◌/◌, ℕ, zero, suc, List, [], ◌∷◌, Some, length, take, slice_get, get_or, refl, sym, ap, ◌∙◌, arith, cond}
 use Rattle.std.specs.Prelude.{◌==◌, ◌&&◌, nat_lt, count_by, sum_by, Result, Ok, Err}
-use Rattle.std.specs.List.{range_with_len}
 use Rattle.std.proofs.lemmas.Bool.Decides.{nat_tests}
 use Rattle.std.proofs.lemmas.List.{take_all}
-use Rattle.std.proofs.lemmas.List.FromFn.{length-range_with_len}
 use Rattle.std.proofs.lemmas.List.Sums.{sum_by-cons, sum_by_more, sum_by-take-drop}
 use Rattle.std.proofs.lemmas.Nat.{div-mul-add}
 use Rattle.base_words.specs.Fields.{Block}
 use Rattle.fx_header.specs.declared.run.Run.{Run}
-use Rattle.fx_header.specs.declared.slot.Hdr.{Hdr}
 use Rattle.fx_header.specs.declared.slot.Slot.{Slot as Head}
 use Rattle.fx_header.specs.declared.slot.Slot.TheVariants as head
 use Rattle.fx_header.specs.declared.slot.HeaderFault.{HeaderFault}
-use Rattle.fx_header.specs.Headers.{header_read, runs_in, fields_of, blocks_of}
 use Rattle.fx_header.specs.Pointers.{blocks_in}
-use Rattle.fx_header.proofs.SoundLemmas.{reads-sound, blocks-of as size-of}
 use Rattle.plain_cat.specs.declared.cat.Cat.{Cat}
 use Rattle.plain_cat.specs.declared.cat.Slot.{Slot}
 use Rattle.plain_cat.specs.declared.cat.Slot.TheVariants as slot
@@ -28,46 +23,13 @@ use Rattle.vol_spell.proofs.Counting.{counts_list}
 use Rattle.vol_parts.specs.declared.geometry.Geometry.{Geometry}
 use Rattle.vol_parts.specs.Volumes.{fields_in, Told}
 use Rattle.vol_parts.specs.Catalogues.{slot_with}
-use Rattle.vol_spell.specs.Reading.{IsFileNumber, total_of, header_block, told_of, alone, clusters_of, clusters_told}
+use Rattle.vol_spell.specs.Reading.{IsFileNumber, total_of, told_of, clusters_of, clusters_told}
 use Rattle.vol_spell.specs.Spelling.{AreWhole, IsHead, size_in, Tells, Spells}
 use Rattle.vol_spell.specs.Adding.{is_outside, CountsAdd, ClustersAddUp}
-use Rattle.vol_spell.proofs.Heads.{alone_told, none_told, first_reads}
 use Rattle.vol_spell.proofs.Parts.{low, told}
+use Rattle.vol_spell.proofs.Runs.{size_of_runs}
 
 -- ---- the size of a file
-
-whole : (x f : ℕ) → 1 ≤ f → x % f ≡ 0 → x ≡ x / f * f
-whole x f low e = omega arith
-
-adds_up : (k m f a b x y : ℕ) → x ≡ k * f → y ≡ m * f → a ≡ k + m → b ≡ x + y → a * f ≡ b
-adds_up k m f a b x y e1 e2 e3 e4 = let h : (k + m) * f ≡ k * f + m * f = omega arith in ap (λ z. z * f) e3 ∙ h ∙ (let r : k * f + m * f ≡ b = omega arith in r)
-
-size_of_runs : (g : Geometry) (rs : List Run) → 1 ≤ g.cluster → AreWhole g rs → length (clusters_of g.cluster rs) * g.cluster ≡ blocks_in rs
-size_of_runs g [] low w = omega arith
-size_of_runs g (r ∷ rs) low w =
-    let f = g.cluster in
-    let here = range_with_len (r.lbn / f) (r.count / f) in
-    let len : length (here ++ clusters_of f rs) ≡ r.count / f + length (clusters_of f rs) = length-append here (clusters_of f rs) ∙ ap (λ k. k + length (clusters_of f rs)) (length-range_with_len (r.lbn / f) (r.count / f)) in
-    adds_up (r.count / f) (length (clusters_of f rs)) f _ _ r.count (blocks_in rs) (whole r.count f low w.0.ends) (sym (size_of_runs g rs low w.1)) len (sum_by-cons (λ (x : Run). x.count) r rs)
-
-read_blocks : (b : Block) (f : Hdr) → header_read b ≡ Ok (head.Used f) → blocks_in (runs_in b) ≡ f.blocks
-unfolding fields_of
-read_blocks b f e =
-    let s = reads-sound b f e in
-    let h : blocks_of b ≡ f.blocks = ap (λ (x : Hdr). x.blocks) s.fields in
-    size-of b s.size ∙ h
-
--- the runs of a file that has one header have the blocks that it says
-pub alone_sized : (n : ℕ) (f : Hdr) (b : Block) → header_read b ≡ Ok (head.Used f) → blocks_in (alone n f b).runs ≡ size_in (fields_in (alone n f b).head)
-alone_sized n f b e = read_blocks b f e
-
--- and so those of each file have the blocks that its first header says
-pub sized : (g : Geometry) (bs : List Block) (n : ℕ) → IsHead n (told_of g bs n).head → blocks_in (told_of g bs n).runs ≡ size_in (fields_in (told_of g bs n).head)
-sized g bs n is = by_read (told_of g bs n).head refl is where
-  by_read : (r : Result Head HeaderFault) → (told_of g bs n).head ≡ r → IsHead n r → blocks_in (told_of g bs n).runs ≡ size_in (fields_in (told_of g bs n).head)
-  by_read (Ok (head.Used f)) e is = subst (λ (t : Told). blocks_in t.runs ≡ size_in (fields_in t.head)) (sym (alone_told g bs n f (first_reads (header_block g bs n) f e))) (alone_sized n f (header_block g bs n) (first_reads (header_block g bs n) f e))
-  by_read (Ok (head.Free seq)) e is = subst (λ (t : Told). blocks_in t.runs ≡ size_in (fields_in t.head)) (sym (none_told g bs n seq e)) refl
-  by_read (Err fault) e is = absurd is
 
 none_by : (k f : ℕ) → 1 ≤ f → k * f ≡ 0 → 0 ≡ k
 none_by zero f low e = refl
@@ -90,13 +52,13 @@ size_told g own n t blocks s low tells = size_by g n t.head t.runs blocks s low 
 -- ---- counting by owner
 
 -- 1 where the owner is one of the files 1 to k
-below : ℕ → Owner → ℕ
+pub below : ℕ → Owner → ℕ
 below k Free = 0
 below k (InFile j) = cond (nat_lt 0 j && nat_lt j (k + 1)) 1 0
 below k (Outside node) = 0
 below k Leaked = 0
 
-below_more : (k : ℕ) (o : Owner) → below (k + 1) o ≡ below k o + cond (is_same_owner (InFile (k + 1)) o) 1 0
+pub below_more : (k : ℕ) (o : Owner) → below (k + 1) o ≡ below k o + cond (is_same_owner (InFile (k + 1)) o) 1 0
 unfolding below is_same_owner
 below_more k Free = refl
 below_more k (InFile j) = one k j where
@@ -114,14 +76,14 @@ below_zero (InFile j) = one j where
 below_zero (Outside node) = refl
 below_zero Leaked = refl
 
-below_none : (xs : List Owner) → sum_by (below 0) xs ≡ 0
+pub below_none : (xs : List Owner) → sum_by (below 0) xs ≡ 0
 below_none [] = refl
 below_none (x ∷ xs) =
     let a : below 0 x ≡ 0 = below_zero x in
     let b : sum_by (below 0) xs ≡ 0 = below_none xs in
     sum_by-cons (below 0) x xs ∙ (let e : below 0 x + sum_by (below 0) xs ≡ 0 = omega arith in e)
 
-sum_add : (f h k : Owner → ℕ) → ((o : Owner) → f o ≡ h o + k o) → (xs : List Owner) → sum_by f xs ≡ sum_by h xs + sum_by k xs
+pub sum_add : (f h k : Owner → ℕ) → ((o : Owner) → f o ≡ h o + k o) → (xs : List Owner) → sum_by f xs ≡ sum_by h xs + sum_by k xs
 sum_add f h k e [] = refl
 sum_add f h k e (x ∷ xs) =
     let a : f x ≡ h x + k x = e x in
@@ -139,7 +101,7 @@ one_each k (InFile j) known = let h = known j refl in one k j h.0 h.1 where
 one_each k (Outside node) known = refl
 one_each k Leaked known = refl
 
-all_each : (k : ℕ) (xs : List Owner) → ((q n : ℕ) → slice_get xs q ≡ Some (InFile n) → (1 ≤ n) × (n ≤ k))
+pub all_each : (k : ℕ) (xs : List Owner) → ((q n : ℕ) → slice_get xs q ≡ Some (InFile n) → (1 ≤ n) × (n ≤ k))
     → length xs ≡ count_by (is_same_owner Free) xs + count_by is_outside xs + count_by (is_same_owner Leaked) xs + sum_by (below k) xs
 all_each k [] known = refl
 all_each k (x ∷ xs) known =

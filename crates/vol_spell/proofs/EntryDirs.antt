@@ -12,7 +12,7 @@ use Rattle.fx_header.specs.declared.slot.Hdr.{Hdr}
 use Rattle.fx_header.specs.declared.slot.Slot.{Slot as Head}
 use Rattle.fx_header.specs.declared.slot.Slot.TheVariants as head
 use Rattle.fx_header.specs.declared.slot.HeaderFault.{HeaderFault}
-use Rattle.fx_header.specs.Headers.{header_read, runs_in}
+use Rattle.fx_header.specs.Headers.{runs_in}
 use Rattle.fx_header.specs.Pointers.{lbns_in}
 use Rattle.fx_dir.specs.declared.RawEnt.{RawEnt}
 use Rattle.fx_dir.specs.Directory.{directory, dir_entries}
@@ -29,10 +29,12 @@ use Rattle.vol_parts.specs.declared.finding.Finding.TheVariants as finding
 use Rattle.vol_parts.specs.declared.geometry.Geometry.{Geometry}
 use Rattle.vol_parts.specs.Volumes.{Told, fields_in}
 use Rattle.vol_parts.specs.Catalogues.{plain_entry, plain_entries, is_structure, written_blocks, entries_in, file_of, slot_with}
-use Rattle.vol_parts.specs.Fatal.{is_cluster_run, is_system_header, has_dir_size, found_in}
+use Rattle.vol_parts.specs.Chains.{cut}
+use Rattle.vol_parts.specs.Fatal.{is_one_header, is_cluster_run, is_system_header, has_dir_size, found_in}
 use Rattle.vol_spell.specs.Reading.{IsFileNumber, header_block, head_told, told_of, alone, body_places, body_blocks}
 use Rattle.vol_spell.specs.Spelling.{Tells, dir_found, Spells}
-use Rattle.vol_spell.proofs.Heads.{alone_told, first_reads}
+use Rattle.vol_spell.proofs.HeadSlots.{alone_told, dir_runs}
+use Rattle.vol_spell.proofs.OneHeader.{alone_whole}
 use Rattle.vol_spell.proofs.Frames.{of_body}
 use Rattle.vol_spell.proofs.Told.{no_dir, no_directory, which_structure}
 use Rattle.vol_spell.specs.Entries.{places_in, blocks_of}
@@ -61,9 +63,10 @@ module _ (g : Geometry) (bs : List Block) (own : Owners) (x : Cat) (s : Spells g
 pub record IsDirAt (g : Geometry) (bs : List Block) (n : ℕ) (d : File) : Type 0 where
   pub fields : Hdr
   pub entries : List RawEnt
-  pub header : header_read (header_block g bs n) ≡ Ok (head.Used fields)
+  pub header : head_told (header_block g bs n) ≡ Ok (head.Used fields)
   pub dir : fields.dir ≡ true
   pub told : told_of g bs n ≡ alone n fields (header_block g bs n)
+  pub one : is_one_header fields (alone n fields (header_block g bs n)) ≡ true
   pub places : body_places n (told_of g bs n) ≡ places_in (header_block g bs n)
   pub file : file_of g.cluster n fields (blocks_of g bs n) ≡ d
   pub size : has_dir_size g.cluster fields (runs_in (header_block g bs n)) ≡ true
@@ -101,16 +104,23 @@ one_cluster factor (r ∷ []) h =
 one_cluster factor (r ∷ q ∷ rs) h = absurd (cc)
 
 -- a directory in which nothing is found has its size, and entries
-record IsSound (g : Geometry) (n : ℕ) (f : Hdr) (rs : List Run) (blocks : List Block) : Type 0 where
-  size : has_dir_size g.cluster f rs ≡ true
+record IsSound (g : Geometry) (n : ℕ) (f : Hdr) (t : Told) (blocks : List Block) : Type 0 where
+  one : is_one_header f t ≡ true
+  size : has_dir_size g.cluster f t.runs ≡ true
   entries : List RawEnt
   read : directory blocks ≡ Ok entries
 
-nothing_found : (g : Geometry) (n : ℕ) (f : Hdr) (rs : List Run) (blocks : List Block) → f.dir ≡ true → dir_found g n (Some f) rs blocks ≡ None → IsSound g n f rs blocks
-nothing_found g n f rs blocks d h = by_dir (has_dir_size g.cluster f rs) refl (ap (λ q. if not q then None else if has_dir_size g.cluster f rs then found_in n (directory blocks) else Some (finding.DirSize n)) (sym d) ∙ h) where
-  by_dir : (q : Bool) → has_dir_size g.cluster f rs ≡ q → (if q then found_in n (directory blocks) else Some (finding.DirSize n)) ≡ None → IsSound g n f rs blocks
-  by_dir false e t = absurd (cc)
-  by_dir true e t = let r = read_where_none_found n blocks t in record { size = e; entries = r.0; read = r.1 }
+nothing_found : (g : Geometry) (n : ℕ) (f : Hdr) (t : Told) (blocks : List Block) → f.dir ≡ true → dir_found g n (Some f) t blocks ≡ None → IsSound g n f t blocks
+nothing_found g n f t blocks d h =
+    by_dir (is_one_header f t && has_dir_size g.cluster f t.runs) refl
+    (ap (λ q. if not q then None else if is_one_header f t && has_dir_size g.cluster f t.runs then found_in n (directory blocks) else Some (finding.DirSize n)) (sym d) ∙ h)
+  where
+    by_dir : (q : Bool) → (is_one_header f t && has_dir_size g.cluster f t.runs) ≡ q → (if q then found_in n (directory blocks) else Some (finding.DirSize n)) ≡ None → IsSound g n f t blocks
+    by_dir false e none = absurd (cc)
+    by_dir true e none =
+        let r = read_where_none_found n blocks none in
+        let parts = and_parts (is_one_header f t) (has_dir_size g.cluster f t.runs) e in
+        record { one = parts.0; size = parts.1; entries = r.0; read = r.1 }
 
 module _ (g : Geometry) (bs : List Block) (own : Owners) (x : Cat) (s : Spells g bs own x) (n : ℕ) (is : IsFileNumber g n) (d : File) (at : file_at x n ≡ Some d) (dir : d.dir ≡ true) where
   abbrev h : Block
@@ -123,28 +133,30 @@ module _ (g : Geometry) (bs : List Block) (own : Owners) (x : Cat) (s : Spells g
   by_read (Err fault) e told = absurd (cc)
   by_read (Ok (head.Free seq)) e told = absurd (cc)
   by_read (Ok (head.Used f)) e told =
-      let reads : header_read h ≡ Ok (head.Used f) = first_reads h f e in
-      let one : told_of g bs n ≡ alone n f h = alone_told g bs n f reads in
+      let one : told_of g bs n ≡ alone n f h = alone_told g bs own x s n f is e in
       let file : file_of g.cluster n f (body_blocks bs n (told_of g bs n)) ≡ d = cc in
       let is_dir : f.dir ≡ true = ap (λ (y : File). y.dir) file ∙ dir in
       let plain : is_structure n ≡ false = plain_directory g bs own x s n f (ap (λ (t : Told). t.head) one) is_dir in
       let places : body_places n (told_of g bs n) ≡ places_in h =
-      ap (λ q. if q then [] else lbns_in (told_of g bs n).runs) plain ∙ ap (λ (t : Told). lbns_in t.runs) one in
+      ap (λ q. if q then [] else lbns_in (told_of g bs n).runs) plain ∙ ap lbns_in (dir_runs g bs own x s n f is e is_dir) in
+      let runs : cut f.blocks (runs_in h) ≡ runs_in h = ap (λ (t : Told). t.runs) (sym one) ∙ dir_runs g bs own x s n f is e is_dir in
       let body : body_blocks bs n (told_of g bs n) ≡ blocks_of g bs n = ap (blocks_at bs) places in
-      let found : dir_found g n (Some f) (runs_in h) (body_blocks bs n (told_of g bs n)) ≡ None =
-      ap (λ (t : Told). dir_found g n (fields_in t.head) t.runs (body_blocks bs n (told_of g bs n))) (sym one) ∙ tells.dir in
-      let found_on : dir_found g n (Some f) (runs_in h) (blocks_of g bs n) ≡ None = ap (dir_found g n (Some f) (runs_in h)) (sym body) ∙ found in
-      let sound = nothing_found g n f (runs_in h) (blocks_of g bs n) is_dir found_on in
-      let run = and_parts (is_cluster_run g.cluster (runs_in h)) ((f.mark == 0) && ((f.end == g.cluster + 1) && (f.byte == 0))) sound.size in
+      let found : dir_found g n (Some f) (alone n f h) (body_blocks bs n (told_of g bs n)) ≡ None =
+      ap (λ (t : Told). dir_found g n (fields_in t.head) t (body_blocks bs n (told_of g bs n))) (sym one) ∙ tells.dir in
+      let found_on : dir_found g n (Some f) (alone n f h) (blocks_of g bs n) ≡ None = ap (dir_found g n (Some f) (alone n f h)) (sym body) ∙ found in
+      let sound = nothing_found g n f (alone n f h) (blocks_of g bs n) is_dir found_on in
+      let size : has_dir_size g.cluster f (runs_in h) ≡ true = ap (has_dir_size g.cluster f) (sym runs) ∙ sound.size in
+      let run = and_parts (is_cluster_run g.cluster (runs_in h)) ((f.mark == 0) && ((f.end == g.cluster + 1) && (f.byte == 0))) size in
       record {
         fields = f;
         entries = sound.entries;
-        header = reads;
+        header = e;
         dir = is_dir;
         told = one;
+        one = sound.one;
         places = places;
         file = ap (file_of g.cluster n f) (sym body) ∙ file;
-        size = sound.size;
+        size = size;
         read = sound.read;
         count = length-blocks_at bs (places_in h) ∙ one_cluster g.cluster (runs_in h) run.0;
         whole = whole_at bs (places_in h) s.whole (λ l t. (of_body g bs own x s n l is (subst (λ (ls : List ℕ). Has ls l) (sym places) t)).within);
@@ -167,7 +179,7 @@ dir_lists g bs n d at = ap (λ (y : File). y.entries) (sym at.file) ∙ entries_
 
 -- blocks that read as these entries tell the directory with them, and nothing is found in it
 pub record ShowsDir (g : Geometry) (n : ℕ) (t : Told) (d : File) (es : List RawEnt) (blocks : List Block) : Type 0 where
-  pub none : dir_found g n (fields_in t.head) t.runs blocks ≡ None
+  pub none : dir_found g n (fields_in t.head) t blocks ≡ None
   pub slot : slot_with g.cluster n t.head blocks ≡ slot.Used (record d { entries = map plain_entry es })
 
 pub shows_dir : (g : Geometry) (bs : List Block) (n : ℕ) (d : File) (at : IsDirAt g bs n d) (es : List RawEnt) (blocks : List Block) → dir_entries blocks ≡ Ok es → ShowsDir g n (told_of g bs n) d es blocks
@@ -175,8 +187,10 @@ shows_dir g bs n d at es blocks read =
     let f = at.fields in
     let h = header_block g bs n in
     record {
-      none = ap (λ (t : Told). dir_found g n (fields_in t.head) t.runs blocks) at.told
-          ∙ ap (λ q. if not q then None else if has_dir_size g.cluster f (runs_in h) then found_in n (directory blocks) else Some (finding.DirSize n)) at.dir
+      none = ap (λ (t : Told). dir_found g n (fields_in t.head) t blocks) at.told
+          ∙ ap (λ q. if not q then None else if is_one_header f (alone n f h) && has_dir_size g.cluster f (cut f.blocks (runs_in h)) then found_in n (directory blocks) else Some (finding.DirSize n)) at.dir
+          ∙ ap (λ q. if q && has_dir_size g.cluster f (cut f.blocks (runs_in h)) then found_in n (directory blocks) else Some (finding.DirSize n)) at.one
+          ∙ ap (λ (rs : List Run). if has_dir_size g.cluster f rs then found_in n (directory blocks) else Some (finding.DirSize n)) (alone_whole n f h at.one)
           ∙ ap (λ q. if q then found_in n (directory blocks) else Some (finding.DirSize n)) at.size
           ∙ none_found_where_read n (directory blocks) es read;
       slot = ap (λ (t : Told). slot_with g.cluster n t.head blocks) at.told ∙ ap (λ (y : File). slot.Used y) file;

@@ -117,18 +117,18 @@ module _ (g : Geometry) (own : Owners) (n : ℕ) (h : Block) (t : Told) (is : Is
       ap (λ (fs : List Slot). record y { files = fs }) (set-get y.files (n - 1) (shown body) (at ∙ ap (λ (z : Slot). Some z) (sym e)))
 
   -- a block of the directory, after which it can be read
-  is_body : (bs body : List Block) (v l : ℕ) (b : Block) → IsWholeBlock b → IsFileAt g bs n h t body → slice_get (places_in h) v ≡ Some l → dir_found g n (fields_in t.head) t.runs (slice_set body v b) ≡ None
+  is_body : (bs body : List Block) (v l : ℕ) (b : Block) → IsWholeBlock b → IsFileAt g bs n h t body → slice_get (places_in h) v ≡ Some l → dir_found g n (fields_in t.head) t (slice_set body v b) ≡ None
       → IsBodyFor g bs n v l b (shown (slice_set body v b))
   is_body bs body v l b whole f place dir = record {
     whole = whole;
     number = is;
     place = ap (λ (k : Told). slice_get (body_places n k) v) f.told ∙ ap (λ (ls : List ℕ). slice_get ls v) places ∙ place;
-    dir = ap (λ (k : Told). dir_found g n (fields_in k.head) k.runs (slice_set (body_blocks bs n (told_of g bs n)) v b)) f.told ∙ ap (λ (y : List Block). dir_found g n (fields_in t.head) t.runs (slice_set y v b)) f.body ∙ dir;
+    dir = ap (λ (k : Told). dir_found g n (fields_in k.head) k (slice_set (body_blocks bs n (told_of g bs n)) v b)) f.told ∙ ap (λ (y : List Block). dir_found g n (fields_in t.head) t (slice_set y v b)) f.body ∙ dir;
     slot = ap (λ (k : Told). slot_with g.cluster n k.head (slice_set (body_blocks bs n (told_of g bs n)) v b)) f.told ∙ ap (λ (y : List Block). shown (slice_set y v b)) f.body;
   }
 
   spelt_after : (k : ℕ) (ms : List Move) (bs body : List Block) (y : Cat) → Each (λ m. IsWholeBlock m.block) ms → AreChanges ms body → length body ≡ length (places_in h) → Spells g bs own y → IsFileAt g bs n h t body
-      → ((i : ℕ) → i ≤ length ms → dir_found g n (fields_in t.head) t.runs (moved (take i ms) body) ≡ None)
+      → ((i : ℕ) → i ≤ length ms → dir_found g n (fields_in t.head) t (moved (take i ms) body) ≡ None)
       → Spells g (written (places_written h (take k ms)) bs) own (with_slot y n (shown (moved (take k ms) body)))
   spelt_after zero ms bs body y whole changes count s f none = subst (λ (z : Cat). Spells g bs own z) (sym (same_slot bs body y s f)) s
   spelt_after (suc k) [] bs body y whole changes count s f none = subst (λ (z : Cat). Spells g bs own z) (sym (same_slot bs body y s f)) s

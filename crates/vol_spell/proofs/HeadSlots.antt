@@ -1,6 +1,6 @@
 -- What a header tells of the catalogue that the blocks spell.
-use Rattle.std.proofs.Common.{◌≡◌, ◌≤◌, ◌<◌, ◌+◌, ◌-◌, ◌*◌, ◌/◌, ◌∙◌, ℕ, false, cond, List, [], ◌∷◌, Some, None, length, slice_get, refl, sym, ap, subst, inl, inr, arith}
-use Rattle.std.specs.Prelude.{◌==◌, option_map, Result, Ok, Err}
+use Rattle.std.proofs.Common.{◌≡◌, ◌≤◌, ◌<◌, ◌+◌, ◌-◌, ◌*◌, ◌/◌, ◌∙◌, ℕ, Bool, true, false, cond, List, ◌∷◌, Option, Some, None, length, slice_get, get_or, refl, sym, ap, subst, inl, inr, arith}
+use Rattle.std.specs.Prelude.{◌==◌, ◌&&◌, not, option_map, Result, Ok, Err, if◌then◌else◌}
 use Rattle.std.specs.List.{range_with_len}
 use Rattle.std.proofs.lemmas.Bool.Decides.{nat_tests}
 use Rattle.std.proofs.lemmas.Option.{slice_get-map}
@@ -9,52 +9,61 @@ use Rattle.base_words.specs.Fields.{Block}
 use Rattle.base_words.specs.Lists.{Has}
 use Rattle.fx_header.specs.declared.run.Run.{Run}
 use Rattle.fx_header.specs.declared.slot.Hdr.{Hdr}
+use Rattle.fx_header.specs.declared.slot.HeaderFault.{HeaderFault}
 use Rattle.fx_header.specs.declared.slot.Slot.{Slot as Head}
 use Rattle.fx_header.specs.declared.slot.Slot.TheVariants as head
-use Rattle.fx_header.specs.declared.slot.HeaderFault.{HeaderFault}
-use Rattle.fx_header.specs.Headers.{header_read, runs_in, fields_of}
-use Rattle.fx_header.specs.Pointers.{lbns_in}
-use Rattle.fx_header.proofs.SoundLemmas.{reads-sound, blocks-of}
+use Rattle.fx_header.specs.Headers.{header_read, runs_in}
+use Rattle.fx_header.specs.Pointers.{blocks_in, lbns_in}
+use Rattle.fx_dir.specs.Directory.{directory}
 use Rattle.plain_cat.specs.declared.cat.Cat.{Cat}
-use Rattle.plain_rules.specs.Lookups.{slot_at, file_in, file_at, header_most, file_most}
+use Rattle.plain_cat.specs.declared.cat.File.{File}
+use Rattle.plain_cat.specs.declared.cat.Slot.TheVariants as slot
+use Rattle.plain_rules.specs.Lookups.{slot_at, file_in, file_at}
 use Rattle.vol_parts.specs.declared.geometry.Geometry.{Geometry}
-use Rattle.vol_parts.specs.Volumes.{fields_in, Told, runs_with}
+use Rattle.vol_parts.specs.declared.finding.Finding.TheVariants as finding
+use Rattle.vol_parts.specs.Chains.{as_first, cut}
+use Rattle.vol_parts.specs.Fatal.{is_one_header, has_dir_size, found_in}
+use Rattle.vol_parts.specs.Volumes.{fields_in, Told, chain_from}
 use Rattle.vol_parts.specs.Catalogues.{slot_with, slot_of, files_of, file_of}
-use Rattle.vol_parts.proofs.Sizes.{length-lbns_in}
 use Rattle.vol_spell.specs.Owners.{Owners}
-use Rattle.vol_spell.specs.Reading.{IsFileNumber, volume_of, header_block, told_of, fields_told, runs_told, clusters_of}
-use Rattle.vol_spell.specs.Spelling.{IsHead, AreWhole, Spells}
+use Rattle.vol_spell.specs.Reading.{IsFileNumber, volume_of, header_block, headers_at, head_told, told_of, fields_told, alone, runs_first, runs_told, clusters_told, body_blocks}
+use Rattle.vol_spell.specs.Spelling.{dir_found, size_in, has_one_at_most, Spells}
 use Rattle.vol_spell.specs.Spread.{blocks_at}
-use Rattle.vol_spell.proofs.Heads.{head_alone, alone_told, none_told}
+use Rattle.vol_spell.proofs.Heads.{first_reads, used_first}
+pub use Rattle.vol_spell.proofs.OneHeader.{one_header_each}
+use Rattle.vol_spell.proofs.OneHeader.{tells_slot, told_slot, told_alone, alone_enough, alone_whole}
 use Rattle.vol_spell.proofs.Parts.{told}
-use Rattle.vol_spell.proofs.Placing.{spread_places}
-use Rattle.vol_spell.proofs.Runs.{lbns_spread}
+use Rattle.vol_spell.proofs.Runs.{size_of_runs}
 use Rattle.vol_spell.proofs.Told.{told_by, slot_there_of}
 use Rattle.vol_spell.proofs.Viewing.{get_range}
 
-pub reads_fields : (b : Block) (h : Hdr) → header_read b ≡ Ok (head.Used h) → fields_told b ≡ Some h
-reads_fields b h e = ap fields_in (head_alone b ∙ e)
+pub reads_fields : (b : Block) (h : Hdr) → head_told b ≡ Ok (head.Used h) → fields_told b ≡ Some h
+reads_fields b h e = ap fields_in e
 
-pub reads_runs : (b : Block) (h : Hdr) → header_read b ≡ Ok (head.Used h) → runs_told b ≡ runs_in b
-reads_runs b h e = ap (λ o. runs_with o b) (reads_fields b h e)
-
--- and a slot that is free tells no runs
-pub no_runs : (b : Block) (last : ℕ) → header_read b ≡ Ok (head.Free last) → runs_told b ≡ []
-no_runs b last e = ap (λ r. runs_with (fields_in r) b) (head_alone b ∙ e)
-
--- a header that can be read says as many blocks as its runs have
-pub blocks_said : (b : Block) (h : Hdr) → header_read b ≡ Ok (head.Used h) → length (lbns_in (runs_in b)) ≡ h.blocks
-unfolding fields_of
-blocks_said b h e =
-    let sound = reads-sound b h e in
-    length-lbns_in (runs_in b) ∙ blocks-of b sound.size ∙ ap (λ (x : Hdr). x.blocks) sound.fields
+pub reads_runs : (b : Block) (h : Hdr) → head_told b ≡ Ok (head.Used h) → runs_told b ≡ cut h.blocks (runs_in b)
+reads_runs b h e = ap (λ o. runs_first o b) (reads_fields b h e)
 
 pub quotient : (k w : ℕ) → 1 ≤ w → k * w / w ≡ k
 quotient k w low = ap (λ x. x / w) (let z : k * w ≡ k * w + 0 = omega arith in z) ∙ div-mul-add k w 0 (omega arith)
 
--- A file is within one header, since it may not have more clusters. This goes when files have more headers.
-pub one_header_each : (clusters : ℕ) → clusters ≤ file_most → clusters ≤ header_most
-one_header_each clusters few = few
+-- a fault that is told is one that is read
+err_first : (r : Result Head HeaderFault) (fault : HeaderFault) → as_first r ≡ Err fault → r ≡ Err fault
+err_first (Ok (head.Used f)) fault e = absurd (by_segment (f.seg == 0) e) where
+  by_segment : (t : Bool) → (if t then Ok (head.Used f) else Ok (head.Free f.seq)) ≡ Err fault → ⊥
+  by_segment true e = cc
+  by_segment false e = cc
+err_first (Ok (head.Free seq)) fault e = absurd (cc)
+err_first (Err other) fault e = e
+
+-- a directory in which nothing is found has one header
+pub dir_alone : (g : Geometry) (n : ℕ) (f : Hdr) (t : Told) (blocks : List Block) → f.dir ≡ true → dir_found g n (Some f) t blocks ≡ None → is_one_header f t ≡ true
+dir_alone g n f t blocks dir none =
+    by_one (is_one_header f t) (has_dir_size g.cluster f t.runs)
+    (ap (λ q. cond (not q) None (cond (is_one_header f t && has_dir_size g.cluster f t.runs) (found_in n (directory blocks)) (Some (finding.DirSize n)))) (sym dir) ∙ none)
+  where
+    by_one : (a b : Bool) → cond (a && b) (found_in n (directory blocks)) (Some (finding.DirSize n)) ≡ None → a ≡ true
+    by_one true b e = refl
+    by_one false b e = absurd (cc)
 
 -- the file's blocks by its header
 abbrev pub file_blocks : List Block → Block → List Block
@@ -79,49 +88,78 @@ module _ (g : Geometry) (bs : List Block) (own : Owners) (c : Cat) (s : Spells g
       ap (λ x. cond x None (slice_get c.files (n - 1))) z ∙ ap (λ xs. slice_get xs (n - 1)) t.files ∙ listed_slot n is
       ∙ ap (λ x. Some x) (slot_there_of (volume_of g bs) n (told_of g bs n) (blocks_at bs (lbns_in (told_of g bs n).runs)) (t.told n is) (t.bodies n is))
 
-  -- a file has one header, which tells its runs
-  pub alone_runs : (n : ℕ) → IsFileNumber g n → (told_of g bs n).runs ≡ runs_told (header_block g bs n)
-  alone_runs n is = by_read (header_read (header_block g bs n)) refl where
-    by_read : (r : Result Head HeaderFault) → header_read (header_block g bs n) ≡ r → (told_of g bs n).runs ≡ runs_told (header_block g bs n)
-    by_read (Ok (head.Used h)) e = ap (λ (t : Told). t.runs) (alone_told g bs n h e) ∙ sym (reads_runs (header_block g bs n) h e)
-    by_read (Ok (head.Free last)) e = ap (λ (t : Told). t.runs) (none_told g bs n last (head_alone (header_block g bs n) ∙ e)) ∙ sym (no_runs (header_block g bs n) last e)
-    by_read (Err fault) e = absurd (subst (IsHead n) e (s.slots.heads n is))
+  -- a file has one header
+  pub alone_told : (n : ℕ) (h : Hdr) → IsFileNumber g n → head_told (header_block g bs n) ≡ Ok (head.Used h) → told_of g bs n ≡ alone n h (header_block g bs n)
+  alone_told n h is e =
+      let used = reads_fields (header_block g bs n) h e in
+      told_alone g bs n h used
+      (tells_slot g own bs n h (body_blocks bs n (told_of g bs n)) (get_or c.files (n - 1) (slot.Free 0)) s.counts.geometry.cluster_from (told g bs own c s n is) used)
 
-  -- and its fields
-  pub alone_head : (n : ℕ) → IsFileNumber g n → (told_of g bs n).head ≡ header_read (header_block g bs n)
-  alone_head n is = by_read (header_read (header_block g bs n)) refl where
-    by_read : (r : Result Head HeaderFault) → header_read (header_block g bs n) ≡ r → (told_of g bs n).head ≡ header_read (header_block g bs n)
-    by_read (Ok (head.Used h)) e = ap (λ (t : Told). t.head) (alone_told g bs n h e) ∙ sym e
-    by_read (Ok (head.Free last)) e = ap (λ (t : Told). t.head) (none_told g bs n last (head_alone (header_block g bs n) ∙ e)) ∙ sym e
-    by_read (Err fault) e = absurd (subst (IsHead n) e (s.slots.heads n is))
+  -- which lists all of its blocks
+  pub listed_enough : (n : ℕ) (h : Hdr) → IsFileNumber g n → head_told (header_block g bs n) ≡ Ok (head.Used h) → h.blocks ≤ blocks_in (runs_in (header_block g bs n))
+  listed_enough n h is e =
+      alone_enough h (header_block g bs n) (subst (λ (t : Told). blocks_in t.runs ≡ size_in (fields_in t.head)) (alone_told n h is e) (told g bs own c s n is).size)
+
+  -- its runs are the first of those that this header lists
+  pub alone_runs : (n : ℕ) → IsFileNumber g n → (told_of g bs n).runs ≡ runs_told (header_block g bs n)
+  alone_runs n is = by_fields (fields_told (header_block g bs n)) refl where
+    by_fields : (o : Option Hdr) → fields_told (header_block g bs n) ≡ o → (told_of g bs n).runs ≡ runs_told (header_block g bs n)
+    by_fields None e = ap (λ o. (chain_from (headers_at g bs) n o).runs) e ∙ ap (λ o. runs_first o (header_block g bs n)) (sym e)
+    by_fields (Some h) e = ap (λ (t : Told). t.runs) (alone_told n h is (used_first (header_block g bs n) h e)) ∙ ap (λ o. runs_first o (header_block g bs n)) (sym e)
+
+  -- that of a system file lists just these
+  pub system_one : (n : ℕ) (h : Hdr) → IsFileNumber g n → head_told (header_block g bs n) ≡ Ok (head.Used h) → n ≤ 11 → is_one_header h (alone n h (header_block g bs n)) ≡ true
+  system_one n h is e low = subst (λ (t : Told). has_one_at_most (fields_in t.head) t ≡ true) (alone_told n h is e) ((told g bs own c s n is).system low)
+
+  pub system_runs : (n : ℕ) (h : Hdr) → IsFileNumber g n → head_told (header_block g bs n) ≡ Ok (head.Used h) → n ≤ 11 → (told_of g bs n).runs ≡ runs_in (header_block g bs n)
+  system_runs n h is e low = ap (λ (t : Told). t.runs) (alone_told n h is e) ∙ alone_whole n h (header_block g bs n) (system_one n h is e low)
+
+  -- and so does that of a directory
+  pub dir_one : (n : ℕ) (h : Hdr) → IsFileNumber g n → head_told (header_block g bs n) ≡ Ok (head.Used h) → h.dir ≡ true → is_one_header h (alone n h (header_block g bs n)) ≡ true
+  dir_one n h is e dir =
+      dir_alone g n h (alone n h (header_block g bs n)) (body_blocks bs n (told_of g bs n)) dir
+      (subst (λ (t : Told). dir_found g n (fields_in t.head) t (body_blocks bs n (told_of g bs n)) ≡ None) (alone_told n h is e) (told g bs own c s n is).dir)
+
+  pub dir_runs : (n : ℕ) (h : Hdr) → IsFileNumber g n → head_told (header_block g bs n) ≡ Ok (head.Used h) → h.dir ≡ true → (told_of g bs n).runs ≡ runs_in (header_block g bs n)
+  dir_runs n h is e dir = ap (λ (t : Told). t.runs) (alone_told n h is e) ∙ alone_whole n h (header_block g bs n) (dir_one n h is e dir)
 
   -- and the header slot of its number alone
   pub alone_slot : (n m : ℕ) → IsFileNumber g n → Has (n ∷ (told_of g bs n).slots) m → n ≡ m
-  alone_slot n m is t = elim t [ inl e ↦ e | inr u ↦ by_read (header_read (header_block g bs n)) refl u ] where
-    by_read : (r : Result Head HeaderFault) → header_read (header_block g bs n) ≡ r → Has (told_of g bs n).slots m → n ≡ m
-    by_read (Ok (head.Used h)) e u = elim (subst (λ (z : Told). Has z.slots m) (alone_told g bs n h e) u) [ inl same ↦ same | inr none ↦ absurd none ]
-    by_read (Ok (head.Free last)) e u = absurd (subst (λ (z : Told). Has z.slots m) (none_told g bs n last (head_alone (header_block g bs n) ∙ e)) u)
-    by_read (Err fault) e u = absurd (subst (IsHead n) e (s.slots.heads n is))
+  alone_slot n m is t = elim t [
+    | inl e ↦ e
+    | inr u ↦ told_slot g own bs n (body_blocks bs n (told_of g bs n)) (get_or c.files (n - 1) (slot.Free 0)) m s.counts.geometry.cluster_from (told g bs own c s n is) u
+  ]
 
-  -- so the slot of a number, by its header
-  pub slot_is : (n : ℕ) → IsFileNumber g n → slot_at c n ≡ Some (slot_with g.cluster n (header_read (header_block g bs n)) (file_blocks bs (header_block g bs n)))
+  -- so the slot of a number, by its block
+  pub slot_is : (n : ℕ) → IsFileNumber g n → slot_at c n ≡ Some (slot_with g.cluster n (head_told (header_block g bs n)) (file_blocks bs (header_block g bs n)))
   slot_is n is =
-      slot_told n is ∙ ap (λ r. Some (slot_with g.cluster n r (blocks_at bs (lbns_in (told_of g bs n).runs)))) (alone_head n is)
-      ∙ ap (λ (rs : List Run). Some (slot_with g.cluster n (header_read (header_block g bs n)) (blocks_at bs (lbns_in rs)))) (alone_runs n is)
+      slot_told n is ∙ ap (λ (rs : List Run). Some (slot_with g.cluster n (head_told (header_block g bs n)) (blocks_at bs (lbns_in rs)))) (alone_runs n is)
 
   -- the file of a number whose header is in use
-  pub file_told_at : (n : ℕ) (h : Hdr) → IsFileNumber g n → header_read (header_block g bs n) ≡ Ok (head.Used h) → file_at c n ≡ Some (file_of g.cluster n h (file_blocks bs (header_block g bs n)))
+  pub file_told_at : (n : ℕ) (h : Hdr) → IsFileNumber g n → head_told (header_block g bs n) ≡ Ok (head.Used h) → file_at c n ≡ Some (file_of g.cluster n h (file_blocks bs (header_block g bs n)))
   file_told_at n h is e = ap file_in (slot_is n is) ∙ ap (λ r. file_in (Some (slot_with g.cluster n r (file_blocks bs (header_block g bs n))))) e
 
-  -- a header that can be read says as many blocks as its clusters have
-  pub blocks_whole : (n : ℕ) (h : Hdr) → IsFileNumber g n → header_read (header_block g bs n) ≡ Ok (head.Used h) → c.factor * (h.blocks / g.cluster) ≡ h.blocks
+  -- the header of a number that has a file is its first one
+  pub file_first : (n : ℕ) (h : Hdr) (f : File) → IsFileNumber g n → header_read (header_block g bs n) ≡ Ok (head.Used h) → file_at c n ≡ Some f → head_told (header_block g bs n) ≡ Ok (head.Used h)
+  file_first n h f is e at = by_head (head_told (header_block g bs n)) refl (ap file_in (sym (slot_is n is)) ∙ at) where
+    by_head : (r : Result Head HeaderFault) → head_told (header_block g bs n) ≡ r → file_in (Some (slot_with g.cluster n (head_told (header_block g bs n)) (file_blocks bs (header_block g bs n)))) ≡ Some f
+        → head_told (header_block g bs n) ≡ Ok (head.Used h)
+    by_head (Ok (head.Used x)) is_head file =
+        let both : ◌≡◌ {A = Result Head HeaderFault} (Ok (head.Used x)) (Ok (head.Used h)) = sym (first_reads (header_block g bs n) x is_head) ∙ e in
+        is_head ∙ both
+    by_head (Ok (head.Free seq)) is_head file = absurd (no_file (ap (λ r. file_in (Some (slot_with g.cluster n r (file_blocks bs (header_block g bs n))))) (sym is_head) ∙ file)) where
+      no_file : ◌≡◌ {A = Option File} None (Some f) → ⊥
+      no_file q = cc
+    by_head (Err fault) is_head file = absurd (let q : header_read (header_block g bs n) ≡ Err fault = err_first (header_read (header_block g bs n)) fault is_head in let both : ◌≡◌ {A = Result Head HeaderFault} (Ok (head.Used h)) (Err fault) = sym e ∙ q in cc)
+
+  -- a header of a file says as many blocks as the file's clusters have
+  pub blocks_whole : (n : ℕ) (h : Hdr) → IsFileNumber g n → head_told (header_block g bs n) ≡ Ok (head.Used h) → c.factor * (h.blocks / g.cluster) ≡ h.blocks
   blocks_whole n h is e =
-      let b = header_block g bs n in
+      let t = told g bs own c s n is in
       let low = s.counts.geometry.cluster_from in
-      let whole : AreWhole g (runs_told b) = subst (AreWhole g) (alone_runs n is) (told g bs own c s n is).whole in
-      let k = length (clusters_of g.cluster (runs_told b)) in
-      let count : length (lbns_in (runs_told b)) ≡ k * g.cluster = ap length (lbns_spread g (runs_told b) low whole) ∙ spread_places.count g.cluster (clusters_of g.cluster (runs_told b)) in
-      let same : length (lbns_in (runs_told b)) ≡ h.blocks = ap (λ rs. length (lbns_in rs)) (reads_runs b h e) ∙ blocks_said b h e in
-      divided c.factor g.cluster h.blocks k s.constants.factor low (sym same ∙ count) where
+      let k = length (clusters_told g (told_of g bs n)) in
+      let count : k * g.cluster ≡ blocks_in (told_of g bs n).runs = size_of_runs g (told_of g bs n).runs low t.whole in
+      let said : blocks_in (told_of g bs n).runs ≡ h.blocks = t.size ∙ ap size_in (reads_fields (header_block g bs n) h e) in
+      divided c.factor g.cluster h.blocks k s.constants.factor low (sym said ∙ sym count) where
         divided : (f w x k : ℕ) → f ≡ w → 1 ≤ w → x ≡ k * w → f * (x / w) ≡ x
         divided f w x k a low e = rw (a, e) (ap (λ y. w * y) (quotient k w low) ∙ (let z : w * k ≡ k * w = omega arith in z))

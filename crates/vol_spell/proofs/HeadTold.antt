@@ -1,59 +1,63 @@
 -- A block that reads as a file's header, with these clusters.
-use Rattle.std.proofs.Common.{◌≡◌, ◌∙◌, ◌≤◌, ◌<◌, ◌+◌, ◌-◌, ℕ, false, List, [], Some, None, length, slice_get, is_some, refl, sym, ap, subst, arith, cond, inl, inr}
+use Rattle.std.proofs.Common.{◌≡◌, ◌∙◌, ◌≤◌, ◌<◌, ◌+◌, ◌-◌, ℕ, true, false, List, [], Some, None, length, slice_get, is_some, refl, sym, ap, subst, arith, cond, inl, inr}
 use Rattle.std.specs.Prelude.{◌↔◌, Ok}
 use Rattle.base_words.specs.Fields.{Block, IsWholeBlock}
-use Rattle.fx_header.specs.declared.run.Run.{Run}
 use Rattle.fx_header.specs.declared.slot.Hdr.{Hdr}
 use Rattle.fx_header.specs.declared.slot.Slot.TheVariants as head
-use Rattle.fx_header.specs.Headers.{header_read, runs_in}
-use Rattle.fx_header.specs.Pointers.{lbns_in}
+use Rattle.fx_header.specs.Headers.{runs_in}
+use Rattle.fx_header.specs.Pointers.{blocks_in, lbns_in}
 use Rattle.plain_cat.specs.declared.cat.Cat.{Cat}
 use Rattle.plain_cat.specs.declared.cat.File.{File}
 use Rattle.plain_cat.specs.declared.cat.Slot.{Slot}
 use Rattle.plain_cat.specs.declared.cat.Slot.TheVariants as slot
-use Rattle.plain_rules.specs.Lookups.{clusters_in, file_most}
-use Rattle.vol_spell.specs.declared.owner.Owner.TheVariants.{InFile}
+use Rattle.plain_rules.specs.Lookups.{clusters_in, header_most}
+use Rattle.vol_spell.specs.declared.owner.Owner.TheVariants.{InFile, Outside}
 use Rattle.base_words.specs.Lists.{Has, Once}
 use Rattle.vol_spell.specs.Owners.{Owners, OwnersMove, IsFileMove}
 use Rattle.vol_spell.specs.Spread.{blocks_at, spread}
 use Rattle.vol_parts.specs.declared.geometry.Geometry.{Geometry}
 use Rattle.vol_parts.specs.declared.geometry.Part.TheVariants.{Header}
+use Rattle.vol_parts.specs.Chains.{cut}
+use Rattle.vol_parts.specs.Fatal.{is_one_header}
 use Rattle.vol_parts.specs.Volumes.{Told}
 use Rattle.vol_parts.specs.Catalogues.{is_structure, file_of}
-use Rattle.vol_spell.specs.Reading.{IsFileNumber, header_place, header_block, alone, clusters_of, body_places, body_blocks}
+use Rattle.vol_spell.specs.Reading.{IsFileNumber, header_place, header_block, head_told, alone, clusters_of, body_places, body_blocks}
 use Rattle.vol_spell.specs.Spelling.{IsHead, AreWhole, Tells, dir_found, Spells}
 use Rattle.vol_spell.specs.Kinds.{IsHeaderFor}
-use Rattle.vol_spell.proofs.Adds.{alone_sized}
+use Rattle.vol_spell.proofs.Heads.{first_reads}
+use Rattle.vol_spell.proofs.OneHeader.{within_file, alone_size, alone_split}
 use Rattle.vol_spell.proofs.Frames.{on_volume}
-use Rattle.vol_spell.proofs.Parts.{low, part_owned, in_use, alone_number}
+use Rattle.vol_spell.proofs.Parts.{low, part_owned, in_use, own_number}
 use Rattle.vol_spell.proofs.Runs.{lbns_spread}
 use Rattle.vol_spell.proofs.Viewing.{alone_set}
 use Rattle.vol_spell.proofs.HeadSlots.{reads_fields}
 
--- the block reads as a header of number n with these fields and these clusters
+-- The block reads as a first header of number n with these fields, and lists all blocks of the file, which are these clusters.
 pub record IsHeadWith (g : Geometry) (n : ℕ) (b : Block) (h : Hdr) (ds : List ℕ) : Type 0 where
   pub whole : IsWholeBlock b
-  pub reads : header_read b ≡ Ok (head.Used h)
+  pub reads : head_told b ≡ Ok (head.Used h)
   pub num : h.num ≡ n
-  pub runs : AreWhole g (runs_in b)
-  pub clusters : clusters_of g.cluster (runs_in b) ≡ ds
+  pub enough : h.blocks ≤ blocks_in (runs_in b)
+  pub runs : AreWhole g (cut h.blocks (runs_in b))
+  pub clusters : clusters_of g.cluster (cut h.blocks (runs_in b)) ≡ ds
 
--- File n, which is there, has these clusters after a write of its header, each once, and its number. With them the header tells the
--- file f, and a directory can be read.
-pub record IsFileWith (g : Geometry) (bs : List Block) (own new : Owners) (x : Cat) (node n : ℕ) (h : Hdr) (rs : List Run) (ds : List ℕ) (f : File) : Type 0 where
+-- File n, which is there, has these clusters after a write of its header, the block b, each once, and its number. With them the
+-- header tells the file f, a directory can be read, and that of a system file lists just its blocks.
+pub record IsFileWith (g : Geometry) (bs : List Block) (own new : Owners) (x : Cat) (node n : ℕ) (b : Block) (h : Hdr) (ds : List ℕ) (f : File) : Type 0 where
   pub moves : OwnersMove (IsFileMove node n) own new
   pub once : Once ds
   pub clusters : (q : ℕ) → Has ds q ↔ (slice_get new.clusters q ≡ Some (InFile n))
   pub numbers : (i : ℕ) → (slice_get new.numbers i ≡ Some (InFile n)) ↔ (slice_get own.numbers i ≡ Some (InFile n))
-  pub few : 11 < n → length ds ≤ file_most
-  pub dir : dir_found g n (Some h) rs (blocks_at bs (spread g.cluster ds)) ≡ None
+  pub few : 11 < n → length ds ≤ header_most
+  pub system : n ≤ 11 → is_one_header h (alone n h b) ≡ true
+  pub dir : dir_found g n (Some h) (alone n h b) (blocks_at bs (spread g.cluster ds)) ≡ None
   pub file : file_of g.cluster n h (blocks_at bs (spread g.cluster ds)) ≡ f
   pub reserved : (old : Slot) → n ≤ 11 → slice_get x.files (n - 1) ≡ Some old → clusters_in (slot.Used f) ≡ clusters_in old
 
 module _ (g : Geometry) (bs : List Block) (own new : Owners) (x : Cat) (node n : ℕ) (b : Block) (h : Hdr) (ds : List ℕ) (f : File) (spelt : Spells g bs own x) (is : IsFileNumber g n) (plain : is_structure n ≡ false)
-    (old : Hdr) (was : header_read (header_block g bs n) ≡ Ok (head.Used old)) (at : IsHeadWith g n b h ds) (with : IsFileWith g bs own new x node n h (runs_in b) ds f) where
+    (old : Hdr) (was : head_told (header_block g bs n) ≡ Ok (head.Used old)) (at : IsHeadWith g n b h ds) (with : IsFileWith g bs own new x node n b h ds f) where
   places_eq : body_places n (alone n h b) ≡ spread g.cluster ds
-  places_eq = ap (λ t. cond t [] (lbns_in (runs_in b))) plain ∙ lbns_spread g (runs_in b) (low g bs own x spelt) at.runs ∙ ap (spread g.cluster) at.clusters
+  places_eq = ap (λ t. cond t [] (lbns_in (cut h.blocks (runs_in b)))) plain ∙ lbns_spread g (cut h.blocks (runs_in b)) (low g bs own x spelt) at.runs ∙ ap (spread g.cluster) at.clusters
 
   body_eq : body_blocks bs n (alone n h b) ≡ blocks_at bs (spread g.cluster ds)
   body_eq = ap (blocks_at bs) places_eq
@@ -66,7 +70,10 @@ module _ (g : Geometry) (bs : List Block) (own new : Owners) (x : Cat) (node n :
   only_number m number e =
       let low = number.from in
       let back : m - 1 + 1 ≡ m = omega arith in
-      alone_number g bs own x spelt (m - 1) n old was ((with.numbers (m - 1)).0 e) ∙ back
+      own_number g bs own x spelt (m - 1) n ((with.numbers (m - 1)).0 e) ∙ back
+
+  few_listed : 11 < n → length (clusters_of g.cluster (cut h.blocks (runs_in b))) ≤ header_most
+  few_listed above = subst (λ (ls : List ℕ). length ls ≤ header_most) (sym at.clusters) (with.few above)
 
   tells : Tells g new n (alone n h b) (body_blocks bs n (alone n h b)) (slot.Used f)
   tells = record {
@@ -77,13 +84,15 @@ module _ (g : Geometry) (bs : List Block) (own new : Owners) (x : Cat) (node n :
       (λ u. (with.clusters q).0 (subst (λ (ls : List ℕ). Has ls q) at.clusters u)),
       (λ u. subst (λ (ls : List ℕ). Has ls q) (sym at.clusters) ((with.clusters q).1 u)),
     );
-    few = λ above. subst (λ (ls : List ℕ). length ls ≤ file_most) (sym at.clusters) (with.few above);
+    few = λ above. within_file (length (clusters_of g.cluster (cut h.blocks (runs_in b)))) (few_listed above);
+    system = with.system;
+    split = λ above. alone_split g n h b (low g bs own x spelt) at.runs (few_listed above);
     slots = λ m. (
       (λ u. elim u [ inl e ↦ subst (λ (i : ℕ). IsFileNumber g i × (slice_get new.numbers (i - 1) ≡ Some (InFile n))) e (is, (with.numbers (n - 1)).1 numbered) | inr none ↦ absurd none ]),
       (λ u. inl (only_number m u.0 u.1)),
     );
-    size = alone_sized n h b at.reads;
-    dir = ap (dir_found g n (Some h) (runs_in b)) body_eq ∙ with.dir;
+    size = alone_size h b at.enough;
+    dir = ap (dir_found g n (Some h) (alone n h b)) body_eq ∙ with.dir;
     slot = ap (λ (body : List Block). slot.Used (file_of g.cluster n h body)) body_eq ∙ ap (λ (y : File). slot.Used y) with.file;
   }
 
@@ -95,10 +104,12 @@ module _ (g : Geometry) (bs : List Block) (own new : Owners) (x : Cat) (node n :
         number = is;
         slot = inl refl;
         owned = subst (IsFileMove node n) (sym numbered) refl;
-        head = subst (IsHead n) (sym at.reads) at.num;
+        head = subst (IsHead n) (sym (first_reads b h at.reads)) at.num;
         alike = λ ne. absurd (ne refl);
         plain = plain;
         moves = with.moves;
-        tells = subst (λ (z : Told). Tells g new n z (body_blocks bs n z) (slot.Used f)) (sym (alone_set g bs n b h len at.reads)) tells;
+        tells = subst (λ (z : Told). Tells g new n z (body_blocks bs n z) (slot.Used f)) (sym (alone_set g bs n b h len at.reads at.enough)) tells;
+        lost = λ i at mine gone. absurd (gone ((with.numbers (i - 1)).1 mine));
+        outside = λ k e. absurd (let both : Some (InFile n) ≡ Some (Outside k) = sym ((with.numbers (n - 1)).1 numbered) ∙ e in cc);
         reserved = with.reserved;
       }

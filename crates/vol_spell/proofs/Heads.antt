@@ -9,40 +9,40 @@ use Rattle.fx_header.specs.declared.slot.Hdr.{Hdr}
 use Rattle.fx_header.specs.declared.slot.Slot.TheVariants.{Free, Used}
 use Rattle.fx_header.specs.Headers.{header_read}
 use Rattle.fx_header.specs.Pointers.{blocks_in}
-use Rattle.fx_header.proofs.SoundLemmas.{reads-sound}
 use Rattle.vol_parts.specs.declared.geometry.Geometry.{Geometry}
 use Rattle.vol_parts.specs.Chains.{Headers, as_first, chain_of, is_broken}
 use Rattle.vol_parts.specs.ChainLaws.{IsSlot, IsSameSlot}
 use Rattle.vol_parts.specs.Volumes.{fields_in, runs_with, chain_from, told_with, told_by}
 use Rattle.vol_parts.proofs.Walks.{walk-begins, slots-numbers, slots-rise}
 use Rattle.vol_parts.proofs.Linked.{chain-stays}
-use Rattle.vol_parts.proofs.Alone.{first-read, first-is, alone-by}
-use Rattle.vol_spell.specs.Reading.{header_place, header_block, headers_at, head_told, fields_told, told_of, alone, nobody}
+use Rattle.vol_parts.proofs.Alone.{first-used, first-is}
+use Rattle.vol_spell.specs.Reading.{header_place, header_block, headers_at, head_told, fields_told, told_of, nobody}
 use Rattle.vol_spell.specs.Spelling.{size_in}
 use Rattle.vol_spell.specs.Views.{ToldStays}
 
--- ---- one header
-
--- a header that is read is the first one of its file
-pub head_alone : (b : Block) → head_told b ≡ header_read b
-head_alone b = first-read b (header_read b) refl
-
--- and the only one: the file has its runs
-pub alone_told : (g : Geometry) (bs : List Block) (n : ℕ) (f : Hdr) → header_read (header_block g bs n) ≡ Ok (Used f) → told_of g bs n ≡ alone n f (header_block g bs n)
-alone_told g bs n f e =
-    let b = header_block g bs n in
-    ap (λ r. told_by (headers_at g bs) n (as_first r)) e
-    ∙ alone-by (headers_at g bs) n f b (reads-sound b f e) (ap fields_in e) (ap (λ r. runs_with (fields_in r) b) e)
+-- ---- the first header
 
 -- a number whose slot is the first of no file tells of none
 pub none_told : (g : Geometry) (bs : List Block) (n seq : ℕ) → head_told (header_block g bs n) ≡ Ok (Free seq) → told_of g bs n ≡ nobody seq
 none_told g bs n seq e = ap (told_by (headers_at g bs) n) e
 
--- ---- the first header
-
 -- a file in use has the header in the slot of its number
+pub used_reads : (b : Block) (f : Hdr) → fields_told b ≡ Some f → header_read b ≡ Ok (Used f)
+used_reads b f e = (first-is (header_read b) f e).0
+
 pub first_reads : (b : Block) (f : Hdr) → head_told b ≡ Ok (Used f) → header_read b ≡ Ok (Used f)
-first_reads b f e = (first-is (header_read b) f (ap fields_in e)).0
+first_reads b f e = used_reads b f (ap fields_in e)
+
+-- which has SEG_NUM 0
+pub first_segment : (b : Block) (f : Hdr) → head_told b ≡ Ok (Used f) → f.seg ≡ 0
+first_segment b f e = (first-is (header_read b) f (ap fields_in e)).1
+
+-- and a header that has it is a file's first one
+pub reads_first : (b : Block) (f : Hdr) → header_read b ≡ Ok (Used f) → f.seg ≡ 0 → head_told b ≡ Ok (Used f)
+reads_first b f e first = ap as_first e ∙ first-used f first
+
+pub used_first : (b : Block) (f : Hdr) → fields_told b ≡ Some f → head_told b ≡ Ok (Used f)
+used_first b f e = let is = first-is (header_read b) f e in reads_first b f is.0 is.1
 
 -- and this slot
 pub first_there : (g : Geometry) (bs : List Block) (n : ℕ) → is_some (fields_told (header_block g bs n)) ≡ true → Has (told_of g bs n).slots n

@@ -22,6 +22,8 @@ pub mod Keeping
 pub mod Leaks
 pub mod Listed
 pub mod Moving
+pub mod NumberAdds
+pub mod OneHeader
 pub mod Owned
 pub mod Packing
 pub mod Parts
@@ -39,6 +41,7 @@ pub mod RowRanges
 pub mod Runs
 pub mod SameSlots
 pub mod Shown
+pub mod SlotFiles
 pub mod Slots
 pub mod Told
 pub mod Viewing

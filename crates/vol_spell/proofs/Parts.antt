@@ -1,14 +1,10 @@
 -- Where the parts of a volume lie.
 use Rattle.std.proofs.Common.{◌≡◌, ◌≢◌, ◌<◌, ◌≤◌, ◌+◌, ◌*◌, ◌-◌, ◌/◌, ℕ, Bool, true, false, List, ◌∷◌, Option, Some, None, slice_get, get_or, refl, sym, ap, subst, ◌∙◌, inl, inr, arith, cond}
-use Rattle.std.specs.Prelude.{◌==◌, ◌↔◌, is_some, Ok}
+use Rattle.std.specs.Prelude.{◌==◌, ◌↔◌, is_some}
 use Rattle.std.proofs.lemmas.Bool.Decides.{nat_tests}
 use Rattle.std.proofs.lemmas.Option.{slice_get-get_or, slice_get_within}
 use Rattle.base_words.specs.Fields.{Block}
 use Rattle.fx_header.specs.declared.run.Run.{Run}
-use Rattle.fx_header.specs.declared.slot.Hdr.{Hdr}
-use Rattle.fx_header.specs.declared.slot.Slot.TheVariants as head
-use Rattle.fx_header.specs.Headers.{header_read}
-use Rattle.vol_parts.specs.Volumes.{fields_in, Told}
 use Rattle.fx_header.specs.Pointers.{lbns_in}
 use Rattle.plain_cat.specs.declared.cat.Cat.{Cat}
 use Rattle.plain_cat.specs.declared.cat.Slot.{Slot}
@@ -23,9 +19,10 @@ use Rattle.vol_parts.specs.Parts.{part_of, is_among, storage_blocks}
 use Rattle.vol_parts.specs.Fatal.{in_whole_clusters}
 use Rattle.vol_spell.specs.Reading.{IsFileNumber, total_of, owner_at, header_block, fields_told, told_of, body_blocks}
 use Rattle.vol_spell.specs.Places.{place_of, IsPart, file_of_part, ArePartsOf}
-use Rattle.vol_spell.specs.Spelling.{IsBlank, Tells, IsStructure, Spells}
+use Rattle.vol_spell.specs.Spelling.{Tells, IsStructure, Spells}
 use Rattle.vol_spell.proofs.Runs.{has_cluster, in_one_run}
-use Rattle.vol_spell.proofs.Heads.{head_alone, alone_told, first_there, slots_used}
+use Rattle.vol_spell.proofs.Heads.{first_there, slots_used}
+use Rattle.vol_spell.proofs.OneHeader.{told_slot}
 
 -- a block is a part, or none
 data Which (g : Geometry) (l : ℕ) (o : Option Part) : Type 0 where
@@ -137,16 +134,11 @@ module _ (g : Geometry) (bs : List Block) (own : Owners) (c : Cat) (s : Spells g
   pub numberless : (i n : ℕ) → slice_get own.numbers (n - 1) ≢ Some (InFile n) → slice_get own.numbers i ≢ Some (InFile n)
   numberless i n none e = let h = number_slot i n e in none ((in_use n h.0).0 (slots_used g bs n (i + 1) h.1))
 
-  -- and one that has one header has that number alone
-  pub alone_number : (i n : ℕ) (f : Hdr) → header_read (header_block g bs n) ≡ Ok (head.Used f) → slice_get own.numbers i ≡ Some (InFile n) → n ≡ i + 1
-  alone_number i n f reads e = elim (subst (λ (t : Told). Has t.slots (i + 1)) (alone_told g bs n f reads) (number_slot i n e).1) [ inl same ↦ same | inr none ↦ absurd none ]
-
-  -- the slot of a number that is not a file's is free
-  pub spare_blank : (m : ℕ) → IsFileNumber g m → slice_get own.numbers (m - 1) ≢ Some (InFile m) → IsBlank (header_block g bs m)
-  spare_blank m is spare = ap fields_in (sym (head_alone (header_block g bs m))) ∙ by_fields (fields_told (header_block g bs m)) refl where
-    by_fields : (o : Option Hdr) → fields_told (header_block g bs m) ≡ o → fields_told (header_block g bs m) ≡ None
-    by_fields None e = e
-    by_fields (Some f) e = absurd (spare ((in_use m is).0 (ap is_some e)))
+  -- and one that is the file's is its own, which has one header
+  pub own_number : (i n : ℕ) → slice_get own.numbers i ≡ Some (InFile n) → n ≡ i + 1
+  own_number i n e =
+      let h = number_slot i n e in
+      told_slot g own bs n (body_blocks bs n (told_of g bs n)) (get_or c.files (n - 1) (slot.Free 0)) (i + 1) low (told n h.0) h.1
 
   pub in_structure : (n : ℕ) (r : Run) → IsFileNumber g n → IsStructure g bs n r → (l : ℕ) → r.lbn ≤ l → l < r.lbn + r.count → owner_at g own l ≡ Some (InFile n)
   in_structure n r is st l lo hi = in_file n l is (let P : List Run → Type 0 = λ rs. Has (lbns_in rs) l in subst P (sym st.run) (in_one_run r l lo hi))

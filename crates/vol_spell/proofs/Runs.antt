@@ -1,8 +1,10 @@
 -- Runs, their clusters and their blocks.
-use Rattle.std.proofs.Common.{◌≡◌, ◌<◌, ◌≤◌, ◌+◌, ◌*◌, ◌/◌, ◌%◌, ℕ, zero, suc, List, [], ◌∷◌, ◌++◌, refl, sym, ap, subst, ◌∙◌, arith}
+use Rattle.std.proofs.Common.{◌≡◌, ◌<◌, ◌≤◌, ◌+◌, ◌*◌, ◌/◌, ◌%◌, ℕ, zero, suc, List, [], ◌∷◌, ◌++◌, length, length-append, refl, sym, ap, subst, ◌∙◌, arith}
 use Rattle.std.specs.List.{range_with_len}
+use Rattle.std.proofs.lemmas.List.FromFn.{length-range_with_len}
+use Rattle.std.proofs.lemmas.List.Sums.{sum_by-cons}
 use Rattle.fx_header.specs.declared.run.Run.{Run}
-use Rattle.fx_header.specs.Pointers.{lbns_in}
+use Rattle.fx_header.specs.Pointers.{blocks_in, lbns_in}
 use Rattle.base_words.specs.Lists.{Has, Once}
 use Rattle.vol_spell.specs.Spread.{spread}
 use Rattle.vol_spell.proofs.Placing.{spread_joined, spread_in, spread_once, ranged_has}
@@ -45,6 +47,18 @@ lbns_spread g (r ∷ rs) low w =
     ap (λ x. range_with_len x r.count) a ∙ ap (λ x. range_with_len (r.lbn / f * f) x) b ∙ range_spread f (r.lbn / f) (r.count / f) in
     ap (λ xs. xs ++ lbns_in rs) here ∙ ap (λ xs. spread f (range_with_len (r.lbn / f) (r.count / f)) ++ xs) (lbns_spread g rs low w.1)
     ∙ sym (spread_joined f (range_with_len (r.lbn / f) (r.count / f)) (clusters_of f rs))
+
+adds_up : (k m f a b x y : ℕ) → x ≡ k * f → y ≡ m * f → a ≡ k + m → b ≡ x + y → a * f ≡ b
+adds_up k m f a b x y e1 e2 e3 e4 = let h : (k + m) * f ≡ k * f + m * f = omega arith in ap (λ z. z * f) e3 ∙ h ∙ (let r : k * f + m * f ≡ b = omega arith in r)
+
+-- whole clusters have so many blocks
+pub size_of_runs : (g : Geometry) (rs : List Run) → 1 ≤ g.cluster → AreWhole g rs → length (clusters_of g.cluster rs) * g.cluster ≡ blocks_in rs
+size_of_runs g [] low w = omega arith
+size_of_runs g (r ∷ rs) low w =
+    let f = g.cluster in
+    let here = range_with_len (r.lbn / f) (r.count / f) in
+    let len : length (here ++ clusters_of f rs) ≡ r.count / f + length (clusters_of f rs) = length-append here (clusters_of f rs) ∙ ap (λ k. k + length (clusters_of f rs)) (length-range_with_len (r.lbn / f) (r.count / f)) in
+    adds_up (r.count / f) (length (clusters_of f rs)) f _ _ r.count (blocks_in rs) (whole r.count f low w.0.ends) (sym (size_of_runs g rs low w.1)) len (sum_by-cons (λ (x : Run). x.count) r rs)
 
 -- a block of a file lies in one of its clusters
 pub has_cluster : (g : Geometry) (t : Told) (l : ℕ) → 1 ≤ g.cluster → AreWhole g t.runs → Has (lbns_in t.runs) l → Has (clusters_told g t) (l / g.cluster)

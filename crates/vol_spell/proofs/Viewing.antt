@@ -1,5 +1,5 @@
 -- What a write leaves of a file's header and blocks, and what it makes of them.
-use Rattle.std.proofs.Common.{◌≡◌, ◌≢◌, ℕ, List, ◌∷◌, Some, slice_set, inl, refl, sym, ap, ◌∙◌, get_or-set_other, [], ◌<◌, ◌+◌, ◌-◌, ◌*◌, ◌/◌, ◌%◌, zero, suc, length, slice_get, arith}
+use Rattle.std.proofs.Common.{◌≡◌, ◌≢◌, ℕ, List, ◌∷◌, Some, slice_set, inl, refl, sym, ap, subst, ◌∙◌, get_or-set_other, [], ◌<◌, ◌≤◌, ◌+◌, ◌-◌, ◌*◌, ◌/◌, ◌%◌, zero, suc, length, slice_get, arith}
 use Rattle.vol_spell.proofs.Clusters.{once_range}
 use Rattle.vol_spell.proofs.Keeping.{header_number, others_told, new_body_away, slot_told}
 use Rattle.vol_spell.specs.declared.owner.Owner.TheVariants.{InFile, Outside}
@@ -7,21 +7,24 @@ use Rattle.vol_spell.specs.Owners.{Owners}
 use Rattle.plain_cat.specs.declared.cat.Cat.{Cat}
 use Rattle.fx_header.specs.declared.slot.Hdr.{Hdr}
 use Rattle.fx_header.specs.declared.slot.Slot.TheVariants.{Free, Used}
-use Rattle.fx_header.specs.Headers.{header_read}
+use Rattle.fx_header.specs.Headers.{runs_in}
+use Rattle.fx_header.specs.Pointers.{blocks_in}
 use Rattle.fx_bitmap.specs.Bits.{bit_at}
 use Rattle.std.specs.List.{range_with_len}
 use Rattle.std.specs.Prelude.{slice_index_or, Ok}
 use Rattle.vol_parts.specs.Parts.{part_of}
+use Rattle.vol_parts.specs.Volumes.{fields_in}
 use Rattle.base_words.specs.Fields.{Block}
 use Rattle.base_words.specs.Lists.{Has}
 use Rattle.base_words.proofs.Listing.{has_at}
 use Rattle.vol_spell.proofs.Placing.{blocks_stay, blocks_set, index-set_here}
 use Rattle.vol_parts.specs.declared.geometry.Geometry.{Geometry}
 use Rattle.vol_parts.specs.declared.geometry.Part.TheVariants.{Header, IndexBitmap, Storage, Quota}
-use Rattle.vol_spell.specs.Reading.{IsFileNumber, header_place, head_told, told_of, alone, nobody, body_places, body_blocks, owner_at, quota_places}
+use Rattle.vol_spell.specs.Reading.{IsFileNumber, header_place, header_block, head_told, fields_told, told_of, alone, nobody, body_places, body_blocks, owner_at, quota_places}
 use Rattle.vol_spell.specs.Views.{IsSameFile, OthersStay, PartsStay, BodySet, OutsideStays, HeaderSet, SlotSet, StorageSet, IndexSet, QuotaSet}
 use Rattle.vol_spell.specs.Spelling.{Spells}
-use Rattle.vol_spell.proofs.Heads.{alone_told, none_told, told_stays}
+use Rattle.vol_spell.proofs.Heads.{none_told, told_stays}
+use Rattle.vol_spell.proofs.OneHeader.{enough_slot, told_alone}
 use Rattle.vol_spell.proofs.Parts.{told, part_there, part_owned, part_only, part_owner}
 use Rattle.vol_spell.proofs.Frames.{body_owned, body_no_part, body_once, of_body, header_apart, heads_apart, told_apart, on_volume}
 
@@ -64,10 +67,13 @@ outside_stays g bs own c n node l b s is at =
     others_stay g bs own c n l b s is (heads_apart g bs own c s n l is (header_apart g bs own c s l (Outside node) at (λ e. absurd (cc)))) (λ e. let h : Some (Outside node) ≡ Some (InFile n) = sym at ∙ e in absurd (cc))
 
 -- what is told of a file, in the slot of whose number its one header is set
-pub alone_set : (g : Geometry) (bs : List Block) (n : ℕ) (b : Block) (f : Hdr) → header_place g n < length bs → header_read b ≡ Ok (Used f) → told_of g (slice_set bs (header_place g n) b) n ≡ alone n f b
-alone_set g bs n b f len reads =
+pub alone_set : (g : Geometry) (bs : List Block) (n : ℕ) (b : Block) (f : Hdr) → header_place g n < length bs → head_told b ≡ Ok (Used f) → f.blocks ≤ blocks_in (runs_in b)
+    → told_of g (slice_set bs (header_place g n) b) n ≡ alone n f b
+alone_set g bs n b f len reads enough =
     let here = index-set_here bs (header_place g n) b len in
-    alone_told g (slice_set bs (header_place g n) b) n f (ap header_read here ∙ reads) ∙ ap (alone n f) here
+    let used = ap fields_told here ∙ ap fields_in reads in
+    let all : f.blocks ≤ blocks_in (runs_in (header_block g (slice_set bs (header_place g n) b) n)) = subst (λ (x : Block). f.blocks ≤ blocks_in (runs_in x)) (sym here) enough in
+    told_alone g (slice_set bs (header_place g n) b) n f used (enough_slot g (slice_set bs (header_place g n) b) n f used all) ∙ ap (alone n f) here
 
 -- and of a number in whose slot the first header of no file is set
 pub none_set : (g : Geometry) (bs : List Block) (n : ℕ) (b : Block) (seq : ℕ) → header_place g n < length bs → head_told b ≡ Ok (Free seq) → told_of g (slice_set bs (header_place g n) b) n ≡ nobody seq

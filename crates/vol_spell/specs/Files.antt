@@ -3,26 +3,26 @@ use Rattle.std.specs.Prelude.{◌≡◌, ◌<◌, ◌≤◌, ◌+◌, ◌-◌, �
 use Rattle.base_words.specs.Fields.{Block}
 use Rattle.fx_header.specs.declared.slot.Hdr.{Hdr}
 use Rattle.fx_header.specs.declared.slot.Slot.TheVariants.{Used}
-use Rattle.fx_header.specs.Headers.{header_read, runs_in, with_mark, with_end}
+use Rattle.fx_header.specs.Headers.{with_mark, with_end}
+use Rattle.fx_header.specs.Pointers.{lbns_in}
 use Rattle.plain_cat.specs.declared.cat.Cat.{Cat}
 use Rattle.plain_cat.specs.declared.cat.File.{File}
 use Rattle.plain_rules.specs.Lookups.{file_at}
 use Rattle.plain_rules.specs.Changes.{is_past_mark}
 use Rattle.vol_parts.specs.declared.geometry.Geometry.{Geometry}
 use Rattle.vol_parts.specs.Catalogues.{written_blocks}
-use Rattle.vol_spell.specs.Entries.{places_in}
-use Rattle.vol_spell.specs.Reading.{IsFileNumber, header_block, clusters_of}
+use Rattle.vol_spell.specs.Reading.{IsFileNumber, header_block, head_told, told_of}
 use Rattle.vol_spell.specs.Spread.{blocks_at}
 
--- the clusters of a file by the block of its header, in the file's order
-abbrev pub clusters_seen : Geometry → Block → List ℕ
-clusters_seen g head = clusters_of g.cluster (runs_in head)
+-- the blocks of file n, in order, by what is told of it
+abbrev pub blocks_told : Geometry → List Block → ℕ → List Block
+blocks_told g bs n = blocks_at bs (lbns_in (told_of g bs n).runs)
 
--- a file that is no system file: its header has these fields, and the catalogue has it so
+-- a file that is no system file: its first header has these fields, and the catalogue has it so
 pub record IsFileThere (g : Geometry) (x : Cat) (bs : List Block) (n : ℕ) (h : Hdr) (f : File) : Type 0 where
   pub number : IsFileNumber g n
   pub above : 11 < n
-  pub reads : header_read (header_block g bs n) ≡ Ok (Used h)
+  pub reads : head_told (header_block g bs n) ≡ Ok (Used h)
   pub file : file_at x n ≡ Some f
 
 -- the file with a virtual block written, its mark and its end as they were
@@ -39,4 +39,4 @@ pub record IsResized (g : Geometry) (bs : List Block) (n : ℕ) (h : Hdr) (f new
   pub mark : new.mark ≤ g.cluster * f.clusters + 1
   pub end : new.end ≤ g.cluster * f.clusters + 1
   pub byte : new.byte ≤ 511
-  pub written : written_blocks n (record h { mark = new.mark }) (blocks_at bs (places_in (header_block g bs n))) ≡ new.written
+  pub written : written_blocks n (record h { mark = new.mark }) (blocks_told g bs n) ≡ new.written

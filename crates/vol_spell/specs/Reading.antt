@@ -1,5 +1,5 @@
 -- What the blocks of a volume tell, read by its geometry: headers, runs, clusters, bits and quota rows.
-use Rattle.std.specs.Prelude.{◌+◌, ◌*◌, ◌-◌, ◌/◌, ◌%◌, ◌≤◌, ℕ, Bool, false, List, [], ◌∷◌, Option, Result, Ok, flat_map, slice_get, slice_index_or, if◌then◌else◌}
+use Rattle.std.specs.Prelude.{◌+◌, ◌*◌, ◌-◌, ◌/◌, ◌%◌, ◌≤◌, ◌==◌, ◌||◌, not, nat_lt, ℕ, Bool, false, List, [], ◌∷◌, Option, Some, None, Result, Ok, flat_map, slice_get, slice_index_or, if◌then◌else◌}
 use Rattle.std.specs.List.{range_with_len}
 use Rattle.base_words.specs.Fields.{Block}
 use Rattle.fx_header.specs.declared.run.Run.{Run}
@@ -8,14 +8,14 @@ use Rattle.fx_header.specs.declared.slot.HeaderFault.{HeaderFault}
 use Rattle.fx_header.specs.declared.slot.Slot.{Slot}
 use Rattle.fx_header.specs.declared.slot.Slot.TheVariants.{Free, Used}
 use Rattle.fx_header.specs.Headers.{header_read, runs_in}
-use Rattle.fx_header.specs.Pointers.{lbns_in}
+use Rattle.fx_header.specs.Pointers.{blocks_in, lbns_in}
 use Rattle.fx_bitmap.specs.Bits.{bit_at}
 use Rattle.fx_quota.specs.declared.types.Row.{Row}
 use Rattle.vol_spell.specs.declared.owner.Owner.{Owner}
 use Rattle.vol_spell.specs.Owners.{Owners}
 use Rattle.vol_spell.specs.Spread.{blocks_at}
 use Rattle.vol_parts.specs.declared.geometry.Geometry.{Geometry}
-use Rattle.vol_parts.specs.Chains.{Headers, as_first}
+use Rattle.vol_parts.specs.Chains.{Headers, HeaderChain, as_first, cut}
 use Rattle.vol_parts.specs.Volumes.{Volume, volume, fields_in, Told, runs_with, told_by, rows_in}
 use Rattle.vol_parts.specs.Catalogues.{is_structure}
 
@@ -61,9 +61,14 @@ head_told b = as_first (header_read b)
 abbrev pub fields_told : Block → Option Hdr
 fields_told b = fields_in (head_told b)
 
--- the runs that a header tells: none where it is not in use
+-- the runs of a file that has one header, by this header: the first of those that it lists, as far as the file's blocks go
+abbrev pub runs_first : Option Hdr → Block → List Run
+runs_first (Some f) b = cut f.blocks (runs_in b)
+runs_first None b = []
+
+-- the runs of a file that has one header, by the block of its number: none where this is no first header in use
 abbrev pub runs_told : Block → List Run
-runs_told b = runs_with (fields_told b) b
+runs_told b = runs_first (fields_told b) b
 
 -- the clusters of runs that begin and end at a cluster's bounds, in order
 abbrev pub clusters_of : ℕ → List Run → List ℕ
@@ -73,13 +78,29 @@ clusters_of factor runs = flat_map (λ r. range_with_len (r.lbn / factor) (r.cou
 abbrev pub told_of : Geometry → List Block → ℕ → Told
 told_of g bs n = told_by (headers_at g bs) n (head_told (header_block g bs n))
 
--- what is told of a file that has one header, the block b with these fields
-abbrev pub alone : ℕ → Hdr → Block → Told
-alone n f b = record { head = Ok (Used f); slots = n ∷ []; parts = runs_in b ∷ []; runs = runs_in b; surplus = false }
+-- What is told of a file that has one header, which has these fields and lists these runs: the file has the first of them, as far as
+-- its blocks go. What is listed behind them is surplus, and so is a link.
+abbrev pub alone_with : ℕ → Hdr → List Run → Told
+alone_with n f listed = record {
+  head = Ok (Used f);
+  slots = n ∷ [];
+  parts = listed ∷ [];
+  runs = cut f.blocks listed;
+  surplus = not (f.ext == 0) || nat_lt f.blocks (blocks_in listed);
+}
 
--- what is told of a number that is the first of no file, with the sequence of its slot
+-- and where the header is the block b
+abbrev pub alone : ℕ → Hdr → Block → Told
+alone n f b = alone_with n f (runs_in b)
+
+-- what is told of a number whose slot has no file's first header: nothing but the sequence of the slot, which is free or has another
+-- header of a file
 abbrev pub nobody : ℕ → Told
 nobody seq = record { head = Ok (Free seq); slots = []; parts = []; runs = []; surplus = false }
+
+-- the chain of headers that is told of a file
+abbrev pub chain_told : Told → HeaderChain
+chain_told t = record { slots = t.slots; parts = t.parts; runs = t.runs; surplus = t.surplus }
 
 -- the clusters of a file, by what is told of it
 abbrev pub clusters_told : Geometry → Told → List ℕ

@@ -1,5 +1,5 @@
 -- Blocks that spell a catalogue, with one owner for each cluster and each file number.
-use Rattle.std.specs.Prelude.{◌≡◌, ◌≤◌, ◌<◌, ◌+◌, ◌*◌, ◌-◌, ◌%◌, ◌↔◌, not, ℕ, true, false, List, [], ◌∷◌, Option, Some, None, Result, Ok, Err, length, map, take, count_by, sum_by, slice_get, slice_index_or, if◌then◌else◌}
+use Rattle.std.specs.Prelude.{◌≡◌, ◌≤◌, ◌<◌, ◌+◌, ◌*◌, ◌-◌, ◌%◌, ◌&&◌, ◌↔◌, not, ℕ, Bool, true, false, List, [], ◌∷◌, Option, Some, None, Result, Ok, Err, length, map, take, count_by, sum_by, slice_get, slice_index_or, if◌then◌else◌}
 use Rattle.base_words.specs.Fields.{Block, AreWholeBlocks}
 use Rattle.fx_home.specs.declared.home.Home.{Home}
 use Rattle.fx_home.specs.declared.home.HomeFault.{HomeFault}
@@ -15,18 +15,19 @@ use Rattle.fx_dir.specs.Directory.{directory}
 use Rattle.plain_cat.specs.declared.cat.Cat.{Cat}
 use Rattle.plain_cat.specs.declared.cat.Slot.{Slot}
 use Rattle.plain_rules.specs.Lookups.{clusters_in, file_most}
-use Rattle.vol_spell.specs.declared.owner.Owner.TheVariants.{Free, InFile, Leaked}
+use Rattle.vol_spell.specs.declared.owner.Owner.TheVariants.{Free, InFile, Outside, Leaked}
 use Rattle.base_words.specs.Lists.{Has, Once}
 use Rattle.vol_spell.specs.Owners.{Owners}
 use Rattle.vol_spell.specs.Counts.{is_same_owner}
 use Rattle.vol_parts.specs.declared.finding.Finding.{Finding}
 use Rattle.vol_parts.specs.declared.finding.Finding.TheVariants as finding
 use Rattle.vol_parts.specs.declared.geometry.Geometry.{Geometry}
+use Rattle.vol_parts.specs.Chains.{is_well_split}
 use Rattle.vol_parts.specs.Parts.{IsGeometry, storage_blocks}
 use Rattle.vol_parts.specs.Volumes.{fields_in, Told}
 use Rattle.vol_parts.specs.Catalogues.{slot_with, rows_sorted}
-use Rattle.vol_parts.specs.Fatal.{is_system_header, has_dir_size, found_in, in_whole_clusters}
-use Rattle.vol_spell.specs.Reading.{IsFileNumber, total_of, header_block, told_of, clusters_told, body_blocks, cluster_bit, number_bit, rows_told}
+use Rattle.vol_parts.specs.Fatal.{is_one_header, is_system_header, has_dir_size, found_in, in_whole_clusters}
+use Rattle.vol_spell.specs.Reading.{IsFileNumber, total_of, header_block, told_of, chain_told, clusters_told, body_blocks, cluster_bit, number_bit, rows_told}
 
 -- ---- a file
 
@@ -46,19 +47,27 @@ abbrev pub AreWhole : Geometry → List Run → Type 0
 AreWhole g [] = Unit {0}
 AreWhole g (r ∷ rs) = IsWhole g r × AreWhole g rs
 
--- what is wrong with a directory, by its header and its blocks: nothing where the file is none
-abbrev pub dir_found : Geometry → ℕ → Option Hdr → List Run → List Block → Option Finding
-dir_found g n None runs blocks = None
-dir_found g n (Some f) runs blocks =
-    if not f.dir then None else if has_dir_size g.cluster f runs then found_in n (directory blocks) else Some (finding.DirSize n)
+-- what is wrong with a directory, by what is told of it and its blocks: nothing where the file is none
+abbrev pub dir_found : Geometry → ℕ → Option Hdr → Told → List Block → Option Finding
+dir_found g n None t blocks = None
+dir_found g n (Some f) t blocks =
+    if not f.dir then None
+    else if is_one_header f t && has_dir_size g.cluster f t.runs then found_in n (directory blocks)
+    else Some (finding.DirSize n)
 
 -- so many blocks has a file in use by its first header, none where there is no file
 abbrev pub size_in : Option Hdr → ℕ
 size_in (Some f) = f.blocks
 size_in None = 0
 
+-- the file of a first header with these fields has no other header, and this one lists just the file's blocks; or there is no file
+abbrev pub has_one_at_most : Option Hdr → Told → Bool
+has_one_at_most None t = true
+has_one_at_most (Some f) t = is_one_header f t
+
 -- What is told of the file of number n, and the blocks of the file, tell the slot s, with the owners as they are. The clusters of
--- its runs are those that the file owns, each listed once, and above number 11 no more than a header lists; its header slots are
+-- its runs are those that the file owns, each listed once; above number 11 they are no more than a file may have, and all headers
+-- but the last list as many as a header can; up to number 11 it has one header, which lists just its blocks; its header slots are
 -- the numbers that it owns; its runs have the blocks that its first header says; and a directory can be read.
 pub record Tells (g : Geometry) (own : Owners) (n : ℕ) (t : Told) (blocks : List Block) (s : Slot) : Type 0 where
   pub reads : IsHead n t.head
@@ -66,9 +75,11 @@ pub record Tells (g : Geometry) (own : Owners) (n : ℕ) (t : Told) (blocks : Li
   pub once : Once (clusters_told g t)
   pub runs : (q : ℕ) → Has (clusters_told g t) q ↔ (slice_get own.clusters q ≡ Some (InFile n))
   pub few : 11 < n → length (clusters_told g t) ≤ file_most
+  pub split : 11 < n → is_well_split g.cluster (chain_told t) ≡ true
+  pub system : n ≤ 11 → has_one_at_most (fields_in t.head) t ≡ true
   pub slots : (m : ℕ) → Has t.slots m ↔ (IsFileNumber g m × (slice_get own.numbers (m - 1) ≡ Some (InFile n)))
   pub size : blocks_in t.runs ≡ size_in (fields_in t.head)
-  pub dir : dir_found g n (fields_in t.head) t.runs blocks ≡ None
+  pub dir : dir_found g n (fields_in t.head) t blocks ≡ None
   pub slot : slot_with g.cluster n t.head blocks ≡ s
 
 -- ---- the volume's own structures
@@ -120,7 +131,7 @@ pub record HasRows (g : Geometry) (bs : List Block) (c : Cat) : Type 0 where
   pub quota : c.quota ≡ rows_sorted (rows_told g bs)
   pub once : Once (map (λ r. r.uic) (rows_told g bs))
 
--- a header slot that is free
+-- a header slot in which no header is in use, neither a file's first one nor another
 abbrev pub IsBlank : Block → Type 0
 IsBlank b = fields_in (header_read b) ≡ None
 
@@ -130,6 +141,8 @@ pub record HasSlots (g : Geometry) (bs : List Block) (own : Owners) : Type 0 whe
   pub heads : (m : ℕ) → IsFileNumber g m → IsHead m (header_read (header_block g bs m))
   -- the slot of a free number is free
   pub blank : (m : ℕ) → IsFileNumber g m → slice_get own.numbers (m - 1) ≡ Some Free → IsBlank (header_block g bs m)
+  -- and so is the slot of a number that a node has outside
+  pub outside : (m node : ℕ) → IsFileNumber g m → slice_get own.numbers (m - 1) ≡ Some (Outside node) → IsBlank (header_block g bs m)
 
 -- The owners are those that the bits and the catalogue tell.
 pub record AreOwners (g : Geometry) (bs : List Block) (own : Owners) (c : Cat) : Type 0 where
@@ -158,7 +171,7 @@ pub record Spells (g : Geometry) (bs : List Block) (own : Owners) (c : Cat) : Ty
   pub constants : HasConstants g c
   -- what is told of each file tells its slot, with the blocks of the file
   pub files : (n : ℕ) (s : Slot) → IsFileNumber g n → slice_get c.files (n - 1) ≡ Some s → Tells g own n (told_of g bs n) (body_blocks bs n (told_of g bs n)) s
-  -- each header slot can be read, and that of a free number is free
+  -- each header slot can be read, and that of a number that is free or outside is free
   pub slots : HasSlots g bs own
   -- the quota rows are the catalogue's
   pub rows : HasRows g bs c

@@ -4,7 +4,7 @@ ghost use Rattle.vol_spell.specs.Bodies.{PartsLieApart, BodiesLieApart};
 ghost use Rattle.vol_spell.specs.Owning.{EachIsOwned};
 ghost use Rattle.vol_spell.specs.Kinds.{OutsideWrite, QuotaWrite, StorageWrite, IndexWrite, HeaderWrite, SlotWrite, BodyWrite, DeathLeaks};
 ghost use Rattle.vol_spell.specs.Views.{ToldStays, OthersStay, PartsStay, OutsideStays, BodySet, HeaderSet, SlotSet, StorageSet, IndexSet, QuotaSet};
-ghost use Rattle.vol_spell.specs.Adding.{ClustersAddUp};
+ghost use Rattle.vol_spell.specs.Adding.{ClustersAddUp, NumbersAddUp};
 ghost use Rattle.vol_spell.specs.Telling.{VolumeTells};
 ghost use Rattle.vol_spell.specs.Accepting.{CatalogueIsSpelt};
 ghost use Rattle.vol_spell.specs.Packing.{PackingFits};
@@ -36,7 +36,13 @@ pub fn clusters_add_up()
     ensures { ClustersAddUp }
 {}
 
-/// A write to a place that is none of a file's header slots leaves what is told of the file.
+/// The file numbers that there are to take by the catalogue are those that are free by their bits and those outside at a node.
+pub fn numbers_add_up()
+    ensures { NumbersAddUp }
+{}
+
+/// A write to a place that is none of a file's header slots leaves what is told of the file, if its runs have the blocks that its
+/// first header says.
 pub fn told_stays()
     ensures { ToldStays }
 {}

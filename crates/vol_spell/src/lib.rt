@@ -11,9 +11,10 @@
 //! `read_volume` gives the catalogue, and none if and only if there is a fatal finding (`IsCatOrNone`). `read_fully` gives that
 //! finding too. `file_lbns` gives the LBNs of a file's blocks, in order, as an `LbnList`.
 //!
-//! Each law is the contract of a function that does nothing. `laws`: `parts_lie_apart`, `clusters_add_up`, and one for each kind of
-//! write to a header or a bitmap, such as `header_write` and `storage_write`, which takes spelt blocks to spelt blocks. `owner_laws`:
-//! what stays true when owners change: `hands_over`, `outside_to_file`, `outside_to_leaked`, and `handing_counts`, which counts them.
+//! Each law is the contract of a function that does nothing. `laws`: `parts_lie_apart`, `clusters_add_up`, `numbers_add_up`, and one
+//! for each kind of write to a header or a bitmap, such as `header_write` and `storage_write`, which takes spelt blocks to spelt
+//! blocks. `owner_laws`: what stays true when owners change: `hands_over`, `outside_to_file`, `outside_to_leaked`, and
+//! `handing_counts`, which counts them.
 //! `write_laws`: the writes that commands and mending share: a quota row changes, or is one more (`row_spelt`, `new_row_spelt`); the
 //! writes of a directory leave the catalogue as it is, up to the one that decides (`moves_spelt`); an insertion and a removal are such
 //! writes (`entry_enters`, `entry_leaves`).

@@ -41,12 +41,12 @@ same_slot g bs own x i h t body is s f =
 
 -- what is said of what is told of a file and of its blocks is said of what stands there
 is_body : (g : Geometry) (bs : List Block) (i v l : ℕ) (b h : Block) (t : Told) (body : List Block) → IsWholeBlock b → IsFileNumber g i → IsFileAt g bs i h t body → slice_get (body_places i t) v ≡ Some l
-    → dir_found g i (fields_in t.head) t.runs (slice_set body v b) ≡ None → IsBodyFor g bs i v l b (slot_told g i t (slice_set body v b))
+    → dir_found g i (fields_in t.head) t (slice_set body v b) ≡ None → IsBodyFor g bs i v l b (slot_told g i t (slice_set body v b))
 is_body g bs i v l b h t body whole is f place dir = record {
   whole = whole;
   number = is;
   place = ap (λ (k : Told). slice_get (body_places i k) v) f.told ∙ place;
-  dir = ap (λ (k : Told). dir_found g i (fields_in k.head) k.runs (slice_set (body_blocks bs i (told_of g bs i)) v b)) f.told ∙ ap (λ (y : List Block). dir_found g i (fields_in t.head) t.runs (slice_set y v b)) f.body ∙ dir;
+  dir = ap (λ (k : Told). dir_found g i (fields_in k.head) k (slice_set (body_blocks bs i (told_of g bs i)) v b)) f.told ∙ ap (λ (y : List Block). dir_found g i (fields_in t.head) t (slice_set y v b)) f.body ∙ dir;
   slot = ap (λ (k : Told). slot_told g i k (slice_set (body_blocks bs i (told_of g bs i)) v b)) f.told ∙ ap (λ (y : List Block). slot_told g i t (slice_set y v b)) f.body;
 }
 

@@ -1,7 +1,7 @@
 -- What is outside at a node, and what leaks.
 use Rattle.std.proofs.Common.{suc, length-set, ◌≡◌, ◌≤◌, ◌+◌, ◌-◌, ◌==◌, ◌&&◌, ℕ, Bool, true, false, List, [], ◌∷◌, ◌++◌, Option, Some, None, length, map, slice_get, slice_set, get_or, refl, sym, ap, subst, ◌∙◌, inl, inr, arith, cond}
 use Rattle.std.specs.Prelude.{◌↔◌, count_by, Result, Ok, Err, is_some, option_map, not}
-use Rattle.std.specs.List.{list_all, range_with_len}
+use Rattle.std.specs.List.{list_all}
 use Rattle.std.proofs.lemmas.Bool.Decides.{nat_tests}
 use Rattle.std.proofs.lemmas.List.{map-set, length-map}
 use Rattle.std.proofs.lemmas.List.Sums.{sum_by-cons}
@@ -15,7 +15,6 @@ use Rattle.plain_cat.specs.declared.cat.Slot.{Slot}
 use Rattle.plain_cat.specs.declared.cat.Slot.TheVariants as slot
 use Rattle.plain_rules.specs.Lookups.{is_free_slot, is_set, is_free_number, free_clusters, header_most, free_count, HasSingleHeaders}
 use Rattle.plain_rules.specs.Replaying.{flagged}
-use Rattle.plain_rules.proofs.Headers.{single_count}
 use Rattle.plain_rules.proofs.Standing.{stands_at}
 use Rattle.vol_spell.specs.declared.owner.Owner.{Owner}
 use Rattle.vol_spell.specs.declared.owner.Owner.TheVariants.{Free, InFile, Outside, Leaked}
@@ -32,6 +31,7 @@ use Rattle.vol_parts.specs.Catalogues.{slot_with}
 use Rattle.vol_spell.specs.Reading.{IsFileNumber, header_block, head_told, told_of, body_blocks}
 use Rattle.vol_spell.specs.Spelling.{IsHead, Spells}
 use Rattle.vol_spell.specs.Adding.{is_outside}
+use Rattle.vol_spell.proofs.NumberAdds.{numbers_add_up}
 use Rattle.vol_spell.proofs.Adds.{size_told, clusters_add_up}
 use Rattle.vol_spell.proofs.Parts.{low, used_of}
 use Rattle.vol_under.specs.Ending.{file_numbers, AreNumbersOf, OutsideMayLeak}
@@ -112,38 +112,11 @@ single_headers g bs own c s n f above at =
     let t = s.files n (slot.Used f) (record { from = omega arith; to = omega arith }) here in
     subst (λ (k : ℕ). k ≤ header_most) (sym (size_told g own n (told_of g bs n) (body_blocks bs n (told_of g bs n)) (slot.Used f) (low g bs own c s) t)) (t.few above)
 
--- a test of owners that none passes but where a test along a range holds counts no more than that
-less_along : (r : ℕ → Bool) (p : Owner → Bool) (xs : List Owner) (a : ℕ) → ((i : ℕ) (o : Owner) → slice_get xs i ≡ Some o → p o ≡ true → r (a + i) ≡ true) → count_by p xs ≤ count_by r (range_with_len a (length xs))
-less_along r p [] a h = omega arith
-less_along r p (x ∷ xs) a h =
-    let f : Owner → ℕ = λ o. cond (p o) 1 0 in
-    let k : ℕ → ℕ = λ i. cond (r i) 1 0 in
-    let rest : count_by p xs ≤ count_by r (range_with_len (a + 1) (length xs)) = less_along r p xs (a + 1) (λ i o e y. ap r (let f : a + 1 + i ≡ a + suc i = omega arith in f) ∙ h (suc i) o e y) in
-    adds_less (f x) (k a) (count_by p xs) (count_by r (range_with_len (a + 1) (length xs))) _ _ (sum_by-cons f x xs) (sum_by-cons k a (range_with_len (a + 1) (length xs))) (by_test (p x) refl) rest where
-      by_test : (b : Bool) → p x ≡ b → cond {A = ℕ} (p x) 1 0 ≤ cond {A = ℕ} (r a) 1 0
-      by_test true e = rw (e, ap r (let f : a ≡ a + 0 = omega arith in f) ∙ h 0 x refl e) (omega arith)
-      by_test false e = rw e (omega arith)
-
-outside_same : (n : ℕ) (o : Owner) → is_same_owner (Outside n) o ≡ true → o ≡ Outside n
-unfolding is_same_owner
-outside_same n Free e = absurd (let f : false ≡ true = e in cc)
-outside_same n (InFile i) e = absurd (let f : false ≡ true = e in cc)
-outside_same n (Outside m) e = ap Outside (let h : m ≡ n = grind (arith, nat_tests) in h)
-outside_same n Leaked e = absurd (let f : false ≡ true = e in cc)
-
 -- the numbers outside at a node are no more than there are to take
 pub numbers_out : (g : Geometry) (bs : List Block) (own : Owners) (c : Cat) (n : ℕ) → Spells g bs own c → count_by (is_same_owner (Outside n)) own.numbers ≤ free_count c
 numbers_out g bs own c n s =
-    let numbers : length own.numbers ≡ g.files = s.counts.numbers in
-    let slots : length c.files ≡ g.files = s.counts.slots in
-    let as_many : length own.numbers ≡ length c.files = omega arith in
-    let all : free_count c ≡ count_by (is_free_number c) (range_with_len 1 (length c.files)) = single_count c (single_headers g bs own c s) in
-    let less : count_by (is_same_owner (Outside n)) own.numbers ≤ count_by (is_free_number c) (range_with_len 1 (length own.numbers)) = less_along (is_free_number c) (is_same_owner (Outside n)) own.numbers 1 free in
-    subst (λ (k : ℕ). count_by (is_same_owner (Outside n)) own.numbers ≤ k) (ap (λ k. count_by (is_free_number c) (range_with_len 1 k)) as_many ∙ sym all) less where
-      free : (i : ℕ) (o : Owner) → slice_get own.numbers i ≡ Some o → is_same_owner (Outside n) o ≡ true → is_free_number c (1 + i) ≡ true
-      free i o at same =
-          let next : i + 1 ≡ 1 + i = omega arith in
-          subst (λ (k : ℕ). is_free_number c k ≡ true) next (number_free g bs own c n i s (at ∙ ap (λ (x : Owner). Some x) (outside_same n o same)))
+    some_of (count_by (is_same_owner (Outside n)) own.numbers) (free_count c) (count_by (is_same_owner Free) own.numbers) (count_by is_outside own.numbers)
+    (numbers_add_up g bs own c s) (count_less (is_same_owner (Outside n)) is_outside own.numbers (outside_is n))
 
 -- the places of numbers that stand once stand once
 places_once : (ns : List ℕ) → Once ns → ((n : ℕ) → Has ns n → 1 ≤ n) → Once (map (λ n. n - 1) ns)

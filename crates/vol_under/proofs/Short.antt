@@ -26,8 +26,8 @@ use Rattle.vol_spell.specs.Reading.{IsFileNumber, total_of, header_block, head_t
 use Rattle.vol_spell.specs.Spelling.{Spells}
 use Rattle.vol_spell.specs.Adding.{is_outside}
 use Rattle.vol_spell.proofs.Adds.{clusters_add_up}
-use Rattle.vol_spell.proofs.Parts.{used_of, number_slot, alone_number}
-use Rattle.vol_spell.proofs.Heads.{first_reads, slots_used}
+use Rattle.vol_spell.proofs.Parts.{used_of, number_slot, own_number}
+use Rattle.vol_spell.proofs.Heads.{slots_used}
 use Rattle.vol_spell.proofs.Owned.{each_is_owned}
 use Rattle.vol_under.specs.Shortage.{OutAlike, IsFreeByBits, FreeByBits}
 use Rattle.vol_under.proofs.Leaking.{number_free_of}
@@ -115,7 +115,7 @@ module _ (g : Geometry) (bs : List Block) (own : Owners) (c : Cat) (s : Spells g
   alone_is : (i m : ℕ) → slice_get own.numbers i ≡ Some (InFile m) → m ≡ i + 1
   alone_is i m at = by_head (head_told (header_block g bs m)) refl (slots_used g bs m (i + 1) (number_slot g bs own c s i m at).1) where
     by_head : (r : Result Head HeaderFault) → head_told (header_block g bs m) ≡ r → is_some (fields_in r) ≡ true → m ≡ i + 1
-    by_head (Ok (head.Used f)) e used = alone_number g bs own c s i m f (first_reads (header_block g bs m) f e) at
+    by_head (Ok (head.Used f)) e used = own_number g bs own c s i m at
     by_head (Ok (head.Free seq)) e used = absurd (let h : false ≡ true = used in cc)
     by_head (Err fault) e used = absurd (let h : false ≡ true = used in cc)
 

@@ -34,7 +34,7 @@ body_after ms body = written (map (λ m. (m.0, m.1.block)) ms) body
 pub record IsBodyMove (g : Geometry) (n : ℕ) (cmd : Option Cmd) (c x : Cat) (i : ℕ) (t : Told) (o : Things) (w : PlannedWrite) (v : ℕ) (body : List Block) : Type 0 where
   pub whole : IsWholeBlock w.block
   pub place : slice_get (body_places i t) v ≡ Some w.lbn
-  pub dir : dir_found g i (fields_in t.head) t.runs body ≡ None
+  pub dir : dir_found g i (fields_in t.head) t body ≡ None
   pub stage : StandsAt c n cmd w.stage (with_slot x i (slot_told g i t body))
   pub outs : w.outs ≡ o
 

@@ -1,7 +1,7 @@
 use Rattle.std.proofs.Common.{◌≡◌, ◌∙◌, ◌≤◌, ◌*◌, length, ap, sym, subst, true, rules}
-use Rattle.fx_header.specs.Headers.{with_map, has_offsets, has_map, runs_in, fields_of, map_area, KeepsTests}
+use Rattle.fx_header.specs.Headers.{with_map, has_offsets, has_map, runs_in, fields_of, header_read, map_area, KeepsTests}
 use Rattle.fx_header.specs.Pointers.{map_words, lbns_in}
-use Rattle.fx_header.proofs.PartLemmas.{map-runs, map-fits, map-fields, map-tests}
+use Rattle.fx_header.proofs.PartLemmas.{map-runs, map-fits, map-fields, map-tests, map-reads}
 use Rattle.fx_header.proofs.SpellLemmas.{lbns_in-merged}
 use Rattle.fx_header.proofs.map.set_map.Goals as goal
 
@@ -29,3 +29,6 @@ returns-clause-fields c t = ap fields_of (is-written c) ∙ map-fields c.args.b.
 
 pub returns-clause-tests : goal.returns-clause-tests
 returns-clause-tests c t = subst (KeepsTests c.args.b.now) (sym (is-written c)) (map-tests c.args.b.now c.args.runs.now c.told-b (offsets c) c.requires.runs (room c))
+
+pub returns-clause-reads : goal.returns-clause-reads
+returns-clause-reads c t h read = ap header_read (is-written c) ∙ map-reads c.args.b.now c.args.runs.now c.told-b (offsets c) c.requires.runs (room c) h read

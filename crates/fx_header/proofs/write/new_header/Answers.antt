@@ -1,8 +1,8 @@
 use Rattle.std.proofs.Common.{◌≡◌, ◌∙◌, ap, sym, subst, arith, IsTrue}
 use Rattle.base_words.specs.Fields.{summed}
 use Rattle.base_words.specs.Tables.{zeros, laid}
-use Rattle.fx_header.specs.Headers.{area_rows, id_rows, size_rows, owner_rows, with_name, header_bytes, flags_of, has_offsets, map_area, fields_of, IsMade, IsLone, ReadsBack}
-use Rattle.fx_header.proofs.NewLemmas.{Ranges, Fits, new-laid, new-reads, new-told, new-fields, new-made, header-area}
+use Rattle.fx_header.specs.Headers.{area_rows, id_rows, size_rows, owner_rows, with_name, header_bytes, flags_of, has_offsets, map_area, fields_of, IsMade, ReadsBack}
+use Rattle.fx_header.proofs.NewLemmas.{Ranges, new-laid, new-reads, new-told, new-fields, new-made, header-area}
 use Rattle.fx_header.proofs.write.new_header.Goals as goal
 
 is-written : (c : goal.After-set_sum) → c.set_sum.new.b ≡ header_bytes c.args.h.now c.args.text.now c.args.parent
@@ -29,27 +29,10 @@ ranges c = record {
   mark = omega (arith, c.requires.mark, c.requires.blocks);
   end = omega (arith, c.requires.end, c.requires.blocks);
   byte = omega (arith, c.requires.byte);
-  seg = omega (arith, c.requires.seg);
+  seg = c.requires.seg;
   ext = omega (arith, c.requires.ext);
   ext_seq = c.put_ids.ensures.ext_seq;
 }
-
-fits : (c : goal.After-set_sum) → IsLone c.args.h.now → Fits c.args.h.now
-fits c lone =
-    let r = ranges c in
-    record {
-      from = r.from;
-      num = r.num;
-      seq = r.seq;
-      owner = r.owner;
-      blocks = r.blocks;
-      mark = r.mark;
-      end = r.end;
-      byte = r.byte;
-      seg = lone.0;
-      ext = lone.1;
-      ext_seq = lone.2;
-    }
 
 pub returns-clause-written : goal.returns-clause-written
 returns-clause-written c = is-written c
@@ -68,6 +51,6 @@ pub returns-clause-made : goal.returns-clause-made
 returns-clause-made c = subst IsMade (sym (is-written c)) (new-made c.args.h.now c.args.text.now c.args.parent (ranges c))
 
 pub returns-clause-reads : goal.returns-clause-reads
-returns-clause-reads c lone =
+returns-clause-reads c =
     subst (λ b. ReadsBack b c.args.h.now) (sym (is-written c))
-    (new-reads c.args.h.now c.args.text.now c.args.parent (fits c lone) c.requires.end c.requires.byte c.requires.mark)
+    (new-reads c.args.h.now c.args.text.now c.args.parent (ranges c) (λ first. (c.requires.end, c.requires.mark)) (λ first. c.requires.byte))

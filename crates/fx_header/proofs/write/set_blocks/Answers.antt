@@ -1,7 +1,7 @@
 use Rattle.std.proofs.Common.{◌≡◌, ◌∙◌, ap, sym, subst, arith}
 use Rattle.base_words.specs.Fields.{summed}
-use Rattle.fx_header.specs.Headers.{with_blocks, fields_of, KeepsTests, LeavesRuns}
-use Rattle.fx_header.proofs.PartLemmas.{blocks-fields, blocks-tests, blocks-runs}
+use Rattle.fx_header.specs.Headers.{with_blocks, fields_of, header_read, KeepsTests, LeavesRuns}
+use Rattle.fx_header.proofs.PartLemmas.{blocks-fields, blocks-tests, blocks-runs, blocks-reads}
 use Rattle.fx_header.proofs.write.set_blocks.Goals as goal
 
 is-written : (c : goal.After-set_sum) → c.set_sum.new.b ≡ with_blocks c.args.b.now c.args.blocks
@@ -16,3 +16,6 @@ returns-clause-runs c = subst (LeavesRuns c.args.b.now) (sym (is-written c)) (bl
 
 pub returns-clause-tests : goal.returns-clause-tests
 returns-clause-tests c = subst (KeepsTests c.args.b.now) (sym (is-written c)) (blocks-tests c.args.b.now c.args.blocks c.told-b)
+
+pub returns-clause-reads : goal.returns-clause-reads
+returns-clause-reads c h read within = ap header_read (is-written c) ∙ blocks-reads c.args.b.now c.args.blocks c.told-b h (omega arith) read within

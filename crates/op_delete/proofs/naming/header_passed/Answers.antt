@@ -1,4 +1,5 @@
 use Rattle.std.proofs.Common.{rules, refl, arith}
+use Rattle.op_steps.proofs.LoneFiles.{lone_readable}
 use Rattle.op_delete.proofs.Told.{first_is}
 use Rattle.op_delete.proofs.naming.header_passed.Goals as goal
 
@@ -8,5 +9,5 @@ returns-clause-file c =
     record {
       number = refl;
       head = first_is c.args.rest.blocks.now (omega arith);
-      readable = record { reads = search rules; map = c.in-Some.ensures.map; inside = search rules; count = c.in-Some.ensures.count; few = c.in-Some.ensures.few (search rules) };
+      readable = lone_readable _ refl (search rules) c.in-Some.ensures.map (search rules) (c.in-Some.ensures.few (search rules));
     }

@@ -1,11 +1,10 @@
-use Rattle.std.proofs.Common.{◌≡◌, ◌∙◌, ◌≤◌, ◌*◌, ◌++◌, true, length, ap, sym, subst}
+use Rattle.std.proofs.Common.{◌≡◌, ◌∙◌, ◌≤◌, ◌*◌, true, length, ap, sym, subst}
 use Rattle.std.specs.Prelude.{nat_le}
 use Rattle.fx_header.specs.Pointers.{AreRuns, blocks_in, map_words}
 use Rattle.fx_header.specs.Headers.{map_area, with_runs, with_mark, scattered}
 use Rattle.op_law.specs.Sizes.{grown_mark, grown_header}
-use Rattle.op_law.specs.Writing.{runs_for}
 use Rattle.op_steps.specs.Seeing.{file_seen}
-use Rattle.op_extend.proofs.FileClusters.{are_runs, blocks_few, words_fit, all_seen}
+use Rattle.op_extend.proofs.FileClusters.{are_runs, blocks_few, words_fit}
 use Rattle.op_extend.proofs.writing.grown_header.Goals as goal
 
 pub set_runs-requires-clause-runs : goal.set_runs-requires-clause-runs
@@ -33,5 +32,4 @@ returns c =
     ∙ ap scattered (c.set_mark.ensures.written
     ∙ ap (λ m. with_mark c.set_runs.new.b m) c.grown_mark.ensures
     ∙ ap (λ x. with_mark x (grown_mark g (file_seen g f).file)) (c.set_runs.ensures.written t
-    ∙ ap (with_runs b) e
-    ∙ ap (λ cs. with_runs b (runs_for g (cs ++ qs))) (sym (all_seen g f c.requires.readable))))
+    ∙ ap (with_runs b) e))

@@ -15,6 +15,11 @@ findings_with-requires-clause-flags c =
 
 pub returns : goal.returns
 returns c =
-    let e = warnings_is (volume c.args.home.now c.args.blocks.now) c.args.cat.now c.as_slice.result.now c.requires.told
-    (c.as_slice.ensures.value ∙ c.in_ok-doubled.ensures) in
+    let e = warnings_is (volume c.args.home.now c.args.blocks.now) c.args.cat.now c.as_slice.result.now c.as_slice-2.result.now c.as_slice-3.result.now
+    c.requires.told
+    (record {
+      doubles = c.as_slice.ensures.value ∙ c.in_ok-doubled.ensures;
+      surplus = c.as_slice-2.ensures.value ∙ c.in_ok-files.ensures;
+      strays = c.as_slice-3.ensures.value ∙ c.in_ok-headers.ensures;
+    }) in
     subst (λ (ws : List Finding). IfOk c.findings_with.result (λ fs. fs.items ≡ ws)) e c.findings_with.ensures

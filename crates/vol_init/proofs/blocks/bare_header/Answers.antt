@@ -1,6 +1,5 @@
-use Rattle.std.proofs.Common.{ℕ, refl, sym, subst, arith}
-use Rattle.fx_header.specs.Headers.{IsLone, ReadsBack}
-use Rattle.vol_init.specs.declared.layout.Layout.{Layout}
+use Rattle.std.proofs.Common.{subst, arith}
+use Rattle.fx_header.specs.Headers.{ReadsBack}
 use Rattle.vol_init.specs.Layouts.{header_of}
 use Rattle.vol_init.proofs.HeaderLemmas.{few-blocks}
 use Rattle.vol_init.proofs.blocks.bare_header.Goals as goal
@@ -33,11 +32,5 @@ pub new_header-requires-clause-ext : goal.new_header-requires-clause-ext
 unfolding header_of
 new_header-requires-clause-ext c = rw c.header_of.ensures (omega arith)
 
-is-lone : (l : Layout) (n : ℕ) → IsLone (header_of l n)
-unfolding header_of
-is-lone l n = (refl, refl, refl)
-
 pub returns-clause-reads : goal.returns-clause-reads
-returns-clause-reads c =
-    subst (ReadsBack c.new_header.result) c.header_of.ensures
-    (c.new_header.ensures.reads (subst IsLone (sym c.header_of.ensures) (is-lone c.args.layout.now c.args.n)))
+returns-clause-reads c = subst (ReadsBack c.new_header.result) c.header_of.ensures c.new_header.ensures.reads

@@ -15,4 +15,4 @@ returns c =
     let one = c.in-Some-dir_run.ensures.1 in
     let inside = inside-first v c.in-Some-dir_run.run' [] (rw one at c.requires.runs.inside) in
     let part = body-one v c.args.n c.in-Some-dir_run.run' one inside ∙ sym c.run_blocks.ensures in
-    rw (dir_fault-sized v c.args.n c.in-Some.f _ (sym c.fields.ensures ∙ c.in-Some.is) c.if-not-f.false c.in-Some-dir_run.ensures.0 part) c.blocks_fault.ensures
+    rw (dir_fault-sized v c.args.n c.in-Some.f _ (sym c.fields.ensures ∙ c.in-Some.is) c.if-not-f.false (sym c.is_one_header.ensures ∙ c.if-not-is_one_header.false) c.in-Some-dir_run.ensures.0 part) c.blocks_fault.ensures

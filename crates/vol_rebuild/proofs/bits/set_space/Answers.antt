@@ -14,6 +14,7 @@ loop-k-init g c = record {
   counted = λ x t. subst (λ (bs : List Block). IsCounted c.args.g.now c.in_ok-home.home c.in_ok-home.counts.items bs x) c.all.ensures (c.in_ok-home.ensures c.args.g.now x (subst (λ (bs : List Block). IsTold c.args.g.now bs x) (sym c.all.ensures) t));
   set = λ q lt to. absurd (omega (arith, to));
   singles = λ i is h. h;
+  clean = λ k. k;
 }
 
 pub returns-in_err-set_storage-clause-step : goal.returns-in_err-set_storage-clause-step
@@ -34,6 +35,7 @@ loop-k-preserved g c =
       counted = λ y t. (set y (c.loop-k.invariant.counted y t)).counted;
       set = λ q lt to. set_more c.args.g.now _ _ c.loop-k.m.blocks c.set_storage.new.m.blocks x c.loop-k.k c.loop-k.invariant.set here q lt to;
       singles = λ i is h. here.singles i is (c.loop-k.invariant.singles i is h);
+      clean = λ k. here.clean (c.loop-k.invariant.clean k);
     }
 
 pub returns-clause-step : goal.returns-clause-step
@@ -43,4 +45,5 @@ pub returns-clause-ok : goal.returns-clause-ok
 returns-clause-ok g c x t = record {
   told = none_leaked c.args.g.now _ _ c.loop-k.m.blocks x (c.loop-k.invariant.counted x t) (λ q lt. c.loop-k.invariant.set q lt (omega (arith, lt)));
   singles = c.loop-k.invariant.singles;
+  clean = c.loop-k.invariant.clean;
 }

@@ -4,6 +4,7 @@ use Rattle.plain_cat.specs.declared.cat.Cat.{Cat}
 use Rattle.vol_parts.specs.Volumes.{volume, is_free_cluster}
 use Rattle.vol_spell.specs.Reading.{total_of}
 use Rattle.vol_mends.specs.Told.{IsTold, KeepsSingles}
+use Rattle.vol_mends.specs.Clean.{KeepsClean}
 use Rattle.vol_rebuild.specs.Space.{IsCounted}
 use Rattle.vol_rebuild.specs.Ways.{IsStep}
 use Rattle.vol_rebuild.proofs.bits.set_space.Given as goal
@@ -16,4 +17,5 @@ invariant-loop-k g l =
       counted : (c : Cat) → IsTold l.g l.fn.m.blocks c → IsCounted l.g l.home l.counts.items l.m.blocks c;
       set : (q : ℕ) → q < total_of l.g → q / 4096 < l.k → is_free_cluster (volume l.home l.m.blocks) q ≡ (slice_index l.counts.items q == 0);
       singles : KeepsSingles l.g l.fn.m.blocks l.m.blocks;
+      clean : KeepsClean l.g l.fn.m.blocks l.m.blocks;
     }

@@ -42,6 +42,24 @@ returns-in_err-gone-clause-step g c =
     let s3 = next_well _ _ _ _ _ _ _ _ _ _ _ refl s2 c.in_ok-entered.ensures.step in
     next_out _ _ _ _ _ _ _ _ _ _ _ _ _ refl p.1 p.2 s3 c.in_err-gone.ensures.step
 
+pub clear_tails-requires-clause-told : goal.clear_tails-requires-clause-told
+clear_tails-requires-clause-told g c = (c.free_slots.new.cat, c.in_ok-gone.ensures.ok.told)
+
+pub returns-in_err-clear_tails-clause-step : goal.returns-in_err-clear_tails-clause-step
+returns-in_err-clear_tails-clause-step g c =
+    let p = err_from_is_err_and c.from_residual-in_err-clear_tails.result c.from_residual-in_err-clear_tails.ensures.1 in
+    let s1 = first_well _ _ _ _ _ _ _ _ refl c.in_ok-removed.ensures.step in
+    let s2 = next_well _ _ _ _ _ _ _ _ _ _ _ refl s1 c.in_ok-pack_doubles.ensures.step in
+    let s3 = next_well _ _ _ _ _ _ _ _ _ _ _ refl s2 c.in_ok-entered.ensures.step in
+    let s4 = next_well _ _ _ _ _ _ _ _ _ _ _ refl s3 c.in_ok-gone.ensures.step in
+    next_out _ _ _ _ _ _ _ _ _ _ _ _ _ refl p.1 p.2 s4 c.in_err-clear_tails.ensures.step
+
+pub set_all_bits-requires-clause-told : goal.set_all_bits-requires-clause-told
+set_all_bits-requires-clause-told g c = (c.free_slots.new.cat, (c.in_ok-clear_tails.ensures.ok c.free_slots.new.cat c.in_ok-gone.ensures.ok.told).told)
+
+pub set_all_bits-requires-clause-clean : goal.set_all_bits-requires-clause-clean
+set_all_bits-requires-clause-clean g c = (c.in_ok-clear_tails.ensures.ok c.free_slots.new.cat c.in_ok-gone.ensures.ok.told).clean
+
 pub returns-in_err-set_all_bits-clause-step : goal.returns-in_err-set_all_bits-clause-step
 returns-in_err-set_all_bits-clause-step g c =
     let p = err_from_is_err_and c.from_residual-in_err-set_all_bits.result c.from_residual-in_err-set_all_bits.ensures.1 in
@@ -49,7 +67,12 @@ returns-in_err-set_all_bits-clause-step g c =
     let s2 = next_well _ _ _ _ _ _ _ _ _ _ _ refl s1 c.in_ok-pack_doubles.ensures.step in
     let s3 = next_well _ _ _ _ _ _ _ _ _ _ _ refl s2 c.in_ok-entered.ensures.step in
     let s4 = next_well _ _ _ _ _ _ _ _ _ _ _ refl s3 c.in_ok-gone.ensures.step in
-    next_out _ _ _ _ _ _ _ _ _ _ _ _ _ refl p.1 p.2 s4 c.in_err-set_all_bits.ensures.step
+    let s5 = next_well _ _ _ _ _ _ _ _ _ _ _ refl s4 c.in_ok-clear_tails.ensures.step in
+    next_out _ _ _ _ _ _ _ _ _ _ _ _ _ refl p.1 p.2 s5 c.in_err-set_all_bits.ensures.step
+
+pub set_usages-requires-clause-told : goal.set_usages-requires-clause-told
+set_usages-requires-clause-told g c =
+    (without_leaks c.free_slots.new.cat, record { same = refl; factor = refl }, (c.in_ok-set_all_bits.ensures.ok c.free_slots.new.cat (c.in_ok-clear_tails.ensures.ok c.free_slots.new.cat c.in_ok-gone.ensures.ok.told).told).told)
 
 pub returns-in_err-set_usages-clause-step : goal.returns-in_err-set_usages-clause-step
 returns-in_err-set_usages-clause-step g c =
@@ -58,8 +81,9 @@ returns-in_err-set_usages-clause-step g c =
     let s2 = next_well _ _ _ _ _ _ _ _ _ _ _ refl s1 c.in_ok-pack_doubles.ensures.step in
     let s3 = next_well _ _ _ _ _ _ _ _ _ _ _ refl s2 c.in_ok-entered.ensures.step in
     let s4 = next_well _ _ _ _ _ _ _ _ _ _ _ refl s3 c.in_ok-gone.ensures.step in
-    let s5 = next_well _ _ _ _ _ _ _ _ _ _ _ refl s4 c.in_ok-set_all_bits.ensures.step in
-    next_out _ _ _ _ _ _ _ _ _ _ _ _ _ refl p.1 p.2 s5 c.in_err-set_usages.ensures.step
+    let s5 = next_well _ _ _ _ _ _ _ _ _ _ _ refl s4 c.in_ok-clear_tails.ensures.step in
+    let s6 = next_well _ _ _ _ _ _ _ _ _ _ _ refl s5 c.in_ok-set_all_bits.ensures.step in
+    next_out _ _ _ _ _ _ _ _ _ _ _ _ _ refl p.1 p.2 s6 c.in_err-set_usages.ensures.step
 
 pub returns-clause-step : goal.returns-clause-step
 returns-clause-step g c =
@@ -67,9 +91,10 @@ returns-clause-step g c =
     let s2 = next_well _ _ _ _ _ _ _ _ _ _ _ refl s1 c.in_ok-pack_doubles.ensures.step in
     let s3 = next_well _ _ _ _ _ _ _ _ _ _ _ refl s2 c.in_ok-entered.ensures.step in
     let s4 = next_well _ _ _ _ _ _ _ _ _ _ _ refl s3 c.in_ok-gone.ensures.step in
-    let s5 = next_well _ _ _ _ _ _ _ _ _ _ _ refl s4 c.in_ok-set_all_bits.ensures.step in
-    let s6 = next_well _ _ _ _ _ _ _ _ _ _ _ refl s5 c.in_ok-set_usages.ensures.step in
-    ends_well _ _ _ _ _ _ _ _ refl s6
+    let s5 = next_well _ _ _ _ _ _ _ _ _ _ _ refl s4 c.in_ok-clear_tails.ensures.step in
+    let s6 = next_well _ _ _ _ _ _ _ _ _ _ _ refl s5 c.in_ok-set_all_bits.ensures.step in
+    let s7 = next_well _ _ _ _ _ _ _ _ _ _ _ refl s6 c.in_ok-set_usages.ensures.step in
+    ends_well _ _ _ _ _ _ _ _ refl s7
 
 pub returns-clause-mended : goal.returns-clause-mended
 returns-clause-mended g c =
@@ -77,14 +102,15 @@ returns-clause-mended g c =
     let s2 = next_well _ _ _ _ _ _ _ _ _ _ _ refl s1 c.in_ok-pack_doubles.ensures.step in
     let s3 = next_well _ _ _ _ _ _ _ _ _ _ _ refl s2 c.in_ok-entered.ensures.step in
     let s4 = next_well _ _ _ _ _ _ _ _ _ _ _ refl s3 c.in_ok-gone.ensures.step in
-    let s5 = next_well _ _ _ _ _ _ _ _ _ _ _ refl s4 c.in_ok-set_all_bits.ensures.step in
-    let s6 = next_well _ _ _ _ _ _ _ _ _ _ _ refl s5 c.in_ok-set_usages.ensures.step in
+    let s5 = next_well _ _ _ _ _ _ _ _ _ _ _ refl s4 c.in_ok-clear_tails.ensures.step in
+    let s6 = next_well _ _ _ _ _ _ _ _ _ _ _ refl s5 c.in_ok-set_all_bits.ensures.step in
+    let s7 = next_well _ _ _ _ _ _ _ _ _ _ _ refl s6 c.in_ok-set_usages.ensures.step in
     let files : IsOfFiles c.free_slots.new.cat (without_leaks c.free_slots.new.cat) = record { same = refl; factor = refl } in
     rebuilt c.args.g.now c.args.m.now.blocks c.set_usages.new.m.blocks c.args.cat.now
     (record { entered = c.in_ok-entered.entered; removed = c.in_ok-removed.removed; gone = c.in_ok-gone.gone; clusters = c.args.cat.now.leaked; numbers = c.leaked_numbers-numbers.result })
     (record {
       told = c.requires.told;
-      way = s6.way;
+      way = s7.way;
       first = c.strip.new.cat;
       second = c.enter_lost.new.cat;
       third = c.free_slots.new.cat;
@@ -97,8 +123,10 @@ returns-clause-mended g c =
       packs = c.in_ok-pack_doubles.ensures.singles;
       enters = c.in_ok-entered.ensures.ok;
       frees = c.in_ok-gone.ensures.ok;
-      tidies = c.in_ok-set_all_bits.ensures.ok;
-      sums = c.in_ok-set_usages.ensures.ok (without_leaks c.free_slots.new.cat) files c.in_ok-set_all_bits.ensures.ok.told;
+      cleared_blocks = c.clear_tails.new.m.blocks;
+      clears = c.in_ok-clear_tails.ensures.ok c.free_slots.new.cat c.in_ok-gone.ensures.ok.told;
+      tidies = c.in_ok-set_all_bits.ensures.ok c.free_slots.new.cat (c.in_ok-clear_tails.ensures.ok c.free_slots.new.cat c.in_ok-gone.ensures.ok.told).told;
+      sums = c.in_ok-set_usages.ensures.ok (without_leaks c.free_slots.new.cat) files (c.in_ok-set_all_bits.ensures.ok c.free_slots.new.cat (c.in_ok-clear_tails.ensures.ok c.free_slots.new.cat c.in_ok-gone.ensures.ok.told).told).told;
       clusters = refl;
       numbers = c.leaked_numbers-numbers.ensures;
     })

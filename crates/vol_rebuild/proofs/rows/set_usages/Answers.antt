@@ -11,6 +11,7 @@ loop-k-init g c = record {
   told = λ x files t. (x.quota, t);
   set = λ x files j lt. absurd (omega (arith, lt));
   singles = λ i is h. h;
+  clean = λ k. k;
 }
 
 pub returns-in_err-set_quota-clause-step : goal.returns-in_err-set_quota-clause-step
@@ -34,6 +35,7 @@ loop-k-preserved g c =
           (λ r. charge_same (record start.0 { quota = first.0 }) x (record { 0 = r.uic }) (start.1.same ∙ sym files.same) (start.1.factor ∙ sym files.factor))
           (c.loop-k.invariant.set x files) here j to;
       singles = λ i is h. here.singles i is (c.loop-k.invariant.singles i is h);
+      clean = λ k. here.clean (c.loop-k.invariant.clean k);
     }
 
 pub returns-clause-step : goal.returns-clause-step
@@ -42,4 +44,4 @@ returns-clause-step g c = ends_well _ _ _ _ _ _ _ _ refl c.loop-k.invariant.step
 pub returns-clause-ok : goal.returns-clause-ok
 returns-clause-ok g c x files told =
     let r = c.loop-k.invariant.told x files told in
-    all_sums c.args.g.now c.args.m.now.blocks c.loop-k.m.blocks x r.0 r.1 (λ j lt. c.loop-k.invariant.set x files j (omega (arith, lt))) c.loop-k.invariant.singles
+    all_sums c.args.g.now c.args.m.now.blocks c.loop-k.m.blocks x r.0 r.1 (λ j lt. c.loop-k.invariant.set x files j (omega (arith, lt))) c.loop-k.invariant.singles c.loop-k.invariant.clean

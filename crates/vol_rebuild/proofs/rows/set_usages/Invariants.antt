@@ -2,6 +2,7 @@ use Rattle.std.proofs.Common.{◌<◌, ℕ, List}
 use Rattle.plain_cat.specs.declared.cat.Cat.{Cat}
 use Rattle.plain_cat.specs.declared.cat.QuotaRow.{QuotaRow}
 use Rattle.vol_mends.specs.Told.{IsTold, KeepsSingles}
+use Rattle.vol_mends.specs.Clean.{KeepsClean}
 use Rattle.vol_rebuild.specs.Steps.{IsOfFiles}
 use Rattle.vol_rebuild.specs.Sums.{AreRight}
 use Rattle.vol_rebuild.specs.Ways.{IsStep}
@@ -15,4 +16,5 @@ invariant-loop-k g l =
       told : (c : Cat) → IsOfFiles l.cat c → IsTold l.g l.fn.m.blocks c → (rows : List QuotaRow) × IsTold l.g l.m.blocks (record c { quota = rows });
       set : (c : Cat) → IsOfFiles l.cat c → (j : ℕ) → j < l.k → AreRight l.g l.m.blocks c j;
       singles : KeepsSingles l.g l.fn.m.blocks l.m.blocks;
+      clean : KeepsClean l.g l.fn.m.blocks l.m.blocks;
     }

@@ -1,0 +1,13 @@
+use Rattle.std.proofs.Common.{◌≡◌, ◌++◌, All}
+use Rattle.vol_spell.specs.Reading.{clusters_of}
+use Rattle.op_law.specs.Readable.{EndsInside}
+use Rattle.op_law.specs.Writing.{runs_for}
+use Rattle.op_steps.specs.Iter.{seen_left}
+use Rattle.op_steps.specs.Seeing.{file_runs}
+use Rattle.op_extend.proofs.runs.cluster_runs.Given as goal
+
+abbrev pub invariant-loop-run : goal.invariant-loop-run
+invariant-loop-run l = record {
+  same : l.all.items ++ runs_for l.g (clusters_of l.g.cluster (seen_left l.run-iterator)) ≡ runs_for l.g (clusters_of l.g.cluster (file_runs l.f));
+  inside : All EndsInside (seen_left l.run-iterator);
+}
